@@ -1,0 +1,2 @@
+pub mod FactNumbers
+pub mod NameLemmas

@@ -1,0 +1,16 @@
+//! Names, numbers, facts and marks, on which every other crate stands.
+#![tactic(auto)]
+
+mod address;
+mod facts;
+mod marks;
+mod names;
+mod numbers;
+mod shortage;
+
+pub use address::Addr;
+pub use facts::{Bits, Fact, Kind};
+pub use marks::{Mark, mark_of};
+pub use names::Name;
+pub use numbers::{PlaceNo, SessNo, TaskNo};
+pub use shortage::NoMemory;
