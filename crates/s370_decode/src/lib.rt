@@ -1,0 +1,12 @@
+//! Instructions: their lengths, kinds, operations and fields.
+#![tactic(auto)]
+
+mod code;
+mod halfword;
+mod op;
+mod table;
+
+pub use code::Code;
+pub use halfword::{kind, length};
+pub use op::Op;
+pub use table::op_of;

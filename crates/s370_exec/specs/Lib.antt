@@ -1,0 +1,3 @@
+pub mod Fixed
+pub mod Branch
+pub mod Solo

@@ -1,0 +1,106 @@
+//! The effect of an instruction that was fetched whole.
+ghost use Rattle.std.specs.Prelude.{◌≡◌, ℕ, ◌+◌, ◌*◌, ◌/◌, ◌%◌, ◌<◌, ◌≤◌, List};
+ghost use Rattle.cov_base.specs.States.{CpuView, IoView, Machine};
+ghost use Rattle.s370_state.specs.Row.{machine_of};
+ghost use Rattle.s370_decode.specs.Fields.{first_half, i2};
+ghost use Rattle.s370_decode.specs.Table.{op_of};
+ghost use Rattle.s370_exec.specs.Solo.{effect, effect_of, onward_by, call, updated, link_code};
+
+use crate::branch::branch;
+use crate::fixed::fixed;
+use crate::group::{Group, group_of};
+use cov_base::Addr;
+use s370_decode::{Code, Op, op_of};
+use s370_state::{Cpu, Ending, Next, Space, TaskIo};
+
+/// Goes on at the updated address, unless the task has ended.
+fn onward(cpu: &mut Cpu, to: Addr, next: Next) -> Next
+    ensures { (bytes : List ℕ) (io : IoView) → effect_of cpu.new bytes io result ≡ onward_by to io (machine_of cpu.old bytes) next }
+{
+    match next {
+        Next::On => {
+            cpu.go(to);
+            Next::On
+        }
+        Next::Ended(e) => Next::Ended(e),
+    }
+}
+
+/// A task call.
+#[tactic(auto, unfolding(crate::specs::Solo::call))]
+fn supervisor_call(cpu: &mut Cpu, number: u8, next: Addr) -> Next
+    ensures { (bytes : List ℕ) (io : IoView) → effect_of cpu.new bytes io result ≡ call (machine_of cpu.old bytes) io number next }
+{
+    match number {
+        3 => Next::Ended(Ending::Exit),
+        4 => {
+            cpu.go(next);
+            Next::On
+        }
+        5 => {
+            cpu.go(next);
+            Next::On
+        }
+        _ => Next::Ended(Ending::BadSvc(number)),
+    }
+}
+
+/// The updated address: the EX's plus 4, else the instruction's plus its length.
+fn updated(code: &Code, ex: &Option<Addr>) -> Addr
+    ensures { result ≡ updated code.now ex.now }
+{
+    match ex {
+        None => code.at.plus(u32::from(code.len)),
+        Some(x) => (*x).plus(4),
+    }
+}
+
+/// The length code: 1 for two bytes and 2 for more, 2 under EX.
+fn link_code(code: &Code, ex: &Option<Addr>) -> u8
+    ensures value { result ≡ link_code code.now ex.now }
+    ensures most { result ≤ 2 }
+{
+    match ex {
+        None => if code.len == 2 { 1 } else { 2 },
+        Some(_) => 2,
+    }
+}
+
+/// The operation of the instruction.
+fn operation(code: &Code) -> Op
+    ensures { result ≡ op_of (first_half code.now) }
+{
+    op_of(u16::from(code.bytes[0]) * 256 + u16::from(code.bytes[1]))
+}
+
+/// Executes an instruction whose length is that of its first halfword, under the order of tests from the
+/// operation on; `ex` is the address of the EX that executes it.
+#[tactic(auto, unfolding(crate::specs::Solo::effect))]
+pub fn execute<P: Space>(
+    cpu: &mut Cpu,
+    space: &mut P,
+    io: &mut TaskIo,
+    code: &Code,
+    ex: Option<Addr>,
+) -> Next
+    ensures memory { P.memory space.new ≡ P.memory space.old }
+    ensures effect { effect_of cpu.new (P.bytes space.new) io.new result ≡
+        effect (P.memory space.old) (machine_of cpu.old (P.bytes space.old)) io.old code.now (op_of (first_half code.now)) (updated code.now ex) (link_code code.now ex) }
+{
+    let op = operation(code);
+    let next = updated(code, &ex);
+    let _ = &io;
+    match group_of(op) {
+        Group::Fixed => {
+            let n = fixed(cpu, space, code, op);
+            onward(cpu, next, n)
+        }
+        Group::Branch => {
+            branch(cpu, code, op, next, link_code(code, &ex));
+            Next::On
+        }
+        Group::Call => supervisor_call(cpu, code.i2(), next),
+        Group::Supervisor => Next::Ended(Ending::Abend(2)),
+        Group::Missing => Next::Ended(Ending::Abend(1)),
+    }
+}

@@ -1,0 +1,41 @@
+-- What an operand that passed its tests gives for each of its bytes.
+use Rattle.std.proofs.Common.{◌≡◌, ℕ, ◌+◌, ◌*◌, ◌<◌, zero, suc, Bool, true, false, ◌&&◌, List, arith, zero-add, add-zero, add_assoc, refl, ◌⊎◌, inl, inr}
+use Rattle.cov_base.specs.Memory.{Memory, can_reach, can_store, is_accessible, is_private, wrap, byte_at}
+use Rattle.s370_state.specs.Words.{number_at}
+
+both-left : (a b : Bool) → (a && b) ≡ true → a ≡ true
+both-left true b h = refl
+both-left false b h = h
+
+both-right : (a b : Bool) → (a && b) ≡ true → b ≡ true
+both-right true b h = h
+both-right false b h = let e : false ≡ true = h in absurd cc
+
+last_or : (i n : ℕ) → i < suc n → (i ≡ n) ⊎ (i < n)
+last_or i n h = grind arith
+
+pub reach_at : (m : Memory) (a n i b : ℕ) → can_reach m a n ≡ true → i < n → b ≡ wrap (a + i) → is_accessible m b ≡ true
+unfolding can_reach
+reach_at m a zero i b h l e = absurd (omega arith)
+reach_at m a (suc n) i b h l e =
+    elim (last_or i n l) [
+      | inl q ↦ rw (e, q) (both-right (can_reach m a n) _ h)
+      | inr k ↦ reach_at m a n i b (both-left (can_reach m a n) _ h) k e
+    ]
+
+pub store_at : (m : Memory) (a n i b : ℕ) → can_store m a n ≡ true → i < n → b ≡ wrap (a + i) → is_private m b ≡ true
+unfolding can_store
+store_at m a zero i b h l e = absurd (omega arith)
+store_at m a (suc n) i b h l e =
+    elim (last_or i n l) [
+      | inl q ↦ rw (e, q) (both-right (can_store m a n) _ h)
+      | inr k ↦ store_at m a n i b (both-left (can_store m a n) _ h) k e
+    ]
+
+pub word_of_bytes : (m : Memory) (bytes : List ℕ) (a : ℕ) → number_at m bytes a 4 ≡ ((byte_at m bytes (wrap a) * 256 + byte_at m bytes (wrap (a + 1))) * 256 + byte_at m bytes (wrap (a + 2))) * 256 + byte_at m bytes (wrap (a + 3))
+unfolding number_at
+word_of_bytes m bytes a = rw (zero-add, add-zero)
+
+pub double_of_words : (m : Memory) (bytes : List ℕ) (a : ℕ) → number_at m bytes a 8 ≡ number_at m bytes a 4 * 4294967296 + number_at m bytes (a + 4) 4
+unfolding number_at
+double_of_words m bytes a = simp add_assoc (omega arith)

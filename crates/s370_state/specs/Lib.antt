@@ -1,0 +1,4 @@
+pub mod Answers
+pub mod Io
+pub mod Row
+pub mod Words

@@ -1,0 +1,99 @@
+-- A row is what one operation says of one state. The order of tests is stated here once, for all rows.
+use Rattle.std.specs.Prelude.{◌≡◌, ℕ, ◌%◌, ◌/◌, Bool, true, false, ◌&&◌, if◌then◌else◌, ◌==◌, nat_le, Option, Some, None, List, [], ◌∷◌, slice_index, slice_set}
+use Rattle.cov_base.specs.States.{CpuView, Machine}
+use Rattle.cov_base.specs.Memory.{Memory, can_reach, can_store, first_touch, or_else}
+use Rattle.s370_state.specs.declared.endings.Ending.{Ending}
+use Rattle.s370_state.specs.declared.endings.Ending.TheVariants.{Abend, Touched}
+use Rattle.s370_state.specs.declared.endings.Next.{Next}
+use Rattle.s370_state.specs.declared.endings.Next.TheVariants.{On, Ended}
+
+-- an operand's bytes, which are stored (and maybe read), or only read
+pub record Use : Type 0 where
+  pub at : ℕ
+  pub size : ℕ
+  pub stores : Bool
+
+pub data Outcome : Type 0 where
+  Completes : Machine → Outcome
+  -- completes, and the code, where it isn't 0, if the mask has its bit
+  Overflows : Machine → ℕ → Outcome
+  Program : ℕ → Outcome
+
+pub record Row : Type 0 where
+  pub well : Bool
+  pub uses : List Use
+  pub outcome : Outcome
+
+pub record After : Type 0 where
+  pub machine : Machine
+  pub next : Next
+
+abbrev pub reads : ℕ → ℕ → Use
+reads a n = record { at = a; size = n; stores = false }
+
+abbrev pub stores : ℕ → ℕ → Use
+stores a n = record { at = a; size = n; stores = true }
+
+unfoldable pub all_reached : Memory → List Use → Bool
+all_reached m [] = true
+all_reached m (u ∷ us) = can_reach m u.at u.size && all_reached m us
+
+unfoldable pub all_stored : Memory → List Use → Bool
+all_stored m [] = true
+all_stored m (u ∷ us) = (if u.stores then can_store m u.at u.size else true) && all_stored m us
+
+unfoldable pub touched : Memory → List Use → Option ℕ
+touched m [] = None
+touched m (u ∷ us) = or_else (if u.stores then None else first_touch m u.at u.size) (touched m us)
+
+abbrev pub touch_ending : Option ℕ → Option Ending
+touch_ending None = None
+touch_ending (Some a) = Some (Touched a)
+
+unfoldable pub use_tests : Memory → List Use → Option Ending
+use_tests m us = if all_reached m us then (if all_stored m us then touch_ending (touched m us) else Some (Abend 4)) else Some (Abend 5)
+
+-- the ending by the tests of registers, access, protection and touch, if any
+unfoldable pub tests : Memory → Bool → List Use → Option Ending
+tests m well us = if well then use_tests m us else Some (Abend 6)
+
+unfoldable pub is_enabled : ℕ → ℕ → Bool
+is_enabled mask code = if code == 8 then nat_le 8 mask else (mask / 4) % 2 == 1
+
+-- how the task goes on after an overflow's code, or after 0
+unfoldable pub next_after : ℕ → ℕ → Next
+next_after mask code = if code == 0 then On else (if is_enabled mask code then Ended (Abend code) else On)
+
+abbrev pub finish : Machine → Outcome → After
+finish s (Completes t) = record { machine = t; next = On }
+finish s (Overflows t code) = record { machine = t; next = next_after s.cpu.mask code }
+finish s (Program code) = record { machine = s; next = Ended (Abend code) }
+
+abbrev pub after_tests : Machine → Outcome → Option Ending → After
+after_tests s o None = finish s o
+after_tests s o (Some e) = record { machine = s; next = Ended e }
+
+unfoldable pub perform : Memory → Machine → Row → After
+perform m s row = after_tests s row.outcome (tests m row.well row.uses)
+
+abbrev pub machine_of : CpuView → List ℕ → Machine
+machine_of c b = record { cpu = c; bytes = b }
+
+abbrev pub after : CpuView → List ℕ → Next → After
+after c b n = record { machine = record { cpu = c; bytes = b }; next = n }
+
+abbrev pub reg : Machine → ℕ → ℕ
+reg s r = slice_index s.cpu.regs r
+
+abbrev pub with_reg : Machine → ℕ → ℕ → Machine
+with_reg s r v = record { cpu = record { regs = slice_set s.cpu.regs r v; ia = s.cpu.ia; condition = s.cpu.condition; mask = s.cpu.mask }; bytes = s.bytes }
+
+abbrev pub with_cc : Machine → ℕ → Machine
+with_cc s code = record { cpu = record { regs = s.cpu.regs; ia = s.cpu.ia; condition = code; mask = s.cpu.mask }; bytes = s.bytes }
+
+abbrev pub with_bytes : Machine → List ℕ → Machine
+with_bytes s bytes = record { cpu = s.cpu; bytes = bytes }
+
+-- the row's effect, from the old to the new registers and bytes
+abbrev pub Performs : Memory → CpuView → List ℕ → (Memory → Machine → Row) → CpuView → List ℕ → Next → Type 0
+Performs m c b row c' b' next = after c' b' next ≡ perform m (machine_of c b) (row m (machine_of c b))

@@ -1,0 +1,100 @@
+//! The registers and the parts of the program status word that a task sees.
+ghost use Rattle.std.specs.Prelude.{◌≡◌, ℕ, ◌+◌, ◌%◌, ◌<◌, ◌≤◌, ◌^◌, slice_index, slice_set};
+ghost use Rattle.cov_base.specs.States.{base, address};
+
+use cov_base::Addr;
+use std::marker::Model;
+
+/// The processor of one task (Principles of Operation, "Program Status Word", "General Registers").
+#[derive(Drop)]
+pub struct Cpu {
+    /// General registers 0 to 15.
+    pub regs: [u32; 16],
+    /// The instruction address.
+    pub ia: Addr,
+    /// The condition code, 0 to 3.
+    pub cc: u8,
+    /// The program mask, 0 to 15: 8 enables fixed-point overflow, 4 decimal overflow.
+    pub mask: u8,
+}
+
+impl Model for Cpu {
+    ghost use Rattle.std.specs.Prelude.{◌≤◌};
+    ghost use Rattle.cov_base.specs.States.{CpuView};
+
+    ghost Value = { CpuView };
+
+    ghost view = { λ c. record { regs = c.regs; ia = c.ia; condition = c.cc; mask = c.mask } };
+
+    ghost invariant = { λ c. (c.cc ≤ 3) × (c.mask ≤ 15) };
+}
+
+impl Cpu {
+    /// Register r, which is below 16.
+    pub fn reg(&self, r: u8) -> u32
+        requires { r < 16 }
+        ensures { result ≡ slice_index self.now.regs r }
+    {
+        self.regs[r as usize]
+    }
+
+    pub fn set_reg(&mut self, r: u8, v: u32)
+        requires { r < 16 }
+        ensures { self.new ≡ record self.old { regs = slice_set self.old.regs r v } }
+    {
+        self.regs[r as usize] = v;
+    }
+
+    pub fn set_cc(&mut self, code: u8)
+        requires { code ≤ 3 }
+        ensures { self.new ≡ record self.old { condition = code } }
+    {
+        self.cc = code;
+    }
+
+    /// The next instruction is at that address.
+    pub fn go(&mut self, to: Addr)
+        ensures { self.new ≡ record self.old { ia = to } }
+    {
+        self.ia = to;
+    }
+
+    /// The instruction address.
+    pub fn at(&self) -> Addr
+        ensures { result ≡ self.now.ia }
+    {
+        self.ia
+    }
+
+    pub fn condition(&self) -> u8
+        ensures value { result ≡ self.now.condition }
+        ensures below { result ≤ 3 }
+    {
+        self.cc
+    }
+
+    pub fn mask(&self) -> u8
+        ensures value { result ≡ self.now.mask }
+        ensures below { result ≤ 15 }
+    {
+        self.mask
+    }
+
+    /// A register as base or index, where register 0 means zero.
+    fn base(&self, r: u8) -> u32
+        requires { r < 16 }
+        ensures { result ≡ base self.now r }
+    {
+        if r == 0 { 0 } else { self.reg(r) }
+    }
+
+    /// The effective address of base, index and displacement, modulo 2^24 (Principles of Operation,
+    /// "Address Generation").
+    pub fn address(&self, b: u8, x: u8, d: u16) -> Addr
+        requires b { b < 16 }
+        requires x { x < 16 }
+        ensures { result ≡ address self.now b x d }
+    {
+        Addr::of(u32::from(d)).plus(self.base(b)).plus(self.base(x))
+    }
+}

@@ -1,0 +1,19 @@
+//! A task's state and its storage, and the order of tests that each instruction stands under.
+#![tactic(auto)]
+
+mod cpu;
+mod endings;
+mod io;
+mod operands;
+mod space;
+mod words;
+
+pub use cpu::Cpu;
+pub use endings::{Ending, Next, next_after};
+pub use io::TaskIo;
+pub use operands::{
+    byte_of, double_of, ending_of, put_into, put_word, test_read, test_store, test_store_read,
+    word_of,
+};
+pub use space::{Refused, Space};
+pub use words::{is_word, low_word, sign_code, signed};

@@ -1,0 +1,141 @@
+// The tests of operands, made once, and words in storage.
+ghost use Rattle.std.specs.Prelude.{◌≡◌, ℕ, ◌+◌, ◌*◌, ◌%◌, ◌/◌, ◌<◌, ◌≤◌, ◌^◌, List, [], ◌∷◌, true, IfOk, IfErr, slice_set, if◌then◌else◌, ◌&&◌};
+ghost use Rattle.cov_base.specs.Memory.{Memory, byte_at, is_accessible, is_private, can_reach, can_store, wrap};
+ghost use Rattle.s370_state.specs.Row.{Use, reads, stores, use_tests};
+ghost use Rattle.s370_state.specs.Words.{number_at, store_word};
+ghost use Rattle.s370_state.specs.Answers.{ending_of};
+
+use crate::endings::Ending;
+use crate::space::{Refused, Space};
+use cov_base::Addr;
+
+pub fn ending_of(r: Refused) -> Ending
+    ensures { result ≡ ending_of r }
+{
+    match r {
+        Refused::Addressing => Ending::Abend(5),
+        Refused::Protection => Ending::Abend(4),
+        Refused::Touch(a) => Ending::Touched(a),
+    }
+}
+
+/// Tests an operand that is read.
+#[tactic(auto, unfolding(crate::specs::Row::use_tests, crate::specs::Row::all_reached, crate::specs::Row::all_stored, crate::specs::Row::touched))]
+pub fn test_read<P: Space>(space: &P, at: Addr, len: u32) -> Result<(), Ending>
+    ensures refused { IfErr result (λ e. use_tests (P.memory space.now) (reads at len ∷ []) ≡ Some e) }
+    ensures passed { IfOk result (λ _. use_tests (P.memory space.now) (reads at len ∷ []) ≡ None) }
+    ensures reach { IfOk result (λ _. can_reach (P.memory space.now) at len ≡ true) }
+{
+    match space.can_reach(at, len) {
+        Ok(()) => match space.can_read(at, len) {
+            Ok(()) => Ok(()),
+            Err(r) => Err(ending_of(r)),
+        },
+        Err(r) => Err(ending_of(r)),
+    }
+}
+
+/// Tests an operand that is stored.
+#[tactic(auto, unfolding(crate::specs::Row::use_tests, crate::specs::Row::all_reached, crate::specs::Row::all_stored, crate::specs::Row::touched))]
+pub fn test_store<P: Space>(space: &P, at: Addr, len: u32) -> Result<(), Ending>
+    ensures refused { IfErr result (λ e. use_tests (P.memory space.now) (stores at len ∷ []) ≡ Some e) }
+    ensures passed { IfOk result (λ _. use_tests (P.memory space.now) (stores at len ∷ []) ≡ None) }
+    ensures reach { IfOk result (λ _. can_reach (P.memory space.now) at len ≡ true) }
+    ensures store { IfOk result (λ _. can_store (P.memory space.now) at len ≡ true) }
+{
+    match space.can_reach(at, len) {
+        Ok(()) => match space.can_store(at, len) {
+            Ok(()) => Ok(()),
+            Err(r) => Err(ending_of(r)),
+        },
+        Err(r) => Err(ending_of(r)),
+    }
+}
+
+/// Tests a first operand that is stored and a second that is read.
+#[tactic(auto, unfolding(crate::specs::Row::use_tests, crate::specs::Row::all_reached, crate::specs::Row::all_stored, crate::specs::Row::touched))]
+pub fn test_store_read<P: Space>(space: &P, a: Addr, n: u32, b: Addr, k: u32) -> Result<(), Ending>
+    ensures refused { IfErr result (λ e. use_tests (P.memory space.now) (stores a n ∷ (reads b k ∷ [])) ≡ Some e) }
+    ensures passed { IfOk result (λ _. use_tests (P.memory space.now) (stores a n ∷ (reads b k ∷ [])) ≡ None) }
+    ensures reach { IfOk result (λ _. can_reach (P.memory space.now) a n ≡ true) }
+    ensures store { IfOk result (λ _. can_store (P.memory space.now) a n ≡ true) }
+    ensures reach_second { IfOk result (λ _. can_reach (P.memory space.now) b k ≡ true) }
+{
+    match reach_both(space, a, n, b, k) {
+        Ok(()) => match space.can_store(a, n) {
+            Ok(()) => match space.can_read(b, k) {
+                Ok(()) => Ok(()),
+                Err(r) => Err(ending_of(r)),
+            },
+            Err(r) => Err(ending_of(r)),
+        },
+        Err(r) => Err(ending_of(r)),
+    }
+}
+
+fn reach_both<P: Space>(space: &P, a: Addr, n: u32, b: Addr, k: u32) -> Result<(), Refused>
+    ensures { result ≡ (if can_reach (P.memory space.now) a n && can_reach (P.memory space.now) b k then Ok tt else Err Refused.Addressing) }
+{
+    match space.can_reach(a, n) {
+        Ok(()) => space.can_reach(b, k),
+        Err(r) => Err(r),
+    }
+}
+
+/// A byte at a distance into an operand that was tested.
+#[tactic(auto, using(crate::proofs::Tested::reach_at, crate::proofs::Tested::store_at))]
+pub fn byte_of<P: Space>(space: &P, at: Addr, i: u32, len: u32) -> u8
+    requires reach { can_reach (P.memory space.now) at len ≡ true }
+    requires below { i < len }
+    ensures { result ≡ byte_at (P.memory space.now) (P.bytes space.now) (wrap (at + i)) }
+{
+    space.byte(at.plus(i))
+}
+
+/// A byte is stored at a distance into an operand that was tested.
+#[tactic(auto, using(crate::proofs::Tested::reach_at, crate::proofs::Tested::store_at))]
+pub fn put_into<P: Space>(space: &mut P, at: Addr, i: u32, len: u32, value: u8)
+    requires store { can_store (P.memory space.old) at len ≡ true }
+    requires below { i < len }
+    ensures memory { P.memory space.new ≡ P.memory space.old }
+    ensures bytes { P.bytes space.new ≡ slice_set (P.bytes space.old) (wrap (at + i)) value }
+{
+    space.put(at.plus(i), value);
+}
+
+#[tactic(auto, using(crate::proofs::Tested::word_of_bytes))]
+pub fn word_of<P: Space>(space: &P, at: Addr, i: u32, len: u32) -> u32
+    requires reach { can_reach (P.memory space.now) at len ≡ true }
+    requires below { i + 4 ≤ len }
+    ensures { result ≡ number_at (P.memory space.now) (P.bytes space.now) (at + i) 4 }
+{
+    u32::from_be_bytes([
+        byte_of(space, at, i, len),
+        byte_of(space, at, i + 1, len),
+        byte_of(space, at, i + 2, len),
+        byte_of(space, at, i + 3, len),
+    ])
+}
+
+#[tactic(auto, unfolding(crate::specs::Words::store_word))]
+pub fn put_word<P: Space>(space: &mut P, at: Addr, i: u32, len: u32, value: u32)
+    requires store { can_store (P.memory space.old) at len ≡ true }
+    requires below { i + 4 ≤ len }
+    ensures memory { P.memory space.new ≡ P.memory space.old }
+    ensures bytes { P.bytes space.new ≡ store_word (P.bytes space.old) (at + i) value }
+{
+    put_into(space, at, i, len, (value / 16_777_216) as u8);
+    put_into(space, at, i + 1, len, (value / 65_536 % 256) as u8);
+    put_into(space, at, i + 2, len, (value / 256 % 256) as u8);
+    put_into(space, at, i + 3, len, (value % 256) as u8);
+}
+
+#[tactic(auto, using(crate::proofs::Tested::double_of_words))]
+pub fn double_of<P: Space>(space: &P, at: Addr, i: u32, len: u32) -> u64
+    requires reach { can_reach (P.memory space.now) at len ≡ true }
+    requires below { i + 8 ≤ len }
+    ensures { result ≡ number_at (P.memory space.now) (P.bytes space.now) (at + i) 8 }
+{
+    u64::from(word_of(space, at, i, len)) * 4_294_967_296
+        + u64::from(word_of(space, at, i + 4, len))
+}

@@ -1,0 +1,46 @@
+// Signed words.
+ghost use Rattle.std.specs.Prelude.{◌≡◌, ℕ, ◌+◌, ◌%◌, ◌<◌, ◌≤◌, ◌^◌, ℤ, pos, neg_ℤ, ◌≤ℤ◌, ◌<ℤ◌};
+ghost use Rattle.s370_state.specs.Words.{signed, low_word, is_word, sign_code};
+
+/// The register as a signed number.
+#[tactic(auto, unfolding(crate::specs::Words::signed))]
+pub fn signed(w: u32) -> i64
+    ensures value { result ≡ signed w }
+    ensures low { neg_ℤ (pos 2147483648) ≤ℤ result }
+    ensures high { result <ℤ pos 2147483648 }
+{
+    i64::from(w.cast_signed())
+}
+
+/// The number modulo 2^32.
+#[tactic(auto, unfolding(crate::specs::Words::low_word))]
+pub fn low_word(z: i64) -> u32
+    ensures { result ≡ low_word z }
+{
+    if z >= 0 {
+        (z as u64 % 4_294_967_296) as u32
+    } else {
+        4_294_967_295 - (!z as u64 % 4_294_967_296) as u32
+    }
+}
+
+#[tactic(auto, unfolding(crate::specs::Words::is_word))]
+pub fn is_word(z: i64) -> bool
+    ensures { result ≡ is_word z }
+{
+    -2_147_483_648 <= z && z < 2_147_483_648
+}
+
+#[tactic(auto, unfolding(crate::specs::Words::sign_code))]
+pub fn sign_code(z: i64) -> u8
+    ensures value { result ≡ sign_code z }
+    ensures below { result ≤ 2 }
+{
+    if z == 0 {
+        0
+    } else if z < 0 {
+        1
+    } else {
+        2
+    }
+}
