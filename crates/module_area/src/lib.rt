@@ -1,0 +1,20 @@
+//! Modules, places and plans, and the area of cells in which breakpoints stand.
+#![tactic(auto)]
+
+mod areas;
+mod cells;
+mod finals;
+mod images;
+mod places;
+mod plan;
+mod tallies;
+mod traits;
+
+pub use areas::Areas;
+pub use cells::Cell;
+pub use finals::Finals;
+pub use images::{DataCard, Image, Images};
+pub use places::Place;
+pub use plan::{Controlled, Plan};
+pub use tallies::Tally;
+pub use traits::Cells;
