@@ -1,0 +1,75 @@
+-- The places of all modules, and the memory that a task sees over them.
+use Rattle.std.specs.Prelude.{◌≡◌, ◌≢◌, ◌⊎◌, ℕ, ◌+◌, ◌-◌, ◌*◌, ◌%◌, ◌<◌, ◌≤◌, Bool, true, ◌&&◌, ◌||◌, ◌==◌, nat_le, nat_lt, if◌then◌else◌, Option, List, [], ◌∷◌, ◌++◌, length, slice_index, get_or, All, AllPairs}
+use Rattle.std.specs.List.{list_any}
+use Rattle.cov_base.specs.Codes.{breakpoint, kind_of, length_of}
+use Rattle.cov_base.specs.Memory.{Memory, ImageView, can_reach, half_at}
+use Rattle.module_area.specs.PlanView.{place_of}
+use Rattle.module_area.specs.declared.places.Place.{Place}
+
+-- a module's places in order of address, and for each line of its listing the index of its place
+pub record TableView : Type 0 where
+  pub «module» : ℕ
+  pub places : List Place
+  pub lines : List (Option ℕ)
+
+-- the tables of the monitored modules, and all their places one table after the other
+pub record TablesView : Type 0 where
+  pub tables : List TableView
+  pub places : List Place
+
+abbrev pub all_places : List TableView → List Place
+all_places [] = []
+all_places (t ∷ ts) = t.places ++ all_places ts
+
+pub record IsPlace (p : Place) : Type 0 where
+  pub even : p.at % 2 ≡ 0
+  pub size : p.len ≡ length_of p.original
+  pub kind : p.kind ≡ kind_of p.original
+  pub no_breakpoint : p.original ≢ breakpoint
+  pub below : p.at + p.len ≤ 16777216
+
+-- they share no byte
+abbrev pub AreApart : Place → Place → Type 0
+AreApart p q = (p.at + p.len ≤ q.at) ⊎ (q.at + q.len ≤ p.at)
+
+pub record ArePlaces (places : List Place) : Type 0 where
+  pub each : All IsPlace places
+  pub apart : AllPairs AreApart places
+  pub most : length places ≤ 65536
+
+-- the byte is one of the first two of a place
+abbrev pub touches : List Place → ℕ → Bool
+touches places a = list_any (λ (p : Place). a == p.at || a == p.at + 1) places
+
+abbrev pub in_image : ImageView → ℕ → Bool
+in_image i a = nat_le i.base a && nat_lt a (i.base + length i.bytes)
+
+abbrev pub image_byte : List ImageView → ℕ → ℕ
+image_byte [] a = 0
+image_byte (i ∷ is) a = if in_image i a then slice_index i.bytes (a - i.base) else image_byte is a
+
+-- what a task with so much private storage sees: touches are judged by the places alone
+unfoldable pub memory_of : ℕ → List ImageView → List Place → Memory
+memory_of size images places = record {
+  private = size;
+  is_image = λ a. list_any (λ i. in_image i a) images;
+  image = λ a. image_byte images a;
+  is_touch = λ a. touches places a;
+}
+
+-- the place lies in its module, which has its first halfword there
+pub record IsIn (images : List ImageView) (p : Place) : Type 0 where
+  pub image : ImageView
+  pub exists : p.module < length images
+  pub is : get_or images p.module image ≡ image
+  pub from : image.base ≤ p.at
+  pub to : p.at + p.len ≤ image.base + length image.bytes
+  pub original : p.original ≡ slice_index image.bytes (p.at - image.base) * 256 + slice_index image.bytes (p.at - image.base + 1)
+
+-- a place as a task sees it, whatever its private bytes are
+pub record IsSeen (m : Memory) (p : Place) : Type 0 where
+  pub reached : can_reach m p.at 2 ≡ true
+  pub original : (bytes : List ℕ) → half_at m bytes p.at ≡ p.original
+
+abbrev pub AreSeen : Memory → List Place → Type 0
+AreSeen m places = (n : ℕ) → n < length places → IsSeen m (place_of places n)
