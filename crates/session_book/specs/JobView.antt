@@ -1,0 +1,83 @@
+-- A job as lists, wherever memory holds it, and the rules that its values keep.
+use Rattle.std.specs.Prelude.{◌≡◌, ◌≢◌, ℕ, ◌+◌, ◌-◌, ◌<◌, ◌≤◌, Bool, true, false, not, ◌&&◌, ◌||◌, nat_eq, if◌then◌else◌, Option, Some, None, List, [], ◌∷◌, ◌++◌, length, get_or, replicate, slice_set, map, All, AllPairs, IfSome, Contains}
+use Rattle.std.specs.List.{list_any}
+use Rattle.cov_base.specs.Memory.{ImageView}
+use Rattle.cov_base.specs.States.{State, IoView}
+use Rattle.module_area.specs.Images.{AreImages}
+use Rattle.module_area.specs.Views.{DataView}
+
+-- a session: its phase and modules by index, and for a controlled one its controller's index among the tasks
+pub record SessionView : Type 0 where
+  pub name : List ℕ
+  pub phase : ℕ
+  pub modules : List ℕ
+  pub by : Option ℕ
+
+pub record TaskView : Type 0 where
+  pub name : List ℕ
+  pub phase : ℕ
+  pub entry : ℕ
+  pub private : ℕ
+  pub budget : ℕ
+  pub room : ℕ
+  -- as the task begins
+  pub regs : List ℕ
+  pub cards : List DataView
+  pub input : List ℕ
+
+pub record JobView : Type 0 where
+  pub images : List ImageView
+  -- for each module the lines of its listing, where it has one
+  pub listings : List (Option (List (List ℕ)))
+  pub phases : List (List ℕ)
+  pub sessions : List SessionView
+  pub tasks : List TaskView
+
+-- registers as a task begins, before its REG cards: zero, but 14 the return address and 15 the entry
+abbrev pub first_regs : ℕ → List ℕ
+first_regs entry = slice_set (slice_set (replicate 16 0) 14 16777214) 15 entry
+
+abbrev pub Differ : List (List ℕ) → Type 0
+Differ names = AllPairs (λ a b. a ≢ b) names
+
+pub record IsTask (phases : ℕ) (t : TaskView) : Type 0 where
+  pub phase : t.phase < phases
+  pub entry : t.entry < 16777216
+  pub private : t.private ≤ 1048576
+  pub some : 1 ≤ t.budget
+  pub budget : t.budget ≤ 50000000
+  pub room : t.room ≤ 65536
+  pub regs : length t.regs ≡ 16
+  pub cards : All (λ (c : DataView). c.offset + length c.bytes ≤ t.private) t.cards
+
+-- whole sessions alone, so far
+pub record IsSession (images phases : ℕ) (s : SessionView) : Type 0 where
+  pub phase : s.phase < phases
+  pub some : 1 ≤ length s.modules
+  pub modules : All (λ m. m < images) s.modules
+  pub differ : AllPairs (λ m n. m ≢ n) s.modules
+  pub whole : s.by ≡ None
+
+-- no module is in two sessions of one phase
+abbrev pub AreParted : SessionView → SessionView → Type 0
+AreParted s t = s.phase ≡ t.phase → All (λ m. list_any (nat_eq m) t.modules ≡ false) s.modules
+
+abbrev pub IsListing : Option (List (List ℕ)) → Type 0
+IsListing listing = IfSome listing (All (λ l. length l ≤ 150))
+
+pub record IsJob (j : JobView) : Type 0 where
+  pub listings : length j.listings ≡ length j.images
+  pub images : AreImages j.images
+  pub sizes : All (λ (i : ImageView). length i.bytes ≤ 262144) j.images
+  pub modules : length j.images ≤ 16
+  pub lines : All IsListing j.listings
+  pub phases : length j.phases ≤ 16
+  pub sessions : length j.sessions ≤ 16
+  pub tasks : length j.tasks ≤ 64
+  pub are_sessions : All (IsSession (length j.images) (length j.phases)) j.sessions
+  pub parted : AllPairs AreParted j.sessions
+  pub are_tasks : All (IsTask (length j.phases)) j.tasks
+  pub module_names : Differ (map (λ (i : ImageView). i.name) j.images)
+  pub phase_names : Differ j.phases
+  pub session_names : Differ (map (λ (s : SessionView). s.name) j.sessions)
+  pub task_names : Differ (map (λ (t : TaskView). t.name) j.tasks)

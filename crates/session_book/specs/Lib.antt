@@ -1,0 +1,3 @@
+pub mod JobView
+pub mod Results
+pub mod Sessions

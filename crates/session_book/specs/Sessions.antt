@@ -1,0 +1,69 @@
+-- What observes each place in a phase, and what a session's executions show.
+use Rattle.std.specs.Prelude.{ℕ, ◌+◌, ◌-◌, Bool, true, false, not, ◌&&◌, nat_eq, if◌then◌else◌, Option, Some, None, List, [], ◌∷◌, ◌++◌, length, get_or, map}
+use Rattle.std.specs.List.{list_any}
+use Rattle.cov_base.specs.States.{State, Visit}
+use Rattle.cov_base.specs.FactSet.{FactSet}
+use Rattle.cov_base.specs.declared.numbers.TaskNo.{TaskNo}
+use Rattle.module_area.specs.Executions.{facts_of_all}
+use Rattle.module_area.specs.PlanView.{PlanView}
+use Rattle.module_area.specs.Views.{first_bytes}
+use Rattle.module_area.specs.declared.places.Place.{Place}
+use Rattle.s370_state.specs.Io.{fresh_io}
+use Rattle.session_book.specs.JobView.{JobView, SessionView, TaskView}
+
+abbrev pub no_session : SessionView
+no_session = record { name = []; phase = 0; modules = []; by = None }
+
+abbrev pub no_task : TaskView
+no_task = record { name = []; phase = 0; entry = 0; private = 0; budget = 0; room = 0; regs = []; cards = []; input = [] }
+
+-- sessions number from 1
+abbrev pub session_of : JobView → ℕ → SessionView
+session_of j s = get_or j.sessions (s - 1) no_session
+
+abbrev pub task_of : JobView → ℕ → TaskView
+task_of j t = get_or j.tasks t no_task
+
+-- the session is one of the phase and names the module
+abbrev pub observes : ℕ → ℕ → SessionView → Bool
+observes phase m s = nat_eq s.phase phase && list_any (nat_eq m) s.modules
+
+-- the number of the session that observes the module in the phase, counted on from n, or 0
+abbrev pub window_from : ℕ → List SessionView → ℕ → ℕ → ℕ
+window_from n [] phase m = 0
+window_from n (s ∷ ss) phase m = if observes phase m s then n else window_from (n + 1) ss phase m
+
+abbrev pub window_of : JobView → ℕ → Place → ℕ
+window_of j phase place = window_from 1 j.sessions phase place.module
+
+-- the tasks of the phase, counted on from n
+abbrev pub tasks_from : ℕ → List TaskView → ℕ → List TaskNo
+tasks_from n [] phase = []
+tasks_from n (t ∷ ts) phase = if nat_eq t.phase phase then record { 0 = n } ∷ tasks_from (n + 1) ts phase else tasks_from (n + 1) ts phase
+
+abbrev pub plan_view : JobView → List Place → ℕ → PlanView
+plan_view j places phase = record {
+  places = places;
+  windows = map (window_of j phase) places;
+  controlled = [];
+  tasks = tasks_from 0 j.tasks phase;
+  sessions = length j.sessions;
+}
+
+-- a task as it begins
+abbrev pub first_state : TaskView → State
+first_state t = record {
+  machine = record { cpu = record { regs = t.regs; ia = t.entry; condition = 0; mask = 0 }; bytes = first_bytes t.private t.cards };
+  io = fresh_io t.input t.room;
+  done = 0;
+}
+
+-- the traces of the phase's tasks, of each task's trace by its index, counted on from n
+abbrev pub traces_from : ℕ → List TaskView → ℕ → (ℕ → List Visit) → List (List Visit)
+traces_from n [] phase trace = []
+traces_from n (t ∷ ts) phase trace = if nat_eq t.phase phase then trace n ∷ traces_from (n + 1) ts phase trace else traces_from (n + 1) ts phase trace
+
+-- A whole session's executions are the begun visits of the traces of its phase's tasks at its places: the facts that
+-- they show at a place.
+abbrev pub session_set : JobView → (ℕ → List Visit) → ℕ → Place → FactSet
+session_set j trace s place = facts_of_all place (traces_from 0 j.tasks (session_of j s).phase trace)

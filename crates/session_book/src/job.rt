@@ -1,0 +1,80 @@
+//! The job that the cards spell.
+
+use cov_base::{Addr, Name};
+use listing_lines::ListingLine;
+use module_area::{DataCard, Images};
+use std::marker::Model;
+
+/// The lines of a listing.
+#[derive(Drop)]
+pub struct Lines(pub Vec<ListingLine>);
+
+impl Model for Lines {
+    ghost use Rattle.std.specs.Prelude.{List, ℕ};
+
+    ghost Value = { List (List ℕ) };
+
+    ghost view = { λ l. l.0.items };
+}
+
+/// A session: its name, its phase and modules by index, and the controller's index among the job's tasks, none
+/// for a whole session.
+#[derive(Drop)]
+pub struct Session {
+    pub name: Name,
+    pub phase: u32,
+    pub modules: Vec<u32>,
+    pub by: Option<u32>,
+}
+
+impl Model for Session {
+    ghost use Rattle.session_book.specs.JobView.{SessionView};
+
+    ghost Value = { SessionView };
+
+    ghost view = { λ s. record { name = s.name; phase = s.phase; modules = s.modules.items; by = s.by } };
+}
+
+/// A task: its name, its phase by index, its entry address, the bytes of its private storage (at most
+/// 1,048,576), its budget of instructions (1 to 50,000,000), the bytes that its output has room for (at most
+/// 65,536), its registers as it begins, the bytes that fill its private storage, and its input.
+#[derive(Drop)]
+pub struct TaskCard {
+    pub name: Name,
+    pub phase: u32,
+    pub entry: Addr,
+    pub private: u32,
+    pub budget: u32,
+    pub room: u32,
+    pub regs: [u32; 16],
+    pub cards: Vec<DataCard>,
+    pub input: Vec<u8>,
+}
+
+impl Model for TaskCard {
+    ghost use Rattle.session_book.specs.JobView.{TaskView};
+
+    ghost Value = { TaskView };
+
+    ghost view = { λ t. record { name = t.name; phase = t.phase; entry = t.entry; private = t.private; budget = t.budget; room = t.room; regs = t.regs; cards = t.cards.items; input = t.input.items } };
+}
+
+/// The whole job. For each module there is one entry of `listings`, none where it isn't monitored.
+#[derive(Drop)]
+pub struct Job {
+    pub images: Images,
+    pub listings: Vec<Option<Lines>>,
+    pub phases: Vec<Name>,
+    pub sessions: Vec<Session>,
+    pub tasks: Vec<TaskCard>,
+}
+
+impl Model for Job {
+    ghost use Rattle.session_book.specs.JobView.{JobView, IsJob};
+
+    ghost Value = { JobView };
+
+    ghost view = { λ j. record { images = j.images; listings = j.listings.items; phases = j.phases.items; sessions = j.sessions.items; tasks = j.tasks.items } };
+
+    ghost invariant = { λ j. IsJob (record { images = j.images; listings = j.listings.items; phases = j.phases.items; sessions = j.sessions.items; tasks = j.tasks.items }) };
+}
