@@ -1,2 +1,3 @@
 pub mod Fields
+pub mod Mnemonics
 pub mod Table

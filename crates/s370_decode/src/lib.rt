@@ -3,10 +3,15 @@
 
 mod code;
 mod halfword;
+mod mnemonics;
 mod op;
 mod table;
 
 pub use code::Code;
 pub use halfword::{kind, length};
+pub use mnemonics::is_mnemonic;
 pub use op::Op;
 pub use table::op_of;
+
+#[cfg(test)]
+mod tests;
