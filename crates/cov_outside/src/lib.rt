@@ -1,0 +1,17 @@
+//! Where bytes come from and where they go: sources and sinks, each with a count of its faults.
+#![tactic(auto)]
+
+mod adapters;
+mod memory;
+mod streams;
+mod sure;
+mod whole;
+
+pub use adapters::{StdSink, StdSource};
+pub use memory::{MemSink, MemSource};
+pub use streams::{Failed, Sink, Source};
+pub use sure::{SureSink, SureSource};
+pub use whole::{ReadFault, read_all, write_all};
+
+
+

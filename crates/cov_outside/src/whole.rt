@@ -1,0 +1,87 @@
+//! Whole inputs and whole texts.
+ghost use Rattle.std.specs.Prelude.{◌≡◌, ◌<◌, ◌≤◌, ◌^◌, length, IfOk, OnOk, OnErr, IsErrOf};
+ghost use Rattle.std.specs.Io.KnownBytes.{Appends};
+ghost use Rattle.cov_outside.specs.Causes.{Rose, HasCause};
+ghost use Rattle.cov_outside.specs.Whole.{IsWhole, HasMoreThan, HasAtMost, ConsumesSome, AppendsSome};
+
+use crate::streams::{Failed, Sink, Source};
+use std::alloc::{AllocError, Global};
+
+/// Why an input was not read whole.
+#[derive(Clone, Copy, Debug, PartialEq, Eq)]
+pub enum ReadFault {
+    /// The source failed.
+    Failed,
+    /// More bytes were left than the limit.
+    TooLarge,
+    /// The bytes found no memory.
+    NoMemory,
+}
+
+impl From<Failed> for ReadFault {
+    ghost use Rattle.std.specs.Prelude.{◌≡◌};
+    ghost use Rattle.cov_outside.specs.declared.whole.ReadFault.TheVariants.{Failed as FailedFault};
+
+    ghost from_gives = { λ _ e. e ≡ FailedFault };
+
+    fn from(_: Failed) -> Self {
+        ReadFault::Failed
+    }
+}
+
+impl From<AllocError> for ReadFault {
+    ghost use Rattle.std.specs.Prelude.{◌≡◌};
+    ghost use Rattle.cov_outside.specs.declared.whole.ReadFault.TheVariants.{NoMemory};
+
+    ghost from_gives = { λ _ e. e ≡ NoMemory };
+
+    fn from(_: AllocError) -> Self {
+        ReadFault::NoMemory
+    }
+}
+
+/// Reads a source to its end, with one more read to tell the end. TooLarge where more than `limit` bytes
+/// were left, as soon as the first past the limit comes; a fault that comes after that byte is not met.
+pub fn read_all<S: Source>(
+    alloc: Global,
+    source: &mut S,
+    limit: usize,
+) -> Result<Vec<u8>, ReadFault>
+    requires { limit < 2 ^ 32 }
+    ensures bytes { IfOk result (λ v. IsWhole (S.left source.old) (S.left source.new) v.items) }
+    ensures within { IfOk result (λ v. length v.items ≤ limit) }
+    ensures fits { OnOk result (HasAtMost (S.left source.old) limit) }
+    ensures large { IsErrOf result ReadFault.TooLarge → HasMoreThan (S.left source.old) limit }
+    ensures failed { IsErrOf result ReadFault.Failed → Rose (S.faults source.old) (S.faults source.new) }
+    ensures no_fault { OnOk result (S.faults source.new ≡ S.faults source.old) }
+    ensures no_fault_large { IsErrOf result ReadFault.TooLarge → S.faults source.new ≡ S.faults source.old }
+    ensures no_fault_memory { IsErrOf result ReadFault.NoMemory → S.faults source.new ≡ S.faults source.old }
+    ensures later { S.faults source.old ≤ S.faults source.new }
+{
+    let mut all = Vec::new(alloc);
+    let mut piece = [0u8; 4096];
+    for _turn in 0..limit + 1 {
+        let count = source.read(&mut piece)?;
+        if count == 0 {
+            return Ok(all);
+        }
+        all.extend_from_slice(&piece[..count])?;
+        if all.len() > limit {
+            return Err(ReadFault::TooLarge);
+        }
+    }
+    Err(ReadFault::TooLarge)
+}
+
+/// Writes a text whole, or its first bytes where the sink fails.
+pub fn write_all<K: Sink>(sink: &mut K, text: &[u8]) -> Result<(), Failed>
+    ensures whole { OnOk result (Appends (K.written sink.old) (K.written sink.new) text.now) }
+    ensures some { OnErr result (AppendsSome (K.written sink.old) (K.written sink.new) text.now) }
+    ensures cause { HasCause (K.faults sink.old) (K.faults sink.new) result }
+{
+    let mut at = 0;
+    while at < text.len() {
+        at += sink.write(&text[at..])?;
+    }
+    Ok(())
+}
