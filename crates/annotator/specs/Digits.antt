@@ -1,5 +1,5 @@
 -- The digits of numbers in a report, in ASCII. In decimal they are std's `decimal`.
-use Rattle.std.specs.Prelude.{◌≡◌, ℕ, zero, suc, ◌/◌, ◌%◌, true, List, [], ◌∷◌, ◌++◌}
+use Rattle.std.specs.Prelude.{ℕ, zero, suc, ◌/◌, ◌%◌, true, List, [], ◌∷◌, ◌++◌}
 use Rattle.std.specs.Fmt.{digit_glyph}
 
 -- the last so many hexadecimal digits of a number, in upper case, with leading zeros

@@ -5,3 +5,6 @@ mod annotation;
 pub mod text;
 
 pub use annotation::annotate;
+
+#[cfg(test)]
+mod tests;

@@ -10,7 +10,8 @@ use itoa::Buffer;
 /// Adds the text.
 pub fn add_text(line: &mut ArrayVec<u8, 160>, text: &[u8])
     requires { array_vec_len line.old + length text.now ≤ 160 }
-    ensures { line.new.items ≡ line.old.items ++ text.now }
+    ensures items { line.new.items ≡ line.old.items ++ text.now }
+    ensures len { array_vec_len line.new ≡ array_vec_len line.old + length text.now }
 {
     let Ok(()) = line.try_extend_from_slice(text) else {
         unreachable!()
@@ -30,7 +31,8 @@ pub fn add_hex(line: &mut ArrayVec<u8, 160>, value: u32, digits: u8)
     requires width { digits ≤ 8 }
     requires fits { value < 16 ^ digits }
     requires room { array_vec_len line.old + digits ≤ 160 }
-    ensures { line.new.items ≡ line.old.items ++ hex_digits digits value }
+    ensures items { line.new.items ≡ line.old.items ++ hex_digits digits value }
+    ensures len { array_vec_len line.new ≡ array_vec_len line.old + digits }
 {
     let first = 8 - digits as usize;
     let mut out = [0u8; 8];
@@ -44,10 +46,14 @@ pub fn add_hex(line: &mut ArrayVec<u8, 160>, value: u32, digits: u8)
     add_text(line, &out[first..]);
 }
 
-/// Adds the number in decimal without leading zeros, at most 20 digits.
+/// Adds the number in decimal without leading zeros; the line has room for 20 digits.
+#[tactic(auto, using(crate::proofs::DigitLemmas::decimal_of_word, crate::proofs::DigitLemmas::decimal_of_double))]
 pub fn add_number(line: &mut ArrayVec<u8, 160>, value: u64)
-    requires { array_vec_len line.old + length (decimal value) ≤ 160 }
-    ensures { line.new.items ≡ line.old.items ++ decimal value }
+    requires { array_vec_len line.old + 20 ≤ 160 }
+    ensures items { line.new.items ≡ line.old.items ++ decimal value }
+    ensures len { array_vec_len line.new ≡ array_vec_len line.old + length (decimal value) }
+    ensures short { array_vec_len line.new ≤ array_vec_len line.old + 20 }
+    ensures word { value < 2 ^ 32 → array_vec_len line.new ≤ array_vec_len line.old + 10 }
 {
     let mut buffer = Buffer::new();
     add_text(line, buffer.format(value).as_bytes());
