@@ -1,21 +1,15 @@
 -- What contracts see of data cards, and the storage that they fill.
-use Rattle.std.specs.Prelude.{ℕ, ◌+◌, List, [], ◌∷◌, slice_set, replicate}
+use Rattle.std.specs.Prelude.{ℕ, ◌+◌, List, ◌++◌, length, take, drop, replicate, fold}
 
 -- bytes at an offset of private storage
 pub record DataView : Type 0 where
   pub offset : ℕ
   pub bytes : List ℕ
 
--- bytes stored from an offset on
-abbrev pub store_bytes : List ℕ → ℕ → List ℕ → List ℕ
-store_bytes bytes offset [] = bytes
-store_bytes bytes offset (b ∷ bs) = store_bytes (slice_set bytes offset b) (offset + 1) bs
+-- the card's bytes stand from its offset on
+abbrev pub with_card : List ℕ → DataView → List ℕ
+with_card bytes c = take c.offset bytes ++ c.bytes ++ drop (c.offset + length c.bytes) bytes
 
--- one card after the other, so that later cards win
-abbrev pub with_cards : List ℕ → List DataView → List ℕ
-with_cards bytes [] = bytes
-with_cards bytes (c ∷ cs) = with_cards (store_bytes bytes c.offset c.bytes) cs
-
--- private storage as a task begins: zeros where no card sets a byte
+-- private storage as a task begins: zero where no card sets a byte, and of two cards the later one counts
 abbrev pub first_bytes : ℕ → List DataView → List ℕ
-first_bytes size cards = with_cards (replicate size 0) cards
+first_bytes size cards = fold with_card (replicate size 0) cards
