@@ -65,10 +65,11 @@ impl Cells for PlainCells {
     fn lift(&self, pass: &mut PlainPass, _s: SessNo, place: PlaceNo) -> bool {
         let at = place.0 as usize;
         let cell = pass.words[at];
+        let original = self.plan.original(place);
         let exchanged = cell.half == BREAKPOINT;
         pass.words[at] = Cell {
             tag: cell.tag,
-            half: self.plan.original(place),
+            half: original,
         };
         pass.tally.lifts += exchanged as u64;
         exchanged

@@ -13,13 +13,13 @@ pub returns-clause-area : goal.returns-clause-area
 returns-clause-area c =
     let cell : c.index-cell.result.now ≡ word_at c.args.pass.now.words.items c.args.place.0 =
     get_or_read c.args.pass.now.words.items c.args.place.0 c.index-cell.result.now (rw c.requires.area.words_size c.requires.place) c.index-cell.ensures no_cell in
-    rw (cell, c.original.ensures.value, bool_byte-is) (lift_keeps _ _ _ _ _ _ _ c.requires.area c.requires.session c.requires.full)
+    rw (cell, c.original-original.ensures.value, bool_byte-is) (lift_keeps _ _ _ _ _ _ _ c.requires.area c.requires.session c.requires.full)
 
 pub returns-clause-notes : goal.returns-clause-notes
 returns-clause-notes c =
     let cell : c.index-cell.result.now ≡ word_at c.args.pass.now.words.items c.args.place.0 =
     get_or_read c.args.pass.now.words.items c.args.place.0 c.index-cell.result.now (rw c.requires.area.words_size c.requires.place) c.index-cell.ensures no_cell in
-    rw (cell, c.original.ensures.value, bool_byte-is)
+    rw (cell, c.original-original.ensures.value, bool_byte-is)
     (lift_notes c.args.self.now.plan _ _ c.args.pass.now.pending c.args.pass.now.tally _ _ _ c.requires.area c.requires.session c.requires.full)
 
 pub returns-clause-again : goal.returns-clause-again
