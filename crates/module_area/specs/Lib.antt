@@ -1,8 +1,12 @@
+pub mod AreasView
 pub mod Counts
 pub mod Ended
 pub mod Executions
 pub mod FinalsView
+pub mod FreshWords
 pub mod Images
 pub mod Notes
+pub mod PlainPass
+pub mod PlainWords
 pub mod PlanView
 pub mod Views

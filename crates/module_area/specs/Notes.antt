@@ -1,12 +1,12 @@
 -- What a pass has done and knows, and how each call changes it.
-use Rattle.std.specs.Prelude.{◌≡◌, ◌≢◌, ℕ, ◌+◌, ◌-◌, ◌*◌, ◌%◌, ◌<◌, ◌≤◌, Bool, true, false, not, ◌&&◌, ◌||◌, if◌then◌else◌, nat_eq, Option, Some, None, unwrap_or, max}
+use Rattle.std.specs.Prelude.{◌≡◌, ◌≢◌, ℕ, ◌+◌, ◌-◌, ◌*◌, ◌/◌, ◌%◌, ◌<◌, ◌≤◌, Bool, true, false, not, ◌&&◌, ◌||◌, if◌then◌else◌, nat_eq, Option, Some, None, unwrap_or, max}
 use Rattle.cov_base.specs.declared.facts.Fact.{Fact}
 use Rattle.cov_base.specs.FactSet.{FactSet}
-use Rattle.cov_base.specs.Facts.{with_fact, has_fact, is_full, is_within, same_fact}
+use Rattle.cov_base.specs.Facts.{with_fact, has_fact, is_full, is_within, full_of, same_fact}
 use Rattle.module_area.specs.declared.cells.Cell.{Cell}
 use Rattle.module_area.specs.declared.tallies.Tally.{Tally}
 use Rattle.cov_base.specs.Codes.{breakpoint}
-use Rattle.module_area.specs.PlanView.{PlanView, original_at, kind_at, window_at}
+use Rattle.module_area.specs.PlanView.{PlanView, original_at, kind_at, window_at, is_over}
 
 pub record Notes : Type 0 where
   -- it marked the fact at the place for the session: session, place, fact
@@ -110,15 +110,21 @@ after_join n other = record n {
   out = λ u. n.out u && not (nat_eq u (bearer other));
 }
 
--- What a fetch may answer: the original, or a breakpoint under an odd tag; no older tag than the pass knows;
--- and while the place's whole session runs, its tag.
+-- What a fetch may answer: the original, or a breakpoint under an odd tag; a tag that is not 0 is of a session over
+-- the place; no older tag than the pass knows, and while the place's whole session runs, its tag; for the root the
+-- tag that it planted there, or 0; and no breakpoint that the pass has tried to lift or met gone.
 pub record IsAnswer (plan : PlanView) (n : Notes) (p : ℕ) (cell : Cell) : Type 0 where
   pub planted : cell.half ≡ breakpoint → cell.tag % 2 ≡ 1
   pub plain : cell.half ≢ breakpoint → cell.half ≡ original_at plan p
   pub later : n.seen p ≤ cell.tag
   pub window : 0 < window_at plan p → n.seen p + 1 ≡ 2 * window_at plan p → cell.tag ≡ n.seen p
+  pub root : n.bears ≡ None → 0 < window_at plan p → cell.tag ≡ n.seen p
+  pub over : cell.tag ≢ 0 → is_over plan ((cell.tag + 1) / 2) p ≡ true
+  pub lifted : (s : ℕ) → n.free s p ≡ true → cell.half ≡ breakpoint → cell.tag + 1 ≢ 2 * s
 
--- The set that a mark found has what the pass marked before, and facts of the place's kind alone.
+-- The set that a mark found has what the pass marked before, and facts of the place's kind alone; it is full where
+-- the pass met it full.
 pub record IsFound (plan : PlanView) (n : Notes) (s p : ℕ) (found : FactSet) : Type 0 where
   pub own : (f : Fact) → n.marked s p f ≡ true → has_fact found f ≡ true
   pub within : is_within (kind_at plan p) found ≡ true
+  pub full : n.full s p ≡ true → found ≡ full_of (kind_at plan p)

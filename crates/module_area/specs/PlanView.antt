@@ -1,5 +1,5 @@
 -- A phase's plan: the places, what observes each of them, and the tasks.
-use Rattle.std.specs.Prelude.{◌≡◌, ◌≢◌, ℕ, ◌<◌, ◌≤◌, Bool, true, nat_eq, List, length, get_or, AllPairs, All, Contains}
+use Rattle.std.specs.Prelude.{◌≡◌, ◌≢◌, ℕ, ◌<◌, ◌≤◌, Bool, true, ◌&&◌, ◌||◌, nat_eq, nat_lt, List, length, get_or, AllPairs, All, Contains}
 use Rattle.std.specs.List.{list_any}
 use Rattle.cov_base.specs.Codes.{breakpoint, kind_of}
 use Rattle.cov_base.specs.declared.facts.Kind.{Kind}
@@ -39,6 +39,10 @@ window_at plan p = get_or plan.windows p 0
 
 abbrev pub has_task : List TaskNo → ℕ → Bool
 has_task tasks t = list_any (λ u. nat_eq u.0 t) tasks
+
+-- the session is the place's whole session, or a controlled one over it
+abbrev pub is_over : PlanView → ℕ → ℕ → Bool
+is_over plan s p = (nat_lt 0 s && nat_eq (window_at plan p) s) || list_any (λ (c : ControlledView). nat_eq c.session s && list_any (λ (q : PlaceNo). nat_eq q.0 p) c.places) plan.controlled
 
 -- a controlled session: of the job, by a task of the phase, over places without a whole session
 pub record IsControlled (plan : PlanView) (c : ControlledView) : Type 0 where

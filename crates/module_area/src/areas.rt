@@ -1,5 +1,5 @@
 //! Where areas come from and end, and the account that is kept of them.
-ghost use Rattle.std.specs.Prelude.{◌≡◌, ℕ, ◌+◌, ◌<◌, ◌^◌, List, [], false, ◌∷◌, ◌++◌, IfOk, OnErr};
+ghost use Rattle.std.specs.Prelude.{◌≡◌, ℕ, ◌+◌, ◌<◌, ◌^◌, List, [], false, ◌∷◌, ◌++◌, length, IfOk, OnErr};
 ghost use Rattle.std.specs.declared.option.Option.TheVariants.{Some, None};
 ghost use Rattle.module_area.specs.declared.tallies.Tally.{Tally};
 ghost use Rattle.module_area.specs.FinalsView.{FinalsView};
@@ -65,9 +65,10 @@ pub trait Areas {
     fn ledger(&self) -> &[Tally]
         ensures { result.now ≡ ledger self.now };
 
-    /// The sets of the areas that were finished, in order.
+    /// The sets of the areas that were finished, in order; as many as the tallies.
     fn finals(&self) -> &[Finals]
-        ensures { result.now ≡ finals self.now };
+        ensures value { result.now ≡ finals self.now }
+        ensures count { length result.now ≡ length (ledger self.now) };
 
     /// How many areas were asked for.
     fn made(&self) -> u64

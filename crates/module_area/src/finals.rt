@@ -1,5 +1,5 @@
 //! The sets that an area ends with.
-ghost use Rattle.std.specs.Prelude.{◌≡◌, ◌+◌, ◌-◌, ◌*◌, ◌<◌, length};
+ghost use Rattle.std.specs.Prelude.{◌≡◌, ◌+◌, ◌-◌, ◌*◌, ◌<◌, ◌≤◌, length};
 ghost use Rattle.module_area.specs.FinalsView.{set_at};
 
 use cov_base::{Bits, PlaceNo, SessNo};
@@ -22,11 +22,11 @@ impl Model for Finals {
 }
 
 impl Finals {
-    /// The set of the session at the place, both of the plan.
+    /// The set of the session at the place, both of the plan: the sets have all rows of places up to the session's.
     pub fn set(&self, s: SessNo, place: PlaceNo) -> Bits
         requires session { 0 < s.0 }
         requires place { place.0 < self.now.places }
-        requires within { (s.0 - 1) * self.now.places + place.0 < length self.now.sets }
+        requires within { s.0 * self.now.places ≤ length self.now.sets }
         ensures { result ≡ set_at self.now s.0 place.0 }
     {
         self.sets[(s.0 as usize - 1) * self.places as usize + place.0 as usize]

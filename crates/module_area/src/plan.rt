@@ -1,7 +1,11 @@
 //! The plan of a phase.
+ghost use Rattle.std.specs.Prelude.{◌≡◌, ◌≢◌, ◌<◌, ◌≤◌, length, IfOk};
+ghost use Rattle.cov_base.specs.Codes.{breakpoint, kind_of};
+ghost use Rattle.module_area.specs.PlanView.{IsPlan, original_at, kind_at, window_at};
 
 use crate::places::Place;
-use cov_base::{PlaceNo, SessNo, TaskNo};
+use cov_base::{Kind, PlaceNo, SessNo, TaskNo};
+use std::alloc::{AllocError, Global};
 use std::marker::Model;
 
 /// A session that a task of the phase opens and closes, and its places, rising.
@@ -18,6 +22,20 @@ impl Model for Controlled {
     ghost Value = { ControlledView };
 
     ghost view = { λ c. record { session = c.session.0; by = c.by.0; places = c.places.items } };
+}
+
+impl Controlled {
+    /// A copy.
+    pub fn to_controlled(&self, alloc: Global) -> Result<Controlled, AllocError>
+        ensures { IfOk result (λ c. c ≡ self.now) }
+    {
+        let places = self.places.iter().copied().collect(alloc)?;
+        Ok(Controlled {
+            session: self.session,
+            by: self.by,
+            places,
+        })
+    }
 }
 
 /// A phase's plan: at most 65,536 places, for each of them the number of the whole session over it or 0, the
@@ -40,4 +58,68 @@ impl Model for Plan {
     ghost view = { λ p. record { places = p.places.items; windows = p.windows.items; controlled = p.controlled.items; tasks = p.tasks.items; sessions = p.sessions } };
 
     ghost invariant = { λ p. IsPlan (record { places = p.places.items; windows = p.windows.items; controlled = p.controlled.items; tasks = p.tasks.items; sessions = p.sessions }) };
+}
+
+impl Plan {
+    /// The number of places.
+    pub fn places_len(&self) -> u32
+        ensures value { result ≡ length self.now.places }
+        ensures plan { IsPlan self.now }
+    {
+        self.places.len() as u32
+    }
+
+    /// The original halfword at a place of the plan, which is never the breakpoint.
+    pub fn original(&self, place: PlaceNo) -> u16
+        requires { place.0 < length self.now.places }
+        ensures value { result ≡ original_at self.now place.0 }
+        ensures other { result ≢ breakpoint }
+    {
+        self.places[place.0 as usize].original
+    }
+
+    /// The kind of a place of the plan, which is that of the original.
+    pub fn kind(&self, place: PlaceNo) -> Kind
+        requires { place.0 < length self.now.places }
+        ensures value { result ≡ kind_at self.now place.0 }
+        ensures kind { result ≡ kind_of (original_at self.now place.0) }
+    {
+        self.places[place.0 as usize].kind
+    }
+
+    /// The number of the whole session over a place of the plan, or 0.
+    pub fn window(&self, place: PlaceNo) -> u32
+        requires { place.0 < length self.now.places }
+        ensures value { result ≡ window_at self.now place.0 }
+        ensures session { result ≤ self.now.sessions }
+    {
+        self.windows[place.0 as usize]
+    }
+
+    /// A copy.
+    pub fn to_plan(&self, alloc: Global) -> Result<Plan, AllocError>
+        ensures { IfOk result (λ p. p ≡ self.now) }
+    {
+        let places = self.places.iter().copied().collect(alloc)?;
+        let windows = self.windows.iter().copied().collect(alloc)?;
+        let controlled = copies(alloc, &self.controlled)?;
+        let tasks = self.tasks.iter().copied().collect(alloc)?;
+        Ok(Plan {
+            places,
+            windows,
+            controlled,
+            tasks,
+            sessions: self.sessions,
+        })
+    }
+}
+
+fn copies(alloc: Global, controlled: &[Controlled]) -> Result<Vec<Controlled>, AllocError>
+    ensures { IfOk result (λ v. v.items ≡ controlled.now) }
+{
+    let mut copies = Vec::with_capacity(alloc, controlled.len())?;
+    for c in controlled {
+        copies.push(c.to_controlled(alloc)?)?;
+    }
+    Ok(copies)
 }

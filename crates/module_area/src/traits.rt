@@ -1,5 +1,5 @@
 //! The cells of an area: each call is one step on one word.
-ghost use Rattle.std.specs.Prelude.{◌≡◌, ℕ, ◌+◌, ◌-◌, ◌*◌, ◌<◌, ◌^◌, length, true, IsTrue};
+ghost use Rattle.std.specs.Prelude.{◌≡◌, ℕ, ◌+◌, ◌-◌, ◌*◌, ◌<◌, ◌^◌, length, true, false};
 ghost use Rattle.std.specs.declared.option.Option.TheVariants.{Some, None};
 ghost use Rattle.cov_base.specs.Facts.{is_of_kind};
 ghost use Rattle.module_area.specs.PlanView.{PlanView, kind_at, window_at};
@@ -46,13 +46,14 @@ pub trait Cells {
         ensures notes { notes pass.new ≡ after_mark (plan self.now) (notes pass.old) s.0 place.0 fact result };
 
     /// Exchanges the session's breakpoint for the original by one try, where the pass knows that the set is full;
-    /// true exactly where it exchanged.
+    /// true exactly where it exchanged, which it does at most once.
     fn lift(&self, pass: &mut Self::Pass, s: SessNo, place: PlaceNo) -> bool
         requires area { is_pass self.now pass.old }
         requires place { place.0 < length (plan self.now).places }
         requires room { calls (notes pass.old) < 2 ^ 62 }
         requires session { 0 < s.0 }
         requires full { (notes pass.old).full s.0 place.0 ≡ true }
+        ensures again { (notes pass.old).free s.0 place.0 ≡ true → result ≡ false }
         ensures area { is_pass self.now pass.new }
         ensures notes { notes pass.new ≡ after_lift (notes pass.old) s.0 place.0 result };
 
