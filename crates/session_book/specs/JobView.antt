@@ -1,8 +1,7 @@
 -- A job as lists, wherever memory holds it, and the rules that its values keep.
-use Rattle.std.specs.Prelude.{◌≡◌, ◌≢◌, ℕ, ◌+◌, ◌-◌, ◌<◌, ◌≤◌, Bool, true, false, not, ◌&&◌, ◌||◌, nat_eq, if◌then◌else◌, Option, Some, None, List, [], ◌∷◌, ◌++◌, length, get_or, replicate, slice_set, map, All, AllPairs, IfSome, Contains}
+use Rattle.std.specs.Prelude.{◌≡◌, ◌≢◌, ℕ, ◌+◌, ◌<◌, ◌≤◌, false, nat_eq, Option, None, List, length, replicate, slice_set, map, All, AllPairs, IfSome}
 use Rattle.std.specs.List.{list_any}
 use Rattle.cov_base.specs.Memory.{ImageView}
-use Rattle.cov_base.specs.States.{State, IoView}
 use Rattle.module_area.specs.Images.{AreImages}
 use Rattle.module_area.specs.Views.{DataView}
 

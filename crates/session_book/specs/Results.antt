@@ -1,5 +1,5 @@
 -- What the tasks of a job have come to.
-use Rattle.std.specs.Prelude.{◌≡◌, ℕ, ◌≤◌, ◌<◌, Option, List, length}
+use Rattle.std.specs.Prelude.{ℕ, Option, List}
 use Rattle.cov_base.specs.States.{CpuView}
 use Rattle.s370_state.specs.declared.endings.Ending.{Ending}
 

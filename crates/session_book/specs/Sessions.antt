@@ -1,5 +1,5 @@
 -- What observes each place in a phase, and what a session's executions show.
-use Rattle.std.specs.Prelude.{ℕ, ◌+◌, ◌-◌, Bool, true, false, not, ◌&&◌, nat_eq, if◌then◌else◌, Option, Some, None, List, [], ◌∷◌, ◌++◌, length, get_or, map}
+use Rattle.std.specs.Prelude.{ℕ, ◌+◌, ◌-◌, Bool, ◌&&◌, nat_eq, if◌then◌else◌, None, List, [], ◌∷◌, length, get_or, map}
 use Rattle.std.specs.List.{list_any}
 use Rattle.cov_base.specs.States.{State, Visit}
 use Rattle.cov_base.specs.FactSet.{FactSet}

@@ -2,7 +2,9 @@
 #![tactic(auto)]
 
 mod job;
+mod plans;
 mod results;
 
 pub use job::{Job, Lines, Session, TaskCard};
+pub use plans::plan_of;
 pub use results::{FactSets, Results};

@@ -1,0 +1,95 @@
+//! The plan of a phase.
+ghost use Rattle.std.specs.Prelude.{◌≡◌, ◌<◌, ◌≤◌, nat_eq, length, map, IfOk};
+ghost use Rattle.std.specs.List.{list_any};
+ghost use Rattle.brk_table.specs.Places.{ArePlaces};
+ghost use Rattle.session_book.specs.Sessions.{observes, window_from, window_of, tasks_from, plan_view};
+
+use crate::job::{Job, Session, TaskCard};
+use brk_table::Tables;
+use cov_base::{NoMemory, PlaceNo, TaskNo};
+use module_area::{Place, Plan};
+use std::alloc::Global;
+
+fn has_module(modules: &[u32], m: u32) -> bool
+    ensures { result ≡ list_any (nat_eq m) modules.now }
+{
+    modules.iter().any(|n| m == *n)
+}
+
+fn observes(session: &Session, phase: u32, m: u32) -> bool
+    ensures { result ≡ observes phase m session.now }
+{
+    session.phase == phase && has_module(&session.modules, m)
+}
+
+/// The number of the session that observes the module in the phase, or 0.
+fn window_of(sessions: &[Session], phase: u32, m: u32) -> u32
+    requires { length sessions.now ≤ 16 }
+    ensures { result ≡ window_from 1 sessions.now phase m }
+{
+    for i in 0..sessions.len() {
+        if observes(&sessions[i], phase, m) {
+            return i as u32 + 1;
+        }
+    }
+    0
+}
+
+fn places_of(alloc: Global, tables: &Tables) -> Result<Vec<Place>, NoMemory>
+    ensures value { IfOk result (λ v. v.items ≡ tables.now.places) }
+    ensures places { IfOk result (λ v. ArePlaces v.items) }
+{
+    let mut places = Vec::new(alloc);
+    let count = tables.len();
+    for n in 0..count {
+        places.push(*tables.place(PlaceNo(n)))?;
+    }
+    Ok(places)
+}
+
+fn windows_of(alloc: Global, job: &Job, places: &[Place], phase: u32) -> Result<Vec<u32>, NoMemory>
+    ensures { IfOk result (λ v. v.items ≡ map (window_of job.now phase) places.now) }
+{
+    let mut windows = Vec::new(alloc);
+    for place in places {
+        windows.push(window_of(&job.sessions, phase, place.module))?;
+    }
+    Ok(windows)
+}
+
+fn is_of(task: &TaskCard, phase: u32) -> bool
+    ensures { result ≡ nat_eq task.now.phase phase }
+{
+    task.phase == phase
+}
+
+fn tasks_of(alloc: Global, tasks: &[TaskCard], phase: u32) -> Result<Vec<TaskNo>, NoMemory>
+    requires { length tasks.now ≤ 64 }
+    ensures { IfOk result (λ v. v.items ≡ tasks_from 0 tasks.now phase) }
+{
+    let mut numbers = Vec::new(alloc);
+    for i in 0..tasks.len() {
+        if is_of(&tasks[i], phase) {
+            numbers.push(TaskNo(i as u32))?;
+        }
+    }
+    Ok(numbers)
+}
+
+/// The plan of a phase of the job, over the tables of the job's listings: every place, and the number of the
+/// session that observes it in this phase, or 0.
+pub fn plan_of(alloc: Global, job: &Job, tables: &Tables, phase: u32) -> Result<Plan, NoMemory>
+    requires phase { phase < length job.now.phases }
+    ensures { IfOk result (λ plan. plan ≡ plan_view job.now tables.now.places phase) }
+{
+    let places = places_of(alloc, tables)?;
+    let windows = windows_of(alloc, job, &places, phase)?;
+    let tasks = tasks_of(alloc, &job.tasks, phase)?;
+    Ok(Plan {
+        places,
+        windows,
+        controlled: Vec::new(alloc),
+        tasks,
+        sessions: job.sessions.len() as u32,
+    })
+}
