@@ -22,6 +22,13 @@ impl<R: Read> StdSource<R> {
     {
         StdSource { inner, faults: 0 }
     }
+
+    /// How often it has failed, to 2^64 - 1.
+    pub fn faults(&self) -> u64
+        ensures { result ≡ read_faults self.now }
+    {
+        self.faults
+    }
 }
 
 impl<R: Read> Source for StdSource<R> {
@@ -59,6 +66,13 @@ impl<W: Write> StdSink<W> {
         ensures faults { write_faults result ≡ 0 }
     {
         StdSink { inner, faults: 0 }
+    }
+
+    /// How often it has failed, to 2^64 - 1.
+    pub fn faults(&self) -> u64
+        ensures { result ≡ write_faults self.now }
+    {
+        self.faults
     }
 }
 

@@ -15,3 +15,5 @@ pub use whole::{ReadFault, read_all, write_all};
 
 
 
+#[cfg(test)]
+mod tests;

@@ -48,6 +48,13 @@ impl MemSource {
             faults: 0,
         }
     }
+
+    /// How often it has failed, to 2^64 - 1.
+    pub fn faults(&self) -> u64
+        ensures { result ≡ self.now.faults }
+    {
+        self.faults
+    }
 }
 
 impl Source for MemSource {
@@ -150,6 +157,13 @@ impl MemSink {
         ensures { result.now ≡ self.now.written }
     {
         &self.bytes
+    }
+
+    /// How often it has failed, to 2^64 - 1.
+    pub fn faults(&self) -> u64
+        ensures { result ≡ self.now.faults }
+    {
+        self.faults
     }
 }
 
