@@ -38,6 +38,7 @@ impl Cpu {
         self.regs[r as usize]
     }
 
+    /// Puts the word into register r, which is below 16.
     pub fn set_reg(&mut self, r: u8, v: u32)
         requires { r < 16 }
         ensures { self.new ≡ record self.old { regs = slice_set self.old.regs r v } }
@@ -45,6 +46,7 @@ impl Cpu {
         self.regs[r as usize] = v;
     }
 
+    /// Sets the condition code, 0 to 3.
     pub fn set_cc(&mut self, code: u8)
         requires { code ≤ 3 }
         ensures { self.new ≡ record self.old { condition = code } }
@@ -66,6 +68,7 @@ impl Cpu {
         self.ia
     }
 
+    /// The condition code, 0 to 3.
     pub fn condition(&self) -> u8
         ensures value { result ≡ self.now.condition }
         ensures below { result ≤ 3 }
@@ -73,6 +76,7 @@ impl Cpu {
         self.cc
     }
 
+    /// The program mask, 0 to 15.
     pub fn mask(&self) -> u8
         ensures value { result ≡ self.now.mask }
         ensures below { result ≤ 15 }

@@ -17,3 +17,6 @@ pub use operands::{
 };
 pub use space::{Refused, Space};
 pub use words::{is_word, low_word, sign_code, signed};
+
+#[cfg(test)]
+mod tests;
