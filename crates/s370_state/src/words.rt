@@ -1,6 +1,6 @@
 //! Signed numbers of 32 bits in registers (Principles of Operation, "Fixed-Point Arithmetic", "Number Representation").
 ghost use Rattle.std.specs.Prelude.{◌≡◌, ℕ, ◌+◌, ◌%◌, ◌<◌, ◌≤◌, ◌^◌, ℤ, pos, neg_ℤ, ◌≤ℤ◌, ◌<ℤ◌};
-ghost use Rattle.s370_state.specs.Words.{signed, low_word, is_word, sign_code};
+ghost use Rattle.s370_state.specs.Words.{signed, signed_half, low_word, is_word, sign_code};
 
 /// The register as a signed number, -2^31 to 2^31 - 1.
 #[tactic(auto, unfolding(crate::specs::Words::signed))]
@@ -10,6 +10,16 @@ pub fn signed(w: u32) -> i64
     ensures high { result <ℤ pos 2147483648 }
 {
     i64::from(w.cast_signed())
+}
+
+/// The halfword as a signed number, -2^15 to 2^15 - 1.
+#[tactic(auto, unfolding(crate::specs::Words::signed_half))]
+pub fn signed_half(h: u16) -> i64
+    ensures value { result ≡ signed_half h }
+    ensures low { neg_ℤ (pos 32768) ≤ℤ result }
+    ensures high { result <ℤ pos 32768 }
+{
+    i64::from(h.cast_signed())
 }
 
 /// The number modulo 2^32, as a register holds it.
