@@ -10,3 +10,6 @@ mod instruction;
 pub use branch::outcome;
 pub use fetch::fetch_rest;
 pub use instruction::execute;
+
+#[cfg(test)]
+mod tests;

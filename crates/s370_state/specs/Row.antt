@@ -1,5 +1,5 @@
 -- A row is what one operation says of one state. The order of tests is stated here once, for all rows.
-use Rattle.std.specs.Prelude.{◌≡◌, ℕ, ◌%◌, ◌/◌, Bool, true, false, ◌&&◌, if◌then◌else◌, ◌==◌, nat_le, Option, Some, None, List, [], ◌∷◌, slice_index, slice_set}
+use Rattle.std.specs.Prelude.{◌≡◌, ℕ, ◌+◌, ◌*◌, ◌%◌, ◌/◌, Bool, true, false, ◌&&◌, if◌then◌else◌, ◌==◌, nat_le, Option, Some, None, List, [], ◌∷◌, slice_index, slice_set}
 use Rattle.cov_base.specs.States.{CpuView, Machine}
 use Rattle.cov_base.specs.Memory.{Memory, can_reach, can_store, first_touch, or_else}
 use Rattle.s370_state.specs.declared.endings.Ending.{Ending}
@@ -85,8 +85,20 @@ after c b n = record { machine = record { cpu = c; bytes = b }; next = n }
 abbrev pub reg : Machine → ℕ → ℕ
 reg s r = slice_index s.cpu.regs r
 
+-- a register that may begin a pair
+abbrev pub is_even : ℕ → Bool
+is_even r = r % 2 == 0
+
+-- the 64 bits of register r and the next, where r is even
+abbrev pub pair : CpuView → ℕ → ℕ
+pair s r = slice_index s.regs r * 4294967296 + slice_index s.regs (r + 1)
+
 abbrev pub with_reg : Machine → ℕ → ℕ → Machine
 with_reg s r v = record { cpu = record { regs = slice_set s.cpu.regs r v; ia = s.cpu.ia; condition = s.cpu.condition; mask = s.cpu.mask }; bytes = s.bytes }
+
+-- the registers with other 64 bits in a pair
+abbrev pub with_pair : List ℕ → ℕ → ℕ → List ℕ
+with_pair regs r v = slice_set (slice_set regs r (v / 4294967296)) (r + 1) (v % 4294967296)
 
 abbrev pub with_cc : Machine → ℕ → Machine
 with_cc s code = record { cpu = record { regs = s.cpu.regs; ia = s.cpu.ia; condition = code; mask = s.cpu.mask }; bytes = s.bytes }

@@ -1,6 +1,6 @@
 -- Words and halfwords in storage, and in registers.
 use Rattle.std.specs.Prelude.{ℕ, ◌+◌, ◌*◌, ◌%◌, ◌/◌, ◌-◌, List, slice_set, nat_lt, ◌==◌, if◌then◌else◌, Bool, zero, suc, ℤ, pos, negsuc}
-use Rattle.std.specs.Int.{cast_signed, w32}
+use Rattle.std.specs.Int.{cast_signed, w16, w32}
 use Rattle.cov_base.specs.Memory.{Memory, byte_at, wrap}
 
 -- the number of the n bytes from a on
@@ -12,6 +12,18 @@ number_at m bytes a (suc n) = number_at m bytes a n * 256 + byte_at m bytes (wra
 unfoldable pub store_word : List ℕ → ℕ → ℕ → List ℕ
 store_word bytes a v =
     slice_set (slice_set (slice_set (slice_set bytes (wrap a) (v / 16777216)) (wrap (a + 1)) (v / 65536 % 256)) (wrap (a + 2)) (v / 256 % 256)) (wrap (a + 3)) (v % 256)
+
+-- the low halfword of a register is stored
+unfoldable pub store_half : List ℕ → ℕ → ℕ → List ℕ
+store_half bytes a v = slice_set (slice_set bytes (wrap a) (v / 256 % 256)) (wrap (a + 1)) (v % 256)
+
+-- a doubleword is stored
+unfoldable pub store_double : List ℕ → ℕ → ℕ → List ℕ
+store_double bytes a v = store_word (store_word bytes a (v / 4294967296)) (a + 4) (v % 4294967296)
+
+-- a halfword as a signed number
+unfoldable pub signed_half : ℕ → ℤ
+signed_half n = cast_signed w16 n
 
 -- a register as a signed number
 unfoldable pub signed : ℕ → ℤ

@@ -1,6 +1,7 @@
 //! The registers and the parts of the program status word that a task sees.
-ghost use Rattle.std.specs.Prelude.{◌≡◌, ℕ, ◌+◌, ◌%◌, ◌<◌, ◌≤◌, ◌^◌, slice_index, slice_set};
+ghost use Rattle.std.specs.Prelude.{◌≡◌, ℕ, ◌+◌, ◌*◌, ◌/◌, ◌%◌, ◌<◌, ◌≤◌, ◌^◌, slice_index, slice_set};
 ghost use Rattle.cov_base.specs.States.{base, address};
+ghost use Rattle.s370_state.specs.Row.{pair, with_pair};
 
 use cov_base::Addr;
 use std::marker::Model;
@@ -38,6 +39,7 @@ impl Cpu {
         self.regs[r as usize]
     }
 
+    /// Puts the word into register r, which is below 16.
     pub fn set_reg(&mut self, r: u8, v: u32)
         requires { r < 16 }
         ensures { self.new ≡ record self.old { regs = slice_set self.old.regs r v } }
@@ -45,6 +47,24 @@ impl Cpu {
         self.regs[r as usize] = v;
     }
 
+    /// The 64 bits of register r, which is even and below 16, and the next.
+    pub fn pair(&self, r: u8) -> u64
+        requires { r < 15 }
+        ensures { result ≡ pair self.now r }
+    {
+        u64::from(self.reg(r)) * 4_294_967_296 + u64::from(self.reg(r + 1))
+    }
+
+    /// Puts 64 bits into register r, which is even and below 16, and the next.
+    pub fn set_pair(&mut self, r: u8, v: u64)
+        requires { r < 15 }
+        ensures { self.new ≡ record self.old { regs = with_pair self.old.regs r v } }
+    {
+        self.set_reg(r, (v / 4_294_967_296) as u32);
+        self.set_reg(r + 1, (v % 4_294_967_296) as u32);
+    }
+
+    /// Sets the condition code, 0 to 3.
     pub fn set_cc(&mut self, code: u8)
         requires { code ≤ 3 }
         ensures { self.new ≡ record self.old { condition = code } }
@@ -66,6 +86,7 @@ impl Cpu {
         self.ia
     }
 
+    /// The condition code, 0 to 3.
     pub fn condition(&self) -> u8
         ensures value { result ≡ self.now.condition }
         ensures below { result ≤ 3 }
@@ -73,6 +94,7 @@ impl Cpu {
         self.cc
     }
 
+    /// The program mask, 0 to 15.
     pub fn mask(&self) -> u8
         ensures value { result ≡ self.now.mask }
         ensures below { result ≤ 15 }

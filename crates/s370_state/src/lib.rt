@@ -12,8 +12,11 @@ pub use cpu::Cpu;
 pub use endings::{Ending, Next, next_after};
 pub use io::TaskIo;
 pub use operands::{
-    byte_of, double_of, ending_of, put_into, put_word, test_read, test_store, test_store_read,
-    word_of,
+    byte_of, double_of, ending_of, half_of, put_double, put_half, put_into, put_word, test_read,
+    test_store, test_store_read, word_of,
 };
 pub use space::{Refused, Space};
-pub use words::{is_word, low_word, sign_code, signed};
+pub use words::{is_word, low_word, sign_code, signed, signed_half};
+
+#[cfg(test)]
+mod tests;

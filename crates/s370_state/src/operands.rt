@@ -1,14 +1,15 @@
-// The tests of operands, made once, and words in storage.
+//! The tests of operands in storage, made here once for all operations, and the numbers that operands hold.
 ghost use Rattle.std.specs.Prelude.{◌≡◌, ℕ, ◌+◌, ◌*◌, ◌%◌, ◌/◌, ◌<◌, ◌≤◌, ◌^◌, List, [], ◌∷◌, true, IfOk, IfErr, slice_set, if◌then◌else◌, ◌&&◌};
 ghost use Rattle.cov_base.specs.Memory.{Memory, byte_at, is_accessible, is_private, can_reach, can_store, wrap};
 ghost use Rattle.s370_state.specs.Row.{Use, reads, stores, use_tests};
-ghost use Rattle.s370_state.specs.Words.{number_at, store_word};
+ghost use Rattle.s370_state.specs.Words.{number_at, store_half, store_word, store_double};
 ghost use Rattle.s370_state.specs.Answers.{ending_of};
 
 use crate::endings::Ending;
 use crate::space::{Refused, Space};
 use cov_base::Addr;
 
+/// How a refused operand or halfword ends the task: codes 5 and 4, or Touched.
 pub fn ending_of(r: Refused) -> Ending
     ensures { result ≡ ending_of r }
 {
@@ -19,7 +20,7 @@ pub fn ending_of(r: Refused) -> Ending
     }
 }
 
-/// Tests an operand that is read.
+/// Tests an operand that is read: code 5, then touch.
 #[tactic(auto, unfolding(crate::specs::Row::use_tests, crate::specs::Row::all_reached, crate::specs::Row::all_stored, crate::specs::Row::touched))]
 pub fn test_read<P: Space>(space: &P, at: Addr, len: u32) -> Result<(), Ending>
     ensures refused { IfErr result (λ e. use_tests (P.memory space.now) (reads at len ∷ []) ≡ Some e) }
@@ -35,7 +36,7 @@ pub fn test_read<P: Space>(space: &P, at: Addr, len: u32) -> Result<(), Ending>
     }
 }
 
-/// Tests an operand that is stored.
+/// Tests an operand that is stored, and maybe read: code 5, then code 4.
 #[tactic(auto, unfolding(crate::specs::Row::use_tests, crate::specs::Row::all_reached, crate::specs::Row::all_stored, crate::specs::Row::touched))]
 pub fn test_store<P: Space>(space: &P, at: Addr, len: u32) -> Result<(), Ending>
     ensures refused { IfErr result (λ e. use_tests (P.memory space.now) (stores at len ∷ []) ≡ Some e) }
@@ -52,7 +53,8 @@ pub fn test_store<P: Space>(space: &P, at: Addr, len: u32) -> Result<(), Ending>
     }
 }
 
-/// Tests a first operand that is stored and a second that is read.
+/// Tests a first operand that is stored and a second that is read: code 5 by either, then code 4 by the first,
+/// then touch by the second.
 #[tactic(auto, unfolding(crate::specs::Row::use_tests, crate::specs::Row::all_reached, crate::specs::Row::all_stored, crate::specs::Row::touched))]
 pub fn test_store_read<P: Space>(space: &P, a: Addr, n: u32, b: Addr, k: u32) -> Result<(), Ending>
     ensures refused { IfErr result (λ e. use_tests (P.memory space.now) (stores a n ∷ (reads b k ∷ [])) ≡ Some e) }
@@ -103,6 +105,7 @@ pub fn put_into<P: Space>(space: &mut P, at: Addr, i: u32, len: u32, value: u8)
     space.put(at.plus(i), value);
 }
 
+/// The word at a distance into an operand that was tested, unsigned.
 #[tactic(auto, using(crate::proofs::Tested::word_of_bytes))]
 pub fn word_of<P: Space>(space: &P, at: Addr, i: u32, len: u32) -> u32
     requires reach { can_reach (P.memory space.now) at len ≡ true }
@@ -117,6 +120,7 @@ pub fn word_of<P: Space>(space: &P, at: Addr, i: u32, len: u32) -> u32
     ])
 }
 
+/// A word is stored at a distance into an operand that was tested.
 #[tactic(auto, unfolding(crate::specs::Words::store_word))]
 pub fn put_word<P: Space>(space: &mut P, at: Addr, i: u32, len: u32, value: u32)
     requires store { can_store (P.memory space.old) at len ≡ true }
@@ -130,6 +134,7 @@ pub fn put_word<P: Space>(space: &mut P, at: Addr, i: u32, len: u32, value: u32)
     put_into(space, at, i + 3, len, (value % 256) as u8);
 }
 
+/// The doubleword at a distance into an operand that was tested, unsigned.
 #[tactic(auto, using(crate::proofs::Tested::double_of_words))]
 pub fn double_of<P: Space>(space: &P, at: Addr, i: u32, len: u32) -> u64
     requires reach { can_reach (P.memory space.now) at len ≡ true }
@@ -138,4 +143,38 @@ pub fn double_of<P: Space>(space: &P, at: Addr, i: u32, len: u32) -> u64
 {
     u64::from(word_of(space, at, i, len)) * 4_294_967_296
         + u64::from(word_of(space, at, i + 4, len))
+}
+
+/// A doubleword is stored at a distance into an operand that was tested.
+#[tactic(auto, unfolding(crate::specs::Words::store_double))]
+pub fn put_double<P: Space>(space: &mut P, at: Addr, i: u32, len: u32, value: u64)
+    requires store { can_store (P.memory space.old) at len ≡ true }
+    requires below { i + 8 ≤ len }
+    ensures memory { P.memory space.new ≡ P.memory space.old }
+    ensures bytes { P.bytes space.new ≡ store_double (P.bytes space.old) (at + i) value }
+{
+    put_word(space, at, i, len, (value / 4_294_967_296) as u32);
+    put_word(space, at, i + 4, len, (value % 4_294_967_296) as u32);
+}
+
+/// The halfword at a distance into an operand that was tested, unsigned.
+#[tactic(auto, using(crate::proofs::Tested::half_of_bytes))]
+pub fn half_of<P: Space>(space: &P, at: Addr, i: u32, len: u32) -> u16
+    requires reach { can_reach (P.memory space.now) at len ≡ true }
+    requires below { i + 2 ≤ len }
+    ensures { result ≡ number_at (P.memory space.now) (P.bytes space.now) (at + i) 2 }
+{
+    u16::from_be_bytes([byte_of(space, at, i, len), byte_of(space, at, i + 1, len)])
+}
+
+/// A word's low halfword is stored at a distance into an operand that was tested.
+#[tactic(auto, unfolding(crate::specs::Words::store_half))]
+pub fn put_half<P: Space>(space: &mut P, at: Addr, i: u32, len: u32, value: u32)
+    requires store { can_store (P.memory space.old) at len ≡ true }
+    requires below { i + 2 ≤ len }
+    ensures memory { P.memory space.new ≡ P.memory space.old }
+    ensures bytes { P.bytes space.new ≡ store_half (P.bytes space.old) (at + i) value }
+{
+    put_into(space, at, i, len, (value / 256 % 256) as u8);
+    put_into(space, at, i + 1, len, (value % 256) as u8);
 }

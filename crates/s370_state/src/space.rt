@@ -1,43 +1,60 @@
+//! A task's storage: what it may reach, store and read.
 ghost use Rattle.std.specs.Prelude.{◌≡◌, ℕ, ◌+◌, ◌*◌, ◌%◌, ◌/◌, ◌<◌, ◌≤◌, ◌^◌, List, Ok, Err, true, slice_set, if◌then◌else◌};
 ghost use Rattle.cov_base.specs.Memory.{Memory, byte_at, is_accessible, is_private, can_reach, can_store, first_touch, wrap};
 ghost use Rattle.s370_state.specs.Answers.{reach_answer, store_answer, touch_answer, half_answer, first_answer};
 
 use cov_base::Addr;
 
+/// Why an operand's byte or an instruction's halfword is not to be had.
 #[derive(Clone, Copy, Drop)]
 pub enum Refused {
+    /// A byte is neither private nor in a module: interruption code 5.
     Addressing,
+    /// A byte to be stored is in a module: interruption code 4.
     Protection,
+    /// A byte to be read is a touch byte, the first of the operand at this address.
     Touch(Addr),
 }
 
+/// The storage of one task: private bytes from address 0 on, and modules, of which it may only read. Operands
+/// wrap modulo 2^24 (Principles of Operation, "Storage Addressing").
 pub trait Space {
+    /// The size of private storage, the modules' bytes and the touch bytes, which no call changes.
     ghost memory: { Self → Memory };
 
     /// The private bytes.
     ghost bytes: { Self → List ℕ };
 
+    /// A later halfword of an instruction: Addressing exactly where one of its bytes is inaccessible, else Touch
+    /// exactly where its first byte is a touch byte.
     fn half(&self, at: Addr) -> Result<u16, Refused>
         ensures { result ≡ half_answer (memory self.now) (bytes self.now) at };
 
+    /// The first halfword of an instruction as it was before any breakpoint: Addressing exactly where one of its
+    /// bytes is inaccessible, and never refused otherwise.
     fn first(&self, at: Addr) -> Result<u16, Refused>
         ensures { result ≡ first_answer (memory self.now) (bytes self.now) at };
 
+    /// Addressing exactly where one of the bytes is inaccessible.
     fn can_reach(&self, at: Addr, len: u32) -> Result<(), Refused>
         ensures { result ≡ reach_answer (memory self.now) at len };
 
+    /// Protection exactly where one of the bytes, all accessible, is not private.
     fn can_store(&self, at: Addr, len: u32) -> Result<(), Refused>
         requires { can_reach (memory self.now) at len ≡ true }
         ensures { result ≡ store_answer (memory self.now) at len };
 
+    /// Touch, with the address of the first, exactly where one of the bytes, all accessible, is a touch byte.
     fn can_read(&self, at: Addr, len: u32) -> Result<(), Refused>
         requires { can_reach (memory self.now) at len ≡ true }
         ensures { result ≡ touch_answer (memory self.now) at len };
 
+    /// The byte at an accessible address.
     fn byte(&self, at: Addr) -> u8
         requires { is_accessible (memory self.now) at ≡ true }
         ensures { result ≡ byte_at (memory self.now) (bytes self.now) at };
 
+    /// Changes the byte at a private address, and no other.
     fn put(&mut self, at: Addr, value: u8)
         requires { is_private (memory self.old) at ≡ true }
         ensures memory { memory self.new ≡ memory self.old }
