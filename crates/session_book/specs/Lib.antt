@@ -1,3 +1,4 @@
 pub mod JobView
+pub mod Ledger
 pub mod Results
 pub mod Sessions
