@@ -1,0 +1,4 @@
+pub mod NotesLemmas
+pub mod ObservedLemmas
+pub mod PlaceLemmas
+pub mod StepLemmas

@@ -1,0 +1,268 @@
+-- One visit of a pass, and visits one after the other.
+use Rattle.std.proofs.Common.{◌≡◌, ◌≢◌, ℕ, ◌+◌, ◌*◌, ◌/◌, Bool, true, false, ◌&&◌, ◌||◌, if◌then◌else◌, ◌==◌, nat_eq, List, [], ◌∷◌, ◌++◌, inl, inr, refl, sym, ◌∙◌, ap, subst, arith}
+use Rattle.std.proofs.lemmas.Bool.{or_cases, or_left, or_right, and_parts, and_from, eqb-true, eq-eqb, cond_both, both_ways, false≢true}
+use Rattle.cov_base.specs.Codes.{breakpoint}
+use Rattle.cov_base.specs.FactSet.{FactSet}
+use Rattle.cov_base.specs.Facts.{no_facts, has_fact, with_fact, same_fact, fact_of}
+use Rattle.cov_base.specs.States.{Visit}
+use Rattle.cov_base.specs.declared.facts.Fact.{Fact}
+use Rattle.cov_base.specs.declared.facts.Fact.TheVariants.{Ran, Went, Stayed}
+use Rattle.module_area.specs.declared.cells.Cell.{Cell}
+use Rattle.module_area.specs.declared.places.Place.{Place}
+use Rattle.module_area.specs.PlanView.{PlanView, place_of, kind_at, original_at, window_at}
+use Rattle.module_area.specs.Notes.{Notes, after_fetch, is_free_under, IsAnswer}
+use Rattle.module_area.specs.Executions.{executes, facts_at, is_place, visits_at_places}
+use Rattle.brk_table.proofs.PlaceLemmas.{is_place-there}
+use Rattle.svc_monitor.specs.First.{BeginsAt}
+use Rattle.svc_monitor.specs.Settled.{Settles}
+use Rattle.svc_monitor.specs.Observed.{Grows, Observes, IsPlanted, IsShown}
+use Rattle.svc_monitor.proofs.NotesLemmas.{Adds, Adds-settled, Grows-fetched, all_three, three_from}
+use Rattle.svc_monitor.proofs.PlaceLemmas.{none_begins}
+
+-- facts in sets
+
+same_fact-true : (f g : Fact) → same_fact f g ≡ true → f ≡ g
+same_fact-true Ran Ran h = refl
+same_fact-true Went Went h = refl
+same_fact-true Stayed Stayed h = refl
+same_fact-true Ran Went h = absurd (false≢true h)
+same_fact-true Ran Stayed h = absurd (false≢true h)
+same_fact-true Went Ran h = absurd (false≢true h)
+same_fact-true Went Stayed h = absurd (false≢true h)
+same_fact-true Stayed Ran h = absurd (false≢true h)
+same_fact-true Stayed Went h = absurd (false≢true h)
+
+same_fact-self : (f : Fact) → same_fact f f ≡ true
+same_fact-self Ran = refl
+same_fact-self Went = refl
+same_fact-self Stayed = refl
+
+has_fact-none : (f : Fact) → has_fact no_facts f ≡ false
+has_fact-none Ran = refl
+has_fact-none Went = refl
+has_fact-none Stayed = refl
+
+has_fact-with : (s : FactSet) (g f : Fact) → has_fact (with_fact s g) f ≡ (same_fact f g || has_fact s f)
+has_fact-with s Ran Ran = refl
+has_fact-with s Ran Went = refl
+has_fact-with s Ran Stayed = refl
+has_fact-with s Went Ran = refl
+has_fact-with s Went Went = refl
+has_fact-with s Went Stayed = refl
+has_fact-with s Stayed Ran = refl
+has_fact-with s Stayed Went = refl
+has_fact-with s Stayed Stayed = refl
+
+or_none : (b : Bool) → (b || false) ≡ b
+or_none true = refl
+or_none false = refl
+
+or_apart : (a b c : Bool) → (a || (b || c)) ≡ ((a || b) || c)
+or_apart true b c = refl
+or_apart false b c = refl
+
+-- the fact of an execution, if it is one
+has_fact-more : (b : Bool) (g f : Fact) (s : FactSet) → has_fact (if b then with_fact s g else s) f ≡ ((b && same_fact f g) || has_fact s f)
+has_fact-more true g f s = has_fact-with s g f
+has_fact-more false g f s = refl
+
+facts_at-more : (place : Place) (v : Visit) (vs : List Visit) (f : Fact) →
+    has_fact (facts_at place (v ∷ vs)) f ≡ ((executes place v && same_fact f (fact_of place.kind v.went)) || has_fact (facts_at place vs) f)
+facts_at-more place v vs f = has_fact-more (executes place v) (fact_of place.kind v.went) f (facts_at place vs)
+
+facts_at-append : (place : Place) (xs ys : List Visit) (f : Fact) →
+    has_fact (facts_at place (xs ++ ys)) f ≡ (has_fact (facts_at place xs) f || has_fact (facts_at place ys) f)
+facts_at-append place [] ys f = ap (λ b. b || has_fact (facts_at place ys) f) (sym (has_fact-none f))
+facts_at-append place (v ∷ xs) ys f =
+    let shows : Bool = executes place v && same_fact f (fact_of place.kind v.went) in
+    facts_at-more place v (xs ++ ys) f
+    ∙ ap (λ b. shows || b) (facts_at-append place xs ys f)
+    ∙ or_apart shows (has_fact (facts_at place xs) f) (has_fact (facts_at place ys) f)
+    ∙ ap (λ b. b || has_fact (facts_at place ys) f) (sym (facts_at-more place v xs f))
+
+visits-append : (places : List Place) (xs ys : List Visit) → visits_at_places places (xs ++ ys) ≡ visits_at_places places xs + visits_at_places places ys
+visits-append places [] ys = omega arith
+visits-append places (v ∷ xs) ys = omega (arith, visits-append places xs ys)
+
+-- what one visit shows at a place
+one_shows : (place : Place) (v : Visit) (f : Fact) → has_fact (facts_at place (v ∷ [])) f ≡ true → (v.begun ≡ true) × (v.at ≡ place.at) × (f ≡ fact_of place.kind v.went)
+one_shows place v f h = elim (or_cases (executes place v && same_fact f (fact_of place.kind v.went)) (has_fact no_facts f) (sym (facts_at-more place v [] f) ∙ h)) [
+  | inl now ↦
+      let both = and_parts (executes place v) (same_fact f (fact_of place.kind v.went)) now in
+      let there = and_parts v.begun (v.at == place.at) both.0 in
+      (there.0, eqb-true v.at place.at there.1, same_fact-true f (fact_of place.kind v.went) both.1)
+  | inr never ↦ absurd (both_ways (has_fact no_facts f) (has_fact-none f) never)
+]
+
+shows_one : (place : Place) (v : Visit) → v.begun ≡ true → v.at ≡ place.at → has_fact (facts_at place (v ∷ [])) (fact_of place.kind v.went) ≡ true
+shows_one place v begun at =
+    let f : Fact = fact_of place.kind v.went in
+    let there : executes place v ≡ true = and_from v.begun (v.at == place.at) begun (eq-eqb v.at place.at at) in
+    facts_at-more place v [] f ∙ or_left (executes place v && same_fact f f) (has_fact no_facts f) (and_from (executes place v) (same_fact f f) there (same_fact-self f))
+
+-- notes that grow
+
+pub Grows-same : (n : Notes) → Grows n n
+Grows-same n = record {
+  marked = λ s p f m. m;
+  full = λ s p m. m;
+  free = λ s p m. m;
+  met = λ s p m. inl m;
+  seen = λ p. omega arith;
+  bears = refl;
+  given = refl;
+  out = refl;
+  plants = refl;
+  closes = refl;
+}
+
+pub Grows-trans : (a b c : Notes) → Grows a b → Grows b c → Grows a c
+Grows-trans a b c g h = record {
+  marked = λ s p f m. h.marked s p f (g.marked s p f m);
+  full = λ s p m. h.full s p (g.full s p m);
+  free = λ s p m. h.free s p (g.free s p m);
+  met = λ s p m. elim (h.met s p m) [
+    | inl old ↦ elim (g.met s p old) [ inl first ↦ inl first | inr free ↦ inr (h.free s p free) ]
+    | inr free ↦ inr free
+  ];
+  seen = λ p. omega (arith, g.seen p, h.seen p);
+  bears = h.bears ∙ g.bears;
+  given = h.given ∙ g.given;
+  out = h.out ∙ g.out;
+  plants = h.plants ∙ g.plants;
+  closes = h.closes ∙ g.closes;
+}
+
+shown_later : (plan : PlanView) (b c : Notes) (p : ℕ) (f : Fact) → Grows b c → IsShown plan b p f → IsShown plan c p f
+shown_later plan b c p f h s = elim s [ inl m ↦ inl (h.marked (window_at plan p) p f m) | inr m ↦ inr (h.full (window_at plan p) p m) ]
+
+-- no visit, and one at no place
+
+pub Observes-none : (plan : PlanView) (n : Notes) → Observes plan n n []
+Observes-none plan n = record {
+  grows = Grows-same n;
+  nothing_else = λ s p f m. inl m;
+  shown = λ p f lt planted h. absurd (both_ways (has_fact no_facts f) (has_fact-none f) h);
+  planted = λ p planted. planted;
+  fetches = omega arith;
+  marks = omega arith;
+  lifts = omega arith;
+}
+
+pub Observes-plain : (plan : PlanView) (n : Notes) (v : Visit) → is_place plan.places v.at ≡ false → Observes plan n n (v ∷ [])
+Observes-plain plan n v none =
+    let count : visits_at_places plan.places (v ∷ []) ≡ 0 = rw none refl in
+    record {
+      grows = Grows-same n;
+      nothing_else = λ s p f m. inl m;
+      shown = λ p f lt planted h. absurd (none_begins plan.places v.at p none lt (sym (one_shows (place_of plan.places p) v f h).1));
+      planted = λ p planted. planted;
+      fetches = omega arith;
+      marks = omega arith;
+      lifts = omega arith;
+    }
+
+-- one visit at a place
+
+one_at_place : (plan : PlanView) (v : Visit) (q : ℕ) → BeginsAt plan.places v.at q → visits_at_places plan.places (v ∷ []) ≡ 1
+one_at_place plan v q b = let there : is_place plan.places v.at ≡ true = is_place-there plan.places q v.at b.exists b.begins in rw there refl
+
+-- while the whole session runs its tag is answered
+planted_tag : (plan : PlanView) (old : Notes) (p q : ℕ) (cell : Cell) → IsAnswer plan old q cell → p ≡ q → IsPlanted plan old p → cell.tag + 1 ≡ 2 * window_at plan p
+planted_tag plan old p q cell a e planted =
+    let there : IsPlanted plan old q = subst (IsPlanted plan old) e planted in
+    let tag : cell.tag ≡ old.seen q = a.window there.0 there.1 in
+    let same : window_at plan p ≡ window_at plan q = ap (window_at plan) e in
+    omega (arith, there.1)
+
+planted_fetched : (plan : PlanView) (old : Notes) (q : ℕ) (cell : Cell) → IsAnswer plan old q cell → (p : ℕ) → IsPlanted plan old p → IsPlanted plan (after_fetch plan old q cell) p
+planted_fetched plan old q cell a p planted = (
+  planted.0,
+  cond_both (nat_eq p q) cell.tag (old.seen p) (λ t. t + 1 ≡ 2 * window_at plan p) (λ e. planted_tag plan old p q cell a (eqb-true p q e) planted) (λ e. planted.1),
+)
+
+-- the place was free, or the visit wasn't begun
+pub Observes-kept : (plan : PlanView) (old : Notes) (q : ℕ) (cell : Cell) (v : Visit) →
+    BeginsAt plan.places v.at q → IsAnswer plan old q cell → (v.begun ≡ true → cell.half ≢ breakpoint) → Observes plan old (after_fetch plan old q cell) (v ∷ [])
+Observes-kept plan old q cell v b a free =
+    let count = one_at_place plan v q b in
+    record {
+      grows = Grows-fetched plan old q cell a.later;
+      nothing_else = λ s p f m. inl m;
+      shown = λ p f lt planted h.
+          let parts = one_shows (place_of plan.places p) v f h in
+          let e : p ≡ q = b.only p lt (sym parts.1) in
+          let w : ℕ = window_at plan p in
+          let half : nat_eq cell.half (original_at plan q) ≡ true = eq-eqb cell.half (original_at plan q) (a.plain (free parts.0)) in
+          let tag : nat_eq (cell.tag + 1) (2 * w) ≡ true = eq-eqb (cell.tag + 1) (2 * w) (planted_tag plan old p q cell a e planted) in
+          let under : is_free_under plan q cell w ≡ true = and_from (nat_eq cell.half (original_at plan q)) (nat_eq (cell.tag + 1) (2 * w)) half tag in
+          inr (or_right (old.full w p) (nat_eq p q && is_free_under plan q cell w) (and_from (nat_eq p q) (is_free_under plan q cell w) (eq-eqb p q e) under));
+      planted = planted_fetched plan old q cell a;
+      fetches = omega arith;
+      marks = omega arith;
+      lifts = omega arith;
+    }
+
+-- a trap was settled
+pub Observes-settled : (plan : PlanView) (old new : Notes) (q : ℕ) (cell : Cell) (v : Visit) →
+    BeginsAt plan.places v.at q → IsAnswer plan old q cell → v.begun ≡ true →
+    Settles plan (after_fetch plan old q cell) new (cell.tag / 2 + 1) q (fact_of (kind_at plan q) v.went) → Observes plan old new (v ∷ [])
+Observes-settled plan old new q cell v b a begun h =
+    let s : ℕ = cell.tag / 2 + 1 in
+    let g : Fact = fact_of (kind_at plan q) v.went in
+    let mid : Notes = after_fetch plan old q cell in
+    let adds : Adds mid new s q g = Adds-settled plan mid new s q g h in
+    let count = one_at_place plan v q b in
+    record {
+      grows = Grows-trans old mid new (Grows-fetched plan old q cell a.later) adds.grows;
+      nothing_else = λ t p f m. elim (or_cases (old.marked t p f) (nat_eq t s && nat_eq p q && same_fact f g) (sym (adds.marked t p f) ∙ m)) [
+        | inl before ↦ inl before
+        | inr now ↦
+            let parts = all_three (nat_eq t s) (nat_eq p q) (same_fact f g) now in
+            let e : p ≡ q = eqb-true p q parts.1 in
+            let same : f ≡ g = same_fact-true f g parts.2 in
+            let there : has_fact (facts_at (place_of plan.places q) (v ∷ [])) g ≡ true = shows_one (place_of plan.places q) v begun (sym b.begins) in
+            inr (subst (λ r. has_fact (facts_at (place_of plan.places r) (v ∷ [])) f ≡ true) (sym e) (subst (λ x. has_fact (facts_at (place_of plan.places q) (v ∷ [])) x ≡ true) (sym same) there))
+      ];
+      shown = λ p f lt planted h.
+          let parts = one_shows (place_of plan.places p) v f h in
+          let e : p ≡ q = b.only p lt (sym parts.1) in
+          let w : ℕ = window_at plan p in
+          let session : nat_eq w s ≡ true = eq-eqb w s (let tag = planted_tag plan old p q cell a e planted in omega arith) in
+          let same : f ≡ g = parts.2 ∙ ap (λ r. fact_of (kind_at plan r) v.went) e in
+          let fact : same_fact f g ≡ true = subst (λ x. same_fact f x ≡ true) same (same_fact-self f) in
+          inl (adds.marked w p f ∙ or_right (old.marked w p f) (nat_eq w s && nat_eq p q && same_fact f g)
+          (three_from (nat_eq w s) (nat_eq p q) (same_fact f g) session (eq-eqb p q e) fact));
+      planted = λ p planted. let now = planted_fetched plan old q cell a p planted in (now.0, ap (λ n. n + 1) (adds.seen p) ∙ now.1);
+      fetches = omega (arith, adds.fetches);
+      marks = omega (arith, adds.marks);
+      lifts = omega (arith, adds.lifts);
+    }
+
+-- visits one after the other
+pub Observes-append : (plan : PlanView) (a b c : Notes) (xs ys : List Visit) → Observes plan a b xs → Observes plan b c ys → Observes plan a c (xs ++ ys)
+Observes-append plan a b c xs ys r h =
+    let count = visits-append plan.places xs ys in
+    record {
+      grows = Grows-trans a b c r.grows h.grows;
+      nothing_else = λ s p f m.
+          let place : Place = place_of plan.places p in
+          let both = facts_at-append place xs ys f in
+          elim (h.nothing_else s p f m) [
+            | inl before ↦ elim (r.nothing_else s p f before) [
+              | inl old ↦ inl old
+              | inr first ↦ inr (both ∙ or_left (has_fact (facts_at place xs) f) (has_fact (facts_at place ys) f) first)
+            ]
+            | inr last ↦ inr (both ∙ or_right (has_fact (facts_at place xs) f) (has_fact (facts_at place ys) f) last)
+          ];
+      shown = λ p f lt planted there.
+          let place : Place = place_of plan.places p in
+          elim (or_cases (has_fact (facts_at place xs) f) (has_fact (facts_at place ys) f) (sym (facts_at-append place xs ys f) ∙ there)) [
+            | inl first ↦ shown_later plan b c p f h.grows (r.shown p f lt planted first)
+            | inr last ↦ h.shown p f lt (r.planted p planted) last
+          ];
+      planted = λ p planted. h.planted p (r.planted p planted);
+      fetches = omega (arith, r.fetches, h.fetches);
+      marks = omega (arith, r.marks, h.marks);
+      lifts = omega (arith, r.lifts, h.lifts);
+    }

@@ -1,0 +1,38 @@
+//! What a trap does.
+ghost use Rattle.std.specs.Prelude.{◌≡◌, ℕ, ◌+◌, ◌/◌, ◌%◌, ◌<◌, ◌^◌, length, true};
+ghost use Rattle.std.specs.declared.option.Option.TheVariants.{Some};
+ghost use Rattle.cov_base.specs.Facts.{is_of_kind};
+ghost use Rattle.module_area.specs.PlanView.{kind_at};
+ghost use Rattle.module_area.specs.Notes.{calls};
+ghost use Rattle.svc_monitor.specs.Settled.{Settles};
+
+use brk_table::Tables;
+use cov_base::{Fact, PlaceNo, SessNo};
+use module_area::{Cell, Cells};
+
+/// Marks the fact for the session whose breakpoint the cell is, and lifts it exactly where the set with the fact is
+/// full.
+pub fn settle<C: Cells>(
+    cells: &C,
+    pass: &mut C::Pass,
+    tables: &Tables,
+    place: PlaceNo,
+    cell: Cell,
+    fact: Fact,
+)
+    requires area { C.is_pass cells.now pass.old }
+    requires plan { (C.plan cells.now).places ≡ tables.now.places }
+    requires room { calls (C.notes pass.old) < 2 ^ 61 + 2 ^ 16 }
+    requires place { place.0 < length tables.now.places }
+    requires pending { (C.notes pass.old).pending ≡ Some (place.0, cell.tag) }
+    requires planted { cell.tag % 2 ≡ 1 }
+    requires kind { is_of_kind (kind_at (C.plan cells.now) place.0) fact ≡ true }
+    ensures area { C.is_pass cells.now pass.new }
+    ensures settles { Settles (C.plan cells.now) (C.notes pass.old) (C.notes pass.new) (cell.tag / 2 + 1) place.0 fact }
+{
+    let s = SessNo(cell.tag / 2 + 1);
+    let found = cells.mark(pass, s, place, fact);
+    if found.with(fact).is_full(tables.place(place).kind) {
+        let _ = cells.lift(pass, s, place);
+    }
+}
