@@ -1,0 +1,5 @@
+pub mod CardLemmas
+pub mod ImageLemmas
+pub mod Ranges
+pub mod Touches
+pub mod Seen
