@@ -3,3 +3,4 @@ pub mod ImageLemmas
 pub mod Ranges
 pub mod Touches
 pub mod Seen
+pub mod SpaceLemmas

@@ -1,8 +1,9 @@
 -- Each place is reached, and shows its original.
 use Rattle.std.proofs.Common.{◌≡◌, ℕ, ◌+◌, ◌-◌, ◌*◌, ◌<◌, ◌≤◌, zero, suc, Bool, true, false, ◌||◌, ◌&&◌, nat_le, nat_lt, if◌then◌else◌, List, [], ◌∷◌, length, get_or, slice_index, refl, sym, ◌∙◌, arith, ◌⊎◌, inl, inr}
-use Rattle.std.specs.List.{All, AllPairs, list_any}
+use Rattle.std.specs.List.{All, AllPairs, Contains, list_any}
 use Rattle.std.proofs.lemmas.Bool.Decides.{nat_tests}
 use Rattle.std.proofs.lemmas.List.Elements.{All-get_or}
+use Rattle.std.proofs.lemmas.List.{get_or_read}
 use Rattle.cov_base.specs.Codes.{length_of}
 use Rattle.cov_base.specs.Memory.{Memory, ImageView, wrap, byte_at, half_at}
 use Rattle.module_area.specs.declared.places.Place.{Place}
@@ -56,7 +57,7 @@ two_or_more : (h : ℕ) → 2 ≤ length_of h
 unfolding length_of
 two_or_more h = pick (nat_lt h 16384) (nat_lt h 49152)
 
-byte_at-image : (size : ℕ) (images : List ImageView) (places : List Place) (bytes : List ℕ) (a : ℕ) → size ≤ a → byte_at (memory_of size images places) bytes a ≡ image_byte images a
+pub byte_at-image : (size : ℕ) (images : List ImageView) (places : List Place) (bytes : List ℕ) (a : ℕ) → size ≤ a → byte_at (memory_of size images places) bytes a ≡ image_byte images a
 unfolding byte_at memory_of
 byte_at-image size images places bytes a h = rw (let e : nat_lt a size ≡ false = grind (arith, nat_tests) in e) refl
 
@@ -80,3 +81,17 @@ is_seen size images places p h f g q =
 pub are_seen : (size : ℕ) (images : List ImageView) (places : List Place) → size ≤ 1048576 → AreImages images → ArePlaces places → All (IsIn images) places → AreSeen (memory_of size images places) places
 are_seen size images places h f g q n l =
     is_seen size images places (get_or places n no_place) h f (All-get_or IsPlace places n no_place l g.each) (All-get_or (IsIn images) places n no_place l q)
+
+pub image_byte-contained : (images : List ImageView) (i : ImageView) (a : ℕ) → AreImages images → Contains images i → in_image i a ≡ true → image_byte images a ≡ slice_index i.bytes (a - i.base)
+image_byte-contained images i a f (k, l, e) h =
+    rw e at (image_byte-there images i k a l f.apart (rw e h))
+
+-- the halfword of two bytes of one module
+pub half_read : (images : List ImageView) (i : ImageView) (a base x y : ℕ) (bytes : List ℕ) → AreImages images → Contains images i → in_image i a ≡ true → base ≡ i.base → bytes ≡ i.bytes → a - base + 1 < length bytes → x ≡ get_or bytes (a - base) x → y ≡ get_or bytes (a - base + 1) y → x * 256 + y ≡ image_byte images a * 256 + image_byte images (a + 1)
+half_read images i a base x y bytes f one h p q l s t =
+    let from = in_image-from i a h in
+    let n : a - base + 1 < length i.bytes = rw q at l in
+    let next : in_image i (a + 1) ≡ true = in_image-inside i (a + 1) (omega arith) (omega arith) in
+    let first : x ≡ image_byte images a = get_or_read bytes (a - base) x (omega arith) s 0 ∙ rw (p, q) refl ∙ sym (image_byte-contained images i a f one h) in
+    let second : y ≡ image_byte images (a + 1) = get_or_read bytes (a - base + 1) y l t 0 ∙ rw (p, q, let e : a - i.base + 1 ≡ a + 1 - i.base = omega arith in e) refl ∙ sym (image_byte-contained images i (a + 1) f one next) in
+    cc

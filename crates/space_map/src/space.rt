@@ -1,5 +1,5 @@
 //! A task's space.
-ghost use Rattle.std.specs.Prelude.{◌≡◌, ℕ, ◌+◌, ◌*◌, None, ◌<◌, ◌≤◌, length, All, IfOk, true, nat_le};
+ghost use Rattle.std.specs.Prelude.{◌≡◌, ℕ, ◌+◌, ◌*◌, None, ◌<◌, ◌≤◌, length, All, IfOk, IsTrue, true};
 ghost use Rattle.cov_base.specs.Memory.{wrap, byte_at, half_at, is_accessible, can_reach, can_store, first_touch};
 ghost use Rattle.s370_state.specs.Answers.{reach_answer, store_answer, touch_answer};
 ghost use Rattle.module_area.specs.Images.{AreImages};
@@ -70,19 +70,23 @@ impl<'a> TaskSpace<'a> {
         })
     }
 
-    // The range lies in private storage.
-    fn is_own(&self, at: Addr, len: u32) -> bool
-        ensures { result ≡ nat_le (at + len) self.now.size }
+    // A range that ends in private storage lies in it, since addresses wrap far above it.
+    fn is_private(&self, at: Addr, len: u32) -> bool
+        ensures value { result ≡ can_store (memory_of_space self.now) at len }
+        ensures reach { IsTrue result → can_reach (memory_of_space self.now) at len ≡ true }
+        ensures touch { IsTrue result → first_touch (memory_of_space self.now) at len ≡ None }
     {
-        u64::from(at.get()) + u64::from(len) <= u64::from(self.size)
+        len == 0 || u64::from(at.get()) + u64::from(len) <= u64::from(self.size)
     }
 
+    #[tactic(auto, unfolding(brk_table::specs::Places::memory_of, cov_base::specs::Memory::is_accessible))]
     fn is_accessible(&self, at: Addr) -> bool
         ensures { result ≡ is_accessible (memory_of_space self.now) at }
     {
         at.get() < self.size || is_image(self.images, at.get())
     }
 
+    #[tactic(auto, using(crate::proofs::Ranges::reach_none, crate::proofs::Ranges::reach_more, crate::proofs::Ranges::reach_fails))]
     fn reach_bytes(&self, at: Addr, len: u32) -> Result<(), Refused>
         ensures { result ≡ reach_answer (memory_of_space self.now) at len }
     {
@@ -94,6 +98,7 @@ impl<'a> TaskSpace<'a> {
         Ok(())
     }
 
+    #[tactic(auto, using(crate::proofs::Ranges::touch_none, crate::proofs::Ranges::touch_more, crate::proofs::Ranges::touch_found))]
     fn read_bytes(&self, at: Addr, len: u32) -> Result<(), Refused>
         ensures { result ≡ touch_answer (memory_of_space self.now) at len }
     {
@@ -141,6 +146,7 @@ impl<'a> TaskSpace<'a> {
     }
 }
 
+#[tactic(auto, using(crate::proofs::Ranges::reach_two, crate::proofs::Ranges::answer_ok))]
 impl<'a> Space for TaskSpace<'a> {
     ghost memory = { λ s. memory_of_space s };
 
@@ -170,15 +176,17 @@ impl<'a> Space for TaskSpace<'a> {
     }
 
     fn can_reach(&self, at: Addr, len: u32) -> Result<(), Refused> {
-        if self.is_own(at, len) || is_in_one_image(self.images, at.get(), len) {
-            Ok(())
-        } else {
-            self.reach_bytes(at, len)
+        if self.is_private(at, len) {
+            return Ok(());
         }
+        if is_in_one_image(self.images, at.get(), len) {
+            return Ok(());
+        }
+        self.reach_bytes(at, len)
     }
 
     fn can_store(&self, at: Addr, len: u32) -> Result<(), Refused> {
-        if len == 0 || self.is_own(at, len) {
+        if self.is_private(at, len) {
             Ok(())
         } else {
             Err(Refused::Protection)
@@ -186,9 +194,10 @@ impl<'a> Space for TaskSpace<'a> {
     }
 
     fn can_read(&self, at: Addr, len: u32) -> Result<(), Refused> {
-        if self.is_own(at, len) { Ok(()) } else { self.read_bytes(at, len) }
+        if self.is_private(at, len) { Ok(()) } else { self.read_bytes(at, len) }
     }
 
+    #[tactic(auto, unfolding(brk_table::specs::Places::memory_of, cov_base::specs::Memory::byte_at, cov_base::specs::Memory::is_accessible))]
     fn byte(&self, at: Addr) -> u8 {
         if at.get() < self.size {
             self.bytes[at.get() as usize]
@@ -197,6 +206,7 @@ impl<'a> Space for TaskSpace<'a> {
         }
     }
 
+    #[tactic(auto, unfolding(brk_table::specs::Places::memory_of, cov_base::specs::Memory::is_private))]
     fn put(&mut self, at: Addr, value: u8) {
         self.bytes[at.get() as usize] = value;
     }
