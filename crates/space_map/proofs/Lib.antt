@@ -1,0 +1,6 @@
+pub mod CardLemmas
+pub mod ImageLemmas
+pub mod Ranges
+pub mod Touches
+pub mod Seen
+pub mod SpaceLemmas

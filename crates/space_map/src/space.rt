@@ -1,0 +1,213 @@
+//! A task's space.
+ghost use Rattle.std.specs.Prelude.{◌≡◌, ℕ, ◌+◌, ◌*◌, None, ◌<◌, ◌≤◌, length, All, IfOk, IsTrue, true};
+ghost use Rattle.cov_base.specs.Memory.{wrap, byte_at, half_at, is_accessible, can_reach, can_store, first_touch};
+ghost use Rattle.s370_state.specs.Answers.{reach_answer, store_answer, touch_answer};
+ghost use Rattle.module_area.specs.Images.{AreImages};
+ghost use Rattle.brk_table.specs.Places.{memory_of, IsIn, AreSeen, touches};
+ghost use Rattle.space_map.specs.Space.{first_bytes, row_of, memory_of_space};
+
+use crate::bytes::first_bytes;
+use crate::images::{image_byte, image_half, is_image, is_in_one_image};
+use brk_table::Tables;
+use cov_base::{Addr, NoMemory};
+use module_area::{DataCard, Images};
+use s370_state::{Refused, Space};
+use std::alloc::Global;
+use std::marker::Model;
+
+/// What a task's addresses hold: private storage of at most X'100000' bytes from address 0 on, and the modules.
+/// Contracts see the memory and the private bytes.
+#[derive(Drop)]
+pub struct TaskSpace<'a> {
+    size: u32,
+    bytes: Vec<u8>,
+    images: &'a Images,
+    tables: &'a Tables,
+    // some module is monitored
+    monitored: bool,
+}
+
+impl<'a> Model for TaskSpace<'a> {
+    ghost use Rattle.space_map.specs.Space.{SpaceView};
+    ghost use Rattle.space_map.specs.Inside.{IsSpace};
+
+    ghost Value = { SpaceView };
+
+    ghost view = { λ s. record { size = s.size; bytes = s.bytes.items; images = s.images.now; places = s.tables.now.places } };
+
+    ghost invariant = { λ s. IsSpace (record { size = s.size; bytes = s.bytes.items; images = s.images.now; places = s.tables.now.places }) s.monitored };
+}
+
+impl<'a> TaskSpace<'a> {
+    /// The space of a task with so many bytes of private storage, at most X'100000', in which the cards' bytes stand,
+    /// all within that size. The tables are those of the modules.
+    pub fn new(
+        alloc: Global,
+        size: u32,
+        cards: &[DataCard],
+        images: &'a Images,
+        tables: &'a Tables,
+    ) -> Result<TaskSpace<'a>, NoMemory>
+        requires size { size ≤ 1048576 }
+        requires cards { All (λ c. c.offset + length c.bytes ≤ size) cards.now }
+        requires images { AreImages images.now }
+        requires tables { All (IsIn images.now) tables.now.places }
+
+        ensures memory { IfOk result (λ s. memory_of_space s ≡ memory_of size images.now tables.now.places) }
+        ensures bytes { IfOk result (λ s. s.bytes ≡ first_bytes size cards.now) }
+
+        // Each place is reached, and shows its original.
+        ensures seen { AreSeen (memory_of size images.now tables.now.places) tables.now.places }
+    {
+        let monitored = tables.len() > 0;
+        let bytes = first_bytes(alloc, size, cards)?;
+        Ok(TaskSpace {
+            size,
+            bytes,
+            images,
+            tables,
+            monitored,
+        })
+    }
+
+    // A range that ends in private storage lies in it, since addresses wrap far above it.
+    fn is_private(&self, at: Addr, len: u32) -> bool
+        ensures value { result ≡ can_store (memory_of_space self.now) at len }
+        ensures reach { IsTrue result → can_reach (memory_of_space self.now) at len ≡ true }
+        ensures touch { IsTrue result → first_touch (memory_of_space self.now) at len ≡ None }
+    {
+        len == 0 || u64::from(at.get()) + u64::from(len) <= u64::from(self.size)
+    }
+
+    #[tactic(auto, unfolding(brk_table::specs::Places::memory_of, cov_base::specs::Memory::is_accessible))]
+    fn is_accessible(&self, at: Addr) -> bool
+        ensures { result ≡ is_accessible (memory_of_space self.now) at }
+    {
+        at.get() < self.size || is_image(self.images, at.get())
+    }
+
+    #[tactic(auto, using(crate::proofs::Ranges::reach_none, crate::proofs::Ranges::reach_more, crate::proofs::Ranges::reach_fails))]
+    fn reach_bytes(&self, at: Addr, len: u32) -> Result<(), Refused>
+        ensures { result ≡ reach_answer (memory_of_space self.now) at len }
+    {
+        for i in 0..len {
+            if !self.is_accessible(at.plus(i)) {
+                return Err(Refused::Addressing);
+            }
+        }
+        Ok(())
+    }
+
+    #[tactic(auto, using(crate::proofs::Ranges::touch_none, crate::proofs::Ranges::touch_more, crate::proofs::Ranges::touch_found))]
+    fn read_bytes(&self, at: Addr, len: u32) -> Result<(), Refused>
+        ensures { result ≡ touch_answer (memory_of_space self.now) at len }
+    {
+        for i in 0..len {
+            if self.is_next_touch(at, i) {
+                return Err(Refused::Touch(at.plus(i)));
+            }
+        }
+        Ok(())
+    }
+
+    fn is_touch(&self, at: Addr) -> bool
+        ensures { result ≡ (memory_of_space self.now).is_touch at }
+    {
+        self.monitored && self.tables.at(Addr::of(at.get() - at.get() % 2)).is_some()
+    }
+
+    // Byte i of a range whose bytes before it are none: an odd one was judged with the byte before it.
+    fn is_next_touch(&self, at: Addr, i: u32) -> bool
+        requires { first_touch (memory_of_space self.now) at i ≡ None }
+        ensures { result ≡ (memory_of_space self.now).is_touch (wrap (at + i)) }
+    {
+        if !self.monitored {
+            return false;
+        }
+        let a = at.plus(i);
+        if i > 0 && a.get() % 2 == 1 { false } else { self.is_touch(a) }
+    }
+
+    /// The bytes of private storage.
+    pub fn bytes(&self) -> &[u8]
+        ensures { result.now ≡ self.now.bytes }
+    {
+        &self.bytes
+    }
+
+    /// Row n of 16 bytes of private storage; the last row may be shorter.
+    pub fn row(&self, n: u32) -> &[u8]
+        requires { 16 * n < self.now.size }
+        ensures { result.now ≡ row_of self.now.bytes n }
+    {
+        let from = n as usize * 16;
+        let rest = self.bytes.len() - from;
+        &self.bytes[from..from + if rest < 16 { rest } else { 16 }]
+    }
+}
+
+#[tactic(auto, using(crate::proofs::Ranges::reach_two, crate::proofs::Ranges::answer_ok))]
+impl<'a> Space for TaskSpace<'a> {
+    ghost memory = { λ s. memory_of_space s };
+
+    ghost bytes = { λ s. s.bytes };
+
+    fn half(&self, at: Addr) -> Result<u16, Refused> {
+        match self.first(at) {
+            Ok(h) => {
+                if self.is_touch(at) {
+                    Err(Refused::Touch(at))
+                } else {
+                    Ok(h)
+                }
+            }
+            Err(r) => Err(r),
+        }
+    }
+
+    fn first(&self, at: Addr) -> Result<u16, Refused> {
+        if let Some(h) = image_half(self.images, at.get()) {
+            return Ok(h);
+        }
+        match self.can_reach(at, 2) {
+            Ok(()) => Ok(u16::from(self.byte(at.plus(0))) * 256 + u16::from(self.byte(at.plus(1)))),
+            Err(_) => Err(Refused::Addressing),
+        }
+    }
+
+    fn can_reach(&self, at: Addr, len: u32) -> Result<(), Refused> {
+        if self.is_private(at, len) {
+            return Ok(());
+        }
+        if is_in_one_image(self.images, at.get(), len) {
+            return Ok(());
+        }
+        self.reach_bytes(at, len)
+    }
+
+    fn can_store(&self, at: Addr, len: u32) -> Result<(), Refused> {
+        if self.is_private(at, len) {
+            Ok(())
+        } else {
+            Err(Refused::Protection)
+        }
+    }
+
+    fn can_read(&self, at: Addr, len: u32) -> Result<(), Refused> {
+        if self.is_private(at, len) { Ok(()) } else { self.read_bytes(at, len) }
+    }
+
+    #[tactic(auto, unfolding(brk_table::specs::Places::memory_of, cov_base::specs::Memory::byte_at, cov_base::specs::Memory::is_accessible))]
+    fn byte(&self, at: Addr) -> u8 {
+        if at.get() < self.size {
+            self.bytes[at.get() as usize]
+        } else {
+            image_byte(self.images, at.get())
+        }
+    }
+
+    #[tactic(auto, unfolding(brk_table::specs::Places::memory_of, cov_base::specs::Memory::is_private))]
+    fn put(&mut self, at: Addr, value: u8) {
+        self.bytes[at.get() as usize] = value;
+    }
+}
