@@ -13,7 +13,5 @@ pub use streams::{Failed, Sink, Source};
 pub use sure::{SureSink, SureSource};
 pub use whole::{ReadFault, read_all, write_all};
 
-
-
 #[cfg(test)]
 mod tests;

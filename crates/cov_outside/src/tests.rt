@@ -49,7 +49,10 @@ fn reads_pieces_to_the_end(rt: HostRuntime) -> Result<(), Fail> {
     assert_eq!(rt; read.as_slice(), [b'T'; 200].as_slice());
     assert_eq!(rt; source.faults(), 0);
     let mut sure = SureSource::new(Vec::from_slice(alloc, b"ABC")?, 2);
-    assert_eq!(rt; read_all(alloc, &mut sure, 3)?.as_slice(), b"ABC".as_slice());
+    assert_eq!(rt;
+        read_all(alloc, &mut sure, 3)?.as_slice(),
+        b"ABC".as_slice()
+    );
     let mut sure = SureSource::new(Vec::from_slice(alloc, b"ABC")?, 2);
     assert!(rt; read_all(alloc, &mut sure, 2).err() == Some(ReadFault::TooLarge));
     Ok(())

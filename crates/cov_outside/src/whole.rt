@@ -51,6 +51,7 @@ pub fn read_all<S: Source>(
     ensures bytes { IfOk result (λ v. IsWhole (S.left source.old) (S.left source.new) v.items) }
     ensures within { IfOk result (λ v. length v.items ≤ limit) }
     ensures fits { OnOk result (HasAtMost (S.left source.old) limit) }
+    ensures rest { OnErr result (ConsumesSome (S.left source.old) (S.left source.new)) }
     ensures large { IsErrOf result ReadFault.TooLarge → HasMoreThan (S.left source.old) limit }
     ensures failed { IsErrOf result ReadFault.Failed → Rose (S.faults source.old) (S.faults source.new) }
     ensures no_fault { OnOk result (S.faults source.new ≡ S.faults source.old) }

@@ -1,4 +1,4 @@
-use Rattle.std.proofs.Common.{◌≡◌, ◌≤◌, ◌+◌, ◌-◌, length, take, drop, arith}
+use Rattle.std.proofs.Common.{◌≤◌, ◌+◌, length, arith}
 use Rattle.cov_outside.proofs.Pieces.{piece_given}
 use Rattle.cov_outside.proofs.memory.give.Goals as goal
 
