@@ -1,5 +1,5 @@
 -- The places of all modules, and the memory that a task sees over them.
-use Rattle.std.specs.Prelude.{◌≡◌, ◌≢◌, ◌⊎◌, ℕ, ◌+◌, ◌-◌, ◌*◌, ◌%◌, ◌<◌, ◌≤◌, Bool, true, ◌&&◌, ◌||◌, ◌==◌, nat_le, nat_lt, if◌then◌else◌, Option, List, [], ◌∷◌, ◌++◌, length, slice_index, get_or, All, AllPairs}
+use Rattle.std.specs.Prelude.{◌≡◌, ◌≢◌, ◌⊎◌, ℕ, ◌+◌, ◌-◌, ◌*◌, ◌%◌, ◌<◌, ◌≤◌, Bool, true, ◌&&◌, ◌||◌, ◌==◌, nat_le, nat_lt, nat_eq, if◌then◌else◌, Option, Some, None, option_map, IfSome, List, [], ◌∷◌, ◌++◌, length, slice_index, get_or, All, AllPairs}
 use Rattle.std.specs.List.{list_any}
 use Rattle.cov_base.specs.Codes.{breakpoint, kind_of, length_of}
 use Rattle.cov_base.specs.Memory.{Memory, ImageView, can_reach, half_at}
@@ -20,6 +20,25 @@ pub record TablesView : Type 0 where
 abbrev pub all_places : List TableView → List Place
 all_places [] = []
 all_places (t ∷ ts) = t.places ++ all_places ts
+
+-- the number of the module's first place: past those of the tables before its own
+abbrev pub first_place : List TableView → ℕ → ℕ
+first_place [] m = 0
+first_place (t ∷ ts) m = if nat_eq t.«module» m then 0 else length t.places + first_place ts m
+
+-- how many places it has
+abbrev pub place_count : List TableView → ℕ → ℕ
+place_count [] m = 0
+place_count (t ∷ ts) m = if nat_eq t.«module» m then length t.places else place_count ts m
+
+-- the number of the place of its listing's line k, counted from 1; none for a text line, and without a table
+abbrev pub place_at_line : List TableView → ℕ → ℕ → Option ℕ
+place_at_line [] m k = None
+place_at_line (t ∷ ts) m k = if nat_eq t.«module» m then get_or t.lines (k - 1) None else option_map (λ n. length t.places + n) (place_at_line ts m k)
+
+-- the place of each instruction line is one of the table's
+abbrev pub HasItsPlaces : TableView → Type 0
+HasItsPlaces t = All (λ e. IfSome e (λ i. i < length t.places)) t.lines
 
 pub record IsPlace (p : Place) : Type 0 where
   pub even : p.at % 2 ≡ 0

@@ -2,6 +2,9 @@
 ghost use Rattle.std.specs.Prelude.{◌≡◌, ◌↔◌, ℕ, ◌<◌, ◌≤◌, true, false, length, IfSome, IsSome, IsNone, get_or};
 ghost use Rattle.module_area.specs.PlanView.{place_of};
 ghost use Rattle.module_area.specs.Executions.{is_place};
+ghost use Rattle.std.specs.Prelude.{◌+◌, ◌-◌, None, nat_eq, option_map};
+ghost use Rattle.brk_table.specs.Places.{HasItsPlaces, first_place, place_count, place_at_line};
+ghost use Rattle.cov_base.specs.declared.numbers.PlaceNo.{PlaceNo as Number};
 
 use cov_base::{Addr, PlaceNo};
 use module_area::Place;
@@ -33,13 +36,14 @@ pub struct Tables {
 
 impl Model for Tables {
     ghost use Rattle.std.specs.Prelude.{◌≡◌};
-    ghost use Rattle.brk_table.specs.Places.{TablesView, ArePlaces, all_places};
+    ghost use Rattle.std.specs.Prelude.{All};
+    ghost use Rattle.brk_table.specs.Places.{TablesView, ArePlaces, HasItsPlaces, all_places};
 
     ghost Value = { TablesView };
 
     ghost view = { λ t. record { tables = t.tables.items; places = t.places.items } };
 
-    ghost invariant = { λ t. (t.places.items ≡ all_places t.tables.items) × ArePlaces t.places.items };
+    ghost invariant = { λ t. (t.places.items ≡ all_places t.tables.items) × ArePlaces t.places.items × All HasItsPlaces t.tables.items };
 }
 
 /// The index of the place that begins at the address.
@@ -55,6 +59,38 @@ fn find(places: &[Place], a: Addr) -> Option<usize>
         }
     }
     None
+}
+
+impl Table {
+    /// The number of its places.
+    fn size(&self) -> usize
+        ensures { result ≡ length self.now.places }
+    {
+        self.places.len()
+    }
+
+    /// Whether it is the module's.
+    fn is_of(&self, module: u32) -> bool
+        ensures { result ≡ nat_eq self.now.«module» «module» }
+    {
+        self.module == module
+    }
+
+    /// The place of a listing line, counted from 1, where the table's first place has that number.
+    fn place_after(&self, first: usize, line: u32) -> Option<PlaceNo>
+        requires some { 0 < line }
+        requires places { HasItsPlaces self.now }
+        requires fits { first + length self.now.places ≤ 65536 }
+        ensures { option_map (λ (p : Number). p.0) result ≡ option_map (λ i. first + i) (get_or self.now.lines (line - 1) None) }
+    {
+        if line as usize > self.lines.len() {
+            return None;
+        }
+        match self.lines[line as usize - 1] {
+            Some(i) => Some(PlaceNo(first as u32 + i)),
+            None => None,
+        }
+    }
 }
 
 impl Tables {
@@ -87,5 +123,42 @@ impl Tables {
         ensures places { ArePlaces self.now.places }
     {
         self.places.len() as u32
+    }
+
+    /// The number of the module's first place, and the number past its last one; both are equal where it has none.
+    pub fn range(&self, module: u32) -> (u32, u32)
+        ensures first { result.0 ≡ first_place self.now.tables «module» }
+        ensures past { result.1 ≡ first_place self.now.tables «module» + place_count self.now.tables «module» }
+        ensures exist { result.1 ≤ length self.now.places }
+    {
+        let mut first = 0;
+        for i in 0..self.tables.len() {
+            let table = &self.tables[i];
+            let count = table.size();
+            if table.is_of(module) {
+                return (first as u32, (first + count) as u32);
+            }
+            first += count;
+        }
+        (first as u32, first as u32)
+    }
+
+    /// The place of a line of the module's listing, counted from 1; none exactly where the line is a text line or the
+    /// module has no table.
+    pub fn line(&self, module: u32, line: u32) -> Option<PlaceNo>
+        requires { 0 < line }
+        ensures value { option_map (λ (p : Number). p.0) result ≡ place_at_line self.now.tables «module» line }
+        ensures from { IfSome result (λ p. first_place self.now.tables «module» ≤ p.0) }
+        ensures to { IfSome result (λ p. p.0 < first_place self.now.tables «module» + place_count self.now.tables «module») }
+    {
+        let mut first = 0;
+        for i in 0..self.tables.len() {
+            let table = &self.tables[i];
+            if table.is_of(module) {
+                return table.place_after(first, line);
+            }
+            first += table.size();
+        }
+        None
     }
 }
