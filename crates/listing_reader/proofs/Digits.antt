@@ -1,0 +1,68 @@
+-- Tests and digits of several columns.
+use Rattle.std.proofs.Common.{◌≡◌, ℕ, ◌+◌, ◌*◌, ◌^◌, ◌/◌, ◌%◌, ◌⊎◌, inl, inr, unwrap_or, ◌<◌, ◌≤◌, zero, suc, Bool, true, false, ◌&&◌, Option, Some, None, List, refl, add-one, arith}
+use Rattle.std.proofs.Common.{add-zero}
+use Rattle.hex.specs.Hex.{hex_digit_value}
+use Rattle.listing_lines.specs.Columns.{column, narrow}
+use Rattle.listing_reader.specs.Fields.{all_below, with_digit, number_in, byte_in}
+
+and_false : (b : Bool) → (b && false) ≡ false
+and_false true = refl
+and_false false = refl
+
+pub all_below_none : (test : ℕ → Bool) → all_below test 0 ≡ true
+unfolding all_below
+all_below_none test = refl
+
+pub all_below_more : (test : ℕ → Bool) (k : ℕ) → all_below test k ≡ true → test k ≡ true → all_below test (k + 1) ≡ true
+unfolding all_below
+all_below_more test k h t = rw (add-one, h, t) refl
+
+pub all_below_false : (test : ℕ → Bool) (m k : ℕ) → test k ≡ false → k < m → all_below test m ≡ false
+unfolding all_below
+all_below_false test zero k t h = absurd (omega arith)
+all_below_false test (suc m) k t h = elim (at_or_below k m h) [
+  | inl e ↦ rw (← e, t) (and_false (all_below test k))
+  | inr l ↦ rw (all_below_false test m k t l) refl
+]
+  where
+    at_or_below : (k m : ℕ) → k < suc m → (k ≡ m) ⊎ (k < m)
+    at_or_below k m h = grind arith
+
+no_digit : (n : Option ℕ) → with_digit n None ≡ None
+no_digit None = refl
+no_digit (Some n) = refl
+
+pub number_in_more : (line : List ℕ) (shift from k n d : ℕ) → number_in line shift from k ≡ Some n → hex_digit_value (column line shift (from + k)) ≡ Some d → number_in line shift from (k + 1) ≡ Some (16 * n + d)
+unfolding number_in
+number_in_more line shift from k n d h e = rw (add-one, h, e) refl
+
+pub number_in_none : (line : List ℕ) (shift from m k : ℕ) → hex_digit_value (column line shift (from + k)) ≡ None → k < m → number_in line shift from m ≡ None
+unfolding number_in
+number_in_none line shift from zero k e h = absurd (omega arith)
+number_in_none line shift from (suc m) k e h = elim (at_or_below k m h) [
+  | inl q ↦ rw (← q, e) (no_digit (number_in line shift from k))
+  | inr l ↦ rw (number_in_none line shift from m k e l) refl
+]
+  where
+    at_or_below : (k m : ℕ) → k < suc m → (k ≡ m) ⊎ (k < m)
+    at_or_below k m h = grind arith
+
+-- two digits
+pub number_in_two : (line : List ℕ) (shift from : ℕ) → number_in line shift from 2 ≡ with_digit (with_digit (Some 0) (hex_digit_value (column line shift from))) (hex_digit_value (column line shift (from + 1)))
+unfolding number_in
+number_in_two line shift from = rw (add-zero from) refl
+
+pub power_16 : (i : ℕ) → i < 6 → 16 ^ i ≤ 1048576
+power_16 zero h = omega arith
+power_16 (suc zero) h = omega arith
+power_16 (suc (suc zero)) h = omega arith
+power_16 (suc (suc (suc zero))) h = omega arith
+power_16 (suc (suc (suc (suc zero)))) h = omega arith
+power_16 (suc (suc (suc (suc (suc zero))))) h = omega arith
+power_16 (suc (suc (suc (suc (suc (suc i)))))) h = absurd (omega arith)
+
+-- a byte of the object code by its two digits
+pub byte_in_two : (line : List ℕ) (shift i : ℕ) (high low : Option ℕ) → hex_digit_value (column line shift (8 + 5 * (i / 2) + 2 * (i % 2))) ≡ high
+    → hex_digit_value (column line shift (8 + 5 * (i / 2) + 2 * (i % 2) + 1)) ≡ low → byte_in narrow line shift i ≡ unwrap_or (with_digit (with_digit (Some 0) high) low) 0
+unfolding byte_in
+byte_in_two line shift i high low e f = rw (number_in_two line shift (8 + 5 * (i / 2) + 2 * (i % 2)), e, f) refl

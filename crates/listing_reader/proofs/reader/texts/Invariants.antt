@@ -1,0 +1,6 @@
+use Rattle.std.proofs.Common.{◌≡◌, replicate}
+use Rattle.listing_reader.specs.declared.lines.Line.TheVariants.{Text}
+use Rattle.listing_reader.proofs.reader.texts.Given as goal
+
+abbrev pub invariant-loop-k : goal.invariant-loop-k
+invariant-loop-k l = l.read.items ≡ replicate l._k Text

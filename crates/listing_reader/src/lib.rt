@@ -1,0 +1,13 @@
+//! The instruction lines of an assembler listing.
+#![tactic(auto)]
+
+mod fields;
+mod lines;
+mod object;
+mod operation;
+mod reader;
+#[cfg(test)]
+mod tests;
+
+pub use lines::{Line, ListFault};
+pub use reader::read_listing;

@@ -1,0 +1,46 @@
+//! What a listing line says, and why a listing is refused.
+
+use s370_decode::Code;
+use std::alloc::{AllocError, AllocFailed};
+
+/// A line of a listing.
+#[derive(Clone, Copy)]
+pub enum Line {
+    /// Any line that is no instruction's.
+    Text,
+    /// An instruction at this location of its module; the code's address is 0.
+    Code { loc: u32, bytes: Code },
+}
+
+/// Why a listing is refused.
+#[derive(Clone, Copy, Debug, PartialEq, Eq)]
+pub enum ListFault {
+    /// No line is a heading.
+    NoHeading,
+    /// This line, counted from 1, is an instruction's, and its object code is no code of an instruction.
+    BadObject { line: u32 },
+    /// A growth was refused by the allocator.
+    NoMemory,
+}
+
+impl From<AllocError> for ListFault {
+    ghost use Rattle.std.specs.Prelude.{◌≡◌};
+    ghost use Rattle.listing_reader.specs.declared.lines.ListFault.TheVariants.{NoMemory};
+
+    ghost from_gives = { λ _ e. e ≡ NoMemory };
+
+    fn from(_: AllocError) -> Self {
+        ListFault::NoMemory
+    }
+}
+
+impl<T: Drop> From<AllocFailed<T>> for ListFault {
+    ghost use Rattle.std.specs.Prelude.{◌≡◌};
+    ghost use Rattle.listing_reader.specs.declared.lines.ListFault.TheVariants.{NoMemory};
+
+    ghost from_gives = { λ _ e. e ≡ NoMemory };
+
+    fn from(_: AllocFailed<T>) -> Self {
+        ListFault::NoMemory
+    }
+}

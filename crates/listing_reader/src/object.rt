@@ -1,0 +1,115 @@
+//! The object code of a line: one to three groups of four hexadecimal digits.
+ghost use Rattle.std.specs.Prelude.{◌≡◌, ◌+◌, ◌*◌, ◌<◌, ◌≤◌, ◌^◌, ◌==◌};
+ghost use Rattle.hex.specs.Hex.{is_hex_digit};
+ghost use Rattle.listing_lines.specs.Columns.{narrow};
+ghost use Rattle.listing_reader.specs.Fields.{fits_groups, are_groups, byte_in, byte_of, code_in, code_with, object_of};
+
+use crate::fields::{digit, is_blank_at};
+use cov_base::Addr;
+use listing_lines::column;
+use s370_decode::{Code, length};
+
+/// The first column of the object code, and how many columns it has.
+const FIRST: usize = 8;
+
+const ROOM: usize = 14;
+
+fn fits_groups(line: &[u8], shift: u8, groups: usize, k: usize) -> bool
+    requires { k < 14 }
+    ensures { result ≡ fits_groups line.now shift 8 groups k }
+{
+    if k % 5 < 4 && k / 5 < groups {
+        digit(column(line, shift, FIRST + k)).is_some()
+    } else {
+        is_blank_at(line, shift, FIRST + k)
+    }
+}
+
+#[tactic(auto, using(crate::proofs::Digits::all_below_none, crate::proofs::Digits::all_below_more), unfolding(crate::specs::Fields::are_groups))]
+fn are_groups(line: &[u8], shift: u8, groups: usize) -> bool
+    ensures { result ≡ are_groups narrow line.now shift groups }
+{
+    for k in 0..ROOM {
+        if !fits_groups(line, shift, groups, k) {
+            return false;
+        }
+    }
+    true
+}
+
+/// The byte at i, of two digits.
+fn byte_in(line: &[u8], shift: u8, i: usize) -> u8
+    requires { i < 6 }
+    ensures { result ≡ byte_in narrow line.now shift i }
+{
+    let first = FIRST + 5 * (i / 2) + 2 * (i % 2);
+    match digit(column(line, shift, first)) {
+        None => 0,
+        Some(high) => match digit(column(line, shift, first + 1)) {
+            None => 0,
+            Some(low) => 16 * high + low,
+        },
+    }
+}
+
+fn byte_of(line: &[u8], shift: u8, groups: usize, i: usize) -> u8
+    requires place { i < 6 }
+    requires groups { groups ≤ 3 }
+    ensures { result ≡ byte_of narrow line.now shift groups i }
+{
+    if i < 2 * groups {
+        byte_in(line, shift, i)
+    } else {
+        0
+    }
+}
+
+fn code_in(line: &[u8], shift: u8, groups: u8) -> Code
+    requires { groups ≤ 3 }
+    ensures { result ≡ code_in narrow line.now shift groups }
+{
+    let n = usize::from(groups);
+    Code {
+        at: Addr::of(0),
+        bytes: [
+            byte_of(line, shift, n, 0),
+            byte_of(line, shift, n, 1),
+            byte_of(line, shift, n, 2),
+            byte_of(line, shift, n, 3),
+            byte_of(line, shift, n, 4),
+            byte_of(line, shift, n, 5),
+        ],
+        len: 2 * groups,
+    }
+}
+
+fn code_with(line: &[u8], shift: u8, groups: u8) -> Option<Code>
+    requires { groups ≤ 3 }
+    ensures { result ≡ code_with narrow line.now shift groups }
+{
+    if !are_groups(line, shift, usize::from(groups)) {
+        return None;
+    }
+    let code = code_in(line, shift, groups);
+    let half = u16::from(code.bytes[0]) * 256 + u16::from(code.bytes[1]);
+    if length(half) == 2 * groups {
+        Some(code)
+    } else {
+        None
+    }
+}
+
+#[tactic(auto, unfolding(crate::specs::Fields::object_of))]
+/// The object code; none exactly where the columns are not one to three groups, or where the first byte gives
+/// another length.
+pub fn object_of(line: &[u8], shift: u8) -> Option<Code>
+    ensures { result ≡ object_of narrow line.now shift }
+{
+    if let Some(code) = code_with(line, shift, 1) {
+        return Some(code);
+    }
+    if let Some(code) = code_with(line, shift, 2) {
+        return Some(code);
+    }
+    code_with(line, shift, 3)
+}

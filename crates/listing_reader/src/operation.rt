@@ -1,0 +1,97 @@
+//! The operation of a source statement.
+ghost use Rattle.std.specs.Prelude.{◌≡◌, ◌≤◌, ◌<◌, map, length, position, not};
+ghost use Rattle.std.specs.Char.{to_ascii_uppercase};
+ghost use Rattle.std.specs.List.{position_or_len};
+ghost use Rattle.listing_lines.specs.Columns.{narrow};
+ghost use Rattle.s370_decode.specs.Mnemonics.{is_mnemonic};
+ghost use Rattle.listing_reader.specs.Fields.{is_blank, skip_blanks, run_of, after_run, source_of, operation_of, has_mnemonic};
+
+use crate::fields::is_blank_at;
+use listing_lines::column;
+
+/// The first column of the source statement.
+const SOURCE: usize = 41;
+
+fn first_blank(bytes: &[u8]) -> Option<usize>
+    ensures { result ≡ position is_blank bytes.now }
+{
+    bytes.iter().position(|b| *b == b' ')
+}
+
+fn first_other(bytes: &[u8]) -> Option<usize>
+    ensures { result ≡ position (λ b. not (is_blank b)) bytes.now }
+{
+    bytes.iter().position(|b| *b != b' ')
+}
+
+fn skip_blanks(bytes: &[u8]) -> &[u8]
+    ensures { result.now ≡ skip_blanks bytes.now }
+{
+    match first_other(bytes) {
+        Some(at) => &bytes[at..],
+        None => &[],
+    }
+}
+
+fn run_of(bytes: &[u8]) -> &[u8]
+    ensures { result.now ≡ run_of bytes.now }
+{
+    match first_blank(bytes) {
+        Some(at) => &bytes[..at],
+        None => bytes,
+    }
+}
+
+fn after_run(bytes: &[u8]) -> &[u8]
+    ensures { result.now ≡ after_run bytes.now }
+{
+    match first_blank(bytes) {
+        Some(at) => &bytes[at..],
+        None => &[],
+    }
+}
+
+fn source_of(line: &[u8], shift: u8) -> &[u8]
+    ensures { result.now ≡ source_of narrow line.now shift }
+{
+    let before = usize::from(shift) + (SOURCE - 1);
+    if before < line.len() {
+        &line[before..]
+    } else {
+        &[]
+    }
+}
+
+fn operation_of(line: &[u8], shift: u8) -> &[u8]
+    ensures { result.now ≡ operation_of narrow line.now shift }
+{
+    let source = source_of(line, shift);
+    if is_blank_at(line, shift, SOURCE) {
+        run_of(skip_blanks(source))
+    } else {
+        run_of(skip_blanks(after_run(source)))
+    }
+}
+
+/// Whether the word is a mnemonic, its letters in either case. No mnemonic has more than five.
+fn is_mnemonic(word: &[u8]) -> bool
+    ensures { result ≡ is_mnemonic (map to_ascii_uppercase word.now) }
+{
+    let n = word.len();
+    if n > 5 {
+        return false;
+    }
+    let mut upper = [0u8; 5];
+    upper[..n].copy_from_slice(word);
+    let letters = &mut upper[..n];
+    letters.make_ascii_uppercase();
+    s370_decode::is_mnemonic(letters)
+}
+
+#[tactic(auto, unfolding(crate::specs::Fields::has_mnemonic))]
+/// Whether the line's statement has an operation that is a mnemonic.
+pub fn has_mnemonic(line: &[u8], shift: u8) -> bool
+    ensures { result ≡ has_mnemonic narrow line.now shift }
+{
+    column(line, shift, SOURCE) != b'*' && is_mnemonic(operation_of(line, shift))
+}

@@ -1,0 +1,93 @@
+//! Reads a whole listing.
+ghost use Rattle.std.specs.Prelude.{◌≡◌, ◌+◌, ◌≤◌, ◌<◌, ◌++◌, ◌⊎◌, length, Option, IfOk, IfErr, OnOk, OnErr, option_map, replicate, position};
+ghost use Rattle.std.specs.declared.option.Option.TheVariants.{Some, None};
+ghost use Rattle.listing_lines.specs.Columns.{narrow};
+ghost use Rattle.listing_reader.specs.Fields.{is_instruction};
+ghost use Rattle.listing_reader.specs.Listing.{line_of, is_bad, lines_of, listing_of, fault_of};
+
+use crate::fields::{are_blank, is_blank_at, number_in};
+use crate::lines::{Line, ListFault};
+use crate::object::object_of;
+use crate::operation::has_mnemonic;
+use listing_lines::{ListingLine, shift_of};
+use std::alloc::Global;
+
+#[tactic(auto, unfolding(crate::specs::Fields::is_instruction))]
+fn is_instruction(line: &[u8], shift: u8) -> bool
+    ensures { result ≡ is_instruction narrow line.now shift }
+{
+    number_in(line, shift, 1).is_some()
+        && is_blank_at(line, shift, 7)
+        && has_mnemonic(line, shift)
+        && !are_blank(line, shift, 8, 14)
+}
+
+/// A line behind the heading; none where it is an instruction's and its object code is no code.
+#[tactic(auto, unfolding(crate::specs::Listing::line_of))]
+fn read_line(line: &[u8], shift: u8) -> Option<Line>
+    ensures { result ≡ line_of narrow shift line.now }
+{
+    if !is_instruction(line, shift) {
+        return Some(Line::Text);
+    }
+    let loc = number_in(line, shift, 1).unwrap_or(0);
+    let bytes = object_of(line, shift)?;
+    Some(Line::Code { loc, bytes })
+}
+
+/// Appends what the lines behind the heading say; the first of them is the listing's line of that number.
+fn read_later(
+    lines: &[ListingLine],
+    shift: u8,
+    first: u32,
+    read: &mut Vec<Line>,
+) -> Result<(), ListFault>
+    requires { first + length lines.now ≤ 16777217 }
+    ensures lines { OnOk result (option_map (λ rest. read.old.items ++ rest) (lines_of narrow shift lines.now) ≡ Some read.new.items) }
+    ensures count { OnOk result (length read.new.items ≡ length read.old.items + length lines.now) }
+    ensures fault { IfErr result (λ e. (e ≡ ListFault.NoMemory) ⊎ (option_map (λ k. ListFault.BadObject (first + k)) (position (is_bad narrow shift) lines.now) ≡ Some e)) }
+{
+    let mut n = first;
+    for line in lines {
+        match read_line(line.bytes(), shift) {
+            None => return Err(ListFault::BadObject { line: n }),
+            Some(says) => read.push(says)?,
+        }
+        n += 1;
+    }
+    Ok(())
+}
+
+/// As many text lines.
+fn texts(alloc: Global, count: usize, room: usize) -> Result<Vec<Line>, ListFault>
+    requires { room ≤ 16777216 }
+    ensures lines { IfOk result (λ v. v.items ≡ replicate count Line.Text) }
+    ensures fault { IfErr result (λ e. e ≡ ListFault.NoMemory) }
+{
+    let mut read = Vec::with_capacity(alloc, room)?;
+    for _k in 0..count {
+        read.push(Line::Text)?;
+    }
+    Ok(read)
+}
+
+/// Reads a listing of at most 16,777,216 lines: what each line says, in time linear in their bytes. The first
+/// heading line and all lines before it are text. NoHeading exactly where no line is a heading; BadObject exactly at
+/// the first line behind the heading that is an instruction's and whose object code is not one to three groups of
+/// four hexadecimal digits, or not as long as its first byte gives (High Level Assembler, the source and object
+/// section of the listing).
+pub fn read_listing(alloc: Global, lines: &[ListingLine]) -> Result<Vec<Line>, ListFault>
+    requires { length lines.now ≤ 16777216 }
+    ensures listing { IfOk result (λ v. listing_of lines.now ≡ Some v.items) }
+    ensures count { IfOk result (λ v. length v.items ≡ length lines.now) }
+    ensures fault { IfErr result (λ e. (e ≡ ListFault.NoMemory) ⊎ (fault_of lines.now ≡ Some e)) }
+{
+    match shift_of(lines) {
+        None => Err(ListFault::NoHeading),
+        Some((at, shift)) => {
+            let mut read = texts(alloc, at + 1, lines.len())?;
+            read_later(&lines[at + 1..], shift, at as u32 + 2, &mut read)?;
+            Ok(read)
+        }
+    }
+}

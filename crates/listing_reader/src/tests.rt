@@ -1,0 +1,255 @@
+//! Listings as the assembler lays them out, and lines with one thing changed.
+use crate::{Line, ListFault, read_listing};
+use listing_lines::ListingLine;
+use std::alloc::{AllocError, Global};
+use std::test::Fail;
+
+const HEADING: &[u8] = b"  Loc  Object Code    Addr1 Addr2  Stmt   Source Statement";
+
+/// A page with print control characters.
+const PAGE: [&[u8]; 13] = [
+    b"1                                 A SAMPLE",
+    b"-  Loc  Object Code    Addr1 Addr2  Stmt   Source Statement",
+    b" 000000                00000 0000E     1 MAIN     CSECT",
+    b" 000000 4110 F00C            0000C     2          LA    1,12(,15)",
+    b"                                       3          KEEP  1",
+    b" 000004 5010 0010            00010     4+         ST    1,16",
+    b" 000008 07FE                           5          BR    14",
+    b" 00000A 0700                           6          CNOP  0,4",
+    b" 00000C C1C2                           7 BUF      DC    C'AB'",
+    b" 000000                00000 00004     8 AREA     DSECT",
+    b" 000000                                9 F1       DS    F",
+    b" 000010                00010 00002    10 TAIL     CSECT",
+    b" 000010 07FE                          11          BR    14",
+];
+
+#[derive(Clone, Copy, Debug, PartialEq, Eq)]
+enum Says {
+    Text,
+    Code(u32, u8, [u8; 6]),
+    Bad(u32),
+    Unheaded,
+    Nothing,
+}
+
+fn of_line(line: Option<&Line>) -> Says {
+    match line {
+        Some(Line::Code { loc, bytes }) => Says::Code(*loc, bytes.len, bytes.bytes),
+        Some(Line::Text) => Says::Text,
+        None => Says::Nothing,
+    }
+}
+
+fn of_fault(fault: ListFault) -> Says {
+    match fault {
+        ListFault::BadObject { line } => Says::Bad(line),
+        ListFault::NoHeading => Says::Unheaded,
+        ListFault::NoMemory => Says::Nothing,
+    }
+}
+
+/// What the line of that index says.
+fn read(alloc: Global, texts: &[&[u8]], at: usize, lower: bool) -> Result<Says, AllocError> {
+    let mut lines = Vec::new(alloc);
+    for text in texts {
+        let mut bytes = text.to_vec(alloc)?;
+        if lower {
+            bytes.make_ascii_lowercase();
+        }
+        lines.push(ListingLine::new(bytes))?;
+    }
+    if lines.len() > 100 {
+        return Ok(Says::Nothing);
+    }
+    match read_listing(alloc, &lines) {
+        Ok(read) => Ok(of_line(read.get(at))),
+        Err(e) => Ok(of_fault(e)),
+    }
+}
+
+fn plain(alloc: Global, text: &[u8]) -> Result<Says, AllocError> {
+    let page: [&[u8]; 2] = [HEADING, text];
+    read(alloc, &page, 1, false)
+}
+
+#[test]
+fn reads_a_page_in_either_case(rt: HostRuntime) -> Result<(), Fail> {
+    for lower in [false, true] {
+        for at in [0usize, 1, 2, 4, 7, 8, 9, 10, 11] {
+            assert_eq!(rt; read(rt.alloc(), &PAGE, at, lower)?, Says::Text);
+        }
+        assert_eq!(rt;
+            read(rt.alloc(), &PAGE, 3, lower)?,
+            Says::Code(0, 4, [0x41, 0x10, 0xF0, 0x0C, 0, 0])
+        );
+        assert_eq!(rt;
+            read(rt.alloc(), &PAGE, 5, lower)?,
+            Says::Code(4, 4, [0x50, 0x10, 0, 0x10, 0, 0])
+        );
+        assert_eq!(rt;
+            read(rt.alloc(), &PAGE, 6, lower)?,
+            Says::Code(8, 2, [0x07, 0xFE, 0, 0, 0, 0])
+        );
+        assert_eq!(rt;
+            read(rt.alloc(), &PAGE, 12, lower)?,
+            Says::Code(16, 2, [0x07, 0xFE, 0, 0, 0, 0])
+        );
+        assert_eq!(rt; read(rt.alloc(), &PAGE, 13, lower)?, Says::Nothing);
+    }
+    Ok(())
+}
+
+#[test]
+fn reads_lines_by_their_columns(rt: HostRuntime) -> Result<(), Fail> {
+    let alloc = rt.alloc();
+    let bar = Says::Code(0xA0, 4, [0x47, 0xF0, 0xF0, 0x0C, 0, 0]);
+    let move_ = Says::Code(6, 6, [0xD2, 0, 0, 0, 0, 8]);
+    assert_eq!(rt;
+        plain(
+            alloc,
+            b"0000a0 47F0 F00C            0000C     2 HERE     B     12(,15)"
+        )?,
+        bar
+    );
+    assert_eq!(rt;
+        plain(
+            alloc,
+            b"0000A0 47F0 F00C            0000C     2*         B     12(,15)"
+        )?,
+        bar
+    );
+    assert_eq!(rt;
+        plain(
+            alloc,
+            b"0000A0 47F0 F00C            0000C     2 *        B     12(,15)"
+        )?,
+        Says::Text
+    );
+    assert_eq!(rt;
+        plain(
+            alloc,
+            b"0000A0 47F0 F00C                     12          nop"
+        )?,
+        bar
+    );
+    assert_eq!(rt;
+        plain(
+            alloc,
+            b"0000A0 47F0 F00C                     12          JUMP  12(,15)"
+        )?,
+        Says::Text
+    );
+    assert_eq!(rt;
+        plain(
+            alloc,
+            b"0000A0 47F0 F00C                     12          B12"
+        )?,
+        Says::Text
+    );
+    assert_eq!(rt;
+        plain(alloc, b"0000A0 47F0 F00C                     12")?,
+        Says::Text
+    );
+    assert_eq!(rt; plain(alloc, b"0000A0")?, Says::Text);
+    assert_eq!(rt; plain(alloc, b"")?, Says::Text);
+    assert_eq!(rt;
+        plain(
+            alloc,
+            b"0000A  47F0 F00C            0000C     2          B     12(,15)"
+        )?,
+        Says::Text
+    );
+    assert_eq!(rt;
+        plain(
+            alloc,
+            b"0000A0047F0 F00C            0000C     2          B     12(,15)"
+        )?,
+        Says::Text
+    );
+    assert_eq!(rt;
+        plain(
+            alloc,
+            b"0000A0                      0000C     2          B     12(,15)"
+        )?,
+        Says::Text
+    );
+    assert_eq!(rt;
+        plain(
+            alloc,
+            b"000006 D200 0000 0008 XXXXXXXXXXXX    2          MVC   0(1),8"
+        )?,
+        move_
+    );
+    Ok(())
+}
+
+#[test]
+fn refuses_object_code_of_another_form(rt: HostRuntime) -> Result<(), Fail> {
+    let alloc = rt.alloc();
+    assert_eq!(rt;
+        plain(
+            alloc,
+            b"000006 D20000000008                   2          MVC   0(1),8"
+        )?,
+        Says::Bad(2)
+    );
+    assert_eq!(rt;
+        plain(
+            alloc,
+            b"000006 D200 0000  0008                2          MVC   0(1),8"
+        )?,
+        Says::Bad(2)
+    );
+    assert_eq!(rt;
+        plain(
+            alloc,
+            b"000006 D200  0000 008                 2          MVC   0(1),8"
+        )?,
+        Says::Bad(2)
+    );
+    assert_eq!(rt;
+        plain(
+            alloc,
+            b"000006  D200 0000 0008                2          MVC   0(1),8"
+        )?,
+        Says::Bad(2)
+    );
+    assert_eq!(rt;
+        plain(
+            alloc,
+            b"000006 D200 0000                      2          MVC   0(1),8"
+        )?,
+        Says::Bad(2)
+    );
+    assert_eq!(rt;
+        plain(
+            alloc,
+            b"000006 4110                           2          LA    1,5"
+        )?,
+        Says::Bad(2)
+    );
+    assert_eq!(rt;
+        plain(
+            alloc,
+            b"000006 07FE X                         2          BR    14"
+        )?,
+        Says::Bad(2)
+    );
+    assert_eq!(rt;
+        plain(
+            alloc,
+            b"000006 0XFE                           2          BR    14"
+        )?,
+        Says::Bad(2)
+    );
+    let none: [&[u8]; 1] = [b"000006 07FE                           2          BR    14"];
+    assert_eq!(rt; read(alloc, &none, 0, false)?, Says::Unheaded);
+    let page: [&[u8]; 4] = [
+        b"000006 4110                           2          LA    1,5",
+        HEADING,
+        b"000006 07FE                           2          BR    14",
+        b"000006 4110                           2          LA    1,5",
+    ];
+    assert_eq!(rt; read(alloc, &page, 0, false)?, Says::Bad(4));
+    Ok(())
+}
