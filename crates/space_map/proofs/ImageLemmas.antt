@@ -1,5 +1,5 @@
 -- The module at an address.
-use Rattle.std.proofs.Common.{◌≡◌, ℕ, ◌<◌, ◌-◌, zero, suc, Bool, true, false, ◌||◌, if◌then◌else◌, List, [], ◌∷◌, length, get_or, slice_index, refl, arith}
+use Rattle.std.proofs.Common.{◌≡◌, ℕ, ◌<◌, ◌-◌, zero, suc, Bool, true, false, ◌||◌, List, [], ◌∷◌, length, get_or, slice_index, refl, arith}
 use Rattle.std.specs.List.{list_any}
 use Rattle.cov_base.specs.Memory.{ImageView}
 use Rattle.brk_table.specs.Places.{in_image, image_byte}

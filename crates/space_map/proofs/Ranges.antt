@@ -1,5 +1,5 @@
 -- Ranges of addresses in a memory.
-use Rattle.std.proofs.Common.{◌≡◌, ℕ, ◌+◌, ◌-◌, ◌<◌, ◌≤◌, zero, suc, Bool, true, false, ◌&&◌, ◌||◌, nat_lt, Option, Some, None, Ok, Err, if◌then◌else◌, refl, add-one, arith, ◌⊎◌, inl, inr}
+use Rattle.std.proofs.Common.{◌≡◌, ℕ, ◌+◌, ◌-◌, ◌<◌, ◌≤◌, zero, suc, Bool, true, false, ◌&&◌, ◌||◌, nat_lt, Some, None, Ok, Err, if◌then◌else◌, refl, add-one, arith, ◌⊎◌, inl, inr}
 use Rattle.std.proofs.lemmas.Bool.Decides.{nat_tests}
 use Rattle.cov_base.specs.Memory.{Memory, wrap, can_reach, can_store, first_touch, is_accessible, is_private}
 use Rattle.s370_state.proofs.Tested.{reach_at}

@@ -1,14 +1,14 @@
 -- Each place is reached, and shows its original.
-use Rattle.std.proofs.Common.{◌≡◌, ℕ, ◌+◌, ◌-◌, ◌*◌, ◌<◌, ◌≤◌, zero, suc, Bool, true, false, ◌||◌, ◌&&◌, nat_le, nat_lt, if◌then◌else◌, List, [], ◌∷◌, length, get_or, slice_index, refl, sym, ◌∙◌, arith, ◌⊎◌, inl, inr}
+use Rattle.std.proofs.Common.{◌≡◌, ℕ, ◌+◌, ◌-◌, ◌*◌, ◌<◌, ◌≤◌, zero, suc, Bool, true, false, ◌||◌, nat_lt, if◌then◌else◌, List, [], ◌∷◌, length, get_or, slice_index, refl, sym, ◌∙◌, arith, inl, inr}
 use Rattle.std.specs.List.{All, AllPairs, Contains, list_any}
 use Rattle.std.proofs.lemmas.Bool.Decides.{nat_tests}
 use Rattle.std.proofs.lemmas.List.Elements.{All-get_or}
 use Rattle.std.proofs.lemmas.List.{get_or_read}
 use Rattle.cov_base.specs.Codes.{length_of}
-use Rattle.cov_base.specs.Memory.{Memory, ImageView, wrap, byte_at, half_at}
+use Rattle.cov_base.specs.Memory.{ImageView, wrap, byte_at}
 use Rattle.module_area.specs.declared.places.Place.{Place}
 use Rattle.module_area.specs.PlanView.{no_place}
-use Rattle.module_area.specs.Images.{IsImage, AreImages, AreClear}
+use Rattle.module_area.specs.Images.{AreImages, AreClear}
 use Rattle.brk_table.specs.Places.{IsPlace, ArePlaces, IsIn, IsSeen, AreSeen, in_image, image_byte, memory_of}
 use Rattle.space_map.proofs.Ranges.{reach_image}
 use Rattle.space_map.proofs.Touches.{base_from}

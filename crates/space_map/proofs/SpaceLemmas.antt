@@ -1,11 +1,11 @@
 -- What one test of a range tells in a task's space.
-use Rattle.std.proofs.Common.{◌≡◌, ℕ, ◌+◌, ◌*◌, ◌<◌, ◌≤◌, zero, suc, Bool, true, false, nat_eq, nat_le, IsTrue, Option, None, Ok, List, refl, arith, ◌⊎◌, inl, inr}
+use Rattle.std.proofs.Common.{◌≡◌, ℕ, ◌+◌, ◌*◌, ◌<◌, ◌≤◌, zero, suc, Bool, true, false, nat_eq, nat_le, IsTrue, None, Ok, List, refl, arith, ◌⊎◌, inl, inr}
 use Rattle.std.specs.List.{list_any}
 use Rattle.std.proofs.lemmas.Bool.Decides.{nat_tests}
-use Rattle.cov_base.specs.Memory.{Memory, ImageView, wrap, byte_at, half_at, can_reach, can_store, first_touch}
-use Rattle.s370_state.specs.Answers.{first_answer, reach_answer}
+use Rattle.cov_base.specs.Memory.{Memory, ImageView, wrap, can_reach, can_store, first_touch}
+use Rattle.s370_state.specs.Answers.{first_answer}
 use Rattle.module_area.specs.declared.places.Place.{Place}
-use Rattle.brk_table.specs.Places.{memory_of, in_image, image_byte, touches}
+use Rattle.brk_table.specs.Places.{memory_of, in_image, image_byte}
 use Rattle.space_map.specs.Space.{SpaceView, memory_of_space}
 use Rattle.space_map.specs.Inside.{IsSpace}
 use Rattle.space_map.proofs.Ranges.{reach_private, reach_image, store_private, store_outside, touch_private}

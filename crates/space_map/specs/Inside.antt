@@ -1,5 +1,5 @@
 -- What a task's space keeps.
-use Rattle.std.specs.Prelude.{◌≡◌, ℕ, ◌≤◌, Bool, List, length, nat_lt, All}
+use Rattle.std.specs.Prelude.{◌≡◌, ◌≤◌, Bool, length, nat_lt, All}
 use Rattle.module_area.specs.Images.{AreImages}
 use Rattle.brk_table.specs.Places.{IsIn, ArePlaces}
 use Rattle.space_map.specs.Space.{SpaceView}

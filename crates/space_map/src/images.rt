@@ -4,8 +4,8 @@ ghost use Rattle.std.specs.List.{list_any};
 ghost use Rattle.module_area.specs.Images.{AreImages};
 ghost use Rattle.brk_table.specs.Places.{in_image, image_byte};
 
-use module_area::{Image, Images};
 use cov_base::Addr;
+use module_area::{Image, Images};
 
 /// The module that stands at the address.
 fn image_at(images: &[Image], a: u32) -> Option<&Image>

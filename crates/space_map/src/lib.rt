@@ -6,3 +6,6 @@ mod images;
 mod space;
 
 pub use space::TaskSpace;
+
+#[cfg(test)]
+mod tests;

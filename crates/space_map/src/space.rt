@@ -53,6 +53,7 @@ impl<'a> TaskSpace<'a> {
         requires images { AreImages images.now }
         requires tables { All (IsIn images.now) tables.now.places }
 
+        ensures size { IfOk result (λ s. s.size ≡ size) }
         ensures memory { IfOk result (λ s. memory_of_space s ≡ memory_of size images.now tables.now.places) }
         ensures bytes { IfOk result (λ s. s.bytes ≡ first_bytes size cards.now) }
 
@@ -68,6 +69,34 @@ impl<'a> TaskSpace<'a> {
             tables,
             monitored,
         })
+    }
+
+    /// The number of bytes of private storage.
+    #[tactic(auto, unfolding(brk_table::specs::Places::memory_of))]
+    pub fn size(&self) -> u32
+        ensures value { result ≡ self.now.size }
+        ensures filled { length self.now.bytes ≡ result }
+        ensures private { (memory_of_space self.now).private ≡ result }
+        ensures most { result ≤ 1048576 }
+    {
+        self.size
+    }
+
+    /// The bytes of private storage.
+    pub fn bytes(&self) -> &[u8]
+        ensures { result.now ≡ self.now.bytes }
+    {
+        &self.bytes
+    }
+
+    /// Row n of 16 bytes of private storage; the last row may be shorter.
+    pub fn row(&self, n: u32) -> &[u8]
+        requires { 16 * n < self.now.size }
+        ensures { result.now ≡ row_of self.now.bytes n }
+    {
+        let from = n as usize * 16;
+        let rest = self.bytes.len() - from;
+        &self.bytes[from..from + rest.min(16)]
     }
 
     // A range that ends in private storage lies in it, since addresses wrap far above it.
@@ -125,24 +154,11 @@ impl<'a> TaskSpace<'a> {
             return false;
         }
         let a = at.plus(i);
-        if i > 0 && a.get() % 2 == 1 { false } else { self.is_touch(a) }
-    }
-
-    /// The bytes of private storage.
-    pub fn bytes(&self) -> &[u8]
-        ensures { result.now ≡ self.now.bytes }
-    {
-        &self.bytes
-    }
-
-    /// Row n of 16 bytes of private storage; the last row may be shorter.
-    pub fn row(&self, n: u32) -> &[u8]
-        requires { 16 * n < self.now.size }
-        ensures { result.now ≡ row_of self.now.bytes n }
-    {
-        let from = n as usize * 16;
-        let rest = self.bytes.len() - from;
-        &self.bytes[from..from + if rest < 16 { rest } else { 16 }]
+        if i > 0 && a.get() % 2 == 1 {
+            false
+        } else {
+            self.is_touch(a)
+        }
     }
 }
 
@@ -153,15 +169,11 @@ impl<'a> Space for TaskSpace<'a> {
     ghost bytes = { λ s. s.bytes };
 
     fn half(&self, at: Addr) -> Result<u16, Refused> {
-        match self.first(at) {
-            Ok(h) => {
-                if self.is_touch(at) {
-                    Err(Refused::Touch(at))
-                } else {
-                    Ok(h)
-                }
-            }
-            Err(r) => Err(r),
+        let h = self.first(at)?;
+        if self.is_touch(at) {
+            Err(Refused::Touch(at))
+        } else {
+            Ok(h)
         }
     }
 
@@ -194,7 +206,11 @@ impl<'a> Space for TaskSpace<'a> {
     }
 
     fn can_read(&self, at: Addr, len: u32) -> Result<(), Refused> {
-        if self.is_private(at, len) { Ok(()) } else { self.read_bytes(at, len) }
+        if self.is_private(at, len) {
+            Ok(())
+        } else {
+            self.read_bytes(at, len)
+        }
     }
 
     #[tactic(auto, unfolding(brk_table::specs::Places::memory_of, cov_base::specs::Memory::byte_at, cov_base::specs::Memory::is_accessible))]

@@ -1,4 +1,4 @@
-use Rattle.std.proofs.Common.{◌≡◌, ◌≤◌, ◌+◌, length, sym, refl, arith}
+use Rattle.std.proofs.Common.{◌≤◌, ◌+◌, length, sym, refl, arith}
 use Rattle.std.proofs.lemmas.Bool.Decides.{nat_tests}
 use Rattle.cov_base.specs.Memory.{wrap}
 use Rattle.brk_table.specs.Places.{memory_of}

@@ -1,4 +1,4 @@
-use Rattle.std.proofs.Common.{◌≡◌, true, refl, arith, rules}
+use Rattle.std.proofs.Common.{◌≡◌, true, refl}
 use Rattle.cov_base.specs.Memory.{can_reach}
 use Rattle.brk_table.specs.Places.{memory_of}
 use Rattle.space_map.proofs.SpaceLemmas.{reach_listed}

@@ -1,4 +1,4 @@
-use Rattle.std.proofs.Common.{refl, arith, rules}
+use Rattle.std.proofs.Common.{refl}
 use Rattle.space_map.proofs.SpaceLemmas.{first_listed}
 use Rattle.space_map.proofs.space.TaskSpaceSpace.first.Goals as goal
 

@@ -1,0 +1,33 @@
+//! Calls through the trait's bound.
+ghost use Rattle.std.specs.Prelude.{◌≡◌, ℕ, ◌≤◌, All, IfOk, IsTrue, None, [], ◌∷◌};
+ghost use Rattle.s370_state.specs.Row.{reads, use_tests};
+ghost use Rattle.module_area.specs.Images.{AreImages};
+ghost use Rattle.brk_table.specs.Places.{memory_of, IsIn};
+
+use super::*;
+use brk_table::Tables;
+use cov_base::{Addr, NoMemory};
+use module_area::Images;
+use s370_state::test_read;
+use std::alloc::Global;
+
+/// What the bound's calls tell is said of the memory over the modules and places.
+fn is_readable(
+    alloc: Global,
+    size: u32,
+    images: &Images,
+    tables: &Tables,
+    at: Addr,
+    len: u32,
+) -> Result<bool, NoMemory>
+    requires size { size ≤ 1048576 }
+    requires images { AreImages images.now }
+    requires tables { All (IsIn images.now) tables.now.places }
+    ensures { IfOk result (λ r. IsTrue r → use_tests (memory_of size images.now tables.now.places) (reads at len ∷ []) ≡ None) }
+{
+    let space = TaskSpace::new(alloc, size, &[], images, tables)?;
+    match test_read(&space, at, len) {
+        Ok(()) => Ok(true),
+        Err(_) => Ok(false),
+    }
+}
