@@ -3,3 +3,4 @@
 
 mod loads;
 mod operands;
+mod sums;
