@@ -1,0 +1,214 @@
+//! Sums, differences and comparisons.
+#![tactic(auto, using(s370_state::proofs::Performs::at_once, s370_state::proofs::Performs::passes, s370_state::proofs::Performs::refuses))]
+
+ghost use Rattle.std.specs.Prelude.{◌≡◌, ℕ, ◌+◌, ◌-◌, ◌%◌, ◌<◌, ◌≤◌, ◌^◌, ℤ, pos, neg_ℤ, ◌+ℤ◌, ◌-ℤ◌, ◌≤ℤ◌, ◌<ℤ◌, true, if◌then◌else◌, slice_set, slice_index};
+ghost use Rattle.s370_state.specs.Row.{Performs, next_after};
+ghost use Rattle.s370_state.specs.Words.{signed, low_word, is_word, sign_code};
+ghost use Rattle.s370_fixed.specs.Sums.{carry_code, row_ar, row_a, row_ah, row_sr, row_s, row_sh, row_alr, row_al, row_slr, row_sl, row_cr, row_c, row_ch};
+
+use crate::operands::{half, set_result, word};
+use s370_decode::Code;
+use s370_state::{Cpu, Next, Space, sign_code, signed};
+
+/// Adds a signed word to the register.
+fn add(cpu: &mut Cpu, r: u8, z: i64) -> Next
+    requires r { r < 16 }
+    requires low { neg_ℤ (pos 2147483648) ≤ℤ z }
+    requires high { z <ℤ pos 2147483648 }
+    ensures cpu { let sum = signed (slice_index cpu.old.regs r) +ℤ z in
+        cpu.new ≡ record cpu.old { regs = slice_set cpu.old.regs r (low_word sum); condition = if is_word sum then sign_code sum else 3 } }
+    ensures next { result ≡ next_after cpu.old.mask (if is_word (signed (slice_index cpu.old.regs r) +ℤ z) then 0 else 8) }
+{
+    let sum = signed(cpu.reg(r)) + z;
+    set_result(cpu, r, sum)
+}
+
+/// Subtracts a signed word from the register.
+fn subtract(cpu: &mut Cpu, r: u8, z: i64) -> Next
+    requires r { r < 16 }
+    requires low { neg_ℤ (pos 2147483648) ≤ℤ z }
+    requires high { z <ℤ pos 2147483648 }
+    ensures cpu { let difference = signed (slice_index cpu.old.regs r) -ℤ z in
+        cpu.new ≡ record cpu.old { regs = slice_set cpu.old.regs r (low_word difference); condition = if is_word difference then sign_code difference else 3 } }
+    ensures next { result ≡ next_after cpu.old.mask (if is_word (signed (slice_index cpu.old.regs r) -ℤ z) then 0 else 8) }
+{
+    let difference = signed(cpu.reg(r)) - z;
+    set_result(cpu, r, difference)
+}
+
+/// The low word of a sum without signs goes to the register, with its condition code.
+fn set_sum(cpu: &mut Cpu, r: u8, n: u64) -> Next
+    requires r { r < 16 }
+    requires carry { n < 8589934592 }
+    ensures cpu { cpu.new ≡ record cpu.old { regs = slice_set cpu.old.regs r (n % 4294967296); condition = carry_code n } }
+    ensures next { result ≡ Next.On }
+{
+    let low = (n % 4_294_967_296) as u32;
+    let not_zero = if low == 0 { 0 } else { 1 };
+    let carry = if n < 4_294_967_296 { 0 } else { 2 };
+    cpu.set_reg(r, low);
+    cpu.set_cc(not_zero + carry);
+    Next::On
+}
+
+fn add_unsigned(cpu: &mut Cpu, r: u8, v: u32) -> Next
+    requires { r < 16 }
+    ensures cpu { let n = slice_index cpu.old.regs r + v in
+        cpu.new ≡ record cpu.old { regs = slice_set cpu.old.regs r (n % 4294967296); condition = carry_code n } }
+    ensures next { result ≡ Next.On }
+{
+    let n = u64::from(cpu.reg(r)) + u64::from(v);
+    set_sum(cpu, r, n)
+}
+
+/// Adds the one's complement and 1.
+fn subtract_unsigned(cpu: &mut Cpu, r: u8, v: u32) -> Next
+    requires { r < 16 }
+    ensures cpu { let n = slice_index cpu.old.regs r + (4294967295 - v) + 1 in
+        cpu.new ≡ record cpu.old { regs = slice_set cpu.old.regs r (n % 4294967296); condition = carry_code n } }
+    ensures next { result ≡ Next.On }
+{
+    let n = u64::from(cpu.reg(r)) + (4_294_967_295 - u64::from(v)) + 1;
+    set_sum(cpu, r, n)
+}
+
+/// Compares the register with a signed word.
+fn compare(cpu: &mut Cpu, r: u8, z: i64) -> Next
+    requires r { r < 16 }
+    requires low { neg_ℤ (pos 2147483648) ≤ℤ z }
+    requires high { z <ℤ pos 2147483648 }
+    ensures cpu { cpu.new ≡ record cpu.old { condition = sign_code (signed (slice_index cpu.old.regs r) -ℤ z) } }
+    ensures next { result ≡ Next.On }
+{
+    let difference = signed(cpu.reg(r)) - z;
+    cpu.set_cc(sign_code(difference));
+    Next::On
+}
+
+/// AR.
+pub fn add_register<P: Space>(cpu: &mut Cpu, space: &mut P, code: &Code) -> Next
+    ensures memory { P.memory space.new ≡ P.memory space.old }
+    ensures row { Performs (P.memory space.old) cpu.old (P.bytes space.old) (λ m s. row_ar m s code.now) cpu.new (P.bytes space.new) result }
+{
+    add(cpu, code.r1(), signed(cpu.reg(code.r2())))
+}
+
+/// A.
+pub fn add_word<P: Space>(cpu: &mut Cpu, space: &mut P, code: &Code) -> Next
+    ensures memory { P.memory space.new ≡ P.memory space.old }
+    ensures row { Performs (P.memory space.old) cpu.old (P.bytes space.old) (λ m s. row_a m s code.now) cpu.new (P.bytes space.new) result }
+{
+    match word(cpu, space, code) {
+        Ok(v) => add(cpu, code.r1(), signed(v)),
+        Err(e) => Next::Ended(e),
+    }
+}
+
+/// AH.
+pub fn add_half<P: Space>(cpu: &mut Cpu, space: &mut P, code: &Code) -> Next
+    ensures memory { P.memory space.new ≡ P.memory space.old }
+    ensures row { Performs (P.memory space.old) cpu.old (P.bytes space.old) (λ m s. row_ah m s code.now) cpu.new (P.bytes space.new) result }
+{
+    match half(cpu, space, code) {
+        Ok(z) => add(cpu, code.r1(), z),
+        Err(e) => Next::Ended(e),
+    }
+}
+
+/// SR.
+pub fn subtract_register<P: Space>(cpu: &mut Cpu, space: &mut P, code: &Code) -> Next
+    ensures memory { P.memory space.new ≡ P.memory space.old }
+    ensures row { Performs (P.memory space.old) cpu.old (P.bytes space.old) (λ m s. row_sr m s code.now) cpu.new (P.bytes space.new) result }
+{
+    subtract(cpu, code.r1(), signed(cpu.reg(code.r2())))
+}
+
+/// S.
+pub fn subtract_word<P: Space>(cpu: &mut Cpu, space: &mut P, code: &Code) -> Next
+    ensures memory { P.memory space.new ≡ P.memory space.old }
+    ensures row { Performs (P.memory space.old) cpu.old (P.bytes space.old) (λ m s. row_s m s code.now) cpu.new (P.bytes space.new) result }
+{
+    match word(cpu, space, code) {
+        Ok(v) => subtract(cpu, code.r1(), signed(v)),
+        Err(e) => Next::Ended(e),
+    }
+}
+
+/// SH.
+pub fn subtract_half<P: Space>(cpu: &mut Cpu, space: &mut P, code: &Code) -> Next
+    ensures memory { P.memory space.new ≡ P.memory space.old }
+    ensures row { Performs (P.memory space.old) cpu.old (P.bytes space.old) (λ m s. row_sh m s code.now) cpu.new (P.bytes space.new) result }
+{
+    match half(cpu, space, code) {
+        Ok(z) => subtract(cpu, code.r1(), z),
+        Err(e) => Next::Ended(e),
+    }
+}
+
+/// ALR.
+pub fn add_logical_register<P: Space>(cpu: &mut Cpu, space: &mut P, code: &Code) -> Next
+    ensures memory { P.memory space.new ≡ P.memory space.old }
+    ensures row { Performs (P.memory space.old) cpu.old (P.bytes space.old) (λ m s. row_alr m s code.now) cpu.new (P.bytes space.new) result }
+{
+    add_unsigned(cpu, code.r1(), cpu.reg(code.r2()))
+}
+
+/// AL.
+pub fn add_logical_word<P: Space>(cpu: &mut Cpu, space: &mut P, code: &Code) -> Next
+    ensures memory { P.memory space.new ≡ P.memory space.old }
+    ensures row { Performs (P.memory space.old) cpu.old (P.bytes space.old) (λ m s. row_al m s code.now) cpu.new (P.bytes space.new) result }
+{
+    match word(cpu, space, code) {
+        Ok(v) => add_unsigned(cpu, code.r1(), v),
+        Err(e) => Next::Ended(e),
+    }
+}
+
+/// SLR.
+pub fn subtract_logical_register<P: Space>(cpu: &mut Cpu, space: &mut P, code: &Code) -> Next
+    ensures memory { P.memory space.new ≡ P.memory space.old }
+    ensures row { Performs (P.memory space.old) cpu.old (P.bytes space.old) (λ m s. row_slr m s code.now) cpu.new (P.bytes space.new) result }
+{
+    subtract_unsigned(cpu, code.r1(), cpu.reg(code.r2()))
+}
+
+/// SL.
+pub fn subtract_logical_word<P: Space>(cpu: &mut Cpu, space: &mut P, code: &Code) -> Next
+    ensures memory { P.memory space.new ≡ P.memory space.old }
+    ensures row { Performs (P.memory space.old) cpu.old (P.bytes space.old) (λ m s. row_sl m s code.now) cpu.new (P.bytes space.new) result }
+{
+    match word(cpu, space, code) {
+        Ok(v) => subtract_unsigned(cpu, code.r1(), v),
+        Err(e) => Next::Ended(e),
+    }
+}
+
+/// CR.
+pub fn compare_register<P: Space>(cpu: &mut Cpu, space: &mut P, code: &Code) -> Next
+    ensures memory { P.memory space.new ≡ P.memory space.old }
+    ensures row { Performs (P.memory space.old) cpu.old (P.bytes space.old) (λ m s. row_cr m s code.now) cpu.new (P.bytes space.new) result }
+{
+    compare(cpu, code.r1(), signed(cpu.reg(code.r2())))
+}
+
+/// C.
+pub fn compare_word<P: Space>(cpu: &mut Cpu, space: &mut P, code: &Code) -> Next
+    ensures memory { P.memory space.new ≡ P.memory space.old }
+    ensures row { Performs (P.memory space.old) cpu.old (P.bytes space.old) (λ m s. row_c m s code.now) cpu.new (P.bytes space.new) result }
+{
+    match word(cpu, space, code) {
+        Ok(v) => compare(cpu, code.r1(), signed(v)),
+        Err(e) => Next::Ended(e),
+    }
+}
+
+/// CH.
+pub fn compare_half<P: Space>(cpu: &mut Cpu, space: &mut P, code: &Code) -> Next
+    ensures memory { P.memory space.new ≡ P.memory space.old }
+    ensures row { Performs (P.memory space.old) cpu.old (P.bytes space.old) (λ m s. row_ch m s code.now) cpu.new (P.bytes space.new) result }
+{
+    match half(cpu, space, code) {
+        Ok(z) => compare(cpu, code.r1(), z),
+        Err(e) => Next::Ended(e),
+    }
+}
