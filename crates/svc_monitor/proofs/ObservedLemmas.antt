@@ -1,6 +1,6 @@
 -- One visit of a pass, and visits one after the other.
 use Rattle.std.proofs.Common.{◌≡◌, ◌≢◌, ℕ, ◌+◌, ◌*◌, ◌/◌, Bool, true, false, ◌&&◌, ◌||◌, if◌then◌else◌, ◌==◌, nat_eq, List, [], ◌∷◌, ◌++◌, inl, inr, refl, sym, ◌∙◌, ap, subst, arith}
-use Rattle.std.proofs.lemmas.Bool.{or_cases, or_left, or_right, and_parts, and_from, eqb-true, eq-eqb, cond_both, both_ways, false≢true}
+use Rattle.std.proofs.lemmas.Bool.{or_cases, or_left, or_right, and_parts, and_from, eqb-true, eq-eqb, cond_both, both_ways}
 use Rattle.cov_base.specs.Codes.{breakpoint}
 use Rattle.cov_base.specs.FactSet.{FactSet}
 use Rattle.cov_base.specs.Facts.{no_facts, has_fact, with_fact, same_fact, fact_of}
@@ -12,6 +12,7 @@ use Rattle.module_area.specs.declared.places.Place.{Place}
 use Rattle.module_area.specs.PlanView.{PlanView, place_of, kind_at, original_at, window_at}
 use Rattle.module_area.specs.Notes.{Notes, after_fetch, is_free_under, IsAnswer}
 use Rattle.module_area.specs.Executions.{executes, facts_at, is_place, visits_at_places}
+use Rattle.module_area.proofs.FactLemmas.{has_fact-with_fact, same_fact-true}
 use Rattle.brk_table.proofs.PlaceLemmas.{is_place-there}
 use Rattle.svc_monitor.specs.First.{BeginsAt}
 use Rattle.svc_monitor.specs.Settled.{Settles}
@@ -21,41 +22,21 @@ use Rattle.svc_monitor.proofs.PlaceLemmas.{none_begins}
 
 -- facts in sets
 
-same_fact-true : (f g : Fact) → same_fact f g ≡ true → f ≡ g
-same_fact-true Ran Ran h = refl
-same_fact-true Went Went h = refl
-same_fact-true Stayed Stayed h = refl
-same_fact-true Ran Went h = absurd (false≢true h)
-same_fact-true Ran Stayed h = absurd (false≢true h)
-same_fact-true Went Ran h = absurd (false≢true h)
-same_fact-true Went Stayed h = absurd (false≢true h)
-same_fact-true Stayed Ran h = absurd (false≢true h)
-same_fact-true Stayed Went h = absurd (false≢true h)
-
 same_fact-self : (f : Fact) → same_fact f f ≡ true
 same_fact-self Ran = refl
 same_fact-self Went = refl
 same_fact-self Stayed = refl
 
-has_fact-none : (f : Fact) → has_fact no_facts f ≡ false
+pub has_fact-none : (f : Fact) → has_fact no_facts f ≡ false
 has_fact-none Ran = refl
 has_fact-none Went = refl
 has_fact-none Stayed = refl
 
-has_fact-with : (s : FactSet) (g f : Fact) → has_fact (with_fact s g) f ≡ (same_fact f g || has_fact s f)
-has_fact-with s Ran Ran = refl
-has_fact-with s Ran Went = refl
-has_fact-with s Ran Stayed = refl
-has_fact-with s Went Ran = refl
-has_fact-with s Went Went = refl
-has_fact-with s Went Stayed = refl
-has_fact-with s Stayed Ran = refl
-has_fact-with s Stayed Went = refl
-has_fact-with s Stayed Stayed = refl
-
-or_none : (b : Bool) → (b || false) ≡ b
-or_none true = refl
-or_none false = refl
+or_turned : (a b : Bool) → (a || b) ≡ (b || a)
+or_turned true true = refl
+or_turned true false = refl
+or_turned false true = refl
+or_turned false false = refl
 
 or_apart : (a b c : Bool) → (a || (b || c)) ≡ ((a || b) || c)
 or_apart true b c = refl
@@ -63,14 +44,14 @@ or_apart false b c = refl
 
 -- the fact of an execution, if it is one
 has_fact-more : (b : Bool) (g f : Fact) (s : FactSet) → has_fact (if b then with_fact s g else s) f ≡ ((b && same_fact f g) || has_fact s f)
-has_fact-more true g f s = has_fact-with s g f
+has_fact-more true g f s = has_fact-with_fact s g f ∙ or_turned (has_fact s f) (same_fact f g)
 has_fact-more false g f s = refl
 
-facts_at-more : (place : Place) (v : Visit) (vs : List Visit) (f : Fact) →
+pub facts_at-more : (place : Place) (v : Visit) (vs : List Visit) (f : Fact) →
     has_fact (facts_at place (v ∷ vs)) f ≡ ((executes place v && same_fact f (fact_of place.kind v.went)) || has_fact (facts_at place vs) f)
 facts_at-more place v vs f = has_fact-more (executes place v) (fact_of place.kind v.went) f (facts_at place vs)
 
-facts_at-append : (place : Place) (xs ys : List Visit) (f : Fact) →
+pub facts_at-append : (place : Place) (xs ys : List Visit) (f : Fact) →
     has_fact (facts_at place (xs ++ ys)) f ≡ (has_fact (facts_at place xs) f || has_fact (facts_at place ys) f)
 facts_at-append place [] ys f = ap (λ b. b || has_fact (facts_at place ys) f) (sym (has_fact-none f))
 facts_at-append place (v ∷ xs) ys f =
@@ -80,9 +61,9 @@ facts_at-append place (v ∷ xs) ys f =
     ∙ or_apart shows (has_fact (facts_at place xs) f) (has_fact (facts_at place ys) f)
     ∙ ap (λ b. b || has_fact (facts_at place ys) f) (sym (facts_at-more place v xs f))
 
-visits-append : (places : List Place) (xs ys : List Visit) → visits_at_places places (xs ++ ys) ≡ visits_at_places places xs + visits_at_places places ys
-visits-append places [] ys = omega arith
-visits-append places (v ∷ xs) ys = omega (arith, visits-append places xs ys)
+pub visits_at_places-append : (places : List Place) (xs ys : List Visit) → visits_at_places places (xs ++ ys) ≡ visits_at_places places xs + visits_at_places places ys
+visits_at_places-append places [] ys = omega arith
+visits_at_places-append places (v ∷ xs) ys = omega (arith, visits_at_places-append places xs ys)
 
 -- what one visit shows at a place
 one_shows : (place : Place) (v : Visit) (f : Fact) → has_fact (facts_at place (v ∷ [])) f ≡ true → (v.begun ≡ true) × (v.at ≡ place.at) × (f ≡ fact_of place.kind v.went)
@@ -242,7 +223,7 @@ Observes-settled plan old new q cell v b a begun h =
 -- visits one after the other
 pub Observes-append : (plan : PlanView) (a b c : Notes) (xs ys : List Visit) → Observes plan a b xs → Observes plan b c ys → Observes plan a c (xs ++ ys)
 Observes-append plan a b c xs ys r h =
-    let count = visits-append plan.places xs ys in
+    let count = visits_at_places-append plan.places xs ys in
     record {
       grows = Grows-trans a b c r.grows h.grows;
       nothing_else = λ s p f m.

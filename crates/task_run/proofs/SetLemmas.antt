@@ -1,0 +1,141 @@
+-- The sets that an area ends with are the facts of the visits that its passes observed.
+use Rattle.std.proofs.Common.{◌≡◌, ℕ, ◌+◌, ◌<◌, ◌≤◌, Bool, true, false, ◌&&◌, ◌||◌, nat_lt, List, [], ◌∷◌, ◌++◌, length, inl, inr, refl, sym, ◌∙◌, ap, subst}
+use Rattle.std.specs.List.{flat_map, sum_by}
+use Rattle.std.proofs.lemmas.Bool.{or_cases, and_parts, both_ways, ltb-true}
+use Rattle.std.proofs.lemmas.List.Sums.{sum_by-cons}
+use Rattle.cov_base.specs.FactSet.{FactSet}
+use Rattle.cov_base.specs.Facts.{no_facts, has_fact, union, same_fact, fact_of, full_of, is_full, is_of_kind}
+use Rattle.cov_base.specs.States.{Visit}
+use Rattle.cov_base.specs.declared.facts.Fact.{Fact}
+use Rattle.cov_base.specs.declared.facts.Fact.TheVariants.{Ran, Went, Stayed}
+use Rattle.cov_base.specs.declared.facts.Kind.{Kind}
+use Rattle.cov_base.specs.declared.facts.Kind.TheVariants.{Straight, Conditional}
+use Rattle.module_area.specs.declared.places.Place.{Place}
+use Rattle.module_area.specs.PlanView.{PlanView, IsPlan, place_of, kind_at, window_at}
+use Rattle.module_area.specs.Notes.{Notes}
+use Rattle.module_area.specs.Counts.{count_below}
+use Rattle.module_area.specs.Executions.{executes, facts_at, facts_of_all, visits_at_places}
+use Rattle.module_area.specs.FinalsView.{FinalsView, set_at}
+use Rattle.module_area.specs.Ended.{HasSets, HasTally, full_places}
+use Rattle.module_area.proofs.CountLemmas.{count_same}
+use Rattle.module_area.proofs.FactLemmas.{same_fact-true}
+use Rattle.svc_monitor.specs.Observed.{Observes, IsPlanted, IsShown}
+use Rattle.svc_monitor.proofs.ObservedLemmas.{has_fact-none, facts_at-more, facts_at-append, visits_at_places-append}
+
+-- sets with the same facts
+
+same_bits : (a b : Bool) → (a ≡ true → b ≡ true) → (b ≡ true → a ≡ true) → a ≡ b
+same_bits true true f g = refl
+same_bits true false f g = sym (f refl)
+same_bits false true f g = g refl
+same_bits false false f g = refl
+
+same_sets : (a b : FactSet) → ((f : Fact) → has_fact a f ≡ has_fact b f) → a ≡ b
+same_sets a b h =
+    let ran : a.ran ≡ b.ran = h Ran in
+    let went : a.went ≡ b.went = h Went in
+    let stayed : a.stayed ≡ b.stayed = h Stayed in
+    λ i. record { ran = ran i; went = went i; stayed = stayed i }
+
+has_fact-full_of : (k : Kind) (f : Fact) → is_of_kind k f ≡ true → has_fact (full_of k) f ≡ true
+has_fact-full_of Straight Ran h = refl
+has_fact-full_of Straight Went h = h
+has_fact-full_of Straight Stayed h = h
+has_fact-full_of Conditional Ran h = h
+has_fact-full_of Conditional Went h = refl
+has_fact-full_of Conditional Stayed h = refl
+
+is_of_kind-fact_of : (k : Kind) (went : Bool) → is_of_kind k (fact_of k went) ≡ true
+is_of_kind-fact_of Straight went = refl
+is_of_kind-fact_of Conditional true = refl
+is_of_kind-fact_of Conditional false = refl
+
+-- a trace shows facts of the place's kind
+pub facts_at-kind : (place : Place) (trace : List Visit) (f : Fact) → has_fact (facts_at place trace) f ≡ true → is_of_kind place.kind f ≡ true
+facts_at-kind place [] f h = absurd (both_ways (has_fact no_facts f) (has_fact-none f) h)
+facts_at-kind place (v ∷ vs) f h =
+    elim (or_cases (executes place v && same_fact f (fact_of place.kind v.went)) (has_fact (facts_at place vs) f) (sym (facts_at-more place v vs f) ∙ h)) [
+      | inl now ↦
+          let same = same_fact-true f (fact_of place.kind v.went) (and_parts (executes place v) (same_fact f (fact_of place.kind v.went)) now).1 in
+          subst (λ g. is_of_kind place.kind g ≡ true) (sym same) (is_of_kind-fact_of place.kind v.went)
+      | inr later ↦ facts_at-kind place vs f later
+    ]
+
+-- several traces are as one
+
+has_fact-union : (a b : FactSet) (f : Fact) → has_fact (union a b) f ≡ (has_fact a f || has_fact b f)
+has_fact-union a b Ran = refl
+has_fact-union a b Went = refl
+has_fact-union a b Stayed = refl
+
+pub facts_of_all-one : (place : Place) (traces : List (List Visit)) → facts_of_all place traces ≡ facts_at place (flat_map (λ t. t) traces)
+facts_of_all-one place [] = refl
+facts_of_all-one place (t ∷ ts) =
+    let rest : List Visit = flat_map (λ u. u) ts in
+    ap (union (facts_at place t)) (facts_of_all-one place ts)
+    ∙ same_sets (union (facts_at place t) (facts_at place rest)) (facts_at place (t ++ rest)) (λ f. has_fact-union (facts_at place t) (facts_at place rest) f ∙ sym (facts_at-append place t rest f))
+
+pub visits_at_places-one : (places : List Place) (traces : List (List Visit)) → visits_at_places places (flat_map (λ t. t) traces) ≡ sum_by (visits_at_places places) traces
+visits_at_places-one places [] = refl
+visits_at_places-one places (t ∷ ts) =
+    visits_at_places-append places t (flat_map (λ u. u) ts) ∙ ap (λ n. visits_at_places places t + n) (visits_at_places-one places ts)
+    ∙ sym (sum_by-cons (visits_at_places places) t ts)
+
+-- the set of a place's whole session: what the notes have marked lies within these facts, and these were shown
+pub set_at-facts : (plan : PlanView) (ended : Notes) (finals : FinalsView) (p : ℕ) (facts : FactSet) → IsPlan plan → HasSets plan ended finals →
+    p < length plan.places → 0 < window_at plan p →
+    ((f : Fact) → ended.marked (window_at plan p) p f ≡ true → has_fact facts f ≡ true) →
+    ((f : Fact) → has_fact facts f ≡ true → IsShown plan ended p f) →
+    ((f : Fact) → has_fact facts f ≡ true → is_of_kind (kind_at plan p) f ≡ true) → set_at finals (window_at plan p) p ≡ facts
+set_at-facts plan ended finals p facts is sets lt window within shown kind =
+    let w : ℕ = window_at plan p in
+    let most : w ≤ plan.sessions = is.in_range p lt in
+    same_sets (set_at finals w p) facts (λ f.
+    let same = sets.marked w p f window most lt in
+    same_bits (has_fact (set_at finals w p) f) (has_fact facts f)
+    (λ has. within f (sym same ∙ has))
+    (λ there. elim (shown f there) [
+      | inl marked ↦ same ∙ marked
+      | inr full ↦ ap (λ s. has_fact s f) (sets.full w p window most lt full) ∙ has_fact-full_of (kind_at plan p) f (kind f there)
+    ]))
+
+-- Before the visits nothing was marked at the places of whole sessions, and each of them had been planted.
+pub record IsReady (plan : PlanView) (old : Notes) : Type 0 where
+  pub none : (s p : ℕ) (f : Fact) → old.marked s p f ≡ false
+  pub none_full : (s p : ℕ) → old.full s p ≡ false
+  pub planted : (p : ℕ) → p < length plan.places → 0 < window_at plan p → IsPlanted plan old p
+
+-- the set of each place's whole session is what the trace shows there
+pub exact_set : (plan : PlanView) (old ended : Notes) (trace : List Visit) (finals : FinalsView) → IsPlan plan → IsReady plan old → Observes plan old ended trace →
+    HasSets plan ended finals → (p : ℕ) → p < length plan.places → 0 < window_at plan p → set_at finals (window_at plan p) p ≡ facts_at (place_of plan.places p) trace
+exact_set plan old ended trace finals is ready observes sets p lt window =
+    set_at-facts plan ended finals p (facts_at (place_of plan.places p) trace) is sets lt window
+    (λ f marked. elim (observes.nothing_else (window_at plan p) p f marked) [
+      | inl before ↦ absurd (both_ways (old.marked (window_at plan p) p f) (ready.none (window_at plan p) p f) before)
+      | inr there ↦ there
+    ])
+    (λ f there. observes.shown p f lt (ready.planted p lt window) there)
+    (facts_at-kind (place_of plan.places p) trace)
+
+-- the breakpoints that were lifted are those of the places whose set is full
+pub exact_lifts : (plan : PlanView) (old ended : Notes) (trace : List Visit) (finals : FinalsView) → IsReady plan old → Observes plan old ended trace →
+    HasTally plan ended finals → ended.tally.lifts ≡ full_places plan finals
+exact_lifts plan old ended trace finals ready observes tally = tally.lifts (λ s p full. elim (observes.grows.met s p full) [
+  | inl before ↦ absurd (both_ways (old.full s p) (ready.none_full s p) before)
+  | inr free ↦ free
+])
+
+shows_full : (plan : PlanView) (finals : FinalsView) (trace : List Visit) (p : ℕ) (b : Bool) → nat_lt 0 (window_at plan p) ≡ b →
+    (0 < window_at plan p → set_at finals (window_at plan p) p ≡ facts_at (place_of plan.places p) trace) →
+    (b && is_full (kind_at plan p) (set_at finals (window_at plan p) p)) ≡ (b && is_full (kind_at plan p) (facts_at (place_of plan.places p) trace))
+shows_full plan finals trace p true e same = ap (is_full (kind_at plan p)) (same (ltb-true 0 (window_at plan p) e))
+shows_full plan finals trace p false e same = refl
+
+-- and those are the places whose facts in the trace are all of their kind
+pub exact_full_places : (plan : PlanView) (old ended : Notes) (trace : List Visit) (finals : FinalsView) → IsPlan plan → IsReady plan old → Observes plan old ended trace →
+    HasSets plan ended finals → full_places plan finals
+    ≡ count_below (λ p. nat_lt 0 (window_at plan p) && is_full (kind_at plan p) (facts_at (place_of plan.places p) trace)) (length plan.places)
+exact_full_places plan old ended trace finals is ready observes sets =
+    count_same (λ p. nat_lt 0 (window_at plan p) && is_full (kind_at plan p) (set_at finals (window_at plan p) p))
+    (λ p. nat_lt 0 (window_at plan p) && is_full (kind_at plan p) (facts_at (place_of plan.places p) trace)) (length plan.places)
+    (λ p lt. shows_full plan finals trace p (nat_lt 0 (window_at plan p)) refl (λ window. exact_set plan old ended trace finals is ready observes sets p lt window))
