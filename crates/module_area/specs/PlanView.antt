@@ -1,5 +1,5 @@
 -- A phase's plan: the places, what observes each of them, and the tasks.
-use Rattle.std.specs.Prelude.{◌≡◌, ◌≢◌, ℕ, ◌<◌, ◌≤◌, Bool, true, ◌&&◌, ◌||◌, nat_eq, nat_lt, List, length, get_or, AllPairs, All, Contains}
+use Rattle.std.specs.Prelude.{◌≡◌, ◌≢◌, ℕ, ◌<◌, ◌≤◌, Bool, true, ◌&&◌, ◌||◌, nat_eq, nat_lt, List, [], length, get_or, AllPairs, All, Contains}
 use Rattle.std.specs.List.{list_any}
 use Rattle.cov_base.specs.Codes.{breakpoint, kind_of}
 use Rattle.cov_base.specs.declared.facts.Kind.{Kind}
@@ -58,6 +58,12 @@ pub record AreApart (c d : ControlledView) : Type 0 where
   pub rising : c.session < d.session
   pub one_controller : (p : PlaceNo) → Contains c.places p → Contains d.places p → c.by ≡ d.by
 
+-- a place and its window may stand in a plan of so many sessions
+pub record MayStand (place : Place) (window sessions : ℕ) : Type 0 where
+  pub in_range : window ≤ sessions
+  pub no_breakpoint : place.original ≢ breakpoint
+  pub kinds : place.kind ≡ kind_of place.original
+
 pub record IsPlan (plan : PlanView) : Type 0 where
   pub windows : length plan.windows ≡ length plan.places
   pub in_range : (p : ℕ) → p < length plan.places → window_at plan p ≤ plan.sessions
@@ -69,3 +75,7 @@ pub record IsPlan (plan : PlanView) : Type 0 where
   pub controlled : All (IsControlled plan) plan.controlled
   pub apart : AllPairs AreApart plan.controlled
   pub no_windows : All (λ c. (p : ℕ) → p < length plan.places → window_at plan p ≢ c.session) plan.controlled
+
+-- a plan without controlled sessions
+abbrev pub whole_plan : List Place → List ℕ → List TaskNo → ℕ → PlanView
+whole_plan places windows tasks sessions = record { places = places; windows = windows; controlled = []; tasks = tasks; sessions = sessions }

@@ -3,6 +3,7 @@
 
 mod areas;
 mod cells;
+mod checked_plan;
 mod finals;
 mod images;
 mod places;

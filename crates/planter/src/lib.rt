@@ -7,6 +7,9 @@ ghost use Rattle.module_area.specs.PlanView.{window_at};
 ghost use Rattle.module_area.specs.Notes.{calls};
 ghost use Rattle.planter.specs.Planted.{planted_notes};
 
+#[cfg(test)]
+mod tests;
+
 use cov_base::{PlaceNo, SessNo};
 use module_area::{Cells, Plan};
 
