@@ -1,15 +1,17 @@
-//! Calls through the trait's bound.
+//! Calls through the trait's bound, and the bytes that storage begins with.
 ghost use Rattle.std.specs.Prelude.{◌≡◌, ℕ, ◌≤◌, All, IfOk, IsTrue, None, [], ◌∷◌};
 ghost use Rattle.s370_state.specs.Row.{reads, use_tests};
 ghost use Rattle.module_area.specs.Images.{AreImages};
 ghost use Rattle.brk_table.specs.Places.{memory_of, IsIn};
 
+use super::bytes::first_bytes;
 use super::*;
 use brk_table::Tables;
 use cov_base::{Addr, NoMemory};
-use module_area::Images;
+use module_area::{DataCard, Images};
 use s370_state::test_read;
 use std::alloc::Global;
+use std::test::Fail;
 
 /// What the bound's calls tell is said of the memory over the modules and places.
 fn is_readable(
@@ -30,4 +32,25 @@ fn is_readable(
         Ok(()) => Ok(true),
         Err(_) => Ok(false),
     }
+}
+
+#[test]
+fn later_cards_count(rt: HostRuntime) -> Result<(), Fail> {
+    let cards = [
+        DataCard {
+            offset: 2,
+            bytes: vec![in rt.alloc(); 1, 2, 3]?,
+        },
+        DataCard {
+            offset: 3,
+            bytes: vec![in rt.alloc(); 0xFF]?,
+        },
+        DataCard {
+            offset: 7,
+            bytes: vec![in rt.alloc(); 4]?,
+        },
+    ];
+    let bytes = first_bytes(rt.alloc(), 8, &cards)?;
+    assert_eq!(rt; bytes.as_slice(), [0, 0, 1, 0xFF, 3, 0, 0, 4].as_slice());
+    Ok(())
 }
