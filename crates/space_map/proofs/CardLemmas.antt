@@ -4,7 +4,7 @@ use Rattle.std.specs.List.{All}
 use Rattle.std.proofs.lemmas.List.{length-take}
 use Rattle.std.proofs.lemmas.List.Elements.{All-get_or}
 use Rattle.module_area.specs.Views.{DataView}
-use Rattle.space_map.specs.Space.{with_card}
+use Rattle.module_area.specs.Views.{with_card}
 
 pub length-with_card : (bytes : List ℕ) (c : DataView) → c.offset + length c.bytes ≤ length bytes → length (with_card bytes c) ≡ length bytes
 length-with_card bytes c h = simp (length-append, length-drop, length-take) (omega arith)

@@ -1,6 +1,6 @@
 //! The bytes that private storage begins with.
 ghost use Rattle.std.specs.Prelude.{◌≡◌, ◌+◌, ◌≤◌, ◌<◌, ◌^◌, length, All, IfOk};
-ghost use Rattle.space_map.specs.Space.{with_card, first_bytes};
+ghost use Rattle.module_area.specs.Views.{with_card, first_bytes};
 
 use module_area::DataCard;
 use std::alloc::{AllocError, Global};

@@ -4,7 +4,8 @@ ghost use Rattle.cov_base.specs.Memory.{wrap, byte_at, half_at, is_accessible, c
 ghost use Rattle.s370_state.specs.Answers.{reach_answer, store_answer, touch_answer};
 ghost use Rattle.module_area.specs.Images.{AreImages};
 ghost use Rattle.brk_table.specs.Places.{memory_of, IsIn, AreSeen, touches};
-ghost use Rattle.space_map.specs.Space.{first_bytes, row_of, memory_of_space};
+ghost use Rattle.module_area.specs.Views.{first_bytes};
+ghost use Rattle.space_map.specs.Space.{row_of, memory_of_space};
 
 use crate::bytes::first_bytes;
 use crate::images::{image_byte, image_half, is_image, is_in_one_image};
