@@ -1,5 +1,5 @@
 -- What a caller with a plan knows of the sets that an area ended with.
-use Rattle.std.proofs.Common.{◌≡◌, ℕ, ◌*◌, ◌<◌, ◌≤◌, length, arith, subst, sym}
+use Rattle.std.proofs.Common.{ℕ, ◌*◌, ◌≤◌, length}
 use Rattle.std.proofs.Math.Nat.{mul-le-mul_right}
 use Rattle.module_area.specs.PlanView.{PlanView}
 use Rattle.module_area.specs.FinalsView.{FinalsView}

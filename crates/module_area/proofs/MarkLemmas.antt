@@ -1,5 +1,5 @@
 -- A mark adds its fact.
-use Rattle.std.proofs.Common.{◌≡◌, ◌≢◌, ℕ, ◌+◌, ◌-◌, ◌*◌, ◌<◌, ◌≤◌, ◌⊎◌, Bool, true, false, ◌&&◌, ◌||◌, nat_eq, nat_lt, Option, Some, None, List, length, set, inl, inr, refl, sym, ◌∙◌, ap, subst, arith, eqb-true, eq-eqb, ltb-true, lt-ltb}
+use Rattle.std.proofs.Common.{◌≡◌, ◌≢◌, ℕ, ◌+◌, ◌-◌, ◌*◌, ◌<◌, ◌≤◌, ◌⊎◌, Bool, true, false, ◌&&◌, ◌||◌, nat_eq, nat_lt, Option, Some, List, length, set, inl, inr, refl, sym, ◌∙◌, ap, subst, arith, eqb-true, eq-eqb, ltb-true, lt-ltb}
 use Rattle.std.proofs.lemmas.List.{get_or-set_same, get_or-set_other}
 use Rattle.std.proofs.Math.ListN.{length-set}
 use Rattle.std.proofs.Math.Nat.{mul-le-mul_right}
