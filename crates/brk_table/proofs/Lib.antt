@@ -1,2 +1,5 @@
 pub mod PlaceLemmas
 pub mod RangeLemmas
+pub mod CoverLemmas
+pub mod FaultLemmas
+pub mod Passes

@@ -1,5 +1,7 @@
 -- What a listing says, line by line, and its first fault.
-use Rattle.std.specs.Prelude.{ℕ, ◌+◌, Bool, if◌then◌else◌, Option, Some, None, is_none, option_map, unwrap_or, List, [], ◌∷◌, ◌++◌, drop, replicate, position}
+use Rattle.std.specs.Prelude.{ℕ, ◌+◌, ◌==◌, Bool, true, if◌then◌else◌, Option, Some, None, is_none, option_map, unwrap_or, List, [], ◌∷◌, ◌++◌, drop, replicate, position}
+use Rattle.cov_base.specs.Codes.{length_of}
+use Rattle.s370_decode.specs.Fields.{first_half}
 use Rattle.listing_lines.specs.Columns.{Columns, narrow}
 use Rattle.listing_lines.specs.Heading.{heading_of}
 use Rattle.listing_reader.specs.Fields.{is_instruction, location_of, object_of}
@@ -8,6 +10,11 @@ use Rattle.listing_reader.specs.declared.lines.Line.TheVariants.{Text}
 use Rattle.listing_reader.specs.declared.lines.Line.TheVariants as says
 use Rattle.listing_reader.specs.declared.lines.ListFault.{ListFault}
 use Rattle.listing_reader.specs.declared.lines.ListFault.TheVariants.{NoHeading, BadObject}
+
+-- the code has the length that its first halfword gives
+abbrev pub is_sound : Line → Bool
+is_sound Text = true
+is_sound (says.Code loc code) = code.len == length_of (first_half code)
 
 -- a line behind the heading; none where it is an instruction's and its object code is no code
 unfoldable pub line_of : Columns → ℕ → List ℕ → Option Line

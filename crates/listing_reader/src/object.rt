@@ -1,5 +1,7 @@
 //! The object code of a line: one to three groups of four hexadecimal digits.
-ghost use Rattle.std.specs.Prelude.{◌≡◌, ◌+◌, ◌*◌, ◌<◌, ◌≤◌, ◌^◌, ◌==◌};
+ghost use Rattle.std.specs.Prelude.{◌≡◌, ◌+◌, ◌*◌, ◌<◌, ◌≤◌, ◌^◌, ◌==◌, IfSome};
+ghost use Rattle.cov_base.specs.Codes.{length_of};
+ghost use Rattle.s370_decode.specs.Fields.{first_half};
 ghost use Rattle.hex.specs.Hex.{is_hex_digit};
 ghost use Rattle.listing_lines.specs.Columns.{narrow};
 ghost use Rattle.listing_reader.specs.Fields.{fits_groups, are_groups, byte_in, byte_of, code_in, code_with, object_of};
@@ -83,9 +85,11 @@ fn code_in(line: &[u8], shift: u8, groups: u8) -> Code
     }
 }
 
+#[tactic(auto, unfolding(crate::specs::Fields::code_in))]
 fn code_with(line: &[u8], shift: u8, groups: u8) -> Option<Code>
     requires { groups ≤ 3 }
-    ensures { result ≡ code_with narrow line.now shift groups }
+    ensures value { result ≡ code_with narrow line.now shift groups }
+    ensures sound { IfSome result (λ c. c.len ≡ length_of (first_half c)) }
 {
     if !are_groups(line, shift, usize::from(groups)) {
         return None;
@@ -103,7 +107,8 @@ fn code_with(line: &[u8], shift: u8, groups: u8) -> Option<Code>
 /// The object code; none exactly where the columns are not one to three groups, or where the first byte gives
 /// another length.
 pub fn object_of(line: &[u8], shift: u8) -> Option<Code>
-    ensures { result ≡ object_of narrow line.now shift }
+    ensures value { result ≡ object_of narrow line.now shift }
+    ensures sound { IfSome result (λ c. c.len ≡ length_of (first_half c)) }
 {
     if let Some(code) = code_with(line, shift, 1) {
         return Some(code);

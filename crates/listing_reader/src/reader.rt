@@ -1,9 +1,10 @@
 //! Reads a whole listing.
-ghost use Rattle.std.specs.Prelude.{◌≡◌, ◌+◌, ◌≤◌, ◌<◌, ◌++◌, ◌⊎◌, length, Option, IfOk, IfErr, OnOk, OnErr, option_map, replicate, position};
+ghost use Rattle.std.specs.Prelude.{◌≡◌, ◌+◌, ◌≤◌, ◌<◌, ◌++◌, ◌⊎◌, length, Option, IfOk, IfErr, OnOk, OnErr, option_map, replicate, position, IfSome, true};
 ghost use Rattle.std.specs.declared.option.Option.TheVariants.{Some, None};
+ghost use Rattle.std.specs.List.{AllPass};
 ghost use Rattle.listing_lines.specs.Columns.{narrow};
 ghost use Rattle.listing_reader.specs.Fields.{is_instruction};
-ghost use Rattle.listing_reader.specs.Listing.{line_of, is_bad, lines_of, listing_of, fault_of};
+ghost use Rattle.listing_reader.specs.Listing.{is_sound, line_of, is_bad, lines_of, listing_of, fault_of};
 
 use crate::fields::{are_blank, is_blank_at, number_in};
 use crate::lines::{Line, ListFault};
@@ -25,7 +26,8 @@ fn is_instruction(line: &[u8], shift: u8) -> bool
 /// A line behind the heading; none where it is an instruction's and its object code is no code.
 #[tactic(auto, unfolding(crate::specs::Listing::line_of))]
 fn read_line(line: &[u8], shift: u8) -> Option<Line>
-    ensures { result ≡ line_of narrow shift line.now }
+    ensures value { result ≡ line_of narrow shift line.now }
+    ensures sound { IfSome result (λ l. is_sound l ≡ true) }
 {
     if !is_instruction(line, shift) {
         return Some(Line::Text);
@@ -45,6 +47,7 @@ fn read_later(
     requires { first + length lines.now ≤ 16777217 }
     ensures lines { OnOk result (option_map (λ rest. read.old.items ++ rest) (lines_of narrow shift lines.now) ≡ Some read.new.items) }
     ensures count { OnOk result (length read.new.items ≡ length read.old.items + length lines.now) }
+    ensures sound { AllPass is_sound read.old.items → AllPass is_sound read.new.items }
     ensures fault { IfErr result (λ e. (e ≡ ListFault.NoMemory) ⊎ (option_map (λ k. ListFault.BadObject (first + k)) (position (is_bad narrow shift) lines.now) ≡ Some e)) }
 {
     let mut n = first;
@@ -62,6 +65,7 @@ fn read_later(
 fn texts(alloc: Global, count: usize, room: usize) -> Result<Vec<Line>, ListFault>
     requires { room ≤ 16777216 }
     ensures lines { IfOk result (λ v. v.items ≡ replicate count Line.Text) }
+    ensures sound { IfOk result (λ v. AllPass is_sound v.items) }
     ensures fault { IfErr result (λ e. e ≡ ListFault.NoMemory) }
 {
     let mut read = Vec::with_capacity(alloc, room)?;
@@ -80,6 +84,7 @@ pub fn read_listing(alloc: Global, lines: &[ListingLine]) -> Result<Vec<Line>, L
     requires { length lines.now ≤ 16777216 }
     ensures listing { IfOk result (λ v. listing_of lines.now ≡ Some v.items) }
     ensures count { IfOk result (λ v. length v.items ≡ length lines.now) }
+    ensures sound { IfOk result (λ v. AllPass is_sound v.items) }
     ensures fault { IfErr result (λ e. (e ≡ ListFault.NoMemory) ⊎ (fault_of lines.now ≡ Some e)) }
 {
     match shift_of(lines) {

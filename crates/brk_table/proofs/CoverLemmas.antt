@@ -1,0 +1,61 @@
+-- Which bytes of a module have a line.
+use Rattle.std.proofs.Common.{◌≡◌, ◌⊎◌, inl, inr, ℕ, ◌+◌, ◌<◌, ◌≤◌, zero, suc, Bool, true, false, ◌||◌, Option, Some, None, is_some, List, [], ◌∷◌, ◌++◌, length, get_or, refl, sym, ap, ◌∙◌, add-one, arith}
+use Rattle.brk_table.specs.Cover.{is_covered, covers, IsCover}
+
+or_false : (a b : Bool) → (a || b) ≡ false → (a ≡ false) × (b ≡ false)
+or_false true b h = absurd cc
+or_false false b h = (refl, h)
+
+or_true : (a : Bool) → (a || true) ≡ true
+or_true true = refl
+or_true false = refl
+
+at_or_below : (k m : ℕ) → k < suc m → (k ≡ m) ⊎ (k < m)
+at_or_below k m h = grind arith
+
+pub covered_none : (cover : List (Option ℕ)) (from : ℕ) → is_covered cover from 0 ≡ false
+unfolding is_covered
+covered_none cover from = refl
+
+pub covered_more : (cover : List (Option ℕ)) (from k : ℕ) → is_covered cover from k ≡ false → get_or cover (from + k) None ≡ None → is_covered cover from (k + 1) ≡ false
+unfolding is_covered
+covered_more cover from k h e = rw (add-one, h, e) refl
+
+pub covered_found : (cover : List (Option ℕ)) (from len k i : ℕ) → k < len → get_or cover (from + k) None ≡ Some i → is_covered cover from len ≡ true
+unfolding is_covered
+covered_found cover from zero k i l e = absurd (omega arith)
+covered_found cover from (suc n) k i l e = elim (at_or_below k n l) [
+  | inl q ↦ rw (← q, e) (or_true (is_covered cover from k))
+  | inr b ↦ rw (covered_found cover from n k i b e) refl
+]
+
+pub not_covered : (cover : List (Option ℕ)) (from len : ℕ) → is_covered cover from len ≡ false → (k : ℕ) → k < len → get_or cover (from + k) None ≡ None
+unfolding is_covered
+not_covered cover from zero h k l = absurd (omega arith)
+not_covered cover from (suc n) h k l =
+    let both = or_false (is_covered cover from n) (is_some (get_or cover (from + n) None)) h in
+    elim (at_or_below k n l) [
+      | inl q ↦ rw q (none (get_or cover (from + n) None) both.1)
+      | inr b ↦ not_covered cover from n both.0 k b
+    ]
+  where
+    none : (o : Option ℕ) → is_some o ≡ false → o ≡ None
+    none None e = refl
+    none (Some i) e = absurd cc
+
+-- the byte that is covered
+pub record Covered (cover : List (Option ℕ)) (from len : ℕ) : Type 0 where
+  pub k : ℕ
+  pub i : ℕ
+  pub below : k < len
+  pub is : get_or cover (from + k) None ≡ Some i
+
+pub covered : (cover : List (Option ℕ)) (from len : ℕ) → is_covered cover from len ≡ true → Covered cover from len
+unfolding is_covered
+covered cover from zero h = absurd cc
+covered cover from (suc n) h = by_last (get_or cover (from + n) None) refl (is_covered cover from n) refl (covered cover from n)
+  where
+    by_last : (o : Option ℕ) → get_or cover (from + n) None ≡ o → (b : Bool) → is_covered cover from n ≡ b → (is_covered cover from n ≡ true → Covered cover from n) → Covered cover from (suc n)
+    by_last (Some i) e b q more = record { k = n; i = i; below = omega arith; is = e }
+    by_last None e true q more = let c = more q in record { k = c.k; i = c.i; below = omega (arith, c.below); is = c.is }
+    by_last None e false q more = absurd (let f : false ≡ true = sym (rw (q, e) refl) ∙ h in cc)
