@@ -3,3 +3,5 @@ pub mod RangeLemmas
 pub mod CoverLemmas
 pub mod FaultLemmas
 pub mod Passes
+pub mod TabledLemmas
+pub mod AtLemmas

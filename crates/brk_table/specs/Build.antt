@@ -1,9 +1,8 @@
 -- The table of a listing over its module, and the first fault of a listing that has none.
-use Rattle.std.specs.Prelude.{◌≡◌, ℕ, zero, suc, ◌+◌, ◌*◌, ◌%◌, ◌<◌, Bool, true, false, ◌&&◌, not, nat_le, nat_lt, ◌==◌, if◌then◌else◌, Option, Some, None, List, [], ◌∷◌, ◌++◌, length, slice_index, get_or, count_by, Contains, AllPairs}
+use Rattle.std.specs.Prelude.{◌≡◌, ℕ, ◌+◌, ◌%◌, ◌<◌, Bool, true, false, ◌&&◌, nat_le, nat_lt, ◌==◌, if◌then◌else◌, Option, Some, None, List, [], ◌∷◌, ◌++◌, length, slice_index, get_or, count_by, Contains, AllPairs}
 use Rattle.std.specs.List.{list_any}
 use Rattle.std.specs.Str.{bytes_eq}
-use Rattle.cov_base.specs.Codes.{breakpoint, kind_of, length_of}
-use Rattle.cov_base.specs.Memory.{ImageView}
+use Rattle.cov_base.specs.Codes.{breakpoint, kind_of}
 use Rattle.module_area.specs.PlanView.{place_of}
 use Rattle.module_area.specs.declared.places.Place.{Place}
 use Rattle.s370_decode.specs.Fields.{first_half}
@@ -32,7 +31,7 @@ unfoldable pub module_code : List ℕ → ℕ → ℕ → Code
 module_code bytes loc len = record {
   at = 0;
   bytes = module_byte bytes loc len 0 ∷ module_byte bytes loc len 1 ∷ module_byte bytes loc len 2 ∷
-    module_byte bytes loc len 3 ∷ module_byte bytes loc len 4 ∷ module_byte bytes loc len 5 ∷ [];
+      module_byte bytes loc len 3 ∷ module_byte bytes loc len 4 ∷ module_byte bytes loc len 5 ∷ [];
   len = len;
 }
 
@@ -74,10 +73,10 @@ IsEntry m base places Text entry = entry ≡ None
 IsEntry m base places (says.Code loc code) None = ⊥
 IsEntry m base places (says.Code loc code) (Some k) = (k < length places) × (place_of places k ≡ place_from m base loc code)
 
--- the table of module m: the places of the instruction lines in order of address, and no others
-pub record IsTable (m : ℕ) (image : ImageView) (lines : List Line) (t : TableView) : Type 0 where
+-- the table of module m at that base: the places of the instruction lines in order of address, and no others
+pub record IsTable (m base : ℕ) (lines : List Line) (t : TableView) : Type 0 where
   pub of : t.«module» ≡ m
   pub count : length t.lines ≡ length lines
-  pub entries : (i : ℕ) → i < length lines → IsEntry m image.base t.places (get_or lines i Text) (get_or t.lines i None)
+  pub entries : (i : ℕ) → i < length lines → IsEntry m base t.places (get_or lines i Text) (get_or t.lines i None)
   pub of_lines : (k : ℕ) → k < length t.places → Contains t.lines (Some k)
   pub rising : AllPairs (λ p q. p.at < q.at) t.places
