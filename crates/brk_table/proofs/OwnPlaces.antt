@@ -60,7 +60,13 @@ by_line : (m base : ℕ) (bytes : List ℕ) (room : ℕ) (lines : List Line) (t 
     → fault_at bytes room (take i lines) line ≡ None → OfLine m base bytes room lines t k
 by_line m base bytes room lines t k i Text e b n h s f = absurd cc
 by_line m base bytes room lines t k i (says.Code loc code) e b n h s f = record {
-  i = i; loc = loc; code = code; below = b; line = e; entry = n; place = h.1;
+  i = i;
+  loc = loc;
+  code = code;
+  below = b;
+  line = e;
+  entry = n;
+  place = h.1;
   long = sound_length loc code s;
   size = grind (arith, nat_tests);
   fine = faultless bytes room (list_any (shares loc code) (take i lines)) (count_by is_code (take i lines)) (length (take i lines) + 1) loc code f;
