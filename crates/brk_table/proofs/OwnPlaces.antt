@@ -1,14 +1,14 @@
 -- The places of a table whose listing has no fault: apart, and the module's own.
-use Rattle.std.proofs.Common.{◌≡◌, ◌≢◌, ◌⊎◌, inl, inr, ℕ, ◌+◌, ◌-◌, ◌*◌, ◌%◌, ◌<◌, ◌≤◌, zero, suc, Bool, true, false, cond, ◌&&◌, nat_lt, ◌==◌, Option, Some, None, List, [], ◌∷◌, ◌++◌, length, get_or, take, drop, refl, sym, ap, ◌∙◌, subst, arith, All}
-use Rattle.std.specs.Prelude.{slice_index, Contains, AllPairs, IfSome, count_by}
+use Rattle.std.proofs.Common.{◌≡◌, ◌≢◌, ◌⊎◌, inl, inr, ℕ, ◌+◌, ◌-◌, ◌*◌, ◌%◌, ◌<◌, ◌≤◌, zero, suc, Bool, true, false, nat_lt, ◌==◌, Option, Some, None, List, [], length, get_or, take, drop, refl, sym, ap, ◌∙◌, subst, arith}
+use Rattle.std.specs.Prelude.{slice_index, IfSome, count_by}
 use Rattle.std.specs.List.{list_any, AllPass}
 use Rattle.std.specs.Str.{bytes_eq}
 use Rattle.std.proofs.lemmas.Bool.{cases_lt}
 use Rattle.std.proofs.lemmas.Bool.Decides.{nat_tests}
-use Rattle.std.proofs.lemmas.List.{get_or_default, get_or-take, length-take-le, take_all, drop_all}
+use Rattle.std.proofs.lemmas.List.{get_or_default, get_or-take, length-take-le}
 use Rattle.std.proofs.lemmas.List.Folds.{list_any_at}
 use Rattle.std.proofs.lemmas.Slice.Eq.{bytes_eq-Decides}
-use Rattle.cov_base.specs.Codes.{breakpoint, kind_of, length_of}
+use Rattle.cov_base.specs.Codes.{breakpoint, length_of}
 use Rattle.cov_base.specs.Memory.{ImageView}
 use Rattle.s370_decode.specs.Fields.{first_half}
 use Rattle.s370_decode.specs.declared.code.Code.{Code}
@@ -18,8 +18,8 @@ use Rattle.listing_reader.specs.Listing.{is_sound}
 use Rattle.listing_reader.specs.declared.lines.Line.{Line}
 use Rattle.listing_reader.specs.declared.lines.Line.TheVariants.{Text}
 use Rattle.listing_reader.specs.declared.lines.Line.TheVariants as says
-use Rattle.brk_table.specs.Places.{TableView, IsPlace, AreApart, HasItsPlaces}
-use Rattle.brk_table.specs.Build.{shares, is_code, module_byte, module_code, fault_by, fault_at, first_fault, or_fault, place_from, IsEntry, IsTable, IsOwn, HasOwnPlaces}
+use Rattle.brk_table.specs.Places.{TableView, IsPlace, AreApart}
+use Rattle.brk_table.specs.Build.{shares, is_code, module_code, fault_at, first_fault, or_fault, place_from, IsEntry, IsTable, IsOwn, HasOwnPlaces}
 use Rattle.brk_table.specs.declared.faults.BuildFault.{BuildFault}
 use Rattle.brk_table.proofs.FaultLemmas.{IsFaultless, faultless, sound_length, lt_true}
 use Rattle.brk_table.proofs.Passes.{next_fault}

@@ -1,5 +1,5 @@
 -- All places of several tables: apart, and in their modules.
-use Rattle.std.proofs.Common.{◌≡◌, ◌⊎◌, inl, inr, ℕ, ◌+◌, ◌-◌, ◌<◌, ◌≤◌, zero, suc, List, [], ◌∷◌, ◌++◌, length, get_or, refl, sym, ap, ◌∙◌, arith, All, length-append}
+use Rattle.std.proofs.Common.{◌≡◌, inl, inr, ℕ, ◌-◌, ◌<◌, suc, List, [], ◌∷◌, ◌++◌, length, get_or, refl, ap, ◌∙◌, arith, All, length-append}
 use Rattle.std.specs.Prelude.{AllPairs}
 use Rattle.std.proofs.lemmas.Bool.{cases_lt}
 use Rattle.std.proofs.lemmas.List.{get_or_default, get_or_append_left, get_or-append_right}
@@ -8,7 +8,6 @@ use Rattle.cov_base.specs.Memory.{ImageView}
 use Rattle.module_area.specs.Images.{AreClear, AreImages}
 use Rattle.module_area.specs.declared.places.Place.{Place}
 use Rattle.brk_table.specs.Places.{TableView, IsPlace, IsIn, AreApart, ArePlaces, HasItsPlaces, HasRisingPlaces, all_places}
-use Rattle.brk_table.specs.Build.{IsOwn, HasOwnPlaces}
 use Rattle.brk_table.specs.Together.{IsTableOf, AreTables}
 
 tail_all : {X : Type 0} (P : X → Type 0) (x : X) (xs : List X) → All P (x ∷ xs) → All P xs
@@ -73,8 +72,8 @@ apart_all images (t ∷ ts) clear h r =
     let rest = tail_all (IsTableOf images) t ts h in
     let later = later_modules images t.«module» ts rest (first_pairs (λ (t u : TableView). t.«module» < u.«module») t ts r) in
     pairs_append AreApart t.places (all_places ts) own.own.apart (apart_all images ts clear rest (tail_pairs (λ (t u : TableView). t.«module» < u.«module») t ts r))
-      (λ j k d l b. (let less = later k d b in
-        clear_apart images (get_or t.places j d) (get_or (all_places ts) k d) clear (in_of images t own j d l) (all_in images ts rest k d b) (rw (own.own.own j d l).of less)))
+    (λ j k d l b. (let less = later k d b in
+    clear_apart images (get_or t.places j d) (get_or (all_places ts) k d) clear (in_of images t own j d l) (all_in images ts rest k d b) (rw (own.own.own j d l).of less)))
 
 -- what the tables of clear modules meet
 pub record AllMet (images : List ImageView) (tables : List TableView) : Type 0 where

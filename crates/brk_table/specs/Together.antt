@@ -1,5 +1,5 @@
 -- The tables of a job's modules.
-use Rattle.std.specs.Prelude.{◌≡◌, ℕ, ◌<◌, ◌≤◌, List, length, get_or, All, AllPairs}
+use Rattle.std.specs.Prelude.{◌≡◌, ◌<◌, ◌≤◌, List, length, get_or, All, AllPairs}
 use Rattle.cov_base.specs.Memory.{ImageView}
 use Rattle.brk_table.specs.Places.{TableView, all_places}
 use Rattle.brk_table.specs.Build.{HasOwnPlaces}

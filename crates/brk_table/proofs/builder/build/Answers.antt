@@ -2,8 +2,7 @@ use Rattle.std.proofs.Common.{◌≡◌, [], sym, ap, ◌∙◌}
 use Rattle.std.specs.declared.option.Option.TheVariants.{None}
 use Rattle.std.proofs.lemmas.Result.{IfOk-weaker}
 use Rattle.cov_base.specs.Memory.{ImageView}
-use Rattle.brk_table.specs.Build.{first_fault, IsTable, HasOwnPlaces}
-use Rattle.brk_table.specs.Places.{TableView}
+use Rattle.brk_table.specs.Build.{first_fault}
 use Rattle.brk_table.proofs.OwnPlaces.{own_places}
 use Rattle.brk_table.proofs.builder.build.Goals as goal
 
