@@ -1,3 +1,5 @@
 pub mod Operands
 pub mod Loads
 pub mod Sums
+pub mod Products
+pub mod Shifts

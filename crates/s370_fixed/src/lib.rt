@@ -3,4 +3,5 @@
 
 mod loads;
 mod operands;
+mod products;
 mod sums;
