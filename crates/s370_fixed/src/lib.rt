@@ -4,4 +4,5 @@
 mod loads;
 mod operands;
 mod products;
+mod shifts;
 mod sums;
