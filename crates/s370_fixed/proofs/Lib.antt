@@ -1,0 +1,4 @@
+pub mod Wide
+pub mod Powers
+pub mod Registers
+pub mod Digits
