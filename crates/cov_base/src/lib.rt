@@ -14,3 +14,6 @@ pub use marks::{Mark, mark_of};
 pub use names::Name;
 pub use numbers::{PlaceNo, SessNo, TaskNo};
 pub use shortage::NoMemory;
+
+#[cfg(test)]
+mod tests;

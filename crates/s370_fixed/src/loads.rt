@@ -1,0 +1,120 @@
+//! Loads and stores of one register, and complements.
+#![tactic(auto, using(s370_state::proofs::Performs::at_once, s370_state::proofs::Performs::passes, s370_state::proofs::Performs::refuses))]
+
+ghost use Rattle.std.specs.Prelude.{◌≡◌, ℕ, ◌<◌, ◌≤◌, ℤ, pos, neg_ℤ, ◌≤ℤ◌, ◌<ℤ◌, true, if◌then◌else◌, slice_set};
+ghost use Rattle.std.specs.Int.RustNames.{unsigned_abs};
+ghost use Rattle.s370_state.specs.Row.{Performs};
+ghost use Rattle.s370_fixed.specs.Loads.{row_lr, row_l, row_lh, row_ltr, row_lcr, row_lpr, row_lnr, row_la, row_st, row_sth};
+
+use crate::operands::{address, half, load, set_result, word};
+use s370_decode::Code;
+use s370_state::{Cpu, Next, Space, low_word, put_half, put_word, sign_code, signed, test_store};
+
+/// The magnitude of a register's number.
+fn magnitude(z: i64) -> i64
+    requires low { neg_ℤ (pos 2147483648) ≤ℤ z }
+    requires high { z <ℤ pos 2147483648 }
+    ensures value { result ≡ pos (unsigned_abs z) }
+    ensures most { result ≤ℤ pos 2147483648 }
+{
+    if z < 0 { -z } else { z }
+}
+
+/// LR.
+pub fn load_register<P: Space>(cpu: &mut Cpu, space: &mut P, code: &Code) -> Next
+    ensures memory { P.memory space.new ≡ P.memory space.old }
+    ensures row { Performs (P.memory space.old) cpu.old (P.bytes space.old) (λ m s. row_lr m s code.now) cpu.new (P.bytes space.new) result }
+{
+    load(cpu, code.r1(), cpu.reg(code.r2()))
+}
+
+/// L.
+pub fn load_word<P: Space>(cpu: &mut Cpu, space: &mut P, code: &Code) -> Next
+    ensures memory { P.memory space.new ≡ P.memory space.old }
+    ensures row { Performs (P.memory space.old) cpu.old (P.bytes space.old) (λ m s. row_l m s code.now) cpu.new (P.bytes space.new) result }
+{
+    match word(cpu, space, code) {
+        Ok(v) => load(cpu, code.r1(), v),
+        Err(e) => Next::Ended(e),
+    }
+}
+
+/// LH.
+pub fn load_half<P: Space>(cpu: &mut Cpu, space: &mut P, code: &Code) -> Next
+    ensures memory { P.memory space.new ≡ P.memory space.old }
+    ensures row { Performs (P.memory space.old) cpu.old (P.bytes space.old) (λ m s. row_lh m s code.now) cpu.new (P.bytes space.new) result }
+{
+    match half(cpu, space, code) {
+        Ok(z) => load(cpu, code.r1(), low_word(z)),
+        Err(e) => Next::Ended(e),
+    }
+}
+
+/// LTR.
+pub fn load_and_test<P: Space>(cpu: &mut Cpu, space: &mut P, code: &Code) -> Next
+    ensures memory { P.memory space.new ≡ P.memory space.old }
+    ensures row { Performs (P.memory space.old) cpu.old (P.bytes space.old) (λ m s. row_ltr m s code.now) cpu.new (P.bytes space.new) result }
+{
+    let v = cpu.reg(code.r2());
+    cpu.set_reg(code.r1(), v);
+    cpu.set_cc(sign_code(signed(v)));
+    Next::On
+}
+
+/// LCR.
+pub fn load_complement<P: Space>(cpu: &mut Cpu, space: &mut P, code: &Code) -> Next
+    ensures memory { P.memory space.new ≡ P.memory space.old }
+    ensures row { Performs (P.memory space.old) cpu.old (P.bytes space.old) (λ m s. row_lcr m s code.now) cpu.new (P.bytes space.new) result }
+{
+    set_result(cpu, code.r1(), -signed(cpu.reg(code.r2())))
+}
+
+/// LPR.
+pub fn load_positive<P: Space>(cpu: &mut Cpu, space: &mut P, code: &Code) -> Next
+    ensures memory { P.memory space.new ≡ P.memory space.old }
+    ensures row { Performs (P.memory space.old) cpu.old (P.bytes space.old) (λ m s. row_lpr m s code.now) cpu.new (P.bytes space.new) result }
+{
+    set_result(cpu, code.r1(), magnitude(signed(cpu.reg(code.r2()))))
+}
+
+/// LNR.
+pub fn load_negative<P: Space>(cpu: &mut Cpu, space: &mut P, code: &Code) -> Next
+    ensures memory { P.memory space.new ≡ P.memory space.old }
+    ensures row { Performs (P.memory space.old) cpu.old (P.bytes space.old) (λ m s. row_lnr m s code.now) cpu.new (P.bytes space.new) result }
+{
+    set_result(cpu, code.r1(), -magnitude(signed(cpu.reg(code.r2()))))
+}
+
+/// LA.
+pub fn load_address<P: Space>(cpu: &mut Cpu, space: &mut P, code: &Code) -> Next
+    ensures memory { P.memory space.new ≡ P.memory space.old }
+    ensures row { Performs (P.memory space.old) cpu.old (P.bytes space.old) (λ m s. row_la m s code.now) cpu.new (P.bytes space.new) result }
+{
+    load(cpu, code.r1(), address(cpu, code).get())
+}
+
+/// ST.
+pub fn store_word<P: Space>(cpu: &mut Cpu, space: &mut P, code: &Code) -> Next
+    ensures memory { P.memory space.new ≡ P.memory space.old }
+    ensures row { Performs (P.memory space.old) cpu.old (P.bytes space.old) (λ m s. row_st m s code.now) cpu.new (P.bytes space.new) result }
+{
+    let at = address(cpu, code);
+    if let Err(e) = test_store(space, at, 4) {
+        return Next::Ended(e);
+    }
+    put_word(space, at, 0, 4, cpu.reg(code.r1()));
+    Next::On
+}
+
+/// STH.
+pub fn store_half<P: Space>(cpu: &mut Cpu, space: &mut P, code: &Code) -> Next
+    ensures memory { P.memory space.new ≡ P.memory space.old }
+    ensures row { Performs (P.memory space.old) cpu.old (P.bytes space.old) (λ m s. row_sth m s code.now) cpu.new (P.bytes space.new) result }
+{
+    let at = address(cpu, code);
+    if let Err(e) = test_store(space, at, 2) {
+        return Next::Ended(e);
+    }
+    put_half(space, at, 0, 2, cpu.reg(code.r1()));
+    Next::On
+}

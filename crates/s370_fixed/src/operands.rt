@@ -1,0 +1,73 @@
+//! The second operand of an operation, tested and read, and what operations do with a result.
+ghost use Rattle.std.specs.Prelude.{◌≡◌, ℕ, ◌<◌, ◌≤◌, ◌^◌, List, [], ◌∷◌, ℤ, pos, neg_ℤ, ◌≤ℤ◌, ◌<ℤ◌, IfOk, IfErr, None, Some, if◌then◌else◌, slice_set};
+ghost use Rattle.s370_state.specs.Row.{reads, use_tests, next_after};
+ghost use Rattle.s370_state.specs.Words.{number_at, signed_half, low_word, is_word, sign_code};
+ghost use Rattle.s370_decode.specs.Fields.{ex};
+
+use cov_base::Addr;
+use s370_decode::Code;
+use s370_state::{
+    Cpu, Ending, Next, Space, half_of, is_word, low_word, next_after, sign_code, signed_half,
+    test_read, word_of,
+};
+
+/// The second operand's address in the RX format.
+pub fn address(cpu: &Cpu, code: &Code) -> Addr
+    ensures { result ≡ ex cpu.now code.now }
+{
+    cpu.address(code.b2(), code.x2(), code.d2())
+}
+
+/// The word at the second operand's address.
+pub fn word<P: Space>(cpu: &Cpu, space: &P, code: &Code) -> Result<u32, Ending>
+    ensures refused { IfErr result (λ e. use_tests (P.memory space.now) (reads (ex cpu.now code.now) 4 ∷ []) ≡ Some e) }
+    ensures passed { IfOk result (λ _. use_tests (P.memory space.now) (reads (ex cpu.now code.now) 4 ∷ []) ≡ None) }
+    ensures value { IfOk result (λ v. v ≡ number_at (P.memory space.now) (P.bytes space.now) (ex cpu.now code.now) 4) }
+{
+    let at = address(cpu, code);
+    match test_read(space, at, 4) {
+        Ok(()) => Ok(word_of(space, at, 0, 4)),
+        Err(e) => Err(e),
+    }
+}
+
+/// The halfword there, extended by its sign.
+pub fn half<P: Space>(cpu: &Cpu, space: &P, code: &Code) -> Result<i64, Ending>
+    ensures refused { IfErr result (λ e. use_tests (P.memory space.now) (reads (ex cpu.now code.now) 2 ∷ []) ≡ Some e) }
+    ensures passed { IfOk result (λ _. use_tests (P.memory space.now) (reads (ex cpu.now code.now) 2 ∷ []) ≡ None) }
+    ensures value { IfOk result (λ z. z ≡ signed_half (number_at (P.memory space.now) (P.bytes space.now) (ex cpu.now code.now) 2)) }
+    ensures low { IfOk result (λ z. neg_ℤ (pos 32768) ≤ℤ z) }
+    ensures high { IfOk result (λ z. z <ℤ pos 32768) }
+{
+    let at = address(cpu, code);
+    match test_read(space, at, 2) {
+        Ok(()) => Ok(signed_half(half_of(space, at, 0, 2))),
+        Err(e) => Err(e),
+    }
+}
+
+/// The word goes to the register.
+pub fn load(cpu: &mut Cpu, r: u8, v: u32) -> Next
+    requires { r < 16 }
+    ensures cpu { cpu.new ≡ record cpu.old { regs = slice_set cpu.old.regs r v } }
+    ensures next { result ≡ Next.On }
+{
+    cpu.set_reg(r, v);
+    Next::On
+}
+
+/// The signed result goes to the register, with its condition code; overflow is code 8.
+pub fn set_result(cpu: &mut Cpu, r: u8, z: i64) -> Next
+    requires { r < 16 }
+    ensures cpu { cpu.new ≡ record cpu.old { regs = slice_set cpu.old.regs r (low_word z); condition = if is_word z then sign_code z else 3 } }
+    ensures next { result ≡ next_after cpu.old.mask (if is_word z then 0 else 8) }
+{
+    cpu.set_reg(r, low_word(z));
+    if is_word(z) {
+        cpu.set_cc(sign_code(z));
+        next_after(cpu.mask(), 0)
+    } else {
+        cpu.set_cc(3);
+        next_after(cpu.mask(), 8)
+    }
+}
