@@ -5,3 +5,4 @@ pub mod FaultLemmas
 pub mod Passes
 pub mod TabledLemmas
 pub mod AtLemmas
+pub mod OwnPlaces

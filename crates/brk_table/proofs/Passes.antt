@@ -29,7 +29,7 @@ sound_take lines i l h k d b =
     let e = length-take-le i lines (omega arith) in
     rw (get_or-take i lines k d (omega arith)) (h k d (omega arith))
 
-next_fault : (bytes : List ℕ) (room : ℕ) (lines : List Line) (i : ℕ) → i < length lines
+pub next_fault : (bytes : List ℕ) (room : ℕ) (lines : List Line) (i : ℕ) → i < length lines
     → first_fault bytes room (take i lines) (drop i lines) ≡ or_fault (fault_at bytes room (take i lines) (get_or lines i Text)) (first_fault bytes room (take (i + 1) lines) (drop (i + 1) lines))
 next_fault bytes room lines i l = rw (drop_more lines i Text l, take_more lines i Text l) refl
 

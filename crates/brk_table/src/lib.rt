@@ -7,6 +7,8 @@ mod fault;
 mod faults;
 mod places;
 mod tables;
+#[cfg(test)]
+mod tests;
 
 pub use builder::build;
 pub use faults::BuildFault;
