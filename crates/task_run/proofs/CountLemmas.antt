@@ -1,5 +1,5 @@
 -- The facts of the places' sets are no more than those of all sets.
-use Rattle.std.proofs.Common.{◌≡◌, ◌≢◌, ℕ, ◌+◌, ◌-◌, ◌*◌, ◌<◌, ◌≤◌, zero, suc, Bool, true, false, if◌then◌else◌, nat_lt, List, length, get_or, inl, inr, refl, sym, ◌∙◌, ap, subst, arith}
+use Rattle.std.proofs.Common.{◌≡◌, ◌≢◌, ℕ, ◌+◌, ◌*◌, ◌<◌, ◌≤◌, zero, suc, Bool, true, if◌then◌else◌, nat_lt, List, length, get_or, inl, inr, refl, sym, ◌∙◌, ap, arith}
 use Rattle.std.proofs.Math.ListN.{set, length-set}
 use Rattle.std.specs.List.{sum_by}
 use Rattle.std.proofs.lemmas.Bool.{cases_Bool, ltb-true}
@@ -82,8 +82,8 @@ facts_below-most plan notes finals is sets =
     let sum = cleared_sum finals.sets at used (length plan.places)
     (λ p lt u. rw size (index_below finals.places plan.sessions (window_at plan p) p (ltb-true 0 (window_at plan p) u) (is.in_range p lt) (there p lt)))
     (λ q p lt top u v e.
-        let same = (same_index finals.places (window_at plan p) p (window_at plan q) q (ltb-true 0 (window_at plan p) v) (ltb-true 0 (window_at plan q) u) (there p top) (there q (omega arith)) e).1 in
-        omega arith) in
+    let same = (same_index finals.places (window_at plan p) p (window_at plan q) q (ltb-true 0 (window_at plan p) v) (ltb-true 0 (window_at plan q) u) (there p top) (there q (omega arith)) e).1 in
+    omega arith) in
     omega (arith, sum, facts_below-picked plan finals (length plan.places))
 
 -- the facts that the trace shows at the first n places with a whole session
