@@ -26,6 +26,19 @@ pub enum Met {
     Trap(PlaceNo, Cell, u16),
 }
 
+impl Met {
+    /// The original halfword.
+    pub fn original(&self) -> u16
+        ensures { result ≡ half_of self.now }
+    {
+        match self {
+            Met::Plain(half) => *half,
+            Met::Free(_, half) => *half,
+            Met::Trap(_, _, half) => *half,
+        }
+    }
+}
+
 fn is_breakpoint(cell: Cell) -> bool
     ensures { result ≡ nat_eq cell.half breakpoint }
 {
