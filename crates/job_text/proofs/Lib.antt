@@ -7,6 +7,7 @@ pub mod Guards
 pub mod Jobs
 pub mod Joined
 pub mod Kept
+pub mod Laws
 pub mod LineLemmas
 pub mod Numbers
 pub mod Progresses

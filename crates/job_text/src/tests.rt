@@ -33,15 +33,13 @@ fn bad_line(alloc: Global, input: &[u8]) -> u32 {
 /// The job with what stands in place of line `at` and its LF.
 fn with_line(alloc: Global, at: usize, text: &[u8]) -> Result<Vec<u8>, AllocError> {
     let mut input = Vec::new(alloc);
-    let mut n: usize = 0;
-    for line in LINES {
+    for n in 0..12 {
         if n + 1 == at {
             input.extend_from_slice(text)?;
         } else {
-            input.extend_from_slice(line)?;
+            input.extend_from_slice(LINES[n])?;
             input.push(b'\n')?;
         }
-        n += 1;
     }
     Ok(input)
 }
@@ -70,8 +68,8 @@ fn reads_the_job(rt: HostRuntime) -> Result<(), Fail> {
 #[test]
 fn refuses_lines_that_are_missing_or_doubled(rt: HostRuntime) -> Result<(), Fail> {
     let a = rt.alloc();
-    let mut n: usize = 0;
-    for line in LINES {
+    for n in 0..12 {
+        let line = LINES[n];
         let missing = with_line(a, n + 1, b"")?;
         assert_eq!(rt; bad_line(a, &missing), n as u32 + 1);
         let mut twice = line.to_vec(a)?;
@@ -80,7 +78,6 @@ fn refuses_lines_that_are_missing_or_doubled(rt: HostRuntime) -> Result<(), Fail
         twice.push(b'\n')?;
         let doubled = with_line(a, n + 1, &twice)?;
         assert_eq!(rt; bad_line(a, &doubled), n as u32 + 2);
-        n += 1;
     }
     Ok(())
 }
@@ -179,8 +176,9 @@ fn takes_a_last_line_without_its_end(rt: HostRuntime) -> Result<(), Fail> {
     let whole = with_line(a, 12, b"ENDJOB")?;
     assert_eq!(rt; bad_line(a, &whole), 0);
     let mut input = Vec::new(a);
-    let mut n: u32 = 0;
-    for line in LINES {
+    for i in 0..12 {
+        let n = i as u32;
+        let line = LINES[i];
         for k in 1..line.len() {
             let mut cut = input.to_vec(a)?;
             cut.extend_from_slice(&line[..k])?;
@@ -196,7 +194,6 @@ fn takes_a_last_line_without_its_end(rt: HostRuntime) -> Result<(), Fail> {
         assert_eq!(rt; bad_line(a, &odd), n + 1);
         input.push(b'\n')?;
         assert_eq!(rt; bad_line(a, &input), if n == 11 { 0 } else { n + 2 });
-        n += 1;
     }
     Ok(())
 }
