@@ -2,3 +2,4 @@ pub mod Wide
 pub mod Powers
 pub mod Registers
 pub mod Digits
+pub mod Ranges

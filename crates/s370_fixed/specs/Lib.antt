@@ -6,3 +6,4 @@ pub mod Products
 pub mod Shifts
 pub mod Conversions
 pub mod Fixed
+pub mod Plain

@@ -11,3 +11,6 @@ mod sums;
 mod table;
 
 pub use table::fixed;
+
+#[cfg(test)]
+mod tests;
