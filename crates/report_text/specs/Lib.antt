@@ -1,0 +1,6 @@
+pub mod Conditions
+pub mod Report
+pub mod Sessions
+pub mod Tasks
+pub mod Text
+pub mod Writes

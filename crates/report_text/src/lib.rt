@@ -1,0 +1,9 @@
+//! The report's text: what each task has come to, and what each session's executions show of its modules.
+#![tactic(auto)]
+
+
+mod tasks;
+mod words;
+mod writing;
+
+
