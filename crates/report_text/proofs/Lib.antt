@@ -1,2 +1,4 @@
 pub mod WriteLemmas
 pub mod RowLemmas
+pub mod FirstRowLemmas
+pub mod JobLemmas

@@ -93,3 +93,7 @@ progress_exit {T} {E} {U} old mid new before f g (Err d) e piece left all fails 
 -- the lines that are left, said another way
 pub progress_at : (old now : Option (List ℕ)) (before faults : ℕ) (left same all : List (List ℕ)) → left ≡ same → Progress old now before faults left all → Progress old now before faults same all
 progress_at old now before faults left same all is p = subst (λ ls. Progress old now before faults ls all) is p
+
+-- no lines
+pub writes_none : {T E : Type 0} (now : Option (List ℕ)) (faults : ℕ) (u : T) → Writes {T = T} {E = E} now now faults faults (Ok u) []
+writes_none now faults u = record { whole = Appends-nil now; some = tt; cause = record { later = omega arith; same = refl; failed = tt } }

@@ -21,9 +21,9 @@ session_part job tables sets s = session_lines job tables (sets s) (session_of j
 abbrev pub report_lines : JobView → TablesView → (ℕ → ResultView) → (ℕ → ℕ → FactSet) → List (List ℕ)
 report_lines job tables results sets =
     codes "COVERAGE REPORT"
-    ∷ lines_from (task_part job results) 0 (length job.tasks)
-    ++ lines_from (session_part job tables sets) 1 (length job.sessions)
-    ++ codes "END" ∷ []
+    ∷ (lines_from (task_part job results) 0 (length job.tasks)
+    ++ (lines_from (session_part job tables sets) 1 (length job.sessions)
+    ++ (codes "END" ∷ [])))
 
 abbrev pub report_of : JobView → TablesView → (ℕ → ResultView) → (ℕ → ℕ → FactSet) → List ℕ
 report_of job tables results sets = text_of (report_lines job tables results sets)

@@ -80,8 +80,8 @@ count_line name places sets n count =
 abbrev pub module_lines : JobView → TablesView → (ℕ → FactSet) → ℕ → List (List ℕ)
 module_lines job tables sets m =
     count_line (module_of job m).name tables.places sets (first_place tables.tables m) (place_count tables.tables m)
-    ∷ listing_lines (λ k. line_mark tables.places sets (place_at_line tables.tables m k)) (get_or job.listings m None)
-    ++ run_lines job tables.places sets false (first_place tables.tables m) (place_count tables.tables m)
+    ∷ (listing_lines (λ k. line_mark tables.places sets (place_at_line tables.tables m k)) (get_or job.listings m None)
+    ++ run_lines job tables.places sets false (first_place tables.tables m) (place_count tables.tables m))
 
 abbrev pub session_line : JobView → SessionView → List ℕ
 session_line job s = codes "SESSION " ++ unpadded s.name ++ codes " PHASE " ++ unpadded (get_or job.phases s.phase [])

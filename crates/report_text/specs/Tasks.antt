@@ -55,4 +55,4 @@ unfoldable pub storage_lines : List ℕ → List ℕ → List (List ℕ)
 storage_lines first now = lines_from (λ n. row_lines (16 * n) (row_of 16 first n) (row_of 16 now n)) 0 (row_count 16 now)
 
 abbrev pub task_lines : TaskView → ResultView → List (List ℕ)
-task_lines t r = state_lines t.name r.ending r.done r.cpu ++ output_lines r.output ++ storage_lines (first_bytes t.private t.cards) r.bytes
+task_lines t r = state_lines t.name r.ending r.done r.cpu ++ (output_lines r.output ++ storage_lines (first_bytes t.private t.cards) r.bytes)

@@ -2,8 +2,11 @@
 #![tactic(auto)]
 
 
+mod storage;
 mod tasks;
 mod words;
 mod writing;
+
+pub use tasks::task_part;
 
 

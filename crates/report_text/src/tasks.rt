@@ -11,14 +11,15 @@ ghost use Rattle.report_text.specs.Tasks.{task_line, register_line, output_row, 
 ghost use Rattle.report_text.specs.Text.{hex_bytes, text_of, row_of, row_count, lines_from};
 ghost use Rattle.report_text.specs.Writes.{Writes};
 
+use crate::storage::storage_part;
 use crate::words::{add_bytes, add_ending, add_name, add_registers};
 use crate::writing::put;
-use annotator::text::{add_hex, add_number, add_text};
+use annotator::text::{add_number, add_text};
 use arrayvec::ArrayVec;
 use cov_base::{Name, TaskNo};
 use cov_outside::{Failed, Sink};
 use s370_state::{Cpu, Ending};
-use session_book::{Job, Results, TaskCard};
+use session_book::{Job, Results};
 
 /// The name, the ending, the number of instructions done and the condition code of a task.
 #[tactic(auto, unfolding(crate::specs::Tasks::task_line))]
@@ -79,22 +80,6 @@ fn bytes_line(bytes: &[u8]) -> ArrayVec<u8, 160>
     line
 }
 
-/// A row of private storage and its address.
-#[tactic(auto, unfolding(crate::specs::Tasks::storage_line))]
-fn storage_line(at: u32, row: &[u8]) -> ArrayVec<u8, 160>
-    requires at { at < 16777216 }
-    requires row { length row.now ≤ 16 }
-    ensures { result.items ≡ storage_line at row.now ++ 10 ∷ [] }
-{
-    let mut line = ArrayVec::new();
-    add_text(&mut line, b"STOR ");
-    add_hex(&mut line, at, 6);
-    add_text(&mut line, b" ");
-    add_bytes(&mut line, row);
-    line.push(b'\n');
-    line
-}
-
 /// Registers 8 to 15.
 fn high(regs: &[u32]) -> &[u32]
     requires { 8 ≤ length regs.now }
@@ -145,4 +130,38 @@ fn output_part<K: Sink>(sink: &mut K, output: &[u8]) -> Result<(), Failed>
 {
     put(sink, output_line(output.len()))?;
     output_rows(sink, output)
+}
+
+/// What has become of a task of the job: its ending, the instructions done, its condition code and registers, its
+/// output, and the rows of its private storage that have changed. Failed only where the sink's count of faults rose;
+/// the sink has then taken a part. Takes no memory.
+pub fn task_part<K: Sink, R: Results>(
+    sink: &mut K,
+    job: &Job,
+    results: &R,
+    t: TaskNo,
+) -> Result<(), Failed>
+    requires task { t.0 < length job.now.tasks }
+    requires results { AreResultsOf job.now (R.tasks results.now) (R.result_of results.now) }
+    ensures whole { OnOk result (Appends (K.written sink.old) (K.written sink.new) (text_of (task_part job.now (R.result_of results.now) t.0))) }
+    ensures some { OnErr result (AppendsSome (K.written sink.old) (K.written sink.new) (text_of (task_part job.now (R.result_of results.now) t.0))) }
+    ensures cause { HasCause (K.faults sink.old) (K.faults sink.new) result }
+{
+    task_text(sink, job, results, t)
+}
+
+fn task_text<K: Sink, R: Results>(
+    sink: &mut K,
+    job: &Job,
+    results: &R,
+    t: TaskNo,
+) -> Result<(), Failed>
+    requires task { t.0 < length job.now.tasks }
+    requires results { AreResultsOf job.now (R.tasks results.now) (R.result_of results.now) }
+    ensures { Writes (K.written sink.old) (K.written sink.new) (K.faults sink.old) (K.faults sink.new) result (task_part job.now (R.result_of results.now) t.0) }
+{
+    let task = &job.tasks[t.0 as usize];
+    state_part(sink, &task.name, results.ending(t), results.done(t), results.cpu(t))?;
+    output_part(sink, results.output(t))?;
+    storage_part(sink, task, results, t)
 }
