@@ -64,7 +64,7 @@ abbrev pub run_lines : JobView → List Place → (ℕ → FactSet) → Bool →
 run_lines job places sets before n zero = []
 run_lines job places sets before n (suc count) =
     if lacks (sets n) then (if before then run_lines job places sets true (n + 1) count else
-        run_line (location_of job (place_of places n)) (run_end job places sets (last_byte_of job (place_of places n)) (n + 1) count) ∷ run_lines job places sets true (n + 1) count)
+    run_line (location_of job (place_of places n)) (run_end job places sets (last_byte_of job (place_of places n)) (n + 1) count) ∷ run_lines job places sets true (n + 1) count)
     else run_lines job places sets false (n + 1) count
 
 -- places, places with a fact, facts, and the facts of full sets

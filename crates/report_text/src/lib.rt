@@ -1,12 +1,9 @@
 //! The report's text: what each task has come to, and what each session's executions show of its modules.
 #![tactic(auto)]
 
-
 mod storage;
 mod tasks;
 mod words;
 mod writing;
 
 pub use tasks::task_part;
-
-

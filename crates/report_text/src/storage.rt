@@ -1,7 +1,7 @@
 //! Private storage, row by row.
-ghost use Rattle.std.specs.Prelude.{◌≡◌, ℕ, ◌+◌, ◌-◌, ◌*◌, ◌<◌, ◌≤◌, ◌++◌, ◌∷◌, [], List, length, min, not, bytes_eq};
-ghost use Rattle.module_area.specs.Views.{first_bytes, store_bytes};
-ghost use Rattle.report_text.specs.FirstRows.{byte_after, IsPartOf};
+ghost use Rattle.std.specs.Prelude.{◌≡◌, ℕ, ◌+◌, ◌-◌, ◌*◌, ◌<◌, ◌≤◌, ◌++◌, ◌∷◌, [], List, length, min, not, bytes_eq, All};
+ghost use Rattle.module_area.specs.Views.{first_bytes, with_card};
+ghost use Rattle.report_text.specs.FirstRows.{byte_after, IsPartOf, FitsIn};
 ghost use Rattle.report_text.specs.Tasks.{storage_line, row_lines, storage_lines};
 ghost use Rattle.report_text.specs.Text.{row_of, row_count, lines_from};
 ghost use Rattle.report_text.specs.Writes.{Writes};
@@ -47,7 +47,7 @@ fn byte_after(card: &DataCard, at: usize, old: u8) -> u8
 /// The bytes from an address on, once the card's bytes are stored.
 fn put_card(row: &mut [u8], from: usize, card: &DataCard)
     requires { from + length row.old ≤ 16777216 }
-    ensures { (bytes : List ℕ) → IsPartOf row.old bytes from → IsPartOf row.new (store_bytes bytes card.now.offset card.now.bytes) from }
+    ensures { (bytes : List ℕ) → FitsIn (length bytes) card.now → IsPartOf row.old bytes from → IsPartOf row.new (with_card bytes card.now) from }
 {
     for k in 0..row.len() {
         row[k] = byte_after(card, from + k, row[k]);
@@ -56,7 +56,8 @@ fn put_card(row: &mut [u8], from: usize, card: &DataCard)
 
 /// Row n of a task's private storage as the task begins.
 fn first_row(task: &TaskCard, n: u32) -> [u8; 16]
-    requires { n ≤ 65536 }
+    requires row { n ≤ 65536 }
+    requires cards { All (FitsIn task.now.private) task.now.cards }
     ensures { IsPartOf result (first_bytes task.now.private task.now.cards) (16 * n) }
 {
     let from = 16 * n as usize;
@@ -71,6 +72,7 @@ fn first_row(task: &TaskCard, n: u32) -> [u8; 16]
 fn is_changed(task: &TaskCard, now: &[u8], n: u32) -> bool
     requires exists { 16 * n < task.now.private }
     requires most { task.now.private ≤ 1048576 }
+    requires cards { All (FitsIn task.now.private) task.now.cards }
     requires row { length now.now ≡ min (16 * n + 16) task.now.private - 16 * n }
     ensures { result ≡ not (bytes_eq (row_of 16 (first_bytes task.now.private task.now.cards) n) now.now) }
 {
@@ -79,14 +81,10 @@ fn is_changed(task: &TaskCard, now: &[u8], n: u32) -> bool
 }
 
 /// A row where it has changed.
-fn storage_row<K: Sink>(
-    sink: &mut K,
-    task: &TaskCard,
-    now: &[u8],
-    n: u32,
-) -> Result<(), Failed>
+fn storage_row<K: Sink>(sink: &mut K, task: &TaskCard, now: &[u8], n: u32) -> Result<(), Failed>
     requires exists { 16 * n < task.now.private }
     requires most { task.now.private ≤ 1048576 }
+    requires cards { All (FitsIn task.now.private) task.now.cards }
     requires row { length now.now ≡ min (16 * n + 16) task.now.private - 16 * n }
     ensures { Writes (K.written sink.old) (K.written sink.new) (K.faults sink.old) (K.faults sink.new) result (row_lines (16 * n) (row_of 16 (first_bytes task.now.private task.now.cards) n) now.now) }
 {
@@ -106,6 +104,7 @@ pub fn storage_part<K: Sink, R: Results>(
 ) -> Result<(), Failed>
     requires task { t.0 < R.tasks results.now }
     requires most { task.now.private ≤ 1048576 }
+    requires cards { All (FitsIn task.now.private) task.now.cards }
     requires size { length (R.result_of results.now t.0).bytes ≡ task.now.private }
     ensures { Writes (K.written sink.old) (K.written sink.new) (K.faults sink.old) (K.faults sink.new) result (storage_lines (first_bytes task.now.private task.now.cards) (R.result_of results.now t.0).bytes) }
 {

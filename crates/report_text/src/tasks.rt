@@ -23,12 +23,7 @@ use session_book::{Job, Results};
 
 /// The name, the ending, the number of instructions done and the condition code of a task.
 #[tactic(auto, unfolding(crate::specs::Tasks::task_line))]
-fn task_line(
-    name: &Name,
-    ending: Option<Ending>,
-    done: u32,
-    condition: u8,
-) -> ArrayVec<u8, 160>
+fn task_line(name: &Name, ending: Option<Ending>, done: u32, condition: u8) -> ArrayVec<u8, 160>
     ensures { result.items ≡ task_line name.now ending done condition ++ 10 ∷ [] }
 {
     let mut line = ArrayVec::new();
@@ -161,7 +156,13 @@ fn task_text<K: Sink, R: Results>(
     ensures { Writes (K.written sink.old) (K.written sink.new) (K.faults sink.old) (K.faults sink.new) result (task_part job.now (R.result_of results.now) t.0) }
 {
     let task = &job.tasks[t.0 as usize];
-    state_part(sink, &task.name, results.ending(t), results.done(t), results.cpu(t))?;
+    state_part(
+        sink,
+        &task.name,
+        results.ending(t),
+        results.done(t),
+        results.cpu(t),
+    )?;
     output_part(sink, results.output(t))?;
     storage_part(sink, task, results, t)
 }

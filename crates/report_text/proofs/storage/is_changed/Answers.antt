@@ -8,5 +8,5 @@ pub returns : goal.returns
 returns c =
     let task = c.args.task.now in
     let row : take (length c.args.now.now) c.first_row-first.result ≡ row_of 16 (first_bytes task.private task.cards) c.args.n =
-        part_row c.first_row-first.result task.private task.cards c.args.n (length c.args.now.now) (search rules) c.first_row-first.ensures c.requires.exists c.requires.row in
+    part_row c.first_row-first.result task.private task.cards c.args.n (length c.args.now.now) c.requires.cards (search rules) c.first_row-first.ensures c.requires.exists c.requires.row in
     c.ne.ensures ∙ ap (λ (part : List ℕ). not (bytes_eq part c.args.now.now)) row
