@@ -1,5 +1,5 @@
 -- What a report needs of tables, results and sets.
-use Rattle.std.specs.Prelude.{◌≡◌, ℕ, ◌+◌, ◌<◌, ◌≤◌, true, List, length, All}
+use Rattle.std.specs.Prelude.{◌≡◌, ℕ, ◌+◌, ◌<◌, ◌≤◌, true, List, length, All, IfSome}
 use Rattle.cov_base.specs.FactSet.{FactSet}
 use Rattle.cov_base.specs.Facts.{is_within}
 use Rattle.module_area.specs.PlanView.{place_of}
@@ -8,9 +8,10 @@ use Rattle.session_book.specs.JobView.{JobView, SessionView}
 use Rattle.session_book.specs.Results.{ResultView}
 use Rattle.session_book.specs.Sessions.{session_of, task_of}
 
--- each place lies in its module
+-- each place lies in its module, and lines of listings have numbers
 pub record AreTablesOf (job : JobView) (tables : TablesView) : Type 0 where
   pub within : All (IsIn job.images) tables.places
+  pub lines : All (λ listing. IfSome listing (λ lines. length lines ≤ 16777216)) job.listings
 
 -- one for each task of the job, with private storage of its card's size
 pub record AreResultsOf (job : JobView) (tasks : ℕ) (results : ℕ → ResultView) : Type 0 where

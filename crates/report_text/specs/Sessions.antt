@@ -16,6 +16,7 @@ use Rattle.module_area.specs.declared.places.Place.{Place}
 use Rattle.brk_table.specs.Places.{TablesView, first_place, place_count, place_at_line}
 use Rattle.session_book.specs.JobView.{JobView, SessionView}
 use Rattle.session_book.specs.Sessions.{session_of}
+use Rattle.report_text.specs.declared.sessions.Run.{Run}
 use Rattle.report_text.specs.Text.{sum_from}
 
 abbrev pub no_module : ImageView
@@ -55,8 +56,13 @@ abbrev pub run_end : JobView → List Place → (ℕ → FactSet) → ℕ → �
 run_end job places sets last n zero = last
 run_end job places sets last n (suc count) = if lacks (sets n) then run_end job places sets (last_byte_of job (place_of places n)) (n + 1) count else last
 
-abbrev pub run_line : ℕ → ℕ → List ℕ
+unfoldable pub run_line : ℕ → ℕ → List ℕ
 run_line first last = codes "NOT EXECUTED " ++ hex_digits 6 first ++ codes "-" ++ hex_digits 6 last
+
+-- of a run that has come to its end, where there is one
+abbrev pub open_run : Option Run → List (List ℕ)
+open_run None = []
+open_run (Some run) = run_line run.from run.last ∷ []
 
 -- the longest runs of places without facts, of so many places from n on: a run begins at a place that lacks facts
 -- where the one before it, if any, has some
@@ -67,25 +73,34 @@ run_lines job places sets before n (suc count) =
     run_line (location_of job (place_of places n)) (run_end job places sets (last_byte_of job (place_of places n)) (n + 1) count) ∷ run_lines job places sets true (n + 1) count)
     else run_lines job places sets false (n + 1) count
 
--- places, places with a fact, facts, and the facts of full sets
-abbrev pub count_line : List ℕ → List Place → (ℕ → FactSet) → ℕ → ℕ → List ℕ
-count_line name places sets n count =
-    codes "MODULE " ++ unpadded name
-    ++ codes " PLACES " ++ decimal count
-    ++ codes " EXECUTED " ++ decimal (sum_from (λ p. if lacks (sets p) then 0 else 1) n count)
-    ++ codes " FACTS " ++ decimal (sum_from (λ p. fact_count (sets p)) n count)
-    ++ codes " OF " ++ decimal (sum_from (λ p. fact_count (full_of (place_of places p).kind)) n count)
+-- of a place: 1 where it has a fact, the facts that it has, and those that there can be
+abbrev pub executed_at : (ℕ → FactSet) → ℕ → ℕ
+executed_at sets n = if lacks (sets n) then 0 else 1
 
--- of module m, by the session's sets
-abbrev pub module_lines : JobView → TablesView → (ℕ → FactSet) → ℕ → List (List ℕ)
-module_lines job tables sets m =
-    count_line (module_of job m).name tables.places sets (first_place tables.tables m) (place_count tables.tables m)
+abbrev pub facts_at : (ℕ → FactSet) → ℕ → ℕ
+facts_at sets n = fact_count (sets n)
+
+abbrev pub possible_at : List Place → ℕ → ℕ
+possible_at places n = fact_count (full_of (place_of places n).kind)
+
+-- places, places with a fact, facts, and facts that there can be
+unfoldable pub count_line : List ℕ → ℕ → ℕ → ℕ → ℕ → List ℕ
+count_line name count executed facts possible =
+    codes "MODULE " ++ unpadded name ++ codes " PLACES " ++ decimal count ++ codes " EXECUTED " ++ decimal executed ++ codes " FACTS " ++ decimal facts ++ codes " OF " ++ decimal possible
+
+-- of a module, by the session's sets at its places, which are so many from the first on
+unfoldable pub module_part : JobView → TablesView → (ℕ → FactSet) → ℕ → ℕ → ℕ → List (List ℕ)
+module_part job tables sets m first count =
+    count_line (module_of job m).name count (sum_from (executed_at sets) first count) (sum_from (facts_at sets) first count) (sum_from (possible_at tables.places) first count)
     ∷ (listing_lines (λ k. line_mark tables.places sets (place_at_line tables.tables m k)) (get_or job.listings m None)
-    ++ run_lines job tables.places sets false (first_place tables.tables m) (place_count tables.tables m))
+    ++ run_lines job tables.places sets false first count)
 
-abbrev pub session_line : JobView → SessionView → List ℕ
-session_line job s = codes "SESSION " ++ unpadded s.name ++ codes " PHASE " ++ unpadded (get_or job.phases s.phase [])
+abbrev pub module_lines : JobView → TablesView → (ℕ → FactSet) → ℕ → List (List ℕ)
+module_lines job tables sets m = module_part job tables sets m (first_place tables.tables m) (place_count tables.tables m)
+
+unfoldable pub session_line : List ℕ → List ℕ → List ℕ
+session_line name phase = codes "SESSION " ++ unpadded name ++ codes " PHASE " ++ unpadded phase
 
 -- modules in the order of the card
 abbrev pub session_lines : JobView → TablesView → (ℕ → FactSet) → SessionView → List (List ℕ)
-session_lines job tables sets s = session_line job s ∷ flat_map (module_lines job tables sets) s.modules
+session_lines job tables sets s = session_line s.name (get_or job.phases s.phase []) ∷ flat_map (module_lines job tables sets) s.modules

@@ -1,6 +1,7 @@
 //! The report's text: what each task has come to, and what each session's executions show of its modules.
 #![tactic(auto)]
 
+mod sessions;
 mod storage;
 mod tasks;
 mod words;
