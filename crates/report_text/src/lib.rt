@@ -4,7 +4,10 @@
 mod sessions;
 mod storage;
 mod tasks;
+mod whole;
 mod words;
 mod writing;
 
+pub use sessions::session_part;
 pub use tasks::task_part;
+pub use whole::report;

@@ -1,5 +1,5 @@
 //! What a report says of a session.
-ghost use Rattle.std.specs.Prelude.{◌≡◌, ℕ, ◌+◌, ◌-◌, ◌*◌, ◌<◌, ◌≤◌, ◌++◌, ◌∷◌, [], length, codes, decimal, All, OnOk, OnErr, IfSome, unwrap_or, option_map, if◌then◌else◌, false};
+ghost use Rattle.std.specs.Prelude.{◌≡◌, ℕ, ◌+◌, ◌-◌, ◌*◌, ◌<◌, ◌≤◌, ◌++◌, ◌∷◌, [], length, codes, decimal, All, OnOk, OnErr, IfSome, unwrap_or, option_map, if◌then◌else◌, get_or, None, false};
 ghost use Rattle.std.specs.Io.KnownBytes.{Appends};
 ghost use Rattle.annotator.specs.Annotated.{annotated};
 ghost use Rattle.cov_outside.specs.Causes.{HasCause};
@@ -7,8 +7,12 @@ ghost use Rattle.cov_outside.specs.Whole.{AppendsSome};
 ghost use Rattle.cov_base.specs.Facts.{full_of};
 ghost use Rattle.module_area.specs.Counts.{fact_count};
 ghost use Rattle.brk_table.specs.Places.{IsIn, IsPlace, first_place, place_count, place_at_line};
+ghost use Rattle.session_book.specs.JobView.{IsSession};
+ghost use Rattle.session_book.specs.Sessions.{session_of};
 ghost use Rattle.report_text.specs.Conditions.{AreTablesOf, AreSetsOf, AreWithin};
-ghost use Rattle.report_text.specs.Sessions.{lacks, location_of, last_byte_of, line_mark, marked_lines, run_line, run_lines, executed_at, facts_at, possible_at, count_line, session_line, open_run};
+ghost use Rattle.report_text.specs.Sessions.{lacks, location_of, last_byte_of, line_mark, marked_lines, run_line, run_lines, executed_at, facts_at, possible_at, count_line, session_line, open_run, listing_lines, module_of, module_lines};
+ghost use Rattle.report_text.specs.Report.{session_part};
+ghost use Rattle.std.specs.List.{flat_map};
 ghost use Rattle.report_text.specs.Text.{sum_from, text_of};
 ghost use Rattle.report_text.specs.declared.sessions.Run.{Run};
 ghost use Rattle.report_text.specs.Writes.{Writes};
@@ -22,7 +26,7 @@ use brk_table::Tables;
 use cov_base::{Bits, Fact, Kind, Mark, Name, PlaceNo, SessNo, mark_of};
 use cov_outside::{Failed, Sink};
 use module_area::Place;
-use session_book::{FactSets, Job, Lines};
+use session_book::{FactSets, Job, Lines, Session};
 
 /// The names of a session and of its phase.
 #[tactic(auto, unfolding(crate::specs::Sessions::session_line))]
@@ -119,7 +123,9 @@ fn count_facts(set: Bits) -> u32
     ensures value { result ≡ fact_count set }
     ensures most { result ≤ 3 }
 {
-    u32::from(set.has(Fact::Ran)) + u32::from(set.has(Fact::Went)) + u32::from(set.has(Fact::Stayed))
+    u32::from(set.has(Fact::Ran))
+        + u32::from(set.has(Fact::Went))
+        + u32::from(set.has(Fact::Stayed))
 }
 
 /// The number of facts that there can be.
@@ -160,7 +166,6 @@ fn count<R: FactSets>(tables: &Tables, results: &R, s: SessNo, first: u32, past:
     requires size { R.places results.now ≡ length tables.now.places }
     requires range { first ≤ past }
     requires exist { past ≤ length tables.now.places }
-    requires most { past ≤ 65536 }
     ensures executed { result.executed ≡ sum_from (executed_at (R.set_of results.now s.0)) first (past - first) }
     ensures facts { result.facts ≡ sum_from (facts_at (R.set_of results.now s.0)) first (past - first) }
     ensures possible { result.possible ≡ sum_from (possible_at tables.now.places) first (past - first) }
@@ -171,10 +176,11 @@ fn count<R: FactSets>(tables: &Tables, results: &R, s: SessNo, first: u32, past:
         possible: 0,
     };
     for n in first..past {
+        let kind = tables.place(PlaceNo(n)).kind;
         let set = results.set(s, PlaceNo(n));
         counts.executed += count_executed(set);
         counts.facts += count_facts(set);
-        counts.possible += count_possible(tables.place(PlaceNo(n)).kind);
+        counts.possible += count_possible(kind);
     }
     counts
 }
@@ -280,4 +286,144 @@ fn runs_part<K: Sink, R: FactSets>(
         }
     }
     run_part(sink, run)
+}
+
+/// A module's name.
+fn module_name(job: &Job, m: u32) -> &Name
+    requires { m < length job.now.images }
+    ensures { result.now ≡ (module_of job.now m).name }
+{
+    &job.images.0[m as usize].name
+}
+
+/// The listing of a module with marks, where it has one.
+fn listing_text<K: Sink, R: FactSets>(
+    sink: &mut K,
+    job: &Job,
+    tables: &Tables,
+    results: &R,
+    s: SessNo,
+    m: u32,
+) -> Result<(), Failed>
+    requires module { m < length job.now.images }
+    requires tables { AreTablesOf job.now tables.now }
+    requires from { 0 < s.0 }
+    requires to { s.0 < R.sessions results.now + 1 }
+    requires size { R.places results.now ≡ length tables.now.places }
+    requires exist { first_place tables.now.tables m + place_count tables.now.tables m ≤ length tables.now.places }
+    requires within { AreWithin tables.now (R.set_of results.now s.0) m }
+    ensures { Writes (K.written sink.old) (K.written sink.new) (K.faults sink.old) (K.faults sink.new) result (listing_lines (λ k. line_mark tables.now.places (R.set_of results.now s.0) (place_at_line tables.now.tables m k)) (get_or job.now.listings m None)) }
+{
+    match &job.listings[m as usize] {
+        Some(lines) => listing_part(sink, lines, tables, results, s, m),
+        None => Ok(()),
+    }
+}
+
+/// A module's part: counts, listing and runs.
+fn module_text<K: Sink, R: FactSets>(
+    sink: &mut K,
+    job: &Job,
+    tables: &Tables,
+    results: &R,
+    s: SessNo,
+    m: u32,
+) -> Result<(), Failed>
+    requires module { m < length job.now.images }
+    requires tables { AreTablesOf job.now tables.now }
+    requires from { 0 < s.0 }
+    requires to { s.0 < R.sessions results.now + 1 }
+    requires size { R.places results.now ≡ length tables.now.places }
+    requires within { AreWithin tables.now (R.set_of results.now s.0) m }
+    ensures { Writes (K.written sink.old) (K.written sink.new) (K.faults sink.old) (K.faults sink.new) result (module_lines job.now tables.now (R.set_of results.now s.0) m) }
+{
+    let (first, past) = tables.range(m);
+    let counts = count(tables, results, s, first, past);
+    put(sink, count_line(module_name(job, m), past - first, counts))?;
+    listing_text(sink, job, tables, results, s, m)?;
+    runs_part(sink, job, tables, results, s, first, past)
+}
+
+/// The modules' parts, in the order of the session's card.
+fn modules_text<K: Sink, R: FactSets>(
+    sink: &mut K,
+    job: &Job,
+    tables: &Tables,
+    results: &R,
+    s: SessNo,
+    modules: &[u32],
+) -> Result<(), Failed>
+    requires modules { All (λ m. m < length job.now.images) modules.now }
+    requires tables { AreTablesOf job.now tables.now }
+    requires from { 0 < s.0 }
+    requires to { s.0 < R.sessions results.now + 1 }
+    requires size { R.places results.now ≡ length tables.now.places }
+    requires within { All (AreWithin tables.now (R.set_of results.now s.0)) modules.now }
+    ensures { Writes (K.written sink.old) (K.written sink.new) (K.faults sink.old) (K.faults sink.new) result (flat_map (module_lines job.now tables.now (R.set_of results.now s.0)) modules.now) }
+{
+    for m in modules {
+        module_text(sink, job, tables, results, s, *m)?;
+    }
+    Ok(())
+}
+
+/// A session of the job.
+fn session_at(job: &Job, s: SessNo) -> &Session
+    requires from { 0 < s.0 }
+    requires to { s.0 ≤ length job.now.sessions }
+    ensures value { result.now ≡ session_of job.now s.0 }
+    ensures is { IsSession (length job.now.images) (length job.now.phases) result.now }
+{
+    &job.sessions[s.0 as usize - 1]
+}
+
+/// A phase's name.
+fn phase_name(job: &Job, n: u32) -> &Name
+    requires { n < length job.now.phases }
+    ensures { result.now ≡ get_or job.now.phases n [] }
+{
+    &job.phases[n as usize]
+}
+
+/// A session's part.
+pub fn session_text<K: Sink, R: FactSets>(
+    sink: &mut K,
+    job: &Job,
+    tables: &Tables,
+    results: &R,
+    s: SessNo,
+) -> Result<(), Failed>
+    requires from { 0 < s.0 }
+    requires to { s.0 ≤ length job.now.sessions }
+    requires tables { AreTablesOf job.now tables.now }
+    requires sets { AreSetsOf job.now tables.now (R.sessions results.now) (R.places results.now) (R.set_of results.now) }
+    ensures { Writes (K.written sink.old) (K.written sink.new) (K.faults sink.old) (K.faults sink.new) result (session_part job.now tables.now (R.set_of results.now) s.0) }
+{
+    let session = session_at(job, s);
+    put(
+        sink,
+        session_line(&session.name, phase_name(job, session.phase)),
+    )?;
+    modules_text(sink, job, tables, results, s, &session.modules)
+}
+
+/// A session's part of the report: its names, and for each of its modules the counts, the listing with marks and the
+/// runs of places without facts. Failed only where the sink's count of faults rose; the sink has then taken a part.
+/// Takes no memory.
+pub fn session_part<K: Sink, R: FactSets>(
+    sink: &mut K,
+    job: &Job,
+    tables: &Tables,
+    results: &R,
+    s: SessNo,
+) -> Result<(), Failed>
+    requires from { 0 < s.0 }
+    requires to { s.0 ≤ length job.now.sessions }
+    requires tables { AreTablesOf job.now tables.now }
+    requires sets { AreSetsOf job.now tables.now (R.sessions results.now) (R.places results.now) (R.set_of results.now) }
+    ensures whole { OnOk result (Appends (K.written sink.old) (K.written sink.new) (text_of (session_part job.now tables.now (R.set_of results.now) s.0))) }
+    ensures some { OnErr result (AppendsSome (K.written sink.old) (K.written sink.new) (text_of (session_part job.now tables.now (R.set_of results.now) s.0))) }
+    ensures cause { HasCause (K.faults sink.old) (K.faults sink.new) result }
+{
+    session_text(sink, job, tables, results, s)
 }

@@ -127,25 +127,8 @@ fn output_part<K: Sink>(sink: &mut K, output: &[u8]) -> Result<(), Failed>
     output_rows(sink, output)
 }
 
-/// What has become of a task of the job: its ending, the instructions done, its condition code and registers, its
-/// output, and the rows of its private storage that have changed. Failed only where the sink's count of faults rose;
-/// the sink has then taken a part. Takes no memory.
-pub fn task_part<K: Sink, R: Results>(
-    sink: &mut K,
-    job: &Job,
-    results: &R,
-    t: TaskNo,
-) -> Result<(), Failed>
-    requires task { t.0 < length job.now.tasks }
-    requires results { AreResultsOf job.now (R.tasks results.now) (R.result_of results.now) }
-    ensures whole { OnOk result (Appends (K.written sink.old) (K.written sink.new) (text_of (task_part job.now (R.result_of results.now) t.0))) }
-    ensures some { OnErr result (AppendsSome (K.written sink.old) (K.written sink.new) (text_of (task_part job.now (R.result_of results.now) t.0))) }
-    ensures cause { HasCause (K.faults sink.old) (K.faults sink.new) result }
-{
-    task_text(sink, job, results, t)
-}
-
-fn task_text<K: Sink, R: Results>(
+/// A task's part.
+pub fn task_text<K: Sink, R: Results>(
     sink: &mut K,
     job: &Job,
     results: &R,
@@ -165,4 +148,22 @@ fn task_text<K: Sink, R: Results>(
     )?;
     output_part(sink, results.output(t))?;
     storage_part(sink, task, results, t)
+}
+
+/// What has become of a task of the job: its ending, the instructions done, its condition code and registers, its
+/// output, and the rows of its private storage that have changed. Failed only where the sink's count of faults rose;
+/// the sink has then taken a part. Takes no memory.
+pub fn task_part<K: Sink, R: Results>(
+    sink: &mut K,
+    job: &Job,
+    results: &R,
+    t: TaskNo,
+) -> Result<(), Failed>
+    requires task { t.0 < length job.now.tasks }
+    requires results { AreResultsOf job.now (R.tasks results.now) (R.result_of results.now) }
+    ensures whole { OnOk result (Appends (K.written sink.old) (K.written sink.new) (text_of (task_part job.now (R.result_of results.now) t.0))) }
+    ensures some { OnErr result (AppendsSome (K.written sink.old) (K.written sink.new) (text_of (task_part job.now (R.result_of results.now) t.0))) }
+    ensures cause { HasCause (K.faults sink.old) (K.faults sink.new) result }
+{
+    task_text(sink, job, results, t)
 }

@@ -18,20 +18,21 @@ loop-n-preserved g c =
     let places = c.args.tables.now.places in
     let n = c.loop-n.n in
     elim c.if-lacks.branch [
-        then-lacks w ↦ (let none : lacks (sets n) ≡ true = ap lacks (sym c.set.ensures) ∙ sym c.lacks.ensures ∙ w.if-lacks.true in
-            let more = runs-more c.args.job.now places sets c.loop-n.run w.with_place.result n c.args.past c.loop-n-test.true none (rw w.place.ensures.value at w.with_place.ensures.from) (rw w.place.ensures.value at w.with_place.ensures.last) in
-            rw (w.run-is, w.sink-is) (record {
-                from = w.with_place.ensures.low;
-                last = w.with_place.ensures.high;
-                lines = progress_at _ _ _ _ _ _ _ more c.loop-n.invariant.lines;
-            }))
+      | then-lacks w ↦ (let none : lacks (sets n) ≡ true = ap lacks (sym c.set.ensures) ∙ sym c.lacks.ensures ∙ w.if-lacks.true in
+          let more = runs-more c.args.job.now places sets c.loop-n.run w.with_place.result n c.args.past c.loop-n-test.true none (rw w.place.ensures.value at w.with_place.ensures.from) (rw w.place.ensures.value at w.with_place.ensures.last) in
+          rw (w.run-is, w.sink-is) (record {
+            from = w.with_place.ensures.low;
+            last = w.with_place.ensures.high;
+            lines = progress_at _ _ _ _ _ _ _ more c.loop-n.invariant.lines;
+          }))
       | else-lacks+in_ok-run_part w ↦ (let has : lacks (sets n) ≡ false = ap lacks (sym c.set.ensures) ∙ sym c.lacks.ensures ∙ w.if-lacks.false in
-            let closed = runs-closed c.args.job.now places sets c.loop-n.run n c.args.past c.loop-n-test.true has in
-            rw (w.run-is, w.sink-is) (record {
-                from = tt;
-                last = tt;
-                lines = progress_more _ _ _ _ _ _ _ _ _ _ w.in_ok-run_part.ensures (progress_at _ _ _ _ _ _ _ closed c.loop-n.invariant.lines);
-            })) ]
+          let closed = runs-closed c.args.job.now places sets c.loop-n.run n c.args.past c.loop-n-test.true has in
+          rw (w.run-is, w.sink-is) (record {
+            from = tt;
+            last = tt;
+            lines = progress_more _ _ _ _ _ _ _ _ _ _ w.in_ok-run_part.ensures (progress_at _ _ _ _ _ _ _ closed c.loop-n.invariant.lines);
+          }))
+    ]
 
 pub returns : goal.returns
 returns g c =
