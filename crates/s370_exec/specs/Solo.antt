@@ -85,10 +85,20 @@ unchanged s io next = record { machine = s; io = io; next = next }
 abbrev pub at_address : Machine → ℕ → Machine
 at_address s a = record { cpu = record { regs = s.cpu.regs; ia = a; condition = s.cpu.condition; mask = s.cpu.mask }; bytes = s.bytes }
 
+-- the endings by codes 8 and 10 come once the results are in place
+abbrev pub is_completed : Ending → Bool
+is_completed (Abend code) = if code == 8 then true else code == 10
+is_completed _ = false
+
+-- an ending leaves the instruction address as it is, but after the results it is the updated one
+abbrev pub ended_by : ℕ → IoView → Machine → Ending → Bool → Effect
+ended_by next io s e true = record { machine = at_address s next; io = io; next = Ended e }
+ended_by next io s e false = record { machine = s; io = io; next = Ended e }
+
 -- goes on at the updated address, unless the task has ended
 abbrev pub onward_by : ℕ → IoView → Machine → Next → Effect
 onward_by next io s On = record { machine = at_address s next; io = io; next = On }
-onward_by next io s (Ended e) = record { machine = s; io = io; next = Ended e }
+onward_by next io s (Ended e) = ended_by next io s e (is_completed e)
 
 abbrev pub onward : ℕ → IoView → After → Effect
 onward next io r = onward_by next io r.machine r.next

@@ -1,5 +1,5 @@
 -- Shifts as products and quotients by powers of two.
-use Rattle.std.proofs.Common.{◌≡◌, ℕ, ◌-◌, ◌*◌, ◌/◌, ◌%◌, ◌^◌, ◌<◌, ◌≤◌, refl, arith}
+use Rattle.std.proofs.Common.{◌≡◌, ℕ, ◌-◌, ◌*◌, ◌/◌, ◌%◌, ◌^◌, ◌<◌, ◌≤◌, arith}
 use Rattle.std.proofs.Math.Nat.{mod-eq_of_lt, div-le_self, mul-le-mul}
 use Rattle.std.proofs.Math.Pow.{pow_mono}
 

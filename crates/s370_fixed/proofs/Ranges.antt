@@ -1,8 +1,8 @@
 -- Ranges of bytes that are reached, stored and read one after the other.
-use Rattle.std.proofs.Common.{◌≡◌, ℕ, ◌+◌, ◌*◌, ◌%◌, ◌<◌, ◌≤◌, zero, suc, Bool, true, false, ◌&&◌, nat_lt, Option, Some, None, List, refl, add-one, arith, ap, sym, ◌∙◌, ◌⊎◌, inl, inr}
+use Rattle.std.proofs.Common.{◌≡◌, ℕ, ◌+◌, ◌<◌, zero, suc, Bool, true, false, ◌&&◌, Some, None, refl, add-one, arith, ◌⊎◌, inl, inr}
 use Rattle.s370_state.proofs.Tested.{reach_at}
 use Rattle.std.proofs.Common.{Ok, Err, if◌then◌else◌}
-use Rattle.cov_base.specs.Memory.{Memory, wrap, can_reach, can_store, first_touch, or_else, is_accessible, is_private}
+use Rattle.cov_base.specs.Memory.{Memory, wrap, can_reach, can_store, first_touch, is_accessible, is_private}
 
 last_or : (i n : ℕ) → i < suc n → (i ≡ n) ⊎ (i < n)
 last_or i n h = grind arith

@@ -1,5 +1,5 @@
 -- Products and quotients of 64 bits.
-use Rattle.std.proofs.Common.{◌≡◌, ℕ, ◌<◌, ◌≤◌, ◌*◌, ◌^◌, ℤ, pos, negsuc, neg_ℤ, ◌*ℤ◌, Bool, true, false, ◌&&◌, refl, sym, arith, lit<, FitsSigned, nat_lt}
+use Rattle.std.proofs.Common.{◌≡◌, ◌<◌, ◌≤◌, ◌^◌, ℤ, pos, negsuc, neg_ℤ, ◌*ℤ◌, Bool, true, false, ◌&&◌, refl, sym, arith, lit<, FitsSigned, nat_lt}
 use Rattle.std.specs.Prelude.{◌≤ℤ◌, ◌<ℤ◌}
 use Rattle.std.specs.Int.{w64, CanDivide, IsNonZero}
 use Rattle.std.specs.Int.RustNames.{int_div, unsigned_abs}

@@ -1,9 +1,9 @@
 -- The second operand of an operation, and the shapes of outcomes that operations share.
-use Rattle.std.specs.Prelude.{ℕ, Bool, true, if◌then◌else◌, List, [], ◌∷◌, ℤ}
+use Rattle.std.specs.Prelude.{ℕ, true, if◌then◌else◌, List, [], ◌∷◌, ℤ}
 use Rattle.cov_base.specs.States.{Machine}
 use Rattle.cov_base.specs.Memory.{Memory}
 use Rattle.s370_state.specs.Row.{Row, Outcome, Completes, Overflows, reads, reg, with_reg, with_cc, is_even}
-use Rattle.s370_state.specs.Words.{number_at, signed, signed_half, low_word, is_word, sign_code}
+use Rattle.s370_state.specs.Words.{number_at, signed_half, low_word, is_word, sign_code}
 use Rattle.s370_decode.specs.Fields.{r1, r2, ex}
 use Rattle.s370_decode.specs.declared.code.Code.{Code}
 

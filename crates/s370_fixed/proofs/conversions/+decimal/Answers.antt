@@ -1,4 +1,4 @@
-use Rattle.std.proofs.Common.{◌<◌, arith}
+use Rattle.std.proofs.Common.{arith}
 use Rattle.s370_fixed.proofs.Digits.{digit_fits, digit_more}
 use Rattle.s370_fixed.proofs.conversions.+decimal.Goals as goal
 

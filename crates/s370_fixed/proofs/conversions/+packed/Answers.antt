@@ -1,4 +1,4 @@
-use Rattle.std.proofs.Common.{◌<◌, arith}
+use Rattle.std.proofs.Common.{arith}
 use Rattle.s370_fixed.proofs.Digits.{half_fits, half_more}
 use Rattle.s370_fixed.proofs.conversions.+packed.Goals as goal
 

@@ -1,4 +1,4 @@
-use Rattle.std.proofs.Common.{◌≡◌, ℕ}
+use Rattle.std.proofs.Common.{◌≡◌}
 use Rattle.s370_fixed.specs.Multiple.{loaded}
 use Rattle.s370_fixed.proofs.multiple.load_words.Given as goal
 
