@@ -6,3 +6,4 @@ pub mod Passes
 pub mod TabledLemmas
 pub mod AtLemmas
 pub mod OwnPlaces
+pub mod Together
