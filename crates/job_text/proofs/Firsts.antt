@@ -1,5 +1,5 @@
 -- There is at most one first bad line, and none where the lines spell a job.
-use Rattle.std.proofs.Common.{◌≡◌, ℕ, ◌+◌, ◌-◌, ◌<◌, ◌≤◌, List, [], ◌∷◌, ◌++◌, length, take, drop, refl, ap, sym, ◌∙◌, arith, append_assoc, append-nil, ◌⊎◌, inl, inr, take-append-drop, zero, suc}
+use Rattle.std.proofs.Common.{◌≡◌, ℕ, ◌-◌, ◌<◌, ◌≤◌, List, [], ◌∷◌, ◌++◌, take, drop, refl, ap, arith, append_assoc, append-nil, inl, inr, take-append-drop, zero, suc}
 use Rattle.session_book.specs.JobView.{JobView}
 use Rattle.job_text.specs.Lines.{LineView}
 use Rattle.job_text.specs.First.{SpellsFirst, Begins, IsFirstBad}
@@ -18,23 +18,23 @@ take_less (suc m) (suc n) (l ∷ ls) h = ap (λ (x : List LineView). l ∷ x) (t
 
 pub begins_less : (ls : List LineView) (m n : ℕ) → m ≤ n → Begins (take n ls) → Begins (take m ls)
 begins_less ls m n h p =
-  let e : take m (take n ls) ≡ take m ls = take_less m n ls h in
-  rw (← e) (begins_take (take n ls) m p)
+    let e : take m (take n ls) ≡ take m ls = take_less m n ls h in
+    rw (← e) (begins_take (take n ls) m p)
 
 pub spelled_begins : (ls : List LineView) (job : JobView) → SpellsFirst ls job → Begins ls
 spelled_begins ls job s = record { rest = []; job = job; spells = rw append-nil s }
 
 pub never_bad : (ls : List LineView) (job : JobView) (n : ℕ) → SpellsFirst ls job → IsFirstBad ls n → ⊥
 never_bad ls job n s b = elim b.here [
-    inl w ↦ w.1 (begins_take ls n (spelled_begins ls job s))
+  | inl w ↦ w.1 (begins_take ls n (spelled_begins ls job s))
   | inr w ↦ w.1 job s
-  ]
+]
 
 -- no line before the first bad one is the first bad one
 pub not_before : (ls : List LineView) (m n : ℕ) → m < n → IsFirstBad ls m → IsFirstBad ls n → ⊥
 not_before ls m n h p q =
-  let longer : Begins (take m ls) = begins_less ls m (n - 1) (omega arith) q.before in
-  elim p.here [
-    inl w ↦ w.1 longer
-  | inr w ↦ (elim q.here [ inl v ↦ absurd (omega (arith, v.0, w.0)) | inr v ↦ absurd (omega (arith, v.0, w.0)) ])
-  ]
+    let longer : Begins (take m ls) = begins_less ls m (n - 1) (omega arith) q.before in
+    elim p.here [
+      | inl w ↦ w.1 longer
+      | inr w ↦ (elim q.here [ inl v ↦ absurd (omega (arith, v.0, w.0)) | inr v ↦ absurd (omega (arith, v.0, w.0)) ])
+    ]

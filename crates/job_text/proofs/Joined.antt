@@ -1,5 +1,5 @@
 -- The words of a line are its parts between blanks, and no others.
-use Rattle.std.proofs.Common.{◌≡◌, ℕ, Bool, true, false, not, ◌&&◌, nat_eq, List, [], ◌∷◌, ◌++◌, refl, ap, cond, arith}
+use Rattle.std.proofs.Common.{◌≡◌, ℕ, Bool, true, false, not, ◌&&◌, nat_eq, List, [], ◌∷◌, ◌++◌, refl, cond, arith}
 use Rattle.std.proofs.lemmas.Bool.Decides.{nat_tests}
 use Rattle.std.specs.List.{list_all}
 use Rattle.job_text.specs.Words.{words, put_first}
@@ -24,23 +24,23 @@ not_so false e = refl
 pub words_whole : (w : List ℕ) → no_blank w ≡ true → words w ≡ w ∷ []
 words_whole [] e = refl
 words_whole (b ∷ bs) e =
-  let p = both (not (nat_eq b 32)) (no_blank bs) e in
-  let q = not_so (nat_eq b 32) p.0 in
-  rw (q, words_whole bs p.1) refl
+    let p = both (not (nat_eq b 32)) (no_blank bs) e in
+    let q = not_so (nat_eq b 32) p.0 in
+    rw (q, words_whole bs p.1) refl
 
 pub words_first : (w rest : List ℕ) → no_blank w ≡ true → words (w ++ (32 ∷ rest)) ≡ w ∷ words rest
 words_first [] rest e = refl
 words_first (b ∷ bs) rest e =
-  let p = both (not (nat_eq b 32)) (no_blank bs) e in
-  let q = not_so (nat_eq b 32) p.0 in
-  rw (q, words_first bs rest p.1) refl
+    let p = both (not (nat_eq b 32)) (no_blank bs) e in
+    let q = not_so (nat_eq b 32) p.0 in
+    rw (q, words_first bs rest p.1) refl
 
 -- words without blanks, parted by exactly one, are the words of the line
 pub words_of_line : (w : List ℕ) (ws : List (List ℕ)) → list_all no_blank (w ∷ ws) ≡ true → words (line_of (w ∷ ws)) ≡ w ∷ ws
 words_of_line w [] e = words_whole w (both (no_blank w) true e).0
 words_of_line w (v ∷ ws) e =
-  let p = both (no_blank w) (list_all no_blank (v ∷ ws)) e in
-  rw (words_first w (line_of (v ∷ ws)) p.0, words_of_line v ws p.1) refl
+    let p = both (no_blank w) (list_all no_blank (v ∷ ws)) e in
+    rw (words_first w (line_of (v ∷ ws)) p.0, words_of_line v ws p.1) refl
 
 pub line_of_put : (b : ℕ) (ws : List (List ℕ)) → line_of (put_first b ws) ≡ b ∷ line_of ws
 line_of_put b [] = refl
@@ -66,8 +66,8 @@ words_some (b ∷ bs) e = words_some_at b bs (nat_eq b 32) e
 -- and the line is its words with one blank between each two
 pub line_of_at : (b : ℕ) (bs : List ℕ) (q : Bool) → nat_eq b 32 ≡ q → line_of (words bs) ≡ bs → line_of (words (b ∷ bs)) ≡ b ∷ bs
 line_of_at b bs true e more =
-  let blank : b ≡ 32 = grind (arith, nat_tests) in
-  rw (e, line_of_nil (words bs) (words_some bs), more, blank) refl
+    let blank : b ≡ 32 = grind (arith, nat_tests) in
+    rw (e, line_of_nil (words bs) (words_some bs), more, blank) refl
 line_of_at b bs false e more = rw (e, line_of_put, more) refl
 
 pub line_of_words : (line : List ℕ) → line_of (words line) ≡ line

@@ -1,5 +1,5 @@
 -- What callers may conclude of an input and its reading.
-use Rattle.std.proofs.Common.{◌≡◌, ℕ, ◌+◌, ◌<◌, ◌≤◌, Option, Some, None, List, [], ◌∷◌, ◌++◌, length, take, drop, refl, ap, sym, ◌∙◌, arith, append_assoc, append-nil, ◌⊎◌, inl, inr, subst}
+use Rattle.std.proofs.Common.{◌≡◌, ℕ, ◌+◌, Option, Some, None, List, [], ◌∷◌, ◌++◌, length, take, drop, refl, ap, arith, append_assoc, append-nil, ◌⊎◌, inl, inr}
 use Rattle.std.proofs.lemmas.Bool.{cases_order}
 use Rattle.std.proofs.Math.Seq.{take-length, drop-length}
 use Rattle.session_book.specs.JobView.{JobView}
@@ -17,9 +17,9 @@ use Rattle.job_text.proofs.Firsts.{never_bad, not_before}
 -- there is at most one first bad line
 pub one_bad : (ls : List LineView) (m n : ℕ) → IsFirstBad ls m → IsFirstBad ls n → m ≡ n
 one_bad ls m n p q = elim (cases_order m n) [
-    inl e ↦ e
+  | inl e ↦ e
   | inr x ↦ (elim x [ inl h ↦ absurd (not_before ls m n h p q) | inr h ↦ absurd (not_before ls n m h q p) ])
-  ]
+]
 
 -- lines that spell a job are refused for want of memory alone
 pub spelled_fault : (ls : List LineView) (job : JobView) (e : JobFault) → SpellsFirst ls job → IsFault ls e → e ≡ NoMemory

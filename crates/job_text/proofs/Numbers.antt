@@ -1,5 +1,5 @@
 -- Nine digits fit 32 bits.
-use Rattle.std.proofs.Common.{◌≡◌, ℕ, ◌+◌, ◌*◌, ◌-◌, ◌<◌, ◌≤◌, ◌^◌, Bool, true, false, ◌&&◌, nat_le, nat_eq, List, [], ◌∷◌, length, get_or, arith, suc, zero, refl}
+use Rattle.std.proofs.Common.{◌≡◌, ℕ, ◌+◌, ◌*◌, ◌-◌, ◌<◌, ◌≤◌, ◌^◌, Bool, true, false, ◌&&◌, nat_le, List, [], ◌∷◌, length, get_or, arith, suc, zero, refl}
 use Rattle.std.proofs.lemmas.Bool.Decides.{nat_tests}
 use Rattle.std.specs.List.{list_all}
 use Rattle.std.proofs.Math.Nat.{pow-le-pow_right}
@@ -20,8 +20,8 @@ power_fits i h = let e : i ≤ 8 = omega arith in let ten : 0 < 10 = omega arith
 
 pub digits_fit : (w : List ℕ) (i n : ℕ) → is_number w ≡ true → i < length w → n < 10 ^ i → n * 10 + (get_or w i 0 - 48) < 1000000000
 digits_fit w i n e h b =
-  let p = both _ (list_all is_digit w) e in
-  let q = both (nat_le 1 (length w) && nat_le (length w) 9) _ p.0 in
-  let r = both (nat_le 1 (length w)) (nat_le (length w) 9) q.0 in
-  let short : length w ≤ 9 = grind (arith, nat_tests, r.1) in
-  omega (arith, power_fits i (omega arith), digit_at w i p.1 h)
+    let p = both _ (list_all is_digit w) e in
+    let q = both (nat_le 1 (length w) && nat_le (length w) 9) _ p.0 in
+    let r = both (nat_le 1 (length w)) (nat_le (length w) 9) q.0 in
+    let short : length w ≤ 9 = grind (arith, nat_tests, r.1) in
+    omega (arith, power_fits i (omega arith), digit_at w i p.1 h)

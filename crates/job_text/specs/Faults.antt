@@ -1,5 +1,5 @@
 -- When reading a job of the first form ends with a fault.
-use Rattle.std.specs.Prelude.{ℕ, List}
+use Rattle.std.specs.Prelude.{List}
 use Rattle.job_text.specs.declared.fault.JobFault.{JobFault}
 use Rattle.job_text.specs.declared.fault.JobFault.TheVariants as fault
 use Rattle.job_text.specs.Lines.{LineView}

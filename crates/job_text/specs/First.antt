@@ -31,8 +31,15 @@ ArePlain at number (n ∷ ns) (l ∷ ls) = (is_plain at number n (listing_text l
 
 abbrev pub task_view : List ℕ → ℕ → ℕ → ℕ → ℕ → TaskView
 task_view name entry private budget room = record {
-  name = name; phase = 0; entry = entry; private = private; budget = budget; room = room;
-  regs = first_regs entry; cards = []; input = [];
+  name = name;
+  phase = 0;
+  entry = entry;
+  private = private;
+  budget = budget;
+  room = room;
+  regs = first_regs entry;
+  cards = [];
+  input = [];
 }
 
 -- the job of one module, phase, session and task

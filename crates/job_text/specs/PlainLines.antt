@@ -15,7 +15,7 @@ upper_digit d = if nat_lt d 10 then 48 + d else 55 + d
 -- six upper-case hexadecimal digits
 abbrev pub location_text : ℕ → List ℕ
 location_text at = upper_digit (at / 1048576 % 16) ∷ upper_digit (at / 65536 % 16) ∷ upper_digit (at / 4096 % 16) ∷
-  upper_digit (at / 256 % 16) ∷ upper_digit (at / 16 % 16) ∷ upper_digit (at % 16) ∷ []
+    upper_digit (at / 256 % 16) ∷ upper_digit (at / 16 % 16) ∷ upper_digit (at % 16) ∷ []
 
 -- the decimal digit of this power of ten, a blank where the number has none there
 abbrev pub digit_or_blank : ℕ → ℕ → ℕ
@@ -51,8 +51,8 @@ unfoldable pub is_plain : ℕ → ℕ → ℕ → List ℕ → Bool
 is_plain at number len text =
     if nat_lt (length text) 49 then false
     else bytes_eq (slice_range text 0 6) (location_text at)
-      && nat_eq (slice_index text 6) 32
-      && is_object len (slice_range text 7 34)
-      && bytes_eq (slice_range text 34 39) (statement_text number)
-      && are_blank (slice_range text 39 49)
-      && is_mnemonic (slice_range text 49 (length text))
+    && nat_eq (slice_index text 6) 32
+    && is_object len (slice_range text 7 34)
+    && bytes_eq (slice_range text 34 39) (statement_text number)
+    && are_blank (slice_range text 39 49)
+    && is_mnemonic (slice_range text 49 (length text))

@@ -1,5 +1,5 @@
 -- The state of a reader, without the memory that holds it.
-use Rattle.std.specs.Prelude.{ℕ, ◌+◌, drop}
+use Rattle.std.specs.Prelude.{◌+◌, drop}
 use Rattle.cov_base.specs.Memory.{ImageView}
 use Rattle.job_text.specs.declared.progress.Progress.{Progress}
 use Rattle.job_text.specs.declared.progress.FirstReader.{FirstReader}

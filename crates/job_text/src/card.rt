@@ -10,7 +10,11 @@ pub enum Card {
     /// `COVERJOB 1`
     Cover,
     /// `MODULE name base size`
-    Module { name: Name, base: Addr, size: u32 },
+    Module {
+        name: Name,
+        base: Addr,
+        size: u32,
+    },
     /// `TEXT bytes`
     Text(Vec<u8>),
     /// `LISTING n`
@@ -18,7 +22,10 @@ pub enum Card {
     /// `PHASE name`
     Phase(Name),
     /// `SESSION name module ..`
-    Session { name: Name, modules: Vec<Name> },
+    Session {
+        name: Name,
+        modules: Vec<Name>,
+    },
     /// `TASK name entry private budget room`
     Task {
         name: Name,

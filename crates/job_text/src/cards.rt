@@ -41,7 +41,11 @@ fn session(alloc: Global, name: &[u8], modules: &[&[u8]]) -> Result<Option<Card>
 fn may_stand(base: u32, size: u32) -> bool
     ensures { result ≡ spell.may_stand base size }
 {
-    base % 8 == 0 && base >= 0x100000 && size % 2 == 0 && size >= 2 && u64::from(base) + u64::from(size) <= 0xFFF000
+    base % 8 == 0
+        && base >= 0x100000
+        && size % 2 == 0
+        && size >= 2
+        && u64::from(base) + u64::from(size) <= 0xFFF000
 }
 
 fn module_card(a: &[u8], b: &[u8], c: &[u8]) -> Option<Card>
@@ -62,7 +66,13 @@ fn module_card(a: &[u8], b: &[u8], c: &[u8]) -> Option<Card>
 fn task_card(a: &[u8], b: &[u8], c: &[u8], d: &[u8], e: &[u8]) -> Option<Card>
     ensures { option_map view result ≡ spell.task_of (name_at a.now) (address_at b.now) (number_at c.now) (number_at d.now) (number_at e.now) }
 {
-    match (Name::read(a), address_of(b), number_of(c), number_of(d), number_of(e)) {
+    match (
+        Name::read(a),
+        address_of(b),
+        number_of(c),
+        number_of(d),
+        number_of(e),
+    ) {
         (Some(name), Some(entry), Some(private), Some(budget), Some(room)) => {
             if budget >= 1 {
                 Some(Card::Task {

@@ -29,7 +29,14 @@ fn session_of(alloc: Global, name: Name) -> Result<Session, NoMemory>
     })
 }
 
-fn job_of(alloc: Global, image: Image, texts: Lines, phase: Name, session: Name, task: TaskCard) -> Result<Job, NoMemory>
+fn job_of(
+    alloc: Global,
+    image: Image,
+    texts: Lines,
+    phase: Name,
+    session: Name,
+    task: TaskCard,
+) -> Result<Job, NoMemory>
     requires { IsJob (first_job image.name image.base image.bytes texts phase session task) }
     ensures { IfOk result (λ j. j ≡ first_job image.name image.base image.bytes texts phase session task) }
 {

@@ -34,5 +34,9 @@ pub(crate) fn lengths_of(alloc: Global, bytes: &[u8]) -> Result<Option<Lengths>,
         }
         at += 2;
     }
-    if rest == 0 { Ok(Some(Lengths { each })) } else { Ok(None) }
+    if rest == 0 {
+        Ok(Some(Lengths { each }))
+    } else {
+        Ok(None)
+    }
 }

@@ -3,10 +3,10 @@
 
 mod card;
 mod cards;
-mod lines;
 mod fault;
 mod first;
 mod lengths;
+mod lines;
 mod plain;
 mod progress;
 mod reader;

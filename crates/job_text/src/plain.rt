@@ -41,7 +41,11 @@ fn digit_or_blank(n: u32, power: u32) -> u8
     requires { 0 < power }
     ensures { result ≡ spell.digit_or_blank n power }
 {
-    if n < power { b' ' } else { 48 + (n / power % 10) as u8 }
+    if n < power {
+        b' '
+    } else {
+        48 + (n / power % 10) as u8
+    }
 }
 
 fn is_statement(columns: &[u8], n: u32) -> bool
@@ -74,7 +78,11 @@ fn is_column(len: u8, k: usize, b: u8) -> bool
     requires { k < 27 }
     ensures { result ≡ spell.is_column len k b }
 {
-    if has_digit(len, k) { is_hex(b) } else { b == b' ' }
+    if has_digit(len, k) {
+        is_hex(b)
+    } else {
+        b == b' '
+    }
 }
 
 fn are_columns(len: u8, columns: &[u8]) -> bool

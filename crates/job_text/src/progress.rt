@@ -24,12 +24,46 @@ pub(crate) struct Progress {
 pub(crate) enum FirstReader {
     Start,
     Covered,
-    Loaded { name: Name, base: Addr, size: u8 },
-    Filled { image: Image, lengths: Lengths },
-    Announced { image: Image, lengths: Lengths },
-    Listed { image: Image, progress: Progress },
-    Phased { image: Image, texts: Lines, phase: Name },
-    Observed { image: Image, texts: Lines, phase: Name, session: Name },
-    Tasked { image: Image, texts: Lines, phase: Name, session: Name, task: TaskCard },
-    Done { image: Image, texts: Lines, phase: Name, session: Name, task: TaskCard },
+    Loaded {
+        name: Name,
+        base: Addr,
+        size: u8,
+    },
+    Filled {
+        image: Image,
+        lengths: Lengths,
+    },
+    Announced {
+        image: Image,
+        lengths: Lengths,
+    },
+    Listed {
+        image: Image,
+        progress: Progress,
+    },
+    Phased {
+        image: Image,
+        texts: Lines,
+        phase: Name,
+    },
+    Observed {
+        image: Image,
+        texts: Lines,
+        phase: Name,
+        session: Name,
+    },
+    Tasked {
+        image: Image,
+        texts: Lines,
+        phase: Name,
+        session: Name,
+        task: TaskCard,
+    },
+    Done {
+        image: Image,
+        texts: Lines,
+        phase: Name,
+        session: Name,
+        task: TaskCard,
+    },
 }

@@ -65,7 +65,11 @@ fn after_cover(card: Card) -> Result<FirstReader, LineFault>
     match card {
         Card::Module { name, base, size } => {
             if size <= 64 {
-                Ok(FirstReader::Loaded { name, base, size: size as u8 })
+                Ok(FirstReader::Loaded {
+                    name,
+                    base,
+                    size: size as u8,
+                })
             } else {
                 Err(LineFault::Bad)
             }
@@ -88,7 +92,13 @@ fn filled(alloc: Global, name: Name, base: Addr, bytes: Vec<u8>) -> Result<First
     }
 }
 
-fn after_module(alloc: Global, name: Name, base: Addr, size: u8, card: Card) -> Result<FirstReader, LineFault>
+fn after_module(
+    alloc: Global,
+    name: Name,
+    base: Addr,
+    size: u8,
+    card: Card,
+) -> Result<FirstReader, LineFault>
     ensures ok { IfOk result (λ r. machine.after_module name base size (view card) ≡ Some (state r)) }
     ensures bad { IsErrOf result LineFault.Bad → machine.after_module name base size (view card) ≡ None }
 {
@@ -119,7 +129,12 @@ fn after_text(image: Image, lengths: Lengths, card: Card) -> Result<FirstReader,
     }
 }
 
-fn heading_line(alloc: Global, image: Image, lengths: Lengths, text: &[u8]) -> Result<FirstReader, LineFault>
+fn heading_line(
+    alloc: Global,
+    image: Image,
+    lengths: Lengths,
+    text: &[u8],
+) -> Result<FirstReader, LineFault>
     ensures ok { IfOk result (λ r. machine.take_heading image lengths.each.items text.now ≡ Some (state r)) }
     ensures bad { IsErrOf result LineFault.Bad → machine.take_heading image lengths.each.items text.now ≡ None }
 {
@@ -143,7 +158,12 @@ fn is_listed(progress: &Progress) -> bool
     progress.next == progress.lengths.each.len()
 }
 
-fn plain_line(alloc: Global, image: Image, progress: Progress, text: &[u8]) -> Result<FirstReader, LineFault>
+fn plain_line(
+    alloc: Global,
+    image: Image,
+    progress: Progress,
+    text: &[u8],
+) -> Result<FirstReader, LineFault>
     requires { nat_eq progress.next (vec_len progress.lengths.each) ≡ false }
     ensures ok { IfOk result (λ r. machine.take_text (listed image progress) text.now ≡ Some (state r)) }
     ensures bad { IsErrOf result LineFault.Bad → machine.take_text (listed image progress) text.now ≡ None }
@@ -173,7 +193,11 @@ fn after_listing(image: Image, texts: Lines, card: Card) -> Result<FirstReader, 
     ensures bad { IsErrOf result LineFault.Bad → machine.after_listing image texts (view card) ≡ None }
 {
     match card {
-        Card::Phase(phase) => Ok(FirstReader::Phased { image, texts, phase }),
+        Card::Phase(phase) => Ok(FirstReader::Phased {
+            image,
+            texts,
+            phase,
+        }),
         _ => Err(LineFault::Bad),
     }
 }
@@ -187,7 +211,12 @@ fn is_only(name: &Name, names: &[Name]) -> bool
     }
 }
 
-fn after_phase(image: Image, texts: Lines, phase: Name, card: Card) -> Result<FirstReader, LineFault>
+fn after_phase(
+    image: Image,
+    texts: Lines,
+    phase: Name,
+    card: Card,
+) -> Result<FirstReader, LineFault>
     ensures ok { IfOk result (λ r. machine.after_phase image texts phase (view card) ≡ Some (state r)) }
     ensures bad { IsErrOf result LineFault.Bad → machine.after_phase image texts phase (view card) ≡ None }
 {
@@ -214,7 +243,14 @@ fn is_within(private: u32, budget: u32, room: u32) -> bool
     private <= 1_048_576 && budget <= 50_000_000 && room <= 65_536
 }
 
-fn task_card(alloc: Global, name: Name, entry: Addr, private: u32, budget: u32, room: u32) -> TaskCard
+fn task_card(
+    alloc: Global,
+    name: Name,
+    entry: Addr,
+    private: u32,
+    budget: u32,
+    room: u32,
+) -> TaskCard
     ensures { result ≡ task_view name entry private budget room }
 {
     let mut regs = [0u32; 16];
@@ -233,7 +269,14 @@ fn task_card(alloc: Global, name: Name, entry: Addr, private: u32, budget: u32, 
     }
 }
 
-fn after_session(alloc: Global, image: Image, texts: Lines, phase: Name, session: Name, card: Card) -> Result<FirstReader, LineFault>
+fn after_session(
+    alloc: Global,
+    image: Image,
+    texts: Lines,
+    phase: Name,
+    session: Name,
+    card: Card,
+) -> Result<FirstReader, LineFault>
     ensures ok { IfOk result (λ r. machine.after_session image texts phase session (view card) ≡ Some (state r)) }
     ensures bad { IsErrOf result LineFault.Bad → machine.after_session image texts phase session (view card) ≡ None }
 {
@@ -260,7 +303,14 @@ fn after_session(alloc: Global, image: Image, texts: Lines, phase: Name, session
     }
 }
 
-fn after_task(image: Image, texts: Lines, phase: Name, session: Name, task: TaskCard, card: Card) -> Result<FirstReader, LineFault>
+fn after_task(
+    image: Image,
+    texts: Lines,
+    phase: Name,
+    session: Name,
+    task: TaskCard,
+    card: Card,
+) -> Result<FirstReader, LineFault>
     ensures ok { IfOk result (λ r. machine.after_task image texts phase session task (view card) ≡ Some (state r)) }
     ensures bad { IsErrOf result LineFault.Bad → machine.after_task image texts phase session task (view card) ≡ None }
 {
@@ -309,7 +359,11 @@ impl FirstReader {
             FirstReader::Loaded { name, base, size } => after_module(alloc, name, base, size, card),
             FirstReader::Filled { image, lengths } => after_text(image, lengths, card),
             FirstReader::Announced { .. } => Err(LineFault::Bad),
-            FirstReader::Listed { image, progress } => after_listing(image, Lines(progress.lines), card),
+            FirstReader::Listed { image, progress } => after_listing(
+                image,
+                Lines(progress.lines),
+                card,
+            ),
             FirstReader::Phased {
                 image,
                 texts,
@@ -333,7 +387,12 @@ impl FirstReader {
     }
 
     /// Takes the next line; `ended` where an LF ended it.
-    pub(crate) fn line(self, alloc: Global, bytes: &[u8], ended: bool) -> Result<FirstReader, LineFault>
+    pub(crate) fn line(
+        self,
+        alloc: Global,
+        bytes: &[u8],
+        ended: bool,
+    ) -> Result<FirstReader, LineFault>
         ensures ok { IfOk result (λ r. machine.step (state self) (record { bytes = bytes.now; ended = ended }) ≡ Some (state r)) }
         ensures bad { IsErrOf result LineFault.Bad → machine.step (state self) (record { bytes = bytes.now; ended = ended }) ≡ None }
     {

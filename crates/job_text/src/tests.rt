@@ -48,15 +48,22 @@ fn with_line(alloc: Global, at: usize, text: &[u8]) -> Result<Vec<u8>, AllocErro
 fn reads_the_job(rt: HostRuntime) -> Result<(), Fail> {
     let a = rt.alloc();
     let input = with_line(a, 0, b"")?;
+    assert!(rt; input.len() <= 1_000);
     match read_first_form(a, &input) {
         Ok(job) => {
             assert_eq!(rt; job.images.0.len(), 1);
-            assert_eq!(rt; job.images.0[0].bytes.as_slice(), &[0x41, 0x10, 0, 5, 0x1A, 0x11, 7, 0xFE][..]);
+            assert_eq!(rt;
+                job.images.0[0].bytes.as_slice(),
+                &[0x41, 0x10, 0, 5, 0x1A, 0x11, 7, 0xFE][..]
+            );
             assert_eq!(rt; job.tasks.len(), 1);
             assert_eq!(rt; job.tasks[0].entry.get(), 0x100000);
             assert_eq!(rt; job.tasks[0].regs[14], 0xFFFFFE);
             assert_eq!(rt; job.tasks[0].regs[15], 0x100000);
-            assert_eq!(rt; (job.tasks[0].private, job.tasks[0].budget, job.tasks[0].room), (16, 100, 0));
+            assert_eq!(rt;
+                (job.tasks[0].private, job.tasks[0].budget, job.tasks[0].room),
+                (16, 100, 0)
+            );
         }
         Err(_) => assert!(rt; false),
     }
@@ -118,32 +125,132 @@ const CASES: [(usize, &[u8], u32); 74] = [
     (4, b"LISTING 5\n", 4),
     (4, b"LISTING 04\n", 4),
     (4, b"LISTING 0000000004\n", 4),
-    (5, b"  Loc  Object Code    Addr1 Addr2  Stmt   Source statement\n", 5),
-    (5, b"  Loc  Object Code    Addr1 Addr2  Stmt   Source Statement \n", 5),
-    (5, b"  Loc  Object Code    Addr1 Addr2  Stmt   Source Statement\r\n", 0),
-    (6, b"000002 4110 0005                      1          LA\n", 6),
-    (6, b"00000  4110 0005                      1          LA\n", 6),
-    (6, b"000000-4110 0005                      1          LA\n", 6),
-    (6, b"000000  4110 0005                     1          LA\n", 6),
-    (6, b"000000 411 00005                      1          LA\n", 6),
-    (6, b"000000 41100005                       1          LA\n", 6),
-    (6, b"000000 4110 000                       1          LA\n", 6),
-    (6, b"000000 4110                           1          LA\n", 6),
-    (6, b"000000 4110 0005 0000                 1          LA\n", 6),
-    (6, b"000000 1A11 0005                      1          LA\n", 6),
-    (6, b"000000 4110 0005                      2          LA\n", 6),
-    (6, b"000000 4110 0005                  00001          LA\n", 6),
-    (6, b"000000 4110 0005                     1           LA\n", 6),
-    (6, b"000000 4110 0005                      1+         LA\n", 6),
-    (6, b"000000 4110 0005                      1         LA\n", 6),
-    (6, b"000000 4110 0005                      1          la\n", 6),
-    (6, b"000000 4110 0005                      1          LAX\n", 6),
-    (6, b"000000 4110 0005                      1          LA 1,5\n", 6),
+    (
+        5,
+        b"  Loc  Object Code    Addr1 Addr2  Stmt   Source statement\n",
+        5,
+    ),
+    (
+        5,
+        b"  Loc  Object Code    Addr1 Addr2  Stmt   Source Statement \n",
+        5,
+    ),
+    (
+        5,
+        b"  Loc  Object Code    Addr1 Addr2  Stmt   Source Statement\r\n",
+        0,
+    ),
+    (
+        6,
+        b"000002 4110 0005                      1          LA\n",
+        6,
+    ),
+    (
+        6,
+        b"00000  4110 0005                      1          LA\n",
+        6,
+    ),
+    (
+        6,
+        b"000000-4110 0005                      1          LA\n",
+        6,
+    ),
+    (
+        6,
+        b"000000  4110 0005                     1          LA\n",
+        6,
+    ),
+    (
+        6,
+        b"000000 411 00005                      1          LA\n",
+        6,
+    ),
+    (
+        6,
+        b"000000 41100005                       1          LA\n",
+        6,
+    ),
+    (
+        6,
+        b"000000 4110 000                       1          LA\n",
+        6,
+    ),
+    (
+        6,
+        b"000000 4110                           1          LA\n",
+        6,
+    ),
+    (
+        6,
+        b"000000 4110 0005 0000                 1          LA\n",
+        6,
+    ),
+    (
+        6,
+        b"000000 1A11 0005                      1          LA\n",
+        6,
+    ),
+    (
+        6,
+        b"000000 4110 0005                      2          LA\n",
+        6,
+    ),
+    (
+        6,
+        b"000000 4110 0005                  00001          LA\n",
+        6,
+    ),
+    (
+        6,
+        b"000000 4110 0005                     1           LA\n",
+        6,
+    ),
+    (
+        6,
+        b"000000 4110 0005                      1+         LA\n",
+        6,
+    ),
+    (
+        6,
+        b"000000 4110 0005                      1         LA\n",
+        6,
+    ),
+    (
+        6,
+        b"000000 4110 0005                      1          la\n",
+        6,
+    ),
+    (
+        6,
+        b"000000 4110 0005                      1          LAX\n",
+        6,
+    ),
+    (
+        6,
+        b"000000 4110 0005                      1          LA 1,5\n",
+        6,
+    ),
     (6, b"000000 4110 0005                      1          \n", 6),
-    (6, b"000000 4110 0005                      1          LA\r\r\n", 6),
-    (6, b"000000 4110 0005                      1          LA\r\n", 0),
-    (6, b"000000 4a1f 0006                      1          MVCIN\n", 0),
-    (7, b"000004 0AFF                           2          AR\n", 7),
+    (
+        6,
+        b"000000 4110 0005                      1          LA\r\r\n",
+        6,
+    ),
+    (
+        6,
+        b"000000 4110 0005                      1          LA\r\n",
+        0,
+    ),
+    (
+        6,
+        b"000000 4a1f 0006                      1          MVCIN\n",
+        0,
+    ),
+    (
+        7,
+        b"000004 0AFF                           2          AR\n",
+        7,
+    ),
     (9, b"PHASE p\n", 9),
     (9, b"PHASE 1\n", 9),
     (10, b"SESSION S X\n", 10),

@@ -122,7 +122,10 @@ pub(crate) fn half_value(word: &[u8]) -> u16
     requires { 4 ≤ length word.now }
     ensures { result ≡ spell.half_value word.now 0 }
 {
-    (hex_value(word[0]) * 4096 + hex_value(word[1]) * 256 + hex_value(word[2]) * 16 + hex_value(word[3])) as u16
+    (hex_value(word[0]) * 4096
+        + hex_value(word[1]) * 256
+        + hex_value(word[2]) * 16
+        + hex_value(word[3])) as u16
 }
 
 fn all_hex(word: &[u8]) -> bool

@@ -1,4 +1,4 @@
-use Rattle.std.proofs.Common.{arith, ◌≡◌, map, sym, length, ◌∙◌}
+use Rattle.std.proofs.Common.{arith, sym, length, ◌∙◌}
 use Rattle.std.proofs.lemmas.List.{length-map}
 use Rattle.job_text.proofs.WordLemmas.{long_card-none}
 use Rattle.job_text.proofs.cards.long_card.Goals as goal

@@ -1,4 +1,4 @@
-use Rattle.std.proofs.Common.{arith, ◌≡◌, ◌∷◌, map, sym, drop, ◌∙◌, refl, Bor}
+use Rattle.std.proofs.Common.{arith}
 use Rattle.std.proofs.lemmas.Grind.{common_steps}
 use Rattle.job_text.proofs.WordLemmas.{names_none}
 use Rattle.job_text.proofs.words.names_of.Goals as goal

@@ -1,4 +1,4 @@
-use Rattle.std.proofs.Common.{◌≡◌, ℕ, drop, map, Some}
+use Rattle.std.proofs.Common.{◌≡◌, drop, map, Some}
 use Rattle.job_text.specs.Words as spell
 use Rattle.job_text.proofs.words.names_of.Given as goal
 

@@ -1,4 +1,4 @@
-use Rattle.std.proofs.Common.{arith, rules, ◌<◌, ◌+◌, ◌*◌, ◌-◌, ◌^◌, get_or}
+use Rattle.std.proofs.Common.{arith, rules}
 use Rattle.job_text.proofs.Numbers.{digits_fit}
 use Rattle.job_text.proofs.words.number_of.Goals as goal
 
