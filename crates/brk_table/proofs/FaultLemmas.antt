@@ -1,5 +1,5 @@
 -- A line's fault by the bytes that have a line, and the cover with one instruction more.
-use Rattle.std.proofs.Common.{◌≡◌, ◌⊎◌, inl, inr, ℕ, ◌+◌, ◌-◌, ◌%◌, ◌<◌, ◌≤◌, zero, suc, Bool, true, false, cond, ◌&&◌, ◌||◌, nat_le, nat_lt, ◌==◌, Option, Some, None, List, [], ◌∷◌, ◌++◌, length, get_or, refl, sym, ap, ◌∙◌, subst, add-one, arith, All}
+use Rattle.std.proofs.Common.{◌≡◌, ◌⊎◌, inl, inr, ℕ, ◌+◌, ◌-◌, ◌%◌, ◌<◌, ◌≤◌, Bool, true, false, cond, ◌&&◌, nat_le, nat_lt, ◌==◌, Option, Some, None, List, [], ◌∷◌, ◌++◌, length, get_or, refl, sym, ◌∙◌, arith}
 use Rattle.std.specs.List.{list_any, AllPass}
 use Rattle.std.specs.Str.{bytes_eq}
 use Rattle.std.proofs.lemmas.Bool.{cases_lt}
@@ -15,8 +15,7 @@ use Rattle.listing_reader.specs.declared.lines.Line.TheVariants.{Text}
 use Rattle.listing_reader.specs.declared.lines.Line.TheVariants as says
 use Rattle.brk_table.specs.Build.{shares, module_code, fault_by}
 use Rattle.brk_table.specs.Cover.{covers, is_covered, IsCover}
-use Rattle.brk_table.specs.declared.faults.BuildFault.{BuildFault}
-use Rattle.brk_table.proofs.CoverLemmas.{covered_found, not_covered, Covered, covered}
+use Rattle.brk_table.proofs.CoverLemmas.{not_covered, covered}
 
 no_first : {X : Type 0} (a : Bool) (x : X) (r : Option X) → cond a (Some x) r ≡ None → (a ≡ false) × (r ≡ None)
 no_first true x r h = absurd cc
@@ -142,6 +141,7 @@ covered_shared earlier cover loc code is inside long sound = by_test (is_covered
         let empty : get_or cover (loc + (c.k - loc)) None ≡ None = not_covered cover loc code.len e (c.k - loc) (omega (arith, c.from, c.to)) in
         let clash : get_or cover c.k None ≡ None = rw at at empty in
         absurd cc
+
     by_test : (b : Bool) → is_covered cover loc code.len ≡ b → is_covered cover loc code.len ≡ list_any (shares loc code) earlier
     by_test true e =
         let c = covered cover loc code.len e in
@@ -181,12 +181,15 @@ cover_more earlier old new loc code is size free marked kept = record { of_line 
   where
     line : Line
     line = says.Code loc code
+
     own : get_or (earlier ++ says.Code loc code ∷ []) (length earlier) Text ≡ says.Code loc code
     own = get_or_push earlier (says.Code loc code) Text (length earlier) refl
+
     old_of : (k i : ℕ) → k < length new → get_or new k None ≡ get_or old k None → get_or new k None ≡ Some i → (i < length (earlier ++ says.Code loc code ∷ [])) × (covers k (get_or (earlier ++ says.Code loc code ∷ []) i Text) ≡ true)
     old_of k i l s e =
         let o = is.of_line k i (omega arith) (sym s ∙ e) in
         (omega (arith, o.0, length_push earlier (says.Code loc code)), rw (get_or_append_left earlier (says.Code loc code ∷ []) Text i o.0) o.1)
+
     of : (k i : ℕ) → k < length new → get_or new k None ≡ Some i → (i < length (earlier ++ says.Code loc code ∷ [])) × (covers k (get_or (earlier ++ says.Code loc code ∷ []) i Text) ≡ true)
     of k i l e = elim (cases_lt k loc) [
       | inl low ↦ old_of k i l (kept k (inl low)) e
@@ -198,6 +201,7 @@ cover_more earlier old new loc code is size free marked kept = record { of_line 
             (omega (arith, n, length_push earlier (says.Code loc code)), rw (← n, own) (covers_code k loc code from to)))
       ]
     ]
+
     has : (k i : ℕ) → k < length new → i < length (earlier ++ says.Code loc code ∷ []) → covers k (get_or (earlier ++ says.Code loc code ∷ []) i Text) ≡ true → get_or new k None ≡ Some i
     has k i l b e = elim (cases_lt i (length earlier)) [
       | inl below ↦ (

@@ -3,3 +3,6 @@ pub mod RangeLemmas
 pub mod CoverLemmas
 pub mod FaultLemmas
 pub mod Passes
+pub mod TabledLemmas
+pub mod AtLemmas
+pub mod OwnPlaces

@@ -1,18 +1,19 @@
 -- The lines one after the other: their faults, and what the cover knows of them.
-use Rattle.std.proofs.Common.{◌≡◌, ◌⊎◌, ℕ, ◌+◌, ◌<◌, ◌≤◌, suc, Bool, true, false, Option, Some, None, List, [], ◌∷◌, ◌++◌, length, get_or, take, drop, refl, sym, ap, ◌∙◌, arith, All}
+use Rattle.std.proofs.Common.{◌≡◌, ◌⊎◌, ℕ, ◌+◌, ◌<◌, ◌≤◌, Bool, true, false, Option, Some, None, List, [], ◌∷◌, ◌++◌, length, get_or, take, drop, refl, sym, ap, ◌∙◌, arith}
 use Rattle.std.specs.Prelude.{count_by}
 use Rattle.std.specs.List.{list_any, AllPass}
 use Rattle.std.proofs.lemmas.List.{take_more, drop_more, length-take-le, get_or-take, take_all, drop_all}
 use Rattle.std.proofs.lemmas.List.Sums.{count_by_more_yes, count_by_more_no}
+use Rattle.std.proofs.lemmas.List.Elements.{All-push}
 use Rattle.s370_decode.specs.declared.code.Code.{Code}
 use Rattle.listing_reader.specs.Listing.{is_sound}
 use Rattle.listing_reader.specs.declared.lines.Line.{Line}
 use Rattle.listing_reader.specs.declared.lines.Line.TheVariants.{Text}
 use Rattle.listing_reader.specs.declared.lines.Line.TheVariants as says
 use Rattle.brk_table.specs.Build.{shares, is_code, fault_by, fault_at, first_fault, or_fault}
-use Rattle.brk_table.specs.Cover.{is_covered, IsCover}
+use Rattle.brk_table.specs.Cover.{is_covered, is_inside, IsCover}
 use Rattle.brk_table.specs.declared.faults.BuildFault.{BuildFault}
-use Rattle.brk_table.proofs.FaultLemmas.{IsFaultless, faultless, same_fault, sound_length, cover_text, cover_more}
+use Rattle.brk_table.proofs.FaultLemmas.{IsFaultless, faultless, same_fault, sound_length, cover_text, cover_more, le_true}
 
 -- what is known before line i
 pub record AtLine (bytes : List ℕ) (room : ℕ) (lines : List Line) (i : ℕ) (cover : List (Option ℕ)) (before : ℕ) : Type 0 where
@@ -20,13 +21,15 @@ pub record AtLine (bytes : List ℕ) (room : ℕ) (lines : List Line) (i : ℕ) 
   pub cover_is : IsCover (take i lines) cover
   pub count : before ≡ count_by is_code (take i lines)
   pub rest : first_fault bytes room (take i lines) (drop i lines) ≡ first_fault bytes room [] lines
+  pub inside : AllPass (is_inside (length bytes)) (take i lines)
+  pub fits : before ≤ room
 
 sound_take : (lines : List Line) (i : ℕ) → i < length lines → AllPass is_sound lines → AllPass is_sound (take i lines)
 sound_take lines i l h k d b =
     let e = length-take-le i lines (omega arith) in
     rw (get_or-take i lines k d (omega arith)) (h k d (omega arith))
 
-next_fault : (bytes : List ℕ) (room : ℕ) (lines : List Line) (i : ℕ) → i < length lines
+pub next_fault : (bytes : List ℕ) (room : ℕ) (lines : List Line) (i : ℕ) → i < length lines
     → first_fault bytes room (take i lines) (drop i lines) ≡ or_fault (fault_at bytes room (take i lines) (get_or lines i Text)) (first_fault bytes room (take (i + 1) lines) (drop (i + 1) lines))
 next_fault bytes room lines i l = rw (drop_more lines i Text l, take_more lines i Text l) refl
 
@@ -70,6 +73,8 @@ code_passed bytes room lines i old new before loc code at l sound is e size mark
       cover_is = rw more (cover_more (take i lines) old new loc code at.cover_is size none.apart (λ k a b. rw n (marked k a b)) kept);
       count = sym (count_by_more_yes is_code lines i Text l its ∙ ap (λ x. x + 1) (sym at.count));
       rest = sym (next_fault bytes room lines i l ∙ rw (code_fault bytes room lines i old before loc code at l sound is, e) refl) ∙ at.rest;
+      inside = rw more (All-push (λ x. is_inside (length bytes) x ≡ true) (take i lines) (says.Code loc code) at.inside (le_true (loc + code.len) (length bytes) none.inside));
+      fits = omega (arith, none.fits);
     }
 
 pub text_passed : (bytes : List ℕ) (room : ℕ) (lines : List Line) (i : ℕ) (cover : List (Option ℕ)) (before : ℕ) → AtLine bytes room lines i cover before → i < length lines
@@ -82,6 +87,8 @@ text_passed bytes room lines i cover before at l is =
       cover_is = rw more (cover_text (take i lines) cover at.cover_is);
       count = at.count ∙ sym (count_by_more_no is_code lines i Text l its);
       rest = sym (next_fault bytes room lines i l ∙ rw is refl) ∙ at.rest;
+      inside = rw more (All-push (λ x. is_inside (length bytes) x ≡ true) (take i lines) Text at.inside refl);
+      fits = at.fits;
     }
 
 pub at_start : (bytes : List ℕ) (room : ℕ) (lines : List Line) (cover : List (Option ℕ)) → length cover ≡ length bytes → ((k : ℕ) → k < length cover → get_or cover k None ≡ None) → AtLine bytes room lines 0 cover 0
@@ -90,18 +97,22 @@ at_start bytes room lines cover size fresh = record {
   cover_is = record { of_line = λ k i l e. absurd (let f : get_or cover k None ≡ None = fresh k l in cc); has_line = λ k i l b e. absurd (omega arith) };
   count = refl;
   rest = refl;
+  inside = λ k d b. absurd (omega arith);
+  fits = omega arith;
 }
 
-pub record AtEnd (bytes : List ℕ) (room : ℕ) (lines : List Line) (cover : List (Option ℕ)) (before : ℕ) : Type 0 where
+pub record AtEnd (bytes : List ℕ) (room : ℕ) (lines : List Line) (cover : List (Option ℕ)) : Type 0 where
   pub none : first_fault bytes room [] lines ≡ None
   pub cover_is : IsCover lines cover
-  pub count : before ≡ count_by is_code lines
+  pub count : count_by is_code lines ≤ room
+  pub inside : AllPass (is_inside (length bytes)) lines
 
-pub at_end : (bytes : List ℕ) (room : ℕ) (lines : List Line) (i : ℕ) (cover : List (Option ℕ)) (before : ℕ) → AtLine bytes room lines i cover before → length lines ≤ i → AtEnd bytes room lines cover before
+pub at_end : (bytes : List ℕ) (room : ℕ) (lines : List Line) (i : ℕ) (cover : List (Option ℕ)) (before : ℕ) → AtLine bytes room lines i cover before → length lines ≤ i → AtEnd bytes room lines cover
 at_end bytes room lines i cover before at past =
     let all : take i lines ≡ lines = take_all i lines past in
     record {
       none = sym at.rest ∙ rw (drop_all i lines past) refl;
       cover_is = rw all at at.cover_is;
-      count = rw all at at.count;
+      count = rw (ap (count_by is_code) (sym all), ← at.count) at.fits;
+      inside = rw all at at.inside;
     }

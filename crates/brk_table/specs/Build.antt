@@ -1,8 +1,8 @@
 -- The table of a listing over its module, and the first fault of a listing that has none.
-use Rattle.std.specs.Prelude.{◌≡◌, ℕ, zero, suc, ◌+◌, ◌*◌, ◌%◌, ◌<◌, Bool, true, false, ◌&&◌, not, nat_le, nat_lt, ◌==◌, if◌then◌else◌, Option, Some, None, List, [], ◌∷◌, ◌++◌, length, slice_index, get_or, count_by, Contains, AllPairs}
+use Rattle.std.specs.Prelude.{◌≡◌, ℕ, ◌+◌, ◌-◌, ◌*◌, ◌%◌, ◌<◌, ◌≤◌, Bool, true, false, ◌&&◌, nat_le, nat_lt, ◌==◌, if◌then◌else◌, Option, Some, None, List, [], ◌∷◌, ◌++◌, length, slice_index, get_or, count_by, Contains, All, AllPairs}
 use Rattle.std.specs.List.{list_any}
 use Rattle.std.specs.Str.{bytes_eq}
-use Rattle.cov_base.specs.Codes.{breakpoint, kind_of, length_of}
+use Rattle.cov_base.specs.Codes.{breakpoint, kind_of}
 use Rattle.cov_base.specs.Memory.{ImageView}
 use Rattle.module_area.specs.PlanView.{place_of}
 use Rattle.module_area.specs.declared.places.Place.{Place}
@@ -11,7 +11,7 @@ use Rattle.s370_decode.specs.declared.code.Code.{Code}
 use Rattle.listing_reader.specs.declared.lines.Line.{Line}
 use Rattle.listing_reader.specs.declared.lines.Line.TheVariants.{Text}
 use Rattle.listing_reader.specs.declared.lines.Line.TheVariants as says
-use Rattle.brk_table.specs.Places.{TableView}
+use Rattle.brk_table.specs.Places.{TableView, IsPlace, AreApart, HasRisingPlaces, HasItsPlaces}
 use Rattle.brk_table.specs.declared.faults.BuildFault.{BuildFault}
 use Rattle.brk_table.specs.declared.faults.BuildFault.TheVariants.{Odd, Outside, Overlap, TooMany, OwnSvc, Mismatch}
 
@@ -32,7 +32,7 @@ unfoldable pub module_code : List ℕ → ℕ → ℕ → Code
 module_code bytes loc len = record {
   at = 0;
   bytes = module_byte bytes loc len 0 ∷ module_byte bytes loc len 1 ∷ module_byte bytes loc len 2 ∷
-    module_byte bytes loc len 3 ∷ module_byte bytes loc len 4 ∷ module_byte bytes loc len 5 ∷ [];
+      module_byte bytes loc len 3 ∷ module_byte bytes loc len 4 ∷ module_byte bytes loc len 5 ∷ [];
   len = len;
 }
 
@@ -74,10 +74,26 @@ IsEntry m base places Text entry = entry ≡ None
 IsEntry m base places (says.Code loc code) None = ⊥
 IsEntry m base places (says.Code loc code) (Some k) = (k < length places) × (place_of places k ≡ place_from m base loc code)
 
--- the table of module m: the places of the instruction lines in order of address, and no others
-pub record IsTable (m : ℕ) (image : ImageView) (lines : List Line) (t : TableView) : Type 0 where
+-- the table of module m at that base: the places of the instruction lines in order of address, and no others
+pub record IsTable (m base : ℕ) (lines : List Line) (t : TableView) : Type 0 where
   pub of : t.«module» ≡ m
   pub count : length t.lines ≡ length lines
-  pub entries : (i : ℕ) → i < length lines → IsEntry m image.base t.places (get_or lines i Text) (get_or t.lines i None)
+  pub entries : (i : ℕ) → i < length lines → IsEntry m base t.places (get_or lines i Text) (get_or t.lines i None)
   pub of_lines : (k : ℕ) → k < length t.places → Contains t.lines (Some k)
   pub rising : AllPairs (λ p q. p.at < q.at) t.places
+
+-- a place of module m lies in it, and has its halfword there
+pub record IsOwn (m : ℕ) (image : ImageView) (p : Place) : Type 0 where
+  pub of : p.«module» ≡ m
+  pub from : image.base ≤ p.at
+  pub to : p.at + p.len ≤ image.base + length image.bytes
+  pub original : p.original ≡ slice_index image.bytes (p.at - image.base) * 256 + slice_index image.bytes (p.at - image.base + 1)
+
+-- what every table that was built has
+pub record HasOwnPlaces (m : ℕ) (image : ImageView) (t : TableView) : Type 0 where
+  pub of : t.«module» ≡ m
+  pub each : All IsPlace t.places
+  pub own : All (IsOwn m image) t.places
+  pub apart : AllPairs AreApart t.places
+  pub rising : HasRisingPlaces t
+  pub lines : HasItsPlaces t

@@ -1,5 +1,5 @@
 -- The places of all modules, and the memory that a task sees over them.
-use Rattle.std.specs.Prelude.{◌≡◌, ◌≢◌, ◌⊎◌, ℕ, ◌+◌, ◌-◌, ◌*◌, ◌%◌, ◌<◌, ◌≤◌, Bool, true, ◌&&◌, ◌||◌, ◌==◌, nat_le, nat_lt, nat_eq, if◌then◌else◌, Option, Some, None, option_map, IfSome, List, [], ◌∷◌, ◌++◌, length, slice_index, get_or, All, AllPairs}
+use Rattle.std.specs.Prelude.{◌≡◌, ◌≢◌, ◌⊎◌, ℕ, ◌+◌, ◌-◌, ◌*◌, ◌%◌, ◌<◌, ◌≤◌, Bool, true, ◌&&◌, ◌||◌, ◌==◌, nat_le, nat_lt, nat_eq, if◌then◌else◌, Option, None, option_map, IfSome, List, [], ◌∷◌, ◌++◌, length, slice_index, get_or, All, AllPairs}
 use Rattle.std.specs.List.{list_any}
 use Rattle.cov_base.specs.Codes.{breakpoint, kind_of, length_of}
 use Rattle.cov_base.specs.Memory.{Memory, ImageView, can_reach, half_at}
@@ -39,6 +39,10 @@ place_at_line (t ∷ ts) m k = if nat_eq t.«module» m then get_or t.lines (k -
 -- the place of each instruction line is one of the table's
 abbrev pub HasItsPlaces : TableView → Type 0
 HasItsPlaces t = All (λ e. IfSome e (λ i. i < length t.places)) t.lines
+
+-- its places stand in order of address
+abbrev pub HasRisingPlaces : TableView → Type 0
+HasRisingPlaces t = AllPairs (λ p q. p.at < q.at) t.places
 
 pub record IsPlace (p : Place) : Type 0 where
   pub even : p.at % 2 ≡ 0

@@ -1,9 +1,9 @@
 //! The first fault of a listing's lines.
-ghost use Rattle.std.specs.Prelude.{◌≡◌, ℕ, ◌+◌, ◌<◌, ◌≤◌, None, IsNone, [], length, get_or};
+ghost use Rattle.std.specs.Prelude.{◌≡◌, ℕ, ◌+◌, ◌<◌, ◌≤◌, None, IsNone, [], length, get_or, count_by};
 ghost use Rattle.std.specs.List.{AllPass};
 ghost use Rattle.listing_reader.specs.Listing.{is_sound};
-ghost use Rattle.brk_table.specs.Build.{module_byte, module_code, fault_by, first_fault};
-ghost use Rattle.brk_table.specs.Cover.{is_covered, IsCover};
+ghost use Rattle.brk_table.specs.Build.{module_byte, module_code, fault_by, is_code, first_fault};
+ghost use Rattle.brk_table.specs.Cover.{is_covered, is_inside, IsCover};
 
 use crate::cover::{is_covered, mark};
 use crate::faults::BuildFault;
@@ -42,7 +42,15 @@ const BREAKPOINT: u16 = 0x0AFF;
 
 /// The fault of line n, where so many instructions stand before it.
 #[tactic(auto, unfolding(crate::specs::Build::fault_by))]
-pub fn fault_by(bytes: &[u8], room: u32, cover: &[Option<u32>], before: u32, n: u32, loc: u32, code: &Code) -> Option<BuildFault>
+pub fn fault_by(
+    bytes: &[u8],
+    room: u32,
+    cover: &[Option<u32>],
+    before: u32,
+    n: u32,
+    loc: u32,
+    code: &Code,
+) -> Option<BuildFault>
     requires { length cover.now ≡ length bytes.now }
     ensures { result ≡ fault_by bytes.now room (is_covered cover.now loc code.now.len) before n loc code.now }
 {
@@ -67,18 +75,29 @@ pub fn fault_by(bytes: &[u8], room: u32, cover: &[Option<u32>], before: u32, n: 
     if code.bytes == own.bytes {
         return None;
     }
-    Some(BuildFault::Mismatch { line: n, listing: *code, module: own })
+    Some(BuildFault::Mismatch {
+        line: n,
+        listing: *code,
+        module: own,
+    })
 }
 
 /// The first fault of the lines; where they have none, each byte of the module is given the line whose instruction
 /// has it.
-pub fn first_fault(bytes: &[u8], lines: &[Line], room: u32, cover: &mut [Option<u32>]) -> Option<BuildFault>
+pub fn first_fault(
+    bytes: &[u8],
+    lines: &[Line],
+    room: u32,
+    cover: &mut [Option<u32>],
+) -> Option<BuildFault>
     requires size { length cover.old ≡ length bytes.now }
     requires fresh { (k : ℕ) → k < length cover.old → get_or cover.old k None ≡ None }
     requires count { length lines.now ≤ 16777216 }
     requires sound { AllPass is_sound lines.now }
     ensures fault { result ≡ first_fault bytes.now room [] lines.now }
     ensures cover { IsNone result → IsCover lines.now cover.new }
+    ensures inside { IsNone result → AllPass (is_inside (length bytes.now)) lines.now }
+    ensures room { IsNone result → count_by is_code lines.now ≤ room }
 {
     let mut before: u32 = 0;
     for i in 0..lines.len() {

@@ -7,17 +7,31 @@ use std::alloc::{AllocError, AllocFailed};
 #[derive(Clone, Copy)]
 pub enum BuildFault {
     /// The location is odd.
-    Odd { line: u32 },
+    Odd {
+        line: u32,
+    },
     /// A byte of the instruction lies past the module.
-    Outside { line: u32 },
+    Outside {
+        line: u32,
+    },
     /// It shares a byte with the instruction of an earlier line.
-    Overlap { line: u32 },
+    Overlap {
+        line: u32,
+    },
     /// It is one more than there is room for.
-    TooMany { line: u32 },
+    TooMany {
+        line: u32,
+    },
     /// Its first halfword is the breakpoint's, X'0AFF'.
-    OwnSvc { line: u32 },
+    OwnSvc {
+        line: u32,
+    },
     /// Its bytes are not the module's; both codes have the address 0 and the listing code's length.
-    Mismatch { line: u32, listing: Code, module: Code },
+    Mismatch {
+        line: u32,
+        listing: Code,
+        module: Code,
+    },
     /// A growth was refused by the allocator.
     NoMemory,
 }

@@ -1,10 +1,15 @@
 //! The breakpoint table: the places of a listing, and all places of a job.
 #![tactic(auto)]
 
+mod builder;
 mod cover;
 mod fault;
 mod faults;
+mod places;
 mod tables;
+#[cfg(test)]
+mod tests;
 
+pub use builder::build;
 pub use faults::BuildFault;
 pub use tables::{Table, Tables};

@@ -1,13 +1,14 @@
 //! The places of a module, and of all monitored modules.
-ghost use Rattle.std.specs.Prelude.{◌≡◌, ◌↔◌, ℕ, ◌<◌, ◌≤◌, true, false, length, IfSome, IsSome, IsNone, get_or};
+ghost use Rattle.std.specs.Prelude.{◌≡◌, ◌↔◌, ℕ, ◌<◌, ◌≤◌, true, false, length, IfSome, IfOk, IsNone, get_or, All, AllPairs};
 ghost use Rattle.module_area.specs.PlanView.{place_of};
 ghost use Rattle.module_area.specs.Executions.{is_place};
 ghost use Rattle.std.specs.Prelude.{◌+◌, ◌-◌, None, nat_eq, option_map};
-ghost use Rattle.brk_table.specs.Places.{HasItsPlaces, first_place, place_count, place_at_line};
+ghost use Rattle.brk_table.specs.Places.{HasItsPlaces, HasRisingPlaces, first_place, place_count, place_at_line};
 ghost use Rattle.cov_base.specs.declared.numbers.PlaceNo.{PlaceNo as Number};
 
-use cov_base::{Addr, PlaceNo};
+use cov_base::{Addr, NoMemory, PlaceNo};
 use module_area::Place;
+use std::alloc::Global;
 use std::marker::Model;
 
 /// A module's places in order of address, and for each line of its listing the index of its place, none for a
@@ -37,31 +38,57 @@ pub struct Tables {
 impl Model for Tables {
     ghost use Rattle.std.specs.Prelude.{◌≡◌};
     ghost use Rattle.std.specs.Prelude.{All};
-    ghost use Rattle.brk_table.specs.Places.{TablesView, ArePlaces, HasItsPlaces, all_places};
+    ghost use Rattle.brk_table.specs.Places.{TablesView, ArePlaces, HasItsPlaces, HasRisingPlaces, all_places};
 
     ghost Value = { TablesView };
 
     ghost view = { λ t. record { tables = t.tables.items; places = t.places.items } };
 
-    ghost invariant = { λ t. (t.places.items ≡ all_places t.tables.items) × ArePlaces t.places.items × All HasItsPlaces t.tables.items };
+    ghost invariant = { λ t. (t.places.items ≡ all_places t.tables.items) × ArePlaces t.places.items × All HasItsPlaces t.tables.items × All HasRisingPlaces t.tables.items };
 }
 
-/// The index of the place that begins at the address.
-fn find(places: &[Place], a: Addr) -> Option<usize>
+/// The index of the place that begins at the address, where the places rise.
+fn search(places: &[Place], a: Addr) -> Option<usize>
+    requires { AllPairs (λ p q. p.at < q.at) places.now }
     ensures exists { IfSome result (λ n. n < length places.now) }
     ensures begins { IfSome result (λ n. (place_of places.now n).at ≡ a) }
-    ensures some { IsSome result → is_place places.now a ≡ true }
     ensures none { IsNone result → is_place places.now a ≡ false }
 {
-    for i in 0..places.len() {
-        if places[i].at.get() == a.get() {
-            return Some(i);
+    let mut low = 0;
+    let mut high = places.len();
+    while low < high {
+        let middle = low + (high - low) / 2;
+        let at = places[middle].at.get();
+        if at == a.get() {
+            return Some(middle);
+        }
+        if at < a.get() {
+            low = middle + 1;
+        } else {
+            high = middle;
         }
     }
     None
 }
 
 impl Table {
+    /// Its places, in order of address.
+    fn places(&self) -> &[Place]
+        ensures { result.now ≡ self.now.places }
+    {
+        &self.places
+    }
+
+    /// The index of the place that begins at the address, by halves.
+    fn find(&self, a: Addr) -> Option<usize>
+        requires { HasRisingPlaces self.now }
+        ensures exists { IfSome result (λ n. n < length self.now.places) }
+        ensures begins { IfSome result (λ n. (place_of self.now.places n).at ≡ a) }
+        ensures none { IsNone result → is_place self.now.places a ≡ false }
+    {
+        search(self.places(), a)
+    }
+
     /// The number of its places.
     fn size(&self) -> usize
         ensures { result ≡ length self.now.places }
@@ -94,18 +121,40 @@ impl Table {
 }
 
 impl Tables {
-    ghost use Rattle.brk_table.specs.Places.{ArePlaces};
+    ghost use Rattle.brk_table.specs.Places.{ArePlaces, all_places};
 
-    /// The place that begins at the address; none exactly where no place begins there.
+    /// Numbers the places of tables that `build` gave for different modules in rising order, whose modules share no
+    /// byte, with at most 65,536 places together.
+    pub fn of(alloc: Global, tables: Vec<Table>) -> Result<Tables, NoMemory>
+        requires places { ArePlaces (all_places tables.items) }
+        requires lines { All HasItsPlaces tables.items }
+        requires rising { All HasRisingPlaces tables.items }
+        ensures tables { IfOk result (λ t. t.tables ≡ tables.items) }
+        ensures places { IfOk result (λ t. t.places ≡ all_places tables.items) }
+    {
+        let mut places = Vec::new(alloc);
+        for table in &tables {
+            places.extend_from_slice(table.places())?;
+        }
+        Ok(Tables { tables, places })
+    }
+
+    /// The place that begins at the address; none exactly where no place begins there. Searches each module's places
+    /// by halves.
     pub fn at(&self, a: Addr) -> Option<PlaceNo>
         ensures exists { IfSome result (λ n. n.0 < length self.now.places) }
         ensures begins { IfSome result (λ n. (place_of self.now.places n.0).at ≡ a) }
         ensures none { IsNone result ↔ (is_place self.now.places a ≡ false) }
     {
-        match find(&self.places, a) {
-            Some(n) => Some(PlaceNo(n as u32)),
-            None => None,
+        let mut first = 0;
+        for i in 0..self.tables.len() {
+            let table = &self.tables[i];
+            if let Some(k) = table.find(a) {
+                return Some(PlaceNo((first + k) as u32));
+            }
+            first += table.size();
         }
+        None
     }
 
     /// The place of an existing number.

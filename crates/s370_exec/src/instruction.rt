@@ -7,10 +7,10 @@ ghost use Rattle.s370_decode.specs.Table.{op_of};
 ghost use Rattle.s370_exec.specs.Solo.{effect, effect_of, onward_by, call, updated, link_code};
 
 use crate::branch::branch;
-use crate::fixed::fixed;
 use crate::group::{Group, group_of};
 use cov_base::Addr;
 use s370_decode::{Code, Op, op_of};
+use s370_fixed::fixed;
 use s370_state::{Cpu, Ending, Next, Space, TaskIo};
 
 /// Goes on at the updated address, unless the task has ended.

@@ -1,10 +1,10 @@
-use Rattle.std.proofs.Common.{◌≡◌, ◌+◌, ◌∙◌, sym, ap, get_or, Some, None, arith}
+use Rattle.std.proofs.Common.{◌≡◌, ◌+◌, ◌∙◌, sym, get_or, None, arith}
 use Rattle.std.proofs.lemmas.List.{get_or_read}
 use Rattle.listing_reader.specs.declared.lines.Line.TheVariants.{Text}
 use Rattle.listing_reader.specs.declared.lines.Line.TheVariants as says
 use Rattle.brk_table.specs.Build.{fault_by}
 use Rattle.brk_table.specs.Cover.{is_covered}
-use Rattle.brk_table.proofs.Passes.{AtLine, at_start, at_end, found_fault, no_fault, code_passed, text_passed}
+use Rattle.brk_table.proofs.Passes.{at_start, at_end, found_fault, no_fault, code_passed, text_passed}
 use Rattle.brk_table.proofs.fault.first_fault.Goals as goal
 use Rattle.brk_table.proofs.fault.first_fault.Goals.{in-Code+in_default-fault_by, in_default}
 
@@ -27,7 +27,7 @@ loop-i-preserved c = elim c.match-lines-i.branch [
   | in-Code+in_default-fault_by w ↦ (
       let is : get_or c.args.lines.now c.loop-i.i Text ≡ says.Code w.in-Code.loc w.in-Code.code = sym (get_or_read c.args.lines.now c.loop-i.i c.index-lines-i.result c.loop-i-test.true c.index-lines-i.is Text) ∙ w.in-Code.is in
       let passed = code_passed c.args.bytes.now c.args.room c.args.lines.now c.loop-i.i c.loop-i.cover w.mark.new.cover c.loop-i.before w.in-Code.loc w.in-Code.code c.loop-i.invariant.at c.loop-i-test.true c.requires.sound is
-            (sym w.fault_by.ensures ∙ w.in_default-fault_by.is) w.mark.auto.cover w.mark.ensures.inside w.mark.ensures.outside in
+      (sym w.fault_by.ensures ∙ w.in_default-fault_by.is) w.mark.auto.cover w.mark.ensures.inside w.mark.ensures.outside in
       record { at = rw (w.cover-is, w.before-is) passed; low = omega arith })
   | in_default w ↦ (
       let is : get_or c.args.lines.now c.loop-i.i Text ≡ Text = sym (get_or_read c.args.lines.now c.loop-i.i c.index-lines-i.result c.loop-i-test.true c.index-lines-i.is Text) ∙ w.in_default.is in
@@ -38,4 +38,4 @@ loop-i-preserved c = elim c.match-lines-i.branch [
 pub returns : goal.returns
 returns c =
     let end = at_end c.args.bytes.now c.args.room c.args.lines.now c.loop-i.i c.loop-i.cover c.loop-i.before c.loop-i.invariant.at (omega arith) in
-    record { fault = sym end.none; cover = λ _. end.cover_is }
+    record { fault = sym end.none; cover = λ _. end.cover_is; inside = λ _. end.inside; room = λ _. end.count }

@@ -1,6 +1,6 @@
-use Rattle.std.proofs.Common.{◌≡◌, ◌+◌, ◌<◌, ◌≤◌, length, get_or, ap, sym, ◌∙◌, ◌-◌, subst, arith}
+use Rattle.std.proofs.Common.{◌<◌, ◌≤◌, length, ap, sym, ◌∙◌, ◌-◌, subst, arith}
 use Rattle.brk_table.specs.Places.{TablesView, HasItsPlaces}
-use Rattle.brk_table.proofs.RangeLemmas.{AtOwnTable, AtNoTable, at_start, own_table, other_table, any_table, no_table, place_bounds}
+use Rattle.brk_table.proofs.RangeLemmas.{at_start, own_table, other_table, any_table, no_table, place_bounds}
 use Rattle.brk_table.proofs.tables.Tables.line.Goals as goal
 
 pub loop-i-init : goal.loop-i-init

@@ -1,6 +1,6 @@
-use Rattle.std.proofs.Common.{◌≡◌, ◌+◌, ◌<◌, ◌≤◌, length, get_or, ap, sym, ◌∙◌, arith}
+use Rattle.std.proofs.Common.{◌≡◌, ◌<◌, ◌≤◌, length, ap, sym, ◌∙◌, arith}
 use Rattle.brk_table.specs.Places.{TablesView, all_places}
-use Rattle.brk_table.proofs.RangeLemmas.{AtOwnTable, AtNoTable, at_start, own_table, other_table, any_table, no_table}
+use Rattle.brk_table.proofs.RangeLemmas.{at_start, own_table, other_table, any_table, no_table}
 use Rattle.brk_table.proofs.tables.Tables.range.Goals as goal
 
 pub loop-i-init : goal.loop-i-init

@@ -1,0 +1,104 @@
+//! The places of a listing's instructions, in order of address.
+ghost use Rattle.std.specs.Prelude.{◌≡◌, ℕ, ◌+◌, ◌<◌, ◌≤◌, length, get_or, count_by, IfOk, IfErr, OnOk, IfSome, IsNone};
+ghost use Rattle.std.specs.List.{AllPass};
+ghost use Rattle.s370_decode.specs.declared.code.Code.{Code as Instruction};
+ghost use Rattle.listing_reader.specs.Listing.{is_sound};
+ghost use Rattle.listing_reader.specs.declared.lines.Line.TheVariants as says;
+ghost use Rattle.brk_table.specs.Build.{place_from, is_code, IsTable};
+ghost use Rattle.brk_table.specs.Cover.{is_inside, IsCover, IsTabled, OnlyAt};
+
+use crate::faults::BuildFault;
+use crate::tables::Table;
+use cov_base::Addr;
+use listing_reader::Line;
+use module_area::Place;
+use s370_decode::{Code, kind};
+use std::alloc::Global;
+
+fn place_from(module: u32, base: Addr, loc: u32, code: &Code) -> Place
+    requires { base + loc < 16777216 }
+    ensures { result ≡ place_from «module» base loc code.now }
+{
+    let original = u16::from(code.bytes[0]) * 256 + u16::from(code.bytes[1]);
+    Place {
+        module,
+        at: base.plus(loc),
+        len: code.len,
+        original,
+        kind: kind(original),
+    }
+}
+
+/// Whether the line's instruction begins there.
+fn begins<'a>(line: &'a Line, at: u32) -> Option<&'a Code>
+    ensures code { IfSome result (λ c. line.now ≡ says.Code at c.now) }
+    ensures none { IsNone result → (c : Instruction) → line.now ≡ says.Code at c → ⊥ }
+{
+    match line {
+        Line::Code { loc, bytes } => { if *loc == at { Some(bytes) } else { None } }
+        Line::Text => None,
+    }
+}
+
+/// The table of lines without a fault: one pass over the bytes finds the places in order.
+pub fn place_lines(
+    alloc: Global,
+    module: u32,
+    base: Addr,
+    lines: &[Line],
+    cover: &[Option<u32>],
+) -> Result<Table, BuildFault>
+    requires cover { IsCover lines.now cover.now }
+    requires inside { AllPass (is_inside (length cover.now)) lines.now }
+    requires sound { AllPass is_sound lines.now }
+    requires count { length lines.now ≤ 16777216 }
+    requires size { base + length cover.now ≤ 16777216 }
+    ensures table { IfOk result (λ t. IsTable «module» base lines.now t) }
+    ensures places { IfOk result (λ t. length t.places ≡ count_by is_code lines.now) }
+    ensures fault { IfErr result (λ e. e ≡ BuildFault.NoMemory) }
+{
+    let mut places = Vec::new(alloc);
+    let mut entries: Vec<Option<u32>> = vec![in alloc; None; lines.len()]?;
+    for at in 0..cover.len() {
+        if let Some(i) = cover[at] {
+            place_line(
+                module,
+                base,
+                lines,
+                i as usize,
+                at as u32,
+                &mut places,
+                &mut entries,
+            )?;
+        }
+    }
+    Ok(Table {
+        module,
+        places,
+        lines: entries,
+    })
+}
+
+/// Adds the place of line i where its instruction begins at the location.
+fn place_line(
+    module: u32,
+    base: Addr,
+    lines: &[Line],
+    i: usize,
+    at: u32,
+    places: &mut Vec<Place>,
+    entries: &mut Vec<Option<u32>>,
+) -> Result<(), BuildFault>
+    requires line { i < length lines.now }
+    requires only { OnlyAt lines.now at i }
+    requires place { base + at < 16777216 }
+    requires tabled { IsTabled «module» base lines.now at places.old.items entries.old.items }
+    ensures tabled { OnOk result (IsTabled «module» base lines.now (at + 1) places.new.items entries.new.items) }
+    ensures fault { IfErr result (λ e. e ≡ BuildFault.NoMemory) }
+{
+    if let Some(code) = begins(&lines[i], at) {
+        entries[i] = Some(places.len() as u32);
+        places.push(place_from(module, base, at, code))?;
+    }
+    Ok(())
+}

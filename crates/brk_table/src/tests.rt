@@ -1,0 +1,150 @@
+//! A small module's listing, with one line changed at a time.
+use crate::{BuildFault, Table, Tables, build};
+use cov_base::{Addr, Kind, Name, PlaceNo};
+use listing_lines::ListingLine;
+use listing_reader::read_listing;
+use module_area::Image;
+use std::alloc::{AllocError, Global};
+use std::test::Fail;
+
+const HEADING: &[u8] = b"  Loc  Object Code    Addr1 Addr2  Stmt   Source Statement";
+
+const LOAD: &[u8] = b"000000 4110 0005                      1          LA";
+
+const RETURN: &[u8] = b"000006 07FE                           3          BR";
+
+const BYTES: [u8; 8] = [0x41, 0x10, 0x00, 0x05, 0x1A, 0x11, 0x07, 0xFE];
+
+/// What became of a listing: its table, a fault with its line, or what a test never meets.
+#[derive(Drop)]
+enum Built {
+    Table(Table),
+    Odd(u32),
+    Outside(u32),
+    Overlap(u32),
+    TooMany(u32),
+    OwnSvc(u32),
+    Mismatch(u32, [u8; 6], [u8; 6]),
+    Nothing,
+}
+
+fn of_fault(fault: BuildFault) -> Built {
+    match fault {
+        BuildFault::Odd { line } => Built::Odd(line),
+        BuildFault::Outside { line } => Built::Outside(line),
+        BuildFault::Overlap { line } => Built::Overlap(line),
+        BuildFault::TooMany { line } => Built::TooMany(line),
+        BuildFault::OwnSvc { line } => Built::OwnSvc(line),
+        BuildFault::Mismatch {
+            line,
+            listing,
+            module,
+        } => Built::Mismatch(line, listing.bytes, module.bytes),
+        BuildFault::NoMemory => Built::Nothing,
+    }
+}
+
+/// Builds the table of module 0, whose first byte is at 100000.
+fn build_over(alloc: Global, texts: &[&[u8]], code: &[u8], room: u32) -> Result<Built, AllocError> {
+    let mut lines = Vec::new(alloc);
+    for text in texts {
+        lines.push(ListingLine::new(text.to_vec(alloc)?))?;
+    }
+    let bytes = code.to_vec(alloc)?;
+    if lines.len() > 100 || bytes.len() > 100 {
+        return Ok(Built::Nothing);
+    }
+    match (Name::read(b"M"), read_listing(alloc, &lines)) {
+        (Some(name), Ok(read)) => {
+            let image = Image {
+                name,
+                base: Addr::of(0x100000),
+                bytes,
+            };
+            match build(alloc, 0, &read, &image, room) {
+                Ok(table) => Ok(Built::Table(table)),
+                Err(fault) => Ok(of_fault(fault)),
+            }
+        }
+        _ => Ok(Built::Nothing),
+    }
+}
+
+/// With this line between the first and the last.
+fn with_middle(alloc: Global, middle: &[u8]) -> Result<Built, AllocError> {
+    let page: [&[u8]; 4] = [HEADING, LOAD, middle, RETURN];
+    build_over(alloc, &page, &BYTES, 100)
+}
+
+#[test]
+fn finds_each_fault_at_its_line(rt: HostRuntime) -> Result<(), Fail> {
+    let alloc = rt.alloc();
+    let odd = with_middle(
+        alloc,
+        b"000005 1A11                           2          AR",
+    )?;
+    assert!(rt; matches!(&odd, Built::Odd(3)));
+    let outside = with_middle(
+        alloc,
+        b"000008 1A11                           2          AR",
+    )?;
+    assert!(rt; matches!(&outside, Built::Outside(3)));
+    let overlap = with_middle(
+        alloc,
+        b"000002 1A11                           2          AR",
+    )?;
+    assert!(rt; matches!(&overlap, Built::Overlap(3)));
+    let own = with_middle(
+        alloc,
+        b"000004 0AFF                           2          SVC",
+    )?;
+    assert!(rt; matches!(&own, Built::OwnSvc(3)));
+    let page: [&[u8]; 4] = [
+        HEADING,
+        LOAD,
+        b"000004 1A11                           2          AR",
+        RETURN,
+    ];
+    let many = build_over(alloc, &page, &BYTES, 2)?;
+    assert!(rt; matches!(&many, Built::TooMany(4)));
+    let late: [&[u8]; 2] = [
+        HEADING,
+        b"000000 4110 0006                      1          LA",
+    ];
+    let other = build_over(alloc, &late, &BYTES, 2)?;
+    assert!(rt;
+        matches!(
+            &other,
+            Built::Mismatch(2, [0x41, 0x10, 0, 6, 0, 0], [0x41, 0x10, 0, 5, 0, 0])
+        )
+    );
+    Ok(())
+}
+
+#[test]
+fn puts_the_places_in_order_of_address(rt: HostRuntime) -> Result<(), Fail> {
+    let alloc = rt.alloc();
+    let page: [&[u8]; 5] = [
+        HEADING,
+        RETURN,
+        b"000002                                2 X        DS    F",
+        LOAD,
+        b"000004 1A11                           2          AR",
+    ];
+    if let Built::Table(table) = build_over(alloc, &page, &BYTES, 3)? {
+        assert_eq!(rt; table.places.len(), 3);
+        assert_eq!(rt; table.places[0].at.get(), 0x100000);
+        assert_eq!(rt; table.places[1].at.get(), 0x100004);
+        assert_eq!(rt; table.places[2].at.get(), 0x100006);
+        assert_eq!(rt; table.places[2].original, 0x07FE);
+        assert_eq!(rt; table.places[0].len, 4);
+        assert_eq!(rt; table.places[0].kind, Kind::Straight);
+        assert_eq!(rt;
+            table.lines.as_slice(),
+            [None, Some(2), None, Some(0), Some(1)].as_slice()
+        );
+        return Ok(());
+    }
+    assert!(rt; false);
+    Ok(())
+}
