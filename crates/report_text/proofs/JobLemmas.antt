@@ -1,5 +1,5 @@
 -- What the code reads of a job.
-use Rattle.std.proofs.Common.{◌≡◌, ℕ, ◌-◌, ◌<◌, Option, None, List, [], length, get_or, sym, ap, ◌∙◌, arith}
+use Rattle.std.proofs.Common.{◌≡◌, ℕ, ◌-◌, ◌<◌, Option, None, List, [], length, get_or, sym, ◌∙◌}
 use Rattle.std.proofs.lemmas.List.{get_or_read}
 use Rattle.cov_base.specs.Memory.{ImageView}
 use Rattle.report_text.specs.Sessions.{no_module, module_of}

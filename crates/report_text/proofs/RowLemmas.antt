@@ -1,8 +1,8 @@
 -- Rows, one after another.
-use Rattle.std.proofs.Common.{◌≡◌, ℕ, ◌+◌, ◌-◌, ◌*◌, ◌<◌, ◌≤◌, zero, suc, Bool, true, false, not, if◌then◌else◌, bytes_eq, List, [], ◌∷◌, ◌++◌, length, refl, sym, ap, ◌∙◌, arith}
+use Rattle.std.proofs.Common.{◌≡◌, ℕ, ◌+◌, ◌-◌, ◌<◌, ◌≤◌, suc, Bool, true, false, not, if◌then◌else◌, bytes_eq, List, [], ◌∷◌, ◌++◌, refl, sym, ◌∙◌, arith}
 use Rattle.std.proofs.lemmas.Bool.{false≢true}
 use Rattle.report_text.specs.Tasks.{row_lines, storage_line}
-use Rattle.report_text.specs.Text.{lines_from, sum_from}
+use Rattle.report_text.specs.Text.{lines_from}
 
 count_step : (n count : ℕ) → n < count → count - n ≡ suc (count - (n + 1))
 count_step n count h = omega arith

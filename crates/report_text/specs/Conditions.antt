@@ -1,10 +1,10 @@
 -- What a report needs of tables, results and sets.
-use Rattle.std.specs.Prelude.{◌≡◌, ℕ, ◌+◌, ◌<◌, ◌≤◌, true, List, length, All, IfSome}
+use Rattle.std.specs.Prelude.{◌≡◌, ℕ, ◌+◌, ◌<◌, ◌≤◌, true, length, All, IfSome}
 use Rattle.cov_base.specs.FactSet.{FactSet}
 use Rattle.cov_base.specs.Facts.{is_within}
 use Rattle.module_area.specs.PlanView.{place_of}
 use Rattle.brk_table.specs.Places.{TablesView, IsIn, first_place, place_count}
-use Rattle.session_book.specs.JobView.{JobView, SessionView}
+use Rattle.session_book.specs.JobView.{JobView}
 use Rattle.session_book.specs.Results.{ResultView}
 use Rattle.session_book.specs.Sessions.{session_of, task_of}
 

@@ -1,5 +1,5 @@
 -- What a report says of a session.
-use Rattle.std.specs.Prelude.{ℕ, zero, suc, ◌+◌, ◌-◌, Bool, true, false, not, ◌&&◌, if◌then◌else◌, Option, Some, None, List, [], ◌∷◌, ◌++◌, length, get_or, codes, decimal}
+use Rattle.std.specs.Prelude.{ℕ, zero, suc, ◌+◌, ◌-◌, Bool, true, false, not, ◌&&◌, if◌then◌else◌, Option, Some, None, List, [], ◌∷◌, ◌++◌, get_or, codes, decimal}
 use Rattle.std.specs.List.{flat_map}
 use Rattle.annotator.specs.Annotated.{annotated}
 use Rattle.annotator.specs.Digits.{hex_digits}
@@ -15,7 +15,6 @@ use Rattle.module_area.specs.PlanView.{place_of}
 use Rattle.module_area.specs.declared.places.Place.{Place}
 use Rattle.brk_table.specs.Places.{TablesView, first_place, place_count, place_at_line}
 use Rattle.session_book.specs.JobView.{JobView, SessionView}
-use Rattle.session_book.specs.Sessions.{session_of}
 use Rattle.report_text.specs.declared.sessions.Run.{Run}
 use Rattle.report_text.specs.Text.{sum_from}
 

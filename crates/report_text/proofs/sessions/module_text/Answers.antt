@@ -1,4 +1,4 @@
-use Rattle.std.proofs.Common.{◌≡◌, ◌+◌, ◌-◌, ◌<◌, [], ◌∷◌, ◌++◌, ◌∙◌, length, get_or, sym, ap, arith}
+use Rattle.std.proofs.Common.{◌≡◌, ◌-◌, [], ◌∷◌, ◌++◌, arith}
 use Rattle.brk_table.specs.Places.{first_place, place_count}
 use Rattle.report_text.specs.Sessions.{module_part, module_of, count_line, executed_at, facts_at, possible_at}
 use Rattle.report_text.specs.Text.{sum_from}

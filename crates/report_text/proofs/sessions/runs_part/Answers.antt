@@ -1,7 +1,7 @@
-use Rattle.std.proofs.Common.{◌≡◌, ℕ, ◌<◌, ◌∙◌, sym, true, false, Some, None, ap, length, arith}
+use Rattle.std.proofs.Common.{◌≡◌, ◌∙◌, sym, true, false, ap}
 use Rattle.report_text.specs.Sessions.{lacks}
-use Rattle.report_text.proofs.RunLemmas.{runs_left, runs-closed, runs-more, runs-end}
-use Rattle.report_text.proofs.WriteLemmas.{progress_start, progress_at, progress_more, progress_exit, progress_last}
+use Rattle.report_text.proofs.RunLemmas.{runs-closed, runs-more, runs-end}
+use Rattle.report_text.proofs.WriteLemmas.{progress_at, progress_more, progress_exit, progress_last}
 use Rattle.report_text.proofs.sessions.runs_part.Goals as goal
 use Rattle.report_text.proofs.sessions.runs_part.Goals.{then-lacks, else-lacks+in_ok-run_part}
 

@@ -1,4 +1,4 @@
-use Rattle.std.proofs.Common.{◌≡◌, [], ◌∷◌, ◌++◌, ◌∙◌, All, List, ℕ, get_or, sym, ap, subst}
+use Rattle.std.proofs.Common.{◌≡◌, [], ◌∷◌, ◌++◌, ◌∙◌, All, get_or, sym, ap, subst}
 use Rattle.session_book.specs.JobView.{SessionView}
 use Rattle.session_book.specs.Sessions.{session_of}
 use Rattle.report_text.specs.Conditions.{AreWithin}

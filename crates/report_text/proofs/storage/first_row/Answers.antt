@@ -1,6 +1,5 @@
 use Rattle.std.proofs.Common.{◌≡◌, ◌+◌, ◌*◌, ◌<◌, ◌∙◌, length, get_or, take, replicate, fold, sym, ap, subst, arith}
-use Rattle.std.proofs.lemmas.List.{length-replicate}
-use Rattle.module_area.specs.Views.{DataView, with_card}
+use Rattle.module_area.specs.Views.{with_card}
 use Rattle.session_book.specs.JobView.{TaskView}
 use Rattle.report_text.specs.FirstRows.{IsPartOf, FitsIn}
 use Rattle.report_text.proofs.FirstRowLemmas.{cards_more, length-with_card}

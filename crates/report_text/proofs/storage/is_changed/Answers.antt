@@ -1,4 +1,4 @@
-use Rattle.std.proofs.Common.{◌≡◌, ℕ, ◌*◌, List, length, take, not, bytes_eq, ap, ◌∙◌, rules}
+use Rattle.std.proofs.Common.{◌≡◌, ℕ, List, length, take, not, bytes_eq, ap, ◌∙◌, rules}
 use Rattle.module_area.specs.Views.{first_bytes}
 use Rattle.report_text.specs.Text.{row_of}
 use Rattle.report_text.proofs.FirstRowLemmas.{part_row}

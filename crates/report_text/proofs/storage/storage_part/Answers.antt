@@ -1,4 +1,4 @@
-use Rattle.std.proofs.Common.{◌≡◌, ℕ, ◌*◌, ◌-◌, ◌<◌, List, ap, arith}
+use Rattle.std.proofs.Common.{◌≡◌, ℕ, ◌*◌, ◌-◌, ◌<◌, ap, arith}
 use Rattle.module_area.specs.Views.{first_bytes}
 use Rattle.session_book.specs.JobView.{TaskView}
 use Rattle.report_text.specs.Tasks.{row_lines, storage_lines}

@@ -1,4 +1,4 @@
-use Rattle.std.proofs.Common.{◌≡◌, ◌<◌, List, [], ◌∷◌, ◌++◌, arith, rules}
+use Rattle.std.proofs.Common.{◌≡◌, ◌<◌, [], ◌∷◌, ◌++◌, rules}
 use Rattle.report_text.specs.Tasks.{output_row}
 use Rattle.report_text.specs.Text.{hex_bytes, row_of, row_count}
 use Rattle.report_text.proofs.RowLemmas.{lines_from-next}

@@ -1,4 +1,4 @@
-use Rattle.std.proofs.Common.{◌≡◌, List, [], ◌∷◌, ◌++◌, ap, ◌∙◌, take, drop, codes, rules}
+use Rattle.std.proofs.Common.{◌≡◌, [], ◌∷◌, ◌++◌, take, drop, codes, rules}
 use Rattle.report_text.specs.Tasks.{state_lines, task_line, register_line}
 use Rattle.report_text.proofs.WriteLemmas.{progress_start, progress_more, progress_exit, progress_last}
 use Rattle.report_text.proofs.tasks.state_part.Goals as goal

@@ -1,4 +1,4 @@
-use Rattle.std.proofs.Common.{◌≡◌, ℕ, ◌+◌, ◌<◌, length, ap, arith}
+use Rattle.std.proofs.Common.{◌+◌, ◌<◌, length, ap, arith}
 use Rattle.session_book.specs.JobView.{JobView}
 use Rattle.report_text.specs.Report.{session_part}
 use Rattle.report_text.proofs.RowLemmas.{lines_from-next}
