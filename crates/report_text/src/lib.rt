@@ -11,3 +11,4 @@ mod writing;
 pub use sessions::session_part;
 pub use tasks::task_part;
 pub use whole::report;
+pub use words::add_bytes;
