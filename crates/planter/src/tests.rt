@@ -8,7 +8,7 @@ ghost use Rattle.module_area.specs.Notes.{calls};
 
 use crate::plant_all;
 use cov_base::{Addr, Fact, Kind, NoMemory, PlaceNo, SessNo};
-use module_area::{Areas, Cells, Place, Plan, PlainAreas, Tally};
+use module_area::{Areas, Cells, Place, PlainAreas, Plan, Tally};
 use std::alloc::Global;
 use std::test::Fail;
 
@@ -94,7 +94,10 @@ fn counts_and_keeps_a_loop_of_three_turns(rt: HostRuntime) -> Result<(), Fail> {
     let plan = Plan::checked(alloc, places, windows, Vec::new(alloc), 1).ok_or("no plan")?;
     let mut areas = PlainAreas::new(alloc, 1)?;
     let (shown, branch, back) = loop_and_return(alloc, &mut areas, &plan)?;
-    assert_eq!(rt; shown, [(true, false), (true, false), (true, true), (true, true)]);
+    assert_eq!(rt;
+        shown,
+        [(true, false), (true, false), (true, true), (true, true)]
+    );
     assert!(rt; branch && back);
     let tally = Tally {
         plants: 2,

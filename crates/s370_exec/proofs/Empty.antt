@@ -1,5 +1,5 @@
 -- Operands where nothing is accessible, and nothing is a touch byte.
-use Rattle.std.proofs.Common.{◌≡◌, ℕ, ◌+◌, zero, suc, Bool, true, false, ◌&&◌, nat_lt, ◌||◌, None, refl, arith}
+use Rattle.std.proofs.Common.{◌≡◌, ℕ, ◌+◌, zero, suc, Bool, true, false, ◌&&◌, nat_lt, None, refl, arith}
 use Rattle.std.proofs.lemmas.Bool.Decides.{nat_tests}
 use Rattle.cov_base.specs.Memory.{Memory, can_reach, can_store, first_touch, is_accessible, wrap}
 

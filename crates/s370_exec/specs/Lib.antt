@@ -1,3 +1,2 @@
-pub mod Fixed
 pub mod Branch
 pub mod Solo

@@ -12,8 +12,8 @@ use Rattle.s370_decode.specs.Fields.{i2}
 use Rattle.s370_decode.specs.Table.{op_of}
 use Rattle.s370_decode.specs.declared.code.Code.{Code}
 use Rattle.s370_decode.specs.declared.op.Op.{Op}
-use Rattle.s370_decode.specs.declared.op.Op.TheVariants.{LR, LA, AR, BC, BCR, SVC, Privileged}
-use Rattle.s370_exec.specs.Fixed.{fixed_row}
+use Rattle.s370_decode.specs.declared.op.Op.TheVariants.{LR, L, LH, LTR, LCR, LPR, LNR, LA, ST, STH, LM, STM, AR, A, AH, SR, S, SH, ALR, AL, SLR, SL, CR, C, CH, MR, M, MH, DR, D, SLL, SRL, SLA, SRA, SLDL, SRDL, SLDA, SRDA, CVB, CVD, BC, BCR, SVC, Privileged}
+use Rattle.s370_fixed.specs.Fixed.{fixed_row}
 use Rattle.s370_exec.specs.Branch.{branched, goes}
 use Rattle.s370_exec.specs.declared.group.Group.{Group}
 use Rattle.s370_exec.specs.declared.group.Group.TheVariants.{Fixed, Branch, Call, Supervisor, Missing}
@@ -25,8 +25,45 @@ return_address = 16777214
 -- which table an operation's row stands in
 abbrev pub group_of : Op → Group
 group_of LR = Fixed
+group_of L = Fixed
+group_of LH = Fixed
+group_of LTR = Fixed
+group_of LCR = Fixed
+group_of LPR = Fixed
+group_of LNR = Fixed
 group_of LA = Fixed
+group_of ST = Fixed
+group_of STH = Fixed
+group_of LM = Fixed
+group_of STM = Fixed
 group_of AR = Fixed
+group_of A = Fixed
+group_of AH = Fixed
+group_of SR = Fixed
+group_of S = Fixed
+group_of SH = Fixed
+group_of ALR = Fixed
+group_of AL = Fixed
+group_of SLR = Fixed
+group_of SL = Fixed
+group_of CR = Fixed
+group_of C = Fixed
+group_of CH = Fixed
+group_of MR = Fixed
+group_of M = Fixed
+group_of MH = Fixed
+group_of DR = Fixed
+group_of D = Fixed
+group_of SLL = Fixed
+group_of SRL = Fixed
+group_of SLA = Fixed
+group_of SRA = Fixed
+group_of SLDL = Fixed
+group_of SRDL = Fixed
+group_of SLDA = Fixed
+group_of SRDA = Fixed
+group_of CVB = Fixed
+group_of CVD = Fixed
 group_of BC = Branch
 group_of BCR = Branch
 group_of SVC = Call
@@ -48,10 +85,20 @@ unchanged s io next = record { machine = s; io = io; next = next }
 abbrev pub at_address : Machine → ℕ → Machine
 at_address s a = record { cpu = record { regs = s.cpu.regs; ia = a; condition = s.cpu.condition; mask = s.cpu.mask }; bytes = s.bytes }
 
+-- the endings by codes 8 and 10 come once the results are in place
+abbrev pub is_completed : Ending → Bool
+is_completed (Abend code) = if code == 8 then true else code == 10
+is_completed _ = false
+
+-- an ending leaves the instruction address as it is, but after the results it is the updated one
+abbrev pub ended_by : ℕ → IoView → Machine → Ending → Bool → Effect
+ended_by next io s e true = record { machine = at_address s next; io = io; next = Ended e }
+ended_by next io s e false = record { machine = s; io = io; next = Ended e }
+
 -- goes on at the updated address, unless the task has ended
 abbrev pub onward_by : ℕ → IoView → Machine → Next → Effect
 onward_by next io s On = record { machine = at_address s next; io = io; next = On }
-onward_by next io s (Ended e) = record { machine = s; io = io; next = Ended e }
+onward_by next io s (Ended e) = ended_by next io s e (is_completed e)
 
 abbrev pub onward : ℕ → IoView → After → Effect
 onward next io r = onward_by next io r.machine r.next

@@ -4,14 +4,24 @@ ghost use Rattle.cov_base.specs.States.{CpuView, IoView, Machine};
 ghost use Rattle.s370_state.specs.Row.{machine_of};
 ghost use Rattle.s370_decode.specs.Fields.{first_half, i2};
 ghost use Rattle.s370_decode.specs.Table.{op_of};
-ghost use Rattle.s370_exec.specs.Solo.{effect, effect_of, onward_by, call, updated, link_code};
+ghost use Rattle.s370_exec.specs.Solo.{effect, effect_of, is_completed, onward_by, call, updated, link_code};
 
 use crate::branch::branch;
-use crate::fixed::fixed;
 use crate::group::{Group, group_of};
 use cov_base::Addr;
 use s370_decode::{Code, Op, op_of};
+use s370_fixed::fixed;
 use s370_state::{Cpu, Ending, Next, Space, TaskIo};
+
+/// Whether the ending comes once the results are in place, as those by codes 8 and X'A' do.
+fn is_completed(e: &Ending) -> bool
+    ensures { result ≡ is_completed e.now }
+{
+    match e {
+        Ending::Abend(code) => { if *code == 8 { true } else { *code == 10 } }
+        _ => false,
+    }
+}
 
 /// Goes on at the updated address, unless the task has ended.
 fn onward(cpu: &mut Cpu, to: Addr, next: Next) -> Next
@@ -22,7 +32,13 @@ fn onward(cpu: &mut Cpu, to: Addr, next: Next) -> Next
             cpu.go(to);
             Next::On
         }
-        Next::Ended(e) => Next::Ended(e),
+        Next::Ended(e) => {
+            if is_completed(&e) {
+                cpu.go(to);
+                return Next::Ended(e);
+            }
+            Next::Ended(e)
+        }
     }
 }
 

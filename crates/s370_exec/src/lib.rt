@@ -3,7 +3,6 @@
 
 mod branch;
 mod fetch;
-mod fixed;
 mod group;
 mod instruction;
 

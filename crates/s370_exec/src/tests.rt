@@ -139,6 +139,27 @@ fn branches_by_mask_and_condition(rt: HostRuntime) -> Result<(), Fail> {
 }
 
 #[test]
+fn the_address_after_an_interruption(rt: HostRuntime) -> Result<(), Fail> {
+    let mut io = TaskIo::new(rt.alloc(), vec![in rt.alloc(); 1]?, 0)?;
+    let rows = [
+        ([0x1A, 0xEF], None, 8, 0x10_0002),
+        ([0x1A, 0xEF], Some(Addr::of(0x20_0000)), 8, 0x20_0004),
+        ([0x1D, 0xE0], None, 9, 0x10_0000),
+        ([0x1D, 0xFE], None, 6, 0x10_0000),
+    ];
+    for (bytes, ex, ending, ia) in rows {
+        let mut cpu = task();
+        cpu.mask = 15;
+        cpu.regs[14] = 0x7FFF_FFFF;
+        let code = code_of(bytes[0], bytes[1], [0; 4], 2);
+        let next = execute(&mut cpu, &mut Nowhere, &mut io, &code, ex);
+        assert!(rt; next == Next::Ended(Ending::Abend(ending)));
+        assert_eq!(rt; cpu.at().get(), ia);
+    }
+    Ok(())
+}
+
+#[test]
 fn a_later_halfword_that_is_nowhere(rt: HostRuntime) {
     let at = Addr::of(0x10_0000);
     assert!(rt; fetch_rest(&Nowhere, at, 0x07FE).is_ok());

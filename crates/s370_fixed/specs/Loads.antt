@@ -1,11 +1,11 @@
 -- The rows of loads and stores of one register, and of complements (Principles of Operation, "General Instructions").
-use Rattle.std.specs.Prelude.{ℕ, true, [], ◌∷◌, ℤ, pos, neg_ℤ}
+use Rattle.std.specs.Prelude.{true, [], ◌∷◌, pos, neg_ℤ}
 use Rattle.std.specs.Int.RustNames.{unsigned_abs}
 use Rattle.cov_base.specs.States.{Machine}
 use Rattle.cov_base.specs.Memory.{Memory}
-use Rattle.s370_state.specs.Row.{Row, Outcome, Completes, stores, reg, with_reg, with_cc, with_bytes}
+use Rattle.s370_state.specs.Row.{Row, Completes, stores, reg, with_reg, with_cc, with_bytes}
 use Rattle.s370_state.specs.Words.{signed, low_word, sign_code, store_word, store_half}
-use Rattle.s370_decode.specs.Fields.{r1, r2, ex}
+use Rattle.s370_decode.specs.Fields.{r1, ex}
 use Rattle.s370_decode.specs.declared.code.Code.{Code}
 use Rattle.s370_fixed.specs.Operands.{at_once, from_register, from_word, from_half, loads, results}
 

@@ -1,9 +1,9 @@
 -- The second operand of an operation, and the shapes of outcomes that operations share.
-use Rattle.std.specs.Prelude.{ℕ, Bool, true, if◌then◌else◌, List, [], ◌∷◌, ℤ}
+use Rattle.std.specs.Prelude.{ℕ, true, if◌then◌else◌, List, [], ◌∷◌, ℤ}
 use Rattle.cov_base.specs.States.{Machine}
 use Rattle.cov_base.specs.Memory.{Memory}
 use Rattle.s370_state.specs.Row.{Row, Outcome, Completes, Overflows, reads, reg, with_reg, with_cc, is_even}
-use Rattle.s370_state.specs.Words.{number_at, signed, signed_half, low_word, is_word, sign_code}
+use Rattle.s370_state.specs.Words.{number_at, signed_half, low_word, is_word, sign_code}
 use Rattle.s370_decode.specs.Fields.{r1, r2, ex}
 use Rattle.s370_decode.specs.declared.code.Code.{Code}
 
@@ -30,3 +30,13 @@ loads s c v = Completes (with_reg s (r1 c) v)
 -- R1 becomes the low word of a signed result; code 3 and an overflow with code 8 where it is no word, else its sign code
 abbrev pub results : Machine → Code → ℤ → Outcome
 results s c z = Overflows (with_cc (with_reg s (r1 c) (low_word z)) (if is_word z then sign_code z else 3)) (if is_word z then 0 else 8)
+
+-- the same operands where R1 begins a pair, and is even
+abbrev pub pair_from_register : Machine → Code → (ℕ → Outcome) → Row
+pair_from_register s c f = record { well = is_even (r1 c); uses = []; outcome = f (reg s (r2 c)) }
+
+abbrev pub pair_from_word : Memory → Machine → Code → (ℕ → Outcome) → Row
+pair_from_word m s c f = record { well = is_even (r1 c); uses = reads (ex s.cpu c) 4 ∷ []; outcome = f (number_at m s.bytes (ex s.cpu c) 4) }
+
+abbrev pub with_regs : Machine → List ℕ → Machine
+with_regs s regs = record { cpu = record { regs = regs; ia = s.cpu.ia; condition = s.cpu.condition; mask = s.cpu.mask }; bytes = s.bytes }

@@ -1,4 +1,3 @@
 pub mod JobView
-pub mod Ledger
 pub mod Results
 pub mod Sessions

@@ -1,5 +1,5 @@
 //! The first halfword of an instruction.
-ghost use Rattle.std.specs.Prelude.{◌≡◌, ◌≢◌, ℕ, ◌+◌, ◌<◌, ◌^◌, IfOk, IfErr, OnErr, length};
+ghost use Rattle.std.specs.Prelude.{◌≡◌, ◌≢◌, ℕ, ◌+◌, ◌<◌, ◌^◌, IfOk, IfErr, OnErr, length, nat_eq};
 ghost use Rattle.std.specs.declared.option.Option.TheVariants.{Some, None};
 ghost use Rattle.cov_base.specs.Codes.{breakpoint};
 ghost use Rattle.cov_base.specs.Memory.{half_at};
@@ -26,6 +26,25 @@ pub enum Met {
     Trap(PlaceNo, Cell, u16),
 }
 
+impl Met {
+    /// The original halfword.
+    pub fn original(&self) -> u16
+        ensures { result ≡ half_of self.now }
+    {
+        match self {
+            Met::Plain(half) => *half,
+            Met::Free(_, half) => *half,
+            Met::Trap(_, _, half) => *half,
+        }
+    }
+}
+
+fn is_breakpoint(cell: Cell) -> bool
+    ensures { result ≡ nat_eq cell.half breakpoint }
+{
+    cell.half == BREAKPOINT
+}
+
 /// Fetches the cell of the place that begins there.
 fn at_place<C: Cells>(cells: &C, pass: &mut C::Pass, tables: &Tables, place: PlaceNo) -> Met
     requires area { C.is_pass cells.now pass.old }
@@ -39,7 +58,7 @@ fn at_place<C: Cells>(cells: &C, pass: &mut C::Pass, tables: &Tables, place: Pla
 {
     let original = tables.place(place).original;
     let cell = cells.fetch(pass, place);
-    if cell.half == BREAKPOINT {
+    if is_breakpoint(cell) {
         Met::Trap(place, cell, original)
     } else {
         Met::Free(place, cell.half)

@@ -3,7 +3,7 @@ ghost use Rattle.std.specs.Prelude.{◌≡◌, ℕ, ◌+◌, ◌%◌, ◌<◌, �
 ghost use Rattle.cov_base.specs.Facts.{fact_of};
 ghost use Rattle.module_area.specs.Notes.{calls};
 ghost use Rattle.s370_exec.specs.Solo.{solo_step};
-ghost use Rattle.svc_monitor.specs.First.{IsOver, IsPending, half_of};
+ghost use Rattle.svc_monitor.specs.First.{IsOver, IsPending};
 ghost use Rattle.svc_monitor.specs.Settled.{Shows};
 ghost use Rattle.svc_monitor.specs.Observed.{Observes, state_of};
 
@@ -23,19 +23,6 @@ fn fact_of(kind: Kind, went: bool) -> Fact
     match kind {
         Kind::Straight => Fact::Ran,
         Kind::Conditional => if went { Fact::Went } else { Fact::Stayed },
-    }
-}
-
-impl Met {
-    /// The original halfword.
-    fn original(&self) -> u16
-        ensures { result ≡ half_of self.now }
-    {
-        match self {
-            Met::Plain(half) => *half,
-            Met::Free(_, half) => *half,
-            Met::Trap(_, _, half) => *half,
-        }
     }
 }
 

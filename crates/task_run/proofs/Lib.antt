@@ -1,3 +1,4 @@
+pub mod CountLemmas
 pub mod RunLemmas
 pub mod SetLemmas
 pub mod TraceLemmas

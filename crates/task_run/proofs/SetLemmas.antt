@@ -19,16 +19,11 @@ use Rattle.module_area.specs.FinalsView.{FinalsView, set_at}
 use Rattle.module_area.specs.Ended.{HasSets, HasTally, full_places}
 use Rattle.module_area.proofs.CountLemmas.{count_same}
 use Rattle.module_area.proofs.FactLemmas.{same_fact-true}
+use Rattle.module_area.proofs.Indices.{same_tests}
 use Rattle.svc_monitor.specs.Observed.{Observes, IsPlanted, IsShown}
 use Rattle.svc_monitor.proofs.ObservedLemmas.{has_fact-none, facts_at-more, facts_at-append, visits_at_places-append}
 
 -- sets with the same facts
-
-same_bits : (a b : Bool) → (a ≡ true → b ≡ true) → (b ≡ true → a ≡ true) → a ≡ b
-same_bits true true f g = refl
-same_bits true false f g = sym (f refl)
-same_bits false true f g = g refl
-same_bits false false f g = refl
 
 same_sets : (a b : FactSet) → ((f : Fact) → has_fact a f ≡ has_fact b f) → a ≡ b
 same_sets a b h =
@@ -92,7 +87,7 @@ set_at-facts plan ended finals p facts is sets lt window within shown kind =
     let most : w ≤ plan.sessions = is.in_range p lt in
     same_sets (set_at finals w p) facts (λ f.
     let same = sets.marked w p f window most lt in
-    same_bits (has_fact (set_at finals w p) f) (has_fact facts f)
+    same_tests (has_fact (set_at finals w p) f) (has_fact facts f)
     (λ has. within f (sym same ∙ has))
     (λ there. elim (shown f there) [
       | inl marked ↦ same ∙ marked

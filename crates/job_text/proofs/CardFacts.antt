@@ -1,0 +1,133 @@
+-- What a card that was read keeps.
+use Rattle.std.proofs.Common.{◌≡◌, ℕ, ◌+◌, ◌*◌, ◌<◌, ◌≤◌, Bool, true, false, ◌&&◌, nat_le, cond, Option, Some, None, List, [], ◌∷◌, refl, subst, option_map, arith, codes, slice_index}
+use Rattle.std.proofs.lemmas.Bool.Decides.{nat_tests}
+use Rattle.std.specs.Str.{bytes_eq}
+use Rattle.cov_base.specs.Names.{is_digit, is_name, name_at, padded, unpadded}
+use Rattle.cov_base.proofs.NameLemmas.{unpadded-padded}
+use Rattle.job_text.specs.CardView.{CardView, Cover, Module, Text, Listing, Phase, Session, Task, End}
+use Rattle.job_text.specs.Words.{words, number_at, bytes_at, is_upper_hex, is_lower_hex, hex_value, is_address, address_value, address_at, names_at}
+use Rattle.job_text.specs.Cards.{may_stand, module_of, session_of, task_of, short_card, long_card, card_of, card_at}
+use Rattle.job_text.proofs.Guards.{guard_some, guard_more}
+
+-- a name filled with blanks
+pub record IsName (n : List ℕ) : Type 0 where
+  pub is : is_name (unpadded n) ≡ true
+  pub filled : padded (unpadded n) ≡ n
+
+abbrev pub Good : CardView → Type 0
+Good (Module n b s) = IsName n × (may_stand b s ≡ true)
+Good (Task n e p b r) = (e < 16777216) × (1 ≤ b)
+Good c = Unit {0}
+
+pub name_good : (w n : List ℕ) → name_at w ≡ Some n → IsName n
+name_good w n e =
+    let g = guard_some (is_name w) (padded w) n e in
+    let back : unpadded (padded w) ≡ w = unpadded-padded w g.0 in
+    subst IsName g.1 (record { is = rw back g.0; filled = rw back refl })
+
+digit_below : (b : ℕ) → is_digit b ≡ true → b ≤ 57
+digit_below b e = grind (arith, nat_tests)
+
+upper_below : (b : ℕ) → is_upper_hex b ≡ true → b ≤ 70
+upper_below b e = grind (arith, nat_tests)
+
+lower_below : (b : ℕ) → is_lower_hex b ≡ true → b ≤ 102
+lower_below b e = grind (arith, nat_tests)
+
+hex_by : (b : ℕ) (p q r : Bool) → is_digit b ≡ p → is_upper_hex b ≡ q → is_lower_hex b ≡ r → hex_value b ≤ 15
+hex_by b true q r d u l = rw d (omega (arith, digit_below b d))
+hex_by b false true r d u l = rw (d, u) (omega (arith, upper_below b u))
+hex_by b false false true d u l = rw (d, u, l) (omega (arith, lower_below b l))
+hex_by b false false false d u l = rw (d, u, l) (omega arith)
+
+pub hex_most : (b : ℕ) → hex_value b ≤ 15
+hex_most b = hex_by b (is_digit b) (is_upper_hex b) (is_lower_hex b) refl refl refl
+
+pub address_good : (w : List ℕ) (e : ℕ) → address_at w ≡ Some e → e < 16777216
+address_good w e h =
+    let g = guard_some (is_address w) (address_value w) e h in
+    let a : hex_value (slice_index w 0) ≤ 15 = hex_most (slice_index w 0) in
+    let b : hex_value (slice_index w (0 + 1)) ≤ 15 = hex_most (slice_index w (0 + 1)) in
+    let c : hex_value (slice_index w (0 + 2)) ≤ 15 = hex_most (slice_index w (0 + 2)) in
+    let d : hex_value (slice_index w (0 + 3)) ≤ 15 = hex_most (slice_index w (0 + 3)) in
+    let f : hex_value (slice_index w 4) ≤ 15 = hex_most (slice_index w 4) in
+    let k : hex_value (slice_index w 5) ≤ 15 = hex_most (slice_index w 5) in
+    below_of (hex_value (slice_index w 0)) (hex_value (slice_index w (0 + 1))) (hex_value (slice_index w (0 + 2))) (hex_value (slice_index w (0 + 3))) (hex_value (slice_index w 4)) (hex_value (slice_index w 5)) e g.1 a b c d f k
+  where
+    below_of : (u v x y z t n : ℕ) → (u * 4096 + v * 256 + x * 16 + y) * 256 + z * 16 + t ≡ n → u ≤ 15 → v ≤ 15 → x ≤ 15 → y ≤ 15 → z ≤ 15 → t ≤ 15 → n < 16777216
+    below_of u v x y z t n e a b c d f k = omega arith
+
+module_good : (n : Option (List ℕ)) (b s : Option ℕ) (c : CardView) → ((m : List ℕ) → n ≡ Some m → IsName m) → module_of n b s ≡ Some c → Good c
+module_good (Some n) (Some b) (Some s) c is e = let g = guard_some (may_stand b s) (Module n b s) c e in subst Good g.1 (is n refl, g.0)
+module_good (Some n) (Some b) None c is e = absurd cc
+module_good (Some n) None s c is e = absurd cc
+module_good None b s c is e = absurd cc
+
+session_good : (n : Option (List ℕ)) (ns : Option (List (List ℕ))) (c : CardView) → session_of n ns ≡ Some c → Good c
+session_good (Some n) (Some ns) c e = let same : Session n ns ≡ c = cc in subst Good same tt
+session_good (Some n) None c e = absurd cc
+session_good None ns c e = absurd cc
+
+some_budget : (b : ℕ) → nat_le 1 b ≡ true → 1 ≤ b
+some_budget b e = grind (arith, nat_tests)
+
+task_good : (n : Option (List ℕ)) (e p b r : Option ℕ) (c : CardView) → ((k : ℕ) → e ≡ Some k → k < 16777216) → task_of n e p b r ≡ Some c → Good c
+task_good (Some n) (Some e) (Some p) (Some b) (Some r) c is h = let g = guard_some (nat_le 1 b) (Task n e p b r) c h in subst Good g.1 (is e refl, some_budget b g.0)
+task_good (Some n) (Some e) (Some p) (Some b) None c is h = absurd cc
+task_good (Some n) (Some e) (Some p) None r c is h = absurd cc
+task_good (Some n) (Some e) None b r c is h = absurd cc
+task_good (Some n) None p b r c is h = absurd cc
+task_good None e p b r c is h = absurd cc
+
+last_good : (q : Bool) (c d : CardView) → Good d → cond q (Some d) None ≡ Some c → Good c
+last_good true c d g e = let same : d ≡ c = cc in subst Good same g
+last_good false c d g e = absurd cc
+
+phase_good : (q : Bool) (o : Option (List ℕ)) (more : Option CardView) (c : CardView) → (more ≡ Some c → Good c) → cond q (option_map Phase o) more ≡ Some c → Good c
+phase_good true (Some n) more c g e = let same : Phase n ≡ c = cc in subst Good same tt
+phase_good true None more c g e = absurd cc
+phase_good false o more c g e = g e
+
+listing_good : (q : Bool) (o : Option ℕ) (more : Option CardView) (c : CardView) → (more ≡ Some c → Good c) → cond q (option_map Listing o) more ≡ Some c → Good c
+listing_good true (Some n) more c g e = let same : Listing n ≡ c = cc in subst Good same tt
+listing_good true None more c g e = absurd cc
+listing_good false o more c g e = g e
+
+text_good : (q : Bool) (o : Option (List ℕ)) (more : Option CardView) (c : CardView) → (more ≡ Some c → Good c) → cond q (option_map Text o) more ≡ Some c → Good c
+text_good true (Some n) more c g e = let same : Text n ≡ c = cc in subst Good same tt
+text_good true None more c g e = absurd cc
+text_good false o more c g e = g e
+
+short_good : (key a : List ℕ) (c : CardView) → short_card key a ≡ Some c → Good c
+short_good key a c e =
+    text_good (bytes_eq key (codes "TEXT")) (bytes_at a) _ c
+    (listing_good (bytes_eq key (codes "LISTING")) (number_at a) _ c
+    (phase_good (bytes_eq key (codes "PHASE")) (name_at a) _ c
+    (last_good (bytes_eq key (codes "COVERJOB") && bytes_eq a (codes "1")) c Cover tt))) e
+
+long_good : (key a : List ℕ) (ws : List (List ℕ)) (c : CardView) → long_card key a ws ≡ Some c → Good c
+long_good key a [] c e = absurd cc
+long_good key a (b ∷ []) c e = absurd cc
+long_good key a (b ∷ s ∷ []) c e =
+    let g = guard_more (bytes_eq key (codes "MODULE")) (module_of (name_at a) (address_at b) (number_at s)) c e in
+    module_good (name_at a) (address_at b) (number_at s) c (λ m h. name_good a m h) g.1
+long_good key a (b ∷ s ∷ d ∷ []) c e = absurd cc
+long_good key a (b ∷ p ∷ q ∷ r ∷ []) c e =
+    let g = guard_more (bytes_eq key (codes "TASK")) (task_of (name_at a) (address_at b) (number_at p) (number_at q) (number_at r)) c e in
+    task_good (name_at a) (address_at b) (number_at p) (number_at q) (number_at r) c (λ k h. address_good b k h) g.1
+long_good key a (b ∷ p ∷ q ∷ r ∷ s ∷ ws) c e = absurd cc
+
+session_or_long : (q : Bool) (n : Option (List ℕ)) (ns : Option (List (List ℕ))) (more : Option CardView) (c : CardView) → (more ≡ Some c → Good c) → cond q (session_of n ns) more ≡ Some c → Good c
+session_or_long true n ns more c g e = session_good n ns c e
+session_or_long false n ns more c g e = g e
+
+words_good : (ws : List (List ℕ)) (c : CardView) → card_of ws ≡ Some c → Good c
+words_good [] c e = absurd cc
+words_good (key ∷ []) c e = last_good (bytes_eq key (codes "ENDJOB")) c End tt e
+words_good (key ∷ a ∷ []) c e = short_good key a c e
+words_good (key ∷ a ∷ b ∷ more) c e =
+    session_or_long (bytes_eq key (codes "SESSION")) (name_at a) (names_at (b ∷ more)) (long_card key a (b ∷ more)) c (long_good key a (b ∷ more) c) e
+
+-- a module's name is a name and it may stand there, an entry is an address, and a budget is at least 1
+pub card_good : (line : List ℕ) (c : CardView) → card_at line ≡ Some c → Good c
+card_good line c e = words_good (words line) c e

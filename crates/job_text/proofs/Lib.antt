@@ -1,0 +1,16 @@
+pub mod CardFacts
+pub mod Complete
+pub mod Cutting
+pub mod Ends
+pub mod Firsts
+pub mod Guards
+pub mod Jobs
+pub mod Joined
+pub mod Kept
+pub mod Laws
+pub mod LineLemmas
+pub mod Numbers
+pub mod Progresses
+pub mod Reading
+pub mod Sound
+pub mod WordLemmas

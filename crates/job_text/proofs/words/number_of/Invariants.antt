@@ -1,0 +1,6 @@
+use Rattle.std.proofs.Common.{◌≡◌, ◌<◌, ◌^◌, drop}
+use Rattle.job_text.specs.Words as spell
+use Rattle.job_text.proofs.words.number_of.Given as goal
+
+abbrev pub invariant-loop-b : goal.invariant-loop-b
+invariant-loop-b l = record { value : spell.decimal l.n (drop l.b-index l.word) ≡ spell.decimal 0 l.word; bound : l.n < 10 ^ l.b-index }

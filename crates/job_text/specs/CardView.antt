@@ -1,0 +1,16 @@
+-- What a card says, wherever memory holds it. Names are filled with blanks.
+use Rattle.std.specs.Prelude.{ℕ, List}
+
+pub data CardView : Type 0 where
+  Cover : CardView
+  -- name, base and size
+  Module : List ℕ → ℕ → ℕ → CardView
+  Text : List ℕ → CardView
+  -- how many lines
+  Listing : ℕ → CardView
+  Phase : List ℕ → CardView
+  -- name and modules
+  Session : List ℕ → List (List ℕ) → CardView
+  -- name, entry, private storage, budget and room
+  Task : List ℕ → ℕ → ℕ → ℕ → ℕ → CardView
+  End : CardView

@@ -1,0 +1,10 @@
+pub mod CardView
+pub mod Cards
+pub mod Faults
+pub mod First
+pub mod Lines
+pub mod Machine
+pub mod PlainLines
+pub mod States
+pub mod Views
+pub mod Words

@@ -1,0 +1,14 @@
+-- A card without the memory that holds it.
+use Rattle.job_text.specs.declared.card.Card.{Card}
+use Rattle.job_text.specs.declared.card.Card.TheVariants as card
+use Rattle.job_text.specs.CardView.{CardView, Cover, Module, Text, Listing, Phase, Session, Task, End}
+
+abbrev pub view : Card → CardView
+view card.Cover = Cover
+view (card.Module n b s) = Module n b s
+view (card.Text v) = Text v.items
+view (card.Listing n) = Listing n
+view (card.Phase n) = Phase n
+view (card.Session n ns) = Session n ns.items
+view (card.Task n e p b r) = Task n e p b r
+view card.End = End

@@ -1,0 +1,139 @@
+//! The card that a line is.
+ghost use Rattle.std.specs.Prelude.{◌≡◌, ℕ, ◌∷◌, map, IfOk, option_map};
+ghost use Rattle.cov_base.specs.Names.{name_at};
+ghost use Rattle.job_text.specs.Words.{number_at, address_at, names_at};
+ghost use Rattle.job_text.specs.Cards as spell;
+ghost use Rattle.job_text.specs.Views.{view};
+
+use crate::card::Card;
+use crate::words::{address_of, bytes_of, is, names_of, number_of, split};
+use cov_base::Name;
+use std::alloc::{AllocError, Global};
+
+fn short_card(alloc: Global, key: &[u8], a: &[u8]) -> Result<Option<Card>, AllocError>
+    ensures { IfOk result (λ o. option_map view o ≡ spell.short_card key.now a.now) }
+{
+    if is(key, b"TEXT") {
+        return Ok(bytes_of(alloc, a)?.map(|v| Card::Text(v)));
+    }
+    if is(key, b"LISTING") {
+        return Ok(number_of(a).map(|n| Card::Listing(n)));
+    }
+    if is(key, b"PHASE") {
+        return Ok(Name::read(a).map(|n| Card::Phase(n)));
+    }
+    if is(key, b"COVERJOB") && is(a, b"1") {
+        return Ok(Some(Card::Cover));
+    }
+    Ok(None)
+}
+
+fn session(alloc: Global, name: &[u8], modules: &[&[u8]]) -> Result<Option<Card>, AllocError>
+    ensures { IfOk result (λ o. option_map view o ≡ spell.session_of (name_at name.now) (names_at (map (λ w. w.now) modules.now))) }
+{
+    let names = names_of(alloc, modules)?;
+    match (Name::read(name), names) {
+        (Some(name), Some(modules)) => Ok(Some(Card::Session { name, modules })),
+        _ => Ok(None),
+    }
+}
+
+fn may_stand(base: u32, size: u32) -> bool
+    ensures { result ≡ spell.may_stand base size }
+{
+    base % 8 == 0
+        && base >= 0x100000
+        && size % 2 == 0
+        && size >= 2
+        && u64::from(base) + u64::from(size) <= 0xFFF000
+}
+
+fn module_card(a: &[u8], b: &[u8], c: &[u8]) -> Option<Card>
+    ensures { option_map view result ≡ spell.module_of (name_at a.now) (address_at b.now) (number_at c.now) }
+{
+    match (Name::read(a), address_of(b), number_of(c)) {
+        (Some(name), Some(base), Some(size)) => {
+            if may_stand(base.get(), size) {
+                Some(Card::Module { name, base, size })
+            } else {
+                None
+            }
+        }
+        _ => None,
+    }
+}
+
+fn task_card(a: &[u8], b: &[u8], c: &[u8], d: &[u8], e: &[u8]) -> Option<Card>
+    ensures { option_map view result ≡ spell.task_of (name_at a.now) (address_at b.now) (number_at c.now) (number_at d.now) (number_at e.now) }
+{
+    match (
+        Name::read(a),
+        address_of(b),
+        number_of(c),
+        number_of(d),
+        number_of(e),
+    ) {
+        (Some(name), Some(entry), Some(private), Some(budget), Some(room)) => {
+            if budget >= 1 {
+                Some(Card::Task {
+                    name,
+                    entry,
+                    private,
+                    budget,
+                    room,
+                })
+            } else {
+                None
+            }
+        }
+        _ => None,
+    }
+}
+
+fn long_card(key: &[u8], a: &[u8], rest: &[&[u8]]) -> Option<Card>
+    ensures { option_map view result ≡ spell.long_card key.now a.now (map (λ w. w.now) rest.now) }
+{
+    if rest.len() == 2 {
+        if !is(key, b"MODULE") {
+            return None;
+        }
+        return module_card(a, rest[0], rest[1]);
+    }
+    if rest.len() == 4 {
+        if !is(key, b"TASK") {
+            return None;
+        }
+        return task_card(a, rest[0], rest[1], rest[2], rest[3]);
+    }
+    None
+}
+
+fn card_of(alloc: Global, words: &[&[u8]]) -> Result<Option<Card>, AllocError>
+    ensures { IfOk result (λ o. option_map view o ≡ spell.card_of (map (λ w. w.now) words.now)) }
+{
+    match words {
+        [] => Ok(None),
+        [key] => {
+            if is(key, b"ENDJOB") {
+                Ok(Some(Card::End))
+            } else {
+                Ok(None)
+            }
+        }
+        [key, a] => short_card(alloc, key, a),
+        [key, a, rest @ ..] => {
+            if is(key, b"SESSION") {
+                return session(alloc, a, rest);
+            }
+            Ok(long_card(key, a, rest))
+        }
+    }
+}
+
+/// The card that the line is; none exactly where it is no card.
+pub fn read_card(alloc: Global, line: &[u8]) -> Result<Option<Card>, AllocError>
+    ensures { IfOk result (λ o. option_map view o ≡ spell.card_at line.now) }
+{
+    let words = split(alloc, line)?;
+    card_of(alloc, &words)
+}

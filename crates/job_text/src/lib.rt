@@ -1,0 +1,21 @@
+//! Which bytes spell a job, and reading one.
+#![tactic(auto)]
+
+mod card;
+mod cards;
+mod fault;
+mod first;
+mod lengths;
+mod lines;
+mod plain;
+mod progress;
+mod reader;
+mod words;
+
+pub use card::Card;
+pub use cards::read_card;
+pub use fault::JobFault;
+pub use first::read_first_form;
+
+#[cfg(test)]
+mod tests;

@@ -1,0 +1,51 @@
+//! The lines of an input.
+ghost use Rattle.std.specs.Prelude.{◌≡◌, ◌∷◌, ◌<◌, length, nat_eq, position};
+ghost use Rattle.job_text.specs.Lines.{LineView, lines_of, has_cr, listing_text};
+
+/// The first line of a text, whether an LF ended it, and what follows.
+#[derive(Drop)]
+pub(crate) struct FirstLine<'a> {
+    pub bytes: &'a [u8],
+    pub ended: bool,
+    pub rest: &'a [u8],
+}
+
+fn first_end(text: &[u8]) -> Option<usize>
+    ensures { result ≡ position (λ b. nat_eq b 10) text.now }
+{
+    text.iter().position(|b| *b == b'\n')
+}
+
+/// Takes the first line off a text that isn't empty.
+pub(crate) fn first_line(text: &[u8]) -> FirstLine<'_>
+    requires { 0 < length text.now }
+    ensures line { lines_of text.now ≡ record { bytes = result.bytes.now; ended = result.ended } ∷ lines_of result.rest.now }
+    ensures less { length result.rest.now < length text.now }
+{
+    match first_end(text) {
+        Some(at) => {
+            let (bytes, more) = text.split_at(at);
+            FirstLine {
+                bytes,
+                ended: true,
+                rest: &more[1..],
+            }
+        }
+        None => FirstLine {
+            bytes: text,
+            ended: false,
+            rest: &text[text.len()..],
+        },
+    }
+}
+
+/// The text of a listing line: one CR right before its LF is no part of it.
+pub(crate) fn listing_text(bytes: &[u8], ended: bool) -> &[u8]
+    ensures { result.now ≡ listing_text (record { bytes = bytes.now; ended = ended }) }
+{
+    if ended && bytes.len() >= 1 && bytes[bytes.len() - 1] == b'\r' {
+        &bytes[..bytes.len() - 1]
+    } else {
+        bytes
+    }
+}

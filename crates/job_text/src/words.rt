@@ -1,0 +1,173 @@
+//! The words of a card, and the numbers, bytes and addresses that they spell.
+ghost use Rattle.std.specs.Prelude.{◌≡◌, ℕ, ◌+◌, ◌*◌, ◌<◌, ◌≤◌, ◌∷◌, length, map, IfOk, option_map, nat_eq, position};
+ghost use Rattle.std.specs.Str.{bytes_eq};
+ghost use Rattle.std.specs.List.{list_all};
+ghost use Rattle.cov_base.specs.Names.{is_digit};
+ghost use Rattle.job_text.specs.Words as spell;
+
+use cov_base::{Addr, Name};
+use hex::FromHexError;
+use std::alloc::{AllocError, Global};
+
+fn first_blank(rest: &[u8]) -> Option<usize>
+    ensures { result ≡ position (λ b. nat_eq b 32) rest.now }
+{
+    rest.iter().position(|b| *b == b' ')
+}
+
+/// The parts of the card between its blanks.
+pub(crate) fn split(alloc: Global, line: &[u8]) -> Result<Vec<&[u8]>, AllocError>
+    ensures { IfOk result (λ v. map (λ w. w.now) v.items ≡ spell.words line.now) }
+{
+    let mut words = Vec::new(alloc);
+    let mut rest = line;
+    while let Some(at) = first_blank(rest) {
+        let (word, more) = rest.split_at(at);
+        words.push(word)?;
+        rest = &more[1..];
+    }
+    words.push(rest)?;
+    Ok(words)
+}
+
+/// Whether the word is this text.
+pub(crate) fn is(word: &[u8], text: &[u8]) -> bool
+    ensures { result ≡ bytes_eq word.now text.now }
+{
+    word == text
+}
+
+fn is_digit(b: u8) -> bool
+    ensures { result ≡ is_digit b }
+{
+    b >= b'0' && b <= b'9'
+}
+
+fn all_digits(word: &[u8]) -> bool
+    ensures { result ≡ list_all is_digit word.now }
+{
+    word.iter().all(|b| is_digit(*b))
+}
+
+fn is_number(word: &[u8]) -> bool
+    ensures { result ≡ spell.is_number word.now }
+{
+    word.len() >= 1 && word.len() <= 9 && (word[0] != b'0' || word.len() == 1) && all_digits(word)
+}
+
+/// The number of 1 to 9 digits without a leading zero, but 0 itself.
+pub(crate) fn number_of(word: &[u8]) -> Option<u32>
+    ensures { result ≡ spell.number_at word.now }
+{
+    if !is_number(word) {
+        return None;
+    }
+    let mut n: u32 = 0;
+    for b in word {
+        n = n * 10 + u32::from(*b - b'0');
+    }
+    Some(n)
+}
+
+/// The 1 to 64 bytes that the word spells in hexadecimal digits of either case.
+pub(crate) fn bytes_of(alloc: Global, word: &[u8]) -> Result<Option<Vec<u8>>, AllocError>
+    ensures { IfOk result (λ o. option_map (λ v. v.items) o ≡ spell.bytes_at word.now) }
+{
+    if word.len() < 2 || word.len() > 128 {
+        return Ok(None);
+    }
+    match hex::decode(alloc, word) {
+        Ok(bytes) => Ok(Some(bytes)),
+        Err(FromHexError::OutOfMemory) => Err(AllocError),
+        Err(_) => Ok(None),
+    }
+}
+
+fn is_upper_hex(b: u8) -> bool
+    ensures { result ≡ spell.is_upper_hex b }
+{
+    b >= b'A' && b <= b'F'
+}
+
+fn is_lower_hex(b: u8) -> bool
+    ensures { result ≡ spell.is_lower_hex b }
+{
+    b >= b'a' && b <= b'f'
+}
+
+/// Whether the byte is a hexadecimal digit of either case.
+pub(crate) fn is_hex(b: u8) -> bool
+    ensures { result ≡ spell.is_hex b }
+{
+    is_digit(b) || (is_upper_hex(b) || is_lower_hex(b))
+}
+
+fn hex_value(b: u8) -> u32
+    ensures value { result ≡ spell.hex_value b }
+    ensures below { result ≤ 15 }
+{
+    if is_digit(b) {
+        u32::from(b) - 48
+    } else if is_upper_hex(b) {
+        u32::from(b) - 55
+    } else if is_lower_hex(b) {
+        u32::from(b) - 87
+    } else {
+        0
+    }
+}
+
+/// The value of the first four digits.
+pub(crate) fn half_value(word: &[u8]) -> u16
+    requires { 4 ≤ length word.now }
+    ensures { result ≡ spell.half_value word.now 0 }
+{
+    (hex_value(word[0]) * 4096
+        + hex_value(word[1]) * 256
+        + hex_value(word[2]) * 16
+        + hex_value(word[3])) as u16
+}
+
+fn all_hex(word: &[u8]) -> bool
+    ensures { result ≡ list_all spell.is_hex word.now }
+{
+    word.iter().all(|b| is_hex(*b))
+}
+
+fn is_address(word: &[u8]) -> bool
+    ensures { result ≡ spell.is_address word.now }
+{
+    word.len() == 6 && all_hex(word)
+}
+
+fn address_value(word: &[u8]) -> u32
+    requires { length word.now ≡ 6 }
+    ensures value { result ≡ spell.address_value word.now }
+    ensures below { result < 16777216 }
+{
+    u32::from(half_value(word)) * 256 + hex_value(word[4]) * 16 + hex_value(word[5])
+}
+
+/// The address of six hexadecimal digits of either case.
+pub(crate) fn address_of(word: &[u8]) -> Option<Addr>
+    ensures { result ≡ spell.address_at word.now }
+{
+    if !is_address(word) {
+        return None;
+    }
+    Addr::new(address_value(word))
+}
+
+/// The names that the words spell; none where one of them is no name.
+pub(crate) fn names_of(alloc: Global, words: &[&[u8]]) -> Result<Option<Vec<Name>>, AllocError>
+    ensures { IfOk result (λ o. option_map (λ v. v.items) o ≡ spell.names_at (map (λ w. w.now) words.now)) }
+{
+    let mut names = Vec::new(alloc);
+    for word in words {
+        match Name::read(word) {
+            None => return Ok(None),
+            Some(name) => names.push(name)?,
+        }
+    }
+    Ok(Some(names))
+}

@@ -1,0 +1,31 @@
+-- Rows, one after another.
+use Rattle.std.proofs.Common.{◌≡◌, ℕ, ◌+◌, ◌-◌, ◌<◌, ◌≤◌, suc, Bool, true, false, not, if◌then◌else◌, bytes_eq, List, [], ◌∷◌, ◌++◌, refl, sym, ◌∙◌, arith}
+use Rattle.std.proofs.lemmas.Bool.{false≢true}
+use Rattle.report_text.specs.Tasks.{row_lines, storage_line}
+use Rattle.report_text.specs.Text.{lines_from}
+
+count_step : (n count : ℕ) → n < count → count - n ≡ suc (count - (n + 1))
+count_step n count h = omega arith
+
+-- the lines of the next number, and those after it
+pub lines_from-next : (lines : ℕ → List (List ℕ)) (at n count : ℕ) → n < count → lines_from lines at (count - n) ≡ lines at ++ lines_from lines (at + 1) (count - (n + 1))
+lines_from-next lines at n count h = rw (count_step n count h) refl
+
+pub lines_from-end : (lines : ℕ → List (List ℕ)) (at n count : ℕ) → count ≤ n → lines_from lines at (count - n) ≡ []
+lines_from-end lines at n count h = let none : count - n ≡ 0 = omega arith in rw none refl
+
+unless : (same : Bool) (lines : List (List ℕ)) → not same ≡ true → (if same then [] else lines) ≡ lines
+unless true lines h = absurd (false≢true h)
+unless false lines h = refl
+
+where_same : (same : Bool) (lines : List (List ℕ)) → not same ≡ false → (if same then [] else lines) ≡ []
+where_same true lines h = refl
+where_same false lines h = absurd (false≢true (sym h))
+
+pub row_lines-changed : (at : ℕ) (first now : List ℕ) (changed : Bool) → changed ≡ not (bytes_eq first now) → changed ≡ true → row_lines at first now ≡ storage_line at now ∷ []
+unfolding row_lines
+row_lines-changed at first now changed test holds = unless (bytes_eq first now) (storage_line at now ∷ []) (sym test ∙ holds)
+
+pub row_lines-same : (at : ℕ) (first now : List ℕ) (changed : Bool) → changed ≡ not (bytes_eq first now) → changed ≡ false → row_lines at first now ≡ []
+unfolding row_lines
+row_lines-same at first now changed test fails = where_same (bytes_eq first now) (storage_line at now ∷ []) (sym test ∙ fails)

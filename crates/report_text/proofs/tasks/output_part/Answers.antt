@@ -1,0 +1,17 @@
+use Rattle.std.proofs.Common.{◌≡◌, [], ◌∷◌, ◌++◌, length, codes, decimal, rules}
+use Rattle.report_text.specs.Tasks.{output_lines}
+use Rattle.report_text.proofs.WriteLemmas.{progress_start, progress_more, progress_exit, progress_last}
+use Rattle.report_text.proofs.tasks.output_part.Goals as goal
+
+pub returns-in_err-put : goal.returns-in_err-put
+unfolding output_lines
+returns-in_err-put g c =
+    let count : c.output_line.result.items ≡ (codes "OUT " ++ decimal (length c.args.output.now)) ++ 10 ∷ [] = search rules in
+    progress_exit _ _ _ _ _ _ _ _ _ _ _ c.from_residual.ensures.0 (c.in_err-put.ensures _ count) (progress_start _ _ _)
+
+pub returns : goal.returns
+unfolding output_lines
+returns g c =
+    let count : c.output_line.result.items ≡ (codes "OUT " ++ decimal (length c.args.output.now)) ++ 10 ∷ [] = search rules in
+    let first = progress_more _ _ _ _ _ _ _ _ _ _ (c.in_ok-put.ensures _ count) (progress_start _ _ _) in
+    progress_last _ _ _ _ _ _ _ _ _ c.output_rows.ensures first

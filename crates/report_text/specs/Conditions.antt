@@ -1,0 +1,29 @@
+-- What a report needs of tables, results and sets.
+use Rattle.std.specs.Prelude.{◌≡◌, ℕ, ◌+◌, ◌<◌, ◌≤◌, true, length, All, IfSome}
+use Rattle.cov_base.specs.FactSet.{FactSet}
+use Rattle.cov_base.specs.Facts.{is_within}
+use Rattle.module_area.specs.PlanView.{place_of}
+use Rattle.brk_table.specs.Places.{TablesView, IsIn, first_place, place_count}
+use Rattle.session_book.specs.JobView.{JobView}
+use Rattle.session_book.specs.Results.{ResultView}
+use Rattle.session_book.specs.Sessions.{session_of, task_of}
+
+-- each place lies in its module, and lines of listings have numbers
+pub record AreTablesOf (job : JobView) (tables : TablesView) : Type 0 where
+  pub within : All (IsIn job.images) tables.places
+  pub lines : All (λ listing. IfSome listing (λ lines. length lines ≤ 16777216)) job.listings
+
+-- one for each task of the job, with private storage of its card's size
+pub record AreResultsOf (job : JobView) (tasks : ℕ) (results : ℕ → ResultView) : Type 0 where
+  pub count : tasks ≡ length job.tasks
+  pub sizes : (t : ℕ) → t < length job.tasks → length (results t).bytes ≡ (task_of job t).private
+
+-- at each place of module m the set is within the place's kind
+abbrev pub AreWithin : TablesView → (ℕ → FactSet) → ℕ → Type 0
+AreWithin tables sets m = (n : ℕ) → first_place tables.tables m ≤ n → n < first_place tables.tables m + place_count tables.tables m → is_within (place_of tables.places n).kind (sets n) ≡ true
+
+-- for each session of the job a set at each place, within its kind at those of the session's modules
+pub record AreSetsOf (job : JobView) (tables : TablesView) (sessions places : ℕ) (sets : ℕ → ℕ → FactSet) : Type 0 where
+  pub count : sessions ≡ length job.sessions
+  pub size : places ≡ length tables.places
+  pub within : (s : ℕ) → 0 < s → s ≤ length job.sessions → All (AreWithin tables (sets s)) (session_of job s).modules

@@ -1,0 +1,15 @@
+-- A part of the storage that data cards fill.
+use Rattle.std.specs.Prelude.{◌≡◌, ℕ, ◌+◌, ◌-◌, ◌<◌, ◌≤◌, ◌&&◌, nat_le, nat_lt, if◌then◌else◌, List, length, slice_index}
+use Rattle.module_area.specs.Views.{DataView}
+
+-- the byte at an address, once bytes are stored from an offset on
+unfoldable pub byte_after : ℕ → List ℕ → ℕ → ℕ → ℕ
+byte_after offset bytes at old = if nat_le offset at && nat_lt at (offset + length bytes) then slice_index bytes (at - offset) else old
+
+-- the bytes from an address on, as far as there are some
+abbrev pub IsPartOf : List ℕ → List ℕ → ℕ → Type 0
+IsPartOf part bytes from = (k : ℕ) → k < length part → from + k < length bytes → slice_index part k ≡ slice_index bytes (from + k)
+
+-- the card's bytes lie in storage of this size
+abbrev pub FitsIn : ℕ → DataView → Type 0
+FitsIn size c = c.offset + length c.bytes ≤ size

@@ -1,0 +1,7 @@
+pub mod Conditions
+pub mod FirstRows
+pub mod Report
+pub mod Sessions
+pub mod Tasks
+pub mod Text
+pub mod Writes

@@ -1,0 +1,29 @@
+-- The whole report.
+use Rattle.std.specs.Prelude.{ℕ, List, [], ◌∷◌, ◌++◌, length, codes}
+use Rattle.cov_base.specs.FactSet.{FactSet}
+use Rattle.brk_table.specs.Places.{TablesView}
+use Rattle.session_book.specs.JobView.{JobView}
+use Rattle.session_book.specs.Results.{ResultView}
+use Rattle.session_book.specs.Sessions.{session_of, task_of}
+use Rattle.report_text.specs.Sessions.{session_lines}
+use Rattle.report_text.specs.Tasks.{task_lines}
+use Rattle.report_text.specs.Text.{text_of, lines_from}
+
+-- of task t, which numbers from 0
+abbrev pub task_part : JobView → (ℕ → ResultView) → ℕ → List (List ℕ)
+task_part job results t = task_lines (task_of job t) (results t)
+
+-- of session s, which numbers from 1
+abbrev pub session_part : JobView → TablesView → (ℕ → ℕ → FactSet) → ℕ → List (List ℕ)
+session_part job tables sets s = session_lines job tables (sets s) (session_of job s)
+
+-- tasks and sessions in the order of the job
+abbrev pub report_lines : JobView → TablesView → (ℕ → ResultView) → (ℕ → ℕ → FactSet) → List (List ℕ)
+report_lines job tables results sets =
+    codes "COVERAGE REPORT"
+    ∷ (lines_from (task_part job results) 0 (length job.tasks)
+    ++ (lines_from (session_part job tables sets) 1 (length job.sessions)
+    ++ (codes "END" ∷ [])))
+
+abbrev pub report_of : JobView → TablesView → (ℕ → ResultView) → (ℕ → ℕ → FactSet) → List ℕ
+report_of job tables results sets = text_of (report_lines job tables results sets)

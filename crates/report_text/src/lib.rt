@@ -1,0 +1,14 @@
+//! The report's text: what each task has come to, and what each session's executions show of its modules.
+#![tactic(auto)]
+
+mod sessions;
+mod storage;
+mod tasks;
+mod whole;
+mod words;
+mod writing;
+
+pub use sessions::session_part;
+pub use tasks::task_part;
+pub use whole::report;
+pub use words::add_bytes;

@@ -1,0 +1,169 @@
+//! What a report says of a task.
+ghost use Rattle.std.specs.Prelude.{◌≡◌, ℕ, ◌+◌, ◌*◌, ◌<◌, ◌≤◌, ◌++◌, ◌∷◌, [], length, codes, decimal, take, drop, map, bytes_eq, if◌then◌else◌, OnOk, OnErr};
+ghost use Rattle.std.specs.Io.KnownBytes.{Appends};
+ghost use Rattle.cov_outside.specs.Causes.{HasCause};
+ghost use Rattle.cov_outside.specs.Whole.{AppendsSome};
+ghost use Rattle.module_area.specs.Views.{first_bytes};
+ghost use Rattle.session_book.specs.Sessions.{task_of};
+ghost use Rattle.report_text.specs.Conditions.{AreResultsOf};
+ghost use Rattle.report_text.specs.Report.{task_part};
+ghost use Rattle.report_text.specs.Tasks.{task_line, register_line, output_row, output_lines, storage_line, row_lines, storage_lines, state_lines};
+ghost use Rattle.report_text.specs.Text.{hex_bytes, text_of, row_of, row_count, lines_from};
+ghost use Rattle.report_text.specs.Writes.{Writes};
+
+use crate::storage::storage_part;
+use crate::words::{add_bytes, add_ending, add_name, add_registers};
+use crate::writing::put;
+use annotator::text::{add_number, add_text};
+use arrayvec::ArrayVec;
+use cov_base::{Name, TaskNo};
+use cov_outside::{Failed, Sink};
+use s370_state::{Cpu, Ending};
+use session_book::{Job, Results};
+
+/// The name, the ending, the number of instructions done and the condition code of a task.
+#[tactic(auto, unfolding(crate::specs::Tasks::task_line))]
+fn task_line(name: &Name, ending: Option<Ending>, done: u32, condition: u8) -> ArrayVec<u8, 160>
+    ensures { result.items ≡ task_line name.now ending done condition ++ 10 ∷ [] }
+{
+    let mut line = ArrayVec::new();
+    add_text(&mut line, b"TASK ");
+    add_name(&mut line, name);
+    add_text(&mut line, b" ");
+    add_ending(&mut line, ending);
+    add_text(&mut line, b" COUNT ");
+    add_number(&mut line, u64::from(done));
+    add_text(&mut line, b" CC ");
+    add_number(&mut line, u64::from(condition));
+    line.push(b'\n');
+    line
+}
+
+/// A label and eight registers.
+#[tactic(auto, unfolding(crate::specs::Tasks::register_line))]
+fn register_line(label: &[u8], regs: &[u32]) -> ArrayVec<u8, 160>
+    requires label { length label.now ≤ 4 }
+    requires regs { length regs.now ≤ 8 }
+    ensures { result.items ≡ register_line label.now regs.now ++ 10 ∷ [] }
+{
+    let mut line = ArrayVec::new();
+    add_text(&mut line, label);
+    add_registers(&mut line, regs);
+    line.push(b'\n');
+    line
+}
+
+/// The number of bytes of output.
+fn output_line(count: usize) -> ArrayVec<u8, 160>
+    ensures { result.items ≡ (codes "OUT " ++ decimal count) ++ 10 ∷ [] }
+{
+    let mut line = ArrayVec::new();
+    add_text(&mut line, b"OUT ");
+    add_number(&mut line, count as u64);
+    line.push(b'\n');
+    line
+}
+
+/// Bytes alone.
+fn bytes_line(bytes: &[u8]) -> ArrayVec<u8, 160>
+    requires { length bytes.now ≤ 32 }
+    ensures { result.items ≡ hex_bytes bytes.now ++ 10 ∷ [] }
+{
+    let mut line = ArrayVec::new();
+    add_bytes(&mut line, bytes);
+    line.push(b'\n');
+    line
+}
+
+/// Registers 8 to 15.
+fn high(regs: &[u32]) -> &[u32]
+    requires { 8 ≤ length regs.now }
+    ensures { result.now ≡ drop 8 regs.now }
+{
+    &regs[8..]
+}
+
+/// What has become of a task, and its processor.
+fn state_part<K: Sink>(
+    sink: &mut K,
+    name: &Name,
+    ending: Option<Ending>,
+    done: u32,
+    cpu: &Cpu,
+) -> Result<(), Failed>
+    ensures { Writes (K.written sink.old) (K.written sink.new) (K.faults sink.old) (K.faults sink.new) result (state_lines name.now ending done cpu.now) }
+{
+    put(sink, task_line(name, ending, done, cpu.condition()))?;
+    put(sink, register_line(b"R0", &cpu.regs[..8]))?;
+    put(sink, register_line(b"R8", high(&cpu.regs)))
+}
+
+/// Row n of the output.
+fn output_row(output: &[u8], n: usize) -> &[u8]
+    requires { 32 * n < length output.now }
+    ensures value { result.now ≡ row_of 32 output.now n }
+    ensures fits { length result.now ≤ 32 }
+{
+    let from = 32 * n;
+    let to = (from + 32).min(output.len());
+    &output[from..to]
+}
+
+/// The output, 32 bytes to a line.
+fn output_rows<K: Sink>(sink: &mut K, output: &[u8]) -> Result<(), Failed>
+    ensures { Writes (K.written sink.old) (K.written sink.new) (K.faults sink.old) (K.faults sink.new) result (lines_from (output_row output.now) 0 (row_count 32 output.now)) }
+{
+    for n in 0..(output.len() + 31) / 32 {
+        put(sink, bytes_line(output_row(output, n)))?;
+    }
+    Ok(())
+}
+
+/// The output and its length.
+fn output_part<K: Sink>(sink: &mut K, output: &[u8]) -> Result<(), Failed>
+    ensures { Writes (K.written sink.old) (K.written sink.new) (K.faults sink.old) (K.faults sink.new) result (output_lines output.now) }
+{
+    put(sink, output_line(output.len()))?;
+    output_rows(sink, output)
+}
+
+/// A task's part.
+pub fn task_text<K: Sink, R: Results>(
+    sink: &mut K,
+    job: &Job,
+    results: &R,
+    t: TaskNo,
+) -> Result<(), Failed>
+    requires task { t.0 < length job.now.tasks }
+    requires results { AreResultsOf job.now (R.tasks results.now) (R.result_of results.now) }
+    ensures { Writes (K.written sink.old) (K.written sink.new) (K.faults sink.old) (K.faults sink.new) result (task_part job.now (R.result_of results.now) t.0) }
+{
+    let task = &job.tasks[t.0 as usize];
+    state_part(
+        sink,
+        &task.name,
+        results.ending(t),
+        results.done(t),
+        results.cpu(t),
+    )?;
+    output_part(sink, results.output(t))?;
+    storage_part(sink, task, results, t)
+}
+
+/// What has become of a task of the job: its ending, the instructions done, its condition code and registers, its
+/// output, and the rows of its private storage that have changed. Failed only where the sink's count of faults rose;
+/// the sink has then taken a part. Takes no memory.
+pub fn task_part<K: Sink, R: Results>(
+    sink: &mut K,
+    job: &Job,
+    results: &R,
+    t: TaskNo,
+) -> Result<(), Failed>
+    requires task { t.0 < length job.now.tasks }
+    requires results { AreResultsOf job.now (R.tasks results.now) (R.result_of results.now) }
+    ensures whole { OnOk result (Appends (K.written sink.old) (K.written sink.new) (text_of (task_part job.now (R.result_of results.now) t.0))) }
+    ensures some { OnErr result (AppendsSome (K.written sink.old) (K.written sink.new) (text_of (task_part job.now (R.result_of results.now) t.0))) }
+    ensures cause { HasCause (K.faults sink.old) (K.faults sink.new) result }
+{
+    task_text(sink, job, results, t)
+}

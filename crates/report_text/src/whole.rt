@@ -1,0 +1,94 @@
+//! The whole report.
+ghost use Rattle.std.specs.Prelude.{◌≡◌, ℕ, ◌+◌, ◌-◌, ◌<◌, ◌≤◌, ◌++◌, ◌∷◌, [], List, length, codes, OnOk, OnErr};
+ghost use Rattle.std.specs.Io.KnownBytes.{Appends};
+ghost use Rattle.cov_outside.specs.Causes.{HasCause};
+ghost use Rattle.cov_outside.specs.Whole.{AppendsSome};
+ghost use Rattle.report_text.specs.Conditions.{AreTablesOf, AreResultsOf, AreSetsOf};
+ghost use Rattle.report_text.specs.Report.{task_part, session_part, report_lines, report_of};
+ghost use Rattle.report_text.specs.Text.{lines_from};
+ghost use Rattle.report_text.specs.Writes.{Writes};
+
+use crate::sessions::session_text;
+use crate::tasks::task_text;
+use crate::writing::put;
+use annotator::text::add_text;
+use arrayvec::ArrayVec;
+use brk_table::Tables;
+use cov_base::{SessNo, TaskNo};
+use cov_outside::{Failed, Sink};
+use session_book::{FactSets, Job, Results};
+
+/// A line of these words.
+fn words_line(words: &[u8]) -> ArrayVec<u8, 160>
+    requires { length words.now ≤ 100 }
+    ensures { result.items ≡ words.now ++ 10 ∷ [] }
+{
+    let mut line = ArrayVec::new();
+    add_text(&mut line, words);
+    line.push(b'\n');
+    line
+}
+
+/// The tasks' parts.
+fn tasks_text<K: Sink, R: Results>(sink: &mut K, job: &Job, results: &R) -> Result<(), Failed>
+    requires { AreResultsOf job.now (R.tasks results.now) (R.result_of results.now) }
+    ensures { Writes (K.written sink.old) (K.written sink.new) (K.faults sink.old) (K.faults sink.new) result (lines_from (task_part job.now (R.result_of results.now)) 0 (length job.now.tasks)) }
+{
+    for t in 0..job.tasks.len() {
+        task_text(sink, job, results, TaskNo(t as u32))?;
+    }
+    Ok(())
+}
+
+/// The sessions' parts.
+fn sessions_text<K: Sink, R: FactSets>(
+    sink: &mut K,
+    job: &Job,
+    tables: &Tables,
+    results: &R,
+) -> Result<(), Failed>
+    requires tables { AreTablesOf job.now tables.now }
+    requires sets { AreSetsOf job.now tables.now (R.sessions results.now) (R.places results.now) (R.set_of results.now) }
+    ensures { Writes (K.written sink.old) (K.written sink.new) (K.faults sink.old) (K.faults sink.new) result (lines_from (session_part job.now tables.now (R.set_of results.now)) 1 (length job.now.sessions)) }
+{
+    for i in 0..job.sessions.len() {
+        session_text(sink, job, tables, results, SessNo(i as u32 + 1))?;
+    }
+    Ok(())
+}
+
+/// The parts of the report, between its first and its last line.
+fn report_text<K: Sink, R: Results + FactSets>(
+    sink: &mut K,
+    job: &Job,
+    tables: &Tables,
+    results: &R,
+) -> Result<(), Failed>
+    requires tables { AreTablesOf job.now tables.now }
+    requires results { AreResultsOf job.now (R.tasks results.now) (R.result_of results.now) }
+    requires sets { AreSetsOf job.now tables.now (R.sessions results.now) (R.places results.now) (R.set_of results.now) }
+    ensures { Writes (K.written sink.old) (K.written sink.new) (K.faults sink.old) (K.faults sink.new) result (report_lines job.now tables.now (R.result_of results.now) (R.set_of results.now)) }
+{
+    put(sink, words_line(b"COVERAGE REPORT"))?;
+    tasks_text(sink, job, results)?;
+    sessions_text(sink, job, tables, results)?;
+    put(sink, words_line(b"END"))
+}
+
+/// The report of a job's tasks and sessions, line by line. Failed only where the sink's count of faults rose; the
+/// sink has then taken a first part of the report. Takes no memory.
+pub fn report<K: Sink, R: Results + FactSets>(
+    sink: &mut K,
+    job: &Job,
+    tables: &Tables,
+    results: &R,
+) -> Result<(), Failed>
+    requires tables { AreTablesOf job.now tables.now }
+    requires results { AreResultsOf job.now (R.tasks results.now) (R.result_of results.now) }
+    requires sets { AreSetsOf job.now tables.now (R.sessions results.now) (R.places results.now) (R.set_of results.now) }
+    ensures whole { OnOk result (Appends (K.written sink.old) (K.written sink.new) (report_of job.now tables.now (R.result_of results.now) (R.set_of results.now))) }
+    ensures some { OnErr result (AppendsSome (K.written sink.old) (K.written sink.new) (report_of job.now tables.now (R.result_of results.now) (R.set_of results.now))) }
+    ensures cause { HasCause (K.faults sink.old) (K.faults sink.new) result }
+{
+    report_text(sink, job, tables, results)
+}

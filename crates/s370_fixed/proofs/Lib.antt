@@ -1,0 +1,5 @@
+pub mod Wide
+pub mod Powers
+pub mod Registers
+pub mod Digits
+pub mod Ranges

@@ -1,0 +1,21 @@
+-- The recursions of several registers, one register on.
+use Rattle.std.proofs.Common.{◌≡◌, ℕ, ◌+◌, ◌*◌, ◌%◌, List, slice_index, slice_set, refl, add-one}
+use Rattle.cov_base.specs.Memory.{Memory}
+use Rattle.s370_state.specs.Words.{number_at, store_word}
+use Rattle.s370_fixed.specs.Multiple.{loaded, stored}
+
+pub loaded_none : (m : Memory) (bytes regs : List ℕ) (r a : ℕ) → loaded m bytes regs r a 0 ≡ regs
+unfolding loaded
+loaded_none m bytes regs r a = refl
+
+pub loaded_more : (m : Memory) (bytes regs : List ℕ) (r a n : ℕ) → loaded m bytes regs r a (n + 1) ≡ slice_set (loaded m bytes regs r a n) ((r + n) % 16) (number_at m bytes (a + 4 * n) 4)
+unfolding loaded
+loaded_more m bytes regs r a n = rw add-one refl
+
+pub stored_none : (bytes regs : List ℕ) (r a : ℕ) → stored bytes regs r a 0 ≡ bytes
+unfolding stored
+stored_none bytes regs r a = refl
+
+pub stored_more : (bytes regs : List ℕ) (r a n : ℕ) → stored bytes regs r a (n + 1) ≡ store_word (stored bytes regs r a n) (a + 4 * n) (slice_index regs ((r + n) % 16))
+unfolding stored
+stored_more bytes regs r a n = rw add-one refl

@@ -1,0 +1,83 @@
+//! Loads and stores of several registers.
+#![tactic(auto, using(s370_state::proofs::Performs::at_once, s370_state::proofs::Performs::passes, s370_state::proofs::Performs::refuses))]
+
+ghost use Rattle.std.specs.Prelude.{◌≡◌, ℕ, ◌+◌, ◌-◌, ◌*◌, ◌%◌, ◌<◌, ◌≤◌, true};
+ghost use Rattle.cov_base.specs.Memory.{can_reach, can_store};
+ghost use Rattle.s370_state.specs.Row.{Performs};
+ghost use Rattle.s370_fixed.specs.Multiple.{many, loaded, stored, row_lm, row_stm};
+
+use cov_base::Addr;
+use s370_decode::Code;
+use s370_state::{Cpu, Next, Space, put_word, test_read, test_store, word_of};
+
+/// How many registers there are from R1 to R3, 15 followed by 0.
+fn count(code: &Code) -> u8
+    ensures value { result ≡ many code.now }
+    ensures most { result ≤ 16 }
+{
+    (code.r3() + 16 - code.r1()) % 16 + 1
+}
+
+/// Loads n registers, r and on.
+#[tactic(auto, using(crate::proofs::Registers::loaded_none, crate::proofs::Registers::loaded_more))]
+fn load_words<P: Space>(cpu: &mut Cpu, space: &P, r: u8, at: Addr, n: u8)
+    requires r { r < 16 }
+    requires n { n ≤ 16 }
+    requires reach { can_reach (P.memory space.now) at (4 * n) ≡ true }
+    ensures { cpu.new ≡ record cpu.old { regs = loaded (P.memory space.now) (P.bytes space.now) cpu.old.regs r at n } }
+{
+    for i in 0..n {
+        cpu.set_reg(
+            (r + i) % 16,
+            word_of(space, at, 4 * u32::from(i), 4 * u32::from(n)),
+        );
+    }
+}
+
+/// Stores n registers, r and on.
+#[tactic(auto, using(crate::proofs::Registers::stored_none, crate::proofs::Registers::stored_more))]
+fn store_words<P: Space>(cpu: &Cpu, space: &mut P, r: u8, at: Addr, n: u8)
+    requires r { r < 16 }
+    requires n { n ≤ 16 }
+    requires store { can_store (P.memory space.old) at (4 * n) ≡ true }
+    ensures memory { P.memory space.new ≡ P.memory space.old }
+    ensures bytes { P.bytes space.new ≡ stored (P.bytes space.old) cpu.now.regs r at n }
+{
+    for i in 0..n {
+        put_word(
+            space,
+            at,
+            4 * u32::from(i),
+            4 * u32::from(n),
+            cpu.reg((r + i) % 16),
+        );
+    }
+}
+
+/// LM.
+pub fn load_multiple<P: Space>(cpu: &mut Cpu, space: &mut P, code: &Code) -> Next
+    ensures memory { P.memory space.new ≡ P.memory space.old }
+    ensures row { Performs (P.memory space.old) cpu.old (P.bytes space.old) (λ m s. row_lm m s code.now) cpu.new (P.bytes space.new) result }
+{
+    let n = count(code);
+    let at = cpu.address(code.b2(), 0, code.d2());
+    if let Err(e) = test_read(space, at, 4 * u32::from(n)) {
+        return Next::Ended(e);
+    }
+    load_words(cpu, space, code.r1(), at, n);
+    Next::On
+}
+
+/// STM.
+pub fn store_multiple<P: Space>(cpu: &mut Cpu, space: &mut P, code: &Code) -> Next
+    ensures memory { P.memory space.new ≡ P.memory space.old }
+    ensures row { Performs (P.memory space.old) cpu.old (P.bytes space.old) (λ m s. row_stm m s code.now) cpu.new (P.bytes space.new) result }
+{
+    let n = count(code);
+    let at = cpu.address(code.b2(), 0, code.d2());
+    if let Err(e) = test_store(space, at, 4 * u32::from(n)) {
+        return Next::Ended(e);
+    }
+    store_words(cpu, space, code.r1(), at, n);
+    Next::On
+}

@@ -1,0 +1,142 @@
+//! Multiplication and division.
+#![tactic(auto, using(s370_state::proofs::Performs::at_once, s370_state::proofs::Performs::passes, s370_state::proofs::Performs::refuses, s370_state::proofs::Performs::ill_formed, s370_state::proofs::Performs::well_at_once, s370_state::proofs::Performs::well_passes, s370_state::proofs::Performs::well_refuses))]
+
+ghost use Rattle.std.specs.Prelude.{◌≡◌, ℕ, ◌+◌, ◌*◌, ◌%◌, ◌<◌, ◌≤◌, ◌^◌, ℤ, pos, neg_ℤ, ◌*ℤ◌, ◌≤ℤ◌, ◌<ℤ◌, true, false, IfSome, IfNone, if◌then◌else◌, slice_set, slice_index};
+ghost use Rattle.std.specs.Int.{cast_signed, cast_unsigned, w64};
+ghost use Rattle.std.specs.Int.RustNames.{int_div, int_rem};
+ghost use Rattle.s370_state.specs.Row.{Performs, machine_of, after, finish, pair, with_pair};
+ghost use Rattle.s370_state.specs.Words.{signed, low_word, is_word};
+ghost use Rattle.s370_fixed.specs.Products.{row_mr, row_m, row_mh, row_dr, row_d, divides, divided};
+
+use crate::operands::{half, load, word};
+use s370_decode::Code;
+use s370_state::{Cpu, Ending, Next, Space, is_word, low_word, signed};
+
+/// The product of the pair's second register and a signed word goes to the pair.
+#[tactic(auto, using(crate::proofs::Wide::product_fits))]
+fn multiply(cpu: &mut Cpu, r: u8, z: i64) -> Next
+    requires r { r < 15 }
+    requires low { neg_ℤ (pos 2147483648) ≤ℤ z }
+    requires high { z <ℤ pos 2147483648 }
+    ensures cpu { cpu.new ≡ record cpu.old { regs = with_pair cpu.old.regs r (cast_unsigned w64 (signed (slice_index cpu.old.regs (r + 1)) *ℤ z)) } }
+    ensures next { result ≡ Next.On }
+{
+    let product = signed(cpu.reg(r + 1)) * z;
+    cpu.set_pair(r, product.cast_unsigned());
+    Next::On
+}
+
+/// The low word of the product of the register and a signed word goes to the register.
+#[tactic(auto, using(crate::proofs::Wide::product_fits))]
+fn multiply_low(cpu: &mut Cpu, r: u8, z: i64) -> Next
+    requires r { r < 16 }
+    requires low { neg_ℤ (pos 2147483648) ≤ℤ z }
+    requires high { z <ℤ pos 2147483648 }
+    ensures cpu { cpu.new ≡ record cpu.old { regs = slice_set cpu.old.regs r (low_word (signed (slice_index cpu.old.regs r) *ℤ z)) } }
+    ensures next { result ≡ Next.On }
+{
+    let product = signed(cpu.reg(r)) * z;
+    load(cpu, r, low_word(product))
+}
+
+/// Divides the pair, where the quotient is a word.
+fn divide<P: Space>(cpu: &mut Cpu, space: &P, r: u8, d: i64) -> Next
+    requires { r < 15 }
+    ensures { let s = machine_of cpu.old (P.bytes space.now) in
+        after cpu.new (P.bytes space.now) result ≡ finish s (divided s r (cast_signed w64 (pair s.cpu r)) d) }
+{
+    let dividend = cpu.pair(r).cast_signed();
+    match quotient(dividend, d) {
+        Some((q, rest)) => {
+            cpu.set_reg(r, low_word(rest));
+            cpu.set_reg(r + 1, low_word(q));
+            Next::On
+        }
+        None => Next::Ended(Ending::Abend(9)),
+    }
+}
+
+/// Quotient and remainder, where the quotient is a word.
+#[tactic(auto, using(crate::proofs::Wide::divides_true, crate::proofs::Wide::divides_wide, crate::proofs::Wide::divides_none))]
+fn quotient(p: i64, d: i64) -> Option<(i64, i64)>
+    ensures divides { IfSome result (λ t. divides p d ≡ true) }
+    ensures quotient { IfSome result (λ t. t.0 ≡ int_div p d) }
+    ensures rest { IfSome result (λ t. t.1 ≡ int_rem p d) }
+    ensures none { IfNone result (divides p d ≡ false) }
+{
+    match p.checked_div(d) {
+        Some(q) => {
+            if is_word(q) {
+                Some((q, p.wrapping_rem(d)))
+            } else {
+                None
+            }
+        }
+        None => None,
+    }
+}
+
+/// MR.
+pub fn multiply_register<P: Space>(cpu: &mut Cpu, space: &mut P, code: &Code) -> Next
+    ensures memory { P.memory space.new ≡ P.memory space.old }
+    ensures row { Performs (P.memory space.old) cpu.old (P.bytes space.old) (λ m s. row_mr m s code.now) cpu.new (P.bytes space.new) result }
+{
+    let r = code.r1();
+    if r % 2 != 0 {
+        return Next::Ended(Ending::Abend(6));
+    }
+    multiply(cpu, r, signed(cpu.reg(code.r2())))
+}
+
+/// M.
+pub fn multiply_word<P: Space>(cpu: &mut Cpu, space: &mut P, code: &Code) -> Next
+    ensures memory { P.memory space.new ≡ P.memory space.old }
+    ensures row { Performs (P.memory space.old) cpu.old (P.bytes space.old) (λ m s. row_m m s code.now) cpu.new (P.bytes space.new) result }
+{
+    let r = code.r1();
+    if r % 2 != 0 {
+        return Next::Ended(Ending::Abend(6));
+    }
+    match word(cpu, space, code) {
+        Ok(v) => multiply(cpu, r, signed(v)),
+        Err(e) => Next::Ended(e),
+    }
+}
+
+/// MH.
+pub fn multiply_half<P: Space>(cpu: &mut Cpu, space: &mut P, code: &Code) -> Next
+    ensures memory { P.memory space.new ≡ P.memory space.old }
+    ensures row { Performs (P.memory space.old) cpu.old (P.bytes space.old) (λ m s. row_mh m s code.now) cpu.new (P.bytes space.new) result }
+{
+    match half(cpu, space, code) {
+        Ok(z) => multiply_low(cpu, code.r1(), z),
+        Err(e) => Next::Ended(e),
+    }
+}
+
+/// DR.
+pub fn divide_register<P: Space>(cpu: &mut Cpu, space: &mut P, code: &Code) -> Next
+    ensures memory { P.memory space.new ≡ P.memory space.old }
+    ensures row { Performs (P.memory space.old) cpu.old (P.bytes space.old) (λ m s. row_dr m s code.now) cpu.new (P.bytes space.new) result }
+{
+    let r = code.r1();
+    if r % 2 != 0 {
+        return Next::Ended(Ending::Abend(6));
+    }
+    divide(cpu, space, r, signed(cpu.reg(code.r2())))
+}
+
+/// D.
+pub fn divide_word<P: Space>(cpu: &mut Cpu, space: &mut P, code: &Code) -> Next
+    ensures memory { P.memory space.new ≡ P.memory space.old }
+    ensures row { Performs (P.memory space.old) cpu.old (P.bytes space.old) (λ m s. row_d m s code.now) cpu.new (P.bytes space.new) result }
+{
+    let r = code.r1();
+    if r % 2 != 0 {
+        return Next::Ended(Ending::Abend(6));
+    }
+    match word(cpu, space, code) {
+        Ok(v) => divide(cpu, space, r, signed(v)),
+        Err(e) => Next::Ended(e),
+    }
+}

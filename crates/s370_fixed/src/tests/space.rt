@@ -1,0 +1,116 @@
+//! Storage for tests: private bytes, one module, and a list of touch bytes.
+ghost use Rattle.std.specs.Prelude.{◌≡◌, ℕ, ◌+◌, ◌*◌, ◌%◌, ◌<◌, ◌≤◌, ◌^◌, List, vec_len, length, true, nat_lt, nat_le, ◌&&◌, ◌==◌};
+ghost use Rattle.std.specs.List.{list_any};
+ghost use Rattle.cov_base.specs.Memory.{is_accessible, is_private, can_reach, can_store, first_touch, byte_at};
+ghost use Rattle.s370_fixed.specs.Plain.{memory_of};
+
+use cov_base::Addr;
+use s370_state::{Refused, Space};
+
+#[derive(Drop)]
+pub struct PlainSpace {
+    pub size: u32,
+    pub bytes: Vec<u8>,
+    pub base: u32,
+    pub image: Vec<u8>,
+    pub touches: Vec<u32>,
+    ghost in_size: { vec_len bytes ≡ size },
+    ghost small: { base + vec_len image < 2 ^ 32 },
+}
+
+#[tactic(auto, unfolding(crate::specs::Plain::memory_of, cov_base::specs::Memory::is_accessible, cov_base::specs::Memory::is_private), using(crate::proofs::Ranges::reach_none, crate::proofs::Ranges::reach_more, crate::proofs::Ranges::reach_fails, crate::proofs::Ranges::store_none, crate::proofs::Ranges::store_more, crate::proofs::Ranges::store_fails, crate::proofs::Ranges::touch_none, crate::proofs::Ranges::touch_more, crate::proofs::Ranges::touch_found))]
+impl PlainSpace {
+    fn is_private(&self, at: Addr) -> bool
+        ensures { result ≡ is_private (memory_of self.now.size self.now.base self.now.image.items self.now.touches.items) at }
+    {
+        at.get() < self.size
+    }
+
+    fn is_image(&self, at: Addr) -> bool
+        ensures { result ≡ (nat_le self.now.base at && nat_lt at (self.now.base + length self.now.image.items)) }
+    {
+        self.base <= at.get() && at.get() < self.base + self.image.len() as u32
+    }
+
+    fn is_accessible(&self, at: Addr) -> bool
+        ensures { result ≡ is_accessible (memory_of self.now.size self.now.base self.now.image.items self.now.touches.items) at }
+    {
+        self.is_private(at) || self.is_image(at)
+    }
+
+    fn is_touch(&self, at: Addr) -> bool
+        ensures { result ≡ (memory_of self.now.size self.now.base self.now.image.items self.now.touches.items).is_touch at }
+    {
+        let a = at.get();
+        self.touches.iter().any(|t| *t == a)
+    }
+}
+
+#[tactic(auto, using(crate::proofs::Ranges::reach_two, crate::proofs::Ranges::answer_ok, crate::proofs::Ranges::reach_none, crate::proofs::Ranges::reach_more, crate::proofs::Ranges::reach_fails, crate::proofs::Ranges::store_none, crate::proofs::Ranges::store_more, crate::proofs::Ranges::store_fails, crate::proofs::Ranges::touch_none, crate::proofs::Ranges::touch_more, crate::proofs::Ranges::touch_found))]
+impl Space for PlainSpace {
+    ghost memory = { λ s. memory_of s.size s.base s.image.items s.touches.items };
+
+    ghost bytes = { λ s. s.bytes.items };
+
+    fn half(&self, at: Addr) -> Result<u16, Refused> {
+        match self.can_reach(at, 2) {
+            Ok(()) => {
+                if self.is_touch(at) {
+                    Err(Refused::Touch(at))
+                } else {
+                    Ok(u16::from(self.byte(at.plus(0))) * 256 + u16::from(self.byte(at.plus(1))))
+                }
+            }
+            Err(_) => Err(Refused::Addressing),
+        }
+    }
+
+    fn first(&self, at: Addr) -> Result<u16, Refused> {
+        match self.can_reach(at, 2) {
+            Ok(()) => Ok(u16::from(self.byte(at.plus(0))) * 256 + u16::from(self.byte(at.plus(1)))),
+            Err(_) => Err(Refused::Addressing),
+        }
+    }
+
+    fn can_reach(&self, at: Addr, len: u32) -> Result<(), Refused> {
+        for i in 0..len {
+            if !self.is_accessible(at.plus(i)) {
+                return Err(Refused::Addressing);
+            }
+        }
+        Ok(())
+    }
+
+    fn can_store(&self, at: Addr, len: u32) -> Result<(), Refused> {
+        for i in 0..len {
+            if !self.is_private(at.plus(i)) {
+                return Err(Refused::Protection);
+            }
+        }
+        Ok(())
+    }
+
+    fn can_read(&self, at: Addr, len: u32) -> Result<(), Refused> {
+        for i in 0..len {
+            let a = at.plus(i);
+            if self.is_touch(a) {
+                return Err(Refused::Touch(a));
+            }
+        }
+        Ok(())
+    }
+
+    #[tactic(auto, unfolding(crate::specs::Plain::memory_of, cov_base::specs::Memory::byte_at, cov_base::specs::Memory::is_accessible, cov_base::specs::Memory::is_private))]
+    fn byte(&self, at: Addr) -> u8 {
+        if self.is_private(at) {
+            self.bytes[at.get() as usize]
+        } else {
+            self.image[(at.get() - self.base) as usize]
+        }
+    }
+
+    #[tactic(auto, unfolding(crate::specs::Plain::memory_of, cov_base::specs::Memory::byte_at, cov_base::specs::Memory::is_accessible, cov_base::specs::Memory::is_private))]
+    fn put(&mut self, at: Addr, value: u8) {
+        self.bytes[at.get() as usize] = value;
+    }
+}
