@@ -1,0 +1,4 @@
+pub mod AnswerLemmas
+pub mod AreaLemmas
+pub mod SingleLemmas
+pub mod TableLemmas

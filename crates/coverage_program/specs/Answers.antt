@@ -1,0 +1,92 @@
+-- What the program answers: its status and text, by the words and the bytes that came.
+use Rattle.std.specs.Prelude.{◌≡◌, ◌⊎◌, ℕ, ◌≤◌, Bool, true, false, Some, Option, List, length}
+use Rattle.std.specs.Io.KnownBytes.{Appends}
+use Rattle.cov_outside.specs.Causes.{Rose}
+use Rattle.cov_outside.specs.Whole.{IsWhole, HasMoreThan, AppendsSome}
+use Rattle.brk_table.specs.Places.{TablesView}
+use Rattle.session_book.specs.JobView.{JobView}
+use Rattle.job_text.specs.declared.fault.JobFault.{JobFault}
+use Rattle.job_text.specs.declared.fault.JobFault.TheVariants as fault
+use Rattle.job_text.specs.Lines.{lines_of}
+use Rattle.job_text.specs.First.{SpellsFirst, IsFirstBad}
+use Rattle.coverage_program.specs.Refusals.{refusal, job_refusal, Match}
+use Rattle.coverage_program.specs.Runs.{Account, HasRun, Reports}
+use Rattle.coverage_program.specs.Words.{usage_line, too_large_input_line, read_fault_line, no_memory_line, bad_job_line}
+
+-- the most bytes of input
+abbrev pub input_limit : ℕ
+input_limit = 16777216
+
+-- how a job that wasn't read is told
+abbrev pub fault_status : JobFault → ℕ
+fault_status (fault.BadJob n) = 2
+fault_status fault.NoMemory = 7
+
+abbrev pub fault_text : JobFault → List ℕ
+fault_text (fault.BadJob n) = bad_job_line n
+fault_text fault.NoMemory = no_memory_line
+
+-- what a source had left before the call and after it, and its counts of faults
+pub record SourceChange : Type 0 where
+  pub left : Option (List ℕ)
+  pub rest : Option (List ℕ)
+  pub faults : ℕ
+  pub later : ℕ
+
+-- the source was read to its end, and these bytes came
+pub record CameWhole (s : SourceChange) (bytes : List ℕ) : Type 0 where
+  pub whole : IsWhole s.left s.rest bytes
+  pub within : length bytes ≤ input_limit
+  pub no_fault : s.later ≡ s.faults
+
+-- the bytes that came spell this job
+pub record CameJob (s : SourceChange) (j : JobView) : Type 0 where
+  pub bytes : List ℕ
+  pub came : CameWhole s bytes
+  pub spells : SpellsFirst (lines_of bytes) j
+
+-- the report of a job whose listings match
+pub record IsReport (s : SourceChange) (before after : Account) (text : List ℕ) : Type 0 where
+  pub job : JobView
+  pub tables : TablesView
+  pub came : CameJob s job
+  pub match : Match job tables.tables
+  pub ran : HasRun job tables.places before after
+  pub reports : Reports job tables text
+
+-- the first line with which no job goes on
+pub record IsBadJob (s : SourceChange) (text : List ℕ) : Type 0 where
+  pub bytes : List ℕ
+  pub line : ℕ
+  pub came : CameWhole s bytes
+  pub first_bad : IsFirstBad (lines_of bytes) line
+  pub told : text ≡ bad_job_line line
+
+-- the first fault of a job's listings
+pub record IsBadListing (s : SourceChange) (status : ℕ) (text : List ℕ) : Type 0 where
+  pub job : JobView
+  pub came : CameJob s job
+  pub first : job_refusal job ≡ Some (refusal status text)
+
+-- Why the call answers with this status and text, leaving out whether the text could be written. Each cause has its own
+-- status; a refused listing has that of its fault, 3, 4, 8 or 12. Nothing but a report, and want of memory, has made an area.
+pub data IsCause (run : Bool) (s : SourceChange) (before after : Account) (status : ℕ) (text : List ℕ) : Type 0 where
+  Report : (status ≡ 0) × (run ≡ true) → IsReport s before after text → IsCause run s before after status text
+  Usage : (status ≡ 1) × (run ≡ false) × (text ≡ usage_line) × (s.rest ≡ s.left) × (s.later ≡ s.faults) → after ≡ before → IsCause run s before after status text
+  BadJob : (status ≡ 2) × (run ≡ true) → IsBadJob s text → after ≡ before → IsCause run s before after status text
+  BadListing : run ≡ true → IsBadListing s status text → after ≡ before → IsCause run s before after status text
+  LargeInput : (status ≡ 4) × (run ≡ true) × (text ≡ too_large_input_line) × HasMoreThan s.left input_limit × (s.later ≡ s.faults) → after ≡ before → IsCause run s before after status text
+  ReadFault : (status ≡ 5) × (run ≡ true) × (text ≡ read_fault_line) × Rose s.faults s.later → after ≡ before → IsCause run s before after status text
+  WantOfMemory : (status ≡ 7) × (run ≡ true) × (text ≡ no_memory_line) → IsCause run s before after status text
+
+-- the text was written whole, or its first bytes where the sink failed
+abbrev pub IsWritten : ℕ → List ℕ → Option (List ℕ) → Option (List ℕ) → ℕ → ℕ → ℕ → Type 0
+IsWritten status text before after faults later answer =
+    ((answer ≡ status) × Appends before after text × (later ≡ faults)) ⊎ ((answer ≡ 6) × AppendsSome before after text × Rose faults later)
+
+-- the call's answer
+pub record Answers (run : Bool) (s : SourceChange) (before after : Account) (written written' : Option (List ℕ)) (faults later : ℕ) (answer : ℕ) : Type 0 where
+  pub status : ℕ
+  pub text : List ℕ
+  pub cause : IsCause run s before after status text
+  pub told : IsWritten status text written written' faults later answer

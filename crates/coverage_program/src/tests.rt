@@ -1,0 +1,174 @@
+//! Jobs through `cover`, from the bytes in to the bytes out, over memory and over areas on one thread.
+use crate::cover::cover;
+use crate::status::Status;
+use cov_outside::{MemSink, MemSource, SureSink, SureSource};
+use module_area::{Areas, PlainAreas, Tally};
+use std::alloc::Global;
+use std::test::Fail;
+
+const HEAD: &[u8] =
+    b"COVERJOB 1\nMODULE M 100000 8\nTEXT 411000051A1107FE\nLISTING 4\n  Loc  Object Code    Addr1 Addr2  Stmt   Source Statement\n000000 ";
+
+const MIDDLE: &[u8] =
+    b"                      1          LA\n000004 1A11                           2          AR\n000006 07FE                           3          BR\nPHASE P\nSESSION S M\nTASK A 100000 16 ";
+
+const REPORT: &[u8] =
+    b"COVERAGE REPORT\nTASK A RETURNED COUNT 3 CC 2\nR0 00000000 0000000A 00000000 00000000 00000000 00000000 00000000 00000000\nR8 00000000 00000000 00000000 00000000 00000000 00000000 00FFFFFE 00100000\nOUT 0\nSESSION S PHASE P\nMODULE M PLACES 3 EXECUTED 3 FACTS 3 OF 3\n    Loc  Object Code    Addr1 Addr2  Stmt   Source Statement\n: 000000 4110 0005                      1          LA\n: 000004 1A11                           2          AR\n: 000006 07FE                           3          BR\nEND\n";
+
+const SPENT_REPORT: &[u8] =
+    b"COVERAGE REPORT\nTASK A SPENT COUNT 2 CC 2\nR0 00000000 0000000A 00000000 00000000 00000000 00000000 00000000 00000000\nR8 00000000 00000000 00000000 00000000 00000000 00000000 00FFFFFE 00100000\nOUT 0\nSESSION S PHASE P\nMODULE M PLACES 3 EXECUTED 2 FACTS 2 OF 3\n    Loc  Object Code    Addr1 Addr2  Stmt   Source Statement\n: 000000 4110 0005                      1          LA\n: 000004 1A11                           2          AR\n^ 000006 07FE                           3          BR\nNOT EXECUTED 000006-000007\nEND\n";
+
+/// The first job with this object code in its first plain line, this budget, and this end.
+fn job(alloc: Global, object: &[u8], budget: &[u8], end: &[u8]) -> Result<Vec<u8>, Fail> {
+    let mut text = HEAD.to_vec(alloc)?;
+    text.extend_from_slice(object)?;
+    text.extend_from_slice(MIDDLE)?;
+    text.extend_from_slice(budget)?;
+    text.extend_from_slice(b" 0\n")?;
+    text.extend_from_slice(end)?;
+    Ok(text)
+}
+
+/// The words `run`.
+fn run_words(alloc: Global) -> Result<Vec<String>, Fail> {
+    let mut words = Vec::new(alloc);
+    words.push(String::from_str(alloc, "run")?)?;
+    Ok(words)
+}
+
+/// What came of a job: the status, the bytes written, the ledger's one tally, and the areas made.
+#[derive(Drop)]
+struct Came {
+    status: Status,
+    text: Vec<u8>,
+    tallies: Vec<Tally>,
+    made: u64,
+}
+
+fn run(
+    alloc: Global,
+    job: Vec<u8>,
+    bad_reads: Vec<u64>,
+    bad_writes: Vec<u64>,
+) -> Result<Came, Fail> {
+    let words = run_words(alloc)?;
+    let mut source = MemSource::new(job, 64, bad_reads);
+    let mut sink = MemSink::new(alloc, 4096, 4096, bad_writes).map_err(|_| "memory")?;
+    let mut areas = PlainAreas::new(alloc, 1).map_err(|_| "memory")?;
+    let status = cover(alloc, &words, &mut source, &mut sink, &mut areas);
+    Ok(Came {
+        status,
+        text: sink.bytes().to_vec(alloc)?,
+        tallies: areas.ledger().to_vec(alloc)?,
+        made: areas.made(),
+    })
+}
+
+#[test]
+fn runs_the_first_job(rt: HostRuntime) -> Result<(), Fail> {
+    let alloc = rt.alloc();
+    let came = run(
+        alloc,
+        job(alloc, b"4110 0005", b"100", b"ENDJOB\n")?,
+        Vec::new(alloc),
+        Vec::new(alloc),
+    )?;
+    assert_eq!(rt; came.status, Status(0));
+    assert_eq!(rt; came.text.as_slice(), REPORT);
+    let tally = Tally {
+        plants: 3,
+        fetches: 3,
+        marks: 3,
+        lifts: 3,
+        closes: 0,
+    };
+    assert_eq!(rt; came.tallies.as_slice(), [tally].as_slice());
+    assert_eq!(rt; came.made, 1);
+    Ok(())
+}
+
+#[test]
+fn tests_the_budget_after_the_return(rt: HostRuntime) -> Result<(), Fail> {
+    let alloc = rt.alloc();
+    let three = run(
+        alloc,
+        job(alloc, b"4110 0005", b"3", b"ENDJOB\n")?,
+        Vec::new(alloc),
+        Vec::new(alloc),
+    )?;
+    assert_eq!(rt; three.text.as_slice(), REPORT);
+    let two = run(
+        alloc,
+        job(alloc, b"4110 0005", b"2", b"ENDJOB\n")?,
+        Vec::new(alloc),
+        Vec::new(alloc),
+    )?;
+    assert_eq!(rt; two.status, Status(0));
+    assert_eq!(rt; two.text.as_slice(), SPENT_REPORT);
+    Ok(())
+}
+
+#[test]
+fn refuses_by_name_and_makes_no_area(rt: HostRuntime) -> Result<(), Fail> {
+    let alloc = rt.alloc();
+    let other = run(
+        alloc,
+        job(alloc, b"4110 0006", b"100", b"ENDJOB\n")?,
+        Vec::new(alloc),
+        Vec::new(alloc),
+    )?;
+    assert_eq!(rt; other.status, Status(3));
+    assert_eq!(rt;
+        other.text.as_slice(),
+        b"MISMATCH M LINE 2 LOC 000000 LISTING 41100006 MODULE 41100005\n".as_slice()
+    );
+    assert_eq!(rt; other.made, 0);
+    let short = run(
+        alloc,
+        job(alloc, b"4110 0005", b"100", b"")?,
+        Vec::new(alloc),
+        Vec::new(alloc),
+    )?;
+    assert_eq!(rt; short.status, Status(2));
+    assert_eq!(rt; short.text.as_slice(), b"BAD JOB LINE 12\n".as_slice());
+    assert_eq!(rt; short.made, 0);
+    Ok(())
+}
+
+#[test]
+fn tells_faults_of_source_and_sink(rt: HostRuntime) -> Result<(), Fail> {
+    let alloc = rt.alloc();
+    let unread = run(
+        alloc,
+        job(alloc, b"4110 0005", b"100", b"ENDJOB\n")?,
+        [3u64].to_vec(alloc)?,
+        Vec::new(alloc),
+    )?;
+    assert_eq!(rt; unread.status, Status(5));
+    assert_eq!(rt; unread.text.as_slice(), b"READ FAULT\n".as_slice());
+    let unwritten = run(
+        alloc,
+        job(alloc, b"4110 0005", b"100", b"ENDJOB\n")?,
+        Vec::new(alloc),
+        [2u64].to_vec(alloc)?,
+    )?;
+    assert_eq!(rt; unwritten.status, Status(6));
+    assert_eq!(rt; unwritten.text.as_slice(), b"COVERAGE REPORT\n".as_slice());
+    Ok(())
+}
+
+#[test]
+fn answers_over_devices_that_never_fail(rt: HostRuntime) -> Result<(), Fail> {
+    let alloc = rt.alloc();
+    let words = run_words(alloc)?;
+    let mut source = SureSource::new(job(alloc, b"4110 0005", b"100", b"ENDJOB\n")?, 64);
+    let mut sink = SureSink::new();
+    let mut areas = PlainAreas::new(alloc, 1).map_err(|_| "memory")?;
+    let status = cover(alloc, &words, &mut source, &mut sink, &mut areas);
+    assert_eq!(rt; status, Status(0));
+    let none = Vec::new(alloc);
+    let mut others = PlainAreas::new(alloc, 1).map_err(|_| "memory")?;
+    let refused = cover(alloc, &none, &mut source, &mut sink, &mut others);
+    assert_eq!(rt; refused, Status(1));
+    Ok(())
+}
