@@ -73,6 +73,47 @@ fn reads_the_job(rt: HostRuntime) -> Result<(), Fail> {
 }
 
 #[test]
+fn refuses_neighbours_exchanged(rt: HostRuntime) -> Result<(), Fail> {
+    let a = rt.alloc();
+    for n in 0..11 {
+        let mut input = Vec::new(a);
+        for k in 0..12 {
+            let from = if k == n {
+                n + 1
+            } else if k == n + 1 {
+                n
+            } else {
+                k
+            };
+            input.extend_from_slice(LINES[from])?;
+            input.push(b'\n')?;
+        }
+        assert_eq!(rt; bad_line(a, &input), n as u32 + 1);
+    }
+    Ok(())
+}
+
+#[test]
+fn refuses_a_blank_too_many(rt: HostRuntime) -> Result<(), Fail> {
+    let a = rt.alloc();
+    for n in 0..12 {
+        let line = LINES[n];
+        let is_card = n < 4 || 8 <= n;
+        for i in 0..line.len() + 1 {
+            if is_card && (i == 0 || i == line.len() || line[i] == b' ') {
+                let mut text = line[..i].to_vec(a)?;
+                text.push(b' ')?;
+                text.extend_from_slice(&line[i..])?;
+                text.push(b'\n')?;
+                let input = with_line(a, n + 1, &text)?;
+                assert_eq!(rt; bad_line(a, &input), n as u32 + 1);
+            }
+        }
+    }
+    Ok(())
+}
+
+#[test]
 fn refuses_lines_that_are_missing_or_doubled(rt: HostRuntime) -> Result<(), Fail> {
     let a = rt.alloc();
     for n in 0..12 {
