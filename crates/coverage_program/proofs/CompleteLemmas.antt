@@ -7,7 +7,7 @@ use Rattle.job_text.specs.Lines.{lines_of}
 use Rattle.job_text.specs.First.{SpellsFirst, IsFirstBad}
 use Rattle.job_text.proofs.Complete.{one_job}
 use Rattle.job_text.proofs.Firsts.{never_bad}
-use Rattle.coverage_program.specs.Answers.{SourceChange, CameWhole, CameJob, IsCause, Report, Usage, BadJob, BadListing, LargeInput, ReadFault, WantOfMemory, IsReport, IsBadJob, IsBadListing, Answers, IsComplete, input_limit}
+use Rattle.coverage_program.specs.Answers.{SourceChange, CameWhole, CameJob, IsCause, Report, Usage, BadJob, BadListing, LargeInput, ReadFault, WantOfMemory, Answers, IsComplete, input_limit}
 use Rattle.coverage_program.specs.Refusals.{RefusalView, refusal, job_refusal}
 use Rattle.coverage_program.specs.Runs.{Account}
 
