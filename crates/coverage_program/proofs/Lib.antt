@@ -1,4 +1,5 @@
 pub mod AnswerLemmas
 pub mod AreaLemmas
+pub mod CompleteLemmas
 pub mod SingleLemmas
 pub mod TableLemmas

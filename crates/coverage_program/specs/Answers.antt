@@ -1,5 +1,5 @@
 -- What the program answers: its status and text, by the words and the bytes that came.
-use Rattle.std.specs.Prelude.{◌≡◌, ◌⊎◌, ℕ, ◌≤◌, Bool, true, false, Some, Option, List, length}
+use Rattle.std.specs.Prelude.{◌≡◌, ◌<◌, ◌⊎◌, ℕ, ◌≤◌, Bool, true, false, Some, None, Option, List, length}
 use Rattle.std.specs.Io.KnownBytes.{Appends}
 use Rattle.cov_outside.specs.Causes.{Rose}
 use Rattle.cov_outside.specs.Whole.{IsWhole, HasMoreThan, AppendsSome}
@@ -9,7 +9,7 @@ use Rattle.job_text.specs.declared.fault.JobFault.{JobFault}
 use Rattle.job_text.specs.declared.fault.JobFault.TheVariants as fault
 use Rattle.job_text.specs.Lines.{lines_of}
 use Rattle.job_text.specs.First.{SpellsFirst, IsFirstBad}
-use Rattle.coverage_program.specs.Refusals.{refusal, job_refusal, Match}
+use Rattle.coverage_program.specs.Refusals.{RefusalView, refusal, job_refusal, Match}
 use Rattle.coverage_program.specs.Runs.{Account, HasRun, Reports}
 use Rattle.coverage_program.specs.Words.{usage_line, too_large_input_line, read_fault_line, no_memory_line, bad_job_line}
 
@@ -90,3 +90,14 @@ pub record Answers (run : Bool) (s : SourceChange) (before after : Account) (wri
   pub text : List ℕ
   pub cause : IsCause run s before after status text
   pub told : IsWritten status text written written' faults later answer
+
+-- where no fault of source or sink was counted, the status is that of the words and bytes, or 7
+pub record IsComplete (run : Bool) (s : SourceChange) (faults later answer : ℕ) : Type 0 where
+  pub usage : run ≡ false → (Rose faults later → ⊥) → answer ≡ 1
+  pub large : (bytes : List ℕ) → run ≡ true → s.left ≡ Some bytes → input_limit < length bytes → (Rose s.faults s.later → ⊥) → (Rose faults later → ⊥) → (answer ≡ 4) ⊎ (answer ≡ 7)
+  pub bad_job : (bytes : List ℕ) (n : ℕ) → run ≡ true → s.left ≡ Some bytes → length bytes ≤ input_limit → IsFirstBad (lines_of bytes) n →
+      (Rose s.faults s.later → ⊥) → (Rose faults later → ⊥) → (answer ≡ 2) ⊎ (answer ≡ 7)
+  pub refused : (bytes : List ℕ) (j : JobView) (r : RefusalView) → run ≡ true → s.left ≡ Some bytes → length bytes ≤ input_limit → SpellsFirst (lines_of bytes) j → job_refusal j ≡ Some r →
+      (Rose s.faults s.later → ⊥) → (Rose faults later → ⊥) → (answer ≡ r.status) ⊎ (answer ≡ 7)
+  pub matched : (bytes : List ℕ) (j : JobView) → run ≡ true → s.left ≡ Some bytes → length bytes ≤ input_limit → SpellsFirst (lines_of bytes) j → job_refusal j ≡ None →
+      (Rose s.faults s.later → ⊥) → (Rose faults later → ⊥) → (answer ≡ 0) ⊎ (answer ≡ 7)

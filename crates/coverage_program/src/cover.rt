@@ -3,7 +3,7 @@ ghost use Rattle.std.specs.Prelude.{◌≡◌, ◌+◌, ◌<◌, ◌≤◌, ◌^
 ghost use Rattle.brk_table.specs.Places.{IsIn};
 ghost use Rattle.job_text.specs.Lines.{lines_of};
 ghost use Rattle.job_text.specs.First.{SpellsFirst};
-ghost use Rattle.coverage_program.specs.Answers.{SourceChange, CameWhole, CameJob, Answers, IsWritten, fault_status, fault_text};
+ghost use Rattle.coverage_program.specs.Answers.{SourceChange, CameWhole, CameJob, Answers, IsComplete, IsWritten, fault_status, fault_text};
 ghost use Rattle.coverage_program.specs.Refusals.{Match};
 ghost use Rattle.coverage_program.specs.Runs.{Account};
 ghost use Rattle.coverage_program.specs.Single.{IsSingle};
@@ -104,9 +104,8 @@ fn answer_bytes<K: Sink, A: Areas>(
     }
 }
 
-/// Serves the command that the words are: `run` reads a job from the source and writes its report to the sink. Each
-/// refusal has its status and its line; the answer is 6 where the sink fails. It always returns.
-pub fn cover<S: Source, K: Sink, A: Areas>(
+/// Answers the words.
+fn answer_words<S: Source, K: Sink, A: Areas>(
     alloc: Global,
     words: &[String],
     source: &mut S,
@@ -127,4 +126,23 @@ pub fn cover<S: Source, K: Sink, A: Areas>(
         Err(ReadFault::TooLarge) => told(sink, TOO_LARGE_INPUT, 4),
         Err(ReadFault::NoMemory) => told(sink, NO_MEMORY, 7),
     }
+}
+
+/// Serves the command that the words are: `run` reads a job from the source and writes its report to the sink. Each
+/// refusal has its status and its line; the answer is 6 where the sink fails. Where no fault of source or sink was
+/// counted, it is that of the words and bytes, or 7. It always returns.
+pub fn cover<S: Source, K: Sink, A: Areas>(
+    alloc: Global,
+    words: &[String],
+    source: &mut S,
+    sink: &mut K,
+    areas: &mut A,
+) -> Status
+    requires { A.made areas.old < 2 ^ 61 }
+    ensures answers { Answers (is_run (map string_bytes words.now)) (record { left = S.left source.old; rest = S.left source.new; faults = S.faults source.old; later = S.faults source.new })
+        (record { ledger = A.ledger areas.old; finals = A.finals areas.old; made = A.made areas.old }) (record { ledger = A.ledger areas.new; finals = A.finals areas.new; made = A.made areas.new })
+        (K.written sink.old) (K.written sink.new) (K.faults sink.old) (K.faults sink.new) result.0 }
+    ensures complete { IsComplete (is_run (map string_bytes words.now)) (record { left = S.left source.old; rest = S.left source.new; faults = S.faults source.old; later = S.faults source.new }) (K.faults sink.old) (K.faults sink.new) result.0 }
+{
+    answer_words(alloc, words, source, sink, areas)
 }
