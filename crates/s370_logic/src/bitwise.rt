@@ -1,0 +1,131 @@
+//! And, or, and exclusive or.
+#![tactic(auto, using(s370_state::proofs::Performs::at_once, s370_state::proofs::Performs::passes, s370_state::proofs::Performs::refuses))]
+
+ghost use Rattle.std.specs.Prelude.{◌≡◌, ℕ, ◌+◌, ◌<◌, ◌≤◌, ◌^◌, Bool, true, ◌==◌, if◌then◌else◌, slice_set, slice_index};
+ghost use Rattle.cov_base.specs.Memory.{can_reach, can_store};
+ghost use Rattle.s370_state.specs.Row.{Performs};
+ghost use Rattle.s370_logic.specs.Bitwise.{connected, zero_code, joined, are_zero, row_registers, row_word, row_immediate, row_fields};
+
+use crate::operands::read_word;
+use cov_base::Addr;
+use s370_decode::Code;
+use s370_state::{Cpu, Next, Space, byte_of, put_into, test_store, test_store_read};
+
+/// An operation on the bits of two operands.
+#[derive(Clone, Copy, Drop)]
+pub enum Connective {
+    And,
+    Or,
+    ExclusiveOr,
+}
+
+impl Connective {
+    fn of_words(self, x: u32, y: u32) -> u32
+        ensures { result ≡ connected self x y }
+    {
+        match self {
+            Connective::And => x & y,
+            Connective::Or => x | y,
+            Connective::ExclusiveOr => x ^ y,
+        }
+    }
+
+    fn of_bytes(self, x: u8, y: u8) -> u8
+        ensures { result ≡ connected self x y }
+    {
+        match self {
+            Connective::And => x & y,
+            Connective::Or => x | y,
+            Connective::ExclusiveOr => x ^ y,
+        }
+    }
+}
+
+/// The condition code of a result.
+fn zero_code(is_zero: bool) -> u8
+    ensures value { result ≡ zero_code is_zero }
+    ensures below { result ≤ 1 }
+{
+    if is_zero { 0 } else { 1 }
+}
+
+/// Joins the word to the register.
+fn join(cpu: &mut Cpu, r: u8, v: u32, f: Connective) -> Next
+    requires { r < 16 }
+    ensures cpu { let w = connected f (slice_index cpu.old.regs r) v in
+        cpu.new ≡ record cpu.old { regs = slice_set cpu.old.regs r w; condition = zero_code (w == 0) } }
+    ensures next { result ≡ Next.On }
+{
+    let w = f.of_words(cpu.reg(r), v);
+    cpu.set_reg(r, w);
+    cpu.set_cc(zero_code(w == 0));
+    Next::On
+}
+
+/// Joins n bytes, each to one of the other operand, one at a time and left to right; whether all results are zero.
+#[tactic(auto, using(crate::proofs::Steps::joined_none, crate::proofs::Steps::joined_more, crate::proofs::Steps::are_zero_none, crate::proofs::Steps::are_zero_more))]
+fn join_bytes<P: Space>(f: Connective, space: &mut P, a: Addr, b: Addr, n: u32) -> bool
+    requires store { can_store (P.memory space.old) a n ≡ true }
+    requires reach { can_reach (P.memory space.old) a n ≡ true }
+    requires reach_second { can_reach (P.memory space.old) b n ≡ true }
+    ensures memory { P.memory space.new ≡ P.memory space.old }
+    ensures bytes { P.bytes space.new ≡ joined (connected f) (P.memory space.old) (P.bytes space.old) a b n }
+    ensures zero { result ≡ are_zero (connected f) (P.memory space.old) (P.bytes space.old) a b n }
+{
+    let mut is_zero = true;
+    for i in 0..n {
+        let v = f.of_bytes(byte_of(space, a, i, n), byte_of(space, b, i, n));
+        put_into(space, a, i, n, v);
+        is_zero = is_zero && v == 0;
+    }
+    is_zero
+}
+
+/// NR, OR, XR.
+pub fn join_registers<P: Space>(cpu: &mut Cpu, space: &mut P, code: &Code, f: Connective) -> Next
+    ensures memory { P.memory space.new ≡ P.memory space.old }
+    ensures row { Performs (P.memory space.old) cpu.old (P.bytes space.old) (λ m s. row_registers (connected f) m s code.now) cpu.new (P.bytes space.new) result }
+{
+    join(cpu, code.r1(), cpu.reg(code.r2()), f)
+}
+
+/// N, O, X.
+pub fn join_word<P: Space>(cpu: &mut Cpu, space: &mut P, code: &Code, f: Connective) -> Next
+    ensures memory { P.memory space.new ≡ P.memory space.old }
+    ensures row { Performs (P.memory space.old) cpu.old (P.bytes space.old) (λ m s. row_word (connected f) m s code.now) cpu.new (P.bytes space.new) result }
+{
+    match read_word(space, cpu.address(code.b2(), code.x2(), code.d2())) {
+        Ok(v) => join(cpu, code.r1(), v, f),
+        Err(e) => Next::Ended(e),
+    }
+}
+
+/// NI, OI, XI.
+pub fn join_immediate<P: Space>(cpu: &mut Cpu, space: &mut P, code: &Code, f: Connective) -> Next
+    ensures memory { P.memory space.new ≡ P.memory space.old }
+    ensures row { Performs (P.memory space.old) cpu.old (P.bytes space.old) (λ m s. row_immediate (connected f) m s code.now) cpu.new (P.bytes space.new) result }
+{
+    let at = cpu.address(code.b1(), 0, code.d1());
+    if let Err(e) = test_store(space, at, 1) {
+        return Next::Ended(e);
+    }
+    let v = f.of_bytes(byte_of(space, at, 0, 1), code.i2());
+    put_into(space, at, 0, 1, v);
+    cpu.set_cc(zero_code(v == 0));
+    Next::On
+}
+
+/// NC, OC, XC.
+pub fn join_fields<P: Space>(cpu: &mut Cpu, space: &mut P, code: &Code, f: Connective) -> Next
+    ensures memory { P.memory space.new ≡ P.memory space.old }
+    ensures row { Performs (P.memory space.old) cpu.old (P.bytes space.old) (λ m s. row_fields (connected f) m s code.now) cpu.new (P.bytes space.new) result }
+{
+    let n = u32::from(code.l()) + 1;
+    let a = cpu.address(code.b1(), 0, code.d1());
+    let b = cpu.address(code.b2(), 0, code.d2());
+    if let Err(e) = test_store_read(space, a, n, b, n) {
+        return Next::Ended(e);
+    }
+    cpu.set_cc(zero_code(join_bytes(f, space, a, b, n)));
+    Next::On
+}
