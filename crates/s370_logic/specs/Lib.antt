@@ -1,2 +1,5 @@
 pub mod Operands
 pub mod Bitwise
+pub mod Comparisons
+pub mod SingleBytes
+pub mod Swaps

@@ -2,4 +2,7 @@
 #![tactic(auto)]
 
 pub mod bitwise;
+pub mod comparisons;
 mod operands;
+pub mod single_bytes;
+pub mod swaps;

@@ -1,0 +1,105 @@
+//! Comparisons without signs.
+#![tactic(auto, using(s370_state::proofs::Performs::at_once, s370_state::proofs::Performs::passes, s370_state::proofs::Performs::refuses))]
+
+ghost use Rattle.std.specs.Prelude.{◌≡◌, ℕ, ◌+◌, ◌<◌, ◌≤◌, ◌^◌, true, ◌==◌, if◌then◌else◌, slice_index};
+ghost use Rattle.cov_base.specs.Memory.{can_reach};
+ghost use Rattle.s370_state.specs.Row.{Performs};
+ghost use Rattle.s370_logic.specs.Comparisons.{order_code, compared, row_clr, row_cl, row_cli, row_clc};
+
+use crate::operands::{read_word, test_reads};
+use cov_base::Addr;
+use s370_decode::Code;
+use s370_state::{Cpu, Next, Space, byte_of, test_read};
+
+/// The condition code of a comparison: 0 equal, 1 the first low, 2 the first high.
+#[tactic(auto, unfolding(crate::specs::Comparisons::order_code))]
+pub fn order_code(x: u32, y: u32) -> u8
+    ensures value { result ≡ order_code x y }
+    ensures below { result ≤ 2 }
+{
+    if x == y {
+        0
+    } else if x < y {
+        1
+    } else {
+        2
+    }
+}
+
+/// Compares the register with a word.
+fn compare(cpu: &mut Cpu, r: u8, v: u32) -> Next
+    requires { r < 16 }
+    ensures cpu { cpu.new ≡ record cpu.old { condition = order_code (slice_index cpu.old.regs r) v } }
+    ensures next { result ≡ Next.On }
+{
+    cpu.set_cc(order_code(cpu.reg(r), v));
+    Next::On
+}
+
+/// Compares n bytes, left to right, up to the first unequal pair.
+#[tactic(auto, using(crate::proofs::Steps::compared_none, crate::proofs::Steps::compared_more, crate::proofs::Steps::compared_decided))]
+fn compare_bytes<P: Space>(space: &P, a: Addr, b: Addr, n: u32) -> u8
+    requires reach { can_reach (P.memory space.now) a n ≡ true }
+    requires reach_second { can_reach (P.memory space.now) b n ≡ true }
+    ensures value { result ≡ compared (P.memory space.now) (P.bytes space.now) a b n }
+    ensures below { result ≤ 2 }
+{
+    for i in 0..n {
+        let code = order_code(
+            u32::from(byte_of(space, a, i, n)),
+            u32::from(byte_of(space, b, i, n)),
+        );
+        if code != 0 {
+            return code;
+        }
+    }
+    0
+}
+
+/// CLR.
+pub fn compare_registers<P: Space>(cpu: &mut Cpu, space: &mut P, code: &Code) -> Next
+    ensures memory { P.memory space.new ≡ P.memory space.old }
+    ensures row { Performs (P.memory space.old) cpu.old (P.bytes space.old) (λ m s. row_clr m s code.now) cpu.new (P.bytes space.new) result }
+{
+    compare(cpu, code.r1(), cpu.reg(code.r2()))
+}
+
+/// CL.
+pub fn compare_word<P: Space>(cpu: &mut Cpu, space: &mut P, code: &Code) -> Next
+    ensures memory { P.memory space.new ≡ P.memory space.old }
+    ensures row { Performs (P.memory space.old) cpu.old (P.bytes space.old) (λ m s. row_cl m s code.now) cpu.new (P.bytes space.new) result }
+{
+    match read_word(space, cpu.address(code.b2(), code.x2(), code.d2())) {
+        Ok(v) => compare(cpu, code.r1(), v),
+        Err(e) => Next::Ended(e),
+    }
+}
+
+/// CLI.
+pub fn compare_immediate<P: Space>(cpu: &mut Cpu, space: &mut P, code: &Code) -> Next
+    ensures memory { P.memory space.new ≡ P.memory space.old }
+    ensures row { Performs (P.memory space.old) cpu.old (P.bytes space.old) (λ m s. row_cli m s code.now) cpu.new (P.bytes space.new) result }
+{
+    let at = cpu.address(code.b1(), 0, code.d1());
+    if let Err(e) = test_read(space, at, 1) {
+        return Next::Ended(e);
+    }
+    let byte = byte_of(space, at, 0, 1);
+    cpu.set_cc(order_code(u32::from(byte), u32::from(code.i2())));
+    Next::On
+}
+
+/// CLC.
+pub fn compare_fields<P: Space>(cpu: &mut Cpu, space: &mut P, code: &Code) -> Next
+    ensures memory { P.memory space.new ≡ P.memory space.old }
+    ensures row { Performs (P.memory space.old) cpu.old (P.bytes space.old) (λ m s. row_clc m s code.now) cpu.new (P.bytes space.new) result }
+{
+    let n = u32::from(code.l()) + 1;
+    let a = cpu.address(code.b1(), 0, code.d1());
+    let b = cpu.address(code.b2(), 0, code.d2());
+    if let Err(e) = test_reads(space, a, b, n) {
+        return Next::Ended(e);
+    }
+    cpu.set_cc(compare_bytes(space, a, b, n));
+    Next::On
+}

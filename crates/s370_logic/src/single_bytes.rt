@@ -1,0 +1,108 @@
+//! One byte in storage, and the program mask.
+#![tactic(auto, using(s370_state::proofs::Performs::at_once, s370_state::proofs::Performs::passes, s370_state::proofs::Performs::refuses))]
+
+ghost use Rattle.std.specs.Prelude.{◌≡◌, ℕ, ◌+◌, ◌*◌, ◌/◌, ◌%◌, ◌<◌, ◌≤◌, ◌^◌, true, ◌==◌, if◌then◌else◌};
+ghost use Rattle.s370_state.specs.Row.{Performs};
+ghost use Rattle.s370_logic.specs.SingleBytes.{mask_code, row_ic, row_stc, row_mvi, row_tm, row_ts, row_spm, stores_byte};
+
+use cov_base::Addr;
+use s370_decode::Code;
+use s370_state::{Cpu, Next, Space, byte_of, put_into, test_read, test_store};
+
+/// Stores one byte.
+fn store_byte<P: Space>(cpu: &Cpu, space: &mut P, at: Addr, v: u8) -> Next
+    ensures memory { P.memory space.new ≡ P.memory space.old }
+    ensures row { Performs (P.memory space.old) cpu.now (P.bytes space.old) (λ m s. stores_byte s at v) cpu.now (P.bytes space.new) result }
+{
+    if let Err(e) = test_store(space, at, 1) {
+        return Next::Ended(e);
+    }
+    put_into(space, at, 0, 1, v);
+    Next::On
+}
+
+/// IC.
+pub fn insert_character<P: Space>(cpu: &mut Cpu, space: &mut P, code: &Code) -> Next
+    ensures memory { P.memory space.new ≡ P.memory space.old }
+    ensures row { Performs (P.memory space.old) cpu.old (P.bytes space.old) (λ m s. row_ic m s code.now) cpu.new (P.bytes space.new) result }
+{
+    let at = cpu.address(code.b2(), code.x2(), code.d2());
+    if let Err(e) = test_read(space, at, 1) {
+        return Next::Ended(e);
+    }
+    let high = cpu.reg(code.r1()) / 256 * 256;
+    cpu.set_reg(code.r1(), high + u32::from(byte_of(space, at, 0, 1)));
+    Next::On
+}
+
+/// STC.
+pub fn store_character<P: Space>(cpu: &mut Cpu, space: &mut P, code: &Code) -> Next
+    ensures memory { P.memory space.new ≡ P.memory space.old }
+    ensures row { Performs (P.memory space.old) cpu.old (P.bytes space.old) (λ m s. row_stc m s code.now) cpu.new (P.bytes space.new) result }
+{
+    let at = cpu.address(code.b2(), code.x2(), code.d2());
+    store_byte(cpu, space, at, (cpu.reg(code.r1()) % 256) as u8)
+}
+
+/// MVI.
+pub fn move_immediate<P: Space>(cpu: &mut Cpu, space: &mut P, code: &Code) -> Next
+    ensures memory { P.memory space.new ≡ P.memory space.old }
+    ensures row { Performs (P.memory space.old) cpu.old (P.bytes space.old) (λ m s. row_mvi m s code.now) cpu.new (P.bytes space.new) result }
+{
+    let at = cpu.address(code.b1(), 0, code.d1());
+    store_byte(cpu, space, at, code.i2())
+}
+
+/// TM.
+pub fn test_under_mask<P: Space>(cpu: &mut Cpu, space: &mut P, code: &Code) -> Next
+    ensures memory { P.memory space.new ≡ P.memory space.old }
+    ensures row { Performs (P.memory space.old) cpu.old (P.bytes space.old) (λ m s. row_tm m s code.now) cpu.new (P.bytes space.new) result }
+{
+    let at = cpu.address(code.b1(), 0, code.d1());
+    if let Err(e) = test_read(space, at, 1) {
+        return Next::Ended(e);
+    }
+    let mask = code.i2();
+    let selected = byte_of(space, at, 0, 1) & mask;
+    cpu.set_cc(mask_code(selected, mask));
+    Next::On
+}
+
+/// The condition code of bits that a mask selects.
+fn mask_code(selected: u8, mask: u8) -> u8
+    ensures value { result ≡ mask_code selected mask }
+    ensures below { result ≤ 3 }
+{
+    if selected == 0 {
+        0
+    } else if selected == mask {
+        3
+    } else {
+        1
+    }
+}
+
+/// TS.
+pub fn test_and_set<P: Space>(cpu: &mut Cpu, space: &mut P, code: &Code) -> Next
+    ensures memory { P.memory space.new ≡ P.memory space.old }
+    ensures row { Performs (P.memory space.old) cpu.old (P.bytes space.old) (λ m s. row_ts m s code.now) cpu.new (P.bytes space.new) result }
+{
+    let at = cpu.address(code.b2(), 0, code.d2());
+    if let Err(e) = test_store(space, at, 1) {
+        return Next::Ended(e);
+    }
+    cpu.set_cc(byte_of(space, at, 0, 1) / 128);
+    put_into(space, at, 0, 1, 255);
+    Next::On
+}
+
+/// SPM.
+pub fn set_program_mask<P: Space>(cpu: &mut Cpu, space: &mut P, code: &Code) -> Next
+    ensures memory { P.memory space.new ≡ P.memory space.old }
+    ensures row { Performs (P.memory space.old) cpu.old (P.bytes space.old) (λ m s. row_spm m s code.now) cpu.new (P.bytes space.new) result }
+{
+    let w = cpu.reg(code.r1());
+    cpu.cc = (w / 268_435_456 % 4) as u8;
+    cpu.mask = (w / 16_777_216 % 16) as u8;
+    Next::On
+}

@@ -1,0 +1,59 @@
+//! Compare and swap.
+#![tactic(auto, using(s370_state::proofs::Performs::ill_formed, s370_state::proofs::Performs::well_passes, s370_state::proofs::Performs::well_refuses))]
+
+ghost use Rattle.std.specs.Prelude.{◌≡◌, ℕ, ◌+◌, ◌%◌, ◌<◌, ◌≤◌, ◌^◌, true, false, ◌==◌, ◌&&◌, if◌then◌else◌};
+ghost use Rattle.cov_base.specs.Memory.{can_reach, can_store};
+ghost use Rattle.s370_state.specs.Row.{Performs};
+ghost use Rattle.s370_logic.specs.Swaps.{row_cs, row_cds};
+
+use s370_decode::Code;
+use s370_state::{
+    Cpu, Ending, Next, Space, double_of, put_double, put_word, test_store, word_of,
+};
+
+/// CS.
+pub fn compare_and_swap<P: Space>(cpu: &mut Cpu, space: &mut P, code: &Code) -> Next
+    ensures memory { P.memory space.new ≡ P.memory space.old }
+    ensures row { Performs (P.memory space.old) cpu.old (P.bytes space.old) (λ m s. row_cs m s code.now) cpu.new (P.bytes space.new) result }
+{
+    let at = cpu.address(code.b2(), 0, code.d2());
+    if at.get() % 4 != 0 {
+        return Next::Ended(Ending::Abend(6));
+    }
+    if let Err(e) = test_store(space, at, 4) {
+        return Next::Ended(e);
+    }
+    let v = word_of(space, at, 0, 4);
+    if cpu.reg(code.r1()) == v {
+        put_word(space, at, 0, 4, cpu.reg(code.r3()));
+        cpu.set_cc(0);
+    } else {
+        cpu.set_reg(code.r1(), v);
+        cpu.set_cc(1);
+    }
+    Next::On
+}
+
+/// CDS.
+pub fn compare_double_and_swap<P: Space>(cpu: &mut Cpu, space: &mut P, code: &Code) -> Next
+    ensures memory { P.memory space.new ≡ P.memory space.old }
+    ensures row { Performs (P.memory space.old) cpu.old (P.bytes space.old) (λ m s. row_cds m s code.now) cpu.new (P.bytes space.new) result }
+{
+    let at = cpu.address(code.b2(), 0, code.d2());
+    let (r1, r3) = (code.r1(), code.r3());
+    if r1 % 2 != 0 || r3 % 2 != 0 || at.get() % 8 != 0 {
+        return Next::Ended(Ending::Abend(6));
+    }
+    if let Err(e) = test_store(space, at, 8) {
+        return Next::Ended(e);
+    }
+    let v = double_of(space, at, 0, 8);
+    if cpu.pair(r1) == v {
+        put_double(space, at, 0, 8, cpu.pair(r3));
+        cpu.set_cc(0);
+    } else {
+        cpu.set_pair(r1, v);
+        cpu.set_cc(1);
+    }
+    Next::On
+}
