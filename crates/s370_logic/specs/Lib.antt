@@ -2,4 +2,5 @@ pub mod Operands
 pub mod Bitwise
 pub mod Comparisons
 pub mod SingleBytes
+pub mod Masked
 pub mod Swaps

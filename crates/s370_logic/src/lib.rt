@@ -3,6 +3,7 @@
 
 pub mod bitwise;
 pub mod comparisons;
+pub mod masked;
 mod operands;
 pub mod single_bytes;
 pub mod swaps;

@@ -1,0 +1,54 @@
+-- The rows of operations on the bytes of R1 that a mask of four bits selects, left to right (Principles of Operation,
+-- "General Instructions", "Insert Characters under Mask", "Store Characters under Mask", "Compare Logical Characters
+-- under Mask"). A zero mask selects no byte, and the operand then has none.
+use Rattle.std.specs.Prelude.{ℕ, zero, suc, ◌+◌, ◌*◌, ◌/◌, ◌%◌, true, ◌==◌, nat_le, if◌then◌else◌, List, [], ◌∷◌, slice_set, count_ones}
+use Rattle.cov_base.specs.States.{Machine}
+use Rattle.cov_base.specs.Memory.{Memory, byte_at, wrap}
+use Rattle.s370_state.specs.Row.{Row, Completes, reads, stores, reg, with_reg, with_cc, with_bytes}
+use Rattle.s370_state.specs.Words.{number_at}
+use Rattle.s370_decode.specs.Fields.{r1, r2, e2}
+use Rattle.s370_decode.specs.declared.code.Code.{Code}
+use Rattle.s370_logic.specs.Comparisons.{order_code}
+
+-- the operand's length: a byte for each one bit of the mask
+abbrev pub size : Code → ℕ
+size c = count_ones (r2 c)
+
+-- of w's k right bytes, the number that those make which the mask's k right bits select
+unfoldable pub gathered : ℕ → ℕ → ℕ → ℕ
+gathered zero mask w = 0
+gathered (suc k) mask w =
+    if mask % 2 == 1 then gathered k (mask / 2) (w / 256) * 256 + w % 256 else gathered k (mask / 2) (w / 256)
+
+-- these k bytes with the bytes of v, right to left, in the places that the mask selects
+unfoldable pub inserted : ℕ → ℕ → ℕ → ℕ → ℕ
+inserted zero mask w v = 0
+inserted (suc k) mask w v =
+    if mask % 2 == 1 then inserted k (mask / 2) (w / 256) (v / 256) * 256 + v % 256
+    else inserted k (mask / 2) (w / 256) v * 256 + w % 256
+
+-- the n bytes of v are stored from a on
+unfoldable pub store_number : List ℕ → ℕ → ℕ → ℕ → List ℕ
+store_number bytes a zero v = bytes
+store_number bytes a (suc n) v = slice_set (store_number bytes a n (v / 256)) (wrap (a + n)) (v % 256)
+
+-- 0 where all inserted bits are zero, or there are none; 1 where the first is one, else 2
+abbrev pub insert_code : ℕ → ℕ → ℕ
+insert_code v first = if v == 0 then 0 else (if nat_le 128 first then 1 else 2)
+
+abbrev pub row_icm : Memory → Machine → Code → Row
+row_icm m s c =
+    let a = e2 s.cpu c in
+    let v = number_at m s.bytes a (size c) in
+    record { well = true; uses = reads a (size c) ∷ []; outcome = Completes (with_cc (with_reg s (r1 c) (inserted 4 (r2 c) (reg s (r1 c)) v)) (insert_code v (byte_at m s.bytes a))) }
+
+abbrev pub row_stcm : Memory → Machine → Code → Row
+row_stcm m s c =
+    let a = e2 s.cpu c in
+    record { well = true; uses = stores a (size c) ∷ []; outcome = Completes (with_bytes s (store_number s.bytes a (size c) (gathered 4 (r2 c) (reg s (r1 c))))) }
+
+-- the selected bytes of R1 are the first operand
+abbrev pub row_clm : Memory → Machine → Code → Row
+row_clm m s c =
+    let a = e2 s.cpu c in
+    record { well = true; uses = reads a (size c) ∷ []; outcome = Completes (with_cc s (order_code (gathered 4 (r2 c) (reg s (r1 c))) (number_at m s.bytes a (size c)))) }

@@ -1,0 +1,148 @@
+//! Bytes of a register under a mask.
+#![tactic(auto, using(s370_state::proofs::Performs::at_once, s370_state::proofs::Performs::passes, s370_state::proofs::Performs::refuses, crate::proofs::Masks::size_most))]
+
+ghost use Rattle.std.specs.Prelude.{◌≡◌, ℕ, ◌+◌, ◌-◌, ◌*◌, ◌/◌, ◌%◌, ◌<◌, ◌≤◌, ◌^◌, true, ◌==◌, if◌then◌else◌};
+ghost use Rattle.cov_base.specs.Memory.{can_reach, can_store, byte_at};
+ghost use Rattle.s370_state.specs.Row.{Performs};
+ghost use Rattle.s370_state.specs.Words.{number_at};
+ghost use Rattle.s370_logic.specs.Masked.{size, gathered, inserted, store_number, insert_code, row_icm, row_stcm, row_clm};
+
+use crate::comparisons::order_code;
+use cov_base::Addr;
+use s370_decode::Code;
+use s370_state::{Cpu, Next, Space, byte_of, put_into, test_read, test_store};
+
+/// The operand's length: how many bytes the mask selects.
+fn size(code: &Code) -> u32
+    ensures value { result ≡ size code.now }
+    ensures most { result ≤ 4 }
+{
+    code.m3().count_ones()
+}
+
+/// Of a word's k right bytes, the number that those make which the mask's k right bits select.
+#[tactic(auto, using(crate::proofs::Masks::gathered_none, crate::proofs::Masks::gathered_more, crate::proofs::Masks::gathered_past))]
+fn gathered(k: u8, mask: u8, w: u32) -> u32
+    ensures value { result ≡ gathered k mask w }
+    ensures most { result ≤ w }
+{
+    if k == 0 {
+        return 0;
+    }
+    let high = gathered(k - 1, mask / 2, w / 256);
+    if mask % 2 == 1 {
+        high * 256 + w % 256
+    } else {
+        high
+    }
+}
+
+/// These k bytes with the bytes of v, right to left, in the places that the mask selects.
+#[tactic(auto, using(crate::proofs::Masks::inserted_none, crate::proofs::Masks::inserted_more, crate::proofs::Masks::inserted_past))]
+fn inserted(k: u8, mask: u8, w: u32, v: u32) -> u32
+    requires { k ≤ 4 }
+    ensures value { result ≡ inserted k mask w v }
+    ensures below { result < 256 ^ k }
+{
+    if k == 0 {
+        return 0;
+    }
+    if mask % 2 == 1 {
+        inserted(k - 1, mask / 2, w / 256, v / 256) * 256 + v % 256
+    } else {
+        inserted(k - 1, mask / 2, w / 256, v) * 256 + w % 256
+    }
+}
+
+/// The number of an operand's n bytes.
+#[tactic(auto, using(crate::proofs::Masks::number_none, crate::proofs::Masks::number_more, crate::proofs::Masks::byte_fits, crate::proofs::Masks::byte_more))]
+fn number_of<P: Space>(space: &P, at: Addr, n: u32) -> u32
+    requires most { n ≤ 4 }
+    requires reach { can_reach (P.memory space.now) at n ≡ true }
+    ensures { result ≡ number_at (P.memory space.now) (P.bytes space.now) at n }
+{
+    let mut v: u32 = 0;
+    for i in 0..n {
+        v = v * 256 + u32::from(byte_of(space, at, i, n));
+    }
+    v
+}
+
+/// Stores the k right bytes of v as the first of an operand's n bytes.
+#[tactic(auto, using(crate::proofs::Masks::store_none, crate::proofs::Masks::store_more))]
+fn put_number<P: Space>(space: &mut P, at: Addr, k: u32, n: u32, v: u32)
+    requires order { k ≤ n }
+    requires store { can_store (P.memory space.old) at n ≡ true }
+    ensures memory { P.memory space.new ≡ P.memory space.old }
+    ensures bytes { P.bytes space.new ≡ store_number (P.bytes space.old) at k v }
+{
+    if k == 0 {
+        return;
+    }
+    put_number(space, at, k - 1, n, v / 256);
+    put_into(space, at, k - 1, n, (v % 256) as u8);
+}
+
+/// The condition code of an operand's n bytes, whose number is v, when they are inserted.
+#[tactic(auto, using(crate::proofs::Masks::number_none))]
+fn insert_code<P: Space>(space: &P, at: Addr, n: u32, v: u32) -> u8
+    requires reach { can_reach (P.memory space.now) at n ≡ true }
+    requires number { v ≡ number_at (P.memory space.now) (P.bytes space.now) at n }
+    ensures value { result ≡ insert_code v (byte_at (P.memory space.now) (P.bytes space.now) at) }
+    ensures below { result ≤ 2 }
+{
+    if n == 0 || v == 0 {
+        0
+    } else if byte_of(space, at, 0, n) >= 128 {
+        1
+    } else {
+        2
+    }
+}
+
+/// ICM.
+pub fn insert_under_mask<P: Space>(cpu: &mut Cpu, space: &mut P, code: &Code) -> Next
+    ensures memory { P.memory space.new ≡ P.memory space.old }
+    ensures row { Performs (P.memory space.old) cpu.old (P.bytes space.old) (λ m s. row_icm m s code.now) cpu.new (P.bytes space.new) result }
+{
+    let at = cpu.address(code.b2(), 0, code.d2());
+    let n = size(code);
+    if let Err(e) = test_read(space, at, n) {
+        return Next::Ended(e);
+    }
+    let v = number_of(space, at, n);
+    let r = code.r1();
+    cpu.set_reg(r, inserted(4, code.m3(), cpu.reg(r), v));
+    cpu.set_cc(insert_code(space, at, n, v));
+    Next::On
+}
+
+/// STCM.
+pub fn store_under_mask<P: Space>(cpu: &mut Cpu, space: &mut P, code: &Code) -> Next
+    ensures memory { P.memory space.new ≡ P.memory space.old }
+    ensures row { Performs (P.memory space.old) cpu.old (P.bytes space.old) (λ m s. row_stcm m s code.now) cpu.new (P.bytes space.new) result }
+{
+    let at = cpu.address(code.b2(), 0, code.d2());
+    let n = size(code);
+    if let Err(e) = test_store(space, at, n) {
+        return Next::Ended(e);
+    }
+    let v = gathered(4, code.m3(), cpu.reg(code.r1()));
+    put_number(space, at, n, n, v);
+    Next::On
+}
+
+/// CLM.
+pub fn compare_under_mask<P: Space>(cpu: &mut Cpu, space: &mut P, code: &Code) -> Next
+    ensures memory { P.memory space.new ≡ P.memory space.old }
+    ensures row { Performs (P.memory space.old) cpu.old (P.bytes space.old) (λ m s. row_clm m s code.now) cpu.new (P.bytes space.new) result }
+{
+    let at = cpu.address(code.b2(), 0, code.d2());
+    let n = size(code);
+    if let Err(e) = test_read(space, at, n) {
+        return Next::Ended(e);
+    }
+    let first = gathered(4, code.m3(), cpu.reg(code.r1()));
+    cpu.set_cc(order_code(first, number_of(space, at, n)));
+    Next::On
+}
