@@ -42,6 +42,6 @@ compared_decided m bytes a b zero i code l e h k = absurd (omega arith)
 compared_decided m bytes a b (suc n) i code l e h k = elim (last_or i n l) [
   | inl q ↦ rw (← q, e) h
   | inr z ↦ let d : code ≡ compared m bytes a b n = compared_decided m bytes a b n i code z e h k in
-    let p : (compared m bytes a b n == 0) ≡ false = is_not_zero _ (rw d at k) in
-    rw p d
+      let p : (compared m bytes a b n == 0) ≡ false = is_not_zero _ (rw d at k) in
+      rw p d
 ]

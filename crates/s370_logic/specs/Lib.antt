@@ -4,3 +4,4 @@ pub mod Comparisons
 pub mod SingleBytes
 pub mod Masked
 pub mod Swaps
+pub mod Logic

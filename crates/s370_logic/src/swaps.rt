@@ -7,9 +7,7 @@ ghost use Rattle.s370_state.specs.Row.{Performs};
 ghost use Rattle.s370_logic.specs.Swaps.{row_cs, row_cds};
 
 use s370_decode::Code;
-use s370_state::{
-    Cpu, Ending, Next, Space, double_of, put_double, put_word, test_store, word_of,
-};
+use s370_state::{Cpu, Ending, Next, Space, double_of, put_double, put_word, test_store, word_of};
 
 /// CS.
 pub fn compare_and_swap<P: Space>(cpu: &mut Cpu, space: &mut P, code: &Code) -> Next

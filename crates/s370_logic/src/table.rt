@@ -1,0 +1,58 @@
+//! The one call for all operations of logic and tests.
+ghost use Rattle.std.specs.Prelude.{◌≡◌, true};
+ghost use Rattle.s370_state.specs.Row.{Performs};
+ghost use Rattle.s370_logic.specs.Logic.{logic_row, is_logic};
+
+use crate::bitwise::{Connective, join_fields, join_immediate, join_registers, join_word};
+use crate::comparisons::{compare_fields, compare_immediate, compare_registers, compare_word};
+use crate::masked::{compare_under_mask, insert_under_mask, store_under_mask};
+use crate::single_bytes::{
+    insert_character, move_immediate, set_program_mask, store_character, test_and_set,
+    test_under_mask,
+};
+use crate::swaps::{compare_and_swap, compare_double_and_swap};
+use s370_decode::{Code, Op};
+use s370_state::{Cpu, Next, Space};
+
+/// Performs an operation of logic and tests: NR N NI NC, OR O OI OC, XR X XI XC, CLR CL CLI CLC, IC STC, ICM STCM CLM,
+/// TM MVI TS, CS CDS and SPM (Principles of Operation, "General Instructions"). All tests are made before anything is
+/// changed. The task ends with code 6 where CS or CDS has an operand that isn't aligned, or CDS an odd register, 5
+/// where an operand is inaccessible, 4 where a stored one is not private, and Touched by a touch byte that is read, all
+/// without a change. An operand that is stored and read counts as stored, that of CS and CDS also where they only
+/// load. The instruction address is left as it is. Takes no memory.
+pub fn logic<P: Space>(cpu: &mut Cpu, space: &mut P, code: &Code, op: Op) -> Next
+    requires { is_logic op ≡ true }
+    ensures memory { P.memory space.new ≡ P.memory space.old }
+    ensures row { Performs (P.memory space.old) cpu.old (P.bytes space.old) (λ m s. logic_row op m s code.now) cpu.new (P.bytes space.new) result }
+{
+    match op {
+        Op::NR => join_registers(cpu, space, code, Connective::And),
+        Op::N => join_word(cpu, space, code, Connective::And),
+        Op::NI => join_immediate(cpu, space, code, Connective::And),
+        Op::NC => join_fields(cpu, space, code, Connective::And),
+        Op::OR => join_registers(cpu, space, code, Connective::Or),
+        Op::O => join_word(cpu, space, code, Connective::Or),
+        Op::OI => join_immediate(cpu, space, code, Connective::Or),
+        Op::OC => join_fields(cpu, space, code, Connective::Or),
+        Op::XR => join_registers(cpu, space, code, Connective::ExclusiveOr),
+        Op::X => join_word(cpu, space, code, Connective::ExclusiveOr),
+        Op::XI => join_immediate(cpu, space, code, Connective::ExclusiveOr),
+        Op::XC => join_fields(cpu, space, code, Connective::ExclusiveOr),
+        Op::CLR => compare_registers(cpu, space, code),
+        Op::CL => compare_word(cpu, space, code),
+        Op::CLI => compare_immediate(cpu, space, code),
+        Op::CLC => compare_fields(cpu, space, code),
+        Op::IC => insert_character(cpu, space, code),
+        Op::STC => store_character(cpu, space, code),
+        Op::ICM => insert_under_mask(cpu, space, code),
+        Op::STCM => store_under_mask(cpu, space, code),
+        Op::CLM => compare_under_mask(cpu, space, code),
+        Op::TM => test_under_mask(cpu, space, code),
+        Op::MVI => move_immediate(cpu, space, code),
+        Op::TS => test_and_set(cpu, space, code),
+        Op::CS => compare_and_swap(cpu, space, code),
+        Op::CDS => compare_double_and_swap(cpu, space, code),
+        Op::SPM => set_program_mask(cpu, space, code),
+        _ => Next::On,
+    }
+}
