@@ -3,10 +3,9 @@
 use Rattle.std.specs.Prelude.{ℕ, zero, suc, ◌+◌, Bool, true, ◌&&◌, ◌==◌, if◌then◌else◌, List, [], ◌∷◌, slice_set, bit_and, bit_or, bit_xor}
 use Rattle.cov_base.specs.States.{Machine}
 use Rattle.cov_base.specs.Memory.{Memory, byte_at, wrap}
-use Rattle.s370_state.specs.Row.{Row, Outcome, Completes, reads, stores, reg, with_reg, with_cc, with_bytes}
+use Rattle.s370_state.specs.Row.{Row, Outcome, Completes, at_once, from_word, reads, stores, reg, with_reg, with_cc, with_bytes}
 use Rattle.s370_decode.specs.Fields.{r1, r2, i2, e1, e2, ex}
 use Rattle.s370_decode.specs.declared.code.Code.{Code}
-use Rattle.s370_logic.specs.Operands.{at_once, from_word}
 use Rattle.s370_logic.specs.declared.bitwise.Connective.{Connective}
 use Rattle.s370_logic.specs.declared.bitwise.Connective.TheVariants.{And, Or, ExclusiveOr}
 

@@ -2,10 +2,9 @@
 use Rattle.std.specs.Prelude.{ℕ, zero, suc, ◌+◌, true, ◌==◌, nat_lt, if◌then◌else◌, List, [], ◌∷◌}
 use Rattle.cov_base.specs.States.{Machine}
 use Rattle.cov_base.specs.Memory.{Memory, byte_at, wrap}
-use Rattle.s370_state.specs.Row.{Row, Outcome, Completes, reads, reg, with_cc}
+use Rattle.s370_state.specs.Row.{Row, Outcome, Completes, at_once, from_word, reads, reg, with_cc}
 use Rattle.s370_decode.specs.Fields.{r1, r2, i2, e1, e2, ex}
 use Rattle.s370_decode.specs.declared.code.Code.{Code}
-use Rattle.s370_logic.specs.Operands.{at_once, from_word}
 
 -- 0 where the numbers are equal, 1 where the first is low, 2 where it is high
 unfoldable pub order_code : ℕ → ℕ → ℕ

@@ -1,4 +1,3 @@
-pub mod Operands
 pub mod Bitwise
 pub mod Comparisons
 pub mod SingleBytes

@@ -2,11 +2,10 @@
 use Rattle.std.specs.Prelude.{Bool, true, false, bit_and, bit_or, bit_xor}
 use Rattle.cov_base.specs.States.{Machine}
 use Rattle.cov_base.specs.Memory.{Memory}
-use Rattle.s370_state.specs.Row.{Row, Completes}
+use Rattle.s370_state.specs.Row.{Row, Completes, at_once}
 use Rattle.s370_decode.specs.declared.code.Code.{Code}
 use Rattle.s370_decode.specs.declared.op.Op.{Op}
 use Rattle.s370_decode.specs.declared.op.Op.TheVariants.{NR, N, NI, NC, OR, O, OI, OC, XR, X, XI, XC, CLR, CL, CLI, CLC, IC, STC, ICM, STCM, CLM, TM, MVI, TS, CS, CDS, SPM}
-use Rattle.s370_logic.specs.Operands.{at_once}
 use Rattle.s370_logic.specs.Bitwise.{row_registers, row_word, row_immediate, row_fields}
 use Rattle.s370_logic.specs.Comparisons.{row_clr, row_cl, row_cli, row_clc}
 use Rattle.s370_logic.specs.SingleBytes.{row_ic, row_stc, row_mvi, row_tm, row_ts, row_spm}

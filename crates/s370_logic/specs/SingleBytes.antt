@@ -2,10 +2,9 @@
 use Rattle.std.specs.Prelude.{ℕ, ◌+◌, ◌*◌, ◌/◌, ◌%◌, true, ◌==◌, if◌then◌else◌, [], ◌∷◌, slice_set, bit_and}
 use Rattle.cov_base.specs.States.{Machine}
 use Rattle.cov_base.specs.Memory.{Memory, byte_at}
-use Rattle.s370_state.specs.Row.{Row, Completes, reads, stores, reg, with_reg, with_cc, with_bytes}
+use Rattle.s370_state.specs.Row.{Row, Completes, at_once, reads, stores, reg, with_reg, with_cc, with_bytes}
 use Rattle.s370_decode.specs.Fields.{r1, i2, e1, e2, ex}
 use Rattle.s370_decode.specs.declared.code.Code.{Code}
-use Rattle.s370_logic.specs.Operands.{at_once}
 
 -- the byte goes to bits 24-31 of R1
 abbrev pub row_ic : Memory → Machine → Code → Row

@@ -6,10 +6,9 @@ ghost use Rattle.cov_base.specs.Memory.{can_reach, can_store};
 ghost use Rattle.s370_state.specs.Row.{Performs};
 ghost use Rattle.s370_logic.specs.Bitwise.{connected, zero_code, joined, are_zero, row_registers, row_word, row_immediate, row_fields};
 
-use crate::operands::read_word;
 use cov_base::Addr;
 use s370_decode::Code;
-use s370_state::{Cpu, Next, Space, byte_of, put_into, test_store, test_store_read};
+use s370_state::{Cpu, Next, Space, byte_of, put_into, read_word, test_store, test_store_read};
 
 /// An operation on the bits of two operands.
 #[derive(Clone, Copy, Drop)]

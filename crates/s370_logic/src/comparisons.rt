@@ -6,10 +6,10 @@ ghost use Rattle.cov_base.specs.Memory.{can_reach};
 ghost use Rattle.s370_state.specs.Row.{Performs};
 ghost use Rattle.s370_logic.specs.Comparisons.{order_code, compared, row_clr, row_cl, row_cli, row_clc};
 
-use crate::operands::{read_word, test_reads};
+use crate::operands::test_reads;
 use cov_base::Addr;
 use s370_decode::Code;
-use s370_state::{Cpu, Next, Space, byte_of, test_read};
+use s370_state::{Cpu, Next, Space, byte_of, read_word, test_read};
 
 /// The condition code of a comparison: 0 equal, 1 the first low, 2 the first high.
 #[tactic(auto, unfolding(crate::specs::Comparisons::order_code))]

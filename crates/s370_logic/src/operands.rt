@@ -1,24 +1,11 @@
-//! Operands that are read, tested before.
-ghost use Rattle.std.specs.Prelude.{◌≡◌, ℕ, ◌<◌, ◌≤◌, ◌^◌, List, [], ◌∷◌, IfOk, IfErr, None, Some, true, if◌then◌else◌, ◌&&◌};
+//! The tests of two operands that are read.
+ghost use Rattle.std.specs.Prelude.{◌≡◌, ℕ, ◌<◌, ◌≤◌, ◌^◌, [], ◌∷◌, IfOk, IfErr, None, Some, true, if◌then◌else◌, ◌&&◌};
 ghost use Rattle.cov_base.specs.Memory.{can_reach, first_touch, or_else};
 ghost use Rattle.s370_state.specs.Row.{reads, use_tests};
-ghost use Rattle.s370_state.specs.Words.{number_at};
 ghost use Rattle.s370_state.specs.Answers.{touch_or_ok};
 
 use cov_base::Addr;
-use s370_state::{Ending, Refused, Space, ending_of, test_read, word_of};
-
-/// The word at an address: tested, and read.
-pub fn read_word<P: Space>(space: &P, at: Addr) -> Result<u32, Ending>
-    ensures refused { IfErr result (λ e. use_tests (P.memory space.now) (reads at 4 ∷ []) ≡ Some e) }
-    ensures passed { IfOk result (λ _. use_tests (P.memory space.now) (reads at 4 ∷ []) ≡ None) }
-    ensures value { IfOk result (λ v. v ≡ number_at (P.memory space.now) (P.bytes space.now) at 4) }
-{
-    match test_read(space, at, 4) {
-        Ok(()) => Ok(word_of(space, at, 0, 4)),
-        Err(e) => Err(e),
-    }
-}
+use s370_state::{Ending, Refused, Space, ending_of};
 
 /// Tests two operands of n bytes that are read: code 5 by either, then touch by the first, then by the second.
 #[tactic(auto, unfolding(s370_state::specs::Row::use_tests, s370_state::specs::Row::all_reached, s370_state::specs::Row::all_stored, s370_state::specs::Row::touched))]
