@@ -10,3 +10,6 @@ mod swaps;
 mod table;
 
 pub use table::logic;
+
+#[cfg(test)]
+mod tests;
