@@ -1,12 +1,10 @@
 -- The recursions over an operand's bytes, one byte on.
-use Rattle.std.proofs.Common.{◌≡◌, ℕ, ◌+◌, ◌<◌, zero, suc, true, false, ◌&&◌, ◌==◌, List, slice_set, refl, add-one, arith, ◌⊎◌, inl, inr}
+use Rattle.std.proofs.Common.{◌≡◌, ℕ, ◌+◌, ◌<◌, zero, suc, true, false, ◌&&◌, ◌==◌, List, slice_set, refl, add-one, arith, inl, inr}
+use Rattle.std.proofs.Math.Nat.{eq-or-lt_of_le}
 use Rattle.std.proofs.lemmas.Bool.Decides.{nat_tests}
 use Rattle.cov_base.specs.Memory.{Memory, byte_at, wrap}
 use Rattle.s370_logic.specs.Bitwise.{joined, joined_byte, are_zero}
 use Rattle.s370_logic.specs.Comparisons.{order_code, compared}
-
-last_or : (i n : ℕ) → i < suc n → (i ≡ n) ⊎ (i < n)
-last_or i n h = grind arith
 
 is_not_zero : (n : ℕ) → 0 < n → (n == 0) ≡ false
 is_not_zero n h = grind (arith, nat_tests)
@@ -39,7 +37,7 @@ compared_more m bytes a b n h = rw (add-one, h) refl
 pub compared_decided : (m : Memory) (bytes : List ℕ) (a b n i code : ℕ) → i < n → compared m bytes a b i ≡ 0 → code ≡ order_code (byte_at m bytes (wrap (a + i))) (byte_at m bytes (wrap (b + i))) → 0 < code → code ≡ compared m bytes a b n
 unfolding compared
 compared_decided m bytes a b zero i code l e h k = absurd (omega arith)
-compared_decided m bytes a b (suc n) i code l e h k = elim (last_or i n l) [
+compared_decided m bytes a b (suc n) i code l e h k = elim (eq-or-lt_of_le {n = i} {m = n} (omega arith)) [
   | inl q ↦ rw (← q, e) h
   | inr z ↦ let d : code ≡ compared m bytes a b n = compared_decided m bytes a b n i code z e h k in
       let p : (compared m bytes a b n == 0) ≡ false = is_not_zero _ (rw d at k) in

@@ -1,5 +1,5 @@
 -- The rows of and, or and exclusive or, which take the operation on bits (Principles of Operation, "General
--- Instructions", "AND", "OR", "EXCLUSIVE OR").
+-- Instructions", "AND", "OR", "Exclusive OR").
 use Rattle.std.specs.Prelude.{ℕ, zero, suc, ◌+◌, Bool, true, ◌&&◌, ◌==◌, if◌then◌else◌, List, [], ◌∷◌, slice_set, bit_and, bit_or, bit_xor}
 use Rattle.cov_base.specs.States.{Machine}
 use Rattle.cov_base.specs.Memory.{Memory, byte_at, wrap}
@@ -32,8 +32,13 @@ row_word f m s c = from_word m s (ex s.cpu c) (joins f s c)
 -- the byte at the first operand's address becomes f of it and the immediate byte
 abbrev pub row_immediate : (ℕ → ℕ → ℕ) → Memory → Machine → Code → Row
 row_immediate f m s c =
-    let v = f (byte_at m s.bytes (e1 s.cpu c)) (i2 c) in
-    record { well = true; uses = stores (e1 s.cpu c) 1 ∷ []; outcome = Completes (with_cc (with_bytes s (slice_set s.bytes (e1 s.cpu c) v)) (zero_code (v == 0))) }
+    let a = e1 s.cpu c in
+    let v = f (byte_at m s.bytes a) (i2 c) in
+    record {
+      well = true;
+      uses = stores a 1 ∷ [];
+      outcome = Completes (with_cc (with_bytes s (slice_set s.bytes a v)) (zero_code (v == 0)));
+    }
 
 -- f of byte n of the operands at a and b, as they stand in these bytes
 abbrev pub joined_byte : (ℕ → ℕ → ℕ) → Memory → List ℕ → ℕ → ℕ → ℕ → ℕ
@@ -55,4 +60,8 @@ row_fields f m s c =
     let a = e1 s.cpu c in
     let b = e2 s.cpu c in
     let n = i2 c + 1 in
-    record { well = true; uses = stores a n ∷ (reads b n ∷ []); outcome = Completes (with_cc (with_bytes s (joined f m s.bytes a b n)) (zero_code (are_zero f m s.bytes a b n))) }
+    record {
+      well = true;
+      uses = stores a n ∷ (reads b n ∷ []);
+      outcome = Completes (with_cc (with_bytes s (joined f m s.bytes a b n)) (zero_code (are_zero f m s.bytes a b n)));
+    }

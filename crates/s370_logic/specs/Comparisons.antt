@@ -22,7 +22,11 @@ row_cl m s c = from_word m s (ex s.cpu c) (compares s c)
 
 -- the byte in storage is the first operand
 abbrev pub row_cli : Memory → Machine → Code → Row
-row_cli m s c = record { well = true; uses = reads (e1 s.cpu c) 1 ∷ []; outcome = Completes (with_cc s (order_code (byte_at m s.bytes (e1 s.cpu c)) (i2 c))) }
+row_cli m s c = record {
+  well = true;
+  uses = reads (e1 s.cpu c) 1 ∷ [];
+  outcome = Completes (with_cc s (order_code (byte_at m s.bytes (e1 s.cpu c)) (i2 c)));
+}
 
 -- of the n bytes from a and from b on, the leftmost unequal pair decides
 unfoldable pub compared : Memory → List ℕ → ℕ → ℕ → ℕ → ℕ
@@ -36,4 +40,8 @@ row_clc m s c =
     let a = e1 s.cpu c in
     let b = e2 s.cpu c in
     let n = i2 c + 1 in
-    record { well = true; uses = reads a n ∷ (reads b n ∷ []); outcome = Completes (with_cc s (compared m s.bytes a b n)) }
+    record {
+      well = true;
+      uses = reads a n ∷ (reads b n ∷ []);
+      outcome = Completes (with_cc s (compared m s.bytes a b n));
+    }

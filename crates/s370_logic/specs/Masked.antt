@@ -40,15 +40,27 @@ abbrev pub row_icm : Memory → Machine → Code → Row
 row_icm m s c =
     let a = e2 s.cpu c in
     let v = number_at m s.bytes a (size c) in
-    record { well = true; uses = reads a (size c) ∷ []; outcome = Completes (with_cc (with_reg s (r1 c) (inserted 4 (r2 c) (reg s (r1 c)) v)) (insert_code v (byte_at m s.bytes a))) }
+    record {
+      well = true;
+      uses = reads a (size c) ∷ [];
+      outcome = Completes (with_cc (with_reg s (r1 c) (inserted 4 (r2 c) (reg s (r1 c)) v)) (insert_code v (byte_at m s.bytes a)));
+    }
 
 abbrev pub row_stcm : Memory → Machine → Code → Row
 row_stcm m s c =
     let a = e2 s.cpu c in
-    record { well = true; uses = stores a (size c) ∷ []; outcome = Completes (with_bytes s (store_number s.bytes a (size c) (gathered 4 (r2 c) (reg s (r1 c))))) }
+    record {
+      well = true;
+      uses = stores a (size c) ∷ [];
+      outcome = Completes (with_bytes s (store_number s.bytes a (size c) (gathered 4 (r2 c) (reg s (r1 c)))));
+    }
 
 -- the selected bytes of R1 are the first operand
 abbrev pub row_clm : Memory → Machine → Code → Row
 row_clm m s c =
     let a = e2 s.cpu c in
-    record { well = true; uses = reads a (size c) ∷ []; outcome = Completes (with_cc s (order_code (gathered 4 (r2 c) (reg s (r1 c))) (number_at m s.bytes a (size c)))) }
+    record {
+      well = true;
+      uses = reads a (size c) ∷ [];
+      outcome = Completes (with_cc s (order_code (gathered 4 (r2 c) (reg s (r1 c))) (number_at m s.bytes a (size c))));
+    }

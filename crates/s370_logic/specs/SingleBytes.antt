@@ -8,7 +8,11 @@ use Rattle.s370_decode.specs.declared.code.Code.{Code}
 
 -- the byte goes to bits 24-31 of R1
 abbrev pub row_ic : Memory → Machine → Code → Row
-row_ic m s c = record { well = true; uses = reads (ex s.cpu c) 1 ∷ []; outcome = Completes (with_reg s (r1 c) (reg s (r1 c) / 256 * 256 + byte_at m s.bytes (ex s.cpu c))) }
+row_ic m s c = record {
+  well = true;
+  uses = reads (ex s.cpu c) 1 ∷ [];
+  outcome = Completes (with_reg s (r1 c) (reg s (r1 c) / 256 * 256 + byte_at m s.bytes (ex s.cpu c)));
+}
 
 -- one byte is stored
 abbrev pub stores_byte : Machine → ℕ → ℕ → Row
@@ -26,7 +30,11 @@ abbrev pub mask_code : ℕ → ℕ → ℕ
 mask_code selected mask = if selected == 0 then 0 else (if selected == mask then 3 else 1)
 
 abbrev pub row_tm : Memory → Machine → Code → Row
-row_tm m s c = record { well = true; uses = reads (e1 s.cpu c) 1 ∷ []; outcome = Completes (with_cc s (mask_code (bit_and (byte_at m s.bytes (e1 s.cpu c)) (i2 c)) (i2 c))) }
+row_tm m s c = record {
+  well = true;
+  uses = reads (e1 s.cpu c) 1 ∷ [];
+  outcome = Completes (with_cc s (mask_code (bit_and (byte_at m s.bytes (e1 s.cpu c)) (i2 c)) (i2 c)));
+}
 
 -- the byte's leftmost bit as it was is the condition code, and the byte becomes all ones
 abbrev pub row_ts : Memory → Machine → Code → Row
@@ -40,4 +48,4 @@ row_ts m s c = record {
 abbrev pub row_spm : Memory → Machine → Code → Row
 row_spm m s c =
     let w = reg s (r1 c) in
-    at_once (Completes (record { cpu = record { regs = s.cpu.regs; ia = s.cpu.ia; condition = w / 268435456 % 4; mask = w / 16777216 % 16 }; bytes = s.bytes }))
+    at_once (Completes (record { cpu = record s.cpu { condition = w / 268435456 % 4; mask = w / 16777216 % 16 }; bytes = s.bytes }))

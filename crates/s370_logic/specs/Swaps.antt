@@ -16,7 +16,8 @@ row_cs m s c =
     record {
       well = a % 4 == 0;
       uses = stores a 4 ∷ [];
-      outcome = if reg s (r1 c) == v then Completes (with_cc (with_bytes s (store_word s.bytes a (reg s (r2 c)))) 0) else Completes (with_cc (with_reg s (r1 c) v) 1);
+      outcome = if reg s (r1 c) == v then Completes (with_cc (with_bytes s (store_word s.bytes a (reg s (r2 c)))) 0)
+          else Completes (with_cc (with_reg s (r1 c) v) 1);
     }
 
 -- the same of pairs and a doubleword
@@ -27,5 +28,6 @@ row_cds m s c =
     record {
       well = is_even (r1 c) && is_even (r2 c) && a % 8 == 0;
       uses = stores a 8 ∷ [];
-      outcome = if pair s.cpu (r1 c) == v then Completes (with_cc (with_bytes s (store_double s.bytes a (pair s.cpu (r2 c)))) 0) else Completes (with_cc (with_regs s (with_pair s.cpu.regs (r1 c) v)) 1);
+      outcome = if pair s.cpu (r1 c) == v then Completes (with_cc (with_bytes s (store_double s.bytes a (pair s.cpu (r2 c)))) 0)
+          else Completes (with_cc (with_regs s (with_pair s.cpu.regs (r1 c) v)) 1);
     }
