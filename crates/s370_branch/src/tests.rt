@@ -1,0 +1,1 @@
+//! Branches against vectors from outside.
