@@ -1,7 +1,7 @@
 -- The working of a pattern, a byte at a time from left to right (Principles of Operation, "Decimal Instructions", "Edit").
 use Rattle.std.specs.Prelude.{ℕ, zero, suc, ◌+◌, ◌/◌, ◌%◌, Bool, true, false, not, ◌&&◌, ◌||◌, ◌==◌, nat_lt, if◌then◌else◌, Option, Some, None, List, [], ◌∷◌, ◌++◌}
 use Rattle.cov_base.specs.Memory.{Memory, byte_at, wrap}
-use Rattle.s370_edit.specs.Digits.{is_sign, is_minus}
+use Rattle.s370_state.specs.Digits.{is_sign, is_minus}
 use Rattle.s370_edit.specs.declared.working.Digit.{Digit}
 use Rattle.s370_edit.specs.declared.working.Working.{Working}
 use Rattle.s370_edit.specs.declared.working.Step.{Step}

@@ -3,7 +3,6 @@
 
 mod editing;
 mod pattern;
-mod signs;
 mod working;
 
 pub use editing::edit;

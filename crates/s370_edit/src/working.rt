@@ -3,9 +3,8 @@ ghost use Rattle.std.specs.Prelude.{◌≡◌, ℕ, ◌+◌, ◌*◌, ◌/◌, �
 ghost use Rattle.cov_base.specs.Memory.{Memory, byte_at, is_accessible, can_reach, wrap};
 ghost use Rattle.s370_edit.specs.Working.{fresh, left_digit, next_digit, selected, separated, kept, stepped};
 
-use crate::signs::{is_minus, is_sign};
 use cov_base::Addr;
-use s370_state::Space;
+use s370_state::{Space, is_minus, is_sign};
 
 /// A source digit as it is taken.
 #[derive(Clone, Copy)]
@@ -89,7 +88,7 @@ fn left_digit(w: &Working, v: u8) -> Digit
 }
 
 /// The next source digit; none where its byte is inaccessible.
-#[tactic(auto, unfolding(crate::specs::Working::next_digit), using(crate::proofs::Sources::reach_more, crate::proofs::Sources::reach_stops))]
+#[tactic(auto, unfolding(crate::specs::Working::next_digit), using(s370_state::proofs::Ranges::reach_more, s370_state::proofs::Ranges::reach_fails))]
 fn next_digit<P: Space>(space: &P, b: Addr, w: &Working) -> Option<Digit>
     requires taken { w.now.taken < 256 }
     requires right { IfSome w.now.right (λ d. d < 16) }
