@@ -142,7 +142,11 @@ fn each_mask_selects_its_codes(rt: HostRuntime) {
                 UPDATED
             };
             for text in ["4700F000", "070F"] {
-                assert_eq!(rt; goes_by(text, mask as u8, cc as u8), to, "{text} {mask} {cc}");
+                assert_eq!(rt;
+                    goes_by(text, mask as u8, cc as u8),
+                    to,
+                    "{text} {mask} {cc}"
+                );
             }
         }
     }
@@ -158,6 +162,9 @@ fn an_operation_that_is_no_branch_stays(rt: HostRuntime) {
     };
     for text in ["18F1", "44F00000", "0A04", "82F00000"] {
         let code = code_of(text);
-        assert!(rt; !outcome(&cpu, &code, op_of(u16::from(code.bytes[0]) * 256)), "{text}");
+        assert!(rt;
+            !outcome(&cpu, &code, op_of(u16::from(code.bytes[0]) * 256)),
+            "{text}"
+        );
     }
 }

@@ -1,5 +1,5 @@
 -- Two operands of which one is not all accessible.
-use Rattle.std.proofs.Common.{◌≡◌, ℕ, true, false, Bool, ◌&&◌, Some, [], ◌∷◌, refl, if◌then◌else◌}
+use Rattle.std.proofs.Common.{◌≡◌, ℕ, true, false, Bool, ◌&&◌, Some, [], ◌∷◌, refl}
 use Rattle.cov_base.specs.Memory.{Memory, can_reach}
 use Rattle.s370_state.specs.Row.{use_tests, all_reached, reads, stores}
 use Rattle.s370_state.specs.declared.endings.Ending.TheVariants.{Abend}

@@ -1,7 +1,7 @@
 -- The working of one pattern byte more, and what it keeps.
-use Rattle.std.proofs.Common.{◌≡◌, ℕ, ◌+◌, ◌<◌, ◌≤◌, ◌/◌, zero, suc, Bool, true, false, ◌&&◌, if◌then◌else◌, ◌==◌, Option, Some, None, List, [], ◌∷◌, ◌++◌, refl, add-one, arith, ◌⊎◌, inl, inr}
-use Rattle.cov_base.specs.Memory.{Memory, wrap, byte_at, can_reach}
-use Rattle.s370_edit.specs.Working.{fresh, digit_of, next_digit, selected, separated, kept, stepped, step_at, worked, formed}
+use Rattle.std.proofs.Common.{◌≡◌, ℕ, ◌+◌, ◌<◌, ◌≤◌, zero, suc, Bool, true, false, ◌&&◌, if◌then◌else◌, ◌==◌, Option, Some, None, List, [], ◌∷◌, ◌++◌, refl, add-one, arith, ◌⊎◌, inl, inr}
+use Rattle.cov_base.specs.Memory.{Memory, can_reach}
+use Rattle.s370_edit.specs.Working.{fresh, digit_of, next_digit, selected, stepped, step_at, worked, formed}
 use Rattle.s370_edit.specs.declared.working.Working.{Working}
 use Rattle.s370_edit.specs.declared.working.Step.{Step}
 

@@ -1,9 +1,9 @@
 -- The rows of editing: the pattern is the first operand and becomes the result, and the source is packed decimal
 -- (Principles of Operation, "Decimal Instructions", "Edit", "Edit and Mark").
 use Rattle.std.specs.Prelude.{ℕ, zero, suc, ◌+◌, ◌*◌, ◌/◌, Bool, true, false, if◌then◌else◌, Option, Some, None, List, [], ◌∷◌, slice_index, slice_set}
-use Rattle.cov_base.specs.States.{CpuView, Machine}
+use Rattle.cov_base.specs.States.{Machine}
 use Rattle.cov_base.specs.Memory.{Memory, wrap}
-use Rattle.s370_state.specs.Row.{Row, Outcome, Completes, Program, reads, stores}
+use Rattle.s370_state.specs.Row.{Row, Use, Outcome, Completes, Program, reads, stores}
 use Rattle.s370_decode.specs.Fields.{i2, e1, e2}
 use Rattle.s370_decode.specs.declared.code.Code.{Code}
 use Rattle.s370_decode.specs.declared.op.Op.{Op}
@@ -48,12 +48,16 @@ edited marks s a n result w false = Completes (record {
   bytes = stored s.bytes a result n;
 })
 
+-- the n pattern bytes from a on, and of the source from b on as many bytes as the working reads
+abbrev pub operands : Memory → List ℕ → ℕ → ℕ → ℕ → List Use
+operands m bytes a b n = stores a n ∷ (reads b (worked m bytes a b n).taken ∷ [])
+
 abbrev pub pattern_row : Bool → Memory → Machine → ℕ → ℕ → ℕ → Row
-pattern_row marks m s a n b = record {
+pattern_row marks m s a b n = record {
   well = true;
-  uses = stores a n ∷ (reads b (worked m s.bytes a b n).taken ∷ []);
+  uses = operands m s.bytes a b n;
   outcome = edited marks s a n (formed m s.bytes a b n) (worked m s.bytes a b n) (worked m s.bytes a b n).bad;
 }
 
 abbrev pub edit_row : Op → Memory → Machine → Code → Row
-edit_row op m s c = pattern_row (is_marking op) m s (e1 s.cpu c) (i2 c + 1) (e2 s.cpu c)
+edit_row op m s c = pattern_row (is_marking op) m s (e1 s.cpu c) (e2 s.cpu c) (i2 c + 1)

@@ -2,9 +2,9 @@
 ghost use Rattle.std.specs.Prelude.{◌≡◌, ℕ, ◌+◌, ◌*◌, ◌/◌, ◌%◌, ◌<◌, ◌≤◌, ◌^◌, true, false, [], ◌∷◌, ◌++◌, length, IfOk, IfErr, IfSome, IfNone, OnSome, OnOk, Some, None, slice_set, slice_index, if◌then◌else◌};
 ghost use Rattle.arrayvec.specs.ArrayVec.{array_vec_len};
 ghost use Rattle.cov_base.specs.Memory.{Memory, byte_at, can_reach, can_store, wrap};
-ghost use Rattle.s370_state.specs.Row.{Performs, reads, stores, use_tests, machine_of, after, finish};
+ghost use Rattle.s370_state.specs.Row.{Performs, use_tests, machine_of, after, finish};
 ghost use Rattle.s370_edit.specs.Working.{worked, formed};
-ghost use Rattle.s370_edit.specs.Edit.{stored, field_code, marked, marked_by, edited, pattern_row, edit_row, is_edit, is_marking};
+ghost use Rattle.s370_edit.specs.Edit.{stored, field_code, marked, marked_by, edited, operands, pattern_row, edit_row, is_edit, is_marking};
 
 use crate::pattern::work;
 use crate::working::Working;
@@ -26,8 +26,8 @@ fn form<P: Space>(
     requires some { 1 ≤ n }
     requires most { n ≤ 256 }
     requires empty { text.old.items ≡ [] }
-    ensures refused { IfErr result (λ e. use_tests (P.memory space.now) (stores a n ∷ (reads b (worked (P.memory space.now) (P.bytes space.now) a b n).taken ∷ [])) ≡ Some e) }
-    ensures passed { IfOk result (λ _. use_tests (P.memory space.now) (stores a n ∷ (reads b (worked (P.memory space.now) (P.bytes space.now) a b n).taken ∷ [])) ≡ None) }
+    ensures refused { IfErr result (λ e. use_tests (P.memory space.now) (operands (P.memory space.now) (P.bytes space.now) a b n) ≡ Some e) }
+    ensures passed { IfOk result (λ _. use_tests (P.memory space.now) (operands (P.memory space.now) (P.bytes space.now) a b n) ≡ None) }
     ensures value { IfOk result (λ w. w ≡ worked (P.memory space.now) (P.bytes space.now) a b n) }
     ensures store { IfOk result (λ _. can_store (P.memory space.now) a n ≡ true) }
     ensures text { OnOk result (text.new.items ≡ formed (P.memory space.now) (P.bytes space.now) a b n) }
@@ -73,11 +73,20 @@ fn field_code(w: &Working) -> u8
 }
 
 /// The address goes to bits 8-31 of register 1.
-fn mark(cpu: &mut Cpu, mark: Option<Addr>)
-    ensures { cpu.new ≡ record cpu.old { regs = marked cpu.old.regs mark } }
+fn mark(cpu: &mut Cpu, address: Option<Addr>)
+    ensures { cpu.new ≡ record cpu.old { regs = marked cpu.old.regs address } }
 {
-    if let Some(at) = mark {
+    if let Some(at) = address {
         cpu.set_reg(1, cpu.reg(1) / 16_777_216 * 16_777_216 + at.get());
+    }
+}
+
+/// The same where the operation marks.
+fn mark_by(cpu: &mut Cpu, marks: bool, address: Option<Addr>)
+    ensures { cpu.new ≡ record cpu.old { regs = marked_by marks cpu.old.regs address } }
+{
+    if marks {
+        mark(cpu, address);
     }
 }
 
@@ -88,14 +97,6 @@ fn is_marking(op: Op) -> bool
     match op {
         Op::EDMK => true,
         _ => false,
-    }
-}
-
-fn mark_by(cpu: &mut Cpu, marks: bool, at: Option<Addr>)
-    ensures { cpu.new ≡ record cpu.old { regs = marked_by marks cpu.old.regs at } }
-{
-    if marks {
-        mark(cpu, at);
     }
 }
 

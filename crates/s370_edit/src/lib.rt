@@ -6,3 +6,6 @@ mod pattern;
 mod working;
 
 pub use editing::edit;
+
+#[cfg(test)]
+mod tests;

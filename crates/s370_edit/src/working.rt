@@ -168,12 +168,9 @@ fn separate(w: &Working, fill: u8) -> Step
     ensures { result ≡ separated w.now fill }
 {
     let working = Working {
-        taken: w.taken,
-        right: w.right,
         significant: false,
         nonzero: false,
-        mark: w.mark,
-        bad: w.bad,
+        ..*w
     };
     Step {
         working,
