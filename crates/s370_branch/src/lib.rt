@@ -1,0 +1,9 @@
+//! Branches: whether an instruction branches, where to, and what it leaves in the registers.
+#![tactic(auto)]
+
+mod branches;
+
+pub use branches::{branch, outcome};
+
+#[cfg(test)]
+mod tests;

@@ -1,0 +1,4 @@
+pub mod Sources
+pub mod Workings
+pub mod Stores
+pub mod Refusals

@@ -1,0 +1,21 @@
+-- Two operands of which one is not all accessible.
+use Rattle.std.proofs.Common.{◌≡◌, ℕ, true, false, Bool, ◌&&◌, Some, [], ◌∷◌, refl}
+use Rattle.cov_base.specs.Memory.{Memory, can_reach}
+use Rattle.s370_state.specs.Row.{use_tests, all_reached, reads, stores}
+use Rattle.s370_state.specs.declared.endings.Ending.TheVariants.{Abend}
+
+false_and : (a b : Bool) → a ≡ false → (a && b) ≡ false
+false_and true b h = let e : true ≡ false = h in absurd cc
+false_and false b h = refl
+
+and_false : (a : Bool) → (a && false) ≡ false
+and_false true = refl
+and_false false = refl
+
+pub first_lost : (m : Memory) (a n b k : ℕ) → can_reach m a n ≡ false → use_tests m (stores a n ∷ (reads b k ∷ [])) ≡ Some (Abend 5)
+unfolding use_tests all_reached
+first_lost m a n b k h = rw h refl
+
+pub second_lost : (m : Memory) (a n b k : ℕ) → can_reach m b k ≡ false → use_tests m (stores a n ∷ (reads b k ∷ [])) ≡ Some (Abend 5)
+unfolding use_tests all_reached
+second_lost m a n b k h = rw (h, and_false (can_reach m a n)) refl

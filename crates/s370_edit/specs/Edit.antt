@@ -1,0 +1,63 @@
+-- The rows of editing: the pattern is the first operand and becomes the result, and the source is packed decimal
+-- (Principles of Operation, "Decimal Instructions", "Edit", "Edit and Mark").
+use Rattle.std.specs.Prelude.{ℕ, zero, suc, ◌+◌, ◌*◌, ◌/◌, Bool, true, false, if◌then◌else◌, Option, Some, None, List, [], ◌∷◌, slice_index, slice_set}
+use Rattle.cov_base.specs.States.{Machine}
+use Rattle.cov_base.specs.Memory.{Memory, wrap}
+use Rattle.s370_state.specs.Row.{Row, Use, Outcome, Completes, Program, reads, stores}
+use Rattle.s370_decode.specs.Fields.{i2, e1, e2}
+use Rattle.s370_decode.specs.declared.code.Code.{Code}
+use Rattle.s370_decode.specs.declared.op.Op.{Op}
+use Rattle.s370_decode.specs.declared.op.Op.TheVariants.{ED, EDMK}
+use Rattle.s370_edit.specs.Working.{worked, formed}
+use Rattle.s370_edit.specs.declared.working.Working.{Working}
+
+-- the operation is one of these
+abbrev pub is_edit : Op → Bool
+is_edit ED = true
+is_edit EDMK = true
+is_edit _ = false
+
+-- it leaves the address of the last digit with which significance began
+abbrev pub is_marking : Op → Bool
+is_marking EDMK = true
+is_marking _ = false
+
+-- the first n bytes of a list go to storage from a on
+unfoldable pub stored : List ℕ → ℕ → List ℕ → ℕ → List ℕ
+stored bytes a result zero = bytes
+stored bytes a result (suc n) = slice_set (stored bytes a result n) (wrap (a + n)) (slice_index result n)
+
+-- 0 for a last field that is zero or empty, 1 where significance is on behind it, 2 where it is off
+abbrev pub field_code : Working → ℕ
+field_code w = if w.nonzero then (if w.significant then 1 else 2) else 0
+
+-- the address goes to bits 8-31 of register 1
+abbrev pub marked : List ℕ → Option ℕ → List ℕ
+marked regs None = regs
+marked regs (Some at) = slice_set regs 1 (slice_index regs 1 / 16777216 * 16777216 + at)
+
+abbrev pub marked_by : Bool → List ℕ → Option ℕ → List ℕ
+marked_by false regs mark = regs
+marked_by true regs mark = marked regs mark
+
+-- what n bytes from a on and the processor become; a digit above 9 is code 7
+abbrev pub edited : Bool → Machine → ℕ → ℕ → List ℕ → Working → Bool → Outcome
+edited marks s a n result w true = Program 7
+edited marks s a n result w false = Completes (record {
+  cpu = record { regs = marked_by marks s.cpu.regs w.mark; ia = s.cpu.ia; condition = field_code w; mask = s.cpu.mask };
+  bytes = stored s.bytes a result n;
+})
+
+-- the n pattern bytes from a on, and of the source from b on as many bytes as the working reads
+abbrev pub operands : Memory → List ℕ → ℕ → ℕ → ℕ → List Use
+operands m bytes a b n = stores a n ∷ (reads b (worked m bytes a b n).taken ∷ [])
+
+abbrev pub pattern_row : Bool → Memory → Machine → ℕ → ℕ → ℕ → Row
+pattern_row marks m s a b n = record {
+  well = true;
+  uses = operands m s.bytes a b n;
+  outcome = edited marks s a n (formed m s.bytes a b n) (worked m s.bytes a b n) (worked m s.bytes a b n).bad;
+}
+
+abbrev pub edit_row : Op → Memory → Machine → Code → Row
+edit_row op m s c = pattern_row (is_marking op) m s (e1 s.cpu c) (e2 s.cpu c) (i2 c + 1)

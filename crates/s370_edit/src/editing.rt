@@ -1,0 +1,147 @@
+//! ED and EDMK (Principles of Operation, "Decimal Instructions", "Edit", "Edit and Mark").
+ghost use Rattle.std.specs.Prelude.{◌≡◌, ℕ, ◌+◌, ◌*◌, ◌/◌, ◌%◌, ◌<◌, ◌≤◌, ◌^◌, true, false, [], ◌∷◌, ◌++◌, length, IfOk, IfErr, IfSome, IfNone, OnSome, OnOk, Some, None, slice_set, slice_index, if◌then◌else◌};
+ghost use Rattle.arrayvec.specs.ArrayVec.{array_vec_len};
+ghost use Rattle.cov_base.specs.Memory.{Memory, byte_at, can_reach, can_store, wrap};
+ghost use Rattle.s370_state.specs.Row.{Performs, use_tests, machine_of, after, finish};
+ghost use Rattle.s370_edit.specs.Working.{worked, formed};
+ghost use Rattle.s370_edit.specs.Edit.{stored, field_code, marked, marked_by, edited, operands, pattern_row, edit_row, is_edit, is_marking};
+
+use crate::pattern::work;
+use crate::working::Working;
+use arrayvec::ArrayVec;
+use cov_base::Addr;
+use s370_decode::{Code, Op};
+use s370_state::{Cpu, Ending, Next, Space, put_into, test_store_read};
+
+/// Forms the result of the n pattern bytes from a on and the source from b on, and makes the tests of all bytes that
+/// this reads.
+#[tactic(auto, using(crate::proofs::Refusals::first_lost, crate::proofs::Refusals::second_lost))]
+fn form<P: Space>(
+    space: &P,
+    a: Addr,
+    n: u32,
+    b: Addr,
+    text: &mut ArrayVec<u8, 256>,
+) -> Result<Working, Ending>
+    requires some { 1 ≤ n }
+    requires most { n ≤ 256 }
+    requires empty { text.old.items ≡ [] }
+    ensures refused { IfErr result (λ e. use_tests (P.memory space.now) (operands (P.memory space.now) (P.bytes space.now) a b n) ≡ Some e) }
+    ensures passed { IfOk result (λ _. use_tests (P.memory space.now) (operands (P.memory space.now) (P.bytes space.now) a b n) ≡ None) }
+    ensures value { IfOk result (λ w. w ≡ worked (P.memory space.now) (P.bytes space.now) a b n) }
+    ensures store { IfOk result (λ _. can_store (P.memory space.now) a n ≡ true) }
+    ensures text { OnOk result (text.new.items ≡ formed (P.memory space.now) (P.bytes space.now) a b n) }
+    ensures len { OnOk result (array_vec_len text.new ≡ n) }
+{
+    if space.can_reach(a, n).is_err() {
+        return Err(Ending::Abend(5));
+    }
+    let Some(w) = work(space, a, n, b, text) else {
+        return Err(Ending::Abend(5));
+    };
+    match test_store_read(space, a, n, b, w.taken) {
+        Ok(()) => Ok(w),
+        Err(e) => Err(e),
+    }
+}
+
+/// Stores the n bytes of the text from a on.
+#[tactic(auto, using(crate::proofs::Stores::stored_none, crate::proofs::Stores::stored_more))]
+fn store<P: Space>(space: &mut P, a: Addr, n: u32, text: &[u8])
+    requires len { length text.now ≡ n }
+    requires store { can_store (P.memory space.old) a n ≡ true }
+    ensures memory { P.memory space.new ≡ P.memory space.old }
+    ensures bytes { P.bytes space.new ≡ stored (P.bytes space.old) a text.now n }
+{
+    for i in 0..n {
+        put_into(space, a, i, n, text[i as usize]);
+    }
+}
+
+/// The condition code of the last field.
+fn field_code(w: &Working) -> u8
+    ensures value { result ≡ field_code w.now }
+    ensures below { result ≤ 2 }
+{
+    if !w.nonzero {
+        0
+    } else if w.significant {
+        1
+    } else {
+        2
+    }
+}
+
+/// The address goes to bits 8-31 of register 1.
+fn mark(cpu: &mut Cpu, address: Option<Addr>)
+    ensures { cpu.new ≡ record cpu.old { regs = marked cpu.old.regs address } }
+{
+    if let Some(at) = address {
+        cpu.set_reg(1, cpu.reg(1) / 16_777_216 * 16_777_216 + at.get());
+    }
+}
+
+/// The same where the operation marks.
+fn mark_by(cpu: &mut Cpu, marks: bool, address: Option<Addr>)
+    ensures { cpu.new ≡ record cpu.old { regs = marked_by marks cpu.old.regs address } }
+{
+    if marks {
+        mark(cpu, address);
+    }
+}
+
+/// EDMK alone leaves a mark.
+fn is_marking(op: Op) -> bool
+    ensures { result ≡ is_marking op }
+{
+    match op {
+        Op::EDMK => true,
+        _ => false,
+    }
+}
+
+/// Completes the operation, unless a digit was bad.
+fn complete<P: Space>(
+    cpu: &mut Cpu,
+    space: &mut P,
+    a: Addr,
+    n: u32,
+    text: &[u8],
+    w: &Working,
+    marks: bool,
+) -> Next
+    requires len { length text.now ≡ n }
+    requires store { can_store (P.memory space.old) a n ≡ true }
+    ensures memory { P.memory space.new ≡ P.memory space.old }
+    ensures outcome { after cpu.new (P.bytes space.new) result ≡ finish (machine_of cpu.old (P.bytes space.old)) (edited marks (machine_of cpu.old (P.bytes space.old)) a n text.now w.now w.now.bad) }
+{
+    if w.bad {
+        return Next::Ended(Ending::Abend(7));
+    }
+    store(space, a, n, text);
+    mark_by(cpu, marks, w.mark);
+    cpu.set_cc(field_code(w));
+    Next::On
+}
+
+/// Performs ED or EDMK. All tests are made, and the whole result is formed, before anything is changed. The task ends
+/// with code 5 where a byte of the pattern, or a source byte up to the last that is read, is inaccessible, 4 where the
+/// pattern is not private, Touched by a touch byte among those source bytes, and 7 by a left digit above 9, behind
+/// which no source byte is read; all without a change. The condition code is 0 for a last field that is zero, else 1
+/// where the significance indicator is on, 2 where it is off. The instruction address is left as it is. Takes no
+/// memory.
+#[tactic(auto, using(s370_state::proofs::Performs::passes, s370_state::proofs::Performs::refuses))]
+pub fn edit<P: Space>(cpu: &mut Cpu, space: &mut P, code: &Code, op: Op) -> Next
+    requires { is_edit op ≡ true }
+    ensures memory { P.memory space.new ≡ P.memory space.old }
+    ensures row { Performs (P.memory space.old) cpu.old (P.bytes space.old) (λ m s. edit_row op m s code.now) cpu.new (P.bytes space.new) result }
+{
+    let n = u32::from(code.l()) + 1;
+    let a = cpu.address(code.b1(), 0, code.d1());
+    let b = cpu.address(code.b2(), 0, code.d2());
+    let mut text = ArrayVec::new();
+    match form(space, a, n, b, &mut text) {
+        Ok(w) => complete(cpu, space, a, n, text.as_slice(), &w, is_marking(op)),
+        Err(e) => Next::Ended(e),
+    }
+}
