@@ -1,0 +1,92 @@
+-- The recursions of bytes and half bytes, one on, and their bounds.
+use Rattle.std.proofs.Common.{◌≡◌, ℕ, ◌+◌, ◌-◌, ◌*◌, ◌/◌, ◌%◌, ◌^◌, ◌<◌, ◌≤◌, zero, suc, true, ◌&&◌, nat_lt, List, slice_set, refl, sym, ◌∙◌, arith, lit<, add-one}
+use Rattle.std.proofs.Math.Nat.{pow-suc, pow-le-pow_right, one-le-pow}
+use Rattle.std.proofs.lemmas.Nat.{pow-add, mul-pow}
+use Rattle.cov_base.specs.Memory.{Memory, wrap, byte_at}
+use Rattle.s370_state.specs.Words.{number_at}
+use Rattle.s370_decimal.specs.Fields.{decimal, is_decimal, packed, store_number}
+
+pub number_none : (m : Memory) (bytes : List ℕ) (a : ℕ) → number_at m bytes a 0 ≡ 0
+unfolding number_at
+number_none m bytes a = refl
+
+pub number_more : (m : Memory) (bytes : List ℕ) (a n : ℕ) → number_at m bytes a (n + 1) ≡ number_at m bytes a n * 256 + byte_at m bytes (wrap (a + n))
+unfolding number_at
+number_more m bytes a n = rw add-one refl
+
+pub byte_more : (n v b : ℕ) → v < 256 ^ n → b < 256 → v * 256 + b < 256 ^ (n + 1)
+byte_more n v b l e = rw (add-one, pow-suc 256 n) (omega arith)
+
+pub byte_fits : (n v : ℕ) → n ≤ 15 → v < 256 ^ n → v < 1329227995784915872903807060280344576
+byte_fits n v l e = let b : 256 ^ n ≤ 256 ^ 15 = pow-le-pow_right {n = 256} (lit< tt) {i = n} {j = 15} l in omega (arith, b, e)
+
+pub decimal_none : (n : ℕ) → decimal 0 n ≡ 0
+unfolding decimal
+decimal_none n = refl
+
+pub decimal_more : (k n : ℕ) → 0 < k → decimal k n ≡ decimal (k - 1) (n / 16) * 10 + n % 16
+unfolding decimal
+decimal_more zero n h = absurd (omega arith)
+decimal_more (suc k) n h = let e : suc k - 1 ≡ k = omega arith in rw e refl
+
+pub is_decimal_none : (n : ℕ) → is_decimal 0 n ≡ true
+unfolding is_decimal
+is_decimal_none n = refl
+
+pub is_decimal_more : (k n : ℕ) → 0 < k → is_decimal k n ≡ (is_decimal (k - 1) (n / 16) && nat_lt (n % 16) 10)
+unfolding is_decimal
+is_decimal_more zero n h = absurd (omega arith)
+is_decimal_more (suc k) n h = let e : suc k - 1 ≡ k = omega arith in rw e refl
+
+pub digit_more : (k h d : ℕ) → 0 < k → h < 10 ^ (k - 1) → d < 10 → h * 10 + d < 10 ^ k
+digit_more zero h d p l e = absurd (omega arith)
+digit_more (suc k) h d p l e = let q : suc k - 1 ≡ k = omega arith in let l2 : h < 10 ^ k = rw q at l in rw (pow-suc 10 k) (omega arith)
+
+pub digit_fits : (k h : ℕ) → k ≤ 31 → h < 10 ^ (k - 1) → h < 1000000000000000000000000000000
+digit_fits k h l e = let b : 10 ^ (k - 1) ≤ 10 ^ 30 = pow-le-pow_right {n = 10} (lit< tt) {i = k - 1} {j = 30} (omega arith) in omega (arith, b, e)
+
+pub packed_none : (n : ℕ) → packed 0 n ≡ 0
+unfolding packed
+packed_none n = refl
+
+pub packed_more : (k n : ℕ) → 0 < k → packed k n ≡ packed (k - 1) (n / 10) * 16 + n % 10
+unfolding packed
+packed_more zero n h = absurd (omega arith)
+packed_more (suc k) n h = let e : suc k - 1 ≡ k = omega arith in rw e refl
+
+pub half_more : (k h d : ℕ) → 0 < k → h < 16 ^ (k - 1) → d < 16 → h * 16 + d < 16 ^ k
+half_more zero h d p l e = absurd (omega arith)
+half_more (suc k) h d p l e = let q : suc k - 1 ≡ k = omega arith in let l2 : h < 16 ^ k = rw q at l in rw (pow-suc 16 k) (omega arith)
+
+pub half_fits : (k h : ℕ) → k ≤ 31 → h < 16 ^ k → h < 21267647932558653966460912964485513216
+half_fits k h l e = let b : 16 ^ k ≤ 16 ^ 31 = pow-le-pow_right {n = 16} (lit< tt) {i = k} {j = 31} l in omega (arith, b, e)
+
+pub store_none : (bytes : List ℕ) (a v : ℕ) → store_number bytes a 0 v ≡ bytes
+unfolding store_number
+store_none bytes a v = refl
+
+-- the rightmost byte that is left
+pub store_more : (bytes : List ℕ) (a n v : ℕ) → 0 < n → store_number bytes a n v ≡ store_number (slice_set bytes (wrap (a + (n - 1))) (v % 256)) a (n - 1) (v / 256)
+unfolding store_number
+store_more bytes a zero v h = absurd (omega arith)
+store_more bytes a (suc n) v h = let e : suc n - 1 ≡ n = omega arith in rw e refl
+
+-- powers of ten below 2^128
+pub power_fits : (k : ℕ) → k ≤ 38 → 10 ^ k < 340282366920938463463374607431768211456
+power_fits k l = let b : 10 ^ k ≤ 10 ^ 38 = pow-le-pow_right {n = 10} (lit< tt) {i = k} {j = 38} l in omega (arith, b)
+
+squares : (k : ℕ) → 256 ^ k ≡ 16 ^ (k + k)
+squares k = mul-pow 16 16 k ∙ sym (pow-add 16 k k)
+
+-- the digits of a field and its sign
+pub field_more : (l p s : ℕ) → p < 16 ^ (2 * l + 1) → s < 16 → p * 16 + s < 256 ^ (l + 1)
+field_more l p s h e =
+    let q : l + 1 + (l + 1) ≡ suc (2 * l + 1) = omega arith in
+    rw (squares (l + 1), q, pow-suc 16 (2 * l + 1)) (omega arith)
+
+-- the digits of sixteen bytes are the most
+pub digits_most : (l v : ℕ) → l ≤ 15 → v < 10 ^ (2 * l + 1) → v < 10000000000000000000000000000000
+digits_most l v h e = let b : 10 ^ (2 * l + 1) ≤ 10 ^ 31 = pow-le-pow_right {n = 10} (lit< tt) {i = 2 * l + 1} {j = 31} (omega arith) in omega (arith, b, e)
+
+pub power_above : (k : ℕ) → 0 < 10 ^ k
+power_above k = one-le-pow k 10 (lit< tt)
