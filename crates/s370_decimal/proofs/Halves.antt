@@ -90,3 +90,6 @@ digits_most l v h e = let b : 10 ^ (2 * l + 1) ≤ 10 ^ 31 = pow-le-pow_right {n
 
 pub power_above : (k : ℕ) → 0 < 10 ^ k
 power_above k = one-le-pow k 10 (lit< tt)
+
+pub power_most : (k : ℕ) → k ≤ 31 → 10 ^ k ≤ 10000000000000000000000000000000
+power_most k l = pow-le-pow_right {n = 10} (lit< tt) {i = k} {j = 31} l

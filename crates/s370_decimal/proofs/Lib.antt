@@ -1,2 +1,3 @@
-pub mod Halves
 pub mod Data
+pub mod Halves
+pub mod Shifting

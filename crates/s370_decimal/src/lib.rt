@@ -5,4 +5,5 @@ mod digits;
 mod fields;
 mod operands;
 mod results;
+mod shifts;
 mod sums;
