@@ -1,7 +1,7 @@
 -- The recursions of bytes and half bytes, one on, and their bounds.
 use Rattle.std.proofs.Common.{◌≡◌, ℕ, ◌+◌, ◌-◌, ◌*◌, ◌/◌, ◌%◌, ◌^◌, ◌<◌, ◌≤◌, zero, suc, true, ◌&&◌, nat_lt, List, slice_set, refl, sym, ◌∙◌, arith, lit<, add-one}
 use Rattle.std.proofs.Math.Nat.{pow-suc, pow-le-pow_right, one-le-pow}
-use Rattle.std.proofs.lemmas.Nat.{pow-add, mul-pow}
+use Rattle.std.proofs.lemmas.Nat.{pow-add, mul-pow, mul-lt, mul-add-lt}
 use Rattle.cov_base.specs.Memory.{Memory, wrap, byte_at}
 use Rattle.s370_state.specs.Words.{number_at}
 use Rattle.s370_decimal.specs.Fields.{decimal, is_decimal, packed, store_number}
@@ -93,3 +93,19 @@ power_above k = one-le-pow k 10 (lit< tt)
 
 pub power_most : (k : ℕ) → k ≤ 31 → 10 ^ k ≤ 10000000000000000000000000000000
 power_most k l = pow-le-pow_right {n = 10} (lit< tt) {i = k} {j = 31} l
+
+-- a product of no more than 31 digits
+pub product_fits : (l1 l2 v w : ℕ) → l2 < l1 → l1 ≤ 15 → v < 10 ^ (2 * (l1 - l2 - 1) + 1) → w < 10 ^ (2 * l2 + 1) → v * w < 340282366920938463463374607431768211456
+product_fits l1 l2 v w s m h k =
+    let e : 2 * (l1 - l2 - 1) + 1 + (2 * l2 + 1) ≡ 2 * l1 = omega arith in
+    let q : 10 ^ (2 * l1) ≡ 10 ^ (2 * (l1 - l2 - 1) + 1) * 10 ^ (2 * l2 + 1) = rw e at (pow-add 10 (2 * (l1 - l2 - 1) + 1) (2 * l2 + 1)) in
+    let b : 10 ^ (2 * l1) ≤ 10 ^ 31 = pow-le-pow_right {n = 10} (lit< tt) {i = 2 * l1} {j = 31} (omega arith) in
+    omega (arith, q, b, mul-lt v w (10 ^ (2 * (l1 - l2 - 1) + 1)) (10 ^ (2 * l2 + 1)) h k)
+
+-- two fields side by side
+pub bytes_fit : (l1 l2 q r : ℕ) → l2 < l1 → l1 ≤ 15 → q < 256 ^ (l1 - l2 - 1 + 1) → r < 256 ^ (l2 + 1) → q * 256 ^ (l2 + 1) + r < 340282366920938463463374607431768211456
+bytes_fit l1 l2 q r s m h k =
+    let e : l2 + 1 + (l1 - l2 - 1 + 1) ≡ l1 + 1 = omega arith in
+    let p : 256 ^ (l1 + 1) ≡ 256 ^ (l2 + 1) * 256 ^ (l1 - l2 - 1 + 1) = rw e at (pow-add 256 (l2 + 1) (l1 - l2 - 1 + 1)) in
+    let b : 256 ^ (l1 + 1) ≤ 256 ^ 16 = pow-le-pow_right {n = 256} (lit< tt) {i = l1 + 1} {j = 16} (omega arith) in
+    omega (arith, p, b, mul-add-lt q (256 ^ (l2 + 1)) r (256 ^ (l1 - l2 - 1 + 1)) h k)

@@ -1,8 +1,8 @@
 -- The row of each decimal operation.
-use Rattle.std.specs.Prelude.{Bool, true, false, []}
+use Rattle.std.specs.Prelude.{Bool, true, false}
 use Rattle.cov_base.specs.States.{Machine}
 use Rattle.cov_base.specs.Memory.{Memory}
-use Rattle.s370_state.specs.Row.{Row, Completes}
+use Rattle.s370_state.specs.Row.{Row, Completes, at_once}
 use Rattle.s370_decode.specs.declared.code.Code.{Code}
 use Rattle.s370_decode.specs.declared.op.Op.{Op}
 use Rattle.s370_decode.specs.declared.op.Op.TheVariants.{AP, SP, ZAP, CP, MP, DP, SRP}
@@ -18,7 +18,7 @@ decimal_row CP = row_cp
 decimal_row MP = row_mp
 decimal_row DP = row_dp
 decimal_row SRP = row_srp
-decimal_row _ = λ m s c. record { well = true; uses = []; outcome = Completes s }
+decimal_row _ = λ m s c. at_once (Completes s)
 
 -- the operation is one of these
 abbrev pub is_decimal_op : Op → Bool

@@ -3,7 +3,7 @@
 use Rattle.std.specs.Prelude.{ℕ, zero, suc, ◌+◌, ◌*◌, ◌/◌, ◌%◌, ◌^◌, Bool, true, ◌&&◌, nat_lt, if◌then◌else◌, Option, Some, None, List, slice_set}
 use Rattle.cov_base.specs.Memory.{Memory, wrap}
 use Rattle.s370_state.specs.Words.{number_at}
-use Rattle.s370_decimal.specs.Digits.{is_sign, is_minus, sign_half}
+use Rattle.s370_state.specs.Digits.{is_sign, is_minus, sign_half}
 use Rattle.s370_decimal.specs.declared.fields.Field.{Field}
 
 -- the k half bytes at the right of n are digits

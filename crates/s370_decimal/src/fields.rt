@@ -5,9 +5,8 @@ ghost use Rattle.cov_base.specs.Memory.{can_reach, can_store};
 ghost use Rattle.s370_state.specs.Words.{number_at};
 ghost use Rattle.s370_decimal.specs.Fields.{is_decimal, decimal, field_of, field_at, packed, packed_field, store_number, fits};
 
-use crate::digits::{is_minus, is_sign, sign_half};
 use cov_base::Addr;
-use s370_state::{Space, byte_of, put_into};
+use s370_state::{Space, byte_of, is_minus, is_sign, put_into, sign_half};
 
 /// What a field holds. A zero may be minus.
 #[derive(Clone, Copy)]

@@ -1,9 +1,12 @@
 //! Decimal operations: the effect of each on condition code and private storage.
 #![tactic(auto)]
 
-mod digits;
 mod fields;
 mod operands;
+mod products;
 mod results;
 mod shifts;
 mod sums;
+mod table;
+
+pub use table::decimal;
