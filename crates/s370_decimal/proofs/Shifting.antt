@@ -22,8 +22,8 @@ pub left_digits : (k v n : ℕ) → v * 10 ^ n % 10 ^ k ≡ v % 10 ^ (k - n) * 1
 left_digits k v n =
     elim (cases_lt k n) [
       | inl l ↦
-        let e : k - n ≡ 0 = omega arith in
-        rw (parted n k (omega arith), e, pow-zero, mod-one, zero-mul, ← mul_assoc, mul-mod_left) refl
+          let e : k - n ≡ 0 = omega arith in
+          rw (parted n k (omega arith), e, pow-zero, mod-one, zero-mul, ← mul_assoc, mul-mod_left) refl
       | inr g ↦ rw (parted k n g, scaled_mod v (10 ^ (k - n)) (10 ^ n) (above _) (above _)) refl
     ]
 
@@ -39,11 +39,11 @@ pub left_fits : (k v n : ℕ) → nat_lt (v * 10 ^ n) (10 ^ k) ≡ nat_lt v (10 
 left_fits k v n =
     elim (cases_lt k n) [
       | inl l ↦
-        let e : k - n ≡ 0 = omega arith in
-        let b : 10 ^ k ≤ 10 ^ n = pow-le-pow_right {n = 10} (lit< tt) {i = k} {j = n} (omega arith) in
-        rw (e, pow-zero) (same_test (v * 10 ^ n) (10 ^ k) v 1 (λ h. lt_of_mul-lt-mul_right (10 ^ n) {m = v} {n = 1} (omega (arith, b, h))) (λ h. let z : v ≡ 0 = omega arith in rw (z, zero-mul) (above k)))
+          let e : k - n ≡ 0 = omega arith in
+          let b : 10 ^ k ≤ 10 ^ n = pow-le-pow_right {n = 10} (lit< tt) {i = k} {j = n} (omega arith) in
+          rw (e, pow-zero) (same_test (v * 10 ^ n) (10 ^ k) v 1 (λ h. lt_of_mul-lt-mul_right (10 ^ n) {m = v} {n = 1} (omega (arith, b, h))) (λ h. let z : v ≡ 0 = omega arith in rw (z, zero-mul) (above k)))
       | inr g ↦
-        rw (parted k n g) (same_test (v * 10 ^ n) (10 ^ (k - n) * 10 ^ n) v (10 ^ (k - n)) (λ h. lt_of_mul-lt-mul_right (10 ^ n) h) (λ h. mul-lt-mul_of_pos_right h (above n)))
+          rw (parted k n g) (same_test (v * 10 ^ n) (10 ^ (k - n) * 10 ^ n) v (10 ^ (k - n)) (λ h. lt_of_mul-lt-mul_right (10 ^ n) h) (λ h. mul-lt-mul_of_pos_right h (above n)))
     ]
 
 zero_test : (v n : ℕ) → (v * 10 ^ n == 0) ≡ (v == 0)

@@ -10,3 +10,6 @@ mod sums;
 mod table;
 
 pub use table::decimal;
+
+#[cfg(test)]
+mod tests;

@@ -40,7 +40,13 @@ pub fn test_replaced<P: Space>(cpu: &Cpu, space: &P, code: &Code) -> Result<(), 
     ensures reach_second { IfOk result (λ _. can_reach (P.memory space.now) (e2 cpu.now code.now) (l2 code.now + 1) ≡ true) }
 {
     let (a, b) = (first_at(cpu, code), second_at(cpu, code));
-    test_store_read(space, a, u32::from(code.l1()) + 1, b, u32::from(code.l2()) + 1)
+    test_store_read(
+        space,
+        a,
+        u32::from(code.l1()) + 1,
+        b,
+        u32::from(code.l2()) + 1,
+    )
 }
 
 /// Tests two fields that are read: code 5 by either, then touch by the first, then by the second.
@@ -52,7 +58,13 @@ pub fn test_compared<P: Space>(cpu: &Cpu, space: &P, code: &Code) -> Result<(), 
     ensures reach_second { IfOk result (λ _. can_reach (P.memory space.now) (e2 cpu.now code.now) (l2 code.now + 1) ≡ true) }
 {
     let (a, b) = (first_at(cpu, code), second_at(cpu, code));
-    test_two_reads(space, a, u32::from(code.l1()) + 1, b, u32::from(code.l2()) + 1)
+    test_two_reads(
+        space,
+        a,
+        u32::from(code.l1()) + 1,
+        b,
+        u32::from(code.l2()) + 1,
+    )
 }
 
 #[tactic(auto, unfolding(s370_state::specs::Row::use_tests, s370_state::specs::Row::all_reached, s370_state::specs::Row::all_stored, s370_state::specs::Row::touched))]

@@ -59,7 +59,12 @@ pub fn put_result<P: Space>(cpu: &mut Cpu, space: &mut P, at: Addr, l: u8, k: Ke
     ensures cpu { cpu.new ≡ record cpu.old { condition = code_of k } }
     ensures next { result ≡ next_after cpu.old.mask (if k.lost then 10 else 0) }
 {
-    put_number(space, at, u32::from(l) + 1, packed_field(l, k.digits, k.minus));
+    put_number(
+        space,
+        at,
+        u32::from(l) + 1,
+        packed_field(l, k.digits, k.minus),
+    );
     cpu.set_cc(code_of(k));
     next_after(cpu.mask(), if k.lost { 10 } else { 0 })
 }

@@ -11,7 +11,9 @@ ghost use Rattle.s370_decimal.specs.Results.{kept};
 ghost use Rattle.s370_decimal.specs.Sums.{row_ap, row_sp, row_zap, row_cp};
 
 use crate::fields::field_at;
-use crate::operands::{Operands, first_at, number, read_operands, second_at, test_compared, test_replaced};
+use crate::operands::{
+    Operands, first_at, number, read_operands, second_at, test_compared, test_replaced,
+};
 use crate::results::{Kept, keep, put_result};
 use s370_decode::Code;
 use s370_state::{Cpu, Ending, Next, Space};
@@ -91,7 +93,13 @@ pub fn zero_and_add<P: Space>(cpu: &mut Cpu, space: &mut P, code: &Code) -> Next
     match field_at(space, second_at(cpu, code), code.l2()) {
         Some(f) => {
             let at = first_at(cpu, code);
-            put_result(cpu, space, at, code.l1(), keep(code.l1(), f.magnitude, f.minus))
+            put_result(
+                cpu,
+                space,
+                at,
+                code.l1(),
+                keep(code.l1(), f.magnitude, f.minus),
+            )
         }
         None => Next::Ended(Ending::Abend(7)),
     }
