@@ -4,7 +4,7 @@ use Rattle.std.proofs.Math.Nat.{pow-suc, pow-le-pow_right, one-le-pow}
 use Rattle.std.proofs.lemmas.Nat.{pow-add, mul-pow, mul-lt, mul-add-lt}
 use Rattle.cov_base.specs.Memory.{Memory, wrap, byte_at}
 use Rattle.s370_state.specs.Words.{number_at}
-use Rattle.s370_decimal.specs.Fields.{decimal, is_decimal, packed, store_number}
+use Rattle.s370_decimal.specs.Fields.{value_of, are_digits, packed, store_number}
 
 pub number_none : (m : Memory) (bytes : List ℕ) (a : ℕ) → number_at m bytes a 0 ≡ 0
 unfolding number_at
@@ -20,23 +20,23 @@ byte_more n v b l e = rw (add-one, pow-suc 256 n) (omega arith)
 pub byte_fits : (n v : ℕ) → n ≤ 15 → v < 256 ^ n → v < 1329227995784915872903807060280344576
 byte_fits n v l e = let b : 256 ^ n ≤ 256 ^ 15 = pow-le-pow_right {n = 256} (lit< tt) {i = n} {j = 15} l in omega (arith, b, e)
 
-pub decimal_none : (n : ℕ) → decimal 0 n ≡ 0
-unfolding decimal
-decimal_none n = refl
+pub value_none : (n : ℕ) → value_of 0 n ≡ 0
+unfolding value_of
+value_none n = refl
 
-pub decimal_more : (k n : ℕ) → 0 < k → decimal k n ≡ decimal (k - 1) (n / 16) * 10 + n % 16
-unfolding decimal
-decimal_more zero n h = absurd (omega arith)
-decimal_more (suc k) n h = let e : suc k - 1 ≡ k = omega arith in rw e refl
+pub value_more : (k n : ℕ) → 0 < k → value_of k n ≡ value_of (k - 1) (n / 16) * 10 + n % 16
+unfolding value_of
+value_more zero n h = absurd (omega arith)
+value_more (suc k) n h = let e : suc k - 1 ≡ k = omega arith in rw e refl
 
-pub is_decimal_none : (n : ℕ) → is_decimal 0 n ≡ true
-unfolding is_decimal
-is_decimal_none n = refl
+pub digits_none : (n : ℕ) → are_digits 0 n ≡ true
+unfolding are_digits
+digits_none n = refl
 
-pub is_decimal_more : (k n : ℕ) → 0 < k → is_decimal k n ≡ (is_decimal (k - 1) (n / 16) && nat_lt (n % 16) 10)
-unfolding is_decimal
-is_decimal_more zero n h = absurd (omega arith)
-is_decimal_more (suc k) n h = let e : suc k - 1 ≡ k = omega arith in rw e refl
+pub digits_more : (k n : ℕ) → 0 < k → are_digits k n ≡ (are_digits (k - 1) (n / 16) && nat_lt (n % 16) 10)
+unfolding are_digits
+digits_more zero n h = absurd (omega arith)
+digits_more (suc k) n h = let e : suc k - 1 ≡ k = omega arith in rw e refl
 
 pub digit_more : (k h d : ℕ) → 0 < k → h < 10 ^ (k - 1) → d < 10 → h * 10 + d < 10 ^ k
 digit_more zero h d p l e = absurd (omega arith)

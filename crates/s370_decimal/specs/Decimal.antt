@@ -21,12 +21,12 @@ decimal_row SRP = row_srp
 decimal_row _ = λ m s c. at_once (Completes s)
 
 -- the operation is one of these
-abbrev pub is_decimal_op : Op → Bool
-is_decimal_op AP = true
-is_decimal_op SP = true
-is_decimal_op ZAP = true
-is_decimal_op CP = true
-is_decimal_op MP = true
-is_decimal_op DP = true
-is_decimal_op SRP = true
-is_decimal_op _ = false
+abbrev pub is_decimal : Op → Bool
+is_decimal AP = true
+is_decimal SP = true
+is_decimal ZAP = true
+is_decimal CP = true
+is_decimal MP = true
+is_decimal DP = true
+is_decimal SRP = true
+is_decimal _ = false

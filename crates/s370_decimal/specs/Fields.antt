@@ -7,20 +7,20 @@ use Rattle.s370_state.specs.Digits.{is_sign, is_minus, sign_half}
 use Rattle.s370_decimal.specs.declared.fields.Field.{Field}
 
 -- the k half bytes at the right of n are digits
-unfoldable pub is_decimal : ℕ → ℕ → Bool
-is_decimal zero n = true
-is_decimal (suc k) n = is_decimal k (n / 16) && nat_lt (n % 16) 10
+unfoldable pub are_digits : ℕ → ℕ → Bool
+are_digits zero n = true
+are_digits (suc k) n = are_digits k (n / 16) && nat_lt (n % 16) 10
 
 -- their value
-unfoldable pub decimal : ℕ → ℕ → ℕ
-decimal zero n = 0
-decimal (suc k) n = decimal k (n / 16) * 10 + n % 16
+unfoldable pub value_of : ℕ → ℕ → ℕ
+value_of zero n = 0
+value_of (suc k) n = value_of k (n / 16) * 10 + n % 16
 
 -- what the field holds; none where a digit or the sign is bad
 unfoldable pub field_of : ℕ → ℕ → Option Field
 field_of l n =
-    if (is_decimal (2 * l + 1) (n / 16) && is_sign (n % 16)) then
-    Some (record { magnitude = decimal (2 * l + 1) (n / 16); minus = is_minus (n % 16) })
+    if (are_digits (2 * l + 1) (n / 16) && is_sign (n % 16)) then
+    Some (record { magnitude = value_of (2 * l + 1) (n / 16); minus = is_minus (n % 16) })
     else None
 
 -- what the field from a on holds

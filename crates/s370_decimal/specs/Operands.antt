@@ -33,14 +33,10 @@ both (Some f) (Some g) = Some (record { first = f; second = g })
 abbrev pub operands : Memory → CpuView → List ℕ → Code → Option Operands
 operands m s bytes c = both (field_at m bytes (e1 s c) (l1 c)) (field_at m bytes (e2 s c) (l2 c))
 
--- a bad digit or sign is code 7
-unfoldable pub on_operands : Option Operands → (Operands → Outcome) → Outcome
-on_operands None f = Program 7
-on_operands (Some o) f = f o
-
-unfoldable pub on_field : Option Field → (Field → Outcome) → Outcome
-on_field None f = Program 7
-on_field (Some x) f = f x
+-- an outcome by what was read; a bad digit or sign is code 7
+unfoldable pub on_data : {A : Type 0} → Option A → (A → Outcome) → Outcome
+on_data None f = Program 7
+on_data (Some x) f = f x
 
 -- as a number, where a zero has no sign
 unfoldable pub number : Field → ℤ

@@ -7,7 +7,7 @@ use Rattle.s370_state.specs.Row.{Row, Outcome, Completes, Program, with_bytes}
 use Rattle.s370_decode.specs.Fields.{e1}
 use Rattle.s370_decode.specs.declared.code.Code.{Code}
 use Rattle.s370_decimal.specs.Fields.{packed_field, store_number, fits}
-use Rattle.s370_decimal.specs.Operands.{l1, l2, replaces, operands, on_operands}
+use Rattle.s370_decimal.specs.Operands.{l1, l2, replaces, operands, on_data}
 use Rattle.s370_decimal.specs.declared.operands.Operands.{Operands}
 
 -- the second field has at most 8 bytes, and fewer than the first
@@ -43,7 +43,7 @@ replaced s c None code = Program code
 replaced s c (Some v) code = Completes (with_bytes s (store_number s.bytes (e1 s.cpu c) (l1 c + 1) v))
 
 abbrev pub row_mp : Memory → Machine → Code → Row
-row_mp m s c = record { well = is_shorter c; uses = replaces s.cpu c; outcome = on_operands (operands m s.cpu s.bytes c) (λ o. replaced s c (product (l1 c) (l2 c) o) 7) }
+row_mp m s c = record { well = is_shorter c; uses = replaces s.cpu c; outcome = on_data (operands m s.cpu s.bytes c) (λ o. replaced s c (product (l1 c) (l2 c) o) 7) }
 
 abbrev pub row_dp : Memory → Machine → Code → Row
-row_dp m s c = record { well = is_shorter c; uses = replaces s.cpu c; outcome = on_operands (operands m s.cpu s.bytes c) (λ o. replaced s c (quotient (l1 c) (l2 c) o) 11) }
+row_dp m s c = record { well = is_shorter c; uses = replaces s.cpu c; outcome = on_data (operands m s.cpu s.bytes c) (λ o. replaced s c (quotient (l1 c) (l2 c) o) 11) }

@@ -6,7 +6,7 @@ use Rattle.s370_state.specs.Row.{Row, stores}
 use Rattle.s370_decode.specs.Fields.{r2, e1, e2}
 use Rattle.s370_decode.specs.declared.code.Code.{Code}
 use Rattle.s370_decimal.specs.Fields.{field_at}
-use Rattle.s370_decimal.specs.Operands.{l1, on_field}
+use Rattle.s370_decimal.specs.Operands.{l1, on_data}
 use Rattle.s370_decimal.specs.Results.{kept, results}
 use Rattle.s370_decimal.specs.declared.fields.Field.{Field}
 
@@ -31,5 +31,5 @@ abbrev pub row_srp : Memory → Machine → Code → Row
 row_srp m s c = record {
   well = true;
   uses = stores (e1 s.cpu c) (l1 c + 1) ∷ [];
-  outcome = on_field (rounded_field m s c) (λ f. results s (e1 s.cpu c) (l1 c) (kept (l1 c) (shifted f.magnitude (i3 c) (distance s.cpu c)) f.minus));
+  outcome = on_data (rounded_field m s c) (λ f. results s (e1 s.cpu c) (l1 c) (kept (l1 c) (shifted f.magnitude (i3 c) (distance s.cpu c)) f.minus));
 }

@@ -3,7 +3,7 @@
 ghost use Rattle.std.specs.Prelude.{◌≡◌, ℕ, ◌+◌, ◌-◌, ◌*◌, ◌/◌, ◌%◌, ◌^◌, ◌<◌, ◌≤◌, true, false, IfSome, IfNone};
 ghost use Rattle.cov_base.specs.Memory.{can_reach, can_store};
 ghost use Rattle.s370_state.specs.Words.{number_at};
-ghost use Rattle.s370_decimal.specs.Fields.{is_decimal, decimal, field_of, field_at, packed, packed_field, store_number, fits};
+ghost use Rattle.s370_decimal.specs.Fields.{are_digits, value_of, field_of, field_at, packed, packed_field, store_number, fits};
 
 use cov_base::Addr;
 use s370_state::{Space, byte_of, is_minus, is_sign, put_into, sign_half};
@@ -49,19 +49,19 @@ fn number_of<P: Space>(space: &P, at: Addr, n: u32) -> u128
 }
 
 /// The value of the k half bytes at the right of n; none where one is no digit.
-#[tactic(auto, using(crate::proofs::Halves::decimal_more, crate::proofs::Halves::decimal_none, crate::proofs::Halves::is_decimal_more, crate::proofs::Halves::is_decimal_none))]
-fn decimal(k: u8, n: u128) -> Option<u128>
+#[tactic(auto, using(crate::proofs::Halves::value_more, crate::proofs::Halves::value_none, crate::proofs::Halves::digits_more, crate::proofs::Halves::digits_none))]
+fn value_of(k: u8, n: u128) -> Option<u128>
     requires { k ≤ 31 }
-    ensures good { IfSome result (λ v. is_decimal k n ≡ true) }
-    ensures value { IfSome result (λ v. v ≡ decimal k n) }
+    ensures good { IfSome result (λ v. are_digits k n ≡ true) }
+    ensures value { IfSome result (λ v. v ≡ value_of k n) }
     ensures below { IfSome result (λ v. v < 10 ^ k) }
-    ensures bad { IfNone result (is_decimal k n ≡ false) }
+    ensures bad { IfNone result (are_digits k n ≡ false) }
 {
     if k == 0 {
         return Some(0);
     }
     let digit = n % 16;
-    match decimal(k - 1, n / 16) {
+    match value_of(k - 1, n / 16) {
         Some(high) => {
             if digit < 10 {
                 Some(high * 10 + digit)
@@ -81,7 +81,7 @@ fn field_of(l: u8, n: u128) -> Option<Field>
     ensures most { IfSome result (λ f. f.magnitude < 10000000000000000000000000000000) }
 {
     let sign = (n % 16) as u8;
-    match decimal(2 * l + 1, n / 16) {
+    match value_of(2 * l + 1, n / 16) {
         Some(magnitude) => {
             if is_sign(sign) {
                 Some(Field {

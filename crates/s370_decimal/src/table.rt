@@ -1,7 +1,7 @@
 //! The one call for all decimal operations.
 ghost use Rattle.std.specs.Prelude.{◌≡◌, true};
 ghost use Rattle.s370_state.specs.Row.{Performs};
-ghost use Rattle.s370_decimal.specs.Decimal.{decimal_row, is_decimal_op};
+ghost use Rattle.s370_decimal.specs.Decimal.{decimal_row, is_decimal};
 
 use crate::products::{divide, multiply};
 use crate::shifts::shift_and_round;
@@ -17,7 +17,7 @@ use s370_state::{Cpu, Next, Space};
 /// after an overflow has completed. ZAP doesn't look at what its first field held. Registers and the instruction
 /// address are left as they are. Takes no memory.
 pub fn decimal<P: Space>(cpu: &mut Cpu, space: &mut P, code: &Code, op: Op) -> Next
-    requires { is_decimal_op op ≡ true }
+    requires { is_decimal op ≡ true }
     ensures memory { P.memory space.new ≡ P.memory space.old }
     ensures row { Performs (P.memory space.old) cpu.old (P.bytes space.old) (λ m s. decimal_row op m s code.now) cpu.new (P.bytes space.new) result }
 {

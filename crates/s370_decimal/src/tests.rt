@@ -2,7 +2,7 @@
 mod vectors;
 
 ghost use Rattle.std.specs.Prelude.{◌≡◌};
-ghost use Rattle.s370_decimal.specs.Decimal.{is_decimal_op};
+ghost use Rattle.s370_decimal.specs.Decimal.{is_decimal};
 
 use super::*;
 use cov_base::Addr;
@@ -12,8 +12,8 @@ use std::alloc::{AllocError, Global};
 use std::test::*;
 use vectors::{MODULE, VECTORS};
 
-fn is_decimal_op(op: Op) -> bool
-    ensures { result ≡ is_decimal_op op }
+fn is_decimal(op: Op) -> bool
+    ensures { result ≡ is_decimal op }
 {
     match op {
         Op::AP => true,
@@ -146,7 +146,7 @@ fn operations_do_as_the_manual_says(rt: HostRuntime) -> Result<(), Fail> {
             mask: known.mask % 16,
         };
         let mut space = storage(rt.alloc(), &known)?;
-        assert!(rt; is_decimal_op(op), "{line}");
+        assert!(rt; is_decimal(op), "{line}");
         let next = decimal(&mut cpu, &mut space, &code, op);
         take_all(&mut known, after);
         assert_eq!(rt; cpu.regs, known.regs, "{line}");
