@@ -94,13 +94,12 @@ power_above k = one-le-pow k 10 (lit< tt)
 pub power_most : (k : ℕ) → k ≤ 31 → 10 ^ k ≤ 10000000000000000000000000000000
 power_most k l = pow-le-pow_right {n = 10} (lit< tt) {i = k} {j = 31} l
 
--- a product of no more than 31 digits
-pub product_fits : (l1 l2 v w : ℕ) → l2 < l1 → l1 ≤ 15 → v < 10 ^ (2 * (l1 - l2 - 1) + 1) → w < 10 ^ (2 * l2 + 1) → v * w < 340282366920938463463374607431768211456
-product_fits l1 l2 v w s m h k =
-    let e : 2 * (l1 - l2 - 1) + 1 + (2 * l2 + 1) ≡ 2 * l1 = omega arith in
-    let q : 10 ^ (2 * l1) ≡ 10 ^ (2 * (l1 - l2 - 1) + 1) * 10 ^ (2 * l2 + 1) = rw e at (pow-add 10 (2 * (l1 - l2 - 1) + 1) (2 * l2 + 1)) in
-    let b : 10 ^ (2 * l1) ≤ 10 ^ 31 = pow-le-pow_right {n = 10} (lit< tt) {i = 2 * l1} {j = 31} (omega arith) in
-    omega (arith, q, b, mul-lt v w (10 ^ (2 * (l1 - l2 - 1) + 1)) (10 ^ (2 * l2 + 1)) h k)
+-- a product of no more than 38 digits
+pub product_fits : (i j v w : ℕ) → i + j ≤ 38 → v < 10 ^ i → w < 10 ^ j → v * w < 340282366920938463463374607431768211456
+product_fits i j v w l h k =
+    let q = pow-add 10 i j in
+    let b = power_fits (i + j) l in
+    omega (arith, q, b, mul-lt v w (10 ^ i) (10 ^ j) h k)
 
 -- two fields side by side
 pub bytes_fit : (l1 l2 q r : ℕ) → l2 < l1 → l1 ≤ 15 → q < 256 ^ (l1 - l2 - 1 + 1) → r < 256 ^ (l2 + 1) → q * 256 ^ (l2 + 1) + r < 340282366920938463463374607431768211456

@@ -1,11 +1,10 @@
 -- Shifts to the left whose whole result doesn't fit 128 bits, by the digits that stay and those that are lost.
-use Rattle.std.proofs.Common.{◌≡◌, ℕ, ◌+◌, ◌-◌, ◌*◌, ◌/◌, ◌%◌, ◌^◌, ◌<◌, ◌≤◌, Bool, false, not, nat_lt, ◌==◌, if◌then◌else◌, refl, sym, arith, lit<, inl, inr, add-zero, ap}
+use Rattle.std.proofs.Common.{◌≡◌, ℕ, ◌+◌, ◌-◌, ◌*◌, ◌%◌, ◌^◌, ◌<◌, ◌≤◌, Bool, false, not, nat_lt, ◌==◌, if◌then◌else◌, refl, arith, lit<, inl, inr, add-zero}
 use Rattle.std.proofs.Math.Nat.{zero-mul, mul_assoc, pow-le-pow_right, one-le-pow, mul-mod_left, mul-div_cancel, mod-one, pow-zero, lt_of_mul-lt-mul_right, mul-lt-mul_of_pos_right}
 use Rattle.std.proofs.Math.Arith.{mod-mul}
 use Rattle.std.proofs.lemmas.Nat.{pow-add, mod_below}
 use Rattle.std.proofs.lemmas.Bool.{cases_lt}
 use Rattle.std.proofs.lemmas.Bool.Decides.{nat_tests}
-use Rattle.s370_decimal.specs.Fields.{fits}
 use Rattle.s370_decimal.specs.Results.{kept}
 
 above : (k : ℕ) → 0 < 10 ^ k

@@ -1,6 +1,6 @@
 -- The two fields that an operation works on.
 use Rattle.std.specs.Prelude.{ℕ, ◌+◌, if◌then◌else◌, Option, Some, None, List, [], ◌∷◌, ℤ, pos, neg_ℤ}
-use Rattle.cov_base.specs.States.{CpuView, Machine}
+use Rattle.cov_base.specs.States.{CpuView}
 use Rattle.cov_base.specs.Memory.{Memory}
 use Rattle.s370_state.specs.Row.{Use, Outcome, Program, reads, stores}
 use Rattle.s370_decode.specs.Fields.{r1, r2, e1, e2}

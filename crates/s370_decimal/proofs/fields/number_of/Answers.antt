@@ -1,4 +1,4 @@
-use Rattle.std.proofs.Common.{arith, sym}
+use Rattle.std.proofs.Common.{arith}
 use Rattle.s370_decimal.proofs.Halves.{number_more, byte_fits, byte_more}
 use Rattle.s370_decimal.proofs.fields.number_of.Goals as goal
 
