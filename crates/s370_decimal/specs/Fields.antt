@@ -36,6 +36,10 @@ packed (suc k) n = packed k (n / 10) * 16 + n % 10
 unfoldable pub packed_field : ℕ → ℕ → Bool → ℕ
 packed_field l v minus = packed (2 * l + 1) v * 16 + sign_half minus
 
+-- what such a field holds
+abbrev pub held : ℕ → ℕ → Bool → Option Field
+held l v minus = Some (record { magnitude = v % 10 ^ (2 * l + 1); minus = minus })
+
 -- the n bytes from a on become a number
 unfoldable pub store_number : List ℕ → ℕ → ℕ → ℕ → List ℕ
 store_number bytes a zero v = bytes

@@ -3,7 +3,7 @@
 ghost use Rattle.std.specs.Prelude.{◌≡◌, ℕ, ◌+◌, ◌-◌, ◌*◌, ◌/◌, ◌%◌, ◌^◌, ◌<◌, ◌≤◌, true, false, IfSome, IfNone};
 ghost use Rattle.cov_base.specs.Memory.{can_reach, can_store};
 ghost use Rattle.s370_state.specs.Words.{number_at};
-ghost use Rattle.s370_decimal.specs.Fields.{are_digits, value_of, field_of, field_at, packed, packed_field, store_number, fits};
+ghost use Rattle.s370_decimal.specs.Fields.{are_digits, value_of, field_of, field_at, packed, packed_field, held, store_number, fits};
 
 use cov_base::Addr;
 use s370_state::{Space, byte_of, is_minus, is_sign, put_into, sign_half};
@@ -16,7 +16,7 @@ pub struct Field {
 }
 
 /// 10 to the power k.
-#[tactic(auto, using(crate::proofs::Halves::power_fits, crate::proofs::Halves::power_above))]
+#[tactic(auto, using(crate::proofs::Powers::power_fits, crate::proofs::Powers::power_above))]
 pub fn power(k: u8) -> u128
     requires { k ≤ 38 }
     ensures value { result ≡ 10 ^ k }
@@ -34,7 +34,7 @@ pub fn fits(l: u8, v: u128) -> bool
 }
 
 /// The n bytes from there on as one number.
-#[tactic(auto, using(crate::proofs::Halves::number_none, crate::proofs::Halves::number_more, crate::proofs::Halves::byte_more, crate::proofs::Halves::byte_fits))]
+#[tactic(auto, using(crate::proofs::Halves::number_none, crate::proofs::Halves::number_more))]
 fn number_of<P: Space>(space: &P, at: Addr, n: u32) -> u128
     requires size { n ≤ 16 }
     requires reach { can_reach (P.memory space.now) at n ≡ true }
@@ -120,11 +120,12 @@ fn packed(k: u8, n: u128) -> u128
     packed(k - 1, n / 10) * 16 + n % 10
 }
 
-/// The field of a magnitude's low 2l + 1 digits and a sign, as one number.
+/// The field of a magnitude's low 2l + 1 digits and a sign, as one number; read again, it holds these.
 #[tactic(auto, unfolding(crate::specs::Fields::packed_field))]
 pub fn packed_field(l: u8, v: u128, minus: bool) -> u128
     requires { l ≤ 15 }
     ensures value { result ≡ packed_field l v minus }
+    ensures read { field_of l result ≡ held l v minus }
     ensures below { result < 256 ^ (l + 1) }
 {
     packed(2 * l + 1, v) * 16 + u128::from(sign_half(minus))

@@ -28,7 +28,7 @@ fn signs_differ(o: Operands) -> bool
 }
 
 /// The field of the product; none where the first field has fewer leading zero bytes than the second has bytes.
-#[tactic(auto, unfolding(crate::specs::Products::product), using(crate::proofs::Halves::product_fits))]
+#[tactic(auto, unfolding(crate::specs::Products::product), using(crate::proofs::Powers::product_fits))]
 fn multiply_fields(l1: u8, l2: u8, o: Operands) -> Option<u128>
     requires shorter { l2 < l1 }
     requires length { l1 ≤ 15 }
@@ -43,7 +43,7 @@ fn multiply_fields(l1: u8, l2: u8, o: Operands) -> Option<u128>
 }
 
 /// The fields of quotient and remainder; none where the divisor is zero or the quotient too long.
-#[tactic(auto, unfolding(crate::specs::Products::quotient), using(crate::proofs::Halves::bytes_fit))]
+#[tactic(auto, unfolding(crate::specs::Products::quotient))]
 fn divide_fields(l1: u8, l2: u8, o: Operands) -> Option<u128>
     requires shorter { l2 < l1 }
     requires length { l1 ≤ 15 }

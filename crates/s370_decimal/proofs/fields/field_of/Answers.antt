@@ -1,4 +1,4 @@
-use Rattle.s370_decimal.proofs.Halves.{digits_most}
+use Rattle.s370_decimal.proofs.Powers.{digits_most}
 use Rattle.s370_decimal.proofs.fields.field_of.Goals as goal
 
 pub returns-then-is_sign-clause-most : goal.returns-then-is_sign-clause-most

@@ -1,6 +1,6 @@
 use Rattle.std.proofs.Common.{◌+◌, ◌^◌, ◌≤◌, arith, lit<}
 use Rattle.std.proofs.Math.Nat.{pow-le-pow_right}
-use Rattle.s370_decimal.proofs.Halves.{bytes_fit}
+use Rattle.s370_decimal.proofs.Powers.{bytes_fit}
 use Rattle.s370_decimal.proofs.products.divide_fields.Goals as goal
 
 pub pow-requires : goal.pow-requires

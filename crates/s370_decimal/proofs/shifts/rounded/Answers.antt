@@ -1,6 +1,6 @@
 use Rattle.std.proofs.Common.{◌-◌, arith}
 use Rattle.std.proofs.lemmas.Nat.{mul-le}
-use Rattle.s370_decimal.proofs.Halves.{power_most}
+use Rattle.s370_decimal.proofs.Powers.{power_most}
 use Rattle.s370_decimal.proofs.shifts.rounded.Goals as goal
 
 pub overflow_mul-result : goal.overflow_mul-result
