@@ -1,5 +1,5 @@
 -- Packed decimal fields. A field of length code l is l + 1 bytes, here as one number: 2l + 1 digits, then the sign in the
--- last half byte (Principles of Operation, "Decimal Instructions", "Packed Format").
+-- last half byte (Principles of Operation, "Decimal Instructions", "Data Format").
 use Rattle.std.specs.Prelude.{ℕ, zero, suc, ◌+◌, ◌*◌, ◌/◌, ◌%◌, ◌^◌, Bool, true, ◌&&◌, nat_lt, if◌then◌else◌, Option, Some, None, List, slice_set}
 use Rattle.cov_base.specs.Memory.{Memory, wrap}
 use Rattle.s370_state.specs.Words.{number_at}

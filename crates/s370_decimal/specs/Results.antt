@@ -1,4 +1,4 @@
--- What becomes of a result in the first field (Principles of Operation, "Decimal Instructions", "Decimal-Overflow Exception").
+-- What becomes of a result in the first field (Principles of Operation, "Decimal-Overflow Exception").
 use Rattle.std.specs.Prelude.{ℕ, ◌+◌, ◌*◌, ◌%◌, ◌^◌, Bool, false, not, ◌==◌, if◌then◌else◌}
 use Rattle.cov_base.specs.States.{Machine}
 use Rattle.s370_state.specs.Row.{Outcome, Overflows, with_cc, with_bytes}

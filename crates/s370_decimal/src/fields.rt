@@ -1,5 +1,5 @@
 //! Packed decimal fields: what they hold, and what is put into them (Principles of Operation, "Decimal Instructions",
-//! "Packed Format").
+//! "Data Format"). A field of length code l has l + 1 bytes, of which the last half byte is the sign.
 ghost use Rattle.std.specs.Prelude.{◌≡◌, ℕ, ◌+◌, ◌-◌, ◌*◌, ◌/◌, ◌%◌, ◌^◌, ◌<◌, ◌≤◌, true, false, IfSome, IfNone};
 ghost use Rattle.cov_base.specs.Memory.{can_reach, can_store};
 ghost use Rattle.s370_state.specs.Words.{number_at};
@@ -8,10 +8,12 @@ ghost use Rattle.s370_decimal.specs.Fields.{are_digits, value_of, field_of, fiel
 use cov_base::Addr;
 use s370_state::{Space, byte_of, is_minus, is_sign, put_into, sign_half};
 
-/// What a field holds. A zero may be minus.
+/// What a field holds.
 #[derive(Clone, Copy)]
 pub struct Field {
+    /// The number of its digits, at most 31.
     pub magnitude: u128,
+    /// Whether its sign is minus, which that of a zero may be too.
     pub minus: bool,
 }
 
@@ -73,6 +75,7 @@ fn value_of(k: u8, n: u128) -> Option<u128>
     }
 }
 
+/// What a field as one number holds; none where a digit or the sign is bad.
 #[tactic(auto, unfolding(crate::specs::Fields::field_of))]
 fn field_of(l: u8, n: u128) -> Option<Field>
     requires { l ≤ 15 }
