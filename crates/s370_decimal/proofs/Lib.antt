@@ -1,0 +1,5 @@
+pub mod Data
+pub mod Halves
+pub mod Packing
+pub mod Powers
+pub mod Shifting

@@ -1,0 +1,8 @@
+use Rattle.std.proofs.Common.{◌≡◌, ◌-◌, arith}
+use Rattle.s370_decimal.proofs.Halves.{store_none}
+use Rattle.s370_decimal.proofs.fields.put_number.Goals as goal
+
+pub returns-clause-bytes : goal.returns-clause-bytes
+returns-clause-bytes g c =
+    let e : c.args.n - c.loop-i.i ≡ 0 = omega arith in
+    rw (e, store_none) at c.loop-i.invariant.bytes

@@ -1,0 +1,123 @@
+//! The two fields that an operation works on, tested and read.
+ghost use Rattle.std.specs.Prelude.{◌≡◌, ℕ, ◌+◌, ◌*◌, ◌^◌, ◌<◌, ◌≤◌, ℤ, pos, neg_ℤ, ◌≤ℤ◌, ◌<ℤ◌, [], ◌∷◌, Some, None, true, IfOk, IfErr, IfSome};
+ghost use Rattle.cov_base.specs.Memory.{can_reach, can_store};
+ghost use Rattle.s370_state.specs.Row.{reads, use_tests};
+ghost use Rattle.s370_decode.specs.Fields.{e1, e2};
+ghost use Rattle.s370_decimal.specs.Operands.{l1, l2, replaces, compares, operands, number};
+
+use crate::fields::{Field, field_at};
+use cov_base::Addr;
+use s370_decode::Code;
+use s370_state::{Cpu, Ending, Space, ending_of, test_store_read};
+
+/// What the two fields of an operation hold.
+#[derive(Clone, Copy)]
+pub struct Operands {
+    pub first: Field,
+    pub second: Field,
+}
+
+/// The first field's address.
+pub fn first_at(cpu: &Cpu, code: &Code) -> Addr
+    ensures { result ≡ e1 cpu.now code.now }
+{
+    cpu.address(code.b1(), 0, code.d1())
+}
+
+/// The second field's address, or a distance of a shift.
+pub fn second_at(cpu: &Cpu, code: &Code) -> Addr
+    ensures { result ≡ e2 cpu.now code.now }
+{
+    cpu.address(code.b2(), 0, code.d2())
+}
+
+/// Tests a first field that is replaced and a second that is read.
+pub fn test_replaced<P: Space>(cpu: &Cpu, space: &P, code: &Code) -> Result<(), Ending>
+    ensures refused { IfErr result (λ e. use_tests (P.memory space.now) (replaces cpu.now code.now) ≡ Some e) }
+    ensures passed { IfOk result (λ _. use_tests (P.memory space.now) (replaces cpu.now code.now) ≡ None) }
+    ensures reach { IfOk result (λ _. can_reach (P.memory space.now) (e1 cpu.now code.now) (l1 code.now + 1) ≡ true) }
+    ensures store { IfOk result (λ _. can_store (P.memory space.now) (e1 cpu.now code.now) (l1 code.now + 1) ≡ true) }
+    ensures reach_second { IfOk result (λ _. can_reach (P.memory space.now) (e2 cpu.now code.now) (l2 code.now + 1) ≡ true) }
+{
+    let (a, b) = (first_at(cpu, code), second_at(cpu, code));
+    test_store_read(
+        space,
+        a,
+        u32::from(code.l1()) + 1,
+        b,
+        u32::from(code.l2()) + 1,
+    )
+}
+
+/// Tests two fields that are read: code 5 by either, then touch by the first, then by the second.
+pub fn test_compared<P: Space>(cpu: &Cpu, space: &P, code: &Code) -> Result<(), Ending>
+    ensures refused { IfErr result (λ e. use_tests (P.memory space.now) (compares cpu.now code.now) ≡ Some e) }
+    ensures passed { IfOk result (λ _. use_tests (P.memory space.now) (compares cpu.now code.now) ≡ None) }
+    ensures reach { IfOk result (λ _. can_reach (P.memory space.now) (e1 cpu.now code.now) (l1 code.now + 1) ≡ true) }
+    ensures reach_second { IfOk result (λ _. can_reach (P.memory space.now) (e2 cpu.now code.now) (l2 code.now + 1) ≡ true) }
+{
+    let (a, b) = (first_at(cpu, code), second_at(cpu, code));
+    test_two_reads(
+        space,
+        a,
+        u32::from(code.l1()) + 1,
+        b,
+        u32::from(code.l2()) + 1,
+    )
+}
+
+#[tactic(auto, unfolding(s370_state::specs::Row::use_tests, s370_state::specs::Row::all_reached, s370_state::specs::Row::all_stored, s370_state::specs::Row::touched))]
+fn test_two_reads<P: Space>(space: &P, a: Addr, n: u32, b: Addr, k: u32) -> Result<(), Ending>
+    ensures refused { IfErr result (λ e. use_tests (P.memory space.now) (reads a n ∷ (reads b k ∷ [])) ≡ Some e) }
+    ensures passed { IfOk result (λ _. use_tests (P.memory space.now) (reads a n ∷ (reads b k ∷ [])) ≡ None) }
+    ensures reach { IfOk result (λ _. can_reach (P.memory space.now) a n ≡ true) }
+    ensures reach_second { IfOk result (λ _. can_reach (P.memory space.now) b k ≡ true) }
+{
+    let answer = match space.can_reach(a, n) {
+        Ok(()) => match space.can_reach(b, k) {
+            Ok(()) => match space.can_read(a, n) {
+                Ok(()) => space.can_read(b, k),
+                Err(r) => Err(r),
+            },
+            Err(r) => Err(r),
+        },
+        Err(r) => Err(r),
+    };
+    match answer {
+        Ok(()) => Ok(()),
+        Err(r) => Err(ending_of(r)),
+    }
+}
+
+/// What the two fields hold; none where a digit or the sign of either is bad.
+pub fn read_operands<P: Space>(cpu: &Cpu, space: &P, code: &Code) -> Option<Operands>
+    requires reach { can_reach (P.memory space.now) (e1 cpu.now code.now) (l1 code.now + 1) ≡ true }
+    requires reach_second { can_reach (P.memory space.now) (e2 cpu.now code.now) (l2 code.now + 1) ≡ true }
+    ensures operands { result ≡ operands (P.memory space.now) cpu.now (P.bytes space.now) code.now }
+    ensures second { IfSome result (λ o. o.second.magnitude < 10 ^ (2 * l2 code.now + 1)) }
+    ensures first_most { IfSome result (λ o. o.first.magnitude < 10000000000000000000000000000000) }
+    ensures second_most { IfSome result (λ o. o.second.magnitude < 10000000000000000000000000000000) }
+{
+    match field_at(space, first_at(cpu, code), code.l1()) {
+        Some(first) => match field_at(space, second_at(cpu, code), code.l2()) {
+            Some(second) => Some(Operands { first, second }),
+            None => None,
+        },
+        None => None,
+    }
+}
+
+/// The field as a number.
+#[tactic(auto, unfolding(crate::specs::Operands::number))]
+pub fn number(f: Field) -> i128
+    requires { f.magnitude < 10000000000000000000000000000000 }
+    ensures value { result ≡ number f }
+    ensures low { neg_ℤ (pos 10000000000000000000000000000000) <ℤ result }
+    ensures high { result <ℤ pos 10000000000000000000000000000000 }
+{
+    if f.minus {
+        -(f.magnitude as i128)
+    } else {
+        f.magnitude as i128
+    }
+}

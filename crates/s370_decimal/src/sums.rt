@@ -1,0 +1,141 @@
+//! Sums, differences and comparisons.
+#![tactic(auto, using(s370_state::proofs::Performs::passes, s370_state::proofs::Performs::refuses, crate::proofs::Data::good_data, crate::proofs::Data::bad_data))]
+
+ghost use Rattle.std.specs.Prelude.{◌≡◌, ◌<◌, ◌≤◌, ◌+ℤ◌, ◌-ℤ◌};
+ghost use Rattle.std.specs.Int.{is_negative};
+ghost use Rattle.std.specs.Int.RustNames.{unsigned_abs};
+ghost use Rattle.s370_state.specs.Row.{Performs};
+ghost use Rattle.s370_state.specs.Words.{sign_code};
+ghost use Rattle.s370_decimal.specs.Operands.{number};
+ghost use Rattle.s370_decimal.specs.Results.{kept};
+ghost use Rattle.s370_decimal.specs.Sums.{row_ap, row_sp, row_zap, row_cp};
+
+use crate::fields::field_at;
+use crate::operands::{
+    Operands, first_at, number, read_operands, second_at, test_compared, test_replaced,
+};
+use crate::results::{Kept, keep, put_result};
+use s370_decode::Code;
+use s370_state::{Cpu, Ending, Next, Space};
+
+/// What a field of length code l keeps of a number.
+fn keep_number(l: u8, z: i128) -> Kept
+    requires { l ≤ 15 }
+    ensures { result ≡ kept l (unsigned_abs z) (is_negative z) }
+{
+    keep(l, z.unsigned_abs(), z < 0)
+}
+
+/// What the field keeps of the sum.
+fn keep_sum(l: u8, o: Operands) -> Kept
+    requires length { l ≤ 15 }
+    requires first { o.first.magnitude < 10000000000000000000000000000000 }
+    requires second { o.second.magnitude < 10000000000000000000000000000000 }
+    ensures { let sum = number o.first +ℤ number o.second in result ≡ kept l (unsigned_abs sum) (is_negative sum) }
+{
+    let sum = number(o.first) + number(o.second);
+    keep_number(l, sum)
+}
+
+/// What the field keeps of the difference.
+fn keep_difference(l: u8, o: Operands) -> Kept
+    requires length { l ≤ 15 }
+    requires first { o.first.magnitude < 10000000000000000000000000000000 }
+    requires second { o.second.magnitude < 10000000000000000000000000000000 }
+    ensures { let difference = number o.first -ℤ number o.second in result ≡ kept l (unsigned_abs difference) (is_negative difference) }
+{
+    let difference = number(o.first) - number(o.second);
+    keep_number(l, difference)
+}
+
+/// AP.
+pub fn add<P: Space>(cpu: &mut Cpu, space: &mut P, code: &Code) -> Next
+    ensures memory { P.memory space.new ≡ P.memory space.old }
+    ensures row { Performs (P.memory space.old) cpu.old (P.bytes space.old) (λ m s. row_ap m s code.now) cpu.new (P.bytes space.new) result }
+{
+    if let Err(e) = test_replaced(cpu, space, code) {
+        return Next::Ended(e);
+    }
+    match read_operands(cpu, space, code) {
+        Some(o) => {
+            let at = first_at(cpu, code);
+            put_result(cpu, space, at, code.l1(), keep_sum(code.l1(), o))
+        }
+        None => Next::Ended(Ending::Abend(7)),
+    }
+}
+
+/// SP.
+pub fn subtract<P: Space>(cpu: &mut Cpu, space: &mut P, code: &Code) -> Next
+    ensures memory { P.memory space.new ≡ P.memory space.old }
+    ensures row { Performs (P.memory space.old) cpu.old (P.bytes space.old) (λ m s. row_sp m s code.now) cpu.new (P.bytes space.new) result }
+{
+    if let Err(e) = test_replaced(cpu, space, code) {
+        return Next::Ended(e);
+    }
+    match read_operands(cpu, space, code) {
+        Some(o) => {
+            let at = first_at(cpu, code);
+            put_result(cpu, space, at, code.l1(), keep_difference(code.l1(), o))
+        }
+        None => Next::Ended(Ending::Abend(7)),
+    }
+}
+
+/// ZAP.
+pub fn zero_and_add<P: Space>(cpu: &mut Cpu, space: &mut P, code: &Code) -> Next
+    ensures memory { P.memory space.new ≡ P.memory space.old }
+    ensures row { Performs (P.memory space.old) cpu.old (P.bytes space.old) (λ m s. row_zap m s code.now) cpu.new (P.bytes space.new) result }
+{
+    if let Err(e) = test_replaced(cpu, space, code) {
+        return Next::Ended(e);
+    }
+    match field_at(space, second_at(cpu, code), code.l2()) {
+        Some(f) => {
+            let at = first_at(cpu, code);
+            put_result(
+                cpu,
+                space,
+                at,
+                code.l1(),
+                keep(code.l1(), f.magnitude, f.minus),
+            )
+        }
+        None => Next::Ended(Ending::Abend(7)),
+    }
+}
+
+/// 0 where the numbers are equal, 1 where the first is low, 2 where it is high.
+#[tactic(auto, unfolding(s370_state::specs::Words::sign_code))]
+fn comparison(o: Operands) -> u8
+    requires first { o.first.magnitude < 10000000000000000000000000000000 }
+    requires second { o.second.magnitude < 10000000000000000000000000000000 }
+    ensures value { result ≡ sign_code (number o.first -ℤ number o.second) }
+    ensures below { result ≤ 2 }
+{
+    let difference = number(o.first) - number(o.second);
+    if difference == 0 {
+        0
+    } else if difference < 0 {
+        1
+    } else {
+        2
+    }
+}
+
+/// CP.
+pub fn compare<P: Space>(cpu: &mut Cpu, space: &mut P, code: &Code) -> Next
+    ensures memory { P.memory space.new ≡ P.memory space.old }
+    ensures row { Performs (P.memory space.old) cpu.old (P.bytes space.old) (λ m s. row_cp m s code.now) cpu.new (P.bytes space.new) result }
+{
+    if let Err(e) = test_compared(cpu, space, code) {
+        return Next::Ended(e);
+    }
+    match read_operands(cpu, space, code) {
+        Some(o) => {
+            cpu.set_cc(comparison(o));
+            Next::On
+        }
+        None => Next::Ended(Ending::Abend(7)),
+    }
+}

@@ -1,0 +1,34 @@
+//! The one call for all decimal operations.
+ghost use Rattle.std.specs.Prelude.{◌≡◌, true};
+ghost use Rattle.s370_state.specs.Row.{Performs};
+ghost use Rattle.s370_decimal.specs.Decimal.{decimal_row, is_decimal};
+
+use crate::products::{divide, multiply};
+use crate::shifts::shift_and_round;
+use crate::sums::{add, compare, subtract, zero_and_add};
+use s370_decode::{Code, Op};
+use s370_state::{Cpu, Next, Space};
+
+/// Performs a decimal operation: AP SP ZAP CP MP DP SRP (Principles of Operation, "Decimal Instructions"). Both fields
+/// are tested and read whole before anything is stored. The task ends with code 6 by a length of MP or DP, 5 where a
+/// field is inaccessible, 4 where the first one, but for CP, is not private, Touched by a touch byte of a field that is
+/// only read, 7 by a bad digit or sign, by too few leading zeros of MP or a bad rounding digit of SRP, and X'B' by a
+/// zero divisor or a quotient that is too long, all without a change; and with code X'A', under the mask's second bit,
+/// after an overflow has completed. ZAP doesn't look at what its first field held. Registers and the instruction
+/// address are left as they are. Takes no memory.
+pub fn decimal<P: Space>(cpu: &mut Cpu, space: &mut P, code: &Code, op: Op) -> Next
+    requires { is_decimal op ≡ true }
+    ensures memory { P.memory space.new ≡ P.memory space.old }
+    ensures row { Performs (P.memory space.old) cpu.old (P.bytes space.old) (λ m s. decimal_row op m s code.now) cpu.new (P.bytes space.new) result }
+{
+    match op {
+        Op::AP => add(cpu, space, code),
+        Op::SP => subtract(cpu, space, code),
+        Op::ZAP => zero_and_add(cpu, space, code),
+        Op::CP => compare(cpu, space, code),
+        Op::MP => multiply(cpu, space, code),
+        Op::DP => divide(cpu, space, code),
+        Op::SRP => shift_and_round(cpu, space, code),
+        _ => Next::On,
+    }
+}
