@@ -33,7 +33,7 @@ is_single lines j most s = record {
   task = _;
   is = s.is_job;
   of_phase = refl;
-  few = omega (arith, most, ap length s.whole, length-append {A = LineView} s.plain_lines (s.phase_line ∷ s.session_line ∷ s.task_line ∷ s.end_line ∷ []), length-map {A = LineView} {B = List ℕ} s.plain_lines listing_text);
+  few = omega (arith, most, ap length s.whole, length-append {A = LineView} s.listing_lines (s.phase_line ∷ s.session_line ∷ s.task_line ∷ (s.reg_lines ++ s.end_line ∷ [])), length-map {A = LineView} {B = List ℕ} s.listing_lines listing_text);
 }
 
 length-put_on : (b : ℕ) (ls : List LineView) → length (put_on b ls) ≤ length ls + 1

@@ -82,6 +82,7 @@ fn run_area<'a, A: Areas>(
     ensures ledger_kept { OnErr result (A.ledger areas.new ≡ A.ledger areas.old) }
     ensures finals_kept { OnErr result (A.finals areas.new ≡ A.finals areas.old) }
 {
+    // the proof reads the rules that a plan keeps off this look at one
     let _ = &plan.windows;
     let (cells, mut root) = areas.make(alloc, plan)?;
     plant_all(&cells, &mut root, plan);
@@ -131,6 +132,7 @@ pub fn run_only<'a, A: Areas>(
     let plan = plan_of(alloc, job, tables, 0)?;
     let mut task = task_of(alloc, only_task(job), images, tables)?;
     let (ending, finals) = run_area(alloc, areas, &plan, tables, &mut task)?;
+    // the proof reads off the size that private storage still fills it
     let _ = task.space.size();
     Ok(Outcome {
         ending,

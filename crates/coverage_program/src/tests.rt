@@ -1,8 +1,11 @@
 //! Jobs through `cover`, from the bytes in to the bytes out, over memory and over areas on one thread.
+mod cases;
+
 use crate::cover::cover;
 use crate::status::Status;
 use cov_outside::{MemSink, MemSource, SureSink, SureSource};
 use module_area::{Areas, PlainAreas, Tally};
+use cases::CASES;
 use std::alloc::Global;
 use std::test::Fail;
 
@@ -170,5 +173,18 @@ fn answers_over_devices_that_never_fail(rt: HostRuntime) -> Result<(), Fail> {
     let mut others = PlainAreas::new(alloc, 1).map_err(|_| "memory")?;
     let refused = cover(alloc, &none, &mut source, &mut sink, &mut others);
     assert_eq!(rt; refused, Status(1));
+    Ok(())
+}
+
+#[test]
+fn answers_each_job(rt: HostRuntime) -> Result<(), Fail> {
+    let alloc = rt.alloc();
+    for (name, job, status, text) in CASES {
+        let came = run(alloc, job.to_vec(alloc)?, Vec::new(alloc), Vec::new(alloc))?;
+        assert_eq!(rt; came.status, Status(status), "{name}");
+        assert_eq!(rt; came.text.as_slice(), text, "{name}");
+        assert_eq!(rt; came.made, u64::from(status == 0), "{name}");
+        assert_eq!(rt; came.tallies.len() as u64, came.made, "{name}");
+    }
     Ok(())
 }

@@ -4,9 +4,9 @@ use Rattle.std.proofs.lemmas.Bool.Decides.{nat_tests}
 use Rattle.std.specs.Str.{bytes_eq}
 use Rattle.cov_base.specs.Names.{is_digit, is_name, name_at, padded, unpadded}
 use Rattle.cov_base.proofs.NameLemmas.{unpadded-padded}
-use Rattle.job_text.specs.CardView.{CardView, Cover, Module, Text, Listing, Phase, Session, Task, End}
-use Rattle.job_text.specs.Words.{words, number_at, bytes_at, is_upper_hex, is_lower_hex, hex_value, is_address, address_value, address_at, names_at}
-use Rattle.job_text.specs.Cards.{may_stand, module_of, session_of, task_of, short_card, long_card, card_of, card_at}
+use Rattle.job_text.specs.CardView.{CardView, Cover, Module, Text, Listing, Phase, Session, Task, Reg, End}
+use Rattle.job_text.specs.Words.{words, number_at, bytes_at, is_upper_hex, is_lower_hex, hex_value, is_address, address_value, address_at, word_at, names_at}
+use Rattle.job_text.specs.Cards.{may_stand, module_of, session_of, task_of, reg_of, short_card, long_card, card_of, card_at}
 use Rattle.job_text.proofs.Guards.{guard_some, guard_more}
 
 -- a name filled with blanks
@@ -79,6 +79,11 @@ task_good (Some n) (Some e) None b r c is h = absurd cc
 task_good (Some n) None p b r c is h = absurd cc
 task_good None e p b r c is h = absurd cc
 
+reg_good : (n v : Option ℕ) (c : CardView) → reg_of n v ≡ Some c → Good c
+reg_good (Some n) (Some v) c e = let g = guard_some (nat_le n 15) (Reg n v) c e in subst Good g.1 tt
+reg_good (Some n) None c e = absurd cc
+reg_good None v c e = absurd cc
+
 last_good : (q : Bool) (c d : CardView) → Good d → cond q (Some d) None ≡ Some c → Good c
 last_good true c d g e = let same : d ≡ c = cc in subst Good same g
 last_good false c d g e = absurd cc
@@ -107,7 +112,9 @@ short_good key a c e =
 
 long_good : (key a : List ℕ) (ws : List (List ℕ)) (c : CardView) → long_card key a ws ≡ Some c → Good c
 long_good key a [] c e = absurd cc
-long_good key a (b ∷ []) c e = absurd cc
+long_good key a (b ∷ []) c e =
+    let g = guard_more (bytes_eq key (codes "REG")) (reg_of (number_at a) (word_at b)) c e in
+    reg_good (number_at a) (word_at b) c g.1
 long_good key a (b ∷ s ∷ []) c e =
     let g = guard_more (bytes_eq key (codes "MODULE")) (module_of (name_at a) (address_at b) (number_at s)) c e in
     module_good (name_at a) (address_at b) (number_at s) c (λ m h. name_good a m h) g.1

@@ -1,16 +1,16 @@
 -- Lines that spell a job run to its end, and so spell no other.
-use Rattle.std.proofs.Common.{◌≡◌, ℕ, ◌+◌, ◌≤◌, true, false, nat_eq, nat_le, Some, None, List, [], ◌∷◌, ◌++◌, length, map, refl, ap, subst, option_and_then, sym, ◌∙◌, arith, append_assoc, append-nil}
+use Rattle.std.proofs.Common.{◌≡◌, ℕ, ◌+◌, ◌≤◌, suc, true, false, nat_eq, nat_le, Some, None, List, [], ◌∷◌, ◌++◌, length, map, refl, ap, subst, option_and_then, sym, ◌∙◌, arith, append_assoc, append-nil}
 use Rattle.std.proofs.lemmas.Bool.Decides.{nat_tests}
-use Rattle.std.specs.Str.{bytes_eq}
 use Rattle.std.proofs.lemmas.Slice.Eq.{bytes_eq-Decides}
 use Rattle.cov_base.specs.Memory.{ImageView}
-use Rattle.session_book.specs.JobView.{JobView, TaskView}
+use Rattle.std.specs.List.{list_all}
+use Rattle.session_book.specs.JobView.{JobView, TaskView, first_regs}
 use Rattle.job_text.specs.Lines.{LineView, listing_text}
-use Rattle.job_text.specs.CardView.{CardView, Cover, Module, Text, Listing, Phase, Session, Task, End}
-use Rattle.job_text.specs.PlainLines.{heading}
-use Rattle.job_text.specs.First.{IsCard, ArePlain, task_view, SpellsFirst, Begins}
-use Rattle.job_text.specs.Machine.{State, Start, Covered, Loaded, Filled, Announced, Listed, Phased, Observed, Tasked, Done, is_only, is_within, in_listing, take_card, step, run, job_at}
-use Rattle.job_text.proofs.Guards.{some_same, then_some}
+use Rattle.job_text.specs.CardView.{CardView, Cover, Module, Text, Listing, Phase, Session, Task, Reg, End}
+use Rattle.job_text.specs.First.{IsCard, is_short, RegView, AreRegs, set_regs, task_view, SpellsFirst, Begins}
+use Rattle.job_text.specs.Machine.{State, Start, Covered, Loaded, Filled, Listed, Phased, Observed, Tasked, Done, is_only, is_within, with_reg, in_listing, take_card, step, run, job_at}
+use Rattle.job_text.proofs.Guards.{some_same, both, then_some}
+use Rattle.job_text.proofs.Sound.{with_regs}
 
 -- the state runs over the lines to this end
 pub record Runs (st : State) (ls : List LineView) (end : State) : Type 0 where
@@ -31,22 +31,32 @@ runs_first st s l ls end e r = record { runs = rw e r.runs }
 pub card_step : (st s : State) (l : LineView) (c : CardView) → in_listing st ≡ false → IsCard l c → take_card st c ≡ Some s → step st l ≡ Some s
 card_step st s l c raw card e = rw (raw, card) e
 
-runs_plain : (ls : List LineView) (ns : List ℕ) (at number : ℕ) (i : ImageView) (ts : List (List ℕ)) (more : List LineView) (end : State) → ArePlain at number ns ls →
-    ((a n : ℕ) → Runs (Listed i [] a n (ts ++ map listing_text ls)) more end) → Runs (Listed i ns at number ts) (ls ++ more) end
-runs_plain [] [] at number i ts more end are r =
+runs_lines : (ls : List LineView) (i : ImageView) (ts : List (List ℕ)) (more : List LineView) (end : State) → list_all is_short ls ≡ true →
+    Runs (Listed i 0 (ts ++ map listing_text ls)) more end → Runs (Listed i (length ls) ts) (ls ++ more) end
+runs_lines [] i ts more end short r =
     let same : ts ++ [] ≡ ts = append-nil ts in
-    subst (λ (x : List (List ℕ)). Runs (Listed i [] at number x) more end) same (r at number)
-runs_plain (l ∷ ls) [] at number i ts more end are r = absurd are
-runs_plain [] (n ∷ ns) at number i ts more end are r = absurd are
-runs_plain (l ∷ ls) (n ∷ ns) at number i ts more end are r =
-    let next : State = Listed i ns (at + n) (number + 1) (ts ++ listing_text l ∷ []) in
-    let e : step (Listed i (n ∷ ns) at number ts) l ≡ Some next = rw are.0 refl in
-    runs_first (Listed i (n ∷ ns) at number ts) next l (ls ++ more) end e
-    (runs_plain ls ns (at + n) (number + 1) i (ts ++ listing_text l ∷ []) more end are.1
-    (λ a m. rw (append_assoc ts (listing_text l ∷ []) (map listing_text ls)) (r a m)))
+    subst (λ (x : List (List ℕ)). Runs (Listed i 0 x) more end) same r
+runs_lines (l ∷ ls) i ts more end short r =
+    let p = both (is_short l) (list_all is_short ls) short in
+    let now : State = Listed i (suc (length ls)) ts in
+    let next : State = Listed i (length ls) (ts ++ listing_text l ∷ []) in
+    let e : step now l ≡ Some next = rw p.0 refl in
+    runs_first now next l (ls ++ more) end e
+    (runs_lines ls i (ts ++ listing_text l ∷ []) more end p.1 (rw (append_assoc ts (listing_text l ∷ []) (map listing_text ls)) r))
 
-heading_same : (text : List ℕ) → text ≡ heading → bytes_eq text heading ≡ true
-heading_same text e = (bytes_eq-Decides text heading).1 e
+at_least : (least n : ℕ) → least ≤ n → nat_le least n ≡ true
+at_least least n h = grind (arith, nat_tests)
+
+runs_regs : (rs : List RegView) (ls : List LineView) (i : ImageView) (ts : List (List ℕ)) (p s : List ℕ) (t : TaskView) (least : ℕ) (more : List LineView) (end : State) → AreRegs least rs ls →
+    ((k : ℕ) → Runs (Tasked i ts p s (with_regs t rs) k) more end) → Runs (Tasked i ts p s t least) (ls ++ more) end
+runs_regs [] [] i ts p s t least more end are r = r least
+runs_regs [] (l ∷ ls) i ts p s t least more end are r = absurd are
+runs_regs (x ∷ rs) [] i ts p s t least more end are r = absurd are
+runs_regs (x ∷ rs) (l ∷ ls) i ts p s t least more end are r =
+    let now : State = Tasked i ts p s t least in
+    let next : State = Tasked i ts p s (with_reg t x.number x.value) (x.number + 1) in
+    let e : step now l ≡ Some next = card_step now next l (Reg x.number x.value) refl are.0.0 (rw (at_least least x.number are.0.1) refl) in
+    runs_first now next l (ls ++ more) end e (runs_regs rs ls i ts p s (with_reg t x.number x.value) (x.number + 1) more end are.1 r)
 
 only_same : (name : List ℕ) → is_only name (name ∷ []) ≡ true
 only_same name = (bytes_eq-Decides name name).1 refl
@@ -63,50 +73,52 @@ most_is n k h = grind (arith, nat_tests)
 pub within_is : (private budget room : ℕ) → private ≤ 1048576 → budget ≤ 50000000 → room ≤ 65536 → is_within private budget room ≡ true
 within_is private budget room p b r = rw (most_is private 1048576 p, most_is budget 50000000 b, most_is room 65536 r) refl
 
--- lines that spell a job run to its end
-pub run_spelled : (lines : List LineView) (job : JobView) (s : SpellsFirst lines job) →
-    Runs Start lines (Done (record { name = s.name; base = s.base; bytes = s.bytes }) (listing_text s.heading_line ∷ map listing_text s.plain_lines) s.phase s.session (task_view s.task s.entry s.private s.budget s.room))
+-- the end that lines which spell a job run to
+abbrev pub spelled_state : (lines : List LineView) (job : JobView) → SpellsFirst lines job → State
+spelled_state lines job s = Done (record { name = s.name; base = s.base; bytes = s.bytes }) (map listing_text s.listing_lines) s.phase s.session
+    (task_view s.task s.entry s.private s.budget s.room (set_regs (first_regs s.entry) s.regs))
+
+pub run_spelled : (lines : List LineView) (job : JobView) (s : SpellsFirst lines job) → Runs Start lines (spelled_state lines job s)
 run_spelled lines job s =
     let i : ImageView = record { name = s.name; base = s.base; bytes = s.bytes } in
-    let head : List ℕ = listing_text s.heading_line in
-    let texts : List (List ℕ) = head ∷ map listing_text s.plain_lines in
-    let task : TaskView = task_view s.task s.entry s.private s.budget s.room in
+    let texts : List (List ℕ) = map listing_text s.listing_lines in
+    let first : TaskView = task_view s.task s.entry s.private s.budget s.room (first_regs s.entry) in
+    let task : TaskView = with_regs first s.regs in
     let end : State = Done i texts s.phase s.session task in
-    let last : Runs (Tasked i texts s.phase s.session task) (s.end_line ∷ []) end =
-    runs_first (Tasked i texts s.phase s.session task) end s.end_line [] end (card_step (Tasked i texts s.phase s.session task) end s.end_line End refl s.end_card refl) (record { runs = refl }) in
-    let tasks : Runs (Observed i texts s.phase s.session) (s.task_line ∷ s.end_line ∷ []) end =
-    runs_first (Observed i texts s.phase s.session) (Tasked i texts s.phase s.session task) s.task_line (s.end_line ∷ []) end
-    (card_step (Observed i texts s.phase s.session) (Tasked i texts s.phase s.session task) s.task_line (Task s.task s.entry s.private s.budget s.room) refl s.task_card
-    (rw (within_is s.private s.budget s.room s.most_private s.most_budget s.most_room) refl)) last in
-    let sessions : Runs (Phased i texts s.phase) (s.session_line ∷ s.task_line ∷ s.end_line ∷ []) end =
-    runs_first (Phased i texts s.phase) (Observed i texts s.phase s.session) s.session_line (s.task_line ∷ s.end_line ∷ []) end
+    let last : (k : ℕ) → Runs (Tasked i texts s.phase s.session task k) (s.end_line ∷ []) end = λ k.
+    runs_first (Tasked i texts s.phase s.session task k) end s.end_line [] end (card_step (Tasked i texts s.phase s.session task k) end s.end_line End refl s.end_card refl) (record { runs = refl }) in
+    let regs : Runs (Tasked i texts s.phase s.session first 0) (s.reg_lines ++ s.end_line ∷ []) end =
+    runs_regs s.regs s.reg_lines i texts s.phase s.session first 0 (s.end_line ∷ []) end s.are_regs last in
+    let tasks : Runs (Observed i texts s.phase s.session) (s.task_line ∷ (s.reg_lines ++ s.end_line ∷ [])) end =
+    runs_first (Observed i texts s.phase s.session) (Tasked i texts s.phase s.session first 0) s.task_line (s.reg_lines ++ s.end_line ∷ []) end
+    (card_step (Observed i texts s.phase s.session) (Tasked i texts s.phase s.session first 0) s.task_line (Task s.task s.entry s.private s.budget s.room) refl s.task_card
+    (rw (within_is s.private s.budget s.room s.most_private s.most_budget s.most_room) refl)) regs in
+    let sessions : Runs (Phased i texts s.phase) (s.session_line ∷ s.task_line ∷ (s.reg_lines ++ s.end_line ∷ [])) end =
+    runs_first (Phased i texts s.phase) (Observed i texts s.phase s.session) s.session_line (s.task_line ∷ (s.reg_lines ++ s.end_line ∷ [])) end
     (card_step (Phased i texts s.phase) (Observed i texts s.phase s.session) s.session_line (Session s.session (s.name ∷ [])) refl s.session_card
     (rw (only_same s.name) refl)) tasks in
-    let tail : List LineView = s.phase_line ∷ s.session_line ∷ s.task_line ∷ s.end_line ∷ [] in
-    let phases : (a n : ℕ) → Runs (Listed i [] a n texts) tail end = λ a n.
-    runs_first (Listed i [] a n texts) (Phased i texts s.phase) s.phase_line (s.session_line ∷ s.task_line ∷ s.end_line ∷ []) end
-    (card_step (Listed i [] a n texts) (Phased i texts s.phase) s.phase_line (Phase s.phase) refl s.phase_card refl) sessions in
-    let plain : Runs (Listed i s.lengths 0 1 (head ∷ [])) (s.plain_lines ++ tail) end = runs_plain s.plain_lines s.lengths 0 1 i (head ∷ []) tail end s.are_plain phases in
-    let heading_step : step (Announced i s.lengths) s.heading_line ≡ Some (Listed i s.lengths 0 1 (head ∷ [])) = rw (heading_same head s.is_heading) refl in
-    let headed : Runs (Announced i s.lengths) (s.heading_line ∷ (s.plain_lines ++ tail)) end =
-    runs_first (Announced i s.lengths) (Listed i s.lengths 0 1 (head ∷ [])) s.heading_line (s.plain_lines ++ tail) end heading_step plain in
-    let listing : Runs (Filled i s.lengths) (s.listing_line ∷ s.heading_line ∷ (s.plain_lines ++ tail)) end =
-    runs_first (Filled i s.lengths) (Announced i s.lengths) s.listing_line (s.heading_line ∷ (s.plain_lines ++ tail)) end
-    (card_step (Filled i s.lengths) (Announced i s.lengths) s.listing_line (Listing (length s.lengths + 1)) refl s.listing_card (rw (same_is (length s.lengths + 1)) refl)) headed in
-    let text : Runs (Loaded s.name s.base (length s.bytes)) (s.text_line ∷ s.listing_line ∷ s.heading_line ∷ (s.plain_lines ++ tail)) end =
-    runs_first (Loaded s.name s.base (length s.bytes)) (Filled i s.lengths) s.text_line (s.listing_line ∷ s.heading_line ∷ (s.plain_lines ++ tail)) end
-    (card_step (Loaded s.name s.base (length s.bytes)) (Filled i s.lengths) s.text_line (Text s.bytes) refl s.text_card (rw (same_is (length s.bytes), s.are_lengths) refl)) listing in
-    let loaded : Runs Covered (s.module_line ∷ s.text_line ∷ s.listing_line ∷ s.heading_line ∷ (s.plain_lines ++ tail)) end =
-    runs_first Covered (Loaded s.name s.base (length s.bytes)) s.module_line (s.text_line ∷ s.listing_line ∷ s.heading_line ∷ (s.plain_lines ++ tail)) end
+    let tail : List LineView = s.phase_line ∷ s.session_line ∷ s.task_line ∷ (s.reg_lines ++ s.end_line ∷ []) in
+    let phases : Runs (Listed i 0 texts) tail end =
+    runs_first (Listed i 0 texts) (Phased i texts s.phase) s.phase_line (s.session_line ∷ s.task_line ∷ (s.reg_lines ++ s.end_line ∷ [])) end
+    (card_step (Listed i 0 texts) (Phased i texts s.phase) s.phase_line (Phase s.phase) refl s.phase_card refl) sessions in
+    let listed : Runs (Listed i (length s.listing_lines) []) (s.listing_lines ++ tail) end = runs_lines s.listing_lines i [] tail end s.are_short phases in
+    let listing : Runs (Filled i) (s.listing_line ∷ (s.listing_lines ++ tail)) end =
+    runs_first (Filled i) (Listed i (length s.listing_lines) []) s.listing_line (s.listing_lines ++ tail) end
+    (card_step (Filled i) (Listed i (length s.listing_lines) []) s.listing_line (Listing (length s.listing_lines)) refl s.listing_card refl) listed in
+    let text : Runs (Loaded s.name s.base (length s.bytes)) (s.text_line ∷ s.listing_line ∷ (s.listing_lines ++ tail)) end =
+    runs_first (Loaded s.name s.base (length s.bytes)) (Filled i) s.text_line (s.listing_line ∷ (s.listing_lines ++ tail)) end
+    (card_step (Loaded s.name s.base (length s.bytes)) (Filled i) s.text_line (Text s.bytes) refl s.text_card (rw (same_is (length s.bytes)) refl)) listing in
+    let loaded : Runs Covered (s.module_line ∷ s.text_line ∷ s.listing_line ∷ (s.listing_lines ++ tail)) end =
+    runs_first Covered (Loaded s.name s.base (length s.bytes)) s.module_line (s.text_line ∷ s.listing_line ∷ (s.listing_lines ++ tail)) end
     (card_step Covered (Loaded s.name s.base (length s.bytes)) s.module_line (Module s.name s.base (length s.bytes)) refl s.module_card (rw (small_is (length s.bytes) s.small) refl)) text in
-    rw s.whole (runs_first Start Covered s.cover_line (s.module_line ∷ s.text_line ∷ s.listing_line ∷ s.heading_line ∷ (s.plain_lines ++ tail)) end
+    rw s.whole (runs_first Start Covered s.cover_line (s.module_line ∷ s.text_line ∷ s.listing_line ∷ (s.listing_lines ++ tail)) end
     (card_step Start Covered s.cover_line Cover refl s.cover_card refl) loaded)
 
 -- so does each job that they spell
 pub spelled_end : (lines : List LineView) (job : JobView) (st : State) → SpellsFirst lines job → run Start lines ≡ Some st → job_at st ≡ Some job
 spelled_end lines job st s e =
     let r = run_spelled lines job s in
-    let same : Done (record { name = s.name; base = s.base; bytes = s.bytes }) (listing_text s.heading_line ∷ map listing_text s.plain_lines) s.phase s.session (task_view s.task s.entry s.private s.budget s.room) ≡ st = some_same _ st (sym r.runs ∙ e) in
+    let same : spelled_state lines job s ≡ st = some_same _ st (sym r.runs ∙ e) in
     ap job_at (sym same) ∙ ap (λ (x : JobView). Some x) (sym s.is_job)
 
 -- each list of lines spells at most one job

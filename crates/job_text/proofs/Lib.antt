@@ -1,6 +1,5 @@
 pub mod CardFacts
 pub mod Complete
-pub mod Cutting
 pub mod Ends
 pub mod Firsts
 pub mod Guards
@@ -9,8 +8,8 @@ pub mod Joined
 pub mod Kept
 pub mod Laws
 pub mod LineLemmas
+pub mod Listings
 pub mod Numbers
-pub mod Progresses
 pub mod Reading
 pub mod Sound
 pub mod WordLemmas

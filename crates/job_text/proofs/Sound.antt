@@ -1,17 +1,17 @@
 -- Lines that run to the end spell the job that was read.
-use Rattle.std.proofs.Common.{◌≡◌, ℕ, ◌+◌, ◌≤◌, true, ◌&&◌, nat_eq, nat_le, Some, List, [], ◌∷◌, ◌++◌, length, map, refl, ap, subst, sym, arith, append_assoc, append-nil}
+use Rattle.std.proofs.Common.{◌≡◌, ℕ, ◌+◌, ◌≤◌, zero, suc, Bool, true, ◌&&◌, nat_eq, nat_le, Some, List, [], ◌∷◌, ◌++◌, length, map, refl, ap, subst, sym, arith, append_assoc, append-nil}
 use Rattle.std.proofs.lemmas.Bool.Decides.{nat_tests}
 use Rattle.std.specs.Str.{bytes_eq}
 use Rattle.std.proofs.lemmas.Slice.Eq.{bytes_eq-Decides}
 use Rattle.cov_base.specs.Memory.{ImageView}
-use Rattle.session_book.specs.JobView.{JobView, TaskView}
+use Rattle.std.specs.List.{list_all}
+use Rattle.session_book.specs.JobView.{JobView, TaskView, first_regs}
 use Rattle.job_text.specs.Lines.{LineView, listing_text}
-use Rattle.job_text.specs.CardView.{CardView, Cover, Module, Text, Listing, Phase, Session, Task, End}
+use Rattle.job_text.specs.CardView.{CardView, Cover, Module, Text, Listing, Phase, Session, Task, Reg, End}
 use Rattle.job_text.specs.Cards.{card_at}
-use Rattle.job_text.specs.PlainLines.{heading, is_plain}
-use Rattle.job_text.specs.First.{IsCard, lengths_of, ArePlain, task_view, first_job, SpellsFirst}
-use Rattle.job_text.specs.Machine.{State, Start, Covered, Loaded, Filled, Announced, Listed, Phased, Observed, Tasked, Done, after_start, after_cover, filled, after_module, after_text, take_heading, take_plain, after_listing, is_only, after_phase, is_within, after_session, after_task, take_card, step, run, job_at}
-use Rattle.job_text.proofs.Guards.{some_same, guard_some, guard_more, both, map_some, then_some}
+use Rattle.job_text.specs.First.{IsCard, is_short, RegView, AreRegs, set_regs, task_view, first_job, SpellsFirst}
+use Rattle.job_text.specs.Machine.{State, Start, Covered, Loaded, Filled, Listed, Phased, Observed, Tasked, Done, after_start, after_cover, after_module, after_text, take_line, after_listing, is_only, after_phase, is_within, after_session, with_reg, after_task, take_card, step, run, job_at}
+use Rattle.job_text.proofs.Guards.{some_same, guard_some, both, then_some}
 
 bytes_eq-same : (xs ys : List ℕ) → bytes_eq xs ys ≡ true → xs ≡ ys
 bytes_eq-same xs ys e = (bytes_eq-Decides xs ys).0 e
@@ -33,6 +33,17 @@ pub record AtEnd (i : ImageView) (ts : List (List ℕ)) (p s : List ℕ) (t : Ta
   pub card : IsCard line End
   pub is : d ≡ first_job i.name i.base i.bytes ts p s t
 
+abbrev pub with_regs : TaskView → List RegView → TaskView
+with_regs t rs = record t { regs = set_regs t.regs rs }
+
+pub record AtRegs (i : ImageView) (ts : List (List ℕ)) (p s : List ℕ) (t : TaskView) (least : ℕ) (ls : List LineView) (d : JobView) : Type 0 where
+  pub lines : List LineView
+  pub regs : List RegView
+  pub rest : List LineView
+  pub whole : ls ≡ lines ++ rest
+  pub are : AreRegs least regs lines
+  pub then : AtEnd i ts p s (with_regs t regs) rest d
+
 pub record AtTask (i : ImageView) (ts : List (List ℕ)) (p s : List ℕ) (ls : List LineView) (d : JobView) : Type 0 where
   pub line : LineView
   pub rest : List LineView
@@ -44,7 +55,7 @@ pub record AtTask (i : ImageView) (ts : List (List ℕ)) (p s : List ℕ) (ls : 
   pub room : ℕ
   pub card : IsCard line (Task name entry private budget room)
   pub within : is_within private budget room ≡ true
-  pub then : AtEnd i ts p s (task_view name entry private budget room) rest d
+  pub then : AtRegs i ts p s (task_view name entry private budget room (first_regs entry)) 0 rest d
 
 pub record AtSession (i : ImageView) (ts : List (List ℕ)) (p : List ℕ) (ls : List LineView) (d : JobView) : Type 0 where
   pub line : LineView
@@ -62,37 +73,30 @@ pub record AtPhase (i : ImageView) (ts : List (List ℕ)) (ls : List LineView) (
   pub card : IsCard line (Phase phase)
   pub then : AtSession i ts phase rest d
 
-pub record AtPlain (i : ImageView) (ns : List ℕ) (at number : ℕ) (ts : List (List ℕ)) (ls : List LineView) (d : JobView) : Type 0 where
-  pub plain : List LineView
+pub record AtLines (i : ImageView) (left : ℕ) (ts : List (List ℕ)) (ls : List LineView) (d : JobView) : Type 0 where
+  pub lines : List LineView
   pub rest : List LineView
-  pub whole : ls ≡ plain ++ rest
-  pub are : ArePlain at number ns plain
-  pub then : AtPhase i (ts ++ map listing_text plain) rest d
+  pub whole : ls ≡ lines ++ rest
+  pub count : length lines ≡ left
+  pub short : list_all is_short lines ≡ true
+  pub then : AtPhase i (ts ++ map listing_text lines) rest d
 
-pub record AtHeading (i : ImageView) (ns : List ℕ) (ls : List LineView) (d : JobView) : Type 0 where
+pub record AtListing (i : ImageView) (ls : List LineView) (d : JobView) : Type 0 where
   pub line : LineView
   pub rest : List LineView
   pub whole : ls ≡ line ∷ rest
-  pub is : listing_text line ≡ heading
-  pub then : AtPlain i ns 0 1 (listing_text line ∷ []) rest d
-
-pub record AtListing (i : ImageView) (ns : List ℕ) (ls : List LineView) (d : JobView) : Type 0 where
-  pub line : LineView
-  pub rest : List LineView
-  pub whole : ls ≡ line ∷ rest
-  pub card : IsCard line (Listing (length ns + 1))
-  pub then : AtHeading i ns rest d
+  pub count : ℕ
+  pub card : IsCard line (Listing count)
+  pub then : AtLines i count [] rest d
 
 pub record AtText (n : List ℕ) (b size : ℕ) (ls : List LineView) (d : JobView) : Type 0 where
   pub line : LineView
   pub rest : List LineView
   pub whole : ls ≡ line ∷ rest
   pub bytes : List ℕ
-  pub lengths : List ℕ
   pub sized : length bytes ≡ size
   pub card : IsCard line (Text bytes)
-  pub are : lengths_of bytes ≡ Some lengths
-  pub then : AtListing (record { name = n; base = b; bytes = bytes }) lengths rest d
+  pub then : AtListing (record { name = n; base = b; bytes = bytes }) rest d
 
 pub record AtModule (ls : List LineView) (d : JobView) : Type 0 where
   pub line : LineView
@@ -116,12 +120,11 @@ abbrev pub Rest : State → List LineView → JobView → Type 0
 Rest Start ls d = AtCover ls d
 Rest Covered ls d = AtModule ls d
 Rest (Loaded n b size) ls d = AtText n b size ls d
-Rest (Filled i ns) ls d = AtListing i ns ls d
-Rest (Announced i ns) ls d = AtHeading i ns ls d
-Rest (Listed i ns at number ts) ls d = AtPlain i ns at number ts ls d
+Rest (Filled i) ls d = AtListing i ls d
+Rest (Listed i left ts) ls d = AtLines i left ts ls d
 Rest (Phased i ts p) ls d = AtSession i ts p ls d
 Rest (Observed i ts p s) ls d = AtTask i ts p s ls d
-Rest (Tasked i ts p s t) ls d = AtEnd i ts p s t ls d
+Rest (Tasked i ts p s t least) ls d = AtRegs i ts p s t least ls d
 Rest (Done i ts p s t) ls d = (ls ≡ []) × (d ≡ first_job i.name i.base i.bytes ts p s t)
 
 abbrev was : (ls : List LineView) (d : JobView) (x s : State) → x ≡ s → Rest s ls d → Rest x ls d
@@ -140,57 +143,44 @@ cover_back c l ls d s card e r = absurd cc
 
 module_back : (c : CardView) (n : List ℕ) (b size : ℕ) (l : LineView) (ls : List LineView) (d : JobView) (s : State) → IsCard l c → after_module n b size c ≡ Some s → Rest s ls d → AtText n b size (l ∷ ls) d
 module_back (Text bytes) n b size l ls d s card e r =
-    let g = guard_more (nat_eq (length bytes) size) (filled n b bytes) s e in
+    let next : State = Filled (record { name = n; base = b; bytes = bytes }) in
+    let g = guard_some (nat_eq (length bytes) size) next s e in
     let sized : length bytes ≡ size = grind (arith, nat_tests, g.0) in
-    let m = map_some (Filled (record { name = n; base = b; bytes = bytes })) (lengths_of bytes) s g.1 in
-    record {
-      line = l;
-      rest = ls;
-      whole = refl;
-      bytes = bytes;
-      lengths = m.from;
-      sized = sized;
-      card = card;
-      are = m.was;
-      then = was ls d (Filled (record { name = n; base = b; bytes = bytes }) m.from) s m.gives r;
-    }
+    record { line = l; rest = ls; whole = refl; bytes = bytes; sized = sized; card = card; then = was ls d next s g.1 r }
 module_back c n b size l ls d s card e r = absurd cc
 
-text_back : (c : CardView) (i : ImageView) (ns : List ℕ) (l : LineView) (ls : List LineView) (d : JobView) (s : State) → IsCard l c → after_text i ns c ≡ Some s → Rest s ls d → AtListing i ns (l ∷ ls) d
-text_back (Listing n) i ns l ls d s card e r =
-    let g = guard_some (nat_eq n (length ns + 1)) (Announced i ns) s e in
-    let count : length ns + 1 ≡ n = grind (arith, nat_tests, g.0) in
-    record { line = l; rest = ls; whole = refl; card = rw count card; then = was ls d (Announced i ns) s g.1 r }
-text_back c i ns l ls d s card e r = absurd cc
+text_back : (c : CardView) (i : ImageView) (l : LineView) (ls : List LineView) (d : JobView) (s : State) → IsCard l c → after_text i c ≡ Some s → Rest s ls d → AtListing i (l ∷ ls) d
+text_back (Listing n) i l ls d s card e r = record { line = l; rest = ls; whole = refl; count = n; card = card; then = was ls d (Listed i n []) s (some_same _ _ e) r }
+text_back c i l ls d s card e r = absurd cc
 
-heading_back : (i : ImageView) (ns : List ℕ) (l : LineView) (ls : List LineView) (d : JobView) (s : State) → take_heading i ns (listing_text l) ≡ Some s → Rest s ls d → AtHeading i ns (l ∷ ls) d
-heading_back i ns l ls d s e r =
-    let g = guard_some (bytes_eq (listing_text l) heading) (Listed i ns 0 1 (listing_text l ∷ [])) s e in
-    record { line = l; rest = ls; whole = refl; is = bytes_eq-same (listing_text l) heading g.0; then = was ls d (Listed i ns 0 1 (listing_text l ∷ [])) s g.1 r }
+both_true : (a b : Bool) → a ≡ true → b ≡ true → (a && b) ≡ true
+both_true a b p q = rw (p, q) refl
 
-plain_back : (i : ImageView) (n : ℕ) (ns : List ℕ) (at number : ℕ) (ts : List (List ℕ)) (l : LineView) (ls : List LineView) (d : JobView) (s : State) →
-    take_plain i n ns at number ts (listing_text l) ≡ Some s → Rest s ls d → AtPlain i (n ∷ ns) at number ts (l ∷ ls) d
-plain_back i n ns at number ts l ls d s e r =
-    let next : State = Listed i ns (at + n) (number + 1) (ts ++ listing_text l ∷ []) in
-    let g = guard_some (is_plain at number n (listing_text l)) next s e in
-    let a : AtPlain i ns (at + n) (number + 1) (ts ++ listing_text l ∷ []) ls d = was ls d next s g.1 r in
+line_back : (i : ImageView) (left : ℕ) (ts : List (List ℕ)) (l : LineView) (ls : List LineView) (d : JobView) (s : State) →
+    take_line i left ts (listing_text l) ≡ Some s → Rest s ls d → AtLines i (suc left) ts (l ∷ ls) d
+line_back i left ts l ls d s e r =
+    let next : State = Listed i left (ts ++ listing_text l ∷ []) in
+    let g = guard_some (is_short l) next s e in
+    let a : AtLines i left (ts ++ listing_text l ∷ []) ls d = was ls d next s g.1 r in
     record {
-      plain = l ∷ a.plain;
+      lines = l ∷ a.lines;
       rest = a.rest;
       whole = ap (λ (x : List LineView). l ∷ x) a.whole;
-      are = (g.0, a.are);
-      then = rw (← append_assoc ts (listing_text l ∷ []) (map listing_text a.plain)) a.then;
+      count = ap (λ (x : ℕ). suc x) a.count;
+      short = both_true (is_short l) (list_all is_short a.lines) g.0 a.short;
+      then = rw (← append_assoc ts (listing_text l ∷ []) (map listing_text a.lines)) a.then;
     }
 
-listing_back : (c : CardView) (i : ImageView) (at number : ℕ) (ts : List (List ℕ)) (l : LineView) (ls : List LineView) (d : JobView) (s : State) → IsCard l c → after_listing i ts c ≡ Some s → Rest s ls d → AtPlain i [] at number ts (l ∷ ls) d
-listing_back (Phase p) i at number ts l ls d s card e r = record {
-  plain = [];
+listing_back : (c : CardView) (i : ImageView) (ts : List (List ℕ)) (l : LineView) (ls : List LineView) (d : JobView) (s : State) → IsCard l c → after_listing i ts c ≡ Some s → Rest s ls d → AtLines i 0 ts (l ∷ ls) d
+listing_back (Phase p) i ts l ls d s card e r = record {
+  lines = [];
   rest = l ∷ ls;
   whole = refl;
-  are = tt;
+  count = refl;
+  short = refl;
   then = rw (append-nil {A = List ℕ}) (record { line = l; rest = ls; whole = refl; phase = p; card = card; then = was ls d (Phased i ts p) s (some_same _ _ e) r });
 }
-listing_back c i at number ts l ls d s card e r = absurd cc
+listing_back c i ts l ls d s card e r = absurd cc
 
 only_back : (name : List ℕ) (names : List (List ℕ)) → is_only name names ≡ true → names ≡ name ∷ []
 only_back name (n ∷ []) e = let same : n ≡ name = bytes_eq-same n name e in rw same refl
@@ -205,7 +195,8 @@ phase_back c i ts p l ls d s card e r = absurd cc
 
 session_back : (c : CardView) (i : ImageView) (ts : List (List ℕ)) (p n : List ℕ) (l : LineView) (ls : List LineView) (d : JobView) (s : State) → IsCard l c → after_session i ts p n c ≡ Some s → Rest s ls d → AtTask i ts p n (l ∷ ls) d
 session_back (Task t e p b r) i ts ph n l ls d s card eq rest =
-    let g = guard_some (is_within p b r) (Tasked i ts ph n (task_view t e p b r)) s eq in
+    let next : State = Tasked i ts ph n (task_view t e p b r (first_regs e)) 0 in
+    let g = guard_some (is_within p b r) next s eq in
     record {
       line = l;
       rest = ls;
@@ -217,27 +208,46 @@ session_back (Task t e p b r) i ts ph n l ls d s card eq rest =
       room = r;
       card = card;
       within = g.0;
-      then = was ls d (Tasked i ts ph n (task_view t e p b r)) s g.1 rest;
+      then = was ls d next s g.1 rest;
     }
 session_back c i ts p n l ls d s card e r = absurd cc
 
-task_back : (c : CardView) (i : ImageView) (ts : List (List ℕ)) (p n : List ℕ) (t : TaskView) (l : LineView) (ls : List LineView) (d : JobView) (s : State) → IsCard l c → after_task i ts p n t c ≡ Some s → Rest s ls d → AtEnd i ts p n t (l ∷ ls) d
-task_back End i ts p n t l ls d s card e r =
+task_back : (c : CardView) (i : ImageView) (ts : List (List ℕ)) (p n : List ℕ) (t : TaskView) (least : ℕ) (l : LineView) (ls : List LineView) (d : JobView) (s : State) → IsCard l c → after_task i ts p n t least c ≡ Some s → Rest s ls d → AtRegs i ts p n t least (l ∷ ls) d
+task_back (Reg k v) i ts p n t least l ls d s card e r =
+    let next : State = Tasked i ts p n (with_reg t k v) (k + 1) in
+    let g = guard_some (nat_le least k) next s e in
+    let from : least ≤ k = grind (arith, nat_tests, g.0) in
+    let a : AtRegs i ts p n (with_reg t k v) (k + 1) ls d = was ls d next s g.1 r in
+    record {
+      lines = l ∷ a.lines;
+      regs = record { number = k; value = v } ∷ a.regs;
+      rest = a.rest;
+      whole = ap (λ (x : List LineView). l ∷ x) a.whole;
+      are = ((card, from), a.are);
+      then = a.then;
+    }
+task_back End i ts p n t least l ls d s card e r =
     let done : (ls ≡ []) × (d ≡ first_job i.name i.base i.bytes ts p n t) = was ls d (Done i ts p n t) s (some_same _ _ e) r in
-    record { line = l; whole = ap (λ (x : List LineView). l ∷ x) done.0; card = card; is = done.1 }
-task_back c i ts p n t l ls d s card e r = absurd cc
+    record {
+      lines = [];
+      regs = [];
+      rest = l ∷ ls;
+      whole = refl;
+      are = tt;
+      then = record { line = l; whole = ap (λ (x : List LineView). l ∷ x) done.0; card = card; is = done.1 };
+    }
+task_back c i ts p n t least l ls d s card e r = absurd cc
 
 step_back : (st s : State) (l : LineView) (ls : List LineView) (d : JobView) → step st l ≡ Some s → Rest s ls d → Rest st (l ∷ ls) d
 step_back Start s l ls d e r = let t = then_some after_start (card_at l.bytes) s e in start_back t.from l ls d s t.was t.gives r
 step_back Covered s l ls d e r = let t = then_some after_cover (card_at l.bytes) s e in cover_back t.from l ls d s t.was t.gives r
 step_back (Loaded n b size) s l ls d e r = let t = then_some (after_module n b size) (card_at l.bytes) s e in module_back t.from n b size l ls d s t.was t.gives r
-step_back (Filled i ns) s l ls d e r = let t = then_some (after_text i ns) (card_at l.bytes) s e in text_back t.from i ns l ls d s t.was t.gives r
-step_back (Announced i ns) s l ls d e r = heading_back i ns l ls d s e r
-step_back (Listed i [] at number ts) s l ls d e r = let t = then_some (after_listing i ts) (card_at l.bytes) s e in listing_back t.from i at number ts l ls d s t.was t.gives r
-step_back (Listed i (n ∷ ns) at number ts) s l ls d e r = plain_back i n ns at number ts l ls d s e r
+step_back (Filled i) s l ls d e r = let t = then_some (after_text i) (card_at l.bytes) s e in text_back t.from i l ls d s t.was t.gives r
+step_back (Listed i zero ts) s l ls d e r = let t = then_some (after_listing i ts) (card_at l.bytes) s e in listing_back t.from i ts l ls d s t.was t.gives r
+step_back (Listed i (suc left) ts) s l ls d e r = line_back i left ts l ls d s e r
 step_back (Phased i ts p) s l ls d e r = let t = then_some (after_phase i ts p) (card_at l.bytes) s e in phase_back t.from i ts p l ls d s t.was t.gives r
 step_back (Observed i ts p n) s l ls d e r = let t = then_some (after_session i ts p n) (card_at l.bytes) s e in session_back t.from i ts p n l ls d s t.was t.gives r
-step_back (Tasked i ts p n k) s l ls d e r = let t = then_some (after_task i ts p n k) (card_at l.bytes) s e in task_back t.from i ts p n k l ls d s t.was t.gives r
+step_back (Tasked i ts p n k least) s l ls d e r = let t = then_some (after_task i ts p n k least) (card_at l.bytes) s e in task_back t.from i ts p n k least l ls d s t.was t.gives r
 step_back (Done i ts p n k) s l ls d e r = let t = then_some (take_card (Done i ts p n k)) (card_at l.bytes) s e in absurd (done_stuck t.from i ts p n k s t.gives)
 
 done_rest : (e : State) (d : JobView) → job_at e ≡ Some d → Rest e [] d
@@ -255,30 +265,30 @@ spells_of lines d a =
     let m : AtModule a.rest d = a.then in
     let t : AtText m.name m.base m.size m.rest d = m.then in
     let i : ImageView = record { name = m.name; base = m.base; bytes = t.bytes } in
-    let g : AtListing i t.lengths t.rest d = t.then in
-    let h : AtHeading i t.lengths g.rest d = g.then in
-    let x : AtPlain i t.lengths 0 1 (listing_text h.line ∷ []) h.rest d = h.then in
-    let p : AtPhase i (listing_text h.line ∷ map listing_text x.plain) x.rest d = x.then in
-    let s : AtSession i (listing_text h.line ∷ map listing_text x.plain) p.phase p.rest d = p.then in
-    let k : AtTask i (listing_text h.line ∷ map listing_text x.plain) p.phase s.session s.rest d = s.then in
-    let z : AtEnd i (listing_text h.line ∷ map listing_text x.plain) p.phase s.session (task_view k.name k.entry k.private k.budget k.room) k.rest d = k.then in
+    let g : AtListing i t.rest d = t.then in
+    let x : AtLines i g.count [] g.rest d = g.then in
+    let texts : List (List ℕ) = map listing_text x.lines in
+    let p : AtPhase i texts x.rest d = x.then in
+    let s : AtSession i texts p.phase p.rest d = p.then in
+    let k : AtTask i texts p.phase s.session s.rest d = s.then in
+    let r : AtRegs i texts p.phase s.session (task_view k.name k.entry k.private k.budget k.room (first_regs k.entry)) 0 k.rest d = k.then in
+    let z : AtEnd i texts p.phase s.session (task_view k.name k.entry k.private k.budget k.room (set_regs (first_regs k.entry) r.regs)) r.rest d = r.then in
     let w = limits k.private k.budget k.room k.within in
     record {
       cover_line = a.line;
       module_line = m.line;
       text_line = t.line;
       listing_line = g.line;
-      heading_line = h.line;
-      plain_lines = x.plain;
+      listing_lines = x.lines;
       phase_line = p.line;
       session_line = s.line;
       task_line = k.line;
+      reg_lines = r.lines;
       end_line = z.line;
-      whole = rw (a.whole, m.whole, t.whole, g.whole, h.whole, x.whole, p.whole, s.whole, k.whole, z.whole) refl;
+      whole = rw (a.whole, m.whole, t.whole, g.whole, x.whole, p.whole, s.whole, k.whole, r.whole, z.whole) refl;
       name = m.name;
       base = m.base;
       bytes = t.bytes;
-      lengths = t.lengths;
       phase = p.phase;
       session = s.session;
       task = k.name;
@@ -286,20 +296,20 @@ spells_of lines d a =
       private = k.private;
       budget = k.budget;
       room = k.room;
+      regs = r.regs;
       cover_card = a.card;
       module_card = rw t.sized m.card;
       small = rw t.sized m.small;
       text_card = t.card;
-      are_lengths = t.are;
-      listing_card = g.card;
-      is_heading = h.is;
-      are_plain = x.are;
+      listing_card = rw x.count g.card;
+      are_short = x.short;
       phase_card = p.card;
       session_card = s.card;
       task_card = k.card;
       most_private = w.0.0;
       most_budget = w.0.1;
       most_room = w.1;
+      are_regs = r.are;
       end_card = z.card;
       is_job = z.is;
     }

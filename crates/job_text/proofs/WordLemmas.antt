@@ -2,8 +2,6 @@
 use Rattle.std.proofs.Common.{◌≡◌, ℕ, ◌+◌, ◌<◌, ◌≤◌, Bool, true, false, not, cond, nat_eq, nat_lt, Some, None, List, [], ◌∷◌, length, take, drop, arith, suc, zero, refl, map, ◌++◌, ◌-◌, append_assoc, sym}
 use Rattle.std.proofs.lemmas.List.{map-append}
 use Rattle.std.proofs.Math.Seq.{take-length}
-use Rattle.std.specs.Prelude.{codes}
-use Rattle.std.specs.Str.{bytes_eq}
 use Rattle.std.proofs.lemmas.Bool.Decides.{nat_tests}
 use Rattle.std.specs.List.{position, position_or_len}
 use Rattle.job_text.specs.Words.{words, names_on}
@@ -80,10 +78,10 @@ pub names_none : (ws : List (List ℕ)) → names_on None ws ≡ None
 names_none [] = refl
 names_none (w ∷ ws) = refl
 
-pub long_card-none : (key a : List ℕ) (ws : List (List ℕ)) (n : ℕ) → length ws ≡ n → (n ≡ 2 → bytes_eq key (codes "MODULE") ≡ false) → (n ≡ 4 → bytes_eq key (codes "TASK") ≡ false) → long_card key a ws ≡ None
-long_card-none key a [] n l m t = refl
-long_card-none key a (b ∷ []) n l m t = refl
-long_card-none key a (b ∷ c ∷ []) n l m t = rw (m (sym l)) refl
-long_card-none key a (b ∷ c ∷ d ∷ []) n l m t = refl
-long_card-none key a (b ∷ c ∷ d ∷ e ∷ []) n l m t = rw (t (sym l)) refl
-long_card-none key a (b ∷ c ∷ d ∷ e ∷ f ∷ ws) n l m t = refl
+pub long_card-none : (key a : List ℕ) (ws : List (List ℕ)) (n : ℕ) → length ws ≡ n → (n ≡ 1 → ⊥) → (n ≡ 2 → ⊥) → (n ≡ 4 → ⊥) → long_card key a ws ≡ None
+long_card-none key a [] n l o m t = refl
+long_card-none key a (b ∷ []) n l o m t = absurd (o (sym l))
+long_card-none key a (b ∷ c ∷ []) n l o m t = absurd (m (sym l))
+long_card-none key a (b ∷ c ∷ d ∷ []) n l o m t = refl
+long_card-none key a (b ∷ c ∷ d ∷ e ∷ []) n l o m t = absurd (t (sym l))
+long_card-none key a (b ∷ c ∷ d ∷ e ∷ f ∷ ws) n l o m t = refl

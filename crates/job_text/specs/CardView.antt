@@ -13,4 +13,6 @@ pub data CardView : Type 0 where
   Session : List ℕ → List (List ℕ) → CardView
   -- name, entry, private storage, budget and room
   Task : List ℕ → ℕ → ℕ → ℕ → ℕ → CardView
+  -- number and value
+  Reg : ℕ → ℕ → CardView
   End : CardView

@@ -2,8 +2,8 @@
 use Rattle.std.specs.Prelude.{ℕ, ◌+◌, ◌%◌, ◌&&◌, Bool, nat_eq, nat_le, if◌then◌else◌, Option, Some, None, List, [], ◌∷◌, codes, option_map}
 use Rattle.std.specs.Str.{bytes_eq}
 use Rattle.cov_base.specs.Names.{name_at}
-use Rattle.job_text.specs.CardView.{CardView, Cover, Module, Text, Listing, Phase, Session, Task, End}
-use Rattle.job_text.specs.Words.{words, number_at, bytes_at, address_at, names_at}
+use Rattle.job_text.specs.CardView.{CardView, Cover, Module, Text, Listing, Phase, Session, Task, Reg, End}
+use Rattle.job_text.specs.Words.{words, number_at, bytes_at, address_at, word_at, names_at}
 
 -- where a module may stand: on a doubleword from X'100000' on, of an even size, below X'FFF000'
 abbrev pub may_stand : ℕ → ℕ → Bool
@@ -21,6 +21,11 @@ abbrev pub task_of : Option (List ℕ) → Option ℕ → Option ℕ → Option 
 task_of (Some n) (Some e) (Some p) (Some b) (Some r) = if nat_le 1 b then Some (Task n e p b r) else None
 task_of n e p b r = None
 
+-- a register of the sixteen
+abbrev pub reg_of : Option ℕ → Option ℕ → Option CardView
+reg_of (Some n) (Some v) = if nat_le n 15 then Some (Reg n v) else None
+reg_of n v = None
+
 -- the card of a key and one word
 abbrev pub short_card : List ℕ → List ℕ → Option CardView
 short_card key a =
@@ -30,10 +35,20 @@ short_card key a =
     else (if bytes_eq key (codes "COVERJOB") && bytes_eq a (codes "1") then Some Cover
     else None)))
 
+abbrev pub reg_card : List ℕ → List ℕ → List ℕ → Option CardView
+reg_card key a b = if bytes_eq key (codes "REG") then reg_of (number_at a) (word_at b) else None
+
+abbrev pub module_card : List ℕ → List ℕ → List ℕ → List ℕ → Option CardView
+module_card key a b c = if bytes_eq key (codes "MODULE") then module_of (name_at a) (address_at b) (number_at c) else None
+
+abbrev pub task_card : List ℕ → List ℕ → List ℕ → List ℕ → List ℕ → List ℕ → Option CardView
+task_card key a b c d e = if bytes_eq key (codes "TASK") then task_of (name_at a) (address_at b) (number_at c) (number_at d) (number_at e) else None
+
 -- the card of a key and two or more words that is no SESSION
 abbrev pub long_card : List ℕ → List ℕ → List (List ℕ) → Option CardView
-long_card key a (b ∷ c ∷ []) = if bytes_eq key (codes "MODULE") then module_of (name_at a) (address_at b) (number_at c) else None
-long_card key a (b ∷ c ∷ d ∷ e ∷ []) = if bytes_eq key (codes "TASK") then task_of (name_at a) (address_at b) (number_at c) (number_at d) (number_at e) else None
+long_card key a (b ∷ []) = reg_card key a b
+long_card key a (b ∷ c ∷ []) = module_card key a b c
+long_card key a (b ∷ c ∷ d ∷ e ∷ []) = task_card key a b c d e
 long_card key a more = None
 
 -- the card that these words make

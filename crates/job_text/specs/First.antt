@@ -1,43 +1,43 @@
 -- Which lines spell a job of the first form: one module with its listing, one phase, one session, one task.
-use Rattle.std.specs.Prelude.{◌≡◌, ◌⊎◌, ℕ, ◌+◌, ◌-◌, ◌*◌, ◌/◌, ◌≤◌, zero, suc, true, Option, Some, None, List, [], ◌∷◌, ◌++◌, length, map, take}
-use Rattle.cov_base.specs.Codes.{length_of}
+use Rattle.std.specs.Prelude.{◌≡◌, ◌⊎◌, ℕ, ◌+◌, ◌-◌, ◌≤◌, true, Bool, nat_le, Some, None, List, [], ◌∷◌, ◌++◌, length, map, take, slice_set}
+use Rattle.std.specs.List.{list_all}
 use Rattle.session_book.specs.JobView.{JobView, TaskView, first_regs}
 use Rattle.job_text.specs.Lines.{LineView, listing_text}
-use Rattle.job_text.specs.CardView.{CardView, Cover, Module, Text, Listing, Phase, Session, Task, End}
+use Rattle.job_text.specs.CardView.{CardView, Cover, Module, Text, Listing, Phase, Session, Task, Reg, End}
 use Rattle.job_text.specs.Cards.{card_at}
-use Rattle.job_text.specs.PlainLines.{heading, is_plain}
 
 abbrev pub IsCard : LineView → CardView → Type 0
 IsCard line card = card_at line.bytes ≡ Some card
 
--- The lengths of the instructions that the bytes are, one after the other, behind those that were cut off; so many
--- halfwords of the last of these are still to come. None where the bytes end inside an instruction.
-abbrev pub lengths_on : List ℕ → ℕ → List ℕ → Option (List ℕ)
-lengths_on cut zero [] = Some cut
-lengths_on cut (suc k) [] = None
-lengths_on cut rest (a ∷ []) = None
-lengths_on cut (suc k) (a ∷ b ∷ bs) = lengths_on cut k bs
-lengths_on cut zero (a ∷ b ∷ bs) = lengths_on (cut ++ length_of (a * 256 + b) ∷ []) (length_of (a * 256 + b) / 2 - 1) bs
+-- a listing line has at most 150 bytes
+abbrev pub is_short : LineView → Bool
+is_short l = nat_le (length (listing_text l)) 150
 
-abbrev pub lengths_of : List ℕ → Option (List ℕ)
-lengths_of bytes = lengths_on [] 0 bytes
+-- what a REG card says
+pub record RegView : Type 0 where
+  pub number : ℕ
+  pub value : ℕ
 
--- one plain line for each instruction, in order: the first stands at this location, and its statement has this number
-abbrev pub ArePlain : ℕ → ℕ → List ℕ → List LineView → Type 0
-ArePlain at number [] [] = Unit {0}
-ArePlain at number [] (l ∷ ls) = ⊥
-ArePlain at number (n ∷ ns) [] = ⊥
-ArePlain at number (n ∷ ns) (l ∷ ls) = (is_plain at number n (listing_text l) ≡ true) × ArePlain (at + n) (number + 1) ns ls
+-- a REG card for each of these, whose numbers rise from at least this one
+abbrev pub AreRegs : ℕ → List RegView → List LineView → Type 0
+AreRegs least [] [] = Unit {0}
+AreRegs least [] (l ∷ ls) = ⊥
+AreRegs least (r ∷ rs) [] = ⊥
+AreRegs least (r ∷ rs) (l ∷ ls) = (IsCard l (Reg r.number r.value) × (least ≤ r.number)) × AreRegs (r.number + 1) rs ls
 
-abbrev pub task_view : List ℕ → ℕ → ℕ → ℕ → ℕ → TaskView
-task_view name entry private budget room = record {
+abbrev pub set_regs : List ℕ → List RegView → List ℕ
+set_regs regs [] = regs
+set_regs regs (r ∷ rs) = set_regs (slice_set regs r.number r.value) rs
+
+abbrev pub task_view : List ℕ → ℕ → ℕ → ℕ → ℕ → List ℕ → TaskView
+task_view name entry private budget room regs = record {
   name = name;
   phase = 0;
   entry = entry;
   private = private;
   budget = budget;
   room = room;
-  regs = first_regs entry;
+  regs = regs;
   cards = [];
   input = [];
 }
@@ -58,18 +58,17 @@ pub record SpellsFirst (lines : List LineView) (job : JobView) : Type 0 where
   pub module_line : LineView
   pub text_line : LineView
   pub listing_line : LineView
-  pub heading_line : LineView
-  pub plain_lines : List LineView
+  pub listing_lines : List LineView
   pub phase_line : LineView
   pub session_line : LineView
   pub task_line : LineView
+  pub reg_lines : List LineView
   pub end_line : LineView
-  pub whole : lines ≡ cover_line ∷ module_line ∷ text_line ∷ listing_line ∷ heading_line ∷ (plain_lines ++ phase_line ∷ session_line ∷ task_line ∷ end_line ∷ [])
+  pub whole : lines ≡ cover_line ∷ module_line ∷ text_line ∷ listing_line ∷ (listing_lines ++ phase_line ∷ session_line ∷ task_line ∷ (reg_lines ++ end_line ∷ []))
   -- what they say
   pub name : List ℕ
   pub base : ℕ
   pub bytes : List ℕ
-  pub lengths : List ℕ
   pub phase : List ℕ
   pub session : List ℕ
   pub task : List ℕ
@@ -77,22 +76,22 @@ pub record SpellsFirst (lines : List LineView) (job : JobView) : Type 0 where
   pub private : ℕ
   pub budget : ℕ
   pub room : ℕ
+  pub regs : List RegView
   pub cover_card : IsCard cover_line Cover
   pub module_card : IsCard module_line (Module name base (length bytes))
   pub small : length bytes ≤ 64
   pub text_card : IsCard text_line (Text bytes)
-  pub are_lengths : lengths_of bytes ≡ Some lengths
-  pub listing_card : IsCard listing_line (Listing (length lengths + 1))
-  pub is_heading : listing_text heading_line ≡ heading
-  pub are_plain : ArePlain 0 1 lengths plain_lines
+  pub listing_card : IsCard listing_line (Listing (length listing_lines))
+  pub are_short : list_all is_short listing_lines ≡ true
   pub phase_card : IsCard phase_line (Phase phase)
   pub session_card : IsCard session_line (Session session (name ∷ []))
   pub task_card : IsCard task_line (Task task entry private budget room)
   pub most_private : private ≤ 1048576
   pub most_budget : budget ≤ 50000000
   pub most_room : room ≤ 65536
+  pub are_regs : AreRegs 0 regs reg_lines
   pub end_card : IsCard end_line End
-  pub is_job : job ≡ first_job name base bytes (listing_text heading_line ∷ map listing_text plain_lines) phase session (task_view task entry private budget room)
+  pub is_job : job ≡ first_job name base bytes (map listing_text listing_lines) phase session (task_view task entry private budget room (set_regs (first_regs entry) regs))
 
 -- some list of lines with this prefix spells a job of the first form
 pub record Begins (lines : List LineView) : Type 0 where

@@ -4,7 +4,6 @@ pub mod Faults
 pub mod First
 pub mod Lines
 pub mod Machine
-pub mod PlainLines
 pub mod States
 pub mod Views
 pub mod Words

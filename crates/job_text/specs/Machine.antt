@@ -1,13 +1,12 @@
 -- The reader's states, and what a line makes of each.
-use Rattle.std.specs.Prelude.{ℕ, ◌+◌, Bool, true, false, ◌&&◌, nat_eq, nat_le, if◌then◌else◌, Option, Some, None, List, [], ◌∷◌, ◌++◌, length, option_map, option_and_then}
+use Rattle.std.specs.Prelude.{ℕ, ◌+◌, suc, Bool, true, false, ◌&&◌, nat_eq, nat_le, if◌then◌else◌, Option, Some, None, List, [], ◌∷◌, ◌++◌, length, option_and_then, slice_set}
 use Rattle.std.specs.Str.{bytes_eq}
 use Rattle.cov_base.specs.Memory.{ImageView}
-use Rattle.session_book.specs.JobView.{JobView, TaskView}
+use Rattle.session_book.specs.JobView.{JobView, TaskView, first_regs}
 use Rattle.job_text.specs.Lines.{LineView, listing_text}
-use Rattle.job_text.specs.CardView.{CardView, Cover, Module, Text, Listing, Phase, Session, Task, End}
+use Rattle.job_text.specs.CardView.{CardView, Cover, Module, Text, Listing, Phase, Session, Task, Reg, End}
 use Rattle.job_text.specs.Cards.{card_at}
-use Rattle.job_text.specs.PlainLines.{heading, is_plain}
-use Rattle.job_text.specs.First.{lengths_of, task_view, first_job}
+use Rattle.job_text.specs.First.{task_view, first_job}
 
 pub data State : Type 0 where
   Start : State
@@ -15,18 +14,16 @@ pub data State : Type 0 where
   Covered : State
   -- behind MODULE: name, base and size
   Loaded : List ℕ → ℕ → ℕ → State
-  -- behind TEXT: the module, and the lengths of its instructions
-  Filled : ImageView → List ℕ → State
-  -- behind LISTING
-  Announced : ImageView → List ℕ → State
-  -- in the listing: the lengths of the instructions still to come, where the next stands, its statement's number, and the lines so far
-  Listed : ImageView → List ℕ → ℕ → ℕ → List (List ℕ) → State
+  -- behind TEXT
+  Filled : ImageView → State
+  -- in the listing: how many of its lines are still to come, and the lines so far
+  Listed : ImageView → ℕ → List (List ℕ) → State
   -- behind PHASE: the listing and the phase
   Phased : ImageView → List (List ℕ) → List ℕ → State
   -- behind SESSION
   Observed : ImageView → List (List ℕ) → List ℕ → List ℕ → State
-  -- behind TASK
-  Tasked : ImageView → List (List ℕ) → List ℕ → List ℕ → TaskView → State
+  -- behind TASK and REG: the task so far, and the least register that may follow
+  Tasked : ImageView → List (List ℕ) → List ℕ → List ℕ → TaskView → ℕ → State
   -- behind ENDJOB
   Done : ImageView → List (List ℕ) → List ℕ → List ℕ → TaskView → State
 
@@ -38,23 +35,17 @@ abbrev pub after_cover : CardView → Option State
 after_cover (Module name base size) = if nat_le size 64 then Some (Loaded name base size) else None
 after_cover card = None
 
-abbrev pub filled : List ℕ → ℕ → List ℕ → Option State
-filled name base bytes = option_map (Filled (record { name = name; base = base; bytes = bytes })) (lengths_of bytes)
-
 abbrev pub after_module : List ℕ → ℕ → ℕ → CardView → Option State
-after_module name base size (Text bytes) = if nat_eq (length bytes) size then filled name base bytes else None
+after_module name base size (Text bytes) = if nat_eq (length bytes) size then Some (Filled (record { name = name; base = base; bytes = bytes })) else None
 after_module name base size card = None
 
-abbrev pub after_text : ImageView → List ℕ → CardView → Option State
-after_text image lengths (Listing n) = if nat_eq n (length lengths + 1) then Some (Announced image lengths) else None
-after_text image lengths card = None
+abbrev pub after_text : ImageView → CardView → Option State
+after_text image (Listing n) = Some (Listed image n [])
+after_text image card = None
 
-abbrev pub take_heading : ImageView → List ℕ → List ℕ → Option State
-take_heading image lengths text = if bytes_eq text heading then Some (Listed image lengths 0 1 (text ∷ [])) else None
-
-abbrev pub take_plain : ImageView → ℕ → List ℕ → ℕ → ℕ → List (List ℕ) → List ℕ → Option State
-take_plain image n lengths at number texts text =
-    if is_plain at number n text then Some (Listed image lengths (at + n) (number + 1) (texts ++ text ∷ [])) else None
+-- a line of a listing, behind which so many are still to come
+abbrev pub take_line : ImageView → ℕ → List (List ℕ) → List ℕ → Option State
+take_line image left texts text = if nat_le (length text) 150 then Some (Listed image left (texts ++ text ∷ [])) else None
 
 abbrev pub after_listing : ImageView → List (List ℕ) → CardView → Option State
 after_listing image texts (Phase phase) = Some (Phased image texts phase)
@@ -74,34 +65,35 @@ is_within private budget room = nat_le private 1048576 && nat_le budget 50000000
 
 abbrev pub after_session : ImageView → List (List ℕ) → List ℕ → List ℕ → CardView → Option State
 after_session image texts phase session (Task name entry private budget room) =
-    if is_within private budget room then Some (Tasked image texts phase session (task_view name entry private budget room)) else None
+    if is_within private budget room then Some (Tasked image texts phase session (task_view name entry private budget room (first_regs entry)) 0) else None
 after_session image texts phase session card = None
 
-abbrev pub after_task : ImageView → List (List ℕ) → List ℕ → List ℕ → TaskView → CardView → Option State
-after_task image texts phase session task End = Some (Done image texts phase session task)
-after_task image texts phase session task card = None
+abbrev pub with_reg : TaskView → ℕ → ℕ → TaskView
+with_reg t n v = record t { regs = slice_set t.regs n v }
+
+abbrev pub after_task : ImageView → List (List ℕ) → List ℕ → List ℕ → TaskView → ℕ → CardView → Option State
+after_task image texts phase session task least (Reg n v) = if nat_le least n then Some (Tasked image texts phase session (with_reg task n v) (n + 1)) else None
+after_task image texts phase session task least End = Some (Done image texts phase session task)
+after_task image texts phase session task least card = None
 
 -- a line of the listing comes
 abbrev pub in_listing : State → Bool
-in_listing (Announced image lengths) = true
-in_listing (Listed image (n ∷ ns) at number texts) = true
+in_listing (Listed image (suc left) texts) = true
 in_listing st = false
 
 abbrev pub take_text : State → List ℕ → Option State
-take_text (Announced image lengths) text = take_heading image lengths text
-take_text (Listed image (n ∷ ns) at number texts) text = take_plain image n ns at number texts text
+take_text (Listed image (suc left) texts) text = take_line image left texts text
 take_text st text = None
 
 abbrev pub take_card : State → CardView → Option State
 take_card Start card = after_start card
 take_card Covered card = after_cover card
 take_card (Loaded name base size) card = after_module name base size card
-take_card (Filled image lengths) card = after_text image lengths card
-take_card (Announced image lengths) card = None
-take_card (Listed image lengths at number texts) card = after_listing image texts card
+take_card (Filled image) card = after_text image card
+take_card (Listed image left texts) card = after_listing image texts card
 take_card (Phased image texts phase) card = after_phase image texts phase card
 take_card (Observed image texts phase session) card = after_session image texts phase session card
-take_card (Tasked image texts phase session task) card = after_task image texts phase session task card
+take_card (Tasked image texts phase session task least) card = after_task image texts phase session task least card
 take_card (Done image texts phase session task) card = None
 
 abbrev pub step : State → LineView → Option State

@@ -1,7 +1,7 @@
 -- A card without the memory that holds it.
 use Rattle.job_text.specs.declared.card.Card.{Card}
 use Rattle.job_text.specs.declared.card.Card.TheVariants as card
-use Rattle.job_text.specs.CardView.{CardView, Cover, Module, Text, Listing, Phase, Session, Task, End}
+use Rattle.job_text.specs.CardView.{CardView, Cover, Module, Text, Listing, Phase, Session, Task, Reg, End}
 
 abbrev pub view : Card → CardView
 view card.Cover = Cover
@@ -11,4 +11,5 @@ view (card.Listing n) = Listing n
 view (card.Phase n) = Phase n
 view (card.Session n ns) = Session n ns.items
 view (card.Task n e p b r) = Task n e p b r
+view (card.Reg r) = Reg r.number r.value
 view card.End = End

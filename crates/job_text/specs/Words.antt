@@ -63,6 +63,13 @@ address_value w = half_value w 0 * 256 + hex_value (slice_index w 4) * 16 + hex_
 abbrev pub address_at : List ℕ → Option ℕ
 address_at w = if is_address w then Some (address_value w) else None
 
+-- eight hexadecimal digits of either case
+abbrev pub is_word : List ℕ → Bool
+is_word w = nat_eq (length w) 8 && list_all is_hex w
+
+abbrev pub word_at : List ℕ → Option ℕ
+word_at w = if is_word w then Some (half_value w 0 * 65536 + half_value w 4) else None
+
 abbrev pub put_name : List (List ℕ) → Option (List ℕ) → Option (List (List ℕ))
 put_name ns (Some n) = Some (ns ++ n ∷ [])
 put_name ns None = None

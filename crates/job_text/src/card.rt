@@ -1,10 +1,19 @@
 //! The cards of a job.
+ghost use Rattle.std.specs.Prelude.{◌≤◌};
 
 use cov_base::{Addr, Name};
 
+/// What a REG card says: the number of a general register, 0 to 15, and its word as the task begins.
+#[derive(Clone, Copy)]
+pub struct RegCard {
+    pub number: u8,
+    pub value: u32,
+    ghost in_range: { number ≤ 15 },
+}
+
 /// What a card says. A module's size and a task's private storage and room are in bytes, its budget in
 /// instructions. The rules of one card alone hold: a module stands on a doubleword from X'100000' on, has an even
-/// size of at least 2 and ends by X'FFF000'; a budget is at least 1; TEXT has 1 to 64 bytes. No limit is tested.
+/// size of at least 2 and ends by X'FFF000'; a budget is at least 1; TEXT has 1 to 64 bytes; a register is one of 16. No limit is tested.
 #[derive(Drop)]
 pub enum Card {
     /// `COVERJOB 1`
@@ -34,6 +43,8 @@ pub enum Card {
         budget: u32,
         room: u32,
     },
+    /// `REG n value`
+    Reg(RegCard),
     /// `ENDJOB`
     End,
 }

@@ -1,12 +1,12 @@
 //! The card that a line is.
 ghost use Rattle.std.specs.Prelude.{◌≡◌, ℕ, ◌∷◌, map, IfOk, option_map};
 ghost use Rattle.cov_base.specs.Names.{name_at};
-ghost use Rattle.job_text.specs.Words.{number_at, address_at, names_at};
+ghost use Rattle.job_text.specs.Words.{number_at, address_at, word_at, names_at};
 ghost use Rattle.job_text.specs.Cards as spell;
 ghost use Rattle.job_text.specs.Views.{view};
 
-use crate::card::Card;
-use crate::words::{address_of, bytes_of, is, names_of, number_of, split};
+use crate::card::{Card, RegCard};
+use crate::words::{address_of, bytes_of, is, names_of, number_of, split, word_of};
 use cov_base::Name;
 use std::alloc::{AllocError, Global};
 
@@ -48,9 +48,12 @@ fn may_stand(base: u32, size: u32) -> bool
         && u64::from(base) + u64::from(size) <= 0xFFF000
 }
 
-fn module_card(a: &[u8], b: &[u8], c: &[u8]) -> Option<Card>
-    ensures { option_map view result ≡ spell.module_of (name_at a.now) (address_at b.now) (number_at c.now) }
+fn module_card(key: &[u8], a: &[u8], b: &[u8], c: &[u8]) -> Option<Card>
+    ensures { option_map view result ≡ spell.module_card key.now a.now b.now c.now }
 {
+    if !is(key, b"MODULE") {
+        return None;
+    }
     match (Name::read(a), address_of(b), number_of(c)) {
         (Some(name), Some(base), Some(size)) => {
             if may_stand(base.get(), size) {
@@ -63,9 +66,33 @@ fn module_card(a: &[u8], b: &[u8], c: &[u8]) -> Option<Card>
     }
 }
 
-fn task_card(a: &[u8], b: &[u8], c: &[u8], d: &[u8], e: &[u8]) -> Option<Card>
-    ensures { option_map view result ≡ spell.task_of (name_at a.now) (address_at b.now) (number_at c.now) (number_at d.now) (number_at e.now) }
+fn reg_card(key: &[u8], a: &[u8], b: &[u8]) -> Option<Card>
+    ensures { option_map view result ≡ spell.reg_card key.now a.now b.now }
 {
+    if !is(key, b"REG") {
+        return None;
+    }
+    match (number_of(a), word_of(b)) {
+        (Some(number), Some(value)) => {
+            if number <= 15 {
+                Some(Card::Reg(RegCard {
+                    number: number as u8,
+                    value,
+                }))
+            } else {
+                None
+            }
+        }
+        _ => None,
+    }
+}
+
+fn task_card(key: &[u8], a: &[u8], b: &[u8], c: &[u8], d: &[u8], e: &[u8]) -> Option<Card>
+    ensures { option_map view result ≡ spell.task_card key.now a.now b.now c.now d.now e.now }
+{
+    if !is(key, b"TASK") {
+        return None;
+    }
     match (
         Name::read(a),
         address_of(b),
@@ -93,17 +120,14 @@ fn task_card(a: &[u8], b: &[u8], c: &[u8], d: &[u8], e: &[u8]) -> Option<Card>
 fn long_card(key: &[u8], a: &[u8], rest: &[&[u8]]) -> Option<Card>
     ensures { option_map view result ≡ spell.long_card key.now a.now (map (λ w. w.now) rest.now) }
 {
+    if rest.len() == 1 {
+        return reg_card(key, a, rest[0]);
+    }
     if rest.len() == 2 {
-        if !is(key, b"MODULE") {
-            return None;
-        }
-        return module_card(a, rest[0], rest[1]);
+        return module_card(key, a, rest[0], rest[1]);
     }
     if rest.len() == 4 {
-        if !is(key, b"TASK") {
-            return None;
-        }
-        return task_card(a, rest[0], rest[1], rest[2], rest[3]);
+        return task_card(key, a, rest[0], rest[1], rest[2], rest[3]);
     }
     None
 }

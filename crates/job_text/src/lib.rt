@@ -5,14 +5,12 @@ mod card;
 mod cards;
 mod fault;
 mod first;
-mod lengths;
 mod lines;
-mod plain;
 mod progress;
 mod reader;
 mod words;
 
-pub use card::Card;
+pub use card::{Card, RegCard};
 pub use cards::read_card;
 pub use fault::JobFault;
 pub use first::read_first_form;

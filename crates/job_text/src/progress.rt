@@ -1,23 +1,9 @@
 //! How far a job of the first form was read.
-ghost use Rattle.std.specs.Prelude.{◌*◌, ◌≤◌, vec_len};
 
-use crate::lengths::Lengths;
 use cov_base::{Addr, Name};
 use listing_lines::ListingLine;
 use module_area::Image;
 use session_book::{Lines, TaskCard};
-
-/// How far a listing was read: the lengths of the module's instructions, how many of them have had their lines,
-/// where the next stands, and the lines so far.
-#[derive(Drop)]
-pub(crate) struct Progress {
-    pub lengths: Lengths,
-    pub next: usize,
-    pub at: u32,
-    pub lines: Vec<ListingLine>,
-    ghost inside: { next ≤ vec_len lengths.each },
-    ghost near: { at ≤ 255 * next },
-}
 
 /// What of a job of the first form was read.
 #[derive(Drop)]
@@ -27,19 +13,16 @@ pub(crate) enum FirstReader {
     Loaded {
         name: Name,
         base: Addr,
-        size: u8,
+        size: u32,
     },
     Filled {
         image: Image,
-        lengths: Lengths,
     },
-    Announced {
-        image: Image,
-        lengths: Lengths,
-    },
+    /// `left` lines of the listing are still to come.
     Listed {
         image: Image,
-        progress: Progress,
+        left: u32,
+        lines: Vec<ListingLine>,
     },
     Phased {
         image: Image,
@@ -52,12 +35,14 @@ pub(crate) enum FirstReader {
         phase: Name,
         session: Name,
     },
+    /// A REG card may follow for register `least` and those above.
     Tasked {
         image: Image,
         texts: Lines,
         phase: Name,
         session: Name,
         task: TaskCard,
+        least: u8,
     },
     Done {
         image: Image,

@@ -1,18 +1,16 @@
 //! Takes a job of the first form line by line.
-ghost use Rattle.std.specs.Prelude.{◌≡◌, ℕ, ◌+◌, ◌*◌, ◌<◌, ◌≤◌, true, false, nat_eq, Option, Some, None, IfOk, IsErrOf, length, drop, vec_len};
-ghost use Rattle.session_book.specs.JobView.{IsJob};
+ghost use Rattle.std.specs.Prelude.{◌≡◌, ℕ, ◌+◌, ◌-◌, ◌<◌, ◌≤◌, true, Option, Some, None, IfOk, IsErrOf, length};
+ghost use Rattle.session_book.specs.JobView.{IsJob, first_regs};
 ghost use Rattle.job_text.specs.Lines.{LineView};
 ghost use Rattle.job_text.specs.First.{first_job, task_view};
 ghost use Rattle.job_text.specs.Machine as machine;
 ghost use Rattle.job_text.specs.Views.{view};
-ghost use Rattle.job_text.specs.States.{state, listed};
+ghost use Rattle.job_text.specs.States.{state};
 
-use crate::card::Card;
+use crate::card::{Card, RegCard};
 use crate::cards::read_card;
-use crate::lengths::{Lengths, lengths_of};
 use crate::lines::listing_text;
-use crate::plain::{is_heading, is_plain};
-use crate::progress::{FirstReader, Progress};
+use crate::progress::FirstReader;
 use cov_base::{Addr, Name};
 use listing_lines::ListingLine;
 use module_area::Image;
@@ -65,11 +63,7 @@ fn after_cover(card: Card) -> Result<FirstReader, LineFault>
     match card {
         Card::Module { name, base, size } => {
             if size <= 64 {
-                Ok(FirstReader::Loaded {
-                    name,
-                    base,
-                    size: size as u8,
-                })
+                Ok(FirstReader::Loaded { name, base, size })
             } else {
                 Err(LineFault::Bad)
             }
@@ -78,114 +72,56 @@ fn after_cover(card: Card) -> Result<FirstReader, LineFault>
     }
 }
 
-fn filled(alloc: Global, name: Name, base: Addr, bytes: Vec<u8>) -> Result<FirstReader, LineFault>
-    requires { length bytes.items ≤ 255 }
-    ensures ok { IfOk result (λ r. machine.filled name base bytes.items ≡ Some (state r)) }
-    ensures bad { IsErrOf result LineFault.Bad → machine.filled name base bytes.items ≡ None }
-{
-    match lengths_of(alloc, &bytes)? {
-        None => Err(LineFault::Bad),
-        Some(lengths) => Ok(FirstReader::Filled {
-            image: Image { name, base, bytes },
-            lengths,
-        }),
-    }
-}
-
-fn after_module(
-    alloc: Global,
-    name: Name,
-    base: Addr,
-    size: u8,
-    card: Card,
-) -> Result<FirstReader, LineFault>
+fn after_module(name: Name, base: Addr, size: u32, card: Card) -> Result<FirstReader, LineFault>
     ensures ok { IfOk result (λ r. machine.after_module name base size (view card) ≡ Some (state r)) }
     ensures bad { IsErrOf result LineFault.Bad → machine.after_module name base size (view card) ≡ None }
 {
     match card {
         Card::Text(bytes) => {
-            if bytes.len() != usize::from(size) {
+            if bytes.len() != size as usize {
                 return Err(LineFault::Bad);
             }
-            filled(alloc, name, base, bytes)
+            let image = Image { name, base, bytes };
+            Ok(FirstReader::Filled { image })
         }
         _ => Err(LineFault::Bad),
     }
 }
 
-fn after_text(image: Image, lengths: Lengths, card: Card) -> Result<FirstReader, LineFault>
-    ensures ok { IfOk result (λ r. machine.after_text image lengths.each.items (view card) ≡ Some (state r)) }
-    ensures bad { IsErrOf result LineFault.Bad → machine.after_text image lengths.each.items (view card) ≡ None }
+fn after_text(alloc: Global, image: Image, card: Card) -> Result<FirstReader, LineFault>
+    ensures ok { IfOk result (λ r. machine.after_text image (view card) ≡ Some (state r)) }
+    ensures bad { IsErrOf result LineFault.Bad → machine.after_text image (view card) ≡ None }
 {
     match card {
-        Card::Listing(n) => {
-            if n as usize == lengths.each.len() + 1 {
-                Ok(FirstReader::Announced { image, lengths })
-            } else {
-                Err(LineFault::Bad)
-            }
-        }
+        Card::Listing(left) => Ok(FirstReader::Listed {
+            image,
+            left,
+            lines: Vec::new(alloc),
+        }),
         _ => Err(LineFault::Bad),
     }
 }
 
-fn heading_line(
+fn listing_line(
     alloc: Global,
     image: Image,
-    lengths: Lengths,
+    left: u32,
+    mut lines: Vec<ListingLine>,
     text: &[u8],
 ) -> Result<FirstReader, LineFault>
-    ensures ok { IfOk result (λ r. machine.take_heading image lengths.each.items text.now ≡ Some (state r)) }
-    ensures bad { IsErrOf result LineFault.Bad → machine.take_heading image lengths.each.items text.now ≡ None }
+    requires { 0 < left }
+    ensures ok { IfOk result (λ r. machine.take_line image (left - 1) lines.items text.now ≡ Some (state r)) }
+    ensures bad { IsErrOf result LineFault.Bad → machine.take_line image (left - 1) lines.items text.now ≡ None }
 {
-    if !is_heading(text) {
-        return Err(LineFault::Bad);
-    }
-    let mut lines = Vec::new(alloc);
-    lines.push(ListingLine::new(text.to_vec(alloc)?))?;
-    let progress = Progress {
-        lengths,
-        next: 0,
-        at: 0,
-        lines,
-    };
-    Ok(FirstReader::Listed { image, progress })
-}
-
-fn is_listed(progress: &Progress) -> bool
-    ensures { result ≡ nat_eq progress.now.next (vec_len progress.now.lengths.each) }
-{
-    progress.next == progress.lengths.each.len()
-}
-
-fn plain_line(
-    alloc: Global,
-    image: Image,
-    progress: Progress,
-    text: &[u8],
-) -> Result<FirstReader, LineFault>
-    requires { nat_eq progress.next (vec_len progress.lengths.each) ≡ false }
-    ensures ok { IfOk result (λ r. machine.take_text (listed image progress) text.now ≡ Some (state r)) }
-    ensures bad { IsErrOf result LineFault.Bad → machine.take_text (listed image progress) text.now ≡ None }
-{
-    let Progress {
-        lengths,
-        next,
-        at,
-        mut lines,
-    } = progress;
-    let len = lengths.each[next];
-    if !is_plain(at, next as u32 + 1, len, text) {
+    if text.len() > 150 {
         return Err(LineFault::Bad);
     }
     lines.push(ListingLine::new(text.to_vec(alloc)?))?;
-    let progress = Progress {
-        lengths,
-        next: next + 1,
-        at: at + u32::from(len),
+    Ok(FirstReader::Listed {
+        image,
+        left: left - 1,
         lines,
-    };
-    Ok(FirstReader::Listed { image, progress })
+    })
 }
 
 fn after_listing(image: Image, texts: Lines, card: Card) -> Result<FirstReader, LineFault>
@@ -251,7 +187,7 @@ fn task_card(
     budget: u32,
     room: u32,
 ) -> TaskCard
-    ensures { result ≡ task_view name entry private budget room }
+    ensures { result ≡ task_view name entry private budget room (first_regs entry) }
 {
     let mut regs = [0u32; 16];
     regs[14] = 0x00FF_FFFE;
@@ -297,10 +233,19 @@ fn after_session(
                 phase,
                 session,
                 task: task_card(alloc, name, entry, private, budget, room),
+                least: 0,
             })
         }
         _ => Err(LineFault::Bad),
     }
+}
+
+fn set_reg(task: TaskCard, reg: RegCard) -> TaskCard
+    ensures { result ≡ machine.with_reg task reg.number reg.value }
+{
+    let mut task = task;
+    task.regs[reg.number as usize] = reg.value;
+    task
 }
 
 fn after_task(
@@ -309,12 +254,26 @@ fn after_task(
     phase: Name,
     session: Name,
     task: TaskCard,
+    least: u8,
     card: Card,
 ) -> Result<FirstReader, LineFault>
-    ensures ok { IfOk result (λ r. machine.after_task image texts phase session task (view card) ≡ Some (state r)) }
-    ensures bad { IsErrOf result LineFault.Bad → machine.after_task image texts phase session task (view card) ≡ None }
+    ensures ok { IfOk result (λ r. machine.after_task image texts phase session task least (view card) ≡ Some (state r)) }
+    ensures bad { IsErrOf result LineFault.Bad → machine.after_task image texts phase session task least (view card) ≡ None }
 {
     match card {
+        Card::Reg(reg) => {
+            if least > reg.number {
+                return Err(LineFault::Bad);
+            }
+            Ok(FirstReader::Tasked {
+                image,
+                texts,
+                phase,
+                session,
+                task: set_reg(task, reg),
+                least: reg.number + 1,
+            })
+        }
         Card::End => Ok(FirstReader::Done {
             image,
             texts,
@@ -327,24 +286,30 @@ fn after_task(
 }
 
 impl FirstReader {
+    #[tactic(auto, using(crate::proofs::Listings::in_listed))]
     fn in_listing(&self) -> bool
         ensures { result ≡ machine.in_listing (state self.now) }
     {
         match self {
-            FirstReader::Announced { .. } => true,
-            FirstReader::Listed { image: _, progress } => !is_listed(progress),
+            FirstReader::Listed {
+                image: _,
+                left,
+                lines: _,
+            } => *left > 0,
             _ => false,
         }
     }
 
+    #[tactic(auto, using(crate::proofs::Listings::in_listed, crate::proofs::Listings::text_taken))]
     fn listing_line(self, alloc: Global, text: &[u8]) -> Result<FirstReader, LineFault>
         requires { machine.in_listing (state self) ≡ true }
         ensures ok { IfOk result (λ r. machine.take_text (state self) text.now ≡ Some (state r)) }
         ensures bad { IsErrOf result LineFault.Bad → machine.take_text (state self) text.now ≡ None }
     {
         match self {
-            FirstReader::Announced { image, lengths } => heading_line(alloc, image, lengths, text),
-            FirstReader::Listed { image, progress } => plain_line(alloc, image, progress, text),
+            FirstReader::Listed { image, left, lines } => {
+                listing_line(alloc, image, left, lines, text)
+            }
             _ => Err(LineFault::Bad),
         }
     }
@@ -356,14 +321,13 @@ impl FirstReader {
         match self {
             FirstReader::Start => after_start(card),
             FirstReader::Covered => after_cover(card),
-            FirstReader::Loaded { name, base, size } => after_module(alloc, name, base, size, card),
-            FirstReader::Filled { image, lengths } => after_text(image, lengths, card),
-            FirstReader::Announced { .. } => Err(LineFault::Bad),
-            FirstReader::Listed { image, progress } => after_listing(
+            FirstReader::Loaded { name, base, size } => after_module(name, base, size, card),
+            FirstReader::Filled { image } => after_text(alloc, image, card),
+            FirstReader::Listed {
                 image,
-                Lines(progress.lines),
-                card,
-            ),
+                left: _,
+                lines,
+            } => after_listing(image, Lines(lines), card),
             FirstReader::Phased {
                 image,
                 texts,
@@ -381,7 +345,8 @@ impl FirstReader {
                 phase,
                 session,
                 task,
-            } => after_task(image, texts, phase, session, task, card),
+                least,
+            } => after_task(image, texts, phase, session, task, least, card),
             FirstReader::Done { .. } => Err(LineFault::Bad),
         }
     }

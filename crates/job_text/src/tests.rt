@@ -3,7 +3,7 @@ use crate::{JobFault, read_first_form};
 use std::alloc::{AllocError, Global};
 use std::test::Fail;
 
-const LINES: [&[u8]; 12] = [
+const LINES: [&[u8]; 14] = [
     b"COVERJOB 1",
     b"MODULE M 100000 8",
     b"TEXT 411000051A1107FE",
@@ -15,6 +15,8 @@ const LINES: [&[u8]; 12] = [
     b"PHASE P",
     b"SESSION S M",
     b"TASK A 100000 16 100 0",
+    b"REG 0 0000000A",
+    b"REG 15 fedcba98",
     b"ENDJOB",
 ];
 
@@ -33,7 +35,7 @@ fn bad_line(alloc: Global, input: &[u8]) -> u32 {
 /// The job with what stands in place of line `at` and its LF.
 fn with_line(alloc: Global, at: usize, text: &[u8]) -> Result<Vec<u8>, AllocError> {
     let mut input = Vec::new(alloc);
-    for n in 0..12 {
+    for n in 0..14 {
         if n + 1 == at {
             input.extend_from_slice(text)?;
         } else {
@@ -59,7 +61,9 @@ fn reads_the_job(rt: HostRuntime) -> Result<(), Fail> {
             assert_eq!(rt; job.tasks.len(), 1);
             assert_eq!(rt; job.tasks[0].entry.get(), 0x100000);
             assert_eq!(rt; job.tasks[0].regs[14], 0xFFFFFE);
-            assert_eq!(rt; job.tasks[0].regs[15], 0x100000);
+            assert_eq!(rt; job.tasks[0].regs[15], 0xFEDC_BA98);
+            assert_eq!(rt; job.tasks[0].regs[0], 10);
+            assert_eq!(rt; job.tasks[0].regs[1], 0);
             assert_eq!(rt;
                 (job.tasks[0].private, job.tasks[0].budget, job.tasks[0].room),
                 (16, 100, 0)
@@ -72,12 +76,17 @@ fn reads_the_job(rt: HostRuntime) -> Result<(), Fail> {
     Ok(())
 }
 
+/// Whether line n, counted from 0, is one of the listing, which may be any bytes.
+fn is_listing(n: usize) -> bool {
+    4 <= n && n < 8
+}
+
 #[test]
 fn refuses_neighbours_exchanged(rt: HostRuntime) -> Result<(), Fail> {
     let a = rt.alloc();
-    for n in 0..11 {
+    for n in 0..13 {
         let mut input = Vec::new(a);
-        for k in 0..12 {
+        for k in 0..14 {
             let from = if k == n {
                 n + 1
             } else if k == n + 1 {
@@ -88,7 +97,17 @@ fn refuses_neighbours_exchanged(rt: HostRuntime) -> Result<(), Fail> {
             input.extend_from_slice(LINES[from])?;
             input.push(b'\n')?;
         }
-        assert_eq!(rt; bad_line(a, &input), n as u32 + 1);
+        // the listing takes the card that comes into it, and its own lines in any order; ENDJOB may follow REG 0
+        let bad = if n == 7 {
+            9
+        } else if is_listing(n) {
+            0
+        } else if n == 11 || n == 12 {
+            n as u32 + 2
+        } else {
+            n as u32 + 1
+        };
+        assert_eq!(rt; (n, bad_line(a, &input)), (n, bad));
     }
     Ok(())
 }
@@ -96,17 +115,17 @@ fn refuses_neighbours_exchanged(rt: HostRuntime) -> Result<(), Fail> {
 #[test]
 fn refuses_a_blank_too_many(rt: HostRuntime) -> Result<(), Fail> {
     let a = rt.alloc();
-    for n in 0..12 {
+    for n in 0..14 {
         let line = LINES[n];
-        let is_card = n < 4 || 8 <= n;
         for i in 0..line.len() + 1 {
-            if is_card && (i == 0 || i == line.len() || line[i] == b' ') {
+            if i == 0 || i == line.len() || line[i] == b' ' {
                 let mut text = line[..i].to_vec(a)?;
                 text.push(b' ')?;
                 text.extend_from_slice(&line[i..])?;
                 text.push(b'\n')?;
                 let input = with_line(a, n + 1, &text)?;
-                assert_eq!(rt; bad_line(a, &input), n as u32 + 1);
+                let bad = if is_listing(n) { 0 } else { n as u32 + 1 };
+                assert_eq!(rt; bad_line(a, &input), bad);
             }
         }
     }
@@ -116,22 +135,32 @@ fn refuses_a_blank_too_many(rt: HostRuntime) -> Result<(), Fail> {
 #[test]
 fn refuses_lines_that_are_missing_or_doubled(rt: HostRuntime) -> Result<(), Fail> {
     let a = rt.alloc();
-    for n in 0..12 {
+    for n in 0..14 {
         let line = LINES[n];
         let missing = with_line(a, n + 1, b"")?;
-        assert_eq!(rt; bad_line(a, &missing), n as u32 + 1);
+        // a listing without one of its lines takes the PHASE card; REG cards may be none
+        let lacks = if is_listing(n) {
+            9
+        } else if n == 11 || n == 12 {
+            0
+        } else {
+            n as u32 + 1
+        };
+        assert_eq!(rt; (n, bad_line(a, &missing)), (n, lacks));
         let mut twice = line.to_vec(a)?;
         twice.push(b'\n')?;
         twice.extend_from_slice(line)?;
         twice.push(b'\n')?;
         let doubled = with_line(a, n + 1, &twice)?;
-        assert_eq!(rt; bad_line(a, &doubled), n as u32 + 2);
+        // the listing's last line comes behind it, as where the LISTING card is one of its lines
+        let more = if n == 3 || is_listing(n) { 9 } else { n as u32 + 2 };
+        assert_eq!(rt; (n, bad_line(a, &doubled)), (n, more));
     }
     Ok(())
 }
 
 /// Line, what stands in its place, and the first bad line.
-const CASES: [(usize, &[u8], u32); 74] = [
+const CASES: [(usize, &[u8], u32); 73] = [
     (1, b" COVERJOB 1\n", 1),
     (1, b"COVERJOB  1\n", 1),
     (1, b"COVERJOB 1 \n", 1),
@@ -159,141 +188,23 @@ const CASES: [(usize, &[u8], u32); 74] = [
     (3, b"TEXT 411000051A1107\n", 3),
     (3, b"TEXT 411000051A1107F\n", 3),
     (3, b"TEXT 411000051A1107FG\n", 3),
-    (3, b"TEXT 411000051A114110\n", 3),
+    (3, b"TEXT 411000051A114110\n", 0),
     (3, b"TEXT 41100005\nTEXT 1A1107FE\n", 3),
     (3, b"TEXT 411000051a1107fe\n", 0),
-    (4, b"LISTING 3\n", 4),
-    (4, b"LISTING 5\n", 4),
+    (4, b"LISTING 3\n", 8),
+    (4, b"LISTING 0\n", 5),
+    (4, b"LISTING 5\n", 10),
+    (4, b"LISTING 999999999\n", 15),
     (4, b"LISTING 04\n", 4),
     (4, b"LISTING 0000000004\n", 4),
-    (
-        5,
-        b"  Loc  Object Code    Addr1 Addr2  Stmt   Source statement\n",
-        5,
-    ),
-    (
-        5,
-        b"  Loc  Object Code    Addr1 Addr2  Stmt   Source Statement \n",
-        5,
-    ),
-    (
-        5,
-        b"  Loc  Object Code    Addr1 Addr2  Stmt   Source Statement\r\n",
-        0,
-    ),
-    (
-        6,
-        b"000002 4110 0005                      1          LA\n",
-        6,
-    ),
-    (
-        6,
-        b"00000  4110 0005                      1          LA\n",
-        6,
-    ),
-    (
-        6,
-        b"000000-4110 0005                      1          LA\n",
-        6,
-    ),
-    (
-        6,
-        b"000000  4110 0005                     1          LA\n",
-        6,
-    ),
-    (
-        6,
-        b"000000 411 00005                      1          LA\n",
-        6,
-    ),
-    (
-        6,
-        b"000000 41100005                       1          LA\n",
-        6,
-    ),
-    (
-        6,
-        b"000000 4110 000                       1          LA\n",
-        6,
-    ),
-    (
-        6,
-        b"000000 4110                           1          LA\n",
-        6,
-    ),
-    (
-        6,
-        b"000000 4110 0005 0000                 1          LA\n",
-        6,
-    ),
-    (
-        6,
-        b"000000 1A11 0005                      1          LA\n",
-        6,
-    ),
-    (
-        6,
-        b"000000 4110 0005                      2          LA\n",
-        6,
-    ),
-    (
-        6,
-        b"000000 4110 0005                  00001          LA\n",
-        6,
-    ),
-    (
-        6,
-        b"000000 4110 0005                     1           LA\n",
-        6,
-    ),
-    (
-        6,
-        b"000000 4110 0005                      1+         LA\n",
-        6,
-    ),
-    (
-        6,
-        b"000000 4110 0005                      1         LA\n",
-        6,
-    ),
-    (
-        6,
-        b"000000 4110 0005                      1          la\n",
-        6,
-    ),
-    (
-        6,
-        b"000000 4110 0005                      1          LAX\n",
-        6,
-    ),
-    (
-        6,
-        b"000000 4110 0005                      1          LA 1,5\n",
-        6,
-    ),
-    (6, b"000000 4110 0005                      1          \n", 6),
-    (
-        6,
-        b"000000 4110 0005                      1          LA\r\r\n",
-        6,
-    ),
-    (
-        6,
-        b"000000 4110 0005                      1          LA\r\n",
-        0,
-    ),
-    (
-        6,
-        b"000000 4a1f 0006                      1          MVCIN\n",
-        0,
-    ),
-    (
-        7,
-        b"000004 0AFF                           2          AR\n",
-        7,
-    ),
+    (4, b"LISTING -4\n", 4),
+    (5, b"\n", 0),
+    (5, b"\r\n", 0),
+    (5, b"\x00\xFF\r\r\n", 0),
+    (5, b"PHASE P\n", 0),
     (9, b"PHASE p\n", 9),
     (9, b"PHASE 1\n", 9),
+    (9, b"PHASE P\r\n", 9),
     (10, b"SESSION S X\n", 10),
     (10, b"SESSION S M M\n", 10),
     (10, b"SESSION S\n", 10),
@@ -302,10 +213,27 @@ const CASES: [(usize, &[u8], u32); 74] = [
     (11, b"TASK A 100000 16 100 65537\n", 11),
     (11, b"TASK A 100000 16 0 0\n", 11),
     (11, b"TASK A FFFFFF 1048576 50000000 65536\n", 0),
-    (12, b"REG 1 00000001\nENDJOB\n", 12),
-    (12, b"DATA 0 00\nENDJOB\n", 12),
-    (12, b"INPUT 00\nENDJOB\n", 12),
-    (12, b"ENDJOB\n\n", 13),
+    (12, b"REG 0 0000000\n", 12),
+    (12, b"REG 0 000000000\n", 12),
+    (12, b"REG 0 0000000G\n", 12),
+    (12, b"REG 00 00000000\n", 12),
+    (12, b"REG 16 00000000\n", 12),
+    (12, b"REG -1 00000000\n", 12),
+    (12, b"REG 15\n", 12),
+    (12, b"REG 15 00000000 00000000\n", 12),
+    (12, b"REG 0 00000000\r\n", 12),
+    (12, b"REG 14 ABCDEFab\n", 0),
+    (12, b"REG 15 00000000\n", 13),
+    (12, b"REG 3 00000000\nREG 2 00000000\n", 13),
+    (12, b"REG 3 00000000\nREG 3 00000000\n", 13),
+    (12, b"REG 3 00000000\nREG 4 00000000\n", 0),
+    (13, b"REG 0 00000000\n", 13),
+    (14, b"DATA 0 00\nENDJOB\n", 14),
+    (14, b"INPUT 00\nENDJOB\n", 14),
+    (14, b"TASK B 100000 16 100 0\nENDJOB\n", 14),
+    (14, b"PHASE Q\nENDJOB\n", 14),
+    (14, b"MODULE N 200000 8\nENDJOB\n", 14),
+    (14, b"ENDJOB\n\n", 15),
 ];
 
 #[test]
@@ -318,30 +246,51 @@ fn names_the_first_bad_line(rt: HostRuntime) -> Result<(), Fail> {
     Ok(())
 }
 
+/// The listing line of so many bytes in place of the heading, before this end.
+fn with_long_line(alloc: Global, count: usize, end: &[u8]) -> Result<Vec<u8>, AllocError> {
+    let mut line = Vec::new(alloc);
+    for _ in 0..count {
+        line.push(b'*')?;
+    }
+    line.extend_from_slice(end)?;
+    with_line(alloc, 5, &line)
+}
+
+#[test]
+fn takes_listing_lines_of_150_bytes(rt: HostRuntime) -> Result<(), Fail> {
+    let a = rt.alloc();
+    assert_eq!(rt; bad_line(a, &with_long_line(a, 150, b"\n")?), 0);
+    assert_eq!(rt; bad_line(a, &with_long_line(a, 150, b"\r\n")?), 0);
+    assert_eq!(rt; bad_line(a, &with_long_line(a, 149, b"\r\r\n")?), 0);
+    assert_eq!(rt; bad_line(a, &with_long_line(a, 151, b"\n")?), 5);
+    assert_eq!(rt; bad_line(a, &with_long_line(a, 150, b"\r\r\n")?), 5);
+    Ok(())
+}
+
 #[test]
 fn takes_a_last_line_without_its_end(rt: HostRuntime) -> Result<(), Fail> {
     let a = rt.alloc();
-    let whole = with_line(a, 12, b"ENDJOB")?;
+    let whole = with_line(a, 14, b"ENDJOB")?;
     assert_eq!(rt; bad_line(a, &whole), 0);
     let mut input = Vec::new(a);
-    for i in 0..12 {
+    for i in 0..14 {
         let n = i as u32;
         let line = LINES[i];
         for k in 1..line.len() {
             let mut cut = input.to_vec(a)?;
             cut.extend_from_slice(&line[..k])?;
-            // L, A and B are mnemonics too
-            let more = n >= 5 && n <= 7 && k + 1 == line.len();
+            // a part of a listing line is one
+            let more = is_listing(i);
             assert_eq!(rt; bad_line(a, &cut), if more { n + 2 } else { n + 1 });
         }
         input.extend_from_slice(line)?;
-        assert_eq!(rt; bad_line(a, &input), if n == 11 { 0 } else { n + 2 });
+        assert_eq!(rt; bad_line(a, &input), if n == 13 { 0 } else { n + 2 });
         // a CR that no LF follows is part of the line
         let mut odd = input.to_vec(a)?;
         odd.push(b'\r')?;
-        assert_eq!(rt; bad_line(a, &odd), n + 1);
+        assert_eq!(rt; bad_line(a, &odd), if is_listing(i) { n + 2 } else { n + 1 });
         input.push(b'\n')?;
-        assert_eq!(rt; bad_line(a, &input), if n == 11 { 0 } else { n + 2 });
+        assert_eq!(rt; bad_line(a, &input), if n == 13 { 0 } else { n + 2 });
     }
     Ok(())
 }

@@ -95,8 +95,7 @@ fn is_lower_hex(b: u8) -> bool
     b >= b'a' && b <= b'f'
 }
 
-/// Whether the byte is a hexadecimal digit of either case.
-pub(crate) fn is_hex(b: u8) -> bool
+fn is_hex(b: u8) -> bool
     ensures { result ≡ spell.is_hex b }
 {
     is_digit(b) || (is_upper_hex(b) || is_lower_hex(b))
@@ -117,15 +116,16 @@ fn hex_value(b: u8) -> u32
     }
 }
 
-/// The value of the first four digits.
-pub(crate) fn half_value(word: &[u8]) -> u16
-    requires { 4 ≤ length word.now }
-    ensures { result ≡ spell.half_value word.now 0 }
+/// The value of the four digits from `k` on.
+fn half_value(word: &[u8], k: usize) -> u32
+    requires { k + 4 ≤ length word.now }
+    ensures value { result ≡ spell.half_value word.now k }
+    ensures below { result < 65536 }
 {
-    (hex_value(word[0]) * 4096
-        + hex_value(word[1]) * 256
-        + hex_value(word[2]) * 16
-        + hex_value(word[3])) as u16
+    hex_value(word[k]) * 4096
+        + hex_value(word[k + 1]) * 256
+        + hex_value(word[k + 2]) * 16
+        + hex_value(word[k + 3])
 }
 
 fn all_hex(word: &[u8]) -> bool
@@ -145,7 +145,7 @@ fn address_value(word: &[u8]) -> u32
     ensures value { result ≡ spell.address_value word.now }
     ensures below { result < 16777216 }
 {
-    u32::from(half_value(word)) * 256 + hex_value(word[4]) * 16 + hex_value(word[5])
+    half_value(word, 0) * 256 + hex_value(word[4]) * 16 + hex_value(word[5])
 }
 
 /// The address of six hexadecimal digits of either case.
@@ -156,6 +156,22 @@ pub(crate) fn address_of(word: &[u8]) -> Option<Addr>
         return None;
     }
     Addr::new(address_value(word))
+}
+
+fn is_word(word: &[u8]) -> bool
+    ensures { result ≡ spell.is_word word.now }
+{
+    word.len() == 8 && all_hex(word)
+}
+
+/// The word of eight hexadecimal digits of either case.
+pub(crate) fn word_of(word: &[u8]) -> Option<u32>
+    ensures { result ≡ spell.word_at word.now }
+{
+    if !is_word(word) {
+        return None;
+    }
+    Some(half_value(word, 0) * 65_536 + half_value(word, 4))
 }
 
 /// The names that the words spell; none where one of them is no name.
