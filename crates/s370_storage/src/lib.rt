@@ -1,0 +1,5 @@
+//! Operations on fields in storage: the effect of each on registers, condition code and private storage.
+#![tactic(auto)]
+
+mod moves;
+mod operands;
