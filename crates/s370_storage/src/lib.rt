@@ -3,3 +3,4 @@
 
 mod moves;
 mod operands;
+mod translate;
