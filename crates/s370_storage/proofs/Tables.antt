@@ -177,9 +177,9 @@ selected_past m bytes a t (suc n) i j l h e =
     elim (same_or i n l) [
       | inl q ↦ let x : selected m bytes a t (suc n) ≡ None = rw q at h in let y : selected m bytes a t (suc n) ≡ Some j = e in absurd cc
       | inr k ↦ elim (last_of (selected m bytes a t n) (function m bytes a t n) n j e) [
-          | inl q ↦ selected_past m bytes a t n i j k h q
-          | inr z ↦ rw z k
-        ]
+        | inl q ↦ selected_past m bytes a t n i j k h q
+        | inr z ↦ rw z k
+      ]
     ]
 
 looked_in : (n i : ℕ) (f : Option ℕ) → i < n → ((j : ℕ) → f ≡ Some j → i ≤ j) → i < looked_up n f

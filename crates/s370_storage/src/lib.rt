@@ -3,4 +3,5 @@
 
 mod moves;
 mod operands;
+mod packing;
 mod translate;
