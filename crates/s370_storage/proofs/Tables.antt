@@ -1,9 +1,10 @@
 -- The function bytes of a table, one argument on.
-use Rattle.std.proofs.Common.{◌≡◌, ◌≢◌, ℕ, ◌+◌, ◌<◌, ◌≤◌, zero, suc, Bool, true, false, ◌&&◌, Option, Some, None, List, [], ◌∷◌, ◌++◌, slice_set, refl, sym, ◌∙◌, add-one, arith, get_or-set_other, ◌⊎◌, inl, inr, if◌then◌else◌, ◌==◌}
+use Rattle.std.proofs.Common.{◌≡◌, ◌≢◌, ℕ, ◌+◌, ◌<◌, ◌≤◌, zero, suc, Bool, true, false, ◌&&◌, Option, Some, None, List, [], ◌∷◌, ◌++◌, slice_set, refl, sym, ◌∙◌, add-one, arith, get_or-set_other, ◌⊎◌, inl, inr, not, ◌==◌}
 use Rattle.std.proofs.lemmas.Bool.Decides.{nat_tests}
 use Rattle.cov_base.specs.Memory.{Memory, byte_at, wrap, or_else, can_reach, first_touch, is_accessible}
 use Rattle.s370_state.specs.Row.{Use, reads, all_reached, all_stored, touched, touch_ending}
 use Rattle.s370_state.proofs.Tested.{reach_at}
+use Rattle.s370_storage.proofs.Firsts.{first_none, first_more, first_here, first_past}
 use Rattle.s370_storage.specs.Translations.{function_at, functions, translated, function, selected, looked_up, or_ending}
 
 pub functions_none : (m : Memory) (bytes : List ℕ) (a t : ℕ) → functions m bytes a t 0 ≡ []
@@ -44,9 +45,6 @@ and_both false b p q = p
 
 last_or : (i n : ℕ) → i < suc n → (i ≡ n) ⊎ (i < n)
 last_or i n h = grind arith
-
-same_or : (i n : ℕ) → i ≤ suc n → (i ≡ suc n) ⊎ (i ≤ n)
-same_or i n h = grind arith
 
 -- a byte more that is read
 reached_last : (m : Memory) (us : List Use) (b : ℕ) → all_reached m (us ++ (reads b 1 ∷ [])) ≡ (all_reached m us && can_reach m b 1)
@@ -144,43 +142,23 @@ translated_keeps m bytes a t zero i l h = refl
 translated_keeps m bytes a t (suc n) i l h =
     byte_set_other m (translated m bytes a t n) (wrap (a + n)) (wrap (a + i)) _ (omega arith) ∙ translated_keeps m bytes a t n i (omega arith) h
 
+zero_fails : (v : ℕ) → v ≡ 0 → not (v == 0) ≡ false
+zero_fails v e = rw e refl
+
+others_pass : (v : ℕ) → 0 < v → not (v == 0) ≡ true
+others_pass v h = grind (arith, nat_tests)
+
 pub selected_none : (m : Memory) (bytes : List ℕ) (a t : ℕ) → selected m bytes a t 0 ≡ None
 unfolding selected
-selected_none m bytes a t = refl
+selected_none m bytes a t = first_none _
 
 pub selected_more : (m : Memory) (bytes : List ℕ) (a t n v : ℕ) → selected m bytes a t n ≡ None → v ≡ function m bytes a t n → v ≡ 0 → selected m bytes a t (n + 1) ≡ None
 unfolding selected
-selected_more m bytes a t n v h e z = rw (add-one, h, ← e, z) refl
-
-not_zero : (v n : ℕ) → 0 < v → (if v == 0 then None else Some n) ≡ Some n
-not_zero v n h = grind (arith, nat_tests)
+selected_more m bytes a t n v h e z = first_more _ n h (zero_fails _ (sym e ∙ z))
 
 pub selected_here : (m : Memory) (bytes : List ℕ) (a t n i v : ℕ) → i < n → selected m bytes a t i ≡ None → v ≡ function m bytes a t i → 0 < v → selected m bytes a t n ≡ Some i
 unfolding selected
-selected_here m bytes a t zero i v l h e z = absurd (omega arith)
-selected_here m bytes a t (suc n) i v l h e z =
-    elim (last_or i n l) [
-      | inl q ↦ rw (← q, h, ← e) (not_zero v i z)
-      | inr k ↦ rw (selected_here m bytes a t n i v k h e z) refl
-    ]
-
-last_of : (p : Option ℕ) (v n j : ℕ) → or_else p (if v == 0 then None else Some n) ≡ Some j → (p ≡ Some j) ⊎ (j ≡ n)
-last_of None zero n j h = let e : None ≡ Some j = h in absurd cc
-last_of None (suc v) n j h = let e : Some n ≡ Some j = sym (not_zero (suc v) n (omega arith)) ∙ h in inr cc
-last_of (Some k) v n j h = inl h
-
--- none is selected before i
-selected_past : (m : Memory) (bytes : List ℕ) (a t n i j : ℕ) → i ≤ n → selected m bytes a t i ≡ None → selected m bytes a t n ≡ Some j → i ≤ j
-unfolding selected
-selected_past m bytes a t zero i j l h e = let x : None ≡ Some j = e in absurd cc
-selected_past m bytes a t (suc n) i j l h e =
-    elim (same_or i n l) [
-      | inl q ↦ let x : selected m bytes a t (suc n) ≡ None = rw q at h in let y : selected m bytes a t (suc n) ≡ Some j = e in absurd cc
-      | inr k ↦ elim (last_of (selected m bytes a t n) (function m bytes a t n) n j e) [
-        | inl q ↦ selected_past m bytes a t n i j k h q
-        | inr z ↦ rw z k
-      ]
-    ]
+selected_here m bytes a t n i v l h e z = first_here _ n i l h (others_pass _ (rw (← e) z))
 
 looked_in : (n i : ℕ) (f : Option ℕ) → i < n → ((j : ℕ) → f ≡ Some j → i ≤ j) → i < looked_up n f
 looked_in n i None l h = l
@@ -188,7 +166,9 @@ looked_in n i (Some j) l h = let k : i ≤ j = h j refl in omega arith
 
 -- an argument before which none is selected is looked up
 looked_past : (m : Memory) (bytes : List ℕ) (a t n i : ℕ) → i < n → selected m bytes a t i ≡ None → i < looked_up n (selected m bytes a t n)
-looked_past m bytes a t n i l h = looked_in n i (selected m bytes a t n) l (λ j e. selected_past m bytes a t n i j (omega arith) h e)
+unfolding selected
+looked_past m bytes a t n i l h =
+    looked_in n i (selected m bytes a t n) l (λ j e. first_past (λ k. not (function m bytes a t k == 0)) n i j (omega arith) h e)
 
 pub search_refused : (m : Memory) (bytes : List ℕ) (a t n i b : ℕ) → i < n → selected m bytes a t i ≡ None → b ≡ function_at m bytes a t i → can_reach m b 1 ≡ false → all_reached m (functions m bytes a t (looked_up n (selected m bytes a t n))) ≡ false
 search_refused m bytes a t n i b l h e k = functions_refused m bytes a t (looked_up n (selected m bytes a t n)) i b (looked_past m bytes a t n i l h) e k

@@ -1,13 +1,13 @@
 -- The rows of translation and of search by a table of function bytes (Principles of Operation, "General
 -- Instructions"). The function byte of an argument stands at the second operand's address plus the argument.
-use Rattle.std.specs.Prelude.{ℕ, zero, suc, ◌+◌, ◌*◌, ◌/◌, true, if◌then◌else◌, ◌==◌, List, [], ◌∷◌, ◌++◌, Option, Some, None, slice_index, slice_set}
+use Rattle.std.specs.Prelude.{ℕ, zero, suc, ◌+◌, ◌*◌, ◌/◌, true, if◌then◌else◌, ◌==◌, not, List, [], ◌∷◌, ◌++◌, Option, Some, None, slice_index, slice_set}
 use Rattle.cov_base.specs.States.{Machine}
-use Rattle.cov_base.specs.Memory.{Memory, byte_at, wrap, or_else}
+use Rattle.cov_base.specs.Memory.{Memory, byte_at, wrap}
 use Rattle.s370_state.specs.Row.{Row, Use, Outcome, Completes, reads, stores, with_cc, with_bytes}
 use Rattle.s370_state.specs.declared.endings.Ending.{Ending}
 use Rattle.s370_decode.specs.Fields.{i2, e1, e2}
 use Rattle.s370_decode.specs.declared.code.Code.{Code}
-use Rattle.s370_storage.specs.Operands.{with_regs}
+use Rattle.s370_storage.specs.Operands.{with_regs, first_where}
 
 -- the address of the function byte of argument n, by the table at t
 abbrev pub function_at : Memory → List ℕ → ℕ → ℕ → ℕ → ℕ
@@ -44,8 +44,7 @@ function m bytes a t n = byte_at m bytes (function_at m bytes a t n)
 
 -- the first of the n arguments whose function byte isn't zero
 unfoldable pub selected : Memory → List ℕ → ℕ → ℕ → ℕ → Option ℕ
-selected m bytes a t zero = None
-selected m bytes a t (suc n) = or_else (selected m bytes a t n) (if function m bytes a t n == 0 then None else Some n)
+selected m bytes a t n = first_where (λ i. not (function m bytes a t i == 0)) n
 
 -- how many of n arguments are looked up, where that one is selected
 abbrev pub looked_up : ℕ → Option ℕ → ℕ
