@@ -1,6 +1,7 @@
 //! Operations on fields in storage: the effect of each on registers, condition code and private storage.
 #![tactic(auto)]
 
+mod long;
 mod moves;
 mod operands;
 mod packing;
