@@ -39,7 +39,7 @@ first_past p (suc n) i j l h e =
     elim (same_or i n l) [
       | inl q ↦ let x : first_where p (suc n) ≡ None = rw q at h in let y : first_where p (suc n) ≡ Some j = e in absurd cc
       | inr k ↦ elim (last_of (p n) (first_where p n) n j e) [
-          | inl q ↦ first_past p n i j k h q
-          | inr z ↦ rw z k
-        ]
+        | inl q ↦ first_past p n i j k h q
+        | inr z ↦ rw z k
+      ]
     ]

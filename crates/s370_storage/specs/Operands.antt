@@ -1,7 +1,12 @@
 -- What rows of this group share.
-use Rattle.std.specs.Prelude.{ℕ, zero, suc, Bool, if◌then◌else◌, List, Option, Some, None}
+use Rattle.std.specs.Prelude.{ℕ, zero, suc, Bool, true, if◌then◌else◌, List, [], Option, Some, None}
 use Rattle.cov_base.specs.States.{Machine}
 use Rattle.cov_base.specs.Memory.{or_else}
+use Rattle.s370_state.specs.Row.{Row, Outcome}
+
+-- no operand in storage, and no test
+abbrev pub at_once : Outcome → Row
+at_once o = record { well = true; uses = []; outcome = o }
 
 abbrev pub with_regs : Machine → List ℕ → Machine
 with_regs s regs = record { cpu = record { regs = regs; ia = s.cpu.ia; condition = s.cpu.condition; mask = s.cpu.mask }; bytes = s.bytes }

@@ -5,4 +5,7 @@ mod long;
 mod moves;
 mod operands;
 mod packing;
+mod table;
 mod translate;
+
+pub use table::storage;
