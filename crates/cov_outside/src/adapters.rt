@@ -16,6 +16,7 @@ pub struct StdSource<R> {
 }
 
 impl<R: Read> StdSource<R> {
+    /// A source over the reader, which has not failed yet.
     pub fn new(inner: R) -> StdSource<R>
         ensures inner { reader_of result ≡ inner }
         ensures faults { read_faults result ≡ 0 }
@@ -61,6 +62,7 @@ pub struct StdSink<W> {
 }
 
 impl<W: Write> StdSink<W> {
+    /// A sink over the writer, which has not failed yet.
     pub fn new(inner: W) -> StdSink<W>
         ensures inner { writer_of result ≡ inner }
         ensures faults { write_faults result ≡ 0 }

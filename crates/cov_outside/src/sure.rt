@@ -67,6 +67,7 @@ impl Source for SureSource {
 pub struct SureSink;
 
 impl SureSink {
+    /// A sink that was given nothing yet.
     pub fn new() -> SureSink {
         SureSink
     }

@@ -18,6 +18,7 @@ pub fn digit(b: u8) -> Option<u8>
     }
 }
 
+/// Whether a column of the line, counted from 1, is a blank.
 pub fn is_blank_at(line: &[u8], shift: u8, n: usize) -> bool
     requires { 1 ≤ n }
     ensures { result ≡ is_blank_at line.now shift n }

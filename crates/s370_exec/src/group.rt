@@ -17,6 +17,7 @@ pub enum Group {
     Missing,
 }
 
+/// The table that has the operation.
 pub fn group_of(op: Op) -> Group
     ensures { result ≡ group_of op }
 {

@@ -2,4 +2,3 @@ pub mod Wide
 pub mod Powers
 pub mod Registers
 pub mod Digits
-pub mod Ranges

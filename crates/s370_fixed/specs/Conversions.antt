@@ -1,11 +1,12 @@
 -- The rows of conversions between a register and a packed decimal doubleword: 15 digits, then the sign in the last
 -- half byte (Principles of Operation, "General Instructions", "Decimal Instructions").
-use Rattle.std.specs.Prelude.{ℕ, zero, suc, ◌+◌, ◌*◌, ◌/◌, ◌%◌, Bool, true, ◌&&◌, ◌==◌, nat_le, nat_lt, if◌then◌else◌, [], ◌∷◌, ℤ, pos, negsuc, neg_ℤ}
+use Rattle.std.specs.Prelude.{ℕ, zero, suc, ◌+◌, ◌*◌, ◌/◌, ◌%◌, Bool, true, false, ◌&&◌, nat_lt, if◌then◌else◌, [], ◌∷◌, ℤ, pos, negsuc, neg_ℤ}
 use Rattle.std.specs.Int.RustNames.{unsigned_abs}
 use Rattle.cov_base.specs.States.{Machine}
 use Rattle.cov_base.specs.Memory.{Memory}
 use Rattle.s370_state.specs.Row.{Row, Outcome, Completes, Program, reads, stores, reg, with_reg, with_bytes}
 use Rattle.s370_state.specs.Words.{number_at, store_double, signed, low_word, is_word}
+use Rattle.s370_state.specs.Digits.{is_sign, is_minus, sign_half}
 use Rattle.s370_decode.specs.Fields.{r1, ex}
 use Rattle.s370_decode.specs.declared.code.Code.{Code}
 
@@ -18,14 +19,6 @@ is_decimal (suc k) n = is_decimal k (n / 16) && nat_lt (n % 16) 10
 unfoldable pub decimal : ℕ → ℕ → ℕ
 decimal zero n = 0
 decimal (suc k) n = decimal k (n / 16) * 10 + n % 16
-
--- the half bytes A to F are signs
-abbrev pub is_sign : ℕ → Bool
-is_sign n = nat_le 10 n
-
--- B and D are minus
-abbrev pub is_minus : ℕ → Bool
-is_minus n = if n == 11 then true else n == 13
 
 -- the doubleword's value goes to register r; a bad digit or sign is code 7, and a value that is no word code 9
 unfoldable pub converted : Machine → ℕ → ℕ → Outcome
@@ -43,13 +36,12 @@ unfoldable pub packed : ℕ → ℕ → ℕ
 packed zero n = 0
 packed (suc k) n = packed k (n / 10) * 16 + n % 10
 
--- C is the plus sign that is made, and D the minus sign
-unfoldable pub made_sign : ℤ → ℕ
-made_sign (pos n) = 12
-made_sign (negsuc n) = 13
+abbrev pub is_negative : ℤ → Bool
+is_negative (pos n) = false
+is_negative (negsuc n) = true
 
 abbrev pub packed_double : ℤ → ℕ
-packed_double z = packed 15 (unsigned_abs z) * 16 + made_sign z
+packed_double z = packed 15 (unsigned_abs z) * 16 + sign_half (is_negative z)
 
 abbrev pub row_cvd : Memory → Machine → Code → Row
 row_cvd m s c = record { well = true; uses = stores (ex s.cpu c) 8 ∷ []; outcome = Completes (with_bytes s (store_double s.bytes (ex s.cpu c) (packed_double (signed (reg s (r1 c)))))) }

@@ -2,11 +2,10 @@
 use Rattle.std.specs.Prelude.{Bool, true, false}
 use Rattle.cov_base.specs.States.{Machine}
 use Rattle.cov_base.specs.Memory.{Memory}
-use Rattle.s370_state.specs.Row.{Row, Completes}
+use Rattle.s370_state.specs.Row.{Row, Completes, at_once}
 use Rattle.s370_decode.specs.declared.code.Code.{Code}
 use Rattle.s370_decode.specs.declared.op.Op.{Op}
 use Rattle.s370_decode.specs.declared.op.Op.TheVariants.{LR, L, LH, LTR, LCR, LPR, LNR, LA, ST, STH, LM, STM, AR, A, AH, SR, S, SH, ALR, AL, SLR, SL, CR, C, CH, MR, M, MH, DR, D, SLL, SRL, SLA, SRA, SLDL, SRDL, SLDA, SRDA, CVB, CVD}
-use Rattle.s370_fixed.specs.Operands.{at_once}
 use Rattle.s370_fixed.specs.Loads.{row_lr, row_l, row_lh, row_ltr, row_lcr, row_lpr, row_lnr, row_la, row_st, row_sth}
 use Rattle.s370_fixed.specs.Multiple.{row_lm, row_stm}
 use Rattle.s370_fixed.specs.Sums.{row_ar, row_a, row_ah, row_sr, row_s, row_sh, row_alr, row_al, row_slr, row_sl, row_cr, row_c, row_ch}

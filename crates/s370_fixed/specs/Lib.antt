@@ -6,4 +6,3 @@ pub mod Products
 pub mod Shifts
 pub mod Conversions
 pub mod Fixed
-pub mod Plain

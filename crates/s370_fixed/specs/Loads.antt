@@ -3,17 +3,17 @@ use Rattle.std.specs.Prelude.{true, [], ◌∷◌, pos, neg_ℤ}
 use Rattle.std.specs.Int.RustNames.{unsigned_abs}
 use Rattle.cov_base.specs.States.{Machine}
 use Rattle.cov_base.specs.Memory.{Memory}
-use Rattle.s370_state.specs.Row.{Row, Completes, stores, reg, with_reg, with_cc, with_bytes}
+use Rattle.s370_state.specs.Row.{Row, Completes, stores, reg, with_reg, with_cc, with_bytes, at_once, from_word}
 use Rattle.s370_state.specs.Words.{signed, low_word, sign_code, store_word, store_half}
 use Rattle.s370_decode.specs.Fields.{r1, ex}
 use Rattle.s370_decode.specs.declared.code.Code.{Code}
-use Rattle.s370_fixed.specs.Operands.{at_once, from_register, from_word, from_half, loads, results}
+use Rattle.s370_fixed.specs.Operands.{from_register, from_half, loads, results}
 
 abbrev pub row_lr : Memory → Machine → Code → Row
 row_lr m s c = from_register s c (loads s c)
 
 abbrev pub row_l : Memory → Machine → Code → Row
-row_l m s c = from_word m s c (loads s c)
+row_l m s c = from_word m s (ex s.cpu c) (loads s c)
 
 abbrev pub row_lh : Memory → Machine → Code → Row
 row_lh m s c = from_half m s c (λ z. loads s c (low_word z))

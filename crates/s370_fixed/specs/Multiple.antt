@@ -2,11 +2,10 @@
 use Rattle.std.specs.Prelude.{ℕ, zero, suc, ◌+◌, ◌-◌, ◌*◌, ◌%◌, true, List, [], ◌∷◌, slice_index, slice_set}
 use Rattle.cov_base.specs.States.{Machine}
 use Rattle.cov_base.specs.Memory.{Memory}
-use Rattle.s370_state.specs.Row.{Row, Completes, reads, stores, with_bytes}
+use Rattle.s370_state.specs.Row.{Row, Completes, reads, stores, with_bytes, with_regs}
 use Rattle.s370_state.specs.Words.{number_at, store_word}
 use Rattle.s370_decode.specs.Fields.{r1, r2, e2}
 use Rattle.s370_decode.specs.declared.code.Code.{Code}
-use Rattle.s370_fixed.specs.Operands.{with_regs}
 
 -- the number of registers from R1 to R3, 15 followed by 0
 abbrev pub many : Code → ℕ

@@ -1,25 +1,17 @@
 -- The second operand of an operation, and the shapes of outcomes that operations share.
-use Rattle.std.specs.Prelude.{ℕ, true, if◌then◌else◌, List, [], ◌∷◌, ℤ}
+use Rattle.std.specs.Prelude.{ℕ, true, if◌then◌else◌, [], ◌∷◌, ℤ}
 use Rattle.cov_base.specs.States.{Machine}
 use Rattle.cov_base.specs.Memory.{Memory}
-use Rattle.s370_state.specs.Row.{Row, Outcome, Completes, Overflows, reads, reg, with_reg, with_cc, is_even}
+use Rattle.s370_state.specs.Row.{Row, Outcome, Completes, Overflows, at_once, reads, reg, with_reg, with_cc, is_even}
 use Rattle.s370_state.specs.Words.{number_at, signed_half, low_word, is_word, sign_code}
 use Rattle.s370_decode.specs.Fields.{r1, r2, ex}
 use Rattle.s370_decode.specs.declared.code.Code.{Code}
-
--- no operand in storage, and no test
-abbrev pub at_once : Outcome → Row
-at_once o = record { well = true; uses = []; outcome = o }
 
 -- R2 is the operand
 abbrev pub from_register : Machine → Code → (ℕ → Outcome) → Row
 from_register s c f = at_once (f (reg s (r2 c)))
 
--- the word at the second operand's address is
-abbrev pub from_word : Memory → Machine → Code → (ℕ → Outcome) → Row
-from_word m s c f = record { well = true; uses = reads (ex s.cpu c) 4 ∷ []; outcome = f (number_at m s.bytes (ex s.cpu c) 4) }
-
--- the halfword there is, extended by its sign
+-- the halfword at the second operand's address is, extended by its sign
 abbrev pub from_half : Memory → Machine → Code → (ℤ → Outcome) → Row
 from_half m s c f = record { well = true; uses = reads (ex s.cpu c) 2 ∷ []; outcome = f (signed_half (number_at m s.bytes (ex s.cpu c) 2)) }
 
@@ -37,6 +29,3 @@ pair_from_register s c f = record { well = is_even (r1 c); uses = []; outcome = 
 
 abbrev pub pair_from_word : Memory → Machine → Code → (ℕ → Outcome) → Row
 pair_from_word m s c f = record { well = is_even (r1 c); uses = reads (ex s.cpu c) 4 ∷ []; outcome = f (number_at m s.bytes (ex s.cpu c) 4) }
-
-abbrev pub with_regs : Machine → List ℕ → Machine
-with_regs s regs = record { cpu = record { regs = regs; ia = s.cpu.ia; condition = s.cpu.condition; mask = s.cpu.mask }; bytes = s.bytes }

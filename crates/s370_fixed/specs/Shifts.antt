@@ -2,10 +2,10 @@
 use Rattle.std.specs.Prelude.{ℕ, ◌+◌, ◌-◌, ◌*◌, ◌/◌, ◌%◌, ◌^◌, Bool, ◌==◌, nat_lt, nat_le, if◌then◌else◌, []}
 use Rattle.cov_base.specs.States.{Machine}
 use Rattle.cov_base.specs.Memory.{Memory}
-use Rattle.s370_state.specs.Row.{Row, Outcome, Completes, Overflows, reg, with_reg, with_cc, is_even, pair, with_pair}
+use Rattle.s370_state.specs.Row.{Row, Outcome, Completes, Overflows, reg, with_reg, with_cc, is_even, pair, with_pair, at_once, with_regs}
 use Rattle.s370_decode.specs.Fields.{r1, e2}
 use Rattle.s370_decode.specs.declared.code.Code.{Code}
-use Rattle.s370_fixed.specs.Operands.{at_once, loads, with_regs}
+use Rattle.s370_fixed.specs.Operands.{loads}
 
 -- the shift's distance is the low six bits of the second operand's address
 abbrev pub distance : Machine → Code → ℕ

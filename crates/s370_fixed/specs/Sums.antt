@@ -2,11 +2,11 @@
 use Rattle.std.specs.Prelude.{ℕ, ◌+◌, ◌-◌, ◌%◌, ◌==◌, nat_lt, if◌then◌else◌, ◌+ℤ◌, ◌-ℤ◌, ℤ}
 use Rattle.cov_base.specs.States.{Machine}
 use Rattle.cov_base.specs.Memory.{Memory}
-use Rattle.s370_state.specs.Row.{Row, Outcome, Completes, reg, with_reg, with_cc}
+use Rattle.s370_state.specs.Row.{Row, Outcome, Completes, reg, with_reg, with_cc, from_word}
 use Rattle.s370_state.specs.Words.{signed, sign_code}
-use Rattle.s370_decode.specs.Fields.{r1}
+use Rattle.s370_decode.specs.Fields.{r1, ex}
 use Rattle.s370_decode.specs.declared.code.Code.{Code}
-use Rattle.s370_fixed.specs.Operands.{from_register, from_word, from_half, results}
+use Rattle.s370_fixed.specs.Operands.{from_register, from_half, results}
 
 -- R1 as a signed number
 abbrev pub first : Machine → Code → ℤ
@@ -16,7 +16,7 @@ abbrev pub row_ar : Memory → Machine → Code → Row
 row_ar m s c = from_register s c (λ v. results s c (first s c +ℤ signed v))
 
 abbrev pub row_a : Memory → Machine → Code → Row
-row_a m s c = from_word m s c (λ v. results s c (first s c +ℤ signed v))
+row_a m s c = from_word m s (ex s.cpu c) (λ v. results s c (first s c +ℤ signed v))
 
 abbrev pub row_ah : Memory → Machine → Code → Row
 row_ah m s c = from_half m s c (λ z. results s c (first s c +ℤ z))
@@ -25,7 +25,7 @@ abbrev pub row_sr : Memory → Machine → Code → Row
 row_sr m s c = from_register s c (λ v. results s c (first s c -ℤ signed v))
 
 abbrev pub row_s : Memory → Machine → Code → Row
-row_s m s c = from_word m s c (λ v. results s c (first s c -ℤ signed v))
+row_s m s c = from_word m s (ex s.cpu c) (λ v. results s c (first s c -ℤ signed v))
 
 abbrev pub row_sh : Memory → Machine → Code → Row
 row_sh m s c = from_half m s c (λ z. results s c (first s c -ℤ z))
@@ -42,7 +42,7 @@ abbrev pub row_alr : Memory → Machine → Code → Row
 row_alr m s c = from_register s c (λ v. sums s c (reg s (r1 c) + v))
 
 abbrev pub row_al : Memory → Machine → Code → Row
-row_al m s c = from_word m s c (λ v. sums s c (reg s (r1 c) + v))
+row_al m s c = from_word m s (ex s.cpu c) (λ v. sums s c (reg s (r1 c) + v))
 
 -- R1, the one's complement of the operand, and 1
 abbrev pub differs : Machine → Code → ℕ → Outcome
@@ -52,7 +52,7 @@ abbrev pub row_slr : Memory → Machine → Code → Row
 row_slr m s c = from_register s c (differs s c)
 
 abbrev pub row_sl : Memory → Machine → Code → Row
-row_sl m s c = from_word m s c (differs s c)
+row_sl m s c = from_word m s (ex s.cpu c) (differs s c)
 
 -- 0 where R1 and the number are equal, 1 where R1 is low, 2 where it is high: the sign code of their difference
 abbrev pub compares : Machine → Code → ℤ → Outcome
@@ -62,7 +62,7 @@ abbrev pub row_cr : Memory → Machine → Code → Row
 row_cr m s c = from_register s c (λ v. compares s c (signed v))
 
 abbrev pub row_c : Memory → Machine → Code → Row
-row_c m s c = from_word m s c (λ v. compares s c (signed v))
+row_c m s c = from_word m s (ex s.cpu c) (λ v. compares s c (signed v))
 
 abbrev pub row_ch : Memory → Machine → Code → Row
 row_ch m s c = from_half m s c (compares s c)

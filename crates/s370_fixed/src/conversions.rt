@@ -3,13 +3,13 @@
 
 ghost use Rattle.std.specs.Prelude.{◌≡◌, ℕ, ◌+◌, ◌*◌, ◌/◌, ◌%◌, ◌^◌, ◌<◌, ◌≤◌, ℤ, pos, neg_ℤ, ◌≤ℤ◌, ◌<ℤ◌, List, true, false, IfSome, IfNone, if◌then◌else◌};
 ghost use Rattle.s370_state.specs.Row.{Performs, machine_of, after, finish};
-ghost use Rattle.s370_fixed.specs.Conversions.{is_decimal, decimal, converted, packed, made_sign, packed_double, row_cvb, row_cvd};
+ghost use Rattle.s370_fixed.specs.Conversions.{is_decimal, decimal, converted, packed, packed_double, row_cvb, row_cvd};
 
 use crate::operands::address;
 use s370_decode::Code;
 use s370_state::{
-    Cpu, Ending, Next, Space, double_of, is_word, low_word, put_double, signed, test_read,
-    test_store,
+    Cpu, Ending, Next, Space, double_of, is_minus, is_sign, is_word, low_word, put_double,
+    sign_half, signed, test_read, test_store,
 };
 
 /// The value of the k half bytes at the right of n; none where one is no digit.
@@ -43,14 +43,14 @@ fn convert(cpu: &mut Cpu, r: u8, n: u64) -> Next
     requires { r < 16 }
     ensures { (bytes : List ℕ) → after cpu.new bytes result ≡ finish (machine_of cpu.old bytes) (converted (machine_of cpu.old bytes) r n) }
 {
-    let sign = n % 16;
-    if sign < 10 {
+    let sign = (n % 16) as u8;
+    if !is_sign(sign) {
         return Next::Ended(Ending::Abend(7));
     }
     match decimal(15, n / 16) {
         None => Next::Ended(Ending::Abend(7)),
         Some(v) => {
-            let z = if sign == 11 || sign == 13 {
+            let z = if is_minus(sign) {
                 -(v as i64)
             } else {
                 v as i64
@@ -78,19 +78,11 @@ fn packed(k: u8, n: u64) -> u64
     packed(k - 1, n / 10) * 16 + n % 10
 }
 
-#[tactic(auto, unfolding(crate::specs::Conversions::made_sign))]
-fn made_sign(z: i64) -> u64
-    ensures value { result ≡ made_sign z }
-    ensures below { result < 16 }
-{
-    if z < 0 { 13 } else { 12 }
-}
-
 /// The number as a doubleword of 15 digits and a sign.
 fn packed_double(z: i64) -> u64
     ensures { result ≡ packed_double z }
 {
-    packed(15, z.unsigned_abs()) * 16 + made_sign(z)
+    packed(15, z.unsigned_abs()) * 16 + u64::from(sign_half(z < 0))
 }
 
 /// CVB.

@@ -7,8 +7,8 @@ ghost use Rattle.s370_decode.specs.Fields.{ex};
 use cov_base::Addr;
 use s370_decode::Code;
 use s370_state::{
-    Cpu, Ending, Next, Space, half_of, is_word, low_word, next_after, sign_code, signed_half,
-    test_read, word_of,
+    Cpu, Ending, Next, Space, half_of, is_word, low_word, next_after, read_word, sign_code,
+    signed_half, test_read,
 };
 
 /// The second operand's address in the RX format.
@@ -24,11 +24,7 @@ pub fn word<P: Space>(cpu: &Cpu, space: &P, code: &Code) -> Result<u32, Ending>
     ensures passed { IfOk result (λ _. use_tests (P.memory space.now) (reads (ex cpu.now code.now) 4 ∷ []) ≡ None) }
     ensures value { IfOk result (λ v. v ≡ number_at (P.memory space.now) (P.bytes space.now) (ex cpu.now code.now) 4) }
 {
-    let at = address(cpu, code);
-    match test_read(space, at, 4) {
-        Ok(()) => Ok(word_of(space, at, 0, 4)),
-        Err(e) => Err(e),
-    }
+    read_word(space, address(cpu, code))
 }
 
 /// The halfword there, extended by its sign.

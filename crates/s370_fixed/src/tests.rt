@@ -1,5 +1,4 @@
 //! Each operation against vectors from outside.
-mod space;
 mod vectors;
 
 ghost use Rattle.std.specs.Prelude.{◌≡◌, ◌<◌, ◌≤◌};
@@ -8,8 +7,7 @@ ghost use Rattle.s370_fixed.specs.Fixed.{is_fixed};
 use super::*;
 use cov_base::Addr;
 use s370_decode::{Code, Op, length, op_of};
-use s370_state::{Cpu, Ending, Next};
-use space::PlainSpace;
+use s370_state::{Cpu, Ending, Next, PlainSpace};
 use std::alloc::{AllocError, Global};
 use std::test::*;
 use vectors::{MODULE, STORAGE, VECTORS};

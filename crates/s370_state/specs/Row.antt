@@ -2,6 +2,7 @@
 use Rattle.std.specs.Prelude.{◌≡◌, ℕ, ◌+◌, ◌*◌, ◌%◌, ◌/◌, Bool, true, false, ◌&&◌, if◌then◌else◌, ◌==◌, nat_le, Option, Some, None, List, [], ◌∷◌, slice_index, slice_set}
 use Rattle.cov_base.specs.States.{CpuView, Machine}
 use Rattle.cov_base.specs.Memory.{Memory, can_reach, can_store, first_touch, or_else}
+use Rattle.s370_state.specs.Words.{number_at}
 use Rattle.s370_state.specs.declared.endings.Ending.{Ending}
 use Rattle.s370_state.specs.declared.endings.Ending.TheVariants.{Abend, Touched}
 use Rattle.s370_state.specs.declared.endings.Next.{Next}
@@ -76,6 +77,14 @@ after_tests s o (Some e) = record { machine = s; next = Ended e }
 unfoldable pub perform : Memory → Machine → Row → After
 perform m s row = after_tests s row.outcome (tests m row.well row.uses)
 
+-- no operand in storage, and no test
+abbrev pub at_once : Outcome → Row
+at_once o = record { well = true; uses = []; outcome = o }
+
+-- the word at an address is the operand
+abbrev pub from_word : Memory → Machine → ℕ → (ℕ → Outcome) → Row
+from_word m s a f = record { well = true; uses = reads a 4 ∷ []; outcome = f (number_at m s.bytes a 4) }
+
 abbrev pub machine_of : CpuView → List ℕ → Machine
 machine_of c b = record { cpu = c; bytes = b }
 
@@ -99,6 +108,9 @@ with_reg s r v = record { cpu = record { regs = slice_set s.cpu.regs r v; ia = s
 -- the registers with other 64 bits in a pair
 abbrev pub with_pair : List ℕ → ℕ → ℕ → List ℕ
 with_pair regs r v = slice_set (slice_set regs r (v / 4294967296)) (r + 1) (v % 4294967296)
+
+abbrev pub with_regs : Machine → List ℕ → Machine
+with_regs s regs = record { cpu = record { regs = regs; ia = s.cpu.ia; condition = s.cpu.condition; mask = s.cpu.mask }; bytes = s.bytes }
 
 abbrev pub with_cc : Machine → ℕ → Machine
 with_cc s code = record { cpu = record { regs = s.cpu.regs; ia = s.cpu.ia; condition = code; mask = s.cpu.mask }; bytes = s.bytes }

@@ -120,6 +120,18 @@ pub fn word_of<P: Space>(space: &P, at: Addr, i: u32, len: u32) -> u32
     ])
 }
 
+/// The word at an address, tested as an operand that is read.
+pub fn read_word<P: Space>(space: &P, at: Addr) -> Result<u32, Ending>
+    ensures refused { IfErr result (λ e. use_tests (P.memory space.now) (reads at 4 ∷ []) ≡ Some e) }
+    ensures passed { IfOk result (λ _. use_tests (P.memory space.now) (reads at 4 ∷ []) ≡ None) }
+    ensures value { IfOk result (λ v. v ≡ number_at (P.memory space.now) (P.bytes space.now) at 4) }
+{
+    match test_read(space, at, 4) {
+        Ok(()) => Ok(word_of(space, at, 0, 4)),
+        Err(e) => Err(e),
+    }
+}
+
 /// A word is stored at a distance into an operand that was tested.
 #[tactic(auto, unfolding(crate::specs::Words::store_word))]
 pub fn put_word<P: Space>(space: &mut P, at: Addr, i: u32, len: u32, value: u32)

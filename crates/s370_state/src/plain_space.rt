@@ -1,18 +1,25 @@
-//! Storage for tests: private bytes, one module, and a list of touch bytes.
+//! A task's storage over vectors.
 ghost use Rattle.std.specs.Prelude.{◌≡◌, ℕ, ◌+◌, ◌*◌, ◌%◌, ◌<◌, ◌≤◌, ◌^◌, List, vec_len, length, true, nat_lt, nat_le, ◌&&◌, ◌==◌};
 ghost use Rattle.std.specs.List.{list_any};
 ghost use Rattle.cov_base.specs.Memory.{is_accessible, is_private, can_reach, can_store, first_touch, byte_at};
-ghost use Rattle.s370_fixed.specs.Plain.{memory_of};
+ghost use Rattle.s370_state.specs.Plain.{memory_of};
 
+use crate::space::{Refused, Space};
 use cov_base::Addr;
-use s370_state::{Refused, Space};
 
+/// Storage with at most one module, byte by byte: for a task that stands alone, as in the tests of the operations.
+/// A call takes time by the number of touch bytes too.
 #[derive(Drop)]
 pub struct PlainSpace {
+    /// The number of private bytes.
     pub size: u32,
+    /// The private bytes, from address 0 on.
     pub bytes: Vec<u8>,
+    /// The address of the module's first byte. Where private storage reaches over it, the private byte stands.
     pub base: u32,
+    /// The module's bytes.
     pub image: Vec<u8>,
+    /// The addresses of the touch bytes.
     pub touches: Vec<u32>,
     ghost in_size: { vec_len bytes ≡ size },
     ghost small: { base + vec_len image < 2 ^ 32 },

@@ -1,8 +1,8 @@
+-- Storage over lists: private bytes of a size, one module, and touch bytes.
 use Rattle.std.specs.Prelude.{ℕ, ◌+◌, ◌-◌, ◌==◌, ◌&&◌, nat_lt, nat_le, List, length, slice_index}
 use Rattle.std.specs.List.{list_any}
 use Rattle.cov_base.specs.Memory.{Memory}
 
--- storage for tests: one module, and a list of touch bytes
 unfoldable pub memory_of : ℕ → ℕ → List ℕ → List ℕ → Memory
 memory_of size base image touches = record {
   private = size;
