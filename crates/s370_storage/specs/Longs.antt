@@ -3,10 +3,10 @@
 use Rattle.std.specs.Prelude.{ℕ, zero, suc, ◌+◌, ◌-◌, ◌*◌, ◌/◌, min, max, Bool, true, false, ◌&&◌, not, nat_lt, ◌==◌, if◌then◌else◌, List, [], ◌∷◌, Option, Some, None, slice_index, slice_set}
 use Rattle.cov_base.specs.States.{Machine}
 use Rattle.cov_base.specs.Memory.{Memory, byte_at, wrap}
-use Rattle.s370_state.specs.Row.{Row, Outcome, Completes, reads, stores, is_even, with_cc, with_bytes}
+use Rattle.s370_state.specs.Row.{Row, Outcome, Completes, reads, stores, is_even, with_cc, with_bytes, with_regs}
 use Rattle.s370_decode.specs.Fields.{r1, r2}
 use Rattle.s370_decode.specs.declared.code.Code.{Code}
-use Rattle.s370_storage.specs.Operands.{with_regs, first_where}
+use Rattle.s370_storage.specs.Searches.{first_where}
 use Rattle.s370_storage.specs.Moves.{moved}
 use Rattle.s370_storage.specs.declared.moves.Part.TheVariants.{Byte}
 use Rattle.s370_storage.specs.declared.long.Long.{Long}

@@ -2,11 +2,10 @@
 use Rattle.std.specs.Prelude.{Bool, true, false}
 use Rattle.cov_base.specs.States.{Machine}
 use Rattle.cov_base.specs.Memory.{Memory}
-use Rattle.s370_state.specs.Row.{Row, Completes}
+use Rattle.s370_state.specs.Row.{Row, Completes, at_once}
 use Rattle.s370_decode.specs.declared.code.Code.{Code}
 use Rattle.s370_decode.specs.declared.op.Op.{Op}
 use Rattle.s370_decode.specs.declared.op.Op.TheVariants.{MVC, MVN, MVZ, MVCIN, TR, TRT, MVCL, CLCL, PACK, UNPK, MVO}
-use Rattle.s370_storage.specs.Operands.{at_once}
 use Rattle.s370_storage.specs.Moves.{row_mvc, row_mvn, row_mvz, row_mvcin}
 use Rattle.s370_storage.specs.Translations.{row_tr, row_trt}
 use Rattle.s370_storage.specs.Longs.{row_mvcl, row_clcl}

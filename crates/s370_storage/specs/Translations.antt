@@ -3,11 +3,11 @@
 use Rattle.std.specs.Prelude.{ℕ, zero, suc, ◌+◌, ◌*◌, ◌/◌, true, if◌then◌else◌, ◌==◌, not, List, [], ◌∷◌, ◌++◌, Option, Some, None, slice_index, slice_set}
 use Rattle.cov_base.specs.States.{Machine}
 use Rattle.cov_base.specs.Memory.{Memory, byte_at, wrap}
-use Rattle.s370_state.specs.Row.{Row, Use, Outcome, Completes, reads, stores, with_cc, with_bytes}
+use Rattle.s370_state.specs.Row.{Row, Use, Outcome, Completes, reads, stores, with_cc, with_bytes, with_regs}
 use Rattle.s370_state.specs.declared.endings.Ending.{Ending}
 use Rattle.s370_decode.specs.Fields.{i2, e1, e2}
 use Rattle.s370_decode.specs.declared.code.Code.{Code}
-use Rattle.s370_storage.specs.Operands.{with_regs, first_where}
+use Rattle.s370_storage.specs.Searches.{first_where}
 
 -- the address of the function byte of argument n, by the table at t
 abbrev pub function_at : Memory → List ℕ → ℕ → ℕ → ℕ → ℕ
