@@ -9,3 +9,6 @@ mod table;
 mod translate;
 
 pub use table::storage;
+
+#[cfg(test)]
+mod tests;

@@ -103,8 +103,8 @@ fn invert_bytes<P: Space>(space: &mut P, a: Addr, b: Addr, l: u8)
 {
     let n = u32::from(l) + 1;
     for i in 0..n {
-        let value = space.byte(left_of(b, i));
-        put_into(space, a, i, n, value);
+        let byte = space.byte(left_of(b, i));
+        put_into(space, a, i, n, byte);
     }
 }
 
