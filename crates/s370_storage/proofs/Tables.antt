@@ -145,7 +145,7 @@ translated_keeps m bytes a t (suc n) i l h =
 zero_fails : (v : ℕ) → v ≡ 0 → not (v == 0) ≡ false
 zero_fails v e = rw e refl
 
-others_pass : (v : ℕ) → 0 < v → not (v == 0) ≡ true
+others_pass : (v : ℕ) → v ≢ 0 → not (v == 0) ≡ true
 others_pass v h = grind (arith, nat_tests)
 
 pub selected_none : (m : Memory) (bytes : List ℕ) (a t : ℕ) → selected m bytes a t 0 ≡ None
@@ -156,9 +156,9 @@ pub selected_more : (m : Memory) (bytes : List ℕ) (a t n v : ℕ) → selected
 unfolding selected
 selected_more m bytes a t n v h e z = first_more _ n h (zero_fails _ (sym e ∙ z))
 
-pub selected_here : (m : Memory) (bytes : List ℕ) (a t n i v : ℕ) → i < n → selected m bytes a t i ≡ None → v ≡ function m bytes a t i → 0 < v → selected m bytes a t n ≡ Some i
+pub selected_here : (m : Memory) (bytes : List ℕ) (a t n i v : ℕ) → i < n → selected m bytes a t i ≡ None → v ≡ function m bytes a t i → v ≢ 0 → Some i ≡ selected m bytes a t n
 unfolding selected
-selected_here m bytes a t n i v l h e z = first_here _ n i l h (others_pass _ (rw (← e) z))
+selected_here m bytes a t n i v l h e z = sym (first_here _ n i l h (rw (← e) (others_pass v z)))
 
 looked_in : (n i : ℕ) (f : Option ℕ) → i < n → ((j : ℕ) → f ≡ Some j → i ≤ j) → i < looked_up n f
 looked_in n i None l h = l
