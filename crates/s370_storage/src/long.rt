@@ -58,6 +58,7 @@ fn pass(cpu: &mut Cpu, r: u8, q: u8, o: &Long, j: u32, k: u32)
     cpu.set_reg(q + 1, high_second + (o.second_len - k));
 }
 
+/// Whether both registers begin pairs.
 fn are_even(r: u8, q: u8) -> bool
     ensures { result ≡ (is_even r && is_even q) }
 {
@@ -86,6 +87,7 @@ fn fill<P: Space>(space: &mut P, o: &Long)
     }
 }
 
+/// Moves as many bytes as both operands have, and pads the rest of the first.
 #[tactic(auto, using(crate::proofs::LongSteps::store_prefix, crate::proofs::LongSteps::reach_prefix))]
 fn move_and_fill<P: Space>(space: &mut P, o: &Long)
     requires store { can_store (P.memory space.old) o.now.first o.now.first_len ≡ true }
@@ -99,6 +101,7 @@ fn move_and_fill<P: Space>(space: &mut P, o: &Long)
     fill(space, o);
 }
 
+/// The condition code of a long move: lengths equal, first lower, first higher.
 fn length_code(o: &Long) -> u8
     ensures value { result ≡ length_code o.now }
     ensures below { result ≤ 2 }
@@ -132,6 +135,7 @@ fn move_apart<P: Space>(cpu: &mut Cpu, space: &mut P, r: u8, q: u8, o: &Long) ->
     Next::On
 }
 
+/// MVCL, where both registers are even.
 fn move_even<P: Space>(cpu: &mut Cpu, space: &mut P, r: u8, q: u8) -> Next
     requires r { r < 16 }
     requires q { q < 16 }
@@ -210,6 +214,7 @@ fn set_compared<P: Space>(cpu: &mut Cpu, space: &P, r: u8, q: u8, o: &Long, uneq
     }
 }
 
+/// CLCL, where both registers are even.
 fn compare_even<P: Space>(cpu: &mut Cpu, space: &mut P, r: u8, q: u8) -> Next
     requires r { r < 16 }
     requires q { q < 16 }

@@ -93,6 +93,7 @@ fn packed_byte<P: Space>(space: &P, o: &Fields, k: u32) -> u8
     left % 16 * 16 + right % 16
 }
 
+/// Forms each result byte of PACK.
 #[tactic(auto, using(crate::proofs::Digits::packed_none, crate::proofs::Digits::packed_more))]
 fn pack_bytes<P: Space>(space: &mut P, o: &Fields)
     requires to { o.now.to_last < 16 }
@@ -135,6 +136,7 @@ fn put_zoned<P: Space>(space: &mut P, o: &Fields, k: u32, value: u8)
     }
 }
 
+/// Forms each result byte of UNPK; a source byte is read once, and gives two.
 #[tactic(auto, using(crate::proofs::Digits::unpacked_none, crate::proofs::Digits::unpacked_more))]
 fn unpack_bytes<P: Space>(space: &mut P, o: &Fields)
     requires to { o.now.to_last < 16 }
@@ -165,6 +167,7 @@ pub fn unpack<P: Space>(cpu: &mut Cpu, space: &mut P, code: &Code) -> Next
     Next::On
 }
 
+/// Forms each result byte of MVO; the left half of a source byte waits for the next.
 #[tactic(auto, using(crate::proofs::Digits::shifted_none, crate::proofs::Digits::shifted_more))]
 fn shift_bytes<P: Space>(space: &mut P, o: &Fields)
     requires to { o.now.to_last < 16 }

@@ -145,12 +145,12 @@ fn search<P: Space>(space: &P, a: Addr, t: Addr, n: u32) -> Result<Found, Ending
 {
     let mut met = None;
     for i in 0..n {
-        let at = function_at(space, a, t, i, n);
-        if space.can_reach(at, 1).is_err() {
+        let function = function_at(space, a, t, i, n);
+        if space.can_reach(function, 1).is_err() {
             return Err(Ending::Abend(5));
         }
-        met = first_ending(met, touch(space, at));
-        if space.byte(at) != 0 {
+        met = first_ending(met, touch(space, function));
+        if space.byte(function) != 0 {
             return Ok(Found {
                 selected: Some(i),
                 met,
