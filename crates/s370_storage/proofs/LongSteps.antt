@@ -1,0 +1,59 @@
+-- Long operands, one byte on.
+use Rattle.std.proofs.Common.{◌≡◌, ◌≢◌, ℕ, ◌+◌, ◌<◌, ◌≤◌, zero, suc, Bool, true, false, ◌&&◌, not, ◌==◌, Some, None, List, slice_set, refl, sym, add-one, arith, ◌⊎◌, inl, inr}
+use Rattle.std.proofs.lemmas.Bool.Decides.{nat_tests}
+use Rattle.cov_base.specs.Memory.{Memory, wrap, can_reach, can_store, is_accessible, is_private}
+use Rattle.s370_storage.proofs.Firsts.{first_none, first_more, first_here}
+use Rattle.s370_storage.specs.Longs.{lesser, padded, first_byte, second_byte, unequal}
+use Rattle.s370_storage.specs.declared.long.Long.{Long}
+
+pub padded_none : (bytes : List ℕ) (o : Long) → padded bytes o 0 ≡ bytes
+unfolding padded
+padded_none bytes o = refl
+
+pub padded_more : (bytes : List ℕ) (o : Long) (k : ℕ) → padded bytes o (k + 1) ≡ slice_set (padded bytes o k) (wrap (o.first + (lesser o + k))) o.pad
+unfolding padded
+padded_more bytes o k = rw add-one refl
+
+both_left : (a b : Bool) → (a && b) ≡ true → a ≡ true
+both_left true b h = refl
+both_left false b h = h
+
+same_or : (i n : ℕ) → i ≤ suc n → (i ≡ suc n) ⊎ (i ≤ n)
+same_or i n h = grind arith
+
+-- the left part of an operand
+pub reach_prefix : (m : Memory) (a n k : ℕ) → can_reach m a n ≡ true → k ≤ n → can_reach m a k ≡ true
+unfolding can_reach
+reach_prefix m a zero k h l = let e : k ≡ 0 = omega arith in rw e refl
+reach_prefix m a (suc n) k h l =
+    elim (same_or k n l) [
+      | inl q ↦ rw q h
+      | inr z ↦ reach_prefix m a n k (both_left (can_reach m a n) (is_accessible m (wrap (a + n))) h) z
+    ]
+
+pub store_prefix : (m : Memory) (a n k : ℕ) → can_store m a n ≡ true → k ≤ n → can_store m a k ≡ true
+unfolding can_store
+store_prefix m a zero k h l = let e : k ≡ 0 = omega arith in rw e refl
+store_prefix m a (suc n) k h l =
+    elim (same_or k n l) [
+      | inl q ↦ rw q h
+      | inr z ↦ store_prefix m a n k (both_left (can_store m a n) (is_private m (wrap (a + n))) h) z
+    ]
+
+pub unequal_none : (m : Memory) (bytes : List ℕ) (o : Long) → unequal m bytes o 0 ≡ None
+unfolding unequal
+unequal_none m bytes o = first_none _
+
+equal_fails : (x y : ℕ) → x ≡ y → not (x == y) ≡ false
+equal_fails x y h = grind (arith, nat_tests)
+
+others_pass : (x y : ℕ) → x ≢ y → not (x == y) ≡ true
+others_pass x y h = grind (arith, nat_tests)
+
+pub unequal_more : (m : Memory) (bytes : List ℕ) (o : Long) (n x y : ℕ) → unequal m bytes o n ≡ None → x ≡ first_byte m bytes o n → y ≡ second_byte m bytes o n → x ≡ y → unequal m bytes o (n + 1) ≡ None
+unfolding unequal
+unequal_more m bytes o n x y h d e z = first_more _ n h (equal_fails _ _ cc)
+
+pub unequal_here : (m : Memory) (bytes : List ℕ) (o : Long) (n i x y : ℕ) → i < n → unequal m bytes o i ≡ None → x ≡ first_byte m bytes o i → y ≡ second_byte m bytes o i → x ≢ y → Some i ≡ unequal m bytes o n
+unfolding unequal
+unequal_here m bytes o n i x y l h d e z = sym (first_here _ n i l h (rw (← d, ← e) (others_pass x y z)))

@@ -1,0 +1,9 @@
+use Rattle.std.proofs.Common.{◌≡◌}
+use Rattle.s370_storage.specs.Translations.{translated}
+use Rattle.s370_storage.proofs.translate.translate_bytes.Given as goal
+
+abbrev pub invariant-loop-i : goal.invariant-loop-i
+invariant-loop-i g l = record {
+  memory : g.P.Space.memory l.space ≡ g.P.Space.memory l.initial.space;
+  bytes : g.P.Space.bytes l.space ≡ translated (g.P.Space.memory l.initial.space) (g.P.Space.bytes l.initial.space) l.a l.t l.i;
+}

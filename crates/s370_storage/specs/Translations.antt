@@ -1,0 +1,73 @@
+-- The rows of translation and of search by a table of function bytes (Principles of Operation, "General
+-- Instructions"). The function byte of an argument stands at the second operand's address plus the argument.
+use Rattle.std.specs.Prelude.{ℕ, zero, suc, ◌+◌, ◌*◌, ◌/◌, true, if◌then◌else◌, ◌==◌, not, List, [], ◌∷◌, ◌++◌, Option, Some, None, slice_index, slice_set}
+use Rattle.cov_base.specs.States.{Machine}
+use Rattle.cov_base.specs.Memory.{Memory, byte_at, wrap}
+use Rattle.s370_state.specs.Row.{Row, Use, Outcome, Completes, reads, stores, with_cc, with_bytes, with_regs}
+use Rattle.s370_state.specs.declared.endings.Ending.{Ending}
+use Rattle.s370_decode.specs.Fields.{i2, e1, e2}
+use Rattle.s370_decode.specs.declared.code.Code.{Code}
+use Rattle.s370_storage.specs.Searches.{first_where}
+
+-- the address of the function byte of argument n, by the table at t
+abbrev pub function_at : Memory → List ℕ → ℕ → ℕ → ℕ → ℕ
+function_at m bytes a t n = wrap (t + byte_at m bytes (wrap (a + n)))
+
+-- the function bytes of the first n arguments, in the order of these
+unfoldable pub functions : Memory → List ℕ → ℕ → ℕ → ℕ → List Use
+functions m bytes a t zero = []
+functions m bytes a t (suc n) = functions m bytes a t n ++ (reads (function_at m bytes a t n) 1 ∷ [])
+
+-- the ending that comes first
+abbrev pub or_ending : Option Ending → Option Ending → Option Ending
+or_ending None q = q
+or_ending (Some e) q = Some e
+
+-- the bytes after the first n arguments became their function bytes, as these then stand, left to right; no argument
+-- changes before its turn
+unfoldable pub translated : Memory → List ℕ → ℕ → ℕ → ℕ → List ℕ
+translated m bytes a t zero = bytes
+translated m bytes a t (suc n) =
+    let done = translated m bytes a t n in
+    slice_set done (wrap (a + n)) (byte_at m done (function_at m bytes a t n))
+
+abbrev pub row_tr : Memory → Machine → Code → Row
+row_tr m s c = record {
+  well = true;
+  uses = stores (e1 s.cpu c) (i2 c + 1) ∷ functions m s.bytes (e1 s.cpu c) (e2 s.cpu c) (i2 c + 1);
+  outcome = Completes (with_bytes s (translated m s.bytes (e1 s.cpu c) (e2 s.cpu c) (i2 c + 1)));
+}
+
+-- the function byte of argument n
+abbrev pub function : Memory → List ℕ → ℕ → ℕ → ℕ → ℕ
+function m bytes a t n = byte_at m bytes (function_at m bytes a t n)
+
+-- the first of the n arguments whose function byte isn't zero
+unfoldable pub selected : Memory → List ℕ → ℕ → ℕ → ℕ → Option ℕ
+selected m bytes a t n = first_where (λ i. not (function m bytes a t i == 0)) n
+
+-- how many of n arguments are looked up, where that one is selected
+abbrev pub looked_up : ℕ → Option ℕ → ℕ
+looked_up n None = n
+looked_up n (Some i) = i + 1
+
+-- the registers with an address in bits 8-31 of register 1, and a byte in bits 24-31 of register 2
+abbrev pub selecting : List ℕ → ℕ → ℕ → List ℕ
+selecting regs at v = slice_set (slice_set regs 1 (slice_index regs 1 / 16777216 * 16777216 + at)) 2 (slice_index regs 2 / 256 * 256 + v)
+
+-- the argument that is selected, its address and function byte; code 2 where it is the last
+abbrev pub selects : Memory → Machine → ℕ → ℕ → ℕ → Option ℕ → Outcome
+selects m s a t n None = Completes (with_cc s 0)
+selects m s a t n (Some i) =
+    Completes (with_cc (with_regs s (selecting s.cpu.regs (wrap (a + i)) (function m s.bytes a t i))) (if i + 1 == n then 2 else 1))
+
+-- by the argument that is selected
+abbrev pub searches : Memory → Machine → ℕ → ℕ → ℕ → Option ℕ → Row
+searches m s a t n f = record {
+  well = true;
+  uses = reads a n ∷ functions m s.bytes a t (looked_up n f);
+  outcome = selects m s a t n f;
+}
+
+abbrev pub row_trt : Memory → Machine → Code → Row
+row_trt m s c = searches m s (e1 s.cpu c) (e2 s.cpu c) (i2 c + 1) (selected m s.bytes (e1 s.cpu c) (e2 s.cpu c) (i2 c + 1))

@@ -1,0 +1,14 @@
+//! Operations on fields in storage: the effect of each on registers, condition code and private storage.
+#![tactic(auto)]
+
+mod long;
+mod moves;
+mod operands;
+mod packing;
+mod table;
+mod translate;
+
+pub use table::storage;
+
+#[cfg(test)]
+mod tests;

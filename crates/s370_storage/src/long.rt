@@ -1,0 +1,244 @@
+//! Moves and comparisons of long operands, whose addresses and lengths are in registers.
+#![tactic(auto, using(s370_state::proofs::Performs::ill_formed, s370_state::proofs::Performs::well_at_once, s370_state::proofs::Performs::well_passes, s370_state::proofs::Performs::well_refuses))]
+
+ghost use Rattle.std.specs.Prelude.{◌≡◌, ℕ, ◌+◌, ◌-◌, ◌*◌, ◌/◌, ◌%◌, ◌<◌, ◌≤◌, ◌^◌, ◌∷◌, Some, None, true, false, min, max, List, ◌&&◌, IfOk, IfErr, IfSome, nat_lt, if◌then◌else◌};
+ghost use Rattle.cov_base.specs.Memory.{can_reach, can_store, byte_at, wrap};
+ghost use Rattle.s370_state.specs.Row.{Performs, perform, machine_of, after, finish, is_even, use_tests, reads};
+ghost use Rattle.s370_storage.specs.Longs.{long, passed, lesser, overlaps, padded, long_moved, length_code, long_moves, row_mvcl, extended, first_byte, second_byte, unequal, compares, long_compares, row_clcl};
+
+use crate::moves::{Part, move_bytes};
+use crate::operands::test_read_both;
+use cov_base::Addr;
+use s370_decode::Code;
+use s370_state::{Cpu, Ending, Next, Space, byte_of, put_into, test_store_read};
+
+/// Two operands, each below 2^24 bytes long, and the padding byte.
+#[derive(Drop)]
+pub struct Long {
+    pub first: Addr,
+    pub first_len: u32,
+    pub second: Addr,
+    pub second_len: u32,
+    pub pad: u8,
+}
+
+/// The operands as the registers give them.
+fn long_of(cpu: &Cpu, r: u8, q: u8) -> Long
+    requires r { r < 15 }
+    requires q { q < 15 }
+    ensures operands { result ≡ long cpu.now.regs r q }
+    ensures first { result.first_len < 16777216 }
+    ensures second { result.second_len < 16777216 }
+{
+    Long {
+        first: Addr::of(cpu.reg(r)),
+        first_len: cpu.reg(r + 1) % 16_777_216,
+        second: Addr::of(cpu.reg(q)),
+        second_len: cpu.reg(q + 1) % 16_777_216,
+        pad: (cpu.reg(q + 1) / 16_777_216) as u8,
+    }
+}
+
+/// Passes j bytes of the first operand and k of the second; the addresses get zeros in bits 0-7, and what stands
+/// beside the lengths stays.
+fn pass(cpu: &mut Cpu, r: u8, q: u8, o: &Long, j: u32, k: u32)
+    requires r { r < 15 }
+    requires q { q < 15 }
+    requires first { o.now.first_len < 16777216 }
+    requires second { o.now.second_len < 16777216 }
+    requires j { j ≤ o.now.first_len }
+    requires k { k ≤ o.now.second_len }
+    ensures { cpu.new ≡ record cpu.old { regs = passed cpu.old.regs r q o.now j k } }
+{
+    let high_first = cpu.reg(r + 1) / 16_777_216 * 16_777_216;
+    let high_second = cpu.reg(q + 1) / 16_777_216 * 16_777_216;
+    cpu.set_reg(r, o.first.plus(j).get());
+    cpu.set_reg(r + 1, high_first + (o.first_len - j));
+    cpu.set_reg(q, o.second.plus(k).get());
+    cpu.set_reg(q + 1, high_second + (o.second_len - k));
+}
+
+/// Whether both registers begin pairs.
+fn are_even(r: u8, q: u8) -> bool
+    ensures { result ≡ (is_even r && is_even q) }
+{
+    r % 2 == 0 && q % 2 == 0
+}
+
+/// Whether a byte of the second operand would be moved after it was stored into.
+#[tactic(auto, unfolding(crate::specs::Longs::overlaps))]
+fn overlaps(o: &Long) -> bool
+    ensures { result ≡ overlaps o.now }
+{
+    let apart = o.first.plus(16_777_216 - o.second.get()).get();
+    0 < apart && apart < o.first_len.min(o.second_len)
+}
+
+/// Pads the first operand behind what was moved.
+#[tactic(auto, using(crate::proofs::LongSteps::padded_none, crate::proofs::LongSteps::padded_more))]
+fn fill<P: Space>(space: &mut P, o: &Long)
+    requires { can_store (P.memory space.old) o.now.first o.now.first_len ≡ true }
+    ensures memory { P.memory space.new ≡ P.memory space.old }
+    ensures bytes { P.bytes space.new ≡ padded (P.bytes space.old) o.now (o.now.first_len - lesser o.now) }
+{
+    let n = o.first_len.min(o.second_len);
+    for k in 0..o.first_len - n {
+        put_into(space, o.first, n + k, o.first_len, o.pad);
+    }
+}
+
+/// Moves as many bytes as both operands have, and pads the rest of the first.
+#[tactic(auto, using(crate::proofs::LongSteps::store_prefix, crate::proofs::LongSteps::reach_prefix))]
+fn move_and_fill<P: Space>(space: &mut P, o: &Long)
+    requires store { can_store (P.memory space.old) o.now.first o.now.first_len ≡ true }
+    requires reach { can_reach (P.memory space.old) o.now.first o.now.first_len ≡ true }
+    requires reach_second { can_reach (P.memory space.old) o.now.second (lesser o.now) ≡ true }
+    ensures memory { P.memory space.new ≡ P.memory space.old }
+    ensures bytes { P.bytes space.new ≡ long_moved (P.memory space.old) (P.bytes space.old) o.now }
+{
+    let n = o.first_len.min(o.second_len);
+    move_bytes(Part::Byte, space, o.first, o.second, n);
+    fill(space, o);
+}
+
+/// The condition code of a long move: lengths equal, first lower, first higher.
+fn length_code(o: &Long) -> u8
+    ensures value { result ≡ length_code o.now }
+    ensures below { result ≤ 2 }
+{
+    if o.first_len == o.second_len {
+        0
+    } else if o.first_len < o.second_len {
+        1
+    } else {
+        2
+    }
+}
+
+/// Moves operands that do not overlap so that a byte is moved after it was stored into.
+fn move_apart<P: Space>(cpu: &mut Cpu, space: &mut P, r: u8, q: u8, o: &Long) -> Next
+    requires r { r < 15 }
+    requires q { q < 15 }
+    requires even { (is_even r && is_even q) ≡ true }
+    requires first { o.now.first_len < 16777216 }
+    requires second { o.now.second_len < 16777216 }
+    ensures memory { P.memory space.new ≡ P.memory space.old }
+    ensures row { Performs (P.memory space.old) cpu.old (P.bytes space.old) (λ m s. long_moves m s r q o.now false) cpu.new (P.bytes space.new) result }
+{
+    let n = o.first_len.min(o.second_len);
+    if let Err(e) = test_store_read(space, o.first, o.first_len, o.second, n) {
+        return Next::Ended(e);
+    }
+    move_and_fill(space, o);
+    pass(cpu, r, q, o, o.first_len, n);
+    cpu.set_cc(length_code(o));
+    Next::On
+}
+
+/// MVCL, where both registers are even.
+fn move_even<P: Space>(cpu: &mut Cpu, space: &mut P, r: u8, q: u8) -> Next
+    requires r { r < 16 }
+    requires q { q < 16 }
+    requires even { (is_even r && is_even q) ≡ true }
+    ensures memory { P.memory space.new ≡ P.memory space.old }
+    ensures row { Performs (P.memory space.old) cpu.old (P.bytes space.old) (λ m s. long_moves m s r q (long s.cpu.regs r q) (overlaps (long s.cpu.regs r q))) cpu.new (P.bytes space.new) result }
+{
+    let o = long_of(cpu, r, q);
+    if overlaps(&o) {
+        cpu.set_cc(3);
+        Next::On
+    } else {
+        move_apart(cpu, space, r, q, &o)
+    }
+}
+
+/// MVCL.
+pub fn move_long<P: Space>(cpu: &mut Cpu, space: &mut P, code: &Code) -> Next
+    ensures memory { P.memory space.new ≡ P.memory space.old }
+    ensures row { Performs (P.memory space.old) cpu.old (P.bytes space.old) (λ m s. row_mvcl m s code.now) cpu.new (P.bytes space.new) result }
+{
+    let (r, q) = (code.r1(), code.r2());
+    if !are_even(r, q) {
+        return Next::Ended(Ending::Abend(6));
+    }
+    move_even(cpu, space, r, q)
+}
+
+/// Byte i of an operand of n bytes at a, which padding extends.
+fn extended<P: Space>(space: &P, a: Addr, n: u32, pad: u8, i: u32) -> u8
+    requires { can_reach (P.memory space.now) a n ≡ true }
+    ensures { result ≡ extended (P.memory space.now) (P.bytes space.now) a n pad i }
+{
+    if i < n { byte_of(space, a, i, n) } else { pad }
+}
+
+/// The first pair of unequal bytes.
+#[tactic(auto, using(crate::proofs::LongSteps::unequal_none, crate::proofs::LongSteps::unequal_more, crate::proofs::LongSteps::unequal_here))]
+fn unequal<P: Space>(space: &P, o: &Long) -> Option<u32>
+    requires first { can_reach (P.memory space.now) o.now.first o.now.first_len ≡ true }
+    requires second { can_reach (P.memory space.now) o.now.second o.now.second_len ≡ true }
+    ensures { result ≡ unequal (P.memory space.now) (P.bytes space.now) o.now (max o.now.first_len o.now.second_len) }
+{
+    for i in 0..o.first_len.max(o.second_len) {
+        let first = extended(space, o.first, o.first_len, o.pad, i);
+        let second = extended(space, o.second, o.second_len, o.pad, i);
+        if first != second {
+            return Some(i);
+        }
+    }
+    None
+}
+
+/// The registers and the condition code by the unequal pair, if any.
+fn set_compared<P: Space>(cpu: &mut Cpu, space: &P, r: u8, q: u8, o: &Long, unequal: Option<u32>)
+    requires r { r < 15 }
+    requires q { q < 15 }
+    requires first { o.now.first_len < 16777216 }
+    requires second { o.now.second_len < 16777216 }
+    requires reach { can_reach (P.memory space.now) o.now.first o.now.first_len ≡ true }
+    requires reach_second { can_reach (P.memory space.now) o.now.second o.now.second_len ≡ true }
+    ensures { let s = machine_of cpu.old (P.bytes space.now) in
+        after cpu.new (P.bytes space.now) Next.On ≡ finish s (compares (P.memory space.now) s r q o.now unequal) }
+{
+    match unequal {
+        None => {
+            pass(cpu, r, q, o, o.first_len, o.second_len);
+            cpu.set_cc(0);
+        }
+        Some(i) => {
+            pass(cpu, r, q, o, i.min(o.first_len), i.min(o.second_len));
+            let first = extended(space, o.first, o.first_len, o.pad, i);
+            let second = extended(space, o.second, o.second_len, o.pad, i);
+            cpu.set_cc(if first < second { 1 } else { 2 });
+        }
+    }
+}
+
+/// CLCL, where both registers are even.
+fn compare_even<P: Space>(cpu: &mut Cpu, space: &mut P, r: u8, q: u8) -> Next
+    requires r { r < 16 }
+    requires q { q < 16 }
+    requires even { (is_even r && is_even q) ≡ true }
+    ensures memory { P.memory space.new ≡ P.memory space.old }
+    ensures row { Performs (P.memory space.old) cpu.old (P.bytes space.old) (λ m s. long_compares m s r q (long s.cpu.regs r q)) cpu.new (P.bytes space.new) result }
+{
+    let o = long_of(cpu, r, q);
+    if let Err(e) = test_read_both(space, o.first, o.first_len, o.second, o.second_len) {
+        return Next::Ended(e);
+    }
+    let unequal = unequal(space, &o);
+    set_compared(cpu, space, r, q, &o, unequal);
+    Next::On
+}
+
+/// CLCL.
+pub fn compare_long<P: Space>(cpu: &mut Cpu, space: &mut P, code: &Code) -> Next
+    ensures memory { P.memory space.new ≡ P.memory space.old }
+    ensures row { Performs (P.memory space.old) cpu.old (P.bytes space.old) (λ m s. row_clcl m s code.now) cpu.new (P.bytes space.new) result }
+{
+    let (r, q) = (code.r1(), code.r2());
+    if !are_even(r, q) {
+        return Next::Ended(Ending::Abend(6));
+    }
+    compare_even(cpu, space, r, q)
+}

@@ -1,0 +1,123 @@
+//! Moves of bytes and half bytes.
+#![tactic(auto, using(s370_state::proofs::Performs::passes, s370_state::proofs::Performs::refuses))]
+
+ghost use Rattle.std.specs.Prelude.{◌≡◌, ℕ, ◌+◌, ◌-◌, ◌*◌, ◌/◌, ◌%◌, ◌<◌, ◌≤◌, ◌^◌, true};
+ghost use Rattle.cov_base.specs.Memory.{can_reach, can_store};
+ghost use Rattle.s370_state.specs.Row.{Performs};
+ghost use Rattle.s370_storage.specs.Moves.{with_part, moved, moves, row_mvc, row_mvn, row_mvz, left_of, inverted, row_mvcin};
+
+use crate::operands::{first_address, second_address};
+use cov_base::Addr;
+use s370_decode::Code;
+use s370_state::{Cpu, Next, Space, byte_of, put_into, test_store_read};
+
+/// What is moved of a byte.
+#[derive(Clone, Copy, Drop)]
+pub enum Part {
+    Byte,
+    /// The right half byte.
+    Numeric,
+    /// The left half byte.
+    Zone,
+}
+
+/// The byte x after that part of it became that of y.
+fn with_part(part: Part, x: u8, y: u8) -> u8
+    ensures { result ≡ with_part part x y }
+{
+    match part {
+        Part::Byte => y,
+        Part::Numeric => x / 16 * 16 + y % 16,
+        Part::Zone => y / 16 * 16 + x % 16,
+    }
+}
+
+/// Moves n bytes, one at a time, left to right, so that operands that overlap repeat what was moved before.
+#[tactic(auto, using(crate::proofs::Steps::moved_none, crate::proofs::Steps::moved_more))]
+pub fn move_bytes<P: Space>(part: Part, space: &mut P, a: Addr, b: Addr, n: u32)
+    requires store { can_store (P.memory space.old) a n ≡ true }
+    requires reach { can_reach (P.memory space.old) a n ≡ true }
+    requires reach_second { can_reach (P.memory space.old) b n ≡ true }
+    ensures memory { P.memory space.new ≡ P.memory space.old }
+    ensures bytes { P.bytes space.new ≡ moved part (P.memory space.old) (P.bytes space.old) a b n }
+{
+    for i in 0..n {
+        let value = with_part(part, byte_of(space, a, i, n), byte_of(space, b, i, n));
+        put_into(space, a, i, n, value);
+    }
+}
+
+/// Moves that part of L+1 bytes.
+fn move_parts<P: Space>(part: Part, cpu: &Cpu, space: &mut P, code: &Code) -> Next
+    ensures memory { P.memory space.new ≡ P.memory space.old }
+    ensures row { Performs (P.memory space.old) cpu.now (P.bytes space.old) (λ m s. moves part m s code.now) cpu.now (P.bytes space.new) result }
+{
+    let (a, b) = (first_address(cpu, code), second_address(cpu, code));
+    let n = u32::from(code.l()) + 1;
+    if let Err(e) = test_store_read(space, a, n, b, n) {
+        return Next::Ended(e);
+    }
+    move_bytes(part, space, a, b, n);
+    Next::On
+}
+
+/// MVC.
+pub fn move_characters<P: Space>(cpu: &mut Cpu, space: &mut P, code: &Code) -> Next
+    ensures memory { P.memory space.new ≡ P.memory space.old }
+    ensures row { Performs (P.memory space.old) cpu.old (P.bytes space.old) (λ m s. row_mvc m s code.now) cpu.new (P.bytes space.new) result }
+{
+    move_parts(Part::Byte, cpu, space, code)
+}
+
+/// MVN.
+pub fn move_numerics<P: Space>(cpu: &mut Cpu, space: &mut P, code: &Code) -> Next
+    ensures memory { P.memory space.new ≡ P.memory space.old }
+    ensures row { Performs (P.memory space.old) cpu.old (P.bytes space.old) (λ m s. row_mvn m s code.now) cpu.new (P.bytes space.new) result }
+{
+    move_parts(Part::Numeric, cpu, space, code)
+}
+
+/// MVZ.
+pub fn move_zones<P: Space>(cpu: &mut Cpu, space: &mut P, code: &Code) -> Next
+    ensures memory { P.memory space.new ≡ P.memory space.old }
+    ensures row { Performs (P.memory space.old) cpu.old (P.bytes space.old) (λ m s. row_mvz m s code.now) cpu.new (P.bytes space.new) result }
+{
+    move_parts(Part::Zone, cpu, space, code)
+}
+
+/// The address n bytes to the left.
+fn left_of(b: Addr, n: u32) -> Addr
+    requires { n ≤ 16777216 }
+    ensures { result ≡ left_of b n }
+{
+    b.plus(16_777_216 - n)
+}
+
+/// Moves the byte at b and l to its left to the bytes from a on, one at a time.
+#[tactic(auto, using(crate::proofs::Steps::inverted_none, crate::proofs::Steps::inverted_more, crate::proofs::Steps::left_reached))]
+fn invert_bytes<P: Space>(space: &mut P, a: Addr, b: Addr, l: u8)
+    requires store { can_store (P.memory space.old) a (l + 1) ≡ true }
+    requires reach { can_reach (P.memory space.old) (left_of b l) (l + 1) ≡ true }
+    ensures memory { P.memory space.new ≡ P.memory space.old }
+    ensures bytes { P.bytes space.new ≡ inverted (P.memory space.old) (P.bytes space.old) a b (l + 1) }
+{
+    let n = u32::from(l) + 1;
+    for i in 0..n {
+        let byte = space.byte(left_of(b, i));
+        put_into(space, a, i, n, byte);
+    }
+}
+
+/// MVCIN.
+pub fn move_inverse<P: Space>(cpu: &mut Cpu, space: &mut P, code: &Code) -> Next
+    ensures memory { P.memory space.new ≡ P.memory space.old }
+    ensures row { Performs (P.memory space.old) cpu.old (P.bytes space.old) (λ m s. row_mvcin m s code.now) cpu.new (P.bytes space.new) result }
+{
+    let (a, b) = (first_address(cpu, code), second_address(cpu, code));
+    let l = u32::from(code.l());
+    if let Err(e) = test_store_read(space, a, l + 1, left_of(b, l), l + 1) {
+        return Next::Ended(e);
+    }
+    invert_bytes(space, a, b, code.l());
+    Next::On
+}

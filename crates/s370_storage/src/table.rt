@@ -1,0 +1,38 @@
+//! The one call for all operations on fields in storage.
+ghost use Rattle.std.specs.Prelude.{◌≡◌, true};
+ghost use Rattle.s370_state.specs.Row.{Performs};
+ghost use Rattle.s370_storage.specs.Storage.{storage_row, is_storage};
+
+use crate::long::{compare_long, move_long};
+use crate::moves::{move_characters, move_inverse, move_numerics, move_zones};
+use crate::packing::{move_with_offset, pack, unpack};
+use crate::translate::{translate, translate_and_test};
+use s370_decode::{Code, Op};
+use s370_state::{Cpu, Next, Space};
+
+/// Performs an operation on fields in storage: MVC MVN MVZ MVCIN, TR TRT, MVCL CLCL, PACK UNPK and MVO (Principles of
+/// Operation, "General Instructions"). All tests are made before anything is changed. The task ends with code 6 where
+/// R1 or R2 of MVCL or CLCL is odd, 5 where an operand is inaccessible, 4 where a stored one is not private, and
+/// Touched by a touch byte that is read, all without a change. Operands that overlap are worked a byte at a time, but
+/// MVCL is refused by condition code 3 where it would move a byte after it was stored into. The instruction address is
+/// left as it is. Takes no memory.
+pub fn storage<P: Space>(cpu: &mut Cpu, space: &mut P, code: &Code, op: Op) -> Next
+    requires { is_storage op ≡ true }
+    ensures memory { P.memory space.new ≡ P.memory space.old }
+    ensures row { Performs (P.memory space.old) cpu.old (P.bytes space.old) (λ m s. storage_row op m s code.now) cpu.new (P.bytes space.new) result }
+{
+    match op {
+        Op::MVC => move_characters(cpu, space, code),
+        Op::MVN => move_numerics(cpu, space, code),
+        Op::MVZ => move_zones(cpu, space, code),
+        Op::MVCIN => move_inverse(cpu, space, code),
+        Op::TR => translate(cpu, space, code),
+        Op::TRT => translate_and_test(cpu, space, code),
+        Op::MVCL => move_long(cpu, space, code),
+        Op::CLCL => compare_long(cpu, space, code),
+        Op::PACK => pack(cpu, space, code),
+        Op::UNPK => unpack(cpu, space, code),
+        Op::MVO => move_with_offset(cpu, space, code),
+        _ => Next::On,
+    }
+}
