@@ -4,8 +4,8 @@ use Rattle.std.proofs.Math.Nat.{pow-suc, mod-one}
 use Rattle.std.proofs.Math.Arith.{mod-mul}
 use Rattle.std.proofs.lemmas.Nat.{div-mul-add, mod-mul-add}
 use Rattle.std.proofs.lemmas.Bool.Decides.{nat_tests}
-use Rattle.s370_state.specs.Digits.{is_minus, is_sign, sign_half}
-use Rattle.s370_decimal.specs.Fields.{are_digits, value_of, packed, packed_field, field_of, held}
+use Rattle.s370_state.specs.Digits.{are_digits, value_of, packed, is_minus, is_sign, sign_half}
+use Rattle.s370_decimal.specs.Fields.{packed_field, field_of, held}
 use Rattle.s370_decimal.proofs.Powers.{power_above}
 
 small : (v : ℕ) → v % 10 < 16

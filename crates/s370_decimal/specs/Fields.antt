@@ -1,20 +1,10 @@
 -- Packed decimal fields. A field of length code l is l + 1 bytes, here as one number: 2l + 1 digits, then the sign in the
 -- last half byte (Principles of Operation, "Decimal Instructions", "Data Format").
-use Rattle.std.specs.Prelude.{ℕ, zero, suc, ◌+◌, ◌*◌, ◌/◌, ◌%◌, ◌^◌, Bool, true, ◌&&◌, nat_lt, if◌then◌else◌, Option, Some, None, List, slice_set}
-use Rattle.cov_base.specs.Memory.{Memory, wrap}
+use Rattle.std.specs.Prelude.{ℕ, ◌+◌, ◌*◌, ◌/◌, ◌%◌, ◌^◌, Bool, ◌&&◌, nat_lt, if◌then◌else◌, Option, Some, None, List}
+use Rattle.cov_base.specs.Memory.{Memory}
 use Rattle.s370_state.specs.Words.{number_at}
-use Rattle.s370_state.specs.Digits.{is_sign, is_minus, sign_half}
+use Rattle.s370_state.specs.Digits.{are_digits, value_of, packed, is_sign, is_minus, sign_half}
 use Rattle.s370_decimal.specs.declared.fields.Field.{Field}
-
--- the k half bytes at the right of n are digits
-unfoldable pub are_digits : ℕ → ℕ → Bool
-are_digits zero n = true
-are_digits (suc k) n = are_digits k (n / 16) && nat_lt (n % 16) 10
-
--- their value
-unfoldable pub value_of : ℕ → ℕ → ℕ
-value_of zero n = 0
-value_of (suc k) n = value_of k (n / 16) * 10 + n % 16
 
 -- what the field holds; none where a digit or the sign is bad
 unfoldable pub field_of : ℕ → ℕ → Option Field
@@ -27,11 +17,6 @@ field_of l n =
 abbrev pub field_at : Memory → List ℕ → ℕ → ℕ → Option Field
 field_at m bytes a l = field_of l (number_at m bytes a (l + 1))
 
--- the k low decimal digits of n, each in a half byte
-unfoldable pub packed : ℕ → ℕ → ℕ
-packed zero n = 0
-packed (suc k) n = packed k (n / 10) * 16 + n % 10
-
 -- the field of a magnitude's low digits and a sign
 unfoldable pub packed_field : ℕ → ℕ → Bool → ℕ
 packed_field l v minus = packed (2 * l + 1) v * 16 + sign_half minus
@@ -39,11 +24,6 @@ packed_field l v minus = packed (2 * l + 1) v * 16 + sign_half minus
 -- what such a field holds
 abbrev pub held : ℕ → ℕ → Bool → Option Field
 held l v minus = Some (record { magnitude = v % 10 ^ (2 * l + 1); minus = minus })
-
--- the n bytes from a on become a number
-unfoldable pub store_number : List ℕ → ℕ → ℕ → ℕ → List ℕ
-store_number bytes a zero v = bytes
-store_number bytes a (suc n) v = store_number (slice_set bytes (wrap (a + n)) (v % 256)) a n (v / 256)
 
 -- the magnitude is one of 2l + 1 digits
 abbrev pub fits : ℕ → ℕ → Bool

@@ -6,7 +6,8 @@ use Rattle.cov_base.specs.Memory.{Memory}
 use Rattle.s370_state.specs.Row.{Row, Outcome, Completes, Program, with_bytes}
 use Rattle.s370_decode.specs.Fields.{e1}
 use Rattle.s370_decode.specs.declared.code.Code.{Code}
-use Rattle.s370_decimal.specs.Fields.{packed_field, store_number, fits}
+use Rattle.s370_state.specs.Words.{store_number}
+use Rattle.s370_decimal.specs.Fields.{packed_field, fits}
 use Rattle.s370_decimal.specs.Operands.{l1, l2, replaces, operands, on_data}
 use Rattle.s370_decimal.specs.declared.operands.Operands.{Operands}
 

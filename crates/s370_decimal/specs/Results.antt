@@ -2,7 +2,8 @@
 use Rattle.std.specs.Prelude.{ℕ, ◌+◌, ◌*◌, ◌%◌, ◌^◌, Bool, false, not, ◌==◌, if◌then◌else◌}
 use Rattle.cov_base.specs.States.{Machine}
 use Rattle.s370_state.specs.Row.{Outcome, Overflows, with_cc, with_bytes}
-use Rattle.s370_decimal.specs.Fields.{packed_field, store_number, fits}
+use Rattle.s370_state.specs.Words.{store_number}
+use Rattle.s370_decimal.specs.Fields.{packed_field, fits}
 use Rattle.s370_decimal.specs.declared.results.Kept.{Kept}
 
 -- what a field of length code l keeps of a whole result, given by magnitude and sign: its low digits, its sign, where zero

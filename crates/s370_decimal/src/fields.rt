@@ -3,10 +3,10 @@
 ghost use Rattle.std.specs.Prelude.{◌≡◌, ℕ, ◌+◌, ◌-◌, ◌*◌, ◌/◌, ◌%◌, ◌^◌, ◌<◌, ◌≤◌, true, false, IfSome, IfNone};
 ghost use Rattle.cov_base.specs.Memory.{can_reach, can_store};
 ghost use Rattle.s370_state.specs.Words.{number_at};
-ghost use Rattle.s370_decimal.specs.Fields.{are_digits, value_of, field_of, field_at, packed, packed_field, held, store_number, fits};
+ghost use Rattle.s370_decimal.specs.Fields.{field_of, field_at, packed_field, held, fits};
 
 use cov_base::Addr;
-use s370_state::{Space, byte_of, is_minus, is_sign, put_into, sign_half};
+use s370_state::{Space, is_minus, is_sign, number_of, packed, sign_half, value_of};
 
 /// What a field holds.
 #[derive(Clone, Copy)]
@@ -33,46 +33,6 @@ pub fn fits(l: u8, v: u128) -> bool
     ensures { result ≡ fits l v }
 {
     v < power(2 * l + 1)
-}
-
-/// The n bytes from there on as one number.
-#[tactic(auto, using(crate::proofs::Halves::number_none, crate::proofs::Halves::number_more))]
-fn number_of<P: Space>(space: &P, at: Addr, n: u32) -> u128
-    requires size { n ≤ 16 }
-    requires reach { can_reach (P.memory space.now) at n ≡ true }
-    ensures value { result ≡ number_at (P.memory space.now) (P.bytes space.now) at n }
-    ensures below { result < 256 ^ n }
-{
-    let mut v: u128 = 0;
-    for i in 0..n {
-        v = v * 256 + u128::from(byte_of(space, at, i, n));
-    }
-    v
-}
-
-/// The value of the k half bytes at the right of n; none where one is no digit.
-#[tactic(auto, using(crate::proofs::Halves::value_more, crate::proofs::Halves::value_none, crate::proofs::Halves::digits_more, crate::proofs::Halves::digits_none))]
-fn value_of(k: u8, n: u128) -> Option<u128>
-    requires { k ≤ 31 }
-    ensures good { IfSome result (λ v. are_digits k n ≡ true) }
-    ensures value { IfSome result (λ v. v ≡ value_of k n) }
-    ensures below { IfSome result (λ v. v < 10 ^ k) }
-    ensures bad { IfNone result (are_digits k n ≡ false) }
-{
-    if k == 0 {
-        return Some(0);
-    }
-    let digit = n % 16;
-    match value_of(k - 1, n / 16) {
-        Some(high) => {
-            if digit < 10 {
-                Some(high * 10 + digit)
-            } else {
-                None
-            }
-        }
-        None => None,
-    }
 }
 
 /// What a field as one number holds; none where a digit or the sign is bad.
@@ -110,19 +70,6 @@ pub fn field_at<P: Space>(space: &P, at: Addr, l: u8) -> Option<Field>
     field_of(l, number_of(space, at, u32::from(l) + 1))
 }
 
-/// The k low decimal digits of n, each in a half byte.
-#[tactic(auto, using(crate::proofs::Halves::packed_more, crate::proofs::Halves::packed_none))]
-fn packed(k: u8, n: u128) -> u128
-    requires { k ≤ 31 }
-    ensures value { result ≡ packed k n }
-    ensures below { result < 16 ^ k }
-{
-    if k == 0 {
-        return 0;
-    }
-    packed(k - 1, n / 10) * 16 + n % 10
-}
-
 /// The field of a magnitude's low 2l + 1 digits and a sign, as one number; read again, it holds these.
 #[tactic(auto, unfolding(crate::specs::Fields::packed_field))]
 pub fn packed_field(l: u8, v: u128, minus: bool) -> u128
@@ -132,18 +79,4 @@ pub fn packed_field(l: u8, v: u128, minus: bool) -> u128
     ensures below { result < 256 ^ (l + 1) }
 {
     packed(2 * l + 1, v) * 16 + u128::from(sign_half(minus))
-}
-
-/// The n bytes from there on become the number.
-#[tactic(auto, using(crate::proofs::Halves::store_none, crate::proofs::Halves::store_more))]
-pub fn put_number<P: Space>(space: &mut P, at: Addr, n: u32, v: u128)
-    requires store { can_store (P.memory space.old) at n ≡ true }
-    ensures memory { P.memory space.new ≡ P.memory space.old }
-    ensures bytes { P.bytes space.new ≡ store_number (P.bytes space.old) at n v }
-{
-    let mut rest = v;
-    for i in 0..n {
-        put_into(space, at, n - 1 - i, n, (rest % 256) as u8);
-        rest /= 256;
-    }
 }

@@ -8,7 +8,7 @@ ghost use Rattle.s370_decimal.specs.Operands.{l1, l2, replaces, compares, operan
 use crate::fields::{Field, field_at};
 use cov_base::Addr;
 use s370_decode::Code;
-use s370_state::{Cpu, Ending, Space, ending_of, test_store_read};
+use s370_state::{Cpu, Ending, Space, test_read_both, test_store_read};
 
 /// What the two fields of an operation hold.
 #[derive(Clone, Copy)]
@@ -57,36 +57,13 @@ pub fn test_compared<P: Space>(cpu: &Cpu, space: &P, code: &Code) -> Result<(), 
     ensures reach_second { IfOk result (λ _. can_reach (P.memory space.now) (e2 cpu.now code.now) (l2 code.now + 1) ≡ true) }
 {
     let (a, b) = (first_at(cpu, code), second_at(cpu, code));
-    test_two_reads(
+    test_read_both(
         space,
         a,
         u32::from(code.l1()) + 1,
         b,
         u32::from(code.l2()) + 1,
     )
-}
-
-#[tactic(auto, unfolding(s370_state::specs::Row::use_tests, s370_state::specs::Row::all_reached, s370_state::specs::Row::all_stored, s370_state::specs::Row::touched))]
-fn test_two_reads<P: Space>(space: &P, a: Addr, n: u32, b: Addr, k: u32) -> Result<(), Ending>
-    ensures refused { IfErr result (λ e. use_tests (P.memory space.now) (reads a n ∷ (reads b k ∷ [])) ≡ Some e) }
-    ensures passed { IfOk result (λ _. use_tests (P.memory space.now) (reads a n ∷ (reads b k ∷ [])) ≡ None) }
-    ensures reach { IfOk result (λ _. can_reach (P.memory space.now) a n ≡ true) }
-    ensures reach_second { IfOk result (λ _. can_reach (P.memory space.now) b k ≡ true) }
-{
-    let answer = match space.can_reach(a, n) {
-        Ok(()) => match space.can_reach(b, k) {
-            Ok(()) => match space.can_read(a, n) {
-                Ok(()) => space.can_read(b, k),
-                Err(r) => Err(r),
-            },
-            Err(r) => Err(r),
-        },
-        Err(r) => Err(r),
-    };
-    match answer {
-        Ok(()) => Ok(()),
-        Err(r) => Err(ending_of(r)),
-    }
 }
 
 /// What the two fields hold; none where a digit or the sign of either is bad.

@@ -8,10 +8,10 @@ ghost use Rattle.s370_decode.specs.Fields.{e1};
 ghost use Rattle.s370_decimal.specs.Operands.{l1};
 ghost use Rattle.s370_decimal.specs.Products.{is_shorter, signs_differ, product, quotient, replaced, row_mp, row_dp};
 
-use crate::fields::{fits, packed_field, put_number};
+use crate::fields::{fits, packed_field};
 use crate::operands::{Operands, first_at, read_operands, test_replaced};
 use s370_decode::Code;
-use s370_state::{Cpu, Ending, Next, Space};
+use s370_state::{Cpu, Ending, Next, Space, put_number};
 
 /// Whether the second field has at most 8 bytes, and fewer than the first.
 fn is_shorter(code: &Code) -> bool

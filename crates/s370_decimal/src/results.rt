@@ -2,12 +2,13 @@
 ghost use Rattle.std.specs.Prelude.{◌≡◌, ℕ, ◌+◌, ◌≤◌, true, if◌then◌else◌};
 ghost use Rattle.cov_base.specs.Memory.{can_store};
 ghost use Rattle.s370_state.specs.Row.{next_after};
-ghost use Rattle.s370_decimal.specs.Fields.{packed_field, store_number};
+ghost use Rattle.s370_state.specs.Words.{store_number};
+ghost use Rattle.s370_decimal.specs.Fields.{packed_field};
 ghost use Rattle.s370_decimal.specs.Results.{kept, code_of};
 
-use crate::fields::{fits, packed_field, power, put_number};
+use crate::fields::{fits, packed_field, power};
 use cov_base::Addr;
-use s370_state::{Cpu, Next, Space, next_after};
+use s370_state::{Cpu, Next, Space, next_after, put_number};
 
 /// What a field keeps of a whole result.
 #[derive(Clone, Copy)]

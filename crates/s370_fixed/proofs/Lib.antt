@@ -1,4 +1,3 @@
 pub mod Wide
 pub mod Powers
 pub mod Registers
-pub mod Digits

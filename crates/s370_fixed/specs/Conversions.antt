@@ -1,44 +1,26 @@
 -- The rows of conversions between a register and a packed decimal doubleword: 15 digits, then the sign in the last
 -- half byte (Principles of Operation, "General Instructions", "Decimal Instructions").
-use Rattle.std.specs.Prelude.{ℕ, zero, suc, ◌+◌, ◌*◌, ◌/◌, ◌%◌, Bool, true, false, ◌&&◌, nat_lt, if◌then◌else◌, [], ◌∷◌, ℤ, pos, negsuc, neg_ℤ}
+use Rattle.std.specs.Prelude.{ℕ, ◌+◌, ◌*◌, ◌/◌, ◌%◌, true, ◌&&◌, if◌then◌else◌, [], ◌∷◌, ℤ, pos, neg_ℤ}
+use Rattle.std.specs.Int.{is_negative}
 use Rattle.std.specs.Int.RustNames.{unsigned_abs}
 use Rattle.cov_base.specs.States.{Machine}
 use Rattle.cov_base.specs.Memory.{Memory}
 use Rattle.s370_state.specs.Row.{Row, Outcome, Completes, Program, reads, stores, reg, with_reg, with_bytes}
 use Rattle.s370_state.specs.Words.{number_at, store_double, signed, low_word, is_word}
-use Rattle.s370_state.specs.Digits.{is_sign, is_minus, sign_half}
+use Rattle.s370_state.specs.Digits.{is_sign, is_minus, sign_half, are_digits, value_of, packed}
 use Rattle.s370_decode.specs.Fields.{r1, ex}
 use Rattle.s370_decode.specs.declared.code.Code.{Code}
-
--- the k half bytes at the right of n are digits
-unfoldable pub is_decimal : ℕ → ℕ → Bool
-is_decimal zero n = true
-is_decimal (suc k) n = is_decimal k (n / 16) && nat_lt (n % 16) 10
-
--- their value
-unfoldable pub decimal : ℕ → ℕ → ℕ
-decimal zero n = 0
-decimal (suc k) n = decimal k (n / 16) * 10 + n % 16
 
 -- the doubleword's value goes to register r; a bad digit or sign is code 7, and a value that is no word code 9
 unfoldable pub converted : Machine → ℕ → ℕ → Outcome
 converted s r n =
-    if (is_decimal 15 (n / 16) && is_sign (n % 16)) then
-    (let z = if is_minus (n % 16) then neg_ℤ (pos (decimal 15 (n / 16))) else pos (decimal 15 (n / 16)) in
+    if (are_digits 15 (n / 16) && is_sign (n % 16)) then
+    (let z = if is_minus (n % 16) then neg_ℤ (pos (value_of 15 (n / 16))) else pos (value_of 15 (n / 16)) in
     if is_word z then Completes (with_reg s r (low_word z)) else Program 9)
     else Program 7
 
 abbrev pub row_cvb : Memory → Machine → Code → Row
 row_cvb m s c = record { well = true; uses = reads (ex s.cpu c) 8 ∷ []; outcome = converted s (r1 c) (number_at m s.bytes (ex s.cpu c) 8) }
-
--- the k low decimal digits of n, each in a half byte
-unfoldable pub packed : ℕ → ℕ → ℕ
-packed zero n = 0
-packed (suc k) n = packed k (n / 10) * 16 + n % 10
-
-abbrev pub is_negative : ℤ → Bool
-is_negative (pos n) = false
-is_negative (negsuc n) = true
 
 abbrev pub packed_double : ℤ → ℕ
 packed_double z = packed 15 (unsigned_abs z) * 16 + sign_half (is_negative z)

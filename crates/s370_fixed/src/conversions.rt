@@ -3,39 +3,14 @@
 
 ghost use Rattle.std.specs.Prelude.{◌≡◌, ℕ, ◌+◌, ◌*◌, ◌/◌, ◌%◌, ◌^◌, ◌<◌, ◌≤◌, ℤ, pos, neg_ℤ, ◌≤ℤ◌, ◌<ℤ◌, List, true, false, IfSome, IfNone, if◌then◌else◌};
 ghost use Rattle.s370_state.specs.Row.{Performs, machine_of, after, finish};
-ghost use Rattle.s370_fixed.specs.Conversions.{is_decimal, decimal, converted, packed, packed_double, row_cvb, row_cvd};
+ghost use Rattle.s370_fixed.specs.Conversions.{converted, packed_double, row_cvb, row_cvd};
 
 use crate::operands::address;
 use s370_decode::Code;
 use s370_state::{
-    Cpu, Ending, Next, Space, double_of, is_minus, is_sign, is_word, low_word, put_double,
-    sign_half, signed, test_read, test_store,
+    Cpu, Ending, Next, Space, double_of, is_minus, is_sign, is_word, low_word, packed, put_double,
+    sign_half, signed, test_read, test_store, value_of,
 };
-
-/// The value of the k half bytes at the right of n; none where one is no digit.
-#[tactic(auto, using(crate::proofs::Digits::decimal_more, crate::proofs::Digits::decimal_none, crate::proofs::Digits::is_decimal_more, crate::proofs::Digits::is_decimal_none))]
-fn decimal(k: u8, n: u64) -> Option<u64>
-    requires { k ≤ 15 }
-    ensures good { IfSome result (λ v. is_decimal k n ≡ true) }
-    ensures value { IfSome result (λ v. v ≡ decimal k n) }
-    ensures below { IfSome result (λ v. v < 10 ^ k) }
-    ensures bad { IfNone result (is_decimal k n ≡ false) }
-{
-    if k == 0 {
-        return Some(0);
-    }
-    let digit = n % 16;
-    match decimal(k - 1, n / 16) {
-        Some(high) => {
-            if digit < 10 {
-                Some(high * 10 + digit)
-            } else {
-                None
-            }
-        }
-        None => None,
-    }
-}
 
 /// The doubleword's value goes to the register.
 #[tactic(auto, unfolding(crate::specs::Conversions::converted))]
@@ -47,7 +22,7 @@ fn convert(cpu: &mut Cpu, r: u8, n: u64) -> Next
     if !is_sign(sign) {
         return Next::Ended(Ending::Abend(7));
     }
-    match decimal(15, n / 16) {
+    match value_of(15, u128::from(n / 16)) {
         None => Next::Ended(Ending::Abend(7)),
         Some(v) => {
             let z = if is_minus(sign) {
@@ -65,24 +40,11 @@ fn convert(cpu: &mut Cpu, r: u8, n: u64) -> Next
     }
 }
 
-/// The k low decimal digits of n, each in a half byte.
-#[tactic(auto, using(crate::proofs::Digits::packed_more, crate::proofs::Digits::packed_none))]
-fn packed(k: u8, n: u64) -> u64
-    requires { k ≤ 15 }
-    ensures value { result ≡ packed k n }
-    ensures below { result < 16 ^ k }
-{
-    if k == 0 {
-        return 0;
-    }
-    packed(k - 1, n / 10) * 16 + n % 10
-}
-
 /// The number as a doubleword of 15 digits and a sign.
 fn packed_double(z: i64) -> u64
     ensures { result ≡ packed_double z }
 {
-    packed(15, z.unsigned_abs()) * 16 + u64::from(sign_half(z < 0))
+    packed(15, u128::from(z.unsigned_abs())) as u64 * 16 + u64::from(sign_half(z < 0))
 }
 
 /// CVB.

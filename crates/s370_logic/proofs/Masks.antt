@@ -1,9 +1,7 @@
 -- The recursions over the bytes of a register and of a number, one byte on.
-use Rattle.std.proofs.Common.{◌≡◌, ℕ, ◌+◌, ◌-◌, ◌*◌, ◌/◌, ◌%◌, ◌^◌, ◌<◌, ◌≤◌, zero, suc, List, slice_set, count_ones, refl, add-one, arith, lit<}
+use Rattle.std.proofs.Common.{◌≡◌, ℕ, ◌+◌, ◌-◌, ◌*◌, ◌/◌, ◌%◌, ◌^◌, ◌<◌, ◌≤◌, zero, suc, count_ones, refl, arith, lit<}
 use Rattle.std.proofs.Math.Nat.{pow-suc, pow-le-pow_right}
-use Rattle.cov_base.specs.Memory.{Memory, byte_at, wrap}
-use Rattle.s370_state.specs.Words.{number_at}
-use Rattle.s370_logic.specs.Masked.{gathered, inserted, store_number}
+use Rattle.s370_logic.specs.Masked.{gathered, inserted}
 use lib.Count.{ones-le}
 
 pub size_most : (mask : ℕ) → mask < 16 → count_ones mask ≤ 4
@@ -40,27 +38,6 @@ unfolding inserted
 inserted_past zero mask w v h e = absurd (omega arith)
 inserted_past (suc k) mask w v h e = rw (less_one k, e) refl
 
-pub number_none : (m : Memory) (bytes : List ℕ) (a : ℕ) → number_at m bytes a 0 ≡ 0
-unfolding number_at
-number_none m bytes a = refl
-
-pub number_more : (m : Memory) (bytes : List ℕ) (a n : ℕ) → number_at m bytes a (n + 1) ≡ number_at m bytes a n * 256 + byte_at m bytes (wrap (a + n))
-unfolding number_at
-number_more m bytes a n = rw add-one refl
-
-pub store_none : (bytes : List ℕ) (a v : ℕ) → store_number bytes a 0 v ≡ bytes
-unfolding store_number
-store_none bytes a v = refl
-
-pub store_more : (bytes : List ℕ) (a k v : ℕ) → 0 < k → store_number bytes a k v ≡ slice_set (store_number bytes a (k - 1) (v / 256)) (wrap (a + (k - 1))) (v % 256)
-unfolding store_number
-store_more bytes a zero v h = absurd (omega arith)
-store_more bytes a (suc k) v h = rw (less_one k) refl
-
--- a byte more, on the right
-pub byte_more : (k v b : ℕ) → v < 256 ^ k → b < 256 → v * 256 + b < 256 ^ (k + 1)
-byte_more k v b l e = rw (add-one, pow-suc 256 k) (omega arith)
-
 pub byte_last : (k v b : ℕ) → 0 < k → v < 256 ^ (k - 1) → b < 256 → v * 256 + b < 256 ^ k
 byte_last zero v b p l e = absurd (omega arith)
 byte_last (suc k) v b p l e = let l2 : v < 256 ^ k = rw (less_one k) at l in rw (pow-suc 256 k) (omega arith)
@@ -70,3 +47,6 @@ byte_fits k v l e = let b : 256 ^ k ≤ 256 ^ 3 = pow-le-pow_right {n = 256} (li
 
 pub bytes_fit : (k v : ℕ) → k ≤ 4 → v < 256 ^ (k - 1) → v < 16777216
 bytes_fit k v l e = byte_fits (k - 1) v (omega arith) e
+
+pub number_fits : (n v : ℕ) → n ≤ 4 → v < 256 ^ n → v < 4294967296
+number_fits n v l e = let b : 256 ^ n ≤ 256 ^ 4 = pow-le-pow_right {n = 256} (lit< tt) {i = n} {j = 4} l in omega (arith, b, e)

@@ -1,11 +1,11 @@
 -- The rows of operations on the bytes of R1 that a mask of four bits selects, left to right (Principles of Operation,
 -- "General Instructions", "Insert Characters under Mask", "Store Characters under Mask", "Compare Logical Characters
 -- under Mask"). A zero mask selects no byte, and the operand then has none.
-use Rattle.std.specs.Prelude.{ℕ, zero, suc, ◌+◌, ◌*◌, ◌/◌, ◌%◌, true, ◌==◌, nat_le, if◌then◌else◌, List, [], ◌∷◌, slice_set, count_ones}
+use Rattle.std.specs.Prelude.{ℕ, zero, suc, ◌+◌, ◌*◌, ◌/◌, ◌%◌, true, ◌==◌, nat_le, if◌then◌else◌, [], ◌∷◌, count_ones}
 use Rattle.cov_base.specs.States.{Machine}
-use Rattle.cov_base.specs.Memory.{Memory, byte_at, wrap}
+use Rattle.cov_base.specs.Memory.{Memory, byte_at}
 use Rattle.s370_state.specs.Row.{Row, Completes, reads, stores, reg, with_reg, with_cc, with_bytes}
-use Rattle.s370_state.specs.Words.{number_at}
+use Rattle.s370_state.specs.Words.{number_at, store_number}
 use Rattle.s370_decode.specs.Fields.{r1, r2, e2}
 use Rattle.s370_decode.specs.declared.code.Code.{Code}
 use Rattle.s370_logic.specs.Comparisons.{order_code}
@@ -26,11 +26,6 @@ inserted zero mask w v = 0
 inserted (suc k) mask w v =
     if mask % 2 == 1 then inserted k (mask / 2) (w / 256) (v / 256) * 256 + v % 256
     else inserted k (mask / 2) (w / 256) v * 256 + w % 256
-
--- the n bytes of v are stored from a on
-unfoldable pub store_number : List ℕ → ℕ → ℕ → ℕ → List ℕ
-store_number bytes a zero v = bytes
-store_number bytes a (suc n) v = slice_set (store_number bytes a n (v / 256)) (wrap (a + n)) (v % 256)
 
 -- 0 where all inserted bits are zero, or there are none; 1 where the first is one, else 2
 abbrev pub insert_code : ℕ → ℕ → ℕ

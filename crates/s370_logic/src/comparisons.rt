@@ -6,10 +6,9 @@ ghost use Rattle.cov_base.specs.Memory.{can_reach};
 ghost use Rattle.s370_state.specs.Row.{Performs};
 ghost use Rattle.s370_logic.specs.Comparisons.{order_code, compared, row_clr, row_cl, row_cli, row_clc};
 
-use crate::operands::test_reads;
 use cov_base::Addr;
 use s370_decode::Code;
-use s370_state::{Cpu, Next, Space, byte_of, read_word, test_read};
+use s370_state::{Cpu, Next, Space, byte_of, read_word, test_read, test_read_both};
 
 /// The condition code of a comparison: 0 equal, 1 the first low, 2 the first high.
 #[tactic(auto, unfolding(crate::specs::Comparisons::order_code))]
@@ -97,7 +96,7 @@ pub fn compare_fields<P: Space>(cpu: &mut Cpu, space: &mut P, code: &Code) -> Ne
     let n = u32::from(code.l()) + 1;
     let a = cpu.address(code.b1(), 0, code.d1());
     let b = cpu.address(code.b2(), 0, code.d2());
-    if let Err(e) = test_reads(space, a, b, n) {
+    if let Err(e) = test_read_both(space, a, n, b, n) {
         return Next::Ended(e);
     }
     cpu.set_cc(compare_bytes(space, a, b, n));

@@ -4,7 +4,6 @@
 mod bitwise;
 mod comparisons;
 mod masked;
-mod operands;
 mod single_bytes;
 mod swaps;
 mod table;

@@ -5,12 +5,12 @@ ghost use Rattle.std.specs.Prelude.{◌≡◌, ℕ, ◌+◌, ◌-◌, ◌*◌, �
 ghost use Rattle.cov_base.specs.Memory.{can_reach, can_store, byte_at};
 ghost use Rattle.s370_state.specs.Row.{Performs};
 ghost use Rattle.s370_state.specs.Words.{number_at};
-ghost use Rattle.s370_logic.specs.Masked.{size, gathered, inserted, store_number, insert_code, row_icm, row_stcm, row_clm};
+ghost use Rattle.s370_logic.specs.Masked.{size, gathered, inserted, insert_code, row_icm, row_stcm, row_clm};
 
 use crate::comparisons::order_code;
 use cov_base::Addr;
 use s370_decode::Code;
-use s370_state::{Cpu, Next, Space, byte_of, put_into, test_read, test_store};
+use s370_state::{Cpu, Next, Space, byte_of, number_of, put_number, test_read, test_store};
 
 /// The operand's length: how many bytes the mask selects.
 fn size(code: &Code) -> u32
@@ -55,36 +55,16 @@ fn inserted(k: u8, mask: u8, w: u32, v: u32) -> u32
 }
 
 /// The number of an operand's n bytes.
-#[tactic(auto, using(crate::proofs::Masks::number_none, crate::proofs::Masks::number_more, crate::proofs::Masks::byte_fits, crate::proofs::Masks::byte_more))]
-fn number_of<P: Space>(space: &P, at: Addr, n: u32) -> u32
+fn number<P: Space>(space: &P, at: Addr, n: u32) -> u32
     requires most { n ≤ 4 }
     requires reach { can_reach (P.memory space.now) at n ≡ true }
     ensures { result ≡ number_at (P.memory space.now) (P.bytes space.now) at n }
 {
-    let mut v: u32 = 0;
-    for i in 0..n {
-        v = v * 256 + u32::from(byte_of(space, at, i, n));
-    }
-    v
-}
-
-/// Stores the k right bytes of v as the first of an operand's n bytes.
-#[tactic(auto, using(crate::proofs::Masks::store_none, crate::proofs::Masks::store_more))]
-fn put_number<P: Space>(space: &mut P, at: Addr, k: u32, n: u32, v: u32)
-    requires order { k ≤ n }
-    requires store { can_store (P.memory space.old) at n ≡ true }
-    ensures memory { P.memory space.new ≡ P.memory space.old }
-    ensures bytes { P.bytes space.new ≡ store_number (P.bytes space.old) at k v }
-{
-    if k == 0 {
-        return;
-    }
-    put_number(space, at, k - 1, n, v / 256);
-    put_into(space, at, k - 1, n, (v % 256) as u8);
+    number_of(space, at, n) as u32
 }
 
 /// The condition code of an operand's n bytes, whose number is v, when they are inserted.
-#[tactic(auto, using(crate::proofs::Masks::number_none))]
+#[tactic(auto, using(s370_state::proofs::Halves::number_none))]
 fn insert_code<P: Space>(space: &P, at: Addr, n: u32, v: u32) -> u8
     requires reach { can_reach (P.memory space.now) at n ≡ true }
     requires number { v ≡ number_at (P.memory space.now) (P.bytes space.now) at n }
@@ -110,7 +90,7 @@ pub fn insert_under_mask<P: Space>(cpu: &mut Cpu, space: &mut P, code: &Code) ->
     if let Err(e) = test_read(space, at, n) {
         return Next::Ended(e);
     }
-    let v = number_of(space, at, n);
+    let v = number(space, at, n);
     let r = code.r1();
     cpu.set_reg(r, inserted(4, code.m3(), cpu.reg(r), v));
     cpu.set_cc(insert_code(space, at, n, v));
@@ -128,7 +108,7 @@ pub fn store_under_mask<P: Space>(cpu: &mut Cpu, space: &mut P, code: &Code) -> 
         return Next::Ended(e);
     }
     let v = gathered(4, code.m3(), cpu.reg(code.r1()));
-    put_number(space, at, n, n, v);
+    put_number(space, at, n, u128::from(v));
     Next::On
 }
 
@@ -143,6 +123,6 @@ pub fn compare_under_mask<P: Space>(cpu: &mut Cpu, space: &mut P, code: &Code) -
         return Next::Ended(e);
     }
     let first = gathered(4, code.m3(), cpu.reg(code.r1()));
-    cpu.set_cc(order_code(first, number_of(space, at, n)));
+    cpu.set_cc(order_code(first, number(space, at, n)));
     Next::On
 }

@@ -7,10 +7,9 @@ ghost use Rattle.s370_state.specs.Row.{Performs, perform, machine_of, after, fin
 ghost use Rattle.s370_storage.specs.Longs.{long, passed, lesser, overlaps, padded, long_moved, length_code, long_moves, row_mvcl, extended, first_byte, second_byte, unequal, compares, long_compares, row_clcl};
 
 use crate::moves::{Part, move_bytes};
-use crate::operands::test_read_both;
 use cov_base::Addr;
 use s370_decode::Code;
-use s370_state::{Cpu, Ending, Next, Space, byte_of, put_into, test_store_read};
+use s370_state::{Cpu, Ending, Next, Space, byte_of, put_into, test_read_both, test_store_read};
 
 /// Two operands, each below 2^24 bytes long, and the padding byte.
 #[derive(Drop)]

@@ -1,6 +1,6 @@
 use Rattle.s370_decimal.specs.Fields.{packed_field}
 use Rattle.std.proofs.Common.{arith}
-use Rattle.s370_decimal.proofs.Halves.{half_fits}
+use Rattle.s370_state.proofs.Halves.{half_fits}
 use Rattle.s370_decimal.proofs.Packing.{field_packed}
 use Rattle.s370_decimal.proofs.Powers.{field_more}
 use Rattle.s370_decimal.proofs.fields.packed_field.Goals as goal

@@ -1,6 +1,6 @@
 use Rattle.std.proofs.Common.{arith}
-use Rattle.s370_decimal.proofs.Halves.{digit_fits, digit_more}
-use Rattle.s370_decimal.proofs.fields.+value_of.Goals as goal
+use Rattle.s370_state.proofs.Halves.{digit_fits, digit_more}
+use Rattle.s370_state.proofs.digits.+value_of.Goals as goal
 
 pub overflow_mul-result : goal.overflow_mul-result
 overflow_mul-result t c = let b = digit_fits c.args.k c.in-Some.high c.requires c.in-Some.ensures.below in omega (arith, b)

@@ -1,6 +1,6 @@
 use Rattle.std.proofs.Common.{◌≡◌, ◌-◌, arith}
-use Rattle.s370_decimal.proofs.Halves.{store_none}
-use Rattle.s370_decimal.proofs.fields.put_number.Goals as goal
+use Rattle.s370_state.proofs.Halves.{store_none}
+use Rattle.s370_state.proofs.operands.put_number.Goals as goal
 
 pub returns-clause-bytes : goal.returns-clause-bytes
 returns-clause-bytes g c =

@@ -2,8 +2,8 @@
 use Rattle.std.proofs.Common.{◌≡◌, ℕ, ◌+◌, ◌-◌, ◌*◌, ◌/◌, ◌%◌, ◌^◌, ◌<◌, ◌≤◌, zero, suc, true, ◌&&◌, nat_lt, List, slice_set, refl, arith, lit<, add-one}
 use Rattle.std.proofs.Math.Nat.{pow-suc, pow-le-pow_right}
 use Rattle.cov_base.specs.Memory.{Memory, wrap, byte_at}
-use Rattle.s370_state.specs.Words.{number_at}
-use Rattle.s370_decimal.specs.Fields.{value_of, are_digits, packed, store_number}
+use Rattle.s370_state.specs.Words.{number_at, store_number}
+use Rattle.s370_state.specs.Digits.{value_of, are_digits, packed}
 
 pub number_none : (m : Memory) (bytes : List ℕ) (a : ℕ) → number_at m bytes a 0 ≡ 0
 unfolding number_at

@@ -1,4 +1,4 @@
-use Rattle.s370_decimal.proofs.fields.+value_of.Given as goal
+use Rattle.s370_state.proofs.digits.+value_of.Given as goal
 
 abbrev pub decreases-value_of : goal.decreases-value_of
 decreases-value_of l = l.k

@@ -1,6 +1,6 @@
 use Rattle.std.proofs.Common.{◌-◌, arith}
-use Rattle.s370_decimal.proofs.Halves.{half_fits, half_more}
-use Rattle.s370_decimal.proofs.fields.+packed.Goals as goal
+use Rattle.s370_state.proofs.Halves.{half_fits, half_more}
+use Rattle.s370_state.proofs.digits.+packed.Goals as goal
 
 pub overflow_mul-result : goal.overflow_mul-result
 overflow_mul-result t c = let b = half_fits (c.args.k - 1) c.packed.result (omega arith) c.packed.ensures.below in omega (arith, b)

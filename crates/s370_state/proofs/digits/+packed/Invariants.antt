@@ -1,4 +1,4 @@
-use Rattle.s370_fixed.proofs.conversions.+packed.Given as goal
+use Rattle.s370_state.proofs.digits.+packed.Given as goal
 
 abbrev pub decreases-packed : goal.decreases-packed
 decreases-packed l = l.k

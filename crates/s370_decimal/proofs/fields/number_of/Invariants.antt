@@ -1,9 +1,0 @@
-use Rattle.std.proofs.Common.{◌≡◌, ◌<◌, ◌^◌}
-use Rattle.s370_state.specs.Words.{number_at}
-use Rattle.s370_decimal.proofs.fields.number_of.Given as goal
-
-abbrev pub invariant-loop-i : goal.invariant-loop-i
-invariant-loop-i g l = record {
-  value : l.v ≡ number_at (g.P.Space.memory l.space) (g.P.Space.bytes l.space) l.at l.i;
-  below : l.v < 256 ^ l.i;
-}
