@@ -1,10 +1,12 @@
 //! Branches (Principles of Operation, "General Instructions", "Branching").
 ghost use Rattle.std.specs.Prelude.{◌≡◌, ℕ, ◌+◌, ◌*◌, ◌%◌, ◌<◌, ◌≤◌, ◌^◌, true, not, ◌&&◌, ◌==◌, int_lt, if◌then◌else◌, slice_index, slice_set};
 ghost use Rattle.s370_state.specs.Words.{signed};
+ghost use Rattle.s370_decode.specs.Fields.{first_half};
+ghost use Rattle.s370_decode.specs.Table.{op_of};
 ghost use Rattle.s370_branch.specs.Branch.{is_branch, is_selected, less_one, index_sum, comparand, is_high, goes, branch_target, link_word, branch_regs, branched};
 
 use cov_base::Addr;
-use s370_decode::{Code, Op};
+use s370_decode::{Code, Op, op_of};
 use s370_state::{Cpu, signed};
 
 /// Whether the mask selects the condition code.
@@ -56,10 +58,9 @@ fn is_high(cpu: &Cpu, code: &Code) -> bool
     signed(comparand(cpu, code)) < signed(index_sum(cpu, code))
 }
 
-/// Whether the instruction as given branches; false for an operation that is no branch. Changes nothing. The
-/// operation is that of the code's first byte: it is passed because the caller has decoded it.
+/// Whether the operation on these fields branches.
 #[tactic(auto, unfolding(crate::specs::Branch::goes))]
-pub fn outcome(cpu: &Cpu, code: &Code, op: Op) -> bool
+fn goes(cpu: &Cpu, code: &Code, op: Op) -> bool
     ensures { result ≡ goes op cpu.now code.now }
 {
     match op {
@@ -75,6 +76,14 @@ pub fn outcome(cpu: &Cpu, code: &Code, op: Op) -> bool
         Op::BXLE => !is_high(cpu, code),
         _ => false,
     }
+}
+
+/// Whether the instruction as given branches; false for an operation that is no branch. Changes nothing.
+pub fn outcome(cpu: &Cpu, code: &Code) -> bool
+    ensures { result ≡ goes (op_of (first_half code.now)) cpu.now code.now }
+{
+    let first = u16::from(code.bytes[0]) * 256 + u16::from(code.bytes[1]);
+    goes(cpu, code, op_of(first))
 }
 
 #[tactic(auto, unfolding(crate::specs::Branch::branch_target))]
@@ -124,7 +133,7 @@ pub fn branch(cpu: &mut Cpu, code: &Code, op: Op, next: Addr, link: u8)
     requires link { link ≤ 2 }
     ensures { cpu.new ≡ branched op cpu.old code.now next link }
 {
-    let to = if outcome(cpu, code, op) {
+    let to = if goes(cpu, code, op) {
         branch_target(cpu, code, op)
     } else {
         next

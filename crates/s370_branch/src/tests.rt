@@ -105,7 +105,7 @@ fn branches_do_as_the_manual_says(rt: HostRuntime) {
         let link = known.link % 3;
         take_all(&mut known, after);
         assert!(rt; is_branch(op), "{line}");
-        let branches = outcome(&cpu, &code, op);
+        let branches = outcome(&cpu, &code);
         branch(&mut cpu, &code, op, Addr::of(UPDATED), link);
         assert_eq!(rt; branches, known.ia != UPDATED, "{line}");
         assert_eq!(rt; cpu.ia.get(), known.ia, "{line}");
@@ -162,9 +162,6 @@ fn an_operation_that_is_no_branch_stays(rt: HostRuntime) {
     };
     for text in ["18F1", "44F00000", "0A04", "82F00000"] {
         let code = code_of(text);
-        assert!(rt;
-            !outcome(&cpu, &code, op_of(u16::from(code.bytes[0]) * 256)),
-            "{text}"
-        );
+        assert!(rt; !outcome(&cpu, &code), "{text}");
     }
 }
