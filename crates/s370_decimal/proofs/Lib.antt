@@ -1,4 +1,4 @@
 pub mod Data
-pub mod Packing
+pub mod Halves
 pub mod Powers
 pub mod Shifting

@@ -1,7 +1,9 @@
 -- Numbers of so many digits or bytes, and what fits 128 bits.
-use Rattle.std.proofs.Common.{◌≡◌, ℕ, ◌+◌, ◌-◌, ◌*◌, ◌^◌, ◌<◌, ◌≤◌, suc, sym, ◌∙◌, arith, lit<}
-use Rattle.std.proofs.Math.Nat.{pow-suc, pow-le-pow_right, one-le-pow}
-use Rattle.std.proofs.lemmas.Nat.{pow-add, mul-pow, mul-lt, mul-add-lt}
+use Rattle.std.proofs.Common.{◌≡◌, ℕ, ◌+◌, ◌*◌, ◌^◌, ◌<◌, ◌≤◌, zero, suc, Bool, true, false, ◌&&◌, ◌⊎◌, inl, inr, refl, arith, lit<}
+use Rattle.std.proofs.Math.Nat.{pow-le-pow_right, one-le-pow}
+use Rattle.std.proofs.lemmas.Nat.{pow-add, mul-lt}
+use Rattle.cov_base.specs.Memory.{Memory, can_store, is_private, wrap}
+use Rattle.s370_state.proofs.Tested.{store_at}
 
 pub power_above : (k : ℕ) → 0 < 10 ^ k
 power_above k = one-le-pow k 10 (lit< tt)
@@ -21,19 +23,32 @@ pub product_fits : (i j v w : ℕ) → i + j ≤ 38 → v < 10 ^ i → w < 10 ^ 
 product_fits i j v w l h k =
     omega (arith, pow-add 10 i j, power_fits (i + j) l, mul-lt v w (10 ^ i) (10 ^ j) h k)
 
-squares : (k : ℕ) → 256 ^ k ≡ 16 ^ (k + k)
-squares k = mul-pow 16 16 k ∙ sym (pow-add 16 k k)
+both : (a b : Bool) → (a && b) ≡ true → (a ≡ true) × (b ≡ true)
+both true b e = (refl, e)
+both false b e = let x : false ≡ true = e in absurd cc
 
--- the digits of a field and its sign
-pub field_more : (l p s : ℕ) → p < 16 ^ (2 * l + 1) → s < 16 → p * 16 + s < 256 ^ (l + 1)
-field_more l p s h e =
-    let q : l + 1 + (l + 1) ≡ suc (2 * l + 1) = omega arith in
-    rw (squares (l + 1), q, pow-suc 16 (2 * l + 1)) (omega arith)
+and_true : (p q : Bool) → p ≡ true → q ≡ true → (p && q) ≡ true
+and_true p q u v = rw (u, v) refl
 
--- two fields side by side
-pub bytes_fit : (l1 l2 q r : ℕ) → l2 < l1 → l1 ≤ 15 → q < 256 ^ (l1 - l2 - 1 + 1) → r < 256 ^ (l2 + 1) → q * 256 ^ (l2 + 1) + r < 340282366920938463463374607431768211456
-bytes_fit l1 l2 q r s m h k =
-    let e : l2 + 1 + (l1 - l2 - 1 + 1) ≡ l1 + 1 = omega arith in
-    let p : 256 ^ (l1 + 1) ≡ 256 ^ (l2 + 1) * 256 ^ (l1 - l2 - 1 + 1) = rw e at (pow-add 256 (l2 + 1) (l1 - l2 - 1 + 1)) in
-    let b : 256 ^ (l1 + 1) ≤ 256 ^ 16 = pow-le-pow_right {n = 256} (lit< tt) {i = l1 + 1} {j = 16} (omega arith) in
-    omega (arith, p, b, mul-add-lt q (256 ^ (l2 + 1)) r (256 ^ (l1 - l2 - 1 + 1)) h k)
+last_or : (k n : ℕ) → k ≤ suc n → (k ≡ suc n) ⊎ (k ≤ n)
+last_or k n h = grind arith
+
+-- the first bytes of an operand that may be stored
+pub store_left : (m : Memory) (a n k : ℕ) → can_store m a n ≡ true → k ≤ n → can_store m a k ≡ true
+unfolding can_store
+store_left m a zero zero h l = refl
+store_left m a zero (suc k) h l = absurd (omega (arith, l))
+store_left m a (suc n) k h l =
+    elim (last_or k n l) [
+      | inl e ↦ rw e h
+      | inr z ↦ store_left m a n k (both (can_store m a n) (is_private m (wrap (a + n))) h).0 z
+    ]
+
+-- and those behind its first j
+pub store_right : (m : Memory) (a n j k b : ℕ) → can_store m a n ≡ true → j + k ≤ n → b ≡ wrap (a + j) → can_store m b k ≡ true
+unfolding can_store
+store_right m a n j zero b h l e = refl
+store_right m a n j (suc k) b h l e =
+    let last : is_private m (wrap (a + (j + k))) ≡ true = store_at m a n (j + k) (wrap (a + (j + k))) h (omega (arith, l)) refl in
+    let same : wrap (b + k) ≡ wrap (a + (j + k)) = omega (arith, e) in
+    and_true (can_store m b k) (is_private m (wrap (b + k))) (store_right m a n j k b h (omega (arith, l)) e) (rw same last)

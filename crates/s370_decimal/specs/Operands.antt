@@ -1,12 +1,12 @@
 -- The two fields that an operation works on.
-use Rattle.std.specs.Prelude.{ℕ, ◌+◌, if◌then◌else◌, Option, Some, None, List, [], ◌∷◌, ℤ, pos, neg_ℤ}
+use Rattle.std.specs.Prelude.{ℕ, ◌+◌, Option, Some, None, List, [], ◌∷◌}
 use Rattle.cov_base.specs.States.{CpuView}
 use Rattle.cov_base.specs.Memory.{Memory}
 use Rattle.s370_state.specs.Row.{Use, Outcome, Program, reads, stores}
 use Rattle.s370_decode.specs.Fields.{r1, r2, e1, e2}
 use Rattle.s370_decode.specs.declared.code.Code.{Code}
-use Rattle.s370_decimal.specs.Fields.{field_at}
-use Rattle.s370_decimal.specs.declared.fields.Field.{Field}
+use Rattle.s370_decimal.specs.Digits.{field_at}
+use Rattle.s370_decimal.specs.declared.packed.Field.{Field}
 use Rattle.s370_decimal.specs.declared.operands.Operands.{Operands}
 
 -- the length codes
@@ -37,7 +37,3 @@ operands m s bytes c = both (field_at m bytes (e1 s c) (l1 c)) (field_at m bytes
 unfoldable pub on_data : {A : Type 0} → Option A → (A → Outcome) → Outcome
 on_data None f = Program 7
 on_data (Some x) f = f x
-
--- as a number, where a zero has no sign
-unfoldable pub number : Field → ℤ
-number f = if f.minus then neg_ℤ (pos f.magnitude) else pos f.magnitude

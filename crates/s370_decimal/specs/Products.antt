@@ -1,13 +1,13 @@
 -- The rows of multiplication and division (Principles of Operation, "Decimal Instructions", "Multiply Decimal", "Divide
 -- Decimal").
-use Rattle.std.specs.Prelude.{ℕ, ◌+◌, ◌-◌, ◌*◌, ◌/◌, ◌%◌, ◌^◌, Bool, not, ◌&&◌, nat_lt, nat_le, if◌then◌else◌, Option, Some, None}
+use Rattle.std.specs.Prelude.{ℕ, ◌+◌, ◌-◌, ◌*◌, ◌/◌, ◌%◌, Bool, not, ◌&&◌, nat_lt, nat_le, if◌then◌else◌}
 use Rattle.cov_base.specs.States.{Machine}
-use Rattle.cov_base.specs.Memory.{Memory}
+use Rattle.cov_base.specs.Memory.{Memory, wrap}
 use Rattle.s370_state.specs.Row.{Row, Outcome, Completes, Program, with_bytes}
 use Rattle.s370_decode.specs.Fields.{e1}
 use Rattle.s370_decode.specs.declared.code.Code.{Code}
-use Rattle.s370_state.specs.Words.{store_number}
-use Rattle.s370_decimal.specs.Fields.{packed_field, fits}
+use Rattle.s370_decimal.specs.Digits.{store_field}
+use Rattle.s370_decimal.specs.Fields.{fits}
 use Rattle.s370_decimal.specs.Operands.{l1, l2, replaces, operands, on_data}
 use Rattle.s370_decimal.specs.declared.operands.Operands.{Operands}
 
@@ -23,28 +23,24 @@ signs_differ o = if o.first.minus then not o.second.minus else o.second.minus
 abbrev pub longer_by : ℕ → ℕ → ℕ
 longer_by l1 l2 = l1 - l2 - 1
 
--- the product's field; none where the first field has fewer leading zero bytes than the second has bytes
-unfoldable pub product : ℕ → ℕ → Operands → Option ℕ
-product l1 l2 o =
-    if fits (longer_by l1 l2) o.first.magnitude then
-    Some (packed_field l1 (o.first.magnitude * o.second.magnitude) (signs_differ o))
-    else None
+-- the product goes to the first field, unless that has fewer leading zero bytes than the second has bytes
+unfoldable pub multiplied : Machine → Code → Operands → Outcome
+multiplied s c o =
+    if fits (longer_by (l1 c) (l2 c)) o.first.magnitude then
+    Completes (with_bytes s (store_field s.bytes (e1 s.cpu c) (l1 c) (o.first.magnitude * o.second.magnitude) (signs_differ o)))
+    else Program 7
 
--- the quotient's field, and at its right that of the remainder, which has the second field's length and the first one's sign;
--- none where the divisor is zero or the quotient too long
-unfoldable pub quotient : ℕ → ℕ → Operands → Option ℕ
-quotient l1 l2 o =
-    if (nat_lt 0 o.second.magnitude && fits (longer_by l1 l2) (o.first.magnitude / o.second.magnitude)) then
-    Some (packed_field (longer_by l1 l2) (o.first.magnitude / o.second.magnitude) (signs_differ o) * 256 ^ (l2 + 1) + packed_field l2 (o.first.magnitude % o.second.magnitude) o.first.minus)
-    else None
-
--- the first field's bytes become a number; where there is none, that is the code
-unfoldable pub replaced : Machine → Code → Option ℕ → ℕ → Outcome
-replaced s c None code = Program code
-replaced s c (Some v) code = Completes (with_bytes s (store_number s.bytes (e1 s.cpu c) (l1 c + 1) v))
+-- the quotient goes to the left of the first field, and the remainder, which has the second field's length and the first one's
+-- sign, to its right; unless the divisor is zero or the quotient too long
+unfoldable pub divided : Machine → Code → Operands → Outcome
+divided s c o =
+    if (nat_lt 0 o.second.magnitude && fits (longer_by (l1 c) (l2 c)) (o.first.magnitude / o.second.magnitude)) then
+    Completes (with_bytes s (store_field (store_field s.bytes (e1 s.cpu c) (longer_by (l1 c) (l2 c)) (o.first.magnitude / o.second.magnitude) (signs_differ o))
+    (wrap (e1 s.cpu c + (l1 c - l2 c))) (l2 c) (o.first.magnitude % o.second.magnitude) o.first.minus))
+    else Program 11
 
 abbrev pub row_mp : Memory → Machine → Code → Row
-row_mp m s c = record { well = is_shorter c; uses = replaces s.cpu c; outcome = on_data (operands m s.cpu s.bytes c) (λ o. replaced s c (product (l1 c) (l2 c) o) 7) }
+row_mp m s c = record { well = is_shorter c; uses = replaces s.cpu c; outcome = on_data (operands m s.cpu s.bytes c) (multiplied s c) }
 
 abbrev pub row_dp : Memory → Machine → Code → Row
-row_dp m s c = record { well = is_shorter c; uses = replaces s.cpu c; outcome = on_data (operands m s.cpu s.bytes c) (λ o. replaced s c (quotient (l1 c) (l2 c) o) 11) }
+row_dp m s c = record { well = is_shorter c; uses = replaces s.cpu c; outcome = on_data (operands m s.cpu s.bytes c) (divided s c) }

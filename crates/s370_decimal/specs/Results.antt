@@ -2,8 +2,8 @@
 use Rattle.std.specs.Prelude.{ℕ, ◌+◌, ◌*◌, ◌%◌, ◌^◌, Bool, false, not, ◌==◌, if◌then◌else◌}
 use Rattle.cov_base.specs.States.{Machine}
 use Rattle.s370_state.specs.Row.{Outcome, Overflows, with_cc, with_bytes}
-use Rattle.s370_state.specs.Words.{store_number}
-use Rattle.s370_decimal.specs.Fields.{packed_field, fits}
+use Rattle.s370_decimal.specs.Digits.{store_field}
+use Rattle.s370_decimal.specs.Fields.{fits}
 use Rattle.s370_decimal.specs.declared.results.Kept.{Kept}
 
 -- what a field of length code l keeps of a whole result, given by magnitude and sign: its low digits, its sign, where zero
@@ -17,4 +17,4 @@ code_of k = if k.lost then 3 else (if k.digits == 0 then 0 else (if k.minus then
 
 -- the field of length code l at a becomes what is kept; where digits are lost it is an overflow, with code X'A'
 abbrev pub results : Machine → ℕ → ℕ → Kept → Outcome
-results s a l k = Overflows (with_cc (with_bytes s (store_number s.bytes a (l + 1) (packed_field l k.digits k.minus))) (code_of k)) (if k.lost then 10 else 0)
+results s a l k = Overflows (with_cc (with_bytes s (store_field s.bytes a l k.digits k.minus)) (code_of k)) (if k.lost then 10 else 0)

@@ -3,6 +3,7 @@
 
 mod fields;
 mod operands;
+mod packed;
 mod products;
 mod results;
 mod shifts;

@@ -2,10 +2,11 @@
 ghost use Rattle.std.specs.Prelude.{◌≡◌, ℕ, ◌+◌, ◌*◌, ◌^◌, ◌<◌, ◌≤◌, ℤ, pos, neg_ℤ, ◌≤ℤ◌, ◌<ℤ◌, [], ◌∷◌, Some, None, true, IfOk, IfErr, IfSome};
 ghost use Rattle.cov_base.specs.Memory.{can_reach, can_store};
 ghost use Rattle.s370_state.specs.Row.{reads, use_tests};
+ghost use Rattle.s370_decimal.specs.Digits.{number};
 ghost use Rattle.s370_decode.specs.Fields.{e1, e2};
-ghost use Rattle.s370_decimal.specs.Operands.{l1, l2, replaces, compares, operands, number};
+ghost use Rattle.s370_decimal.specs.Operands.{l1, l2, replaces, compares, operands};
 
-use crate::fields::{Field, field_at};
+use crate::packed::{Field, field_at};
 use cov_base::Addr;
 use s370_decode::Code;
 use s370_state::{Cpu, Ending, Space, test_read_both, test_store_read};
@@ -85,7 +86,7 @@ pub fn read_operands<P: Space>(cpu: &Cpu, space: &P, code: &Code) -> Option<Oper
 }
 
 /// The field as a number.
-#[tactic(auto, unfolding(crate::specs::Operands::number))]
+#[tactic(auto, unfolding(crate::specs::Digits::number))]
 pub fn number(f: Field) -> i128
     requires { f.magnitude < 10000000000000000000000000000000 }
     ensures value { result ≡ number f }

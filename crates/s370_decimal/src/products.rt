@@ -5,13 +5,14 @@ ghost use Rattle.std.specs.Prelude.{◌≡◌, ◌+◌, ◌-◌, ◌*◌, ◌/�
 ghost use Rattle.cov_base.specs.Memory.{can_store};
 ghost use Rattle.s370_state.specs.Row.{Performs, machine_of, after, finish};
 ghost use Rattle.s370_decode.specs.Fields.{e1};
-ghost use Rattle.s370_decimal.specs.Operands.{l1};
-ghost use Rattle.s370_decimal.specs.Products.{is_shorter, signs_differ, product, quotient, replaced, row_mp, row_dp};
+ghost use Rattle.s370_decimal.specs.Operands.{l1, l2};
+ghost use Rattle.s370_decimal.specs.Products.{is_shorter, signs_differ, multiplied, divided, row_mp, row_dp};
 
-use crate::fields::{fits, packed_field};
+use crate::fields::fits;
 use crate::operands::{Operands, first_at, read_operands, test_replaced};
+use crate::packed::put_field;
 use s370_decode::Code;
-use s370_state::{Cpu, Ending, Next, Space, put_number};
+use s370_state::{Cpu, Ending, Next, Space};
 
 /// Whether the second field has at most 8 bytes, and fewer than the first.
 fn is_shorter(code: &Code) -> bool
@@ -27,52 +28,44 @@ fn signs_differ(o: Operands) -> bool
     o.first.minus != o.second.minus
 }
 
-/// The field of the product; none where the first field has fewer leading zero bytes than the second has bytes.
-#[tactic(auto, unfolding(crate::specs::Products::product), using(crate::proofs::Powers::product_fits))]
-fn multiply_fields(l1: u8, l2: u8, o: Operands) -> Option<u128>
-    requires shorter { l2 < l1 }
-    requires length { l1 ≤ 15 }
-    requires second { o.second.magnitude < 10 ^ (2 * l2 + 1) }
-    ensures { result ≡ product l1 l2 o }
+/// The product goes to the first field, unless that has fewer leading zero bytes than the second has bytes.
+#[tactic(auto, unfolding(crate::specs::Products::multiplied), using(crate::proofs::Powers::product_fits))]
+fn put_product<P: Space>(cpu: &Cpu, space: &mut P, code: &Code, o: Operands) -> Next
+    requires shorter { l2 code.now < l1 code.now }
+    requires store { can_store (P.memory space.old) (e1 cpu.now code.now) (l1 code.now + 1) ≡ true }
+    requires second { o.second.magnitude < 10 ^ (2 * l2 code.now + 1) }
+    ensures memory { P.memory space.new ≡ P.memory space.old }
+    ensures outcome { let s = machine_of cpu.now (P.bytes space.old) in
+        after cpu.now (P.bytes space.new) result ≡ finish s (multiplied s code.now o) }
 {
+    let (l1, l2) = (code.l1(), code.l2());
     if !fits(l1 - l2 - 1, o.first.magnitude) {
-        return None;
+        return Next::Ended(Ending::Abend(7));
     }
-    let magnitude = o.first.magnitude * o.second.magnitude;
-    Some(packed_field(l1, magnitude, signs_differ(o)))
+    let product = o.first.magnitude * o.second.magnitude;
+    put_field(space, first_at(cpu, code), l1, product, signs_differ(o));
+    Next::On
 }
 
-/// The fields of quotient and remainder; none where the divisor is zero or the quotient too long.
-#[tactic(auto, unfolding(crate::specs::Products::quotient))]
-fn divide_fields(l1: u8, l2: u8, o: Operands) -> Option<u128>
-    requires shorter { l2 < l1 }
-    requires length { l1 ≤ 15 }
-    ensures { result ≡ quotient l1 l2 o }
+/// Quotient and remainder go to the first field, unless the divisor is zero or the quotient too long.
+#[tactic(auto, unfolding(crate::specs::Products::divided), using(crate::proofs::Powers::store_left, crate::proofs::Powers::store_right))]
+fn put_quotient<P: Space>(cpu: &Cpu, space: &mut P, code: &Code, o: Operands) -> Next
+    requires shorter { l2 code.now < l1 code.now }
+    requires store { can_store (P.memory space.old) (e1 cpu.now code.now) (l1 code.now + 1) ≡ true }
+    ensures memory { P.memory space.new ≡ P.memory space.old }
+    ensures outcome { let s = machine_of cpu.now (P.bytes space.old) in
+        after cpu.now (P.bytes space.new) result ≡ finish s (divided s code.now o) }
 {
+    let (l1, l2) = (code.l1(), code.l2());
     let (dividend, divisor) = (o.first.magnitude, o.second.magnitude);
     if divisor == 0 || !fits(l1 - l2 - 1, dividend / divisor) {
-        return None;
+        return Next::Ended(Ending::Abend(11));
     }
-    let quotient = packed_field(l1 - l2 - 1, dividend / divisor, signs_differ(o));
-    let remainder = packed_field(l2, dividend % divisor, o.first.minus);
-    Some(quotient * 256u128.pow(u32::from(l2) + 1) + remainder)
-}
-
-/// The first field's bytes become the number; where there is none, the task ends with the code.
-#[tactic(auto, unfolding(crate::specs::Products::replaced))]
-fn replace<P: Space>(cpu: &Cpu, space: &mut P, code: &Code, v: Option<u128>, refusal: u8) -> Next
-    requires { can_store (P.memory space.old) (e1 cpu.now code.now) (l1 code.now + 1) ≡ true }
-    ensures memory { P.memory space.new ≡ P.memory space.old }
-    ensures row { let s = machine_of cpu.now (P.bytes space.old) in
-        after cpu.now (P.bytes space.new) result ≡ finish s (replaced s code.now v refusal) }
-{
-    match v {
-        Some(v) => {
-            put_number(space, first_at(cpu, code), u32::from(code.l1()) + 1, v);
-            Next::On
-        }
-        None => Next::Ended(Ending::Abend(refusal)),
-    }
+    let at = first_at(cpu, code);
+    let right = at.plus(u32::from(l1 - l2));
+    put_field(space, at, l1 - l2 - 1, dividend / divisor, signs_differ(o));
+    put_field(space, right, l2, dividend % divisor, o.first.minus);
+    Next::On
 }
 
 /// MP.
@@ -87,10 +80,7 @@ pub fn multiply<P: Space>(cpu: &mut Cpu, space: &mut P, code: &Code) -> Next
         return Next::Ended(e);
     }
     match read_operands(cpu, space, code) {
-        Some(o) => {
-            let fields = multiply_fields(code.l1(), code.l2(), o);
-            replace(cpu, space, code, fields, 7)
-        }
+        Some(o) => put_product(cpu, space, code, o),
         None => Next::Ended(Ending::Abend(7)),
     }
 }
@@ -107,10 +97,7 @@ pub fn divide<P: Space>(cpu: &mut Cpu, space: &mut P, code: &Code) -> Next
         return Next::Ended(e);
     }
     match read_operands(cpu, space, code) {
-        Some(o) => {
-            let fields = divide_fields(code.l1(), code.l2(), o);
-            replace(cpu, space, code, fields, 11)
-        }
+        Some(o) => put_quotient(cpu, space, code, o),
         None => Next::Ended(Ending::Abend(7)),
     }
 }

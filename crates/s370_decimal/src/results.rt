@@ -2,13 +2,13 @@
 ghost use Rattle.std.specs.Prelude.{◌≡◌, ℕ, ◌+◌, ◌≤◌, true, if◌then◌else◌};
 ghost use Rattle.cov_base.specs.Memory.{can_store};
 ghost use Rattle.s370_state.specs.Row.{next_after};
-ghost use Rattle.s370_state.specs.Words.{store_number};
-ghost use Rattle.s370_decimal.specs.Fields.{packed_field};
+ghost use Rattle.s370_decimal.specs.Digits.{store_field};
 ghost use Rattle.s370_decimal.specs.Results.{kept, code_of};
 
-use crate::fields::{fits, packed_field, power};
+use crate::fields::{fits, power};
+use crate::packed::put_field;
 use cov_base::Addr;
-use s370_state::{Cpu, Next, Space, next_after, put_number};
+use s370_state::{Cpu, Next, Space, next_after};
 
 /// What a field keeps of a whole result.
 #[derive(Clone, Copy)]
@@ -56,16 +56,11 @@ pub fn put_result<P: Space>(cpu: &mut Cpu, space: &mut P, at: Addr, l: u8, k: Ke
     requires length { l ≤ 15 }
     requires store { can_store (P.memory space.old) at (l + 1) ≡ true }
     ensures memory { P.memory space.new ≡ P.memory space.old }
-    ensures bytes { P.bytes space.new ≡ store_number (P.bytes space.old) at (l + 1) (packed_field l k.digits k.minus) }
+    ensures bytes { P.bytes space.new ≡ store_field (P.bytes space.old) at l k.digits k.minus }
     ensures cpu { cpu.new ≡ record cpu.old { condition = code_of k } }
     ensures next { result ≡ next_after cpu.old.mask (if k.lost then 10 else 0) }
 {
-    put_number(
-        space,
-        at,
-        u32::from(l) + 1,
-        packed_field(l, k.digits, k.minus),
-    );
+    put_field(space, at, l, k.digits, k.minus);
     cpu.set_cc(code_of(k));
     next_after(cpu.mask(), if k.lost { 10 } else { 0 })
 }

@@ -4,12 +4,13 @@
 ghost use Rattle.std.specs.Prelude.{◌≡◌, ◌+◌, ◌-◌, ◌*◌, ◌/◌, ◌%◌, ◌^◌, ◌<◌, ◌≤◌, true, None, nat_le, if◌then◌else◌, IfSome};
 ghost use Rattle.cov_base.specs.Memory.{can_reach};
 ghost use Rattle.s370_state.specs.Row.{Performs};
-ghost use Rattle.s370_decimal.specs.Fields.{field_at};
+ghost use Rattle.s370_decimal.specs.Digits.{field_at};
 ghost use Rattle.s370_decimal.specs.Results.{kept};
 ghost use Rattle.s370_decimal.specs.Shifts.{distance, shifted, row_srp};
 
-use crate::fields::{Field, field_at, power};
+use crate::fields::power;
 use crate::operands::{first_at, second_at};
+use crate::packed::{Field, field_at};
 use crate::results::{Kept, keep, put_result};
 use cov_base::Addr;
 use s370_decode::Code;

@@ -6,14 +6,14 @@ ghost use Rattle.std.specs.Int.{is_negative};
 ghost use Rattle.std.specs.Int.RustNames.{unsigned_abs};
 ghost use Rattle.s370_state.specs.Row.{Performs};
 ghost use Rattle.s370_state.specs.Words.{sign_code};
-ghost use Rattle.s370_decimal.specs.Operands.{number};
+ghost use Rattle.s370_decimal.specs.Digits.{number};
 ghost use Rattle.s370_decimal.specs.Results.{kept};
 ghost use Rattle.s370_decimal.specs.Sums.{row_ap, row_sp, row_zap, row_cp};
 
-use crate::fields::field_at;
 use crate::operands::{
     Operands, first_at, number, read_operands, second_at, test_compared, test_replaced,
 };
+use crate::packed::field_at;
 use crate::results::{Kept, keep, put_result};
 use s370_decode::Code;
 use s370_state::{Cpu, Ending, Next, Space};

@@ -1,0 +1,106 @@
+//! Packed decimal fields in storage (Principles of Operation, "Decimal Instructions", "Data Format"). A field of length code
+//! l has l + 1 bytes: 2l + 1 digits, then the sign in the last half byte.
+ghost use Rattle.std.specs.Prelude.{◌≡◌, ℕ, ◌+◌, ◌-◌, ◌*◌, ◌/◌, ◌%◌, ◌^◌, ◌<◌, ◌≤◌, ◌&&◌, true, false, IfSome, IfNone};
+ghost use Rattle.std.specs.List.{list_all};
+ghost use Rattle.cov_base.specs.Memory.{can_reach, can_store};
+ghost use Rattle.s370_state.specs.Digits.{is_sign};
+ghost use Rattle.s370_decimal.specs.Digits.{is_digit, halves_at, decimal, field_at, digits_of, bytes_of, store_bytes, store_field};
+
+use cov_base::Addr;
+use s370_state::{Space, byte_of, is_minus, is_sign, put_into, sign_half};
+
+/// What a field holds.
+#[derive(Clone, Copy)]
+pub struct Field {
+    /// The number of its digits, at most 31.
+    pub magnitude: u128,
+    /// Whether its sign is minus, which that of a zero may be too.
+    pub minus: bool,
+}
+
+/// Whether both halves of the byte are digits.
+fn is_pair(byte: u8) -> bool
+    ensures { result ≡ (is_digit (byte / 16) && is_digit (byte % 16)) }
+{
+    byte / 16 < 10 && byte % 16 < 10
+}
+
+/// Whether the halves of a field's last byte are a digit and a sign.
+fn is_last(byte: u8) -> bool
+    ensures { result ≡ (is_digit (byte / 16) && is_sign (byte % 16)) }
+{
+    byte / 16 < 10 && is_sign(byte % 16)
+}
+
+/// The number of the digits in the first n bytes of an operand; none where a half byte of these is no digit.
+fn pairs<P: Space>(space: &P, at: Addr, n: u32, len: u32) -> Option<u128>
+    requires most { n ≤ 15 }
+    requires inside { n ≤ len }
+    requires reach { can_reach (P.memory space.now) at len ≡ true }
+    ensures good { IfSome result (λ _. list_all is_digit (halves_at (P.memory space.now) (P.bytes space.now) at n) ≡ true) }
+    ensures value { IfSome result (λ v. v ≡ decimal 0 (halves_at (P.memory space.now) (P.bytes space.now) at n)) }
+    ensures below { IfSome result (λ v. v < 100 ^ n) }
+    ensures bad { IfNone result (list_all is_digit (halves_at (P.memory space.now) (P.bytes space.now) at n) ≡ false) }
+{
+    let mut v: u128 = 0;
+    for i in 0..n {
+        let byte = byte_of(space, at, i, len);
+        if !is_pair(byte) {
+            return None;
+        }
+        v = v * 100 + u128::from(byte / 16 * 10 + byte % 16);
+    }
+    Some(v)
+}
+
+/// What the field of length code l holds, whose bytes were tested; none where a digit or the sign is bad.
+pub fn field_at<P: Space>(space: &P, at: Addr, l: u8) -> Option<Field>
+    requires length { l ≤ 15 }
+    requires reach { can_reach (P.memory space.now) at (l + 1) ≡ true }
+    ensures field { result ≡ field_at (P.memory space.now) (P.bytes space.now) at l }
+    ensures below { IfSome result (λ f. f.magnitude < 10 ^ (2 * l + 1)) }
+    ensures most { IfSome result (λ f. f.magnitude < 10000000000000000000000000000000) }
+{
+    let n = u32::from(l);
+    let last = byte_of(space, at, n, n + 1);
+    match pairs(space, at, n, n + 1) {
+        Some(high) => {
+            if is_last(last) {
+                Some(Field {
+                    magnitude: high * 10 + u128::from(last / 16),
+                    minus: is_minus(last % 16),
+                })
+            } else {
+                None
+            }
+        }
+        None => None,
+    }
+}
+
+/// The first k of an operand's n bytes become the 2k low digits of v.
+#[tactic(auto, using(crate::proofs::Halves::no_pairs, crate::proofs::Halves::last_pair))]
+fn put_pairs<P: Space>(space: &mut P, at: Addr, k: u32, n: u32, v: u128)
+    requires inside { k ≤ n }
+    requires store { can_store (P.memory space.old) at n ≡ true }
+    ensures memory { P.memory space.new ≡ P.memory space.old }
+    ensures bytes { P.bytes space.new ≡ store_bytes (P.bytes space.old) at (bytes_of (digits_of (2 * k) v)) }
+{
+    if k == 0 {
+        return;
+    }
+    put_pairs(space, at, k - 1, n, v / 100);
+    put_into(space, at, k - 1, n, (v / 10 % 10 * 16 + v % 10) as u8);
+}
+
+/// The field of length code l, whose bytes were tested, becomes the low digits of a magnitude and a sign.
+#[tactic(auto, using(crate::proofs::Halves::field_stored))]
+pub fn put_field<P: Space>(space: &mut P, at: Addr, l: u8, v: u128, minus: bool)
+    requires store { can_store (P.memory space.old) at (l + 1) ≡ true }
+    ensures memory { P.memory space.new ≡ P.memory space.old }
+    ensures bytes { P.bytes space.new ≡ store_field (P.bytes space.old) at l v minus }
+{
+    let n = u32::from(l);
+    put_pairs(space, at, n, n + 1, v / 10);
+    put_into(space, at, n, n + 1, (v % 10) as u8 * 16 + sign_half(minus));
+}
