@@ -97,7 +97,7 @@ fn branch_target(cpu: &Cpu, code: &Code, op: Op) -> Addr
     }
 }
 
-/// What BAL and BALR leave.
+/// The word that BAL and BALR leave: length code, condition code, program mask and updated address.
 fn link_word(cpu: &Cpu, next: Addr, link: u8) -> u32
     requires { link ≤ 2 }
     ensures { result ≡ link_word cpu.now next link }

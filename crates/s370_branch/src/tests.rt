@@ -112,7 +112,7 @@ fn branches_do_as_the_manual_says(rt: HostRuntime) {
         assert_eq!(rt; cpu.regs, known.regs, "{line}");
         assert_eq!(rt; (cpu.cc, cpu.mask), (known.cc, known.mask), "{line}");
     }
-    assert_eq!(rt; VECTORS.lines().count(), 76);
+    assert_eq!(rt; VECTORS.lines().count(), 84);
 }
 
 /// BC or BCR to X'3000' by register 15, whose updated address is X'100234'.

@@ -152,8 +152,8 @@ fn operations_do_as_the_manual_says(rt: HostRuntime) -> Result<(), Fail> {
         assert_eq!(rt; cpu.regs, known.regs, "{line}");
         assert_eq!(rt; (cpu.cc, end_of(next)), (known.cc, known.end), "{line}");
         assert_eq!(rt; space.bytes.as_slice(), known.bytes.as_slice(), "{line}");
-        assert_eq!(rt; cpu.ia.get(), 0x10_0000, "{line}");
+        assert_eq!(rt; (cpu.mask, cpu.ia.get()), (known.mask, 0x10_0000), "{line}");
     }
-    assert_eq!(rt; VECTORS.lines().count(), 186);
+    assert_eq!(rt; VECTORS.lines().count(), 202);
     Ok(())
 }

@@ -17,7 +17,7 @@ is_edit ED = true
 is_edit EDMK = true
 is_edit _ = false
 
--- it leaves the address of the last digit with which significance began
+-- it leaves the address of the last result byte whose digit is not 0 where significance was off before it
 abbrev pub is_marking : Op → Bool
 is_marking EDMK = true
 is_marking _ = false

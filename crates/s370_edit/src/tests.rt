@@ -153,7 +153,7 @@ fn editing_does_as_the_manual_says(rt: HostRuntime) -> Result<(), Fail> {
         assert!(rt; space.bytes == known.bytes, "{line}");
         assert_eq!(rt; (cpu.ia.get(), cpu.mask), (0x10_0000, 5), "{line}");
     }
-    assert_eq!(rt; VECTORS.lines().count(), 92);
+    assert_eq!(rt; VECTORS.lines().count(), 95);
     Ok(())
 }
 

@@ -29,7 +29,7 @@ pub struct Working {
     pub significant: bool,
     /// The field has a digit other than zero.
     pub nonzero: bool,
-    /// The result byte's address of the last digit that turned significance on by itself.
+    /// The address of the last result byte whose digit is not 0 where significance was off before it.
     pub mark: Option<Addr>,
     /// A left digit was above 9, which has ended the working.
     pub bad: bool,

@@ -80,7 +80,7 @@ fn join_bytes<P: Space>(f: Connective, space: &mut P, a: Addr, b: Addr, n: u32) 
     is_zero
 }
 
-/// NR, OR, XR.
+/// NR, OR, XR: joins R2 to R1.
 pub fn join_registers<P: Space>(cpu: &mut Cpu, space: &mut P, code: &Code, f: Connective) -> Next
     ensures memory { P.memory space.new ≡ P.memory space.old }
     ensures row { Performs (P.memory space.old) cpu.old (P.bytes space.old) (λ m s. row_registers (connected f) m s code.now) cpu.new (P.bytes space.new) result }
@@ -88,7 +88,7 @@ pub fn join_registers<P: Space>(cpu: &mut Cpu, space: &mut P, code: &Code, f: Co
     join(cpu, code.r1(), cpu.reg(code.r2()), f)
 }
 
-/// N, O, X.
+/// N, O, X: joins a word to R1.
 pub fn join_word<P: Space>(cpu: &mut Cpu, space: &mut P, code: &Code, f: Connective) -> Next
     ensures memory { P.memory space.new ≡ P.memory space.old }
     ensures row { Performs (P.memory space.old) cpu.old (P.bytes space.old) (λ m s. row_word (connected f) m s code.now) cpu.new (P.bytes space.new) result }
@@ -99,7 +99,7 @@ pub fn join_word<P: Space>(cpu: &mut Cpu, space: &mut P, code: &Code, f: Connect
     }
 }
 
-/// NI, OI, XI.
+/// NI, OI, XI: joins I2 to a byte.
 pub fn join_immediate<P: Space>(cpu: &mut Cpu, space: &mut P, code: &Code, f: Connective) -> Next
     ensures memory { P.memory space.new ≡ P.memory space.old }
     ensures row { Performs (P.memory space.old) cpu.old (P.bytes space.old) (λ m s. row_immediate (connected f) m s code.now) cpu.new (P.bytes space.new) result }
@@ -114,7 +114,7 @@ pub fn join_immediate<P: Space>(cpu: &mut Cpu, space: &mut P, code: &Code, f: Co
     Next::On
 }
 
-/// NC, OC, XC.
+/// NC, OC, XC: joins the second operand to the first, left to right.
 pub fn join_fields<P: Space>(cpu: &mut Cpu, space: &mut P, code: &Code, f: Connective) -> Next
     ensures memory { P.memory space.new ≡ P.memory space.old }
     ensures row { Performs (P.memory space.old) cpu.old (P.bytes space.old) (λ m s. row_fields (connected f) m s code.now) cpu.new (P.bytes space.new) result }

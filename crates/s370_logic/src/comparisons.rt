@@ -55,7 +55,7 @@ fn compare_bytes<P: Space>(space: &P, a: Addr, b: Addr, n: u32) -> u8
     0
 }
 
-/// CLR.
+/// CLR: compares R1 with R2.
 pub fn compare_registers<P: Space>(cpu: &mut Cpu, space: &mut P, code: &Code) -> Next
     ensures memory { P.memory space.new ≡ P.memory space.old }
     ensures row { Performs (P.memory space.old) cpu.old (P.bytes space.old) (λ m s. row_clr m s code.now) cpu.new (P.bytes space.new) result }
@@ -63,7 +63,7 @@ pub fn compare_registers<P: Space>(cpu: &mut Cpu, space: &mut P, code: &Code) ->
     compare(cpu, code.r1(), cpu.reg(code.r2()))
 }
 
-/// CL.
+/// CL: compares R1 with a word.
 pub fn compare_word<P: Space>(cpu: &mut Cpu, space: &mut P, code: &Code) -> Next
     ensures memory { P.memory space.new ≡ P.memory space.old }
     ensures row { Performs (P.memory space.old) cpu.old (P.bytes space.old) (λ m s. row_cl m s code.now) cpu.new (P.bytes space.new) result }
@@ -74,7 +74,7 @@ pub fn compare_word<P: Space>(cpu: &mut Cpu, space: &mut P, code: &Code) -> Next
     }
 }
 
-/// CLI.
+/// CLI: compares a byte with I2.
 pub fn compare_immediate<P: Space>(cpu: &mut Cpu, space: &mut P, code: &Code) -> Next
     ensures memory { P.memory space.new ≡ P.memory space.old }
     ensures row { Performs (P.memory space.old) cpu.old (P.bytes space.old) (λ m s. row_cli m s code.now) cpu.new (P.bytes space.new) result }
@@ -88,7 +88,7 @@ pub fn compare_immediate<P: Space>(cpu: &mut Cpu, space: &mut P, code: &Code) ->
     Next::On
 }
 
-/// CLC.
+/// CLC: compares the operands, left to right.
 pub fn compare_fields<P: Space>(cpu: &mut Cpu, space: &mut P, code: &Code) -> Next
     ensures memory { P.memory space.new ≡ P.memory space.old }
     ensures row { Performs (P.memory space.old) cpu.old (P.bytes space.old) (λ m s. row_clc m s code.now) cpu.new (P.bytes space.new) result }

@@ -21,7 +21,7 @@ fn store_byte<P: Space>(cpu: &Cpu, space: &mut P, at: Addr, v: u8) -> Next
     Next::On
 }
 
-/// IC.
+/// IC: loads bits 24-31 of R1 from a byte.
 pub fn insert_character<P: Space>(cpu: &mut Cpu, space: &mut P, code: &Code) -> Next
     ensures memory { P.memory space.new ≡ P.memory space.old }
     ensures row { Performs (P.memory space.old) cpu.old (P.bytes space.old) (λ m s. row_ic m s code.now) cpu.new (P.bytes space.new) result }
@@ -35,7 +35,7 @@ pub fn insert_character<P: Space>(cpu: &mut Cpu, space: &mut P, code: &Code) -> 
     Next::On
 }
 
-/// STC.
+/// STC: stores bits 24-31 of R1 in a byte.
 pub fn store_character<P: Space>(cpu: &mut Cpu, space: &mut P, code: &Code) -> Next
     ensures memory { P.memory space.new ≡ P.memory space.old }
     ensures row { Performs (P.memory space.old) cpu.old (P.bytes space.old) (λ m s. row_stc m s code.now) cpu.new (P.bytes space.new) result }
@@ -44,7 +44,7 @@ pub fn store_character<P: Space>(cpu: &mut Cpu, space: &mut P, code: &Code) -> N
     store_byte(cpu, space, at, (cpu.reg(code.r1()) % 256) as u8)
 }
 
-/// MVI.
+/// MVI: stores I2 in a byte.
 pub fn move_immediate<P: Space>(cpu: &mut Cpu, space: &mut P, code: &Code) -> Next
     ensures memory { P.memory space.new ≡ P.memory space.old }
     ensures row { Performs (P.memory space.old) cpu.old (P.bytes space.old) (λ m s. row_mvi m s code.now) cpu.new (P.bytes space.new) result }
@@ -53,7 +53,7 @@ pub fn move_immediate<P: Space>(cpu: &mut Cpu, space: &mut P, code: &Code) -> Ne
     store_byte(cpu, space, at, code.i2())
 }
 
-/// TM.
+/// TM: tests the bits of a byte that I2 selects.
 pub fn test_under_mask<P: Space>(cpu: &mut Cpu, space: &mut P, code: &Code) -> Next
     ensures memory { P.memory space.new ≡ P.memory space.old }
     ensures row { Performs (P.memory space.old) cpu.old (P.bytes space.old) (λ m s. row_tm m s code.now) cpu.new (P.bytes space.new) result }
@@ -82,7 +82,7 @@ fn mask_code(selected: u8, mask: u8) -> u8
     }
 }
 
-/// TS.
+/// TS: tests the leftmost bit of a byte, and stores ones in it.
 pub fn test_and_set<P: Space>(cpu: &mut Cpu, space: &mut P, code: &Code) -> Next
     ensures memory { P.memory space.new ≡ P.memory space.old }
     ensures row { Performs (P.memory space.old) cpu.old (P.bytes space.old) (λ m s. row_ts m s code.now) cpu.new (P.bytes space.new) result }
@@ -96,7 +96,7 @@ pub fn test_and_set<P: Space>(cpu: &mut Cpu, space: &mut P, code: &Code) -> Next
     Next::On
 }
 
-/// SPM.
+/// SPM: loads the condition code and the program mask from R1.
 pub fn set_program_mask<P: Space>(cpu: &mut Cpu, space: &mut P, code: &Code) -> Next
     ensures memory { P.memory space.new ≡ P.memory space.old }
     ensures row { Performs (P.memory space.old) cpu.old (P.bytes space.old) (λ m s. row_spm m s code.now) cpu.new (P.bytes space.new) result }

@@ -9,7 +9,7 @@ ghost use Rattle.s370_logic.specs.Swaps.{row_cs, row_cds};
 use s370_decode::Code;
 use s370_state::{Cpu, Ending, Next, Space, double_of, put_double, put_word, test_store, word_of};
 
-/// CS.
+/// CS: stores R3 in a word that equals R1, or else loads R1 from it.
 pub fn compare_and_swap<P: Space>(cpu: &mut Cpu, space: &mut P, code: &Code) -> Next
     ensures memory { P.memory space.new ≡ P.memory space.old }
     ensures row { Performs (P.memory space.old) cpu.old (P.bytes space.old) (λ m s. row_cs m s code.now) cpu.new (P.bytes space.new) result }
@@ -32,7 +32,7 @@ pub fn compare_and_swap<P: Space>(cpu: &mut Cpu, space: &mut P, code: &Code) -> 
     Next::On
 }
 
-/// CDS.
+/// CDS: stores the pair R3 in a doubleword that equals the pair R1, or else loads the pair R1 from it.
 pub fn compare_double_and_swap<P: Space>(cpu: &mut Cpu, space: &mut P, code: &Code) -> Next
     ensures memory { P.memory space.new ≡ P.memory space.old }
     ensures row { Performs (P.memory space.old) cpu.old (P.bytes space.old) (λ m s. row_cds m s code.now) cpu.new (P.bytes space.new) result }

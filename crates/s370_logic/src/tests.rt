@@ -181,6 +181,6 @@ fn operations_do_as_the_manual_says(rt: HostRuntime) -> Result<(), Fail> {
         assert_eq!(rt; (cpu.mask, cpu.ia.get()), (known.mask, 0x10_0000), "{line}");
         assert_eq!(rt; space.bytes.as_slice(), known.bytes.as_slice(), "{line}");
     }
-    assert_eq!(rt; VECTORS.lines().count(), 145);
+    assert_eq!(rt; VECTORS.lines().count(), 163);
     Ok(())
 }

@@ -10,7 +10,7 @@ pub padded_none : (bytes : List ℕ) (o : Long) → padded bytes o 0 ≡ bytes
 unfolding padded
 padded_none bytes o = refl
 
-pub padded_more : (bytes : List ℕ) (o : Long) (k : ℕ) → padded bytes o (k + 1) ≡ slice_set (padded bytes o k) (wrap (o.first + (lesser o + k))) o.pad
+pub padded_more : (bytes : List ℕ) (o : Long) (k : ℕ) → padded bytes o (k + 1) ≡ slice_set (padded bytes o k) (wrap (o.first + (lesser o + k))) o.padding
 unfolding padded
 padded_more bytes o k = rw add-one refl
 

@@ -19,19 +19,19 @@ high v = v / 16777216 * 16777216
 abbrev pub long : List ℕ → ℕ → ℕ → Long
 long regs r q = record {
   first = wrap (slice_index regs r);
-  first_len = wrap (slice_index regs (r + 1));
+  first_length = wrap (slice_index regs (r + 1));
   second = wrap (slice_index regs q);
-  second_len = wrap (slice_index regs (q + 1));
-  pad = slice_index regs (q + 1) / 16777216;
+  second_length = wrap (slice_index regs (q + 1));
+  padding = slice_index regs (q + 1) / 16777216;
 }
 
 -- the registers after j bytes of the first operand and k of the second: these are passed, and the rest is left
 abbrev pub passed : List ℕ → ℕ → ℕ → Long → ℕ → ℕ → List ℕ
 passed regs r q o j k =
-    slice_set (slice_set (slice_set (slice_set regs r (wrap (o.first + j))) (r + 1) (high (slice_index regs (r + 1)) + (o.first_len - j))) q (wrap (o.second + k))) (q + 1) (high (slice_index regs (q + 1)) + (o.second_len - k))
+    slice_set (slice_set (slice_set (slice_set regs r (wrap (o.first + j))) (r + 1) (high (slice_index regs (r + 1)) + (o.first_length - j))) q (wrap (o.second + k))) (q + 1) (high (slice_index regs (q + 1)) + (o.second_length - k))
 
 abbrev pub lesser : Long → ℕ
-lesser o = min o.first_len o.second_len
+lesser o = min o.first_length o.second_length
 
 -- a byte of the second operand would be moved after it was stored into
 unfoldable pub overlaps : Long → Bool
@@ -40,23 +40,23 @@ overlaps o = nat_lt 0 (wrap (o.first + (16777216 - o.second))) && nat_lt (wrap (
 -- the bytes after k padding bytes, behind those that were moved
 unfoldable pub padded : List ℕ → Long → ℕ → List ℕ
 padded bytes o zero = bytes
-padded bytes o (suc k) = slice_set (padded bytes o k) (wrap (o.first + (lesser o + k))) o.pad
+padded bytes o (suc k) = slice_set (padded bytes o k) (wrap (o.first + (lesser o + k))) o.padding
 
 -- the bytes after the lesser length was moved and the rest of the first operand was padded
 abbrev pub long_moved : Memory → List ℕ → Long → List ℕ
-long_moved m bytes o = padded (moved Byte m bytes o.first o.second (lesser o)) o (o.first_len - lesser o)
+long_moved m bytes o = padded (moved Byte m bytes o.first o.second (lesser o)) o (o.first_length - lesser o)
 
 -- lengths equal, first shorter, first longer
 abbrev pub length_code : Long → ℕ
-length_code o = if o.first_len == o.second_len then 0 else (if nat_lt o.first_len o.second_len then 1 else 2)
+length_code o = if o.first_length == o.second_length then 0 else (if nat_lt o.first_length o.second_length then 1 else 2)
 
 -- by whether the operands overlap so; then there is no further test and no effect but code 3
 abbrev pub long_moves : Memory → Machine → ℕ → ℕ → Long → Bool → Row
 long_moves m s r q o true = record { well = is_even r && is_even q; uses = []; outcome = Completes (with_cc s 3) }
 long_moves m s r q o false = record {
   well = is_even r && is_even q;
-  uses = stores o.first o.first_len ∷ (reads o.second (lesser o) ∷ []);
-  outcome = Completes (with_bytes (with_cc (with_regs s (passed s.cpu.regs r q o o.first_len (lesser o))) (length_code o)) (long_moved m s.bytes o));
+  uses = stores o.first o.first_length ∷ (reads o.second (lesser o) ∷ []);
+  outcome = Completes (with_bytes (with_cc (with_regs s (passed s.cpu.regs r q o o.first_length (lesser o))) (length_code o)) (long_moved m s.bytes o));
 }
 
 abbrev pub row_mvcl : Memory → Machine → Code → Row
@@ -64,13 +64,13 @@ row_mvcl m s c = long_moves m s (r1 c) (r2 c) (long s.cpu.regs (r1 c) (r2 c)) (o
 
 -- byte i of an operand of n bytes at a, which padding extends
 abbrev pub extended : Memory → List ℕ → ℕ → ℕ → ℕ → ℕ → ℕ
-extended m bytes a n pad i = if nat_lt i n then byte_at m bytes (wrap (a + i)) else pad
+extended m bytes a n padding i = if nat_lt i n then byte_at m bytes (wrap (a + i)) else padding
 
 abbrev pub first_byte : Memory → List ℕ → Long → ℕ → ℕ
-first_byte m bytes o i = extended m bytes o.first o.first_len o.pad i
+first_byte m bytes o i = extended m bytes o.first o.first_length o.padding i
 
 abbrev pub second_byte : Memory → List ℕ → Long → ℕ → ℕ
-second_byte m bytes o i = extended m bytes o.second o.second_len o.pad i
+second_byte m bytes o i = extended m bytes o.second o.second_length o.padding i
 
 -- the first of n pairs of bytes that are unequal
 unfoldable pub unequal : Memory → List ℕ → Long → ℕ → Option ℕ
@@ -78,16 +78,16 @@ unequal m bytes o n = first_where (λ i. not (first_byte m bytes o i == second_b
 
 -- by the unequal pair, if any: 1 where the first operand is low there, 2 where it is high
 abbrev pub compares : Memory → Machine → ℕ → ℕ → Long → Option ℕ → Outcome
-compares m s r q o None = Completes (with_cc (with_regs s (passed s.cpu.regs r q o o.first_len o.second_len)) 0)
+compares m s r q o None = Completes (with_cc (with_regs s (passed s.cpu.regs r q o o.first_length o.second_length)) 0)
 compares m s r q o (Some i) =
-    Completes (with_cc (with_regs s (passed s.cpu.regs r q o (min i o.first_len) (min i o.second_len))) (if nat_lt (first_byte m s.bytes o i) (second_byte m s.bytes o i) then 1 else 2))
+    Completes (with_cc (with_regs s (passed s.cpu.regs r q o (min i o.first_length) (min i o.second_length))) (if nat_lt (first_byte m s.bytes o i) (second_byte m s.bytes o i) then 1 else 2))
 
 -- both are read whole, also past an unequal pair
 abbrev pub long_compares : Memory → Machine → ℕ → ℕ → Long → Row
 long_compares m s r q o = record {
   well = is_even r && is_even q;
-  uses = reads o.first o.first_len ∷ (reads o.second o.second_len ∷ []);
-  outcome = compares m s r q o (unequal m s.bytes o (max o.first_len o.second_len));
+  uses = reads o.first o.first_length ∷ (reads o.second o.second_length ∷ []);
+  outcome = compares m s r q o (unequal m s.bytes o (max o.first_length o.second_length));
 }
 
 abbrev pub row_clcl : Memory → Machine → Code → Row

@@ -15,10 +15,10 @@ use s370_state::{Cpu, Ending, Next, Space, byte_of, put_into, test_read_both, te
 #[derive(Drop)]
 pub struct Long {
     pub first: Addr,
-    pub first_len: u32,
+    pub first_length: u32,
     pub second: Addr,
-    pub second_len: u32,
-    pub pad: u8,
+    pub second_length: u32,
+    pub padding: u8,
 }
 
 /// The operands as the registers give them.
@@ -26,15 +26,15 @@ fn long_of(cpu: &Cpu, r: u8, q: u8) -> Long
     requires r { r < 15 }
     requires q { q < 15 }
     ensures operands { result ≡ long cpu.now.regs r q }
-    ensures first { result.first_len < 16777216 }
-    ensures second { result.second_len < 16777216 }
+    ensures first { result.first_length < 16777216 }
+    ensures second { result.second_length < 16777216 }
 {
     Long {
         first: Addr::of(cpu.reg(r)),
-        first_len: cpu.reg(r + 1) % 16_777_216,
+        first_length: cpu.reg(r + 1) % 16_777_216,
         second: Addr::of(cpu.reg(q)),
-        second_len: cpu.reg(q + 1) % 16_777_216,
-        pad: (cpu.reg(q + 1) / 16_777_216) as u8,
+        second_length: cpu.reg(q + 1) % 16_777_216,
+        padding: (cpu.reg(q + 1) / 16_777_216) as u8,
     }
 }
 
@@ -43,18 +43,18 @@ fn long_of(cpu: &Cpu, r: u8, q: u8) -> Long
 fn pass(cpu: &mut Cpu, r: u8, q: u8, o: &Long, j: u32, k: u32)
     requires r { r < 15 }
     requires q { q < 15 }
-    requires first { o.now.first_len < 16777216 }
-    requires second { o.now.second_len < 16777216 }
-    requires j { j ≤ o.now.first_len }
-    requires k { k ≤ o.now.second_len }
+    requires first { o.now.first_length < 16777216 }
+    requires second { o.now.second_length < 16777216 }
+    requires j { j ≤ o.now.first_length }
+    requires k { k ≤ o.now.second_length }
     ensures { cpu.new ≡ record cpu.old { regs = passed cpu.old.regs r q o.now j k } }
 {
     let high_first = cpu.reg(r + 1) / 16_777_216 * 16_777_216;
     let high_second = cpu.reg(q + 1) / 16_777_216 * 16_777_216;
     cpu.set_reg(r, o.first.plus(j).get());
-    cpu.set_reg(r + 1, high_first + (o.first_len - j));
+    cpu.set_reg(r + 1, high_first + (o.first_length - j));
     cpu.set_reg(q, o.second.plus(k).get());
-    cpu.set_reg(q + 1, high_second + (o.second_len - k));
+    cpu.set_reg(q + 1, high_second + (o.second_length - k));
 }
 
 /// Whether both registers begin pairs.
@@ -70,32 +70,32 @@ fn overlaps(o: &Long) -> bool
     ensures { result ≡ overlaps o.now }
 {
     let apart = o.first.plus(16_777_216 - o.second.get()).get();
-    0 < apart && apart < o.first_len.min(o.second_len)
+    0 < apart && apart < o.first_length.min(o.second_length)
 }
 
 /// Pads the first operand behind what was moved.
 #[tactic(auto, using(crate::proofs::LongSteps::padded_none, crate::proofs::LongSteps::padded_more))]
 fn fill<P: Space>(space: &mut P, o: &Long)
-    requires { can_store (P.memory space.old) o.now.first o.now.first_len ≡ true }
+    requires { can_store (P.memory space.old) o.now.first o.now.first_length ≡ true }
     ensures memory { P.memory space.new ≡ P.memory space.old }
-    ensures bytes { P.bytes space.new ≡ padded (P.bytes space.old) o.now (o.now.first_len - lesser o.now) }
+    ensures bytes { P.bytes space.new ≡ padded (P.bytes space.old) o.now (o.now.first_length - lesser o.now) }
 {
-    let n = o.first_len.min(o.second_len);
-    for k in 0..o.first_len - n {
-        put_into(space, o.first, n + k, o.first_len, o.pad);
+    let n = o.first_length.min(o.second_length);
+    for k in 0..o.first_length - n {
+        put_into(space, o.first, n + k, o.first_length, o.padding);
     }
 }
 
 /// Moves as many bytes as both operands have, and pads the rest of the first.
 #[tactic(auto, using(crate::proofs::LongSteps::store_prefix, crate::proofs::LongSteps::reach_prefix))]
 fn move_and_fill<P: Space>(space: &mut P, o: &Long)
-    requires store { can_store (P.memory space.old) o.now.first o.now.first_len ≡ true }
-    requires reach { can_reach (P.memory space.old) o.now.first o.now.first_len ≡ true }
+    requires store { can_store (P.memory space.old) o.now.first o.now.first_length ≡ true }
+    requires reach { can_reach (P.memory space.old) o.now.first o.now.first_length ≡ true }
     requires reach_second { can_reach (P.memory space.old) o.now.second (lesser o.now) ≡ true }
     ensures memory { P.memory space.new ≡ P.memory space.old }
     ensures bytes { P.bytes space.new ≡ long_moved (P.memory space.old) (P.bytes space.old) o.now }
 {
-    let n = o.first_len.min(o.second_len);
+    let n = o.first_length.min(o.second_length);
     move_bytes(Part::Byte, space, o.first, o.second, n);
     fill(space, o);
 }
@@ -105,9 +105,9 @@ fn length_code(o: &Long) -> u8
     ensures value { result ≡ length_code o.now }
     ensures below { result ≤ 2 }
 {
-    if o.first_len == o.second_len {
+    if o.first_length == o.second_length {
         0
-    } else if o.first_len < o.second_len {
+    } else if o.first_length < o.second_length {
         1
     } else {
         2
@@ -119,22 +119,22 @@ fn move_apart<P: Space>(cpu: &mut Cpu, space: &mut P, r: u8, q: u8, o: &Long) ->
     requires r { r < 15 }
     requires q { q < 15 }
     requires even { (is_even r && is_even q) ≡ true }
-    requires first { o.now.first_len < 16777216 }
-    requires second { o.now.second_len < 16777216 }
+    requires first { o.now.first_length < 16777216 }
+    requires second { o.now.second_length < 16777216 }
     ensures memory { P.memory space.new ≡ P.memory space.old }
     ensures row { Performs (P.memory space.old) cpu.old (P.bytes space.old) (λ m s. long_moves m s r q o.now false) cpu.new (P.bytes space.new) result }
 {
-    let n = o.first_len.min(o.second_len);
-    if let Err(e) = test_store_read(space, o.first, o.first_len, o.second, n) {
+    let n = o.first_length.min(o.second_length);
+    if let Err(e) = test_store_read(space, o.first, o.first_length, o.second, n) {
         return Next::Ended(e);
     }
     move_and_fill(space, o);
-    pass(cpu, r, q, o, o.first_len, n);
+    pass(cpu, r, q, o, o.first_length, n);
     cpu.set_cc(length_code(o));
     Next::On
 }
 
-/// MVCL, where both registers are even.
+/// MVCL with both registers even: the move, or condition code 3 alone where the operands overlap.
 fn move_even<P: Space>(cpu: &mut Cpu, space: &mut P, r: u8, q: u8) -> Next
     requires r { r < 16 }
     requires q { q < 16 }
@@ -151,7 +151,7 @@ fn move_even<P: Space>(cpu: &mut Cpu, space: &mut P, r: u8, q: u8) -> Next
     }
 }
 
-/// MVCL.
+/// MVCL: moves a long operand, and pads what it does not fill.
 pub fn move_long<P: Space>(cpu: &mut Cpu, space: &mut P, code: &Code) -> Next
     ensures memory { P.memory space.new ≡ P.memory space.old }
     ensures row { Performs (P.memory space.old) cpu.old (P.bytes space.old) (λ m s. row_mvcl m s code.now) cpu.new (P.bytes space.new) result }
@@ -164,23 +164,27 @@ pub fn move_long<P: Space>(cpu: &mut Cpu, space: &mut P, code: &Code) -> Next
 }
 
 /// Byte i of an operand of n bytes at a, which padding extends.
-fn extended<P: Space>(space: &P, a: Addr, n: u32, pad: u8, i: u32) -> u8
+fn extended<P: Space>(space: &P, a: Addr, n: u32, padding: u8, i: u32) -> u8
     requires { can_reach (P.memory space.now) a n ≡ true }
-    ensures { result ≡ extended (P.memory space.now) (P.bytes space.now) a n pad i }
+    ensures { result ≡ extended (P.memory space.now) (P.bytes space.now) a n padding i }
 {
-    if i < n { byte_of(space, a, i, n) } else { pad }
+    if i < n {
+        byte_of(space, a, i, n)
+    } else {
+        padding
+    }
 }
 
 /// The first pair of unequal bytes.
 #[tactic(auto, using(crate::proofs::LongSteps::unequal_none, crate::proofs::LongSteps::unequal_more, crate::proofs::LongSteps::unequal_here))]
 fn unequal<P: Space>(space: &P, o: &Long) -> Option<u32>
-    requires first { can_reach (P.memory space.now) o.now.first o.now.first_len ≡ true }
-    requires second { can_reach (P.memory space.now) o.now.second o.now.second_len ≡ true }
-    ensures { result ≡ unequal (P.memory space.now) (P.bytes space.now) o.now (max o.now.first_len o.now.second_len) }
+    requires first { can_reach (P.memory space.now) o.now.first o.now.first_length ≡ true }
+    requires second { can_reach (P.memory space.now) o.now.second o.now.second_length ≡ true }
+    ensures { result ≡ unequal (P.memory space.now) (P.bytes space.now) o.now (max o.now.first_length o.now.second_length) }
 {
-    for i in 0..o.first_len.max(o.second_len) {
-        let first = extended(space, o.first, o.first_len, o.pad, i);
-        let second = extended(space, o.second, o.second_len, o.pad, i);
+    for i in 0..o.first_length.max(o.second_length) {
+        let first = extended(space, o.first, o.first_length, o.padding, i);
+        let second = extended(space, o.second, o.second_length, o.padding, i);
         if first != second {
             return Some(i);
         }
@@ -192,28 +196,28 @@ fn unequal<P: Space>(space: &P, o: &Long) -> Option<u32>
 fn set_compared<P: Space>(cpu: &mut Cpu, space: &P, r: u8, q: u8, o: &Long, unequal: Option<u32>)
     requires r { r < 15 }
     requires q { q < 15 }
-    requires first { o.now.first_len < 16777216 }
-    requires second { o.now.second_len < 16777216 }
-    requires reach { can_reach (P.memory space.now) o.now.first o.now.first_len ≡ true }
-    requires reach_second { can_reach (P.memory space.now) o.now.second o.now.second_len ≡ true }
+    requires first { o.now.first_length < 16777216 }
+    requires second { o.now.second_length < 16777216 }
+    requires reach { can_reach (P.memory space.now) o.now.first o.now.first_length ≡ true }
+    requires reach_second { can_reach (P.memory space.now) o.now.second o.now.second_length ≡ true }
     ensures { let s = machine_of cpu.old (P.bytes space.now) in
         after cpu.new (P.bytes space.now) Next.On ≡ finish s (compares (P.memory space.now) s r q o.now unequal) }
 {
     match unequal {
         None => {
-            pass(cpu, r, q, o, o.first_len, o.second_len);
+            pass(cpu, r, q, o, o.first_length, o.second_length);
             cpu.set_cc(0);
         }
         Some(i) => {
-            pass(cpu, r, q, o, i.min(o.first_len), i.min(o.second_len));
-            let first = extended(space, o.first, o.first_len, o.pad, i);
-            let second = extended(space, o.second, o.second_len, o.pad, i);
+            pass(cpu, r, q, o, i.min(o.first_length), i.min(o.second_length));
+            let first = extended(space, o.first, o.first_length, o.padding, i);
+            let second = extended(space, o.second, o.second_length, o.padding, i);
             cpu.set_cc(if first < second { 1 } else { 2 });
         }
     }
 }
 
-/// CLCL, where both registers are even.
+/// CLCL with both registers even.
 fn compare_even<P: Space>(cpu: &mut Cpu, space: &mut P, r: u8, q: u8) -> Next
     requires r { r < 16 }
     requires q { q < 16 }
@@ -222,7 +226,7 @@ fn compare_even<P: Space>(cpu: &mut Cpu, space: &mut P, r: u8, q: u8) -> Next
     ensures row { Performs (P.memory space.old) cpu.old (P.bytes space.old) (λ m s. long_compares m s r q (long s.cpu.regs r q)) cpu.new (P.bytes space.new) result }
 {
     let o = long_of(cpu, r, q);
-    if let Err(e) = test_read_both(space, o.first, o.first_len, o.second, o.second_len) {
+    if let Err(e) = test_read_both(space, o.first, o.first_length, o.second, o.second_length) {
         return Next::Ended(e);
     }
     let unequal = unequal(space, &o);
@@ -230,7 +234,7 @@ fn compare_even<P: Space>(cpu: &mut Cpu, space: &mut P, r: u8, q: u8) -> Next
     Next::On
 }
 
-/// CLCL.
+/// CLCL: compares long operands, the shorter one padded.
 pub fn compare_long<P: Space>(cpu: &mut Cpu, space: &mut P, code: &Code) -> Next
     ensures memory { P.memory space.new ≡ P.memory space.old }
     ensures row { Performs (P.memory space.old) cpu.old (P.bytes space.old) (λ m s. row_clcl m s code.now) cpu.new (P.bytes space.new) result }

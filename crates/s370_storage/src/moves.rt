@@ -61,7 +61,7 @@ fn move_parts<P: Space>(part: Part, cpu: &Cpu, space: &mut P, code: &Code) -> Ne
     Next::On
 }
 
-/// MVC.
+/// MVC: moves bytes, left to right.
 pub fn move_characters<P: Space>(cpu: &mut Cpu, space: &mut P, code: &Code) -> Next
     ensures memory { P.memory space.new ≡ P.memory space.old }
     ensures row { Performs (P.memory space.old) cpu.old (P.bytes space.old) (λ m s. row_mvc m s code.now) cpu.new (P.bytes space.new) result }
@@ -69,7 +69,7 @@ pub fn move_characters<P: Space>(cpu: &mut Cpu, space: &mut P, code: &Code) -> N
     move_parts(Part::Byte, cpu, space, code)
 }
 
-/// MVN.
+/// MVN: moves the right halves of bytes, left to right.
 pub fn move_numerics<P: Space>(cpu: &mut Cpu, space: &mut P, code: &Code) -> Next
     ensures memory { P.memory space.new ≡ P.memory space.old }
     ensures row { Performs (P.memory space.old) cpu.old (P.bytes space.old) (λ m s. row_mvn m s code.now) cpu.new (P.bytes space.new) result }
@@ -77,7 +77,7 @@ pub fn move_numerics<P: Space>(cpu: &mut Cpu, space: &mut P, code: &Code) -> Nex
     move_parts(Part::Numeric, cpu, space, code)
 }
 
-/// MVZ.
+/// MVZ: moves the left halves of bytes, left to right.
 pub fn move_zones<P: Space>(cpu: &mut Cpu, space: &mut P, code: &Code) -> Next
     ensures memory { P.memory space.new ≡ P.memory space.old }
     ensures row { Performs (P.memory space.old) cpu.old (P.bytes space.old) (λ m s. row_mvz m s code.now) cpu.new (P.bytes space.new) result }
@@ -108,7 +108,7 @@ fn invert_bytes<P: Space>(space: &mut P, a: Addr, b: Addr, l: u8)
     }
 }
 
-/// MVCIN.
+/// MVCIN: moves bytes in inverse order: the second operand is taken right to left.
 pub fn move_inverse<P: Space>(cpu: &mut Cpu, space: &mut P, code: &Code) -> Next
     ensures memory { P.memory space.new ≡ P.memory space.old }
     ensures row { Performs (P.memory space.old) cpu.old (P.bytes space.old) (λ m s. row_mvcin m s code.now) cpu.new (P.bytes space.new) result }

@@ -109,7 +109,7 @@ fn pack_bytes<P: Space>(space: &mut P, o: &Fields)
     }
 }
 
-/// PACK.
+/// PACK: packs the digits of zoned bytes, two to a byte.
 pub fn pack<P: Space>(cpu: &mut Cpu, space: &mut P, code: &Code) -> Next
     ensures memory { P.memory space.new ≡ P.memory space.old }
     ensures row { Performs (P.memory space.old) cpu.old (P.bytes space.old) (λ m s. row_pack m s code.now) cpu.new (P.bytes space.new) result }
@@ -154,7 +154,7 @@ fn unpack_bytes<P: Space>(space: &mut P, o: &Fields)
     }
 }
 
-/// UNPK.
+/// UNPK: gives each packed digit a zoned byte.
 pub fn unpack<P: Space>(cpu: &mut Cpu, space: &mut P, code: &Code) -> Next
     ensures memory { P.memory space.new ≡ P.memory space.old }
     ensures row { Performs (P.memory space.old) cpu.old (P.bytes space.old) (λ m s. row_unpk m s code.now) cpu.new (P.bytes space.new) result }
@@ -186,7 +186,7 @@ fn shift_bytes<P: Space>(space: &mut P, o: &Fields)
     }
 }
 
-/// MVO.
+/// MVO: moves half bytes to the left of the first operand's last half byte.
 pub fn move_with_offset<P: Space>(cpu: &mut Cpu, space: &mut P, code: &Code) -> Next
     ensures memory { P.memory space.new ≡ P.memory space.old }
     ensures row { Performs (P.memory space.old) cpu.old (P.bytes space.old) (λ m s. row_mvo m s code.now) cpu.new (P.bytes space.new) result }

@@ -165,6 +165,6 @@ fn operations_do_as_the_manual_says(rt: HostRuntime) -> Result<(), Fail> {
         assert_eq!(rt; space.bytes.as_slice(), known.bytes.as_slice(), "{line}");
         assert_eq!(rt; (cpu.ia.get(), cpu.mask), (0x10_0000, 15), "{line}");
     }
-    assert_eq!(rt; VECTORS.lines().count(), 172);
+    assert_eq!(rt; VECTORS.lines().count(), 176);
     Ok(())
 }

@@ -109,7 +109,7 @@ fn translate_bytes<P: Space>(space: &mut P, a: Addr, t: Addr, n: u32)
     }
 }
 
-/// TR.
+/// TR: replaces each byte of the first operand by its function byte.
 pub fn translate<P: Space>(cpu: &mut Cpu, space: &mut P, code: &Code) -> Next
     ensures memory { P.memory space.new ≡ P.memory space.old }
     ensures row { Performs (P.memory space.old) cpu.old (P.bytes space.old) (λ m s. row_tr m s code.now) cpu.new (P.bytes space.new) result }
@@ -217,7 +217,7 @@ fn set_found<P: Space>(cpu: &mut Cpu, space: &P, a: Addr, t: Addr, n: u32, selec
     }
 }
 
-/// TRT.
+/// TRT: searches the first operand for a byte whose function byte is not zero.
 pub fn translate_and_test<P: Space>(cpu: &mut Cpu, space: &mut P, code: &Code) -> Next
     ensures memory { P.memory space.new ≡ P.memory space.old }
     ensures row { Performs (P.memory space.old) cpu.old (P.bytes space.old) (λ m s. row_trt m s code.now) cpu.new (P.bytes space.new) result }
