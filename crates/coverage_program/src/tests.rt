@@ -3,9 +3,9 @@ mod cases;
 
 use crate::cover::cover;
 use crate::status::Status;
+use cases::CASES;
 use cov_outside::{MemSink, MemSource, SureSink, SureSource};
 use module_area::{Areas, PlainAreas, Tally};
-use cases::CASES;
 use std::alloc::Global;
 use std::test::Fail;
 

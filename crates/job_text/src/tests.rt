@@ -153,7 +153,11 @@ fn refuses_lines_that_are_missing_or_doubled(rt: HostRuntime) -> Result<(), Fail
         twice.push(b'\n')?;
         let doubled = with_line(a, n + 1, &twice)?;
         // the listing's last line comes behind it, as where the LISTING card is one of its lines
-        let more = if n == 3 || is_listing(n) { 9 } else { n as u32 + 2 };
+        let more = if n == 3 || is_listing(n) {
+            9
+        } else {
+            n as u32 + 2
+        };
         assert_eq!(rt; (n, bad_line(a, &doubled)), (n, more));
     }
     Ok(())
@@ -288,7 +292,10 @@ fn takes_a_last_line_without_its_end(rt: HostRuntime) -> Result<(), Fail> {
         // a CR that no LF follows is part of the line
         let mut odd = input.to_vec(a)?;
         odd.push(b'\r')?;
-        assert_eq!(rt; bad_line(a, &odd), if is_listing(i) { n + 2 } else { n + 1 });
+        assert_eq!(rt;
+            bad_line(a, &odd),
+            if is_listing(i) { n + 2 } else { n + 1 }
+        );
         input.push(b'\n')?;
         assert_eq!(rt; bad_line(a, &input), if n == 13 { 0 } else { n + 2 });
     }
