@@ -179,11 +179,11 @@ fn answers_over_devices_that_never_fail(rt: HostRuntime) -> Result<(), Fail> {
 #[test]
 fn answers_each_job(rt: HostRuntime) -> Result<(), Fail> {
     let alloc = rt.alloc();
-    for (name, job, status, text) in CASES {
+    for (name, job, status, text) in &CASES {
         let came = run(alloc, job.to_vec(alloc)?, Vec::new(alloc), Vec::new(alloc))?;
-        assert_eq!(rt; came.status, Status(status), "{name}");
-        assert_eq!(rt; came.text.as_slice(), text, "{name}");
-        assert_eq!(rt; came.made, u64::from(status == 0), "{name}");
+        assert_eq!(rt; came.status, Status(*status), "{name}");
+        assert_eq!(rt; came.text.as_slice(), *text, "{name}");
+        assert_eq!(rt; came.made, u64::from(*status == 0), "{name}");
         assert_eq!(rt; came.tallies.len() as u64, came.made, "{name}");
     }
     Ok(())
