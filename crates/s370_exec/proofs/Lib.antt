@@ -1,1 +1,3 @@
+pub mod CallBytes
 pub mod Empty
+pub mod Subjects

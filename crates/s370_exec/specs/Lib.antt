@@ -1,2 +1,3 @@
-pub mod Branch
+pub mod Effects
+pub mod Fetch
 pub mod Solo

@@ -1,6 +1,6 @@
 //! The tables that the operations stand in.
 ghost use Rattle.std.specs.Prelude.{◌≡◌};
-ghost use Rattle.s370_exec.specs.Solo.{group_of};
+ghost use Rattle.s370_exec.specs.Effects.{group_of};
 
 use s370_decode::Op;
 
@@ -8,6 +8,10 @@ use s370_decode::Op;
 #[derive(Clone, Copy, Debug, PartialEq, Eq)]
 pub enum Group {
     Fixed,
+    Logic,
+    Storage,
+    Decimal,
+    Edit,
     Branch,
     /// SVC.
     Call,
@@ -17,7 +21,7 @@ pub enum Group {
     Missing,
 }
 
-/// The table that has the operation.
+/// The table that has the operation. EX stands in none: its subject is executed in its place.
 pub fn group_of(op: Op) -> Group
     ensures { result ≡ group_of op }
 {
@@ -62,8 +66,63 @@ pub fn group_of(op: Op) -> Group
         Op::SRDA => Group::Fixed,
         Op::CVB => Group::Fixed,
         Op::CVD => Group::Fixed,
+        Op::NR => Group::Logic,
+        Op::N => Group::Logic,
+        Op::NI => Group::Logic,
+        Op::NC => Group::Logic,
+        Op::OR => Group::Logic,
+        Op::O => Group::Logic,
+        Op::OI => Group::Logic,
+        Op::OC => Group::Logic,
+        Op::XR => Group::Logic,
+        Op::X => Group::Logic,
+        Op::XI => Group::Logic,
+        Op::XC => Group::Logic,
+        Op::CLR => Group::Logic,
+        Op::CL => Group::Logic,
+        Op::CLI => Group::Logic,
+        Op::CLC => Group::Logic,
+        Op::IC => Group::Logic,
+        Op::STC => Group::Logic,
+        Op::ICM => Group::Logic,
+        Op::STCM => Group::Logic,
+        Op::CLM => Group::Logic,
+        Op::TM => Group::Logic,
+        Op::MVI => Group::Logic,
+        Op::TS => Group::Logic,
+        Op::CS => Group::Logic,
+        Op::CDS => Group::Logic,
+        Op::SPM => Group::Logic,
+        Op::MVC => Group::Storage,
+        Op::MVN => Group::Storage,
+        Op::MVZ => Group::Storage,
+        Op::MVCIN => Group::Storage,
+        Op::TR => Group::Storage,
+        Op::TRT => Group::Storage,
+        Op::MVCL => Group::Storage,
+        Op::CLCL => Group::Storage,
+        Op::PACK => Group::Storage,
+        Op::UNPK => Group::Storage,
+        Op::MVO => Group::Storage,
+        Op::AP => Group::Decimal,
+        Op::SP => Group::Decimal,
+        Op::ZAP => Group::Decimal,
+        Op::CP => Group::Decimal,
+        Op::MP => Group::Decimal,
+        Op::DP => Group::Decimal,
+        Op::SRP => Group::Decimal,
+        Op::ED => Group::Edit,
+        Op::EDMK => Group::Edit,
         Op::BC => Group::Branch,
         Op::BCR => Group::Branch,
+        Op::BCT => Group::Branch,
+        Op::BCTR => Group::Branch,
+        Op::BAL => Group::Branch,
+        Op::BALR => Group::Branch,
+        Op::BAS => Group::Branch,
+        Op::BASR => Group::Branch,
+        Op::BXH => Group::Branch,
+        Op::BXLE => Group::Branch,
         Op::SVC => Group::Call,
         Op::Privileged => Group::Supervisor,
         _ => Group::Missing,

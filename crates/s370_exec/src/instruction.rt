@@ -1,17 +1,23 @@
 //! The effect of an instruction that was fetched whole.
-ghost use Rattle.std.specs.Prelude.{◌≡◌, ℕ, ◌+◌, ◌*◌, ◌/◌, ◌%◌, ◌<◌, ◌≤◌, List};
+ghost use Rattle.std.specs.Prelude.{◌≡◌, ℕ, ◌+◌, ◌*◌, ◌/◌, ◌%◌, ◌<◌, ◌≤◌, List, false};
 ghost use Rattle.cov_base.specs.States.{CpuView, IoView, Machine};
 ghost use Rattle.s370_state.specs.Row.{machine_of};
 ghost use Rattle.s370_decode.specs.Fields.{first_half, i2};
 ghost use Rattle.s370_decode.specs.Table.{op_of};
-ghost use Rattle.s370_exec.specs.Solo.{effect, effect_of, is_completed, onward_by, call, updated, link_code};
+ghost use Rattle.s370_exec.specs.Fetch.{is_execute};
+ghost use Rattle.s370_exec.specs.Effects.{effect, effect_of, is_completed, onward_by, updated, link_code};
 
-use crate::branch::branch;
+use crate::calls::task_call;
 use crate::group::{Group, group_of};
 use cov_base::Addr;
+use s370_branch::branch;
+use s370_decimal::decimal;
 use s370_decode::{Code, Op, op_of};
+use s370_edit::edit;
 use s370_fixed::fixed;
+use s370_logic::logic;
 use s370_state::{Cpu, Ending, Next, Space, TaskIo};
+use s370_storage::storage;
 
 /// Whether the ending comes once the results are in place, as those by codes 8 and X'A' do.
 fn is_completed(e: &Ending) -> bool
@@ -39,25 +45,6 @@ fn onward(cpu: &mut Cpu, to: Addr, next: Next) -> Next
             }
             Next::Ended(e)
         }
-    }
-}
-
-/// A task call.
-#[tactic(auto, unfolding(crate::specs::Solo::call))]
-fn supervisor_call(cpu: &mut Cpu, number: u8, next: Addr) -> Next
-    ensures { (bytes : List ℕ) (io : IoView) → effect_of cpu.new bytes io result ≡ call (machine_of cpu.old bytes) io number next }
-{
-    match number {
-        3 => Next::Ended(Ending::Exit),
-        4 => {
-            cpu.go(next);
-            Next::On
-        }
-        5 => {
-            cpu.go(next);
-            Next::On
-        }
-        _ => Next::Ended(Ending::BadSvc(number)),
     }
 }
 
@@ -89,9 +76,9 @@ fn operation(code: &Code) -> Op
     op_of(u16::from(code.bytes[0]) * 256 + u16::from(code.bytes[1]))
 }
 
-/// Executes an instruction whose length is that of its first halfword, under the order of tests from the
-/// operation on; `ex` is the address of the EX that executes it.
-#[tactic(auto, unfolding(crate::specs::Solo::effect))]
+/// Executes an instruction that is no EX and whose length is that of its first halfword, under the order of tests
+/// from the operation on; `ex` is the address of the EX that executes it.
+#[tactic(auto, unfolding(crate::specs::Effects::effect))]
 pub fn execute<P: Space>(
     cpu: &mut Cpu,
     space: &mut P,
@@ -99,23 +86,39 @@ pub fn execute<P: Space>(
     code: &Code,
     ex: Option<Addr>,
 ) -> Next
+    requires subject { is_execute (first_half code.now) ≡ false }
     ensures memory { P.memory space.new ≡ P.memory space.old }
     ensures effect { effect_of cpu.new (P.bytes space.new) io.new result ≡
         effect (P.memory space.old) (machine_of cpu.old (P.bytes space.old)) io.old code.now (op_of (first_half code.now)) (updated code.now ex) (link_code code.now ex) }
 {
     let op = operation(code);
     let next = updated(code, &ex);
-    let _ = &io;
     match group_of(op) {
         Group::Fixed => {
             let n = fixed(cpu, space, code, op);
+            onward(cpu, next, n)
+        }
+        Group::Logic => {
+            let n = logic(cpu, space, code, op);
+            onward(cpu, next, n)
+        }
+        Group::Storage => {
+            let n = storage(cpu, space, code, op);
+            onward(cpu, next, n)
+        }
+        Group::Decimal => {
+            let n = decimal(cpu, space, code, op);
+            onward(cpu, next, n)
+        }
+        Group::Edit => {
+            let n = edit(cpu, space, code, op);
             onward(cpu, next, n)
         }
         Group::Branch => {
             branch(cpu, code, op, next, link_code(code, &ex));
             Next::On
         }
-        Group::Call => supervisor_call(cpu, code.i2(), next),
+        Group::Call => task_call(cpu, space, io, code.i2(), next),
         Group::Supervisor => Next::Ended(Ending::Abend(2)),
         Group::Missing => Next::Ended(Ending::Abend(1)),
     }

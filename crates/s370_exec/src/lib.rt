@@ -1,14 +1,15 @@
-//! One instruction of a task: its later halfwords, its effect, and the order of tests around it.
+//! One instruction of a task: its later halfwords, its effect, the subject of EX, and the order of tests around it.
 #![tactic(auto)]
 
-mod branch;
+mod calls;
 mod fetch;
 mod group;
 mod instruction;
+mod subject;
 
-pub use branch::outcome;
 pub use fetch::fetch_rest;
 pub use instruction::execute;
+pub use subject::{is_execute, merge, subject_address};
 
 #[cfg(test)]
 mod tests;

@@ -5,11 +5,14 @@ use Rattle.cov_base.specs.Memory.{Memory, can_reach, half_at}
 use Rattle.cov_base.specs.States.{State}
 use Rattle.s370_state.specs.declared.endings.Ending.{Ending}
 use Rattle.s370_state.specs.declared.endings.Ending.TheVariants.{Abend}
-use Rattle.s370_decode.specs.Fields.{first_half}
+use Rattle.s370_decode.specs.Fields.{first_half, ex}
 use Rattle.s370_decode.specs.Table.{op_of}
 use Rattle.s370_decode.specs.declared.code.Code.{Code}
-use Rattle.s370_exec.specs.Branch.{goes}
-use Rattle.s370_exec.specs.Solo.{Step, Effect, solo_step, fetched, ended, stepped, begun_step, code_at, rest_tests, visit, effect, updated, link_code}
+use Rattle.s370_branch.specs.Branch.{goes}
+use Rattle.s370_exec.specs.Effects.{Effect, effect, updated, link_code}
+use Rattle.s370_exec.specs.Fetch.{code_at, rest_tests, is_execute, merged}
+use Rattle.s370_exec.specs.Solo.{Step, solo_step, fetched, ended, stepped, begun_step, visit, subject_step, subject_read, subject_fetched, behind}
+use Rattle.s370_exec.proofs.Subjects.{first_half-code_at, at-code_at, at-merged, op_of-merged, execute_stays}
 use Rattle.module_area.specs.declared.places.Place.{Place}
 use Rattle.module_area.specs.PlanView.{PlanView}
 use Rattle.module_area.specs.Notes.{Notes}
@@ -52,49 +55,93 @@ solo_step-fetched m s h rest none half tests =
 
 -- a later halfword is refused
 pub solo_step-rest_refused : (m : Memory) (s : State) (a h : ℕ) (e : Ending) → a ≡ s.machine.cpu.ia → first_tests m a ≡ None → h ≡ half_at m s.machine.bytes a →
-    rest_tests m a (length_of h) ≡ Some e → solo_step m s ≡ ended s e (visit s a false false ∷ [])
+    rest_tests m a (length_of h) ≡ Some e → solo_step m s ≡ ended s e (visit s a false false false ∷ [])
 solo_step-rest_refused m s a h e at none half tests =
     let none_there : first_tests m s.machine.cpu.ia ≡ None = rw at at none in
     let half_there : h ≡ half_at m s.machine.bytes s.machine.cpu.ia = rw at at half in
     let tests_there : rest_tests m s.machine.cpu.ia (length_of h) ≡ Some e = rw at at tests in
     rw at (solo_step-fetched m s h (Some e) none_there half_there tests_there)
 
-first_half-code_at : (m : Memory) (bytes : List ℕ) (a h : ℕ) → first_half (code_at m bytes a h) ≡ h
-unfolding code_at
-first_half-code_at m bytes a h = omega arith
-
-at-code_at : (m : Memory) (bytes : List ℕ) (a h : ℕ) → (code_at m bytes a h).at ≡ a
-unfolding code_at
-at-code_at m bytes a h = refl
-
--- all halfwords are read
-pub solo_step-begun : (m : Memory) (s : State) (a h : ℕ) (c : Code) (went : Bool) (e : Effect) → a ≡ s.machine.cpu.ia → first_tests m a ≡ None →
-    h ≡ half_at m s.machine.bytes a → rest_tests m a (length_of h) ≡ None → c ≡ code_at m s.machine.bytes a h → went ≡ goes (op_of h) s.machine.cpu c →
-    e ≡ effect m s.machine s.io c (op_of (first_half c)) (updated c None) (link_code c None) → solo_step m s ≡ stepped s e (visit s a true went ∷ [])
-solo_step-begun m s a h c went e at none half tests code goes_on made =
+-- an instruction's halfwords are read
+begun_at : (m : Memory) (s : State) (a h : ℕ) (c : Code) → a ≡ s.machine.cpu.ia → first_tests m a ≡ None →
+    h ≡ half_at m s.machine.bytes a → rest_tests m a (length_of h) ≡ None → c ≡ code_at m s.machine.bytes a h → solo_step m s ≡ begun_step m s c h
+begun_at m s a h c at none half tests code =
     let none_there : first_tests m s.machine.cpu.ia ≡ None = rw at at none in
     let half_there : h ≡ half_at m s.machine.bytes s.machine.cpu.ia = rw at at half in
     let tests_there : rest_tests m s.machine.cpu.ia (length_of h) ≡ None = rw at at tests in
+    let same : code_at m s.machine.bytes s.machine.cpu.ia h ≡ c = rw (← at) (sym code) in
+    rw (← same) (solo_step-fetched m s h None none_there half_there tests_there)
+
+-- it is no EX
+pub solo_step-begun : (m : Memory) (s : State) (a h : ℕ) (c : Code) (e : Effect) → a ≡ s.machine.cpu.ia → first_tests m a ≡ None →
+    h ≡ half_at m s.machine.bytes a → rest_tests m a (length_of h) ≡ None → c ≡ code_at m s.machine.bytes a h → is_execute h ≡ false →
+    e ≡ effect m s.machine s.io c (op_of (first_half c)) (updated c None) (link_code c None) →
+    solo_step m s ≡ stepped s e (visit s a true (goes (op_of (first_half c)) s.machine.cpu c) false ∷ [])
+solo_step-begun m s a h c e at none half tests code other made =
     let first : first_half c ≡ h = ap first_half code ∙ first_half-code_at m s.machine.bytes a h in
     let place : c.at ≡ a = ap (λ x. x.at) code ∙ at-code_at m s.machine.bytes a h in
-    let same : code_at m s.machine.bytes s.machine.cpu.ia h ≡ c = rw (← at) (sym code) in
-    let begun : solo_step m s ≡ begun_step m s c h = rw (← same) (solo_step-fetched m s h None none_there half_there tests_there) in
-    rw (made, goes_on, first, ← place) begun
+    rw (made, first, ← place) (begun_at m s a h c at none half tests code ∙ rw other refl)
+
+-- it is an EX
+pub solo_step-execute : (m : Memory) (s : State) (a h : ℕ) (c : Code) → a ≡ s.machine.cpu.ia → first_tests m a ≡ None →
+    h ≡ half_at m s.machine.bytes a → rest_tests m a (length_of h) ≡ None → c ≡ code_at m s.machine.bytes a h → is_execute h ≡ true →
+    solo_step m s ≡ behind (visit s a true (goes (op_of (first_half c)) s.machine.cpu c) false) (subject_step m s c)
+solo_step-execute m s a h c at none half tests code execute =
+    let first : first_half c ≡ h = ap first_half code ∙ first_half-code_at m s.machine.bytes a h in
+    let place : c.at ≡ a = ap (λ x. x.at) code ∙ at-code_at m s.machine.bytes a h in
+    rw (first, execute_stays h s.machine.cpu c execute, ← place) (begun_at m s a h c at none half tests code ∙ rw execute refl)
+
+-- the first halfword of an EX's subject is refused
+pub subject_step-refused : (m : Memory) (s : State) (c : Code) (a : ℕ) (e : Ending) → a ≡ ex s.machine.cpu c → first_tests m a ≡ Some e → subject_step m s c ≡ ended s e []
+unfolding subject_step
+subject_step-refused m s c a e at h =
+    let b : ℕ = ex s.machine.cpu c in
+    let there : first_tests m b ≡ Some e = rw at at h in
+    picks_ended (b % 2 == 1) (can_reach m b 2) (λ f. ended s f []) (subject_read m s c b (half_at m s.machine.bytes b)) e there
+
+-- it is read
+subject_step-read : (m : Memory) (s : State) (c : Code) (a h : ℕ) → a ≡ ex s.machine.cpu c → first_tests m a ≡ None → h ≡ half_at m s.machine.bytes a →
+    subject_step m s c ≡ subject_read m s c a h
+unfolding subject_step
+subject_step-read m s c a h at none half =
+    let b : ℕ = ex s.machine.cpu c in
+    let there : first_tests m b ≡ None = rw at at none in
+    rw (half, at) (picks_fetched (b % 2 == 1) (can_reach m b 2) (λ f. ended s f []) (subject_read m s c b (half_at m s.machine.bytes b)) there)
+
+-- the subject is another EX
+pub subject_step-execute : (m : Memory) (s : State) (c : Code) (a h : ℕ) → a ≡ ex s.machine.cpu c → first_tests m a ≡ None → h ≡ half_at m s.machine.bytes a →
+    is_execute h ≡ true → subject_step m s c ≡ ended s (Abend 3) (visit s a false false true ∷ [])
+subject_step-execute m s c a h at none half execute = subject_step-read m s c a h at none half ∙ rw execute refl
+
+-- a later halfword of the subject is refused
+pub subject_step-rest_refused : (m : Memory) (s : State) (c : Code) (a h : ℕ) (e : Ending) → a ≡ ex s.machine.cpu c → first_tests m a ≡ None → h ≡ half_at m s.machine.bytes a →
+    is_execute h ≡ false → rest_tests m a (length_of h) ≡ Some e → subject_step m s c ≡ ended s e (visit s a false false true ∷ [])
+subject_step-rest_refused m s c a h e at none half other tests = subject_step-read m s c a h at none half ∙ rw (other, tests) refl
+
+-- the subject is begun as EX executes it
+pub subject_step-begun : (m : Memory) (s : State) (c : Code) (a h : ℕ) (k x : Code) (e : Effect) → a ≡ ex s.machine.cpu c → first_tests m a ≡ None →
+    h ≡ half_at m s.machine.bytes a → is_execute h ≡ false → rest_tests m a (length_of h) ≡ None → k ≡ code_at m s.machine.bytes a h → x ≡ merged s.machine.cpu c k →
+    e ≡ effect m s.machine s.io x (op_of (first_half x)) (updated x (Some c.at)) (link_code x (Some c.at)) →
+    subject_step m s c ≡ stepped s e (visit s a true (goes (op_of (first_half x)) s.machine.cpu x) true ∷ [])
+subject_step-begun m s c a h k x e at none half other tests code merges made =
+    let same : x ≡ merged s.machine.cpu c (code_at m s.machine.bytes a h) = rw (← code) merges in
+    let place : x.at ≡ a = ap (λ y. y.at) same ∙ (at-merged s.machine.cpu c (code_at m s.machine.bytes a h) ∙ at-code_at m s.machine.bytes a h) in
+    rw (made, same, ← (sym same), ← place) (subject_step-read m s c a h at none half ∙ rw (other, tests) refl)
 
 -- the visit wasn't begun
-pub Observes-not_begun : (plan : PlanView) (places : List Place) (old new : Notes) (met : Met) (s : State) (a : ℕ) → plan.places ≡ places →
-    IsPlaced places a met → IsMet plan old new met → Observes plan old new (visit s a false false ∷ [])
-Observes-not_begun plan places old new (Plain h) s a same placed met = rw met (Observes-plain plan old (visit s a false false) (rw same placed))
-Observes-not_begun plan places old new (Free p h) s a same placed met =
-    rw met.2.notes (Observes-kept plan old p.0 _ (visit s a false false) (rw same placed) met.2.answer (λ b. absurd cc))
-Observes-not_begun plan places old new (Trap p cell h) s a same placed met =
-    rw met.1.notes (Observes-kept plan old p.0 cell (visit s a false false) (rw same placed) met.1.answer (λ b. absurd cc))
+pub Observes-not_begun : (plan : PlanView) (places : List Place) (old new : Notes) (met : Met) (s : State) (a : ℕ) (subject : Bool) → plan.places ≡ places →
+    IsPlaced places a met → IsMet plan old new met → Observes plan old new (visit s a false false subject ∷ [])
+Observes-not_begun plan places old new (Plain h) s a subject same placed met = rw met (Observes-plain plan old (visit s a false false subject) (rw same placed))
+Observes-not_begun plan places old new (Free p h) s a subject same placed met =
+    rw met.2.notes (Observes-kept plan old p.0 _ (visit s a false false subject) (rw same placed) met.2.answer (λ b. absurd cc))
+Observes-not_begun plan places old new (Trap p cell h) s a subject same placed met =
+    rw met.1.notes (Observes-kept plan old p.0 cell (visit s a false false subject) (rw same placed) met.1.answer (λ b. absurd cc))
 
 -- it was begun, and what it shows was settled
-pub Observes-begun : (plan : PlanView) (places : List Place) (old mid new : Notes) (met : Met) (s : State) (a : ℕ) (went : Bool) → plan.places ≡ places →
-    IsPlaced places a met → IsMet plan old mid met → Shows plan mid new met went → Observes plan old new (visit s a true went ∷ [])
-Observes-begun plan places old mid new (Plain h) s a went same placed met shows = rw (shows, met) (Observes-plain plan old (visit s a true went) (rw same placed))
-Observes-begun plan places old mid new (Free p h) s a went same placed met shows =
-    rw (shows, met.2.notes) (Observes-kept plan old p.0 _ (visit s a true went) (rw same placed) met.2.answer (λ b. met.1))
-Observes-begun plan places old mid new (Trap p cell h) s a went same placed met shows =
-    Observes-settled plan old new p.0 cell (visit s a true went) (rw same placed) met.1.answer refl (rw met.1.notes at shows)
+pub Observes-begun : (plan : PlanView) (places : List Place) (old mid new : Notes) (met : Met) (s : State) (a : ℕ) (went subject : Bool) → plan.places ≡ places →
+    IsPlaced places a met → IsMet plan old mid met → Shows plan mid new met went → Observes plan old new (visit s a true went subject ∷ [])
+Observes-begun plan places old mid new (Plain h) s a went subject same placed met shows = rw (shows, met) (Observes-plain plan old (visit s a true went subject) (rw same placed))
+Observes-begun plan places old mid new (Free p h) s a went subject same placed met shows =
+    rw (shows, met.2.notes) (Observes-kept plan old p.0 _ (visit s a true went subject) (rw same placed) met.2.answer (λ b. met.1))
+Observes-begun plan places old mid new (Trap p cell h) s a went subject same placed met shows =
+    Observes-settled plan old new p.0 cell (visit s a true went subject) (rw same placed) met.1.answer refl (rw met.1.notes at shows)

@@ -2,7 +2,11 @@
 ghost use Rattle.std.specs.Prelude.{◌≡◌, ℕ, ◌+◌, ◌%◌, ◌<◌, ◌^◌, length};
 ghost use Rattle.cov_base.specs.Facts.{fact_of};
 ghost use Rattle.module_area.specs.Notes.{calls};
-ghost use Rattle.s370_exec.specs.Solo.{solo_step};
+ghost use Rattle.s370_decode.specs.Fields.{first_half};
+ghost use Rattle.s370_decode.specs.Table.{op_of};
+ghost use Rattle.s370_branch.specs.Branch.{goes};
+ghost use Rattle.s370_exec.specs.Fetch.{is_execute};
+ghost use Rattle.s370_exec.specs.Solo.{solo_step, subject_step};
 ghost use Rattle.svc_monitor.specs.First.{IsOver, IsPending};
 ghost use Rattle.svc_monitor.specs.Settled.{Shows};
 ghost use Rattle.svc_monitor.specs.Observed.{Observes, state_of};
@@ -12,9 +16,10 @@ use crate::trap::settle;
 use brk_table::Tables;
 use cov_base::{Fact, Kind};
 use module_area::Cells;
-use s370_decode::op_of;
-use s370_exec::{execute, fetch_rest, outcome};
-use s370_state::{Cpu, Next, Space, TaskIo};
+use s370_branch::outcome;
+use s370_decode::Code;
+use s370_exec::{execute, fetch_rest, is_execute, merge, subject_address};
+use s370_state::{Cpu, Ending, Next, Space, TaskIo};
 
 /// What an execution shows that branched, or did not.
 fn fact_of(kind: Kind, went: bool) -> Fact
@@ -26,19 +31,65 @@ fn fact_of(kind: Kind, went: bool) -> Fact
     }
 }
 
-/// Settles a trap whose instruction was begun.
-fn show<C: Cells>(cells: &C, pass: &mut C::Pass, tables: &Tables, met: Met, went: bool)
+/// Settles a trap whose instruction was begun, by what it does as it is executed.
+fn show<C: Cells>(
+    cells: &C,
+    pass: &mut C::Pass,
+    tables: &Tables,
+    met: Met,
+    cpu: &Cpu,
+    code: &Code,
+)
     requires area { C.is_pass cells.now pass.old }
     requires plan { (C.plan cells.now).places ≡ tables.now.places }
     requires room { calls (C.notes pass.old) < 2 ^ 61 + 2 ^ 16 }
     requires pending { IsPending (C.plan cells.now) (C.notes pass.old) met }
     ensures area { C.is_pass cells.now pass.new }
-    ensures shows { Shows (C.plan cells.now) (C.notes pass.old) (C.notes pass.new) met went }
+    ensures shows { Shows (C.plan cells.now) (C.notes pass.old) (C.notes pass.new) met (goes (op_of (first_half code.now)) cpu.now code.now) }
 {
     if let Met::Trap(place, cell, _) = met {
         let kind = tables.place(place).kind;
-        settle(cells, pass, tables, place, cell, fact_of(kind, went));
+        settle(cells, pass, tables, place, cell, fact_of(kind, outcome(cpu, code)));
     }
+}
+
+/// Executes the subject of an EX that was begun, and observes its visit. Code 6 exactly at an odd address, else code 5
+/// exactly where its first halfword is inaccessible, else code 3 exactly where it is itself EX, of which no fact is
+/// marked.
+fn step_subject<C: Cells, P: Space>(
+    cells: &C,
+    pass: &mut C::Pass,
+    tables: &Tables,
+    cpu: &mut Cpu,
+    space: &mut P,
+    io: &mut TaskIo,
+    ex: &Code,
+) -> Next
+    requires area { C.is_pass cells.now pass.old }
+    requires over { IsOver (C.plan cells.now) (P.memory space.old) tables.now.places }
+    requires room { calls (C.notes pass.old) < 2 ^ 61 + 2 ^ 8 }
+    ensures area { C.is_pass cells.now pass.new }
+    ensures memory { P.memory space.new ≡ P.memory space.old }
+    ensures state { (d : ℕ) → (subject_step (P.memory space.old) (state_of cpu.old (P.bytes space.old) io.old d) ex.now).state ≡ state_of cpu.new (P.bytes space.new) io.new (d + 1) }
+    ensures next { (d : ℕ) → (subject_step (P.memory space.old) (state_of cpu.old (P.bytes space.old) io.old d) ex.now).next ≡ result }
+    ensures observes { (d : ℕ) → Observes (C.plan cells.now) (C.notes pass.old) (C.notes pass.new) (subject_step (P.memory space.old) (state_of cpu.old (P.bytes space.old) io.old d) ex.now).visits }
+{
+    let at = subject_address(cpu, ex);
+    let met = match first_half(cells, pass, tables, space, at) {
+        Ok(met) => met,
+        Err(e) => return Next::Ended(e),
+    };
+    let original = met.original();
+    if is_execute(original) {
+        return Next::Ended(Ending::Abend(3));
+    }
+    let subject = match fetch_rest(space, at, original) {
+        Ok(code) => code,
+        Err(e) => return Next::Ended(e),
+    };
+    let code = merge(cpu, ex, &subject);
+    show(cells, pass, tables, met, cpu, &code);
+    execute(cpu, space, io, &code, Some(ex.at))
 }
 
 /// One instruction of the task, of which neither budget nor return address is tested: it ends or goes on as over
@@ -70,7 +121,9 @@ pub fn step<C: Cells, P: Space>(
         Ok(code) => code,
         Err(e) => return Next::Ended(e),
     };
-    let went = outcome(cpu, &code, op_of(original));
-    show(cells, pass, tables, met, went);
+    show(cells, pass, tables, met, cpu, &code);
+    if is_execute(original) {
+        return step_subject(cells, pass, tables, cpu, space, io, &code);
+    }
     execute(cpu, space, io, &code, None)
 }

@@ -1,5 +1,5 @@
 -- How long a trace is, and how many instructions a run does.
-use Rattle.std.proofs.Common.{◌≡◌, ℕ, ◌+◌, ◌*◌, ◌%◌, ◌==◌, ◌≤◌, zero, suc, if◌then◌else◌, Option, Some, None, List, [], ◌++◌, length, refl, arith, length-append}
+use Rattle.std.proofs.Common.{◌≡◌, ℕ, ◌+◌, ◌*◌, ◌%◌, ◌==◌, ◌≤◌, zero, suc, true, false, if◌then◌else◌, Option, Some, None, List, [], ◌∷◌, ◌++◌, length, refl, arith, length-append}
 use Rattle.std.proofs.lemmas.Bool.{cond_both}
 use Rattle.cov_base.specs.Codes.{length_of}
 use Rattle.cov_base.specs.Memory.{Memory, can_reach, half_at}
@@ -8,27 +8,60 @@ use Rattle.s370_state.specs.declared.endings.Ending.{Ending}
 use Rattle.s370_state.specs.declared.endings.Ending.TheVariants.{Abend, Returned}
 use Rattle.s370_state.specs.declared.endings.Next.{Next}
 use Rattle.s370_state.specs.declared.endings.Next.TheVariants.{On, Ended}
-use Rattle.s370_exec.specs.Solo.{Step, Run, solo_step, fetched, ended, rest_tests, run_on, run_after, run_ended, solo_run, has_returned}
+use Rattle.s370_decode.specs.Fields.{ex}
+use Rattle.s370_decode.specs.Table.{op_of}
+use Rattle.s370_decode.specs.declared.code.Code.{Code}
+use Rattle.s370_branch.specs.Branch.{goes}
+use Rattle.s370_exec.specs.Effects.{effect, updated, link_code}
+use Rattle.s370_exec.specs.Fetch.{code_at, rest_tests, is_execute}
+use Rattle.s370_exec.specs.Solo.{Step, Run, solo_step, fetched, begun_step, stepped, ended, visit, behind, subject_step, subject_read, subject_fetched, run_on, run_after, run_ended, solo_run, has_returned}
 
--- a step does one instruction, and visits two at most
-record IsOneStep (s : State) (t : Step) : Type 0 where
+-- a step does one instruction, and visits so many at most
+record IsStepOf (most : ℕ) (s : State) (t : Step) : Type 0 where
   pub done : t.state.done ≡ s.done + 1
-  pub visits : length t.visits ≤ 2
+  pub visits : length t.visits ≤ most
 
-one_ended : (s : State) (e : Ending) → IsOneStep s (ended s e [])
-one_ended s e = record { done = refl; visits = omega arith }
+one_ended : (most : ℕ) (s : State) (e : Ending) → IsStepOf most s (ended s e [])
+one_ended most s e = record { done = refl; visits = omega arith }
 
-one_fetched : (m : Memory) (s : State) (a h : ℕ) (rest : Option Ending) → IsOneStep s (fetched m s a h rest)
-one_fetched m s a h (Some e) = record { done = refl; visits = omega arith }
-one_fetched m s a h None = record { done = refl; visits = omega arith }
+subject_fetched-one : (m : Memory) (s : State) (c : Code) (a h : ℕ) (rest : Option Ending) → IsStepOf 1 s (subject_fetched m s c a h rest)
+subject_fetched-one m s c a h (Some e) = record { done = refl; visits = omega arith }
+subject_fetched-one m s c a h None = record { done = refl; visits = omega arith }
 
-one_step : (m : Memory) (s : State) → IsOneStep s (solo_step m s)
+subject_read-one : (m : Memory) (s : State) (c : Code) (a h : ℕ) → IsStepOf 1 s (subject_read m s c a h)
+subject_read-one m s c a h =
+    cond_both (is_execute h) (ended s (Abend 3) (visit s a false false true ∷ [])) (subject_fetched m s c a h (rest_tests m a (length_of h))) (IsStepOf 1 s)
+    (λ e. record { done = refl; visits = omega arith })
+    (λ e. subject_fetched-one m s c a h (rest_tests m a (length_of h)))
+
+subject_step-one : (m : Memory) (s : State) (c : Code) → IsStepOf 1 s (subject_step m s c)
+unfolding subject_step
+subject_step-one m s c =
+    let a : ℕ = ex s.machine.cpu c in
+    let read : Step = subject_read m s c a (half_at m s.machine.bytes a) in
+    cond_both (a % 2 == 1) (ended s (Abend 6) []) (if can_reach m a 2 then read else ended s (Abend 5) []) (IsStepOf 1 s) (λ e. one_ended 1 s (Abend 6))
+    (λ e. cond_both (can_reach m a 2) read (ended s (Abend 5) []) (IsStepOf 1 s) (λ f. subject_read-one m s c a (half_at m s.machine.bytes a)) (λ f. one_ended 1 s (Abend 5)))
+
+begun_step-two : (m : Memory) (s : State) (c : Code) (h : ℕ) → IsStepOf 2 s (begun_step m s c h)
+begun_step-two m s c h =
+    let subject : Step = subject_step m s c in
+    let one : IsStepOf 1 s subject = subject_step-one m s c in
+    cond_both (is_execute h) (behind (visit s c.at true false false) subject)
+    (stepped s (effect m s.machine s.io c (op_of h) (updated c None) (link_code c None)) (visit s c.at true (goes (op_of h) s.machine.cpu c) false ∷ [])) (IsStepOf 2 s)
+    (λ e. record { done = one.done; visits = omega (arith, one.visits) })
+    (λ e. record { done = refl; visits = omega arith })
+
+fetched-two : (m : Memory) (s : State) (a h : ℕ) (rest : Option Ending) → IsStepOf 2 s (fetched m s a h rest)
+fetched-two m s a h (Some e) = record { done = refl; visits = omega arith }
+fetched-two m s a h None = begun_step-two m s (code_at m s.machine.bytes a h) h
+
+one_step : (m : Memory) (s : State) → IsStepOf 2 s (solo_step m s)
 unfolding solo_step
 one_step m s =
     let a : ℕ = s.machine.cpu.ia in
     let first : Step = fetched m s a (half_at m s.machine.bytes a) (rest_tests m a (length_of (half_at m s.machine.bytes a))) in
-    cond_both (a % 2 == 1) (ended s (Abend 6) []) (if can_reach m a 2 then first else ended s (Abend 5) []) (IsOneStep s) (λ e. one_ended s (Abend 6))
-    (λ e. cond_both (can_reach m a 2) first (ended s (Abend 5) []) (IsOneStep s) (λ f. one_fetched m s a (half_at m s.machine.bytes a) (rest_tests m a (length_of (half_at m s.machine.bytes a)))) (λ f. one_ended s (Abend 5)))
+    cond_both (a % 2 == 1) (ended s (Abend 6) []) (if can_reach m a 2 then first else ended s (Abend 5) []) (IsStepOf 2 s) (λ e. one_ended 2 s (Abend 6))
+    (λ e. cond_both (can_reach m a 2) first (ended s (Abend 5) []) (IsStepOf 2 s) (λ f. fetched-two m s a (half_at m s.machine.bytes a) (rest_tests m a (length_of (half_at m s.machine.bytes a)))) (λ f. one_ended 2 s (Abend 5)))
 
 pub solo_step-done : (m : Memory) (s : State) → (solo_step m s).state.done ≡ s.done + 1
 solo_step-done m s = (one_step m s).done

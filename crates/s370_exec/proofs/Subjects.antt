@@ -1,0 +1,55 @@
+-- The subject of EX as it is executed: the operation stays.
+use Rattle.std.proofs.Common.{◌≡◌, ℕ, ◌+◌, ◌*◌, ◌/◌, ◌%◌, ◌<◌, ◌==◌, ◌^◌, Bool, true, false, if◌then◌else◌, List, [], ◌∷◌, refl, sym, ◌∙◌, ap, arith}
+use Rattle.std.specs.Prelude.{slice_index, slice_set, bit_or}
+use Rattle.std.proofs.lemmas.Bool.{eqb-true}
+use Rattle.std.proofs.lemmas.Nat.{or_of_8}
+use Rattle.cov_base.specs.Memory.{Memory, half_at, wrap}
+use Rattle.cov_base.specs.States.{CpuView}
+use Rattle.s370_decode.specs.Fields.{part, first_half, r1}
+use Rattle.s370_decode.specs.Table.{op_of, op_at, ops_4}
+use Rattle.s370_decode.specs.declared.code.Code.{Code}
+use Rattle.s370_branch.specs.Branch.{goes}
+use Rattle.s370_exec.specs.Fetch.{code_at, is_execute, modifier, merged}
+
+modifier-below : (s : CpuView) (c : Code) → modifier s c < 256
+modifier-below s c = by_zero (r1 c == 0) (slice_index s.regs (r1 c))
+  where
+    by_zero : (z : Bool) (v : ℕ) → (if z then 0 else v % 256) < 256
+    by_zero true v = omega arith
+    by_zero false v = omega arith
+
+-- the first byte alone says the operation
+same_operation : (a b c : ℕ) → b < 256 → c < 256 → op_of (a * 256 + b) ≡ op_of (a * 256 + c)
+same_operation a b c b_in c_in =
+    let high : (a * 256 + b) / 4096 ≡ (a * 256 + c) / 4096 = omega (arith, b_in, c_in) in
+    let low : (a * 256 + b) / 256 % 16 ≡ (a * 256 + c) / 256 % 16 = omega (arith, b_in, c_in) in
+    rw (high, low) refl
+
+pub first_half-code_at : (m : Memory) (bytes : List ℕ) (a h : ℕ) → first_half (code_at m bytes a h) ≡ h
+unfolding code_at
+first_half-code_at m bytes a h = omega arith
+
+pub at-code_at : (m : Memory) (bytes : List ℕ) (a h : ℕ) → (code_at m bytes a h).at ≡ a
+unfolding code_at
+at-code_at m bytes a h = refl
+
+pub at-merged : (s : CpuView) (c k : Code) → (merged s c k).at ≡ k.at
+unfolding merged
+at-merged s c k = refl
+
+pub op_of-merged : (m : Memory) (bytes : List ℕ) (a h : ℕ) (s : CpuView) (c : Code) → op_of (first_half (merged s c (code_at m bytes a h))) ≡ op_of h
+unfolding merged code_at
+op_of-merged m bytes a h s c =
+    let v : ℕ = bit_or (h % 256) (modifier s c) in
+    let below : v < 256 = or_of_8 (h % 256) (modifier s c) (omega arith) (modifier-below s c) in
+    let whole : h / 256 * 256 + h % 256 ≡ h = omega arith in
+    same_operation (h / 256) v (h % 256) below (omega arith) ∙ ap op_of whole
+
+-- EX is no branch
+pub execute_stays : (h : ℕ) (s : CpuView) (c : Code) → is_execute h ≡ true → goes (op_of h) s c ≡ false
+unfolding goes op_at ops_4
+execute_stays h s c is =
+    let code : h / 256 ≡ 68 = eqb-true (h / 256) 68 is in
+    let high : h / 4096 ≡ 4 = omega (arith, code) in
+    let low : h / 256 % 16 ≡ 4 = omega (arith, code) in
+    rw (high, low) refl

@@ -1,0 +1,149 @@
+-- The effect of an instruction that was fetched whole: the row of its operation, the task calls, and codes without a row.
+use Rattle.std.specs.Prelude.{ℕ, ◌+◌, zero, suc, min, nat_le, Bool, true, false, if◌then◌else◌, ◌==◌, Option, Some, None, List, [], ◌∷◌, ◌++◌, slice_index, slice_set}
+use Rattle.cov_base.specs.States.{CpuView, Machine, IoView}
+use Rattle.cov_base.specs.Memory.{Memory, byte_at, wrap}
+use Rattle.s370_state.specs.Io.{bytes_left, bytes_free}
+use Rattle.s370_state.specs.Row.{After, perform, machine_of, reads, stores, use_tests, reg}
+use Rattle.s370_state.specs.declared.endings.Ending.{Ending}
+use Rattle.s370_state.specs.declared.endings.Ending.TheVariants.{Exit, Abend, BadSvc, OutFull}
+use Rattle.s370_state.specs.declared.endings.Next.{Next}
+use Rattle.s370_state.specs.declared.endings.Next.TheVariants.{On, Ended}
+use Rattle.s370_decode.specs.Fields.{i2}
+use Rattle.s370_decode.specs.declared.code.Code.{Code}
+use Rattle.s370_decode.specs.declared.op.Op.{Op}
+use Rattle.s370_decode.specs.declared.op.Op.TheVariants.{SVC, Privileged}
+use Rattle.s370_fixed.specs.Fixed.{is_fixed, fixed_row}
+use Rattle.s370_logic.specs.Logic.{is_logic, logic_row}
+use Rattle.s370_storage.specs.Storage.{is_storage, storage_row}
+use Rattle.s370_decimal.specs.Decimal.{is_decimal, decimal_row}
+use Rattle.s370_edit.specs.Edit.{is_edit, edit_row}
+use Rattle.s370_branch.specs.Branch.{is_branch, branched}
+use Rattle.s370_exec.specs.declared.group.Group.{Group}
+use Rattle.s370_exec.specs.declared.group.Group.TheVariants.{Fixed, Logic, Storage, Decimal, Edit, Branch, Call, Supervisor, Missing}
+
+abbrev pub group_of_others : Op → Group
+group_of_others SVC = Call
+group_of_others Privileged = Supervisor
+group_of_others _ = Missing
+
+-- which table an operation's row stands in; EX, which only has its subject executed, stands in none
+abbrev pub group_of : Op → Group
+group_of op =
+    if is_fixed op then Fixed else (
+    if is_logic op then Logic else (
+    if is_storage op then Storage else (
+    if is_decimal op then Decimal else (
+    if is_edit op then Edit else (
+    if is_branch op then Branch else
+    group_of_others op)))))
+
+-- what an instruction makes of processor, private bytes, input and output
+pub record Effect : Type 0 where
+  pub machine : Machine
+  pub io : IoView
+  pub next : Next
+
+abbrev pub effect_of : CpuView → List ℕ → IoView → Next → Effect
+effect_of cpu bytes io next = record { machine = record { cpu = cpu; bytes = bytes }; io = io; next = next }
+
+abbrev pub unchanged : Machine → IoView → Next → Effect
+unchanged s io next = record { machine = s; io = io; next = next }
+
+abbrev pub at_address : Machine → ℕ → Machine
+at_address s a = record { cpu = record { regs = s.cpu.regs; ia = a; condition = s.cpu.condition; mask = s.cpu.mask }; bytes = s.bytes }
+
+-- the endings by codes 8 and 10 come once the results are in place
+abbrev pub is_completed : Ending → Bool
+is_completed (Abend code) = if code == 8 then true else code == 10
+is_completed _ = false
+
+-- an ending leaves the instruction address as it is, but after the results it is the updated one
+abbrev pub ended_by : ℕ → IoView → Machine → Ending → Bool → Effect
+ended_by next io s e true = record { machine = at_address s next; io = io; next = Ended e }
+ended_by next io s e false = record { machine = s; io = io; next = Ended e }
+
+-- goes on at the updated address, unless the task has ended
+abbrev pub onward_by : ℕ → IoView → Machine → Next → Effect
+onward_by next io s On = record { machine = at_address s next; io = io; next = On }
+onward_by next io s (Ended e) = ended_by next io s e (is_completed e)
+
+abbrev pub onward : ℕ → IoView → After → Effect
+onward next io r = onward_by next io r.machine r.next
+
+-- the n bytes from a on
+unfoldable pub operand : Memory → List ℕ → ℕ → ℕ → List ℕ
+operand m bytes a zero = []
+operand m bytes a (suc n) = operand m bytes a n ++ byte_at m bytes (wrap (a + n)) ∷ []
+
+-- the n bytes from a on become those of a list from k on
+unfoldable pub received : List ℕ → ℕ → List ℕ → ℕ → ℕ → List ℕ
+received bytes a list k zero = bytes
+received bytes a list k (suc n) = slice_set (received bytes a list k n) (wrap (a + n)) (slice_index list (k + n))
+
+-- bits 8-31 of register 1
+abbrev pub call_address : Machine → ℕ
+call_address s = wrap (reg s 1)
+
+-- the bytes at the address, as many as register 0 says, are appended to the output, which has room for them
+abbrev pub put_tested : Memory → Machine → IoView → ℕ → Option Ending → Effect
+put_tested m s io next (Some e) = unchanged s io (Ended e)
+put_tested m s io next None =
+    if nat_le (reg s 0) (bytes_free io) then unchanged (at_address s next) (record io { output = io.output ++ operand m s.bytes (call_address s) (reg s 0) }) On
+    else unchanged s io (Ended OutFull)
+
+unfoldable pub put_call : Memory → Machine → IoView → ℕ → Effect
+put_call m s io next = put_tested m s io next (use_tests m (reads (call_address s) (reg s 0) ∷ []))
+
+-- so many bytes are received: as register 0 says, but no more than are left
+abbrev pub get_size : Machine → IoView → ℕ
+get_size s io = min (reg s 0) (bytes_left io)
+
+-- the next n bytes of input go to the address, and register 15 becomes n
+abbrev pub get_tested : Machine → IoView → ℕ → ℕ → Option Ending → Effect
+get_tested s io next n (Some e) = unchanged s io (Ended e)
+get_tested s io next n None = record {
+  machine = record {
+    cpu = record { regs = slice_set s.cpu.regs 15 n; ia = next; condition = s.cpu.condition; mask = s.cpu.mask };
+    bytes = received s.bytes (call_address s) io.input io.taken n;
+  };
+  io = record io { taken = io.taken + n };
+  next = On;
+}
+
+unfoldable pub get_call : Memory → Machine → IoView → ℕ → Effect
+get_call m s io next = get_tested s io next (get_size s io) (use_tests m (stores (call_address s) (get_size s io) ∷ []))
+
+-- the task calls: 1 puts, 2 gets, 3 ends the task, 4 and 5 do nothing in it, every other number is bad
+unfoldable pub call : Memory → Machine → IoView → ℕ → ℕ → Effect
+call m s io n next =
+    if n == 1 then put_call m s io next else (
+    if n == 2 then get_call m s io next else (
+    if n == 3 then unchanged s io (Ended Exit) else (
+    if n == 4 then unchanged (at_address s next) io On else (
+    if n == 5 then unchanged (at_address s next) io On else
+    unchanged s io (Ended (BadSvc n))))))
+
+abbrev pub effect_in : Memory → Machine → IoView → Code → Op → ℕ → ℕ → Group → Effect
+effect_in m s io c op next link Fixed = onward next io (perform m s (fixed_row op m s c))
+effect_in m s io c op next link Logic = onward next io (perform m s (logic_row op m s c))
+effect_in m s io c op next link Storage = onward next io (perform m s (storage_row op m s c))
+effect_in m s io c op next link Decimal = onward next io (perform m s (decimal_row op m s c))
+effect_in m s io c op next link Edit = onward next io (perform m s (edit_row op m s c))
+effect_in m s io c op next link Branch = unchanged (machine_of (branched op s.cpu c next link) s.bytes) io On
+effect_in m s io c op next link Call = call m s io (i2 c) next
+effect_in m s io c op next link Supervisor = unchanged s io (Ended (Abend 2))
+effect_in m s io c op next link Missing = unchanged s io (Ended (Abend 1))
+
+-- the effect of an instruction that was fetched whole; next is the updated address, and link the length code
+unfoldable pub effect : Memory → Machine → IoView → Code → Op → ℕ → ℕ → Effect
+effect m s io c op next link = effect_in m s io c op next link (group_of op)
+
+-- the updated address: that of the EX which executes the instruction and 4, else its own and its length
+abbrev pub updated : Code → Option ℕ → ℕ
+updated c None = wrap (c.at + c.len)
+updated c (Some x) = wrap (x + 4)
+
+-- the length code, which is 2 under EX
+abbrev pub link_code : Code → Option ℕ → ℕ
+link_code c None = if c.len == 2 then 1 else 2
+link_code c (Some x) = 2

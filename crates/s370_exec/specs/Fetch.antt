@@ -1,0 +1,41 @@
+-- Fetching an instruction behind its first halfword, and the instruction that EX executes.
+use Rattle.std.specs.Prelude.{ℕ, ◌+◌, ◌/◌, ◌%◌, Bool, if◌then◌else◌, ◌==◌, Option, Some, None, List, [], ◌∷◌, slice_index, slice_set, bit_or}
+use Rattle.cov_base.specs.States.{CpuView}
+use Rattle.cov_base.specs.Memory.{Memory, can_reach, half_at, wrap}
+use Rattle.cov_base.specs.Codes.{length_of}
+use Rattle.s370_state.specs.declared.endings.Ending.{Ending}
+use Rattle.s370_state.specs.declared.endings.Ending.TheVariants.{Abend, Touched}
+use Rattle.s370_decode.specs.Fields.{part, r1}
+use Rattle.s370_decode.specs.declared.code.Code.{Code}
+
+-- a later halfword: access, then touch
+abbrev pub later : Memory → ℕ → Option Ending
+later m a = if can_reach m a 2 then (if m.is_touch a then Some (Touched a) else None) else Some (Abend 5)
+
+abbrev pub or_ending : Option Ending → Option Ending → Option Ending
+or_ending None q = q
+or_ending (Some e) q = Some e
+
+-- the halfwords after the first
+unfoldable pub rest_tests : Memory → ℕ → ℕ → Option Ending
+rest_tests m a size = if size == 2 then None else or_ending (later m (wrap (a + 2))) (if size == 4 then None else later m (wrap (a + 4)))
+
+-- the instruction at a, whose first halfword is h
+unfoldable pub code_at : Memory → List ℕ → ℕ → ℕ → Code
+code_at m bytes a h =
+    let size = length_of h in
+    let h1 = if size == 2 then 0 else half_at m bytes (wrap (a + 2)) in
+    let h2 = if size == 2 then 0 else (if size == 4 then 0 else half_at m bytes (wrap (a + 4))) in
+    record { at = a; bytes = h / 256 ∷ (h % 256 ∷ (h1 / 256 ∷ (h1 % 256 ∷ (h2 / 256 ∷ (h2 % 256 ∷ []))))); len = size }
+
+-- the first halfword is that of EX, whose operation code is X'44'
+abbrev pub is_execute : ℕ → Bool
+is_execute h = h / 256 == 68
+
+-- what bits 8-15 of the subject are ORed with: bits 24-31 of R1, but nothing where R1 is 0
+abbrev pub modifier : CpuView → Code → ℕ
+modifier s c = if r1 c == 0 then 0 else slice_index s.regs (r1 c) % 256
+
+-- the subject of an EX as it is executed (Principles of Operation, "General Instructions", "Execute")
+unfoldable pub merged : CpuView → Code → Code → Code
+merged s c subject = record { at = subject.at; bytes = slice_set subject.bytes 1 (bit_or (part subject 1) (modifier s c)); len = subject.len }
