@@ -18,13 +18,6 @@ modifier-below s c = by_zero (r1 c == 0) (slice_index s.regs (r1 c))
     by_zero true v = omega arith
     by_zero false v = omega arith
 
--- the first byte alone says the operation
-same_operation : (a b c : ℕ) → b < 256 → c < 256 → op_of (a * 256 + b) ≡ op_of (a * 256 + c)
-same_operation a b c b_in c_in =
-    let high : (a * 256 + b) / 4096 ≡ (a * 256 + c) / 4096 = omega (arith, b_in, c_in) in
-    let low : (a * 256 + b) / 256 % 16 ≡ (a * 256 + c) / 256 % 16 = omega (arith, b_in, c_in) in
-    rw (high, low) refl
-
 pub first_half-code_at : (m : Memory) (bytes : List ℕ) (a h : ℕ) → first_half (code_at m bytes a h) ≡ h
 unfolding code_at
 first_half-code_at m bytes a h = omega arith
@@ -37,13 +30,14 @@ pub at-merged : (s : CpuView) (c k : Code) → (merged s c k).at ≡ k.at
 unfolding merged
 at-merged s c k = refl
 
-pub op_of-merged : (m : Memory) (bytes : List ℕ) (a h : ℕ) (s : CpuView) (c : Code) → op_of (first_half (merged s c (code_at m bytes a h))) ≡ op_of h
+-- the subject stays what it was, EX or not
+pub is_execute-merged : (m : Memory) (bytes : List ℕ) (a h : ℕ) (s : CpuView) (c : Code) → is_execute (first_half (merged s c (code_at m bytes a h))) ≡ is_execute h
 unfolding merged code_at
-op_of-merged m bytes a h s c =
+is_execute-merged m bytes a h s c =
     let v : ℕ = bit_or (h % 256) (modifier s c) in
     let below : v < 256 = or_of_8 (h % 256) (modifier s c) (omega arith) (modifier-below s c) in
-    let whole : h / 256 * 256 + h % 256 ≡ h = omega arith in
-    same_operation (h / 256) v (h % 256) below (omega arith) ∙ ap op_of whole
+    let code : (h / 256 * 256 + v) / 256 ≡ h / 256 = omega (arith, below) in
+    ap (λ n. n == 68) code
 
 -- EX is no branch
 pub execute_stays : (h : ℕ) (s : CpuView) (c : Code) → is_execute h ≡ true → goes (op_of h) s c ≡ false

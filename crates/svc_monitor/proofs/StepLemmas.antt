@@ -11,8 +11,8 @@ use Rattle.s370_decode.specs.declared.code.Code.{Code}
 use Rattle.s370_branch.specs.Branch.{goes}
 use Rattle.s370_exec.specs.Effects.{Effect, effect, updated, link_code}
 use Rattle.s370_exec.specs.Fetch.{code_at, rest_tests, is_execute, merged}
-use Rattle.s370_exec.specs.Solo.{Step, solo_step, fetched, ended, stepped, begun_step, visit, subject_step, subject_read, subject_fetched, behind}
-use Rattle.s370_exec.proofs.Subjects.{first_half-code_at, at-code_at, at-merged, op_of-merged, execute_stays}
+use Rattle.s370_exec.specs.Solo.{Step, solo_step, fetched, ended, stepped, begun_step, visit, subject_step, subject_read, subject_begun, behind}
+use Rattle.s370_exec.proofs.Subjects.{first_half-code_at, at-code_at, at-merged, execute_stays}
 use Rattle.module_area.specs.declared.places.Place.{Place}
 use Rattle.module_area.specs.PlanView.{PlanView}
 use Rattle.module_area.specs.Notes.{Notes}
@@ -126,7 +126,8 @@ pub subject_step-begun : (m : Memory) (s : State) (c : Code) (a h : ℕ) (k x : 
 subject_step-begun m s c a h k x e at none half other tests code merges made =
     let same : x ≡ merged s.machine.cpu c (code_at m s.machine.bytes a h) = rw (← code) merges in
     let place : x.at ≡ a = ap (λ y. y.at) same ∙ (at-merged s.machine.cpu c (code_at m s.machine.bytes a h) ∙ at-code_at m s.machine.bytes a h) in
-    rw (made, same, ← (sym same), ← place) (subject_step-read m s c a h at none half ∙ rw (other, tests) refl)
+    let begun : subject_step m s c ≡ subject_begun m s c.at x = subject_step-read m s c a h at none half ∙ rw (other, tests, same) refl in
+    rw (made, ← place) begun
 
 -- the visit wasn't begun
 pub Observes-not_begun : (plan : PlanView) (places : List Place) (old new : Notes) (met : Met) (s : State) (a : ℕ) (subject : Bool) → plan.places ≡ places →

@@ -87,9 +87,9 @@ fn step_subject<C: Cells, P: Space>(
         Ok(code) => code,
         Err(e) => return Next::Ended(e),
     };
-    let code = merge(cpu, ex, &subject);
-    show(cells, pass, tables, met, cpu, &code);
-    execute(cpu, space, io, &code, Some(ex.at))
+    let executed = merge(cpu, ex, &subject);
+    show(cells, pass, tables, met, cpu, &executed);
+    execute(cpu, space, io, &executed, Some(ex.at))
 }
 
 /// One instruction of the task, of which neither budget nor return address is tested: it ends or goes on as over

@@ -1,9 +1,14 @@
-use Rattle.std.proofs.Common.{◌≡◌, ℕ, true, false, [], ◌∷◌, ap, ◌∙◌}
-use Rattle.s370_exec.specs.Branch.{goes}
-use Rattle.s370_exec.specs.Solo.{solo_step, ended, stepped, effect_of, visit}
+use Rattle.std.proofs.Common.{◌≡◌, ℕ, true, false, [], ◌∷◌, ap, sym, ◌∙◌}
+use Rattle.s370_decode.specs.Fields.{first_half}
+use Rattle.s370_decode.specs.Table.{op_of}
+use Rattle.s370_branch.specs.Branch.{goes}
+use Rattle.s370_exec.specs.Effects.{effect_of}
+use Rattle.s370_exec.specs.Fetch.{is_execute}
+use Rattle.s370_exec.specs.Solo.{solo_step, subject_step, ended, stepped, behind, visit}
+use Rattle.s370_exec.proofs.Subjects.{first_half-code_at}
 use Rattle.svc_monitor.specs.Observed.{state_of}
-use Rattle.svc_monitor.proofs.StepLemmas.{solo_step-refused, solo_step-rest_refused, solo_step-begun, Observes-not_begun, Observes-begun}
-use Rattle.svc_monitor.proofs.ObservedLemmas.{Observes-none}
+use Rattle.svc_monitor.proofs.StepLemmas.{solo_step-refused, solo_step-rest_refused, solo_step-begun, solo_step-execute, Observes-not_begun, Observes-begun}
+use Rattle.svc_monitor.proofs.ObservedLemmas.{Observes-none, Observes-append}
 use Rattle.svc_monitor.proofs.instruction.step.Given as given
 use Rattle.svc_monitor.proofs.instruction.step.Goals as goal
 
@@ -23,7 +28,7 @@ returns-in-Err-clause-observes g c = λ d. rw (refused g c d, c.in-Err.ensures.k
 
 rest_refused : (g : given.Over) (c : goal.In-Err-fetch_rest g) (d : ℕ) →
     let s = state_of c.args.cpu.now (g.P.Space.bytes c.args.space.now) c.args.io.now d in
-    solo_step (g.P.Space.memory c.args.space.now) s ≡ ended s c.in-Err-fetch_rest.e (visit s c.at-at.result false false ∷ [])
+    solo_step (g.P.Space.memory c.args.space.now) s ≡ ended s c.in-Err-fetch_rest.e (visit s c.at-at.result false false false ∷ [])
 rest_refused g c d =
     solo_step-rest_refused _ (state_of c.args.cpu.now (g.P.Space.bytes c.args.space.now) c.args.io.now d) c.at-at.result c.original-original.result c.in-Err-fetch_rest.e c.at-at.ensures
     c.in-Ok.ensures.passed (c.original-original.ensures ∙ c.in-Ok.ensures.half) c.in-Err-fetch_rest.ensures.refused
@@ -35,17 +40,49 @@ pub returns-in-Err-fetch_rest-clause-next : goal.returns-in-Err-fetch_rest-claus
 returns-in-Err-fetch_rest-clause-next g c = λ d. ap (λ r. r.next) (rest_refused g c d)
 
 pub returns-in-Err-fetch_rest-clause-observes : goal.returns-in-Err-fetch_rest-clause-observes
-returns-in-Err-fetch_rest-clause-observes g c = λ d. rw (rest_refused g c d) (Observes-not_begun _ c.args.tables.now.places _ _ c.in-Ok.met (state_of c.args.cpu.now (g.P.Space.bytes c.args.space.now) c.args.io.now d) c.at-at.result c.requires.over.same c.in-Ok.ensures.placed c.in-Ok.ensures.met)
+returns-in-Err-fetch_rest-clause-observes g c = λ d. rw (rest_refused g c d)
+    (Observes-not_begun _ c.args.tables.now.places _ _ c.in-Ok.met (state_of c.args.cpu.now (g.P.Space.bytes c.args.space.now) c.args.io.now d) c.at-at.result false
+    c.requires.over.same c.in-Ok.ensures.placed c.in-Ok.ensures.met)
+
+-- an EX: its own visit, and those of its subject
+executes : (g : given.Over) (c : goal.After-step_subject g) (d : ℕ) →
+    let s = state_of c.args.cpu.now (g.P.Space.bytes c.args.space.now) c.args.io.now d in
+    solo_step (g.P.Space.memory c.args.space.now) s
+    ≡ behind (visit s c.at-at.result true (goes (op_of (first_half c.in-Ok-fetch_rest.code)) c.args.cpu.now c.in-Ok-fetch_rest.code) false)
+    (subject_step (g.P.Space.memory c.args.space.now) s c.in-Ok-fetch_rest.code)
+executes g c d =
+    solo_step-execute _ (state_of c.args.cpu.now (g.P.Space.bytes c.args.space.now) c.args.io.now d) c.at-at.result c.original-original.result c.in-Ok-fetch_rest.code
+    c.at-at.ensures c.in-Ok.ensures.passed (c.original-original.ensures ∙ c.in-Ok.ensures.half) c.in-Ok-fetch_rest.ensures.passed c.in-Ok-fetch_rest.ensures.code
+    (sym c.is_execute.ensures ∙ c.if-is_execute.true)
+
+pub returns-then-is_execute-clause-state : goal.returns-then-is_execute-clause-state
+returns-then-is_execute-clause-state g c = λ d. ap (λ r. r.state) (executes g c d) ∙ c.step_subject.ensures.state d
+
+pub returns-then-is_execute-clause-next : goal.returns-then-is_execute-clause-next
+returns-then-is_execute-clause-next g c = λ d. ap (λ r. r.next) (executes g c d) ∙ c.step_subject.ensures.next d
+
+pub returns-then-is_execute-clause-observes : goal.returns-then-is_execute-clause-observes
+returns-then-is_execute-clause-observes g c = λ d.
+    let s = state_of c.args.cpu.now (g.P.Space.bytes c.args.space.now) c.args.io.now d in
+    let went = goes (op_of (first_half c.in-Ok-fetch_rest.code)) c.args.cpu.now c.in-Ok-fetch_rest.code in
+    let own = Observes-begun _ c.args.tables.now.places _ _ _ c.in-Ok.met s c.at-at.result went false c.requires.over.same c.in-Ok.ensures.placed c.in-Ok.ensures.met c.show.ensures.shows in
+    rw (executes g c d) (Observes-append _ _ _ _ (visit s c.at-at.result true went false ∷ []) _ own (c.step_subject.ensures.observes d))
+
+pub execute-requires : goal.execute-requires
+execute-requires g c = record {
+  subject = rw (c.in-Ok-fetch_rest.ensures.code, first_half-code_at _ _ c.at-at.result c.original-original.result) (sym c.is_execute.ensures ∙ c.if-is_execute.false);
+}
 
 begun : (g : given.Over) (c : goal.After-execute g) (d : ℕ) →
     let s = state_of c.args.cpu.now (g.P.Space.bytes c.args.space.now) c.args.io.now d in
     solo_step (g.P.Space.memory c.args.space.now) s
-    ≡ stepped s (effect_of c.execute.new.cpu (g.P.Space.bytes c.execute.new.space) c.execute.new.io c.execute.result) (visit s c.at-at.result true c.outcome-went.result ∷ [])
+    ≡ stepped s (effect_of c.execute.new.cpu (g.P.Space.bytes c.execute.new.space) c.execute.new.io c.execute.result)
+    (visit s c.at-at.result true (goes (op_of (first_half c.in-Ok-fetch_rest.code)) c.args.cpu.now c.in-Ok-fetch_rest.code) false ∷ [])
 begun g c d =
-    let goes_on = c.outcome-went.ensures ∙ ap (λ op. goes op c.args.cpu.now c.in-Ok-fetch_rest.code) c.op_of.ensures in
-    solo_step-begun _ (state_of c.args.cpu.now (g.P.Space.bytes c.args.space.now) c.args.io.now d) c.at-at.result c.original-original.result c.in-Ok-fetch_rest.code c.outcome-went.result
+    solo_step-begun _ (state_of c.args.cpu.now (g.P.Space.bytes c.args.space.now) c.args.io.now d) c.at-at.result c.original-original.result c.in-Ok-fetch_rest.code
     (effect_of c.execute.new.cpu (g.P.Space.bytes c.execute.new.space) c.execute.new.io c.execute.result) c.at-at.ensures
-    c.in-Ok.ensures.passed (c.original-original.ensures ∙ c.in-Ok.ensures.half) c.in-Ok-fetch_rest.ensures.passed c.in-Ok-fetch_rest.ensures.code goes_on c.execute.ensures.effect
+    c.in-Ok.ensures.passed (c.original-original.ensures ∙ c.in-Ok.ensures.half) c.in-Ok-fetch_rest.ensures.passed c.in-Ok-fetch_rest.ensures.code
+    (sym c.is_execute.ensures ∙ c.if-is_execute.false) c.execute.ensures.effect
 
 pub returns-clause-state : goal.returns-clause-state
 returns-clause-state g c = λ d. ap (λ r. r.state) (begun g c d)
@@ -54,4 +91,6 @@ pub returns-clause-next : goal.returns-clause-next
 returns-clause-next g c = λ d. ap (λ r. r.next) (begun g c d)
 
 pub returns-clause-observes : goal.returns-clause-observes
-returns-clause-observes g c = λ d. rw (begun g c d) (Observes-begun _ c.args.tables.now.places _ _ _ c.in-Ok.met (state_of c.args.cpu.now (g.P.Space.bytes c.args.space.now) c.args.io.now d) c.at-at.result c.outcome-went.result c.requires.over.same c.in-Ok.ensures.placed c.in-Ok.ensures.met c.show.ensures.shows)
+returns-clause-observes g c = λ d. rw (begun g c d)
+    (Observes-begun _ c.args.tables.now.places _ _ _ c.in-Ok.met (state_of c.args.cpu.now (g.P.Space.bytes c.args.space.now) c.args.io.now d) c.at-at.result
+    (goes (op_of (first_half c.in-Ok-fetch_rest.code)) c.args.cpu.now c.in-Ok-fetch_rest.code) false c.requires.over.same c.in-Ok.ensures.placed c.in-Ok.ensures.met c.show.ensures.shows)
