@@ -15,9 +15,9 @@ use cov_outside::{Failed, Sink};
 use module_area::DataCard;
 use session_book::{Results, TaskCard};
 
-/// The rows and bytes that are compared at a time. The cards are gone through once for each block, since no memory is
-/// taken for the first contents: 1,048,576 bytes are 16 blocks, so even the 1,600,000 cards that an input has room for
-/// are tested 16 times each.
+/// The rows and bytes that are compared at a time. No memory is taken for the first contents, so the cards are gone
+/// through once for each block. The largest storage, 1,048,576 bytes, has 16 blocks: the 1,600,000 cards that an input
+/// has room for then take a tenth of a second. Blocks of 4,096 bytes would take 256 passes over them.
 const BLOCK_ROWS: u32 = 4096;
 
 const BLOCK: usize = 65536;

@@ -7,7 +7,7 @@ use Rattle.report_text.proofs.WriteLemmas.{progress_at, progress_more, progress_
 use Rattle.report_text.proofs.storage.block_part.Goals as goal
 
 pub put_cards-requires-clause-zeros : goal.put_cards-requires-clause-zeros
-put_cards-requires-clause-zeros g c = zeros_part 65536 c.args.task.now.private (16 * c.args.from)
+put_cards-requires-clause-zeros g c = zeros_part 65536 _ _
 
 pub returns-in_err-storage_row : goal.returns-in_err-storage_row
 returns-in_err-storage_row g c =
