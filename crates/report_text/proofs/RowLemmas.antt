@@ -1,5 +1,6 @@
 -- Rows, one after another.
-use Rattle.std.proofs.Common.{◌≡◌, ℕ, ◌+◌, ◌-◌, ◌<◌, ◌≤◌, suc, Bool, true, false, not, if◌then◌else◌, bytes_eq, List, [], ◌∷◌, ◌++◌, refl, sym, ◌∙◌, arith}
+use Rattle.std.proofs.Common.{◌≡◌, ℕ, ◌+◌, ◌-◌, ◌<◌, ◌≤◌, min, inl, inr, zero, suc, Bool, true, false, not, if◌then◌else◌, bytes_eq, List, [], ◌∷◌, ◌++◌, refl, sym, ap, ◌∙◌, arith, append_assoc, append-nil}
+use Rattle.std.proofs.lemmas.Bool.{cases_lt}
 use Rattle.std.proofs.lemmas.Bool.{false≢true}
 use Rattle.report_text.specs.Tasks.{row_lines, storage_line}
 use Rattle.report_text.specs.Text.{lines_from}
@@ -13,6 +14,28 @@ lines_from-next lines at n count h = rw (count_step n count h) refl
 
 pub lines_from-end : (lines : ℕ → List (List ℕ)) (at n count : ℕ) → count ≤ n → lines_from lines at (count - n) ≡ []
 lines_from-end lines at n count h = let none : count - n ≡ 0 = omega arith in rw none refl
+
+lines_from-split : (lines : ℕ → List (List ℕ)) (at some more : ℕ) → lines_from lines at (some + more) ≡ lines_from lines at some ++ lines_from lines (at + some) more
+lines_from-split lines at zero more =
+    let none : at + 0 ≡ at = omega arith in
+    let all : 0 + more ≡ more = omega arith in
+    rw (none, all) refl
+lines_from-split lines at (suc some) more =
+    let one_more : suc some + more ≡ suc (some + more) = omega arith in
+    let next : at + suc some ≡ at + 1 + some = omega arith in
+    rw (one_more, next) (ap (λ rest. lines at ++ rest) (lines_from-split lines (at + 1) some more) ∙ sym (append_assoc (lines at) (lines_from lines (at + 1) some) (lines_from lines (at + 1 + some) more)))
+
+-- the lines of the next block of numbers, and those after it
+pub lines_from-block : (lines : ℕ → List (List ℕ)) (at step count : ℕ) → at ≤ count → lines_from lines at (count - at) ≡ lines_from lines at (min (at + step) count - at) ++ lines_from lines (at + step) (count - (at + step))
+lines_from-block lines at step count h = elim (cases_lt (at + step) count) [
+  | inl whole ↦
+      let width : min (at + step) count - at ≡ step = omega arith in
+      let all : count - at ≡ step + (count - (at + step)) = omega arith in
+      rw width (ap (lines_from lines at) all ∙ lines_from-split lines at step (count - (at + step)))
+  | inr last ↦
+      let width : min (at + step) count - at ≡ count - at = omega arith in
+      rw width (sym (append-nil (lines_from lines at (count - at))) ∙ ap (λ rest. lines_from lines at (count - at) ++ rest) (sym (lines_from-end lines (at + step) (at + step) count last)))
+]
 
 unless : (same : Bool) (lines : List (List ℕ)) → not same ≡ true → (if same then [] else lines) ≡ lines
 unless true lines h = absurd (false≢true h)

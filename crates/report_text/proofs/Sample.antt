@@ -1,5 +1,5 @@
 -- A sample report, computed: three instructions that ran, and the same module before any ran.
-use Rattle.std.proofs.Common.{◌≡◌, ℕ, Option, Some, None, List, [], ◌∷◌, zero, suc, true, false, replicate, refl, codes}
+use Rattle.std.proofs.Common.{◌≡◌, ℕ, Some, None, List, [], ◌∷◌, zero, suc, true, false, replicate, refl, codes}
 use Rattle.cov_base.specs.FactSet.{FactSet}
 use Rattle.cov_base.specs.declared.facts.Kind.TheVariants.{Straight}
 use Rattle.module_area.specs.declared.places.Place.{Place}

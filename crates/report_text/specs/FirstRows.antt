@@ -1,10 +1,6 @@
 -- A part of the storage that data cards fill.
-use Rattle.std.specs.Prelude.{◌≡◌, ℕ, ◌+◌, ◌-◌, ◌<◌, ◌≤◌, ◌&&◌, nat_le, nat_lt, if◌then◌else◌, List, length, slice_index}
+use Rattle.std.specs.Prelude.{◌≡◌, ℕ, ◌+◌, ◌<◌, ◌≤◌, List, length, slice_index}
 use Rattle.module_area.specs.Views.{DataView}
-
--- the byte at an address, once bytes are stored from an offset on
-unfoldable pub byte_after : ℕ → List ℕ → ℕ → ℕ → ℕ
-byte_after offset bytes at old = if nat_le offset at && nat_lt at (offset + length bytes) then slice_index bytes (at - offset) else old
 
 -- the bytes from an address on, as far as there are some
 abbrev pub IsPartOf : List ℕ → List ℕ → ℕ → Type 0

@@ -50,9 +50,13 @@ storage_line at row = codes "STOR " ++ hex_digits 6 at ++ codes " " ++ hex_bytes
 unfoldable pub row_lines : ℕ → List ℕ → List ℕ → List (List ℕ)
 row_lines at first now = if bytes_eq first now then [] else storage_line at now ∷ []
 
+-- of row n, where it has changed
+abbrev pub changed_row : List ℕ → List ℕ → ℕ → List (List ℕ)
+changed_row first now n = row_lines (16 * n) (row_of 16 first n) (row_of 16 now n)
+
 -- the changed rows of 16 bytes
 unfoldable pub storage_lines : List ℕ → List ℕ → List (List ℕ)
-storage_lines first now = lines_from (λ n. row_lines (16 * n) (row_of 16 first n) (row_of 16 now n)) 0 (row_count 16 now)
+storage_lines first now = lines_from (changed_row first now) 0 (row_count 16 now)
 
 abbrev pub task_lines : TaskView → ResultView → List (List ℕ)
 task_lines t r = state_lines t.name r.ending r.done r.cpu ++ (output_lines r.output ++ storage_lines (first_bytes t.private t.cards) r.bytes)

@@ -12,3 +12,6 @@ pub use sessions::session_part;
 pub use tasks::task_part;
 pub use whole::report;
 pub use words::add_bytes;
+
+#[cfg(test)]
+mod tests;

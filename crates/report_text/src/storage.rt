@@ -1,9 +1,9 @@
-//! Private storage, row by row.
-ghost use Rattle.std.specs.Prelude.{◌≡◌, ℕ, ◌+◌, ◌-◌, ◌*◌, ◌<◌, ◌≤◌, ◌++◌, ◌∷◌, [], List, length, min, not, bytes_eq, All};
+//! Private storage, by blocks and in them row by row.
+ghost use Rattle.std.specs.Prelude.{◌≡◌, ℕ, ◌+◌, ◌-◌, ◌*◌, ◌<◌, ◌≤◌, ◌++◌, ◌∷◌, [], List, length, take, replicate, not, bytes_eq, All};
 ghost use Rattle.module_area.specs.Views.{first_bytes, with_card};
-ghost use Rattle.report_text.specs.FirstRows.{byte_after, IsPartOf, FitsIn};
-ghost use Rattle.report_text.specs.Tasks.{storage_line, row_lines, storage_lines};
-ghost use Rattle.report_text.specs.Text.{row_of, row_count, lines_from};
+ghost use Rattle.report_text.specs.FirstRows.{IsPartOf, FitsIn};
+ghost use Rattle.report_text.specs.Tasks.{storage_line, row_lines, changed_row, storage_lines};
+ghost use Rattle.report_text.specs.Text.{row_count, lines_from};
 ghost use Rattle.report_text.specs.Writes.{Writes};
 
 use crate::words::add_bytes;
@@ -14,6 +14,13 @@ use cov_base::TaskNo;
 use cov_outside::{Failed, Sink};
 use module_area::DataCard;
 use session_book::{Results, TaskCard};
+
+/// The rows and bytes that are compared at a time. No memory is taken for the first contents, so the cards are gone
+/// through once for each block. The largest storage, 1,048,576 bytes, has 16 blocks: the 1,600,000 cards that an input
+/// has room for then take a tenth of a second. Blocks of 4,096 bytes would take 256 passes over them.
+const BLOCK_ROWS: u32 = 4096;
+
+const BLOCK: usize = 65536;
 
 /// A row of private storage and its address.
 #[tactic(auto, unfolding(crate::specs::Tasks::storage_line))]
@@ -31,68 +38,78 @@ fn storage_line(at: u32, row: &[u8]) -> ArrayVec<u8, 160>
     line
 }
 
-/// The byte at an address, once the card's bytes are stored.
-#[tactic(auto, unfolding(crate::specs::FirstRows::byte_after))]
-fn byte_after(card: &DataCard, at: usize, old: u8) -> u8
-    ensures { result ≡ byte_after card.now.offset card.now.bytes at old }
+/// Stores what a card has of the bytes from an address on.
+fn put_card(block: &mut [u8], from: usize, card: &DataCard)
+    requires { from + length block.old ≤ 16777216 }
+    ensures { (bytes : List ℕ) → FitsIn (length bytes) card.now → IsPartOf block.old bytes from → IsPartOf block.new (with_card bytes card.now) from }
 {
     let offset = card.offset as usize;
-    if offset <= at && at < offset + card.bytes.len() {
-        card.bytes[at - offset]
-    } else {
-        old
+    let start = offset.max(from);
+    let end = (offset + card.bytes.len()).min(from + block.len());
+    if start < end {
+        block[start - from..end - from].copy_from_slice(&card.bytes[start - offset..end - offset]);
     }
 }
 
-/// The bytes from an address on, once the card's bytes are stored.
-fn put_card(row: &mut [u8], from: usize, card: &DataCard)
-    requires { from + length row.old ≤ 16777216 }
-    ensures { (bytes : List ℕ) → FitsIn (length bytes) card.now → IsPartOf row.old bytes from → IsPartOf row.new (with_card bytes card.now) from }
-{
-    for k in 0..row.len() {
-        row[k] = byte_after(card, from + k, row[k]);
-    }
-}
-
-/// Row n of a task's private storage as the task begins.
-fn first_row(task: &TaskCard, n: u32) -> [u8; 16]
-    requires row { n ≤ 65536 }
+/// Stores what the task's cards have of the bytes from an address on.
+fn put_cards(block: &mut [u8], from: usize, task: &TaskCard)
+    requires block { from + length block.old ≤ 16777216 }
+    requires zeros { IsPartOf block.old (replicate task.now.private 0) from }
     requires cards { All (FitsIn task.now.private) task.now.cards }
-    ensures { IsPartOf result (first_bytes task.now.private task.now.cards) (16 * n) }
+    ensures { IsPartOf block.new (first_bytes task.now.private task.now.cards) from }
 {
-    let from = 16 * n as usize;
-    let mut row = [0u8; 16];
     for i in 0..task.cards.len() {
-        put_card(&mut row, from, &task.cards[i]);
+        put_card(block, from, &task.cards[i]);
     }
-    row
 }
 
-/// Whether the row isn't what it was as the task began.
-fn is_changed(task: &TaskCard, now: &[u8], n: u32) -> bool
-    requires exists { 16 * n < task.now.private }
-    requires most { task.now.private ≤ 1048576 }
-    requires cards { All (FitsIn task.now.private) task.now.cards }
-    requires row { length now.now ≡ min (16 * n + 16) task.now.private - 16 * n }
-    ensures { result ≡ not (bytes_eq (row_of 16 (first_bytes task.now.private task.now.cards) n) now.now) }
+/// Whether a row isn't what it was as the task began.
+fn is_changed(first: &[u8], now: &[u8]) -> bool
+    requires { length now.now ≤ length first.now }
+    ensures { result ≡ not (bytes_eq (take (length now.now) first.now) now.now) }
 {
-    let first = first_row(task, n);
     &first[..now.len()] != now
 }
 
-/// A row where it has changed.
-fn storage_row<K: Sink>(sink: &mut K, task: &TaskCard, now: &[u8], n: u32) -> Result<(), Failed>
-    requires exists { 16 * n < task.now.private }
-    requires most { task.now.private ≤ 1048576 }
-    requires cards { All (FitsIn task.now.private) task.now.cards }
-    requires row { length now.now ≡ min (16 * n + 16) task.now.private - 16 * n }
-    ensures { Writes (K.written sink.old) (K.written sink.new) (K.faults sink.old) (K.faults sink.new) result (row_lines (16 * n) (row_of 16 (first_bytes task.now.private task.now.cards) n) now.now) }
+/// Row n where it isn't what it was as the task began.
+fn storage_row<K: Sink>(sink: &mut K, first: &[u8], now: &[u8], n: u32) -> Result<(), Failed>
+    requires at { 16 * n < 16777216 }
+    requires row { length now.now ≤ 16 }
+    requires first { length now.now ≤ length first.now }
+    ensures { Writes (K.written sink.old) (K.written sink.new) (K.faults sink.old) (K.faults sink.new) result (row_lines (16 * n) (take (length now.now) first.now) now.now) }
 {
-    if is_changed(task, now, n) {
+    if is_changed(first, now) {
         put(sink, storage_line(16 * n, now))
     } else {
         Ok(())
     }
+}
+
+/// The rows of a block of private storage that have changed: those from number `from` to the one before `past`.
+fn block_part<K: Sink, R: Results>(
+    sink: &mut K,
+    task: &TaskCard,
+    results: &R,
+    t: TaskNo,
+    from: u32,
+    past: u32,
+) -> Result<(), Failed>
+    requires task { t.0 < R.tasks results.now }
+    requires most { task.now.private ≤ 1048576 }
+    requires cards { All (FitsIn task.now.private) task.now.cards }
+    requires size { length (R.result_of results.now t.0).bytes ≡ task.now.private }
+    requires from { from ≤ past }
+    requires past { past ≤ row_count 16 (R.result_of results.now t.0).bytes }
+    requires block { past ≤ from + 4096 }
+    ensures { Writes (K.written sink.old) (K.written sink.new) (K.faults sink.old) (K.faults sink.new) result (lines_from (changed_row (first_bytes task.now.private task.now.cards) (R.result_of results.now t.0).bytes) from (past - from)) }
+{
+    let mut first = [0u8; BLOCK];
+    put_cards(&mut first, 16 * from as usize, task);
+    for n in from..past {
+        let at = 16 * (n - from) as usize;
+        storage_row(sink, &first[at..at + 16], results.row(t, n), n)?;
+    }
+    Ok(())
 }
 
 /// The rows of a task's private storage that have changed.
@@ -108,8 +125,10 @@ pub fn storage_part<K: Sink, R: Results>(
     requires size { length (R.result_of results.now t.0).bytes ≡ task.now.private }
     ensures { Writes (K.written sink.old) (K.written sink.new) (K.faults sink.old) (K.faults sink.new) result (storage_lines (first_bytes task.now.private task.now.cards) (R.result_of results.now t.0).bytes) }
 {
-    for n in 0..(task.private + 15) / 16 {
-        storage_row(sink, task, results.row(t, n), n)?;
+    let count = (task.private + 15) / 16;
+    for b in 0..(count + BLOCK_ROWS - 1) / BLOCK_ROWS {
+        let from = BLOCK_ROWS * b;
+        block_part(sink, task, results, t, from, (from + BLOCK_ROWS).min(count))?;
     }
     Ok(())
 }

@@ -1,9 +1,9 @@
-use Rattle.std.proofs.Common.{◌≡◌, ◌+◌, ◌*◌, ◌<◌, ◌∙◌, length, get_or, take, replicate, fold, sym, ap, subst, arith}
+use Rattle.std.proofs.Common.{◌≡◌, ◌+◌, ◌<◌, ◌∙◌, length, get_or, take, replicate, fold, sym, ap, subst, arith}
 use Rattle.module_area.specs.Views.{with_card}
 use Rattle.session_book.specs.JobView.{TaskView}
 use Rattle.report_text.specs.FirstRows.{IsPartOf, FitsIn}
 use Rattle.report_text.proofs.FirstRowLemmas.{cards_more, length-with_card}
-use Rattle.report_text.proofs.storage.first_row.Goals as goal
+use Rattle.report_text.proofs.storage.put_cards.Goals as goal
 
 pub loop-i-preserved : goal.loop-i-preserved
 loop-i-preserved c =
@@ -18,6 +18,6 @@ loop-i-preserved c =
     let in_size : FitsIn size card = subst (FitsIn size) (sym read) (c.requires.cards i card below) in
     let fits : FitsIn (length so_far) card = subst (λ n. FitsIn n card) (sym c.loop-i.invariant.size) in_size in
     record {
-      part = subst (λ bytes. IsPartOf c.put_card.new.row bytes (16 * c.args.n)) (sym more) (c.put_card.ensures so_far fits c.loop-i.invariant.part);
+      part = subst (λ bytes. IsPartOf c.put_card.new.block bytes c.args.from) (sym more) (c.put_card.ensures so_far fits c.loop-i.invariant.part);
       size = ap length more ∙ length-with_card so_far card fits ∙ c.loop-i.invariant.size;
     }
