@@ -8,7 +8,7 @@ use crate::fault::LineFault;
 use cov_base::{Addr, Name};
 use module_area::DataCard;
 use session_book::TaskCard;
-use std::alloc::Global;
+use std::alloc::{AllocError, Global};
 
 /// Which cards of a task may follow.
 #[derive(Clone, Copy)]
@@ -126,9 +126,8 @@ impl TaskPart {
         })
     }
 
-    fn input(self, bytes: &[u8]) -> Result<TaskPart, LineFault>
-        ensures ok { IfOk result (λ p. p ≡ parts.after_input self bytes.now) }
-        ensures bad { IsErrOf result LineFault.Bad → ⊥ }
+    fn input(self, bytes: &[u8]) -> Result<TaskPart, AllocError>
+        ensures { IfOk result (λ p. p ≡ parts.after_input self bytes.now) }
     {
         let mut task = self.task;
         task.input.extend_from_slice(bytes)?;
@@ -146,7 +145,7 @@ impl TaskPart {
         match card {
             Card::Reg(reg) => self.reg(reg),
             Card::Data(data) => self.data(data),
-            Card::Input(bytes) => self.input(&bytes),
+            Card::Input(bytes) => Ok(self.input(&bytes)?),
             _ => Err(LineFault::Bad),
         }
     }
