@@ -30,10 +30,10 @@ is_single lines j most s = record {
   texts = _;
   phase = s.phase;
   session = s.session;
-  task = _;
+  task = s.task;
   is = s.is_job;
-  of_phase = refl;
-  few = omega (arith, most, ap length s.whole, length-append {A = LineView} s.listing_lines (s.phase_line ∷ s.session_line ∷ s.task_line ∷ (s.reg_lines ++ s.end_line ∷ [])), length-map {A = LineView} {B = List ℕ} s.listing_lines listing_text);
+  of_phase = ap (λ (t : TaskView). t.phase) s.task_cards.is_task;
+  few = omega (arith, most, ap length s.whole, length-append {A = LineView} s.listing_lines (s.phase_line ∷ s.session_line ∷ (s.task_lines ++ s.end_line ∷ [])), length-map {A = LineView} {B = List ℕ} s.listing_lines listing_text);
 }
 
 length-put_on : (b : ℕ) (ls : List LineView) → length (put_on b ls) ≤ length ls + 1

@@ -4,9 +4,9 @@ use Rattle.std.proofs.lemmas.Bool.Decides.{nat_tests}
 use Rattle.std.specs.Str.{bytes_eq}
 use Rattle.cov_base.specs.Names.{is_digit, is_name, name_at, padded, unpadded}
 use Rattle.cov_base.proofs.NameLemmas.{unpadded-padded}
-use Rattle.job_text.specs.CardView.{CardView, Cover, Module, Text, Listing, Phase, Session, Task, Reg, End}
+use Rattle.job_text.specs.CardView.{CardView, Cover, Module, Text, Listing, Phase, Session, Task, Reg, Data, Input, End}
 use Rattle.job_text.specs.Words.{words, number_at, bytes_at, is_upper_hex, is_lower_hex, hex_value, is_address, address_value, address_at, word_at, names_at}
-use Rattle.job_text.specs.Cards.{may_stand, module_of, session_of, task_of, reg_of, short_card, long_card, card_of, card_at}
+use Rattle.job_text.specs.Cards.{may_stand, module_of, session_of, task_of, reg_of, data_of, short_card, pair_card, long_card, card_of, card_at}
 use Rattle.job_text.proofs.Guards.{guard_some, guard_more}
 
 -- a name filled with blanks
@@ -84,6 +84,11 @@ reg_good (Some n) (Some v) c e = let g = guard_some (nat_le n 15) (Reg n v) c e 
 reg_good (Some n) None c e = absurd cc
 reg_good None v c e = absurd cc
 
+data_good : (n : Option ℕ) (v : Option (List ℕ)) (c : CardView) → data_of n v ≡ Some c → Good c
+data_good (Some n) (Some v) c e = let same : Data (record { offset = n; bytes = v }) ≡ c = cc in subst Good same tt
+data_good (Some n) None c e = absurd cc
+data_good None v c e = absurd cc
+
 last_good : (q : Bool) (c d : CardView) → Good d → cond q (Some d) None ≡ Some c → Good c
 last_good true c d g e = let same : d ≡ c = cc in subst Good same g
 last_good false c d g e = absurd cc
@@ -103,18 +108,31 @@ text_good true (Some n) more c g e = let same : Text n ≡ c = cc in subst Good 
 text_good true None more c g e = absurd cc
 text_good false o more c g e = g e
 
+input_good : (q : Bool) (o : Option (List ℕ)) (more : Option CardView) (c : CardView) → (more ≡ Some c → Good c) → cond q (option_map Input o) more ≡ Some c → Good c
+input_good true (Some n) more c g e = let same : Input n ≡ c = cc in subst Good same tt
+input_good true None more c g e = absurd cc
+input_good false o more c g e = g e
+
 short_good : (key a : List ℕ) (c : CardView) → short_card key a ≡ Some c → Good c
 short_good key a c e =
     text_good (bytes_eq key (codes "TEXT")) (bytes_at a) _ c
     (listing_good (bytes_eq key (codes "LISTING")) (number_at a) _ c
     (phase_good (bytes_eq key (codes "PHASE")) (name_at a) _ c
-    (last_good (bytes_eq key (codes "COVERJOB") && bytes_eq a (codes "1")) c Cover tt))) e
+    (input_good (bytes_eq key (codes "INPUT")) (bytes_at a) _ c
+    (last_good (bytes_eq key (codes "COVERJOB") && bytes_eq a (codes "1")) c Cover tt)))) e
+
+reg_or_more : (q : Bool) (n v : Option ℕ) (more : Option CardView) (c : CardView) → (more ≡ Some c → Good c) → cond q (reg_of n v) more ≡ Some c → Good c
+reg_or_more true n v more c g e = reg_good n v c e
+reg_or_more false n v more c g e = g e
+
+pair_good : (key a b : List ℕ) (c : CardView) → pair_card key a b ≡ Some c → Good c
+pair_good key a b c e =
+    reg_or_more (bytes_eq key (codes "REG")) (number_at a) (word_at b) _ c
+    (λ d. let g = guard_more (bytes_eq key (codes "DATA")) (data_of (number_at a) (bytes_at b)) c d in data_good (number_at a) (bytes_at b) c g.1) e
 
 long_good : (key a : List ℕ) (ws : List (List ℕ)) (c : CardView) → long_card key a ws ≡ Some c → Good c
 long_good key a [] c e = absurd cc
-long_good key a (b ∷ []) c e =
-    let g = guard_more (bytes_eq key (codes "REG")) (reg_of (number_at a) (word_at b)) c e in
-    reg_good (number_at a) (word_at b) c g.1
+long_good key a (b ∷ []) c e = pair_good key a b c e
 long_good key a (b ∷ s ∷ []) c e =
     let g = guard_more (bytes_eq key (codes "MODULE")) (module_of (name_at a) (address_at b) (number_at s)) c e in
     module_good (name_at a) (address_at b) (number_at s) c (λ m h. name_good a m h) g.1

@@ -1,16 +1,21 @@
 -- Lines that spell a job run to its end, and so spell no other.
-use Rattle.std.proofs.Common.{◌≡◌, ℕ, ◌+◌, ◌≤◌, suc, true, false, nat_eq, nat_le, Some, None, List, [], ◌∷◌, ◌++◌, length, map, refl, ap, subst, option_and_then, sym, ◌∙◌, arith, append_assoc, append-nil}
+use Rattle.std.proofs.Common.{◌≡◌, ℕ, ◌≤◌, suc, true, false, nat_eq, nat_le, Some, None, List, [], ◌∷◌, ◌++◌, length, map, refl, ap, subst, option_map, option_and_then, sym, ◌∙◌, arith, append_assoc, append-nil}
 use Rattle.std.proofs.lemmas.Bool.Decides.{nat_tests}
 use Rattle.std.proofs.lemmas.Slice.Eq.{bytes_eq-Decides}
 use Rattle.cov_base.specs.Memory.{ImageView}
 use Rattle.std.specs.List.{list_all}
-use Rattle.session_book.specs.JobView.{JobView, TaskView, first_regs}
+use Rattle.session_book.specs.JobView.{JobView, TaskView}
 use Rattle.job_text.specs.Lines.{LineView, listing_text}
-use Rattle.job_text.specs.CardView.{CardView, Cover, Module, Text, Listing, Phase, Session, Task, Reg, End}
-use Rattle.job_text.specs.First.{IsCard, is_short, RegView, AreRegs, set_regs, task_view, SpellsFirst, Begins}
-use Rattle.job_text.specs.Machine.{State, Start, Covered, Loaded, Filled, Listed, Phased, Observed, Tasked, Done, is_only, is_within, with_reg, in_listing, take_card, step, run, job_at}
+use Rattle.job_text.specs.CardView.{CardView, Cover, Module, Text, Listing, Phase, Session, Task, End}
+use Rattle.job_text.specs.Cards.{IsCard, card_at}
+use Rattle.job_text.specs.Tasks.{SpellsTask}
+use Rattle.job_text.specs.First.{is_short, SpellsFirst, Begins}
+use Rattle.job_text.specs.declared.task.TaskPart.{TaskPart}
+use Rattle.job_text.specs.declared.task.TaskStage.{TaskStage}
+use Rattle.job_text.specs.TaskParts.{is_within, part, fresh_task, task_more}
+use Rattle.job_text.specs.Machine.{State, Start, Covered, Loaded, Filled, Listed, Phased, Observed, Tasked, Done, is_only, in_listing, after_task, take_card, step, run, job_at}
 use Rattle.job_text.proofs.Guards.{some_same, both, then_some}
-use Rattle.job_text.proofs.Sound.{with_regs}
+use Rattle.job_text.proofs.TaskCards.{more_step, more_run, cards_run}
 
 -- the state runs over the lines to this end
 pub record Runs (st : State) (ls : List LineView) (end : State) : Type 0 where
@@ -44,19 +49,37 @@ runs_lines (l ∷ ls) i ts more end short r =
     runs_first now next l (ls ++ more) end e
     (runs_lines ls i (ts ++ listing_text l ∷ []) more end p.1 (rw (append_assoc ts (listing_text l ∷ []) (map listing_text ls)) r))
 
-at_least : (least n : ℕ) → least ≤ n → nat_le least n ≡ true
-at_least least n h = grind (arith, nat_tests)
+most_is : (n k : ℕ) → n ≤ k → nat_le n k ≡ true
+most_is n k h = grind (arith, nat_tests)
 
-runs_regs : (rs : List RegView) (ls : List LineView) (i : ImageView) (ts : List (List ℕ)) (p s : List ℕ) (t : TaskView) (least : ℕ) (more : List LineView) (end : State) → AreRegs least rs ls →
-    ((k : ℕ) → Runs (Tasked i ts p s (with_regs t rs) k) more end) → Runs (Tasked i ts p s t least) (ls ++ more) end
-runs_regs [] [] i ts p s t least more end are r = r least
-runs_regs [] (l ∷ ls) i ts p s t least more end are r = absurd are
-runs_regs (x ∷ rs) [] i ts p s t least more end are r = absurd are
-runs_regs (x ∷ rs) (l ∷ ls) i ts p s t least more end are r =
-    let now : State = Tasked i ts p s t least in
-    let next : State = Tasked i ts p s (with_reg t x.number x.value) (x.number + 1) in
-    let e : step now l ≡ Some next = card_step now next l (Reg x.number x.value) refl are.0.0 (rw (at_least least x.number are.0.1) refl) in
-    runs_first now next l (ls ++ more) end e (runs_regs rs ls i ts p s (with_reg t x.number x.value) (x.number + 1) more end are.1 r)
+pub within_is : (private budget room : ℕ) → private ≤ 1048576 → budget ≤ 50000000 → room ≤ 65536 → is_within private budget room ≡ true
+within_is private budget room p b r = rw (most_is private 1048576 p, most_is budget 50000000 b, most_is room 65536 r) refl
+
+task_run : (ls : List LineView) (i : ImageView) (ts : List (List ℕ)) (p s : List ℕ) (t u : TaskPart) → more_run t ls ≡ Some u → run (Tasked i ts p s t) ls ≡ Some (Tasked i ts p s u)
+task_run [] i ts p s t u e = let same : t ≡ u = some_same t u e in rw same refl
+task_run (l ∷ ls) i ts p s t u e =
+    let f = then_some (λ q. more_run q ls) (more_step t l) u e in
+    let g = then_some (task_more t) (card_at l.bytes) f.from f.was in
+    let now : step (Tasked i ts p s t) l ≡ Some (Tasked i ts p s f.from) =
+    card_step (Tasked i ts p s t) (Tasked i ts p s f.from) l g.from refl g.was (more_after g.from i ts p s t f.from g.gives) in
+    rw now (task_run ls i ts p s f.from u f.gives)
+  where
+    more_after : (c : CardView) (i : ImageView) (ts : List (List ℕ)) (p s : List ℕ) (t u : TaskPart) → task_more t c ≡ Some u → after_task i ts p s t c ≡ Some (Tasked i ts p s u)
+    more_after End i ts p s t u e = absurd cc
+    more_after c i ts p s t u e = ap (option_map (Tasked i ts p s)) e
+
+-- the cards of a task first
+pub runs_task : (lines : List LineView) (task : TaskView) (i : ImageView) (ts : List (List ℕ)) (p s : List ℕ) (more : List LineView) (end : State) → SpellsTask lines task →
+    ((k : TaskStage) → Runs (Tasked i ts p s (part task k)) more end) → Runs (Observed i ts p s) (lines ++ more) end
+runs_task lines task i ts p s more end t last =
+    let first : TaskPart = fresh_task t.name t.entry t.private t.budget t.room in
+    let cards : List LineView = t.reg_lines ++ (t.data_lines ++ t.input_lines) in
+    let e : step (Observed i ts p s) t.task_line ≡ Some (Tasked i ts p s first) =
+    card_step (Observed i ts p s) (Tasked i ts p s first) t.task_line (Task t.name t.entry t.private t.budget t.room) refl t.task_card (rw (within_is t.private t.budget t.room t.most_private t.most_budget t.most_room) refl) in
+    let r = cards_run t.regs t.cards t.inputs t.reg_lines t.data_lines t.input_lines first.task 0 t.are_regs t.are_data t.are_inputs in
+    let to : run (Tasked i ts p s first) cards ≡ Some (Tasked i ts p s (part task r.end)) = rw t.is_task (task_run cards i ts p s first _ r.runs) in
+    let on : Runs (Tasked i ts p s first) (cards ++ more) end = record { runs = run_append (Tasked i ts p s first) cards more ∙ (rw to (last r.end).runs) } in
+    rw t.whole (runs_first (Observed i ts p s) (Tasked i ts p s first) t.task_line (cards ++ more) end e on)
 
 only_same : (name : List ℕ) → is_only name (name ∷ []) ≡ true
 only_same name = (bytes_eq-Decides name name).1 refl
@@ -67,39 +90,26 @@ small_is n h = grind (arith, nat_tests)
 same_is : (n : ℕ) → nat_eq n n ≡ true
 same_is n = grind (arith, nat_tests)
 
-most_is : (n k : ℕ) → n ≤ k → nat_le n k ≡ true
-most_is n k h = grind (arith, nat_tests)
-
-pub within_is : (private budget room : ℕ) → private ≤ 1048576 → budget ≤ 50000000 → room ≤ 65536 → is_within private budget room ≡ true
-within_is private budget room p b r = rw (most_is private 1048576 p, most_is budget 50000000 b, most_is room 65536 r) refl
-
 -- the end that lines which spell a job run to
 abbrev pub spelled_state : (lines : List LineView) (job : JobView) → SpellsFirst lines job → State
-spelled_state lines job s = Done (record { name = s.name; base = s.base; bytes = s.bytes }) (map listing_text s.listing_lines) s.phase s.session
-    (task_view s.task s.entry s.private s.budget s.room (set_regs (first_regs s.entry) s.regs))
+spelled_state lines job s = Done (record { name = s.name; base = s.base; bytes = s.bytes }) (map listing_text s.listing_lines) s.phase s.session s.task
 
 pub run_spelled : (lines : List LineView) (job : JobView) (s : SpellsFirst lines job) → Runs Start lines (spelled_state lines job s)
 run_spelled lines job s =
     let i : ImageView = record { name = s.name; base = s.base; bytes = s.bytes } in
     let texts : List (List ℕ) = map listing_text s.listing_lines in
-    let first : TaskView = task_view s.task s.entry s.private s.budget s.room (first_regs s.entry) in
-    let task : TaskView = with_regs first s.regs in
-    let end : State = Done i texts s.phase s.session task in
-    let last : (k : ℕ) → Runs (Tasked i texts s.phase s.session task k) (s.end_line ∷ []) end = λ k.
-    runs_first (Tasked i texts s.phase s.session task k) end s.end_line [] end (card_step (Tasked i texts s.phase s.session task k) end s.end_line End refl s.end_card refl) (record { runs = refl }) in
-    let regs : Runs (Tasked i texts s.phase s.session first 0) (s.reg_lines ++ s.end_line ∷ []) end =
-    runs_regs s.regs s.reg_lines i texts s.phase s.session first 0 (s.end_line ∷ []) end s.are_regs last in
-    let tasks : Runs (Observed i texts s.phase s.session) (s.task_line ∷ (s.reg_lines ++ s.end_line ∷ [])) end =
-    runs_first (Observed i texts s.phase s.session) (Tasked i texts s.phase s.session first 0) s.task_line (s.reg_lines ++ s.end_line ∷ []) end
-    (card_step (Observed i texts s.phase s.session) (Tasked i texts s.phase s.session first 0) s.task_line (Task s.task s.entry s.private s.budget s.room) refl s.task_card
-    (rw (within_is s.private s.budget s.room s.most_private s.most_budget s.most_room) refl)) regs in
-    let sessions : Runs (Phased i texts s.phase) (s.session_line ∷ s.task_line ∷ (s.reg_lines ++ s.end_line ∷ [])) end =
-    runs_first (Phased i texts s.phase) (Observed i texts s.phase s.session) s.session_line (s.task_line ∷ (s.reg_lines ++ s.end_line ∷ [])) end
+    let end : State = Done i texts s.phase s.session s.task in
+    let last : (k : TaskStage) → Runs (Tasked i texts s.phase s.session (part s.task k)) (s.end_line ∷ []) end = λ k.
+    let now : State = Tasked i texts s.phase s.session (part s.task k) in
+    runs_first now end s.end_line [] end (card_step now end s.end_line End refl s.end_card refl) (record { runs = refl }) in
+    let tasks : Runs (Observed i texts s.phase s.session) (s.task_lines ++ s.end_line ∷ []) end = runs_task s.task_lines s.task i texts s.phase s.session (s.end_line ∷ []) end s.task_cards last in
+    let sessions : Runs (Phased i texts s.phase) (s.session_line ∷ (s.task_lines ++ s.end_line ∷ [])) end =
+    runs_first (Phased i texts s.phase) (Observed i texts s.phase s.session) s.session_line (s.task_lines ++ s.end_line ∷ []) end
     (card_step (Phased i texts s.phase) (Observed i texts s.phase s.session) s.session_line (Session s.session (s.name ∷ [])) refl s.session_card
     (rw (only_same s.name) refl)) tasks in
-    let tail : List LineView = s.phase_line ∷ s.session_line ∷ s.task_line ∷ (s.reg_lines ++ s.end_line ∷ []) in
+    let tail : List LineView = s.phase_line ∷ s.session_line ∷ (s.task_lines ++ s.end_line ∷ []) in
     let phases : Runs (Listed i 0 texts) tail end =
-    runs_first (Listed i 0 texts) (Phased i texts s.phase) s.phase_line (s.session_line ∷ s.task_line ∷ (s.reg_lines ++ s.end_line ∷ [])) end
+    runs_first (Listed i 0 texts) (Phased i texts s.phase) s.phase_line (s.session_line ∷ (s.task_lines ++ s.end_line ∷ [])) end
     (card_step (Listed i 0 texts) (Phased i texts s.phase) s.phase_line (Phase s.phase) refl s.phase_card refl) sessions in
     let listed : Runs (Listed i (length s.listing_lines) []) (s.listing_lines ++ tail) end = runs_lines s.listing_lines i [] tail end s.are_short phases in
     let listing : Runs (Filled i) (s.listing_line ∷ (s.listing_lines ++ tail)) end =

@@ -8,12 +8,14 @@ use Rattle.hex.specs.Hex.{decode_of, encode_with, encode_lower, lower_digits}
 use Rattle.hex.proofs.HexLemmas.{decode_of-encode_lower, length-encode_with}
 use Rattle.cov_base.specs.Memory.{ImageView}
 use Rattle.cov_base.specs.Names.{is_name_byte, is_name, name_at, padded, unpadded}
-use Rattle.session_book.specs.JobView.{JobView, TaskView, first_regs}
+use Rattle.session_book.specs.JobView.{JobView, TaskView}
 use Rattle.job_text.specs.Lines.{LineView}
 use Rattle.job_text.specs.CardView.{CardView, Cover, Module, Text, Listing, Phase, Session, Task, End}
 use Rattle.job_text.specs.Words.{words, ok_of, bytes_at}
 use Rattle.job_text.specs.Cards.{card_of, card_at}
-use Rattle.job_text.specs.First.{task_view, first_job, Begins}
+use Rattle.job_text.specs.First.{first_job, Begins}
+use Rattle.job_text.specs.declared.task.TaskPart.{TaskPart}
+use Rattle.job_text.specs.TaskParts.{fresh_task}
 use Rattle.job_text.specs.Machine.{State, Start, Covered, Loaded, Filled, Listed, Phased, Observed, Tasked, Done, is_only, in_listing, take_card, step, run, job_at}
 use Rattle.job_text.proofs.Guards.{both}
 use Rattle.job_text.proofs.Joined.{line_of, no_blank, words_of_line}
@@ -43,8 +45,8 @@ card_first st s line c raw card e more = one_first st s (ended line) (card_step 
 end_done : (i : ImageView) (ts : List (List ℕ)) (p s : List ℕ) (t : TaskView) → Completes (Done i ts p s t)
 end_done i ts p s t = record { lines = []; end = Done i ts p s t; job = first_job i.name i.base i.bytes ts p s t; runs = refl; done = refl }
 
-end_tasked : (i : ImageView) (ts : List (List ℕ)) (p s : List ℕ) (t : TaskView) (least : ℕ) → Completes (Tasked i ts p s t least)
-end_tasked i ts p s t least = card_first (Tasked i ts p s t least) (Done i ts p s t) (codes "ENDJOB") End refl refl refl (end_done i ts p s t)
+end_tasked : (i : ImageView) (ts : List (List ℕ)) (p s : List ℕ) (t : TaskPart) → Completes (Tasked i ts p s t)
+end_tasked i ts p s t = card_first (Tasked i ts p s t) (Done i ts p s t.task) (codes "ENDJOB") End refl refl refl (end_done i ts p s t.task)
 
 abbrev name_a : List ℕ
 name_a = padded (codes "A")
@@ -54,8 +56,8 @@ task_card = refl
 
 end_observed : (i : ImageView) (ts : List (List ℕ)) (p s : List ℕ) → Completes (Observed i ts p s)
 end_observed i ts p s =
-    let t : TaskView = task_view name_a 1048576 0 1 0 (first_regs 1048576) in
-    card_first (Observed i ts p s) (Tasked i ts p s t 0) (codes "TASK A 100000 0 1 0") (Task name_a 1048576 0 1 0) refl task_card refl (end_tasked i ts p s t 0)
+    let t : TaskPart = fresh_task name_a 1048576 0 1 0 in
+    card_first (Observed i ts p s) (Tasked i ts p s t) (codes "TASK A 100000 0 1 0") (Task name_a 1048576 0 1 0) refl task_card refl (end_tasked i ts p s t)
 
 byte_no_blank : (b : ℕ) → is_name_byte b ≡ true → not (nat_eq b 32) ≡ true
 byte_no_blank b h = let e : nat_eq b 32 ≡ false = grind (arith, nat_tests) in rw e refl
@@ -161,7 +163,7 @@ completes (Filled i) k = end_filled i k
 completes (Listed i left ts) k = end_listed left i ts k
 completes (Phased i ts p) k = end_phased i ts p k
 completes (Observed i ts p s) k = end_observed i ts p s
-completes (Tasked i ts p s t least) k = end_tasked i ts p s t least
+completes (Tasked i ts p s t) k = end_tasked i ts p s t
 completes (Done i ts p s t) k = end_done i ts p s t
 
 -- lines that run begin a job

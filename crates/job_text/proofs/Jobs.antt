@@ -12,7 +12,8 @@ use Rattle.session_book.specs.JobView.{JobView, SessionView, TaskView, IsJob, Is
 use Rattle.job_text.specs.Lines.{LineView, listing_text}
 use Rattle.job_text.specs.CardView.{Module, Task}
 use Rattle.job_text.specs.Cards.{may_stand}
-use Rattle.job_text.specs.First.{is_short, RegView, set_regs, SpellsFirst, task_view}
+use Rattle.job_text.specs.Tasks.{RegView, set_regs, AreData, SpellsTask}
+use Rattle.job_text.specs.First.{is_short, SpellsFirst}
 use Rattle.job_text.proofs.Guards.{both}
 use Rattle.job_text.proofs.CardFacts.{Good, card_good}
 
@@ -53,6 +54,29 @@ regs_count : (regs : List ℕ) (rs : List RegView) → length (set_regs regs rs)
 regs_count regs [] = refl
 regs_count regs (r ∷ rs) = regs_count (slice_set regs r.number r.value) rs ∙ length-set regs r.number r.value
 
+abbrev IsInside : ℕ → DataView → Type 0
+IsInside private c = c.offset + length c.bytes ≤ private
+
+data_inside : (private : ℕ) (cs : List DataView) (ls : List LineView) → AreData private cs ls → All (IsInside private) cs
+data_inside private [] ls are = none_all (IsInside private)
+data_inside private (c ∷ cs) [] are = absurd are
+data_inside private (c ∷ cs) (l ∷ ls) are = All-cons (IsInside private) c cs are.0.1 (data_inside private cs ls are.1)
+
+-- what a task's cards spell keeps the rules of tasks
+pub is_task : (lines : List LineView) (task : TaskView) → SpellsTask lines task → IsTask 1 task
+is_task lines task s =
+    let card : Good (Task s.name s.entry s.private s.budget s.room) = card_good s.task_line.bytes (Task s.name s.entry s.private s.budget s.room) s.task_card in
+    rw s.is_task (record {
+      phase = omega arith;
+      entry = card.0;
+      private = s.most_private;
+      some = card.1;
+      budget = s.most_budget;
+      room = s.most_room;
+      regs = regs_count (first_regs s.entry) s.regs;
+      cards = data_inside s.private s.cards s.data_lines s.are_data;
+    })
+
 abbrev Differs : List ℕ → List ℕ → Type 0
 Differs a b = a ≢ b
 
@@ -60,7 +84,6 @@ pub is_job : (lines : List LineView) (job : JobView) → SpellsFirst lines job �
 is_job lines job s =
     let i : ImageView = record { name = s.name; base = s.base; bytes = s.bytes } in
     let module_card : Good (Module s.name s.base (length s.bytes)) = card_good s.module_line.bytes (Module s.name s.base (length s.bytes)) s.module_card in
-    let task_card : Good (Task s.task s.entry s.private s.budget s.room) = card_good s.task_line.bytes (Task s.task s.entry s.private s.budget s.room) s.task_card in
     let texts : List (List ℕ) = map listing_text s.listing_lines in
     let short : All IsShort texts = lines_short s.listing_lines s.are_short in
     let session : SessionView = record { name = s.session; phase = 0; modules = 0 ∷ []; by = None } in
@@ -70,17 +93,6 @@ is_job lines job s =
       modules = one_all (λ (m : ℕ). m < 1) 0 (omega arith);
       differ = one_pairs (λ (m n : ℕ). m ≢ n) 0;
       whole = refl;
-    } in
-    let task : TaskView = task_view s.task s.entry s.private s.budget s.room (set_regs (first_regs s.entry) s.regs) in
-    let is_task : IsTask 1 task = record {
-      phase = omega arith;
-      entry = task_card.0;
-      private = s.most_private;
-      some = task_card.1;
-      budget = s.most_budget;
-      room = s.most_room;
-      regs = regs_count (first_regs s.entry) s.regs;
-      cards = none_all (λ (c : DataView). c.offset + length c.bytes ≤ s.private);
     } in
     rw s.is_job (record {
       listings = refl;
@@ -93,9 +105,9 @@ is_job lines job s =
       tasks = omega arith;
       are_sessions = one_all (IsSession 1 1) session is_session;
       parted = one_pairs AreParted session;
-      are_tasks = one_all (IsTask 1) task is_task;
+      are_tasks = one_all (IsTask 1) s.task (is_task s.task_lines s.task s.task_cards);
       module_names = one_pairs Differs s.name;
       phase_names = one_pairs Differs s.phase;
       session_names = one_pairs Differs s.session;
-      task_names = one_pairs Differs s.task;
+      task_names = one_pairs Differs s.task.name;
     })

@@ -2,13 +2,14 @@
 use Rattle.std.proofs.Common.{◌≡◌, ℕ, ◌+◌, ◌%◌, ◌≤◌, true, ◌&&◌, nat_eq, nat_le, ◌++◌, zero, suc, Some, List, [], ◌∷◌, length, subst, arith}
 use Rattle.std.proofs.lemmas.Bool.Decides.{nat_tests}
 use Rattle.cov_base.specs.Memory.{ImageView}
-use Rattle.session_book.specs.JobView.{TaskView, first_regs}
+use Rattle.session_book.specs.JobView.{TaskView}
 use Rattle.job_text.specs.Lines.{LineView, listing_text}
-use Rattle.job_text.specs.CardView.{CardView, Cover, Module, Text, Listing, Phase, Session, Task, Reg, End}
+use Rattle.job_text.specs.CardView.{CardView, Cover, Module, Text, Listing, Phase, Session, Task, End}
 use Rattle.job_text.specs.Cards.{may_stand, card_at}
-use Rattle.job_text.specs.First.{task_view}
-use Rattle.job_text.specs.Machine.{State, Start, Covered, Loaded, Filled, Listed, Phased, Observed, Tasked, Done, after_start, after_cover, after_module, after_text, take_line, after_listing, is_only, after_phase, is_within, after_session, with_reg, after_task, take_card, step, run}
-use Rattle.job_text.proofs.Guards.{some_same, guard_some, both, then_some}
+use Rattle.job_text.specs.Machine.{State, Start, Covered, Loaded, Filled, Listed, Phased, Observed, Tasked, Done, after_start, after_cover, after_module, after_text, take_line, after_listing, is_only, after_phase, after_session, after_task, take_card, step, run}
+use Rattle.job_text.specs.declared.task.TaskPart.{TaskPart}
+use Rattle.job_text.specs.TaskParts.{is_within, fresh_task, task_more}
+use Rattle.job_text.proofs.Guards.{some_same, guard_some, both, map_some, then_some}
 use Rattle.job_text.proofs.CardFacts.{IsName, Good, card_good}
 
 -- a module's size in the first form
@@ -70,18 +71,14 @@ phase_keeps c i ts p s e = absurd cc
 
 session_keeps : (c : CardView) (i : ImageView) (ts : List (List ℕ)) (p n : List ℕ) (s : State) → after_session i ts p n c ≡ Some s → Kept s
 session_keeps (Task t e p b r) i ts ph n s h =
-    let next : State = Tasked i ts ph n (task_view t e p b r (first_regs e)) 0 in
+    let next : State = Tasked i ts ph n (fresh_task t e p b r) in
     let g = guard_some (is_within p b r) next s h in
     keep next s g.1 tt
 session_keeps c i ts p n s e = absurd cc
 
-task_keeps : (c : CardView) (i : ImageView) (ts : List (List ℕ)) (p n : List ℕ) (t : TaskView) (least : ℕ) (s : State) → after_task i ts p n t least c ≡ Some s → Kept s
-task_keeps (Reg r v) i ts p n t least s e =
-    let next : State = Tasked i ts p n (with_reg t r v) (r + 1) in
-    let g = guard_some (nat_le least r) next s e in
-    keep next s g.1 tt
-task_keeps End i ts p n t least s e = keep (Done i ts p n t) s (some_same _ _ e) tt
-task_keeps c i ts p n t least s e = absurd cc
+task_keeps : (c : CardView) (i : ImageView) (ts : List (List ℕ)) (p n : List ℕ) (t : TaskPart) (s : State) → after_task i ts p n t c ≡ Some s → Kept s
+task_keeps End i ts p n t s e = keep (Done i ts p n t.task) s (some_same _ _ e) tt
+task_keeps c i ts p n t s e = let m = map_some (Tasked i ts p n) (task_more t c) s e in keep (Tasked i ts p n m.from) s m.gives tt
 
 done_keeps : (c : CardView) (i : ImageView) (ts : List (List ℕ)) (p n : List ℕ) (t : TaskView) (s : State) → take_card (Done i ts p n t) c ≡ Some s → Kept s
 done_keeps c i ts p n t s e = absurd cc
@@ -95,7 +92,7 @@ step_keeps (Listed i zero ts) s l k e = let t = then_some (after_listing i ts) (
 step_keeps (Listed i (suc left) ts) s l k e = line_keeps i left ts (listing_text l) s k e
 step_keeps (Phased i ts p) s l k e = let t = then_some (after_phase i ts p) (card_at l.bytes) s e in phase_keeps t.from i ts p s t.gives
 step_keeps (Observed i ts p n) s l k e = let t = then_some (after_session i ts p n) (card_at l.bytes) s e in session_keeps t.from i ts p n s t.gives
-step_keeps (Tasked i ts p n m least) s l k e = let t = then_some (after_task i ts p n m least) (card_at l.bytes) s e in task_keeps t.from i ts p n m least s t.gives
+step_keeps (Tasked i ts p n m) s l k e = let t = then_some (after_task i ts p n m) (card_at l.bytes) s e in task_keeps t.from i ts p n m s t.gives
 step_keeps (Done i ts p n m) s l k e = let t = then_some (take_card (Done i ts p n m)) (card_at l.bytes) s e in done_keeps t.from i ts p n m s t.gives
 
 pub run_keeps : (ls : List LineView) (st s : State) → Kept st → run st ls ≡ Some s → Kept s

@@ -12,4 +12,5 @@ pub mod Listings
 pub mod Numbers
 pub mod Reading
 pub mod Sound
+pub mod TaskCards
 pub mod WordLemmas

@@ -1,5 +1,5 @@
 -- Lines that run to the end spell the job that was read.
-use Rattle.std.proofs.Common.{◌≡◌, ℕ, ◌+◌, ◌≤◌, zero, suc, Bool, true, ◌&&◌, nat_eq, nat_le, Some, List, [], ◌∷◌, ◌++◌, length, map, refl, ap, subst, sym, arith, append_assoc, append-nil}
+use Rattle.std.proofs.Common.{◌≡◌, ℕ, ◌≤◌, zero, suc, Bool, true, ◌&&◌, nat_eq, nat_le, Some, List, [], ◌∷◌, ◌++◌, length, map, refl, ap, subst, sym, arith, append_assoc, append-nil}
 use Rattle.std.proofs.lemmas.Bool.Decides.{nat_tests}
 use Rattle.std.specs.Str.{bytes_eq}
 use Rattle.std.proofs.lemmas.Slice.Eq.{bytes_eq-Decides}
@@ -7,11 +7,15 @@ use Rattle.cov_base.specs.Memory.{ImageView}
 use Rattle.std.specs.List.{list_all}
 use Rattle.session_book.specs.JobView.{JobView, TaskView, first_regs}
 use Rattle.job_text.specs.Lines.{LineView, listing_text}
-use Rattle.job_text.specs.CardView.{CardView, Cover, Module, Text, Listing, Phase, Session, Task, Reg, End}
-use Rattle.job_text.specs.Cards.{card_at}
-use Rattle.job_text.specs.First.{IsCard, is_short, RegView, AreRegs, set_regs, task_view, first_job, SpellsFirst}
-use Rattle.job_text.specs.Machine.{State, Start, Covered, Loaded, Filled, Listed, Phased, Observed, Tasked, Done, after_start, after_cover, after_module, after_text, take_line, after_listing, is_only, after_phase, is_within, after_session, with_reg, after_task, take_card, step, run, job_at}
-use Rattle.job_text.proofs.Guards.{some_same, guard_some, both, then_some}
+use Rattle.job_text.specs.CardView.{CardView, Cover, Module, Text, Listing, Phase, Session, Task, End}
+use Rattle.job_text.specs.Cards.{IsCard, card_at}
+use Rattle.job_text.specs.Tasks.{task_view}
+use Rattle.job_text.specs.First.{is_short, first_job, SpellsFirst}
+use Rattle.job_text.specs.declared.task.TaskPart.{TaskPart}
+use Rattle.job_text.specs.TaskParts.{is_within, fresh_task, task_more}
+use Rattle.job_text.specs.Machine.{State, Start, Covered, Loaded, Filled, Listed, Phased, Observed, Tasked, Done, after_start, after_cover, after_module, after_text, take_line, after_listing, is_only, after_phase, after_session, after_task, take_card, step, run, job_at}
+use Rattle.job_text.proofs.Guards.{some_same, guard_some, both, map_some, then_some}
+use Rattle.job_text.proofs.TaskCards.{with_regs, with_cards, with_inputs, AtInputs, AtData, AtRegs, AtPart, stage_ends, more_back}
 
 bytes_eq-same : (xs ys : List ℕ) → bytes_eq xs ys ≡ true → xs ≡ ys
 bytes_eq-same xs ys e = (bytes_eq-Decides xs ys).0 e
@@ -33,16 +37,8 @@ pub record AtEnd (i : ImageView) (ts : List (List ℕ)) (p s : List ℕ) (t : Ta
   pub card : IsCard line End
   pub is : d ≡ first_job i.name i.base i.bytes ts p s t
 
-abbrev pub with_regs : TaskView → List RegView → TaskView
-with_regs t rs = record t { regs = set_regs t.regs rs }
-
-pub record AtRegs (i : ImageView) (ts : List (List ℕ)) (p s : List ℕ) (t : TaskView) (least : ℕ) (ls : List LineView) (d : JobView) : Type 0 where
-  pub lines : List LineView
-  pub regs : List RegView
-  pub rest : List LineView
-  pub whole : ls ≡ lines ++ rest
-  pub are : AreRegs least regs lines
-  pub then : AtEnd i ts p s (with_regs t regs) rest d
+abbrev pub Ends : ImageView → List (List ℕ) → List ℕ → List ℕ → JobView → TaskView → List LineView → Type 0
+Ends i ts p s d t ls = AtEnd i ts p s t ls d
 
 pub record AtTask (i : ImageView) (ts : List (List ℕ)) (p s : List ℕ) (ls : List LineView) (d : JobView) : Type 0 where
   pub line : LineView
@@ -55,7 +51,7 @@ pub record AtTask (i : ImageView) (ts : List (List ℕ)) (p s : List ℕ) (ls : 
   pub room : ℕ
   pub card : IsCard line (Task name entry private budget room)
   pub within : is_within private budget room ≡ true
-  pub then : AtRegs i ts p s (task_view name entry private budget room (first_regs entry)) 0 rest d
+  pub then : AtPart (fresh_task name entry private budget room) (Ends i ts p s d) rest
 
 pub record AtSession (i : ImageView) (ts : List (List ℕ)) (p : List ℕ) (ls : List LineView) (d : JobView) : Type 0 where
   pub line : LineView
@@ -124,7 +120,7 @@ Rest (Filled i) ls d = AtListing i ls d
 Rest (Listed i left ts) ls d = AtLines i left ts ls d
 Rest (Phased i ts p) ls d = AtSession i ts p ls d
 Rest (Observed i ts p s) ls d = AtTask i ts p s ls d
-Rest (Tasked i ts p s t least) ls d = AtRegs i ts p s t least ls d
+Rest (Tasked i ts p s t) ls d = AtPart t (Ends i ts p s d) ls
 Rest (Done i ts p s t) ls d = (ls ≡ []) × (d ≡ first_job i.name i.base i.bytes ts p s t)
 
 abbrev was : (ls : List LineView) (d : JobView) (x s : State) → x ≡ s → Rest s ls d → Rest x ls d
@@ -195,7 +191,7 @@ phase_back c i ts p l ls d s card e r = absurd cc
 
 session_back : (c : CardView) (i : ImageView) (ts : List (List ℕ)) (p n : List ℕ) (l : LineView) (ls : List LineView) (d : JobView) (s : State) → IsCard l c → after_session i ts p n c ≡ Some s → Rest s ls d → AtTask i ts p n (l ∷ ls) d
 session_back (Task t e p b r) i ts ph n l ls d s card eq rest =
-    let next : State = Tasked i ts ph n (task_view t e p b r (first_regs e)) 0 in
+    let next : State = Tasked i ts ph n (fresh_task t e p b r) in
     let g = guard_some (is_within p b r) next s eq in
     record {
       line = l;
@@ -212,31 +208,14 @@ session_back (Task t e p b r) i ts ph n l ls d s card eq rest =
     }
 session_back c i ts p n l ls d s card e r = absurd cc
 
-task_back : (c : CardView) (i : ImageView) (ts : List (List ℕ)) (p n : List ℕ) (t : TaskView) (least : ℕ) (l : LineView) (ls : List LineView) (d : JobView) (s : State) → IsCard l c → after_task i ts p n t least c ≡ Some s → Rest s ls d → AtRegs i ts p n t least (l ∷ ls) d
-task_back (Reg k v) i ts p n t least l ls d s card e r =
-    let next : State = Tasked i ts p n (with_reg t k v) (k + 1) in
-    let g = guard_some (nat_le least k) next s e in
-    let from : least ≤ k = grind (arith, nat_tests, g.0) in
-    let a : AtRegs i ts p n (with_reg t k v) (k + 1) ls d = was ls d next s g.1 r in
-    record {
-      lines = l ∷ a.lines;
-      regs = record { number = k; value = v } ∷ a.regs;
-      rest = a.rest;
-      whole = ap (λ (x : List LineView). l ∷ x) a.whole;
-      are = ((card, from), a.are);
-      then = a.then;
-    }
-task_back End i ts p n t least l ls d s card e r =
-    let done : (ls ≡ []) × (d ≡ first_job i.name i.base i.bytes ts p n t) = was ls d (Done i ts p n t) s (some_same _ _ e) r in
-    record {
-      lines = [];
-      regs = [];
-      rest = l ∷ ls;
-      whole = refl;
-      are = tt;
-      then = record { line = l; whole = ap (λ (x : List LineView). l ∷ x) done.0; card = card; is = done.1 };
-    }
-task_back c i ts p n t least l ls d s card e r = absurd cc
+task_back : (c : CardView) (i : ImageView) (ts : List (List ℕ)) (p n : List ℕ) (t : TaskPart) (l : LineView) (ls : List LineView) (d : JobView) (s : State) → IsCard l c → after_task i ts p n t c ≡ Some s → Rest s ls d →
+    AtPart t (Ends i ts p n d) (l ∷ ls)
+task_back End i ts p n t l ls d s card e r =
+    let done : (ls ≡ []) × (d ≡ first_job i.name i.base i.bytes ts p n t.task) = was ls d (Done i ts p n t.task) s (some_same _ _ e) r in
+    stage_ends t.stage t.task (Ends i ts p n d) (l ∷ ls) (record { line = l; whole = ap (λ (x : List LineView). l ∷ x) done.0; card = card; is = done.1 })
+task_back c i ts p n t l ls d s card e r =
+    let m = map_some (Tasked i ts p n) (task_more t c) s e in
+    more_back c t m.from (Ends i ts p n d) l ls card m.was (was ls d (Tasked i ts p n m.from) s m.gives r)
 
 step_back : (st s : State) (l : LineView) (ls : List LineView) (d : JobView) → step st l ≡ Some s → Rest s ls d → Rest st (l ∷ ls) d
 step_back Start s l ls d e r = let t = then_some after_start (card_at l.bytes) s e in start_back t.from l ls d s t.was t.gives r
@@ -247,7 +226,7 @@ step_back (Listed i zero ts) s l ls d e r = let t = then_some (after_listing i t
 step_back (Listed i (suc left) ts) s l ls d e r = line_back i left ts l ls d s e r
 step_back (Phased i ts p) s l ls d e r = let t = then_some (after_phase i ts p) (card_at l.bytes) s e in phase_back t.from i ts p l ls d s t.was t.gives r
 step_back (Observed i ts p n) s l ls d e r = let t = then_some (after_session i ts p n) (card_at l.bytes) s e in session_back t.from i ts p n l ls d s t.was t.gives r
-step_back (Tasked i ts p n k least) s l ls d e r = let t = then_some (after_task i ts p n k least) (card_at l.bytes) s e in task_back t.from i ts p n k least l ls d s t.was t.gives r
+step_back (Tasked i ts p n k) s l ls d e r = let t = then_some (after_task i ts p n k) (card_at l.bytes) s e in task_back t.from i ts p n k l ls d s t.was t.gives r
 step_back (Done i ts p n k) s l ls d e r = let t = then_some (take_card (Done i ts p n k)) (card_at l.bytes) s e in absurd (done_stuck t.from i ts p n k s t.gives)
 
 done_rest : (e : State) (d : JobView) → job_at e ≡ Some d → Rest e [] d
@@ -271,8 +250,13 @@ spells_of lines d a =
     let p : AtPhase i texts x.rest d = x.then in
     let s : AtSession i texts p.phase p.rest d = p.then in
     let k : AtTask i texts p.phase s.session s.rest d = s.then in
-    let r : AtRegs i texts p.phase s.session (task_view k.name k.entry k.private k.budget k.room (first_regs k.entry)) 0 k.rest d = k.then in
-    let z : AtEnd i texts p.phase s.session (task_view k.name k.entry k.private k.budget k.room (set_regs (first_regs k.entry) r.regs)) r.rest d = r.then in
+    let first : TaskView = task_view k.name k.entry k.private k.budget k.room (first_regs k.entry) [] [] in
+    let r : AtRegs 0 first (Ends i texts p.phase s.session d) k.rest = k.then in
+    let filled : TaskView = with_regs first r.regs in
+    let c : AtData filled (Ends i texts p.phase s.session d) r.rest = r.then in
+    let b : AtInputs (with_cards filled c.cards) (Ends i texts p.phase s.session d) c.rest = c.then in
+    let task : TaskView = with_inputs (with_cards filled c.cards) b.inputs in
+    let z : AtEnd i texts p.phase s.session task b.rest d = b.then in
     let w = limits k.private k.budget k.room k.within in
     record {
       cover_line = a.line;
@@ -282,21 +266,15 @@ spells_of lines d a =
       listing_lines = x.lines;
       phase_line = p.line;
       session_line = s.line;
-      task_line = k.line;
-      reg_lines = r.lines;
+      task_lines = k.line ∷ (r.lines ++ (c.lines ++ b.lines));
       end_line = z.line;
-      whole = rw (a.whole, m.whole, t.whole, g.whole, x.whole, p.whole, s.whole, k.whole, r.whole, z.whole) refl;
+      whole = rw (a.whole, m.whole, t.whole, g.whole, x.whole, p.whole, s.whole, k.whole, r.whole, c.whole, b.whole, z.whole, append_assoc r.lines (c.lines ++ b.lines) (z.line ∷ []), append_assoc c.lines b.lines (z.line ∷ [])) refl;
       name = m.name;
       base = m.base;
       bytes = t.bytes;
       phase = p.phase;
       session = s.session;
-      task = k.name;
-      entry = k.entry;
-      private = k.private;
-      budget = k.budget;
-      room = k.room;
-      regs = r.regs;
+      task = task;
       cover_card = a.card;
       module_card = rw t.sized m.card;
       small = rw t.sized m.small;
@@ -305,11 +283,29 @@ spells_of lines d a =
       are_short = x.short;
       phase_card = p.card;
       session_card = s.card;
-      task_card = k.card;
-      most_private = w.0.0;
-      most_budget = w.0.1;
-      most_room = w.1;
-      are_regs = r.are;
+      task_cards = record {
+        task_line = k.line;
+        reg_lines = r.lines;
+        data_lines = c.lines;
+        input_lines = b.lines;
+        whole = refl;
+        name = k.name;
+        entry = k.entry;
+        private = k.private;
+        budget = k.budget;
+        room = k.room;
+        regs = r.regs;
+        cards = c.cards;
+        inputs = b.inputs;
+        task_card = k.card;
+        most_private = w.0.0;
+        most_budget = w.0.1;
+        most_room = w.1;
+        are_regs = r.are;
+        are_data = c.are;
+        are_inputs = b.are;
+        is_task = refl;
+      };
       end_card = z.card;
       is_job = z.is;
     }

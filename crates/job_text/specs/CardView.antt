@@ -1,5 +1,6 @@
 -- What a card says, wherever memory holds it. Names are filled with blanks.
 use Rattle.std.specs.Prelude.{ℕ, List}
+use Rattle.module_area.specs.Views.{DataView}
 
 pub data CardView : Type 0 where
   Cover : CardView
@@ -15,4 +16,6 @@ pub data CardView : Type 0 where
   Task : List ℕ → ℕ → ℕ → ℕ → ℕ → CardView
   -- number and value
   Reg : ℕ → ℕ → CardView
+  Data : DataView → CardView
+  Input : List ℕ → CardView
   End : CardView

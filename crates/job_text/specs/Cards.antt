@@ -1,8 +1,9 @@
 -- Which lines are cards: words parted by exactly one blank.
-use Rattle.std.specs.Prelude.{ℕ, ◌+◌, ◌%◌, ◌&&◌, Bool, nat_eq, nat_le, if◌then◌else◌, Option, Some, None, List, [], ◌∷◌, codes, option_map}
+use Rattle.std.specs.Prelude.{◌≡◌, ℕ, ◌+◌, ◌%◌, ◌&&◌, Bool, nat_eq, nat_le, if◌then◌else◌, Option, Some, None, List, [], ◌∷◌, codes, option_map}
 use Rattle.std.specs.Str.{bytes_eq}
 use Rattle.cov_base.specs.Names.{name_at}
-use Rattle.job_text.specs.CardView.{CardView, Cover, Module, Text, Listing, Phase, Session, Task, Reg, End}
+use Rattle.job_text.specs.Lines.{LineView}
+use Rattle.job_text.specs.CardView.{CardView, Cover, Module, Text, Listing, Phase, Session, Task, Reg, Data, Input, End}
 use Rattle.job_text.specs.Words.{words, number_at, bytes_at, address_at, word_at, names_at}
 
 -- where a module may stand: on a doubleword from X'100000' on, of an even size, below X'FFF000'
@@ -26,17 +27,27 @@ abbrev pub reg_of : Option ℕ → Option ℕ → Option CardView
 reg_of (Some n) (Some v) = if nat_le n 15 then Some (Reg n v) else None
 reg_of n v = None
 
+-- bytes at an offset of private storage
+abbrev pub data_of : Option ℕ → Option (List ℕ) → Option CardView
+data_of (Some n) (Some bytes) = Some (Data (record { offset = n; bytes = bytes }))
+data_of n bytes = None
+
 -- the card of a key and one word
 abbrev pub short_card : List ℕ → List ℕ → Option CardView
 short_card key a =
     if bytes_eq key (codes "TEXT") then option_map Text (bytes_at a)
     else (if bytes_eq key (codes "LISTING") then option_map Listing (number_at a)
     else (if bytes_eq key (codes "PHASE") then option_map Phase (name_at a)
+    else (if bytes_eq key (codes "INPUT") then option_map Input (bytes_at a)
     else (if bytes_eq key (codes "COVERJOB") && bytes_eq a (codes "1") then Some Cover
-    else None)))
+    else None))))
 
-abbrev pub reg_card : List ℕ → List ℕ → List ℕ → Option CardView
-reg_card key a b = if bytes_eq key (codes "REG") then reg_of (number_at a) (word_at b) else None
+-- the card of a key and two words that is no SESSION
+abbrev pub pair_card : List ℕ → List ℕ → List ℕ → Option CardView
+pair_card key a b =
+    if bytes_eq key (codes "REG") then reg_of (number_at a) (word_at b)
+    else (if bytes_eq key (codes "DATA") then data_of (number_at a) (bytes_at b)
+    else None)
 
 abbrev pub module_card : List ℕ → List ℕ → List ℕ → List ℕ → Option CardView
 module_card key a b c = if bytes_eq key (codes "MODULE") then module_of (name_at a) (address_at b) (number_at c) else None
@@ -46,7 +57,7 @@ task_card key a b c d e = if bytes_eq key (codes "TASK") then task_of (name_at a
 
 -- the card of a key and two or more words that is no SESSION
 abbrev pub long_card : List ℕ → List ℕ → List (List ℕ) → Option CardView
-long_card key a (b ∷ []) = reg_card key a b
+long_card key a (b ∷ []) = pair_card key a b
 long_card key a (b ∷ c ∷ []) = module_card key a b c
 long_card key a (b ∷ c ∷ d ∷ e ∷ []) = task_card key a b c d e
 long_card key a more = None
@@ -60,3 +71,6 @@ card_of (key ∷ a ∷ b ∷ more) = if bytes_eq key (codes "SESSION") then sess
 
 abbrev pub card_at : List ℕ → Option CardView
 card_at line = card_of (words line)
+
+abbrev pub IsCard : LineView → CardView → Type 0
+IsCard line card = card_at line.bytes ≡ Some card

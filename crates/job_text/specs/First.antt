@@ -1,46 +1,15 @@
 -- Which lines spell a job of the first form: one module with its listing, one phase, one session, one task.
-use Rattle.std.specs.Prelude.{◌≡◌, ◌⊎◌, ℕ, ◌+◌, ◌-◌, ◌≤◌, true, Bool, nat_le, Some, None, List, [], ◌∷◌, ◌++◌, length, map, take, slice_set}
+use Rattle.std.specs.Prelude.{◌≡◌, ◌⊎◌, ℕ, ◌+◌, ◌-◌, ◌≤◌, true, Bool, nat_le, Some, None, List, [], ◌∷◌, ◌++◌, length, map, take}
 use Rattle.std.specs.List.{list_all}
-use Rattle.session_book.specs.JobView.{JobView, TaskView, first_regs}
+use Rattle.session_book.specs.JobView.{JobView, TaskView}
 use Rattle.job_text.specs.Lines.{LineView, listing_text}
-use Rattle.job_text.specs.CardView.{CardView, Cover, Module, Text, Listing, Phase, Session, Task, Reg, End}
-use Rattle.job_text.specs.Cards.{card_at}
-
-abbrev pub IsCard : LineView → CardView → Type 0
-IsCard line card = card_at line.bytes ≡ Some card
+use Rattle.job_text.specs.CardView.{Cover, Module, Text, Listing, Phase, Session, End}
+use Rattle.job_text.specs.Cards.{IsCard}
+use Rattle.job_text.specs.Tasks.{SpellsTask}
 
 -- a listing line has at most 150 bytes
 abbrev pub is_short : LineView → Bool
 is_short l = nat_le (length (listing_text l)) 150
-
--- what a REG card says
-pub record RegView : Type 0 where
-  pub number : ℕ
-  pub value : ℕ
-
--- a REG card for each of these, whose numbers rise from at least this one
-abbrev pub AreRegs : ℕ → List RegView → List LineView → Type 0
-AreRegs least [] [] = Unit {0}
-AreRegs least [] (l ∷ ls) = ⊥
-AreRegs least (r ∷ rs) [] = ⊥
-AreRegs least (r ∷ rs) (l ∷ ls) = (IsCard l (Reg r.number r.value) × (least ≤ r.number)) × AreRegs (r.number + 1) rs ls
-
-abbrev pub set_regs : List ℕ → List RegView → List ℕ
-set_regs regs [] = regs
-set_regs regs (r ∷ rs) = set_regs (slice_set regs r.number r.value) rs
-
-abbrev pub task_view : List ℕ → ℕ → ℕ → ℕ → ℕ → List ℕ → TaskView
-task_view name entry private budget room regs = record {
-  name = name;
-  phase = 0;
-  entry = entry;
-  private = private;
-  budget = budget;
-  room = room;
-  regs = regs;
-  cards = [];
-  input = [];
-}
 
 -- the job of one module, phase, session and task
 abbrev pub first_job : List ℕ → ℕ → List ℕ → List (List ℕ) → List ℕ → List ℕ → TaskView → JobView
@@ -61,22 +30,16 @@ pub record SpellsFirst (lines : List LineView) (job : JobView) : Type 0 where
   pub listing_lines : List LineView
   pub phase_line : LineView
   pub session_line : LineView
-  pub task_line : LineView
-  pub reg_lines : List LineView
+  pub task_lines : List LineView
   pub end_line : LineView
-  pub whole : lines ≡ cover_line ∷ module_line ∷ text_line ∷ listing_line ∷ (listing_lines ++ phase_line ∷ session_line ∷ task_line ∷ (reg_lines ++ end_line ∷ []))
+  pub whole : lines ≡ cover_line ∷ module_line ∷ text_line ∷ listing_line ∷ (listing_lines ++ phase_line ∷ session_line ∷ (task_lines ++ end_line ∷ []))
   -- what they say
   pub name : List ℕ
   pub base : ℕ
   pub bytes : List ℕ
   pub phase : List ℕ
   pub session : List ℕ
-  pub task : List ℕ
-  pub entry : ℕ
-  pub private : ℕ
-  pub budget : ℕ
-  pub room : ℕ
-  pub regs : List RegView
+  pub task : TaskView
   pub cover_card : IsCard cover_line Cover
   pub module_card : IsCard module_line (Module name base (length bytes))
   pub small : length bytes ≤ 64
@@ -85,13 +48,9 @@ pub record SpellsFirst (lines : List LineView) (job : JobView) : Type 0 where
   pub are_short : list_all is_short listing_lines ≡ true
   pub phase_card : IsCard phase_line (Phase phase)
   pub session_card : IsCard session_line (Session session (name ∷ []))
-  pub task_card : IsCard task_line (Task task entry private budget room)
-  pub most_private : private ≤ 1048576
-  pub most_budget : budget ≤ 50000000
-  pub most_room : room ≤ 65536
-  pub are_regs : AreRegs 0 regs reg_lines
+  pub task_cards : SpellsTask task_lines task
   pub end_card : IsCard end_line End
-  pub is_job : job ≡ first_job name base bytes (map listing_text listing_lines) phase session (task_view task entry private budget room (set_regs (first_regs entry) regs))
+  pub is_job : job ≡ first_job name base bytes (map listing_text listing_lines) phase session task
 
 -- some list of lines with this prefix spells a job of the first form
 pub record Begins (lines : List LineView) : Type 0 where

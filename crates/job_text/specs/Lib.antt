@@ -5,5 +5,7 @@ pub mod First
 pub mod Lines
 pub mod Machine
 pub mod States
+pub mod TaskParts
+pub mod Tasks
 pub mod Views
 pub mod Words

@@ -1,12 +1,14 @@
 -- The reader's states, and what a line makes of each.
-use Rattle.std.specs.Prelude.{ℕ, ◌+◌, suc, Bool, true, false, ◌&&◌, nat_eq, nat_le, if◌then◌else◌, Option, Some, None, List, [], ◌∷◌, ◌++◌, length, option_and_then, slice_set}
+use Rattle.std.specs.Prelude.{ℕ, suc, Bool, true, false, nat_eq, nat_le, if◌then◌else◌, Option, Some, None, List, [], ◌∷◌, ◌++◌, length, option_map, option_and_then}
 use Rattle.std.specs.Str.{bytes_eq}
 use Rattle.cov_base.specs.Memory.{ImageView}
-use Rattle.session_book.specs.JobView.{JobView, TaskView, first_regs}
+use Rattle.session_book.specs.JobView.{JobView, TaskView}
 use Rattle.job_text.specs.Lines.{LineView, listing_text}
-use Rattle.job_text.specs.CardView.{CardView, Cover, Module, Text, Listing, Phase, Session, Task, Reg, End}
+use Rattle.job_text.specs.CardView.{CardView, Cover, Module, Text, Listing, Phase, Session, Task, End}
 use Rattle.job_text.specs.Cards.{card_at}
-use Rattle.job_text.specs.First.{task_view, first_job}
+use Rattle.job_text.specs.First.{first_job}
+use Rattle.job_text.specs.declared.task.TaskPart.{TaskPart}
+use Rattle.job_text.specs.TaskParts.{is_within, fresh_task, task_more}
 
 pub data State : Type 0 where
   Start : State
@@ -22,8 +24,8 @@ pub data State : Type 0 where
   Phased : ImageView → List (List ℕ) → List ℕ → State
   -- behind SESSION
   Observed : ImageView → List (List ℕ) → List ℕ → List ℕ → State
-  -- behind TASK and REG: the task so far, and the least register that may follow
-  Tasked : ImageView → List (List ℕ) → List ℕ → List ℕ → TaskView → ℕ → State
+  -- behind TASK and the task's other cards so far
+  Tasked : ImageView → List (List ℕ) → List ℕ → List ℕ → TaskPart → State
   -- behind ENDJOB
   Done : ImageView → List (List ℕ) → List ℕ → List ℕ → TaskView → State
 
@@ -60,21 +62,14 @@ abbrev pub after_phase : ImageView → List (List ℕ) → List ℕ → CardView
 after_phase image texts phase (Session session modules) = if is_only image.name modules then Some (Observed image texts phase session) else None
 after_phase image texts phase card = None
 
-abbrev pub is_within : ℕ → ℕ → ℕ → Bool
-is_within private budget room = nat_le private 1048576 && nat_le budget 50000000 && nat_le room 65536
-
 abbrev pub after_session : ImageView → List (List ℕ) → List ℕ → List ℕ → CardView → Option State
 after_session image texts phase session (Task name entry private budget room) =
-    if is_within private budget room then Some (Tasked image texts phase session (task_view name entry private budget room (first_regs entry)) 0) else None
+    if is_within private budget room then Some (Tasked image texts phase session (fresh_task name entry private budget room)) else None
 after_session image texts phase session card = None
 
-abbrev pub with_reg : TaskView → ℕ → ℕ → TaskView
-with_reg t n v = record t { regs = slice_set t.regs n v }
-
-abbrev pub after_task : ImageView → List (List ℕ) → List ℕ → List ℕ → TaskView → ℕ → CardView → Option State
-after_task image texts phase session task least (Reg n v) = if nat_le least n then Some (Tasked image texts phase session (with_reg task n v) (n + 1)) else None
-after_task image texts phase session task least End = Some (Done image texts phase session task)
-after_task image texts phase session task least card = None
+abbrev pub after_task : ImageView → List (List ℕ) → List ℕ → List ℕ → TaskPart → CardView → Option State
+after_task image texts phase session part End = Some (Done image texts phase session part.task)
+after_task image texts phase session part card = option_map (Tasked image texts phase session) (task_more part card)
 
 -- a line of the listing comes
 abbrev pub in_listing : State → Bool
@@ -93,7 +88,7 @@ take_card (Filled image) card = after_text image card
 take_card (Listed image left texts) card = after_listing image texts card
 take_card (Phased image texts phase) card = after_phase image texts phase card
 take_card (Observed image texts phase session) card = after_session image texts phase session card
-take_card (Tasked image texts phase session task least) card = after_task image texts phase session task least card
+take_card (Tasked image texts phase session part) card = after_task image texts phase session part card
 take_card (Done image texts phase session task) card = None
 
 abbrev pub step : State → LineView → Option State

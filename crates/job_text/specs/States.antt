@@ -11,5 +11,5 @@ state (reader.Filled image) = Filled image
 state (reader.Listed image left lines) = Listed image left lines.items
 state (reader.Phased image texts phase) = Phased image texts phase
 state (reader.Observed image texts phase session) = Observed image texts phase session
-state (reader.Tasked image texts phase session task least) = Tasked image texts phase session task least
+state (reader.Tasked image texts phase session part) = Tasked image texts phase session part
 state (reader.Done image texts phase session task) = Done image texts phase session task

@@ -1,7 +1,7 @@
 -- A card without the memory that holds it.
 use Rattle.job_text.specs.declared.card.Card.{Card}
 use Rattle.job_text.specs.declared.card.Card.TheVariants as card
-use Rattle.job_text.specs.CardView.{CardView, Cover, Module, Text, Listing, Phase, Session, Task, Reg, End}
+use Rattle.job_text.specs.CardView.{CardView, Cover, Module, Text, Listing, Phase, Session, Task, Reg, Data, Input, End}
 
 abbrev pub view : Card → CardView
 view card.Cover = Cover
@@ -12,4 +12,6 @@ view (card.Phase n) = Phase n
 view (card.Session n ns) = Session n ns.items
 view (card.Task n e p b r) = Task n e p b r
 view (card.Reg r) = Reg r.number r.value
+view (card.Data d) = Data d
+view (card.Input v) = Input v.items
 view card.End = End

@@ -2,6 +2,7 @@
 ghost use Rattle.std.specs.Prelude.{◌≤◌};
 
 use cov_base::{Addr, Name};
+use module_area::DataCard;
 
 /// What a REG card says: the number of a general register, 0 to 15, and its word as the task begins.
 #[derive(Clone, Copy)]
@@ -13,7 +14,7 @@ pub struct RegCard {
 
 /// What a card says. A module's size and a task's private storage and room are in bytes, its budget in
 /// instructions. The rules of one card alone hold: a module stands on a doubleword from X'100000' on, has an even
-/// size of at least 2 and ends by X'FFF000'; a budget is at least 1; TEXT has 1 to 64 bytes; a register is one of 16. No limit is tested.
+/// size of at least 2 and ends by X'FFF000'; a budget is at least 1; TEXT, DATA and INPUT have 1 to 64 bytes; a register is one of 16. No limit is tested.
 #[derive(Drop)]
 pub enum Card {
     /// `COVERJOB 1`
@@ -45,6 +46,10 @@ pub enum Card {
     },
     /// `REG n value`
     Reg(RegCard),
+    /// `DATA offset bytes`
+    Data(DataCard),
+    /// `INPUT bytes`
+    Input(Vec<u8>),
     /// `ENDJOB`
     End,
 }

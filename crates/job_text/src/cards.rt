@@ -1,13 +1,14 @@
 //! The card that a line is.
 ghost use Rattle.std.specs.Prelude.{◌≡◌, ℕ, ◌∷◌, map, IfOk, option_map};
 ghost use Rattle.cov_base.specs.Names.{name_at};
-ghost use Rattle.job_text.specs.Words.{number_at, address_at, word_at, names_at};
+ghost use Rattle.job_text.specs.Words.{number_at, bytes_at, address_at, word_at, names_at};
 ghost use Rattle.job_text.specs.Cards as spell;
 ghost use Rattle.job_text.specs.Views.{view};
 
 use crate::card::{Card, RegCard};
 use crate::words::{address_of, bytes_of, is, names_of, number_of, split, word_of};
 use cov_base::Name;
+use module_area::DataCard;
 use std::alloc::{AllocError, Global};
 
 fn short_card(alloc: Global, key: &[u8], a: &[u8]) -> Result<Option<Card>, AllocError>
@@ -21,6 +22,9 @@ fn short_card(alloc: Global, key: &[u8], a: &[u8]) -> Result<Option<Card>, Alloc
     }
     if is(key, b"PHASE") {
         return Ok(Name::read(a).map(|n| Card::Phase(n)));
+    }
+    if is(key, b"INPUT") {
+        return Ok(bytes_of(alloc, a)?.map(|v| Card::Input(v)));
     }
     if is(key, b"COVERJOB") && is(a, b"1") {
         return Ok(Some(Card::Cover));
@@ -66,12 +70,9 @@ fn module_card(key: &[u8], a: &[u8], b: &[u8], c: &[u8]) -> Option<Card>
     }
 }
 
-fn reg_card(key: &[u8], a: &[u8], b: &[u8]) -> Option<Card>
-    ensures { option_map view result ≡ spell.reg_card key.now a.now b.now }
+fn reg_card(a: &[u8], b: &[u8]) -> Option<Card>
+    ensures { option_map view result ≡ spell.reg_of (number_at a.now) (word_at b.now) }
 {
-    if !is(key, b"REG") {
-        return None;
-    }
     match (number_of(a), word_of(b)) {
         (Some(number), Some(value)) => {
             if number <= 15 {
@@ -85,6 +86,28 @@ fn reg_card(key: &[u8], a: &[u8], b: &[u8]) -> Option<Card>
         }
         _ => None,
     }
+}
+
+fn data_card(alloc: Global, a: &[u8], b: &[u8]) -> Result<Option<Card>, AllocError>
+    ensures { IfOk result (λ o. option_map view o ≡ spell.data_of (number_at a.now) (bytes_at b.now)) }
+{
+    let bytes = bytes_of(alloc, b)?;
+    match (number_of(a), bytes) {
+        (Some(offset), Some(bytes)) => Ok(Some(Card::Data(DataCard { offset, bytes }))),
+        _ => Ok(None),
+    }
+}
+
+fn pair_card(alloc: Global, key: &[u8], a: &[u8], b: &[u8]) -> Result<Option<Card>, AllocError>
+    ensures { IfOk result (λ o. option_map view o ≡ spell.pair_card key.now a.now b.now) }
+{
+    if is(key, b"REG") {
+        return Ok(reg_card(a, b));
+    }
+    if is(key, b"DATA") {
+        return data_card(alloc, a, b);
+    }
+    Ok(None)
 }
 
 fn task_card(key: &[u8], a: &[u8], b: &[u8], c: &[u8], d: &[u8], e: &[u8]) -> Option<Card>
@@ -117,19 +140,24 @@ fn task_card(key: &[u8], a: &[u8], b: &[u8], c: &[u8], d: &[u8], e: &[u8]) -> Op
     }
 }
 
-fn long_card(key: &[u8], a: &[u8], rest: &[&[u8]]) -> Option<Card>
-    ensures { option_map view result ≡ spell.long_card key.now a.now (map (λ w. w.now) rest.now) }
+fn long_card(
+    alloc: Global,
+    key: &[u8],
+    a: &[u8],
+    rest: &[&[u8]],
+) -> Result<Option<Card>, AllocError>
+    ensures { IfOk result (λ o. option_map view o ≡ spell.long_card key.now a.now (map (λ w. w.now) rest.now)) }
 {
     if rest.len() == 1 {
-        return reg_card(key, a, rest[0]);
+        return pair_card(alloc, key, a, rest[0]);
     }
     if rest.len() == 2 {
-        return module_card(key, a, rest[0], rest[1]);
+        return Ok(module_card(key, a, rest[0], rest[1]));
     }
     if rest.len() == 4 {
-        return task_card(key, a, rest[0], rest[1], rest[2], rest[3]);
+        return Ok(task_card(key, a, rest[0], rest[1], rest[2], rest[3]));
     }
-    None
+    Ok(None)
 }
 
 fn card_of(alloc: Global, words: &[&[u8]]) -> Result<Option<Card>, AllocError>
@@ -149,7 +177,7 @@ fn card_of(alloc: Global, words: &[&[u8]]) -> Result<Option<Card>, AllocError>
             if is(key, b"SESSION") {
                 return session(alloc, a, rest);
             }
-            Ok(long_card(key, a, rest))
+            long_card(alloc, key, a, rest)
         }
     }
 }

@@ -1,5 +1,7 @@
 //! Why an input is no job.
 
+use std::alloc::{AllocError, AllocFailed};
+
 /// What ends the reading of a job.
 #[derive(Clone, Copy, Debug, PartialEq, Eq)]
 pub enum JobFault {
@@ -7,4 +9,33 @@ pub enum JobFault {
     /// input ends early.
     BadJob { line: u32 },
     NoMemory,
+}
+
+/// Why a line isn't taken.
+#[derive(Drop)]
+pub(crate) enum LineFault {
+    Bad,
+    NoMemory,
+}
+
+impl From<AllocError> for LineFault {
+    ghost use Rattle.std.specs.Prelude.{◌≡◌};
+    ghost use Rattle.job_text.specs.declared.fault.LineFault.TheVariants.{NoMemory};
+
+    ghost from_gives = { λ _ e. e ≡ NoMemory };
+
+    fn from(_: AllocError) -> Self {
+        LineFault::NoMemory
+    }
+}
+
+impl<T: Drop> From<AllocFailed<T>> for LineFault {
+    ghost use Rattle.std.specs.Prelude.{◌≡◌};
+    ghost use Rattle.job_text.specs.declared.fault.LineFault.TheVariants.{NoMemory};
+
+    ghost from_gives = { λ _ e. e ≡ NoMemory };
+
+    fn from(_: AllocFailed<T>) -> Self {
+        LineFault::NoMemory
+    }
 }

@@ -7,10 +7,9 @@ ghost use Rattle.job_text.specs.Machine as machine;
 ghost use Rattle.job_text.specs.States.{state};
 ghost use Rattle.job_text.specs.Faults.{IsFault};
 
-use crate::fault::JobFault;
+use crate::fault::{JobFault, LineFault};
 use crate::lines::first_line;
 use crate::progress::FirstReader;
-use crate::reader::LineFault;
 use cov_base::{Name, NoMemory};
 use module_area::{Image, Images};
 use session_book::{Job, Lines, Session, TaskCard};

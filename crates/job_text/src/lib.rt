@@ -8,6 +8,7 @@ mod first;
 mod lines;
 mod progress;
 mod reader;
+mod task;
 mod words;
 
 pub use card::{Card, RegCard};

@@ -1,5 +1,6 @@
 //! How far a job of the first form was read.
 
+use crate::task::TaskPart;
 use cov_base::{Addr, Name};
 use listing_lines::ListingLine;
 use module_area::Image;
@@ -35,14 +36,12 @@ pub(crate) enum FirstReader {
         phase: Name,
         session: Name,
     },
-    /// A REG card may follow for register `least` and those above.
     Tasked {
         image: Image,
         texts: Lines,
         phase: Name,
         session: Name,
-        task: TaskCard,
-        least: u8,
+        part: TaskPart,
     },
     Done {
         image: Image,

@@ -1,50 +1,21 @@
 //! Takes a job of the first form line by line.
 ghost use Rattle.std.specs.Prelude.{◌≡◌, ℕ, ◌+◌, ◌-◌, ◌<◌, ◌≤◌, true, Option, Some, None, IfOk, IsErrOf, length};
-ghost use Rattle.session_book.specs.JobView.{IsJob, first_regs};
 ghost use Rattle.job_text.specs.Lines.{LineView};
-ghost use Rattle.job_text.specs.First.{first_job, task_view};
 ghost use Rattle.job_text.specs.Machine as machine;
 ghost use Rattle.job_text.specs.Views.{view};
 ghost use Rattle.job_text.specs.States.{state};
 
-use crate::card::{Card, RegCard};
+use crate::card::Card;
 use crate::cards::read_card;
+use crate::fault::LineFault;
 use crate::lines::listing_text;
 use crate::progress::FirstReader;
+use crate::task::{TaskPart, fresh_task, is_within};
 use cov_base::{Addr, Name};
 use listing_lines::ListingLine;
 use module_area::Image;
-use session_book::{Lines, TaskCard};
-use std::alloc::{AllocError, AllocFailed, Global};
-
-/// Why a line isn't taken.
-#[derive(Drop)]
-pub(crate) enum LineFault {
-    Bad,
-    NoMemory,
-}
-
-impl From<AllocError> for LineFault {
-    ghost use Rattle.std.specs.Prelude.{◌≡◌};
-    ghost use Rattle.job_text.specs.declared.reader.LineFault.TheVariants.{NoMemory};
-
-    ghost from_gives = { λ _ e. e ≡ NoMemory };
-
-    fn from(_: AllocError) -> Self {
-        LineFault::NoMemory
-    }
-}
-
-impl<T: Drop> From<AllocFailed<T>> for LineFault {
-    ghost use Rattle.std.specs.Prelude.{◌≡◌};
-    ghost use Rattle.job_text.specs.declared.reader.LineFault.TheVariants.{NoMemory};
-
-    ghost from_gives = { λ _ e. e ≡ NoMemory };
-
-    fn from(_: AllocFailed<T>) -> Self {
-        LineFault::NoMemory
-    }
-}
+use session_book::Lines;
+use std::alloc::Global;
 
 fn after_start(card: Card) -> Result<FirstReader, LineFault>
     ensures ok { IfOk result (λ r. machine.after_start (view card) ≡ Some (state r)) }
@@ -173,38 +144,6 @@ fn after_phase(
     }
 }
 
-fn is_within(private: u32, budget: u32, room: u32) -> bool
-    ensures { result ≡ machine.is_within private budget room }
-{
-    private <= 1_048_576 && budget <= 50_000_000 && room <= 65_536
-}
-
-fn task_card(
-    alloc: Global,
-    name: Name,
-    entry: Addr,
-    private: u32,
-    budget: u32,
-    room: u32,
-) -> TaskCard
-    ensures { result ≡ task_view name entry private budget room (first_regs entry) }
-{
-    let mut regs = [0u32; 16];
-    regs[14] = 0x00FF_FFFE;
-    regs[15] = entry.get();
-    TaskCard {
-        name,
-        phase: 0,
-        entry,
-        private,
-        budget,
-        room,
-        regs,
-        cards: Vec::new(alloc),
-        input: Vec::new(alloc),
-    }
-}
-
 fn after_session(
     alloc: Global,
     image: Image,
@@ -232,20 +171,11 @@ fn after_session(
                 texts,
                 phase,
                 session,
-                task: task_card(alloc, name, entry, private, budget, room),
-                least: 0,
+                part: fresh_task(alloc, name, entry, private, budget, room),
             })
         }
         _ => Err(LineFault::Bad),
     }
-}
-
-fn set_reg(task: TaskCard, reg: RegCard) -> TaskCard
-    ensures { result ≡ machine.with_reg task reg.number reg.value }
-{
-    let mut task = task;
-    task.regs[reg.number as usize] = reg.value;
-    task
 }
 
 fn after_task(
@@ -253,35 +183,27 @@ fn after_task(
     texts: Lines,
     phase: Name,
     session: Name,
-    task: TaskCard,
-    least: u8,
+    part: TaskPart,
     card: Card,
 ) -> Result<FirstReader, LineFault>
-    ensures ok { IfOk result (λ r. machine.after_task image texts phase session task least (view card) ≡ Some (state r)) }
-    ensures bad { IsErrOf result LineFault.Bad → machine.after_task image texts phase session task least (view card) ≡ None }
+    ensures ok { IfOk result (λ r. machine.after_task image texts phase session part (view card) ≡ Some (state r)) }
+    ensures bad { IsErrOf result LineFault.Bad → machine.after_task image texts phase session part (view card) ≡ None }
 {
     match card {
-        Card::Reg(reg) => {
-            if least > reg.number {
-                return Err(LineFault::Bad);
-            }
-            Ok(FirstReader::Tasked {
-                image,
-                texts,
-                phase,
-                session,
-                task: set_reg(task, reg),
-                least: reg.number + 1,
-            })
-        }
         Card::End => Ok(FirstReader::Done {
             image,
             texts,
             phase,
             session,
-            task,
+            task: part.task,
         }),
-        _ => Err(LineFault::Bad),
+        card => Ok(FirstReader::Tasked {
+            image,
+            texts,
+            phase,
+            session,
+            part: part.card(card)?,
+        }),
     }
 }
 
@@ -344,9 +266,8 @@ impl FirstReader {
                 texts,
                 phase,
                 session,
-                task,
-                least,
-            } => after_task(image, texts, phase, session, task, least, card),
+                part,
+            } => after_task(image, texts, phase, session, part, card),
             FirstReader::Done { .. } => Err(LineFault::Bad),
         }
     }

@@ -3,7 +3,7 @@ use crate::{JobFault, read_first_form};
 use std::alloc::{AllocError, Global};
 use std::test::Fail;
 
-const LINES: [&[u8]; 14] = [
+const LINES: [&[u8]; 16] = [
     b"COVERJOB 1",
     b"MODULE M 100000 8",
     b"TEXT 411000051A1107FE",
@@ -14,9 +14,11 @@ const LINES: [&[u8]; 14] = [
     b"000006 07FE                           3          BR",
     b"PHASE P",
     b"SESSION S M",
-    b"TASK A 100000 16 100 0",
+    b"TASK A 100000 80 100 0",
     b"REG 0 0000000A",
     b"REG 15 fedcba98",
+    b"DATA 79 C1",
+    b"INPUT D2",
     b"ENDJOB",
 ];
 
@@ -35,7 +37,7 @@ fn bad_line(alloc: Global, input: &[u8]) -> u32 {
 /// The job with what stands in place of line `at` and its LF.
 fn with_line(alloc: Global, at: usize, text: &[u8]) -> Result<Vec<u8>, AllocError> {
     let mut input = Vec::new(alloc);
-    for n in 0..14 {
+    for n in 0..16 {
         if n + 1 == at {
             input.extend_from_slice(text)?;
         } else {
@@ -66,7 +68,7 @@ fn reads_the_job(rt: HostRuntime) -> Result<(), Fail> {
             assert_eq!(rt; job.tasks[0].regs[1], 0);
             assert_eq!(rt;
                 (job.tasks[0].private, job.tasks[0].budget, job.tasks[0].room),
-                (16, 100, 0)
+                (80, 100, 0)
             );
         }
         Err(_) => assert!(rt; false),
@@ -84,9 +86,9 @@ fn is_listing(n: usize) -> bool {
 #[test]
 fn refuses_neighbours_exchanged(rt: HostRuntime) -> Result<(), Fail> {
     let a = rt.alloc();
-    for n in 0..13 {
+    for n in 0..15 {
         let mut input = Vec::new(a);
-        for k in 0..14 {
+        for k in 0..16 {
             let from = if k == n {
                 n + 1
             } else if k == n + 1 {
@@ -97,12 +99,13 @@ fn refuses_neighbours_exchanged(rt: HostRuntime) -> Result<(), Fail> {
             input.extend_from_slice(LINES[from])?;
             input.push(b'\n')?;
         }
-        // the listing takes the card that comes into it, and its own lines in any order; ENDJOB may follow REG 0
+        // the listing takes the card that comes into it, and its own lines in any order; of the cards behind TASK the
+        // earlier one is no longer taken
         let bad = if n == 7 {
             9
         } else if is_listing(n) {
             0
-        } else if n == 11 || n == 12 {
+        } else if n >= 11 {
             n as u32 + 2
         } else {
             n as u32 + 1
@@ -115,7 +118,7 @@ fn refuses_neighbours_exchanged(rt: HostRuntime) -> Result<(), Fail> {
 #[test]
 fn refuses_a_blank_too_many(rt: HostRuntime) -> Result<(), Fail> {
     let a = rt.alloc();
-    for n in 0..14 {
+    for n in 0..16 {
         let line = LINES[n];
         for i in 0..line.len() + 1 {
             if i == 0 || i == line.len() || line[i] == b' ' {
@@ -135,13 +138,13 @@ fn refuses_a_blank_too_many(rt: HostRuntime) -> Result<(), Fail> {
 #[test]
 fn refuses_lines_that_are_missing_or_doubled(rt: HostRuntime) -> Result<(), Fail> {
     let a = rt.alloc();
-    for n in 0..14 {
+    for n in 0..16 {
         let line = LINES[n];
         let missing = with_line(a, n + 1, b"")?;
-        // a listing without one of its lines takes the PHASE card; REG cards may be none
+        // a listing without one of its lines takes the PHASE card; REG, DATA and INPUT cards may be none
         let lacks = if is_listing(n) {
             9
-        } else if n == 11 || n == 12 {
+        } else if 11 <= n && n < 15 {
             0
         } else {
             n as u32 + 1
@@ -152,9 +155,12 @@ fn refuses_lines_that_are_missing_or_doubled(rt: HostRuntime) -> Result<(), Fail
         twice.extend_from_slice(line)?;
         twice.push(b'\n')?;
         let doubled = with_line(a, n + 1, &twice)?;
-        // the listing's last line comes behind it, as where the LISTING card is one of its lines
+        // the listing's last line comes behind it, as where the LISTING card is one of its lines; DATA and INPUT cards
+        // may be the same
         let more = if n == 3 || is_listing(n) {
             9
+        } else if n == 13 || n == 14 {
+            0
         } else {
             n as u32 + 2
         };
@@ -164,7 +170,7 @@ fn refuses_lines_that_are_missing_or_doubled(rt: HostRuntime) -> Result<(), Fail
 }
 
 /// Line, what stands in its place, and the first bad line.
-const CASES: [(usize, &[u8], u32); 73] = [
+const CASES: [(usize, &[u8], u32); 72] = [
     (1, b" COVERJOB 1\n", 1),
     (1, b"COVERJOB  1\n", 1),
     (1, b"COVERJOB 1 \n", 1),
@@ -198,7 +204,7 @@ const CASES: [(usize, &[u8], u32); 73] = [
     (4, b"LISTING 3\n", 8),
     (4, b"LISTING 0\n", 5),
     (4, b"LISTING 5\n", 10),
-    (4, b"LISTING 999999999\n", 15),
+    (4, b"LISTING 999999999\n", 17),
     (4, b"LISTING 04\n", 4),
     (4, b"LISTING 0000000004\n", 4),
     (4, b"LISTING -4\n", 4),
@@ -217,6 +223,7 @@ const CASES: [(usize, &[u8], u32); 73] = [
     (11, b"TASK A 100000 16 100 65537\n", 11),
     (11, b"TASK A 100000 16 0 0\n", 11),
     (11, b"TASK A FFFFFF 1048576 50000000 65536\n", 0),
+    (11, b"TASK A FFFFFF 80 1 0\n", 0),
     (12, b"REG 0 0000000\n", 12),
     (12, b"REG 0 000000000\n", 12),
     (12, b"REG 0 0000000G\n", 12),
@@ -232,20 +239,142 @@ const CASES: [(usize, &[u8], u32); 73] = [
     (12, b"REG 3 00000000\nREG 3 00000000\n", 13),
     (12, b"REG 3 00000000\nREG 4 00000000\n", 0),
     (13, b"REG 0 00000000\n", 13),
-    (14, b"DATA 0 00\nENDJOB\n", 14),
-    (14, b"INPUT 00\nENDJOB\n", 14),
-    (14, b"TASK B 100000 16 100 0\nENDJOB\n", 14),
-    (14, b"PHASE Q\nENDJOB\n", 14),
-    (14, b"MODULE N 200000 8\nENDJOB\n", 14),
-    (14, b"ENDJOB\n\n", 15),
+    (16, b"TASK B 100000 16 100 0\nENDJOB\n", 16),
+    (16, b"PHASE Q\nENDJOB\n", 16),
+    (16, b"MODULE N 200000 8\nENDJOB\n", 16),
+    (16, b"ENDJOB\n\n", 17),
 ];
 
 #[test]
 fn names_the_first_bad_line(rt: HostRuntime) -> Result<(), Fail> {
     let a = rt.alloc();
-    for (at, text, bad) in CASES {
-        let input = with_line(a, at, text)?;
-        assert_eq!(rt; (at, bad_line(a, &input)), (at, bad));
+    for (at, text, bad) in &CASES {
+        let input = with_line(a, *at, text)?;
+        assert_eq!(rt; (*at, bad_line(a, &input)), (*at, *bad));
+    }
+    Ok(())
+}
+
+/// What stands in place of the lines from the DATA card on, and the first bad line.
+const DATA_AND_INPUT: [(&[u8], u32); 48] = [
+    (b"ENDJOB\n", 0),
+    (b"DATA 79 c1\nENDJOB\n", 0),
+    (b"DATA 79 C1C2\nENDJOB\n", 14),
+    (b"DATA 80 C1\nENDJOB\n", 14),
+    (b"DATA 78 C1C2\nENDJOB\n", 0),
+    (b"DATA 999999999 C1\nENDJOB\n", 14),
+    (b"DATA 1000000000 C1\nENDJOB\n", 14),
+    (b"DATA 4294967296 C1\nENDJOB\n", 14),
+    (b"DATA 00 C1\nENDJOB\n", 14),
+    (b"DATA 07 C1\nENDJOB\n", 14),
+    (b"DATA -1 C1\nENDJOB\n", 14),
+    (b"DATA A C1\nENDJOB\n", 14),
+    (b"DATA\nENDJOB\n", 14),
+    (b"DATA 0\nENDJOB\n", 14),
+    (b"DATA 0 \nENDJOB\n", 14),
+    (b"DATA C1\nENDJOB\n", 14),
+    (b"DATA 0 C\nENDJOB\n", 14),
+    (b"DATA 0 C1C\nENDJOB\n", 14),
+    (b"DATA 0 C1CG\nENDJOB\n", 14),
+    (b"DATA 0 C1 C2\nENDJOB\n", 14),
+    (b"DATA  0 C1\nENDJOB\n", 14),
+    (b"DATA 0  C1\nENDJOB\n", 14),
+    (b"DATA 0 C1 \nENDJOB\n", 14),
+    (b" DATA 0 C1\nENDJOB\n", 14),
+    (b"DATA 0 C1\r\nENDJOB\n", 14),
+    (b"data 0 C1\nENDJOB\n", 14),
+    (b"DATA 0 C1C2\nDATA 1 C3\nDATA 0 C4\nENDJOB\n", 0),
+    (b"DATA 0 C1\nDATA 80 C1\nENDJOB\n", 15),
+    (b"DATA 0 C1\nREG 15 00000000\nENDJOB\n", 15),
+    (b"DATA 0 C1\nTASK B 100000 16 100 0\nENDJOB\n", 15),
+    (b"INPUT C1\nENDJOB\n", 0),
+    (b"INPUT C1c2\nINPUT C3\nINPUT C3\nENDJOB\n", 0),
+    (b"INPUT\nENDJOB\n", 14),
+    (b"INPUT \nENDJOB\n", 14),
+    (b"INPUT C\nENDJOB\n", 14),
+    (b"INPUT C1C\nENDJOB\n", 14),
+    (b"INPUT C1CG\nENDJOB\n", 14),
+    (b"INPUT 0 C1\nENDJOB\n", 14),
+    (b"INPUT C1 C2\nENDJOB\n", 14),
+    (b"INPUT  C1\nENDJOB\n", 14),
+    (b"INPUT C1 \nENDJOB\n", 14),
+    (b" INPUT C1\nENDJOB\n", 14),
+    (b"INPUT C1\r\nENDJOB\n", 14),
+    (b"input C1\nENDJOB\n", 14),
+    (b"INPUT C1\nDATA 0 C1\nENDJOB\n", 15),
+    (b"DATA 0 C1\nINPUT C1\nDATA 1 C1\nENDJOB\n", 16),
+    (b"INPUT C1\nREG 15 00000000\nENDJOB\n", 15),
+    (b"DATA 0 C1\nINPUT C1\nINPUT C\nENDJOB\n", 16),
+];
+
+/// The job with this in place of its lines from the DATA card on.
+fn with_end(alloc: Global, end: &[u8]) -> Result<Vec<u8>, AllocError> {
+    let mut input = Vec::new(alloc);
+    for n in 0..13 {
+        input.extend_from_slice(LINES[n])?;
+        input.push(b'\n')?;
+    }
+    input.extend_from_slice(end)?;
+    Ok(input)
+}
+
+#[test]
+fn takes_data_inside_private_storage_and_then_input(rt: HostRuntime) -> Result<(), Fail> {
+    let a = rt.alloc();
+    for n in 0..DATA_AND_INPUT.len() {
+        let (end, bad) = DATA_AND_INPUT[n];
+        let input = with_end(a, end)?;
+        assert_eq!(rt; (n, bad_line(a, &input)), (n, bad));
+    }
+    // private storage of no bytes holds no card
+    let none = with_line(a, 11, b"TASK A 100000 0 100 0\n")?;
+    assert_eq!(rt; bad_line(a, &none), 14);
+    let few = with_line(a, 11, b"TASK A 100000 79 100 0\n")?;
+    assert_eq!(rt; bad_line(a, &few), 14);
+    Ok(())
+}
+
+/// The card's words before its bytes, so many bytes, and ENDJOB.
+fn card_of(alloc: Global, words: &[u8], count: usize) -> Result<Vec<u8>, AllocError> {
+    let mut end = words.to_vec(alloc)?;
+    for _ in 0..count {
+        end.extend_from_slice(b"5A")?;
+    }
+    end.extend_from_slice(b"\nENDJOB\n")?;
+    with_end(alloc, &end)
+}
+
+#[test]
+fn takes_cards_of_64_bytes(rt: HostRuntime) -> Result<(), Fail> {
+    let a = rt.alloc();
+    assert_eq!(rt; bad_line(a, &card_of(a, b"DATA 16 ", 64)?), 0);
+    assert_eq!(rt; bad_line(a, &card_of(a, b"DATA 17 ", 64)?), 14);
+    assert_eq!(rt; bad_line(a, &card_of(a, b"DATA 0 ", 65)?), 14);
+    assert_eq!(rt; bad_line(a, &card_of(a, b"INPUT ", 64)?), 0);
+    assert_eq!(rt; bad_line(a, &card_of(a, b"INPUT ", 65)?), 14);
+    Ok(())
+}
+
+#[test]
+fn keeps_data_and_input_in_their_order(rt: HostRuntime) -> Result<(), Fail> {
+    let a = rt.alloc();
+    let input = with_end(
+        a,
+        b"DATA 4 0102\nDATA 5 FF\nINPUT C1C2\nINPUT 00\nINPUT c3\nENDJOB\n",
+    )?;
+    assert!(rt; input.len() <= 1_000);
+    match read_first_form(a, &input) {
+        Ok(job) => {
+            assert_eq!(rt; job.tasks.len(), 1);
+            let task = &job.tasks[0];
+            assert_eq!(rt; task.cards.len(), 2);
+            assert_eq!(rt; task.cards[0].offset, 4);
+            assert_eq!(rt; task.cards[0].bytes.as_slice(), &[1, 2][..]);
+            assert_eq!(rt; task.cards[1].offset, 5);
+            assert_eq!(rt; task.cards[1].bytes.as_slice(), &[0xFF][..]);
+            assert_eq!(rt; task.input.as_slice(), &[0xC1, 0xC2, 0, 0xC3][..]);
+        }
+        Err(_) => assert!(rt; false),
     }
     Ok(())
 }
@@ -274,10 +403,10 @@ fn takes_listing_lines_of_150_bytes(rt: HostRuntime) -> Result<(), Fail> {
 #[test]
 fn takes_a_last_line_without_its_end(rt: HostRuntime) -> Result<(), Fail> {
     let a = rt.alloc();
-    let whole = with_line(a, 14, b"ENDJOB")?;
+    let whole = with_line(a, 16, b"ENDJOB")?;
     assert_eq!(rt; bad_line(a, &whole), 0);
     let mut input = Vec::new(a);
-    for i in 0..14 {
+    for i in 0..16 {
         let n = i as u32;
         let line = LINES[i];
         for k in 1..line.len() {
@@ -288,7 +417,7 @@ fn takes_a_last_line_without_its_end(rt: HostRuntime) -> Result<(), Fail> {
             assert_eq!(rt; bad_line(a, &cut), if more { n + 2 } else { n + 1 });
         }
         input.extend_from_slice(line)?;
-        assert_eq!(rt; bad_line(a, &input), if n == 13 { 0 } else { n + 2 });
+        assert_eq!(rt; bad_line(a, &input), if n == 15 { 0 } else { n + 2 });
         // a CR that no LF follows is part of the line
         let mut odd = input.to_vec(a)?;
         odd.push(b'\r')?;
@@ -297,7 +426,7 @@ fn takes_a_last_line_without_its_end(rt: HostRuntime) -> Result<(), Fail> {
             if is_listing(i) { n + 2 } else { n + 1 }
         );
         input.push(b'\n')?;
-        assert_eq!(rt; bad_line(a, &input), if n == 13 { 0 } else { n + 2 });
+        assert_eq!(rt; bad_line(a, &input), if n == 15 { 0 } else { n + 2 });
     }
     Ok(())
 }

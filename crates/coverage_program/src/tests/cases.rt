@@ -1,7 +1,7 @@
 //! Jobs with their status and text: those of the rules' examples, and the faults of listings in their order.
 
 /// What the job is, its text, the exit status, and what is written.
-pub const CASES: [(&str, &[u8], u8, &[u8]); 22] = [
+pub const CASES: [(&str, &[u8], u8, &[u8]); 28] = [
     (
         "a sum past the word",
         b"\
@@ -151,6 +151,173 @@ MODULE M PLACES 2 EXECUTED 1 FACTS 1 OF 2\n\
 ^ 000004 07FE                           2          BR\n\
 NOT EXECUTED 000004-000005\n\
 END\n",
+    ),
+    (
+        "a load from a data card, past the highest address",
+        b"\
+COVERJOB 1\n\
+MODULE M 100000 6\n\
+TEXT 5820100807FE\n\
+LISTING 3\n\
+\x20 Loc  Object Code    Addr1 Addr2  Stmt   Source Statement\n\
+000000 5820 1008                      1          L\n\
+000004 07FE                           2          BR\n\
+PHASE P\n\
+SESSION S M\n\
+TASK A 100000 16 100 0\n\
+REG 1 00FFFFFC\n\
+DATA 4 11223344\n\
+ENDJOB\n",
+        0,
+        b"\
+COVERAGE REPORT\n\
+TASK A RETURNED COUNT 2 CC 0\n\
+R0 00000000 00FFFFFC 11223344 00000000 00000000 00000000 00000000 00000000\n\
+R8 00000000 00000000 00000000 00000000 00000000 00000000 00FFFFFE 00100000\n\
+OUT 0\n\
+SESSION S PHASE P\n\
+MODULE M PLACES 2 EXECUTED 2 FACTS 2 OF 2\n\
+\x20   Loc  Object Code    Addr1 Addr2  Stmt   Source Statement\n\
+: 000000 5820 1008                      1          L\n\
+: 000004 07FE                           2          BR\n\
+END\n",
+    ),
+    (
+        "data cards of which the later ones count",
+        b"\
+COVERJOB 1\n\
+MODULE M 100000 6\n\
+TEXT 9823000007FE\n\
+LISTING 3\n\
+\x20 Loc  Object Code    Addr1 Addr2  Stmt   Source Statement\n\
+000000 9823 0000                      1          LM\n\
+000004 07FE                           2          BR\n\
+PHASE P\n\
+SESSION S M\n\
+TASK A 100000 16 100 0\n\
+DATA 0 11223344\n\
+DATA 2 aabbcc\n\
+DATA 1 DD\n\
+ENDJOB\n",
+        0,
+        b"\
+COVERAGE REPORT\n\
+TASK A RETURNED COUNT 2 CC 0\n\
+R0 00000000 00000000 11DDAABB CC000000 00000000 00000000 00000000 00000000\n\
+R8 00000000 00000000 00000000 00000000 00000000 00000000 00FFFFFE 00100000\n\
+OUT 0\n\
+SESSION S PHASE P\n\
+MODULE M PLACES 2 EXECUTED 2 FACTS 2 OF 2\n\
+\x20   Loc  Object Code    Addr1 Addr2  Stmt   Source Statement\n\
+: 000000 9823 0000                      1          LM\n\
+: 000004 07FE                           2          BR\n\
+END\n",
+    ),
+    (
+        "stores over data cards, of other bytes and of the same",
+        b"\
+COVERJOB 1\n\
+MODULE M 100000 14\n\
+TEXT 50200004503000104040002207FE\n\
+LISTING 5\n\
+\x20 Loc  Object Code    Addr1 Addr2  Stmt   Source Statement\n\
+000000 5020 0004                      1          ST\n\
+000004 5030 0010                      2          ST\n\
+000008 4040 0022                      3          STH\n\
+00000C 07FE                           4          BR\n\
+PHASE P\n\
+SESSION S M\n\
+TASK A 100000 40 100 0\n\
+REG 3 55667788\n\
+REG 4 0000ABCD\n\
+DATA 4 11223344\n\
+DATA 16 55667788\n\
+DATA 32 C1C2C3C4C5C6C7C8\n\
+ENDJOB\n",
+        0,
+        b"\
+COVERAGE REPORT\n\
+TASK A RETURNED COUNT 4 CC 0\n\
+R0 00000000 00000000 00000000 55667788 0000ABCD 00000000 00000000 00000000\n\
+R8 00000000 00000000 00000000 00000000 00000000 00000000 00FFFFFE 00100000\n\
+OUT 0\n\
+STOR 000000 00000000000000000000000000000000\n\
+STOR 000020 C1C2ABCDC5C6C7C8\n\
+SESSION S PHASE P\n\
+MODULE M PLACES 4 EXECUTED 4 FACTS 4 OF 4\n\
+\x20   Loc  Object Code    Addr1 Addr2  Stmt   Source Statement\n\
+: 000000 5020 0004                      1          ST\n\
+: 000004 5030 0010                      2          ST\n\
+: 000008 4040 0022                      3          STH\n\
+: 00000C 07FE                           4          BR\n\
+END\n",
+    ),
+    (
+        "a decimal number in a data card",
+        b"\
+COVERJOB 1\n\
+MODULE M 100000 6\n\
+TEXT 4F20000007FE\n\
+LISTING 3\n\
+\x20 Loc  Object Code    Addr1 Addr2  Stmt   Source Statement\n\
+000000 4F20 0000                      1          CVB\n\
+000004 07FE                           2          BR\n\
+PHASE P\n\
+SESSION S M\n\
+TASK A 100000 8 100 0\n\
+DATA 0 000000000000123D\n\
+ENDJOB\n",
+        0,
+        b"\
+COVERAGE REPORT\n\
+TASK A RETURNED COUNT 2 CC 0\n\
+R0 00000000 00000000 FFFFFF85 00000000 00000000 00000000 00000000 00000000\n\
+R8 00000000 00000000 00000000 00000000 00000000 00000000 00FFFFFE 00100000\n\
+OUT 0\n\
+SESSION S PHASE P\n\
+MODULE M PLACES 2 EXECUTED 2 FACTS 2 OF 2\n\
+\x20   Loc  Object Code    Addr1 Addr2  Stmt   Source Statement\n\
+: 000000 4F20 0000                      1          CVB\n\
+: 000004 07FE                           2          BR\n\
+END\n",
+    ),
+    (
+        "a data card one byte past private storage",
+        b"\
+COVERJOB 1\n\
+MODULE M 100000 2\n\
+TEXT 07FE\n\
+LISTING 2\n\
+\x20 Loc  Object Code    Addr1 Addr2  Stmt   Source Statement\n\
+000000 07FE                           1          BR\n\
+PHASE P\n\
+SESSION S M\n\
+TASK A 100000 16 100 0\n\
+DATA 0 C1\n\
+DATA 13 C1C2C3C4\n\
+ENDJOB\n",
+        2,
+        b"\
+BAD JOB LINE 11\n",
+    ),
+    (
+        "a data card behind an input card",
+        b"\
+COVERJOB 1\n\
+MODULE M 100000 2\n\
+TEXT 07FE\n\
+LISTING 2\n\
+\x20 Loc  Object Code    Addr1 Addr2  Stmt   Source Statement\n\
+000000 07FE                           1          BR\n\
+PHASE P\n\
+SESSION S M\n\
+TASK A 100000 16 100 0\n\
+INPUT C1\n\
+DATA 0 C1\n\
+ENDJOB\n",
+        2,
+        b"\
+BAD JOB LINE 11\n",
     ),
     (
         "a heading in capital letters",

@@ -1,0 +1,54 @@
+-- What each card of a task makes of the part of it that was read.
+use Rattle.std.specs.Prelude.{ℕ, ◌+◌, Bool, true, false, ◌&&◌, nat_le, if◌then◌else◌, Option, Some, None, List, [], ◌∷◌, ◌++◌, length, slice_set}
+use Rattle.module_area.specs.Views.{DataView}
+use Rattle.session_book.specs.JobView.{TaskView, first_regs}
+use Rattle.job_text.specs.CardView.{CardView, Reg, Data, Input}
+use Rattle.job_text.specs.Tasks.{task_view}
+use Rattle.job_text.specs.declared.task.TaskPart.{TaskPart}
+use Rattle.job_text.specs.declared.task.TaskStage.{TaskStage}
+use Rattle.job_text.specs.declared.task.TaskStage.TheVariants as stage
+
+abbrev pub is_within : ℕ → ℕ → ℕ → Bool
+is_within private budget room = nat_le private 1048576 && nat_le budget 50000000 && nat_le room 65536
+
+abbrev pub part : TaskView → TaskStage → TaskPart
+part task stage = record { task = task; stage = stage }
+
+-- behind TASK
+abbrev pub fresh_task : List ℕ → ℕ → ℕ → ℕ → ℕ → TaskPart
+fresh_task name entry private budget room = part (task_view name entry private budget room (first_regs entry) [] []) (stage.Regs 0)
+
+abbrev pub takes_reg : TaskStage → ℕ → Bool
+takes_reg (stage.Regs least) n = nat_le least n
+takes_reg s n = false
+
+abbrev pub takes_data : TaskStage → Bool
+takes_data stage.Inputs = false
+takes_data s = true
+
+abbrev pub is_inside : ℕ → DataView → Bool
+is_inside private c = nat_le (c.offset + length c.bytes) private
+
+abbrev pub with_reg : TaskView → ℕ → ℕ → TaskView
+with_reg t n v = record t { regs = slice_set t.regs n v }
+
+abbrev pub with_data : TaskView → DataView → TaskView
+with_data t c = record t { cards = t.cards ++ c ∷ [] }
+
+abbrev pub with_input : TaskView → List ℕ → TaskView
+with_input t bytes = record t { input = t.input ++ bytes }
+
+abbrev pub after_reg : TaskPart → ℕ → ℕ → Option TaskPart
+after_reg p n v = if takes_reg p.stage n then Some (part (with_reg p.task n v) (stage.Regs (n + 1))) else None
+
+abbrev pub after_data : TaskPart → DataView → Option TaskPart
+after_data p c = if takes_data p.stage && is_inside p.task.private c then Some (part (with_data p.task c) stage.Data) else None
+
+abbrev pub after_input : TaskPart → List ℕ → TaskPart
+after_input p bytes = part (with_input p.task bytes) stage.Inputs
+
+abbrev pub task_more : TaskPart → CardView → Option TaskPart
+task_more p (Reg n v) = after_reg p n v
+task_more p (Data c) = after_data p c
+task_more p (Input bytes) = Some (after_input p bytes)
+task_more p card = None

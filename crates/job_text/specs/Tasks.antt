@@ -1,0 +1,77 @@
+-- The cards of a task.
+use Rattle.std.specs.Prelude.{◌≡◌, ℕ, ◌+◌, ◌≤◌, List, [], ◌∷◌, ◌++◌, length, slice_set}
+use Rattle.std.specs.List.{concat}
+use Rattle.module_area.specs.Views.{DataView}
+use Rattle.session_book.specs.JobView.{TaskView, first_regs}
+use Rattle.job_text.specs.Lines.{LineView}
+use Rattle.job_text.specs.CardView.{Task, Reg, Data, Input}
+use Rattle.job_text.specs.Cards.{IsCard}
+
+-- what a REG card says
+pub record RegView : Type 0 where
+  pub number : ℕ
+  pub value : ℕ
+
+-- a REG card for each of these, whose numbers rise from at least this one
+abbrev pub AreRegs : ℕ → List RegView → List LineView → Type 0
+AreRegs least [] [] = Unit {0}
+AreRegs least [] (l ∷ ls) = ⊥
+AreRegs least (r ∷ rs) [] = ⊥
+AreRegs least (r ∷ rs) (l ∷ ls) = (IsCard l (Reg r.number r.value) × (least ≤ r.number)) × AreRegs (r.number + 1) rs ls
+
+abbrev pub set_regs : List ℕ → List RegView → List ℕ
+set_regs regs [] = regs
+set_regs regs (r ∷ rs) = set_regs (slice_set regs r.number r.value) rs
+
+-- a DATA card for each of these, with all bytes inside private storage of this size
+abbrev pub AreData : ℕ → List DataView → List LineView → Type 0
+AreData private [] [] = Unit {0}
+AreData private [] (l ∷ ls) = ⊥
+AreData private (c ∷ cs) [] = ⊥
+AreData private (c ∷ cs) (l ∷ ls) = (IsCard l (Data c) × (c.offset + length c.bytes ≤ private)) × AreData private cs ls
+
+-- an INPUT card for each of these
+abbrev pub AreInputs : List (List ℕ) → List LineView → Type 0
+AreInputs [] [] = Unit {0}
+AreInputs [] (l ∷ ls) = ⊥
+AreInputs (b ∷ bs) [] = ⊥
+AreInputs (b ∷ bs) (l ∷ ls) = IsCard l (Input b) × AreInputs bs ls
+
+abbrev pub task_view : List ℕ → ℕ → ℕ → ℕ → ℕ → List ℕ → List DataView → List ℕ → TaskView
+task_view name entry private budget room regs cards input = record {
+  name = name;
+  phase = 0;
+  entry = entry;
+  private = private;
+  budget = budget;
+  room = room;
+  regs = regs;
+  cards = cards;
+  input = input;
+}
+
+-- TASK, and then REG, DATA and INPUT cards, of each kind as many as wanted
+pub record SpellsTask (lines : List LineView) (task : TaskView) : Type 0 where
+  -- the lines, in order
+  pub task_line : LineView
+  pub reg_lines : List LineView
+  pub data_lines : List LineView
+  pub input_lines : List LineView
+  pub whole : lines ≡ task_line ∷ (reg_lines ++ (data_lines ++ input_lines))
+  -- what they say
+  pub name : List ℕ
+  pub entry : ℕ
+  pub private : ℕ
+  pub budget : ℕ
+  pub room : ℕ
+  pub regs : List RegView
+  pub cards : List DataView
+  pub inputs : List (List ℕ)
+  pub task_card : IsCard task_line (Task name entry private budget room)
+  pub most_private : private ≤ 1048576
+  pub most_budget : budget ≤ 50000000
+  pub most_room : room ≤ 65536
+  pub are_regs : AreRegs 0 regs reg_lines
+  pub are_data : AreData private cards data_lines
+  pub are_inputs : AreInputs inputs input_lines
+  pub is_task : task ≡ task_view name entry private budget room (set_regs (first_regs entry) regs) cards (concat inputs)

@@ -1,0 +1,152 @@
+//! Takes the cards of a task.
+ghost use Rattle.std.specs.Prelude.{◌≡◌, ℕ, Option, Some, None, IfOk, IsErrOf};
+ghost use Rattle.job_text.specs.TaskParts as parts;
+ghost use Rattle.job_text.specs.Views.{view};
+
+use crate::card::{Card, RegCard};
+use crate::fault::LineFault;
+use cov_base::{Addr, Name};
+use module_area::DataCard;
+use session_book::TaskCard;
+use std::alloc::{AllocError, Global};
+
+/// Which cards of a task may follow.
+#[derive(Clone, Copy)]
+pub(crate) enum TaskStage {
+    /// REG for register `least` and those above, DATA and INPUT.
+    Regs { least: u8 },
+    /// DATA and INPUT.
+    Data,
+    /// INPUT.
+    Inputs,
+}
+
+/// A task, as far as its cards were read.
+#[derive(Drop)]
+pub(crate) struct TaskPart {
+    pub task: TaskCard,
+    pub stage: TaskStage,
+}
+
+/// Whether the numbers of a TASK card are within their limits.
+pub(crate) fn is_within(private: u32, budget: u32, room: u32) -> bool
+    ensures { result ≡ parts.is_within private budget room }
+{
+    private <= 1_048_576 && budget <= 50_000_000 && room <= 65_536
+}
+
+/// The task of a TASK card.
+pub(crate) fn fresh_task(
+    alloc: Global,
+    name: Name,
+    entry: Addr,
+    private: u32,
+    budget: u32,
+    room: u32,
+) -> TaskPart
+    ensures { result ≡ parts.fresh_task name entry private budget room }
+{
+    let mut regs = [0u32; 16];
+    regs[14] = 0x00FF_FFFE;
+    regs[15] = entry.get();
+    let task = TaskCard {
+        name,
+        phase: 0,
+        entry,
+        private,
+        budget,
+        room,
+        regs,
+        cards: Vec::new(alloc),
+        input: Vec::new(alloc),
+    };
+    TaskPart {
+        task,
+        stage: TaskStage::Regs { least: 0 },
+    }
+}
+
+impl TaskStage {
+    fn takes_reg(self, number: u8) -> bool
+        ensures { result ≡ parts.takes_reg self number }
+    {
+        match self {
+            TaskStage::Regs { least } => least <= number,
+            _ => false,
+        }
+    }
+
+    fn takes_data(self) -> bool
+        ensures { result ≡ parts.takes_data self }
+    {
+        match self {
+            TaskStage::Inputs => false,
+            _ => true,
+        }
+    }
+}
+
+/// Whether the bytes are all inside private storage of this size.
+fn is_inside(private: u32, card: &DataCard) -> bool
+    ensures { result ≡ parts.is_inside private card.now }
+{
+    u64::from(card.offset) + card.bytes.len() as u64 <= u64::from(private)
+}
+
+impl TaskPart {
+    fn reg(self, reg: RegCard) -> Result<TaskPart, LineFault>
+        ensures ok { IfOk result (λ p. parts.after_reg self reg.number reg.value ≡ Some p) }
+        ensures bad { IsErrOf result LineFault.Bad → parts.after_reg self reg.number reg.value ≡ None }
+    {
+        if !self.stage.takes_reg(reg.number) {
+            return Err(LineFault::Bad);
+        }
+        let mut task = self.task;
+        task.regs[reg.number as usize] = reg.value;
+        Ok(TaskPart {
+            task,
+            stage: TaskStage::Regs {
+                least: reg.number + 1,
+            },
+        })
+    }
+
+    fn data(self, card: DataCard) -> Result<TaskPart, LineFault>
+        ensures ok { IfOk result (λ p. parts.after_data self card ≡ Some p) }
+        ensures bad { IsErrOf result LineFault.Bad → parts.after_data self card ≡ None }
+    {
+        if !(self.stage.takes_data() && is_inside(self.task.private, &card)) {
+            return Err(LineFault::Bad);
+        }
+        let mut task = self.task;
+        task.cards.push(card)?;
+        Ok(TaskPart {
+            task,
+            stage: TaskStage::Data,
+        })
+    }
+
+    fn input(self, bytes: &[u8]) -> Result<TaskPart, AllocError>
+        ensures { IfOk result (λ p. p ≡ parts.after_input self bytes.now) }
+    {
+        let mut task = self.task;
+        task.input.extend_from_slice(bytes)?;
+        Ok(TaskPart {
+            task,
+            stage: TaskStage::Inputs,
+        })
+    }
+
+    /// Takes a further card of the task.
+    pub(crate) fn card(self, card: Card) -> Result<TaskPart, LineFault>
+        ensures ok { IfOk result (λ p. parts.task_more self (view card) ≡ Some p) }
+        ensures bad { IsErrOf result LineFault.Bad → parts.task_more self (view card) ≡ None }
+    {
+        match card {
+            Card::Reg(reg) => self.reg(reg),
+            Card::Data(data) => self.data(data),
+            Card::Input(bytes) => Ok(self.input(&bytes)?),
+            _ => Err(LineFault::Bad),
+        }
+    }
+}
