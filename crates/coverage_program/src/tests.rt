@@ -1,11 +1,13 @@
 //! Jobs through `cover`, from the bytes in to the bytes out, over memory and over areas on one thread.
 mod cases;
+mod programs;
 
 use crate::cover::cover;
 use crate::status::Status;
 use cases::CASES;
 use cov_outside::{MemSink, MemSource, SureSink, SureSource};
 use module_area::{Areas, PlainAreas, Tally};
+use programs::PROGRAMS;
 use std::alloc::Global;
 use std::test::Fail;
 
@@ -185,6 +187,25 @@ fn answers_each_job(rt: HostRuntime) -> Result<(), Fail> {
         assert_eq!(rt; came.text.as_slice(), *text, "{name}");
         assert_eq!(rt; came.made, u64::from(*status == 0), "{name}");
         assert_eq!(rt; came.tallies.len() as u64, came.made, "{name}");
+    }
+    Ok(())
+}
+
+#[test]
+fn runs_each_program(rt: HostRuntime) -> Result<(), Fail> {
+    let alloc = rt.alloc();
+    for (name, job, tally, text) in &PROGRAMS {
+        let came = run(alloc, job.to_vec(alloc)?, Vec::new(alloc), Vec::new(alloc))?;
+        assert_eq!(rt; came.text.as_slice(), *text, "{name}");
+        assert_eq!(rt; came.status, Status(0), "{name}");
+        assert_eq!(rt; came.made, 1, "{name}");
+        let [t] = came.tallies.as_slice() else {
+            return Err(Fail::from("one tally"));
+        };
+        if let Some(counts) = tally {
+            assert_eq!(rt; (t.plants, t.fetches, t.marks, t.lifts), *counts, "{name}");
+        }
+        assert_eq!(rt; t.closes, 0, "{name}");
     }
     Ok(())
 }
