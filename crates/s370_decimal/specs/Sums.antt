@@ -4,12 +4,12 @@ use Rattle.std.specs.Int.{is_negative}
 use Rattle.std.specs.Int.RustNames.{unsigned_abs}
 use Rattle.cov_base.specs.States.{Machine}
 use Rattle.cov_base.specs.Memory.{Memory}
-use Rattle.s370_state.specs.Row.{Row, Outcome, Completes, with_cc}
+use Rattle.s370_state.specs.Row.{Row, Outcome, Completes, on_data, with_cc}
 use Rattle.s370_state.specs.Words.{sign_code}
 use Rattle.s370_decode.specs.Fields.{e1, e2}
 use Rattle.s370_decode.specs.declared.code.Code.{Code}
-use Rattle.s370_decimal.specs.Digits.{field_at, number}
-use Rattle.s370_decimal.specs.Operands.{l1, l2, replaces, compares, operands, on_data}
+use Rattle.s370_state.specs.Digits.{field_at, number}
+use Rattle.s370_decimal.specs.Operands.{l1, l2, replaces, compares, operands}
 use Rattle.s370_decimal.specs.Results.{kept, results}
 
 -- the first field becomes the number

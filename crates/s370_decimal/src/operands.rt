@@ -1,15 +1,13 @@
 //! The two fields that an operation works on, tested and read.
-ghost use Rattle.std.specs.Prelude.{◌≡◌, ℕ, ◌+◌, ◌*◌, ◌^◌, ◌<◌, ◌≤◌, ℤ, pos, neg_ℤ, ◌≤ℤ◌, ◌<ℤ◌, [], ◌∷◌, Some, None, true, IfOk, IfErr, IfSome};
+ghost use Rattle.std.specs.Prelude.{◌≡◌, ℕ, ◌+◌, ◌*◌, ◌^◌, ◌<◌, ◌≤◌, [], ◌∷◌, Some, None, true, IfOk, IfErr, IfSome};
 ghost use Rattle.cov_base.specs.Memory.{can_reach, can_store};
 ghost use Rattle.s370_state.specs.Row.{reads, use_tests};
-ghost use Rattle.s370_decimal.specs.Digits.{number};
 ghost use Rattle.s370_decode.specs.Fields.{e1, e2};
 ghost use Rattle.s370_decimal.specs.Operands.{l1, l2, replaces, compares, operands};
 
-use crate::packed::{Field, field_at};
 use cov_base::Addr;
 use s370_decode::Code;
-use s370_state::{Cpu, Ending, Space, test_read_both, test_store_read};
+use s370_state::{Cpu, Ending, Field, Space, field_at, test_read_both, test_store_read};
 
 /// What the two fields of an operation hold.
 #[derive(Clone, Copy)]
@@ -82,20 +80,5 @@ pub fn read_operands<P: Space>(cpu: &Cpu, space: &P, code: &Code) -> Option<Oper
             None => None,
         },
         None => None,
-    }
-}
-
-/// The field as a number.
-#[tactic(auto, unfolding(crate::specs::Digits::number))]
-pub fn number(f: Field) -> i128
-    requires { f.magnitude < 10000000000000000000000000000000 }
-    ensures value { result ≡ number f }
-    ensures low { neg_ℤ (pos 10000000000000000000000000000000) <ℤ result }
-    ensures high { result <ℤ pos 10000000000000000000000000000000 }
-{
-    if f.minus {
-        -(f.magnitude as i128)
-    } else {
-        f.magnitude as i128
     }
 }

@@ -1,5 +1,5 @@
 //! Multiplication and division.
-#![tactic(auto, using(s370_state::proofs::Performs::ill_formed, s370_state::proofs::Performs::well_passes, s370_state::proofs::Performs::well_refuses, crate::proofs::Data::good_data, crate::proofs::Data::bad_data))]
+#![tactic(auto, using(s370_state::proofs::Performs::ill_formed, s370_state::proofs::Performs::well_passes, s370_state::proofs::Performs::well_refuses, s370_state::proofs::Performs::good_data, s370_state::proofs::Performs::bad_data))]
 
 ghost use Rattle.std.specs.Prelude.{◌≡◌, ◌+◌, ◌-◌, ◌*◌, ◌/◌, ◌%◌, ◌^◌, ◌<◌, ◌≤◌, true, if◌then◌else◌, not};
 ghost use Rattle.cov_base.specs.Memory.{can_store};
@@ -10,9 +10,8 @@ ghost use Rattle.s370_decimal.specs.Products.{is_shorter, signs_differ, multipli
 
 use crate::fields::fits;
 use crate::operands::{Operands, first_at, read_operands, test_replaced};
-use crate::packed::put_field;
 use s370_decode::Code;
-use s370_state::{Cpu, Ending, Next, Space};
+use s370_state::{Cpu, Ending, Next, Space, put_field};
 
 /// Whether the second field has at most 8 bytes, and fewer than the first.
 fn is_shorter(code: &Code) -> bool

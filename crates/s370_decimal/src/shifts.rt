@@ -1,20 +1,19 @@
 //! The shift.
-#![tactic(auto, using(s370_state::proofs::Performs::passes, s370_state::proofs::Performs::refuses, crate::proofs::Data::good_data, crate::proofs::Data::bad_data))]
+#![tactic(auto, using(s370_state::proofs::Performs::passes, s370_state::proofs::Performs::refuses, s370_state::proofs::Performs::good_data, s370_state::proofs::Performs::bad_data))]
 
 ghost use Rattle.std.specs.Prelude.{◌≡◌, ◌+◌, ◌-◌, ◌*◌, ◌/◌, ◌%◌, ◌^◌, ◌<◌, ◌≤◌, true, None, nat_le, if◌then◌else◌, IfSome};
 ghost use Rattle.cov_base.specs.Memory.{can_reach};
 ghost use Rattle.s370_state.specs.Row.{Performs};
-ghost use Rattle.s370_decimal.specs.Digits.{field_at};
+ghost use Rattle.s370_state.specs.Digits.{field_at};
 ghost use Rattle.s370_decimal.specs.Results.{kept};
 ghost use Rattle.s370_decimal.specs.Shifts.{distance, shifted, row_srp};
 
 use crate::fields::power;
 use crate::operands::{first_at, second_at};
-use crate::packed::{Field, field_at};
 use crate::results::{Kept, keep, put_result};
 use cov_base::Addr;
 use s370_decode::Code;
-use s370_state::{Cpu, Ending, Next, Space, test_store};
+use s370_state::{Cpu, Ending, Field, Next, Space, field_at, test_store};
 
 /// The low six bits of the second address.
 fn distance(cpu: &Cpu, code: &Code) -> u8

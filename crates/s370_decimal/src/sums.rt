@@ -1,22 +1,19 @@
 //! Sums, differences and comparisons.
-#![tactic(auto, using(s370_state::proofs::Performs::passes, s370_state::proofs::Performs::refuses, crate::proofs::Data::good_data, crate::proofs::Data::bad_data))]
+#![tactic(auto, using(s370_state::proofs::Performs::passes, s370_state::proofs::Performs::refuses, s370_state::proofs::Performs::good_data, s370_state::proofs::Performs::bad_data))]
 
 ghost use Rattle.std.specs.Prelude.{◌≡◌, ◌<◌, ◌≤◌, ◌+ℤ◌, ◌-ℤ◌};
 ghost use Rattle.std.specs.Int.{is_negative};
 ghost use Rattle.std.specs.Int.RustNames.{unsigned_abs};
 ghost use Rattle.s370_state.specs.Row.{Performs};
 ghost use Rattle.s370_state.specs.Words.{sign_code};
-ghost use Rattle.s370_decimal.specs.Digits.{number};
+ghost use Rattle.s370_state.specs.Digits.{number};
 ghost use Rattle.s370_decimal.specs.Results.{kept};
 ghost use Rattle.s370_decimal.specs.Sums.{row_ap, row_sp, row_zap, row_cp};
 
-use crate::operands::{
-    Operands, first_at, number, read_operands, second_at, test_compared, test_replaced,
-};
-use crate::packed::field_at;
+use crate::operands::{Operands, first_at, read_operands, second_at, test_compared, test_replaced};
 use crate::results::{Kept, keep, put_result};
 use s370_decode::Code;
-use s370_state::{Cpu, Ending, Next, Space};
+use s370_state::{Cpu, Ending, Next, Space, field_at, number};
 
 /// What a field of length code l keeps of a number.
 fn keep_number(l: u8, z: i128) -> Kept

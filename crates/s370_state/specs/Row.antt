@@ -81,6 +81,11 @@ perform m s row = after_tests s row.outcome (tests m row.well row.uses)
 abbrev pub at_once : Outcome → Row
 at_once o = record { well = true; uses = []; outcome = o }
 
+-- an outcome by the data that was read; bad data is code 7
+unfoldable pub on_data : {A : Type 0} → Option A → (A → Outcome) → Outcome
+on_data None f = Program 7
+on_data (Some x) f = f x
+
 -- the word at an address is the operand
 abbrev pub from_word : Memory → Machine → ℕ → (ℕ → Outcome) → Row
 from_word m s a f = record { well = true; uses = reads a 4 ∷ []; outcome = f (number_at m s.bytes a 4) }
