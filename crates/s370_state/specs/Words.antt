@@ -8,11 +8,6 @@ unfoldable pub number_at : Memory → List ℕ → ℕ → ℕ → ℕ
 number_at m bytes a zero = 0
 number_at m bytes a (suc n) = number_at m bytes a n * 256 + byte_at m bytes (wrap (a + n))
 
--- the n bytes from a on become a number
-unfoldable pub store_number : List ℕ → ℕ → ℕ → ℕ → List ℕ
-store_number bytes a zero v = bytes
-store_number bytes a (suc n) v = store_number (slice_set bytes (wrap (a + n)) (v % 256)) a n (v / 256)
-
 -- a word of a register is stored
 unfoldable pub store_word : List ℕ → ℕ → ℕ → List ℕ
 store_word bytes a v =

@@ -14,8 +14,8 @@ pub use cpu::Cpu;
 pub use endings::{Ending, Next, next_after};
 pub use io::TaskIo;
 pub use operands::{
-    byte_of, double_of, ending_of, half_of, number_of, put_double, put_half, put_into, put_number,
-    put_word, read_word, test_read, test_read_both, test_store, test_store_read, word_of,
+    byte_of, double_of, ending_of, half_of, put_double, put_half, put_into, put_word, read_word,
+    test_read, test_read_both, test_store, test_store_read, word_of,
 };
 pub use packed::{Field, field_at, is_minus, is_sign, number, put_field};
 pub use plain_space::PlainSpace;
