@@ -16,20 +16,6 @@ pub struct Operands {
     pub second: Field,
 }
 
-/// The first field's address.
-pub fn first_at(cpu: &Cpu, code: &Code) -> Addr
-    ensures { result ≡ e1 cpu.now code.now }
-{
-    cpu.address(code.b1(), 0, code.d1())
-}
-
-/// The second field's address, or a distance of a shift.
-pub fn second_at(cpu: &Cpu, code: &Code) -> Addr
-    ensures { result ≡ e2 cpu.now code.now }
-{
-    cpu.address(code.b2(), 0, code.d2())
-}
-
 /// Tests a first field that is replaced and a second that is read.
 pub fn test_replaced<P: Space>(cpu: &Cpu, space: &P, code: &Code) -> Result<(), Ending>
     ensures refused { IfErr result (λ e. use_tests (P.memory space.now) (replaces cpu.now code.now) ≡ Some e) }
@@ -38,7 +24,8 @@ pub fn test_replaced<P: Space>(cpu: &Cpu, space: &P, code: &Code) -> Result<(), 
     ensures store { IfOk result (λ _. can_store (P.memory space.now) (e1 cpu.now code.now) (l1 code.now + 1) ≡ true) }
     ensures reach_second { IfOk result (λ _. can_reach (P.memory space.now) (e2 cpu.now code.now) (l2 code.now + 1) ≡ true) }
 {
-    let (a, b) = (first_at(cpu, code), second_at(cpu, code));
+    let a = cpu.based(code.b1(), code.d1());
+    let b = cpu.based(code.b2(), code.d2());
     test_store_read(
         space,
         a,
@@ -55,7 +42,8 @@ pub fn test_compared<P: Space>(cpu: &Cpu, space: &P, code: &Code) -> Result<(), 
     ensures reach { IfOk result (λ _. can_reach (P.memory space.now) (e1 cpu.now code.now) (l1 code.now + 1) ≡ true) }
     ensures reach_second { IfOk result (λ _. can_reach (P.memory space.now) (e2 cpu.now code.now) (l2 code.now + 1) ≡ true) }
 {
-    let (a, b) = (first_at(cpu, code), second_at(cpu, code));
+    let a = cpu.based(code.b1(), code.d1());
+    let b = cpu.based(code.b2(), code.d2());
     test_read_both(
         space,
         a,
@@ -74,8 +62,8 @@ pub fn read_operands<P: Space>(cpu: &Cpu, space: &P, code: &Code) -> Option<Oper
     ensures first_most { IfSome result (λ o. o.first.magnitude < 10000000000000000000000000000000) }
     ensures second_most { IfSome result (λ o. o.second.magnitude < 10000000000000000000000000000000) }
 {
-    match field_at(space, first_at(cpu, code), code.l1()) {
-        Some(first) => match field_at(space, second_at(cpu, code), code.l2()) {
+    match field_at(space, cpu.based(code.b1(), code.d1()), code.l1()) {
+        Some(first) => match field_at(space, cpu.based(code.b2(), code.d2()), code.l2()) {
             Some(second) => Some(Operands { first, second }),
             None => None,
         },

@@ -9,7 +9,7 @@ ghost use Rattle.s370_decimal.specs.Operands.{l1, l2};
 ghost use Rattle.s370_decimal.specs.Products.{is_shorter, signs_differ, multiplied, divided, row_mp, row_dp};
 
 use crate::fields::fits;
-use crate::operands::{Operands, first_at, read_operands, test_replaced};
+use crate::operands::{Operands, read_operands, test_replaced};
 use s370_decode::Code;
 use s370_state::{Cpu, Ending, Next, Space, put_field};
 
@@ -41,8 +41,9 @@ fn put_product<P: Space>(cpu: &Cpu, space: &mut P, code: &Code, o: Operands) -> 
     if !fits(l1 - l2 - 1, o.first.magnitude) {
         return Next::Ended(Ending::Abend(7));
     }
+    let at = cpu.based(code.b1(), code.d1());
     let product = o.first.magnitude * o.second.magnitude;
-    put_field(space, first_at(cpu, code), l1, product, signs_differ(o));
+    put_field(space, at, l1, product, signs_differ(o));
     Next::On
 }
 
@@ -60,7 +61,7 @@ fn put_quotient<P: Space>(cpu: &Cpu, space: &mut P, code: &Code, o: Operands) ->
     if divisor == 0 || !fits(l1 - l2 - 1, dividend / divisor) {
         return Next::Ended(Ending::Abend(11));
     }
-    let at = first_at(cpu, code);
+    let at = cpu.based(code.b1(), code.d1());
     let right = at.plus(u32::from(l1 - l2));
     put_field(space, at, l1 - l2 - 1, dividend / divisor, signs_differ(o));
     put_field(space, right, l2, dividend % divisor, o.first.minus);

@@ -2,13 +2,13 @@
 -- "General Instructions", "Insert Characters under Mask", "Store Characters under Mask", "Compare Logical Characters
 -- under Mask"). A zero mask selects no byte, and the operand then has none.
 use Rattle.std.specs.Prelude.{ℕ, zero, suc, ◌+◌, ◌*◌, ◌/◌, ◌%◌, true, ◌==◌, nat_le, if◌then◌else◌, List, [], ◌∷◌, count_ones, slice_set}
+use Rattle.std.specs.Ordering.{nat_cmp}
 use Rattle.cov_base.specs.States.{Machine}
 use Rattle.cov_base.specs.Memory.{Memory, byte_at, wrap}
 use Rattle.s370_state.specs.Row.{Row, Completes, reads, stores, reg, with_reg, with_cc, with_bytes}
-use Rattle.s370_state.specs.Words.{number_at}
+use Rattle.s370_state.specs.Words.{number_at, order_code}
 use Rattle.s370_decode.specs.Fields.{r1, r2, e2}
 use Rattle.s370_decode.specs.declared.code.Code.{Code}
-use Rattle.s370_logic.specs.Comparisons.{order_code}
 
 -- the operand's length: a byte for each one bit of the mask
 abbrev pub size : Code → ℕ
@@ -62,5 +62,5 @@ row_clm m s c =
     record {
       well = true;
       uses = reads a (size c) ∷ [];
-      outcome = Completes (with_cc s (order_code (gathered 4 (r2 c) (reg s (r1 c))) (number_at m s.bytes a (size c))));
+      outcome = Completes (with_cc s (order_code (nat_cmp (gathered 4 (r2 c) (reg s (r1 c))) (number_at m s.bytes a (size c)))));
     }

@@ -7,10 +7,9 @@ ghost use Rattle.s370_state.specs.Row.{Performs};
 ghost use Rattle.s370_state.specs.Words.{number_at};
 ghost use Rattle.s370_logic.specs.Masked.{size, gathered, inserted, insert_code, store_number, row_icm, row_stcm, row_clm};
 
-use crate::comparisons::order_code;
 use cov_base::Addr;
 use s370_decode::Code;
-use s370_state::{Cpu, Next, Space, byte_of, put_into, test_read, test_store};
+use s370_state::{Cpu, Next, Space, byte_of, order_code, put_into, test_read, test_store};
 
 /// The operand's length: how many bytes the mask selects.
 fn size(code: &Code) -> u32
@@ -104,7 +103,7 @@ pub fn insert_under_mask<P: Space>(cpu: &mut Cpu, space: &mut P, code: &Code) ->
     ensures memory { P.memory space.new ≡ P.memory space.old }
     ensures row { Performs (P.memory space.old) cpu.old (P.bytes space.old) (λ m s. row_icm m s code.now) cpu.new (P.bytes space.new) result }
 {
-    let at = cpu.address(code.b2(), 0, code.d2());
+    let at = cpu.based(code.b2(), code.d2());
     let n = size(code);
     if let Err(e) = test_read(space, at, n) {
         return Next::Ended(e);
@@ -121,7 +120,7 @@ pub fn store_under_mask<P: Space>(cpu: &mut Cpu, space: &mut P, code: &Code) -> 
     ensures memory { P.memory space.new ≡ P.memory space.old }
     ensures row { Performs (P.memory space.old) cpu.old (P.bytes space.old) (λ m s. row_stcm m s code.now) cpu.new (P.bytes space.new) result }
 {
-    let at = cpu.address(code.b2(), 0, code.d2());
+    let at = cpu.based(code.b2(), code.d2());
     let n = size(code);
     if let Err(e) = test_store(space, at, n) {
         return Next::Ended(e);
@@ -136,12 +135,12 @@ pub fn compare_under_mask<P: Space>(cpu: &mut Cpu, space: &mut P, code: &Code) -
     ensures memory { P.memory space.new ≡ P.memory space.old }
     ensures row { Performs (P.memory space.old) cpu.old (P.bytes space.old) (λ m s. row_clm m s code.now) cpu.new (P.bytes space.new) result }
 {
-    let at = cpu.address(code.b2(), 0, code.d2());
+    let at = cpu.based(code.b2(), code.d2());
     let n = size(code);
     if let Err(e) = test_read(space, at, n) {
         return Next::Ended(e);
     }
     let first = gathered(4, code.m3(), cpu.reg(code.r1()));
-    cpu.set_cc(order_code(first, number_of(space, at, n)));
+    cpu.set_cc(order_code(first.cmp(&number_of(space, at, n))));
     Next::On
 }

@@ -14,7 +14,7 @@ pub fn compare_and_swap<P: Space>(cpu: &mut Cpu, space: &mut P, code: &Code) -> 
     ensures memory { P.memory space.new ≡ P.memory space.old }
     ensures row { Performs (P.memory space.old) cpu.old (P.bytes space.old) (λ m s. row_cs m s code.now) cpu.new (P.bytes space.new) result }
 {
-    let at = cpu.address(code.b2(), 0, code.d2());
+    let at = cpu.based(code.b2(), code.d2());
     if at.get() % 4 != 0 {
         return Next::Ended(Ending::Abend(6));
     }
@@ -37,7 +37,7 @@ pub fn compare_double_and_swap<P: Space>(cpu: &mut Cpu, space: &mut P, code: &Co
     ensures memory { P.memory space.new ≡ P.memory space.old }
     ensures row { Performs (P.memory space.old) cpu.old (P.bytes space.old) (λ m s. row_cds m s code.now) cpu.new (P.bytes space.new) result }
 {
-    let at = cpu.address(code.b2(), 0, code.d2());
+    let at = cpu.based(code.b2(), code.d2());
     let (r1, r3) = (code.r1(), code.r3());
     if r1 % 2 != 0 || r3 % 2 != 0 || at.get() % 8 != 0 {
         return Next::Ended(Ending::Abend(6));

@@ -114,6 +114,10 @@ with_reg s r v = record { cpu = record { regs = slice_set s.cpu.regs r v; ia = s
 abbrev pub with_pair : List ℕ → ℕ → ℕ → List ℕ
 with_pair regs r v = slice_set (slice_set regs r (v / 4294967296)) (r + 1) (v % 4294967296)
 
+-- the registers with an address in bits 8-31 of one
+abbrev pub with_address : List ℕ → ℕ → ℕ → List ℕ
+with_address regs r a = slice_set regs r (slice_index regs r / 16777216 * 16777216 + a)
+
 abbrev pub with_regs : Machine → List ℕ → Machine
 with_regs s regs = record { cpu = record { regs = regs; ia = s.cpu.ia; condition = s.cpu.condition; mask = s.cpu.mask }; bytes = s.bytes }
 

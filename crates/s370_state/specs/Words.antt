@@ -1,6 +1,8 @@
 -- Words and halfwords in storage, and in registers.
 use Rattle.std.specs.Prelude.{ℕ, ◌+◌, ◌*◌, ◌%◌, ◌/◌, ◌-◌, List, slice_set, nat_lt, ◌==◌, if◌then◌else◌, Bool, zero, suc, ℤ, pos, negsuc}
 use Rattle.std.specs.Int.{cast_signed, w16, w32}
+use Rattle.std.specs.declared.cmp.Ordering.{Ordering}
+use Rattle.std.specs.declared.cmp.Ordering.TheVariants.{Less, Equal, Greater}
 use Rattle.cov_base.specs.Memory.{Memory, byte_at, wrap}
 
 -- the number of the n bytes from a on
@@ -43,3 +45,9 @@ is_word (negsuc n) = nat_lt n 2147483648
 unfoldable pub sign_code : ℤ → ℕ
 sign_code (pos n) = if n == 0 then 0 else 2
 sign_code (negsuc n) = 1
+
+-- the code of a comparison: 0 where the operands are equal, 1 where the first is low, 2 where it is high
+abbrev pub order_code : Ordering → ℕ
+order_code Equal = 0
+order_code Less = 1
+order_code Greater = 2

@@ -20,7 +20,7 @@ pub use operands::{
 pub use packed::{Field, field_at, is_minus, is_sign, number, put_field};
 pub use plain_space::PlainSpace;
 pub use space::{Refused, Space};
-pub use words::{is_word, low_word, sign_code, signed, signed_half};
+pub use words::{is_word, low_word, order_code, sign_code, signed, signed_half};
 
 #[cfg(test)]
 mod tests;

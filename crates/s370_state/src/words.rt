@@ -1,6 +1,9 @@
-//! Signed numbers of 32 bits in registers (Principles of Operation, "Fixed-Point Arithmetic", "Number Representation").
+//! Signed numbers of 32 bits in registers (Principles of Operation, "Fixed-Point Arithmetic", "Number Representation"),
+//! and the condition codes of numbers.
 ghost use Rattle.std.specs.Prelude.{◌≡◌, ℕ, ◌+◌, ◌%◌, ◌<◌, ◌≤◌, ◌^◌, ℤ, pos, neg_ℤ, ◌≤ℤ◌, ◌<ℤ◌};
-ghost use Rattle.s370_state.specs.Words.{signed, signed_half, low_word, is_word, sign_code};
+ghost use Rattle.s370_state.specs.Words.{signed, signed_half, low_word, is_word, sign_code, order_code};
+
+use std::cmp::Ordering;
 
 /// The register as a signed number, -2^31 to 2^31 - 1.
 #[tactic(auto, unfolding(crate::specs::Words::signed))]
@@ -54,5 +57,17 @@ pub fn sign_code(z: i64) -> u8
         1
     } else {
         2
+    }
+}
+
+/// The condition code of a comparison: 0 equal, 1 the first low, 2 the first high.
+pub fn order_code(order: Ordering) -> u8
+    ensures value { result ≡ order_code order }
+    ensures below { result ≤ 2 }
+{
+    match order {
+        Ordering::Equal => 0,
+        Ordering::Less => 1,
+        Ordering::Greater => 2,
     }
 }
