@@ -6,7 +6,8 @@ use Rattle.std.specs.Int.RustNames.{unsigned_abs}
 use Rattle.cov_base.specs.States.{Machine}
 use Rattle.cov_base.specs.Memory.{Memory}
 use Rattle.s370_state.specs.Row.{Row, Outcome, Completes, Program, on_data, reads, stores, reg, with_reg, with_bytes}
-use Rattle.s370_state.specs.Words.{signed, low_word, is_word}
+use Rattle.s370_state.specs.Words.{signed}
+use Rattle.s370_fixed.specs.Words.{low_word, is_word}
 use Rattle.s370_state.specs.Digits.{field_at, number, store_field}
 use Rattle.s370_state.specs.declared.packed.Field.{Field}
 use Rattle.s370_decode.specs.Fields.{r1, ex}

@@ -6,10 +6,10 @@ ghost use Rattle.s370_state.specs.Row.{Performs, machine_of, after, finish};
 ghost use Rattle.s370_fixed.specs.Conversions.{converted, row_cvb, row_cvd};
 
 use crate::operands::address;
+use crate::words::{is_word, low_word};
 use s370_decode::Code;
 use s370_state::{
-    Cpu, Ending, Field, Next, Space, field_at, is_word, low_word, number, put_field, signed,
-    test_read, test_store,
+    Cpu, Ending, Field, Next, Space, field_at, number, put_field, signed, test_read, test_store,
 };
 
 /// The length code of a doubleword.

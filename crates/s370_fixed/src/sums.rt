@@ -4,7 +4,8 @@
 ghost use Rattle.std.specs.Prelude.{◌≡◌, ℕ, ◌+◌, ◌-◌, ◌%◌, ◌<◌, ◌≤◌, ◌^◌, ℤ, pos, neg_ℤ, ◌+ℤ◌, ◌-ℤ◌, ◌≤ℤ◌, ◌<ℤ◌, true, if◌then◌else◌, slice_set, slice_index};
 ghost use Rattle.std.specs.Ordering.{int_cmp};
 ghost use Rattle.s370_state.specs.Row.{Performs, next_after};
-ghost use Rattle.s370_state.specs.Words.{signed, low_word, is_word, sign_code, order_code};
+ghost use Rattle.s370_state.specs.Words.{signed, order_code};
+ghost use Rattle.s370_fixed.specs.Words.{low_word, is_word, sign_code};
 ghost use Rattle.s370_fixed.specs.Sums.{carry_code, row_ar, row_a, row_ah, row_sr, row_s, row_sh, row_alr, row_al, row_slr, row_sl, row_cr, row_c, row_ch};
 
 use crate::operands::{half, set_result, word};

@@ -2,7 +2,7 @@
 ghost use Rattle.std.specs.Prelude.{◌≡◌, ℕ, ◌+◌, ◌-◌, ◌*◌, ◌%◌, ◌/◌, ◌<◌, ◌≤◌, ◌^◌, List, [], ◌∷◌, true, IfOk, IfErr, slice_set, if◌then◌else◌, ◌&&◌};
 ghost use Rattle.cov_base.specs.Memory.{Memory, byte_at, is_accessible, is_private, can_reach, can_store, wrap};
 ghost use Rattle.s370_state.specs.Row.{Use, reads, stores, use_tests};
-ghost use Rattle.s370_state.specs.Words.{number_at, store_half, store_word, store_double};
+ghost use Rattle.s370_state.specs.Words.{number_at, store_word};
 ghost use Rattle.s370_state.specs.Answers.{ending_of};
 
 use crate::endings::Ending;
@@ -164,49 +164,4 @@ pub fn put_word<P: Space>(space: &mut P, at: Addr, i: u32, len: u32, value: u32)
     put_into(space, at, i + 1, len, (value / 65_536 % 256) as u8);
     put_into(space, at, i + 2, len, (value / 256 % 256) as u8);
     put_into(space, at, i + 3, len, (value % 256) as u8);
-}
-
-/// The doubleword at a distance into an operand that was tested, unsigned.
-#[tactic(auto, using(crate::proofs::Tested::double_of_words))]
-pub fn double_of<P: Space>(space: &P, at: Addr, i: u32, len: u32) -> u64
-    requires reach { can_reach (P.memory space.now) at len ≡ true }
-    requires below { i + 8 ≤ len }
-    ensures { result ≡ number_at (P.memory space.now) (P.bytes space.now) (at + i) 8 }
-{
-    u64::from(word_of(space, at, i, len)) * 4_294_967_296
-        + u64::from(word_of(space, at, i + 4, len))
-}
-
-/// A doubleword is stored at a distance into an operand that was tested.
-#[tactic(auto, unfolding(crate::specs::Words::store_double))]
-pub fn put_double<P: Space>(space: &mut P, at: Addr, i: u32, len: u32, value: u64)
-    requires store { can_store (P.memory space.old) at len ≡ true }
-    requires below { i + 8 ≤ len }
-    ensures memory { P.memory space.new ≡ P.memory space.old }
-    ensures bytes { P.bytes space.new ≡ store_double (P.bytes space.old) (at + i) value }
-{
-    put_word(space, at, i, len, (value / 4_294_967_296) as u32);
-    put_word(space, at, i + 4, len, (value % 4_294_967_296) as u32);
-}
-
-/// The halfword at a distance into an operand that was tested, unsigned.
-#[tactic(auto, using(crate::proofs::Tested::half_of_bytes))]
-pub fn half_of<P: Space>(space: &P, at: Addr, i: u32, len: u32) -> u16
-    requires reach { can_reach (P.memory space.now) at len ≡ true }
-    requires below { i + 2 ≤ len }
-    ensures { result ≡ number_at (P.memory space.now) (P.bytes space.now) (at + i) 2 }
-{
-    u16::from_be_bytes([byte_of(space, at, i, len), byte_of(space, at, i + 1, len)])
-}
-
-/// A word's low halfword is stored at a distance into an operand that was tested.
-#[tactic(auto, unfolding(crate::specs::Words::store_half))]
-pub fn put_half<P: Space>(space: &mut P, at: Addr, i: u32, len: u32, value: u32)
-    requires store { can_store (P.memory space.old) at len ≡ true }
-    requires below { i + 2 ≤ len }
-    ensures memory { P.memory space.new ≡ P.memory space.old }
-    ensures bytes { P.bytes space.new ≡ store_half (P.bytes space.old) (at + i) value }
-{
-    put_into(space, at, i, len, (value / 256 % 256) as u8);
-    put_into(space, at, i + 1, len, (value % 256) as u8);
 }
