@@ -1,11 +1,10 @@
 //! The two fields that an operation works on, tested and read.
 ghost use Rattle.std.specs.Prelude.{◌≡◌, ℕ, ◌+◌, ◌*◌, ◌^◌, ◌<◌, ◌≤◌, [], ◌∷◌, Some, None, true, IfOk, IfErr, IfSome};
 ghost use Rattle.cov_base.specs.Memory.{can_reach, can_store};
-ghost use Rattle.s370_state.specs.Row.{reads, use_tests};
+ghost use Rattle.s370_state.specs.Row.{use_tests};
 ghost use Rattle.s370_decode.specs.Fields.{e1, e2};
 ghost use Rattle.s370_decimal.specs.Operands.{l1, l2, replaces, compares, operands};
 
-use cov_base::Addr;
 use s370_decode::Code;
 use s370_state::{Cpu, Ending, Field, Space, field_at, test_read_both, test_store_read};
 

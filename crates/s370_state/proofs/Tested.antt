@@ -1,5 +1,5 @@
 -- What an operand that passed its tests gives for each of its bytes.
-use Rattle.std.proofs.Common.{◌≡◌, ℕ, ◌+◌, ◌*◌, ◌<◌, zero, suc, Bool, true, false, ◌&&◌, List, arith, zero-add, add-zero, add_assoc, refl, ◌⊎◌, inl, inr}
+use Rattle.std.proofs.Common.{◌≡◌, ℕ, ◌+◌, ◌*◌, ◌<◌, zero, suc, Bool, true, false, ◌&&◌, List, arith, zero-add, add-zero, refl, ◌⊎◌, inl, inr}
 use Rattle.cov_base.specs.Memory.{Memory, can_reach, can_store, is_accessible, is_private, wrap, byte_at}
 use Rattle.s370_state.specs.Words.{number_at}
 
