@@ -92,7 +92,7 @@ fn branch_target(cpu: &Cpu, code: &Code, op: Op) -> Addr
 {
     match op {
         Op::BCR | Op::BCTR | Op::BALR | Op::BASR => Addr::of(cpu.reg(code.r2())),
-        Op::BXH | Op::BXLE => cpu.address(code.b2(), 0, code.d2()),
+        Op::BXH | Op::BXLE => cpu.based(code.b2(), code.d2()),
         _ => cpu.address(code.b2(), code.x2(), code.d2()),
     }
 }

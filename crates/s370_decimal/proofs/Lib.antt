@@ -1,4 +1,2 @@
-pub mod Data
-pub mod Halves
 pub mod Powers
 pub mod Shifting

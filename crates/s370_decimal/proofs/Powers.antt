@@ -12,9 +12,6 @@ power_above k = one-le-pow k 10 (lit< tt)
 pub power_most : (k : ℕ) → k ≤ 31 → 10 ^ k ≤ 10000000000000000000000000000000
 power_most k l = pow-le-pow_right {n = 10} (lit< tt) {i = k} {j = 31} l
 
-pub digits_most : (l v : ℕ) → l ≤ 15 → v < 10 ^ (2 * l + 1) → v < 10000000000000000000000000000000
-digits_most l v h e = omega (arith, e, power_most (2 * l + 1) (omega arith))
-
 pub power_fits : (k : ℕ) → k ≤ 38 → 10 ^ k < 340282366920938463463374607431768211456
 power_fits k l = let b : 10 ^ k ≤ 10 ^ 38 = pow-le-pow_right {n = 10} (lit< tt) {i = k} {j = 38} l in omega (arith, b)
 

@@ -2,11 +2,11 @@
 use Rattle.std.specs.Prelude.{ℕ, ◌+◌, Option, Some, None, List, [], ◌∷◌}
 use Rattle.cov_base.specs.States.{CpuView}
 use Rattle.cov_base.specs.Memory.{Memory}
-use Rattle.s370_state.specs.Row.{Use, Outcome, Program, reads, stores}
+use Rattle.s370_state.specs.Row.{Use, reads, stores}
 use Rattle.s370_decode.specs.Fields.{r1, r2, e1, e2}
 use Rattle.s370_decode.specs.declared.code.Code.{Code}
-use Rattle.s370_decimal.specs.Digits.{field_at}
-use Rattle.s370_decimal.specs.declared.packed.Field.{Field}
+use Rattle.s370_state.specs.Digits.{field_at}
+use Rattle.s370_state.specs.declared.packed.Field.{Field}
 use Rattle.s370_decimal.specs.declared.operands.Operands.{Operands}
 
 -- the length codes
@@ -32,8 +32,3 @@ both (Some f) (Some g) = Some (record { first = f; second = g })
 -- what the two fields hold; none where a digit or the sign of either is bad
 abbrev pub operands : Memory → CpuView → List ℕ → Code → Option Operands
 operands m s bytes c = both (field_at m bytes (e1 s c) (l1 c)) (field_at m bytes (e2 s c) (l2 c))
-
--- an outcome by what was read; a bad digit or sign is code 7
-unfoldable pub on_data : {A : Type 0} → Option A → (A → Outcome) → Outcome
-on_data None f = Program 7
-on_data (Some x) f = f x

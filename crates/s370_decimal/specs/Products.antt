@@ -3,12 +3,12 @@
 use Rattle.std.specs.Prelude.{ℕ, ◌+◌, ◌-◌, ◌*◌, ◌/◌, ◌%◌, Bool, not, ◌&&◌, nat_lt, nat_le, if◌then◌else◌}
 use Rattle.cov_base.specs.States.{Machine}
 use Rattle.cov_base.specs.Memory.{Memory, wrap}
-use Rattle.s370_state.specs.Row.{Row, Outcome, Completes, Program, with_bytes}
+use Rattle.s370_state.specs.Row.{Row, Outcome, Completes, Program, on_data, with_bytes}
 use Rattle.s370_decode.specs.Fields.{e1}
 use Rattle.s370_decode.specs.declared.code.Code.{Code}
-use Rattle.s370_decimal.specs.Digits.{store_field}
+use Rattle.s370_state.specs.Digits.{store_field}
 use Rattle.s370_decimal.specs.Fields.{fits}
-use Rattle.s370_decimal.specs.Operands.{l1, l2, replaces, operands, on_data}
+use Rattle.s370_decimal.specs.Operands.{l1, l2, replaces, operands}
 use Rattle.s370_decimal.specs.declared.operands.Operands.{Operands}
 
 -- the second field has at most 8 bytes, and fewer than the first

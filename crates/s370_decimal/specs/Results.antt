@@ -2,7 +2,7 @@
 use Rattle.std.specs.Prelude.{ℕ, ◌+◌, ◌*◌, ◌%◌, ◌^◌, Bool, false, not, ◌==◌, if◌then◌else◌}
 use Rattle.cov_base.specs.States.{Machine}
 use Rattle.s370_state.specs.Row.{Outcome, Overflows, with_cc, with_bytes}
-use Rattle.s370_decimal.specs.Digits.{store_field}
+use Rattle.s370_state.specs.Digits.{store_field}
 use Rattle.s370_decimal.specs.Fields.{fits}
 use Rattle.s370_decimal.specs.declared.results.Kept.{Kept}
 

@@ -2,13 +2,13 @@
 use Rattle.std.specs.Prelude.{ℕ, ◌+◌, ◌-◌, ◌*◌, ◌/◌, ◌%◌, ◌^◌, true, nat_lt, nat_le, if◌then◌else◌, Option, None, [], ◌∷◌}
 use Rattle.cov_base.specs.States.{CpuView, Machine}
 use Rattle.cov_base.specs.Memory.{Memory}
-use Rattle.s370_state.specs.Row.{Row, stores}
+use Rattle.s370_state.specs.Row.{Row, on_data, stores}
 use Rattle.s370_decode.specs.Fields.{r2, e1, e2}
 use Rattle.s370_decode.specs.declared.code.Code.{Code}
-use Rattle.s370_decimal.specs.Digits.{field_at}
-use Rattle.s370_decimal.specs.Operands.{l1, on_data}
+use Rattle.s370_state.specs.Digits.{field_at}
+use Rattle.s370_decimal.specs.Operands.{l1}
 use Rattle.s370_decimal.specs.Results.{kept, results}
-use Rattle.s370_decimal.specs.declared.packed.Field.{Field}
+use Rattle.s370_state.specs.declared.packed.Field.{Field}
 
 -- the rounding digit
 abbrev pub i3 : Code → ℕ

@@ -2,14 +2,15 @@
 use Rattle.std.specs.Prelude.{true, ℤ, ◌+ℤ◌, ◌-ℤ◌}
 use Rattle.std.specs.Int.{is_negative}
 use Rattle.std.specs.Int.RustNames.{unsigned_abs}
+use Rattle.std.specs.Ordering.{int_cmp}
 use Rattle.cov_base.specs.States.{Machine}
 use Rattle.cov_base.specs.Memory.{Memory}
-use Rattle.s370_state.specs.Row.{Row, Outcome, Completes, with_cc}
-use Rattle.s370_state.specs.Words.{sign_code}
+use Rattle.s370_state.specs.Row.{Row, Outcome, Completes, on_data, with_cc}
+use Rattle.s370_state.specs.Words.{order_code}
 use Rattle.s370_decode.specs.Fields.{e1, e2}
 use Rattle.s370_decode.specs.declared.code.Code.{Code}
-use Rattle.s370_decimal.specs.Digits.{field_at, number}
-use Rattle.s370_decimal.specs.Operands.{l1, l2, replaces, compares, operands, on_data}
+use Rattle.s370_state.specs.Digits.{field_at, number}
+use Rattle.s370_decimal.specs.Operands.{l1, l2, replaces, compares, operands}
 use Rattle.s370_decimal.specs.Results.{kept, results}
 
 -- the first field becomes the number
@@ -26,6 +27,6 @@ row_sp m s c = record { well = true; uses = replaces s.cpu c; outcome = on_data 
 abbrev pub row_zap : Memory → Machine → Code → Row
 row_zap m s c = record { well = true; uses = replaces s.cpu c; outcome = on_data (field_at m s.bytes (e2 s.cpu c) (l2 c)) (λ f. results s (e1 s.cpu c) (l1 c) (kept (l1 c) f.magnitude f.minus)) }
 
--- 0 where the numbers are equal, 1 where the first is low, 2 where it is high: the sign code of their difference
+-- zeros of either sign are equal
 abbrev pub row_cp : Memory → Machine → Code → Row
-row_cp m s c = record { well = true; uses = compares s.cpu c; outcome = on_data (operands m s.cpu s.bytes c) (λ o. Completes (with_cc s (sign_code (number o.first -ℤ number o.second)))) }
+row_cp m s c = record { well = true; uses = compares s.cpu c; outcome = on_data (operands m s.cpu s.bytes c) (λ o. Completes (with_cc s (order_code (int_cmp (number o.first) (number o.second))))) }

@@ -3,7 +3,6 @@
 
 mod fields;
 mod operands;
-mod packed;
 mod products;
 mod results;
 mod shifts;

@@ -1,35 +1,18 @@
 //! The two fields that an operation works on, tested and read.
-ghost use Rattle.std.specs.Prelude.{◌≡◌, ℕ, ◌+◌, ◌*◌, ◌^◌, ◌<◌, ◌≤◌, ℤ, pos, neg_ℤ, ◌≤ℤ◌, ◌<ℤ◌, [], ◌∷◌, Some, None, true, IfOk, IfErr, IfSome};
+ghost use Rattle.std.specs.Prelude.{◌≡◌, ℕ, ◌+◌, ◌*◌, ◌^◌, ◌<◌, ◌≤◌, [], ◌∷◌, Some, None, true, IfOk, IfErr, IfSome};
 ghost use Rattle.cov_base.specs.Memory.{can_reach, can_store};
-ghost use Rattle.s370_state.specs.Row.{reads, use_tests};
-ghost use Rattle.s370_decimal.specs.Digits.{number};
+ghost use Rattle.s370_state.specs.Row.{use_tests};
 ghost use Rattle.s370_decode.specs.Fields.{e1, e2};
 ghost use Rattle.s370_decimal.specs.Operands.{l1, l2, replaces, compares, operands};
 
-use crate::packed::{Field, field_at};
-use cov_base::Addr;
 use s370_decode::Code;
-use s370_state::{Cpu, Ending, Space, test_read_both, test_store_read};
+use s370_state::{Cpu, Ending, Field, Space, field_at, test_read_both, test_store_read};
 
 /// What the two fields of an operation hold.
 #[derive(Clone, Copy)]
 pub struct Operands {
     pub first: Field,
     pub second: Field,
-}
-
-/// The first field's address.
-pub fn first_at(cpu: &Cpu, code: &Code) -> Addr
-    ensures { result ≡ e1 cpu.now code.now }
-{
-    cpu.address(code.b1(), 0, code.d1())
-}
-
-/// The second field's address, or a distance of a shift.
-pub fn second_at(cpu: &Cpu, code: &Code) -> Addr
-    ensures { result ≡ e2 cpu.now code.now }
-{
-    cpu.address(code.b2(), 0, code.d2())
 }
 
 /// Tests a first field that is replaced and a second that is read.
@@ -40,7 +23,8 @@ pub fn test_replaced<P: Space>(cpu: &Cpu, space: &P, code: &Code) -> Result<(), 
     ensures store { IfOk result (λ _. can_store (P.memory space.now) (e1 cpu.now code.now) (l1 code.now + 1) ≡ true) }
     ensures reach_second { IfOk result (λ _. can_reach (P.memory space.now) (e2 cpu.now code.now) (l2 code.now + 1) ≡ true) }
 {
-    let (a, b) = (first_at(cpu, code), second_at(cpu, code));
+    let a = cpu.based(code.b1(), code.d1());
+    let b = cpu.based(code.b2(), code.d2());
     test_store_read(
         space,
         a,
@@ -57,7 +41,8 @@ pub fn test_compared<P: Space>(cpu: &Cpu, space: &P, code: &Code) -> Result<(), 
     ensures reach { IfOk result (λ _. can_reach (P.memory space.now) (e1 cpu.now code.now) (l1 code.now + 1) ≡ true) }
     ensures reach_second { IfOk result (λ _. can_reach (P.memory space.now) (e2 cpu.now code.now) (l2 code.now + 1) ≡ true) }
 {
-    let (a, b) = (first_at(cpu, code), second_at(cpu, code));
+    let a = cpu.based(code.b1(), code.d1());
+    let b = cpu.based(code.b2(), code.d2());
     test_read_both(
         space,
         a,
@@ -76,26 +61,11 @@ pub fn read_operands<P: Space>(cpu: &Cpu, space: &P, code: &Code) -> Option<Oper
     ensures first_most { IfSome result (λ o. o.first.magnitude < 10000000000000000000000000000000) }
     ensures second_most { IfSome result (λ o. o.second.magnitude < 10000000000000000000000000000000) }
 {
-    match field_at(space, first_at(cpu, code), code.l1()) {
-        Some(first) => match field_at(space, second_at(cpu, code), code.l2()) {
+    match field_at(space, cpu.based(code.b1(), code.d1()), code.l1()) {
+        Some(first) => match field_at(space, cpu.based(code.b2(), code.d2()), code.l2()) {
             Some(second) => Some(Operands { first, second }),
             None => None,
         },
         None => None,
-    }
-}
-
-/// The field as a number.
-#[tactic(auto, unfolding(crate::specs::Digits::number))]
-pub fn number(f: Field) -> i128
-    requires { f.magnitude < 10000000000000000000000000000000 }
-    ensures value { result ≡ number f }
-    ensures low { neg_ℤ (pos 10000000000000000000000000000000) <ℤ result }
-    ensures high { result <ℤ pos 10000000000000000000000000000000 }
-{
-    if f.minus {
-        -(f.magnitude as i128)
-    } else {
-        f.magnitude as i128
     }
 }

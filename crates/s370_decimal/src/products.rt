@@ -1,5 +1,5 @@
 //! Multiplication and division.
-#![tactic(auto, using(s370_state::proofs::Performs::ill_formed, s370_state::proofs::Performs::well_passes, s370_state::proofs::Performs::well_refuses, crate::proofs::Data::good_data, crate::proofs::Data::bad_data))]
+#![tactic(auto, using(s370_state::proofs::Performs::ill_formed, s370_state::proofs::Performs::well_passes, s370_state::proofs::Performs::well_refuses, s370_state::proofs::Performs::good_data, s370_state::proofs::Performs::bad_data))]
 
 ghost use Rattle.std.specs.Prelude.{◌≡◌, ◌+◌, ◌-◌, ◌*◌, ◌/◌, ◌%◌, ◌^◌, ◌<◌, ◌≤◌, true, if◌then◌else◌, not};
 ghost use Rattle.cov_base.specs.Memory.{can_store};
@@ -9,10 +9,9 @@ ghost use Rattle.s370_decimal.specs.Operands.{l1, l2};
 ghost use Rattle.s370_decimal.specs.Products.{is_shorter, signs_differ, multiplied, divided, row_mp, row_dp};
 
 use crate::fields::fits;
-use crate::operands::{Operands, first_at, read_operands, test_replaced};
-use crate::packed::put_field;
+use crate::operands::{Operands, read_operands, test_replaced};
 use s370_decode::Code;
-use s370_state::{Cpu, Ending, Next, Space};
+use s370_state::{Cpu, Ending, Next, Space, put_field};
 
 /// Whether the second field has at most 8 bytes, and fewer than the first.
 fn is_shorter(code: &Code) -> bool
@@ -42,8 +41,9 @@ fn put_product<P: Space>(cpu: &Cpu, space: &mut P, code: &Code, o: Operands) -> 
     if !fits(l1 - l2 - 1, o.first.magnitude) {
         return Next::Ended(Ending::Abend(7));
     }
+    let at = cpu.based(code.b1(), code.d1());
     let product = o.first.magnitude * o.second.magnitude;
-    put_field(space, first_at(cpu, code), l1, product, signs_differ(o));
+    put_field(space, at, l1, product, signs_differ(o));
     Next::On
 }
 
@@ -61,7 +61,7 @@ fn put_quotient<P: Space>(cpu: &Cpu, space: &mut P, code: &Code, o: Operands) ->
     if divisor == 0 || !fits(l1 - l2 - 1, dividend / divisor) {
         return Next::Ended(Ending::Abend(11));
     }
-    let at = first_at(cpu, code);
+    let at = cpu.based(code.b1(), code.d1());
     let right = at.plus(u32::from(l1 - l2));
     put_field(space, at, l1 - l2 - 1, dividend / divisor, signs_differ(o));
     put_field(space, right, l2, dividend % divisor, o.first.minus);

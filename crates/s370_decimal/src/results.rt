@@ -2,13 +2,12 @@
 ghost use Rattle.std.specs.Prelude.{◌≡◌, ℕ, ◌+◌, ◌≤◌, true, if◌then◌else◌};
 ghost use Rattle.cov_base.specs.Memory.{can_store};
 ghost use Rattle.s370_state.specs.Row.{next_after};
-ghost use Rattle.s370_decimal.specs.Digits.{store_field};
+ghost use Rattle.s370_state.specs.Digits.{store_field};
 ghost use Rattle.s370_decimal.specs.Results.{kept, code_of};
 
 use crate::fields::{fits, power};
-use crate::packed::put_field;
 use cov_base::Addr;
-use s370_state::{Cpu, Next, Space, next_after};
+use s370_state::{Cpu, Next, Space, next_after, put_field};
 
 /// What a field keeps of a whole result.
 #[derive(Clone, Copy)]

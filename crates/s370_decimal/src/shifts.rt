@@ -1,27 +1,25 @@
 //! The shift.
-#![tactic(auto, using(s370_state::proofs::Performs::passes, s370_state::proofs::Performs::refuses, crate::proofs::Data::good_data, crate::proofs::Data::bad_data))]
+#![tactic(auto, using(s370_state::proofs::Performs::passes, s370_state::proofs::Performs::refuses, s370_state::proofs::Performs::good_data, s370_state::proofs::Performs::bad_data))]
 
 ghost use Rattle.std.specs.Prelude.{◌≡◌, ◌+◌, ◌-◌, ◌*◌, ◌/◌, ◌%◌, ◌^◌, ◌<◌, ◌≤◌, true, None, nat_le, if◌then◌else◌, IfSome};
 ghost use Rattle.cov_base.specs.Memory.{can_reach};
 ghost use Rattle.s370_state.specs.Row.{Performs};
-ghost use Rattle.s370_decimal.specs.Digits.{field_at};
+ghost use Rattle.s370_state.specs.Digits.{field_at};
 ghost use Rattle.s370_decimal.specs.Results.{kept};
 ghost use Rattle.s370_decimal.specs.Shifts.{distance, shifted, row_srp};
 
 use crate::fields::power;
-use crate::operands::{first_at, second_at};
-use crate::packed::{Field, field_at};
 use crate::results::{Kept, keep, put_result};
 use cov_base::Addr;
 use s370_decode::Code;
-use s370_state::{Cpu, Ending, Next, Space, test_store};
+use s370_state::{Cpu, Ending, Field, Next, Space, field_at, test_store};
 
 /// The low six bits of the second address.
 fn distance(cpu: &Cpu, code: &Code) -> u8
     ensures value { result ≡ distance cpu.now code.now }
     ensures below { result < 64 }
 {
-    (second_at(cpu, code).get() % 64) as u8
+    (cpu.based(code.b2(), code.d2()).get() % 64) as u8
 }
 
 /// What a field of length code l keeps where it goes n digits to the left. The whole result may have 62 digits, so it
@@ -83,7 +81,7 @@ pub fn shift_and_round<P: Space>(cpu: &mut Cpu, space: &mut P, code: &Code) -> N
     ensures memory { P.memory space.new ≡ P.memory space.old }
     ensures row { Performs (P.memory space.old) cpu.old (P.bytes space.old) (λ m s. row_srp m s code.now) cpu.new (P.bytes space.new) result }
 {
-    let (at, l, i) = (first_at(cpu, code), code.l1(), code.i3());
+    let (at, l, i) = (cpu.based(code.b1(), code.d1()), code.l1(), code.i3());
     if let Err(e) = test_store(space, at, u32::from(l) + 1) {
         return Next::Ended(e);
     }

@@ -1,22 +1,20 @@
 //! Sums, differences and comparisons.
-#![tactic(auto, using(s370_state::proofs::Performs::passes, s370_state::proofs::Performs::refuses, crate::proofs::Data::good_data, crate::proofs::Data::bad_data))]
+#![tactic(auto, using(s370_state::proofs::Performs::passes, s370_state::proofs::Performs::refuses, s370_state::proofs::Performs::good_data, s370_state::proofs::Performs::bad_data))]
 
 ghost use Rattle.std.specs.Prelude.{◌≡◌, ◌<◌, ◌≤◌, ◌+ℤ◌, ◌-ℤ◌};
 ghost use Rattle.std.specs.Int.{is_negative};
+ghost use Rattle.std.specs.Ordering.{int_cmp};
 ghost use Rattle.std.specs.Int.RustNames.{unsigned_abs};
 ghost use Rattle.s370_state.specs.Row.{Performs};
-ghost use Rattle.s370_state.specs.Words.{sign_code};
-ghost use Rattle.s370_decimal.specs.Digits.{number};
+ghost use Rattle.s370_state.specs.Digits.{number};
+ghost use Rattle.s370_state.specs.Words.{order_code};
 ghost use Rattle.s370_decimal.specs.Results.{kept};
 ghost use Rattle.s370_decimal.specs.Sums.{row_ap, row_sp, row_zap, row_cp};
 
-use crate::operands::{
-    Operands, first_at, number, read_operands, second_at, test_compared, test_replaced,
-};
-use crate::packed::field_at;
+use crate::operands::{Operands, read_operands, test_compared, test_replaced};
 use crate::results::{Kept, keep, put_result};
 use s370_decode::Code;
-use s370_state::{Cpu, Ending, Next, Space};
+use s370_state::{Cpu, Ending, Next, Space, field_at, number, order_code};
 
 /// What a field of length code l keeps of a number.
 fn keep_number(l: u8, z: i128) -> Kept
@@ -58,7 +56,7 @@ pub fn add<P: Space>(cpu: &mut Cpu, space: &mut P, code: &Code) -> Next
     }
     match read_operands(cpu, space, code) {
         Some(o) => {
-            let at = first_at(cpu, code);
+            let at = cpu.based(code.b1(), code.d1());
             put_result(cpu, space, at, code.l1(), keep_sum(code.l1(), o))
         }
         None => Next::Ended(Ending::Abend(7)),
@@ -75,7 +73,7 @@ pub fn subtract<P: Space>(cpu: &mut Cpu, space: &mut P, code: &Code) -> Next
     }
     match read_operands(cpu, space, code) {
         Some(o) => {
-            let at = first_at(cpu, code);
+            let at = cpu.based(code.b1(), code.d1());
             put_result(cpu, space, at, code.l1(), keep_difference(code.l1(), o))
         }
         None => Next::Ended(Ending::Abend(7)),
@@ -90,9 +88,9 @@ pub fn zero_and_add<P: Space>(cpu: &mut Cpu, space: &mut P, code: &Code) -> Next
     if let Err(e) = test_replaced(cpu, space, code) {
         return Next::Ended(e);
     }
-    match field_at(space, second_at(cpu, code), code.l2()) {
+    match field_at(space, cpu.based(code.b2(), code.d2()), code.l2()) {
         Some(f) => {
-            let at = first_at(cpu, code);
+            let at = cpu.based(code.b1(), code.d1());
             put_result(
                 cpu,
                 space,
@@ -105,22 +103,14 @@ pub fn zero_and_add<P: Space>(cpu: &mut Cpu, space: &mut P, code: &Code) -> Next
     }
 }
 
-/// 0 where the numbers are equal, 1 where the first is low, 2 where it is high.
-#[tactic(auto, unfolding(s370_state::specs::Words::sign_code))]
+/// The condition code of the comparison.
 fn comparison(o: Operands) -> u8
     requires first { o.first.magnitude < 10000000000000000000000000000000 }
     requires second { o.second.magnitude < 10000000000000000000000000000000 }
-    ensures value { result ≡ sign_code (number o.first -ℤ number o.second) }
+    ensures value { result ≡ order_code (int_cmp (number o.first) (number o.second)) }
     ensures below { result ≤ 2 }
 {
-    let difference = number(o.first) - number(o.second);
-    if difference == 0 {
-        0
-    } else if difference < 0 {
-        1
-    } else {
-        2
-    }
+    order_code(number(o.first).cmp(&number(o.second)))
 }
 
 /// CP.

@@ -1,9 +1,9 @@
 -- The rows of editing: the pattern is the first operand and becomes the result, and the source is packed decimal
 -- (Principles of Operation, "Decimal Instructions", "Edit", "Edit and Mark").
-use Rattle.std.specs.Prelude.{ℕ, zero, suc, ◌+◌, ◌*◌, ◌/◌, Bool, true, false, if◌then◌else◌, Option, Some, None, List, [], ◌∷◌, slice_index, slice_set}
+use Rattle.std.specs.Prelude.{ℕ, zero, suc, ◌+◌, Bool, true, false, if◌then◌else◌, Option, Some, None, List, [], ◌∷◌, slice_index, slice_set}
 use Rattle.cov_base.specs.States.{Machine}
 use Rattle.cov_base.specs.Memory.{Memory, wrap}
-use Rattle.s370_state.specs.Row.{Row, Use, Outcome, Completes, Program, reads, stores}
+use Rattle.s370_state.specs.Row.{Row, Use, Outcome, Completes, Program, reads, stores, with_address}
 use Rattle.s370_decode.specs.Fields.{i2, e1, e2}
 use Rattle.s370_decode.specs.declared.code.Code.{Code}
 use Rattle.s370_decode.specs.declared.op.Op.{Op}
@@ -34,7 +34,7 @@ field_code w = if w.nonzero then (if w.significant then 1 else 2) else 0
 -- the address goes to bits 8-31 of register 1
 abbrev pub marked : List ℕ → Option ℕ → List ℕ
 marked regs None = regs
-marked regs (Some at) = slice_set regs 1 (slice_index regs 1 / 16777216 * 16777216 + at)
+marked regs (Some at) = with_address regs 1 at
 
 abbrev pub marked_by : Bool → List ℕ → Option ℕ → List ℕ
 marked_by false regs mark = regs

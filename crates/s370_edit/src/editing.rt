@@ -77,7 +77,7 @@ fn mark(cpu: &mut Cpu, address: Option<Addr>)
     ensures { cpu.new ≡ record cpu.old { regs = marked cpu.old.regs address } }
 {
     if let Some(at) = address {
-        cpu.set_reg(1, cpu.reg(1) / 16_777_216 * 16_777_216 + at.get());
+        cpu.set_address(1, at);
     }
 }
 
@@ -139,8 +139,8 @@ pub fn edit<P: Space>(cpu: &mut Cpu, space: &mut P, code: &Code, op: Op) -> Next
     ensures row { Performs (P.memory space.old) cpu.old (P.bytes space.old) (λ m s. edit_row op m s code.now) cpu.new (P.bytes space.new) result }
 {
     let n = u32::from(code.l()) + 1;
-    let a = cpu.address(code.b1(), 0, code.d1());
-    let b = cpu.address(code.b2(), 0, code.d2());
+    let a = cpu.based(code.b1(), code.d1());
+    let b = cpu.based(code.b2(), code.d2());
     let mut text = ArrayVec::new();
     match form(space, a, n, b, &mut text) {
         Ok(w) => complete(cpu, space, a, n, text.as_slice(), &w, is_marking(op)),

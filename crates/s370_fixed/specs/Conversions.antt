@@ -1,29 +1,28 @@
--- The rows of conversions between a register and a packed decimal doubleword: 15 digits, then the sign in the last
--- half byte (Principles of Operation, "General Instructions", "Decimal Instructions").
-use Rattle.std.specs.Prelude.{ℕ, ◌+◌, ◌*◌, ◌/◌, ◌%◌, true, ◌&&◌, if◌then◌else◌, [], ◌∷◌, ℤ, pos, neg_ℤ}
+-- The rows of conversions between a register and a packed decimal doubleword, which is a field of 8 bytes (Principles of
+-- Operation, "General Instructions", "Convert to Binary", "Convert to Decimal").
+use Rattle.std.specs.Prelude.{ℕ, true, if◌then◌else◌, List, [], ◌∷◌, ℤ}
 use Rattle.std.specs.Int.{is_negative}
 use Rattle.std.specs.Int.RustNames.{unsigned_abs}
 use Rattle.cov_base.specs.States.{Machine}
 use Rattle.cov_base.specs.Memory.{Memory}
-use Rattle.s370_state.specs.Row.{Row, Outcome, Completes, Program, reads, stores, reg, with_reg, with_bytes}
-use Rattle.s370_state.specs.Words.{number_at, store_double, signed, low_word, is_word}
-use Rattle.s370_state.specs.Digits.{is_sign, is_minus, sign_half, are_digits, value_of, packed}
+use Rattle.s370_state.specs.Row.{Row, Outcome, Completes, Program, on_data, reads, stores, reg, with_reg, with_bytes}
+use Rattle.s370_state.specs.Words.{signed}
+use Rattle.s370_fixed.specs.Words.{low_word, is_word}
+use Rattle.s370_state.specs.Digits.{field_at, number, store_field}
+use Rattle.s370_state.specs.declared.packed.Field.{Field}
 use Rattle.s370_decode.specs.Fields.{r1, ex}
 use Rattle.s370_decode.specs.declared.code.Code.{Code}
 
--- the doubleword's value goes to register r; a bad digit or sign is code 7, and a value that is no word code 9
-unfoldable pub converted : Machine → ℕ → ℕ → Outcome
-converted s r n =
-    if (are_digits 15 (n / 16) && is_sign (n % 16)) then
-    (let z = if is_minus (n % 16) then neg_ℤ (pos (value_of 15 (n / 16))) else pos (value_of 15 (n / 16)) in
-    if is_word z then Completes (with_reg s r (low_word z)) else Program 9)
-    else Program 7
+-- the field's number goes to register r; one that is no word is code 9
+unfoldable pub converted : Machine → ℕ → Field → Outcome
+converted s r f = if is_word (number f) then Completes (with_reg s r (low_word (number f))) else Program 9
 
 abbrev pub row_cvb : Memory → Machine → Code → Row
-row_cvb m s c = record { well = true; uses = reads (ex s.cpu c) 8 ∷ []; outcome = converted s (r1 c) (number_at m s.bytes (ex s.cpu c) 8) }
+row_cvb m s c = record { well = true; uses = reads (ex s.cpu c) 8 ∷ []; outcome = on_data (field_at m s.bytes (ex s.cpu c) 7) (converted s (r1 c)) }
 
-abbrev pub packed_double : ℤ → ℕ
-packed_double z = packed 15 (unsigned_abs z) * 16 + sign_half (is_negative z)
+-- the doubleword from a on becomes the number
+abbrev pub store_packed : List ℕ → ℕ → ℤ → List ℕ
+store_packed bytes a z = store_field bytes a 7 (unsigned_abs z) (is_negative z)
 
 abbrev pub row_cvd : Memory → Machine → Code → Row
-row_cvd m s c = record { well = true; uses = stores (ex s.cpu c) 8 ∷ []; outcome = Completes (with_bytes s (store_double s.bytes (ex s.cpu c) (packed_double (signed (reg s (r1 c)))))) }
+row_cvd m s c = record { well = true; uses = stores (ex s.cpu c) 8 ∷ []; outcome = Completes (with_bytes s (store_packed s.bytes (ex s.cpu c) (signed (reg s (r1 c))))) }

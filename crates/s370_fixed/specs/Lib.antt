@@ -1,3 +1,4 @@
+pub mod Words
 pub mod Operands
 pub mod Loads
 pub mod Multiple

@@ -4,7 +4,8 @@ use Rattle.std.specs.Int.RustNames.{unsigned_abs}
 use Rattle.cov_base.specs.States.{Machine}
 use Rattle.cov_base.specs.Memory.{Memory}
 use Rattle.s370_state.specs.Row.{Row, Completes, stores, reg, with_reg, with_cc, with_bytes, at_once, from_word}
-use Rattle.s370_state.specs.Words.{signed, low_word, sign_code, store_word, store_half}
+use Rattle.s370_state.specs.Words.{signed, store_word}
+use Rattle.s370_fixed.specs.Words.{low_word, sign_code, store_half}
 use Rattle.s370_decode.specs.Fields.{r1, ex}
 use Rattle.s370_decode.specs.declared.code.Code.{Code}
 use Rattle.s370_fixed.specs.Operands.{from_register, from_half, loads, results}

@@ -3,7 +3,8 @@ use Rattle.std.specs.Prelude.{ℕ, true, if◌then◌else◌, [], ◌∷◌, ℤ
 use Rattle.cov_base.specs.States.{Machine}
 use Rattle.cov_base.specs.Memory.{Memory}
 use Rattle.s370_state.specs.Row.{Row, Outcome, Completes, Overflows, at_once, reads, reg, with_reg, with_cc, is_even}
-use Rattle.s370_state.specs.Words.{number_at, signed_half, low_word, is_word, sign_code}
+use Rattle.s370_state.specs.Words.{number_at}
+use Rattle.s370_fixed.specs.Words.{signed_half, low_word, is_word, sign_code}
 use Rattle.s370_decode.specs.Fields.{r1, r2, ex}
 use Rattle.s370_decode.specs.declared.code.Code.{Code}
 

@@ -5,7 +5,8 @@ use Rattle.std.specs.Int.RustNames.{int_div, int_rem, unsigned_abs}
 use Rattle.cov_base.specs.States.{Machine}
 use Rattle.cov_base.specs.Memory.{Memory}
 use Rattle.s370_state.specs.Row.{Row, Outcome, Completes, Program, reg, with_reg, pair, with_pair, with_regs}
-use Rattle.s370_state.specs.Words.{signed, low_word, is_word}
+use Rattle.s370_state.specs.Words.{signed}
+use Rattle.s370_fixed.specs.Words.{low_word, is_word}
 use Rattle.s370_decode.specs.Fields.{r1}
 use Rattle.s370_decode.specs.declared.code.Code.{Code}
 use Rattle.s370_fixed.specs.Operands.{from_half, pair_from_register, pair_from_word, loads}

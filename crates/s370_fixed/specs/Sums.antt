@@ -1,9 +1,10 @@
 -- The rows of sums, differences and comparisons (Principles of Operation, "General Instructions").
 use Rattle.std.specs.Prelude.{ℕ, ◌+◌, ◌-◌, ◌%◌, ◌==◌, nat_lt, if◌then◌else◌, ◌+ℤ◌, ◌-ℤ◌, ℤ}
+use Rattle.std.specs.Ordering.{int_cmp}
 use Rattle.cov_base.specs.States.{Machine}
 use Rattle.cov_base.specs.Memory.{Memory}
 use Rattle.s370_state.specs.Row.{Row, Outcome, Completes, reg, with_reg, with_cc, from_word}
-use Rattle.s370_state.specs.Words.{signed, sign_code}
+use Rattle.s370_state.specs.Words.{signed, order_code}
 use Rattle.s370_decode.specs.Fields.{r1, ex}
 use Rattle.s370_decode.specs.declared.code.Code.{Code}
 use Rattle.s370_fixed.specs.Operands.{from_register, from_half, results}
@@ -54,9 +55,9 @@ row_slr m s c = from_register s c (differs s c)
 abbrev pub row_sl : Memory → Machine → Code → Row
 row_sl m s c = from_word m s (ex s.cpu c) (differs s c)
 
--- 0 where R1 and the number are equal, 1 where R1 is low, 2 where it is high: the sign code of their difference
+-- R1 is the first operand
 abbrev pub compares : Machine → Code → ℤ → Outcome
-compares s c z = Completes (with_cc s (sign_code (first s c -ℤ z)))
+compares s c z = Completes (with_cc s (order_code (int_cmp (first s c) z)))
 
 abbrev pub row_cr : Memory → Machine → Code → Row
 row_cr m s c = from_register s c (λ v. compares s c (signed v))

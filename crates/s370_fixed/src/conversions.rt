@@ -1,50 +1,34 @@
 //! Conversions between a register and a packed decimal doubleword.
-#![tactic(auto, using(s370_state::proofs::Performs::at_once, s370_state::proofs::Performs::passes, s370_state::proofs::Performs::refuses))]
+#![tactic(auto, using(s370_state::proofs::Performs::passes, s370_state::proofs::Performs::refuses, s370_state::proofs::Performs::good_data, s370_state::proofs::Performs::bad_data))]
 
-ghost use Rattle.std.specs.Prelude.{◌≡◌, ℕ, ◌+◌, ◌*◌, ◌/◌, ◌%◌, ◌^◌, ◌<◌, ◌≤◌, ℤ, pos, neg_ℤ, ◌≤ℤ◌, ◌<ℤ◌, List, true, false, IfSome, IfNone, if◌then◌else◌};
+ghost use Rattle.std.specs.Prelude.{◌≡◌, ℕ, ◌+◌, ◌*◌, ◌^◌, ◌<◌, ◌≤◌, ℤ, pos, neg_ℤ, ◌≤ℤ◌, ◌<ℤ◌, List, true, if◌then◌else◌};
 ghost use Rattle.s370_state.specs.Row.{Performs, machine_of, after, finish};
-ghost use Rattle.s370_fixed.specs.Conversions.{converted, packed_double, row_cvb, row_cvd};
+ghost use Rattle.s370_fixed.specs.Conversions.{converted, row_cvb, row_cvd};
 
 use crate::operands::address;
+use crate::words::{is_word, low_word};
 use s370_decode::Code;
 use s370_state::{
-    Cpu, Ending, Next, Space, double_of, is_minus, is_sign, is_word, low_word, packed, put_double,
-    sign_half, signed, test_read, test_store, value_of,
+    Cpu, Ending, Field, Next, Space, field_at, number, put_field, signed, test_read, test_store,
 };
 
-/// The doubleword's value goes to the register.
-#[tactic(auto, unfolding(crate::specs::Conversions::converted))]
-fn convert(cpu: &mut Cpu, r: u8, n: u64) -> Next
-    requires { r < 16 }
-    ensures { (bytes : List ℕ) → after cpu.new bytes result ≡ finish (machine_of cpu.old bytes) (converted (machine_of cpu.old bytes) r n) }
-{
-    let sign = (n % 16) as u8;
-    if !is_sign(sign) {
-        return Next::Ended(Ending::Abend(7));
-    }
-    match value_of(15, u128::from(n / 16)) {
-        None => Next::Ended(Ending::Abend(7)),
-        Some(v) => {
-            let z = if is_minus(sign) {
-                -(v as i64)
-            } else {
-                v as i64
-            };
-            if is_word(z) {
-                cpu.set_reg(r, low_word(z));
-                Next::On
-            } else {
-                Next::Ended(Ending::Abend(9))
-            }
-        }
-    }
-}
+/// The length code of a doubleword.
+const DOUBLEWORD: u8 = 7;
 
-/// The number as a doubleword of 15 digits and a sign.
-fn packed_double(z: i64) -> u64
-    ensures { result ≡ packed_double z }
+/// The number of a field of 15 digits goes to the register.
+#[tactic(auto, unfolding(crate::specs::Conversions::converted, s370_state::specs::Digits::number))]
+fn convert(cpu: &mut Cpu, r: u8, f: Field) -> Next
+    requires register { r < 16 }
+    requires magnitude { f.magnitude < 10 ^ 15 }
+    ensures { (bytes : List ℕ) → after cpu.new bytes result ≡ finish (machine_of cpu.old bytes) (converted (machine_of cpu.old bytes) r f) }
 {
-    packed(15, u128::from(z.unsigned_abs())) as u64 * 16 + u64::from(sign_half(z < 0))
+    let z = number(f) as i64;
+    if is_word(z) {
+        cpu.set_reg(r, low_word(z));
+        Next::On
+    } else {
+        Next::Ended(Ending::Abend(9))
+    }
 }
 
 /// CVB.
@@ -56,7 +40,10 @@ pub fn convert_to_binary<P: Space>(cpu: &mut Cpu, space: &mut P, code: &Code) ->
     if let Err(e) = test_read(space, at, 8) {
         return Next::Ended(e);
     }
-    convert(cpu, code.r1(), double_of(space, at, 0, 8))
+    match field_at(space, at, DOUBLEWORD) {
+        Some(f) => convert(cpu, code.r1(), f),
+        None => Next::Ended(Ending::Abend(7)),
+    }
 }
 
 /// CVD.
@@ -68,6 +55,7 @@ pub fn convert_to_decimal<P: Space>(cpu: &mut Cpu, space: &mut P, code: &Code) -
     if let Err(e) = test_store(space, at, 8) {
         return Next::Ended(e);
     }
-    put_double(space, at, 0, 8, packed_double(signed(cpu.reg(code.r1()))));
+    let z = signed(cpu.reg(code.r1()));
+    put_field(space, at, DOUBLEWORD, u128::from(z.unsigned_abs()), z < 0);
     Next::On
 }

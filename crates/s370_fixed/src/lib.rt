@@ -9,6 +9,7 @@ mod products;
 mod shifts;
 mod sums;
 mod table;
+mod words;
 
 pub use table::fixed;
 

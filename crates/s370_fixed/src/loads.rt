@@ -7,8 +7,9 @@ ghost use Rattle.s370_state.specs.Row.{Performs};
 ghost use Rattle.s370_fixed.specs.Loads.{row_lr, row_l, row_lh, row_ltr, row_lcr, row_lpr, row_lnr, row_la, row_st, row_sth};
 
 use crate::operands::{address, half, load, set_result, word};
+use crate::words::{low_word, put_half, sign_code};
 use s370_decode::Code;
-use s370_state::{Cpu, Next, Space, low_word, put_half, put_word, sign_code, signed, test_store};
+use s370_state::{Cpu, Next, Space, put_word, signed, test_store};
 
 /// The magnitude of a register's number.
 fn magnitude(z: i64) -> i64

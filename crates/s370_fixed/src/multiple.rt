@@ -60,7 +60,7 @@ pub fn load_multiple<P: Space>(cpu: &mut Cpu, space: &mut P, code: &Code) -> Nex
     ensures row { Performs (P.memory space.old) cpu.old (P.bytes space.old) (λ m s. row_lm m s code.now) cpu.new (P.bytes space.new) result }
 {
     let n = count(code);
-    let at = cpu.address(code.b2(), 0, code.d2());
+    let at = cpu.based(code.b2(), code.d2());
     if let Err(e) = test_read(space, at, 4 * u32::from(n)) {
         return Next::Ended(e);
     }
@@ -74,7 +74,7 @@ pub fn store_multiple<P: Space>(cpu: &mut Cpu, space: &mut P, code: &Code) -> Ne
     ensures row { Performs (P.memory space.old) cpu.old (P.bytes space.old) (λ m s. row_stm m s code.now) cpu.new (P.bytes space.new) result }
 {
     let n = count(code);
-    let at = cpu.address(code.b2(), 0, code.d2());
+    let at = cpu.based(code.b2(), code.d2());
     if let Err(e) = test_store(space, at, 4 * u32::from(n)) {
         return Next::Ended(e);
     }

@@ -1,15 +1,14 @@
 //! The second operand of an operation, tested and read, and what operations do with a result.
 ghost use Rattle.std.specs.Prelude.{◌≡◌, ℕ, ◌<◌, ◌≤◌, ◌^◌, List, [], ◌∷◌, ℤ, pos, neg_ℤ, ◌≤ℤ◌, ◌<ℤ◌, IfOk, IfErr, None, Some, if◌then◌else◌, slice_set};
 ghost use Rattle.s370_state.specs.Row.{reads, use_tests, next_after};
-ghost use Rattle.s370_state.specs.Words.{number_at, signed_half, low_word, is_word, sign_code};
+ghost use Rattle.s370_state.specs.Words.{number_at};
+ghost use Rattle.s370_fixed.specs.Words.{signed_half, low_word, is_word, sign_code};
 ghost use Rattle.s370_decode.specs.Fields.{ex};
 
+use crate::words::{half_of, is_word, low_word, sign_code, signed_half};
 use cov_base::Addr;
 use s370_decode::Code;
-use s370_state::{
-    Cpu, Ending, Next, Space, half_of, is_word, low_word, next_after, read_word, sign_code,
-    signed_half, test_read,
-};
+use s370_state::{Cpu, Ending, Next, Space, next_after, read_word, test_read};
 
 /// The second operand's address in the RX format.
 pub fn address(cpu: &Cpu, code: &Code) -> Addr

@@ -5,12 +5,14 @@ ghost use Rattle.std.specs.Prelude.{◌≡◌, ℕ, ◌+◌, ◌*◌, ◌%◌, �
 ghost use Rattle.std.specs.Int.{cast_signed, cast_unsigned, w64};
 ghost use Rattle.std.specs.Int.RustNames.{int_div, int_rem};
 ghost use Rattle.s370_state.specs.Row.{Performs, machine_of, after, finish, pair, with_pair};
-ghost use Rattle.s370_state.specs.Words.{signed, low_word, is_word};
+ghost use Rattle.s370_state.specs.Words.{signed};
+ghost use Rattle.s370_fixed.specs.Words.{low_word, is_word};
 ghost use Rattle.s370_fixed.specs.Products.{row_mr, row_m, row_mh, row_dr, row_d, divides, divided};
 
 use crate::operands::{half, load, word};
+use crate::words::{is_word, low_word};
 use s370_decode::Code;
-use s370_state::{Cpu, Ending, Next, Space, is_word, low_word, signed};
+use s370_state::{Cpu, Ending, Next, Space, signed};
 
 /// The product of the pair's second register and a signed word goes to the pair.
 #[tactic(auto, using(crate::proofs::Wide::product_fits))]

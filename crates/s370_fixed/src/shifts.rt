@@ -21,7 +21,7 @@ fn distance(cpu: &Cpu, code: &Code) -> u32
     ensures value { result ≡ e2 cpu.now code.now % 64 }
     ensures below { result < 64 }
 {
-    cpu.address(code.b2(), 0, code.d2()).get() % 64
+    cpu.based(code.b2(), code.d2()).get() % 64
 }
 
 /// The number of up to 64 bits, shifted without loss.

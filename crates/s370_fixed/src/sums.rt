@@ -2,13 +2,15 @@
 #![tactic(auto, using(s370_state::proofs::Performs::at_once, s370_state::proofs::Performs::passes, s370_state::proofs::Performs::refuses))]
 
 ghost use Rattle.std.specs.Prelude.{◌≡◌, ℕ, ◌+◌, ◌-◌, ◌%◌, ◌<◌, ◌≤◌, ◌^◌, ℤ, pos, neg_ℤ, ◌+ℤ◌, ◌-ℤ◌, ◌≤ℤ◌, ◌<ℤ◌, true, if◌then◌else◌, slice_set, slice_index};
+ghost use Rattle.std.specs.Ordering.{int_cmp};
 ghost use Rattle.s370_state.specs.Row.{Performs, next_after};
-ghost use Rattle.s370_state.specs.Words.{signed, low_word, is_word, sign_code};
+ghost use Rattle.s370_state.specs.Words.{signed, order_code};
+ghost use Rattle.s370_fixed.specs.Words.{low_word, is_word, sign_code};
 ghost use Rattle.s370_fixed.specs.Sums.{carry_code, row_ar, row_a, row_ah, row_sr, row_s, row_sh, row_alr, row_al, row_slr, row_sl, row_cr, row_c, row_ch};
 
 use crate::operands::{half, set_result, word};
 use s370_decode::Code;
-use s370_state::{Cpu, Next, Space, sign_code, signed};
+use s370_state::{Cpu, Next, Space, order_code, signed};
 
 /// Adds a signed word to the register.
 fn add(cpu: &mut Cpu, r: u8, z: i64) -> Next
@@ -74,14 +76,11 @@ fn subtract_unsigned(cpu: &mut Cpu, r: u8, v: u32) -> Next
 
 /// Compares the register with a signed word.
 fn compare(cpu: &mut Cpu, r: u8, z: i64) -> Next
-    requires r { r < 16 }
-    requires low { neg_ℤ (pos 2147483648) ≤ℤ z }
-    requires high { z <ℤ pos 2147483648 }
-    ensures cpu { cpu.new ≡ record cpu.old { condition = sign_code (signed (slice_index cpu.old.regs r) -ℤ z) } }
+    requires { r < 16 }
+    ensures cpu { cpu.new ≡ record cpu.old { condition = order_code (int_cmp (signed (slice_index cpu.old.regs r)) z) } }
     ensures next { result ≡ Next.On }
 {
-    let difference = signed(cpu.reg(r)) - z;
-    cpu.set_cc(sign_code(difference));
+    cpu.set_cc(order_code(signed(cpu.reg(r)).cmp(&z)));
     Next::On
 }
 

@@ -1,7 +1,9 @@
--- The recursions over the bytes of a register and of a number, one byte on.
-use Rattle.std.proofs.Common.{◌≡◌, ℕ, ◌+◌, ◌-◌, ◌*◌, ◌/◌, ◌%◌, ◌^◌, ◌<◌, ◌≤◌, zero, suc, count_ones, refl, arith, lit<}
+-- The recursions over the bytes of a register, of a number and of an operand, one byte on.
+use Rattle.std.proofs.Common.{◌≡◌, ℕ, ◌+◌, ◌-◌, ◌*◌, ◌/◌, ◌%◌, ◌^◌, ◌<◌, ◌≤◌, zero, suc, count_ones, List, slice_set, refl, arith, lit<, add-one}
 use Rattle.std.proofs.Math.Nat.{pow-suc, pow-le-pow_right}
-use Rattle.s370_logic.specs.Masked.{gathered, inserted}
+use Rattle.cov_base.specs.Memory.{Memory, byte_at, wrap}
+use Rattle.s370_state.specs.Words.{number_at}
+use Rattle.s370_logic.specs.Masked.{gathered, inserted, store_number}
 use lib.Count.{ones-le}
 
 pub size_most : (mask : ℕ) → mask < 16 → count_ones mask ≤ 4
@@ -48,5 +50,23 @@ byte_fits k v l e = let b : 256 ^ k ≤ 256 ^ 3 = pow-le-pow_right {n = 256} (li
 pub bytes_fit : (k v : ℕ) → k ≤ 4 → v < 256 ^ (k - 1) → v < 16777216
 bytes_fit k v l e = byte_fits (k - 1) v (omega arith) e
 
-pub number_fits : (n v : ℕ) → n ≤ 4 → v < 256 ^ n → v < 4294967296
-number_fits n v l e = let b : 256 ^ n ≤ 256 ^ 4 = pow-le-pow_right {n = 256} (lit< tt) {i = n} {j = 4} l in omega (arith, b, e)
+pub number_none : (m : Memory) (bytes : List ℕ) (a : ℕ) → number_at m bytes a 0 ≡ 0
+unfolding number_at
+number_none m bytes a = refl
+
+pub number_more : (m : Memory) (bytes : List ℕ) (a n : ℕ) → number_at m bytes a (n + 1) ≡ number_at m bytes a n * 256 + byte_at m bytes (wrap (a + n))
+unfolding number_at
+number_more m bytes a n = rw add-one refl
+
+pub byte_more : (n v b : ℕ) → v < 256 ^ n → b < 256 → v * 256 + b < 256 ^ (n + 1)
+byte_more n v b l e = rw (add-one, pow-suc 256 n) (omega arith)
+
+pub store_none : (bytes : List ℕ) (a v : ℕ) → store_number bytes a 0 v ≡ bytes
+unfolding store_number
+store_none bytes a v = refl
+
+-- the rightmost byte that is left
+pub store_more : (bytes : List ℕ) (a n v : ℕ) → 0 < n → store_number bytes a n v ≡ store_number (slice_set bytes (wrap (a + (n - 1))) (v % 256)) a (n - 1) (v / 256)
+unfolding store_number
+store_more bytes a zero v h = absurd (omega arith)
+store_more bytes a (suc n) v h = rw (less_one n) refl

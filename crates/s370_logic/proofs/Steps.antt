@@ -1,10 +1,12 @@
--- The recursions over an operand's bytes, one byte on.
-use Rattle.std.proofs.Common.{◌≡◌, ℕ, ◌+◌, ◌<◌, zero, suc, true, false, ◌&&◌, ◌==◌, List, slice_set, refl, add-one, arith, inl, inr}
+-- The recursions over an operand's bytes, one byte on, and a doubleword by its words.
+use Rattle.std.proofs.Common.{◌≡◌, ℕ, ◌+◌, ◌*◌, ◌<◌, zero, suc, true, false, ◌&&◌, ◌==◌, List, slice_set, refl, add-one, add_assoc, arith, inl, inr}
 use Rattle.std.proofs.Math.Nat.{eq-or-lt_of_le}
 use Rattle.std.proofs.lemmas.Bool.Decides.{nat_tests}
+use Rattle.std.specs.Ordering.{nat_cmp}
 use Rattle.cov_base.specs.Memory.{Memory, byte_at, wrap}
+use Rattle.s370_state.specs.Words.{number_at, order_code}
 use Rattle.s370_logic.specs.Bitwise.{joined, joined_byte, are_zero}
-use Rattle.s370_logic.specs.Comparisons.{order_code, compared}
+use Rattle.s370_logic.specs.Comparisons.{compared}
 
 is_not_zero : (n : ℕ) → 0 < n → (n == 0) ≡ false
 is_not_zero n h = grind (arith, nat_tests)
@@ -29,12 +31,12 @@ pub compared_none : (m : Memory) (bytes : List ℕ) (a b : ℕ) → compared m b
 unfolding compared
 compared_none m bytes a b = refl
 
-pub compared_more : (m : Memory) (bytes : List ℕ) (a b n : ℕ) → compared m bytes a b n ≡ 0 → compared m bytes a b (n + 1) ≡ order_code (byte_at m bytes (wrap (a + n))) (byte_at m bytes (wrap (b + n)))
+pub compared_more : (m : Memory) (bytes : List ℕ) (a b n : ℕ) → compared m bytes a b n ≡ 0 → compared m bytes a b (n + 1) ≡ order_code (nat_cmp (byte_at m bytes (wrap (a + n))) (byte_at m bytes (wrap (b + n))))
 unfolding compared
 compared_more m bytes a b n h = rw (add-one, h) refl
 
 -- an unequal pair decides, whatever follows it
-pub compared_decided : (m : Memory) (bytes : List ℕ) (a b n i code : ℕ) → i < n → compared m bytes a b i ≡ 0 → code ≡ order_code (byte_at m bytes (wrap (a + i))) (byte_at m bytes (wrap (b + i))) → 0 < code → code ≡ compared m bytes a b n
+pub compared_decided : (m : Memory) (bytes : List ℕ) (a b n i code : ℕ) → i < n → compared m bytes a b i ≡ 0 → code ≡ order_code (nat_cmp (byte_at m bytes (wrap (a + i))) (byte_at m bytes (wrap (b + i)))) → 0 < code → code ≡ compared m bytes a b n
 unfolding compared
 compared_decided m bytes a b zero i code l e h k = absurd (omega arith)
 compared_decided m bytes a b (suc n) i code l e h k = elim (eq-or-lt_of_le {n = i} {m = n} (omega arith)) [
@@ -43,3 +45,7 @@ compared_decided m bytes a b (suc n) i code l e h k = elim (eq-or-lt_of_le {n = 
       let p : (compared m bytes a b n == 0) ≡ false = is_not_zero _ (rw d at k) in
       rw p d
 ]
+
+pub double_of_words : (m : Memory) (bytes : List ℕ) (a : ℕ) → number_at m bytes a 8 ≡ number_at m bytes a 4 * 4294967296 + number_at m bytes (a + 4) 4
+unfolding number_at
+double_of_words m bytes a = simp add_assoc (omega arith)

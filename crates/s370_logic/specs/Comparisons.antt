@@ -1,18 +1,16 @@
 -- The rows of comparisons without signs (Principles of Operation, "General Instructions", "Compare Logical").
-use Rattle.std.specs.Prelude.{ℕ, zero, suc, ◌+◌, true, ◌==◌, nat_lt, if◌then◌else◌, List, [], ◌∷◌}
+use Rattle.std.specs.Prelude.{ℕ, zero, suc, ◌+◌, true, ◌==◌, if◌then◌else◌, List, [], ◌∷◌}
+use Rattle.std.specs.Ordering.{nat_cmp}
 use Rattle.cov_base.specs.States.{Machine}
 use Rattle.cov_base.specs.Memory.{Memory, byte_at, wrap}
 use Rattle.s370_state.specs.Row.{Row, Outcome, Completes, at_once, from_word, reads, reg, with_cc}
+use Rattle.s370_state.specs.Words.{order_code}
 use Rattle.s370_decode.specs.Fields.{r1, r2, i2, e1, e2, ex}
 use Rattle.s370_decode.specs.declared.code.Code.{Code}
 
--- 0 where the numbers are equal, 1 where the first is low, 2 where it is high
-unfoldable pub order_code : ℕ → ℕ → ℕ
-order_code x y = if x == y then 0 else (if nat_lt x y then 1 else 2)
-
 -- R1 is the first operand
 abbrev pub compares : Machine → Code → ℕ → Outcome
-compares s c v = Completes (with_cc s (order_code (reg s (r1 c)) v))
+compares s c v = Completes (with_cc s (order_code (nat_cmp (reg s (r1 c)) v)))
 
 abbrev pub row_clr : Memory → Machine → Code → Row
 row_clr m s c = at_once (compares s c (reg s (r2 c)))
@@ -25,14 +23,14 @@ abbrev pub row_cli : Memory → Machine → Code → Row
 row_cli m s c = record {
   well = true;
   uses = reads (e1 s.cpu c) 1 ∷ [];
-  outcome = Completes (with_cc s (order_code (byte_at m s.bytes (e1 s.cpu c)) (i2 c)));
+  outcome = Completes (with_cc s (order_code (nat_cmp (byte_at m s.bytes (e1 s.cpu c)) (i2 c))));
 }
 
 -- of the n bytes from a and from b on, the leftmost unequal pair decides
 unfoldable pub compared : Memory → List ℕ → ℕ → ℕ → ℕ → ℕ
 compared m bytes a b zero = 0
 compared m bytes a b (suc n) =
-    if compared m bytes a b n == 0 then order_code (byte_at m bytes (wrap (a + n))) (byte_at m bytes (wrap (b + n)))
+    if compared m bytes a b n == 0 then order_code (nat_cmp (byte_at m bytes (wrap (a + n))) (byte_at m bytes (wrap (b + n))))
     else compared m bytes a b n
 
 abbrev pub row_clc : Memory → Machine → Code → Row

@@ -104,7 +104,7 @@ pub fn join_immediate<P: Space>(cpu: &mut Cpu, space: &mut P, code: &Code, f: Co
     ensures memory { P.memory space.new ≡ P.memory space.old }
     ensures row { Performs (P.memory space.old) cpu.old (P.bytes space.old) (λ m s. row_immediate (connected f) m s code.now) cpu.new (P.bytes space.new) result }
 {
-    let at = cpu.address(code.b1(), 0, code.d1());
+    let at = cpu.based(code.b1(), code.d1());
     if let Err(e) = test_store(space, at, 1) {
         return Next::Ended(e);
     }
@@ -120,8 +120,8 @@ pub fn join_fields<P: Space>(cpu: &mut Cpu, space: &mut P, code: &Code, f: Conne
     ensures row { Performs (P.memory space.old) cpu.old (P.bytes space.old) (λ m s. row_fields (connected f) m s code.now) cpu.new (P.bytes space.new) result }
 {
     let n = u32::from(code.l()) + 1;
-    let a = cpu.address(code.b1(), 0, code.d1());
-    let b = cpu.address(code.b2(), 0, code.d2());
+    let a = cpu.based(code.b1(), code.d1());
+    let b = cpu.based(code.b2(), code.d2());
     if let Err(e) = test_store_read(space, a, n, b, n) {
         return Next::Ended(e);
     }

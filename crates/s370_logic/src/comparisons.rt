@@ -2,36 +2,23 @@
 #![tactic(auto, using(s370_state::proofs::Performs::at_once, s370_state::proofs::Performs::passes, s370_state::proofs::Performs::refuses))]
 
 ghost use Rattle.std.specs.Prelude.{◌≡◌, ℕ, ◌+◌, ◌<◌, ◌≤◌, ◌^◌, true, ◌==◌, if◌then◌else◌, slice_index};
+ghost use Rattle.std.specs.Ordering.{nat_cmp};
 ghost use Rattle.cov_base.specs.Memory.{can_reach};
 ghost use Rattle.s370_state.specs.Row.{Performs};
-ghost use Rattle.s370_logic.specs.Comparisons.{order_code, compared, row_clr, row_cl, row_cli, row_clc};
+ghost use Rattle.s370_state.specs.Words.{order_code};
+ghost use Rattle.s370_logic.specs.Comparisons.{compared, row_clr, row_cl, row_cli, row_clc};
 
 use cov_base::Addr;
 use s370_decode::Code;
-use s370_state::{Cpu, Next, Space, byte_of, read_word, test_read, test_read_both};
-
-/// The condition code of a comparison: 0 equal, 1 the first low, 2 the first high.
-#[tactic(auto, unfolding(crate::specs::Comparisons::order_code))]
-pub fn order_code(x: u32, y: u32) -> u8
-    ensures value { result ≡ order_code x y }
-    ensures below { result ≤ 2 }
-{
-    if x == y {
-        0
-    } else if x < y {
-        1
-    } else {
-        2
-    }
-}
+use s370_state::{Cpu, Next, Space, byte_of, order_code, read_word, test_read, test_read_both};
 
 /// Compares the register with a word.
 fn compare(cpu: &mut Cpu, r: u8, v: u32) -> Next
     requires { r < 16 }
-    ensures cpu { cpu.new ≡ record cpu.old { condition = order_code (slice_index cpu.old.regs r) v } }
+    ensures cpu { cpu.new ≡ record cpu.old { condition = order_code (nat_cmp (slice_index cpu.old.regs r) v) } }
     ensures next { result ≡ Next.On }
 {
-    cpu.set_cc(order_code(cpu.reg(r), v));
+    cpu.set_cc(order_code(cpu.reg(r).cmp(&v)));
     Next::On
 }
 
@@ -44,10 +31,8 @@ fn compare_bytes<P: Space>(space: &P, a: Addr, b: Addr, n: u32) -> u8
     ensures below { result ≤ 2 }
 {
     for i in 0..n {
-        let code = order_code(
-            u32::from(byte_of(space, a, i, n)),
-            u32::from(byte_of(space, b, i, n)),
-        );
+        let (first, second) = (byte_of(space, a, i, n), byte_of(space, b, i, n));
+        let code = order_code(first.cmp(&second));
         if code != 0 {
             return code;
         }
@@ -79,12 +64,12 @@ pub fn compare_immediate<P: Space>(cpu: &mut Cpu, space: &mut P, code: &Code) ->
     ensures memory { P.memory space.new ≡ P.memory space.old }
     ensures row { Performs (P.memory space.old) cpu.old (P.bytes space.old) (λ m s. row_cli m s code.now) cpu.new (P.bytes space.new) result }
 {
-    let at = cpu.address(code.b1(), 0, code.d1());
+    let at = cpu.based(code.b1(), code.d1());
     if let Err(e) = test_read(space, at, 1) {
         return Next::Ended(e);
     }
     let byte = byte_of(space, at, 0, 1);
-    cpu.set_cc(order_code(u32::from(byte), u32::from(code.i2())));
+    cpu.set_cc(order_code(byte.cmp(&code.i2())));
     Next::On
 }
 
@@ -94,8 +79,8 @@ pub fn compare_fields<P: Space>(cpu: &mut Cpu, space: &mut P, code: &Code) -> Ne
     ensures row { Performs (P.memory space.old) cpu.old (P.bytes space.old) (λ m s. row_clc m s code.now) cpu.new (P.bytes space.new) result }
 {
     let n = u32::from(code.l()) + 1;
-    let a = cpu.address(code.b1(), 0, code.d1());
-    let b = cpu.address(code.b2(), 0, code.d2());
+    let a = cpu.based(code.b1(), code.d1());
+    let b = cpu.based(code.b2(), code.d2());
     if let Err(e) = test_read_both(space, a, n, b, n) {
         return Next::Ended(e);
     }

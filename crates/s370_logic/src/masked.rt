@@ -5,12 +5,11 @@ ghost use Rattle.std.specs.Prelude.{◌≡◌, ℕ, ◌+◌, ◌-◌, ◌*◌, �
 ghost use Rattle.cov_base.specs.Memory.{can_reach, can_store, byte_at};
 ghost use Rattle.s370_state.specs.Row.{Performs};
 ghost use Rattle.s370_state.specs.Words.{number_at};
-ghost use Rattle.s370_logic.specs.Masked.{size, gathered, inserted, insert_code, row_icm, row_stcm, row_clm};
+ghost use Rattle.s370_logic.specs.Masked.{size, gathered, inserted, insert_code, store_number, row_icm, row_stcm, row_clm};
 
-use crate::comparisons::order_code;
 use cov_base::Addr;
 use s370_decode::Code;
-use s370_state::{Cpu, Next, Space, byte_of, number_of, put_number, test_read, test_store};
+use s370_state::{Cpu, Next, Space, byte_of, order_code, put_into, test_read, test_store};
 
 /// The operand's length: how many bytes the mask selects.
 fn size(code: &Code) -> u32
@@ -55,16 +54,35 @@ fn inserted(k: u8, mask: u8, w: u32, v: u32) -> u32
 }
 
 /// The number of an operand's n bytes.
-fn number<P: Space>(space: &P, at: Addr, n: u32) -> u32
+#[tactic(auto, using(crate::proofs::Masks::number_none, crate::proofs::Masks::number_more))]
+fn number_of<P: Space>(space: &P, at: Addr, n: u32) -> u32
     requires most { n ≤ 4 }
     requires reach { can_reach (P.memory space.now) at n ≡ true }
     ensures { result ≡ number_at (P.memory space.now) (P.bytes space.now) at n }
 {
-    number_of(space, at, n) as u32
+    let mut v: u32 = 0;
+    for i in 0..n {
+        v = v * 256 + u32::from(byte_of(space, at, i, n));
+    }
+    v
+}
+
+/// The n bytes of an operand become the low bytes of a number.
+#[tactic(auto, using(crate::proofs::Masks::store_none, crate::proofs::Masks::store_more))]
+fn put_number<P: Space>(space: &mut P, at: Addr, n: u32, v: u32)
+    requires store { can_store (P.memory space.old) at n ≡ true }
+    ensures memory { P.memory space.new ≡ P.memory space.old }
+    ensures bytes { P.bytes space.new ≡ store_number (P.bytes space.old) at n v }
+{
+    let mut rest = v;
+    for i in 0..n {
+        put_into(space, at, n - 1 - i, n, (rest % 256) as u8);
+        rest /= 256;
+    }
 }
 
 /// The condition code of an operand's n bytes, whose number is v, when they are inserted.
-#[tactic(auto, using(s370_state::proofs::Halves::number_none))]
+#[tactic(auto, using(crate::proofs::Masks::number_none))]
 fn insert_code<P: Space>(space: &P, at: Addr, n: u32, v: u32) -> u8
     requires reach { can_reach (P.memory space.now) at n ≡ true }
     requires number { v ≡ number_at (P.memory space.now) (P.bytes space.now) at n }
@@ -80,49 +98,49 @@ fn insert_code<P: Space>(space: &P, at: Addr, n: u32, v: u32) -> u8
     }
 }
 
-/// ICM.
+/// ICM: inserts bytes into the places of R1 that the mask selects.
 pub fn insert_under_mask<P: Space>(cpu: &mut Cpu, space: &mut P, code: &Code) -> Next
     ensures memory { P.memory space.new ≡ P.memory space.old }
     ensures row { Performs (P.memory space.old) cpu.old (P.bytes space.old) (λ m s. row_icm m s code.now) cpu.new (P.bytes space.new) result }
 {
-    let at = cpu.address(code.b2(), 0, code.d2());
+    let at = cpu.based(code.b2(), code.d2());
     let n = size(code);
     if let Err(e) = test_read(space, at, n) {
         return Next::Ended(e);
     }
-    let v = number(space, at, n);
+    let v = number_of(space, at, n);
     let r = code.r1();
     cpu.set_reg(r, inserted(4, code.m3(), cpu.reg(r), v));
     cpu.set_cc(insert_code(space, at, n, v));
     Next::On
 }
 
-/// STCM.
+/// STCM: stores the bytes of R1 that the mask selects.
 pub fn store_under_mask<P: Space>(cpu: &mut Cpu, space: &mut P, code: &Code) -> Next
     ensures memory { P.memory space.new ≡ P.memory space.old }
     ensures row { Performs (P.memory space.old) cpu.old (P.bytes space.old) (λ m s. row_stcm m s code.now) cpu.new (P.bytes space.new) result }
 {
-    let at = cpu.address(code.b2(), 0, code.d2());
+    let at = cpu.based(code.b2(), code.d2());
     let n = size(code);
     if let Err(e) = test_store(space, at, n) {
         return Next::Ended(e);
     }
     let v = gathered(4, code.m3(), cpu.reg(code.r1()));
-    put_number(space, at, n, u128::from(v));
+    put_number(space, at, n, v);
     Next::On
 }
 
-/// CLM.
+/// CLM: compares the bytes of R1 that the mask selects with as many in storage.
 pub fn compare_under_mask<P: Space>(cpu: &mut Cpu, space: &mut P, code: &Code) -> Next
     ensures memory { P.memory space.new ≡ P.memory space.old }
     ensures row { Performs (P.memory space.old) cpu.old (P.bytes space.old) (λ m s. row_clm m s code.now) cpu.new (P.bytes space.new) result }
 {
-    let at = cpu.address(code.b2(), 0, code.d2());
+    let at = cpu.based(code.b2(), code.d2());
     let n = size(code);
     if let Err(e) = test_read(space, at, n) {
         return Next::Ended(e);
     }
     let first = gathered(4, code.m3(), cpu.reg(code.r1()));
-    cpu.set_cc(order_code(first, number(space, at, n)));
+    cpu.set_cc(order_code(first.cmp(&number_of(space, at, n))));
     Next::On
 }

@@ -49,7 +49,7 @@ pub fn move_immediate<P: Space>(cpu: &mut Cpu, space: &mut P, code: &Code) -> Ne
     ensures memory { P.memory space.new ≡ P.memory space.old }
     ensures row { Performs (P.memory space.old) cpu.old (P.bytes space.old) (λ m s. row_mvi m s code.now) cpu.new (P.bytes space.new) result }
 {
-    let at = cpu.address(code.b1(), 0, code.d1());
+    let at = cpu.based(code.b1(), code.d1());
     store_byte(cpu, space, at, code.i2())
 }
 
@@ -58,7 +58,7 @@ pub fn test_under_mask<P: Space>(cpu: &mut Cpu, space: &mut P, code: &Code) -> N
     ensures memory { P.memory space.new ≡ P.memory space.old }
     ensures row { Performs (P.memory space.old) cpu.old (P.bytes space.old) (λ m s. row_tm m s code.now) cpu.new (P.bytes space.new) result }
 {
-    let at = cpu.address(code.b1(), 0, code.d1());
+    let at = cpu.based(code.b1(), code.d1());
     if let Err(e) = test_read(space, at, 1) {
         return Next::Ended(e);
     }
@@ -87,7 +87,7 @@ pub fn test_and_set<P: Space>(cpu: &mut Cpu, space: &mut P, code: &Code) -> Next
     ensures memory { P.memory space.new ≡ P.memory space.old }
     ensures row { Performs (P.memory space.old) cpu.old (P.bytes space.old) (λ m s. row_ts m s code.now) cpu.new (P.bytes space.new) result }
 {
-    let at = cpu.address(code.b2(), 0, code.d2());
+    let at = cpu.based(code.b2(), code.d2());
     if let Err(e) = test_store(space, at, 1) {
         return Next::Ended(e);
     }
@@ -102,7 +102,7 @@ pub fn set_program_mask<P: Space>(cpu: &mut Cpu, space: &mut P, code: &Code) -> 
     ensures row { Performs (P.memory space.old) cpu.old (P.bytes space.old) (λ m s. row_spm m s code.now) cpu.new (P.bytes space.new) result }
 {
     let w = cpu.reg(code.r1());
-    cpu.cc = (w / 268_435_456 % 4) as u8;
-    cpu.mask = (w / 16_777_216 % 16) as u8;
+    cpu.set_cc((w / 268_435_456 % 4) as u8);
+    cpu.set_mask((w / 16_777_216 % 16) as u8);
     Next::On
 }

@@ -1,20 +1,45 @@
 //! Compare and swap.
 #![tactic(auto, using(s370_state::proofs::Performs::ill_formed, s370_state::proofs::Performs::well_passes, s370_state::proofs::Performs::well_refuses))]
 
-ghost use Rattle.std.specs.Prelude.{◌≡◌, ℕ, ◌+◌, ◌%◌, ◌<◌, ◌≤◌, ◌^◌, true, false, ◌==◌, ◌&&◌, if◌then◌else◌};
+ghost use Rattle.std.specs.Prelude.{◌≡◌, ℕ, ◌+◌, ◌*◌, ◌/◌, ◌%◌, ◌<◌, ◌≤◌, ◌^◌, true, false, ◌==◌, ◌&&◌, if◌then◌else◌};
 ghost use Rattle.cov_base.specs.Memory.{can_reach, can_store};
 ghost use Rattle.s370_state.specs.Row.{Performs};
-ghost use Rattle.s370_logic.specs.Swaps.{row_cs, row_cds};
+ghost use Rattle.s370_state.specs.Words.{number_at};
+ghost use Rattle.s370_logic.specs.Swaps.{store_double, row_cs, row_cds};
 
+use cov_base::Addr;
 use s370_decode::Code;
-use s370_state::{Cpu, Ending, Next, Space, double_of, put_double, put_word, test_store, word_of};
+use s370_state::{Cpu, Ending, Next, Space, put_word, test_store, word_of};
+
+/// The doubleword at a distance into an operand that was tested, unsigned.
+#[tactic(auto, using(crate::proofs::Steps::double_of_words))]
+fn double_of<P: Space>(space: &P, at: Addr, i: u32, len: u32) -> u64
+    requires reach { can_reach (P.memory space.now) at len ≡ true }
+    requires below { i + 8 ≤ len }
+    ensures { result ≡ number_at (P.memory space.now) (P.bytes space.now) (at + i) 8 }
+{
+    u64::from(word_of(space, at, i, len)) * 4_294_967_296
+        + u64::from(word_of(space, at, i + 4, len))
+}
+
+/// A doubleword is stored at a distance into an operand that was tested.
+#[tactic(auto, unfolding(crate::specs::Swaps::store_double))]
+fn put_double<P: Space>(space: &mut P, at: Addr, i: u32, len: u32, value: u64)
+    requires store { can_store (P.memory space.old) at len ≡ true }
+    requires below { i + 8 ≤ len }
+    ensures memory { P.memory space.new ≡ P.memory space.old }
+    ensures bytes { P.bytes space.new ≡ store_double (P.bytes space.old) (at + i) value }
+{
+    put_word(space, at, i, len, (value / 4_294_967_296) as u32);
+    put_word(space, at, i + 4, len, (value % 4_294_967_296) as u32);
+}
 
 /// CS: stores R3 in a word that equals R1, or else loads R1 from it.
 pub fn compare_and_swap<P: Space>(cpu: &mut Cpu, space: &mut P, code: &Code) -> Next
     ensures memory { P.memory space.new ≡ P.memory space.old }
     ensures row { Performs (P.memory space.old) cpu.old (P.bytes space.old) (λ m s. row_cs m s code.now) cpu.new (P.bytes space.new) result }
 {
-    let at = cpu.address(code.b2(), 0, code.d2());
+    let at = cpu.based(code.b2(), code.d2());
     if at.get() % 4 != 0 {
         return Next::Ended(Ending::Abend(6));
     }
@@ -37,7 +62,7 @@ pub fn compare_double_and_swap<P: Space>(cpu: &mut Cpu, space: &mut P, code: &Co
     ensures memory { P.memory space.new ≡ P.memory space.old }
     ensures row { Performs (P.memory space.old) cpu.old (P.bytes space.old) (λ m s. row_cds m s code.now) cpu.new (P.bytes space.new) result }
 {
-    let at = cpu.address(code.b2(), 0, code.d2());
+    let at = cpu.based(code.b2(), code.d2());
     let (r1, r3) = (code.r1(), code.r3());
     if r1 % 2 != 0 || r3 % 2 != 0 || at.get() % 8 != 0 {
         return Next::Ended(Ending::Abend(6));

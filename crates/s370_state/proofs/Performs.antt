@@ -1,8 +1,8 @@
--- The two ways of a row: a test ends it, or its outcome comes.
-use Rattle.std.proofs.Common.{◌≡◌, Bool, true, false, Some, None, List, [], refl, ap}
+-- The two ways of a row: a test ends it, or its outcome comes, by the data that was read.
+use Rattle.std.proofs.Common.{◌≡◌, Bool, true, false, Option, Some, None, List, [], refl, ap}
 use Rattle.cov_base.specs.States.{Machine}
 use Rattle.cov_base.specs.Memory.{Memory}
-use Rattle.s370_state.specs.Row.{Use, Outcome, perform, finish, tests, use_tests, all_reached, all_stored, touched, after_tests}
+use Rattle.s370_state.specs.Row.{Use, Outcome, Program, on_data, perform, finish, tests, use_tests, all_reached, all_stored, touched, after_tests}
 use Rattle.s370_state.specs.declared.endings.Ending.{Ending}
 use Rattle.s370_state.specs.declared.endings.Ending.TheVariants.{Abend}
 use Rattle.s370_state.specs.declared.endings.Next.TheVariants.{Ended}
@@ -40,3 +40,11 @@ pub well_refuses : (m : Memory) (s : Machine) (well : Bool) (us : List Use) (o :
 unfolding perform tests
 well_refuses m s true us o e w h = ap (after_tests s o) h
 well_refuses m s false us o e w h = let q : false ≡ true = w in absurd cc
+
+pub good_data : {A : Type 0} (q : Option A) (f : A → Outcome) (x : A) → q ≡ Some x → on_data q f ≡ f x
+unfolding on_data
+good_data q f x h = ap (λ p. on_data p f) h
+
+pub bad_data : {A : Type 0} (q : Option A) (f : A → Outcome) → q ≡ None → on_data q f ≡ Program 7
+unfolding on_data
+bad_data q f h = ap (λ p. on_data p f) h

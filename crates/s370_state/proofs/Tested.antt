@@ -1,5 +1,5 @@
 -- What an operand that passed its tests gives for each of its bytes.
-use Rattle.std.proofs.Common.{◌≡◌, ℕ, ◌+◌, ◌*◌, ◌<◌, zero, suc, Bool, true, false, ◌&&◌, List, arith, zero-add, add-zero, add_assoc, refl, ◌⊎◌, inl, inr}
+use Rattle.std.proofs.Common.{◌≡◌, ℕ, ◌+◌, ◌*◌, ◌<◌, zero, suc, Bool, true, false, ◌&&◌, List, arith, zero-add, add-zero, refl, ◌⊎◌, inl, inr}
 use Rattle.cov_base.specs.Memory.{Memory, can_reach, can_store, is_accessible, is_private, wrap, byte_at}
 use Rattle.s370_state.specs.Words.{number_at}
 
@@ -35,11 +35,3 @@ store_at m a (suc n) i b h l e =
 pub word_of_bytes : (m : Memory) (bytes : List ℕ) (a : ℕ) → number_at m bytes a 4 ≡ ((byte_at m bytes (wrap a) * 256 + byte_at m bytes (wrap (a + 1))) * 256 + byte_at m bytes (wrap (a + 2))) * 256 + byte_at m bytes (wrap (a + 3))
 unfolding number_at
 word_of_bytes m bytes a = rw (zero-add, add-zero)
-
-pub double_of_words : (m : Memory) (bytes : List ℕ) (a : ℕ) → number_at m bytes a 8 ≡ number_at m bytes a 4 * 4294967296 + number_at m bytes (a + 4) 4
-unfolding number_at
-double_of_words m bytes a = simp add_assoc (omega arith)
-
-pub half_of_bytes : (m : Memory) (bytes : List ℕ) (a : ℕ) → number_at m bytes a 2 ≡ byte_at m bytes (wrap a) * 256 + byte_at m bytes (wrap (a + 1))
-unfolding number_at
-half_of_bytes m bytes a = rw (zero-add, add-zero)

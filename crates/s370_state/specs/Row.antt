@@ -81,6 +81,11 @@ perform m s row = after_tests s row.outcome (tests m row.well row.uses)
 abbrev pub at_once : Outcome → Row
 at_once o = record { well = true; uses = []; outcome = o }
 
+-- an outcome by the data that was read; bad data is code 7
+unfoldable pub on_data : {A : Type 0} → Option A → (A → Outcome) → Outcome
+on_data None f = Program 7
+on_data (Some x) f = f x
+
 -- the word at an address is the operand
 abbrev pub from_word : Memory → Machine → ℕ → (ℕ → Outcome) → Row
 from_word m s a f = record { well = true; uses = reads a 4 ∷ []; outcome = f (number_at m s.bytes a 4) }
@@ -108,6 +113,10 @@ with_reg s r v = record { cpu = record { regs = slice_set s.cpu.regs r v; ia = s
 -- the registers with other 64 bits in a pair
 abbrev pub with_pair : List ℕ → ℕ → ℕ → List ℕ
 with_pair regs r v = slice_set (slice_set regs r (v / 4294967296)) (r + 1) (v % 4294967296)
+
+-- the registers with an address in bits 8-31 of one
+abbrev pub with_address : List ℕ → ℕ → ℕ → List ℕ
+with_address regs r a = slice_set regs r (slice_index regs r / 16777216 * 16777216 + a)
 
 abbrev pub with_regs : Machine → List ℕ → Machine
 with_regs s regs = record { cpu = record { regs = regs; ia = s.cpu.ia; condition = s.cpu.condition; mask = s.cpu.mask }; bytes = s.bytes }

@@ -1,7 +1,7 @@
 //! The registers and the parts of the program status word that a task sees.
 ghost use Rattle.std.specs.Prelude.{◌≡◌, ℕ, ◌+◌, ◌*◌, ◌/◌, ◌%◌, ◌<◌, ◌≤◌, ◌^◌, slice_index, slice_set};
 ghost use Rattle.cov_base.specs.States.{base, address};
-ghost use Rattle.s370_state.specs.Row.{pair, with_pair};
+ghost use Rattle.s370_state.specs.Row.{pair, with_pair, with_address};
 
 use cov_base::Addr;
 use std::marker::Model;
@@ -64,12 +64,28 @@ impl Cpu {
         self.set_reg(r + 1, (v % 4_294_967_296) as u32);
     }
 
+    /// Puts the address into bits 8-31 of register r, which is below 16; bits 0-7 stay.
+    pub fn set_address(&mut self, r: u8, at: Addr)
+        requires { r < 16 }
+        ensures { self.new ≡ record self.old { regs = with_address self.old.regs r at } }
+    {
+        self.set_reg(r, self.reg(r) / 16_777_216 * 16_777_216 + at.get());
+    }
+
     /// Sets the condition code, 0 to 3.
     pub fn set_cc(&mut self, code: u8)
         requires { code ≤ 3 }
         ensures { self.new ≡ record self.old { condition = code } }
     {
         self.cc = code;
+    }
+
+    /// Sets the program mask, 0 to 15.
+    pub fn set_mask(&mut self, mask: u8)
+        requires { mask ≤ 15 }
+        ensures { self.new ≡ record self.old { mask = mask } }
+    {
+        self.mask = mask;
     }
 
     /// The next instruction is at that address.
@@ -118,5 +134,12 @@ impl Cpu {
         ensures { result ≡ address self.now b x d }
     {
         Addr::of(u32::from(d)).plus(self.base(b)).plus(self.base(x))
+    }
+    /// The effective address of base and displacement, for operands that take no index.
+    pub fn based(&self, b: u8, d: u16) -> Addr
+        requires { b < 16 }
+        ensures { result ≡ address self.now b 0 d }
+    {
+        self.address(b, 0, d)
     }
 }

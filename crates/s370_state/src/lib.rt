@@ -2,25 +2,25 @@
 #![tactic(auto)]
 
 mod cpu;
-mod digits;
 mod endings;
 mod io;
 mod operands;
+mod packed;
 mod plain_space;
 mod space;
 mod words;
 
 pub use cpu::Cpu;
-pub use digits::{is_minus, is_sign, packed, sign_half, value_of};
 pub use endings::{Ending, Next, next_after};
 pub use io::TaskIo;
 pub use operands::{
-    byte_of, double_of, ending_of, half_of, number_of, put_double, put_half, put_into, put_number,
-    put_word, read_word, test_read, test_read_both, test_store, test_store_read, word_of,
+    byte_of, ending_of, put_into, put_word, read_word, test_read, test_read_both, test_store,
+    test_store_read, word_of,
 };
+pub use packed::{Field, field_at, is_minus, is_sign, number, put_field};
 pub use plain_space::PlainSpace;
 pub use space::{Refused, Space};
-pub use words::{is_word, low_word, sign_code, signed, signed_half};
+pub use words::{order_code, signed};
 
 #[cfg(test)]
 mod tests;

@@ -2,7 +2,7 @@
 ghost use Rattle.std.specs.Prelude.{◌≡◌, ℕ, ◌+◌, ◌-◌, ◌*◌, ◌%◌, ◌/◌, ◌<◌, ◌≤◌, ◌^◌, List, [], ◌∷◌, true, IfOk, IfErr, slice_set, if◌then◌else◌, ◌&&◌};
 ghost use Rattle.cov_base.specs.Memory.{Memory, byte_at, is_accessible, is_private, can_reach, can_store, wrap};
 ghost use Rattle.s370_state.specs.Row.{Use, reads, stores, use_tests};
-ghost use Rattle.s370_state.specs.Words.{number_at, store_number, store_half, store_word, store_double};
+ghost use Rattle.s370_state.specs.Words.{number_at, store_word};
 ghost use Rattle.s370_state.specs.Answers.{ending_of};
 
 use crate::endings::Ending;
@@ -164,78 +164,4 @@ pub fn put_word<P: Space>(space: &mut P, at: Addr, i: u32, len: u32, value: u32)
     put_into(space, at, i + 1, len, (value / 65_536 % 256) as u8);
     put_into(space, at, i + 2, len, (value / 256 % 256) as u8);
     put_into(space, at, i + 3, len, (value % 256) as u8);
-}
-
-/// The doubleword at a distance into an operand that was tested, unsigned.
-#[tactic(auto, using(crate::proofs::Tested::double_of_words))]
-pub fn double_of<P: Space>(space: &P, at: Addr, i: u32, len: u32) -> u64
-    requires reach { can_reach (P.memory space.now) at len ≡ true }
-    requires below { i + 8 ≤ len }
-    ensures { result ≡ number_at (P.memory space.now) (P.bytes space.now) (at + i) 8 }
-{
-    u64::from(word_of(space, at, i, len)) * 4_294_967_296
-        + u64::from(word_of(space, at, i + 4, len))
-}
-
-/// A doubleword is stored at a distance into an operand that was tested.
-#[tactic(auto, unfolding(crate::specs::Words::store_double))]
-pub fn put_double<P: Space>(space: &mut P, at: Addr, i: u32, len: u32, value: u64)
-    requires store { can_store (P.memory space.old) at len ≡ true }
-    requires below { i + 8 ≤ len }
-    ensures memory { P.memory space.new ≡ P.memory space.old }
-    ensures bytes { P.bytes space.new ≡ store_double (P.bytes space.old) (at + i) value }
-{
-    put_word(space, at, i, len, (value / 4_294_967_296) as u32);
-    put_word(space, at, i + 4, len, (value % 4_294_967_296) as u32);
-}
-
-/// The halfword at a distance into an operand that was tested, unsigned.
-#[tactic(auto, using(crate::proofs::Tested::half_of_bytes))]
-pub fn half_of<P: Space>(space: &P, at: Addr, i: u32, len: u32) -> u16
-    requires reach { can_reach (P.memory space.now) at len ≡ true }
-    requires below { i + 2 ≤ len }
-    ensures { result ≡ number_at (P.memory space.now) (P.bytes space.now) (at + i) 2 }
-{
-    u16::from_be_bytes([byte_of(space, at, i, len), byte_of(space, at, i + 1, len)])
-}
-
-/// A word's low halfword is stored at a distance into an operand that was tested.
-#[tactic(auto, unfolding(crate::specs::Words::store_half))]
-pub fn put_half<P: Space>(space: &mut P, at: Addr, i: u32, len: u32, value: u32)
-    requires store { can_store (P.memory space.old) at len ≡ true }
-    requires below { i + 2 ≤ len }
-    ensures memory { P.memory space.new ≡ P.memory space.old }
-    ensures bytes { P.bytes space.new ≡ store_half (P.bytes space.old) (at + i) value }
-{
-    put_into(space, at, i, len, (value / 256 % 256) as u8);
-    put_into(space, at, i + 1, len, (value % 256) as u8);
-}
-
-/// The number of an operand's n bytes, at most 16, which was tested.
-#[tactic(auto, using(crate::proofs::Halves::number_none, crate::proofs::Halves::number_more))]
-pub fn number_of<P: Space>(space: &P, at: Addr, n: u32) -> u128
-    requires size { n ≤ 16 }
-    requires reach { can_reach (P.memory space.now) at n ≡ true }
-    ensures value { result ≡ number_at (P.memory space.now) (P.bytes space.now) at n }
-    ensures below { result < 256 ^ n }
-{
-    let mut v: u128 = 0;
-    for i in 0..n {
-        v = v * 256 + u128::from(byte_of(space, at, i, n));
-    }
-    v
-}
-
-/// The n bytes of an operand that was tested become the low bytes of a number.
-#[tactic(auto, using(crate::proofs::Halves::store_none, crate::proofs::Halves::store_more))]
-pub fn put_number<P: Space>(space: &mut P, at: Addr, n: u32, v: u128)
-    requires store { can_store (P.memory space.old) at n ≡ true }
-    ensures memory { P.memory space.new ≡ P.memory space.old }
-    ensures bytes { P.bytes space.new ≡ store_number (P.bytes space.old) at n v }
-{
-    let mut rest = v;
-    for i in 0..n {
-        put_into(space, at, n - 1 - i, n, (rest % 256) as u8);
-        rest /= 256;
-    }
 }

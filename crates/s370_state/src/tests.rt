@@ -51,7 +51,7 @@ fn overflows_end_under_their_mask_bit(rt: HostRuntime) {
 }
 
 #[test]
-fn words_are_signed_in_twos_complement(rt: HostRuntime) {
+fn registers_are_signed_in_twos_complement(rt: HostRuntime) {
     for (word, number) in [
         (0, 0),
         (0x7FFF_FFFF, 2_147_483_647),
@@ -59,19 +59,6 @@ fn words_are_signed_in_twos_complement(rt: HostRuntime) {
         (0xFFFF_FFFF, -1),
     ] {
         assert_eq!(rt; signed(word), number);
-        assert_eq!(rt; low_word(number), word);
-    }
-    for (number, word, fits, code) in [
-        (2_147_483_648, 0x8000_0000, false, 2),
-        (-2_147_483_649, 0x7FFF_FFFF, false, 1),
-        (4_294_967_296, 0, false, 2),
-        (-1, 0xFFFF_FFFF, true, 1),
-        (0, 0, true, 0),
-    ] {
-        assert_eq!(rt;
-            (low_word(number), is_word(number), sign_code(number)),
-            (word, fits, code)
-        );
     }
 }
 

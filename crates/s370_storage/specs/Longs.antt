@@ -1,9 +1,11 @@
 -- The rows of long moves and comparisons, whose operands are in two pairs of registers (Principles of Operation,
 -- "General Instructions").
 use Rattle.std.specs.Prelude.{ℕ, zero, suc, ◌+◌, ◌-◌, ◌*◌, ◌/◌, min, max, Bool, true, false, ◌&&◌, not, nat_lt, ◌==◌, if◌then◌else◌, List, [], ◌∷◌, Option, Some, None, slice_index, slice_set}
+use Rattle.std.specs.Ordering.{nat_cmp}
 use Rattle.cov_base.specs.States.{Machine}
 use Rattle.cov_base.specs.Memory.{Memory, byte_at, wrap}
 use Rattle.s370_state.specs.Row.{Row, Outcome, Completes, reads, stores, is_even, with_cc, with_bytes, with_regs}
+use Rattle.s370_state.specs.Words.{order_code}
 use Rattle.s370_decode.specs.Fields.{r1, r2}
 use Rattle.s370_decode.specs.declared.code.Code.{Code}
 use Rattle.s370_storage.specs.Searches.{first_where}
@@ -46,17 +48,13 @@ padded bytes o (suc k) = slice_set (padded bytes o k) (wrap (o.first + (lesser o
 abbrev pub long_moved : Memory → List ℕ → Long → List ℕ
 long_moved m bytes o = padded (moved Byte m bytes o.first o.second (lesser o)) o (o.first_length - lesser o)
 
--- lengths equal, first shorter, first longer
-abbrev pub length_code : Long → ℕ
-length_code o = if o.first_length == o.second_length then 0 else (if nat_lt o.first_length o.second_length then 1 else 2)
-
--- by whether the operands overlap so; then there is no further test and no effect but code 3
+-- by whether the operands overlap so; then there is no further test and no effect but code 3; else the lengths are compared
 abbrev pub long_moves : Memory → Machine → ℕ → ℕ → Long → Bool → Row
 long_moves m s r q o true = record { well = is_even r && is_even q; uses = []; outcome = Completes (with_cc s 3) }
 long_moves m s r q o false = record {
   well = is_even r && is_even q;
   uses = stores o.first o.first_length ∷ (reads o.second (lesser o) ∷ []);
-  outcome = Completes (with_bytes (with_cc (with_regs s (passed s.cpu.regs r q o o.first_length (lesser o))) (length_code o)) (long_moved m s.bytes o));
+  outcome = Completes (with_bytes (with_cc (with_regs s (passed s.cpu.regs r q o o.first_length (lesser o))) (order_code (nat_cmp o.first_length o.second_length))) (long_moved m s.bytes o));
 }
 
 abbrev pub row_mvcl : Memory → Machine → Code → Row
@@ -76,11 +74,11 @@ second_byte m bytes o i = extended m bytes o.second o.second_length o.padding i
 unfoldable pub unequal : Memory → List ℕ → Long → ℕ → Option ℕ
 unequal m bytes o n = first_where (λ i. not (first_byte m bytes o i == second_byte m bytes o i)) n
 
--- by the unequal pair, if any: 1 where the first operand is low there, 2 where it is high
+-- by the unequal pair, if any
 abbrev pub compares : Memory → Machine → ℕ → ℕ → Long → Option ℕ → Outcome
 compares m s r q o None = Completes (with_cc (with_regs s (passed s.cpu.regs r q o o.first_length o.second_length)) 0)
 compares m s r q o (Some i) =
-    Completes (with_cc (with_regs s (passed s.cpu.regs r q o (min i o.first_length) (min i o.second_length))) (if nat_lt (first_byte m s.bytes o i) (second_byte m s.bytes o i) then 1 else 2))
+    Completes (with_cc (with_regs s (passed s.cpu.regs r q o (min i o.first_length) (min i o.second_length))) (order_code (nat_cmp (first_byte m s.bytes o i) (second_byte m s.bytes o i))))
 
 -- both are read whole, also past an unequal pair
 abbrev pub long_compares : Memory → Machine → ℕ → ℕ → Long → Row

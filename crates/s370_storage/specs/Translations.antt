@@ -3,7 +3,7 @@
 use Rattle.std.specs.Prelude.{ℕ, zero, suc, ◌+◌, ◌*◌, ◌/◌, true, if◌then◌else◌, ◌==◌, not, List, [], ◌∷◌, ◌++◌, Option, Some, None, slice_index, slice_set}
 use Rattle.cov_base.specs.States.{Machine}
 use Rattle.cov_base.specs.Memory.{Memory, byte_at, wrap}
-use Rattle.s370_state.specs.Row.{Row, Use, Outcome, Completes, reads, stores, with_cc, with_bytes, with_regs}
+use Rattle.s370_state.specs.Row.{Row, Use, Outcome, Completes, reads, stores, with_cc, with_bytes, with_regs, with_address}
 use Rattle.s370_state.specs.declared.endings.Ending.{Ending}
 use Rattle.s370_decode.specs.Fields.{i2, e1, e2}
 use Rattle.s370_decode.specs.declared.code.Code.{Code}
@@ -53,7 +53,7 @@ looked_up n (Some i) = i + 1
 
 -- the registers with an address in bits 8-31 of register 1, and a byte in bits 24-31 of register 2
 abbrev pub selecting : List ℕ → ℕ → ℕ → List ℕ
-selecting regs at v = slice_set (slice_set regs 1 (slice_index regs 1 / 16777216 * 16777216 + at)) 2 (slice_index regs 2 / 256 * 256 + v)
+selecting regs at v = slice_set (with_address regs 1 at) 2 (slice_index regs 2 / 256 * 256 + v)
 
 -- the argument that is selected, its address and function byte; code 2 where it is the last
 abbrev pub selects : Memory → Machine → ℕ → ℕ → ℕ → Option ℕ → Outcome

@@ -3,7 +3,6 @@
 
 mod long;
 mod moves;
-mod operands;
 mod packing;
 mod table;
 mod translate;

@@ -4,12 +4,14 @@
 ghost use Rattle.std.specs.Prelude.{◌≡◌, ℕ, ◌+◌, ◌-◌, ◌*◌, ◌/◌, ◌%◌, ◌<◌, ◌≤◌, ◌^◌, ◌∷◌, Some, None, true, false, min, max, List, ◌&&◌, IfOk, IfErr, IfSome, nat_lt, if◌then◌else◌};
 ghost use Rattle.cov_base.specs.Memory.{can_reach, can_store, byte_at, wrap};
 ghost use Rattle.s370_state.specs.Row.{Performs, perform, machine_of, after, finish, is_even, use_tests, reads};
-ghost use Rattle.s370_storage.specs.Longs.{long, passed, lesser, overlaps, padded, long_moved, length_code, long_moves, row_mvcl, extended, first_byte, second_byte, unequal, compares, long_compares, row_clcl};
+ghost use Rattle.s370_storage.specs.Longs.{long, passed, lesser, overlaps, padded, long_moved, long_moves, row_mvcl, extended, first_byte, second_byte, unequal, compares, long_compares, row_clcl};
 
 use crate::moves::{Part, move_bytes};
 use cov_base::Addr;
 use s370_decode::Code;
-use s370_state::{Cpu, Ending, Next, Space, byte_of, put_into, test_read_both, test_store_read};
+use s370_state::{
+    Cpu, Ending, Next, Space, byte_of, order_code, put_into, test_read_both, test_store_read,
+};
 
 /// Two operands, each below 2^24 bytes long, and the padding byte.
 #[derive(Drop)]
@@ -100,20 +102,6 @@ fn move_and_fill<P: Space>(space: &mut P, o: &Long)
     fill(space, o);
 }
 
-/// The condition code of a long move: lengths equal, first lower, first higher.
-fn length_code(o: &Long) -> u8
-    ensures value { result ≡ length_code o.now }
-    ensures below { result ≤ 2 }
-{
-    if o.first_length == o.second_length {
-        0
-    } else if o.first_length < o.second_length {
-        1
-    } else {
-        2
-    }
-}
-
 /// Moves operands that do not overlap so that a byte is moved after it was stored into.
 fn move_apart<P: Space>(cpu: &mut Cpu, space: &mut P, r: u8, q: u8, o: &Long) -> Next
     requires r { r < 15 }
@@ -130,7 +118,7 @@ fn move_apart<P: Space>(cpu: &mut Cpu, space: &mut P, r: u8, q: u8, o: &Long) ->
     }
     move_and_fill(space, o);
     pass(cpu, r, q, o, o.first_length, n);
-    cpu.set_cc(length_code(o));
+    cpu.set_cc(order_code(o.first_length.cmp(&o.second_length)));
     Next::On
 }
 
@@ -212,7 +200,7 @@ fn set_compared<P: Space>(cpu: &mut Cpu, space: &P, r: u8, q: u8, o: &Long, uneq
             pass(cpu, r, q, o, i.min(o.first_length), i.min(o.second_length));
             let first = extended(space, o.first, o.first_length, o.padding, i);
             let second = extended(space, o.second, o.second_length, o.padding, i);
-            cpu.set_cc(if first < second { 1 } else { 2 });
+            cpu.set_cc(order_code(first.cmp(&second)));
         }
     }
 }

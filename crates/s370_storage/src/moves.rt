@@ -6,7 +6,6 @@ ghost use Rattle.cov_base.specs.Memory.{can_reach, can_store};
 ghost use Rattle.s370_state.specs.Row.{Performs};
 ghost use Rattle.s370_storage.specs.Moves.{with_part, moved, moves, row_mvc, row_mvn, row_mvz, left_of, inverted, row_mvcin};
 
-use crate::operands::{first_address, second_address};
 use cov_base::Addr;
 use s370_decode::Code;
 use s370_state::{Cpu, Next, Space, byte_of, put_into, test_store_read};
@@ -52,7 +51,8 @@ fn move_parts<P: Space>(part: Part, cpu: &Cpu, space: &mut P, code: &Code) -> Ne
     ensures memory { P.memory space.new ≡ P.memory space.old }
     ensures row { Performs (P.memory space.old) cpu.now (P.bytes space.old) (λ m s. moves part m s code.now) cpu.now (P.bytes space.new) result }
 {
-    let (a, b) = (first_address(cpu, code), second_address(cpu, code));
+    let a = cpu.based(code.b1(), code.d1());
+    let b = cpu.based(code.b2(), code.d2());
     let n = u32::from(code.l()) + 1;
     if let Err(e) = test_store_read(space, a, n, b, n) {
         return Next::Ended(e);
@@ -113,7 +113,8 @@ pub fn move_inverse<P: Space>(cpu: &mut Cpu, space: &mut P, code: &Code) -> Next
     ensures memory { P.memory space.new ≡ P.memory space.old }
     ensures row { Performs (P.memory space.old) cpu.old (P.bytes space.old) (λ m s. row_mvcin m s code.now) cpu.new (P.bytes space.new) result }
 {
-    let (a, b) = (first_address(cpu, code), second_address(cpu, code));
+    let a = cpu.based(code.b1(), code.d1());
+    let b = cpu.based(code.b2(), code.d2());
     let l = u32::from(code.l());
     if let Err(e) = test_store_read(space, a, l + 1, left_of(b, l), l + 1) {
         return Next::Ended(e);

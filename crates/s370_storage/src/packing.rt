@@ -6,7 +6,6 @@ ghost use Rattle.cov_base.specs.Memory.{can_reach, can_store, byte_at, wrap};
 ghost use Rattle.s370_state.specs.Row.{Performs, use_tests, stores, reads};
 ghost use Rattle.s370_storage.specs.Packing.{fields, source, result_at, exchanged, packed_byte, packed, with_zoned, unpacked, shifted, packs, row_pack, row_unpk, row_mvo};
 
-use crate::operands::{first_address, second_address};
 use cov_base::Addr;
 use s370_decode::Code;
 use s370_state::{Cpu, Ending, Next, Space, byte_of, put_into, test_store_read};
@@ -27,9 +26,9 @@ fn fields_of(cpu: &Cpu, code: &Code) -> Fields
     ensures from { result.from_last < 16 }
 {
     Fields {
-        to: first_address(cpu, code),
+        to: cpu.based(code.b1(), code.d1()),
         to_last: u32::from(code.l1()),
-        from: second_address(cpu, code),
+        from: cpu.based(code.b2(), code.d2()),
         from_last: u32::from(code.l2()),
     }
 }

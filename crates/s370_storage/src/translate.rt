@@ -6,7 +6,6 @@ ghost use Rattle.cov_base.specs.Memory.{can_reach, can_store, byte_at, wrap, fir
 ghost use Rattle.s370_state.specs.Row.{Performs, use_tests, stores, reads, all_reached, touched, touch_ending, machine_of, after, finish};
 ghost use Rattle.s370_storage.specs.Translations.{function_at, functions, or_ending, translated, row_tr, function, selected, looked_up, selecting, selects, searches, row_trt};
 
-use crate::operands::{first_address, second_address};
 use cov_base::Addr;
 use s370_decode::Code;
 use s370_state::{Cpu, Ending, Next, Space, byte_of, ending_of, put_into};
@@ -114,7 +113,8 @@ pub fn translate<P: Space>(cpu: &mut Cpu, space: &mut P, code: &Code) -> Next
     ensures memory { P.memory space.new ≡ P.memory space.old }
     ensures row { Performs (P.memory space.old) cpu.old (P.bytes space.old) (λ m s. row_tr m s code.now) cpu.new (P.bytes space.new) result }
 {
-    let (a, t) = (first_address(cpu, code), second_address(cpu, code));
+    let a = cpu.based(code.b1(), code.d1());
+    let t = cpu.based(code.b2(), code.d2());
     let n = u32::from(code.l()) + 1;
     if let Err(e) = test_translation(space, a, t, n) {
         return Next::Ended(e);
@@ -198,7 +198,7 @@ fn select<P: Space>(cpu: &mut Cpu, space: &P, a: Addr, t: Addr, n: u32, i: u32)
     ensures { cpu.new ≡ record cpu.old { regs = selecting cpu.old.regs (wrap (a + i)) (function (P.memory space.now) (P.bytes space.now) a t i); condition = if i + 1 == n then 2 else 1 } }
 {
     let value = space.byte(function_at(space, a, t, i, n));
-    cpu.set_reg(1, cpu.reg(1) / 16_777_216 * 16_777_216 + a.plus(i).get());
+    cpu.set_address(1, a.plus(i));
     cpu.set_reg(2, cpu.reg(2) / 256 * 256 + u32::from(value));
     cpu.set_cc(if i + 1 == n { 2 } else { 1 });
 }
@@ -222,7 +222,8 @@ pub fn translate_and_test<P: Space>(cpu: &mut Cpu, space: &mut P, code: &Code) -
     ensures memory { P.memory space.new ≡ P.memory space.old }
     ensures row { Performs (P.memory space.old) cpu.old (P.bytes space.old) (λ m s. row_trt m s code.now) cpu.new (P.bytes space.new) result }
 {
-    let (a, t) = (first_address(cpu, code), second_address(cpu, code));
+    let a = cpu.based(code.b1(), code.d1());
+    let t = cpu.based(code.b2(), code.d2());
     let n = u32::from(code.l()) + 1;
     match test_search(space, a, t, n) {
         Ok(selected) => {

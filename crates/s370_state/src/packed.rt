@@ -1,13 +1,13 @@
 //! Packed decimal fields in storage (Principles of Operation, "Decimal Instructions", "Data Format"). A field of length code
 //! l has l + 1 bytes: 2l + 1 digits, then the sign in the last half byte.
-ghost use Rattle.std.specs.Prelude.{◌≡◌, ℕ, ◌+◌, ◌-◌, ◌*◌, ◌/◌, ◌%◌, ◌^◌, ◌<◌, ◌≤◌, ◌&&◌, true, false, IfSome, IfNone};
+ghost use Rattle.std.specs.Prelude.{◌≡◌, ℕ, ◌+◌, ◌-◌, ◌*◌, ◌/◌, ◌%◌, ◌^◌, ◌<◌, ◌≤◌, ◌&&◌, true, false, IfSome, IfNone, ℤ, pos, neg_ℤ, ◌<ℤ◌};
 ghost use Rattle.std.specs.List.{list_all};
 ghost use Rattle.cov_base.specs.Memory.{can_reach, can_store};
-ghost use Rattle.s370_state.specs.Digits.{is_sign};
-ghost use Rattle.s370_decimal.specs.Digits.{is_digit, halves_at, decimal, field_at, digits_of, bytes_of, store_bytes, store_field};
+ghost use Rattle.s370_state.specs.Digits.{is_sign, is_minus, sign_half, is_digit, halves_at, decimal, field_at, number, digits_of, bytes_of, store_bytes, store_field};
 
+use crate::operands::{byte_of, put_into};
+use crate::space::Space;
 use cov_base::Addr;
-use s370_state::{Space, byte_of, is_minus, is_sign, put_into, sign_half};
 
 /// What a field holds.
 #[derive(Clone, Copy)]
@@ -16,6 +16,28 @@ pub struct Field {
     pub magnitude: u128,
     /// Whether its sign is minus, which that of a zero may be too.
     pub minus: bool,
+}
+
+/// Whether the half byte is a sign, 10 to 15, and no digit.
+pub fn is_sign(half: u8) -> bool
+    ensures { result ≡ is_sign half }
+{
+    half >= 10
+}
+
+/// Whether the sign is minus, which 11 and 13 are.
+pub fn is_minus(half: u8) -> bool
+    ensures { result ≡ is_minus half }
+{
+    half == 11 || half == 13
+}
+
+/// The sign that is made: 13 for minus, 12 for plus.
+fn sign_half(minus: bool) -> u8
+    ensures value { result ≡ sign_half minus }
+    ensures below { result < 16 }
+{
+    if minus { 13 } else { 12 }
 }
 
 /// Whether both halves of the byte are digits.
@@ -78,8 +100,23 @@ pub fn field_at<P: Space>(space: &P, at: Addr, l: u8) -> Option<Field>
     }
 }
 
+/// The field as a number, where a zero has no sign.
+#[tactic(auto, unfolding(crate::specs::Digits::number))]
+pub fn number(f: Field) -> i128
+    requires { f.magnitude < 10000000000000000000000000000000 }
+    ensures value { result ≡ number f }
+    ensures low { neg_ℤ (pos 10000000000000000000000000000000) <ℤ result }
+    ensures high { result <ℤ pos 10000000000000000000000000000000 }
+{
+    if f.minus {
+        -(f.magnitude as i128)
+    } else {
+        f.magnitude as i128
+    }
+}
+
 /// The first k of an operand's n bytes become the 2k low digits of v.
-#[tactic(auto, using(crate::proofs::Halves::no_pairs, crate::proofs::Halves::last_pair))]
+#[tactic(auto, using(crate::proofs::Digits::no_pairs, crate::proofs::Digits::last_pair))]
 fn put_pairs<P: Space>(space: &mut P, at: Addr, k: u32, n: u32, v: u128)
     requires inside { k ≤ n }
     requires store { can_store (P.memory space.old) at n ≡ true }
@@ -94,7 +131,7 @@ fn put_pairs<P: Space>(space: &mut P, at: Addr, k: u32, n: u32, v: u128)
 }
 
 /// The field of length code l, whose bytes were tested, becomes the low digits of a magnitude and a sign.
-#[tactic(auto, using(crate::proofs::Halves::field_stored))]
+#[tactic(auto, using(crate::proofs::Digits::field_stored))]
 pub fn put_field<P: Space>(space: &mut P, at: Addr, l: u8, v: u128, minus: bool)
     requires store { can_store (P.memory space.old) at (l + 1) ≡ true }
     ensures memory { P.memory space.new ≡ P.memory space.old }

@@ -1,6 +1,6 @@
 use Rattle.std.proofs.Common.{◌∙◌, sym, arith}
-use Rattle.s370_decimal.proofs.Halves.{pairs_most, digit_last, last_digit, field_good, field_pairs_bad, field_last_bad}
-use Rattle.s370_decimal.proofs.packed.field_at.Goals as goal
+use Rattle.s370_state.proofs.Digits.{pairs_most, digit_last, last_digit, field_good, field_pairs_bad, field_last_bad}
+use Rattle.s370_state.proofs.packed.field_at.Goals as goal
 
 pub overflow_mul-result : goal.overflow_mul-result
 overflow_mul-result g c = let b = pairs_most c.args.l c.in-Some.high c.requires.length (rw c.from-n.ensures at c.in-Some.ensures.below) in omega (arith, b)

@@ -1,6 +1,6 @@
 use Rattle.std.proofs.Common.{◌≡◌, ◌<◌, ◌^◌}
 use Rattle.s370_state.specs.Words.{number_at}
-use Rattle.s370_state.proofs.operands.number_of.Given as goal
+use Rattle.s370_logic.proofs.masked.number_of.Given as goal
 
 abbrev pub invariant-loop-i : goal.invariant-loop-i
 invariant-loop-i g l = record {

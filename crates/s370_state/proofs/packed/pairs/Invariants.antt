@@ -1,7 +1,7 @@
 use Rattle.std.proofs.Common.{◌≡◌, ◌<◌, ◌^◌, true}
 use Rattle.std.specs.List.{list_all}
-use Rattle.s370_decimal.specs.Digits.{is_digit, halves_at, decimal}
-use Rattle.s370_decimal.proofs.packed.pairs.Given as goal
+use Rattle.s370_state.specs.Digits.{is_digit, halves_at, decimal}
+use Rattle.s370_state.proofs.packed.pairs.Given as goal
 
 abbrev pub invariant-loop-i : goal.invariant-loop-i
 invariant-loop-i g l = record {

@@ -1,6 +1,6 @@
 use Rattle.std.proofs.Common.{arith}
-use Rattle.s370_state.proofs.Halves.{number_more, byte_fits, byte_more}
-use Rattle.s370_state.proofs.operands.number_of.Goals as goal
+use Rattle.s370_logic.proofs.Masks.{number_more, byte_fits, byte_more}
+use Rattle.s370_logic.proofs.masked.number_of.Goals as goal
 
 pub overflow_mul-v : goal.overflow_mul-v
 overflow_mul-v g c = let b = byte_fits _ _ (omega arith) c.loop-i.invariant.below in omega (arith, b)

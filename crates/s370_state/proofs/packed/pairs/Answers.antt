@@ -1,7 +1,7 @@
 use Rattle.std.proofs.Common.{◌≡◌, ◌/◌, ◌%◌, true, ◌&&◌, ◌∙◌, sym, arith, lit<}
-use Rattle.s370_decimal.specs.Digits.{is_digit}
-use Rattle.s370_decimal.proofs.Halves.{no_digits, no_number, digits_more, number_more, digits_fail, pair_below, pair_more, pairs_fit}
-use Rattle.s370_decimal.proofs.packed.pairs.Goals as goal
+use Rattle.s370_state.specs.Digits.{is_digit}
+use Rattle.s370_state.proofs.Digits.{no_digits, no_number, digits_more, number_more, digits_fail, pair_below, pair_more, pairs_fit}
+use Rattle.s370_state.proofs.packed.pairs.Goals as goal
 
 pub loop-i-init : goal.loop-i-init
 loop-i-init g c = record { good = no_digits _ _ _; value = no_number _ _ _; below = lit< tt }

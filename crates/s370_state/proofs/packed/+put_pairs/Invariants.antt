@@ -1,4 +1,4 @@
-use Rattle.s370_decimal.proofs.packed.+put_pairs.Given as goal
+use Rattle.s370_state.proofs.packed.+put_pairs.Given as goal
 
 abbrev pub decreases-put_pairs : goal.decreases-put_pairs
 decreases-put_pairs g l = l.k

@@ -1,6 +1,6 @@
 use Rattle.std.proofs.Common.{◌≡◌, ◌-◌}
-use Rattle.s370_state.specs.Words.{store_number}
-use Rattle.s370_state.proofs.operands.put_number.Given as goal
+use Rattle.s370_logic.specs.Masked.{store_number}
+use Rattle.s370_logic.proofs.masked.put_number.Given as goal
 
 -- what is left to do gives the whole
 abbrev pub invariant-loop-i : goal.invariant-loop-i

@@ -1,6 +1,6 @@
 use Rattle.std.proofs.Common.{◌≡◌, ◌-◌, arith}
-use Rattle.s370_state.proofs.Halves.{store_none}
-use Rattle.s370_state.proofs.operands.put_number.Goals as goal
+use Rattle.s370_logic.proofs.Masks.{store_none}
+use Rattle.s370_logic.proofs.masked.put_number.Goals as goal
 
 pub returns-clause-bytes : goal.returns-clause-bytes
 returns-clause-bytes g c =
