@@ -11,6 +11,3 @@ mod sums;
 mod table;
 
 pub use table::decimal;
-
-#[cfg(test)]
-mod tests;

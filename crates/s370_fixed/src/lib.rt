@@ -11,6 +11,3 @@ mod sums;
 mod table;
 
 pub use table::fixed;
-
-#[cfg(test)]
-mod tests;

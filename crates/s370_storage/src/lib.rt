@@ -9,6 +9,3 @@ mod table;
 mod translate;
 
 pub use table::storage;
-
-#[cfg(test)]
-mod tests;
