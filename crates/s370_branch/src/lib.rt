@@ -4,6 +4,3 @@
 mod branches;
 
 pub use branches::{branch, outcome};
-
-#[cfg(test)]
-mod tests;

@@ -10,6 +10,3 @@ mod sums;
 mod table;
 
 pub use table::decimal;
-
-#[cfg(test)]
-mod tests;

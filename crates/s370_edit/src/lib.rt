@@ -6,6 +6,3 @@ mod pattern;
 mod working;
 
 pub use editing::edit;
-
-#[cfg(test)]
-mod tests;

@@ -1,3 +1,2 @@
 pub mod CallBytes
-pub mod Empty
 pub mod Subjects

@@ -1,169 +1,187 @@
-//! Task calls, refused codes and branches, over a task without storage.
-ghost use Rattle.std.specs.Prelude.{ℕ, [], false, zero};
+//! Every operation against vectors from outside, and the parts of an instruction that no line of them shows alone.
+mod branches;
+mod control;
+mod decimal;
+mod editing;
+mod fixed;
+mod harness;
+mod logic;
+mod storage;
 
-use super::*;
+use crate::{execute, fetch_rest, is_execute, merge, subject_address};
+use branches::SELECTED;
 use cov_base::Addr;
-use s370_decode::Code;
-use s370_state::{Cpu, Ending, Next, Refused, Space, TaskIo};
+use harness::check;
+use s370_branch::outcome;
+use s370_decode::{Code, Op, length, op_of};
+use s370_state::{Cpu, Ending, PlainSpace, TaskIo};
+use std::alloc::Global;
 use std::test::*;
 
-/// Storage of which nothing is accessible.
-#[derive(Drop)]
-struct Nowhere;
-
-#[tactic(auto, unfolding(cov_base::specs::Memory::can_reach, cov_base::specs::Memory::is_accessible))]
-impl Space for Nowhere {
-    ghost memory = { λ s. record { private = 0; is_image = λ a. false; image = λ a. 0; is_touch = λ a. false } };
-
-    ghost bytes = { λ s. [] };
-
-    fn half(&self, at: Addr) -> Result<u16, Refused> {
-        Err(Refused::Addressing)
-    }
-
-    fn first(&self, at: Addr) -> Result<u16, Refused> {
-        Err(Refused::Addressing)
-    }
-
-    fn can_reach(&self, at: Addr, len: u32) -> Result<(), Refused> {
-        if len == 0 {
-            Ok(())
-        } else {
-            Err(Refused::Addressing)
-        }
-    }
-
-    fn can_store(&self, at: Addr, len: u32) -> Result<(), Refused> {
-        Ok(())
-    }
-
-    fn can_read(&self, at: Addr, len: u32) -> Result<(), Refused> {
-        Ok(())
-    }
-
-    fn byte(&self, at: Addr) -> u8 {
-        0
-    }
-
-    fn put(&mut self, at: Addr, value: u8) {}
+#[test]
+fn fixed_point_operations_do_as_the_manual_says(rt: HostRuntime) -> Result<(), Fail> {
+    check(&rt, rt.alloc(), &fixed::TABLE)
 }
 
-fn task() -> Cpu {
-    let mut regs = [0; 16];
-    regs[14] = 0x00FF_FFFE;
-    regs[15] = 0x0010_0000;
+#[test]
+fn operations_of_logic_do_as_the_manual_says(rt: HostRuntime) -> Result<(), Fail> {
+    check(&rt, rt.alloc(), &logic::TABLE)
+}
+
+#[test]
+fn operations_of_storage_do_as_the_manual_says(rt: HostRuntime) -> Result<(), Fail> {
+    check(&rt, rt.alloc(), &storage::TABLE)
+}
+
+#[test]
+fn decimal_operations_do_as_the_manual_says(rt: HostRuntime) -> Result<(), Fail> {
+    check(&rt, rt.alloc(), &decimal::TABLE)
+}
+
+#[test]
+fn editing_does_as_the_manual_says(rt: HostRuntime) -> Result<(), Fail> {
+    check(&rt, rt.alloc(), &editing::TABLE)
+}
+
+#[test]
+fn branches_do_as_the_manual_says(rt: HostRuntime) -> Result<(), Fail> {
+    check(&rt, rt.alloc(), &branches::TABLE)
+}
+
+#[test]
+fn task_calls_and_refused_codes(rt: HostRuntime) -> Result<(), Fail> {
+    check(&rt, rt.alloc(), &control::TABLE)
+}
+
+fn code_of(bytes: [u8; 6]) -> Code {
+    Code {
+        at: Addr::of(0x10_0230),
+        bytes,
+        len: length(u16::from(bytes[0]) * 256),
+    }
+}
+
+fn task(regs: [u32; 16], cc: u8) -> Cpu {
     Cpu {
         regs,
-        ia: Addr::of(0x10_0000),
-        cc: 2,
+        ia: Addr::of(0x10_0230),
+        cc: cc % 4,
         mask: 0,
     }
 }
 
-fn code_of(first: u8, second: u8, rest: [u8; 4], len: u8) -> Code {
-    Code {
-        at: Addr::of(0x10_0000),
-        bytes: [first, second, rest[0], rest[1], rest[2], rest[3]],
-        len,
+/// Storage of which nothing is accessible.
+fn nowhere(alloc: Global) -> PlainSpace {
+    PlainSpace {
+        size: 0,
+        bytes: Vec::new(alloc),
+        base: 0,
+        image: Vec::new(alloc),
+        touches: Vec::new(alloc),
     }
 }
 
+/// Where a branch to X'3000' by register 15 leaves the task.
+fn goes_by(alloc: Global, code: &Code, cc: u8) -> Result<u32, Fail> {
+    let mut cpu = task([0x3000; 16], cc);
+    let mut io = TaskIo::new(alloc, Vec::new(alloc), 0)?;
+    if !is_execute(u16::from(code.bytes[0]) * 256 + u16::from(code.bytes[1])) {
+        execute(&mut cpu, &mut nowhere(alloc), &mut io, code, None);
+    }
+    Ok(cpu.ia.get())
+}
+
 #[test]
-fn task_calls_by_their_numbers(rt: HostRuntime) -> Result<(), Fail> {
-    let mut io = TaskIo::new(rt.alloc(), vec![in rt.alloc(); 1]?, 1)?;
-    let rows = [
-        (3, Next::Ended(Ending::Exit), 0x10_0000),
-        (4, Next::On, 0x10_0002),
-        (5, Next::On, 0x10_0002),
-        (0, Next::Ended(Ending::BadSvc(0)), 0x10_0000),
-        (255, Next::Ended(Ending::BadSvc(255)), 0x10_0000),
-    ];
-    for (number, next, ia) in rows {
-        let mut cpu = task();
-        let code = code_of(0x0A, number, [0; 4], 2);
-        assert!(rt;
-            execute(&mut cpu, &mut Nowhere, &mut io, &code, None) == next,
-            "SVC {number}"
-        );
-        assert_eq!(rt; cpu.at().get(), ia, "SVC {number}");
-        assert_eq!(rt; cpu.reg(15), 0x10_0000);
+fn each_mask_selects_its_codes(rt: HostRuntime) -> Result<(), Fail> {
+    for (mask, selected) in SELECTED.iter().enumerate() {
+        let m1 = (mask % 16) as u8 * 16;
+        let bc = code_of([0x47, m1, 0xF0, 0, 0, 0]);
+        let bcr = code_of([0x07, m1 + 15, 0, 0, 0, 0]);
+        for (cc, digit) in ["0", "1", "2", "3"].iter().enumerate() {
+            let condition = (cc % 4) as u8;
+            let to = if selected.contains(*digit) {
+                (0x3000, 0x3000)
+            } else {
+                (0x10_0234, 0x10_0232)
+            };
+            assert_eq!(rt;
+                (
+                    goes_by(rt.alloc(), &bc, condition)?,
+                    goes_by(rt.alloc(), &bcr, condition)?
+                ),
+                to,
+                "{mask} {cc}"
+            );
+        }
     }
     Ok(())
 }
 
 #[test]
-fn codes_that_are_refused(rt: HostRuntime) -> Result<(), Fail> {
-    let mut io = TaskIo::new(rt.alloc(), vec![in rt.alloc(); 1]?, 0)?;
-    for (code, ending) in [
-        (0x00, 1),
-        (0xB2, 1),
-        (0xFF, 1),
-        (0x08, 2),
-        (0x82, 2),
-        (0xB7, 2),
-        (0xAC, 2),
+fn an_operation_that_is_no_branch_stays(rt: HostRuntime) {
+    let cpu = task([5; 16], 0);
+    for bytes in [
+        [0x18, 0xF1, 0, 0, 0, 0],
+        [0x44, 0xF0, 0, 0, 0, 0],
+        [0x0A, 0x04, 0, 0, 0, 0],
+        [0x82, 0xF0, 0, 0, 0, 0],
     ] {
-        let mut cpu = task();
-        let code = code_of(code, 0, [0; 4], s370_decode::length(u16::from(code) * 256));
-        assert!(rt;
-            execute(&mut cpu, &mut Nowhere, &mut io, &code, None)
-                == Next::Ended(Ending::Abend(ending))
-        );
-        assert_eq!(rt; cpu.at().get(), 0x10_0000);
+        assert!(rt; !outcome(&cpu, &code_of(bytes)));
     }
-    Ok(())
-}
-
-#[test]
-fn branches_by_mask_and_condition(rt: HostRuntime) -> Result<(), Fail> {
-    let mut io = TaskIo::new(rt.alloc(), vec![in rt.alloc(); 1]?, 0)?;
-    let rows = [
-        ([0x07, 0xFE], None, 0xFF_FFFE),
-        ([0x07, 0x2E], None, 0xFF_FFFE),
-        ([0x07, 0xDE], None, 0x10_0002),
-        ([0x07, 0xF0], None, 0x10_0002),
-        ([0x07, 0x0E], None, 0x10_0002),
-        ([0x07, 0x0E], Some(Addr::of(0x20_0000)), 0x20_0004),
-    ];
-    for (bytes, ex, ia) in rows {
-        let mut cpu = task();
-        let code = code_of(bytes[0], bytes[1], [0; 4], 2);
-        assert!(rt; execute(&mut cpu, &mut Nowhere, &mut io, &code, ex) == Next::On);
-        assert_eq!(rt; cpu.at().get(), ia);
-    }
-    let mut cpu = task();
-    let code = code_of(0x47, 0x20, [0xF0, 0x06, 0, 0], 4);
-    assert!(rt; execute(&mut cpu, &mut Nowhere, &mut io, &code, None) == Next::On);
-    assert_eq!(rt; cpu.at().get(), 0x10_0006);
-    Ok(())
-}
-
-#[test]
-fn the_address_after_an_interruption(rt: HostRuntime) -> Result<(), Fail> {
-    let mut io = TaskIo::new(rt.alloc(), vec![in rt.alloc(); 1]?, 0)?;
-    let rows = [
-        ([0x1A, 0xEF], None, 8, 0x10_0002),
-        ([0x1A, 0xEF], Some(Addr::of(0x20_0000)), 8, 0x20_0004),
-        ([0x1D, 0xE0], None, 9, 0x10_0000),
-        ([0x1D, 0xFE], None, 6, 0x10_0000),
-    ];
-    for (bytes, ex, ending, ia) in rows {
-        let mut cpu = task();
-        cpu.mask = 15;
-        cpu.regs[14] = 0x7FFF_FFFF;
-        let code = code_of(bytes[0], bytes[1], [0; 4], 2);
-        let next = execute(&mut cpu, &mut Nowhere, &mut io, &code, ex);
-        assert!(rt; next == Next::Ended(Ending::Abend(ending)));
-        assert_eq!(rt; cpu.at().get(), ia);
-    }
-    Ok(())
 }
 
 #[test]
 fn a_later_halfword_that_is_nowhere(rt: HostRuntime) {
+    let space = nowhere(rt.alloc());
     let at = Addr::of(0x10_0000);
-    assert!(rt; fetch_rest(&Nowhere, at, 0x07FE).is_ok());
+    assert!(rt; fetch_rest(&space, at, 0x07FE).is_ok());
     for first in [0x4720, 0xD203] {
-        assert!(rt; fetch_rest(&Nowhere, at, first).is_err_and(|e| e == Ending::Abend(5)));
+        assert!(rt; fetch_rest(&space, at, first).is_err_and(|e| e == Ending::Abend(5)));
+    }
+}
+
+#[test]
+fn one_code_is_ex(rt: HostRuntime) {
+    for first in 0..256u32 {
+        for second in [0, 0x44, 0xFF] {
+            let half = (first % 256) as u16 * 256 + second;
+            assert_eq!(rt; is_execute(half), op_of(half) == Op::EX, "{half}");
+            assert_eq!(rt; is_execute(half), first == 0x44, "{half}");
+        }
+    }
+}
+
+#[test]
+fn the_subject_of_ex_stands_at_the_second_operand(rt: HostRuntime) {
+    let mut regs = [0x0077_7777; 16];
+    regs[2] = 0xFF00_0100;
+    regs[3] = 0x0020_0000;
+    for (bytes, at) in [
+        ([0x44, 0x12, 0x30, 0x06, 0, 0], 0x20_0106),
+        ([0x44, 0x10, 0x30, 0x06, 0, 0], 0x20_0006),
+        ([0x44, 0x12, 0x00, 0x07, 0, 0], 0x00_0107),
+        ([0x44, 0x10, 0x0F, 0xFF, 0, 0], 0x00_0FFF),
+    ] {
+        assert_eq!(rt; subject_address(&task(regs, 0), &code_of(bytes)).get(), at);
+    }
+}
+
+#[test]
+fn the_second_byte_is_ored_under_ex(rt: HostRuntime) {
+    let subject = [0xD2, 0x0F, 0xB0, 0x00, 0xC0, 0x08];
+    for (r1, word, second) in [
+        (1, 0x0000_0000, 0x0F),
+        (1, 0x0000_00F0, 0xFF),
+        (1, 0x0000_0003, 0x0F),
+        (1, 0xFFFF_FF30, 0x3F),
+        (1, 0xFFFF_FF00, 0x0F),
+        (15, 0x1234_5681, 0x8F),
+        (0, 0x0000_00F0, 0x0F),
+        (0, 0xFFFF_FFFF, 0x0F),
+    ] {
+        let ex = code_of([0x44, r1 % 16 * 16, 0, 0, 0, 0]);
+        let merged = merge(&task([word; 16], 0), &ex, &code_of(subject));
+        assert_eq!(rt; merged.bytes, [0xD2, second, 0xB0, 0x00, 0xC0, 0x08]);
+        assert_eq!(rt; (merged.at.get(), merged.len), (0x10_0230, 6));
     }
 }

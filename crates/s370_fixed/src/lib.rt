@@ -12,6 +12,3 @@ mod table;
 mod words;
 
 pub use table::fixed;
-
-#[cfg(test)]
-mod tests;

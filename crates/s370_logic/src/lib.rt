@@ -9,6 +9,3 @@ mod swaps;
 mod table;
 
 pub use table::logic;
-
-#[cfg(test)]
-mod tests;

@@ -8,6 +8,3 @@ mod table;
 mod translate;
 
 pub use table::storage;
-
-#[cfg(test)]
-mod tests;

@@ -1,10 +1,29 @@
-//! Vectors of the operations: those of the Principles of Operation's appendix, and the limits of its rules.
+//! Fixed-point operations: those of the Principles of Operation's appendix, and the limits of its rules.
+use super::harness::Table;
 
-/// A line is the instruction, what differs from zero before it, and behind `>` what it changes: registers by their
-/// digit, `m` the program mask, `cc` the condition code, which is 3 before, `end` the interruption code, or the address
-/// of the touch byte that ended the task, and `at` the doubleword at X'70', which is X'AAAAAAAAAAAAAAAA' before.
-/// All else is left as it was.
-pub const VECTORS: &str = "\
+/// Words from address 0 on, halfwords from X'14' on, doublewords in packed decimal from X'20' on, and room from X'70' on.
+pub const TABLE: Table = Table {
+    size: 128,
+    fill: 0,
+    words: "\
+@00=7FFFFFFF80000000FFFFFFFF00000001 \
+@10=000000327FFF8000FFFF0020A7B6FFD9 \
+@20=000000000025594C000002147483647C \
+@30=000002147483648D000002147483648C \
+@40=000002147483649D00000000000A001C \
+@50=0000000000000012999999999999999C \
+@60=000000000000007F000000000000007B \
+@70=AAAAAAAAAAAAAAAAAAAAAAAAAAAAAAAA",
+    module: [
+        0x18, 0x12, 0x07, 0x02, 0x47, 0x80, 0xF0, 0x00, 0x41, 0x10, 0x07, 0x08, 0x07, 0xFE, 0x0A,
+        0x03,
+    ],
+    touches: &[8, 9],
+    lines: LINES,
+    count: 155,
+};
+
+const LINES: &str = "\
 1812 2=80000001 > 1=80000001\n\
 18F0 0=FFFFFFFF > F=FFFFFFFF\n\
 58100004 > 1=80000000\n\
@@ -150,30 +169,13 @@ pub const VECTORS: &str = "\
 4E103000 3=00100000 > end=4\n\
 4F10007C 1=00000005 > end=5\n\
 5C403008 3=00100000 5=00000001 > end=100008\n\
-50100070 1=12345678 > at=12345678AAAAAAAA\n\
-5012006F 1=80000000 2=00000002 > at=AA80000000AAAAAA\n\
-40100072 1=12345678 > at=AAAA5678AAAAAAAA\n\
-40100070 1=FFFF0001 > at=0001AAAAAAAAAAAA\n\
-90F00070 F=01020304 0=05060708 > at=0102030405060708\n\
-90110074 1=FFFFFFFF 2=00000005 > at=AAAAAAAAFFFFFFFF\n\
-4E100070 1=00000F0F > at=000000000003855C\n\
-4E100070 1=80000000 > at=000002147483648D\n\
-4E100070 1=7FFFFFFF > at=000002147483647C\n\
-4E100070 1=00000000 > at=000000000000000C";
-
-/// Private storage: words from 0 on, halfwords from X'14' on, doublewords in packed decimal from X'20' on, and room.
-pub const STORAGE: [u8; 128] = [
-    0x7F, 0xFF, 0xFF, 0xFF, 0x80, 0x00, 0x00, 0x00, 0xFF, 0xFF, 0xFF, 0xFF, 0x00, 0x00, 0x00, 0x01,
-    0x00, 0x00, 0x00, 0x32, 0x7F, 0xFF, 0x80, 0x00, 0xFF, 0xFF, 0x00, 0x20, 0xA7, 0xB6, 0xFF, 0xD9,
-    0x00, 0x00, 0x00, 0x00, 0x00, 0x25, 0x59, 0x4C, 0x00, 0x00, 0x02, 0x14, 0x74, 0x83, 0x64, 0x7C,
-    0x00, 0x00, 0x02, 0x14, 0x74, 0x83, 0x64, 0x8D, 0x00, 0x00, 0x02, 0x14, 0x74, 0x83, 0x64, 0x8C,
-    0x00, 0x00, 0x02, 0x14, 0x74, 0x83, 0x64, 0x9D, 0x00, 0x00, 0x00, 0x00, 0x00, 0x0A, 0x00, 0x1C,
-    0x00, 0x00, 0x00, 0x00, 0x00, 0x00, 0x00, 0x12, 0x99, 0x99, 0x99, 0x99, 0x99, 0x99, 0x99, 0x9C,
-    0x00, 0x00, 0x00, 0x00, 0x00, 0x00, 0x00, 0x7F, 0x00, 0x00, 0x00, 0x00, 0x00, 0x00, 0x00, 0x7B,
-    0xAA, 0xAA, 0xAA, 0xAA, 0xAA, 0xAA, 0xAA, 0xAA, 0xAA, 0xAA, 0xAA, 0xAA, 0xAA, 0xAA, 0xAA, 0xAA,
-];
-
-/// A module at X'100000', of whose bytes X'100008' and X'100009' are touch bytes.
-pub const MODULE: [u8; 16] = [
-    0x18, 0x12, 0x07, 0x02, 0x47, 0x80, 0xF0, 0x00, 0x41, 0x10, 0x07, 0x08, 0x07, 0xFE, 0x0A, 0x03,
-];
+50100070 1=12345678 > @70=12345678AAAAAAAA\n\
+5012006F 1=80000000 2=00000002 > @70=AA80000000AAAAAA\n\
+40100072 1=12345678 > @70=AAAA5678AAAAAAAA\n\
+40100070 1=FFFF0001 > @70=0001AAAAAAAAAAAA\n\
+90F00070 F=01020304 0=05060708 > @70=0102030405060708\n\
+90110074 1=FFFFFFFF 2=00000005 > @70=AAAAAAAAFFFFFFFF\n\
+4E100070 1=00000F0F > @70=000000000003855C\n\
+4E100070 1=80000000 > @70=000002147483648D\n\
+4E100070 1=7FFFFFFF > @70=000002147483647C\n\
+4E100070 1=00000000 > @70=000000000000000C";

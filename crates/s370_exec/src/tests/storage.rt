@@ -1,10 +1,20 @@
-//! Vectors of the operations: those of the Principles of Operation's appendix, and the limits of its rules.
+//! Moves, translations and packings: those of the Principles of Operation's appendix, and the limits of its rules.
+use super::harness::Table;
 
-/// A line is the instruction, what differs from zero before it, and behind `>` what it changes: registers by their
-/// digit, `cc` the condition code, which is 3 before, `end` the interruption code, or the address of the touch byte that
-/// ended the task, `@` with an address the bytes of private storage from there on, and `base` the module's address, which
-/// is X'100000' otherwise. All else is left as it was.
-pub const VECTORS: &str = "\
+pub const TABLE: Table = Table {
+    size: 256,
+    fill: 0,
+    words: "m=F",
+    module: [
+        0x18, 0x12, 0x07, 0x02, 0x47, 0x80, 0xF0, 0x00, 0x41, 0x10, 0x07, 0x08, 0x07, 0xFE, 0x0A,
+        0x03,
+    ],
+    touches: &[8, 9],
+    lines: LINES,
+    count: 176,
+};
+
+const LINES: &str = "\
 D20A10002000 1=40 2=80 @80=F1F2F3F4F5F6F7F8F9FAFB > @40=F1F2F3F4F5F6F7F8F9FAFB\n\
 D207B001B000 B=58 @58=00F1F2F3F4F5F6F7F8 > @59=0000000000000000\n\
 D207B001B000 B=58 @58=C1F1F2F3F4F5F6F7F8 > @59=C1C1C1C1C1C1C1C1\n\
@@ -181,8 +191,3 @@ F11030002000 2=80 3=100000 > end=4\n\
 F10110003009 1=40 3=100000 > end=100009\n\
 F112004000FE > end=5\n\
 F122C000D000 C=40 D=80 @40=00000C @80=12345D > @40=2345DC";
-
-/// The module, of whose bytes those at X'100008' and X'100009' are touch bytes.
-pub const MODULE: [u8; 16] = [
-    0x18, 0x12, 0x07, 0x02, 0x47, 0x80, 0xF0, 0x00, 0x41, 0x10, 0x07, 0x08, 0x07, 0xFE, 0x0A, 0x03,
-];

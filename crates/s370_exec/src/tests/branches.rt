@@ -1,15 +1,25 @@
-//! Vectors of the branches: those of the Principles of Operation's appendix, and the limits of its rules.
+//! Branches: those of the Principles of Operation's appendix, and the limits of its rules.
+use super::harness::Table;
 
 /// The condition codes that each mask, 0 to 15, selects.
 pub const SELECTED: [&str; 16] = [
     "", "3", "2", "23", "1", "13", "12", "123", "0", "03", "02", "023", "01", "013", "012", "0123",
 ];
 
-/// A line is the instruction, what differs from zero before it, and behind `>` what it changes: registers by their
-/// digit, `m` the program mask, `cc` the condition code, `link` the length code, which is by default that of the
-/// instruction alone, and `ia` the instruction address. The updated address is X'100234', and where the instruction
-/// does not branch it is the instruction address afterwards. All else is left as it was.
-pub const VECTORS: &str = "\
+pub const TABLE: Table = Table {
+    size: 0,
+    fill: 0,
+    words: "cc=0",
+    module: [
+        0x18, 0x12, 0x07, 0x02, 0x47, 0x80, 0xF0, 0x00, 0x41, 0x10, 0x07, 0x08, 0x07, 0xFE, 0x0A,
+        0x03,
+    ],
+    touches: &[],
+    lines: LINES,
+    count: 84,
+};
+
+const LINES: &str = "\
 47F00F00 > ia=000F00\n\
 47F12345 1=00000010 2=00000100 > ia=000455\n\
 47F0F00C F=FFFFFFF8 > ia=000004\n\
@@ -46,9 +56,9 @@ pub const VECTORS: &str = "\
 45E0F010 F=00002000 cc=3 m=4 > E=B4100234 ia=002010\n\
 05E0 E=00000001 > E=40100234\n\
 05E0 E=00000001 cc=3 m=F > E=7F100234\n\
-05E0 E=00000001 cc=2 m=1 link=2 > E=A1100234\n\
+05E0 E=00000001 cc=2 m=1 ex=100230 > E=A1100234\n\
 05EF F=00003000 > E=40100234 ia=003000\n\
-05EF F=00003000 cc=1 m=4 link=2 > E=94100234 ia=003000\n\
+05EF F=00003000 cc=1 m=4 ex=100230 > E=94100234 ia=003000\n\
 05EE E=FF003000 > E=40100234 ia=003000\n\
 0500 0=00003000 > 0=40100234\n\
 05EF F=00003000 cc=1 m=2 > E=52100234 ia=003000\n\
