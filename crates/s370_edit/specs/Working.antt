@@ -1,7 +1,7 @@
 -- The working of a pattern, a byte at a time from left to right (Principles of Operation, "Decimal Instructions", "Edit").
-use Rattle.std.specs.Prelude.{ℕ, zero, suc, ◌+◌, ◌/◌, ◌%◌, Bool, true, false, not, ◌&&◌, ◌||◌, ◌==◌, nat_lt, if◌then◌else◌, Option, Some, None, List, [], ◌∷◌, ◌++◌}
+use Rattle.std.specs.Prelude.{ℕ, zero, suc, ◌+◌, ◌/◌, ◌%◌, Bool, true, false, not, ◌&&◌, ◌||◌, ◌==◌, if◌then◌else◌, Option, Some, None, List, [], ◌∷◌, ◌++◌}
 use Rattle.cov_base.specs.Memory.{Memory, byte_at, wrap}
-use Rattle.s370_state.specs.Digits.{is_sign, is_minus}
+use Rattle.s370_state.specs.Digits.{is_digit, is_sign, is_minus}
 use Rattle.s370_edit.specs.declared.working.Digit.{Digit}
 use Rattle.s370_edit.specs.declared.working.Working.{Working}
 use Rattle.s370_edit.specs.declared.working.Step.{Step}
@@ -41,7 +41,7 @@ selected w d starts fill at = record {
     significant = (is_shown w d || starts) && not d.plus;
     nonzero = w.nonzero || not (d.value == 0);
     mark = if not w.significant && not (d.value == 0) then Some at else w.mark;
-    bad = nat_lt 9 d.value;
+    bad = not (is_digit d.value);
   };
   byte = if is_shown w d then 240 + d.value else fill;
 }

@@ -1,10 +1,10 @@
 //! The working of a pattern, a byte at a time from left to right.
-ghost use Rattle.std.specs.Prelude.{◌≡◌, ℕ, ◌+◌, ◌*◌, ◌/◌, ◌%◌, ◌<◌, ◌≤◌, ◌^◌, Bool, true, false, not, ◌&&◌, ◌||◌, ◌==◌, nat_lt, if◌then◌else◌, Some, None, IfSome, IfNone, List};
+ghost use Rattle.std.specs.Prelude.{◌≡◌, ℕ, ◌+◌, ◌*◌, ◌/◌, ◌%◌, ◌<◌, ◌≤◌, ◌^◌, Bool, true, false, not, ◌&&◌, ◌||◌, ◌==◌, if◌then◌else◌, Some, None, IfSome, IfNone, List};
 ghost use Rattle.cov_base.specs.Memory.{Memory, byte_at, is_accessible, can_reach, wrap};
 ghost use Rattle.s370_edit.specs.Working.{fresh, left_digit, next_digit, selected, separated, kept, stepped};
 
 use cov_base::Addr;
-use s370_state::{Space, is_minus, is_sign};
+use s370_state::{Space, is_digit, is_minus, is_sign};
 
 /// A source digit as it is taken.
 #[derive(Clone, Copy)]
@@ -132,7 +132,7 @@ fn select(w: &Working, d: &Digit, starts: bool, fill: u8, at: Addr) -> Step
         } else {
             w.mark
         },
-        bad: d.value > 9,
+        bad: !is_digit(d.value),
     };
     let byte = if shown { 240 + d.value } else { fill };
     Step { working, byte }

@@ -17,7 +17,7 @@ pub use operands::{
     byte_of, ending_of, put_into, put_word, read_word, test_read, test_read_both, test_store,
     test_store_read, word_of,
 };
-pub use packed::{Field, field_at, is_minus, is_sign, number, put_field};
+pub use packed::{Field, field_at, is_digit, is_minus, is_sign, number, put_field};
 pub use plain_space::PlainSpace;
 pub use space::{Refused, Space};
 pub use words::{order_code, signed};

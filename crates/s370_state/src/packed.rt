@@ -18,6 +18,13 @@ pub struct Field {
     pub minus: bool,
 }
 
+/// Whether the half byte is a digit.
+pub fn is_digit(half: u8) -> bool
+    ensures { result ≡ is_digit half }
+{
+    half < 10
+}
+
 /// Whether the half byte is a sign, 10 to 15, and no digit.
 pub fn is_sign(half: u8) -> bool
     ensures { result ≡ is_sign half }
@@ -44,14 +51,14 @@ fn sign_half(minus: bool) -> u8
 fn is_pair(byte: u8) -> bool
     ensures { result ≡ (is_digit (byte / 16) && is_digit (byte % 16)) }
 {
-    byte / 16 < 10 && byte % 16 < 10
+    is_digit(byte / 16) && is_digit(byte % 16)
 }
 
 /// Whether the halves of a field's last byte are a digit and a sign.
 fn is_last(byte: u8) -> bool
     ensures { result ≡ (is_digit (byte / 16) && is_sign (byte % 16)) }
 {
-    byte / 16 < 10 && is_sign(byte % 16)
+    is_digit(byte / 16) && is_sign(byte % 16)
 }
 
 /// The number of the digits in the first n bytes of an operand; none where a half byte of these is no digit.
