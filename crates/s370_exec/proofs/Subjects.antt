@@ -1,11 +1,11 @@
 -- The subject of EX as it is executed: the operation stays.
-use Rattle.std.proofs.Common.{◌≡◌, ℕ, ◌+◌, ◌*◌, ◌/◌, ◌%◌, ◌<◌, ◌==◌, ◌^◌, Bool, true, false, if◌then◌else◌, List, [], ◌∷◌, refl, sym, ◌∙◌, ap, arith}
-use Rattle.std.specs.Prelude.{slice_index, slice_set, bit_or}
+use Rattle.std.proofs.Common.{◌≡◌, ℕ, ◌+◌, ◌*◌, ◌/◌, ◌%◌, ◌<◌, ◌==◌, Bool, true, false, if◌then◌else◌, List, refl, ap, arith}
+use Rattle.std.specs.Prelude.{slice_index, bit_or}
 use Rattle.std.proofs.lemmas.Bool.{eqb-true}
 use Rattle.std.proofs.lemmas.Nat.{or_of_8}
-use Rattle.cov_base.specs.Memory.{Memory, half_at, wrap}
+use Rattle.cov_base.specs.Memory.{Memory}
 use Rattle.cov_base.specs.States.{CpuView}
-use Rattle.s370_decode.specs.Fields.{part, first_half, r1}
+use Rattle.s370_decode.specs.Fields.{first_half, r1}
 use Rattle.s370_decode.specs.Table.{op_of, op_at, ops_4}
 use Rattle.s370_decode.specs.declared.code.Code.{Code}
 use Rattle.s370_branch.specs.Branch.{goes}
