@@ -1,6 +1,9 @@
 -- An area that was planted, run over and finished.
-use Rattle.std.proofs.Common.{◌≡◌, ℕ, ◌+◌, ◌-◌, ◌*◌, ◌<◌, not, ◌&&◌, nat_eq, nat_lt, if◌then◌else◌, List, [], ◌∷◌, ◌++◌, length, refl, ◌∙◌, ap, subst, arith, zero-add}
+use Rattle.std.proofs.Common.{◌≡◌, ℕ, ◌+◌, ◌-◌, ◌*◌, ◌<◌, not, ◌&&◌, nat_eq, nat_lt, if◌then◌else◌, List, [], ◌∷◌, ◌++◌, length, IfOk, refl, ◌∙◌, ap, subst, arith, zero-add}
 use Rattle.std.specs.List.{count_by}
+use Rattle.std.specs.declared.result.Result.{Result}
+use Rattle.std.specs.declared.result.Result.TheVariants.{Ok, Err}
+use Rattle.cov_base.specs.declared.shortage.NoMemory.{NoMemory}
 use Rattle.std.proofs.lemmas.Bool.Decides.{nat_tests}
 use Rattle.std.proofs.lemmas.List.{take_all}
 use Rattle.cov_base.specs.States.{Visit}
@@ -34,7 +37,7 @@ ends_area plan ended trace f is observes sets tally = record {
   places = sets.places;
   size = sets.size;
   sets = λ p h k. exact_set plan (after_planting plan) ended trace f is (ready plan is) observes sets p h k;
-  within = λ p h k. sets.within (window_at plan p) p k (is.in_range p h) h;
+  within = sets.within;
   plants = observes.grows.plants ∙ (zero-add _ ∙ ap (count_by (λ w. not (nat_eq w 0))) (take_all (length plan.windows) plan.windows (omega arith)));
   fetches = observes.fetches ∙ zero-add _;
   facts = tally.marks;
@@ -60,3 +63,13 @@ grows_by plan of_cells made planted ended trace f ledger ledger1 ledger2 finals 
       in_ledger = l2 ∙ ap (λ l. l ++ ended.tally ∷ []) l1;
       in_finals = f2 ∙ ap (λ l. l ++ f ∷ []) f1;
     }
+
+-- where the area was finished
+pub grows_if : (plan of_cells : PlanView) (made planted ended : Notes) (trace : List Visit) (r : Result FinalsView NoMemory) (ledger ledger1 ledger2 : List Tally) (finals finals1 finals2 : List FinalsView) →
+    IsPlan plan → of_cells ≡ plan → made ≡ root_notes → planted ≡ planted_notes plan made (length plan.windows) →
+    Observes of_cells planted ended trace → IfOk r (HasSets of_cells ended) → IfOk r (HasTally of_cells ended) →
+    ledger1 ≡ ledger → finals1 ≡ finals → IfOk r (λ _. ledger2 ≡ ledger1 ++ ended.tally ∷ []) → IfOk r (λ f. finals2 ≡ finals1 ++ f ∷ []) →
+    IfOk r (λ f. GrowsBy plan trace ledger ledger2 finals finals2 f)
+grows_if plan of_cells made planted ended trace (Ok f) ledger ledger1 ledger2 finals finals1 finals2 is same root notes observes sets tally l1 f1 l2 f2 =
+    grows_by plan of_cells made planted ended trace f ledger ledger1 ledger2 finals finals1 finals2 is same root notes observes sets tally l1 f1 l2 f2
+grows_if plan of_cells made planted ended trace (Err e) ledger ledger1 ledger2 finals finals1 finals2 is same root notes observes sets tally l1 f1 l2 f2 = tt

@@ -15,7 +15,7 @@ pub record EndsArea (plan : PlanView) (trace : List Visit) (f : FinalsView) (t :
   pub places : f.places ≡ length plan.places
   pub size : length f.sets ≡ plan.sessions * length plan.places
   pub sets : (p : ℕ) → p < length plan.places → 0 < window_at plan p → set_at f (window_at plan p) p ≡ facts_at (place_of plan.places p) trace
-  pub within : (p : ℕ) → p < length plan.places → 0 < window_at plan p → is_within (kind_at plan p) (set_at f (window_at plan p) p) ≡ true
+  pub within : (s p : ℕ) → 0 < s → s ≤ plan.sessions → p < length plan.places → is_within (kind_at plan p) (set_at f s p) ≡ true
   pub plants : t.plants ≡ count_by (λ w. not (nat_eq w 0)) plan.windows
   pub fetches : t.fetches ≡ visits_at_places plan.places trace
   pub facts : sum_by fact_count f.sets ≤ t.marks

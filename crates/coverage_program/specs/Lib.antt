@@ -4,5 +4,7 @@ pub mod Outcomes
 pub mod Refusals
 pub mod Refused
 pub mod Runs
+pub mod Sets
 pub mod Single
+pub mod Tasks
 pub mod Words

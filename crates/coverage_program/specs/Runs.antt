@@ -70,6 +70,11 @@ pub record HasRun (j : JobView) (places : List Place) (before after : Account) :
   pub in_finals : after.finals ≡ before.finals ++ sets
   pub in_made : after.made ≡ before.made + length j.phases
 
+-- and these are the sets that the areas ended with
+pub record HasLeft (j : JobView) (places : List Place) (before after : Account) (sets : List FinalsView) : Type 0 where
+  pub run : HasRun j places before after
+  pub are : sets ≡ run.sets
+
 -- The text is the report of these results and sets, which are those of each task's run alone and, at each place that a
 -- session observes, those of its executions.
 pub record Reports (j : JobView) (tables : TablesView) (text : List ℕ) : Type 0 where

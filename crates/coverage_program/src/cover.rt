@@ -1,5 +1,5 @@
 //! The program over any source, sink and areas.
-ghost use Rattle.std.specs.Prelude.{◌≡◌, ◌+◌, ◌<◌, ◌≤◌, ◌^◌, true, All, length, map, string_bytes};
+ghost use Rattle.std.specs.Prelude.{◌≡◌, ◌+◌, ◌<◌, ◌≤◌, ◌^◌, true, All, IfSome, length, map, string_bytes};
 ghost use Rattle.brk_table.specs.Places.{IsIn};
 ghost use Rattle.job_text.specs.Lines.{lines_of};
 ghost use Rattle.job_text.specs.First.{SpellsFirst};
@@ -10,7 +10,7 @@ ghost use Rattle.coverage_program.specs.Single.{IsSingle};
 ghost use Rattle.coverage_program.specs.Words.{is_run};
 
 use crate::lines::bad_job_line;
-use crate::phase::run_only;
+use crate::phase::run_all;
 use crate::status::{Status, told};
 use crate::tables::{Refused, tables_of};
 use crate::words::is_run;
@@ -42,7 +42,7 @@ fn answer_tables<K: Sink, A: Areas>(
     sink: &mut K,
     areas: &mut A,
 ) -> Status
-    requires single { IsSingle job.now }
+    requires lines { All (λ listing. IfSome listing (λ lines. length lines ≤ 16777216)) job.now.listings }
     requires matching { Match job.now tables.now.tables }
     requires places { All (IsIn job.now.images) tables.now.places }
     requires room { A.made areas.old < 2 ^ 61 }
@@ -50,7 +50,7 @@ fn answer_tables<K: Sink, A: Areas>(
         Answers true s (record { ledger = A.ledger areas.old; finals = A.finals areas.old; made = A.made areas.old }) (record { ledger = A.ledger areas.new; finals = A.finals areas.new; made = A.made areas.new })
         (K.written sink.old) (K.written sink.new) (K.faults sink.old) (K.faults sink.new) result.0 }
 {
-    let outcome = match run_only(alloc, areas, job, tables) {
+    let outcome = match run_all(alloc, areas, job, tables) {
         Ok(outcome) => outcome,
         Err(_) => return told(sink, NO_MEMORY, 7),
     };

@@ -1,64 +1,125 @@
 //! What a run has come to.
-ghost use Rattle.std.specs.Prelude.{◌*◌, ◌≤◌, length};
+ghost use Rattle.std.specs.Prelude.{◌≡◌, ◌<◌, ◌≤◌, length, All};
+ghost use Rattle.session_book.specs.Sessions.{session_of};
+ghost use Rattle.coverage_program.specs.Sets.{IsSized, set_in};
 
+use brk_table::Tables;
 use cov_base::{Bits, PlaceNo, SessNo, TaskNo};
 use module_area::Finals;
 use s370_state::{Cpu, Ending};
-use session_book::{FactSets, Results};
+use session_book::{FactSets, Job, Results};
 use space_map::TaskSpace;
+use std::marker::Model;
 use task_run::Task;
 
-/// What the run has come to: the task as it ended, and the sets of the phase's area.
+/// A task, and how it ended; none until it has ended.
+#[derive(Drop)]
+pub struct Done<'a> {
+    pub ending: Option<Ending>,
+    pub task: Task<TaskSpace<'a>>,
+}
+
+/// The sets of a job's sessions: for each phase those that its area ended with.
+#[derive(Drop)]
+pub struct Sets<'a> {
+    job: &'a Job,
+    places: u32,
+    finals: Vec<Finals>,
+}
+
+impl<'a> Model for Sets<'a> {
+    ghost use Rattle.coverage_program.specs.Sets.{SetsView, AreSets};
+
+    ghost Value = { SetsView };
+
+    ghost view = { λ s. record { job = s.job.now; places = s.places; finals = s.finals.items } };
+
+    ghost invariant = { λ s. AreSets (record { job = s.job.now; places = s.places; finals = s.finals.items }) };
+}
+
+/// The phase of a session of the job.
+fn phase_of(job: &Job, s: SessNo) -> usize
+    requires some { 0 < s.0 }
+    requires session { s.0 ≤ length job.now.sessions }
+    ensures value { result ≡ (session_of job.now s.0).phase }
+    ensures exists { result < length job.now.phases }
+{
+    job.sessions[s.0 as usize - 1].phase as usize
+}
+
+impl<'a> Sets<'a> {
+    /// The sets of a job over tables, by those of each phase's area.
+    pub fn new(job: &'a Job, tables: &Tables, finals: Vec<Finals>) -> Sets<'a>
+        requires count { length finals.items ≡ length job.now.phases }
+        requires sizes { All (IsSized job.now (length tables.now.places)) finals.items }
+        ensures { result ≡ record { job = job.now; places = length tables.now.places; finals = finals.items } }
+    {
+        Sets {
+            job,
+            places: tables.len(),
+            finals,
+        }
+    }
+
+    /// The set of a session of the job at a place of its tables.
+    pub fn get(&self, s: SessNo, p: PlaceNo) -> Bits
+        requires some { 0 < s.0 }
+        requires session { s.0 ≤ length self.now.job.sessions }
+        requires place { p.0 < self.now.places }
+        ensures { result ≡ set_in self.now s.0 p.0 }
+    {
+        let phase = phase_of(self.job, s);
+        self.finals[phase].set(s, p)
+    }
+}
+
+/// What the run has come to: the job's tasks, and its sessions' sets.
 #[derive(Drop)]
 pub struct Outcome<'a> {
-    pub ending: Ending,
-    pub task: Task<TaskSpace<'a>>,
-    pub finals: Finals,
-    pub sessions: u32,
-    ghost sized: { sessions * finals.places ≤ length finals.sets },
+    pub tasks: Vec<Done<'a>>,
+    pub sets: Sets<'a>,
 }
 
 impl<'a> FactSets for Outcome<'a> {
-    ghost use Rattle.module_area.specs.FinalsView.{set_at};
+    ghost use Rattle.coverage_program.specs.Sets.{set_in};
 
-    ghost sessions = { λ o. o.sessions };
+    ghost sessions = { λ o. length o.sets.job.sessions };
 
-    ghost places = { λ o. o.finals.places };
+    ghost places = { λ o. o.sets.places };
 
-    ghost set_of = { λ o s p. set_at o.finals s p };
+    ghost set_of = { λ o s p. set_in o.sets s p };
 
     fn set(&self, s: SessNo, p: PlaceNo) -> Bits {
-        self.finals.set(s, p)
+        self.sets.get(s, p)
     }
 }
 
 impl<'a> Results for Outcome<'a> {
-    ghost use Rattle.s370_exec.specs.Solo.{solo_run};
-    ghost use Rattle.coverage_program.specs.Areas.{GrowsBy};
-    ghost use Rattle.coverage_program.specs.Outcomes.{outcome_result};
+    ghost use Rattle.coverage_program.specs.Tasks.{results_of};
 
-    ghost tasks = { λ _. 1 };
+    ghost tasks = { λ o. length o.tasks.items };
 
-    ghost result_of = { λ o t. outcome_result o };
+    ghost result_of = { λ o t. results_of o.tasks.items t };
 
-    fn ending(&self, _t: TaskNo) -> Option<Ending> {
-        Some(self.ending)
+    fn ending(&self, t: TaskNo) -> Option<Ending> {
+        self.tasks[t.0 as usize].ending
     }
 
-    fn done(&self, _t: TaskNo) -> u32 {
-        self.task.done
+    fn done(&self, t: TaskNo) -> u32 {
+        self.tasks[t.0 as usize].task.done
     }
 
-    fn cpu(&self, _t: TaskNo) -> &Cpu {
-        &self.task.cpu
+    fn cpu(&self, t: TaskNo) -> &Cpu {
+        &self.tasks[t.0 as usize].task.cpu
     }
 
-    fn output(&self, _t: TaskNo) -> &[u8] {
-        self.task.io.output()
+    fn output(&self, t: TaskNo) -> &[u8] {
+        self.tasks[t.0 as usize].task.io.output()
     }
 
-    fn row(&self, _t: TaskNo, n: u32) -> &[u8] {
-        let _ = self.task.space.size();
-        self.task.space.row(n)
+    fn row(&self, t: TaskNo, n: u32) -> &[u8] {
+        let space = &self.tasks[t.0 as usize].task.space;
+        let _ = space.size();
+        space.row(n)
     }
 }

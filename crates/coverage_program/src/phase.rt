@@ -1,47 +1,83 @@
-//! The run of a job's one phase with its one task.
-ghost use Rattle.std.specs.Prelude.{◌≡◌, ℕ, ◌+◌, ◌*◌, ◌<◌, ◌≤◌, ◌^◌, Some, length, All, IfOk, OnErr};
-ghost use Rattle.module_area.specs.FinalsView.{set_at};
-ghost use Rattle.module_area.specs.PlanView.{place_of};
+//! The run of a job: its phases one after the other, and in each phase its tasks one after the other.
+ghost use Rattle.std.specs.Prelude.{◌≡◌, nat_eq, ◌+◌, ◌<◌, ◌≤◌, ◌^◌, length, All, IfOk, OnErr};
 ghost use Rattle.module_area.specs.Images.{AreImages};
+ghost use Rattle.module_area.specs.Notes.{calls};
 ghost use Rattle.brk_table.specs.Places.{IsIn, AreSeen, memory_of};
 ghost use Rattle.space_map.specs.Space.{memory_of_space};
-ghost use Rattle.svc_monitor.specs.Observed.{state_of};
-ghost use Rattle.session_book.specs.JobView.{IsTask};
-ghost use Rattle.session_book.specs.Sessions.{task_of, first_state};
-ghost use Rattle.coverage_program.specs.Runs.{Account, HasRun};
-ghost use Rattle.s370_exec.specs.Solo.{solo_run};
+ghost use Rattle.svc_monitor.specs.First.{IsOver};
+ghost use Rattle.svc_monitor.specs.Observed.{Observes, state_of};
+ghost use Rattle.session_book.specs.JobView.{IsJob, IsTask};
+ghost use Rattle.session_book.specs.Sessions.{task_of, first_state, plan_view};
 ghost use Rattle.coverage_program.specs.Areas.{GrowsBy};
-ghost use Rattle.coverage_program.specs.Outcomes.{outcome_result, IsOutcome};
-ghost use Rattle.coverage_program.specs.Single.{IsSingle};
+ghost use Rattle.coverage_program.specs.Outcomes.{IsOutcome};
+ghost use Rattle.coverage_program.specs.Runs.{Account, HasRun, HasLeft, phase_trace, result_of_run};
+ghost use Rattle.coverage_program.specs.Tasks.{IsBegun, AreRun, done_result, own_run};
 
-use crate::outcome::Outcome;
+use crate::outcome::{Done, Outcome, Sets};
 use brk_table::Tables;
 use cov_base::NoMemory;
-use module_area::{Areas, Finals, Images, Plan};
+use module_area::{Areas, Cells, Finals, Images};
 use planter::plant_all;
-use s370_state::{Cpu, Ending, TaskIo};
+use s370_state::{Cpu, TaskIo};
 use session_book::{Job, TaskCard, plan_of};
 use space_map::TaskSpace;
 use std::alloc::Global;
 use task_run::{Task, run_task};
 
-/// A task as its card says, over the modules and tables.
-fn task_of<'a>(
-    alloc: Global,
-    card: &TaskCard,
-    images: &'a Images,
-    tables: &'a Tables,
-) -> Result<Task<TaskSpace<'a>>, NoMemory>
-    requires card { IsTask 1 card.now }
-    requires images { AreImages images.now }
-    requires tables { All (IsIn images.now) tables.now.places }
-    ensures memory { IfOk result (λ t. memory_of_space t.space ≡ memory_of card.now.private images.now tables.now.places) }
-    ensures state { IfOk result (λ t. state_of t.cpu t.space.bytes t.io t.done ≡ first_state card.now) }
-    ensures budget { IfOk result (λ t. t.budget ≡ card.now.budget) }
-    ensures done { IfOk result (λ t. t.done ≡ 0) }
-    ensures seen { AreSeen (memory_of card.now.private images.now tables.now.places) tables.now.places }
+/// A task of the job.
+fn card_of(job: &Job, t: usize) -> &TaskCard
+    requires { t < length job.now.tasks }
+    ensures value { result.now ≡ task_of job.now t }
+    ensures card { IsTask (length job.now.phases) result.now }
 {
-    let space = TaskSpace::new(alloc, card.private, &card.cards, images, tables)?;
+    &job.tasks[t]
+}
+
+/// The job's modules.
+fn images_of(job: &Job) -> &Images
+    ensures value { result.now ≡ job.now.images }
+    ensures images { AreImages result.now }
+{
+    &job.images
+}
+
+/// The number of the job's tasks.
+fn task_count(job: &Job) -> usize
+    ensures value { result ≡ length job.now.tasks }
+    ensures job { IsJob job.now }
+{
+    job.tasks.len()
+}
+
+/// The number of the job's phases.
+fn phase_count(job: &Job) -> u32
+    ensures value { result ≡ length job.now.phases }
+    ensures job { IsJob job.now }
+{
+    job.phases.len() as u32
+}
+
+/// Whether a task of the job is one of the phase.
+fn is_of(job: &Job, t: usize, phase: u32) -> bool
+    requires { t < length job.now.tasks }
+    ensures { result ≡ nat_eq (task_of job.now t).phase phase }
+{
+    job.tasks[t].phase == phase
+}
+
+/// A task as its card says, over the modules and tables.
+fn new_task<'a>(
+    alloc: Global,
+    job: &'a Job,
+    tables: &'a Tables,
+    t: usize,
+) -> Result<Done<'a>, NoMemory>
+    requires task { t < length job.now.tasks }
+    requires tables { All (IsIn job.now.images) tables.now.places }
+    ensures { IfOk result (λ d. IsBegun job.now tables.now.places t d) }
+{
+    let card = card_of(job, t);
+    let space = TaskSpace::new(alloc, card.private, &card.cards, images_of(job), tables)?;
     let input = card.input.to_vec(alloc)?;
     let io = TaskIo::new(alloc, input, card.room)?;
     let cpu = Cpu {
@@ -50,94 +86,141 @@ fn task_of<'a>(
         cc: 0,
         mask: 0,
     };
-    Ok(Task {
+    let task = Task {
         cpu,
         space,
         io,
         done: 0,
         budget: card.budget,
-    })
+    };
+    Ok(Done { ending: None, task })
 }
 
-/// Runs the task over an area of the plan: makes the area, plants every place with a window, runs, and ends the area.
-fn run_area<'a, A: Areas>(
+/// The job's tasks, in job order.
+fn make_tasks<'a>(
+    alloc: Global,
+    job: &'a Job,
+    tables: &'a Tables,
+) -> Result<Vec<Done<'a>>, NoMemory>
+    requires { All (IsIn job.now.images) tables.now.places }
+    ensures { IfOk result (λ v. AreRun job.now tables.now.places 0 0 v.items) }
+{
+    let count = task_count(job);
+    let mut tasks = Vec::with_capacity(alloc, count)?;
+    for t in 0..count {
+        tasks.push(new_task(alloc, job, tables, t)?)?;
+    }
+    Ok(tasks)
+}
+
+/// Runs the task, with the root pass.
+fn run_one<'a, C: Cells>(cells: &C, root: &mut C::Pass, tables: &Tables, done: &mut Done<'a>)
+    requires area { C.is_pass cells.now root.old }
+    requires over { IsOver (C.plan cells.now) (memory_of_space done.old.task.space) tables.now.places }
+    requires room { calls (C.notes root.old) < 2 ^ 60 }
+    requires fresh { done.old.task.done ≡ 0 }
+    ensures area { C.is_pass cells.now root.new }
+    ensures result { done_result done.new ≡ result_of_run (own_run done.old) }
+    ensures filled { length done.new.task.space.bytes ≡ (memory_of_space done.old.task.space).private }
+    ensures observes { Observes (C.plan cells.now) (C.notes root.old) (C.notes root.new) (own_run done.old).trace }
+{
+    let ending = run_task(cells, root, tables, &mut done.task);
+    // the proof reads off the size that private storage still fills it
+    let _ = done.task.space.size();
+    done.ending = Some(ending);
+}
+
+/// Runs the phase's tasks one after the other, with the root pass.
+fn run_tasks<'a, C: Cells>(
+    cells: &C,
+    root: &mut C::Pass,
+    job: &Job,
+    tables: &Tables,
+    phase: u32,
+    tasks: &mut [Done<'a>],
+)
+    requires area { C.is_pass cells.now root.old }
+    requires plan { (C.plan cells.now).places ≡ tables.now.places }
+    requires room { calls (C.notes root.old) ≤ 2 ^ 16 }
+    requires tasks { AreRun job.now tables.now.places phase 0 tasks.old }
+    ensures area { C.is_pass cells.now root.new }
+    ensures observes { Observes (C.plan cells.now) (C.notes root.old) (C.notes root.new) (phase_trace job.now tables.now.places phase) }
+    ensures tasks { AreRun job.now tables.now.places (phase + 1) 0 tasks.new }
+{
+    let count = task_count(job);
+    for t in 0..count {
+        if is_of(job, t, phase) {
+            run_one(cells, root, tables, &mut tasks[t]);
+        }
+    }
+}
+
+/// Runs a phase: makes an area of its plan, plants every place with a window, runs the phase's tasks, and ends the area.
+fn run_phase<'a, A: Areas>(
     alloc: Global,
     areas: &mut A,
-    plan: &Plan,
+    job: &Job,
     tables: &Tables,
-    task: &mut Task<TaskSpace<'a>>,
-) -> Result<(Ending, Finals), NoMemory>
-    requires room { A.made areas.old < 2 ^ 61 }
-    requires plan { plan.now.places ≡ tables.now.places }
-    requires seen { AreSeen (memory_of_space task.old.space) tables.now.places }
-    requires fresh { task.old.done ≡ 0 }
-    ensures made { A.made areas.new ≡ A.made areas.old + 1 }
-    ensures grown { let run = solo_run (memory_of_space task.old.space) task.old.budget (state_of task.old.cpu task.old.space.bytes task.old.io 0) in
-        IfOk result (λ r. GrowsBy plan.now run.trace (A.ledger areas.old) (A.ledger areas.new) (A.finals areas.old) (A.finals areas.new) r.1) }
-    ensures ending { let run = solo_run (memory_of_space task.old.space) task.old.budget (state_of task.old.cpu task.old.space.bytes task.old.io 0) in
-        IfOk result (λ r. r.0 ≡ run.ending) }
-    ensures state { let run = solo_run (memory_of_space task.old.space) task.old.budget (state_of task.old.cpu task.old.space.bytes task.old.io 0) in
-        IfOk result (λ _. state_of task.new.cpu task.new.space.bytes task.new.io task.new.done ≡ run.state) }
-    ensures memory { memory_of_space task.new.space ≡ memory_of_space task.old.space }
+    phase: u32,
+    tasks: &mut [Done<'a>],
+) -> Result<Finals, NoMemory>
+    requires room { A.made areas.old < 2 ^ 62 }
+    requires phase { phase < length job.now.phases }
+    requires tasks { AreRun job.now tables.now.places phase 0 tasks.old }
+    ensures made { IfOk result (λ _. A.made areas.new ≡ A.made areas.old + 1) }
+    ensures grown { IfOk result (λ f. GrowsBy (plan_view job.now tables.now.places phase) (phase_trace job.now tables.now.places phase) (A.ledger areas.old) (A.ledger areas.new) (A.finals areas.old) (A.finals areas.new) f) }
+    ensures tasks { IfOk result (λ _. AreRun job.now tables.now.places (phase + 1) 0 tasks.new) }
     ensures ledger_kept { OnErr result (A.ledger areas.new ≡ A.ledger areas.old) }
     ensures finals_kept { OnErr result (A.finals areas.new ≡ A.finals areas.old) }
 {
+    let plan = plan_of(alloc, job, tables, phase)?;
     // the proof reads the rules that a plan keeps off this look at one
     let _ = &plan.windows;
-    let (cells, mut root) = areas.make(alloc, plan)?;
-    plant_all(&cells, &mut root, plan);
-    let ending = run_task(&cells, &mut root, tables, task);
-    let finals = areas.finish(alloc, cells, root)?;
-    Ok((ending, finals))
+    let (cells, mut root) = areas.make(alloc, &plan)?;
+    plant_all(&cells, &mut root, &plan);
+    run_tasks(&cells, &mut root, job, tables, phase, tasks);
+    areas.finish(alloc, cells, root)
 }
 
-/// The job's one task.
-fn only_task(job: &Job) -> &TaskCard
-    requires { IsSingle job.now }
-    ensures value { result.now ≡ task_of job.now 0 }
-    ensures card { IsTask 1 result.now }
+/// Runs the job's phases one after the other, and gives the sets that each one's area ended with.
+fn run_phases<'a, A: Areas>(
+    alloc: Global,
+    areas: &mut A,
+    job: &Job,
+    tables: &Tables,
+    tasks: &mut [Done<'a>],
+) -> Result<Vec<Finals>, NoMemory>
+    requires room { A.made areas.old < 2 ^ 61 }
+    requires tasks { AreRun job.now tables.now.places 0 0 tasks.old }
+    ensures job { IsJob job.now }
+    ensures left { IfOk result (λ v. HasLeft job.now tables.now.places (record { ledger = A.ledger areas.old; finals = A.finals areas.old; made = A.made areas.old }) (record { ledger = A.ledger areas.new; finals = A.finals areas.new; made = A.made areas.new }) v.items) }
+    ensures tasks { IfOk result (λ _. AreRun job.now tables.now.places (length job.now.phases) 0 tasks.new) }
 {
-    &job.tasks[0]
+    let count = phase_count(job);
+    let mut finals = Vec::with_capacity(alloc, count as usize)?;
+    for phase in 0..count {
+        finals.push(run_phase(alloc, areas, job, tables, phase, tasks)?)?;
+    }
+    Ok(finals)
 }
 
-/// The job's modules.
-pub fn images_of(job: &Job) -> &Images
-    ensures value { result.now ≡ job.now.images }
-    ensures images { AreImages result.now }
-{
-    &job.images
-}
-
-/// The number of the job's sessions.
-fn session_count(job: &Job) -> u32
-    ensures { result ≡ length job.now.sessions }
-{
-    job.sessions.len() as u32
-}
-
-/// Runs the job's one phase: its areas are left as the task's run alone gives, and so is the outcome.
-pub fn run_only<'a, A: Areas>(
+/// Runs the job, phase after phase: the areas are left as the runs of the tasks alone give, and so is the outcome. All
+/// tasks take their memory before the first phase runs.
+pub fn run_all<'a, A: Areas>(
     alloc: Global,
     areas: &mut A,
     job: &'a Job,
     tables: &'a Tables,
 ) -> Result<Outcome<'a>, NoMemory>
-    requires single { IsSingle job.now }
     requires tables { All (IsIn job.now.images) tables.now.places }
     requires room { A.made areas.old < 2 ^ 61 }
     ensures ran { IfOk result (λ _. HasRun job.now tables.now.places (record { ledger = A.ledger areas.old; finals = A.finals areas.old; made = A.made areas.old }) (record { ledger = A.ledger areas.new; finals = A.finals areas.new; made = A.made areas.new })) }
-    ensures outcome { IfOk result (λ o. IsOutcome job.now tables.now.places (outcome_result o) o.sessions o.finals) }
+    ensures outcome { IfOk result (λ o. IsOutcome job.now tables.now.places o.tasks.items o.sets) }
 {
-    let images = images_of(job);
-    let plan = plan_of(alloc, job, tables, 0)?;
-    let mut task = task_of(alloc, only_task(job), images, tables)?;
-    let (ending, finals) = run_area(alloc, areas, &plan, tables, &mut task)?;
-    // the proof reads off the size that private storage still fills it
-    let _ = task.space.size();
+    let mut tasks = make_tasks(alloc, job, tables)?;
+    let finals = run_phases(alloc, areas, job, tables, &mut tasks)?;
     Ok(Outcome {
-        ending,
-        task,
-        finals,
-        sessions: session_count(job),
+        tasks,
+        sets: Sets::new(job, tables, finals),
     })
 }

@@ -84,7 +84,7 @@ IsRun-spent m plan old new budget first i s r all here =
     let run : solo_run m budget first ≡ run_ended Spent s r.trace = r.run ∙ ap (λ k. run_on m k s r.trace) none ∙ run_on-spent m s r.trace here in
     rw run (record { ending = refl; state = refl; observes = r.observes })
 
-visits-most : (places : List Place) (trace : List Visit) → visits_at_places places trace ≤ length trace
+pub visits-most : (places : List Place) (trace : List Visit) → visits_at_places places trace ≤ length trace
 visits-most places [] = omega arith
 visits-most places (v ∷ vs) =
     cond_both (is_place places v.at) 1 0 (λ n. n + visits_at_places places vs ≤ length (v ∷ vs)) (λ e. omega (arith, visits-most places vs)) (λ e. omega (arith, visits-most places vs))
