@@ -10,7 +10,7 @@ use Rattle.job_text.proofs.Guards.{some_same}
 use Rattle.job_text.proofs.Complete.{Reaches, run_append, run_begun, spelled_end}
 use Rattle.job_text.proofs.Sound.{run_spells}
 use Rattle.job_text.proofs.Ends.{run_begins}
-use Rattle.job_text.proofs.Jobs.{is_job}
+use Rattle.job_text.proofs.FirstJob.{is_job}
 
 -- a line at n, and the others behind it
 pub record Next (ls : List LineView) (n : ℕ) (l : LineView) (more : List LineView) : Type 0 where
