@@ -13,6 +13,7 @@ pub mod Listings
 pub mod Numbers
 pub mod Reading
 pub mod Rests
+pub mod Shortest
 pub mod Sound
 pub mod Spelled
 pub mod TaskCards

@@ -1,5 +1,5 @@
 -- The reader's states, and what a line makes of each. Only private contracts cite this.
-use Rattle.std.specs.Prelude.{◌≡◌, ℕ, ◌+◌, ◌-◌, ◌≤◌, Bool, true, false, not, nat_eq, nat_le, if◌then◌else◌, Option, Some, None, List, [], ◌∷◌, ◌++◌, length, replicate, option_map, option_and_then}
+use Rattle.std.specs.Prelude.{◌≡◌, ℕ, ◌+◌, ◌-◌, ◌≤◌, Bool, true, false, not, nat_eq, nat_le, if◌then◌else◌, Option, Some, None, List, [], ◌∷◌, ◌++◌, length, option_map, option_and_then}
 use Rattle.cov_base.specs.Memory.{ImageView}
 use Rattle.session_book.specs.JobView.{JobView, TaskView}
 use Rattle.job_text.specs.Lines.{LineView, listing_text}
@@ -137,16 +137,6 @@ step st l = if takes_raw st.part then take_raw st.part st.job (listing_text l) e
 abbrev pub run : State → List LineView → Option State
 run st [] = Some st
 run st (l ∷ ls) = option_and_then (λ s. run s ls) (step st l)
-
--- the job that the shortest lines to the end make: no more than what was announced
-abbrev pub sofar_at : Part → JobView → JobView
-sofar_at (part.Texts i left) j = with_module j (with_bytes i (replicate left 0)) None
-sofar_at (part.Listed i left lines) j = with_module j i (Some (lines ++ replicate left []))
-sofar_at (part.Task t) j = with_task j t.task
-sofar_at p j = j
-
-abbrev pub sofar : State → JobView
-sofar st = sofar_at st.part st.job
 
 abbrev pub job_of : State → Option JobView
 job_of st = if is_done st.part then Some st.job else None
