@@ -3,6 +3,7 @@ pub mod Complete
 pub mod Ends
 pub mod FirstJob
 pub mod Firsts
+pub mod Growth
 pub mod Guards
 pub mod Indices
 pub mod Joined
@@ -17,4 +18,5 @@ pub mod Shortest
 pub mod Sound
 pub mod Spelled
 pub mod TaskCards
+pub mod Verdicts
 pub mod WordLemmas

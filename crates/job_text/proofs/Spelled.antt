@@ -183,8 +183,8 @@ run_phase block j after st m a =
     rw m.whole (reach_first st next m.head (m.sessions ++ joined m.tasks) _ (card_step st next m.head _ raw m.card e)
     (reach_on next m.sessions (joined m.tasks) _ _ (run_sessions m.sessions m.named m.mid next m.are_sessions (is_here part.Sessions m.named (phase_over j)))
     (λ s b. let in_tasks : AtTasks m.mid s = rw (b.at, b.is) refl in
-      let r : Reaches s (joined m.tasks) (AtTasks after) = run_tasks m.tasks m.mid after s m.are_tasks in_tasks in
-      record { end = r.end; runs = r.runs; holds = closed_of_task r.end.part r.end.job after r.holds })))
+    let r : Reaches s (joined m.tasks) (AtTasks after) = run_tasks m.tasks m.mid after s m.are_tasks in_tasks in
+    record { end = r.end; runs = r.runs; holds = closed_of_task r.end.part r.end.job after r.holds })))
 
 run_phases : (blocks : List (List LineView)) (j after : JobView) (st : State) → ArePhases j blocks after → AtPhases j st → Reaches st (joined blocks) (AtPhases after)
 run_phases [] j after st are a = rw (← are) (record { end = st; runs = refl; holds = a })

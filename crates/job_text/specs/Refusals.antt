@@ -1,12 +1,21 @@
--- When reading a job ends with a refusal.
-use Rattle.std.specs.Prelude.{◌≡◌, ◌⊎◌, ℕ, ◌+◌, ◌-◌, ◌<◌, ◌≤◌, List, length, take}
+-- What reading a job gives, and when it ends with a refusal.
+use Rattle.std.specs.Prelude.{◌≡◌, ◌⊎◌, ℕ, ◌+◌, ◌-◌, ◌<◌, ◌≤◌, List, ◌++◌, length, take, drop}
 use Rattle.session_book.specs.JobView.{JobView}
-use Rattle.job_text.specs.Lines.{LineView}
+use Rattle.job_text.specs.Lines.{LineView, lines_of}
 use Rattle.job_text.specs.Spells.{Spells, JobBegins}
-use Rattle.job_text.specs.Limits.{Passes, rank}
+use Rattle.job_text.specs.Limits.{IsWithin, Passes, rank}
 use Rattle.job_text.specs.declared.limit.Limit.{Limit}
+use Rattle.job_text.specs.declared.jobs.ReadJob.{ReadJob}
 use Rattle.job_text.specs.declared.jobs.JobFault.{JobFault}
 use Rattle.job_text.specs.declared.jobs.JobFault.TheVariants as fault
+
+-- The bytes up to `end` are so many whole lines of the input, and spell the job, within the limits.
+pub record IsRead (input : List ℕ) (r : ReadJob) : Type 0 where
+  pub inside : r.end ≤ length input
+  pub parted : lines_of input ≡ lines_of (take r.end input) ++ lines_of (drop r.end input)
+  pub count : length (lines_of (take r.end input)) ≡ r.lines
+  pub spells : Spells (lines_of (take r.end input)) r.job
+  pub within : IsWithin r.job
 
 -- these lines begin a job and pass no limit
 pub record GoesOn (lines : List LineView) : Type 0 where

@@ -6,7 +6,7 @@ mod cards;
 mod drafts;
 mod fault;
 mod first;
-mod jobs;
+pub mod jobs;
 mod limit;
 mod lines;
 mod parts;
@@ -21,6 +21,7 @@ pub use card::{Card, RegCard};
 pub use cards::read_card;
 pub use fault::JobFault;
 pub use first::read_first_form;
+pub use jobs::{ReadJob, read_job};
 pub use limit::Limit;
 
 #[cfg(test)]

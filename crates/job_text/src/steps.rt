@@ -1,5 +1,6 @@
 //! Takes a job line by line.
 ghost use Rattle.std.specs.Prelude.{◌≡◌, ℕ, ◌<◌, ◌≤◌, true, Option, Some, None, IfOk, IfErr, length};
+ghost use Rattle.session_book.specs.JobView.{IsJob};
 ghost use Rattle.job_text.specs.CardView as says;
 ghost use Rattle.job_text.specs.Lines.{LineView};
 ghost use Rattle.job_text.specs.Steps as machine;
@@ -17,8 +18,8 @@ use crate::refused::LineRefused;
 use crate::task::fresh_task;
 use cov_base::{Addr, Name};
 use listing_lines::ListingLine;
-use module_area::Image;
-use session_book::Lines;
+use module_area::{Image, Images};
+use session_book::{Job, Lines};
 use std::alloc::Global;
 use std::marker::Model;
 
@@ -287,6 +288,27 @@ impl JobReader {
         match read_card(alloc, bytes)? {
             None => Err(LineRefused::Bad),
             Some(card) => self.card(alloc, card),
+        }
+    }
+
+    /// The job that was read.
+    pub(crate) fn finish(self) -> Job
+        requires { IsJob self.job }
+        ensures { result ≡ self.job }
+    {
+        let Draft {
+            images,
+            listings,
+            phases,
+            sessions,
+            tasks,
+        } = self.job;
+        Job {
+            images: Images(images),
+            listings,
+            phases,
+            sessions,
+            tasks,
         }
     }
 
