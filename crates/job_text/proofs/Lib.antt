@@ -16,7 +16,9 @@ pub mod Reading
 pub mod Rests
 pub mod Shortest
 pub mod Sound
+pub mod Spans
 pub mod Spelled
 pub mod TaskCards
 pub mod Verdicts
+pub mod WholeJob
 pub mod WordLemmas

@@ -23,6 +23,9 @@ pub record State : Type 0 where
 abbrev pub state : Part → JobView → Option Limit → State
 state p j over = record { part = p; job = j; over = over }
 
+abbrev pub plain : State → State
+plain st = state st.part st.job None
+
 abbrev pub start : State
 start = state part.Start no_job None
 

@@ -59,7 +59,7 @@ impl JobReader {
     }
 
     fn cover_card(self) -> Result<JobReader, LineRefused>
-        ensures ok { IfOk result (λ r. machine.take_card self says.Cover ≡ Some r) }
+        ensures ok { IfOk result (λ r. machine.take_card self says.Cover ≡ Some (machine.plain r)) }
         ensures err { IfErr result (machine.Refuses (machine.take_card self says.Cover)) }
     {
         match self.part {
@@ -78,7 +78,7 @@ impl JobReader {
         base: Addr,
         size: u32,
     ) -> Result<JobReader, LineRefused>
-        ensures ok { IfOk result (λ r. machine.take_card self (says.Module name base size) ≡ Some r) }
+        ensures ok { IfOk result (λ r. machine.take_card self (says.Module name base size) ≡ Some (machine.plain r)) }
         ensures err { IfErr result (machine.Refuses (machine.take_card self (says.Module name base size))) }
     {
         match closed_module(self.part, self.job)? {
@@ -88,7 +88,7 @@ impl JobReader {
     }
 
     fn text_card(self, more: &[u8]) -> Result<JobReader, LineRefused>
-        ensures ok { IfOk result (λ r. machine.take_card self (says.Text more.now) ≡ Some r) }
+        ensures ok { IfOk result (λ r. machine.take_card self (says.Text more.now) ≡ Some (machine.plain r)) }
         ensures err { IfErr result (machine.Refuses (machine.take_card self (says.Text more.now))) }
     {
         let JobReader { part, job } = self;
@@ -109,7 +109,7 @@ impl JobReader {
     }
 
     fn listing_card(self, alloc: Global, n: u32) -> Result<JobReader, LineRefused>
-        ensures ok { IfOk result (λ r. machine.take_card self (says.Listing n) ≡ Some r) }
+        ensures ok { IfOk result (λ r. machine.take_card self (says.Listing n) ≡ Some (machine.plain r)) }
         ensures err { IfErr result (machine.Refuses (machine.take_card self (says.Listing n))) }
     {
         let JobReader { part, job } = self;
@@ -133,7 +133,7 @@ impl JobReader {
     }
 
     fn phase_card(self, name: Name) -> Result<JobReader, LineRefused>
-        ensures ok { IfOk result (λ r. machine.take_card self (says.Phase name) ≡ Some r) }
+        ensures ok { IfOk result (λ r. machine.take_card self (says.Phase name) ≡ Some (machine.plain r)) }
         ensures err { IfErr result (machine.Refuses (machine.take_card self (says.Phase name))) }
     {
         match closed(self.part, self.job)? {
@@ -148,7 +148,7 @@ impl JobReader {
         name: Name,
         names: &[Name],
     ) -> Result<JobReader, LineRefused>
-        ensures ok { IfOk result (λ r. machine.take_card self (says.Session name names.now) ≡ Some r) }
+        ensures ok { IfOk result (λ r. machine.take_card self (says.Session name names.now) ≡ Some (machine.plain r)) }
         ensures err { IfErr result (machine.Refuses (machine.take_card self (says.Session name names.now))) }
     {
         match self.part {
@@ -166,7 +166,7 @@ impl JobReader {
         budget: u32,
         room: u32,
     ) -> Result<JobReader, LineRefused>
-        ensures ok { IfOk result (λ r. machine.take_card self (says.Task name entry private budget room) ≡ Some r) }
+        ensures ok { IfOk result (λ r. machine.take_card self (says.Task name entry private budget room) ≡ Some (machine.plain r)) }
         ensures err { IfErr result (machine.Refuses (machine.take_card self (says.Task name entry private budget room))) }
     {
         match closed_task(self.part, self.job)? {
@@ -176,7 +176,7 @@ impl JobReader {
     }
 
     fn end_card(self) -> Result<JobReader, LineRefused>
-        ensures ok { IfOk result (λ r. machine.take_card self says.End ≡ Some r) }
+        ensures ok { IfOk result (λ r. machine.take_card self says.End ≡ Some (machine.plain r)) }
         ensures err { IfErr result (machine.Refuses (machine.take_card self says.End)) }
     {
         match closed(self.part, self.job)? {
@@ -190,7 +190,7 @@ impl JobReader {
 
     /// Takes a further card of the open task.
     fn more_card(self, card: Card) -> Result<JobReader, LineRefused>
-        ensures ok { IfOk result (λ r. machine.take_more self.part self.job (view card) ≡ Some r) }
+        ensures ok { IfOk result (λ r. machine.take_more self.part self.job (view card) ≡ Some (machine.plain r)) }
         ensures err { IfErr result (machine.Refuses (machine.take_more self.part self.job (view card))) }
     {
         let JobReader { part, job } = self;
@@ -208,7 +208,7 @@ impl JobReader {
     }
 
     fn card(self, alloc: Global, card: Card) -> Result<JobReader, LineRefused>
-        ensures ok { IfOk result (λ r. machine.take_card self (view card) ≡ Some r) }
+        ensures ok { IfOk result (λ r. machine.take_card self (view card) ≡ Some (machine.plain r)) }
         ensures err { IfErr result (machine.Refuses (machine.take_card self (view card))) }
     {
         match card {
@@ -245,7 +245,7 @@ impl JobReader {
 
     fn listing_line(self, alloc: Global, text: &[u8]) -> Result<JobReader, LineRefused>
         requires { machine.takes_raw self.part ≡ true }
-        ensures ok { IfOk result (λ r. machine.take_raw self.part self.job text.now ≡ Some r) }
+        ensures ok { IfOk result (λ r. machine.take_raw self.part self.job text.now ≡ Some (machine.plain r)) }
         ensures err { IfErr result (machine.Refuses (machine.take_raw self.part self.job text.now)) }
     {
         let JobReader { part, job } = self;
@@ -279,7 +279,7 @@ impl JobReader {
         bytes: &[u8],
         ended: bool,
     ) -> Result<JobReader, LineRefused>
-        ensures ok { IfOk result (λ r. machine.step self (record { bytes = bytes.now; ended = ended }) ≡ Some r) }
+        ensures ok { IfOk result (λ r. machine.step self (record { bytes = bytes.now; ended = ended }) ≡ Some (machine.plain r)) }
         ensures err { IfErr result (machine.Refuses (machine.step self (record { bytes = bytes.now; ended = ended }))) }
     {
         if self.takes_raw() {
@@ -331,7 +331,7 @@ fn open_module(
     size: u32,
 ) -> Result<JobReader, LineRefused>
     requires { length job.phases ≤ 16 }
-    ensures ok { IfOk result (λ r. machine.open_module name base size job ≡ Some r) }
+    ensures ok { IfOk result (λ r. machine.open_module name base size job ≡ Some (machine.plain r)) }
     ensures err { IfErr result (machine.Refuses (machine.open_module name base size job)) }
 {
     if !fits(&job, &name, base.get(), size) {
@@ -356,7 +356,7 @@ fn open_module(
 
 fn open_phase(job: Draft, name: Name) -> Result<JobReader, LineRefused>
     requires { machine.HasRoom kind.Modules job }
-    ensures ok { IfOk result (λ r. machine.open_phase name job ≡ Some r) }
+    ensures ok { IfOk result (λ r. machine.open_phase name job ≡ Some (machine.plain r)) }
     ensures err { IfErr result (machine.Refuses (machine.open_phase name job)) }
 {
     let count = job.phases.len();
@@ -381,7 +381,7 @@ fn add_session(
     names: &[Name],
 ) -> Result<JobReader, LineRefused>
     requires { machine.HasRoom kind.Modules job }
-    ensures ok { IfOk result (λ r. machine.add_session job name names.now ≡ Some r) }
+    ensures ok { IfOk result (λ r. machine.add_session job name names.now ≡ Some (machine.plain r)) }
     ensures err { IfErr result (machine.Refuses (machine.add_session job name names.now)) }
 {
     let count = job.sessions.len();
@@ -409,7 +409,7 @@ fn open_task(
     room: u32,
 ) -> Result<JobReader, LineRefused>
     requires { machine.HasRoom kind.Modules job }
-    ensures ok { IfOk result (λ r. machine.open_task name entry private budget room job ≡ Some r) }
+    ensures ok { IfOk result (λ r. machine.open_task name entry private budget room job ≡ Some (machine.plain r)) }
     ensures err { IfErr result (machine.Refuses (machine.open_task name entry private budget room job)) }
 {
     if has_task(&job, &name) {
