@@ -1,11 +1,12 @@
 -- What a card that was read keeps.
-use Rattle.std.proofs.Common.{◌≡◌, ℕ, ◌+◌, ◌*◌, ◌<◌, ◌≤◌, Bool, true, false, ◌&&◌, nat_le, cond, Option, Some, None, List, [], ◌∷◌, refl, subst, option_map, arith, codes, slice_index}
+use Rattle.std.proofs.Common.{◌≡◌, ℕ, ◌+◌, ◌*◌, ◌<◌, ◌≤◌, Bool, true, false, ◌&&◌, nat_le, cond, Option, Some, None, List, [], ◌∷◌, ◌++◌, length, refl, subst, option_map, arith, codes, slice_index}
 use Rattle.std.proofs.lemmas.Bool.Decides.{nat_tests}
+use Rattle.std.proofs.lemmas.List.{length-append}
 use Rattle.std.specs.Str.{bytes_eq}
 use Rattle.cov_base.specs.Names.{is_digit, is_name, name_at, padded, unpadded}
 use Rattle.cov_base.proofs.NameLemmas.{unpadded-padded}
 use Rattle.job_text.specs.CardView.{CardView, Cover, Module, Text, Listing, Phase, Session, Task, Reg, Data, Input, End}
-use Rattle.job_text.specs.Words.{words, number_at, bytes_at, is_upper_hex, is_lower_hex, hex_value, is_address, address_value, address_at, word_at, names_at}
+use Rattle.job_text.specs.Words.{words, number_at, bytes_at, is_upper_hex, is_lower_hex, hex_value, is_address, address_value, address_at, word_at, put_name, names_on, names_at}
 use Rattle.job_text.specs.Cards.{may_stand, module_of, session_of, task_of, reg_of, data_of, short_card, pair_card, long_card, card_of, card_at}
 use Rattle.job_text.proofs.Guards.{guard_some, guard_more}
 
@@ -16,6 +17,7 @@ pub record IsName (n : List ℕ) : Type 0 where
 
 abbrev pub Good : CardView → Type 0
 Good (Module n b s) = IsName n × (may_stand b s ≡ true)
+Good (Session n ns) = 1 ≤ length ns
 Good (Task n e p b r) = (e < 16777216) × (1 ≤ b)
 Good c = Unit {0}
 
@@ -63,10 +65,33 @@ module_good (Some n) (Some b) None c is e = absurd cc
 module_good (Some n) None s c is e = absurd cc
 module_good None b s c is e = absurd cc
 
-session_good : (n : Option (List ℕ)) (ns : Option (List (List ℕ))) (c : CardView) → session_of n ns ≡ Some c → Good c
-session_good (Some n) (Some ns) c e = let same : Session n ns ≡ c = cc in subst Good same tt
-session_good (Some n) None c e = absurd cc
-session_good None ns c e = absurd cc
+session_good : (n : Option (List ℕ)) (ns : Option (List (List ℕ))) (c : CardView) → ((ms : List (List ℕ)) → ns ≡ Some ms → 1 ≤ length ms) → session_of n ns ≡ Some c → Good c
+session_good (Some n) (Some ns) c some e = let same : Session n ns ≡ c = cc in subst Good same (some ns refl)
+session_good (Some n) None c some e = absurd cc
+session_good None ns c some e = absurd cc
+
+no_names : (ws ms : List (List ℕ)) → names_on None ws ≡ Some ms → ⊥
+no_names [] ms e = absurd cc
+no_names (w ∷ ws) ms e = absurd cc
+
+name_put : (ns next : List (List ℕ)) (o : Option (List ℕ)) → put_name ns o ≡ Some next → length next ≡ length ns + 1
+name_put ns next (Some n) e = let same : ns ++ n ∷ [] ≡ next = cc in rw (← same) (omega (arith, length-append ns (n ∷ [])))
+name_put ns next None e = absurd cc
+
+names_least : (ws ns ms : List (List ℕ)) → names_on (Some ns) ws ≡ Some ms → length ns ≤ length ms
+names_least [] ns ms e = let same : ns ≡ ms = cc in rw same (omega arith)
+names_least (w ∷ ws) ns ms e = by (put_name ns (name_at w)) refl e (λ next. names_least ws next ms)
+  where
+    by : (o : Option (List (List ℕ))) → put_name ns (name_at w) ≡ o → names_on o ws ≡ Some ms → ((next : List (List ℕ)) → names_on (Some next) ws ≡ Some ms → length next ≤ length ms) → length ns ≤ length ms
+    by (Some next) f g more = omega (arith, name_put ns next (name_at w) f, more next g)
+    by None f g more = absurd (no_names ws ms g)
+
+names_some : (w : List ℕ) (ws ms : List (List ℕ)) → names_at (w ∷ ws) ≡ Some ms → 1 ≤ length ms
+names_some w ws ms e = by (put_name [] (name_at w)) refl e
+  where
+    by : (o : Option (List (List ℕ))) → put_name [] (name_at w) ≡ o → names_on o ws ≡ Some ms → 1 ≤ length ms
+    by (Some next) f g = omega (arith, name_put [] next (name_at w) f, names_least ws next ms g)
+    by None f g = absurd (no_names ws ms g)
 
 some_budget : (b : ℕ) → nat_le 1 b ≡ true → 1 ≤ b
 some_budget b e = grind (arith, nat_tests)
@@ -142,17 +167,18 @@ long_good key a (b ∷ p ∷ q ∷ r ∷ []) c e =
     task_good (name_at a) (address_at b) (number_at p) (number_at q) (number_at r) c (λ k h. address_good b k h) g.1
 long_good key a (b ∷ p ∷ q ∷ r ∷ s ∷ ws) c e = absurd cc
 
-session_or_long : (q : Bool) (n : Option (List ℕ)) (ns : Option (List (List ℕ))) (more : Option CardView) (c : CardView) → (more ≡ Some c → Good c) → cond q (session_of n ns) more ≡ Some c → Good c
-session_or_long true n ns more c g e = session_good n ns c e
-session_or_long false n ns more c g e = g e
+session_or_long : (q : Bool) (n : Option (List ℕ)) (ns : Option (List (List ℕ))) (more : Option CardView) (c : CardView) → ((ms : List (List ℕ)) → ns ≡ Some ms → 1 ≤ length ms) → (more ≡ Some c → Good c) →
+    cond q (session_of n ns) more ≡ Some c → Good c
+session_or_long true n ns more c some g e = session_good n ns c some e
+session_or_long false n ns more c some g e = g e
 
 words_good : (ws : List (List ℕ)) (c : CardView) → card_of ws ≡ Some c → Good c
 words_good [] c e = absurd cc
 words_good (key ∷ []) c e = last_good (bytes_eq key (codes "ENDJOB")) c End tt e
 words_good (key ∷ a ∷ []) c e = short_good key a c e
 words_good (key ∷ a ∷ b ∷ more) c e =
-    session_or_long (bytes_eq key (codes "SESSION")) (name_at a) (names_at (b ∷ more)) (long_card key a (b ∷ more)) c (long_good key a (b ∷ more) c) e
+    session_or_long (bytes_eq key (codes "SESSION")) (name_at a) (names_at (b ∷ more)) (long_card key a (b ∷ more)) c (names_some b more) (long_good key a (b ∷ more) c) e
 
--- a module's name is a name and it may stand there, an entry is an address, and a budget is at least 1
+-- a module's name is a name and it may stand there, a session has a module, an entry is an address, and a budget is at least 1
 pub card_good : (line : List ℕ) (c : CardView) → card_at line ≡ Some c → Good c
 card_good line c e = words_good (words line) c e

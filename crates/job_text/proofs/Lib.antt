@@ -1,9 +1,11 @@
 pub mod CardFacts
 pub mod Complete
 pub mod Ends
+pub mod FirstJob
 pub mod Firsts
+pub mod Growth
 pub mod Guards
-pub mod Jobs
+pub mod Indices
 pub mod Joined
 pub mod Kept
 pub mod Laws
@@ -11,6 +13,12 @@ pub mod LineLemmas
 pub mod Listings
 pub mod Numbers
 pub mod Reading
+pub mod Rests
+pub mod Shortest
 pub mod Sound
+pub mod Spans
+pub mod Spelled
 pub mod TaskCards
+pub mod Verdicts
+pub mod WholeJob
 pub mod WordLemmas

@@ -10,7 +10,7 @@ use Rattle.job_text.proofs.Guards.{some_same}
 use Rattle.job_text.proofs.Complete.{Reaches, run_append, run_begun, spelled_end}
 use Rattle.job_text.proofs.Sound.{run_spells}
 use Rattle.job_text.proofs.Ends.{run_begins}
-use Rattle.job_text.proofs.Jobs.{is_job}
+use Rattle.job_text.proofs.FirstJob.{is_job}
 
 -- a line at n, and the others behind it
 pub record Next (ls : List LineView) (n : ℕ) (l : LineView) (more : List LineView) : Type 0 where
@@ -90,20 +90,3 @@ job_keeps ls n s d h e = by (job_at s) refl
     by : (o : Option JobView) → job_at s ≡ o → IfSome o IsJob
     by (Some job) f = end_keeps ls n s job d h e f
     by None f = tt
-
-pub nothing_left : (bs : List ℕ) → length bs ≡ 0 → lines_of bs ≡ []
-nothing_left [] e = refl
-nothing_left (b ∷ bs) e = absurd (omega arith)
-
-put_length : (b : ℕ) (ls : List LineView) → length (put_on b ls) ≤ length ls + 1
-put_length b [] = omega arith
-put_length b (l ∷ ls) = omega arith
-
-count_first : (b : ℕ) (bs : List ℕ) (q : Bool) → nat_eq b 10 ≡ q → length (lines_of bs) ≤ length bs → length (lines_of (b ∷ bs)) ≤ length bs + 1
-count_first b bs true e h = rw e (omega (arith, h))
-count_first b bs false e h = let p = put_length b (lines_of bs) in rw e (omega (arith, h, p))
-
--- a text has no more lines than bytes
-pub lines_count : (bs : List ℕ) → length (lines_of bs) ≤ length bs
-lines_count [] = omega arith
-lines_count (b ∷ bs) = let h = count_first b bs (nat_eq b 10) refl (lines_count bs) in omega (arith, h)

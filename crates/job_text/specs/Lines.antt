@@ -1,5 +1,5 @@
 -- The lines of an input, and the text of a listing line.
-use Rattle.std.specs.Prelude.{ℕ, ◌-◌, Bool, true, false, ◌&&◌, nat_eq, nat_le, if◌then◌else◌, List, [], ◌∷◌, length, take, slice_index}
+use Rattle.std.specs.Prelude.{ℕ, ◌+◌, ◌-◌, Bool, true, false, ◌&&◌, nat_eq, nat_le, if◌then◌else◌, List, [], ◌∷◌, length, take, slice_index}
 
 pub record LineView : Type 0 where
   pub bytes : List ℕ
@@ -22,3 +22,11 @@ has_cr l = l.ended && nat_le 1 (length l.bytes) && nat_eq (slice_index l.bytes (
 -- a line of a listing, without one CR before its LF
 abbrev pub listing_text : LineView → List ℕ
 listing_text l = if has_cr l then take (length l.bytes - 1) l.bytes else l.bytes
+
+-- how many bytes a line takes, with its LF
+abbrev pub span : LineView → ℕ
+span l = if l.ended then length l.bytes + 1 else length l.bytes
+
+abbrev pub spans : List LineView → ℕ
+spans [] = 0
+spans (l ∷ ls) = span l + spans ls

@@ -3,11 +3,17 @@
 
 mod card;
 mod cards;
+mod drafts;
 mod fault;
 mod first;
+pub mod jobs;
+mod limit;
 mod lines;
+mod parts;
 mod progress;
 mod reader;
+mod refused;
+mod steps;
 mod task;
 mod words;
 
@@ -15,6 +21,8 @@ pub use card::{Card, RegCard};
 pub use cards::read_card;
 pub use fault::JobFault;
 pub use first::read_first_form;
+pub use jobs::{ReadJob, read_job};
+pub use limit::Limit;
 
 #[cfg(test)]
 mod tests;

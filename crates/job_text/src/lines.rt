@@ -1,6 +1,6 @@
 //! The lines of an input.
-ghost use Rattle.std.specs.Prelude.{◌≡◌, ◌∷◌, ◌<◌, length, nat_eq, position};
-ghost use Rattle.job_text.specs.Lines.{LineView, lines_of, has_cr, listing_text};
+ghost use Rattle.std.specs.Prelude.{◌≡◌, ◌+◌, ◌∷◌, ◌<◌, length, nat_eq, position};
+ghost use Rattle.job_text.specs.Lines.{LineView, lines_of, has_cr, listing_text, span};
 
 /// The first line of a text, whether an LF ended it, and what follows.
 #[derive(Drop)]
@@ -21,6 +21,7 @@ pub(crate) fn first_line(text: &[u8]) -> FirstLine<'_>
     requires { 0 < length text.now }
     ensures line { lines_of text.now ≡ record { bytes = result.bytes.now; ended = result.ended } ∷ lines_of result.rest.now }
     ensures less { length result.rest.now < length text.now }
+    ensures size { span (record { bytes = result.bytes.now; ended = result.ended }) + length result.rest.now ≡ length text.now }
 {
     match first_end(text) {
         Some(at) => {

@@ -3,7 +3,8 @@ use Rattle.std.proofs.lemmas.Bool.Decides.{nat_tests}
 use Rattle.job_text.specs.Lines.{lines_of}
 use Rattle.job_text.specs.Machine.{job_at}
 use Rattle.job_text.specs.States.{state}
-use Rattle.job_text.proofs.Reading.{lines_count, first_bad, next_line, run_more, nothing_left, job_keeps, ends_early, ends_well, ends_alone}
+use Rattle.job_text.proofs.Reading.{first_bad, next_line, run_more, job_keeps, ends_early, ends_well, ends_alone}
+use Rattle.job_text.proofs.Spans.{lines_count, nothing_left}
 use Rattle.job_text.proofs.first.read_first_form.Goals as goal
 
 pub overflow_add-result : goal.overflow_add-result

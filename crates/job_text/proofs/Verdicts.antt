@@ -1,0 +1,250 @@
+-- What the reader's runs say of the lines.
+use Rattle.std.proofs.Common.{◌≡◌, ℕ, ◌+◌, ◌-◌, ◌<◌, ◌≤◌, zero, suc, Bool, true, false, Option, Some, None, List, [], ◌∷◌, ◌++◌, length, take, drop, refl, ap, subst, sym, ◌∙◌, arith, append_assoc, append-nil, option_map, option_and_then, inl, inr, take-append-drop}
+use Rattle.std.proofs.Math.Seq.{take-length}
+use Rattle.std.proofs.lemmas.Bool.{cases_order}
+use Rattle.std.proofs.lemmas.List.{length-drop}
+use Rattle.session_book.specs.JobView.{JobView}
+use Rattle.job_text.specs.Lines.{LineView, lines_of, span, spans}
+use Rattle.job_text.specs.CardView.{CardView, Cover, Module, Text, Listing, Phase, Session, Task, Reg, Data, Input, End}
+use Rattle.job_text.specs.Cards.{card_at}
+use Rattle.job_text.specs.Spells.{Spells, JobBegins}
+use Rattle.job_text.specs.Limits.{keeps, IsWithin, Passes, rank}
+use Rattle.job_text.specs.Refusals.{IsRead, GoesOn, IsBadAt, IsOverAt}
+use Rattle.job_text.specs.declared.jobs.ReadJob.{ReadJob}
+use Rattle.job_text.specs.declared.limit.Limit.{Limit}
+use Rattle.job_text.specs.declared.refused.LineRefused.{LineRefused}
+use Rattle.job_text.specs.declared.refused.LineRefused.TheVariants as refused
+use Rattle.job_text.specs.declared.parts.Part.{Part}
+use Rattle.job_text.specs.declared.parts.Part.TheVariants as kind
+use Rattle.job_text.specs.Steps.{State, state, start, is_done, take_card, step, run, Refuses}
+use Rattle.job_text.proofs.Guards.{some_same, FromMap, map_some, then_some}
+use Rattle.job_text.proofs.Spans.{Cut, cut_at}
+use Rattle.job_text.proofs.Spelled.{Reaches, Is, run_append, run_spelled, run_begun}
+use Rattle.job_text.proofs.Rests.{run_spells}
+use Rattle.job_text.proofs.Shortest.{sofar_at, sofar, run_begins}
+use Rattle.job_text.proofs.Growth.{Judged, step_grows, run_more}
+
+-- the line at n, and the others behind it
+pub record At (ls : List LineView) (n : ℕ) (l : LineView) (more : List LineView) : Type 0 where
+  pub inside : n < length ls
+  pub taken : take (n + 1) ls ≡ take n ls ++ l ∷ []
+  pub left : drop (n + 1) ls ≡ more
+
+record AtNext (ls : List LineView) (n : ℕ) (l : LineView) (more : List LineView) : Type 0 where
+  inside : n < length ls
+  taken : take (suc n) ls ≡ take n ls ++ l ∷ []
+  left : drop (suc n) ls ≡ more
+
+at_next : (ls : List LineView) (n : ℕ) (l : LineView) (more : List LineView) → drop n ls ≡ l ∷ more → AtNext ls n l more
+at_next [] zero l more e = absurd cc
+at_next [] (suc n) l more e = absurd cc
+at_next (x ∷ xs) zero l more e = let a : x ≡ l = cc in let b : xs ≡ more = cc in record { inside = omega arith; taken = rw a refl; left = b }
+at_next (x ∷ xs) (suc n) l more e =
+    let a : AtNext xs n l more = at_next xs n l more e in
+    record { inside = omega (arith, a.inside); taken = ap (λ (y : List LineView). x ∷ y) a.taken; left = a.left }
+
+at_line : (ls : List LineView) (n : ℕ) (l : LineView) (more : List LineView) → drop n ls ≡ l ∷ more → At ls n l more
+at_line ls n l more e =
+    let a : AtNext ls n l more = at_next ls n l more e in
+    let one : n + 1 ≡ suc n = omega arith in
+    record { inside = a.inside; taken = rw one a.taken; left = rw one a.left }
+
+run_last : (ls : List LineView) (n : ℕ) (l : LineView) (more : List LineView) (s : State) → drop n ls ≡ l ∷ more → run start (take n ls) ≡ Some s → run start (take (n + 1) ls) ≡ option_and_then (λ t. Some t) (step s l)
+run_last ls n l more s d e = rw ((at_line ls n l more d).taken, run_append start (take n ls) (l ∷ []), e) refl
+
+run_on : (ls : List LineView) (n : ℕ) (l : LineView) (more : List LineView) (s t : State) → drop n ls ≡ l ∷ more → run start (take n ls) ≡ Some s → step s l ≡ Some t → run start (take (n + 1) ls) ≡ Some t
+run_on ls n l more s t d e f = run_last ls n l more s d e ∙ (rw f refl)
+
+not_true : (b : Bool) → (b ≡ true → ⊥) → b ≡ false
+not_true true h = absurd (h refl)
+not_true false h = refl
+
+-- what is over a limit stays over it
+pub over_passes : (ls : List LineView) (s : State) (w : Limit) → run start ls ≡ Some s → keeps w (sofar s) ≡ false → Passes w ls
+over_passes ls s w r e rest job p =
+    let x : Reaches start (ls ++ rest) (Is kind.Done job) = run_spelled (ls ++ rest) job p in
+    let t : run s rest ≡ Some x.end = (rw (run_append start ls rest, r) at x.runs) in
+    let same : sofar x.end ≡ job = rw (x.holds.at, x.holds.is) refl in
+    not_true (keeps w job) (λ k. let m : keeps w (sofar s) ≡ true = run_more rest s x.end t w (rw same k) in let no : true ≡ false = sym m ∙ e in absurd cc)
+
+pub kept_passes : (ls : List LineView) (s : State) (w : Limit) → run start ls ≡ Some s → keeps w (sofar s) ≡ true → Passes w ls → ⊥
+kept_passes ls s w r e p =
+    let b = run_begins ls s r in
+    let over : keeps w (sofar s) ≡ false = subst (λ (x : JobView). keeps w x ≡ false) b.1 (p b.0.rest b.0.job b.0.spells) in
+    let no : true ≡ false = sym e ∙ over in
+    absurd cc
+
+pub goes_on : (ls : List LineView) (s : State) → run start ls ≡ Some s → IsWithin (sofar s) → GoesOn ls
+goes_on ls s r within = record { begins = (run_begins ls s r).0; within = λ w. kept_passes ls s w r (within w) }
+
+pub bad_here : (ls : List LineView) (n : ℕ) (l : LineView) (more : List LineView) (s : State) → drop n ls ≡ l ∷ more → run start (take n ls) ≡ Some s → IsWithin (sofar s) → step s l ≡ None → IsBadAt ls (n + 1)
+bad_here ls n l more s d e within f =
+    let stuck : run start (take (n + 1) ls) ≡ None = run_last ls n l more s d e ∙ (rw f refl) in
+    let same : n + 1 - 1 ≡ n = omega arith in
+    let inside : n < length ls = (at_line ls n l more d).inside in
+    record {
+      counts = omega arith;
+      before = rw same (goes_on (take n ls) s e within);
+      here = inl (omega (arith, inside), λ b. let r : Reaches start (take (n + 1) ls) (λ s. Unit {0}) = run_begun (take (n + 1) ls) b in let no : None ≡ Some r.end = sym stuck ∙ r.runs in absurd cc);
+    }
+
+pub over_here : (ls : List LineView) (n : ℕ) (l : LineView) (more : List LineView) (s : State) (what : Limit) → drop n ls ≡ l ∷ more → run start (take n ls) ≡ Some s → IsWithin (sofar s) →
+    option_map (λ t. t.over) (step s l) ≡ Some (Some what) → IsOverAt ls what (n + 1)
+over_here ls n l more s what d e within f =
+    let m : FromMap (λ t. t.over) (step s l) (Some what) = map_some (λ t. t.over) (step s l) (Some what) f in
+    let same : n + 1 - 1 ≡ n = omega arith in
+    let inside : n < length ls = (at_line ls n l more d).inside in
+    let r : run start (take (n + 1) ls) ≡ Some m.from = run_on ls n l more s m.from d e m.was in
+    let judged : Judged (Some what) (sofar m.from) = subst (λ (o : Option Limit). Judged o (sofar m.from)) m.gives ((step_grows s m.from l m.was).judged within) in
+    record {
+      counts = omega arith;
+      inside = omega (arith, inside);
+      before = rw same (goes_on (take n ls) s e within);
+      begins = (run_begins (take (n + 1) ls) m.from r).0;
+      passes = over_passes (take (n + 1) ls) m.from what r judged.0;
+      first = λ w less. kept_passes (take (n + 1) ls) m.from w r (judged.1 w less);
+    }
+
+-- the lines up to here, where the line at n passed no limit
+pub record Further (ls : List LineView) (n : ℕ) (t : State) (more : List LineView) (l : LineView) : Type 0 where
+  pub at : At ls n l more
+  pub runs : run start (take (n + 1) ls) ≡ Some t
+  pub kept : IsWithin (sofar t)
+
+pub further : (ls : List LineView) (n : ℕ) (l : LineView) (more : List LineView) (s t : State) → drop n ls ≡ l ∷ more → run start (take n ls) ≡ Some s → IsWithin (sofar s) → step s l ≡ Some t → t.over ≡ None → Further ls n t more l
+further ls n l more s t d e within f none = record {
+  at = at_line ls n l more d;
+  runs = run_on ls n l more s t d e f;
+  kept = subst (λ (o : Option Limit). Judged o (sofar t)) none ((step_grows s t l f).judged within);
+}
+
+whole_take : (ls : List LineView) (n : ℕ) → drop n ls ≡ [] → take n ls ≡ ls
+whole_take ls n d = take_all (take n ls) (drop n ls) d ∙ take-append-drop n ls
+  where
+    take_all : (a b : List LineView) → b ≡ [] → a ≡ a ++ b
+    take_all a b e = rw (e, append-nil {A = LineView}) refl
+
+pub ends_early : (ls : List LineView) (n : ℕ) (s : State) → drop n ls ≡ [] → n ≤ length ls → run start (take n ls) ≡ Some s → IsWithin (sofar s) → is_done s.part ≡ false → IsBadAt ls (n + 1)
+ends_early ls n s d h e within f =
+    let whole : take n ls ≡ ls = whole_take ls n d in
+    let a : length (drop n ls) ≡ length ls - n = length-drop n ls in
+    let b : length (drop n ls) ≡ 0 = ap (λ (x : List LineView). length x) d in
+    let all : n ≡ length ls = omega (arith, a, b, h) in
+    let same : n + 1 - 1 ≡ n = omega arith in
+    record {
+      counts = omega arith;
+      before = rw same (goes_on (take n ls) s e within);
+      here = inr (omega (arith, all), λ job p.
+        let r : Reaches start ls (Is kind.Done job) = run_spelled ls job p in
+        let end : r.end ≡ s = some_same r.end s (sym r.runs ∙ (rw whole at e)) in
+        let no : true ≡ false = sym (ap is_done r.holds.at) ∙ (ap (λ (t : State). is_done t.part) end ∙ f) in absurd cc);
+    }
+
+-- a job that was read stands still
+
+done_card : (c : CardView) (j : JobView) (over : Option Limit) → take_card (state kind.Done j over) c ≡ None
+done_card Cover j over = refl
+done_card (Module n b s) j over = refl
+done_card (Text bytes) j over = refl
+done_card (Listing n) j over = refl
+done_card (Phase n) j over = refl
+done_card (Session n ns) j over = refl
+done_card (Task n e p b r) j over = refl
+done_card (Reg n v) j over = refl
+done_card (Data c) j over = refl
+done_card (Input bytes) j over = refl
+done_card End j over = refl
+
+done_at : (o : Option CardView) (j : JobView) (over : Option Limit) → option_and_then (take_card (state kind.Done j over)) o ≡ None
+done_at None j over = refl
+done_at (Some c) j over = done_card c j over
+
+done_step : (p : Part) (j : JobView) (over : Option Limit) (l : LineView) → is_done p ≡ true → step (state p j over) l ≡ None
+done_step kind.Done j over l e = done_at (card_at l.bytes) j over
+done_step p j over l e = absurd cc
+
+done_run : (st : State) (ls : List LineView) (e : State) → is_done st.part ≡ true → run st ls ≡ Some e → ls ≡ []
+done_run st [] e d r = refl
+done_run st (l ∷ ls) e d r =
+    let stop : step st l ≡ None = done_step st.part st.job st.over l d in
+    let no : None ≡ Some e = sym (ap (λ (o : Option State). option_and_then (λ s. run s ls) o) stop) ∙ r in
+    absurd cc
+
+-- lines that spell a job begin no longer lines that spell one
+pub no_longer : (a b : List LineView) (s t : State) → run start a ≡ Some s → is_done s.part ≡ true → run start (a ++ b) ≡ Some t → b ≡ []
+no_longer a b s t r d q = done_run s b t d ((rw (run_append start a b, r) at q))
+
+record Longer (ls : List LineView) (k n : ℕ) : Type 0 where
+  line : LineView
+  more : List LineView
+  taken : take n ls ≡ take k ls ++ line ∷ more
+
+longer : (ls : List LineView) (k n : ℕ) → k < n → n ≤ length ls → Longer ls k n
+longer [] k zero h m = absurd (omega arith)
+longer [] k (suc n) h m = absurd (omega arith)
+longer (x ∷ xs) k zero h m = absurd (omega arith)
+longer (x ∷ xs) zero (suc n) h m = record { line = x; more = take n xs; taken = refl }
+longer (x ∷ xs) (suc k) (suc n) h m =
+    let r : Longer xs k n = longer xs k n (omega arith) (omega arith) in
+    record { line = r.line; more = r.more; taken = ap (λ (y : List LineView). x ∷ y) r.taken }
+
+not_later : (ls : List LineView) (k n : ℕ) (s t : State) → k < n → n ≤ length ls → run start (take k ls) ≡ Some s → is_done s.part ≡ true → run start (take n ls) ≡ Some t → ⊥
+not_later ls k n s t h m r d q =
+    let x : Longer ls k n = longer ls k n h m in
+    let none : x.line ∷ x.more ≡ [] = no_longer (take k ls) (x.line ∷ x.more) s t r d (rw x.taken at q) in
+    absurd cc
+
+-- the job that was read is the only one that some first lines spell
+pub alone : (ls : List LineView) (k n : ℕ) (s : State) (job : JobView) → k ≤ length ls → run start (take k ls) ≡ Some s → is_done s.part ≡ true → n ≤ length ls → Spells (take n ls) job → (s.job ≡ job) × (k ≡ n)
+alone ls k n s job within r d h p =
+    let x : Reaches start (take n ls) (Is kind.Done job) = run_spelled (take n ls) job p in
+    let done : is_done x.end.part ≡ true = ap is_done x.holds.at in
+    let same : k ≡ n = elim (cases_order k n) [
+      | inl e ↦ e
+      | inr y ↦ (elim y [ inl l ↦ absurd (not_later ls k n s x.end l h r d x.runs) | inr l ↦ absurd (not_later ls n k x.end s l within x.runs done r) ])
+    ] in
+    let t : run start (take n ls) ≡ Some s = (rw same at r) in
+    let end : s ≡ x.end = some_same s x.end (sym t ∙ x.runs) in
+    (ap (λ (y : State). y.job) end ∙ x.holds.is, same)
+
+-- and it is within the limits
+
+done_sofar : (p : Part) (j : JobView) → is_done p ≡ true → sofar_at p j ≡ j
+done_sofar kind.Done j e = refl
+done_sofar p j e = absurd cc
+
+pub job_within : (s : State) → is_done s.part ≡ true → IsWithin (sofar s) → IsWithin s.job
+job_within s d h = subst IsWithin (done_sofar s.part s.job d) h
+
+spans_last : (ls : List LineView) (l : LineView) → spans (ls ++ l ∷ []) ≡ spans ls + span l
+spans_last [] l = omega arith
+spans_last (x ∷ xs) l = omega (arith, spans_last xs l)
+
+pub spans_on : (ls : List LineView) (n : ℕ) (l : LineView) (more : List LineView) → drop n ls ≡ l ∷ more → spans (take (n + 1) ls) ≡ spans (take n ls) + span l
+spans_on ls n l more d = rw (at_line ls n l more d).taken (spans_last (take n ls) l)
+
+-- the bytes up to the end spell the job
+pub is_read : (input : List ℕ) (n : ℕ) (s : State) (r : ReadJob) → n ≤ length (lines_of input) → run start (take n (lines_of input)) ≡ Some s → is_done s.part ≡ true → IsWithin (sofar s) →
+    r.job ≡ s.job → r.end ≡ spans (take n (lines_of input)) → r.lines ≡ n → IsRead input r
+is_read input n s r h runs done within job end count =
+    let c : Cut input n (spans (take n (lines_of input))) = cut_at input n h in
+    let front : lines_of (take r.end input) ≡ take n (lines_of input) = rw end c.front in
+    let back : lines_of (drop r.end input) ≡ drop n (lines_of input) = rw end c.back in
+    record {
+      inside = rw end c.inside;
+      parted = rw (front, back) (sym (take-append-drop n (lines_of input)));
+      count = rw front (length_take (lines_of input) n h ∙ sym count);
+      spells = rw (front, job) (run_spells (take n (lines_of input)) s runs done);
+      within = rw job (job_within s done within);
+    }
+  where
+    length_take : (ls : List LineView) (k : ℕ) → k ≤ length ls → length (take k ls) ≡ k
+    length_take ls zero m = refl
+    length_take [] (suc k) m = absurd (omega arith)
+    length_take (x ∷ xs) (suc k) m = ap (λ (y : ℕ). suc y) (length_take xs k (omega arith))
+
+pub refused_bad : (o : Option State) (e : LineRefused) → e ≡ refused.Bad → Refuses o e → o ≡ None
+refused_bad o e is r = rw is at r
+
+pub refused_over : (o : Option State) (e : LineRefused) (what : Limit) → e ≡ refused.TooLarge what → Refuses o e → option_map (λ s. s.over) o ≡ Some (Some what)
+refused_over o e what is r = rw is at r

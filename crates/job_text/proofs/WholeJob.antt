@@ -1,0 +1,393 @@
+-- A job that lines spell within the limits keeps the rules of jobs.
+use Rattle.std.proofs.Common.{◌≡◌, ◌≢◌, ℕ, ◌+◌, ◌-◌, ◌%◌, ◌<◌, ◌≤◌, Bool, true, false, not, ◌&&◌, ◌||◌, nat_eq, nat_le, cond, Option, Some, None, List, [], ◌∷◌, ◌++◌, length, map, refl, ap, subst, sym, ◌∙◌, arith, All, AllPairs, IfSome, inl, inr, ◌⊎◌, slice_set, get_or, position, option_map}
+use Rattle.std.proofs.lemmas.Bool.Decides.{nat_tests}
+use Rattle.std.specs.Str.{bytes_eq}
+use Rattle.std.specs.List.{list_any, list_all, concat}
+use Rattle.std.proofs.lemmas.Slice.Eq.{bytes_eq-Decides}
+use Rattle.std.proofs.lemmas.List.{length-map, length-set, length-append, map-append}
+use Rattle.std.proofs.lemmas.List.Elements.{All-append, All-cons, All-nil, All-map}
+use Rattle.std.proofs.lemmas.List.Folds.{list_any_none}
+use Rattle.std.proofs.lemmas.List.Quantifiers.{all_pairs_push, position-Some}
+use Rattle.std.proofs.lemmas.List.Sums.{AllPass-from_list_all}
+use Rattle.cov_base.specs.Memory.{ImageView}
+use Rattle.module_area.specs.Images.{IsImage, AreClear, AreImages}
+use Rattle.module_area.specs.Views.{DataView}
+use Rattle.session_book.specs.JobView.{JobView, SessionView, TaskView, IsJob, IsTask, IsSession, IsListing, AreParted, Differ, first_regs}
+use Rattle.job_text.specs.Lines.{LineView}
+use Rattle.job_text.specs.CardView.{Module, Session, Task}
+use Rattle.job_text.specs.Cards.{may_stand}
+use Rattle.job_text.specs.Tasks.{RegView, set_regs, AreData, task_view}
+use Rattle.job_text.specs.Adding.{no_job, is_clear, fits, with_module, with_phase, this_phase, index_of, is_held, is_free, put_index, indices_on, session_view, put_session, with_session, has_task, with_task}
+use Rattle.job_text.specs.Spells.{AreModules, IsModule, AreSessions, IsTaskBlock, AreTasks, IsPhase, ArePhases, Spells}
+use Rattle.job_text.specs.Limits.{are_short, keeps, IsWithin}
+use Rattle.job_text.specs.declared.limit.Limit.TheVariants as limit
+use Rattle.job_text.specs.Steps.{State, start, is_done, run}
+use Rattle.job_text.proofs.Guards.{guard_some, both, map_some}
+use Rattle.job_text.proofs.CardFacts.{Good, card_good}
+use Rattle.job_text.proofs.Rests.{run_spells}
+use Rattle.job_text.proofs.Shortest.{sofar}
+use Rattle.job_text.proofs.Verdicts.{job_within}
+
+-- lists with one more
+
+one_all : {X : Type 0} (P : X → Type 0) (x : X) → P x → All P (x ∷ [])
+one_all P x p = All-cons P x [] p (All-nil P)
+
+all_push : {X : Type 0} (P : X → Type 0) (xs : List X) (x : X) → All P xs → P x → All P (xs ++ x ∷ [])
+all_push P xs x h p = All-append P xs (x ∷ []) h (one_all P x p)
+
+pairs_push : {X : Type 0} (R : X → X → Type 0) (xs : List X) (y : X) → AllPairs R xs → All (λ x. R x y) xs → AllPairs R (xs ++ y ∷ [])
+pairs_push R xs y h a = all_pairs_push R xs y h (λ k d l. a k d l)
+
+or_false : (a b : Bool) → (a || b) ≡ false → (a ≡ false) × (b ≡ false)
+or_false false b e = (refl, e)
+or_false true b e = absurd cc
+
+none_of : {X : Type 0} (p : X → Bool) (xs : List X) → list_any p xs ≡ false → All (λ x. p x ≡ false) xs
+none_of p [] e = All-nil (λ x. p x ≡ false)
+none_of p (x ∷ xs) e = let q = or_false (p x) (list_any p xs) e in All-cons (λ y. p y ≡ false) x xs q.0 (none_of p xs q.1)
+
+longer_by_one : {X : Type 0} (xs : List X) (x : X) → length (xs ++ x ∷ []) ≡ length xs + 1
+longer_by_one xs x = omega (arith, length-append xs (x ∷ []))
+
+-- names that differ, with one more
+
+names_differ : {X : Type 0} (name : X → List ℕ) (xs : List X) (x : X) → Differ (map name xs) → All (λ y. bytes_eq (name y) (name x) ≡ false) xs → Differ (map name (xs ++ x ∷ []))
+names_differ name xs x d h =
+    let others : All (λ (n : List ℕ). n ≢ name x) (map name xs) = All-map (λ (n : List ℕ). n ≢ name x) name xs (λ k y l. unlike (name (get_or xs k y)) (name x) (h k y l)) in
+    rw (map-append name xs (x ∷ [])) (pairs_push (λ a b. a ≢ b) (map name xs) (name x) d others)
+  where
+    unlike : (a b : List ℕ) → bytes_eq a b ≡ false → a ≢ b
+    unlike a b e same = let is : bytes_eq a b ≡ true = (bytes_eq-Decides a b).1 same in absurd cc
+
+-- everything but the limits
+record IsTaskSoFar (phases : ℕ) (t : TaskView) : Type 0 where
+  phase : t.phase < phases
+  entry : t.entry < 16777216
+  some : 1 ≤ t.budget
+  regs : length t.regs ≡ 16
+  cards : All (λ (c : DataView). c.offset + length c.bytes ≤ t.private) t.cards
+
+record SoFar (j : JobView) : Type 0 where
+  listings : length j.listings ≡ length j.images
+  each : All IsImage j.images
+  apart : AllPairs AreClear j.images
+  are_sessions : All (IsSession (length j.images) (length j.phases)) j.sessions
+  parted : AllPairs AreParted j.sessions
+  are_tasks : All (IsTaskSoFar (length j.phases)) j.tasks
+  module_names : Differ (map (λ (i : ImageView). i.name) j.images)
+  phase_names : Differ j.phases
+  session_names : Differ (map (λ (s : SessionView). s.name) j.sessions)
+  task_names : Differ (map (λ (t : TaskView). t.name) j.tasks)
+
+no_pairs : {X : Type 0} (R : X → X → Type 0) → AllPairs R []
+no_pairs R = λ i j d l m. absurd (omega arith)
+
+none_so_far : SoFar no_job
+none_so_far = record {
+  listings = refl;
+  each = All-nil IsImage;
+  apart = no_pairs AreClear;
+  are_sessions = All-nil (IsSession 0 0);
+  parted = no_pairs AreParted;
+  are_tasks = All-nil (IsTaskSoFar 0);
+  module_names = no_pairs (λ a b. a ≢ b);
+  phase_names = no_pairs (λ a b. a ≢ b);
+  session_names = no_pairs (λ a b. a ≢ b);
+  task_names = no_pairs (λ a b. a ≢ b);
+}
+
+more_session : (a b c d : ℕ) (s : SessionView) → a ≤ c → b ≤ d → IsSession a b s → IsSession c d s
+more_session a b c d s p q i = record { phase = omega (arith, i.phase); some = i.some; modules = λ k e l. omega (arith, i.modules k e l); differ = i.differ; whole = i.whole }
+
+more_task : (a b : ℕ) (t : TaskView) → a ≤ b → IsTaskSoFar a t → IsTaskSoFar b t
+more_task a b t p i = record { phase = omega (arith, i.phase); entry = i.entry; some = i.some; regs = i.regs; cards = i.cards }
+
+-- modules
+
+pub stands : (i : ImageView) → may_stand i.base (length i.bytes) ≡ true → IsImage i
+stands i e =
+    let size = length i.bytes in
+    let p = both (nat_eq (i.base % 8) 0 && nat_le 1048576 i.base && nat_eq (size % 2) 0 && nat_le 2 size) (nat_le (i.base + size) 16773120) e in
+    let q = both (nat_eq (i.base % 8) 0 && nat_le 1048576 i.base && nat_eq (size % 2) 0) (nat_le 2 size) p.0 in
+    let r = both (nat_eq (i.base % 8) 0 && nat_le 1048576 i.base) (nat_eq (size % 2) 0) q.0 in
+    let s = both (nat_eq (i.base % 8) 0) (nat_le 1048576 i.base) r.0 in
+    record {
+      doubleword = grind (arith, nat_tests, s.0);
+      from = grind (arith, nat_tests, s.1);
+      even = grind (arith, nat_tests, r.1);
+      some = grind (arith, nat_tests, q.1);
+      to = grind (arith, nat_tests, p.1);
+    }
+
+not_false : (b : Bool) → not b ≡ true → b ≡ false
+not_false false e = refl
+not_false true e = absurd cc
+
+or_by : (a b : Bool) → (a || b) ≡ true → (a ≡ true) ⊎ (b ≡ true)
+or_by true b e = inl refl
+or_by false b e = inr e
+
+clear_of : (i x : ImageView) → (nat_le (x.base + length x.bytes) i.base || nat_le (i.base + length i.bytes) x.base) ≡ true → AreClear x i
+clear_of i x e = elim (or_by (nat_le (x.base + length x.bytes) i.base) (nat_le (i.base + length i.bytes) x.base) e) [
+  | inl a ↦ inl (grind (arith, nat_tests, a))
+  | inr b ↦ inr (grind (arith, nat_tests, b))
+]
+
+module_so_far : (block : List LineView) (j after : JobView) → IsModule j block after → SoFar j → SoFar after
+module_so_far block j after m s =
+    let i : ImageView = m.image in
+    let card : Good (Module i.name i.base (length i.bytes)) = card_good m.head.bytes (Module i.name i.base (length i.bytes)) m.card in
+    let clear : All (λ x. is_clear i.name i.base (length i.bytes) x ≡ true) j.images = AllPass-from_list_all (is_clear i.name i.base (length i.bytes)) j.images m.fit in
+    let one : length (j.images ++ i ∷ []) ≡ length j.images + 1 = longer_by_one j.images i in
+    let two : length (j.listings ++ m.listed ∷ []) ≡ length j.listings + 1 = longer_by_one j.listings m.listed in
+    rw m.is_after (record {
+      listings = omega (arith, one, two, s.listings);
+      each = all_push IsImage j.images i s.each (stands i card.1);
+      apart = pairs_push AreClear j.images i s.apart (λ k d l. clear_of i (get_or j.images k d) (both _ _ (clear k d l)).1);
+      are_sessions = λ k d l. more_session (length j.images) (length j.phases) (length (j.images ++ i ∷ [])) (length j.phases) (get_or j.sessions k d) (omega (arith, one)) (omega arith) (s.are_sessions k d l);
+      parted = s.parted;
+      are_tasks = s.are_tasks;
+      module_names = names_differ (λ (x : ImageView). x.name) j.images i s.module_names (λ k d l. not_false _ (both _ _ (clear k d l)).0);
+      phase_names = s.phase_names;
+      session_names = s.session_names;
+      task_names = s.task_names;
+    })
+
+modules_so_far : (blocks : List (List LineView)) (j after : JobView) → AreModules j blocks after → SoFar j → SoFar after
+modules_so_far [] j after are s = rw (← are) s
+modules_so_far (block ∷ blocks) j after are s = modules_so_far blocks are.mid after are.then (module_so_far block j are.mid are.is_module s)
+
+-- phases
+
+guard_none : {A : Type 0} (b : Bool) (x y : A) → cond b None (Some x) ≡ Some y → (b ≡ false) × (x ≡ y)
+guard_none false x y e = (refl, cc)
+guard_none true x y e = absurd cc
+
+guard_then : {A : Type 0} (b : Bool) (o : Option A) (y : A) → cond b None o ≡ Some y → (b ≡ false) × (o ≡ Some y)
+guard_then false o y e = (refl, e)
+guard_then true o y e = absurd cc
+
+map_same : (xs : List (List ℕ)) → map (λ x. x) xs ≡ xs
+map_same [] = refl
+map_same (x ∷ xs) = ap (λ (y : List (List ℕ)). x ∷ y) (map_same xs)
+
+phase_so_far : (j after : JobView) (name : List ℕ) → with_phase j name ≡ Some after → SoFar j → SoFar after
+phase_so_far j after name e s =
+    let g = guard_none (list_any (λ p. bytes_eq p name) j.phases) (record j { phases = j.phases ++ name ∷ [] }) after e in
+    let one : length (j.phases ++ name ∷ []) ≡ length j.phases + 1 = longer_by_one j.phases name in
+    let names : Differ (map (λ x. x) (j.phases ++ name ∷ [])) = names_differ (λ x. x) j.phases name (rw (map_same j.phases) s.phase_names) (none_of (λ p. bytes_eq p name) j.phases g.0) in
+    rw (← g.1) (record {
+      listings = s.listings;
+      each = s.each;
+      apart = s.apart;
+      are_sessions = λ k d l. more_session (length j.images) (length j.phases) (length j.images) (length (j.phases ++ name ∷ [])) (get_or j.sessions k d) (omega arith) (omega (arith, one)) (s.are_sessions k d l);
+      parted = s.parted;
+      are_tasks = λ k d l. more_task (length j.phases) (length (j.phases ++ name ∷ [])) (get_or j.tasks k d) (omega (arith, one)) (s.are_tasks k d l);
+      module_names = s.module_names;
+      phase_names = rw (map_same (j.phases ++ name ∷ [])) at names;
+      session_names = s.session_names;
+      task_names = s.task_names;
+    })
+
+phase_is : (j after : JobView) (name : List ℕ) → with_phase j name ≡ Some after → 1 ≤ length after.phases
+phase_is j after name e =
+    let g = guard_none (list_any (λ p. bytes_eq p name) j.phases) (record j { phases = j.phases ++ name ∷ [] }) after e in
+    rw (← g.1) (omega (arith, longer_by_one j.phases name))
+
+-- sessions
+
+record AreUsed (j : JobView) (used : List ℕ) : Type 0 where
+  exist : All (λ m. m < length j.images) used
+  differ : AllPairs (λ m n. m ≢ n) used
+  free : All (λ m. list_any (is_held (this_phase j) m) j.sessions ≡ false) used
+
+differ_of : (m n : ℕ) → nat_eq m n ≡ false → n ≢ m
+differ_of m n e same = let is : nat_eq m n ≡ true = grind (arith, nat_tests) in absurd cc
+
+put_used : (j : JobView) (used : List ℕ) (m : ℕ) → m < length j.images → is_free j used m ≡ true → AreUsed j used → AreUsed j (used ++ m ∷ [])
+put_used j used m h e u =
+    let p = both (not (list_any (nat_eq m) used)) (not (list_any (is_held (this_phase j) m) j.sessions)) e in
+    let others : All (λ n. nat_eq m n ≡ false) used = none_of (nat_eq m) used (not_false _ p.0) in
+    record {
+      exist = all_push (λ n. n < length j.images) used m u.exist h;
+      differ = pairs_push (λ a b. a ≢ b) used m u.differ (λ k d l. differ_of m (get_or used k d) (others k d l));
+      free = all_push (λ n. list_any (is_held (this_phase j) n) j.sessions ≡ false) used m u.free (not_false _ p.1);
+    }
+
+record Indices (j : JobView) (used ms : List ℕ) (count : ℕ) : Type 0 where
+  are : AreUsed j ms
+  length : length ms ≡ length used + count
+
+index_put : (j : JobView) (used next : List ℕ) (o : Option ℕ) (n : List ℕ) → index_of j n ≡ o → put_index j used o ≡ Some next → AreUsed j used → Indices j used next 1
+index_put j used next (Some m) n is e u =
+    let g = guard_some (is_free j used m) (used ++ m ∷ []) next e in
+    let h : m < length j.images = (position-Some (λ (i : ImageView). bytes_eq i.name n) j.images m (record { name = []; base = 0; bytes = [] }) is).0 in
+    rw (← g.1) (record { are = put_used j used m h g.0 u; length = longer_by_one used m })
+index_put j used next None n is e u = absurd cc
+
+no_indices : (j : JobView) (ns : List (List ℕ)) (ms : List ℕ) → indices_on j None ns ≡ Some ms → ⊥
+no_indices j [] ms e = absurd cc
+no_indices j (n ∷ ns) ms e = absurd cc
+
+are_indices : (j : JobView) (ns : List (List ℕ)) (used ms : List ℕ) → indices_on j (Some used) ns ≡ Some ms → AreUsed j used → Indices j used ms (length ns)
+are_indices j [] used ms e u = let same : used ≡ ms = cc in rw (← same) (record { are = u; length = omega arith })
+are_indices j (n ∷ ns) used ms e u = by (put_index j used (index_of j n)) refl e (λ next. are_indices j ns next ms)
+  where
+    by : (o : Option (List ℕ)) → put_index j used (index_of j n) ≡ o → indices_on j o ns ≡ Some ms → ((next : List ℕ) → indices_on j (Some next) ns ≡ Some ms → AreUsed j next → Indices j next ms (length ns)) →
+      Indices j used ms (length (n ∷ ns))
+    by (Some next) f g more =
+      let p : Indices j used next 1 = index_put j used next (index_of j n) n refl f u in
+      let r : Indices j next ms (length ns) = more next g p.are in
+      record { are = r.are; length = omega (arith, p.length, r.length) }
+    by None f g more = absurd (no_indices j ns ms g)
+
+and_false : (a b : Bool) → (a && b) ≡ false → a ≡ true → b ≡ false
+and_false true b e h = e
+and_false false b e h = absurd cc
+
+parted_of : (phase : ℕ) (sessions : List SessionView) (s t : SessionView) → t.phase ≡ phase → All (λ m. is_held phase m s ≡ false) t.modules → AreParted s t
+parted_of phase sessions s t at free same =
+    let here : nat_eq s.phase phase ≡ true = rw (same, at) (grind (arith, nat_tests)) in
+    λ k d l. list_any_none (nat_eq (get_or s.modules k d)) t.modules
+    (λ i e h. let off : list_any (nat_eq (get_or t.modules i e)) s.modules ≡ false = and_false (nat_eq s.phase phase) _ (free i e h) here in
+      let other : nat_eq (get_or t.modules i e) (get_or s.modules k d) ≡ false = none_of (nat_eq (get_or t.modules i e)) s.modules off k d l in
+      grind (arith, nat_tests, other))
+
+session_so_far : (j after : JobView) (name : List ℕ) (names : List (List ℕ)) → with_session j name names ≡ Some after → 1 ≤ length names → 1 ≤ length j.phases → SoFar j → SoFar after
+session_so_far j after name names e some phases s =
+    let g = guard_then (list_any (λ x. bytes_eq x.name name) j.sessions) (option_map (put_session j name) (indices_on j (Some []) names)) after e in
+    let m = map_some (put_session j name) (indices_on j (Some []) names) after g.1 in
+    let t : SessionView = session_view j name m.from in
+    let none : AreUsed j [] = record { exist = All-nil (λ m. m < length j.images); differ = no_pairs (λ m n. m ≢ n); free = All-nil (λ m. list_any (is_held (this_phase j) m) j.sessions ≡ false) } in
+    let r : Indices j [] m.from (length names) = are_indices j names [] m.from m.was none in
+    let is : IsSession (length j.images) (length j.phases) t = record { phase = omega (arith, phases); some = omega (arith, r.length, some); modules = r.are.exist; differ = r.are.differ; whole = refl } in
+    rw (← m.gives) (record {
+      listings = s.listings;
+      each = s.each;
+      apart = s.apart;
+      are_sessions = all_push (IsSession (length j.images) (length j.phases)) j.sessions t s.are_sessions is;
+      parted = pairs_push AreParted j.sessions t s.parted (λ k d l. parted_of (this_phase j) j.sessions (get_or j.sessions k d) t refl (λ i f h. none_of (is_held (this_phase j) (get_or m.from i f)) j.sessions (r.are.free i f h) k d l));
+      are_tasks = s.are_tasks;
+      module_names = s.module_names;
+      phase_names = s.phase_names;
+      session_names = names_differ (λ (x : SessionView). x.name) j.sessions t s.session_names (none_of (λ x. bytes_eq x.name name) j.sessions g.0);
+      task_names = s.task_names;
+    })
+
+-- as many phases
+session_phases : (j after : JobView) (name : List ℕ) (names : List (List ℕ)) → with_session j name names ≡ Some after → after.phases ≡ j.phases
+session_phases j after name names e =
+    let g = guard_then (list_any (λ x. bytes_eq x.name name) j.sessions) (option_map (put_session j name) (indices_on j (Some []) names)) after e in
+    let m = map_some (put_session j name) (indices_on j (Some []) names) after g.1 in
+    ap (λ (x : JobView). x.phases) (sym m.gives)
+
+record InPhase (j : JobView) : Type 0 where
+  so_far : SoFar j
+  phase : 1 ≤ length j.phases
+
+sessions_so_far : (ls : List LineView) (j after : JobView) → AreSessions j ls after → InPhase j → InPhase after
+sessions_so_far [] j after are s = rw (← are) s
+sessions_so_far (l ∷ ls) j after are s =
+    let some : Good (Session are.name are.names) = card_good l.bytes (Session are.name are.names) are.card in
+    let next : InPhase are.mid = record { so_far = session_so_far j are.mid are.name are.names are.adds some s.phase s.so_far; phase = rw (session_phases j are.mid are.name are.names are.adds) s.phase } in
+    sessions_so_far ls are.mid after are.then next
+
+-- tasks
+
+pub regs_count : (regs : List ℕ) (rs : List RegView) → length (set_regs regs rs) ≡ length regs
+regs_count regs [] = refl
+regs_count regs (r ∷ rs) = regs_count (slice_set regs r.number r.value) rs ∙ length-set regs r.number r.value
+
+abbrev IsInside : ℕ → DataView → Type 0
+IsInside private c = c.offset + length c.bytes ≤ private
+
+pub data_inside : (private : ℕ) (cs : List DataView) (ls : List LineView) → AreData private cs ls → All (IsInside private) cs
+data_inside private [] ls are = All-nil (IsInside private)
+data_inside private (c ∷ cs) [] are = absurd are
+data_inside private (c ∷ cs) (l ∷ ls) are = All-cons (IsInside private) c cs are.0.1 (data_inside private cs ls are.1)
+
+task_so_far : (block : List LineView) (j after : JobView) → IsTaskBlock j block after → InPhase j → InPhase after
+task_so_far block j after m s =
+    let card : Good (Task m.name m.entry m.private m.budget m.room) = card_good m.head.bytes (Task m.name m.entry m.private m.budget m.room) m.card in
+    let t : TaskView = record (task_view m.name m.entry m.private m.budget m.room (set_regs (first_regs m.entry) m.regs) m.cards (concat m.inputs)) { phase = this_phase j } in
+    let is : IsTaskSoFar (length j.phases) t = record {
+      phase = omega (arith, s.phase);
+      entry = card.0;
+      some = card.1;
+      regs = regs_count (first_regs m.entry) m.regs;
+      cards = data_inside m.private m.cards m.data_lines m.are_data;
+    } in
+    rw m.is_after (record {
+      so_far = record {
+        listings = s.so_far.listings;
+        each = s.so_far.each;
+        apart = s.so_far.apart;
+        are_sessions = s.so_far.are_sessions;
+        parted = s.so_far.parted;
+        are_tasks = all_push (IsTaskSoFar (length j.phases)) j.tasks t s.so_far.are_tasks is;
+        module_names = s.so_far.module_names;
+        phase_names = s.so_far.phase_names;
+        session_names = s.so_far.session_names;
+        task_names = names_differ (λ (x : TaskView). x.name) j.tasks t s.so_far.task_names (none_of (λ x. bytes_eq x.name m.name) j.tasks m.new);
+      };
+      phase = s.phase;
+    })
+
+tasks_so_far : (blocks : List (List LineView)) (j after : JobView) → AreTasks j blocks after → InPhase j → InPhase after
+tasks_so_far [] j after are s = rw (← are) s
+tasks_so_far (block ∷ blocks) j after are s = tasks_so_far blocks are.mid after are.then (task_so_far block j are.mid are.is_task s)
+
+phases_so_far : (blocks : List (List LineView)) (j after : JobView) → ArePhases j blocks after → SoFar j → SoFar after
+phases_so_far [] j after are s = rw (← are) s
+phases_so_far (block ∷ blocks) j after are s =
+    let p : IsPhase j block are.mid = are.is_phase in
+    let named : InPhase p.named = record { so_far = phase_so_far j p.named p.name p.adds s; phase = phase_is j p.named p.name p.adds } in
+    let mid : InPhase p.mid = sessions_so_far p.sessions p.named p.mid p.are_sessions named in
+    let end : InPhase are.mid = tasks_so_far p.tasks p.mid are.mid p.are_tasks mid in
+    phases_so_far blocks are.mid after are.then end.so_far
+
+-- the limits
+
+at_most : (n k : ℕ) → nat_le n k ≡ true → n ≤ k
+at_most n k e = grind (arith, nat_tests)
+
+short_listing : (o : Option (List (List ℕ))) → are_short o ≡ true → IsListing o
+short_listing (Some texts) e = λ k d l. at_most (length (get_or texts k d)) 150 (AllPass-from_list_all (λ (t : List ℕ). nat_le (length t) 150) texts e k d l)
+short_listing None e = tt
+
+job_keeps : (ls : List LineView) (job : JobView) → Spells ls job → IsWithin job → IsJob job
+job_keeps ls job p within =
+    let s : SoFar job = phases_so_far p.phases p.mid job p.are_phases (modules_so_far p.modules no_job p.mid p.are_modules none_so_far) in
+    record {
+      listings = s.listings;
+      images = record { each = s.each; apart = s.apart };
+      sizes = λ k d l. at_most _ 262144 (AllPass-from_list_all _ job.images (within limit.Size) k d l);
+      modules = at_most (length job.images) 16 (within limit.Modules);
+      lines = λ k d l. short_listing (get_or job.listings k d) (AllPass-from_list_all are_short job.listings (within limit.Line) k d l);
+      phases = at_most (length job.phases) 16 (within limit.Phases);
+      sessions = at_most (length job.sessions) 16 (within limit.Sessions);
+      tasks = at_most (length job.tasks) 64 (within limit.Tasks);
+      are_sessions = s.are_sessions;
+      parted = s.parted;
+      are_tasks = λ k d l.
+      let t : IsTaskSoFar (length job.phases) (get_or job.tasks k d) = s.are_tasks k d l in
+        record {
+          phase = t.phase;
+          entry = t.entry;
+          private = at_most _ 1048576 (AllPass-from_list_all _ job.tasks (within limit.Private) k d l);
+          some = t.some;
+          budget = at_most _ 50000000 (AllPass-from_list_all _ job.tasks (within limit.Budget) k d l);
+          room = at_most _ 65536 (AllPass-from_list_all _ job.tasks (within limit.Room) k d l);
+          regs = t.regs;
+          cards = t.cards;
+        };
+      module_names = s.module_names;
+      phase_names = s.phase_names;
+      session_names = s.session_names;
+      task_names = s.task_names;
+    }
+
+-- lines that run to the end within the limits have read such a job
+pub read_keeps : (ls : List LineView) (s : State) → run start ls ≡ Some s → is_done s.part ≡ true → IsWithin (sofar s) → IsJob s.job
+read_keeps ls s r done within = job_keeps ls s.job (run_spells ls s r done) (job_within s done within)

@@ -1,0 +1,161 @@
+-- The reader's states, and what a line makes of each. Only private contracts cite this.
+use Rattle.std.specs.Prelude.{◌≡◌, ℕ, ◌+◌, ◌-◌, ◌≤◌, Bool, true, false, not, nat_eq, nat_le, if◌then◌else◌, Option, Some, None, List, [], ◌∷◌, ◌++◌, length, option_map, option_and_then}
+use Rattle.cov_base.specs.Memory.{ImageView}
+use Rattle.session_book.specs.JobView.{JobView, TaskView}
+use Rattle.job_text.specs.Lines.{LineView, listing_text}
+use Rattle.job_text.specs.CardView.{CardView, Cover, Module, Text, Listing, Phase, Session, Task, End}
+use Rattle.job_text.specs.Cards.{card_at}
+use Rattle.job_text.specs.Adding.{no_job, fits, with_module, with_phase, with_session, has_task, with_task}
+use Rattle.job_text.specs.TaskParts.{fresh_task, task_more}
+use Rattle.job_text.specs.declared.limit.Limit.{Limit}
+use Rattle.job_text.specs.declared.limit.Limit.TheVariants as limit
+use Rattle.job_text.specs.declared.refused.LineRefused.{LineRefused}
+use Rattle.job_text.specs.declared.refused.LineRefused.TheVariants as refused
+use Rattle.job_text.specs.declared.parts.Part.{Part}
+use Rattle.job_text.specs.declared.parts.Part.TheVariants as part
+
+-- what was read in part, the job that was read whole, and the limit that the last line passed
+pub record State : Type 0 where
+  pub part : Part
+  pub job : JobView
+  pub over : Option Limit
+
+abbrev pub state : Part → JobView → Option Limit → State
+state p j over = record { part = p; job = j; over = over }
+
+abbrev pub plain : State → State
+plain st = state st.part st.job None
+
+abbrev pub start : State
+start = state part.Start no_job None
+
+abbrev pub is_start : Part → Bool
+is_start part.Start = true
+is_start p = false
+
+abbrev pub is_sessions : Part → Bool
+is_sessions part.Sessions = true
+is_sessions p = false
+
+abbrev pub is_done : Part → Bool
+is_done part.Done = true
+is_done p = false
+
+-- the job with the module that was open, where it is whole: a module may come
+abbrev pub closed_module : Part → JobView → Option JobView
+closed_module part.Modules j = Some j
+closed_module (part.Texts i left) j = if nat_eq left 0 then Some (with_module j i None) else None
+closed_module (part.Listed i left lines) j = if nat_eq left 0 then Some (with_module j i (Some lines)) else None
+closed_module p j = None
+
+-- the job with the task that was open: a task may come
+abbrev pub closed_task : Part → JobView → Option JobView
+closed_task part.Sessions j = Some j
+closed_task (part.Task t) j = Some (with_task j t.task)
+closed_task p j = None
+
+-- a phase or the end may come
+abbrev pub closed : Part → JobView → Option JobView
+closed part.Sessions j = Some j
+closed (part.Task t) j = Some (with_task j t.task)
+closed p j = closed_module p j
+
+abbrev pub no_bytes : List ℕ → ℕ → ImageView
+no_bytes name base = record { name = name; base = base; bytes = [] }
+
+abbrev pub with_bytes : ImageView → List ℕ → ImageView
+with_bytes i bytes = record i { bytes = i.bytes ++ bytes }
+
+abbrev pub module_over : JobView → ℕ → Option Limit
+module_over j size = if nat_le 16 (length j.images) then Some limit.Modules else (if nat_le size 262144 then None else Some limit.Size)
+
+abbrev pub line_over : List ℕ → Option Limit
+line_over text = if nat_le (length text) 150 then None else Some limit.Line
+
+abbrev pub phase_over : JobView → Option Limit
+phase_over j = if nat_le 16 (length j.phases) then Some limit.Phases else None
+
+abbrev pub session_over : JobView → Option Limit
+session_over j = if nat_le 16 (length j.sessions) then Some limit.Sessions else None
+
+abbrev pub task_over : JobView → ℕ → ℕ → ℕ → Option Limit
+task_over j private budget room =
+    if nat_le 64 (length j.tasks) then Some limit.Tasks
+    else (if nat_le private 1048576 then (if nat_le budget 50000000 then (if nat_le room 65536 then None
+    else Some limit.Room)
+    else Some limit.Budget)
+    else Some limit.Private)
+
+abbrev pub open_module : List ℕ → ℕ → ℕ → JobView → Option State
+open_module name base size j = if fits j name base size then Some (state (part.Texts (no_bytes name base) size) j (module_over j size)) else None
+
+abbrev pub open_task : List ℕ → ℕ → ℕ → ℕ → ℕ → JobView → Option State
+open_task name entry private budget room j =
+    if has_task j name then None else Some (state (part.Task (fresh_task name entry private budget room)) j (task_over j private budget room))
+
+abbrev pub open_phase : List ℕ → JobView → Option State
+open_phase name j = option_map (λ k. state part.Sessions k (phase_over j)) (with_phase j name)
+
+abbrev pub add_session : JobView → List ℕ → List (List ℕ) → Option State
+add_session j name names = option_map (λ k. state part.Sessions k (session_over j)) (with_session j name names)
+
+abbrev pub take_text : Part → JobView → List ℕ → Option State
+take_text (part.Texts i left) j bytes = if nat_le (length bytes) left then Some (state (part.Texts (with_bytes i bytes) (left - length bytes)) j None) else None
+take_text p j bytes = None
+
+abbrev pub take_listing : Part → JobView → ℕ → Option State
+take_listing (part.Texts i left) j n = if nat_eq left 0 then Some (state (part.Listed i n []) j None) else None
+take_listing p j n = None
+
+abbrev pub take_more : Part → JobView → CardView → Option State
+take_more (part.Task t) j card = option_map (λ u. state (part.Task u) j None) (task_more t card)
+take_more p j card = None
+
+abbrev pub end : JobView → State
+end j = state part.Done j None
+
+abbrev pub take_card : State → CardView → Option State
+take_card st Cover = if is_start st.part then Some (state part.Modules st.job None) else None
+take_card st (Module name base size) = option_and_then (open_module name base size) (closed_module st.part st.job)
+take_card st (Text bytes) = take_text st.part st.job bytes
+take_card st (Listing n) = take_listing st.part st.job n
+take_card st (Phase name) = option_and_then (open_phase name) (closed st.part st.job)
+take_card st (Session name names) = if is_sessions st.part then add_session st.job name names else None
+take_card st (Task name entry private budget room) = option_and_then (open_task name entry private budget room) (closed_task st.part st.job)
+take_card st End = option_map end (closed st.part st.job)
+take_card st card = take_more st.part st.job card
+
+-- a line of a listing comes
+abbrev pub takes_raw : Part → Bool
+takes_raw (part.Listed i left lines) = not (nat_eq left 0)
+takes_raw p = false
+
+abbrev pub take_raw : Part → JobView → List ℕ → Option State
+take_raw (part.Listed i left lines) j text = Some (state (part.Listed i (left - 1) (lines ++ text ∷ [])) j (line_over text))
+take_raw p j text = None
+
+abbrev pub step : State → LineView → Option State
+step st l = if takes_raw st.part then take_raw st.part st.job (listing_text l) else option_and_then (take_card st) (card_at l.bytes)
+
+abbrev pub run : State → List LineView → Option State
+run st [] = Some st
+run st (l ∷ ls) = option_and_then (λ s. run s ls) (step st l)
+
+abbrev pub job_of : State → Option JobView
+job_of st = if is_done st.part then Some st.job else None
+
+abbrev pub open_modules : Part → ℕ
+open_modules (part.Texts i left) = 1
+open_modules (part.Listed i left lines) = 1
+open_modules p = 0
+
+-- what was read is within the limits that numbers of 32 bits need
+pub record HasRoom (p : Part) (j : JobView) : Type 0 where
+  pub modules : length j.images + open_modules p ≤ 16
+  pub phases : length j.phases ≤ 16
+
+-- how a line is refused: it is bad, or it passes a limit
+abbrev pub Refuses : Option State → LineRefused → Type 0
+Refuses o refused.Bad = o ≡ None
+Refuses o (refused.TooLarge what) = option_map (λ s. s.over) o ≡ Some (Some what)
+Refuses o refused.NoMemory = Unit {0}

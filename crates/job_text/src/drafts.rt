@@ -1,0 +1,232 @@
+//! Adds to a job what its cards say.
+ghost use Rattle.std.specs.Prelude.{◌≡◌, ℕ, ◌+◌, ◌≤◌, ◌<◌, ◌&&◌, [], Option, Some, None, IfOk, IfSome, IsErrOf, nat_eq, length, option_map};
+ghost use Rattle.std.specs.List.{list_any, list_all};
+ghost use Rattle.std.specs.Str.{bytes_eq};
+ghost use Rattle.job_text.specs.Adding as adding;
+ghost use Rattle.job_text.specs.Steps as machine;
+ghost use Rattle.job_text.specs.declared.parts.Part.TheVariants as kind;
+
+use crate::parts::{Draft, Part};
+use cov_base::{Name, NoMemory};
+use module_area::Image;
+use session_book::{Lines, Session, TaskCard};
+use std::alloc::Global;
+
+fn is_clear(image: &Image, name: &Name, base: u32, size: u32) -> bool
+    ensures { result ≡ adding.is_clear name.now base size image.now }
+{
+    image.name != *name
+        && (u128::from(image.base.get()) + image.bytes.len() as u128 <= u128::from(base)
+            || u64::from(base) + u64::from(size) <= u64::from(image.base.get()))
+}
+
+/// Whether a module of this name and place may come.
+pub(crate) fn fits(job: &Draft, name: &Name, base: u32, size: u32) -> bool
+    ensures { result ≡ adding.fits job.now name.now base size }
+{
+    job.images
+        .iter()
+        .all(|image| is_clear(image, name, base, size))
+}
+
+fn has_phase(job: &Draft, name: &Name) -> bool
+    ensures { result ≡ list_any (λ p. bytes_eq p name.now) job.now.phases }
+{
+    job.phases.iter().any(|phase| *phase == *name)
+}
+
+fn has_session(job: &Draft, name: &Name) -> bool
+    ensures { result ≡ list_any (λ s. bytes_eq s.name name.now) job.now.sessions }
+{
+    job.sessions.iter().any(|session| session.name == *name)
+}
+
+/// Whether a task has this name.
+pub(crate) fn has_task(job: &Draft, name: &Name) -> bool
+    ensures { result ≡ adding.has_task job.now name.now }
+{
+    job.tasks.iter().any(|task| task.name == *name)
+}
+
+fn index_of(job: &Draft, name: &Name) -> Option<usize>
+    ensures index { result ≡ adding.index_of job.now name.now }
+    ensures within { IfSome result (λ i. i < length job.now.images) }
+{
+    job.images.iter().position(|image| image.name == *name)
+}
+
+fn has_index(used: &[u32], m: u32) -> bool
+    ensures { result ≡ list_any (nat_eq m) used.now }
+{
+    used.iter().any(|u| m == *u)
+}
+
+fn is_held(session: &Session, phase: u32, m: u32) -> bool
+    ensures { result ≡ adding.is_held phase m session.now }
+{
+    session.phase == phase && has_index(&session.modules, m)
+}
+
+fn is_in_session(job: &Draft, phase: u32, m: u32) -> bool
+    ensures { result ≡ list_any (adding.is_held phase m) job.now.sessions }
+{
+    job.sessions
+        .iter()
+        .any(|session| is_held(session, phase, m))
+}
+
+fn this_phase(job: &Draft) -> u32
+    requires { length job.now.phases ≤ 16 }
+    ensures { result ≡ adding.this_phase job.now }
+{
+    let count = job.phases.len() as u32;
+    if count == 0 { 0 } else { count - 1 }
+}
+
+fn is_free(job: &Draft, used: &[u32], m: u32) -> bool
+    requires { length job.now.phases ≤ 16 }
+    ensures { result ≡ adding.is_free job.now used.now m }
+{
+    !has_index(used, m) && !is_in_session(job, this_phase(job), m)
+}
+
+/// The modules behind these, with the one of this name; none where it may not come.
+fn put_index(job: &Draft, mut used: Vec<u32>, name: &Name) -> Result<Option<Vec<u32>>, NoMemory>
+    requires modules { length job.now.images ≤ 16 }
+    requires phases { length job.now.phases ≤ 16 }
+    ensures { IfOk result (λ o. adding.put_index job.now used.items (adding.index_of job.now name.now) ≡ option_map (λ v. v.items) o) }
+{
+    match index_of(job, name) {
+        None => Ok(None),
+        Some(at) => {
+            let m = at as u32;
+            if !is_free(job, &used, m) {
+                return Ok(None);
+            }
+            used.push(m)?;
+            Ok(Some(used))
+        }
+    }
+}
+
+fn indices(alloc: Global, job: &Draft, names: &[Name]) -> Result<Option<Vec<u32>>, NoMemory>
+    requires modules { length job.now.images ≤ 16 }
+    requires phases { length job.now.phases ≤ 16 }
+    ensures { IfOk result (λ o. adding.indices_on job.now (Some []) names.now ≡ option_map (λ v. v.items) o) }
+{
+    let mut used = Vec::new(alloc);
+    for name in names {
+        match put_index(job, used, name)? {
+            None => return Ok(None),
+            Some(more) => used = more,
+        }
+    }
+    Ok(Some(used))
+}
+
+fn put_module(mut job: Draft, image: Image, listing: Option<Lines>) -> Result<Draft, NoMemory>
+    ensures { IfOk result (λ d. d ≡ adding.with_module job image listing) }
+{
+    job.images.push(image)?;
+    job.listings.push(listing)?;
+    Ok(job)
+}
+
+fn put_task(mut job: Draft, task: TaskCard) -> Result<Draft, NoMemory>
+    requires { length job.phases ≤ 16 }
+    ensures { IfOk result (λ d. d ≡ adding.with_task job task) }
+{
+    let phase = this_phase(&job);
+    job.tasks.push(TaskCard { phase, ..task })?;
+    Ok(job)
+}
+
+/// The job with a phase more; none where a phase has the name.
+pub(crate) fn with_phase(mut job: Draft, name: Name) -> Result<Option<Draft>, NoMemory>
+    ensures { IfOk result (λ o. o ≡ adding.with_phase job name) }
+{
+    if has_phase(&job, &name) {
+        return Ok(None);
+    }
+    job.phases.push(name)?;
+    Ok(Some(job))
+}
+
+/// The job with a session more; none where a session has the name, or a module isn't free.
+pub(crate) fn with_session(
+    alloc: Global,
+    mut job: Draft,
+    name: Name,
+    names: &[Name],
+) -> Result<Option<Draft>, NoMemory>
+    requires modules { length job.images ≤ 16 }
+    requires phases { length job.phases ≤ 16 }
+    ensures { IfOk result (λ o. o ≡ adding.with_session job name names.now) }
+{
+    if has_session(&job, &name) {
+        return Ok(None);
+    }
+    match indices(alloc, &job, names)? {
+        None => Ok(None),
+        Some(modules) => {
+            let phase = this_phase(&job);
+            job.sessions.push(Session {
+                name,
+                phase,
+                modules,
+                by: None,
+            })?;
+            Ok(Some(job))
+        }
+    }
+}
+
+/// The job with the module that was open; none where no module may come.
+pub(crate) fn closed_module(part: Part, job: Draft) -> Result<Option<Draft>, NoMemory>
+    requires { machine.HasRoom part job }
+    ensures value { IfOk result (λ o. o ≡ machine.closed_module part job) }
+    ensures room { IfOk result (λ o. IfSome o (machine.HasRoom kind.Modules)) }
+{
+    match part {
+        Part::Modules => Ok(Some(job)),
+        Part::Texts { image, left } => {
+            if left != 0 {
+                return Ok(None);
+            }
+            Ok(Some(put_module(job, image, None)?))
+        }
+        Part::Listed { image, left, lines } => {
+            if left != 0 {
+                return Ok(None);
+            }
+            Ok(Some(put_module(job, image, Some(lines))?))
+        }
+        _ => Ok(None),
+    }
+}
+
+/// The job with the task that was open; none where no task may come.
+pub(crate) fn closed_task(part: Part, job: Draft) -> Result<Option<Draft>, NoMemory>
+    requires { machine.HasRoom part job }
+    ensures value { IfOk result (λ o. o ≡ machine.closed_task part job) }
+    ensures room { IfOk result (λ o. IfSome o (machine.HasRoom kind.Modules)) }
+{
+    match part {
+        Part::Sessions => Ok(Some(job)),
+        Part::Task(task) => Ok(Some(put_task(job, task.task)?)),
+        _ => Ok(None),
+    }
+}
+
+/// The job with what was open; none where it isn't whole.
+pub(crate) fn closed(part: Part, job: Draft) -> Result<Option<Draft>, NoMemory>
+    requires { machine.HasRoom part job }
+    ensures value { IfOk result (λ o. o ≡ machine.closed part job) }
+    ensures room { IfOk result (λ o. IfSome o (machine.HasRoom kind.Modules)) }
+{
+    match part {
+        Part::Sessions => Ok(Some(job)),
+        Part::Task(task) => Ok(Some(put_task(job, task.task)?)),
+        part => closed_module(part, job),
+    }
+}

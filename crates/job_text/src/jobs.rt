@@ -1,0 +1,71 @@
+//! Reads a job.
+ghost use Rattle.std.specs.Prelude.{◌≡◌, ℕ, ◌≤◌, IfOk, IfErr, length, take};
+ghost use Rattle.session_book.specs.JobView.{JobView};
+ghost use Rattle.job_text.specs.Lines.{lines_of};
+ghost use Rattle.job_text.specs.Limits.{IsWithin};
+ghost use Rattle.job_text.specs.Refusals.{IsRead, IsRefusal};
+ghost use Rattle.job_text.specs.Spells.{Spells};
+
+use crate::limit::Limit;
+use crate::lines::first_line;
+use crate::refused::LineRefused;
+use crate::steps::JobReader;
+use session_book::Job;
+use std::alloc::Global;
+
+/// A job that was read, the offset past its ENDJOB line, and the number of lines up to and including that line.
+#[derive(Drop)]
+pub struct ReadJob {
+    pub job: Job,
+    pub end: usize,
+    pub lines: u32,
+}
+
+/// What ends the reading of a job.
+#[derive(Clone, Copy, Debug, PartialEq, Eq)]
+pub enum JobFault {
+    /// The first line, counted from 1, with which no job continues; one more than the number of lines where the
+    /// input ends early.
+    BadJob { line: u32 },
+    /// The first line with which a limit is passed, where the lines up to it begin a job. Of several limits it is
+    /// the first in the order of `Limit`.
+    TooLarge { what: Limit, line: u32 },
+    NoMemory,
+}
+
+/// Reads the job that the input's first lines spell. The bytes after its ENDJOB line are the caller's. The input has
+/// at most 16,777,216 bytes; neither `Limit::Input` nor `Limit::Places` is answered.
+pub fn read_job(alloc: Global, input: &[u8]) -> Result<ReadJob, JobFault>
+    requires { length input.now ≤ 16777216 }
+    ensures job { IfOk result (IsRead input.now) }
+    ensures only { (n : ℕ) (job : JobView) → n ≤ length (lines_of input.now) → Spells (take n (lines_of input.now)) job → IsWithin job → IfOk result (λ r. (r.job ≡ job) × (r.lines ≡ n)) }
+    ensures fault { IfErr result (IsRefusal (lines_of input.now)) }
+{
+    let mut reader = JobReader::new(alloc);
+    let mut rest = input;
+    let mut read: u32 = 0;
+    while !rest.is_empty() {
+        let line = first_line(rest);
+        match reader.line(alloc, line.bytes, line.ended) {
+            Ok(next) => reader = next,
+            Err(LineRefused::Bad) => return Err(JobFault::BadJob { line: read + 1 }),
+            Err(LineRefused::TooLarge(what)) => {
+                return Err(JobFault::TooLarge {
+                    what,
+                    line: read + 1,
+                });
+            }
+            Err(LineRefused::NoMemory) => return Err(JobFault::NoMemory),
+        }
+        rest = line.rest;
+        read += 1;
+        if reader.is_done() {
+            return Ok(ReadJob {
+                job: reader.finish(),
+                end: input.len() - rest.len(),
+                lines: read,
+            });
+        }
+    }
+    Err(JobFault::BadJob { line: read + 1 })
+}

@@ -1,0 +1,51 @@
+//! How far a job was read.
+
+use crate::task::TaskPart;
+use cov_base::Name;
+use module_area::Image;
+use session_book::{Lines, Session, TaskCard};
+use std::marker::Model;
+
+/// What of a job was read whole.
+#[derive(Drop)]
+pub(crate) struct Draft {
+    pub images: Vec<Image>,
+    pub listings: Vec<Option<Lines>>,
+    pub phases: Vec<Name>,
+    pub sessions: Vec<Session>,
+    pub tasks: Vec<TaskCard>,
+}
+
+impl Model for Draft {
+    ghost use Rattle.session_book.specs.JobView.{JobView};
+
+    ghost Value = { JobView };
+
+    ghost view = { λ d. record { images = d.images.items; listings = d.listings.items; phases = d.phases.items; sessions = d.sessions.items; tasks = d.tasks.items } };
+}
+
+/// What of a job was read in part, or which cards may follow.
+#[derive(Drop)]
+pub(crate) enum Part {
+    /// COVERJOB.
+    Start,
+    /// Any card behind COVERJOB: no module is open.
+    Modules,
+    /// TEXT: `left` bytes of the module are still to come.
+    Texts {
+        image: Image,
+        left: u32,
+    },
+    /// `left` lines of the module's listing are still to come.
+    Listed {
+        image: Image,
+        left: u32,
+        lines: Lines,
+    },
+    /// SESSION: no task of the phase was read.
+    Sessions,
+    /// The open task.
+    Task(TaskPart),
+    /// Nothing.
+    Done,
+}

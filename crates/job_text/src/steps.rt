@@ -1,0 +1,434 @@
+//! Takes a job line by line.
+ghost use Rattle.std.specs.Prelude.{◌≡◌, ℕ, ◌<◌, ◌≤◌, true, Option, Some, None, IfOk, IfErr, length};
+ghost use Rattle.session_book.specs.JobView.{IsJob};
+ghost use Rattle.job_text.specs.CardView as says;
+ghost use Rattle.job_text.specs.Lines.{LineView};
+ghost use Rattle.job_text.specs.Steps as machine;
+ghost use Rattle.job_text.specs.declared.parts.Part.TheVariants as kind;
+ghost use Rattle.job_text.specs.Views.{view};
+
+use crate::card::Card;
+use crate::cards::read_card;
+use crate::drafts::{closed, closed_module, closed_task, fits, has_task, with_phase, with_session};
+use crate::fault::LineFault;
+use crate::limit::Limit;
+use crate::lines::listing_text;
+use crate::parts::{Draft, Part};
+use crate::refused::LineRefused;
+use crate::task::fresh_task;
+use cov_base::{Addr, Name};
+use listing_lines::ListingLine;
+use module_area::{Image, Images};
+use session_book::{Job, Lines};
+use std::alloc::Global;
+use std::marker::Model;
+
+/// What of a job was read.
+#[derive(Drop)]
+pub(crate) struct JobReader {
+    part: Part,
+    job: Draft,
+}
+
+impl Model for JobReader {
+    ghost use Rattle.std.specs.Prelude.{None};
+    ghost use Rattle.job_text.specs.Steps.{State, HasRoom};
+
+    ghost Value = { State };
+
+    ghost view = { λ r. record { part = r.part; job = r.job; over = None } };
+
+    ghost invariant = { λ r. HasRoom r.part r.job };
+}
+
+impl JobReader {
+    /// Nothing was read.
+    pub(crate) fn new(alloc: Global) -> JobReader
+        ensures { result ≡ machine.start }
+    {
+        JobReader {
+            part: Part::Start,
+            job: Draft {
+                images: Vec::new(alloc),
+                listings: Vec::new(alloc),
+                phases: Vec::new(alloc),
+                sessions: Vec::new(alloc),
+                tasks: Vec::new(alloc),
+            },
+        }
+    }
+
+    fn cover_card(self) -> Result<JobReader, LineRefused>
+        ensures ok { IfOk result (λ r. machine.take_card self says.Cover ≡ Some (machine.plain r)) }
+        ensures err { IfErr result (machine.Refuses (machine.take_card self says.Cover)) }
+    {
+        match self.part {
+            Part::Start => Ok(JobReader {
+                part: Part::Modules,
+                job: self.job,
+            }),
+            _ => Err(LineRefused::Bad),
+        }
+    }
+
+    fn module_card(
+        self,
+        alloc: Global,
+        name: Name,
+        base: Addr,
+        size: u32,
+    ) -> Result<JobReader, LineRefused>
+        ensures ok { IfOk result (λ r. machine.take_card self (says.Module name base size) ≡ Some (machine.plain r)) }
+        ensures err { IfErr result (machine.Refuses (machine.take_card self (says.Module name base size))) }
+    {
+        match closed_module(self.part, self.job)? {
+            None => Err(LineRefused::Bad),
+            Some(job) => open_module(alloc, job, name, base, size),
+        }
+    }
+
+    fn text_card(self, more: &[u8]) -> Result<JobReader, LineRefused>
+        ensures ok { IfOk result (λ r. machine.take_card self (says.Text more.now) ≡ Some (machine.plain r)) }
+        ensures err { IfErr result (machine.Refuses (machine.take_card self (says.Text more.now))) }
+    {
+        let JobReader { part, job } = self;
+        match part {
+            Part::Texts { mut image, left } => {
+                if more.len() > left as usize {
+                    return Err(LineRefused::Bad);
+                }
+                image.bytes.extend_from_slice(more)?;
+                let left = left - more.len() as u32;
+                Ok(JobReader {
+                    part: Part::Texts { image, left },
+                    job,
+                })
+            }
+            _ => Err(LineRefused::Bad),
+        }
+    }
+
+    fn listing_card(self, alloc: Global, n: u32) -> Result<JobReader, LineRefused>
+        ensures ok { IfOk result (λ r. machine.take_card self (says.Listing n) ≡ Some (machine.plain r)) }
+        ensures err { IfErr result (machine.Refuses (machine.take_card self (says.Listing n))) }
+    {
+        let JobReader { part, job } = self;
+        match part {
+            Part::Texts { image, left } => {
+                if left != 0 {
+                    return Err(LineRefused::Bad);
+                }
+                let lines = Lines(Vec::new(alloc));
+                Ok(JobReader {
+                    part: Part::Listed {
+                        image,
+                        left: n,
+                        lines,
+                    },
+                    job,
+                })
+            }
+            _ => Err(LineRefused::Bad),
+        }
+    }
+
+    fn phase_card(self, name: Name) -> Result<JobReader, LineRefused>
+        ensures ok { IfOk result (λ r. machine.take_card self (says.Phase name) ≡ Some (machine.plain r)) }
+        ensures err { IfErr result (machine.Refuses (machine.take_card self (says.Phase name))) }
+    {
+        match closed(self.part, self.job)? {
+            None => Err(LineRefused::Bad),
+            Some(job) => open_phase(job, name),
+        }
+    }
+
+    fn session_card(
+        self,
+        alloc: Global,
+        name: Name,
+        names: &[Name],
+    ) -> Result<JobReader, LineRefused>
+        ensures ok { IfOk result (λ r. machine.take_card self (says.Session name names.now) ≡ Some (machine.plain r)) }
+        ensures err { IfErr result (machine.Refuses (machine.take_card self (says.Session name names.now))) }
+    {
+        match self.part {
+            Part::Sessions => add_session(alloc, self.job, name, names),
+            _ => Err(LineRefused::Bad),
+        }
+    }
+
+    fn task_card(
+        self,
+        alloc: Global,
+        name: Name,
+        entry: Addr,
+        private: u32,
+        budget: u32,
+        room: u32,
+    ) -> Result<JobReader, LineRefused>
+        ensures ok { IfOk result (λ r. machine.take_card self (says.Task name entry private budget room) ≡ Some (machine.plain r)) }
+        ensures err { IfErr result (machine.Refuses (machine.take_card self (says.Task name entry private budget room))) }
+    {
+        match closed_task(self.part, self.job)? {
+            None => Err(LineRefused::Bad),
+            Some(job) => open_task(alloc, job, name, entry, private, budget, room),
+        }
+    }
+
+    fn end_card(self) -> Result<JobReader, LineRefused>
+        ensures ok { IfOk result (λ r. machine.take_card self says.End ≡ Some (machine.plain r)) }
+        ensures err { IfErr result (machine.Refuses (machine.take_card self says.End)) }
+    {
+        match closed(self.part, self.job)? {
+            None => Err(LineRefused::Bad),
+            Some(job) => Ok(JobReader {
+                part: Part::Done,
+                job,
+            }),
+        }
+    }
+
+    /// Takes a further card of the open task.
+    fn more_card(self, card: Card) -> Result<JobReader, LineRefused>
+        ensures ok { IfOk result (λ r. machine.take_more self.part self.job (view card) ≡ Some (machine.plain r)) }
+        ensures err { IfErr result (machine.Refuses (machine.take_more self.part self.job (view card))) }
+    {
+        let JobReader { part, job } = self;
+        match part {
+            Part::Task(task) => match task.card(card) {
+                Ok(task) => Ok(JobReader {
+                    part: Part::Task(task),
+                    job,
+                }),
+                Err(LineFault::Bad) => Err(LineRefused::Bad),
+                Err(LineFault::NoMemory) => Err(LineRefused::NoMemory),
+            },
+            _ => Err(LineRefused::Bad),
+        }
+    }
+
+    fn card(self, alloc: Global, card: Card) -> Result<JobReader, LineRefused>
+        ensures ok { IfOk result (λ r. machine.take_card self (view card) ≡ Some (machine.plain r)) }
+        ensures err { IfErr result (machine.Refuses (machine.take_card self (view card))) }
+    {
+        match card {
+            Card::Cover => self.cover_card(),
+            Card::Module { name, base, size } => self.module_card(alloc, name, base, size),
+            Card::Text(bytes) => self.text_card(&bytes),
+            Card::Listing(n) => self.listing_card(alloc, n),
+            Card::Phase(name) => self.phase_card(name),
+            Card::Session { name, modules } => self.session_card(alloc, name, &modules),
+            Card::Task {
+                name,
+                entry,
+                private,
+                budget,
+                room,
+            } => self.task_card(alloc, name, entry, private, budget, room),
+            Card::End => self.end_card(),
+            card => self.more_card(card),
+        }
+    }
+
+    fn takes_raw(&self) -> bool
+        ensures { result ≡ machine.takes_raw self.now.part }
+    {
+        match &self.part {
+            Part::Listed {
+                image: _,
+                left,
+                lines: _,
+            } => *left != 0,
+            _ => false,
+        }
+    }
+
+    fn listing_line(self, alloc: Global, text: &[u8]) -> Result<JobReader, LineRefused>
+        requires { machine.takes_raw self.part ≡ true }
+        ensures ok { IfOk result (λ r. machine.take_raw self.part self.job text.now ≡ Some (machine.plain r)) }
+        ensures err { IfErr result (machine.Refuses (machine.take_raw self.part self.job text.now)) }
+    {
+        let JobReader { part, job } = self;
+        match part {
+            Part::Listed {
+                image,
+                left,
+                mut lines,
+            } => {
+                if text.len() > 150 {
+                    return Err(LineRefused::TooLarge(Limit::Line));
+                }
+                lines.0.push(ListingLine::new(text.to_vec(alloc)?))?;
+                Ok(JobReader {
+                    part: Part::Listed {
+                        image,
+                        left: left - 1,
+                        lines,
+                    },
+                    job,
+                })
+            }
+            _ => Err(LineRefused::Bad),
+        }
+    }
+
+    /// Takes the next line; `ended` where an LF ended it.
+    pub(crate) fn line(
+        self,
+        alloc: Global,
+        bytes: &[u8],
+        ended: bool,
+    ) -> Result<JobReader, LineRefused>
+        ensures ok { IfOk result (λ r. machine.step self (record { bytes = bytes.now; ended = ended }) ≡ Some (machine.plain r)) }
+        ensures err { IfErr result (machine.Refuses (machine.step self (record { bytes = bytes.now; ended = ended }))) }
+    {
+        if self.takes_raw() {
+            return self.listing_line(alloc, listing_text(bytes, ended));
+        }
+        match read_card(alloc, bytes)? {
+            None => Err(LineRefused::Bad),
+            Some(card) => self.card(alloc, card),
+        }
+    }
+
+    /// The job that was read.
+    pub(crate) fn finish(self) -> Job
+        requires { IsJob self.job }
+        ensures { result ≡ self.job }
+    {
+        let Draft {
+            images,
+            listings,
+            phases,
+            sessions,
+            tasks,
+        } = self.job;
+        Job {
+            images: Images(images),
+            listings,
+            phases,
+            sessions,
+            tasks,
+        }
+    }
+
+    /// Whether ENDJOB was read.
+    pub(crate) fn is_done(&self) -> bool
+        ensures { result ≡ machine.is_done self.now.part }
+    {
+        match &self.part {
+            Part::Done => true,
+            _ => false,
+        }
+    }
+}
+
+fn open_module(
+    alloc: Global,
+    job: Draft,
+    name: Name,
+    base: Addr,
+    size: u32,
+) -> Result<JobReader, LineRefused>
+    requires { length job.phases ≤ 16 }
+    ensures ok { IfOk result (λ r. machine.open_module name base size job ≡ Some (machine.plain r)) }
+    ensures err { IfErr result (machine.Refuses (machine.open_module name base size job)) }
+{
+    if !fits(&job, &name, base.get(), size) {
+        return Err(LineRefused::Bad);
+    }
+    if job.images.len() >= 16 {
+        return Err(LineRefused::TooLarge(Limit::Modules));
+    }
+    if size > 262_144 {
+        return Err(LineRefused::TooLarge(Limit::Size));
+    }
+    let image = Image {
+        name,
+        base,
+        bytes: Vec::new(alloc),
+    };
+    Ok(JobReader {
+        part: Part::Texts { image, left: size },
+        job,
+    })
+}
+
+fn open_phase(job: Draft, name: Name) -> Result<JobReader, LineRefused>
+    requires { machine.HasRoom kind.Modules job }
+    ensures ok { IfOk result (λ r. machine.open_phase name job ≡ Some (machine.plain r)) }
+    ensures err { IfErr result (machine.Refuses (machine.open_phase name job)) }
+{
+    let count = job.phases.len();
+    match with_phase(job, name)? {
+        None => Err(LineRefused::Bad),
+        Some(job) => {
+            if count >= 16 {
+                return Err(LineRefused::TooLarge(Limit::Phases));
+            }
+            Ok(JobReader {
+                part: Part::Sessions,
+                job,
+            })
+        }
+    }
+}
+
+fn add_session(
+    alloc: Global,
+    job: Draft,
+    name: Name,
+    names: &[Name],
+) -> Result<JobReader, LineRefused>
+    requires { machine.HasRoom kind.Modules job }
+    ensures ok { IfOk result (λ r. machine.add_session job name names.now ≡ Some (machine.plain r)) }
+    ensures err { IfErr result (machine.Refuses (machine.add_session job name names.now)) }
+{
+    let count = job.sessions.len();
+    match with_session(alloc, job, name, names)? {
+        None => Err(LineRefused::Bad),
+        Some(job) => {
+            if count >= 16 {
+                return Err(LineRefused::TooLarge(Limit::Sessions));
+            }
+            Ok(JobReader {
+                part: Part::Sessions,
+                job,
+            })
+        }
+    }
+}
+
+fn open_task(
+    alloc: Global,
+    job: Draft,
+    name: Name,
+    entry: Addr,
+    private: u32,
+    budget: u32,
+    room: u32,
+) -> Result<JobReader, LineRefused>
+    requires { machine.HasRoom kind.Modules job }
+    ensures ok { IfOk result (λ r. machine.open_task name entry private budget room job ≡ Some (machine.plain r)) }
+    ensures err { IfErr result (machine.Refuses (machine.open_task name entry private budget room job)) }
+{
+    if has_task(&job, &name) {
+        return Err(LineRefused::Bad);
+    }
+    if job.tasks.len() >= 64 {
+        return Err(LineRefused::TooLarge(Limit::Tasks));
+    }
+    if private > 1_048_576 {
+        return Err(LineRefused::TooLarge(Limit::Private));
+    }
+    if budget > 50_000_000 {
+        return Err(LineRefused::TooLarge(Limit::Budget));
+    }
+    if room > 65_536 {
+        return Err(LineRefused::TooLarge(Limit::Room));
+    }
+    Ok(JobReader {
+        part: Part::Task(fresh_task(alloc, name, entry, private, budget, room)),
+        job,
+    })
+}
