@@ -32,14 +32,7 @@ fn fact_of(kind: Kind, went: bool) -> Fact
 }
 
 /// Settles a trap whose instruction was begun, by what it does as it is executed.
-fn show<C: Cells>(
-    cells: &C,
-    pass: &mut C::Pass,
-    tables: &Tables,
-    met: Met,
-    cpu: &Cpu,
-    code: &Code,
-)
+fn show<C: Cells>(cells: &C, pass: &mut C::Pass, tables: &Tables, met: Met, cpu: &Cpu, code: &Code)
     requires area { C.is_pass cells.now pass.old }
     requires plan { (C.plan cells.now).places ≡ tables.now.places }
     requires room { calls (C.notes pass.old) < 2 ^ 61 + 2 ^ 16 }
@@ -49,7 +42,8 @@ fn show<C: Cells>(
 {
     if let Met::Trap(place, cell, _) = met {
         let kind = tables.place(place).kind;
-        settle(cells, pass, tables, place, cell, fact_of(kind, outcome(cpu, code)));
+        let fact = fact_of(kind, outcome(cpu, code));
+        settle(cells, pass, tables, place, cell, fact);
     }
 }
 
