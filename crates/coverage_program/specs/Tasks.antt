@@ -33,6 +33,7 @@ own_run d = solo_run (memory_of_space d.task.space) d.task.budget (state_of d.ta
 
 -- task t as its card says, not run yet
 pub record IsBegun (j : JobView) (places : List Place) (t : ℕ) (d : Done) : Type 0 where
+  pub ending : d.ending ≡ None
   pub memory : memory_of_space d.task.space ≡ memory_of (task_of j t).private j.images places
   pub state : state_of d.task.cpu d.task.space.bytes d.task.io 0 ≡ first_state (task_of j t)
   pub budget : d.task.budget ≡ (task_of j t).budget
