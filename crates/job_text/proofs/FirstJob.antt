@@ -3,7 +3,7 @@ use Rattle.std.proofs.Common.{◌≡◌, ◌≢◌, ℕ, ◌+◌, ◌%◌, ◌<�
 use Rattle.std.proofs.lemmas.Bool.Decides.{nat_tests}
 use Rattle.std.proofs.lemmas.List.{length-set}
 use Rattle.std.proofs.lemmas.List.Kept.{AllPairs-cons}
-use Rattle.std.proofs.lemmas.List.Elements.{All-cons}
+use Rattle.std.proofs.lemmas.List.Elements.{All-nil, All-cons}
 use Rattle.std.specs.List.{list_all}
 use Rattle.cov_base.specs.Memory.{ImageView}
 use Rattle.module_area.specs.Images.{IsImage, AreClear}
@@ -15,52 +15,20 @@ use Rattle.job_text.specs.Cards.{may_stand}
 use Rattle.job_text.specs.Tasks.{RegView, set_regs, AreData, SpellsTask}
 use Rattle.job_text.specs.First.{is_short, SpellsFirst}
 use Rattle.job_text.proofs.Guards.{both}
+use Rattle.job_text.proofs.WholeJob.{one_all, stands, regs_count, data_inside}
 use Rattle.job_text.proofs.CardFacts.{Good, card_good}
 
-none_all : {X : Type 0} (P : X → Type 0) → All P []
-none_all P = λ k d l. absurd (omega arith)
-
-one_all : {X : Type 0} (P : X → Type 0) (x : X) → P x → All P (x ∷ [])
-one_all P x p = All-cons P x [] p (none_all P)
-
 one_pairs : {X : Type 0} (R : X → X → Type 0) (x : X) → AllPairs R (x ∷ [])
-one_pairs R x = AllPairs-cons R x [] (none_all (R x)) (λ i j d l m. absurd (omega arith))
+one_pairs R x = AllPairs-cons R x [] (All-nil (R x)) (λ i j d l m. absurd (omega arith))
 
 abbrev IsShort : List ℕ → Type 0
 IsShort l = length l ≤ 150
 
 lines_short : (ls : List LineView) → list_all is_short ls ≡ true → All IsShort (map listing_text ls)
-lines_short [] e = none_all IsShort
+lines_short [] e = All-nil IsShort
 lines_short (l ∷ ls) e =
     let p = both (is_short l) (list_all is_short ls) e in
     All-cons IsShort (listing_text l) (map listing_text ls) (grind (arith, nat_tests, p.0)) (lines_short ls p.1)
-
-stands : (n : List ℕ) (base : ℕ) (bytes : List ℕ) → may_stand base (length bytes) ≡ true → IsImage (record { name = n; base = base; bytes = bytes })
-stands n base bytes e =
-    let size = length bytes in
-    let p = both (nat_eq (base % 8) 0 && nat_le 1048576 base && nat_eq (size % 2) 0 && nat_le 2 size) (nat_le (base + size) 16773120) e in
-    let q = both (nat_eq (base % 8) 0 && nat_le 1048576 base && nat_eq (size % 2) 0) (nat_le 2 size) p.0 in
-    let r = both (nat_eq (base % 8) 0 && nat_le 1048576 base) (nat_eq (size % 2) 0) q.0 in
-    let s = both (nat_eq (base % 8) 0) (nat_le 1048576 base) r.0 in
-    record {
-      doubleword = grind (arith, nat_tests, s.0);
-      from = grind (arith, nat_tests, s.1);
-      even = grind (arith, nat_tests, r.1);
-      some = grind (arith, nat_tests, q.1);
-      to = grind (arith, nat_tests, p.1);
-    }
-
-regs_count : (regs : List ℕ) (rs : List RegView) → length (set_regs regs rs) ≡ length regs
-regs_count regs [] = refl
-regs_count regs (r ∷ rs) = regs_count (slice_set regs r.number r.value) rs ∙ length-set regs r.number r.value
-
-abbrev IsInside : ℕ → DataView → Type 0
-IsInside private c = c.offset + length c.bytes ≤ private
-
-data_inside : (private : ℕ) (cs : List DataView) (ls : List LineView) → AreData private cs ls → All (IsInside private) cs
-data_inside private [] ls are = none_all (IsInside private)
-data_inside private (c ∷ cs) [] are = absurd are
-data_inside private (c ∷ cs) (l ∷ ls) are = All-cons (IsInside private) c cs are.0.1 (data_inside private cs ls are.1)
 
 -- what a task's cards spell keeps the rules of tasks
 pub is_task : (lines : List LineView) (task : TaskView) → SpellsTask lines task → IsTask 1 task
@@ -96,7 +64,7 @@ is_job lines job s =
     } in
     rw s.is_job (record {
       listings = refl;
-      images = record { each = one_all IsImage i (stands s.name s.base s.bytes module_card.1); apart = one_pairs AreClear i };
+      images = record { each = one_all IsImage i (stands i module_card.1); apart = one_pairs AreClear i };
       sizes = one_all (λ (i : ImageView). length i.bytes ≤ 262144) i (omega (arith, s.small));
       modules = omega arith;
       lines = one_all IsListing (Some texts) short;

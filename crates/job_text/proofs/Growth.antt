@@ -19,7 +19,7 @@ use Rattle.job_text.specs.declared.limit.Limit.TheVariants as limit
 use Rattle.job_text.specs.declared.parts.Part.{Part}
 use Rattle.job_text.specs.declared.parts.Part.TheVariants as kind
 use Rattle.job_text.specs.Steps.{State, state, is_start, is_sessions, closed_module, closed_task, closed, no_bytes, with_bytes, module_over, line_over, phase_over, session_over, task_over, open_module, open_task, open_phase, add_session, take_text, take_listing, take_more, end, takes_raw, take_raw, take_card, step, run}
-use Rattle.job_text.proofs.Guards.{some_same, guard_some, guard_more, both, map_some, then_some, choose}
+use Rattle.job_text.proofs.Guards.{some_same, guard_some, guard_more, both, map_some, then_some, choose, guard_none, guard_then}
 use Rattle.job_text.proofs.Spelled.{closed_of_module, closed_of_task}
 use Rattle.job_text.proofs.Shortest.{sofar_at, sofar, closed_sofar}
 
@@ -221,10 +221,6 @@ phase_judged : (j : JobView) (name : List ℕ) (q : Bool) → nat_le 16 (length 
 phase_judged j name true e h = (no_room j.phases name 16 e, phase_first j name h)
 phase_judged j name false e h = phase_keeps j name h e
 
-guard_none : {A : Type 0} (b : Bool) (x y : A) → cond b None (Some x) ≡ Some y → (b ≡ false) × (x ≡ y)
-guard_none false x y e = (refl, cc)
-guard_none true x y e = absurd cc
-
 phase_grown : (j k : JobView) (name : List ℕ) → with_phase j name ≡ Some k → Grown j k (phase_over j)
 phase_grown j k name e =
     let g = guard_none _ (put_phase j name) k e in
@@ -245,10 +241,6 @@ session_first j name ms h w less = h w
 session_judged : (j : JobView) (name : List ℕ) (ms : List ℕ) (q : Bool) → nat_le 16 (length j.sessions) ≡ q → IsWithin j → Judged (cond q (Some limit.Sessions) None) (put_session j name ms)
 session_judged j name ms true e h = (no_room j.sessions _ 16 e, session_first j name ms h)
 session_judged j name ms false e h = session_keeps j name ms h e
-
-guard_then : {A : Type 0} (b : Bool) (o : Option A) (y : A) → cond b None o ≡ Some y → (b ≡ false) × (o ≡ Some y)
-guard_then false o y e = (refl, e)
-guard_then true o y e = absurd cc
 
 session_grown : (j k : JobView) (name : List ℕ) (names : List (List ℕ)) → with_session j name names ≡ Some k → Grown j k (session_over j)
 session_grown j k name names e =

@@ -12,6 +12,14 @@ pub guard_more : {A : Type 0} (b : Bool) (o : Option A) (y : A) → cond b o Non
 guard_more true o y e = (refl, e)
 guard_more false o y e = absurd cc
 
+pub guard_none : {A : Type 0} (b : Bool) (x y : A) → cond b None (Some x) ≡ Some y → (b ≡ false) × (x ≡ y)
+guard_none false x y e = (refl, cc)
+guard_none true x y e = absurd cc
+
+pub guard_then : {A : Type 0} (b : Bool) (o : Option A) (y : A) → cond b None o ≡ Some y → (b ≡ false) × (o ≡ Some y)
+guard_then false o y e = (refl, e)
+guard_then true o y e = absurd cc
+
 pub both : (a b : Bool) → (a && b) ≡ true → (a ≡ true) × (b ≡ true)
 both true b e = (refl, e)
 both false b e = absurd cc

@@ -1,6 +1,7 @@
 pub mod CardFacts
 pub mod Complete
 pub mod Ends
+pub mod Excluded
 pub mod FirstJob
 pub mod Firsts
 pub mod Growth

@@ -15,7 +15,7 @@ use Rattle.job_text.specs.declared.limit.Limit.{Limit}
 use Rattle.job_text.specs.declared.parts.Part.{Part}
 use Rattle.job_text.specs.declared.parts.Part.TheVariants as part
 use Rattle.job_text.specs.Steps.{State, state, start, is_start, is_sessions, is_done, closed_module, closed_task, closed, no_bytes, with_bytes, module_over, line_over, phase_over, session_over, task_over, open_module, open_task, open_phase, add_session, take_text, take_listing, take_more, end, takes_raw, take_raw, take_card, step, run}
-use Rattle.job_text.proofs.Guards.{some_same, guard_some, guard_more, both, FromMap, map_some, FromThen, then_some, choose}
+use Rattle.job_text.proofs.Guards.{some_same, guard_some, guard_more, both, FromMap, map_some, FromThen, then_some, choose, guard_none, guard_then}
 use Rattle.job_text.proofs.TaskCards.{with_regs, with_cards, with_inputs, AtInputs, AtData, AtRegs, AtPart, stage_ends, more_back}
 
 -- what may still come, behind each line
@@ -330,10 +330,6 @@ task_first j name entry private budget room l ls d card new r =
       };
       after = z.after;
     }
-
-guard_none : {A : Type 0} (b : Bool) (x y : A) → cond b None (Some x) ≡ Some y → (b ≡ false) × (x ≡ y)
-guard_none false x y e = (refl, cc)
-guard_none true x y e = absurd cc
 
 task_back : (st s : State) (n : List ℕ) (e p b r : ℕ) (l : LineView) (ls : List LineView) (d : JobView) → IsCard l (Task n e p b r) → take_card st (Task n e p b r) ≡ Some s → RestOf s ls d → RestOf st (l ∷ ls) d
 task_back st s n e p b r l ls d card took rest =

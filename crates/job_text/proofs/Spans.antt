@@ -32,7 +32,7 @@ no_lines_by : (b : ℕ) (bs : List ℕ) (q : Bool) → cond q (record { bytes = 
 no_lines_by b bs true e = absurd cc
 no_lines_by b bs false e = put_some b (lines_of bs) e
 
-no_lines : (bs : List ℕ) → lines_of bs ≡ [] → bs ≡ []
+pub no_lines : (bs : List ℕ) → lines_of bs ≡ [] → bs ≡ []
 no_lines [] e = refl
 no_lines (b ∷ bs) e = absurd (no_lines_by b bs (nat_eq b 10) e)
 

@@ -18,7 +18,7 @@ use Rattle.job_text.specs.declared.parts.Part.{Part}
 use Rattle.job_text.specs.declared.parts.Part.TheVariants as kind
 use Rattle.job_text.specs.Steps.{State, state, start, is_done, take_card, step, run, Refuses}
 use Rattle.job_text.proofs.Guards.{some_same, FromMap, map_some, then_some}
-use Rattle.job_text.proofs.Spans.{Cut, cut_at}
+use Rattle.job_text.proofs.Spans.{Cut, cut_at, no_lines, lines_count}
 use Rattle.job_text.proofs.Spelled.{Reaches, Is, run_append, run_spelled, run_begun}
 use Rattle.job_text.proofs.Rests.{run_spells}
 use Rattle.job_text.proofs.Shortest.{sofar_at, sofar, run_begins}
@@ -242,6 +242,46 @@ is_read input n s r h runs done within job end count =
     length_take ls zero m = refl
     length_take [] (suc k) m = absurd (omega arith)
     length_take (x ∷ xs) (suc k) m = ap (λ (y : ℕ). suc y) (length_take xs k (omega arith))
+
+-- a line behind the job is bad
+
+some_left : (bs : List ℕ) (n : ℕ) → n < length bs → drop n bs ≡ [] → ⊥
+some_left bs n h e =
+    let a : length (drop n bs) ≡ length bs - n = length-drop n bs in
+    let b : length (drop n bs) ≡ 0 = ap (λ (x : List ℕ). length x) e in
+    omega (arith, a, b, h)
+
+take_front : (a b : List LineView) → take (length a) (a ++ b) ≡ a
+take_front [] b = refl
+take_front (x ∷ xs) b = ap (λ (y : List LineView). x ∷ y) (take_front xs b)
+
+drop_front : (a b : List LineView) → drop (length a) (a ++ b) ≡ b
+drop_front [] b = refl
+drop_front (x ∷ xs) b = drop_front xs b
+
+bad_next : (a b : List LineView) (job : JobView) → Spells a job → IsWithin job → (b ≡ [] → ⊥) → IsBadAt (a ++ b) (length a + 1)
+bad_next a [] job p within some = absurd (some refl)
+bad_next a (l ∷ ls) job p within some =
+    let r : Reaches start a (Is kind.Done job) = run_spelled a job p in
+    let done : is_done r.end.part ≡ true = ap is_done r.holds.at in
+    let same : sofar r.end ≡ job = rw (r.holds.at, r.holds.is) refl in
+    let stop : step r.end l ≡ None = done_step r.end.part r.end.job r.end.over l done in
+    bad_here (a ++ l ∷ ls) (length a) l ls r.end (drop_front a (l ∷ ls)) (rw (take_front a (l ∷ ls)) r.runs) (subst IsWithin (sym same) within) stop
+
+pub bad_behind : (input : List ℕ) (r : ReadJob) → IsRead input r → r.end < length input → IsBadAt (lines_of input) (r.lines + 1)
+bad_behind input r i h =
+    rw (i.parted, ← i.count) (bad_next (lines_of (take r.end input)) (lines_of (drop r.end input)) r.job i.spells i.within (λ none. some_left input r.end h (no_lines (drop r.end input) none)))
+
+pub whole_alone : (input : List ℕ) (job : JobView) → Spells (lines_of input) job → Spells (take (length (lines_of input)) (lines_of input)) job
+whole_alone input job p = rw (take-length (lines_of input)) p
+
+taken_most : (n : ℕ) (bs : List ℕ) → length (take n bs) ≤ length bs
+taken_most zero bs = omega arith
+taken_most (suc n) [] = omega arith
+taken_most (suc n) (b ∷ bs) = omega (arith, taken_most n bs)
+
+pub lines_most : (input : List ℕ) (r : ReadJob) → IsRead input r → r.lines ≤ length input
+lines_most input r i = omega (arith, i.count, lines_count (take r.end input), i.inside, taken_most r.end input)
 
 pub refused_bad : (o : Option State) (e : LineRefused) → e ≡ refused.Bad → Refuses o e → o ≡ None
 refused_bad o e is r = rw is at r

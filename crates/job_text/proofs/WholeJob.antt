@@ -22,7 +22,7 @@ use Rattle.job_text.specs.Spells.{AreModules, IsModule, AreSessions, IsTaskBlock
 use Rattle.job_text.specs.Limits.{are_short, keeps, IsWithin}
 use Rattle.job_text.specs.declared.limit.Limit.TheVariants as limit
 use Rattle.job_text.specs.Steps.{State, start, is_done, run}
-use Rattle.job_text.proofs.Guards.{guard_some, both, map_some}
+use Rattle.job_text.proofs.Guards.{guard_some, both, map_some, guard_none, guard_then}
 use Rattle.job_text.proofs.CardFacts.{Good, card_good}
 use Rattle.job_text.proofs.Rests.{run_spells}
 use Rattle.job_text.proofs.Shortest.{sofar}
@@ -30,7 +30,7 @@ use Rattle.job_text.proofs.Verdicts.{job_within}
 
 -- lists with one more
 
-one_all : {X : Type 0} (P : X → Type 0) (x : X) → P x → All P (x ∷ [])
+pub one_all : {X : Type 0} (P : X → Type 0) (x : X) → P x → All P (x ∷ [])
 one_all P x p = All-cons P x [] p (All-nil P)
 
 all_push : {X : Type 0} (P : X → Type 0) (xs : List X) (x : X) → All P xs → P x → All P (xs ++ x ∷ [])
@@ -159,14 +159,6 @@ modules_so_far [] j after are s = rw (← are) s
 modules_so_far (block ∷ blocks) j after are s = modules_so_far blocks are.mid after are.then (module_so_far block j are.mid are.is_module s)
 
 -- phases
-
-guard_none : {A : Type 0} (b : Bool) (x y : A) → cond b None (Some x) ≡ Some y → (b ≡ false) × (x ≡ y)
-guard_none false x y e = (refl, cc)
-guard_none true x y e = absurd cc
-
-guard_then : {A : Type 0} (b : Bool) (o : Option A) (y : A) → cond b None o ≡ Some y → (b ≡ false) × (o ≡ Some y)
-guard_then false o y e = (refl, e)
-guard_then true o y e = absurd cc
 
 map_same : (xs : List (List ℕ)) → map (λ x. x) xs ≡ xs
 map_same [] = refl

@@ -21,7 +21,7 @@ pub use card::{Card, RegCard};
 pub use cards::read_card;
 pub use fault::JobFault;
 pub use first::read_first_form;
-pub use jobs::{ReadJob, read_job};
+pub use jobs::{ReadJob, read_job, read_whole_job};
 pub use limit::Limit;
 
 #[cfg(test)]

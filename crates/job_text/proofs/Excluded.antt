@@ -1,0 +1,189 @@
+-- What callers may conclude of lines: they spell a job within the limits, or one line of them is bad, or one passes a limit.
+use Rattle.std.proofs.Common.{◌≡◌, ◌⊎◌, ℕ, ◌+◌, ◌-◌, ◌<◌, ◌≤◌, zero, suc, true, false, Option, Some, None, List, [], ◌∷◌, ◌++◌, length, map, take, drop, IfSome, All, refl, ap, subst, sym, ◌∙◌, arith, append_assoc, inl, inr, take-append-drop, option_map}
+use Rattle.std.proofs.lemmas.Bool.{cases_order}
+use Rattle.std.proofs.lemmas.List.{length-map, length-append}
+use Rattle.std.proofs.lemmas.List.Elements.{All-append, All-cons, All-nil}
+use Rattle.std.specs.List.{list_any}
+use Rattle.std.specs.Str.{bytes_eq}
+use Rattle.session_book.specs.JobView.{JobView}
+use Rattle.job_text.specs.Lines.{LineView, listing_text}
+use Rattle.job_text.specs.Spells.{joined, IsListed, IsModule, AreModules, AreSessions, IsTaskBlock, AreTasks, IsPhase, ArePhases, Spells, JobBegins}
+use Rattle.job_text.specs.Adding.{no_job, with_phase, indices_on, put_session, with_session}
+use Rattle.job_text.specs.Limits.{keeps, IsWithin, Passes, rank}
+use Rattle.job_text.specs.Refusals.{GoesOn, IsBadAt, IsOverAt}
+use Rattle.job_text.specs.declared.limit.Limit.{Limit}
+use Rattle.job_text.specs.declared.limit.Limit.TheVariants as limit
+use Rattle.job_text.proofs.Guards.{guard_none, guard_then, map_some}
+
+begins_prefix : (a b : List LineView) → JobBegins (a ++ b) → JobBegins a
+begins_prefix a b p = record { rest = b ++ p.rest; job = p.job; spells = rw (← append_assoc a b p.rest) p.spells }
+
+passes_more : (a b : List LineView) (w : Limit) → Passes w a → Passes w (a ++ b)
+passes_more a b w p rest job s = p (b ++ rest) job (rw (← append_assoc a b rest) s)
+
+-- the first m lines begin the first n
+record Front (ls : List LineView) (m n : ℕ) : Type 0 where
+  more : List LineView
+  whole : take n ls ≡ take m ls ++ more
+
+front : (ls : List LineView) (m n : ℕ) → m ≤ n → Front ls m n
+front ls zero n h = record { more = take n ls; whole = refl }
+front ls (suc m) zero h = absurd (omega arith)
+front [] (suc m) (suc n) h = record { more = []; whole = refl }
+front (l ∷ ls) (suc m) (suc n) h = let f : Front ls m n = front ls m n (omega arith) in record { more = f.more; whole = ap (λ (x : List LineView). l ∷ x) f.whole }
+
+begins_less : (ls : List LineView) (m n : ℕ) → m ≤ n → JobBegins (take n ls) → JobBegins (take m ls)
+begins_less ls m n h b = let f : Front ls m n = front ls m n h in begins_prefix (take m ls) f.more (rw f.whole at b)
+
+passes_later : (ls : List LineView) (m n : ℕ) (w : Limit) → m ≤ n → Passes w (take m ls) → Passes w (take n ls)
+passes_later ls m n w h p = let f : Front ls m n = front ls m n h in rw f.whole (passes_more (take m ls) f.more w p)
+
+spelled_take : (ls : List LineView) (job : JobView) (n : ℕ) → Spells ls job → Spells (take n ls ++ drop n ls) job
+spelled_take ls job n s = rw (take-append-drop n ls) s
+
+spelled_begins : (ls : List LineView) (job : JobView) (n : ℕ) → Spells ls job → JobBegins (take n ls)
+spelled_begins ls job n s = record { rest = drop n ls; job = job; spells = spelled_take ls job n s }
+
+-- lines that spell a job have no bad line
+pub never_bad : (ls : List LineView) (job : JobView) (n : ℕ) → Spells ls job → IsBadAt ls n → ⊥
+never_bad ls job n s b = elim b.here [
+  | inl w ↦ w.1 (spelled_begins ls job n s)
+  | inr w ↦ w.1 job s
+]
+
+-- and where the job is within the limits none that passes one
+pub never_over : (ls : List LineView) (job : JobView) (what : Limit) (n : ℕ) → Spells ls job → IsWithin job → IsOverAt ls what n → ⊥
+never_over ls job what n s within o =
+    let over : keeps what job ≡ false = o.passes (drop n ls) job (spelled_take ls job n s) in
+    let no : true ≡ false = sym (within what) ∙ over in
+    absurd cc
+
+not_bad_before : (ls : List LineView) (m n : ℕ) → m < n → IsBadAt ls m → IsBadAt ls n → ⊥
+not_bad_before ls m n h p q = elim p.here [
+  | inl w ↦ w.1 (begins_less ls m (n - 1) (omega arith) q.before.begins)
+  | inr w ↦ (elim q.here [ inl v ↦ absurd (omega (arith, v.0, w.0)) | inr v ↦ absurd (omega (arith, v.0, w.0)) ])
+]
+
+-- there is at most one bad line
+pub one_bad : (ls : List LineView) (m n : ℕ) → IsBadAt ls m → IsBadAt ls n → m ≡ n
+one_bad ls m n p q = elim (cases_order m n) [
+  | inl e ↦ e
+  | inr x ↦ (elim x [ inl h ↦ absurd (not_bad_before ls m n h p q) | inr h ↦ absurd (not_bad_before ls n m h q p) ])
+]
+
+over_before : (ls : List LineView) (what : Limit) (m n : ℕ) → m < n → Passes what (take m ls) → GoesOn (take (n - 1) ls) → ⊥
+over_before ls what m n h p g = g.within what (passes_later ls m (n - 1) what (omega arith) p)
+
+bad_first : (ls : List LineView) (what : Limit) (m n : ℕ) → m ≤ n → IsBadAt ls m → IsOverAt ls what n → ⊥
+bad_first ls what m n h p o = elim p.here [
+  | inl w ↦ w.1 (begins_less ls m n h o.begins)
+  | inr w ↦ absurd (omega (arith, w.0, o.inside))
+]
+
+-- a bad line and a line that passes a limit exclude one another
+pub not_both : (ls : List LineView) (what : Limit) (m n : ℕ) → IsBadAt ls m → IsOverAt ls what n → ⊥
+not_both ls what m n p o = elim (cases_order m n) [
+  | inl e ↦ bad_first ls what m n (omega (arith, e)) p o
+  | inr x ↦ (elim x [ inl h ↦ bad_first ls what m n (omega (arith, h)) p o | inr h ↦ over_before ls what n m h o.passes p.before ])
+]
+
+abbrev limit_of : ℕ → Limit
+limit_of zero = limit.Input
+limit_of (suc zero) = limit.Modules
+limit_of (suc (suc zero)) = limit.Size
+limit_of (suc (suc (suc zero))) = limit.Line
+limit_of (suc (suc (suc (suc zero)))) = limit.Places
+limit_of (suc (suc (suc (suc (suc zero))))) = limit.Phases
+limit_of (suc (suc (suc (suc (suc (suc zero)))))) = limit.Sessions
+limit_of (suc (suc (suc (suc (suc (suc (suc zero))))))) = limit.Tasks
+limit_of (suc (suc (suc (suc (suc (suc (suc (suc zero)))))))) = limit.Private
+limit_of (suc (suc (suc (suc (suc (suc (suc (suc (suc zero))))))))) = limit.Budget
+limit_of n = limit.Room
+
+of_rank : (w : Limit) → limit_of (rank w) ≡ w
+of_rank limit.Input = refl
+of_rank limit.Modules = refl
+of_rank limit.Size = refl
+of_rank limit.Line = refl
+of_rank limit.Places = refl
+of_rank limit.Phases = refl
+of_rank limit.Sessions = refl
+of_rank limit.Tasks = refl
+of_rank limit.Private = refl
+of_rank limit.Budget = refl
+of_rank limit.Room = refl
+
+one_rank : (a b : Limit) → rank a ≡ rank b → a ≡ b
+one_rank a b e = sym (of_rank a) ∙ (ap limit_of e ∙ of_rank b)
+
+one_limit : (ls : List LineView) (a b : Limit) (n : ℕ) → IsOverAt ls a n → IsOverAt ls b n → a ≡ b
+one_limit ls a b n p q = elim (cases_order (rank a) (rank b)) [
+  | inl e ↦ one_rank a b e
+  | inr x ↦ (elim x [ inl h ↦ absurd (q.first a h p.passes) | inr h ↦ absurd (p.first b h q.passes) ])
+]
+
+-- at most one limit is told, at one line
+pub one_over : (ls : List LineView) (a b : Limit) (m n : ℕ) → IsOverAt ls a m → IsOverAt ls b n → (a ≡ b) × (m ≡ n)
+one_over ls a b m n p q = elim (cases_order m n) [
+  | inl e ↦ (one_limit ls a b n (subst (IsOverAt ls a) e p) q, e)
+  | inr x ↦ (elim x [ inl h ↦ absurd (over_before ls a m n h p.passes q.before) | inr h ↦ absurd (over_before ls b n m h q.passes p.before) ])
+]
+
+-- a listing has at most as many lines as the input
+
+abbrev pub IsFew : ℕ → Option (List (List ℕ)) → Type 0
+IsFew n o = IfSome o (λ t. length t ≤ n)
+
+
+listed_few : (n : ℕ) (ls : List LineView) (o : Option (List (List ℕ))) → IsListed ls o → length ls ≤ n → IsFew n o
+listed_few n ls None is h = tt
+listed_few n [] (Some texts) is h = absurd is
+listed_few n (l ∷ ls) (Some texts) is h = rw is.1 (omega (arith, h, length-map ls listing_text))
+
+modules_few : (n : ℕ) (blocks : List (List LineView)) (j after : JobView) → AreModules j blocks after → length (joined blocks) ≤ n → All (IsFew n) j.listings → All (IsFew n) after.listings
+modules_few n [] j after are h few = rw (← are) few
+modules_few n (block ∷ blocks) j after are h few =
+    let m : IsModule j block are.mid = are.is_module in
+    let size : length (block ++ joined blocks) ≡ length block + length (joined blocks) = length-append block (joined blocks) in
+    let more : length (m.texts ++ m.listing) ≡ length m.texts + length m.listing = length-append m.texts m.listing in
+    let whole : length block ≡ length (m.head ∷ (m.texts ++ m.listing)) = ap (λ (x : List LineView). length x) m.whole in
+    let one : IsFew n m.listed = listed_few n m.listing m.listed m.is_listed (omega (arith, h, size, more, whole)) in
+    let next : All (IsFew n) are.mid.listings = rw m.is_after (All-append (IsFew n) j.listings (m.listed ∷ []) few (All-cons (IsFew n) m.listed [] one (All-nil (IsFew n)))) in
+    modules_few n blocks are.mid after are.then (omega (arith, h, size)) next
+
+-- what comes behind the modules has no listing
+
+phase_listings : (j after : JobView) (name : List ℕ) → with_phase j name ≡ Some after → after.listings ≡ j.listings
+phase_listings j after name e =
+    let g = guard_none (list_any (λ p. bytes_eq p name) j.phases) (record j { phases = j.phases ++ name ∷ [] }) after e in
+    ap (λ (x : JobView). x.listings) (sym g.1)
+
+session_listings : (j after : JobView) (name : List ℕ) (names : List (List ℕ)) → with_session j name names ≡ Some after → after.listings ≡ j.listings
+session_listings j after name names e =
+    let g = guard_then (list_any (λ x. bytes_eq x.name name) j.sessions) (option_map (put_session j name) (indices_on j (Some []) names)) after e in
+    let m = map_some (put_session j name) (indices_on j (Some []) names) after g.1 in
+    ap (λ (x : JobView). x.listings) (sym m.gives)
+
+sessions_keep : (ls : List LineView) (j after : JobView) → AreSessions j ls after → after.listings ≡ j.listings
+sessions_keep [] j after are = ap (λ (x : JobView). x.listings) (sym are)
+sessions_keep (l ∷ ls) j after are = sessions_keep ls are.mid after are.then ∙ session_listings j are.mid are.name are.names are.adds
+
+tasks_keep : (blocks : List (List LineView)) (j after : JobView) → AreTasks j blocks after → after.listings ≡ j.listings
+tasks_keep [] j after are = ap (λ (x : JobView). x.listings) (sym are)
+tasks_keep (block ∷ blocks) j after are =
+    let t : IsTaskBlock j block are.mid = are.is_task in
+    tasks_keep blocks are.mid after are.then ∙ ap (λ (x : JobView). x.listings) t.is_after
+
+phases_keep : (blocks : List (List LineView)) (j after : JobView) → ArePhases j blocks after → after.listings ≡ j.listings
+phases_keep [] j after are = ap (λ (x : JobView). x.listings) (sym are)
+phases_keep (block ∷ blocks) j after are =
+    let p : IsPhase j block are.mid = are.is_phase in
+    phases_keep blocks are.mid after are.then ∙ (tasks_keep p.tasks p.mid are.mid p.are_tasks ∙ (sessions_keep p.sessions p.named p.mid p.are_sessions ∙ phase_listings j p.named p.name p.adds))
+
+-- a listing of the job has at most as many lines as these
+pub listings_few : (ls : List LineView) (job : JobView) → Spells ls job → All (IsFew (length ls)) job.listings
+listings_few ls job s =
+    let a : length (joined s.modules ++ (joined s.phases ++ s.last ∷ [])) ≡ length (joined s.modules) + length (joined s.phases ++ s.last ∷ []) = length-append (joined s.modules) (joined s.phases ++ s.last ∷ []) in
+    let whole : length ls ≡ length (s.first ∷ (joined s.modules ++ (joined s.phases ++ s.last ∷ []))) = ap (λ (x : List LineView). length x) s.whole in
+    let few : All (IsFew (length ls)) s.mid.listings = modules_few (length ls) s.modules no_job s.mid s.are_modules (omega (arith, a, whole)) (All-nil (IsFew (length ls))) in
+    rw (phases_keep s.phases s.mid job s.are_phases) few
