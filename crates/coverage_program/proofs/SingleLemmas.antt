@@ -16,7 +16,7 @@ use Rattle.module_area.specs.declared.tallies.Tally.{Tally}
 use Rattle.brk_table.specs.Places.{IsIn, memory_of}
 use Rattle.session_book.specs.JobView.{JobView, TaskView}
 use Rattle.session_book.specs.Sessions.{task_of, plan_view, window_of, window_from}
-use Rattle.job_text.specs.Lines.{LineView, lines_of, put_on, listing_text}
+use Rattle.job_text.specs.Lines.{LineView, listing_text}
 use Rattle.job_text.specs.First.{SpellsFirst}
 use Rattle.coverage_program.specs.Areas.{EndsArea, GrowsBy}
 use Rattle.coverage_program.specs.Runs.{HasRun, alone, result_of_run, set_of, phase_trace}
@@ -35,19 +35,6 @@ is_single lines j most s = record {
   of_phase = refl;
   few = omega (arith, most, ap length s.whole, length-append {A = LineView} s.listing_lines (s.phase_line ∷ s.session_line ∷ s.task_line ∷ (s.reg_lines ++ s.end_line ∷ [])), length-map {A = LineView} {B = List ℕ} s.listing_lines listing_text);
 }
-
-length-put_on : (b : ℕ) (ls : List LineView) → length (put_on b ls) ≤ length ls + 1
-length-put_on b [] = omega arith
-length-put_on b (l ∷ ls) = omega arith
-
--- each line takes a byte at least
-pub length-lines_of : (bytes : List ℕ) → length (lines_of bytes) ≤ length bytes
-length-lines_of [] = omega arith
-length-lines_of (b ∷ bs) = line_more b bs (nat_eq b 10) refl (length-lines_of bs)
-  where
-    line_more : (b : ℕ) (bs : List ℕ) (q : Bool) → nat_eq b 10 ≡ q → length (lines_of bs) ≤ length bs → length (lines_of (b ∷ bs)) ≤ length (b ∷ bs)
-    line_more b bs true e h = rw e (omega arith)
-    line_more b bs false e h = rw e (omega (arith, length-put_on b (lines_of bs), h))
 
 union_none : (s : FactSet) → union s no_facts ≡ s
 union_none s =

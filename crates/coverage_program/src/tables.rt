@@ -3,7 +3,7 @@ ghost use Rattle.std.specs.Prelude.{◌≡◌, ◌≢◌, ℕ, ◌+◌, ◌≤�
 ghost use Rattle.module_area.specs.Images.{IsImage, AreImages};
 ghost use Rattle.listing_reader.specs.Listing.{listing_of};
 ghost use Rattle.brk_table.specs.Build.{HasOwnPlaces};
-ghost use Rattle.brk_table.specs.Places.{IsIn};
+ghost use Rattle.brk_table.specs.Places.{IsIn, all_places};
 ghost use Rattle.brk_table.specs.Together.{AreTables};
 ghost use Rattle.report_text.specs.Conditions.{HasFewLines};
 ghost use Rattle.coverage_program.specs.Refusals.{listing_refusal, IsTableOf, job_refusal, places_in, Match};
@@ -148,6 +148,7 @@ pub fn tables_of(alloc: Global, job: &Job) -> Result<Tables, Refused>
     requires { HasFewLines job.now }
     ensures refused { IfErr result (IsRefused (job_refusal job.now)) }
     ensures matching { IfOk result (λ t. Match job.now t.tables) }
+    ensures numbered { IfOk result (λ t. t.places ≡ all_places t.tables) }
     ensures places { IfOk result (λ t. All (IsIn job.now.images) t.places) }
 {
     let tables = tables_in_order(alloc, job)?;
