@@ -13,7 +13,7 @@ use crate::ready::make_ready;
 use crate::status::{Status, told};
 use crate::words::{Command, command_of};
 use brk_table::Tables;
-use cov_outside::{Sink, Source};
+use cov_outside::{Failed, Sink, Source};
 use module_area::Areas;
 use report_text::{report, table};
 use session_book::Job;
@@ -74,7 +74,7 @@ fn answer_table<S: Source, K: Sink>(alloc: Global, source: &mut S, sink: &mut K)
     };
     match table(sink, &read.job, &read.tables) {
         Ok(()) => Status(0),
-        Err(_) => Status(6),
+        Err(Failed) => Status(6),
     }
 }
 
