@@ -1,8 +1,8 @@
 //! Makes the breakpoint table of a module's listing.
-ghost use Rattle.std.specs.Prelude.{◌≡◌, ◌+◌, ◌%◌, ◌≤◌, ◌⊎◌, Some, None, [], length, IfOk, IfErr, IsOk};
+ghost use Rattle.std.specs.Prelude.{◌≡◌, ◌+◌, ◌%◌, ◌≤◌, ◌⊎◌, Some, None, [], length, count_by, IfOk, IfErr, IsOk};
 ghost use Rattle.std.specs.List.{AllPass};
 ghost use Rattle.listing_reader.specs.Listing.{is_sound};
-ghost use Rattle.brk_table.specs.Build.{first_fault, IsTable, HasOwnPlaces};
+ghost use Rattle.brk_table.specs.Build.{first_fault, is_code, IsTable, HasOwnPlaces};
 
 use crate::fault::first_fault;
 use crate::faults::BuildFault;
@@ -30,6 +30,7 @@ pub fn build(
     requires below { image.now.base + length image.now.bytes ≤ 16777216 }
     ensures table { IfOk result (λ t. IsTable «module» image.now.base lines.now t) }
     ensures matches { IsOk result → first_fault image.now.bytes room [] lines.now ≡ None }
+    ensures places { IfOk result (λ t. length t.places ≡ count_by is_code lines.now) }
     ensures room { IfOk result (λ t. length t.places ≤ room) }
     ensures own { IfOk result (λ t. HasOwnPlaces «module» image.now t) }
     ensures fault { IfErr result (λ e. (e ≡ BuildFault.NoMemory) ⊎ (first_fault image.now.bytes room [] lines.now ≡ Some e)) }

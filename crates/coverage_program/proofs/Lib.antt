@@ -1,8 +1,8 @@
 pub mod AnswerLemmas
 pub mod AreaLemmas
 pub mod CompleteLemmas
+pub mod InputLemmas
 pub mod PhaseLemmas
 pub mod SessionLemmas
-pub mod SingleLemmas
 pub mod TableLemmas
 pub mod TaskLemmas

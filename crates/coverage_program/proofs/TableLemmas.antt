@@ -1,5 +1,9 @@
--- One module's table is the job's tables.
-use Rattle.std.proofs.Common.{◌≡◌, ◌⊎◌, inl, inr, ℕ, ◌≤◌, zero, suc, Option, Some, None, is_none, is_some, true, false, List, [], ◌∷◌, length, length-append, subst, refl, sym, ◌∙◌, ap, arith, All}
+-- The tables of a job, module by module.
+use Rattle.std.proofs.Common.{◌≡◌, ◌⊎◌, inl, inr, ℕ, ◌+◌, ◌-◌, ◌<◌, ◌≤◌, Option, Some, None, is_none, is_some, true, false, List, [], ◌∷◌, ◌++◌, length, length-append, get_or, drop, append_assoc, append-nil, subst, refl, sym, ◌∙◌, ap, arith, All}
+use Rattle.std.specs.Prelude.{AllPairs}
+use Rattle.std.proofs.lemmas.List.{get_or-drop, drop_more, drop_all}
+use Rattle.std.proofs.lemmas.List.Elements.{All-push}
+use Rattle.std.proofs.lemmas.List.Quantifiers.{all_pairs_push}
 use Rattle.cov_base.specs.Memory.{ImageView}
 use Rattle.listing_reader.specs.Listing.{listing_of, fault_of}
 use Rattle.listing_reader.specs.declared.lines.Line.{Line}
@@ -8,23 +12,93 @@ use Rattle.listing_reader.specs.declared.lines.ListFault.TheVariants as list
 use Rattle.listing_reader.proofs.Laws.{listing_or_fault}
 use Rattle.module_area.specs.declared.places.Place.{Place}
 use Rattle.brk_table.specs.Build.{first_fault, HasOwnPlaces}
-use Rattle.brk_table.specs.Places.{TableView}
+use Rattle.brk_table.specs.Places.{TableView, all_places}
 use Rattle.brk_table.specs.Together.{IsTableOf, AreTables}
 use Rattle.brk_table.specs.declared.faults.BuildFault.{BuildFault}
 use Rattle.brk_table.specs.declared.faults.BuildFault.TheVariants as fault
+use Rattle.session_book.specs.JobView.{JobView}
+use Rattle.report_text.specs.Sessions.{no_module}
 use Rattle.coverage_program.specs.Refused.{IsRefused, list_refused, build_refused}
-use Rattle.coverage_program.specs.Refusals.{listing_refusal, build_refusal, list_refusal}
+use Rattle.coverage_program.specs.Refusals.{listing_refusal, build_refusal, list_refusal, refusal_from, job_refusal, places_in, AreTablesFrom, Match}
+use Rattle.coverage_program.specs.Refusals.{IsTableOf as IsModuleTable}
+use Rattle.coverage_program.specs.declared.tables.Refused.{Refused}
+use Rattle.coverage_program.specs.declared.tables.Refused.TheVariants.{Told, NoMemory}
 
-one_of : (image : ImageView) (t : TableView) → HasOwnPlaces 0 image t → All (IsTableOf (image ∷ [])) (t ∷ [])
-one_of image t own zero d l = record { image = image; exists = rw own.of (omega arith); is = rw own.of refl; own = subst (λ (m : ℕ). HasOwnPlaces m image t) (sym own.of) own }
-one_of image t own (suc k) d l = absurd (omega arith)
+-- the tables of the modules before module m; the first fault is that of the listings from m on
+pub record TablesBefore (j : JobView) (m room : ℕ) (tables : List TableView) : Type 0 where
+  pub refusal : job_refusal j ≡ refusal_from room (drop m j.images) (drop m j.listings)
+  pub rest : (later : List TableView) → AreTablesFrom m (drop m j.images) (drop m j.listings) later → AreTablesFrom 0 j.images j.listings (tables ++ later)
+  pub of : All (IsTableOf j.images) tables
+  pub rising : AllPairs (λ (t u : TableView). t.«module» < u.«module») tables
+  pub below : All (λ (t : TableView). t.«module» < m) tables
+  pub fits : room + length (all_places tables) ≡ 65536
 
-pub one_table : (image : ImageView) (t : TableView) → HasOwnPlaces 0 image t → length t.places ≤ 65536 → AreTables (image ∷ []) (t ∷ [])
-one_table image t own few = record {
-  of = one_of image t own;
+pub tables_start : (j : JobView) → TablesBefore j 0 65536 []
+tables_start j = record {
+  refusal = refl;
+  rest = λ later h. h;
+  of = λ k d l. absurd (omega arith);
   rising = λ j k d l b. absurd (omega arith);
-  most = omega (arith, length-append {A = Place} t.places [], few);
+  below = λ k d l. absurd (omega arith);
+  fits = refl;
 }
+
+-- module m has no listing
+pub tables_skip : (j : JobView) (m room : ℕ) (tables : List TableView) → m < length j.images → drop m j.listings ≡ None ∷ drop (m + 1) j.listings →
+    TablesBefore j m room tables → TablesBefore j (m + 1) room tables
+tables_skip j m room tables here l p =
+    let e : drop m j.images ≡ get_or j.images m no_module ∷ drop (m + 1) j.images = drop_more j.images m no_module here in
+    record {
+      refusal = p.refusal ∙ rw (e, l) refl;
+      rest = λ later h. p.rest later (rw (e, l) h);
+      of = p.of;
+      rising = p.rising;
+      below = λ k d b. omega (arith, p.below k d b);
+      fits = p.fits;
+    }
+
+length-places_push : (tables : List TableView) (t : TableView) → length (all_places (tables ++ t ∷ [])) ≡ length (all_places tables) + length t.places
+length-places_push [] t = omega (arith, length-append {A = Place} t.places [])
+length-places_push (u ∷ us) t = omega (arith, length-append {A = Place} u.places (all_places (us ++ t ∷ [])), length-append {A = Place} u.places (all_places us), length-places_push us t)
+
+-- module m's table is added
+pub tables_more : (j : JobView) (m room : ℕ) (tables : List TableView) (image : ImageView) (texts : List (List ℕ)) (t : TableView) → drop m j.images ≡ image ∷ drop (m + 1) j.images → drop m j.listings ≡ Some texts ∷ drop (m + 1) j.listings →
+    m < length j.images → listing_refusal image room texts ≡ None → IsModuleTable m image texts t → HasOwnPlaces m image t → length t.places ≡ places_in (listing_of texts) → length t.places ≤ room →
+    TablesBefore j m room tables → TablesBefore j (m + 1) (room - length t.places) (tables ++ t ∷ [])
+tables_more j m room tables image texts t e l here none is own count fits p =
+    let at : m + 0 ≡ m = omega arith in
+    let first : image ≡ get_or j.images m image = sym (ap (λ (i : List ImageView). get_or i 0 image) e) ∙ (get_or-drop m j.images 0 image ∙ ap (λ n. get_or j.images n image) at) in
+    let added : IsTableOf j.images t = record {
+      image = image;
+      exists = rw own.of here;
+      is = ap (λ n. get_or j.images n image) own.of ∙ sym first;
+      own = subst (λ n. HasOwnPlaces n image t) (sym own.of) own;
+    } in
+    record {
+      refusal = p.refusal ∙ rw (e, l, none, count) refl;
+      rest = λ later h. (let joined : AreTablesFrom 0 j.images j.listings (tables ++ t ∷ later) = p.rest (t ∷ later) (rw (e, l) (is, h)) in
+          rw (append_assoc tables (t ∷ []) later) joined);
+      of = All-push (IsTableOf j.images) tables t p.of added;
+      rising = all_pairs_push (λ (u v : TableView). u.«module» < v.«module») tables t p.rising (λ k d b. rw own.of (p.below k d b));
+      below = All-push (λ (u : TableView). u.«module» < m + 1) tables t (λ k d b. omega (arith, p.below k d b)) (omega (arith, own.of));
+      fits = omega (arith, p.fits, fits, length-places_push tables t);
+    }
+
+-- the fault of module m's listing is the first
+pub table_refused : (j : JobView) (m room : ℕ) (tables : List TableView) (image : ImageView) (texts : List (List ℕ)) (refused : Refused) → drop m j.images ≡ image ∷ drop (m + 1) j.images → drop m j.listings ≡ Some texts ∷ drop (m + 1) j.listings →
+    TablesBefore j m room tables → IsRefused (listing_refusal image room texts) refused → IsRefused (job_refusal j) refused
+table_refused j m room tables image texts NoMemory e l p h = tt
+table_refused j m room tables image texts (Told r) e l p h = p.refusal ∙ rw (e, l, h) refl
+
+pub tables_match : (j : JobView) (m room : ℕ) (tables : List TableView) → length j.images ≤ m → length j.listings ≡ length j.images → TablesBefore j m room tables → Match j tables
+tables_match j m room tables past same p =
+    let images : drop m j.images ≡ [] = drop_all m j.images past in
+    let listings : drop m j.listings ≡ [] = drop_all m j.listings (omega arith) in
+    let all : AreTablesFrom 0 j.images j.listings (tables ++ []) = p.rest [] (rw (images, listings) tt) in
+    record { faultless = p.refusal ∙ rw images refl; tables_of = rw (append-nil tables) at all }
+
+pub tables_together : (j : JobView) (m room : ℕ) (tables : List TableView) → TablesBefore j m room tables → AreTables j.images tables
+tables_together j m room tables p = record { of = p.of; rising = p.rising; most = omega (arith, p.fits) }
 
 -- a listing that is read has no fault
 none_some : (a : Option (List Line)) (b : Option ListFault) (v : List Line) → is_none a ≡ is_some b → a ≡ Some v → b ≡ None

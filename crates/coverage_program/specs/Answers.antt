@@ -1,30 +1,33 @@
 -- What the program answers: its status and text, by the words and the bytes that came.
-use Rattle.std.specs.Prelude.{◌≡◌, ◌<◌, ◌⊎◌, ℕ, ◌≤◌, Bool, true, false, Some, None, Option, List, length}
+use Rattle.std.specs.Prelude.{◌≡◌, ◌<◌, ◌⊎◌, ℕ, ◌≤◌, true, false, Some, None, Option, List, length}
 use Rattle.std.specs.Io.KnownBytes.{Appends}
 use Rattle.cov_outside.specs.Causes.{Rose}
 use Rattle.cov_outside.specs.Whole.{IsWhole, HasMoreThan, AppendsSome}
-use Rattle.brk_table.specs.Places.{TablesView}
+use Rattle.brk_table.specs.Places.{TablesView, all_places}
 use Rattle.session_book.specs.JobView.{JobView}
-use Rattle.job_text.specs.declared.fault.JobFault.{JobFault}
-use Rattle.job_text.specs.declared.fault.JobFault.TheVariants as fault
+use Rattle.job_text.specs.declared.jobs.JobFault.{JobFault}
+use Rattle.job_text.specs.declared.jobs.JobFault.TheVariants as fault
+use Rattle.job_text.specs.declared.limit.Limit.{Limit}
+use Rattle.job_text.specs.Limits.{IsWithin}
 use Rattle.job_text.specs.Lines.{lines_of}
-use Rattle.job_text.specs.First.{SpellsFirst, IsFirstBad}
+use Rattle.job_text.specs.Refusals.{IsBadAt, IsOverAt}
+use Rattle.job_text.specs.Spells.{Spells}
+use Rattle.report_text.specs.Table.{table_text}
+use Rattle.coverage_program.specs.declared.words.Command.{Command}
+use Rattle.coverage_program.specs.declared.words.Command.TheVariants.{Run, Table, Unknown}
 use Rattle.coverage_program.specs.Refusals.{RefusalView, refusal, job_refusal, Match}
 use Rattle.coverage_program.specs.Runs.{Account, HasRun, Reports}
-use Rattle.coverage_program.specs.Words.{usage_line, too_large_input_line, read_fault_line, no_memory_line, bad_job_line}
+use Rattle.coverage_program.specs.Words.{reads_job, usage_line, too_large_input_line, read_fault_line, no_memory_line, bad_job_line, large_job_line}
 
 -- the most bytes of input
 abbrev pub input_limit : ℕ
 input_limit = 16777216
 
 -- how a job that wasn't read is told
-abbrev pub fault_status : JobFault → ℕ
-fault_status (fault.BadJob n) = 2
-fault_status fault.NoMemory = 7
-
-abbrev pub fault_text : JobFault → List ℕ
-fault_text (fault.BadJob n) = bad_job_line n
-fault_text fault.NoMemory = no_memory_line
+abbrev pub fault_refusal : JobFault → RefusalView
+fault_refusal (fault.BadJob n) = refusal 2 (bad_job_line n)
+fault_refusal (fault.TooLarge what n) = refusal 4 (large_job_line what n)
+fault_refusal fault.NoMemory = refusal 7 no_memory_line
 
 -- what a source had left before the call and after it, and its counts of faults
 pub record SourceChange : Type 0 where
@@ -39,11 +42,12 @@ pub record CameWhole (s : SourceChange) (bytes : List ℕ) : Type 0 where
   pub within : length bytes ≤ input_limit
   pub no_fault : s.later ≡ s.faults
 
--- the bytes that came spell this job
+-- the bytes that came spell this job, which is within the limits
 pub record CameJob (s : SourceChange) (j : JobView) : Type 0 where
   pub bytes : List ℕ
   pub came : CameWhole s bytes
-  pub spells : SpellsFirst (lines_of bytes) j
+  pub spells : Spells (lines_of bytes) j
+  pub within : IsWithin j
 
 -- the report of a job whose listings match
 pub record IsReport (s : SourceChange) (before after : Account) (text : List ℕ) : Type 0 where
@@ -51,16 +55,35 @@ pub record IsReport (s : SourceChange) (before after : Account) (text : List ℕ
   pub tables : TablesView
   pub came : CameJob s job
   pub match : Match job tables.tables
+  pub numbered : tables.places ≡ all_places tables.tables
   pub ran : HasRun job tables.places before after
   pub reports : Reports job tables text
+
+-- the places of a job whose listings match
+pub record IsPlacesText (s : SourceChange) (text : List ℕ) : Type 0 where
+  pub job : JobView
+  pub tables : TablesView
+  pub came : CameJob s job
+  pub match : Match job tables.tables
+  pub numbered : tables.places ≡ all_places tables.tables
+  pub is_text : text ≡ table_text job tables
 
 -- the first line with which no job goes on
 pub record IsBadJob (s : SourceChange) (text : List ℕ) : Type 0 where
   pub bytes : List ℕ
   pub line : ℕ
   pub came : CameWhole s bytes
-  pub first_bad : IsFirstBad (lines_of bytes) line
+  pub first_bad : IsBadAt (lines_of bytes) line
   pub told : text ≡ bad_job_line line
+
+-- the first line with which a limit is passed
+pub record IsLargeJob (s : SourceChange) (text : List ℕ) : Type 0 where
+  pub bytes : List ℕ
+  pub what : Limit
+  pub line : ℕ
+  pub came : CameWhole s bytes
+  pub first_over : IsOverAt (lines_of bytes) what line
+  pub told : text ≡ large_job_line what line
 
 -- the first fault of a job's listings
 pub record IsBadListing (s : SourceChange) (status : ℕ) (text : List ℕ) : Type 0 where
@@ -68,16 +91,24 @@ pub record IsBadListing (s : SourceChange) (status : ℕ) (text : List ℕ) : Ty
   pub came : CameJob s job
   pub first : job_refusal job ≡ Some (refusal status text)
 
--- Why the call answers with this status and text, leaving out whether the text could be written. Each cause has its own
--- status; a refused listing has that of its fault, 3, 4, 8 or 12. Nothing but a report, and want of memory, has made an area.
-pub data IsCause (run : Bool) (s : SourceChange) (before after : Account) (status : ℕ) (text : List ℕ) : Type 0 where
-  Report : (status ≡ 0) × (run ≡ true) → IsReport s before after text → IsCause run s before after status text
-  Usage : (status ≡ 1) × (run ≡ false) × (text ≡ usage_line) × (s.rest ≡ s.left) × (s.later ≡ s.faults) → after ≡ before → IsCause run s before after status text
-  BadJob : (status ≡ 2) × (run ≡ true) → IsBadJob s text → after ≡ before → IsCause run s before after status text
-  BadListing : run ≡ true → IsBadListing s status text → after ≡ before → IsCause run s before after status text
-  LargeInput : (status ≡ 4) × (run ≡ true) × (text ≡ too_large_input_line) × HasMoreThan s.left input_limit × (s.later ≡ s.faults) → after ≡ before → IsCause run s before after status text
-  ReadFault : (status ≡ 5) × (run ≡ true) × (text ≡ read_fault_line) × Rose s.faults s.later → after ≡ before → IsCause run s before after status text
-  WantOfMemory : (status ≡ 7) × (run ≡ true) × (text ≡ no_memory_line) → IsCause run s before after status text
+-- Why no job with its tables was come to. Each cause has its own status; a refused listing has that of its fault, 3, 4, 8
+-- or 12.
+pub data IsStopped (s : SourceChange) (status : ℕ) (text : List ℕ) : Type 0 where
+  BadJob : status ≡ 2 → IsBadJob s text → IsStopped s status text
+  LargeJob : status ≡ 4 → IsLargeJob s text → IsStopped s status text
+  BadListing : IsBadListing s status text → IsStopped s status text
+  LargeInput : (status ≡ 4) × (text ≡ too_large_input_line) × HasMoreThan s.left input_limit × (s.later ≡ s.faults) → IsStopped s status text
+  ReadFault : (status ≡ 5) × (text ≡ read_fault_line) × Rose s.faults s.later → IsStopped s status text
+  WantOfMemory : (status ≡ 7) × (text ≡ no_memory_line) → IsStopped s status text
+
+-- Why the call answers with this status and text, leaving out whether the text could be written. Nothing but a report, and
+-- want of memory in a run, has made an area.
+pub data IsCause (c : Command) (s : SourceChange) (before after : Account) (status : ℕ) (text : List ℕ) : Type 0 where
+  Report : (status ≡ 0) × (c ≡ Run) → IsReport s before after text → IsCause c s before after status text
+  Places : (status ≡ 0) × (c ≡ Table) → IsPlacesText s text → after ≡ before → IsCause c s before after status text
+  Usage : (status ≡ 1) × (c ≡ Unknown) × (text ≡ usage_line) × (s.rest ≡ s.left) × (s.later ≡ s.faults) → after ≡ before → IsCause c s before after status text
+  Stopped : reads_job c ≡ true → IsStopped s status text → after ≡ before → IsCause c s before after status text
+  NoMemoryToRun : (status ≡ 7) × (c ≡ Run) × (text ≡ no_memory_line) → IsCause c s before after status text
 
 -- the text was written whole, or its first bytes where the sink failed
 abbrev pub IsWritten : ℕ → List ℕ → Option (List ℕ) → Option (List ℕ) → ℕ → ℕ → ℕ → Type 0
@@ -85,19 +116,21 @@ IsWritten status text before after faults later answer =
     ((answer ≡ status) × Appends before after text × (later ≡ faults)) ⊎ ((answer ≡ 6) × AppendsSome before after text × Rose faults later)
 
 -- the call's answer
-pub record Answers (run : Bool) (s : SourceChange) (before after : Account) (written written' : Option (List ℕ)) (faults later : ℕ) (answer : ℕ) : Type 0 where
+pub record Answers (c : Command) (s : SourceChange) (before after : Account) (written written' : Option (List ℕ)) (faults later : ℕ) (answer : ℕ) : Type 0 where
   pub status : ℕ
   pub text : List ℕ
-  pub cause : IsCause run s before after status text
+  pub cause : IsCause c s before after status text
   pub told : IsWritten status text written written' faults later answer
 
 -- where no fault of source or sink was counted, the status is that of the words and bytes, or 7
-pub record IsComplete (run : Bool) (s : SourceChange) (faults later answer : ℕ) : Type 0 where
-  pub usage : run ≡ false → (Rose faults later → ⊥) → answer ≡ 1
-  pub large : (bytes : List ℕ) → run ≡ true → s.left ≡ Some bytes → input_limit < length bytes → (Rose s.faults s.later → ⊥) → (Rose faults later → ⊥) → (answer ≡ 4) ⊎ (answer ≡ 7)
-  pub bad_job : (bytes : List ℕ) (n : ℕ) → run ≡ true → s.left ≡ Some bytes → length bytes ≤ input_limit → IsFirstBad (lines_of bytes) n →
+pub record IsComplete (c : Command) (s : SourceChange) (faults later answer : ℕ) : Type 0 where
+  pub usage : reads_job c ≡ false → (Rose faults later → ⊥) → answer ≡ 1
+  pub large : (bytes : List ℕ) → reads_job c ≡ true → s.left ≡ Some bytes → input_limit < length bytes → (Rose s.faults s.later → ⊥) → (Rose faults later → ⊥) → (answer ≡ 4) ⊎ (answer ≡ 7)
+  pub bad_job : (bytes : List ℕ) (n : ℕ) → reads_job c ≡ true → s.left ≡ Some bytes → length bytes ≤ input_limit → IsBadAt (lines_of bytes) n →
       (Rose s.faults s.later → ⊥) → (Rose faults later → ⊥) → (answer ≡ 2) ⊎ (answer ≡ 7)
-  pub refused : (bytes : List ℕ) (j : JobView) (r : RefusalView) → run ≡ true → s.left ≡ Some bytes → length bytes ≤ input_limit → SpellsFirst (lines_of bytes) j → job_refusal j ≡ Some r →
+  pub large_job : (bytes : List ℕ) (what : Limit) (n : ℕ) → reads_job c ≡ true → s.left ≡ Some bytes → length bytes ≤ input_limit → IsOverAt (lines_of bytes) what n →
+      (Rose s.faults s.later → ⊥) → (Rose faults later → ⊥) → (answer ≡ 4) ⊎ (answer ≡ 7)
+  pub refused : (bytes : List ℕ) (j : JobView) (r : RefusalView) → reads_job c ≡ true → s.left ≡ Some bytes → length bytes ≤ input_limit → Spells (lines_of bytes) j → IsWithin j → job_refusal j ≡ Some r →
       (Rose s.faults s.later → ⊥) → (Rose faults later → ⊥) → (answer ≡ r.status) ⊎ (answer ≡ 7)
-  pub matched : (bytes : List ℕ) (j : JobView) → run ≡ true → s.left ≡ Some bytes → length bytes ≤ input_limit → SpellsFirst (lines_of bytes) j → job_refusal j ≡ None →
+  pub matched : (bytes : List ℕ) (j : JobView) → reads_job c ≡ true → s.left ≡ Some bytes → length bytes ≤ input_limit → Spells (lines_of bytes) j → IsWithin j → job_refusal j ≡ None →
       (Rose s.faults s.later → ⊥) → (Rose faults later → ⊥) → (answer ≡ 0) ⊎ (answer ≡ 7)

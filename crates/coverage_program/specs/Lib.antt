@@ -5,6 +5,5 @@ pub mod Refusals
 pub mod Refused
 pub mod Runs
 pub mod Sets
-pub mod Single
 pub mod Tasks
 pub mod Words

@@ -5,7 +5,8 @@ use Rattle.listing_reader.specs.declared.lines.ListFault.{ListFault}
 use Rattle.listing_reader.specs.declared.lines.ListFault.TheVariants as list
 use Rattle.brk_table.specs.declared.faults.BuildFault.{BuildFault}
 use Rattle.brk_table.specs.declared.faults.BuildFault.TheVariants as fault
-use Rattle.coverage_program.specs.Refusals.{RefusalView, list_refusal, build_refusal}
+use Rattle.coverage_program.specs.Refusals.{RefusalView, refusal, list_refusal, build_refusal}
+use Rattle.coverage_program.specs.Words.{no_memory_line}
 use Rattle.coverage_program.specs.declared.tables.Refused.{Refused}
 use Rattle.coverage_program.specs.declared.tables.Refused.TheVariants.{Told, NoMemory}
 
@@ -13,6 +14,11 @@ use Rattle.coverage_program.specs.declared.tables.Refused.TheVariants.{Told, NoM
 abbrev pub IsRefused : Option RefusalView → Refused → Type 0
 IsRefused first (Told r) = first ≡ Some r
 IsRefused first NoMemory = Unit {0}
+
+-- as it is told
+abbrev pub refused_refusal : Refused → RefusalView
+refused_refusal (Told r) = r
+refused_refusal NoMemory = refusal 7 no_memory_line
 
 abbrev pub list_refused : List ℕ → ListFault → Refused
 list_refused name list.NoMemory = NoMemory

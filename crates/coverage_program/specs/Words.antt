@@ -1,10 +1,25 @@
 -- The words of a command, and the lines that a refusal is told by.
-use Rattle.std.specs.Prelude.{ℕ, Bool, false, List, [], ◌∷◌, ◌++◌, bytes_eq, codes, decimal}
+use Rattle.std.specs.Prelude.{ℕ, Bool, true, false, if◌then◌else◌, List, [], ◌∷◌, ◌++◌, bytes_eq, codes, decimal}
+use Rattle.job_text.specs.declared.limit.Limit.{Limit}
+use Rattle.job_text.specs.declared.limit.Limit.TheVariants as limit
+use Rattle.coverage_program.specs.declared.words.Command.{Command}
+use Rattle.coverage_program.specs.declared.words.Command.TheVariants.{Run, Table, Unknown}
 
--- the words are `run` alone
-abbrev pub is_run : List (List ℕ) → Bool
-is_run (w ∷ []) = bytes_eq w (codes "run")
-is_run words = false
+-- the command that the words are: one word alone
+abbrev pub command_of : List (List ℕ) → Command
+command_of (w ∷ []) = if bytes_eq w (codes "run") then Run else (if bytes_eq w (codes "table") then Table else Unknown)
+command_of words = Unknown
+
+-- as it is served without areas
+abbrev pub without_areas : Command → Command
+without_areas Run = Unknown
+without_areas Table = Table
+without_areas Unknown = Unknown
+
+abbrev pub reads_job : Command → Bool
+reads_job Run = true
+reads_job Table = true
+reads_job Unknown = false
 
 abbrev pub usage_line : List ℕ
 usage_line = codes "USAGE: run | marks NAME | trial NUMBER TASKS | table | replay | combine | show NAME\n"
@@ -21,3 +36,19 @@ no_memory_line = codes "NO MEMORY\n"
 -- a line of a job by its number
 abbrev pub bad_job_line : ℕ → List ℕ
 bad_job_line n = codes "BAD JOB LINE " ++ decimal n ++ 10 ∷ []
+
+abbrev pub limit_name : Limit → List ℕ
+limit_name limit.Input = codes "INPUT"
+limit_name limit.Modules = codes "MODULES"
+limit_name limit.Size = codes "SIZE"
+limit_name limit.Line = codes "LINE"
+limit_name limit.Places = codes "PLACES"
+limit_name limit.Phases = codes "PHASES"
+limit_name limit.Sessions = codes "SESSIONS"
+limit_name limit.Tasks = codes "TASKS"
+limit_name limit.Private = codes "PRIVATE"
+limit_name limit.Budget = codes "BUDGET"
+limit_name limit.Room = codes "ROOM"
+
+abbrev pub large_job_line : Limit → ℕ → List ℕ
+large_job_line what n = codes "TOO LARGE " ++ limit_name what ++ codes " LINE " ++ decimal n ++ 10 ∷ []

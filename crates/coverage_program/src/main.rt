@@ -5,6 +5,7 @@ mod cover;
 mod lines;
 mod outcome;
 mod phase;
+mod ready;
 mod refusals;
 mod status;
 mod tables;

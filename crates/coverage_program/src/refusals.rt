@@ -1,7 +1,7 @@
 //! The refusals of listings.
 ghost use Rattle.std.specs.Prelude.{◌≡◌, ◌≢◌, ℕ, ◌+◌, ◌-◌, ◌<◌, ◌≤◌, ◌^◌, ◌++◌, [], length, codes, decimal, get_or, take};
 ghost use Rattle.arrayvec.specs.ArrayVec.{array_vec_len};
-ghost use Rattle.coverage_program.specs.Refusals.{line_text, bad_listing, list_refusal, build_refusal, code_text, mismatch_text, location_of};
+ghost use Rattle.coverage_program.specs.Refusals.{refusal, line_text, bad_listing, list_refusal, build_refusal, code_text, mismatch_text, location_of};
 
 use annotator::text::{add_hex, add_number, add_text};
 use arrayvec::ArrayVec;
@@ -25,6 +25,16 @@ impl Model for Refusal {
     ghost Value = { RefusalView };
 
     ghost view = { λ r. record { status = r.status; line = r.line.items } };
+}
+
+/// A refusal by its whole line, of at most 160 bytes.
+pub fn plain_refusal(status: u8, line: &[u8]) -> Refusal
+    requires { length line.now ≤ 160 }
+    ensures { result ≡ refusal status line.now }
+{
+    let mut text = ArrayVec::new();
+    add_text(&mut text, line);
+    Refusal { status, line: text }
 }
 
 /// A line on line n of a module's listing; `why` has at most 80 bytes, `what` at most 20.

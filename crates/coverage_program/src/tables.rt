@@ -1,27 +1,50 @@
 //! The tables of a job's listings, or the first fault of these.
-ghost use Rattle.std.specs.Prelude.{◌≡◌, ◌≢◌, ℕ, ◌+◌, ◌≤◌, Some, None, [], ◌∷◌, length, IfOk, IfErr, All};
-ghost use Rattle.cov_base.specs.Memory.{ImageView};
-ghost use Rattle.module_area.specs.Images.{IsImage};
+ghost use Rattle.std.specs.Prelude.{◌≡◌, ◌≢◌, ℕ, ◌+◌, ◌≤◌, ◌<◌, None, option_map, ◌∷◌, length, drop, IfOk, IfErr, IfSome, All};
+ghost use Rattle.module_area.specs.Images.{IsImage, AreImages};
+ghost use Rattle.listing_reader.specs.Listing.{listing_of};
 ghost use Rattle.brk_table.specs.Build.{HasOwnPlaces};
-ghost use Rattle.brk_table.specs.Places.{IsIn};
-ghost use Rattle.coverage_program.specs.Refusals.{listing_refusal, IsTableOf, job_refusal, Match};
-ghost use Rattle.coverage_program.specs.Single.{IsSingle};
+ghost use Rattle.brk_table.specs.Places.{IsIn, all_places};
+ghost use Rattle.brk_table.specs.Together.{AreTables};
+ghost use Rattle.report_text.specs.Conditions.{HasFewLines};
+ghost use Rattle.coverage_program.specs.Refusals.{listing_refusal, IsTableOf, job_refusal, places_in, Match};
 ghost use Rattle.coverage_program.specs.Refused.{IsRefused, list_refused, build_refused};
 
 use crate::refusals::{Refusal, build_refusal, list_refusal};
 use brk_table::{BuildFault, Table, Tables, build};
-use cov_base::Name;
+use cov_base::{Name, NoMemory};
 use listing_lines::ListingLine;
 use listing_reader::{Line, ListFault, read_listing};
 use module_area::Image;
 use session_book::Job;
-use std::alloc::Global;
+use std::alloc::{AllocFailed, Global};
 
 /// Why there are no tables.
 #[derive(Drop)]
 pub enum Refused {
     Told(Refusal),
     NoMemory,
+}
+
+impl<T: Drop> From<AllocFailed<T>> for Refused {
+    ghost use Rattle.std.specs.Prelude.{◌≡◌};
+    ghost use Rattle.coverage_program.specs.declared.tables.Refused.TheVariants.{NoMemory as Wanting};
+
+    ghost from_gives = { λ _ e. e ≡ Wanting };
+
+    fn from(_: AllocFailed<T>) -> Self {
+        Refused::NoMemory
+    }
+}
+
+impl From<NoMemory> for Refused {
+    ghost use Rattle.std.specs.Prelude.{◌≡◌};
+    ghost use Rattle.coverage_program.specs.declared.tables.Refused.TheVariants.{NoMemory as Wanting};
+
+    ghost from_gives = { λ _ e. e ≡ Wanting };
+
+    fn from(_: NoMemory) -> Self {
+        Refused::NoMemory
+    }
 }
 
 fn list_refused(name: &Name, fault: ListFault) -> Refused
@@ -56,6 +79,7 @@ fn table_of(
     ensures faultless { IfOk result (λ _. listing_refusal image.now room texts.now ≡ None) }
     ensures table { IfOk result (λ t. IsTableOf m image.now texts.now t) }
     ensures own { IfOk result (λ t. HasOwnPlaces m image.now t) }
+    ensures count { IfOk result (λ t. length t.places ≡ places_in (listing_of texts.now)) }
     ensures room { IfOk result (λ t. length t.places ≤ room) }
 {
     let lines = match read_listing(alloc, texts) {
@@ -68,39 +92,65 @@ fn table_of(
     }
 }
 
-fn only_image(job: &Job) -> &Image
-    requires { IsSingle job.now }
-    ensures value { job.now.images ≡ result.now ∷ [] }
-    ensures image { IsImage result.now }
+/// The number of the job's modules.
+fn module_count(job: &Job) -> u32
+    ensures value { result ≡ length job.now.images }
+    ensures listings { length job.now.listings ≡ result }
+    ensures images { AreImages job.now.images }
 {
-    &job.images.0[0]
+    job.images.0.len() as u32
 }
 
-fn only_listing(job: &Job) -> &[ListingLine]
-    requires { IsSingle job.now }
-    ensures value { job.now.listings ≡ Some result.now ∷ [] }
-    ensures few { length result.now ≤ 16777216 }
+/// Module m of the job.
+fn image_at(job: &Job, m: u32) -> &Image
+    requires { m < length job.now.images }
+    ensures value { drop m job.now.images ≡ result.now ∷ drop (m + 1) job.now.images }
+    ensures image { IsImage result.now }
 {
-    match &job.listings[0] {
-        Some(lines) => &lines.0,
-        None => unreachable!(),
+    &job.images.0[m as usize]
+}
+
+/// The listing of module m, where it has one.
+fn listing_at(job: &Job, m: u32) -> Option<&[ListingLine]>
+    requires exists { m < length job.now.images }
+    requires few { HasFewLines job.now }
+    ensures value { drop m job.now.listings ≡ option_map (λ texts. texts.now) result ∷ drop (m + 1) job.now.listings }
+    ensures few { IfSome result (λ texts. length texts.now ≤ 16777216) }
+{
+    match &job.listings[m as usize] {
+        Some(lines) => Some(&lines.0),
+        None => None,
     }
+}
+
+/// The tables of a job's listings in the order of its modules, or their first fault.
+fn tables_in_order(alloc: Global, job: &Job) -> Result<Vec<Table>, Refused>
+    requires { HasFewLines job.now }
+    ensures refused { IfErr result (IsRefused (job_refusal job.now)) }
+    ensures matching { IfOk result (λ tables. Match job.now tables.items) }
+    ensures images { IfOk result (λ _. AreImages job.now.images) }
+    ensures tables { IfOk result (λ tables. AreTables job.now.images tables.items) }
+{
+    let mut tables = Vec::new(alloc);
+    let mut room = 65_536;
+    for m in 0..module_count(job) {
+        if let Some(texts) = listing_at(job, m) {
+            let table = table_of(alloc, m, image_at(job, m), texts, room)?;
+            room -= table.places.len() as u32;
+            tables.push(table)?;
+        }
+    }
+    Ok(tables)
 }
 
 /// The tables of a job's listings, or their first fault.
 pub fn tables_of(alloc: Global, job: &Job) -> Result<Tables, Refused>
-    requires { IsSingle job.now }
+    requires { HasFewLines job.now }
     ensures refused { IfErr result (IsRefused (job_refusal job.now)) }
     ensures matching { IfOk result (λ t. Match job.now t.tables) }
+    ensures numbered { IfOk result (λ t. t.places ≡ all_places t.tables) }
     ensures places { IfOk result (λ t. All (IsIn job.now.images) t.places) }
 {
-    let table = table_of(alloc, 0, only_image(job), only_listing(job), 65_536)?;
-    let mut tables = Vec::new(alloc);
-    if tables.push(table).is_err() {
-        return Err(Refused::NoMemory);
-    }
-    match Tables::of(alloc, tables) {
-        Ok(tables) => Ok(tables),
-        Err(_) => Err(Refused::NoMemory),
-    }
+    let tables = tables_in_order(alloc, job)?;
+    Ok(Tables::of(alloc, tables)?)
 }

@@ -1,5 +1,7 @@
 //! Jobs through `cover`, from the bytes in to the bytes out, over memory and over areas on one thread.
 mod cases;
+mod modules;
+mod places;
 mod programs;
 
 use crate::cover::cover;

@@ -1,10 +1,31 @@
 //! The words of the command line.
 ghost use Rattle.std.specs.Prelude.{◌≡◌, map, string_bytes};
-ghost use Rattle.coverage_program.specs.Words.{is_run};
+ghost use Rattle.coverage_program.specs.Words.{command_of};
 
-/// Whether the words are `run` alone.
-pub fn is_run(words: &[String]) -> bool
-    ensures { result ≡ is_run (map string_bytes words.now) }
+/// What the words ask for.
+#[derive(Clone, Copy, Debug, PartialEq, Eq)]
+pub enum Command {
+    /// `run`: the report of a job.
+    Run,
+    /// `table`: the places of its modules.
+    Table,
+    /// Any other words.
+    Unknown,
+}
+
+/// The command that the words are.
+pub fn command_of(words: &[String]) -> Command
+    ensures { result ≡ command_of (map string_bytes words.now) }
 {
-    words.len() == 1 && words[0].as_str() == "run"
+    if words.len() != 1 {
+        return Command::Unknown;
+    }
+    let word = words[0].as_str();
+    if word == "run" {
+        Command::Run
+    } else if word == "table" {
+        Command::Table
+    } else {
+        Command::Unknown
+    }
 }

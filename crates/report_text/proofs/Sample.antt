@@ -1,7 +1,7 @@
 -- A sample report, computed: three instructions that ran, and the same module before any ran.
 use Rattle.std.proofs.Common.{◌≡◌, ℕ, Some, None, List, [], ◌∷◌, zero, suc, true, false, replicate, refl, codes}
 use Rattle.cov_base.specs.FactSet.{FactSet}
-use Rattle.cov_base.specs.declared.facts.Kind.TheVariants.{Straight}
+use Rattle.cov_base.specs.declared.facts.Kind.TheVariants.{Straight, Conditional}
 use Rattle.module_area.specs.declared.places.Place.{Place}
 use Rattle.brk_table.specs.Places.{TablesView}
 use Rattle.s370_state.specs.declared.endings.Ending.TheVariants.{Returned, Exit, Abend, BadSvc, Touched, OutFull, Spent}
@@ -9,6 +9,7 @@ use Rattle.session_book.specs.JobView.{JobView}
 use Rattle.session_book.specs.Results.{ResultView}
 use Rattle.report_text.specs.Report.{report_lines}
 use Rattle.report_text.specs.Sessions.{run_line, count_line, session_line, module_part}
+use Rattle.report_text.specs.Table.{place_line, module_line, table_lines}
 use Rattle.report_text.specs.Tasks.{ending_words, task_line, register_line, state_lines, output_lines, storage_line, row_lines, storage_lines}
 use Rattle.std.specs.Fmt.{digits}
 
@@ -102,3 +103,31 @@ endings = refl
 forty : output_lines (replicate 40 193) ≡ (codes "OUT 40" ∷ codes "C1C1C1C1C1C1C1C1C1C1C1C1C1C1C1C1C1C1C1C1C1C1C1C1C1C1C1C1C1C1C1C1" ∷ codes "C1C1C1C1C1C1C1C1" ∷ [])
 unfolding output_lines digits
 forty = refl
+
+-- three modules: one whose listing has two places, one without a listing, and one whose listing is a heading alone
+abbrev three : JobView
+three = record job {
+  images = record { name = codes "M       "; base = 1048576; bytes = 70 ∷ 16 ∷ 240 ∷ 0 ∷ 7 ∷ 254 ∷ [] }
+      ∷ record { name = codes "N       "; base = 1048584; bytes = 7 ∷ 254 ∷ [] }
+      ∷ record { name = codes "O       "; base = 1048592; bytes = 7 ∷ 254 ∷ [] } ∷ [];
+  listings = Some (heading ∷ codes "000000 4610 F000                      1          BCT" ∷ codes "000004 07FE                           2          BR" ∷ [])
+      ∷ None ∷ Some (heading ∷ []) ∷ [];
+}
+
+abbrev tables_of_three : TablesView
+tables_of_three = record {
+  tables = record { «module» = 0; places = record (place 1048576 4 17936) { kind = Conditional } ∷ place 1048580 2 2046 ∷ []; lines = None ∷ Some 0 ∷ Some 1 ∷ [] }
+      ∷ record { «module» = 2; places = []; lines = None ∷ [] } ∷ [];
+  places = record (place 1048576 4 17936) { kind = Conditional } ∷ place 1048580 2 2046 ∷ [];
+}
+
+sample-table : table_lines three tables_of_three ≡ (
+    codes "COVERAGE TABLE"
+    ∷ codes "MODULE M PLACES 2"
+    ∷ codes "PLACE 000000 4 C 4610"
+    ∷ codes "PLACE 000004 2 S 07FE"
+    ∷ codes "MODULE O PLACES 0"
+    ∷ codes "END"
+    ∷ [])
+unfolding place_line module_line digits
+sample-table = refl

@@ -8,10 +8,14 @@ use Rattle.session_book.specs.JobView.{JobView}
 use Rattle.session_book.specs.Results.{ResultView}
 use Rattle.session_book.specs.Sessions.{session_of, task_of}
 
--- each place lies in its module, and lines of listings have numbers
+-- each line of a listing has a number
+abbrev pub HasFewLines : JobView → Type 0
+HasFewLines job = All (λ listing. IfSome listing (λ lines. length lines ≤ 16777216)) job.listings
+
+-- each place lies in its module
 pub record AreTablesOf (job : JobView) (tables : TablesView) : Type 0 where
   pub within : All (IsIn job.images) tables.places
-  pub lines : All (λ listing. IfSome listing (λ lines. length lines ≤ 16777216)) job.listings
+  pub lines : HasFewLines job
 
 -- one for each task of the job, with private storage of its card's size
 pub record AreResultsOf (job : JobView) (tasks : ℕ) (results : ℕ → ResultView) : Type 0 where

@@ -1,6 +1,7 @@
 //! The report's text: what each task has come to, and what each session's executions show of its modules.
 #![tactic(auto)]
 
+mod places;
 mod sessions;
 mod storage;
 mod tasks;
@@ -8,6 +9,7 @@ mod whole;
 mod words;
 mod writing;
 
+pub use places::table;
 pub use sessions::session_part;
 pub use tasks::task_part;
 pub use whole::report;

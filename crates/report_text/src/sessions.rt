@@ -140,7 +140,7 @@ fn count_possible(kind: Kind) -> u32
 }
 
 /// A place's location in its module.
-fn location(job: &Job, place: &Place) -> u32
+pub fn location(job: &Job, place: &Place) -> u32
     requires { IsIn job.now.images place.now }
     ensures value { result ≡ location_of job.now place.now }
     ensures below { result < 16777216 }
@@ -289,7 +289,7 @@ fn runs_part<K: Sink, R: FactSets>(
 }
 
 /// A module's name.
-fn module_name(job: &Job, m: u32) -> &Name
+pub fn module_name(job: &Job, m: u32) -> &Name
     requires { m < length job.now.images }
     ensures { result.now ≡ (module_of job.now m).name }
 {

@@ -19,7 +19,7 @@ use cov_outside::{Failed, Sink};
 use session_book::{FactSets, Job, Results};
 
 /// A line of these words.
-fn words_line(words: &[u8]) -> ArrayVec<u8, 160>
+pub fn words_line(words: &[u8]) -> ArrayVec<u8, 160>
     requires { length words.now ≤ 100 }
     ensures { result.items ≡ words.now ++ 10 ∷ [] }
 {

@@ -1,0 +1,112 @@
+//! The job that a source gives, and the tables of its listings.
+ghost use Rattle.std.specs.Prelude.{◌≡◌, ◌≤◌, length, IfOk, IfErr, All};
+ghost use Rattle.brk_table.specs.Places.{IsIn, all_places};
+ghost use Rattle.job_text.specs.Limits.{IsWithin};
+ghost use Rattle.job_text.specs.Lines.{lines_of};
+ghost use Rattle.job_text.specs.Spells.{Spells};
+ghost use Rattle.report_text.specs.Conditions.{HasFewLines};
+ghost use Rattle.coverage_program.specs.Answers.{SourceChange, CameWhole, CameJob, IsStopped, fault_refusal};
+ghost use Rattle.coverage_program.specs.Refusals.{job_refusal, Match};
+ghost use Rattle.coverage_program.specs.Refused.{IsRefused, refused_refusal};
+
+use crate::lines::{NO_MEMORY, READ_FAULT, TOO_LARGE_INPUT, bad_job_line, large_job_line};
+use crate::refusals::{Refusal, plain_refusal};
+use crate::tables::{Refused, tables_of};
+use brk_table::Tables;
+use cov_outside::{ReadFault, Source, read_all};
+use job_text::jobs::JobFault;
+use job_text::read_whole_job;
+use session_book::Job;
+use std::alloc::Global;
+
+/// The most bytes of input.
+const INPUT_LIMIT: usize = 16_777_216;
+
+/// A job whose listings match, and their tables.
+#[derive(Drop)]
+pub struct Ready {
+    pub job: Job,
+    pub tables: Tables,
+}
+
+/// Reads the source to its end.
+fn read_input<S: Source>(alloc: Global, source: &mut S) -> Result<Vec<u8>, Refusal>
+    ensures bytes { IfOk result (λ v. CameWhole (record { left = S.left source.old; rest = S.left source.new; faults = S.faults source.old; later = S.faults source.new }) v.items) }
+    ensures stopped { IfErr result (λ r. IsStopped (record { left = S.left source.old; rest = S.left source.new; faults = S.faults source.old; later = S.faults source.new }) r.status r.line) }
+{
+    match read_all(alloc, source, INPUT_LIMIT) {
+        Ok(bytes) => Ok(bytes),
+        Err(ReadFault::Failed) => Err(plain_refusal(5, READ_FAULT)),
+        Err(ReadFault::TooLarge) => Err(plain_refusal(4, TOO_LARGE_INPUT)),
+        Err(ReadFault::NoMemory) => Err(plain_refusal(7, NO_MEMORY)),
+    }
+}
+
+fn fault_refusal(fault: JobFault) -> Refusal
+    ensures { result ≡ fault_refusal fault }
+{
+    match fault {
+        JobFault::BadJob { line } => Refusal {
+            status: 2,
+            line: bad_job_line(line),
+        },
+        JobFault::TooLarge { what, line } => Refusal {
+            status: 4,
+            line: large_job_line(what, line),
+        },
+        JobFault::NoMemory => plain_refusal(7, NO_MEMORY),
+    }
+}
+
+/// Reads the job that the whole input spells.
+fn read_job(alloc: Global, bytes: &[u8]) -> Result<Job, Refusal>
+    requires { length bytes.now ≤ 16777216 }
+    ensures job { IfOk result (Spells (lines_of bytes.now)) }
+    ensures within { IfOk result IsWithin }
+    ensures few { IfOk result HasFewLines }
+    ensures stopped { (s : SourceChange) → CameWhole s bytes.now → IfErr result (λ r. IsStopped s r.status r.line) }
+{
+    match read_whole_job(alloc, bytes) {
+        Ok(job) => Ok(job),
+        Err(fault) => Err(fault_refusal(fault)),
+    }
+}
+
+fn refused_refusal(refused: Refused) -> Refusal
+    ensures { result ≡ refused_refusal refused }
+{
+    match refused {
+        Refused::Told(refusal) => refusal,
+        Refused::NoMemory => plain_refusal(7, NO_MEMORY),
+    }
+}
+
+/// Makes the tables of a job that was read.
+fn read_tables(alloc: Global, job: &Job) -> Result<Tables, Refusal>
+    requires { HasFewLines job.now }
+    ensures matching { IfOk result (λ t. Match job.now t.tables) }
+    ensures numbered { IfOk result (λ t. t.places ≡ all_places t.tables) }
+    ensures places { IfOk result (λ t. All (IsIn job.now.images) t.places) }
+    ensures stopped { (s : SourceChange) → CameJob s job.now → IfErr result (λ r. IsStopped s r.status r.line) }
+{
+    match tables_of(alloc, job) {
+        Ok(tables) => Ok(tables),
+        Err(refused) => Err(refused_refusal(refused)),
+    }
+}
+
+/// Reads the source to its end, the job that its bytes spell, and the tables of the job's listings; or the first
+/// refusal of these, in this order.
+pub fn make_ready<S: Source>(alloc: Global, source: &mut S) -> Result<Ready, Refusal>
+    ensures came { IfOk result (λ r. CameJob (record { left = S.left source.old; rest = S.left source.new; faults = S.faults source.old; later = S.faults source.new }) r.job) }
+    ensures few { IfOk result (λ r. HasFewLines r.job) }
+    ensures matching { IfOk result (λ r. Match r.job r.tables.tables) }
+    ensures numbered { IfOk result (λ r. r.tables.places ≡ all_places r.tables.tables) }
+    ensures places { IfOk result (λ r. All (IsIn r.job.images) r.tables.places) }
+    ensures stopped { IfErr result (λ r. IsStopped (record { left = S.left source.old; rest = S.left source.new; faults = S.faults source.old; later = S.faults source.new }) r.status r.line) }
+{
+    let bytes = read_input(alloc, source)?;
+    let job = read_job(alloc, &bytes)?;
+    let tables = read_tables(alloc, &job)?;
+    Ok(Ready { job, tables })
+}

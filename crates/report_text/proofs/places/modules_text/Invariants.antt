@@ -1,0 +1,8 @@
+use Rattle.std.proofs.Common.{◌-◌, length}
+use Rattle.report_text.specs.Table.{table_part}
+use Rattle.report_text.specs.Text.{lines_from}
+use Rattle.report_text.proofs.WriteLemmas.{Progress}
+use Rattle.report_text.proofs.places.modules_text.Given as goal
+
+abbrev pub invariant-loop-m : goal.invariant-loop-m
+invariant-loop-m g l = Progress (g.K.Sink.written l.initial.sink) (g.K.Sink.written l.sink) (g.K.Sink.faults l.initial.sink) (g.K.Sink.faults l.sink) (lines_from (table_part l.job l.tables) l.m (length l.job.images - l.m)) (lines_from (table_part l.job l.tables) 0 (length l.job.images))

@@ -1,0 +1,44 @@
+-- The places of the monitored modules as a text.
+use Rattle.std.specs.Prelude.{ℕ, Bool, if◌then◌else◌, None, is_some, List, [], ◌∷◌, ◌++◌, length, get_or, codes, decimal}
+use Rattle.annotator.specs.Digits.{hex_digits}
+use Rattle.cov_base.specs.Names.{unpadded}
+use Rattle.cov_base.specs.declared.facts.Kind.{Kind}
+use Rattle.cov_base.specs.declared.facts.Kind.TheVariants.{Straight, Conditional}
+use Rattle.module_area.specs.PlanView.{place_of}
+use Rattle.module_area.specs.declared.places.Place.{Place}
+use Rattle.brk_table.specs.Places.{TablesView, first_place, place_count}
+use Rattle.session_book.specs.JobView.{JobView}
+use Rattle.report_text.specs.Sessions.{module_of, location_of}
+use Rattle.report_text.specs.Text.{text_of, lines_from}
+
+abbrev pub kind_letter : Kind → List ℕ
+kind_letter Straight = codes "S"
+kind_letter Conditional = codes "C"
+
+-- of a place by its location: the length, the kind and the original halfword
+unfoldable pub place_line : ℕ → Place → List ℕ
+place_line location p = codes "PLACE " ++ hex_digits 6 location ++ codes " " ++ decimal p.len ++ codes " " ++ kind_letter p.kind ++ codes " " ++ hex_digits 4 p.original
+
+abbrev pub place_part : JobView → List Place → ℕ → List (List ℕ)
+place_part job places n = place_line (location_of job (place_of places n)) (place_of places n) ∷ []
+
+unfoldable pub module_line : List ℕ → ℕ → List ℕ
+module_line name count = codes "MODULE " ++ unpadded name ++ codes " PLACES " ++ decimal count
+
+-- of a module whose places are so many from the first on
+abbrev pub places_part : JobView → TablesView → ℕ → ℕ → ℕ → List (List ℕ)
+places_part job tables m first count = module_line (module_of job m).name count ∷ lines_from (place_part job tables.places) first count
+
+-- a module is monitored where it has a listing
+abbrev pub is_monitored : JobView → ℕ → Bool
+is_monitored job m = is_some (get_or job.listings m None)
+
+abbrev pub table_part : JobView → TablesView → ℕ → List (List ℕ)
+table_part job tables m = if is_monitored job m then places_part job tables m (first_place tables.tables m) (place_count tables.tables m) else []
+
+-- modules in the order of the job, places in that of their numbers
+abbrev pub table_lines : JobView → TablesView → List (List ℕ)
+table_lines job tables = codes "COVERAGE TABLE" ∷ (lines_from (table_part job tables) 0 (length job.images) ++ (codes "END" ∷ []))
+
+abbrev pub table_text : JobView → TablesView → List ℕ
+table_text job tables = text_of (table_lines job tables)
