@@ -1,5 +1,5 @@
 -- What the program answers with, cause by cause.
-use Rattle.std.proofs.Common.{◌≡◌, ℕ, true, Option, List, length, refl, ap}
+use Rattle.std.proofs.Common.{ℕ, true, Option, List, length, refl, ap}
 use Rattle.module_area.specs.declared.places.Place.{Place}
 use Rattle.brk_table.specs.Places.{TablesView}
 use Rattle.session_book.specs.JobView.{JobView}

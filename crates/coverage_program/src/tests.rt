@@ -1,5 +1,6 @@
 //! Jobs through `cover`, from the bytes in to the bytes out, over memory and over areas on one thread.
 mod cases;
+mod phases;
 
 use crate::cover::cover;
 use crate::status::Status;
