@@ -171,8 +171,9 @@ complete c s before after w w' faults later answer a =
       usage = λ f quiet. same quiet ∙ usage_case c s before after a.status a.text a.cause f;
       large = λ b t e l q quiet. either answer a.status 4 7 (same quiet) (large_case s a.status a.text b (came t) e l q);
       bad_job = λ b n t e l bad q quiet. either answer a.status 2 7 (same quiet) (bad_case s a.status a.text b n (came t) e l bad q);
-      refused = λ b j r t e l spells some q quiet. either answer a.status r.status 7 (same quiet) (refused_case s a.status a.text b j r (came t) e l spells some q);
-      matched = λ b j t e l spells none q quiet. either answer a.status 0 7 (same quiet) (matched_case s a.status a.text b j (came t) e l spells none q);
+      large_job = λ b what n t e l over q quiet. either answer a.status 4 7 (same quiet) (over_case s a.status a.text b what n (came t) e l over q);
+      refused = λ b j r t e l spells within some q quiet. either answer a.status r.status 7 (same quiet) (refused_case s a.status a.text b j r (came t) e l spells within some q);
+      matched = λ b j t e l spells within none q quiet. either answer a.status 0 7 (same quiet) (matched_case s a.status a.text b j (came t) e l spells within none q);
     }
 
 -- areas of which nothing is known

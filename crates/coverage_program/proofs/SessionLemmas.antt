@@ -1,7 +1,7 @@
 -- The sets of a job's sessions.
-use Rattle.std.proofs.Common.{◌≡◌, ◌≢◌, ◌⊎◌, inl, inr, ℕ, ◌+◌, ◌-◌, ◌*◌, ◌<◌, ◌≤◌, zero, suc, Bool, true, false, ◌&&◌, ◌||◌, nat_eq, nat_lt, if◌then◌else◌, List, [], ◌∷◌, ◌++◌, length, get_or, map, All, AllPairs, refl, sym, ◌∙◌, ap, subst, arith}
+use Rattle.std.proofs.Common.{◌≡◌, ℕ, ◌+◌, ◌-◌, ◌<◌, ◌≤◌, zero, suc, Bool, true, false, nat_eq, nat_lt, List, [], ◌∷◌, ◌++◌, length, get_or, All, AllPairs, refl, sym, ◌∙◌, ap, subst, arith}
 use Rattle.std.specs.List.{list_any, flat_map}
-use Rattle.std.proofs.lemmas.Bool.{and_parts, both_ways, eqb-true, ltb-true, cond_both, or_cases}
+use Rattle.std.proofs.lemmas.Bool.{and_parts, both_ways, eqb-true, ltb-true}
 use Rattle.std.proofs.lemmas.Bool.Decides.{nat_tests}
 use Rattle.std.proofs.lemmas.List.{get_or-map}
 use Rattle.std.proofs.lemmas.List.Concat.{flat_map-cons}
@@ -18,7 +18,6 @@ use Rattle.module_area.specs.declared.places.Place.{Place}
 use Rattle.task_run.proofs.SetLemmas.{facts_of_all-one}
 use Rattle.session_book.specs.JobView.{JobView, SessionView, IsJob, IsSession, AreParted}
 use Rattle.session_book.specs.Sessions.{session_of, no_session, observes, window_from, window_of, plan_view, traces_from}
-use Rattle.coverage_program.specs.Areas.{EndsArea}
 use Rattle.coverage_program.specs.Runs.{Account, HasLeft, joined, phase_trace, set_of, trace_of}
 use Rattle.coverage_program.specs.Sets.{SetsView, IsSized, no_finals, set_in}
 use Rattle.coverage_program.specs.Outcomes.{IsOutcome}

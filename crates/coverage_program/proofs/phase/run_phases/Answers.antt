@@ -1,4 +1,4 @@
-use Rattle.std.proofs.Common.{◌≡◌, ℕ, ◌+◌, ◌<◌, ◌++◌, ◌∷◌, [], List, length, subst, sym, arith}
+use Rattle.std.proofs.Common.{◌≡◌, ℕ, ◌+◌, ◌<◌, List, length, subst, sym, arith}
 use Rattle.module_area.specs.FinalsView.{FinalsView}
 use Rattle.coverage_program.specs.Tasks.{AreRun}
 use Rattle.coverage_program.proofs.PhaseLemmas.{HasRunTo, HasRunTo-next, HasRunTo-all}
