@@ -1,6 +1,6 @@
-use Rattle.std.proofs.Common.{◌≡◌, ◌+◌, ◌-◌, ◌∷◌, [], ◌++◌, length, sym, ap, ◌∙◌, subst, arith}
+use Rattle.std.proofs.Common.{◌≡◌, length, ap, arith}
 use Rattle.brk_table.specs.Places.{TableView}
-use Rattle.coverage_program.proofs.TableLemmas.{TablesBefore, tables_skip, tables_more, tables_match}
+use Rattle.coverage_program.proofs.TableLemmas.{tables_skip, tables_more, tables_match}
 use Rattle.coverage_program.proofs.tables.tables_in_order.Goals as goal
 use Rattle.coverage_program.proofs.tables.tables_in_order.Goals.{in-Some+in_ok-table+in_ok-push, in_default}
 
