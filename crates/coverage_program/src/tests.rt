@@ -1,5 +1,6 @@
 //! Jobs through `cover`, from the bytes in to the bytes out, over memory and over areas on one thread.
 mod cases;
+mod jobs;
 mod modules;
 mod places;
 mod programs;
@@ -8,9 +9,12 @@ use crate::cover::cover;
 use crate::status::Status;
 use cases::CASES;
 use cov_outside::{MemSink, MemSource, SureSink, SureSource};
+use jobs::JOBS;
 use module_area::{Areas, PlainAreas, Tally};
 use programs::PROGRAMS;
 use std::alloc::Global;
+use std::process::Abort;
+use std::slice::from_ref;
 use std::test::Fail;
 
 const HEAD: &[u8] =
@@ -61,7 +65,7 @@ fn run(
     let words = run_words(alloc)?;
     let mut source = MemSource::new(job, 64, bad_reads);
     let mut sink = MemSink::new(alloc, 4096, 4096, bad_writes).map_err(|_| "memory")?;
-    let mut areas = PlainAreas::new(alloc, 1).map_err(|_| "memory")?;
+    let mut areas = PlainAreas::new(alloc, 16).map_err(|_| "memory")?;
     let status = cover(alloc, &words, &mut source, &mut sink, &mut areas);
     Ok(Came {
         status,
@@ -170,11 +174,11 @@ fn answers_over_devices_that_never_fail(rt: HostRuntime) -> Result<(), Fail> {
     let words = run_words(alloc)?;
     let mut source = SureSource::new(job(alloc, b"4110 0005", b"100", b"ENDJOB\n")?, 64);
     let mut sink = SureSink::new();
-    let mut areas = PlainAreas::new(alloc, 1).map_err(|_| "memory")?;
+    let mut areas = PlainAreas::new(alloc, 16).map_err(|_| "memory")?;
     let status = cover(alloc, &words, &mut source, &mut sink, &mut areas);
     assert_eq!(rt; status, Status(0));
     let none = Vec::new(alloc);
-    let mut others = PlainAreas::new(alloc, 1).map_err(|_| "memory")?;
+    let mut others = PlainAreas::new(alloc, 16).map_err(|_| "memory")?;
     let refused = cover(alloc, &none, &mut source, &mut sink, &mut others);
     assert_eq!(rt; refused, Status(1));
     Ok(())
@@ -193,21 +197,46 @@ fn answers_each_job(rt: HostRuntime) -> Result<(), Fail> {
     Ok(())
 }
 
+/// The counts of a tally but for those of closes, which are 0.
+fn counts(t: &Tally) -> (u64, u64, u64, u64) {
+    (t.plants, t.fetches, t.marks, t.lifts)
+}
+
+/// Each job has this text and these tallies, where they are given.
+fn runs_each(
+    rt: &impl Abort,
+    alloc: Global,
+    name: &str,
+    job: &[u8],
+    tallies: Option<&[(u64, u64, u64, u64)]>,
+    text: &[u8],
+) -> Result<(), Fail> {
+    let came = run(alloc, job.to_vec(alloc)?, Vec::new(alloc), Vec::new(alloc))?;
+    assert_eq!(rt; came.text.as_slice(), text, "{name}");
+    assert_eq!(rt; came.status, Status(0), "{name}");
+    assert_eq!(rt; came.made, came.tallies.len() as u64, "{name}");
+    assert!(rt; came.tallies.iter().all(|t| t.closes == 0), "{name}");
+    if let Some(expected) = tallies {
+        assert_eq!(rt; came.tallies.len(), expected.len(), "{name}");
+        for (t, e) in came.tallies.iter().zip(expected.iter()) {
+            assert_eq!(rt; counts(t), *e, "{name}");
+        }
+    }
+    Ok(())
+}
+
 #[test]
 fn runs_each_program(rt: HostRuntime) -> Result<(), Fail> {
-    let alloc = rt.alloc();
     for (name, job, tally, text) in &PROGRAMS {
-        let came = run(alloc, job.to_vec(alloc)?, Vec::new(alloc), Vec::new(alloc))?;
-        assert_eq!(rt; came.text.as_slice(), *text, "{name}");
-        assert_eq!(rt; came.status, Status(0), "{name}");
-        assert_eq!(rt; came.made, 1, "{name}");
-        let [t] = came.tallies.as_slice() else {
-            return Err(Fail::from("one tally"));
-        };
-        if let Some(counts) = tally {
-            assert_eq!(rt; (t.plants, t.fetches, t.marks, t.lifts), *counts, "{name}");
-        }
-        assert_eq!(rt; t.closes, 0, "{name}");
+        runs_each(&rt, rt.alloc(), name, job, tally.as_ref().map(from_ref), text)?;
+    }
+    Ok(())
+}
+
+#[test]
+fn runs_each_whole_job(rt: HostRuntime) -> Result<(), Fail> {
+    for (name, job, tallies, text) in &JOBS {
+        runs_each(&rt, rt.alloc(), name, job, *tallies, text)?;
     }
     Ok(())
 }
