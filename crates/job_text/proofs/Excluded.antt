@@ -134,7 +134,6 @@ one_over ls a b m n p q = elim (cases_order m n) [
 abbrev pub IsFew : ℕ → Option (List (List ℕ)) → Type 0
 IsFew n o = IfSome o (λ t. length t ≤ n)
 
-
 listed_few : (n : ℕ) (ls : List LineView) (o : Option (List (List ℕ))) → IsListed ls o → length ls ≤ n → IsFew n o
 listed_few n ls None is h = tt
 listed_few n [] (Some texts) is h = absurd is

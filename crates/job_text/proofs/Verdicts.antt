@@ -134,10 +134,13 @@ ends_early ls n s d h e within f =
     record {
       counts = omega arith;
       before = rw same (goes_on (take n ls) s e within);
-      here = inr (omega (arith, all), λ job p.
-        let r : Reaches start ls (Is kind.Done job) = run_spelled ls job p in
-        let end : r.end ≡ s = some_same r.end s (sym r.runs ∙ (rw whole at e)) in
-        let no : true ≡ false = sym (ap is_done r.holds.at) ∙ (ap (λ (t : State). is_done t.part) end ∙ f) in absurd cc);
+      here = inr (
+        omega (arith, all),
+        λ job p.
+            let r : Reaches start ls (Is kind.Done job) = run_spelled ls job p in
+            let end : r.end ≡ s = some_same r.end s (sym r.runs ∙ (rw whole at e)) in
+            let no : true ≡ false = sym (ap is_done r.holds.at) ∙ (ap (λ (t : State). is_done t.part) end ∙ f) in absurd cc,
+      );
     }
 
 -- a job that was read stands still

@@ -227,11 +227,11 @@ are_indices j [] used ms e u = let same : used ≡ ms = cc in rw (← same) (rec
 are_indices j (n ∷ ns) used ms e u = by (put_index j used (index_of j n)) refl e (λ next. are_indices j ns next ms)
   where
     by : (o : Option (List ℕ)) → put_index j used (index_of j n) ≡ o → indices_on j o ns ≡ Some ms → ((next : List ℕ) → indices_on j (Some next) ns ≡ Some ms → AreUsed j next → Indices j next ms (length ns)) →
-      Indices j used ms (length (n ∷ ns))
+        Indices j used ms (length (n ∷ ns))
     by (Some next) f g more =
-      let p : Indices j used next 1 = index_put j used next (index_of j n) n refl f u in
-      let r : Indices j next ms (length ns) = more next g p.are in
-      record { are = r.are; length = omega (arith, p.length, r.length) }
+        let p : Indices j used next 1 = index_put j used next (index_of j n) n refl f u in
+        let r : Indices j next ms (length ns) = more next g p.are in
+        record { are = r.are; length = omega (arith, p.length, r.length) }
     by None f g more = absurd (no_indices j ns ms g)
 
 and_false : (a b : Bool) → (a && b) ≡ false → a ≡ true → b ≡ false
@@ -243,8 +243,8 @@ parted_of phase sessions s t at free same =
     let here : nat_eq s.phase phase ≡ true = rw (same, at) (grind (arith, nat_tests)) in
     λ k d l. list_any_none (nat_eq (get_or s.modules k d)) t.modules
     (λ i e h. let off : list_any (nat_eq (get_or t.modules i e)) s.modules ≡ false = and_false (nat_eq s.phase phase) _ (free i e h) here in
-      let other : nat_eq (get_or t.modules i e) (get_or s.modules k d) ≡ false = none_of (nat_eq (get_or t.modules i e)) s.modules off k d l in
-      grind (arith, nat_tests, other))
+    let other : nat_eq (get_or t.modules i e) (get_or s.modules k d) ≡ false = none_of (nat_eq (get_or t.modules i e)) s.modules off k d l in
+    grind (arith, nat_tests, other))
 
 session_so_far : (j after : JobView) (name : List ℕ) (names : List (List ℕ)) → with_session j name names ≡ Some after → 1 ≤ length names → 1 ≤ length j.phases → SoFar j → SoFar after
 session_so_far j after name names e some phases s =
@@ -363,17 +363,17 @@ job_keeps ls job p within =
       are_sessions = s.are_sessions;
       parted = s.parted;
       are_tasks = λ k d l.
-      let t : IsTaskSoFar (length job.phases) (get_or job.tasks k d) = s.are_tasks k d l in
-        record {
-          phase = t.phase;
-          entry = t.entry;
-          private = at_most _ 1048576 (AllPass-from_list_all _ job.tasks (within limit.Private) k d l);
-          some = t.some;
-          budget = at_most _ 50000000 (AllPass-from_list_all _ job.tasks (within limit.Budget) k d l);
-          room = at_most _ 65536 (AllPass-from_list_all _ job.tasks (within limit.Room) k d l);
-          regs = t.regs;
-          cards = t.cards;
-        };
+          let t : IsTaskSoFar (length job.phases) (get_or job.tasks k d) = s.are_tasks k d l in
+          record {
+            phase = t.phase;
+            entry = t.entry;
+            private = at_most _ 1048576 (AllPass-from_list_all _ job.tasks (within limit.Private) k d l);
+            some = t.some;
+            budget = at_most _ 50000000 (AllPass-from_list_all _ job.tasks (within limit.Budget) k d l);
+            room = at_most _ 65536 (AllPass-from_list_all _ job.tasks (within limit.Room) k d l);
+            regs = t.regs;
+            cards = t.cards;
+          };
       module_names = s.module_names;
       phase_names = s.phase_names;
       session_names = s.session_names;

@@ -141,9 +141,6 @@ abbrev pub run : State → List LineView → Option State
 run st [] = Some st
 run st (l ∷ ls) = option_and_then (λ s. run s ls) (step st l)
 
-abbrev pub job_of : State → Option JobView
-job_of st = if is_done st.part then Some st.job else None
-
 abbrev pub open_modules : Part → ℕ
 open_modules (part.Texts i left) = 1
 open_modules (part.Listed i left lines) = 1

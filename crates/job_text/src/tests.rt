@@ -1,4 +1,6 @@
 //! Inputs that are jobs of the first form, and inputs that aren't, with the first line that is bad.
+mod jobs;
+
 use crate::{JobFault, read_first_form};
 use std::alloc::{AllocError, Global};
 use std::test::Fail;
