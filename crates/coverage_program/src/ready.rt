@@ -14,8 +14,7 @@ use crate::refusals::{Refusal, plain_refusal};
 use crate::tables::{Refused, tables_of};
 use brk_table::Tables;
 use cov_outside::{ReadFault, Source, read_all};
-use job_text::jobs::JobFault;
-use job_text::read_whole_job;
+use job_text::{JobFault, read_whole_job};
 use session_book::Job;
 use std::alloc::Global;
 

@@ -1,14 +1,10 @@
 pub mod Adding
 pub mod CardView
 pub mod Cards
-pub mod Faults
-pub mod First
 pub mod Limits
 pub mod Lines
-pub mod Machine
 pub mod Refusals
 pub mod Spells
-pub mod States
 pub mod Steps
 pub mod TaskParts
 pub mod Tasks

@@ -8,9 +8,6 @@ use Rattle.job_text.specs.declared.task.TaskPart.{TaskPart}
 use Rattle.job_text.specs.declared.task.TaskStage.{TaskStage}
 use Rattle.job_text.specs.declared.task.TaskStage.TheVariants as stage
 
-abbrev pub is_within : ℕ → ℕ → ℕ → Bool
-is_within private budget room = nat_le private 1048576 && nat_le budget 50000000 && nat_le room 65536
-
 abbrev pub part : TaskView → TaskStage → TaskPart
 part task stage = record { task = task; stage = stage }
 

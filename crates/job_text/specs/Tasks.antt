@@ -49,29 +49,3 @@ task_view name entry private budget room regs cards input = record {
   cards = cards;
   input = input;
 }
-
--- TASK, and then REG, DATA and INPUT cards, of each kind as many as wanted
-pub record SpellsTask (lines : List LineView) (task : TaskView) : Type 0 where
-  -- the lines, in order
-  pub task_line : LineView
-  pub reg_lines : List LineView
-  pub data_lines : List LineView
-  pub input_lines : List LineView
-  pub whole : lines ≡ task_line ∷ (reg_lines ++ (data_lines ++ input_lines))
-  -- what they say
-  pub name : List ℕ
-  pub entry : ℕ
-  pub private : ℕ
-  pub budget : ℕ
-  pub room : ℕ
-  pub regs : List RegView
-  pub cards : List DataView
-  pub inputs : List (List ℕ)
-  pub task_card : IsCard task_line (Task name entry private budget room)
-  pub most_private : private ≤ 1048576
-  pub most_budget : budget ≤ 50000000
-  pub most_room : room ≤ 65536
-  pub are_regs : AreRegs 0 regs reg_lines
-  pub are_data : AreData private cards data_lines
-  pub are_inputs : AreInputs inputs input_lines
-  pub is_task : task ≡ task_view name entry private budget room (set_regs (first_regs entry) regs) cards (concat inputs)

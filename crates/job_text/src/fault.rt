@@ -1,15 +1,6 @@
-//! Why an input is no job.
+//! Why a line is not taken.
 
 use std::alloc::{AllocError, AllocFailed};
-
-/// What ends the reading of a job.
-#[derive(Clone, Copy, Debug, PartialEq, Eq)]
-pub enum JobFault {
-    /// The first line, counted from 1, with which no job continues; one more than the number of lines where the
-    /// input ends early.
-    BadJob { line: u32 },
-    NoMemory,
-}
 
 /// Why a line isn't taken.
 #[derive(Drop)]

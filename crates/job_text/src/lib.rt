@@ -5,13 +5,10 @@ mod card;
 mod cards;
 mod drafts;
 mod fault;
-mod first;
-pub mod jobs;
+mod jobs;
 mod limit;
 mod lines;
 mod parts;
-mod progress;
-mod reader;
 mod refused;
 mod steps;
 mod task;
@@ -19,9 +16,7 @@ mod words;
 
 pub use card::{Card, RegCard};
 pub use cards::read_card;
-pub use fault::JobFault;
-pub use first::read_first_form;
-pub use jobs::{ReadJob, read_job, read_whole_job};
+pub use jobs::{JobFault, ReadJob, read_job, read_whole_job};
 pub use limit::Limit;
 
 #[cfg(test)]

@@ -28,13 +28,6 @@ pub(crate) struct TaskPart {
     pub stage: TaskStage,
 }
 
-/// Whether the numbers of a TASK card are within their limits.
-pub(crate) fn is_within(private: u32, budget: u32, room: u32) -> bool
-    ensures { result ≡ parts.is_within private budget room }
-{
-    private <= 1_048_576 && budget <= 50_000_000 && room <= 65_536
-}
-
 /// The task of a TASK card.
 pub(crate) fn fresh_task(
     alloc: Global,

@@ -1,7 +1,7 @@
 //! Inputs that are jobs of the first form, and inputs that aren't, with the first line that is bad.
 mod jobs;
 
-use crate::{JobFault, read_first_form};
+use crate::{JobFault, read_whole_job};
 use std::alloc::{AllocError, Global};
 use std::test::Fail;
 
@@ -24,14 +24,15 @@ const LINES: [&[u8]; 16] = [
     b"ENDJOB",
 ];
 
-/// The bad line; 0 where the input is a job.
+/// The bad line; 0 where the input is a job, and 10,000 more where the line passes a limit.
 fn bad_line(alloc: Global, input: &[u8]) -> u32 {
     if input.len() > 16_777_216 {
         return 99_999;
     }
-    match read_first_form(alloc, input) {
+    match read_whole_job(alloc, input) {
         Ok(_) => 0,
         Err(JobFault::BadJob { line }) => line,
+        Err(JobFault::TooLarge { what: _, line }) => 10_000 + line % 10_000,
         Err(JobFault::NoMemory) => 99_998,
     }
 }
@@ -55,7 +56,7 @@ fn reads_the_job(rt: HostRuntime) -> Result<(), Fail> {
     let a = rt.alloc();
     let input = with_line(a, 0, b"")?;
     assert!(rt; input.len() <= 1_000);
-    match read_first_form(a, &input) {
+    match read_whole_job(a, &input) {
         Ok(job) => {
             assert_eq!(rt; job.images.0.len(), 1);
             assert_eq!(rt;
@@ -101,13 +102,13 @@ fn refuses_neighbours_exchanged(rt: HostRuntime) -> Result<(), Fail> {
             input.extend_from_slice(LINES[from])?;
             input.push(b'\n')?;
         }
-        // the listing takes the card that comes into it, and its own lines in any order; of the cards behind TASK the
-        // earlier one is no longer taken
+        // the listing takes the card that comes into it, and its own lines in any order; of SESSION and TASK, and of the
+        // cards behind TASK, the earlier one is no longer taken
         let bad = if n == 7 {
             9
         } else if is_listing(n) {
             0
-        } else if n >= 11 {
+        } else if n == 9 || n >= 11 {
             n as u32 + 2
         } else {
             n as u32 + 1
@@ -143,10 +144,10 @@ fn refuses_lines_that_are_missing_or_doubled(rt: HostRuntime) -> Result<(), Fail
     for n in 0..16 {
         let line = LINES[n];
         let missing = with_line(a, n + 1, b"")?;
-        // a listing without one of its lines takes the PHASE card; REG, DATA and INPUT cards may be none
+        // a listing without one of its lines takes the PHASE card; SESSION, REG, DATA and INPUT cards may be none
         let lacks = if is_listing(n) {
             9
-        } else if 11 <= n && n < 15 {
+        } else if n == 9 || (11 <= n && n < 15) {
             0
         } else {
             n as u32 + 1
@@ -193,15 +194,15 @@ const CASES: [(usize, &[u8], u32); 72] = [
     (2, b"MODULE M 100000 08\n", 2),
     (2, b"MODULE M 100000 0\n", 2),
     (2, b"MODULE M 100000 7\n", 2),
-    (2, b"MODULE M 100000 66\n", 2),
-    (2, b"MODULE M 100000 64\n", 3),
-    (2, b"MODULE M 100000 10\n", 3),
+    (2, b"MODULE M 100000 66\n", 4),
+    (2, b"MODULE M 100000 64\n", 4),
+    (2, b"MODULE M 100000 10\n", 4),
     (2, b"MODULE M 100000 6\n", 3),
-    (3, b"TEXT 411000051A1107\n", 3),
+    (3, b"TEXT 411000051A1107\n", 4),
     (3, b"TEXT 411000051A1107F\n", 3),
     (3, b"TEXT 411000051A1107FG\n", 3),
     (3, b"TEXT 411000051A114110\n", 0),
-    (3, b"TEXT 41100005\nTEXT 1A1107FE\n", 3),
+    (3, b"TEXT 41100005\nTEXT 1A1107FE\n", 0),
     (3, b"TEXT 411000051a1107fe\n", 0),
     (4, b"LISTING 3\n", 8),
     (4, b"LISTING 0\n", 5),
@@ -220,9 +221,9 @@ const CASES: [(usize, &[u8], u32); 72] = [
     (10, b"SESSION S X\n", 10),
     (10, b"SESSION S M M\n", 10),
     (10, b"SESSION S\n", 10),
-    (11, b"TASK A 100000 1048577 100 0\n", 11),
-    (11, b"TASK A 100000 16 50000001 0\n", 11),
-    (11, b"TASK A 100000 16 100 65537\n", 11),
+    (11, b"TASK A 100000 1048577 100 0\n", 10_011),
+    (11, b"TASK A 100000 16 50000001 0\n", 10_011),
+    (11, b"TASK A 100000 16 100 65537\n", 10_011),
     (11, b"TASK A 100000 16 0 0\n", 11),
     (11, b"TASK A FFFFFF 1048576 50000000 65536\n", 0),
     (11, b"TASK A FFFFFF 80 1 0\n", 0),
@@ -241,8 +242,8 @@ const CASES: [(usize, &[u8], u32); 72] = [
     (12, b"REG 3 00000000\nREG 3 00000000\n", 13),
     (12, b"REG 3 00000000\nREG 4 00000000\n", 0),
     (13, b"REG 0 00000000\n", 13),
-    (16, b"TASK B 100000 16 100 0\nENDJOB\n", 16),
-    (16, b"PHASE Q\nENDJOB\n", 16),
+    (16, b"TASK B 100000 16 100 0\nENDJOB\n", 0),
+    (16, b"PHASE Q\nENDJOB\n", 0),
     (16, b"MODULE N 200000 8\nENDJOB\n", 16),
     (16, b"ENDJOB\n\n", 17),
 ];
@@ -288,7 +289,7 @@ const DATA_AND_INPUT: [(&[u8], u32); 48] = [
     (b"DATA 0 C1C2\nDATA 1 C3\nDATA 0 C4\nENDJOB\n", 0),
     (b"DATA 0 C1\nDATA 80 C1\nENDJOB\n", 15),
     (b"DATA 0 C1\nREG 15 00000000\nENDJOB\n", 15),
-    (b"DATA 0 C1\nTASK B 100000 16 100 0\nENDJOB\n", 15),
+    (b"DATA 0 C1\nTASK B 100000 16 100 0\nENDJOB\n", 0),
     (b"INPUT C1\nENDJOB\n", 0),
     (b"INPUT C1c2\nINPUT C3\nINPUT C3\nENDJOB\n", 0),
     (b"INPUT\nENDJOB\n", 14),
@@ -365,7 +366,7 @@ fn keeps_data_and_input_in_their_order(rt: HostRuntime) -> Result<(), Fail> {
         b"DATA 4 0102\nDATA 5 FF\nINPUT C1C2\nINPUT 00\nINPUT c3\nENDJOB\n",
     )?;
     assert!(rt; input.len() <= 1_000);
-    match read_first_form(a, &input) {
+    match read_whole_job(a, &input) {
         Ok(job) => {
             assert_eq!(rt; job.tasks.len(), 1);
             let task = &job.tasks[0];
@@ -397,8 +398,8 @@ fn takes_listing_lines_of_150_bytes(rt: HostRuntime) -> Result<(), Fail> {
     assert_eq!(rt; bad_line(a, &with_long_line(a, 150, b"\n")?), 0);
     assert_eq!(rt; bad_line(a, &with_long_line(a, 150, b"\r\n")?), 0);
     assert_eq!(rt; bad_line(a, &with_long_line(a, 149, b"\r\r\n")?), 0);
-    assert_eq!(rt; bad_line(a, &with_long_line(a, 151, b"\n")?), 5);
-    assert_eq!(rt; bad_line(a, &with_long_line(a, 150, b"\r\r\n")?), 5);
+    assert_eq!(rt; bad_line(a, &with_long_line(a, 151, b"\n")?), 10_005);
+    assert_eq!(rt; bad_line(a, &with_long_line(a, 150, b"\r\r\n")?), 10_005);
     Ok(())
 }
 
@@ -414,8 +415,8 @@ fn takes_a_last_line_without_its_end(rt: HostRuntime) -> Result<(), Fail> {
         for k in 1..line.len() {
             let mut cut = input.to_vec(a)?;
             cut.extend_from_slice(&line[..k])?;
-            // a part of a listing line is one
-            let more = is_listing(i);
+            // a part of a listing line is one, and so many whole bytes are a TEXT card
+            let more = is_listing(i) || (i == 2 && k > 5 && k % 2 == 1);
             assert_eq!(rt; bad_line(a, &cut), if more { n + 2 } else { n + 1 });
         }
         input.extend_from_slice(line)?;
