@@ -228,7 +228,14 @@ fn runs_each(
 #[test]
 fn runs_each_program(rt: HostRuntime) -> Result<(), Fail> {
     for (name, job, tally, text) in &PROGRAMS {
-        runs_each(&rt, rt.alloc(), name, job, tally.as_ref().map(from_ref), text)?;
+        runs_each(
+            &rt,
+            rt.alloc(),
+            name,
+            job,
+            tally.as_ref().map(from_ref),
+            text,
+        )?;
     }
     Ok(())
 }
