@@ -14,7 +14,6 @@ use module_area::{Areas, PlainAreas, Tally};
 use programs::PROGRAMS;
 use std::alloc::Global;
 use std::process::Abort;
-use std::slice::from_ref;
 use std::test::Fail;
 
 const HEAD: &[u8] =
@@ -228,14 +227,11 @@ fn runs_each(
 #[test]
 fn runs_each_program(rt: HostRuntime) -> Result<(), Fail> {
     for (name, job, tally, text) in &PROGRAMS {
-        runs_each(
-            &rt,
-            rt.alloc(),
-            name,
-            job,
-            tally.as_ref().map(from_ref),
-            text,
-        )?;
+        let tallies = match tally {
+            Some(tally) => Some(tally.as_slice()),
+            None => None,
+        };
+        runs_each(&rt, rt.alloc(), name, job, tallies, text)?;
     }
     Ok(())
 }
