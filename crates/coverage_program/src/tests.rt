@@ -201,45 +201,46 @@ fn counts(t: &Tally) -> (u64, u64, u64, u64) {
     (t.plants, t.fetches, t.marks, t.lifts)
 }
 
-/// Each job has this text and these tallies, where they are given.
-fn runs_each(
+/// Runs a job that has this text, and gives the tallies of its areas.
+fn runs(
     rt: &impl Abort,
     alloc: Global,
     name: &str,
     job: &[u8],
-    tallies: Option<&[(u64, u64, u64, u64)]>,
     text: &[u8],
-) -> Result<(), Fail> {
+) -> Result<Vec<Tally>, Fail> {
     let came = run(alloc, job.to_vec(alloc)?, Vec::new(alloc), Vec::new(alloc))?;
     assert_eq!(rt; came.text.as_slice(), text, "{name}");
     assert_eq!(rt; came.status, Status(0), "{name}");
     assert_eq!(rt; came.made, came.tallies.len() as u64, "{name}");
     assert!(rt; came.tallies.iter().all(|t| t.closes == 0), "{name}");
-    if let Some(expected) = tallies {
-        assert_eq!(rt; came.tallies.len(), expected.len(), "{name}");
-        for (t, e) in came.tallies.iter().zip(expected.iter()) {
-            assert_eq!(rt; counts(t), *e, "{name}");
+    Ok(came.tallies)
+}
+
+#[test]
+fn runs_each_program(rt: HostRuntime) -> Result<(), Fail> {
+    for (name, job, tally, text) in &PROGRAMS {
+        let tallies = runs(&rt, rt.alloc(), name, job, text)?;
+        assert_eq!(rt; tallies.len(), 1, "{name}");
+        if let Some(expected) = tally {
+            for t in &tallies {
+                assert_eq!(rt; counts(t), *expected, "{name}");
+            }
         }
     }
     Ok(())
 }
 
 #[test]
-fn runs_each_program(rt: HostRuntime) -> Result<(), Fail> {
-    for (name, job, tally, text) in &PROGRAMS {
-        let tallies = match tally {
-            Some(tally) => Some(tally.as_slice()),
-            None => None,
-        };
-        runs_each(&rt, rt.alloc(), name, job, tallies, text)?;
-    }
-    Ok(())
-}
-
-#[test]
 fn runs_each_whole_job(rt: HostRuntime) -> Result<(), Fail> {
-    for (name, job, tallies, text) in &JOBS {
-        runs_each(&rt, rt.alloc(), name, job, *tallies, text)?;
+    for (name, job, expected, text) in &JOBS {
+        let tallies = runs(&rt, rt.alloc(), name, job, text)?;
+        if let Some(expected) = expected {
+            assert_eq!(rt; tallies.len(), expected.len(), "{name}");
+            for (t, e) in tallies.iter().zip(expected.iter()) {
+                assert_eq!(rt; counts(t), *e, "{name}");
+            }
+        }
     }
     Ok(())
 }

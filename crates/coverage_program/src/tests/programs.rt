@@ -2,7 +2,7 @@
 
 /// What the job is, its text, its tally of plants, fetches, marks and lifts where the example gives one, and what is
 /// written. The status is 0.
-pub const PROGRAMS: [(&str, &[u8], Option<[(u64, u64, u64, u64); 1]>, &[u8]); 25] = [
+pub const PROGRAMS: [(&str, &[u8], Option<(u64, u64, u64, u64)>, &[u8]); 25] = [
     (
         "a count down to zero",
         b"\
@@ -18,7 +18,7 @@ SESSION S M\n\
 TASK A 100000 16 100 0\n\
 REG 1 00000003\n\
 ENDJOB\n",
-        Some([(2, 4, 4, 2)]),
+        Some((2, 4, 4, 2)),
         b"\
 COVERAGE REPORT\n\
 TASK A RETURNED COUNT 4 CC 0\n\
@@ -140,7 +140,7 @@ PHASE P\n\
 SESSION S M\n\
 TASK A 100000 16 100 0\n\
 ENDJOB\n",
-        Some([(3, 2, 1, 1)]),
+        Some((3, 2, 1, 1)),
         b"\
 COVERAGE REPORT\n\
 TASK A ABEND 3 COUNT 1 CC 0\n\
@@ -235,7 +235,7 @@ PHASE P\n\
 SESSION S M\n\
 TASK A 100002 16 100 0\n\
 ENDJOB\n",
-        Some([(2, 0, 0, 0)]),
+        Some((2, 0, 0, 0)),
         b"\
 COVERAGE REPORT\n\
 TASK A TOUCHED 100004 COUNT 1 CC 0\n\
@@ -642,7 +642,7 @@ PHASE P\n\
 SESSION S M\n\
 TASK A 100001 16 100 0\n\
 ENDJOB\n",
-        Some([(3, 0, 0, 0)]),
+        Some((3, 0, 0, 0)),
         b"\
 COVERAGE REPORT\n\
 TASK A ABEND 6 COUNT 1 CC 0\n\
