@@ -74,6 +74,17 @@ fn run(
     })
 }
 
+/// The tally of the first job, of which so many instructions were done.
+fn tally_of(done: u64) -> Tally {
+    Tally {
+        plants: 3,
+        fetches: done,
+        marks: done,
+        lifts: done,
+        closes: 0,
+    }
+}
+
 #[test]
 fn runs_the_first_job(rt: HostRuntime) -> Result<(), Fail> {
     let alloc = rt.alloc();
@@ -85,14 +96,7 @@ fn runs_the_first_job(rt: HostRuntime) -> Result<(), Fail> {
     )?;
     assert_eq!(rt; came.status, Status(0));
     assert_eq!(rt; came.text.as_slice(), REPORT);
-    let tally = Tally {
-        plants: 3,
-        fetches: 3,
-        marks: 3,
-        lifts: 3,
-        closes: 0,
-    };
-    assert_eq!(rt; came.tallies.as_slice(), [tally].as_slice());
+    assert_eq!(rt; came.tallies.as_slice(), [tally_of(3)].as_slice());
     assert_eq!(rt; came.made, 1);
     Ok(())
 }
@@ -107,6 +111,7 @@ fn tests_the_budget_after_the_return(rt: HostRuntime) -> Result<(), Fail> {
         Vec::new(alloc),
     )?;
     assert_eq!(rt; three.text.as_slice(), REPORT);
+    assert_eq!(rt; three.tallies.as_slice(), [tally_of(3)].as_slice());
     let two = run(
         alloc,
         job(alloc, b"4110 0005", b"2", b"ENDJOB\n")?,
@@ -115,6 +120,7 @@ fn tests_the_budget_after_the_return(rt: HostRuntime) -> Result<(), Fail> {
     )?;
     assert_eq!(rt; two.status, Status(0));
     assert_eq!(rt; two.text.as_slice(), SPENT_REPORT);
+    assert_eq!(rt; two.tallies.as_slice(), [tally_of(2)].as_slice());
     Ok(())
 }
 
@@ -132,7 +138,7 @@ fn refuses_by_name_and_makes_no_area(rt: HostRuntime) -> Result<(), Fail> {
         other.text.as_slice(),
         b"MISMATCH M LINE 2 LOC 000000 LISTING 41100006 MODULE 41100005\n".as_slice()
     );
-    assert_eq!(rt; other.made, 0);
+    assert_eq!(rt; (other.made, other.tallies.len()), (0, 0));
     let short = run(
         alloc,
         job(alloc, b"4110 0005", b"100", b"")?,
@@ -141,7 +147,7 @@ fn refuses_by_name_and_makes_no_area(rt: HostRuntime) -> Result<(), Fail> {
     )?;
     assert_eq!(rt; short.status, Status(2));
     assert_eq!(rt; short.text.as_slice(), b"BAD JOB LINE 12\n".as_slice());
-    assert_eq!(rt; short.made, 0);
+    assert_eq!(rt; (short.made, short.tallies.len()), (0, 0));
     Ok(())
 }
 
@@ -156,6 +162,7 @@ fn tells_faults_of_source_and_sink(rt: HostRuntime) -> Result<(), Fail> {
     )?;
     assert_eq!(rt; unread.status, Status(5));
     assert_eq!(rt; unread.text.as_slice(), b"READ FAULT\n".as_slice());
+    assert_eq!(rt; (unread.made, unread.tallies.len()), (0, 0));
     let unwritten = run(
         alloc,
         job(alloc, b"4110 0005", b"100", b"ENDJOB\n")?,
@@ -164,6 +171,8 @@ fn tells_faults_of_source_and_sink(rt: HostRuntime) -> Result<(), Fail> {
     )?;
     assert_eq!(rt; unwritten.status, Status(6));
     assert_eq!(rt; unwritten.text.as_slice(), b"COVERAGE REPORT\n".as_slice());
+    assert_eq!(rt; unwritten.made, 1);
+    assert_eq!(rt; unwritten.tallies.as_slice(), [tally_of(3)].as_slice());
     Ok(())
 }
 
