@@ -1,5 +1,5 @@
 -- What callers may conclude of lines: they spell a job within the limits, or one line of them is bad, or one passes a limit.
-use Rattle.std.proofs.Common.{◌≡◌, ◌⊎◌, ℕ, ◌+◌, ◌-◌, ◌<◌, ◌≤◌, zero, suc, true, false, Option, Some, None, List, [], ◌∷◌, ◌++◌, length, map, take, drop, IfSome, All, refl, ap, subst, sym, ◌∙◌, arith, append_assoc, inl, inr, take-append-drop, option_map}
+use Rattle.std.proofs.Common.{◌≡◌, ◌⊎◌, ℕ, ◌+◌, ◌-◌, ◌<◌, ◌≤◌, zero, suc, true, false, Option, Some, None, List, [], ◌∷◌, ◌++◌, length, map, take, drop, IfSome, All, refl, ap, subst, sym, ◌∙◌, arith, append_assoc, append-nil, inl, inr, take-append-drop, option_map}
 use Rattle.std.proofs.lemmas.Bool.{cases_order}
 use Rattle.std.proofs.lemmas.List.{length-map, length-append}
 use Rattle.std.proofs.lemmas.List.Elements.{All-append, All-cons, All-nil}
@@ -55,6 +55,23 @@ never_bad ls job n s b = elim b.here [
 pub never_over : (ls : List LineView) (job : JobView) (what : Limit) (n : ℕ) → Spells ls job → IsWithin job → IsOverAt ls what n → ⊥
 never_over ls job what n s within o =
     let over : keeps what job ≡ false = o.passes (drop n ls) job (spelled_take ls job n s) in
+    let no : true ≡ false = sym (within what) ∙ over in
+    absurd cc
+
+begins_whole : (ls : List LineView) (job : JobView) → Spells ls job → JobBegins ls
+begins_whole ls job s = record { rest = []; job = job; spells = rw (append-nil {A = LineView}) s }
+
+-- where some first lines spell a job a bad line comes behind them
+pub bad_later : (ls : List LineView) (job : JobView) (m n : ℕ) → m ≤ n → n ≤ length ls → Spells (take n ls) job → IsBadAt ls m → ⊥
+bad_later ls job m n h inside s b = elim b.here [
+  | inl w ↦ w.1 (begins_less ls m n h (begins_whole (take n ls) job s))
+  | inr w ↦ absurd (omega (arith, w.0, h, inside))
+]
+
+-- and where the job is within the limits so does one that passes a limit
+pub over_later : (ls : List LineView) (job : JobView) (what : Limit) (m n : ℕ) → m ≤ n → Spells (take n ls) job → IsWithin job → IsOverAt ls what m → ⊥
+over_later ls job what m n h s within o =
+    let over : keeps what job ≡ false = passes_later ls m n what h o.passes [] job (rw (append-nil {A = LineView}) s) in
     let no : true ≡ false = sym (within what) ∙ over in
     absurd cc
 

@@ -1,7 +1,7 @@
 -- What the reader's runs say of the lines.
 use Rattle.std.proofs.Common.{◌≡◌, ℕ, ◌+◌, ◌-◌, ◌<◌, ◌≤◌, zero, suc, Bool, true, false, Option, Some, None, List, [], ◌∷◌, ◌++◌, length, take, drop, refl, ap, subst, sym, ◌∙◌, arith, append_assoc, append-nil, option_map, option_and_then, inl, inr, take-append-drop}
 use Rattle.std.proofs.Math.Seq.{take-length}
-use Rattle.std.proofs.lemmas.Bool.{cases_order}
+use Rattle.std.proofs.lemmas.Bool.{cases_order, cases_lt}
 use Rattle.std.proofs.lemmas.List.{length-drop}
 use Rattle.session_book.specs.JobView.{JobView}
 use Rattle.job_text.specs.Lines.{LineView, lines_of, span, spans}
@@ -23,6 +23,7 @@ use Rattle.job_text.proofs.Spelled.{Reaches, Is, run_append, run_spelled, run_be
 use Rattle.job_text.proofs.Rests.{run_spells}
 use Rattle.job_text.proofs.Shortest.{sofar_at, sofar, run_begins}
 use Rattle.job_text.proofs.Growth.{Judged, step_grows, run_more}
+use Rattle.job_text.proofs.Excluded.{bad_later, over_later}
 
 -- the line at n, and the others behind it
 pub record At (ls : List LineView) (n : ℕ) (l : LineView) (more : List LineView) : Type 0 where
@@ -209,6 +210,33 @@ alone ls k n s job within r d h p =
     let t : run start (take n ls) ≡ Some s = (rw same at r) in
     let end : s ≡ x.end = some_same s x.end (sym t ∙ x.runs) in
     (ap (λ (y : State). y.job) end ∙ x.holds.is, same)
+
+-- none of the lines that were read ends a job
+none_yet : (ls : List LineView) (k n : ℕ) (s : State) (job : JobView) → k ≤ length ls → run start (take k ls) ≡ Some s → is_done s.part ≡ false → n ≤ k → Spells (take n ls) job → ⊥
+none_yet ls k n s job inside r d h p =
+    let x : Reaches start (take n ls) (Is kind.Done job) = run_spelled (take n ls) job p in
+    let done : is_done x.end.part ≡ true = ap is_done x.holds.at in
+    elim (cases_order n k) [
+      | inl e ↦ (let t : run start (take n ls) ≡ Some s = (rw (← e) at r) in
+          let end : s ≡ x.end = some_same s x.end (sym t ∙ x.runs) in
+          let no : true ≡ false = sym done ∙ (sym (ap (λ (y : State). is_done y.part) end) ∙ d) in
+          absurd cc)
+      | inr y ↦ (elim y [ inl l ↦ not_later ls n k x.end s l inside x.runs done r | inr l ↦ absurd (omega (arith, l, h)) ])
+    ]
+
+-- where the next line is bad no first lines spell a job
+pub bad_none : (ls : List LineView) (k n : ℕ) (s : State) (job : JobView) → k ≤ length ls → run start (take k ls) ≡ Some s → is_done s.part ≡ false → IsBadAt ls (k + 1) → n ≤ length ls → Spells (take n ls) job → ⊥
+bad_none ls k n s job inside r d b h p = elim (cases_lt k n) [
+  | inl l ↦ bad_later ls job (k + 1) n (omega (arith, l)) h p b
+  | inr l ↦ none_yet ls k n s job inside r d l p
+]
+
+-- where it passes a limit none spell one within the limits
+pub over_none : (ls : List LineView) (what : Limit) (k n : ℕ) (s : State) (job : JobView) → k ≤ length ls → run start (take k ls) ≡ Some s → is_done s.part ≡ false → IsOverAt ls what (k + 1) → Spells (take n ls) job → IsWithin job → ⊥
+over_none ls what k n s job inside r d o p within = elim (cases_lt k n) [
+  | inl l ↦ over_later ls job what (k + 1) n (omega (arith, l)) p within o
+  | inr l ↦ none_yet ls k n s job inside r d l p
+]
 
 -- and it is within the limits
 

@@ -1,5 +1,5 @@
 -- What reading a job gives, and when it ends with a refusal.
-use Rattle.std.specs.Prelude.{◌≡◌, ◌⊎◌, ℕ, ◌+◌, ◌-◌, ◌<◌, ◌≤◌, List, ◌++◌, length, take, drop}
+use Rattle.std.specs.Prelude.{◌≡◌, ◌⊎◌, ℕ, ◌+◌, ◌-◌, ◌<◌, ◌≤◌, Result, Ok, Err, List, ◌++◌, length, take, drop}
 use Rattle.session_book.specs.JobView.{JobView}
 use Rattle.job_text.specs.Lines.{LineView, lines_of}
 use Rattle.job_text.specs.Spells.{Spells, JobBegins}
@@ -16,6 +16,12 @@ pub record IsRead (input : List ℕ) (r : ReadJob) : Type 0 where
   pub count : length (lines_of (take r.end input)) ≡ r.lines
   pub spells : Spells (lines_of (take r.end input)) r.job
   pub within : IsWithin r.job
+
+-- The answer is this job, whose last line is line n, or want of memory: a job that was spelled is over, so that no line
+-- behind it is bad.
+abbrev pub IsOnly : ℕ → JobView → Result ReadJob JobFault → Type 0
+IsOnly n job (Ok r) = (r.job ≡ job) × (r.lines ≡ n)
+IsOnly n job (Err e) = e ≡ fault.NoMemory
 
 -- these lines begin a job and pass no limit
 pub record GoesOn (lines : List LineView) : Type 0 where

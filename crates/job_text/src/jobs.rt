@@ -3,7 +3,7 @@ ghost use Rattle.std.specs.Prelude.{◌≡◌, ℕ, ◌≤◌, IfOk, IfErr, leng
 ghost use Rattle.session_book.specs.JobView.{JobView};
 ghost use Rattle.job_text.specs.Lines.{lines_of};
 ghost use Rattle.job_text.specs.Limits.{IsWithin};
-ghost use Rattle.job_text.specs.Refusals.{IsRead, IsRefusal};
+ghost use Rattle.job_text.specs.Refusals.{IsRead, IsOnly, IsRefusal};
 ghost use Rattle.job_text.specs.Spells.{Spells};
 
 use crate::limit::Limit;
@@ -38,7 +38,7 @@ pub enum JobFault {
 pub fn read_job(alloc: Global, input: &[u8]) -> Result<ReadJob, JobFault>
     requires { length input.now ≤ 16777216 }
     ensures job { IfOk result (IsRead input.now) }
-    ensures only { (n : ℕ) (job : JobView) → n ≤ length (lines_of input.now) → Spells (take n (lines_of input.now)) job → IsWithin job → IfOk result (λ r. (r.job ≡ job) × (r.lines ≡ n)) }
+    ensures only { (n : ℕ) (job : JobView) → n ≤ length (lines_of input.now) → Spells (take n (lines_of input.now)) job → IsWithin job → IsOnly n job result }
     ensures fault { IfErr result (IsRefusal (lines_of input.now)) }
 {
     let mut reader = JobReader::new(alloc);

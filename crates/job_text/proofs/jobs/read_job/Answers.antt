@@ -3,7 +3,7 @@ use Rattle.std.proofs.lemmas.Bool.Decides.{nat_tests}
 use Rattle.job_text.specs.Lines.{lines_of}
 use Rattle.job_text.specs.Steps.{plain}
 use Rattle.job_text.proofs.Spans.{lines_count, nothing_left}
-use Rattle.job_text.proofs.Verdicts.{further, bad_here, over_here, ends_early, alone, spans_on, is_read, refused_bad, refused_over}
+use Rattle.job_text.proofs.Verdicts.{further, bad_here, over_here, ends_early, alone, bad_none, over_none, spans_on, is_read, refused_bad, refused_over}
 use Rattle.job_text.proofs.WholeJob.{read_keeps}
 use Rattle.job_text.proofs.jobs.read_job.Goals as goal
 
@@ -15,6 +15,10 @@ returns-in-Err-Bad-clause-fault c =
     bad_here (lines_of c.args.input.now) c.loop-rest.read _ _ (plain c.loop-rest.reader) (c.loop-rest.invariant.left ∙ c.first_line-line.ensures.line) c.loop-rest.invariant.runs c.loop-rest.invariant.kept
     (refused_bad _ c.in-Err-Bad.field-0 c.in-Err-Bad.field-0-is c.in-Err-Bad.ensures.err)
 
+pub returns-in-Err-Bad-clause-only : goal.returns-in-Err-Bad-clause-only
+returns-in-Err-Bad-clause-only c =
+    λ n job h p within. absurd (bad_none (lines_of c.args.input.now) c.loop-rest.read n (plain c.loop-rest.reader) job c.loop-rest.invariant.within c.loop-rest.invariant.runs c.loop-rest.invariant.reading (returns-in-Err-Bad-clause-fault c) h p)
+
 pub overflow_add-result-in-Err-TooLarge : goal.overflow_add-result-in-Err-TooLarge
 overflow_add-result-in-Err-TooLarge c = omega (arith, c.loop-rest.invariant.within, lines_count c.args.input.now, c.requires)
 
@@ -22,6 +26,12 @@ pub returns-in-Err-TooLarge-clause-fault : goal.returns-in-Err-TooLarge-clause-f
 returns-in-Err-TooLarge-clause-fault c =
     rw c.in-Err-TooLarge.field-0-is (over_here (lines_of c.args.input.now) c.loop-rest.read _ _ (plain c.loop-rest.reader) c.in-Err-TooLarge.what (c.loop-rest.invariant.left ∙ c.first_line-line.ensures.line) c.loop-rest.invariant.runs c.loop-rest.invariant.kept
     (refused_over _ c.in-Err-TooLarge.field-0 c.in-Err-TooLarge.what c.in-Err-TooLarge.field-0-is c.in-Err-TooLarge.ensures.err))
+
+pub returns-in-Err-TooLarge-clause-only : goal.returns-in-Err-TooLarge-clause-only
+returns-in-Err-TooLarge-clause-only c =
+    let over = over_here (lines_of c.args.input.now) c.loop-rest.read _ _ (plain c.loop-rest.reader) c.in-Err-TooLarge.what (c.loop-rest.invariant.left ∙ c.first_line-line.ensures.line) c.loop-rest.invariant.runs c.loop-rest.invariant.kept
+    (refused_over _ c.in-Err-TooLarge.field-0 c.in-Err-TooLarge.what c.in-Err-TooLarge.field-0-is c.in-Err-TooLarge.ensures.err) in
+    λ n job h p within. absurd (over_none (lines_of c.args.input.now) c.in-Err-TooLarge.what c.loop-rest.read n (plain c.loop-rest.reader) job c.loop-rest.invariant.within c.loop-rest.invariant.runs c.loop-rest.invariant.reading over p within)
 
 pub overflow_add-read : goal.overflow_add-read
 overflow_add-read c = omega (arith, c.loop-rest.invariant.within, lines_count c.args.input.now, c.requires)
@@ -73,3 +83,7 @@ pub returns-clause-fault : goal.returns-clause-fault
 returns-clause-fault c =
     let empty : length c.loop-rest.rest.now ≡ 0 = grind (arith, nat_tests, c.is_empty.ensures, c.loop-rest-test.false) in
     ends_early (lines_of c.args.input.now) c.loop-rest.read (plain c.loop-rest.reader) (c.loop-rest.invariant.left ∙ nothing_left c.loop-rest.rest.now empty) c.loop-rest.invariant.within c.loop-rest.invariant.runs c.loop-rest.invariant.kept c.loop-rest.invariant.reading
+
+pub returns-clause-only : goal.returns-clause-only
+returns-clause-only c =
+    λ n job h p within. absurd (bad_none (lines_of c.args.input.now) c.loop-rest.read n (plain c.loop-rest.reader) job c.loop-rest.invariant.within c.loop-rest.invariant.runs c.loop-rest.invariant.reading (returns-clause-fault c) h p)
