@@ -3,6 +3,7 @@ pub mod Excluded
 pub mod Growth
 pub mod Guards
 pub mod Indices
+pub mod ItemLemmas
 pub mod LineLemmas
 pub mod Numbers
 pub mod Rests

@@ -4,6 +4,7 @@ pub mod Cards
 pub mod Limits
 pub mod Lines
 pub mod Refusals
+pub mod Schedule
 pub mod Spells
 pub mod Steps
 pub mod TaskParts

@@ -10,6 +10,7 @@ mod limit;
 mod lines;
 mod parts;
 mod refused;
+mod schedule;
 mod steps;
 mod task;
 mod words;
@@ -18,6 +19,7 @@ pub use card::{Card, RegCard};
 pub use cards::read_card;
 pub use jobs::{JobFault, ReadJob, read_job, read_whole_job};
 pub use limit::Limit;
+pub use schedule::{Item, item_of};
 
 #[cfg(test)]
 mod tests;

@@ -1,4 +1,5 @@
 //! Inputs that are jobs of the first form, and inputs that aren't, with the first line that is bad.
+mod items;
 mod jobs;
 
 use crate::{JobFault, read_whole_job};

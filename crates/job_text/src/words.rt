@@ -9,7 +9,7 @@ use cov_base::{Addr, Name};
 use hex::FromHexError;
 use std::alloc::{AllocError, Global};
 
-fn first_blank(rest: &[u8]) -> Option<usize>
+pub(crate) fn first_blank(rest: &[u8]) -> Option<usize>
     ensures { result ≡ position (λ b. nat_eq b 32) rest.now }
 {
     rest.iter().position(|b| *b == b' ')

@@ -1,0 +1,90 @@
+//! The items of a schedule.
+ghost use Rattle.std.specs.Prelude.{◌≡◌, ◌<◌, ◌≤◌, IfSome, length, position};
+ghost use Rattle.std.specs.Str.{bytes_eq};
+ghost use Rattle.job_text.specs.Schedule as spell;
+
+use crate::words::{first_blank, is};
+use cov_base::{Name, TaskNo};
+use session_book::{Job, TaskCard};
+
+/// What a line of a schedule asks for, of the task whose number in the job it holds.
+#[derive(Clone, Copy, Debug, PartialEq, Eq)]
+pub enum Item {
+    /// `FETCH task`
+    Fetch(TaskNo),
+    /// `MARK task`
+    Mark(TaskNo),
+    /// `LIFT task`
+    Lift(TaskNo),
+    /// `DO task`
+    Do(TaskNo),
+    /// `GO task`
+    Go(TaskNo),
+    /// `ENDSCHED`
+    End,
+}
+
+fn index_of(tasks: &[TaskCard], name: &Name) -> Option<usize>
+    ensures index { result ≡ position (λ t. bytes_eq t.name name.now) tasks.now }
+    ensures within { IfSome result (λ i. i < length tasks.now) }
+{
+    tasks.iter().position(|task| task.name == *name)
+}
+
+fn task_named(job: &Job, name: &Name) -> Option<TaskNo>
+    ensures { result ≡ spell.task_named job.now name.now }
+{
+    match index_of(&job.tasks, name) {
+        None => None,
+        Some(at) => Some(TaskNo(at as u32)),
+    }
+}
+
+fn item_for(key: &[u8], task: TaskNo) -> Option<Item>
+    ensures { result ≡ spell.item_for key.now task }
+{
+    if is(key, b"FETCH") {
+        return Some(Item::Fetch(task));
+    }
+    if is(key, b"MARK") {
+        return Some(Item::Mark(task));
+    }
+    if is(key, b"LIFT") {
+        return Some(Item::Lift(task));
+    }
+    if is(key, b"DO") {
+        return Some(Item::Do(task));
+    }
+    if is(key, b"GO") {
+        return Some(Item::Go(task));
+    }
+    None
+}
+
+fn task_item(job: &Job, key: &[u8], name: &[u8]) -> Option<Item>
+    ensures { result ≡ spell.task_item job.now key.now name.now }
+{
+    let name = Name::read(name)?;
+    let task = task_named(job, &name)?;
+    item_for(key, task)
+}
+
+/// The item that the line is; none exactly where it is no item, or names no task of the job. The line is given without
+/// its LF. Takes no memory.
+pub fn item_of(job: &Job, line: &[u8]) -> Option<Item>
+    ensures { result ≡ spell.item_at job.now line.now }
+{
+    match first_blank(line) {
+        None => {
+            if is(line, b"ENDSCHED") {
+                Some(Item::End)
+            } else {
+                None
+            }
+        }
+        Some(at) => {
+            let (key, rest) = line.split_at(at);
+            task_item(job, key, &rest[1..])
+        }
+    }
+}

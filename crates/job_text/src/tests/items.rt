@@ -1,0 +1,84 @@
+//! Each item, and lines that come near to one.
+use crate::jobs::read_job;
+use crate::schedule::{Item, item_of};
+use cov_base::TaskNo;
+use std::test::Fail;
+
+/// Its tasks are A, B1 and ABCDEFGH, of two phases.
+const JOB: &[u8] =
+    b"COVERJOB 1\nPHASE P\nTASK A 100000 0 1 0\nTASK B1 100000 0 1 0\nPHASE Q\nTASK ABCDEFGH 100000 0 1 0\nENDJOB\n";
+
+const A: TaskNo = TaskNo(0);
+
+const B: TaskNo = TaskNo(1);
+
+const LAST: TaskNo = TaskNo(2);
+
+const ITEMS: [(&[u8], Option<Item>); 46] = [
+    (b"FETCH A", Some(Item::Fetch(A))),
+    (b"MARK A", Some(Item::Mark(A))),
+    (b"LIFT A", Some(Item::Lift(A))),
+    (b"DO A", Some(Item::Do(A))),
+    (b"GO A", Some(Item::Go(A))),
+    (b"ENDSCHED", Some(Item::End)),
+    (b"FETCH B1", Some(Item::Fetch(B))),
+    (b"GO B1", Some(Item::Go(B))),
+    (b"MARK ABCDEFGH", Some(Item::Mark(LAST))),
+    // two blanks, and blanks at the ends
+    (b"FETCH  A", None),
+    (b"FETCH A ", None),
+    (b" FETCH A", None),
+    (b"FETCH A  ", None),
+    (b" ENDSCHED", None),
+    (b"ENDSCHED ", None),
+    (b"FETCH\tA", None),
+    // a CR
+    (b"FETCH A\r", None),
+    (b"ENDSCHED\r", None),
+    (b"\r", None),
+    // lower case
+    (b"fetch A", None),
+    (b"FETCH a", None),
+    (b"Mark A", None),
+    (b"endsched", None),
+    // no task of the job
+    (b"FETCH C", None),
+    (b"FETCH B", None),
+    (b"FETCH AB", None),
+    (b"FETCH ABCDEFG", None),
+    (b"FETCH ABCDEFGHI", None),
+    (b"FETCH P", None),
+    (b"FETCH 0", None),
+    // words too few, too many or other
+    (b"", None),
+    (b" ", None),
+    (b"FETCH", None),
+    (b"FETCH ", None),
+    (b"A", None),
+    (b"FETCH A B1", None),
+    (b"FETCH A A", None),
+    (b"ENDSCHED A", None),
+    (b"ENDSCHE", None),
+    (b"ENDSCHEDS", None),
+    (b"FETCHA", None),
+    (b"FETCHS A", None),
+    (b"FETC A", None),
+    (b"STOP A", None),
+    (b"ENDJOB", None),
+    (b"FETCH A\0", None),
+];
+
+#[test]
+fn knows_each_item(rt: HostRuntime) -> Result<(), Fail> {
+    let a = rt.alloc();
+    match read_job(a, JOB) {
+        Ok(read) => {
+            for n in 0..ITEMS.len() {
+                let (line, item) = ITEMS[n];
+                assert_eq!(rt; (n, item_of(&read.job, line)), (n, item));
+            }
+        }
+        Err(_) => assert!(rt; false),
+    }
+    Ok(())
+}
