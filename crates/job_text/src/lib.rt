@@ -4,7 +4,6 @@
 mod card;
 mod cards;
 mod drafts;
-mod fault;
 mod jobs;
 mod limit;
 mod lines;

@@ -10,7 +10,6 @@ ghost use Rattle.job_text.specs.Views.{view};
 use crate::card::Card;
 use crate::cards::read_card;
 use crate::drafts::{closed, closed_module, closed_task, fits, has_task, with_phase, with_session};
-use crate::fault::LineFault;
 use crate::limit::Limit;
 use crate::lines::listing_text;
 use crate::parts::{Draft, Part};
@@ -200,8 +199,7 @@ impl JobReader {
                     part: Part::Task(task),
                     job,
                 }),
-                Err(LineFault::Bad) => Err(LineRefused::Bad),
-                Err(LineFault::NoMemory) => Err(LineRefused::NoMemory),
+                Err(refused) => Err(refused),
             },
             _ => Err(LineRefused::Bad),
         }
