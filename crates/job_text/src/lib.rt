@@ -18,6 +18,7 @@ pub use card::{Card, RegCard};
 pub use cards::read_card;
 pub use jobs::{JobFault, ReadJob, read_job, read_whole_job};
 pub use limit::Limit;
+pub use lines::{FirstLine, first_line};
 pub use schedule::{Item, item_of};
 
 #[cfg(test)]

@@ -194,13 +194,10 @@ impl JobReader {
     {
         let JobReader { part, job } = self;
         match part {
-            Part::Task(task) => match task.card(card) {
-                Ok(task) => Ok(JobReader {
-                    part: Part::Task(task),
-                    job,
-                }),
-                Err(refused) => Err(refused),
-            },
+            Part::Task(task) => Ok(JobReader {
+                part: Part::Task(task.card(card)?),
+                job,
+            }),
             _ => Err(LineRefused::Bad),
         }
     }
