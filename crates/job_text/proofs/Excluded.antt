@@ -1,7 +1,8 @@
 -- What callers may conclude of lines: they spell a job within the limits, or one line of them is bad, or one passes a limit.
 use Rattle.std.proofs.Common.{◌≡◌, ◌⊎◌, ℕ, ◌+◌, ◌-◌, ◌<◌, ◌≤◌, zero, suc, true, false, Option, Some, None, List, [], ◌∷◌, ◌++◌, length, map, take, drop, IfSome, All, refl, ap, subst, sym, ◌∙◌, arith, append_assoc, append-nil, inl, inr, take-append-drop, option_map}
-use Rattle.std.proofs.lemmas.Bool.{cases_order}
-use Rattle.std.proofs.lemmas.List.{length-map, length-append}
+use Rattle.std.proofs.Math.Seq.{take-length}
+use Rattle.std.proofs.lemmas.Bool.{cases_order, cases_lt}
+use Rattle.std.proofs.lemmas.List.{length-map, length-append, length-take-le}
 use Rattle.std.proofs.lemmas.List.Elements.{All-append, All-cons, All-nil}
 use Rattle.std.specs.List.{list_any}
 use Rattle.std.specs.Str.{bytes_eq}
@@ -14,6 +15,7 @@ use Rattle.job_text.specs.Refusals.{GoesOn, IsBadAt, IsOverAt}
 use Rattle.job_text.specs.declared.limit.Limit.{Limit}
 use Rattle.job_text.specs.declared.limit.Limit.TheVariants as limit
 use Rattle.job_text.proofs.Guards.{guard_none, guard_then, map_some}
+use Rattle.job_text.proofs.Spelled.{one_first}
 
 begins_prefix : (a b : List LineView) → JobBegins (a ++ b) → JobBegins a
 begins_prefix a b p = record { rest = b ++ p.rest; job = p.job; spells = rw (← append_assoc a b p.rest) p.spells }
@@ -74,6 +76,27 @@ over_later ls job what m n h s within o =
     let over : keeps what job ≡ false = passes_later ls m n what h o.passes [] job (rw (append-nil {A = LineView}) s) in
     let no : true ≡ false = sym (within what) ∙ over in
     absurd cc
+
+take_less : (ls : List LineView) (m n : ℕ) (b : List LineView) → m ≤ n → n ≤ length ls → take m (take n ls ++ b) ≡ take m ls
+take_less ls zero n b h i = refl
+take_less [] (suc m) n b h i = absurd (omega (arith, h, i))
+take_less (l ∷ ls) (suc m) zero b h i = absurd (omega (arith, h))
+take_less (l ∷ ls) (suc m) (suc n) b h i = ap (λ (x : List LineView). l ∷ x) (take_less ls m n b (omega (arith, h)) (omega (arith, i)))
+
+begun_no_longer : (ls : List LineView) (m n : ℕ) (job : JobView) → m < n → n ≤ length ls → Spells (take m ls) job → JobBegins (take n ls) → ⊥
+begun_no_longer ls m n job h i s b =
+    let whole = take n ls ++ b.rest in
+    let size : length whole ≡ length (take n ls) + length b.rest = length-append (take n ls) b.rest in
+    let few : length (take n ls) ≡ n = length-take-le n ls i in
+    let one = one_first whole m (length whole) job b.job (omega (arith, size, few, h)) (omega arith) (rw (take_less ls m n b.rest (omega (arith, h)) i) s) (rw (take-length whole) b.spells) in
+    absurd (omega (arith, one.0, size, few, h))
+
+-- where some first lines spell a job within the limits no line passes one
+pub never_over_first : (ls : List LineView) (m : ℕ) (job : JobView) (what : Limit) (n : ℕ) → m ≤ length ls → Spells (take m ls) job → IsWithin job → IsOverAt ls what n → ⊥
+never_over_first ls m job what n h s within o = elim (cases_lt m n) [
+  | inl l ↦ begun_no_longer ls m n job l o.inside s o.begins
+  | inr l ↦ over_later ls job what n m l s within o
+]
 
 not_bad_before : (ls : List LineView) (m n : ℕ) → m < n → IsBadAt ls m → IsBadAt ls n → ⊥
 not_bad_before ls m n h p q = elim p.here [

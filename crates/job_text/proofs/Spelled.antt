@@ -1,10 +1,11 @@
 -- Lines that spell a job run to its end.
-use Rattle.std.proofs.Common.{◌≡◌, ℕ, ◌+◌, ◌-◌, ◌≤◌, Bool, true, false, not, nat_eq, nat_le, Option, Some, None, List, [], ◌∷◌, ◌++◌, length, map, refl, ap, option_map, option_and_then, sym, ◌∙◌, arith, append_assoc, append-nil, length-append, suc}
+use Rattle.std.proofs.Common.{◌≡◌, ℕ, ◌+◌, ◌-◌, ◌<◌, ◌≤◌, zero, Bool, true, false, not, nat_eq, nat_le, Option, Some, None, List, [], ◌∷◌, ◌++◌, length, map, take, refl, ap, option_map, option_and_then, sym, ◌∙◌, arith, append_assoc, append-nil, length-append, suc, inl, inr}
+use Rattle.std.proofs.lemmas.Bool.{cases_order}
 use Rattle.std.proofs.lemmas.Bool.Decides.{nat_tests}
 use Rattle.cov_base.specs.Memory.{ImageView}
 use Rattle.session_book.specs.JobView.{JobView, TaskView}
 use Rattle.job_text.specs.Lines.{LineView, listing_text}
-use Rattle.job_text.specs.CardView.{CardView, Cover, Module, Text, Listing, Phase, Session, Task, End}
+use Rattle.job_text.specs.CardView.{CardView, Cover, Module, Text, Listing, Phase, Session, Task, Reg, Data, Input, End}
 use Rattle.job_text.specs.Cards.{IsCard, card_at}
 use Rattle.job_text.specs.Adding.{no_job, fits, with_module, with_phase, with_session, with_task}
 use Rattle.job_text.specs.Spells.{joined, AreTexts, IsListed, IsModule, AreModules, AreSessions, IsTaskBlock, AreTasks, IsPhase, ArePhases, Spells, JobBegins}
@@ -219,3 +220,77 @@ run_begun lines b =
     let r = run_spelled (lines ++ b.rest) b.job b.spells in
     let t = then_some (λ s. run s b.rest) (run start lines) r.end (sym (run_append start lines b.rest) ∙ r.runs) in
     record { end = t.from; runs = t.was; holds = tt }
+
+-- a job that was read stands still
+
+done_card : (c : CardView) (j : JobView) (over : Option Limit) → take_card (state part.Done j over) c ≡ None
+done_card Cover j over = refl
+done_card (Module n b s) j over = refl
+done_card (Text bytes) j over = refl
+done_card (Listing n) j over = refl
+done_card (Phase n) j over = refl
+done_card (Session n ns) j over = refl
+done_card (Task n e p b r) j over = refl
+done_card (Reg n v) j over = refl
+done_card (Data c) j over = refl
+done_card (Input bytes) j over = refl
+done_card End j over = refl
+
+done_at : (o : Option CardView) (j : JobView) (over : Option Limit) → option_and_then (take_card (state part.Done j over)) o ≡ None
+done_at None j over = refl
+done_at (Some c) j over = done_card c j over
+
+pub done_step : (p : Part) (j : JobView) (over : Option Limit) (l : LineView) → is_done p ≡ true → step (state p j over) l ≡ None
+done_step part.Done j over l e = done_at (card_at l.bytes) j over
+done_step p j over l e = absurd cc
+
+done_run : (st : State) (ls : List LineView) (e : State) → is_done st.part ≡ true → run st ls ≡ Some e → ls ≡ []
+done_run st [] e d r = refl
+done_run st (l ∷ ls) e d r =
+    let stop : step st l ≡ None = done_step st.part st.job st.over l d in
+    let no : None ≡ Some e = sym (ap (λ (o : Option State). option_and_then (λ s. run s ls) o) stop) ∙ r in
+    absurd cc
+
+-- lines that spell a job begin no longer lines that spell one
+no_longer : (a b : List LineView) (s t : State) → run start a ≡ Some s → is_done s.part ≡ true → run start (a ++ b) ≡ Some t → b ≡ []
+no_longer a b s t r d q = done_run s b t d ((rw (run_append start a b, r) at q))
+
+record Longer (ls : List LineView) (k n : ℕ) : Type 0 where
+  line : LineView
+  more : List LineView
+  taken : take n ls ≡ take k ls ++ line ∷ more
+
+longer : (ls : List LineView) (k n : ℕ) → k < n → n ≤ length ls → Longer ls k n
+longer [] k zero h m = absurd (omega arith)
+longer [] k (suc n) h m = absurd (omega arith)
+longer (x ∷ xs) k zero h m = absurd (omega arith)
+longer (x ∷ xs) zero (suc n) h m = record { line = x; more = take n xs; taken = refl }
+longer (x ∷ xs) (suc k) (suc n) h m =
+    let r : Longer xs k n = longer xs k n (omega arith) (omega arith) in
+    record { line = r.line; more = r.more; taken = ap (λ (y : List LineView). x ∷ y) r.taken }
+
+pub not_later : (ls : List LineView) (k n : ℕ) (s t : State) → k < n → n ≤ length ls → run start (take k ls) ≡ Some s → is_done s.part ≡ true → run start (take n ls) ≡ Some t → ⊥
+not_later ls k n s t h m r d q =
+    let x : Longer ls k n = longer ls k n h m in
+    let none : x.line ∷ x.more ≡ [] = no_longer (take k ls) (x.line ∷ x.more) s t r d (rw x.taken at q) in
+    absurd cc
+
+-- the job that was read is the only one that some first lines spell
+pub alone : (ls : List LineView) (k n : ℕ) (s : State) (job : JobView) → k ≤ length ls → run start (take k ls) ≡ Some s → is_done s.part ≡ true → n ≤ length ls → Spells (take n ls) job → (s.job ≡ job) × (k ≡ n)
+alone ls k n s job within r d h p =
+    let x : Reaches start (take n ls) (Is part.Done job) = run_spelled (take n ls) job p in
+    let done : is_done x.end.part ≡ true = ap is_done x.holds.at in
+    let same : k ≡ n = elim (cases_order k n) [
+      | inl e ↦ e
+      | inr y ↦ (elim y [ inl l ↦ absurd (not_later ls k n s x.end l h r d x.runs) | inr l ↦ absurd (not_later ls n k x.end s l within x.runs done r) ])
+    ] in
+    let t : run start (take n ls) ≡ Some s = (rw same at r) in
+    let end : s ≡ x.end = some_same s x.end (sym t ∙ x.runs) in
+    (ap (λ (y : State). y.job) end ∙ x.holds.is, same)
+
+-- no lines that spell a job begin others that spell one
+pub one_first : (ls : List LineView) (m n : ℕ) (j k : JobView) → m ≤ length ls → n ≤ length ls → Spells (take m ls) j → Spells (take n ls) k → (m ≡ n) × (j ≡ k)
+one_first ls m n j k h i p q =
+    let x : Reaches start (take m ls) (Is part.Done j) = run_spelled (take m ls) j p in
+    let a = alone ls m n x.end k h x.runs (ap is_done x.holds.at) i q in
+    (a.1, sym x.holds.is ∙ a.0)

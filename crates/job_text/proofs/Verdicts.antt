@@ -2,7 +2,7 @@
 use Rattle.std.proofs.Common.{◌≡◌, ℕ, ◌+◌, ◌-◌, ◌<◌, ◌≤◌, zero, suc, Bool, true, false, Option, Some, None, List, [], ◌∷◌, ◌++◌, length, take, drop, refl, ap, subst, sym, ◌∙◌, arith, append_assoc, append-nil, option_map, option_and_then, inl, inr, take-append-drop}
 use Rattle.std.proofs.Math.Seq.{take-length}
 use Rattle.std.proofs.lemmas.Bool.{cases_order, cases_lt}
-use Rattle.std.proofs.lemmas.List.{length-drop}
+use Rattle.std.proofs.lemmas.List.{length-drop, length-take-le}
 use Rattle.session_book.specs.JobView.{JobView}
 use Rattle.job_text.specs.Lines.{LineView, lines_of, span, spans}
 use Rattle.job_text.specs.CardView.{CardView, Cover, Module, Text, Listing, Phase, Session, Task, Reg, Data, Input, End}
@@ -19,11 +19,11 @@ use Rattle.job_text.specs.declared.parts.Part.TheVariants as kind
 use Rattle.job_text.specs.Steps.{State, state, start, is_done, take_card, step, run, Refuses}
 use Rattle.job_text.proofs.Guards.{some_same, FromMap, map_some, then_some}
 use Rattle.job_text.proofs.Spans.{Cut, cut_at, no_lines, lines_count}
-use Rattle.job_text.proofs.Spelled.{Reaches, Is, run_append, run_spelled, run_begun}
+use Rattle.job_text.proofs.Spelled.{Reaches, Is, run_append, run_spelled, run_begun, done_step, not_later}
 use Rattle.job_text.proofs.Rests.{run_spells}
 use Rattle.job_text.proofs.Shortest.{sofar_at, sofar, run_begins}
 use Rattle.job_text.proofs.Growth.{Judged, step_grows, run_more}
-use Rattle.job_text.proofs.Excluded.{bad_later, over_later}
+use Rattle.job_text.proofs.Excluded.{bad_later}
 
 -- the line at n, and the others behind it
 pub record At (ls : List LineView) (n : ℕ) (l : LineView) (more : List LineView) : Type 0 where
@@ -144,72 +144,7 @@ ends_early ls n s d h e within f =
       );
     }
 
--- a job that was read stands still
-
-done_card : (c : CardView) (j : JobView) (over : Option Limit) → take_card (state kind.Done j over) c ≡ None
-done_card Cover j over = refl
-done_card (Module n b s) j over = refl
-done_card (Text bytes) j over = refl
-done_card (Listing n) j over = refl
-done_card (Phase n) j over = refl
-done_card (Session n ns) j over = refl
-done_card (Task n e p b r) j over = refl
-done_card (Reg n v) j over = refl
-done_card (Data c) j over = refl
-done_card (Input bytes) j over = refl
-done_card End j over = refl
-
-done_at : (o : Option CardView) (j : JobView) (over : Option Limit) → option_and_then (take_card (state kind.Done j over)) o ≡ None
-done_at None j over = refl
-done_at (Some c) j over = done_card c j over
-
-done_step : (p : Part) (j : JobView) (over : Option Limit) (l : LineView) → is_done p ≡ true → step (state p j over) l ≡ None
-done_step kind.Done j over l e = done_at (card_at l.bytes) j over
-done_step p j over l e = absurd cc
-
-done_run : (st : State) (ls : List LineView) (e : State) → is_done st.part ≡ true → run st ls ≡ Some e → ls ≡ []
-done_run st [] e d r = refl
-done_run st (l ∷ ls) e d r =
-    let stop : step st l ≡ None = done_step st.part st.job st.over l d in
-    let no : None ≡ Some e = sym (ap (λ (o : Option State). option_and_then (λ s. run s ls) o) stop) ∙ r in
-    absurd cc
-
--- lines that spell a job begin no longer lines that spell one
-pub no_longer : (a b : List LineView) (s t : State) → run start a ≡ Some s → is_done s.part ≡ true → run start (a ++ b) ≡ Some t → b ≡ []
-no_longer a b s t r d q = done_run s b t d ((rw (run_append start a b, r) at q))
-
-record Longer (ls : List LineView) (k n : ℕ) : Type 0 where
-  line : LineView
-  more : List LineView
-  taken : take n ls ≡ take k ls ++ line ∷ more
-
-longer : (ls : List LineView) (k n : ℕ) → k < n → n ≤ length ls → Longer ls k n
-longer [] k zero h m = absurd (omega arith)
-longer [] k (suc n) h m = absurd (omega arith)
-longer (x ∷ xs) k zero h m = absurd (omega arith)
-longer (x ∷ xs) zero (suc n) h m = record { line = x; more = take n xs; taken = refl }
-longer (x ∷ xs) (suc k) (suc n) h m =
-    let r : Longer xs k n = longer xs k n (omega arith) (omega arith) in
-    record { line = r.line; more = r.more; taken = ap (λ (y : List LineView). x ∷ y) r.taken }
-
-not_later : (ls : List LineView) (k n : ℕ) (s t : State) → k < n → n ≤ length ls → run start (take k ls) ≡ Some s → is_done s.part ≡ true → run start (take n ls) ≡ Some t → ⊥
-not_later ls k n s t h m r d q =
-    let x : Longer ls k n = longer ls k n h m in
-    let none : x.line ∷ x.more ≡ [] = no_longer (take k ls) (x.line ∷ x.more) s t r d (rw x.taken at q) in
-    absurd cc
-
--- the job that was read is the only one that some first lines spell
-pub alone : (ls : List LineView) (k n : ℕ) (s : State) (job : JobView) → k ≤ length ls → run start (take k ls) ≡ Some s → is_done s.part ≡ true → n ≤ length ls → Spells (take n ls) job → (s.job ≡ job) × (k ≡ n)
-alone ls k n s job within r d h p =
-    let x : Reaches start (take n ls) (Is kind.Done job) = run_spelled (take n ls) job p in
-    let done : is_done x.end.part ≡ true = ap is_done x.holds.at in
-    let same : k ≡ n = elim (cases_order k n) [
-      | inl e ↦ e
-      | inr y ↦ (elim y [ inl l ↦ absurd (not_later ls k n s x.end l h r d x.runs) | inr l ↦ absurd (not_later ls n k x.end s l within x.runs done r) ])
-    ] in
-    let t : run start (take n ls) ≡ Some s = (rw same at r) in
-    let end : s ≡ x.end = some_same s x.end (sym t ∙ x.runs) in
-    (ap (λ (y : State). y.job) end ∙ x.holds.is, same)
+-- what the lines that were read leave out
 
 -- none of the lines that were read ends a job
 none_yet : (ls : List LineView) (k n : ℕ) (s : State) (job : JobView) → k ≤ length ls → run start (take k ls) ≡ Some s → is_done s.part ≡ false → n ≤ k → Spells (take n ls) job → ⊥
@@ -231,14 +166,7 @@ bad_none ls k n s job inside r d b h p = elim (cases_lt k n) [
   | inr l ↦ none_yet ls k n s job inside r d l p
 ]
 
--- where it passes a limit none spell one within the limits
-pub over_none : (ls : List LineView) (what : Limit) (k n : ℕ) (s : State) (job : JobView) → k ≤ length ls → run start (take k ls) ≡ Some s → is_done s.part ≡ false → IsOverAt ls what (k + 1) → Spells (take n ls) job → IsWithin job → ⊥
-over_none ls what k n s job inside r d o p within = elim (cases_lt k n) [
-  | inl l ↦ over_later ls job what (k + 1) n (omega (arith, l)) p within o
-  | inr l ↦ none_yet ls k n s job inside r d l p
-]
-
--- and it is within the limits
+-- a job that was read is within the limits
 
 done_sofar : (p : Part) (j : JobView) → is_done p ≡ true → sofar_at p j ≡ j
 done_sofar kind.Done j e = refl
@@ -264,15 +192,10 @@ is_read input n s r h runs done within job end count =
     record {
       inside = rw end c.inside;
       parted = rw (front, back) (sym (take-append-drop n (lines_of input)));
-      count = rw front (length_take (lines_of input) n h ∙ sym count);
+      count = rw front (length-take-le n (lines_of input) h ∙ sym count);
       spells = rw (front, job) (run_spells (take n (lines_of input)) s runs done);
       within = rw job (job_within s done within);
     }
-  where
-    length_take : (ls : List LineView) (k : ℕ) → k ≤ length ls → length (take k ls) ≡ k
-    length_take ls zero m = refl
-    length_take [] (suc k) m = absurd (omega arith)
-    length_take (x ∷ xs) (suc k) m = ap (λ (y : ℕ). suc y) (length_take xs k (omega arith))
 
 -- a line behind the job is bad
 

@@ -13,11 +13,12 @@ use Rattle.cov_base.specs.Memory.{ImageView}
 use Rattle.module_area.specs.Images.{IsImage, AreClear, AreImages}
 use Rattle.module_area.specs.Views.{DataView}
 use Rattle.session_book.specs.JobView.{JobView, SessionView, TaskView, IsJob, IsTask, IsSession, IsListing, AreParted, Differ, first_regs}
+use Rattle.session_book.specs.Sessions.{observes}
 use Rattle.job_text.specs.Lines.{LineView}
 use Rattle.job_text.specs.CardView.{Module, Session, Task}
 use Rattle.job_text.specs.Cards.{may_stand}
 use Rattle.job_text.specs.Tasks.{RegView, set_regs, AreData, task_view}
-use Rattle.job_text.specs.Adding.{no_job, is_clear, fits, with_module, with_phase, this_phase, index_of, is_held, is_free, put_index, indices_on, session_view, put_session, with_session, has_task, with_task}
+use Rattle.job_text.specs.Adding.{no_job, is_clear, fits, with_module, with_phase, this_phase, index_of, is_free, put_index, indices_on, session_view, put_session, with_session, has_task, with_task}
 use Rattle.job_text.specs.Spells.{AreModules, IsModule, AreSessions, IsTaskBlock, AreTasks, IsPhase, ArePhases, Spells}
 use Rattle.job_text.specs.Limits.{are_short, keeps, IsWithin}
 use Rattle.job_text.specs.declared.limit.Limit.TheVariants as limit
@@ -192,19 +193,19 @@ phase_is j after name e =
 record AreUsed (j : JobView) (used : List ℕ) : Type 0 where
   exist : All (λ m. m < length j.images) used
   differ : AllPairs (λ m n. m ≢ n) used
-  free : All (λ m. list_any (is_held (this_phase j) m) j.sessions ≡ false) used
+  free : All (λ m. list_any (observes (this_phase j) m) j.sessions ≡ false) used
 
 differ_of : (m n : ℕ) → nat_eq m n ≡ false → n ≢ m
 differ_of m n e same = let is : nat_eq m n ≡ true = grind (arith, nat_tests) in absurd cc
 
 put_used : (j : JobView) (used : List ℕ) (m : ℕ) → m < length j.images → is_free j used m ≡ true → AreUsed j used → AreUsed j (used ++ m ∷ [])
 put_used j used m h e u =
-    let p = both (not (list_any (nat_eq m) used)) (not (list_any (is_held (this_phase j) m) j.sessions)) e in
+    let p = both (not (list_any (nat_eq m) used)) (not (list_any (observes (this_phase j) m) j.sessions)) e in
     let others : All (λ n. nat_eq m n ≡ false) used = none_of (nat_eq m) used (not_false _ p.0) in
     record {
       exist = all_push (λ n. n < length j.images) used m u.exist h;
       differ = pairs_push (λ a b. a ≢ b) used m u.differ (λ k d l. differ_of m (get_or used k d) (others k d l));
-      free = all_push (λ n. list_any (is_held (this_phase j) n) j.sessions ≡ false) used m u.free (not_false _ p.1);
+      free = all_push (λ n. list_any (observes (this_phase j) n) j.sessions ≡ false) used m u.free (not_false _ p.1);
     }
 
 record Indices (j : JobView) (used ms : List ℕ) (count : ℕ) : Type 0 where
@@ -238,7 +239,7 @@ and_false : (a b : Bool) → (a && b) ≡ false → a ≡ true → b ≡ false
 and_false true b e h = e
 and_false false b e h = absurd cc
 
-parted_of : (phase : ℕ) (sessions : List SessionView) (s t : SessionView) → t.phase ≡ phase → All (λ m. is_held phase m s ≡ false) t.modules → AreParted s t
+parted_of : (phase : ℕ) (sessions : List SessionView) (s t : SessionView) → t.phase ≡ phase → All (λ m. observes phase m s ≡ false) t.modules → AreParted s t
 parted_of phase sessions s t at free same =
     let here : nat_eq s.phase phase ≡ true = rw (same, at) (grind (arith, nat_tests)) in
     λ k d l. list_any_none (nat_eq (get_or s.modules k d)) t.modules
@@ -251,7 +252,7 @@ session_so_far j after name names e some phases s =
     let g = guard_then (list_any (λ x. bytes_eq x.name name) j.sessions) (option_map (put_session j name) (indices_on j (Some []) names)) after e in
     let m = map_some (put_session j name) (indices_on j (Some []) names) after g.1 in
     let t : SessionView = session_view j name m.from in
-    let none : AreUsed j [] = record { exist = All-nil (λ m. m < length j.images); differ = no_pairs (λ m n. m ≢ n); free = All-nil (λ m. list_any (is_held (this_phase j) m) j.sessions ≡ false) } in
+    let none : AreUsed j [] = record { exist = All-nil (λ m. m < length j.images); differ = no_pairs (λ m n. m ≢ n); free = All-nil (λ m. list_any (observes (this_phase j) m) j.sessions ≡ false) } in
     let r : Indices j [] m.from (length names) = are_indices j names [] m.from m.was none in
     let is : IsSession (length j.images) (length j.phases) t = record { phase = omega (arith, phases); some = omega (arith, r.length, some); modules = r.are.exist; differ = r.are.differ; whole = refl } in
     rw (← m.gives) (record {
@@ -259,7 +260,7 @@ session_so_far j after name names e some phases s =
       each = s.each;
       apart = s.apart;
       are_sessions = all_push (IsSession (length j.images) (length j.phases)) j.sessions t s.are_sessions is;
-      parted = pairs_push AreParted j.sessions t s.parted (λ k d l. parted_of (this_phase j) j.sessions (get_or j.sessions k d) t refl (λ i f h. none_of (is_held (this_phase j) (get_or m.from i f)) j.sessions (r.are.free i f h) k d l));
+      parted = pairs_push AreParted j.sessions t s.parted (λ k d l. parted_of (this_phase j) j.sessions (get_or j.sessions k d) t refl (λ i f h. none_of (observes (this_phase j) (get_or m.from i f)) j.sessions (r.are.free i f h) k d l));
       are_tasks = s.are_tasks;
       module_names = s.module_names;
       phase_names = s.phase_names;

@@ -4,6 +4,7 @@ use Rattle.std.specs.List.{list_any, list_all}
 use Rattle.std.specs.Str.{bytes_eq}
 use Rattle.cov_base.specs.Memory.{ImageView}
 use Rattle.session_book.specs.JobView.{JobView, SessionView, TaskView}
+use Rattle.session_book.specs.Sessions.{observes}
 
 abbrev pub no_job : JobView
 no_job = record { images = []; listings = []; phases = []; sessions = []; tasks = [] }
@@ -28,12 +29,9 @@ this_phase j = length j.phases - 1
 abbrev pub index_of : JobView → List ℕ → Option ℕ
 index_of j name = position (λ i. bytes_eq i.name name) j.images
 
-abbrev pub is_held : ℕ → ℕ → SessionView → Bool
-is_held phase m s = nat_eq s.phase phase && list_any (nat_eq m) s.modules
-
 -- the module is none of those that the card named before it, and in no session of this phase
 abbrev pub is_free : JobView → List ℕ → ℕ → Bool
-is_free j used m = not (list_any (nat_eq m) used) && not (list_any (is_held (this_phase j) m) j.sessions)
+is_free j used m = not (list_any (nat_eq m) used) && not (list_any (observes (this_phase j) m) j.sessions)
 
 abbrev pub put_index : JobView → List ℕ → Option ℕ → Option (List ℕ)
 put_index j used (Some m) = if is_free j used m then Some (used ++ m ∷ []) else None

@@ -1,9 +1,11 @@
 -- What each card of a task makes of the part of it that was read.
-use Rattle.std.specs.Prelude.{ℕ, ◌+◌, Bool, true, false, ◌&&◌, nat_le, if◌then◌else◌, Option, Some, None, List, [], ◌∷◌, ◌++◌, length, slice_set}
+use Rattle.std.specs.Prelude.{◌≡◌, ℕ, ◌+◌, Bool, true, false, ◌&&◌, nat_le, if◌then◌else◌, Option, Some, None, List, [], ◌∷◌, ◌++◌, length, slice_set}
 use Rattle.module_area.specs.Views.{DataView}
 use Rattle.session_book.specs.JobView.{TaskView, first_regs}
 use Rattle.job_text.specs.CardView.{CardView, Reg, Data, Input}
 use Rattle.job_text.specs.Tasks.{task_view}
+use Rattle.job_text.specs.declared.refused.LineRefused.{LineRefused}
+use Rattle.job_text.specs.declared.refused.LineRefused.TheVariants as refused
 use Rattle.job_text.specs.declared.task.TaskPart.{TaskPart}
 use Rattle.job_text.specs.declared.task.TaskStage.{TaskStage}
 use Rattle.job_text.specs.declared.task.TaskStage.TheVariants as stage
@@ -49,3 +51,9 @@ task_more p (Reg n v) = after_reg p n v
 task_more p (Data c) = after_data p c
 task_more p (Input bytes) = Some (after_input p bytes)
 task_more p card = None
+
+-- how a card behind TASK is refused: none passes a limit
+abbrev pub IsOut : Option TaskPart → LineRefused → Type 0
+IsOut o refused.Bad = o ≡ None
+IsOut o (refused.TooLarge what) = ⊥
+IsOut o refused.NoMemory = Unit {0}

@@ -2,6 +2,7 @@
 ghost use Rattle.std.specs.Prelude.{◌≡◌, ℕ, ◌+◌, ◌≤◌, ◌<◌, ◌&&◌, [], Option, Some, None, IfOk, IfSome, IsErrOf, nat_eq, length, option_map};
 ghost use Rattle.std.specs.List.{list_any, list_all};
 ghost use Rattle.std.specs.Str.{bytes_eq};
+ghost use Rattle.session_book.specs.Sessions.{observes};
 ghost use Rattle.job_text.specs.Adding as adding;
 ghost use Rattle.job_text.specs.Steps as machine;
 ghost use Rattle.job_text.specs.declared.parts.Part.TheVariants as kind;
@@ -61,18 +62,18 @@ fn has_index(used: &[u32], m: u32) -> bool
     used.iter().any(|u| m == *u)
 }
 
-fn is_held(session: &Session, phase: u32, m: u32) -> bool
-    ensures { result ≡ adding.is_held phase m session.now }
+fn observes(session: &Session, phase: u32, m: u32) -> bool
+    ensures { result ≡ observes phase m session.now }
 {
     session.phase == phase && has_index(&session.modules, m)
 }
 
 fn is_in_session(job: &Draft, phase: u32, m: u32) -> bool
-    ensures { result ≡ list_any (adding.is_held phase m) job.now.sessions }
+    ensures { result ≡ list_any (observes phase m) job.now.sessions }
 {
     job.sessions
         .iter()
-        .any(|session| is_held(session, phase, m))
+        .any(|session| observes(session, phase, m))
 }
 
 fn this_phase(job: &Draft) -> u32

@@ -4,7 +4,6 @@
 mod card;
 mod cards;
 mod drafts;
-mod fault;
 mod jobs;
 mod limit;
 mod lines;
@@ -19,6 +18,7 @@ pub use card::{Card, RegCard};
 pub use cards::read_card;
 pub use jobs::{JobFault, ReadJob, read_job, read_whole_job};
 pub use limit::Limit;
+pub use lines::{FirstLine, first_line};
 pub use schedule::{Item, item_of};
 
 #[cfg(test)]

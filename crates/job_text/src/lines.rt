@@ -2,9 +2,9 @@
 ghost use Rattle.std.specs.Prelude.{◌≡◌, ◌+◌, ◌∷◌, ◌<◌, length, nat_eq, position};
 ghost use Rattle.job_text.specs.Lines.{LineView, lines_of, has_cr, listing_text, span};
 
-/// The first line of a text, whether an LF ended it, and what follows.
+/// The first line of a text without its LF, whether an LF ended it, and the bytes that follow.
 #[derive(Drop)]
-pub(crate) struct FirstLine<'a> {
+pub struct FirstLine<'a> {
     pub bytes: &'a [u8],
     pub ended: bool,
     pub rest: &'a [u8],
@@ -16,8 +16,9 @@ fn first_end(text: &[u8]) -> Option<usize>
     text.iter().position(|b| *b == b'\n')
 }
 
-/// Takes the first line off a text that isn't empty.
-pub(crate) fn first_line(text: &[u8]) -> FirstLine<'_>
+/// Takes the first line off a text that isn't empty. Each LF ends a line; what follows the last LF is a line where it
+/// isn't empty. Takes no memory.
+pub fn first_line(text: &[u8]) -> FirstLine<'_>
     requires { 0 < length text.now }
     ensures line { lines_of text.now ≡ record { bytes = result.bytes.now; ended = result.ended } ∷ lines_of result.rest.now }
     ensures less { length result.rest.now < length text.now }

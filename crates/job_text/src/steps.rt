@@ -10,7 +10,6 @@ ghost use Rattle.job_text.specs.Views.{view};
 use crate::card::Card;
 use crate::cards::read_card;
 use crate::drafts::{closed, closed_module, closed_task, fits, has_task, with_phase, with_session};
-use crate::fault::LineFault;
 use crate::limit::Limit;
 use crate::lines::listing_text;
 use crate::parts::{Draft, Part};
@@ -195,14 +194,10 @@ impl JobReader {
     {
         let JobReader { part, job } = self;
         match part {
-            Part::Task(task) => match task.card(card) {
-                Ok(task) => Ok(JobReader {
-                    part: Part::Task(task),
-                    job,
-                }),
-                Err(LineFault::Bad) => Err(LineRefused::Bad),
-                Err(LineFault::NoMemory) => Err(LineRefused::NoMemory),
-            },
+            Part::Task(task) => Ok(JobReader {
+                part: Part::Task(task.card(card)?),
+                job,
+            }),
             _ => Err(LineRefused::Bad),
         }
     }

@@ -1,10 +1,10 @@
 //! Takes the cards of a task.
-ghost use Rattle.std.specs.Prelude.{◌≡◌, ℕ, Option, Some, None, IfOk, IsErrOf};
+ghost use Rattle.std.specs.Prelude.{◌≡◌, ℕ, Option, Some, None, IfOk, IfErr};
 ghost use Rattle.job_text.specs.TaskParts as parts;
 ghost use Rattle.job_text.specs.Views.{view};
 
 use crate::card::{Card, RegCard};
-use crate::fault::LineFault;
+use crate::refused::LineRefused;
 use cov_base::{Addr, Name};
 use module_area::DataCard;
 use session_book::TaskCard;
@@ -87,12 +87,12 @@ fn is_inside(private: u32, card: &DataCard) -> bool
 }
 
 impl TaskPart {
-    fn reg(self, reg: RegCard) -> Result<TaskPart, LineFault>
+    fn reg(self, reg: RegCard) -> Result<TaskPart, LineRefused>
         ensures ok { IfOk result (λ p. parts.after_reg self reg.number reg.value ≡ Some p) }
-        ensures bad { IsErrOf result LineFault.Bad → parts.after_reg self reg.number reg.value ≡ None }
+        ensures err { IfErr result (parts.IsOut (parts.after_reg self reg.number reg.value)) }
     {
         if !self.stage.takes_reg(reg.number) {
-            return Err(LineFault::Bad);
+            return Err(LineRefused::Bad);
         }
         let mut task = self.task;
         task.regs[reg.number as usize] = reg.value;
@@ -104,12 +104,12 @@ impl TaskPart {
         })
     }
 
-    fn data(self, card: DataCard) -> Result<TaskPart, LineFault>
+    fn data(self, card: DataCard) -> Result<TaskPart, LineRefused>
         ensures ok { IfOk result (λ p. parts.after_data self card ≡ Some p) }
-        ensures bad { IsErrOf result LineFault.Bad → parts.after_data self card ≡ None }
+        ensures err { IfErr result (parts.IsOut (parts.after_data self card)) }
     {
         if !(self.stage.takes_data() && is_inside(self.task.private, &card)) {
-            return Err(LineFault::Bad);
+            return Err(LineRefused::Bad);
         }
         let mut task = self.task;
         task.cards.push(card)?;
@@ -131,15 +131,15 @@ impl TaskPart {
     }
 
     /// Takes a further card of the task.
-    pub(crate) fn card(self, card: Card) -> Result<TaskPart, LineFault>
+    pub(crate) fn card(self, card: Card) -> Result<TaskPart, LineRefused>
         ensures ok { IfOk result (λ p. parts.task_more self (view card) ≡ Some p) }
-        ensures bad { IsErrOf result LineFault.Bad → parts.task_more self (view card) ≡ None }
+        ensures err { IfErr result (parts.IsOut (parts.task_more self (view card))) }
     {
         match card {
             Card::Reg(reg) => self.reg(reg),
             Card::Data(data) => self.data(data),
             Card::Input(bytes) => Ok(self.input(&bytes)?),
-            _ => Err(LineFault::Bad),
+            _ => Err(LineRefused::Bad),
         }
     }
 }

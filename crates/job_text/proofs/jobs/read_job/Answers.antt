@@ -3,7 +3,9 @@ use Rattle.std.proofs.lemmas.Bool.Decides.{nat_tests}
 use Rattle.job_text.specs.Lines.{lines_of}
 use Rattle.job_text.specs.Steps.{plain}
 use Rattle.job_text.proofs.Spans.{lines_count, nothing_left}
-use Rattle.job_text.proofs.Verdicts.{further, bad_here, over_here, ends_early, alone, bad_none, over_none, spans_on, is_read, refused_bad, refused_over}
+use Rattle.job_text.proofs.Excluded.{never_over_first}
+use Rattle.job_text.proofs.Spelled.{alone}
+use Rattle.job_text.proofs.Verdicts.{further, bad_here, over_here, ends_early, bad_none, spans_on, is_read, refused_bad, refused_over}
 use Rattle.job_text.proofs.WholeJob.{read_keeps}
 use Rattle.job_text.proofs.jobs.read_job.Goals as goal
 
@@ -31,7 +33,7 @@ pub returns-in-Err-TooLarge-clause-only : goal.returns-in-Err-TooLarge-clause-on
 returns-in-Err-TooLarge-clause-only c =
     let over = over_here (lines_of c.args.input.now) c.loop-rest.read _ _ (plain c.loop-rest.reader) c.in-Err-TooLarge.what (c.loop-rest.invariant.left ∙ c.first_line-line.ensures.line) c.loop-rest.invariant.runs c.loop-rest.invariant.kept
     (refused_over _ c.in-Err-TooLarge.field-0 c.in-Err-TooLarge.what c.in-Err-TooLarge.field-0-is c.in-Err-TooLarge.ensures.err) in
-    λ n job h p within. absurd (over_none (lines_of c.args.input.now) c.in-Err-TooLarge.what c.loop-rest.read n (plain c.loop-rest.reader) job c.loop-rest.invariant.within c.loop-rest.invariant.runs c.loop-rest.invariant.reading over p within)
+    λ n job h p within. absurd (never_over_first (lines_of c.args.input.now) n job c.in-Err-TooLarge.what (c.loop-rest.read + 1) h p within over)
 
 pub overflow_add-read : goal.overflow_add-read
 overflow_add-read c = omega (arith, c.loop-rest.invariant.within, lines_count c.args.input.now, c.requires)
