@@ -1,0 +1,8 @@
+//! The core: cells, sets and tasks under every order of their events.
+#![tactic(auto)]
+
+mod events;
+mod stage;
+
+pub use events::{Event, NotPossible, Shown};
+pub use stage::{Due, Hand, Stage};
