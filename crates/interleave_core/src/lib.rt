@@ -2,6 +2,8 @@
 #![tactic(auto)]
 
 mod events;
+mod instruction;
+mod running;
 mod stage;
 
 pub use events::{Event, NotPossible, Shown};
