@@ -1,0 +1,3 @@
+pub mod Finds
+pub mod ReadLemmas
+pub mod RunningLemmas

@@ -1,0 +1,5 @@
+pub mod World
+pub mod Steps
+pub mod Core
+pub mod Reads
+pub mod Views

@@ -1,0 +1,10 @@
+//! The core: cells, sets and tasks under every order of their events.
+#![tactic(auto)]
+
+mod events;
+mod instruction;
+mod running;
+mod stage;
+
+pub use events::{Event, NotPossible, Shown};
+pub use stage::{Due, Hand, Stage};
