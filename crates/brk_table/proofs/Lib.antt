@@ -7,3 +7,4 @@ pub mod TabledLemmas
 pub mod AtLemmas
 pub mod OwnPlaces
 pub mod Together
+pub mod OneTable

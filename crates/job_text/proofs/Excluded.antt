@@ -1,5 +1,5 @@
 -- What callers may conclude of lines: they spell a job within the limits, or one line of them is bad, or one passes a limit.
-use Rattle.std.proofs.Common.{◌≡◌, ◌⊎◌, ℕ, ◌+◌, ◌-◌, ◌<◌, ◌≤◌, zero, suc, true, false, Option, Some, None, List, [], ◌∷◌, ◌++◌, length, map, take, drop, IfSome, All, refl, ap, subst, sym, ◌∙◌, arith, append_assoc, append-nil, inl, inr, take-append-drop, option_map}
+use Rattle.std.proofs.Common.{◌≡◌, ℕ, ◌+◌, ◌-◌, ◌<◌, ◌≤◌, zero, suc, true, false, Option, Some, None, List, [], ◌∷◌, ◌++◌, length, take, drop, IfSome, All, refl, ap, subst, sym, ◌∙◌, arith, append_assoc, append-nil, inl, inr, take-append-drop, option_map}
 use Rattle.std.proofs.Math.Seq.{take-length}
 use Rattle.std.proofs.lemmas.Bool.{cases_order, cases_lt}
 use Rattle.std.proofs.lemmas.List.{length-map, length-append, length-take-le}

@@ -1,13 +1,13 @@
 -- The words of an item.
-use Rattle.std.proofs.Common.{◌≡◌, ℕ, ◌&&◌, Bool, true, false, cond, nat_eq, nat_le, Option, Some, None, List, [], ◌∷◌, length, take, drop, refl, sym, ◌∙◌, get_or, slice_index, option_and_then, ◌-◌, arith}
+use Rattle.std.proofs.Common.{◌≡◌, ℕ, ◌&&◌, Bool, true, false, cond, nat_eq, nat_le, Option, Some, None, List, [], ◌∷◌, length, take, drop, refl, sym, ◌∙◌, get_or, slice_index, ◌-◌, arith}
 use Rattle.std.proofs.lemmas.Bool.Decides.{nat_tests}
 use Rattle.std.proofs.lemmas.List.Folds.{list_all_at}
 use Rattle.std.proofs.lemmas.List.Quantifiers.{position-Some}
 use Rattle.std.specs.List.{list_all, position}
-use Rattle.cov_base.specs.Names.{is_letter, is_name_byte, is_name, padded, name_at}
+use Rattle.cov_base.specs.Names.{is_letter, is_name_byte, padded, name_at}
 use Rattle.session_book.specs.JobView.{JobView}
 use Rattle.job_text.specs.Words.{words, put_first}
-use Rattle.job_text.specs.Schedule.{item_for, task_named, task_item, item_of}
+use Rattle.job_text.specs.Schedule.{task_item, item_of}
 use Rattle.job_text.proofs.WordLemmas.{Cut, cut_at, no_cut, tail_whole}
 
 -- words are never none

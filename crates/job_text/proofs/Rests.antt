@@ -1,5 +1,5 @@
 -- Lines that run to the end spell the job that was read.
-use Rattle.std.proofs.Common.{◌≡◌, ℕ, ◌+◌, ◌-◌, ◌<◌, ◌≤◌, Bool, true, false, not, nat_eq, nat_le, cond, Option, Some, None, List, [], ◌∷◌, ◌++◌, length, map, refl, ap, subst, option_map, option_and_then, sym, ◌∙◌, arith, append_assoc, append-nil, length-append, inl, inr}
+use Rattle.std.proofs.Common.{◌≡◌, ℕ, ◌-◌, ◌<◌, ◌≤◌, true, false, nat_eq, nat_le, cond, Option, Some, None, List, [], ◌∷◌, ◌++◌, length, map, refl, ap, subst, option_and_then, sym, arith, append_assoc, append-nil, length-append, inl, inr}
 use Rattle.std.proofs.lemmas.Bool.Decides.{nat_tests}
 use Rattle.cov_base.specs.Memory.{ImageView}
 use Rattle.session_book.specs.JobView.{JobView, TaskView, first_regs}
@@ -8,14 +8,12 @@ use Rattle.job_text.specs.CardView.{CardView, Cover, Module, Text, Listing, Phas
 use Rattle.job_text.specs.Cards.{IsCard, card_at}
 use Rattle.job_text.specs.Tasks.{task_view}
 use Rattle.job_text.specs.Adding.{no_job, fits, with_module, with_phase, with_session, has_task, with_task}
-use Rattle.job_text.specs.Spells.{joined, AreTexts, IsListed, IsModule, AreModules, AreSessions, IsTaskBlock, AreTasks, IsPhase, ArePhases, Spells}
+use Rattle.job_text.specs.Spells.{joined, AreTexts, IsListed, AreModules, AreSessions, AreTasks, ArePhases, Spells}
 use Rattle.job_text.specs.TaskParts.{fresh_task, task_more}
-use Rattle.job_text.specs.declared.task.TaskPart.{TaskPart}
-use Rattle.job_text.specs.declared.limit.Limit.{Limit}
 use Rattle.job_text.specs.declared.parts.Part.{Part}
 use Rattle.job_text.specs.declared.parts.Part.TheVariants as part
 use Rattle.job_text.specs.Steps.{State, state, start, is_start, is_sessions, is_done, closed_module, closed_task, closed, no_bytes, with_bytes, module_over, line_over, phase_over, session_over, task_over, open_module, open_task, open_phase, add_session, take_text, take_listing, take_more, end, takes_raw, take_raw, take_card, step, run}
-use Rattle.job_text.proofs.Guards.{some_same, guard_some, guard_more, both, FromMap, map_some, FromThen, then_some, choose, guard_none, guard_then}
+use Rattle.job_text.proofs.Guards.{some_same, guard_some, guard_more, map_some, then_some, choose, guard_none}
 use Rattle.job_text.proofs.TaskCards.{with_regs, with_cards, with_inputs, AtInputs, AtData, AtRegs, AtPart, stage_ends, more_back}
 
 -- what may still come, behind each line

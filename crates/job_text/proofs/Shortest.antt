@@ -1,11 +1,11 @@
 -- Each state can be brought to the end by lines that add no more than what was announced, so lines that run begin a job.
-use Rattle.std.proofs.Common.{◌≡◌, ℕ, ◌-◌, zero, suc, Bool, true, false, not, nat_eq, nat_le, cond, Option, Some, None, List, [], ◌∷◌, ◌++◌, replicate, refl, ap, sym, ◌∙◌, arith, append_assoc, append-nil, codes}
+use Rattle.std.proofs.Common.{◌≡◌, ℕ, ◌-◌, zero, suc, true, false, nat_eq, nat_le, cond, Option, Some, None, List, [], ◌∷◌, ◌++◌, replicate, refl, sym, ◌∙◌, arith, append_assoc, append-nil, codes}
 use Rattle.std.proofs.lemmas.Bool.Decides.{nat_tests}
 use Rattle.hex.proofs.OnLiterals.{hex_on_literals}
 use Rattle.cov_base.specs.Memory.{ImageView}
 use Rattle.session_book.specs.JobView.{JobView}
 use Rattle.job_text.specs.Lines.{LineView}
-use Rattle.job_text.specs.CardView.{CardView, Cover, Text, End}
+use Rattle.job_text.specs.CardView.{Cover, Text, End}
 use Rattle.job_text.specs.Cards.{card_at}
 use Rattle.job_text.specs.Adding.{with_module, with_task}
 use Rattle.job_text.specs.Spells.{JobBegins}

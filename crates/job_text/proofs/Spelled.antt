@@ -1,20 +1,20 @@
 -- Lines that spell a job run to its end.
-use Rattle.std.proofs.Common.{◌≡◌, ℕ, ◌+◌, ◌-◌, ◌<◌, ◌≤◌, zero, Bool, true, false, not, nat_eq, nat_le, Option, Some, None, List, [], ◌∷◌, ◌++◌, length, map, take, refl, ap, option_map, option_and_then, sym, ◌∙◌, arith, append_assoc, append-nil, length-append, suc, inl, inr}
+use Rattle.std.proofs.Common.{◌≡◌, ℕ, ◌-◌, ◌<◌, ◌≤◌, zero, true, false, nat_eq, nat_le, Option, Some, None, List, [], ◌∷◌, ◌++◌, length, map, take, refl, ap, option_map, option_and_then, sym, ◌∙◌, arith, append_assoc, append-nil, length-append, suc, inl, inr}
 use Rattle.std.proofs.lemmas.Bool.{cases_order}
 use Rattle.std.proofs.lemmas.Bool.Decides.{nat_tests}
 use Rattle.cov_base.specs.Memory.{ImageView}
-use Rattle.session_book.specs.JobView.{JobView, TaskView}
+use Rattle.session_book.specs.JobView.{JobView}
 use Rattle.job_text.specs.Lines.{LineView, listing_text}
 use Rattle.job_text.specs.CardView.{CardView, Cover, Module, Text, Listing, Phase, Session, Task, Reg, Data, Input, End}
 use Rattle.job_text.specs.Cards.{IsCard, card_at}
-use Rattle.job_text.specs.Adding.{no_job, fits, with_module, with_phase, with_session, with_task}
+use Rattle.job_text.specs.Adding.{no_job, with_module}
 use Rattle.job_text.specs.Spells.{joined, AreTexts, IsListed, IsModule, AreModules, AreSessions, IsTaskBlock, AreTasks, IsPhase, ArePhases, Spells, JobBegins}
 use Rattle.job_text.specs.TaskParts.{fresh_task, task_more}
 use Rattle.job_text.specs.declared.task.TaskPart.{TaskPart}
 use Rattle.job_text.specs.declared.limit.Limit.{Limit}
 use Rattle.job_text.specs.declared.parts.Part.{Part}
 use Rattle.job_text.specs.declared.parts.Part.TheVariants as part
-use Rattle.job_text.specs.Steps.{State, state, start, is_done, closed_module, closed_task, closed, no_bytes, with_bytes, module_over, line_over, phase_over, session_over, task_over, end, takes_raw, take_raw, take_card, step, run}
+use Rattle.job_text.specs.Steps.{State, state, start, is_done, closed_module, closed_task, closed, no_bytes, with_bytes, module_over, line_over, phase_over, session_over, task_over, end, takes_raw, take_card, step, run}
 use Rattle.job_text.proofs.Guards.{some_same, guard_some, then_some}
 use Rattle.job_text.proofs.TaskCards.{more_step, more_run, cards_run}
 

@@ -1,14 +1,12 @@
 -- What the reader's runs say of the lines.
-use Rattle.std.proofs.Common.{◌≡◌, ℕ, ◌+◌, ◌-◌, ◌<◌, ◌≤◌, zero, suc, Bool, true, false, Option, Some, None, List, [], ◌∷◌, ◌++◌, length, take, drop, refl, ap, subst, sym, ◌∙◌, arith, append_assoc, append-nil, option_map, option_and_then, inl, inr, take-append-drop}
+use Rattle.std.proofs.Common.{◌≡◌, ℕ, ◌+◌, ◌-◌, ◌<◌, ◌≤◌, zero, suc, Bool, true, false, Option, Some, None, List, [], ◌∷◌, ◌++◌, length, take, drop, refl, ap, subst, sym, ◌∙◌, arith, append-nil, option_map, option_and_then, inl, inr, take-append-drop}
 use Rattle.std.proofs.Math.Seq.{take-length}
 use Rattle.std.proofs.lemmas.Bool.{cases_order, cases_lt}
 use Rattle.std.proofs.lemmas.List.{length-drop, length-take-le}
 use Rattle.session_book.specs.JobView.{JobView}
 use Rattle.job_text.specs.Lines.{LineView, lines_of, span, spans}
-use Rattle.job_text.specs.CardView.{CardView, Cover, Module, Text, Listing, Phase, Session, Task, Reg, Data, Input, End}
-use Rattle.job_text.specs.Cards.{card_at}
-use Rattle.job_text.specs.Spells.{Spells, JobBegins}
-use Rattle.job_text.specs.Limits.{keeps, IsWithin, Passes, rank}
+use Rattle.job_text.specs.Spells.{Spells}
+use Rattle.job_text.specs.Limits.{keeps, IsWithin, Passes}
 use Rattle.job_text.specs.Refusals.{IsRead, GoesOn, IsBadAt, IsOverAt}
 use Rattle.job_text.specs.declared.jobs.ReadJob.{ReadJob}
 use Rattle.job_text.specs.declared.limit.Limit.{Limit}
@@ -16,8 +14,8 @@ use Rattle.job_text.specs.declared.refused.LineRefused.{LineRefused}
 use Rattle.job_text.specs.declared.refused.LineRefused.TheVariants as refused
 use Rattle.job_text.specs.declared.parts.Part.{Part}
 use Rattle.job_text.specs.declared.parts.Part.TheVariants as kind
-use Rattle.job_text.specs.Steps.{State, state, start, is_done, take_card, step, run, Refuses}
-use Rattle.job_text.proofs.Guards.{some_same, FromMap, map_some, then_some}
+use Rattle.job_text.specs.Steps.{State, start, is_done, step, run, Refuses}
+use Rattle.job_text.proofs.Guards.{some_same, FromMap, map_some}
 use Rattle.job_text.proofs.Spans.{Cut, cut_at, no_lines, lines_count}
 use Rattle.job_text.proofs.Spelled.{Reaches, Is, run_append, run_spelled, run_begun, done_step, not_later}
 use Rattle.job_text.proofs.Rests.{run_spells}

@@ -1,26 +1,26 @@
 -- A job that lines spell within the limits keeps the rules of jobs.
-use Rattle.std.proofs.Common.{◌≡◌, ◌≢◌, ℕ, ◌+◌, ◌-◌, ◌%◌, ◌<◌, ◌≤◌, Bool, true, false, not, ◌&&◌, ◌||◌, nat_eq, nat_le, cond, Option, Some, None, List, [], ◌∷◌, ◌++◌, length, map, refl, ap, subst, sym, ◌∙◌, arith, All, AllPairs, IfSome, inl, inr, ◌⊎◌, slice_set, get_or, position, option_map}
+use Rattle.std.proofs.Common.{◌≡◌, ◌≢◌, ℕ, ◌+◌, ◌%◌, ◌<◌, ◌≤◌, Bool, true, false, not, ◌&&◌, ◌||◌, nat_eq, nat_le, Option, Some, None, List, [], ◌∷◌, ◌++◌, length, map, refl, ap, sym, ◌∙◌, arith, All, AllPairs, inl, inr, ◌⊎◌, slice_set, get_or, option_map}
 use Rattle.std.proofs.lemmas.Bool.Decides.{nat_tests}
 use Rattle.std.specs.Str.{bytes_eq}
-use Rattle.std.specs.List.{list_any, list_all, concat}
+use Rattle.std.specs.List.{list_any, concat}
 use Rattle.std.proofs.lemmas.Slice.Eq.{bytes_eq-Decides}
-use Rattle.std.proofs.lemmas.List.{length-map, length-set, length-append, map-append}
+use Rattle.std.proofs.lemmas.List.{length-set, length-append, map-append}
 use Rattle.std.proofs.lemmas.List.Elements.{All-append, All-cons, All-nil, All-map}
 use Rattle.std.proofs.lemmas.List.Folds.{list_any_none}
 use Rattle.std.proofs.lemmas.List.Quantifiers.{all_pairs_push, position-Some}
 use Rattle.std.proofs.lemmas.List.Sums.{AllPass-from_list_all}
 use Rattle.cov_base.specs.Memory.{ImageView}
-use Rattle.module_area.specs.Images.{IsImage, AreClear, AreImages}
+use Rattle.module_area.specs.Images.{IsImage, AreClear}
 use Rattle.module_area.specs.Views.{DataView}
-use Rattle.session_book.specs.JobView.{JobView, SessionView, TaskView, IsJob, IsTask, IsSession, IsListing, AreParted, Differ, first_regs}
+use Rattle.session_book.specs.JobView.{JobView, SessionView, TaskView, IsJob, IsSession, IsListing, AreParted, Differ, first_regs}
 use Rattle.session_book.specs.Sessions.{observes}
 use Rattle.job_text.specs.Lines.{LineView}
 use Rattle.job_text.specs.CardView.{Module, Session, Task}
 use Rattle.job_text.specs.Cards.{may_stand}
 use Rattle.job_text.specs.Tasks.{RegView, set_regs, AreData, task_view}
-use Rattle.job_text.specs.Adding.{no_job, is_clear, fits, with_module, with_phase, this_phase, index_of, is_free, put_index, indices_on, session_view, put_session, with_session, has_task, with_task}
+use Rattle.job_text.specs.Adding.{no_job, is_clear, with_phase, this_phase, index_of, is_free, put_index, indices_on, session_view, put_session, with_session}
 use Rattle.job_text.specs.Spells.{AreModules, IsModule, AreSessions, IsTaskBlock, AreTasks, IsPhase, ArePhases, Spells}
-use Rattle.job_text.specs.Limits.{are_short, keeps, IsWithin}
+use Rattle.job_text.specs.Limits.{are_short, IsWithin}
 use Rattle.job_text.specs.declared.limit.Limit.TheVariants as limit
 use Rattle.job_text.specs.Steps.{State, start, is_done, run}
 use Rattle.job_text.proofs.Guards.{guard_some, both, map_some, guard_none, guard_then}

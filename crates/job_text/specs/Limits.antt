@@ -1,5 +1,5 @@
 -- The limits, and when lines pass one.
-use Rattle.std.specs.Prelude.{◌≡◌, ℕ, ◌<◌, Bool, true, false, nat_le, if◌then◌else◌, Option, Some, None, List, ◌++◌, length}
+use Rattle.std.specs.Prelude.{◌≡◌, ℕ, Bool, true, false, nat_le, Option, Some, None, List, ◌++◌, length}
 use Rattle.std.specs.List.{list_all}
 use Rattle.cov_base.specs.Memory.{ImageView}
 use Rattle.session_book.specs.JobView.{JobView, TaskView}

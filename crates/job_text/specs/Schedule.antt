@@ -3,7 +3,7 @@ use Rattle.std.specs.Prelude.{ℕ, if◌then◌else◌, Option, Some, None, List
 use Rattle.std.specs.Str.{bytes_eq}
 use Rattle.cov_base.specs.Names.{name_at}
 use Rattle.cov_base.specs.declared.numbers.TaskNo.{TaskNo}
-use Rattle.session_book.specs.JobView.{JobView, TaskView}
+use Rattle.session_book.specs.JobView.{JobView}
 use Rattle.job_text.specs.Words.{words}
 use Rattle.job_text.specs.declared.schedule.Item.{Item}
 use Rattle.job_text.specs.declared.schedule.Item.TheVariants as item

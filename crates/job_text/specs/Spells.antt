@@ -1,9 +1,9 @@
 -- Which lines spell a job. Each word says how some lines take one job to another.
-use Rattle.std.specs.Prelude.{◌≡◌, ◌⊎◌, ℕ, ◌+◌, ◌-◌, ◌≤◌, true, false, Option, Some, None, List, [], ◌∷◌, ◌++◌, length, map, take}
+use Rattle.std.specs.Prelude.{◌≡◌, ℕ, true, false, Option, Some, None, List, [], ◌∷◌, ◌++◌, length, map}
 use Rattle.std.specs.List.{concat}
 use Rattle.cov_base.specs.Memory.{ImageView}
 use Rattle.module_area.specs.Views.{DataView}
-use Rattle.session_book.specs.JobView.{JobView, TaskView, first_regs}
+use Rattle.session_book.specs.JobView.{JobView, first_regs}
 use Rattle.job_text.specs.Lines.{LineView, listing_text}
 use Rattle.job_text.specs.CardView.{Cover, Module, Text, Listing, Phase, Session, Task, End}
 use Rattle.job_text.specs.Cards.{IsCard}

@@ -1,10 +1,9 @@
 -- The cards of a task.
-use Rattle.std.specs.Prelude.{◌≡◌, ℕ, ◌+◌, ◌≤◌, List, [], ◌∷◌, ◌++◌, length, slice_set}
-use Rattle.std.specs.List.{concat}
+use Rattle.std.specs.Prelude.{ℕ, ◌+◌, ◌≤◌, List, [], ◌∷◌, length, slice_set}
 use Rattle.module_area.specs.Views.{DataView}
-use Rattle.session_book.specs.JobView.{TaskView, first_regs}
+use Rattle.session_book.specs.JobView.{TaskView}
 use Rattle.job_text.specs.Lines.{LineView}
-use Rattle.job_text.specs.CardView.{Task, Reg, Data, Input}
+use Rattle.job_text.specs.CardView.{Reg, Data, Input}
 use Rattle.job_text.specs.Cards.{IsCard}
 
 -- what a REG card says

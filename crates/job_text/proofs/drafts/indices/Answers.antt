@@ -1,4 +1,4 @@
-use Rattle.std.proofs.Common.{◌≡◌, ◌∙◌, None, refl, ap, option_map, get_or}
+use Rattle.std.proofs.Common.{◌≡◌, ◌∙◌, ap, option_map, get_or}
 use Rattle.job_text.proofs.Indices.{indices_stop}
 use Rattle.job_text.proofs.drafts.indices.Goals as goal
 

@@ -1,4 +1,4 @@
-use Rattle.std.proofs.Common.{◌≡◌, ◌∙◌, sym, refl}
+use Rattle.std.proofs.Common.{◌∙◌, sym, refl}
 use Rattle.job_text.proofs.ItemLemmas.{parted, alone}
 use Rattle.job_text.proofs.schedule.item_of.Goals as goal
 
