@@ -1,3 +1,4 @@
 pub mod Finds
+pub mod Kept
 pub mod ReadLemmas
 pub mod RunningLemmas

@@ -2,4 +2,5 @@ pub mod World
 pub mod Steps
 pub mod Core
 pub mod Reads
+pub mod Results
 pub mod Views

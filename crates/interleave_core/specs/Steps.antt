@@ -210,9 +210,3 @@ parts_step w c (Mark t) = of_task c t.0 (mark_step w c t.0)
 parts_step w c (Lift t) = of_task c t.0 (lift_step w c t.0)
 parts_step w c (Do t) = of_task c t.0 (do_step w c t.0)
 parts_step w c (Plant s p) = plant_step w c s.0 p.0
-
--- the event that is possible of the task as it stands
-abbrev pub due_event : Due → Event → Event → Event → Event
-due_event Marking mark lift run = mark
-due_event Lifting mark lift run = lift
-due_event Nothing mark lift run = run

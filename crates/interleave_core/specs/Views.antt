@@ -1,9 +1,12 @@
 -- What a task of a core keeps besides what the core stores of it, and what holds of a core at every moment.
-use Rattle.std.specs.Prelude.{◌≡◌, ◌≢◌, ℕ, ◌+◌, ◌*◌, ◌<◌, Bool, false, Option, Some, None, List, [], ◌∷◌, length, get_or, map}
+use Rattle.std.specs.Prelude.{◌≡◌, ◌≢◌, ℕ, ◌+◌, ◌*◌, ◌<◌, Bool, true, false, Option, Some, None, List, [], ◌∷◌, length, get_or, map}
 use Rattle.cov_base.specs.Codes.{breakpoint}
+use Rattle.cov_base.specs.Facts.{is_within}
+use Rattle.cov_base.specs.FactSet.{FactSet}
 use Rattle.cov_base.specs.States.{Visit}
-use Rattle.module_area.specs.PlainWords.{IsWord, word_at}
-use Rattle.module_area.specs.PlanView.{PlanView, IsPlan, window_at}
+use Rattle.module_area.specs.declared.cells.Cell.{Cell}
+use Rattle.module_area.specs.PlainWords.{IsWord, word_at, set_in}
+use Rattle.module_area.specs.PlanView.{PlanView, IsPlan, kind_at, window_at}
 use Rattle.module_area.specs.declared.places.Place.{Place}
 use Rattle.brk_table.specs.Places.{AreSeen, ArePlaces}
 use Rattle.space_map.specs.Space.{SpaceView, memory_of_space}
@@ -31,6 +34,7 @@ subject_seen visits = None
 pub record IsRunning (w : World) (t : ℕ) (r : RunningView) : Type 0 where
   pub memory : memory_of_space r.space ≡ memory_in w t
   pub bytes : r.space.bytes ≡ r.part.state.machine.bytes
+  pub filled : length r.space.bytes ≡ (memory_of_space r.space).private
   pub budget : r.budget ≡ budget_in w t
   pub seen : AreSeen (memory_in w t) w.places
 
@@ -53,13 +57,14 @@ pub record CoreView : Type 0 where
   pub world : World
   pub parts : Parts
 
-pub record IsCore (w : World) (c : Parts) (plan-kept : PlanView) (tasks : List RunningView) : Type 0 where
-  pub plan : plan-kept ≡ plan_in w
+pub record IsCore (w : World) (cells : List Cell) (sets : List FactSet) (plan : PlanView) (tasks : List RunningView) : Type 0 where
+  pub same_plan : plan ≡ plan_in w
   pub is_plan : IsPlan (plan_in w)
   pub places : ArePlaces w.places
   pub count : length tasks ≡ length w.job.tasks
-  pub cells : length c.cells ≡ length w.places
-  pub sets : length c.sets ≡ length w.job.sessions * length w.places
-  pub words : (p : ℕ) → p < length w.places → IsWord (plan_in w) p (word_at c.cells p)
+  pub cell_count : length cells ≡ length w.places
+  pub set_count : length sets ≡ length w.job.sessions * length w.places
+  pub words : (p : ℕ) → p < length w.places → IsWord (plan_in w) p (word_at cells p)
+  pub within : (s p : ℕ) → 0 < s → p < length w.places → is_within (kind_at (plan_in w) p) (set_in (length w.places) sets s p) ≡ true
   pub running : (t : ℕ) (r : RunningView) → t < length tasks → IsRunning w t (get_or tasks t r)
   pub stages : (t : ℕ) (r : RunningView) → t < length tasks → IsStage w t (get_or tasks t r).part (get_or tasks t r).part.stage

@@ -3,8 +3,10 @@
 
 mod events;
 mod instruction;
+mod interleaving;
 mod running;
 mod stage;
 
 pub use events::{Event, NotPossible, Shown};
+pub use interleaving::Core;
 pub use stage::{Due, Hand, Stage};

@@ -1,18 +1,28 @@
 //! A task of a core.
-ghost use Rattle.std.specs.Prelude.{◌≡◌, ℕ, ◌<◌, option_map, length, IfSome, nat_le};
+ghost use Rattle.std.specs.Prelude.{◌≡◌, ℕ, ◌<◌, option_map, length, IfSome, nat_le, All, IfOk, OnErr};
+ghost use Rattle.std.specs.declared.option.Option.TheVariants.{Some, None};
+ghost use Rattle.module_area.specs.Images.{AreImages};
+ghost use Rattle.brk_table.specs.Places.{IsIn};
+ghost use Rattle.session_book.specs.JobView.{IsTask};
+ghost use Rattle.session_book.specs.Sessions.{task_of};
 ghost use Rattle.s370_exec.specs.Solo.{has_returned};
-ghost use Rattle.interleave_core.specs.declared.stage.Stage.TheVariants.{Ready};
+ghost use Rattle.interleave_core.specs.declared.stage.Stage.TheVariants.{Ready, Holding};
 ghost use Rattle.cov_base.specs.declared.numbers.PlaceNo.{PlaceNo as Number};
-ghost use Rattle.interleave_core.specs.World.{World, place_from};
-ghost use Rattle.interleave_core.specs.Steps.{place_due, subject_place, step_of, visit_of, stage_after, executed};
+ghost use Rattle.interleave_core.specs.World.{World, place_from, first_part};
+ghost use Rattle.interleave_core.specs.Steps.{place_due, subject_place, step_of, visit_of, stage_after, is_awaiting, with_stage, in_hand, executed, instruction_executed, ready_done, task_done};
+ghost use Rattle.interleave_core.specs.Results.{stage_event};
 ghost use Rattle.interleave_core.specs.Views.{IsRunning};
 
+use crate::events::{Event, NotPossible};
 use crate::instruction::{instruction_went, run_step, subject_seen};
-use crate::stage::Stage;
+use crate::stage::{Due, Hand, Stage};
 use brk_table::Tables;
-use cov_base::{Addr, PlaceNo};
-use s370_state::{Cpu, Next, TaskIo};
+use cov_base::{Addr, NoMemory, PlaceNo, TaskNo};
+use module_area::Images;
+use s370_state::{Cpu, Ending, Next, TaskIo};
+use session_book::{Job, TaskCard};
 use space_map::TaskSpace;
+use std::alloc::Global;
 use std::marker::Model;
 
 /// Where a task returns to.
@@ -110,6 +120,16 @@ impl<'a> Running<'a> {
         }
     }
 
+    /// Whether the subject of an EX is to be fetched.
+    pub(crate) fn is_awaiting(&self) -> bool
+        ensures { result ≡ is_awaiting self.now.part.stage }
+    {
+        match self.stage {
+            Stage::Awaiting => true,
+            _ => false,
+        }
+    }
+
     /// Whether the next instruction, or the subject that it visits, branches.
     pub(crate) fn went(&self, subject: bool) -> bool
         ensures { (w : World) (t : ℕ) → IsRunning w t self.now → (visit_of (step_of w t self.now.part) subject).went ≡ result }
@@ -124,6 +144,23 @@ impl<'a> Running<'a> {
         }
     }
 
+    /// Holds the cell from here on.
+    pub(crate) fn hold(&mut self, hand: Hand)
+        ensures { self.new ≡ record self.old { part = with_stage self.old.part (Holding hand) } }
+    {
+        self.stage = Stage::Holding(hand);
+    }
+
+    /// The cell in hand, where this is due of it.
+    pub(crate) fn in_hand(&self, due: Due) -> Option<Hand>
+        ensures { result ≡ in_hand due self.now.part.stage }
+    {
+        match self.stage {
+            Stage::Holding(hand) => if hand.due == due { Some(hand) } else { None },
+            _ => None,
+        }
+    }
+
     /// Executes an instruction whole.
     fn execute(&mut self)
         requires { self.old.part.state.done < self.old.budget }
@@ -132,6 +169,150 @@ impl<'a> Running<'a> {
     {
         self.done += 1;
         let next = run_step(&mut self.cpu, &mut self.space, &mut self.io);
+        // the proof reads off the size that private storage still fills it
+        let _ = self.space.size();
         self.stage = stage_after(next);
     }
+
+    /// Executes an instruction whole, or an EX up to its subject where a place begins there.
+    fn execute_to_place(&mut self, tables: &Tables)
+        requires { self.old.part.state.done < self.old.budget }
+        ensures part { (w : World) (t : ℕ) → w.places ≡ tables.now.places → IsRunning w t self.old → self.new.part ≡ instruction_executed w t self.old.part }
+        ensures running { (w : World) (t : ℕ) → IsRunning w t self.old → IsRunning w t self.new }
+    {
+        match self.subject_place(tables) {
+            Some(_) => self.stage = Stage::Awaiting,
+            None => self.execute(),
+        }
+    }
+
+    /// Ends the task before an instruction, or executes the instruction; refused where a place begins there.
+    fn begin(&mut self, tables: &Tables) -> Result<(), NotPossible>
+        ensures done { (w : World) (t : ℕ) → w.places ≡ tables.now.places → IsRunning w t self.old → IfOk result (λ _. ready_done w t self.old.part ≡ Some self.new.part) }
+        ensures refused { (w : World) (t : ℕ) → w.places ≡ tables.now.places → IsRunning w t self.old → OnErr result (ready_done w t self.old.part ≡ None) }
+        ensures kept { OnErr result (self.new ≡ self.old) }
+        ensures running { (w : World) (t : ℕ) → IsRunning w t self.old → IsRunning w t self.new }
+    {
+        if self.has_returned() {
+            self.stage = Stage::Ended(Ending::Returned);
+            return Ok(());
+        }
+        if self.is_spent() {
+            self.stage = Stage::Ended(Ending::Spent);
+            return Ok(());
+        }
+        match place_at(tables, self.cpu.at()) {
+            Some(_) => Err(NotPossible),
+            None => {
+                self.execute_to_place(tables);
+                Ok(())
+            }
+        }
+    }
+
+    /// Executes the instruction in hand.
+    fn go_on(&mut self, tables: &Tables, hand: Hand) -> Result<(), NotPossible>
+        requires { self.old.part.state.done < self.old.budget }
+        ensures done { (w : World) (t : ℕ) → w.places ≡ tables.now.places → IsRunning w t self.old → IfOk result (λ _. task_done w t self.old.part (Holding hand) ≡ Some self.new.part) }
+        ensures refused { (w : World) (t : ℕ) → OnErr result (task_done w t self.old.part (Holding hand) ≡ None) }
+        ensures kept { OnErr result (self.new ≡ self.old) }
+        ensures running { (w : World) (t : ℕ) → IsRunning w t self.old → IsRunning w t self.new }
+    {
+        match hand.due {
+            Due::Nothing => {
+                if hand.subject {
+                    self.execute();
+                } else {
+                    self.execute_to_place(tables);
+                }
+                Ok(())
+            }
+            _ => Err(NotPossible),
+        }
+    }
+
+    /// Executes the next instruction or the one in hand, or ends the task before an instruction; refused where a cell
+    /// is to be fetched, marked or lifted before, or the task has ended.
+    pub(crate) fn run(&mut self, tables: &Tables) -> Result<(), NotPossible>
+        requires { (h : Hand) → self.old.part.stage ≡ Holding h → self.old.part.state.done < self.old.budget }
+        ensures done { (w : World) (t : ℕ) → w.places ≡ tables.now.places → IsRunning w t self.old → IfOk result (λ _. task_done w t self.old.part self.old.part.stage ≡ Some self.new.part) }
+        ensures refused { (w : World) (t : ℕ) → w.places ≡ tables.now.places → IsRunning w t self.old → OnErr result (task_done w t self.old.part self.old.part.stage ≡ None) }
+        ensures kept { OnErr result (self.new ≡ self.old) }
+        ensures running { (w : World) (t : ℕ) → IsRunning w t self.old → IsRunning w t self.new }
+    {
+        match self.stage {
+            Stage::Ready => self.begin(tables),
+            Stage::Holding(hand) => self.go_on(tables, hand),
+            _ => Err(NotPossible),
+        }
+    }
+
+    /// The event that is possible of it as task t; none where it has ended.
+    pub(crate) fn next(&self, t: TaskNo, tables: &Tables) -> Option<Event>
+        ensures { (w : World) → w.places ≡ tables.now.places → IsRunning w t.0 self.now → result ≡ stage_event w t self.now.part self.now.part.stage }
+    {
+        match self.stage {
+            Stage::Ready => match self.instruction_due(tables) {
+                Some(_) => Some(Event::Fetch(t)),
+                None => Some(Event::Do(t)),
+            },
+            Stage::Awaiting => Some(Event::Fetch(t)),
+            Stage::Holding(hand) => match hand.due {
+                Due::Marking => Some(Event::Mark(t)),
+                Due::Lifting => Some(Event::Lift(t)),
+                Due::Nothing => Some(Event::Do(t)),
+            },
+            Stage::Ended(_) => None,
+        }
+    }
+
+    /// A task of the job before its first instruction.
+    pub(crate) fn new(
+        alloc: Global,
+        job: &'a Job,
+        tables: &'a Tables,
+        t: usize,
+    ) -> Result<Running<'a>, NoMemory>
+        requires task { t < length job.now.tasks }
+        requires tables { All (IsIn job.now.images) tables.now.places }
+        ensures running { IfOk result (IsRunning (record { job = job.now; places = tables.now.places }) t) }
+        ensures part { IfOk result (λ r. r.part ≡ first_part (task_of job.now t)) }
+    {
+        let card = card_of(job, t);
+        let space = TaskSpace::new(alloc, card.private, &card.cards, images_of(job), tables)?;
+        let _ = space.size();
+        let input = card.input.to_vec(alloc)?;
+        let io = TaskIo::new(alloc, input, card.room)?;
+        let cpu = Cpu {
+            regs: card.regs,
+            ia: card.entry,
+            cc: 0,
+            mask: 0,
+        };
+        Ok(Running {
+            cpu,
+            space,
+            io,
+            done: 0,
+            budget: card.budget,
+            stage: Stage::Ready,
+        })
+    }
+}
+
+/// A task of the job.
+fn card_of(job: &Job, t: usize) -> &TaskCard
+    requires { t < length job.now.tasks }
+    ensures value { result.now ≡ task_of job.now t }
+    ensures card { IsTask (length job.now.phases) result.now }
+{
+    &job.tasks[t]
+}
+
+/// The job's modules.
+fn images_of(job: &Job) -> &Images
+    ensures value { result.now ≡ job.now.images }
+    ensures images { AreImages result.now }
+{
+    &job.images
 }
