@@ -1,5 +1,5 @@
 -- Each kind of step on one word keeps the rule.
-use Rattle.std.proofs.Common.{◌≡◌, ◌≢◌, ◌⊎◌, ℕ, ◌+◌, ◌-◌, ◌*◌, ◌/◌, ◌%◌, ◌<◌, ◌≤◌, ◌&&◌, ◌||◌, Bool, true, false, nat_eq, if◌then◌else◌, Option, Some, None, List, [], ◌∷◌, length, set, sym, refl, ap, ◌∙◌, subst, inl, inr, ⊎_elim, arith, eq-eqb, ne_eqb, eqb-true}
+use Rattle.std.proofs.Common.{◌≡◌, ◌≢◌, ◌⊎◌, ℕ, ◌+◌, ◌*◌, ◌%◌, ◌<◌, ◌≤◌, ◌&&◌, ◌||◌, Bool, true, false, nat_eq, if◌then◌else◌, Some, None, List, ◌∷◌, length, set, sym, refl, ap, ◌∙◌, subst, inl, inr, ⊎_elim, arith, eq-eqb, ne_eqb, eqb-true}
 use mathlib.Core.Option.{some}
 use mathlib.Core.Logic.{dite}
 use native.Mathlib.Decide.{ℕ_discrete}
@@ -15,9 +15,9 @@ use Rattle.module_area.specs.declared.cells.Cell.{Cell}
 use Rattle.module_area.specs.declared.parties.View.{View}
 use Rattle.module_area.specs.declared.parties.Role.{Role}
 use Rattle.module_area.specs.declared.parties.Role.TheVariants.{Root, Task, Spent}
-use Rattle.module_area.specs.PlanView.{PlanView, IsPlan, original_at, kind_at, window_at, is_over, is_controlled, is_controller}
+use Rattle.module_area.specs.PlanView.{PlanView, original_at, kind_at, is_over, is_controlled, is_controller}
 use Rattle.module_area.specs.Parties.{Has, add_if, times, total, last_tag, window_tag, session_of, is_breakpoint, is_lifted, blank, fetching, marking, lifting, planting, closing}
-use Rattle.module_area.specs.Held.{untouched, planted, lifted, closed, IsForm, Once, KeepsAs, Keeps, IsRole, Owes, Kept, IsSite, Held}
+use Rattle.module_area.specs.Held.{planted, lifted, closed, IsForm, Once, KeepsAs, Keeps, IsRole, Owes, Kept, IsSite, Held}
 use Rattle.module_area.proofs.FactLemmas.{has_fact-with_fact, same_fact-true, is_full-true}
 use Rattle.module_area.proofs.PlanLemmas.{one_controller, no_controller}
 use Rattle.module_area.proofs.PartyLemmas.{has-add_if, more-add_if, here-add_if, at_put, at_set, all_set, some_set, total-set}
@@ -81,7 +81,7 @@ some_of : (k : Kind) → (f : Fact) × (has_fact (full_of k) f ≡ true)
 some_of Straight = (Ran, refl)
 some_of Conditional = (Went, refl)
 
-full_some : (k : Kind) (s : FactSet) → is_full k s ≡ true → (f : Fact) × (has_fact s f ≡ true)
+pub full_some : (k : Kind) (s : FactSet) → is_full k s ≡ true → (f : Fact) × (has_fact s f ≡ true)
 full_some k s h = let x = some_of k in (x.0, subst (λ z. has_fact z x.0 ≡ true) (sym (is_full-true k s h)) x.1)
 
 -- a breakpoint is no original
@@ -241,9 +241,12 @@ module _ (plan : PlanView) where
           let o : ℕ = original_at plan p in
           let pos = a.1 in
           let tag : (cell p).tag ≡ window_tag a.0 = ap (λ (z : Cell). z.tag) a.3 in
-          let is : session_of (cell p).tag ≡ a.0 = omega (arith, tag, pos) in
-          (subst (λ k. 0 < k) (sym is) pos, ap window_tag is ∙ sym tag, subst (λ k. is_full (kind_at plan p) (sets k p) ≡ true) (sym is) ((r.site p l).full a.0 pos a.3),
-          λ b. planted_not (session_of (cell p).tag) (lifted a.0 o) (r.is_plan.no_breakpoint p l) (sym b ∙ a.3))
+          let is : session_of (cell p).tag ≡ a.0 = omega (arith, tag, pos) in (
+            subst (λ k. 0 < k) (sym is) pos,
+            ap window_tag is ∙ sym tag,
+            subst (λ k. is_full (kind_at plan p) (sets k p) ≡ true) (sym is) ((r.site p l).full a.0 pos a.3),
+            λ b. planted_not (session_of (cell p).tag) (lifted a.0 o) (r.is_plan.no_breakpoint p l) (sym b ∙ a.3),
+          )
 
       pub fetch_kept : Kept plan cell sets (fetching plan p (cell p) v)
       fetch_kept = let k = r.kept id v at in let w : View = fetching plan p (cell p) v in record {

@@ -24,4 +24,4 @@ pub use plain_areas::PlainAreas;
 pub use plain_cells::{PlainCells, PlainPass};
 pub use plan::{Controlled, Plan};
 pub use tallies::Tally;
-pub use traits::Cells;
+pub use traits::{Cells, Forks};
