@@ -1,0 +1,11 @@
+//! The area that threads share: a word for each place, and one for each session and place.
+#![tactic(auto)]
+
+mod cells;
+mod pass;
+mod rule;
+mod steps;
+mod words;
+
+pub use cells::SharedCells;
+pub use pass::SharedPass;
