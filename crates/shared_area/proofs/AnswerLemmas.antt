@@ -52,13 +52,17 @@ module _ (plan : PlanView) (p : ℕ) (c : Cell) (ok : IsPlan plan) (l : p < leng
   window_most (inr (s, pos, over, inr (inr e))) w = absurd (no_controlled plan s p ok w e.1)
 
 module _ (plan : PlanView) (cell : ℕ → Cell) (sets : ℕ → ℕ → FactSet) (views : List View) (r : Held plan cell sets views) (id : ℕ) (v : View) (at : get_elem? views id ≡ some v) where
+  -- what it planted it has seen
+  pub last_seen : (p : ℕ) → last_tag p v.planted ≤ seen_at p v.seen
+  last_seen p = ⊎_elim (λ z. omega arith) (λ h. seen_has p (last_tag p v.planted) v.seen ((r.kept id v at).planted p (last_tag p v.planted) h)) (last_has p v.planted)
+
   module _ (live : v.role ≢ Spent) (p : ℕ) (l : p < length plan.places) where
     later : seen_at p v.seen ≤ (cell p).tag
     later = seen_most p (cell p).tag v.seen (λ t h. ((r.kept id v at).seen p t h).1)
 
     root_tag : bears_as v.role ≡ None → 0 < window_at plan p → (cell p).tag ≤ seen_at p v.seen
     root_tag e w = let tie = r.ties id v at p l (subst (KeepsAs plan v p) (sym (is_root v.role live e)) (inl w)) in
-        ⊎_elim (λ z. omega arith) (λ h. let x = seen_has p (last_tag p v.planted) v.seen ((r.kept id v at).planted p (last_tag p v.planted) h) in omega arith) (last_has p v.planted)
+        let x = last_seen p in omega arith
 
     pub answers : IsAnswer plan (notes_in v no_tally) p (cell p)
     answers = let form = (r.site p l).form in let ok = r.is_plan in record {

@@ -1,3 +1,6 @@
 pub mod AnswerLemmas
+pub mod CallLemmas
 pub mod NoteLemmas
+pub mod StayLemmas
+pub mod TableLemmas
 pub mod WordLemmas

@@ -26,7 +26,7 @@ impl Cells for SharedCells {
     }
 
     fn mark(&self, pass: &mut SharedPass, s: SessNo, place: PlaceNo, fact: Fact) -> Bits {
-        let at = s.0 as usize * self.plan.places.len() + place.0 as usize;
+        let at = s.0 as usize * self.plan.places_len() as usize + place.0 as usize;
         let found = self.table.shared.fetch_or::<Brand>(&mut pass.seat, at, bit(fact));
         pass.tally.marks += 1;
         facts(found)
