@@ -1,5 +1,5 @@
 -- What the calls of an area ask of its table, and what the steps' tellings come to.
-use Rattle.std.proofs.Common.{◌≡◌, ◌≢◌, ℕ, ◌+◌, ◌-◌, ◌*◌, ◌/◌, ◌%◌, ◌<◌, ◌≤◌, Bool, true, false, nat_eq, eqb, Option, Some, None, List, [], length, sym, refl, ap, ◌∙◌, subst, arith, bit_or, ⊎_elim, inl, if◌then◌else◌, nat_lt, lt-ltb, eq-eqb}
+use Rattle.std.proofs.Common.{◌≡◌, ◌≢◌, ℕ, ◌+◌, ◌-◌, ◌*◌, ◌/◌, ◌%◌, ◌<◌, ◌≤◌, Bool, true, false, nat_eq, eqb, Option, Some, None, List, [], length, sym, refl, ap, ◌∙◌, subst, arith, bit_or, ⊎_elim, inl, if◌then◌else◌, nat_lt, lt-ltb, eq-eqb, length-append, IsSome}
 use prog.Atomic.{either}
 use Rattle.atomic_table.specs.Table.{Allows}
 use Rattle.atomic_table.specs.declared.shared.Seat.{Seat}
@@ -10,16 +10,16 @@ use Rattle.module_area.specs.declared.parties.View.{View}
 use Rattle.module_area.specs.declared.parties.Role.{Role}
 use Rattle.module_area.specs.declared.parties.Role.TheVariants.{Root, Task, Spent}
 use Rattle.module_area.specs.PlanView.{PlanView, original_at, kind_at, window_at, is_over, is_controlled}
-use Rattle.module_area.specs.Parties.{Has, add_if, last_tag, window_tag, fetching, marking, lifting, planting}
+use Rattle.module_area.specs.Parties.{Has, add_if, last_tag, window_tag, fetching, marking, lifting, planting, giving, joining, task_of}
 use Rattle.module_area.specs.Held.{KeepsAs, Keeps}
 use Rattle.shared_area.specs.declared.rule.NoSlot.{NoSlot}
 use Rattle.shared_area.specs.declared.cells.SharedCells.{SharedCells}
 use Rattle.shared_area.specs.Words.{cell_of, word_of, session_in, facts_of, bit_of, fact_in, place_of}
-use Rattle.shared_area.specs.Told.{is_given, bears_as, seen_at}
+use Rattle.shared_area.specs.Told.{is_given, has_number, bears_as, seen_at}
 use Rattle.shared_area.specs.Rule.{IsArea, Fetched, Marked, Lifted}
 use Rattle.shared_area.proofs.WordLemmas.{session_in-word_of, fact_in-bit_of}
 use Rattle.module_area.proofs.Indices.{and_both}
-use Rattle.shared_area.proofs.NoteLemmas.{or_left}
+use Rattle.shared_area.proofs.NoteLemmas.{or_left, more_given}
 use Rattle.shared_area.proofs.AnswerLemmas.{is_root}
 use Rattle.shared_area.proofs.TableLemmas.{row_within, row_of, column_of, fetch_allowed, mark_allowed, lift_allowed, plant_allowed}
 
@@ -47,6 +47,21 @@ lift_live s p a b k did v v' e n h = subst (IsLive a (b + k)) (sym e) record { l
 
 pub plant_live : (s p a b : ℕ) (v v' : View) → v' ≡ planting s p v → IsLive a b v → IsLive a b v'
 plant_live s p a b v v' e h = subst (IsLive a b) (sym e) record { live = h.live; counted = h.counted; given = h.given }
+
+pub split_live : (t a b : ℕ) (v v' : View) → v' ≡ giving t v → IsLive a b v → IsLive a b v'
+split_live t a b v v' e h = subst (IsLive a b) (sym e) record { live = h.live; counted = h.counted; given = more_given t v.given v.joined h.given }
+
+pub join_live : (plan : PlanView) (a b a' b' : ℕ) (v v' o : View) → v' ≡ joining plan v o → IsLive a b v → IsLive a' b' o → has_number (task_of o.role) v.given ≡ true → IsLive (a + a') (b + b') v'
+join_live plan a b a' b' v v' o e h h' out = subst (IsLive (a + a') (b + b')) (sym e) record {
+  live = h.live;
+  counted = ((let x = h.counted.0 in let y = h'.counted.0 in let z = length-append o.marked v.marked in omega arith), (let x = h.counted.1 in let y = h'.counted.1 in let z = length-append o.lifted v.lifted in omega arith));
+  given = and_both (has_number (task_of o.role) v.given) _ out h.given;
+}
+
+pub is_task : (r : Role) → IsSome (bears_as r) → r ≡ Task (task_of r)
+is_task (Task t) h = refl
+is_task Root h = absurd cc
+is_task Spent h = absurd cc
 
 module _ (me : SharedCells) where
   abbrev Key : PlanView

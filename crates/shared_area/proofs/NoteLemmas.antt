@@ -74,6 +74,9 @@ number_shown t [] h = absurd h
 number_shown t (u ∷ us) (inr h) = or_left (has_number t us) _ (number_shown t us h)
 number_shown t (u ∷ us) (inl e) = or_right (has_number t us) (nat_eq t u) (eq-eqb t u (sym e))
 
+pub not_there : (t : ℕ) (us : List ℕ) → has_number t us ≡ false → Has t us → ⊥
+not_there t us e h = let x = number_shown t us h in absurd cc
+
 -- ---- the highest tag
 seen_step : (p : ℕ) (x : ℕ × ℕ) (xs : List (ℕ × ℕ)) (b : Bool) → nat_eq p x.0 ≡ b → (t : ℕ) → x ≡ (p, t) → t ≤ (if b then max x.1 (seen_at p xs) else seen_at p xs)
 seen_step p x xs true e t h = let y : x.1 ≡ t = ap (λ (z : ℕ × ℕ). z.1) h in omega arith

@@ -2,6 +2,7 @@
 #![tactic(auto)]
 
 mod cells;
+mod forks;
 mod pass;
 mod rule;
 mod steps;
