@@ -1,3 +1,4 @@
+pub mod Begin
 pub mod Passes
 pub mod Rule
 pub mod Told
