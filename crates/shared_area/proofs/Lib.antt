@@ -1,4 +1,5 @@
 pub mod AnswerLemmas
+pub mod BeginLemmas
 pub mod CallLemmas
 pub mod NoteLemmas
 pub mod StayLemmas
