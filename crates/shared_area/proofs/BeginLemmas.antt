@@ -1,8 +1,6 @@
 -- The words of a new area keep the rule.
 use Rattle.std.proofs.Common.{◌≡◌, ◌≢◌, ℕ, zero, suc, ◌+◌, ◌-◌, ◌*◌, ◌/◌, ◌%◌, ◌<◌, ◌≤◌, Bool, true, false, nat_eq, if◌then◌else◌, List, [], ◌∷◌, ◌++◌, map, length, replicate, get_or, take, drop, sym, refl, ap, ◌∙◌, subst, arith, length-append, suc-mul, add-one, eqb-true}
 use mathlib.Core.Option.{some, some-injective, some-ne-none}
-use mathlib.Core.Logic.{dite}
-use native.Mathlib.Decide.{ℕ_discrete}
 use lib.ListN.{get_elem?}
 use Rattle.std.proofs.lemmas.List.{get_or-map, get_or-append_right, get_or_append_left, length-map, length-replicate}
 use Rattle.atomic_table.specs.Table.{opening}
@@ -68,6 +66,3 @@ dropped_at (y ∷ ys) (suc n) i w e = let z : suc n + i ≡ suc (n + i) = omega 
 
 pub more_sets : (l : List ℕ) (n i w : ℕ) → get_elem? l (n + i) ≡ some w → map facts_of (take i (drop n l)) ++ facts_of w ∷ [] ≡ map facts_of (take (i + 1) (drop n l))
 more_sets l n i w e = next_set (drop n l) i w (dropped_at l n i w e) ∙ ap (λ k. map facts_of (take k (drop n l))) (sym (add-one i))
-
-pub one_more_fits : (plan : PlanView) (i k : ℕ) → AllFit plan i → k ≡ original_at plan i → k < 65536 → AllFit plan (i + 1)
-one_more_fits plan i k h e small p l = dite (ℕ_discrete p i) (λ same. subst (λ q. original_at plan q < 65536) (sym same) (omega arith)) (λ n. h p (omega arith))

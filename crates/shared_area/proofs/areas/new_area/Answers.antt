@@ -10,5 +10,5 @@ use Rattle.shared_area.proofs.areas.new_area.Goals as goal
 
 pub of_words-requires : goal.of_words-requires
 of_words-requires c = let plan = c.in_ok-plan.plan in
-    let words : c.as_slice.result.now ≡ starting plan = c.as_slice.ensures.value ∙ (c.in_ok-words.ensures tt).value in
-    subst (λ (z : PlanView × List ℕ). IsArea z.0 (opening z.1 [] (blank Root))) (λ i. (sym c.of-key.ensures i, sym words i)) (begins_area plan (c.in_ok-words.ensures tt).plan (c.in_ok-words.ensures tt).fits)
+    let words : c.as_slice.result.now ≡ starting plan = c.as_slice.ensures.value ∙ c.in_ok-words.ensures.value in
+    subst (λ (z : PlanView × List ℕ). IsArea z.0 (opening z.1 [] (blank Root))) (λ i. (sym c.of-key.ensures i, sym words i)) (begins_area plan c.in_ok-words.ensures.plan c.in_ok-words.ensures.fits)
