@@ -1,6 +1,7 @@
 pub mod AnswerLemmas
 pub mod BeginLemmas
 pub mod CallLemmas
+pub mod CloseLemmas
 pub mod EndLemmas
 pub mod NoteLemmas
 pub mod StayLemmas
