@@ -1,18 +1,34 @@
 -- What a whole input's size says of its lines.
-use Rattle.std.proofs.Common.{◌≤◌, ℕ, Option, Some, None, List, length, get_or, arith, All}
+use Rattle.std.proofs.Common.{◌≡◌, ◌≤◌, ℕ, ◌+◌, Option, Some, None, List, length, length-append, take, drop, get_or, ap, ◌∙◌, arith, All}
 use Rattle.session_book.specs.JobView.{JobView}
-use Rattle.job_text.specs.Lines.{lines_of}
+use Rattle.job_text.specs.Lines.{LineView, lines_of}
+use Rattle.job_text.specs.Refusals.{IsRead}
+use Rattle.job_text.specs.declared.jobs.ReadJob.{ReadJob}
 use Rattle.job_text.specs.Spells.{Spells}
 use Rattle.job_text.proofs.Excluded.{IsFew, listings_few}
 use Rattle.job_text.proofs.Spans.{lines_count}
 use Rattle.report_text.specs.Conditions.{HasFewLines}
 
--- a listing's lines are lines of the input
-pub few_lines : (bytes : List ℕ) (j : JobView) → length bytes ≤ 16777216 → Spells (lines_of bytes) j → HasFewLines j
-few_lines bytes j most s =
-    let few : All (IsFew (length (lines_of bytes))) j.listings = listings_few (lines_of bytes) j s in
-    λ k d l. fewer (length (lines_of bytes)) (get_or j.listings k d) (omega (arith, most, lines_count bytes)) (few k d l)
+few_of : (lines : List LineView) (j : JobView) → length lines ≤ 16777216 → Spells lines j → HasFewLines j
+few_of lines j most s =
+    let few : All (IsFew (length lines)) j.listings = listings_few lines j s in
+    λ k d l. fewer (length lines) (get_or j.listings k d) most (few k d l)
   where
     fewer : (n : ℕ) (o : Option (List (List ℕ))) → n ≤ 16777216 → IsFew n o → IsFew 16777216 o
     fewer n None h f = tt
     fewer n (Some texts) h f = omega (arith, h, f)
+
+-- a listing's lines are lines of the input
+pub few_lines : (bytes : List ℕ) (j : JobView) → length bytes ≤ 16777216 → Spells (lines_of bytes) j → HasFewLines j
+few_lines bytes j most s = few_of (lines_of bytes) j (omega (arith, most, lines_count bytes)) s
+
+-- and those of a job that the first lines spell
+pub few_first : (bytes : List ℕ) (r : ReadJob) → length bytes ≤ 16777216 → IsRead bytes r → HasFewLines r.job
+few_first bytes r most read =
+    let size : length (lines_of bytes) ≡ length (lines_of (take r.end bytes)) + length (lines_of (drop r.end bytes)) = ap length read.parted ∙ length-append (lines_of (take r.end bytes)) (lines_of (drop r.end bytes)) in
+    few_of (lines_of (take r.end bytes)) r.job (omega (arith, size, most, lines_count bytes)) read.spells
+
+pub count_most : (bytes : List ℕ) (r : ReadJob) → IsRead bytes r → r.lines ≤ length bytes
+count_most bytes r read =
+    let size : length (lines_of bytes) ≡ length (lines_of (take r.end bytes)) + length (lines_of (drop r.end bytes)) = ap length read.parted ∙ length-append (lines_of (take r.end bytes)) (lines_of (drop r.end bytes)) in
+    omega (arith, size, read.count, lines_count bytes)

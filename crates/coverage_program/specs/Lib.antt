@@ -7,3 +7,4 @@ pub mod Runs
 pub mod Sets
 pub mod Tasks
 pub mod Words
+pub mod Replay

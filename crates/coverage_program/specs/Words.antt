@@ -3,23 +3,30 @@ use Rattle.std.specs.Prelude.{ℕ, Bool, true, false, if◌then◌else◌, List,
 use Rattle.job_text.specs.declared.limit.Limit.{Limit}
 use Rattle.job_text.specs.declared.limit.Limit.TheVariants as limit
 use Rattle.coverage_program.specs.declared.words.Command.{Command}
-use Rattle.coverage_program.specs.declared.words.Command.TheVariants.{Run, Table, Unknown}
+use Rattle.coverage_program.specs.declared.words.Command.TheVariants.{Run, Table, Replay, Unknown}
 
 -- the command that the words are: one word alone
 abbrev pub command_of : List (List ℕ) → Command
-command_of (w ∷ []) = if bytes_eq w (codes "run") then Run else (if bytes_eq w (codes "table") then Table else Unknown)
+command_of (w ∷ []) = if bytes_eq w (codes "run") then Run else (if bytes_eq w (codes "table") then Table else (if bytes_eq w (codes "replay") then Replay else Unknown))
 command_of words = Unknown
 
 -- as it is served without areas
 abbrev pub without_areas : Command → Command
 without_areas Run = Unknown
 without_areas Table = Table
+without_areas Replay = Replay
 without_areas Unknown = Unknown
 
 abbrev pub reads_job : Command → Bool
 reads_job Run = true
 reads_job Table = true
+reads_job Replay = true
 reads_job Unknown = false
+
+-- more than a job may stand in its input
+abbrev pub takes_more : Command → Bool
+takes_more Replay = true
+takes_more c = false
 
 abbrev pub usage_line : List ℕ
 usage_line = codes "USAGE: run | marks NAME | trial NUMBER TASKS | table | replay | combine | show NAME\n"
@@ -52,3 +59,7 @@ limit_name limit.Room = codes "ROOM"
 
 abbrev pub large_job_line : Limit → ℕ → List ℕ
 large_job_line what n = codes "TOO LARGE " ++ limit_name what ++ codes " LINE " ++ decimal n ++ 10 ∷ []
+
+-- a line of the input that is no item of its schedule
+abbrev pub bad_schedule_line : ℕ → List ℕ
+bad_schedule_line n = codes "BAD SCHEDULE LINE " ++ decimal n ++ 10 ∷ []

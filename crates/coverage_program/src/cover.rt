@@ -32,7 +32,7 @@ fn answer_tables<K: Sink, A: Areas>(
     requires numbered { tables.now.places ≡ all_places tables.now.tables }
     requires places { All (IsIn job.now.images) tables.now.places }
     requires room { A.made areas.old < 2 ^ 61 }
-    ensures { (s : SourceChange) → CameJob s job.now →
+    ensures { (s : SourceChange) → CameJob false s job.now →
         Answers Command.Run s (record { ledger = A.ledger areas.old; finals = A.finals areas.old; made = A.made areas.old }) (record { ledger = A.ledger areas.new; finals = A.finals areas.new; made = A.made areas.new })
         (K.written sink.old) (K.written sink.new) (K.faults sink.old) (K.faults sink.new) result.0 }
 {
@@ -89,6 +89,7 @@ fn answer_one<S: Source, K: Sink>(
 {
     match command_of(words) {
         Command::Table => answer_table(alloc, source, sink),
+        Command::Replay => told(sink, USAGE, 1),
         Command::Run => told(sink, USAGE, 1),
         Command::Unknown => told(sink, USAGE, 1),
     }
@@ -110,6 +111,7 @@ fn answer_words<S: Source, K: Sink, A: Areas>(
     match command_of(words) {
         Command::Run => answer_run(alloc, source, sink, areas),
         Command::Table => cover_one(alloc, words, source, sink),
+        Command::Replay => cover_one(alloc, words, source, sink),
         Command::Unknown => cover_one(alloc, words, source, sink),
     }
 }
@@ -134,8 +136,10 @@ pub fn cover<S: Source, K: Sink, A: Areas>(
     answer_words(alloc, words, source, sink, areas)
 }
 
-/// Serves the commands that run nothing: `table` reads a job from the source and writes the places of its modules to
-/// the sink. For all other words, `run` too, it is status 1. It makes no area, and always returns.
+/// Serves the commands that need no areas: `table` reads a job from the source and writes the places of its modules to
+/// the sink; `replay` reads a job of one phase and a schedule, plays the schedule on the core, and writes what its
+/// items have shown and the report of what they come to. For all other words, `run` too, it is status 1. It always
+/// returns.
 pub fn cover_one<S: Source, K: Sink>(
     alloc: Global,
     words: &[String],

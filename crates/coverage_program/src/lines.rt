@@ -1,6 +1,6 @@
 //! The lines that refusals are told by.
-ghost use Rattle.std.specs.Prelude.{◌≡◌, ◌<◌, ◌≤◌, ◌^◌, codes, length};
-ghost use Rattle.coverage_program.specs.Words.{bad_job_line, limit_name, large_job_line};
+ghost use Rattle.std.specs.Prelude.{◌≡◌, ◌<◌, ◌≤◌, ◌^◌, ◌++◌, ◌∷◌, [], codes, decimal, length};
+ghost use Rattle.coverage_program.specs.Words.{bad_job_line, limit_name, large_job_line, bad_schedule_line};
 
 use annotator::text::{add_number, add_text};
 use arrayvec::ArrayVec;
@@ -19,15 +19,30 @@ pub const TOO_LARGE_INPUT: &[u8] = b"TOO LARGE INPUT\n";
 /// For a growth that the allocator refused.
 pub const NO_MEMORY: &[u8] = b"NO MEMORY\n";
 
+/// A line of these words and a number.
+fn number_line(words: &[u8], n: u32) -> ArrayVec<u8, 160>
+    requires { length words.now ≤ 100 }
+    ensures { result.items ≡ words.now ++ decimal n ++ 10 ∷ [] }
+{
+    let mut line = ArrayVec::new();
+    add_text(&mut line, words);
+    add_number(&mut line, u64::from(n));
+    add_text(&mut line, b"\n");
+    line
+}
+
 /// Line n of the input is the first with which no job goes on.
 pub fn bad_job_line(n: u32) -> ArrayVec<u8, 160>
     ensures { result.items ≡ bad_job_line n }
 {
-    let mut line = ArrayVec::new();
-    add_text(&mut line, b"BAD JOB LINE ");
-    add_number(&mut line, u64::from(n));
-    add_text(&mut line, b"\n");
-    line
+    number_line(b"BAD JOB LINE ", n)
+}
+
+/// Line n of the input is no item of its schedule, or none that is possible there.
+pub fn bad_schedule_line(n: u32) -> ArrayVec<u8, 160>
+    ensures { result.items ≡ bad_schedule_line n }
+{
+    number_line(b"BAD SCHEDULE LINE ", n)
 }
 
 /// The name that a limit is told by.

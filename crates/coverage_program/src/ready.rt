@@ -1,11 +1,9 @@
 //! The job that a source gives, and the tables of its listings.
-ghost use Rattle.std.specs.Prelude.{◌≡◌, ◌≤◌, length, IfOk, IfErr, All};
+ghost use Rattle.std.specs.Prelude.{◌≡◌, ◌≤◌, Bool, true, false, length, drop, IfOk, IfErr, All};
 ghost use Rattle.brk_table.specs.Places.{IsIn, all_places};
-ghost use Rattle.job_text.specs.Limits.{IsWithin};
 ghost use Rattle.job_text.specs.Lines.{lines_of};
-ghost use Rattle.job_text.specs.Spells.{Spells};
 ghost use Rattle.report_text.specs.Conditions.{HasFewLines};
-ghost use Rattle.coverage_program.specs.Answers.{SourceChange, CameWhole, CameJob, IsStopped, fault_refusal};
+ghost use Rattle.coverage_program.specs.Answers.{SourceChange, CameWhole, CameJob, CameFirst, IsStopped, fault_refusal};
 ghost use Rattle.coverage_program.specs.Refusals.{job_refusal, Match};
 ghost use Rattle.coverage_program.specs.Refused.{IsRefused, refused_refusal};
 
@@ -14,7 +12,7 @@ use crate::refusals::{Refusal, plain_refusal};
 use crate::tables::{Refused, tables_of};
 use brk_table::Tables;
 use cov_outside::{ReadFault, Source, read_all};
-use job_text::{JobFault, read_whole_job};
+use job_text::{JobFault, ReadJob, read_job, read_whole_job};
 use session_book::Job;
 use std::alloc::Global;
 
@@ -28,10 +26,20 @@ pub struct Ready {
     pub tables: Tables,
 }
 
+/// The same, with the input, the offset behind the job's last line, and the number of the job's lines.
+#[derive(Drop)]
+pub struct ReadyFirst {
+    pub job: Job,
+    pub tables: Tables,
+    pub input: Vec<u8>,
+    pub end: usize,
+    pub lines: u32,
+}
+
 /// Reads the source to its end.
 fn read_input<S: Source>(alloc: Global, source: &mut S) -> Result<Vec<u8>, Refusal>
     ensures bytes { IfOk result (λ v. CameWhole (record { left = S.left source.old; rest = S.left source.new; faults = S.faults source.old; later = S.faults source.new }) v.items) }
-    ensures stopped { IfErr result (λ r. IsStopped (record { left = S.left source.old; rest = S.left source.new; faults = S.faults source.old; later = S.faults source.new }) r.status r.line) }
+    ensures stopped { (more : Bool) → IfErr result (λ r. IsStopped more (record { left = S.left source.old; rest = S.left source.new; faults = S.faults source.old; later = S.faults source.new }) r.status r.line) }
 {
     match read_all(alloc, source, INPUT_LIMIT) {
         Ok(bytes) => Ok(bytes),
@@ -58,15 +66,29 @@ fn fault_refusal(fault: JobFault) -> Refusal
 }
 
 /// Reads the job that the whole input spells.
-fn read_job(alloc: Global, bytes: &[u8]) -> Result<Job, Refusal>
+fn read_whole(alloc: Global, bytes: &[u8]) -> Result<Job, Refusal>
     requires { length bytes.now ≤ 16777216 }
-    ensures job { IfOk result (Spells (lines_of bytes.now)) }
-    ensures within { IfOk result IsWithin }
+    ensures job { (s : SourceChange) → CameWhole s bytes.now → IfOk result (CameJob false s) }
     ensures few { IfOk result HasFewLines }
-    ensures stopped { (s : SourceChange) → CameWhole s bytes.now → IfErr result (λ r. IsStopped s r.status r.line) }
+    ensures stopped { (s : SourceChange) → CameWhole s bytes.now → IfErr result (λ r. IsStopped false s r.status r.line) }
 {
     match read_whole_job(alloc, bytes) {
         Ok(job) => Ok(job),
+        Err(fault) => Err(fault_refusal(fault)),
+    }
+}
+
+/// Reads the job that the input's first lines spell.
+fn read_first(alloc: Global, bytes: &[u8]) -> Result<ReadJob, Refusal>
+    requires { length bytes.now ≤ 16777216 }
+    ensures inside { IfOk result (λ r. r.end ≤ length bytes.now) }
+    ensures few_lines { IfOk result (λ r. r.lines ≤ length bytes.now) }
+    ensures job { (s : SourceChange) → CameWhole s bytes.now → IfOk result (λ r. CameFirst s r.job r.lines (lines_of (drop r.end bytes.now))) }
+    ensures few { IfOk result (λ r. HasFewLines r.job) }
+    ensures stopped { (s : SourceChange) → CameWhole s bytes.now → IfErr result (λ r. IsStopped true s r.status r.line) }
+{
+    match read_job(alloc, bytes) {
+        Ok(read) => Ok(read),
         Err(fault) => Err(fault_refusal(fault)),
     }
 }
@@ -86,7 +108,7 @@ fn read_tables(alloc: Global, job: &Job) -> Result<Tables, Refusal>
     ensures matching { IfOk result (λ t. Match job.now t.tables) }
     ensures numbered { IfOk result (λ t. t.places ≡ all_places t.tables) }
     ensures places { IfOk result (λ t. All (IsIn job.now.images) t.places) }
-    ensures stopped { (s : SourceChange) → CameJob s job.now → IfErr result (λ r. IsStopped s r.status r.line) }
+    ensures stopped { (more : Bool) (s : SourceChange) → CameJob more s job.now → IfErr result (λ r. IsStopped more s r.status r.line) }
 {
     match tables_of(alloc, job) {
         Ok(tables) => Ok(tables),
@@ -97,15 +119,40 @@ fn read_tables(alloc: Global, job: &Job) -> Result<Tables, Refusal>
 /// Reads the source to its end, the job that its bytes spell, and the tables of the job's listings; or the first
 /// refusal of these, in this order.
 pub fn make_ready<S: Source>(alloc: Global, source: &mut S) -> Result<Ready, Refusal>
-    ensures came { IfOk result (λ r. CameJob (record { left = S.left source.old; rest = S.left source.new; faults = S.faults source.old; later = S.faults source.new }) r.job) }
+    ensures came { IfOk result (λ r. CameJob false (record { left = S.left source.old; rest = S.left source.new; faults = S.faults source.old; later = S.faults source.new }) r.job) }
     ensures few { IfOk result (λ r. HasFewLines r.job) }
     ensures matching { IfOk result (λ r. Match r.job r.tables.tables) }
     ensures numbered { IfOk result (λ r. r.tables.places ≡ all_places r.tables.tables) }
     ensures places { IfOk result (λ r. All (IsIn r.job.images) r.tables.places) }
-    ensures stopped { IfErr result (λ r. IsStopped (record { left = S.left source.old; rest = S.left source.new; faults = S.faults source.old; later = S.faults source.new }) r.status r.line) }
+    ensures stopped { IfErr result (λ r. IsStopped false (record { left = S.left source.old; rest = S.left source.new; faults = S.faults source.old; later = S.faults source.new }) r.status r.line) }
 {
     let bytes = read_input(alloc, source)?;
-    let job = read_job(alloc, &bytes)?;
+    let job = read_whole(alloc, &bytes)?;
     let tables = read_tables(alloc, &job)?;
     Ok(Ready { job, tables })
+}
+
+/// Reads the source to its end, the job that its first lines spell, and the tables of the job's listings; or the first
+/// refusal of these, in this order. What stands behind the job is the caller's.
+pub fn make_ready_first<S: Source>(alloc: Global, source: &mut S) -> Result<ReadyFirst, Refusal>
+    ensures inside { IfOk result (λ r. r.end ≤ length r.input.items) }
+    ensures few_lines { IfOk result (λ r. r.lines ≤ length r.input.items) }
+    ensures short { IfOk result (λ r. length r.input.items ≤ 16777216) }
+    ensures came { IfOk result (λ r. CameFirst (record { left = S.left source.old; rest = S.left source.new; faults = S.faults source.old; later = S.faults source.new }) r.job r.lines (lines_of (drop r.end r.input.items))) }
+    ensures few { IfOk result (λ r. HasFewLines r.job) }
+    ensures matching { IfOk result (λ r. Match r.job r.tables.tables) }
+    ensures numbered { IfOk result (λ r. r.tables.places ≡ all_places r.tables.tables) }
+    ensures places { IfOk result (λ r. All (IsIn r.job.images) r.tables.places) }
+    ensures stopped { IfErr result (λ r. IsStopped true (record { left = S.left source.old; rest = S.left source.new; faults = S.faults source.old; later = S.faults source.new }) r.status r.line) }
+{
+    let input = read_input(alloc, source)?;
+    let read = read_first(alloc, &input)?;
+    let tables = read_tables(alloc, &read.job)?;
+    Ok(ReadyFirst {
+        job: read.job,
+        tables,
+        input,
+        end: read.end,
+        lines: read.lines,
+    })
 }

@@ -4,6 +4,7 @@ mod jobs;
 mod modules;
 mod places;
 mod programs;
+mod schedules;
 
 use crate::cover::cover;
 use crate::status::Status;

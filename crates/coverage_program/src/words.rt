@@ -9,6 +9,8 @@ pub enum Command {
     Run,
     /// `table`: the places of its modules.
     Table,
+    /// `replay`: a schedule of its tasks' events, played on a core.
+    Replay,
     /// Any other words.
     Unknown,
 }
@@ -25,6 +27,8 @@ pub fn command_of(words: &[String]) -> Command
         Command::Run
     } else if word == "table" {
         Command::Table
+    } else if word == "replay" {
+        Command::Replay
     } else {
         Command::Unknown
     }

@@ -75,15 +75,15 @@ ENDJOB\n",
 
 /// What came of these words and this job, once served over areas and once without.
 #[derive(Drop)]
-struct Came {
-    status: Status,
-    text: Vec<u8>,
-    alone: Status,
-    text_alone: Vec<u8>,
-    made: u64,
+pub struct Came {
+    pub status: Status,
+    pub text: Vec<u8>,
+    pub alone: Status,
+    pub text_alone: Vec<u8>,
+    pub made: u64,
 }
 
-fn serve(alloc: Global, words: &[&str], job: &[u8]) -> Result<Came, Fail> {
+pub fn serve(alloc: Global, words: &[&str], job: &[u8]) -> Result<Came, Fail> {
     let mut all = Vec::new(alloc);
     for word in words {
         all.push(String::from_str(alloc, word)?)?;

@@ -1,0 +1,177 @@
+-- A schedule played on a core, and the text that tells it.
+use Rattle.std.specs.Prelude.{◌≡◌, ℕ, zero, suc, ◌+◌, ◌-◌, ◌*◌, Bool, true, false, nat_eq, if◌then◌else◌, Option, Some, None, is_none, List, [], ◌∷◌, ◌++◌, length, get_or, codes, decimal}
+use Rattle.annotator.specs.Digits.{hex_digits}
+use Rattle.cov_base.specs.FactSet.{FactSet}
+use Rattle.cov_base.specs.Names.{unpadded}
+use Rattle.cov_base.specs.declared.numbers.TaskNo.{TaskNo}
+use Rattle.module_area.specs.PlanView.{window_at}
+use Rattle.module_area.specs.declared.places.Place.{Place}
+use Rattle.brk_table.specs.Places.{TablesView}
+use Rattle.session_book.specs.JobView.{JobView}
+use Rattle.session_book.specs.Sessions.{task_of}
+use Rattle.interleave_core.specs.World.{World, TaskPart, Parts, part_of, plan_in, budget_in, first_parts}
+use Rattle.interleave_core.specs.Steps.{Stepped, parts_step, is_spent, set_of}
+use Rattle.interleave_core.specs.Results.{next_of, results_of}
+use Rattle.interleave_core.specs.declared.stage.Due.{Due}
+use Rattle.interleave_core.specs.declared.stage.Due.TheVariants.{Marking, Lifting, Nothing}
+use Rattle.interleave_core.specs.declared.stage.Hand.{Hand}
+use Rattle.interleave_core.specs.declared.stage.Stage.{Stage}
+use Rattle.interleave_core.specs.declared.stage.Stage.TheVariants.{Ready, Awaiting, Holding, Ended}
+use Rattle.interleave_core.specs.declared.events.Event.{Event}
+use Rattle.interleave_core.specs.declared.events.Event.TheVariants as event
+use Rattle.interleave_core.specs.declared.events.Shown.{Shown}
+use Rattle.interleave_core.specs.declared.events.Shown.TheVariants.{Fetched, Marked, Lifted, Done, Planted}
+use Rattle.job_text.specs.Lines.{LineView}
+use Rattle.job_text.specs.Schedule.{item_at}
+use Rattle.job_text.specs.declared.schedule.Item.{Item}
+use Rattle.job_text.specs.declared.schedule.Item.TheVariants.{Fetch, Mark, Lift, Do, Go, End}
+use Rattle.report_text.specs.Report.{result_lines}
+use Rattle.report_text.specs.Text.{text_of, lines_from}
+use Rattle.coverage_program.specs.declared.schedule.Played.{Played}
+use Rattle.coverage_program.specs.declared.schedule.ScheduleFault.{ScheduleFault}
+use Rattle.coverage_program.specs.declared.schedule.ScheduleFault.TheVariants as fault
+
+-- the first bad line of the input, or what the core then stores and what each item has shown
+pub data Play : Type 0 where
+  Bad : ℕ → Play
+  Whole : Parts → List Played → Play
+
+-- what is stored after an event, where it was possible
+abbrev pub after : Parts → Option Stepped → Parts
+after c None = c
+after c (Some x) = x.parts
+
+abbrev pub plant_at : World → Parts → ℕ → Parts
+plant_at w c p = after c (parts_step w c (event.Plant (record { 0 = window_at (plan_in w) p }) (record { 0 = p })))
+
+-- before the first item the places that a session observes are planted in their order, from place p on so many
+abbrev pub planted_from : World → ℕ → ℕ → Parts → Parts
+planted_from w p zero c = c
+planted_from w p (suc count) c = planted_from w (p + 1) count (plant_at w c p)
+
+abbrev pub planted : World → Parts
+planted w = planted_from w 0 (length w.places) (first_parts w)
+
+abbrev pub due_left : Due → ℕ
+due_left Marking = 3
+due_left Lifting = 2
+due_left Nothing = 1
+
+-- More than the events that are left to a task, by the instructions that are left: at most 8 an instruction, which is
+-- fetched, marked, lifted and done, and so is the subject of an EX.
+abbrev pub left_of : World → ℕ → TaskPart → Stage → ℕ
+left_of w t u Ready = if is_spent w t u.state then 1 else 8 * (budget_in w t - u.state.done) + 9
+left_of w t u Awaiting = 8 * (budget_in w t - u.state.done) + 5
+left_of w t u (Holding h) = 8 * (budget_in w t - u.state.done) + due_left h.due + (if h.subject then 1 else 5)
+left_of w t u (Ended e) = 0
+
+abbrev pub left : World → Parts → ℕ → ℕ
+left w c t = left_of w t (part_of c t) (part_of c t).stage
+
+abbrev pub go_by : (Parts → Parts) → World → Parts → Option Event → Parts
+go_by more w c None = c
+go_by more w c (Some e) = more (after c (parts_step w c e))
+
+-- the task's events one by one until it has ended, at most so many
+abbrev pub go : World → ℕ → Parts → TaskNo → Parts
+go w zero c t = c
+go w (suc n) c t = go_by (λ d. go w n d t) w c (next_of w c t)
+
+-- an item, where it is possible: one event, or all of a task that hasn't ended
+abbrev pub play_item : World → Parts → Item → Option Stepped
+play_item w c (Fetch t) = parts_step w c (event.Fetch t)
+play_item w c (Mark t) = parts_step w c (event.Mark t)
+play_item w c (Lift t) = parts_step w c (event.Lift t)
+play_item w c (Do t) = parts_step w c (event.Do t)
+play_item w c (Go t) = if is_none (next_of w c t) then None else Some (record { parts = go w (left w c t.0) c t; shown = Done })
+play_item w c End = None
+
+abbrev pub with_item : Played → Play → Play
+with_item p (Bad n) = Bad n
+with_item p (Whole c played) = Whole c (p ∷ played)
+
+abbrev pub play_on : (Parts → Play) → ℕ → Item → Option Stepped → Play
+play_on more n item None = Bad n
+play_on more n item (Some x) = with_item (record { item = item; shown = x.shown }) (more x.parts)
+
+-- behind the last item nothing stands
+abbrev pub play_end : ℕ → Parts → List LineView → Play
+play_end n c [] = Whole c []
+play_end n c (line ∷ lines) = Bad (n + 1)
+
+abbrev pub is_end : Item → Bool
+is_end End = true
+is_end item = false
+
+abbrev pub play_line : (Parts → Play) → World → ℕ → Parts → List LineView → Option Item → Play
+play_line more w n c lines None = Bad n
+play_line more w n c lines (Some item) = if is_end item then play_end n c lines else play_on more n item (play_item w c item)
+
+-- the lines from number n of the input on, up to ENDSCHED
+abbrev pub play : World → ℕ → Parts → List LineView → Play
+play w n c [] = Bad n
+play w n c (line ∷ lines) = play_line (λ d. play w (n + 1) d lines) w n c lines (item_at w.job line.bytes)
+
+-- a schedule behind the job's lines, of which there are so many; a job that hasn't one phase has none
+abbrev pub play_of : JobView → List Place → ℕ → List LineView → Play
+play_of j places count lines =
+    let w : World = record { job = j; places = places } in
+    if nat_eq (length j.phases) 1 then play w (count + 1) (planted w) lines else Bad 0
+
+-- a line that was played, or that ended the schedule
+abbrev pub IsLine : Option Played → Play → (Played → Play) → Play → Type 0
+IsLine (Some p) play played end = play ≡ played p
+IsLine None play played end = play ≡ end
+
+-- want of memory may come at any item
+abbrev pub IsUnplayed : Play → ScheduleFault → Type 0
+IsUnplayed p (fault.Bad n) = p ≡ Bad n
+IsUnplayed p fault.NoMemory = Unit {0}
+
+-- the status of a play
+abbrev pub play_status : Play → ℕ
+play_status (Bad n) = 9
+play_status (Whole c played) = 0
+
+-- a set of facts, each by its letter
+abbrev pub letters : FactSet → List ℕ
+letters f = (if f.ran then codes "R" else []) ++ (if f.went then codes "W" else []) ++ (if f.stayed then codes "S" else [])
+
+abbrev pub or_dash : List ℕ → List ℕ
+or_dash [] = codes "-"
+or_dash (b ∷ bs) = b ∷ bs
+
+abbrev pub shown_words : Shown → List ℕ
+shown_words (Fetched cell) = codes " TAG " ++ decimal cell.tag ++ codes " HALF " ++ hex_digits 4 cell.half
+shown_words (Marked found) = codes " OLD " ++ or_dash (letters found)
+shown_words (Lifted true) = codes " TAKEN"
+shown_words (Lifted false) = codes " NOT TAKEN"
+shown_words Done = []
+shown_words Planted = []
+
+abbrev pub item_words : JobView → Item → List ℕ
+item_words j (Fetch t) = codes "FETCH " ++ unpadded (task_of j t.0).name
+item_words j (Mark t) = codes "MARK " ++ unpadded (task_of j t.0).name
+item_words j (Lift t) = codes "LIFT " ++ unpadded (task_of j t.0).name
+item_words j (Do t) = codes "DO " ++ unpadded (task_of j t.0).name
+item_words j (Go t) = codes "GO " ++ unpadded (task_of j t.0).name
+item_words j End = codes "ENDSCHED"
+
+-- of item n, which numbers from 1
+abbrev pub event_line : JobView → ℕ → Played → List ℕ
+event_line j n p = codes "EVENT " ++ decimal n ++ codes " " ++ item_words j p.item ++ shown_words p.shown
+
+abbrev pub no_item : Played
+no_item = record { item = End; shown = Done }
+
+abbrev pub event_lines : JobView → List Played → List (List ℕ)
+event_lines j played = lines_from (λ n. event_line j n (get_or played (n - 1) no_item) ∷ []) 1 (length played)
+
+-- the events, and the report of the core as they left it
+abbrev pub replay_lines : JobView → TablesView → Parts → List Played → List (List ℕ)
+replay_lines j tables c played =
+    let w : World = record { job = j; places = tables.places } in
+    codes "COVERAGE REPLAY" ∷ (event_lines j played ++ result_lines j tables (results_of c) (set_of w c))
+
+abbrev pub replay_text : JobView → TablesView → Parts → List Played → List ℕ
+replay_text j tables c played = text_of (replay_lines j tables c played)

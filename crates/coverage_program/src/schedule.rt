@@ -1,0 +1,174 @@
+//! A schedule behind a job, played on the core.
+ghost use Rattle.std.specs.Prelude.{◌≡◌, ℕ, List, ◌+◌, ◌<◌, ◌≤◌, ◌^◌, nat_eq, length, None, Some, IfOk, IfErr, OnErr, All};
+ghost use Rattle.brk_table.specs.Places.{IsIn};
+ghost use Rattle.job_text.specs.Lines.{LineView, lines_of};
+ghost use Rattle.job_text.specs.Schedule.{item_at};
+ghost use Rattle.interleave_core.specs.World.{Parts, plan_in};
+ghost use Rattle.module_area.specs.PlanView.{window_at};
+ghost use Rattle.interleave_core.specs.Results.{next_of};
+ghost use Rattle.coverage_program.specs.Replay.{Play, with_item, play, play_end, play_of, play_line, play_item, plant_at, planted, planted_from, go, left, IsLine, IsUnplayed};
+
+use brk_table::Tables;
+use cov_base::{NoMemory, PlaceNo, SessNo, TaskNo};
+use interleave_core::{Core, Event, NotPossible, Shown};
+use job_text::{Item, first_line, item_of};
+use session_book::Job;
+use std::alloc::{AllocFailed, Global};
+
+/// An item of a schedule, and what it has shown.
+#[derive(Clone, Copy)]
+pub struct Played {
+    pub item: Item,
+    pub shown: Shown,
+}
+
+/// A core that a schedule was played on, and the schedule's items.
+#[derive(Drop)]
+pub struct Replayed<'a> {
+    pub core: Core<'a>,
+    pub played: Vec<Played>,
+}
+
+/// Why a schedule isn't played.
+#[derive(Clone, Copy, Debug, PartialEq, Eq)]
+pub enum ScheduleFault {
+    /// The first line of the input that is no item, or none that is possible there; 0 where the job hasn't one phase.
+    Bad { line: u32 },
+    NoMemory,
+}
+
+impl<T: Drop> From<AllocFailed<T>> for ScheduleFault {
+    ghost use Rattle.std.specs.Prelude.{◌≡◌};
+    ghost use Rattle.coverage_program.specs.declared.schedule.ScheduleFault.TheVariants.{NoMemory};
+
+    ghost from_gives = { λ _ e. e ≡ NoMemory };
+
+    fn from(_: AllocFailed<T>) -> Self {
+        ScheduleFault::NoMemory
+    }
+}
+
+impl From<NoMemory> for ScheduleFault {
+    ghost use Rattle.std.specs.Prelude.{◌≡◌};
+    ghost use Rattle.coverage_program.specs.declared.schedule.ScheduleFault.TheVariants.{NoMemory as Wanting};
+
+    ghost from_gives = { λ _ e. e ≡ Wanting };
+
+    fn from(_: NoMemory) -> Self {
+        ScheduleFault::NoMemory
+    }
+}
+
+/// Applies the task's events until it has ended.
+fn go<'a>(core: &mut Core<'a>, t: TaskNo)
+    ensures world { core.new.world ≡ core.old.world }
+    ensures parts { core.new.parts ≡ go core.old.world (left core.old.world core.old.parts t.0) core.old.parts t }
+{
+    while let Some(event) = core.next(t) {
+        let Ok(_) = core.apply(event) else {
+            unreachable!()
+        };
+    }
+}
+
+/// Plays one item: one event, or all of a task that hasn't ended.
+fn play_item<'a>(core: &mut Core<'a>, item: Item) -> Result<Shown, NotPossible>
+    ensures possible { IfOk result (λ shown. play_item core.old.world core.old.parts item ≡ Some (record { parts = core.new.parts; shown = shown })) }
+    ensures refused { OnErr result (play_item core.old.world core.old.parts item ≡ None) }
+    ensures world { core.new.world ≡ core.old.world }
+{
+    match item {
+        Item::Fetch(t) => core.apply(Event::Fetch(t)),
+        Item::Mark(t) => core.apply(Event::Mark(t)),
+        Item::Lift(t) => core.apply(Event::Lift(t)),
+        Item::Do(t) => core.apply(Event::Do(t)),
+        Item::Go(t) => {
+            if core.next(t).is_none() {
+                return Err(NotPossible);
+            }
+            go(core, t);
+            Ok(Shown::Done)
+        }
+        Item::End => Err(NotPossible),
+    }
+}
+
+/// Plants the place for its session, where it has one.
+fn plant<'a>(core: &mut Core<'a>, s: u32, p: u32)
+    requires { s ≡ window_at (plan_in core.old.world) p }
+    ensures world { core.new.world ≡ core.old.world }
+    ensures parts { core.new.parts ≡ plant_at core.old.world core.old.parts p }
+{
+    let _ = core.apply(Event::Plant(SessNo(s), PlaceNo(p)));
+}
+
+/// Plants the places that a session observes, each for its session.
+fn plant_all<'a>(core: &mut Core<'a>, windows: &[u32])
+    requires windows { windows.now ≡ (plan_in core.old.world).windows }
+    requires few { length windows.now ≤ 65536 }
+    ensures world { core.new.world ≡ core.old.world }
+    ensures parts { core.new.parts ≡ planted_from core.old.world 0 (length windows.now) core.old.parts }
+{
+    for p in 0..windows.len() {
+        plant(core, windows[p], p as u32);
+    }
+}
+
+fn has_one_phase(job: &Job) -> bool
+    ensures { result ≡ nat_eq (length job.now.phases) 1 }
+{
+    job.phases.len() == 1
+}
+
+/// Plays one line; none where it ends the schedule.
+fn play_line<'a>(core: &mut Core<'a>, job: &Job, line: &[u8]) -> Result<Option<Played>, NotPossible>
+    requires { core.old.world.job ≡ job.now }
+    ensures played { IfOk result (λ o. (more : Parts → Play) (n : ℕ) (rest : List LineView) → IsLine o (play_line more core.old.world n core.old.parts rest (item_at job.now line.now)) (λ p. with_item p (more core.new.parts)) (play_end n core.old.parts rest)) }
+    ensures refused { OnErr result ((more : Parts → Play) (n : ℕ) (rest : List LineView) → play_line more core.old.world n core.old.parts rest (item_at job.now line.now) ≡ Play.Bad n) }
+    ensures world { core.new.world ≡ core.old.world }
+{
+    let item = item_of(job, line).ok_or(NotPossible)?;
+    if item == Item::End {
+        return Ok(None);
+    }
+    let shown = play_item(core, item)?;
+    Ok(Some(Played { item, shown }))
+}
+
+/// Plays the lines of a schedule, the first of which is line n of the input.
+fn play<'a>(
+    alloc: Global,
+    core: &mut Core<'a>,
+    job: &Job,
+    lines: &[u8],
+    first: u32,
+) -> Result<Vec<Played>, ScheduleFault>
+    requires job { core.old.world.job ≡ job.now }
+    requires numbers { first + length lines.now < 2 ^ 32 }
+    ensures whole { IfOk result (λ v. play core.old.world first core.old.parts (lines_of lines.now) ≡ Play.Whole core.new.parts v.items) }
+    ensures few { IfOk result (λ v. length v.items < 2 ^ 32) }
+    ensures world { core.new.world ≡ core.old.world }
+    ensures bad { IfErr result (IsUnplayed (play core.old.world first core.old.parts (lines_of lines.now))) }
+{
+    let mut played = Vec::new(alloc);
+    let mut rest = lines;
+    let mut n = first;
+    while !rest.is_empty() {
+        let line = first_line(rest);
+        let Ok(found) = play_line(core, job, line.bytes) else {
+            return Err(ScheduleFault::Bad { line: n });
+        };
+        rest = line.rest;
+        n += 1;
+        let Some(item) = found else {
+            return if rest.is_empty() {
+                Ok(played)
+            } else {
+                Err(ScheduleFault::Bad { line: n })
+            };
+        };
+        played.push(item)?;
+    }
+    Err(ScheduleFault::Bad { line: n })
+}
+
