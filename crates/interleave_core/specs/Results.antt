@@ -1,10 +1,13 @@
 -- What a core tells of its tasks, and the event that is due of one.
-use Rattle.std.specs.Prelude.{ℕ, ◌<◌, nat_lt, if◌then◌else◌, Option, Some, None, length}
+use Rattle.std.specs.Prelude.{◌≡◌, ℕ, ◌<◌, nat_lt, true, if◌then◌else◌, Option, Some, None, length}
+use Rattle.cov_base.specs.Facts.{is_within}
+use Rattle.module_area.specs.PlanView.{kind_at}
+use Rattle.session_book.specs.Sessions.{task_of}
 use Rattle.cov_base.specs.declared.numbers.TaskNo.{TaskNo}
 use Rattle.s370_state.specs.declared.endings.Ending.{Ending}
 use Rattle.session_book.specs.Results.{ResultView}
-use Rattle.interleave_core.specs.World.{World, TaskPart, Parts, part_of}
-use Rattle.interleave_core.specs.Steps.{place_due}
+use Rattle.interleave_core.specs.World.{World, TaskPart, Parts, part_of, plan_in}
+use Rattle.interleave_core.specs.Steps.{place_due, set_of}
 use Rattle.interleave_core.specs.declared.events.Event.{Event}
 use Rattle.interleave_core.specs.declared.events.Event.TheVariants.{Fetch, Mark, Lift, Do}
 use Rattle.interleave_core.specs.declared.stage.Due.{Due}
@@ -49,3 +52,10 @@ stage_event w t u (Ended e) = None
 -- or doesn't exist
 abbrev pub next_of : World → Parts → TaskNo → Option Event
 next_of w c t = if nat_lt t.0 (length c.tasks) then stage_event w t (part_of c t.0) (part_of c t.0).stage else None
+
+-- as many cells and tasks as the world has, private storage of the cards' sizes, and at each place facts of its kind
+pub record Fits (w : World) (c : Parts) : Type 0 where
+  pub cells : length c.cells ≡ length w.places
+  pub tasks : length c.tasks ≡ length w.job.tasks
+  pub bytes : (t : ℕ) → t < length c.tasks → length (results_of c t).bytes ≡ (task_of w.job t).private
+  pub within : (s p : ℕ) → 0 < s → p < length w.places → is_within (kind_at (plan_in w) p) (set_of w c s p) ≡ true

@@ -10,8 +10,8 @@ use Rattle.module_area.specs.PlanView.{PlanView, IsPlan, kind_at, window_at}
 use Rattle.module_area.specs.declared.places.Place.{Place}
 use Rattle.brk_table.specs.Places.{AreSeen, ArePlaces}
 use Rattle.space_map.specs.Space.{SpaceView, memory_of_space}
-use Rattle.session_book.specs.JobView.{JobView}
-use Rattle.interleave_core.specs.World.{World, TaskPart, Parts, plan_in, memory_in, budget_in}
+use Rattle.session_book.specs.Sessions.{task_of}
+use Rattle.interleave_core.specs.World.{World, TaskPart, Parts, first_part, plan_in, memory_in, budget_in}
 use Rattle.interleave_core.specs.Steps.{step_of, subject_place, is_spent}
 use Rattle.interleave_core.specs.declared.stage.Due.{Due}
 use Rattle.interleave_core.specs.declared.stage.Due.TheVariants.{Nothing}
@@ -68,3 +68,9 @@ pub record IsCore (w : World) (cells : List Cell) (sets : List FactSet) (plan : 
   pub within : (s p : ℕ) → 0 < s → p < length w.places → is_within (kind_at (plan_in w) p) (set_in (length w.places) sets s p) ≡ true
   pub running : (t : ℕ) (r : RunningView) → t < length tasks → IsRunning w t (get_or tasks t r)
   pub stages : (t : ℕ) (r : RunningView) → t < length tasks → IsStage w t (get_or tasks t r).part (get_or tasks t r).part.stage
+
+-- the first tasks of the world, before their first instructions
+pub record AreReady (w : World) (number : ℕ) (tasks : List RunningView) : Type 0 where
+  pub count : length tasks ≡ number
+  pub running : (t : ℕ) (r : RunningView) → t < length tasks → IsRunning w t (get_or tasks t r)
+  pub parts : (t : ℕ) (r : RunningView) → t < length tasks → (get_or tasks t r).part ≡ first_part (task_of w.job t)

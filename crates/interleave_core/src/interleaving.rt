@@ -1,23 +1,27 @@
 //! The core.
-ghost use Rattle.std.specs.Prelude.{◌≡◌, ℕ, ◌+◌, ◌*◌, ◌<◌, ◌≤◌, length, set, if◌then◌else◌, All, IfOk, OnErr};
+ghost use Rattle.std.specs.Prelude.{◌≡◌, ℕ, ◌+◌, ◌*◌, ◌<◌, ◌≤◌, length, map, replicate, set, if◌then◌else◌, All, IfOk, OnErr};
 ghost use Rattle.std.specs.declared.option.Option.TheVariants.{Some, None};
 ghost use Rattle.module_area.specs.PlainWords.{word_at};
 ghost use Rattle.brk_table.specs.Places.{IsIn};
-ghost use Rattle.cov_base.specs.Facts.{fact_of, is_full};
+ghost use Rattle.cov_base.specs.Facts.{fact_of, is_full, no_facts};
 ghost use Rattle.interleave_core.specs.declared.stage.Due.TheVariants.{Lifting, Nothing};
 ghost use Rattle.interleave_core.specs.World.{World, first_parts};
-ghost use Rattle.interleave_core.specs.Steps.{of_task, fetch_step, mark_step, lift_step, do_step, plant_step, parts_step, due_after_fetch, in_hand, same_cell, session_under};
-ghost use Rattle.interleave_core.specs.Results.{next_of};
+ghost use Rattle.interleave_core.specs.Steps.{of_task, fetch_step, mark_step, lift_step, do_step, plant_step, parts_step, set_of, due_after_fetch, in_hand, same_cell, session_under};
+ghost use Rattle.interleave_core.specs.Results.{next_of, results_of, Fits};
+ghost use Rattle.interleave_core.specs.Views.{AreReady};
+ghost use Rattle.session_book.specs.JobView.{IsJob};
+ghost use Rattle.module_area.specs.FreshWords.{fresh_word};
 
 use crate::events::{Event, NotPossible, Shown};
 use crate::running::Running;
 use crate::stage::{Due, Hand, Stage};
 use brk_table::Tables;
 use cov_base::{Bits, Fact, Kind, NoMemory, PlaceNo, SessNo, TaskNo};
-use module_area::{Cell, Plan};
+use module_area::{Cell, Place, Plan};
 use s370_exec::is_execute;
-use session_book::{Job, plan_of};
-use std::alloc::Global;
+use s370_state::{Cpu, Ending};
+use session_book::{FactSets, Job, Results, plan_of};
+use std::alloc::{AllocError, Global};
 use std::marker::Model;
 
 /// SVC 255.
@@ -223,9 +227,7 @@ impl<'a> Core<'a> {
         Ok(Shown::Planted)
     }
 
-    /// Makes the event. It isn't possible exactly where the core's step has no case for it, and leaves the core as it
-    /// was then.
-    pub fn apply(&mut self, e: Event) -> Result<Shown, NotPossible>
+    fn step(&mut self, e: Event) -> Result<Shown, NotPossible>
         ensures possible { IfOk result (λ shown. parts_step self.old.world self.old.parts e ≡ Some (record { parts = self.new.parts; shown = shown })) }
         ensures refused { OnErr result (parts_step self.old.world self.old.parts e ≡ None) }
         ensures kept { OnErr result (self.new ≡ self.old) }
@@ -240,6 +242,27 @@ impl<'a> Core<'a> {
         }
     }
 
+    fn fits(&self)
+        ensures { Fits self.now.world self.now.parts }
+    {
+        // the proof reads it off the core's invariant
+        let _ = &self.cells;
+    }
+
+    /// Makes the event. It isn't possible exactly where the core's step has no case for it, and leaves the core as it
+    /// was then.
+    pub fn apply(&mut self, e: Event) -> Result<Shown, NotPossible>
+        ensures possible { IfOk result (λ shown. parts_step self.old.world self.old.parts e ≡ Some (record { parts = self.new.parts; shown = shown })) }
+        ensures refused { OnErr result (parts_step self.old.world self.old.parts e ≡ None) }
+        ensures kept { OnErr result (self.new ≡ self.old) }
+        ensures world { self.new.world ≡ self.old.world }
+        ensures fits { Fits self.new.world self.new.parts }
+    {
+        let answer = self.step(e);
+        self.fits();
+        answer
+    }
+
     /// The one event that is possible of the task; none exactly where it doesn't exist or has ended.
     pub fn next(&self, t: TaskNo) -> Option<Event>
         ensures { result ≡ next_of self.now.world self.now.parts t }
@@ -249,5 +272,141 @@ impl<'a> Core<'a> {
             return None;
         }
         self.tasks[n].next(t, self.tables)
+    }
+
+    /// How the task of the job has ended; none exactly where it hasn't.
+    pub fn ending(&self, t: TaskNo) -> Option<Ending>
+        requires { t.0 < length self.now.world.job.tasks }
+        ensures { result ≡ (results_of self.now.parts t.0).ending }
+    {
+        self.tasks[t.0 as usize].ending()
+    }
+
+    /// The set of the session of the job at the place of its tables.
+    pub fn set(&self, s: SessNo, p: PlaceNo) -> Bits
+        requires some { 0 < s.0 }
+        requires session { s.0 ≤ length self.now.world.job.sessions }
+        requires place { p.0 < length self.now.world.places }
+        ensures { result ≡ set_of self.now.world self.now.parts s.0 p.0 }
+    {
+        let at = (s.0 as usize - 1) * self.cells.len() + p.0 as usize;
+        self.sets[at]
+    }
+}
+
+/// The number of the job's tasks.
+fn task_count(job: &Job) -> usize
+    ensures value { result ≡ length job.now.tasks }
+    ensures job { IsJob job.now }
+{
+    job.tasks.len()
+}
+
+/// The job's tasks, in job order.
+fn make_tasks<'a>(
+    alloc: Global,
+    job: &'a Job,
+    tables: &'a Tables,
+) -> Result<Vec<Running<'a>>, NoMemory>
+    requires { All (IsIn job.now.images) tables.now.places }
+    ensures { IfOk result (λ v. AreReady (record { job = job.now; places = tables.now.places }) (length job.now.tasks) v.items) }
+{
+    let count = task_count(job);
+    let mut tasks = Vec::with_capacity(alloc, count)?;
+    for t in 0..count {
+        tasks.push(Running::new(alloc, job, tables, t)?)?;
+    }
+    Ok(tasks)
+}
+
+fn fresh_cells(alloc: Global, places: &[Place]) -> Result<Vec<Cell>, AllocError>
+    ensures { IfOk result (λ v. v.items ≡ map fresh_word places.now) }
+{
+    places
+        .iter()
+        .map(|p| Cell {
+            tag: 0,
+            half: p.original,
+        })
+        .collect(alloc)
+}
+
+fn fresh_sets(alloc: Global, count: usize) -> Result<Vec<Bits>, AllocError>
+    ensures { IfOk result (λ v. v.items ≡ replicate count no_facts) }
+{
+    vec![in alloc; Bits::empty(); count]
+}
+
+/// The core of a job of exactly one phase before any event: nothing is planted, no set has a fact, and each task is as
+/// its card says. Takes all the memory that the core will ever need.
+pub fn start<'a>(alloc: Global, job: &'a Job, tables: &'a Tables) -> Result<Core<'a>, NoMemory>
+    requires phase { length job.now.phases ≡ 1 }
+    requires tables { All (IsIn job.now.images) tables.now.places }
+    ensures world { IfOk result (λ c. c.world ≡ record { job = job.now; places = tables.now.places }) }
+    ensures parts { IfOk result (λ c. c.parts ≡ first_parts (record { job = job.now; places = tables.now.places })) }
+    ensures fits { IfOk result (λ c. Fits c.world c.parts) }
+{
+    let tasks = make_tasks(alloc, job, tables)?;
+    let plan = plan_of(alloc, job, tables, 0)?;
+    // the proof reads the rules that a plan and its places keep off these looks at them
+    let _ = &plan.windows;
+    let _ = tables.len();
+    let cells = fresh_cells(alloc, &plan.places)?;
+    let sets = fresh_sets(alloc, plan.sessions as usize * plan.places.len())?;
+    let core = Core {
+        job,
+        tables,
+        plan,
+        cells,
+        sets,
+        tasks,
+    };
+    core.fits();
+    Ok(core)
+}
+
+impl<'a> FactSets for Core<'a> {
+    ghost use Rattle.std.specs.Prelude.{length};
+    ghost use Rattle.interleave_core.specs.Steps.{set_of};
+
+    ghost sessions = { λ c. length c.world.job.sessions };
+
+    ghost places = { λ c. length c.world.places };
+
+    ghost set_of = { λ c s p. set_of c.world c.parts s p };
+
+    fn set(&self, s: SessNo, p: PlaceNo) -> Bits {
+        Core::set(self, s, p)
+    }
+}
+
+impl<'a> Results for Core<'a> {
+    ghost use Rattle.std.specs.Prelude.{length};
+    ghost use Rattle.interleave_core.specs.Results.{results_of};
+
+    ghost tasks = { λ c. length c.world.job.tasks };
+
+    ghost result_of = { λ c t. results_of c.parts t };
+
+    fn ending(&self, t: TaskNo) -> Option<Ending> {
+        self.tasks[t.0 as usize].ending()
+    }
+
+    fn done(&self, t: TaskNo) -> u32 {
+        self.tasks[t.0 as usize].done
+    }
+
+    fn cpu(&self, t: TaskNo) -> &Cpu {
+        &self.tasks[t.0 as usize].cpu
+    }
+
+    fn output(&self, t: TaskNo) -> &[u8] {
+        self.tasks[t.0 as usize].io.output()
+    }
+
+    fn row(&self, t: TaskNo, n: u32) -> &[u8] {
+        let space = &self.tasks[t.0 as usize].space;
+        let _ = space.size();
+        space.row(n)
     }
 }

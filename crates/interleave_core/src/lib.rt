@@ -8,5 +8,5 @@ mod running;
 mod stage;
 
 pub use events::{Event, NotPossible, Shown};
-pub use interleaving::Core;
+pub use interleaving::{Core, start};
 pub use stage::{Due, Hand, Stage};

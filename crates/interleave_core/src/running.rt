@@ -10,7 +10,7 @@ ghost use Rattle.interleave_core.specs.declared.stage.Stage.TheVariants.{Ready, 
 ghost use Rattle.cov_base.specs.declared.numbers.PlaceNo.{PlaceNo as Number};
 ghost use Rattle.interleave_core.specs.World.{World, place_from, first_part};
 ghost use Rattle.interleave_core.specs.Steps.{place_due, subject_place, step_of, visit_of, stage_after, is_awaiting, with_stage, in_hand, executed, instruction_executed, ready_done, task_done};
-ghost use Rattle.interleave_core.specs.Results.{stage_event};
+ghost use Rattle.interleave_core.specs.Results.{stage_event, ending_of};
 ghost use Rattle.interleave_core.specs.Views.{IsRunning};
 
 use crate::events::{Event, NotPossible};
@@ -244,6 +244,16 @@ impl<'a> Running<'a> {
             Stage::Ready => self.begin(tables),
             Stage::Holding(hand) => self.go_on(tables, hand),
             _ => Err(NotPossible),
+        }
+    }
+
+    /// How it has ended.
+    pub(crate) fn ending(&self) -> Option<Ending>
+        ensures { result ≡ ending_of self.now.part.stage }
+    {
+        match self.stage {
+            Stage::Ended(e) => Some(e),
+            _ => None,
         }
     }
 
