@@ -1,7 +1,19 @@
 -- A schedule's items one by one, and a task's events up to its end.
-use Rattle.std.proofs.Common.{◌≡◌, ℕ, zero, suc, ◌+◌, ◌<◌, ◌≤◌, Bool, true, false, Option, Some, None, List, [], ◌∷◌, ◌++◌, refl, sym, ap, ◌∙◌, arith, append-nil}
+use Rattle.std.proofs.Common.{◌≡◌, ℕ, zero, suc, ◌+◌, ◌<◌, ◌≤◌, Bool, true, false, nat_eq, if◌then◌else◌, Option, Some, None, Result, codes, List, [], ◌∷◌, ◌++◌, ◌-◌, length, length-append, get_or, subst, refl, sym, ap, ◌∙◌, arith, append-nil}
+use Rattle.std.proofs.lemmas.List.{get_or_default}
 use Rattle.interleave_core.specs.World.{World, Parts}
-use Rattle.coverage_program.specs.Replay.{Play, Bad, Whole, with_item}
+use Rattle.cov_base.specs.Facts.{is_within}
+use Rattle.module_area.specs.PlanView.{kind_at}
+use Rattle.brk_table.specs.Places.{TableView, TablesView, all_places, first_place, place_count}
+use Rattle.interleave_core.specs.Results.{Fits, results_of}
+use Rattle.interleave_core.specs.Steps.{set_of}
+use Rattle.interleave_core.specs.World.{plan_in}
+use Rattle.report_text.specs.Conditions.{AreResultsOf, AreSetsOf}
+use Rattle.session_book.specs.JobView.{JobView}
+use Rattle.session_book.specs.Sessions.{task_of, session_of}
+use Rattle.report_text.specs.Report.{result_lines}
+use Rattle.report_text.specs.Writes.{Writes}
+use Rattle.coverage_program.specs.Replay.{Play, Bad, Whole, with_item, event_line, event_lines, no_item, replay_lines}
 use Rattle.coverage_program.specs.declared.schedule.Played.{Played}
 
 -- the items that were played before
@@ -20,3 +32,44 @@ with_items-bad (p ∷ ps) n = ap (with_item p) (with_items-bad ps n)
 pub with_items-whole : (ps : List Played) (c : Parts) (qs : List Played) → with_items ps (Whole c qs) ≡ Whole c (ps ++ qs)
 with_items-whole [] c qs = refl
 with_items-whole (p ∷ ps) c qs = ap (with_item p) (with_items-whole ps c qs)
+
+-- the line of item n, which numbers from 1
+abbrev pub line_of : JobView → List Played → ℕ → List (List ℕ)
+line_of j played n = event_line j n (get_or played (n - 1) no_item) ∷ []
+
+item_here : (played : List Played) (i : ℕ) (p : Played) → i < length played → p ≡ get_or played i p → get_or played (i + 1 - 1) no_item ≡ p
+item_here played i p lt is = let same : i + 1 - 1 ≡ i = omega arith in rw same (get_or_default played i no_item p lt ∙ sym is)
+
+pub told_line : (j : JobView) (played : List Played) (i : ℕ) (p : Played) (items : List ℕ) → i < length played → p ≡ get_or played i p → items ≡ event_line j (i + 1) p ++ 10 ∷ [] → items ≡ event_line j (i + 1) (get_or played (i + 1 - 1) no_item) ++ 10 ∷ []
+told_line j played i p items lt is e = rw (item_here played i p lt is) e
+
+-- a module's places are among those of all tables
+range_most : (ts : List TableView) (m : ℕ) → first_place ts m + place_count ts m ≤ length (all_places ts)
+range_most [] m = omega arith
+range_most (t ∷ ts) m = by_module (nat_eq t.«module» m) (range_most ts m)
+  where
+    by_module : (b : Bool) → first_place ts m + place_count ts m ≤ length (all_places ts) → (if b then 0 else length t.places + first_place ts m) + (if b then length t.places else place_count ts m) ≤ length (t.places ++ all_places ts)
+    by_module true h = omega (arith, length-append t.places (all_places ts))
+    by_module false h = omega (arith, length-append t.places (all_places ts), h)
+
+pub core_results : (j : JobView) (tables : TablesView) (w : World) (c : Parts) → w ≡ record { job = j; places = tables.places } → Fits w c → AreResultsOf j (length w.job.tasks) (λ t. results_of c t)
+core_results j tables w c is fits = record {
+  count = ap (λ (v : World). length v.job.tasks) is;
+  sizes = λ t lt. fits.bytes t (omega (arith, lt, fits.tasks, ap (λ (v : World). length v.job.tasks) is)) ∙ ap (λ (v : World). (task_of v.job t).private) is;
+}
+
+pub core_sets : (j : JobView) (tables : TablesView) (w : World) (c : Parts) → w ≡ record { job = j; places = tables.places } → tables.places ≡ all_places tables.tables → Fits w c →
+    AreSetsOf j tables (length w.job.sessions) (length w.places) (λ s p. set_of w c s p)
+core_sets j tables w c is numbered fits = record {
+  count = ap (λ (v : World). length v.job.sessions) is;
+  size = ap (λ (v : World). length v.places) is;
+  within = λ s some most k d l p from to.
+      let inside : p < length w.places = omega (arith, to, range_most tables.tables (get_or (session_of j s).modules k d), ap length numbered, ap (λ (v : World). length v.places) is) in
+      subst (λ (v : World). is_within (kind_at (plan_in v) p) (set_of w c s p) ≡ true) is (fits.within s p some inside);
+}
+
+-- the text of the core's sets is that of its world's
+pub told_core : {T E : Type 0} (old new : Option (List ℕ)) (before later : ℕ) (r : Result T E) (j : JobView) (tables : TablesView) (w : World) (c : Parts) (played : List Played) → w ≡ record { job = j; places = tables.places } →
+    Writes old new before later r (codes "COVERAGE REPLAY" ∷ (event_lines j played ++ result_lines j tables (λ t. results_of c t) (λ s p. set_of w c s p))) → Writes old new before later r (replay_lines j tables c played)
+told_core old new before later r j tables w c played is told =
+    subst (λ (v : World). Writes old new before later r (codes "COVERAGE REPLAY" ∷ (event_lines j played ++ result_lines j tables (λ t. results_of c t) (λ s p. set_of v c s p)))) is told

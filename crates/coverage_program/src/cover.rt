@@ -1,15 +1,18 @@
 //! The program over any source, sink and areas.
-ghost use Rattle.std.specs.Prelude.{◌≡◌, ◌+◌, ◌<◌, ◌^◌, All, map, string_bytes};
+ghost use Rattle.std.specs.Prelude.{◌≡◌, ◌+◌, ◌<◌, ◌^◌, false, All, map, length, string_bytes};
+ghost use Rattle.job_text.specs.Lines.{lines_of};
 ghost use Rattle.brk_table.specs.Places.{IsIn, all_places};
-ghost use Rattle.coverage_program.specs.Answers.{SourceChange, CameJob, Answers, IsComplete};
+ghost use Rattle.coverage_program.specs.Answers.{SourceChange, CameJob, CameFirst, Answers, IsComplete};
 ghost use Rattle.coverage_program.specs.Refusals.{Match};
 ghost use Rattle.coverage_program.specs.Runs.{Account};
 ghost use Rattle.report_text.specs.Conditions.{HasFewLines};
 ghost use Rattle.coverage_program.specs.Words.{command_of, without_areas};
 
-use crate::lines::{NO_MEMORY, USAGE};
+use crate::lines::{NO_MEMORY, USAGE, bad_schedule_line};
 use crate::phase::run_all;
-use crate::ready::make_ready;
+use crate::ready::{make_ready, make_ready_first};
+use crate::replay::replay_text;
+use crate::schedule::{ScheduleFault, replay};
 use crate::status::{Status, told};
 use crate::words::{Command, command_of};
 use brk_table::Tables;
@@ -78,6 +81,51 @@ fn answer_table<S: Source, K: Sink>(alloc: Global, source: &mut S, sink: &mut K)
     }
 }
 
+/// Plays the schedule behind a job, and writes what its items have shown.
+fn answer_schedule<K: Sink>(
+    alloc: Global,
+    job: &Job,
+    tables: &Tables,
+    count: u32,
+    schedule: &[u8],
+    sink: &mut K,
+) -> Status
+    requires few { HasFewLines job.now }
+    requires matching { Match job.now tables.now.tables }
+    requires numbered { tables.now.places ≡ all_places tables.now.tables }
+    requires places { All (IsIn job.now.images) tables.now.places }
+    requires numbers { count + 1 + length schedule.now < 2 ^ 32 }
+    ensures { (s : SourceChange) (a : Account) → CameFirst s job.now count (lines_of schedule.now) →
+        Answers Command.Replay s a a (K.written sink.old) (K.written sink.new) (K.faults sink.old) (K.faults sink.new) result.0 }
+{
+    let replayed = match replay(alloc, job, tables, count, schedule) {
+        Ok(replayed) => replayed,
+        Err(ScheduleFault::Bad { line }) => return told(sink, &bad_schedule_line(line), 9),
+        Err(ScheduleFault::NoMemory) => return told(sink, NO_MEMORY, 7),
+    };
+    match replay_text(sink, job, tables, &replayed.core, &replayed.played) {
+        Ok(()) => Status(0),
+        Err(Failed) => Status(6),
+    }
+}
+
+/// Reads a job and a schedule, and plays it.
+fn answer_replay<S: Source, K: Sink>(alloc: Global, source: &mut S, sink: &mut K) -> Status
+    ensures { (a : Account) → Answers Command.Replay (record { left = S.left source.old; rest = S.left source.new; faults = S.faults source.old; later = S.faults source.new }) a a (K.written sink.old) (K.written sink.new) (K.faults sink.old) (K.faults sink.new) result.0 }
+{
+    match make_ready_first(alloc, source) {
+        Ok(read) => answer_schedule(
+            alloc,
+            &read.job,
+            &read.tables,
+            read.lines,
+            &read.input[read.end..],
+            sink,
+        ),
+        Err(refusal) => told(sink, &refusal.line, refusal.status),
+    }
+}
+
 /// Answers the words that need no areas.
 fn answer_one<S: Source, K: Sink>(
     alloc: Global,
@@ -89,7 +137,7 @@ fn answer_one<S: Source, K: Sink>(
 {
     match command_of(words) {
         Command::Table => answer_table(alloc, source, sink),
-        Command::Replay => told(sink, USAGE, 1),
+        Command::Replay => answer_replay(alloc, source, sink),
         Command::Run => told(sink, USAGE, 1),
         Command::Unknown => told(sink, USAGE, 1),
     }

@@ -7,6 +7,7 @@ mod outcome;
 mod phase;
 mod ready;
 mod refusals;
+mod replay;
 mod schedule;
 mod status;
 mod tables;

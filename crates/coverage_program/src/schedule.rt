@@ -5,14 +5,14 @@ ghost use Rattle.job_text.specs.Lines.{LineView, lines_of};
 ghost use Rattle.job_text.specs.Schedule.{item_at};
 ghost use Rattle.interleave_core.specs.World.{Parts, plan_in};
 ghost use Rattle.module_area.specs.PlanView.{window_at};
-ghost use Rattle.interleave_core.specs.Results.{next_of};
+ghost use Rattle.interleave_core.specs.Results.{Fits};
 ghost use Rattle.coverage_program.specs.Replay.{Play, with_item, play, play_end, play_of, play_line, play_item, plant_at, planted, planted_from, go, left, IsLine, IsUnplayed};
 
 use brk_table::Tables;
 use cov_base::{NoMemory, PlaceNo, SessNo, TaskNo};
-use interleave_core::{Core, Event, NotPossible, Shown};
+use interleave_core::{Core, Event, NotPossible, Shown, start};
 use job_text::{Item, first_line, item_of};
-use session_book::Job;
+use session_book::{Job, plan_of};
 use std::alloc::{AllocFailed, Global};
 
 /// An item of a schedule, and what it has shown.
@@ -62,6 +62,7 @@ impl From<NoMemory> for ScheduleFault {
 /// Applies the task's events until it has ended.
 fn go<'a>(core: &mut Core<'a>, t: TaskNo)
     ensures world { core.new.world ≡ core.old.world }
+    ensures fits { Fits core.old.world core.old.parts → Fits core.new.world core.new.parts }
     ensures parts { core.new.parts ≡ go core.old.world (left core.old.world core.old.parts t.0) core.old.parts t }
 {
     while let Some(event) = core.next(t) {
@@ -76,6 +77,7 @@ fn play_item<'a>(core: &mut Core<'a>, item: Item) -> Result<Shown, NotPossible>
     ensures possible { IfOk result (λ shown. play_item core.old.world core.old.parts item ≡ Some (record { parts = core.new.parts; shown = shown })) }
     ensures refused { OnErr result (play_item core.old.world core.old.parts item ≡ None) }
     ensures world { core.new.world ≡ core.old.world }
+    ensures fits { Fits core.old.world core.old.parts → Fits core.new.world core.new.parts }
 {
     match item {
         Item::Fetch(t) => core.apply(Event::Fetch(t)),
@@ -97,6 +99,7 @@ fn play_item<'a>(core: &mut Core<'a>, item: Item) -> Result<Shown, NotPossible>
 fn plant<'a>(core: &mut Core<'a>, s: u32, p: u32)
     requires { s ≡ window_at (plan_in core.old.world) p }
     ensures world { core.new.world ≡ core.old.world }
+    ensures fits { Fits core.old.world core.old.parts → Fits core.new.world core.new.parts }
     ensures parts { core.new.parts ≡ plant_at core.old.world core.old.parts p }
 {
     let _ = core.apply(Event::Plant(SessNo(s), PlaceNo(p)));
@@ -107,11 +110,26 @@ fn plant_all<'a>(core: &mut Core<'a>, windows: &[u32])
     requires windows { windows.now ≡ (plan_in core.old.world).windows }
     requires few { length windows.now ≤ 65536 }
     ensures world { core.new.world ≡ core.old.world }
+    ensures fits { Fits core.old.world core.old.parts → Fits core.new.world core.new.parts }
     ensures parts { core.new.parts ≡ planted_from core.old.world 0 (length windows.now) core.old.parts }
 {
     for p in 0..windows.len() {
         plant(core, windows[p], p as u32);
     }
+}
+
+/// The core of a job of one phase, in which the places that a session observes are planted.
+fn begin<'a>(alloc: Global, job: &'a Job, tables: &'a Tables) -> Result<Core<'a>, NoMemory>
+    requires phase { length job.now.phases ≡ 1 }
+    requires places { All (IsIn job.now.images) tables.now.places }
+    ensures world { IfOk result (λ c. c.world ≡ record { job = job.now; places = tables.now.places }) }
+    ensures parts { IfOk result (λ c. c.parts ≡ planted c.world) }
+    ensures fits { IfOk result (λ c. Fits c.world c.parts) }
+{
+    let plan = plan_of(alloc, job, tables, 0)?;
+    let mut core = start(alloc, job, tables)?;
+    plant_all(&mut core, &plan.windows);
+    Ok(core)
 }
 
 fn has_one_phase(job: &Job) -> bool
@@ -126,6 +144,7 @@ fn play_line<'a>(core: &mut Core<'a>, job: &Job, line: &[u8]) -> Result<Option<P
     ensures played { IfOk result (λ o. (more : Parts → Play) (n : ℕ) (rest : List LineView) → IsLine o (play_line more core.old.world n core.old.parts rest (item_at job.now line.now)) (λ p. with_item p (more core.new.parts)) (play_end n core.old.parts rest)) }
     ensures refused { OnErr result ((more : Parts → Play) (n : ℕ) (rest : List LineView) → play_line more core.old.world n core.old.parts rest (item_at job.now line.now) ≡ Play.Bad n) }
     ensures world { core.new.world ≡ core.old.world }
+    ensures fits { Fits core.old.world core.old.parts → Fits core.new.world core.new.parts }
 {
     let item = item_of(job, line).ok_or(NotPossible)?;
     if item == Item::End {
@@ -148,6 +167,7 @@ fn play<'a>(
     ensures whole { IfOk result (λ v. play core.old.world first core.old.parts (lines_of lines.now) ≡ Play.Whole core.new.parts v.items) }
     ensures few { IfOk result (λ v. length v.items < 2 ^ 32) }
     ensures world { core.new.world ≡ core.old.world }
+    ensures fits { Fits core.old.world core.old.parts → Fits core.new.world core.new.parts }
     ensures bad { IfErr result (IsUnplayed (play core.old.world first core.old.parts (lines_of lines.now))) }
 {
     let mut played = Vec::new(alloc);
@@ -172,3 +192,26 @@ fn play<'a>(
     Err(ScheduleFault::Bad { line: n })
 }
 
+/// Plays the schedule behind the first lines of an input, so many, which spell the job.
+pub fn replay<'a>(
+    alloc: Global,
+    job: &'a Job,
+    tables: &'a Tables,
+    count: u32,
+    schedule: &[u8],
+) -> Result<Replayed<'a>, ScheduleFault>
+    requires numbers { count + 1 + length schedule.now < 2 ^ 32 }
+    requires places { All (IsIn job.now.images) tables.now.places }
+    ensures whole { IfOk result (λ r. play_of job.now tables.now.places count (lines_of schedule.now) ≡ Play.Whole r.core.parts r.played.items) }
+    ensures few { IfOk result (λ r. length r.played.items < 2 ^ 32) }
+    ensures world { IfOk result (λ r. r.core.world ≡ record { job = job.now; places = tables.now.places }) }
+    ensures fits { IfOk result (λ r. Fits r.core.world r.core.parts) }
+    ensures bad { IfErr result (IsUnplayed (play_of job.now tables.now.places count (lines_of schedule.now))) }
+{
+    if !has_one_phase(job) {
+        return Err(ScheduleFault::Bad { line: 0 });
+    }
+    let mut core = begin(alloc, job, tables)?;
+    let played = play(alloc, &mut core, job, schedule, count + 1)?;
+    Ok(Replayed { core, played })
+}
