@@ -3,7 +3,7 @@ ghost use Rattle.std.specs.Prelude.{◌≡◌, ◌+◌, ◌<◌, ◌^◌, All, m
 ghost use Rattle.brk_table.specs.Places.{IsIn, all_places};
 ghost use Rattle.coverage_program.specs.Answers.{SourceChange, CameJob, Answers, IsComplete};
 ghost use Rattle.coverage_program.specs.Refusals.{Match};
-ghost use Rattle.coverage_program.specs.Runs.{Account};
+ghost use Rattle.job_run.specs.Runs.{Account};
 ghost use Rattle.report_text.specs.Conditions.{HasFewLines};
 ghost use Rattle.coverage_program.specs.Words.{command_of, without_areas};
 

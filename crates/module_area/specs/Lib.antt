@@ -1,4 +1,3 @@
-pub mod AreasView
 pub mod Counts
 pub mod Ended
 pub mod Executions

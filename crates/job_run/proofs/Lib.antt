@@ -1,0 +1,5 @@
+pub mod AreaLemmas
+pub mod PhaseLemmas
+pub mod SessionLemmas
+pub mod SlotLemmas
+pub mod TaskLemmas
