@@ -1,4 +1,5 @@
 pub mod AreaLemmas
+pub mod JoinLemmas
 pub mod PhaseLemmas
 pub mod SessionLemmas
 pub mod SlotLemmas

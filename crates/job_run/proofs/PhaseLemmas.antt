@@ -1,24 +1,22 @@
--- Phases one after the other, and the tasks of a phase one after the other.
+-- Phases one after the other, and the passes of a phase joined one after the other.
 use Rattle.std.proofs.Common.{◌≡◌, ℕ, ◌+◌, ◌*◌, ◌<◌, ◌≤◌, zero, suc, true, false, nat_eq, List, [], ◌∷◌, ◌++◌, length, get_or, set, drop, take, refl, sym, ◌∙◌, ap, subst, arith}
 use Rattle.std.proofs.lemmas.List.{append_assoc, append-nil, drop_more, drop_all, take_more, take_all, length-take-le}
 use Rattle.std.proofs.lemmas.Bool.{eqb-true}
 use Rattle.cov_base.specs.States.{Visit}
-use Rattle.s370_exec.specs.Solo.{Run}
-use Rattle.space_map.specs.Space.{memory_of_space}
 use Rattle.module_area.specs.FinalsView.{FinalsView}
-use Rattle.module_area.specs.Notes.{Notes, calls}
+use Rattle.module_area.specs.Notes.{Notes, calls, split_notes, after_join}
 use Rattle.module_area.specs.PlanView.{PlanView}
 use Rattle.module_area.specs.declared.places.Place.{Place}
 use Rattle.module_area.specs.declared.tallies.Tally.{Tally}
 use Rattle.svc_monitor.specs.Observed.{Observes}
-use Rattle.svc_monitor.proofs.ObservedLemmas.{Observes-none, Observes-append}
-use Rattle.session_book.specs.JobView.{JobView, TaskView, IsJob, IsTask}
+use Rattle.svc_monitor.proofs.ObservedLemmas.{Observes-none}
+use Rattle.session_book.specs.JobView.{JobView, TaskView, IsTask}
 use Rattle.session_book.specs.Sessions.{task_of, no_task, plan_view, traces_from}
 use Rattle.job_run.specs.Areas.{EndsArea, GrowsBy}
-use Rattle.job_run.specs.Runs.{Account, AreEnded, HasLeft, joined, phase_trace, trace_of, result_of_run}
-use Rattle.job_run.specs.Tasks.{AreRun, IsBegun, done_result, own_run}
-use Rattle.job_run.specs.declared.outcome.Done.{Done}
-use Rattle.job_run.proofs.TaskLemmas.{run_calls, begun_now, begun_run, has_ended, is_task, AreRun-one}
+use Rattle.job_run.specs.Runs.{Account, AreEnded, HasLeft, joined, phase_trace, trace_of}
+use Rattle.job_run.specs.Slots.{HasSplit, JoinsAll}
+use Rattle.job_run.proofs.JoinLemmas.{joins-more}
+use Rattle.job_run.proofs.TaskLemmas.{run_calls}
 
 -- the visits of the phase's tasks from this one on
 abbrev pub rest_of : JobView → List Place → ℕ → ℕ → List Visit
@@ -36,26 +34,37 @@ next_of : (j : JobView) (places : List Place) (phase i : ℕ) → i < length j.t
     rest_of j places phase i ≡ joined (traces_from i (task_of j i ∷ drop (i + 1) j.tasks) phase (trace_of j places))
 next_of j places phase i l = ap (λ (ts : List TaskView). joined (traces_from i ts phase (trace_of j places))) (drop_more j.tasks i no_task l)
 
--- the pass has observed the phase's tasks before the next one
+-- the root has observed the phase's tasks before the next one
 pub record HasObserved (plan : PlanView) (old new : Notes) (j : JobView) (places : List Place) (phase next : ℕ) : Type 0 where
   pub trace : List Visit
-  pub observes : Observes plan old new trace
+  pub observes : JoinsAll plan old new trace
   pub rest : trace ++ rest_of j places phase next ≡ phase_trace j places phase
   pub few : calls new ≤ calls old + next * 300000000
 
-pub HasObserved-start : (plan : PlanView) (n : Notes) (j : JobView) (places : List Place) (phase : ℕ) → HasObserved plan n n j places phase 0
-HasObserved-start plan n j places phase = record { trace = []; observes = Observes-none plan n; rest = refl; few = omega arith }
+pub HasObserved-start : (plan : PlanView) (old new : Notes) (j : JobView) (places : List Place) (phase next : ℕ) → HasSplit j phase next old new → HasObserved plan old new j places phase 0
+HasObserved-start plan old new j places phase next split = record {
+  trace = [];
+  observes = subst (λ (n : Notes). Observes plan n new []) split.same (Observes-none plan new);
+  rest = refl;
+  few = omega (arith, ap (λ (n : Notes). calls n) split.same);
+}
 
-pub HasObserved-one : (plan : PlanView) (old mid new : Notes) (j : JobView) (places : List Place) (phase next : ℕ) → next < length j.tasks → nat_eq (task_of j next).phase phase ≡ true →
-    IsTask (length j.phases) (task_of j next) → HasObserved plan old mid j places phase next → Observes plan mid new (trace_of j places next) → HasObserved plan old new j places phase (next + 1)
-HasObserved-one plan old mid new j places phase next l h is o more =
+-- a pass has done no more than this since it was split off
+pub pass_calls : (plan : PlanView) (root other : Notes) (j : JobView) (places : List Place) (t : ℕ) → IsTask (length j.phases) (task_of j t) →
+    Observes plan (split_notes root t) other (trace_of j places t) → calls other ≤ 300000000
+pass_calls plan root other j places t is o = run_calls plan (split_notes root t) other j places t is o
+
+pub HasObserved-one : (plan : PlanView) (old mid other : Notes) (j : JobView) (places : List Place) (phase next : ℕ) → next < length j.tasks → nat_eq (task_of j next).phase phase ≡ true →
+    IsTask (length j.phases) (task_of j next) → HasObserved plan old mid j places phase next → Observes plan (split_notes old next) other (trace_of j places next) →
+    HasObserved plan old (after_join mid other) j places phase (next + 1)
+HasObserved-one plan old mid other j places phase next l h is o more =
     let after : rest_of j places phase next ≡ trace_of j places next ++ rest_of j places phase (next + 1) =
     next_of j places phase next l ∙ one_of j places phase next (drop (next + 1) j.tasks) h in
     record {
       trace = o.trace ++ trace_of j places next;
-      observes = Observes-append plan old mid new o.trace (trace_of j places next) o.observes more;
+      observes = joins-more plan old mid other next o.trace (trace_of j places next) o.observes more;
       rest = append_assoc o.trace (trace_of j places next) (rest_of j places phase (next + 1)) ∙ (ap (λ (vs : List Visit). o.trace ++ vs) (sym after) ∙ o.rest);
-      few = omega (arith, o.few, run_calls plan mid new j places next is more);
+      few = omega (arith, o.few, pass_calls plan old other j places next is more);
     }
 
 pub HasObserved-other : (plan : PlanView) (old new : Notes) (j : JobView) (places : List Place) (phase next : ℕ) → next < length j.tasks → nat_eq (task_of j next).phase phase ≡ false →
@@ -70,30 +79,11 @@ HasObserved-other plan old new j places phase next l h o =
     }
 
 pub HasObserved-all : (plan : PlanView) (old new : Notes) (j : JobView) (places : List Place) (phase n : ℕ) → length j.tasks ≤ n → HasObserved plan old new j places phase n →
-    Observes plan old new (phase_trace j places phase)
+    JoinsAll plan old new (phase_trace j places phase)
 HasObserved-all plan old new j places phase n all o =
     let none : rest_of j places phase n ≡ [] = ap (λ (ts : List TaskView). joined (traces_from n ts phase (trace_of j places))) (drop_all n j.tasks all) in
     let whole : o.trace ≡ phase_trace j places phase = sym (append-nil o.trace) ∙ (ap (λ (vs : List Visit). o.trace ++ vs) (sym none) ∙ o.rest) in
-    subst (λ (vs : List Visit). Observes plan old new vs) whole o.observes
-
--- the next task has run, and the pass has observed it
-pub record HasRunOne (plan : PlanView) (old new : Notes) (j : JobView) (places : List Place) (phase next : ℕ) (tasks : List Done) : Type 0 where
-  pub are : AreRun j places phase next tasks
-  pub observed : HasObserved plan old new j places phase next
-
-pub run_next : (plan : PlanView) (old mid new : Notes) (j : JobView) (places : List Place) (phase next : ℕ) (tasks : List Done) (none e : Done) → IsJob j → next < length j.tasks →
-    nat_eq (task_of j next).phase phase ≡ true → AreRun j places phase next tasks → HasObserved plan old mid j places phase next →
-    done_result e ≡ result_of_run (own_run (get_or tasks next none)) → length e.task.space.bytes ≡ (memory_of_space (get_or tasks next none).task.space).private →
-    Observes plan mid new (own_run (get_or tasks next none)).trace → HasRunOne plan old new j places phase (next + 1) (set tasks next e)
-run_next plan old mid new j places phase next tasks none e job l of a o result filled observes =
-    let here : next < length tasks = omega (arith, l, a.count) in
-    let d : Done = get_or tasks next none in
-    let begun : IsBegun j places next d = begun_now j places phase next tasks none here of a in
-    let run : Observes plan mid new (trace_of j places next) = subst (λ (r : Run). Observes plan mid new r.trace) (begun_run j places next d begun) observes in
-    record {
-      are = AreRun-one j places phase next tasks e here (eqb-true (task_of j next).phase phase of) a (has_ended j places next d e begun result filled);
-      observed = HasObserved-one plan old mid new j places phase next l of (is_task j next job l) o run;
-    }
+    subst (λ (vs : List Visit). JoinsAll plan old new vs) whole o.observes
 
 -- one area more
 pub AreEnded-more : (j : JobView) (places : List Place) (phase : ℕ) (ns : List (List ℕ)) (n : List ℕ) (fs : List FinalsView) (f : FinalsView) (ts : List Tally) (t : Tally) →

@@ -3,7 +3,7 @@ use Rattle.std.proofs.Common.{◌≡◌, ℕ, ◌+◌, ◌-◌, ◌<◌, ◌≤�
 use Rattle.std.specs.List.{list_any, flat_map}
 use Rattle.std.proofs.lemmas.Bool.{and_parts, both_ways, eqb-true, ltb-true}
 use Rattle.std.proofs.lemmas.Bool.Decides.{nat_tests}
-use Rattle.std.proofs.lemmas.List.{get_or-map}
+use Rattle.std.proofs.lemmas.List.{get_or-map, length-map}
 use Rattle.std.proofs.lemmas.List.Concat.{flat_map-cons}
 use Rattle.std.proofs.lemmas.List.Elements.{All-get_or}
 use Rattle.cov_base.specs.FactSet.{FactSet}
@@ -21,7 +21,9 @@ use Rattle.session_book.specs.Sessions.{session_of, no_session, observes, window
 use Rattle.job_run.specs.Runs.{Account, HasLeft, joined, phase_trace, set_of, trace_of}
 use Rattle.job_run.specs.Sets.{SetsView, IsSized, no_finals, set_in}
 use Rattle.job_run.specs.Outcomes.{IsOutcome}
+use Rattle.job_run.specs.Slots.{dones}
 use Rattle.job_run.specs.Tasks.{AreRun}
+use Rattle.job_run.specs.declared.slots.Slot.{Slot}
 use Rattle.job_run.specs.declared.outcome.Done.{Done}
 use Rattle.job_run.proofs.PhaseLemmas.{AreaOf, left_at, left_count}
 use Rattle.job_run.proofs.TaskLemmas.{all_ended}
@@ -121,19 +123,23 @@ set_within j places v s p of size a some most = by_place (nat_lt p v.places) ref
 pub all_sized : (j : JobView) (places : List Place) (before after : Account) (sets : List FinalsView) → HasLeft j places before after sets → All (IsSized j (length places)) sets
 all_sized j places before after sets l k d h = sized j places k (get_or sets k d) (left_at j places before after sets k d l (omega (arith, h, left_count j places before after sets l)))
 
-is_outcome : (j : JobView) (places : List Place) (before after : Account) (tasks : List Done) (sets : SetsView) → IsJob j → HasLeft j places before after sets.finals →
-    AreRun j places (length j.phases) 0 tasks → sets.job ≡ j → sets.places ≡ length places → IsOutcome j places tasks sets
-is_outcome j places before after tasks sets job left run of size = record {
-  count = run.count;
-  are_results = λ t l. (all_ended j places tasks t job run l).0;
-  filled = λ t l. (all_ended j places tasks t job run l).1;
+is_outcome : {P : Type 0} (j : JobView) (places : List Place) (before after : Account) (slots : List (Slot P)) (sets : SetsView) → IsJob j → HasLeft j places before after sets.finals →
+    AreRun j places (length j.phases) slots → sets.job ≡ j → sets.places ≡ length places → IsOutcome j places (dones slots) sets
+is_outcome j places before after slots sets job left run of size = record {
+  count = length-map slots (λ s. s.done) ∙ run.count;
+  are_results = λ t l. (all_ended j places slots t job run l).0;
+  filled = λ t l. (all_ended j places slots t job run l).1;
   job = of;
   size = size;
   are_sets = λ s p some most l h. set_is j places sets s p job of size (left_at j places before after sets.finals (session_of j s).phase no_finals left (phase_in j s job some most)) some most l h;
   within = λ s p some most. set_within j places sets s p of size (left_at j places before after sets.finals (session_of j s).phase no_finals left (phase_in j s job some most)) some most;
 }
 
-pub outcome : (j : JobView) (places : List Place) (before after : Account) (tasks : List Done) (finals : List FinalsView) (sets : SetsView) → IsJob j → HasLeft j places before after finals →
-    AreRun j places (length j.phases) 0 tasks → sets ≡ record { job = j; places = length places; finals = finals } → IsOutcome j places tasks sets
-outcome j places before after tasks finals sets job left run same =
-    subst (λ (v : SetsView). IsOutcome j places tasks v) (sym same) (is_outcome j places before after tasks (record { job = j; places = length places; finals = finals }) job left run refl refl)
+pub outcome : {P : Type 0} (j : JobView) (places : List Place) (before after : Account) (slots : List (Slot P)) (tasks : List Done) (finals : List FinalsView) (sets : SetsView) → IsJob j →
+    HasLeft j places before after finals → AreRun j places (length j.phases) slots → tasks ≡ dones slots → sets ≡ record { job = j; places = length places; finals = finals } →
+    IsOutcome j places tasks sets
+outcome j places before after slots tasks finals sets job left run moved same =
+    let whole : IsOutcome j places (dones slots) (record { job = j; places = length places; finals = finals }) =
+    is_outcome j places before after slots (record { job = j; places = length places; finals = finals }) job left run refl refl in
+    subst (λ (v : SetsView). IsOutcome j places tasks v) (sym same)
+    (subst (λ (ds : List Done). IsOutcome j places ds (record { job = j; places = length places; finals = finals })) (sym moved) whole)

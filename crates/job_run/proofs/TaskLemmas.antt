@@ -1,8 +1,8 @@
 -- Tasks before and after their runs.
-use Rattle.std.proofs.Common.{◌≡◌, ◌≢◌, ◌⊎◌, inl, inr, ℕ, ◌+◌, ◌*◌, ◌<◌, ◌≤◌, true, false, ◌&&◌, ◌||◌, nat_eq, nat_lt, Some, None, List, [], length, get_or, set, take, drop, min, slice_range, ◌-◌, refl, sym, ◌∙◌, ap, subst, arith}
+use Rattle.std.proofs.Common.{◌≡◌, ◌⊎◌, inl, inr, ℕ, ◌+◌, ◌*◌, ◌<◌, ◌≤◌, Bool, true, false, nat_eq, nat_lt, Some, None, List, [], length, get_or, take, drop, min, slice_range, ◌-◌, refl, sym, ◌∙◌, ap, subst, arith}
 use Rattle.std.proofs.lemmas.Bool.Decides.{nat_tests}
-use Rattle.std.proofs.lemmas.Grind.{get_or-set_at}
-use Rattle.std.proofs.lemmas.List.{get_or-map, get_or-set_other, length-set, length-drop, take_all}
+use Rattle.std.proofs.lemmas.Bool.{ltb-true}
+use Rattle.std.proofs.lemmas.List.{get_or-map, length-map, length-drop, take_all}
 use Rattle.std.proofs.lemmas.List.Elements.{All-get_or}
 use Rattle.cov_base.specs.Memory.{Memory, ImageView}
 use Rattle.cov_base.specs.States.{State}
@@ -20,8 +20,10 @@ use Rattle.space_map.specs.Space.{memory_of_space, row_of}
 use Rattle.task_run.proofs.RunLemmas.{visits-most}
 use Rattle.task_run.proofs.TraceLemmas.{solo_run-done, solo_run-visits}
 use Rattle.job_run.specs.Runs.{run_of, trace_of, result_of, result_of_run}
+use Rattle.job_run.specs.Slots.{dones, in_phase}
 use Rattle.job_run.specs.Tasks.{IsBegun, IsEnded, AreRun, has_run, done_result, no_result, results_of, own_run}
 use Rattle.job_run.specs.declared.outcome.Done.{Done}
+use Rattle.job_run.specs.declared.slots.Slot.{Slot}
 
 same_run : (m m' : Memory) (b b' : ℕ) (s s' : State) → m ≡ m' → b ≡ b' → s ≡ s' → solo_run m b s ≡ solo_run m' b' s'
 same_run m m' b b' s s' p q r = ap (λ (n : Memory). solo_run n b s) p ∙ (ap (λ (n : ℕ). solo_run m' n s) q ∙ ap (λ (n : State). solo_run m' b' n) r)
@@ -62,79 +64,49 @@ run_calls plan old new j places t is o =
     omega (arith, most, visits, done, is.budget, o.fetches, o.marks, o.lifts, o.grows.plants, o.grows.closes)
 
 -- no task has run before the first phase
-none_earlier : (j : JobView) (t : ℕ) → has_run j 0 0 t ≡ false
-none_earlier j t = grind (arith, nat_tests)
+none_earlier : (p : ℕ) → nat_lt p 0 ≡ true → ⊥
+none_earlier p h = absurd (omega (arith, ltb-true p 0 h))
 
-pub AreRun-start : (j : JobView) (places : List Place) (tasks : List Done) → length tasks ≡ length j.tasks →
-    ((t : ℕ) (d : Done) → t < length tasks → IsBegun j places t (get_or tasks t d)) → AreRun j places 0 0 tasks
-AreRun-start j places tasks count begun = record {
+pub AreRun-start : {P : Type 0} (j : JobView) (places : List Place) (slots : List (Slot P)) → length slots ≡ length j.tasks →
+    ((t : ℕ) (d : Slot P) → t < length slots → IsBegun j places t (get_or slots t d).done) → AreRun j places 0 slots
+AreRun-start j places slots count begun = record {
   count = count;
-  ended = λ t d l h. absurd (both t h);
+  ended = λ t d l h. absurd (none_earlier (task_of j t).phase h);
   begun = λ t d l h. begun t d l;
 }
-  where
-    both : (t : ℕ) → has_run j 0 0 t ≡ true → ⊥
-    both t h = let e : false ≡ true = sym (none_earlier j t) ∙ h in absurd cc
 
--- the next task is of another phase
-other_stays : (p phase next t : ℕ) → (t ≡ next → nat_eq p phase ≡ false) → (nat_lt p phase || (nat_eq p phase && nat_lt t (next + 1))) ≡ (nat_lt p phase || (nat_eq p phase && nat_lt t next))
-other_stays p phase next t h = grind (arith, nat_tests)
+-- a task that has run by the next phase is of this one, or had run before
+earlier_or : (p phase : ℕ) → nat_eq p phase ≡ false → nat_lt p phase ≡ nat_lt p (phase + 1)
+earlier_or p phase h = grind (arith, nat_tests)
 
-same_task : (j : JobView) (phase next : ℕ) → nat_eq (task_of j next).phase phase ≡ false → (t : ℕ) → t ≡ next → nat_eq (task_of j t).phase phase ≡ false
-same_task j phase next h t e = subst (λ (u : ℕ). nat_eq (task_of j u).phase phase ≡ false) (sym e) h
+not_next : (p phase : ℕ) → nat_eq p phase ≡ true → nat_lt p (phase + 1) ≡ false → ⊥
+not_next p phase h k = let e : nat_lt p (phase + 1) ≡ true = grind (arith, nat_tests) in let never : true ≡ false = sym e ∙ k in absurd cc
 
-pub AreRun-other : (j : JobView) (places : List Place) (phase next : ℕ) (tasks : List Done) → nat_eq (task_of j next).phase phase ≡ false →
-    AreRun j places phase next tasks → AreRun j places phase (next + 1) tasks
-AreRun-other j places phase next tasks h a = record {
-  count = a.count;
-  ended = λ t d l r. a.ended t d l (sym (other_stays (task_of j t).phase phase next t (same_task j phase next h t)) ∙ r);
-  begun = λ t d l r. a.begun t d l (sym (other_stays (task_of j t).phase phase next t (same_task j phase next h t)) ∙ r);
-}
-
--- the next task has run
-run_now : (p phase next t : ℕ) → p ≡ phase → t ≡ next → (nat_lt p phase || (nat_eq p phase && nat_lt t (next + 1))) ≡ true
-run_now p phase next t h e = grind (arith, nat_tests)
-
-same_or : (t n : ℕ) → (t ≡ n) ⊎ (t ≢ n)
-same_or t n = grind arith
-
-set_ended : (j : JobView) (places : List Place) (tasks : List Done) (next t : ℕ) (e d : Done) → next < length tasks → t ≡ next → IsEnded j places next e →
-    IsEnded j places t (get_or (set tasks next e) t d)
-set_ended j places tasks next t e d l same h =
-    subst (λ (x : Done). IsEnded j places t x) (sym (get_or-set_at tasks next t e d same l)) (subst (λ (u : ℕ). IsEnded j places u e) (sym same) h)
-
-pub AreRun-one : (j : JobView) (places : List Place) (phase next : ℕ) (tasks : List Done) (e : Done) → next < length tasks → (task_of j next).phase ≡ phase →
-    AreRun j places phase next tasks → IsEnded j places next e → AreRun j places phase (next + 1) (set tasks next e)
-AreRun-one j places phase next tasks e here of a h = record {
-  count = length-set tasks next e ∙ a.count;
-  ended = λ t d l r. elim (same_or t next) [
-    | inl same ↦ set_ended j places tasks next t e d here same h
-    | inr other ↦ subst (λ (x : Done). IsEnded j places t x) (sym (get_or-set_other tasks next t e d other)) (a.ended t d (subst (λ n. t < n) (length-set tasks next e) l) (before t other ∙ r))
-  ];
-  begun = λ t d l r. elim (same_or t next) [
-    | inl same ↦ absurd (now t same r)
-    | inr other ↦ subst (λ (x : Done). IsBegun j places t x) (sym (get_or-set_other tasks next t e d other)) (a.begun t d (subst (λ n. t < n) (length-set tasks next e) l) (before t other ∙ r))
-  ];
+-- the tasks of this phase have run, and no other has changed
+pub AreRun-next : {P : Type 0} (j : JobView) (places : List Place) (phase : ℕ) (old new : List (Slot P)) → AreRun j places phase old → length new ≡ length old →
+    ((t : ℕ) (d : Slot P) → t < length old → in_phase j phase t ≡ true → IsEnded j places t (get_or new t d).done) →
+    ((t : ℕ) (d : Slot P) → t < length old → in_phase j phase t ≡ false → (get_or new t d).done ≡ (get_or old t d).done) → AreRun j places (phase + 1) new
+AreRun-next j places phase old new a same ended kept = record {
+  count = same ∙ a.count;
+  ended = λ t d l h. is_ended t d (omega (arith, l, same)) h (in_phase j phase t) refl;
+  begun = λ t d l h. is_begun t d (omega (arith, l, same)) h (in_phase j phase t) refl;
 }
   where
-    before : (t : ℕ) → t ≢ next → has_run j phase next t ≡ has_run j phase (next + 1) t
-    before t other = sym (other_stays (task_of j t).phase phase next t (λ e. absurd (other e)))
+    is_ended : (t : ℕ) (d : Slot _) → t < length old → has_run j (phase + 1) t ≡ true → (b : Bool) → in_phase j phase t ≡ b → IsEnded j places t (get_or new t d).done
+    is_ended t d l h true e = ended t d l e
+    is_ended t d l h false e = subst (λ (x : Done). IsEnded j places t x) (sym (kept t d l e)) (a.ended t d l (earlier_or (task_of j t).phase phase e ∙ h))
 
-    of_same : (t : ℕ) → t ≡ next → (task_of j t).phase ≡ phase
-    of_same t same = ap (λ (u : ℕ). (task_of j u).phase) same ∙ of
+    is_begun : (t : ℕ) (d : Slot _) → t < length old → has_run j (phase + 1) t ≡ false → (b : Bool) → in_phase j phase t ≡ b → IsBegun j places t (get_or new t d).done
+    is_begun t d l h true e = absurd (not_next (task_of j t).phase phase e h)
+    is_begun t d l h false e = subst (λ (x : Done). IsBegun j places t x) (sym (kept t d l e)) (a.begun t d l (earlier_or (task_of j t).phase phase e ∙ h))
 
-    now : (t : ℕ) → t ≡ next → has_run j phase (next + 1) t ≡ false → ⊥
-    now t same r = let q : true ≡ false = sym (run_now (task_of j t).phase phase next t (of_same t same) same) ∙ r in absurd cc
-
--- all tasks of the phase have run
-phase_over : (p phase n t : ℕ) → t < n → (nat_lt p phase || (nat_eq p phase && nat_lt t n)) ≡ (nat_lt p (phase + 1) || (nat_eq p (phase + 1) && nat_lt t 0))
-phase_over p phase n t l = grind (arith, nat_tests)
-
-pub AreRun-next : (j : JobView) (places : List Place) (phase n : ℕ) (tasks : List Done) → length j.tasks ≤ n → AreRun j places phase n tasks → AreRun j places (phase + 1) 0 tasks
-AreRun-next j places phase n tasks all a = record {
-  count = a.count;
-  ended = λ t d l r. a.ended t d l (phase_over (task_of j t).phase phase n t (omega (arith, l, a.count, all)) ∙ r);
-  begun = λ t d l r. a.begun t d l (phase_over (task_of j t).phase phase n t (omega (arith, l, a.count, all)) ∙ r);
+-- only passes were given or taken
+pub AreRun-same : {P : Type 0} (j : JobView) (places : List Place) (phase : ℕ) (old new : List (Slot P)) → AreRun j places phase old → length new ≡ length old →
+    ((t : ℕ) (d : Slot P) → t < length old → (get_or new t d).done ≡ (get_or old t d).done) → AreRun j places phase new
+AreRun-same j places phase old new a same kept = record {
+  count = same ∙ a.count;
+  ended = λ t d l h. subst (λ (x : Done). IsEnded j places t x) (sym (kept t d (omega (arith, l, same)))) (a.ended t d (omega (arith, l, same)) h);
+  begun = λ t d l h. subst (λ (x : Done). IsBegun j places t x) (sym (kept t d (omega (arith, l, same)))) (a.begun t d (omega (arith, l, same)) h);
 }
 
 pub is_task : (j : JobView) (t : ℕ) → IsJob j → t < length j.tasks → IsTask (length j.phases) (task_of j t)
@@ -152,28 +124,22 @@ no_done = record {
   };
 }
 
-earlier : (p n t : ℕ) → p < n → (nat_lt p n || (nat_eq p n && nat_lt t 0)) ≡ true
-earlier p n t l = grind (arith, nat_tests)
+pub no_slot : {P : Type 0} → Slot P
+no_slot = record { done = no_done; pass = None }
+
+earlier : (p n : ℕ) → p < n → nat_lt p n ≡ true
+earlier p n l = grind (arith, nat_tests)
 
 -- after the last phase
-pub all_ended : (j : JobView) (places : List Place) (tasks : List Done) (t : ℕ) → IsJob j → AreRun j places (length j.phases) 0 tasks → t < length j.tasks →
-    (results_of tasks t ≡ result_of j places t) × (length (results_of tasks t).bytes ≡ (task_of j t).private)
-all_ended j places tasks t job a l =
-    let here : t < length tasks = omega (arith, l, a.count) in
-    let ended : IsEnded j places t (get_or tasks t no_done) = a.ended t no_done here (earlier (task_of j t).phase (length j.phases) t (is_task j t job l).phase) in
-    let found : results_of tasks t ≡ done_result (get_or tasks t no_done) = get_or-map done_result tasks t no_done no_result here in
+pub all_ended : {P : Type 0} (j : JobView) (places : List Place) (slots : List (Slot P)) (t : ℕ) → IsJob j → AreRun j places (length j.phases) slots → t < length j.tasks →
+    (results_of (dones slots) t ≡ result_of j places t) × (length (results_of (dones slots) t).bytes ≡ (task_of j t).private)
+all_ended j places slots t job a l =
+    let here : t < length slots = omega (arith, l, a.count) in
+    let there : t < length (dones slots) = omega (arith, here, length-map slots (λ s. s.done)) in
+    let ended : IsEnded j places t (get_or slots t no_slot).done = a.ended t no_slot here (earlier (task_of j t).phase (length j.phases) (is_task j t job l).phase) in
+    let found : results_of (dones slots) t ≡ done_result (get_or slots t no_slot).done =
+    get_or-map done_result (dones slots) t no_done no_result there ∙ ap done_result (get_or-map (λ s. s.done) slots t no_slot no_done here) in
     (found ∙ ended.result, ap (λ (r : ResultView). length r.bytes) found ∙ ended.filled)
-
-not_yet : (p phase t : ℕ) → (nat_lt p phase || (nat_eq p phase && nat_lt t t)) ≡ nat_lt p phase
-not_yet p phase t = grind (arith, nat_tests)
-
-same_phase : (p phase : ℕ) → nat_eq p phase ≡ true → nat_lt p phase ≡ false
-same_phase p phase h = grind (arith, nat_tests)
-
--- the next task, of this phase, is as it begins
-pub begun_now : (j : JobView) (places : List Place) (phase t : ℕ) (tasks : List Done) (d : Done) → t < length tasks → nat_eq (task_of j t).phase phase ≡ true → AreRun j places phase t tasks →
-    IsBegun j places t (get_or tasks t d)
-begun_now j places phase t tasks d l h a = a.begun t d l (not_yet (task_of j t).phase phase t ∙ same_phase (task_of j t).phase phase h)
 
 -- a row of private storage, by its bounds
 row_at : (bytes : List ℕ) (from n : ℕ) → from ≤ length bytes → (from + 16 ≤ length bytes) ⊎ (length bytes ≤ from + 16) → n ≡ min (from + 16) (length bytes) - from →

@@ -1,5 +1,5 @@
 -- The tasks of a job before and after they have run.
-use Rattle.std.specs.Prelude.{◌≡◌, ℕ, ◌<◌, Bool, true, false, ◌&&◌, ◌||◌, nat_eq, nat_lt, None, List, [], length, get_or, map}
+use Rattle.std.specs.Prelude.{◌≡◌, ℕ, ◌<◌, Bool, true, false, nat_lt, None, List, [], length, get_or, map}
 use Rattle.s370_exec.specs.Solo.{Run, solo_run}
 use Rattle.module_area.specs.declared.places.Place.{Place}
 use Rattle.brk_table.specs.Places.{AreSeen, memory_of}
@@ -10,6 +10,7 @@ use Rattle.session_book.specs.Results.{ResultView}
 use Rattle.session_book.specs.Sessions.{task_of, first_state}
 use Rattle.job_run.specs.Runs.{result_of}
 use Rattle.job_run.specs.declared.outcome.Done.{Done}
+use Rattle.job_run.specs.declared.slots.Slot.{Slot}
 
 -- what a task has come to
 abbrev pub done_result : Done → ResultView
@@ -45,12 +46,12 @@ pub record IsEnded (j : JobView) (places : List Place) (t : ℕ) (d : Done) : Ty
   pub result : done_result d ≡ result_of j places t
   pub filled : length d.task.space.bytes ≡ (task_of j t).private
 
--- it is a task of an earlier phase, or of this one before the next to run
-abbrev pub has_run : JobView → ℕ → ℕ → ℕ → Bool
-has_run j phase next t = nat_lt (task_of j t).phase phase || (nat_eq (task_of j t).phase phase && nat_lt t next)
+-- it is a task of an earlier phase
+abbrev pub has_run : JobView → ℕ → ℕ → Bool
+has_run j phase t = nat_lt (task_of j t).phase phase
 
--- the tasks of the earlier phases have run, and those of this phase before the next one; the others are as they begin
-pub record AreRun (j : JobView) (places : List Place) (phase next : ℕ) (tasks : List Done) : Type 0 where
-  pub count : length tasks ≡ length j.tasks
-  pub ended : (t : ℕ) (d : Done) → t < length tasks → has_run j phase next t ≡ true → IsEnded j places t (get_or tasks t d)
-  pub begun : (t : ℕ) (d : Done) → t < length tasks → has_run j phase next t ≡ false → IsBegun j places t (get_or tasks t d)
+-- the tasks of the earlier phases have run, and the others are as they begin
+pub record AreRun {P : Type 0} (j : JobView) (places : List Place) (phase : ℕ) (slots : List (Slot P)) : Type 0 where
+  pub count : length slots ≡ length j.tasks
+  pub ended : (t : ℕ) (d : Slot P) → t < length slots → has_run j phase t ≡ true → IsEnded j places t (get_or slots t d).done
+  pub begun : (t : ℕ) (d : Slot P) → t < length slots → has_run j phase t ≡ false → IsBegun j places t (get_or slots t d).done

@@ -8,11 +8,12 @@ pub loop-phase-preserved : goal.loop-phase-preserved
 loop-phase-preserved g c =
     let phase : ℕ = c.loop-phase.phase in
     let here : phase < length c.args.job.now.phases = omega (arith, c.loop-phase-test.true, c.phase_count-count.ensures.value) in
-    let next = HasRunTo-next c.args.job.now c.args.tables.now.places phase c.loop-phase.finals.items c.in_ok-run_phase.field-0 _ (g.A.Areas.ledger c.loop-phase.areas) (g.A.Areas.ledger c.run_phase.new.areas)
-    _ (g.A.Areas.finals c.loop-phase.areas) (g.A.Areas.finals c.run_phase.new.areas) here c.loop-phase.invariant.areas c.in_ok-run_phase.ensures.grown in
+    let next = HasRunTo-next c.args.job.now c.args.tables.now.places phase c.loop-phase.finals.items c.in_ok-ended.ended _ (g.A.Areas.ledger c.loop-phase.areas) (g.A.Areas.ledger c.run_phase.new.areas)
+    _ (g.A.Areas.finals c.loop-phase.areas) (g.A.Areas.finals c.run_phase.new.areas) here c.loop-phase.invariant.areas c.in_ok-ended.ensures.grown in
     record {
-      tasks = c.in_ok-run_phase.ensures.tasks;
-      made = omega (arith, c.in_ok-run_phase.ensures.made, c.loop-phase.invariant.made);
+      tasks = c.in_ok-ended.ensures.tasks;
+      empty = c.in_ok-ended.ensures.empty;
+      made = omega (arith, c.in_ok-ended.ensures.made, c.loop-phase.invariant.made);
       areas = subst (λ (fs : List FinalsView). HasRunTo c.args.job.now c.args.tables.now.places (phase + 1) fs (g.A.Areas.ledger c.args.areas.now) (g.A.Areas.ledger c.run_phase.new.areas)
           (g.A.Areas.finals c.args.areas.now) (g.A.Areas.finals c.run_phase.new.areas)) (sym c.in_ok-push.ensures.items) next;
     }
@@ -25,4 +26,7 @@ returns-clause-left g c =
 pub returns-clause-tasks : goal.returns-clause-tasks
 returns-clause-tasks g c =
     let all : length c.args.job.now.phases ≡ c.loop-phase.phase = omega (arith, c.loop-phase-test.false, c.loop-phase.auto.phase-end, c.phase_count-count.ensures.value) in
-    subst (λ (n : ℕ). AreRun c.args.job.now c.args.tables.now.places n 0 c.loop-phase.tasks) (sym all) c.loop-phase.invariant.tasks
+    subst (λ (n : ℕ). AreRun c.args.job.now c.args.tables.now.places n c.loop-phase.slots) (sym all) c.loop-phase.invariant.tasks
+
+pub loop-phase-init : goal.loop-phase-init
+loop-phase-init g c = ?
