@@ -1,5 +1,5 @@
 -- A root that has observed some visits, and a pass joined to it that has observed others.
-use Rattle.std.proofs.Common.{◌≡◌, ◌≢◌, ℕ, ◌+◌, ◌*◌, ◌≤◌, Bool, true, false, ◌||◌, max, List, ◌++◌, inl, inr, refl, sym, ◌∙◌, arith}
+use Rattle.std.proofs.Common.{◌≡◌, ℕ, ◌+◌, ◌*◌, ◌≤◌, true, false, max, List, ◌++◌, inl, inr, refl, sym, ◌∙◌, arith}
 use Rattle.std.proofs.lemmas.Bool.{or_cases, or_left, or_right}
 use Rattle.cov_base.specs.Facts.{has_fact}
 use Rattle.cov_base.specs.States.{Visit}

@@ -1,7 +1,6 @@
 -- Phases one after the other, and the passes of a phase joined one after the other.
-use Rattle.std.proofs.Common.{◌≡◌, ℕ, ◌+◌, ◌*◌, ◌<◌, ◌≤◌, zero, suc, true, false, nat_eq, List, [], ◌∷◌, ◌++◌, length, get_or, set, drop, take, refl, sym, ◌∙◌, ap, subst, arith}
+use Rattle.std.proofs.Common.{◌≡◌, ℕ, ◌+◌, ◌*◌, ◌<◌, ◌≤◌, zero, suc, true, false, nat_eq, List, [], ◌∷◌, ◌++◌, length, get_or, drop, take, refl, sym, ◌∙◌, ap, subst, arith}
 use Rattle.std.proofs.lemmas.List.{append_assoc, append-nil, drop_more, drop_all, take_more, take_all, length-take-le}
-use Rattle.std.proofs.lemmas.Bool.{eqb-true}
 use Rattle.cov_base.specs.States.{Visit}
 use Rattle.module_area.specs.FinalsView.{FinalsView}
 use Rattle.module_area.specs.Notes.{Notes, calls, split_notes, after_join}

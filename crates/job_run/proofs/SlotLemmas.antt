@@ -1,12 +1,11 @@
 -- Passes split off, run with and taken back.
-use Rattle.std.proofs.Common.{◌≡◌, ◌≢◌, ◌⊎◌, inl, inr, ℕ, zero, suc, ◌+◌, ◌<◌, ◌≤◌, ◌^◌, Bool, true, false, not, ◌&&◌, ◌||◌, nat_eq, nat_lt, Option, Some, None, List, [], ◌∷◌, length, get_or, set, All, refl, sym, ◌∙◌, ap, subst, arith, zero-add}
-use Rattle.std.specs.Option.{IfSome}
-use Rattle.std.proofs.lemmas.Bool.{or_left, or_right, eq-eqb, ltb-true, lt-ltb}
+use Rattle.std.proofs.Common.{◌≡◌, ◌≢◌, ◌⊎◌, inl, inr, ℕ, zero, suc, ◌+◌, ◌<◌, ◌≤◌, ◌^◌, Bool, true, false, not, ◌&&◌, ◌||◌, nat_eq, nat_lt, Some, None, unwrap_or, List, [], ◌∷◌, ◌++◌, length, get_or, set, All, refl, sym, ◌∙◌, ap, subst, arith, zero-add}
+use Rattle.std.proofs.lemmas.Bool.{or_left, or_right, eq-eqb}
 use Rattle.std.proofs.lemmas.Bool.Decides.{nat_tests}
 use Rattle.std.proofs.lemmas.Grind.{get_or-set_at}
-use Rattle.std.proofs.lemmas.List.{get_or_default, get_or-set_other, length-set}
+use Rattle.std.proofs.lemmas.List.{get_or_default, get_or_append_left, get_or-set_other, length-append, length-set}
+use Rattle.std.proofs.Math.Seq.{get_or-append_seam}
 use Rattle.cov_base.specs.Memory.{Memory}
-use Rattle.cov_base.specs.States.{Visit}
 use Rattle.s370_exec.specs.Solo.{Run}
 use Rattle.module_area.specs.Notes.{Notes, calls, split_notes, after_split}
 use Rattle.module_area.specs.PlanView.{PlanView, has_task}
@@ -17,7 +16,7 @@ use Rattle.svc_monitor.specs.First.{IsOver}
 use Rattle.svc_monitor.specs.Observed.{Observes}
 use Rattle.session_book.specs.JobView.{JobView, TaskView}
 use Rattle.session_book.specs.Sessions.{task_of, no_task, tasks_from}
-use Rattle.job_run.specs.Runs.{run_of, trace_of}
+use Rattle.job_run.specs.Runs.{trace_of}
 use Rattle.job_run.specs.Slots.{in_phase, is_before, HasSplit, HasPass, IsFresh, AreSplit, AreEmpty, CanRun, RunsWith, RunsSlot, HasSeen, AreOver}
 use Rattle.job_run.specs.Tasks.{AreRun, IsBegun, IsEnded, own_run}
 use Rattle.job_run.specs.declared.outcome.Done.{Done}
@@ -118,10 +117,10 @@ AreSplit-one is_pass notes root j phase next old mid e none p here of a has area
   ];
   some = λ t d l below h. elim (same_or t next) [
     | inl same ↦ record {
-        pass = p;
-        has = ap (λ s. s.pass) (get_or-set_at mid next t e d same there) ∙ has;
-        holds = record { area = area; fresh = fresh ∙ ap (split_notes root) (sym same) };
-      }
+      pass = p;
+      has = ap (λ s. s.pass) (get_or-set_at mid next t e d same there) ∙ has;
+      holds = record { area = area; fresh = fresh ∙ ap (split_notes root) (sym same) };
+    }
     | inr other ↦ subst (HasPass (IsFresh is_pass notes root t)) (sym (get_or-set_other mid next t e d other)) (a.some t d l (omega (arith, below, other)) h)
   ];
   none = λ t d l h. elim (same_or t next) [
@@ -236,10 +235,10 @@ pub AreRun-after : {P : Type 0} (is_pass : P → Type 0) (notes : P → Notes) (
     AreRun j places (phase + 1) new
 AreRun-after is_pass notes root plan j places phase old mid new a r same runs = AreRun-next j places phase old new r (same ∙ a.count)
     (λ t d l h. run_ended is_pass notes root plan j places t (get_or mid t d) (get_or new t d) (a.some t d l (omega (arith, l, r.count)) h)
-      (begun_at is_pass notes root j places phase old mid t d a r l h) (runs t d (omega (arith, l, a.count))))
+    (begun_at is_pass notes root j places phase old mid t d a r l h) (runs t d (omega (arith, l, a.count))))
     (λ t d l h.
-        let empty : (get_or mid t d).pass ≡ None = a.none t d l (not_before (in_phase j phase t) t (length j.tasks) h) in
-        ap (λ s. s.done) (ran_not is_pass notes plan (get_or mid t d) (get_or new t d) empty (runs t d (omega (arith, l, a.count)))) ∙ a.done t d l)
+    let empty : (get_or mid t d).pass ≡ None = a.none t d l (not_before (in_phase j phase t) t (length j.tasks) h) in
+    ap (λ s. s.done) (ran_not is_pass notes plan (get_or mid t d) (get_or new t d) empty (runs t d (omega (arith, l, a.count)))) ∙ a.done t d l)
 
 -- the passes are taken back one after the other
 
@@ -313,3 +312,55 @@ none_left j phase n t l = all_gone (in_phase j phase t) t (length j.tasks) n l
   where
     all_gone : (a : Bool) (t m n : ℕ) → m ≤ n → (not (nat_lt t n) && (nat_lt t m && a)) ≡ false
     all_gone a t m n h = grind (arith, nat_tests)
+
+-- a pass of its own has the next slot only where its task is one of the phase
+the_pass : {P : Type 0} (p : P) (q : P) → Some p ≡ Some q → p ≡ q
+the_pass p q e = ap (λ o. unwrap_or o p) e
+
+pub pass_of : {P : Type 0} (is_pass : P → Type 0) (notes : P → Notes) (root : Notes) (plan : PlanView) (j : JobView) (places : List Place) (phase next : ℕ) (slots : List (Slot P)) (d : Slot P) (p : P) →
+    next < length slots → AreOver is_pass notes plan root j places phase next slots → (get_or slots next d).pass ≡ Some p →
+    (in_phase j phase next ≡ true) × HasSeen is_pass notes plan root (trace_of j places next) next p
+pass_of is_pass notes root plan j places phase next slots d p l a h = by_phase (in_phase j phase next) refl
+  where
+    by_phase : (b : Bool) → in_phase j phase next ≡ b → (in_phase j phase next ≡ true) × HasSeen is_pass notes plan root (trace_of j places next) next p
+    by_phase true e =
+        let s = seen_next is_pass notes root plan j places phase next slots d l a e in
+        (e, subst (HasSeen is_pass notes plan root (trace_of j places next) next) (the_pass s.pass p (sym s.has ∙ h)) s.holds)
+    by_phase false e = let never : None ≡ Some p = sym (empty_next is_pass notes root plan j places phase next slots d l a e) ∙ h in absurd cc
+
+pub not_of : {P : Type 0} (is_pass : P → Type 0) (notes : P → Notes) (root : Notes) (plan : PlanView) (j : JobView) (places : List Place) (phase next : ℕ) (slots : List (Slot P)) (d : Slot P) →
+    next < length slots → AreOver is_pass notes plan root j places phase next slots → (get_or slots next d).pass ≡ None → in_phase j phase next ≡ false
+not_of is_pass notes root plan j places phase next slots d l a h = by_phase (in_phase j phase next) refl
+  where
+    by_phase : (b : Bool) → in_phase j phase next ≡ b → in_phase j phase next ≡ false
+    by_phase true e = let s = seen_next is_pass notes root plan j places phase next slots d l a e in let never : None ≡ Some s.pass = sym h ∙ s.has in absurd cc
+    by_phase false e = e
+
+-- a slot in which only the pass has changed
+pub set_done : {P : Type 0} (slots : List (Slot P)) (next : ℕ) (e none : Slot P) → next < length slots → e.done ≡ (get_or slots next none).done →
+    (t : ℕ) (d : Slot P) → t < length slots → (get_or (set slots next e) t d).done ≡ (get_or slots t d).done
+set_done slots next e none here same t d l = elim (same_or t next) [
+  | inl at ↦ ap (λ s. s.done) (get_or-set_at slots next t e d at here) ∙ (same ∙ ap (λ s. s.done) (get_or_default slots next none d here ∙ ap (λ k. get_or slots k d) (sym at)))
+  | inr other ↦ ap (λ s. s.done) (get_or-set_other slots next t e d other)
+]
+
+-- one task more, as it begins
+pub begun_more : {P : Type 0} (j : JobView) (places : List Place) (slots : List (Slot P)) (e : Slot P) →
+    ((k : ℕ) (d : Slot P) → k < length slots → IsBegun j places k (get_or slots k d).done) → IsBegun j places (length slots) e.done →
+    (k : ℕ) (d : Slot P) → k < length (slots ++ e ∷ []) → IsBegun j places k (get_or (slots ++ e ∷ []) k d).done
+begun_more j places slots e begun last k d l = elim (same_or k (length slots)) [
+  | inl at ↦
+      let found : get_or (slots ++ e ∷ []) k d ≡ e = ap (λ n. get_or (slots ++ e ∷ []) n d) at ∙ get_or-append_seam slots e [] d in
+      subst (λ (s : Slot _). IsBegun j places k s.done) (sym found) (subst (λ (n : ℕ). IsBegun j places n e.done) (sym at) last)
+  | inr other ↦
+      let before : k < length slots = omega (arith, l, other, length-append slots (e ∷ [])) in
+      subst (λ (s : Slot _). IsBegun j places k s.done) (sym (get_or_append_left slots (e ∷ []) d k before)) (begun k d before)
+]
+
+pub empty_more : {P : Type 0} (slots : List (Slot P)) (e : Slot P) → AreEmpty slots → e.pass ≡ None → AreEmpty (slots ++ e ∷ [])
+empty_more slots e empty none k d l = elim (same_or k (length slots)) [
+  | inl at ↦ ap (λ s. s.pass) (ap (λ n. get_or (slots ++ e ∷ []) n d) at ∙ get_or-append_seam slots e [] d) ∙ none
+  | inr other ↦
+      let before : k < length slots = omega (arith, l, other, length-append slots (e ∷ [])) in
+      ap (λ s. s.pass) (get_or_append_left slots (e ∷ []) d k before) ∙ empty k d before
+]

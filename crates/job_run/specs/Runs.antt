@@ -1,5 +1,5 @@
 -- The run of each task alone, and what the areas of a run are left with.
-use Rattle.std.specs.Prelude.{◌≡◌, ℕ, ◌+◌, ◌≤◌, ◌<◌, true, Some, List, [], ◌∷◌, ◌++◌, length}
+use Rattle.std.specs.Prelude.{◌≡◌, ℕ, ◌+◌, Some, List, [], ◌∷◌, ◌++◌, length}
 use Rattle.cov_base.specs.States.{Visit}
 use Rattle.cov_base.specs.FactSet.{FactSet}
 use Rattle.s370_exec.specs.Solo.{Run, solo_run}
@@ -7,7 +7,7 @@ use Rattle.module_area.specs.FinalsView.{FinalsView}
 use Rattle.module_area.specs.PlanView.{place_of}
 use Rattle.module_area.specs.declared.places.Place.{Place}
 use Rattle.module_area.specs.declared.tallies.Tally.{Tally}
-use Rattle.brk_table.specs.Places.{TablesView, memory_of}
+use Rattle.brk_table.specs.Places.{memory_of}
 use Rattle.session_book.specs.JobView.{JobView, TaskView}
 use Rattle.session_book.specs.Results.{ResultView}
 use Rattle.session_book.specs.Sessions.{task_of, first_state, session_set, traces_from, plan_view}

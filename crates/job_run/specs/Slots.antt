@@ -1,5 +1,5 @@
 -- The tasks of a phase with the passes that their threads work with.
-use Rattle.std.specs.Prelude.{◌≡◌, ℕ, ◌+◌, ◌<◌, ◌≤◌, ◌^◌, Bool, true, false, not, ◌&&◌, nat_eq, nat_lt, Option, Some, None, List, length, get_or, map, All, IfSome}
+use Rattle.std.specs.Prelude.{◌≡◌, ℕ, ◌<◌, ◌≤◌, ◌^◌, Bool, true, false, not, ◌&&◌, nat_eq, nat_lt, Option, Some, None, List, length, get_or, map, All, IfSome}
 use Rattle.cov_base.specs.States.{Visit}
 use Rattle.module_area.specs.Notes.{Notes, calls, split_notes}
 use Rattle.module_area.specs.PlanView.{PlanView}

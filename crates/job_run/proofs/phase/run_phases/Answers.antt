@@ -1,7 +1,7 @@
 use Rattle.std.proofs.Common.{◌≡◌, ℕ, ◌+◌, ◌<◌, List, length, subst, sym, arith}
 use Rattle.module_area.specs.FinalsView.{FinalsView}
 use Rattle.job_run.specs.Tasks.{AreRun}
-use Rattle.job_run.proofs.PhaseLemmas.{HasRunTo, HasRunTo-next, HasRunTo-all}
+use Rattle.job_run.proofs.PhaseLemmas.{HasRunTo, HasRunTo-start, HasRunTo-next, HasRunTo-all}
 use Rattle.job_run.proofs.phase.run_phases.Goals as goal
 
 pub loop-phase-preserved : goal.loop-phase-preserved
@@ -29,4 +29,9 @@ returns-clause-tasks g c =
     subst (λ (n : ℕ). AreRun c.args.job.now c.args.tables.now.places n c.loop-phase.slots) (sym all) c.loop-phase.invariant.tasks
 
 pub loop-phase-init : goal.loop-phase-init
-loop-phase-init g c = ?
+loop-phase-init g c = record {
+  tasks = c.requires.tasks;
+  empty = c.requires.empty;
+  made = omega arith;
+  areas = rw c.in_ok-finals.ensures.items (HasRunTo-start c.args.job.now c.args.tables.now.places (g.A.Areas.ledger c.args.areas.now) (g.A.Areas.finals c.args.areas.now));
+}
