@@ -1,3 +1,4 @@
+pub mod AreasView
 pub mod Counts
 pub mod Ended
 pub mod Executions
