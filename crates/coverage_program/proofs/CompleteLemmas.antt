@@ -15,7 +15,7 @@ use Rattle.coverage_program.specs.Answers.{SourceChange, CameWhole, CameJob, IsS
 use Rattle.coverage_program.specs.declared.words.Command.{Command}
 use Rattle.coverage_program.specs.declared.words.Command.TheVariants.{Run}
 use Rattle.coverage_program.specs.Refusals.{RefusalView, refusal, job_refusal}
-use Rattle.coverage_program.specs.Runs.{Account}
+use Rattle.job_run.specs.Runs.{Account}
 use Rattle.coverage_program.specs.Words.{reads_job}
 
 append_none : (xs : List ℕ) → xs ++ [] ≡ xs

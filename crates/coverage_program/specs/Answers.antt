@@ -16,7 +16,8 @@ use Rattle.report_text.specs.Table.{table_text}
 use Rattle.coverage_program.specs.declared.words.Command.{Command}
 use Rattle.coverage_program.specs.declared.words.Command.TheVariants.{Run, Table, Unknown}
 use Rattle.coverage_program.specs.Refusals.{RefusalView, refusal, job_refusal, Match}
-use Rattle.coverage_program.specs.Runs.{Account, HasRun, Reports}
+use Rattle.job_run.specs.Runs.{Account, HasRun}
+use Rattle.coverage_program.specs.Reports.{Reports}
 use Rattle.coverage_program.specs.Words.{reads_job, usage_line, too_large_input_line, read_fault_line, no_memory_line, bad_job_line, large_job_line}
 
 -- the most bytes of input

@@ -4,8 +4,10 @@ pub mod Ended
 pub mod Executions
 pub mod FinalsView
 pub mod FreshWords
+pub mod Held
 pub mod Images
 pub mod Notes
+pub mod Parties
 pub mod PlainPass
 pub mod PlainWords
 pub mod PlanView

@@ -40,9 +40,21 @@ window_at plan p = get_or plan.windows p 0
 abbrev pub has_task : List TaskNo → ℕ → Bool
 has_task tasks t = list_any (λ u. nat_eq u.0 t) tasks
 
+-- the place is one of these
+abbrev pub has_place : List PlaceNo → ℕ → Bool
+has_place places p = list_any (λ (q : PlaceNo). nat_eq q.0 p) places
+
+-- the session is a controlled one over the place
+abbrev pub is_controlled : PlanView → ℕ → ℕ → Bool
+is_controlled plan s p = list_any (λ (c : ControlledView). nat_eq c.session s && has_place c.places p) plan.controlled
+
 -- the session is the place's whole session, or a controlled one over it
 abbrev pub is_over : PlanView → ℕ → ℕ → Bool
-is_over plan s p = (nat_lt 0 s && nat_eq (window_at plan p) s) || list_any (λ (c : ControlledView). nat_eq c.session s && list_any (λ (q : PlaceNo). nat_eq q.0 p) c.places) plan.controlled
+is_over plan s p = (nat_lt 0 s && nat_eq (window_at plan p) s) || is_controlled plan s p
+
+-- the task opens and closes the sessions over the place
+abbrev pub is_controller : PlanView → ℕ → ℕ → Bool
+is_controller plan t p = list_any (λ (c : ControlledView). nat_eq c.by t && has_place c.places p) plan.controlled
 
 -- a controlled session: of the job, by a task of the phase, over places without a whole session
 pub record IsControlled (plan : PlanView) (c : ControlledView) : Type 0 where

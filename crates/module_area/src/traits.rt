@@ -1,12 +1,12 @@
 //! The cells of an area: each call is one step on one word.
-ghost use Rattle.std.specs.Prelude.{◌≡◌, ℕ, ◌+◌, ◌-◌, ◌*◌, ◌<◌, ◌^◌, length, true, false};
+ghost use Rattle.std.specs.Prelude.{◌≡◌, ℕ, ◌+◌, ◌-◌, ◌*◌, ◌<◌, ◌≤◌, ◌^◌, length, true, false, IsSome};
 ghost use Rattle.std.specs.declared.option.Option.TheVariants.{Some, None};
 ghost use Rattle.cov_base.specs.Facts.{is_of_kind};
-ghost use Rattle.module_area.specs.PlanView.{PlanView, kind_at, window_at};
-ghost use Rattle.module_area.specs.Notes.{Notes, calls, after_fetch, after_mark, after_lift, after_plant, IsAnswer, IsFound};
+ghost use Rattle.module_area.specs.PlanView.{PlanView, kind_at, window_at, has_task};
+ghost use Rattle.module_area.specs.Notes.{Notes, calls, after_fetch, after_mark, after_lift, after_plant, after_split, split_notes, after_join, bearer, IsAnswer, IsFound};
 
 use crate::cells::Cell;
-use cov_base::{Bits, Fact, PlaceNo, SessNo};
+use cov_base::{Bits, Fact, PlaceNo, SessNo, TaskNo};
 
 /// The cells of one area. Each call names a place of the plan and needs a pass of this area whose tally sums to
 /// less than 2^62; it raises the count of its own kind by one, `lift` only where it answers true.
@@ -68,4 +68,31 @@ pub trait Cells {
         requires first { (notes pass.old).seen place.0 ≡ 0 }
         ensures area { is_pass self.now pass.new }
         ensures notes { notes pass.new ≡ after_plant (notes pass.old) s.0 place.0 };
+}
+
+/// Cells on which several threads work, each with a pass of its own.
+pub trait Forks: Cells {
+    /// A pass for a task of the plan, split off from the root, once for each task: it bears the task's number and has
+    /// seen what the root has seen; nothing is marked, and its tally is zero.
+    fn split(&self, root: &mut Self::Pass, task: TaskNo) -> Self::Pass
+        requires area { Self.is_pass self.now root.old }
+        requires root { (Self.notes root.old).bears ≡ None }
+        requires task { has_task (Self.plan self.now).tasks task.0 ≡ true }
+        requires first { (Self.notes root.old).given task.0 ≡ false }
+        ensures area { Self.is_pass self.now root.new }
+        ensures split { Self.is_pass self.now result }
+        ensures notes { Self.notes root.new ≡ after_split (Self.notes root.old) task.0 }
+        ensures fresh { Self.notes result ≡ split_notes (Self.notes root.old) task.0 };
+
+    /// Adds to the root what a pass that was split from it has done and knows. Both tallies together sum to at most
+    /// 2^62.
+    fn join(&self, root: &mut Self::Pass, other: Self::Pass)
+        requires area { Self.is_pass self.now root.old }
+        requires other { Self.is_pass self.now other }
+        requires root { (Self.notes root.old).bears ≡ None }
+        requires split { IsSome (Self.notes other).bears }
+        requires out { (Self.notes root.old).out (bearer (Self.notes other)) ≡ true }
+        requires room { calls (Self.notes root.old) + calls (Self.notes other) ≤ 2 ^ 62 }
+        ensures area { Self.is_pass self.now root.new }
+        ensures notes { Self.notes root.new ≡ after_join (Self.notes root.old) (Self.notes other) };
 }

@@ -1,0 +1,71 @@
+-- What the sessions of a plan say of a place.
+use Rattle.std.proofs.Common.{◌≡◌, ◌≢◌, ◌⊎◌, ℕ, zero, suc, ◌+◌, ◌*◌, ◌<◌, ◌≤◌, Bool, true, false, ◌&&◌, ◌||◌, nat_eq, nat_lt, List, [], ◌∷◌, length, get_or, Contains, sym, refl, ap, ◌∙◌, subst, inl, inr, ⊎_elim, arith, eqb-true, ltb-true, lt_of_not-le}
+use Rattle.std.specs.List.{list_any}
+use mathlib.Core.Logic.{dite}
+use native.Mathlib.Decide.{dec_le}
+use Rattle.cov_base.specs.declared.numbers.PlaceNo.{PlaceNo}
+use Rattle.module_area.specs.PlanView.{PlanView, ControlledView, IsPlan, has_place, is_controlled, is_controller, is_over, window_at}
+use Rattle.module_area.proofs.Indices.{and_left, and_right}
+
+any_step : {X : Type 0} (f : X → Bool) (x : X) (xs : List X) (d : X) (b : Bool) → f x ≡ b → (b || list_any f xs) ≡ true
+    → (list_any f xs ≡ true → (k : ℕ) × (k < length xs) × (f (get_or xs k d) ≡ true)) → (k : ℕ) × (k < length (x ∷ xs)) × (f (get_or (x ∷ xs) k d) ≡ true)
+any_step f x xs d true e h rest = (0, omega arith, e)
+any_step f x xs d false e h rest = let r = rest h in let l = r.1 in (suc r.0, omega arith, r.2)
+
+pub any_at : {X : Type 0} (f : X → Bool) (xs : List X) (d : X) → list_any f xs ≡ true → (k : ℕ) × (k < length xs) × (f (get_or xs k d) ≡ true)
+any_at f [] d h = absurd cc
+any_at f (x ∷ xs) d h = any_step f x xs d (f x) refl h (any_at f xs d)
+
+abbrev number : ℕ → PlaceNo
+number p = record { 0 = p }
+
+place_in : (places : List PlaceNo) (p : ℕ) → has_place places p ≡ true → Contains places (number p)
+place_in places p h = let a = any_at (λ (q : PlaceNo). nat_eq q.0 p) places (number p) h in (a.0, a.1, ap number (eqb-true _ _ a.2))
+
+abbrev no_session : ControlledView
+no_session = record { session = 0; by = 0; places = [] }
+
+abbrev session_at : PlanView → ℕ → ControlledView
+session_at plan i = get_or plan.controlled i no_session
+
+controller_at : (plan : PlanView) (t p : ℕ) → is_controller plan t p ≡ true → (i : ℕ) × (i < length plan.controlled) × ((session_at plan i).by ≡ t) × Contains (session_at plan i).places (number p)
+controller_at plan t p h = let a = any_at (λ (c : ControlledView). nat_eq c.by t && has_place c.places p) plan.controlled no_session h in
+    (a.0, a.1, eqb-true _ _ (and_left _ _ a.2), place_in (session_at plan a.0).places p (and_right (nat_eq (session_at plan a.0).by t) _ a.2))
+
+-- a place is under one controller
+pub one_controller : (plan : PlanView) (t u p : ℕ) → IsPlan plan → is_controller plan t p ≡ true → is_controller plan u p ≡ true → t ≡ u
+one_controller plan t u p ok ht hu = let a = controller_at plan t p ht in let b = controller_at plan u p hu in dite (dec_le (suc a.0) b.0)
+    (λ lt. sym a.2 ∙ ((ok.apart a.0 b.0 no_session lt b.1).one_controller (number p) a.3 b.3 ∙ b.2))
+    (λ n. dite (dec_le (suc b.0) a.0)
+    (λ lt. sym a.2 ∙ (sym ((ok.apart b.0 a.0 no_session lt a.1).one_controller (number p) b.3 a.3) ∙ b.2))
+    (λ m. let x = lt_of_not-le n in let y = lt_of_not-le m in let same : a.0 ≡ b.0 = omega arith in sym a.2 ∙ (ap (λ i. (session_at plan i).by) same ∙ b.2)))
+
+-- a place with a window is under none
+pub no_controller : (plan : PlanView) (t p : ℕ) → IsPlan plan → 0 < window_at plan p → is_controller plan t p ≡ true → ⊥
+no_controller plan t p ok pos h = let a = controller_at plan t p h in let c = a.3 in
+    let z : window_at plan (get_or (session_at plan a.0).places c.0 (number p)).0 ≡ 0 = (ok.controlled a.0 no_session a.1).free c.0 (number p) c.1 in
+    let e : window_at plan p ≡ 0 = sym (ap (λ (q : PlaceNo). window_at plan q.0) c.2) ∙ z in absurd (omega arith)
+
+controlled_at : (plan : PlanView) (s p : ℕ) → is_controlled plan s p ≡ true → (i : ℕ) × (i < length plan.controlled) × ((session_at plan i).session ≡ s) × Contains (session_at plan i).places (number p)
+controlled_at plan s p h = let a = any_at (λ (c : ControlledView). nat_eq c.session s && has_place c.places p) plan.controlled no_session h in
+    (a.0, a.1, eqb-true _ _ (and_left _ _ a.2), place_in (session_at plan a.0).places p (and_right (nat_eq (session_at plan a.0).session s) _ a.2))
+
+pub no_controlled : (plan : PlanView) (s p : ℕ) → IsPlan plan → 0 < window_at plan p → is_controlled plan s p ≡ true → ⊥
+no_controlled plan s p ok pos h = let a = controlled_at plan s p h in let c = a.3 in
+    let z : window_at plan (get_or (session_at plan a.0).places c.0 (number p)).0 ≡ 0 = (ok.controlled a.0 no_session a.1).free c.0 (number p) c.1 in
+    let e : window_at plan p ≡ 0 = sym (ap (λ (q : PlaceNo). window_at plan q.0) c.2) ∙ z in absurd (omega arith)
+
+over_cases : (plan : PlanView) (s p : ℕ) → is_over plan s p ≡ true → (window_at plan p ≡ s) ⊎ (is_controlled plan s p ≡ true)
+over_cases plan s p h = by_test (nat_lt 0 s && nat_eq (window_at plan p) s) (is_controlled plan s p) refl refl h
+  where
+    by_test : (a b : Bool) → (nat_lt 0 s && nat_eq (window_at plan p) s) ≡ a → is_controlled plan s p ≡ b → (a || b) ≡ true → (window_at plan p ≡ s) ⊎ (is_controlled plan s p ≡ true)
+    by_test true b ea eb x = inl (eqb-true _ _ (and_right (nat_lt 0 s) _ ea))
+    by_test false b ea eb x = inr (eb ∙ x)
+
+-- a place with a window is under its whole session alone
+pub over_window : (plan : PlanView) (s p : ℕ) → IsPlan plan → 0 < window_at plan p → is_over plan s p ≡ true → window_at plan p ≡ s
+over_window plan s p ok pos h = ⊎_elim (λ e. e) (λ c. absurd (no_controlled plan s p ok pos c)) (over_cases plan s p h)
+
+pub over_small : (plan : PlanView) (s p : ℕ) → IsPlan plan → p < length plan.places → is_over plan s p ≡ true → s ≤ plan.sessions
+over_small plan s p ok l h = ⊎_elim (λ e. let x = ok.in_range p l in omega arith)
+    (λ c. let a = controlled_at plan s p c in let x = (ok.controlled a.0 no_session a.1).to in let e = a.2 in omega arith) (over_cases plan s p h)

@@ -1,0 +1,634 @@
+-- Each kind of step on one word keeps the rule.
+use Rattle.std.proofs.Common.{◌≡◌, ◌≢◌, ◌⊎◌, ℕ, ◌+◌, ◌*◌, ◌%◌, ◌<◌, ◌≤◌, ◌&&◌, ◌||◌, Bool, true, false, nat_eq, if◌then◌else◌, Some, None, List, ◌∷◌, length, set, sym, refl, ap, ◌∙◌, subst, inl, inr, ⊎_elim, arith, eq-eqb, ne_eqb, eqb-true}
+use mathlib.Core.Option.{some}
+use mathlib.Core.Logic.{dite}
+use native.Mathlib.Decide.{ℕ_discrete}
+use lib.ListN.{get_elem?}
+use Rattle.cov_base.specs.declared.facts.Fact.{Fact}
+use Rattle.cov_base.specs.declared.facts.Fact.TheVariants.{Ran, Went, Stayed}
+use Rattle.cov_base.specs.declared.facts.Kind.{Kind}
+use Rattle.cov_base.specs.declared.facts.Kind.TheVariants.{Straight, Conditional}
+use Rattle.cov_base.specs.FactSet.{FactSet}
+use Rattle.cov_base.specs.Facts.{has_fact, is_of_kind, is_full, full_of, with_fact, same_fact}
+use Rattle.cov_base.specs.Codes.{breakpoint}
+use Rattle.module_area.specs.declared.cells.Cell.{Cell}
+use Rattle.module_area.specs.declared.parties.View.{View}
+use Rattle.module_area.specs.declared.parties.Role.{Role}
+use Rattle.module_area.specs.declared.parties.Role.TheVariants.{Root, Task, Spent}
+use Rattle.module_area.specs.PlanView.{PlanView, original_at, kind_at, is_over, is_controlled, is_controller}
+use Rattle.module_area.specs.Parties.{Has, add_if, times, total, last_tag, window_tag, session_of, is_breakpoint, is_lifted, blank, fetching, marking, lifting, planting, closing}
+use Rattle.module_area.specs.Held.{planted, lifted, closed, IsForm, Once, KeepsAs, Keeps, IsRole, Owes, Kept, IsSite, Held}
+use Rattle.module_area.proofs.FactLemmas.{has_fact-with_fact, same_fact-true, is_full-true}
+use Rattle.module_area.proofs.PlanLemmas.{one_controller, no_controller}
+use Rattle.module_area.proofs.PartyLemmas.{has-add_if, more-add_if, here-add_if, at_put, at_set, all_set, some_set, total-set}
+
+pub task_not_root : (t : ℕ) → Task t ≢ Root
+task_not_root t e = cc
+
+pub spent_not_root : Spent ≢ Root
+spent_not_root e = cc
+
+pub spent_not_task : (t : ℕ) → Spent ≢ Task t
+spent_not_task t e = cc
+
+abbrev one_if : Bool → ℕ
+one_if b = if b then 1 else 0
+
+and_false : (b : Bool) → (b && false) ≡ false
+and_false true = refl
+and_false false = refl
+
+or_cases : (a b : Bool) → (a || b) ≡ true → (a ≡ true) ⊎ (b ≡ true)
+or_cases true b h = inl refl
+or_cases false b h = inr h
+
+or_left : (a b : Bool) → a ≡ true → (a || b) ≡ true
+or_left true b h = refl
+or_left false b h = absurd cc
+
+same_fact-same : (f : Fact) → same_fact f f ≡ true
+same_fact-same Ran = refl
+same_fact-same Went = refl
+same_fact-same Stayed = refl
+
+or_right : (a b : Bool) → b ≡ true → (a || b) ≡ true
+or_right true b h = refl
+or_right false b h = h
+
+-- the facts of a set with one fact more
+with_cases : (s : FactSet) (f g : Fact) → has_fact (with_fact s f) g ≡ true → (has_fact s g ≡ true) ⊎ (g ≡ f)
+with_cases s f g h = ⊎_elim (λ a. inl a) (λ b. inr (same_fact-true g f b)) (or_cases (has_fact s g) (same_fact g f) (sym (has_fact-with_fact s f g) ∙ h))
+
+with_more : (s : FactSet) (f g : Fact) → has_fact s g ≡ true → has_fact (with_fact s f) g ≡ true
+with_more s f g h = has_fact-with_fact s f g ∙ or_left (has_fact s g) (same_fact g f) h
+
+with_here : (s : FactSet) (f : Fact) → has_fact (with_fact s f) f ≡ true
+with_here s f = has_fact-with_fact s f f ∙ or_right (has_fact s f) (same_fact f f) (same_fact-same f)
+
+full_again : (k : Kind) (f : Fact) → is_of_kind k f ≡ true → is_full k (with_fact (full_of k) f) ≡ true
+full_again Straight Ran h = refl
+full_again Straight Went h = absurd cc
+full_again Straight Stayed h = absurd cc
+full_again Conditional Ran h = absurd cc
+full_again Conditional Went h = refl
+full_again Conditional Stayed h = refl
+
+-- a full set stays full
+full_with : (k : Kind) (s : FactSet) (f : Fact) → is_full k s ≡ true → is_of_kind k f ≡ true → is_full k (with_fact s f) ≡ true
+full_with k s f h is = subst (λ x. is_full k (with_fact x f) ≡ true) (sym (is_full-true k s h)) (full_again k f is)
+
+some_of : (k : Kind) → (f : Fact) × (has_fact (full_of k) f ≡ true)
+some_of Straight = (Ran, refl)
+some_of Conditional = (Went, refl)
+
+pub full_some : (k : Kind) (s : FactSet) → is_full k s ≡ true → (f : Fact) × (has_fact s f ≡ true)
+full_some k s h = let x = some_of k in (x.0, subst (λ z. has_fact z x.0 ≡ true) (sym (is_full-true k s h)) x.1)
+
+-- a breakpoint is no original
+planted_not : (s : ℕ) (c : Cell) → c.half ≢ breakpoint → planted s ≢ c
+planted_not s c n e = n (sym (ap (λ (z : Cell). z.half) e))
+
+pub same_window : (s t : ℕ) → 0 < s → 0 < t → window_tag s ≡ window_tag t → s ≡ t
+same_window s t ps pt e = omega arith
+
+waits : (b : Bool) (x y : ℕ × ℕ) → (if b then Some x else None) ≡ Some y → (b ≡ true) × (x ≡ y)
+waits true x y e = (refl, cc)
+waits false x y e = absurd cc
+
+both : (a b : Bool) → (a && b) ≡ true → (a ≡ true) × (b ≡ true)
+both true b h = (refl, h)
+both false b h = absurd cc
+
+module _ (plan : PlanView) (p : ℕ) (c : Cell) (fine : original_at plan p ≢ breakpoint) where
+  pub breakpoint_form : IsForm plan p c → c.half ≡ breakpoint → (s : ℕ) × (0 < s) × (is_over plan s p ≡ true) × (c ≡ planted s)
+  breakpoint_form (inl e) b = absurd (fine (sym (ap (λ (z : Cell). z.half) e) ∙ b))
+  breakpoint_form (inr (s, pos, over, inl e)) b = (s, pos, over, e)
+  breakpoint_form (inr (s, pos, over, inr (inl e))) b = absurd (fine (sym (ap (λ (z : Cell). z.half) e) ∙ b))
+  breakpoint_form (inr (s, pos, over, inr (inr e))) b = absurd (fine (sym (ap (λ (z : Cell). z.half) e.0) ∙ b))
+
+  pub lifted_form : IsForm plan p c → is_lifted plan p c ≡ true → (s : ℕ) × (0 < s) × (is_over plan s p ≡ true) × (c ≡ lifted s (original_at plan p))
+  lifted_form (inl e) h = let tag = ap (λ (z : Cell). z.tag) e in let odd = eqb-true _ _ (both (nat_eq c.half (original_at plan p)) (nat_eq (c.tag % 2) 1) h).1 in absurd (omega arith)
+  lifted_form (inr (s, pos, over, inl e)) h = absurd (fine (sym (eqb-true _ _ (both (nat_eq c.half (original_at plan p)) (nat_eq (c.tag % 2) 1) h).0) ∙ ap (λ (z : Cell). z.half) e))
+  lifted_form (inr (s, pos, over, inr (inl e))) h = (s, pos, over, e)
+  lifted_form (inr (s, pos, over, inr (inr e))) h = let tag = ap (λ (z : Cell). z.tag) e.0 in let odd = eqb-true _ _ (both (nat_eq c.half (original_at plan p)) (nat_eq (c.tag % 2) 1) h).1 in absurd (omega arith)
+
+module _ (plan : PlanView) where
+  abbrev Cells : Type 0
+  Cells = ℕ → Cell
+
+  abbrev Sets : Type 0
+  Sets = ℕ → ℕ → FactSet
+
+  -- tags do not fall, sets do not shrink, and no breakpoint comes back
+  pub record Grows (cell : Cells) (sets : Sets) (cell' : Cells) (sets' : Sets) : Type 0 where
+    pub tags : (p : ℕ) → p < length plan.places → (cell p).tag ≤ (cell' p).tag
+    pub more : (s p : ℕ) (f : Fact) → p < length plan.places → 0 < s → has_fact (sets s p) f ≡ true → has_fact (sets' s p) f ≡ true
+    pub full : (s p : ℕ) → p < length plan.places → 0 < s → is_full (kind_at plan p) (sets s p) ≡ true → is_full (kind_at plan p) (sets' s p) ≡ true
+    pub stay : (s p : ℕ) → p < length plan.places → 0 < s → window_tag s ≤ (cell p).tag → cell p ≢ planted s → cell' p ≢ planted s
+
+  pub kept_grows : (cell : Cells) (sets : Sets) (cell' : Cells) (sets' : Sets) → Grows cell sets cell' sets' → (v : View) → Kept plan cell sets v → Kept plan cell' sets' v
+  kept_grows cell sets cell' sets' g v k = record {
+    seen = λ p t h. let old = k.seen p t h in (old.0, let more = g.tags p old.0 in let l = old.1 in omega arith);
+    pending = k.pending;
+    marked = λ s p f h. let old = k.marked s p f h in (old.0, old.1, old.2, old.3, g.more s p f old.0 old.1 old.4);
+    full = λ s p h. let old = k.full s p h in let at = k.seen p (window_tag s) old.1 in (old.0, old.1, g.full s p at.0 old.0 old.2);
+    free = λ s p h. let old = k.free s p h in let f = k.full s p old.0 in let at = k.seen p (window_tag s) f.1 in (old.0, g.stay s p at.0 f.0 at.1 old.1);
+    lifted = k.lifted;
+    planted = k.planted;
+    joined = k.joined;
+  }
+
+  -- a property of a set before and after a step that leaves the sets
+  module _ (sets sets' : Sets) (keep : (t q : ℕ) → q < length plan.places → 0 < t → sets' t q ≡ sets t q) where
+    back : (P : FactSet → Type 0) (t q : ℕ) → q < length plan.places → 0 < t → P (sets' t q) → P (sets t q)
+    back P t q lq pos h = subst P (keep t q lq pos) h
+
+    into : (P : FactSet → Type 0) (t q : ℕ) → q < length plan.places → 0 < t → P (sets t q) → P (sets' t q)
+    into P t q lq pos h = subst P (sym (keep t q lq pos)) h
+
+  module _ (cell : Cells) (sets : Sets) (views : List View) (r : Held plan cell sets views) (id : ℕ) (v : View) (at : get_elem? views id ≡ some v) where
+    -- what is left to show of a step that takes the view v of the party id to w
+    pub record Moves (cell' : Cells) (sets' : Sets) (w : View) : Type 0 where
+      pub grows : Grows cell sets cell' sets'
+      pub site : (p : ℕ) → p < length plan.places → IsSite plan cell' sets' p
+      pub mine : Kept plan cell' sets' w
+      pub more : (s p : ℕ) (f : Fact) → Has (s, p, f) v.marked → Has (s, p, f) w.marked
+      pub news : (s p : ℕ) (f : Fact) → p < length plan.places → 0 < s → has_fact (sets' s p) f ≡ true → (has_fact (sets s p) f ≡ true) ⊎ Has (s, p, f) w.marked
+      pub tie : (p : ℕ) → p < length plan.places → Keeps plan w p → (cell' p).tag ≡ last_tag p w.planted
+      pub ties : (j : ℕ) (u : View) → j ≢ id → get_elem? views j ≡ some u → (p : ℕ) → p < length plan.places → Keeps plan u p → (cell' p).tag ≡ last_tag p u.planted
+      pub live : v.role ≢ Spent
+      pub owed : (s p : ℕ) → p < length plan.places → 0 < s → is_full (kind_at plan p) (sets' s p) ≡ true → cell' p ≡ planted s →
+          Owes s p w ⊎ ((is_full (kind_at plan p) (sets s p) ≡ true) × (cell p ≡ planted s) × (Owes s p v → Owes s p w))
+      pub once : (s p : ℕ) → p < length plan.places → 0 < s → (n n' : ℕ) → n' + times s p v.lifted ≡ n + times s p w.lifted → Once s (original_at plan p) (cell p) n → Once s (original_at plan p) (cell' p) n'
+      pub role : w.role ≡ v.role
+      pub given : (t : ℕ) → Has t v.given → Has t w.given
+      pub joined : (t : ℕ) → Has t w.joined → Has t v.joined
+
+    pub first_only : (j : ℕ) (u : View) → get_elem? views j ≡ some u → u.role ≡ Root → j ≡ 0
+    first_only j u there e = subst (IsRole views j) e (r.roles j u there)
+
+    pub role_stays : (w : View) → w.role ≡ v.role → ((t : ℕ) → Has t v.given → Has t w.given) → ((t : ℕ) → Has t w.joined → Has t v.joined) → (j : ℕ) (o : Role) → IsRole views j o → IsRole (set views id w) j o
+    role_stays w e g d j Root h = h
+    role_stays w e g d j Spent h = h
+    role_stays w e g d j (Task t) h = λ i u here is. ⊎_elim
+        (λ (x : (i ≡ id) × (w ≡ u)). let q = h id v at (sym e ∙ (ap (λ (z : View). z.role) x.1 ∙ is)) in
+        subst (λ (z : View). Has t z.given × (Has t z.joined → ⊥)) x.1 (g t q.0, λ k. q.1 (d t k)))
+        (λ (x : (i ≢ id) × (get_elem? views i ≡ some u)). h i u x.1 is)
+        (at_set views id i w u here)
+
+    -- the party that stands at i after the step had this role there before
+    pub role_before : (w : View) → w.role ≡ v.role → (i : ℕ) (u : View) → get_elem? (set views id w) i ≡ some u → (z : View) × (get_elem? views i ≡ some z) × (z.role ≡ u.role)
+    role_before w e i u here = ⊎_elim (λ (x : (i ≡ id) × (w ≡ u)). (v, subst (λ k. get_elem? views k ≡ some v) (sym x.0) at, sym e ∙ ap (λ (z : View). z.role) x.1))
+        (λ (x : (i ≢ id) × (get_elem? views i ≡ some u)). (u, x.1, refl)) (at_set views id i w u here)
+
+    pub moved : (cell' : Cells) (sets' : Sets) (w : View) → Moves cell' sets' w → Held plan cell' sets' (set views id w)
+    moved cell' sets' w m = record {
+      is_plan = r.is_plan;
+      site = m.site;
+      kept = all_set (λ _ u. Kept plan cell' sets' u) views id w m.mine (λ j u _ here. kept_grows cell sets cell' sets' m.grows u (r.kept j u here));
+      known = λ s p f l pos h. ⊎_elim
+          (λ old. some_set (λ u. Has (s, p, f) u.marked) views id v w at (m.more s p f) (r.known s p f l pos old))
+          (λ new. (id, w, at_put views id v w at, new))
+          (m.news s p f l pos h);
+      ties = all_set (λ _ u. (p : ℕ) → p < length plan.places → Keeps plan u p → (cell' p).tag ≡ last_tag p u.planted) views id w m.tie m.ties;
+      owed = λ s p l pos full e. ⊎_elim
+          (λ mine. (id, w, at_put views id v w at, mine))
+          (λ old. some_set (Owes s p) views id v w at old.2 (r.owed s p l pos old.0 old.1))
+          (m.owed s p l pos full e);
+      once = λ s p l pos. m.once s p l pos (total (λ u. times s p u.lifted) views) (total (λ u. times s p u.lifted) (set views id w)) (total-set (λ u. times s p u.lifted) views id v w at) (r.once s p l pos);
+      roles = all_set (λ j u. IsRole (set views id w) j u.role) views id w
+          (subst (IsRole (set views id w) id) (sym m.role) (role_stays w m.role m.given m.joined id v.role (r.roles id v at)))
+          (λ j u _ here. role_stays w m.role m.given m.joined j u.role (r.roles j u here));
+      spent = all_set (λ _ u. u.role ≡ Spent → u ≡ blank Spent) views id w (λ e. absurd (m.live (sym m.role ∙ e))) (λ j u _ here. r.spent j u here);
+      apart = λ i j a b t ha hb ra rb. let x = role_before w m.role i a ha in let y = role_before w m.role j b hb in r.apart i j x.0 y.0 t x.1 y.1 (x.2 ∙ ra) (y.2 ∙ rb);
+    }
+
+    pub ties_same : (cell' : Cells) → ((p : ℕ) → p < length plan.places → (cell' p).tag ≡ (cell p).tag) → (j : ℕ) (u : View) → get_elem? views j ≡ some u → (p : ℕ) → p < length plan.places → Keeps plan u p → (cell' p).tag ≡ last_tag p u.planted
+    ties_same cell' e j u here p l k = e p l ∙ r.ties j u here p l k
+
+    -- the root does not keep what a task keeps that is out
+    not_both : (i j : ℕ) (a b : View) (t p : ℕ) → get_elem? views i ≡ some a → get_elem? views j ≡ some b → a.role ≡ Root → b.role ≡ Task t → KeepsAs plan a p Root → is_controller plan t p ≡ true → ⊥
+    not_both i j a b t p ha hb ra rb (inl pos) own = no_controller plan t p r.is_plan pos own
+    not_both i j a b t p ha hb ra rb (inr (u, own', alt)) own = let same : u ≡ t = one_controller plan u t p r.is_plan own' own in
+        let is = (subst (IsRole views j) rb (r.roles j b hb)) i a ha ra in
+        ⊎_elim (λ not_given. not_given (subst (λ z. Has z a.given) (sym same) is.0)) (λ back. is.1 (subst (λ z. Has z a.joined) same back)) alt
+
+    by_roles : (j : ℕ) (u : View) (p : ℕ) → get_elem? views j ≡ some u → (a b : Role) → u.role ≡ a → v.role ≡ b → KeepsAs plan u p a → KeepsAs plan v p b → j ≡ id
+    by_roles j u p here Root Root ra rb ka kb = first_only j u here ra ∙ sym (first_only id v at rb)
+    by_roles j u p here Root (Task t) ra rb ka kb = absurd (not_both j id u v t p here at ra rb ka kb)
+    by_roles j u p here (Task t) Root ra rb ka kb = absurd (not_both id j v u t p at here rb ra kb ka)
+    by_roles j u p here (Task t) (Task q) ra rb ka kb = r.apart j id u v t here at ra (rb ∙ ap Task (one_controller plan q t p r.is_plan kb ka))
+    by_roles j u p here a Spent ra rb ka kb = absurd kb
+    by_roles j u p here Spent b ra rb ka kb = absurd ka
+
+    -- one party keeps a place
+    pub one_keeper : (j : ℕ) (u : View) (p : ℕ) → get_elem? views j ≡ some u → Keeps plan u p → Keeps plan v p → j ≡ id
+    one_keeper j u p here ka kb = by_roles j u p here u.role v.role refl refl ka kb
+
+    pub once_same : (s o : ℕ) (c : Cell) (n n' k : ℕ) → n' + k ≡ n + k → Once s o c n → Once s o c n'
+    once_same s o c n n' k e h = subst (Once s o c) (let x : n ≡ n' = omega arith in x) h
+
+    pub same : Grows cell sets cell sets
+    same = record { tags = λ p _. omega arith; more = λ s p f _ _ h. h; full = λ s p _ _ h. h; stay = λ s p _ _ _ n. n }
+
+    -- ---- Fetch: the cell of place p as it stands
+    module _ (live : v.role ≢ Spent) (p : ℕ) (l : p < length plan.places) where
+      was_planted : (cell p).half ≡ breakpoint → (s : ℕ) × (0 < s) × (is_over plan s p ≡ true) × ((cell p).tag ≡ window_tag s)
+      was_planted e = let a = breakpoint_form plan p (cell p) (r.is_plan.no_breakpoint p l) (r.site p l).form e in (a.0, a.1, a.2, ap (λ (z : Cell). z.tag) a.3)
+
+      was_lifted : is_lifted plan p (cell p) ≡ true → (0 < session_of (cell p).tag) × (window_tag (session_of (cell p).tag) ≡ (cell p).tag) × (is_full (kind_at plan p) (sets (session_of (cell p).tag) p) ≡ true) × (cell p ≢ planted (session_of (cell p).tag))
+      was_lifted e = let a = lifted_form plan p (cell p) (r.is_plan.no_breakpoint p l) (r.site p l).form e in
+          let o : ℕ = original_at plan p in
+          let pos = a.1 in
+          let tag : (cell p).tag ≡ window_tag a.0 = ap (λ (z : Cell). z.tag) a.3 in
+          let is : session_of (cell p).tag ≡ a.0 = omega (arith, tag, pos) in (
+            subst (λ k. 0 < k) (sym is) pos,
+            ap window_tag is ∙ sym tag,
+            subst (λ k. is_full (kind_at plan p) (sets k p) ≡ true) (sym is) ((r.site p l).full a.0 pos a.3),
+            λ b. planted_not (session_of (cell p).tag) (lifted a.0 o) (r.is_plan.no_breakpoint p l) (sym b ∙ a.3),
+          )
+
+      pub fetch_kept : Kept plan cell sets (fetching plan p (cell p) v)
+      fetch_kept = let k = r.kept id v at in let w : View = fetching plan p (cell p) v in record {
+        seen = λ q t h. ⊎_elim (λ (e : (p, (cell p).tag) ≡ (q, t)). subst (λ (z : ℕ × ℕ). (z.0 < length plan.places) × (z.1 ≤ (cell z.0).tag)) e (l, omega arith)) (λ (o : Has (q, t) v.seen). k.seen q t o) h;
+        pending = λ q t h. let b = waits (is_breakpoint (cell p)) (p, (cell p).tag) (q, t) h in
+            subst (λ (z : ℕ × ℕ). (s : ℕ) × (0 < s) × (is_over plan s z.0 ≡ true) × (z.1 ≡ window_tag s) × Has z w.seen) b.1
+            (let a = was_planted (eqb-true _ _ b.0) in (a.0, a.1, a.2, a.3, inl refl));
+        marked = k.marked;
+        full = λ s q h. ⊎_elim
+            (λ (b : (is_lifted plan p (cell p) ≡ true) × ((session_of (cell p).tag, p) ≡ (s, q))). let f = was_lifted b.0 in
+            subst (λ (z : ℕ × ℕ). (0 < z.0) × Has (z.1, window_tag z.0) w.seen × (is_full (kind_at plan z.1) (sets z.0 z.1) ≡ true)) b.1 (f.0, inl (ap (λ (t : ℕ). (p, t)) (sym f.1)), f.2))
+            (λ (o : Has (s, q) v.full). let f = k.full s q o in (f.0, inr f.1, f.2))
+            (has-add_if (is_lifted plan p (cell p)) (s, q) (session_of (cell p).tag, p) v.full h);
+        free = λ s q h. ⊎_elim
+            (λ (b : (is_lifted plan p (cell p) ≡ true) × ((session_of (cell p).tag, p) ≡ (s, q))). let f = was_lifted b.0 in
+            subst (λ (z : ℕ × ℕ). Has z w.full × (cell z.1 ≢ planted z.0)) b.1 (here-add_if (is_lifted plan p (cell p)) (session_of (cell p).tag, p) v.full b.0, f.3))
+            (λ (o : Has (s, q) v.free). let f = k.free s q o in (more-add_if (is_lifted plan p (cell p)) (s, q) (session_of (cell p).tag, p) v.full f.0, f.1))
+            (has-add_if (is_lifted plan p (cell p)) (s, q) (session_of (cell p).tag, p) v.free h);
+        lifted = k.lifted;
+        planted = λ q t h. inr (k.planted q t h);
+        joined = k.joined;
+      }
+
+      pub fetches : Held plan cell sets (set views id (fetching plan p (cell p) v))
+      fetches = moved cell sets (fetching plan p (cell p) v) record {
+        grows = same;
+        site = r.site;
+        mine = fetch_kept;
+        more = λ s q f h. h;
+        news = λ s q f _ _ h. inl h;
+        tie = r.ties id v at;
+        ties = λ j u _ here. r.ties j u here;
+        live = live;
+        owed = λ s q lq pos full e. inr (
+          full,
+          e,
+          λ h. (
+            more-add_if (is_lifted plan p (cell p)) (s, q) (session_of (cell p).tag, p) v.full h.0,
+            λ free. ⊎_elim
+                (λ (b : (is_lifted plan p (cell p) ≡ true) × ((session_of (cell p).tag, p) ≡ (s, q))). subst (λ (z : ℕ × ℕ). cell z.1 ≢ planted z.0) b.1 (was_lifted b.0).3 e)
+                (λ (o : Has (s, q) v.free). h.1 o)
+                (has-add_if (is_lifted plan p (cell p)) (s, q) (session_of (cell p).tag, p) v.free free),
+          ),
+        );
+        once = λ s q _ _ n n' e. once_same s (original_at plan q) (cell q) n n' (times s q v.lifted) e;
+        role = refl;
+        given = λ t h. h;
+        joined = λ t h. h;
+      }
+
+    -- ---- Mark: the fact f into the set of session s at place p, after its breakpoint was fetched
+    module _ (live : v.role ≢ Spent) (s p : ℕ) (f : Fact) (l : p < length plan.places) (pos_s : 0 < s) (pend : v.pending ≡ Some (p, window_tag s)) (fits : is_of_kind (kind_at plan p) f ≡ true)
+        (cell' : Cells) (sets' : Sets) (cells : (q : ℕ) → q < length plan.places → cell' q ≡ cell q) (here : sets' s p ≡ with_fact (sets s p) f)
+        (others : (t q : ℕ) → q < length plan.places → 0 < t → ((t ≡ s) × (q ≡ p) → ⊥) → sets' t q ≡ sets t q) where
+      -- a property of a set after the step
+      by_set : (P : ℕ → ℕ → FactSet → Type 0) (t q : ℕ) → q < length plan.places → 0 < t → P s p (with_fact (sets s p) f) → (((t ≡ s) × (q ≡ p) → ⊥) → P t q (sets t q)) → P t q (sets' t q)
+      by_set P t q lq pos hit other = dite (ℕ_discrete t s)
+          (λ et. dite (ℕ_discrete q p)
+          (λ eq. subst (λ (z : ℕ × ℕ). P z.0 z.1 (sets' z.0 z.1)) (λ i. (sym et i, sym eq i)) (subst (P s p) (sym here) hit))
+          (λ n. let no : (t ≡ s) × (q ≡ p) → ⊥ = λ z. n z.1 in subst (P t q) (sym (others t q lq pos no)) (other no)))
+          (λ n. let no : (t ≡ s) × (q ≡ p) → ⊥ = λ z. n z.0 in subst (P t q) (sym (others t q lq pos no)) (other no))
+
+      mark_known : (is_over plan s p ≡ true) × (window_tag s ≤ (cell p).tag) × Has (p, window_tag s) v.seen
+      mark_known = let k = r.kept id v at in let a = k.pending p (window_tag s) pend in
+          (subst (λ z. is_over plan z p ≡ true) (sym (same_window s a.0 pos_s a.1 a.3)) a.2, (k.seen p (window_tag s) a.4).1, a.4)
+
+      mark_grows : Grows cell sets cell' sets'
+      mark_grows = record {
+        tags = λ q lq. subst (λ (z : Cell). (cell q).tag ≤ z.tag) (sym (cells q lq)) (omega arith);
+        more = λ t q g lq pos. by_set (λ a b x. has_fact (sets a b) g ≡ true → has_fact x g ≡ true) t q lq pos (with_more (sets s p) f g) (λ _ h. h);
+        full = λ t q lq pos. by_set (λ a b x. is_full (kind_at plan b) (sets a b) ≡ true → is_full (kind_at plan b) x ≡ true) t q lq pos (λ h. full_with (kind_at plan p) (sets s p) f h fits) (λ _ h. h);
+        stay = λ t q lq _ _ n e. n (sym (cells q lq) ∙ e);
+      }
+
+      pub marks : Held plan cell' sets' (set views id (marking plan s p f (sets s p) v))
+      marks = let y : View = marking plan s p f (sets s p) v in let k = kept_grows cell sets cell' sets' mark_grows v (r.kept id v at) in let b : Bool = is_full (kind_at plan p) (with_fact (sets s p) f) in
+          moved cell' sets' y record {
+            grows = mark_grows;
+            site = λ q lq. let ok = r.site q lq in record {
+              form = subst (IsForm plan q) (sym (cells q lq)) ok.form;
+              full = λ t pos e. mark_grows.full t q lq pos (ok.full t pos (sym (cells q lq) ∙ e));
+              empty = λ t pos lt g. let lt' : (cell q).tag < window_tag t = subst (λ (z : Cell). z.tag < window_tag t) (cells q lq) lt in
+                  by_set (λ a d x. (a ≡ t) → (d ≡ q) → has_fact x g ≡ true → ⊥) t q lq pos
+                  (λ ea ed _. let c : window_tag s ≡ window_tag t = ap window_tag ea in let d : (cell p).tag ≡ (cell q).tag = ap (λ x. (cell x).tag) ed in let e = mark_known.1 in omega arith)
+                  (λ _ _ _. ok.empty t pos lt' g) refl refl;
+            };
+            mine = record {
+              seen = k.seen;
+              pending = k.pending;
+              marked = λ t q g h. ⊎_elim
+                  (λ (e : (s, p, f) ≡ (t, q, g)). subst (λ (z : ℕ × ℕ × Fact). (z.1 < length plan.places) × (0 < z.0) × (is_over plan z.0 z.1 ≡ true) × (is_of_kind (kind_at plan z.1) z.2 ≡ true) × (has_fact (sets' z.0 z.1) z.2 ≡ true)) e
+                  (l, pos_s, mark_known.0, fits, subst (λ x. has_fact x f ≡ true) (sym here) (with_here (sets s p) f)))
+                  (λ (o : Has (t, q, g) v.marked). k.marked t q g o)
+                  h;
+              full = λ t q h. ⊎_elim
+                  (λ (e : (b ≡ true) × ((s, p) ≡ (t, q))). subst (λ (z : ℕ × ℕ). (0 < z.0) × Has (z.1, window_tag z.0) v.seen × (is_full (kind_at plan z.1) (sets' z.0 z.1) ≡ true)) e.1
+                  (pos_s, mark_known.2, subst (λ x. is_full (kind_at plan p) x ≡ true) (sym here) e.0))
+                  (λ (o : Has (t, q) v.full). k.full t q o)
+                  (has-add_if b (t, q) (s, p) v.full h);
+              free = λ t q h. let o = k.free t q h in (more-add_if b (t, q) (s, p) v.full o.0, o.1);
+              lifted = k.lifted;
+              planted = k.planted;
+              joined = k.joined;
+            };
+            more = λ t q g h. inr h;
+            news = λ t q g lq pos. by_set (λ a d x. has_fact x g ≡ true → (has_fact (sets a d) g ≡ true) ⊎ Has (a, d, g) y.marked) t q lq pos
+                (λ h. ⊎_elim (λ o. inl o) (λ (e : g ≡ f). inr (inl (ap (λ (z : Fact). (s, p, z)) (sym e)))) (with_cases (sets s p) f g h))
+                (λ _ h. inl h);
+            tie = ties_same cell' (λ q lq. ap (λ (z : Cell). z.tag) (cells q lq)) id v at;
+            ties = λ j u _ there. ties_same cell' (λ q lq. ap (λ (z : Cell). z.tag) (cells q lq)) j u there;
+            live = live;
+            owed = λ t q lq pos full e. let c : cell q ≡ planted t = sym (cells q lq) ∙ e in
+                by_set (λ a d x. is_full (kind_at plan d) x ≡ true → cell d ≡ planted a → Owes a d y ⊎ ((is_full (kind_at plan d) (sets a d) ≡ true) × (cell d ≡ planted a) × (Owes a d v → Owes a d y))) t q lq pos
+                (λ fu z. inl (here-add_if b (s, p) v.full fu, λ free. ((r.kept id v at).free s p free).1 z))
+                (λ _ fu z. inr (fu, z, λ h. (more-add_if b (t, q) (s, p) v.full h.0, h.1))) full c;
+            once = λ t q lq _ n n' e h. subst (λ c. Once t (original_at plan q) c n') (sym (cells q lq)) (once_same t (original_at plan q) (cell q) n n' (times t q v.lifted) e h);
+            role = refl;
+            given = λ t h. h;
+            joined = λ t h. h;
+          }
+
+    -- ---- Lift: a try to exchange the breakpoint of session s at place p, whose set it met full
+    module _ (live : v.role ≢ Spent) (s p : ℕ) (l : p < length plan.places) (met : Has (s, p) v.full) (exchanged : Bool) (cell' : Cells) (sets' : Sets)
+        (did : ((exchanged ≡ true) × (cell p ≡ planted s) × (cell' p ≡ lifted s (original_at plan p))) ⊎ ((exchanged ≡ false) × (cell p ≢ planted s) × (cell' p ≡ cell p)))
+        (others : (q : ℕ) → q < length plan.places → q ≢ p → cell' q ≡ cell q) (keep : (t q : ℕ) → q < length plan.places → 0 < t → sets' t q ≡ sets t q) where
+      fine : original_at plan p ≢ breakpoint
+      fine = r.is_plan.no_breakpoint p l
+
+      o : ℕ
+      o = original_at plan p
+
+      by_cell : (P : ℕ → Cell → Type 0) (q : ℕ) → q < length plan.places → (cell p ≡ planted s → P p (lifted s (original_at plan p))) → (cell p ≢ planted s → P p (cell p)) → (q ≢ p → P q (cell q)) → P q (cell' q)
+      by_cell P q lq hit miss other = dite (ℕ_discrete q p)
+          (λ e. subst (λ z. P z (cell' z)) (sym e) (⊎_elim
+          (λ (x : (exchanged ≡ true) × (cell p ≡ planted s) × (cell' p ≡ lifted s (original_at plan p))). subst (P p) (sym x.2) (hit x.1))
+          (λ (x : (exchanged ≡ false) × (cell p ≢ planted s) × (cell' p ≡ cell p)). subst (P p) (sym x.2) (miss x.1)) did))
+          (λ n. subst (P q) (sym (others q lq n)) (other n))
+
+      lift_known : (0 < s) × Has (p, window_tag s) v.seen × (is_full (kind_at plan p) (sets s p) ≡ true)
+      lift_known = (r.kept id v at).full s p met
+
+      lift_tag : cell p ≡ planted s → window_tag s ≡ (cell p).tag
+      lift_tag e = ap (λ (z : Cell). z.tag) (sym e)
+
+      lift_session : cell p ≡ planted s → is_over plan s p ≡ true
+      lift_session e = let a = breakpoint_form plan p (cell p) fine (r.site p l).form (ap (λ (z : Cell). z.half) e) in
+          subst (λ z. is_over plan z p ≡ true) (sym (same_window s a.0 lift_known.0 a.1 (lift_tag e ∙ ap (λ (z : Cell). z.tag) a.3))) a.2
+
+      lift_same_tag : (q : ℕ) → q < length plan.places → (cell' q).tag ≡ (cell q).tag
+      lift_same_tag q lq = by_cell (λ b z. z.tag ≡ (cell b).tag) q lq lift_tag (λ _. refl) (λ _. refl)
+
+      lift_grows : Grows cell sets cell' sets'
+      lift_grows = record {
+        tags = λ q lq. let e = lift_same_tag q lq in omega arith;
+        more = λ t q g lq pos. into sets sets' keep (λ x. has_fact x g ≡ true) t q lq pos;
+        full = λ t q lq pos. into sets sets' keep (λ x. is_full (kind_at plan q) x ≡ true) t q lq pos;
+        stay = λ t q lq _ _ n. by_cell (λ b z. cell b ≢ planted t → z ≢ planted t) q lq (λ _ _ e. planted_not t (lifted s (original_at plan p)) fine (sym e)) (λ _ m. m) (λ _ m. m) n;
+      }
+
+      lift_free : cell' p ≢ planted s
+      lift_free = by_cell (λ b z. b ≡ p → z ≢ planted s) p l (λ _ _ e. planted_not s (lifted s (original_at plan p)) fine (sym e)) (λ n _. n) (λ n e. absurd (n e)) refl
+
+      lift_hit : cell p ≡ planted s → (t q : ℕ) → q < length plan.places → 0 < t → (n n' : ℕ) → n' + times t q v.lifted ≡ n + times t q ((s, p) ∷ v.lifted) → Once t (original_at plan q) (cell q) n → Once t (original_at plan q) (cell' q) n'
+      lift_hit y t q lq pos n n' e h = let x : ℕ = original_at plan p in by_cell (λ b z. (b ≡ q) → Once t (original_at plan b) z n') q lq
+          (λ _ eb. let h' : Once t x (cell p) n = subst (λ b. Once t (original_at plan b) (cell b) n) (sym eb) h in
+          dite (ℕ_discrete s t)
+          (λ st. let one : ◌≡◌ {A = ℕ} (if nat_eq s t && nat_eq p q then 1 else 0) 1 = ap (λ b. one_if (b && nat_eq p q)) (eq-eqb s t st) ∙ ap one_if (eq-eqb p q eb) in let zero_before = h'.not_yet (y ∙ ap planted st) in
+          let now : n' ≡ 1 = omega arith in let w : window_tag s ≡ window_tag t = ap window_tag st in
+          record { most = omega arith; there = λ _. now; early = λ lt. absurd (omega arith); not_yet = λ z. absurd (planted_not t (lifted s x) fine (sym z)) })
+          (λ st. let none_more : ◌≡◌ {A = ℕ} (if nat_eq s t && nat_eq p q then 1 else 0) 0 = ap (λ b. one_if (b && nat_eq p q)) (ne_eqb s t st) in let now : n' ≡ n = omega arith in let a = h'.most in
+          record {
+            most = omega arith;
+            there = λ z. absurd (st (same_window s t lift_known.0 pos (ap (λ (c : Cell). c.tag) z)));
+            early = λ lt. now ∙ h'.early (let b = lift_tag y in omega arith);
+            not_yet = λ z. absurd (planted_not t (lifted s x) fine (sym z));
+          }))
+          (λ miss _. absurd (miss y))
+          (λ other _. let none_more : ◌≡◌ {A = ℕ} (if nat_eq s t && nat_eq p q then 1 else 0) 0 = ap (λ b. one_if (nat_eq s t && b)) (ne_eqb p q (λ z. other (sym z))) ∙ ap one_if (and_false (nat_eq s t)) in
+          once_same t (original_at plan q) (cell q) n n' (times t q v.lifted) (omega arith) h)
+          refl
+
+      lift_once : (t q : ℕ) → q < length plan.places → 0 < t → (n n' : ℕ) → n' + times t q v.lifted ≡ n + times t q (add_if exchanged (s, p) v.lifted) → Once t (original_at plan q) (cell q) n → Once t (original_at plan q) (cell' q) n'
+      lift_once t q lq pos n n' e h = let F : Bool → Type 0 = λ b. n' + times t q v.lifted ≡ n + times t q (add_if b (s, p) v.lifted) in ⊎_elim
+          (λ (x : (exchanged ≡ true) × (cell p ≡ planted s) × (cell' p ≡ lifted s (original_at plan p))). lift_hit x.1 t q lq pos n n' (subst F x.0 e) h)
+          (λ (x : (exchanged ≡ false) × (cell p ≢ planted s) × (cell' p ≡ cell p)). subst (λ c. Once t (original_at plan q) c n') (sym (by_cell (λ b z. z ≡ cell b) q lq (λ y. absurd (x.1 y)) (λ _. refl) (λ _. refl)))
+          (once_same t (original_at plan q) (cell q) n n' (times t q v.lifted) (subst F x.0 e) h))
+          did
+
+      hit_of : exchanged ≡ true → cell p ≡ planted s
+      hit_of e = ⊎_elim (λ (x : (exchanged ≡ true) × (cell p ≡ planted s) × (cell' p ≡ lifted s (original_at plan p))). x.1)
+          (λ (x : (exchanged ≡ false) × (cell p ≢ planted s) × (cell' p ≡ cell p)). let z = x.0 in absurd cc) did
+
+      pub lifts : Held plan cell' sets' (set views id (lifting s p exchanged v))
+      lifts = let w : View = lifting s p exchanged v in let k = kept_grows cell sets cell' sets' lift_grows v (r.kept id v at) in
+          moved cell' sets' w record {
+            grows = lift_grows;
+            site = λ q lq. let ok = r.site q lq in record {
+              form = by_cell (λ b z. IsForm plan b z) q lq (λ e. inr (s, lift_known.0, lift_session e, inr (inl refl))) (λ _. (r.site p l).form) (λ _. ok.form);
+              full = λ t pos. by_cell (λ b z. b < length plan.places → z ≡ lifted t (original_at plan b) → is_full (kind_at plan b) (sets' t b) ≡ true) q lq
+                  (λ _ lb e. let is : s ≡ t = same_window s t lift_known.0 pos (ap (λ (c : Cell). c.tag) e) in
+                  into sets sets' keep (λ x. is_full (kind_at plan p) x ≡ true) t p lb pos (subst (λ a. is_full (kind_at plan p) (sets a p) ≡ true) is lift_known.2))
+                  (λ _ lb e. into sets sets' keep (λ x. is_full (kind_at plan p) x ≡ true) t p lb pos ((r.site p l).full t pos e))
+                  (λ _ lb e. into sets sets' keep (λ x. is_full (kind_at plan q) x ≡ true) t q lb pos (ok.full t pos e)) lq;
+              empty = λ t pos lt g h. ok.empty t pos (subst (λ z. z < window_tag t) (lift_same_tag q lq) lt) g (back sets sets' keep (λ x. has_fact x g ≡ true) t q lq pos h);
+            };
+            mine = record {
+              seen = k.seen;
+              pending = k.pending;
+              marked = k.marked;
+              full = k.full;
+              free = λ t q h. ⊎_elim
+                  (λ (e : (s, p) ≡ (t, q)). subst (λ (z : ℕ × ℕ). Has z v.full × (cell' z.1 ≢ planted z.0)) e (met, lift_free))
+                  (λ (old : Has (t, q) v.free). k.free t q old)
+                  h;
+              lifted = λ t q h. ⊎_elim
+                  (λ (e : (exchanged ≡ true) × ((s, p) ≡ (t, q))). subst (λ (z : ℕ × ℕ). (z.1 < length plan.places) × (0 < z.0) × (is_over plan z.0 z.1 ≡ true)) e.1 (l, lift_known.0, lift_session (hit_of e.0)))
+                  (λ (old : Has (t, q) v.lifted). k.lifted t q old)
+                  (has-add_if exchanged (t, q) (s, p) v.lifted h);
+              planted = k.planted;
+              joined = k.joined;
+            };
+            more = λ t q g h. h;
+            news = λ t q g lq pos h. inl (back sets sets' keep (λ x. has_fact x g ≡ true) t q lq pos h);
+            tie = ties_same cell' lift_same_tag id v at;
+            ties = λ j u _ there. ties_same cell' lift_same_tag j u there;
+            live = live;
+            owed = λ t q lq pos full e. inr (
+              back sets sets' keep (λ x. is_full (kind_at plan q) x ≡ true) t q lq pos full,
+              by_cell (λ b z. z ≡ planted t → cell b ≡ planted t) q lq (λ _ z. absurd (planted_not t (lifted s (original_at plan p)) fine (sym z))) (λ _ z. z) (λ _ z. z) e,
+              λ h. (h.0, λ free. ⊎_elim (λ (z : (s, p) ≡ (t, q)). subst (λ (y : ℕ × ℕ). cell' y.1 ≢ planted y.0) z lift_free e) (λ (z : Has (t, q) v.free). h.1 z) free),
+            );
+            once = lift_once;
+            role = refl;
+            given = λ t h. h;
+            joined = λ t h. h;
+          }
+
+    -- ---- Plant: the keeper of place p opens session s over it
+    module _ (live : v.role ≢ Spent) (s p : ℕ) (l : p < length plan.places) (keeps : Keeps plan v p) (pos_s : 0 < s) (its : is_over plan s p ≡ true) (later : last_tag p v.planted < window_tag s) (cell' : Cells) (sets' : Sets)
+        (here : cell' p ≡ planted s) (others : (q : ℕ) → q < length plan.places → q ≢ p → cell' q ≡ cell q) (keep : (t q : ℕ) → q < length plan.places → 0 < t → sets' t q ≡ sets t q) where
+      by_plant : (P : ℕ → Cell → Type 0) (q : ℕ) → q < length plan.places → P p (planted s) → (q ≢ p → P q (cell q)) → P q (cell' q)
+      by_plant P q lq hit other = dite (ℕ_discrete q p) (λ e. subst (λ z. P z (cell' z)) (sym e) (subst (P p) (sym here) hit)) (λ n. subst (P q) (sym (others q lq n)) (other n))
+
+      low : (cell p).tag < window_tag s
+      low = subst (λ z. z < window_tag s) (sym (r.ties id v at p l keeps)) later
+
+      plant_grows : Grows cell sets cell' sets'
+      plant_grows = record {
+        tags = λ q lq. by_plant (λ b z. (cell b).tag ≤ z.tag) q lq (let e = low in omega arith) (λ _. omega arith);
+        more = λ t q g lq pos. into sets sets' keep (λ x. has_fact x g ≡ true) t q lq pos;
+        full = λ t q lq pos. into sets sets' keep (λ x. is_full (kind_at plan q) x ≡ true) t q lq pos;
+        stay = λ t q lq pos. by_plant (λ b z. window_tag t ≤ (cell b).tag → cell b ≢ planted t → z ≢ planted t) q lq
+            (λ le _ e. let a = low in let b : window_tag s ≡ window_tag t = ap (λ (z : Cell). z.tag) e in absurd (omega arith)) (λ _ _ m. m);
+      }
+
+      pub plants : Held plan cell' sets' (set views id (planting s p v))
+      plants = let w : View = planting s p v in let k = kept_grows cell sets cell' sets' plant_grows v (r.kept id v at) in
+          moved cell' sets' w record {
+            grows = plant_grows;
+            site = λ q lq. let ok = r.site q lq in record {
+              form = by_plant (λ b z. IsForm plan b z) q lq (inr (s, pos_s, its, inl refl)) (λ _. ok.form);
+              full = λ t pos. by_plant (λ b z. z ≡ lifted t (original_at plan b) → is_full (kind_at plan b) (sets' t b) ≡ true) q lq
+                  (λ e. absurd (planted_not s (lifted t (original_at plan p)) (r.is_plan.no_breakpoint p l) e))
+                  (λ _ e. into sets sets' keep (λ x. is_full (kind_at plan q) x ≡ true) t q lq pos (ok.full t pos e));
+              empty = λ t pos. by_plant (λ b z. (b ≡ q) → z.tag < window_tag t → (g : Fact) → has_fact (sets' t b) g ≡ true → ⊥) q lq
+                  (λ eb lt g h. (r.site p l).empty t pos (let a = low in omega arith) g (back sets sets' keep (λ x. has_fact x g ≡ true) t p l pos h))
+                  (λ _ _ lt g h. ok.empty t pos lt g (back sets sets' keep (λ x. has_fact x g ≡ true) t q lq pos h)) refl;
+            };
+            mine = record {
+              seen = λ q t h. ⊎_elim
+                  (λ (e : (p, window_tag s) ≡ (q, t)). subst (λ (z : ℕ × ℕ). (z.0 < length plan.places) × (z.1 ≤ (cell' z.0).tag)) e (l, (let a = ap (λ (z : Cell). z.tag) here in omega arith)))
+                  (λ (old : Has (q, t) v.seen). k.seen q t old)
+                  h;
+              pending = λ q t h. let b = k.pending q t h in (b.0, b.1, b.2, b.3, inr b.4);
+              marked = k.marked;
+              full = λ t q h. let b = k.full t q h in (b.0, inr b.1, b.2);
+              free = k.free;
+              lifted = k.lifted;
+              planted = λ q t h. ⊎_elim (λ e. inl e) (λ old. inr (k.planted q t old)) h;
+              joined = k.joined;
+            };
+            more = λ t q g h. h;
+            news = λ t q g lq pos h. inl (back sets sets' keep (λ x. has_fact x g ≡ true) t q lq pos h);
+            tie = λ q lq kq. dite (ℕ_discrete p q)
+                (λ e. subst (λ b. (cell' q).tag ≡ (if b then window_tag s else last_tag q v.planted)) (sym (eq-eqb p q e)) (ap (λ (z : Cell). z.tag) (ap cell' (sym e) ∙ here)))
+                (λ n. subst (λ b. (cell' q).tag ≡ (if b then window_tag s else last_tag q v.planted)) (sym (ne_eqb p q n)) (ap (λ (z : Cell). z.tag) (others q lq (λ e. n (sym e))) ∙ r.ties id v at q lq kq));
+            ties = λ j u n there q lq kq. by_plant (λ b z. (b ≡ q) → z.tag ≡ last_tag q u.planted) q lq
+                (λ e. absurd (n (one_keeper j u p there (subst (Keeps plan u) (sym e) kq) keeps)))
+                (λ _ _. r.ties j u there q lq kq) refl;
+            live = live;
+            owed = λ t q lq pos full e. by_plant (λ b z. (b ≡ q) → is_full (kind_at plan b) (sets' t b) ≡ true → z ≡ planted t → Owes t b w ⊎ ((is_full (kind_at plan b) (sets t b) ≡ true) × (cell b ≡ planted t) × (Owes t b v → Owes t b w))) q lq
+                (λ _ fu z. let is : window_tag s ≡ window_tag t = ap (λ (c : Cell). c.tag) z in let some = full_some (kind_at plan p) (sets' t p) fu in
+                absurd ((r.site p l).empty t pos (let a = low in omega arith) some.0 (back sets sets' keep (λ x. has_fact x some.0 ≡ true) t p l pos some.1)))
+                (λ _ _ fu z. inr (back sets sets' keep (λ x. is_full (kind_at plan q) x ≡ true) t q lq pos fu, z, λ h. h))
+                refl full e;
+            once = λ t q lq pos n n' e h. by_plant (λ b z. (b ≡ q) → Once t (original_at plan b) z n') q lq
+                (λ eb. let h' : Once t (original_at plan p) (cell p) n' = subst (λ b. Once t (original_at plan b) (cell b) n') (sym eb) (once_same t (original_at plan q) (cell q) n n' (times t q v.lifted) e h) in record {
+                  most = h'.most;
+                  there = λ z. absurd (planted_not s (lifted t (original_at plan p)) (r.is_plan.no_breakpoint p l) z);
+                  early = λ lt. h'.early (let a = low in omega arith);
+                  not_yet = λ z. h'.early (let a = low in let b : window_tag s ≡ window_tag t = ap (λ (c : Cell). c.tag) z in omega arith);
+                })
+                (λ _ _. once_same t (original_at plan q) (cell q) n n' (times t q v.lifted) e h) refl;
+            role = refl;
+            given = λ t h. h;
+            joined = λ t h. h;
+          }
+
+    -- ---- Close: the keeper of place p ends the controlled session s over it
+    module _ (live : v.role ≢ Spent) (s p : ℕ) (l : p < length plan.places) (keeps : Keeps plan v p) (pos_s : 0 < s) (its : is_controlled plan s p ≡ true) (is_open : last_tag p v.planted ≡ window_tag s) (cell' : Cells) (sets' : Sets)
+        (here : cell' p ≡ closed s (original_at plan p)) (others : (q : ℕ) → q < length plan.places → q ≢ p → cell' q ≡ cell q) (keep : (t q : ℕ) → q < length plan.places → 0 < t → sets' t q ≡ sets t q) where
+      by_close : (P : ℕ → Cell → Type 0) (q : ℕ) → q < length plan.places → P p (closed s (original_at plan p)) → (q ≢ p → P q (cell q)) → P q (cell' q)
+      by_close P q lq hit other = dite (ℕ_discrete q p) (λ e. subst (λ z. P z (cell' z)) (sym e) (subst (P p) (sym here) hit)) (λ n. subst (P q) (sym (others q lq n)) (other n))
+
+      over : is_over plan s p ≡ true
+      over = or_right _ (is_controlled plan s p) its
+
+      open_tag : (cell p).tag ≡ window_tag s
+      open_tag = r.ties id v at p l keeps ∙ is_open
+
+      not_planted : (t : ℕ) → closed s (original_at plan p) ≢ planted t
+      not_planted t e = planted_not t (closed s (original_at plan p)) (r.is_plan.no_breakpoint p l) (sym e)
+
+      not_lifted : (t x y : ℕ) → 0 < t → closed s x ≢ lifted t y
+      not_lifted t x y pos e = let z : 2 * s ≡ window_tag t = ap (λ (c : Cell). c.tag) e in omega arith
+
+      close_grows : Grows cell sets cell' sets'
+      close_grows = record {
+        tags = λ q lq. by_close (λ b z. (cell b).tag ≤ z.tag) q lq (let e = open_tag in omega arith) (λ _. omega arith);
+        more = λ t q g lq pos. into sets sets' keep (λ x. has_fact x g ≡ true) t q lq pos;
+        full = λ t q lq pos. into sets sets' keep (λ x. is_full (kind_at plan q) x ≡ true) t q lq pos;
+        stay = λ t q lq pos. by_close (λ b z. window_tag t ≤ (cell b).tag → cell b ≢ planted t → z ≢ planted t) q lq (λ _ _. not_planted t) (λ _ _ m. m);
+      }
+
+      pub closes : Held plan cell' sets' (set views id (closing s p v))
+      closes = let w : View = closing s p v in let k = kept_grows cell sets cell' sets' close_grows v (r.kept id v at) in
+          moved cell' sets' w record {
+            grows = close_grows;
+            site = λ q lq. let ok = r.site q lq in record {
+              form = by_close (λ b z. IsForm plan b z) q lq (inr (s, pos_s, over, inr (inr (refl, its)))) (λ _. ok.form);
+              full = λ t pos. by_close (λ b z. z ≡ lifted t (original_at plan b) → is_full (kind_at plan b) (sets' t b) ≡ true) q lq
+                  (λ e. absurd (not_lifted t (original_at plan p) (original_at plan p) pos e))
+                  (λ _ e. into sets sets' keep (λ x. is_full (kind_at plan q) x ≡ true) t q lq pos (ok.full t pos e));
+              empty = λ t pos. by_close (λ b z. z.tag < window_tag t → (g : Fact) → has_fact (sets' t b) g ≡ true → ⊥) q lq
+                  (λ lt g h. (r.site p l).empty t pos (let a = open_tag in omega arith) g (back sets sets' keep (λ x. has_fact x g ≡ true) t p l pos h))
+                  (λ _ lt g h. ok.empty t pos lt g (back sets sets' keep (λ x. has_fact x g ≡ true) t q lq pos h));
+            };
+            mine = record {
+              seen = λ q t h. ⊎_elim
+                  (λ (e : (p, 2 * s) ≡ (q, t)). subst (λ (z : ℕ × ℕ). (z.0 < length plan.places) × (z.1 ≤ (cell' z.0).tag)) e (l, (let a = ap (λ (z : Cell). z.tag) here in omega arith)))
+                  (λ (old : Has (q, t) v.seen). k.seen q t old)
+                  h;
+              pending = λ q t h. let b = k.pending q t h in (b.0, b.1, b.2, b.3, inr b.4);
+              marked = k.marked;
+              full = λ t q h. let b = k.full t q h in (b.0, inr b.1, b.2);
+              free = k.free;
+              lifted = k.lifted;
+              planted = λ q t h. ⊎_elim (λ e. inl e) (λ old. inr (k.planted q t old)) h;
+              joined = k.joined;
+            };
+            more = λ t q g h. h;
+            news = λ t q g lq pos h. inl (back sets sets' keep (λ x. has_fact x g ≡ true) t q lq pos h);
+            tie = λ q lq kq. dite (ℕ_discrete p q)
+                (λ e. subst (λ b. (cell' q).tag ≡ (if b then 2 * s else last_tag q v.planted)) (sym (eq-eqb p q e)) (ap (λ (z : Cell). z.tag) (ap cell' (sym e) ∙ here)))
+                (λ n. subst (λ b. (cell' q).tag ≡ (if b then 2 * s else last_tag q v.planted)) (sym (ne_eqb p q n)) (ap (λ (z : Cell). z.tag) (others q lq (λ e. n (sym e))) ∙ r.ties id v at q lq kq));
+            ties = λ j u n there q lq kq. by_close (λ b z. (b ≡ q) → z.tag ≡ last_tag q u.planted) q lq
+                (λ e. absurd (n (one_keeper j u p there (subst (Keeps plan u) (sym e) kq) keeps)))
+                (λ _ _. r.ties j u there q lq kq) refl;
+            live = live;
+            owed = λ t q lq pos full e. by_close (λ b z. is_full (kind_at plan b) (sets' t b) ≡ true → z ≡ planted t → Owes t b w ⊎ ((is_full (kind_at plan b) (sets t b) ≡ true) × (cell b ≡ planted t) × (Owes t b v → Owes t b w))) q lq
+                (λ _ z. absurd (not_planted t z))
+                (λ _ fu z. inr (back sets sets' keep (λ x. is_full (kind_at plan q) x ≡ true) t q lq pos fu, z, λ h. h))
+                full e;
+            once = λ t q lq pos n n' e h. by_close (λ b z. (b ≡ q) → Once t (original_at plan b) z n') q lq
+                (λ eb. let h' : Once t (original_at plan p) (cell p) n' = subst (λ b. Once t (original_at plan b) (cell b) n') (sym eb) (once_same t (original_at plan q) (cell q) n n' (times t q v.lifted) e h) in record {
+                  most = h'.most;
+                  there = λ z. absurd (not_lifted t (original_at plan p) (original_at plan p) pos z);
+                  early = λ lt. h'.early (let a = open_tag in omega arith);
+                  not_yet = λ z. absurd (not_planted t z);
+                })
+                (λ _ _. once_same t (original_at plan q) (cell q) n n' (times t q v.lifted) e h) refl;
+            role = refl;
+            given = λ t h. h;
+            joined = λ t h. h;
+          }

@@ -1,0 +1,33 @@
+//! What a party has done and knows, as the rule of an area tells it. It exists in proofs alone.
+
+use cov_base::Fact;
+use std::collections::LinkedList;
+
+/// The root, which is the planter of a core; the pass of a task, or the task of a core; or a pass that was joined.
+pub enum Role {
+    Root,
+    Task(u64),
+    Spent,
+}
+
+/// The notes of one party. No value of it is made.
+pub struct View {
+    pub role: Role,
+    /// Session, place and fact of each of its marks.
+    pub marked: LinkedList<(u64, u64, Fact)>,
+    /// Session and place, where it met the set full.
+    pub full: LinkedList<(u64, u64)>,
+    /// Session and place, where it fetched the original under the session's tag, or its lift was done.
+    pub free: LinkedList<(u64, u64)>,
+    /// Session and place of each breakpoint that it took out.
+    pub lifted: LinkedList<(u64, u64)>,
+    /// Place and tag, as it has met them.
+    pub seen: LinkedList<(u64, u64)>,
+    /// Place and tag of its last fetch, where that answered a breakpoint.
+    pub pending: Option<(u64, u64)>,
+    /// Place and tag of what it planted and closed, the last first.
+    pub planted: LinkedList<(u64, u64)>,
+    /// For the root: the tasks that were given out, and those of them that have come back.
+    pub given: LinkedList<u64>,
+    pub joined: LinkedList<u64>,
+}

@@ -1,0 +1,131 @@
+-- What the calls of an area ask of its table, and what the steps' tellings come to.
+use Rattle.std.proofs.Common.{◌≡◌, ◌≢◌, ℕ, ◌+◌, ◌-◌, ◌*◌, ◌/◌, ◌%◌, ◌<◌, ◌≤◌, Bool, true, false, nat_eq, eqb, Option, Some, None, List, [], length, sym, refl, ap, ◌∙◌, subst, arith, bit_or, ⊎_elim, inl, if◌then◌else◌, nat_lt, lt-ltb, eq-eqb, length-append, IsSome}
+use prog.Atomic.{either}
+use Rattle.atomic_table.specs.Table.{Allows}
+use Rattle.atomic_table.specs.declared.shared.Seat.{Seat}
+use Rattle.cov_base.specs.declared.facts.Fact.{Fact}
+use Rattle.cov_base.specs.Facts.{is_of_kind}
+use Rattle.cov_base.specs.Codes.{breakpoint}
+use Rattle.module_area.specs.declared.parties.View.{View}
+use Rattle.module_area.specs.declared.parties.Role.{Role}
+use Rattle.module_area.specs.declared.parties.Role.TheVariants.{Root, Task, Spent}
+use Rattle.module_area.specs.PlanView.{PlanView, original_at, kind_at, window_at, is_over, is_controlled}
+use Rattle.module_area.specs.Parties.{Has, add_if, last_tag, window_tag, fetching, marking, lifting, planting, giving, joining, task_of}
+use Rattle.module_area.specs.Held.{KeepsAs, Keeps}
+use Rattle.shared_area.specs.declared.rule.NoSlot.{NoSlot}
+use Rattle.shared_area.specs.declared.cells.SharedCells.{SharedCells}
+use Rattle.shared_area.specs.Words.{cell_of, word_of, session_in, facts_of, bit_of, fact_in, place_of}
+use Rattle.shared_area.specs.Told.{is_given, has_number, bears_as, seen_at}
+use Rattle.shared_area.specs.Rule.{IsArea, Fetched, Marked, Lifted}
+use Rattle.shared_area.proofs.WordLemmas.{session_in-word_of, fact_in-bit_of}
+use Rattle.module_area.proofs.Indices.{and_both}
+use Rattle.shared_area.proofs.NoteLemmas.{or_left, more_given}
+use Rattle.shared_area.proofs.AnswerLemmas.{is_root}
+use Rattle.shared_area.proofs.TableLemmas.{row_within, row_of, column_of, fetch_allowed, mark_allowed, lift_allowed, plant_allowed}
+
+-- ---- what a pass keeps
+pub record IsLive (marks lifts : ℕ) (v : View) : Type 0 where
+  pub live : v.role ≢ Spent
+  pub counted : (marks ≡ length v.marked) × (lifts ≡ length v.lifted)
+  pub given : is_given v.given v.joined ≡ true
+
+abbrev pub one_of : Bool → ℕ
+one_of b = if b then 1 else 0
+
+length-add_if : {X : Type 0} (b : Bool) (x : X) (xs : List X) (n k : ℕ) → n ≡ length xs → k ≡ one_of b → n + k ≡ length (add_if b x xs)
+length-add_if true x xs n k e h = omega arith
+length-add_if false x xs n k e h = omega arith
+
+pub fetch_live : (plan : PlanView) (p w a b : ℕ) (v v' : View) → v' ≡ fetching plan p (cell_of w) v → IsLive a b v → IsLive a b v'
+fetch_live plan p w a b v v' e h = subst (IsLive a b) (sym e) record { live = h.live; counted = h.counted; given = h.given }
+
+pub mark_live : (plan : PlanView) (s p : ℕ) (f : Fact) (w a b : ℕ) (v v' : View) → v' ≡ marking plan s p f (facts_of w) v → IsLive a b v → IsLive (a + 1) b v'
+mark_live plan s p f w a b v v' e h = subst (IsLive (a + 1) b) (sym e) record { live = h.live; counted = ((let c = h.counted.0 in omega arith), h.counted.1); given = h.given }
+
+pub lift_live : (s p a b k : ℕ) (did : Bool) (v v' : View) → v' ≡ lifting s p did v → k ≡ one_of did → IsLive a b v → IsLive a (b + k) v'
+lift_live s p a b k did v v' e n h = subst (IsLive a (b + k)) (sym e) record { live = h.live; counted = (h.counted.0, length-add_if did (s, p) v.lifted b k h.counted.1 n); given = h.given }
+
+pub plant_live : (s p a b : ℕ) (v v' : View) → v' ≡ planting s p v → IsLive a b v → IsLive a b v'
+plant_live s p a b v v' e h = subst (IsLive a b) (sym e) record { live = h.live; counted = h.counted; given = h.given }
+
+pub split_live : (t a b : ℕ) (v v' : View) → v' ≡ giving t v → IsLive a b v → IsLive a b v'
+split_live t a b v v' e h = subst (IsLive a b) (sym e) record { live = h.live; counted = h.counted; given = more_given t v.given v.joined h.given }
+
+pub join_live : (plan : PlanView) (a b a' b' : ℕ) (v v' o : View) → v' ≡ joining plan v o → IsLive a b v → IsLive a' b' o → has_number (task_of o.role) v.given ≡ true → IsLive (a + a') (b + b') v'
+join_live plan a b a' b' v v' o e h h' out = subst (IsLive (a + a') (b + b')) (sym e) record {
+  live = h.live;
+  counted = ((let x = h.counted.0 in let y = h'.counted.0 in let z = length-append o.marked v.marked in omega arith), (let x = h.counted.1 in let y = h'.counted.1 in let z = length-append o.lifted v.lifted in omega arith));
+  given = and_both (has_number (task_of o.role) v.given) _ out h.given;
+}
+
+pub is_task : (r : Role) → IsSome (bears_as r) → r ≡ Task (task_of r)
+is_task (Task t) h = refl
+is_task Root h = absurd cc
+is_task Spent h = absurd cc
+
+module _ (me : SharedCells) where
+  abbrev Key : PlanView
+  Key = me.table.shared.key.value
+
+  row_there : (s p : ℕ) → s ≤ me.plan.sessions → p < length me.plan.places → place_of (length me.plan.places) s p < me.table.shared.table_id.words
+  row_there s p ls l = let a = row_within (length me.plan.places) (me.plan.sessions + 1) s p (omega arith) l in let w = me.wide in omega arith
+
+  pub cell_there : (p : ℕ) → p < length me.plan.places → p < me.table.shared.table_id.words
+  cell_there p l = let a = row_there 0 p (omega arith) l in omega arith
+
+  pub set_there : (s p i : ℕ) → s ≤ me.plan.sessions → p < length me.plan.places → i ≡ place_of (length me.plan.places) s p → i < me.table.shared.table_id.words
+  set_there s p i ls l e = subst (λ k. k < me.table.shared.table_id.words) (sym e) (row_there s p ls l)
+
+  pub fetch_at : (seat : Seat NoSlot View) (p : ℕ) → seat.me.0.role ≢ Spent → p < length me.plan.places
+      → Allows (IsArea me.table.shared.key.value) me.table.shared.table_id.slots seat.id seat.me p (λ w. w) (λ w m. Fetched me.table.shared.key.value p seat.me.0 w m.0 × (m.1 ≡ seat.me.1))
+  fetch_at seat p live l = subst (λ (q : PlanView). Allows (IsArea q) me.table.shared.table_id.slots seat.id seat.me p (λ w. w) (λ w m. Fetched q p seat.me.0 w m.0 × (m.1 ≡ seat.me.1))) (sym me.keyed)
+      (fetch_allowed me.plan me.table.shared.table_id.slots seat.id p seat.me live l)
+
+  pub fetched_is : (v v' : View) (p w : ℕ) → Fetched me.table.shared.key.value p v w v' → Fetched me.plan p v w v'
+  fetched_is v v' p w h = subst (λ (q : PlanView). Fetched q p v w v') me.keyed h
+
+  pub mark_at : (seat : Seat NoSlot View) (s p : ℕ) (f : Fact) (i k : ℕ) → seat.me.0.role ≢ Spent → p < length me.plan.places → 0 < s → s ≤ me.plan.sessions → seat.me.0.pending ≡ Some (p, window_tag s) → is_of_kind (kind_at me.plan p) f ≡ true
+      → i ≡ place_of (length me.plan.places) s p → k ≡ bit_of f
+      → Allows (IsArea me.table.shared.key.value) me.table.shared.table_id.slots seat.id seat.me i (λ x. bit_or x k)
+      (λ w m. Marked me.table.shared.key.value (i / length me.table.shared.key.value.places) (i % length me.table.shared.key.value.places) (fact_in k) seat.me.0 w m.0 × (m.1 ≡ seat.me.1))
+  mark_at seat s p f i k live l pos ls pend fits ei ek = let n : ℕ = length me.plan.places in
+      let F : PlanView → Type 0 = λ q. Allows (IsArea q) me.table.shared.table_id.slots seat.id seat.me i (λ x. bit_or x k) (λ w m. Marked q (i / length q.places) (i % length q.places) (fact_in k) seat.me.0 w m.0 × (m.1 ≡ seat.me.1)) in
+      let G : ℕ × ℕ × ℕ × ℕ × Fact → Type 0 = λ z. Allows (IsArea me.plan) me.table.shared.table_id.slots seat.id seat.me z.0 (λ x. bit_or x z.1) (λ w m. Marked me.plan z.2 z.3 z.4 seat.me.0 w m.0 × (m.1 ≡ seat.me.1)) in
+      let is_s : i / n ≡ s = ap (λ z. z / n) ei ∙ row_of n s p l in let is_p : i % n ≡ p = ap (λ z. z % n) ei ∙ column_of n s p l in
+      let is_f : fact_in k ≡ f = ap fact_in ek ∙ fact_in-bit_of f in
+      subst F (sym me.keyed) (subst G (λ j. (sym ei j, sym ek j, sym is_s j, sym is_p j, sym is_f j)) (mark_allowed me.plan me.table.shared.table_id.slots seat.id s p f seat.me live l pos ls pend fits))
+
+  pub marked_is : (v v' : View) (s p : ℕ) (f : Fact) (i k w : ℕ) → p < length me.plan.places → i ≡ place_of (length me.plan.places) s p → k ≡ bit_of f
+      → Marked me.table.shared.key.value (i / length me.table.shared.key.value.places) (i % length me.table.shared.key.value.places) (fact_in k) v w v' → Marked me.plan s p f v w v'
+  marked_is v v' s p f i k w l ei ek h = let n : ℕ = length me.plan.places in
+      let h' : Marked me.plan (i / n) (i % n) (fact_in k) v w v' = subst (λ (q : PlanView). Marked q (i / length q.places) (i % length q.places) (fact_in k) v w v') me.keyed h in
+      subst (λ (z : ℕ × ℕ × Fact). Marked me.plan z.0 z.1 z.2 v w v')
+      (λ j. ((ap (λ z. z / n) ei ∙ row_of n s p l) j, (ap (λ z. z % n) ei ∙ column_of n s p l) j, (ap fact_in ek ∙ fact_in-bit_of f) j)) h'
+
+  pub lift_at : (seat : Seat NoSlot View) (s p old new : ℕ) → original_at me.plan p < 65536 → seat.me.0.role ≢ Spent → p < length me.plan.places → 0 < s → Has (s, p) seat.me.0.full → old ≡ word_of s breakpoint → new ≡ word_of s (original_at me.plan p)
+      → Allows (IsArea me.table.shared.key.value) me.table.shared.table_id.slots seat.id seat.me p (λ x. either (eqb x old) new x) (λ w m. Lifted (session_in old) p old seat.me.0 w m.0 × (m.1 ≡ seat.me.1))
+  lift_at seat s p old new small live l pos met eo en =
+      let F : PlanView → Type 0 = λ q. Allows (IsArea q) me.table.shared.table_id.slots seat.id seat.me p (λ x. either (eqb x old) new x) (λ w m. Lifted (session_in old) p old seat.me.0 w m.0 × (m.1 ≡ seat.me.1)) in
+      let G : ℕ × ℕ × ℕ → Type 0 = λ z. Allows (IsArea me.plan) me.table.shared.table_id.slots seat.id seat.me p (λ x. either (eqb x z.0) z.1 x) (λ w m. Lifted z.2 p z.0 seat.me.0 w m.0 × (m.1 ≡ seat.me.1)) in
+      let is_s : session_in old ≡ s = ap session_in eo ∙ session_in-word_of s breakpoint pos (omega arith) in
+      subst F (sym me.keyed) (subst G (λ j. (sym eo j, sym en j, sym is_s j)) (lift_allowed me.plan me.table.shared.table_id.slots seat.id s p seat.me small live l pos met))
+
+  pub plant_at : (seat : Seat NoSlot View) (s p new : ℕ) → seat.me.0.role ≢ Spent → p < length me.plan.places → Keeps me.plan seat.me.0 p → 0 < s → window_at me.plan p ≡ s → is_over me.plan s p ≡ true → seen_at p seat.me.0.seen ≡ 0 → new ≡ word_of s breakpoint
+      → Allows (IsArea me.table.shared.key.value) me.table.shared.table_id.slots seat.id seat.me p (λ _. new) (λ w m. (m.0 ≡ planting (session_in new) p seat.me.0) × (m.1 ≡ seat.me.1))
+  plant_at seat s p new live l keep pos its over first en =
+      let F : PlanView → Type 0 = λ q. Allows (IsArea q) me.table.shared.table_id.slots seat.id seat.me p (λ _. new) (λ w m. (m.0 ≡ planting (session_in new) p seat.me.0) × (m.1 ≡ seat.me.1)) in
+      let G : ℕ × ℕ → Type 0 = λ z. Allows (IsArea me.plan) me.table.shared.table_id.slots seat.id seat.me p (λ _. z.0) (λ w m. (m.0 ≡ planting z.1 p seat.me.0) × (m.1 ≡ seat.me.1)) in
+      let is_s : session_in new ≡ s = ap session_in en ∙ session_in-word_of s breakpoint pos (omega arith) in
+      subst F (sym me.keyed) (subst G (λ j. (sym en j, sym is_s j)) (plant_allowed me.plan me.table.shared.table_id.slots seat.id s p seat.me live l keep pos its over first))
+
+pub lifted_is : (v v' : View) (s p old w : ℕ) → 0 < s → old ≡ word_of s breakpoint → Lifted (session_in old) p old v w v' → Lifted s p old v w v'
+lifted_is v v' s p old w pos eo h = subst (λ z. Lifted z p old v w v') (ap session_in eo ∙ session_in-word_of s breakpoint pos (omega arith)) h
+
+pub planted_is : (v v' : View) (s p new : ℕ) → 0 < s → new ≡ word_of s breakpoint → v' ≡ planting (session_in new) p v → v' ≡ planting s p v
+planted_is v v' s p new pos en h = subst (λ z. v' ≡ planting z p v) (ap session_in en ∙ session_in-word_of s breakpoint pos (omega arith)) h
+
+pub root_keeps : (plan : PlanView) (v : View) (s p : ℕ) → v.role ≢ Spent → bears_as v.role ≡ None → 0 < s → window_at plan p ≡ s → Keeps plan v p
+root_keeps plan v s p live e pos w = subst (KeepsAs plan v p) (sym (is_root v.role live e)) (inl (subst (λ k. 0 < k) (sym w) pos))
+
+pub window_over : (plan : PlanView) (s p : ℕ) → 0 < s → window_at plan p ≡ s → is_over plan s p ≡ true
+window_over plan s p pos w = or_left _ (is_controlled plan s p) (and_both (nat_lt 0 s) (nat_eq (window_at plan p) s) (lt-ltb 0 s pos) (eq-eqb _ _ w))

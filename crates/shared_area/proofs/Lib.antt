@@ -1,0 +1,10 @@
+pub mod AnswerLemmas
+pub mod BeginLemmas
+pub mod CallLemmas
+pub mod CloseLemmas
+pub mod EndLemmas
+pub mod NoteLemmas
+pub mod StayLemmas
+pub mod SumLemmas
+pub mod TableLemmas
+pub mod WordLemmas

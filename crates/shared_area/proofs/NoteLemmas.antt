@@ -1,0 +1,242 @@
+-- The notes that a contract sees after each step.
+use Rattle.std.proofs.Common.{◌≡◌, ◌≢◌, ◌⊎◌, ℕ, ◌+◌, ◌-◌, ◌*◌, ◌/◌, ◌%◌, ◌<◌, ◌≤◌, Bool, true, false, not, ◌&&◌, ◌||◌, nat_eq, if◌then◌else◌, Option, Some, None, List, [], ◌∷◌, ◌++◌, length, max, unwrap_or, sym, refl, ap, ◌∙◌, subst, inl, inr, ⊎_elim, arith, eqb-true, eq-eqb}
+use mathlib.Core.Path.{fun_ext}
+use Rattle.cov_base.specs.declared.facts.Fact.{Fact}
+use Rattle.cov_base.specs.declared.facts.Fact.TheVariants.{Ran, Went, Stayed}
+use Rattle.cov_base.specs.FactSet.{FactSet}
+use Rattle.cov_base.specs.Facts.{same_fact, is_full, with_fact}
+use Rattle.module_area.specs.declared.cells.Cell.{Cell}
+use Rattle.module_area.specs.declared.parties.View.{View}
+use Rattle.module_area.specs.declared.parties.Role.{Role}
+use Rattle.module_area.specs.declared.parties.Role.TheVariants.{Root, Task, Spent}
+use Rattle.module_area.specs.declared.tallies.Tally.{Tally}
+use Rattle.module_area.specs.PlanView.{PlanView, original_at, kind_at}
+use Rattle.module_area.specs.Parties.{Has, add_if, is_lifted, session_of, window_tag, last_tag, fetching, marking, lifting, planting, giving, newcomer, joining, task_of}
+use Rattle.module_area.specs.Notes.{Notes, is_free_under, after_fetch, after_mark, after_lift, after_plant, after_split, split_notes, after_join, bearer}
+use Rattle.module_area.proofs.Indices.{and_left, and_right, and_both, same_tests}
+use Rattle.module_area.proofs.FactLemmas.{same_fact-true}
+use Rattle.shared_area.specs.Told.{has_mark, has_pair, has_number, seen_at, bears_as, notes_in, is_given}
+
+-- ---- the tests are membership
+or_cases : (a b : Bool) → (a || b) ≡ true → (a ≡ true) ⊎ (b ≡ true)
+or_cases true b h = inl refl
+or_cases false b h = inr h
+
+or_right : (a b : Bool) → b ≡ true → (a || b) ≡ true
+or_right true b h = refl
+or_right false b h = h
+
+pub or_left : (a b : Bool) → a ≡ true → (a || b) ≡ true
+or_left true b h = refl
+or_left false b h = absurd cc
+
+pub pair_there : (s p : ℕ) (xs : List (ℕ × ℕ)) → has_pair s p xs ≡ true → Has (s, p) xs
+pair_there s p [] h = absurd cc
+pair_there s p (x ∷ xs) h = ⊎_elim (λ a. inr (pair_there s p xs a))
+    (λ b. inl (λ i. (sym (eqb-true s x.0 (and_left (nat_eq s x.0) (nat_eq p x.1) b)) i, sym (eqb-true p x.1 (and_right (nat_eq s x.0) (nat_eq p x.1) b)) i)))
+    (or_cases (has_pair s p xs) (nat_eq s x.0 && nat_eq p x.1) h)
+
+pub pair_shown : (s p : ℕ) (xs : List (ℕ × ℕ)) → Has (s, p) xs → has_pair s p xs ≡ true
+pair_shown s p [] h = absurd h
+pair_shown s p (x ∷ xs) (inr h) = or_left (has_pair s p xs) _ (pair_shown s p xs h)
+pair_shown s p (x ∷ xs) (inl e) = or_right (has_pair s p xs) (nat_eq s x.0 && nat_eq p x.1)
+    (and_both (nat_eq s x.0) (nat_eq p x.1) (eq-eqb s x.0 (sym (ap (λ (z : ℕ × ℕ). z.0) e))) (eq-eqb p x.1 (sym (ap (λ (z : ℕ × ℕ). z.1) e))))
+
+same_fact-same : (f g : Fact) → f ≡ g → same_fact f g ≡ true
+same_fact-same f g e = subst (λ z. same_fact f z ≡ true) e (itself f)
+  where
+    itself : (f : Fact) → same_fact f f ≡ true
+    itself Ran = refl
+    itself Went = refl
+    itself Stayed = refl
+
+pub mark_there : (s p : ℕ) (f : Fact) (xs : List (ℕ × ℕ × Fact)) → has_mark s p f xs ≡ true → Has (s, p, f) xs
+mark_there s p f [] h = absurd cc
+mark_there s p f (x ∷ xs) h = ⊎_elim (λ a. inr (mark_there s p f xs a))
+    (λ b. let first = and_left (nat_eq s x.0 && nat_eq p x.1) (same_fact f x.2) b in
+    inl (λ i. (sym (eqb-true s x.0 (and_left (nat_eq s x.0) (nat_eq p x.1) first)) i, sym (eqb-true p x.1 (and_right (nat_eq s x.0) (nat_eq p x.1) first)) i, sym (same_fact-true f x.2 (and_right (nat_eq s x.0 && nat_eq p x.1) (same_fact f x.2) b)) i)))
+    (or_cases (has_mark s p f xs) (nat_eq s x.0 && nat_eq p x.1 && same_fact f x.2) h)
+
+pub mark_shown : (s p : ℕ) (f : Fact) (xs : List (ℕ × ℕ × Fact)) → Has (s, p, f) xs → has_mark s p f xs ≡ true
+mark_shown s p f [] h = absurd h
+mark_shown s p f (x ∷ xs) (inr h) = or_left (has_mark s p f xs) _ (mark_shown s p f xs h)
+mark_shown s p f (x ∷ xs) (inl e) = or_right (has_mark s p f xs) (nat_eq s x.0 && nat_eq p x.1 && same_fact f x.2)
+    (and_both (nat_eq s x.0 && nat_eq p x.1) (same_fact f x.2)
+    (and_both (nat_eq s x.0) (nat_eq p x.1) (eq-eqb s x.0 (sym (ap (λ (z : ℕ × ℕ × Fact). z.0) e))) (eq-eqb p x.1 (sym (ap (λ (z : ℕ × ℕ × Fact). z.1) e))))
+    (same_fact-same f x.2 (sym (ap (λ (z : ℕ × ℕ × Fact). z.2) e))))
+
+pub number_there : (t : ℕ) (us : List ℕ) → has_number t us ≡ true → Has t us
+number_there t [] h = absurd cc
+number_there t (u ∷ us) h = ⊎_elim (λ a. inr (number_there t us a)) (λ b. inl (sym (eqb-true t u b))) (or_cases (has_number t us) (nat_eq t u) h)
+
+pub number_shown : (t : ℕ) (us : List ℕ) → Has t us → has_number t us ≡ true
+number_shown t [] h = absurd h
+number_shown t (u ∷ us) (inr h) = or_left (has_number t us) _ (number_shown t us h)
+number_shown t (u ∷ us) (inl e) = or_right (has_number t us) (nat_eq t u) (eq-eqb t u (sym e))
+
+pub not_there : (t : ℕ) (us : List ℕ) → has_number t us ≡ false → Has t us → ⊥
+not_there t us e h = let x = number_shown t us h in absurd cc
+
+-- ---- the highest tag
+seen_step : (p : ℕ) (x : ℕ × ℕ) (xs : List (ℕ × ℕ)) (b : Bool) → nat_eq p x.0 ≡ b → (t : ℕ) → x ≡ (p, t) → t ≤ (if b then max x.1 (seen_at p xs) else seen_at p xs)
+seen_step p x xs true e t h = let y : x.1 ≡ t = ap (λ (z : ℕ × ℕ). z.1) h in omega arith
+seen_step p x xs false e t h = let y = eq-eqb p x.0 (sym (ap (λ (z : ℕ × ℕ). z.0) h)) in absurd cc
+
+seen_more : (p : ℕ) (x : ℕ × ℕ) (xs : List (ℕ × ℕ)) (b : Bool) (t : ℕ) → t ≤ seen_at p xs → t ≤ (if b then max x.1 (seen_at p xs) else seen_at p xs)
+seen_more p x xs true t h = omega arith
+seen_more p x xs false t h = h
+
+pub seen_has : (p t : ℕ) (xs : List (ℕ × ℕ)) → Has (p, t) xs → t ≤ seen_at p xs
+seen_has p t [] h = absurd h
+seen_has p t (x ∷ xs) (inl e) = seen_step p x xs (nat_eq p x.0) refl t e
+seen_has p t (x ∷ xs) (inr h) = seen_more p x xs (nat_eq p x.0) t (seen_has p t xs h)
+
+most_step : (p m : ℕ) (x : ℕ × ℕ) (xs : List (ℕ × ℕ)) (b : Bool) → nat_eq p x.0 ≡ b → ((t : ℕ) → (x ≡ (p, t)) → t ≤ m) → seen_at p xs ≤ m → (if b then max x.1 (seen_at p xs) else seen_at p xs) ≤ m
+most_step p m x xs true e h r = let y = h x.1 (λ i. (sym (eqb-true p x.0 e) i, x.1)) in omega arith
+most_step p m x xs false e h r = r
+
+pub seen_most : (p m : ℕ) (xs : List (ℕ × ℕ)) → ((t : ℕ) → Has (p, t) xs → t ≤ m) → seen_at p xs ≤ m
+seen_most p m [] h = omega arith
+seen_most p m (x ∷ xs) h = most_step p m x xs (nat_eq p x.0) refl (λ t e. h t (inl e)) (seen_most p m xs (λ t y. h t (inr y)))
+
+last_step : (p : ℕ) (x : ℕ × ℕ) (xs : List (ℕ × ℕ)) (b : Bool) → nat_eq x.0 p ≡ b → ((last_tag p xs ≡ 0) ⊎ Has (p, last_tag p xs) xs) →
+    ((if b then x.1 else last_tag p xs) ≡ 0) ⊎ Has (p, (if b then x.1 else last_tag p xs)) (x ∷ xs)
+last_step p x xs true e r = inr (inl (λ i. (eqb-true x.0 p e i, x.1)))
+last_step p x xs false e r = ⊎_elim (λ z. inl z) (λ h. inr (inr h)) r
+
+pub last_has : (p : ℕ) (xs : List (ℕ × ℕ)) → (last_tag p xs ≡ 0) ⊎ Has (p, last_tag p xs) xs
+last_has p [] = inl refl
+last_has p (x ∷ xs) = last_step p x xs (nat_eq x.0 p) refl (last_has p xs)
+
+seen_append_step : (p : ℕ) (x : ℕ × ℕ) (xs ys : List (ℕ × ℕ)) (b : Bool) → seen_at p (xs ++ ys) ≡ max (seen_at p ys) (seen_at p xs)
+    → (if b then max x.1 (seen_at p (xs ++ ys)) else seen_at p (xs ++ ys)) ≡ max (seen_at p ys) (if b then max x.1 (seen_at p xs) else seen_at p xs)
+seen_append_step p x xs ys true r = omega arith
+seen_append_step p x xs ys false r = r
+
+seen-append : (p : ℕ) (xs ys : List (ℕ × ℕ)) → seen_at p (xs ++ ys) ≡ max (seen_at p ys) (seen_at p xs)
+seen-append p [] ys = omega arith
+seen-append p (x ∷ xs) ys = seen_append_step p x xs ys (nat_eq p x.0) (seen-append p xs ys)
+
+-- ---- Fetch
+seen_after : (q p t : ℕ) (xs : List (ℕ × ℕ)) (b : Bool) → nat_eq q p ≡ b → seen_at p xs ≤ t → (if b then max t (seen_at q xs) else seen_at q xs) ≡ (if b then t else seen_at q xs)
+seen_after q p t xs true e h = let y : seen_at q xs ≡ seen_at p xs = ap (λ k. seen_at k xs) (eqb-true q p e) in omega arith
+seen_after q p t xs false e h = refl
+
+pub seen_now : (p t : ℕ) (xs : List (ℕ × ℕ)) → seen_at p xs ≤ t → ◌≡◌ {A = ℕ → ℕ} (λ q. seen_at q ((p, t) ∷ xs)) (λ q. if nat_eq q p then t else seen_at q xs)
+seen_now p t xs h = fun_ext (λ q. seen_after q p t xs (nat_eq q p) refl h)
+
+odd_session : (s t : ℕ) → t % 2 ≡ 1 → s ≡ session_of t → t + 1 ≡ 2 * s
+odd_session s t odd e = omega arith
+
+session_odd : (s t : ℕ) → t + 1 ≡ 2 * s → (t % 2 ≡ 1) × (s ≡ session_of t)
+session_odd s t e = (omega arith, omega arith)
+
+lifted_tests : (b : Bool) (s q p t : ℕ) → ((b && nat_eq (t % 2) 1) && (nat_eq s (session_of t) && nat_eq q p)) ≡ (nat_eq q p && (b && nat_eq (t + 1) (2 * s)))
+lifted_tests b s q p t = same_tests _ _
+    (λ h. let first = and_left (b && nat_eq (t % 2) 1) _ h in let rest = and_right (b && nat_eq (t % 2) 1) _ h in
+    and_both (nat_eq q p) _ (and_right (nat_eq s (session_of t)) _ rest)
+    (and_both b _ (and_left b _ first) (eq-eqb _ _ (odd_session s t (eqb-true _ _ (and_right b _ first)) (eqb-true _ _ (and_left (nat_eq s (session_of t)) _ rest))))))
+    (λ h. let at = and_left (nat_eq q p) _ h in let r = and_right (nat_eq q p) _ h in let x = session_odd s t (eqb-true _ _ (and_right b _ r)) in
+    and_both (b && nat_eq (t % 2) 1) _ (and_both b _ (and_left b _ r) (eq-eqb _ _ x.0)) (and_both (nat_eq s (session_of t)) _ (eq-eqb _ _ x.1) at))
+
+pair_add_if : (c : Bool) (s q t p : ℕ) (xs : List (ℕ × ℕ)) → has_pair s q (add_if c (t, p) xs) ≡ (has_pair s q xs || (c && (nat_eq s t && nat_eq q p)))
+pair_add_if true s q t p xs = refl
+pair_add_if false s q t p xs = or_false (has_pair s q xs)
+  where
+    or_false : (b : Bool) → b ≡ (b || false)
+    or_false true = refl
+    or_false false = refl
+
+fetch_pairs : (plan : PlanView) (p : ℕ) (c : Cell) (xs : List (ℕ × ℕ)) → ◌≡◌ {A = ℕ → ℕ → Bool} (λ s q. has_pair s q (add_if (is_lifted plan p c) (session_of c.tag, p) xs)) (λ s q. has_pair s q xs || (nat_eq q p && is_free_under plan p c s))
+fetch_pairs plan p c xs = fun_ext (λ s. fun_ext (λ q. pair_add_if (is_lifted plan p c) s q (session_of c.tag) p xs
+    ∙ ap (λ b. has_pair s q xs || b) (lifted_tests (nat_eq c.half (original_at plan p)) s q p c.tag)))
+
+pub fetch_notes : (plan : PlanView) (p : ℕ) (c : Cell) (v : View) (tally : Tally) → seen_at p v.seen ≤ c.tag
+    → notes_in (fetching plan p c v) (record tally { fetches = tally.fetches + 1 }) ≡ after_fetch plan (notes_in v tally) p c
+fetch_notes plan p c v tally h = let full = fetch_pairs plan p c v.full in let free = fetch_pairs plan p c v.free in let seen = seen_now p c.tag v.seen h in
+    λ i. record (after_fetch plan (notes_in v tally) p c) { full = full i; free = free i; seen = seen i }
+
+-- ---- Mark, Lift, Plant
+full_tests : (a b c : Bool) → (c && (a && b)) ≡ ((a && b) && c)
+full_tests true true true = refl
+full_tests true true false = refl
+full_tests true false true = refl
+full_tests true false false = refl
+full_tests false b true = refl
+full_tests false b false = refl
+
+pub mark_notes : (plan : PlanView) (s p : ℕ) (f : Fact) (found : FactSet) (v : View) (tally : Tally)
+    → notes_in (marking plan s p f found v) (record tally { marks = tally.marks + 1 }) ≡ after_mark plan (notes_in v tally) s p f found
+mark_notes plan s p f found v tally = let b : Bool = is_full (kind_at plan p) (with_fact found f) in
+    let full : (λ t q. has_pair t q (add_if (is_full (kind_at plan p) (with_fact found f)) (s, p) v.full)) ≡ (λ t q. has_pair t q v.full || (nat_eq t s && nat_eq q p && is_full (kind_at plan p) (with_fact found f))) =
+    fun_ext (λ t. fun_ext (λ q. pair_add_if b t q s p v.full ∙ ap (λ x. has_pair t q v.full || x) (full_tests (nat_eq t s) (nat_eq q p) b))) in
+    λ i. record (after_mark plan (notes_in v tally) s p f found) { full = full i }
+
+pub plant_notes : (s p : ℕ) (v : View) (tally : Tally) → seen_at p v.seen ≡ 0 → notes_in (planting s p v) (record tally { plants = tally.plants + 1 }) ≡ after_plant (notes_in v tally) s p
+plant_notes s p v tally h = let seen = seen_now p (window_tag s) v.seen (omega arith) in λ i. record (after_plant (notes_in v tally) s p) { seen = seen i }
+
+-- ---- Split and Join
+out_after : (g j e : Bool) → (e ≡ true → j ≡ false) → ((g || e) && not j) ≡ ((g && not j) || e)
+out_after true true true h = let x : true ≡ false = h refl in absurd cc
+out_after true true false h = refl
+out_after true false true h = refl
+out_after true false false h = refl
+out_after false true true h = let x : true ≡ false = h refl in absurd cc
+out_after false true false h = refl
+out_after false false true h = refl
+out_after false false false h = refl
+
+pub given_has : (t : ℕ) (given joined : List ℕ) → is_given given joined ≡ true → has_number t joined ≡ true → has_number t given ≡ true
+given_has t given [] h j = absurd cc
+given_has t given (u ∷ us) h j = ⊎_elim (λ a. given_has t given us (and_right (has_number u given) _ h) a)
+    (λ e. subst (λ z. has_number z given ≡ true) (sym (eqb-true t u e)) (and_left (has_number u given) _ h)) (or_cases (has_number t us) (nat_eq t u) j)
+
+not_given : (t : ℕ) (given joined : List ℕ) (b : Bool) → has_number t joined ≡ b → is_given given joined ≡ true → has_number t given ≡ false → b ≡ false
+not_given t given joined true e h no_t = let x = given_has t given joined h e in absurd cc
+not_given t given joined false e h no_t = refl
+
+pub split_root : (t : ℕ) (v : View) (tally : Tally) → is_given v.given v.joined ≡ true → has_number t v.given ≡ false → notes_in (giving t v) tally ≡ after_split (notes_in v tally) t
+split_root t v tally h no_t = let out : (λ u. (has_number u v.given || nat_eq u t) && not (has_number u v.joined)) ≡ (λ u. (has_number u v.given && not (has_number u v.joined)) || nat_eq u t) =
+    fun_ext (λ u. out_after (has_number u v.given) (has_number u v.joined) (nat_eq u t) (λ e. not_given u v.given v.joined (has_number u v.joined) refl h (ap (λ k. has_number k v.given) (eqb-true u t e) ∙ no_t))) in
+    λ i. record (after_split (notes_in v tally) t) { out = out i }
+
+pub more_given : (t : ℕ) (given joined : List ℕ) → is_given given joined ≡ true → is_given (t ∷ given) joined ≡ true
+more_given t given [] h = refl
+more_given t given (u ∷ us) h = and_both (has_number u (t ∷ given)) _ (or_left (has_number u given) (nat_eq u t) (and_left (has_number u given) _ h)) (more_given t given us (and_right (has_number u given) _ h))
+
+or_swap : (a b : Bool) → (a || b) ≡ (b || a)
+or_swap true true = refl
+or_swap true false = refl
+or_swap false true = refl
+or_swap false false = refl
+
+or_again : (a b c : Bool) → ((a || b) || c) ≡ (a || (b || c))
+or_again true b c = refl
+or_again false b c = refl
+
+pair-append : (s p : ℕ) (xs ys : List (ℕ × ℕ)) → has_pair s p (xs ++ ys) ≡ (has_pair s p ys || has_pair s p xs)
+pair-append s p [] ys = or_swap false (has_pair s p ys)
+pair-append s p (x ∷ xs) ys = ap (λ b. b || (nat_eq s x.0 && nat_eq p x.1)) (pair-append s p xs ys) ∙ or_again (has_pair s p ys) (has_pair s p xs) (nat_eq s x.0 && nat_eq p x.1)
+
+mark-append : (s p : ℕ) (f : Fact) (xs ys : List (ℕ × ℕ × Fact)) → has_mark s p f (xs ++ ys) ≡ (has_mark s p f ys || has_mark s p f xs)
+mark-append s p f [] ys = or_swap false (has_mark s p f ys)
+mark-append s p f (x ∷ xs) ys = ap (λ b. b || (nat_eq s x.0 && nat_eq p x.1 && same_fact f x.2)) (mark-append s p f xs ys) ∙ or_again (has_mark s p f ys) (has_mark s p f xs) (nat_eq s x.0 && nat_eq p x.1 && same_fact f x.2)
+
+and_nor : (g j e : Bool) → (g && not (j || e)) ≡ ((g && not j) && not e)
+and_nor true true e = refl
+and_nor true false e = refl
+and_nor false j e = refl
+
+abbrev pub both_tallies : Tally → Tally → Tally
+both_tallies a b = record { plants = a.plants + b.plants; fetches = a.fetches + b.fetches; marks = a.marks + b.marks; lifts = a.lifts + b.lifts; closes = a.closes + b.closes }
+
+pub join_notes : (plan : PlanView) (v o : View) (t : ℕ) (a b : Tally) → o.role ≡ Task t → notes_in (joining plan v o) (both_tallies a b) ≡ after_join (notes_in v a) (notes_in o b)
+join_notes plan v o t a b bears =
+    let marked : (λ s p f. has_mark s p f (o.marked ++ v.marked)) ≡ (λ s p f. has_mark s p f v.marked || has_mark s p f o.marked) = fun_ext (λ s. fun_ext (λ p. fun_ext (λ f. mark-append s p f o.marked v.marked))) in
+    let full : (λ s p. has_pair s p (o.full ++ v.full)) ≡ (λ s p. has_pair s p v.full || has_pair s p o.full) = fun_ext (λ s. fun_ext (λ p. pair-append s p o.full v.full)) in
+    let free : (λ s p. has_pair s p (o.free ++ v.free)) ≡ (λ s p. has_pair s p v.free || has_pair s p o.free) = fun_ext (λ s. fun_ext (λ p. pair-append s p o.free v.free)) in
+    let seen : (λ p. seen_at p (o.seen ++ v.seen)) ≡ (λ p. max (seen_at p v.seen) (seen_at p o.seen)) = fun_ext (λ p. seen-append p o.seen v.seen) in
+    let number : task_of o.role ≡ bearer (notes_in o b) = ap task_of bears ∙ sym (ap (λ r. unwrap_or (bears_as r) 0) bears) in
+    let out : (λ u. has_number u v.given && not (has_number u v.joined || nat_eq u (task_of o.role))) ≡ (λ u. (has_number u v.given && not (has_number u v.joined)) && not (nat_eq u (bearer (notes_in o b)))) =
+    fun_ext (λ u. and_nor (has_number u v.given) (has_number u v.joined) (nat_eq u (task_of o.role)) ∙ ap (λ k. (has_number u v.given && not (has_number u v.joined)) && not (nat_eq u k)) number) in
+    λ i. record (after_join (notes_in v a) (notes_in o b)) { marked = marked i; full = full i; free = free i; seen = seen i; out = out i }

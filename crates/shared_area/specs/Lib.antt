@@ -1,0 +1,5 @@
+pub mod Begin
+pub mod Passes
+pub mod Rule
+pub mod Told
+pub mod Words

@@ -1,0 +1,17 @@
+-- What a contract sees of a pass.
+use Rattle.std.specs.Prelude.{◌≡◌, ℕ, ◌*◌, ◌≤◌, [], Option, Some}
+use Rattle.module_area.specs.PlanView.{PlanView}
+use Rattle.module_area.specs.Notes.{Notes}
+use Rattle.shared_area.specs.declared.pass.SharedPass.{SharedPass}
+use Rattle.shared_area.specs.declared.cells.SharedCells.{SharedCells}
+use Rattle.shared_area.specs.Told.{notes_in}
+
+abbrev pub notes_of : SharedPass → Notes
+notes_of pass = notes_in pass.seat.me.0 pass.tally
+
+-- the tag is of a session of the plan
+abbrev pub IsWithin : PlanView → Option (ℕ × ℕ) → Type 0
+IsWithin plan pending = (p t : ℕ) → pending ≡ Some (p, t) → t ≤ 2 * plan.sessions
+
+abbrev pub IsPassOf : SharedCells → SharedPass → Type 0
+IsPassOf cells pass = (pass.seat.table_id ≡ cells.table.shared.table_id) × (pass.seat.me.1 ≡ []) × IsWithin cells.plan pass.seat.me.0.pending

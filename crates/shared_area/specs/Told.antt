@@ -1,0 +1,48 @@
+-- What a contract sees of a party.
+use Rattle.std.specs.Prelude.{◌≡◌, ℕ, ◌+◌, Bool, true, false, not, ◌&&◌, ◌||◌, nat_eq, if◌then◌else◌, Option, Some, None, List, [], ◌∷◌, max}
+use Rattle.cov_base.specs.declared.facts.Fact.{Fact}
+use Rattle.cov_base.specs.Facts.{same_fact}
+use Rattle.module_area.specs.declared.parties.Role.{Role}
+use Rattle.module_area.specs.declared.parties.Role.TheVariants.{Task}
+use Rattle.module_area.specs.declared.parties.View.{View}
+use Rattle.module_area.specs.declared.tallies.Tally.{Tally}
+use Rattle.module_area.specs.Notes.{Notes}
+
+abbrev pub has_mark : ℕ → ℕ → Fact → List (ℕ × ℕ × Fact) → Bool
+has_mark s p f [] = false
+has_mark s p f (x ∷ xs) = has_mark s p f xs || (nat_eq s x.0 && nat_eq p x.1 && same_fact f x.2)
+
+abbrev pub has_pair : ℕ → ℕ → List (ℕ × ℕ) → Bool
+has_pair s p [] = false
+has_pair s p (x ∷ xs) = has_pair s p xs || (nat_eq s x.0 && nat_eq p x.1)
+
+abbrev pub has_number : ℕ → List ℕ → Bool
+has_number t [] = false
+has_number t (u ∷ us) = has_number t us || nat_eq t u
+
+-- the highest tag at the place
+abbrev pub seen_at : ℕ → List (ℕ × ℕ) → ℕ
+seen_at p [] = 0
+seen_at p (x ∷ xs) = if nat_eq p x.0 then max x.1 (seen_at p xs) else seen_at p xs
+
+abbrev pub bears_as : Role → Option ℕ
+bears_as (Task t) = Some t
+bears_as r = None
+
+abbrev pub notes_in : View → Tally → Notes
+notes_in v tally = record {
+  marked = λ s p f. has_mark s p f v.marked;
+  full = λ s p. has_pair s p v.full;
+  free = λ s p. has_pair s p v.free;
+  seen = λ p. seen_at p v.seen;
+  pending = v.pending;
+  tally = tally;
+  bears = bears_as v.role;
+  given = λ t. has_number t v.given;
+  out = λ t. has_number t v.given && not (has_number t v.joined);
+}
+
+-- whatever came back was given out
+abbrev pub is_given : List ℕ → List ℕ → Bool
+is_given given [] = true
+is_given given (t ∷ ts) = has_number t given && is_given given ts
