@@ -54,10 +54,12 @@ module _ (plan : PlanView) (cell : ℕ → Cell) (sets : ℕ → ℕ → FactSet
 
   -- what was lifted is the place's own, where nothing else was planted
   own_lift : ((p : ℕ) → p < length plan.places → window_at plan p ≡ 0 → (cell p).tag ≡ 0) → (s p : ℕ) → Has (s, p) v.lifted → (p < length plan.places) × (s ≡ window_at plan p)
-  own_lift whole s p h = let k = (r.kept id v at).lifted s p h in let some_times = times_some s p v.lifted h in
-      (k.0, dite (ℕ_discrete (window_at plan p) 0)
-      (λ e. let tag = whole p k.0 e in let pos = k.1 in let never = (end_once s p k.0 pos).early (omega arith) in absurd (omega arith))
-      (λ n. sym (over_window plan s p r.is_plan (omega arith) k.2)))
+  own_lift whole s p h = let k = (r.kept id v at).lifted s p h in let some_times = times_some s p v.lifted h in (
+    k.0,
+    dite (ℕ_discrete (window_at plan p) 0)
+        (λ e. let tag = whole p k.0 e in let pos = k.1 in let never = (end_once s p k.0 pos).early (omega arith) in absurd (omega arith))
+        (λ n. sym (over_window plan s p r.is_plan (omega arith) k.2)),
+  )
 
   module _ (p : ℕ) (l : p < length plan.places) (w : 0 < window_at plan p) where
     -- a full set's breakpoint was taken out, where the root met free or tried to lift what it met full
