@@ -1,5 +1,5 @@
 -- The rule in the end, when all passes are joined to the root.
-use Rattle.std.proofs.Common.{◌≡◌, ◌≢◌, ◌⊎◌, ℕ, ◌+◌, ◌-◌, ◌*◌, ◌<◌, ◌≤◌, Bool, true, false, not, ◌&&◌, nat_eq, nat_lt, if◌then◌else◌, Option, Some, None, List, length, sym, refl, ap, ◌∙◌, subst, inl, inr, ⊎_elim, arith, lt-ltb, lt_of_not-le}
+use Rattle.std.proofs.Common.{◌≡◌, ◌≢◌, ◌⊎◌, ℕ, ◌<◌, ◌≤◌, Bool, true, false, ◌&&◌, nat_lt, if◌then◌else◌, List, length, sym, refl, ap, ◌∙◌, subst, inl, inr, ⊎_elim, arith, lt-ltb, lt_of_not-le}
 use mathlib.Core.Option.{some, some-injective}
 use mathlib.Core.Logic.{dite}
 use native.Mathlib.Decide.{ℕ_discrete, dec_le}
@@ -11,14 +11,14 @@ use Rattle.module_area.specs.declared.cells.Cell.{Cell}
 use Rattle.module_area.specs.declared.parties.View.{View}
 use Rattle.module_area.specs.declared.parties.Role.{Role}
 use Rattle.module_area.specs.declared.parties.Role.TheVariants.{Root, Task, Spent}
-use Rattle.module_area.specs.PlanView.{PlanView, IsPlan, original_at, kind_at, window_at, is_over}
-use Rattle.module_area.specs.Parties.{Has, times, total, window_tag, blank}
+use Rattle.module_area.specs.PlanView.{PlanView, IsPlan, original_at, kind_at, window_at}
+use Rattle.module_area.specs.Parties.{Has, times, blank}
 use Rattle.module_area.specs.Held.{untouched, planted, lifted, IsForm, Once, IsRole, Owes, Held}
 use Rattle.module_area.specs.Counts.{count_below}
 use Rattle.module_area.proofs.PlanLemmas.{no_controlled, over_window}
 use Rattle.module_area.proofs.PartyLemmas.{total_only}
 use Rattle.module_area.proofs.StepLemmas.{first_only, full_some}
-use Rattle.shared_area.proofs.SumLemmas.{sum_below, counts_sum, length_sum, times_none, times_some}
+use Rattle.shared_area.proofs.SumLemmas.{counts_sum, length_sum, times_none, times_some}
 
 abbrev one_of : Bool → ℕ
 one_of b = if b then 1 else 0

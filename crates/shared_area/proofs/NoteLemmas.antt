@@ -1,5 +1,5 @@
 -- The notes that a contract sees after each step.
-use Rattle.std.proofs.Common.{◌≡◌, ◌≢◌, ◌⊎◌, ℕ, ◌+◌, ◌-◌, ◌*◌, ◌/◌, ◌%◌, ◌<◌, ◌≤◌, Bool, true, false, not, ◌&&◌, ◌||◌, nat_eq, if◌then◌else◌, Option, Some, None, List, [], ◌∷◌, ◌++◌, length, max, unwrap_or, sym, refl, ap, ◌∙◌, subst, inl, inr, ⊎_elim, arith, eqb-true, eq-eqb}
+use Rattle.std.proofs.Common.{◌≡◌, ◌⊎◌, ℕ, ◌+◌, ◌*◌, ◌%◌, ◌≤◌, Bool, true, false, not, ◌&&◌, ◌||◌, nat_eq, if◌then◌else◌, List, [], ◌∷◌, ◌++◌, max, unwrap_or, sym, refl, ap, ◌∙◌, subst, inl, inr, ⊎_elim, arith, eqb-true, eq-eqb}
 use mathlib.Core.Path.{fun_ext}
 use Rattle.cov_base.specs.declared.facts.Fact.{Fact}
 use Rattle.cov_base.specs.declared.facts.Fact.TheVariants.{Ran, Went, Stayed}
@@ -7,12 +7,11 @@ use Rattle.cov_base.specs.FactSet.{FactSet}
 use Rattle.cov_base.specs.Facts.{same_fact, is_full, with_fact}
 use Rattle.module_area.specs.declared.cells.Cell.{Cell}
 use Rattle.module_area.specs.declared.parties.View.{View}
-use Rattle.module_area.specs.declared.parties.Role.{Role}
-use Rattle.module_area.specs.declared.parties.Role.TheVariants.{Root, Task, Spent}
+use Rattle.module_area.specs.declared.parties.Role.TheVariants.{Task}
 use Rattle.module_area.specs.declared.tallies.Tally.{Tally}
 use Rattle.module_area.specs.PlanView.{PlanView, original_at, kind_at}
-use Rattle.module_area.specs.Parties.{Has, add_if, is_lifted, session_of, window_tag, last_tag, fetching, marking, lifting, planting, giving, newcomer, joining, task_of}
-use Rattle.module_area.specs.Notes.{Notes, is_free_under, after_fetch, after_mark, after_lift, after_plant, after_split, split_notes, after_join, bearer}
+use Rattle.module_area.specs.Parties.{Has, add_if, is_lifted, session_of, window_tag, last_tag, fetching, marking, planting, giving, joining, task_of}
+use Rattle.module_area.specs.Notes.{is_free_under, after_fetch, after_mark, after_plant, after_split, after_join, bearer}
 use Rattle.module_area.proofs.Indices.{and_left, and_right, and_both, same_tests}
 use Rattle.module_area.proofs.FactLemmas.{same_fact-true}
 use Rattle.shared_area.specs.Told.{has_mark, has_pair, has_number, seen_at, bears_as, notes_in, is_given}
