@@ -19,7 +19,8 @@ use Rattle.shared_area.specs.Told.{is_given, has_number, bears_as, seen_at}
 use Rattle.shared_area.specs.Rule.{IsArea, Fetched, Marked, Lifted}
 use Rattle.shared_area.proofs.WordLemmas.{session_in-word_of, fact_in-bit_of}
 use Rattle.module_area.proofs.Indices.{and_both}
-use Rattle.shared_area.proofs.NoteLemmas.{or_left, more_given}
+use Rattle.module_area.proofs.StepLemmas.{or_left}
+use Rattle.shared_area.proofs.NoteLemmas.{more_given}
 use Rattle.shared_area.proofs.AnswerLemmas.{is_root}
 use Rattle.shared_area.proofs.TableLemmas.{row_within, row_of, column_of, fetch_allowed, mark_allowed, lift_allowed, plant_allowed}
 
