@@ -1,0 +1,17 @@
+//! Marks files: what the places of a session's modules have shown, as bytes.
+#![tactic(auto)]
+
+mod fault;
+mod marks;
+mod names;
+mod numbers;
+mod reading;
+mod rows;
+mod rules;
+mod writing;
+
+pub use fault::MarksFault;
+pub use marks::{MarkedModule, MarkedPlace, Marks};
+pub use rows::{module_row, place_row};
+pub use writing::write;
+
