@@ -1,10 +1,12 @@
 -- What bytes say where a marks file is expected: its fields in their order, and the first of them that is bad.
-use Rattle.std.specs.Prelude.{ℕ, zero, suc, ◌+◌, ◌*◌, Bool, ◌&&◌, nat_le, if◌then◌else◌, Option, Some, None, List, [], ◌∷◌, ◌++◌, length, take, drop, slice_index}
+use Rattle.std.specs.Prelude.{◌≡◌, ℕ, zero, suc, ◌+◌, ◌*◌, Bool, ◌&&◌, nat_le, if◌then◌else◌, Option, Some, None, List, [], ◌∷◌, ◌++◌, length, take, drop, slice_index}
 use Rattle.std.specs.Str.{bytes_eq}
 use Rattle.byteorder.specs.Endian.{big_number}
 use Rattle.cov_base.specs.FactSet.{facts_of_number}
 use Rattle.marks_file.specs.Marks.{MarkedView, kind_of_number, is_location, is_length, is_original, is_set, end_of, is_new_name, is_base, is_size, is_count, is_module_count}
 use Rattle.marks_file.specs.MarksFile.{magic}
+use Rattle.marks_file.specs.declared.fault.MarksFault.{MarksFault}
+use Rattle.marks_file.specs.declared.fault.MarksFault.TheVariants.{BadMarks, NoMemory}
 use Rattle.marks_file.specs.declared.marks.MarkedPlace.{MarkedPlace}
 
 -- the offset of a field, and whether the input has it whole and it keeps its rule
@@ -94,3 +96,8 @@ file_fields at bs =
 
 unfoldable pub marks_at : List ℕ → List MarkedView
 marks_at bs = modules_at (big_number 2 (drop 8 bs)) (drop 10 bs)
+
+-- a fault of these fields: the first bad one, or want of memory
+abbrev pub IsFault : List Field → MarksFault → Type 0
+IsFault fields (BadMarks offset) = first_bad fields ≡ Some offset
+IsFault fields NoMemory = Unit {0}

@@ -12,6 +12,7 @@ mod writing;
 
 pub use fault::MarksFault;
 pub use marks::{MarkedModule, MarkedPlace, Marks};
+pub use reading::read;
 pub use rows::{module_row, place_row};
 pub use writing::write;
 
