@@ -6,3 +6,4 @@ pub mod SpellLemmas
 pub mod LoopLemmas
 pub mod ModuleLemmas
 pub mod ModuleLoop
+pub mod FileLemmas

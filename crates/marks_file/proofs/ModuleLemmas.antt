@@ -1,9 +1,9 @@
 -- Modules and whole files that are read spell the bytes that they were read from, and what was spelled is read back.
-use Rattle.std.proofs.Common.{◌≡◌, ℕ, ◌+◌, ◌-◌, ◌*◌, ◌≤◌, ◌<◌, ◌^◌, zero, suc, Bool, None, true, false, ◌&&◌, nat_le, List, [], ◌∷◌, ◌++◌, length, take, drop, replicate, slice_index, refl, ap, sym, ◌∙◌, arith, append_assoc, length-append, length-drop, length-replicate}
+use Rattle.std.proofs.Common.{◌≡◌, ℕ, ◌+◌, ◌-◌, ◌*◌, ◌≤◌, ◌<◌, ◌^◌, zero, suc, Bool, None, true, false, ◌&&◌, nat_le, List, [], ◌∷◌, ◌++◌, length, take, drop, replicate, slice_index, refl, ap, sym, ◌∙◌, arith, append_assoc, length-append, length-drop}
 use Rattle.std.specs.Str.{bytes_eq}
 use Rattle.std.specs.List.{flat_map, list_all}
 use Rattle.std.specs.Io.{StartsWith}
-use Rattle.std.proofs.lemmas.List.{drop-drop, take-append-drop}
+use Rattle.std.proofs.lemmas.List.{drop-drop, take-append-drop, length-replicate}
 use Rattle.std.proofs.Math.Seq.{take-append_seam, drop-append_seam}
 use Rattle.byteorder.specs.Endian.{big_number, big_bytes}
 use Rattle.byteorder.specs.Numbers.{big_number-reads_back}
@@ -145,10 +145,14 @@ file_spelled at bs u h =
     }
 
 short_name : (word : List ℕ) → is_name word ≡ true → nat_le (length word) 8 ≡ true
-short_name word h = ?
+short_name word h =
+    let t1 = nat_le 1 (length word) in
+    let t2 = nat_le (length word) 8 in
+    let t3 = is_letter (slice_index word 0) in
+    both-right t1 t2 (both-left (t1 && t2) t3 (both-left ((t1 && t2) && t3) (list_all is_name_byte word) h))
 
 -- a name filled with blanks has 8 bytes
-length-filled : (name : List ℕ) → is_filled name ≡ true → length name ≡ 8
+pub length-filled : (name : List ℕ) → is_filled name ≡ true → length name ≡ 8
 length-filled name h =
     let whole = filled_name name h in
     let word = unpadded name in
@@ -164,7 +168,7 @@ pub record IsHeaderRead (name : List ℕ) (base size n : ℕ) (rest bs : List �
   pub rest_is : drop 20 bs ≡ rest
   pub room : 20 ≤ length bs
 
-header_read_back : (name : List ℕ) (base size n : ℕ) (rest : List ℕ) → length name ≡ 8 → base < 256 ^ 4 → size < 256 ^ 4 → n < 256 ^ 4 → IsHeaderRead name base size n rest ((name ++ (big_bytes 4 base ++ (big_bytes 4 size ++ big_bytes 4 n))) ++ rest)
+pub header_read_back : (name : List ℕ) (base size n : ℕ) (rest : List ℕ) → length name ≡ 8 → base < 256 ^ 4 → size < 256 ^ 4 → n < 256 ^ 4 → IsHeaderRead name base size n rest ((name ++ (big_bytes 4 base ++ (big_bytes 4 size ++ big_bytes 4 n))) ++ rest)
 header_read_back [] base size n rest l hb hs hn = absurd (omega arith)
 header_read_back (a ∷ []) base size n rest l hb hs hn = absurd (omega arith)
 header_read_back (a ∷ b ∷ []) base size n rest l hb hs hn = absurd (omega arith)

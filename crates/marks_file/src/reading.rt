@@ -6,7 +6,7 @@ ghost use Rattle.std.specs.Str.{bytes_eq};
 ghost use Rattle.byteorder.specs.Endian.{big_number};
 ghost use Rattle.marks_file.specs.Marks.{MarkedView, is_location, is_length, is_original, is_set, kind_of_number, is_base, is_size, is_count, is_module_count, place_count, are_marks};
 ghost use Rattle.marks_file.specs.MarksFile.{magic, module_bytes, file_bytes};
-ghost use Rattle.marks_file.specs.Reading.{first_bad, place_at, place_fields, places_at, places_fields, header_fields, module_at, module_fields, modules_at, modules_fields, count_at, IsFault, file_fields};
+ghost use Rattle.marks_file.specs.Reading.{first_bad, place_at, place_fields, places_at, places_fields, header_fields, module_at, module_fields, modules_at, modules_fields, count_at, IsFault, file_fields, marks_at};
 
 use crate::fault::{BadField, MarksFault};
 use crate::marks::{MarkedModule, MarkedPlace, Marks};
@@ -251,13 +251,41 @@ fn read_modules(
 fn has_magic(bytes: &[u8]) -> bool
     ensures { result ≡ (nat_le 8 (length bytes.now) && bytes_eq (take 8 bytes.now) magic) }
 {
-    bytes.len() >= 8 && bytes[..8] == *b"S370COV1"
+    if bytes.len() < 8 {
+        return false;
+    }
+    let magic = &bytes[..8];
+    magic == b"S370COV1".as_slice()
 }
 
 fn has_module_count(bytes: &[u8]) -> bool
     ensures { result ≡ (nat_le 10 (length bytes.now) && is_module_count (big_number 2 (drop 8 bytes.now))) }
 {
     bytes.len() >= 10 && is_module_count(half_at(bytes, 8))
+}
+
+/// The file that begins there, and the offset past it.
+fn read_file(
+    alloc: Global,
+    input: &[u8],
+    from: usize,
+) -> Result<(Marks, usize), MarksFault>
+    requires { from ≤ length input.now }
+    ensures value { IfOk result (λ r. r.0 ≡ marks_at (drop from input.now)) }
+    ensures file { IfOk result (λ r. StartsWith (drop from input.now) (file_bytes r.0)) }
+    ensures end { IfOk result (λ r. r.1 ≡ from + length (file_bytes r.0)) }
+    ensures good { OnOk result (first_bad (file_fields from (drop from input.now)) ≡ None) }
+    ensures bad { IfErr result (IsFault (file_fields from (drop from input.now))) }
+{
+    let bytes = rest_of(input, from);
+    if !has_magic(bytes) {
+        return Err(MarksFault::BadMarks { offset: from });
+    }
+    if !has_module_count(bytes) {
+        return Err(MarksFault::BadMarks { offset: from + 8 });
+    }
+    let (modules, end) = read_modules(alloc, input, from + 10, half_at(bytes, 8))?;
+    Ok((Marks { modules }, end))
 }
 
 /// Reads the marks file with which the input goes on from there, whatever follows it, and gives the offset past it. A
@@ -277,13 +305,5 @@ pub fn read(alloc: Global, input: &[u8], from: usize) -> Result<(Marks, usize), 
     ensures bad { IfErr result (IsFault (file_fields from (drop from input.now))) }
     ensures one { (m n : List MarkedView) → are_marks m ≡ true → are_marks n ≡ true → StartsWith (file_bytes m) (file_bytes n) → m ≡ n }
 {
-    let bytes = rest_of(input, from);
-    if !has_magic(bytes) {
-        return Err(MarksFault::BadMarks { offset: from });
-    }
-    if !has_module_count(bytes) {
-        return Err(MarksFault::BadMarks { offset: from + 8 });
-    }
-    let (modules, end) = read_modules(alloc, input, from + 10, half_at(bytes, 8))?;
-    Ok((Marks { modules }, end))
+    read_file(alloc, input, from)
 }
