@@ -124,12 +124,12 @@ header_none at earlier bs r =
 
 -- what the reader's tests say
 pub header_read : (at : ℕ) (earlier : List MarkedView) (bs : List ℕ) (before base : ℕ) (b s c : Bool)
-  → before ≡ place_count earlier → base ≡ big_number 4 (drop 8 bs)
-  → (nat_le 8 (length bs) && is_new_name earlier (take 8 bs)) ≡ true
-  → b ≡ (nat_le 12 (length bs) && is_base (big_number 4 (drop 8 bs))) → b ≡ true
-  → s ≡ (nat_le 16 (length bs) && is_size earlier base (big_number 4 (drop 12 bs))) → s ≡ true
-  → c ≡ (nat_le 20 (length bs) && nat_le (before + count_at bs) 65536) → c ≡ true
-  → first_bad (header_fields at earlier bs) ≡ None
+    → before ≡ place_count earlier → base ≡ big_number 4 (drop 8 bs)
+    → (nat_le 8 (length bs) && is_new_name earlier (take 8 bs)) ≡ true
+    → b ≡ (nat_le 12 (length bs) && is_base (big_number 4 (drop 8 bs))) → b ≡ true
+    → s ≡ (nat_le 16 (length bs) && is_size earlier base (big_number 4 (drop 12 bs))) → s ≡ true
+    → c ≡ (nat_le 20 (length bs) && nat_le (before + count_at bs) 65536) → c ≡ true
+    → first_bad (header_fields at earlier bs) ≡ None
 unfolding is_count
 header_read at earlier bs before base b s c e f name bt bh st sh ct ch =
     header_none at earlier bs (record {

@@ -77,13 +77,13 @@ module_read at earlier m rest h =
     let whole : IsModuleRead at earlier m rest bs = record {
       value = same_module (take 8 bs) (big_number 4 (drop 8 bs)) (big_number 4 (drop 12 bs)) (places_at (count_at bs) (drop 20 bs)) m hr.name_is hr.base_is hr.size_is places;
       good = first_none (header_fields at earlier bs) (places_fields (at + 20) (big_number 4 (drop 12 bs)) 0 (count_at bs) (drop 20 bs)) record_none
-        ∙ (ap (λ z. first_bad (places_fields (at + 20) z 0 (count_at bs) (drop 20 bs))) hr.size_is
-        ∙ (ap (λ k. first_bad (places_fields (at + 20) m.size 0 k (drop 20 bs))) hr.count_is
-        ∙ (ap (λ t. first_bad (places_fields (at + 20) m.size 0 n t)) hr.rest_is ∙ ps.good)));
+          ∙ (ap (λ z. first_bad (places_fields (at + 20) z 0 (count_at bs) (drop 20 bs))) hr.size_is
+          ∙ (ap (λ k. first_bad (places_fields (at + 20) m.size 0 k (drop 20 bs))) hr.count_is
+          ∙ (ap (λ t. first_bad (places_fields (at + 20) m.size 0 n t)) hr.rest_is ∙ ps.good)));
       rest_is = ap (λ k. drop (module_size k) bs) hr.count_is
-        ∙ (sym (drop-drop (9 * n) 20 bs)
-        ∙ (ap (λ t. drop (9 * n) t) hr.rest_is
-        ∙ (ap (λ k. drop k after) (sym (length-places m.places)) ∙ drop-append_seam flat rest)));
+          ∙ (sym (drop-drop (9 * n) 20 bs)
+          ∙ (ap (λ t. drop (9 * n) t) hr.rest_is
+          ∙ (ap (λ k. drop k after) (sym (length-places m.places)) ∙ drop-append_seam flat rest)));
     } in
     subst (λ t. IsModuleRead at earlier m rest t) (sym (append_assoc (module_row m) flat rest)) whole
 
@@ -107,9 +107,9 @@ modules_read at earlier (m ∷ ms) rest h =
     record {
       value = ap (λ t. modules_at (suc n) t) joined ∙ joined_modules (module_at bs) m (modules_at n (drop size bs)) ms one.value (ap (λ t. modules_at n t) one.rest_is ∙ more.value);
       good = ap (λ t. first_bad (modules_fields at earlier (suc n) t)) joined
-        ∙ (first_none (module_fields at earlier bs) (modules_fields (at + size) (earlier ++ module_at bs ∷ []) n (drop size bs)) one.good
-        ∙ (ap (λ x. first_bad (modules_fields (at + size) (earlier ++ x ∷ []) n (drop size bs))) one.value
-        ∙ (ap (λ t. first_bad (modules_fields (at + size) (earlier ++ m ∷ []) n t)) one.rest_is ∙ more.good)));
+          ∙ (first_none (module_fields at earlier bs) (modules_fields (at + size) (earlier ++ module_at bs ∷ []) n (drop size bs)) one.good
+          ∙ (ap (λ x. first_bad (modules_fields (at + size) (earlier ++ x ∷ []) n (drop size bs))) one.value
+          ∙ (ap (λ t. first_bad (modules_fields (at + size) (earlier ++ m ∷ []) n t)) one.rest_is ∙ more.good)));
     }
 
 -- the head's two fields
@@ -122,7 +122,7 @@ unfolding file_fields
 count_bad at bs h k = rw (h, k) refl
 
 pub head_good : (at : ℕ) (bs : List ℕ) → (nat_le 8 (length bs) && bytes_eq (take 8 bs) magic) ≡ true → (nat_le 10 (length bs) && is_module_count (big_number 2 (drop 8 bs))) ≡ true
-  → first_bad (file_fields at bs) ≡ first_bad (modules_fields (at + 10) [] (big_number 2 (drop 8 bs)) (drop 10 bs))
+    → first_bad (file_fields at bs) ≡ first_bad (modules_fields (at + 10) [] (big_number 2 (drop 8 bs)) (drop 10 bs))
 unfolding file_fields
 head_good at bs h k = rw (h, k) refl
 
@@ -139,8 +139,8 @@ file_head at ms bs after first room count rest few read =
     record {
       value = ap (λ k. modules_at k (drop 10 bs)) count ∙ (ap (λ t. modules_at (length ms) t) rest ∙ read.value);
       good = head_good at bs t1 t2
-        ∙ (ap (λ k. first_bad (modules_fields (at + 10) [] k (drop 10 bs))) count
-        ∙ (ap (λ t. first_bad (modules_fields (at + 10) [] (length ms) t)) rest ∙ read.good));
+          ∙ (ap (λ k. first_bad (modules_fields (at + 10) [] k (drop 10 bs))) count
+          ∙ (ap (λ t. first_bad (modules_fields (at + 10) [] (length ms) t)) rest ∙ read.good));
     }
 
 pub file_read : (at : ℕ) (ms : List MarkedView) (rest : List ℕ) → are_marks ms ≡ true → IsFileRead at ms (file_bytes ms ++ rest)
@@ -171,16 +171,16 @@ sure_fault at ms bs (BadMarks o) bad h starts =
 
 -- the modules stand behind the first ten bytes
 pub modules_behind : (input : List ℕ) (from count : ℕ) → count ≡ big_number 2 (drop 8 (drop from input))
-  → (nat_le 8 (length (drop from input)) && bytes_eq (take 8 (drop from input)) magic) ≡ true → (nat_le 10 (length (drop from input)) && is_module_count (big_number 2 (drop 8 (drop from input)))) ≡ true
-  → first_bad (file_fields from (drop from input)) ≡ first_bad (modules_fields (from + 10) [] count (drop (from + 10) input))
+    → (nat_le 8 (length (drop from input)) && bytes_eq (take 8 (drop from input)) magic) ≡ true → (nat_le 10 (length (drop from input)) && is_module_count (big_number 2 (drop 8 (drop from input)))) ≡ true
+    → first_bad (file_fields from (drop from input)) ≡ first_bad (modules_fields (from + 10) [] count (drop (from + 10) input))
 modules_behind input from count e h k =
     head_good from (drop from input) h k
     ∙ (ap (λ n. first_bad (modules_fields (from + 10) [] n (drop 10 (drop from input)))) (sym e)
     ∙ ap (λ t. first_bad (modules_fields (from + 10) [] count t)) (drop-drop 10 from input))
 
 pub fault_behind : (input : List ℕ) (from count : ℕ) (fault : MarksFault)
-  → first_bad (file_fields from (drop from input)) ≡ first_bad (modules_fields (from + 10) [] count (drop (from + 10) input))
-  → IsFault (modules_fields (from + 10) [] count (drop (from + 10) input)) fault → IsFault (file_fields from (drop from input)) fault
+    → first_bad (file_fields from (drop from input)) ≡ first_bad (modules_fields (from + 10) [] count (drop (from + 10) input))
+    → IsFault (modules_fields (from + 10) [] count (drop (from + 10) input)) fault → IsFault (file_fields from (drop from input)) fault
 fault_behind input from count NoMemory e bad = tt
 fault_behind input from count (BadMarks o) e bad = e ∙ bad
 

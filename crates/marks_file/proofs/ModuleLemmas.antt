@@ -30,10 +30,10 @@ word_at k m bs e h u =
 header_spelled : (bs : List ℕ) → 20 ≤ length bs → AreBytes bs → (take 8 bs ++ (big_bytes 4 (big_number 4 (drop 8 bs)) ++ (big_bytes 4 (big_number 4 (drop 12 bs)) ++ big_bytes 4 (big_number 4 (drop 16 bs))))) ++ drop 20 bs ≡ bs
 header_spelled bs h u =
     chain (take 8 bs) (big_bytes 4 (big_number 4 (drop 8 bs))) (big_bytes 4 (big_number 4 (drop 12 bs))) (big_bytes 4 (big_number 4 (drop 16 bs))) (drop 20 bs) bs (drop 8 bs) (drop 12 bs) (drop 16 bs)
-      (word_at 16 20 bs refl h u)
-      (word_at 12 16 bs refl (omega arith) u)
-      (word_at 8 12 bs refl (omega arith) u)
-      (take-append-drop 8 bs)
+    (word_at 16 20 bs refl h u)
+    (word_at 12 16 bs refl (omega arith) u)
+    (word_at 8 12 bs refl (omega arith) u)
+    (take-append-drop 8 bs)
 
 -- what good fields of a module spell
 pub record IsModuleSpelled (earlier : List MarkedView) (bs : List ℕ) : Type 0 where
@@ -61,9 +61,9 @@ module_spelled at earlier bs u h =
       is = both _ _ r.name (both _ _ r.base (both _ _ r.size (both _ _ (ap (λ k. is_count earlier k) many ∙ r.count) ps.are)));
       count = le_of_test (place_count earlier + n) 65536 r.count;
       spelled = append_assoc (module_row (module_at bs)) (flat_map place_bytes (places_at n (drop 20 bs))) (drop (module_size n) bs)
-        ∙ (ap (λ t. module_row (module_at bs) ++ (flat_map place_bytes (places_at n (drop 20 bs)) ++ t)) (sym past)
-        ∙ (ap (λ t. module_row (module_at bs) ++ t) ps.spelled
-        ∙ (ap (λ t. t ++ drop 20 bs) row ∙ header_spelled bs room u)));
+          ∙ (ap (λ t. module_row (module_at bs) ++ (flat_map place_bytes (places_at n (drop 20 bs)) ++ t)) (sym past)
+          ∙ (ap (λ t. module_row (module_at bs) ++ t) ps.spelled
+          ∙ (ap (λ t. t ++ drop 20 bs) row ∙ header_spelled bs room u)));
     }
 
 pub length-modules_at : (n : ℕ) (bs : List ℕ) → length (modules_at n bs) ≡ n
@@ -88,7 +88,7 @@ modules_spelled at earlier (suc n) bs u h =
       are = both _ _ one.is more.are;
       rest = more.rest;
       spelled = append_assoc (module_bytes (module_at bs)) (flat_map module_bytes (modules_at n (drop size bs))) more.rest
-        ∙ (ap (λ t. module_bytes (module_at bs) ++ t) more.spelled ∙ one.spelled);
+          ∙ (ap (λ t. module_bytes (module_at bs) ++ t) more.spelled ∙ one.spelled);
     }
 
 -- what the bytes say where no field is bad
@@ -137,7 +137,7 @@ file_spelled at bs u h =
     let room = head.room in
     let past : drop 10 bs ≡ drop 2 (drop 8 bs) = sym (drop-drop 2 8 bs) in
     let count : big_bytes 2 (length (modules_at n (drop 10 bs))) ++ drop 10 bs ≡ drop 8 bs =
-      ap (λ k. big_bytes 2 k ++ drop 10 bs) many ∙ (ap (λ t. big_bytes 2 n ++ t) past ∙ half_of (drop 8 bs) (omega (arith, length-drop 8 bs)) (bytes_later 8 bs u)) in
+    ap (λ k. big_bytes 2 k ++ drop 10 bs) many ∙ (ap (λ t. big_bytes 2 n ++ t) past ∙ half_of (drop 8 bs) (omega (arith, length-drop 8 bs)) (bytes_later 8 bs u)) in
     let begins : magic ++ drop 8 bs ≡ bs = ap (λ t. t ++ drop 8 bs) (sym head.magic_is) ∙ take-append-drop 8 bs in
     record {
       are = both _ _ (ap is_module_count many ∙ head.count) ms.are;

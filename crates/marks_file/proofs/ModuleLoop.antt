@@ -42,8 +42,8 @@ unfolding module_at
 places_of bs = length-places_at (count_at bs) (drop 20 bs)
 
 pub modules_step : (input : List ℕ) (from count at i before n : ℕ) (modules : List MarkedView) (m : MarkedView) → AreBytes input → ModulesSoFar input from count at i before modules → i < count
-  → first_bad (module_fields at modules (drop at input)) ≡ None → m ≡ module_at (drop at input) → n ≡ length m.places
-  → ModulesSoFar input from count (at + (20 + 9 * n)) (i + 1) (before + n) (modules ++ m ∷ [])
+    → first_bad (module_fields at modules (drop at input)) ≡ None → m ≡ module_at (drop at input) → n ≡ length m.places
+    → ModulesSoFar input from count (at + (20 + 9 * n)) (i + 1) (before + n) (modules ++ m ∷ [])
 modules_step input from count at i before n modules m u s h good is many =
     let k : count - i ≡ suc (count - (i + 1)) = omega arith in
     let bs = drop at input in
@@ -60,15 +60,15 @@ modules_step input from count at i before n modules m u s h good is many =
     let next : ModulesSoFar input from count (at + size) (i + 1) (before + n) (modules ++ m ∷ []) = record {
       inside = omega (arith, room, length-drop at input, inside);
       fields = s.fields
-        ∙ (ap (λ j. first_bad (modules_fields at modules j bs)) k
-        ∙ (first_none (module_fields at modules bs) (modules_fields (at + size) (modules ++ module_at bs ∷ []) left (drop size bs)) good
-        ∙ (ap (λ x. first_bad (modules_fields (at + size) (modules ++ x ∷ []) left (drop size bs))) (sym is)
-        ∙ ap (λ t. first_bad (modules_fields (at + size) (modules ++ m ∷ []) left t)) past)));
+          ∙ (ap (λ j. first_bad (modules_fields at modules j bs)) k
+          ∙ (first_none (module_fields at modules bs) (modules_fields (at + size) (modules ++ module_at bs ∷ []) left (drop size bs)) good
+          ∙ (ap (λ x. first_bad (modules_fields (at + size) (modules ++ x ∷ []) left (drop size bs))) (sym is)
+          ∙ ap (λ t. first_bad (modules_fields (at + size) (modules ++ m ∷ []) left t)) past)));
       value = s.value
-        ∙ (ap (λ j. modules ++ modules_at j bs) k
-        ∙ (ap (λ x. modules ++ (x ∷ modules_at left (drop size bs))) (sym is)
-        ∙ (ap (λ t. modules ++ (m ∷ modules_at left t)) past
-        ∙ sym (append_assoc modules (m ∷ []) (modules_at left (drop (at + size) input))))));
+          ∙ (ap (λ j. modules ++ modules_at j bs) k
+          ∙ (ap (λ x. modules ++ (x ∷ modules_at left (drop size bs))) (sym is)
+          ∙ (ap (λ t. modules ++ (m ∷ modules_at left t)) past
+          ∙ sym (append_assoc modules (m ∷ []) (modules_at left (drop (at + size) input))))));
       places = omega (arith, s.places, place_count-append modules m, many);
       few = omega (arith, s.places, fits, same);
       end = omega (arith, s.end, ap length (flat_map-append module_bytes modules (m ∷ [])), length-append (flat_map module_bytes modules) (flat_map module_bytes (m ∷ [])), length-append (module_bytes m) [], long);
@@ -76,7 +76,7 @@ modules_step input from count at i before n modules m u s h good is many =
     rw here next
 
 pub modules_stop : (input : List ℕ) (from count at i before : ℕ) (modules : List MarkedView) (fault : MarksFault) → ModulesSoFar input from count at i before modules → i < count
-  → IsFault (module_fields at modules (drop at input)) fault → IsFault (modules_fields from [] count (drop from input)) fault
+    → IsFault (module_fields at modules (drop at input)) fault → IsFault (modules_fields from [] count (drop from input)) fault
 modules_stop input from count at i before modules NoMemory s h bad = tt
 modules_stop input from count at i before modules (BadMarks o) s h bad =
     let k : count - i ≡ suc (count - (i + 1)) = omega arith in
@@ -87,13 +87,13 @@ modules_stop input from count at i before modules (BadMarks o) s h bad =
     ∙ first_some (module_fields at modules bs) (modules_fields (at + size) (modules ++ module_at bs ∷ []) (count - (i + 1)) (drop size bs)) o bad)
 
 pub modules_good : (input : List ℕ) (from count at i before : ℕ) (modules : List MarkedView) → ModulesSoFar input from count at i before modules → count ≤ i
-  → first_bad (modules_fields from [] count (drop from input)) ≡ None
+    → first_bad (modules_fields from [] count (drop from input)) ≡ None
 modules_good input from count at i before modules s h =
     let k : count - i ≡ 0 = omega arith in
     s.fields ∙ ap (λ j. first_bad (modules_fields at modules j (drop at input))) k
 
 pub modules_all : (input : List ℕ) (from count at i before : ℕ) (modules : List MarkedView) → ModulesSoFar input from count at i before modules → count ≤ i
-  → modules ≡ modules_at count (drop from input)
+    → modules ≡ modules_at count (drop from input)
 modules_all input from count at i before modules s h =
     let k : count - i ≡ 0 = omega arith in
     sym (s.value ∙ (ap (λ j. modules ++ modules_at j (drop at input)) k ∙ append-nil modules))

@@ -104,10 +104,10 @@ place_spelled size end (a ∷ b ∷ c ∷ d ∷ e ∷ f ∷ g ∷ []) u r = let 
 place_spelled size end (a ∷ b ∷ c ∷ d ∷ e ∷ f ∷ g ∷ i ∷ []) u r = let room : 9 ≤ 8 = r.room in absurd (omega arith)
 place_spelled size end (a ∷ b ∷ c ∷ d ∷ e ∷ f ∷ g ∷ i ∷ j ∷ bs) u r =
     joined_place (big_bytes 4 (big_number 4 (a ∷ b ∷ c ∷ d ∷ []))) (big_bytes 2 (big_number 2 (g ∷ i ∷ []))) e (kind_number (kind_of_number f)) (number_of_facts (facts_of_number j)) a b c d f g i j bs
-      (word_spelled a b c d [] (u 0) (u 1) (u 2) (u 3))
-      (kind_spelled f r.kind)
-      (half_spelled g i [] (u 6) (u 7))
-      (number_of_facts-facts_of_number j (set_small (kind_of_number f) j r.set))
+    (word_spelled a b c d [] (u 0) (u 1) (u 2) (u 3))
+    (kind_spelled f r.kind)
+    (half_spelled g i [] (u 6) (u 7))
+    (number_of_facts-facts_of_number j (set_small (kind_of_number f) j r.set))
 
 pub place_is : (size end : ℕ) (bs : List ℕ) → IsPlaceRecord size end bs → is_place size end (place_at bs) ≡ true
 unfolding place_at
@@ -191,8 +191,8 @@ places_spelled at size end (suc n) bs u h =
       room = omega (arith, length-drop 9 bs, left);
       are = both _ _ (place_is size end bs r) more.are;
       spelled = append_assoc (place_bytes (place_at bs)) (flat_map place_bytes (places_at n (drop 9 bs))) (drop (9 * suc n) bs)
-        ∙ (ap (λ t. place_bytes (place_at bs) ++ (flat_map place_bytes (places_at n (drop 9 bs)) ++ t)) (sym past)
-        ∙ (ap (λ t. place_bytes (place_at bs) ++ t) more.spelled ∙ one));
+          ∙ (ap (λ t. place_bytes (place_at bs) ++ (flat_map place_bytes (places_at n (drop 9 bs)) ++ t)) (sym past)
+          ∙ (ap (λ t. place_bytes (place_at bs) ++ t) more.spelled ∙ one));
     }
 
 -- what was spelled is read back

@@ -16,3 +16,5 @@ pub use reading::read;
 pub use rows::{module_row, place_row};
 pub use writing::write;
 
+#[cfg(test)]
+mod tests;

@@ -12,7 +12,9 @@ use crate::fault::{BadField, MarksFault};
 use crate::marks::{MarkedModule, MarkedPlace, Marks};
 use crate::names::new_name;
 use crate::numbers::{kind_of_number, set_of_number};
-use crate::rules::{is_base, is_count, is_length, is_location, is_module_count, is_original, is_set, is_size};
+use crate::rules::{
+    is_base, is_count, is_length, is_location, is_module_count, is_original, is_set, is_size,
+};
 use byteorder::{BigEndian, ByteOrder};
 use cov_base::{Kind, Name};
 use std::alloc::Global;
@@ -265,11 +267,7 @@ fn has_module_count(bytes: &[u8]) -> bool
 }
 
 /// The file that begins there, and the offset past it.
-fn read_file(
-    alloc: Global,
-    input: &[u8],
-    from: usize,
-) -> Result<(Marks, usize), MarksFault>
+fn read_file(alloc: Global, input: &[u8], from: usize) -> Result<(Marks, usize), MarksFault>
     requires { from ≤ length input.now }
     ensures value { IfOk result (λ r. r.0 ≡ marks_at (drop from input.now)) }
     ensures file { IfOk result (λ r. StartsWith (drop from input.now) (file_bytes r.0)) }
