@@ -80,7 +80,7 @@ facts_read true false true = refl
 facts_read false true true = refl
 facts_read true true true = refl
 
-set_read : (s : FactSet) → facts_of_number (number_of_facts s) ≡ s
+pub set_read : (s : FactSet) → facts_of_number (number_of_facts s) ≡ s
 set_read s = facts_read s.ran s.went s.stayed
 
 -- a place's bytes, field by field

@@ -1,4 +1,6 @@
 //! A file of one module and two places: read, written, cut short anywhere, and each of its rules broken.
+ghost use Rattle.std.specs.Prelude.{◌<◌};
+
 use crate::{MarksFault, place_row, read, write};
 use cov_base::{Fact, Kind};
 use cov_outside::MemSink;
