@@ -22,9 +22,9 @@ fn kept(row: &[u8]) -> ArrayVec<u8, 20>
     ensures { result.items ≡ row.now }
 {
     let mut bytes = ArrayVec::new();
-    for i in 0..row.len() {
-        bytes.push(row[i]);
-    }
+    let Ok(()) = bytes.try_extend_from_slice(row) else {
+        unreachable!()
+    };
     bytes
 }
 
@@ -92,11 +92,12 @@ pub(crate) fn first_difference(a: &[MarkedModule], b: &[MarkedModule]) -> Option
     let mut row: u32 = 0;
     let both = a.len().min(b.len());
     for i in 0..both {
-        let found = module_difference(row, &a[i], &b[i]);
-        if found.is_some() {
-            return found;
+        let left = &a[i];
+        let places = left.places.len() as u32;
+        if let Some(other) = module_difference(row, left, &b[i]) {
+            return Some(other);
         }
-        row += 1 + a[i].places.len() as u32;
+        row += 1 + places;
     }
     if a.len() == b.len() {
         return None;
