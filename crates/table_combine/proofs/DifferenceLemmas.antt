@@ -1,7 +1,6 @@
 -- The first row in which two tables differ, piece by piece.
-use Rattle.std.proofs.Common.{◌≡◌, ◌≢◌, ℕ, ◌+◌, ◌-◌, ◌≤◌, min, ◌<◌, ◌^◌, zero, suc, Bool, true, false, if◌then◌else◌, Option, Some, None, List, [], ◌∷◌, ◌++◌, length, drop, map, get_or, refl, ap, sym, ◌∙◌, arith, append_assoc, length-append, length-drop}
+use Rattle.std.proofs.Common.{◌≡◌, ◌≢◌, ℕ, ◌+◌, ◌-◌, ◌≤◌, min, ◌<◌, Bool, true, false, if◌then◌else◌, Option, Some, List, [], ◌∷◌, ◌++◌, length, drop, map, get_or, refl, ap, sym, ◌∙◌, arith, length-append, length-drop}
 use Rattle.std.specs.Str.{bytes_eq}
-use Rattle.std.specs.List.{flat_map}
 use Rattle.std.proofs.lemmas.List.{at_drop_more}
 use Rattle.std.proofs.lemmas.Slice.Eq.{bytes_eq-Decides}
 use Rattle.std.proofs.Math.Seq.{drop-append_seam}
@@ -79,15 +78,15 @@ places_step n a b i p q s la lb ep eq same =
     let db = here_places b i q lb eq in
     record {
       rows = λ xs ys. s.rows xs ys
-        ∙ (ap (λ z. first_difference (n + i) (map place_row z ++ xs) (map place_row (drop i b) ++ ys)) da
-        ∙ (ap (λ z. first_difference (n + i) (map place_row (p ∷ drop (i + 1) a) ++ xs) (map place_row z ++ ys)) db
-        ∙ (row_same (n + i) (place_row p) (place_row q) (map place_row (drop (i + 1) a) ++ xs) (map place_row (drop (i + 1) b) ++ ys) same
-        ∙ ap (λ k. first_difference k (map place_row (drop (i + 1) a) ++ xs) (map place_row (drop (i + 1) b) ++ ys)) (omega arith))));
+          ∙ (ap (λ z. first_difference (n + i) (map place_row z ++ xs) (map place_row (drop i b) ++ ys)) da
+          ∙ (ap (λ z. first_difference (n + i) (map place_row (p ∷ drop (i + 1) a) ++ xs) (map place_row z ++ ys)) db
+          ∙ (row_same (n + i) (place_row p) (place_row q) (map place_row (drop (i + 1) a) ++ xs) (map place_row (drop (i + 1) b) ++ ys) same
+          ∙ ap (λ k. first_difference k (map place_row (drop (i + 1) a) ++ xs) (map place_row (drop (i + 1) b) ++ ys)) (omega arith))));
       same = λ h. s.same (rw (da, db) (same, h));
     }
 
 pub places_stop : (n : ℕ) (a b : List MarkedPlace) (i : ℕ) (p q : MarkedPlace) → PlacesPassed n a b i → i < length a → i < length b → p ≡ get_or a i p → q ≡ get_or b i q → place_row p ≢ place_row q
-  → (xs ys : List (List ℕ)) → first_difference n (map place_row a ++ xs) (map place_row b ++ ys) ≡ Some (record { row = n + i; left = Some (place_row p); right = Some (place_row q) })
+    → (xs ys : List (List ℕ)) → first_difference n (map place_row a ++ xs) (map place_row b ++ ys) ≡ Some (record { row = n + i; left = Some (place_row p); right = Some (place_row q) })
 places_stop n a b i p q s la lb ep eq other xs ys =
     let da = here_places a i p la ep in
     let db = here_places b i q lb eq in
@@ -131,14 +130,14 @@ modules_step a b i n m k s la lb em ek same =
     record {
       total = omega (arith, ap row_total da);
       rows_are = s.rows_are
-        ∙ (ap (λ z. first_difference n (rows z) (rows (drop i b))) da
-        ∙ (ap (λ z. first_difference n (rows (m ∷ drop (i + 1) a)) (rows z)) db
-        ∙ module_same n m k (rows (drop (i + 1) a)) (rows (drop (i + 1) b)) same.0 same.1));
+          ∙ (ap (λ z. first_difference n (rows z) (rows (drop i b))) da
+          ∙ (ap (λ z. first_difference n (rows (m ∷ drop (i + 1) a)) (rows z)) db
+          ∙ module_same n m k (rows (drop (i + 1) a)) (rows (drop (i + 1) b)) same.0 same.1));
       same = λ h. s.same (rw (da, db) (same, h));
     }
 
 pub modules_stop : (a b : List MarkedView) (i n : ℕ) (m k : MarkedView) (d : Difference) → ModulesPassed a b i n → i < length a → i < length b → m ≡ get_or a i m → k ≡ get_or b i k
-  → ((xs ys : List (List ℕ)) → first_difference n (module_rows m ++ xs) (module_rows k ++ ys) ≡ Some d) → first_difference 0 (rows a) (rows b) ≡ Some d
+    → ((xs ys : List (List ℕ)) → first_difference n (module_rows m ++ xs) (module_rows k ++ ys) ≡ Some d) → first_difference 0 (rows a) (rows b) ≡ Some d
 modules_stop a b i n m k d s la lb em ek found =
     let da = here_modules a i m la em in
     let db = here_modules b i k lb ek in
@@ -161,7 +160,7 @@ left_over n (m ∷ ms) [] e o = refl
 left_over n (m ∷ ms) (k ∷ ks) e o = absurd (omega arith)
 
 pub modules_over : (a b : List MarkedView) (i n : ℕ) → ModulesPassed a b i n → length a ≢ length b → i ≤ length a → i ≤ length b → min (length a) (length b) ≤ i
-  → first_difference 0 (rows a) (rows b) ≡ Some (record { row = n; left = first_row (drop i a); right = first_row (drop i b) })
+    → first_difference 0 (rows a) (rows b) ≡ Some (record { row = n; left = first_row (drop i a); right = first_row (drop i b) })
 modules_over a b i n s other la lb h =
     let ea : length (drop i a) ≡ length a - i = length-drop i a in
     let eb : length (drop i b) ≡ length b - i = length-drop i b in

@@ -1,18 +1,18 @@
 -- The union of files of one table keeps the rules of marks files, and their rows.
-use Rattle.std.proofs.Common.{◌≡◌, ℕ, ◌+◌, ◌≤◌, ◌<◌, ◌%◌, zero, suc, Bool, true, false, ◌&&◌, ◌||◌, not, nat_eq, nat_lt, nat_le, List, [], ◌∷◌, ◌++◌, length, take, drop, map, get_or, slice_index, refl, ap, sym, ◌∙◌, subst, arith, min, ◌-◌, length-drop}
+use Rattle.std.proofs.Common.{◌≡◌, ℕ, ◌+◌, ◌≤◌, ◌%◌, suc, Bool, true, false, ◌&&◌, ◌||◌, not, nat_eq, nat_lt, nat_le, List, [], ◌∷◌, ◌++◌, length, take, drop, map, slice_index, refl, ap, sym, ◌∙◌, arith, min, length-drop}
 use Rattle.std.specs.Str.{bytes_eq}
-use Rattle.std.specs.List.{flat_map, list_any, list_all}
+use Rattle.std.specs.List.{list_any, list_all}
 use Rattle.std.proofs.lemmas.Bool.{false≢true}
 use Rattle.std.proofs.lemmas.List.{take-append-drop}
 use Rattle.cov_base.specs.Facts.{union, is_within}
 use Rattle.cov_base.specs.FactSet.{FactSet, facts_of_number, number_of_facts}
 use Rattle.cov_base.specs.declared.facts.Kind.{Kind}
 use Rattle.cov_base.specs.declared.facts.Kind.TheVariants.{Straight, Conditional}
-use Rattle.marks_file.specs.Marks.{MarkedView, kind_number, is_location, is_length, is_original, is_set, is_place, are_places, end_of, is_filled, is_new_name, is_base, is_clear, is_size, is_count, place_count, is_module, are_modules, is_module_count, are_marks, HasRow}
+use Rattle.marks_file.specs.Marks.{MarkedView, kind_number, is_location, is_length, is_original, is_set, is_place, are_places, end_of, is_filled, is_new_name, is_base, is_clear, is_size, is_count, place_count, is_module, are_modules, is_module_count, are_marks}
 use Rattle.marks_file.specs.MarksFile.{place_row, module_row, module_rows, rows}
 use Rattle.marks_file.specs.declared.marks.MarkedPlace.{MarkedPlace}
-use Rattle.marks_file.proofs.MarksLemmas.{both-left, both-right, both}
-use Rattle.marks_file.proofs.SpellLemmas.{set_read, lt_of_test}
+use Rattle.marks_file.proofs.MarksLemmas.{both-left, both-right, both, le_of_test}
+use Rattle.marks_file.proofs.SpellLemmas.{set_read}
 use Rattle.table_combine.specs.Combine.{unite_place, unite_places, unite_module, unite, SamePlaces, SameTables}
 
 -- tables of the same rows
@@ -91,8 +91,8 @@ places_both size end size2 end2 [] (q ∷ qs) h g s = absurd s
 places_both size end size2 end2 (p ∷ ps) [] h g s = absurd s
 places_both size end size2 end2 (p ∷ ps) (q ∷ qs) h g s =
     both (is_place size end (unite_place p q)) (are_places size (end_of p) (unite_places ps qs))
-      (place_both size end size2 end2 p q (both-left (is_place size end p) _ h) (both-left (is_place size2 end2 q) _ g) s.0)
-      (places_both size (end_of p) size2 (end_of q) ps qs (both-right (is_place size end p) _ h) (both-right (is_place size2 end2 q) _ g) s.1)
+    (place_both size end size2 end2 p q (both-left (is_place size end p) _ h) (both-left (is_place size2 end2 q) _ g) s.0)
+    (places_both size (end_of p) size2 (end_of q) ps qs (both-right (is_place size end p) _ h) (both-right (is_place size2 end2 q) _ g) s.1)
 
 length-unite_places : (ps qs : List MarkedPlace) → length (unite_places ps qs) ≡ length ps
 length-unite_places [] qs = refl
@@ -172,19 +172,19 @@ modules_both earlier before other (m ∷ ms) (n ∷ ns) h g s e =
     let u = unite_module m n in
     let many : length u.places ≡ length m.places = length-unite_places m.places n.places in
     let is : is_module before u ≡ true =
-      both _ _ (name_kept before earlier m.name e ∙ both-left (is_new_name earlier m.name) _ one)
-      (both _ _ (both-left (is_base m.base) _ h2)
-      (both _ _ (size_kept before earlier m.base m.size e ∙ both-left (is_size earlier m.base m.size) _ h3)
-      (both _ _ (ap (is_count before) many ∙ (count_kept before earlier (length m.places) e ∙ both-left (is_count earlier (length m.places)) _ h4))
-        (places_both m.size 0 n.size 0 m.places n.places (both-right (is_count earlier (length m.places)) _ h4) (both-right (is_count other (length n.places)) _ g4) s.0.1)))) in
+    both _ _ (name_kept before earlier m.name e ∙ both-left (is_new_name earlier m.name) _ one)
+    (both _ _ (both-left (is_base m.base) _ h2)
+    (both _ _ (size_kept before earlier m.base m.size e ∙ both-left (is_size earlier m.base m.size) _ h3)
+    (both _ _ (ap (is_count before) many ∙ (count_kept before earlier (length m.places) e ∙ both-left (is_count earlier (length m.places)) _ h4))
+    (places_both m.size 0 n.size 0 m.places n.places (both-right (is_count earlier (length m.places)) _ h4) (both-right (is_count other (length n.places)) _ g4) s.0.1)))) in
     both (is_module before u) (are_modules (before ++ u ∷ []) (unite ms ns)) is
-      (modules_both (earlier ++ m ∷ []) (before ++ u ∷ []) (other ++ n ∷ []) ms ns (both-right (is_module earlier m) _ h) (both-right (is_module other n) _ g) s.1 (heads_more before earlier u m e (record { name = refl; base = refl; size = refl; count = many })))
+    (modules_both (earlier ++ m ∷ []) (before ++ u ∷ []) (other ++ n ∷ []) ms ns (both-right (is_module earlier m) _ h) (both-right (is_module other n) _ g) s.1 (heads_more before earlier u m e (record { name = refl; base = refl; size = refl; count = many })))
 
 pub union_is_marks : (ms ns : List MarkedView) → are_marks ms ≡ true → are_marks ns ≡ true → SameTables ms ns → are_marks (unite ms ns) ≡ true
 union_is_marks ms ns h g s =
     both (is_module_count (length (unite ms ns))) (are_modules [] (unite ms ns))
-      (ap is_module_count (length-unite ms ns) ∙ both-left (is_module_count (length ms)) (are_modules [] ms) h)
-      (modules_both [] [] [] ms ns (both-right (is_module_count (length ms)) _ h) (both-right (is_module_count (length ns)) _ g) s tt)
+    (ap is_module_count (length-unite ms ns) ∙ both-left (is_module_count (length ms)) (are_modules [] ms) h)
+    (modules_both [] [] [] ms ns (both-right (is_module_count (length ms)) _ h) (both-right (is_module_count (length ns)) _ g) s tt)
 
 -- behind the end of one file nothing is united
 none_united : (xs ys : List MarkedPlace) → min (length xs) (length ys) ≡ 0 → unite_places xs ys ≡ xs
@@ -206,3 +206,25 @@ pub modules_united : (a b : List MarkedView) (i : ℕ) (all : List MarkedView) �
 modules_united a b i all h e =
     let none : min (length (drop i a)) (length (drop i b)) ≡ 0 = omega (arith, length-drop i a, length-drop i b) in
     sym (take-append-drop i a) ∙ (ap (λ t. take i a ++ t) (sym (no_module_united (drop i a) (drop i b) none)) ∙ e)
+
+-- the places of a file's modules
+counts_append : (ms : List MarkedView) (m : MarkedView) → place_count (ms ++ m ∷ []) ≡ place_count ms + length m.places
+counts_append [] m = omega arith
+counts_append (x ∷ ms) m = let e = counts_append ms m in omega (arith, e)
+
+few_places : (earlier : List MarkedView) (n : ℕ) → is_count earlier n ≡ true → place_count earlier + n ≤ 65536
+unfolding is_count
+few_places earlier n h = le_of_test (place_count earlier + n) 65536 h
+
+modules_places : (earlier ms : List MarkedView) → place_count earlier ≤ 65536 → are_modules earlier ms ≡ true → place_count earlier + place_count ms ≤ 65536
+modules_places earlier [] few h = omega arith
+modules_places earlier (m ∷ ms) few h =
+    let one = both-left (is_module earlier m) (are_modules (earlier ++ m ∷ []) ms) h in
+    let h4 = both-right (is_size earlier m.base m.size) _ (both-right (is_base m.base) _ (both-right (is_new_name earlier m.name) _ one)) in
+    let here = few_places earlier (length m.places) (both-left (is_count earlier (length m.places)) _ h4) in
+    let e = counts_append earlier m in
+    let more = modules_places (earlier ++ m ∷ []) ms (omega arith) (both-right (is_module earlier m) _ h) in
+    omega arith
+
+pub marks_places : (ms : List MarkedView) → are_marks ms ≡ true → place_count ms ≤ 65536
+marks_places ms h = let e = modules_places [] ms (omega arith) (both-right (is_module_count (length ms)) _ h) in omega (arith, e)

@@ -45,8 +45,16 @@ fn a_row_that_differs_is_told(rt: HostRuntime) -> Result<(), Fail> {
         return Err(Fail::from("combined"));
     };
     assert_eq!(rt; other.row, 1);
-    assert!(rt; other.left.is_some_and(|row| row.as_slice() == &FILE[30..38]));
-    assert!(rt; other.right.is_some_and(|row| row.as_slice() == &bytes[30..38]));
+    assert!(rt;
+        other
+            .left
+            .is_some_and(|row| row.as_slice() == &FILE[30..38])
+    );
+    assert!(rt;
+        other
+            .right
+            .is_some_and(|row| row.as_slice() == &bytes[30..38])
+    );
     Ok(())
 }
 
