@@ -1,15 +1,15 @@
 -- Whole files: what was spelled is read back, and no spelling begins another.
-use Rattle.std.proofs.Common.{◌≡◌, ℕ, ◌+◌, ◌-◌, ◌*◌, ◌≤◌, ◌<◌, ◌^◌, zero, suc, Bool, None, Some, true, false, ◌&&◌, nat_le, List, [], ◌∷◌, ◌++◌, length, take, drop, refl, ap, sym, ◌∙◌, subst, arith, append_assoc, append-nil, length-append}
+use Rattle.std.proofs.Common.{◌≡◌, ℕ, ◌+◌, ◌*◌, ◌≤◌, ◌<◌, ◌^◌, suc, None, Some, true, false, ◌&&◌, nat_le, List, [], ◌∷◌, ◌++◌, length, take, drop, refl, ap, sym, ◌∙◌, subst, arith, append_assoc, length-append}
 use Rattle.std.specs.Str.{bytes_eq}
 use Rattle.std.specs.List.{flat_map}
 use Rattle.std.specs.Io.{StartsWith}
 use Rattle.std.proofs.lemmas.List.{drop-drop, take-append-drop}
 use Rattle.std.proofs.Math.Seq.{drop-append_seam, take-length}
-use Rattle.byteorder.specs.Endian.{big_number, big_bytes}
+use Rattle.byteorder.specs.Endian.{big_number}
 use Rattle.byteorder.specs.Numbers.{big_number-reads_back}
-use Rattle.marks_file.specs.Marks.{MarkedView, is_new_name, is_base, is_size, is_count, is_module, are_modules, is_module_count, are_marks, are_places, place_count, is_filled, is_clear}
+use Rattle.marks_file.specs.Marks.{MarkedView, is_new_name, is_base, is_size, is_count, is_module, are_modules, is_module_count, are_marks, place_count, is_filled}
 use Rattle.marks_file.specs.MarksFile.{place_bytes, module_row, module_bytes, magic, file_bytes}
-use Rattle.marks_file.specs.Reading.{Field, IsFault, first_bad, field, places_at, places_fields, header_fields, module_fields, module_at, modules_at, modules_fields, module_size, count_at, file_fields, marks_at}
+use Rattle.marks_file.specs.Reading.{IsFault, first_bad, places_at, places_fields, header_fields, module_fields, module_at, modules_at, modules_fields, module_size, count_at, file_fields, marks_at}
 use Rattle.marks_file.specs.declared.marks.MarkedPlace.{MarkedPlace}
 use Rattle.marks_file.specs.declared.fault.MarksFault.{MarksFault}
 use Rattle.marks_file.specs.declared.fault.MarksFault.TheVariants.{BadMarks, NoMemory}

@@ -1,10 +1,10 @@
 -- What the rules say of a file's modules.
-use Rattle.std.proofs.Common.{◌≡◌, ℕ, ◌+◌, ◌≤◌, ◌<◌, ◌^◌, zero, suc, Bool, true, false, ◌&&◌, nat_le, List, [], ◌∷◌, ◌++◌, length, All, get_or, refl, ap, sym, ◌∙◌, arith}
+use Rattle.std.proofs.Common.{◌≡◌, ℕ, ◌+◌, ◌≤◌, zero, suc, Bool, true, false, ◌&&◌, nat_le, List, [], ◌∷◌, ◌++◌, length, All, refl, arith}
 use Rattle.std.specs.Str.{bytes_eq}
 use Rattle.std.proofs.lemmas.Bool.Decides.{nat_tests}
 use Rattle.std.proofs.lemmas.Slice.Eq.{bytes_eq-Decides}
 use Rattle.cov_base.specs.Names.{is_name, padded, unpadded}
-use Rattle.marks_file.specs.Marks.{MarkedView, HasRow, is_filled, is_new_name, is_base, is_size, is_count, is_module, are_modules, is_module_count, are_marks, are_places, place_count}
+use Rattle.marks_file.specs.Marks.{MarkedView, HasRow, is_filled, is_new_name, is_base, is_size, is_count, is_module, are_modules, is_module_count, are_marks, place_count}
 
 pub both-left : (a b : Bool) → (a && b) ≡ true → a ≡ true
 both-left true b h = refl

@@ -1,19 +1,19 @@
 -- Modules and whole files that are read spell the bytes that they were read from, and what was spelled is read back.
-use Rattle.std.proofs.Common.{◌≡◌, ℕ, ◌+◌, ◌-◌, ◌*◌, ◌≤◌, ◌<◌, ◌^◌, zero, suc, Bool, None, true, false, ◌&&◌, nat_le, List, [], ◌∷◌, ◌++◌, length, take, drop, replicate, slice_index, refl, ap, sym, ◌∙◌, arith, append_assoc, length-append, length-drop}
+use Rattle.std.proofs.Common.{◌≡◌, ℕ, ◌+◌, ◌-◌, ◌*◌, ◌≤◌, ◌<◌, ◌^◌, zero, suc, None, true, ◌&&◌, nat_le, List, [], ◌∷◌, ◌++◌, length, take, drop, replicate, slice_index, refl, ap, sym, ◌∙◌, arith, append_assoc, length-append, length-drop}
 use Rattle.std.specs.Str.{bytes_eq}
 use Rattle.std.specs.List.{flat_map, list_all}
 use Rattle.std.specs.Io.{StartsWith}
 use Rattle.std.proofs.lemmas.List.{drop-drop, take-append-drop, length-replicate}
-use Rattle.std.proofs.Math.Seq.{take-append_seam, drop-append_seam}
+use Rattle.std.proofs.Math.Seq.{take-append_seam}
 use Rattle.byteorder.specs.Endian.{big_number, big_bytes}
 use Rattle.byteorder.specs.Numbers.{big_number-reads_back}
 use Rattle.cov_base.specs.Names.{is_name, is_letter, is_name_byte, padded, unpadded}
-use Rattle.marks_file.specs.Marks.{MarkedView, is_filled, is_new_name, is_base, is_size, is_count, is_clear, is_module, are_modules, is_module_count, are_marks, are_places, place_count}
+use Rattle.marks_file.specs.Marks.{MarkedView, is_filled, is_count, is_module, are_modules, is_module_count, are_marks, place_count}
 use Rattle.marks_file.specs.MarksFile.{place_bytes, module_row, module_bytes, magic, file_bytes}
-use Rattle.marks_file.specs.Reading.{Field, first_bad, field, places_at, places_fields, header_fields, module_fields, module_at, modules_at, modules_fields, module_size, count_at, file_fields, marks_at}
+use Rattle.marks_file.specs.Reading.{first_bad, field, places_at, places_fields, header_fields, module_fields, module_at, modules_at, modules_fields, module_size, count_at, file_fields, marks_at}
 use Rattle.marks_file.proofs.MarksLemmas.{both-left, both-right, both, le_of_test, same_bytes, filled_name}
-use Rattle.marks_file.proofs.FieldLemmas.{IsModuleRecord, module_record, header_none, all_good, first_none, none_left, none_right}
-use Rattle.marks_file.proofs.SpellLemmas.{AreBytes, bytes_later, word_of, half_of, length-places_at, ArePlaceRecords, places_spelled, ArePlacesRead, places_read}
+use Rattle.marks_file.proofs.FieldLemmas.{module_record, all_good, none_left, none_right}
+use Rattle.marks_file.proofs.SpellLemmas.{AreBytes, bytes_later, word_of, half_of, length-places_at, ArePlaceRecords, places_spelled}
 
 -- four pieces one after another
 chain : (a b c d e bs d8 d12 d16 : List ℕ) → d ++ e ≡ d16 → c ++ d16 ≡ d12 → b ++ d12 ≡ d8 → a ++ d8 ≡ bs → (a ++ (b ++ (c ++ d))) ++ e ≡ bs

@@ -1,11 +1,11 @@
 -- What the loop over modules keeps.
-use Rattle.std.proofs.Common.{◌≡◌, ℕ, ◌+◌, ◌-◌, ◌*◌, ◌≤◌, ◌<◌, zero, suc, None, Some, List, [], ◌∷◌, ◌++◌, length, drop, refl, ap, sym, ◌∙◌, arith, append_assoc, append-nil, length-append, length-drop}
+use Rattle.std.proofs.Common.{◌≡◌, ℕ, ◌+◌, ◌-◌, ◌*◌, ◌≤◌, ◌<◌, suc, None, List, [], ◌∷◌, ◌++◌, length, drop, refl, ap, sym, ◌∙◌, arith, append_assoc, append-nil, length-append, length-drop}
 use Rattle.std.specs.List.{flat_map}
 use Rattle.std.proofs.lemmas.List.{drop-drop}
 use Rattle.std.proofs.lemmas.Grind.{flat_map-append}
 use Rattle.marks_file.specs.Marks.{MarkedView, place_count}
 use Rattle.marks_file.specs.MarksFile.{module_bytes}
-use Rattle.marks_file.specs.Reading.{Field, IsFault, first_bad, module_fields, modules_at, modules_fields, count_at, module_at, module_size, places_at}
+use Rattle.marks_file.specs.Reading.{IsFault, first_bad, module_fields, modules_at, modules_fields, count_at, module_at, module_size}
 use Rattle.marks_file.specs.declared.fault.MarksFault.{MarksFault}
 use Rattle.marks_file.specs.declared.fault.MarksFault.TheVariants.{BadMarks, NoMemory}
 use Rattle.marks_file.proofs.FieldLemmas.{first_none, first_some}

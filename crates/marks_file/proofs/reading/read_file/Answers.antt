@@ -1,15 +1,12 @@
-use Rattle.std.proofs.Common.{◌≡◌, ℕ, ◌+◌, ◌≤◌, ◌&&◌, Bool, true, false, nat_le, None, List, [], drop, take, length, ap, sym, subst, ◌∙◌, arith, length-drop}
-use Rattle.std.specs.Str.{bytes_eq}
+use Rattle.std.proofs.Common.{◌≡◌, drop, ap, sym, subst, ◌∙◌, arith}
 use Rattle.std.specs.Io.{StartsWith}
-use Rattle.std.proofs.lemmas.List.{drop-drop}
 use Rattle.std.proofs.lemmas.Result.{err_from_is_err_and}
 use Rattle.byteorder.specs.Endian.{big_number}
-use Rattle.marks_file.specs.Marks.{is_module_count, are_marks}
-use Rattle.marks_file.specs.MarksFile.{magic, file_bytes}
-use Rattle.marks_file.specs.Reading.{first_bad, modules_fields, file_fields, marks_at}
+use Rattle.marks_file.specs.Marks.{are_marks}
+use Rattle.marks_file.specs.MarksFile.{file_bytes}
 use Rattle.marks_file.proofs.SpellLemmas.{AreBytes, bytes_later}
 use Rattle.marks_file.proofs.ModuleLemmas.{file_spelled}
-use Rattle.marks_file.proofs.FileLemmas.{magic_bad, count_bad, head_good, modules_behind, fault_behind, marks_behind, length-file}
+use Rattle.marks_file.proofs.FileLemmas.{magic_bad, count_bad, modules_behind, fault_behind, marks_behind}
 use Rattle.marks_file.proofs.reading.read_file.Goals as goal
 
 pub returns-then-not-has_magic-clause-bad : goal.returns-then-not-has_magic-clause-bad

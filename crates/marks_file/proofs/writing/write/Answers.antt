@@ -1,4 +1,4 @@
-use Rattle.std.proofs.Common.{◌≡◌, ◌≤◌, length, All, subst, sym, ap, arith}
+use Rattle.std.proofs.Common.{length, All, subst, sym, ap, arith}
 use Rattle.marks_file.specs.Marks.{HasRow}
 use Rattle.marks_file.proofs.MarksLemmas.{marks_have_rows, marks_count}
 use Rattle.marks_file.proofs.writing.write.Goals as goal

@@ -1,4 +1,4 @@
-use Rattle.std.proofs.Common.{◌≡◌, ap, ◌∙◌, get_or}
+use Rattle.std.proofs.Common.{◌≡◌, ap, get_or}
 use Rattle.std.specs.List.{flat_map}
 use Rattle.std.proofs.lemmas.List.{at_drop_more}
 use Rattle.marks_file.specs.MarksFile.{module_bytes}
