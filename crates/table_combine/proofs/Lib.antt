@@ -1,2 +1,3 @@
 pub mod DifferenceLemmas
 pub mod UnionLemmas
+pub mod FilesLemmas

@@ -16,7 +16,7 @@ use Rattle.marks_file.proofs.SpellLemmas.{set_read}
 use Rattle.table_combine.specs.Combine.{unite_place, unite_places, unite_module, unite, SamePlaces, SameTables}
 
 -- tables of the same rows
-same_rows : (x y : List ℕ) (xs ys : List (List ℕ)) → x ≡ y → xs ≡ ys → x ∷ xs ≡ y ∷ ys
+pub same_rows : (x y : List ℕ) (xs ys : List (List ℕ)) → x ≡ y → xs ≡ ys → x ∷ xs ≡ y ∷ ys
 same_rows x y xs ys e f = rw (e, f) refl
 
 places_rows : (ps qs : List MarkedPlace) → SamePlaces ps qs → map place_row ps ≡ map place_row qs
@@ -25,7 +25,7 @@ places_rows [] (q ∷ qs) h = absurd h
 places_rows (p ∷ ps) [] h = absurd h
 places_rows (p ∷ ps) (q ∷ qs) h = same_rows (place_row p) (place_row q) (map place_row ps) (map place_row qs) h.0 (places_rows ps qs h.1)
 
-joined_rows : (xs ys us vs : List (List ℕ)) → xs ≡ ys → us ≡ vs → xs ++ us ≡ ys ++ vs
+pub joined_rows : (xs ys us vs : List (List ℕ)) → xs ≡ ys → us ≡ vs → xs ++ us ≡ ys ++ vs
 joined_rows xs ys us vs e f = rw (e, f) refl
 
 pub tables_rows : (ms ns : List MarkedView) → SameTables ms ns → rows ms ≡ rows ns
@@ -94,7 +94,7 @@ places_both size end size2 end2 (p ∷ ps) (q ∷ qs) h g s =
     (place_both size end size2 end2 p q (both-left (is_place size end p) _ h) (both-left (is_place size2 end2 q) _ g) s.0)
     (places_both size (end_of p) size2 (end_of q) ps qs (both-right (is_place size end p) _ h) (both-right (is_place size2 end2 q) _ g) s.1)
 
-length-unite_places : (ps qs : List MarkedPlace) → length (unite_places ps qs) ≡ length ps
+pub length-unite_places : (ps qs : List MarkedPlace) → length (unite_places ps qs) ≡ length ps
 length-unite_places [] qs = refl
 length-unite_places (p ∷ ps) [] = refl
 length-unite_places (p ∷ ps) (q ∷ qs) = ap suc (length-unite_places ps qs)

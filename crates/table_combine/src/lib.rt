@@ -2,9 +2,11 @@
 #![tactic(auto)]
 
 mod difference;
+mod files;
 mod union;
 
 pub use difference::OtherTable;
+pub use files::{CombineFault, combine_files};
 pub use union::combine;
 
 #[cfg(test)]

@@ -1,5 +1,5 @@
 //! Two files of one table and one of another.
-use crate::combine;
+use crate::{CombineFault, combine, combine_files};
 use cov_base::Fact;
 use marks_file::{Marks, read};
 use std::alloc::Global;
@@ -75,5 +75,44 @@ fn a_row_that_is_missing_is_told(rt: HostRuntime) -> Result<(), Fail> {
     assert_eq!(rt; other.row, 3);
     assert!(rt; other.left.is_none());
     assert!(rt; other.right.is_some_and(|row| row.len() == 20));
+    Ok(())
+}
+
+#[test]
+fn files_in_succession_are_combined(rt: HostRuntime) -> Result<(), Fail> {
+    let alloc = rt.alloc();
+    let mut second = FILE;
+    second[38] = 2;
+    second[47] = 0;
+    let mut bytes = Vec::from_slice(alloc, &FILE)?;
+    bytes.extend_from_slice(&second)?;
+    let Ok(all) = combine_files(alloc, &bytes) else {
+        return Err(Fail::from("not combined"));
+    };
+    let set = all.modules[0].places[0].set;
+    assert!(rt; set.has(Fact::Went) && set.has(Fact::Stayed));
+    bytes.extend_from_slice(&FILE[..47])?;
+    match combine_files(alloc, &bytes) {
+        Err(CombineFault::BadMarks { offset }) => assert_eq!(rt; offset, 143),
+        _ => return Err(Fail::from("not cut short")),
+    }
+    match combine_files(alloc, &FILE[..0]) {
+        Err(CombineFault::BadMarks { offset }) => assert_eq!(rt; offset, 0),
+        _ => return Err(Fail::from("not empty")),
+    }
+    Ok(())
+}
+
+#[test]
+fn a_later_table_that_differs_is_told(rt: HostRuntime) -> Result<(), Fail> {
+    let alloc = rt.alloc();
+    let mut second = FILE;
+    second[37] = 0x20;
+    let mut bytes = Vec::from_slice(alloc, &FILE)?;
+    bytes.extend_from_slice(&second)?;
+    match combine_files(alloc, &bytes) {
+        Err(CombineFault::Other(other)) => assert_eq!(rt; other.row, 1),
+        _ => return Err(Fail::from("no other table")),
+    }
     Ok(())
 }
