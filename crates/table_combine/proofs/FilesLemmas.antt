@@ -1,7 +1,6 @@
 -- Files one after another: what the loop over them keeps.
-use Rattle.std.proofs.Common.{◌≡◌, ◌≢◌, ◌⊎◌, inl, inr, ℕ, ◌+◌, ◌-◌, ◌≤◌, ◌<◌, min, true, Some, None, List, [], ◌∷◌, ◌++◌, length, take, drop, map, fold, All, refl, ap, sym, ◌∙◌, subst, arith, append_assoc, append-nil, length-append, length-drop}
+use Rattle.std.proofs.Common.{◌≡◌, ◌≢◌, inl, inr, ℕ, ◌+◌, ◌≤◌, ◌<◌, true, Some, List, [], ◌∷◌, ◌++◌, length, drop, map, fold, refl, ap, sym, ◌∙◌, arith, append_assoc, append-nil, length-append, length-drop}
 use Rattle.std.specs.Io.{StartsWith}
-use Rattle.std.specs.List.{flat_map}
 use Rattle.std.proofs.lemmas.List.{take-append-drop, drop-drop, length-take}
 use Rattle.std.proofs.lemmas.List.Elements.{All-push}
 use Rattle.std.proofs.lemmas.List.Sums.{fold-append}
@@ -15,7 +14,7 @@ use Rattle.marks_file.specs.declared.marks.MarkedPlace.{MarkedPlace}
 use Rattle.marks_file.specs.declared.fault.MarksFault.{MarksFault}
 use Rattle.marks_file.specs.declared.fault.MarksFault.TheVariants.{BadMarks, NoMemory}
 use Rattle.table_combine.specs.Combine.{Difference, first_difference, unite, unite_places, unite_module}
-use Rattle.table_combine.specs.Files.{AreOfOneTable, IsCombined, IsBadFirst, IsBadLater, IsOtherTable, IsCombineFault, spelling}
+use Rattle.table_combine.specs.Files.{AreOfOneTable, IsCombined, IsOtherTable, IsCombineFault, spelling}
 use Rattle.table_combine.specs.FaultView.{fault_of}
 use Rattle.table_combine.proofs.UnionLemmas.{length-unite_places, same_rows, joined_rows}
 

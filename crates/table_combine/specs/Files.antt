@@ -1,5 +1,5 @@
 -- Marks files one after another, and their union.
-use Rattle.std.specs.Prelude.{◌≡◌, ◌≢◌, ◌⊎◌, ℕ, true, Option, Some, List, [], ◌∷◌, ◌++◌, length, fold, All}
+use Rattle.std.specs.Prelude.{◌≡◌, ◌≢◌, ◌⊎◌, ℕ, true, Some, List, [], ◌∷◌, ◌++◌, length, fold, All}
 use Rattle.std.specs.List.{flat_map}
 use Rattle.marks_file.specs.Marks.{MarkedView, are_marks}
 use Rattle.marks_file.specs.MarksFile.{file_bytes, rows}
@@ -51,8 +51,21 @@ pub record IsOtherTable (bytes : List ℕ) (d : Difference) : Type 0 where
   pub spelled : bytes ≡ spelling (first ∷ others) ++ (file_bytes next ++ rest)
   pub differs : first_difference 0 (rows first) (rows next) ≡ Some d
 
+-- no file begins the bytes that are left, and this is the offset of their first bad field
+abbrev pub IsBad : List ℕ → ℕ → Type 0
+IsBad bytes offset = IsBadFirst bytes offset ⊎ IsBadLater bytes offset
+
 -- why files are not combined
 abbrev pub IsCombineFault : List ℕ → CombineFault → Type 0
-IsCombineFault bytes (BadMarks offset) = IsBadFirst bytes offset ⊎ IsBadLater bytes offset
+IsCombineFault bytes (BadMarks offset) = IsBad bytes offset
 IsCombineFault bytes (Other e) = IsOtherTable bytes (difference_of e)
 IsCombineFault bytes NoMemory = Unit {0}
+
+-- the bytes have one answer alone
+pub record HasOneAnswer (bytes : List ℕ) : Type 0 where
+  pub combined : (m n : List MarkedView) → IsCombined bytes m → IsCombined bytes n → m ≡ n
+  pub bad : (o p : ℕ) → IsBad bytes o → IsBad bytes p → o ≡ p
+  pub other : (d e : Difference) → IsOtherTable bytes d → IsOtherTable bytes e → d ≡ e
+  pub combined_or_bad : (m : List MarkedView) (o : ℕ) → IsCombined bytes m → IsBad bytes o → ⊥
+  pub combined_or_other : (m : List MarkedView) (d : Difference) → IsCombined bytes m → IsOtherTable bytes d → ⊥
+  pub bad_or_other : (o : ℕ) (d : Difference) → IsBad bytes o → IsOtherTable bytes d → ⊥

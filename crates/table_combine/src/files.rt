@@ -4,7 +4,7 @@ ghost use Rattle.std.specs.Io.{StartsWith};
 ghost use Rattle.marks_file.specs.Marks.{are_marks};
 ghost use Rattle.marks_file.specs.MarksFile.{file_bytes};
 ghost use Rattle.marks_file.specs.Reading.{IsFault, file_fields};
-ghost use Rattle.table_combine.specs.Files.{IsCombined, IsCombineFault};
+ghost use Rattle.table_combine.specs.Files.{IsCombined, IsCombineFault, HasOneAnswer};
 
 use crate::difference::OtherTable;
 use crate::union::combine;
@@ -48,9 +48,8 @@ fn next_file(alloc: Global, bytes: &[u8], at: usize) -> Result<(Marks, usize), M
     Ok((marks, end))
 }
 
-/// The union of the files that the bytes are. BadMarks where at the end of some files of one table, or at offset 0, no
-/// file begins; Other at the first file of another table than the first one's.
-pub fn combine_files(alloc: Global, bytes: &[u8]) -> Result<Marks, CombineFault>
+/// The union of the files, read one after another.
+fn combine_all(alloc: Global, bytes: &[u8]) -> Result<Marks, CombineFault>
     ensures whole { IfOk result (IsCombined bytes.now) }
     ensures fault { IfErr result (IsCombineFault bytes.now) }
 {
@@ -65,4 +64,14 @@ pub fn combine_files(alloc: Global, bytes: &[u8]) -> Result<Marks, CombineFault>
         at = end;
     }
     Ok(all)
+}
+
+/// The union of the files that the bytes are. BadMarks where at the end of some files of one table, or at offset 0, no
+/// file begins; Other at the first file of another table than the first one's.
+pub fn combine_files(alloc: Global, bytes: &[u8]) -> Result<Marks, CombineFault>
+    ensures whole { IfOk result (IsCombined bytes.now) }
+    ensures fault { IfErr result (IsCombineFault bytes.now) }
+    ensures one { HasOneAnswer bytes.now }
+{
+    combine_all(alloc, bytes)
 }
