@@ -1,4 +1,6 @@
+pub mod Alone
 pub mod Finds
+pub mod Follows
 pub mod Kept
 pub mod Nexts
 pub mod ReadLemmas

@@ -92,7 +92,7 @@ mapped : (A B : Type 0) (f : A → B) (o : Option A) (x : B) → option_map f o 
 mapped A B f None x h = let n : None ≡ Some x = h in absurd cc
 mapped A B f (Some a) x h = (a, refl)
 
-exists_by : (b : Bool) (o : Option Stepped) (x : Stepped) → (if b then o else None) ≡ Some x → (b ≡ true) × (o ≡ Some x)
+pub exists_by : (b : Bool) (o : Option Stepped) (x : Stepped) → (if b then o else None) ≡ Some x → (b ≡ true) × (o ≡ Some x)
 exists_by true o x h = (refl, h)
 exists_by false o x h = let n : None ≡ Some x = h in absurd cc
 

@@ -9,10 +9,10 @@ use Rattle.interleave_core.specs.declared.events.Event.{Event}
 use Rattle.interleave_core.specs.declared.events.NotPossible.{NotPossible}
 use Rattle.interleave_core.specs.declared.events.Shown.{Shown}
 
-some_core : (a b : CoreState) → Some a ≡ Some b → a ≡ b
+pub some_core : (a b : CoreState) → Some a ≡ Some b → a ≡ b
 some_core a b h = cc
 
-through : (more : CoreState → Option CoreState) (x : Option CoreStepped) (c : CoreState) → go_on more x ≡ Some c → (y : CoreStepped) × (x ≡ Some y) × (more y.core ≡ Some c)
+pub through : (more : CoreState → Option CoreState) (x : Option CoreStepped) (c : CoreState) → go_on more x ≡ Some c → (y : CoreStepped) × (x ≡ Some y) × (more y.core ≡ Some c)
 through more None c h = let n : None ≡ Some c = h in absurd cc
 through more (Some y) c h = (y, refl, h)
 
@@ -25,22 +25,3 @@ core_from-push w d c [] e x h step =
 core_from-push w d c (f ∷ events) e x h step =
     let at = through (λ b. core_from w b events) (core_step w d f) c h in
     ap (go_on (λ b. core_from w b (events ++ e ∷ []))) at.1 ∙ core_from-push w at.0.core c events e x at.2 step
-
-follows_one : (w : World) (old new : Parts) (e : Event) (shown : Shown) → parts_step w old e ≡ Some (record { parts = new; shown = shown }) → FollowsAll w old e new shown
-follows_one w old new e shown h = λ events c run same.
-    let made : parts_step w c.parts e ≡ Some (record { parts = new; shown = shown }) = subst (λ (p : Parts). parts_step w p e ≡ Some (record { parts = new; shown = shown })) (sym same) h in
-    let step : core_step w c e ≡ Some (core_after w c e (record { parts = new; shown = shown })) = ap (option_map (core_after w c e)) made in
-    record {
-      after = (core_after w c e (record { parts = new; shown = shown })).core;
-      step = step;
-      run = core_from-push w (core_start w) c events e _ run step;
-      stored = refl;
-    }
-
-pub follows : (w : World) (old new : Parts) (e : Event) (r : Result Shown NotPossible) → IfOk r (λ shown. parts_step w old e ≡ Some (record { parts = new; shown = shown })) → IfOk r (FollowsAll w old e new)
-follows w old new e (Ok shown) h = follows_one w old new e shown h
-follows w old new e (Err x) h = h
-
-pub never : (w : World) (old : Parts) (e : Event) (r : Result Shown NotPossible) → OnErr r (parts_step w old e ≡ None) → OnErr r (FollowsNone w old e)
-never w old e (Ok shown) h = h
-never w old e (Err x) h = λ events c run same. ap (option_map (core_after w c e)) (subst (λ (p : Parts). parts_step w p e ≡ None) (sym same) h)

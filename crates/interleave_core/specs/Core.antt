@@ -3,6 +3,7 @@ use Rattle.std.specs.Prelude.{◌≡◌, ℕ, Bool, true, false, nat_eq, if◌th
 use Rattle.cov_base.specs.FactSet.{FactSet}
 use Rattle.cov_base.specs.declared.facts.Fact.{Fact}
 use Rattle.module_area.specs.declared.cells.Cell.{Cell}
+use Rattle.interleave_core.specs.Alone.{AreAlone}
 use Rattle.interleave_core.specs.World.{World, TaskPart, Parts, part_of, first_parts}
 use Rattle.interleave_core.specs.Steps.{Stepped, parts_step, step_of, visit_of, fact_in}
 use Rattle.interleave_core.specs.declared.events.Event.{Event}
@@ -94,6 +95,8 @@ pub record Follows (w : World) (events : List Event) (e : Event) (c : CoreState)
   pub step : core_step w c e ≡ Some (record { core = after; shown = shown })
   pub run : core_run w (events ++ e ∷ []) ≡ Some after
   pub stored : after.parts ≡ parts
+  -- each task is where its run alone is
+  pub alone : AreAlone w after.parts
 
 -- after each list of events that leaves the parts stored so, the event is possible, shows this, and leaves these parts
 abbrev pub FollowsAll : World → Parts → Event → Parts → Shown → Type 0

@@ -1,4 +1,4 @@
-use Rattle.interleave_core.proofs.Runs.{follows, never}
+use Rattle.interleave_core.proofs.Follows.{follows, never}
 use Rattle.interleave_core.proofs.interleaving.Core.apply.Goals as goal
 
 pub returns-clause-follows : goal.returns-clause-follows
