@@ -1,0 +1,414 @@
+-- What is kept of a core as one of its tasks, cells or sets changes.
+use Rattle.std.proofs.Common.{◌≡◌, ◌≢◌, ◌⊎◌, inl, inr, ℕ, ◌+◌, ◌-◌, ◌*◌, ◌/◌, ◌<◌, ◌≤◌, Bool, true, false, not, ◌&&◌, nat_eq, nat_lt, if◌then◌else◌, Option, Some, None, option_map, List, [], ◌∷◌, length, get_or, set, map, refl, sym, ◌∙◌, ap, subst, arith}
+use Rattle.std.proofs.lemmas.Bool.Decides.{nat_tests}
+use Rattle.std.proofs.lemmas.Grind.{get_or-set_at}
+use Rattle.std.proofs.lemmas.List.{get_or-map, get_or-set_other, length-set, length-map, map-set, get_or_default}
+use Rattle.cov_base.specs.Codes.{breakpoint}
+use Rattle.cov_base.specs.FactSet.{FactSet}
+use Rattle.cov_base.specs.declared.numbers.PlaceNo.{PlaceNo as Number}
+use Rattle.s370_exec.specs.Solo.{has_returned}
+use Rattle.s370_state.specs.declared.endings.Ending.TheVariants.{Returned, Spent}
+use Rattle.s370_state.specs.declared.endings.Next.{Next}
+use Rattle.s370_state.specs.declared.endings.Next.TheVariants.{On, Ended as NextEnded}
+use Rattle.cov_base.specs.Facts.{no_facts, is_within, with_fact, is_full, fact_of}
+use Rattle.cov_base.specs.declared.facts.Kind.{Kind}
+use Rattle.cov_base.specs.declared.facts.Kind.TheVariants.{Straight, Conditional}
+use Rattle.module_area.proofs.Indices.{same_index, index_below}
+use Rattle.module_area.specs.PlainWords.{IsWord, word_at, no_cell, set_in, index_of}
+use Rattle.module_area.specs.PlanView.{PlanView, IsPlan, kind_at, window_at, original_at}
+use Rattle.module_area.specs.declared.cells.Cell.{Cell}
+use Rattle.interleave_core.specs.World.{World, TaskPart, Parts, plan_in, place_at, part_of, no_part}
+use Rattle.interleave_core.specs.Steps.{Stepped, of_task, with_task, with_stage, with_due, with_set, with_cell, place_due, is_spent, is_awaiting, subject_place, step_of, visit_of, due_after_fetch, in_hand, same_due, fetched, fetch_step, marked, mark_step, lifted, lift_step, done_by, do_step, task_done, set_of, fact_in, session_under, original_under, same_cell, hand_at, executed, subject_executed, stage_after, awaits_or, unless_at, instruction_executed}
+use Rattle.interleave_core.specs.Views.{RunningView, IsRunning, IsStage, IsHand, IsCore, parts_of}
+use Rattle.interleave_core.specs.declared.events.Shown.{Shown}
+use Rattle.interleave_core.specs.declared.events.Shown.TheVariants.{Fetched, Marked, Lifted, Done}
+use Rattle.interleave_core.specs.declared.stage.Due.{Due}
+use Rattle.interleave_core.specs.declared.stage.Due.TheVariants.{Marking, Lifting, Nothing}
+use Rattle.interleave_core.specs.declared.stage.Hand.{Hand}
+use Rattle.interleave_core.specs.declared.stage.Stage.{Stage}
+use Rattle.interleave_core.specs.declared.stage.Stage.TheVariants.{Ready, Awaiting, Holding, Ended}
+
+same_or : (t n : ℕ) → (t ≡ n) ⊎ (t ≢ n)
+same_or t n = grind arith
+
+pub IsCore-task : (w : World) (cells : List Cell) (sets : List FactSet) (plan : PlanView) (tasks : List RunningView) (t : ℕ) (r : RunningView) →
+    IsCore w cells sets plan tasks → t < length tasks → IsRunning w t r → IsStage w t r.part r.part.stage → IsCore w cells sets plan (set tasks t r)
+IsCore-task w cells sets plan tasks t r is lt runs stage = record {
+  same_plan = is.same_plan;
+  is_plan = is.is_plan;
+  places = is.places;
+  count = length-set tasks t r ∙ is.count;
+  cell_count = is.cell_count;
+  set_count = is.set_count;
+  words = is.words;
+  within = is.within;
+  running = λ u d l. elim (same_or u t) [
+    | inl same ↦ subst (λ (x : RunningView). IsRunning w u x) (sym (get_or-set_at tasks t u r d same lt)) (subst (λ (n : ℕ). IsRunning w n r) (sym same) runs)
+    | inr other ↦ subst (λ (x : RunningView). IsRunning w u x) (sym (get_or-set_other tasks t u r d other)) (is.running u d (subst (λ n. u < n) (length-set tasks t r) l))
+  ];
+  stages = λ u d l. elim (same_or u t) [
+    | inl same ↦ subst (λ (x : RunningView). IsStage w u x.part x.part.stage) (sym (get_or-set_at tasks t u r d same lt)) (subst (λ (n : ℕ). IsStage w n r.part r.part.stage) (sym same) stage)
+    | inr other ↦ subst (λ (x : RunningView). IsStage w u x.part x.part.stage) (sym (get_or-set_other tasks t u r d other)) (is.stages u d (subst (λ n. u < n) (length-set tasks t r) l))
+  ];
+}
+
+-- what was read of a task is what it is
+pub read_running : (w : World) (cells : List Cell) (sets : List FactSet) (plan : PlanView) (tasks : List RunningView) (t : ℕ) (r : RunningView) →
+    IsCore w cells sets plan tasks → t < length tasks → r ≡ get_or tasks t r → IsRunning w t r
+read_running w cells sets plan tasks t r is lt read = subst (λ (x : RunningView). IsRunning w t x) (sym read) (is.running t r lt)
+
+pub read_stage : (w : World) (cells : List Cell) (sets : List FactSet) (plan : PlanView) (tasks : List RunningView) (t : ℕ) (r : RunningView) →
+    IsCore w cells sets plan tasks → t < length tasks → r ≡ get_or tasks t r → IsStage w t r.part r.part.stage
+read_stage w cells sets plan tasks t r is lt read = subst (λ (x : RunningView). IsStage w t x.part x.part.stage) (sym read) (is.stages t r lt)
+
+pub same_read : (tasks : List RunningView) (t : ℕ) (r m : RunningView) → t < length tasks → r ≡ get_or tasks t r → m ≡ get_or tasks t m → r ≡ m
+same_read tasks t r m lt a b = a ∙ (get_or_default tasks t r m lt ∙ sym b)
+
+with_running : (w : World) (t : ℕ) (m r : RunningView) (s : Stage) → r ≡ record m { part = with_stage m.part s } → IsRunning w t m → IsRunning w t r
+with_running w t m r s e is = subst (λ (x : RunningView). IsRunning w t x) (sym e) (record { memory = is.memory; bytes = is.bytes; filled = is.filled; budget = is.budget; seen = is.seen })
+
+-- a task with a cell in hand
+pub held_core : (w : World) (cells : List Cell) (sets : List FactSet) (plan : PlanView) (tasks : List RunningView) (t : ℕ) (m r : RunningView) (h : Hand) →
+    IsCore w cells sets plan tasks → t < length tasks → m ≡ get_or tasks t m → r ≡ record m { part = with_stage m.part (Holding h) } →
+    is_spent w t m.part.state ≡ false → IsHand w h → IsCore w cells sets plan (set tasks t r)
+held_core w cells sets plan tasks t m r h is lt read e unspent hand =
+    IsCore-task w cells sets plan tasks t r is lt (with_running w t m r (Holding h) e (read_running w cells sets plan tasks t m is lt read))
+    (subst (λ (x : RunningView). IsStage w t x.part x.part.stage) (sym e) (unspent, hand))
+
+pub IsCore-cell : (w : World) (cells : List Cell) (sets : List FactSet) (plan : PlanView) (tasks : List RunningView) (p : ℕ) (x : Cell) →
+    IsCore w cells sets plan tasks → p < length cells → IsWord (plan_in w) p x → IsCore w (set cells p x) sets plan tasks
+IsCore-cell w cells sets plan tasks p x is lt word = record {
+  same_plan = is.same_plan;
+  is_plan = is.is_plan;
+  places = is.places;
+  count = is.count;
+  cell_count = length-set cells p x ∙ is.cell_count;
+  set_count = is.set_count;
+  words = λ q l. elim (same_or q p) [
+    | inl same ↦ subst (λ (c : Cell). IsWord (plan_in w) q c) (sym (get_or-set_at cells p q x no_cell same lt)) (subst (λ (n : ℕ). IsWord (plan_in w) n x) (sym same) word)
+    | inr other ↦ subst (λ (c : Cell). IsWord (plan_in w) q c) (sym (get_or-set_other cells p q x no_cell other)) (is.words q l)
+  ];
+  within = is.within;
+  running = is.running;
+  stages = is.stages;
+}
+
+set_within : (w : World) (sets : List FactSet) (s p q t : ℕ) (x : FactSet) → 0 < s → 0 < t → p < length w.places → q < length w.places →
+    index_of (length w.places) s p < length sets → is_within (kind_at (plan_in w) p) x ≡ true →
+    is_within (kind_at (plan_in w) q) (set_in (length w.places) sets t q) ≡ true →
+    is_within (kind_at (plan_in w) q) (set_in (length w.places) (set sets (index_of (length w.places) s p) x) t q) ≡ true
+set_within w sets s p q t x s0 t0 p_in q_in fits own other = elim (same_or (index_of (length w.places) t q) (index_of (length w.places) s p)) [
+  | inl same ↦
+      let place : q ≡ p = (same_index (length w.places) t q s p t0 s0 q_in p_in same).1 in
+      subst (λ (f : FactSet). is_within (kind_at (plan_in w) q) f ≡ true) (sym (get_or-set_at sets (index_of (length w.places) s p) (index_of (length w.places) t q) x no_facts same fits))
+      (subst (λ (n : ℕ). is_within (kind_at (plan_in w) n) x ≡ true) (sym place) own)
+  | inr apart ↦ subst (λ (f : FactSet). is_within (kind_at (plan_in w) q) f ≡ true) (sym (get_or-set_other sets (index_of (length w.places) s p) (index_of (length w.places) t q) x no_facts apart)) other
+]
+
+pub IsCore-set : (w : World) (cells : List Cell) (sets : List FactSet) (plan : PlanView) (tasks : List RunningView) (s p : ℕ) (x : FactSet) →
+    IsCore w cells sets plan tasks → 0 < s → p < length w.places → index_of (length w.places) s p < length sets → is_within (kind_at (plan_in w) p) x ≡ true →
+    IsCore w cells (set sets (index_of (length w.places) s p) x) plan tasks
+IsCore-set w cells sets plan tasks s p x is s0 p_in fits own = record {
+  same_plan = is.same_plan;
+  is_plan = is.is_plan;
+  places = is.places;
+  count = is.count;
+  cell_count = is.cell_count;
+  set_count = length-set sets (index_of (length w.places) s p) x ∙ is.set_count;
+  words = is.words;
+  within = λ t q t0 q_in. set_within w sets s p q t x s0 t0 p_in q_in fits own (is.within t q t0 q_in);
+  running = is.running;
+  stages = is.stages;
+}
+
+-- the parts with another task
+pub parts_with : (cells : List Cell) (sets : List FactSet) (tasks : List RunningView) (t : ℕ) (r : RunningView) (u : TaskPart) → r.part ≡ u →
+    with_task (record { cells = cells; sets = sets; tasks = parts_of tasks }) t u ≡ record { cells = cells; sets = sets; tasks = parts_of (set tasks t r) }
+parts_with cells sets tasks t r u e =
+    ap (λ (ts : List TaskPart). record { cells = cells; sets = sets; tasks = ts })
+    (ap (λ (v : TaskPart). set (parts_of tasks) t v) (sym e) ∙ sym (map-set (λ (x : RunningView). x.part) tasks t r))
+
+lt_true : (t n : ℕ) → t < n → nat_lt t n ≡ true
+lt_true t n h = grind (arith, nat_tests)
+
+-- an event that is possible of a task that exists
+pub of_task-read : (cells : List Cell) (sets : List FactSet) (tasks : List RunningView) (t : ℕ) (m : RunningView) (step : TaskPart → Option Stepped) (x : Option Stepped) →
+    t < length tasks → m ≡ get_or tasks t m → step m.part ≡ x → of_task (record { cells = cells; sets = sets; tasks = parts_of tasks }) t step ≡ x
+of_task-read cells sets tasks t m step x lt read e =
+    let there : nat_lt t (length (parts_of tasks)) ≡ true = lt_true t (length (parts_of tasks)) (subst (λ n. t < n) (sym (length-map tasks (λ (r : RunningView). r.part))) lt) in
+    let part : get_or (parts_of tasks) t no_part ≡ m.part = get_or-map (λ (r : RunningView). r.part) tasks t m no_part lt ∙ ap (λ (r : RunningView). r.part) (sym read) in
+    rw (there, part) e
+
+pub due_unspent : (w : World) (t : ℕ) (u : TaskPart) (stage : Stage) (p : ℕ) → IsStage w t u stage → place_due w t u stage ≡ Some p → is_spent w t u.state ≡ false
+due_unspent w t u Ready p is h = ready (has_returned u.state) (is_spent w t u.state) (place_at w u.state.machine.cpu.ia) h
+  where
+    ready : (returned spent : Bool) (at : Option ℕ) → (if returned then None else (if spent then None else at)) ≡ Some p → spent ≡ false
+    ready true spent at k = let n : None ≡ Some p = k in absurd cc
+    ready false true at k = let n : None ≡ Some p = k in absurd cc
+    ready false false at k = refl
+due_unspent w t u Awaiting p is h = is.0
+due_unspent w t u (Holding g) p is h = let n : None ≡ Some p = h in absurd cc
+due_unspent w t u (Ended e) p is h = let n : None ≡ Some p = h in absurd cc
+
+is_breakpoint : (half : ℕ) (b : Bool) → (if nat_eq half breakpoint && b then Marking else Nothing) ≢ Nothing → half ≡ breakpoint
+is_breakpoint half b h = by (nat_eq half breakpoint) refl h
+  where
+    by : (e : Bool) → nat_eq half breakpoint ≡ e → (if e && b then Marking else Nothing) ≢ Nothing → half ≡ breakpoint
+    by true e k = grind (arith, nat_tests)
+    by false e k = absurd (k refl)
+
+planted_word : (w : World) (p : ℕ) (c : Cell) → IsPlan (plan_in w) → p < length w.places → IsWord (plan_in w) p c → c.half ≡ breakpoint →
+    (0 < window_at (plan_in w) p) × (c.tag + 1 ≡ 2 * window_at (plan_in w) p) × (c.half ≡ breakpoint)
+planted_word w p c is lt word half = elim word [
+  | inl fresh ↦ absurd (is.no_breakpoint p lt (sym fresh.1 ∙ half))
+  | inr planted ↦ (planted.0, planted.1, half)
+]
+
+-- a cell that was fetched
+pub fetched_hand : (w : World) (cells : List Cell) (sets : List FactSet) (plan : PlanView) (tasks : List RunningView) (subject : Bool) (p : Number) (c : Cell) (due : Due) →
+    IsCore w cells sets plan tasks → p.0 < length w.places → c ≡ get_or cells p.0 c → due ≡ due_after_fetch w subject p.0 c →
+    IsHand w (record { subject = subject; place = p; cell = c; due = due })
+fetched_hand w cells sets plan tasks subject p c due is lt read same = record {
+  place = lt;
+  planted = λ h.
+      let word : IsWord (plan_in w) p.0 c = subst (λ (x : Cell). IsWord (plan_in w) p.0 x) (sym (read ∙ get_or_default cells p.0 c no_cell (subst (λ n. p.0 < n) (sym is.cell_count) lt))) (is.words p.0 lt) in
+      planted_word w p.0 c is.is_plan lt word (is_breakpoint c.half _ (λ k. h (same ∙ k)));
+}
+
+-- a hand of which something is due
+pub in_hand-stage : (due : Due) (stage : Stage) (h : Hand) → in_hand due stage ≡ Some h → (stage ≡ Holding h) × (same_due h.due due ≡ true)
+in_hand-stage due Ready h e = let n : None ≡ Some h = e in absurd cc
+in_hand-stage due Awaiting h e = let n : None ≡ Some h = e in absurd cc
+in_hand-stage due (Ended x) h e = let n : None ≡ Some h = e in absurd cc
+in_hand-stage due (Holding g) h e = by (same_due g.due due) refl e
+  where
+    by : (b : Bool) → same_due g.due due ≡ b → (if b then Some g else None) ≡ Some h → (Holding g ≡ Holding h) × (same_due h.due due ≡ true)
+    by true s k = let f : Some g ≡ Some h = k in let same : g ≡ h = cc in (ap Holding same, subst (λ (x : Hand). same_due x.due due ≡ true) same s)
+    by false s k = let n : None ≡ Some h = k in absurd cc
+
+same_hand : (s s2 : Bool) (p : Number) (x y : Cell) (d e : Due) → s ≡ s2 → x ≡ y → d ≡ e →
+    ◌≡◌ {A = Hand} (record { subject = s; place = p; cell = x; due = d }) (record { subject = s2; place = p; cell = y; due = e })
+same_hand s s2 p x y d e a b c =
+    ap (λ (z : Bool). record { subject = z; place = p; cell = x; due = d }) a
+    ∙ (ap (λ (z : Cell). record { subject = s2; place = p; cell = z; due = d }) b ∙ ap (λ (z : Due). record { subject = s2; place = p; cell = y; due = z }) c)
+
+stepped_is : (p q : Parts) (s : Shown) → p ≡ q → ◌≡◌ {A = Stepped} (record { parts = p; shown = s }) (record { parts = q; shown = s })
+stepped_is p q s e = ap (λ (x : Parts). record { parts = x; shown = s }) e
+
+pub read_cell : (cells : List Cell) (p : ℕ) (c : Cell) → p < length cells → c ≡ get_or cells p c → c ≡ word_at cells p
+read_cell cells p c lt read = read ∙ get_or_default cells p c no_cell lt
+
+pub fetch_possible : (w : World) (cells : List Cell) (sets : List FactSet) (tasks : List RunningView) (t : ℕ) (r m q n : RunningView) (subject : Bool) (p : Number) (c : Cell) (due : Due) →
+    t < length tasks → r ≡ get_or tasks t r → m ≡ get_or tasks t m → q ≡ get_or tasks t q → place_due w t r.part r.part.stage ≡ Some p.0 → subject ≡ is_awaiting q.part.stage →
+    p.0 < length cells → c ≡ get_or cells p.0 c → due ≡ due_after_fetch w subject p.0 c →
+    n ≡ record m { part = with_stage m.part (Holding (record { subject = subject; place = p; cell = c; due = due })) } →
+    of_task (record { cells = cells; sets = sets; tasks = parts_of tasks }) t (fetch_step w (record { cells = cells; sets = sets; tasks = parts_of tasks }) t)
+    ≡ Some (record { parts = record { cells = cells; sets = sets; tasks = parts_of (set tasks t n) }; shown = Fetched c })
+fetch_possible w cells sets tasks t r m q n subject p c due lt read_r read_m read_q at is_subject p_in read_c is_due e =
+    let P : Parts = record { cells = cells; sets = sets; tasks = parts_of tasks } in
+    let same_m : m ≡ r = same_read tasks t m r lt read_m read_r in
+    let same_subject : subject ≡ is_awaiting r.part.stage = is_subject ∙ ap (λ (x : RunningView). is_awaiting x.part.stage) (same_read tasks t q r lt read_q read_r) in
+    let same_c : c ≡ word_at cells p.0 = read_cell cells p.0 c p_in read_c in
+    let same_due : due ≡ due_after_fetch w (is_awaiting r.part.stage) p.0 (word_at cells p.0) =
+    is_due ∙ (ap (λ (z : Bool). due_after_fetch w z p.0 c) same_subject ∙ ap (λ (z : Cell). due_after_fetch w (is_awaiting r.part.stage) p.0 z) same_c) in
+    let hand : ◌≡◌ {A = Hand} (record { subject = subject; place = p; cell = c; due = due }) (hand_at w P (is_awaiting r.part.stage) p.0) =
+    same_hand subject (is_awaiting r.part.stage) p c (word_at cells p.0) due (due_after_fetch w (is_awaiting r.part.stage) p.0 (word_at cells p.0)) same_subject same_c same_due in
+    let part : n.part ≡ with_stage r.part (Holding (hand_at w P (is_awaiting r.part.stage) p.0)) =
+    ap (λ (x : RunningView). x.part) e ∙ (ap (λ (x : RunningView). with_stage x.part (Holding (record { subject = subject; place = p; cell = c; due = due }))) same_m
+    ∙ ap (λ (h : Hand). with_stage r.part (Holding h)) hand) in
+    let made : fetched w P t r.part p.0 ≡ record { parts = record { cells = cells; sets = sets; tasks = parts_of (set tasks t n) }; shown = Fetched c } =
+    stepped_is _ _ (Fetched (word_at cells p.0)) (parts_with cells sets tasks t n _ part) ∙ ap (λ (z : Cell). record { parts = record { cells = cells; sets = sets; tasks = parts_of (set tasks t n) }; shown = Fetched z }) (sym same_c) in
+    of_task-read cells sets tasks t r (fetch_step w P t) _ lt read_r (ap (option_map (fetched w P t r.part)) at ∙ ap Some made)
+
+-- a hand of which something is due: it is the breakpoint of the place's session, which is one of the job
+pub record HandDue (w : World) (t : ℕ) (u : TaskPart) (h : Hand) : Type 0 where
+  pub unspent : is_spent w t u.state ≡ false
+  pub hand : IsHand w h
+  pub some : 0 < window_at (plan_in w) h.place.0
+  pub most : window_at (plan_in w) h.place.0 ≤ length w.job.sessions
+  pub tag : h.cell.tag + 1 ≡ 2 * window_at (plan_in w) h.place.0
+  pub half : h.cell.half ≡ breakpoint
+
+not_nothing : (d due : Due) → same_due d due ≡ true → due ≢ Nothing → d ≢ Nothing
+not_nothing Marking due h n = λ e. absurd cc
+not_nothing Lifting due h n = λ e. absurd cc
+not_nothing Nothing Marking h n = let f : false ≡ true = h in absurd cc
+not_nothing Nothing Lifting h n = let f : false ≡ true = h in absurd cc
+not_nothing Nothing Nothing h n = absurd (n refl)
+
+pub hand_due : (w : World) (cells : List Cell) (sets : List FactSet) (plan : PlanView) (tasks : List RunningView) (t : ℕ) (r : RunningView) (due : Due) (h : Hand) →
+    IsCore w cells sets plan tasks → t < length tasks → r ≡ get_or tasks t r → in_hand due r.part.stage ≡ Some h → due ≢ Nothing → HandDue w t r.part h
+hand_due w cells sets plan tasks t r due h is lt read e some =
+    let at = in_hand-stage due r.part.stage h e in
+    let stage : (is_spent w t r.part.state ≡ false) × IsHand w h = subst (λ (s : Stage). IsStage w t r.part s) at.0 (read_stage w cells sets plan tasks t r is lt read) in
+    let planted = stage.1.planted (not_nothing h.due due at.1 some) in
+    record {
+      unspent = stage.0;
+      hand = stage.1;
+      some = planted.0;
+      most = is.is_plan.in_range h.place.0 stage.1.place;
+      tag = planted.1;
+      half = planted.2;
+    }
+
+pub due_hand : (w : World) (t : ℕ) (u : TaskPart) (h g : Hand) (d : Due) → HandDue w t u h → g ≡ record h { due = d } → IsHand w g
+due_hand w t u h g d is e = subst (λ (x : Hand). IsHand w x) (sym e) (record { place = is.hand.place; planted = λ n. (is.some, is.tag, is.half) })
+
+session_is : (tag window : ℕ) → 0 < window → tag + 1 ≡ 2 * window → session_under tag ≡ window
+session_is tag window some e = omega arith
+
+pub mark_index : (w : World) (cells : List Cell) (sets : List FactSet) (plan : PlanView) (tasks : List RunningView) (h : Hand) (n : ℕ) →
+    IsCore w cells sets plan tasks → n ≡ length cells → h.cell.tag / 2 * n + h.place.0 ≡ index_of (length w.places) (session_under h.cell.tag) h.place.0
+mark_index w cells sets plan tasks h n is e =
+    let less : session_under h.cell.tag - 1 ≡ h.cell.tag / 2 = omega arith in
+    rw (e, is.cell_count, less) refl
+
+pub mark_fits : (w : World) (cells : List Cell) (sets : List FactSet) (plan : PlanView) (tasks : List RunningView) (t : ℕ) (u : TaskPart) (h : Hand) →
+    IsCore w cells sets plan tasks → HandDue w t u h → index_of (length w.places) (session_under h.cell.tag) h.place.0 < length sets
+mark_fits w cells sets plan tasks t u h is due =
+    let session : session_under h.cell.tag ≡ window_at (plan_in w) h.place.0 = session_is h.cell.tag _ due.some due.tag in
+    subst (λ n. index_of (length w.places) (session_under h.cell.tag) h.place.0 < n) (sym is.set_count)
+    (index_below (length w.places) (length w.job.sessions) (session_under h.cell.tag) h.place.0 (omega arith) (subst (λ n. n ≤ length w.job.sessions) (sym session) due.most) due.hand.place)
+
+pub within_fact : (k : Kind) (s : FactSet) (went : Bool) → is_within k s ≡ true → is_within k (with_fact s (fact_of k went)) ≡ true
+within_fact Straight s went h = h
+within_fact Conditional s true h = h
+within_fact Conditional s false h = h
+
+pub marked_core : (w : World) (cells : List Cell) (sets : List FactSet) (plan : PlanView) (tasks : List RunningView) (t : ℕ) (r m n : RunningView) (h g : Hand) (d : Due) (at : ℕ) (found facts : FactSet) (kind : Kind) (went : Bool) →
+    IsCore w cells sets plan tasks → t < length tasks → r ≡ get_or tasks t r → m ≡ get_or tasks t m → HandDue w t r.part h →
+    at ≡ index_of (length w.places) (session_under h.cell.tag) h.place.0 → found ≡ get_or sets at found → kind ≡ kind_at (plan_in w) h.place.0 →
+    facts ≡ with_fact found (fact_of kind went) → g ≡ record h { due = d } → n ≡ record m { part = with_stage m.part (Holding g) } →
+    IsCore w cells (set sets at facts) plan (set tasks t n)
+marked_core w cells sets plan tasks t r m n h g d at found facts kind went is lt read_r read_m due index read_found is_kind is_facts is_g e =
+    let same : r ≡ m = same_read tasks t r m lt read_r read_m in
+    let fits = mark_fits w cells sets plan tasks t r.part h is due in
+    let found_is : found ≡ set_in (length w.places) sets (session_under h.cell.tag) h.place.0 =
+    read_found ∙ (ap (λ (i : ℕ). get_or sets i found) index ∙ get_or_default sets (index_of (length w.places) (session_under h.cell.tag) h.place.0) found no_facts fits) in
+    let s0 : 0 < session_under h.cell.tag = omega arith in
+    let own : is_within (kind_at (plan_in w) h.place.0) found ≡ true = subst (λ (f : FactSet). is_within (kind_at (plan_in w) h.place.0) f ≡ true) (sym found_is) (is.within (session_under h.cell.tag) h.place.0 s0 due.hand.place) in
+    let grown : is_within (kind_at (plan_in w) h.place.0) facts ≡ true = subst (λ (f : FactSet). is_within (kind_at (plan_in w) h.place.0) f ≡ true) (sym is_facts)
+    (subst (λ (k : Kind). is_within (kind_at (plan_in w) h.place.0) (with_fact found (fact_of k went)) ≡ true) (sym is_kind) (within_fact (kind_at (plan_in w) h.place.0) found went own)) in
+    let core : IsCore w cells (set sets at facts) plan tasks = subst (λ (i : ℕ). IsCore w cells (set sets i facts) plan tasks) (sym index)
+    (IsCore-set w cells sets plan tasks (session_under h.cell.tag) h.place.0 facts is s0 due.hand.place fits grown) in
+    held_core w cells (set sets at facts) plan tasks t m n g core lt read_m e (subst (λ (x : RunningView). is_spent w t x.part.state ≡ false) same due.unspent) (due_hand w t r.part h g d due is_g)
+
+pub mark_possible : (w : World) (cells : List Cell) (sets : List FactSet) (plan : PlanView) (tasks : List RunningView) (t : ℕ) (r m q n : RunningView) (h g : Hand) (d : Due) (at : ℕ) (found facts : FactSet) (kind : Kind) (went : Bool) →
+    IsCore w cells sets plan tasks → t < length tasks → r ≡ get_or tasks t r → m ≡ get_or tasks t m → q ≡ get_or tasks t q → in_hand Marking r.part.stage ≡ Some h → HandDue w t r.part h →
+    at ≡ index_of (length w.places) (session_under h.cell.tag) h.place.0 → found ≡ get_or sets at found → kind ≡ kind_at (plan_in w) h.place.0 →
+    facts ≡ with_fact found (fact_of kind went) → (visit_of (step_of w t q.part) h.subject).went ≡ went → d ≡ (if is_full kind facts then Lifting else Nothing) →
+    g ≡ record h { due = d } → n ≡ record m { part = with_stage m.part (Holding g) } →
+    of_task (record { cells = cells; sets = sets; tasks = parts_of tasks }) t (mark_step w (record { cells = cells; sets = sets; tasks = parts_of tasks }) t)
+    ≡ Some (record { parts = record { cells = cells; sets = set sets at facts; tasks = parts_of (set tasks t n) }; shown = Marked found })
+mark_possible w cells sets plan tasks t r m q n h g d at found facts kind went is lt read_r read_m read_q held due index read_found is_kind is_facts is_went is_d is_g e =
+    let P : Parts = record { cells = cells; sets = sets; tasks = parts_of tasks } in
+    let K : Kind = kind_at (plan_in w) h.place.0 in
+    let i : ℕ = index_of (length w.places) (session_under h.cell.tag) h.place.0 in
+    let X : FactSet = with_fact (set_of w P (session_under h.cell.tag) h.place.0) (fact_in w t r.part h) in
+    let same_m : m ≡ r = same_read tasks t m r lt read_m read_r in
+    let fits = mark_fits w cells sets plan tasks t r.part h is due in
+    let found_is : found ≡ set_of w P (session_under h.cell.tag) h.place.0 =
+    read_found ∙ (ap (λ (j : ℕ). get_or sets j found) index ∙ get_or_default sets i found no_facts fits) in
+    let went_is : went ≡ (visit_of (step_of w t r.part) h.subject).went = sym is_went ∙ ap (λ (x : RunningView). (visit_of (step_of w t x.part) h.subject).went) (same_read tasks t q r lt read_q read_r) in
+    let facts_is : facts ≡ X = is_facts ∙ (ap (λ (f : FactSet). with_fact f (fact_of kind went)) found_is
+    ∙ (ap (λ (k : Kind). with_fact (set_of w P (session_under h.cell.tag) h.place.0) (fact_of k went)) is_kind
+    ∙ ap (λ (b : Bool). with_fact (set_of w P (session_under h.cell.tag) h.place.0) (fact_of K b)) went_is)) in
+    let d_is : d ≡ (if is_full K X then Lifting else Nothing) = is_d ∙ (ap (λ (k : Kind). if is_full k facts then Lifting else Nothing) is_kind ∙ ap (λ (f : FactSet). if is_full K f then Lifting else Nothing) facts_is) in
+    let part : n.part ≡ with_due r.part h (if is_full K X then Lifting else Nothing) =
+    ap (λ (x : RunningView). x.part) e ∙ (ap (λ (x : RunningView). with_stage x.part (Holding g)) same_m
+    ∙ (ap (λ (z : Hand). with_stage r.part (Holding z)) is_g ∙ ap (λ (z : Due). with_due r.part h z) d_is)) in
+    let made : marked w P t r.part h ≡ record { parts = record { cells = cells; sets = set sets i X; tasks = parts_of (set tasks t n) }; shown = Marked (set_of w P (session_under h.cell.tag) h.place.0) } =
+    stepped_is _ _ _ (parts_with cells (set sets i X) tasks t n _ part) in
+    of_task-read cells sets tasks t r (mark_step w P t) _ lt read_r (ap (option_map (marked w P t r.part)) held ∙ ap Some (made
+    ∙ (ap (λ (f : FactSet). record { parts = record { cells = cells; sets = set sets i f; tasks = parts_of (set tasks t n) }; shown = Marked (set_of w P (session_under h.cell.tag) h.place.0) }) (sym facts_is)
+    ∙ (ap (λ (j : ℕ). record { parts = record { cells = cells; sets = set sets j facts; tasks = parts_of (set tasks t n) }; shown = Marked (set_of w P (session_under h.cell.tag) h.place.0) }) (sym index)
+    ∙ ap (λ (f : FactSet). record { parts = record { cells = cells; sets = set sets at facts; tasks = parts_of (set tasks t n) }; shown = Marked f }) (sym found_is)))))
+
+exchanged : (b : Bool) (w : World) (cells : List Cell) (sets : List FactSet) (plan : PlanView) (tasks : List RunningView) (p : ℕ) (x : Cell) →
+    IsCore w cells sets plan tasks → p < length cells → IsWord (plan_in w) p x → IsCore w (if b then set cells p x else cells) sets plan tasks
+exchanged true w cells sets plan tasks p x is lt word = IsCore-cell w cells sets plan tasks p x is lt word
+exchanged false w cells sets plan tasks p x is lt word = is
+
+pub lifted_core : (w : World) (cells cells2 : List Cell) (sets : List FactSet) (plan : PlanView) (tasks : List RunningView) (t : ℕ) (r m n : RunningView) (h g : Hand) (taken : Bool) (original : ℕ) →
+    IsCore w cells sets plan tasks → t < length tasks → r ≡ get_or tasks t r → m ≡ get_or tasks t m → HandDue w t r.part h → original ≡ original_at (plan_in w) h.place.0 →
+    cells2 ≡ (if taken then set cells h.place.0 (record { tag = h.cell.tag; half = original }) else cells) → g ≡ record h { due = Nothing } →
+    n ≡ record m { part = with_stage m.part (Holding g) } → IsCore w cells2 sets plan (set tasks t n)
+lifted_core w cells cells2 sets plan tasks t r m n h g taken original is lt read_r read_m due is_original is_cells is_g e =
+    let same : r ≡ m = same_read tasks t r m lt read_r read_m in
+    let p_in : h.place.0 < length cells = subst (λ k. h.place.0 < k) (sym is.cell_count) due.hand.place in
+    let word : IsWord (plan_in w) h.place.0 (record { tag = h.cell.tag; half = original }) = inr (due.some, due.tag, inr is_original) in
+    let core : IsCore w cells2 sets plan tasks = subst (λ (xs : List Cell). IsCore w xs sets plan tasks) (sym is_cells)
+    (exchanged taken w cells sets plan tasks h.place.0 (record { tag = h.cell.tag; half = original }) is p_in word) in
+    held_core w cells2 sets plan tasks t m n g core lt read_m e (subst (λ (x : RunningView). is_spent w t x.part.state ≡ false) same due.unspent) (due_hand w t r.part h g Nothing due is_g)
+
+either : (b : Bool) (P : Parts) (p : ℕ) (x : Cell) → (if b then with_cell P p x else P) ≡ record { cells = if b then set P.cells p x else P.cells; sets = P.sets; tasks = P.tasks }
+either true P p x = refl
+either false P p x = refl
+
+pub lift_possible : (w : World) (cells cells2 : List Cell) (sets : List FactSet) (tasks : List RunningView) (t : ℕ) (r m n : RunningView) (h g : Hand) (taken : Bool) (original : ℕ) →
+    t < length tasks → r ≡ get_or tasks t r → m ≡ get_or tasks t m → in_hand Lifting r.part.stage ≡ Some h → original ≡ original_at (plan_in w) h.place.0 → taken ≡ same_cell (word_at cells h.place.0) h.cell →
+    cells2 ≡ (if taken then set cells h.place.0 (record { tag = h.cell.tag; half = original }) else cells) → g ≡ record h { due = Nothing } →
+    n ≡ record m { part = with_stage m.part (Holding g) } →
+    of_task (record { cells = cells; sets = sets; tasks = parts_of tasks }) t (lift_step w (record { cells = cells; sets = sets; tasks = parts_of tasks }) t)
+    ≡ Some (record { parts = record { cells = cells2; sets = sets; tasks = parts_of (set tasks t n) }; shown = Lifted taken })
+lift_possible w cells cells2 sets tasks t r m n h g taken original lt read_r read_m held is_original is_taken is_cells is_g e =
+    let P : Parts = record { cells = cells; sets = sets; tasks = parts_of tasks } in
+    let T : Bool = same_cell (word_at cells h.place.0) h.cell in
+    let C : List Cell = if T then set cells h.place.0 (original_under w h.place.0 h.cell) else cells in
+    let same_m : m ≡ r = same_read tasks t m r lt read_m read_r in
+    let cells_is : cells2 ≡ C = is_cells ∙ (ap (λ (o : ℕ). if taken then set cells h.place.0 (record { tag = h.cell.tag; half = o }) else cells) is_original
+    ∙ ap (λ (b : Bool). if b then set cells h.place.0 (original_under w h.place.0 h.cell) else cells) is_taken) in
+    let part : n.part ≡ with_due r.part h Nothing =
+    ap (λ (x : RunningView). x.part) e ∙ (ap (λ (x : RunningView). with_stage x.part (Holding g)) same_m ∙ ap (λ (z : Hand). with_stage r.part (Holding z)) is_g) in
+    let parts : with_task (if T then with_cell P h.place.0 (original_under w h.place.0 h.cell) else P) t (with_due r.part h Nothing) ≡ record { cells = C; sets = sets; tasks = parts_of (set tasks t n) } =
+    ap (λ (x : Parts). with_task x t (with_due r.part h Nothing)) (either T P h.place.0 (original_under w h.place.0 h.cell)) ∙ parts_with C sets tasks t n _ part in
+    let made : lifted w P t r.part h ≡ record { parts = record { cells = C; sets = sets; tasks = parts_of (set tasks t n) }; shown = Lifted T } = stepped_is _ _ _ parts in
+    of_task-read cells sets tasks t r (lift_step w P t) _ lt read_r (ap (option_map (lifted w P t r.part)) held ∙ ap Some (made
+    ∙ (ap (λ (xs : List Cell). record { parts = record { cells = xs; sets = sets; tasks = parts_of (set tasks t n) }; shown = Lifted T }) (sym cells_is)
+    ∙ ap (λ (b : Bool). record { parts = record { cells = cells2; sets = sets; tasks = parts_of (set tasks t n) }; shown = Lifted b }) (sym is_taken))))
+
+pub run_possible : (w : World) (cells : List Cell) (sets : List FactSet) (tasks : List RunningView) (t : ℕ) (m n : RunningView) →
+    t < length tasks → m ≡ get_or tasks t m → task_done w t m.part m.part.stage ≡ Some n.part →
+    of_task (record { cells = cells; sets = sets; tasks = parts_of tasks }) t (do_step w (record { cells = cells; sets = sets; tasks = parts_of tasks }) t)
+    ≡ Some (record { parts = record { cells = cells; sets = sets; tasks = parts_of (set tasks t n) }; shown = Done })
+run_possible w cells sets tasks t m n lt read is_done =
+    let P : Parts = record { cells = cells; sets = sets; tasks = parts_of tasks } in
+    of_task-read cells sets tasks t m (do_step w P t) _ lt read (ap (option_map (done_by P t)) is_done ∙ ap Some (stepped_is _ _ Done (parts_with cells sets tasks t n n.part refl)))
+
+executed_stage : (w : World) (t : ℕ) (u : TaskPart) (next : Next) → IsStage w t u (stage_after next)
+executed_stage w t u On = tt
+executed_stage w t u (NextEnded e) = tt
+
+some_of : (u v : TaskPart) → Some u ≡ Some v → u ≡ v
+some_of u v h = cc
+
+instruction_stage : (w : World) (t : ℕ) (u : TaskPart) → is_spent w t u.state ≡ false → IsStage w t (instruction_executed w t u) (instruction_executed w t u).stage
+instruction_stage w t u unspent = by (subject_place w (step_of w t u).visits) refl
+  where
+    by : (at : Option ℕ) → subject_place w (step_of w t u).visits ≡ at → IsStage w t (awaits_or u (executed (step_of w t u)) at) (awaits_or u (executed (step_of w t u)) at).stage
+    by None e = executed_stage w t (executed (step_of w t u)) (step_of w t u).next
+    by (Some p) e = (unspent, λ k. let n : Some p ≡ None = sym e ∙ k in absurd cc)
+
+-- where a Do leaves a task
+pub done_stage : (w : World) (t : ℕ) (u v : TaskPart) (stage : Stage) → IsStage w t u stage → task_done w t u stage ≡ Some v → IsStage w t v v.stage
+done_stage w t u v Ready is h = ready (has_returned u.state) (is_spent w t u.state) refl (place_at w u.state.machine.cpu.ia) h
+  where
+    ready : (returned spent : Bool) → is_spent w t u.state ≡ spent → (at : Option ℕ) →
+        (if returned then Some (with_stage u (Ended Returned)) else (if spent then Some (with_stage u (Ended Spent)) else unless_at (instruction_executed w t u) at)) ≡ Some v → IsStage w t v v.stage
+    ready true spent s at k = subst (λ (x : TaskPart). IsStage w t x x.stage) (some_of _ v k) tt
+    ready false true s at k = subst (λ (x : TaskPart). IsStage w t x x.stage) (some_of _ v k) tt
+    ready false false s None k = subst (λ (x : TaskPart). IsStage w t x x.stage) (some_of _ v k) (instruction_stage w t u s)
+    ready false false s (Some p) k = let n : None ≡ Some v = k in absurd cc
+done_stage w t u v Awaiting is h = let n : None ≡ Some v = h in absurd cc
+done_stage w t u v (Ended e) is h = let n : None ≡ Some v = h in absurd cc
+done_stage w t u v (Holding g) is h = by (same_due g.due Nothing) g.subject h
+  where
+    by : (nothing subject : Bool) → (if nothing then Some (if subject then subject_executed w t u else instruction_executed w t u) else None) ≡ Some v → IsStage w t v v.stage
+    by false subject k = let n : None ≡ Some v = k in absurd cc
+    by true true k = subst (λ (x : TaskPart). IsStage w t x x.stage) (some_of _ v k) (executed_stage w t (executed (step_of w t u)) (step_of w t u).next)
+    by true false k = subst (λ (x : TaskPart). IsStage w t x x.stage) (some_of _ v k) (instruction_stage w t u is.0)
+
+pub ran_core : (w : World) (cells : List Cell) (sets : List FactSet) (plan : PlanView) (tasks : List RunningView) (t : ℕ) (m n : RunningView) →
+    IsCore w cells sets plan tasks → t < length tasks → m ≡ get_or tasks t m → task_done w t m.part m.part.stage ≡ Some n.part → IsRunning w t n → IsCore w cells sets plan (set tasks t n)
+ran_core w cells sets plan tasks t m n is lt read is_done runs =
+    IsCore-task w cells sets plan tasks t n is lt runs (done_stage w t m.part n.part m.part.stage (read_stage w cells sets plan tasks t m is lt read) is_done)

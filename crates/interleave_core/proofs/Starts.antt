@@ -1,0 +1,112 @@
+-- A core before its first event, and what each core fits.
+use Rattle.std.proofs.Common.{◌≡◌, ◌⊎◌, inl, inr, ℕ, ◌+◌, ◌-◌, ◌*◌, ◌<◌, ◌≤◌, true, List, [], ◌∷◌, ◌++◌, length, get_or, map, replicate, take, drop, min, slice_range, nat_lt, refl, sym, ◌∙◌, ap, subst, arith}
+use Rattle.std.proofs.lemmas.List.{get_or-map, length-map, length-append, ext_get_or, get_or_push, get_or_append_left, length-drop, take_all}
+use Rattle.std.proofs.lemmas.Bool.Decides.{nat_tests}
+use Rattle.cov_base.specs.FactSet.{FactSet}
+use Rattle.cov_base.specs.Facts.{no_facts}
+use Rattle.cov_base.specs.Memory.{Memory, ImageView}
+use Rattle.module_area.specs.FreshWords.{fresh_word}
+use Rattle.module_area.specs.PlanView.{PlanView}
+use Rattle.module_area.specs.declared.cells.Cell.{Cell}
+use Rattle.module_area.specs.declared.places.Place.{Place}
+use Rattle.brk_table.specs.Places.{memory_of}
+use Rattle.session_book.specs.JobView.{TaskView}
+use Rattle.session_book.specs.Results.{ResultView}
+use Rattle.session_book.specs.Sessions.{task_of, no_task}
+use Rattle.space_map.specs.Space.{memory_of_space, row_of}
+use Rattle.interleave_core.specs.World.{World, TaskPart, Parts, no_part, first_part, first_parts, part_of, memory_in}
+use Rattle.interleave_core.specs.Results.{Fits, results_of, part_result}
+use Rattle.interleave_core.specs.Views.{RunningView, IsRunning, IsStage, IsCore, AreReady, parts_of}
+
+private_of : (size : ℕ) (images : List ImageView) (places : List Place) → (memory_of size images places).private ≡ size
+unfolding memory_of
+private_of size images places = refl
+
+pub part_read : (tasks : List RunningView) (t : ℕ) (r : RunningView) → t < length tasks → r ≡ get_or tasks t r → get_or (parts_of tasks) t no_part ≡ r.part
+part_read tasks t r lt read = get_or-map (λ (x : RunningView). x.part) tasks t r no_part lt ∙ ap (λ (x : RunningView). x.part) (sym read)
+
+pub result_read : (cells : List Cell) (sets : List FactSet) (tasks : List RunningView) (t : ℕ) (r : RunningView) → t < length tasks → r ≡ get_or tasks t r →
+    results_of (record { cells = cells; sets = sets; tasks = parts_of tasks }) t ≡ part_result r.part
+result_read cells sets tasks t r lt read = ap part_result (part_read tasks t r lt read)
+
+-- a task that was read is where it stands
+pub stage_read : (w : World) (cells : List Cell) (sets : List FactSet) (plan : PlanView) (tasks : List RunningView) (t : ℕ) (r : RunningView) → IsCore w cells sets plan tasks → t < length tasks → r ≡ get_or tasks t r →
+    IsStage w t (get_or (parts_of tasks) t no_part) (get_or (parts_of tasks) t no_part).stage
+stage_read w cells sets plan tasks t r is lt read =
+    subst (λ (u : TaskPart). IsStage w t u u.stage) (sym (part_read tasks t r lt read)) (subst (λ (x : RunningView). IsStage w t x.part x.part.stage) (sym read) (is.stages t r lt))
+
+lt_true : (t n : ℕ) → t < n → nat_lt t n ≡ true
+lt_true t n h = grind (arith, nat_tests)
+
+pub exists_read : (tasks : List RunningView) (t : ℕ) → t < length tasks → nat_lt t (length (parts_of tasks)) ≡ true
+exists_read tasks t lt = lt_true t (length (parts_of tasks)) (subst (λ n. t < n) (sym (length-map tasks (λ (r : RunningView). r.part))) lt)
+
+no_running : RunningView
+no_running = record { part = no_part; space = record { size = 0; bytes = []; images = []; places = [] }; budget = 0 }
+
+bytes_fit : (w : World) (t : ℕ) (r : RunningView) → IsRunning w t r → length r.part.state.machine.bytes ≡ (task_of w.job t).private
+bytes_fit w t r is =
+    ap (λ (b : List ℕ). length b) (sym is.bytes) ∙ (is.filled ∙ (ap (λ (m : Memory). m.private) is.memory ∙ private_of (task_of w.job t).private w.job.images w.places))
+
+pub Fits-core : (w : World) (cells : List Cell) (sets : List FactSet) (plan : PlanView) (tasks : List RunningView) → IsCore w cells sets plan tasks →
+    Fits w (record { cells = cells; sets = sets; tasks = parts_of tasks })
+Fits-core w cells sets plan tasks is = record {
+  cells = is.cell_count;
+  tasks = length-map tasks (λ (r : RunningView). r.part) ∙ is.count;
+  bytes = λ t l.
+      let lt : t < length tasks = subst (λ (n : ℕ). t < n) (length-map tasks (λ (r : RunningView). r.part)) l in
+      ap (λ (u : TaskPart). length u.state.machine.bytes) (get_or-map (λ (x : RunningView). x.part) tasks t no_running no_part lt) ∙ bytes_fit w t (get_or tasks t no_running) (is.running t no_running lt);
+  within = is.within;
+}
+
+cases_last : (t n : ℕ) → t < n + 1 → (t ≡ n) ⊎ (t < n)
+cases_last t n h = grind arith
+
+-- one task more
+pub AreReady-push : (w : World) (n : ℕ) (tasks more : List RunningView) (r : RunningView) → AreReady w n tasks → more ≡ tasks ++ r ∷ [] → IsRunning w n r → r.part ≡ first_part (task_of w.job n) →
+    AreReady w (n + 1) more
+AreReady-push w n tasks more r are e runs part = subst (λ (xs : List RunningView). AreReady w (n + 1) xs) (sym e) (record {
+  count = length-append tasks (r ∷ []) ∙ ap (λ k. k + 1) are.count;
+  running = λ t d l. elim (last_or t l) [
+    | inl same ↦ subst (λ (x : RunningView). IsRunning w t x) (sym (at_end t d same)) (subst (λ k. IsRunning w k r) (sym (same ∙ are.count)) runs)
+    | inr lt ↦ subst (λ (x : RunningView). IsRunning w t x) (sym (get_or_append_left tasks (r ∷ []) d t lt)) (are.running t d lt)
+  ];
+  parts = λ t d l. elim (last_or t l) [
+    | inl same ↦ ap (λ (x : RunningView). x.part) (at_end t d same) ∙ (part ∙ ap (λ (k : ℕ). first_part (task_of w.job k)) (sym (same ∙ are.count)))
+    | inr lt ↦ ap (λ (x : RunningView). x.part) (get_or_append_left tasks (r ∷ []) d t lt) ∙ are.parts t d lt
+  ];
+})
+  where
+    last_or : (t : ℕ) → t < length (tasks ++ r ∷ []) → (t ≡ length tasks) ⊎ (t < length tasks)
+    last_or t l = let size = length-append tasks (r ∷ []) in
+        let below : t < length tasks + 1 = subst (λ (n : ℕ). t < n) size l in
+        cases_last t (length tasks) below
+
+    at_end : (t : ℕ) (d : RunningView) → t ≡ length tasks → get_or (tasks ++ r ∷ []) t d ≡ r
+    at_end t d same = get_or_push tasks r d t (sym same)
+
+pub ready_parts : (w : World) (tasks : List RunningView) → AreReady w (length w.job.tasks) tasks → parts_of tasks ≡ map first_part w.job.tasks
+ready_parts w tasks are = ext_get_or no_part (parts_of tasks) (map first_part w.job.tasks)
+    (length-map tasks (λ (r : RunningView). r.part) ∙ (are.count ∙ sym (length-map w.job.tasks first_part)))
+    (λ t l.
+    let lt : t < length tasks = subst (λ (n : ℕ). t < n) (length-map tasks (λ (r : RunningView). r.part)) l in
+    get_or-map (λ (x : RunningView). x.part) tasks t no_running no_part lt
+    ∙ (are.parts t no_running lt ∙ sym (get_or-map first_part w.job.tasks t no_task no_part (subst (λ (n : ℕ). t < n) are.count lt))))
+
+pub parts_are : (w : World) (cells : List Cell) (sets : List FactSet) (tasks : List RunningView) → cells ≡ map fresh_word w.places → sets ≡ replicate (length w.job.sessions * length w.places) no_facts →
+    AreReady w (length w.job.tasks) tasks → ◌≡◌ {A = Parts} (record { cells = cells; sets = sets; tasks = parts_of tasks }) (first_parts w)
+parts_are w cells sets tasks is_cells is_sets are = rw (is_cells, is_sets, ready_parts w tasks are) refl
+
+-- a row of private storage, by its bounds
+row_at : (bytes : List ℕ) (from n : ℕ) → from ≤ length bytes → (from + 16 ≤ length bytes) ⊎ (length bytes ≤ from + 16) → n ≡ min (from + 16) (length bytes) - from →
+    take 16 (drop from bytes) ≡ take n (drop from bytes)
+row_at bytes from n l (inl whole) e = let same : n ≡ 16 = omega arith in rw same refl
+row_at bytes from n l (inr short) e =
+    let size : length (drop from bytes) ≡ length bytes - from = length-drop from bytes in
+    take_all 16 (drop from bytes) (omega (arith, size)) ∙ sym (take_all n (drop from bytes) (omega (arith, size)))
+
+whole_or : (a b : ℕ) → (a ≤ b) ⊎ (b ≤ a)
+whole_or a b = grind arith
+
+pub row_range : (bytes : List ℕ) (n : ℕ) → 16 * n ≤ length bytes → row_of bytes n ≡ slice_range bytes (16 * n) (min (16 * n + 16) (length bytes))
+row_range bytes n l = row_at bytes (16 * n) _ l (whole_or (16 * n + 16) (length bytes)) refl

@@ -1,0 +1,25 @@
+use Rattle.std.proofs.Common.{◌≡◌, ◌≢◌, ℕ, ◌+◌, ◌*◌, ◌/◌, ◌<◌, false, length, set, Some, ap, sym, ◌∙◌, refl, subst, arith}
+use Rattle.interleave_core.specs.World.{World}
+use Rattle.interleave_core.specs.Steps.{Stepped, of_task, lift_step}
+use Rattle.interleave_core.specs.Views.{RunningView, CoreView, parts_of}
+use Rattle.interleave_core.specs.declared.events.Shown.TheVariants.{Lifted}
+use Rattle.interleave_core.specs.declared.stage.Due.TheVariants.{Lifting, Nothing}
+use Rattle.interleave_core.proofs.Kept.{hand_due, lifted_core, lift_possible}
+use Rattle.interleave_core.proofs.interleaving.Core.lift.Goals as goal
+
+pub invariant_of-self : goal.invariant_of-self
+invariant_of-self c =
+    let w : World = record { job = c.self.inside.job.now; places = c.self.inside.tables.now.places } in
+    let lt : c.args.t.0 < length c.self.inside.tasks.items = omega (arith, c.if-n-len.false, c.len.ensures) in
+    let due = hand_due w c.self.inside.cells.items c.self.inside.sets.items c.self.inside.plan c.self.inside.tasks.items c.args.t.0 c.index.result.now Lifting c.in-Some.hand c.self.invariant lt c.index.ensures (sym c.in-Some.ensures) (λ e. absurd cc) in
+    lifted_core w c.self.inside.cells.items c.exchange-taken.new.cells.items _ _ _ c.args.t.0 c.index.result.now c.index_mut.result.now c.hold.new.self c.in-Some.hand c.with_due.result c.exchange-taken.result c.place.result.now.original
+    c.self.invariant lt c.index.ensures c.index_mut.ensures.value due (ap (λ x. x.original) c.place.ensures.value) c.exchange-taken.ensures.cells c.with_due.ensures c.hold.ensures
+
+pub returns-clause-possible : goal.returns-clause-possible
+returns-clause-possible c =
+    let w : World = record { job = c.self.inside.job.now; places = c.self.inside.tables.now.places } in
+    let lt : c.args.t.0 < length c.self.inside.tasks.items = omega (arith, c.if-n-len.false, c.len.ensures) in
+    let target : Stepped = record { parts = record { cells = c.exchange-taken.new.cells.items; sets = c.self.inside.sets.items; tasks = parts_of (set c.self.inside.tasks.items c.args.t.0 c.hold.new.self) }; shown = Lifted c.exchange-taken.result } in
+    subst (λ (v : CoreView). of_task v.parts c.args.t.0 (lift_step v.world v.parts c.args.t.0) ≡ Some target) c.self.view_is
+    (lift_possible w c.self.inside.cells.items c.exchange-taken.new.cells.items c.self.inside.sets.items c.self.inside.tasks.items c.args.t.0 c.index.result.now c.index_mut.result.now c.hold.new.self c.in-Some.hand c.with_due.result c.exchange-taken.result
+    c.place.result.now.original lt c.index.ensures c.index_mut.ensures.value (sym c.in-Some.ensures) (ap (λ x. x.original) c.place.ensures.value) c.exchange-taken.ensures.taken c.exchange-taken.ensures.cells c.with_due.ensures c.hold.ensures)

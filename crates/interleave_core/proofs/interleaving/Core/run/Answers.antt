@@ -1,0 +1,23 @@
+use Rattle.std.proofs.Common.{◌≡◌, ◌≢◌, ℕ, ◌+◌, ◌*◌, ◌/◌, ◌<◌, false, length, set, Some, ap, sym, ◌∙◌, refl, subst, arith}
+use Rattle.interleave_core.specs.World.{World}
+use Rattle.interleave_core.specs.Steps.{Stepped, of_task, do_step}
+use Rattle.interleave_core.specs.Views.{RunningView, CoreView, parts_of}
+use Rattle.interleave_core.specs.declared.events.Shown.TheVariants.{Done}
+use Rattle.interleave_core.proofs.Kept.{read_running, run_possible, ran_core}
+use Rattle.interleave_core.proofs.interleaving.Core.run.Goals as goal
+
+pub invariant_of-self-2 : goal.invariant_of-self-2
+invariant_of-self-2 c =
+    let w : World = record { job = c.self.inside.job.now; places = c.self.inside.tables.now.places } in
+    let lt : c.args.t.0 < length c.self.inside.tasks.items = omega (arith, c.if-n-len.false, c.len.ensures) in
+    let runs = read_running w c.self.inside.cells.items c.self.inside.sets.items c.self.inside.plan c.self.inside.tasks.items c.args.t.0 c.index_mut.result.now c.self.invariant lt c.index_mut.ensures.value in
+    ran_core w _ _ _ _ c.args.t.0 c.index_mut.result.now c.run.new.self c.self.invariant lt c.index_mut.ensures.value (c.in-Ok.ensures.done w c.args.t.0 refl runs) (c.run.ensures.running w c.args.t.0 runs)
+
+pub returns-clause-possible : goal.returns-clause-possible
+returns-clause-possible c =
+    let w : World = record { job = c.self.inside.job.now; places = c.self.inside.tables.now.places } in
+    let lt : c.args.t.0 < length c.self.inside.tasks.items = omega (arith, c.if-n-len.false, c.len.ensures) in
+    let runs = read_running w c.self.inside.cells.items c.self.inside.sets.items c.self.inside.plan c.self.inside.tasks.items c.args.t.0 c.index_mut.result.now c.self.invariant lt c.index_mut.ensures.value in
+    let target : Stepped = record { parts = record { cells = c.self.inside.cells.items; sets = c.self.inside.sets.items; tasks = parts_of (set c.self.inside.tasks.items c.args.t.0 c.run.new.self) }; shown = Done } in
+    subst (λ (v : CoreView). of_task v.parts c.args.t.0 (do_step v.world v.parts c.args.t.0) ≡ Some target) c.self.view_is
+    (run_possible w c.self.inside.cells.items c.self.inside.sets.items c.self.inside.tasks.items c.args.t.0 c.index_mut.result.now c.run.new.self lt c.index_mut.ensures.value (c.in-Ok.ensures.done w c.args.t.0 refl runs))

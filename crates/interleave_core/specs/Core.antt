@@ -1,0 +1,107 @@
+-- The core: what it stores and each task's log, its deterministic step, and its run by a list of events.
+use Rattle.std.specs.Prelude.{◌≡◌, ℕ, Bool, true, false, nat_eq, if◌then◌else◌, Option, Some, None, option_map, List, [], ◌∷◌, ◌++◌}
+use Rattle.cov_base.specs.FactSet.{FactSet}
+use Rattle.cov_base.specs.declared.facts.Fact.{Fact}
+use Rattle.module_area.specs.declared.cells.Cell.{Cell}
+use Rattle.interleave_core.specs.Alone.{AreAlone}
+use Rattle.interleave_core.specs.World.{World, TaskPart, Parts, part_of, first_parts}
+use Rattle.interleave_core.specs.Steps.{Stepped, parts_step, step_of, visit_of, fact_in}
+use Rattle.interleave_core.specs.declared.events.Event.{Event}
+use Rattle.interleave_core.specs.declared.events.Event.TheVariants.{Fetch, Mark, Lift, Do, Plant}
+use Rattle.interleave_core.specs.declared.events.Shown.{Shown}
+use Rattle.interleave_core.specs.declared.events.Shown.TheVariants.{Fetched, Marked, Lifted, Done, Planted}
+use Rattle.interleave_core.specs.declared.stage.Hand.{Hand}
+use Rattle.interleave_core.specs.declared.stage.Stage.{Stage}
+use Rattle.interleave_core.specs.declared.stage.Stage.TheVariants.{Ready, Awaiting, Holding, Ended}
+
+-- a fetch: its place, the cell that it answered, the fact of the visit where that is begun, the set as its mark found
+-- it, and whether its lift exchanged
+pub record Entry : Type 0 where
+  pub place : ℕ
+  pub cell : Cell
+  pub fact : Option Fact
+  pub found : Option FactSet
+  pub lifted : Option Bool
+
+-- what is stored, and for each task its log, the newest entry first
+pub record CoreState : Type 0 where
+  pub parts : Parts
+  pub logs : ℕ → List Entry
+
+abbrev pub core_start : World → CoreState
+core_start w = record { parts = first_parts w; logs = λ t. [] }
+
+abbrev pub entry_of : World → ℕ → TaskPart → Hand → Entry
+entry_of w t u h = record {
+  place = h.place.0;
+  cell = h.cell;
+  fact = if (visit_of (step_of w t u) h.subject).begun then Some (fact_in w t u h) else None;
+  found = None;
+  lifted = None;
+}
+
+-- the log with an entry for the cell in hand
+abbrev pub with_entry : World → ℕ → TaskPart → List Entry → Stage → List Entry
+with_entry w t u log (Holding h) = entry_of w t u h ∷ log
+with_entry w t u log stage = log
+
+-- the task's log after an event that showed this and left it so
+abbrev pub log_after : World → ℕ → TaskPart → Shown → List Entry → List Entry
+log_after w t u (Fetched cell) log = with_entry w t u log u.stage
+log_after w t u (Marked found) (e ∷ log) = record e { found = Some found } ∷ log
+log_after w t u (Lifted taken) (e ∷ log) = record e { lifted = Some taken } ∷ log
+log_after w t u shown log = log
+
+abbrev pub is_by : Event → ℕ → Bool
+is_by (Fetch t) u = nat_eq t.0 u
+is_by (Mark t) u = nat_eq t.0 u
+is_by (Lift t) u = nat_eq t.0 u
+is_by (Do t) u = nat_eq t.0 u
+is_by (Plant s p) u = false
+
+pub record CoreStepped : Type 0 where
+  pub core : CoreState
+  pub shown : Shown
+
+-- the core after a possible event
+abbrev pub core_after : World → CoreState → Event → Stepped → CoreStepped
+core_after w c e x = record {
+  core = record {
+    parts = x.parts;
+    logs = λ u. if is_by e u then log_after w u (part_of x.parts u) x.shown (c.logs u) else c.logs u;
+  };
+  shown = x.shown;
+}
+
+-- the step: none where the event isn't possible
+abbrev pub core_step : World → CoreState → Event → Option CoreStepped
+core_step w c e = option_map (core_after w c e) (parts_step w c.parts e)
+
+abbrev pub go_on : (CoreState → Option CoreState) → Option CoreStepped → Option CoreState
+go_on more None = None
+go_on more (Some x) = more x.core
+
+-- the core after the events, one by one; none where one of them isn't possible
+abbrev pub core_from : World → CoreState → List Event → Option CoreState
+core_from w c [] = Some c
+core_from w c (e ∷ events) = go_on (λ d. core_from w d events) (core_step w c e)
+
+abbrev pub core_run : World → List Event → Option CoreState
+core_run w events = core_from w (core_start w) events
+
+-- the event is possible after these, shows this, and leaves these parts
+pub record Follows (w : World) (events : List Event) (e : Event) (c : CoreState) (parts : Parts) (shown : Shown) : Type 0 where
+  pub after : CoreState
+  pub step : core_step w c e ≡ Some (record { core = after; shown = shown })
+  pub run : core_run w (events ++ e ∷ []) ≡ Some after
+  pub stored : after.parts ≡ parts
+  -- each task is where its run alone is
+  pub alone : AreAlone w after.parts
+
+-- after each list of events that leaves the parts stored so, the event is possible, shows this, and leaves these parts
+abbrev pub FollowsAll : World → Parts → Event → Parts → Shown → Type 0
+FollowsAll w old e new shown = (events : List Event) (c : CoreState) → core_run w events ≡ Some c → c.parts ≡ old → Follows w events e c new shown
+
+-- it isn't possible after any of them
+abbrev pub FollowsNone : World → Parts → Event → Type 0
+FollowsNone w old e = (events : List Event) (c : CoreState) → core_run w events ≡ Some c → c.parts ≡ old → core_step w c e ≡ None

@@ -1,0 +1,7 @@
+pub mod World
+pub mod Alone
+pub mod Steps
+pub mod Core
+pub mod Reads
+pub mod Results
+pub mod Views

@@ -1,0 +1,68 @@
+-- What a core tells of its tasks, and the event that is due of one.
+use Rattle.std.specs.Prelude.{◌≡◌, ℕ, ◌<◌, nat_lt, true, if◌then◌else◌, Option, Some, None, length}
+use Rattle.cov_base.specs.Facts.{is_within}
+use Rattle.module_area.specs.PlanView.{kind_at}
+use Rattle.session_book.specs.Sessions.{task_of}
+use Rattle.cov_base.specs.declared.numbers.TaskNo.{TaskNo}
+use Rattle.s370_state.specs.declared.endings.Ending.{Ending}
+use Rattle.session_book.specs.Results.{ResultView}
+use Rattle.interleave_core.specs.World.{World, TaskPart, Parts, part_of, plan_in}
+use Rattle.interleave_core.specs.Core.{is_by}
+use Rattle.interleave_core.specs.Steps.{Stepped, parts_step, place_due, set_of}
+use Rattle.interleave_core.specs.declared.events.Event.{Event}
+use Rattle.interleave_core.specs.declared.events.Event.TheVariants.{Fetch, Mark, Lift, Do}
+use Rattle.interleave_core.specs.declared.stage.Due.{Due}
+use Rattle.interleave_core.specs.declared.stage.Due.TheVariants.{Marking, Lifting, Nothing}
+use Rattle.interleave_core.specs.declared.stage.Stage.{Stage}
+use Rattle.interleave_core.specs.declared.stage.Stage.TheVariants.{Ready, Awaiting, Holding, Ended}
+
+-- how a task has ended
+abbrev pub ending_of : Stage → Option Ending
+ending_of (Ended e) = Some e
+ending_of stage = None
+
+-- what a task has come to
+abbrev pub part_result : TaskPart → ResultView
+part_result u = record {
+  ending = ending_of u.stage;
+  done = u.state.done;
+  cpu = u.state.machine.cpu;
+  output = u.state.io.output;
+  bytes = u.state.machine.bytes;
+}
+
+abbrev pub results_of : Parts → ℕ → ResultView
+results_of c t = part_result (part_of c t)
+
+abbrev pub event_due : TaskNo → Due → Event
+event_due t Marking = Mark t
+event_due t Lifting = Lift t
+event_due t Nothing = Do t
+
+abbrev pub fetch_or_do : TaskNo → Option ℕ → Event
+fetch_or_do t None = Do t
+fetch_or_do t (Some p) = Fetch t
+
+-- the event of the task as it stands; none where it has ended
+abbrev pub stage_event : World → TaskNo → TaskPart → Stage → Option Event
+stage_event w t u Ready = Some (fetch_or_do t (place_due w t.0 u Ready))
+stage_event w t u Awaiting = Some (Fetch t)
+stage_event w t u (Holding h) = Some (event_due t h.due)
+stage_event w t u (Ended e) = None
+
+-- or doesn't exist
+abbrev pub next_of : World → Parts → TaskNo → Option Event
+next_of w c t = if nat_lt t.0 (length c.tasks) then stage_event w t (part_of c t.0) (part_of c t.0).stage else None
+
+-- as many cells and tasks as the world has, private storage of the cards' sizes, and at each place facts of its kind
+pub record Fits (w : World) (c : Parts) : Type 0 where
+  pub cells : length c.cells ≡ length w.places
+  pub tasks : length c.tasks ≡ length w.job.tasks
+  pub bytes : (t : ℕ) → t < length c.tasks → length (results_of c t).bytes ≡ (task_of w.job t).private
+  pub within : (s p : ℕ) → 0 < s → p < length w.places → is_within (kind_at (plan_in w) p) (set_of w c s p) ≡ true
+
+-- the event is the task's, and possible
+pub record IsDue (w : World) (c : Parts) (t : ℕ) (e : Event) : Type 0 where
+  pub by : is_by e t ≡ true
+  pub stepped : Stepped
+  pub step : parts_step w c e ≡ Some stepped

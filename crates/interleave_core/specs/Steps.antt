@@ -1,0 +1,212 @@
+-- The events of a core: where each is possible, and what it changes in what a core stores.
+use Rattle.std.specs.Prelude.{ℕ, ◌+◌, ◌-◌, ◌*◌, ◌/◌, Bool, true, false, not, ◌&&◌, nat_eq, nat_lt, nat_le, if◌then◌else◌, Option, Some, None, option_map, List, [], ◌∷◌, length, get_or, set}
+use Rattle.cov_base.specs.Codes.{breakpoint}
+use Rattle.cov_base.specs.FactSet.{FactSet}
+use Rattle.cov_base.specs.Facts.{with_fact, is_full, fact_of}
+use Rattle.cov_base.specs.States.{State, Visit}
+use Rattle.cov_base.specs.declared.facts.Fact.{Fact}
+use Rattle.cov_base.specs.declared.facts.Kind.{Kind}
+use Rattle.s370_state.specs.declared.endings.Ending.{Ending}
+use Rattle.s370_state.specs.declared.endings.Ending.TheVariants.{Returned, Spent}
+use Rattle.s370_state.specs.declared.endings.Next.{Next}
+use Rattle.s370_state.specs.declared.endings.Next.TheVariants.{On, Ended as NextEnded}
+use Rattle.s370_exec.specs.Fetch.{is_execute}
+use Rattle.s370_exec.specs.Solo.{Step, solo_step, has_returned}
+use Rattle.module_area.specs.PlainWords.{word_at, index_of, set_in}
+use Rattle.module_area.specs.PlanView.{original_at, kind_at, window_at}
+use Rattle.module_area.specs.declared.cells.Cell.{Cell}
+use Rattle.interleave_core.specs.World.{World, TaskPart, Parts, plan_in, memory_in, budget_in, place_at, part_of}
+use Rattle.interleave_core.specs.declared.events.Event.{Event}
+use Rattle.interleave_core.specs.declared.events.Event.TheVariants.{Fetch, Mark, Lift, Do, Plant}
+use Rattle.interleave_core.specs.declared.events.Shown.{Shown}
+use Rattle.interleave_core.specs.declared.events.Shown.TheVariants.{Fetched, Marked, Lifted, Done, Planted}
+use Rattle.interleave_core.specs.declared.stage.Due.{Due}
+use Rattle.interleave_core.specs.declared.stage.Due.TheVariants.{Marking, Lifting, Nothing}
+use Rattle.interleave_core.specs.declared.stage.Hand.{Hand}
+use Rattle.interleave_core.specs.declared.stage.Stage.{Stage}
+use Rattle.interleave_core.specs.declared.stage.Stage.TheVariants.{Ready, Awaiting, Holding, Ended}
+
+-- what is stored after an event, and what the event shows
+pub record Stepped : Type 0 where
+  pub parts : Parts
+  pub shown : Shown
+
+-- the step of its run alone that the task is at
+abbrev pub step_of : World → ℕ → TaskPart → Step
+step_of w t u = solo_step (memory_in w t) u.state
+
+abbrev pub no_visit : Visit
+no_visit = record { at = 0; begun = false; went = false; before = 0; subject = false }
+
+-- the visit that this step makes of the instruction, or of the subject of EX
+abbrev pub visit_of : Step → Bool → Visit
+visit_of step subject = get_or step.visits (if subject then 1 else 0) no_visit
+
+-- the place at which an EX visits its subject
+abbrev pub subject_place : World → List Visit → Option ℕ
+subject_place w (v ∷ (s ∷ vs)) = place_at w s.at
+subject_place w visits = None
+
+abbrev pub is_spent : World → ℕ → State → Bool
+is_spent w t s = nat_le (budget_in w t) s.done
+
+-- the place whose cell the task is to fetch
+abbrev pub place_due : World → ℕ → TaskPart → Stage → Option ℕ
+place_due w t u Ready = if has_returned u.state then None else (if is_spent w t u.state then None else place_at w u.state.machine.cpu.ia)
+place_due w t u Awaiting = subject_place w (step_of w t u).visits
+place_due w t u stage = None
+
+-- a breakpoint is to be marked, but that of a subject that is itself EX isn't
+abbrev pub due_after_fetch : World → Bool → ℕ → Cell → Due
+due_after_fetch w subject p cell =
+    if nat_eq cell.half breakpoint && not (subject && is_execute (original_at (plan_in w) p)) then Marking else Nothing
+
+abbrev pub is_awaiting : Stage → Bool
+is_awaiting Awaiting = true
+is_awaiting stage = false
+
+abbrev pub hand_at : World → Parts → Bool → ℕ → Hand
+hand_at w c subject p = record { subject = subject; place = record { 0 = p }; cell = word_at c.cells p; due = due_after_fetch w subject p (word_at c.cells p) }
+
+abbrev pub with_stage : TaskPart → Stage → TaskPart
+with_stage u stage = record u { stage = stage }
+
+abbrev pub with_task : Parts → ℕ → TaskPart → Parts
+with_task c t u = record c { tasks = set c.tasks t u }
+
+-- Fetch: the task has in hand the cell as it stands
+abbrev pub fetched : World → Parts → ℕ → TaskPart → ℕ → Stepped
+fetched w c t u p = record {
+  parts = with_task c t (with_stage u (Holding (hand_at w c (is_awaiting u.stage) p)));
+  shown = Fetched (word_at c.cells p);
+}
+
+abbrev pub fetch_step : World → Parts → ℕ → TaskPart → Option Stepped
+fetch_step w c t u = option_map (fetched w c t u) (place_due w t u u.stage)
+
+-- the session whose breakpoint is under the tag 2s-1
+abbrev pub session_under : ℕ → ℕ
+session_under tag = tag / 2 + 1
+
+-- what the execution shows at the place in hand
+abbrev pub fact_in : World → ℕ → TaskPart → Hand → Fact
+fact_in w t u h = fact_of (kind_at (plan_in w) h.place.0) (visit_of (step_of w t u) h.subject).went
+
+abbrev pub set_of : World → Parts → ℕ → ℕ → FactSet
+set_of w c s p = set_in (length w.places) c.sets s p
+
+abbrev pub with_set : World → Parts → ℕ → ℕ → FactSet → Parts
+with_set w c s p facts = record c { sets = set c.sets (index_of (length w.places) s p) facts }
+
+abbrev pub with_due : TaskPart → Hand → Due → TaskPart
+with_due u h due = with_stage u (Holding (record h { due = due }))
+
+-- Mark: the fact joins the set; a set that is full then is followed by a Lift
+abbrev pub marked : World → Parts → ℕ → TaskPart → Hand → Stepped
+marked w c t u h =
+    let s = session_under h.cell.tag in
+    let found = set_of w c s h.place.0 in
+    let facts = with_fact found (fact_in w t u h) in
+    record {
+      parts = with_task (with_set w c s h.place.0 facts) t (with_due u h (if is_full (kind_at (plan_in w) h.place.0) facts then Lifting else Nothing));
+      shown = Marked found;
+    }
+
+abbrev pub same_due : Due → Due → Bool
+same_due Marking Marking = true
+same_due Lifting Lifting = true
+same_due Nothing Nothing = true
+same_due a b = false
+
+-- the cell in hand, where this is due of it
+abbrev pub in_hand : Due → Stage → Option Hand
+in_hand due (Holding h) = if same_due h.due due then Some h else None
+in_hand due stage = None
+
+abbrev pub mark_step : World → Parts → ℕ → TaskPart → Option Stepped
+mark_step w c t u = option_map (marked w c t u) (in_hand Marking u.stage)
+
+abbrev pub same_cell : Cell → Cell → Bool
+same_cell a b = nat_eq a.tag b.tag && nat_eq a.half b.half
+
+abbrev pub with_cell : Parts → ℕ → Cell → Parts
+with_cell c p cell = record c { cells = set c.cells p cell }
+
+abbrev pub original_under : World → ℕ → Cell → Cell
+original_under w p cell = record { tag = cell.tag; half = original_at (plan_in w) p }
+
+-- Lift: the original takes the place of the breakpoint in hand, where that still stands
+abbrev pub lifted : World → Parts → ℕ → TaskPart → Hand → Stepped
+lifted w c t u h =
+    let taken = same_cell (word_at c.cells h.place.0) h.cell in
+    record {
+      parts = with_task (if taken then with_cell c h.place.0 (original_under w h.place.0 h.cell) else c) t (with_due u h Nothing);
+      shown = Lifted taken;
+    }
+
+abbrev pub lift_step : World → Parts → ℕ → TaskPart → Option Stepped
+lift_step w c t u = option_map (lifted w c t u) (in_hand Lifting u.stage)
+
+abbrev pub stage_after : Next → Stage
+stage_after On = Ready
+stage_after (NextEnded e) = Ended e
+
+abbrev pub executed : Step → TaskPart
+executed step = record { state = step.state; stage = stage_after step.next }
+
+-- the instruction is executed whole, or from its subject on
+abbrev pub subject_executed : World → ℕ → TaskPart → TaskPart
+subject_executed w t u = executed (step_of w t u)
+
+-- or the EX that it is, up to its subject, where a place begins there
+abbrev pub awaits_or : TaskPart → TaskPart → Option ℕ → TaskPart
+awaits_or u whole None = whole
+awaits_or u whole (Some p) = with_stage u Awaiting
+
+abbrev pub instruction_executed : World → ℕ → TaskPart → TaskPart
+instruction_executed w t u = awaits_or u (executed (step_of w t u)) (subject_place w (step_of w t u).visits)
+
+abbrev pub unless_at : TaskPart → Option ℕ → Option TaskPart
+unless_at u None = Some u
+unless_at u (Some p) = None
+
+-- a task at the return address ends, else one at its budget, else the instruction is executed, where no place begins
+abbrev pub ready_done : World → ℕ → TaskPart → Option TaskPart
+ready_done w t u =
+    if has_returned u.state then Some (with_stage u (Ended Returned))
+    else (if is_spent w t u.state then Some (with_stage u (Ended Spent))
+    else unless_at (instruction_executed w t u) (place_at w u.state.machine.cpu.ia))
+
+-- the task after a Do, which is possible where none of Fetch, Mark and Lift is
+abbrev pub task_done : World → ℕ → TaskPart → Stage → Option TaskPart
+task_done w t u Ready = ready_done w t u
+task_done w t u (Holding h) = if same_due h.due Nothing then Some (if h.subject then subject_executed w t u else instruction_executed w t u) else None
+task_done w t u stage = None
+
+abbrev pub done_by : Parts → ℕ → TaskPart → Stepped
+done_by c t u = record { parts = with_task c t u; shown = Done }
+
+abbrev pub do_step : World → Parts → ℕ → TaskPart → Option Stepped
+do_step w c t u = option_map (done_by c t) (task_done w t u u.stage)
+
+abbrev pub breakpoint_of : ℕ → Cell
+breakpoint_of s = record { tag = 2 * s - 1; half = breakpoint }
+
+-- a place under tag 0, by its whole session
+abbrev pub may_plant : World → Parts → ℕ → ℕ → Bool
+may_plant w c s p = nat_lt p (length w.places) && (nat_lt 0 s && (nat_eq (window_at (plan_in w) p) s && nat_eq (word_at c.cells p).tag 0))
+
+abbrev pub plant_step : World → Parts → ℕ → ℕ → Option Stepped
+plant_step w c s p = if may_plant w c s p then Some (record { parts = with_cell c p (breakpoint_of s); shown = Planted }) else None
+
+-- an event of a task that exists
+abbrev pub of_task : Parts → ℕ → (TaskPart → Option Stepped) → Option Stepped
+of_task c t step = if nat_lt t (length c.tasks) then step (part_of c t) else None
+
+-- what the event makes of what is stored; none where it isn't possible
+abbrev pub parts_step : World → Parts → Event → Option Stepped
+parts_step w c (Fetch t) = of_task c t.0 (fetch_step w c t.0)
+parts_step w c (Mark t) = of_task c t.0 (mark_step w c t.0)
+parts_step w c (Lift t) = of_task c t.0 (lift_step w c t.0)
+parts_step w c (Do t) = of_task c t.0 (do_step w c t.0)
+parts_step w c (Plant s p) = plant_step w c s.0 p.0

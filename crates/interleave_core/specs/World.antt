@@ -1,0 +1,67 @@
+-- What the events of a core are judged by, and what a core stores.
+use Rattle.std.specs.Prelude.{ℕ, ◌+◌, ◌*◌, ◌==◌, if◌then◌else◌, Option, Some, None, List, [], ◌∷◌, length, get_or, map, replicate}
+use Rattle.cov_base.specs.FactSet.{FactSet}
+use Rattle.cov_base.specs.Facts.{no_facts}
+use Rattle.cov_base.specs.Memory.{Memory}
+use Rattle.cov_base.specs.States.{State}
+use Rattle.s370_state.specs.Io.{fresh_io}
+use Rattle.module_area.specs.FreshWords.{fresh_word}
+use Rattle.module_area.specs.PlanView.{PlanView}
+use Rattle.module_area.specs.declared.cells.Cell.{Cell}
+use Rattle.module_area.specs.declared.places.Place.{Place}
+use Rattle.brk_table.specs.Places.{memory_of}
+use Rattle.session_book.specs.JobView.{JobView, TaskView}
+use Rattle.session_book.specs.Sessions.{task_of, no_task, first_state, plan_view}
+use Rattle.interleave_core.specs.declared.stage.Stage.{Stage}
+use Rattle.interleave_core.specs.declared.stage.Stage.TheVariants.{Ready}
+
+-- a job of one phase, and the places of its tables
+pub record World : Type 0 where
+  pub job : JobView
+  pub places : List Place
+
+abbrev pub plan_in : World → PlanView
+plan_in w = plan_view w.job w.places 0
+
+-- what task t sees
+abbrev pub memory_in : World → ℕ → Memory
+memory_in w t = memory_of (task_of w.job t).private w.job.images w.places
+
+abbrev pub budget_in : World → ℕ → ℕ
+budget_in w t = (task_of w.job t).budget
+
+-- the number of the place that begins at the address
+abbrev pub place_from : ℕ → List Place → ℕ → Option ℕ
+place_from n [] a = None
+place_from n (p ∷ ps) a = if a == p.at then Some n else place_from (n + 1) ps a
+
+abbrev pub place_at : World → ℕ → Option ℕ
+place_at w a = place_from 0 w.places a
+
+-- a task: its state, which changes only as an instruction is executed whole, and where it stands
+pub record TaskPart : Type 0 where
+  pub state : State
+  pub stage : Stage
+
+-- a cell for each place; the set of session s at place p at (s - 1) times the number of places plus p; the tasks
+pub record Parts : Type 0 where
+  pub cells : List Cell
+  pub sets : List FactSet
+  pub tasks : List TaskPart
+
+abbrev pub no_part : TaskPart
+no_part = record { state = first_state no_task; stage = Ready }
+
+abbrev pub part_of : Parts → ℕ → TaskPart
+part_of p t = get_or p.tasks t no_part
+
+abbrev pub first_part : TaskView → TaskPart
+first_part t = record { state = first_state t; stage = Ready }
+
+-- nothing is planted, no set has a fact, and the tasks are as their cards say
+abbrev pub first_parts : World → Parts
+first_parts w = record {
+  cells = map fresh_word w.places;
+  sets = replicate (length w.job.sessions * length w.places) no_facts;
+  tasks = map first_part w.job.tasks;
+}

@@ -1,0 +1,36 @@
+//! The events of a core, and what they show.
+
+use cov_base::{Bits, PlaceNo, SessNo, TaskNo};
+use module_area::Cell;
+
+/// An event of one task, or of the planter.
+#[derive(Clone, Copy)]
+pub enum Event {
+    /// The task fetches the cell of the place at which it is about to read an instruction or the subject of an EX.
+    Fetch(TaskNo),
+    /// It marks what the instruction shows, having a breakpoint in hand.
+    Mark(TaskNo),
+    /// It takes the breakpoint out by one try, where its mark left the set full.
+    Lift(TaskNo),
+    /// It executes the instruction, or ends before one.
+    Do(TaskNo),
+    /// The breakpoint of the place's whole session is planted.
+    Plant(SessNo, PlaceNo),
+}
+
+/// What an event shows.
+#[derive(Clone, Copy)]
+pub enum Shown {
+    /// The cell that was fetched.
+    Fetched(Cell),
+    /// The set as the mark found it.
+    Marked(Bits),
+    /// Whether the try exchanged the breakpoint for the original.
+    Lifted(bool),
+    Done,
+    Planted,
+}
+
+/// The event isn't possible in the core as it stands.
+#[derive(Clone, Copy, Debug, PartialEq, Eq)]
+pub struct NotPossible;

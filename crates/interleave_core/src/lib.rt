@@ -1,0 +1,12 @@
+//! The core: cells, sets and tasks under every order of their events.
+#![tactic(auto)]
+
+mod events;
+mod instruction;
+mod interleaving;
+mod running;
+mod stage;
+
+pub use events::{Event, NotPossible, Shown};
+pub use interleaving::{Core, start};
+pub use stage::{Due, Hand, Stage};
