@@ -17,13 +17,15 @@ task_part job results t = task_lines (task_of job t) (results t)
 abbrev pub session_part : JobView → TablesView → (ℕ → ℕ → FactSet) → ℕ → List (List ℕ)
 session_part job tables sets s = session_lines job tables (sets s) (session_of job s)
 
--- tasks and sessions in the order of the job
-abbrev pub report_lines : JobView → TablesView → (ℕ → ResultView) → (ℕ → ℕ → FactSet) → List (List ℕ)
-report_lines job tables results sets =
-    codes "COVERAGE REPORT"
-    ∷ (lines_from (task_part job results) 0 (length job.tasks)
+-- tasks and sessions in the order of the job, and the last line
+abbrev pub result_lines : JobView → TablesView → (ℕ → ResultView) → (ℕ → ℕ → FactSet) → List (List ℕ)
+result_lines job tables results sets =
+    lines_from (task_part job results) 0 (length job.tasks)
     ++ (lines_from (session_part job tables sets) 1 (length job.sessions)
-    ++ (codes "END" ∷ [])))
+    ++ (codes "END" ∷ []))
+
+abbrev pub report_lines : JobView → TablesView → (ℕ → ResultView) → (ℕ → ℕ → FactSet) → List (List ℕ)
+report_lines job tables results sets = codes "COVERAGE REPORT" ∷ result_lines job tables results sets
 
 abbrev pub report_of : JobView → TablesView → (ℕ → ResultView) → (ℕ → ℕ → FactSet) → List ℕ
 report_of job tables results sets = text_of (report_lines job tables results sets)

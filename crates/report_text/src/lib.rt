@@ -12,8 +12,9 @@ mod writing;
 pub use places::table;
 pub use sessions::session_part;
 pub use tasks::task_part;
-pub use whole::report;
+pub use whole::{report, results_part, words_line};
 pub use words::add_bytes;
+pub use writing::put;
 
 #[cfg(test)]
 mod tests;

@@ -4,7 +4,7 @@ ghost use Rattle.std.specs.Io.KnownBytes.{Appends};
 ghost use Rattle.cov_outside.specs.Causes.{HasCause};
 ghost use Rattle.cov_outside.specs.Whole.{AppendsSome};
 ghost use Rattle.report_text.specs.Conditions.{AreTablesOf, AreResultsOf, AreSetsOf};
-ghost use Rattle.report_text.specs.Report.{task_part, session_part, report_lines, report_of};
+ghost use Rattle.report_text.specs.Report.{task_part, session_part, result_lines, report_lines, report_of};
 ghost use Rattle.report_text.specs.Text.{lines_from};
 ghost use Rattle.report_text.specs.Writes.{Writes};
 
@@ -57,7 +57,25 @@ fn sessions_text<K: Sink, R: FactSets>(
     Ok(())
 }
 
-/// The parts of the report, between its first and its last line.
+/// The report from its second line on: the tasks' parts, the sessions' parts and the last line. Failed only where the
+/// sink's count of faults rose; the sink has then taken a first part of these lines. Takes no memory.
+pub fn results_part<K: Sink, R: Results + FactSets>(
+    sink: &mut K,
+    job: &Job,
+    tables: &Tables,
+    results: &R,
+) -> Result<(), Failed>
+    requires tables { AreTablesOf job.now tables.now }
+    requires results { AreResultsOf job.now (R.tasks results.now) (R.result_of results.now) }
+    requires sets { AreSetsOf job.now tables.now (R.sessions results.now) (R.places results.now) (R.set_of results.now) }
+    ensures { Writes (K.written sink.old) (K.written sink.new) (K.faults sink.old) (K.faults sink.new) result (result_lines job.now tables.now (R.result_of results.now) (R.set_of results.now)) }
+{
+    tasks_text(sink, job, results)?;
+    sessions_text(sink, job, tables, results)?;
+    put(sink, words_line(b"END"))
+}
+
+/// The report's first line, and the rest.
 fn report_text<K: Sink, R: Results + FactSets>(
     sink: &mut K,
     job: &Job,
@@ -70,9 +88,7 @@ fn report_text<K: Sink, R: Results + FactSets>(
     ensures { Writes (K.written sink.old) (K.written sink.new) (K.faults sink.old) (K.faults sink.new) result (report_lines job.now tables.now (R.result_of results.now) (R.set_of results.now)) }
 {
     put(sink, words_line(b"COVERAGE REPORT"))?;
-    tasks_text(sink, job, results)?;
-    sessions_text(sink, job, tables, results)?;
-    put(sink, words_line(b"END"))
+    results_part(sink, job, tables, results)
 }
 
 /// The report of a job's tasks and sessions, line by line. Failed only where the sink's count of faults rose; the

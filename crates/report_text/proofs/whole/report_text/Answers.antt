@@ -7,24 +7,8 @@ returns-in_err-put g c =
     let head : c.words_line.result.items ≡ codes "COVERAGE REPORT" ++ 10 ∷ [] = search rules in
     progress_exit _ _ _ _ _ _ _ _ _ _ _ c.from_residual.ensures.0 (c.in_err-put.ensures _ head) (progress_start _ _ _)
 
-pub returns-in_err-tasks_text : goal.returns-in_err-tasks_text
-returns-in_err-tasks_text g c =
-    let head : c.words_line.result.items ≡ codes "COVERAGE REPORT" ++ 10 ∷ [] = search rules in
-    let first = progress_more _ _ _ _ _ _ _ _ _ _ (c.in_ok-put.ensures _ head) (progress_start _ _ _) in
-    progress_exit _ _ _ _ _ _ _ _ _ _ _ c.from_residual-in_err-tasks_text.ensures.0 c.in_err-tasks_text.ensures first
-
-pub returns-in_err-sessions_text : goal.returns-in_err-sessions_text
-returns-in_err-sessions_text g c =
-    let head : c.words_line.result.items ≡ codes "COVERAGE REPORT" ++ 10 ∷ [] = search rules in
-    let first = progress_more _ _ _ _ _ _ _ _ _ _ (c.in_ok-put.ensures _ head) (progress_start _ _ _) in
-    let second = progress_more _ _ _ _ _ _ _ _ _ _ c.in_ok-tasks_text.ensures first in
-    progress_exit _ _ _ _ _ _ _ _ _ _ _ c.from_residual-in_err-sessions_text.ensures.0 c.in_err-sessions_text.ensures second
-
 pub returns : goal.returns
 returns g c =
     let head : c.words_line.result.items ≡ codes "COVERAGE REPORT" ++ 10 ∷ [] = search rules in
-    let end : c.words_line-2.result.items ≡ codes "END" ++ 10 ∷ [] = search rules in
     let first = progress_more _ _ _ _ _ _ _ _ _ _ (c.in_ok-put.ensures _ head) (progress_start _ _ _) in
-    let second = progress_more _ _ _ _ _ _ _ _ _ _ c.in_ok-tasks_text.ensures first in
-    let third = progress_more _ _ _ _ _ _ _ _ _ _ c.in_ok-sessions_text.ensures second in
-    progress_last _ _ _ _ _ _ _ _ _ (c.put-2.ensures _ end) third
+    progress_last _ _ _ _ _ _ _ _ _ c.results_part.ensures first
