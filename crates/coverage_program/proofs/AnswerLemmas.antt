@@ -23,12 +23,13 @@ use Rattle.coverage_program.specs.declared.tables.Refused.{Refused}
 use Rattle.coverage_program.specs.declared.tables.Refused.TheVariants.{Told, NoMemory}
 use Rattle.coverage_program.specs.declared.words.Command.{Command}
 use Rattle.coverage_program.specs.declared.words.Command.TheVariants.{Run, Table, Replay, Unknown}
-use Rattle.coverage_program.specs.Outcomes.{IsOutcome}
+use Rattle.job_run.specs.Outcomes.{IsOutcome}
 use Rattle.coverage_program.specs.Refusals.{RefusalView, job_refusal, Match}
 use Rattle.coverage_program.specs.Refused.{IsRefused, refused_refusal}
-use Rattle.coverage_program.specs.Runs.{Account, HasRun, Reports}
-use Rattle.coverage_program.specs.Sets.{SetsView, set_in}
-use Rattle.coverage_program.specs.Tasks.{results_of}
+use Rattle.job_run.specs.Runs.{Account, HasRun}
+use Rattle.coverage_program.specs.Reports.{Reports}
+use Rattle.job_run.specs.Sets.{SetsView, set_in}
+use Rattle.job_run.specs.Tasks.{results_of}
 use Rattle.coverage_program.specs.Replay.{Play, Bad, Whole, play_of, replay_text}
 use Rattle.coverage_program.specs.Words.{reads_job, takes_more, without_areas, no_memory_line, bad_schedule_line}
 

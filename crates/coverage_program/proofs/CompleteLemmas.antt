@@ -17,7 +17,7 @@ use Rattle.brk_table.specs.Places.{TablesView, all_places}
 use Rattle.coverage_program.specs.Refusals.{RefusalView, refusal, job_refusal, Match}
 use Rattle.coverage_program.specs.Replay.{Play, Bad, Whole, play_of, play_status}
 use Rattle.coverage_program.proofs.OneTables.{one_places}
-use Rattle.coverage_program.specs.Runs.{Account}
+use Rattle.job_run.specs.Runs.{Account}
 use Rattle.coverage_program.specs.Words.{reads_job, takes_more}
 
 append_none : (xs : List ℕ) → xs ++ [] ≡ xs

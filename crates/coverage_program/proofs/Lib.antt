@@ -1,11 +1,7 @@
 pub mod AnswerLemmas
-pub mod AreaLemmas
 pub mod CompleteLemmas
 pub mod GoingLemmas
 pub mod InputLemmas
 pub mod OneTables
-pub mod PhaseLemmas
-pub mod SessionLemmas
-pub mod TableLemmas
-pub mod TaskLemmas
 pub mod ReplayLemmas
+pub mod TableLemmas

@@ -13,7 +13,7 @@ use Rattle.session_book.specs.JobView.{JobView}
 use Rattle.session_book.specs.Sessions.{task_of, session_of}
 use Rattle.report_text.specs.Report.{result_lines}
 use Rattle.report_text.specs.Writes.{Writes}
-use Rattle.coverage_program.specs.Replay.{Play, Bad, Whole, with_item, event_line, event_lines, no_item, replay_lines}
+use Rattle.coverage_program.specs.Replay.{Play, Bad, Whole, with_item, event_line, event_lines, no_item, replay_lines, plant_at, planted_from}
 use Rattle.coverage_program.specs.declared.schedule.Played.{Played}
 
 -- the items that were played before
@@ -73,3 +73,9 @@ pub told_core : {T E : Type 0} (old new : Option (List ℕ)) (before later : ℕ
     Writes old new before later r (codes "COVERAGE REPLAY" ∷ (event_lines j played ++ result_lines j tables (λ t. results_of c t) (λ s p. set_of w c s p))) → Writes old new before later r (replay_lines j tables c played)
 told_core old new before later r j tables w c played is told =
     subst (λ (v : World). Writes old new before later r (codes "COVERAGE REPLAY" ∷ (event_lines j played ++ result_lines j tables (λ t. results_of c t) (λ s p. set_of v c s p)))) is told
+
+pub planted_next : (w : World) (p n : ℕ) (c : Parts) → p < n → planted_from w p (n - p) c ≡ planted_from w (p + 1) (n - (p + 1)) (plant_at w c p)
+planted_next w p n c lt = let more : n - p ≡ suc (n - (p + 1)) = omega arith in rw more refl
+
+pub planted_end : (w : World) (p n : ℕ) (c : Parts) → n ≤ p → planted_from w p (n - p) c ≡ c
+planted_end w p n c le = let none : n - p ≡ 0 = omega arith in rw none refl

@@ -18,7 +18,8 @@ use Rattle.coverage_program.specs.declared.words.Command.{Command}
 use Rattle.coverage_program.specs.declared.schedule.Played.{Played}
 use Rattle.coverage_program.specs.declared.words.Command.TheVariants.{Run, Table, Replay, Unknown}
 use Rattle.coverage_program.specs.Refusals.{RefusalView, refusal, job_refusal, Match}
-use Rattle.coverage_program.specs.Runs.{Account, HasRun, Reports}
+use Rattle.job_run.specs.Runs.{Account, HasRun}
+use Rattle.coverage_program.specs.Reports.{Reports}
 use Rattle.coverage_program.specs.Replay.{Play, Bad, Whole, play_of, play_status, replay_text}
 use Rattle.coverage_program.specs.Words.{reads_job, takes_more, usage_line, too_large_input_line, read_fault_line, no_memory_line, bad_job_line, large_job_line, bad_schedule_line}
 

@@ -1,10 +1,6 @@
 pub mod Answers
-pub mod Areas
-pub mod Outcomes
 pub mod Refusals
 pub mod Refused
-pub mod Runs
-pub mod Sets
-pub mod Tasks
+pub mod Reports
 pub mod Words
 pub mod Replay

@@ -3,8 +3,6 @@
 
 mod cover;
 mod lines;
-mod outcome;
-mod phase;
 mod ready;
 mod refusals;
 mod replay;
@@ -15,9 +13,9 @@ mod tables;
 mod tests;
 mod words;
 
-use cov_outside::{StdSink, StdSource};
+use cov_outside::{OpenGate, StdSink, StdSource};
 use cover::cover;
-use module_area::PlainAreas;
+use shared_area::SharedAreas;
 use std::alloc::AllocError;
 use std::process::ExitCode;
 use std::{env, io};
@@ -40,11 +38,19 @@ fn main(rt: HostRuntime) -> ExitCode {
         // Words that aren't text are none of the table.
         Err(_) => Vec::new(rt.alloc()),
     };
-    let Ok(mut areas) = PlainAreas::new(rt.alloc(), 16) else {
+    let Ok(mut areas) = SharedAreas::new(rt.alloc(), 16) else {
         return ExitCode::from(7);
     };
     let mut source = StdSource::new(rt.stdin());
     let mut sink = StdSink::new(rt.stdout());
-    let status = cover(rt.alloc(), &words, &mut source, &mut sink, &mut areas);
+    let status = cover(
+        &rt,
+        rt.alloc(),
+        &words,
+        &mut source,
+        &mut sink,
+        &mut areas,
+        &OpenGate,
+    );
     ExitCode::from(status.0)
 }

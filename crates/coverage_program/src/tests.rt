@@ -1,7 +1,10 @@
-//! Jobs through `cover`, from the bytes in to the bytes out, over memory and over areas on one thread.
+//! Jobs through `cover`, from the bytes in to the bytes out, over memory and over areas that threads share.
 mod cases;
+mod gates;
 mod jobs;
 mod modules;
+mod noted;
+mod order;
 mod places;
 mod programs;
 mod schedules;
@@ -9,13 +12,16 @@ mod schedules;
 use crate::cover::cover;
 use crate::status::Status;
 use cases::CASES;
-use cov_outside::{MemSink, MemSource, SureSink, SureSource};
+use cov_outside::{MemSink, MemSource, OpenGate, SureSink, SureSource};
 use jobs::JOBS;
-use module_area::{Areas, PlainAreas, Tally};
+use module_area::{Areas, Tally};
 use programs::PROGRAMS;
+use shared_area::SharedAreas;
 use std::alloc::Global;
 use std::process::Abort;
+use std::sync::Wait;
 use std::test::Fail;
+use std::thread::Threads;
 
 const HEAD: &[u8] =
     b"COVERJOB 1\nMODULE M 100000 8\nTEXT 411000051A1107FE\nLISTING 4\n  Loc  Object Code    Addr1 Addr2  Stmt   Source Statement\n000000 ";
@@ -56,7 +62,8 @@ struct Came {
     made: u64,
 }
 
-fn run(
+fn run<T: Threads + Wait + Sync>(
+    rt: &T,
     alloc: Global,
     job: Vec<u8>,
     bad_reads: Vec<u64>,
@@ -65,8 +72,16 @@ fn run(
     let words = run_words(alloc)?;
     let mut source = MemSource::new(job, 64, bad_reads);
     let mut sink = MemSink::new(alloc, 4096, 4096, bad_writes).map_err(|_| "memory")?;
-    let mut areas = PlainAreas::new(alloc, 16).map_err(|_| "memory")?;
-    let status = cover(alloc, &words, &mut source, &mut sink, &mut areas);
+    let mut areas = SharedAreas::new(alloc, 16).map_err(|_| "memory")?;
+    let status = cover(
+        rt,
+        alloc,
+        &words,
+        &mut source,
+        &mut sink,
+        &mut areas,
+        &OpenGate,
+    );
     Ok(Came {
         status,
         text: sink.bytes().to_vec(alloc)?,
@@ -90,6 +105,7 @@ fn tally_of(done: u64) -> Tally {
 fn runs_the_first_job(rt: HostRuntime) -> Result<(), Fail> {
     let alloc = rt.alloc();
     let came = run(
+        &rt,
         alloc,
         job(alloc, b"4110 0005", b"100", b"ENDJOB\n")?,
         Vec::new(alloc),
@@ -106,6 +122,7 @@ fn runs_the_first_job(rt: HostRuntime) -> Result<(), Fail> {
 fn tests_the_budget_after_the_return(rt: HostRuntime) -> Result<(), Fail> {
     let alloc = rt.alloc();
     let three = run(
+        &rt,
         alloc,
         job(alloc, b"4110 0005", b"3", b"ENDJOB\n")?,
         Vec::new(alloc),
@@ -114,6 +131,7 @@ fn tests_the_budget_after_the_return(rt: HostRuntime) -> Result<(), Fail> {
     assert_eq!(rt; three.text.as_slice(), REPORT);
     assert_eq!(rt; three.tallies.as_slice(), [tally_of(3)].as_slice());
     let two = run(
+        &rt,
         alloc,
         job(alloc, b"4110 0005", b"2", b"ENDJOB\n")?,
         Vec::new(alloc),
@@ -129,6 +147,7 @@ fn tests_the_budget_after_the_return(rt: HostRuntime) -> Result<(), Fail> {
 fn refuses_by_name_and_makes_no_area(rt: HostRuntime) -> Result<(), Fail> {
     let alloc = rt.alloc();
     let other = run(
+        &rt,
         alloc,
         job(alloc, b"4110 0006", b"100", b"ENDJOB\n")?,
         Vec::new(alloc),
@@ -141,6 +160,7 @@ fn refuses_by_name_and_makes_no_area(rt: HostRuntime) -> Result<(), Fail> {
     );
     assert_eq!(rt; (other.made, other.tallies.len()), (0, 0));
     let short = run(
+        &rt,
         alloc,
         job(alloc, b"4110 0005", b"100", b"")?,
         Vec::new(alloc),
@@ -156,6 +176,7 @@ fn refuses_by_name_and_makes_no_area(rt: HostRuntime) -> Result<(), Fail> {
 fn tells_faults_of_source_and_sink(rt: HostRuntime) -> Result<(), Fail> {
     let alloc = rt.alloc();
     let unread = run(
+        &rt,
         alloc,
         job(alloc, b"4110 0005", b"100", b"ENDJOB\n")?,
         [3u64].to_vec(alloc)?,
@@ -165,6 +186,7 @@ fn tells_faults_of_source_and_sink(rt: HostRuntime) -> Result<(), Fail> {
     assert_eq!(rt; unread.text.as_slice(), b"READ FAULT\n".as_slice());
     assert_eq!(rt; (unread.made, unread.tallies.len()), (0, 0));
     let unwritten = run(
+        &rt,
         alloc,
         job(alloc, b"4110 0005", b"100", b"ENDJOB\n")?,
         Vec::new(alloc),
@@ -183,12 +205,28 @@ fn answers_over_devices_that_never_fail(rt: HostRuntime) -> Result<(), Fail> {
     let words = run_words(alloc)?;
     let mut source = SureSource::new(job(alloc, b"4110 0005", b"100", b"ENDJOB\n")?, 64);
     let mut sink = SureSink::new();
-    let mut areas = PlainAreas::new(alloc, 16).map_err(|_| "memory")?;
-    let status = cover(alloc, &words, &mut source, &mut sink, &mut areas);
+    let mut areas = SharedAreas::new(alloc, 16).map_err(|_| "memory")?;
+    let status = cover(
+        &rt,
+        alloc,
+        &words,
+        &mut source,
+        &mut sink,
+        &mut areas,
+        &OpenGate,
+    );
     assert_eq!(rt; status, Status(0));
     let none = Vec::new(alloc);
-    let mut others = PlainAreas::new(alloc, 16).map_err(|_| "memory")?;
-    let refused = cover(alloc, &none, &mut source, &mut sink, &mut others);
+    let mut others = SharedAreas::new(alloc, 16).map_err(|_| "memory")?;
+    let refused = cover(
+        &rt,
+        alloc,
+        &none,
+        &mut source,
+        &mut sink,
+        &mut others,
+        &OpenGate,
+    );
     assert_eq!(rt; refused, Status(1));
     Ok(())
 }
@@ -197,7 +235,13 @@ fn answers_over_devices_that_never_fail(rt: HostRuntime) -> Result<(), Fail> {
 fn answers_each_job(rt: HostRuntime) -> Result<(), Fail> {
     let alloc = rt.alloc();
     for (name, job, status, text) in &CASES {
-        let came = run(alloc, job.to_vec(alloc)?, Vec::new(alloc), Vec::new(alloc))?;
+        let came = run(
+            &rt,
+            alloc,
+            job.to_vec(alloc)?,
+            Vec::new(alloc),
+            Vec::new(alloc),
+        )?;
         assert_eq!(rt; came.status, Status(*status), "{name}");
         assert_eq!(rt; came.text.as_slice(), *text, "{name}");
         assert_eq!(rt; came.made, u64::from(*status == 0), "{name}");
@@ -212,14 +256,20 @@ fn counts(t: &Tally) -> (u64, u64, u64, u64) {
 }
 
 /// Runs a job that has this text, and gives the tallies of its areas.
-fn runs(
-    rt: &impl Abort,
+fn runs<T: Abort + Threads + Wait + Sync>(
+    rt: &T,
     alloc: Global,
     name: &str,
     job: &[u8],
     text: &[u8],
 ) -> Result<Vec<Tally>, Fail> {
-    let came = run(alloc, job.to_vec(alloc)?, Vec::new(alloc), Vec::new(alloc))?;
+    let came = run(
+        rt,
+        alloc,
+        job.to_vec(alloc)?,
+        Vec::new(alloc),
+        Vec::new(alloc),
+    )?;
     assert_eq!(rt; came.text.as_slice(), text, "{name}");
     assert_eq!(rt; came.status, Status(0), "{name}");
     assert_eq!(rt; came.made, came.tallies.len() as u64, "{name}");

@@ -1,5 +1,9 @@
+pub mod Alone
 pub mod Finds
+pub mod Follows
 pub mod Kept
+pub mod Nexts
 pub mod ReadLemmas
 pub mod RunningLemmas
+pub mod Runs
 pub mod Starts

@@ -1,6 +1,7 @@
 -- A core before its first event, and what each core fits.
-use Rattle.std.proofs.Common.{◌≡◌, ◌⊎◌, inl, inr, ℕ, ◌+◌, ◌-◌, ◌*◌, ◌<◌, ◌≤◌, true, List, [], ◌∷◌, ◌++◌, length, get_or, map, replicate, take, drop, min, slice_range, refl, sym, ◌∙◌, ap, subst, arith}
+use Rattle.std.proofs.Common.{◌≡◌, ◌⊎◌, inl, inr, ℕ, ◌+◌, ◌-◌, ◌*◌, ◌<◌, ◌≤◌, true, List, [], ◌∷◌, ◌++◌, length, get_or, map, replicate, take, drop, min, slice_range, nat_lt, refl, sym, ◌∙◌, ap, subst, arith}
 use Rattle.std.proofs.lemmas.List.{get_or-map, length-map, length-append, ext_get_or, get_or_push, get_or_append_left, length-drop, take_all}
+use Rattle.std.proofs.lemmas.Bool.Decides.{nat_tests}
 use Rattle.cov_base.specs.FactSet.{FactSet}
 use Rattle.cov_base.specs.Facts.{no_facts}
 use Rattle.cov_base.specs.Memory.{Memory, ImageView}
@@ -15,18 +16,30 @@ use Rattle.session_book.specs.Sessions.{task_of, no_task}
 use Rattle.space_map.specs.Space.{memory_of_space, row_of}
 use Rattle.interleave_core.specs.World.{World, TaskPart, Parts, no_part, first_part, first_parts, part_of, memory_in}
 use Rattle.interleave_core.specs.Results.{Fits, results_of, part_result}
-use Rattle.interleave_core.specs.Views.{RunningView, IsRunning, IsCore, AreReady, parts_of}
+use Rattle.interleave_core.specs.Views.{RunningView, IsRunning, IsStage, IsCore, AreReady, parts_of}
 
 private_of : (size : ℕ) (images : List ImageView) (places : List Place) → (memory_of size images places).private ≡ size
 unfolding memory_of
 private_of size images places = refl
 
-part_read : (tasks : List RunningView) (t : ℕ) (r : RunningView) → t < length tasks → r ≡ get_or tasks t r → get_or (parts_of tasks) t no_part ≡ r.part
+pub part_read : (tasks : List RunningView) (t : ℕ) (r : RunningView) → t < length tasks → r ≡ get_or tasks t r → get_or (parts_of tasks) t no_part ≡ r.part
 part_read tasks t r lt read = get_or-map (λ (x : RunningView). x.part) tasks t r no_part lt ∙ ap (λ (x : RunningView). x.part) (sym read)
 
 pub result_read : (cells : List Cell) (sets : List FactSet) (tasks : List RunningView) (t : ℕ) (r : RunningView) → t < length tasks → r ≡ get_or tasks t r →
     results_of (record { cells = cells; sets = sets; tasks = parts_of tasks }) t ≡ part_result r.part
 result_read cells sets tasks t r lt read = ap part_result (part_read tasks t r lt read)
+
+-- a task that was read is where it stands
+pub stage_read : (w : World) (cells : List Cell) (sets : List FactSet) (plan : PlanView) (tasks : List RunningView) (t : ℕ) (r : RunningView) → IsCore w cells sets plan tasks → t < length tasks → r ≡ get_or tasks t r →
+    IsStage w t (get_or (parts_of tasks) t no_part) (get_or (parts_of tasks) t no_part).stage
+stage_read w cells sets plan tasks t r is lt read =
+    subst (λ (u : TaskPart). IsStage w t u u.stage) (sym (part_read tasks t r lt read)) (subst (λ (x : RunningView). IsStage w t x.part x.part.stage) (sym read) (is.stages t r lt))
+
+lt_true : (t n : ℕ) → t < n → nat_lt t n ≡ true
+lt_true t n h = grind (arith, nat_tests)
+
+pub exists_read : (tasks : List RunningView) (t : ℕ) → t < length tasks → nat_lt t (length (parts_of tasks)) ≡ true
+exists_read tasks t lt = lt_true t (length (parts_of tasks)) (subst (λ n. t < n) (sym (length-map tasks (λ (r : RunningView). r.part))) lt)
 
 no_running : RunningView
 no_running = record { part = no_part; space = record { size = 0; bytes = []; images = []; places = [] }; budget = 0 }

@@ -1,8 +1,9 @@
 -- The core: what it stores and each task's log, its deterministic step, and its run by a list of events.
-use Rattle.std.specs.Prelude.{ℕ, Bool, true, false, nat_eq, if◌then◌else◌, Option, Some, None, option_map, List, [], ◌∷◌}
+use Rattle.std.specs.Prelude.{◌≡◌, ℕ, Bool, true, false, nat_eq, if◌then◌else◌, Option, Some, None, option_map, List, [], ◌∷◌, ◌++◌}
 use Rattle.cov_base.specs.FactSet.{FactSet}
 use Rattle.cov_base.specs.declared.facts.Fact.{Fact}
 use Rattle.module_area.specs.declared.cells.Cell.{Cell}
+use Rattle.interleave_core.specs.Alone.{AreAlone}
 use Rattle.interleave_core.specs.World.{World, TaskPart, Parts, part_of, first_parts}
 use Rattle.interleave_core.specs.Steps.{Stepped, parts_step, step_of, visit_of, fact_in}
 use Rattle.interleave_core.specs.declared.events.Event.{Event}
@@ -87,3 +88,20 @@ core_from w c (e ∷ events) = go_on (λ d. core_from w d events) (core_step w c
 
 abbrev pub core_run : World → List Event → Option CoreState
 core_run w events = core_from w (core_start w) events
+
+-- the event is possible after these, shows this, and leaves these parts
+pub record Follows (w : World) (events : List Event) (e : Event) (c : CoreState) (parts : Parts) (shown : Shown) : Type 0 where
+  pub after : CoreState
+  pub step : core_step w c e ≡ Some (record { core = after; shown = shown })
+  pub run : core_run w (events ++ e ∷ []) ≡ Some after
+  pub stored : after.parts ≡ parts
+  -- each task is where its run alone is
+  pub alone : AreAlone w after.parts
+
+-- after each list of events that leaves the parts stored so, the event is possible, shows this, and leaves these parts
+abbrev pub FollowsAll : World → Parts → Event → Parts → Shown → Type 0
+FollowsAll w old e new shown = (events : List Event) (c : CoreState) → core_run w events ≡ Some c → c.parts ≡ old → Follows w events e c new shown
+
+-- it isn't possible after any of them
+abbrev pub FollowsNone : World → Parts → Event → Type 0
+FollowsNone w old e = (events : List Event) (c : CoreState) → core_run w events ≡ Some c → c.parts ≡ old → core_step w c e ≡ None

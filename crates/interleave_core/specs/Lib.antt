@@ -1,4 +1,5 @@
 pub mod World
+pub mod Alone
 pub mod Steps
 pub mod Core
 pub mod Reads

@@ -7,7 +7,8 @@ use Rattle.cov_base.specs.declared.numbers.TaskNo.{TaskNo}
 use Rattle.s370_state.specs.declared.endings.Ending.{Ending}
 use Rattle.session_book.specs.Results.{ResultView}
 use Rattle.interleave_core.specs.World.{World, TaskPart, Parts, part_of, plan_in}
-use Rattle.interleave_core.specs.Steps.{place_due, set_of}
+use Rattle.interleave_core.specs.Core.{is_by}
+use Rattle.interleave_core.specs.Steps.{Stepped, parts_step, place_due, set_of}
 use Rattle.interleave_core.specs.declared.events.Event.{Event}
 use Rattle.interleave_core.specs.declared.events.Event.TheVariants.{Fetch, Mark, Lift, Do}
 use Rattle.interleave_core.specs.declared.stage.Due.{Due}
@@ -59,3 +60,9 @@ pub record Fits (w : World) (c : Parts) : Type 0 where
   pub tasks : length c.tasks ≡ length w.job.tasks
   pub bytes : (t : ℕ) → t < length c.tasks → length (results_of c t).bytes ≡ (task_of w.job t).private
   pub within : (s p : ℕ) → 0 < s → p < length w.places → is_within (kind_at (plan_in w) p) (set_of w c s p) ≡ true
+
+-- the event is the task's, and possible
+pub record IsDue (w : World) (c : Parts) (t : ℕ) (e : Event) : Type 0 where
+  pub by : is_by e t ≡ true
+  pub stepped : Stepped
+  pub step : parts_step w c e ≡ Some stepped

@@ -1,5 +1,5 @@
 //! The core.
-ghost use Rattle.std.specs.Prelude.{◌≡◌, ℕ, ◌+◌, ◌*◌, ◌<◌, ◌≤◌, length, map, replicate, set, if◌then◌else◌, All, IfOk, OnErr};
+ghost use Rattle.std.specs.Prelude.{◌≡◌, ℕ, ◌+◌, ◌*◌, ◌<◌, ◌≤◌, length, map, replicate, set, if◌then◌else◌, All, IfOk, OnErr, IfSome, IsNone, IsSome, ◌↔◌};
 ghost use Rattle.std.specs.declared.option.Option.TheVariants.{Some, None};
 ghost use Rattle.module_area.specs.PlainWords.{word_at};
 ghost use Rattle.brk_table.specs.Places.{IsIn};
@@ -7,7 +7,9 @@ ghost use Rattle.cov_base.specs.Facts.{fact_of, is_full, no_facts};
 ghost use Rattle.interleave_core.specs.declared.stage.Due.TheVariants.{Lifting, Nothing};
 ghost use Rattle.interleave_core.specs.World.{World, first_parts};
 ghost use Rattle.interleave_core.specs.Steps.{of_task, fetch_step, mark_step, lift_step, do_step, plant_step, parts_step, set_of, due_after_fetch, in_hand, same_cell, session_under};
-ghost use Rattle.interleave_core.specs.Results.{next_of, results_of, Fits};
+ghost use Rattle.interleave_core.specs.Core.{FollowsAll, FollowsNone};
+ghost use Rattle.interleave_core.specs.declared.events.Event.{Event};
+ghost use Rattle.interleave_core.specs.Results.{next_of, IsDue, results_of, Fits};
 ghost use Rattle.interleave_core.specs.Views.{AreReady};
 ghost use Rattle.session_book.specs.JobView.{IsJob};
 ghost use Rattle.module_area.specs.FreshWords.{fresh_word};
@@ -257,6 +259,10 @@ impl<'a> Core<'a> {
         ensures kept { OnErr result (self.new ≡ self.old) }
         ensures world { self.new.world ≡ self.old.world }
         ensures fits { Fits self.new.world self.new.parts }
+
+        // after each list of events that leaves what the core stored
+        ensures follows { IfOk result (FollowsAll self.old.world self.old.parts e self.new.parts) }
+        ensures never { OnErr result (FollowsNone self.old.world self.old.parts e) }
     {
         let answer = self.step(e);
         self.fits();
@@ -265,7 +271,10 @@ impl<'a> Core<'a> {
 
     /// The one event that is possible of the task; none exactly where it doesn't exist or has ended.
     pub fn next(&self, t: TaskNo) -> Option<Event>
-        ensures { result ≡ next_of self.now.world self.now.parts t }
+        ensures value { result ≡ next_of self.now.world self.now.parts t }
+        ensures possible { IfSome result (IsDue self.now.world self.now.parts t.0) }
+        ensures only { (e : Event) → IsDue self.now.world self.now.parts t.0 e → result ≡ Some e }
+        ensures none { IsNone result ↔ (t.0 < length self.now.world.job.tasks → IsSome (results_of self.now.parts t.0).ending) }
     {
         let n = t.0 as usize;
         if n >= self.tasks.len() {

@@ -1,5 +1,5 @@
 -- What the sessions of a plan say of a place.
-use Rattle.std.proofs.Common.{◌≡◌, ◌≢◌, ◌⊎◌, ℕ, zero, suc, ◌+◌, ◌*◌, ◌<◌, ◌≤◌, Bool, true, false, ◌&&◌, ◌||◌, nat_eq, nat_lt, List, [], ◌∷◌, length, get_or, Contains, sym, refl, ap, ◌∙◌, subst, inl, inr, ⊎_elim, arith, eqb-true, ltb-true, lt_of_not-le}
+use Rattle.std.proofs.Common.{◌≡◌, ◌⊎◌, ℕ, suc, ◌<◌, ◌≤◌, Bool, true, false, ◌&&◌, ◌||◌, nat_eq, nat_lt, List, [], ◌∷◌, length, get_or, Contains, sym, refl, ap, ◌∙◌, inl, inr, ⊎_elim, arith, eqb-true, lt_of_not-le}
 use Rattle.std.specs.List.{list_any}
 use mathlib.Core.Logic.{dite}
 use native.Mathlib.Decide.{dec_le}

@@ -9,14 +9,14 @@ ghost use Rattle.module_area.specs.Ended.{HasSets, HasTally};
 use crate::finals::Finals;
 use crate::plan::Plan;
 use crate::tallies::Tally;
-use crate::traits::Cells;
+use crate::traits::{Cells, Forks};
 use cov_base::NoMemory;
 use std::alloc::Global;
 
 /// Makes areas and finishes them, and keeps what each finished one tells.
 pub trait Areas {
-    /// The cells of an area.
-    type C: Cells + Drop;
+    /// The cells of an area, which threads share.
+    type C: Forks + Sync + Drop;
 
     /// The tallies of the areas that were finished, in order.
     ghost ledger: { Self → List Tally };

@@ -1,16 +1,29 @@
 //! Cells whose words lie in the one pass.
-ghost use Rattle.std.specs.Prelude.{◌≡◌, nat_eq, if◌then◌else◌};
+ghost use Rattle.std.specs.Prelude.{◌≡◌, ◌*◌, nat_eq, if◌then◌else◌, IfOk, map, replicate};
 ghost use Rattle.std.specs.declared.option.Option.TheVariants.{Some, None};
 ghost use Rattle.cov_base.specs.Codes.{breakpoint};
+ghost use Rattle.cov_base.specs.Facts.{has_fact, no_facts};
+ghost use Rattle.cov_base.specs.declared.facts.Fact.{Fact};
+ghost use Rattle.module_area.specs.FreshWords.{fresh_word};
+ghost use Rattle.module_area.specs.Notes.{root_notes};
 ghost use Rattle.module_area.specs.PlainPass.{notes_of, IsPassOf};
 
 use crate::cells::Cell;
 use crate::plan::Plan;
 use crate::tallies::Tally;
 use crate::traits::Cells;
-use cov_base::{Bits, Fact, PlaceNo, SessNo};
+use cov_base::{Bits, Fact, NoMemory, PlaceNo, SessNo};
+use std::alloc::{AllocError, Global};
 
 const BREAKPOINT: u16 = 0x0AFF;
+
+const NO_TALLY: Tally = Tally {
+    plants: 0,
+    fetches: 0,
+    marks: 0,
+    lifts: 0,
+    closes: 0,
+};
 
 /// The cells of one thread's area. Their words lie in the root, which is the only pass.
 #[derive(Drop)]
@@ -26,6 +39,61 @@ pub struct PlainPass {
     pub(crate) sets: Vec<Bits>,
     pub(crate) pending: Option<(u32, u32)>,
     pub(crate) tally: Tally,
+}
+
+fn fresh_words(alloc: Global, plan: &Plan) -> Result<Vec<Cell>, AllocError>
+    ensures { IfOk result (λ v. v.items ≡ map fresh_word plan.now.places) }
+{
+    plan.places
+        .iter()
+        .map(|p| Cell {
+            tag: 0,
+            half: p.original,
+        })
+        .collect(alloc)
+}
+
+fn fresh_sets(alloc: Global, count: usize) -> Result<Vec<Bits>, AllocError>
+    ensures { IfOk result (λ v. v.items ≡ replicate count no_facts) }
+{
+    vec![in alloc; Bits::empty(); count]
+}
+
+impl PlainCells {
+    /// The cells and the pass of a new area: nothing is planted, no set has a fact.
+    pub fn new(alloc: Global, plan: &Plan) -> Result<(PlainCells, PlainPass), NoMemory>
+        ensures area { IfOk result (λ a. IsPassOf a.0.plan a.1) }
+        ensures plan { IfOk result (λ a. a.0.plan ≡ plan.now) }
+        ensures root { IfOk result (λ a. notes_of a.1 ≡ root_notes) }
+    {
+        let words = fresh_words(alloc, plan)?;
+        let sets = fresh_sets(alloc, plan.sessions as usize * plan.places.len())?;
+        let plan = plan.to_plan(alloc)?;
+        let pass = PlainPass {
+            words,
+            sets,
+            pending: None,
+            tally: NO_TALLY,
+        };
+        Ok((PlainCells { plan }, pass))
+    }
+}
+
+impl PlainPass {
+    /// The facts that the pass has marked for the session at the place.
+    pub fn set(&self, s: SessNo, place: PlaceNo) -> Bits
+        ensures { (f : Fact) → has_fact result f ≡ (notes_of self.now).marked s.0 place.0 f }
+    {
+        let places = self.words.len() as u128;
+        if s.0 == 0 || place.0 as u128 >= places {
+            return Bits::empty();
+        }
+        let at = (s.0 as u128 - 1) * places + place.0 as u128;
+        if at >= self.sets.len() as u128 {
+            return Bits::empty();
+        }
+        self.sets[at as usize]
+    }
 }
 
 fn pending_of(place: PlaceNo, cell: Cell) -> Option<(u32, u32)>

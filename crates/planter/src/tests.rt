@@ -1,4 +1,4 @@
-//! A loop of three turns and a return: planted, trapped at, lifted, finished.
+//! A loop of three turns and a return: planted, trapped at, lifted.
 ghost use Rattle.std.specs.Prelude.{◌≡◌, ◌+◌, ◌<◌, ◌≤◌, ◌^◌, length, true};
 ghost use Rattle.std.specs.declared.option.Option.TheVariants.{None};
 ghost use Rattle.cov_base.specs.declared.facts.Kind.TheVariants.{Straight, Conditional};
@@ -8,7 +8,7 @@ ghost use Rattle.module_area.specs.Notes.{calls};
 
 use crate::plant_all;
 use cov_base::{Addr, Fact, Kind, NoMemory, PlaceNo, SessNo};
-use module_area::{Areas, Cells, Place, PlainAreas, Plan, Tally};
+use module_area::{Cells, Place, PlainCells, Plan};
 use std::alloc::Global;
 use std::test::Fail;
 
@@ -27,8 +27,6 @@ fn visit<C: Cells>(
     requires kind { is_of_kind (kind_at plan.now place.0) fact ≡ true }
     ensures area { C.is_pass cells.now pass.new }
     ensures room { calls (C.notes pass.new) ≤ calls (C.notes pass.old) + 3 }
-    ensures bears { (C.notes pass.new).bears ≡ (C.notes pass.old).bears }
-    ensures out { (C.notes pass.new).out ≡ (C.notes pass.old).out }
 {
     let cell = cells.fetch(pass, place);
     if cell.half != 0x0AFF || cell.tag != 1 {
@@ -42,19 +40,15 @@ fn visit<C: Cells>(
 }
 
 /// Four executions, and whether the two sets are full then.
-#[tactic(auto, using(module_area::proofs::EndedLemmas::session_has_sets))]
-fn loop_and_return<A: Areas>(
+fn loop_and_return(
     alloc: Global,
-    areas: &mut A,
     plan: &Plan,
 ) -> Result<([(bool, bool); 4], bool, bool), NoMemory>
-    requires room { A.made areas.old < 2 ^ 62 }
     requires places { 2 ≤ length plan.now.places }
     requires branch { kind_at plan.now 0 ≡ Conditional }
     requires back { kind_at plan.now 1 ≡ Straight }
-    requires sessions { 1 ≤ plan.now.sessions }
 {
-    let (cells, mut pass) = areas.make(alloc, plan)?;
+    let (cells, mut pass) = PlainCells::new(alloc, plan)?;
     plant_all(&cells, &mut pass, plan);
     let shown = [
         visit(&cells, &mut pass, plan, PlaceNo(0), Fact::Went),
@@ -62,9 +56,8 @@ fn loop_and_return<A: Areas>(
         visit(&cells, &mut pass, plan, PlaceNo(0), Fact::Stayed),
         visit(&cells, &mut pass, plan, PlaceNo(1), Fact::Ran),
     ];
-    let finals = areas.finish(alloc, cells, pass)?;
-    let branch = finals.set(SessNo(1), PlaceNo(0));
-    let back = finals.set(SessNo(1), PlaceNo(1));
+    let branch = pass.set(SessNo(1), PlaceNo(0));
+    let back = pass.set(SessNo(1), PlaceNo(1));
     Ok((
         shown,
         branch.is_full(Kind::Conditional),
@@ -92,22 +85,11 @@ fn counts_and_keeps_a_loop_of_three_turns(rt: HostRuntime) -> Result<(), Fail> {
     let places = vec![in alloc; branch, back]?;
     let windows = vec![in alloc; 1, 1]?;
     let plan = Plan::checked(alloc, places, windows, Vec::new(alloc), 1).ok_or("no plan")?;
-    let mut areas = PlainAreas::new(alloc, 1)?;
-    let (shown, branch, back) = loop_and_return(alloc, &mut areas, &plan)?;
+    let (shown, branch, back) = loop_and_return(alloc, &plan)?;
     assert_eq!(rt;
         shown,
         [(true, false), (true, false), (true, true), (true, true)]
     );
     assert!(rt; branch && back);
-    let tally = Tally {
-        plants: 2,
-        fetches: 4,
-        marks: 4,
-        lifts: 2,
-        closes: 0,
-    };
-    assert_eq!(rt; areas.ledger(), [tally].as_slice());
-    assert_eq!(rt; areas.finals().len(), 1);
-    assert_eq!(rt; areas.made(), 1);
     Ok(())
 }

@@ -1,18 +1,17 @@
 -- What the rule says of the word that a step finds.
-use Rattle.std.proofs.Common.{◌≡◌, ◌≢◌, ◌⊎◌, ℕ, ◌+◌, ◌-◌, ◌*◌, ◌/◌, ◌%◌, ◌<◌, ◌≤◌, Bool, true, false, nat_eq, Option, Some, None, List, length, sym, refl, ap, ◌∙◌, subst, inl, inr, ⊎_elim, arith}
+use Rattle.std.proofs.Common.{◌≡◌, ◌≢◌, ℕ, ◌+◌, ◌*◌, ◌/◌, ◌<◌, ◌≤◌, true, None, List, length, sym, refl, ap, subst, inl, inr, ⊎_elim, arith}
 use mathlib.Core.Option.{some}
 use lib.ListN.{get_elem?}
-use Rattle.cov_base.specs.declared.facts.Fact.{Fact}
 use Rattle.cov_base.specs.FactSet.{FactSet}
-use Rattle.cov_base.specs.Facts.{has_fact, is_of_kind, is_within, is_full, full_of}
+use Rattle.cov_base.specs.Facts.{is_within}
 use Rattle.cov_base.specs.Codes.{breakpoint}
 use Rattle.module_area.specs.declared.cells.Cell.{Cell}
 use Rattle.module_area.specs.declared.parties.View.{View}
 use Rattle.module_area.specs.declared.parties.Role.{Role}
 use Rattle.module_area.specs.declared.parties.Role.TheVariants.{Root, Task, Spent}
-use Rattle.module_area.specs.PlanView.{PlanView, IsPlan, original_at, kind_at, window_at, is_over, is_controlled}
-use Rattle.module_area.specs.Parties.{Has, last_tag, window_tag}
-use Rattle.module_area.specs.Held.{untouched, planted, lifted, closed, IsForm, KeepsAs, Keeps, Kept, Held}
+use Rattle.module_area.specs.PlanView.{PlanView, IsPlan, original_at, kind_at, window_at, is_over}
+use Rattle.module_area.specs.Parties.{last_tag, window_tag}
+use Rattle.module_area.specs.Held.{planted, IsForm, KeepsAs, Held}
 use Rattle.module_area.specs.Notes.{IsAnswer, IsFound, no_tally}
 use Rattle.module_area.proofs.FactLemmas.{is_full-true, within_kind}
 use Rattle.module_area.proofs.PlanLemmas.{no_controlled, over_window, over_small}

@@ -1,18 +1,17 @@
 -- The words of a new area keep the rule.
-use Rattle.std.proofs.Common.{◌≡◌, ◌≢◌, ℕ, zero, suc, ◌+◌, ◌-◌, ◌*◌, ◌/◌, ◌%◌, ◌<◌, ◌≤◌, Bool, true, false, nat_eq, if◌then◌else◌, List, [], ◌∷◌, ◌++◌, map, length, replicate, get_or, take, drop, sym, refl, ap, ◌∙◌, subst, arith, length-append, suc-mul, add-one, eqb-true}
+use Rattle.std.proofs.Common.{◌≡◌, ℕ, zero, suc, ◌+◌, ◌-◌, ◌*◌, ◌<◌, ◌≤◌, Bool, true, false, nat_eq, if◌then◌else◌, List, [], ◌∷◌, ◌++◌, map, length, replicate, get_or, take, drop, sym, refl, ap, ◌∙◌, subst, arith, length-append, suc-mul, add-one, eqb-true}
 use mathlib.Core.Option.{some, some-injective, some-ne-none}
 use lib.ListN.{get_elem?}
 use Rattle.std.proofs.lemmas.List.{get_or-map, get_or-append_right, get_or_append_left, length-map, length-replicate}
 use Rattle.atomic_table.specs.Table.{opening}
 use Rattle.cov_base.specs.declared.facts.Fact.{Fact}
 use Rattle.cov_base.specs.declared.facts.Fact.TheVariants.{Ran, Went, Stayed}
-use Rattle.cov_base.specs.FactSet.{FactSet}
-use Rattle.cov_base.specs.Facts.{has_fact, no_facts}
+use Rattle.cov_base.specs.Facts.{has_fact}
 use Rattle.module_area.specs.declared.cells.Cell.{Cell}
 use Rattle.module_area.specs.declared.parties.Role.TheVariants.{Root}
 use Rattle.module_area.specs.PlanView.{PlanView, IsPlan, original_at, no_place}
 use Rattle.module_area.specs.Parties.{blank}
-use Rattle.module_area.specs.Held.{untouched, Held}
+use Rattle.module_area.specs.Held.{untouched}
 use Rattle.module_area.proofs.BeginLemmas.{begins}
 use Rattle.shared_area.specs.Words.{cell_of, facts_of, place_of, cells_in, sets_in}
 use Rattle.shared_area.specs.Begin.{original_of, zeros_of, starting, AllFit}

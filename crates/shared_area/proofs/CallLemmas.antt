@@ -1,5 +1,5 @@
 -- What the calls of an area ask of its table, and what the steps' tellings come to.
-use Rattle.std.proofs.Common.{◌≡◌, ◌≢◌, ℕ, ◌+◌, ◌-◌, ◌*◌, ◌/◌, ◌%◌, ◌<◌, ◌≤◌, Bool, true, false, nat_eq, eqb, Option, Some, None, List, [], length, sym, refl, ap, ◌∙◌, subst, arith, bit_or, ⊎_elim, inl, if◌then◌else◌, nat_lt, lt-ltb, eq-eqb, length-append, IsSome}
+use Rattle.std.proofs.Common.{◌≡◌, ◌≢◌, ℕ, ◌+◌, ◌/◌, ◌%◌, ◌<◌, ◌≤◌, Bool, true, false, nat_eq, eqb, Some, None, List, length, sym, refl, ap, ◌∙◌, subst, arith, bit_or, inl, if◌then◌else◌, nat_lt, lt-ltb, eq-eqb, length-append, IsSome}
 use prog.Atomic.{either}
 use Rattle.atomic_table.specs.Table.{Allows}
 use Rattle.atomic_table.specs.declared.shared.Seat.{Seat}
@@ -10,7 +10,7 @@ use Rattle.module_area.specs.declared.parties.View.{View}
 use Rattle.module_area.specs.declared.parties.Role.{Role}
 use Rattle.module_area.specs.declared.parties.Role.TheVariants.{Root, Task, Spent}
 use Rattle.module_area.specs.PlanView.{PlanView, original_at, kind_at, window_at, is_over, is_controlled}
-use Rattle.module_area.specs.Parties.{Has, add_if, last_tag, window_tag, fetching, marking, lifting, planting, giving, joining, task_of}
+use Rattle.module_area.specs.Parties.{Has, add_if, window_tag, fetching, marking, lifting, planting, giving, joining, task_of}
 use Rattle.module_area.specs.Held.{KeepsAs, Keeps}
 use Rattle.shared_area.specs.declared.rule.NoSlot.{NoSlot}
 use Rattle.shared_area.specs.declared.cells.SharedCells.{SharedCells}
@@ -19,7 +19,8 @@ use Rattle.shared_area.specs.Told.{is_given, has_number, bears_as, seen_at}
 use Rattle.shared_area.specs.Rule.{IsArea, Fetched, Marked, Lifted}
 use Rattle.shared_area.proofs.WordLemmas.{session_in-word_of, fact_in-bit_of}
 use Rattle.module_area.proofs.Indices.{and_both}
-use Rattle.shared_area.proofs.NoteLemmas.{or_left, more_given}
+use Rattle.module_area.proofs.StepLemmas.{or_left}
+use Rattle.shared_area.proofs.NoteLemmas.{more_given}
 use Rattle.shared_area.proofs.AnswerLemmas.{is_root}
 use Rattle.shared_area.proofs.TableLemmas.{row_within, row_of, column_of, fetch_allowed, mark_allowed, lift_allowed, plant_allowed}
 

@@ -1,7 +1,7 @@
 -- What the words of a closed area say.
-use Rattle.std.proofs.Common.{◌≡◌, ◌≢◌, ◌⊎◌, ℕ, zero, suc, ◌+◌, ◌-◌, ◌*◌, ◌/◌, ◌%◌, ◌<◌, ◌≤◌, Bool, true, false, not, ◌&&◌, nat_eq, nat_lt, if◌then◌else◌, Option, Some, None, Result, Ok, Err, IfOk, List, [], ◌∷◌, map, take, drop, length, get_or, sum_by, sym, refl, ap, ◌∙◌, subst, inl, inr, ⊎_elim, arith, lt-ltb, suc-mul, add-one, mod-lt}
+use Rattle.std.proofs.Common.{◌≡◌, ℕ, zero, suc, ◌+◌, ◌-◌, ◌*◌, ◌/◌, ◌%◌, ◌<◌, ◌≤◌, Bool, true, false, not, ◌&&◌, nat_lt, List, [], ◌∷◌, map, take, drop, length, get_or, sym, refl, ap, ◌∙◌, subst, inl, inr, arith, suc-mul, add-one, mod-lt}
 use mathlib.Core.Logic.{dite}
-use native.Mathlib.Decide.{ℕ_discrete, dec_le}
+use native.Mathlib.Decide.{ℕ_discrete}
 use mathlib.Core.Option.{some}
 use lib.ListN.{get_elem?}
 use Rattle.std.proofs.lemmas.List.{get_or-map, get_or-take, get_or-drop, length-map, length-take-le, length-drop}
@@ -9,20 +9,19 @@ use Rattle.std.proofs.lemmas.Nat.{div-add-mod'}
 use Rattle.atomic_table.specs.Table.{State, Final, Seen}
 use Rattle.cov_base.specs.declared.facts.Fact.{Fact}
 use Rattle.cov_base.specs.FactSet.{FactSet}
-use Rattle.cov_base.specs.Facts.{has_fact, is_full, is_within, full_of, no_facts}
+use Rattle.cov_base.specs.Facts.{has_fact, is_full, is_within, no_facts}
 use Rattle.module_area.specs.declared.parties.View.{View}
 use Rattle.module_area.specs.declared.parties.Role.TheVariants.{Root}
 use Rattle.module_area.specs.declared.tallies.Tally.{Tally}
-use Rattle.module_area.specs.PlanView.{PlanView, IsPlan, kind_at, window_at}
+use Rattle.module_area.specs.PlanView.{PlanView, kind_at, window_at}
 use Rattle.module_area.specs.Parties.{Has}
 use Rattle.module_area.specs.FinalsView.{FinalsView, set_at}
-use Rattle.module_area.specs.Counts.{count_below, fact_count}
-use Rattle.module_area.specs.Ended.{HasSets, HasTally, full_places}
+use Rattle.module_area.specs.Ended.{HasSets, HasTally}
 use Rattle.module_area.proofs.Indices.{index_below, same_tests}
 use Rattle.module_area.proofs.CountLemmas.{count_same}
 use Rattle.shared_area.specs.declared.rule.NoSlot.{NoSlot}
 use Rattle.shared_area.specs.Words.{facts_of, place_of, cells_in, sets_in}
-use Rattle.shared_area.specs.Told.{has_mark, has_pair, has_number, notes_in}
+use Rattle.shared_area.specs.Told.{has_mark, has_number, notes_in}
 use Rattle.shared_area.specs.Rule.{IsArea}
 use Rattle.shared_area.proofs.NoteLemmas.{mark_there, mark_shown, pair_there, pair_shown, number_there, number_shown}
 use Rattle.shared_area.proofs.AnswerLemmas.{set_within, founds}

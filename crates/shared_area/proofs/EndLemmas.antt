@@ -1,5 +1,5 @@
 -- The rule in the end, when all passes are joined to the root.
-use Rattle.std.proofs.Common.{◌≡◌, ◌≢◌, ◌⊎◌, ℕ, ◌+◌, ◌-◌, ◌*◌, ◌<◌, ◌≤◌, Bool, true, false, not, ◌&&◌, nat_eq, nat_lt, if◌then◌else◌, Option, Some, None, List, length, sym, refl, ap, ◌∙◌, subst, inl, inr, ⊎_elim, arith, lt-ltb, lt_of_not-le}
+use Rattle.std.proofs.Common.{◌≡◌, ◌≢◌, ◌⊎◌, ℕ, ◌<◌, ◌≤◌, Bool, true, false, ◌&&◌, nat_lt, if◌then◌else◌, List, length, sym, refl, ap, ◌∙◌, subst, inl, inr, ⊎_elim, arith, lt-ltb, lt_of_not-le}
 use mathlib.Core.Option.{some, some-injective}
 use mathlib.Core.Logic.{dite}
 use native.Mathlib.Decide.{ℕ_discrete, dec_le}
@@ -11,14 +11,14 @@ use Rattle.module_area.specs.declared.cells.Cell.{Cell}
 use Rattle.module_area.specs.declared.parties.View.{View}
 use Rattle.module_area.specs.declared.parties.Role.{Role}
 use Rattle.module_area.specs.declared.parties.Role.TheVariants.{Root, Task, Spent}
-use Rattle.module_area.specs.PlanView.{PlanView, IsPlan, original_at, kind_at, window_at, is_over}
-use Rattle.module_area.specs.Parties.{Has, times, total, window_tag, blank}
+use Rattle.module_area.specs.PlanView.{PlanView, IsPlan, original_at, kind_at, window_at}
+use Rattle.module_area.specs.Parties.{Has, times, blank}
 use Rattle.module_area.specs.Held.{untouched, planted, lifted, IsForm, Once, IsRole, Owes, Held}
 use Rattle.module_area.specs.Counts.{count_below}
 use Rattle.module_area.proofs.PlanLemmas.{no_controlled, over_window}
 use Rattle.module_area.proofs.PartyLemmas.{total_only}
 use Rattle.module_area.proofs.StepLemmas.{first_only, full_some}
-use Rattle.shared_area.proofs.SumLemmas.{sum_below, counts_sum, length_sum, times_none, times_some}
+use Rattle.shared_area.proofs.SumLemmas.{counts_sum, length_sum, times_none, times_some}
 
 abbrev one_of : Bool → ℕ
 one_of b = if b then 1 else 0
@@ -54,10 +54,12 @@ module _ (plan : PlanView) (cell : ℕ → Cell) (sets : ℕ → ℕ → FactSet
 
   -- what was lifted is the place's own, where nothing else was planted
   own_lift : ((p : ℕ) → p < length plan.places → window_at plan p ≡ 0 → (cell p).tag ≡ 0) → (s p : ℕ) → Has (s, p) v.lifted → (p < length plan.places) × (s ≡ window_at plan p)
-  own_lift whole s p h = let k = (r.kept id v at).lifted s p h in let some_times = times_some s p v.lifted h in
-      (k.0, dite (ℕ_discrete (window_at plan p) 0)
-      (λ e. let tag = whole p k.0 e in let pos = k.1 in let never = (end_once s p k.0 pos).early (omega arith) in absurd (omega arith))
-      (λ n. sym (over_window plan s p r.is_plan (omega arith) k.2)))
+  own_lift whole s p h = let k = (r.kept id v at).lifted s p h in let some_times = times_some s p v.lifted h in (
+    k.0,
+    dite (ℕ_discrete (window_at plan p) 0)
+        (λ e. let tag = whole p k.0 e in let pos = k.1 in let never = (end_once s p k.0 pos).early (omega arith) in absurd (omega arith))
+        (λ n. sym (over_window plan s p r.is_plan (omega arith) k.2)),
+  )
 
   module _ (p : ℕ) (l : p < length plan.places) (w : 0 < window_at plan p) where
     -- a full set's breakpoint was taken out, where the root met free or tried to lift what it met full

@@ -1,35 +1,22 @@
 -- The notes that a contract sees after each step.
-use Rattle.std.proofs.Common.{◌≡◌, ◌≢◌, ◌⊎◌, ℕ, ◌+◌, ◌-◌, ◌*◌, ◌/◌, ◌%◌, ◌<◌, ◌≤◌, Bool, true, false, not, ◌&&◌, ◌||◌, nat_eq, if◌then◌else◌, Option, Some, None, List, [], ◌∷◌, ◌++◌, length, max, unwrap_or, sym, refl, ap, ◌∙◌, subst, inl, inr, ⊎_elim, arith, eqb-true, eq-eqb}
+use Rattle.std.proofs.Common.{◌≡◌, ◌⊎◌, ℕ, ◌+◌, ◌*◌, ◌%◌, ◌≤◌, Bool, true, false, not, ◌&&◌, ◌||◌, nat_eq, if◌then◌else◌, List, [], ◌∷◌, ◌++◌, max, unwrap_or, sym, refl, ap, ◌∙◌, subst, inl, inr, ⊎_elim, arith, eqb-true, eq-eqb}
 use mathlib.Core.Path.{fun_ext}
 use Rattle.cov_base.specs.declared.facts.Fact.{Fact}
-use Rattle.cov_base.specs.declared.facts.Fact.TheVariants.{Ran, Went, Stayed}
 use Rattle.cov_base.specs.FactSet.{FactSet}
 use Rattle.cov_base.specs.Facts.{same_fact, is_full, with_fact}
 use Rattle.module_area.specs.declared.cells.Cell.{Cell}
 use Rattle.module_area.specs.declared.parties.View.{View}
-use Rattle.module_area.specs.declared.parties.Role.{Role}
-use Rattle.module_area.specs.declared.parties.Role.TheVariants.{Root, Task, Spent}
+use Rattle.module_area.specs.declared.parties.Role.TheVariants.{Task}
 use Rattle.module_area.specs.declared.tallies.Tally.{Tally}
 use Rattle.module_area.specs.PlanView.{PlanView, original_at, kind_at}
-use Rattle.module_area.specs.Parties.{Has, add_if, is_lifted, session_of, window_tag, last_tag, fetching, marking, lifting, planting, giving, newcomer, joining, task_of}
-use Rattle.module_area.specs.Notes.{Notes, is_free_under, after_fetch, after_mark, after_lift, after_plant, after_split, split_notes, after_join, bearer}
+use Rattle.module_area.specs.Parties.{Has, add_if, is_lifted, session_of, window_tag, last_tag, fetching, marking, planting, giving, joining, task_of}
+use Rattle.module_area.specs.Notes.{is_free_under, after_fetch, after_mark, after_plant, after_split, after_join, bearer}
 use Rattle.module_area.proofs.Indices.{and_left, and_right, and_both, same_tests}
 use Rattle.module_area.proofs.FactLemmas.{same_fact-true}
+use Rattle.module_area.proofs.StepLemmas.{or_cases, or_left, or_right, same_fact-same}
 use Rattle.shared_area.specs.Told.{has_mark, has_pair, has_number, seen_at, bears_as, notes_in, is_given}
 
 -- ---- the tests are membership
-or_cases : (a b : Bool) → (a || b) ≡ true → (a ≡ true) ⊎ (b ≡ true)
-or_cases true b h = inl refl
-or_cases false b h = inr h
-
-or_right : (a b : Bool) → b ≡ true → (a || b) ≡ true
-or_right true b h = refl
-or_right false b h = h
-
-pub or_left : (a b : Bool) → a ≡ true → (a || b) ≡ true
-or_left true b h = refl
-or_left false b h = absurd cc
-
 pub pair_there : (s p : ℕ) (xs : List (ℕ × ℕ)) → has_pair s p xs ≡ true → Has (s, p) xs
 pair_there s p [] h = absurd cc
 pair_there s p (x ∷ xs) h = ⊎_elim (λ a. inr (pair_there s p xs a))
@@ -41,14 +28,6 @@ pair_shown s p [] h = absurd h
 pair_shown s p (x ∷ xs) (inr h) = or_left (has_pair s p xs) _ (pair_shown s p xs h)
 pair_shown s p (x ∷ xs) (inl e) = or_right (has_pair s p xs) (nat_eq s x.0 && nat_eq p x.1)
     (and_both (nat_eq s x.0) (nat_eq p x.1) (eq-eqb s x.0 (sym (ap (λ (z : ℕ × ℕ). z.0) e))) (eq-eqb p x.1 (sym (ap (λ (z : ℕ × ℕ). z.1) e))))
-
-same_fact-same : (f g : Fact) → f ≡ g → same_fact f g ≡ true
-same_fact-same f g e = subst (λ z. same_fact f z ≡ true) e (itself f)
-  where
-    itself : (f : Fact) → same_fact f f ≡ true
-    itself Ran = refl
-    itself Went = refl
-    itself Stayed = refl
 
 pub mark_there : (s p : ℕ) (f : Fact) (xs : List (ℕ × ℕ × Fact)) → has_mark s p f xs ≡ true → Has (s, p, f) xs
 mark_there s p f [] h = absurd cc
@@ -63,7 +42,7 @@ mark_shown s p f (x ∷ xs) (inr h) = or_left (has_mark s p f xs) _ (mark_shown 
 mark_shown s p f (x ∷ xs) (inl e) = or_right (has_mark s p f xs) (nat_eq s x.0 && nat_eq p x.1 && same_fact f x.2)
     (and_both (nat_eq s x.0 && nat_eq p x.1) (same_fact f x.2)
     (and_both (nat_eq s x.0) (nat_eq p x.1) (eq-eqb s x.0 (sym (ap (λ (z : ℕ × ℕ × Fact). z.0) e))) (eq-eqb p x.1 (sym (ap (λ (z : ℕ × ℕ × Fact). z.1) e))))
-    (same_fact-same f x.2 (sym (ap (λ (z : ℕ × ℕ × Fact). z.2) e))))
+    (subst (λ z. same_fact f z ≡ true) (sym (ap (λ (z : ℕ × ℕ × Fact). z.2) e)) (same_fact-same f)))
 
 pub number_there : (t : ℕ) (us : List ℕ) → has_number t us ≡ true → Has t us
 number_there t [] h = absurd cc

@@ -1,5 +1,5 @@
 -- What waits for a pass is of a session of the plan.
-use Rattle.std.proofs.Common.{◌≡◌, ℕ, ◌-◌, ◌*◌, ◌≤◌, Bool, true, false, if◌then◌else◌, Option, Some, None, sym, ap, subst, arith}
+use Rattle.std.proofs.Common.{◌≡◌, ℕ, ◌-◌, ◌*◌, ◌≤◌, Bool, true, false, if◌then◌else◌, Some, None, sym, ap, subst, arith}
 use Rattle.module_area.specs.declared.parties.View.{View}
 use Rattle.module_area.specs.PlanView.{PlanView}
 use Rattle.module_area.specs.Parties.{is_breakpoint}

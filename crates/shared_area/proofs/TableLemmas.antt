@@ -1,29 +1,26 @@
 -- Each step on a word keeps the rule, and tells what the rule says of the word.
-use Rattle.std.proofs.Common.{◌≡◌, ◌≢◌, ◌⊎◌, ℕ, zero, suc, ◌+◌, ◌-◌, ◌*◌, ◌/◌, ◌%◌, ◌<◌, ◌≤◌, Bool, true, false, nat_eq, eqb, Option, Some, None, List, [], ◌∷◌, length, get_or, set, sym, refl, ap, ◌∙◌, subst, inl, inr, ⊎_elim, arith, bit_or, eq-eqb, ne_eqb, length-set, get_or-set_same, get_or-set_other, mul-le-mul_right, suc-mul}
+use Rattle.std.proofs.Common.{◌≡◌, ◌≢◌, ◌⊎◌, ℕ, zero, suc, ◌+◌, ◌*◌, ◌/◌, ◌%◌, ◌<◌, ◌≤◌, true, false, nat_eq, eqb, Some, List, length, get_or, set, sym, refl, ap, ◌∙◌, subst, inl, inr, ⊎_elim, arith, bit_or, eq-eqb, ne_eqb, length-set, get_or-set_same, get_or-set_other, mul-le-mul_right, suc-mul}
 use lib.Seq.{set-get_or}
-use mathlib.Core.Option.{some}
 use mathlib.Core.Logic.{dite}
 use native.Mathlib.Decide.{ℕ_discrete}
-use lib.ListN.{get_elem?}
 use prog.Atomic.{either}
 use Rattle.std.proofs.lemmas.Nat.{div-mul-add, mod-mul-add}
 use Rattle.atomic_table.proofs.Lists.{set_else}
 use Rattle.atomic_table.specs.Table.{State, Me, keeps, Allows, Splits, Joins}
 use Rattle.cov_base.specs.declared.facts.Fact.{Fact}
-use Rattle.cov_base.specs.FactSet.{FactSet}
-use Rattle.cov_base.specs.Facts.{is_of_kind, with_fact}
+use Rattle.cov_base.specs.Facts.{is_of_kind}
 use Rattle.cov_base.specs.Codes.{breakpoint}
 use Rattle.module_area.specs.declared.cells.Cell.{Cell}
 use Rattle.module_area.specs.declared.parties.View.{View}
 use Rattle.module_area.specs.declared.parties.Role.TheVariants.{Root, Task, Spent}
 use Rattle.module_area.specs.PlanView.{PlanView, original_at, kind_at, window_at, is_over}
 use Rattle.module_area.specs.Parties.{Has, last_tag, window_tag, blank, fetching, marking, lifting, planting, giving, newcomer, joining}
-use Rattle.module_area.specs.Held.{planted, lifted, Keeps, Held}
+use Rattle.module_area.specs.Held.{planted, lifted, Keeps}
 use Rattle.module_area.proofs.StepLemmas.{fetches, marks, lifts, plants}
 use Rattle.module_area.proofs.ForkLemmas.{splits, joins}
 use Rattle.shared_area.specs.declared.rule.NoSlot.{NoSlot}
 use Rattle.shared_area.specs.Words.{cell_of, word_of, facts_of, bit_of, place_of, cells_in, sets_in}
-use Rattle.shared_area.specs.Told.{has_pair, seen_at}
+use Rattle.shared_area.specs.Told.{seen_at}
 use Rattle.shared_area.specs.Rule.{IsArea, Fetched, Marked, Lifted}
 use Rattle.shared_area.proofs.NoteLemmas.{pair_there}
 use Rattle.shared_area.proofs.WordLemmas.{cell_of-word_of, cell_word, facts_of-bit_or}

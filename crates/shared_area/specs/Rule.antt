@@ -1,10 +1,10 @@
 -- The rule over all words and all passes, and what a step tells.
-use Rattle.std.specs.Prelude.{◌≡◌, ◌≢◌, ℕ, ◌+◌, ◌*◌, ◌<◌, ◌≤◌, true, false, nat_eq, List, [], length}
+use Rattle.std.specs.Prelude.{◌≡◌, ℕ, ◌+◌, ◌*◌, ◌<◌, ◌≤◌, true, false, nat_eq, length}
 use Rattle.atomic_table.specs.Table.{State}
 use Rattle.cov_base.specs.declared.facts.Fact.{Fact}
 use Rattle.module_area.specs.declared.parties.View.{View}
 use Rattle.module_area.specs.PlanView.{PlanView, window_at}
-use Rattle.module_area.specs.Parties.{fetching, marking, lifting, planting}
+use Rattle.module_area.specs.Parties.{fetching, marking, lifting}
 use Rattle.module_area.specs.Notes.{IsAnswer, IsFound, no_tally}
 use Rattle.module_area.specs.Held.{Held}
 use Rattle.shared_area.specs.declared.rule.NoSlot.{NoSlot}

@@ -99,11 +99,7 @@ impl Areas for SharedAreas {
 
     ghost made = { λ a. a.made };
 
-    fn make(
-        &mut self,
-        alloc: Global,
-        plan: &Plan,
-    ) -> Result<(SharedCells, SharedPass), NoMemory> {
+    fn make(&mut self, alloc: Global, plan: &Plan) -> Result<(SharedCells, SharedPass), NoMemory> {
         self.made += 1;
         new_area(alloc, plan)
     }

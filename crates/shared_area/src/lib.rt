@@ -8,6 +8,8 @@ mod forks;
 mod pass;
 mod rule;
 mod steps;
+#[cfg(test)]
+mod tests;
 mod words;
 
 pub use areas::SharedAreas;

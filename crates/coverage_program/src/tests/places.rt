@@ -2,10 +2,13 @@
 
 use crate::cover::{cover, cover_one};
 use crate::status::Status;
-use cov_outside::{MemSink, MemSource};
-use module_area::{Areas, PlainAreas};
+use cov_outside::{MemSink, MemSource, OpenGate};
+use module_area::Areas;
+use shared_area::SharedAreas;
 use std::alloc::Global;
+use std::sync::Wait;
 use std::test::Fail;
+use std::thread::Threads;
 
 const LOOP_JOB: &[u8] = b"\
 COVERJOB 1\n\
@@ -83,15 +86,28 @@ pub struct Came {
     pub made: u64,
 }
 
-pub fn serve(alloc: Global, words: &[&str], job: &[u8]) -> Result<Came, Fail> {
+pub fn serve<T: Threads + Wait + Sync>(
+    rt: &T,
+    alloc: Global,
+    words: &[&str],
+    job: &[u8],
+) -> Result<Came, Fail> {
     let mut all = Vec::new(alloc);
     for word in words {
         all.push(String::from_str(alloc, word)?)?;
     }
-    let mut areas = PlainAreas::new(alloc, 1).map_err(|_| "memory")?;
+    let mut areas = SharedAreas::new(alloc, 1).map_err(|_| "memory")?;
     let mut source = MemSource::new(job.to_vec(alloc)?, 64, Vec::new(alloc));
     let mut sink = MemSink::new(alloc, 4096, 4096, Vec::new(alloc)).map_err(|_| "memory")?;
-    let status = cover(alloc, &all, &mut source, &mut sink, &mut areas);
+    let status = cover(
+        rt,
+        alloc,
+        &all,
+        &mut source,
+        &mut sink,
+        &mut areas,
+        &OpenGate,
+    );
     let mut again = MemSource::new(job.to_vec(alloc)?, 64, Vec::new(alloc));
     let mut other = MemSink::new(alloc, 4096, 4096, Vec::new(alloc)).map_err(|_| "memory")?;
     let alone = cover_one(alloc, &all, &mut again, &mut other);
@@ -108,7 +124,7 @@ pub fn serve(alloc: Global, words: &[&str], job: &[u8]) -> Result<Came, Fail> {
 fn lists_the_places_of_each_job(rt: HostRuntime) -> Result<(), Fail> {
     let alloc = rt.alloc();
     for (name, job, status, text) in &CASES {
-        let came = serve(alloc, &["table"], job)?;
+        let came = serve(&rt, alloc, &["table"], job)?;
         assert_eq!(rt; came.status, Status(*status), "{name}");
         assert_eq!(rt; came.text.as_slice(), *text, "{name}");
         assert_eq!(rt; came.alone, Status(*status), "{name}");
@@ -123,7 +139,7 @@ fn other_words_are_usage(rt: HostRuntime) -> Result<(), Fail> {
     let alloc = rt.alloc();
     let lists: [&[&str]; 4] = [&[], &["tables"], &["Table"], &["table", "run"]];
     for words in &lists {
-        let came = serve(alloc, *words, LOOP_JOB)?;
+        let came = serve(&rt, alloc, *words, LOOP_JOB)?;
         assert_eq!(rt; came.status, Status(1));
         assert_eq!(rt; came.text.as_slice(), USAGE);
         assert_eq!(rt; came.alone, Status(1));
@@ -136,7 +152,7 @@ fn other_words_are_usage(rt: HostRuntime) -> Result<(), Fail> {
 #[test]
 fn runs_nothing_without_areas(rt: HostRuntime) -> Result<(), Fail> {
     let alloc = rt.alloc();
-    let came = serve(alloc, &["run"], LOOP_JOB)?;
+    let came = serve(&rt, alloc, &["run"], LOOP_JOB)?;
     assert_eq!(rt; came.status, Status(0));
     assert_eq!(rt; came.made, 1);
     assert_eq!(rt; came.alone, Status(1));

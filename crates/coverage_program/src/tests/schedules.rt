@@ -374,7 +374,7 @@ BAD JOB LINE 12\n",
 #[test]
 fn plays_each_schedule(rt: HostRuntime) -> Result<(), Fail> {
     for (name, input, status, text) in &SCHEDULES {
-        let came = serve(rt.alloc(), &["replay"], input)?;
+        let came = serve(&rt, rt.alloc(), &["replay"], input)?;
         assert_eq!(rt; came.text.as_slice(), *text, "{name}");
         assert_eq!(rt; came.status, Status(*status), "{name}");
         assert_eq!(rt; came.text_alone.as_slice(), *text, "{name}");

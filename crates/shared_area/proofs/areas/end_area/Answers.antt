@@ -1,5 +1,5 @@
-use Rattle.std.proofs.Common.{◌≡◌, ◌*◌, ℕ, List, map, take, drop, length, sym, ◌∙◌, ap, subst}
-use Rattle.std.specs.Slots.{slots_items, slots_len}
+use Rattle.std.proofs.Common.{◌≡◌, ◌*◌, map, take, drop, length, sym, ◌∙◌, ap, subst}
+use Rattle.std.specs.Slots.{slots_items}
 use Rattle.atomic_table.specs.Table.{Final, Seen}
 use Rattle.module_area.specs.PlanView.{PlanView}
 use Rattle.module_area.specs.FinalsView.{FinalsView}
@@ -8,7 +8,7 @@ use Rattle.shared_area.specs.Passes.{notes_of}
 use Rattle.shared_area.specs.Words.{facts_of}
 use Rattle.shared_area.specs.Rule.{IsArea}
 use Rattle.shared_area.proofs.AnswerLemmas.{is_root}
-use Rattle.shared_area.proofs.CloseLemmas.{finals_of, sets_of, ended}
+use Rattle.shared_area.proofs.CloseLemmas.{finals_of, ended}
 use Rattle.shared_area.proofs.areas.end_area.Goals as goal
 
 ends : (c : goal.After-drop-plan-inside-5) → HasSets c.args.cells.plan (notes_of c.args.root) (finals_of c.args.cells.plan (slots_items c.close_with-closed.result.words)) × HasTally c.args.cells.plan (notes_of c.args.root) (finals_of c.args.cells.plan (slots_items c.close_with-closed.result.words))

@@ -1,7 +1,5 @@
-use Rattle.std.proofs.Common.{◌≡◌, ◌∙◌, ap, ◌++◌, ◌∷◌, []}
+use Rattle.std.proofs.Common.{◌∙◌, ◌++◌, ◌∷◌, []}
 use Rattle.std.specs.Slots.{slots_items}
-use Rattle.shared_area.specs.Words.{facts_of}
-use Rattle.cov_base.specs.FactSet.{FactSet}
 use Rattle.shared_area.proofs.BeginLemmas.{more_sets}
 use Rattle.shared_area.proofs.begin.last_sets.Goals as goal
 

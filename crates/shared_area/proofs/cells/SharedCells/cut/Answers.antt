@@ -1,4 +1,4 @@
-use Rattle.std.proofs.Common.{◌≡◌, ℕ, sym, subst}
+use Rattle.std.proofs.Common.{ℕ, sym, subst}
 use Rattle.atomic_table.specs.Table.{Splits}
 use Rattle.module_area.specs.PlanView.{PlanView}
 use Rattle.module_area.specs.Parties.{giving, newcomer}

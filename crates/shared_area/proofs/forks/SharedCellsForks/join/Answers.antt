@@ -1,4 +1,4 @@
-use Rattle.std.proofs.Common.{◌≡◌, refl, ap, ◌∙◌}
+use Rattle.std.proofs.Common.{refl, ap, ◌∙◌}
 use Rattle.shared_area.specs.Told.{notes_in}
 use Rattle.shared_area.proofs.CallLemmas.{is_task}
 use Rattle.shared_area.proofs.NoteLemmas.{both_tallies, join_notes}

@@ -1,7 +1,7 @@
-use Rattle.std.proofs.Common.{◌≡◌, refl, ap, ◌∙◌}
+use Rattle.std.proofs.Common.{refl, ap, ◌∙◌}
 use Rattle.shared_area.specs.Told.{notes_in}
 use Rattle.shared_area.proofs.CallLemmas.{split_live}
-use Rattle.shared_area.proofs.NoteLemmas.{number_shown, not_there, split_root}
+use Rattle.shared_area.proofs.NoteLemmas.{not_there, split_root}
 use Rattle.shared_area.proofs.forks.SharedCellsForks.split.Goals as goal
 
 pub cut-seat-requires-clause-first : goal.cut-seat-requires-clause-first

@@ -1,8 +1,7 @@
-use Rattle.std.proofs.Common.{◌≡◌, ◌+◌, ◌*◌, ◌≤◌, ◌/◌, sym, refl, ap, ◌∙◌, subst, arith}
+use Rattle.std.proofs.Common.{◌≡◌, ◌+◌, sym, ap, ◌∙◌, subst, arith}
 use Rattle.module_area.specs.declared.cells.Cell.{Cell}
 use Rattle.module_area.specs.Notes.{IsAnswer, after_fetch}
-use Rattle.shared_area.specs.Rule.{Fetched}
-use Rattle.shared_area.specs.Passes.{notes_of, IsWithin}
+use Rattle.shared_area.specs.Passes.{notes_of}
 use Rattle.shared_area.specs.Told.{notes_in}
 use Rattle.shared_area.specs.Words.{cell_of}
 use Rattle.shared_area.proofs.CallLemmas.{cell_there, fetch_at, fetched_is, fetch_live}

@@ -1,11 +1,10 @@
-use Rattle.std.proofs.Common.{◌≡◌, ◌+◌, ◌*◌, length, sym, refl, ap, ◌∙◌, subst, arith}
+use Rattle.std.proofs.Common.{◌≡◌, ◌+◌, ◌*◌, sym, refl, ap, ◌∙◌, subst}
 use Rattle.cov_base.specs.FactSet.{FactSet}
 use Rattle.module_area.specs.Notes.{IsFound, after_mark}
 use Rattle.module_area.specs.Parties.{marking}
-use Rattle.shared_area.specs.Rule.{Marked}
 use Rattle.shared_area.specs.Passes.{notes_of}
 use Rattle.shared_area.specs.Told.{notes_in}
-use Rattle.shared_area.specs.Words.{facts_of, place_of}
+use Rattle.shared_area.specs.Words.{facts_of}
 use Rattle.shared_area.proofs.CallLemmas.{set_there, mark_at, marked_is, mark_live}
 use Rattle.shared_area.proofs.NoteLemmas.{mark_notes}
 use Rattle.shared_area.proofs.StayLemmas.{same_within, session_within}

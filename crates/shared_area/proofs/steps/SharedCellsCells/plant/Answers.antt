@@ -1,4 +1,4 @@
-use Rattle.std.proofs.Common.{◌≡◌, ◌+◌, ◌<◌, ◌≤◌, ℕ, sym, refl, ap, ◌∙◌, subst, arith}
+use Rattle.std.proofs.Common.{◌+◌, refl, ap, ◌∙◌}
 use Rattle.module_area.specs.Parties.{planting}
 use Rattle.shared_area.specs.Told.{notes_in}
 use Rattle.shared_area.proofs.CallLemmas.{cell_there, plant_at, planted_is, plant_live, root_keeps, window_over}

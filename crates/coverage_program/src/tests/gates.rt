@@ -1,0 +1,100 @@
+//! Tasks of one phase run at once: a gate holds one of two until the other has arrived.
+
+use crate::cover::cover;
+use crate::status::Status;
+use cov_base::TaskNo;
+use cov_outside::{Gate, MemSink, MemSource};
+use module_area::{Areas, Tally};
+use shared_area::SharedAreas;
+use std::alloc::Global;
+use std::sync::Wait;
+use std::sync::atomic::{AtomicU64, Ordering};
+use std::test::Fail;
+use std::thread::Threads;
+
+const JOB: &[u8] = b"\
+COVERJOB 1\n\
+MODULE M 100000 10\n\
+TEXT 12114780F008182207FE\n\
+LISTING 5\n\
+\x20 Loc  Object Code    Addr1 Addr2  Stmt   Source Statement\n\
+000000 1211                           1          LTR\n\
+000002 4780 F008                      2          BE\n\
+000006 1822                           3          LR\n\
+000008 07FE                           4          BR\n\
+PHASE P\n\
+SESSION S M\n\
+TASK A 100000 16 100 0\n\
+TASK B 100000 16 100 0\n\
+REG 1 00000001\n\
+ENDJOB\n";
+
+/// At most so many looks at the other task's word.
+const TURNS: u64 = 1_000_000_000;
+
+/// Holds one task until another has arrived, and notes that it was released.
+#[derive(Drop)]
+struct Holding {
+    held: u32,
+    awaited: u32,
+    arrived: AtomicU64,
+    released: AtomicU64,
+}
+
+impl Holding {
+    /// Whether the awaited task arrives within the turns.
+    fn is_awaited(&self) -> bool {
+        for _ in 0..TURNS {
+            if self.arrived.load(Ordering::SeqCst) == 1 {
+                return true;
+            }
+        }
+        false
+    }
+}
+
+impl Gate for Holding {
+    fn arrive(&self, task: TaskNo) {
+        if task.0 == self.awaited {
+            self.arrived.store(1, Ordering::SeqCst);
+        }
+        if task.0 == self.held && self.is_awaited() {
+            self.released.store(1, Ordering::SeqCst);
+        }
+    }
+}
+
+/// Runs the job while its gate holds a task until another has arrived: the status, the tallies, and whether the task
+/// was released.
+fn run_held<T: Threads + Wait + Sync>(
+    rt: &T,
+    alloc: Global,
+    held: u32,
+    awaited: u32,
+) -> Result<(Status, Vec<Tally>, u64), Fail> {
+    let words = [String::from_str(alloc, "run")?];
+    let gate = Holding {
+        held,
+        awaited,
+        arrived: AtomicU64::new(0),
+        released: AtomicU64::new(0),
+    };
+    let mut source = MemSource::new(JOB.to_vec(alloc)?, 64, Vec::new(alloc));
+    let mut sink = MemSink::new(alloc, 4096, 4096, Vec::new(alloc)).map_err(|_| "memory")?;
+    let mut areas = SharedAreas::new(alloc, 1).map_err(|_| "memory")?;
+    let status = cover(rt, alloc, &words, &mut source, &mut sink, &mut areas, &gate);
+    let released = gate.released.load(Ordering::SeqCst);
+    Ok((status, areas.ledger().to_vec(alloc)?, released))
+}
+
+#[test]
+fn a_task_waits_for_another_of_its_phase(rt: HostRuntime) -> Result<(), Fail> {
+    for (held, awaited) in [(0, 1), (1, 0)] {
+        let (status, tallies, released) = run_held(&rt, rt.alloc(), held, awaited)?;
+        assert_eq!(rt; status, Status(0));
+        assert_eq!(rt; released, 1);
+        assert_eq!(rt; tallies.len(), 1);
+        assert_eq!(rt; (tallies[0].plants, tallies[0].fetches), (4, 7));
+    }
+    Ok(())
+}

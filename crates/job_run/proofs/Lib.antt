@@ -1,0 +1,6 @@
+pub mod AreaLemmas
+pub mod JoinLemmas
+pub mod PhaseLemmas
+pub mod SessionLemmas
+pub mod SlotLemmas
+pub mod TaskLemmas

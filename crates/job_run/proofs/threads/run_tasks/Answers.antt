@@ -1,0 +1,105 @@
+use Rattle.std.proofs.Common.{◌≡◌, ℕ, ◌+◌, ◌<◌, Bool, true, not, ◌&&◌, nat_eq, Option, unwrap_or, length, set, refl, sym, ◌∙◌, ap, subst, arith}
+use Rattle.std.proofs.lemmas.List.{length-set}
+use Rattle.module_area.specs.Notes.{Notes, bearer, after_join}
+use Rattle.session_book.specs.JobView.{IsTask}
+use Rattle.session_book.specs.Sessions.{task_of}
+use Rattle.job_run.specs.Runs.{trace_of}
+use Rattle.job_run.specs.Slots.{HasSeen, in_phase}
+use Rattle.job_run.proofs.PhaseLemmas.{HasObserved, HasObserved-start, HasObserved-one, HasObserved-other, pass_calls}
+use Rattle.job_run.proofs.SlotLemmas.{AreOver-start, AreOver-next, AreOver-all, AreRun-after, pass_of, not_of, set_done, left_out, left_start, left_here, left_next, left_other, none_left}
+use Rattle.job_run.proofs.TaskLemmas.{AreRun-same, is_task}
+use Rattle.job_run.proofs.threads.run_tasks.Given as given
+use Rattle.job_run.proofs.threads.run_tasks.Goals as goal
+use Rattle.job_run.proofs.threads.run_tasks.Goals.{in-Some, in_default}
+
+pub loop-t-init : goal.loop-t-init
+loop-t-init g c =
+    let s = c.split_all.ensures in
+    let before : Notes = g.C.Cells.notes c.args.root.now in
+    record {
+      area = s.area;
+      root = ap (λ (n : Notes). n.bears) s.notes.same ∙ c.requires.root;
+      out = λ t. s.notes.out t ∙ left_start c.args.job.now c.args.phase t;
+      observed = HasObserved-start (g.C.Cells.plan c.args.cells.now) before (g.C.Cells.notes c.split_all.new.root) c.args.job.now c.args.tables.now.places c.args.phase (length c.args.job.now.tasks) s.notes;
+      over = AreOver-start (g.C.Cells.is_pass c.args.cells.now) g.C.Cells.notes before (g.C.Cells.plan c.args.cells.now) c.args.job.now c.args.tables.now.places c.args.phase
+          c.args.slots.now c.split_all.new.slots c.run_slots.new.slots s.passes c.requires.tasks c.run_slots.ensures.count c.run_slots.ensures.runs;
+      tasks = AreRun-after (g.C.Cells.is_pass c.args.cells.now) g.C.Cells.notes before (g.C.Cells.plan c.args.cells.now) c.args.job.now c.args.tables.now.places c.args.phase
+          c.args.slots.now c.split_all.new.slots c.run_slots.new.slots s.passes c.requires.tasks c.run_slots.ensures.count c.run_slots.ensures.runs;
+    }
+
+-- what the pass that is joined has seen
+seen_of : (g : given.Over) (c : goal.After-join-arg-1 g) → (in_phase c.args.job.now c.args.phase c.loop-t.t ≡ true) ×
+    HasSeen (g.C.Cells.is_pass c.args.cells.now) g.C.Cells.notes (g.C.Cells.plan c.args.cells.now) (g.C.Cells.notes c.args.root.now) (trace_of c.args.job.now c.args.tables.now.places c.loop-t.t) c.loop-t.t c.in-Some.pass
+seen_of g c =
+    pass_of (g.C.Cells.is_pass c.args.cells.now) g.C.Cells.notes (g.C.Cells.notes c.args.root.now) (g.C.Cells.plan c.args.cells.now) c.args.job.now c.args.tables.now.places c.args.phase c.loop-t.t c.loop-t.slots
+    c.index-slots-t.result c.in-Some.pass (omega (arith, c.loop-t-test.true, c.task_count-count.ensures.value, c.loop-t.invariant.tasks.count)) c.loop-t.invariant.over (sym c.take.ensures.pass ∙ c.in-Some.is)
+
+pub join-requires-clause-other : goal.join-requires-clause-other
+join-requires-clause-other g c = (seen_of g c).1.area
+
+pub join-requires-clause-split : goal.join-requires-clause-split
+join-requires-clause-split g c = rw ((seen_of g c).1.observes.grows.bears) refl
+
+pub join-requires-clause-out : goal.join-requires-clause-out
+join-requires-clause-out g c =
+    let s = seen_of g c in
+    let bears : bearer (g.C.Cells.notes c.in-Some.pass) ≡ c.loop-t.t = ap (λ (o : Option ℕ). unwrap_or o 0) s.1.observes.grows.bears in
+    ap (g.C.Cells.notes c.loop-t.root).out bears ∙ (c.loop-t.invariant.out c.loop-t.t ∙ left_here c.args.job.now c.args.phase c.loop-t.t (omega (arith, c.loop-t-test.true, c.task_count-count.ensures.value)) s.0)
+
+pub join-requires-clause-room : goal.join-requires-clause-room
+join-requires-clause-room g c =
+    let here : c.loop-t.t < length c.args.job.now.tasks = omega (arith, c.loop-t-test.true, c.task_count-count.ensures.value) in
+    let task : IsTask (length c.args.job.now.phases) (task_of c.args.job.now c.loop-t.t) = is_task c.args.job.now c.loop-t.t c.task_count-count.ensures.job here in
+    let calls = pass_calls (g.C.Cells.plan c.args.cells.now) (g.C.Cells.notes c.args.root.now) (g.C.Cells.notes c.in-Some.pass) c.args.job.now c.args.tables.now.places c.loop-t.t task (seen_of g c).1.observes in
+    omega (arith, here, calls, c.task_count-count.ensures.job.tasks, c.loop-t.invariant.observed.few, c.requires.room)
+
+pub loop-t-preserved : goal.loop-t-preserved
+loop-t-preserved g c =
+    let t : ℕ = c.loop-t.t in
+    let i = c.loop-t.invariant in
+    let before : Notes = g.C.Cells.notes c.args.root.now in
+    let mid : Notes = g.C.Cells.notes c.loop-t.root in
+    let here : t < length c.args.job.now.tasks = omega (arith, c.loop-t-test.true, c.task_count-count.ensures.value) in
+    let there : t < length c.loop-t.slots = omega (arith, here, i.tasks.count) in
+    let taken = AreOver-next (g.C.Cells.is_pass c.args.cells.now) g.C.Cells.notes before (g.C.Cells.plan c.args.cells.now) c.args.job.now c.args.tables.now.places c.args.phase t
+    c.loop-t.slots c.take.new.slot there c.take.ensures.none i.over in
+    let tasks = AreRun-same c.args.job.now c.args.tables.now.places (c.args.phase + 1) c.loop-t.slots (set c.loop-t.slots t c.take.new.slot) i.tasks (length-set c.loop-t.slots t c.take.new.slot)
+    (set_done c.loop-t.slots t c.take.new.slot c.index-slots-t.result there c.take.ensures.done) in
+    elim c.match-take.branch [
+      | in-Some w ↦
+          let s = pass_of (g.C.Cells.is_pass c.args.cells.now) g.C.Cells.notes before (g.C.Cells.plan c.args.cells.now) c.args.job.now c.args.tables.now.places c.args.phase t c.loop-t.slots
+          c.index-slots-t.result w.in-Some.pass there i.over (sym c.take.ensures.pass ∙ w.in-Some.is) in
+          let other : Notes = g.C.Cells.notes w.in-Some.pass in
+          let new : g.C.Cells.notes c.match-take.root ≡ after_join mid other = ap g.C.Cells.notes w.root-is ∙ w.join.ensures.notes in
+          let bears : bearer other ≡ t = ap (λ (o : Option ℕ). unwrap_or o 0) s.1.observes.grows.bears in
+          record {
+            area = rw (w.root-is) w.join.ensures.area;
+            root = ap (λ (n : Notes). n.bears) new ∙ i.root;
+            out = λ u. ap (λ (n : Notes). n.out u) new
+                ∙ (ap (λ (b : Bool). b && not (nat_eq u (bearer other))) (i.out u)
+                ∙ (ap (λ (k : ℕ). left_out c.args.job.now c.args.phase t u && not (nat_eq u k)) bears ∙ left_next c.args.job.now c.args.phase t u));
+            observed = subst (λ (n : Notes). HasObserved (g.C.Cells.plan c.args.cells.now) before n c.args.job.now c.args.tables.now.places c.args.phase (t + 1)) (sym new)
+                (HasObserved-one (g.C.Cells.plan c.args.cells.now) before mid other c.args.job.now c.args.tables.now.places c.args.phase t here s.0 (is_task c.args.job.now t c.task_count-count.ensures.job here) i.observed s.1.observes);
+            over = taken;
+            tasks = tasks;
+          }
+      | in_default w ↦
+          let not_here = not_of (g.C.Cells.is_pass c.args.cells.now) g.C.Cells.notes before (g.C.Cells.plan c.args.cells.now) c.args.job.now c.args.tables.now.places c.args.phase t c.loop-t.slots
+          c.index-slots-t.result there i.over (sym c.take.ensures.pass ∙ w.in_default.is) in
+          record {
+            area = rw (w.root-is) i.area;
+            root = rw (w.root-is) i.root;
+            out = λ u. ap (λ (n : Notes). n.out u) (ap g.C.Cells.notes w.root-is) ∙ (i.out u ∙ left_other c.args.job.now c.args.phase t u not_here);
+            observed = rw (w.root-is) (HasObserved-other (g.C.Cells.plan c.args.cells.now) before mid c.args.job.now c.args.tables.now.places c.args.phase t here not_here i.observed);
+            over = taken;
+            tasks = tasks;
+          }
+    ]
+
+pub returns-clause-joined : goal.returns-clause-joined
+returns-clause-joined g c t = c.loop-t.invariant.out t ∙ none_left c.args.job.now c.args.phase c.loop-t.t t (omega (arith, c.loop-t-test.false, c.task_count-count.ensures.value))
+
+pub returns-clause-empty : goal.returns-clause-empty
+returns-clause-empty g c =
+    AreOver-all (g.C.Cells.is_pass c.args.cells.now) g.C.Cells.notes (g.C.Cells.notes c.args.root.now) (g.C.Cells.plan c.args.cells.now) c.args.job.now c.args.tables.now.places c.args.phase c.loop-t.t c.loop-t.slots
+    (omega (arith, c.loop-t-test.false, c.task_count-count.ensures.value, c.loop-t.invariant.tasks.count)) c.loop-t.invariant.over

@@ -1,0 +1,6 @@
+pub mod Areas
+pub mod Outcomes
+pub mod Runs
+pub mod Sets
+pub mod Slots
+pub mod Tasks

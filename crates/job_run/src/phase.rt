@@ -1,0 +1,113 @@
+//! The phases of a job, one after the other.
+ghost use Rattle.std.specs.Prelude.{◌≡◌, ◌+◌, ◌<◌, ◌≤◌, ◌^◌, length, All, IfOk, OnErr};
+ghost use Rattle.brk_table.specs.Places.{IsIn};
+ghost use Rattle.session_book.specs.JobView.{IsJob};
+ghost use Rattle.session_book.specs.Sessions.{plan_view};
+ghost use Rattle.job_run.specs.Areas.{GrowsBy};
+ghost use Rattle.job_run.specs.Outcomes.{IsOutcome};
+ghost use Rattle.job_run.specs.Runs.{Account, HasRun, HasLeft, phase_trace};
+ghost use Rattle.job_run.specs.Slots.{AreEmpty};
+ghost use Rattle.job_run.specs.Tasks.{AreRun};
+
+use crate::outcome::{Outcome, Sets};
+use crate::slots::{Slot, make_slots, task_count, tasks_of};
+use crate::threads::run_tasks;
+use brk_table::Tables;
+use cov_base::NoMemory;
+use cov_outside::Gate;
+use module_area::{Areas, Cells, Finals};
+use planter::plant_all;
+use session_book::{Job, plan_of};
+use std::alloc::Global;
+use std::sync::Wait;
+use std::thread::Threads;
+
+/// The number of the job's phases.
+fn phase_count(job: &Job) -> u32
+    ensures value { result ≡ length job.now.phases }
+    ensures job { IsJob job.now }
+{
+    job.phases.len() as u32
+}
+
+/// Runs a phase: makes an area of its plan, plants every place with a window, runs the phase's tasks, and ends the area.
+fn run_phase<'a, T: Threads + Sync, A: Areas, G: Gate + Sync>(
+    rt: &T,
+    alloc: Global,
+    areas: &mut A,
+    gate: &G,
+    job: &Job,
+    tables: &Tables,
+    phase: u32,
+    slots: &mut [Slot<'a, <A::C as Cells>::Pass>],
+) -> Result<Finals, NoMemory>
+    requires room { A.made areas.old < 2 ^ 62 }
+    requires phase { phase < length job.now.phases }
+    requires tasks { AreRun job.now tables.now.places phase slots.old }
+    requires empty { AreEmpty slots.old }
+    ensures made { IfOk result (λ _. A.made areas.new ≡ A.made areas.old + 1) }
+    ensures grown { IfOk result (λ f. GrowsBy (plan_view job.now tables.now.places phase) (phase_trace job.now tables.now.places phase) (A.ledger areas.old) (A.ledger areas.new) (A.finals areas.old) (A.finals areas.new) f) }
+    ensures tasks { IfOk result (λ _. AreRun job.now tables.now.places (phase + 1) slots.new) }
+    ensures empty { IfOk result (λ _. AreEmpty slots.new) }
+    ensures ledger_kept { OnErr result (A.ledger areas.new ≡ A.ledger areas.old) }
+    ensures finals_kept { OnErr result (A.finals areas.new ≡ A.finals areas.old) }
+{
+    let plan = plan_of(alloc, job, tables, phase)?;
+    // the proof reads the rules that a plan keeps off this look at one
+    let _ = &plan.windows;
+    let (cells, mut root) = areas.make(alloc, &plan)?;
+    plant_all(&cells, &mut root, &plan);
+    run_tasks(rt, &cells, &mut root, gate, job, tables, phase, slots);
+    areas.finish(alloc, cells, root)
+}
+
+/// Runs the job's phases one after the other, and gives the sets that each one's area ended with.
+fn run_phases<'a, T: Threads + Sync, A: Areas, G: Gate + Sync>(
+    rt: &T,
+    alloc: Global,
+    areas: &mut A,
+    gate: &G,
+    job: &Job,
+    tables: &Tables,
+    slots: &mut [Slot<'a, <A::C as Cells>::Pass>],
+) -> Result<Vec<Finals>, NoMemory>
+    requires room { A.made areas.old < 2 ^ 61 }
+    requires tasks { AreRun job.now tables.now.places 0 slots.old }
+    requires empty { AreEmpty slots.old }
+    ensures job { IsJob job.now }
+    ensures left { IfOk result (λ v. HasLeft job.now tables.now.places (record { ledger = A.ledger areas.old; finals = A.finals areas.old; made = A.made areas.old }) (record { ledger = A.ledger areas.new; finals = A.finals areas.new; made = A.made areas.new }) v.items) }
+    ensures tasks { IfOk result (λ _. AreRun job.now tables.now.places (length job.now.phases) slots.new) }
+{
+    let count = phase_count(job);
+    let mut finals = Vec::with_capacity(alloc, count as usize)?;
+    for phase in 0..count {
+        let ended = run_phase(rt, alloc, areas, gate, job, tables, phase, slots)?;
+        finals.push(ended)?;
+    }
+    Ok(finals)
+}
+
+/// Runs the job, phase after phase: the areas are left as the runs of the tasks alone give, and so is the outcome. The
+/// tasks of a phase run at once, each on a thread of its own that has passed the gate. All tasks take their memory
+/// before the first phase runs, and a phase takes all but its area's end before it plants.
+pub fn run_job<'a, T: Threads + Wait + Sync, A: Areas, G: Gate + Sync>(
+    rt: &T,
+    alloc: Global,
+    areas: &mut A,
+    gate: &G,
+    job: &'a Job,
+    tables: &'a Tables,
+) -> Result<Outcome<'a>, NoMemory>
+    requires tables { All (IsIn job.now.images) tables.now.places }
+    requires room { A.made areas.old < 2 ^ 61 }
+    ensures ran { IfOk result (λ _. HasRun job.now tables.now.places (record { ledger = A.ledger areas.old; finals = A.finals areas.old; made = A.made areas.old }) (record { ledger = A.ledger areas.new; finals = A.finals areas.new; made = A.made areas.new })) }
+    ensures outcome { IfOk result (λ o. IsOutcome job.now tables.now.places o.tasks.items o.sets) }
+{
+    let tasks = Vec::with_capacity(alloc, task_count(job))?;
+    let mut slots = make_slots(alloc, job, tables)?;
+    let finals = run_phases(rt, alloc, areas, gate, job, tables, &mut slots)?;
+    Ok(Outcome {
+        tasks: tasks_of(slots, tasks),
+        sets: Sets::new(job, tables, finals),
+    })
+}

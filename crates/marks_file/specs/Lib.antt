@@ -1,0 +1,4 @@
+pub mod Marks
+pub mod MarksFile
+pub mod Reading
+pub mod Writes

@@ -1,0 +1,20 @@
+//! Marks files: what the places of a session's modules have shown, as bytes.
+#![tactic(auto)]
+
+mod fault;
+mod marks;
+mod names;
+mod numbers;
+mod reading;
+mod rows;
+mod rules;
+mod writing;
+
+pub use fault::MarksFault;
+pub use marks::{MarkedModule, MarkedPlace, Marks};
+pub use reading::read;
+pub use rows::{module_row, place_row};
+pub use writing::write;
+
+#[cfg(test)]
+mod tests;

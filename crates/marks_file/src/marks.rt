@@ -1,0 +1,52 @@
+//! The values of a marks file.
+
+use cov_base::{Bits, Kind, Name};
+use std::marker::Model;
+
+/// A place: its location in its module, its length in bytes (2, 4 or 6), its kind, the original first halfword, and
+/// the facts that executions have shown there.
+#[derive(Clone, Copy)]
+pub struct MarkedPlace {
+    pub location: u32,
+    pub len: u8,
+    pub kind: Kind,
+    pub original: u16,
+    pub set: Bits,
+}
+
+/// A module: its name, the address of its first byte, its size in bytes, and its places in order of location.
+#[derive(Drop)]
+pub struct MarkedModule {
+    pub name: Name,
+    pub base: u32,
+    pub size: u32,
+    pub places: Vec<MarkedPlace>,
+}
+
+impl Model for MarkedModule {
+    ghost use Rattle.marks_file.specs.Marks.{MarkedView};
+
+    ghost Value = { MarkedView };
+
+    ghost view = { λ m. record { name = m.name; base = m.base; size = m.size; places = m.places.items } };
+}
+
+/// The modules of a session, 1 to 16, of different names. They stand on doublewords from X'100000' on, below X'FFF000',
+/// have an even size of 2 to 262,144 bytes and share no byte; together they have at most 65,536 places. A module's
+/// places are even, lie inside it and don't overlap; length and kind are those of the original, which is never
+/// X'0AFF', and a set has facts of its place's kind alone.
+#[derive(Drop)]
+pub struct Marks {
+    pub modules: Vec<MarkedModule>,
+}
+
+impl Model for Marks {
+    ghost use Rattle.std.specs.Prelude.{◌≡◌, List, true};
+    ghost use Rattle.marks_file.specs.Marks.{MarkedView, are_marks};
+
+    ghost Value = { List MarkedView };
+
+    ghost view = { λ m. m.modules.items };
+
+    ghost invariant = { λ m. are_marks m.modules.items ≡ true };
+}

@@ -1,0 +1,4 @@
+pub mod DifferenceLemmas
+pub mod UnionLemmas
+pub mod FilesLemmas
+pub mod AnswerLemmas

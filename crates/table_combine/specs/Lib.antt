@@ -1,0 +1,3 @@
+pub mod Combine
+pub mod Files
+pub mod FaultView

@@ -1,0 +1,77 @@
+//! Combines marks files that stand one after another.
+ghost use Rattle.std.specs.Prelude.{◌≡◌, ℕ, ◌+◌, ◌≤◌, ◌++◌, length, drop, true, IfOk, IfErr};
+ghost use Rattle.std.specs.Io.{StartsWith};
+ghost use Rattle.marks_file.specs.Marks.{are_marks};
+ghost use Rattle.marks_file.specs.MarksFile.{file_bytes};
+ghost use Rattle.marks_file.specs.Reading.{IsFault, file_fields};
+ghost use Rattle.table_combine.specs.Files.{IsCombined, IsCombineFault, HasOneAnswer};
+
+use crate::difference::OtherTable;
+use crate::union::combine;
+use marks_file::{Marks, MarksFault, read};
+use std::alloc::Global;
+
+/// Why files are not combined.
+#[derive(Drop)]
+pub enum CombineFault {
+    /// The offset of the first bad field, counted from the first byte of the first file.
+    BadMarks { offset: usize },
+    /// The first file whose table is not that of the first, at the first row that differs.
+    Other(OtherTable),
+    NoMemory,
+}
+
+impl From<MarksFault> for CombineFault {
+    ghost use Rattle.table_combine.specs.FaultView.{fault_of};
+    ghost use Rattle.std.specs.Prelude.{◌≡◌};
+
+    ghost from_gives = { λ f e. e ≡ fault_of f };
+
+    fn from(fault: MarksFault) -> Self {
+        match fault {
+            MarksFault::BadMarks { offset } => CombineFault::BadMarks { offset },
+            MarksFault::NoMemory => CombineFault::NoMemory,
+        }
+    }
+}
+
+/// The file that begins there, which keeps the rules of marks files, and the offset past it.
+fn next_file(alloc: Global, bytes: &[u8], at: usize) -> Result<(Marks, usize), MarksFault>
+    requires { at ≤ length bytes.now }
+    ensures rules { IfOk result (λ r. are_marks r.0 ≡ true) }
+    ensures file { IfOk result (λ r. StartsWith (drop at bytes.now) (file_bytes r.0)) }
+    ensures end { IfOk result (λ r. r.1 ≡ at + length (file_bytes r.0)) }
+    ensures bad { IfErr result (IsFault (file_fields at (drop at bytes.now))) }
+{
+    let (marks, end) = read(alloc, bytes, at)?;
+    let _modules = &marks.modules;
+    Ok((marks, end))
+}
+
+/// The union of the files, read one after another.
+fn combine_all(alloc: Global, bytes: &[u8]) -> Result<Marks, CombineFault>
+    ensures whole { IfOk result (IsCombined bytes.now) }
+    ensures fault { IfErr result (IsCombineFault bytes.now) }
+{
+    let (first, end) = next_file(alloc, bytes, 0)?;
+    let mut all = first;
+    let mut at = end;
+    while at < bytes.len() {
+        let (next, end) = next_file(alloc, bytes, at)?;
+        if let Err(other) = combine(&mut all, &next) {
+            return Err(CombineFault::Other(other));
+        }
+        at = end;
+    }
+    Ok(all)
+}
+
+/// The union of the files that the bytes are. BadMarks where at the end of some files of one table, or at offset 0, no
+/// file begins; Other at the first file of another table than the first one's.
+pub fn combine_files(alloc: Global, bytes: &[u8]) -> Result<Marks, CombineFault>
+    ensures whole { IfOk result (IsCombined bytes.now) }
+    ensures fault { IfErr result (IsCombineFault bytes.now) }
+    ensures one { HasOneAnswer bytes.now }
+{
+    combine_all(alloc, bytes)
+}

@@ -1,0 +1,118 @@
+//! Two files of one table and one of another.
+use crate::{CombineFault, combine, combine_files};
+use cov_base::Fact;
+use marks_file::{Marks, read};
+use std::alloc::Global;
+use std::test::Fail;
+
+const FILE: [u8; 48] = [
+    0x53, 0x33, 0x37, 0x30, 0x43, 0x4F, 0x56, 0x31, 0x00, 0x01, 0x4D, 0x20, 0x20, 0x20, 0x20, 0x20,
+    0x20, 0x20, 0x00, 0x10, 0x00, 0x00, 0x00, 0x00, 0x00, 0x06, 0x00, 0x00, 0x00, 0x02, 0x00, 0x00,
+    0x00, 0x00, 0x04, 0x01, 0x46, 0x10, 0x04, 0x00, 0x00, 0x00, 0x04, 0x02, 0x00, 0x07, 0xFE, 0x01,
+];
+
+fn marks(alloc: Global, bytes: &[u8]) -> Result<Marks, Fail> {
+    match read(alloc, bytes, 0) {
+        Ok((marks, _)) => Ok(marks),
+        Err(_) => Err(Fail::from("not read")),
+    }
+}
+
+#[test]
+fn sets_are_united(rt: HostRuntime) -> Result<(), Fail> {
+    let alloc = rt.alloc();
+    let mut first = marks(alloc, &FILE)?;
+    let mut bytes = FILE;
+    bytes[38] = 2;
+    bytes[47] = 0;
+    let second = marks(alloc, &bytes)?;
+    assert!(rt; combine(&mut first, &second).is_ok());
+    let set = first.modules[0].places[0].set;
+    assert!(rt; set.has(Fact::Went) && set.has(Fact::Stayed) && !set.has(Fact::Ran));
+    let set = first.modules[0].places[1].set;
+    assert!(rt; set.has(Fact::Ran) && !set.has(Fact::Went) && !set.has(Fact::Stayed));
+    Ok(())
+}
+
+#[test]
+fn a_row_that_differs_is_told(rt: HostRuntime) -> Result<(), Fail> {
+    let alloc = rt.alloc();
+    let mut first = marks(alloc, &FILE)?;
+    let mut bytes = FILE;
+    bytes[37] = 0x20;
+    let second = marks(alloc, &bytes)?;
+    let Err(other) = combine(&mut first, &second) else {
+        return Err(Fail::from("combined"));
+    };
+    assert_eq!(rt; other.row, 1);
+    assert!(rt;
+        other
+            .left
+            .is_some_and(|row| row.as_slice() == &FILE[30..38])
+    );
+    assert!(rt;
+        other
+            .right
+            .is_some_and(|row| row.as_slice() == &bytes[30..38])
+    );
+    Ok(())
+}
+
+#[test]
+fn a_row_that_is_missing_is_told(rt: HostRuntime) -> Result<(), Fail> {
+    let alloc = rt.alloc();
+    let mut first = marks(alloc, &FILE)?;
+    let mut bytes = Vec::from_slice(alloc, &FILE)?;
+    bytes.extend_from_slice(b"N       \0\x20\0\0\0\0\0\x02\0\0\0\0")?;
+    if bytes.len() < 10 {
+        return Err(Fail::from("short"));
+    }
+    bytes[9] = 2;
+    let second = marks(alloc, &bytes)?;
+    let Err(other) = combine(&mut first, &second) else {
+        return Err(Fail::from("combined"));
+    };
+    assert_eq!(rt; other.row, 3);
+    assert!(rt; other.left.is_none());
+    assert!(rt; other.right.is_some_and(|row| row.len() == 20));
+    Ok(())
+}
+
+#[test]
+fn files_in_succession_are_combined(rt: HostRuntime) -> Result<(), Fail> {
+    let alloc = rt.alloc();
+    let mut second = FILE;
+    second[38] = 2;
+    second[47] = 0;
+    let mut bytes = Vec::from_slice(alloc, &FILE)?;
+    bytes.extend_from_slice(&second)?;
+    let Ok(all) = combine_files(alloc, &bytes) else {
+        return Err(Fail::from("not combined"));
+    };
+    let set = all.modules[0].places[0].set;
+    assert!(rt; set.has(Fact::Went) && set.has(Fact::Stayed));
+    bytes.extend_from_slice(&FILE[..47])?;
+    match combine_files(alloc, &bytes) {
+        Err(CombineFault::BadMarks { offset }) => assert_eq!(rt; offset, 143),
+        _ => return Err(Fail::from("not cut short")),
+    }
+    match combine_files(alloc, &FILE[..0]) {
+        Err(CombineFault::BadMarks { offset }) => assert_eq!(rt; offset, 0),
+        _ => return Err(Fail::from("not empty")),
+    }
+    Ok(())
+}
+
+#[test]
+fn a_later_table_that_differs_is_told(rt: HostRuntime) -> Result<(), Fail> {
+    let alloc = rt.alloc();
+    let mut second = FILE;
+    second[37] = 0x20;
+    let mut bytes = Vec::from_slice(alloc, &FILE)?;
+    bytes.extend_from_slice(&second)?;
+    match combine_files(alloc, &bytes) {
+        Err(CombineFault::Other(other)) => assert_eq!(rt; other.row, 1),
+        _ => return Err(Fail::from("no other table")),
+    }
+    Ok(())
+}
