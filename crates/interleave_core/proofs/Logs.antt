@@ -200,7 +200,7 @@ log_ready w t u v log false true at r p was g h e = subst (λ (x : TaskPart). Ha
 log_ready w t u v log false false (Some x) r p was g h e = let n : None ≡ Some v = h in absurd cc
 log_ready w t u v log false false None r p was g h e =
     let first : logged log ≡ noted w (trace_of w t u ++ first_visit (visits_of w t u)) =
-        e ∙ (noted-append w (trace_of w t u) [] ∙ (ap (λ (n : List Noted). noted w (trace_of w t u) ++ n) (sym (no_place w (memory_in w t) u.state p)) ∙ sym (noted-append w (trace_of w t u) (first_visit (visits_of w t u))))) in
+    e ∙ (noted-append w (trace_of w t u) [] ∙ (ap (λ (n : List Noted). noted w (trace_of w t u) ++ n) (sym (no_place w (memory_in w t) u.state p)) ∙ sym (noted-append w (trace_of w t u) (first_visit (visits_of w t u))))) in
     subst (λ (x : TaskPart). HasLog w t x log) (some_part _ v h) (log_whole w t u log (subject_place w (visits_of w t u)) refl was r g first)
 
 log_done : (w : World) (t : ℕ) (u v : TaskPart) (stage : Stage) (log : List Entry) → u.stage ≡ stage → task_done w t u stage ≡ Some v → GoesAt w t u →
@@ -237,15 +237,15 @@ one_log w c d t u shown e lt own is s l =
     let there : part_of d s ≡ get_or (set c.parts.tasks t u) s no_part = ap (λ (x : List TaskPart). get_or x s no_part) e in
     elim (same_or s t) [
       | inl same ↦
-        let part : part_of d s ≡ u = there ∙ get_or-set_at c.parts.tasks t s u no_part same lt in
-        let test : nat_eq t s ≡ true = ap (nat_eq t) same ∙ itself t in
-        let here : HasLog w s u (log_after w s u shown (c.logs s)) = subst (λ (n : ℕ). HasLog w n u (log_after w n u shown (c.logs n))) (sym same) own in
-        subst (λ (b : Bool). HasLog w s (part_of d s) (if b then log_after w s (part_of d s) shown (c.logs s) else c.logs s)) (sym test)
-        (subst (λ (x : TaskPart). HasLog w s x (log_after w s x shown (c.logs s))) (sym part) here)
+          let part : part_of d s ≡ u = there ∙ get_or-set_at c.parts.tasks t s u no_part same lt in
+          let test : nat_eq t s ≡ true = ap (nat_eq t) same ∙ itself t in
+          let here : HasLog w s u (log_after w s u shown (c.logs s)) = subst (λ (n : ℕ). HasLog w n u (log_after w n u shown (c.logs n))) (sym same) own in
+          subst (λ (b : Bool). HasLog w s (part_of d s) (if b then log_after w s (part_of d s) shown (c.logs s) else c.logs s)) (sym test)
+          (subst (λ (x : TaskPart). HasLog w s x (log_after w s x shown (c.logs s))) (sym part) here)
       | inr other ↦
-        let part : part_of d s ≡ part_of c.parts s = there ∙ get_or-set_other c.parts.tasks t s u no_part other in
-        subst (λ (b : Bool). HasLog w s (part_of d s) (if b then log_after w s (part_of d s) shown (c.logs s) else c.logs s)) (sym (apart t s other))
-        (subst (λ (x : TaskPart). HasLog w s x (c.logs s)) (sym part) (is.logs s inside))
+          let part : part_of d s ≡ part_of c.parts s = there ∙ get_or-set_other c.parts.tasks t s u no_part other in
+          subst (λ (b : Bool). HasLog w s (part_of d s) (if b then log_after w s (part_of d s) shown (c.logs s) else c.logs s)) (sym (apart t s other))
+          (subst (λ (x : TaskPart). HasLog w s x (c.logs s)) (sym part) (is.logs s inside))
     ]
 
 log_step : (w : World) (c : CoreState) (e : Event) (x : Stepped) → IsWorld w → parts_step w c.parts e ≡ Some x → Logged w c → (length x.parts.tasks ≡ length w.job.tasks) × HaveLogs w x.parts (core_after w c e x).core.logs
@@ -288,7 +288,7 @@ log_step w c (Do t) x world h is =
     (length-set c.parts.tasks t.0 v.0 ∙ is.count, one_log w c (done_by c.parts t.0 v.0).parts t.0 v.0 Done refl lt (log_done w t.0 u v.0 u.stage (c.logs t.0) refl v.1 (is.go t.0 lt) (is.logs t.0 lt)) is)
 log_step w c (Plant s p) x world h is =
     let made : (may_plant w c.parts s.0 p.0 ≡ true) × (Some (record { parts = with_cell c.parts p.0 (breakpoint_of s.0); shown = Planted }) ≡ Some x) =
-        exists_by (may_plant w c.parts s.0 p.0) (Some (record { parts = with_cell c.parts p.0 (breakpoint_of s.0); shown = Planted })) x h in
+    exists_by (may_plant w c.parts s.0 p.0) (Some (record { parts = with_cell c.parts p.0 (breakpoint_of s.0); shown = Planted })) x h in
     let same : record { parts = with_cell c.parts p.0 (breakpoint_of s.0); shown = Planted } ≡ x = some_stepped _ x made.1 in
     subst (λ (y : Stepped). (length y.parts.tasks ≡ length w.job.tasks) × HaveLogs w y.parts (core_after w c (Plant s p) y).core.logs) same (is.count, is.logs)
 
