@@ -11,7 +11,7 @@ use Rattle.report_text.specs.Conditions.{AreResultsOf, AreSetsOf}
 use Rattle.report_text.specs.Report.{report_of}
 use Rattle.report_text.specs.Table.{table_text}
 use Rattle.coverage_program.specs.Answers.{SourceChange, CameWhole, CameJob, IsStopped, BadJob, LargeJob, BadListing, WantOfMemory, Report, Places, Stopped, IsWritten, Answers, fault_refusal}
-use Rattle.coverage_program.specs.declared.outcome.Done.{Done}
+use Rattle.job_run.specs.declared.outcome.Done.{Done}
 use Rattle.coverage_program.specs.declared.tables.Refused.{Refused}
 use Rattle.coverage_program.specs.declared.tables.Refused.TheVariants.{Told, NoMemory}
 use Rattle.coverage_program.specs.declared.words.Command.{Command}
