@@ -17,8 +17,8 @@ use Rattle.report_text.specs.Conditions.{AreResultsOf, AreSetsOf}
 use Rattle.report_text.specs.Report.{report_of}
 use Rattle.report_text.specs.Table.{table_text}
 use Rattle.coverage_program.specs.Answers.{SourceChange, HasJob, CameWhole, CameJob, CameFirst, HasPlay, IsStopped, BadJob, LargeJob, BadListing, WantOfMemory, Report, Places, Replayed, BadSchedule, Stopped, IsWritten, Answers, fault_refusal}
-use Rattle.coverage_program.specs.declared.outcome.Done.{Done}
 use Rattle.coverage_program.specs.declared.schedule.Played.{Played}
+use Rattle.job_run.specs.declared.outcome.Done.{Done}
 use Rattle.coverage_program.specs.declared.tables.Refused.{Refused}
 use Rattle.coverage_program.specs.declared.tables.Refused.TheVariants.{Told, NoMemory}
 use Rattle.coverage_program.specs.declared.words.Command.{Command}

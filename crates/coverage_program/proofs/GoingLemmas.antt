@@ -23,9 +23,15 @@ use Rattle.interleave_core.specs.declared.stage.Stage.{Stage}
 use Rattle.interleave_core.specs.declared.stage.Stage.TheVariants.{Ready, Awaiting, Holding, Ended}
 use Rattle.coverage_program.specs.Replay.{due_left, left_of, left, go, go_by, after}
 
+not_spent : (a b : ℕ) → nat_le a b ≡ false → b < a
+not_spent a b e = grind (arith, nat_tests)
+
+is_below : (a b : ℕ) → nat_lt a b ≡ true → a < b
+is_below a b e = grind (arith, nat_tests)
+
 -- what is left of a task that was put in the place of task t
 put_left : (w : World) (c : Parts) (t : ℕ) (u : TaskPart) → t < length c.tasks → left w (with_task c t u) t ≡ left_of w t u u.stage
-put_left w c t u lt = ap (λ (v : TaskPart). left_of w t v v.stage) (get_or-set_at c.tasks t u no_part refl lt)
+put_left w c t u lt = ap (λ (v : TaskPart). left_of w t v v.stage) (get_or-set_at c.tasks t t u no_part refl lt)
 
 due_few : (d : Due) → due_left d ≤ 3
 due_few Marking = omega arith
@@ -61,7 +67,10 @@ step_left w t u s On = go_on_by (nat_le (budget_in w t) (step_of w t u).state.do
   where
     go_on_by : (b : Bool) → nat_le (budget_in w t) (step_of w t u).state.done ≡ b → (if b then 1 else 8 * (budget_in w t - (step_of w t u).state.done) + 9) ≤ 8 * (budget_in w t - u.state.done) + 1
     go_on_by true e = omega arith
-    go_on_by false e = let more : (step_of w t u).state.done ≡ u.state.done + 1 = solo_step-done (memory_in w t) u.state in omega (arith, more, nat_tests, e)
+    go_on_by false e =
+        let more : (step_of w t u).state.done ≡ u.state.done + 1 = solo_step-done (memory_in w t) u.state in
+        let left : (step_of w t u).state.done < budget_in w t = not_spent (budget_in w t) (step_of w t u).state.done e in
+        omega (arith, more, left)
 
 executed_left : (w : World) (t : ℕ) (u : TaskPart) → left_of w t (executed (step_of w t u)) (executed (step_of w t u)).stage ≤ 8 * (budget_in w t - u.state.done) + 1
 executed_left w t u = step_left w t u (stage_after (step_of w t u).next) (step_of w t u).next
@@ -76,18 +85,24 @@ instruction_left w t u = awaiting_left w t u (executed (step_of w t u)) (subject
 ready_less : (w : World) (t : ℕ) (u v : TaskPart) → ready_done w t u ≡ Some v → left_of w t v v.stage < left_of w t u Ready
 ready_less w t u v e = by_return (has_returned u.state) refl
   where
-    by_place : (o : Option ℕ) → is_spent w t u.state ≡ false → unless_at (instruction_executed w t u) o ≡ Some v → left_of w t v v.stage < left_of w t u Ready
-    by_place None f q = let same : instruction_executed w t u ≡ v = cc in let less = instruction_left w t u in rw f (rw same at omega (arith, less))
-    by_place (Some p) f q = absurd cc
-    by_budget : (b : Bool) → is_spent w t u.state ≡ b → (if b then Some (with_stage u (Ended Spent)) else unless_at (instruction_executed w t u) (place_at w u.state.machine.cpu.ia)) ≡ Some v → left_of w t v v.stage < left_of w t u Ready
-    by_budget true f q = let same : with_stage u (Ended Spent) ≡ v = cc in rw (f, ← same) (omega arith)
-    by_budget false f q = by_place (place_at w u.state.machine.cpu.ia) f q
-    by_return : (b : Bool) → has_returned u.state ≡ b → left_of w t v v.stage < left_of w t u Ready
-    by_return true f = let q : Some (with_stage u (Ended Returned)) ≡ Some v = rw f at e in let same : with_stage u (Ended Returned) ≡ v = cc in rw (← same) (some_left (is_spent w t u.state))
-    by_return false f = by_budget (is_spent w t u.state) refl (rw f at e)
     some_left : (b : Bool) → 0 < (if b then 1 else 8 * (budget_in w t - u.state.done) + 9)
     some_left true = omega arith
     some_left false = omega arith
+
+    by_place : (o : Option ℕ) → is_spent w t u.state ≡ false → unless_at (instruction_executed w t u) o ≡ Some v → left_of w t v v.stage < left_of w t u Ready
+    by_place None f q =
+        let same : instruction_executed w t u ≡ v = cc in
+        let less : left_of w t v v.stage ≤ 8 * (budget_in w t - u.state.done) + 5 = subst (λ (x : TaskPart). left_of w t x x.stage ≤ 8 * (budget_in w t - u.state.done) + 5) same (instruction_left w t u) in
+        rw f (omega (arith, less))
+    by_place (Some p) f q = absurd cc
+
+    by_budget : (b : Bool) → is_spent w t u.state ≡ b → (if b then Some (with_stage u (Ended Spent)) else unless_at (instruction_executed w t u) (place_at w u.state.machine.cpu.ia)) ≡ Some v → left_of w t v v.stage < left_of w t u Ready
+    by_budget true f q = let same : with_stage u (Ended Spent) ≡ v = cc in rw (f, ← same) (omega arith)
+    by_budget false f q = by_place (place_at w u.state.machine.cpu.ia) f q
+
+    by_return : (b : Bool) → has_returned u.state ≡ b → left_of w t v v.stage < left_of w t u Ready
+    by_return true f = let q : Some (with_stage u (Ended Returned)) ≡ Some v = rw f at e in let same : with_stage u (Ended Returned) ≡ v = cc in rw (← same) (some_left (is_spent w t u.state))
+    by_return false f = by_budget (is_spent w t u.state) refl (rw f at e)
 
 done_less : (w : World) (t : ℕ) (u v : TaskPart) (s : Stage) → task_done w t u s ≡ Some v → left_of w t v v.stage < left_of w t u s
 done_less w t u v Ready e = ready_less w t u v e
@@ -98,8 +113,10 @@ done_less w t u v (Holding h) e = by_due h.due e
     by_subject : (b : Bool) → (if b then subject_executed w t u else instruction_executed w t u) ≡ v → left_of w t v v.stage < 8 * (budget_in w t - u.state.done) + due_left Nothing + (if b then 1 else 5)
     by_subject true q = let less = executed_left w t u in rw (← q) (omega (arith, less))
     by_subject false q = let less = instruction_left w t u in rw (← q) (omega (arith, less))
+
     some_due : (d : Due) (b : Bool) (n : ℕ) → n < 8 * (budget_in w t - u.state.done) + due_left Nothing + (if b then 1 else 5) → n < 8 * (budget_in w t - u.state.done) + due_left d + (if b then 1 else 5)
     some_due d b n less = let some : 1 ≤ due_left d = due_some d in omega (arith, less, some)
+
     by_due : (d : Due) → (if same_due d Nothing then Some (if h.subject then subject_executed w t u else instruction_executed w t u) else None) ≡ Some v → left_of w t v v.stage < left_of w t u (Holding h)
     by_due Marking q = absurd cc
     by_due Lifting q = absurd cc
@@ -140,7 +157,7 @@ if_some true o x e = (refl, e)
 if_some false o x e = absurd cc
 
 exists : (c : Parts) (t : ℕ) (b : Bool) → nat_lt t (length c.tasks) ≡ b → b ≡ true → t < length c.tasks
-exists c t b e q = omega (arith, nat_tests, e ∙ q)
+exists c t b e q = is_below t (length c.tasks) (e ∙ q)
 
 fetched_less : (w : World) (c : Parts) (t : ℕ) (x : Stepped) → of_task c t (fetch_step w c t) ≡ Some x → left w x.parts t < left w c t
 fetched_less w c t x e =
@@ -230,40 +247,48 @@ no_next w c t e = by_number (nat_lt t.0 (length c.tasks))
     by_stage Awaiting q = absurd (omega (arith, q))
     by_stage (Holding h) q = absurd (omega (arith, q, due_some h.due))
     by_stage (Ended x) q = refl
+
     by_number : (b : Bool) → (if b then stage_event w t (part_of c t.0) (part_of c t.0).stage else None) ≡ None
     by_number true = by_stage (part_of c t.0).stage e
     by_number false = refl
 
+-- the task's next event, and those behind it
+go_one : (w : World) (n : ℕ) (c : Parts) (t : TaskNo) (e : Event) (o : Option Stepped) → next_of w c t ≡ Some e → parts_step w c e ≡ o → go w (suc n) c t ≡ go w n (after c o) t
+go_one w n c t e o q step = ap (go_by (λ d. go w n d t) w c) q ∙ ap (λ (x : Option Stepped). go w n (after c x) t) step
+
+go_none : (w : World) (n : ℕ) (c : Parts) (t : TaskNo) → next_of w c t ≡ None → go w n c t ≡ c
+go_none w zero c t q = refl
+go_none w (suc n) c t q = ap (go_by (λ d. go w n d t) w c) q
+
+go_stuck : (w : World) (n : ℕ) (c : Parts) (t : TaskNo) (e : Event) → next_of w c t ≡ Some e → parts_step w c e ≡ None → go w n c t ≡ c
+go_stuck w zero c t e q step = refl
+go_stuck w (suc n) c t e q step = go_one w n c t e None q step ∙ go_stuck w n c t e q step
+
 -- the number of events makes no difference once it is as many as are left
 pub go_enough : (w : World) (n : ℕ) (c : Parts) (t : TaskNo) → left w c t.0 ≤ n → (m : ℕ) → left w c t.0 ≤ m → go w n c t ≡ go w m c t
-go_enough w zero c t h zero k = refl
-go_enough w zero c t h (suc m) k = rw (no_next w c t (omega (arith, h))) refl
-go_enough w (suc n) c t h zero k = rw (no_next w c t (omega (arith, k))) refl
-go_enough w (suc n) c t h (suc m) k = by_next (next_of w c t) refl
+go_enough w zero c t h m k = let none = no_next w c t (omega (arith, h)) in sym (go_none w m c t none)
+go_enough w (suc n) c t h zero k = let none = no_next w c t (omega (arith, k)) in go_none w (suc n) c t none
+go_enough w (suc n) c t h (suc m) k = by_next (λ d a b. go_enough w n d t a m b) (next_of w c t) refl
   where
-    by_step : (e : Event) → next_of w c t ≡ Some e → (o : Option Stepped) → parts_step w c e ≡ o → go w n (after c o) t ≡ go w m (after c o) t
-    by_step e q None step = stuck n m
-      where
-        stuck : (a b : ℕ) → go w a c t ≡ go w b c t
-        stuck zero zero = refl
-        stuck zero (suc b) = rw (q, step) (stuck zero b)
-        stuck (suc a) zero = rw (q, step) (stuck a zero)
-        stuck (suc a) (suc b) = rw (q, step) (stuck a b)
-    by_step e q (Some x) step = let less = next_less w c t e x q step in go_enough w n x.parts t (omega (arith, h, less)) m (omega (arith, k, less))
-    by_next : (o : Option Event) → next_of w c t ≡ o → go_by (λ d. go w n d t) w c o ≡ go_by (λ d. go w m d t) w c o
-    by_next None q = refl
-    by_next (Some e) q = by_step e q (parts_step w c e) refl
+    by_step : ((d : Parts) → left w d t.0 ≤ n → left w d t.0 ≤ m → go w n d t ≡ go w m d t) → (e : Event) → next_of w c t ≡ Some e → (o : Option Stepped) → parts_step w c e ≡ o → go w (suc n) c t ≡ go w (suc m) c t
+    by_step more e q None step = go_stuck w (suc n) c t e q step ∙ sym (go_stuck w (suc m) c t e q step)
+    by_step more e q (Some x) step =
+        let less = next_less w c t e x q step in
+        go_one w n c t e (Some x) q step ∙ (more x.parts (omega (arith, h, less)) (omega (arith, k, less)) ∙ sym (go_one w m c t e (Some x) q step))
+
+    by_next : ((d : Parts) → left w d t.0 ≤ n → left w d t.0 ≤ m → go w n d t ≡ go w m d t) → (o : Option Event) → next_of w c t ≡ o → go w (suc n) c t ≡ go w (suc m) c t
+    by_next more None q = go_none w (suc n) c t q ∙ sym (go_none w (suc m) c t q)
+    by_next more (Some e) q = by_step more e q (parts_step w c e) refl
 
 -- with as many events as are left, the next one and then those that are left behind it
 pub go_next : (w : World) (c d : Parts) (t : TaskNo) (e : Event) (x : Stepped) → next_of w c t ≡ Some e → parts_step w c e ≡ Some x → x.parts ≡ d → go w (left w c t.0) c t ≡ go w (left w d t.0) d t
 go_next w c d t e x q step same =
+    let n = left w c t.0 in
     let less = next_less w c t e x q step in
-    let more : go w (left w c t.0) c t ≡ go w (suc (left w c t.0)) c t = go_enough w (left w c t.0) c t (omega arith) (suc (left w c t.0)) (omega arith) in
-    let first : go w (suc (left w c t.0)) c t ≡ go w (left w c t.0) x.parts t = rw (q, step) refl in
-    let rest : go w (left w c t.0) x.parts t ≡ go w (left w x.parts t.0) x.parts t = go_enough w (left w c t.0) x.parts t (omega (arith, less)) (left w x.parts t.0) (omega arith) in
-    rw (← same) (more ∙ (first ∙ rest))
+    let more : go w n c t ≡ go w (suc n) c t = go_enough w n c t (omega arith) (suc n) (omega arith) in
+    let rest : go w n x.parts t ≡ go w (left w x.parts t.0) x.parts t = go_enough w n x.parts t (omega (arith, less)) (left w x.parts t.0) (omega arith) in
+    more ∙ (go_one w n c t e (Some x) q step ∙ (rest ∙ ap (λ (p : Parts). go w (left w p t.0) p t) same))
 
 -- a task without a next event goes nowhere
 pub go_nowhere : (w : World) (n : ℕ) (c : Parts) (t : TaskNo) → next_of w c t ≡ None → go w n c t ≡ c
-go_nowhere w zero c t q = refl
-go_nowhere w (suc n) c t q = rw q refl
+go_nowhere w n c t q = go_none w n c t q

@@ -111,7 +111,7 @@ fn answer_schedule<K: Sink>(
     };
     match replay_text(sink, job, tables, &replayed.core, &replayed.played) {
         Ok(()) => Status(0),
-        Err(Failed) => Status(6),
+        Err(_failed) => Status(6),
     }
 }
 
@@ -119,17 +119,12 @@ fn answer_schedule<K: Sink>(
 fn answer_replay<S: Source, K: Sink>(alloc: Global, source: &mut S, sink: &mut K) -> Status
     ensures { (a : Account) → Answers Command.Replay (record { left = S.left source.old; rest = S.left source.new; faults = S.faults source.old; later = S.faults source.new }) a a (K.written sink.old) (K.written sink.new) (K.faults sink.old) (K.faults sink.new) result.0 }
 {
-    match make_ready_first(alloc, source) {
-        Ok(read) => answer_schedule(
-            alloc,
-            &read.job,
-            &read.tables,
-            read.lines,
-            &read.input[read.end..],
-            sink,
-        ),
-        Err(refusal) => told(sink, &refusal.line, refusal.status),
-    }
+    let read = match make_ready_first(alloc, source) {
+        Ok(read) => read,
+        Err(refusal) => return told(sink, &refusal.line, refusal.status),
+    };
+    let schedule = &read.input[read.end..];
+    answer_schedule(alloc, &read.job, &read.tables, read.lines, schedule, sink)
 }
 
 /// Answers the words that need no areas.
@@ -173,9 +168,9 @@ fn answer_words<T: Threads + Wait + Sync, S: Source, K: Sink, A: Areas, G: Gate 
 }
 
 /// Serves the command that the words are: `run` reads a job from the source, runs its tasks on threads, each past the
-/// gate, and writes its report to the sink; all other words are answered as `cover_one` answers them. Each refusal has its status and its line; the answer is 6
-/// where the sink fails. Where no fault of source or sink was counted, it is that of the words and bytes, or 7. It
-/// always returns.
+/// gate, and writes its report to the sink; all other words are answered as `cover_one` answers them. Each refusal has its
+/// status and its line; the answer is 6 where the sink fails. Where no fault of source or sink was counted, it is that of
+/// the words and bytes, or 7. It waits for the threads of the tasks; for all words but `run` it waits for nothing.
 pub fn cover<T: Threads + Wait + Sync, S: Source, K: Sink, A: Areas, G: Gate + Sync>(
     rt: &T,
     alloc: Global,

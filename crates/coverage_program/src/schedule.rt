@@ -1,5 +1,5 @@
 //! A schedule behind a job, played on the core.
-ghost use Rattle.std.specs.Prelude.{◌≡◌, ℕ, List, ◌+◌, ◌<◌, ◌≤◌, ◌^◌, nat_eq, length, None, Some, IfOk, IfErr, OnErr, All};
+ghost use Rattle.std.specs.Prelude.{◌≡◌, ◌≢◌, ℕ, List, [], ◌+◌, ◌<◌, ◌≤◌, ◌^◌, nat_eq, length, None, Some, IfOk, IfErr, OnErr, All};
 ghost use Rattle.brk_table.specs.Places.{IsIn};
 ghost use Rattle.job_text.specs.Lines.{LineView, lines_of};
 ghost use Rattle.job_text.specs.Schedule.{item_at};
@@ -141,7 +141,7 @@ fn has_one_phase(job: &Job) -> bool
 /// Plays one line; none where it ends the schedule.
 fn play_line<'a>(core: &mut Core<'a>, job: &Job, line: &[u8]) -> Result<Option<Played>, NotPossible>
     requires { core.old.world.job ≡ job.now }
-    ensures played { IfOk result (λ o. (more : Parts → Play) (n : ℕ) (rest : List LineView) → IsLine o (play_line more core.old.world n core.old.parts rest (item_at job.now line.now)) (λ p. with_item p (more core.new.parts)) (play_end n core.old.parts rest)) }
+    ensures played { IfOk result (λ o. (more : Parts → Play) (n : ℕ) (rest : List LineView) → IsLine o (play_line more core.old.world n core.old.parts rest (item_at job.now line.now)) (λ p. with_item p (more core.new.parts)) (play_end n core.new.parts rest)) }
     ensures refused { OnErr result ((more : Parts → Play) (n : ℕ) (rest : List LineView) → play_line more core.old.world n core.old.parts rest (item_at job.now line.now) ≡ Play.Bad n) }
     ensures world { core.new.world ≡ core.old.world }
     ensures fits { Fits core.old.world core.old.parts → Fits core.new.world core.new.parts }
@@ -152,6 +152,18 @@ fn play_line<'a>(core: &mut Core<'a>, job: &Job, line: &[u8]) -> Result<Option<P
     }
     let shown = play_item(core, item)?;
     Ok(Some(Played { item, shown }))
+}
+
+/// The items of a schedule that has ended, behind which nothing may stand.
+fn ended(played: Vec<Played>, rest: &[u8], n: u32) -> Result<Vec<Played>, ScheduleFault>
+    ensures whole { IfOk result (λ v. (v.items ≡ played.items) × (lines_of rest.now ≡ [])) }
+    ensures bad { IfErr result (λ e. (e ≡ ScheduleFault.Bad n) × (lines_of rest.now ≢ [])) }
+{
+    if rest.is_empty() {
+        Ok(played)
+    } else {
+        Err(ScheduleFault::Bad { line: n })
+    }
 }
 
 /// Plays the lines of a schedule, the first of which is line n of the input.
@@ -175,19 +187,13 @@ fn play<'a>(
     let mut n = first;
     while !rest.is_empty() {
         let line = first_line(rest);
-        let Ok(found) = play_line(core, job, line.bytes) else {
-            return Err(ScheduleFault::Bad { line: n });
-        };
         rest = line.rest;
+        match play_line(core, job, line.bytes) {
+            Ok(Some(item)) => played.push(item)?,
+            Ok(None) => return ended(played, rest, n + 1),
+            Err(NotPossible) => return Err(ScheduleFault::Bad { line: n }),
+        }
         n += 1;
-        let Some(item) = found else {
-            return if rest.is_empty() {
-                Ok(played)
-            } else {
-                Err(ScheduleFault::Bad { line: n })
-            };
-        };
-        played.push(item)?;
     }
     Err(ScheduleFault::Bad { line: n })
 }

@@ -47,7 +47,7 @@ pub record Goes (m : Memory) (budget : ℕ) (first : State) (u : TaskPart) : Typ
   pub ended : (e : Ending) → u.stage ≡ Ended e → solo_run m budget first ≡ run_ended e u.state trace
   pub inside : is_inside u.stage ≡ true → (has_returned u.state ≡ false) × (u.state.done < budget)
 
-run_zero : (m : Memory) (s : State) (trace : List Visit) → run_on m 0 s trace ≡ run_ended (if has_returned s then Returned else Spent) s trace
+pub run_zero : (m : Memory) (s : State) (trace : List Visit) → run_on m 0 s trace ≡ run_ended (if has_returned s then Returned else Spent) s trace
 unfolding run_on
 run_zero m s trace = refl
 
@@ -67,7 +67,7 @@ ended_same e x h = cc
 ready_not : (e : Ending) → Ready ≡ Ended e → ⊥
 ready_not e h = let f : false ≡ true = ap has_ended h in absurd cc
 
-some_part : (u v : TaskPart) → Some u ≡ Some v → u ≡ v
+pub some_part : (u v : TaskPart) → Some u ≡ Some v → u ≡ v
 some_part u v h = cc
 
 le_of : (a b : ℕ) → nat_le a b ≡ true → a ≤ b
@@ -90,7 +90,7 @@ due_in true spent at p h = let n : None ≡ Some p = h in absurd cc
 due_in false true at p h = let n : None ≡ Some p = h in absurd cc
 due_in false false at p h = (refl, refl)
 
-unspent_below : (budget n : ℕ) → nat_le budget n ≡ false → n < budget
+pub unspent_below : (budget n : ℕ) → nat_le budget n ≡ false → n < budget
 unspent_below budget n h = grind (arith, nat_tests)
 
 fetch_in : (w : World) (t : ℕ) (u : TaskPart) (stage : Stage) (p : ℕ) → u.stage ≡ stage → place_due w t u stage ≡ Some p → Goes (memory_in w t) (budget_in w t) (first_state (task_of w.job t)) u →
@@ -175,6 +175,20 @@ executed_by m budget first u (NextEnded e) is was on below g =
       inside = λ h. let f : false ≡ true = h in absurd cc;
     }
 
+by_next : (m : Memory) (trace : List Visit) (s : State) (visits : List Visit) (next : Next) → (run_after (λ t more. run_on m 0 t more) trace s visits next).trace ≡ trace ++ visits
+by_next m trace s visits On = ap (λ (r : Run). r.trace) (run_zero m s (trace ++ visits))
+by_next m trace s visits (NextEnded e) = refl
+
+-- the trace grows by the visits of the executed instruction
+pub executed_trace : (m : Memory) (budget : ℕ) (first : State) (u : TaskPart) → has_ended u.stage ≡ false → has_returned u.state ≡ false → Goes m budget first u →
+    (solo_run m (solo_step m u.state).state.done first).trace ≡ (solo_run m u.state.done first).trace ++ (solo_step m u.state).visits
+executed_trace m budget first u was on g =
+    let one : (solo_step m u.state).state.done ≡ u.state.done + 1 + 0 = omega (arith, solo_step-done m u.state) in
+    ap (λ (j : ℕ). (solo_run m j first).trace) one
+    ∙ (ap (λ (r : Run). r.trace) (on_step m first u 0 g.trace (solo_step m u.state).next refl on (g.going was) 0)
+    ∙ (by_next m g.trace (solo_step m u.state).state (solo_step m u.state).visits (solo_step m u.state).next
+    ∙ ap (λ (t : List Visit). t ++ (solo_step m u.state).visits) (sym (ap (λ (r : Run). r.trace) g.state))))
+
 goes_executed : (m : Memory) (budget : ℕ) (first : State) (u : TaskPart) → has_ended u.stage ≡ false → has_returned u.state ≡ false → u.state.done < budget →
     Goes m budget first u → Goes m budget first (executed (solo_step m u.state))
 goes_executed m budget first u was on below g = executed_by m budget first u (solo_step m u.state).next refl was on below g
@@ -232,11 +246,11 @@ goes_alone w t u g = record {
 abbrev pub AllGo : World → Parts → Type 0
 AllGo w c = (t : ℕ) → t < length c.tasks → GoesAt w t (part_of c t)
 
-same_or : (t n : ℕ) → (t ≡ n) ⊎ (t ≢ n)
+pub same_or : (t n : ℕ) → (t ≡ n) ⊎ (t ≢ n)
 same_or t n = grind arith
 
 -- one task changes
-all_but : (w : World) (c d : Parts) (t : ℕ) (u : TaskPart) → d.tasks ≡ set c.tasks t u → t < length c.tasks → GoesAt w t u → AllGo w c → AllGo w d
+pub all_but : (w : World) (c d : Parts) (t : ℕ) (u : TaskPart) → d.tasks ≡ set c.tasks t u → t < length c.tasks → GoesAt w t u → AllGo w c → AllGo w d
 all_but w c d t u e lt one all s l =
     let inside : s < length c.tasks = subst (λ (n : ℕ). s < n) (ap (λ (x : List TaskPart). length x) e ∙ length-set c.tasks t u) l in
     let there : part_of d s ≡ get_or (set c.tasks t u) s no_part = ap (λ (x : List TaskPart). get_or x s no_part) e in
@@ -245,17 +259,17 @@ all_but w c d t u e lt one all s l =
       | inr other ↦ subst (λ (x : TaskPart). GoesAt w s x) (sym (there ∙ get_or-set_other c.tasks t s u no_part other)) (all s inside)
     ]
 
-lt_of : (t n : ℕ) → nat_lt t n ≡ true → t < n
+pub lt_of : (t n : ℕ) → nat_lt t n ≡ true → t < n
 lt_of t n h = grind (arith, nat_tests)
 
-some_stepped : (a b : Stepped) → Some a ≡ Some b → a ≡ b
+pub some_stepped : (a b : Stepped) → Some a ≡ Some b → a ≡ b
 some_stepped a b h = cc
 
-got : (A : Type 0) (f : A → Stepped) (o : Option A) (x : Stepped) → option_map f o ≡ Some x → (a : A) × (o ≡ Some a) × (x ≡ f a)
+pub got : (A : Type 0) (f : A → Stepped) (o : Option A) (x : Stepped) → option_map f o ≡ Some x → (a : A) × (o ≡ Some a) × (x ≡ f a)
 got A f None x h = let n : None ≡ Some x = h in absurd cc
 got A f (Some a) x h = (a, refl, sym (some_stepped (f a) x h))
 
-lifted_tasks : (b : Bool) (P : Parts) (p : ℕ) (x : Cell) → (if b then with_cell P p x else P).tasks ≡ P.tasks
+pub lifted_tasks : (b : Bool) (P : Parts) (p : ℕ) (x : Cell) → (if b then with_cell P p x else P).tasks ≡ P.tasks
 lifted_tasks true P p x = refl
 lifted_tasks false P p x = refl
 
@@ -288,15 +302,15 @@ all_step w c (Plant s p) x h all =
     let same : record { parts = with_cell c p.0 (breakpoint_of s.0); shown = Planted } ≡ x = some_stepped _ x made.1 in
     subst (λ (y : Stepped). AllGo w y.parts) same all
 
-all_first : (w : World) → AllGo w (first_parts w)
+pub all_first : (w : World) → AllGo w (first_parts w)
 all_first w t l =
     let lt : t < length w.job.tasks = subst (λ (n : ℕ). t < n) (length-map w.job.tasks first_part) l in
     subst (λ (u : TaskPart). GoesAt w t u) (sym (get_or-map first_part w.job.tasks t no_task no_part lt)) (goes_first w t)
 
-some_core_stepped : (a b : CoreStepped) → Some a ≡ Some b → a ≡ b
+pub some_core_stepped : (a b : CoreStepped) → Some a ≡ Some b → a ≡ b
 some_core_stepped a b h = cc
 
-got_core : (w : World) (d : CoreState) (e : Event) (o : Option Stepped) (y : CoreStepped) → option_map (core_after w d e) o ≡ Some y → (x : Stepped) × (o ≡ Some x) × (x.parts ≡ y.core.parts)
+pub got_core : (w : World) (d : CoreState) (e : Event) (o : Option Stepped) (y : CoreStepped) → option_map (core_after w d e) o ≡ Some y → (x : Stepped) × (o ≡ Some x) × (x.parts ≡ y.core.parts)
 got_core w d e None y h = let n : None ≡ Some y = h in absurd cc
 got_core w d e (Some x) y h = (x, refl, ap (λ (z : CoreStepped). z.core.parts) (some_core_stepped (core_after w d e x) y h))
 

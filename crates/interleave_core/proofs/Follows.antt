@@ -2,17 +2,18 @@
 use Rattle.std.proofs.Common.{◌≡◌, Option, Some, None, option_map, List, [], ◌∷◌, ◌++◌, IfOk, OnErr, refl, sym, ◌∙◌, ap, subst}
 use Rattle.std.specs.declared.result.Result.{Result}
 use Rattle.std.specs.declared.result.Result.TheVariants.{Ok, Err}
-use Rattle.interleave_core.specs.World.{World, Parts}
+use Rattle.interleave_core.specs.World.{World, IsWorld, Parts}
 use Rattle.interleave_core.specs.Steps.{Stepped, parts_step}
 use Rattle.interleave_core.specs.Core.{CoreState, CoreStepped, core_start, core_step, core_after, core_from, core_run, go_on, Follows, FollowsAll, FollowsNone}
 use Rattle.interleave_core.specs.declared.events.Event.{Event}
 use Rattle.interleave_core.specs.declared.events.NotPossible.{NotPossible}
 use Rattle.interleave_core.specs.declared.events.Shown.{Shown}
 use Rattle.interleave_core.proofs.Runs.{core_from-push}
+use Rattle.interleave_core.proofs.Logs.{run_logs}
 use Rattle.interleave_core.proofs.Alone.{run_alone}
 
-follows_one : (w : World) (old new : Parts) (e : Event) (shown : Shown) → parts_step w old e ≡ Some (record { parts = new; shown = shown }) → FollowsAll w old e new shown
-follows_one w old new e shown h = λ events c run same.
+follows_one : (w : World) (old new : Parts) (e : Event) (shown : Shown) → IsWorld w → parts_step w old e ≡ Some (record { parts = new; shown = shown }) → FollowsAll w old e new shown
+follows_one w old new e shown world h = λ events c run same.
     let made : parts_step w c.parts e ≡ Some (record { parts = new; shown = shown }) = subst (λ (p : Parts). parts_step w p e ≡ Some (record { parts = new; shown = shown })) (sym same) h in
     let step : core_step w c e ≡ Some (core_after w c e (record { parts = new; shown = shown })) = ap (option_map (core_after w c e)) made in
     record {
@@ -21,11 +22,12 @@ follows_one w old new e shown h = λ events c run same.
       run = core_from-push w (core_start w) c events e _ run step;
       stored = refl;
       alone = run_alone w _ (events ++ e ∷ []) (core_from-push w (core_start w) c events e _ run step);
+      logs = run_logs w _ (events ++ e ∷ []) world (core_from-push w (core_start w) c events e _ run step);
     }
 
-pub follows : (w : World) (old new : Parts) (e : Event) (r : Result Shown NotPossible) → IfOk r (λ shown. parts_step w old e ≡ Some (record { parts = new; shown = shown })) → IfOk r (FollowsAll w old e new)
-follows w old new e (Ok shown) h = follows_one w old new e shown h
-follows w old new e (Err x) h = h
+pub follows : (w : World) (old new : Parts) (e : Event) (r : Result Shown NotPossible) → IsWorld w → IfOk r (λ shown. parts_step w old e ≡ Some (record { parts = new; shown = shown })) → IfOk r (FollowsAll w old e new)
+follows w old new e (Ok shown) world h = follows_one w old new e shown world h
+follows w old new e (Err x) world h = h
 
 pub never : (w : World) (old : Parts) (e : Event) (r : Result Shown NotPossible) → OnErr r (parts_step w old e ≡ None) → OnErr r (FollowsNone w old e)
 never w old e (Ok shown) h = h

@@ -2,6 +2,7 @@ pub mod Alone
 pub mod Finds
 pub mod Follows
 pub mod Kept
+pub mod Logs
 pub mod Nexts
 pub mod ReadLemmas
 pub mod RunningLemmas

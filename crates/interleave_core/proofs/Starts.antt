@@ -14,7 +14,7 @@ use Rattle.session_book.specs.JobView.{TaskView}
 use Rattle.session_book.specs.Results.{ResultView}
 use Rattle.session_book.specs.Sessions.{task_of, no_task}
 use Rattle.space_map.specs.Space.{memory_of_space, row_of}
-use Rattle.interleave_core.specs.World.{World, TaskPart, Parts, no_part, first_part, first_parts, part_of, memory_in}
+use Rattle.interleave_core.specs.World.{World, IsWorld, TaskPart, Parts, no_part, first_part, first_parts, part_of, memory_in}
 use Rattle.interleave_core.specs.Results.{Fits, results_of, part_result}
 use Rattle.interleave_core.specs.Views.{RunningView, IsRunning, IsStage, IsCore, AreReady, parts_of}
 
@@ -57,6 +57,12 @@ Fits-core w cells sets plan tasks is = record {
       let lt : t < length tasks = subst (λ (n : ℕ). t < n) (length-map tasks (λ (r : RunningView). r.part)) l in
       ap (λ (u : TaskPart). length u.state.machine.bytes) (get_or-map (λ (x : RunningView). x.part) tasks t no_running no_part lt) ∙ bytes_fit w t (get_or tasks t no_running) (is.running t no_running lt);
   within = is.within;
+}
+
+pub IsWorld-core : (w : World) (cells : List Cell) (sets : List FactSet) (plan : PlanView) (tasks : List RunningView) → IsCore w cells sets plan tasks → IsWorld w
+IsWorld-core w cells sets plan tasks is = record {
+  places = is.places;
+  seen = λ t l. (is.running t no_running (subst (λ (n : ℕ). t < n) (sym is.count) l)).seen;
 }
 
 cases_last : (t n : ℕ) → t < n + 1 → (t ≡ n) ⊎ (t < n)

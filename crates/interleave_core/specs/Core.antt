@@ -4,6 +4,8 @@ use Rattle.cov_base.specs.FactSet.{FactSet}
 use Rattle.cov_base.specs.declared.facts.Fact.{Fact}
 use Rattle.module_area.specs.declared.cells.Cell.{Cell}
 use Rattle.interleave_core.specs.Alone.{AreAlone}
+use Rattle.interleave_core.specs.Entries.{Entry}
+use Rattle.interleave_core.specs.Logs.{HaveLogs}
 use Rattle.interleave_core.specs.World.{World, TaskPart, Parts, part_of, first_parts}
 use Rattle.interleave_core.specs.Steps.{Stepped, parts_step, step_of, visit_of, fact_in}
 use Rattle.interleave_core.specs.declared.events.Event.{Event}
@@ -13,15 +15,6 @@ use Rattle.interleave_core.specs.declared.events.Shown.TheVariants.{Fetched, Mar
 use Rattle.interleave_core.specs.declared.stage.Hand.{Hand}
 use Rattle.interleave_core.specs.declared.stage.Stage.{Stage}
 use Rattle.interleave_core.specs.declared.stage.Stage.TheVariants.{Ready, Awaiting, Holding, Ended}
-
--- a fetch: its place, the cell that it answered, the fact of the visit where that is begun, the set as its mark found
--- it, and whether its lift exchanged
-pub record Entry : Type 0 where
-  pub place : ℕ
-  pub cell : Cell
-  pub fact : Option Fact
-  pub found : Option FactSet
-  pub lifted : Option Bool
 
 -- what is stored, and for each task its log, the newest entry first
 pub record CoreState : Type 0 where
@@ -97,6 +90,8 @@ pub record Follows (w : World) (events : List Event) (e : Event) (c : CoreState)
   pub stored : after.parts ≡ parts
   -- each task is where its run alone is
   pub alone : AreAlone w after.parts
+  -- its log has the places and facts of that run, and of the instruction in hand
+  pub logs : HaveLogs w after.parts after.logs
 
 -- after each list of events that leaves the parts stored so, the event is possible, shows this, and leaves these parts
 abbrev pub FollowsAll : World → Parts → Event → Parts → Shown → Type 0

@@ -2,6 +2,8 @@ pub mod World
 pub mod Alone
 pub mod Steps
 pub mod Core
+pub mod Entries
+pub mod Logs
 pub mod Reads
 pub mod Results
 pub mod Views

@@ -1,5 +1,5 @@
 -- What the events of a core are judged by, and what a core stores.
-use Rattle.std.specs.Prelude.{ℕ, ◌+◌, ◌*◌, ◌==◌, if◌then◌else◌, Option, Some, None, List, [], ◌∷◌, length, get_or, map, replicate}
+use Rattle.std.specs.Prelude.{ℕ, ◌<◌, ◌+◌, ◌*◌, ◌==◌, if◌then◌else◌, Option, Some, None, List, [], ◌∷◌, length, get_or, map, replicate}
 use Rattle.cov_base.specs.FactSet.{FactSet}
 use Rattle.cov_base.specs.Facts.{no_facts}
 use Rattle.cov_base.specs.Memory.{Memory}
@@ -9,7 +9,7 @@ use Rattle.module_area.specs.FreshWords.{fresh_word}
 use Rattle.module_area.specs.PlanView.{PlanView}
 use Rattle.module_area.specs.declared.cells.Cell.{Cell}
 use Rattle.module_area.specs.declared.places.Place.{Place}
-use Rattle.brk_table.specs.Places.{memory_of}
+use Rattle.brk_table.specs.Places.{ArePlaces, AreSeen, memory_of}
 use Rattle.session_book.specs.JobView.{JobView, TaskView}
 use Rattle.session_book.specs.Sessions.{task_of, no_task, first_state, plan_view}
 use Rattle.interleave_core.specs.declared.stage.Stage.{Stage}
@@ -65,3 +65,8 @@ first_parts w = record {
   sets = replicate (length w.job.sessions * length w.places) no_facts;
   tasks = map first_part w.job.tasks;
 }
+
+-- its places are those that each task's memory shows
+pub record IsWorld (w : World) : Type 0 where
+  pub places : ArePlaces w.places
+  pub seen : (t : ℕ) → t < length w.job.tasks → AreSeen (memory_in w t) w.places

@@ -5,7 +5,7 @@ ghost use Rattle.module_area.specs.PlainWords.{word_at};
 ghost use Rattle.brk_table.specs.Places.{IsIn};
 ghost use Rattle.cov_base.specs.Facts.{fact_of, is_full, no_facts};
 ghost use Rattle.interleave_core.specs.declared.stage.Due.TheVariants.{Lifting, Nothing};
-ghost use Rattle.interleave_core.specs.World.{World, first_parts};
+ghost use Rattle.interleave_core.specs.World.{World, IsWorld, first_parts};
 ghost use Rattle.interleave_core.specs.Steps.{of_task, fetch_step, mark_step, lift_step, do_step, plant_step, parts_step, set_of, due_after_fetch, in_hand, same_cell, session_under};
 ghost use Rattle.interleave_core.specs.Core.{FollowsAll, FollowsNone};
 ghost use Rattle.interleave_core.specs.declared.events.Event.{Event};
@@ -245,7 +245,8 @@ impl<'a> Core<'a> {
     }
 
     fn fits(&self)
-        ensures { Fits self.now.world self.now.parts }
+        ensures fits { Fits self.now.world self.now.parts }
+        ensures world { IsWorld self.now.world }
     {
         // the proof reads it off the core's invariant
         let _ = &self.cells;

@@ -40,10 +40,7 @@ fn visit<C: Cells>(
 }
 
 /// Four executions, and whether the two sets are full then.
-fn loop_and_return(
-    alloc: Global,
-    plan: &Plan,
-) -> Result<([(bool, bool); 4], bool, bool), NoMemory>
+fn loop_and_return(alloc: Global, plan: &Plan) -> Result<([(bool, bool); 4], bool, bool), NoMemory>
     requires places { 2 ≤ length plan.now.places }
     requires branch { kind_at plan.now 0 ≡ Conditional }
     requires back { kind_at plan.now 1 ≡ Straight }

@@ -27,10 +27,14 @@ fn sets_are_united(rt: HostRuntime) -> Result<(), Fail> {
     bytes[47] = 0;
     let second = marks(alloc, &bytes)?;
     assert!(rt; combine(&mut first, &second).is_ok());
-    let set = first.modules[0].places[0].set;
-    assert!(rt; set.has(Fact::Went) && set.has(Fact::Stayed) && !set.has(Fact::Ran));
-    let set = first.modules[0].places[1].set;
-    assert!(rt; set.has(Fact::Ran) && !set.has(Fact::Went) && !set.has(Fact::Stayed));
+    assert_eq!(rt; first.modules.len(), 1);
+    let marked = &first.modules[0];
+    assert_eq!(rt; marked.places.len(), 2);
+    let place = &marked.places[0];
+    assert!(rt; place.set.has(Fact::Went) && place.set.has(Fact::Stayed));
+    assert!(rt; !place.set.has(Fact::Ran));
+    let place = &marked.places[1];
+    assert!(rt; place.set.has(Fact::Ran) && !place.set.has(Fact::Went));
     Ok(())
 }
 
@@ -89,8 +93,11 @@ fn files_in_succession_are_combined(rt: HostRuntime) -> Result<(), Fail> {
     let Ok(all) = combine_files(alloc, &bytes) else {
         return Err(Fail::from("not combined"));
     };
-    let set = all.modules[0].places[0].set;
-    assert!(rt; set.has(Fact::Went) && set.has(Fact::Stayed));
+    assert_eq!(rt; all.modules.len(), 1);
+    let marked = &all.modules[0];
+    assert_eq!(rt; marked.places.len(), 2);
+    let place = &marked.places[0];
+    assert!(rt; place.set.has(Fact::Went) && place.set.has(Fact::Stayed));
     bytes.extend_from_slice(&FILE[..47])?;
     match combine_files(alloc, &bytes) {
         Err(CombineFault::BadMarks { offset }) => assert_eq!(rt; offset, 143),

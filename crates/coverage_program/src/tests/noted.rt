@@ -1,4 +1,5 @@
 //! Areas that hand each call on to others and keep the first calls of each pass.
+ghost use Rattle.std.specs.Prelude.{◌≡◌};
 
 use arrayvec::ArrayVec;
 use cov_base::{Bits, Fact, NoMemory, PlaceNo, SessNo, TaskNo};
@@ -25,6 +26,12 @@ type Calls = ArrayVec<Call, 64>;
 fn keep(calls: &mut Calls, call: Call) {
     if !calls.is_full() {
         calls.push(call);
+    }
+}
+
+fn keep_all(calls: &mut Calls, others: &Calls) {
+    for call in others {
+        keep(calls, *call);
     }
 }
 
@@ -79,9 +86,7 @@ impl<C: Forks> Forks for NotedCells<C> {
 
     fn join(&self, root: &mut NotedPass<C::Pass>, other: NotedPass<C::Pass>) {
         let NotedPass { pass, calls } = other;
-        for call in &calls {
-            keep(&mut root.calls, *call);
-        }
+        keep_all(&mut root.calls, &calls);
         self.cells.join(&mut root.pass, pass)
     }
 }

@@ -12,7 +12,7 @@ pub returns-in-Ok-clause-few : goal.returns-in-Ok-clause-few
 returns-in-Ok-clause-few c = few_first c.args.bytes.now c.in-Ok.read c.requires c.in-Ok.ensures.job
 
 pub returns-in-Err-clause-stopped : goal.returns-in-Err-clause-stopped
-returns-in-Err-clause-stopped c s came = unread_first s c.args.bytes.now c.in-Err.fault came c.in-Err.ensures.fault c.in-Err.ensures.only
+returns-in-Err-clause-stopped c s came = rw c.fault_refusal.ensures (unread_first s c.args.bytes.now c.in-Err.fault came c.in-Err.ensures.fault c.in-Err.ensures.only)
 
 pub returns-in-Ok-clause-few_lines : goal.returns-in-Ok-clause-few_lines
 returns-in-Ok-clause-few_lines c = count_most c.args.bytes.now c.in-Ok.read c.in-Ok.ensures.job

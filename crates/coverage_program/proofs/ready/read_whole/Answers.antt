@@ -9,4 +9,4 @@ pub returns-in-Ok-clause-few : goal.returns-in-Ok-clause-few
 returns-in-Ok-clause-few c = few_lines c.args.bytes.now c.in-Ok.job c.requires c.in-Ok.ensures.job
 
 pub returns-in-Err-clause-stopped : goal.returns-in-Err-clause-stopped
-returns-in-Err-clause-stopped c s came = unread_whole s c.args.bytes.now c.in-Err.fault came c.in-Err.ensures.fault
+returns-in-Err-clause-stopped c s came = rw c.fault_refusal.ensures (unread_whole s c.args.bytes.now c.in-Err.fault came c.in-Err.ensures.fault)

@@ -1,0 +1,324 @@
+-- Each event keeps each task's log.
+use Rattle.std.proofs.Common.{◌≡◌, ◌≢◌, ◌⊎◌, inl, inr, ℕ, zero, suc, ◌+◌, ◌%◌, ◌<◌, ◌≤◌, Bool, true, false, ◌==◌, nat_lt, nat_eq, if◌then◌else◌, Option, Some, None, option_map, List, [], ◌∷◌, ◌++◌, length, get_or, set, refl, sym, ◌∙◌, ap, subst, arith}
+use Rattle.std.proofs.lemmas.Bool.Decides.{nat_tests}
+use Rattle.std.proofs.lemmas.List.{append_assoc, append-nil, get_or-map, get_or-set_other, length-set, length-map}
+use Rattle.cov_base.specs.Memory.{Memory, can_reach, half_at}
+use Rattle.cov_base.specs.States.{State, Visit}
+use Rattle.s370_state.specs.declared.endings.Ending.{Ending}
+use Rattle.s370_decode.specs.Fields.{first_half}
+use Rattle.s370_decode.specs.Table.{op_of}
+use Rattle.s370_decode.specs.declared.code.Code.{Code}
+use Rattle.s370_exec.specs.Effects.{effect, updated, link_code}
+use Rattle.s370_exec.specs.Fetch.{is_execute, code_at, rest_tests, or_ending}
+use Rattle.s370_exec.specs.Solo.{Run, Step, solo_run, solo_step, ended, visit, behind, subject_step}
+use Rattle.task_run.proofs.TraceLemmas.{solo_step-visits}
+use Rattle.module_area.specs.PlanView.{place_of}
+use Rattle.module_area.specs.declared.places.Place.{Place}
+use Rattle.brk_table.specs.Places.{ArePlaces, IsPlace, AreSeen}
+use Rattle.svc_monitor.specs.First.{first_tests}
+use Rattle.cov_base.specs.Codes.{length_of}
+use Rattle.cov_base.specs.FactSet.{FactSet}
+use Rattle.s370_exec.specs.Solo.{has_returned}
+use Rattle.module_area.specs.declared.cells.Cell.{Cell}
+use Rattle.svc_monitor.proofs.StepLemmas.{solo_step-rest_refused}
+use Rattle.interleave_core.specs.World.{World, IsWorld, TaskPart, Parts, part_of, memory_in, budget_in, place_at, place_from, no_part, first_part}
+use Rattle.interleave_core.specs.Steps.{Stepped, parts_step, fetch_step, fetched, mark_step, marked, lift_step, lifted, do_step, done_by, may_plant, breakpoint_of, with_cell, with_due, original_under, same_cell, in_hand, subject_place, no_visit, step_of, place_due, is_awaiting, is_spent, executed, stage_after, awaits_or, with_stage, unless_at, instruction_executed, subject_executed, task_done, same_due, hand_at, set_of, session_under}
+use Rattle.interleave_core.specs.Entries.{Entry}
+use Rattle.interleave_core.specs.Core.{CoreState, CoreStepped, core_start, core_step, core_after, core_from, core_run, log_after}
+use Rattle.interleave_core.specs.Alone.{alone}
+use Rattle.interleave_core.specs.declared.events.Shown.{Shown}
+use Rattle.interleave_core.specs.declared.events.Shown.TheVariants.{Fetched, Marked, Lifted, Done, Planted}
+use Rattle.interleave_core.specs.declared.events.Event.{Event}
+use Rattle.interleave_core.specs.declared.events.Event.TheVariants.{Fetch, Mark, Lift, Do, Plant}
+use Rattle.interleave_core.specs.declared.stage.Hand.{Hand}
+use Rattle.interleave_core.specs.declared.stage.Due.TheVariants.{Marking, Lifting, Nothing}
+use Rattle.interleave_core.proofs.Kept.{in_hand-stage}
+use Rattle.interleave_core.proofs.Nexts.{exists_by}
+use Rattle.interleave_core.proofs.Runs.{some_core, through}
+use Rattle.interleave_core.proofs.Alone.{GoesAt, AllGo, Goes, has_ended, is_inside, executed_trace, all_step, all_first, same_or, lt_of, got, some_stepped, some_part, lifted_tasks, some_core_stepped, run_zero}
+use Rattle.s370_state.specs.declared.endings.Ending.TheVariants.{Returned, Spent}
+use Rattle.s370_state.specs.declared.endings.Next.{Next}
+use Rattle.s370_state.specs.declared.endings.Next.TheVariants.{On, Ended as NextEnded}
+use Rattle.session_book.specs.Sessions.{task_of, no_task, first_state}
+use Rattle.module_area.specs.PlainWords.{word_at}
+use Rattle.std.proofs.lemmas.Grind.{get_or-set_at}
+use Rattle.interleave_core.specs.declared.stage.Due.{Due}
+use Rattle.interleave_core.specs.declared.stage.Stage.{Stage}
+use Rattle.interleave_core.specs.declared.stage.Stage.TheVariants.{Ready, Awaiting, Holding, Ended}
+use Rattle.interleave_core.specs.Reads.{whole_tests}
+use Rattle.interleave_core.specs.Logs.{Noted, note, noted, fact_at, logged, first_visit, visits_in_hand, HasLog, HaveLogs}
+use Rattle.interleave_core.proofs.ReadLemmas.{solo_step-unread, solo_step-read, solo_step-ex}
+
+pub noted-append : (w : World) (a b : List Visit) → noted w (a ++ b) ≡ noted w a ++ noted w b
+noted-append w [] b = refl
+noted-append w (v ∷ a) b = ap (λ (n : List Noted). note w v (place_at w v.at) ++ n) (noted-append w a b) ∙ sym (append_assoc (note w v (place_at w v.at)) (noted w a) (noted w b))
+
+same : (a b : ℕ) → (a == b) ≡ true → a ≡ b
+same a b h = grind (arith, nat_tests)
+
+-- a place that was found begins there
+found_at : (n a p : ℕ) (places : List Place) → place_from n places a ≡ Some p → (k : ℕ) × (k < length places) × ((place_of places k).at ≡ a)
+found_at n a p [] h = let f : None ≡ Some p = h in absurd cc
+found_at n a p (x ∷ xs) h = by (a == x.at) refl h (λ g. found_at (n + 1) a p xs g)
+  where
+    by : (b : Bool) → (a == x.at) ≡ b → (if b then Some n else place_from (n + 1) xs a) ≡ Some p → (place_from (n + 1) xs a ≡ Some p → (k : ℕ) × (k < length xs) × ((place_of xs k).at ≡ a)) →
+        (k : ℕ) × (k < length (x ∷ xs)) × ((place_of (x ∷ xs) k).at ≡ a)
+    by true e g more = (zero, omega arith, sym (same a x.at e))
+    by false e g more = let r = more g in (suc r.0, omega (arith, r.1), r.2)
+
+tests_pass : (odd reached : Bool) (x y : Option Ending) → odd ≡ false → reached ≡ true → (if odd then x else (if reached then None else y)) ≡ None
+tests_pass odd reached x y o r = rw (o, r) refl
+
+even_test : (a : ℕ) → a % 2 ≡ 0 → (a % 2 == 1) ≡ false
+even_test a h = grind (arith, nat_tests)
+
+pub at_place : (w : World) (m : Memory) (a p : ℕ) → ArePlaces w.places → AreSeen m w.places → place_at w a ≡ Some p → first_tests m a ≡ None
+at_place w m a p are seen h =
+    let k = found_at 0 a p w.places h in
+    let is : IsPlace (place_of w.places k.0) = are.each k.0 _ k.1 in
+    tests_pass (a % 2 == 1) (can_reach m a 2) _ _ (even_test a (subst (λ (n : ℕ). n % 2 ≡ 0) k.2 is.even)) (subst (λ (n : ℕ). can_reach m n 2 ≡ true) k.2 (seen k.0 k.1).reached)
+
+-- the visits of a step: none, or first that of the instruction
+visits_by : (m : Memory) (s : State) (c : Code) (b : Bool) → whole_tests m s.machine.bytes s.machine.cpu.ia ≡ None → c ≡ code_at m s.machine.bytes s.machine.cpu.ia (half_at m s.machine.bytes s.machine.cpu.ia) →
+    is_execute (first_half c) ≡ b → (v : Visit) × (vs : List Visit) × ((solo_step m s).visits ≡ v ∷ vs) × (v.at ≡ s.machine.cpu.ia)
+visits_by m s c true tests code x = let e = solo_step-ex m s s.machine.cpu.ia c refl tests code x in (_, _, ap (λ (r : Step). r.visits) e, refl)
+visits_by m s c false tests code x =
+    let e = solo_step-read m s s.machine.cpu.ia c (effect m s.machine s.io c (op_of (first_half c)) (updated c None) (link_code c None)) refl tests code x refl in (_, _, ap (λ (r : Step). r.visits) e, refl)
+
+tests_by : (m : Memory) (s : State) (tests : Option Ending) → whole_tests m s.machine.bytes s.machine.cpu.ia ≡ tests →
+    ((solo_step m s).visits ≡ []) ⊎ ((v : Visit) × (vs : List Visit) × ((solo_step m s).visits ≡ v ∷ vs) × (v.at ≡ s.machine.cpu.ia))
+tests_by m s None h = inr (visits_by m s (code_at m s.machine.bytes s.machine.cpu.ia (half_at m s.machine.bytes s.machine.cpu.ia)) _ h refl refl)
+tests_by m s (Some e) h = elim (solo_step-unread m s s.machine.cpu.ia e refl h) [
+  | inl k ↦ inl (ap (λ (r : Step). r.visits) k)
+  | inr k ↦ inr (visit s s.machine.cpu.ia false false false, [], ap (λ (r : Step). r.visits) k, refl)
+]
+
+pub visits_are : (m : Memory) (s : State) → ((solo_step m s).visits ≡ []) ⊎ ((v : Visit) × (vs : List Visit) × ((solo_step m s).visits ≡ v ∷ vs) × (v.at ≡ s.machine.cpu.ia))
+visits_are m s = tests_by m s (whole_tests m s.machine.bytes s.machine.cpu.ia) refl
+
+pass_by : (m : Memory) (s : State) (tests : Option Ending) → first_tests m s.machine.cpu.ia ≡ None → whole_tests m s.machine.bytes s.machine.cpu.ia ≡ tests →
+    (v : Visit) × (vs : List Visit) × ((solo_step m s).visits ≡ v ∷ vs) × (v.at ≡ s.machine.cpu.ia)
+pass_by m s None pass h = visits_by m s (code_at m s.machine.bytes s.machine.cpu.ia (half_at m s.machine.bytes s.machine.cpu.ia)) _ h refl refl
+pass_by m s (Some e) pass h =
+    let a : ℕ = s.machine.cpu.ia in
+    let rest : rest_tests m a (length_of (half_at m s.machine.bytes a)) ≡ Some e = subst (λ (o : Option Ending). or_ending o (rest_tests m a (length_of (half_at m s.machine.bytes a))) ≡ Some e) pass h in
+    (visit s a false false false, [], ap (λ (r : Step). r.visits) (solo_step-rest_refused m s a (half_at m s.machine.bytes a) e refl pass refl rest), refl)
+
+-- one fetch of an instruction more
+push_first : (w : World) (V trace vs : List Visit) (v : Visit) (p : ℕ) (L : List Noted) → V ≡ v ∷ vs → place_at w v.at ≡ Some p → L ≡ noted w (trace ++ []) →
+    L ++ record { place = p; fact = fact_at w p (get_or V 0 no_visit) } ∷ [] ≡ noted w (trace ++ first_visit V)
+push_first w V trace vs v p L is at e =
+    let before : L ≡ noted w trace = e ∙ ap (noted w) (append-nil trace) in
+    let one : noted w (v ∷ []) ≡ record { place = p; fact = fact_at w p v } ∷ [] = ap (λ (o : Option ℕ). note w v o ++ []) at in
+    subst (λ (X : List Visit). L ++ record { place = p; fact = fact_at w p (get_or X 0 no_visit) } ∷ [] ≡ noted w (trace ++ first_visit X)) (sym is)
+    (ap (λ (n : List Noted). n ++ record { place = p; fact = fact_at w p v } ∷ []) before ∙ (ap (λ (n : List Noted). noted w trace ++ n) (sym one) ∙ sym (noted-append w trace (v ∷ []))))
+
+-- and of its subject
+push_subject : (w : World) (V trace : List Visit) (p : ℕ) (L : List Noted) → length V ≤ 2 → subject_place w V ≡ Some p → L ≡ noted w (trace ++ first_visit V) →
+    L ++ record { place = p; fact = fact_at w p (get_or V 1 no_visit) } ∷ [] ≡ noted w (trace ++ V)
+push_subject w [] trace p L few at e = let n : None ≡ Some p = at in absurd cc
+push_subject w (v ∷ []) trace p L few at e = let n : None ≡ Some p = at in absurd cc
+push_subject w (v ∷ (s ∷ (x ∷ xs))) trace p L few at e = absurd (omega arith)
+push_subject w (v ∷ (s ∷ [])) trace p L few at e =
+    let one : noted w (s ∷ []) ≡ record { place = p; fact = fact_at w p s } ∷ [] = ap (λ (o : Option ℕ). note w s o ++ []) at in
+    let parts : noted w ((trace ++ v ∷ []) ++ s ∷ []) ≡ noted w (trace ++ v ∷ []) ++ noted w (s ∷ []) = noted-append w (trace ++ v ∷ []) (s ∷ []) in
+    ap (λ (n : List Noted). n ++ record { place = p; fact = fact_at w p s } ∷ []) e ∙ (ap (λ (n : List Noted). noted w (trace ++ v ∷ []) ++ n) (sym one)
+    ∙ (sym parts ∙ ap (noted w) (append_assoc trace (v ∷ []) (s ∷ []))))
+
+-- an instruction whose subject is at no place
+no_subject : (w : World) (V : List Visit) → length V ≤ 2 → subject_place w V ≡ None → noted w V ≡ noted w (first_visit V)
+no_subject w [] few at = refl
+no_subject w (v ∷ []) few at = refl
+no_subject w (v ∷ (s ∷ (x ∷ xs))) few at = absurd (omega arith)
+no_subject w (v ∷ (s ∷ [])) few at = ap (λ (o : Option ℕ). note w v (place_at w v.at) ++ (note w s o ++ [])) at
+
+-- and it itself too
+no_place : (w : World) (m : Memory) (s : State) → place_at w s.machine.cpu.ia ≡ None → noted w (first_visit (solo_step m s).visits) ≡ []
+no_place w m s at = elim (visits_are m s) [
+  | inl none ↦ ap (λ (V : List Visit). noted w (first_visit V)) none
+  | inr some ↦ ap (λ (V : List Visit). noted w (first_visit V)) some.2 ∙ ap (λ (o : Option ℕ). note w some.0 o ++ []) (ap (place_at w) some.3 ∙ at)
+]
+
+with_nil : (w : World) (trace V : List Visit) → noted w ((trace ++ V) ++ []) ≡ noted w trace ++ noted w V
+with_nil w trace V = ap (noted w) (append-nil (trace ++ V)) ∙ noted-append w trace V
+
+found_logged : (w : World) (t : ℕ) (u : TaskPart) (f : FactSet) (log : List Entry) → logged (log_after w t u (Marked f) log) ≡ logged log
+found_logged w t u f [] = refl
+found_logged w t u f (e ∷ log) = refl
+
+lifted_logged : (w : World) (t : ℕ) (u : TaskPart) (b : Bool) (log : List Entry) → logged (log_after w t u (Lifted b) log) ≡ logged log
+lifted_logged w t u b [] = refl
+lifted_logged w t u b (e ∷ log) = refl
+
+abbrev trace_of : World → ℕ → TaskPart → List Visit
+trace_of w t u = (alone w t u.state.done).trace
+
+abbrev visits_of : World → ℕ → TaskPart → List Visit
+visits_of w t u = (step_of w t u).visits
+
+few : (w : World) (t : ℕ) (u : TaskPart) → length (visits_of w t u) ≤ 2
+few w t u = solo_step-visits (memory_in w t) u.state
+
+due_at : (returned spent : Bool) (at : Option ℕ) (p : ℕ) → (if returned then None else (if spent then None else at)) ≡ Some p → at ≡ Some p
+due_at true spent at p h = let n : None ≡ Some p = h in absurd cc
+due_at false true at p h = let n : None ≡ Some p = h in absurd cc
+due_at false false at p h = h
+
+log_fetch : (w : World) (t : ℕ) (u : TaskPart) (stage : Stage) (p : ℕ) (c : Cell) (due : Due) (log : List Entry) → AreSeen (memory_in w t) w.places → ArePlaces w.places → u.stage ≡ stage → place_due w t u stage ≡ Some p →
+    logged log ≡ noted w (trace_of w t u ++ visits_in_hand stage (visits_of w t u)) →
+    logged log ++ record { place = p; fact = fact_at w p (get_or (visits_of w t u) (if is_awaiting stage then 1 else 0) no_visit) } ∷ [] ≡ noted w (trace_of w t u ++ (if is_awaiting stage then visits_of w t u else first_visit (visits_of w t u)))
+log_fetch w t u Ready p c due log seen are at h e =
+    let place = due_at (has_returned u.state) (is_spent w t u.state) (place_at w u.state.machine.cpu.ia) p h in
+    let v = pass_by (memory_in w t) u.state _ (at_place w (memory_in w t) u.state.machine.cpu.ia p are seen place) refl in
+    push_first w (visits_of w t u) (trace_of w t u) v.1 v.0 p (logged log) v.2 (ap (place_at w) v.3 ∙ place) e
+log_fetch w t u Awaiting p c due log seen are at h e = push_subject w (visits_of w t u) (trace_of w t u) p (logged log) (few w t u) h e
+log_fetch w t u (Holding x) p c due log seen are at h e = let n : None ≡ Some p = h in absurd cc
+log_fetch w t u (Ended x) p c due log seen are at h e = let n : None ≡ Some p = h in absurd cc
+
+nothing_in_hand : (next : Next) (visits : List Visit) → visits_in_hand (stage_after next) visits ≡ []
+nothing_in_hand On visits = refl
+nothing_in_hand (NextEnded e) visits = refl
+
+log_executed : (w : World) (t : ℕ) (u : TaskPart) (log : List Entry) → has_ended u.stage ≡ false → has_returned u.state ≡ false → GoesAt w t u →
+    logged log ≡ noted w (trace_of w t u) ++ noted w (visits_of w t u) → HasLog w t (executed (step_of w t u)) log
+log_executed w t u log was on g h =
+    let trace : trace_of w t (executed (step_of w t u)) ≡ trace_of w t u ++ visits_of w t u = executed_trace (memory_in w t) (budget_in w t) (first_state (task_of w.job t)) u was on g in
+    let hand : visits_in_hand (stage_after (step_of w t u).next) (visits_of w t (executed (step_of w t u))) ≡ [] = nothing_in_hand (step_of w t u).next (visits_of w t (executed (step_of w t u))) in
+    h ∙ (sym (with_nil w (trace_of w t u) (visits_of w t u)) ∙ (ap (λ (V : List Visit). noted w (V ++ [])) (sym trace) ∙ ap (λ (V : List Visit). noted w (trace_of w t (executed (step_of w t u)) ++ V)) (sym hand)))
+
+log_whole : (w : World) (t : ℕ) (u : TaskPart) (log : List Entry) (at : Option ℕ) → subject_place w (visits_of w t u) ≡ at → has_ended u.stage ≡ false → has_returned u.state ≡ false → GoesAt w t u →
+    logged log ≡ noted w (trace_of w t u ++ first_visit (visits_of w t u)) → HasLog w t (awaits_or u (executed (step_of w t u)) at) log
+log_whole w t u log None at was on g h =
+    log_executed w t u log was on g (h ∙ (noted-append w (trace_of w t u) (first_visit (visits_of w t u)) ∙ ap (λ (n : List Noted). noted w (trace_of w t u) ++ n) (sym (no_subject w (visits_of w t u) (few w t u) at))))
+log_whole w t u log (Some p) at was on g h = h
+
+log_ready : (w : World) (t : ℕ) (u v : TaskPart) (log : List Entry) (returned spent : Bool) (at : Option ℕ) → has_returned u.state ≡ returned → place_at w u.state.machine.cpu.ia ≡ at → has_ended u.stage ≡ false → GoesAt w t u →
+    (if returned then Some (with_stage u (Ended Returned)) else (if spent then Some (with_stage u (Ended Spent)) else unless_at (instruction_executed w t u) at)) ≡ Some v →
+    logged log ≡ noted w (trace_of w t u ++ []) → HasLog w t v log
+log_ready w t u v log true spent at r p was g h e = subst (λ (x : TaskPart). HasLog w t x log) (some_part _ v h) e
+log_ready w t u v log false true at r p was g h e = subst (λ (x : TaskPart). HasLog w t x log) (some_part _ v h) e
+log_ready w t u v log false false (Some x) r p was g h e = let n : None ≡ Some v = h in absurd cc
+log_ready w t u v log false false None r p was g h e =
+    let first : logged log ≡ noted w (trace_of w t u ++ first_visit (visits_of w t u)) =
+    e ∙ (noted-append w (trace_of w t u) [] ∙ (ap (λ (n : List Noted). noted w (trace_of w t u) ++ n) (sym (no_place w (memory_in w t) u.state p)) ∙ sym (noted-append w (trace_of w t u) (first_visit (visits_of w t u))))) in
+    subst (λ (x : TaskPart). HasLog w t x log) (some_part _ v h) (log_whole w t u log (subject_place w (visits_of w t u)) refl was r g first)
+
+log_done : (w : World) (t : ℕ) (u v : TaskPart) (stage : Stage) (log : List Entry) → u.stage ≡ stage → task_done w t u stage ≡ Some v → GoesAt w t u →
+    logged log ≡ noted w (trace_of w t u ++ visits_in_hand stage (visits_of w t u)) → HasLog w t v log
+log_done w t u v Ready log at h g e = log_ready w t u v log (has_returned u.state) (is_spent w t u.state) (place_at w u.state.machine.cpu.ia) refl refl (ap has_ended at) g h e
+log_done w t u v Awaiting log at h g e = let n : None ≡ Some v = h in absurd cc
+log_done w t u v (Ended x) log at h g e = let n : None ≡ Some v = h in absurd cc
+log_done w t u v (Holding x) log at h g e = by (same_due x.due Nothing) x.subject h e
+  where
+    by : (nothing subject : Bool) → (if nothing then Some (if subject then subject_executed w t u else instruction_executed w t u) else None) ≡ Some v →
+        logged log ≡ noted w (trace_of w t u ++ (if subject then visits_of w t u else first_visit (visits_of w t u))) → HasLog w t v log
+    by false subject k f = let n : None ≡ Some v = k in absurd cc
+    by true true k f = subst (λ (y : TaskPart). HasLog w t y log) (some_part _ v k)
+        (log_executed w t u log (ap has_ended at) (g.inside (ap is_inside at)).0 g (f ∙ noted-append w (trace_of w t u) (visits_of w t u)))
+    by true false k f = subst (λ (y : TaskPart). HasLog w t y log) (some_part _ v k)
+        (log_whole w t u log (subject_place w (visits_of w t u)) refl (ap has_ended at) (g.inside (ap is_inside at)).0 g f)
+
+itself : (t : ℕ) → nat_eq t t ≡ true
+itself t = grind (arith, nat_tests)
+
+apart : (t s : ℕ) → s ≢ t → nat_eq t s ≡ false
+apart t s h = grind (arith, nat_tests)
+
+-- what holds of a core after every list of events
+pub record Logged (w : World) (c : CoreState) : Type 0 where
+  pub count : length c.parts.tasks ≡ length w.job.tasks
+  pub go : AllGo w c.parts
+  pub logs : HaveLogs w c.parts c.logs
+
+one_log : (w : World) (c : CoreState) (d : Parts) (t : ℕ) (u : TaskPart) (shown : Shown) → d.tasks ≡ set c.parts.tasks t u → t < length c.parts.tasks → HasLog w t u (log_after w t u shown (c.logs t)) → Logged w c →
+    HaveLogs w d (λ s. if nat_eq t s then log_after w s (part_of d s) shown (c.logs s) else c.logs s)
+one_log w c d t u shown e lt own is s l =
+    let inside : s < length c.parts.tasks = subst (λ (n : ℕ). s < n) (ap (λ (x : List TaskPart). length x) e ∙ length-set c.parts.tasks t u) l in
+    let there : part_of d s ≡ get_or (set c.parts.tasks t u) s no_part = ap (λ (x : List TaskPart). get_or x s no_part) e in
+    elim (same_or s t) [
+      | inl same ↦
+          let part : part_of d s ≡ u = there ∙ get_or-set_at c.parts.tasks t s u no_part same lt in
+          let test : nat_eq t s ≡ true = ap (nat_eq t) same ∙ itself t in
+          let here : HasLog w s u (log_after w s u shown (c.logs s)) = subst (λ (n : ℕ). HasLog w n u (log_after w n u shown (c.logs n))) (sym same) own in
+          subst (λ (b : Bool). HasLog w s (part_of d s) (if b then log_after w s (part_of d s) shown (c.logs s) else c.logs s)) (sym test)
+          (subst (λ (x : TaskPart). HasLog w s x (log_after w s x shown (c.logs s))) (sym part) here)
+      | inr other ↦
+          let part : part_of d s ≡ part_of c.parts s = there ∙ get_or-set_other c.parts.tasks t s u no_part other in
+          subst (λ (b : Bool). HasLog w s (part_of d s) (if b then log_after w s (part_of d s) shown (c.logs s) else c.logs s)) (sym (apart t s other))
+          (subst (λ (x : TaskPart). HasLog w s x (c.logs s)) (sym part) (is.logs s inside))
+    ]
+
+log_step : (w : World) (c : CoreState) (e : Event) (x : Stepped) → IsWorld w → parts_step w c.parts e ≡ Some x → Logged w c → (length x.parts.tasks ≡ length w.job.tasks) × HaveLogs w x.parts (core_after w c e x).core.logs
+log_step w c (Fetch t) x world h is =
+    let u : TaskPart = part_of c.parts t.0 in
+    let at = exists_by (nat_lt t.0 (length c.parts.tasks)) (fetch_step w c.parts t.0 u) x h in
+    let lt : t.0 < length c.parts.tasks = lt_of t.0 (length c.parts.tasks) at.0 in
+    let p = got ℕ (fetched w c.parts t.0 u) (place_due w t.0 u u.stage) x at.1 in
+    let seen = world.seen t.0 (subst (λ (n : ℕ). t.0 < n) is.count lt) in
+    let own = log_fetch w t.0 u u.stage p.0 (word_at c.parts.cells p.0) Nothing (c.logs t.0) seen world.places refl p.1 (is.logs t.0 lt) in
+    subst (λ (y : Stepped). (length y.parts.tasks ≡ length w.job.tasks) × HaveLogs w y.parts (core_after w c (Fetch t) y).core.logs) (sym p.2)
+    (length-set c.parts.tasks t.0 _ ∙ is.count, one_log w c (fetched w c.parts t.0 u p.0).parts t.0 (with_stage u (Holding (hand_at w c.parts (is_awaiting u.stage) p.0))) (Fetched (word_at c.parts.cells p.0)) refl lt own is)
+log_step w c (Mark t) x world h is =
+    let u : TaskPart = part_of c.parts t.0 in
+    let at = exists_by (nat_lt t.0 (length c.parts.tasks)) (mark_step w c.parts t.0 u) x h in
+    let lt : t.0 < length c.parts.tasks = lt_of t.0 (length c.parts.tasks) at.0 in
+    let p = got Hand (marked w c.parts t.0 u) (in_hand Marking u.stage) x at.1 in
+    let found : FactSet = set_of w c.parts (session_under p.0.cell.tag) p.0.place.0 in
+    let stage = (in_hand-stage Marking u.stage p.0 p.1).0 in
+    let before : logged (c.logs t.0) ≡ noted w (trace_of w t.0 u ++ visits_in_hand (Holding p.0) (visits_of w t.0 u)) = subst (λ (s : Stage). logged (c.logs t.0) ≡ noted w (trace_of w t.0 u ++ visits_in_hand s (visits_of w t.0 u))) stage (is.logs t.0 lt) in
+    subst (λ (y : Stepped). (length y.parts.tasks ≡ length w.job.tasks) × HaveLogs w y.parts (core_after w c (Mark t) y).core.logs) (sym p.2)
+    (length-set c.parts.tasks t.0 _ ∙ is.count, one_log w c (marked w c.parts t.0 u p.0).parts t.0 _ (Marked found) refl lt (found_logged w t.0 u found (c.logs t.0) ∙ before) is)
+log_step w c (Lift t) x world h is =
+    let u : TaskPart = part_of c.parts t.0 in
+    let at = exists_by (nat_lt t.0 (length c.parts.tasks)) (lift_step w c.parts t.0 u) x h in
+    let lt : t.0 < length c.parts.tasks = lt_of t.0 (length c.parts.tasks) at.0 in
+    let p = got Hand (lifted w c.parts t.0 u) (in_hand Lifting u.stage) x at.1 in
+    let taken : Bool = same_cell (word_at c.parts.cells p.0.place.0) p.0.cell in
+    let stage = (in_hand-stage Lifting u.stage p.0 p.1).0 in
+    let before : logged (c.logs t.0) ≡ noted w (trace_of w t.0 u ++ visits_in_hand (Holding p.0) (visits_of w t.0 u)) = subst (λ (s : Stage). logged (c.logs t.0) ≡ noted w (trace_of w t.0 u ++ visits_in_hand s (visits_of w t.0 u))) stage (is.logs t.0 lt) in
+    let tasks : (lifted w c.parts t.0 u p.0).parts.tasks ≡ set c.parts.tasks t.0 (with_due u p.0 Nothing) = ap (λ (ts : List TaskPart). set ts t.0 (with_due u p.0 Nothing)) (lifted_tasks (same_cell (word_at c.parts.cells p.0.place.0) p.0.cell) c.parts p.0.place.0 (original_under w p.0.place.0 p.0.cell)) in
+    subst (λ (y : Stepped). (length y.parts.tasks ≡ length w.job.tasks) × HaveLogs w y.parts (core_after w c (Lift t) y).core.logs) (sym p.2)
+    (ap (λ (ts : List TaskPart). length ts) tasks ∙ (length-set c.parts.tasks t.0 _ ∙ is.count), one_log w c (lifted w c.parts t.0 u p.0).parts t.0 (with_due u p.0 Nothing) (Lifted taken) tasks lt (lifted_logged w t.0 (with_due u p.0 Nothing) taken (c.logs t.0) ∙ before) is)
+log_step w c (Do t) x world h is =
+    let u : TaskPart = part_of c.parts t.0 in
+    let at = exists_by (nat_lt t.0 (length c.parts.tasks)) (do_step w c.parts t.0 u) x h in
+    let lt : t.0 < length c.parts.tasks = lt_of t.0 (length c.parts.tasks) at.0 in
+    let v = got TaskPart (done_by c.parts t.0) (task_done w t.0 u u.stage) x at.1 in
+    subst (λ (y : Stepped). (length y.parts.tasks ≡ length w.job.tasks) × HaveLogs w y.parts (core_after w c (Do t) y).core.logs) (sym v.2)
+    (length-set c.parts.tasks t.0 v.0 ∙ is.count, one_log w c (done_by c.parts t.0 v.0).parts t.0 v.0 Done refl lt (log_done w t.0 u v.0 u.stage (c.logs t.0) refl v.1 (is.go t.0 lt) (is.logs t.0 lt)) is)
+log_step w c (Plant s p) x world h is =
+    let made : (may_plant w c.parts s.0 p.0 ≡ true) × (Some (record { parts = with_cell c.parts p.0 (breakpoint_of s.0); shown = Planted }) ≡ Some x) =
+    exists_by (may_plant w c.parts s.0 p.0) (Some (record { parts = with_cell c.parts p.0 (breakpoint_of s.0); shown = Planted })) x h in
+    let same : record { parts = with_cell c.parts p.0 (breakpoint_of s.0); shown = Planted } ≡ x = some_stepped _ x made.1 in
+    subst (λ (y : Stepped). (length y.parts.tasks ≡ length w.job.tasks) × HaveLogs w y.parts (core_after w c (Plant s p) y).core.logs) same (is.count, is.logs)
+
+none_yet : (m : Memory) (w : World) (s : State) → s.done ≡ 0 → [] ≡ noted w ((solo_run m s.done s).trace ++ [])
+none_yet m w s zero_done =
+    let start : (solo_run m 0 s).trace ≡ [] = ap (λ (r : Run). r.trace) (run_zero m s []) in
+    sym (ap (λ (n : ℕ). noted w ((solo_run m n s).trace ++ [])) zero_done ∙ ap (λ (V : List Visit). noted w (V ++ [])) start)
+
+log_first : (w : World) → Logged w (core_start w)
+log_first w = record {
+  count = length-map w.job.tasks first_part;
+  go = all_first w;
+  logs = λ t l.
+      let lt : t < length w.job.tasks = subst (λ (n : ℕ). t < n) (length-map w.job.tasks first_part) l in
+      subst (λ (u : TaskPart). HasLog w t u []) (sym (get_or-map first_part w.job.tasks t no_task no_part lt)) (none_yet (memory_in w t) w (first_state (task_of w.job t)) refl);
+}
+
+got_step : (w : World) (d : CoreState) (e : Event) (o : Option Stepped) (y : CoreStepped) → option_map (core_after w d e) o ≡ Some y → (x : Stepped) × (o ≡ Some x) × ((core_after w d e x).core ≡ y.core)
+got_step w d e None y h = let n : None ≡ Some y = h in absurd cc
+got_step w d e (Some x) y h = (x, refl, ap (λ (z : CoreStepped). z.core) (some_core_stepped (core_after w d e x) y h))
+
+log_from : (w : World) (d c : CoreState) (events : List Event) → IsWorld w → Logged w d → core_from w d events ≡ Some c → Logged w c
+log_from w d c [] world is h = subst (λ (x : CoreState). Logged w x) (some_core d c h) is
+log_from w d c (e ∷ events) world is h =
+    let at = through (λ b. core_from w b events) (core_step w d e) c h in
+    let made = got_step w d e (parts_step w d.parts e) at.0 at.1 in
+    let step = log_step w d e made.0 world made.1 is in
+    let next : Logged w (core_after w d e made.0).core = record { count = step.0; go = all_step w d.parts e made.0 made.1 is.go; logs = step.1 } in
+    log_from w at.0.core c events world (subst (λ (x : CoreState). Logged w x) made.2 next) at.2
+
+-- after every list of events
+pub run_logs : (w : World) (c : CoreState) (events : List Event) → IsWorld w → core_run w events ≡ Some c → HaveLogs w c.parts c.logs
+run_logs w c events world h = (log_from w (core_start w) c events world (log_first w) h).logs

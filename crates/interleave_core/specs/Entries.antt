@@ -1,0 +1,14 @@
+-- The entries of a task's log.
+use Rattle.std.specs.Prelude.{ℕ, Bool, Option}
+use Rattle.cov_base.specs.FactSet.{FactSet}
+use Rattle.cov_base.specs.declared.facts.Fact.{Fact}
+use Rattle.module_area.specs.declared.cells.Cell.{Cell}
+
+-- a fetch: its place, the cell that it answered, the fact of the visit where that is begun, the set as its mark found
+-- it, and whether its lift exchanged
+pub record Entry : Type 0 where
+  pub place : ℕ
+  pub cell : Cell
+  pub fact : Option Fact
+  pub found : Option FactSet
+  pub lifted : Option Bool
