@@ -13,6 +13,7 @@ use Rattle.job_text.proofs.Spelled.{one_first}
 use Rattle.coverage_program.specs.Answers.{SourceChange, HasJob, HasPlay, CameWhole, CameJob, IsStopped, BadJob, LargeJob, BadListing, LargeInput, ReadFault, WantOfMemory, IsCause, Report, Places, Replayed, BadSchedule, Usage, Stopped, NoMemoryToRun, Answers, IsComplete, input_limit}
 use Rattle.coverage_program.specs.declared.words.Command.{Command}
 use Rattle.coverage_program.specs.declared.words.Command.TheVariants.{Run, Table, Replay, Unknown}
+use Rattle.module_area.specs.declared.places.Place.{Place}
 use Rattle.brk_table.specs.Places.{TablesView, all_places}
 use Rattle.coverage_program.specs.Refusals.{RefusalView, refusal, job_refusal, Match}
 use Rattle.coverage_program.specs.Replay.{Play, Bad, Whole, play_of, play_status}
@@ -157,14 +158,15 @@ same_play s b j k tables others play has e match' numbered p =
     let c = p.came.job in
     let same : b ≡ c.bytes = came_is s b c.bytes e c.came in
     let there : Spells (take c.has.count (lines_of b)) k = subst (λ (t : List ℕ). Spells (take c.has.count (lines_of t)) k) (sym same) c.has.spells in
-    let one = one_first (lines_of b) has.count c.has.count j k has.inside (rw (← same) c.has.inside) has.spells there in
+    let one = one_first (lines_of b) has.count c.has.count j k has.inside (subst (λ (t : List ℕ). c.has.count ≤ length (lines_of t)) (sym same) c.has.inside) has.spells there in
     let jobs : j ≡ k = one.1 in
     let places : tables.places ≡ others.places = numbered ∙ (one_places j tables.tables others.tables match' (subst (λ (i : JobView). Match i others.tables) (sym jobs) p.match) ∙ sym p.numbered) in
     let counts : has.count ≡ p.count = one.0 ∙ p.came.counts in
     let rest : drop has.count (lines_of b) ≡ p.schedule = ap (λ (n : ℕ). drop n (lines_of b)) one.0 ∙ (ap (λ (t : List ℕ). drop c.has.count (lines_of t)) same ∙ p.came.behind) in
-    rw (jobs, places, counts, rest) p.plays
+    let all : List LineView = drop has.count (lines_of b) in
+    ap (λ (i : JobView). play_of i tables.places has.count all) jobs ∙ (ap (λ (ps : List Place). play_of k ps has.count all) places ∙ (ap (λ (n : ℕ). play_of k others.places n all) counts ∙ (ap (λ (ls : List LineView). play_of k others.places p.count ls) rest ∙ p.plays)))
 
-Replays : Command → SourceChange → List ℕ → JobView → TablesView → Type 0
+abbrev Replays : Command → SourceChange → List ℕ → JobView → TablesView → Type 0
 Replays c s b j tables = (c ≡ Replay) × (s.left ≡ Some b) × (length b ≤ input_limit) × Match j tables.tables × (tables.places ≡ all_places tables.tables) × (Rose s.faults s.later → ⊥)
 
 replayed_case : (c : Command) (s : SourceChange) (before after : Account) (status : ℕ) (text b : List ℕ) (j : JobView) (tables : TablesView) (has : HasJob true (lines_of b) j) → IsCause c s before after status text → Replays c s b j tables →

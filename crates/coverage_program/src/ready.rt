@@ -84,6 +84,7 @@ fn read_first(alloc: Global, bytes: &[u8]) -> Result<ReadJob, Refusal>
     ensures inside { IfOk result (λ r. r.end ≤ length bytes.now) }
     ensures few_lines { IfOk result (λ r. r.lines ≤ length bytes.now) }
     ensures job { (s : SourceChange) → CameWhole s bytes.now → IfOk result (λ r. CameFirst s r.job r.lines (lines_of (drop r.end bytes.now))) }
+    ensures came { (s : SourceChange) → CameWhole s bytes.now → IfOk result (λ r. CameJob true s r.job) }
     ensures few { IfOk result (λ r. HasFewLines r.job) }
     ensures stopped { (s : SourceChange) → CameWhole s bytes.now → IfErr result (λ r. IsStopped true s r.status r.line) }
 {

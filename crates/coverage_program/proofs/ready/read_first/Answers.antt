@@ -16,3 +16,6 @@ returns-in-Err-clause-stopped c s came = rw c.fault_refusal.ensures (unread_firs
 
 pub returns-in-Ok-clause-few_lines : goal.returns-in-Ok-clause-few_lines
 returns-in-Ok-clause-few_lines c = count_most c.args.bytes.now c.in-Ok.read c.in-Ok.ensures.job
+
+pub returns-in-Ok-clause-came : goal.returns-in-Ok-clause-came
+returns-in-Ok-clause-came c s came = (read_is s c.args.bytes.now c.in-Ok.read came c.in-Ok.ensures.job).job
