@@ -11,6 +11,8 @@ use Rattle.interleave_core.specs.declared.events.Shown.{Shown}
 use Rattle.interleave_core.proofs.Runs.{core_from-push}
 use Rattle.interleave_core.proofs.Logs.{run_logs}
 use Rattle.interleave_core.proofs.Alone.{run_alone}
+use Rattle.interleave_core.proofs.Exact.{run_exact}
+use Rattle.interleave_core.proofs.Ruled.{run_keeps}
 
 follows_one : (w : World) (old new : Parts) (e : Event) (shown : Shown) → IsWorld w → parts_step w old e ≡ Some (record { parts = new; shown = shown }) → FollowsAll w old e new shown
 follows_one w old new e shown world h = λ events c run same.
@@ -23,6 +25,8 @@ follows_one w old new e shown world h = λ events c run same.
       stored = refl;
       alone = run_alone w _ (events ++ e ∷ []) (core_from-push w (core_start w) c events e _ run step);
       logs = run_logs w _ (events ++ e ∷ []) world (core_from-push w (core_start w) c events e _ run step);
+      rule = run_keeps w _ (events ++ e ∷ []) world (core_from-push w (core_start w) c events e _ run step);
+      exact = run_exact w _ (events ++ e ∷ []) world (core_from-push w (core_start w) c events e _ run step);
     }
 
 pub follows : (w : World) (old new : Parts) (e : Event) (r : Result Shown NotPossible) → IsWorld w → IfOk r (λ shown. parts_step w old e ≡ Some (record { parts = new; shown = shown })) → IfOk r (FollowsAll w old e new)

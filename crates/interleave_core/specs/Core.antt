@@ -5,7 +5,9 @@ use Rattle.cov_base.specs.declared.facts.Fact.{Fact}
 use Rattle.module_area.specs.declared.cells.Cell.{Cell}
 use Rattle.interleave_core.specs.Alone.{AreAlone}
 use Rattle.interleave_core.specs.Entries.{Entry}
+use Rattle.interleave_core.specs.Exact.{AreExact}
 use Rattle.interleave_core.specs.Logs.{HaveLogs}
+use Rattle.interleave_core.specs.Parties.{KeepRule}
 use Rattle.interleave_core.specs.World.{World, TaskPart, Parts, part_of, first_parts}
 use Rattle.interleave_core.specs.Steps.{Stepped, parts_step, step_of, visit_of, fact_in}
 use Rattle.interleave_core.specs.declared.events.Event.{Event}
@@ -92,6 +94,10 @@ pub record Follows (w : World) (events : List Event) (e : Event) (c : CoreState)
   pub alone : AreAlone w after.parts
   -- its log has the places and facts of that run, and of the instruction in hand
   pub logs : HaveLogs w after.parts after.logs
+  -- the rule of an area holds of its cells and sets, and of the notes of the planter and the tasks
+  pub rule : KeepRule w (events ++ e ∷ []) after.parts after.logs
+  -- once all tasks have ended, each set has the facts of the executions in its session's window
+  pub exact : AreExact w after.parts after.logs
 
 -- after each list of events that leaves the parts stored so, the event is possible, shows this, and leaves these parts
 abbrev pub FollowsAll : World → Parts → Event → Parts → Shown → Type 0
