@@ -4,7 +4,7 @@ use mathlib.Core.Option.{some, some-injective, some-ne-none}
 use lib.ListN.{get_elem?}
 use Rattle.cov_base.specs.Codes.{breakpoint}
 use Rattle.cov_base.specs.FactSet.{FactSet}
-use Rattle.cov_base.specs.Facts.{has_fact, is_full, full_of, is_of_kind, fact_of}
+use Rattle.cov_base.specs.Facts.{has_fact, with_fact, is_full, full_of, is_of_kind, fact_of}
 use Rattle.cov_base.specs.declared.facts.Fact.{Fact}
 use Rattle.cov_base.specs.declared.facts.Fact.TheVariants.{Ran, Went, Stayed}
 use Rattle.cov_base.specs.declared.facts.Kind.{Kind}
@@ -113,9 +113,10 @@ settled_step w c v (Mark t) x world h is =
     let hand = held_hand w t.0 u (c.logs t.0) u.stage Marking p.0 (is.ruled.hands t.0 lt) p.1 in
     let b : HasBreakpoint w p.0 = hand.3 in
     let found : FactSet = set_of w c.parts (session_under p.0.cell.tag) p.0.place.0 in
+    let u2 : TaskPart = with_due u p.0 (if is_full (kind_at (plan_in w) p.0.place.0) (with_fact found (fact_in w t.0 u p.0)) then Lifting else Nothing) in
     subst (λ (y : Stepped). Settle w (core_after w c (Mark t) y).core) (sym p.2)
-    (one_log w (λ n y log. AreSettled w log) c (marked w c.parts t.0 u p.0).parts t.0 _ (Marked found) refl lt
-    (log_marked w t.0 _ found (entry_in w t.0 u p.0 None) hand.0 (c.logs t.0) b.session hand.1 b.some_session b.cell (is.settled t.0 lt)) is.settled)
+    (one_log w (λ n y log. AreSettled w log) c (marked w c.parts t.0 u p.0).parts t.0 u2 (Marked found) refl lt
+    (log_marked w t.0 u2 found (entry_in w t.0 u p.0 None) hand.0 (c.logs t.0) b.session hand.1 b.some_session b.cell (is.settled t.0 lt)) is.settled)
 settled_step w c v (Lift t) x world h is =
     let u : TaskPart = part_of c.parts t.0 in
     let at = exists_by (nat_lt t.0 (length c.parts.tasks)) (lift_step w c.parts t.0 u) x h in
@@ -144,16 +145,21 @@ quiet_by v (Lift t) h = h
 quiet_by v (Do t) h = h
 quiet_by v (Plant s p) h = h
 
+pub sound_step : (w : World) (c : CoreState) (v : View) (e : Event) (x : Stepped) → IsWorld w → parts_step w c.parts e ≡ Some x → Sound w c v → Sound w (core_after w c e x).core (planted_by v e)
+sound_step w c v e x world h is = record { ruled = ruled_step w c v e x world h is.ruled; quiet = quiet_by v e is.quiet; settled = settled_step w c v e x world h is }
+
 sound_from : (w : World) (d c : CoreState) (v : View) (events : List Event) → IsWorld w → Sound w d v → core_from w d events ≡ Some c → Sound w c (planter_from v events)
 sound_from w d c v [] world is h = subst (λ (x : CoreState). Sound w x v) (some_core d c h) is
 sound_from w d c v (e ∷ events) world is h =
     let at = through (λ b. core_from w b events) (core_step w d e) c h in
     let made = got_step w d e (parts_step w d.parts e) at.0 at.1 in
-    let next : Sound w (core_after w d e made.0).core (planted_by v e) = record { ruled = ruled_step w d v e made.0 world made.1 is.ruled; quiet = quiet_by v e is.quiet; settled = settled_step w d v e made.0 world made.1 is } in
-    sound_from w at.0.core c (planted_by v e) events world (subst (λ (x : CoreState). Sound w x (planted_by v e)) made.2 next) at.2
+    sound_from w at.0.core c (planted_by v e) events world (subst (λ (x : CoreState). Sound w x (planted_by v e)) made.2 (sound_step w d v e made.0 world made.1 is)) at.2
+
+pub sound_first : (w : World) → IsWorld w → Sound w (core_start w) (first_planter (length w.job.tasks))
+sound_first w world = record { ruled = ruled_first w world; quiet = refl; settled = λ t l. tt }
 
 pub run_sound : (w : World) (c : CoreState) (events : List Event) → IsWorld w → core_run w events ≡ Some c → Sound w c (planter_from (first_planter (length w.job.tasks)) events)
-run_sound w c events world h = sound_from w (core_start w) c (first_planter (length w.job.tasks)) events world (record { ruled = ruled_first w world; quiet = refl; settled = λ t l. tt }) h
+run_sound w c events world h = sound_from w (core_start w) c (first_planter (length w.job.tasks)) events world (sound_first w world) h
 
 -- ---- what a party marked, its log shows
 
@@ -275,20 +281,20 @@ party_is w logs t (suc n) (suc k) x h = let r = party_is w logs (t + 1) n k x h 
 ended_marked : (w : World) (t : ℕ) (u : TaskPart) (log : List Entry) (e : Ending) → u.stage ≡ Ended e → InStage w t u log u.stage → AreMarked log
 ended_marked w t u log e at is = subst (λ (s : Stage). InStage w t u log s) at is
 
-exact_into : (w : World) (c : CoreState) (v : View) → Sound w c v → (s p : ℕ) (f : Fact) → 0 < s → p < length w.places → has_fact (set_of w c.parts s p) f ≡ true → (t : ℕ) × (t < length c.parts.tasks) × HasShown s p f (c.logs t)
+pub exact_into : (w : World) (c : CoreState) (v : View) → Sound w c v → (s p : ℕ) (f : Fact) → 0 < s → p < length w.places → has_fact (set_of w c.parts s p) f ≡ true → (t : ℕ) × (t < length c.parts.tasks) × HasShown s p f (c.logs t)
 exact_into w c v is s p f pos lt h = let known = is.ruled.held.known s p f lt pos h in by known.0 known.1 known.2 known.3
   where
     by : (j : ℕ) (x : View) → get_elem? (v ∷ task_views w c.logs 0 (length w.job.tasks)) j ≡ some x → Has (s, p, f) x.marked → (t : ℕ) × (t < length c.parts.tasks) × HasShown s p f (c.logs t)
     by zero x at has =
         let same : v ≡ x = some-injective v x at in
-        let none : Has (s, p, f) [] = subst (λ (l : List (ℕ × ℕ × Fact)). Has (s, p, f) l) (ap (λ (y : View). y.marked) (sym same) ∙ is.quiet) has in
+        let none : Has {X = ℕ × ℕ × Fact} (s, p, f) [] = subst (λ (l : List (ℕ × ℕ × Fact)). Has (s, p, f) l) (ap (λ (y : View). y.marked) (sym same) ∙ is.quiet) has in
         absurd none
     by (suc k) x at has =
         let r = party_is w c.logs 0 (length w.job.tasks) k x at in
         let there : r.0 < length c.parts.tasks = omega (arith, r.1, is.ruled.count) in
         (r.0, there, marked_shown w r.0 (c.logs r.0) s p f (is.settled r.0 there) (subst (λ (y : View). Has (s, p, f) y.marked) r.2 has))
 
-exact_from : (w : World) (c : CoreState) (v : View) → Sound w c v → HaveEnded c.parts → (s p : ℕ) (f : Fact) → 0 < s → p < length w.places → (t : ℕ) → t < length c.parts.tasks → HasShown s p f (c.logs t) → has_fact (set_of w c.parts s p) f ≡ true
+pub exact_from : (w : World) (c : CoreState) (v : View) → Sound w c v → HaveEnded c.parts → (s p : ℕ) (f : Fact) → 0 < s → p < length w.places → (t : ℕ) → t < length c.parts.tasks → HasShown s p f (c.logs t) → has_fact (set_of w c.parts s p) f ≡ true
 exact_from w c v is ended s p f pos lt t there h =
     let stage = ended t there in
     let marks : AreMarked (c.logs t) = ended_marked w t (part_of c.parts t) (c.logs t) stage.0 stage.1 (is.ruled.hands t there) in

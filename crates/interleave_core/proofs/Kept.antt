@@ -34,6 +34,8 @@ same_or t n = grind arith
 pub IsCore-task : (w : World) (cells : List Cell) (sets : List FactSet) (plan : PlanView) (tasks : List RunningView) (t : ℕ) (r : RunningView) →
     IsCore w cells sets plan tasks → t < length tasks → IsRunning w t r → IsStage w t r.part r.part.stage → IsCore w cells sets plan (set tasks t r)
 IsCore-task w cells sets plan tasks t r is lt runs stage = record {
+  job = is.job;
+  phase = is.phase;
   same_plan = is.same_plan;
   is_plan = is.is_plan;
   places = is.places;
@@ -79,6 +81,8 @@ held_core w cells sets plan tasks t m r h is lt read e unspent hand =
 pub IsCore-cell : (w : World) (cells : List Cell) (sets : List FactSet) (plan : PlanView) (tasks : List RunningView) (p : ℕ) (x : Cell) →
     IsCore w cells sets plan tasks → p < length cells → IsWord (plan_in w) p x → IsCore w (set cells p x) sets plan tasks
 IsCore-cell w cells sets plan tasks p x is lt word = record {
+  job = is.job;
+  phase = is.phase;
   same_plan = is.same_plan;
   is_plan = is.is_plan;
   places = is.places;
@@ -111,6 +115,8 @@ pub IsCore-set : (w : World) (cells : List Cell) (sets : List FactSet) (plan : P
     IsCore w cells sets plan tasks → 0 < s → p < length w.places → index_of (length w.places) s p < length sets → is_within (kind_at (plan_in w) p) x ≡ true →
     IsCore w cells (set sets (index_of (length w.places) s p) x) plan tasks
 IsCore-set w cells sets plan tasks s p x is s0 p_in fits own = record {
+  job = is.job;
+  phase = is.phase;
   same_plan = is.same_plan;
   is_plan = is.is_plan;
   places = is.places;

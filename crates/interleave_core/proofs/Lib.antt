@@ -6,6 +6,7 @@ pub mod Logs
 pub mod Begun
 pub mod Ruled
 pub mod Exact
+pub mod Whole
 pub mod Nexts
 pub mod ReadLemmas
 pub mod RunningLemmas

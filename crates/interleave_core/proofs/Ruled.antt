@@ -73,7 +73,7 @@ task_role w t (e ∷ log) = note_role (plan_in w) e e.lifted e.found e.fact (tas
 no_number : (A : Type 0) (k : ℕ) → k < 0 → A
 no_number A k h = absurd (omega arith)
 
-view_at : (w : World) (logs : ℕ → List Entry) (t n k m : ℕ) → t + k ≡ m → k < n → get_elem? (task_views w logs t n) k ≡ some (task_view w m (logs m))
+pub view_at : (w : World) (logs : ℕ → List Entry) (t n k m : ℕ) → t + k ≡ m → k < n → get_elem? (task_views w logs t n) k ≡ some (task_view w m (logs m))
 view_at w logs t zero k m e lt = no_number _ k lt
 view_at w logs t (suc n) zero m e lt = let same : t ≡ m = omega (arith, e) in ap (λ (x : ℕ). some (task_view w x (logs x))) same
 view_at w logs t (suc n) (suc k) m e lt = view_at w logs (t + 1) n k m (omega (arith, e)) (omega (arith, lt))
@@ -138,7 +138,7 @@ due_same Lifting Nothing h = let f : false ≡ true = h in absurd cc
 due_same Nothing Marking h = let f : false ≡ true = h in absurd cc
 due_same Nothing Lifting h = let f : false ≡ true = h in absurd cc
 
-held_hand : (w : World) (t : ℕ) (u : TaskPart) (log : List Entry) (stage : Stage) (due : Due) (h : Hand) → InStage w t u log stage → in_hand due stage ≡ Some h → InHand w t u log h due
+pub held_hand : (w : World) (t : ℕ) (u : TaskPart) (log : List Entry) (stage : Stage) (due : Due) (h : Hand) → InStage w t u log stage → in_hand due stage ≡ Some h → InHand w t u log h due
 held_hand w t u log stage due h is e =
     let at = in_hand-stage due stage h e in
     subst (λ (d : Due). InHand w t u log h d) (due_same h.due due at.1) (subst (λ (s : Stage). InStage w t u log s) at.0 is)
@@ -204,7 +204,7 @@ subject_inside w (v ∷ []) p h = let n : None ≡ Some p = h in absurd cc
 subject_inside w (v ∷ (s ∷ vs)) p h = place_inside w s.at p h
 
 -- the place that is due, whether its visit is begun, and that no cell was in hand
-fetch_due : (w : World) (t : ℕ) (u : TaskPart) (log : List Entry) (stage : Stage) (p : ℕ) → IsWorld w → t < length w.job.tasks → InStage w t u log stage → place_due w t u stage ≡ Some p →
+pub fetch_due : (w : World) (t : ℕ) (u : TaskPart) (log : List Entry) (stage : Stage) (p : ℕ) → IsWorld w → t < length w.job.tasks → InStage w t u log stage → place_due w t u stage ≡ Some p →
     (p < length w.places) × ((visit_of (step_of w t u) (is_awaiting stage)).begun ≡ not (is_awaiting stage && is_execute (original_at (plan_in w) p))) × AreMarked log
 fetch_due w t u log Ready p world lt is h =
     let at = due_at (has_returned u.state) (is_spent w t u.state) (place_at w u.state.machine.cpu.ia) p h in
@@ -257,7 +257,7 @@ rule_fetch w c v t p world is lt due =
 
 -- ---- Mark
 
-kind_fact : (k : Kind) (went : Bool) → is_of_kind k (fact_of k went) ≡ true
+pub kind_fact : (k : Kind) (went : Bool) → is_of_kind k (fact_of k went) ≡ true
 kind_fact Straight went = refl
 kind_fact Conditional true = refl
 kind_fact Conditional false = refl
@@ -342,7 +342,7 @@ and_true false b h = let f : false ≡ true = h in absurd cc
 cell_is : (a b : Cell) → a.tag ≡ b.tag → a.half ≡ b.half → a ≡ b
 cell_is a b h k = ap (λ (n : ℕ). record { tag = n; half = a.half }) h ∙ ap (λ (n : ℕ). record { tag = b.tag; half = n }) k
 
-same_cells : (a b : Cell) → same_cell a b ≡ true → a ≡ b
+pub same_cells : (a b : Cell) → same_cell a b ≡ true → a ≡ b
 same_cells a b h = let at = and_true (nat_eq a.tag b.tag) (nat_eq a.half b.half) h in cell_is a b (eqb-true a.tag b.tag at.0) (eqb-true a.half b.half at.1)
 
 cell_itself : (a : Cell) → same_cell a a ≡ true
@@ -455,7 +455,7 @@ rule_do w c v t u is lt done =
 
 -- ---- Plant
 
-may_by : (a b c d : Bool) → (a && (b && (c && d))) ≡ true → (a ≡ true) × (b ≡ true) × (c ≡ true) × (d ≡ true)
+pub may_by : (a b c d : Bool) → (a && (b && (c && d))) ≡ true → (a ≡ true) × (b ≡ true) × (c ≡ true) × (d ≡ true)
 may_by true true true true h = (refl, refl, refl, refl)
 may_by true true true false h = let f : false ≡ true = h in absurd cc
 may_by true true false d h = let f : false ≡ true = h in absurd cc

@@ -9,3 +9,4 @@ pub mod Parties
 pub mod Reads
 pub mod Results
 pub mod Views
+pub mod Whole

@@ -10,6 +10,7 @@ use Rattle.module_area.specs.PlanView.{PlanView, IsPlan, kind_at, window_at}
 use Rattle.module_area.specs.declared.places.Place.{Place}
 use Rattle.brk_table.specs.Places.{AreSeen, ArePlaces, IsIn}
 use Rattle.space_map.specs.Space.{SpaceView, memory_of_space}
+use Rattle.session_book.specs.JobView.{IsJob}
 use Rattle.session_book.specs.Sessions.{task_of}
 use Rattle.interleave_core.specs.World.{World, TaskPart, Parts, first_part, plan_in, memory_in, budget_in}
 use Rattle.interleave_core.specs.Steps.{step_of, subject_place, is_spent}
@@ -58,6 +59,8 @@ pub record CoreView : Type 0 where
   pub parts : Parts
 
 pub record IsCore (w : World) (cells : List Cell) (sets : List FactSet) (plan : PlanView) (tasks : List RunningView) : Type 0 where
+  pub job : IsJob w.job
+  pub phase : length w.job.phases ≡ 1
   pub same_plan : plan ≡ plan_in w
   pub is_plan : IsPlan (plan_in w)
   pub places : ArePlaces w.places
