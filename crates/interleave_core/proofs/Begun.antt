@@ -42,7 +42,7 @@ sizes h = pick (nat_lt h 16384) (nat_lt h 49152)
 some_size : (h : ℕ) → 2 ≤ length_of h
 some_size h = elim (sizes h) [
   | inl two ↦ omega (arith, two)
-  | inr more ↦ elim more [ | inl four ↦ omega (arith, four) | inr six ↦ omega (arith, six) ]
+  | inr more ↦ elim more [ inl four ↦ omega (arith, four) | inr six ↦ omega (arith, six) ]
 ]
 
 differ : (a b : ℕ) → a ≢ b → (a == b) ≡ false

@@ -100,9 +100,11 @@ open_step w c v (Fetch t) x world h is up all =
     let p = got ℕ (fetched w c.parts t.0 u) (place_due w t.0 u u.stage) x at.1 in
     let in_job : t.0 < length w.job.tasks = subst (λ (n : ℕ). t.0 < n) is.ruled.count lt in
     let due = fetch_due w t.0 u (c.logs t.0) u.stage p.0 world in_job (is.ruled.hands t.0 lt) p.1 in
-    subst (λ (y : Stepped). Up w y.parts × AllEntered w (core_after w c (Fetch t) y).core) (sym p.2)
-    (up, one_log w (λ n y log. Entered w log) c (fetched w c.parts t.0 u p.0).parts t.0 (with_stage u (Holding (hand_at w c.parts (is_awaiting u.stage) p.0))) (Fetched (word_at c.parts.cells p.0)) refl lt
-    ((λ some. up p.0 due.0 some), all t.0 lt) all)
+    subst (λ (y : Stepped). Up w y.parts × AllEntered w (core_after w c (Fetch t) y).core) (sym p.2) (
+      up,
+      one_log w (λ n y log. Entered w log) c (fetched w c.parts t.0 u p.0).parts t.0 (with_stage u (Holding (hand_at w c.parts (is_awaiting u.stage) p.0))) (Fetched (word_at c.parts.cells p.0)) refl lt
+          ((λ some. up p.0 due.0 some), all t.0 lt) all,
+    )
 open_step w c v (Mark t) x world h is up all =
     let u : TaskPart = part_of c.parts t.0 in
     let at = exists_by (nat_lt t.0 (length c.parts.tasks)) (mark_step w c.parts t.0 u) x h in
@@ -215,7 +217,7 @@ has_old : (x : FactSet) (g f : Fact) → has_fact x f ≡ true → has_fact (wit
 has_old x g f h = has_fact-with_fact x g f ∙ or_left (has_fact x f) (same_fact f g) h
 
 has_by : (x : FactSet) (g f : Fact) → has_fact (with_fact x g) f ≡ true → (has_fact x f ≡ true) ⊎ (f ≡ g)
-has_by x g f h = elim (or_cases (has_fact x f) (same_fact f g) (sym (has_fact-with_fact x g f) ∙ h)) [ | inl old ↦ inl old | inr new ↦ inr (same_fact-true f g new) ]
+has_by x g f h = elim (or_cases (has_fact x f) (same_fact f g) (sym (has_fact-with_fact x g f) ∙ h)) [ inl old ↦ inl old | inr new ↦ inr (same_fact-true f g new) ]
 
 both_parts : (a b : Bool) → (a && b) ≡ true → (a ≡ true) × (b ≡ true)
 both_parts true true h = (refl, refl)
@@ -235,7 +237,7 @@ this_fact true x g f h same = subst (λ (y : Fact). has_fact (with_fact x g) y �
 this_fact false x g f h same = absurd cc
 
 which_fact : (b : Bool) (x : FactSet) (g f : Fact) → has_fact (if b then with_fact x g else x) f ≡ true → (has_fact x f ≡ true) ⊎ ((b ≡ true) × (g ≡ f))
-which_fact true x g f h = elim (has_by x g f h) [ | inl old ↦ inl old | inr new ↦ inr (refl, sym new) ]
+which_fact true x g f h = elim (has_by x g f h) [ inl old ↦ inl old | inr new ↦ inr (refl, sym new) ]
 which_fact false x g f h = inl h
 
 equal_test : (a b : ℕ) → a ≡ b → (a == b) ≡ true
