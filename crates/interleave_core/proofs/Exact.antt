@@ -19,7 +19,7 @@ use Rattle.module_area.specs.declared.parties.View.{View}
 use Rattle.module_area.proofs.FactLemmas.{is_full-true}
 use Rattle.module_area.proofs.PartyLemmas.{here-add_if, more-add_if}
 use Rattle.interleave_core.specs.World.{World, IsWorld, TaskPart, Parts, part_of, plan_in, first_part, first_parts, no_part}
-use Rattle.interleave_core.specs.Steps.{Stepped, parts_step, fetch_step, fetched, mark_step, marked, lift_step, lifted, do_step, done_by, may_plant, breakpoint_of, with_cell, with_due, with_stage, original_under, same_cell, in_hand, hand_at, step_of, visit_of, place_due, is_awaiting, task_done, set_of, fact_in, session_under}
+use Rattle.interleave_core.specs.Steps.{Stepped, parts_step, fetch_step, fetched, mark_step, marked, lift_step, lifted, do_step, done_by, may_plant, breakpoint_of, with_cell, with_due, with_stage, original_under, same_cell, in_hand, hand_at, step_of, visit_of, place_due, is_awaiting, task_done, set_of, fact_in}
 use Rattle.interleave_core.specs.Core.{CoreState, CoreStepped, core_start, core_step, core_after, core_from, core_run, log_after, entry_of}
 use Rattle.interleave_core.specs.Entries.{Entry}
 use Rattle.interleave_core.specs.Exact.{HasShown, HaveEnded, AreExact}
@@ -112,7 +112,7 @@ settled_step w c v (Mark t) x world h is =
     let p = got Hand (marked w c.parts t.0 u) (in_hand Marking u.stage) x at.1 in
     let hand = held_hand w t.0 u (c.logs t.0) u.stage Marking p.0 (is.ruled.hands t.0 lt) p.1 in
     let b : HasBreakpoint w p.0 = hand.3 in
-    let found : FactSet = set_of w c.parts (session_under p.0.cell.tag) p.0.place.0 in
+    let found : FactSet = set_of w c.parts (session_of p.0.cell.tag) p.0.place.0 in
     let u2 : TaskPart = with_due u p.0 (if is_full (kind_at (plan_in w) p.0.place.0) (with_fact found (fact_in w t.0 u p.0)) then Lifting else Nothing) in
     subst (λ (y : Stepped). Settle w (core_after w c (Mark t) y).core) (sym p.2)
     (one_log w (λ n y log. AreSettled w log) c (marked w c.parts t.0 u p.0).parts t.0 u2 (Marked found) refl lt

@@ -22,7 +22,7 @@ use Rattle.s370_exec.specs.Solo.{has_returned}
 use Rattle.module_area.specs.declared.cells.Cell.{Cell}
 use Rattle.svc_monitor.proofs.StepLemmas.{solo_step-rest_refused}
 use Rattle.interleave_core.specs.World.{World, IsWorld, TaskPart, Parts, part_of, memory_in, budget_in, place_at, place_from, no_part, first_part}
-use Rattle.interleave_core.specs.Steps.{Stepped, parts_step, fetch_step, fetched, mark_step, marked, lift_step, lifted, do_step, done_by, may_plant, breakpoint_of, with_cell, with_due, original_under, same_cell, in_hand, subject_place, no_visit, step_of, place_due, is_awaiting, is_spent, executed, stage_after, awaits_or, with_stage, unless_at, instruction_executed, subject_executed, task_done, same_due, hand_at, set_of, session_under}
+use Rattle.interleave_core.specs.Steps.{Stepped, parts_step, fetch_step, fetched, mark_step, marked, lift_step, lifted, do_step, done_by, may_plant, breakpoint_of, with_cell, with_due, original_under, same_cell, in_hand, subject_place, no_visit, step_of, place_due, is_awaiting, is_spent, executed, stage_after, awaits_or, with_stage, unless_at, instruction_executed, subject_executed, task_done, same_due, hand_at, set_of}
 use Rattle.interleave_core.specs.Entries.{Entry}
 use Rattle.interleave_core.specs.Core.{CoreState, CoreStepped, core_start, core_step, core_after, core_from, core_run, log_after}
 use Rattle.interleave_core.specs.Alone.{alone}
@@ -40,6 +40,7 @@ use Rattle.s370_state.specs.declared.endings.Ending.TheVariants.{Returned, Spent
 use Rattle.s370_state.specs.declared.endings.Next.{Next}
 use Rattle.s370_state.specs.declared.endings.Next.TheVariants.{On, Ended as NextEnded}
 use Rattle.session_book.specs.Sessions.{task_of, no_task, first_state}
+use Rattle.module_area.specs.Parties.{session_of}
 use Rattle.module_area.specs.PlainWords.{word_at}
 use Rattle.std.proofs.lemmas.Grind.{get_or-set_at}
 use Rattle.interleave_core.specs.declared.stage.Due.{Due}
@@ -267,7 +268,7 @@ log_step w c (Mark t) x world h is =
     let at = exists_by (nat_lt t.0 (length c.parts.tasks)) (mark_step w c.parts t.0 u) x h in
     let lt : t.0 < length c.parts.tasks = lt_of t.0 (length c.parts.tasks) at.0 in
     let p = got Hand (marked w c.parts t.0 u) (in_hand Marking u.stage) x at.1 in
-    let found : FactSet = set_of w c.parts (session_under p.0.cell.tag) p.0.place.0 in
+    let found : FactSet = set_of w c.parts (session_of p.0.cell.tag) p.0.place.0 in
     let stage = (in_hand-stage Marking u.stage p.0 p.1).0 in
     let before : logged (c.logs t.0) ≡ noted w (trace_of w t.0 u ++ visits_in_hand (Holding p.0) (visits_of w t.0 u)) = subst (λ (s : Stage). logged (c.logs t.0) ≡ noted w (trace_of w t.0 u ++ visits_in_hand s (visits_of w t.0 u))) stage (is.logs t.0 lt) in
     subst (λ (y : Stepped). (length y.parts.tasks ≡ length w.job.tasks) × HaveLogs w y.parts (core_after w c (Mark t) y).core.logs) (sym p.2)

@@ -36,7 +36,7 @@ use Rattle.module_area.proofs.PartyLemmas.{here-add_if}
 use Rattle.module_area.proofs.StepLemmas.{breakpoint_form, fetches, marks, lifts, plants, spent_not_root, spent_not_task}
 use Rattle.session_book.specs.Sessions.{task_of, no_task}
 use Rattle.interleave_core.specs.World.{World, IsWorld, TaskPart, Parts, part_of, plan_in, place_at, first_parts, first_part, no_part}
-use Rattle.interleave_core.specs.Steps.{Stepped, parts_step, fetch_step, fetched, mark_step, marked, lift_step, lifted, do_step, done_by, may_plant, breakpoint_of, with_cell, with_due, with_stage, original_under, same_cell, same_due, in_hand, hand_at, subject_place, step_of, visit_of, place_due, is_awaiting, is_spent, due_after_fetch, executed, stage_after, awaits_or, unless_at, instruction_executed, subject_executed, task_done, set_of, fact_in, session_under}
+use Rattle.interleave_core.specs.Steps.{Stepped, parts_step, fetch_step, fetched, mark_step, marked, lift_step, lifted, do_step, done_by, may_plant, breakpoint_of, with_cell, with_due, with_stage, original_under, same_cell, same_due, in_hand, hand_at, subject_place, step_of, visit_of, place_due, is_awaiting, is_spent, due_after_fetch, executed, stage_after, awaits_or, unless_at, instruction_executed, subject_executed, task_done, set_of, fact_in}
 use Rattle.interleave_core.specs.Core.{CoreState, CoreStepped, core_start, core_step, core_after, core_from, core_run, log_after, entry_of}
 use Rattle.interleave_core.specs.Entries.{Entry}
 use Rattle.interleave_core.specs.Parties.{with_mark, with_lift, with_notes, task_view, task_views, numbers, first_planter, planted_by, planter_from, KeepRule}
@@ -146,14 +146,8 @@ held_hand w t u log stage due h is e =
 of_window : (s : ℕ) → 0 < s → session_of (window_tag s) ≡ s
 of_window s h = omega arith
 
-under_window : (s : ℕ) → 0 < s → session_under (window_tag s) ≡ s
-under_window s h = omega arith
-
 hand_of : (w : World) (h : Hand) (b : HasBreakpoint w h) → session_of h.cell.tag ≡ b.session
 hand_of w h b = ap (λ (c : Cell). session_of c.tag) b.cell ∙ of_window b.session b.some_session
-
-hand_under : (w : World) (h : Hand) (b : HasBreakpoint w h) → session_under h.cell.tag ≡ b.session
-hand_under w h b = ap (λ (c : Cell). session_under c.tag) b.cell ∙ under_window b.session b.some_session
 
 -- ---- the rule, and what the events need besides
 
@@ -279,13 +273,13 @@ marked_in w t u h rest found false full marked has = ((λ f b some. (found, refl
 -- the sets with the fact that a mark adds
 module _ (w : World) (c : Parts) (h : Hand) (b : HasBreakpoint w h) (f : Fact) (plan : IsPlan (plan_in w)) (sets : length c.sets ≡ length w.job.sessions * length w.places) where
   abbrev grown : FactSet
-  grown = with_fact (set_of w c (session_under h.cell.tag) h.place.0) f
+  grown = with_fact (set_of w c (session_of h.cell.tag) h.place.0) f
 
   abbrev index : ℕ
-  index = index_of (length w.places) (session_under h.cell.tag) h.place.0
+  index = index_of (length w.places) (session_of h.cell.tag) h.place.0
 
   index_is : index_of (length w.places) b.session h.place.0 ≡ index
-  index_is = ap (λ (s : ℕ). index_of (length w.places) s h.place.0) (sym (hand_under w h b))
+  index_is = ap (λ (s : ℕ). index_of (length w.places) s h.place.0) (sym (hand_of w h b))
 
   fits : index < length c.sets
   fits =
@@ -295,14 +289,14 @@ module _ (w : World) (c : Parts) (h : Hand) (b : HasBreakpoint w h) (f : Fact) (
 
   set_here : get_or (set c.sets index grown) (index_of (length w.places) b.session h.place.0) no_facts ≡ with_fact (set_of w c b.session h.place.0) f
   set_here = get_or-set_at c.sets index (index_of (length w.places) b.session h.place.0) grown no_facts index_is fits
-      ∙ ap (λ (s : ℕ). with_fact (set_of w c s h.place.0) f) (hand_under w h b)
+      ∙ ap (λ (s : ℕ). with_fact (set_of w c s h.place.0) f) (hand_of w h b)
 
   set_other : (s q : ℕ) → q < length w.places → 0 < s → ((s ≡ b.session) × (q ≡ h.place.0) → ⊥) → get_or (set c.sets index grown) (index_of (length w.places) s q) no_facts ≡ set_of w c s q
   set_other s q lt pos n = get_or-set_other c.sets index (index_of (length w.places) s q) grown no_facts
       (λ e. n (same_index (length w.places) s q b.session h.place.0 pos b.some_session lt b.inside (e ∙ sym index_is)))
 
 pub rule_mark : (w : World) (c : CoreState) (v : View) (t : ℕ) (h : Hand) → Ruled w c v → t < length c.parts.tasks → in_hand Marking (part_of c.parts t).stage ≡ Some h →
-    Ruled w (record { parts = (marked w c.parts t (part_of c.parts t) h).parts; logs = logs_after w c (marked w c.parts t (part_of c.parts t) h).parts t (Marked (set_of w c.parts (session_under h.cell.tag) h.place.0)) }) v
+    Ruled w (record { parts = (marked w c.parts t (part_of c.parts t) h).parts; logs = logs_after w c (marked w c.parts t (part_of c.parts t) h).parts t (Marked (set_of w c.parts (session_of h.cell.tag) h.place.0)) }) v
 rule_mark w c v t h is lt due =
     let u : TaskPart = part_of c.parts t in
     let there : t < length w.job.tasks = subst (λ (n : ℕ). t < n) is.count lt in
@@ -311,7 +305,7 @@ rule_mark w c v t h is lt due =
     let b : HasBreakpoint w h = hand.3 in
     let f : Fact = fact_in w t u h in
     let p : ℕ = h.place.0 in
-    let found : FactSet = set_of w c.parts (session_under h.cell.tag) p in
+    let found : FactSet = set_of w c.parts (session_of h.cell.tag) p in
     let d : Due = if is_full (kind_at (plan_in w) p) (with_fact found f) then Lifting else Nothing in
     let u2 : TaskPart = with_due u h d in
     let view : View = task_view w t (c.logs t) in
@@ -320,11 +314,11 @@ rule_mark w c v t h is lt due =
     let logged : log_after w t u2 (Marked found) (c.logs t) ≡ entry_in w t u h (Some found) ∷ rest = ap (log_after w t u2 (Marked found)) hand.1 in
     let view_is : marking (plan_in w) b.session p f (set_of w c.parts b.session p) view ≡ task_view w t (log_after w t u2 (Marked found) (c.logs t)) =
     ap (λ (l : List Entry). marking (plan_in w) b.session p f (set_of w c.parts b.session p) (task_view w t l)) hand.1
-    ∙ (ap (λ (s : ℕ). marking (plan_in w) b.session p f (set_of w c.parts s p) (task_view w t (entry_in w t u h None ∷ rest))) (sym (hand_under w h b))
+    ∙ (ap (λ (s : ℕ). marking (plan_in w) b.session p f (set_of w c.parts s p) (task_view w t (entry_in w t u h None ∷ rest))) (sym (hand_of w h b))
     ∙ (ap (λ (s : ℕ). marking (plan_in w) s p f found (task_view w t (entry_in w t u h None ∷ rest))) (sym (hand_of w h b))
     ∙ ap (task_view w t) (sym logged))) in
     after_task w c v (marked w c.parts t u h).parts t u2 (Marked found) (marking (plan_in w) b.session p f (set_of w c.parts b.session p) view) is lt refl is.cells
-    (length-set c.parts.sets (index_of (length w.places) (session_under h.cell.tag) p) (with_fact found f) ∙ is.sets)
+    (length-set c.parts.sets (index_of (length w.places) (session_of h.cell.tag) p) (with_fact found f) ∙ is.sets)
     (marks (plan_in w) (λ q. word_at c.parts.cells q) (λ s q. set_of w c.parts s q) (v ∷ task_views w c.logs 0 (length w.job.tasks)) is.held (suc t) view (view_at w c.logs 0 (length w.job.tasks) t t (omega arith) there) live
     b.session p f b.inside b.some_session pending (kind_fact (kind_at (plan_in w) p) (visit_of (step_of w t u) h.subject).went) (λ q. word_at c.parts.cells q) (λ s q. set_of w (marked w c.parts t u h).parts s q)
     (λ q l. refl) (set_here w c.parts h b f is.held.is_plan is.sets) (set_other w c.parts h b f is.held.is_plan is.sets))
