@@ -16,7 +16,7 @@ differ : (a b : ℕ) → a ≢ b → (a == b) ≡ false
 differ a b h = grind (arith, nat_tests)
 
 -- it is the only one
-there : (n a : ℕ) (places : List Place) (k : ℕ) → k < length places → (place_of places k).at ≡ a →
+pub there : (n a : ℕ) (places : List Place) (k : ℕ) → k < length places → (place_of places k).at ≡ a →
     ((q : ℕ) → q < length places → (place_of places q).at ≡ a → q ≡ k) → place_from n places a ≡ Some (n + k)
 there n a [] k l at only = absurd (omega arith)
 there n a (p ∷ ps) zero l at only = let number : n ≡ n + 0 = omega arith in rw (same a p.at (sym at)) (ap Some number)

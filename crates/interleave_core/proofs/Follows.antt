@@ -4,13 +4,26 @@ use Rattle.std.specs.declared.result.Result.{Result}
 use Rattle.std.specs.declared.result.Result.TheVariants.{Ok, Err}
 use Rattle.interleave_core.specs.World.{World, IsWorld, Parts}
 use Rattle.interleave_core.specs.Steps.{Stepped, parts_step}
-use Rattle.interleave_core.specs.Core.{CoreState, CoreStepped, core_start, core_step, core_after, core_from, core_run, go_on, Follows, FollowsAll, FollowsNone}
+use Rattle.interleave_core.specs.Core.{CoreState, CoreStepped, core_start, core_step, core_after, core_from, core_run, go_on, Stands, Follows, FollowsAll, FollowsNone}
 use Rattle.interleave_core.specs.declared.events.Event.{Event}
 use Rattle.interleave_core.specs.declared.events.NotPossible.{NotPossible}
 use Rattle.interleave_core.specs.declared.events.Shown.{Shown}
 use Rattle.interleave_core.proofs.Runs.{core_from-push}
 use Rattle.interleave_core.proofs.Logs.{run_logs}
 use Rattle.interleave_core.proofs.Alone.{run_alone}
+use Rattle.interleave_core.proofs.Whole.{run_whole}
+use Rattle.interleave_core.proofs.Exact.{run_exact}
+use Rattle.interleave_core.proofs.Ruled.{run_keeps}
+
+-- after every list of events
+pub run_stands : (w : World) (c : CoreState) (events : List Event) → IsWorld w → core_run w events ≡ Some c → Stands w events c
+run_stands w c events world run = record {
+  alone = run_alone w c events run;
+  logs = run_logs w c events world run;
+  rule = run_keeps w c events world run;
+  exact = run_exact w c events world run;
+  whole = run_whole w c events world run;
+}
 
 follows_one : (w : World) (old new : Parts) (e : Event) (shown : Shown) → IsWorld w → parts_step w old e ≡ Some (record { parts = new; shown = shown }) → FollowsAll w old e new shown
 follows_one w old new e shown world h = λ events c run same.
@@ -21,8 +34,7 @@ follows_one w old new e shown world h = λ events c run same.
       step = step;
       run = core_from-push w (core_start w) c events e _ run step;
       stored = refl;
-      alone = run_alone w _ (events ++ e ∷ []) (core_from-push w (core_start w) c events e _ run step);
-      logs = run_logs w _ (events ++ e ∷ []) world (core_from-push w (core_start w) c events e _ run step);
+      stands = run_stands w _ (events ++ e ∷ []) world (core_from-push w (core_start w) c events e _ run step);
     }
 
 pub follows : (w : World) (old new : Parts) (e : Event) (r : Result Shown NotPossible) → IsWorld w → IfOk r (λ shown. parts_step w old e ≡ Some (record { parts = new; shown = shown })) → IfOk r (FollowsAll w old e new)

@@ -3,6 +3,10 @@ pub mod Finds
 pub mod Follows
 pub mod Kept
 pub mod Logs
+pub mod Begun
+pub mod Ruled
+pub mod Exact
+pub mod Whole
 pub mod Nexts
 pub mod ReadLemmas
 pub mod RunningLemmas

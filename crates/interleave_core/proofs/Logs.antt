@@ -22,7 +22,7 @@ use Rattle.s370_exec.specs.Solo.{has_returned}
 use Rattle.module_area.specs.declared.cells.Cell.{Cell}
 use Rattle.svc_monitor.proofs.StepLemmas.{solo_step-rest_refused}
 use Rattle.interleave_core.specs.World.{World, IsWorld, TaskPart, Parts, part_of, memory_in, budget_in, place_at, place_from, no_part, first_part}
-use Rattle.interleave_core.specs.Steps.{Stepped, parts_step, fetch_step, fetched, mark_step, marked, lift_step, lifted, do_step, done_by, may_plant, breakpoint_of, with_cell, with_due, original_under, same_cell, in_hand, subject_place, no_visit, step_of, place_due, is_awaiting, is_spent, executed, stage_after, awaits_or, with_stage, unless_at, instruction_executed, subject_executed, task_done, same_due, hand_at, set_of, session_under}
+use Rattle.interleave_core.specs.Steps.{Stepped, parts_step, fetch_step, fetched, mark_step, marked, lift_step, lifted, do_step, done_by, may_plant, breakpoint_of, with_cell, with_due, original_under, same_cell, in_hand, subject_place, no_visit, step_of, place_due, is_awaiting, is_spent, executed, stage_after, awaits_or, with_stage, unless_at, instruction_executed, subject_executed, task_done, same_due, hand_at, set_of}
 use Rattle.interleave_core.specs.Entries.{Entry}
 use Rattle.interleave_core.specs.Core.{CoreState, CoreStepped, core_start, core_step, core_after, core_from, core_run, log_after}
 use Rattle.interleave_core.specs.Alone.{alone}
@@ -40,6 +40,7 @@ use Rattle.s370_state.specs.declared.endings.Ending.TheVariants.{Returned, Spent
 use Rattle.s370_state.specs.declared.endings.Next.{Next}
 use Rattle.s370_state.specs.declared.endings.Next.TheVariants.{On, Ended as NextEnded}
 use Rattle.session_book.specs.Sessions.{task_of, no_task, first_state}
+use Rattle.module_area.specs.Parties.{session_of}
 use Rattle.module_area.specs.PlainWords.{word_at}
 use Rattle.std.proofs.lemmas.Grind.{get_or-set_at}
 use Rattle.interleave_core.specs.declared.stage.Due.{Due}
@@ -56,15 +57,18 @@ noted-append w (v ∷ a) b = ap (λ (n : List Noted). note w v (place_at w v.at)
 same : (a b : ℕ) → (a == b) ≡ true → a ≡ b
 same a b h = grind (arith, nat_tests)
 
+some_number : (a b : ℕ) → Some a ≡ Some b → a ≡ b
+some_number a b h = cc
+
 -- a place that was found begins there
-found_at : (n a p : ℕ) (places : List Place) → place_from n places a ≡ Some p → (k : ℕ) × (k < length places) × ((place_of places k).at ≡ a)
+pub found_at : (n a p : ℕ) (places : List Place) → place_from n places a ≡ Some p → (k : ℕ) × (k < length places) × ((place_of places k).at ≡ a) × (n + k ≡ p)
 found_at n a p [] h = let f : None ≡ Some p = h in absurd cc
 found_at n a p (x ∷ xs) h = by (a == x.at) refl h (λ g. found_at (n + 1) a p xs g)
   where
-    by : (b : Bool) → (a == x.at) ≡ b → (if b then Some n else place_from (n + 1) xs a) ≡ Some p → (place_from (n + 1) xs a ≡ Some p → (k : ℕ) × (k < length xs) × ((place_of xs k).at ≡ a)) →
-        (k : ℕ) × (k < length (x ∷ xs)) × ((place_of (x ∷ xs) k).at ≡ a)
-    by true e g more = (zero, omega arith, sym (same a x.at e))
-    by false e g more = let r = more g in (suc r.0, omega (arith, r.1), r.2)
+    by : (b : Bool) → (a == x.at) ≡ b → (if b then Some n else place_from (n + 1) xs a) ≡ Some p → (place_from (n + 1) xs a ≡ Some p → (k : ℕ) × (k < length xs) × ((place_of xs k).at ≡ a) × (n + 1 + k ≡ p)) →
+        (k : ℕ) × (k < length (x ∷ xs)) × ((place_of (x ∷ xs) k).at ≡ a) × (n + k ≡ p)
+    by true e g more = let is : n ≡ p = some_number n p g in (zero, omega arith, sym (same a x.at e), omega (arith, is))
+    by false e g more = let r = more g in (suc r.0, omega (arith, r.1), r.2, omega (arith, r.3))
 
 tests_pass : (odd reached : Bool) (x y : Option Ending) → odd ≡ false → reached ≡ true → (if odd then x else (if reached then None else y)) ≡ None
 tests_pass odd reached x y o r = rw (o, r) refl
@@ -96,7 +100,7 @@ tests_by m s (Some e) h = elim (solo_step-unread m s s.machine.cpu.ia e refl h) 
 pub visits_are : (m : Memory) (s : State) → ((solo_step m s).visits ≡ []) ⊎ ((v : Visit) × (vs : List Visit) × ((solo_step m s).visits ≡ v ∷ vs) × (v.at ≡ s.machine.cpu.ia))
 visits_are m s = tests_by m s (whole_tests m s.machine.bytes s.machine.cpu.ia) refl
 
-pass_by : (m : Memory) (s : State) (tests : Option Ending) → first_tests m s.machine.cpu.ia ≡ None → whole_tests m s.machine.bytes s.machine.cpu.ia ≡ tests →
+pub pass_by : (m : Memory) (s : State) (tests : Option Ending) → first_tests m s.machine.cpu.ia ≡ None → whole_tests m s.machine.bytes s.machine.cpu.ia ≡ tests →
     (v : Visit) × (vs : List Visit) × ((solo_step m s).visits ≡ v ∷ vs) × (v.at ≡ s.machine.cpu.ia)
 pass_by m s None pass h = visits_by m s (code_at m s.machine.bytes s.machine.cpu.ia (half_at m s.machine.bytes s.machine.cpu.ia)) _ h refl refl
 pass_by m s (Some e) pass h =
@@ -159,7 +163,7 @@ visits_of w t u = (step_of w t u).visits
 few : (w : World) (t : ℕ) (u : TaskPart) → length (visits_of w t u) ≤ 2
 few w t u = solo_step-visits (memory_in w t) u.state
 
-due_at : (returned spent : Bool) (at : Option ℕ) (p : ℕ) → (if returned then None else (if spent then None else at)) ≡ Some p → at ≡ Some p
+pub due_at : (returned spent : Bool) (at : Option ℕ) (p : ℕ) → (if returned then None else (if spent then None else at)) ≡ Some p → at ≡ Some p
 due_at true spent at p h = let n : None ≡ Some p = h in absurd cc
 due_at false true at p h = let n : None ≡ Some p = h in absurd cc
 due_at false false at p h = h
@@ -218,10 +222,10 @@ log_done w t u v (Holding x) log at h g e = by (same_due x.due Nothing) x.subjec
     by true false k f = subst (λ (y : TaskPart). HasLog w t y log) (some_part _ v k)
         (log_whole w t u log (subject_place w (visits_of w t u)) refl (ap has_ended at) (g.inside (ap is_inside at)).0 g f)
 
-itself : (t : ℕ) → nat_eq t t ≡ true
+pub itself : (t : ℕ) → nat_eq t t ≡ true
 itself t = grind (arith, nat_tests)
 
-apart : (t s : ℕ) → s ≢ t → nat_eq t s ≡ false
+pub apart : (t s : ℕ) → s ≢ t → nat_eq t s ≡ false
 apart t s h = grind (arith, nat_tests)
 
 -- what holds of a core after every list of events
@@ -230,22 +234,23 @@ pub record Logged (w : World) (c : CoreState) : Type 0 where
   pub go : AllGo w c.parts
   pub logs : HaveLogs w c.parts c.logs
 
-one_log : (w : World) (c : CoreState) (d : Parts) (t : ℕ) (u : TaskPart) (shown : Shown) → d.tasks ≡ set c.parts.tasks t u → t < length c.parts.tasks → HasLog w t u (log_after w t u shown (c.logs t)) → Logged w c →
-    HaveLogs w d (λ s. if nat_eq t s then log_after w s (part_of d s) shown (c.logs s) else c.logs s)
-one_log w c d t u shown e lt own is s l =
+-- what holds of each task and its log, after one task's event
+pub one_log : (w : World) (P : ℕ → TaskPart → List Entry → Type 0) (c : CoreState) (d : Parts) (t : ℕ) (u : TaskPart) (shown : Shown) → d.tasks ≡ set c.parts.tasks t u → t < length c.parts.tasks → P t u (log_after w t u shown (c.logs t)) →
+    ((s : ℕ) → s < length c.parts.tasks → P s (part_of c.parts s) (c.logs s)) → (s : ℕ) → s < length d.tasks → P s (part_of d s) (if nat_eq t s then log_after w s (part_of d s) shown (c.logs s) else c.logs s)
+one_log w P c d t u shown e lt own is s l =
     let inside : s < length c.parts.tasks = subst (λ (n : ℕ). s < n) (ap (λ (x : List TaskPart). length x) e ∙ length-set c.parts.tasks t u) l in
     let there : part_of d s ≡ get_or (set c.parts.tasks t u) s no_part = ap (λ (x : List TaskPart). get_or x s no_part) e in
     elim (same_or s t) [
       | inl same ↦
           let part : part_of d s ≡ u = there ∙ get_or-set_at c.parts.tasks t s u no_part same lt in
           let test : nat_eq t s ≡ true = ap (nat_eq t) same ∙ itself t in
-          let here : HasLog w s u (log_after w s u shown (c.logs s)) = subst (λ (n : ℕ). HasLog w n u (log_after w n u shown (c.logs n))) (sym same) own in
-          subst (λ (b : Bool). HasLog w s (part_of d s) (if b then log_after w s (part_of d s) shown (c.logs s) else c.logs s)) (sym test)
-          (subst (λ (x : TaskPart). HasLog w s x (log_after w s x shown (c.logs s))) (sym part) here)
+          let here : P s u (log_after w s u shown (c.logs s)) = subst (λ (n : ℕ). P n u (log_after w n u shown (c.logs n))) (sym same) own in
+          subst (λ (b : Bool). P s (part_of d s) (if b then log_after w s (part_of d s) shown (c.logs s) else c.logs s)) (sym test)
+          (subst (λ (x : TaskPart). P s x (log_after w s x shown (c.logs s))) (sym part) here)
       | inr other ↦
           let part : part_of d s ≡ part_of c.parts s = there ∙ get_or-set_other c.parts.tasks t s u no_part other in
-          subst (λ (b : Bool). HasLog w s (part_of d s) (if b then log_after w s (part_of d s) shown (c.logs s) else c.logs s)) (sym (apart t s other))
-          (subst (λ (x : TaskPart). HasLog w s x (c.logs s)) (sym part) (is.logs s inside))
+          subst (λ (b : Bool). P s (part_of d s) (if b then log_after w s (part_of d s) shown (c.logs s) else c.logs s)) (sym (apart t s other))
+          (subst (λ (x : TaskPart). P s x (c.logs s)) (sym part) (is s inside))
     ]
 
 log_step : (w : World) (c : CoreState) (e : Event) (x : Stepped) → IsWorld w → parts_step w c.parts e ≡ Some x → Logged w c → (length x.parts.tasks ≡ length w.job.tasks) × HaveLogs w x.parts (core_after w c e x).core.logs
@@ -257,17 +262,17 @@ log_step w c (Fetch t) x world h is =
     let seen = world.seen t.0 (subst (λ (n : ℕ). t.0 < n) is.count lt) in
     let own = log_fetch w t.0 u u.stage p.0 (word_at c.parts.cells p.0) Nothing (c.logs t.0) seen world.places refl p.1 (is.logs t.0 lt) in
     subst (λ (y : Stepped). (length y.parts.tasks ≡ length w.job.tasks) × HaveLogs w y.parts (core_after w c (Fetch t) y).core.logs) (sym p.2)
-    (length-set c.parts.tasks t.0 _ ∙ is.count, one_log w c (fetched w c.parts t.0 u p.0).parts t.0 (with_stage u (Holding (hand_at w c.parts (is_awaiting u.stage) p.0))) (Fetched (word_at c.parts.cells p.0)) refl lt own is)
+    (length-set c.parts.tasks t.0 _ ∙ is.count, one_log w (λ n y log. HasLog w n y log) c (fetched w c.parts t.0 u p.0).parts t.0 (with_stage u (Holding (hand_at w c.parts (is_awaiting u.stage) p.0))) (Fetched (word_at c.parts.cells p.0)) refl lt own is.logs)
 log_step w c (Mark t) x world h is =
     let u : TaskPart = part_of c.parts t.0 in
     let at = exists_by (nat_lt t.0 (length c.parts.tasks)) (mark_step w c.parts t.0 u) x h in
     let lt : t.0 < length c.parts.tasks = lt_of t.0 (length c.parts.tasks) at.0 in
     let p = got Hand (marked w c.parts t.0 u) (in_hand Marking u.stage) x at.1 in
-    let found : FactSet = set_of w c.parts (session_under p.0.cell.tag) p.0.place.0 in
+    let found : FactSet = set_of w c.parts (session_of p.0.cell.tag) p.0.place.0 in
     let stage = (in_hand-stage Marking u.stage p.0 p.1).0 in
     let before : logged (c.logs t.0) ≡ noted w (trace_of w t.0 u ++ visits_in_hand (Holding p.0) (visits_of w t.0 u)) = subst (λ (s : Stage). logged (c.logs t.0) ≡ noted w (trace_of w t.0 u ++ visits_in_hand s (visits_of w t.0 u))) stage (is.logs t.0 lt) in
     subst (λ (y : Stepped). (length y.parts.tasks ≡ length w.job.tasks) × HaveLogs w y.parts (core_after w c (Mark t) y).core.logs) (sym p.2)
-    (length-set c.parts.tasks t.0 _ ∙ is.count, one_log w c (marked w c.parts t.0 u p.0).parts t.0 _ (Marked found) refl lt (found_logged w t.0 u found (c.logs t.0) ∙ before) is)
+    (length-set c.parts.tasks t.0 _ ∙ is.count, one_log w (λ n y log. HasLog w n y log) c (marked w c.parts t.0 u p.0).parts t.0 _ (Marked found) refl lt (found_logged w t.0 u found (c.logs t.0) ∙ before) is.logs)
 log_step w c (Lift t) x world h is =
     let u : TaskPart = part_of c.parts t.0 in
     let at = exists_by (nat_lt t.0 (length c.parts.tasks)) (lift_step w c.parts t.0 u) x h in
@@ -278,14 +283,14 @@ log_step w c (Lift t) x world h is =
     let before : logged (c.logs t.0) ≡ noted w (trace_of w t.0 u ++ visits_in_hand (Holding p.0) (visits_of w t.0 u)) = subst (λ (s : Stage). logged (c.logs t.0) ≡ noted w (trace_of w t.0 u ++ visits_in_hand s (visits_of w t.0 u))) stage (is.logs t.0 lt) in
     let tasks : (lifted w c.parts t.0 u p.0).parts.tasks ≡ set c.parts.tasks t.0 (with_due u p.0 Nothing) = ap (λ (ts : List TaskPart). set ts t.0 (with_due u p.0 Nothing)) (lifted_tasks (same_cell (word_at c.parts.cells p.0.place.0) p.0.cell) c.parts p.0.place.0 (original_under w p.0.place.0 p.0.cell)) in
     subst (λ (y : Stepped). (length y.parts.tasks ≡ length w.job.tasks) × HaveLogs w y.parts (core_after w c (Lift t) y).core.logs) (sym p.2)
-    (ap (λ (ts : List TaskPart). length ts) tasks ∙ (length-set c.parts.tasks t.0 _ ∙ is.count), one_log w c (lifted w c.parts t.0 u p.0).parts t.0 (with_due u p.0 Nothing) (Lifted taken) tasks lt (lifted_logged w t.0 (with_due u p.0 Nothing) taken (c.logs t.0) ∙ before) is)
+    (ap (λ (ts : List TaskPart). length ts) tasks ∙ (length-set c.parts.tasks t.0 _ ∙ is.count), one_log w (λ n y log. HasLog w n y log) c (lifted w c.parts t.0 u p.0).parts t.0 (with_due u p.0 Nothing) (Lifted taken) tasks lt (lifted_logged w t.0 (with_due u p.0 Nothing) taken (c.logs t.0) ∙ before) is.logs)
 log_step w c (Do t) x world h is =
     let u : TaskPart = part_of c.parts t.0 in
     let at = exists_by (nat_lt t.0 (length c.parts.tasks)) (do_step w c.parts t.0 u) x h in
     let lt : t.0 < length c.parts.tasks = lt_of t.0 (length c.parts.tasks) at.0 in
     let v = got TaskPart (done_by c.parts t.0) (task_done w t.0 u u.stage) x at.1 in
     subst (λ (y : Stepped). (length y.parts.tasks ≡ length w.job.tasks) × HaveLogs w y.parts (core_after w c (Do t) y).core.logs) (sym v.2)
-    (length-set c.parts.tasks t.0 v.0 ∙ is.count, one_log w c (done_by c.parts t.0 v.0).parts t.0 v.0 Done refl lt (log_done w t.0 u v.0 u.stage (c.logs t.0) refl v.1 (is.go t.0 lt) (is.logs t.0 lt)) is)
+    (length-set c.parts.tasks t.0 v.0 ∙ is.count, one_log w (λ n y log. HasLog w n y log) c (done_by c.parts t.0 v.0).parts t.0 v.0 Done refl lt (log_done w t.0 u v.0 u.stage (c.logs t.0) refl v.1 (is.go t.0 lt) (is.logs t.0 lt)) is.logs)
 log_step w c (Plant s p) x world h is =
     let made : (may_plant w c.parts s.0 p.0 ≡ true) × (Some (record { parts = with_cell c.parts p.0 (breakpoint_of s.0); shown = Planted }) ≡ Some x) =
     exists_by (may_plant w c.parts s.0 p.0) (Some (record { parts = with_cell c.parts p.0 (breakpoint_of s.0); shown = Planted })) x h in
@@ -306,7 +311,7 @@ log_first w = record {
       subst (λ (u : TaskPart). HasLog w t u []) (sym (get_or-map first_part w.job.tasks t no_task no_part lt)) (none_yet (memory_in w t) w (first_state (task_of w.job t)) refl);
 }
 
-got_step : (w : World) (d : CoreState) (e : Event) (o : Option Stepped) (y : CoreStepped) → option_map (core_after w d e) o ≡ Some y → (x : Stepped) × (o ≡ Some x) × ((core_after w d e x).core ≡ y.core)
+pub got_step : (w : World) (d : CoreState) (e : Event) (o : Option Stepped) (y : CoreStepped) → option_map (core_after w d e) o ≡ Some y → (x : Stepped) × (o ≡ Some x) × ((core_after w d e x).core ≡ y.core)
 got_step w d e None y h = let n : None ≡ Some y = h in absurd cc
 got_step w d e (Some x) y h = (x, refl, ap (λ (z : CoreStepped). z.core) (some_core_stepped (core_after w d e x) y h))
 

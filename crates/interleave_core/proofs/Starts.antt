@@ -61,7 +61,11 @@ Fits-core w cells sets plan tasks is = record {
 
 pub IsWorld-core : (w : World) (cells : List Cell) (sets : List FactSet) (plan : PlanView) (tasks : List RunningView) → IsCore w cells sets plan tasks → IsWorld w
 IsWorld-core w cells sets plan tasks is = record {
+  job = is.job;
+  phase = is.phase;
+  is_plan = is.is_plan;
   places = is.places;
+  inside = is.inside;
   seen = λ t l. (is.running t no_running (subst (λ (n : ℕ). t < n) (sym is.count) l)).seen;
 }
 

@@ -5,7 +5,10 @@ use Rattle.cov_base.specs.declared.facts.Fact.{Fact}
 use Rattle.module_area.specs.declared.cells.Cell.{Cell}
 use Rattle.interleave_core.specs.Alone.{AreAlone}
 use Rattle.interleave_core.specs.Entries.{Entry}
+use Rattle.interleave_core.specs.Exact.{AreExact}
 use Rattle.interleave_core.specs.Logs.{HaveLogs}
+use Rattle.interleave_core.specs.Parties.{KeepRule}
+use Rattle.interleave_core.specs.Whole.{AreWhole}
 use Rattle.interleave_core.specs.World.{World, TaskPart, Parts, part_of, first_parts}
 use Rattle.interleave_core.specs.Steps.{Stepped, parts_step, step_of, visit_of, fact_in}
 use Rattle.interleave_core.specs.declared.events.Event.{Event}
@@ -82,16 +85,26 @@ core_from w c (e ∷ events) = go_on (λ d. core_from w d events) (core_step w c
 abbrev pub core_run : World → List Event → Option CoreState
 core_run w events = core_from w (core_start w) events
 
+-- what holds of the core after these events
+pub record Stands (w : World) (events : List Event) (c : CoreState) : Type 0 where
+  -- each task is where its run alone is
+  pub alone : AreAlone w c.parts
+  -- its log has the places and facts of that run, and of the instruction in hand
+  pub logs : HaveLogs w c.parts c.logs
+  -- the rule of an area holds of the cells and sets, and of the notes of the planter and the tasks
+  pub rule : KeepRule w events c.parts c.logs
+  -- once all tasks have ended, each set has the facts of the executions in its session's window
+  pub exact : AreExact w c.parts c.logs
+  -- it is the whole session's set where all windows were planted before any other event
+  pub whole : AreWhole w events c.parts
+
 -- the event is possible after these, shows this, and leaves these parts
 pub record Follows (w : World) (events : List Event) (e : Event) (c : CoreState) (parts : Parts) (shown : Shown) : Type 0 where
   pub after : CoreState
   pub step : core_step w c e ≡ Some (record { core = after; shown = shown })
   pub run : core_run w (events ++ e ∷ []) ≡ Some after
   pub stored : after.parts ≡ parts
-  -- each task is where its run alone is
-  pub alone : AreAlone w after.parts
-  -- its log has the places and facts of that run, and of the instruction in hand
-  pub logs : HaveLogs w after.parts after.logs
+  pub stands : Stands w (events ++ e ∷ []) after
 
 -- after each list of events that leaves the parts stored so, the event is possible, shows this, and leaves these parts
 abbrev pub FollowsAll : World → Parts → Event → Parts → Shown → Type 0

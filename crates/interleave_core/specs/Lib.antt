@@ -3,7 +3,10 @@ pub mod Alone
 pub mod Steps
 pub mod Core
 pub mod Entries
+pub mod Exact
 pub mod Logs
+pub mod Parties
 pub mod Reads
 pub mod Results
 pub mod Views
+pub mod Whole

@@ -1,5 +1,5 @@
 -- The events of a core: where each is possible, and what it changes in what a core stores.
-use Rattle.std.specs.Prelude.{ℕ, ◌+◌, ◌-◌, ◌*◌, ◌/◌, Bool, true, false, not, ◌&&◌, nat_eq, nat_lt, nat_le, if◌then◌else◌, Option, Some, None, option_map, List, [], ◌∷◌, length, get_or, set}
+use Rattle.std.specs.Prelude.{ℕ, ◌+◌, ◌-◌, ◌*◌, Bool, true, false, not, ◌&&◌, nat_eq, nat_lt, nat_le, if◌then◌else◌, Option, Some, None, option_map, List, [], ◌∷◌, length, get_or, set}
 use Rattle.cov_base.specs.Codes.{breakpoint}
 use Rattle.cov_base.specs.FactSet.{FactSet}
 use Rattle.cov_base.specs.Facts.{with_fact, is_full, fact_of}
@@ -12,6 +12,7 @@ use Rattle.s370_state.specs.declared.endings.Next.{Next}
 use Rattle.s370_state.specs.declared.endings.Next.TheVariants.{On, Ended as NextEnded}
 use Rattle.s370_exec.specs.Fetch.{is_execute}
 use Rattle.s370_exec.specs.Solo.{Step, solo_step, has_returned}
+use Rattle.module_area.specs.Parties.{session_of}
 use Rattle.module_area.specs.PlainWords.{word_at, index_of, set_in}
 use Rattle.module_area.specs.PlanView.{original_at, kind_at, window_at}
 use Rattle.module_area.specs.declared.cells.Cell.{Cell}
@@ -84,10 +85,6 @@ fetched w c t u p = record {
 abbrev pub fetch_step : World → Parts → ℕ → TaskPart → Option Stepped
 fetch_step w c t u = option_map (fetched w c t u) (place_due w t u u.stage)
 
--- the session whose breakpoint is under the tag 2s-1
-abbrev pub session_under : ℕ → ℕ
-session_under tag = tag / 2 + 1
-
 -- what the execution shows at the place in hand
 abbrev pub fact_in : World → ℕ → TaskPart → Hand → Fact
 fact_in w t u h = fact_of (kind_at (plan_in w) h.place.0) (visit_of (step_of w t u) h.subject).went
@@ -104,7 +101,7 @@ with_due u h due = with_stage u (Holding (record h { due = due }))
 -- Mark: the fact joins the set; a set that is full then is followed by a Lift
 abbrev pub marked : World → Parts → ℕ → TaskPart → Hand → Stepped
 marked w c t u h =
-    let s = session_under h.cell.tag in
+    let s = session_of h.cell.tag in
     let found = set_of w c s h.place.0 in
     let facts = with_fact found (fact_in w t u h) in
     record {

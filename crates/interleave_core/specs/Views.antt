@@ -1,5 +1,5 @@
 -- What a task of a core keeps besides what the core stores of it, and what holds of a core at every moment.
-use Rattle.std.specs.Prelude.{◌≡◌, ◌≢◌, ℕ, ◌+◌, ◌*◌, ◌<◌, Bool, true, false, Option, Some, None, List, [], ◌∷◌, length, get_or, map}
+use Rattle.std.specs.Prelude.{◌≡◌, ◌≢◌, ℕ, ◌+◌, ◌*◌, ◌<◌, Bool, true, false, Option, Some, None, List, [], ◌∷◌, length, get_or, map, All}
 use Rattle.cov_base.specs.Codes.{breakpoint}
 use Rattle.cov_base.specs.Facts.{is_within}
 use Rattle.cov_base.specs.FactSet.{FactSet}
@@ -8,8 +8,9 @@ use Rattle.module_area.specs.declared.cells.Cell.{Cell}
 use Rattle.module_area.specs.PlainWords.{IsWord, word_at, set_in}
 use Rattle.module_area.specs.PlanView.{PlanView, IsPlan, kind_at, window_at}
 use Rattle.module_area.specs.declared.places.Place.{Place}
-use Rattle.brk_table.specs.Places.{AreSeen, ArePlaces}
+use Rattle.brk_table.specs.Places.{AreSeen, ArePlaces, IsIn}
 use Rattle.space_map.specs.Space.{SpaceView, memory_of_space}
+use Rattle.session_book.specs.JobView.{IsJob}
 use Rattle.session_book.specs.Sessions.{task_of}
 use Rattle.interleave_core.specs.World.{World, TaskPart, Parts, first_part, plan_in, memory_in, budget_in}
 use Rattle.interleave_core.specs.Steps.{step_of, subject_place, is_spent}
@@ -58,9 +59,12 @@ pub record CoreView : Type 0 where
   pub parts : Parts
 
 pub record IsCore (w : World) (cells : List Cell) (sets : List FactSet) (plan : PlanView) (tasks : List RunningView) : Type 0 where
+  pub job : IsJob w.job
+  pub phase : length w.job.phases ≡ 1
   pub same_plan : plan ≡ plan_in w
   pub is_plan : IsPlan (plan_in w)
   pub places : ArePlaces w.places
+  pub inside : All (IsIn w.job.images) w.places
   pub count : length tasks ≡ length w.job.tasks
   pub cell_count : length cells ≡ length w.places
   pub set_count : length sets ≡ length w.job.sessions * length w.places

@@ -1,16 +1,16 @@
 -- What the events of a core are judged by, and what a core stores.
-use Rattle.std.specs.Prelude.{ℕ, ◌<◌, ◌+◌, ◌*◌, ◌==◌, if◌then◌else◌, Option, Some, None, List, [], ◌∷◌, length, get_or, map, replicate}
+use Rattle.std.specs.Prelude.{◌≡◌, ℕ, ◌<◌, ◌+◌, ◌*◌, ◌==◌, if◌then◌else◌, Option, Some, None, List, [], ◌∷◌, length, get_or, map, replicate, All}
 use Rattle.cov_base.specs.FactSet.{FactSet}
 use Rattle.cov_base.specs.Facts.{no_facts}
 use Rattle.cov_base.specs.Memory.{Memory}
 use Rattle.cov_base.specs.States.{State}
 use Rattle.s370_state.specs.Io.{fresh_io}
 use Rattle.module_area.specs.FreshWords.{fresh_word}
-use Rattle.module_area.specs.PlanView.{PlanView}
+use Rattle.module_area.specs.PlanView.{PlanView, IsPlan}
 use Rattle.module_area.specs.declared.cells.Cell.{Cell}
 use Rattle.module_area.specs.declared.places.Place.{Place}
-use Rattle.brk_table.specs.Places.{ArePlaces, AreSeen, memory_of}
-use Rattle.session_book.specs.JobView.{JobView, TaskView}
+use Rattle.brk_table.specs.Places.{ArePlaces, AreSeen, IsIn, memory_of}
+use Rattle.session_book.specs.JobView.{JobView, TaskView, IsJob}
 use Rattle.session_book.specs.Sessions.{task_of, no_task, first_state, plan_view}
 use Rattle.interleave_core.specs.declared.stage.Stage.{Stage}
 use Rattle.interleave_core.specs.declared.stage.Stage.TheVariants.{Ready}
@@ -66,7 +66,11 @@ first_parts w = record {
   tasks = map first_part w.job.tasks;
 }
 
--- its places are those that each task's memory shows
+-- its job has one phase, and its places are those of the images that each task's memory shows
 pub record IsWorld (w : World) : Type 0 where
+  pub job : IsJob w.job
+  pub phase : length w.job.phases ≡ 1
+  pub is_plan : IsPlan (plan_in w)
   pub places : ArePlaces w.places
+  pub inside : All (IsIn w.job.images) w.places
   pub seen : (t : ℕ) → t < length w.job.tasks → AreSeen (memory_in w t) w.places

@@ -1,13 +1,13 @@
 //! The core.
-ghost use Rattle.std.specs.Prelude.{◌≡◌, ℕ, ◌+◌, ◌*◌, ◌<◌, ◌≤◌, length, map, replicate, set, if◌then◌else◌, All, IfOk, OnErr, IfSome, IsNone, IsSome, ◌↔◌};
+ghost use Rattle.std.specs.Prelude.{◌≡◌, ℕ, ◌+◌, ◌*◌, ◌<◌, ◌≤◌, [], length, map, replicate, set, if◌then◌else◌, All, IfOk, OnErr, IfSome, IsNone, IsSome, ◌↔◌};
 ghost use Rattle.std.specs.declared.option.Option.TheVariants.{Some, None};
 ghost use Rattle.module_area.specs.PlainWords.{word_at};
 ghost use Rattle.brk_table.specs.Places.{IsIn};
 ghost use Rattle.cov_base.specs.Facts.{fact_of, is_full, no_facts};
 ghost use Rattle.interleave_core.specs.declared.stage.Due.TheVariants.{Lifting, Nothing};
 ghost use Rattle.interleave_core.specs.World.{World, IsWorld, first_parts};
-ghost use Rattle.interleave_core.specs.Steps.{of_task, fetch_step, mark_step, lift_step, do_step, plant_step, parts_step, set_of, due_after_fetch, in_hand, same_cell, session_under};
-ghost use Rattle.interleave_core.specs.Core.{FollowsAll, FollowsNone};
+ghost use Rattle.interleave_core.specs.Steps.{of_task, fetch_step, mark_step, lift_step, do_step, plant_step, parts_step, set_of, due_after_fetch, in_hand, same_cell};
+ghost use Rattle.interleave_core.specs.Core.{core_start, Stands, FollowsAll, FollowsNone};
 ghost use Rattle.interleave_core.specs.declared.events.Event.{Event};
 ghost use Rattle.interleave_core.specs.Results.{next_of, IsDue, results_of, Fits};
 ghost use Rattle.interleave_core.specs.Views.{AreReady};
@@ -355,10 +355,12 @@ pub fn start<'a>(alloc: Global, job: &'a Job, tables: &'a Tables) -> Result<Core
     ensures world { IfOk result (λ c. c.world ≡ record { job = job.now; places = tables.now.places }) }
     ensures parts { IfOk result (λ c. c.parts ≡ first_parts (record { job = job.now; places = tables.now.places })) }
     ensures fits { IfOk result (λ c. Fits c.world c.parts) }
+    ensures stands { IfOk result (λ c. Stands c.world [] (core_start c.world)) }
 {
     let tasks = make_tasks(alloc, job, tables)?;
     let plan = plan_of(alloc, job, tables, 0)?;
-    // the proof reads the rules that a plan and its places keep off these looks at them
+    // the proof reads the rules that the job, a plan and its places keep off these looks at them
+    let _ = task_count(job);
     let _ = &plan.windows;
     let _ = tables.len();
     let cells = fresh_cells(alloc, &plan.places)?;

@@ -65,7 +65,7 @@ image_byte-of : (images : List ImageView) (p : Place) (q : IsIn images p) (a : �
 image_byte-of images p q a f from to =
     rw (← q.is) (image_byte-there images q.image p.module a q.exists f.apart (rw q.is (in_image-inside q.image a from to)))
 
-is_image-of : (size : ℕ) (images : List ImageView) (places : List Place) (p : Place) (q : IsIn images p) (a : ℕ) → q.image.base ≤ a → a < q.image.base + length q.image.bytes → (memory_of size images places).is_image a ≡ true
+pub is_image-of : (size : ℕ) (images : List ImageView) (places : List Place) (p : Place) (q : IsIn images p) (a : ℕ) → q.image.base ≤ a → a < q.image.base + length q.image.bytes → (memory_of size images places).is_image a ≡ true
 unfolding memory_of
 is_image-of size images places p q a from to = list_any-there images q.image p.module a q.exists (rw q.is (in_image-inside q.image a from to))
 

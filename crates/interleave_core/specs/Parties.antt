@@ -1,0 +1,62 @@
+-- The notes of a core's parties: those of a task follow from its log, those of the planter from the events.
+use Rattle.std.specs.Prelude.{ℕ, ◌+◌, zero, suc, Bool, Option, Some, None, List, [], ◌∷◌, length}
+use Rattle.cov_base.specs.declared.facts.Fact.{Fact}
+use Rattle.cov_base.specs.FactSet.{FactSet}
+use Rattle.module_area.specs.declared.parties.Role.TheVariants.{Root, Task}
+use Rattle.module_area.specs.declared.parties.View.{View}
+use Rattle.module_area.specs.Held.{Held}
+use Rattle.module_area.specs.Parties.{session_of, blank, fetching, marking, lifting, planting}
+use Rattle.module_area.specs.PlainWords.{word_at}
+use Rattle.module_area.specs.PlanView.{PlanView}
+use Rattle.interleave_core.specs.World.{World, Parts, plan_in}
+use Rattle.interleave_core.specs.Steps.{set_of}
+use Rattle.interleave_core.specs.Entries.{Entry}
+use Rattle.interleave_core.specs.declared.events.Event.{Event}
+use Rattle.interleave_core.specs.declared.events.Event.TheVariants.{Plant}
+
+-- what the entry's mark adds, where there was one
+abbrev pub with_mark : PlanView → Entry → Option FactSet → Option Fact → View → View
+with_mark plan e (Some found) (Some f) v = marking plan (session_of e.cell.tag) e.place f found v
+with_mark plan e found fact v = v
+
+-- and its lift
+abbrev pub with_lift : Entry → Option Bool → View → View
+with_lift e (Some exchanged) v = lifting (session_of e.cell.tag) e.place exchanged v
+with_lift e None v = v
+
+abbrev pub with_notes : PlanView → Entry → View → View
+with_notes plan e v = with_lift e e.lifted (with_mark plan e e.found e.fact (fetching plan e.place e.cell v))
+
+-- task t with its log
+abbrev pub task_view : World → ℕ → List Entry → View
+task_view w t [] = blank (Task t)
+task_view w t (e ∷ log) = with_notes (plan_in w) e (task_view w t log)
+
+-- so many tasks, from task t on
+abbrev pub task_views : World → (ℕ → List Entry) → ℕ → ℕ → List View
+task_views w logs t zero = []
+task_views w logs t (suc n) = task_view w t (logs t) ∷ task_views w logs (t + 1) n
+
+-- so many numbers from 0 on, the last first
+abbrev pub numbers : ℕ → List ℕ
+numbers zero = []
+numbers (suc n) = n ∷ numbers n
+
+-- the planter, which has given out so many tasks
+abbrev pub first_planter : ℕ → View
+first_planter n = record (blank Root) { given = numbers n }
+
+abbrev pub planted_by : View → Event → View
+planted_by v (Plant s p) = planting s.0 p.0 v
+planted_by v e = v
+
+abbrev pub planter_from : View → List Event → View
+planter_from v [] = v
+planter_from v (e ∷ events) = planter_from (planted_by v e) events
+
+abbrev pub parties : World → List Event → (ℕ → List Entry) → List View
+parties w events logs = planter_from (first_planter (length w.job.tasks)) events ∷ task_views w logs 0 (length w.job.tasks)
+
+-- the rule of an area holds of the core's cells and sets and of its parties after these events
+abbrev pub KeepRule : World → List Event → Parts → (ℕ → List Entry) → Type 0
+KeepRule w events c logs = Held (plan_in w) (λ p. word_at c.cells p) (λ s p. set_of w c s p) (parties w events logs)
