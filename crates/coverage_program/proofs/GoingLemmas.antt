@@ -4,6 +4,7 @@ use Rattle.std.proofs.lemmas.Bool.Decides.{nat_tests}
 use Rattle.std.proofs.lemmas.Grind.{get_or-set_at}
 use Rattle.cov_base.specs.declared.numbers.TaskNo.{TaskNo}
 use Rattle.cov_base.specs.Facts.{is_full, with_fact}
+use Rattle.module_area.specs.Parties.{session_of}
 use Rattle.module_area.specs.PlanView.{kind_at}
 use Rattle.module_area.specs.PlainWords.{word_at}
 use Rattle.s370_state.specs.declared.endings.Ending.TheVariants.{Returned, Spent}
@@ -12,7 +13,7 @@ use Rattle.s370_state.specs.declared.endings.Next.TheVariants.{On, Ended as Next
 use Rattle.s370_exec.specs.Solo.{Step, solo_step, has_returned}
 use Rattle.task_run.proofs.TraceLemmas.{solo_step-done}
 use Rattle.interleave_core.specs.World.{World, TaskPart, Parts, part_of, no_part, plan_in, memory_in, budget_in, place_at}
-use Rattle.interleave_core.specs.Steps.{Stepped, parts_step, of_task, with_task, with_stage, with_due, with_set, with_cell, place_due, is_spent, is_awaiting, due_after_fetch, hand_at, fetched, fetch_step, marked, mark_step, lifted, lift_step, in_hand, same_due, same_cell, original_under, step_of, subject_place, executed, stage_after, subject_executed, instruction_executed, awaits_or, unless_at, ready_done, task_done, done_by, do_step, set_of, fact_in, session_under}
+use Rattle.interleave_core.specs.Steps.{Stepped, parts_step, of_task, with_task, with_stage, with_due, with_set, with_cell, place_due, is_spent, is_awaiting, due_after_fetch, hand_at, fetched, fetch_step, marked, mark_step, lifted, lift_step, in_hand, same_due, same_cell, original_under, step_of, subject_place, executed, stage_after, subject_executed, instruction_executed, awaits_or, unless_at, ready_done, task_done, done_by, do_step, set_of, fact_in}
 use Rattle.interleave_core.specs.Results.{next_of, stage_event, event_due, fetch_or_do}
 use Rattle.interleave_core.specs.declared.events.Event.{Event}
 use Rattle.interleave_core.specs.declared.events.Event.TheVariants as event
@@ -179,10 +180,10 @@ marked_less w c t x e =
     let h = m.0 in
     let held = in_hand_is Marking u.stage h m.1 in
     let due : h.due ≡ Marking = same_due_is h.due Marking held.1 in
-    let full = is_full (kind_at (plan_in w) h.place.0) (with_fact (set_of w c (session_under h.cell.tag) h.place.0) (fact_in w t u h)) in
+    let full = is_full (kind_at (plan_in w) h.place.0) (with_fact (set_of w c (session_of h.cell.tag) h.place.0) (fact_in w t u h)) in
     let d = if full then Lifting else Nothing in
     let v = with_due u h d in
-    let facts = with_set w c (session_under h.cell.tag) h.place.0 (with_fact (set_of w c (session_under h.cell.tag) h.place.0) (fact_in w t u h)) in
+    let facts = with_set w c (session_of h.cell.tag) h.place.0 (with_fact (set_of w c (session_of h.cell.tag) h.place.0) (fact_in w t u h)) in
     let kept : left w (with_task facts t v) t ≡ left_of w t v v.stage = put_left w facts t v (exists c t _ refl here.0) in
     let less : due_left d < due_left h.due = rw due (mark_due_less full) in
     rw (← m.2) (rw (kept, holding_left w t u h held.0) (due_less w t u h d less))
