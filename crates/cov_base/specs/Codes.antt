@@ -1,5 +1,6 @@
 -- What an instruction's first halfword tells.
 use Rattle.std.specs.Prelude.{ℕ, ◌/◌, ◌%◌, Bool, true, ◌&&◌, not, nat_lt, nat_le, ◌==◌, if◌then◌else◌}
+use Rattle.cov_base.specs.declared.constants.TheConstants.{BREAKPOINT}
 use Rattle.cov_base.specs.declared.facts.Kind.{Kind}
 use Rattle.cov_base.specs.declared.facts.Kind.TheVariants.{Straight, Conditional}
 
@@ -26,4 +27,4 @@ kind_of h = if is_conditional (h / 256) (h % 256) then Conditional else Straight
 
 -- the breakpoint: SVC 255, which ORing by EX cannot change
 abbrev pub breakpoint : ℕ
-breakpoint = 2815
+breakpoint = BREAKPOINT

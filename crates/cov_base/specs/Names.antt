@@ -1,6 +1,7 @@
 -- Names: 1 to 8 characters, the first a letter or national character, the others these or digits.
 use Rattle.std.specs.Prelude.{ℕ, ◌-◌, Bool, ◌&&◌, ◌||◌, nat_le, nat_eq, if◌then◌else◌, Option, Some, None, List, [], ◌∷◌, ◌++◌, length, slice_index, replicate}
 use Rattle.std.specs.List.{list_all}
+use Rattle.std.specs.Str.{bytes_eq}
 
 -- the byte X'20', and no other
 abbrev pub blank : ℕ
@@ -30,3 +31,7 @@ unpadded (b ∷ bs) = if nat_eq b 32 then [] else b ∷ unpadded bs
 
 abbrev pub name_at : List ℕ → Option (List ℕ)
 name_at w = if is_name w then Some (padded w) else None
+
+-- a name filled with blanks
+abbrev pub is_filled : List ℕ → Bool
+is_filled field = is_name (unpadded field) && bytes_eq (padded (unpadded field)) field

@@ -2,6 +2,7 @@
 #![tactic(auto)]
 
 mod address;
+mod constants;
 mod facts;
 mod marks;
 mod names;
@@ -9,6 +10,7 @@ mod numbers;
 mod shortage;
 
 pub use address::Addr;
+pub use constants::{BREAKPOINT, INPUT_LIMIT};
 pub use facts::{Bits, Fact, Kind};
 pub use marks::{Mark, mark_of};
 pub use names::Name;

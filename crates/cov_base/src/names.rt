@@ -1,7 +1,7 @@
 //! Names of modules, phases, sessions and tasks.
-ghost use Rattle.std.specs.Prelude.{◌≡◌, ◌≤◌, ◌<◌, length, true, take};
+ghost use Rattle.std.specs.Prelude.{◌≡◌, ◌≤◌, ◌<◌, length, true, false, take, IfSome, IsNone};
 ghost use Rattle.std.specs.List.{list_all};
-ghost use Rattle.cov_base.specs.Names.{is_letter, is_digit, is_name_byte, is_name, name_at, unpadded};
+ghost use Rattle.cov_base.specs.Names.{is_letter, is_digit, is_name_byte, is_name, is_filled, name_at, padded, unpadded};
 
 use std::alloc::AllocError;
 use std::marker::Model;
@@ -69,6 +69,16 @@ fn unpadded_length(bytes: &[u8]) -> usize
     bytes.len()
 }
 
+/// The word filled with blanks.
+fn filled(word: &[u8]) -> [u8; 8]
+    requires { length word.now ≤ 8 }
+    ensures { result ≡ padded word.now }
+{
+    let mut bytes = [32u8; 8];
+    bytes[..word.len()].copy_from_slice(word);
+    bytes
+}
+
 impl Name {
     /// The name that the text spells; none exactly where it is no name.
     pub fn read(text: &[u8]) -> Option<Name>
@@ -77,9 +87,29 @@ impl Name {
         if !is_name(text) {
             return None;
         }
-        let mut bytes = [32u8; 8];
-        bytes[..text.len()].copy_from_slice(text);
-        Some(Name(bytes))
+        Some(Name(filled(text)))
+    }
+
+    /// The name that the field of 8 bytes is, filled with blanks; none exactly where it is no such field.
+    pub fn read_filled(field: &[u8]) -> Option<Name>
+        requires { length field.now ≡ 8 }
+        ensures name { IfSome result (λ n. n ≡ field.now) }
+        ensures good { IfSome result (λ _. is_filled field.now ≡ true) }
+        ensures bad { IsNone result → is_filled field.now ≡ false }
+    {
+        let word = &field[..unpadded_length(field)];
+        match Name::read(word) {
+            Some(name) if filled(word).as_slice() == field => Some(name),
+            _ => None,
+        }
+    }
+
+    /// The name filled with blanks to 8 bytes.
+    pub fn filled(&self) -> [u8; 8]
+        ensures value { result ≡ self.now }
+        ensures size { length result ≡ 8 }
+    {
+        self.0
     }
 
     /// The name without padding.
