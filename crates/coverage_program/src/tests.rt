@@ -3,6 +3,7 @@ mod cases;
 mod gates;
 mod jobs;
 mod modules;
+mod notation;
 mod noted;
 mod order;
 mod places;
@@ -15,6 +16,7 @@ use cases::CASES;
 use cov_outside::{MemSink, MemSource, OpenGate, SureSink, SureSource};
 use jobs::JOBS;
 use module_area::{Areas, Tally};
+use notation::{Case, job_of, text_of};
 use programs::PROGRAMS;
 use shared_area::SharedAreas;
 use std::alloc::Global;
@@ -23,28 +25,39 @@ use std::sync::Wait;
 use std::test::Fail;
 use std::thread::Threads;
 
-const HEAD: &[u8] =
-    b"COVERJOB 1\nMODULE M 100000 8\nTEXT 411000051A1107FE\nLISTING 4\n  Loc  Object Code    Addr1 Addr2  Stmt   Source Statement\n000000 ";
-
-const MIDDLE: &[u8] =
-    b"                      1          LA\n000004 1A11                           2          AR\n000006 07FE                           3          BR\nPHASE P\nSESSION S M\nTASK A 100000 16 ";
-
-const REPORT: &[u8] =
-    b"COVERAGE REPORT\nTASK A RETURNED COUNT 3 CC 2\nR0 00000000 0000000A 00000000 00000000 00000000 00000000 00000000 00000000\nR8 00000000 00000000 00000000 00000000 00000000 00000000 00FFFFFE 00100000\nOUT 0\nSESSION S PHASE P\nMODULE M PLACES 3 EXECUTED 3 FACTS 3 OF 3\n    Loc  Object Code    Addr1 Addr2  Stmt   Source Statement\n: 000000 4110 0005                      1          LA\n: 000004 1A11                           2          AR\n: 000006 07FE                           3          BR\nEND\n";
-
-const SPENT_REPORT: &[u8] =
-    b"COVERAGE REPORT\nTASK A SPENT COUNT 2 CC 2\nR0 00000000 0000000A 00000000 00000000 00000000 00000000 00000000 00000000\nR8 00000000 00000000 00000000 00000000 00000000 00000000 00FFFFFE 00100000\nOUT 0\nSESSION S PHASE P\nMODULE M PLACES 3 EXECUTED 2 FACTS 2 OF 3\n    Loc  Object Code    Addr1 Addr2  Stmt   Source Statement\n: 000000 4110 0005                      1          LA\n: 000004 1A11                           2          AR\n^ 000006 07FE                           3          BR\nNOT EXECUTED 000006-000007\nEND\n";
-
-/// The first job with this object code in its first plain line, this budget, and this end.
-fn job(alloc: Global, object: &[u8], budget: &[u8], end: &[u8]) -> Result<Vec<u8>, Fail> {
-    let mut text = HEAD.to_vec(alloc)?;
-    text.extend_from_slice(object)?;
-    text.extend_from_slice(MIDDLE)?;
-    text.extend_from_slice(budget)?;
-    text.extend_from_slice(b" 0\n")?;
-    text.extend_from_slice(end)?;
-    Ok(text)
-}
+/// The first job, as a whole.
+const FIRST: Case = Case {
+    name: "the first job",
+    code: "",
+    job: "\
+COVERJOB 1\n\
+MODULE M 100000 8\n\
+TEXT 411000051A1107FE\n\
+LISTING 4\n\
+\x20 Loc  Object Code    Addr1 Addr2  Stmt   Source Statement\n\
+000000 4110 0005                      1          LA\n\
+000004 1A11                           2          AR\n\
+000006 07FE                           3          BR\n\
+PHASE P\n\
+SESSION S M\n\
+TASK A 100000 16 100 0\n\
+ENDJOB\n",
+    status: 0,
+    tallies: Some(&[(3, 3, 3, 3)]),
+    text: "\
+COVERAGE REPORT\n\
+TASK A RETURNED COUNT 3 CC 2\n\
+R0 00000000 0000000A 00000000 00000000 00000000 00000000 00000000 00000000\n\
+R8 00000000 00000000 00000000 00000000 00000000 00000000 00FFFFFE 00100000\n\
+OUT 0\n\
+SESSION S PHASE P\n\
+MODULE M PLACES 3 EXECUTED 3 FACTS 3 OF 3\n\
+\x20   Loc  Object Code    Addr1 Addr2  Stmt   Source Statement\n\
+: 000000 4110 0005                      1          LA\n\
+: 000004 1A11                           2          AR\n\
+: 000006 07FE                           3          BR\n\
+END\n",
+};
 
 /// The words `run`.
 fn run_words(alloc: Global) -> Result<Vec<String>, Fail> {
@@ -90,85 +103,10 @@ fn run<T: Threads + Wait + Sync>(
     })
 }
 
-/// The tally of the first job, of which so many instructions were done.
-fn tally_of(done: u64) -> Tally {
-    Tally {
-        plants: 3,
-        fetches: done,
-        marks: done,
-        lifts: done,
-        closes: 0,
-    }
-}
-
 #[test]
 fn runs_the_first_job(rt: HostRuntime) -> Result<(), Fail> {
-    let alloc = rt.alloc();
-    let came = run(
-        &rt,
-        alloc,
-        job(alloc, b"4110 0005", b"100", b"ENDJOB\n")?,
-        Vec::new(alloc),
-        Vec::new(alloc),
-    )?;
-    assert_eq!(rt; came.status, Status(0));
-    assert_eq!(rt; came.text.as_slice(), REPORT);
-    assert_eq!(rt; came.tallies.as_slice(), [tally_of(3)].as_slice());
+    let came = check(&rt, rt.alloc(), &FIRST)?;
     assert_eq!(rt; came.made, 1);
-    Ok(())
-}
-
-#[test]
-fn tests_the_budget_after_the_return(rt: HostRuntime) -> Result<(), Fail> {
-    let alloc = rt.alloc();
-    let three = run(
-        &rt,
-        alloc,
-        job(alloc, b"4110 0005", b"3", b"ENDJOB\n")?,
-        Vec::new(alloc),
-        Vec::new(alloc),
-    )?;
-    assert_eq!(rt; three.text.as_slice(), REPORT);
-    assert_eq!(rt; three.tallies.as_slice(), [tally_of(3)].as_slice());
-    let two = run(
-        &rt,
-        alloc,
-        job(alloc, b"4110 0005", b"2", b"ENDJOB\n")?,
-        Vec::new(alloc),
-        Vec::new(alloc),
-    )?;
-    assert_eq!(rt; two.status, Status(0));
-    assert_eq!(rt; two.text.as_slice(), SPENT_REPORT);
-    assert_eq!(rt; two.tallies.as_slice(), [tally_of(2)].as_slice());
-    Ok(())
-}
-
-#[test]
-fn refuses_by_name_and_makes_no_area(rt: HostRuntime) -> Result<(), Fail> {
-    let alloc = rt.alloc();
-    let other = run(
-        &rt,
-        alloc,
-        job(alloc, b"4110 0006", b"100", b"ENDJOB\n")?,
-        Vec::new(alloc),
-        Vec::new(alloc),
-    )?;
-    assert_eq!(rt; other.status, Status(3));
-    assert_eq!(rt;
-        other.text.as_slice(),
-        b"MISMATCH M LINE 2 LOC 000000 LISTING 41100006 MODULE 41100005\n".as_slice()
-    );
-    assert_eq!(rt; (other.made, other.tallies.len()), (0, 0));
-    let short = run(
-        &rt,
-        alloc,
-        job(alloc, b"4110 0005", b"100", b"")?,
-        Vec::new(alloc),
-        Vec::new(alloc),
-    )?;
-    assert_eq!(rt; short.status, Status(2));
-    assert_eq!(rt; short.text.as_slice(), b"BAD JOB LINE 12\n".as_slice());
-    assert_eq!(rt; (short.made, short.tallies.len()), (0, 0));
     Ok(())
 }
 
@@ -178,7 +116,7 @@ fn tells_faults_of_source_and_sink(rt: HostRuntime) -> Result<(), Fail> {
     let unread = run(
         &rt,
         alloc,
-        job(alloc, b"4110 0005", b"100", b"ENDJOB\n")?,
+        job_of(alloc, &FIRST)?,
         [3u64].to_vec(alloc)?,
         Vec::new(alloc),
     )?;
@@ -188,14 +126,15 @@ fn tells_faults_of_source_and_sink(rt: HostRuntime) -> Result<(), Fail> {
     let unwritten = run(
         &rt,
         alloc,
-        job(alloc, b"4110 0005", b"100", b"ENDJOB\n")?,
+        job_of(alloc, &FIRST)?,
         Vec::new(alloc),
         [2u64].to_vec(alloc)?,
     )?;
     assert_eq!(rt; unwritten.status, Status(6));
     assert_eq!(rt; unwritten.text.as_slice(), b"COVERAGE REPORT\n".as_slice());
     assert_eq!(rt; unwritten.made, 1);
-    assert_eq!(rt; unwritten.tallies.as_slice(), [tally_of(3)].as_slice());
+    assert_eq!(rt; unwritten.tallies.len(), 1);
+    assert_eq!(rt; counts(&unwritten.tallies[0]), (3, 3, 3, 3));
     Ok(())
 }
 
@@ -203,7 +142,7 @@ fn tells_faults_of_source_and_sink(rt: HostRuntime) -> Result<(), Fail> {
 fn answers_over_devices_that_never_fail(rt: HostRuntime) -> Result<(), Fail> {
     let alloc = rt.alloc();
     let words = run_words(alloc)?;
-    let mut source = SureSource::new(job(alloc, b"4110 0005", b"100", b"ENDJOB\n")?, 64);
+    let mut source = SureSource::new(job_of(alloc, &FIRST)?, 64);
     let mut sink = SureSink::new();
     let mut areas = SharedAreas::new(alloc, 16).map_err(|_| "memory")?;
     let status = cover(
@@ -231,76 +170,66 @@ fn answers_over_devices_that_never_fail(rt: HostRuntime) -> Result<(), Fail> {
     Ok(())
 }
 
-#[test]
-fn answers_each_job(rt: HostRuntime) -> Result<(), Fail> {
-    let alloc = rt.alloc();
-    for (name, job, status, text) in &CASES {
-        let came = run(
-            &rt,
-            alloc,
-            job.to_vec(alloc)?,
-            Vec::new(alloc),
-            Vec::new(alloc),
-        )?;
-        assert_eq!(rt; came.status, Status(*status), "{name}");
-        assert_eq!(rt; came.text.as_slice(), *text, "{name}");
-        assert_eq!(rt; came.made, u64::from(*status == 0), "{name}");
-        assert_eq!(rt; came.tallies.len() as u64, came.made, "{name}");
-    }
-    Ok(())
-}
-
 /// The counts of a tally but for those of closes, which are 0.
 fn counts(t: &Tally) -> (u64, u64, u64, u64) {
     (t.plants, t.fetches, t.marks, t.lifts)
 }
 
-/// Runs a job that has this text, and gives the tallies of its areas.
-fn runs<T: Abort + Threads + Wait + Sync>(
+/// Runs the case's job: status and text are the case's, and so are the tallies of its areas, where the case has them.
+fn check<T: Abort + Threads + Wait + Sync>(
     rt: &T,
     alloc: Global,
-    name: &str,
-    job: &[u8],
-    text: &[u8],
-) -> Result<Vec<Tally>, Fail> {
+    case: &Case,
+) -> Result<Came, Fail> {
+    let name = case.name;
     let came = run(
         rt,
         alloc,
-        job.to_vec(alloc)?,
+        job_of(alloc, case)?,
         Vec::new(alloc),
         Vec::new(alloc),
     )?;
-    assert_eq!(rt; came.text.as_slice(), text, "{name}");
-    assert_eq!(rt; came.status, Status(0), "{name}");
+    assert_eq!(rt; came.status, Status(case.status), "{name}");
+    assert_eq!(rt;
+        came.text.as_slice(),
+        text_of(alloc, case)?.as_slice(),
+        "{name}"
+    );
     assert_eq!(rt; came.made, came.tallies.len() as u64, "{name}");
     assert!(rt; came.tallies.iter().all(|t| t.closes == 0), "{name}");
-    Ok(came.tallies)
+    if let Some(expected) = case.tallies {
+        assert_eq!(rt; came.tallies.len(), expected.len(), "{name}");
+        for (t, e) in came.tallies.iter().zip(expected.iter()) {
+            assert_eq!(rt; counts(t), *e, "{name}");
+        }
+    }
+    Ok(came)
+}
+
+#[test]
+fn answers_each_job(rt: HostRuntime) -> Result<(), Fail> {
+    for case in &CASES {
+        let came = check(&rt, rt.alloc(), case)?;
+        let name = case.name;
+        assert_eq!(rt; came.made, u64::from(case.status == 0), "{name}");
+    }
+    Ok(())
 }
 
 #[test]
 fn runs_each_program(rt: HostRuntime) -> Result<(), Fail> {
-    for (name, job, tally, text) in &PROGRAMS {
-        let tallies = runs(&rt, rt.alloc(), name, job, text)?;
-        assert_eq!(rt; tallies.len(), 1, "{name}");
-        if let Some(expected) = tally {
-            for t in &tallies {
-                assert_eq!(rt; counts(t), *expected, "{name}");
-            }
-        }
+    for case in &PROGRAMS {
+        let came = check(&rt, rt.alloc(), case)?;
+        let name = case.name;
+        assert_eq!(rt; came.made, 1, "{name}");
     }
     Ok(())
 }
 
 #[test]
 fn runs_each_whole_job(rt: HostRuntime) -> Result<(), Fail> {
-    for (name, job, expected, text) in &JOBS {
-        let tallies = runs(&rt, rt.alloc(), name, job, text)?;
-        if let Some(expected) = expected {
-            assert_eq!(rt; tallies.len(), expected.len(), "{name}");
-            for (t, e) in tallies.iter().zip(expected.iter()) {
-                assert_eq!(rt; counts(t), *e, "{name}");
-            }
-        }
+    for case in &JOBS {
+        check(&rt, rt.alloc(), case)?;
     }
     Ok(())
 }

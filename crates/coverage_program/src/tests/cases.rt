@@ -1,232 +1,146 @@
 //! Jobs with their status and text: those of the rules' examples, and the faults of listings in their order.
 
-/// What the job is, its text, the exit status, and what is written.
-pub const CASES: [(&str, &[u8], u8, &[u8]); 28] = [
-    (
-        "a sum past the word",
-        b"\
-COVERJOB 1\n\
-MODULE M 100000 4\n\
-TEXT 1A1207FE\n\
-LISTING 3\n\
-\x20 Loc  Object Code    Addr1 Addr2  Stmt   Source Statement\n\
-000000 1A12                           1          AR\n\
-000002 07FE                           2          BR\n\
-PHASE P\n\
-SESSION S M\n\
+use super::notation::Case;
+
+pub const CASES: [Case; 30] = [
+    Case {
+        name: "a sum past the word",
+        code: "000000 1A12 AR, 000002 07FE BR",
+        job: "\
 TASK A 100000 16 100 0\n\
 REG 1 7FFFFFFF\n\
 REG 2 00000001\n\
 ENDJOB\n",
-        0,
-        b"\
+        status: 0,
+        tallies: None,
+        text: "\
 COVERAGE REPORT\n\
 TASK A RETURNED COUNT 2 CC 3\n\
-R0 00000000 80000000 00000001 00000000 00000000 00000000 00000000 00000000\n\
-R8 00000000 00000000 00000000 00000000 00000000 00000000 00FFFFFE 00100000\n\
+regs 1=80000000 2=00000001\n\
 OUT 0\n\
 SESSION S PHASE P\n\
-MODULE M PLACES 2 EXECUTED 2 FACTS 2 OF 2\n\
-\x20   Loc  Object Code    Addr1 Addr2  Stmt   Source Statement\n\
-: 000000 1A12                           1          AR\n\
-: 000002 07FE                           2          BR\n\
+marks :: EXECUTED 2 FACTS 2 OF 2\n\
 END\n",
-    ),
-    (
-        "a shift of a negative number",
-        b"\
-COVERJOB 1\n\
-MODULE M 100000 6\n\
-TEXT 8B10000107FE\n\
-LISTING 3\n\
-\x20 Loc  Object Code    Addr1 Addr2  Stmt   Source Statement\n\
-000000 8B10 0001                      1          SLA\n\
-000004 07FE                           2          BR\n\
-PHASE P\n\
-SESSION S M\n\
+    },
+    Case {
+        name: "a shift of a negative number",
+        code: "000000 8B10 0001 SLA, 000004 07FE BR",
+        job: "\
 TASK A 100000 16 100 0\n\
 REG 1 C0000000\n\
 ENDJOB\n",
-        0,
-        b"\
+        status: 0,
+        tallies: None,
+        text: "\
 COVERAGE REPORT\n\
 TASK A RETURNED COUNT 2 CC 1\n\
-R0 00000000 80000000 00000000 00000000 00000000 00000000 00000000 00000000\n\
-R8 00000000 00000000 00000000 00000000 00000000 00000000 00FFFFFE 00100000\n\
+regs 1=80000000\n\
 OUT 0\n\
 SESSION S PHASE P\n\
-MODULE M PLACES 2 EXECUTED 2 FACTS 2 OF 2\n\
-\x20   Loc  Object Code    Addr1 Addr2  Stmt   Source Statement\n\
-: 000000 8B10 0001                      1          SLA\n\
-: 000004 07FE                           2          BR\n\
+marks :: EXECUTED 2 FACTS 2 OF 2\n\
 END\n",
-    ),
-    (
-        "a shift that loses a bit",
-        b"\
-COVERJOB 1\n\
-MODULE M 100000 6\n\
-TEXT 8B10000107FE\n\
-LISTING 3\n\
-\x20 Loc  Object Code    Addr1 Addr2  Stmt   Source Statement\n\
-000000 8B10 0001                      1          SLA\n\
-000004 07FE                           2          BR\n\
-PHASE P\n\
-SESSION S M\n\
+    },
+    Case {
+        name: "a shift that loses a bit",
+        code: "000000 8B10 0001 SLA, 000004 07FE BR",
+        job: "\
 TASK A 100000 16 100 0\n\
 REG 1 40000000\n\
 ENDJOB\n",
-        0,
-        b"\
+        status: 0,
+        tallies: None,
+        text: "\
 COVERAGE REPORT\n\
 TASK A RETURNED COUNT 2 CC 3\n\
-R0 00000000 00000000 00000000 00000000 00000000 00000000 00000000 00000000\n\
-R8 00000000 00000000 00000000 00000000 00000000 00000000 00FFFFFE 00100000\n\
+regs\n\
 OUT 0\n\
 SESSION S PHASE P\n\
-MODULE M PLACES 2 EXECUTED 2 FACTS 2 OF 2\n\
-\x20   Loc  Object Code    Addr1 Addr2  Stmt   Source Statement\n\
-: 000000 8B10 0001                      1          SLA\n\
-: 000004 07FE                           2          BR\n\
+marks :: EXECUTED 2 FACTS 2 OF 2\n\
 END\n",
-    ),
-    (
-        "a zero divisor",
-        b"\
-COVERJOB 1\n\
-MODULE M 100000 4\n\
-TEXT 1D2407FE\n\
-LISTING 3\n\
-\x20 Loc  Object Code    Addr1 Addr2  Stmt   Source Statement\n\
-000000 1D24                           1          DR\n\
-000002 07FE                           2          BR\n\
-PHASE P\n\
-SESSION S M\n\
+    },
+    Case {
+        name: "a zero divisor",
+        code: "000000 1D24 DR, 000002 07FE BR",
+        job: "\
 TASK A 100000 16 100 0\n\
 REG 2 00000002\n\
 REG 3 00000008\n\
 REG 4 00000000\n\
 REG 5 00000008\n\
 ENDJOB\n",
-        0,
-        b"\
+        status: 0,
+        tallies: None,
+        text: "\
 COVERAGE REPORT\n\
 TASK A ABEND 9 COUNT 1 CC 0\n\
-R0 00000000 00000000 00000002 00000008 00000000 00000008 00000000 00000000\n\
-R8 00000000 00000000 00000000 00000000 00000000 00000000 00FFFFFE 00100000\n\
+regs 2=00000002 3=00000008 5=00000008\n\
 OUT 0\n\
 SESSION S PHASE P\n\
-MODULE M PLACES 2 EXECUTED 1 FACTS 1 OF 2\n\
-\x20   Loc  Object Code    Addr1 Addr2  Stmt   Source Statement\n\
-: 000000 1D24                           1          DR\n\
-^ 000002 07FE                           2          BR\n\
+marks :^ EXECUTED 1 FACTS 1 OF 2\n\
 NOT EXECUTED 000002-000003\n\
 END\n",
-    ),
-    (
-        "a store into a module",
-        b"\
-COVERJOB 1\n\
-MODULE M 100000 6\n\
-TEXT 5010F00007FE\n\
-LISTING 3\n\
-\x20 Loc  Object Code    Addr1 Addr2  Stmt   Source Statement\n\
-000000 5010 F000                      1          ST\n\
-000004 07FE                           2          BR\n\
-PHASE P\n\
-SESSION S M\n\
+    },
+    Case {
+        name: "a store into a module",
+        code: "000000 5010 F000 ST, 000004 07FE BR",
+        job: "\
 TASK A 100000 16 100 0\n\
 ENDJOB\n",
-        0,
-        b"\
+        status: 0,
+        tallies: None,
+        text: "\
 COVERAGE REPORT\n\
 TASK A ABEND 4 COUNT 1 CC 0\n\
-R0 00000000 00000000 00000000 00000000 00000000 00000000 00000000 00000000\n\
-R8 00000000 00000000 00000000 00000000 00000000 00000000 00FFFFFE 00100000\n\
+regs\n\
 OUT 0\n\
 SESSION S PHASE P\n\
-MODULE M PLACES 2 EXECUTED 1 FACTS 1 OF 2\n\
-\x20   Loc  Object Code    Addr1 Addr2  Stmt   Source Statement\n\
-: 000000 5010 F000                      1          ST\n\
-^ 000004 07FE                           2          BR\n\
+marks :^ EXECUTED 1 FACTS 1 OF 2\n\
 NOT EXECUTED 000004-000005\n\
 END\n",
-    ),
-    (
-        "a load from a data card, past the highest address",
-        b"\
-COVERJOB 1\n\
-MODULE M 100000 6\n\
-TEXT 5820100807FE\n\
-LISTING 3\n\
-\x20 Loc  Object Code    Addr1 Addr2  Stmt   Source Statement\n\
-000000 5820 1008                      1          L\n\
-000004 07FE                           2          BR\n\
-PHASE P\n\
-SESSION S M\n\
+    },
+    Case {
+        name: "a load from a data card, past the highest address",
+        code: "000000 5820 1008 L, 000004 07FE BR",
+        job: "\
 TASK A 100000 16 100 0\n\
 REG 1 00FFFFFC\n\
 DATA 4 11223344\n\
 ENDJOB\n",
-        0,
-        b"\
+        status: 0,
+        tallies: None,
+        text: "\
 COVERAGE REPORT\n\
 TASK A RETURNED COUNT 2 CC 0\n\
-R0 00000000 00FFFFFC 11223344 00000000 00000000 00000000 00000000 00000000\n\
-R8 00000000 00000000 00000000 00000000 00000000 00000000 00FFFFFE 00100000\n\
+regs 1=00FFFFFC 2=11223344\n\
 OUT 0\n\
 SESSION S PHASE P\n\
-MODULE M PLACES 2 EXECUTED 2 FACTS 2 OF 2\n\
-\x20   Loc  Object Code    Addr1 Addr2  Stmt   Source Statement\n\
-: 000000 5820 1008                      1          L\n\
-: 000004 07FE                           2          BR\n\
+marks :: EXECUTED 2 FACTS 2 OF 2\n\
 END\n",
-    ),
-    (
-        "data cards of which the later ones count",
-        b"\
-COVERJOB 1\n\
-MODULE M 100000 6\n\
-TEXT 9823000007FE\n\
-LISTING 3\n\
-\x20 Loc  Object Code    Addr1 Addr2  Stmt   Source Statement\n\
-000000 9823 0000                      1          LM\n\
-000004 07FE                           2          BR\n\
-PHASE P\n\
-SESSION S M\n\
+    },
+    Case {
+        name: "data cards of which the later ones count",
+        code: "000000 9823 0000 LM, 000004 07FE BR",
+        job: "\
 TASK A 100000 16 100 0\n\
 DATA 0 11223344\n\
 DATA 2 aabbcc\n\
 DATA 1 DD\n\
 ENDJOB\n",
-        0,
-        b"\
+        status: 0,
+        tallies: None,
+        text: "\
 COVERAGE REPORT\n\
 TASK A RETURNED COUNT 2 CC 0\n\
-R0 00000000 00000000 11DDAABB CC000000 00000000 00000000 00000000 00000000\n\
-R8 00000000 00000000 00000000 00000000 00000000 00000000 00FFFFFE 00100000\n\
+regs 2=11DDAABB 3=CC000000\n\
 OUT 0\n\
 SESSION S PHASE P\n\
-MODULE M PLACES 2 EXECUTED 2 FACTS 2 OF 2\n\
-\x20   Loc  Object Code    Addr1 Addr2  Stmt   Source Statement\n\
-: 000000 9823 0000                      1          LM\n\
-: 000004 07FE                           2          BR\n\
+marks :: EXECUTED 2 FACTS 2 OF 2\n\
 END\n",
-    ),
-    (
-        "stores over data cards, of other bytes and of the same",
-        b"\
-COVERJOB 1\n\
-MODULE M 100000 14\n\
-TEXT 50200004503000104040002207FE\n\
-LISTING 5\n\
-\x20 Loc  Object Code    Addr1 Addr2  Stmt   Source Statement\n\
-000000 5020 0004                      1          ST\n\
-000004 5030 0010                      2          ST\n\
-000008 4040 0022                      3          STH\n\
-00000C 07FE                           4          BR\n\
-PHASE P\n\
-SESSION S M\n\
+    },
+    Case {
+        name: "stores over data cards, of other bytes and of the same",
+        code: "000000 5020 0004 ST, 000004 5030 0010 ST, 000008 4040 0022 STH, 00000C 07FE BR",
+        job: "\
 TASK A 100000 40 100 0\n\
 REG 3 55667788\n\
 REG 4 0000ABCD\n\
@@ -234,94 +148,67 @@ DATA 4 11223344\n\
 DATA 16 55667788\n\
 DATA 32 C1C2C3C4C5C6C7C8\n\
 ENDJOB\n",
-        0,
-        b"\
+        status: 0,
+        tallies: None,
+        text: "\
 COVERAGE REPORT\n\
 TASK A RETURNED COUNT 4 CC 0\n\
-R0 00000000 00000000 00000000 55667788 0000ABCD 00000000 00000000 00000000\n\
-R8 00000000 00000000 00000000 00000000 00000000 00000000 00FFFFFE 00100000\n\
+regs 3=55667788 4=0000ABCD\n\
 OUT 0\n\
 STOR 000000 00000000000000000000000000000000\n\
 STOR 000020 C1C2ABCDC5C6C7C8\n\
 SESSION S PHASE P\n\
-MODULE M PLACES 4 EXECUTED 4 FACTS 4 OF 4\n\
-\x20   Loc  Object Code    Addr1 Addr2  Stmt   Source Statement\n\
-: 000000 5020 0004                      1          ST\n\
-: 000004 5030 0010                      2          ST\n\
-: 000008 4040 0022                      3          STH\n\
-: 00000C 07FE                           4          BR\n\
+marks :::: EXECUTED 4 FACTS 4 OF 4\n\
 END\n",
-    ),
-    (
-        "a decimal number in a data card",
-        b"\
-COVERJOB 1\n\
-MODULE M 100000 6\n\
-TEXT 4F20000007FE\n\
-LISTING 3\n\
-\x20 Loc  Object Code    Addr1 Addr2  Stmt   Source Statement\n\
-000000 4F20 0000                      1          CVB\n\
-000004 07FE                           2          BR\n\
-PHASE P\n\
-SESSION S M\n\
+    },
+    Case {
+        name: "a decimal number in a data card",
+        code: "000000 4F20 0000 CVB, 000004 07FE BR",
+        job: "\
 TASK A 100000 8 100 0\n\
 DATA 0 000000000000123D\n\
 ENDJOB\n",
-        0,
-        b"\
+        status: 0,
+        tallies: None,
+        text: "\
 COVERAGE REPORT\n\
 TASK A RETURNED COUNT 2 CC 0\n\
-R0 00000000 00000000 FFFFFF85 00000000 00000000 00000000 00000000 00000000\n\
-R8 00000000 00000000 00000000 00000000 00000000 00000000 00FFFFFE 00100000\n\
+regs 2=FFFFFF85\n\
 OUT 0\n\
 SESSION S PHASE P\n\
-MODULE M PLACES 2 EXECUTED 2 FACTS 2 OF 2\n\
-\x20   Loc  Object Code    Addr1 Addr2  Stmt   Source Statement\n\
-: 000000 4F20 0000                      1          CVB\n\
-: 000004 07FE                           2          BR\n\
+marks :: EXECUTED 2 FACTS 2 OF 2\n\
 END\n",
-    ),
-    (
-        "a data card one byte past private storage",
-        b"\
-COVERJOB 1\n\
-MODULE M 100000 2\n\
-TEXT 07FE\n\
-LISTING 2\n\
-\x20 Loc  Object Code    Addr1 Addr2  Stmt   Source Statement\n\
-000000 07FE                           1          BR\n\
-PHASE P\n\
-SESSION S M\n\
+    },
+    Case {
+        name: "a data card one byte past private storage",
+        code: "000000 07FE BR",
+        job: "\
 TASK A 100000 16 100 0\n\
 DATA 0 C1\n\
 DATA 13 C1C2C3C4\n\
 ENDJOB\n",
-        2,
-        b"\
+        status: 2,
+        tallies: None,
+        text: "\
 BAD JOB LINE 11\n",
-    ),
-    (
-        "a data card behind an input card",
-        b"\
-COVERJOB 1\n\
-MODULE M 100000 2\n\
-TEXT 07FE\n\
-LISTING 2\n\
-\x20 Loc  Object Code    Addr1 Addr2  Stmt   Source Statement\n\
-000000 07FE                           1          BR\n\
-PHASE P\n\
-SESSION S M\n\
+    },
+    Case {
+        name: "a data card behind an input card",
+        code: "000000 07FE BR",
+        job: "\
 TASK A 100000 16 100 0\n\
 INPUT C1\n\
 DATA 0 C1\n\
 ENDJOB\n",
-        2,
-        b"\
+        status: 2,
+        tallies: None,
+        text: "\
 BAD JOB LINE 11\n",
-    ),
-    (
-        "a heading in capital letters",
-        b"\
+    },
+    Case {
+        name: "a heading in capital letters",
+        code: "",
+        job: "\
 COVERJOB 1\n\
 MODULE M 100000 8\n\
 TEXT 411000051A1107FE\n\
@@ -334,12 +221,12 @@ PHASE P\n\
 SESSION S M\n\
 TASK A 100000 16 100 0\n\
 ENDJOB\n",
-        0,
-        b"\
+        status: 0,
+        tallies: None,
+        text: "\
 COVERAGE REPORT\n\
 TASK A RETURNED COUNT 3 CC 2\n\
-R0 00000000 0000000A 00000000 00000000 00000000 00000000 00000000 00000000\n\
-R8 00000000 00000000 00000000 00000000 00000000 00000000 00FFFFFE 00100000\n\
+regs 1=0000000A\n\
 OUT 0\n\
 SESSION S PHASE P\n\
 MODULE M PLACES 3 EXECUTED 3 FACTS 3 OF 3\n\
@@ -348,10 +235,11 @@ MODULE M PLACES 3 EXECUTED 3 FACTS 3 OF 3\n\
 : 000004 1A11                           2          AR\n\
 : 000006 07FE                           3          BR\n\
 END\n",
-    ),
-    (
-        "a listing with print control characters",
-        b"\
+    },
+    Case {
+        name: "a listing with print control characters",
+        code: "",
+        job: "\
 COVERJOB 1\n\
 MODULE MAIN 100000 18\n\
 TEXT 4110F00C5010001007FE0700C1C2000007FE\n\
@@ -373,12 +261,12 @@ PHASE P\n\
 SESSION S MAIN\n\
 TASK A 100000 32 100 0\n\
 ENDJOB\n",
-        0,
-        b"\
+        status: 0,
+        tallies: None,
+        text: "\
 COVERAGE REPORT\n\
 TASK A RETURNED COUNT 3 CC 0\n\
-R0 00000000 0010000C 00000000 00000000 00000000 00000000 00000000 00000000\n\
-R8 00000000 00000000 00000000 00000000 00000000 00000000 00FFFFFE 00100000\n\
+regs 1=0010000C\n\
 OUT 0\n\
 STOR 000010 0010000C000000000000000000000000\n\
 SESSION S PHASE P\n\
@@ -398,34 +286,28 @@ MODULE MAIN PLACES 4 EXECUTED 3 FACTS 3 OF 4\n\
 ^  000010 07FE                          11          BR    14\n\
 NOT EXECUTED 000010-000011\n\
 END\n",
-    ),
-    (
-        "a listing without instruction lines",
-        b"\
-COVERJOB 1\n\
-MODULE M 100000 8\n\
-TEXT 411000051A1107FE\n\
-LISTING 1\n\
-\x20 Loc  Object Code    Addr1 Addr2  Stmt   Source Statement\n\
-PHASE P\n\
-SESSION S M\n\
+    },
+    Case {
+        name: "a listing without instruction lines",
+        code: "411000051A1107FE: ",
+        job: "\
 TASK A 100000 16 100 0\n\
 ENDJOB\n",
-        0,
-        b"\
+        status: 0,
+        tallies: None,
+        text: "\
 COVERAGE REPORT\n\
 TASK A RETURNED COUNT 3 CC 2\n\
-R0 00000000 0000000A 00000000 00000000 00000000 00000000 00000000 00000000\n\
-R8 00000000 00000000 00000000 00000000 00000000 00000000 00FFFFFE 00100000\n\
+regs 1=0000000A\n\
 OUT 0\n\
 SESSION S PHASE P\n\
-MODULE M PLACES 0 EXECUTED 0 FACTS 0 OF 0\n\
-\x20   Loc  Object Code    Addr1 Addr2  Stmt   Source Statement\n\
+marks  EXECUTED 0 FACTS 0 OF 0\n\
 END\n",
-    ),
-    (
-        "a heading that is missing",
-        b"\
+    },
+    Case {
+        name: "a heading that is missing",
+        code: "",
+        job: "\
 COVERJOB 1\n\
 MODULE M 100000 8\n\
 TEXT 411000051A1107FE\n\
@@ -437,13 +319,15 @@ PHASE P\n\
 SESSION S M\n\
 TASK A 100000 16 100 0\n\
 ENDJOB\n",
-        12,
-        b"\
+        status: 12,
+        tallies: None,
+        text: "\
 BAD LISTING M LINE 0 HEADING\n",
-    ),
-    (
-        "a listing of no lines",
-        b"\
+    },
+    Case {
+        name: "a listing of no lines",
+        code: "",
+        job: "\
 COVERJOB 1\n\
 MODULE M 100000 8\n\
 TEXT 411000051A1107FE\n\
@@ -452,108 +336,70 @@ PHASE P\n\
 SESSION S M\n\
 TASK A 100000 16 100 0\n\
 ENDJOB\n",
-        12,
-        b"\
+        status: 12,
+        tallies: None,
+        text: "\
 BAD LISTING M LINE 0 HEADING\n",
-    ),
-    (
-        "object code too short",
-        b"\
-COVERJOB 1\n\
-MODULE M 100000 8\n\
-TEXT 411000051A1107FE\n\
-LISTING 4\n\
-\x20 Loc  Object Code    Addr1 Addr2  Stmt   Source Statement\n\
-000000 4110                           1          LA\n\
-000004 1A11                           2          AR\n\
-000006 07FE                           3          BR\n\
-PHASE P\n\
-SESSION S M\n\
+    },
+    Case {
+        name: "object code too short",
+        code: "411000051A1107FE: 000000 4110 LA, 000004 1A11 AR, 000006 07FE BR",
+        job: "\
 TASK A 100000 16 100 0\n\
 ENDJOB\n",
-        12,
-        b"\
+        status: 12,
+        tallies: None,
+        text: "\
 BAD LISTING M LINE 2 OBJECT\n",
-    ),
-    (
-        "an odd location",
-        b"\
-COVERJOB 1\n\
-MODULE M 100000 8\n\
-TEXT 411000051A1107FE\n\
-LISTING 4\n\
-\x20 Loc  Object Code    Addr1 Addr2  Stmt   Source Statement\n\
-000000 4110 0005                      1          LA\n\
-000005 1A11                           2          AR\n\
-000006 07FE                           3          BR\n\
-PHASE P\n\
-SESSION S M\n\
+    },
+    Case {
+        name: "an odd location",
+        code: "000000 4110 0005 LA, 000005 1A11 AR, 000006 07FE BR",
+        job: "\
 TASK A 100000 16 100 0\n\
 ENDJOB\n",
-        12,
-        b"\
+        status: 12,
+        tallies: None,
+        text: "\
 BAD LISTING M LINE 3 ODD\n",
-    ),
-    (
-        "a location past the module",
-        b"\
-COVERJOB 1\n\
-MODULE M 100000 8\n\
-TEXT 411000051A1107FE\n\
-LISTING 4\n\
-\x20 Loc  Object Code    Addr1 Addr2  Stmt   Source Statement\n\
-000000 4110 0005                      1          LA\n\
-000008 1A11                           2          AR\n\
-000006 07FE                           3          BR\n\
-PHASE P\n\
-SESSION S M\n\
+    },
+    Case {
+        name: "a location past the module",
+        code: "000000 4110 0005 LA, 000008 1A11 AR, 000006 07FE BR",
+        job: "\
 TASK A 100000 16 100 0\n\
 ENDJOB\n",
-        12,
-        b"\
+        status: 12,
+        tallies: None,
+        text: "\
 BAD LISTING M LINE 3 OUTSIDE\n",
-    ),
-    (
-        "a location in the instruction before",
-        b"\
-COVERJOB 1\n\
-MODULE M 100000 8\n\
-TEXT 411000051A1107FE\n\
-LISTING 4\n\
-\x20 Loc  Object Code    Addr1 Addr2  Stmt   Source Statement\n\
-000000 4110 0005                      1          LA\n\
-000002 1A11                           2          AR\n\
-000006 07FE                           3          BR\n\
-PHASE P\n\
-SESSION S M\n\
+    },
+    Case {
+        name: "a location in the instruction before",
+        code: "000000 4110 0005 LA, 000002 1A11 AR, 000006 07FE BR",
+        job: "\
 TASK A 100000 16 100 0\n\
 ENDJOB\n",
-        12,
-        b"\
+        status: 12,
+        tallies: None,
+        text: "\
 BAD LISTING M LINE 3 OVERLAP\n",
-    ),
-    (
-        "an odd location, but object code too short below",
-        b"\
-COVERJOB 1\n\
-MODULE M 100000 8\n\
-TEXT 411000051A1107FE\n\
-LISTING 4\n\
-\x20 Loc  Object Code    Addr1 Addr2  Stmt   Source Statement\n\
-000000 4110 0005                      1          LA\n\
-000005 1A11                           2          AR\n\
-000006 4110                           3          LA\n\
-PHASE P\n\
-SESSION S M\n\
+    },
+    Case {
+        name: "an odd location, but object code too short below",
+        code: "411000051A1107FE: 000000 4110 0005 LA, 000005 1A11 AR, 000006 4110 LA",
+        job: "\
 TASK A 100000 16 100 0\n\
 ENDJOB\n",
-        12,
-        b"\
+        status: 12,
+        tallies: None,
+        text: "\
 BAD LISTING M LINE 4 OBJECT\n",
-    ),
-    (
-        "no heading before object code too short",
-        b"\
+    },
+    Case {
+        name: "no heading before object code too short",
+        code: "",
+        job: "\
 COVERJOB 1\n\
 MODULE M 100000 8\n\
 TEXT 411000051A1107FE\n\
@@ -565,121 +411,96 @@ PHASE P\n\
 SESSION S M\n\
 TASK A 100000 16 100 0\n\
 ENDJOB\n",
-        12,
-        b"\
+        status: 12,
+        tallies: None,
+        text: "\
 BAD LISTING M LINE 0 HEADING\n",
-    ),
-    (
-        "the breakpoint itself",
-        b"\
-COVERJOB 1\n\
-MODULE M 100000 4\n\
-TEXT 0AFF07FE\n\
-LISTING 3\n\
-\x20 Loc  Object Code    Addr1 Addr2  Stmt   Source Statement\n\
-000000 0AFF                           1          SVC\n\
-000002 07FE                           2          BR\n\
-PHASE P\n\
-SESSION S M\n\
+    },
+    Case {
+        name: "the breakpoint itself",
+        code: "000000 0AFF SVC, 000002 07FE BR",
+        job: "\
 TASK A 100000 16 100 0\n\
 ENDJOB\n",
-        8,
-        b"\
+        status: 8,
+        tallies: None,
+        text: "\
 OWN SVC M LINE 2\n",
-    ),
-    (
-        "the breakpoint where the module has another instruction",
-        b"\
-COVERJOB 1\n\
-MODULE M 100000 8\n\
-TEXT 411000051A1107FE\n\
-LISTING 4\n\
-\x20 Loc  Object Code    Addr1 Addr2  Stmt   Source Statement\n\
-000000 4110 0005                      1          LA\n\
-000004 0AFF                           2          SVC\n\
-000006 07FE                           3          BR\n\
-PHASE P\n\
-SESSION S M\n\
+    },
+    Case {
+        name: "the breakpoint where the module has another instruction",
+        code: "411000051A1107FE: 000000 4110 0005 LA, 000004 0AFF SVC, 000006 07FE BR",
+        job: "\
 TASK A 100000 16 100 0\n\
 ENDJOB\n",
-        8,
-        b"\
+        status: 8,
+        tallies: None,
+        text: "\
 OWN SVC M LINE 3\n",
-    ),
-    (
-        "other bytes before the breakpoint",
-        b"\
-COVERJOB 1\n\
-MODULE M 100000 8\n\
-TEXT 411000051A1107FE\n\
-LISTING 4\n\
-\x20 Loc  Object Code    Addr1 Addr2  Stmt   Source Statement\n\
-000000 4110 0006                      1          LA\n\
-000004 0AFF                           2          SVC\n\
-000006 07FE                           3          BR\n\
-PHASE P\n\
-SESSION S M\n\
+    },
+    Case {
+        name: "other bytes before the breakpoint",
+        code: "411000051A1107FE: 000000 4110 0006 LA, 000004 0AFF SVC, 000006 07FE BR",
+        job: "\
 TASK A 100000 16 100 0\n\
 ENDJOB\n",
-        3,
-        b"\
+        status: 3,
+        tallies: None,
+        text: "\
 MISMATCH M LINE 2 LOC 000000 LISTING 41100006 MODULE 41100005\n",
-    ),
-    (
-        "the breakpoint before other bytes",
-        b"\
-COVERJOB 1\n\
-MODULE M 100000 8\n\
-TEXT 411000051A1107FE\n\
-LISTING 4\n\
-\x20 Loc  Object Code    Addr1 Addr2  Stmt   Source Statement\n\
-000000 4110 0005                      1          LA\n\
-000004 0AFF                           2          SVC\n\
-000006 07FF                           3          BR\n\
-PHASE P\n\
-SESSION S M\n\
+    },
+    Case {
+        name: "the breakpoint before other bytes",
+        code: "411000051A1107FE: 000000 4110 0005 LA, 000004 0AFF SVC, 000006 07FF BR",
+        job: "\
 TASK A 100000 16 100 0\n\
 ENDJOB\n",
-        8,
-        b"\
+        status: 8,
+        tallies: None,
+        text: "\
 OWN SVC M LINE 3\n",
-    ),
-    (
-        "other bytes before an odd location",
-        b"\
-COVERJOB 1\n\
-MODULE M 100000 8\n\
-TEXT 411000051A1107FE\n\
-LISTING 4\n\
-\x20 Loc  Object Code    Addr1 Addr2  Stmt   Source Statement\n\
-000000 4110 0006                      1          LA\n\
-000005 1A11                           2          AR\n\
-000006 07FE                           3          BR\n\
-PHASE P\n\
-SESSION S M\n\
+    },
+    Case {
+        name: "other bytes before an odd location",
+        code: "411000051A1107FE: 000000 4110 0006 LA, 000005 1A11 AR, 000006 07FE BR",
+        job: "\
 TASK A 100000 16 100 0\n\
 ENDJOB\n",
-        3,
-        b"\
+        status: 3,
+        tallies: None,
+        text: "\
 MISMATCH M LINE 2 LOC 000000 LISTING 41100006 MODULE 41100005\n",
-    ),
-    (
-        "other bytes behind the first halfword",
-        b"\
-COVERJOB 1\n\
-MODULE M 100000 8\n\
-TEXT 411000051A1107FE\n\
-LISTING 4\n\
-\x20 Loc  Object Code    Addr1 Addr2  Stmt   Source Statement\n\
-000000 4110 F005                      1          LA\n\
-000004 1A11                           2          AR\n\
-000006 07FE                           3          BR\n\
-PHASE P\n\
-SESSION S M\n\
+    },
+    Case {
+        name: "other bytes behind the first halfword",
+        code: "411000051A1107FE: 000000 4110 F005 LA, 000004 1A11 AR, 000006 07FE BR",
+        job: "\
 TASK A 100000 16 100 0\n\
 ENDJOB\n",
-        3,
-        b"\
+        status: 3,
+        tallies: None,
+        text: "\
 MISMATCH M LINE 2 LOC 000000 LISTING 4110F005 MODULE 41100005\n",
-    ),
+    },
+    Case {
+        name: "other bytes than the module's",
+        code: "411000051A1107FE: 000000 4110 0006 LA, 000004 1A11 AR, 000006 07FE BR",
+        job: "\
+TASK A 100000 16 100 0\n\
+ENDJOB\n",
+        status: 3,
+        tallies: Some(&[]),
+        text: "\
+MISMATCH M LINE 2 LOC 000000 LISTING 41100006 MODULE 41100005\n",
+    },
+    Case {
+        name: "no last card",
+        code: "000000 4110 0005 LA, 000004 1A11 AR, 000006 07FE BR",
+        job: "\
+TASK A 100000 16 100 0\n",
+        status: 2,
+        tallies: Some(&[]),
+        text: "\
+BAD JOB LINE 12\n",
+    },
 ];

@@ -1,24 +1,15 @@
 //! The command `replay`: schedules behind jobs with what is written, those of the rules' examples, and lines that are bad.
 
+use super::notation::{Case, job_of, text_of};
 use super::places::serve;
 use crate::status::Status;
 use std::test::Fail;
 
-/// What the input is, its bytes, the status, and what is written.
-const SCHEDULES: [(&str, &[u8], u8, &[u8]); 13] = [
-    (
-        "two tasks meet one breakpoint",
-        b"\
-COVERJOB 1\n\
-MODULE M 100000 8\n\
-TEXT 411000051A1107FE\n\
-LISTING 4\n\
-\x20 Loc  Object Code    Addr1 Addr2  Stmt   Source Statement\n\
-000000 4110 0005                      1          LA\n\
-000004 1A11                           2          AR\n\
-000006 07FE                           3          BR\n\
-PHASE P\n\
-SESSION S M\n\
+const SCHEDULES: [Case; 13] = [
+    Case {
+        name: "two tasks meet one breakpoint",
+        code: "000000 4110 0005 LA, 000004 1A11 AR, 000006 07FE BR",
+        job: "\
 TASK A 100000 16 100 0\n\
 TASK B 100000 16 100 0\n\
 ENDJOB\n\
@@ -33,8 +24,9 @@ DO B\n\
 GO A\n\
 GO B\n\
 ENDSCHED\n",
-        0,
-        b"\
+        status: 0,
+        tallies: None,
+        text: "\
 COVERAGE REPLAY\n\
 EVENT 1 FETCH A TAG 1 HALF 0AFF\n\
 EVENT 2 FETCH B TAG 1 HALF 0AFF\n\
@@ -47,34 +39,19 @@ EVENT 8 DO B\n\
 EVENT 9 GO A\n\
 EVENT 10 GO B\n\
 TASK A RETURNED COUNT 3 CC 2\n\
-R0 00000000 0000000A 00000000 00000000 00000000 00000000 00000000 00000000\n\
-R8 00000000 00000000 00000000 00000000 00000000 00000000 00FFFFFE 00100000\n\
+regs 1=0000000A\n\
 OUT 0\n\
 TASK B RETURNED COUNT 3 CC 2\n\
-R0 00000000 0000000A 00000000 00000000 00000000 00000000 00000000 00000000\n\
-R8 00000000 00000000 00000000 00000000 00000000 00000000 00FFFFFE 00100000\n\
+regs 1=0000000A\n\
 OUT 0\n\
 SESSION S PHASE P\n\
-MODULE M PLACES 3 EXECUTED 3 FACTS 3 OF 3\n\
-\x20   Loc  Object Code    Addr1 Addr2  Stmt   Source Statement\n\
-: 000000 4110 0005                      1          LA\n\
-: 000004 1A11                           2          AR\n\
-: 000006 07FE                           3          BR\n\
+marks ::: EXECUTED 3 FACTS 3 OF 3\n\
 END\n",
-    ),
-    (
-        "touches in one order",
-        b"\
-COVERJOB 1\n\
-MODULE M 100000 10\n\
-TEXT 1822D500F000F00007FE\n\
-LISTING 4\n\
-\x20 Loc  Object Code    Addr1 Addr2  Stmt   Source Statement\n\
-000000 1822                           1          LR\n\
-000002 D500 F000 F000                 2          CLC\n\
-000008 07FE                           3          BR\n\
-PHASE P\n\
-SESSION S M\n\
+    },
+    Case {
+        name: "touches in one order",
+        code: "000000 1822 LR, 000002 D500 F000 F000 CLC, 000008 07FE BR",
+        job: "\
 TASK A 100000 16 100 0\n\
 TASK B 100002 16 100 0\n\
 REG 15 00100000\n\
@@ -82,41 +59,27 @@ ENDJOB\n\
 GO B\n\
 GO A\n\
 ENDSCHED\n",
-        0,
-        b"\
+        status: 0,
+        tallies: None,
+        text: "\
 COVERAGE REPLAY\n\
 EVENT 1 GO B\n\
 EVENT 2 GO A\n\
 TASK A TOUCHED 100000 COUNT 2 CC 0\n\
-R0 00000000 00000000 00000000 00000000 00000000 00000000 00000000 00000000\n\
-R8 00000000 00000000 00000000 00000000 00000000 00000000 00FFFFFE 00100000\n\
+regs\n\
 OUT 0\n\
 TASK B TOUCHED 100000 COUNT 1 CC 0\n\
-R0 00000000 00000000 00000000 00000000 00000000 00000000 00000000 00000000\n\
-R8 00000000 00000000 00000000 00000000 00000000 00000000 00FFFFFE 00100000\n\
+regs\n\
 OUT 0\n\
 SESSION S PHASE P\n\
-MODULE M PLACES 3 EXECUTED 2 FACTS 2 OF 3\n\
-\x20   Loc  Object Code    Addr1 Addr2  Stmt   Source Statement\n\
-: 000000 1822                           1          LR\n\
-: 000002 D500 F000 F000                 2          CLC\n\
-^ 000008 07FE                           3          BR\n\
+marks ::^ EXECUTED 2 FACTS 2 OF 3\n\
 NOT EXECUTED 000008-000009\n\
 END\n",
-    ),
-    (
-        "touches in the other order",
-        b"\
-COVERJOB 1\n\
-MODULE M 100000 10\n\
-TEXT 1822D500F000F00007FE\n\
-LISTING 4\n\
-\x20 Loc  Object Code    Addr1 Addr2  Stmt   Source Statement\n\
-000000 1822                           1          LR\n\
-000002 D500 F000 F000                 2          CLC\n\
-000008 07FE                           3          BR\n\
-PHASE P\n\
-SESSION S M\n\
+    },
+    Case {
+        name: "touches in the other order",
+        code: "000000 1822 LR, 000002 D500 F000 F000 CLC, 000008 07FE BR",
+        job: "\
 TASK A 100000 16 100 0\n\
 TASK B 100002 16 100 0\n\
 REG 15 00100000\n\
@@ -124,261 +87,174 @@ ENDJOB\n\
 GO A\n\
 GO B\n\
 ENDSCHED\n",
-        0,
-        b"\
+        status: 0,
+        tallies: None,
+        text: "\
 COVERAGE REPLAY\n\
 EVENT 1 GO A\n\
 EVENT 2 GO B\n\
 TASK A TOUCHED 100000 COUNT 2 CC 0\n\
-R0 00000000 00000000 00000000 00000000 00000000 00000000 00000000 00000000\n\
-R8 00000000 00000000 00000000 00000000 00000000 00000000 00FFFFFE 00100000\n\
+regs\n\
 OUT 0\n\
 TASK B TOUCHED 100000 COUNT 1 CC 0\n\
-R0 00000000 00000000 00000000 00000000 00000000 00000000 00000000 00000000\n\
-R8 00000000 00000000 00000000 00000000 00000000 00000000 00FFFFFE 00100000\n\
+regs\n\
 OUT 0\n\
 SESSION S PHASE P\n\
-MODULE M PLACES 3 EXECUTED 2 FACTS 2 OF 3\n\
-\x20   Loc  Object Code    Addr1 Addr2  Stmt   Source Statement\n\
-: 000000 1822                           1          LR\n\
-: 000002 D500 F000 F000                 2          CLC\n\
-^ 000008 07FE                           3          BR\n\
+marks ::^ EXECUTED 2 FACTS 2 OF 3\n\
 NOT EXECUTED 000008-000009\n\
 END\n",
-    ),
-    (
-        "a task that is running",
-        b"\
-COVERJOB 1\n\
-MODULE M 100000 8\n\
-TEXT 411000051A1107FE\n\
-LISTING 4\n\
-\x20 Loc  Object Code    Addr1 Addr2  Stmt   Source Statement\n\
-000000 4110 0005                      1          LA\n\
-000004 1A11                           2          AR\n\
-000006 07FE                           3          BR\n\
-PHASE P\n\
-SESSION S M\n\
+    },
+    Case {
+        name: "a task that is running",
+        code: "000000 4110 0005 LA, 000004 1A11 AR, 000006 07FE BR",
+        job: "\
 TASK A 100000 16 100 0\n\
 ENDJOB\n\
 FETCH A\n\
 MARK A\n\
 ENDSCHED\n",
-        0,
-        b"\
+        status: 0,
+        tallies: None,
+        text: "\
 COVERAGE REPLAY\n\
 EVENT 1 FETCH A TAG 1 HALF 0AFF\n\
 EVENT 2 MARK A OLD -\n\
 TASK A RUNNING COUNT 0 CC 0\n\
-R0 00000000 00000000 00000000 00000000 00000000 00000000 00000000 00000000\n\
-R8 00000000 00000000 00000000 00000000 00000000 00000000 00FFFFFE 00100000\n\
+regs\n\
 OUT 0\n\
 SESSION S PHASE P\n\
-MODULE M PLACES 3 EXECUTED 1 FACTS 1 OF 3\n\
-\x20   Loc  Object Code    Addr1 Addr2  Stmt   Source Statement\n\
-: 000000 4110 0005                      1          LA\n\
-^ 000004 1A11                           2          AR\n\
-^ 000006 07FE                           3          BR\n\
+marks :^^ EXECUTED 1 FACTS 1 OF 3\n\
 NOT EXECUTED 000004-000007\n\
 END\n",
-    ),
-    (
-        "an event that is not due",
-        b"\
-COVERJOB 1\n\
-MODULE M 100000 8\n\
-TEXT 411000051A1107FE\n\
-LISTING 4\n\
-\x20 Loc  Object Code    Addr1 Addr2  Stmt   Source Statement\n\
-000000 4110 0005                      1          LA\n\
-000004 1A11                           2          AR\n\
-000006 07FE                           3          BR\n\
-PHASE P\n\
-SESSION S M\n\
+    },
+    Case {
+        name: "an event that is not due",
+        code: "000000 4110 0005 LA, 000004 1A11 AR, 000006 07FE BR",
+        job: "\
 TASK A 100000 16 100 0\n\
 ENDJOB\n\
 MARK A\n",
-        9,
-        b"\
+        status: 9,
+        tallies: None,
+        text: "\
 BAD SCHEDULE LINE 13\n",
-    ),
-    (
-        "a job of two phases",
-        b"\
-COVERJOB 1\n\
-MODULE M 100000 8\n\
-TEXT 411000051A1107FE\n\
-LISTING 4\n\
-\x20 Loc  Object Code    Addr1 Addr2  Stmt   Source Statement\n\
-000000 4110 0005                      1          LA\n\
-000004 1A11                           2          AR\n\
-000006 07FE                           3          BR\n\
-PHASE P\n\
-SESSION S M\n\
+    },
+    Case {
+        name: "a job of two phases",
+        code: "000000 4110 0005 LA, 000004 1A11 AR, 000006 07FE BR",
+        job: "\
 TASK A 100000 16 100 0\n\
 PHASE Q\n\
 SESSION T M\n\
 TASK B 100000 16 2 0\n\
 ENDJOB\n\
 ENDSCHED\n",
-        9,
-        b"\
+        status: 9,
+        tallies: None,
+        text: "\
 BAD SCHEDULE LINE 0\n",
-    ),
-    (
-        "no last item",
-        b"\
-COVERJOB 1\n\
-MODULE M 100000 8\n\
-TEXT 411000051A1107FE\n\
-LISTING 4\n\
-\x20 Loc  Object Code    Addr1 Addr2  Stmt   Source Statement\n\
-000000 4110 0005                      1          LA\n\
-000004 1A11                           2          AR\n\
-000006 07FE                           3          BR\n\
-PHASE P\n\
-SESSION S M\n\
+    },
+    Case {
+        name: "no last item",
+        code: "000000 4110 0005 LA, 000004 1A11 AR, 000006 07FE BR",
+        job: "\
 TASK A 100000 16 100 0\n\
 ENDJOB\n\
 GO A\n",
-        9,
-        b"\
+        status: 9,
+        tallies: None,
+        text: "\
 BAD SCHEDULE LINE 14\n",
-    ),
-    (
-        "nothing behind the job",
-        b"\
-COVERJOB 1\n\
-MODULE M 100000 8\n\
-TEXT 411000051A1107FE\n\
-LISTING 4\n\
-\x20 Loc  Object Code    Addr1 Addr2  Stmt   Source Statement\n\
-000000 4110 0005                      1          LA\n\
-000004 1A11                           2          AR\n\
-000006 07FE                           3          BR\n\
-PHASE P\n\
-SESSION S M\n\
+    },
+    Case {
+        name: "nothing behind the job",
+        code: "000000 4110 0005 LA, 000004 1A11 AR, 000006 07FE BR",
+        job: "\
 TASK A 100000 16 100 0\n\
 ENDJOB",
-        9,
-        b"\
+        status: 9,
+        tallies: None,
+        text: "\
 BAD SCHEDULE LINE 13\n",
-    ),
-    (
-        "a line behind the last item",
-        b"\
-COVERJOB 1\n\
-MODULE M 100000 8\n\
-TEXT 411000051A1107FE\n\
-LISTING 4\n\
-\x20 Loc  Object Code    Addr1 Addr2  Stmt   Source Statement\n\
-000000 4110 0005                      1          LA\n\
-000004 1A11                           2          AR\n\
-000006 07FE                           3          BR\n\
-PHASE P\n\
-SESSION S M\n\
+    },
+    Case {
+        name: "a line behind the last item",
+        code: "000000 4110 0005 LA, 000004 1A11 AR, 000006 07FE BR",
+        job: "\
 TASK A 100000 16 100 0\n\
 ENDJOB\n\
 GO A\n\
 ENDSCHED\n\
 \n",
-        9,
-        b"\
+        status: 9,
+        tallies: None,
+        text: "\
 BAD SCHEDULE LINE 15\n",
-    ),
-    (
-        "a task of another job",
-        b"\
-COVERJOB 1\n\
-MODULE M 100000 8\n\
-TEXT 411000051A1107FE\n\
-LISTING 4\n\
-\x20 Loc  Object Code    Addr1 Addr2  Stmt   Source Statement\n\
-000000 4110 0005                      1          LA\n\
-000004 1A11                           2          AR\n\
-000006 07FE                           3          BR\n\
-PHASE P\n\
-SESSION S M\n\
+    },
+    Case {
+        name: "a task of another job",
+        code: "000000 4110 0005 LA, 000004 1A11 AR, 000006 07FE BR",
+        job: "\
 TASK A 100000 16 100 0\n\
 ENDJOB\n\
 GO B\n\
 ENDSCHED\n",
-        9,
-        b"\
+        status: 9,
+        tallies: None,
+        text: "\
 BAD SCHEDULE LINE 13\n",
-    ),
-    (
-        "a task that has ended",
-        b"\
-COVERJOB 1\n\
-MODULE M 100000 8\n\
-TEXT 411000051A1107FE\n\
-LISTING 4\n\
-\x20 Loc  Object Code    Addr1 Addr2  Stmt   Source Statement\n\
-000000 4110 0005                      1          LA\n\
-000004 1A11                           2          AR\n\
-000006 07FE                           3          BR\n\
-PHASE P\n\
-SESSION S M\n\
+    },
+    Case {
+        name: "a task that has ended",
+        code: "000000 4110 0005 LA, 000004 1A11 AR, 000006 07FE BR",
+        job: "\
 TASK A 100000 16 100 0\n\
 ENDJOB\n\
 GO A\n\
 GO A\n\
 ENDSCHED\n",
-        9,
-        b"\
+        status: 9,
+        tallies: None,
+        text: "\
 BAD SCHEDULE LINE 14\n",
-    ),
-    (
-        "two blanks in an item",
-        b"\
-COVERJOB 1\n\
-MODULE M 100000 8\n\
-TEXT 411000051A1107FE\n\
-LISTING 4\n\
-\x20 Loc  Object Code    Addr1 Addr2  Stmt   Source Statement\n\
-000000 4110 0005                      1          LA\n\
-000004 1A11                           2          AR\n\
-000006 07FE                           3          BR\n\
-PHASE P\n\
-SESSION S M\n\
+    },
+    Case {
+        name: "two blanks in an item",
+        code: "000000 4110 0005 LA, 000004 1A11 AR, 000006 07FE BR",
+        job: "\
 TASK A 100000 16 100 0\n\
 ENDJOB\n\
 GO  A\n\
 ENDSCHED\n",
-        9,
-        b"\
+        status: 9,
+        tallies: None,
+        text: "\
 BAD SCHEDULE LINE 13\n",
-    ),
-    (
-        "a bad line of the job",
-        b"\
-COVERJOB 1\n\
-MODULE M 100000 8\n\
-TEXT 411000051A1107FE\n\
-LISTING 4\n\
-\x20 Loc  Object Code    Addr1 Addr2  Stmt   Source Statement\n\
-000000 4110 0005                      1          LA\n\
-000004 1A11                           2          AR\n\
-000006 07FE                           3          BR\n\
-PHASE P\n\
-SESSION S M\n\
+    },
+    Case {
+        name: "a bad line of the job",
+        code: "000000 4110 0005 LA, 000004 1A11 AR, 000006 07FE BR",
+        job: "\
 TASK A 100000 16 100 0\n\
 GO A\n",
-        2,
-        b"\
+        status: 2,
+        tallies: None,
+        text: "\
 BAD JOB LINE 12\n",
-    ),
+    },
 ];
 
 #[test]
 fn plays_each_schedule(rt: HostRuntime) -> Result<(), Fail> {
-    for (name, input, status, text) in &SCHEDULES {
-        let came = serve(&rt, rt.alloc(), &["replay"], input)?;
-        assert_eq!(rt; came.text.as_slice(), *text, "{name}");
-        assert_eq!(rt; came.status, Status(*status), "{name}");
-        assert_eq!(rt; came.text_alone.as_slice(), *text, "{name}");
-        assert_eq!(rt; came.alone, Status(*status), "{name}");
+    for case in &SCHEDULES {
+        let name = case.name;
+        let text = text_of(rt.alloc(), case)?;
+        let job = job_of(rt.alloc(), case)?;
+        let came = serve(&rt, rt.alloc(), &["replay"], &job)?;
+        assert_eq!(rt; came.text.as_slice(), text.as_slice(), "{name}");
+        assert_eq!(rt; came.status, Status(case.status), "{name}");
+        assert_eq!(rt; came.text_alone.as_slice(), text.as_slice(), "{name}");
+        assert_eq!(rt; came.alone, Status(case.status), "{name}");
         assert_eq!(rt; came.made, 0, "{name}");
     }
     Ok(())

@@ -1,0 +1,175 @@
+//! The notation of jobs and of what is written for them, in which what most cases share is said once.
+
+use std::alloc::Global;
+use std::test::Fail;
+
+/// A case.
+///
+/// Module M stands at X'100000'. Its instructions are a location, object code and an operation, parted by commas. They make
+/// its listing, and its bytes too, where no other bytes stand before a colon. Phase P follows, and session S over M, and
+/// behind these the job's own lines. Without instructions the job's own lines are all that it has.
+///
+/// In the text `regs` and words as `1=0000000A` are the two lines of a task's registers, of which those that aren't named
+/// are as those of a task that begins at X'100000'. `marks`, a mark for each instruction and how the module's line ends are
+/// that line and the annotated listing. Every other line stands for itself.
+pub struct Case {
+    pub name: &'static str,
+    pub code: &'static str,
+    pub job: &'static str,
+    pub status: u8,
+    /// The plants, fetches, marks and lifts of each phase, where they are compared.
+    pub tallies: Option<&'static [(u64, u64, u64, u64)]>,
+    pub text: &'static str,
+}
+
+const HEADING: &str = "  Loc  Object Code    Addr1 Addr2  Stmt   Source Statement\n";
+
+fn add(text: &mut Vec<u8>, part: &str) -> Result<(), Fail> {
+    text.extend_from_slice(part.as_bytes())?;
+    Ok(())
+}
+
+/// Blanks from one column to another.
+fn add_blanks(text: &mut Vec<u8>, from: usize, to: usize) -> Result<(), Fail> {
+    for _ in from..to {
+        text.push(b' ')?;
+    }
+    Ok(())
+}
+
+fn add_number(text: &mut Vec<u8>, alloc: Global, width: usize, number: usize) -> Result<(), Fail> {
+    let digits = format!(in alloc; "{number}")?;
+    add_blanks(text, digits.len(), width)?;
+    add(text, digits.as_str())
+}
+
+/// The instructions, and before them the module's bytes, where they are given.
+fn parts_of(code: &str) -> (&str, &str) {
+    code.split_once(": ").unwrap_or(("", code))
+}
+
+fn instructions_of<'a>(alloc: Global, code: &'a str) -> Result<Vec<&'a str>, Fail> {
+    let mut all = Vec::new(alloc);
+    let (_, list) = parts_of(code);
+    for instruction in list.split(',') {
+        if !instruction.is_empty() {
+            all.push(instruction.trim_start())?;
+        }
+    }
+    Ok(all)
+}
+
+/// The digits of the module's bytes.
+fn digits_of(alloc: Global, code: &str) -> Result<Vec<u8>, Fail> {
+    let mut digits = Vec::new(alloc);
+    let (bytes, _) = parts_of(code);
+    add(&mut digits, bytes)?;
+    if bytes.is_empty() {
+        for instruction in &instructions_of(alloc, code)? {
+            let (front, _) = instruction.rsplit_once(' ').unwrap_or(("", ""));
+            let (_, object) = front.split_once(' ').unwrap_or(("", ""));
+            for group in object.split(' ') {
+                add(&mut digits, group)?;
+            }
+        }
+    }
+    Ok(digits)
+}
+
+/// A line of a listing: statement number right in 5 columns behind 34, operation behind ten blanks.
+fn add_plain(
+    text: &mut Vec<u8>,
+    alloc: Global,
+    number: usize,
+    instruction: &str,
+) -> Result<(), Fail> {
+    let (front, operation) = instruction.rsplit_once(' ').unwrap_or(("", ""));
+    add(text, front)?;
+    add_blanks(text, front.len(), 34)?;
+    add_number(text, alloc, 5, number)?;
+    add_blanks(text, 0, 10)?;
+    add(text, operation)?;
+    add(text, "\n")
+}
+
+fn add_module(text: &mut Vec<u8>, alloc: Global, code: &str) -> Result<(), Fail> {
+    let digits = digits_of(alloc, code)?;
+    let instructions = instructions_of(alloc, code)?;
+    add(text, "MODULE M 100000 ")?;
+    add_number(text, alloc, 0, digits.len() / 2)?;
+    add(text, "\nTEXT ")?;
+    text.extend_from_slice(&digits)?;
+    add(text, "\nLISTING ")?;
+    add_number(text, alloc, 0, instructions.len().wrapping_add(1))?;
+    add(text, "\n")?;
+    add(text, HEADING)?;
+    for (i, instruction) in instructions.iter().enumerate() {
+        add_plain(text, alloc, i.wrapping_add(1), instruction)?;
+    }
+    Ok(())
+}
+
+/// The bytes of the case's job.
+pub fn job_of(alloc: Global, case: &Case) -> Result<Vec<u8>, Fail> {
+    let mut text = Vec::new(alloc);
+    if !case.code.is_empty() {
+        add(&mut text, "COVERJOB 1\n")?;
+        add_module(&mut text, alloc, case.code)?;
+        add(&mut text, "PHASE P\nSESSION S M\n")?;
+    }
+    add(&mut text, case.job)?;
+    Ok(text)
+}
+
+fn add_registers(text: &mut Vec<u8>, words: &str) -> Result<(), Fail> {
+    let mut values = ["00000000"; 16];
+    values[14] = "00FFFFFE";
+    values[15] = "00100000";
+    for word in words.split(' ') {
+        if let Some((key, value)) = word.split_once('=') {
+            let r = usize::from_str_radix(key, 16).unwrap_or(0);
+            values[r % 16] = value;
+        }
+    }
+    for (r, value) in values.iter().enumerate() {
+        if r % 8 == 0 {
+            add(text, if r == 0 { "R0" } else { "\nR8" })?;
+        }
+        add(text, " ")?;
+        add(text, value)?;
+    }
+    add(text, "\n")
+}
+
+fn add_marked(text: &mut Vec<u8>, alloc: Global, code: &str, words: &str) -> Result<(), Fail> {
+    let (marks, counts) = words.split_once(' ').unwrap_or(("", ""));
+    let instructions = instructions_of(alloc, code)?;
+    add(text, "MODULE M PLACES ")?;
+    add_number(text, alloc, 0, instructions.len())?;
+    add(text, " ")?;
+    add(text, counts)?;
+    add(text, "\n  ")?;
+    add(text, HEADING)?;
+    for (i, instruction) in instructions.iter().enumerate() {
+        text.push(marks.as_bytes().get(i).copied().unwrap_or(b'?'))?;
+        add(text, " ")?;
+        add_plain(text, alloc, i.wrapping_add(1), instruction)?;
+    }
+    Ok(())
+}
+
+/// What is written for the case.
+pub fn text_of(alloc: Global, case: &Case) -> Result<Vec<u8>, Fail> {
+    let mut text = Vec::new(alloc);
+    for line in case.text.lines() {
+        if let Some(words) = line.strip_prefix("regs") {
+            add_registers(&mut text, words)?;
+        } else if let Some(words) = line.strip_prefix("marks ") {
+            add_marked(&mut text, alloc, case.code, words)?;
+        } else {
+            add(&mut text, line)?;
+            add(&mut text, "\n")?;
+        }
+    }
+    Ok(text)
+}
