@@ -1,5 +1,5 @@
 //! A source over any reader and a sink over any writer of std.
-ghost use Rattle.std.specs.Prelude.{◌≡◌, ◌<◌, ◌≤◌, length, IfOk, OnErr};
+ghost use Rattle.std.specs.Prelude.{◌≡◌, ◌<◌, ◌≤◌, length, IfOk, OnOk, OnErr};
 ghost use Rattle.std.specs.Io.{ReadsAtMost};
 ghost use Rattle.std.specs.Io.KnownBytes.{ReadConsumes, WriteAppends};
 ghost use Rattle.cov_outside.specs.Causes.{HasCause, raised};
@@ -42,6 +42,7 @@ impl<R: Read> Source for StdSource<R> {
         ensures bound { ReadsAtMost result buf.new }
         ensures bytes { ReadConsumes (R.remaining (reader_of self.old)) (R.remaining (reader_of self.new)) result buf.new }
         ensures cause { HasCause (read_faults self.old) (read_faults self.new) result }
+        ensures no_fault { OnOk result (read_faults self.new ≡ read_faults self.old) }
         ensures one { OnErr result (read_faults self.new ≡ raised (read_faults self.old)) }
     {
         match self.inner.read(buf) {
@@ -90,6 +91,7 @@ impl<W: Write> Sink for StdSink<W> {
         ensures bound { IfOk result (λ n. n ≤ length piece.now) }
         ensures bytes { WriteAppends (W.contents (writer_of self.old)) (W.contents (writer_of self.new)) result piece.now }
         ensures cause { HasCause (write_faults self.old) (write_faults self.new) result }
+        ensures no_fault { OnOk result (write_faults self.new ≡ write_faults self.old) }
         ensures one { OnErr result (write_faults self.new ≡ raised (write_faults self.old)) }
     {
         match self.inner.write(piece) {

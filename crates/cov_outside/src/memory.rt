@@ -67,6 +67,7 @@ impl Source for MemSource {
         ensures bound { ReadsAtMost result buf.new }
         ensures bytes { ReadConsumes (Some self.old.left) (Some self.new.left) result buf.new }
         ensures cause { HasCause self.old.faults self.new.faults result }
+        ensures no_fault { OnOk result (self.new.faults ≡ self.old.faults) }
         ensures count { IfOk result (λ n. n ≡ given_count self.old.left self.old.piece (length buf.old)) }
         ensures unlisted { OnOk result (is_listed self.old.calls self.old.fail ≡ false) }
         ensures listed { OnErr result (is_listed self.old.calls self.old.fail ≡ true) }

@@ -1,5 +1,5 @@
 //! What a source and a sink of bytes are.
-ghost use Rattle.std.specs.Prelude.{◌≡◌, ◌<◌, ◌≤◌, ℕ, List, length, IfOk};
+ghost use Rattle.std.specs.Prelude.{◌≡◌, ◌<◌, ◌≤◌, ℕ, List, length, IfOk, OnOk};
 ghost use Rattle.std.specs.declared.option.Option.{Option};
 ghost use Rattle.std.specs.Io.{ReadsAtMost};
 ghost use Rattle.std.specs.Io.KnownBytes.{ReadConsumes, WriteAppends};
@@ -23,7 +23,8 @@ pub trait Source {
         requires { 0 < length buf.old }
         ensures bound { ReadsAtMost result buf.new }
         ensures bytes { ReadConsumes (left self.old) (left self.new) result buf.new }
-        ensures cause { HasCause (faults self.old) (faults self.new) result };
+        ensures cause { HasCause (faults self.old) (faults self.new) result }
+        ensures no_fault { OnOk result (faults self.new ≡ faults self.old) };
 }
 
 /// A device that takes bytes. Its count of faults never falls, and ends at 2^64 - 1.
@@ -35,7 +36,8 @@ pub trait Sink {
     ghost faults: { Self → ℕ };
 
     /// Takes the first bytes of a piece that isn't empty, at least one, and answers with how many.
-    /// Failed only where the count rose or stands at its end; nothing of the piece is then taken. An Ok leaves the count.
+    /// Failed only where the count rose or stands at its end; nothing of the piece is then taken. Of the
+    /// count after an Ok nothing is said but that it never falls.
     fn write(&mut self, piece: &[u8]) -> Result<usize, Failed>
         requires { 0 < length piece.now }
         ensures some { IfOk result (λ n. 0 < n) }

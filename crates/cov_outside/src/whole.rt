@@ -1,8 +1,8 @@
 //! Whole inputs and whole texts.
 ghost use Rattle.std.specs.Prelude.{◌≡◌, ◌<◌, ◌≤◌, ◌^◌, length, IfOk, OnOk, OnErr, IsErrOf};
-ghost use Rattle.std.specs.Io.KnownBytes.{Appends};
-ghost use Rattle.cov_outside.specs.Causes.{Rose, HasCause};
-ghost use Rattle.cov_outside.specs.Whole.{IsWhole, HasMoreThan, HasAtMost, ConsumesSome, AppendsSome};
+ghost use Rattle.cov_outside.specs.Causes.{Rose};
+ghost use Rattle.cov_outside.specs.Whole.{IsWhole, HasMoreThan, HasAtMost, ConsumesSome};
+ghost use Rattle.cov_outside.specs.Writes.{Writes};
 
 use crate::streams::{Failed, Sink, Source};
 use std::alloc::{AllocError, Global};
@@ -76,9 +76,7 @@ pub fn read_all<S: Source>(
 
 /// Writes a text whole, or its first bytes where the sink fails.
 pub fn write_all<K: Sink>(sink: &mut K, text: &[u8]) -> Result<(), Failed>
-    ensures whole { OnOk result (Appends (K.written sink.old) (K.written sink.new) text.now) }
-    ensures some { OnErr result (AppendsSome (K.written sink.old) (K.written sink.new) text.now) }
-    ensures cause { HasCause (K.faults sink.old) (K.faults sink.new) result }
+    ensures { Writes K.written K.faults sink.old sink.new result text.now }
 {
     let mut at = 0;
     while at < text.len() {
