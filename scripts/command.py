@@ -1,0 +1,100 @@
+"""What the scripts share: how they refuse input, read it, and write their output whole or not at all."""
+from __future__ import annotations
+
+import os
+import sys
+from typing import Callable
+
+USAGE, BAD_INPUT, READ_FAULT, WRITE_FAULT = 1, 2, 5, 6
+
+
+class Fault(Exception):
+    """Why a command ends: a place (a file and what of it), what is wrong there, and the exit status."""
+
+    def __init__(self, place: str, what: str, status: int = BAD_INPUT) -> None:
+        super().__init__(f"{place}: {what}")
+        self.status = status
+
+
+def read_file(path: str) -> bytes:
+    """The bytes of a file; of standard input where the path is '-'."""
+    if path == "-":
+        return read_input()
+    try:
+        with open(path, "rb") as file:
+            return file.read()
+    except (OSError, ValueError) as error:
+        raise Fault(path, reason(error)) from None
+
+
+def read_input() -> bytes:
+    """The bytes of standard input."""
+    try:
+        if sys.stdin is None:
+            raise Fault("standard input", "is closed", READ_FAULT)
+        return sys.stdin.buffer.read()
+    except OSError as error:
+        raise Fault("standard input", reason(error), READ_FAULT) from None
+
+
+def write_output(data: bytes) -> None:
+    """Writes all of standard output."""
+    try:
+        if sys.stdout is None:
+            raise Fault("standard output", "is closed", WRITE_FAULT)
+        sys.stdout.buffer.write(data)
+        sys.stdout.buffer.flush()
+    except OSError as error:
+        drop_output()
+        raise Fault("standard output", reason(error), WRITE_FAULT) from None
+
+
+def drop_output() -> None:
+    """Turns standard output away, so that what it still holds makes no second fault as Python ends."""
+    nothing = os.open(os.devnull, os.O_WRONLY)
+    os.dup2(nothing, sys.stdout.fileno())
+    os.close(nothing)
+
+
+def write_file(path: str, data: bytes) -> None:
+    """Writes a file."""
+    try:
+        with open(path, "wb") as file:
+            file.write(data)
+    except (OSError, ValueError) as error:
+        raise Fault(path, reason(error), WRITE_FAULT) from None
+
+
+def reason(error: Exception) -> str:
+    """The system's words for a fault."""
+    return getattr(error, "strerror", None) or str(error)
+
+
+def run(usage: str, main: Callable[[list[str]], None]) -> int:
+    """Runs a command on its words, and answers the exit status. `--help` prints the usage; main raises
+    `UsageError` where the words are no command's."""
+    words = sys.argv[1:]
+    try:
+        if words == ["--help"]:
+            write_output(usage.encode())
+        else:
+            main(words)
+        return 0
+    except UsageError:
+        complain(usage.rstrip("\n"))
+        return USAGE
+    except Fault as fault:
+        complain(f"coverage: {fault}")
+        return fault.status
+
+
+class UsageError(Exception):
+    """The words are not those of the command."""
+
+
+def complain(text: str) -> None:
+    """Writes to standard error, where there is one."""
+    try:
+        print(text, file=sys.stderr, flush=True)
+    except (OSError, ValueError, AttributeError):
+        pass

@@ -1,0 +1,77 @@
+"""Makes a report a tracefile, with each listing as a file."""
+from __future__ import annotations
+
+import os
+import re
+import sys
+
+from command import Fault, UsageError, WRITE_FAULT, read_input, reason, run, write_file
+from report import Line, Module, Session, read_report
+
+USAGE = """\
+usage: coverage lcov FOLDER < REPORT
+
+Writes the listings of a report into FOLDER, each module's as NAME.lst, and beside them coverage.info, a tracefile
+that genhtml and others take:
+
+  genhtml --branch-coverage --output-directory PAGES FOLDER/coverage.info
+
+Each session that has the module is a test of the tracefile. Each instruction line is a line of it, executed or not:
+a report counts no executions, so that counts are 0 and 1. Each line of a conditional branch has two branches, taken
+and not taken. The listings are named as FOLDER was given: run genhtml where you ran this.
+
+What is no report is refused by its line on standard error; then the status is 2, and nothing is written. This script
+is not proved.
+"""
+# Names have capital letters alone, so that these small ones make no two names the same.
+IN_FILES = str.maketrans({"@": "a", "#": "n", "$": "d"})
+
+
+def file_of(module: Module) -> str:
+    """The name of a listing's file."""
+    return f"{module.name.translate(IN_FILES)}.lst"
+
+
+def branches(number: int, line: Line) -> list[str]:
+    """The two branches of a conditional line: taken, and not taken."""
+    ran = line.mark != "^"
+    counts = [str(int(line.mark in marks)) if ran else "-" for marks in (">&", "V&")]
+    return [f"BRDA:{number},0,{branch},{count}" for branch, count in enumerate(counts)]
+
+
+def record(folder: str, session: Session, module: Module) -> list[str]:
+    """The record of a module's listing in one session."""
+    lines = [(at, it) for at, it in enumerate(module.lines, 1) if it.mark != " "]
+    conditional = [(at, it) for at, it in lines if it.is_conditional]
+    hit = sum(len(it.mark.strip("^:")) + (it.mark == "&") for _, it in conditional)
+    return [
+        f"TN:{re.sub('[^A-Z0-9]', '_', session.name)}",
+        f"SF:{os.path.join(folder, file_of(module))}",
+        *(text for at, it in conditional for text in branches(at, it)),
+        f"BRF:{2 * len(conditional)}",
+        f"BRH:{hit}",
+        *(f"DA:{at},{int(it.mark != '^')}" for at, it in lines),
+        f"LF:{len(lines)}",
+        f"LH:{sum(it.mark != '^' for _, it in lines)}",
+        "end_of_record",
+    ]
+
+
+def main(words: list[str]) -> None:
+    if len(words) != 1 or not words[0]:
+        raise UsageError
+    folder = words[0]
+    report = read_report("standard input", read_input())
+    found = [(session, it) for session in report.sessions for it in session.modules if it.lines]
+    tracefile = [line for session, it in found for line in record(folder, session, it)]
+    try:
+        os.makedirs(folder, exist_ok=True)
+    except (OSError, ValueError) as error:
+        raise Fault(folder, reason(error), WRITE_FAULT) from None
+    for _, module in found:
+        write_file(os.path.join(folder, file_of(module)), b"".join(it.text + b"\n" for it in module.lines))
+    write_file(os.path.join(folder, "coverage.info"), "".join(f"{it}\n" for it in tracefile).encode())
+
+
+if __name__ == "__main__":
+    sys.exit(run(USAGE, main))

@@ -1,0 +1,245 @@
+"""Object decks as the assembler writes them (HLASM Programmer's Guide, "Object Deck Output"): the text of their control
+sections, laid out in their order from a doubleword on, and relocated.
+
+A record is a card image of 80 bytes: X'02', three letters in EBCDIC, and fields at fixed columns.
+"""
+from __future__ import annotations
+
+from dataclasses import dataclass, field
+
+from cards import check_size
+from command import Fault
+from ebcdic import shown
+
+RECORD = 80
+KINDS = {0x00: "SD", 0x01: "LD", 0x02: "ER", 0x04: "PC", 0x05: "CM", 0x06: "XD", 0x0A: "WX"}
+SECTIONS = ("SD", "PC", "CM")
+ITEM, ITEMS, MOST_DATA = 16, (16, 32, 48), 56
+NO_ITEM, LETTERS = (b"\x40\x40", b"\x00\x00"), (*range(0xC1, 0xCA), *range(0xD1, 0xDA), *range(0xE2, 0xEA))
+
+
+@dataclass
+class Symbol:
+    """An item of the external symbol dictionary: a section has its origin and its length, a label its section."""
+
+    kind: str
+    name: str
+    place: str
+    origin: int = 0
+    length: int = 0
+    section: int = 0
+    at: int = 0
+
+
+@dataclass
+class Piece:
+    """Text, or an address constant, of a section, with the record that has it."""
+
+    place: str
+    section: int
+    address: int
+    data: bytes = b""
+    refers: int = 0
+    length: int = 0
+    is_negative: bool = False
+
+
+@dataclass
+class Deck:
+    """What the records of a deck say."""
+
+    symbols: dict[int, Symbol] = field(default_factory=dict)
+    labels: list[Symbol] = field(default_factory=list)
+    texts: list[Piece] = field(default_factory=list)
+    constants: list[Piece] = field(default_factory=list)
+
+
+def is_deck(data: bytes) -> bool:
+    """Whether the bytes begin as a record does: X'02', which begins no instruction, and three letters."""
+    return len(data) >= 4 and data[0] == 0x02 and all(it in LETTERS for it in data[1:4])
+
+
+def number(data: bytes) -> int:
+    """The number that big-endian bytes give."""
+    return int.from_bytes(data, "big")
+
+
+def read_deck(path: str, data: bytes) -> Deck:
+    """Reads the records of a deck up to its END record, which is the last."""
+    if len(data) % RECORD:
+        raise Fault(path, f"an object deck of {len(data)} bytes, which is no multiple of {RECORD}")
+    deck, readers = Deck(), {"ESD": read_symbols, "TXT": read_text, "RLD": read_constants}
+    count = len(data) // RECORD
+    for at in range(count):
+        record, place = data[at * RECORD : (at + 1) * RECORD], f"{path}: record {at + 1}"
+        name = shown(record[1:4])
+        if record[0] != 0x02 or name not in (*readers, "SYM", "END"):
+            raise Fault(place, f"an unknown record, which begins {record[:4].hex().upper()}: it is none of ESD, TXT, RLD, SYM and END")
+        if name == "END":
+            if at + 1 < count:
+                raise Fault(f"{path}: record {at + 2}", "a record behind the END record")
+            return deck
+        if name != "SYM":
+            readers[name](deck, place, record)
+    raise Fault(f"{path}: record {count + 1}", "the END record is missing")
+
+
+def data_of(place: str, record: bytes) -> bytes:
+    """The bytes from column 17 on, as many as columns 11 and 12 say."""
+    count = number(record[10:12])
+    if count > MOST_DATA:
+        raise Fault(place, f"a count of {count} bytes: a record has room for {MOST_DATA}")
+    return record[16 : 16 + count]
+
+
+def read_symbols(deck: Deck, place: str, record: bytes) -> None:
+    """Reads one to three items of the external symbol dictionary. Labels have no number of their own."""
+    items = data_of(place, record)
+    if len(items) not in ITEMS:
+        raise Fault(place, f"an ESD record of {len(items)} bytes: its items have {ITEM} bytes, and there are one to three")
+    next_number = number(record[14:16])
+    for at in range(0, len(items), ITEM):
+        symbol = symbol_of(place, items[at : at + ITEM])
+        if symbol.kind == "LD":
+            deck.labels.append(symbol)
+            continue
+        if record[14:16] in NO_ITEM or next_number in deck.symbols:
+            raise Fault(place, f"the symbol {symbol.name or '(blank)'} has no number, or that of another")
+        deck.symbols[next_number] = symbol
+        next_number += 1
+
+
+def symbol_of(place: str, item: bytes) -> Symbol:
+    """The symbol that an item of 16 bytes states."""
+    name, kind = shown(item[:8]), KINDS.get(item[8])
+    if kind is None or kind == "XD":
+        raise Fault(place, f"the symbol {name or '(blank)'} is of type {item[8]:02X}, which is none of SD, LD, ER, PC, CM and WX")
+    address = number(item[9:12])
+    if kind in SECTIONS:
+        return Symbol(kind, name, place, origin=address, length=number(item[13:16]))
+    return Symbol(kind, name, place, origin=address, section=number(item[14:16]) if kind == "LD" else 0)
+
+
+def read_text(deck: Deck, place: str, record: bytes) -> None:
+    """Reads the text of a section from an address on."""
+    deck.texts.append(Piece(place, number(record[14:16]), number(record[5:8]), data_of(place, record)))
+
+
+def read_constants(deck: Deck, place: str, record: bytes) -> None:
+    """Reads the address constants: each an item of 8 bytes, or of 4 where the item before says that its first four
+    bytes, the numbers of the symbol and of the section, hold here too."""
+    items, at, is_chained, refers, section = data_of(place, record), 0, False, 0, 0
+    while at < len(items):
+        size = 4 if is_chained else 8
+        item = items[at : at + size]
+        if len(item) < size:
+            raise Fault(place, f"an item of the relocation dictionary is cut short: {len(item)} bytes of {size}")
+        if not is_chained:
+            refers, section = number(item[0:2]), number(item[2:4])
+        flags, address = item[-4], number(item[-3:])
+        deck.constants.append(Piece(place, section, address, b"", refers, length_of(place, flags), bool(flags & 2)))
+        is_chained, at = bool(flags & 1), at + size
+    if is_chained:
+        raise Fault(place, "the last item of the relocation dictionary says that another follows, and none does")
+
+
+def length_of(place: str, flags: int) -> int:
+    """The bytes of an address constant, 3 or 4, by its flags."""
+    if flags >> 4 not in (0, 1):
+        raise Fault(place, f"an address constant with the flags {flags:02X}: it is neither an A nor a V constant")
+    length = (flags >> 2 & 3) + 1
+    if length < 3:
+        raise Fault(place, f"an address constant of {length} bytes: those of 3 and 4 can be relocated")
+    return length
+
+
+def text_of(path: str, deck: Deck, base: int) -> bytes:
+    """The module of the deck at this base: its sections' text, each constant with the addresses that it stands for."""
+    size = lay_out(path, deck)
+    check_size(path, base, size)
+    addresses = addresses_of(path, deck, base)
+    text, is_set = bytearray(size), bytearray(size)
+    for piece in deck.texts:
+        put(deck, piece, text, is_set)
+    for piece in deck.constants:
+        relocate(deck, piece, text, addresses)
+    return bytes(text)
+
+
+def lay_out(path: str, deck: Deck) -> int:
+    """Gives each section its place, a doubleword's, behind the one before, and answers the size of all, made even."""
+    end = 0
+    for _, symbol in sorted(deck.symbols.items()):
+        if symbol.kind in SECTIONS:
+            symbol.at = (end + 7) // 8 * 8
+            end = symbol.at + symbol.length
+    if not any(it.kind in SECTIONS for it in deck.symbols.values()):
+        raise Fault(path, "an object deck without a section")
+    return end + end % 2
+
+
+def section_of(deck: Deck, place: str, section: int) -> Symbol:
+    """The section of that number."""
+    symbol = deck.symbols.get(section)
+    if symbol is None or symbol.kind not in SECTIONS:
+        raise Fault(place, f"there is no section with the number {section}")
+    return symbol
+
+
+def put(deck: Deck, piece: Piece, text: bytearray, is_set: bytearray) -> None:
+    """Puts a piece of text where its section stands; no byte is set twice."""
+    section = section_of(deck, piece.place, piece.section)
+    offset = offset_in(piece, section, len(piece.data), "text")
+    end = offset + len(piece.data)
+    if any(is_set[offset:end]):
+        at = piece.address + is_set[offset:end].index(1)
+        raise Fault(piece.place, f"overlapping text: {at:06X} of {section.name or 'the section'} was set before")
+    text[offset:end] = piece.data
+    is_set[offset:end] = b"\x01" * len(piece.data)
+
+
+def offset_in(piece: Piece, section: Symbol, length: int, what: str) -> int:
+    """Where a piece stands in the module, all of it in its section."""
+    offset = piece.address - section.origin
+    if offset < 0 or offset + length > section.length:
+        raise Fault(piece.place, f"{what} past the section: {piece.address:06X} and {length} bytes, of {section.name or 'a section'} from {section.origin:06X} with {section.length} bytes")
+    return section.at + offset
+
+
+def addresses_of(path: str, deck: Deck, base: int) -> dict[int, int]:
+    """What is added for each symbol: how far its section has moved, or where what it refers to stands."""
+    defined: dict[str, int] = {}
+    for symbol in deck.symbols.values():
+        if symbol.kind in SECTIONS and symbol.name:
+            define(defined, symbol, base + symbol.at)
+    for label in deck.labels:
+        section = section_of(deck, label.place, label.section)
+        define(defined, label, base + section.at + label.origin - section.origin)
+    return {of: address_of(symbol, defined, base) for of, symbol in deck.symbols.items()}
+
+
+def define(defined: dict[str, int], symbol: Symbol, address: int) -> None:
+    """Notes where a name stands; no name is defined twice."""
+    if symbol.name in defined:
+        raise Fault(symbol.place, f"{symbol.name} is defined twice")
+    defined[symbol.name] = address
+
+
+def address_of(symbol: Symbol, defined: dict[str, int], base: int) -> int:
+    """What is added for a symbol; 0 for a weak reference that nothing defines."""
+    if symbol.kind in SECTIONS:
+        return base + symbol.at - symbol.origin
+    if symbol.name not in defined and symbol.kind == "ER":
+        raise Fault(symbol.place, f"nothing defines the external reference {symbol.name}")
+    return defined.get(symbol.name, 0)
+
+
+def relocate(deck: Deck, piece: Piece, text: bytearray, addresses: dict[int, int]) -> None:
+    """Adds to an address constant what its symbol has moved by, or subtracts it."""
+    section = section_of(deck, piece.place, piece.section)
+    if piece.refers not in addresses:
+        raise Fault(piece.place, f"an address constant of the symbol {piece.refers}, which no ESD record has")
+    offset = offset_in(piece, section, piece.length, "an address constant")
+    end, change = offset + piece.length, addresses[piece.refers]
+    value = number(text[offset:end]) + (-change if piece.is_negative else change)
+    text[offset:end] = (value % 256**piece.length).to_bytes(piece.length, "big")

@@ -1,0 +1,221 @@
+"""Makes a report one page for a browser."""
+from __future__ import annotations
+
+import os
+import re
+import sys
+from html import escape
+
+from command import UsageError, read_input, run, write_output
+from ebcdic import to_ascii
+from report import Line, Module, Report, Session, Task, read_report, text_of
+
+USAGE = """\
+usage: coverage page < REPORT > PAGE
+
+Makes a report (of run or replay) one HTML page, which stands alone: a table of the sessions' modules with their
+places and facts, each listing with its marks, in colour and in print, links to what wasn't executed, and the tasks'
+results, folded. It has no script, follows the browser's light or dark, and its wide listings scroll.
+
+What is no report is refused by its line on standard error; then the status is 2, and nothing is written. This script
+is not proved.
+"""
+MARKS = {
+    "^": ("not", "not executed"),
+    ":": ("done", "executed"),
+    ">": ("half", "branched only"),
+    "V": ("half", "fell through only"),
+    "&": ("done", "branched and fell through"),
+}
+# What no page may hold: control characters.
+CONTROLS = re.compile("[\x00-\x1f\x7f-\x9f\ud800-\udfff]")
+ROW = 16
+
+
+def safe(text: str) -> str:
+    """The text for a page."""
+    return escape(CONTROLS.sub("\ufffd", text))
+
+
+def percent(part: int, whole: int) -> int:
+    """Of a hundred, rounded down, so that 100 is all."""
+    return 100 * part // whole if whole else 100
+
+
+def count_of(count: int, what: str) -> str:
+    """A count in words: 1 line, 2 lines."""
+    return f"{count:,} {what}{'' if count == 1 else 's'}"
+
+
+def bar(part: int, whole: int, what: str) -> str:
+    """The cells of a number, its whole, and a bar of its part."""
+    if not whole:
+        return '<td class="number">none</td><td></td>'
+    share = percent(part, whole)
+    return (
+        f'<td class="number">{part:,} of {whole:,}</td>'
+        f'<td><span class="bar" role="img" aria-label="{share} % of {what}"><span style="width:{share}%"></span></span> {share} %</td>'
+    )
+
+
+def anchor(session: Session, module: Module) -> str:
+    """The name of a listing on the page. Names of sessions differ, and those of modules too."""
+    return f"{session.name}.{module.name}"
+
+
+def summary_row(session: Session, module: Module) -> str:
+    """A module of a session, as a row of the table."""
+    name = safe(module.name)
+    if module.lines:
+        name = f'<a href="#{anchor(session, module)}">{name}</a>'
+    cells = bar(module.executed, module.places, "places") + bar(module.facts, module.possible, "facts")
+    return f'<tr><td>{safe(session.name)}</td><td>{safe(session.phase)}</td><th scope="row">{name}</th>{cells}</tr>'
+
+
+def summary(report: Report) -> str:
+    """The table of all sessions and their modules."""
+    found = [(session, it) for session in report.sessions for it in session.modules]
+    if not found:
+        return "<p>The report has no session with a module.</p>"
+    rows = "\n".join(summary_row(*it) for it in found)
+    return f"""<div class="wide summary" tabindex="0" role="region" aria-label="Sessions and modules"><table>
+<caption>Places are instruction lines. A place has one fact, that it ran; a conditional branch has two, that it branched and that it fell through.</caption>
+<thead><tr><th scope="col">Session</th><th scope="col">Phase</th><th scope="col">Module</th><th scope="col" class="number">Executed</th><th scope="col">Places</th><th scope="col" class="number">Shown</th><th scope="col">Facts</th></tr></thead>
+<tbody>
+{rows}
+</tbody></table></div>"""
+
+
+def legend(module: Module) -> str:
+    """What the marks say, and how many lines have each."""
+    counts = {mark: sum(it.mark == mark for it in module.lines) for mark in MARKS}
+    items = [
+        f'<li><code class="l {kind}"><span class="m">{safe(mark)}</span></code> {words}: {counts[mark]:,}</li>'
+        for mark, (kind, words) in MARKS.items()
+    ]
+    return f'<ul class="marks">{"".join(items)}</ul>'
+
+
+def listing_line(name: str, line: Line) -> str:
+    """A line of a listing, behind its mark."""
+    if line.mark == " ":
+        return f'<span class="l">  {safe(text_of(line.text))}</span>'
+    kind, words = MARKS[line.mark]
+    return (
+        f'<span class="l {kind}" id="{name}.{line.location:06X}">'
+        f'<span class="m" role="img" aria-label="{words}">{safe(line.mark)}</span> {safe(text_of(line.text))}</span>'
+    )
+
+
+def ranges(name: str, module: Module) -> str:
+    """Links to the first line of each range that was not executed."""
+    if not module.ranges:
+        return "<p>Every place was executed.</p>" if module.places else "<p>The listing has no instruction line.</p>"
+    items = [f'<li><a href="#{name}.{first:06X}">{first:06X}-{last:06X}</a></li>' for first, last in module.ranges]
+    return f'<p>{count_of(len(items), "range")} not executed:</p>\n<ul class="ranges">{"".join(items)}</ul>'
+
+
+def module_part(session: Session, module: Module) -> str:
+    """A module's listing with its marks."""
+    name, title = anchor(session, module), f"{safe(module.name)} in session {safe(session.name)}"
+    lines = "\n".join(listing_line(name, it) for it in module.lines)
+    return f"""<section id="{name}" aria-labelledby="{name}.title">
+<h2 id="{name}.title">{title}</h2>
+<p>{count_of(module.executed, "place")} of {module.places:,} executed, {count_of(module.facts, "fact")} of {module.possible:,} shown.</p>
+{ranges(name, module)}
+{legend(module)}
+<div class="wide listing" tabindex="0" role="region" aria-label="Listing of {title}"><pre>{lines}</pre></div>
+</section>"""
+
+
+def dump(rows: list[tuple[int, bytes]]) -> str:
+    """Bytes in rows, each with its address, and as EBCDIC."""
+    lines = []
+    for at, data in rows:
+        digits = " ".join(data[it : it + 4].hex().upper() for it in range(0, len(data), 4))
+        lines.append(f"{at:06X}  {digits:<35}  |{safe(to_ascii(data).decode('ascii'))}|")
+    return f"<pre>{chr(10).join(lines)}</pre>"
+
+
+def task_part(task: Task) -> str:
+    """A task's result, folded."""
+    registers = "\n".join(
+        f"R{at:<2} {' '.join(task.registers[at : at + 4])}" for at in range(0, len(task.registers), 4)
+    )
+    output = [(at, task.output[at : at + ROW]) for at in range(0, len(task.output), ROW)]
+    said = f"{safe(task.ending)}, {count_of(task.count, 'instruction')}, condition code {task.condition}"
+    parts = [f"<h3>Registers</h3><pre>{registers}</pre>"]
+    if output:
+        parts.append(f"<h3>Output</h3>{dump(output)}")
+    if task.rows:
+        parts.append(f"<h3>Private storage that changed</h3>{dump(task.rows)}")
+    return f"""<details><summary><strong>{safe(task.name)}</strong> {said}, {count_of(len(task.output), "byte")} of output</summary>
+<div>{"".join(parts)}</div></details>"""
+
+
+def events_part(report: Report) -> str:
+    """The events of a schedule, folded."""
+    if not report.events:
+        return ""
+    lines = "\n".join(map(safe, report.events))
+    return f"<details><summary>{count_of(len(report.events), 'event')} of the schedule</summary><div><pre>{lines}</pre></div></details>"
+
+
+def tasks_part(report: Report) -> str:
+    """The results of all tasks."""
+    tasks = "\n".join(map(task_part, report.tasks)) or "<p>The job has no task.</p>"
+    return f'<section aria-labelledby="tasks"><h2 id="tasks">Tasks</h2>\n{tasks}\n{events_part(report)}</section>'
+
+
+def whole(report: Report) -> str:
+    """The counts of the report in one sentence."""
+    modules = [it for session in report.sessions for it in session.modules]
+    places, facts = sum(it.places for it in modules), sum(it.facts for it in modules)
+    executed, possible = sum(it.executed for it in modules), sum(it.possible for it in modules)
+    return (
+        f"{count_of(len(report.sessions), 'session')}, {count_of(len(report.tasks), 'task')}: "
+        f"{executed:,} of {count_of(places, 'place')} executed, {facts:,} of {count_of(possible, 'fact')} shown."
+    )
+
+
+def style() -> str:
+    """The page's style sheet."""
+    with open(os.path.join(os.path.dirname(os.path.realpath(__file__)), "page.css"), encoding="utf-8") as file:
+        return file.read()
+
+
+def page(report: Report) -> str:
+    """The whole page."""
+    title = "Coverage of a schedule" if report.events else "Coverage report"
+    modules = "\n".join(module_part(session, it) for session in report.sessions for it in session.modules if it.lines)
+    return f"""<!DOCTYPE html>
+<html lang="en">
+<head>
+<meta charset="utf-8">
+<meta name="viewport" content="width=device-width, initial-scale=1">
+<meta http-equiv="Content-Security-Policy" content="default-src 'none'; style-src 'unsafe-inline'">
+<title>{title}</title>
+<style>
+{style()}</style>
+</head>
+<body>
+<header><h1>{title}</h1>
+<p class="dim">{whole(report)}</p></header>
+<main>
+{summary(report)}
+{modules}
+{tasks_part(report)}
+</main>
+</body>
+</html>
+"""
+
+
+def main(words: list[str]) -> None:
+    if words:
+        raise UsageError
+    write_output(page(read_report("standard input", read_input())).encode("utf-8"))
+
+
+if __name__ == "__main__":
+    sys.exit(run(USAGE, main))

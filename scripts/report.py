@@ -1,0 +1,212 @@
+"""Reports, as docs/REPORT.md has them: read line by line, and refused at the first line that is none of a report."""
+from __future__ import annotations
+
+import re
+from dataclasses import dataclass, field
+from typing import NoReturn, Optional
+
+from command import Fault
+from listing import object_code, shift_of
+
+TITLES = (b"COVERAGE REPORT", b"COVERAGE REPLAY")
+NAME = rb"([A-Z@#$][A-Z@#$0-9]{0,7})"
+ENDING = rb"(RETURNED|EXIT|ABEND [0-9A-F]|BADSVC [0-9]{1,3}|TOUCHED [0-9A-F]{6}|OUTFULL|SPENT|RUNNING)"
+EVENT = re.compile(rb"EVENT [0-9]+ (?:FETCH|MARK|LIFT|DO|GO) .+")
+TASK = re.compile(rb"TASK " + NAME + b" " + ENDING + rb" COUNT ([0-9]+) CC ([0-3])")
+REGISTERS = re.compile(rb"R[08]((?: [0-9A-F]{8}){8})")
+OUTPUT = re.compile(rb"OUT ([0-9]+)")
+BYTES = re.compile(rb"(?:[0-9A-F]{2}){1,32}")
+ROW = re.compile(rb"STOR ([0-9A-F]{6}) ((?:[0-9A-F]{2}){1,16})")
+SESSION = re.compile(rb"SESSION " + NAME + b" PHASE " + NAME)
+MODULE = re.compile(rb"MODULE " + NAME + rb" PLACES ([0-9]+) EXECUTED ([0-9]+) FACTS ([0-9]+) OF ([0-9]+)")
+RANGE = re.compile(rb"NOT EXECUTED ([0-9A-F]{6})-([0-9A-F]{6})")
+MARKED = re.compile(rb"[\^:>V& ] ")
+# How many facts a mark stands for.
+FACTS = {"^": 0, ":": 1, ">": 1, "V": 1, "&": 2}
+
+
+@dataclass
+class Line:
+    """A line of a listing; at a place its location, and whether it branches on a condition."""
+
+    mark: str
+    text: bytes
+    location: Optional[int] = None
+    is_conditional: bool = False
+
+
+@dataclass
+class Module:
+    """A module of a session, as its line counts it, with its listing."""
+
+    name: str
+    places: int
+    executed: int
+    facts: int
+    possible: int
+    lines: list[Line] = field(default_factory=list)
+    ranges: list[tuple[int, int]] = field(default_factory=list)
+
+
+@dataclass
+class Session:
+    """A session and its modules."""
+
+    name: str
+    phase: str
+    modules: list[Module] = field(default_factory=list)
+
+
+@dataclass
+class Task:
+    """What has come of a task."""
+
+    name: str
+    ending: str
+    count: int
+    condition: int
+    registers: list[str]
+    output: bytes
+    rows: list[tuple[int, bytes]]
+
+
+@dataclass
+class Report:
+    """All of a report."""
+
+    title: str
+    events: list[str] = field(default_factory=list)
+    tasks: list[Task] = field(default_factory=list)
+    sessions: list[Session] = field(default_factory=list)
+
+
+def kind_is_conditional(code: bytes) -> bool:
+    """Whether an instruction is a conditional place, by its first two bytes (docs/MACHINE.md, "Places")."""
+    operation, mask, second = code[0], code[1] >> 4, code[1] & 15
+    if operation in (0x46, 0x86, 0x87):
+        return True
+    if operation == 0x06:
+        return second != 0
+    return 1 <= mask <= 14 and (operation == 0x47 or operation == 0x07 and second != 0)
+
+
+class Reader:
+    """The lines of a report, read from the first on."""
+
+    def __init__(self, place: str, data: bytes) -> None:
+        self.place, self.lines, self.at = place, data.split(b"\n"), 0
+        if not self.lines[-1]:
+            self.lines.pop()
+
+    def refuse(self, what: str, at: Optional[int] = None) -> NoReturn:
+        raise Fault(f"{self.place}: line {(self.at if at is None else at) + 1}", what)
+
+    def look(self) -> bytes:
+        if self.at >= len(self.lines):
+            self.refuse("the report ends early")
+        return self.lines[self.at]
+
+    def next_if(self, form: re.Pattern[bytes]) -> Optional[re.Match[bytes]]:
+        """The next line, taken, where it has the form."""
+        found = form.fullmatch(self.look())
+        self.at += found is not None
+        return found
+
+    def next(self, form: re.Pattern[bytes], what: str) -> re.Match[bytes]:
+        """The next line, taken, which has the form."""
+        found = self.next_if(form)
+        if found is None:
+            self.refuse(f"no {what} of a report: {shown(self.look())}")
+        return found
+
+    def report(self) -> Report:
+        if not self.lines or self.lines[0] not in TITLES:
+            has = shown(self.lines[0]) if self.lines else "nothing"
+            self.refuse(f"no report, which begins COVERAGE REPORT or COVERAGE REPLAY: {has}")
+        report = Report(self.lines[0].decode())
+        self.at = 1
+        while self.lines[0] == TITLES[1] and (event := self.next_if(EVENT)):
+            report.events.append(event[0].decode("ascii", "replace"))
+        while self.look().startswith(b"TASK "):
+            report.tasks.append(self.task())
+        while self.look() != b"END":
+            report.sessions.append(self.session())
+        if self.at + 1 < len(self.lines):
+            self.refuse("a line behind END", self.at + 1)
+        return report
+
+    def task(self) -> Task:
+        head = self.next(TASK, "line of a task")
+        registers = [self.next(REGISTERS, "line of registers")[1].decode().split() for _ in range(2)]
+        count = int(self.next(OUTPUT, "line of an output")[1])
+        output = b""
+        while len(output) < count:
+            output += bytes.fromhex(self.next(BYTES, "line of an output's bytes")[0].decode())
+        if len(output) > count:
+            self.refuse(f"an output of {count} bytes, of which there are {len(output)}", self.at - 1)
+        rows = []
+        while (row := self.next_if(ROW)) is not None:
+            rows.append((int(row[1], 16), bytes.fromhex(row[2].decode())))
+        return Task(head[1].decode(), head[2].decode(), int(head[3]), int(head[4]), sum(registers, []), output, rows)
+
+    def session(self) -> Session:
+        head = self.next(SESSION, "line")
+        session = Session(head[1].decode(), head[2].decode())
+        while self.look().startswith(b"MODULE "):
+            session.modules.append(self.module())
+        return session
+
+    def module(self) -> Module:
+        head, at = self.next(MODULE, "line of a module"), self.at - 1
+        module = Module(head[1].decode(), *(int(it) for it in head.groups()[1:]))
+        first = self.at
+        while MARKED.match(self.look()):
+            line = self.look()
+            module.lines.append(Line(chr(line[0]), line[2:]))
+            self.at += 1
+        self.find_places(module, first)
+        if counts_of(module) != (module.places, module.executed, module.facts, module.possible):
+            self.refuse("the counts of places and facts are not those of the marks below", at)
+        while (found := self.next_if(RANGE)) is not None:
+            module.ranges.append((int(found[1], 16), int(found[2], 16)))
+        return module
+
+    def find_places(self, module: Module, first: int) -> None:
+        """Gives each marked line its location and its kind, by the columns of the listing."""
+        heading = shift_of([it.text for it in module.lines])
+        for at, line in enumerate(module.lines):
+            if line.mark == " ":
+                continue
+            found = object_code(line.text, heading[1]) if heading and at > heading[0] else None
+            code = found and re.match(rb"[0-9A-Fa-f]{4}", found[1])
+            if not found or not code:
+                self.refuse("a mark on a line that is no instruction's", first + at)
+            line.location, line.is_conditional = found[0], kind_is_conditional(bytes.fromhex(code[0].decode()))
+            if line.mark != "^" and line.is_conditional != (line.mark in ">V&"):
+                self.refuse(f"the mark {line.mark} is none of this instruction", first + at)
+
+
+def counts_of(module: Module) -> tuple[int, int, int, int]:
+    """Places, places with a fact, facts, and facts that there can be, by the lines."""
+    places = [it for it in module.lines if it.mark != " "]
+    facts = [FACTS[it.mark] for it in places]
+    return len(places), sum(it > 0 for it in facts), sum(facts), sum(1 + it.is_conditional for it in places)
+
+
+def shown(line: bytes) -> str:
+    """A line in quotes, short."""
+    text = line.decode("ascii", "replace")
+    return repr(text if len(text) <= 60 else f"{text[:60]}..")
+
+
+def read_report(place: str, data: bytes) -> Report:
+    """Reads a report."""
+    return Reader(place, data).report()
+
+
+def text_of(line: bytes) -> str:
+    """A listing's line as text: in UTF-8, or else each byte a character of Latin 1."""
+    try:
+        return line.decode("utf-8")
+    except UnicodeDecodeError:
+        return line.decode("latin-1")
