@@ -1,6 +1,7 @@
 pub mod AreaLemmas
 pub mod JoinLemmas
 pub mod PhaseLemmas
+pub mod RangeLemmas
 pub mod SessionLemmas
 pub mod SlotLemmas
 pub mod TaskLemmas

@@ -155,7 +155,7 @@ HasRunTo-next j places phase sets f ledger ledger1 ledger2 finals finals1 finals
 pub HasRunTo-all : (j : JobView) (places : List Place) (n : ℕ) (sets : List FinalsView) (before after : Account) → length j.phases ≡ n → HasRunTo j places n sets before.ledger after.ledger before.finals after.finals →
     after.made ≡ before.made + n → HasLeft j places before after sets
 HasRunTo-all j places n sets before after all r made = record {
-  run = record {
+  ran = record {
     tallies = r.tallies;
     sets = sets;
     ended = subst (λ (ns : List (List ℕ)). AreEnded j places 0 ns sets r.tallies) (take_all n j.phases (omega arith)) r.ended;
@@ -167,13 +167,13 @@ HasRunTo-all j places n sets before after all r made = record {
 }
 
 pub left_count : (j : JobView) (places : List Place) (before after : Account) (sets : List FinalsView) → HasLeft j places before after sets → length sets ≡ length j.phases
-left_count j places before after sets l = ap (λ (fs : List FinalsView). length fs) l.are ∙ ended_count j places 0 j.phases l.run.sets l.run.tallies l.run.ended
+left_count j places before after sets l = ap (λ (fs : List FinalsView). length fs) l.are ∙ ended_count j places 0 j.phases l.ran.sets l.ran.tallies l.ran.ended
 
 pub left_at : (j : JobView) (places : List Place) (before after : Account) (sets : List FinalsView) (k : ℕ) (d : FinalsView) → HasLeft j places before after sets → k < length j.phases →
     AreaOf j places k (get_or sets k d)
 left_at j places before after sets k d l h =
     let here : 0 + k ≡ k = omega arith in
-    let left : AreaOf j places k (get_or l.run.sets k d) = subst (λ (n : ℕ). AreaOf j places n (get_or l.run.sets k d)) here (ended_at j places 0 j.phases l.run.sets l.run.tallies k d l.run.ended h) in
+    let left : AreaOf j places k (get_or l.ran.sets k d) = subst (λ (n : ℕ). AreaOf j places n (get_or l.ran.sets k d)) here (ended_at j places 0 j.phases l.ran.sets l.ran.tallies k d l.ran.ended h) in
     subst (λ (fs : List FinalsView). AreaOf j places k (get_or fs k d)) (sym l.are) left
 
 -- a list that was written through a loan of all of it

@@ -19,7 +19,7 @@ use Rattle.task_run.proofs.SetLemmas.{facts_of_all-one}
 use Rattle.session_book.specs.JobView.{JobView, SessionView, IsJob, IsSession, AreParted}
 use Rattle.session_book.specs.Sessions.{session_of, no_session, observes, window_from, window_of, plan_view, traces_from}
 use Rattle.job_run.specs.Runs.{Account, HasLeft, joined, phase_trace, set_of, trace_of}
-use Rattle.job_run.specs.Sets.{SetsView, IsSized, no_finals, set_in}
+use Rattle.job_run.specs.Sets.{SetsView, IsSized, no_finals, set_left, set_in}
 use Rattle.job_run.specs.Outcomes.{IsOutcome}
 use Rattle.job_run.specs.Slots.{dones}
 use Rattle.job_run.specs.Tasks.{AreRun}
@@ -94,8 +94,18 @@ within_none : (k : Kind) → is_within k no_facts ≡ true
 within_none Straight = refl
 within_none Conditional = refl
 
-here_is : (v : SetsView) (s p : ℕ) → p < v.places → set_in v s p ≡ set_at (get_or v.finals (session_of v.job s).phase no_finals) s p
+here_is : (v : SetsView) (s p : ℕ) → p < v.places → set_in v s p ≡ set_left v.job v.finals s p
 here_is v s p l = let here : nat_lt p v.places ≡ true = grind (arith, nat_tests) in rw here refl
+
+pub left_of : (j : JobView) (places : List Place) (before after : Account) (sets : List FinalsView) (v : SetsView) → HasLeft j places before after sets →
+    v ≡ record { job = j; places = length places; finals = sets } → HasLeft j places before after v.finals
+left_of j places before after sets v l e = subst (λ (w : SetsView). HasLeft j places before after w.finals) (sym e) l
+
+-- the outcome's sets are those of the entries that `finals` has gained
+pub set_is_left : (j : JobView) (places : List Place) (before after : Account) (v : SetsView) (s p : ℕ) (l : HasLeft j places before after v.finals) → v.job ≡ j → v.places ≡ length places → p < length places →
+    set_in v s p ≡ set_left j l.ran.sets s p
+set_is_left j places before after v s p l of size here =
+    here_is v s p (omega (arith, here, size)) ∙ (ap (λ (i : JobView). set_left i v.finals s p) of ∙ ap (λ (fs : List FinalsView). set_left j fs s p) l.are)
 
 -- by how the area of the session's phase was left
 pub set_is : (j : JobView) (places : List Place) (v : SetsView) (s p : ℕ) → IsJob j → v.job ≡ j → v.places ≡ length places →

@@ -186,6 +186,11 @@ all_ready is_pass notes root plan j places phase old slots of a r k d l = by_pha
         can_run is_pass notes root k plan places (get_or slots k d) (a.some k d here (omega (arith, here, r.count)) e) (is_over_begun plan j places k (get_or slots k d).done of begun) begun.done
     by_phase false e = need_not is_pass notes plan places (get_or slots k d) (a.none k d here (not_before (in_phase j phase k) k (length j.tasks) e))
 
+-- no other slot has a pass
+pub none_other : {P : Type 0} (is_pass : P → Type 0) (notes : P → Notes) (root : Notes) (j : JobView) (phase : ℕ) (old slots : List (Slot P)) → AreSplit is_pass notes root j phase (length j.tasks) old slots →
+    (t : ℕ) (d : Slot P) → t < length slots → in_phase j phase t ≡ false → (get_or slots t d).pass ≡ None
+none_other is_pass notes root j phase old slots a t d l h = a.none t d (omega (arith, l, a.count)) (not_before (in_phase j phase t) t (length j.tasks) h)
+
 -- all have run
 
 ran_with : {P : Type 0} (is_pass : P → Type 0) (notes : P → Notes) (plan : PlanView) (old new : Slot P) (p : P) → old.pass ≡ Some p → RunsSlot is_pass notes plan old new old.pass → RunsWith is_pass notes plan old new p

@@ -69,7 +69,7 @@ pub record HasRun (j : JobView) (places : List Place) (before after : Account) :
   pub in_finals : after.finals ≡ before.finals ++ sets
   pub in_made : after.made ≡ before.made + length j.phases
 
--- and these are the sets that the areas ended with
+-- and these are the entries that `finals` has gained, one for each phase
 pub record HasLeft (j : JobView) (places : List Place) (before after : Account) (sets : List FinalsView) : Type 0 where
-  pub run : HasRun j places before after
-  pub are : sets ≡ run.sets
+  pub ran : HasRun j places before after
+  pub are : sets ≡ ran.sets

@@ -24,6 +24,10 @@ pub record AreSets (v : SetsView) : Type 0 where
 abbrev pub no_finals : FinalsView
 no_finals = record { places = 0; sets = [] }
 
--- the set of the session at the place, in its phase's area; past the places there is none
+-- the set of the session at the place, in the entry of its phase
+abbrev pub set_left : JobView → List FinalsView → ℕ → ℕ → FactSet
+set_left j finals s p = set_at (get_or finals (session_of j s).phase no_finals) s p
+
+-- past the places there is none
 abbrev pub set_in : SetsView → ℕ → ℕ → FactSet
-set_in v s p = if nat_lt p v.places then set_at (get_or v.finals (session_of v.job s).phase no_finals) s p else no_facts
+set_in v s p = if nat_lt p v.places then set_left v.job v.finals s p else no_facts

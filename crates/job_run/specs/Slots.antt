@@ -1,5 +1,5 @@
 -- The tasks of a phase with the passes that their threads work with.
-use Rattle.std.specs.Prelude.{◌≡◌, ℕ, ◌<◌, ◌≤◌, ◌^◌, Bool, true, false, not, ◌&&◌, nat_eq, nat_lt, Option, Some, None, List, length, get_or, map, All, IfSome}
+use Rattle.std.specs.Prelude.{◌≡◌, ℕ, ◌-◌, ◌<◌, ◌≤◌, ◌^◌, Bool, true, false, not, ◌&&◌, nat_eq, nat_lt, Option, Some, None, List, length, get_or, map, All, IfSome}
 use Rattle.cov_base.specs.States.{Visit}
 use Rattle.module_area.specs.Notes.{Notes, calls, split_notes}
 use Rattle.module_area.specs.PlanView.{PlanView}
@@ -22,6 +22,14 @@ AreEmpty slots = All (λ s. s.pass ≡ None) slots
 
 abbrev pub in_phase : JobView → ℕ → ℕ → Bool
 in_phase j phase t = nat_eq (task_of j t).phase phase
+
+-- the phase's tasks before the next stand from this index on, before the end; the first and the last are of the phase
+pub record IsRange (j : JobView) (phase next from end : ℕ) : Type 0 where
+  pub order : from ≤ end
+  pub exists : end ≤ next
+  pub first : from < end → in_phase j phase from ≡ true
+  pub last : from < end → in_phase j phase (end - 1) ≡ true
+  pub all : (t : ℕ) → t < next → in_phase j phase t ≡ true → (from ≤ t) × (t < end)
 
 -- the task is one of the phase's before the next
 abbrev pub is_before : JobView → ℕ → ℕ → ℕ → Bool

@@ -5,7 +5,7 @@ ghost use Rattle.session_book.specs.JobView.{IsJob};
 ghost use Rattle.session_book.specs.Sessions.{plan_view};
 ghost use Rattle.job_run.specs.Areas.{GrowsBy};
 ghost use Rattle.job_run.specs.Outcomes.{IsOutcome};
-ghost use Rattle.job_run.specs.Runs.{Account, HasRun, HasLeft, phase_trace};
+ghost use Rattle.job_run.specs.Runs.{Account, HasLeft, phase_trace};
 ghost use Rattle.job_run.specs.Slots.{AreEmpty};
 ghost use Rattle.job_run.specs.Tasks.{AreRun};
 
@@ -87,8 +87,8 @@ fn run_phases<'a, T: Threads + Sync, A: Areas, G: Gate + Sync>(
     Ok(finals)
 }
 
-/// Runs the job, phase after phase: the areas are left as the runs of the tasks alone give, and so is the outcome. The
-/// tasks of a phase run at once, each on a thread of its own that has passed the gate. All tasks take their memory
+/// Runs the job, phase after phase: the areas are left as the runs of the tasks alone give, and so is the outcome, whose
+/// sets are those of the areas that this call has finished, one for each phase. The tasks of a phase run at once, each on a thread of its own that has passed the gate. All tasks take their memory
 /// before the first phase runs, and a phase takes all but its area's end before it plants.
 pub fn run_job<'a, T: Threads + Wait + Sync, A: Areas, G: Gate + Sync>(
     rt: &T,
@@ -100,7 +100,7 @@ pub fn run_job<'a, T: Threads + Wait + Sync, A: Areas, G: Gate + Sync>(
 ) -> Result<Outcome<'a>, NoMemory>
     requires tables { All (IsIn job.now.images) tables.now.places }
     requires room { A.made areas.old < 2 ^ 61 }
-    ensures ran { IfOk result (λ _. HasRun job.now tables.now.places (record { ledger = A.ledger areas.old; finals = A.finals areas.old; made = A.made areas.old }) (record { ledger = A.ledger areas.new; finals = A.finals areas.new; made = A.made areas.new })) }
+    ensures left { IfOk result (λ o. HasLeft job.now tables.now.places (record { ledger = A.ledger areas.old; finals = A.finals areas.old; made = A.made areas.old }) (record { ledger = A.ledger areas.new; finals = A.finals areas.new; made = A.made areas.new }) o.sets.finals) }
     ensures outcome { IfOk result (λ o. IsOutcome job.now tables.now.places o.tasks.items o.sets) }
 {
     let tasks = Vec::with_capacity(alloc, task_count(job))?;

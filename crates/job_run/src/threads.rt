@@ -1,5 +1,5 @@
 //! The tasks of a phase, each on a thread of its own.
-ghost use Rattle.std.specs.Prelude.{◌≡◌, ℕ, ◌+◌, ◌<◌, ◌≤◌, ◌^◌, false, All, length, slice_index_or};
+ghost use Rattle.std.specs.Prelude.{◌≡◌, ℕ, ◌+◌, ◌<◌, ◌≤◌, ◌^◌, false, nat_eq, if◌then◌else◌, All, length, slice_index_or};
 ghost use Rattle.std.specs.declared.option.Option.TheVariants.{None};
 ghost use Rattle.module_area.specs.Notes.{calls};
 ghost use Rattle.space_map.specs.Space.{memory_of_space};
@@ -8,7 +8,7 @@ ghost use Rattle.svc_monitor.specs.Observed.{Observes};
 ghost use Rattle.session_book.specs.JobView.{IsJob};
 ghost use Rattle.session_book.specs.Sessions.{plan_view, tasks_from};
 ghost use Rattle.job_run.specs.Runs.{phase_trace, result_of_run};
-ghost use Rattle.job_run.specs.Slots.{AreEmpty, AreSplit, CanRun, HasSplit, JoinsAll, RunsSlot};
+ghost use Rattle.job_run.specs.Slots.{AreEmpty, AreSplit, CanRun, HasSplit, IsRange, in_phase, JoinsAll, RunsSlot};
 ghost use Rattle.job_run.specs.Tasks.{AreRun, done_result, own_run};
 
 use crate::outcome::Done;
@@ -18,6 +18,7 @@ use cov_base::TaskNo;
 use cov_outside::Gate;
 use module_area::{Cells, Forks};
 use session_book::Job;
+use std::ops::Range;
 use std::thread;
 use std::thread::Threads;
 use task_run::run_task;
@@ -57,15 +58,17 @@ fn run_slot<'a, C: Cells, G: Gate>(
     }
 }
 
-/// Runs the tasks of all slots that have a pass, each on a thread of its own.
+/// Runs the tasks of all slots that have a pass, with a thread for each slot. The first of them is the task of this
+/// number.
 fn run_slots<'a, T: Threads + Sync, C: Cells + Sync, G: Gate + Sync>(
     rt: &T,
     cells: &C,
     gate: &G,
     tables: &Tables,
+    first: usize,
     slots: &mut [Slot<'a, C::Pass>],
 )
-    requires number { length slots.old ≤ 64 }
+    requires number { first + length slots.old ≤ 64 }
     requires ready { All (CanRun (C.is_pass cells.now) C.notes (C.plan cells.now) tables.now.places) slots.old }
     ensures count { length slots.new ≡ length slots.old }
     ensures runs { (t : ℕ) (d : _) → t < length slots.old → RunsSlot (C.is_pass cells.now) C.notes (C.plan cells.now) (slice_index_or slots.old t d) (slice_index_or slots.new t d) (slice_index_or slots.old t d).pass }
@@ -75,10 +78,61 @@ fn run_slots<'a, T: Threads + Sync, C: Cells + Sync, G: Gate + Sync>(
     }
     let count = slots.len();
     let work = |t: usize, slot: &mut Slot<'_, C::Pass>|
-        requires { (t < 64) × CanRun (C.is_pass cells.now) C.notes (C.plan cells.now) tables.now.places slot.now }
+        requires { (first + t < 64) × CanRun (C.is_pass cells.now) C.notes (C.plan cells.now) tables.now.places slot.now }
         ensures { RunsSlot (C.is_pass cells.entry.now) C.notes (C.plan cells.entry.now) slot.entry.now slot.exit.now slot.entry.now.pass }
-    { run_slot(cells, gate, tables, t, slot) };
+    { run_slot(cells, gate, tables, first + t, slot) };
     thread::for_each_mut(rt, slots, count, &work);
+}
+
+/// The range up to this index; it begins there where it was empty.
+fn up_to(range: Range<usize>, t: usize) -> Range<usize>
+    requires { t < usize.MAX }
+    ensures start { result.start ≡ (if nat_eq range.start range.end then t else range.start) }
+    ensures end { result.end ≡ t + 1 }
+{
+    let start = if range.start == range.end {
+        t
+    } else {
+        range.start
+    };
+    start..t + 1
+}
+
+/// Where the tasks of the phase stand among those of the job: from the first of them to the last. In a job whose tasks
+/// stand in the order of their phases no other is among them.
+fn range_of(job: &Job, phase: u32) -> Range<usize>
+    ensures { IsRange job.now phase (length job.now.tasks) result.start result.end }
+{
+    let count = task_count(job);
+    let mut range = 0..0;
+    for t in 0..count {
+        if is_of(job, t, phase) {
+            range = up_to(range, t);
+        }
+    }
+    range
+}
+
+/// Runs the phase's tasks, whose slots alone have passes, each on a thread of its own.
+fn run_those<'a, T: Threads + Sync, C: Cells + Sync, G: Gate + Sync>(
+    rt: &T,
+    cells: &C,
+    gate: &G,
+    job: &Job,
+    tables: &Tables,
+    phase: u32,
+    slots: &mut [Slot<'a, C::Pass>],
+)
+    requires number { length slots.old ≤ 64 }
+    requires count { length slots.old ≡ length job.now.tasks }
+    requires ready { All (CanRun (C.is_pass cells.now) C.notes (C.plan cells.now) tables.now.places) slots.old }
+    requires others { (t : ℕ) (d : _) → t < length slots.old → in_phase job.now phase t ≡ false → (slice_index_or slots.old t d).pass ≡ None }
+    ensures count { length slots.new ≡ length slots.old }
+    ensures runs { (t : ℕ) (d : _) → t < length slots.old → RunsSlot (C.is_pass cells.now) C.notes (C.plan cells.now) (slice_index_or slots.old t d) (slice_index_or slots.new t d) (slice_index_or slots.old t d).pass }
+{
+    let range = range_of(job, phase);
+    let first = range.start;
+    run_slots(rt, cells, gate, tables, first, &mut slots[range]);
 }
 
 /// Splits off a pass for each task of the phase, in job order.
@@ -137,7 +191,7 @@ pub fn run_tasks<'a, T: Threads + Sync, C: Forks + Sync, G: Gate + Sync>(
     ensures empty { AreEmpty slots.new }
 {
     split_all(cells, root, job, phase, slots);
-    run_slots(rt, cells, gate, tables, slots);
+    run_those(rt, cells, gate, job, tables, phase, slots);
     let count = task_count(job);
     for t in 0..count {
         if let Some(pass) = take(&mut slots[t]) {

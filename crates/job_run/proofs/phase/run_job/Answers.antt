@@ -2,7 +2,7 @@ use Rattle.std.proofs.Common.{◌≡◌, ◌++◌, List, length, take, drop, sym
 use Rattle.job_run.specs.Slots.{dones}
 use Rattle.job_run.specs.declared.slots.Slot.{Slot}
 use Rattle.job_run.proofs.PhaseLemmas.{left_count, written}
-use Rattle.job_run.proofs.SessionLemmas.{all_sized, outcome}
+use Rattle.job_run.proofs.SessionLemmas.{all_sized, left_of, outcome}
 use Rattle.job_run.proofs.phase.run_job.Goals as goal
 
 pub new-requires-clause-count : goal.new-requires-clause-count
@@ -10,6 +10,10 @@ new-requires-clause-count g c = left_count c.args.job.now c.args.tables.now.plac
 
 pub new-requires-clause-sizes : goal.new-requires-clause-sizes
 new-requires-clause-sizes g c = all_sized c.args.job.now c.args.tables.now.places _ _ c.in_ok-finals.finals.items c.in_ok-finals.ensures.left
+
+pub returns-clause-left : goal.returns-clause-left
+returns-clause-left g c =
+    left_of c.args.job.now c.args.tables.now.places _ _ c.in_ok-finals.finals.items c.new.result c.in_ok-finals.ensures.left c.new.ensures
 
 pub returns-clause-outcome : goal.returns-clause-outcome
 returns-clause-outcome g c =

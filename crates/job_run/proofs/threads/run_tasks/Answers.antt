@@ -6,7 +6,7 @@ use Rattle.session_book.specs.Sessions.{task_of}
 use Rattle.job_run.specs.Runs.{trace_of}
 use Rattle.job_run.specs.Slots.{HasSeen, in_phase}
 use Rattle.job_run.proofs.PhaseLemmas.{HasObserved, HasObserved-start, HasObserved-one, HasObserved-other, pass_calls}
-use Rattle.job_run.proofs.SlotLemmas.{AreOver-start, AreOver-next, AreOver-all, AreRun-after, pass_of, not_of, set_done, left_out, left_start, left_here, left_next, left_other, none_left}
+use Rattle.job_run.proofs.SlotLemmas.{none_other, AreOver-start, AreOver-next, AreOver-all, AreRun-after, pass_of, not_of, set_done, left_out, left_start, left_here, left_next, left_other, none_left}
 use Rattle.job_run.proofs.TaskLemmas.{AreRun-same, is_task}
 use Rattle.job_run.proofs.threads.run_tasks.Given as given
 use Rattle.job_run.proofs.threads.run_tasks.Goals as goal
@@ -22,10 +22,14 @@ loop-t-init g c =
       out = λ t. s.notes.out t ∙ left_start c.args.job.now c.args.phase t;
       observed = HasObserved-start (g.C.Cells.plan c.args.cells.now) before (g.C.Cells.notes c.split_all.new.root) c.args.job.now c.args.tables.now.places c.args.phase (length c.args.job.now.tasks) s.notes;
       over = AreOver-start (g.C.Cells.is_pass c.args.cells.now) g.C.Cells.notes before (g.C.Cells.plan c.args.cells.now) c.args.job.now c.args.tables.now.places c.args.phase
-          c.args.slots.now c.split_all.new.slots c.run_slots.new.slots s.passes c.requires.tasks c.run_slots.ensures.count c.run_slots.ensures.runs;
+          c.args.slots.now c.split_all.new.slots c.run_those.new.slots s.passes c.requires.tasks c.run_those.ensures.count c.run_those.ensures.runs;
       tasks = AreRun-after (g.C.Cells.is_pass c.args.cells.now) g.C.Cells.notes before (g.C.Cells.plan c.args.cells.now) c.args.job.now c.args.tables.now.places c.args.phase
-          c.args.slots.now c.split_all.new.slots c.run_slots.new.slots s.passes c.requires.tasks c.run_slots.ensures.count c.run_slots.ensures.runs;
+          c.args.slots.now c.split_all.new.slots c.run_those.new.slots s.passes c.requires.tasks c.run_those.ensures.count c.run_those.ensures.runs;
     }
+
+pub run_those-requires-clause-others : goal.run_those-requires-clause-others
+run_those-requires-clause-others g c κs within =
+    none_other (g.C.Cells.is_pass c.args.cells.now) g.C.Cells.notes (g.C.Cells.notes c.args.root.now) c.args.job.now c.args.phase c.args.slots.now c.split_all.new.slots c.split_all.ensures.passes
 
 -- what the pass that is joined has seen
 seen_of : (g : given.Over) (c : goal.After-join-arg-1 g) → (in_phase c.args.job.now c.args.phase c.loop-t.t ≡ true) ×
