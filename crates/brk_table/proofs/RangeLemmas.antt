@@ -1,10 +1,10 @@
 -- The numbers of a module's places.
-use Rattle.std.proofs.Common.{◌≡◌, ℕ, ◌+◌, ◌-◌, ◌<◌, ◌≤◌, inl, inr, Bool, true, false, Option, Some, None, option_map, IfSome, List, [], ◌∷◌, length, get_or, drop, nat_eq, refl, sym, ap, ◌∙◌, arith, length-append}
+use Rattle.std.proofs.Common.{◌≡◌, ℕ, ◌+◌, ◌-◌, ◌<◌, ◌≤◌, inl, inr, Bool, true, false, Option, Some, None, option_map, IfSome, List, [], ◌∷◌, length, get_or, drop, nat_eq, if◌then◌else◌, refl, sym, ap, ◌∙◌, arith, length-append}
 use Rattle.std.proofs.lemmas.Bool.{cases_lt}
 use Rattle.cov_base.specs.declared.numbers.PlaceNo.{PlaceNo}
 use Rattle.std.proofs.lemmas.Bool.Decides.{nat_tests}
 use Rattle.std.proofs.lemmas.List.{drop_more, drop_all, get_or_past}
-use Rattle.brk_table.specs.Places.{TableView, HasItsPlaces, all_places, first_place, place_count, place_at_line}
+use Rattle.brk_table.specs.Places.{TableView, HasItsPlaces, all_places, first_place, place_count, entry_of_line, place_at_line}
 
 same : (a b : ℕ) → a ≡ b → nat_eq a b ≡ true
 same a b h = grind (arith, nat_tests)
@@ -19,7 +19,7 @@ first-here t ts m h = rw (same t.«module» m h) refl
 pub count-here : (t : TableView) (ts : List TableView) (m : ℕ) → t.«module» ≡ m → place_count (t ∷ ts) m ≡ length t.places
 count-here t ts m h = rw (same t.«module» m h) refl
 
-pub line-here : (t : TableView) (ts : List TableView) (m k : ℕ) → t.«module» ≡ m → place_at_line (t ∷ ts) m k ≡ get_or t.lines (k - 1) None
+pub line-here : (t : TableView) (ts : List TableView) (m k : ℕ) → t.«module» ≡ m → place_at_line (t ∷ ts) m k ≡ entry_of_line t.lines k
 line-here t ts m k h = rw (same t.«module» m h) refl
 
 -- another one is passed
@@ -68,7 +68,7 @@ pub record AtOwnTable (all : List TableView) (t : TableView) (m first : ℕ) : T
   pub before : first ≡ first_place all m
   pub count : length t.places ≡ place_count all m
   pub room : first + length t.places ≤ length (all_places all)
-  pub lines : (k : ℕ) → option_map (λ n. first + n) (get_or t.lines (k - 1) None) ≡ place_at_line all m k
+  pub lines : (k : ℕ) → option_map (λ n. first + n) (entry_of_line t.lines k) ≡ place_at_line all m k
 
 at_own : (all rest : List TableView) (t : TableView) (m first : ℕ) → AtTable all (t ∷ rest) m first → t.«module» ≡ m → AtOwnTable all t m first
 at_own all rest t m first h is = record {
@@ -109,14 +109,18 @@ place_inside first size e None h is = tt
 place_inside first size None (Some p) h is = absurd cc
 place_inside first size (Some i) (Some p) h is = let number : p.0 ≡ first + i = cc in (omega arith, omega arith)
 
-entry_inside : (t : TableView) (k : ℕ) → HasItsPlaces t → IfSome (get_or t.lines k None) (λ i. i < length t.places)
-entry_inside t k h = elim (cases_lt k (length t.lines)) [
+entry_at : (t : TableView) (k : ℕ) → HasItsPlaces t → IfSome (get_or t.lines k None) (λ i. i < length t.places)
+entry_at t k h = elim (cases_lt k (length t.lines)) [
   | inl below ↦ h k None below
   | inr past ↦ let none : get_or t.lines k None ≡ None = get_or_past t.lines k None past in rw none tt
 ]
 
-pub place_of_line : (t : TableView) (first k : ℕ) (r : Option PlaceNo) → HasItsPlaces t → option_map (λ (p : PlaceNo). p.0) r ≡ option_map (λ i. first + i) (get_or t.lines k None) → IfSome r (λ p. (first ≤ p.0) × (p.0 < first + length t.places))
-place_of_line t first k r h is = place_inside first (length t.places) (get_or t.lines k None) r (entry_inside t k h) is
+entry_inside : (t : TableView) (k : ℕ) → HasItsPlaces t → IfSome (entry_of_line t.lines k) (λ i. i < length t.places)
+entry_inside t k h =
+    elim (nat_eq k 0) as (λ b. IfSome (if b then None else get_or t.lines (k - 1) None) (λ i. i < length t.places)) [ true ↦ tt | false ↦ entry_at t (k - 1) h ]
+
+pub place_of_line : (t : TableView) (first k : ℕ) (r : Option PlaceNo) → HasItsPlaces t → option_map (λ (p : PlaceNo). p.0) r ≡ option_map (λ i. first + i) (entry_of_line t.lines k) → IfSome r (λ p. (first ≤ p.0) × (p.0 < first + length t.places))
+place_of_line t first k r h is = place_inside first (length t.places) (entry_of_line t.lines k) r (entry_inside t k h) is
 
 -- ---- as the code meets them: us is what the vector holds, ts the list that contracts see
 
@@ -139,7 +143,7 @@ split_bounds : (first past : ℕ) (r : Option PlaceNo) → IfSome r (λ p. (firs
 split_bounds first past None h = (tt, tt)
 split_bounds first past (Some p) h = h
 
-pub place_bounds : (all : List TableView) (t : TableView) (m first k : ℕ) (r : Option PlaceNo) → AtOwnTable all t m first → HasItsPlaces t → option_map (λ (p : PlaceNo). p.0) r ≡ option_map (λ i. first + i) (get_or t.lines k None)
+pub place_bounds : (all : List TableView) (t : TableView) (m first k : ℕ) (r : Option PlaceNo) → AtOwnTable all t m first → HasItsPlaces t → option_map (λ (p : PlaceNo). p.0) r ≡ option_map (λ i. first + i) (entry_of_line t.lines k)
     → IfSome r (λ p. first_place all m ≤ p.0) × IfSome r (λ p. p.0 < first_place all m + place_count all m)
 place_bounds all t m first k r own places is =
     let known : IfSome r (λ p. (first ≤ p.0) × (p.0 < first + length t.places)) = place_of_line t first k r places is in

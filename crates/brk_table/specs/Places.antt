@@ -31,10 +31,14 @@ abbrev pub place_count : List TableView → ℕ → ℕ
 place_count [] m = 0
 place_count (t ∷ ts) m = if nat_eq t.«module» m then length t.places else place_count ts m
 
--- the number of the place of its listing's line k, counted from 1; none for a text line, and without a table
+-- what is entered for line k of a listing, counted from 1; there is no line 0
+abbrev pub entry_of_line : List (Option ℕ) → ℕ → Option ℕ
+entry_of_line entries k = if nat_eq k 0 then None else get_or entries (k - 1) None
+
+-- the number of the place of its listing's line k, counted from 1; none for a text line, for line 0, and without a table
 abbrev pub place_at_line : List TableView → ℕ → ℕ → Option ℕ
 place_at_line [] m k = None
-place_at_line (t ∷ ts) m k = if nat_eq t.«module» m then get_or t.lines (k - 1) None else option_map (λ n. length t.places + n) (place_at_line ts m k)
+place_at_line (t ∷ ts) m k = if nat_eq t.«module» m then entry_of_line t.lines k else option_map (λ n. length t.places + n) (place_at_line ts m k)
 
 -- the place of each instruction line is one of the table's
 abbrev pub HasItsPlaces : TableView → Type 0

@@ -8,6 +8,7 @@ use crate::fault::first_fault;
 use crate::faults::BuildFault;
 use crate::places::place_lines;
 use crate::tables::Table;
+use cov_base::INPUT_LIMIT;
 use listing_reader::Line;
 use module_area::Image;
 use std::alloc::Global;
@@ -24,7 +25,7 @@ pub fn build(
     image: &Image,
     room: u32,
 ) -> Result<Table, BuildFault>
-    requires count { length lines.now ≤ 16777216 }
+    requires count { length lines.now ≤ INPUT_LIMIT }
     requires sound { AllPass is_sound lines.now }
     requires even { image.now.base % 2 ≡ 0 }
     requires below { image.now.base + length image.now.bytes ≤ 16777216 }

@@ -7,7 +7,7 @@ ghost use Rattle.brk_table.specs.Cover.{is_covered, is_inside, IsCover};
 
 use crate::cover::{is_covered, mark};
 use crate::faults::BuildFault;
-use cov_base::Addr;
+use cov_base::{Addr, BREAKPOINT, INPUT_LIMIT};
 use listing_reader::Line;
 use s370_decode::Code;
 
@@ -36,9 +36,6 @@ fn module_code(bytes: &[u8], loc: usize, len: u8) -> Code
         len,
     }
 }
-
-/// The breakpoint's halfword.
-const BREAKPOINT: u16 = 0x0AFF;
 
 /// The fault of line n, where so many instructions stand before it.
 #[tactic(auto, unfolding(crate::specs::Build::fault_by))]
@@ -92,7 +89,7 @@ pub fn first_fault(
 ) -> Option<BuildFault>
     requires size { length cover.old ≡ length bytes.now }
     requires fresh { (k : ℕ) → k < length cover.old → get_or cover.old k None ≡ None }
-    requires count { length lines.now ≤ 16777216 }
+    requires count { length lines.now ≤ INPUT_LIMIT }
     requires sound { AllPass is_sound lines.now }
     ensures fault { result ≡ first_fault bytes.now room [] lines.now }
     ensures cover { IsNone result → IsCover lines.now cover.new }

@@ -9,7 +9,7 @@ ghost use Rattle.brk_table.specs.Cover.{is_inside, IsCover, IsTabled, OnlyAt};
 
 use crate::faults::BuildFault;
 use crate::tables::Table;
-use cov_base::Addr;
+use cov_base::{Addr, INPUT_LIMIT};
 use listing_reader::Line;
 use module_area::Place;
 use s370_decode::{Code, kind};
@@ -51,7 +51,7 @@ pub fn place_lines(
     requires cover { IsCover lines.now cover.now }
     requires inside { AllPass (is_inside (length cover.now)) lines.now }
     requires sound { AllPass is_sound lines.now }
-    requires count { length lines.now ≤ 16777216 }
+    requires count { length lines.now ≤ INPUT_LIMIT }
     requires size { base + length cover.now ≤ 16777216 }
     ensures table { IfOk result (λ t. IsTable «module» base lines.now t) }
     ensures places { IfOk result (λ t. length t.places ≡ count_by is_code lines.now) }

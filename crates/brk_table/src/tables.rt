@@ -1,9 +1,9 @@
 //! The places of a module, and of all monitored modules.
-ghost use Rattle.std.specs.Prelude.{◌≡◌, ◌↔◌, ℕ, ◌<◌, ◌≤◌, true, false, length, IfSome, IfOk, IsNone, get_or, All, AllPairs};
+ghost use Rattle.std.specs.Prelude.{◌≡◌, ◌↔◌, ℕ, ◌<◌, ◌≤◌, true, false, length, IfSome, IfOk, IsNone, All, AllPairs};
 ghost use Rattle.module_area.specs.PlanView.{place_of};
 ghost use Rattle.module_area.specs.Executions.{is_place};
-ghost use Rattle.std.specs.Prelude.{◌+◌, ◌-◌, None, nat_eq, option_map};
-ghost use Rattle.brk_table.specs.Places.{HasItsPlaces, HasRisingPlaces, first_place, place_count, place_at_line};
+ghost use Rattle.std.specs.Prelude.{◌+◌, nat_eq, option_map};
+ghost use Rattle.brk_table.specs.Places.{HasItsPlaces, HasRisingPlaces, first_place, place_count, entry_of_line, place_at_line};
 ghost use Rattle.cov_base.specs.declared.numbers.PlaceNo.{PlaceNo as Number};
 
 use cov_base::{Addr, NoMemory, PlaceNo};
@@ -105,12 +105,11 @@ impl Table {
 
     /// The place of a listing line, counted from 1, where the table's first place has that number.
     fn place_after(&self, first: usize, line: u32) -> Option<PlaceNo>
-        requires some { 0 < line }
         requires places { HasItsPlaces self.now }
         requires fits { first + length self.now.places ≤ 65536 }
-        ensures { option_map (λ (p : Number). p.0) result ≡ option_map (λ i. first + i) (get_or self.now.lines (line - 1) None) }
+        ensures { option_map (λ (p : Number). p.0) result ≡ option_map (λ i. first + i) (entry_of_line self.now.lines line) }
     {
-        if line as usize > self.lines.len() {
+        if line == 0 || line as usize > self.lines.len() {
             return None;
         }
         match self.lines[line as usize - 1] {
@@ -192,10 +191,9 @@ impl Tables {
         (first as u32, first as u32)
     }
 
-    /// The place of a line of the module's listing, counted from 1; none exactly where the line is a text line or the
-    /// module has no table.
+    /// The place of a line of the module's listing, counted from 1; none exactly where the line is a text line, where
+    /// there is no line of that number, as 0, or where the module has no table.
     pub fn line(&self, module: u32, line: u32) -> Option<PlaceNo>
-        requires { 0 < line }
         ensures value { option_map (λ (p : Number). p.0) result ≡ place_at_line self.now.tables «module» line }
         ensures from { IfSome result (λ p. first_place self.now.tables «module» ≤ p.0) }
         ensures to { IfSome result (λ p. p.0 < first_place self.now.tables «module» + place_count self.now.tables «module») }

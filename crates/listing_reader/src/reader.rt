@@ -10,6 +10,7 @@ use crate::fields::{are_blank, is_blank_at, number_in};
 use crate::lines::{Line, ListFault};
 use crate::object::object_of;
 use crate::operation::has_mnemonic;
+use cov_base::INPUT_LIMIT;
 use listing_lines::{ListingLine, shift_of};
 use std::alloc::Global;
 
@@ -44,7 +45,7 @@ fn read_later(
     first: u32,
     read: &mut Vec<Line>,
 ) -> Result<(), ListFault>
-    requires { first + length lines.now ≤ 16777217 }
+    requires { first + length lines.now ≤ INPUT_LIMIT + 1 }
     ensures lines { OnOk result (option_map (λ rest. read.old.items ++ rest) (lines_of narrow shift lines.now) ≡ Some read.new.items) }
     ensures count { OnOk result (length read.new.items ≡ length read.old.items + length lines.now) }
     ensures sound { AllPass is_sound read.old.items → AllPass is_sound read.new.items }
@@ -63,7 +64,7 @@ fn read_later(
 
 /// As many text lines.
 fn texts(alloc: Global, count: usize, room: usize) -> Result<Vec<Line>, ListFault>
-    requires { room ≤ 16777216 }
+    requires { room ≤ INPUT_LIMIT }
     ensures lines { IfOk result (λ v. v.items ≡ replicate count Line.Text) }
     ensures sound { IfOk result (λ v. AllPass is_sound v.items) }
     ensures fault { IfErr result (λ e. e ≡ ListFault.NoMemory) }
@@ -81,7 +82,7 @@ fn texts(alloc: Global, count: usize, room: usize) -> Result<Vec<Line>, ListFaul
 /// four hexadecimal digits, or not as long as its first byte gives (High Level Assembler, the source and object
 /// section of the listing).
 pub fn read_listing(alloc: Global, lines: &[ListingLine]) -> Result<Vec<Line>, ListFault>
-    requires { length lines.now ≤ 16777216 }
+    requires { length lines.now ≤ INPUT_LIMIT }
     ensures listing { IfOk result (λ v. listing_of lines.now ≡ Some v.items) }
     ensures count { IfOk result (λ v. length v.items ≡ length lines.now) }
     ensures sound { IfOk result (λ v. AllPass is_sound v.items) }

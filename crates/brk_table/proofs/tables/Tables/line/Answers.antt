@@ -27,7 +27,7 @@ returns-then-is_of c =
     let below : c.loop-i.i < length c.self.inside.tables.items = omega arith in
     let own = own_table c.self.inside.tables.items c.args.self.now.tables _ _ _ c.index-table.result.now _ seen below c.index-table.ensures c.loop-i.invariant.table c.is_of.ensures c.if-is_of.true in
     let its = subst HasItsPlaces (sym c.index-table.ensures) (c.self.invariant.2 c.loop-i.i c.index-table.result.now below) in
-    let bounds = place_bounds _ _ _ _ (c.args.line - 1) c.place_after.result own its c.place_after.ensures in
+    let bounds = place_bounds _ _ _ _ c.args.line c.place_after.result own its c.place_after.ensures in
     record { value = c.place_after.ensures ∙ own.lines c.args.line; from = bounds.0; to = bounds.1 }
 
 pub returns-clause-value : goal.returns-clause-value
