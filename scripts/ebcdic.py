@@ -6,18 +6,18 @@ from __future__ import annotations
 EITHER_PAGE = {0xAD: "[", 0xBD: "]", 0xBA: "[", 0xBB: "]", 0x5F: "^", 0xB0: "^"}
 
 
-def character(code: int) -> str:
-    """The ASCII character of an EBCDIC code; a question mark where ASCII has none that can be printed."""
-    found = EITHER_PAGE.get(code) or bytes([code]).decode("cp037")
-    return found if " " <= found <= "~" else "?"
+def table_of(other: str) -> bytes:
+    """The ASCII character of each EBCDIC code; the other one where ASCII has none that can be printed."""
+    found = [EITHER_PAGE.get(code) or bytes([code]).decode("cp037") for code in range(256)]
+    return "".join(it if " " <= it <= "~" else other for it in found).encode("ascii")
 
 
-TO_ASCII = "".join(map(character, range(256))).encode("ascii")
+TEXT, DUMP = table_of("?"), table_of(".")
 
 
-def to_ascii(text: bytes) -> bytes:
+def to_ascii(text: bytes, table: bytes = TEXT) -> bytes:
     """The text in ASCII, a byte for a byte."""
-    return text.translate(TO_ASCII)
+    return text.translate(table)
 
 
 def shown(text: bytes) -> str:

@@ -7,7 +7,7 @@ import sys
 from html import escape
 
 from command import UsageError, read_input, run, write_output
-from ebcdic import to_ascii
+from ebcdic import DUMP, to_ascii
 from report import Line, Module, Report, Session, Task, read_report, text_of
 
 USAGE = """\
@@ -48,7 +48,7 @@ def count_of(count: int, what: str) -> str:
 
 
 def bar(part: int, whole: int, what: str) -> str:
-    """The cells of a number, its whole, and a bar of its part."""
+    """The two cells of a part and its whole: the numbers, and a bar."""
     if not whole:
         return '<td class="number">none</td><td></td>'
     share = percent(part, whole)
@@ -80,7 +80,7 @@ def summary(report: Report) -> str:
     rows = "\n".join(summary_row(*it) for it in found)
     return f"""<div class="wide summary" tabindex="0" role="region" aria-label="Sessions and modules"><table>
 <caption>Places are instruction lines. A place has one fact, that it ran; a conditional branch has two, that it branched and that it fell through.</caption>
-<thead><tr><th scope="col">Session</th><th scope="col">Phase</th><th scope="col">Module</th><th scope="col" class="number">Executed</th><th scope="col">Places</th><th scope="col" class="number">Shown</th><th scope="col">Facts</th></tr></thead>
+<thead><tr><th scope="col">Session</th><th scope="col">Phase</th><th scope="col">Module</th><th scope="col" colspan="2">Places executed</th><th scope="col" colspan="2">Facts shown</th></tr></thead>
 <tbody>
 {rows}
 </tbody></table></div>"""
@@ -121,7 +121,7 @@ def module_part(session: Session, module: Module) -> str:
     lines = "\n".join(listing_line(name, it) for it in module.lines)
     return f"""<section id="{name}" aria-labelledby="{name}.title">
 <h2 id="{name}.title">{title}</h2>
-<p>{count_of(module.executed, "place")} of {module.places:,} executed, {count_of(module.facts, "fact")} of {module.possible:,} shown.</p>
+<p>{module.executed:,} of {count_of(module.places, "place")} executed, {module.facts:,} of {count_of(module.possible, "fact")} shown.</p>
 {ranges(name, module)}
 {legend(module)}
 <div class="wide listing" tabindex="0" role="region" aria-label="Listing of {title}"><pre>{lines}</pre></div>
@@ -133,7 +133,7 @@ def dump(rows: list[tuple[int, bytes]]) -> str:
     lines = []
     for at, data in rows:
         digits = " ".join(data[it : it + 4].hex().upper() for it in range(0, len(data), 4))
-        lines.append(f"{at:06X}  {digits:<35}  |{safe(to_ascii(data).decode('ascii'))}|")
+        lines.append(f"{at:06X}  {digits:<35}  |{safe(to_ascii(data, DUMP).decode('ascii'))}|")
     return f"<pre>{chr(10).join(lines)}</pre>"
 
 

@@ -1,0 +1,140 @@
+"""What an assembly is written as: an object deck, and a listing."""
+from __future__ import annotations
+
+from typing import Iterator
+
+from assembler.constants import Reference
+from assembler.expressions import Section
+from assembler.operations import OPERATIONS
+from assembler.statements import Assembly, Statement
+
+TEXT_BYTES, LINES_A_PAGE, LISTING_COLUMNS = 56, 55, 121
+HEADING = "0  Loc  Object Code    Addr1 Addr2  Stmt   Source Statement"
+
+
+def record(kind: str, fields: dict[int, bytes], number: int) -> bytes:
+    """A card image: X'02', its letters, fields by their column, and its number in columns 73 to 80."""
+    card = bytearray(b"\x40" * 80)
+    card[0:4] = b"\x02" + kind.encode("cp037")
+    for column, data in fields.items():
+        card[column - 1 : column - 1 + len(data)] = data
+    card[72:80] = f"{number:08}".encode("cp037")
+    return bytes(card)
+
+
+def control_sections(assembly: Assembly) -> list[Section]:
+    """The sections that have text."""
+    return [it for it in assembly.sections.values() if not it.is_dummy]
+
+
+def number_of(assembly: Assembly, name: str, is_external: bool) -> int:
+    """The number of a section, or of an external name: these follow the sections."""
+    if is_external:
+        return len(control_sections(assembly)) + 1 + externals(assembly).index(name)
+    return assembly.sections[name].number
+
+
+def externals(assembly: Assembly) -> list[str]:
+    """The names of EXTRN and of V constants, in their order: external also where the deck has a section of the name."""
+    referred = [it.refers for statement in assembly.statements for it in statement.references if it.is_external]
+    return list(dict.fromkeys([*assembly.externals, *referred]))
+
+
+def symbol_items(assembly: Assembly) -> Iterator[tuple[int, bytes]]:
+    """The items of the external symbol dictionary, each with its number, 0 of a label."""
+    for it in control_sections(assembly):
+        name = it.name.ljust(8).encode("cp037")
+        yield it.number, name + b"\x00" + it.origin.to_bytes(3, "big") + b"\x00" + it.size.to_bytes(3, "big")
+    for it in externals(assembly):
+        yield number_of(assembly, it, True), it.ljust(8).encode("cp037") + b"\x02" + b"\x40" * 7
+    for it in assembly.entries:
+        value = assembly.symbols[it]
+        address = assembly.shown(value).to_bytes(3, "big")
+        section = assembly.sections[value.section].number.to_bytes(3, "big")
+        yield 0, it.ljust(8).encode("cp037") + b"\x01" + address + b"\x40" + section
+
+
+def text_runs(assembly: Assembly) -> Iterator[tuple[int, int, bytes]]:
+    """The text as runs of bytes without a gap, each with its section's number and its address."""
+    run: tuple[int, int, bytes] = (0, 0, b"")
+    for statement in sorted((it for it in assembly.statements if it.data), key=lambda it: assembly.shown(it.at)):
+        section, address = assembly.sections[statement.at.section].number, assembly.shown(statement.at)
+        if run[0] == section and run[1] + len(run[2]) == address:
+            run = (section, run[1], run[2] + statement.data)
+            continue
+        yield run
+        run = (section, address, statement.data)
+    yield run
+
+
+def constants(assembly: Assembly) -> list[tuple[int, int, int, Reference]]:
+    """The address constants: the numbers of what they refer to and of their section, and their address."""
+    found = []
+    for statement in assembly.statements:
+        for it in statement.references:
+            section, at = assembly.sections[statement.at.section].number, assembly.shown(statement.at) + it.offset
+            found.append((number_of(assembly, it.refers, it.is_external), section, at, it))
+    return sorted(found, key=lambda it: it[:3])
+
+
+def constant_items(assembly: Assembly) -> list[bytes]:
+    """The items of the relocation dictionary; one with the same two numbers as the item before leaves them out."""
+    found, items = constants(assembly), []
+    for at, (refers, section, address, it) in enumerate(found):
+        is_same = at > 0 and found[at - 1][:2] == (refers, section)
+        is_followed = at + 1 < len(found) and found[at + 1][:2] == (refers, section)
+        flags = 0x10 * it.is_external | (it.length - 1) << 2 | is_followed
+        head = b"" if is_same else refers.to_bytes(2, "big") + section.to_bytes(2, "big")
+        items.append(head + bytes([flags]) + address.to_bytes(3, "big"))
+    return items
+
+
+def deck(assembly: Assembly) -> bytes:
+    """The object deck."""
+    cards: list[tuple[str, dict[int, bytes]]] = []
+    for number, item in symbol_items(assembly):
+        cards.append(("ESD", {11: b"\x00\x10", 15: number.to_bytes(2, "big") if number else b"\x40\x40", 17: item}))
+    for section, address, data in text_runs(assembly):
+        for at in range(0, len(data), TEXT_BYTES):
+            part = data[at : at + TEXT_BYTES]
+            where = (address + at).to_bytes(3, "big")
+            cards.append(("TXT", {6: where, 11: len(part).to_bytes(2, "big"), 15: section.to_bytes(2, "big"), 17: part}))
+    items = b"".join(constant_items(assembly))
+    if len(items) > TEXT_BYTES:
+        raise ValueError("more address constants than one record holds")
+    if items:
+        cards.append(("RLD", {11: len(items).to_bytes(2, "big"), 17: items}))
+    cards.append(("END", {6: b"\x00\x00\x00", 15: b"\x00\x01"}))
+    return b"".join(record(kind, fields, at) for at, (kind, fields) in enumerate(cards, 1))
+
+
+def object_columns(statement: Statement) -> str:
+    """What the columns of object code show: halfwords of an instruction, else the first eight bytes."""
+    digits = statement.data.hex().upper()
+    if statement.operation in OPERATIONS:
+        return " ".join(digits[at : at + 4] for at in range(0, len(digits), 4))
+    return digits[:16]
+
+
+def listing_line(assembly: Assembly, statement: Statement, number: int) -> str:
+    """A line of the listing behind its print control character."""
+    place = f"{assembly.shown(statement.at):06X}" if statement.at else ""
+    size = assembly.sections[statement.name].size if statement.operation == "CSECT" else None
+    first, second = (None, size) if size is not None else (statement.first, statement.second)
+    columns = f"{place:<6} {object_columns(statement):<15}{f'{first:05X}' if first is not None else '':<6}"
+    if size is not None:
+        columns = f"{place:<6} {'':<15}00000 "
+    if statement.using:
+        columns = f"{'':<16}{statement.using:<12}"
+    return f"{columns[:28]:<28}{f'{second:05X}' if second is not None else '':<5} {number:>5} {statement.text}"
+
+
+def listing(assembly: Assembly, title: str) -> list[str]:
+    """The listing's lines, each with a print control character, in pages."""
+    lines: list[str] = []
+    for number, statement in enumerate(assembly.statements, 1):
+        if (number - 1) % LINES_A_PAGE == 0:
+            page = (number - 1) // LINES_A_PAGE + 1
+            lines += [f"1{title:<109}Page {page:>4}", HEADING]
+        lines.append(f" {listing_line(assembly, statement, number)}"[:LISTING_COLUMNS])
+    return lines

@@ -1,0 +1,96 @@
+"""Small jobs, and the reports that docs/REPORT.md and docs/MACHINE.md give them."""
+from __future__ import annotations
+
+from dataclasses import dataclass, field
+
+HEADING = "  Loc  Object Code    Addr1 Addr2  Stmt   Source Statement"
+FACTS = {"^": 0, ":": 1, ">": 1, "V": 1, "&": 2}
+TASK = "TASK A 100000 16 100 0\n"
+
+
+@dataclass
+class Result:
+    """What comes of a task. Registers that aren't named have their first values."""
+
+    ending: str
+    count: int
+    condition: int = 0
+    registers: dict[int, int] = field(default_factory=dict)
+    output: bytes = b""
+    rows: list[str] = field(default_factory=list)
+    name: str = "A"
+    entry: int = 0x100000
+
+    def lines(self) -> list[str]:
+        registers = {14: 0xFFFFFE, 15: self.entry, **self.registers}
+        words = [f"{registers.get(at, 0):08X}" for at in range(16)]
+        output = [self.output[at : at + 32].hex().upper() for at in range(0, len(self.output), 32)]
+        return [
+            f"TASK {self.name} {self.ending} COUNT {self.count} CC {self.condition}",
+            f"R0 {' '.join(words[:8])}",
+            f"R8 {' '.join(words[8:])}",
+            f"OUT {len(self.output)}",
+            *output,
+            *(f"STOR {it}" for it in self.rows),
+        ]
+
+
+def code_of(text: str) -> list[tuple[int, str, str]]:
+    """The instructions of '0 41100005 LA, 4 07FE BR': location, object code and operation."""
+    return [(int(at, 16), code, operation) for at, code, operation in (it.split() for it in text.split(","))]
+
+
+def listing_of(code: list[tuple[int, str, str]]) -> list[str]:
+    """A heading and a line for each instruction."""
+    lines = [HEADING]
+    for number, (at, digits, operation) in enumerate(code, 1):
+        groups = " ".join(digits[it : it + 4] for it in range(0, len(digits), 4))
+        lines.append(f"{at:06X} {groups:<27}{number:>5}{'':10}{operation}")
+    return lines
+
+
+@dataclass
+class Program:
+    """A module M at 100000, all of it instructions, with a listing; and the phase P with the session S over it."""
+
+    code: list[tuple[int, str, str]]
+
+    @staticmethod
+    def of(text: str) -> "Program":
+        return Program(code_of(text))
+
+    def bytes(self) -> bytes:
+        return bytes.fromhex("".join(digits for _, digits, _ in self.code))
+
+    def listing(self) -> list[str]:
+        return listing_of(self.code)
+
+    def job(self, tasks: str = TASK, listing: list[str] | None = None, more: str = "") -> bytes:
+        """The job, with other tasks, another listing, or lines behind its end."""
+        lines = self.listing() if listing is None else listing
+        text = self.bytes()
+        cards = ["COVERJOB 1", f"MODULE M 100000 {len(text)}", f"TEXT {text.hex().upper()}", f"LISTING {len(lines)}"]
+        return ("\n".join([*cards, *lines, "PHASE P", "SESSION S M"]) + f"\n{tasks}ENDJOB\n{more}").encode()
+
+    def session(self, marks: str, possible: int, ranges: tuple[str, ...] = ()) -> list[str]:
+        """The part of session S: a mark for each instruction, the facts that there can be, what was not executed."""
+        facts, executed = sum(FACTS[it] for it in marks), sum(it != "^" for it in marks)
+        listing = self.listing()
+        return [
+            "SESSION S PHASE P",
+            f"MODULE M PLACES {len(marks)} EXECUTED {executed} FACTS {facts} OF {possible}",
+            f"  {listing[0]}",
+            *(f"{mark} {line}" for mark, line in zip(marks, listing[1:])),
+            *(f"NOT EXECUTED {it}" for it in ranges),
+        ]
+
+    def report(self, results: list[Result], marks: str, possible: int, *ranges: str, title: str = "COVERAGE REPORT") -> bytes:
+        """The whole report."""
+        parts = [title, *(line for it in results for line in it.lines()), *self.session(marks, possible, ranges), "END", ""]
+        return "\n".join(parts).encode()
+
+
+FIRST = Program.of("0 41100005 LA, 4 1A11 AR, 6 07FE BR")
+FIRST_RESULT = Result("RETURNED", 3, 2, {1: 10})
+FIRST_REPORT = FIRST.report([FIRST_RESULT], ":::", 3)
+COUNTED = Program.of("0 4610F000 BCT, 4 07FE BR")

@@ -1,0 +1,195 @@
+"""The program: each command, each exit status that a user can provoke, and each way that a task ends."""
+from __future__ import annotations
+
+from dataclasses import replace
+
+from harness import COVERAGE, Case
+from jobs import COUNTED, FIRST, FIRST_REPORT, FIRST_RESULT, TASK, Program, Result
+
+USAGE = b"USAGE: run | marks NAME | trial NUMBER TASKS | table | replay | combine | show NAME\n"
+PRIVATE_END = 0xFFFFFC
+
+
+def runs(name: str, program: Program, task: str, result: Result, marks: str, possible: int, *ranges: str) -> Case:
+    """A job of one task that is run."""
+    return Case(name, ["run"], program.job(task), program.report([result], marks, possible, *ranges))
+
+
+def task(cards: str = "", head: str = TASK) -> str:
+    """A task's card with its REG and DATA cards, which are given in one line, parted by ' / '."""
+    return head + "".join(f"{it}\n" for it in cards.split(" / ") if it)
+
+
+def instructions() -> list[Case]:
+    """Jobs whose results follow from the rows of docs/MACHINE.md."""
+    link = Program.of("0 1222 LTR, 2 4530F006 BAL, 6 07FE BR")
+    execute = Program.of("0 4410F006 EX, 4 07FE BR, 6 D20000000008 MVC")
+    no_execute = Program.of("0 4400F004 EX, 4 4400F000 EX, 8 07FE BR")
+    made = Program.of("0 4700F00A BC, 4 4410F000 EX, 8 1822 LR, A 07FE BR")
+    mask = Program.of("0 0420 SPM, 2 FA0000000001 AP, 8 07FE BR")
+    load = Program.of("0 58201008 L, 4 07FE BR")
+    edit = Program.of("0 DE0300000008 ED, 6 07FE BR")
+    test = Program.of("0 DD0300000010 TRT, 6 07FE BR")
+    divide = Program.of("0 FD2000000004 DP, 6 07FE BR")
+    move = Program.of("0 0E24 MVCL, 2 07FE BR")
+    lengths = {2: 2, 3: 8, 4: 0, 5: 8}
+    cards = "REG 2 00000002 / REG 3 00000008 / REG 4 00000000 / REG 5 00000008"
+    sum_row, digits = "000000 0C1C0000000000000000000000000000", "DATA 0 9C1C"
+    return [
+        runs("an addition", FIRST, TASK, FIRST_RESULT, ":::", 3),
+        Case("no task", ["run"], FIRST.job(""), FIRST.report([], "^^^", 3, "000000-000007")),
+        runs("a count that goes on", COUNTED, task("REG 1 00000003"), Result("RETURNED", 4, 0), "&:", 3),
+        runs("a count that ends", COUNTED, task("REG 1 00000001"), Result("RETURNED", 2, 0), "V:", 3),
+        runs("a link", link, task("REG 2 00000001"), Result("RETURNED", 3, 2, {2: 1, 3: 0xA0100006}), ":::", 3),
+        runs("EX", execute, task("REG 1 00000002 / DATA 8 010203"),
+             Result("RETURNED", 2, 0, {1: 2}, rows=["000000 01020300000000000102030000000000"]), ":::", 3),
+        runs("EX of EX", no_execute, TASK, Result("ABEND 3", 1), ":^^", 3, "000004-000009"),
+        runs("EX that makes a branch", made, task("REG 1 000000F0"), Result("RETURNED", 3, 0, {1: 0xF0}), "::^:", 4, "000008-000009"),
+        runs("an overflow that interrupts", mask, task(f"REG 2 04000000 / {digits}"),
+             Result("ABEND A", 2, 3, {2: 0x04000000}, rows=[sum_row]), "::^", 3, "000008-000009"),
+        runs("an overflow that goes on", mask, task(digits), Result("RETURNED", 3, 3, rows=[sum_row]), ":::", 3),
+        runs("an overflow below zero", mask, task("DATA 0 9D1D"),
+             Result("RETURNED", 3, 3, rows=["000000 0D1D0000000000000000000000000000"]), ":::", 3),
+        runs("an address that wraps", load, task("REG 1 00FFFFFC / DATA 4 11223344"),
+             Result("RETURNED", 2, 0, {1: PRIVATE_END, 2: 0x11223344}), "::", 2),
+        runs("an edited number", edit, task("DATA 0 40202120 / DATA 8 007C"),
+             Result("RETURNED", 2, 2, rows=["000000 404040F700000000007C000000000000"]), "::", 2),
+        runs("a test of bytes", test, task("DATA 0 C1C25BC3 / DATA 107 0A", "TASK A 100000 300 100 0\n"),
+             Result("RETURNED", 2, 1, {1: 2, 2: 10}), "::", 2),
+        runs("a decimal quotient", divide, task("DATA 0 00017C / DATA 4 5C"),
+             Result("RETURNED", 2, 0, rows=["000000 003C2C005C0000000000000000000000"]), "::", 2),
+        runs("a move over its own source", move, task(cards), Result("RETURNED", 2, 3, lengths), "::", 2),
+        two_tasks(),
+    ]
+
+
+def two_tasks() -> Case:
+    """Two tasks of one phase, which take the two ways of a branch."""
+    program = Program.of("0 1211 LTR, 2 4780F008 BE, 6 1822 LR, 8 07FE BR")
+    second = Result("RETURNED", 4, 2, {1: 1}, name="B")
+    report = program.report([Result("RETURNED", 3, 0), second], ":&::", 5)
+    return Case("two tasks", ["run"], program.job(TASK + task("REG 1 00000001", "TASK B 100000 16 100 0\n")), report)
+
+
+def endings() -> list[Case]:
+    """Each way that a task ends but RETURNED, which the others show."""
+    put = Program.of("0 0A01 SVC, 2 0A01 SVC, 4 07FE BR")
+    letters = bytes.fromhex("C1C2C3C4")
+    touched = Program.of("0 41104120 LA, 4 07FE BR")
+    own = Result("BADSVC 255", 1, entry=0)
+    return [
+        runs("code 5", Program.of("0 D203000E0000 MVC, 6 07FE BR"), TASK, Result("ABEND 5", 1), ":^", 2, "000006-000007"),
+        runs("code 4", Program.of("0 5010F000 ST, 4 07FE BR"), TASK, Result("ABEND 4", 1), ":^", 2, "000004-000005"),
+        runs("code 9", Program.of("0 1D24 DR, 2 07FE BR"), TASK, Result("ABEND 9", 1), ":^", 2, "000002-000003"),
+        runs("EXIT", Program.of("0 0A03 SVC, 2 07FE BR"), TASK, Result("EXIT", 1), ":^", 2, "000002-000003"),
+        runs("OUTFULL", put, task("REG 0 00000004 / DATA 0 C1C2C3C4", "TASK A 100000 16 100 4\n"),
+             Result("OUTFULL", 2, 0, {0: 4}, letters), "::^", 3, "000004-000005"),
+        runs("a budget that suffices", FIRST, "TASK A 100000 16 3 0\n", FIRST_RESULT, ":::", 3),
+        runs("SPENT", FIRST, "TASK A 100000 16 2 0\n", replace(FIRST_RESULT, ending="SPENT", count=2), "::^", 3, "000006-000007"),
+        runs("TOUCHED", touched, "TASK A 100002 16 100 0\n", Result("TOUCHED 100004", 1, entry=0x100002), "^^", 2, "000000-000005"),
+        runs("BADSVC", FIRST, task("DATA 0 0AFF", "TASK A 000000 16 100 0\n"), own, "^^^", 3, "000000-000007"),
+    ]
+
+
+def commands() -> list[Case]:
+    """table and replay, and the words that are none."""
+    table = b"COVERAGE TABLE\nMODULE M PLACES 2\nPLACE 000000 4 C 4610\nPLACE 000004 2 S 07FE\nEND\n"
+    both = TASK + "TASK B 100000 16 100 0\n"
+    items = "FETCH A,FETCH B,MARK A,LIFT A,DO A,MARK B,LIFT B,DO B,GO A,GO B,ENDSCHED".replace(",", "\n") + "\n"
+    events = [
+        "COVERAGE REPLAY", "EVENT 1 FETCH A TAG 1 HALF 0AFF", "EVENT 2 FETCH B TAG 1 HALF 0AFF", "EVENT 3 MARK A OLD -",
+        "EVENT 4 LIFT A TAKEN", "EVENT 5 DO A", "EVENT 6 MARK B OLD R", "EVENT 7 LIFT B NOT TAKEN", "EVENT 8 DO B",
+        "EVENT 9 GO A", "EVENT 10 GO B",
+    ]
+    replayed = FIRST.report([FIRST_RESULT, replace(FIRST_RESULT, name="B")], ":::", 3, title="\n".join(events))
+    job = FIRST.job()
+    return [
+        Case("table", ["table"], COUNTED.job(), table),
+        Case("replay", ["replay"], FIRST.job(both, more=items), replayed),
+        Case("run by the script", ["run"], job, FIRST_REPORT, command=COVERAGE),
+        Case("table by the script", ["table"], COUNTED.job(), table, command=COVERAGE),
+        Case("replay by the script", ["replay"], FIRST.job(both, more=items), replayed, command=COVERAGE),
+        Case("no words", [], job, USAGE, 1),
+        Case("an unknown word", ["runs"], job, USAGE, 1),
+        Case("a word in capitals", ["RUN"], job, USAGE, 1),
+        Case("a word too many", ["run", "now"], job, USAGE, 1),
+        Case("an empty word", [""], job, USAGE, 1),
+        Case("--help is no word of the program", ["--help"], job, USAGE, 1),
+        Case("an unknown word by the script", ["runs"], job, USAGE, 1, command=COVERAGE),
+        Case("an unknown word, nothing read", ["runs"], b"", USAGE, 1, redirect="</"),
+    ]
+
+
+def refusals() -> list[Case]:
+    """Each refusal of a job, of its listing and of its schedule."""
+    job, listing = FIRST.job(), FIRST.listing()
+    without_end = job[: -len(b"ENDJOB\n")]
+
+    def of_listing(name: str, line: bytes, status: int, program: Program = FIRST, lines: list[str] | None = None) -> Case:
+        return Case(name, ["run"], program.job(listing=lines), line, status)
+
+    def changed(at: int, old: str, new: str) -> list[str]:
+        return [it.replace(old, new) if number == at else it for number, it in enumerate(listing, 1)]
+
+    def of_limit(name: str, old: bytes, new: bytes, line: bytes) -> Case:
+        assert job.count(old) == 1, name
+        return Case(name, ["run"], job.replace(old, new), line, 4)
+
+    schedule = b"BAD SCHEDULE LINE %d\n"
+    return [
+        Case("no job", ["run"], b"", b"BAD JOB LINE 1\n", 2),
+        Case("a job without an end", ["run"], without_end, b"BAD JOB LINE 12\n", 2),
+        Case("a job without an end, of table", ["table"], without_end, b"BAD JOB LINE 12\n", 2),
+        Case("a line behind the job", ["run"], job + b"GO A\n", b"BAD JOB LINE 13\n", 2),
+        Case("a card in small letters", ["run"], job.replace(b"PHASE", b"phase"), b"BAD JOB LINE 9\n", 2),
+        Case("two blanks", ["run"], job.replace(b"PHASE P", b"PHASE  P"), b"BAD JOB LINE 9\n", 2),
+        of_listing("other bytes", b"MISMATCH M LINE 2 LOC 000000 LISTING 41100006 MODULE 41100005\n", 3, lines=changed(2, "0005", "0006")),
+        of_listing("the own SVC", b"OWN SVC M LINE 2\n", 8, Program.of("0 0AFF SVC, 2 07FE BR")),
+        of_listing("no heading", b"BAD LISTING M LINE 0 HEADING\n", 12, lines=listing[1:]),
+        of_listing("an empty listing", b"BAD LISTING M LINE 0 HEADING\n", 12, lines=[]),
+        of_listing("half an instruction", b"BAD LISTING M LINE 2 OBJECT\n", 12, lines=changed(2, "4110 0005", "4110     ")),
+        of_listing("an odd location", b"BAD LISTING M LINE 3 ODD\n", 12, lines=changed(3, "000004", "000005")),
+        of_listing("a location past the module", b"BAD LISTING M LINE 4 OUTSIDE\n", 12, lines=changed(4, "000006", "000008")),
+        of_listing("instructions that overlap", b"BAD LISTING M LINE 3 OVERLAP\n", 12, lines=changed(3, "000004", "000002")),
+        of_limit("PRIVATE", b" 16 100 0", b" 1048577 100 0", b"TOO LARGE PRIVATE LINE 11\n"),
+        of_limit("BUDGET", b" 16 100 0", b" 16 50000001 0", b"TOO LARGE BUDGET LINE 11\n"),
+        of_limit("ROOM", b" 16 100 0", b" 16 100 65537", b"TOO LARGE ROOM LINE 11\n"),
+        of_limit("SIZE", b"M 100000 8", b"M 100000 262146", b"TOO LARGE SIZE LINE 2\n"),
+        of_limit("LINE", b"          LA", b"          LA" + b" " * 100, b"TOO LARGE LINE LINE 6\n"),
+        Case("MODULES", ["run"], modules(17), b"TOO LARGE MODULES LINE 34\n", 4),
+        Case("PHASES", ["run"], b"COVERJOB 1\n" + b"".join(b"PHASE P%d\n" % it for it in range(17)) + b"ENDJOB\n", b"TOO LARGE PHASES LINE 18\n", 4),
+        Case("TASKS", ["run"], b"COVERJOB 1\nPHASE P\n" + b"".join(b"TASK T%d 100000 0 1 0\n" % it for it in range(65)) + b"ENDJOB\n", b"TOO LARGE TASKS LINE 67\n", 4),
+        Case("INPUT", ["run"], b"\n" * 16_777_217, b"TOO LARGE INPUT\n", 4),
+        Case("an event that isn't possible", ["replay"], FIRST.job(more="MARK A\n"), schedule % 13, 9),
+        Case("a schedule without an end", ["replay"], FIRST.job(more="GO A\n"), schedule % 14, 9),
+        Case("a schedule of no phase", ["replay"], b"COVERJOB 1\nENDJOB\nENDSCHED\n", schedule % 0, 9),
+        Case("a schedule of an unknown task", ["replay"], FIRST.job(more="GO B\nENDSCHED\n"), schedule % 13, 9),
+    ]
+
+
+def modules(count: int) -> bytes:
+    """A job of so many modules of 8 bytes."""
+    cards = [f"MODULE M{it} {0x100000 + 8 * it:06X} 8\nTEXT 0000000000000000\n" for it in range(count)]
+    return f"COVERJOB 1\n{''.join(cards)}ENDJOB\n".encode()
+
+
+def streams() -> list[Case]:
+    """Faults of standard input and output."""
+    job = FIRST.job()
+    return [
+        Case("a folder as input", ["run"], b"", b"READ FAULT\n", 5, redirect="</"),
+        Case("a folder as input, of table", ["table"], b"", b"READ FAULT\n", 5, redirect="</"),
+        Case("a folder as input, of replay", ["replay"], b"", b"READ FAULT\n", 5, redirect="</"),
+        Case("a full output", ["run"], job, b"", 6, redirect=">/dev/full"),
+        Case("a full output, of table", ["table"], job, b"", 6, redirect=">/dev/full"),
+        Case("a full output, of replay", ["replay"], FIRST.job(more="GO A\nENDSCHED\n"), b"", 6, redirect=">/dev/full"),
+        Case("a full output for a refusal", ["run"], b"", b"", 6, redirect=">/dev/full"),
+        Case("a full output for the usage", [], b"", b"", 6, redirect=">/dev/full"),
+        Case("a full output by the script", ["run"], job, b"", 6, redirect=">/dev/full", command=COVERAGE),
+        Case("a folder as input by the script", ["run"], b"", b"READ FAULT\n", 5, redirect="</", command=COVERAGE),
+    ]
+
+
+def cases() -> list[Case]:
+    """All of the program's."""
+    return [*instructions(), *endings(), *commands(), *refusals(), *streams()]

@@ -1,0 +1,461 @@
+"""The scripts: module, job, page and lcov."""
+from __future__ import annotations
+
+import os
+import re
+import shutil
+import struct
+import zlib
+from html.parser import HTMLParser
+from typing import Callable
+
+from decks import END, ebcdic, esd, item, record, rld, txt
+from harness import COVERAGE, TOP, Ran, Tally, equal, folder, run, run_checks, well
+from jobs import COUNTED, FIRST, FIRST_REPORT, Result
+
+SD, LD, ER, WX = 0, 1, 2, 10
+EXAMPLES = f"{TOP}/examples"
+VOID = {"meta", "link", "br", "hr", "img", "input"}
+
+
+def coverage(*words: str, data: bytes = b"", redirect: str = "", cwd: str = TOP) -> Ran:
+    return run([COVERAGE, *words], data, cwd, redirect)
+
+
+def refused(ran: Ran, status: int, *texts: str) -> None:
+    """Fails unless a command wrote nothing and said these texts with this status."""
+    assert ran.status == status, f"status {ran.status}, and not {status}: {ran.error[:300]}"
+    equal(ran.output, b"")
+    for text in texts:
+        assert text in ran.error, f"{ran.error[:300]!r} has not {text!r}"
+    assert "Traceback" not in ran.error, ran.error
+
+
+def module_of(data: bytes, base: str = "100000", listing: bytes | None = None) -> Ran:
+    """What `module` makes of an object and a listing."""
+    with folder() as at:
+        words = ["module", "M", base, "object"]
+        with open(f"{at}/object", "wb") as file:
+            file.write(data)
+        if listing is not None:
+            with open(f"{at}/listing", "wb") as file:
+                file.write(listing)
+            words.append("listing")
+        return coverage(*words, cwd=at)
+
+
+def text_of(ran: Ran) -> str:
+    """The bytes of the TEXT cards, as hexadecimal digits."""
+    return "".join(it[5:] for it in well(ran).output.decode().splitlines() if it.startswith("TEXT "))
+
+
+def listing_text(listing: list[str]) -> bytes:
+    return "".join(f"{it}\n" for it in listing).encode()
+
+
+# module
+
+
+def raw_bytes() -> None:
+    """module: raw bytes and a listing in ASCII, as the cards of docs/JOB.md"""
+    ran = well(module_of(FIRST.bytes(), listing=listing_text(FIRST.listing())))
+    equal(ran.output, FIRST.job().split(b"\n", 1)[1].split(b"PHASE")[0])
+
+
+def no_listing() -> None:
+    """module: without a listing there is no LISTING card, and 100 bytes have four TEXT cards"""
+    lines = well(module_of(bytes(100))).output.decode().splitlines()
+    equal([lines[0], len(lines), lines[4]], ["MODULE M 100000 100", 5, "TEXT 00000000"])
+
+
+def listings() -> None:
+    """module: the same listing in ASCII with CR, in EBCDIC of both pages, and as records of 121 and 133 bytes"""
+    lines = FIRST.listing()
+    wanted = well(module_of(FIRST.bytes(), listing=listing_text(lines))).output
+    ends = "\r\n", b"\x15", b"\x25", b"\x0d\x25"
+    texts = ["".join(it + ends[0] for it in lines).encode()]
+    texts += [b"".join(ebcdic(it) + end for it in lines) for end in ends[1:]]
+    texts += [b"".join(ebcdic(it.ljust(width)) for it in lines) for width in (121, 133)]
+    for text in texts:
+        equal(well(module_of(FIRST.bytes(), listing=text)).output, wanted)
+
+
+def brackets() -> None:
+    """module: brackets of code pages 037 and 1047, and what ASCII lacks"""
+    line = ebcdic("* ") + b"\xba\xbb\xad\xbd\x4a"
+    text = b"".join(it + b"\x15" for it in [*map(ebcdic, FIRST.listing()), line])
+    equal(well(module_of(FIRST.bytes(), listing=text)).output.splitlines()[-1], b"* [][]?")
+
+
+def long_lines() -> None:
+    """module: lines are cut to 150 bytes, and refused where the operation would be cut"""
+    first, *rest = FIRST.listing()
+    long = f"{rest[0]}  {'remark ' * 30}"
+    lines = well(module_of(FIRST.bytes(), listing=listing_text([first, long, *rest[1:]]))).output.decode().splitlines()
+    equal(lines[4], long[:150])
+    far = f"{rest[0][:40]}{' ' * 120}LA 1,5"
+    refused(module_of(FIRST.bytes(), listing=listing_text([first, far])), 2, "listing: line 2", "150")
+    blank = f"{rest[0][:40]}{' ' * 120}"
+    equal(well(module_of(FIRST.bytes(), listing=listing_text([first, blank]))).output.splitlines()[4], blank.rstrip().encode())
+
+
+def sections() -> None:
+    """module: sections in their order, each from a doubleword on, with zeros between, and an odd size filled"""
+    deck = esd(1, item("A", SD, 0, 5), item("B", SD, 8, 3)) + txt(2, 8, "AABBCC") + txt(1, 1, "0102") + END
+    equal(text_of(module_of(deck)), "0001020000000000AABBCC00")
+    apart = esd(1, item("A", SD, 0, 5), item("B", SD, 0, 3)) + txt(2, 0, "AABBCC") + txt(1, 1, "0102") + END
+    equal(text_of(module_of(apart)), "0001020000000000AABBCC00")
+
+
+def constants() -> None:
+    """module: address constants of 4 and 3 bytes, added and subtracted, chained, and by name"""
+    # A at 0, B from 10 on. A has B+4 (4 bytes), A+2 (3 bytes, chained with a second), less A (4 bytes), B by name.
+    names = esd(1, item("A", SD, 0, 24), item("B", SD, 0x18, 8), item("B", ER, 0x404040, 0x404040))
+    text = txt(1, 0, "0000001C" "000002" "00" "000003" "00" "00200000" "00000000" "00000001")
+    chained = "00010001" "09" "000004" "08" "000008"
+    items = rld("00020001" "0C" "000000" + chained + "00010001" "0E" "00000C" "00030001" "1C" "000010")
+    wanted = "0020001C" "200002" "00" "200003" "00" "00000000" "00200018" "00000001" + "0" * 16
+    equal(text_of(module_of(names + text + items + END, "200000")), wanted)
+
+
+def labels() -> None:
+    """module: a label of a section that was assembled elsewhere, and a weak reference that nothing defines"""
+    names = esd(1, item("A", SD, 0, 8)) + esd(2, item("B", SD, 0x100, 8)) + esd(None, item("L", LD, 0x104, 2))
+    names += esd(3, item("L", ER, 0, 0), item("NONE", WX, 0, 0))
+    items = rld("00030001" "0C" "000000" "00040001" "0C" "000004")
+    deck = names + txt(1, 0, "0000000100000007") + items + END
+    equal(text_of(module_of(deck)), "0010000D00000007" + "0" * 16)
+
+
+DECK = esd(1, item("A", SD, 0, 8))
+
+
+def bad_decks() -> None:
+    """module: each bad deck is refused by its record"""
+    text = txt(1, 0, "0102030400000000")
+    reference = esd(2, item("OUT", ER, 0, 0))
+    table = [
+        ((DECK + text + END)[:-1], "object", "no multiple of 80"),
+        (DECK + record("XYZ", {}) + END, "record 2", "unknown record"),
+        (DECK + b"\x01" + text[1:] + END, "record 2", "unknown record"),
+        (DECK + txt(1, 4, "0102030405") + END, "record 2", "text past the section"),
+        (DECK + text + txt(1, 2, "0102") + END, "record 3", "overlapping text: 000002"),
+        (DECK + txt(7, 0, "01") + END, "record 2", "no section with the number 7"),
+        (DECK + reference + text + END, "record 2", "nothing defines the external reference OUT"),
+        (DECK + text, "record 3", "END record is missing"),
+        (DECK + text + END + text, "record 4", "behind the END record"),
+        (esd(1, item("A", 3, 0, 8)) + END, "record 1", "type 03"),
+        (esd(1, item("A", 6, 0, 8)) + END, "record 1", "type 06"),
+        (DECK + esd(1, item("B", SD, 0, 8)) + END, "record 2", "B has no number"),
+        (DECK + esd(2, item("A", SD, 0, 8)) + END, "record 2", "A is defined twice"),
+        (record("ESD", {11: b"\x00\x0f", 15: b"\x00\x01"}) + END, "record 1", "15 bytes"),
+        (DECK + record("TXT", {6: b"\0\0\0", 11: b"\x00\x39", 15: b"\x00\x01"}) + END, "record 2", "count of 57 bytes"),
+        (DECK + text + rld("00010001" "04" "000000") + END, "record 3", "2 bytes"),
+        (DECK + text + rld("00010001" "2C" "000000") + END, "record 3", "flags 2C"),
+        (DECK + text + rld("00010001" "0C" "000006") + END, "record 3", "an address constant past the section"),
+        (DECK + text + rld("00010001" "0C" "0000") + END, "record 3", "cut short"),
+        (DECK + text + rld("00010001" "0D" "000000") + END, "record 3", "says that another follows"),
+        (DECK + text + rld("00090001" "0C" "000000") + END, "record 3", "symbol 9"),
+        (record("TXT", {6: b"\0\0\0", 11: b"\0\0"}) + END, "object", "without a section"),
+        (esd(1, item("A", SD, 0, 262_146)) + END, "object", "SIZE"),
+        (esd(1, item("A", SD, 0, 0)) + END, "object", "0 bytes"),
+    ]
+    for data, place, what in table:
+        refused(module_of(data), 2, place, what)
+
+
+def bad_modules() -> None:
+    """module: a name, a base, a size, a file and a listing that no card can have"""
+    for base in ("0FFFF8", "100001", "100", "10000G", "1000000", ""):
+        refused(module_of(bytes(8), base), 2, "BASE")
+    for size, what in ((0, "0 bytes"), (7, "odd"), (262_146, "SIZE")):
+        refused(module_of(bytes(size)), 2, what)
+    refused(module_of(bytes(0x1000), "FFE008"), 2, "FFF000")
+    text_of(module_of(bytes(0xFF8), "FFE008"))
+    for name in ("m", "1M", "", "ABCDEFGHI", "A B"):
+        refused(coverage("module", name, "100000", f"{EXAMPLES}/first.job"), 2, "NAME")
+    refused(coverage("module", "M", "100000", "/no/such/file"), 2, "/no/such/file")
+    refused(coverage("module", "M", "100000", "/"), 2, "/: ")
+    refused(module_of(bytes(8), listing=b"no heading\n"), 2, "listing", "heading")
+    refused(module_of(bytes(8), listing=ebcdic("no heading at all")), 2, "listing", "heading")
+    for words in ([], ["M"], ["M", "100000"], ["M", "100000", "a", "b", "c"]):
+        refused(coverage("module", *words), 1, "usage: coverage module")
+
+
+# job
+
+
+def jobs() -> None:
+    """job: the pieces between COVERJOB and ENDJOB, a last line without its end, standard input"""
+    head, _, rest = FIRST.job().partition(b"\n")
+    module, phase, tasks = rest.partition(b"PHASE P\n")
+    with folder() as at:
+        for name, data in (("module", module), ("phase", (phase + tasks)[: -len(b"\nENDJOB\n")])):
+            with open(f"{at}/{name}", "wb") as file:
+                file.write(data)
+        equal(well(coverage("job", "module", "phase", cwd=at)).output, FIRST.job())
+        equal(well(coverage("job", "module", "-", data=phase + tasks[: -len(b"ENDJOB\n")], cwd=at)).output, FIRST.job())
+
+
+def bad_jobs() -> None:
+    """job: pieces that make no job are refused by their line"""
+    for data, place, what in (
+        (b"", "-", "empty"),
+        (b"PHASE P\nENDJOB\n", "-: line 2", "ENDJOB"),
+        (b"COVERJOB 1\n", "-: line 1", "COVERJOB"),
+        (b"MODULE M 100000 2\nTEXT 07FE\nLISTING 2\nENDJOB\n", "-: line 3", "2 lines"),
+        (b"PHASE P\nMODULE M 100000 2\n", "-: line 2", "behind the phase"),
+    ):
+        refused(coverage("job", "-", data=data), 2, place, what)
+    refused(coverage("job", "/no/such/file"), 2, "/no/such/file")
+    refused(coverage("job"), 1, "usage: coverage job")
+    refused(coverage("job", "-", redirect="</"), 5, "standard input")
+    refused(coverage("job", "-", redirect="<&-"), 5, "standard input")
+
+
+# page and lcov
+
+MARKED = COUNTED.report([Result("RETURNED", 2)], "V:", 3)
+NOT_RUN = COUNTED.report([], "^^", 3, "000000-000005")
+BAD_REPORTS = [
+    (b"", "line 1", "nothing"),
+    (b"BAD JOB LINE 3\n", "line 1", "BAD JOB LINE 3"),
+    (FIRST_REPORT[:-4], "line 12", "ends early"),
+    (FIRST_REPORT + b"more\n", "line 13", "behind END"),
+    (FIRST_REPORT.replace(b"CC 2", b"CC 4"), "line 2", "a task"),
+    (FIRST_REPORT.replace(b"0000000A", b"000000A"), "line 3", "registers"),
+    (FIRST_REPORT.replace(b"OUT 0", b"OUT 1"), "line 6", "output"),
+    (FIRST_REPORT.replace(b"EXECUTED 3", b"EXECUTED 2"), "line 7", "counts"),
+    (FIRST_REPORT.replace(b"PLACES 3", b"PLACES x"), "line 7", "module"),
+    (FIRST_REPORT.replace(b": 000004", b"V 000004"), "line 10", "mark V"),
+    (FIRST_REPORT.replace(b"    Loc", b":   Loc"), "line 8", "mark"),
+    (FIRST_REPORT.replace(b"SESSION", b"SESSIONS"), "line 6", "SESSIONS"),
+]
+
+
+class Page(HTMLParser):
+    """What a page has: its text, its ids, what its links name, and whether its tags close."""
+
+    def __init__(self, text: str) -> None:
+        super().__init__()
+        self.text, self.ids, self.links, self.tags = "", [], [], []
+        self.open: list[str] = []
+        self.feed(text)
+        equal(self.open, [])
+
+    def handle_starttag(self, tag: str, attrs: list[tuple[str, str | None]]) -> None:
+        values = dict(attrs)
+        self.tags.append((tag, values))
+        self.ids += [values["id"]] if "id" in values else []
+        self.links += [values["href"]] if "href" in values else []
+        if tag not in VOID:
+            self.open.append(tag)
+
+    def handle_endtag(self, tag: str) -> None:
+        equal(self.open.pop(), tag)
+
+    def handle_data(self, data: str) -> None:
+        self.text += data
+
+
+def example_report(name: str) -> bytes:
+    with open(f"{EXAMPLES}/{name}.job", "rb") as file:
+        return well(coverage("run", data=file.read())).output
+
+
+def pages() -> None:
+    """page: each line with its mark, unexecuted ranges as links, tasks folded, no script, light and dark"""
+    for report in (FIRST_REPORT, MARKED, NOT_RUN, example_report("orders"), example_report("palindrome")):
+        text = well(coverage("page", data=report)).output.decode()
+        page = Page(text)
+        equal(len(set(page.ids)), len(page.ids))
+        for link in page.links:
+            assert link[:1] == "#" and link[1:] in page.ids, link
+        for line in report.decode().splitlines():
+            if re.match(r"[\^:>V& ] ", line):
+                assert line in page.text, line
+        equal(page.links.count("#S.M.000000"), int(report is NOT_RUN))
+        equal(sum(tag == "details" and "open" not in values for tag, values in page.tags), report.count(b"\nTASK "))
+        assert not [tag for tag, values in page.tags if tag in ("script", "link", "img") or "src" in values]
+        assert "prefers-color-scheme: dark" in text and "@media print" in text and '<html lang="en">' in text
+
+
+def page_escapes() -> None:
+    """page: a listing's bytes are text: markup, control characters, and what is no UTF-8"""
+    report = FIRST_REPORT.replace(b"          AR", b" <b>&amp;\x1b\xff AR")
+    equal("<b>" in well(coverage("page", data=report)).output.decode(), False)
+    assert "<b>&amp;\ufffd\xff AR" in Page(coverage("page", data=report).output.decode()).text
+
+
+def replay_page() -> None:
+    """page: the events of a schedule"""
+    data = well(coverage("replay", data=FIRST.job(more="GO A\nENDSCHED\n"))).output
+    assert "EVENT 1 GO A" in Page(well(coverage("page", data=data)).output.decode()).text
+
+
+def bad_reports() -> None:
+    """page and lcov: what is no report is refused by its line, and nothing is written"""
+    with folder() as at:
+        for data, *texts in BAD_REPORTS:
+            refused(coverage("page", data=data), 2, "standard input", *texts)
+            refused(coverage("lcov", f"{at}/out", data=data), 2, "standard input", *texts)
+        equal(os.listdir(at), [])
+
+
+def lcov_files() -> None:
+    """lcov: the listing as a file, and DA, BRDA and the totals of both branches"""
+    wanted = (
+        "TN:S\nSF:out/M.lst\nBRDA:2,0,0,{}\nBRDA:2,0,1,{}\nBRF:2\nBRH:{}\nDA:2,{}\nDA:3,{}\nLF:2\nLH:{}\nend_of_record\n"
+    )
+    both = COUNTED.report([], "&:", 3)
+    went = COUNTED.report([], ">:", 3)
+    for report, counts in ((MARKED, (0, 1, 1, 1, 1, 2)), (went, (1, 0, 1, 1, 1, 2)), (both, (1, 1, 2, 1, 1, 2)), (NOT_RUN, ("-", "-", 0, 0, 0, 0))):
+        with folder() as at:
+            equal(well(coverage("lcov", "out", data=report, cwd=at)).output, b"")
+            equal(sorted(os.listdir(f"{at}/out")), ["M.lst", "coverage.info"])
+            with open(f"{at}/out/M.lst", encoding="ascii") as file:
+                equal(file.read().splitlines(), COUNTED.listing())
+            with open(f"{at}/out/coverage.info", encoding="ascii") as file:
+                equal(file.read(), wanted.format(*counts))
+
+
+def words_and_streams() -> None:
+    """page, lcov, module, job: words that they don't have, and faults of input and output"""
+    for command in ("page", "lcov", "module", "job"):
+        ran = well(coverage(command, "--help"))
+        assert f"usage: coverage {command}".encode() in ran.output and b"not proved" in ran.output
+        refused(coverage(command, "--help", redirect=">/dev/full"), 6, "standard output")
+    refused(coverage("page", "x"), 1, "usage: coverage page")
+    refused(coverage("lcov"), 1, "usage: coverage lcov")
+    refused(coverage("lcov", "a", "b"), 1, "usage: coverage lcov")
+    for command in (["page"], ["lcov", "/dev/null/x"]):
+        refused(coverage(*command, redirect="</"), 5, "standard input")
+        refused(coverage(*command, redirect="<&-"), 5, "standard input")
+    refused(coverage("page", data=FIRST_REPORT, redirect=">/dev/full"), 6, "standard output")
+    refused(coverage("page", data=FIRST_REPORT, redirect=">&-"), 6, "standard output")
+    refused(coverage("module", "M", "100000", f"{EXAMPLES}/orders.object", redirect=">/dev/full"), 6, "standard output")
+    refused(coverage("job", f"{EXAMPLES}/orders.tasks", redirect=">/dev/full"), 6, "standard output")
+    refused(coverage("lcov", "/dev/null/x", data=FIRST_REPORT), 6, "/dev/null/x")
+
+
+# the examples
+
+
+def examples_are_made() -> None:
+    """examples: the decks, the listings and the jobs are those of their sources"""
+    for name, module, base, code in (("orders", "ORDERS", "100000", "ebcdic"), ("palindrome", "PALIN", "200000", "ascii")):
+        with folder() as at:
+            words = ["python3", "-B", "scripts/assemble.py", f"examples/{name}.asm", f"{at}/object", f"{at}/listing", code]
+            well(run(words))
+            for one, other in (("object", f"{name}.object"), ("listing", f"{name}.listing")):
+                with open(f"{at}/{one}", "rb") as made, open(f"{EXAMPLES}/{other}", "rb") as kept:
+                    equal(made.read() == kept.read(), True)
+            with open(f"{at}/cards", "wb") as file:
+                file.write(well(coverage("module", module, base, f"{at}/object", f"{at}/listing")).output)
+            with open(f"{EXAMPLES}/{name}.job", "rb") as file:
+                equal(well(coverage("job", f"{at}/cards", f"{EXAMPLES}/{name}.tasks")).output == file.read(), True)
+
+
+def outputs_of(report: bytes) -> list[str]:
+    """The output of each task of a report, as text."""
+    tasks = re.findall(rb"\nOUT [0-9]+\n((?:[0-9A-F]+\n)*)", report)
+    return [bytes.fromhex(it.decode().replace("\n", "")).decode("cp037") for it in tasks]
+
+
+def line(name: str, money: str) -> str:
+    return f"{name:<17}{money:>15}"
+
+
+def orders() -> None:
+    """examples: the prices, totals and marks of an order, from an object deck and a listing in EBCDIC"""
+    report = example_report("orders")
+    # 12 at 2.50; 150 at 0.05, a tenth off; 1 at 0.99 without a name; a quantity with a letter.
+    first = line("WIDGET", "$30.00") + line("BOLT", "$6.75") + line("TOTAL", "$36.75")
+    second = line("NO NAME", "$0.99") + line("NUT", "NO NUMBER      ") + line("TOTAL", "$0.99")
+    equal(outputs_of(report), [first, second])
+    equal(report.count(b" RETURNED COUNT "), 2)
+    marked = {at: mark for mark, at in re.findall(r"^([\^:>V&])  ([0-9A-F]{6}) ", report.decode(), re.M)}
+    # The branches: no record left, too short, no number, no name, two counts, below 100; and what only a short one reaches.
+    wanted = {"00002E": "&", "000036": "V", "000046": "&", "00005A": "&", "00008E": ">", "0000DE": ">", "000386": "&"}
+    wanted.update(dict.fromkeys(("0000E2", "0000E6", "0000EC", "0000F2", "0000F6"), "^"))
+    equal({at: mark for at, mark in marked.items() if mark != ":"}, wanted)
+    assert b"\nMODULE ORDERS PLACES 76 EXECUTED 71 FACTS 75 OF 83\n" in report
+    assert b"\nNOT EXECUTED 0000E2-0000F9\n" in report
+
+
+def palindromes() -> None:
+    """examples: which texts read the same backwards, in two phases"""
+    report = example_report("palindrome")
+    wanted = ["READS THE SAME:  11 LETTERS", "READS OTHERWISE   9 LETTERS", "NO LETTERS", "NO LETTERS"]
+    equal(outputs_of(report), [it.ljust(32) for it in wanted])
+    one, two = report.decode().split("SESSION ")[1:]
+    # No text at all, a blank, a last byte, no letters, unequal.
+    branches = ("00001C", "00003A", "000048", "000052", "000066")
+    for part, marks in ((one, "V&&VV"), (two, "&&&&>")):
+        equal([re.search(rf"^(.)  {at} ", part, re.M)[1] for at in branches], list(marks))
+
+
+# what other tools make of it
+
+
+def tools(tally: Tally) -> None:
+    """Runs a browser over a page and genhtml over a tracefile, where they are."""
+    browser = next(filter(None, map(shutil.which, ("chromium", "chromium-browser", "google-chrome"))), None)
+    checks: list[Callable[[], None]] = []
+    if browser:
+        checks.append(lambda: in_browser(browser))
+        checks[-1].__doc__ = in_browser.__doc__
+    else:
+        tally.left_out.append("the page in a browser, since there is no chromium")
+    if shutil.which("genhtml"):
+        checks.append(genhtml)
+    else:
+        tally.left_out.append("genhtml over the tracefile, since there is no genhtml")
+    run_checks(tally, checks)
+
+
+def genhtml() -> None:
+    """lcov: genhtml takes the tracefile of an example without a warning, and finds its lines and branches"""
+    with folder() as at:
+        well(coverage("lcov", "cov", data=example_report("orders"), cwd=at))
+        ran = run(["genhtml", "--branch-coverage", "--output-directory", "html", "cov/coverage.info"], cwd=at)
+        equal(ran.status, 0)
+        text = ran.output.decode() + ran.error
+        assert not re.search("warning|error", text, re.I), text
+        assert "(71 of 76 lines)" in text and "(11 of 14 branches)" in text, text
+
+
+def size_of(png: bytes) -> tuple[int, int, bytes]:
+    """The width, the height, and the pixels of the picture, still filtered."""
+    width, height = struct.unpack(">II", png[16:24])
+    at, data = 8, b""
+    while at < len(png):
+        length, kind = struct.unpack(">I4s", png[at : at + 8])
+        data += png[at + 8 : at + 8 + length] if kind == b"IDAT" else b""
+        at += length + 12
+    return width, height, zlib.decompress(data)
+
+
+def in_browser(browser: str) -> None:
+    """page: a browser draws it, in light and in dark"""
+    pictures = []
+    with folder() as at:
+        with open(f"{at}/page.html", "wb") as file:
+            file.write(well(coverage("page", data=example_report("palindrome"))).output)
+        for scheme in ("1", "0"):
+            words = ["--headless", "--no-sandbox", "--disable-gpu", f"--user-data-dir={at}/profile", "--window-size=900,600"]
+            words += [f"--blink-settings=preferredColorScheme={scheme}", f"--screenshot={at}/{scheme}.png"]
+            equal(run([browser, *words, f"file://{at}/page.html"], cwd=at).status, 0)
+            with open(f"{at}/{scheme}.png", "rb") as file:
+                pictures.append(size_of(file.read()))
+    for width, height, pixels in pictures:
+        equal((width, height), (900, 600))
+        assert len(set(pixels)) > 20, "the picture has next to no colours"
+    assert pictures[0] != pictures[1], "light and dark are the same"
+
+
+CHECKS = [
+    raw_bytes, no_listing, listings, brackets, long_lines, sections, constants, labels, bad_decks, bad_modules, jobs,
+    bad_jobs, pages, page_escapes, replay_page, bad_reports, lcov_files, words_and_streams, examples_are_made, orders,
+    palindromes,
+]
