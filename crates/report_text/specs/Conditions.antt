@@ -1,5 +1,6 @@
 -- What a report needs of tables, results and sets.
 use Rattle.std.specs.Prelude.{◌≡◌, ℕ, ◌+◌, ◌<◌, ◌≤◌, true, length, All, IfSome}
+use Rattle.cov_base.specs.declared.constants.TheConstants.{INPUT_LIMIT}
 use Rattle.cov_base.specs.FactSet.{FactSet}
 use Rattle.cov_base.specs.Facts.{is_within}
 use Rattle.module_area.specs.PlanView.{place_of}
@@ -10,12 +11,17 @@ use Rattle.session_book.specs.Sessions.{session_of, task_of}
 
 -- each line of a listing has a number
 abbrev pub HasFewLines : JobView → Type 0
-HasFewLines job = All (λ listing. IfSome listing (λ lines. length lines ≤ 16777216)) job.listings
+HasFewLines job = All (λ listing. IfSome listing (λ lines. length lines ≤ INPUT_LIMIT)) job.listings
 
 -- each place lies in its module
 pub record AreTablesOf (job : JobView) (tables : TablesView) : Type 0 where
   pub within : All (IsIn job.images) tables.places
   pub lines : HasFewLines job
+
+-- of a task, with private storage of its card's size
+pub record HasResultOf (job : JobView) (tasks : ℕ) (results : ℕ → ResultView) (t : ℕ) : Type 0 where
+  pub exists : t < tasks
+  pub size : length (results t).bytes ≡ (task_of job t).private
 
 -- one for each task of the job, with private storage of its card's size
 pub record AreResultsOf (job : JobView) (tasks : ℕ) (results : ℕ → ResultView) : Type 0 where
@@ -25,6 +31,12 @@ pub record AreResultsOf (job : JobView) (tasks : ℕ) (results : ℕ → ResultV
 -- at each place of module m the set is within the place's kind
 abbrev pub AreWithin : TablesView → (ℕ → FactSet) → ℕ → Type 0
 AreWithin tables sets m = (n : ℕ) → first_place tables.tables m ≤ n → n < first_place tables.tables m + place_count tables.tables m → is_within (place_of tables.places n).kind (sets n) ≡ true
+
+-- of a session a set at each place, within its kind at those of the session's modules
+pub record HasSetsOf (job : JobView) (tables : TablesView) (sessions places : ℕ) (sets : ℕ → ℕ → FactSet) (s : ℕ) : Type 0 where
+  pub exists : s < sessions + 1
+  pub size : places ≡ length tables.places
+  pub within : All (AreWithin tables (sets s)) (session_of job s).modules
 
 -- for each session of the job a set at each place, within its kind at those of the session's modules
 pub record AreSetsOf (job : JobView) (tables : TablesView) (sessions places : ℕ) (sets : ℕ → ℕ → FactSet) : Type 0 where

@@ -1,12 +1,8 @@
 -- Lines that were written to a sink, whole or in part.
-use Rattle.std.specs.Prelude.{ℕ, Option, List, Result, OnOk, OnErr}
-use Rattle.std.specs.Io.KnownBytes.{Appends}
-use Rattle.cov_outside.specs.Causes.{HasCause}
-use Rattle.cov_outside.specs.Whole.{AppendsSome}
+use Rattle.std.specs.Prelude.{ℕ, Option, List, Result}
+use Rattle.cov_outside.specs.Writes.{Writes}
 use Rattle.report_text.specs.Text.{text_of}
 
--- by the bytes that the sink tells and the count of its faults, before and after
-pub record Writes {T E : Type 0} (old new : Option (List ℕ)) (before now : ℕ) (result : Result T E) (lines : List (List ℕ)) : Type 0 where
-  pub whole : OnOk result (Appends old new (text_of lines))
-  pub some : OnErr result (AppendsSome old new (text_of lines))
-  pub cause : HasCause before now result
+-- the text of these lines was written
+pub record WritesLines {K T E : Type 0} (written : K → Option (List ℕ)) (faults : K → ℕ) (old new : K) (result : Result T E) (lines : List (List ℕ)) : Type 0 where
+  pub as_text : Writes written faults old new result (text_of lines)

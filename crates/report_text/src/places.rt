@@ -1,14 +1,12 @@
 //! The places of the monitored modules as a text.
-ghost use Rattle.std.specs.Prelude.{◌≡◌, ℕ, ◌+◌, ◌-◌, ◌<◌, ◌≤◌, ◌++◌, ◌∷◌, [], List, length, OnOk, OnErr};
-ghost use Rattle.std.specs.Io.KnownBytes.{Appends};
+ghost use Rattle.std.specs.Prelude.{◌≡◌, ℕ, ◌+◌, ◌-◌, ◌<◌, ◌≤◌, ◌++◌, ◌∷◌, [], List, length};
 ghost use Rattle.arrayvec.specs.ArrayVec.{array_vec_len};
 ghost use Rattle.brk_table.specs.Places.{first_place, place_count};
-ghost use Rattle.cov_outside.specs.Causes.{HasCause};
-ghost use Rattle.cov_outside.specs.Whole.{AppendsSome};
+ghost use Rattle.cov_outside.specs.Writes.{Writes};
 ghost use Rattle.report_text.specs.Conditions.{AreTablesOf};
 ghost use Rattle.report_text.specs.Table.{kind_letter, place_line, place_part, module_line, places_part, is_monitored, table_part, table_lines, table_text};
 ghost use Rattle.report_text.specs.Text.{lines_from};
-ghost use Rattle.report_text.specs.Writes.{Writes};
+ghost use Rattle.report_text.specs.Writes.{WritesLines};
 
 use crate::sessions::{location, module_name};
 use crate::whole::words_line;
@@ -78,7 +76,7 @@ fn place_lines<K: Sink>(
     requires tables { AreTablesOf job.now tables.now }
     requires range { first ≤ past }
     requires exist { past ≤ length tables.now.places }
-    ensures { Writes (K.written sink.old) (K.written sink.new) (K.faults sink.old) (K.faults sink.new) result (lines_from (place_part job.now tables.now.places) first (past - first)) }
+    ensures { WritesLines K.written K.faults sink.old sink.new result (lines_from (place_part job.now tables.now.places) first (past - first)) }
 {
     for n in first..past {
         let place = tables.place(PlaceNo(n));
@@ -99,7 +97,7 @@ fn is_monitored(job: &Job, m: u32) -> bool
 fn places_text<K: Sink>(sink: &mut K, job: &Job, tables: &Tables, m: u32) -> Result<(), Failed>
     requires module { m < length job.now.images }
     requires tables { AreTablesOf job.now tables.now }
-    ensures { Writes (K.written sink.old) (K.written sink.new) (K.faults sink.old) (K.faults sink.new) result (places_part job.now tables.now m (first_place tables.now.tables m) (place_count tables.now.tables m)) }
+    ensures { WritesLines K.written K.faults sink.old sink.new result (places_part job.now tables.now m (first_place tables.now.tables m) (place_count tables.now.tables m)) }
 {
     let (first, past) = tables.range(m);
     put(sink, module_line(module_name(job, m), past - first))?;
@@ -110,7 +108,7 @@ fn places_text<K: Sink>(sink: &mut K, job: &Job, tables: &Tables, m: u32) -> Res
 fn module_text<K: Sink>(sink: &mut K, job: &Job, tables: &Tables, m: u32) -> Result<(), Failed>
     requires module { m < length job.now.images }
     requires tables { AreTablesOf job.now tables.now }
-    ensures { Writes (K.written sink.old) (K.written sink.new) (K.faults sink.old) (K.faults sink.new) result (table_part job.now tables.now m) }
+    ensures { WritesLines K.written K.faults sink.old sink.new result (table_part job.now tables.now m) }
 {
     if is_monitored(job, m) {
         places_text(sink, job, tables, m)
@@ -129,7 +127,7 @@ fn module_count(job: &Job) -> u32
 /// The modules' parts.
 fn modules_text<K: Sink>(sink: &mut K, job: &Job, tables: &Tables) -> Result<(), Failed>
     requires { AreTablesOf job.now tables.now }
-    ensures { Writes (K.written sink.old) (K.written sink.new) (K.faults sink.old) (K.faults sink.new) result (lines_from (table_part job.now tables.now) 0 (length job.now.images)) }
+    ensures { WritesLines K.written K.faults sink.old sink.new result (lines_from (table_part job.now tables.now) 0 (length job.now.images)) }
 {
     for m in 0..module_count(job) {
         module_text(sink, job, tables, m)?;
@@ -140,7 +138,7 @@ fn modules_text<K: Sink>(sink: &mut K, job: &Job, tables: &Tables) -> Result<(),
 /// The modules' parts, between the first line and the last one.
 fn whole_text<K: Sink>(sink: &mut K, job: &Job, tables: &Tables) -> Result<(), Failed>
     requires { AreTablesOf job.now tables.now }
-    ensures { Writes (K.written sink.old) (K.written sink.new) (K.faults sink.old) (K.faults sink.new) result (table_lines job.now tables.now) }
+    ensures { WritesLines K.written K.faults sink.old sink.new result (table_lines job.now tables.now) }
 {
     put(sink, words_line(b"COVERAGE TABLE"))?;
     modules_text(sink, job, tables)?;
@@ -151,9 +149,7 @@ fn whole_text<K: Sink>(sink: &mut K, job: &Job, tables: &Tables) -> Result<(), F
 /// sink has then taken a first part of the text. Takes no memory.
 pub fn table<K: Sink>(sink: &mut K, job: &Job, tables: &Tables) -> Result<(), Failed>
     requires tables { AreTablesOf job.now tables.now }
-    ensures whole { OnOk result (Appends (K.written sink.old) (K.written sink.new) (table_text job.now tables.now)) }
-    ensures some { OnErr result (AppendsSome (K.written sink.old) (K.written sink.new) (table_text job.now tables.now)) }
-    ensures cause { HasCause (K.faults sink.old) (K.faults sink.new) result }
+    ensures { Writes K.written K.faults sink.old sink.new result (table_text job.now tables.now) }
 {
     whole_text(sink, job, tables)
 }

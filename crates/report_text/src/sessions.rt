@@ -1,21 +1,19 @@
 //! What a report says of a session.
-ghost use Rattle.std.specs.Prelude.{◌≡◌, ℕ, ◌+◌, ◌-◌, ◌*◌, ◌<◌, ◌≤◌, ◌++◌, ◌∷◌, [], length, codes, decimal, All, OnOk, OnErr, IfSome, unwrap_or, option_map, if◌then◌else◌, get_or, None, false};
-ghost use Rattle.std.specs.Io.KnownBytes.{Appends};
+ghost use Rattle.std.specs.Prelude.{◌≡◌, ℕ, ◌+◌, ◌-◌, ◌*◌, ◌<◌, ◌≤◌, ◌++◌, ◌∷◌, [], length, codes, decimal, All, IfSome, unwrap_or, option_map, if◌then◌else◌, get_or, None, false};
 ghost use Rattle.annotator.specs.Annotated.{annotated};
-ghost use Rattle.cov_outside.specs.Causes.{HasCause};
-ghost use Rattle.cov_outside.specs.Whole.{AppendsSome};
+ghost use Rattle.cov_outside.specs.Writes.{Writes};
 ghost use Rattle.cov_base.specs.Facts.{full_of};
 ghost use Rattle.module_area.specs.Counts.{fact_count};
 ghost use Rattle.brk_table.specs.Places.{IsIn, IsPlace, first_place, place_count, place_at_line};
 ghost use Rattle.session_book.specs.JobView.{IsSession};
 ghost use Rattle.session_book.specs.Sessions.{session_of};
-ghost use Rattle.report_text.specs.Conditions.{AreTablesOf, AreSetsOf, AreWithin};
+ghost use Rattle.report_text.specs.Conditions.{AreTablesOf, HasSetsOf, AreWithin};
 ghost use Rattle.report_text.specs.Sessions.{lacks, location_of, last_byte_of, line_mark, marked_lines, run_line, run_lines, executed_at, facts_at, possible_at, count_line, session_line, open_run, listing_lines, module_of, module_lines};
 ghost use Rattle.report_text.specs.Report.{session_part};
 ghost use Rattle.std.specs.List.{flat_map};
 ghost use Rattle.report_text.specs.Text.{sum_from, text_of};
 ghost use Rattle.report_text.specs.declared.sessions.Run.{Run};
-ghost use Rattle.report_text.specs.Writes.{Writes};
+ghost use Rattle.report_text.specs.Writes.{WritesLines};
 
 use crate::words::add_name;
 use crate::writing::put;
@@ -23,7 +21,7 @@ use annotator::annotate;
 use annotator::text::{add_hex, add_number, add_text};
 use arrayvec::ArrayVec;
 use brk_table::Tables;
-use cov_base::{Bits, Fact, Kind, Mark, Name, PlaceNo, SessNo, mark_of};
+use cov_base::{Bits, Fact, INPUT_LIMIT, Kind, Mark, Name, PlaceNo, SessNo, mark_of};
 use cov_outside::{Failed, Sink};
 use module_area::Place;
 use session_book::{FactSets, Job, Lines, Session};
@@ -187,7 +185,6 @@ fn count<R: FactSets>(tables: &Tables, results: &R, s: SessNo, first: u32, past:
 
 /// The mark of line k of module m's listing.
 fn mark_at<R: FactSets>(tables: &Tables, results: &R, s: SessNo, m: u32, k: u32) -> Mark
-    requires line { 0 < k }
     requires from { 0 < s.0 }
     requires to { s.0 < R.sessions results.now + 1 }
     requires size { R.places results.now ≡ length tables.now.places }
@@ -210,14 +207,14 @@ fn listing_part<K: Sink, R: FactSets>(
     s: SessNo,
     m: u32,
 ) -> Result<(), Failed>
-    requires lines { length lines.now ≤ 16777216 }
+    requires lines { length lines.now ≤ INPUT_LIMIT }
     requires short { All (λ line. length line ≤ 150) lines.now }
     requires from { 0 < s.0 }
     requires to { s.0 < R.sessions results.now + 1 }
     requires size { R.places results.now ≡ length tables.now.places }
     requires exist { first_place tables.now.tables m + place_count tables.now.tables m ≤ length tables.now.places }
     requires within { AreWithin tables.now (R.set_of results.now s.0) m }
-    ensures { Writes (K.written sink.old) (K.written sink.new) (K.faults sink.old) (K.faults sink.new) result (marked_lines (λ k. line_mark tables.now.places (R.set_of results.now s.0) (place_at_line tables.now.tables m k)) 1 lines.now) }
+    ensures { WritesLines K.written K.faults sink.old sink.new result (marked_lines (λ k. line_mark tables.now.places (R.set_of results.now s.0) (place_at_line tables.now.tables m k)) 1 lines.now) }
 {
     for i in 0..lines.0.len() {
         let mark = mark_at(tables, results, s, m, i as u32 + 1);
@@ -250,7 +247,7 @@ fn with_place(run: Option<Run>, job: &Job, place: &Place) -> Run
 fn run_part<K: Sink>(sink: &mut K, run: Option<Run>) -> Result<(), Failed>
     requires from { IfSome run (λ r. r.from < 16777216) }
     requires last { IfSome run (λ r. r.last < 16777216) }
-    ensures { Writes (K.written sink.old) (K.written sink.new) (K.faults sink.old) (K.faults sink.new) result (open_run run) }
+    ensures { WritesLines K.written K.faults sink.old sink.new result (open_run run) }
 {
     match run {
         Some(done) => put(sink, run_line(done)),
@@ -274,7 +271,7 @@ fn runs_part<K: Sink, R: FactSets>(
     requires size { R.places results.now ≡ length tables.now.places }
     requires range { first ≤ past }
     requires exist { past ≤ length tables.now.places }
-    ensures { Writes (K.written sink.old) (K.written sink.new) (K.faults sink.old) (K.faults sink.new) result (run_lines job.now tables.now.places (R.set_of results.now s.0) false first (past - first)) }
+    ensures { WritesLines K.written K.faults sink.old sink.new result (run_lines job.now tables.now.places (R.set_of results.now s.0) false first (past - first)) }
 {
     let mut run = None;
     for n in first..past {
@@ -312,7 +309,7 @@ fn listing_text<K: Sink, R: FactSets>(
     requires size { R.places results.now ≡ length tables.now.places }
     requires exist { first_place tables.now.tables m + place_count tables.now.tables m ≤ length tables.now.places }
     requires within { AreWithin tables.now (R.set_of results.now s.0) m }
-    ensures { Writes (K.written sink.old) (K.written sink.new) (K.faults sink.old) (K.faults sink.new) result (listing_lines (λ k. line_mark tables.now.places (R.set_of results.now s.0) (place_at_line tables.now.tables m k)) (get_or job.now.listings m None)) }
+    ensures { WritesLines K.written K.faults sink.old sink.new result (listing_lines (λ k. line_mark tables.now.places (R.set_of results.now s.0) (place_at_line tables.now.tables m k)) (get_or job.now.listings m None)) }
 {
     match &job.listings[m as usize] {
         Some(lines) => listing_part(sink, lines, tables, results, s, m),
@@ -335,7 +332,7 @@ fn module_text<K: Sink, R: FactSets>(
     requires to { s.0 < R.sessions results.now + 1 }
     requires size { R.places results.now ≡ length tables.now.places }
     requires within { AreWithin tables.now (R.set_of results.now s.0) m }
-    ensures { Writes (K.written sink.old) (K.written sink.new) (K.faults sink.old) (K.faults sink.new) result (module_lines job.now tables.now (R.set_of results.now s.0) m) }
+    ensures { WritesLines K.written K.faults sink.old sink.new result (module_lines job.now tables.now (R.set_of results.now s.0) m) }
 {
     let (first, past) = tables.range(m);
     let counts = count(tables, results, s, first, past);
@@ -359,7 +356,7 @@ fn modules_text<K: Sink, R: FactSets>(
     requires to { s.0 < R.sessions results.now + 1 }
     requires size { R.places results.now ≡ length tables.now.places }
     requires within { All (AreWithin tables.now (R.set_of results.now s.0)) modules.now }
-    ensures { Writes (K.written sink.old) (K.written sink.new) (K.faults sink.old) (K.faults sink.new) result (flat_map (module_lines job.now tables.now (R.set_of results.now s.0)) modules.now) }
+    ensures { WritesLines K.written K.faults sink.old sink.new result (flat_map (module_lines job.now tables.now (R.set_of results.now s.0)) modules.now) }
 {
     for m in modules {
         module_text(sink, job, tables, results, s, *m)?;
@@ -396,8 +393,8 @@ pub fn session_text<K: Sink, R: FactSets>(
     requires from { 0 < s.0 }
     requires to { s.0 ≤ length job.now.sessions }
     requires tables { AreTablesOf job.now tables.now }
-    requires sets { AreSetsOf job.now tables.now (R.sessions results.now) (R.places results.now) (R.set_of results.now) }
-    ensures { Writes (K.written sink.old) (K.written sink.new) (K.faults sink.old) (K.faults sink.new) result (session_part job.now tables.now (R.set_of results.now) s.0) }
+    requires sets { HasSetsOf job.now tables.now (R.sessions results.now) (R.places results.now) (R.set_of results.now) s.0 }
+    ensures { WritesLines K.written K.faults sink.old sink.new result (session_part job.now tables.now (R.set_of results.now) s.0) }
 {
     let session = session_at(job, s);
     put(
@@ -408,8 +405,8 @@ pub fn session_text<K: Sink, R: FactSets>(
 }
 
 /// A session's part of the report: its names, and for each of its modules the counts, the listing with marks and the
-/// runs of places without facts. Failed only where the sink's count of faults rose; the sink has then taken a part.
-/// Takes no memory.
+/// runs of places without facts. Needs the sets of this session alone. Failed only where the sink's count of faults
+/// rose; the sink has then taken a part. Takes no memory.
 pub fn session_part<K: Sink, R: FactSets>(
     sink: &mut K,
     job: &Job,
@@ -420,10 +417,8 @@ pub fn session_part<K: Sink, R: FactSets>(
     requires from { 0 < s.0 }
     requires to { s.0 ≤ length job.now.sessions }
     requires tables { AreTablesOf job.now tables.now }
-    requires sets { AreSetsOf job.now tables.now (R.sessions results.now) (R.places results.now) (R.set_of results.now) }
-    ensures whole { OnOk result (Appends (K.written sink.old) (K.written sink.new) (text_of (session_part job.now tables.now (R.set_of results.now) s.0))) }
-    ensures some { OnErr result (AppendsSome (K.written sink.old) (K.written sink.new) (text_of (session_part job.now tables.now (R.set_of results.now) s.0))) }
-    ensures cause { HasCause (K.faults sink.old) (K.faults sink.new) result }
+    requires sets { HasSetsOf job.now tables.now (R.sessions results.now) (R.places results.now) (R.set_of results.now) s.0 }
+    ensures { Writes K.written K.faults sink.old sink.new result (text_of (session_part job.now tables.now (R.set_of results.now) s.0)) }
 {
     session_text(sink, job, tables, results, s)
 }

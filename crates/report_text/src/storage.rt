@@ -4,7 +4,7 @@ ghost use Rattle.module_area.specs.Views.{first_bytes, with_card};
 ghost use Rattle.report_text.specs.FirstRows.{IsPartOf, FitsIn};
 ghost use Rattle.report_text.specs.Tasks.{storage_line, row_lines, changed_row, storage_lines};
 ghost use Rattle.report_text.specs.Text.{row_count, lines_from};
-ghost use Rattle.report_text.specs.Writes.{Writes};
+ghost use Rattle.report_text.specs.Writes.{WritesLines};
 
 use crate::words::add_bytes;
 use crate::writing::put;
@@ -76,7 +76,7 @@ fn storage_row<K: Sink>(sink: &mut K, first: &[u8], now: &[u8], n: u32) -> Resul
     requires at { 16 * n < 16777216 }
     requires row { length now.now ≤ 16 }
     requires first { length now.now ≤ length first.now }
-    ensures { Writes (K.written sink.old) (K.written sink.new) (K.faults sink.old) (K.faults sink.new) result (row_lines (16 * n) (take (length now.now) first.now) now.now) }
+    ensures { WritesLines K.written K.faults sink.old sink.new result (row_lines (16 * n) (take (length now.now) first.now) now.now) }
 {
     if is_changed(first, now) {
         put(sink, storage_line(16 * n, now))
@@ -101,7 +101,7 @@ fn block_part<K: Sink, R: Results>(
     requires from { from ≤ past }
     requires past { past ≤ row_count 16 (R.result_of results.now t.0).bytes }
     requires block { past ≤ from + 4096 }
-    ensures { Writes (K.written sink.old) (K.written sink.new) (K.faults sink.old) (K.faults sink.new) result (lines_from (changed_row (first_bytes task.now.private task.now.cards) (R.result_of results.now t.0).bytes) from (past - from)) }
+    ensures { WritesLines K.written K.faults sink.old sink.new result (lines_from (changed_row (first_bytes task.now.private task.now.cards) (R.result_of results.now t.0).bytes) from (past - from)) }
 {
     let mut first = [0u8; BLOCK];
     put_cards(&mut first, 16 * from as usize, task);
@@ -123,7 +123,7 @@ pub fn storage_part<K: Sink, R: Results>(
     requires most { task.now.private ≤ 1048576 }
     requires cards { All (FitsIn task.now.private) task.now.cards }
     requires size { length (R.result_of results.now t.0).bytes ≡ task.now.private }
-    ensures { Writes (K.written sink.old) (K.written sink.new) (K.faults sink.old) (K.faults sink.new) result (storage_lines (first_bytes task.now.private task.now.cards) (R.result_of results.now t.0).bytes) }
+    ensures { WritesLines K.written K.faults sink.old sink.new result (storage_lines (first_bytes task.now.private task.now.cards) (R.result_of results.now t.0).bytes) }
 {
     let count = (task.private + 15) / 16;
     for b in 0..(count + BLOCK_ROWS - 1) / BLOCK_ROWS {

@@ -1,15 +1,13 @@
 //! What a report says of a task.
-ghost use Rattle.std.specs.Prelude.{◌≡◌, ℕ, ◌+◌, ◌*◌, ◌<◌, ◌≤◌, ◌++◌, ◌∷◌, [], length, codes, decimal, take, drop, map, bytes_eq, if◌then◌else◌, OnOk, OnErr};
-ghost use Rattle.std.specs.Io.KnownBytes.{Appends};
-ghost use Rattle.cov_outside.specs.Causes.{HasCause};
-ghost use Rattle.cov_outside.specs.Whole.{AppendsSome};
+ghost use Rattle.std.specs.Prelude.{◌≡◌, ℕ, ◌+◌, ◌*◌, ◌<◌, ◌≤◌, ◌++◌, ◌∷◌, [], length, codes, decimal, take, drop, map, bytes_eq, if◌then◌else◌};
+ghost use Rattle.cov_outside.specs.Writes.{Writes};
 ghost use Rattle.module_area.specs.Views.{first_bytes};
 ghost use Rattle.session_book.specs.Sessions.{task_of};
-ghost use Rattle.report_text.specs.Conditions.{AreResultsOf};
+ghost use Rattle.report_text.specs.Conditions.{HasResultOf};
 ghost use Rattle.report_text.specs.Report.{task_part};
 ghost use Rattle.report_text.specs.Tasks.{task_line, register_line, output_row, output_lines, storage_line, row_lines, storage_lines, state_lines};
 ghost use Rattle.report_text.specs.Text.{hex_bytes, text_of, row_of, row_count, lines_from};
-ghost use Rattle.report_text.specs.Writes.{Writes};
+ghost use Rattle.report_text.specs.Writes.{WritesLines};
 
 use crate::storage::storage_part;
 use crate::words::{add_bytes, add_ending, add_name, add_registers};
@@ -91,7 +89,7 @@ fn state_part<K: Sink>(
     done: u32,
     cpu: &Cpu,
 ) -> Result<(), Failed>
-    ensures { Writes (K.written sink.old) (K.written sink.new) (K.faults sink.old) (K.faults sink.new) result (state_lines name.now ending done cpu.now) }
+    ensures { WritesLines K.written K.faults sink.old sink.new result (state_lines name.now ending done cpu.now) }
 {
     put(sink, task_line(name, ending, done, cpu.condition()))?;
     put(sink, register_line(b"R0", &cpu.regs[..8]))?;
@@ -111,7 +109,7 @@ fn output_row(output: &[u8], n: usize) -> &[u8]
 
 /// The output, 32 bytes to a line.
 fn output_rows<K: Sink>(sink: &mut K, output: &[u8]) -> Result<(), Failed>
-    ensures { Writes (K.written sink.old) (K.written sink.new) (K.faults sink.old) (K.faults sink.new) result (lines_from (output_row output.now) 0 (row_count 32 output.now)) }
+    ensures { WritesLines K.written K.faults sink.old sink.new result (lines_from (output_row output.now) 0 (row_count 32 output.now)) }
 {
     for n in 0..(output.len() + 31) / 32 {
         put(sink, bytes_line(output_row(output, n)))?;
@@ -121,7 +119,7 @@ fn output_rows<K: Sink>(sink: &mut K, output: &[u8]) -> Result<(), Failed>
 
 /// The output and its length.
 fn output_part<K: Sink>(sink: &mut K, output: &[u8]) -> Result<(), Failed>
-    ensures { Writes (K.written sink.old) (K.written sink.new) (K.faults sink.old) (K.faults sink.new) result (output_lines output.now) }
+    ensures { WritesLines K.written K.faults sink.old sink.new result (output_lines output.now) }
 {
     put(sink, output_line(output.len()))?;
     output_rows(sink, output)
@@ -135,8 +133,8 @@ pub fn task_text<K: Sink, R: Results>(
     t: TaskNo,
 ) -> Result<(), Failed>
     requires task { t.0 < length job.now.tasks }
-    requires results { AreResultsOf job.now (R.tasks results.now) (R.result_of results.now) }
-    ensures { Writes (K.written sink.old) (K.written sink.new) (K.faults sink.old) (K.faults sink.new) result (task_part job.now (R.result_of results.now) t.0) }
+    requires result { HasResultOf job.now (R.tasks results.now) (R.result_of results.now) t.0 }
+    ensures { WritesLines K.written K.faults sink.old sink.new result (task_part job.now (R.result_of results.now) t.0) }
 {
     let task = &job.tasks[t.0 as usize];
     state_part(
@@ -151,8 +149,8 @@ pub fn task_text<K: Sink, R: Results>(
 }
 
 /// What has become of a task of the job: its ending, the instructions done, its condition code and registers, its
-/// output, and the rows of its private storage that have changed. Failed only where the sink's count of faults rose;
-/// the sink has then taken a part. Takes no memory.
+/// output, and the rows of its private storage that have changed. Needs the result of this task alone. Failed only where the
+/// sink's count of faults rose; the sink has then taken a part. Takes no memory.
 pub fn task_part<K: Sink, R: Results>(
     sink: &mut K,
     job: &Job,
@@ -160,10 +158,8 @@ pub fn task_part<K: Sink, R: Results>(
     t: TaskNo,
 ) -> Result<(), Failed>
     requires task { t.0 < length job.now.tasks }
-    requires results { AreResultsOf job.now (R.tasks results.now) (R.result_of results.now) }
-    ensures whole { OnOk result (Appends (K.written sink.old) (K.written sink.new) (text_of (task_part job.now (R.result_of results.now) t.0))) }
-    ensures some { OnErr result (AppendsSome (K.written sink.old) (K.written sink.new) (text_of (task_part job.now (R.result_of results.now) t.0))) }
-    ensures cause { HasCause (K.faults sink.old) (K.faults sink.new) result }
+    requires result { HasResultOf job.now (R.tasks results.now) (R.result_of results.now) t.0 }
+    ensures { Writes K.written K.faults sink.old sink.new result (text_of (task_part job.now (R.result_of results.now) t.0)) }
 {
     task_text(sink, job, results, t)
 }

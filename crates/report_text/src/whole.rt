@@ -1,12 +1,10 @@
 //! The whole report.
-ghost use Rattle.std.specs.Prelude.{◌≡◌, ℕ, ◌+◌, ◌-◌, ◌<◌, ◌≤◌, ◌++◌, ◌∷◌, [], List, length, codes, OnOk, OnErr};
-ghost use Rattle.std.specs.Io.KnownBytes.{Appends};
-ghost use Rattle.cov_outside.specs.Causes.{HasCause};
-ghost use Rattle.cov_outside.specs.Whole.{AppendsSome};
+ghost use Rattle.std.specs.Prelude.{◌≡◌, ℕ, ◌+◌, ◌-◌, ◌<◌, ◌≤◌, ◌++◌, ◌∷◌, [], List, length, codes};
+ghost use Rattle.cov_outside.specs.Writes.{Writes};
 ghost use Rattle.report_text.specs.Conditions.{AreTablesOf, AreResultsOf, AreSetsOf};
 ghost use Rattle.report_text.specs.Report.{task_part, session_part, result_lines, report_lines, report_of};
 ghost use Rattle.report_text.specs.Text.{lines_from};
-ghost use Rattle.report_text.specs.Writes.{Writes};
+ghost use Rattle.report_text.specs.Writes.{WritesLines};
 
 use crate::sessions::session_text;
 use crate::tasks::task_text;
@@ -32,7 +30,7 @@ pub fn words_line(words: &[u8]) -> ArrayVec<u8, 160>
 /// The tasks' parts.
 fn tasks_text<K: Sink, R: Results>(sink: &mut K, job: &Job, results: &R) -> Result<(), Failed>
     requires { AreResultsOf job.now (R.tasks results.now) (R.result_of results.now) }
-    ensures { Writes (K.written sink.old) (K.written sink.new) (K.faults sink.old) (K.faults sink.new) result (lines_from (task_part job.now (R.result_of results.now)) 0 (length job.now.tasks)) }
+    ensures { WritesLines K.written K.faults sink.old sink.new result (lines_from (task_part job.now (R.result_of results.now)) 0 (length job.now.tasks)) }
 {
     for t in 0..job.tasks.len() {
         task_text(sink, job, results, TaskNo(t as u32))?;
@@ -49,7 +47,7 @@ fn sessions_text<K: Sink, R: FactSets>(
 ) -> Result<(), Failed>
     requires tables { AreTablesOf job.now tables.now }
     requires sets { AreSetsOf job.now tables.now (R.sessions results.now) (R.places results.now) (R.set_of results.now) }
-    ensures { Writes (K.written sink.old) (K.written sink.new) (K.faults sink.old) (K.faults sink.new) result (lines_from (session_part job.now tables.now (R.set_of results.now)) 1 (length job.now.sessions)) }
+    ensures { WritesLines K.written K.faults sink.old sink.new result (lines_from (session_part job.now tables.now (R.set_of results.now)) 1 (length job.now.sessions)) }
 {
     for i in 0..job.sessions.len() {
         session_text(sink, job, tables, results, SessNo(i as u32 + 1))?;
@@ -68,7 +66,7 @@ pub fn results_part<K: Sink, R: Results + FactSets>(
     requires tables { AreTablesOf job.now tables.now }
     requires results { AreResultsOf job.now (R.tasks results.now) (R.result_of results.now) }
     requires sets { AreSetsOf job.now tables.now (R.sessions results.now) (R.places results.now) (R.set_of results.now) }
-    ensures { Writes (K.written sink.old) (K.written sink.new) (K.faults sink.old) (K.faults sink.new) result (result_lines job.now tables.now (R.result_of results.now) (R.set_of results.now)) }
+    ensures { WritesLines K.written K.faults sink.old sink.new result (result_lines job.now tables.now (R.result_of results.now) (R.set_of results.now)) }
 {
     tasks_text(sink, job, results)?;
     sessions_text(sink, job, tables, results)?;
@@ -85,7 +83,7 @@ fn report_text<K: Sink, R: Results + FactSets>(
     requires tables { AreTablesOf job.now tables.now }
     requires results { AreResultsOf job.now (R.tasks results.now) (R.result_of results.now) }
     requires sets { AreSetsOf job.now tables.now (R.sessions results.now) (R.places results.now) (R.set_of results.now) }
-    ensures { Writes (K.written sink.old) (K.written sink.new) (K.faults sink.old) (K.faults sink.new) result (report_lines job.now tables.now (R.result_of results.now) (R.set_of results.now)) }
+    ensures { WritesLines K.written K.faults sink.old sink.new result (report_lines job.now tables.now (R.result_of results.now) (R.set_of results.now)) }
 {
     put(sink, words_line(b"COVERAGE REPORT"))?;
     results_part(sink, job, tables, results)
@@ -102,9 +100,7 @@ pub fn report<K: Sink, R: Results + FactSets>(
     requires tables { AreTablesOf job.now tables.now }
     requires results { AreResultsOf job.now (R.tasks results.now) (R.result_of results.now) }
     requires sets { AreSetsOf job.now tables.now (R.sessions results.now) (R.places results.now) (R.set_of results.now) }
-    ensures whole { OnOk result (Appends (K.written sink.old) (K.written sink.new) (report_of job.now tables.now (R.result_of results.now) (R.set_of results.now))) }
-    ensures some { OnErr result (AppendsSome (K.written sink.old) (K.written sink.new) (report_of job.now tables.now (R.result_of results.now) (R.set_of results.now))) }
-    ensures cause { HasCause (K.faults sink.old) (K.faults sink.new) result }
+    ensures { Writes K.written K.faults sink.old sink.new result (report_of job.now tables.now (R.result_of results.now) (R.set_of results.now)) }
 {
     report_text(sink, job, tables, results)
 }

@@ -9,11 +9,11 @@ returns-in_err-module_text g c =
     let lines = table_part c.args.job.now c.args.tables.now in
     let m = c.loop-m.m in
     let here : m < length c.args.job.now.images = omega arith in
-    progress_exit _ _ _ _ _ _ _ _ _ _ _ c.from_residual.ensures.0 c.in_err-module_text.ensures (progress_at _ _ _ _ _ _ _ (lines_from-next lines m m (length c.args.job.now.images) here) c.loop-m.invariant)
+    progress_exit _ c.from_residual.ensures.0 c.in_err-module_text.ensures (progress_at (lines_from-next lines m m (length c.args.job.now.images) here) c.loop-m.invariant)
 
 pub loop-m-preserved : goal.loop-m-preserved
 loop-m-preserved g c =
     let lines = table_part c.args.job.now c.args.tables.now in
     let m = c.loop-m.m in
     let here : m < length c.args.job.now.images = omega arith in
-    progress_more _ _ _ _ _ _ _ _ _ _ c.in_ok-module_text.ensures (progress_at _ _ _ _ _ _ _ (lines_from-next lines m m (length c.args.job.now.images) here) c.loop-m.invariant)
+    progress_more c.in_ok-module_text.ensures (progress_at (lines_from-next lines m m (length c.args.job.now.images) here) c.loop-m.invariant)

@@ -11,11 +11,11 @@ returns-in_err-put g c =
     let places = c.args.tables.now.places in
     let n = c.loop-n.n in
     let line : c.place_line.result.items ≡ place_line (location_of c.args.job.now (place_of places n)) (place_of places n) ++ 10 ∷ [] = rw (c.location.ensures.value, c.place-place.ensures.value) at c.place_line.ensures in
-    progress_exit _ _ _ _ _ _ _ _ _ _ _ c.from_residual.ensures.0 (c.in_err-put.ensures _ line) (progress_at _ _ _ _ _ _ _ (lines_from-next (place_part c.args.job.now places) n n c.args.past c.loop-n-test.true) c.loop-n.invariant)
+    progress_exit _ c.from_residual.ensures.0 (c.in_err-put.ensures _ line) (progress_at (lines_from-next (place_part c.args.job.now places) n n c.args.past c.loop-n-test.true) c.loop-n.invariant)
 
 pub loop-n-preserved : goal.loop-n-preserved
 loop-n-preserved g c =
     let places = c.args.tables.now.places in
     let n = c.loop-n.n in
     let line : c.place_line.result.items ≡ place_line (location_of c.args.job.now (place_of places n)) (place_of places n) ++ 10 ∷ [] = rw (c.location.ensures.value, c.place-place.ensures.value) at c.place_line.ensures in
-    progress_more _ _ _ _ _ _ _ _ _ _ (c.in_ok-put.ensures _ line) (progress_at _ _ _ _ _ _ _ (lines_from-next (place_part c.args.job.now places) n n c.args.past c.loop-n-test.true) c.loop-n.invariant)
+    progress_more (c.in_ok-put.ensures _ line) (progress_at (lines_from-next (place_part c.args.job.now places) n n c.args.past c.loop-n-test.true) c.loop-n.invariant)

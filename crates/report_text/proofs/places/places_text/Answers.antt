@@ -10,12 +10,12 @@ returns-in_err-put g c =
     let size = place_count c.args.tables.now.tables c.args.m in
     let count : c.range-first.result.1 - c.range-first.result.0 ≡ size = omega arith in
     let text : c.module_line.result.items ≡ module_line (module_of c.args.job.now c.args.m).name size ++ 10 ∷ [] = rw (count, c.module_name.ensures) at c.module_line.ensures in
-    progress_exit _ _ _ _ _ _ _ _ _ _ _ c.from_residual.ensures.0 (c.in_err-put.ensures _ text) (progress_start _ _ _)
+    progress_exit _ c.from_residual.ensures.0 (c.in_err-put.ensures _ text) progress_start
 
 pub returns : goal.returns
 returns g c =
     let size = place_count c.args.tables.now.tables c.args.m in
     let count : c.range-first.result.1 - c.range-first.result.0 ≡ size = omega arith in
     let text : c.module_line.result.items ≡ module_line (module_of c.args.job.now c.args.m).name size ++ 10 ∷ [] = rw (count, c.module_name.ensures) at c.module_line.ensures in
-    let counted = progress_more _ _ _ _ _ _ _ _ _ _ (c.in_ok-put.ensures _ text) (progress_start _ _ _) in
-    progress_last _ _ _ _ _ _ _ _ _ (rw (count, c.range-first.ensures.first) at c.place_lines.ensures) counted
+    let counted = progress_more (c.in_ok-put.ensures _ text) progress_start in
+    progress_last (rw (count, c.range-first.ensures.first) at c.place_lines.ensures) counted

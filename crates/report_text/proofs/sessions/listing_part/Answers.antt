@@ -8,7 +8,7 @@ use Rattle.report_text.proofs.WriteLemmas.{progress_start, progress_at, progress
 use Rattle.report_text.proofs.sessions.listing_part.Goals as goal
 
 pub loop-i-init : goal.loop-i-init
-loop-i-init g c = progress_start _ _ _
+loop-i-init g c = progress_start
 
 pub returns-in_err-put : goal.returns-in_err-put
 returns-in_err-put g c =
@@ -18,7 +18,7 @@ returns-in_err-put g c =
     let below : i < length c.args.lines.now = omega (arith, ap length c.lines.view_is, c.lines.inside.0.ok.0) in
     let read : line ≡ get_or c.args.lines.now i line = rw c.lines.view_is at c.index.ensures in
     let text : c.marked_line.result.items ≡ annotated (mark (i + 1)) line ++ 10 ∷ [] = rw (← c.mark_at-mark.ensures, ← c.bytes.ensures) c.marked_line.ensures in
-    progress_exit _ _ _ _ _ _ _ _ _ _ _ c.from_residual.ensures.0 (c.in_err-put.ensures _ text) (progress_at _ _ _ _ _ _ _ (marked_lines-next mark c.args.lines.now i line below read) c.loop-i.invariant)
+    progress_exit _ c.from_residual.ensures.0 (c.in_err-put.ensures _ text) (progress_at (marked_lines-next mark c.args.lines.now i line below read) c.loop-i.invariant)
 
 pub loop-i-preserved : goal.loop-i-preserved
 loop-i-preserved g c =
@@ -28,10 +28,10 @@ loop-i-preserved g c =
     let below : i < length c.args.lines.now = omega (arith, ap length c.lines.view_is, c.lines.inside.0.ok.0) in
     let read : line ≡ get_or c.args.lines.now i line = rw c.lines.view_is at c.index.ensures in
     let text : c.marked_line.result.items ≡ annotated (mark (i + 1)) line ++ 10 ∷ [] = rw (← c.mark_at-mark.ensures, ← c.bytes.ensures) c.marked_line.ensures in
-    progress_more _ _ _ _ _ _ _ _ _ _ (c.in_ok-put.ensures _ text) (progress_at _ _ _ _ _ _ _ (marked_lines-next mark c.args.lines.now i line below read) c.loop-i.invariant)
+    progress_more (c.in_ok-put.ensures _ text) (progress_at (marked_lines-next mark c.args.lines.now i line below read) c.loop-i.invariant)
 
 pub returns : goal.returns
 returns g c =
     let mark : ℕ → Mark = λ k. line_mark c.args.tables.now.places (g.R.FactSets.set_of c.args.results.now c.args.s.0) (place_at_line c.args.tables.now.tables c.args.m k) in
     let past : length c.args.lines.now ≤ c.loop-i.i = omega (arith, ap length c.lines.view_is, c.lines.inside.0.ok.0) in
-    progress_end _ _ _ _ _ _ (progress_at _ _ _ _ _ _ _ (marked_lines-end mark c.args.lines.now c.loop-i.i past) c.loop-i.invariant)
+    progress_end (progress_at (marked_lines-end mark c.args.lines.now c.loop-i.i past) c.loop-i.invariant)

@@ -8,4 +8,4 @@ use Rattle.report_text.proofs.sessions.listing_part.Given as goal
 abbrev pub invariant-loop-i : goal.invariant-loop-i
 invariant-loop-i g l =
     let mark : ℕ → Mark = λ k. line_mark l.tables.places (g.R.FactSets.set_of l.results l.s.0) (place_at_line l.tables.tables l.m k) in
-    Progress (g.K.Sink.written l.initial.sink) (g.K.Sink.written l.sink) (g.K.Sink.faults l.initial.sink) (g.K.Sink.faults l.sink) (marked_lines mark (l.i + 1) (drop l.i l.lines)) (marked_lines mark 1 l.lines)
+    Progress g.K.Sink.written g.K.Sink.faults l.initial.sink l.sink (marked_lines mark (l.i + 1) (drop l.i l.lines)) (marked_lines mark 1 l.lines)

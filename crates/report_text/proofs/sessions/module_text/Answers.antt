@@ -15,7 +15,7 @@ returns-in_err-put g c =
     let count : c.range-first.result.1 - c.range-first.result.0 ≡ size = omega arith in
     let text : c.count_line.result.items ≡ count_line (module_of c.args.job.now c.args.m).name size (sum_from (executed_at sets) first size) (sum_from (facts_at sets) first size) (sum_from (possible_at tables.places) first size) ++ 10 ∷ [] =
     rw (c.count-counts.ensures.executed, c.count-counts.ensures.facts, c.count-counts.ensures.possible, count, c.range-first.ensures.first, c.module_name.ensures) at c.count_line.ensures in
-    progress_exit _ _ _ _ _ _ _ _ _ _ _ c.from_residual.ensures.0 (c.in_err-put.ensures _ text) (progress_start _ _ _)
+    progress_exit _ c.from_residual.ensures.0 (c.in_err-put.ensures _ text) progress_start
 
 pub returns-in_err-listing_text : goal.returns-in_err-listing_text
 unfolding module_part
@@ -27,8 +27,8 @@ returns-in_err-listing_text g c =
     let count : c.range-first.result.1 - c.range-first.result.0 ≡ size = omega arith in
     let text : c.count_line.result.items ≡ count_line (module_of c.args.job.now c.args.m).name size (sum_from (executed_at sets) first size) (sum_from (facts_at sets) first size) (sum_from (possible_at tables.places) first size) ++ 10 ∷ [] =
     rw (c.count-counts.ensures.executed, c.count-counts.ensures.facts, c.count-counts.ensures.possible, count, c.range-first.ensures.first, c.module_name.ensures) at c.count_line.ensures in
-    let counted = progress_more _ _ _ _ _ _ _ _ _ _ (c.in_ok-put.ensures _ text) (progress_start _ _ _) in
-    progress_exit _ _ _ _ _ _ _ _ _ _ _ c.from_residual-in_err-listing_text.ensures.0 c.in_err-listing_text.ensures counted
+    let counted = progress_more (c.in_ok-put.ensures _ text) progress_start in
+    progress_exit _ c.from_residual-in_err-listing_text.ensures.0 c.in_err-listing_text.ensures counted
 
 pub returns : goal.returns
 unfolding module_part
@@ -40,6 +40,6 @@ returns g c =
     let count : c.range-first.result.1 - c.range-first.result.0 ≡ size = omega arith in
     let text : c.count_line.result.items ≡ count_line (module_of c.args.job.now c.args.m).name size (sum_from (executed_at sets) first size) (sum_from (facts_at sets) first size) (sum_from (possible_at tables.places) first size) ++ 10 ∷ [] =
     rw (c.count-counts.ensures.executed, c.count-counts.ensures.facts, c.count-counts.ensures.possible, count, c.range-first.ensures.first, c.module_name.ensures) at c.count_line.ensures in
-    let counted = progress_more _ _ _ _ _ _ _ _ _ _ (c.in_ok-put.ensures _ text) (progress_start _ _ _) in
-    let listed = progress_more _ _ _ _ _ _ _ _ _ _ c.in_ok-listing_text.ensures counted in
-    progress_last _ _ _ _ _ _ _ _ _ (rw (count, c.range-first.ensures.first) at c.runs_part.ensures) listed
+    let counted = progress_more (c.in_ok-put.ensures _ text) progress_start in
+    let listed = progress_more c.in_ok-listing_text.ensures counted in
+    progress_last (rw (count, c.range-first.ensures.first) at c.runs_part.ensures) listed

@@ -10,7 +10,7 @@ returns-in_err-run_part g c =
     let sets = g.R.FactSets.set_of c.args.results.now c.args.s.0 in
     let n = c.loop-n.n in
     let has : lacks (sets n) ≡ false = ap lacks (sym c.set.ensures) ∙ sym c.lacks.ensures ∙ c.if-lacks.false in
-    progress_exit _ _ _ _ _ _ _ _ _ _ _ c.from_residual.ensures.0 c.in_err-run_part.ensures (progress_at _ _ _ _ _ _ _ (runs-closed c.args.job.now c.args.tables.now.places sets c.loop-n.run n c.args.past c.loop-n-test.true has) c.loop-n.invariant.lines)
+    progress_exit _ c.from_residual.ensures.0 c.in_err-run_part.ensures (progress_at (runs-closed c.args.job.now c.args.tables.now.places sets c.loop-n.run n c.args.past c.loop-n-test.true has) c.loop-n.invariant.lines)
 
 pub loop-n-preserved : goal.loop-n-preserved
 loop-n-preserved g c =
@@ -23,18 +23,18 @@ loop-n-preserved g c =
           rw (w.run-is, w.sink-is) (record {
             from = w.with_place.ensures.low;
             last = w.with_place.ensures.high;
-            lines = progress_at _ _ _ _ _ _ _ more c.loop-n.invariant.lines;
+            lines = progress_at more c.loop-n.invariant.lines;
           }))
       | else-lacks+in_ok-run_part w ↦ (let has : lacks (sets n) ≡ false = ap lacks (sym c.set.ensures) ∙ sym c.lacks.ensures ∙ w.if-lacks.false in
           let closed = runs-closed c.args.job.now places sets c.loop-n.run n c.args.past c.loop-n-test.true has in
           rw (w.run-is, w.sink-is) (record {
             from = tt;
             last = tt;
-            lines = progress_more _ _ _ _ _ _ _ _ _ _ w.in_ok-run_part.ensures (progress_at _ _ _ _ _ _ _ closed c.loop-n.invariant.lines);
+            lines = progress_more w.in_ok-run_part.ensures (progress_at closed c.loop-n.invariant.lines);
           }))
     ]
 
 pub returns : goal.returns
 returns g c =
     let sets = g.R.FactSets.set_of c.args.results.now c.args.s.0 in
-    progress_last _ _ _ _ _ _ _ _ _ c.run_part-2.ensures (progress_at _ _ _ _ _ _ _ (runs-end c.args.job.now c.args.tables.now.places sets c.loop-n.run c.loop-n.n c.args.past c.loop-n-test.false) c.loop-n.invariant.lines)
+    progress_last c.run_part-2.ensures (progress_at (runs-end c.args.job.now c.args.tables.now.places sets c.loop-n.run c.loop-n.n c.args.past c.loop-n-test.false) c.loop-n.invariant.lines)

@@ -10,5 +10,5 @@ invariant-loop-n g l =
     record {
       from : IfSome l.run (λ r. r.from < 16777216);
       last : IfSome l.run (λ r. r.last < 16777216);
-      lines : Progress (g.K.Sink.written l.initial.sink) (g.K.Sink.written l.sink) (g.K.Sink.faults l.initial.sink) (g.K.Sink.faults l.sink) (runs_left l.job l.tables.places sets l.run l.n (l.past - l.n)) (run_lines l.job l.tables.places sets false l.first (l.past - l.first));
+      lines : Progress g.K.Sink.written g.K.Sink.faults l.initial.sink l.sink (runs_left l.job l.tables.places sets l.run l.n (l.past - l.n)) (run_lines l.job l.tables.places sets false l.first (l.past - l.first));
     }

@@ -17,7 +17,7 @@ returns-in_err-storage_row g c =
     let n = c.loop-n.n in
     let exists : 16 * n < task.private = omega (arith, c.requires.size) in
     let row = part_row_lines c.put_cards.new.block now c.row.result.now task.private task.cards c.args.from n c.requires.cards (omega arith) (search rules) c.put_cards.ensures c.requires.size exists c.row.ensures in
-    progress_exit _ _ _ _ _ _ _ _ _ _ _ c.from_residual.ensures.0 (rw row at c.in_err-storage_row.ensures) (progress_at _ _ _ _ _ _ _ (lines_from-next lines n n c.args.past (omega arith)) c.loop-n.invariant)
+    progress_exit _ c.from_residual.ensures.0 (rw row at c.in_err-storage_row.ensures) (progress_at (lines_from-next lines n n c.args.past (omega arith)) c.loop-n.invariant)
 
 pub loop-n-preserved : goal.loop-n-preserved
 loop-n-preserved g c =
@@ -27,4 +27,4 @@ loop-n-preserved g c =
     let n = c.loop-n.n in
     let exists : 16 * n < task.private = omega (arith, c.requires.size) in
     let row = part_row_lines c.put_cards.new.block now c.row.result.now task.private task.cards c.args.from n c.requires.cards (omega arith) (search rules) c.put_cards.ensures c.requires.size exists c.row.ensures in
-    progress_more _ _ _ _ _ _ _ _ _ _ (rw row at c.in_ok-storage_row.ensures) (progress_at _ _ _ _ _ _ _ (lines_from-next lines n n c.args.past (omega arith)) c.loop-n.invariant)
+    progress_more (rw row at c.in_ok-storage_row.ensures) (progress_at (lines_from-next lines n n c.args.past (omega arith)) c.loop-n.invariant)

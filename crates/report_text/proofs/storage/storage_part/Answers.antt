@@ -12,7 +12,7 @@ unfolding storage_lines
 loop-b-init g c =
     let count = row_count 16 (g.R.Results.result_of c.args.results.now c.args.t.0).bytes in
     let whole : count - 0 ≡ count = omega arith in
-    rw whole (progress_start _ _ _)
+    rw whole progress_start
 
 pub returns-in_err-block_part : goal.returns-in_err-block_part
 returns-in_err-block_part g c =
@@ -22,7 +22,7 @@ returns-in_err-block_part g c =
     let count = row_count 16 now in
     let here : at ≤ count = omega (arith, c.requires.size, ap (λ (t : TaskView). t.private) c.task.view_is) in
     let past : c.min.result ≡ min (at + 4096) count = omega (arith, c.min.ensures, c.requires.size, ap (λ (t : TaskView). t.private) c.task.view_is) in
-    progress_exit _ _ _ _ _ _ _ _ _ _ _ c.from_residual.ensures.0 (rw past at c.in_err-block_part.ensures) (progress_at _ _ _ _ _ _ _ (lines_from-block lines at 4096 count here) c.loop-b.invariant)
+    progress_exit _ c.from_residual.ensures.0 (rw past at c.in_err-block_part.ensures) (progress_at (lines_from-block lines at 4096 count here) c.loop-b.invariant)
 
 pub loop-b-preserved : goal.loop-b-preserved
 loop-b-preserved g c =
@@ -33,4 +33,4 @@ loop-b-preserved g c =
     let here : at ≤ count = omega (arith, c.requires.size, ap (λ (t : TaskView). t.private) c.task.view_is) in
     let past : c.min.result ≡ min (at + 4096) count = omega (arith, c.min.ensures, c.requires.size, ap (λ (t : TaskView). t.private) c.task.view_is) in
     let next : 4096 * (c.loop-b.b + 1) ≡ at + 4096 = omega arith in
-    rw next (progress_more _ _ _ _ _ _ _ _ _ _ (rw past at c.in_ok-block_part.ensures) (progress_at _ _ _ _ _ _ _ (lines_from-block lines at 4096 count here) c.loop-b.invariant))
+    rw next (progress_more (rw past at c.in_ok-block_part.ensures) (progress_at (lines_from-block lines at 4096 count here) c.loop-b.invariant))

@@ -8,4 +8,4 @@ returns-then-is_changed g c =
     rw (row_lines-changed (16 * c.args.n) _ _ _ c.is_changed.ensures c.if-is_changed.true) (c.put.ensures _ c.storage_line.ensures)
 
 pub returns-else-is_changed : goal.returns-else-is_changed
-returns-else-is_changed g c = rw (row_lines-same (16 * c.args.n) _ _ _ c.is_changed.ensures c.if-is_changed.false) (writes_none _ _ tt)
+returns-else-is_changed g c = rw (row_lines-same (16 * c.args.n) _ _ _ c.is_changed.ensures c.if-is_changed.false) writes_none

@@ -7,11 +7,11 @@ pub returns-in_err-put : goal.returns-in_err-put
 unfolding output_lines
 returns-in_err-put g c =
     let count : c.output_line.result.items ≡ (codes "OUT " ++ decimal (length c.args.output.now)) ++ 10 ∷ [] = search rules in
-    progress_exit _ _ _ _ _ _ _ _ _ _ _ c.from_residual.ensures.0 (c.in_err-put.ensures _ count) (progress_start _ _ _)
+    progress_exit _ c.from_residual.ensures.0 (c.in_err-put.ensures _ count) progress_start
 
 pub returns : goal.returns
 unfolding output_lines
 returns g c =
     let count : c.output_line.result.items ≡ (codes "OUT " ++ decimal (length c.args.output.now)) ++ 10 ∷ [] = search rules in
-    let first = progress_more _ _ _ _ _ _ _ _ _ _ (c.in_ok-put.ensures _ count) (progress_start _ _ _) in
-    progress_last _ _ _ _ _ _ _ _ _ c.output_rows.ensures first
+    let first = progress_more (c.in_ok-put.ensures _ count) progress_start in
+    progress_last c.output_rows.ensures first

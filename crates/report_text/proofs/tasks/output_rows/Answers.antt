@@ -11,7 +11,7 @@ returns-in_err-put g c =
     let n = c.loop-n.n in
     let line : c.bytes_line.result.items ≡ hex_bytes (row_of 32 output n) ++ 10 ∷ [] = search rules in
     let here : n < row_count 32 output = search rules in
-    progress_exit _ _ _ _ _ _ _ _ _ _ _ c.from_residual.ensures.0 (c.in_err-put.ensures _ line) (progress_at _ _ _ _ _ _ _ (lines_from-next (output_row output) n n (row_count 32 output) here) c.loop-n.invariant)
+    progress_exit _ c.from_residual.ensures.0 (c.in_err-put.ensures _ line) (progress_at (lines_from-next (output_row output) n n (row_count 32 output) here) c.loop-n.invariant)
 
 pub loop-n-preserved : goal.loop-n-preserved
 loop-n-preserved g c =
@@ -19,4 +19,4 @@ loop-n-preserved g c =
     let n = c.loop-n.n in
     let line : c.bytes_line.result.items ≡ hex_bytes (row_of 32 output n) ++ 10 ∷ [] = search rules in
     let here : n < row_count 32 output = search rules in
-    progress_more _ _ _ _ _ _ _ _ _ _ (c.in_ok-put.ensures _ line) (progress_at _ _ _ _ _ _ _ (lines_from-next (output_row output) n n (row_count 32 output) here) c.loop-n.invariant)
+    progress_more (c.in_ok-put.ensures _ line) (progress_at (lines_from-next (output_row output) n n (row_count 32 output) here) c.loop-n.invariant)

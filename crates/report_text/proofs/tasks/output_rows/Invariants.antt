@@ -5,4 +5,4 @@ use Rattle.report_text.proofs.WriteLemmas.{Progress}
 use Rattle.report_text.proofs.tasks.output_rows.Given as goal
 
 abbrev pub invariant-loop-n : goal.invariant-loop-n
-invariant-loop-n g l = Progress (g.K.Sink.written l.initial.sink) (g.K.Sink.written l.sink) (g.K.Sink.faults l.initial.sink) (g.K.Sink.faults l.sink) (lines_from (output_row l.output) l.n (row_count 32 l.output - l.n)) (lines_from (output_row l.output) 0 (row_count 32 l.output))
+invariant-loop-n g l = Progress g.K.Sink.written g.K.Sink.faults l.initial.sink l.sink (lines_from (output_row l.output) l.n (row_count 32 l.output - l.n)) (lines_from (output_row l.output) 0 (row_count 32 l.output))

@@ -7,15 +7,15 @@ pub returns-in_err-put : goal.returns-in_err-put
 unfolding state_lines
 returns-in_err-put g c =
     let one : c.task_line.result.items ≡ task_line c.args.name.now c.args.ending c.args.done c.args.cpu.now.condition ++ 10 ∷ [] = search rules in
-    progress_exit _ _ _ _ _ _ _ _ _ _ _ c.from_residual.ensures.0 (c.in_err-put.ensures _ one) (progress_start _ _ _)
+    progress_exit _ c.from_residual.ensures.0 (c.in_err-put.ensures _ one) progress_start
 
 pub returns-in_err-put-2 : goal.returns-in_err-put-2
 unfolding state_lines
 returns-in_err-put-2 g c =
     let one : c.task_line.result.items ≡ task_line c.args.name.now c.args.ending c.args.done c.args.cpu.now.condition ++ 10 ∷ [] = search rules in
     let low : c.register_line.result.items ≡ register_line (codes "R0") (take 8 c.args.cpu.now.regs) ++ 10 ∷ [] = search rules in
-    let first = progress_more _ _ _ _ _ _ _ _ _ _ (c.in_ok-put.ensures _ one) (progress_start _ _ _) in
-    progress_exit _ _ _ _ _ _ _ _ _ _ _ c.from_residual-in_err-put-2.ensures.0 (c.in_err-put-2.ensures _ low) first
+    let first = progress_more (c.in_ok-put.ensures _ one) progress_start in
+    progress_exit _ c.from_residual-in_err-put-2.ensures.0 (c.in_err-put-2.ensures _ low) first
 
 pub returns : goal.returns
 unfolding state_lines
@@ -23,6 +23,6 @@ returns g c =
     let one : c.task_line.result.items ≡ task_line c.args.name.now c.args.ending c.args.done c.args.cpu.now.condition ++ 10 ∷ [] = search rules in
     let low : c.register_line.result.items ≡ register_line (codes "R0") (take 8 c.args.cpu.now.regs) ++ 10 ∷ [] = search rules in
     let high : c.register_line-2.result.items ≡ register_line (codes "R8") (drop 8 c.args.cpu.now.regs) ++ 10 ∷ [] = search rules in
-    let first = progress_more _ _ _ _ _ _ _ _ _ _ (c.in_ok-put.ensures _ one) (progress_start _ _ _) in
-    let second = progress_more _ _ _ _ _ _ _ _ _ _ (c.in_ok-put-2.ensures _ low) first in
-    progress_last _ _ _ _ _ _ _ _ _ (c.put-3.ensures _ high) second
+    let first = progress_more (c.in_ok-put.ensures _ one) progress_start in
+    let second = progress_more (c.in_ok-put-2.ensures _ low) first in
+    progress_last (c.put-3.ensures _ high) second

@@ -9,19 +9,19 @@ pub returns-in_err-state_part : goal.returns-in_err-state_part
 returns-in_err-state_part g c =
     let task : c.index-task.result.now ≡ task_of c.args.job.now c.args.t.0 = task_read c.args.job.now c.job.inside.tasks.items _ _ (ap (λ (j : JobView). j.tasks) c.job.view_is) c.requires.task c.index-task.ensures in
     let name : c.task.inside.name ≡ (task_of c.args.job.now c.args.t.0).name = ap (λ (t : TaskView). t.name) (c.task.view_is ∙ task) in
-    progress_exit _ _ _ _ _ _ _ _ _ _ _ c.from_residual.ensures.0 (rw (name, c.ending.ensures, c.done.ensures, c.cpu.ensures) at c.in_err-state_part.ensures) (progress_start _ _ _)
+    progress_exit _ c.from_residual.ensures.0 (rw (name, c.ending.ensures, c.done.ensures, c.cpu.ensures) at c.in_err-state_part.ensures) progress_start
 
 pub returns-in_err-output_part : goal.returns-in_err-output_part
 returns-in_err-output_part g c =
     let task : c.index-task.result.now ≡ task_of c.args.job.now c.args.t.0 = task_read c.args.job.now c.job.inside.tasks.items _ _ (ap (λ (j : JobView). j.tasks) c.job.view_is) c.requires.task c.index-task.ensures in
     let name : c.task.inside.name ≡ (task_of c.args.job.now c.args.t.0).name = ap (λ (t : TaskView). t.name) (c.task.view_is ∙ task) in
-    let first = progress_more _ _ _ _ _ _ _ _ _ _ (rw (name, c.ending.ensures, c.done.ensures, c.cpu.ensures) at c.in_ok-state_part.ensures) (progress_start _ _ _) in
-    progress_exit _ _ _ _ _ _ _ _ _ _ _ c.from_residual-in_err-output_part.ensures.0 (rw c.output.ensures at c.in_err-output_part.ensures) first
+    let first = progress_more (rw (name, c.ending.ensures, c.done.ensures, c.cpu.ensures) at c.in_ok-state_part.ensures) progress_start in
+    progress_exit _ c.from_residual-in_err-output_part.ensures.0 (rw c.output.ensures at c.in_err-output_part.ensures) first
 
 pub returns : goal.returns
 returns g c =
     let task : c.index-task.result.now ≡ task_of c.args.job.now c.args.t.0 = task_read c.args.job.now c.job.inside.tasks.items _ _ (ap (λ (j : JobView). j.tasks) c.job.view_is) c.requires.task c.index-task.ensures in
     let name : c.task.inside.name ≡ (task_of c.args.job.now c.args.t.0).name = ap (λ (t : TaskView). t.name) (c.task.view_is ∙ task) in
-    let first = progress_more _ _ _ _ _ _ _ _ _ _ (rw (name, c.ending.ensures, c.done.ensures, c.cpu.ensures) at c.in_ok-state_part.ensures) (progress_start _ _ _) in
-    let second = progress_more _ _ _ _ _ _ _ _ _ _ (rw c.output.ensures at c.in_ok-output_part.ensures) first in
-    progress_last _ _ _ _ _ _ _ _ _ (rw task at c.storage_part.ensures) second
+    let first = progress_more (rw (name, c.ending.ensures, c.done.ensures, c.cpu.ensures) at c.in_ok-state_part.ensures) progress_start in
+    let second = progress_more (rw c.output.ensures at c.in_ok-output_part.ensures) first in
+    progress_last (rw task at c.storage_part.ensures) second

@@ -5,10 +5,10 @@ use Rattle.report_text.proofs.whole.report_text.Goals as goal
 pub returns-in_err-put : goal.returns-in_err-put
 returns-in_err-put g c =
     let head : c.words_line.result.items ≡ codes "COVERAGE REPORT" ++ 10 ∷ [] = search rules in
-    progress_exit _ _ _ _ _ _ _ _ _ _ _ c.from_residual.ensures.0 (c.in_err-put.ensures _ head) (progress_start _ _ _)
+    progress_exit _ c.from_residual.ensures.0 (c.in_err-put.ensures _ head) progress_start
 
 pub returns : goal.returns
 returns g c =
     let head : c.words_line.result.items ≡ codes "COVERAGE REPORT" ++ 10 ∷ [] = search rules in
-    let first = progress_more _ _ _ _ _ _ _ _ _ _ (c.in_ok-put.ensures _ head) (progress_start _ _ _) in
-    progress_last _ _ _ _ _ _ _ _ _ c.results_part.ensures first
+    let first = progress_more (c.in_ok-put.ensures _ head) progress_start in
+    progress_last c.results_part.ensures first

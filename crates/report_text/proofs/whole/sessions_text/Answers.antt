@@ -10,11 +10,11 @@ returns-in_err-session_text g c =
     let lines = session_part c.args.job.now c.args.tables.now (g.R.FactSets.set_of c.args.results.now) in
     let i = c.loop-i.i in
     let here : i < length c.args.job.now.sessions = omega (arith, ap (λ (j : JobView). length j.sessions) c.job.view_is, c.job.inside.sessions.ok.0) in
-    progress_exit _ _ _ _ _ _ _ _ _ _ _ c.from_residual.ensures.0 c.in_err-session_text.ensures (progress_at _ _ _ _ _ _ _ (lines_from-next lines (i + 1) i (length c.args.job.now.sessions) here) c.loop-i.invariant)
+    progress_exit _ c.from_residual.ensures.0 c.in_err-session_text.ensures (progress_at (lines_from-next lines (i + 1) i (length c.args.job.now.sessions) here) c.loop-i.invariant)
 
 pub loop-i-preserved : goal.loop-i-preserved
 loop-i-preserved g c =
     let lines = session_part c.args.job.now c.args.tables.now (g.R.FactSets.set_of c.args.results.now) in
     let i = c.loop-i.i in
     let here : i < length c.args.job.now.sessions = omega (arith, ap (λ (j : JobView). length j.sessions) c.job.view_is, c.job.inside.sessions.ok.0) in
-    progress_more _ _ _ _ _ _ _ _ _ _ c.in_ok-session_text.ensures (progress_at _ _ _ _ _ _ _ (lines_from-next lines (i + 1) i (length c.args.job.now.sessions) here) c.loop-i.invariant)
+    progress_more c.in_ok-session_text.ensures (progress_at (lines_from-next lines (i + 1) i (length c.args.job.now.sessions) here) c.loop-i.invariant)

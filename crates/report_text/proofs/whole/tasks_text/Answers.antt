@@ -10,11 +10,11 @@ returns-in_err-task_text g c =
     let lines = task_part c.args.job.now (g.R.Results.result_of c.args.results.now) in
     let t = c.loop-t.t in
     let here : t < length c.args.job.now.tasks = omega (arith, ap (λ (j : JobView). length j.tasks) c.job.view_is, c.job.inside.tasks.ok.0) in
-    progress_exit _ _ _ _ _ _ _ _ _ _ _ c.from_residual.ensures.0 c.in_err-task_text.ensures (progress_at _ _ _ _ _ _ _ (lines_from-next lines t t (length c.args.job.now.tasks) here) c.loop-t.invariant)
+    progress_exit _ c.from_residual.ensures.0 c.in_err-task_text.ensures (progress_at (lines_from-next lines t t (length c.args.job.now.tasks) here) c.loop-t.invariant)
 
 pub loop-t-preserved : goal.loop-t-preserved
 loop-t-preserved g c =
     let lines = task_part c.args.job.now (g.R.Results.result_of c.args.results.now) in
     let t = c.loop-t.t in
     let here : t < length c.args.job.now.tasks = omega (arith, ap (λ (j : JobView). length j.tasks) c.job.view_is, c.job.inside.tasks.ok.0) in
-    progress_more _ _ _ _ _ _ _ _ _ _ c.in_ok-task_text.ensures (progress_at _ _ _ _ _ _ _ (lines_from-next lines t t (length c.args.job.now.tasks) here) c.loop-t.invariant)
+    progress_more c.in_ok-task_text.ensures (progress_at (lines_from-next lines t t (length c.args.job.now.tasks) here) c.loop-t.invariant)
