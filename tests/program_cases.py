@@ -1,9 +1,11 @@
 """The program: each command, each exit status that a user can provoke, and each way that a task ends."""
 from __future__ import annotations
 
+import os
+import subprocess
 from dataclasses import replace
 
-from harness import COVERAGE, Case
+from harness import COVERAGE, PROGRAM, Case, equal
 from jobs import COUNTED, FIRST, FIRST_REPORT, FIRST_RESULT, TASK, Program, Result
 
 USAGE = b"USAGE: run | marks NAME | trial NUMBER TASKS | table | replay | combine | show NAME\n"
@@ -114,6 +116,7 @@ def commands() -> list[Case]:
         Case("a word in capitals", ["RUN"], job, USAGE, 1),
         Case("a word too many", ["run", "now"], job, USAGE, 1),
         Case("an empty word", [""], job, USAGE, 1),
+        Case("a word that is no UTF-8", ["\udcff"], job, USAGE, 1),
         Case("--help is no word of the program", ["--help"], job, USAGE, 1),
         Case("an unknown word by the script", ["runs"], job, USAGE, 1, command=COVERAGE),
         Case("an unknown word, nothing read", ["runs"], b"", USAGE, 1, redirect="</"),
@@ -186,8 +189,29 @@ def streams() -> list[Case]:
         Case("a full output for a refusal", ["run"], b"", b"", 6, redirect=">/dev/full"),
         Case("a full output for the usage", [], b"", b"", 6, redirect=">/dev/full"),
         Case("a full output by the script", ["run"], job, b"", 6, redirect=">/dev/full", command=COVERAGE),
+        Case("a closed input", ["run"], b"", b"READ FAULT\n", 5, redirect="<&-"),
+        Case("a closed output", ["run"], job, b"", 6, redirect=">&-"),
+        Case("no memory", ["run"], large_job(), b"NO MEMORY\n", 7, before="ulimit -v 40000"),
         Case("a folder as input by the script", ["run"], b"", b"READ FAULT\n", 5, redirect="</", command=COVERAGE),
     ]
+
+
+def large_job() -> bytes:
+    """A job of 64 tasks with the most private storage: 64 MiB."""
+    tasks = "".join(f"TASK T{it} 000000 1048576 1 0\n" for it in range(64))
+    return f"COVERJOB 1\nPHASE P\n{tasks}ENDJOB\n".encode()
+
+
+def broken_pipe() -> None:
+    """an output that nobody reads"""
+    read_end, write_end = os.pipe()
+    os.close(read_end)
+    ran = subprocess.run([PROGRAM, "run"], input=FIRST.job(), stdout=write_end, stderr=subprocess.PIPE, check=False)
+    os.close(write_end)
+    equal((ran.returncode, ran.stderr), (6, b""))
+
+
+CHECKS = [broken_pipe]
 
 
 def cases() -> list[Case]:
