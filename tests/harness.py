@@ -97,7 +97,7 @@ def run_cases(tally: Tally, cases: list[Case]) -> None:
 def run_checks(tally: Tally, checks: list[Callable[[], None]]) -> None:
     """Runs tests that are functions, each named by its first line of text; they fail by an exception."""
     for check in checks:
-        name = (check.__doc__ or check.__name__).splitlines()[0]
+        name = (getattr(check, "func", check).__doc__ or "").partition("\n")[0]
         try:
             check()
             tally.note(name, None)
