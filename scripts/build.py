@@ -15,7 +15,7 @@ import subprocess
 import sys
 import threading
 import time
-from typing import IO, Optional
+from typing import IO
 
 TOP = os.path.dirname(os.path.dirname(os.path.realpath(__file__)))
 OUT = f"{TOP}/out"

@@ -5,7 +5,7 @@ import os
 import sys
 from typing import Callable
 
-USAGE, BAD_INPUT, READ_FAULT, WRITE_FAULT = 1, 2, 5, 6
+USAGE, BAD_INPUT, READ_FAULT, WRITE_FAULT, INTERRUPTED = 1, 2, 5, 6, 130
 
 
 class Fault(Exception):
@@ -80,6 +80,8 @@ def run(usage: str, main: Callable[[list[str]], None]) -> int:
         else:
             main(words)
         return 0
+    except KeyboardInterrupt:
+        return INTERRUPTED
     except UsageError:
         complain(usage.rstrip("\n"))
         return USAGE

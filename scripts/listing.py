@@ -67,7 +67,8 @@ def ebcdic_lines(path: str, data: bytes) -> list[bytes]:
             records = [to_ascii(data[at : at + length]).rstrip(b" ") for at in range(0, len(data), length)]
             if shift_of(records) is not None:
                 return records
-    raise Fault(path, f"{len(data)} bytes in EBCDIC with neither line ends nor records of {' or '.join(map(str, RECORDS))} bytes under a heading")
+    lengths = " or ".join(map(str, RECORDS))
+    raise Fault(path, f"{len(data)} bytes in EBCDIC, with neither line ends nor records of {lengths} bytes and a heading")
 
 
 def cut(place: str, line: bytes, shift: int, may_be_read: bool) -> bytes:

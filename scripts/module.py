@@ -6,7 +6,7 @@ import sys
 from cards import base_of, check_size, module_cards, name_of
 from command import UsageError, read_file, run, write_output
 from listing import read_listing
-from object_deck import is_deck, read_deck, text_of
+from object_deck import check_form, is_deck, read_deck, text_of
 
 USAGE = """\
 usage: coverage module NAME BASE OBJECT [LISTING] > CARDS
@@ -31,6 +31,7 @@ written. This script is not proved. The program that reads the cards compares ea
 def text_from(path: str, base: int) -> bytes:
     """The bytes of the module in a file: those of the file, or what its records say."""
     data = read_file(path)
+    check_form(path, data)
     if is_deck(data):
         return text_of(path, read_deck(path, data), base)
     check_size(path, base, len(data))

@@ -59,6 +59,14 @@ def is_deck(data: bytes) -> bool:
     return len(data) >= 4 and data[0] == 0x02 and all(it in LETTERS for it in data[1:4])
 
 
+def check_form(path: str, data: bytes) -> None:
+    """Refuses what is an object, but no deck that can be read. Neither X'02' nor X'03' begins an instruction."""
+    if data[:2] == b"\x03\xf0":
+        raise Fault(path, "a generalized object file: assemble with the options OBJECT and NOGOFF")
+    if data[:1] == b"\x02" and data[1:4] in (b"ESD", b"SYM", b"TXT"):
+        raise Fault(path, "an object deck that was translated to ASCII: transfer it as binary")
+
+
 def number(data: bytes) -> int:
     """The number that big-endian bytes give."""
     return int.from_bytes(data, "big")
@@ -74,7 +82,8 @@ def read_deck(path: str, data: bytes) -> Deck:
         record, place = data[at * RECORD : (at + 1) * RECORD], f"{path}: record {at + 1}"
         name = shown(record[1:4])
         if record[0] != 0x02 or name not in (*readers, "SYM", "END"):
-            raise Fault(place, f"an unknown record, which begins {record[:4].hex().upper()}: it is none of ESD, TXT, RLD, SYM and END")
+            begins = record[:4].hex().upper()
+            raise Fault(place, f"an unknown record, which begins {begins}: it is none of ESD, TXT, RLD, SYM and END")
         if name == "END":
             if at + 1 < count:
                 raise Fault(f"{path}: record {at + 2}", "a record behind the END record")
@@ -202,7 +211,9 @@ def offset_in(piece: Piece, section: Symbol, length: int, what: str) -> int:
     """Where a piece stands in the module, all of it in its section."""
     offset = piece.address - section.origin
     if offset < 0 or offset + length > section.length:
-        raise Fault(piece.place, f"{what} past the section: {piece.address:06X} and {length} bytes, of {section.name or 'a section'} from {section.origin:06X} with {section.length} bytes")
+        name, at = section.name or "a section", f"{piece.address:06X}"
+        whole = f"{name} has {section.length} bytes from {section.origin:06X} on"
+        raise Fault(piece.place, f"{what} past the section: {length} bytes from {at} on, and {whole}")
     return section.at + offset
 
 

@@ -47,6 +47,11 @@ def count_of(count: int, what: str) -> str:
     return f"{count:,} {what}{'' if count == 1 else 's'}"
 
 
+def counts_of(executed: int, places: int, facts: int, possible: int) -> str:
+    """The counts of a module, or of all, in words."""
+    return f"{executed:,} of {count_of(places, 'place')} executed, {facts:,} of {count_of(possible, 'fact')} shown."
+
+
 def bar(part: int, whole: int, what: str) -> str:
     """The two cells of a part and its whole: the numbers, and a bar."""
     if not whole:
@@ -54,7 +59,8 @@ def bar(part: int, whole: int, what: str) -> str:
     share = percent(part, whole)
     return (
         f'<td class="number">{part:,} of {whole:,}</td>'
-        f'<td><span class="bar" role="img" aria-label="{share} % of {what}"><span style="width:{share}%"></span></span> {share} %</td>'
+        f'<td><span class="bar" role="img" aria-label="{share} % of {what}"><span style="width:{share}%"></span></span>'
+        f" {share} %</td>"
     )
 
 
@@ -79,8 +85,10 @@ def summary(report: Report) -> str:
         return "<p>The report has no session with a module.</p>"
     rows = "\n".join(summary_row(*it) for it in found)
     return f"""<div class="wide summary" tabindex="0" role="region" aria-label="Sessions and modules"><table>
-<caption>Places are instruction lines. A place has one fact, that it ran; a conditional branch has two, that it branched and that it fell through.</caption>
-<thead><tr><th scope="col">Session</th><th scope="col">Phase</th><th scope="col">Module</th><th scope="col" colspan="2">Places executed</th><th scope="col" colspan="2">Facts shown</th></tr></thead>
+<caption>Places are instruction lines. A place has one fact, that it ran; a conditional branch has two, that it branched
+and that it fell through.</caption>
+<thead><tr><th scope="col">Session</th><th scope="col">Phase</th><th scope="col">Module</th>
+<th scope="col" colspan="2">Places executed</th><th scope="col" colspan="2">Facts shown</th></tr></thead>
 <tbody>
 {rows}
 </tbody></table></div>"""
@@ -121,7 +129,7 @@ def module_part(session: Session, module: Module) -> str:
     lines = "\n".join(listing_line(name, it) for it in module.lines)
     return f"""<section id="{name}" aria-labelledby="{name}.title">
 <h2 id="{name}.title">{title}</h2>
-<p>{module.executed:,} of {count_of(module.places, "place")} executed, {module.facts:,} of {count_of(module.possible, "fact")} shown.</p>
+<p>{counts_of(module.executed, module.places, module.facts, module.possible)}</p>
 {ranges(name, module)}
 {legend(module)}
 <div class="wide listing" tabindex="0" role="region" aria-label="Listing of {title}"><pre>{lines}</pre></div>
@@ -149,7 +157,8 @@ def task_part(task: Task) -> str:
         parts.append(f"<h3>Output</h3>{dump(output)}")
     if task.rows:
         parts.append(f"<h3>Private storage that changed</h3>{dump(task.rows)}")
-    return f"""<details><summary><strong>{safe(task.name)}</strong> {said}, {count_of(len(task.output), "byte")} of output</summary>
+    said += f", {count_of(len(task.output), 'byte')} of output"
+    return f"""<details><summary><strong>{safe(task.name)}</strong> {said}</summary>
 <div>{"".join(parts)}</div></details>"""
 
 
@@ -157,8 +166,8 @@ def events_part(report: Report) -> str:
     """The events of a schedule, folded."""
     if not report.events:
         return ""
-    lines = "\n".join(map(safe, report.events))
-    return f"<details><summary>{count_of(len(report.events), 'event')} of the schedule</summary><div><pre>{lines}</pre></div></details>"
+    title, lines = count_of(len(report.events), "event"), "\n".join(map(safe, report.events))
+    return f"<details><summary>{title} of the schedule</summary><div><pre>{lines}</pre></div></details>"
 
 
 def tasks_part(report: Report) -> str:
@@ -172,10 +181,8 @@ def whole(report: Report) -> str:
     modules = [it for session in report.sessions for it in session.modules]
     places, facts = sum(it.places for it in modules), sum(it.facts for it in modules)
     executed, possible = sum(it.executed for it in modules), sum(it.possible for it in modules)
-    return (
-        f"{count_of(len(report.sessions), 'session')}, {count_of(len(report.tasks), 'task')}: "
-        f"{executed:,} of {count_of(places, 'place')} executed, {facts:,} of {count_of(possible, 'fact')} shown."
-    )
+    whose = f"{count_of(len(report.sessions), 'session')}, {count_of(len(report.tasks), 'task')}"
+    return f"{whose}: {counts_of(executed, places, facts, possible)}"
 
 
 def style() -> str:

@@ -11,14 +11,14 @@ from listing import object_code, shift_of
 TITLES = (b"COVERAGE REPORT", b"COVERAGE REPLAY")
 NAME = rb"([A-Z@#$][A-Z@#$0-9]{0,7})"
 ENDING = rb"(RETURNED|EXIT|ABEND [0-9A-F]|BADSVC [0-9]{1,3}|TOUCHED [0-9A-F]{6}|OUTFULL|SPENT|RUNNING)"
-EVENT = re.compile(rb"EVENT [0-9]+ (?:FETCH|MARK|LIFT|DO|GO) .+")
-TASK = re.compile(rb"TASK " + NAME + b" " + ENDING + rb" COUNT ([0-9]+) CC ([0-3])")
+EVENT = re.compile(rb"EVENT [0-9]{1,9} (?:FETCH|MARK|LIFT|DO|GO) .+")
+TASK = re.compile(rb"TASK " + NAME + b" " + ENDING + rb" COUNT ([0-9]{1,9}) CC ([0-3])")
 REGISTERS = re.compile(rb"R[08]((?: [0-9A-F]{8}){8})")
-OUTPUT = re.compile(rb"OUT ([0-9]+)")
+OUTPUT = re.compile(rb"OUT ([0-9]{1,9})")
 BYTES = re.compile(rb"(?:[0-9A-F]{2}){1,32}")
 ROW = re.compile(rb"STOR ([0-9A-F]{6}) ((?:[0-9A-F]{2}){1,16})")
 SESSION = re.compile(rb"SESSION " + NAME + b" PHASE " + NAME)
-MODULE = re.compile(rb"MODULE " + NAME + rb" PLACES ([0-9]+) EXECUTED ([0-9]+) FACTS ([0-9]+) OF ([0-9]+)")
+MODULE = re.compile(rb"MODULE " + NAME + rb" PLACES ([0-9]{1,9}) EXECUTED ([0-9]{1,9}) FACTS ([0-9]{1,9}) OF ([0-9]{1,9})")
 RANGE = re.compile(rb"NOT EXECUTED ([0-9A-F]{6})-([0-9A-F]{6})")
 MARKED = re.compile(rb"[\^:>V& ] ")
 # How many facts a mark stands for.
@@ -158,7 +158,8 @@ class Reader:
 
     def module(self) -> Module:
         head, at = self.next(MODULE, "line of a module"), self.at - 1
-        module = Module(head[1].decode(), *(int(it) for it in head.groups()[1:]))
+        places, executed, facts, possible = (int(it) for it in head.groups()[1:])
+        module = Module(head[1].decode(), places, executed, facts, possible)
         first = self.at
         while MARKED.match(self.look()):
             line = self.look()

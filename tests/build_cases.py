@@ -135,7 +135,7 @@ def no_toolchain() -> None:
         os.remove(f"{it.at}/bin/rt")
         os.symlink("/usr/bin/env", f"{it.at}/bin/env")
         for tool in ("bash", "python3", "dirname", "readlink"):
-            os.symlink(os.path.realpath(shutil.which(tool)), f"{it.at}/bin/{tool}")
+            os.symlink(os.path.realpath(shutil.which(tool) or tool), f"{it.at}/bin/{tool}")
         it.env["PATH"] = f"{it.at}/bin"
         status, _, error = it.run("run")
         equal(status, 70)
@@ -175,7 +175,7 @@ def waits() -> None:
         first = it.start("run")
         wait_for(it.calls)
         second = it.start("table")
-        seen = second.stderr.readline()
+        seen = second.stderr.readline() if second.stderr else ""
         assert "another build runs in this copy" in seen, seen
         os.remove(f"{it.at}/hold")
         equal(ended(first)[:2], (7, "one: run\ninput\n"))

@@ -27,6 +27,8 @@ class Case:
     error: str = ""
     # What the shell is told of standard input and output, as '</dev/null'; none: pipes.
     redirect: str = ""
+    # What the shell does before, as 'ulimit -v 1'.
+    before: str = ":"
     command: str = PROGRAM
 
 
@@ -56,11 +58,11 @@ class Tally:
         print(f"FAILED {name}: {fault}", flush=True)
 
 
-def run(words: list[str], data: bytes = b"", cwd: str = TOP, redirect: str = "", env: Optional[dict[str, str]] = None) -> Ran:
+def run(words: list[str], data: bytes = b"", cwd: str = TOP, redirect: str = "", before: str = ":") -> Ran:
     """Runs a command, through the shell where its input or output is redirected."""
-    if redirect:
-        words = ["bash", "-c", f'exec "$0" "$@" {redirect}', *words]
-    ran = subprocess.run(words, input=data, capture_output=True, cwd=cwd, timeout=SECONDS, env=env, check=False)
+    if redirect or before != ":":
+        words = ["bash", "-c", f'{before}; exec "$0" "$@" {redirect}', *words]
+    ran = subprocess.run(words, input=data, capture_output=True, cwd=cwd, timeout=SECONDS, check=False)
     return Ran(ran.stdout, ran.stderr.decode(errors="replace"), ran.returncode)
 
 
@@ -73,7 +75,7 @@ def difference(wanted: bytes, had: bytes) -> str:
 
 def fault_of(case: Case) -> Optional[str]:
     """What is wrong with what came of a case."""
-    ran = run([case.command, *case.words], case.input, redirect=case.redirect)
+    ran = run([case.command, *case.words], case.input, redirect=case.redirect, before=case.before)
     if ran.status != case.status:
         return f"status {ran.status}, and not {case.status}; {(ran.output[:200], ran.error[:300])}"
     if ran.output != case.output:
@@ -95,7 +97,7 @@ def run_cases(tally: Tally, cases: list[Case]) -> None:
 def run_checks(tally: Tally, checks: list[Callable[[], None]]) -> None:
     """Runs tests that are functions, each named by its first line of text; they fail by an exception."""
     for check in checks:
-        name = (check.__doc__ or check.__name__).splitlines()[0]
+        name = (getattr(check, "func", check).__doc__ or "").partition("\n")[0]
         try:
             check()
             tally.note(name, None)

@@ -59,7 +59,7 @@ class Program:
     def of(text: str) -> "Program":
         return Program(code_of(text))
 
-    def bytes(self) -> bytes:
+    def text(self) -> bytes:
         return bytes.fromhex("".join(digits for _, digits, _ in self.code))
 
     def listing(self) -> list[str]:
@@ -68,7 +68,7 @@ class Program:
     def job(self, tasks: str = TASK, listing: list[str] | None = None, more: str = "") -> bytes:
         """The job, with other tasks, another listing, or lines behind its end."""
         lines = self.listing() if listing is None else listing
-        text = self.bytes()
+        text = self.text()
         cards = ["COVERJOB 1", f"MODULE M 100000 {len(text)}", f"TEXT {text.hex().upper()}", f"LISTING {len(lines)}"]
         return ("\n".join([*cards, *lines, "PHASE P", "SESSION S M"]) + f"\n{tasks}ENDJOB\n{more}").encode()
 

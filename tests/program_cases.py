@@ -1,9 +1,11 @@
 """The program: each command, each exit status that a user can provoke, and each way that a task ends."""
 from __future__ import annotations
 
+import os
+import subprocess
 from dataclasses import replace
 
-from harness import COVERAGE, Case
+from harness import COVERAGE, PROGRAM, Case, equal
 from jobs import COUNTED, FIRST, FIRST_REPORT, FIRST_RESULT, TASK, Program, Result
 
 USAGE = b"USAGE: run | marks NAME | trial NUMBER TASKS | table | replay | combine | show NAME\n"
@@ -44,7 +46,8 @@ def instructions() -> list[Case]:
         runs("EX", execute, task("REG 1 00000002 / DATA 8 010203"),
              Result("RETURNED", 2, 0, {1: 2}, rows=["000000 01020300000000000102030000000000"]), ":::", 3),
         runs("EX of EX", no_execute, TASK, Result("ABEND 3", 1), ":^^", 3, "000004-000009"),
-        runs("EX that makes a branch", made, task("REG 1 000000F0"), Result("RETURNED", 3, 0, {1: 0xF0}), "::^:", 4, "000008-000009"),
+        runs("EX that makes a branch", made, task("REG 1 000000F0"),
+             Result("RETURNED", 3, 0, {1: 0xF0}), "::^:", 4, "000008-000009"),
         runs("an overflow that interrupts", mask, task(f"REG 2 04000000 / {digits}"),
              Result("ABEND A", 2, 3, {2: 0x04000000}, rows=[sum_row]), "::^", 3, "000008-000009"),
         runs("an overflow that goes on", mask, task(digits), Result("RETURNED", 3, 3, rows=[sum_row]), ":::", 3),
@@ -85,8 +88,10 @@ def endings() -> list[Case]:
         runs("OUTFULL", put, task("REG 0 00000004 / DATA 0 C1C2C3C4", "TASK A 100000 16 100 4\n"),
              Result("OUTFULL", 2, 0, {0: 4}, letters), "::^", 3, "000004-000005"),
         runs("a budget that suffices", FIRST, "TASK A 100000 16 3 0\n", FIRST_RESULT, ":::", 3),
-        runs("SPENT", FIRST, "TASK A 100000 16 2 0\n", replace(FIRST_RESULT, ending="SPENT", count=2), "::^", 3, "000006-000007"),
-        runs("TOUCHED", touched, "TASK A 100002 16 100 0\n", Result("TOUCHED 100004", 1, entry=0x100002), "^^", 2, "000000-000005"),
+        runs("SPENT", FIRST, "TASK A 100000 16 2 0\n",
+             replace(FIRST_RESULT, ending="SPENT", count=2), "::^", 3, "000006-000007"),
+        runs("TOUCHED", touched, "TASK A 100002 16 100 0\n",
+             Result("TOUCHED 100004", 1, entry=0x100002), "^^", 2, "000000-000005"),
         runs("BADSVC", FIRST, task("DATA 0 0AFF", "TASK A 000000 16 100 0\n"), own, "^^^", 3, "000000-000007"),
     ]
 
@@ -114,6 +119,7 @@ def commands() -> list[Case]:
         Case("a word in capitals", ["RUN"], job, USAGE, 1),
         Case("a word too many", ["run", "now"], job, USAGE, 1),
         Case("an empty word", [""], job, USAGE, 1),
+        Case("a word that is no UTF-8", ["\udcff"], job, USAGE, 1),
         Case("--help is no word of the program", ["--help"], job, USAGE, 1),
         Case("an unknown word by the script", ["runs"], job, USAGE, 1, command=COVERAGE),
         Case("an unknown word, nothing read", ["runs"], b"", USAGE, 1, redirect="</"),
@@ -135,7 +141,10 @@ def refusals() -> list[Case]:
         assert job.count(old) == 1, name
         return Case(name, ["run"], job.replace(old, new), line, 4)
 
+    mismatch = b"MISMATCH M LINE 2 LOC 000000 LISTING 41100006 MODULE 41100005\n"
     schedule = b"BAD SCHEDULE LINE %d\n"
+    phases = b"COVERJOB 1\n" + b"".join(b"PHASE P%d\n" % it for it in range(17)) + b"ENDJOB\n"
+    tasks = b"COVERJOB 1\nPHASE P\n" + b"".join(b"TASK T%d 100000 0 1 0\n" % it for it in range(65)) + b"ENDJOB\n"
     return [
         Case("no job", ["run"], b"", b"BAD JOB LINE 1\n", 2),
         Case("a job without an end", ["run"], without_end, b"BAD JOB LINE 12\n", 2),
@@ -143,7 +152,7 @@ def refusals() -> list[Case]:
         Case("a line behind the job", ["run"], job + b"GO A\n", b"BAD JOB LINE 13\n", 2),
         Case("a card in small letters", ["run"], job.replace(b"PHASE", b"phase"), b"BAD JOB LINE 9\n", 2),
         Case("two blanks", ["run"], job.replace(b"PHASE P", b"PHASE  P"), b"BAD JOB LINE 9\n", 2),
-        of_listing("other bytes", b"MISMATCH M LINE 2 LOC 000000 LISTING 41100006 MODULE 41100005\n", 3, lines=changed(2, "0005", "0006")),
+        of_listing("other bytes", mismatch, 3, lines=changed(2, "0005", "0006")),
         of_listing("the own SVC", b"OWN SVC M LINE 2\n", 8, Program.of("0 0AFF SVC, 2 07FE BR")),
         of_listing("no heading", b"BAD LISTING M LINE 0 HEADING\n", 12, lines=listing[1:]),
         of_listing("an empty listing", b"BAD LISTING M LINE 0 HEADING\n", 12, lines=[]),
@@ -157,8 +166,8 @@ def refusals() -> list[Case]:
         of_limit("SIZE", b"M 100000 8", b"M 100000 262146", b"TOO LARGE SIZE LINE 2\n"),
         of_limit("LINE", b"          LA", b"          LA" + b" " * 100, b"TOO LARGE LINE LINE 6\n"),
         Case("MODULES", ["run"], modules(17), b"TOO LARGE MODULES LINE 34\n", 4),
-        Case("PHASES", ["run"], b"COVERJOB 1\n" + b"".join(b"PHASE P%d\n" % it for it in range(17)) + b"ENDJOB\n", b"TOO LARGE PHASES LINE 18\n", 4),
-        Case("TASKS", ["run"], b"COVERJOB 1\nPHASE P\n" + b"".join(b"TASK T%d 100000 0 1 0\n" % it for it in range(65)) + b"ENDJOB\n", b"TOO LARGE TASKS LINE 67\n", 4),
+        Case("PHASES", ["run"], phases, b"TOO LARGE PHASES LINE 18\n", 4),
+        Case("TASKS", ["run"], tasks, b"TOO LARGE TASKS LINE 67\n", 4),
         Case("INPUT", ["run"], b"\n" * 16_777_217, b"TOO LARGE INPUT\n", 4),
         Case("an event that isn't possible", ["replay"], FIRST.job(more="MARK A\n"), schedule % 13, 9),
         Case("a schedule without an end", ["replay"], FIRST.job(more="GO A\n"), schedule % 14, 9),
@@ -186,8 +195,29 @@ def streams() -> list[Case]:
         Case("a full output for a refusal", ["run"], b"", b"", 6, redirect=">/dev/full"),
         Case("a full output for the usage", [], b"", b"", 6, redirect=">/dev/full"),
         Case("a full output by the script", ["run"], job, b"", 6, redirect=">/dev/full", command=COVERAGE),
+        Case("a closed input", ["run"], b"", b"READ FAULT\n", 5, redirect="<&-"),
+        Case("a closed output", ["run"], job, b"", 6, redirect=">&-"),
+        Case("no memory", ["run"], large_job(), b"NO MEMORY\n", 7, before="ulimit -v 40000"),
         Case("a folder as input by the script", ["run"], b"", b"READ FAULT\n", 5, redirect="</", command=COVERAGE),
     ]
+
+
+def large_job() -> bytes:
+    """A job of 64 tasks with the most private storage: 64 MiB."""
+    tasks = "".join(f"TASK T{it} 000000 1048576 1 0\n" for it in range(64))
+    return f"COVERJOB 1\nPHASE P\n{tasks}ENDJOB\n".encode()
+
+
+def broken_pipe() -> None:
+    """an output that nobody reads"""
+    read_end, write_end = os.pipe()
+    os.close(read_end)
+    ran = subprocess.run([PROGRAM, "run"], input=FIRST.job(), stdout=write_end, stderr=subprocess.PIPE, check=False)
+    os.close(write_end)
+    equal((ran.returncode, ran.stderr), (6, b""))
+
+
+CHECKS = [broken_pipe]
 
 
 def cases() -> list[Case]:

@@ -8,9 +8,6 @@ import shutil
 from harness import TOP, Tally, folder, run
 
 COMMAND = re.compile(r" {4,}(\./coverage .*|genhtml .*)")
-CARDS = re.compile(r" {4,}([A-Z]+ .*)")
-# The files that README supposes a reader has: what they stand for here.
-SUPPOSED = {"payroll.obj": "examples/orders.object", "payroll.lst": "examples/orders.listing"}
 
 
 def lines_of_readme() -> list[str]:
@@ -24,22 +21,11 @@ def commands() -> list[str]:
     return [re.split(r" {2,}", it)[0] for it in found]
 
 
-def cards() -> str:
-    """The cards that README shows, of a phase and what follows."""
-    found = [it[1] for line in lines_of_readme() if (it := CARDS.fullmatch(line))]
-    first = next((at for at, it in enumerate(found) if it.startswith("PHASE ")), len(found))
-    return "".join(f"{it}\n" for it in found[first:])
-
-
 def run_all(tally: Tally) -> None:
     """Runs README's commands one after the other in a folder that looks like a clone."""
     with folder() as at:
         for name in ("coverage", "examples", "docs"):
             os.symlink(f"{TOP}/{name}", f"{at}/{name}")
-        for name, of in SUPPOSED.items():
-            os.symlink(f"{TOP}/{of}", f"{at}/{name}")
-        with open(f"{at}/calls.cards", "w", encoding="ascii") as file:
-            file.write(cards())
         found = commands()
         tally.note("README has commands", None if found else "there are none")
         for command in found:

@@ -1,6 +1,7 @@
 """The scripts: module, job, page and lcov."""
 from __future__ import annotations
 
+import functools
 import os
 import re
 import shutil
@@ -15,6 +16,7 @@ from jobs import COUNTED, FIRST, FIRST_REPORT, Result
 
 SD, LD, ER, WX = 0, 1, 2, 10
 EXAMPLES = f"{TOP}/examples"
+BROWSERS = ("chromium", "chromium-browser", "google-chrome")
 VOID = {"meta", "link", "br", "hr", "img", "input"}
 
 
@@ -58,7 +60,7 @@ def listing_text(listing: list[str]) -> bytes:
 
 def raw_bytes() -> None:
     """module: raw bytes and a listing in ASCII, as the cards of docs/JOB.md"""
-    ran = well(module_of(FIRST.bytes(), listing=listing_text(FIRST.listing())))
+    ran = well(module_of(FIRST.text(), listing=listing_text(FIRST.listing())))
     equal(ran.output, FIRST.job().split(b"\n", 1)[1].split(b"PHASE")[0])
 
 
@@ -71,32 +73,32 @@ def no_listing() -> None:
 def listings() -> None:
     """module: the same listing in ASCII with CR, in EBCDIC of both pages, and as records of 121 and 133 bytes"""
     lines = FIRST.listing()
-    wanted = well(module_of(FIRST.bytes(), listing=listing_text(lines))).output
+    wanted = well(module_of(FIRST.text(), listing=listing_text(lines))).output
     ends = "\r\n", b"\x15", b"\x25", b"\x0d\x25"
     texts = ["".join(it + ends[0] for it in lines).encode()]
     texts += [b"".join(ebcdic(it) + end for it in lines) for end in ends[1:]]
     texts += [b"".join(ebcdic(it.ljust(width)) for it in lines) for width in (121, 133)]
     for text in texts:
-        equal(well(module_of(FIRST.bytes(), listing=text)).output, wanted)
+        equal(well(module_of(FIRST.text(), listing=text)).output, wanted)
 
 
 def brackets() -> None:
     """module: brackets of code pages 037 and 1047, and what ASCII lacks"""
     line = ebcdic("* ") + b"\xba\xbb\xad\xbd\x4a"
     text = b"".join(it + b"\x15" for it in [*map(ebcdic, FIRST.listing()), line])
-    equal(well(module_of(FIRST.bytes(), listing=text)).output.splitlines()[-1], b"* [][]?")
+    equal(well(module_of(FIRST.text(), listing=text)).output.splitlines()[-1], b"* [][]?")
 
 
 def long_lines() -> None:
     """module: lines are cut to 150 bytes, and refused where the operation would be cut"""
     first, *rest = FIRST.listing()
     long = f"{rest[0]}  {'remark ' * 30}"
-    lines = well(module_of(FIRST.bytes(), listing=listing_text([first, long, *rest[1:]]))).output.decode().splitlines()
+    lines = well(module_of(FIRST.text(), listing=listing_text([first, long, *rest[1:]]))).output.decode().splitlines()
     equal(lines[4], long[:150])
     far = f"{rest[0][:40]}{' ' * 120}LA 1,5"
-    refused(module_of(FIRST.bytes(), listing=listing_text([first, far])), 2, "listing: line 2", "150")
+    refused(module_of(FIRST.text(), listing=listing_text([first, far])), 2, "listing: line 2", "150")
     blank = f"{rest[0][:40]}{' ' * 120}"
-    equal(well(module_of(FIRST.bytes(), listing=listing_text([first, blank]))).output.splitlines()[4], blank.rstrip().encode())
+    equal(well(module_of(FIRST.text(), listing=listing_text([first, blank]))).output.splitlines()[4], blank.rstrip().encode())
 
 
 def sections() -> None:
@@ -159,6 +161,8 @@ def bad_decks() -> None:
         (record("TXT", {6: b"\0\0\0", 11: b"\0\0"}) + END, "object", "without a section"),
         (esd(1, item("A", SD, 0, 262_146)) + END, "object", "SIZE"),
         (esd(1, item("A", SD, 0, 0)) + END, "object", "0 bytes"),
+        (b"\x03\xf0" + bytes(78), "object", "generalized object file"),
+        ((b"\x02ESD" + b" " * 76) * 2, "object", "translated to ASCII"),
     ]
     for data, place, what in table:
         refused(module_of(data), 2, place, what)
@@ -227,6 +231,7 @@ BAD_REPORTS = [
     (FIRST_REPORT.replace(b"OUT 0", b"OUT 1"), "line 6", "output"),
     (FIRST_REPORT.replace(b"EXECUTED 3", b"EXECUTED 2"), "line 7", "counts"),
     (FIRST_REPORT.replace(b"PLACES 3", b"PLACES x"), "line 7", "module"),
+    (FIRST_REPORT.replace(b"PLACES 3", b"PLACES " + b"9" * 5000), "line 7", "module"),
     (FIRST_REPORT.replace(b": 000004", b"V 000004"), "line 10", "mark V"),
     (FIRST_REPORT.replace(b"    Loc", b":   Loc"), "line 8", "mark"),
     (FIRST_REPORT.replace(b"SESSION", b"SESSIONS"), "line 6", "SESSIONS"),
@@ -238,7 +243,10 @@ class Page(HTMLParser):
 
     def __init__(self, text: str) -> None:
         super().__init__()
-        self.text, self.ids, self.links, self.tags = "", [], [], []
+        self.text = ""
+        self.ids: list[str | None] = []
+        self.links: list[str | None] = []
+        self.tags: list[tuple[str, dict[str, str | None]]] = []
         self.open: list[str] = []
         self.feed(text)
         equal(self.open, [])
@@ -270,7 +278,7 @@ def pages() -> None:
         page = Page(text)
         equal(len(set(page.ids)), len(page.ids))
         for link in page.links:
-            assert link[:1] == "#" and link[1:] in page.ids, link
+            assert link and link[:1] == "#" and link[1:] in page.ids, link
         for line in report.decode().splitlines():
             if re.match(r"[\^:>V& ] ", line):
                 assert line in page.text, line
@@ -309,7 +317,8 @@ def lcov_files() -> None:
     )
     both = COUNTED.report([], "&:", 3)
     went = COUNTED.report([], ">:", 3)
-    for report, counts in ((MARKED, (0, 1, 1, 1, 1, 2)), (went, (1, 0, 1, 1, 1, 2)), (both, (1, 1, 2, 1, 1, 2)), (NOT_RUN, ("-", "-", 0, 0, 0, 0))):
+    ways = [(MARKED, (0, 1, 1, 1, 1, 2)), (went, (1, 0, 1, 1, 1, 2)), (both, (1, 1, 2, 1, 1, 2))]
+    for report, counts in [*ways, (NOT_RUN, ("-", "-", 0, 0, 0, 0))]:
         with folder() as at:
             equal(well(coverage("lcov", "out", data=report, cwd=at)).output, b"")
             equal(sorted(os.listdir(f"{at}/out")), ["M.lst", "coverage.info"])
@@ -328,9 +337,9 @@ def words_and_streams() -> None:
     refused(coverage("page", "x"), 1, "usage: coverage page")
     refused(coverage("lcov"), 1, "usage: coverage lcov")
     refused(coverage("lcov", "a", "b"), 1, "usage: coverage lcov")
-    for command in (["page"], ["lcov", "/dev/null/x"]):
-        refused(coverage(*command, redirect="</"), 5, "standard input")
-        refused(coverage(*command, redirect="<&-"), 5, "standard input")
+    for words in (["page"], ["lcov", "/dev/null/x"]):
+        refused(coverage(*words, redirect="</"), 5, "standard input")
+        refused(coverage(*words, redirect="<&-"), 5, "standard input")
     refused(coverage("page", data=FIRST_REPORT, redirect=">/dev/full"), 6, "standard output")
     refused(coverage("page", data=FIRST_REPORT, redirect=">&-"), 6, "standard output")
     refused(coverage("module", "M", "100000", f"{EXAMPLES}/orders.object", redirect=">/dev/full"), 6, "standard output")
@@ -392,7 +401,8 @@ def palindromes() -> None:
     # No text at all, a blank, a last byte, no letters, unequal.
     branches = ("00001C", "00003A", "000048", "000052", "000066")
     for part, marks in ((one, "V&&VV"), (two, "&&&&>")):
-        equal([re.search(rf"^(.)  {at} ", part, re.M)[1] for at in branches], list(marks))
+        found = dict(re.findall(r"^(?=.  ([0-9A-F]{6}) )(.)", part, re.M))
+        equal("".join(found[at] for at in branches), marks)
 
 
 # what other tools make of it
@@ -400,11 +410,10 @@ def palindromes() -> None:
 
 def tools(tally: Tally) -> None:
     """Runs a browser over a page and genhtml over a tracefile, where they are."""
-    browser = next(filter(None, map(shutil.which, ("chromium", "chromium-browser", "google-chrome"))), None)
+    browser = next((it for name in BROWSERS if (it := shutil.which(name))), None)
     checks: list[Callable[[], None]] = []
     if browser:
-        checks.append(lambda: in_browser(browser))
-        checks[-1].__doc__ = in_browser.__doc__
+        checks.append(functools.partial(in_browser, browser))
     else:
         tally.left_out.append("the page in a browser, since there is no chromium")
     if shutil.which("genhtml"):
@@ -443,8 +452,9 @@ def in_browser(browser: str) -> None:
         with open(f"{at}/page.html", "wb") as file:
             file.write(well(coverage("page", data=example_report("palindrome"))).output)
         for scheme in ("1", "0"):
-            words = ["--headless", "--no-sandbox", "--disable-gpu", f"--user-data-dir={at}/profile", "--window-size=900,600"]
-            words += [f"--blink-settings=preferredColorScheme={scheme}", f"--screenshot={at}/{scheme}.png"]
+            words = ["--headless", "--no-sandbox", "--disable-gpu", "--disable-dev-shm-usage", "--window-size=900,600"]
+            words += [f"--user-data-dir={at}/profile", f"--screenshot={at}/{scheme}.png"]
+            words += [f"--blink-settings=preferredColorScheme={scheme}"]
             equal(run([browser, *words, f"file://{at}/page.html"], cwd=at).status, 0)
             with open(f"{at}/{scheme}.png", "rb") as file:
                 pictures.append(size_of(file.read()))

@@ -37,7 +37,8 @@ def is_quote(text: str, at: int) -> bool:
 
 def split_at(text: str, stops: str, most: int = -1) -> list[str]:
     """The parts of a text between these characters, where they stand outside texts and parentheses."""
-    parts, part, depth, quoted = [], "", 0, False
+    parts: list[str] = []
+    part, depth, quoted = "", 0, False
     for at, it in enumerate(text):
         if it == "'" and (quoted or is_quote(text, at)):
             quoted = not quoted

@@ -49,7 +49,8 @@ class Encoder:
         form, code = OPERATIONS[operation]
         words = split_at(operands, ",") if operands else []
         try:
-            return getattr(self, f"form_{form.lower()}")(code, *words)
+            data: bytes = getattr(self, f"form_{form.lower()}")(code, *words)
+            return data
         except TypeError:
             raise self.refuse(f"{len(words)} operands of {operation}") from None
 

@@ -4,7 +4,7 @@ from __future__ import annotations
 from typing import Iterator
 
 from assembler.constants import Reference
-from assembler.expressions import Section
+from assembler.expressions import Section, Value
 from assembler.operations import OPERATIONS
 from assembler.statements import Assembly, Statement
 
@@ -40,40 +40,51 @@ def externals(assembly: Assembly) -> list[str]:
     return list(dict.fromkeys([*assembly.externals, *referred]))
 
 
+def eight(name: str) -> bytes:
+    """A name as a deck has it."""
+    return name.ljust(8).encode("cp037")
+
+
+def section_number(assembly: Assembly, value: Value) -> int:
+    """The number of the section that an address is in."""
+    return assembly.sections[value.section or ""].number
+
+
 def symbol_items(assembly: Assembly) -> Iterator[tuple[int, bytes]]:
     """The items of the external symbol dictionary, each with its number, 0 of a label."""
-    for it in control_sections(assembly):
-        name = it.name.ljust(8).encode("cp037")
-        yield it.number, name + b"\x00" + it.origin.to_bytes(3, "big") + b"\x00" + it.size.to_bytes(3, "big")
-    for it in externals(assembly):
-        yield number_of(assembly, it, True), it.ljust(8).encode("cp037") + b"\x02" + b"\x40" * 7
-    for it in assembly.entries:
-        value = assembly.symbols[it]
-        address = assembly.shown(value).to_bytes(3, "big")
-        section = assembly.sections[value.section].number.to_bytes(3, "big")
-        yield 0, it.ljust(8).encode("cp037") + b"\x01" + address + b"\x40" + section
+    for section in control_sections(assembly):
+        origin, size = section.origin.to_bytes(3, "big"), section.size.to_bytes(3, "big")
+        yield section.number, eight(section.name) + b"\x00" + origin + b"\x00" + size
+    for name in externals(assembly):
+        yield number_of(assembly, name, True), eight(name) + b"\x02" + b"\x40" * 7
+    for name in assembly.entries:
+        value = assembly.symbols[name]
+        address, number = assembly.number_of(value).to_bytes(3, "big"), section_number(assembly, value).to_bytes(3, "big")
+        yield 0, eight(name) + b"\x01" + address + b"\x40" + number
 
 
 def text_runs(assembly: Assembly) -> Iterator[tuple[int, int, bytes]]:
     """The text as runs of bytes without a gap, each with its section's number and its address."""
-    run: tuple[int, int, bytes] = (0, 0, b"")
-    for statement in sorted((it for it in assembly.statements if it.data), key=lambda it: assembly.shown(it.at)):
-        section, address = assembly.sections[statement.at.section].number, assembly.shown(statement.at)
-        if run[0] == section and run[1] + len(run[2]) == address:
-            run = (section, run[1], run[2] + statement.data)
-            continue
-        yield run
-        run = (section, address, statement.data)
-    yield run
+    with_text = [(it.at, it.data) for it in assembly.statements if it.at and it.data]
+    pieces = [(assembly.number_of(at), section_number(assembly, at), data) for at, data in with_text]
+    begun, section, run = 0, 0, b""
+    for address, number, data in sorted(pieces):
+        if (number, address) != (section, begun + len(run)):
+            yield section, begun, run
+            begun, section, run = address, number, b""
+        run += data
+    yield section, begun, run
 
 
 def constants(assembly: Assembly) -> list[tuple[int, int, int, Reference]]:
     """The address constants: the numbers of what they refer to and of their section, and their address."""
     found = []
     for statement in assembly.statements:
+        if statement.at is None:
+            continue
         for it in statement.references:
-            section, at = assembly.sections[statement.at.section].number, assembly.shown(statement.at) + it.offset
-            found.append((number_of(assembly, it.refers, it.is_external), section, at, it))
+            at = assembly.number_of(statement.at) + it.offset
+            found.append((number_of(assembly, it.refers, it.is_external), section_number(assembly, statement.at), at, it))
     return sorted(found, key=lambda it: it[:3])
 
 

@@ -84,8 +84,9 @@ class Assembly:
         """Gives the statement the next bytes of the section."""
         statement.at = self.here()
         self.define(statement, statement.at, size if length is None else length)
-        self.current.counter += size
-        self.current.size = max(self.current.size, self.current.counter)
+        section = self.sections[statement.at.section or ""]
+        section.counter += size
+        section.size = max(section.size, section.counter)
 
     def define(self, statement: Statement, value: Value, length: int) -> None:
         """Gives the statement's name its value."""
@@ -169,11 +170,13 @@ class Assembly:
             statement.data = encoder.encode(statement.operation, statement.operands)
             statement.first, statement.second = (self.shown(it) for it in (encoder.first, encoder.second))
 
-    def shown(self, value: Optional[Value]) -> Optional[int]:
-        """The number that a listing shows of an address."""
-        if value is None:
-            return None
+    def number_of(self, value: Value) -> int:
+        """The number that a listing shows of a value: of an address, the one that counts on over all sections."""
         return value.number + (self.sections[value.section].origin if value.section else 0)
+
+    def shown(self, value: Optional[Value]) -> Optional[int]:
+        """What a listing shows of a value that it may have."""
+        return None if value is None else self.number_of(value)
 
     def use(self, statement: Statement, values: Evaluator) -> None:
         """Notes which registers have which address."""
