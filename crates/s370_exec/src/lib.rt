@@ -3,7 +3,6 @@
 
 mod calls;
 mod fetch;
-mod group;
 mod instruction;
 mod subject;
 
