@@ -18,7 +18,7 @@ use Rattle.session_book.specs.Results.{ResultView}
 use Rattle.session_book.specs.Sessions.{task_of, no_task, first_state}
 use Rattle.space_map.specs.Space.{memory_of_space, row_of}
 use Rattle.task_run.proofs.RunLemmas.{visits-most}
-use Rattle.task_run.proofs.TraceLemmas.{solo_run-done, solo_run-visits}
+use Rattle.s370_exec.proofs.TraceLemmas.{solo_run-done, solo_run-visits}
 use Rattle.job_run.specs.Runs.{run_of, trace_of, result_of, result_of_run}
 use Rattle.job_run.specs.Slots.{dones, in_phase}
 use Rattle.job_run.specs.Tasks.{IsBegun, IsEnded, AreRun, has_run, done_result, no_result, results_of, own_run}

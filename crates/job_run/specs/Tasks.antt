@@ -1,10 +1,9 @@
 -- The tasks of a job before and after they have run.
 use Rattle.std.specs.Prelude.{◌≡◌, ℕ, ◌<◌, Bool, true, false, nat_lt, None, List, [], length, get_or, map}
-use Rattle.s370_exec.specs.Solo.{Run, solo_run}
+use Rattle.s370_exec.specs.Solo.{Run, state_of, solo_run}
 use Rattle.module_area.specs.declared.places.Place.{Place}
 use Rattle.brk_table.specs.Places.{AreSeen, memory_of}
 use Rattle.space_map.specs.Space.{memory_of_space}
-use Rattle.svc_monitor.specs.Observed.{state_of}
 use Rattle.session_book.specs.JobView.{JobView}
 use Rattle.session_book.specs.Results.{ResultView}
 use Rattle.session_book.specs.Sessions.{task_of, first_state}

@@ -1,4 +1,3 @@
 pub mod CountLemmas
 pub mod RunLemmas
 pub mod SetLemmas
-pub mod TraceLemmas

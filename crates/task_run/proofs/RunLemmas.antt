@@ -13,7 +13,7 @@ use Rattle.module_area.specs.Executions.{is_place, visits_at_places}
 use Rattle.module_area.specs.declared.places.Place.{Place}
 use Rattle.svc_monitor.specs.Observed.{Observes}
 use Rattle.svc_monitor.proofs.ObservedLemmas.{Observes-none, Observes-append}
-use Rattle.task_run.proofs.TraceLemmas.{solo_step-visits}
+use Rattle.s370_exec.proofs.TraceLemmas.{solo_step-visits}
 
 -- i instructions of the run have led to this state, and the pass has observed them
 pub record HasRun (m : Memory) (plan : PlanView) (old new : Notes) (budget : ℕ) (first : State) (i : ℕ) (now : State) : Type 0 where

@@ -1,7 +1,6 @@
 use Rattle.std.proofs.Common.{ℕ, ◌+◌, arith, refl, sym, ◌∙◌}
 use Rattle.s370_state.specs.declared.endings.Ending.TheVariants.{Returned, Spent}
-use Rattle.s370_exec.specs.Solo.{solo_run}
-use Rattle.svc_monitor.specs.Observed.{state_of}
+use Rattle.s370_exec.specs.Solo.{state_of, solo_run}
 use Rattle.task_run.proofs.RunLemmas.{IsRun, HasRun-more, HasRun-calls, IsRun-ended, IsRun-returned, IsRun-spent}
 use Rattle.task_run.proofs.run.run_task.Given as given
 use Rattle.task_run.proofs.run.run_task.Goals as goal

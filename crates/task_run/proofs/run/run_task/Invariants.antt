@@ -1,5 +1,5 @@
 use Rattle.std.proofs.Common.{◌≡◌}
-use Rattle.svc_monitor.specs.Observed.{state_of}
+use Rattle.s370_exec.specs.Solo.{state_of}
 use Rattle.task_run.proofs.RunLemmas.{HasRun}
 use Rattle.task_run.proofs.run.run_task.Given as goal
 
