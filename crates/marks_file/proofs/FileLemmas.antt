@@ -7,7 +7,8 @@ use Rattle.std.proofs.lemmas.List.{drop-drop, take-append-drop}
 use Rattle.std.proofs.Math.Seq.{drop-append_seam, take-length}
 use Rattle.byteorder.specs.Endian.{big_number}
 use Rattle.byteorder.specs.Numbers.{big_number-reads_back}
-use Rattle.marks_file.specs.Marks.{MarkedView, is_new_name, is_base, is_size, is_count, is_module, are_modules, is_module_count, are_marks, place_count, is_filled}
+use Rattle.cov_base.specs.Names.{is_filled}
+use Rattle.marks_file.specs.Marks.{MarkedView, is_new_name, is_base, is_size, is_count, is_module, are_modules, is_module_count, are_marks, place_count}
 use Rattle.marks_file.specs.MarksFile.{place_bytes, module_row, module_bytes, magic, file_bytes}
 use Rattle.marks_file.specs.Reading.{IsFault, first_bad, places_at, places_fields, header_fields, module_fields, module_at, modules_at, modules_fields, module_size, count_at, file_fields, marks_at}
 use Rattle.marks_file.specs.declared.marks.MarkedPlace.{MarkedPlace}

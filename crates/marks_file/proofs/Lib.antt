@@ -1,6 +1,4 @@
-pub mod WriteLemmas
 pub mod MarksLemmas
-pub mod NameLemmas
 pub mod FieldLemmas
 pub mod SpellLemmas
 pub mod LoopLemmas

@@ -3,8 +3,8 @@ use Rattle.std.proofs.Common.{◌≡◌, ℕ, ◌+◌, ◌≤◌, zero, suc, Boo
 use Rattle.std.specs.Str.{bytes_eq}
 use Rattle.std.proofs.lemmas.Bool.Decides.{nat_tests}
 use Rattle.std.proofs.lemmas.Slice.Eq.{bytes_eq-Decides}
-use Rattle.cov_base.specs.Names.{is_name, padded, unpadded}
-use Rattle.marks_file.specs.Marks.{MarkedView, HasRow, is_filled, is_new_name, is_base, is_size, is_count, is_module, are_modules, is_module_count, are_marks, place_count}
+use Rattle.cov_base.specs.Names.{is_name, padded, unpadded, is_filled}
+use Rattle.marks_file.specs.Marks.{MarkedView, HasRow, is_new_name, is_base, is_size, is_count, is_module, are_modules, is_module_count, are_marks, place_count}
 
 pub both-left : (a b : Bool) → (a && b) ≡ true → a ≡ true
 both-left true b h = refl

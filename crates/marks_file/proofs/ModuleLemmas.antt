@@ -7,8 +7,8 @@ use Rattle.std.proofs.lemmas.List.{drop-drop, take-append-drop, length-replicate
 use Rattle.std.proofs.Math.Seq.{take-append_seam}
 use Rattle.byteorder.specs.Endian.{big_number, big_bytes}
 use Rattle.byteorder.specs.Numbers.{big_number-reads_back}
-use Rattle.cov_base.specs.Names.{is_name, is_letter, is_name_byte, padded, unpadded}
-use Rattle.marks_file.specs.Marks.{MarkedView, is_filled, is_count, is_module, are_modules, is_module_count, are_marks, place_count}
+use Rattle.cov_base.specs.Names.{is_name, is_letter, is_name_byte, padded, unpadded, is_filled}
+use Rattle.marks_file.specs.Marks.{MarkedView, is_count, is_module, are_modules, is_module_count, are_marks, place_count}
 use Rattle.marks_file.specs.MarksFile.{place_bytes, module_row, module_bytes, magic, file_bytes}
 use Rattle.marks_file.specs.Reading.{first_bad, field, places_at, places_fields, header_fields, module_fields, module_at, modules_at, modules_fields, module_size, count_at, file_fields, marks_at}
 use Rattle.marks_file.proofs.MarksLemmas.{both-left, both-right, both, le_of_test, same_bytes, filled_name}

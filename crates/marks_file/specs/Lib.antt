@@ -1,4 +1,3 @@
 pub mod Marks
 pub mod MarksFile
 pub mod Reading
-pub mod Writes

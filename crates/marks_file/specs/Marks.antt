@@ -5,7 +5,7 @@ use Rattle.std.specs.Str.{bytes_eq}
 use Rattle.cov_base.specs.Codes.{length_of, kind_of, breakpoint}
 use Rattle.cov_base.specs.FactSet.{facts_of_number, number_of_facts}
 use Rattle.cov_base.specs.Facts.{is_within}
-use Rattle.cov_base.specs.Names.{is_name, padded, unpadded}
+use Rattle.cov_base.specs.Names.{is_filled, padded, unpadded}
 use Rattle.cov_base.specs.declared.facts.Kind.{Kind}
 use Rattle.cov_base.specs.declared.facts.Kind.TheVariants.{Straight, Conditional}
 use Rattle.marks_file.specs.declared.marks.MarkedPlace.{MarkedPlace}
@@ -52,9 +52,6 @@ are_places size end [] = true
 are_places size end (p ∷ ps) = is_place size end p && are_places size (end_of p) ps
 
 -- name: one filled with blanks, other than the earlier modules'
-abbrev pub is_filled : List ℕ → Bool
-is_filled field = is_name (unpadded field) && bytes_eq (padded (unpadded field)) field
-
 unfoldable pub is_new_name : List MarkedView → List ℕ → Bool
 is_new_name earlier field = is_filled field && not (list_any (λ (m : MarkedView). bytes_eq m.name field) earlier)
 

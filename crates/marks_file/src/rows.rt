@@ -4,7 +4,6 @@ ghost use Rattle.marks_file.specs.Marks.{HasRow};
 ghost use Rattle.marks_file.specs.MarksFile.{module_row, place_row, place_bytes};
 
 use crate::marks::{MarkedModule, MarkedPlace};
-use crate::names::filled;
 use crate::numbers::{kind_number, number_of_set};
 use byteorder::{BigEndian, ByteOrder};
 
@@ -39,6 +38,6 @@ pub fn module_row(marked: &MarkedModule) -> [u8; 20]
     BigEndian::write_u32(&mut row[8..], marked.base);
     BigEndian::write_u32(&mut row[12..], marked.size);
     BigEndian::write_u32(&mut row[16..], marked.places.len() as u32);
-    row[..8].copy_from_slice(&filled(marked.name.bytes()));
+    row[..8].copy_from_slice(&marked.name.filled());
     row
 }

@@ -6,7 +6,7 @@ ghost use Rattle.marks_file.specs.Marks.{is_location, is_length, is_original, is
 
 use crate::marks::MarkedModule;
 use crate::numbers::{kind_number, set_of_number};
-use cov_base::{Fact, Kind};
+use cov_base::{BREAKPOINT, Fact, Kind};
 use s370_decode::{kind, length};
 
 /// Whether the location is even, below the size, and at or past the end of the place before.
@@ -30,7 +30,7 @@ pub fn is_length(size: u32, at: u32, len: u8) -> bool
 pub fn is_original(len: u8, of_kind: Kind, half: u16) -> bool
     ensures { result ≡ is_original len of_kind half }
 {
-    length(half) == len && kind_number(kind(half)) == kind_number(of_kind) && half != 0x0AFF
+    length(half) == len && kind_number(kind(half)) == kind_number(of_kind) && half != BREAKPOINT
 }
 
 /// Whether the number is a set of facts of the kind.

@@ -1,33 +1,22 @@
 //! Writes marks files.
-ghost use Rattle.std.specs.Prelude.{◌≡◌, ℕ, ◌<◌, ◌^◌, ◌++◌, length, OnOk, OnErr, true, All};
-ghost use Rattle.std.specs.Io.KnownBytes.{Appends};
+ghost use Rattle.std.specs.Prelude.{◌≡◌, ℕ, ◌<◌, ◌^◌, ◌++◌, length, All};
 ghost use Rattle.std.specs.List.{flat_map};
 ghost use Rattle.byteorder.specs.Endian.{big_bytes};
-ghost use Rattle.cov_base.specs.Names.{padded, unpadded};
-ghost use Rattle.cov_outside.specs.Causes.{HasCause};
-ghost use Rattle.cov_outside.specs.Whole.{AppendsSome};
-ghost use Rattle.marks_file.specs.Marks.{are_marks, HasRow};
+ghost use Rattle.cov_outside.specs.Writes.{Writes};
+ghost use Rattle.marks_file.specs.Marks.{HasRow};
 ghost use Rattle.marks_file.specs.MarksFile.{place_bytes, module_bytes, file_bytes, magic};
-ghost use Rattle.marks_file.specs.Writes.{Writes};
 
 use crate::marks::{MarkedModule, MarkedPlace, Marks};
 use crate::rows::{module_row, place_bytes};
 use byteorder::{BigEndian, ByteOrder};
 use cov_outside::{Failed, Sink, write_all};
 
-/// Writes a piece.
-fn put<K: Sink>(sink: &mut K, piece: &[u8]) -> Result<(), Failed>
-    ensures { Writes (K.written sink.old) (K.written sink.new) (K.faults sink.old) (K.faults sink.new) result piece.now }
-{
-    write_all(sink, piece)
-}
-
 /// The places of a module.
 fn write_places<K: Sink>(sink: &mut K, places: &[MarkedPlace]) -> Result<(), Failed>
-    ensures { Writes (K.written sink.old) (K.written sink.new) (K.faults sink.old) (K.faults sink.new) result (flat_map place_bytes places.now) }
+    ensures { Writes K.written K.faults sink.old sink.new result (flat_map place_bytes places.now) }
 {
     for i in 0..places.len() {
-        put(sink, &place_bytes(&places[i]))?;
+        write_all(sink, &place_bytes(&places[i]))?;
     }
     Ok(())
 }
@@ -35,16 +24,16 @@ fn write_places<K: Sink>(sink: &mut K, places: &[MarkedPlace]) -> Result<(), Fai
 /// A module and its places.
 fn write_module<K: Sink>(sink: &mut K, marked: &MarkedModule) -> Result<(), Failed>
     requires { HasRow marked.now }
-    ensures { Writes (K.written sink.old) (K.written sink.new) (K.faults sink.old) (K.faults sink.new) result (module_bytes marked.now) }
+    ensures { Writes K.written K.faults sink.old sink.new result (module_bytes marked.now) }
 {
-    put(sink, &module_row(marked))?;
+    write_all(sink, &module_row(marked))?;
     write_places(sink, &marked.places)
 }
 
 /// The modules.
 fn write_modules<K: Sink>(sink: &mut K, modules: &[MarkedModule]) -> Result<(), Failed>
     requires { All HasRow modules.now }
-    ensures { Writes (K.written sink.old) (K.written sink.new) (K.faults sink.old) (K.faults sink.new) result (flat_map module_bytes modules.now) }
+    ensures { Writes K.written K.faults sink.old sink.new result (flat_map module_bytes modules.now) }
 {
     for i in 0..modules.len() {
         write_module(sink, &modules[i])?;
@@ -65,18 +54,16 @@ fn head(count: u16) -> [u8; 10]
 fn write_file<K: Sink>(sink: &mut K, modules: &[MarkedModule]) -> Result<(), Failed>
     requires rows { All HasRow modules.now }
     requires count { length modules.now < 2 ^ 16 }
-    ensures { Writes (K.written sink.old) (K.written sink.new) (K.faults sink.old) (K.faults sink.new) result (file_bytes modules.now) }
+    ensures { Writes K.written K.faults sink.old sink.new result (file_bytes modules.now) }
 {
-    put(sink, &head(modules.len() as u16))?;
+    write_all(sink, &head(modules.len() as u16))?;
     write_modules(sink, modules)
 }
 
 /// Writes the marks file of these modules, record by record. Failed only where the sink's count of faults rose; the
 /// sink has then taken a first part of the file. Takes no memory.
 pub fn write<K: Sink>(sink: &mut K, m: &Marks) -> Result<(), Failed>
-    ensures whole { OnOk result (Appends (K.written sink.old) (K.written sink.new) (file_bytes m.now)) }
-    ensures some { OnErr result (AppendsSome (K.written sink.old) (K.written sink.new) (file_bytes m.now)) }
-    ensures cause { HasCause (K.faults sink.old) (K.faults sink.new) result }
+    ensures { Writes K.written K.faults sink.old sink.new result (file_bytes m.now) }
 {
     write_file(sink, &m.modules)
 }

@@ -8,7 +8,8 @@ use Rattle.cov_base.specs.Facts.{union, is_within}
 use Rattle.cov_base.specs.FactSet.{FactSet, facts_of_number, number_of_facts}
 use Rattle.cov_base.specs.declared.facts.Kind.{Kind}
 use Rattle.cov_base.specs.declared.facts.Kind.TheVariants.{Straight, Conditional}
-use Rattle.marks_file.specs.Marks.{MarkedView, kind_number, is_location, is_length, is_original, is_set, is_place, are_places, end_of, is_filled, is_new_name, is_base, is_clear, is_size, is_count, place_count, is_module, are_modules, is_module_count, are_marks}
+use Rattle.cov_base.specs.Names.{is_filled}
+use Rattle.marks_file.specs.Marks.{MarkedView, kind_number, is_location, is_length, is_original, is_set, is_place, are_places, end_of, is_new_name, is_base, is_clear, is_size, is_count, place_count, is_module, are_modules, is_module_count, are_marks}
 use Rattle.marks_file.specs.MarksFile.{place_row, module_row, module_rows, rows}
 use Rattle.marks_file.specs.declared.marks.MarkedPlace.{MarkedPlace}
 use Rattle.marks_file.proofs.MarksLemmas.{both-left, both-right, both, le_of_test}
