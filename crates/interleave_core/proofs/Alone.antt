@@ -10,7 +10,7 @@ use Rattle.s370_state.specs.declared.endings.Ending.TheVariants.{Returned, Spent
 use Rattle.s370_state.specs.declared.endings.Next.{Next}
 use Rattle.s370_state.specs.declared.endings.Next.TheVariants.{On, Ended as NextEnded}
 use Rattle.s370_exec.specs.Solo.{Run, Step, solo_run, solo_step, run_on, run_after, run_ended, has_returned}
-use Rattle.task_run.proofs.TraceLemmas.{solo_step-done}
+use Rattle.s370_exec.proofs.TraceLemmas.{solo_step-done}
 use Rattle.session_book.specs.Sessions.{task_of, no_task, first_state}
 use Rattle.interleave_core.specs.World.{World, TaskPart, Parts, part_of, no_part, memory_in, budget_in, first_parts, first_part, place_at}
 use Rattle.interleave_core.specs.Steps.{Stepped, parts_step, fetch_step, fetched, mark_step, marked, lift_step, lifted, do_step, done_by, may_plant, breakpoint_of, with_cell, with_due, original_under, same_cell, in_hand, with_stage, step_of, is_spent, executed, stage_after, place_due, task_done, subject_place, subject_executed, instruction_executed, awaits_or, unless_at, same_due}

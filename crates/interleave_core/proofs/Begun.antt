@@ -7,25 +7,23 @@ use Rattle.cov_base.specs.Codes.{length_of}
 use Rattle.cov_base.specs.Memory.{Memory, ImageView, can_reach, half_at, wrap}
 use Rattle.cov_base.specs.States.{State, Visit}
 use Rattle.s370_state.specs.declared.endings.Ending.{Ending}
+use Rattle.s370_state.specs.declared.endings.Ending.TheVariants.{Abend}
 use Rattle.s370_decode.specs.Fields.{first_half, ex}
 use Rattle.s370_decode.specs.Table.{op_of}
 use Rattle.s370_decode.specs.declared.code.Code.{Code}
 use Rattle.s370_branch.specs.Branch.{goes}
 use Rattle.s370_exec.specs.Effects.{Effect, effect, updated, link_code}
-use Rattle.s370_exec.specs.Fetch.{later, or_ending, rest_tests, is_execute, code_at, merged}
-use Rattle.s370_exec.specs.Solo.{Step, solo_step, ended, visit, subject_step}
+use Rattle.s370_exec.specs.Fetch.{later, or_ending, first_tests, rest_tests, whole_tests, subject_tests, is_execute, code_at, merged}
+use Rattle.s370_exec.specs.Solo.{Step, solo_step, ended, visit, subject_step, no_visit}
 use Rattle.module_area.specs.PlanView.{place_of, no_place, original_at}
 use Rattle.module_area.specs.declared.places.Place.{Place}
 use Rattle.brk_table.specs.Places.{IsPlace, ArePlaces, AreApart, IsIn, touches, memory_of}
 use Rattle.space_map.proofs.Ranges.{reach_image}
 use Rattle.space_map.proofs.Seen.{is_image-of}
-use Rattle.svc_monitor.specs.First.{first_tests}
-use Rattle.svc_monitor.proofs.StepLemmas.{subject_step-refused, subject_step-execute, subject_step-rest_refused, subject_step-begun}
+use Rattle.s370_exec.proofs.StepLemmas.{solo_step-unread, solo_step-read, solo_step-ex, subject_step-refused, subject_step-unread, subject_step-begun}
 use Rattle.interleave_core.specs.World.{World, IsWorld, TaskPart, memory_in, plan_in, place_at}
-use Rattle.interleave_core.specs.Steps.{step_of, subject_place, no_visit}
-use Rattle.interleave_core.specs.Reads.{whole_tests}
+use Rattle.interleave_core.specs.Steps.{step_of, subject_place}
 use Rattle.interleave_core.proofs.Logs.{found_at, at_place}
-use Rattle.interleave_core.proofs.ReadLemmas.{solo_step-unread, solo_step-read, solo_step-ex}
 
 abbrev IsSize : ℕ → Type 0
 IsSize n = (n ≡ 2) ⊎ ((n ≡ 4) ⊎ (n ≡ 6))
@@ -188,14 +186,17 @@ subject_first w t p s c v None world there tests h = read (ex s.machine.cpu c) (
         let same : half ≡ original_at (plan_in w) p = is ∙ half_of_place w t a p s.machine.bytes world there found in
         subst (λ (x : Step). SubjectBegun w p (v ∷ x.visits)) (sym step) (begun ∙ ap (λ (n : ℕ). not (is_execute n)) same)
 
+    by_execute : (a half : ℕ) (b : Bool) → is_execute half ≡ b → subject_tests m a half ≡ (if b then Some (Abend 3) else rest_tests m a (length_of half))
+    by_execute a half b x = ap (λ (c : Bool). if c then Some (Abend 3) else rest_tests m a (length_of half)) x
+
     tested : (a half : ℕ) (rest : Option Ending) → a ≡ ex s.machine.cpu c → half ≡ half_at m s.machine.bytes a → first_tests m a ≡ None → is_execute half ≡ false → rest_tests m a (length_of half) ≡ rest →
         subject_place w (v ∷ (subject_step m s c).visits) ≡ Some p → SubjectBegun w p (v ∷ (subject_step m s c).visits)
     tested a half None is is_half pass other rest k =
         let x : Code = merged s.machine.cpu c (code_at m s.machine.bytes a half) in
         let e : Effect = effect m s.machine s.io x (op_of (first_half x)) (updated x (Some c.at)) (link_code x (Some c.at)) in
-        by_step _ a half (subject_step-begun m s c a half (code_at m s.machine.bytes a half) x e is pass is_half other rest refl refl refl) refl is_half (ap not (sym other)) k
+        by_step _ a half (subject_step-begun m s c a half x e is pass is_half (by_execute a half false other ∙ rest) refl refl) refl is_half (ap not (sym other)) k
     tested a half (Some e) is is_half pass other rest k =
-        let step : subject_step m s c ≡ ended s e (visit s a false false true ∷ []) = subject_step-rest_refused m s c a half e is pass is_half other rest in
+        let step : subject_step m s c ≡ ended s e (visit s a false false true ∷ []) = subject_step-unread m s c a half e is pass is_half (by_execute a half false other ∙ rest) in
         let found : place_at w a ≡ Some p = subst (λ (r : Step). subject_place w (v ∷ r.visits) ≡ Some p) step k in
         let fine : rest_tests m a (length_of half) ≡ None = ap (λ (n : ℕ). rest_tests m a (length_of n)) is_half ∙ rest_read w t a p s.machine.bytes world there found in
         let no : Some e ≡ None = sym rest ∙ fine in
@@ -203,7 +204,7 @@ subject_first w t p s c v None world there tests h = read (ex s.machine.cpu c) (
 
     read : (a half : ℕ) → a ≡ ex s.machine.cpu c → half ≡ half_at m s.machine.bytes a → first_tests m a ≡ None → (b : Bool) → is_execute half ≡ b → subject_place w (v ∷ (subject_step m s c).visits) ≡ Some p →
         SubjectBegun w p (v ∷ (subject_step m s c).visits)
-    read a half is is_half pass true execute k = by_step _ a half (subject_step-execute m s c a half is pass is_half execute) refl is_half (ap not (sym execute)) k
+    read a half is is_half pass true execute k = by_step _ a half (subject_step-unread m s c a half (Abend 3) is pass is_half (by_execute a half true execute)) refl is_half (ap not (sym execute)) k
     read a half is is_half pass false other k = tested a half (rest_tests m a (length_of half)) is is_half pass other refl k
 
 -- an instruction that visits a subject at all is an EX that was read whole

@@ -6,7 +6,7 @@ use Rattle.module_area.specs.PlanView.{place_of}
 use Rattle.module_area.specs.Executions.{is_place}
 use Rattle.module_area.specs.declared.places.Place.{Place}
 use Rattle.brk_table.specs.Places.{ArePlaces}
-use Rattle.svc_monitor.proofs.PlaceLemmas.{one_begins}
+use Rattle.brk_table.proofs.PlaceLemmas.{one_begins}
 use Rattle.interleave_core.specs.World.{place_from}
 
 same : (a b : ℕ) → a ≡ b → (a == b) ≡ true

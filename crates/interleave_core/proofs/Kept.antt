@@ -6,7 +6,7 @@ use Rattle.std.proofs.lemmas.List.{get_or-map, get_or-set_other, length-set, len
 use Rattle.cov_base.specs.Codes.{breakpoint}
 use Rattle.cov_base.specs.FactSet.{FactSet}
 use Rattle.cov_base.specs.declared.numbers.PlaceNo.{PlaceNo as Number}
-use Rattle.s370_exec.specs.Solo.{has_returned}
+use Rattle.s370_exec.specs.Solo.{has_returned, visit_of}
 use Rattle.s370_state.specs.declared.endings.Ending.TheVariants.{Returned, Spent}
 use Rattle.s370_state.specs.declared.endings.Next.{Next}
 use Rattle.s370_state.specs.declared.endings.Next.TheVariants.{On, Ended as NextEnded}
@@ -19,7 +19,7 @@ use Rattle.module_area.specs.PlainWords.{IsWord, word_at, no_cell, set_in, index
 use Rattle.module_area.specs.PlanView.{PlanView, IsPlan, kind_at, window_at, original_at}
 use Rattle.module_area.specs.declared.cells.Cell.{Cell}
 use Rattle.interleave_core.specs.World.{World, TaskPart, Parts, plan_in, place_at, part_of, no_part}
-use Rattle.interleave_core.specs.Steps.{Stepped, of_task, with_task, with_stage, with_due, with_set, with_cell, place_due, is_spent, is_awaiting, subject_place, step_of, visit_of, due_after_fetch, in_hand, same_due, fetched, fetch_step, marked, mark_step, lifted, lift_step, done_by, do_step, task_done, set_of, fact_in, original_under, same_cell, hand_at, executed, subject_executed, stage_after, awaits_or, unless_at, instruction_executed}
+use Rattle.interleave_core.specs.Steps.{Stepped, of_task, with_task, with_stage, with_due, with_set, with_cell, place_due, is_spent, is_awaiting, subject_place, step_of, due_after_fetch, in_hand, same_due, fetched, fetch_step, marked, mark_step, lifted, lift_step, done_by, do_step, task_done, set_of, fact_in, original_under, same_cell, hand_at, executed, subject_executed, stage_after, awaits_or, unless_at, instruction_executed}
 use Rattle.interleave_core.specs.Views.{RunningView, IsRunning, IsStage, IsHand, IsCore, parts_of}
 use Rattle.interleave_core.specs.declared.events.Shown.{Shown}
 use Rattle.interleave_core.specs.declared.events.Shown.TheVariants.{Fetched, Marked, Lifted, Done}
@@ -69,7 +69,7 @@ pub same_read : (tasks : List RunningView) (t : ℕ) (r m : RunningView) → t <
 same_read tasks t r m lt a b = a ∙ (get_or_default tasks t r m lt ∙ sym b)
 
 with_running : (w : World) (t : ℕ) (m r : RunningView) (s : Stage) → r ≡ record m { part = with_stage m.part s } → IsRunning w t m → IsRunning w t r
-with_running w t m r s e is = subst (λ (x : RunningView). IsRunning w t x) (sym e) (record { memory = is.memory; bytes = is.bytes; filled = is.filled; budget = is.budget; seen = is.seen })
+with_running w t m r s e is = subst (λ (x : RunningView). IsRunning w t x) (sym e) (record { memory = is.memory; bytes = is.bytes; budget = is.budget; seen = is.seen })
 
 -- a task with a cell in hand
 pub held_core : (w : World) (cells : List Cell) (sets : List FactSet) (plan : PlanView) (tasks : List RunningView) (t : ℕ) (m r : RunningView) (h : Hand) →

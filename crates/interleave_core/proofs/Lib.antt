@@ -1,6 +1,8 @@
 pub mod Alone
 pub mod Finds
 pub mod Follows
+pub mod GoingLemmas
+pub mod GoneLemmas
 pub mod Kept
 pub mod Logs
 pub mod Begun
@@ -8,7 +10,6 @@ pub mod Ruled
 pub mod Exact
 pub mod Whole
 pub mod Nexts
-pub mod ReadLemmas
 pub mod RunningLemmas
 pub mod Runs
 pub mod Starts

@@ -9,20 +9,19 @@ use Rattle.s370_decode.specs.Fields.{first_half}
 use Rattle.s370_decode.specs.Table.{op_of}
 use Rattle.s370_decode.specs.declared.code.Code.{Code}
 use Rattle.s370_exec.specs.Effects.{effect, updated, link_code}
-use Rattle.s370_exec.specs.Fetch.{is_execute, code_at, rest_tests, or_ending}
-use Rattle.s370_exec.specs.Solo.{Run, Step, solo_run, solo_step, ended, visit, behind, subject_step}
-use Rattle.task_run.proofs.TraceLemmas.{solo_step-visits}
+use Rattle.s370_exec.specs.Fetch.{is_execute, code_at, first_tests, rest_tests, whole_tests, or_ending}
+use Rattle.s370_exec.specs.Solo.{Run, Step, solo_run, solo_step, ended, visit, behind, subject_step, no_visit}
+use Rattle.s370_exec.proofs.TraceLemmas.{solo_step-visits}
 use Rattle.module_area.specs.PlanView.{place_of}
 use Rattle.module_area.specs.declared.places.Place.{Place}
 use Rattle.brk_table.specs.Places.{ArePlaces, IsPlace, AreSeen}
-use Rattle.svc_monitor.specs.First.{first_tests}
 use Rattle.cov_base.specs.Codes.{length_of}
 use Rattle.cov_base.specs.FactSet.{FactSet}
 use Rattle.s370_exec.specs.Solo.{has_returned}
 use Rattle.module_area.specs.declared.cells.Cell.{Cell}
-use Rattle.svc_monitor.proofs.StepLemmas.{solo_step-rest_refused}
+use Rattle.s370_exec.proofs.StepLemmas.{solo_step-rest_refused, solo_step-unread, solo_step-read, solo_step-ex}
 use Rattle.interleave_core.specs.World.{World, IsWorld, TaskPart, Parts, part_of, memory_in, budget_in, place_at, place_from, no_part, first_part}
-use Rattle.interleave_core.specs.Steps.{Stepped, parts_step, fetch_step, fetched, mark_step, marked, lift_step, lifted, do_step, done_by, may_plant, breakpoint_of, with_cell, with_due, original_under, same_cell, in_hand, subject_place, no_visit, step_of, place_due, is_awaiting, is_spent, executed, stage_after, awaits_or, with_stage, unless_at, instruction_executed, subject_executed, task_done, same_due, hand_at, set_of}
+use Rattle.interleave_core.specs.Steps.{Stepped, parts_step, fetch_step, fetched, mark_step, marked, lift_step, lifted, do_step, done_by, may_plant, breakpoint_of, with_cell, with_due, original_under, same_cell, in_hand, subject_place, step_of, place_due, is_awaiting, is_spent, executed, stage_after, awaits_or, with_stage, unless_at, instruction_executed, subject_executed, task_done, same_due, hand_at, set_of}
 use Rattle.interleave_core.specs.Entries.{Entry}
 use Rattle.interleave_core.specs.Core.{CoreState, CoreStepped, core_start, core_step, core_after, core_from, core_run, log_after}
 use Rattle.interleave_core.specs.Alone.{alone}
@@ -46,9 +45,7 @@ use Rattle.std.proofs.lemmas.Grind.{get_or-set_at}
 use Rattle.interleave_core.specs.declared.stage.Due.{Due}
 use Rattle.interleave_core.specs.declared.stage.Stage.{Stage}
 use Rattle.interleave_core.specs.declared.stage.Stage.TheVariants.{Ready, Awaiting, Holding, Ended}
-use Rattle.interleave_core.specs.Reads.{whole_tests}
 use Rattle.interleave_core.specs.Logs.{Noted, note, noted, fact_at, logged, first_visit, visits_in_hand, HasLog, HaveLogs}
-use Rattle.interleave_core.proofs.ReadLemmas.{solo_step-unread, solo_step-read, solo_step-ex}
 
 pub noted-append : (w : World) (a b : List Visit) → noted w (a ++ b) ≡ noted w a ++ noted w b
 noted-append w [] b = refl

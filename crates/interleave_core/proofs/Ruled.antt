@@ -18,7 +18,7 @@ use Rattle.s370_state.specs.declared.endings.Ending.TheVariants.{Returned, Spent
 use Rattle.s370_state.specs.declared.endings.Next.{Next}
 use Rattle.s370_state.specs.declared.endings.Next.TheVariants.{On, Ended as NextEnded}
 use Rattle.s370_exec.specs.Fetch.{is_execute}
-use Rattle.s370_exec.specs.Solo.{has_returned}
+use Rattle.s370_exec.specs.Solo.{has_returned, visit_of}
 use Rattle.module_area.specs.FreshWords.{fresh_word}
 use Rattle.module_area.specs.Held.{planted, untouched, lifted as lifted_cell, IsForm, Keeps, KeepsAs, Held}
 use Rattle.module_area.specs.Parties.{Has, session_of, window_tag, is_breakpoint, blank, fetching, marking, lifting, planting, giving, newcomer, last_tag}
@@ -36,7 +36,7 @@ use Rattle.module_area.proofs.PartyLemmas.{here-add_if}
 use Rattle.module_area.proofs.StepLemmas.{breakpoint_form, fetches, marks, lifts, plants, spent_not_root, spent_not_task}
 use Rattle.session_book.specs.Sessions.{task_of, no_task}
 use Rattle.interleave_core.specs.World.{World, IsWorld, TaskPart, Parts, part_of, plan_in, place_at, first_parts, first_part, no_part}
-use Rattle.interleave_core.specs.Steps.{Stepped, parts_step, fetch_step, fetched, mark_step, marked, lift_step, lifted, do_step, done_by, may_plant, breakpoint_of, with_cell, with_due, with_stage, original_under, same_cell, same_due, in_hand, hand_at, subject_place, step_of, visit_of, place_due, is_awaiting, is_spent, due_after_fetch, executed, stage_after, awaits_or, unless_at, instruction_executed, subject_executed, task_done, set_of, fact_in}
+use Rattle.interleave_core.specs.Steps.{Stepped, parts_step, fetch_step, fetched, mark_step, marked, lift_step, lifted, do_step, done_by, may_plant, breakpoint_of, with_cell, with_due, with_stage, original_under, same_cell, same_due, in_hand, hand_at, subject_place, step_of, place_due, is_awaiting, is_spent, due_after_fetch, executed, stage_after, awaits_or, unless_at, instruction_executed, subject_executed, task_done, set_of, fact_in}
 use Rattle.interleave_core.specs.Core.{CoreState, CoreStepped, core_start, core_step, core_after, core_from, core_run, log_after, entry_of}
 use Rattle.interleave_core.specs.Entries.{Entry}
 use Rattle.interleave_core.specs.Parties.{with_mark, with_lift, with_notes, task_view, task_views, numbers, first_planter, planted_by, planter_from, KeepRule}

@@ -1,9 +1,9 @@
 -- A task of a core: the subject that its step visits.
 use Rattle.std.proofs.Common.{◌≡◌, ℕ, Bool, true, false, Option, Some, None, List, [], ◌∷◌, refl, sym, ◌∙◌, ap}
 use Rattle.cov_base.specs.States.{Visit}
+use Rattle.s370_exec.specs.Solo.{subject_seen}
 use Rattle.interleave_core.specs.World.{World, place_at}
 use Rattle.interleave_core.specs.Steps.{subject_place}
-use Rattle.interleave_core.specs.Views.{subject_seen}
 
 abbrev at_of : Option (ℕ × Bool) → ℕ
 at_of None = 0

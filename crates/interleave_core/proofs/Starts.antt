@@ -4,23 +4,18 @@ use Rattle.std.proofs.lemmas.List.{get_or-map, length-map, length-append, ext_ge
 use Rattle.std.proofs.lemmas.Bool.Decides.{nat_tests}
 use Rattle.cov_base.specs.FactSet.{FactSet}
 use Rattle.cov_base.specs.Facts.{no_facts}
-use Rattle.cov_base.specs.Memory.{Memory, ImageView}
 use Rattle.module_area.specs.FreshWords.{fresh_word}
 use Rattle.module_area.specs.PlanView.{PlanView}
 use Rattle.module_area.specs.declared.cells.Cell.{Cell}
 use Rattle.module_area.specs.declared.places.Place.{Place}
-use Rattle.brk_table.specs.Places.{memory_of}
 use Rattle.session_book.specs.JobView.{TaskView}
 use Rattle.session_book.specs.Results.{ResultView}
 use Rattle.session_book.specs.Sessions.{task_of, no_task}
-use Rattle.space_map.specs.Space.{memory_of_space, row_of}
+use Rattle.space_map.specs.Space.{row_of}
+use Rattle.space_map.proofs.SpaceLemmas.{private_filled-as}
 use Rattle.interleave_core.specs.World.{World, IsWorld, TaskPart, Parts, no_part, first_part, first_parts, part_of, memory_in}
 use Rattle.interleave_core.specs.Results.{Fits, results_of, part_result}
 use Rattle.interleave_core.specs.Views.{RunningView, IsRunning, IsStage, IsCore, AreReady, parts_of}
-
-private_of : (size : ℕ) (images : List ImageView) (places : List Place) → (memory_of size images places).private ≡ size
-unfolding memory_of
-private_of size images places = refl
 
 pub part_read : (tasks : List RunningView) (t : ℕ) (r : RunningView) → t < length tasks → r ≡ get_or tasks t r → get_or (parts_of tasks) t no_part ≡ r.part
 part_read tasks t r lt read = get_or-map (λ (x : RunningView). x.part) tasks t r no_part lt ∙ ap (λ (x : RunningView). x.part) (sym read)
@@ -42,11 +37,11 @@ pub exists_read : (tasks : List RunningView) (t : ℕ) → t < length tasks → 
 exists_read tasks t lt = lt_true t (length (parts_of tasks)) (subst (λ n. t < n) (sym (length-map tasks (λ (r : RunningView). r.part))) lt)
 
 no_running : RunningView
-no_running = record { part = no_part; space = record { size = 0; bytes = []; images = []; places = [] }; budget = 0 }
+no_running = record { part = no_part; space = record { bytes = []; images = []; places = [] }; budget = 0 }
 
 bytes_fit : (w : World) (t : ℕ) (r : RunningView) → IsRunning w t r → length r.part.state.machine.bytes ≡ (task_of w.job t).private
 bytes_fit w t r is =
-    ap (λ (b : List ℕ). length b) (sym is.bytes) ∙ (is.filled ∙ (ap (λ (m : Memory). m.private) is.memory ∙ private_of (task_of w.job t).private w.job.images w.places))
+    ap (λ (b : List ℕ). length b) (sym is.bytes) ∙ private_filled-as r.space (task_of w.job t).private w.job.images w.places is.memory
 
 pub Fits-core : (w : World) (cells : List Cell) (sets : List FactSet) (plan : PlanView) (tasks : List RunningView) → IsCore w cells sets plan tasks →
     Fits w (record { cells = cells; sets = sets; tasks = parts_of tasks })

@@ -24,7 +24,7 @@ use Rattle.module_area.proofs.PartyLemmas.{has-append, left-append, right-append
 use Rattle.module_area.proofs.StepLemmas.{or_cases, or_left, or_right, same_fact-same}
 use Rattle.session_book.specs.JobView.{IsJob, SessionView, TaskView}
 use Rattle.session_book.specs.Sessions.{session_of as job_session, no_session, no_task, observes, window_from, window_of, traces_from, session_set}
-use Rattle.svc_monitor.proofs.PlaceLemmas.{one_begins}
+use Rattle.brk_table.proofs.PlaceLemmas.{one_begins}
 use Rattle.interleave_core.specs.World.{World, IsWorld, TaskPart, Parts, part_of, plan_in, place_at, place_from, budget_in}
 use Rattle.interleave_core.specs.Steps.{Stepped, parts_step, fetch_step, fetched, mark_step, marked, lift_step, lifted, do_step, done_by, may_plant, breakpoint_of, with_cell, with_due, with_stage, original_under, same_cell, in_hand, hand_at, step_of, place_due, is_awaiting, task_done, set_of, fact_in}
 use Rattle.interleave_core.specs.Alone.{alone, IsAlone}

@@ -2,6 +2,7 @@
 use Rattle.std.specs.Prelude.{◌≡◌, ℕ, Bool, true, false, nat_eq, if◌then◌else◌, Option, Some, None, option_map, List, [], ◌∷◌, ◌++◌}
 use Rattle.cov_base.specs.FactSet.{FactSet}
 use Rattle.cov_base.specs.declared.facts.Fact.{Fact}
+use Rattle.s370_exec.specs.Solo.{visit_of}
 use Rattle.module_area.specs.declared.cells.Cell.{Cell}
 use Rattle.interleave_core.specs.Alone.{AreAlone}
 use Rattle.interleave_core.specs.Entries.{Entry}
@@ -10,7 +11,7 @@ use Rattle.interleave_core.specs.Logs.{HaveLogs}
 use Rattle.interleave_core.specs.Parties.{KeepRule}
 use Rattle.interleave_core.specs.Whole.{AreWhole}
 use Rattle.interleave_core.specs.World.{World, TaskPart, Parts, part_of, first_parts}
-use Rattle.interleave_core.specs.Steps.{Stepped, parts_step, step_of, visit_of, fact_in}
+use Rattle.interleave_core.specs.Steps.{Stepped, parts_step, step_of, fact_in}
 use Rattle.interleave_core.specs.declared.events.Event.{Event}
 use Rattle.interleave_core.specs.declared.events.Event.TheVariants.{Fetch, Mark, Lift, Do, Plant}
 use Rattle.interleave_core.specs.declared.events.Shown.{Shown}

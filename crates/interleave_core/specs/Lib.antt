@@ -4,9 +4,9 @@ pub mod Steps
 pub mod Core
 pub mod Entries
 pub mod Exact
+pub mod Going
 pub mod Logs
 pub mod Parties
-pub mod Reads
 pub mod Results
 pub mod Views
 pub mod Whole

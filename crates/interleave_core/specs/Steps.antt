@@ -1,5 +1,5 @@
 -- The events of a core: where each is possible, and what it changes in what a core stores.
-use Rattle.std.specs.Prelude.{ℕ, ◌+◌, ◌-◌, ◌*◌, Bool, true, false, not, ◌&&◌, nat_eq, nat_lt, nat_le, if◌then◌else◌, Option, Some, None, option_map, List, [], ◌∷◌, length, get_or, set}
+use Rattle.std.specs.Prelude.{ℕ, ◌+◌, ◌-◌, ◌*◌, Bool, true, false, not, ◌&&◌, nat_eq, nat_lt, nat_le, if◌then◌else◌, Option, Some, None, option_map, List, [], ◌∷◌, length, set}
 use Rattle.cov_base.specs.Codes.{breakpoint}
 use Rattle.cov_base.specs.FactSet.{FactSet}
 use Rattle.cov_base.specs.Facts.{with_fact, is_full, fact_of}
@@ -11,7 +11,7 @@ use Rattle.s370_state.specs.declared.endings.Ending.TheVariants.{Returned, Spent
 use Rattle.s370_state.specs.declared.endings.Next.{Next}
 use Rattle.s370_state.specs.declared.endings.Next.TheVariants.{On, Ended as NextEnded}
 use Rattle.s370_exec.specs.Fetch.{is_execute}
-use Rattle.s370_exec.specs.Solo.{Step, solo_step, has_returned}
+use Rattle.s370_exec.specs.Solo.{Step, solo_step, visit_of, has_returned}
 use Rattle.module_area.specs.Parties.{session_of}
 use Rattle.module_area.specs.PlainWords.{word_at, index_of, set_in}
 use Rattle.module_area.specs.PlanView.{original_at, kind_at, window_at}
@@ -35,13 +35,6 @@ pub record Stepped : Type 0 where
 -- the step of its run alone that the task is at
 abbrev pub step_of : World → ℕ → TaskPart → Step
 step_of w t u = solo_step (memory_in w t) u.state
-
-abbrev pub no_visit : Visit
-no_visit = record { at = 0; begun = false; went = false; before = 0; subject = false }
-
--- the visit that this step makes of the instruction, or of the subject of EX
-abbrev pub visit_of : Step → Bool → Visit
-visit_of step subject = get_or step.visits (if subject then 1 else 0) no_visit
 
 -- the place at which an EX visits its subject
 abbrev pub subject_place : World → List Visit → Option ℕ

@@ -3,7 +3,6 @@ use Rattle.std.specs.Prelude.{◌≡◌, ◌≢◌, ℕ, ◌+◌, ◌*◌, ◌<�
 use Rattle.cov_base.specs.Codes.{breakpoint}
 use Rattle.cov_base.specs.Facts.{is_within}
 use Rattle.cov_base.specs.FactSet.{FactSet}
-use Rattle.cov_base.specs.States.{Visit}
 use Rattle.module_area.specs.declared.cells.Cell.{Cell}
 use Rattle.module_area.specs.PlainWords.{IsWord, word_at, set_in}
 use Rattle.module_area.specs.PlanView.{PlanView, IsPlan, kind_at, window_at}
@@ -26,16 +25,10 @@ pub record RunningView : Type 0 where
   pub space : SpaceView
   pub budget : ℕ
 
--- the address and outcome of the visit that an EX makes of its subject
-abbrev pub subject_seen : List Visit → Option (ℕ × Bool)
-subject_seen (v ∷ (s ∷ vs)) = Some (s.at, s.went)
-subject_seen visits = None
-
 -- the task is task t of the world
 pub record IsRunning (w : World) (t : ℕ) (r : RunningView) : Type 0 where
   pub memory : memory_of_space r.space ≡ memory_in w t
   pub bytes : r.space.bytes ≡ r.part.state.machine.bytes
-  pub filled : length r.space.bytes ≡ (memory_of_space r.space).private
   pub budget : r.budget ≡ budget_in w t
   pub seen : AreSeen (memory_in w t) w.places
 

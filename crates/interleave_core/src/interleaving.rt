@@ -3,31 +3,28 @@ ghost use Rattle.std.specs.Prelude.{◌≡◌, ℕ, ◌+◌, ◌*◌, ◌<◌, �
 ghost use Rattle.std.specs.declared.option.Option.TheVariants.{Some, None};
 ghost use Rattle.module_area.specs.PlainWords.{word_at};
 ghost use Rattle.brk_table.specs.Places.{IsIn};
-ghost use Rattle.cov_base.specs.Facts.{fact_of, is_full, no_facts};
+ghost use Rattle.cov_base.specs.Facts.{is_full, no_facts};
 ghost use Rattle.interleave_core.specs.declared.stage.Due.TheVariants.{Lifting, Nothing};
 ghost use Rattle.interleave_core.specs.World.{World, IsWorld, first_parts};
 ghost use Rattle.interleave_core.specs.Steps.{of_task, fetch_step, mark_step, lift_step, do_step, plant_step, parts_step, set_of, due_after_fetch, in_hand, same_cell};
 ghost use Rattle.interleave_core.specs.Core.{core_start, Stands, FollowsAll, FollowsNone};
 ghost use Rattle.interleave_core.specs.declared.events.Event.{Event};
+ghost use Rattle.interleave_core.specs.Going.{HasGone, go, left};
 ghost use Rattle.interleave_core.specs.Results.{next_of, IsDue, results_of, Fits};
 ghost use Rattle.interleave_core.specs.Views.{AreReady};
-ghost use Rattle.session_book.specs.JobView.{IsJob};
 ghost use Rattle.module_area.specs.FreshWords.{fresh_word};
 
 use crate::events::{Event, NotPossible, Shown};
 use crate::running::Running;
 use crate::stage::{Due, Hand, Stage};
 use brk_table::Tables;
-use cov_base::{Bits, Fact, Kind, NoMemory, PlaceNo, SessNo, TaskNo};
+use cov_base::{BREAKPOINT, Bits, Kind, NoMemory, PlaceNo, SessNo, TaskNo};
 use module_area::{Cell, Place, Plan};
 use s370_exec::is_execute;
 use s370_state::{Cpu, Ending};
 use session_book::{FactSets, Job, Results, plan_of};
 use std::alloc::{AllocError, Global};
 use std::marker::Model;
-
-/// SVC 255.
-const BREAKPOINT: u16 = 0x0AFF;
 
 /// The phase of a job that has one: a cell for each place, a set for each session and place, and for each task its
 /// state, where it stands and the cell in hand. It keeps no logs.
@@ -87,16 +84,6 @@ fn exchange(cells: &mut Vec<Cell>, p: usize, cell: Cell, original: u16) -> bool
         true
     } else {
         false
-    }
-}
-
-/// What an execution shows that branched, or did not.
-fn fact_of(kind: Kind, went: bool) -> Fact
-    ensures { result ≡ fact_of kind went }
-{
-    match kind {
-        Kind::Straight => Fact::Ran,
-        Kind::Conditional => if went { Fact::Went } else { Fact::Stayed },
     }
 }
 
@@ -165,7 +152,7 @@ impl<'a> Core<'a> {
         let went = self.tasks[n].went(hand.subject);
         let at = (hand.cell.tag / 2) as usize * self.cells.len() + hand.place.0 as usize;
         let found = self.sets[at];
-        let facts = found.with(fact_of(kind, went));
+        let facts = found.with(kind.fact(went));
         self.sets[at] = facts;
         self.tasks[n].hold(with_due(hand, due_after_mark(kind, facts)));
         Ok(Shown::Marked(found))
@@ -284,6 +271,38 @@ impl<'a> Core<'a> {
         self.tasks[n].next(t, self.tables)
     }
 
+    /// Makes the task's events until none is possible.
+    fn go_on(&mut self, t: TaskNo)
+        ensures world { self.new.world ≡ self.old.world }
+        ensures fits { Fits self.new.world self.new.parts }
+        ensures parts { self.new.parts ≡ go self.old.world (left self.old.world self.old.parts t.0) self.old.parts t }
+        ensures ended { t.0 < length self.old.world.job.tasks → IsSome (results_of self.new.parts t.0).ending }
+    {
+        while let Some(event) = self.next(t) {
+            let Ok(_) = self.apply(event) else {
+                unreachable!()
+            };
+        }
+        self.fits();
+    }
+
+    /// Makes the task's events, one by one as each is possible, until it has ended. That isn't possible exactly where the
+    /// task doesn't exist or has ended, and leaves the core as it was then.
+    pub fn go(&mut self, t: TaskNo) -> Result<(), NotPossible>
+        ensures gone { IfOk result (λ _. HasGone self.old.world self.old.parts self.new.parts t) }
+        ensures refused { OnErr result (next_of self.old.world self.old.parts t ≡ None) }
+        ensures kept { OnErr result (self.new ≡ self.old) }
+        ensures world { self.new.world ≡ self.old.world }
+        ensures fits { Fits self.new.world self.new.parts }
+    {
+        if self.next(t).is_none() {
+            self.fits();
+            return Err(NotPossible);
+        }
+        self.go_on(t);
+        Ok(())
+    }
+
     /// How the task of the job has ended; none exactly where it hasn't.
     pub fn ending(&self, t: TaskNo) -> Option<Ending>
         requires { t.0 < length self.now.world.job.tasks }
@@ -304,14 +323,6 @@ impl<'a> Core<'a> {
     }
 }
 
-/// The number of the job's tasks.
-fn task_count(job: &Job) -> usize
-    ensures value { result ≡ length job.now.tasks }
-    ensures job { IsJob job.now }
-{
-    job.tasks.len()
-}
-
 /// The job's tasks, in job order.
 fn make_tasks<'a>(
     alloc: Global,
@@ -321,7 +332,7 @@ fn make_tasks<'a>(
     requires { All (IsIn job.now.images) tables.now.places }
     ensures { IfOk result (λ v. AreReady (record { job = job.now; places = tables.now.places }) (length job.now.tasks) v.items) }
 {
-    let count = task_count(job);
+    let count = job.task_count();
     let mut tasks = Vec::with_capacity(alloc, count)?;
     for t in 0..count {
         tasks.push(Running::new(alloc, job, tables, t)?)?;
@@ -360,7 +371,7 @@ pub fn start<'a>(alloc: Global, job: &'a Job, tables: &'a Tables) -> Result<Core
     let tasks = make_tasks(alloc, job, tables)?;
     let plan = plan_of(alloc, job, tables, 0)?;
     // the proof reads the rules that the job, a plan and its places keep off these looks at them
-    let _ = task_count(job);
+    let _ = job.task_count();
     let _ = &plan.windows;
     let _ = tables.len();
     let cells = fresh_cells(alloc, &plan.places)?;
@@ -418,7 +429,6 @@ impl<'a> Results for Core<'a> {
 
     fn row(&self, t: TaskNo, n: u32) -> &[u8] {
         let space = &self.tasks[t.0 as usize].space;
-        let _ = space.size();
         space.row(n)
     }
 }

@@ -2,7 +2,6 @@
 #![tactic(auto)]
 
 mod events;
-mod instruction;
 mod interleaving;
 mod running;
 mod stage;

@@ -1,32 +1,26 @@
 //! A task of a core.
 ghost use Rattle.std.specs.Prelude.{◌≡◌, ℕ, ◌<◌, option_map, length, IfSome, nat_le, All, IfOk, OnErr};
 ghost use Rattle.std.specs.declared.option.Option.TheVariants.{Some, None};
-ghost use Rattle.module_area.specs.Images.{AreImages};
 ghost use Rattle.brk_table.specs.Places.{IsIn};
-ghost use Rattle.session_book.specs.JobView.{IsTask};
 ghost use Rattle.session_book.specs.Sessions.{task_of};
-ghost use Rattle.s370_exec.specs.Solo.{has_returned};
+ghost use Rattle.s370_exec.specs.Solo.{has_returned, visit_of};
 ghost use Rattle.interleave_core.specs.declared.stage.Stage.TheVariants.{Ready, Holding};
 ghost use Rattle.cov_base.specs.declared.numbers.PlaceNo.{PlaceNo as Number};
 ghost use Rattle.interleave_core.specs.World.{World, place_from, first_part};
-ghost use Rattle.interleave_core.specs.Steps.{place_due, subject_place, step_of, visit_of, stage_after, is_awaiting, with_stage, in_hand, executed, instruction_executed, ready_done, task_done};
+ghost use Rattle.interleave_core.specs.Steps.{place_due, subject_place, step_of, stage_after, is_awaiting, with_stage, in_hand, executed, instruction_executed, ready_done, task_done};
 ghost use Rattle.interleave_core.specs.Results.{stage_event, ending_of};
 ghost use Rattle.interleave_core.specs.Views.{IsRunning};
 
 use crate::events::{Event, NotPossible};
-use crate::instruction::{instruction_went, run_step, subject_seen};
 use crate::stage::{Due, Hand, Stage};
 use brk_table::Tables;
 use cov_base::{Addr, NoMemory, PlaceNo, TaskNo};
-use module_area::Images;
+use s370_exec::{has_returned, instruction_went, step, subject_seen};
 use s370_state::{Cpu, Ending, Next, TaskIo};
-use session_book::{Job, TaskCard};
+use session_book::{Begun, Job, begin};
 use space_map::TaskSpace;
 use std::alloc::Global;
 use std::marker::Model;
-
-/// Where a task returns to.
-const RETURN_ADDRESS: u32 = 0xFF_FFFE;
 
 /// A task: its processor, storage, input and output, the instructions done, at most its budget of them, and where it
 /// stands.
@@ -42,7 +36,7 @@ pub(crate) struct Running<'a> {
 
 impl<'a> Model for Running<'a> {
     ghost use Rattle.std.specs.Prelude.{◌≤◌};
-    ghost use Rattle.svc_monitor.specs.Observed.{state_of};
+    ghost use Rattle.s370_exec.specs.Solo.{state_of};
     ghost use Rattle.interleave_core.specs.Views.{RunningView};
 
     ghost Value = { RunningView };
@@ -75,7 +69,7 @@ impl<'a> Running<'a> {
     fn has_returned(&self) -> bool
         ensures { result ≡ has_returned self.now.part.state }
     {
-        self.cpu.at().get() == RETURN_ADDRESS
+        has_returned(&self.cpu)
     }
 
     fn is_spent(&self) -> bool
@@ -168,9 +162,7 @@ impl<'a> Running<'a> {
         ensures running { (w : World) (t : ℕ) → IsRunning w t self.old → IsRunning w t self.new }
     {
         self.done += 1;
-        let next = run_step(&mut self.cpu, &mut self.space, &mut self.io);
-        // the proof reads off the size that private storage still fills it
-        let _ = self.space.size();
+        let next = step(&mut self.cpu, &mut self.space, &mut self.io);
         self.stage = stage_after(next);
     }
 
@@ -288,41 +280,15 @@ impl<'a> Running<'a> {
         ensures running { IfOk result (IsRunning (record { job = job.now; places = tables.now.places }) t) }
         ensures part { IfOk result (λ r. r.part ≡ first_part (task_of job.now t)) }
     {
-        let card = card_of(job, t);
-        let space = TaskSpace::new(alloc, card.private, &card.cards, images_of(job), tables)?;
-        let _ = space.size();
-        let input = card.input.to_vec(alloc)?;
-        let io = TaskIo::new(alloc, input, card.room)?;
-        let cpu = Cpu {
-            regs: card.regs,
-            ia: card.entry,
-            cc: 0,
-            mask: 0,
-        };
+        let budget = job.card(t).budget;
+        let Begun { cpu, space, io } = begin(alloc, job, tables, t)?;
         Ok(Running {
             cpu,
             space,
             io,
             done: 0,
-            budget: card.budget,
+            budget,
             stage: Stage::Ready,
         })
     }
-}
-
-/// A task of the job.
-fn card_of(job: &Job, t: usize) -> &TaskCard
-    requires { t < length job.now.tasks }
-    ensures value { result.now ≡ task_of job.now t }
-    ensures card { IsTask (length job.now.phases) result.now }
-{
-    &job.tasks[t]
-}
-
-/// The job's modules.
-fn images_of(job: &Job) -> &Images
-    ensures value { result.now ≡ job.now.images }
-    ensures images { AreImages result.now }
-{
-    &job.images
 }

@@ -2,7 +2,7 @@
 use Rattle.std.proofs.Common.{◌≡◌, ◌⊎◌, inl, inr, ℕ, Bool, true, false, Option, Some, None, List, [], ◌∷◌, refl, sym, ◌∙◌, ap}
 use Rattle.cov_base.specs.Codes.{length_of}
 use Rattle.cov_base.specs.Memory.{Memory, half_at}
-use Rattle.cov_base.specs.States.{State, Visit}
+use Rattle.cov_base.specs.States.{State}
 use Rattle.s370_state.specs.declared.endings.Ending.{Ending}
 use Rattle.s370_decode.specs.Fields.{first_half, ex}
 use Rattle.s370_decode.specs.Table.{op_of}
@@ -10,7 +10,7 @@ use Rattle.s370_decode.specs.declared.code.Code.{Code}
 use Rattle.s370_branch.specs.Branch.{goes}
 use Rattle.s370_exec.specs.Effects.{Effect, effect, updated, link_code}
 use Rattle.s370_exec.specs.Fetch.{first_tests, rest_tests, whole_tests, subject_tests, or_ending, code_at, is_execute, merged}
-use Rattle.s370_exec.specs.Solo.{Step, solo_step, from_first, fetched, ended, stepped, begun_step, visit, subject_step, subject_fetched, subject_begun, behind, visit_of, subject_seen}
+use Rattle.s370_exec.specs.Solo.{solo_step, from_first, fetched, ended, stepped, begun_step, visit, subject_step, subject_fetched, subject_begun, behind, visit_of, subject_seen}
 use Rattle.s370_exec.proofs.Subjects.{first_half-code_at, at-code_at, at-merged, execute_stays}
 
 -- the first halfword is refused

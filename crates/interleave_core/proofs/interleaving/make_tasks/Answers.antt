@@ -1,4 +1,4 @@
-use Rattle.std.proofs.Common.{rules, ◌≡◌, ◌++◌, [], ◌∷◌, refl, arith}
+use Rattle.std.proofs.Common.{rules, ◌≡◌, ◌++◌, [], ◌∷◌}
 use Rattle.interleave_core.specs.World.{World}
 use Rattle.interleave_core.proofs.Starts.{AreReady-push}
 use Rattle.interleave_core.proofs.interleaving.make_tasks.Goals as goal

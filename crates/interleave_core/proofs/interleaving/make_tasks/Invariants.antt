@@ -1,4 +1,4 @@
-use Rattle.std.proofs.Common.{◌≡◌, ℕ, length}
+use Rattle.std.proofs.Common.{◌≡◌, length}
 use Rattle.interleave_core.specs.Views.{AreReady}
 use Rattle.interleave_core.proofs.interleaving.make_tasks.Given as goal
 

@@ -1,4 +1,4 @@
-use Rattle.std.proofs.Common.{◌≡◌, ◌∷◌, ap}
+use Rattle.std.proofs.Common.{◌∷◌, ap}
 use Rattle.s370_exec.specs.Solo.{state_of}
 use Rattle.s370_exec.proofs.StepLemmas.{subject_step-refused}
 use Rattle.s370_exec.specs.Solo.{subject_seen}

@@ -1,4 +1,4 @@
-use Rattle.std.proofs.Common.{◌≡◌, Some, ◌∷◌, refl, ap, sym, ◌∙◌}
+use Rattle.std.proofs.Common.{Some, ◌∷◌, refl, ap, sym, ◌∙◌}
 use Rattle.s370_decode.specs.Fields.{first_half}
 use Rattle.s370_decode.specs.Table.{op_of}
 use Rattle.s370_exec.specs.Effects.{effect, updated, link_code}

@@ -1,4 +1,4 @@
-use Rattle.std.proofs.Common.{◌≡◌, ◌≢◌, ℕ, ◌+◌, ◌*◌, ◌/◌, ◌<◌, false, length, set, Some, ap, sym, ◌∙◌, refl, subst, arith}
+use Rattle.std.proofs.Common.{◌≡◌, ◌<◌, false, length, set, Some, sym, refl, subst, arith}
 use Rattle.interleave_core.specs.World.{World}
 use Rattle.interleave_core.specs.Steps.{Stepped, of_task, place_due, is_spent, fetch_step}
 use Rattle.interleave_core.specs.Views.{RunningView, CoreView, parts_of}

@@ -1,9 +1,9 @@
-use Rattle.std.proofs.Common.{◌≡◌, ◌≢◌, ℕ, ◌+◌, ◌*◌, ◌/◌, ◌<◌, false, length, set, Some, ap, sym, ◌∙◌, refl, subst, arith}
+use Rattle.std.proofs.Common.{◌≡◌, ◌<◌, length, set, Some, ap, sym, subst, arith}
 use Rattle.interleave_core.specs.World.{World}
 use Rattle.interleave_core.specs.Steps.{Stepped, of_task, lift_step}
-use Rattle.interleave_core.specs.Views.{RunningView, CoreView, parts_of}
+use Rattle.interleave_core.specs.Views.{CoreView, parts_of}
 use Rattle.interleave_core.specs.declared.events.Shown.TheVariants.{Lifted}
-use Rattle.interleave_core.specs.declared.stage.Due.TheVariants.{Lifting, Nothing}
+use Rattle.interleave_core.specs.declared.stage.Due.TheVariants.{Lifting}
 use Rattle.interleave_core.proofs.Kept.{hand_due, lifted_core, lift_possible}
 use Rattle.interleave_core.proofs.interleaving.Core.lift.Goals as goal
 

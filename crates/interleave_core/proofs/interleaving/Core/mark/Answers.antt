@@ -35,7 +35,7 @@ invariant_of-self c =
     let at = mark_index w c.self.inside.cells.items c.self.inside.sets.items c.self.inside.plan c.self.inside.tasks.items c.args.t.0 c.index.result.now.part c.in-Some.hand c.len-2.result c.self.invariant due (c.len-2.ensures ∙ c.self.inside.cells.ok.0) in
     marked_core w _ _ _ _ c.args.t.0 c.index.result.now c.index_mut-2.result.now c.hold.new.self c.in-Some.hand c.with_due.result c.due_after_mark.result _ c.index-found.result.now c.with-facts.result
     c.place.result.now.kind c.went-went.result c.self.invariant lt c.index.ensures c.index_mut-2.ensures.value due at c.index-found.ensures (ap (λ x. x.kind) c.place.ensures.value)
-    (c.with-facts.ensures ∙ ap (with_fact c.index-found.result.now) c.fact_of.ensures) c.with_due.ensures c.hold.ensures
+    (c.with-facts.ensures ∙ ap (with_fact c.index-found.result.now) c.fact.ensures) c.with_due.ensures c.hold.ensures
 
 pub returns-clause-possible : goal.returns-clause-possible
 returns-clause-possible c =
@@ -48,4 +48,4 @@ returns-clause-possible c =
     subst (λ (v : CoreView). of_task v.parts c.args.t.0 (mark_step v.world v.parts c.args.t.0) ≡ Some target) c.self.view_is
     (mark_possible w c.self.inside.cells.items c.self.inside.sets.items c.self.inside.plan c.self.inside.tasks.items c.args.t.0 c.index.result.now c.index_mut-2.result.now c.index-2.result.now c.hold.new.self c.in-Some.hand c.with_due.result c.due_after_mark.result (c.in-Some.hand.cell.tag / 2 * c.len-2.result + c.in-Some.hand.place.0)
     c.index-found.result.now c.with-facts.result c.place.result.now.kind c.went-went.result c.self.invariant lt c.index.ensures c.index_mut-2.ensures.value c.index-2.ensures (sym c.in-Some.ensures) due at c.index-found.ensures
-    (ap (λ x. x.kind) c.place.ensures.value) (c.with-facts.ensures ∙ ap (with_fact c.index-found.result.now) c.fact_of.ensures) (c.went-went.ensures w c.args.t.0 runs) c.due_after_mark.ensures c.with_due.ensures c.hold.ensures)
+    (ap (λ x. x.kind) c.place.ensures.value) (c.with-facts.ensures ∙ ap (with_fact c.index-found.result.now) c.fact.ensures) (c.went-went.ensures w c.args.t.0 runs) c.due_after_mark.ensures c.with_due.ensures c.hold.ensures)

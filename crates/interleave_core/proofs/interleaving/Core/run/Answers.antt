@@ -1,7 +1,7 @@
-use Rattle.std.proofs.Common.{◌≡◌, ◌≢◌, ℕ, ◌+◌, ◌*◌, ◌/◌, ◌<◌, false, length, set, Some, ap, sym, ◌∙◌, refl, subst, arith}
+use Rattle.std.proofs.Common.{◌≡◌, ◌<◌, length, set, Some, refl, subst, arith}
 use Rattle.interleave_core.specs.World.{World}
 use Rattle.interleave_core.specs.Steps.{Stepped, of_task, do_step}
-use Rattle.interleave_core.specs.Views.{RunningView, CoreView, parts_of}
+use Rattle.interleave_core.specs.Views.{CoreView, parts_of}
 use Rattle.interleave_core.specs.declared.events.Shown.TheVariants.{Done}
 use Rattle.interleave_core.proofs.Kept.{read_running, run_possible, ran_core}
 use Rattle.interleave_core.proofs.interleaving.Core.run.Goals as goal

@@ -1,4 +1,4 @@
-use Rattle.std.proofs.Common.{◌≡◌, ◌*◌, ◌<◌, ℕ, List, length, sym, ◌∙◌, ap, subst, arith}
+use Rattle.std.proofs.Common.{◌≡◌, ◌<◌, ℕ, List, length, sym, ◌∙◌, ap, subst, arith}
 use Rattle.interleave_core.specs.Results.{results_of}
 use Rattle.interleave_core.specs.World.{Parts}
 use Rattle.interleave_core.specs.Views.{CoreView, RunningView, parts_of}

@@ -1,0 +1,12 @@
+use Rattle.std.proofs.Common.{◌≡◌}
+use Rattle.interleave_core.specs.Going.{go, left}
+use Rattle.interleave_core.proofs.interleaving.Core.go_on.Given as goal
+
+abbrev pub invariant-loop-event : goal.invariant-loop-event
+invariant-loop-event l = record {
+  world : l.self.world ≡ l.initial.self.world;
+  goes : go l.initial.self.world (left l.initial.self.world l.initial.self.parts l.t.0) l.initial.self.parts l.t ≡ go l.self.world (left l.self.world l.self.parts l.t.0) l.self.parts l.t;
+}
+
+abbrev pub decreases-loop-event : goal.decreases-loop-event
+decreases-loop-event l = left l.self.world l.self.parts l.t.0
