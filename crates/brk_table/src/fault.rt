@@ -65,7 +65,7 @@ pub fn fault_by(
     if room <= before {
         return Some(BuildFault::TooMany { line: n });
     }
-    if u16::from(code.bytes[0]) * 256 + u16::from(code.bytes[1]) == BREAKPOINT {
+    if code.first_half() == BREAKPOINT {
         return Some(BuildFault::OwnSvc { line: n });
     }
     let own = module_code(bytes, from, code.len);

@@ -19,7 +19,7 @@ fn place_from(module: u32, base: Addr, loc: u32, code: &Code) -> Place
     requires { base + loc < 16777216 }
     ensures { result ≡ place_from «module» base loc code.now }
 {
-    let original = u16::from(code.bytes[0]) * 256 + u16::from(code.bytes[1]);
+    let original = code.first_half();
     Place {
         module,
         at: base.plus(loc),

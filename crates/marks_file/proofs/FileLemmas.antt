@@ -189,6 +189,3 @@ pub marks_behind : (input : List ℕ) (from count : ℕ) (ms : List MarkedView) 
 unfolding marks_at
 marks_behind input from count ms e is =
     is ∙ (ap (λ n. modules_at n (drop (from + 10) input)) e ∙ ap (λ t. modules_at (big_number 2 (drop 8 (drop from input))) t) (sym (drop-drop 10 from input)))
-
-pub length-file : (ms : List MarkedView) → length (file_bytes ms) ≡ 10 + length (flat_map module_bytes ms)
-length-file ms = omega arith

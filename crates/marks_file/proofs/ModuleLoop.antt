@@ -1,5 +1,5 @@
 -- What the loop over modules keeps.
-use Rattle.std.proofs.Common.{◌≡◌, ℕ, ◌+◌, ◌-◌, ◌*◌, ◌≤◌, ◌<◌, suc, None, List, [], ◌∷◌, ◌++◌, length, drop, refl, ap, sym, ◌∙◌, arith, append_assoc, append-nil, length-append, length-drop}
+use Rattle.std.proofs.Common.{◌≡◌, ℕ, ◌+◌, ◌-◌, ◌*◌, ◌≤◌, ◌<◌, suc, None, List, [], ◌∷◌, ◌++◌, length, drop, refl, ap, sym, ◌∙◌, arith, append_assoc, length-append, length-drop}
 use Rattle.std.specs.List.{flat_map}
 use Rattle.std.proofs.lemmas.List.{drop-drop}
 use Rattle.std.proofs.lemmas.Grind.{flat_map-append}
@@ -85,15 +85,3 @@ modules_stop input from count at i before modules (BadMarks o) s h bad =
     s.fields
     ∙ (ap (λ j. first_bad (modules_fields at modules j bs)) k
     ∙ first_some (module_fields at modules bs) (modules_fields (at + size) (modules ++ module_at bs ∷ []) (count - (i + 1)) (drop size bs)) o bad)
-
-pub modules_good : (input : List ℕ) (from count at i before : ℕ) (modules : List MarkedView) → ModulesSoFar input from count at i before modules → count ≤ i
-    → first_bad (modules_fields from [] count (drop from input)) ≡ None
-modules_good input from count at i before modules s h =
-    let k : count - i ≡ 0 = omega arith in
-    s.fields ∙ ap (λ j. first_bad (modules_fields at modules j (drop at input))) k
-
-pub modules_all : (input : List ℕ) (from count at i before : ℕ) (modules : List MarkedView) → ModulesSoFar input from count at i before modules → count ≤ i
-    → modules ≡ modules_at count (drop from input)
-modules_all input from count at i before modules s h =
-    let k : count - i ≡ 0 = omega arith in
-    sym (s.value ∙ (ap (λ j. modules ++ modules_at j (drop at input)) k ∙ append-nil modules))

@@ -5,7 +5,7 @@ ghost use Rattle.module_area.specs.PlanView.{IsPlan, MayStand, place_of, whole_p
 
 use crate::places::Place;
 use crate::plan::Plan;
-use cov_base::TaskNo;
+use cov_base::{BREAKPOINT, TaskNo};
 use s370_decode::kind;
 use std::alloc::Global;
 
@@ -14,7 +14,7 @@ fn may_stand(place: &Place, window: u32, sessions: u32) -> bool
     ensures yes { result ≡ true → MayStand place.now window sessions }
     ensures no { result ≡ false → MayStand place.now window sessions → ⊥ }
 {
-    window <= sessions && place.original != 0x0AFF && place.kind == kind(place.original)
+    window <= sessions && place.original != BREAKPOINT && place.kind == kind(place.original)
 }
 
 /// Whether the task stands among the first n.

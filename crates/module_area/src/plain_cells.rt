@@ -12,10 +12,8 @@ use crate::cells::Cell;
 use crate::plan::Plan;
 use crate::tallies::Tally;
 use crate::traits::Cells;
-use cov_base::{Bits, Fact, NoMemory, PlaceNo, SessNo};
+use cov_base::{BREAKPOINT, Bits, Fact, NoMemory, PlaceNo, SessNo};
 use std::alloc::{AllocError, Global};
-
-const BREAKPOINT: u16 = 0x0AFF;
 
 const NO_TALLY: Tally = Tally {
     plants: 0,

@@ -23,9 +23,6 @@ count_step n count h = omega arith
 pub sum_from-next : (amount : ℕ → ℕ) (n past : ℕ) → n < past → sum_from amount n (past - n) ≡ amount n + sum_from amount (n + 1) (past - (n + 1))
 sum_from-next amount n past h = rw (count_step n past h) refl
 
-pub sum_from-end : (amount : ℕ → ℕ) (n past : ℕ) → past ≤ n → sum_from amount n (past - n) ≡ 0
-sum_from-end amount n past h = let none : past - n ≡ 0 = omega arith in rw none refl
-
 pub sum_step : (amount : ℕ → ℕ) (n past so_far x total : ℕ) → n < past → x ≡ amount n → so_far + sum_from amount n (past - n) ≡ total → so_far + x + sum_from amount (n + 1) (past - (n + 1)) ≡ total
 sum_step amount n past so_far x total h is sum = omega (arith, sum, sum_from-next amount n past h, is)
 

@@ -117,19 +117,12 @@ fn module_text<K: Sink>(sink: &mut K, job: &Job, tables: &Tables, m: u32) -> Res
     }
 }
 
-/// The number of the job's modules.
-fn module_count(job: &Job) -> u32
-    ensures { result ≡ length job.now.images }
-{
-    job.images.0.len() as u32
-}
-
 /// The modules' parts.
 fn modules_text<K: Sink>(sink: &mut K, job: &Job, tables: &Tables) -> Result<(), Failed>
     requires { AreTablesOf job.now tables.now }
     ensures { WritesLines K.written K.faults sink.old sink.new result (lines_from (table_part job.now tables.now) 0 (length job.now.images)) }
 {
-    for m in 0..module_count(job) {
+    for m in 0..job.module_count() {
         module_text(sink, job, tables, m)?;
     }
     Ok(())

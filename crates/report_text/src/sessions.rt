@@ -5,8 +5,6 @@ ghost use Rattle.cov_outside.specs.Writes.{Writes};
 ghost use Rattle.cov_base.specs.Facts.{full_of};
 ghost use Rattle.module_area.specs.Counts.{fact_count};
 ghost use Rattle.brk_table.specs.Places.{IsIn, IsPlace, first_place, place_count, place_at_line};
-ghost use Rattle.session_book.specs.JobView.{IsSession};
-ghost use Rattle.session_book.specs.Sessions.{session_of};
 ghost use Rattle.report_text.specs.Conditions.{AreTablesOf, HasSetsOf, AreWithin};
 ghost use Rattle.report_text.specs.Sessions.{lacks, location_of, last_byte_of, line_mark, marked_lines, run_line, run_lines, executed_at, facts_at, possible_at, count_line, session_line, open_run, listing_lines, module_of, module_lines};
 ghost use Rattle.report_text.specs.Report.{session_part};
@@ -24,7 +22,7 @@ use brk_table::Tables;
 use cov_base::{Bits, Fact, INPUT_LIMIT, Kind, Mark, Name, PlaceNo, SessNo, mark_of};
 use cov_outside::{Failed, Sink};
 use module_area::Place;
-use session_book::{FactSets, Job, Lines, Session};
+use session_book::{FactSets, Job, Lines};
 
 /// The names of a session and of its phase.
 #[tactic(auto, unfolding(crate::specs::Sessions::session_line))]
@@ -364,16 +362,6 @@ fn modules_text<K: Sink, R: FactSets>(
     Ok(())
 }
 
-/// A session of the job.
-fn session_at(job: &Job, s: SessNo) -> &Session
-    requires from { 0 < s.0 }
-    requires to { s.0 ≤ length job.now.sessions }
-    ensures value { result.now ≡ session_of job.now s.0 }
-    ensures is { IsSession (length job.now.images) (length job.now.phases) result.now }
-{
-    &job.sessions[s.0 as usize - 1]
-}
-
 /// A phase's name.
 fn phase_name(job: &Job, n: u32) -> &Name
     requires { n < length job.now.phases }
@@ -396,7 +384,7 @@ pub fn session_text<K: Sink, R: FactSets>(
     requires sets { HasSetsOf job.now tables.now (R.sessions results.now) (R.places results.now) (R.set_of results.now) s.0 }
     ensures { WritesLines K.written K.faults sink.old sink.new result (session_part job.now tables.now (R.set_of results.now) s.0) }
 {
-    let session = session_at(job, s);
+    let session = job.session(s);
     put(
         sink,
         session_line(&session.name, phase_name(job, session.phase)),

@@ -136,7 +136,7 @@ pub fn task_text<K: Sink, R: Results>(
     requires result { HasResultOf job.now (R.tasks results.now) (R.result_of results.now) t.0 }
     ensures { WritesLines K.written K.faults sink.old sink.new result (task_part job.now (R.result_of results.now) t.0) }
 {
-    let task = &job.tasks[t.0 as usize];
+    let task = job.card(t.0 as usize);
     state_part(
         sink,
         &task.name,

@@ -52,13 +52,6 @@ plant_live s p a b v v' e h = subst (IsLive a b) (sym e) record { live = h.live;
 pub split_live : (t a b : ℕ) (v v' : View) → v' ≡ giving t v → IsLive a b v → IsLive a b v'
 split_live t a b v v' e h = subst (IsLive a b) (sym e) record { live = h.live; counted = h.counted; given = more_given t v.given v.joined h.given }
 
-pub join_live : (plan : PlanView) (a b a' b' : ℕ) (v v' o : View) → v' ≡ joining plan v o → IsLive a b v → IsLive a' b' o → has_number (task_of o.role) v.given ≡ true → IsLive (a + a') (b + b') v'
-join_live plan a b a' b' v v' o e h h' out = subst (IsLive (a + a') (b + b')) (sym e) record {
-  live = h.live;
-  counted = ((let x = h.counted.0 in let y = h'.counted.0 in let z = length-append o.marked v.marked in omega arith), (let x = h.counted.1 in let y = h'.counted.1 in let z = length-append o.lifted v.lifted in omega arith));
-  given = and_both (has_number (task_of o.role) v.given) _ out h.given;
-}
-
 pub is_task : (r : Role) → IsSome (bears_as r) → r ≡ Task (task_of r)
 is_task (Task t) h = refl
 is_task Root h = absurd cc

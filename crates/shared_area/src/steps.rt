@@ -4,11 +4,9 @@ ghost use Rattle.shared_area.specs.Passes.{notes_of, IsPassOf};
 use crate::cells::SharedCells;
 use crate::pass::SharedPass;
 use crate::words::{bit, cell, facts, window_word};
-use cov_base::{Bits, Fact, PlaceNo, SessNo};
+use cov_base::{BREAKPOINT, Bits, Fact, PlaceNo, SessNo};
 use module_area::{Cell, Cells};
 use std::marker::Brand;
-
-const BREAKPOINT: u16 = 0x0AFF;
 
 impl Cells for SharedCells {
     type Pass = SharedPass;

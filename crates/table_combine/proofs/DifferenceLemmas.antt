@@ -117,11 +117,6 @@ modules_start a b = record { total = omega arith; rows_are = refl; same = λ h. 
 here_modules : (a : List MarkedView) (i : ℕ) (m : MarkedView) → i < length a → m ≡ get_or a i m → drop i a ≡ m ∷ drop (i + 1) a
 here_modules a i m h e = at_drop_more (λ x. x) a i m h ∙ ap (λ x. x ∷ drop (i + 1) a) (sym e)
 
-pub modules_room : (a b : List MarkedView) (i n : ℕ) (m : MarkedView) → ModulesPassed a b i n → i < length a → m ≡ get_or a i m → n + (1 + length m.places) ≤ row_total a
-modules_room a b i n m s la em =
-    let total = s.total in
-    omega (arith, ap row_total (here_modules a i m la em))
-
 pub modules_step : (a b : List MarkedView) (i n : ℕ) (m k : MarkedView) → ModulesPassed a b i n → i < length a → i < length b → m ≡ get_or a i m → k ≡ get_or b i k → (module_row m ≡ module_row k) × SamePlaces m.places k.places → ModulesPassed a b (i + 1) (n + (1 + length m.places))
 modules_step a b i n m k s la lb em ek same =
     let da = here_modules a i m la em in
@@ -148,9 +143,6 @@ modules_stop a b i n m k d s la lb em ek found =
 
 no_modules : (a : List MarkedView) (i : ℕ) → length a ≤ i → drop i a ≡ []
 no_modules a i h = drop_of_length-le a h
-
-pub modules_end : (a b : List MarkedView) (i n : ℕ) → ModulesPassed a b i n → length a ≤ i → length b ≤ i → SameTables a b
-modules_end a b i n s la lb = s.same (rw (no_modules a i la, no_modules b i lb) tt)
 
 -- one table has a module more
 left_over : (n : ℕ) (xs ys : List MarkedView) → min (length xs) (length ys) ≡ 0 → length xs ≢ length ys → first_difference n (rows xs) (rows ys) ≡ Some (record { row = n; left = first_row xs; right = first_row ys })

@@ -5,7 +5,6 @@ use Rattle.std.proofs.lemmas.List.{take-append-drop, drop-drop, length-take}
 use Rattle.std.proofs.lemmas.List.Elements.{All-push}
 use Rattle.std.proofs.lemmas.List.Sums.{fold-append}
 use Rattle.std.proofs.lemmas.Grind.{flat_map-append}
-use Rattle.std.proofs.Math.ListN.{drop_of_length-le}
 use Rattle.byteorder.specs.Endian.{big_bytes}
 use Rattle.marks_file.specs.Marks.{MarkedView, are_marks}
 use Rattle.marks_file.specs.MarksFile.{place_row, module_row, module_rows, rows, file_bytes}
@@ -14,7 +13,7 @@ use Rattle.marks_file.specs.declared.marks.MarkedPlace.{MarkedPlace}
 use Rattle.marks_file.specs.declared.fault.MarksFault.{MarksFault}
 use Rattle.marks_file.specs.declared.fault.MarksFault.TheVariants.{BadMarks, NoMemory}
 use Rattle.table_combine.specs.Combine.{Difference, first_difference, unite, unite_places, unite_module}
-use Rattle.table_combine.specs.Files.{AreOfOneTable, IsCombined, IsOtherTable, IsCombineFault, spelling}
+use Rattle.table_combine.specs.Files.{AreOfOneTable, IsOtherTable, IsCombineFault, spelling}
 use Rattle.table_combine.specs.FaultView.{fault_of}
 use Rattle.table_combine.proofs.UnionLemmas.{length-unite_places, same_rows, joined_rows}
 
@@ -24,7 +23,7 @@ places_kept [] qs = refl
 places_kept (p ∷ ps) [] = refl
 places_kept (p ∷ ps) (q ∷ qs) = same_rows (place_row p) (place_row p) (map place_row (unite_places ps qs)) (map place_row ps) refl (places_kept ps qs)
 
-row_kept : (m n : MarkedView) → module_row (unite_module m n) ≡ module_row m
+pub row_kept : (m n : MarkedView) → module_row (unite_module m n) ≡ module_row m
 row_kept m n = ap (λ k. m.name ++ (big_bytes 4 m.base ++ (big_bytes 4 m.size ++ big_bytes 4 k))) (length-unite_places m.places n.places)
 
 rows_kept : (ms ns : List MarkedView) → rows (unite ms ns) ≡ rows ms
@@ -91,15 +90,6 @@ files_step bytes at end all next united s h starts_so e same is =
       is = is ∙ (ap (λ x. unite x next) s.is ∙ sym (fold-append unite s.first s.others (next ∷ [])));
       rows_are = ap rows is ∙ (rows_kept all next ∙ s.rows_are);
     }
-
-pub files_end : (bytes : List ℕ) (at : ℕ) (all : List MarkedView) → FilesSoFar bytes at all → length bytes ≤ at → IsCombined bytes all
-files_end bytes at all s h = record {
-  first = s.first;
-  others = s.others;
-  table = s.table;
-  spelled = s.spelled ∙ (ap (λ t. spelling (s.first ∷ s.others) ++ t) (drop_of_length-le bytes h) ∙ append-nil (spelling (s.first ∷ s.others)));
-  is = s.is;
-}
 
 pub first_fault : (bytes : List ℕ) (fault : MarksFault) → IsFault (file_fields 0 bytes) fault → IsCombineFault bytes (fault_of fault)
 first_fault bytes NoMemory h = tt

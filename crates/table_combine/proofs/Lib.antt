@@ -2,3 +2,4 @@ pub mod DifferenceLemmas
 pub mod UnionLemmas
 pub mod FilesLemmas
 pub mod AnswerLemmas
+pub mod LawLemmas

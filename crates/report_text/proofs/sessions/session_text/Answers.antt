@@ -9,7 +9,7 @@ use Rattle.report_text.proofs.sessions.session_text.Goals as goal
 pub returns-in_err-put : goal.returns-in_err-put
 returns-in_err-put g c =
     let job = c.args.job.now in
-    let session = c.session.view_is ∙ c.session_at-session.ensures.value in
+    let session = c.session.view_is ∙ c.session-session.ensures.value in
     let name : c.session.inside.name ≡ (session_of job c.args.s.0).name = ap (λ (s : SessionView). s.name) session in
     let phase : c.session.inside.phase ≡ (session_of job c.args.s.0).phase = ap (λ (s : SessionView). s.phase) session in
     let text : c.session_line.result.items ≡ session_line (session_of job c.args.s.0).name (get_or job.phases (session_of job c.args.s.0).phase []) ++ 10 ∷ [] = rw (name, c.phase_name.ensures, phase) at c.session_line.ensures in
@@ -17,14 +17,14 @@ returns-in_err-put g c =
 
 pub modules_text-requires-clause-within : goal.modules_text-requires-clause-within
 modules_text-requires-clause-within g c =
-    let modules = ap (λ (s : SessionView). s.modules) (c.session.view_is ∙ c.session_at-session.ensures.value) in
+    let modules = ap (λ (s : SessionView). s.modules) (c.session.view_is ∙ c.session-session.ensures.value) in
     let these = c.deref.ensures.value ∙ modules in
     subst (λ ms. All (AreWithin c.args.tables.now (g.R.FactSets.set_of c.args.results.now c.args.s.0)) ms) (sym these) c.requires.sets.within
 
 pub returns : goal.returns
 returns g c =
     let job = c.args.job.now in
-    let session = c.session.view_is ∙ c.session_at-session.ensures.value in
+    let session = c.session.view_is ∙ c.session-session.ensures.value in
     let name : c.session.inside.name ≡ (session_of job c.args.s.0).name = ap (λ (s : SessionView). s.name) session in
     let phase : c.session.inside.phase ≡ (session_of job c.args.s.0).phase = ap (λ (s : SessionView). s.phase) session in
     let modules : c.deref.result.now ≡ (session_of job c.args.s.0).modules = c.deref.ensures.value ∙ ap (λ (s : SessionView). s.modules) session in

@@ -6,6 +6,7 @@ use Rattle.marks_file.specs.MarksFile.{rows}
 use Rattle.marks_file.proofs.MarksLemmas.{marks_have_rows, marks_count}
 use Rattle.table_combine.specs.Combine.{SameTables, unite}
 use Rattle.table_combine.proofs.UnionLemmas.{union_is_marks, length-unite, tables_rows, marks_places}
+use Rattle.table_combine.proofs.LawLemmas.{files_turned}
 use Rattle.table_combine.proofs.union.combine.Goals as goal
 
 pub first_difference-requires-clause-left : goal.first_difference-requires-clause-left
@@ -33,3 +34,9 @@ returns-in-None-clause-same c =
     let found : SameTables c.deref.result.now c.deref-2.result.now = c.in-None.ensures.none refl in
     let same : SameTables c.a.inside.modules.items c.b.inside.modules.items = rw (c.deref.ensures.value, c.deref-2.ensures.value) at found in
     sym (ap rows c.a.view_is) ∙ (tables_rows _ _ same ∙ ap rows c.b.view_is)
+
+pub returns-in-None-clause-turned : goal.returns-in-None-clause-turned
+returns-in-None-clause-turned c =
+    let found : SameTables c.deref.result.now c.deref-2.result.now = c.in-None.ensures.none refl in
+    let same : SameTables c.a.inside.modules.items c.b.inside.modules.items = rw (c.deref.ensures.value, c.deref-2.ensures.value) at found in
+    rw (c.a.view_is, c.b.view_is) at (files_turned c.a.inside.modules.items c.b.inside.modules.items same)
