@@ -8,20 +8,6 @@ use Rattle.s370_decode.specs.declared.code.Code.{Code}
 use Rattle.s370_decode.specs.declared.op.Op.{Op}
 use Rattle.s370_decode.specs.declared.op.Op.TheVariants.{BC, BCR, BCT, BCTR, BAL, BALR, BAS, BASR, BXH, BXLE}
 
--- the operation is one of these
-abbrev pub is_branch : Op → Bool
-is_branch BC = true
-is_branch BCR = true
-is_branch BCT = true
-is_branch BCTR = true
-is_branch BAL = true
-is_branch BALR = true
-is_branch BAS = true
-is_branch BASR = true
-is_branch BXH = true
-is_branch BXLE = true
-is_branch _ = false
-
 -- the mask's bits 8, 4, 2 and 1 select the condition codes 0, 1, 2 and 3
 unfoldable pub is_selected : ℕ → ℕ → Bool
 is_selected mask code = if code == 0 then nat_le 8 mask else (if code == 1 then nat_le 4 (mask % 8) else (if code == 2 then nat_le 2 (mask % 4) else mask % 2 == 1))

@@ -2,11 +2,12 @@
 ghost use Rattle.std.specs.Prelude.{◌≡◌, ℕ, ◌+◌, ◌*◌, ◌%◌, ◌<◌, ◌≤◌, ◌^◌, true, not, ◌&&◌, ◌==◌, int_lt, if◌then◌else◌, slice_index, slice_set};
 ghost use Rattle.s370_state.specs.Words.{signed};
 ghost use Rattle.s370_decode.specs.Fields.{first_half};
+ghost use Rattle.s370_decode.specs.Groups.{group_of};
 ghost use Rattle.s370_decode.specs.Table.{op_of};
-ghost use Rattle.s370_branch.specs.Branch.{is_branch, is_selected, less_one, index_sum, comparand, is_high, goes, branch_target, link_word, branch_regs, branched};
+ghost use Rattle.s370_branch.specs.Branch.{is_selected, less_one, index_sum, comparand, is_high, goes, branch_target, link_word, branch_regs, branched};
 
 use cov_base::Addr;
-use s370_decode::{Code, Op, op_of};
+use s370_decode::{Code, Group, Op, op_of};
 use s370_state::{Cpu, signed};
 
 /// Whether the mask selects the condition code.
@@ -82,8 +83,7 @@ fn goes(cpu: &Cpu, code: &Code, op: Op) -> bool
 pub fn outcome(cpu: &Cpu, code: &Code) -> bool
     ensures { result ≡ goes (op_of (first_half code.now)) cpu.now code.now }
 {
-    let first = u16::from(code.bytes[0]) * 256 + u16::from(code.bytes[1]);
-    goes(cpu, code, op_of(first))
+    goes(cpu, code, op_of(code.first_half()))
 }
 
 #[tactic(auto, unfolding(crate::specs::Branch::branch_target))]
@@ -129,7 +129,7 @@ fn set_registers(cpu: &mut Cpu, code: &Code, op: Op, next: Addr, link: u8)
 /// has no test and no interruption, also where it goes to an odd address. The operation is that of the code's first
 /// byte: it is passed because the caller has decoded it. Takes no memory.
 pub fn branch(cpu: &mut Cpu, code: &Code, op: Op, next: Addr, link: u8)
-    requires group { is_branch op ≡ true }
+    requires group { group_of op ≡ Group.Branch }
     requires link { link ≤ 2 }
     ensures { cpu.new ≡ branched op cpu.old code.now next link }
 {

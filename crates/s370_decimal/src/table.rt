@@ -1,12 +1,13 @@
 //! The one call for all decimal operations.
-ghost use Rattle.std.specs.Prelude.{◌≡◌, true};
-ghost use Rattle.s370_state.specs.Row.{Performs};
-ghost use Rattle.s370_decimal.specs.Decimal.{decimal_row, is_decimal};
+ghost use Rattle.std.specs.Prelude.{◌≡◌};
+ghost use Rattle.s370_decode.specs.Groups.{group_of};
+ghost use Rattle.s370_state.specs.Row.{Operates};
+ghost use Rattle.s370_decimal.specs.Decimal.{decimal_row};
 
 use crate::products::{divide, multiply};
 use crate::shifts::shift_and_round;
 use crate::sums::{add, compare, subtract, zero_and_add};
-use s370_decode::{Code, Op};
+use s370_decode::{Code, Group, Op};
 use s370_state::{Cpu, Next, Space};
 
 /// Performs a decimal operation: AP SP ZAP CP MP DP SRP (Principles of Operation, "Decimal Instructions"). Both fields
@@ -17,9 +18,9 @@ use s370_state::{Cpu, Next, Space};
 /// after an overflow has completed. ZAP doesn't look at what its first field held. Registers and the instruction
 /// address are left as they are. Takes no memory.
 pub fn decimal<P: Space>(cpu: &mut Cpu, space: &mut P, code: &Code, op: Op) -> Next
-    requires { is_decimal op ≡ true }
+    requires { group_of op ≡ Group.Decimal }
     ensures memory { P.memory space.new ≡ P.memory space.old }
-    ensures row { Performs (P.memory space.old) cpu.old (P.bytes space.old) (λ m s. decimal_row op m s code.now) cpu.new (P.bytes space.new) result }
+    ensures row { Operates (P.memory space.old) cpu.old (P.bytes space.old) (λ m s. decimal_row op m s code.now) cpu.new (P.bytes space.new) result }
 {
     match op {
         Op::AP => add(cpu, space, code),
@@ -29,6 +30,6 @@ pub fn decimal<P: Space>(cpu: &mut Cpu, space: &mut P, code: &Code, op: Op) -> N
         Op::MP => multiply(cpu, space, code),
         Op::DP => divide(cpu, space, code),
         Op::SRP => shift_and_round(cpu, space, code),
-        _ => Next::On,
+        _ => unreachable!(),
     }
 }

@@ -1,3 +1,4 @@
 pub mod Fields
+pub mod Groups
 pub mod Mnemonics
 pub mod Table

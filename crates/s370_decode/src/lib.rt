@@ -2,12 +2,14 @@
 #![tactic(auto)]
 
 mod code;
+mod group;
 mod halfword;
 mod mnemonics;
 mod op;
 mod table;
 
 pub use code::Code;
+pub use group::{Group, group_of};
 pub use halfword::{kind, length};
 pub use mnemonics::is_mnemonic;
 pub use op::Op;

@@ -11,17 +11,6 @@ use Rattle.s370_decode.specs.declared.op.Op.TheVariants.{ED, EDMK}
 use Rattle.s370_edit.specs.Working.{worked, formed}
 use Rattle.s370_edit.specs.declared.working.Working.{Working}
 
--- the operation is one of these
-abbrev pub is_edit : Op → Bool
-is_edit ED = true
-is_edit EDMK = true
-is_edit _ = false
-
--- it leaves the address of the last result byte whose digit is not 0 where significance was off before it
-abbrev pub is_marking : Op → Bool
-is_marking EDMK = true
-is_marking _ = false
-
 -- the first n bytes of a list go to storage from a on
 unfoldable pub stored : List ℕ → ℕ → List ℕ → ℕ → List ℕ
 stored bytes a result zero = bytes
@@ -59,5 +48,14 @@ pattern_row marks m s a b n = record {
   outcome = edited marks s a n (formed m s.bytes a b n) (worked m s.bytes a b n) (worked m s.bytes a b n).bad;
 }
 
-abbrev pub edit_row : Op → Memory → Machine → Code → Row
-edit_row op m s c = pattern_row (is_marking op) m s (e1 s.cpu c) (e2 s.cpu c) (i2 c + 1)
+abbrev pub row_ed : Memory → Machine → Code → Row
+row_ed m s c = pattern_row false m s (e1 s.cpu c) (e2 s.cpu c) (i2 c + 1)
+
+-- it also leaves the address of the last result byte whose digit is not 0 where significance was off before it
+abbrev pub row_edmk : Memory → Machine → Code → Row
+row_edmk m s c = pattern_row true m s (e1 s.cpu c) (e2 s.cpu c) (i2 c + 1)
+
+abbrev pub edit_row : Op → Memory → Machine → Code → Option Row
+edit_row ED m s c = Some (row_ed m s c)
+edit_row EDMK m s c = Some (row_edmk m s c)
+edit_row _ m s c = None

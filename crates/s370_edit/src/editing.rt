@@ -2,15 +2,17 @@
 ghost use Rattle.std.specs.Prelude.{◌≡◌, ℕ, ◌+◌, ◌*◌, ◌/◌, ◌%◌, ◌<◌, ◌≤◌, ◌^◌, true, false, [], ◌∷◌, ◌++◌, length, IfOk, IfErr, IfSome, IfNone, OnSome, OnOk, Some, None, slice_set, slice_index, if◌then◌else◌};
 ghost use Rattle.arrayvec.specs.ArrayVec.{array_vec_len};
 ghost use Rattle.cov_base.specs.Memory.{Memory, byte_at, can_reach, can_store, wrap};
-ghost use Rattle.s370_state.specs.Row.{Performs, use_tests, machine_of, after, finish};
+ghost use Rattle.s370_decode.specs.Fields.{i2, e1, e2};
+ghost use Rattle.s370_decode.specs.Groups.{group_of};
+ghost use Rattle.s370_state.specs.Row.{Performs, Operates, use_tests, machine_of, after, finish};
 ghost use Rattle.s370_edit.specs.Working.{worked, formed};
-ghost use Rattle.s370_edit.specs.Edit.{stored, field_code, marked, marked_by, edited, operands, pattern_row, edit_row, is_edit, is_marking};
+ghost use Rattle.s370_edit.specs.Edit.{stored, field_code, marked, marked_by, edited, operands, pattern_row, edit_row};
 
 use crate::pattern::work;
 use crate::working::Working;
 use arrayvec::ArrayVec;
 use cov_base::Addr;
-use s370_decode::{Code, Op};
+use s370_decode::{Code, Group, Op};
 use s370_state::{Cpu, Ending, Next, Space, put_into, test_store_read};
 
 /// Forms the result of the n pattern bytes from a on and the source from b on, and makes the tests of all bytes that
@@ -90,16 +92,6 @@ fn mark_by(cpu: &mut Cpu, marks: bool, address: Option<Addr>)
     }
 }
 
-/// EDMK alone leaves a mark.
-fn is_marking(op: Op) -> bool
-    ensures { result ≡ is_marking op }
-{
-    match op {
-        Op::EDMK => true,
-        _ => false,
-    }
-}
-
 /// Completes the operation, unless a digit was bad.
 fn complete<P: Space>(
     cpu: &mut Cpu,
@@ -124,6 +116,22 @@ fn complete<P: Space>(
     Next::On
 }
 
+/// Edits by the pattern, with or without a mark.
+#[tactic(auto, using(s370_state::proofs::Performs::passes, s370_state::proofs::Performs::refuses))]
+fn edit_pattern<P: Space>(cpu: &mut Cpu, space: &mut P, code: &Code, marks: bool) -> Next
+    ensures memory { P.memory space.new ≡ P.memory space.old }
+    ensures row { Performs (P.memory space.old) cpu.old (P.bytes space.old) (λ m s. pattern_row marks m s (e1 s.cpu code.now) (e2 s.cpu code.now) (i2 code.now + 1)) cpu.new (P.bytes space.new) result }
+{
+    let n = u32::from(code.l()) + 1;
+    let a = cpu.based(code.b1(), code.d1());
+    let b = cpu.based(code.b2(), code.d2());
+    let mut text = ArrayVec::new();
+    match form(space, a, n, b, &mut text) {
+        Ok(w) => complete(cpu, space, a, n, text.as_slice(), &w, marks),
+        Err(e) => Next::Ended(e),
+    }
+}
+
 /// Performs ED, which edits packed digits by a pattern that the result replaces, or EDMK, which also leaves in bits
 /// 8-31 of register 1 the address of each result byte whose digit is not 0 where significance was off before it, so
 /// that the last one stays. All tests are made, and the whole result is formed, before anything is changed. The task
@@ -132,18 +140,14 @@ fn complete<P: Space>(
 /// which no source byte is read; all without a change. The condition code is 0 for a last field that is zero, else 1
 /// where the significance indicator is on, 2 where it is off. The instruction address is left as it is. Takes no
 /// memory.
-#[tactic(auto, using(s370_state::proofs::Performs::passes, s370_state::proofs::Performs::refuses))]
 pub fn edit<P: Space>(cpu: &mut Cpu, space: &mut P, code: &Code, op: Op) -> Next
-    requires { is_edit op ≡ true }
+    requires { group_of op ≡ Group.Edit }
     ensures memory { P.memory space.new ≡ P.memory space.old }
-    ensures row { Performs (P.memory space.old) cpu.old (P.bytes space.old) (λ m s. edit_row op m s code.now) cpu.new (P.bytes space.new) result }
+    ensures row { Operates (P.memory space.old) cpu.old (P.bytes space.old) (λ m s. edit_row op m s code.now) cpu.new (P.bytes space.new) result }
 {
-    let n = u32::from(code.l()) + 1;
-    let a = cpu.based(code.b1(), code.d1());
-    let b = cpu.based(code.b2(), code.d2());
-    let mut text = ArrayVec::new();
-    match form(space, a, n, b, &mut text) {
-        Ok(w) => complete(cpu, space, a, n, text.as_slice(), &w, is_marking(op)),
-        Err(e) => Next::Ended(e),
+    match op {
+        Op::ED => edit_pattern(cpu, space, code, false),
+        Op::EDMK => edit_pattern(cpu, space, code, true),
+        _ => unreachable!(),
     }
 }

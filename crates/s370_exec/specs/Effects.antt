@@ -3,39 +3,23 @@ use Rattle.std.specs.Prelude.{ℕ, ◌+◌, zero, suc, min, nat_le, Bool, true, 
 use Rattle.cov_base.specs.States.{CpuView, Machine, IoView}
 use Rattle.cov_base.specs.Memory.{Memory, byte_at, wrap}
 use Rattle.s370_state.specs.Io.{bytes_left, bytes_free}
-use Rattle.s370_state.specs.Row.{After, perform, machine_of, reads, stores, use_tests, reg}
+use Rattle.s370_state.specs.Row.{After, operate, machine_of, reads, stores, use_tests, reg}
 use Rattle.s370_state.specs.declared.endings.Ending.{Ending}
 use Rattle.s370_state.specs.declared.endings.Ending.TheVariants.{Exit, Abend, BadSvc, OutFull}
 use Rattle.s370_state.specs.declared.endings.Next.{Next}
 use Rattle.s370_state.specs.declared.endings.Next.TheVariants.{On, Ended}
 use Rattle.s370_decode.specs.Fields.{i2}
+use Rattle.s370_decode.specs.Groups.{group_of}
 use Rattle.s370_decode.specs.declared.code.Code.{Code}
 use Rattle.s370_decode.specs.declared.op.Op.{Op}
-use Rattle.s370_decode.specs.declared.op.Op.TheVariants.{SVC, Privileged}
-use Rattle.s370_fixed.specs.Fixed.{is_fixed, fixed_row}
-use Rattle.s370_logic.specs.Logic.{is_logic, logic_row}
-use Rattle.s370_storage.specs.Storage.{is_storage, storage_row}
-use Rattle.s370_decimal.specs.Decimal.{is_decimal, decimal_row}
-use Rattle.s370_edit.specs.Edit.{is_edit, edit_row}
-use Rattle.s370_branch.specs.Branch.{is_branch, branched}
-use Rattle.s370_exec.specs.declared.group.Group.{Group}
-use Rattle.s370_exec.specs.declared.group.Group.TheVariants.{Fixed, Logic, Storage, Decimal, Edit, Branch, Call, Supervisor, Missing}
-
-abbrev pub group_of_others : Op → Group
-group_of_others SVC = Call
-group_of_others Privileged = Supervisor
-group_of_others _ = Missing
-
--- which table an operation's row stands in; EX, which only has its subject executed, stands in none
-abbrev pub group_of : Op → Group
-group_of op =
-    if is_fixed op then Fixed else (
-    if is_logic op then Logic else (
-    if is_storage op then Storage else (
-    if is_decimal op then Decimal else (
-    if is_edit op then Edit else (
-    if is_branch op then Branch else
-    group_of_others op)))))
+use Rattle.s370_fixed.specs.Fixed.{fixed_row}
+use Rattle.s370_logic.specs.Logic.{logic_row}
+use Rattle.s370_storage.specs.Storage.{storage_row}
+use Rattle.s370_decimal.specs.Decimal.{decimal_row}
+use Rattle.s370_edit.specs.Edit.{edit_row}
+use Rattle.s370_branch.specs.Branch.{branched}
+use Rattle.s370_decode.specs.declared.group.Group.{Group}
+use Rattle.s370_decode.specs.declared.group.Group.TheVariants.{Fixed, Logic, Storage, Decimal, Edit, Branch, Call, Supervisor, Missing}
 
 -- what an instruction makes of processor, private bytes, input and output
 pub record Effect : Type 0 where
@@ -124,11 +108,11 @@ call m s io n next =
     unchanged s io (Ended (BadSvc n))))))
 
 abbrev pub effect_in : Memory → Machine → IoView → Code → Op → ℕ → ℕ → Group → Effect
-effect_in m s io c op next link Fixed = onward next io (perform m s (fixed_row op m s c))
-effect_in m s io c op next link Logic = onward next io (perform m s (logic_row op m s c))
-effect_in m s io c op next link Storage = onward next io (perform m s (storage_row op m s c))
-effect_in m s io c op next link Decimal = onward next io (perform m s (decimal_row op m s c))
-effect_in m s io c op next link Edit = onward next io (perform m s (edit_row op m s c))
+effect_in m s io c op next link Fixed = onward next io (operate m s (fixed_row op m s c))
+effect_in m s io c op next link Logic = onward next io (operate m s (logic_row op m s c))
+effect_in m s io c op next link Storage = onward next io (operate m s (storage_row op m s c))
+effect_in m s io c op next link Decimal = onward next io (operate m s (decimal_row op m s c))
+effect_in m s io c op next link Edit = onward next io (operate m s (edit_row op m s c))
 effect_in m s io c op next link Branch = unchanged (machine_of (branched op s.cpu c next link) s.bytes) io On
 effect_in m s io c op next link Call = call m s io (i2 c) next
 effect_in m s io c op next link Supervisor = unchanged s io (Ended (Abend 2))

@@ -8,11 +8,10 @@ ghost use Rattle.s370_exec.specs.Fetch.{is_execute};
 ghost use Rattle.s370_exec.specs.Effects.{effect, effect_of, is_completed, onward_by, updated, link_code};
 
 use crate::calls::task_call;
-use crate::group::{Group, group_of};
 use cov_base::Addr;
 use s370_branch::branch;
 use s370_decimal::decimal;
-use s370_decode::{Code, Op, op_of};
+use s370_decode::{Code, Group, Op, group_of, op_of};
 use s370_edit::edit;
 use s370_fixed::fixed;
 use s370_logic::logic;
@@ -69,13 +68,6 @@ fn link_code(code: &Code, ex: &Option<Addr>) -> u8
     }
 }
 
-/// The operation of the instruction.
-fn operation(code: &Code) -> Op
-    ensures { result ≡ op_of (first_half code.now) }
-{
-    op_of(u16::from(code.bytes[0]) * 256 + u16::from(code.bytes[1]))
-}
-
 /// Executes an instruction that is no EX and whose length is that of its first halfword, under the order of tests
 /// from the operation on; `ex` is the address of the EX that executes it.
 #[tactic(auto, unfolding(crate::specs::Effects::effect))]
@@ -91,7 +83,7 @@ pub fn execute<P: Space>(
     ensures effect { effect_of cpu.new (P.bytes space.new) io.new result ≡
         effect (P.memory space.old) (machine_of cpu.old (P.bytes space.old)) io.old code.now (op_of (first_half code.now)) (updated code.now ex) (link_code code.now ex) }
 {
-    let op = operation(code);
+    let op = op_of(code.first_half());
     let next = updated(code, &ex);
     match group_of(op) {
         Group::Fixed => {

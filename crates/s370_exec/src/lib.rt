@@ -5,7 +5,6 @@
 mod alone;
 mod calls;
 mod fetch;
-mod group;
 mod instruction;
 mod subject;
 

@@ -1,20 +1,30 @@
 -- Shifts as products and quotients by powers of two.
-use Rattle.std.proofs.Common.{◌≡◌, ℕ, ◌-◌, ◌*◌, ◌/◌, ◌%◌, ◌^◌, ◌<◌, ◌≤◌, arith}
-use Rattle.std.proofs.Math.Nat.{mod-eq_of_lt, div-le_self, mul-le-mul}
+use Rattle.std.proofs.Common.{◌≡◌, ℕ, ◌*◌, ◌%◌, ◌^◌, ◌<◌, ◌≤◌, ℤ, pos, negsuc, neg_ℤ, refl, arith, lit<, FitsSigned}
+use Rattle.std.specs.Prelude.{◌≤ℤ◌, ◌<ℤ◌}
+use Rattle.std.specs.Int.{w128, int_shr}
+use Rattle.std.specs.Int.RustNames.{unsigned_abs}
+use Rattle.std.proofs.Math.Nat.{mod-eq_of_lt}
 use Rattle.std.proofs.Math.Pow.{pow_mono}
+use Rattle.std.proofs.lemmas.Int.{ints, fits_signed_mul}
+use Rattle.s370_fixed.specs.Shifts.{left_by, right_by}
 
-pub unlost_below : (x n : ℕ) → x < 18446744073709551616 → n < 64 → x * 2 ^ n < 170141183460469231731687303715884105728
-unlost_below x n l h =
-    let p : 2 ^ n ≤ 2 ^ 63 = pow_mono {i = n} {j = 63} (omega arith) in
-    let least : x ≤ 18446744073709551615 = omega (arith, l) in
-    let product : x * 2 ^ n ≤ 18446744073709551615 * 2 ^ 63 = mul-le-mul least p in
-    omega (arith, product)
+power_most : (n : ℕ) → n < 64 → 2 ^ n ≤ 9223372036854775808
+power_most n h = let p : 2 ^ n ≤ 2 ^ 63 = pow_mono {i = n} {j = 63} (omega arith) in omega (arith, p)
 
-pub unlost : (x n : ℕ) → x < 18446744073709551616 → n < 64 → x * 2 ^ n % 340282366920938463463374607431768211456 ≡ x * 2 ^ n
-unlost x n l h = mod-eq_of_lt (omega (arith, unlost_below x n l h))
+pub power_below : (n : ℕ) → n < 64 → 1 * 2 ^ n < 18446744073709551616
+power_below n h = let p = power_most n h in omega (arith, p)
 
-pub magnitude_told : (sign x : ℕ) → sign ≤ x → x < 2 * sign → sign - (x - sign) ≡ 2 * sign - x
-magnitude_told sign x l h = omega arith
+pub power_is : (n : ℕ) → n < 64 → 1 * 2 ^ n % 18446744073709551616 ≡ 2 ^ n
+power_is n h = let p = power_most n h in let e : 1 * 2 ^ n ≡ 2 ^ n = omega arith in rw e (mod-eq_of_lt (omega (arith, p)))
 
-pub quotient_most : (x k : ℕ) → x / 2 ^ k ≤ x
-quotient_most x k = div-le_self x (2 ^ k)
+abs_of : (z : ℤ) → neg_ℤ (pos 9223372036854775808) ≤ℤ z → z <ℤ pos 9223372036854775808 → unsigned_abs z ≤ 9223372036854775808
+abs_of (pos n) h l = omega (arith, ints)
+abs_of (negsuc n) h l = omega (arith, ints)
+
+pub left_fits : (x : ℤ) (n : ℕ) → neg_ℤ (pos 9223372036854775808) ≤ℤ x → x <ℤ pos 9223372036854775808 → n < 64 → FitsSigned w128 (left_by x n)
+left_fits x n low high h = fits_signed_mul w128 x (pos (2 ^ n)) 9223372036854775808 9223372036854775808 (abs_of x low high) (power_most n h) (lit< tt)
+
+-- a shift that copies the sign bit divides, and rounds down
+pub right_is : (x : ℤ) (n : ℕ) → int_shr x n ≡ right_by x n
+right_is (pos a) n = refl
+right_is (negsuc a) n = refl

@@ -1,8 +1,8 @@
 -- The row of each operation of fixed point and loads.
-use Rattle.std.specs.Prelude.{Bool, true, false}
+use Rattle.std.specs.Prelude.{Option, Some, None}
 use Rattle.cov_base.specs.States.{Machine}
 use Rattle.cov_base.specs.Memory.{Memory}
-use Rattle.s370_state.specs.Row.{Row, Completes, at_once}
+use Rattle.s370_state.specs.Row.{Row}
 use Rattle.s370_decode.specs.declared.code.Code.{Code}
 use Rattle.s370_decode.specs.declared.op.Op.{Op}
 use Rattle.s370_decode.specs.declared.op.Op.TheVariants.{LR, L, LH, LTR, LCR, LPR, LNR, LA, ST, STH, LM, STM, AR, A, AH, SR, S, SH, ALR, AL, SLR, SL, CR, C, CH, MR, M, MH, DR, D, SLL, SRL, SLA, SRA, SLDL, SRDL, SLDA, SRDA, CVB, CVD}
@@ -13,89 +13,45 @@ use Rattle.s370_fixed.specs.Products.{row_mr, row_m, row_mh, row_dr, row_d}
 use Rattle.s370_fixed.specs.Shifts.{row_sll, row_srl, row_sla, row_sra, row_sldl, row_srdl, row_slda, row_srda}
 use Rattle.s370_fixed.specs.Conversions.{row_cvb, row_cvd}
 
-abbrev pub fixed_row : Op → Memory → Machine → Code → Row
-fixed_row LR = row_lr
-fixed_row L = row_l
-fixed_row LH = row_lh
-fixed_row LTR = row_ltr
-fixed_row LCR = row_lcr
-fixed_row LPR = row_lpr
-fixed_row LNR = row_lnr
-fixed_row LA = row_la
-fixed_row ST = row_st
-fixed_row STH = row_sth
-fixed_row LM = row_lm
-fixed_row STM = row_stm
-fixed_row AR = row_ar
-fixed_row A = row_a
-fixed_row AH = row_ah
-fixed_row SR = row_sr
-fixed_row S = row_s
-fixed_row SH = row_sh
-fixed_row ALR = row_alr
-fixed_row AL = row_al
-fixed_row SLR = row_slr
-fixed_row SL = row_sl
-fixed_row CR = row_cr
-fixed_row C = row_c
-fixed_row CH = row_ch
-fixed_row MR = row_mr
-fixed_row M = row_m
-fixed_row MH = row_mh
-fixed_row DR = row_dr
-fixed_row D = row_d
-fixed_row SLL = row_sll
-fixed_row SRL = row_srl
-fixed_row SLA = row_sla
-fixed_row SRA = row_sra
-fixed_row SLDL = row_sldl
-fixed_row SRDL = row_srdl
-fixed_row SLDA = row_slda
-fixed_row SRDA = row_srda
-fixed_row CVB = row_cvb
-fixed_row CVD = row_cvd
-fixed_row _ = λ m s c. at_once (Completes s)
-
--- the operation is one of these
-abbrev pub is_fixed : Op → Bool
-is_fixed LR = true
-is_fixed L = true
-is_fixed LH = true
-is_fixed LTR = true
-is_fixed LCR = true
-is_fixed LPR = true
-is_fixed LNR = true
-is_fixed LA = true
-is_fixed ST = true
-is_fixed STH = true
-is_fixed LM = true
-is_fixed STM = true
-is_fixed AR = true
-is_fixed A = true
-is_fixed AH = true
-is_fixed SR = true
-is_fixed S = true
-is_fixed SH = true
-is_fixed ALR = true
-is_fixed AL = true
-is_fixed SLR = true
-is_fixed SL = true
-is_fixed CR = true
-is_fixed C = true
-is_fixed CH = true
-is_fixed MR = true
-is_fixed M = true
-is_fixed MH = true
-is_fixed DR = true
-is_fixed D = true
-is_fixed SLL = true
-is_fixed SRL = true
-is_fixed SLA = true
-is_fixed SRA = true
-is_fixed SLDL = true
-is_fixed SRDL = true
-is_fixed SLDA = true
-is_fixed SRDA = true
-is_fixed CVB = true
-is_fixed CVD = true
-is_fixed _ = false
+abbrev pub fixed_row : Op → Memory → Machine → Code → Option Row
+fixed_row LR m s c = Some (row_lr m s c)
+fixed_row L m s c = Some (row_l m s c)
+fixed_row LH m s c = Some (row_lh m s c)
+fixed_row LTR m s c = Some (row_ltr m s c)
+fixed_row LCR m s c = Some (row_lcr m s c)
+fixed_row LPR m s c = Some (row_lpr m s c)
+fixed_row LNR m s c = Some (row_lnr m s c)
+fixed_row LA m s c = Some (row_la m s c)
+fixed_row ST m s c = Some (row_st m s c)
+fixed_row STH m s c = Some (row_sth m s c)
+fixed_row LM m s c = Some (row_lm m s c)
+fixed_row STM m s c = Some (row_stm m s c)
+fixed_row AR m s c = Some (row_ar m s c)
+fixed_row A m s c = Some (row_a m s c)
+fixed_row AH m s c = Some (row_ah m s c)
+fixed_row SR m s c = Some (row_sr m s c)
+fixed_row S m s c = Some (row_s m s c)
+fixed_row SH m s c = Some (row_sh m s c)
+fixed_row ALR m s c = Some (row_alr m s c)
+fixed_row AL m s c = Some (row_al m s c)
+fixed_row SLR m s c = Some (row_slr m s c)
+fixed_row SL m s c = Some (row_sl m s c)
+fixed_row CR m s c = Some (row_cr m s c)
+fixed_row C m s c = Some (row_c m s c)
+fixed_row CH m s c = Some (row_ch m s c)
+fixed_row MR m s c = Some (row_mr m s c)
+fixed_row M m s c = Some (row_m m s c)
+fixed_row MH m s c = Some (row_mh m s c)
+fixed_row DR m s c = Some (row_dr m s c)
+fixed_row D m s c = Some (row_d m s c)
+fixed_row SLL m s c = Some (row_sll m s c)
+fixed_row SRL m s c = Some (row_srl m s c)
+fixed_row SLA m s c = Some (row_sla m s c)
+fixed_row SRA m s c = Some (row_sra m s c)
+fixed_row SLDL m s c = Some (row_sldl m s c)
+fixed_row SRDL m s c = Some (row_srdl m s c)
+fixed_row SLDA m s c = Some (row_slda m s c)
+fixed_row SRDA m s c = Some (row_srda m s c)
+fixed_row CVB m s c = Some (row_cvb m s c)
+fixed_row CVD m s c = Some (row_cvd m s c)
+fixed_row _ m s c = None

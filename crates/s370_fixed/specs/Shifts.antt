@@ -1,8 +1,11 @@
 -- The rows of shifts (Principles of Operation, "General Instructions").
-use Rattle.std.specs.Prelude.{ℕ, ◌+◌, ◌-◌, ◌*◌, ◌/◌, ◌%◌, ◌^◌, Bool, ◌==◌, nat_lt, nat_le, if◌then◌else◌, []}
+use Rattle.std.specs.Prelude.{ℕ, ◌+◌, ◌*◌, ◌/◌, ◌%◌, ◌^◌, if◌then◌else◌, [], ℤ, pos, ◌*ℤ◌}
+use Rattle.std.specs.Int.{cast_signed, cast_unsigned, int_div_euclid, is_negative, w64}
 use Rattle.cov_base.specs.States.{Machine}
 use Rattle.cov_base.specs.Memory.{Memory}
 use Rattle.s370_state.specs.Row.{Row, Outcome, Completes, Overflows, reg, with_reg, with_cc, is_even, pair, with_pair, at_once, with_regs}
+use Rattle.s370_state.specs.Words.{signed}
+use Rattle.s370_fixed.specs.Words.{modulo, low_word, is_word, is_doubleword, sign_code}
 use Rattle.s370_decode.specs.Fields.{r1, e2}
 use Rattle.s370_decode.specs.declared.code.Code.{Code}
 use Rattle.s370_fixed.specs.Operands.{loads}
@@ -17,43 +20,28 @@ row_sll m s c = at_once (loads s c (reg s (r1 c) * 2 ^ distance s c % 4294967296
 abbrev pub row_srl : Memory → Machine → Code → Row
 row_srl m s c = at_once (loads s c (reg s (r1 c) / 2 ^ distance s c))
 
--- Arithmetic shifts of a word or a doubleword x, whose sign bit has the value `sign`: 2^31 or 2^63.
+-- An arithmetic shift multiplies a signed number by a power of two, or divides by it and rounds down.
 
--- the sign bit stays, and the others go n bits to the left
-unfoldable pub shifted_left : ℕ → ℕ → ℕ → ℕ
-shifted_left sign x n = (if nat_lt x sign then 0 else sign) + x * 2 ^ n % sign
+abbrev pub left_by : ℤ → ℕ → ℤ
+left_by x n = x *ℤ pos (2 ^ n)
 
--- no bit unlike the sign is lost: the magnitude times 2^n is one of the same sign
-unfoldable pub keeps : ℕ → ℕ → ℕ → Bool
-keeps sign x n = if nat_lt x sign then nat_lt (x * 2 ^ n) sign else nat_le ((2 * sign - x) * 2 ^ n) sign
+abbrev pub right_by : ℤ → ℕ → ℤ
+right_by x n = int_div_euclid x (pos (2 ^ n))
 
--- bits like the sign come in at the left, and n bits are lost at the right
-unfoldable pub shifted_right : ℕ → ℕ → ℕ → ℕ
-shifted_right sign x n = if nat_lt x sign then x / 2 ^ n else (2 * sign - 1) - (2 * sign - 1 - x) / 2 ^ n
-
--- the sign code of such a word or doubleword
-unfoldable pub code_of : ℕ → ℕ → ℕ
-code_of sign x = if x == 0 then 0 else (if nat_lt x sign then 2 else 1)
-
--- 2^31
-abbrev pub word_sign : ℕ
-word_sign = 2147483648
-
--- 2^63
-abbrev pub double_sign : ℕ
-double_sign = 9223372036854775808
+-- the sign bit of x, whose value is `sign`, stays before the low bits of the product z; where z fits, this is z
+unfoldable pub with_sign : ℕ → ℤ → ℤ → ℕ
+with_sign sign x z = (if is_negative x then sign else 0) + modulo sign z
 
 abbrev pub row_sla : Memory → Machine → Code → Row
 row_sla m s c =
-    let x = reg s (r1 c) in
-    let n = distance s c in
-    let v = shifted_left word_sign x n in
-    at_once (Overflows (with_cc (with_reg s (r1 c) v) (if keeps word_sign x n then code_of word_sign v else 3)) (if keeps word_sign x n then 0 else 8))
+    let x = signed (reg s (r1 c)) in
+    let z = left_by x (distance s c) in
+    at_once (Overflows (with_cc (with_reg s (r1 c) (with_sign 2147483648 x z)) (if is_word z then sign_code z else 3)) (if is_word z then 0 else 8))
 
 abbrev pub row_sra : Memory → Machine → Code → Row
 row_sra m s c =
-    let v = shifted_right word_sign (reg s (r1 c)) (distance s c) in
-    at_once (Completes (with_cc (with_reg s (r1 c) v) (code_of word_sign v)))
+    let z = right_by (signed (reg s (r1 c))) (distance s c) in
+    at_once (Completes (with_cc (with_reg s (r1 c) (low_word z)) (sign_code z)))
 
 -- the same on 64 bits of a pair
 abbrev pub on_pair : Code → Outcome → Row
@@ -68,14 +56,17 @@ row_sldl m s c = on_pair c (Completes (to_pair s c (pair s.cpu (r1 c) * 2 ^ dist
 abbrev pub row_srdl : Memory → Machine → Code → Row
 row_srdl m s c = on_pair c (Completes (to_pair s c (pair s.cpu (r1 c) / 2 ^ distance s c)))
 
+-- the pair as a signed number
+abbrev pub signed_pair : Machine → Code → ℤ
+signed_pair s c = cast_signed w64 (pair s.cpu (r1 c))
+
 abbrev pub row_slda : Memory → Machine → Code → Row
 row_slda m s c =
-    let x = pair s.cpu (r1 c) in
-    let n = distance s c in
-    let v = shifted_left double_sign x n in
-    on_pair c (Overflows (with_cc (to_pair s c v) (if keeps double_sign x n then code_of double_sign v else 3)) (if keeps double_sign x n then 0 else 8))
+    let x = signed_pair s c in
+    let z = left_by x (distance s c) in
+    on_pair c (Overflows (with_cc (to_pair s c (with_sign 9223372036854775808 x z)) (if is_doubleword z then sign_code z else 3)) (if is_doubleword z then 0 else 8))
 
 abbrev pub row_srda : Memory → Machine → Code → Row
 row_srda m s c =
-    let v = shifted_right double_sign (pair s.cpu (r1 c)) (distance s c) in
-    on_pair c (Completes (with_cc (to_pair s c v) (code_of double_sign v)))
+    let z = right_by (signed_pair s c) (distance s c) in
+    on_pair c (Completes (with_cc (to_pair s c (cast_unsigned w64 z)) (sign_code z)))

@@ -7,15 +7,26 @@ use Rattle.cov_base.specs.Memory.{wrap}
 unfoldable pub signed_half : ℕ → ℤ
 signed_half n = cast_signed w16 n
 
--- a signed number modulo 2^32
-unfoldable pub low_word : ℤ → ℕ
-low_word (pos n) = n % 4294967296
-low_word (negsuc n) = 4294967295 - n % 4294967296
+-- a signed number modulo m
+abbrev pub modulo : ℕ → ℤ → ℕ
+modulo m (pos n) = n % m
+modulo m (negsuc n) = m - 1 - n % m
 
--- the number fits a signed word
+-- modulo 2^32
+unfoldable pub low_word : ℤ → ℕ
+low_word z = modulo 4294967296 z
+
+-- the number is at least -m, and below m
+abbrev pub is_within : ℕ → ℤ → Bool
+is_within m (pos n) = nat_lt n m
+is_within m (negsuc n) = nat_lt n m
+
+-- the number fits a signed word, and a signed doubleword
 unfoldable pub is_word : ℤ → Bool
-is_word (pos n) = nat_lt n 2147483648
-is_word (negsuc n) = nat_lt n 2147483648
+is_word z = is_within 2147483648 z
+
+unfoldable pub is_doubleword : ℤ → Bool
+is_doubleword z = is_within 9223372036854775808 z
 
 -- 0 for zero, 1 for negative, 2 for positive
 unfoldable pub sign_code : ℤ → ℕ

@@ -4,11 +4,14 @@
 ghost use Rattle.std.specs.Prelude.{◌≡◌, ℕ, ◌+◌, ◌-◌, ◌*◌, ◌/◌, ◌%◌, ◌^◌, ◌<◌, ◌≤◌, true, if◌then◌else◌, slice_set};
 ghost use Rattle.s370_state.specs.Row.{Performs, next_after};
 ghost use Rattle.s370_decode.specs.Fields.{e2};
-ghost use Rattle.s370_fixed.specs.Shifts.{shifted_left, shifted_right, keeps, code_of, row_sll, row_srl, row_sla, row_sra, row_sldl, row_srdl, row_slda, row_srda};
+ghost use Rattle.s370_state.specs.Words.{signed};
+ghost use Rattle.s370_fixed.specs.Words.{low_word, is_word, is_doubleword, sign_code};
+ghost use Rattle.s370_fixed.specs.Shifts.{left_by, right_by, with_sign, row_sll, row_srl, row_sla, row_sra, row_sldl, row_srdl, row_slda, row_srda};
 
 use crate::operands::load;
+use crate::words::{low_word, sign_code};
 use s370_decode::Code;
-use s370_state::{Cpu, Ending, Next, Space, next_after};
+use s370_state::{Cpu, Ending, Next, Space, next_after, signed};
 
 /// The value of a word's sign bit.
 const WORD_SIGN: u64 = 2_147_483_648;
@@ -24,75 +27,70 @@ fn distance(cpu: &Cpu, code: &Code) -> u32
     cpu.based(code.b2(), code.d2()).get() % 64
 }
 
-/// The number of up to 64 bits, shifted without loss.
-#[tactic(auto, using(crate::proofs::Powers::unlost, crate::proofs::Powers::unlost_below))]
-fn widened(x: u64, n: u32) -> u128
+/// The number times 2^n.
+#[tactic(auto, using(crate::proofs::Powers::power_below, crate::proofs::Powers::power_is, crate::proofs::Powers::left_fits))]
+fn left_by(x: i64, n: u32) -> i128
     requires { n < 64 }
-    ensures value { result ≡ x * 2 ^ n }
-    ensures below { result < 170141183460469231731687303715884105728 }
+    ensures { result ≡ left_by x n }
 {
-    u128::from(x) << n
+    i128::from(x) * i128::from(1u64 << n)
 }
 
-/// All bits but the sign bit go n places to the left.
-#[tactic(auto, unfolding(crate::specs::Shifts::shifted_left))]
-fn shifted_left(sign: u64, x: u64, n: u32) -> u64
+/// The product's low bits behind the sign bit of x.
+#[tactic(auto, unfolding(crate::specs::Shifts::with_sign))]
+fn with_sign(sign: u64, x: i64, z: i128) -> u64
     requires positive { 0 < sign }
     requires most { sign ≤ 9223372036854775808 }
-    requires n { n < 64 }
-    ensures value { result ≡ shifted_left sign x n }
+    ensures value { result ≡ with_sign sign x z }
     ensures below { result < 2 * sign }
 {
-    let low = (widened(x, n) % u128::from(sign)) as u64;
-    if x < sign { low } else { sign + low }
-}
-
-/// Whether no bit unlike the sign is lost.
-#[tactic(auto, unfolding(crate::specs::Shifts::keeps), using(crate::proofs::Powers::magnitude_told))]
-fn keeps(sign: u64, x: u64, n: u32) -> bool
-    requires most { sign ≤ 9223372036854775808 }
-    requires x { x < 2 * sign }
-    requires n { n < 64 }
-    ensures { result ≡ keeps sign x n }
-{
-    if x < sign {
-        widened(x, n) < u128::from(sign)
+    let bit = if x < 0 { sign } else { 0 };
+    let m = u128::from(sign);
+    if z >= 0 {
+        bit + (z as u128 % m) as u64
     } else {
-        widened(sign - (x - sign), n) <= u128::from(sign)
+        bit + (sign - 1 - (!z as u128 % m) as u64)
     }
 }
 
-/// Bits like the sign come in at the left.
-#[tactic(auto, unfolding(crate::specs::Shifts::shifted_right), using(crate::proofs::Powers::quotient_most))]
-fn shifted_right(sign: u64, x: u64, n: u32) -> u64
-    requires positive { 0 < sign }
-    requires most { sign ≤ 9223372036854775808 }
-    requires x { x < 2 * sign }
-    requires n { n < 64 }
-    ensures value { result ≡ shifted_right sign x n }
-    ensures below { result < 2 * sign }
+/// Whether the product fits a signed word.
+#[tactic(auto, unfolding(crate::specs::Words::is_word))]
+fn is_word(z: i128) -> bool
+    ensures { result ≡ is_word z }
 {
-    if x < sign {
-        x >> n
-    } else {
-        let last = sign - 1 + sign;
-        last - ((last - x) >> n)
-    }
+    -2_147_483_648 <= z && z < 2_147_483_648
 }
 
-/// The sign code of a word or doubleword.
-#[tactic(auto, unfolding(crate::specs::Shifts::code_of))]
-fn code_of(sign: u64, x: u64) -> u8
-    ensures value { result ≡ code_of sign x }
+/// Whether it fits a signed doubleword.
+#[tactic(auto, unfolding(crate::specs::Words::is_doubleword))]
+fn is_doubleword(z: i128) -> bool
+    ensures { result ≡ is_doubleword z }
+{
+    -9_223_372_036_854_775_808 <= z && z < 9_223_372_036_854_775_808
+}
+
+/// The sign code of a product.
+#[tactic(auto, unfolding(crate::specs::Words::sign_code))]
+fn product_code(z: i128) -> u8
+    ensures value { result ≡ sign_code z }
     ensures below { result ≤ 2 }
 {
-    if x == 0 {
+    if z == 0 {
         0
-    } else if x < sign {
-        2
-    } else {
+    } else if z < 0 {
         1
+    } else {
+        2
     }
+}
+
+/// The number right_by by 2^n, rounded down.
+#[tactic(auto, using(crate::proofs::Powers::right_is))]
+fn right_by(x: i64, n: u32) -> i64
+    requires { n < 64 }
+    ensures { result ≡ right_by x n }
+{
+    x >> n
 }
 
 /// The condition code of a left shift: the given one, or 3 with an overflow.
@@ -136,10 +134,10 @@ pub fn shift_left<P: Space>(cpu: &mut Cpu, space: &mut P, code: &Code) -> Next
     ensures row { Performs (P.memory space.old) cpu.old (P.bytes space.old) (λ m s. row_sla m s code.now) cpu.new (P.bytes space.new) result }
 {
     let n = distance(cpu, code);
-    let x = u64::from(cpu.reg(code.r1()));
-    let v = shifted_left(WORD_SIGN, x, n);
-    cpu.set_reg(code.r1(), v as u32);
-    set_code(cpu, keeps(WORD_SIGN, x, n), code_of(WORD_SIGN, v))
+    let x = signed(cpu.reg(code.r1()));
+    let z = left_by(x, n);
+    cpu.set_reg(code.r1(), with_sign(WORD_SIGN, x, z) as u32);
+    set_code(cpu, is_word(z), product_code(z))
 }
 
 /// SRA.
@@ -148,9 +146,9 @@ pub fn shift_right<P: Space>(cpu: &mut Cpu, space: &mut P, code: &Code) -> Next
     ensures row { Performs (P.memory space.old) cpu.old (P.bytes space.old) (λ m s. row_sra m s code.now) cpu.new (P.bytes space.new) result }
 {
     let n = distance(cpu, code);
-    let v = shifted_right(WORD_SIGN, u64::from(cpu.reg(code.r1())), n);
-    cpu.set_reg(code.r1(), v as u32);
-    cpu.set_cc(code_of(WORD_SIGN, v));
+    let z = right_by(signed(cpu.reg(code.r1())), n);
+    cpu.set_reg(code.r1(), low_word(z));
+    cpu.set_cc(sign_code(z));
     Next::On
 }
 
@@ -192,10 +190,10 @@ pub fn shift_left_double<P: Space>(cpu: &mut Cpu, space: &mut P, code: &Code) ->
         return Next::Ended(Ending::Abend(6));
     }
     let n = distance(cpu, code);
-    let x = cpu.pair(r);
-    let v = shifted_left(DOUBLE_SIGN, x, n);
-    cpu.set_pair(r, v);
-    set_code(cpu, keeps(DOUBLE_SIGN, x, n), code_of(DOUBLE_SIGN, v))
+    let x = cpu.pair(r).cast_signed();
+    let z = left_by(x, n);
+    cpu.set_pair(r, with_sign(DOUBLE_SIGN, x, z));
+    set_code(cpu, is_doubleword(z), product_code(z))
 }
 
 /// SRDA.
@@ -208,8 +206,8 @@ pub fn shift_right_double<P: Space>(cpu: &mut Cpu, space: &mut P, code: &Code) -
         return Next::Ended(Ending::Abend(6));
     }
     let n = distance(cpu, code);
-    let v = shifted_right(DOUBLE_SIGN, cpu.pair(r), n);
-    cpu.set_pair(r, v);
-    cpu.set_cc(code_of(DOUBLE_SIGN, v));
+    let z = right_by(cpu.pair(r).cast_signed(), n);
+    cpu.set_pair(r, z.cast_unsigned());
+    cpu.set_cc(sign_code(z));
     Next::On
 }

@@ -1,7 +1,8 @@
 //! The one call for all operations of fixed point and loads.
-ghost use Rattle.std.specs.Prelude.{◌≡◌, true};
-ghost use Rattle.s370_state.specs.Row.{Performs};
-ghost use Rattle.s370_fixed.specs.Fixed.{fixed_row, is_fixed};
+ghost use Rattle.std.specs.Prelude.{◌≡◌};
+ghost use Rattle.s370_decode.specs.Groups.{group_of};
+ghost use Rattle.s370_state.specs.Row.{Operates};
+ghost use Rattle.s370_fixed.specs.Fixed.{fixed_row};
 
 use crate::conversions::{convert_to_binary, convert_to_decimal};
 use crate::loads::{
@@ -21,7 +22,7 @@ use crate::sums::{
     compare_register, compare_word, subtract_half, subtract_logical_register,
     subtract_logical_word, subtract_register, subtract_word,
 };
-use s370_decode::{Code, Op};
+use s370_decode::{Code, Group, Op};
 use s370_state::{Cpu, Next, Space};
 
 /// Performs an operation of fixed point and loads: LR L LH LTR LCR LPR LNR LA ST STH LM STM, AR A AH SR S SH ALR AL
@@ -32,9 +33,9 @@ use s370_state::{Cpu, Next, Space};
 /// code 8, under the mask's first bit, after an overflow has completed. The instruction address is left as it is.
 /// Takes no memory.
 pub fn fixed<P: Space>(cpu: &mut Cpu, space: &mut P, code: &Code, op: Op) -> Next
-    requires { is_fixed op ≡ true }
+    requires { group_of op ≡ Group.Fixed }
     ensures memory { P.memory space.new ≡ P.memory space.old }
-    ensures row { Performs (P.memory space.old) cpu.old (P.bytes space.old) (λ m s. fixed_row op m s code.now) cpu.new (P.bytes space.new) result }
+    ensures row { Operates (P.memory space.old) cpu.old (P.bytes space.old) (λ m s. fixed_row op m s code.now) cpu.new (P.bytes space.new) result }
 {
     match op {
         Op::LR => load_register(cpu, space, code),
@@ -77,6 +78,6 @@ pub fn fixed<P: Space>(cpu: &mut Cpu, space: &mut P, code: &Code, op: Op) -> Nex
         Op::SRDA => shift_right_double(cpu, space, code),
         Op::CVB => convert_to_binary(cpu, space, code),
         Op::CVD => convert_to_decimal(cpu, space, code),
-        _ => Next::On,
+        _ => unreachable!(),
     }
 }

@@ -1,8 +1,8 @@
 -- The row of each operation of logic and tests.
-use Rattle.std.specs.Prelude.{Bool, true, false, bit_and, bit_or, bit_xor}
+use Rattle.std.specs.Prelude.{Option, Some, None, bit_and, bit_or, bit_xor}
 use Rattle.cov_base.specs.States.{Machine}
 use Rattle.cov_base.specs.Memory.{Memory}
-use Rattle.s370_state.specs.Row.{Row, Completes, at_once}
+use Rattle.s370_state.specs.Row.{Row}
 use Rattle.s370_decode.specs.declared.code.Code.{Code}
 use Rattle.s370_decode.specs.declared.op.Op.{Op}
 use Rattle.s370_decode.specs.declared.op.Op.TheVariants.{NR, N, NI, NC, OR, O, OI, OC, XR, X, XI, XC, CLR, CL, CLI, CLC, IC, STC, ICM, STCM, CLM, TM, MVI, TS, CS, CDS, SPM}
@@ -12,63 +12,32 @@ use Rattle.s370_logic.specs.SingleBytes.{row_ic, row_stc, row_mvi, row_tm, row_t
 use Rattle.s370_logic.specs.Masked.{row_icm, row_stcm, row_clm}
 use Rattle.s370_logic.specs.Swaps.{row_cs, row_cds}
 
-abbrev pub logic_row : Op → Memory → Machine → Code → Row
-logic_row NR = row_registers bit_and
-logic_row N = row_word bit_and
-logic_row NI = row_immediate bit_and
-logic_row NC = row_fields bit_and
-logic_row OR = row_registers bit_or
-logic_row O = row_word bit_or
-logic_row OI = row_immediate bit_or
-logic_row OC = row_fields bit_or
-logic_row XR = row_registers bit_xor
-logic_row X = row_word bit_xor
-logic_row XI = row_immediate bit_xor
-logic_row XC = row_fields bit_xor
-logic_row CLR = row_clr
-logic_row CL = row_cl
-logic_row CLI = row_cli
-logic_row CLC = row_clc
-logic_row IC = row_ic
-logic_row STC = row_stc
-logic_row ICM = row_icm
-logic_row STCM = row_stcm
-logic_row CLM = row_clm
-logic_row TM = row_tm
-logic_row MVI = row_mvi
-logic_row TS = row_ts
-logic_row CS = row_cs
-logic_row CDS = row_cds
-logic_row SPM = row_spm
-logic_row _ = λ m s c. at_once (Completes s)
-
--- the operation is one of these
-abbrev pub is_logic : Op → Bool
-is_logic NR = true
-is_logic N = true
-is_logic NI = true
-is_logic NC = true
-is_logic OR = true
-is_logic O = true
-is_logic OI = true
-is_logic OC = true
-is_logic XR = true
-is_logic X = true
-is_logic XI = true
-is_logic XC = true
-is_logic CLR = true
-is_logic CL = true
-is_logic CLI = true
-is_logic CLC = true
-is_logic IC = true
-is_logic STC = true
-is_logic ICM = true
-is_logic STCM = true
-is_logic CLM = true
-is_logic TM = true
-is_logic MVI = true
-is_logic TS = true
-is_logic CS = true
-is_logic CDS = true
-is_logic SPM = true
-is_logic _ = false
+abbrev pub logic_row : Op → Memory → Machine → Code → Option Row
+logic_row NR m s c = Some (row_registers bit_and m s c)
+logic_row N m s c = Some (row_word bit_and m s c)
+logic_row NI m s c = Some (row_immediate bit_and m s c)
+logic_row NC m s c = Some (row_fields bit_and m s c)
+logic_row OR m s c = Some (row_registers bit_or m s c)
+logic_row O m s c = Some (row_word bit_or m s c)
+logic_row OI m s c = Some (row_immediate bit_or m s c)
+logic_row OC m s c = Some (row_fields bit_or m s c)
+logic_row XR m s c = Some (row_registers bit_xor m s c)
+logic_row X m s c = Some (row_word bit_xor m s c)
+logic_row XI m s c = Some (row_immediate bit_xor m s c)
+logic_row XC m s c = Some (row_fields bit_xor m s c)
+logic_row CLR m s c = Some (row_clr m s c)
+logic_row CL m s c = Some (row_cl m s c)
+logic_row CLI m s c = Some (row_cli m s c)
+logic_row CLC m s c = Some (row_clc m s c)
+logic_row IC m s c = Some (row_ic m s c)
+logic_row STC m s c = Some (row_stc m s c)
+logic_row ICM m s c = Some (row_icm m s c)
+logic_row STCM m s c = Some (row_stcm m s c)
+logic_row CLM m s c = Some (row_clm m s c)
+logic_row TM m s c = Some (row_tm m s c)
+logic_row MVI m s c = Some (row_mvi m s c)
+logic_row TS m s c = Some (row_ts m s c)
+logic_row CS m s c = Some (row_cs m s c)
+logic_row CDS m s c = Some (row_cds m s c)
+logic_row SPM m s c = Some (row_spm m s c)
+logic_row _ m s c = None

@@ -1,7 +1,8 @@
 //! The one call for all operations of logic and tests.
-ghost use Rattle.std.specs.Prelude.{◌≡◌, true};
-ghost use Rattle.s370_state.specs.Row.{Performs};
-ghost use Rattle.s370_logic.specs.Logic.{logic_row, is_logic};
+ghost use Rattle.std.specs.Prelude.{◌≡◌};
+ghost use Rattle.s370_decode.specs.Groups.{group_of};
+ghost use Rattle.s370_state.specs.Row.{Operates};
+ghost use Rattle.s370_logic.specs.Logic.{logic_row};
 
 use crate::bitwise::{Connective, join_fields, join_immediate, join_registers, join_word};
 use crate::comparisons::{compare_fields, compare_immediate, compare_registers, compare_word};
@@ -11,7 +12,7 @@ use crate::single_bytes::{
     test_under_mask,
 };
 use crate::swaps::{compare_and_swap, compare_double_and_swap};
-use s370_decode::{Code, Op};
+use s370_decode::{Code, Group, Op};
 use s370_state::{Cpu, Next, Space};
 
 /// Performs an operation of logic and tests: NR N NI NC, OR O OI OC, XR X XI XC, CLR CL CLI CLC, IC STC, ICM STCM CLM,
@@ -21,9 +22,9 @@ use s370_state::{Cpu, Next, Space};
 /// without a change. An operand that is stored and read counts as stored, that of CS and CDS also where they only
 /// load. The instruction address is left as it is. Takes no memory.
 pub fn logic<P: Space>(cpu: &mut Cpu, space: &mut P, code: &Code, op: Op) -> Next
-    requires { is_logic op ≡ true }
+    requires { group_of op ≡ Group.Logic }
     ensures memory { P.memory space.new ≡ P.memory space.old }
-    ensures row { Performs (P.memory space.old) cpu.old (P.bytes space.old) (λ m s. logic_row op m s code.now) cpu.new (P.bytes space.new) result }
+    ensures row { Operates (P.memory space.old) cpu.old (P.bytes space.old) (λ m s. logic_row op m s code.now) cpu.new (P.bytes space.new) result }
 {
     match op {
         Op::NR => join_registers(cpu, space, code, Connective::And),
@@ -53,6 +54,6 @@ pub fn logic<P: Space>(cpu: &mut Cpu, space: &mut P, code: &Code, op: Op) -> Nex
         Op::CS => compare_and_swap(cpu, space, code),
         Op::CDS => compare_double_and_swap(cpu, space, code),
         Op::SPM => set_program_mask(cpu, space, code),
-        _ => Next::On,
+        _ => unreachable!(),
     }
 }

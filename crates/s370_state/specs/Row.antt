@@ -77,6 +77,11 @@ after_tests s o (Some e) = record { machine = s; next = Ended e }
 unfoldable pub perform : Memory → Machine → Row → After
 perform m s row = after_tests s row.outcome (tests m row.well row.uses)
 
+-- as the row of an operation says; without a row there is no operation, and code 1 ends the task
+abbrev pub operate : Memory → Machine → Option Row → After
+operate m s (Some row) = perform m s row
+operate m s None = record { machine = s; next = Ended (Abend 1) }
+
 -- no operand in storage, and no test
 abbrev pub at_once : Outcome → Row
 at_once o = record { well = true; uses = []; outcome = o }
@@ -130,3 +135,7 @@ with_bytes s bytes = record { cpu = s.cpu; bytes = bytes }
 -- the row's effect, from the old to the new registers and bytes
 abbrev pub Performs : Memory → CpuView → List ℕ → (Memory → Machine → Row) → CpuView → List ℕ → Next → Type 0
 Performs m c b row c' b' next = after c' b' next ≡ perform m (machine_of c b) (row m (machine_of c b))
+
+-- the same of an operation's row
+abbrev pub Operates : Memory → CpuView → List ℕ → (Memory → Machine → Option Row) → CpuView → List ℕ → Next → Type 0
+Operates m c b row c' b' next = after c' b' next ≡ operate m (machine_of c b) (row m (machine_of c b))

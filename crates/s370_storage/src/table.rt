@@ -1,13 +1,14 @@
 //! The one call for all operations on fields in storage.
-ghost use Rattle.std.specs.Prelude.{◌≡◌, true};
-ghost use Rattle.s370_state.specs.Row.{Performs};
-ghost use Rattle.s370_storage.specs.Storage.{storage_row, is_storage};
+ghost use Rattle.std.specs.Prelude.{◌≡◌};
+ghost use Rattle.s370_decode.specs.Groups.{group_of};
+ghost use Rattle.s370_state.specs.Row.{Operates};
+ghost use Rattle.s370_storage.specs.Storage.{storage_row};
 
 use crate::long::{compare_long, move_long};
 use crate::moves::{move_characters, move_inverse, move_numerics, move_zones};
 use crate::packing::{move_with_offset, pack, unpack};
 use crate::translate::{translate, translate_and_test};
-use s370_decode::{Code, Op};
+use s370_decode::{Code, Group, Op};
 use s370_state::{Cpu, Next, Space};
 
 /// Performs an operation on fields in storage: MVC MVN MVZ MVCIN, TR TRT, MVCL CLCL, PACK UNPK and MVO (Principles of
@@ -17,9 +18,9 @@ use s370_state::{Cpu, Next, Space};
 /// MVCL is refused by condition code 3 where it would move a byte after it was stored into. The instruction address is
 /// left as it is. Takes no memory.
 pub fn storage<P: Space>(cpu: &mut Cpu, space: &mut P, code: &Code, op: Op) -> Next
-    requires { is_storage op ≡ true }
+    requires { group_of op ≡ Group.Storage }
     ensures memory { P.memory space.new ≡ P.memory space.old }
-    ensures row { Performs (P.memory space.old) cpu.old (P.bytes space.old) (λ m s. storage_row op m s code.now) cpu.new (P.bytes space.new) result }
+    ensures row { Operates (P.memory space.old) cpu.old (P.bytes space.old) (λ m s. storage_row op m s code.now) cpu.new (P.bytes space.new) result }
 {
     match op {
         Op::MVC => move_characters(cpu, space, code),
@@ -33,6 +34,6 @@ pub fn storage<P: Space>(cpu: &mut Cpu, space: &mut P, code: &Code, op: Op) -> N
         Op::PACK => pack(cpu, space, code),
         Op::UNPK => unpack(cpu, space, code),
         Op::MVO => move_with_offset(cpu, space, code),
-        _ => Next::On,
+        _ => unreachable!(),
     }
 }

@@ -1,10 +1,9 @@
 //! The vectors' notation, and what runs them: a line's instruction is executed alone, and all that it could change is
 //! compared.
-use crate::group::{Group, group_of};
 use crate::{execute, is_execute};
 use cov_base::Addr;
 use s370_branch::{branch, outcome};
-use s370_decode::{Code, length, op_of};
+use s370_decode::{Code, Group, group_of, length, op_of};
 use s370_state::{Cpu, Ending, Next, PlainSpace, TaskIo};
 use std::alloc::{AllocError, Global};
 use std::process::Abort;
@@ -294,7 +293,7 @@ fn perform(
     known: &Known,
     line: &str,
 ) -> Next {
-    let half = u16::from(code.bytes[0]) * 256 + u16::from(code.bytes[1]);
+    let half = code.first_half();
     if let Some(link) = known.link {
         let op = op_of(half);
         match group_of(op) {

@@ -1,10 +1,10 @@
-//! The tables that the operations stand in.
+//! The groups of the operations.
 ghost use Rattle.std.specs.Prelude.{◌≡◌};
-ghost use Rattle.s370_exec.specs.Effects.{group_of};
+ghost use Rattle.s370_decode.specs.Groups.{group_of};
 
-use s370_decode::Op;
+use crate::op::Op;
 
-/// A table of operations, or how a code without a row is refused.
+/// A group of operations, or how a code without an operation of its own is refused.
 #[derive(Clone, Copy, Debug, PartialEq, Eq)]
 pub enum Group {
     Fixed,
@@ -17,11 +17,11 @@ pub enum Group {
     Call,
     /// Privileged: code 2.
     Supervisor,
-    /// Without a row: code 1.
+    /// EX, which only has its subject executed, and codes without an operation: code 1.
     Missing,
 }
 
-/// The table that has the operation. EX stands in none: its subject is executed in its place.
+/// The group that the operation is of.
 pub fn group_of(op: Op) -> Group
     ensures { result ≡ group_of op }
 {
