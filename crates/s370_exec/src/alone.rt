@@ -25,7 +25,7 @@ pub fn has_returned(cpu: &Cpu) -> bool
 fn is_ex(code: &Code) -> bool
     ensures { result ≡ is_execute (first_half code.now) }
 {
-    is_execute(u16::from(code.bytes[0]) * 256 + u16::from(code.bytes[1]))
+    is_execute(code.first_half())
 }
 
 /// Executes the subject of an EX that was fetched whole.
