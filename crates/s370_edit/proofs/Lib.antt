@@ -1,4 +1,3 @@
 pub mod Sources
 pub mod Workings
-pub mod Stores
 pub mod Refusals

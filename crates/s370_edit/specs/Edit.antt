@@ -1,20 +1,16 @@
 -- The rows of editing: the pattern is the first operand and becomes the result, and the source is packed decimal
 -- (Principles of Operation, "Decimal Instructions", "Edit", "Edit and Mark").
-use Rattle.std.specs.Prelude.{ℕ, zero, suc, ◌+◌, Bool, true, false, if◌then◌else◌, Option, Some, None, List, [], ◌∷◌, slice_index, slice_set}
+use Rattle.std.specs.Prelude.{ℕ, ◌+◌, Bool, true, false, if◌then◌else◌, Option, Some, None, List, [], ◌∷◌}
 use Rattle.cov_base.specs.States.{Machine}
-use Rattle.cov_base.specs.Memory.{Memory, wrap}
+use Rattle.cov_base.specs.Memory.{Memory}
 use Rattle.s370_state.specs.Row.{Row, Use, Outcome, Completes, Program, reads, stores, with_address}
+use Rattle.s370_state.specs.Digits.{store_bytes}
 use Rattle.s370_decode.specs.Fields.{i2, e1, e2}
 use Rattle.s370_decode.specs.declared.code.Code.{Code}
 use Rattle.s370_decode.specs.declared.op.Op.{Op}
 use Rattle.s370_decode.specs.declared.op.Op.TheVariants.{ED, EDMK}
 use Rattle.s370_edit.specs.Working.{worked, formed}
 use Rattle.s370_edit.specs.declared.working.Working.{Working}
-
--- the first n bytes of a list go to storage from a on
-unfoldable pub stored : List ℕ → ℕ → List ℕ → ℕ → List ℕ
-stored bytes a result zero = bytes
-stored bytes a result (suc n) = slice_set (stored bytes a result n) (wrap (a + n)) (slice_index result n)
 
 -- 0 for a last field that is zero or empty, 1 where significance is on behind it, 2 where it is off
 abbrev pub field_code : Working → ℕ
@@ -29,12 +25,12 @@ abbrev pub marked_by : Bool → List ℕ → Option ℕ → List ℕ
 marked_by false regs mark = regs
 marked_by true regs mark = marked regs mark
 
--- what n bytes from a on and the processor become; a digit above 9 is code 7
-abbrev pub edited : Bool → Machine → ℕ → ℕ → List ℕ → Working → Bool → Outcome
-edited marks s a n result w true = Program 7
-edited marks s a n result w false = Completes (record {
+-- what the bytes from a on and the processor become; a digit above 9 is code 7
+abbrev pub edited : Bool → Machine → ℕ → List ℕ → Working → Bool → Outcome
+edited marks s a result w true = Program 7
+edited marks s a result w false = Completes (record {
   cpu = record { regs = marked_by marks s.cpu.regs w.mark; ia = s.cpu.ia; condition = field_code w; mask = s.cpu.mask };
-  bytes = stored s.bytes a result n;
+  bytes = store_bytes s.bytes a result;
 })
 
 -- the n pattern bytes from a on, and of the source from b on as many bytes as the working reads
@@ -45,7 +41,7 @@ abbrev pub pattern_row : Bool → Memory → Machine → ℕ → ℕ → ℕ →
 pattern_row marks m s a b n = record {
   well = true;
   uses = operands m s.bytes a b n;
-  outcome = edited marks s a n (formed m s.bytes a b n) (worked m s.bytes a b n) (worked m s.bytes a b n).bad;
+  outcome = edited marks s a (formed m s.bytes a b n) (worked m s.bytes a b n) (worked m s.bytes a b n).bad;
 }
 
 abbrev pub row_ed : Memory → Machine → Code → Row

@@ -4,9 +4,10 @@ ghost use Rattle.arrayvec.specs.ArrayVec.{array_vec_len};
 ghost use Rattle.cov_base.specs.Memory.{Memory, byte_at, can_reach, can_store, wrap};
 ghost use Rattle.s370_decode.specs.Fields.{i2, e1, e2};
 ghost use Rattle.s370_decode.specs.Groups.{group_of};
+ghost use Rattle.s370_state.specs.Digits.{store_bytes};
 ghost use Rattle.s370_state.specs.Row.{Performs, Operates, use_tests, machine_of, after, finish};
 ghost use Rattle.s370_edit.specs.Working.{worked, formed};
-ghost use Rattle.s370_edit.specs.Edit.{stored, field_code, marked, marked_by, edited, operands, pattern_row, edit_row};
+ghost use Rattle.s370_edit.specs.Edit.{field_code, marked, marked_by, edited, operands, pattern_row, edit_row};
 
 use crate::pattern::work;
 use crate::working::Working;
@@ -48,12 +49,12 @@ fn form<P: Space>(
 }
 
 /// Stores the n bytes of the text from a on.
-#[tactic(auto, using(crate::proofs::Stores::stored_none, crate::proofs::Stores::stored_more))]
+#[tactic(auto, using(s370_state::proofs::Stores::none_stored, s370_state::proofs::Stores::one_stored, s370_state::proofs::Stores::all_stored))]
 fn store<P: Space>(space: &mut P, a: Addr, n: u32, text: &[u8])
     requires len { length text.now ≡ n }
     requires store { can_store (P.memory space.old) a n ≡ true }
     ensures memory { P.memory space.new ≡ P.memory space.old }
-    ensures bytes { P.bytes space.new ≡ stored (P.bytes space.old) a text.now n }
+    ensures bytes { P.bytes space.new ≡ store_bytes (P.bytes space.old) a text.now }
 {
     for i in 0..n {
         put_into(space, a, i, n, text[i as usize]);
@@ -105,7 +106,7 @@ fn complete<P: Space>(
     requires len { length text.now ≡ n }
     requires store { can_store (P.memory space.old) a n ≡ true }
     ensures memory { P.memory space.new ≡ P.memory space.old }
-    ensures outcome { after cpu.new (P.bytes space.new) result ≡ finish (machine_of cpu.old (P.bytes space.old)) (edited marks (machine_of cpu.old (P.bytes space.old)) a n text.now w.now w.now.bad) }
+    ensures outcome { after cpu.new (P.bytes space.new) result ≡ finish (machine_of cpu.old (P.bytes space.old)) (edited marks (machine_of cpu.old (P.bytes space.old)) a text.now w.now w.now.bad) }
 {
     if w.bad {
         return Next::Ended(Ending::Abend(7));

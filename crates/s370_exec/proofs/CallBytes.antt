@@ -1,9 +1,8 @@
 -- Bytes that the task calls move, one at a time.
 use Rattle.std.proofs.Common.{◌≡◌, ℕ, ◌+◌, zero, suc, List, [], ◌∷◌, ◌++◌, length, refl, sym, add-one, arith}
 use Rattle.std.proofs.lemmas.List.{append-nil, append_assoc, length-append}
-use Rattle.std.specs.Prelude.{slice_index, slice_set}
 use Rattle.cov_base.specs.Memory.{Memory, byte_at, wrap}
-use Rattle.s370_exec.specs.Effects.{operand, received}
+use Rattle.s370_exec.specs.Effects.{operand}
 
 pub none_put : (out : List ℕ) (m : Memory) (b : List ℕ) (a : ℕ) → out ++ operand m b a 0 ≡ out
 unfolding operand
@@ -18,11 +17,3 @@ pub operand-length : (m : Memory) (b : List ℕ) (a n : ℕ) → length (operand
 unfolding operand
 operand-length m b a zero = refl
 operand-length m b a (suc n) = omega (arith, length-append (operand m b a n) (byte_at m b (wrap (a + n)) ∷ []), operand-length m b a n)
-
-pub none_got : (b : List ℕ) (a : ℕ) (list : List ℕ) (k : ℕ) → received b a list k 0 ≡ b
-unfolding received
-none_got b a list k = refl
-
-pub one_got : (b : List ℕ) (a : ℕ) (list : List ℕ) (k n : ℕ) → received b a list k (n + 1) ≡ slice_set (received b a list k n) (wrap (a + n)) (slice_index list (k + n))
-unfolding received
-one_got b a list k n = rw add-one refl

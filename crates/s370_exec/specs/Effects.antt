@@ -1,7 +1,8 @@
 -- The effect of an instruction that was fetched whole: the row of its operation, the task calls, and codes without a row.
-use Rattle.std.specs.Prelude.{ℕ, ◌+◌, zero, suc, min, nat_le, Bool, true, false, if◌then◌else◌, ◌==◌, Option, Some, None, List, [], ◌∷◌, ◌++◌, slice_index, slice_set}
+use Rattle.std.specs.Prelude.{ℕ, ◌+◌, zero, suc, min, nat_le, Bool, true, false, if◌then◌else◌, ◌==◌, Option, Some, None, List, [], ◌∷◌, ◌++◌, slice_set, take, drop}
 use Rattle.cov_base.specs.States.{CpuView, Machine, IoView}
 use Rattle.cov_base.specs.Memory.{Memory, byte_at, wrap}
+use Rattle.s370_state.specs.Digits.{store_bytes}
 use Rattle.s370_state.specs.Io.{bytes_left, bytes_free}
 use Rattle.s370_state.specs.Row.{After, operate, machine_of, reads, stores, use_tests, reg}
 use Rattle.s370_state.specs.declared.endings.Ending.{Ending}
@@ -59,11 +60,6 @@ unfoldable pub operand : Memory → List ℕ → ℕ → ℕ → List ℕ
 operand m bytes a zero = []
 operand m bytes a (suc n) = operand m bytes a n ++ byte_at m bytes (wrap (a + n)) ∷ []
 
--- the n bytes from a on become those of a list from k on
-unfoldable pub received : List ℕ → ℕ → List ℕ → ℕ → ℕ → List ℕ
-received bytes a list k zero = bytes
-received bytes a list k (suc n) = slice_set (received bytes a list k n) (wrap (a + n)) (slice_index list (k + n))
-
 -- bits 8-31 of register 1
 abbrev pub call_address : Machine → ℕ
 call_address s = wrap (reg s 1)
@@ -88,7 +84,7 @@ get_tested s io next n (Some e) = unchanged s io (Ended e)
 get_tested s io next n None = record {
   machine = record {
     cpu = record { regs = slice_set s.cpu.regs 15 n; ia = next; condition = s.cpu.condition; mask = s.cpu.mask };
-    bytes = received s.bytes (call_address s) io.input io.taken n;
+    bytes = store_bytes s.bytes (call_address s) (take n (drop io.taken io.input));
   };
   io = record io { taken = io.taken + n };
   next = On;

@@ -1,10 +1,11 @@
 //! The task calls.
-ghost use Rattle.std.specs.Prelude.{◌≡◌, ℕ, ◌+◌, ◌-◌, ◌*◌, ◌/◌, ◌%◌, ◌<◌, ◌≤◌, ◌++◌, List, min, length, true, slice_index, slice_set};
+ghost use Rattle.std.specs.Prelude.{◌≡◌, ℕ, ◌+◌, ◌-◌, ◌*◌, ◌/◌, ◌%◌, ◌<◌, ◌≤◌, ◌++◌, List, min, length, true, slice_index, slice_set, take, drop};
 ghost use Rattle.cov_base.specs.States.{CpuView, IoView, Machine};
 ghost use Rattle.cov_base.specs.Memory.{can_reach, can_store, wrap};
+ghost use Rattle.s370_state.specs.Digits.{store_bytes};
 ghost use Rattle.s370_state.specs.Io.{bytes_left, bytes_free};
 ghost use Rattle.s370_state.specs.Row.{machine_of, reads, stores, use_tests};
-ghost use Rattle.s370_exec.specs.Effects.{effect_of, call, put_call, get_call, operand, received};
+ghost use Rattle.s370_exec.specs.Effects.{effect_of, call, put_call, get_call, operand};
 
 use cov_base::Addr;
 use s370_state::{Cpu, Ending, Next, Space, TaskIo, byte_of, put_into, test_read, test_store};
@@ -40,12 +41,12 @@ fn put<P: Space>(cpu: &mut Cpu, space: &P, io: &mut TaskIo, next: Addr) -> Next
 }
 
 /// The next n bytes of input go to a tested operand.
-#[tactic(auto, using(crate::proofs::CallBytes::none_got, crate::proofs::CallBytes::one_got))]
+#[tactic(auto, using(s370_state::proofs::Stores::none_stored, s370_state::proofs::Stores::one_received))]
 fn get_bytes<P: Space>(space: &mut P, io: &mut TaskIo, at: Addr, n: u32)
     requires store { can_store (P.memory space.old) at n ≡ true }
     requires left { n ≤ bytes_left io.old }
     ensures memory { P.memory space.new ≡ P.memory space.old }
-    ensures bytes { P.bytes space.new ≡ received (P.bytes space.old) at (io.old).input (io.old).taken n }
+    ensures bytes { P.bytes space.new ≡ store_bytes (P.bytes space.old) at (take n (drop (io.old).taken (io.old).input)) }
     ensures taken { io.new ≡ record io.old { taken = (io.old).taken + n } }
 {
     for i in 0..n {
