@@ -4,6 +4,7 @@ ghost use Rattle.brk_table.specs.Places.{IsIn};
 ghost use Rattle.session_book.specs.JobView.{IsJob};
 ghost use Rattle.session_book.specs.Sessions.{plan_view};
 ghost use Rattle.job_run.specs.Areas.{GrowsBy};
+ghost use Rattle.task_run.specs.Courses.{solo};
 ghost use Rattle.job_run.specs.Outcomes.{IsOutcome};
 ghost use Rattle.job_run.specs.Runs.{Account, HasLeft, phase_trace};
 ghost use Rattle.job_run.specs.Slots.{AreEmpty};
@@ -43,11 +44,11 @@ fn run_phase<'a, T: Threads + Sync, A: Areas, G: Gate + Sync>(
 ) -> Result<Finals, NoMemory>
     requires room { A.made areas.old < 2 ^ 62 }
     requires phase { phase < length job.now.phases }
-    requires tasks { AreRun job.now tables.now.places phase slots.old }
+    requires tasks { AreRun solo job.now tables.now.places phase slots.old }
     requires empty { AreEmpty slots.old }
     ensures made { IfOk result (λ _. A.made areas.new ≡ A.made areas.old + 1) }
-    ensures grown { IfOk result (λ f. GrowsBy (plan_view job.now tables.now.places phase) (phase_trace job.now tables.now.places phase) (A.ledger areas.old) (A.ledger areas.new) (A.finals areas.old) (A.finals areas.new) f) }
-    ensures tasks { IfOk result (λ _. AreRun job.now tables.now.places (phase + 1) slots.new) }
+    ensures grown { IfOk result (λ f. GrowsBy (plan_view job.now tables.now.places phase) (phase_trace solo job.now tables.now.places phase) (A.ledger areas.old) (A.ledger areas.new) (A.finals areas.old) (A.finals areas.new) f) }
+    ensures tasks { IfOk result (λ _. AreRun solo job.now tables.now.places (phase + 1) slots.new) }
     ensures empty { IfOk result (λ _. AreEmpty slots.new) }
     ensures ledger_kept { OnErr result (A.ledger areas.new ≡ A.ledger areas.old) }
     ensures finals_kept { OnErr result (A.finals areas.new ≡ A.finals areas.old) }
@@ -72,11 +73,11 @@ fn run_phases<'a, T: Threads + Sync, A: Areas, G: Gate + Sync>(
     slots: &mut [Slot<'a, <A::C as Cells>::Pass>],
 ) -> Result<Vec<Finals>, NoMemory>
     requires room { A.made areas.old < 2 ^ 61 }
-    requires tasks { AreRun job.now tables.now.places 0 slots.old }
+    requires tasks { AreRun solo job.now tables.now.places 0 slots.old }
     requires empty { AreEmpty slots.old }
     ensures job { IsJob job.now }
     ensures left { IfOk result (λ v. HasLeft job.now tables.now.places (record { ledger = A.ledger areas.old; finals = A.finals areas.old; made = A.made areas.old }) (record { ledger = A.ledger areas.new; finals = A.finals areas.new; made = A.made areas.new }) v.items) }
-    ensures tasks { IfOk result (λ _. AreRun job.now tables.now.places (length job.now.phases) slots.new) }
+    ensures tasks { IfOk result (λ _. AreRun solo job.now tables.now.places (length job.now.phases) slots.new) }
 {
     let count = phase_count(job);
     let mut finals = Vec::with_capacity(alloc, count as usize)?;

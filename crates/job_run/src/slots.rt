@@ -5,6 +5,7 @@ ghost use Rattle.module_area.specs.Images.{AreImages};
 ghost use Rattle.brk_table.specs.Places.{IsIn};
 ghost use Rattle.session_book.specs.JobView.{IsJob, IsTask};
 ghost use Rattle.session_book.specs.Sessions.{task_of};
+ghost use Rattle.task_run.specs.Courses.{solo};
 ghost use Rattle.job_run.specs.Slots.{AreEmpty, dones};
 ghost use Rattle.job_run.specs.Tasks.{AreRun, IsBegun};
 
@@ -96,7 +97,7 @@ pub fn make_slots<'a, P: Drop>(
     tables: &'a Tables,
 ) -> Result<Vec<Slot<'a, P>>, NoMemory>
     requires { All (IsIn job.now.images) tables.now.places }
-    ensures tasks { IfOk result (λ v. AreRun job.now tables.now.places 0 v.items) }
+    ensures tasks { IfOk result (λ v. AreRun solo job.now tables.now.places 0 v.items) }
     ensures empty { IfOk result (λ v. AreEmpty v.items) }
 {
     let count = task_count(job);

@@ -1,4 +1,5 @@
 pub mod CountLemmas
+pub mod CourseLemmas
 pub mod RunLemmas
 pub mod SetLemmas
 pub mod TraceLemmas

@@ -95,4 +95,4 @@ pub HasRun-calls : (m : Memory) (plan : PlanView) (old new : Notes) (budget : â„
 HasRun-calls m plan old new budget first i now r =
     let o = r.observes in
     let most = visits-most plan.places r.trace in
-    omega (arith, r.size, o.fetches, o.marks, o.lifts, o.grows.plants, o.grows.closes)
+    omega (arith, r.size, o.fetches, o.marks, o.lifts, o.plants, o.closes)

@@ -1,5 +1,6 @@
 use Rattle.std.proofs.Common.{◌≡◌, ℕ, None, List, [], ◌∷◌, ◌++◌, length, refl, sym, ap, subst, arith, ◌<◌, get_or}
 use Rattle.std.proofs.lemmas.List.{length-append}
+use Rattle.task_run.specs.Courses.{solo}
 use Rattle.job_run.specs.Slots.{AreEmpty}
 use Rattle.job_run.specs.Tasks.{IsBegun}
 use Rattle.job_run.specs.declared.slots.Slot.{Slot}
@@ -9,7 +10,7 @@ use Rattle.job_run.proofs.slots.make_slots.Goals as goal
 
 pub returns-clause-tasks : goal.returns-clause-tasks
 returns-clause-tasks g c =
-    AreRun-start c.args.job.now c.args.tables.now.places c.loop-t.slots.items (omega (arith, c.loop-t.invariant.count, c.loop-t-test.false, c.task_count-count.ensures.value)) c.loop-t.invariant.begun
+    AreRun-start solo c.args.job.now c.args.tables.now.places c.loop-t.slots.items (omega (arith, c.loop-t.invariant.count, c.loop-t-test.false, c.task_count-count.ensures.value)) c.loop-t.invariant.begun
 
 pub loop-t-preserved : goal.loop-t-preserved
 loop-t-preserved g c =
