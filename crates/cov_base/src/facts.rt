@@ -1,6 +1,6 @@
 //! What an execution of an instruction shows, and sets of it.
 ghost use Rattle.std.specs.Prelude.{◌≡◌};
-ghost use Rattle.cov_base.specs.Facts.{no_facts, with_fact, has_fact, union, is_full};
+ghost use Rattle.cov_base.specs.Facts.{no_facts, with_fact, has_fact, union, is_full, fact_of};
 
 use std::marker::Model;
 
@@ -22,6 +22,18 @@ pub enum Kind {
     Straight,
     /// BC and BCR with a mask from 1 to 14, BCT, BCTR, BXH and BXLE; BCR and BCTR only where R2 isn't 0.
     Conditional,
+}
+
+impl Kind {
+    /// What an execution shows that branched, or did not.
+    pub fn fact(self, went: bool) -> Fact
+        ensures { result ≡ fact_of self went }
+    {
+        match self {
+            Kind::Straight => Fact::Ran,
+            Kind::Conditional => if went { Fact::Went } else { Fact::Stayed },
+        }
+    }
 }
 
 /// A set of facts.

@@ -10,7 +10,7 @@ mod numbers;
 mod shortage;
 
 pub use address::Addr;
-pub use constants::{BREAKPOINT, INPUT_LIMIT};
+pub use constants::{BREAKPOINT, INPUT_LIMIT, RETURN_ADDRESS};
 pub use facts::{Bits, Fact, Kind};
 pub use marks::{Mark, mark_of};
 pub use names::Name;

@@ -11,7 +11,7 @@ use Rattle.s370_state.specs.declared.endings.Ending.TheVariants.{Returned, Spent
 use Rattle.s370_state.specs.declared.endings.Next.{Next}
 use Rattle.s370_state.specs.declared.endings.Next.TheVariants.{On, Ended as NextEnded}
 use Rattle.s370_exec.specs.Solo.{Step, solo_step, has_returned}
-use Rattle.task_run.proofs.TraceLemmas.{solo_step-done}
+use Rattle.s370_exec.proofs.TraceLemmas.{solo_step-done}
 use Rattle.interleave_core.specs.World.{World, TaskPart, Parts, part_of, no_part, plan_in, memory_in, budget_in, place_at}
 use Rattle.interleave_core.specs.Steps.{Stepped, parts_step, of_task, with_task, with_stage, with_due, with_set, with_cell, place_due, is_spent, is_awaiting, due_after_fetch, hand_at, fetched, fetch_step, marked, mark_step, lifted, lift_step, in_hand, same_due, same_cell, original_under, step_of, subject_place, executed, stage_after, subject_executed, instruction_executed, awaits_or, unless_at, ready_done, task_done, done_by, do_step, set_of, fact_in}
 use Rattle.interleave_core.specs.Results.{next_of, stage_event, event_due, fetch_or_do}

@@ -19,7 +19,7 @@ use Rattle.session_book.specs.JobView.{JobView, TaskView}
 use Rattle.session_book.specs.Sessions.{task_of, no_task, tasks_from, plan_view}
 use Rattle.job_run.specs.Runs.{trace_by}
 use Rattle.job_run.specs.Slots.{in_phase, is_before, HasSplit, HasPass, IsFresh, AreSplit, AreEmpty, CanRun, RunsWith, RunsSlot, HasSeen, AreOver}
-use Rattle.job_run.specs.Tasks.{AreRun, IsBegun, IsEnded, own_run}
+use Rattle.job_run.specs.Tasks.{AreRun, HasNotRun, IsEnded, own_run}
 use Rattle.job_run.specs.declared.outcome.Done.{Done}
 use Rattle.job_run.specs.declared.slots.Slot.{Slot}
 use Rattle.job_run.proofs.TaskLemmas.{AreRun-next, begun_run, has_ended}
@@ -167,12 +167,12 @@ not_run p phase h = grind (arith, nat_tests)
 
 -- a task of the phase is as it begins
 begun_at : {P : Type 0} (run : Course) (is_pass : P → Type 0) (notes : P → Notes) (root : Notes) (j : JobView) (places : List Place) (phase : ℕ) (old slots : List (Slot P)) (t : ℕ) (d : Slot P) →
-    AreSplit is_pass notes root j phase (length j.tasks) old slots → AreRun run j places phase old → t < length old → in_phase j phase t ≡ true → IsBegun j places t (get_or slots t d).done
+    AreSplit is_pass notes root j phase (length j.tasks) old slots → AreRun run j places phase old → t < length old → in_phase j phase t ≡ true → HasNotRun j places t (get_or slots t d).done
 begun_at run is_pass notes root j places phase old slots t d a r l h =
-    subst (λ (x : Done). IsBegun j places t x) (sym (a.done t d l)) (r.begun t d l (not_run (task_of j t).phase phase h))
+    subst (λ (x : Done). HasNotRun j places t x) (sym (a.done t d l)) (r.begun t d l (not_run (task_of j t).phase phase h))
 
-is_over_begun : (plan : PlanView) (j : JobView) (places : List Place) (t : ℕ) (d : Done) → plan.places ≡ places → IsBegun j places t d → IsOver plan (memory_of_space d.task.space) places
-is_over_begun plan j places t d of b = record { same = of; seen = subst (λ (m : Memory). AreSeen m places) (sym b.memory) b.seen }
+is_over_begun : (plan : PlanView) (j : JobView) (places : List Place) (t : ℕ) (d : Done) → plan.places ≡ places → HasNotRun j places t d → IsOver plan (memory_of_space d.task.space) places
+is_over_begun plan j places t d of b = record { same = of; seen = subst (λ (m : Memory). AreSeen m places) (sym b.begun.memory) b.begun.seen }
 
 pub all_ready : {P : Type 0} (run : Course) (is_pass : P → Type 0) (notes : P → Notes) (root : Notes) (plan : PlanView) (j : JobView) (places : List Place) (phase : ℕ) (old slots : List (Slot P)) → plan.places ≡ places →
     AreSplit is_pass notes root j phase (length j.tasks) old slots → AreRun run j places phase old → All (CanRun is_pass notes plan places) slots
@@ -183,7 +183,7 @@ all_ready run is_pass notes root plan j places phase old slots of a r k d l = by
 
     by_phase : (b : Bool) → in_phase j phase k ≡ b → CanRun is_pass notes plan places (get_or slots k d)
     by_phase true e =
-        let begun : IsBegun j places k (get_or slots k d).done = begun_at run is_pass notes root j places phase old slots k d a r here e in
+        let begun : HasNotRun j places k (get_or slots k d).done = begun_at run is_pass notes root j places phase old slots k d a r here e in
         can_run is_pass notes root k plan places (get_or slots k d) (a.some k d here (omega (arith, here, r.count)) e) (is_over_begun plan j places k (get_or slots k d).done of begun) begun.done
     by_phase false e = need_not is_pass notes plan places (get_or slots k d) (a.none k d here (not_before (in_phase j phase k) k (length j.tasks) e))
 
@@ -201,7 +201,7 @@ ran_not : {P : Type 0} (run : Course) (is_pass : P → Type 0) (notes : P → No
 ran_not run is_pass notes plan old new e r = subst (RunsSlot run is_pass notes plan old new) e r
 
 has_seen : {P : Type 0} (run : Course) (is_pass : P → Type 0) (notes : P → Notes) (root : Notes) (plan : PlanView) (j : JobView) (places : List Place) (t : ℕ) (old new : Slot P) → plan ≡ plan_view j places (task_of j t).phase →
-    HasPass (IsFresh is_pass notes root t) old → IsBegun j places t old.done → RunsSlot run is_pass notes plan old new old.pass → HasPass (HasSeen is_pass notes plan root (trace_by run j places t) t) new
+    HasPass (IsFresh is_pass notes root t) old → HasNotRun j places t old.done → RunsSlot run is_pass notes plan old new old.pass → HasPass (HasSeen is_pass notes plan root (trace_by run j places t) t) new
 has_seen run is_pass notes root plan j places t old new of h begun r =
     let w : RunsWith run is_pass notes plan old new h.pass = ran_with run is_pass notes plan old new h.pass h.has r in
     let seen : Observes plan (split_notes root t) (notes w.pass) (own_run run plan old.done).trace = subst (λ (n : Notes). Observes plan n (notes w.pass) (own_run run plan old.done).trace) h.holds.fresh w.observes in
@@ -212,7 +212,7 @@ has_seen run is_pass notes root plan j places t old new of h begun r =
     }
 
 run_ended : {P : Type 0} (run : Course) (is_pass : P → Type 0) (notes : P → Notes) (root : Notes) (plan : PlanView) (j : JobView) (places : List Place) (t : ℕ) (old new : Slot P) → plan ≡ plan_view j places (task_of j t).phase →
-    HasPass (IsFresh is_pass notes root t) old → IsBegun j places t old.done → RunsSlot run is_pass notes plan old new old.pass → IsEnded run j places t new.done
+    HasPass (IsFresh is_pass notes root t) old → HasNotRun j places t old.done → RunsSlot run is_pass notes plan old new old.pass → IsEnded run j places t new.done
 run_ended run is_pass notes root plan j places t old new of h begun r =
     let w : RunsWith run is_pass notes plan old new h.pass = ran_with run is_pass notes plan old new h.pass h.has r in
     has_ended run plan j places t old.done new.done of begun w.result w.filled
@@ -356,15 +356,15 @@ set_done slots next e none here same t d l = elim (same_or t next) [
 
 -- one task more, as it begins
 pub begun_more : {P : Type 0} (j : JobView) (places : List Place) (slots : List (Slot P)) (e : Slot P) →
-    ((k : ℕ) (d : Slot P) → k < length slots → IsBegun j places k (get_or slots k d).done) → IsBegun j places (length slots) e.done →
-    (k : ℕ) (d : Slot P) → k < length (slots ++ e ∷ []) → IsBegun j places k (get_or (slots ++ e ∷ []) k d).done
+    ((k : ℕ) (d : Slot P) → k < length slots → HasNotRun j places k (get_or slots k d).done) → HasNotRun j places (length slots) e.done →
+    (k : ℕ) (d : Slot P) → k < length (slots ++ e ∷ []) → HasNotRun j places k (get_or (slots ++ e ∷ []) k d).done
 begun_more j places slots e begun last k d l = elim (same_or k (length slots)) [
   | inl at ↦
       let found : get_or (slots ++ e ∷ []) k d ≡ e = ap (λ n. get_or (slots ++ e ∷ []) n d) at ∙ get_or-append_seam slots e [] d in
-      subst (λ (s : Slot _). IsBegun j places k s.done) (sym found) (subst (λ (n : ℕ). IsBegun j places n e.done) (sym at) last)
+      subst (λ (s : Slot _). HasNotRun j places k s.done) (sym found) (subst (λ (n : ℕ). HasNotRun j places n e.done) (sym at) last)
   | inr other ↦
       let before : k < length slots = omega (arith, l, other, length-append slots (e ∷ [])) in
-      subst (λ (s : Slot _). IsBegun j places k s.done) (sym (get_or_append_left slots (e ∷ []) d k before)) (begun k d before)
+      subst (λ (s : Slot _). HasNotRun j places k s.done) (sym (get_or_append_left slots (e ∷ []) d k before)) (begun k d before)
 ]
 
 pub empty_more : {P : Type 0} (slots : List (Slot P)) (e : Slot P) → AreEmpty slots → e.pass ≡ None → AreEmpty (slots ++ e ∷ [])

@@ -17,12 +17,12 @@ use Rattle.task_run.specs.Courses.{Course}
 use Rattle.session_book.specs.JobView.{JobView, IsJob, IsTask}
 use Rattle.session_book.specs.Results.{ResultView}
 use Rattle.session_book.specs.Sessions.{task_of, no_task, first_state, plan_view}
-use Rattle.space_map.specs.Space.{memory_of_space, row_of}
+use Rattle.space_map.specs.Space.{SpaceView, memory_of_space, row_of}
 use Rattle.task_run.proofs.CourseLemmas.{IsCourse}
 use Rattle.task_run.proofs.RunLemmas.{visits-most}
 use Rattle.job_run.specs.Runs.{run_by, trace_by, result_by, result_of_run}
 use Rattle.job_run.specs.Slots.{dones, in_phase}
-use Rattle.job_run.specs.Tasks.{IsBegun, IsEnded, AreRun, has_run, done_result, no_result, results_of, own_run}
+use Rattle.job_run.specs.Tasks.{HasNotRun, IsEnded, AreRun, has_run, done_result, no_result, results_of, own_run}
 use Rattle.job_run.specs.declared.outcome.Done.{Done}
 use Rattle.job_run.specs.declared.slots.Slot.{Slot}
 
@@ -31,9 +31,9 @@ same_run run p p' m m' b b' s s' plan memory budget state =
     ap (λ (x : PlanView). run x m b s) plan ∙ (ap (λ (n : Memory). run p' n b s) memory ∙ (ap (λ (n : ℕ). run p' m' n s) budget ∙ ap (λ (n : State). run p' m' b' n) state))
 
 -- a task that has not run yet runs as its card says
-pub begun_run : (run : Course) (plan : PlanView) (j : JobView) (places : List Place) (t : ℕ) (d : Done) → plan ≡ plan_view j places (task_of j t).phase → IsBegun j places t d →
+pub begun_run : (run : Course) (plan : PlanView) (j : JobView) (places : List Place) (t : ℕ) (d : Done) → plan ≡ plan_view j places (task_of j t).phase → HasNotRun j places t d →
     own_run run plan d ≡ run_by run j places t
-begun_run run plan j places t d of b = same_run run _ _ _ _ _ _ _ _ of b.memory b.budget b.state
+begun_run run plan j places t d of b = same_run run _ _ _ _ _ _ _ _ of b.begun.memory b.budget b.begun.state
 
 result_at : State → Ending → ResultView
 result_at s e = record { ending = Some e; done = s.done; cpu = s.machine.cpu; output = s.io.output; bytes = s.machine.bytes }
@@ -48,12 +48,16 @@ private_of : (size : ℕ) (images : List ImageView) (places : List Place) → (m
 unfolding memory_of
 private_of size images places = refl
 
+-- private storage keeps its size
+pub still_filled : (s s' : SpaceView) → memory_of_space s ≡ memory_of_space s' → length s.bytes ≡ (memory_of_space s').private
+still_filled s s' e = sym (private_of (length s.bytes) s.images s.places) ∙ ap (λ (m : Memory). m.private) e
+
 -- what a task has come to
-pub has_ended : (run : Course) (plan : PlanView) (j : JobView) (places : List Place) (t : ℕ) (d e : Done) → plan ≡ plan_view j places (task_of j t).phase → IsBegun j places t d →
+pub has_ended : (run : Course) (plan : PlanView) (j : JobView) (places : List Place) (t : ℕ) (d e : Done) → plan ≡ plan_view j places (task_of j t).phase → HasNotRun j places t d →
     done_result e ≡ result_of_run (own_run run plan d) → length e.task.space.bytes ≡ (memory_of_space d.task.space).private → IsEnded run j places t e
 has_ended run plan j places t d e of b result filled = record {
   result = result ∙ ap result_of_run (begun_run run plan j places t d of b);
-  filled = filled ∙ (ap (λ (m : Memory). m.private) b.memory ∙ private_of (task_of j t).private j.images places);
+  filled = filled ∙ (ap (λ (m : Memory). m.private) b.begun.memory ∙ private_of (task_of j t).private j.images places);
 }
 
 -- at most six calls for each instruction of the budget
@@ -72,7 +76,7 @@ none_earlier : (p : ℕ) → nat_lt p 0 ≡ true → ⊥
 none_earlier p h = absurd (omega (arith, ltb-true p 0 h))
 
 pub AreRun-start : {P : Type 0} (run : Course) (j : JobView) (places : List Place) (slots : List (Slot P)) → length slots ≡ length j.tasks →
-    ((t : ℕ) (d : Slot P) → t < length slots → IsBegun j places t (get_or slots t d).done) → AreRun run j places 0 slots
+    ((t : ℕ) (d : Slot P) → t < length slots → HasNotRun j places t (get_or slots t d).done) → AreRun run j places 0 slots
 AreRun-start run j places slots count begun = record {
   count = count;
   ended = λ t d l h. absurd (none_earlier (task_of j t).phase h);
@@ -100,9 +104,9 @@ AreRun-next run j places phase old new a same ended kept = record {
     is_ended t d l h true e = ended t d l e
     is_ended t d l h false e = subst (λ (x : Done). IsEnded run j places t x) (sym (kept t d l e)) (a.ended t d l (earlier_or (task_of j t).phase phase e ∙ h))
 
-    is_begun : (t : ℕ) (d : Slot _) → t < length old → has_run j (phase + 1) t ≡ false → (b : Bool) → in_phase j phase t ≡ b → IsBegun j places t (get_or new t d).done
+    is_begun : (t : ℕ) (d : Slot _) → t < length old → has_run j (phase + 1) t ≡ false → (b : Bool) → in_phase j phase t ≡ b → HasNotRun j places t (get_or new t d).done
     is_begun t d l h true e = absurd (not_next (task_of j t).phase phase e h)
-    is_begun t d l h false e = subst (λ (x : Done). IsBegun j places t x) (sym (kept t d l e)) (a.begun t d l (earlier_or (task_of j t).phase phase e ∙ h))
+    is_begun t d l h false e = subst (λ (x : Done). HasNotRun j places t x) (sym (kept t d l e)) (a.begun t d l (earlier_or (task_of j t).phase phase e ∙ h))
 
 -- only passes were given or taken
 pub AreRun-same : {P : Type 0} (run : Course) (j : JobView) (places : List Place) (phase : ℕ) (old new : List (Slot P)) → AreRun run j places phase old → length new ≡ length old →
@@ -110,7 +114,7 @@ pub AreRun-same : {P : Type 0} (run : Course) (j : JobView) (places : List Place
 AreRun-same run j places phase old new a same kept = record {
   count = same ∙ a.count;
   ended = λ t d l h. subst (λ (x : Done). IsEnded run j places t x) (sym (kept t d (omega (arith, l, same)))) (a.ended t d (omega (arith, l, same)) h);
-  begun = λ t d l h. subst (λ (x : Done). IsBegun j places t x) (sym (kept t d (omega (arith, l, same)))) (a.begun t d (omega (arith, l, same)) h);
+  begun = λ t d l h. subst (λ (x : Done). HasNotRun j places t x) (sym (kept t d (omega (arith, l, same)))) (a.begun t d (omega (arith, l, same)) h);
 }
 
 pub is_task : (j : JobView) (t : ℕ) → IsJob j → t < length j.tasks → IsTask (length j.phases) (task_of j t)
@@ -121,7 +125,7 @@ no_done = record {
   ending = None;
   task = record {
     cpu = record { regs = []; ia = 0; condition = 0; mask = 0 };
-    space = record { size = 0; bytes = []; images = []; places = [] };
+    space = record { bytes = []; images = []; places = [] };
     io = record { input = []; taken = 0; output = []; room = 0 };
     done = 0;
     budget = 0;

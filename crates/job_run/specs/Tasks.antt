@@ -1,15 +1,14 @@
 -- The tasks of a job before and after they have run.
 use Rattle.std.specs.Prelude.{◌≡◌, ℕ, ◌<◌, Bool, true, false, nat_lt, None, List, [], length, get_or, map}
-use Rattle.s370_exec.specs.Solo.{Run}
+use Rattle.s370_exec.specs.Solo.{Run, state_of}
 use Rattle.module_area.specs.PlanView.{PlanView}
 use Rattle.module_area.specs.declared.places.Place.{Place}
-use Rattle.brk_table.specs.Places.{AreSeen, memory_of}
 use Rattle.space_map.specs.Space.{memory_of_space}
-use Rattle.svc_monitor.specs.Observed.{state_of}
 use Rattle.task_run.specs.Courses.{Course}
+use Rattle.session_book.specs.Begun.{IsBegun}
 use Rattle.session_book.specs.JobView.{JobView}
 use Rattle.session_book.specs.Results.{ResultView}
-use Rattle.session_book.specs.Sessions.{task_of, first_state}
+use Rattle.session_book.specs.Sessions.{task_of}
 use Rattle.job_run.specs.Runs.{result_by}
 use Rattle.job_run.specs.declared.outcome.Done.{Done}
 use Rattle.job_run.specs.declared.slots.Slot.{Slot}
@@ -35,13 +34,11 @@ abbrev pub own_run : Course → PlanView → Done → Run
 own_run run plan d = run plan (memory_of_space d.task.space) d.task.budget (state_of d.task.cpu d.task.space.bytes d.task.io 0)
 
 -- task t as its card says, not run yet
-pub record IsBegun (j : JobView) (places : List Place) (t : ℕ) (d : Done) : Type 0 where
+pub record HasNotRun (j : JobView) (places : List Place) (t : ℕ) (d : Done) : Type 0 where
   pub ending : d.ending ≡ None
-  pub memory : memory_of_space d.task.space ≡ memory_of (task_of j t).private j.images places
-  pub state : state_of d.task.cpu d.task.space.bytes d.task.io 0 ≡ first_state (task_of j t)
+  pub begun : IsBegun j places t (record { cpu = d.task.cpu; space = d.task.space; io = d.task.io })
   pub budget : d.task.budget ≡ (task_of j t).budget
   pub done : d.task.done ≡ 0
-  pub seen : AreSeen (memory_of (task_of j t).private j.images places) places
 
 -- task t after its run
 pub record IsEnded (run : Course) (j : JobView) (places : List Place) (t : ℕ) (d : Done) : Type 0 where
@@ -56,4 +53,4 @@ has_run j phase t = nat_lt (task_of j t).phase phase
 pub record AreRun {P : Type 0} (run : Course) (j : JobView) (places : List Place) (phase : ℕ) (slots : List (Slot P)) : Type 0 where
   pub count : length slots ≡ length j.tasks
   pub ended : (t : ℕ) (d : Slot P) → t < length slots → has_run j phase t ≡ true → IsEnded run j places t (get_or slots t d).done
-  pub begun : (t : ℕ) (d : Slot P) → t < length slots → has_run j phase t ≡ false → IsBegun j places t (get_or slots t d).done
+  pub begun : (t : ℕ) (d : Slot P) → t < length slots → has_run j phase t ≡ false → HasNotRun j places t (get_or slots t d).done

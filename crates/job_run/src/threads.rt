@@ -13,7 +13,7 @@ ghost use Rattle.job_run.specs.Slots.{AreEmpty, AreSplit, CanRun, HasSplit, IsRa
 ghost use Rattle.job_run.specs.Tasks.{AreRun, done_result, own_run};
 
 use crate::outcome::Done;
-use crate::slots::{Slot, give, is_of, take, task_count};
+use crate::slots::{Slot, give, is_of, take};
 use brk_table::Tables;
 use cov_base::TaskNo;
 use cov_outside::Gate;
@@ -36,8 +36,6 @@ fn run_one<'a, C: Cells>(cells: &C, pass: &mut C::Pass, tables: &Tables, done: &
     ensures observes { Observes (C.plan cells.now) (C.notes pass.old) (C.notes pass.new) (own_run solo (C.plan cells.now) done.old).trace }
 {
     let ending = run_task(cells, pass, tables, &mut done.task);
-    // the proof reads off the size that private storage still fills it
-    let _ = done.task.space.size();
     done.ending = Some(ending);
 }
 
@@ -104,7 +102,7 @@ fn up_to(range: Range<usize>, t: usize) -> Range<usize>
 fn range_of(job: &Job, phase: u32) -> Range<usize>
     ensures { IsRange job.now phase (length job.now.tasks) result.start result.end }
 {
-    let count = task_count(job);
+    let count = job.task_count();
     let mut range = 0..0;
     for t in 0..count {
         if is_of(job, t, phase) {
@@ -156,7 +154,7 @@ fn split_all<'a, C: Forks>(
     ensures notes { HasSplit job.now phase (length job.now.tasks) (C.notes root.old) (C.notes root.new) }
     ensures passes { AreSplit (C.is_pass cells.now) C.notes (C.notes root.old) job.now phase (length job.now.tasks) slots.old slots.new }
 {
-    let count = task_count(job);
+    let count = job.task_count();
     for t in 0..count {
         if is_of(job, t, phase) {
             let pass = cells.split(root, TaskNo(t as u32));
@@ -193,7 +191,7 @@ pub fn run_tasks<'a, T: Threads + Sync, C: Forks + Sync, G: Gate + Sync>(
 {
     split_all(cells, root, job, phase, slots);
     run_those(rt, cells, gate, job, tables, phase, slots);
-    let count = task_count(job);
+    let count = job.task_count();
     for t in 0..count {
         if let Some(pass) = take(&mut slots[t]) {
             cells.join(root, pass);

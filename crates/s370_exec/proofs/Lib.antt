@@ -1,2 +1,4 @@
 pub mod CallBytes
+pub mod StepLemmas
 pub mod Subjects
+pub mod TraceLemmas

@@ -8,6 +8,10 @@ use Rattle.s370_state.specs.declared.endings.Ending.TheVariants.{Abend, Touched}
 use Rattle.s370_decode.specs.Fields.{part, r1}
 use Rattle.s370_decode.specs.declared.code.Code.{Code}
 
+-- the tests of the first halfword: odd address 6, access 5
+abbrev pub first_tests : Memory → ℕ → Option Ending
+first_tests m a = if a % 2 == 1 then Some (Abend 6) else (if can_reach m a 2 then None else Some (Abend 5))
+
 -- a later halfword: access, then touch
 abbrev pub later : Memory → ℕ → Option Ending
 later m a = if can_reach m a 2 then (if m.is_touch a then Some (Touched a) else None) else Some (Abend 5)
@@ -20,6 +24,10 @@ or_ending (Some e) q = Some e
 unfoldable pub rest_tests : Memory → ℕ → ℕ → Option Ending
 rest_tests m a size = if size == 2 then None else or_ending (later m (wrap (a + 2))) (if size == 4 then None else later m (wrap (a + 4)))
 
+-- an instruction's halfwords in their order
+abbrev pub whole_tests : Memory → List ℕ → ℕ → Option Ending
+whole_tests m bytes a = or_ending (first_tests m a) (rest_tests m a (length_of (half_at m bytes a)))
+
 -- the instruction at a, whose first halfword is h
 unfoldable pub code_at : Memory → List ℕ → ℕ → ℕ → Code
 code_at m bytes a h =
@@ -31,6 +39,10 @@ code_at m bytes a h =
 -- the first halfword is that of EX, whose operation code is X'44'
 abbrev pub is_execute : ℕ → Bool
 is_execute h = h / 256 == 68
+
+-- the subject of an EX behind its first halfword, which is h: another EX gives code 3
+abbrev pub subject_tests : Memory → ℕ → ℕ → Option Ending
+subject_tests m a h = if is_execute h then Some (Abend 3) else rest_tests m a (length_of h)
 
 -- what bits 8-15 of the subject are ORed with: bits 24-31 of R1, but nothing where R1 is 0
 abbrev pub modifier : CpuView → Code → ℕ

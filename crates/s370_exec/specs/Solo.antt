@@ -1,10 +1,12 @@
 -- A task alone: one step with its visits, and the run with its trace.
-use Rattle.std.specs.Prelude.{ℕ, ◌+◌, ◌%◌, zero, suc, Bool, true, false, if◌then◌else◌, ◌==◌, Option, Some, None, List, [], ◌∷◌, ◌++◌}
-use Rattle.cov_base.specs.States.{State, Visit}
-use Rattle.cov_base.specs.Memory.{Memory, can_reach, half_at}
+use Rattle.std.specs.Prelude.{ℕ, ◌+◌, zero, suc, Bool, true, false, if◌then◌else◌, ◌==◌, Option, Some, None, List, [], ◌∷◌, ◌++◌, get_or}
+use Rattle.cov_base.specs.States.{CpuView, IoView, State, Visit}
+use Rattle.cov_base.specs.Memory.{Memory, half_at}
 use Rattle.cov_base.specs.Codes.{length_of}
+use Rattle.cov_base.specs.declared.constants.TheConstants.{RETURN_ADDRESS}
+use Rattle.s370_state.specs.Row.{machine_of}
 use Rattle.s370_state.specs.declared.endings.Ending.{Ending}
-use Rattle.s370_state.specs.declared.endings.Ending.TheVariants.{Returned, Abend, Spent}
+use Rattle.s370_state.specs.declared.endings.Ending.TheVariants.{Returned, Spent}
 use Rattle.s370_state.specs.declared.endings.Next.{Next}
 use Rattle.s370_state.specs.declared.endings.Next.TheVariants.{On, Ended}
 use Rattle.s370_decode.specs.Fields.{first_half, ex}
@@ -12,11 +14,14 @@ use Rattle.s370_decode.specs.Table.{op_of}
 use Rattle.s370_decode.specs.declared.code.Code.{Code}
 use Rattle.s370_branch.specs.Branch.{goes}
 use Rattle.s370_exec.specs.Effects.{Effect, unchanged, effect, updated, link_code}
-use Rattle.s370_exec.specs.Fetch.{rest_tests, code_at, is_execute, merged}
+use Rattle.s370_exec.specs.Fetch.{first_tests, rest_tests, subject_tests, code_at, is_execute, merged}
 
 -- the instruction address at which a task returns
 abbrev pub return_address : ℕ
-return_address = 16777214
+return_address = RETURN_ADDRESS
+
+abbrev pub state_of : CpuView → List ℕ → IoView → ℕ → State
+state_of cpu bytes io done = record { machine = machine_of cpu bytes; io = io; done = done }
 
 -- one step: the state after it, how the task goes on, and what was visited
 pub record Step : Type 0 where
@@ -44,17 +49,17 @@ abbrev pub subject_fetched : Memory → State → Code → ℕ → ℕ → Optio
 subject_fetched m s c a h (Some e) = ended s e (visit s a false false true ∷ [])
 subject_fetched m s c a h None = subject_begun m s c.at (merged s.machine.cpu c (code_at m s.machine.bytes a h))
 
--- its first halfword is h: another EX gives code 3
-abbrev pub subject_read : Memory → State → Code → ℕ → ℕ → Step
-subject_read m s c a h = if is_execute h then ended s (Abend 3) (visit s a false false true ∷ []) else subject_fetched m s c a h (rest_tests m a (length_of h))
+-- the step by the tests of the first halfword, where nothing was visited yet
+abbrev pub from_first : State → Option Ending → Step → Step
+from_first s (Some e) t = ended s e []
+from_first s None t = t
 
--- the step of an EX behind its own visit: odd address of the subject 6, its first halfword 5
+-- the step of an EX behind its own visit
 unfoldable pub subject_step : Memory → State → Code → Step
 subject_step m s c =
     let a = ex s.machine.cpu c in
-    if a % 2 == 1 then ended s (Abend 6) []
-    else (if can_reach m a 2 then subject_read m s c a (half_at m s.machine.bytes a)
-    else ended s (Abend 5) [])
+    let h = half_at m s.machine.bytes a in
+    from_first s (first_tests m a) (subject_fetched m s c a h (subject_tests m a h))
 
 abbrev pub behind : Visit → Step → Step
 behind v t = record { state = t.state; next = t.next; visits = v ∷ t.visits }
@@ -69,13 +74,24 @@ abbrev pub fetched : Memory → State → ℕ → ℕ → Option Ending → Step
 fetched m s a h (Some e) = ended s e (visit s a false false false ∷ [])
 fetched m s a h None = begun_step m s (code_at m s.machine.bytes a h) h
 
--- the order of tests up to the operation: odd address 6, first halfword 5, each later halfword 5 and touch
+-- the order of tests up to the operation: the first halfword's, then the later ones'
 unfoldable pub solo_step : Memory → State → Step
 solo_step m s =
     let a = s.machine.cpu.ia in
-    if a % 2 == 1 then ended s (Abend 6) []
-    else (if can_reach m a 2 then fetched m s a (half_at m s.machine.bytes a) (rest_tests m a (length_of (half_at m s.machine.bytes a)))
-    else ended s (Abend 5) [])
+    let h = half_at m s.machine.bytes a in
+    from_first s (first_tests m a) (fetched m s a h (rest_tests m a (length_of h)))
+
+abbrev pub no_visit : Visit
+no_visit = record { at = 0; begun = false; went = false; before = 0; subject = false }
+
+-- the visit that a step makes of the instruction, or of the subject of EX
+abbrev pub visit_of : Step → Bool → Visit
+visit_of step subject = get_or step.visits (if subject then 1 else 0) no_visit
+
+-- the address and outcome of the visit that an EX makes of its subject
+abbrev pub subject_seen : List Visit → Option (ℕ × Bool)
+subject_seen (v ∷ (s ∷ vs)) = Some (s.at, s.went)
+subject_seen visits = None
 
 -- the whole run: its ending, the last state, and all visits in order
 pub record Run : Type 0 where

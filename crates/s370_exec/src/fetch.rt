@@ -1,12 +1,27 @@
-//! The halfwords of an instruction after its first.
+//! The halfwords of an instruction.
 ghost use Rattle.std.specs.Prelude.{◌≡◌, ℕ, ◌+◌, ◌*◌, ◌/◌, ◌%◌, ◌<◌, ◌≤◌, IfOk, IfErr, Some, None, List};
 ghost use Rattle.cov_base.specs.Memory.{half_at};
 ghost use Rattle.cov_base.specs.Codes.{length_of};
-ghost use Rattle.s370_exec.specs.Fetch.{rest_tests, code_at, later};
+ghost use Rattle.s370_exec.specs.Fetch.{first_tests, rest_tests, whole_tests, code_at, later};
 
 use cov_base::Addr;
 use s370_decode::{Code, length};
 use s370_state::{Ending, Space, ending_of};
+
+/// The first halfword at the address. Code 6 exactly at an odd address, else code 5 exactly where it is inaccessible.
+pub fn fetch_first<P: Space>(space: &P, at: Addr) -> Result<u16, Ending>
+    ensures refused { IfErr result (λ e. first_tests (P.memory space.now) at ≡ Some e) }
+    ensures passed { IfOk result (λ _. first_tests (P.memory space.now) at ≡ None) }
+    ensures half { IfOk result (λ h. h ≡ half_at (P.memory space.now) (P.bytes space.now) at) }
+{
+    if at.get() % 2 == 1 {
+        return Err(Ending::Abend(6));
+    }
+    match space.first(at) {
+        Ok(half) => Ok(half),
+        Err(_) => Err(Ending::Abend(5)),
+    }
+}
 
 /// A later halfword.
 fn later_half<P: Space>(space: &P, at: Addr) -> Result<u16, Ending>
@@ -58,4 +73,20 @@ pub fn fetch_rest<P: Space>(space: &P, at: Addr, h0: u16) -> Result<Code, Ending
         bytes: [a, b, c, d, (h2 / 256) as u8, (h2 % 256) as u8],
         len,
     })
+}
+
+/// The whole instruction at the address, by the tests of its halfwords in their order.
+pub(crate) fn fetch_whole<P: Space>(space: &P, at: Addr) -> Result<Code, Ending>
+    ensures refused { IfErr result (λ e. whole_tests (P.memory space.now) (P.bytes space.now) at ≡ Some e) }
+    ensures passed { IfOk result (λ _. whole_tests (P.memory space.now) (P.bytes space.now) at ≡ None) }
+    ensures code { IfOk result (λ c. c ≡ code_at (P.memory space.now) (P.bytes space.now) at (half_at (P.memory space.now) (P.bytes space.now) at)) }
+{
+    let half = match fetch_first(space, at) {
+        Ok(half) => half,
+        Err(e) => return Err(e),
+    };
+    match fetch_rest(space, at, half) {
+        Ok(code) => Ok(code),
+        Err(e) => Err(e),
+    }
 }

@@ -1,15 +1,18 @@
-//! One instruction of a task: its later halfwords, its effect, the subject of EX, and the order of tests around it.
+//! One instruction of a task: its halfwords, its effect, the subject of EX, the order of tests around it, and the step
+//! of a task alone.
 #![tactic(auto)]
 
+mod alone;
 mod calls;
 mod fetch;
 mod group;
 mod instruction;
 mod subject;
 
-pub use fetch::fetch_rest;
+pub use alone::{has_returned, instruction_went, step, subject_seen};
+pub use fetch::{fetch_first, fetch_rest};
 pub use instruction::execute;
-pub use subject::{is_execute, merge, subject_address};
+pub use subject::{fetch_subject, is_execute, subject_address};
 
 #[cfg(test)]
 mod tests;

@@ -1,11 +1,12 @@
 //! EX (Principles of Operation, "General Instructions", "Execute").
-ghost use Rattle.std.specs.Prelude.{◌≡◌, ℕ, ◌+◌, ◌*◌, ◌/◌, ◌%◌, ◌<◌, bit_or, slice_set, slice_index};
+ghost use Rattle.std.specs.Prelude.{◌≡◌, ℕ, ◌+◌, ◌*◌, ◌/◌, ◌%◌, ◌<◌, IfOk, IfErr, Some, None, false, bit_or, slice_set, slice_index};
 ghost use Rattle.s370_decode.specs.Fields as fields;
-ghost use Rattle.s370_exec.specs.Fetch.{is_execute, modifier, merged};
+ghost use Rattle.s370_exec.specs.Fetch.{is_execute, subject_tests, code_at, modifier, merged};
 
+use crate::fetch::fetch_rest;
 use cov_base::Addr;
 use s370_decode::Code;
-use s370_state::Cpu;
+use s370_state::{Cpu, Ending, Space};
 
 /// Whether an instruction with this first halfword is EX, whose operation code is X'44'.
 pub fn is_execute(half: u16) -> bool
@@ -35,10 +36,33 @@ fn modifier(cpu: &Cpu, ex: &Code) -> u8
 /// The subject as the EX executes it: bits 8-15 ORed with bits 24-31 of R1, unless R1 is 0. The subject in storage stays
 /// as it is, and so do operation code and length.
 #[tactic(auto, unfolding(crate::specs::Fetch::merged))]
-pub fn merge(cpu: &Cpu, ex: &Code, subject: &Code) -> Code
+pub(crate) fn merge(cpu: &Cpu, ex: &Code, subject: &Code) -> Code
     ensures { result ≡ merged cpu.now ex.now subject.now }
 {
     let mut code = *subject;
     code.bytes[1] |= modifier(cpu, ex);
     code
+}
+
+/// The subject at the address as the EX executes it, whose first halfword is given. Code 3 exactly where it is itself
+/// EX, else code 5 or Touched exactly by its first later halfword that is refused.
+pub fn fetch_subject<P: Space>(
+    cpu: &Cpu,
+    space: &P,
+    ex: &Code,
+    at: Addr,
+    h0: u16,
+) -> Result<Code, Ending>
+    ensures refused { IfErr result (λ e. subject_tests (P.memory space.now) at h0 ≡ Some e) }
+    ensures passed { IfOk result (λ _. subject_tests (P.memory space.now) at h0 ≡ None) }
+    ensures other { IfOk result (λ c. is_execute (fields.first_half c) ≡ false) }
+    ensures code { IfOk result (λ c. c ≡ merged cpu.now ex.now (code_at (P.memory space.now) (P.bytes space.now) at h0)) }
+{
+    if is_execute(h0) {
+        return Err(Ending::Abend(3));
+    }
+    match fetch_rest(space, at, h0) {
+        Ok(subject) => Ok(merge(cpu, ex, &subject)),
+        Err(e) => Err(e),
+    }
 }

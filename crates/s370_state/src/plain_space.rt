@@ -21,7 +21,7 @@ pub struct PlainSpace {
     pub image: Vec<u8>,
     /// The addresses of the touch bytes.
     pub touches: Vec<u32>,
-    ghost in_size: { vec_len bytes ≡ size },
+    ghost in_size: { length bytes.items ≡ size },
     ghost small: { base + vec_len image < 2 ^ 32 },
 }
 
@@ -120,4 +120,6 @@ impl Space for PlainSpace {
     fn put(&mut self, at: Addr, value: u8) {
         self.bytes[at.get() as usize] = value;
     }
+
+    ghost filled = { λ s. unfold memory_of in s.in_size };
 }

@@ -1,5 +1,5 @@
 //! A task's storage: what it may reach, store and read.
-ghost use Rattle.std.specs.Prelude.{◌≡◌, ℕ, ◌+◌, ◌*◌, ◌%◌, ◌/◌, ◌<◌, ◌≤◌, ◌^◌, List, Ok, Err, true, slice_set, if◌then◌else◌};
+ghost use Rattle.std.specs.Prelude.{◌≡◌, ℕ, ◌+◌, ◌*◌, ◌%◌, ◌/◌, ◌<◌, ◌≤◌, ◌^◌, List, Ok, Err, true, length, slice_set, if◌then◌else◌};
 ghost use Rattle.cov_base.specs.Memory.{Memory, byte_at, is_accessible, is_private, can_reach, can_store, first_touch, wrap};
 ghost use Rattle.s370_state.specs.Answers.{reach_answer, store_answer, touch_answer, half_answer, first_answer};
 
@@ -59,4 +59,7 @@ pub trait Space {
         requires { is_private (memory self.old) at ≡ true }
         ensures memory { memory self.new ≡ memory self.old }
         ensures bytes { bytes self.new ≡ slice_set (bytes self.old) at value };
+
+    /// Private storage has all its bytes, so that what is put at a private address stands there.
+    ghost filled: { (s : Self) → length (bytes s) ≡ (memory s).private };
 }

@@ -2,6 +2,7 @@
 use Rattle.std.specs.Prelude.{◌≡◌, ◌≢◌, ℕ, ◌+◌, ◌<◌, ◌≤◌, false, nat_eq, Option, None, List, length, replicate, slice_set, map, All, AllPairs, IfSome}
 use Rattle.std.specs.List.{list_any}
 use Rattle.cov_base.specs.Memory.{ImageView}
+use Rattle.cov_base.specs.declared.constants.TheConstants.{RETURN_ADDRESS}
 use Rattle.module_area.specs.Images.{AreImages}
 use Rattle.module_area.specs.Views.{DataView}
 
@@ -34,7 +35,7 @@ pub record JobView : Type 0 where
 
 -- registers as a task begins, before its REG cards: zero, but 14 the return address and 15 the entry
 abbrev pub first_regs : ℕ → List ℕ
-first_regs entry = slice_set (slice_set (replicate 16 0) 14 16777214) 15 entry
+first_regs entry = slice_set (slice_set (replicate 16 0) 14 RETURN_ADDRESS) 15 entry
 
 abbrev pub Differ : List (List ℕ) → Type 0
 Differ names = AllPairs (λ a b. a ≢ b) names

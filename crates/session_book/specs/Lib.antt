@@ -1,3 +1,4 @@
+pub mod Begun
 pub mod JobView
 pub mod Results
 pub mod Sessions

@@ -1,6 +1,9 @@
 //! The job that the cards spell.
+ghost use Rattle.std.specs.Prelude.{◌≡◌, ◌<◌, ◌≤◌, length};
+ghost use Rattle.session_book.specs.JobView.{IsJob, IsSession, IsTask};
+ghost use Rattle.session_book.specs.Sessions.{session_of, task_of};
 
-use cov_base::{Addr, Name};
+use cov_base::{Addr, Name, SessNo};
 use listing_lines::ListingLine;
 use module_area::{DataCard, Images};
 use std::marker::Model;
@@ -77,4 +80,49 @@ impl Model for Job {
     ghost view = { λ j. record { images = j.images; listings = j.listings.items; phases = j.phases.items; sessions = j.sessions.items; tasks = j.tasks.items } };
 
     ghost invariant = { λ j. IsJob (record { images = j.images; listings = j.listings.items; phases = j.phases.items; sessions = j.sessions.items; tasks = j.tasks.items }) };
+}
+
+impl Job {
+    /// The number of its modules, at most 16.
+    pub fn module_count(&self) -> u32
+        ensures value { result ≡ length self.now.images }
+        ensures job { IsJob self.now }
+    {
+        self.images.0.len() as u32
+    }
+
+    /// The number of its phases, at most 16.
+    pub fn phase_count(&self) -> u32
+        ensures value { result ≡ length self.now.phases }
+        ensures job { IsJob self.now }
+    {
+        self.phases.len() as u32
+    }
+
+    /// The number of its tasks, at most 64.
+    pub fn task_count(&self) -> usize
+        ensures value { result ≡ length self.now.tasks }
+        ensures job { IsJob self.now }
+    {
+        self.tasks.len()
+    }
+
+    /// A task's card.
+    pub fn card(&self, t: usize) -> &TaskCard
+        requires { t < length self.now.tasks }
+        ensures value { result.now ≡ task_of self.now t }
+        ensures card { IsTask (length self.now.phases) result.now }
+    {
+        &self.tasks[t]
+    }
+
+    /// A session.
+    pub fn session(&self, s: SessNo) -> &Session
+        requires from { 0 < s.0 }
+        requires to { s.0 ≤ length self.now.sessions }
+        ensures value { result.now ≡ session_of self.now s.0 }
+        ensures is { IsSession (length self.now.images) (length self.now.phases) result.now }
+    {
+        &self.sessions[s.0 as usize - 1]
+    }
 }

@@ -1,5 +1,5 @@
 -- What one test of a range tells in a task's space.
-use Rattle.std.proofs.Common.{◌≡◌, ℕ, ◌+◌, ◌*◌, ◌<◌, ◌≤◌, zero, suc, Bool, true, false, nat_eq, nat_le, IsTrue, None, Ok, List, refl, arith, ◌⊎◌, inl, inr}
+use Rattle.std.proofs.Common.{◌≡◌, ℕ, ◌+◌, ◌*◌, ◌<◌, ◌≤◌, zero, suc, Bool, true, false, nat_eq, nat_le, IsTrue, None, Ok, List, length, refl, ap, arith, ◌⊎◌, inl, inr}
 use Rattle.std.specs.List.{list_any}
 use Rattle.std.proofs.lemmas.Bool.Decides.{nat_tests}
 use Rattle.cov_base.specs.Memory.{Memory, ImageView, wrap, can_reach, can_store, first_touch}
@@ -11,6 +11,16 @@ use Rattle.space_map.specs.Inside.{IsSpace}
 use Rattle.space_map.proofs.Ranges.{reach_private, reach_image, store_private, store_outside, touch_private}
 use Rattle.space_map.proofs.Touches.{touches-private}
 use Rattle.space_map.proofs.Seen.{byte_at-image}
+
+-- private storage has all its bytes
+pub private_filled : (s : SpaceView) → length s.bytes ≡ (memory_of_space s).private
+unfolding memory_of
+private_filled s = refl
+
+-- as many as the size that its memory was made of
+pub private_filled-as : (s : SpaceView) (size : ℕ) (images : List ImageView) (places : List Place) → memory_of_space s ≡ memory_of size images places → length s.bytes ≡ size
+unfolding memory_of
+private_filled-as s size images places h = ap (λ (m : Memory). m.private) h
 
 pub store_empty : (m : Memory) (a n : ℕ) → n ≡ 0 → nat_eq n 0 ≡ can_store m a n
 unfolding can_store
@@ -39,22 +49,24 @@ is_past a b h = grind (arith, nat_tests)
 told_within : (a b : ℕ) → IsTrue (nat_le a b) → a ≤ b
 told_within a b h = grind (arith, nat_tests)
 
-pub store_range : (s : SpaceView) (monitored : Bool) (a n x : ℕ) → IsSpace s monitored → a < 16777216 → 0 < n → x ≡ a + n → nat_le x s.size ≡ can_store (memory_of_space s) a n
+-- by the number of private bytes, however it was read
+
+pub store_range : (s : SpaceView) (monitored : Bool) (a n x size : ℕ) → IsSpace s monitored → size ≡ length s.bytes → a < 16777216 → 0 < n → x ≡ a + n → nat_le x size ≡ can_store (memory_of_space s) a n
 unfolding memory_of
-store_range s monitored a n x k l p e =
-    elim (ends x s.size) [
-      | inl h ↦ rw (is_within x s.size h, store_private (memory_of_space s) a n (omega arith) (omega arith)) refl
-      | inr h ↦ rw (is_past x s.size h, store_outside (memory_of_space s) a n p (omega arith) l (omega arith)) refl
+store_range s monitored a n x size k f l p e =
+    elim (ends x size) [
+      | inl h ↦ rw (is_within x size h, store_private (memory_of_space s) a n (omega arith) (omega arith)) refl
+      | inr h ↦ rw (is_past x size h, store_outside (memory_of_space s) a n p (omega arith) l (omega arith)) refl
     ]
 
-pub reach_range : (s : SpaceView) (monitored : Bool) (a n x : ℕ) → IsSpace s monitored → x ≡ a + n → IsTrue (nat_le x s.size) → can_reach (memory_of_space s) a n ≡ true
+pub reach_range : (s : SpaceView) (monitored : Bool) (a n x size : ℕ) → IsSpace s monitored → size ≡ length s.bytes → x ≡ a + n → IsTrue (nat_le x size) → can_reach (memory_of_space s) a n ≡ true
 unfolding memory_of
-reach_range s monitored a n x k e h = let w = told_within x s.size h in reach_private (memory_of_space s) a n (omega arith) (omega arith)
+reach_range s monitored a n x size k f e h = let w = told_within x size h in reach_private (memory_of_space s) a n (omega arith) (omega arith)
 
-pub touch_range : (s : SpaceView) (monitored : Bool) (a n x : ℕ) → IsSpace s monitored → x ≡ a + n → IsTrue (nat_le x s.size) → first_touch (memory_of_space s) a n ≡ None
+pub touch_range : (s : SpaceView) (monitored : Bool) (a n x size : ℕ) → IsSpace s monitored → size ≡ length s.bytes → x ≡ a + n → IsTrue (nat_le x size) → first_touch (memory_of_space s) a n ≡ None
 unfolding memory_of
-touch_range s monitored a n x k e h =
-    let w = told_within x s.size h in
+touch_range s monitored a n x size k f e h =
+    let w = told_within x size h in
     touch_private (memory_of_space s) a n (λ b l. touches-private s.images s.places b k.are_images k.in_images (omega arith)) (omega arith) (omega arith)
 
 pub reach_listed : (size : ℕ) (images : List ImageView) (places : List Place) (a n : ℕ) → ((b : ℕ) → a ≤ b → b < a + n → list_any (λ i. in_image i b) images ≡ true) → a + n ≤ 16777216 → can_reach (memory_of size images places) a n ≡ true
@@ -69,4 +81,4 @@ two P a b l h p q = elim (which a b l h) [ inl e ↦ rw e p | inr e ↦ rw e q ]
 
 pub first_listed : (s : SpaceView) (monitored : Bool) (a h : ℕ) → IsSpace s monitored → 1048576 ≤ a → a + 2 ≤ 16777216 → list_any (λ i. in_image i a) s.images ≡ true → list_any (λ i. in_image i (a + 1)) s.images ≡ true → h ≡ image_byte s.images a * 256 + image_byte s.images (a + 1) → Ok h ≡ first_answer (memory_of_space s) s.bytes a
 first_listed s monitored a h k from to one next e =
-    rw (reach_listed s.size s.images s.places a 2 (λ b l m. two (λ b. list_any (λ i. in_image i b) s.images ≡ true) a b l m one next) to, let w : wrap (a + 1) ≡ a + 1 = omega arith in w, byte_at-image s.size s.images s.places s.bytes a (omega arith), byte_at-image s.size s.images s.places s.bytes (a + 1) (omega arith), e) refl
+    rw (reach_listed (length s.bytes) s.images s.places a 2 (λ b l m. two (λ b. list_any (λ i. in_image i b) s.images ≡ true) a b l m one next) to, let w : wrap (a + 1) ≡ a + 1 = omega arith in w, byte_at-image (length s.bytes) s.images s.places s.bytes a (omega arith), byte_at-image (length s.bytes) s.images s.places s.bytes (a + 1) (omega arith), e) refl

@@ -5,8 +5,7 @@ use Rattle.brk_table.specs.Places.{IsIn, ArePlaces}
 use Rattle.space_map.specs.Space.{SpaceView}
 
 pub record IsSpace (s : SpaceView) (monitored : Bool) : Type 0 where
-  pub filled : length s.bytes ≡ s.size
-  pub most : s.size ≤ 1048576
+  pub most : length s.bytes ≤ 1048576
   pub are_images : AreImages s.images
   pub are_places : ArePlaces s.places
   pub in_images : All (IsIn s.images) s.places

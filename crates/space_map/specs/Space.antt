@@ -1,18 +1,17 @@
 -- What contracts see of a task's space, and the bytes that it begins with.
-use Rattle.std.specs.Prelude.{ℕ, ◌*◌, List, take, drop}
+use Rattle.std.specs.Prelude.{ℕ, ◌*◌, List, length, take, drop}
 use Rattle.cov_base.specs.Memory.{Memory, ImageView}
 use Rattle.module_area.specs.declared.places.Place.{Place}
 use Rattle.brk_table.specs.Places.{memory_of}
 
--- private storage's size and bytes, the modules, and their places
+-- private storage's bytes, the modules, and their places
 pub record SpaceView : Type 0 where
-  pub size : ℕ
   pub bytes : List ℕ
   pub images : List ImageView
   pub places : List Place
 
 abbrev pub memory_of_space : SpaceView → Memory
-memory_of_space s = memory_of s.size s.images s.places
+memory_of_space s = memory_of (length s.bytes) s.images s.places
 
 -- private storage's bytes as rows of 16, of which the last may be shorter
 abbrev pub row_of : List ℕ → ℕ → List ℕ

@@ -1,5 +1,5 @@
 //! A task's space.
-ghost use Rattle.std.specs.Prelude.{◌≡◌, ℕ, ◌+◌, ◌*◌, None, ◌<◌, ◌≤◌, length, All, IfOk, IsTrue, true};
+ghost use Rattle.std.specs.Prelude.{◌≡◌, ℕ, ◌+◌, ◌*◌, None, ◌<◌, ◌≤◌, length, All, IfOk, IsTrue, true, refl};
 ghost use Rattle.cov_base.specs.Memory.{wrap, byte_at, half_at, is_accessible, can_reach, can_store, first_touch};
 ghost use Rattle.s370_state.specs.Answers.{reach_answer, store_answer, touch_answer};
 ghost use Rattle.module_area.specs.Images.{AreImages};
@@ -20,7 +20,6 @@ use std::marker::Model;
 /// Contracts see the memory and the private bytes.
 #[derive(Drop)]
 pub struct TaskSpace<'a> {
-    size: u32,
     bytes: Vec<u8>,
     images: &'a Images,
     tables: &'a Tables,
@@ -34,9 +33,9 @@ impl<'a> Model for TaskSpace<'a> {
 
     ghost Value = { SpaceView };
 
-    ghost view = { λ s. record { size = s.size; bytes = s.bytes.items; images = s.images.now; places = s.tables.now.places } };
+    ghost view = { λ s. record { bytes = s.bytes.items; images = s.images.now; places = s.tables.now.places } };
 
-    ghost invariant = { λ s. IsSpace (record { size = s.size; bytes = s.bytes.items; images = s.images.now; places = s.tables.now.places }) s.monitored };
+    ghost invariant = { λ s. IsSpace (record { bytes = s.bytes.items; images = s.images.now; places = s.tables.now.places }) s.monitored };
 }
 
 impl<'a> TaskSpace<'a> {
@@ -54,7 +53,7 @@ impl<'a> TaskSpace<'a> {
         requires images { AreImages images.now }
         requires tables { All (IsIn images.now) tables.now.places }
 
-        ensures size { IfOk result (λ s. s.size ≡ size) }
+        ensures size { IfOk result (λ s. length s.bytes ≡ size) }
         ensures memory { IfOk result (λ s. memory_of_space s ≡ memory_of size images.now tables.now.places) }
         ensures bytes { IfOk result (λ s. s.bytes ≡ first_bytes size cards.now) }
 
@@ -64,7 +63,6 @@ impl<'a> TaskSpace<'a> {
         let monitored = tables.len() > 0;
         let bytes = first_bytes(alloc, size, cards)?;
         Ok(TaskSpace {
-            size,
             bytes,
             images,
             tables,
@@ -73,14 +71,13 @@ impl<'a> TaskSpace<'a> {
     }
 
     /// The number of bytes of private storage.
-    #[tactic(auto, unfolding(brk_table::specs::Places::memory_of))]
+    #[tactic(auto, using(crate::proofs::SpaceLemmas::private_filled))]
     pub fn size(&self) -> u32
-        ensures value { result ≡ self.now.size }
-        ensures filled { length self.now.bytes ≡ result }
+        ensures value { result ≡ length self.now.bytes }
         ensures private { (memory_of_space self.now).private ≡ result }
         ensures most { result ≤ 1048576 }
     {
-        self.size
+        self.bytes.len() as u32
     }
 
     /// The bytes of private storage.
@@ -92,7 +89,7 @@ impl<'a> TaskSpace<'a> {
 
     /// Row n of 16 bytes of private storage; the last row may be shorter.
     pub fn row(&self, n: u32) -> &[u8]
-        requires { 16 * n < self.now.size }
+        requires { 16 * n < length self.now.bytes }
         ensures { result.now ≡ row_of self.now.bytes n }
     {
         let from = n as usize * 16;
@@ -106,17 +103,17 @@ impl<'a> TaskSpace<'a> {
         ensures reach { IsTrue result → can_reach (memory_of_space self.now) at len ≡ true }
         ensures touch { IsTrue result → first_touch (memory_of_space self.now) at len ≡ None }
     {
-        len == 0 || u64::from(at.get()) + u64::from(len) <= u64::from(self.size)
+        len == 0 || u64::from(at.get()) + u64::from(len) <= self.bytes.len() as u64
     }
 
     #[tactic(auto, unfolding(brk_table::specs::Places::memory_of, cov_base::specs::Memory::is_accessible))]
     fn is_accessible(&self, at: Addr) -> bool
         ensures { result ≡ is_accessible (memory_of_space self.now) at }
     {
-        at.get() < self.size || is_image(self.images, at.get())
+        (at.get() as usize) < self.bytes.len() || is_image(self.images, at.get())
     }
 
-    #[tactic(auto, using(crate::proofs::Ranges::reach_none, crate::proofs::Ranges::reach_more, crate::proofs::Ranges::reach_fails))]
+    #[tactic(auto, using(s370_state::proofs::Ranges::reach_none, s370_state::proofs::Ranges::reach_more, s370_state::proofs::Ranges::reach_fails))]
     fn reach_bytes(&self, at: Addr, len: u32) -> Result<(), Refused>
         ensures { result ≡ reach_answer (memory_of_space self.now) at len }
     {
@@ -128,7 +125,7 @@ impl<'a> TaskSpace<'a> {
         Ok(())
     }
 
-    #[tactic(auto, using(crate::proofs::Ranges::touch_none, crate::proofs::Ranges::touch_more, crate::proofs::Ranges::touch_found))]
+    #[tactic(auto, using(s370_state::proofs::Ranges::touch_none, s370_state::proofs::Ranges::touch_more, s370_state::proofs::Ranges::touch_found))]
     fn read_bytes(&self, at: Addr, len: u32) -> Result<(), Refused>
         ensures { result ≡ touch_answer (memory_of_space self.now) at len }
     {
@@ -163,7 +160,7 @@ impl<'a> TaskSpace<'a> {
     }
 }
 
-#[tactic(auto, using(crate::proofs::Ranges::reach_two, crate::proofs::Ranges::answer_ok))]
+#[tactic(auto, using(s370_state::proofs::Ranges::reach_two, s370_state::proofs::Ranges::answer_ok))]
 impl<'a> Space for TaskSpace<'a> {
     ghost memory = { λ s. memory_of_space s };
 
@@ -216,7 +213,7 @@ impl<'a> Space for TaskSpace<'a> {
 
     #[tactic(auto, unfolding(brk_table::specs::Places::memory_of, cov_base::specs::Memory::byte_at, cov_base::specs::Memory::is_accessible))]
     fn byte(&self, at: Addr) -> u8 {
-        if at.get() < self.size {
+        if (at.get() as usize) < self.bytes.len() {
             self.bytes[at.get() as usize]
         } else {
             image_byte(self.images, at.get())
@@ -227,4 +224,6 @@ impl<'a> Space for TaskSpace<'a> {
     fn put(&mut self, at: Addr, value: u8) {
         self.bytes[at.get() as usize] = value;
     }
+
+    ghost filled = { λ s. unfold memory_of in refl };
 }

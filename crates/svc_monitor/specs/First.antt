@@ -1,9 +1,7 @@
 -- How the first halfword of an instruction is met.
-use Rattle.std.specs.Prelude.{◌≡◌, ◌≢◌, ℕ, ◌%◌, ◌<◌, false, ◌==◌, if◌then◌else◌, Option, Some, None, List, length}
+use Rattle.std.specs.Prelude.{◌≡◌, ◌≢◌, ℕ, ◌%◌, ◌<◌, false, Some, List, length}
 use Rattle.cov_base.specs.Codes.{breakpoint}
-use Rattle.cov_base.specs.Memory.{Memory, can_reach}
-use Rattle.s370_state.specs.declared.endings.Ending.{Ending}
-use Rattle.s370_state.specs.declared.endings.Ending.TheVariants.{Abend}
+use Rattle.cov_base.specs.Memory.{Memory}
 use Rattle.module_area.specs.declared.cells.Cell.{Cell}
 use Rattle.module_area.specs.declared.places.Place.{Place}
 use Rattle.module_area.specs.PlanView.{PlanView, place_of}
@@ -17,10 +15,6 @@ use Rattle.svc_monitor.specs.declared.first.Met.TheVariants.{Plain, Free, Trap}
 pub record IsOver (plan : PlanView) (m : Memory) (places : List Place) : Type 0 where
   pub same : plan.places ≡ places
   pub seen : AreSeen m places
-
--- the tests of the first halfword: odd address 6, access 5
-abbrev pub first_tests : Memory → ℕ → Option Ending
-first_tests m a = if a % 2 == 1 then Some (Abend 6) else (if can_reach m a 2 then None else Some (Abend 5))
 
 -- it is the place that begins there, and the only one
 pub record BeginsAt (places : List Place) (a p : ℕ) : Type 0 where

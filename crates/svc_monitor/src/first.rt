@@ -5,15 +5,13 @@ ghost use Rattle.cov_base.specs.Codes.{breakpoint};
 ghost use Rattle.cov_base.specs.Memory.{half_at};
 ghost use Rattle.module_area.specs.PlanView.{original_at, place_of};
 ghost use Rattle.module_area.specs.Notes.{calls};
-ghost use Rattle.svc_monitor.specs.First.{IsOver, first_tests, IsPlaced, IsMet, half_of};
+ghost use Rattle.s370_exec.specs.Fetch.{first_tests};
+ghost use Rattle.svc_monitor.specs.First.{IsOver, IsPlaced, IsMet, half_of};
 
 use brk_table::Tables;
-use cov_base::{Addr, PlaceNo};
+use cov_base::{Addr, BREAKPOINT, PlaceNo};
 use module_area::{Cell, Cells};
 use s370_state::{Ending, Space};
-
-/// SVC 255.
-const BREAKPOINT: u16 = 0x0AFF;
 
 /// How the first halfword was met. Each variant ends with the original halfword.
 #[derive(Clone, Copy)]

@@ -1,35 +1,23 @@
 //! One instruction over the cells.
 ghost use Rattle.std.specs.Prelude.{◌≡◌, ℕ, ◌+◌, ◌%◌, ◌<◌, ◌^◌, length};
-ghost use Rattle.cov_base.specs.Facts.{fact_of};
 ghost use Rattle.module_area.specs.Notes.{calls};
 ghost use Rattle.s370_decode.specs.Fields.{first_half};
 ghost use Rattle.s370_decode.specs.Table.{op_of};
 ghost use Rattle.s370_branch.specs.Branch.{goes};
 ghost use Rattle.s370_exec.specs.Fetch.{is_execute};
-ghost use Rattle.s370_exec.specs.Solo.{solo_step, subject_step};
+ghost use Rattle.s370_exec.specs.Solo.{state_of, solo_step, subject_step};
 ghost use Rattle.svc_monitor.specs.First.{IsOver, IsPending};
 ghost use Rattle.svc_monitor.specs.Settled.{Shows};
-ghost use Rattle.svc_monitor.specs.Observed.{Observes, state_of};
+ghost use Rattle.svc_monitor.specs.Observed.{Observes};
 
 use crate::first::{Met, first_half};
 use crate::trap::settle;
 use brk_table::Tables;
-use cov_base::{Fact, Kind};
 use module_area::Cells;
 use s370_branch::outcome;
 use s370_decode::Code;
-use s370_exec::{execute, fetch_rest, is_execute, merge, subject_address};
-use s370_state::{Cpu, Ending, Next, Space, TaskIo};
-
-/// What an execution shows that branched, or did not.
-fn fact_of(kind: Kind, went: bool) -> Fact
-    ensures { result ≡ fact_of kind went }
-{
-    match kind {
-        Kind::Straight => Fact::Ran,
-        Kind::Conditional => if went { Fact::Went } else { Fact::Stayed },
-    }
-}
+use s370_exec::{execute, fetch_rest, fetch_subject, is_execute, subject_address};
+use s370_state::{Cpu, Next, Space, TaskIo};
 
 /// Settles a trap whose instruction was begun, by what it does as it is executed.
 fn show<C: Cells>(cells: &C, pass: &mut C::Pass, tables: &Tables, met: Met, cpu: &Cpu, code: &Code)
@@ -42,7 +30,7 @@ fn show<C: Cells>(cells: &C, pass: &mut C::Pass, tables: &Tables, met: Met, cpu:
 {
     if let Met::Trap(place, cell, _) = met {
         let kind = tables.place(place).kind;
-        let fact = fact_of(kind, outcome(cpu, code));
+        let fact = kind.fact(outcome(cpu, code));
         settle(cells, pass, tables, place, cell, fact);
     }
 }
@@ -73,17 +61,12 @@ fn step_subject<C: Cells, P: Space>(
         Ok(met) => met,
         Err(e) => return Next::Ended(e),
     };
-    let original = met.original();
-    if is_execute(original) {
-        return Next::Ended(Ending::Abend(3));
-    }
-    let subject = match fetch_rest(space, at, original) {
+    let subject = match fetch_subject(cpu, space, ex, at, met.original()) {
         Ok(code) => code,
         Err(e) => return Next::Ended(e),
     };
-    let executed = merge(cpu, ex, &subject);
-    show(cells, pass, tables, met, cpu, &executed);
-    execute(cpu, space, io, &executed, Some(ex.at))
+    show(cells, pass, tables, met, cpu, &subject);
+    execute(cpu, space, io, &subject, Some(ex.at))
 }
 
 /// One instruction of the task, of which neither budget nor return address is tested: it ends or goes on as over

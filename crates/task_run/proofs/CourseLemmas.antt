@@ -4,7 +4,7 @@ use Rattle.cov_base.specs.Memory.{Memory}
 use Rattle.cov_base.specs.States.{State}
 use Rattle.module_area.specs.PlanView.{PlanView}
 use Rattle.task_run.specs.Courses.{Course, solo}
-use Rattle.task_run.proofs.TraceLemmas.{solo_run-done, solo_run-visits}
+use Rattle.s370_exec.proofs.TraceLemmas.{solo_run-done, solo_run-visits}
 
 -- no more instructions than the budget, and at most two visits for each
 pub record IsCourse (run : Course) : Type 0 where

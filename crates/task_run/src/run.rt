@@ -1,25 +1,17 @@
 //! The run of a task.
-ghost use Rattle.std.specs.Prelude.{◌≡◌, ℕ, ◌<◌, ◌≤◌, ◌^◌, ◌==◌};
+ghost use Rattle.std.specs.Prelude.{◌≡◌, ℕ, ◌<◌, ◌≤◌, ◌^◌};
 ghost use Rattle.module_area.specs.Notes.{calls};
-ghost use Rattle.s370_exec.specs.Solo.{solo_run, return_address};
+ghost use Rattle.s370_exec.specs.Solo.{state_of, solo_run};
 ghost use Rattle.space_map.specs.Space.{memory_of_space};
 ghost use Rattle.svc_monitor.specs.First.{IsOver};
-ghost use Rattle.svc_monitor.specs.Observed.{Observes, state_of};
+ghost use Rattle.svc_monitor.specs.Observed.{Observes};
 
 use crate::tasks::Task;
 use brk_table::Tables;
 use module_area::Cells;
-use s370_state::{Cpu, Ending, Next};
+use s370_exec::has_returned;
+use s370_state::{Ending, Next};
 use svc_monitor::step;
-
-/// Where a task returns to.
-const RETURN_ADDRESS: u32 = 0xFF_FFFE;
-
-fn has_returned(cpu: &Cpu) -> bool
-    ensures { result ≡ (cpu.now.ia == return_address) }
-{
-    cpu.at().get() == RETURN_ADDRESS
-}
 
 /// Runs the task until it ends: before each instruction it ends Returned at X'FFFFFE', else Spent where it has done as
 /// many instructions as its budget. Ending, state and count are those of its run alone over modules that were never

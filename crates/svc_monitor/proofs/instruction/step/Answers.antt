@@ -3,11 +3,10 @@ use Rattle.s370_decode.specs.Fields.{first_half}
 use Rattle.s370_decode.specs.Table.{op_of}
 use Rattle.s370_branch.specs.Branch.{goes}
 use Rattle.s370_exec.specs.Effects.{effect_of}
-use Rattle.s370_exec.specs.Fetch.{is_execute}
-use Rattle.s370_exec.specs.Solo.{solo_step, subject_step, ended, stepped, behind, visit}
+use Rattle.s370_exec.specs.Solo.{state_of, solo_step, subject_step, ended, stepped, behind, visit}
 use Rattle.s370_exec.proofs.Subjects.{first_half-code_at}
-use Rattle.svc_monitor.specs.Observed.{state_of}
-use Rattle.svc_monitor.proofs.StepLemmas.{solo_step-refused, solo_step-rest_refused, solo_step-begun, solo_step-execute, Observes-not_begun, Observes-begun}
+use Rattle.s370_exec.proofs.StepLemmas.{solo_step-refused, solo_step-rest_refused, solo_step-begun, solo_step-execute}
+use Rattle.svc_monitor.proofs.StepLemmas.{Observes-not_begun, Observes-begun}
 use Rattle.svc_monitor.proofs.ObservedLemmas.{Observes-none, Observes-append}
 use Rattle.svc_monitor.proofs.instruction.step.Given as given
 use Rattle.svc_monitor.proofs.instruction.step.Goals as goal

@@ -1,14 +1,11 @@
-use Rattle.std.proofs.Common.{◌≡◌, ℕ, true, false, [], ◌∷◌, ap, sym, ◌∙◌}
-use Rattle.s370_state.specs.declared.endings.Ending.TheVariants.{Abend}
+use Rattle.std.proofs.Common.{◌≡◌, ℕ, true, false, [], ◌∷◌, ap, ◌∙◌}
 use Rattle.s370_decode.specs.Fields.{first_half}
 use Rattle.s370_decode.specs.Table.{op_of}
 use Rattle.s370_branch.specs.Branch.{goes}
 use Rattle.s370_exec.specs.Effects.{effect_of}
-use Rattle.s370_exec.specs.Fetch.{is_execute, merged}
-use Rattle.s370_exec.specs.Solo.{subject_step, ended, stepped, visit}
-use Rattle.s370_exec.proofs.Subjects.{is_execute-merged}
-use Rattle.svc_monitor.specs.Observed.{state_of}
-use Rattle.svc_monitor.proofs.StepLemmas.{subject_step-refused, subject_step-execute, subject_step-rest_refused, subject_step-begun, Observes-not_begun, Observes-begun}
+use Rattle.s370_exec.specs.Solo.{state_of, subject_step, ended, stepped, visit}
+use Rattle.s370_exec.proofs.StepLemmas.{subject_step-refused, subject_step-unread, subject_step-begun}
+use Rattle.svc_monitor.proofs.StepLemmas.{Observes-not_begun, Observes-begun}
 use Rattle.svc_monitor.proofs.ObservedLemmas.{Observes-none}
 use Rattle.svc_monitor.proofs.instruction.step_subject.Given as given
 use Rattle.svc_monitor.proofs.instruction.step_subject.Goals as goal
@@ -28,60 +25,35 @@ returns-in-Err-clause-next g c = λ d. ap (λ r. r.next) (refused g c d)
 pub returns-in-Err-clause-observes : goal.returns-in-Err-clause-observes
 returns-in-Err-clause-observes g c = λ d. rw (refused g c d, c.in-Err.ensures.kept) (Observes-none _ _)
 
-another : (g : given.Over) (c : goal.Then-is_execute g) (d : ℕ) →
+unread : (g : given.Over) (c : goal.In-Err-fetch_subject g) (d : ℕ) →
     let s = state_of c.args.cpu.now (g.P.Space.bytes c.args.space.now) c.args.io.now d in
-    subject_step (g.P.Space.memory c.args.space.now) s c.args.ex.now ≡ ended s (Abend 3) (visit s c.subject_address-at.result false false true ∷ [])
-another g c d =
-    subject_step-execute _ (state_of c.args.cpu.now (g.P.Space.bytes c.args.space.now) c.args.io.now d) c.args.ex.now c.subject_address-at.result c.original-original.result
-    c.subject_address-at.ensures c.in-Ok.ensures.passed (c.original-original.ensures ∙ c.in-Ok.ensures.half) (sym c.is_execute.ensures ∙ c.if-is_execute.true)
+    subject_step (g.P.Space.memory c.args.space.now) s c.args.ex.now ≡ ended s c.in-Err-fetch_subject.e (visit s c.subject_address-at.result false false true ∷ [])
+unread g c d =
+    subject_step-unread _ (state_of c.args.cpu.now (g.P.Space.bytes c.args.space.now) c.args.io.now d) c.args.ex.now c.subject_address-at.result c.original.result c.in-Err-fetch_subject.e
+    c.subject_address-at.ensures c.in-Ok.ensures.passed (c.original.ensures ∙ c.in-Ok.ensures.half) c.in-Err-fetch_subject.ensures.refused
 
-pub returns-then-is_execute-clause-state : goal.returns-then-is_execute-clause-state
-returns-then-is_execute-clause-state g c = λ d. ap (λ r. r.state) (another g c d)
+pub returns-in-Err-fetch_subject-clause-state : goal.returns-in-Err-fetch_subject-clause-state
+returns-in-Err-fetch_subject-clause-state g c = λ d. ap (λ r. r.state) (unread g c d)
 
-pub returns-then-is_execute-clause-next : goal.returns-then-is_execute-clause-next
-returns-then-is_execute-clause-next g c = λ d. ap (λ r. r.next) (another g c d)
+pub returns-in-Err-fetch_subject-clause-next : goal.returns-in-Err-fetch_subject-clause-next
+returns-in-Err-fetch_subject-clause-next g c = λ d. ap (λ r. r.next) (unread g c d)
 
-pub returns-then-is_execute-clause-observes : goal.returns-then-is_execute-clause-observes
-returns-then-is_execute-clause-observes g c = λ d. rw (another g c d)
+pub returns-in-Err-fetch_subject-clause-observes : goal.returns-in-Err-fetch_subject-clause-observes
+returns-in-Err-fetch_subject-clause-observes g c = λ d. rw (unread g c d)
     (Observes-not_begun _ c.args.tables.now.places _ _ c.in-Ok.met (state_of c.args.cpu.now (g.P.Space.bytes c.args.space.now) c.args.io.now d) c.subject_address-at.result true
     c.requires.over.same c.in-Ok.ensures.placed c.in-Ok.ensures.met)
-
-rest_refused : (g : given.Over) (c : goal.In-Err-fetch_rest g) (d : ℕ) →
-    let s = state_of c.args.cpu.now (g.P.Space.bytes c.args.space.now) c.args.io.now d in
-    subject_step (g.P.Space.memory c.args.space.now) s c.args.ex.now ≡ ended s c.in-Err-fetch_rest.e (visit s c.subject_address-at.result false false true ∷ [])
-rest_refused g c d =
-    subject_step-rest_refused _ (state_of c.args.cpu.now (g.P.Space.bytes c.args.space.now) c.args.io.now d) c.args.ex.now c.subject_address-at.result c.original-original.result c.in-Err-fetch_rest.e
-    c.subject_address-at.ensures c.in-Ok.ensures.passed (c.original-original.ensures ∙ c.in-Ok.ensures.half) (sym c.is_execute.ensures ∙ c.if-is_execute.false) c.in-Err-fetch_rest.ensures.refused
-
-pub returns-in-Err-fetch_rest-clause-state : goal.returns-in-Err-fetch_rest-clause-state
-returns-in-Err-fetch_rest-clause-state g c = λ d. ap (λ r. r.state) (rest_refused g c d)
-
-pub returns-in-Err-fetch_rest-clause-next : goal.returns-in-Err-fetch_rest-clause-next
-returns-in-Err-fetch_rest-clause-next g c = λ d. ap (λ r. r.next) (rest_refused g c d)
-
-pub returns-in-Err-fetch_rest-clause-observes : goal.returns-in-Err-fetch_rest-clause-observes
-returns-in-Err-fetch_rest-clause-observes g c = λ d. rw (rest_refused g c d)
-    (Observes-not_begun _ c.args.tables.now.places _ _ c.in-Ok.met (state_of c.args.cpu.now (g.P.Space.bytes c.args.space.now) c.args.io.now d) c.subject_address-at.result true
-    c.requires.over.same c.in-Ok.ensures.placed c.in-Ok.ensures.met)
-
-pub execute-requires : goal.execute-requires
-execute-requires g c =
-    let same : c.merge-executed.result ≡ merged c.args.cpu.now c.args.ex.now c.in-Ok-fetch_rest.code = c.merge-executed.ensures in
-    record {
-      subject = rw (same, c.in-Ok-fetch_rest.ensures.code)
-          (is_execute-merged _ _ c.subject_address-at.result c.original-original.result c.args.cpu.now c.args.ex.now ∙ (sym c.is_execute.ensures ∙ c.if-is_execute.false));
-    }
 
 begun : (g : given.Over) (c : goal.After-execute g) (d : ℕ) →
     let s = state_of c.args.cpu.now (g.P.Space.bytes c.args.space.now) c.args.io.now d in
+    let x = c.in-Ok-fetch_subject.code in
     subject_step (g.P.Space.memory c.args.space.now) s c.args.ex.now
     ≡ stepped s (effect_of c.execute.new.cpu (g.P.Space.bytes c.execute.new.space) c.execute.new.io c.execute.result)
-    (visit s c.subject_address-at.result true (goes (op_of (first_half c.merge-executed.result)) c.args.cpu.now c.merge-executed.result) true ∷ [])
+    (visit s c.subject_address-at.result true (goes (op_of (first_half x)) c.args.cpu.now x) true ∷ [])
 begun g c d =
-    subject_step-begun _ (state_of c.args.cpu.now (g.P.Space.bytes c.args.space.now) c.args.io.now d) c.args.ex.now c.subject_address-at.result c.original-original.result
-    c.in-Ok-fetch_rest.code c.merge-executed.result (effect_of c.execute.new.cpu (g.P.Space.bytes c.execute.new.space) c.execute.new.io c.execute.result)
-    c.subject_address-at.ensures c.in-Ok.ensures.passed (c.original-original.ensures ∙ c.in-Ok.ensures.half) (sym c.is_execute.ensures ∙ c.if-is_execute.false)
-    c.in-Ok-fetch_rest.ensures.passed c.in-Ok-fetch_rest.ensures.code c.merge-executed.ensures c.execute.ensures.effect
+    subject_step-begun _ (state_of c.args.cpu.now (g.P.Space.bytes c.args.space.now) c.args.io.now d) c.args.ex.now c.subject_address-at.result c.original.result
+    c.in-Ok-fetch_subject.code (effect_of c.execute.new.cpu (g.P.Space.bytes c.execute.new.space) c.execute.new.io c.execute.result)
+    c.subject_address-at.ensures c.in-Ok.ensures.passed (c.original.ensures ∙ c.in-Ok.ensures.half) c.in-Ok-fetch_subject.ensures.passed c.in-Ok-fetch_subject.ensures.code
+    c.execute.ensures.effect
 
 pub returns-clause-state : goal.returns-clause-state
 returns-clause-state g c = λ d. ap (λ r. r.state) (begun g c d)
@@ -90,6 +62,6 @@ pub returns-clause-next : goal.returns-clause-next
 returns-clause-next g c = λ d. ap (λ r. r.next) (begun g c d)
 
 pub returns-clause-observes : goal.returns-clause-observes
-returns-clause-observes g c = λ d. rw (begun g c d)
+returns-clause-observes g c = λ d. let x = c.in-Ok-fetch_subject.code in rw (begun g c d)
     (Observes-begun _ c.args.tables.now.places _ _ _ c.in-Ok.met (state_of c.args.cpu.now (g.P.Space.bytes c.args.space.now) c.args.io.now d) c.subject_address-at.result
-    (goes (op_of (first_half c.merge-executed.result)) c.args.cpu.now c.merge-executed.result) true c.requires.over.same c.in-Ok.ensures.placed c.in-Ok.ensures.met c.show.ensures.shows)
+    (goes (op_of (first_half x)) c.args.cpu.now x) true c.requires.over.same c.in-Ok.ensures.placed c.in-Ok.ensures.met c.show.ensures.shows)

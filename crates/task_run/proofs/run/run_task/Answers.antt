@@ -1,15 +1,23 @@
 use Rattle.std.proofs.Common.{ℕ, ◌+◌, arith, refl, sym, ◌∙◌}
 use Rattle.s370_state.specs.declared.endings.Ending.TheVariants.{Returned, Spent}
-use Rattle.s370_exec.specs.Solo.{solo_run}
+use Rattle.s370_exec.specs.Solo.{state_of, solo_run}
 use Rattle.space_map.specs.Space.{memory_of_space}
-use Rattle.svc_monitor.specs.Observed.{state_of}
-use Rattle.task_run.proofs.RunLemmas.{IsRun, HasRun-more, HasRun-calls, IsRun-ended, IsRun-returned, IsRun-spent}
+use Rattle.task_run.proofs.RunLemmas.{IsRun, LedTo-start, LedTo-more, LedTo-calls, IsRun-ended, IsRun-returned, IsRun-spent}
 use Rattle.task_run.proofs.run.run_task.Given as given
 use Rattle.task_run.proofs.run.run_task.Goals as goal
 
 pub step-requires-clause-room : goal.step-requires-clause-room
 step-requires-clause-room g c κs within =
-    omega (arith, HasRun-calls _ _ _ _ _ _ _ _ c.loop-done.invariant.run, c.requires.room)
+    omega (arith, LedTo-calls _ _ _ _ _ _ _ _ c.loop-done.invariant.run, c.requires.room)
+
+pub loop-done-init : goal.loop-done-init
+loop-done-init g c = record {
+  area = c.requires.area;
+  memory = refl;
+  budget = refl;
+  done = c.requires.fresh;
+  run = LedTo-start _ _ _ _ _;
+}
 
 pub loop-done-preserved : goal.loop-done-preserved
 loop-done-preserved g c =
@@ -20,7 +28,7 @@ loop-done-preserved g c =
       memory = c.step.ensures.memory ∙ same;
       budget = c.loop-done.invariant.budget;
       done = refl;
-      run = HasRun-more _ _ _ (g.C.Cells.notes c.loop-done.pass) _ _ _ i (state_of c.loop-done.task.cpu c.loop-done.task.space.bytes c.loop-done.task.io i) _
+      run = LedTo-more _ _ _ (g.C.Cells.notes c.loop-done.pass) _ _ _ i (state_of c.loop-done.task.cpu c.loop-done.task.space.bytes c.loop-done.task.io i) _
           c.loop-done.invariant.run c.loop-done-test.true (sym c.if-has_returned.ensures) (rw same at (c.step.ensures.next i ∙ c.in_default.is)) (rw same at (c.step.ensures.state i)) (rw same at (c.step.ensures.observes i));
     }
 

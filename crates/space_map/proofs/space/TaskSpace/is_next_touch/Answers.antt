@@ -14,4 +14,4 @@ returns-then-not-self c =
 pub returns-then-get-eq1 : goal.returns-then-get-eq1
 returns-then-get-eq1 c =
     let s = c.self.inside in
-    rw (← c.self.view_is) (sym (touch_odd s.size s.images.now s.tables.now.places c.args.at c.args.i (wrap (c.args.at + c.args.i)) c.self.invariant.are_places.each (rw (← c.self.view_is) at c.requires) (omega arith) refl (omega arith)))
+    rw (← c.self.view_is) (sym (touch_odd (length s.bytes.items) s.images.now s.tables.now.places c.args.at c.args.i (wrap (c.args.at + c.args.i)) c.self.invariant.are_places.each (rw (← c.self.view_is) at c.requires) (omega arith) refl (omega arith)))

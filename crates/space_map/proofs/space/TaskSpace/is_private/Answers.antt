@@ -14,12 +14,12 @@ returns-then-len-eq0-clause-touch c _ = touch_empty (memory_of_space c.args.self
 
 pub returns-else-len-eq0-clause-value : goal.returns-else-len-eq0-clause-value
 returns-else-len-eq0-clause-value c =
-    rw (c.from-else-len-eq0-2.ensures, ← c.self.view_is) (store_range _ c.self.inside.monitored c.args.at c.args.len _ c.self.invariant (omega arith) (omega arith) (omega arith))
+    rw (← c.self.view_is) (store_range _ c.self.inside.monitored c.args.at c.args.len _ c.len.result c.self.invariant (omega arith) (omega arith) (omega arith) (omega arith))
 
 pub returns-else-len-eq0-clause-reach : goal.returns-else-len-eq0-clause-reach
 returns-else-len-eq0-clause-reach c =
-    rw (c.from-else-len-eq0-2.ensures, ← c.self.view_is) (reach_range _ c.self.inside.monitored c.args.at c.args.len _ c.self.invariant (omega arith))
+    rw (← c.self.view_is) (reach_range _ c.self.inside.monitored c.args.at c.args.len _ c.len.result c.self.invariant (omega arith) (omega arith))
 
 pub returns-else-len-eq0-clause-touch : goal.returns-else-len-eq0-clause-touch
 returns-else-len-eq0-clause-touch c =
-    rw (c.from-else-len-eq0-2.ensures, ← c.self.view_is) (touch_range _ c.self.inside.monitored c.args.at c.args.len _ c.self.invariant (omega arith))
+    rw (← c.self.view_is) (touch_range _ c.self.inside.monitored c.args.at c.args.len _ c.len.result c.self.invariant (omega arith) (omega arith))

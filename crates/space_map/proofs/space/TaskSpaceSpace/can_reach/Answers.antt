@@ -1,4 +1,4 @@
-use Rattle.std.proofs.Common.{◌≡◌, true, refl}
+use Rattle.std.proofs.Common.{◌≡◌, true, length, refl}
 use Rattle.cov_base.specs.Memory.{can_reach}
 use Rattle.brk_table.specs.Places.{memory_of}
 use Rattle.space_map.proofs.SpaceLemmas.{reach_listed}
@@ -9,5 +9,5 @@ returns-then-is_in_one_image c =
     let s = c.self.inside in
     let all = rw c.get.ensures.value at (c.if-is_in_one_image.ensures.all refl) in
     let below = rw c.get.ensures.value at (c.if-is_in_one_image.ensures.below refl) in
-    let h : can_reach (memory_of s.size s.images.now s.tables.now.places) c.args.at c.args.len ≡ true = reach_listed s.size s.images.now s.tables.now.places c.args.at c.args.len all below in
+    let h : can_reach (memory_of (length s.bytes.items) s.images.now s.tables.now.places) c.args.at c.args.len ≡ true = reach_listed (length s.bytes.items) s.images.now s.tables.now.places c.args.at c.args.len all below in
     rw (← c.self.view_is, h) refl

@@ -1,11 +1,11 @@
 -- How long a trace is, and how many instructions a run does.
-use Rattle.std.proofs.Common.{◌≡◌, ℕ, ◌+◌, ◌*◌, ◌%◌, ◌==◌, ◌≤◌, zero, suc, true, false, if◌then◌else◌, Option, Some, None, List, [], ◌∷◌, ◌++◌, length, refl, arith, length-append}
+use Rattle.std.proofs.Common.{◌≡◌, ℕ, ◌+◌, ◌*◌, ◌≤◌, zero, suc, true, false, Option, Some, None, List, [], ◌∷◌, ◌++◌, length, refl, arith, length-append}
 use Rattle.std.proofs.lemmas.Bool.{cond_both}
 use Rattle.cov_base.specs.Codes.{length_of}
-use Rattle.cov_base.specs.Memory.{Memory, can_reach, half_at}
+use Rattle.cov_base.specs.Memory.{Memory, half_at}
 use Rattle.cov_base.specs.States.{State, Visit}
 use Rattle.s370_state.specs.declared.endings.Ending.{Ending}
-use Rattle.s370_state.specs.declared.endings.Ending.TheVariants.{Abend, Returned}
+use Rattle.s370_state.specs.declared.endings.Ending.TheVariants.{Returned}
 use Rattle.s370_state.specs.declared.endings.Next.{Next}
 use Rattle.s370_state.specs.declared.endings.Next.TheVariants.{On, Ended}
 use Rattle.s370_decode.specs.Fields.{ex}
@@ -13,8 +13,8 @@ use Rattle.s370_decode.specs.Table.{op_of}
 use Rattle.s370_decode.specs.declared.code.Code.{Code}
 use Rattle.s370_branch.specs.Branch.{goes}
 use Rattle.s370_exec.specs.Effects.{effect, updated, link_code}
-use Rattle.s370_exec.specs.Fetch.{code_at, rest_tests, is_execute}
-use Rattle.s370_exec.specs.Solo.{Step, Run, solo_step, fetched, begun_step, stepped, ended, visit, behind, subject_step, subject_read, subject_fetched, run_on, run_after, run_ended, solo_run, has_returned}
+use Rattle.s370_exec.specs.Fetch.{code_at, first_tests, rest_tests, subject_tests, is_execute}
+use Rattle.s370_exec.specs.Solo.{Step, Run, solo_step, from_first, fetched, begun_step, stepped, ended, visit, behind, subject_step, subject_fetched, run_on, run_after, run_ended, solo_run, has_returned}
 
 -- a step does one instruction, and visits so many at most
 record IsStepOf (most : ℕ) (s : State) (t : Step) : Type 0 where
@@ -28,19 +28,16 @@ subject_fetched-one : (m : Memory) (s : State) (c : Code) (a h : ℕ) (rest : Op
 subject_fetched-one m s c a h (Some e) = record { done = refl; visits = omega arith }
 subject_fetched-one m s c a h None = record { done = refl; visits = omega arith }
 
-subject_read-one : (m : Memory) (s : State) (c : Code) (a h : ℕ) → IsStepOf 1 s (subject_read m s c a h)
-subject_read-one m s c a h =
-    cond_both (is_execute h) (ended s (Abend 3) (visit s a false false true ∷ [])) (subject_fetched m s c a h (rest_tests m a (length_of h))) (IsStepOf 1 s)
-    (λ e. record { done = refl; visits = omega arith })
-    (λ e. subject_fetched-one m s c a h (rest_tests m a (length_of h)))
+from_first-of : (most : ℕ) (s : State) (first : Option Ending) (t : Step) → IsStepOf most s t → IsStepOf most s (from_first s first t)
+from_first-of most s (Some e) t is = one_ended most s e
+from_first-of most s None t is = is
 
 subject_step-one : (m : Memory) (s : State) (c : Code) → IsStepOf 1 s (subject_step m s c)
 unfolding subject_step
 subject_step-one m s c =
     let a : ℕ = ex s.machine.cpu c in
-    let read : Step = subject_read m s c a (half_at m s.machine.bytes a) in
-    cond_both (a % 2 == 1) (ended s (Abend 6) []) (if can_reach m a 2 then read else ended s (Abend 5) []) (IsStepOf 1 s) (λ e. one_ended 1 s (Abend 6))
-    (λ e. cond_both (can_reach m a 2) read (ended s (Abend 5) []) (IsStepOf 1 s) (λ f. subject_read-one m s c a (half_at m s.machine.bytes a)) (λ f. one_ended 1 s (Abend 5)))
+    let h : ℕ = half_at m s.machine.bytes a in
+    from_first-of 1 s (first_tests m a) (subject_fetched m s c a h (subject_tests m a h)) (subject_fetched-one m s c a h (subject_tests m a h))
 
 begun_step-two : (m : Memory) (s : State) (c : Code) (h : ℕ) → IsStepOf 2 s (begun_step m s c h)
 begun_step-two m s c h =
@@ -59,9 +56,8 @@ one_step : (m : Memory) (s : State) → IsStepOf 2 s (solo_step m s)
 unfolding solo_step
 one_step m s =
     let a : ℕ = s.machine.cpu.ia in
-    let first : Step = fetched m s a (half_at m s.machine.bytes a) (rest_tests m a (length_of (half_at m s.machine.bytes a))) in
-    cond_both (a % 2 == 1) (ended s (Abend 6) []) (if can_reach m a 2 then first else ended s (Abend 5) []) (IsStepOf 2 s) (λ e. one_ended 2 s (Abend 6))
-    (λ e. cond_both (can_reach m a 2) first (ended s (Abend 5) []) (IsStepOf 2 s) (λ f. fetched-two m s a (half_at m s.machine.bytes a) (rest_tests m a (length_of (half_at m s.machine.bytes a)))) (λ f. one_ended 2 s (Abend 5)))
+    let h : ℕ = half_at m s.machine.bytes a in
+    from_first-of 2 s (first_tests m a) (fetched m s a h (rest_tests m a (length_of h))) (fetched-two m s a h (rest_tests m a (length_of h)))
 
 pub solo_step-done : (m : Memory) (s : State) → (solo_step m s).state.done ≡ s.done + 1
 solo_step-done m s = (one_step m s).done

@@ -1,0 +1,112 @@
+//! One instruction of a task alone, over modules that were never planted.
+ghost use Rattle.std.specs.Prelude.{◌≡◌, ℕ, ◌+◌, ◌==◌, ◌∷◌, false};
+ghost use Rattle.std.specs.declared.option.Option.TheVariants.{Some, None};
+ghost use Rattle.cov_base.specs.Memory.{half_at};
+ghost use Rattle.cov_base.specs.States.{IoView, Visit};
+ghost use Rattle.s370_decode.specs.Fields.{first_half, ex as subject_of};
+ghost use Rattle.s370_exec.specs.Fetch.{is_execute, first_tests};
+ghost use Rattle.s370_exec.specs.Solo.{return_address, state_of, solo_step, subject_step, visit_of, subject_seen};
+
+use crate::fetch::{fetch_first, fetch_whole};
+use crate::instruction::execute;
+use crate::subject::{fetch_subject, is_execute, subject_address};
+use cov_base::{Addr, RETURN_ADDRESS};
+use s370_branch::outcome;
+use s370_decode::Code;
+use s370_state::{Cpu, Next, Space, TaskIo};
+
+/// Whether the task is at its return address.
+pub fn has_returned(cpu: &Cpu) -> bool
+    ensures { result ≡ (cpu.now.ia == return_address) }
+{
+    cpu.at().get() == RETURN_ADDRESS
+}
+
+fn is_ex(code: &Code) -> bool
+    ensures { result ≡ is_execute (first_half code.now) }
+{
+    is_execute(u16::from(code.bytes[0]) * 256 + u16::from(code.bytes[1]))
+}
+
+/// Executes the subject of an EX that was fetched whole.
+fn step_subject<P: Space>(cpu: &mut Cpu, space: &mut P, io: &mut TaskIo, ex: &Code) -> Next
+    ensures memory { P.memory space.new ≡ P.memory space.old }
+    ensures state { (d : ℕ) → (subject_step (P.memory space.old) (state_of cpu.old (P.bytes space.old) io.old d) ex.now).state ≡ state_of cpu.new (P.bytes space.new) io.new (d + 1) }
+    ensures next { (d : ℕ) → (subject_step (P.memory space.old) (state_of cpu.old (P.bytes space.old) io.old d) ex.now).next ≡ result }
+{
+    let at = subject_address(cpu, ex);
+    let half = match fetch_first(space, at) {
+        Ok(half) => half,
+        Err(e) => return Next::Ended(e),
+    };
+    let subject = match fetch_subject(cpu, space, ex, at, half) {
+        Ok(code) => code,
+        Err(e) => return Next::Ended(e),
+    };
+    execute(cpu, space, io, &subject, Some(ex.at))
+}
+
+/// Executes one instruction, its subject included where it is EX. Neither budget nor return address is tested.
+pub fn step<P: Space>(cpu: &mut Cpu, space: &mut P, io: &mut TaskIo) -> Next
+    ensures memory { P.memory space.new ≡ P.memory space.old }
+    ensures state { (d : ℕ) → (solo_step (P.memory space.old) (state_of cpu.old (P.bytes space.old) io.old d)).state ≡ state_of cpu.new (P.bytes space.new) io.new (d + 1) }
+    ensures next { (d : ℕ) → (solo_step (P.memory space.old) (state_of cpu.old (P.bytes space.old) io.old d)).next ≡ result }
+{
+    let code = match fetch_whole(space, cpu.at()) {
+        Ok(code) => code,
+        Err(e) => return Next::Ended(e),
+    };
+    if is_ex(&code) {
+        return step_subject(cpu, space, io, &code);
+    }
+    execute(cpu, space, io, &code, None)
+}
+
+/// Whether the subject that an EX visits branches as it is executed; false where it isn't begun.
+fn subject_went<P: Space>(cpu: &Cpu, space: &P, ex: &Code, at: Addr, half: u16) -> bool
+    requires at { at ≡ subject_of cpu.now ex.now }
+    requires passed { first_tests (P.memory space.now) at ≡ None }
+    requires half { half ≡ half_at (P.memory space.now) (P.bytes space.now) at }
+    ensures { (io : IoView) (d : ℕ) (v : Visit) → subject_seen (v ∷ (subject_step (P.memory space.now) (state_of cpu.now (P.bytes space.now) io d) ex.now).visits) ≡ Some (at, result) }
+{
+    match fetch_subject(cpu, space, ex, at, half) {
+        Ok(subject) => outcome(cpu, &subject),
+        Err(_) => false,
+    }
+}
+
+/// The visit that an EX that was fetched whole makes of its subject: its address, and whether the subject branches.
+fn subject_visit<P: Space>(cpu: &Cpu, space: &P, ex: &Code) -> Option<(Addr, bool)>
+    ensures { (io : IoView) (d : ℕ) (v : Visit) → subject_seen (v ∷ (subject_step (P.memory space.now) (state_of cpu.now (P.bytes space.now) io d) ex.now).visits) ≡ result }
+{
+    let at = subject_address(cpu, ex);
+    match fetch_first(space, at) {
+        Ok(half) => Some((at, subject_went(cpu, space, ex, at, half))),
+        Err(_) => None,
+    }
+}
+
+/// The address of the subject that the next instruction visits, and whether that branches as it is executed; none
+/// where the instruction is no EX or ends before it visits its subject.
+pub fn subject_seen<P: Space>(cpu: &Cpu, space: &P) -> Option<(Addr, bool)>
+    ensures { (io : IoView) (d : ℕ) → subject_seen (solo_step (P.memory space.now) (state_of cpu.now (P.bytes space.now) io d)).visits ≡ result }
+{
+    let code = match fetch_whole(space, cpu.at()) {
+        Ok(code) => code,
+        Err(_) => return None,
+    };
+    if is_ex(&code) {
+        return subject_visit(cpu, space, &code);
+    }
+    None
+}
+
+/// Whether the next instruction branches; false where it isn't begun.
+pub fn instruction_went<P: Space>(cpu: &Cpu, space: &P) -> bool
+    ensures { (io : IoView) (d : ℕ) → (visit_of (solo_step (P.memory space.now) (state_of cpu.now (P.bytes space.now) io d)) false).went ≡ result }
+{
+    match fetch_whole(space, cpu.at()) {
+        Ok(code) => outcome(cpu, &code),
+        Err(_) => false,
+    }
+}

@@ -1,0 +1,53 @@
+//! A task of a job before its first instruction.
+ghost use Rattle.std.specs.Prelude.{◌≡◌, ◌<◌, length, All, IfOk};
+ghost use Rattle.module_area.specs.Images.{AreImages};
+ghost use Rattle.brk_table.specs.Places.{IsIn};
+ghost use Rattle.session_book.specs.Begun.{IsBegun};
+
+use crate::job::Job;
+use brk_table::Tables;
+use cov_base::NoMemory;
+use module_area::Images;
+use s370_state::{Cpu, TaskIo};
+use space_map::TaskSpace;
+use std::alloc::Global;
+
+/// A task's processor, storage, input and output.
+#[derive(Drop)]
+pub struct Begun<'a> {
+    pub cpu: Cpu,
+    pub space: TaskSpace<'a>,
+    pub io: TaskIo,
+}
+
+/// The job's modules.
+fn images_of(job: &Job) -> &Images
+    ensures value { result.now ≡ job.now.images }
+    ensures images { AreImages result.now }
+{
+    &job.images
+}
+
+/// A task as its card says, over the job's modules and the tables of their listings.
+pub fn begin<'a>(
+    alloc: Global,
+    job: &'a Job,
+    tables: &'a Tables,
+    t: usize,
+) -> Result<Begun<'a>, NoMemory>
+    requires task { t < length job.now.tasks }
+    requires tables { All (IsIn job.now.images) tables.now.places }
+    ensures { IfOk result (IsBegun job.now tables.now.places t) }
+{
+    let card = job.card(t);
+    let space = TaskSpace::new(alloc, card.private, &card.cards, images_of(job), tables)?;
+    let input = card.input.to_vec(alloc)?;
+    let io = TaskIo::new(alloc, input, card.room)?;
+    let cpu = Cpu {
+        regs: card.regs,
+        ia: card.entry,
+        cc: 0,
+        mask: 0,
+    };
+    Ok(Begun { cpu, space, io })
+}
