@@ -29,7 +29,7 @@ pub ready : (plan : PlanView) (given out : ℕ → Bool) → IsPlan plan → IsR
 ready plan given out is = record {
   none = λ s p f. refl;
   none_full = λ s p. refl;
-  planted = λ p h k. (k, seen_planted (window_at plan p) p (length plan.windows) (omega (arith, is.windows)) k);
+  planted = λ p h k. record { some = k; whole = refl; seen = seen_planted (window_at plan p) p (length plan.windows) (omega (arith, is.windows)) k };
 }
 
 pub ends_area : (plan : PlanView) (ended : Notes) (trace : List Visit) (f : FinalsView) → IsPlan plan → JoinsAll plan (after_planting plan) ended trace →
@@ -39,12 +39,12 @@ ends_area plan ended trace f is observes sets tally = record {
   size = sets.size;
   sets = λ p h k. exact_set plan (record (after_planting plan) { given = ended.given; out = ended.out }) ended trace f is (ready plan ended.given ended.out is) observes sets p h k;
   within = sets.within;
-  plants = observes.grows.plants ∙ (zero-add _ ∙ ap (count_by (λ w. not (nat_eq w 0))) (take_all (length plan.windows) plan.windows (omega arith)));
+  plants = observes.plants ∙ (zero-add _ ∙ ap (count_by (λ w. not (nat_eq w 0))) (take_all (length plan.windows) plan.windows (omega arith)));
   fetches = observes.fetches ∙ zero-add _;
   facts = tally.marks;
   marks = omega (arith, observes.marks, observes.fetches);
   lifts = exact_lifts plan (record (after_planting plan) { given = ended.given; out = ended.out }) ended trace f (ready plan ended.given ended.out is) observes tally;
-  closes = observes.grows.closes;
+  closes = observes.closes;
 }
 
 pub grows_by : (plan of_cells : PlanView) (made planted ended : Notes) (trace : List Visit) (f : FinalsView) (ledger ledger1 ledger2 : List Tally) (finals finals1 finals2 : List FinalsView) →

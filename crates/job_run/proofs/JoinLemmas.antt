@@ -1,14 +1,11 @@
 -- A root that has observed some visits, and a pass joined to it that has observed others.
-use Rattle.std.proofs.Common.{◌≡◌, ℕ, ◌+◌, ◌*◌, ◌≤◌, true, false, max, List, ◌++◌, inl, inr, refl, sym, ◌∙◌, arith}
+use Rattle.std.proofs.Common.{◌≡◌, ℕ, ◌+◌, ◌*◌, ◌≤◌, true, false, max, List, ◌++◌, inl, inr, refl, arith}
 use Rattle.std.proofs.lemmas.Bool.{or_cases, or_left, or_right}
-use Rattle.cov_base.specs.Facts.{has_fact}
 use Rattle.cov_base.specs.States.{Visit}
-use Rattle.module_area.specs.declared.places.Place.{Place}
-use Rattle.module_area.specs.Executions.{facts_at}
 use Rattle.module_area.specs.Notes.{Notes, split_notes, after_join}
-use Rattle.module_area.specs.PlanView.{PlanView, place_of, window_at}
-use Rattle.svc_monitor.specs.Observed.{Observes}
-use Rattle.svc_monitor.proofs.ObservedLemmas.{facts_at-append, visits_at_places-append}
+use Rattle.module_area.specs.PlanView.{PlanView}
+use Rattle.svc_monitor.specs.Observed.{Observes, Stays}
+use Rattle.svc_monitor.proofs.ObservedLemmas.{shows_before, shows_behind, shows_either, visits_at_places-append}
 use Rattle.job_run.specs.Slots.{JoinsAll}
 
 max_over : (a b c : ℕ) → a ≤ b → a ≤ max b c
@@ -34,34 +31,33 @@ joins-more plan old mid other t xs ys r h =
         bears = r.grows.bears;
         given = refl;
         out = refl;
-        plants = omega (arith, r.grows.plants, h.grows.plants);
-        closes = omega (arith, r.grows.closes, h.grows.closes);
       };
-      nothing_else = λ s p f m.
-          let place : Place = place_of plan.places p in
-          let both = facts_at-append place xs ys f in
-          elim (or_cases (mid.marked s p f) (other.marked s p f) m) [
-            | inl first ↦ elim (r.nothing_else s p f first) [
-              | inl before ↦ inl before
-              | inr there ↦ inr (both ∙ or_left (has_fact (facts_at place xs) f) (has_fact (facts_at place ys) f) there)
-            ]
-            | inr second ↦ elim (h.nothing_else s p f second) [
-              | inl never ↦ absurd (no never)
-              | inr there ↦ inr (both ∙ or_right (has_fact (facts_at place xs) f) (has_fact (facts_at place ys) f) there)
-            ]
-          ];
-      shown = λ p f lt planted there.
-          let place : Place = place_of plan.places p in
-          let w : ℕ = window_at plan p in
-          elim (or_cases (has_fact (facts_at place xs) f) (has_fact (facts_at place ys) f) (sym (facts_at-append place xs ys f) ∙ there)) [
-            | inl first ↦ elim (r.shown p f lt planted first) [ inl m ↦ inl (or_left (mid.marked w p f) (other.marked w p f) m) | inr m ↦ inr (or_left (mid.full w p) (other.full w p) m) ]
-            | inr last ↦ elim (h.shown p f lt planted last) [ inl m ↦ inl (or_right (mid.marked w p f) (other.marked w p f) m) | inr m ↦ inr (or_right (mid.full w p) (other.full w p) m) ]
-          ];
-      planted = λ p planted. (planted.0, max_same (mid.seen p) (other.seen p) (2 * window_at plan p) (r.planted p planted).1 (h.planted p planted).1);
+      nothing_else = λ s p f m. elim (or_cases (mid.marked s p f) (other.marked s p f) m) [
+        | inl first ↦ elim (r.nothing_else s p f first) [ inl before ↦ inl before | inr there ↦ inr (shows_before plan xs ys p f there) ]
+        | inr second ↦ elim (h.nothing_else s p f second) [ inl never ↦ absurd (no never) | inr there ↦ inr (shows_behind plan xs ys p f there) ]
+      ];
+      shown = λ s p f stays there. elim (shows_either plan xs ys p f there) [
+        | inl first ↦ elim (r.shown s p f (same_stays stays) first) [ inl m ↦ inl (or_left (mid.marked s p f) (other.marked s p f) m) | inr m ↦ inr (or_left (mid.full s p) (other.full s p) m) ]
+        | inr last ↦ elim (h.shown s p f (split_stays stays) last) [ inl m ↦ inl (or_right (mid.marked s p f) (other.marked s p f) m) | inr m ↦ inr (or_right (mid.full s p) (other.full s p) m) ]
+      ];
+      stays = λ s p stays. record {
+        some = stays.some;
+        whole = stays.whole;
+        seen = max_same (mid.seen p) (other.seen p) (2 * s) (r.stays s p (same_stays stays)).seen (h.stays s p (split_stays stays)).seen;
+      };
+      plants = omega (arith, r.plants, h.plants);
       fetches = omega (arith, count, r.fetches, h.fetches);
       marks = omega (arith, count, r.marks, h.marks);
       lifts = omega (arith, count, r.lifts, h.lifts);
+      closes = omega (arith, r.closes, h.closes);
     }
   where
     no : false ≡ true → ⊥
     no e = cc
+
+    -- root and pass have seen the same tags
+    split_stays : {s p : ℕ} → Stays plan (record old { given = (after_join mid other).given; out = (after_join mid other).out }) s p → Stays plan (split_notes old t) s p
+    split_stays h = record { some = h.some; whole = h.whole; seen = h.seen }
+
+    same_stays : {s p : ℕ} → Stays plan (record old { given = (after_join mid other).given; out = (after_join mid other).out }) s p → Stays plan (record old { given = mid.given; out = mid.out }) s p
+    same_stays h = record { some = h.some; whole = h.whole; seen = h.seen }

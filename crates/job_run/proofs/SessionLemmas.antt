@@ -16,11 +16,12 @@ use Rattle.module_area.specs.FinalsView.{FinalsView, set_at}
 use Rattle.module_area.specs.PlanView.{place_of, no_place, window_at}
 use Rattle.module_area.specs.declared.places.Place.{Place}
 use Rattle.task_run.proofs.SetLemmas.{facts_of_all-one}
+use Rattle.task_run.specs.Courses.{Course}
 use Rattle.session_book.specs.JobView.{JobView, SessionView, IsJob, IsSession, AreParted}
 use Rattle.session_book.specs.Sessions.{session_of, no_session, observes, window_from, window_of, plan_view, traces_from}
-use Rattle.job_run.specs.Runs.{Account, HasLeft, joined, phase_trace, set_of, trace_of}
+use Rattle.job_run.specs.Runs.{Account, HasLeftBy, joined, phase_trace, set_by, trace_by}
 use Rattle.job_run.specs.Sets.{SetsView, IsSized, no_finals, set_left, set_in}
-use Rattle.job_run.specs.Outcomes.{IsOutcome}
+use Rattle.job_run.specs.Outcomes.{IsOutcomeBy}
 use Rattle.job_run.specs.Slots.{dones}
 use Rattle.job_run.specs.Tasks.{AreRun}
 use Rattle.job_run.specs.declared.slots.Slot.{Slot}
@@ -74,9 +75,9 @@ joined-flat : (traces : List (List Visit)) → joined traces ≡ flat_map (λ t.
 joined-flat [] = refl
 joined-flat (t ∷ ts) = ap (λ (vs : List Visit). t ++ vs) (joined-flat ts) ∙ sym (flat_map-cons (λ u. u) t ts)
 
-pub set_of-trace : (j : JobView) (places : List Place) (s p : ℕ) → set_of j places s p ≡ facts_at (place_of places p) (phase_trace j places (session_of j s).phase)
-set_of-trace j places s p =
-    let traces : List (List Visit) = traces_from 0 j.tasks (session_of j s).phase (trace_of j places) in
+pub set_of-trace : (run : Course) (j : JobView) (places : List Place) (s p : ℕ) → set_by run j places s p ≡ facts_at (place_of places p) (phase_trace run j places (session_of j s).phase)
+set_of-trace run j places s p =
+    let traces : List (List Visit) = traces_from 0 j.tasks (session_of j s).phase (trace_by run j places) in
     facts_of_all-one (place_of places p) traces ∙ ap (facts_at (place_of places p)) (sym (joined-flat traces))
 
 is_session : (j : JobView) (s : ℕ) → IsJob j → 0 < s → s ≤ length j.sessions → IsSession (length j.images) (length j.phases) (session_of j s)
@@ -87,8 +88,8 @@ pub phase_in : (j : JobView) (s : ℕ) → IsJob j → 0 < s → s ≤ length j.
 phase_in j s job some most = (is_session j s job some most).phase
 
 -- the sets of an area hold those of each session
-pub sized : (j : JobView) (places : List Place) (phase : ℕ) (f : FinalsView) → AreaOf j places phase f → IsSized j (length places) f
-sized j places phase f a = record { count = a.ends.places; sets = a.ends.size }
+pub sized : (run : Course) (j : JobView) (places : List Place) (phase : ℕ) (f : FinalsView) → AreaOf run j places phase f → IsSized j (length places) f
+sized run j places phase f a = record { count = a.ends.places; sets = a.ends.size }
 
 within_none : (k : Kind) → is_within k no_facts ≡ true
 within_none Straight = refl
@@ -97,31 +98,31 @@ within_none Conditional = refl
 here_is : (v : SetsView) (s p : ℕ) → p < v.places → set_in v s p ≡ set_left v.job v.finals s p
 here_is v s p l = let here : nat_lt p v.places ≡ true = grind (arith, nat_tests) in rw here refl
 
-pub left_of : (j : JobView) (places : List Place) (before after : Account) (sets : List FinalsView) (v : SetsView) → HasLeft j places before after sets →
-    v ≡ record { job = j; places = length places; finals = sets } → HasLeft j places before after v.finals
-left_of j places before after sets v l e = subst (λ (w : SetsView). HasLeft j places before after w.finals) (sym e) l
+pub left_of : (run : Course) (j : JobView) (places : List Place) (before after : Account) (sets : List FinalsView) (v : SetsView) → HasLeftBy run j places before after sets →
+    v ≡ record { job = j; places = length places; finals = sets } → HasLeftBy run j places before after v.finals
+left_of run j places before after sets v l e = subst (λ (w : SetsView). HasLeftBy run j places before after w.finals) (sym e) l
 
 -- the outcome's sets are those of the entries that `finals` has gained
-pub set_is_left : (j : JobView) (places : List Place) (before after : Account) (v : SetsView) (s p : ℕ) (l : HasLeft j places before after v.finals) → v.job ≡ j → v.places ≡ length places → p < length places →
+pub set_is_left : (run : Course) (j : JobView) (places : List Place) (before after : Account) (v : SetsView) (s p : ℕ) (l : HasLeftBy run j places before after v.finals) → v.job ≡ j → v.places ≡ length places → p < length places →
     set_in v s p ≡ set_left j l.ran.sets s p
-set_is_left j places before after v s p l of size here =
+set_is_left run j places before after v s p l of size here =
     here_is v s p (omega (arith, here, size)) ∙ (ap (λ (i : JobView). set_left i v.finals s p) of ∙ ap (λ (fs : List FinalsView). set_left j fs s p) l.are)
 
 -- by how the area of the session's phase was left
-pub set_is : (j : JobView) (places : List Place) (v : SetsView) (s p : ℕ) → IsJob j → v.job ≡ j → v.places ≡ length places →
-    AreaOf j places (session_of j s).phase (get_or v.finals (session_of j s).phase no_finals) → 0 < s → s ≤ length j.sessions → p < length places →
-    observes (session_of j s).phase (place_of places p).«module» (session_of j s) ≡ true → set_in v s p ≡ set_of j places s p
-set_is j places v s p job of size a some most l h =
+pub set_is : (run : Course) (j : JobView) (places : List Place) (v : SetsView) (s p : ℕ) → IsJob j → v.job ≡ j → v.places ≡ length places →
+    AreaOf run j places (session_of j s).phase (get_or v.finals (session_of j s).phase no_finals) → 0 < s → s ≤ length j.sessions → p < length places →
+    observes (session_of j s).phase (place_of places p).«module» (session_of j s) ≡ true → set_in v s p ≡ set_by run j places s p
+set_is run j places v s p job of size a some most l h =
     let f : FinalsView = get_or v.finals (session_of j s).phase no_finals in
     let w : window_at (plan_view j places (session_of j s).phase) p ≡ s = window_at-session j places s p job some most l h in
-    let left : set_at f s p ≡ facts_at (place_of places p) (phase_trace j places (session_of j s).phase) = rw w at (a.ends.sets p l (omega (arith, w, some))) in
+    let left : set_at f s p ≡ facts_at (place_of places p) (phase_trace run j places (session_of j s).phase) = rw w at (a.ends.sets p l (omega (arith, w, some))) in
     let of_job : set_at (get_or v.finals (session_of v.job s).phase no_finals) s p ≡ set_at f s p = ap (λ (i : JobView). set_at (get_or v.finals (session_of i s).phase no_finals) s p) of in
-    here_is v s p (omega (arith, l, size)) ∙ (of_job ∙ (left ∙ sym (set_of-trace j places s p)))
+    here_is v s p (omega (arith, l, size)) ∙ (of_job ∙ (left ∙ sym (set_of-trace run j places s p)))
 
-pub set_within : (j : JobView) (places : List Place) (v : SetsView) (s p : ℕ) → v.job ≡ j → v.places ≡ length places →
-    AreaOf j places (session_of j s).phase (get_or v.finals (session_of j s).phase no_finals) → 0 < s → s ≤ length j.sessions →
+pub set_within : (run : Course) (j : JobView) (places : List Place) (v : SetsView) (s p : ℕ) → v.job ≡ j → v.places ≡ length places →
+    AreaOf run j places (session_of j s).phase (get_or v.finals (session_of j s).phase no_finals) → 0 < s → s ≤ length j.sessions →
     is_within (place_of places p).kind (set_in v s p) ≡ true
-set_within j places v s p of size a some most = by_place (nat_lt p v.places) refl
+set_within run j places v s p of size a some most = by_place (nat_lt p v.places) refl
   where
     by_place : (q : Bool) → nat_lt p v.places ≡ q → is_within (place_of places p).kind (set_in v s p) ≡ true
     by_place true e =
@@ -130,26 +131,26 @@ set_within j places v s p of size a some most = by_place (nat_lt p v.places) ref
         rw e (subst (λ (x : FactSet). is_within (place_of places p).kind x ≡ true) (sym of_job) (a.ends.within s p some most l))
     by_place false e = rw e (within_none (place_of places p).kind)
 
-pub all_sized : (j : JobView) (places : List Place) (before after : Account) (sets : List FinalsView) → HasLeft j places before after sets → All (IsSized j (length places)) sets
-all_sized j places before after sets l k d h = sized j places k (get_or sets k d) (left_at j places before after sets k d l (omega (arith, h, left_count j places before after sets l)))
+pub all_sized : (run : Course) (j : JobView) (places : List Place) (before after : Account) (sets : List FinalsView) → HasLeftBy run j places before after sets → All (IsSized j (length places)) sets
+all_sized run j places before after sets l k d h = sized run j places k (get_or sets k d) (left_at run j places before after sets k d l (omega (arith, h, left_count run j places before after sets l)))
 
-is_outcome : {P : Type 0} (j : JobView) (places : List Place) (before after : Account) (slots : List (Slot P)) (sets : SetsView) → IsJob j → HasLeft j places before after sets.finals →
-    AreRun j places (length j.phases) slots → sets.job ≡ j → sets.places ≡ length places → IsOutcome j places (dones slots) sets
-is_outcome j places before after slots sets job left run of size = record {
-  count = length-map slots (λ s. s.done) ∙ run.count;
-  are_results = λ t l. (all_ended j places slots t job run l).0;
-  filled = λ t l. (all_ended j places slots t job run l).1;
+is_outcome : {P : Type 0} (run : Course) (j : JobView) (places : List Place) (before after : Account) (slots : List (Slot P)) (sets : SetsView) → IsJob j → HasLeftBy run j places before after sets.finals →
+    AreRun run j places (length j.phases) slots → sets.job ≡ j → sets.places ≡ length places → IsOutcomeBy run j places (dones slots) sets
+is_outcome run j places before after slots sets job left ended of size = record {
+  count = length-map slots (λ s. s.done) ∙ ended.count;
+  are_results = λ t l. (all_ended run j places slots t job ended l).0;
+  filled = λ t l. (all_ended run j places slots t job ended l).1;
   job = of;
   size = size;
-  are_sets = λ s p some most l h. set_is j places sets s p job of size (left_at j places before after sets.finals (session_of j s).phase no_finals left (phase_in j s job some most)) some most l h;
-  within = λ s p some most. set_within j places sets s p of size (left_at j places before after sets.finals (session_of j s).phase no_finals left (phase_in j s job some most)) some most;
+  are_sets = λ s p some most l h. set_is run j places sets s p job of size (left_at run j places before after sets.finals (session_of j s).phase no_finals left (phase_in j s job some most)) some most l h;
+  within = λ s p some most. set_within run j places sets s p of size (left_at run j places before after sets.finals (session_of j s).phase no_finals left (phase_in j s job some most)) some most;
 }
 
-pub outcome : {P : Type 0} (j : JobView) (places : List Place) (before after : Account) (slots : List (Slot P)) (tasks : List Done) (finals : List FinalsView) (sets : SetsView) → IsJob j →
-    HasLeft j places before after finals → AreRun j places (length j.phases) slots → tasks ≡ dones slots → sets ≡ record { job = j; places = length places; finals = finals } →
-    IsOutcome j places tasks sets
-outcome j places before after slots tasks finals sets job left run moved same =
-    let whole : IsOutcome j places (dones slots) (record { job = j; places = length places; finals = finals }) =
-    is_outcome j places before after slots (record { job = j; places = length places; finals = finals }) job left run refl refl in
-    subst (λ (v : SetsView). IsOutcome j places tasks v) (sym same)
-    (subst (λ (ds : List Done). IsOutcome j places ds (record { job = j; places = length places; finals = finals })) (sym moved) whole)
+pub outcome : {P : Type 0} (run : Course) (j : JobView) (places : List Place) (before after : Account) (slots : List (Slot P)) (tasks : List Done) (finals : List FinalsView) (sets : SetsView) → IsJob j →
+    HasLeftBy run j places before after finals → AreRun run j places (length j.phases) slots → tasks ≡ dones slots → sets ≡ record { job = j; places = length places; finals = finals } →
+    IsOutcomeBy run j places tasks sets
+outcome run j places before after slots tasks finals sets job left ended moved same =
+    let whole : IsOutcomeBy run j places (dones slots) (record { job = j; places = length places; finals = finals }) =
+    is_outcome run j places before after slots (record { job = j; places = length places; finals = finals }) job left ended refl refl in
+    subst (λ (v : SetsView). IsOutcomeBy run j places tasks v) (sym same)
+    (subst (λ (ds : List Done). IsOutcomeBy run j places ds (record { job = j; places = length places; finals = finals })) (sym moved) whole)

@@ -1,6 +1,6 @@
 -- Passes split off, run with and taken back.
 use Rattle.std.proofs.Common.{◌≡◌, ◌≢◌, ◌⊎◌, inl, inr, ℕ, zero, suc, ◌+◌, ◌<◌, ◌≤◌, ◌^◌, Bool, true, false, not, ◌&&◌, ◌||◌, nat_eq, nat_lt, Some, None, unwrap_or, List, [], ◌∷◌, ◌++◌, length, get_or, set, All, refl, sym, ◌∙◌, ap, subst, arith, zero-add}
-use Rattle.std.proofs.lemmas.Bool.{or_left, or_right, eq-eqb}
+use Rattle.std.proofs.lemmas.Bool.{or_left, or_right, eq-eqb, eqb-true}
 use Rattle.std.proofs.lemmas.Bool.Decides.{nat_tests}
 use Rattle.std.proofs.lemmas.Grind.{get_or-set_at}
 use Rattle.std.proofs.lemmas.List.{get_or_default, get_or_append_left, get_or-set_other, length-append, length-set}
@@ -14,11 +14,12 @@ use Rattle.brk_table.specs.Places.{AreSeen}
 use Rattle.space_map.specs.Space.{memory_of_space}
 use Rattle.svc_monitor.specs.First.{IsOver}
 use Rattle.svc_monitor.specs.Observed.{Observes}
+use Rattle.task_run.specs.Courses.{Course}
 use Rattle.session_book.specs.JobView.{JobView, TaskView}
-use Rattle.session_book.specs.Sessions.{task_of, no_task, tasks_from}
-use Rattle.job_run.specs.Runs.{trace_of}
+use Rattle.session_book.specs.Sessions.{task_of, no_task, tasks_from, plan_view}
+use Rattle.job_run.specs.Runs.{trace_by}
 use Rattle.job_run.specs.Slots.{in_phase, is_before, HasSplit, HasPass, IsFresh, AreSplit, AreEmpty, CanRun, RunsWith, RunsSlot, HasSeen, AreOver}
-use Rattle.job_run.specs.Tasks.{AreRun, IsBegun, IsEnded, own_run}
+use Rattle.job_run.specs.Tasks.{AreRun, HasNotRun, IsEnded, own_run}
 use Rattle.job_run.specs.declared.outcome.Done.{Done}
 use Rattle.job_run.specs.declared.slots.Slot.{Slot}
 use Rattle.job_run.proofs.TaskLemmas.{AreRun-next, begun_run, has_ended}
@@ -165,24 +166,24 @@ not_run : (p phase : ℕ) → nat_eq p phase ≡ true → nat_lt p phase ≡ fal
 not_run p phase h = grind (arith, nat_tests)
 
 -- a task of the phase is as it begins
-begun_at : {P : Type 0} (is_pass : P → Type 0) (notes : P → Notes) (root : Notes) (j : JobView) (places : List Place) (phase : ℕ) (old slots : List (Slot P)) (t : ℕ) (d : Slot P) →
-    AreSplit is_pass notes root j phase (length j.tasks) old slots → AreRun j places phase old → t < length old → in_phase j phase t ≡ true → IsBegun j places t (get_or slots t d).done
-begun_at is_pass notes root j places phase old slots t d a r l h =
-    subst (λ (x : Done). IsBegun j places t x) (sym (a.done t d l)) (r.begun t d l (not_run (task_of j t).phase phase h))
+begun_at : {P : Type 0} (run : Course) (is_pass : P → Type 0) (notes : P → Notes) (root : Notes) (j : JobView) (places : List Place) (phase : ℕ) (old slots : List (Slot P)) (t : ℕ) (d : Slot P) →
+    AreSplit is_pass notes root j phase (length j.tasks) old slots → AreRun run j places phase old → t < length old → in_phase j phase t ≡ true → HasNotRun j places t (get_or slots t d).done
+begun_at run is_pass notes root j places phase old slots t d a r l h =
+    subst (λ (x : Done). HasNotRun j places t x) (sym (a.done t d l)) (r.begun t d l (not_run (task_of j t).phase phase h))
 
-is_over_begun : (plan : PlanView) (j : JobView) (places : List Place) (t : ℕ) (d : Done) → plan.places ≡ places → IsBegun j places t d → IsOver plan (memory_of_space d.task.space) places
-is_over_begun plan j places t d of b = record { same = of; seen = subst (λ (m : Memory). AreSeen m places) (sym b.memory) b.seen }
+is_over_begun : (plan : PlanView) (j : JobView) (places : List Place) (t : ℕ) (d : Done) → plan.places ≡ places → HasNotRun j places t d → IsOver plan (memory_of_space d.task.space) places
+is_over_begun plan j places t d of b = record { same = of; seen = subst (λ (m : Memory). AreSeen m places) (sym b.begun.memory) b.begun.seen }
 
-pub all_ready : {P : Type 0} (is_pass : P → Type 0) (notes : P → Notes) (root : Notes) (plan : PlanView) (j : JobView) (places : List Place) (phase : ℕ) (old slots : List (Slot P)) → plan.places ≡ places →
-    AreSplit is_pass notes root j phase (length j.tasks) old slots → AreRun j places phase old → All (CanRun is_pass notes plan places) slots
-all_ready is_pass notes root plan j places phase old slots of a r k d l = by_phase (in_phase j phase k) refl
+pub all_ready : {P : Type 0} (run : Course) (is_pass : P → Type 0) (notes : P → Notes) (root : Notes) (plan : PlanView) (j : JobView) (places : List Place) (phase : ℕ) (old slots : List (Slot P)) → plan.places ≡ places →
+    AreSplit is_pass notes root j phase (length j.tasks) old slots → AreRun run j places phase old → All (CanRun is_pass notes plan places) slots
+all_ready run is_pass notes root plan j places phase old slots of a r k d l = by_phase (in_phase j phase k) refl
   where
     here : k < length old
     here = omega (arith, l, a.count)
 
     by_phase : (b : Bool) → in_phase j phase k ≡ b → CanRun is_pass notes plan places (get_or slots k d)
     by_phase true e =
-        let begun : IsBegun j places k (get_or slots k d).done = begun_at is_pass notes root j places phase old slots k d a r here e in
+        let begun : HasNotRun j places k (get_or slots k d).done = begun_at run is_pass notes root j places phase old slots k d a r here e in
         can_run is_pass notes root k plan places (get_or slots k d) (a.some k d here (omega (arith, here, r.count)) e) (is_over_begun plan j places k (get_or slots k d).done of begun) begun.done
     by_phase false e = need_not is_pass notes plan places (get_or slots k d) (a.none k d here (not_before (in_phase j phase k) k (length j.tasks) e))
 
@@ -193,68 +194,72 @@ none_other is_pass notes root j phase old slots a t d l h = a.none t d (omega (a
 
 -- all have run
 
-ran_with : {P : Type 0} (is_pass : P → Type 0) (notes : P → Notes) (plan : PlanView) (old new : Slot P) (p : P) → old.pass ≡ Some p → RunsSlot is_pass notes plan old new old.pass → RunsWith is_pass notes plan old new p
-ran_with is_pass notes plan old new p e r = subst (RunsSlot is_pass notes plan old new) e r
+ran_with : {P : Type 0} (run : Course) (is_pass : P → Type 0) (notes : P → Notes) (plan : PlanView) (old new : Slot P) (p : P) → old.pass ≡ Some p → RunsSlot run is_pass notes plan old new old.pass → RunsWith run is_pass notes plan old new p
+ran_with run is_pass notes plan old new p e r = subst (RunsSlot run is_pass notes plan old new) e r
 
-ran_not : {P : Type 0} (is_pass : P → Type 0) (notes : P → Notes) (plan : PlanView) (old new : Slot P) → old.pass ≡ None → RunsSlot is_pass notes plan old new old.pass → new ≡ old
-ran_not is_pass notes plan old new e r = subst (RunsSlot is_pass notes plan old new) e r
+ran_not : {P : Type 0} (run : Course) (is_pass : P → Type 0) (notes : P → Notes) (plan : PlanView) (old new : Slot P) → old.pass ≡ None → RunsSlot run is_pass notes plan old new old.pass → new ≡ old
+ran_not run is_pass notes plan old new e r = subst (RunsSlot run is_pass notes plan old new) e r
 
-has_seen : {P : Type 0} (is_pass : P → Type 0) (notes : P → Notes) (root : Notes) (plan : PlanView) (j : JobView) (places : List Place) (t : ℕ) (old new : Slot P) →
-    HasPass (IsFresh is_pass notes root t) old → IsBegun j places t old.done → RunsSlot is_pass notes plan old new old.pass → HasPass (HasSeen is_pass notes plan root (trace_of j places t) t) new
-has_seen is_pass notes root plan j places t old new h begun r =
-    let w : RunsWith is_pass notes plan old new h.pass = ran_with is_pass notes plan old new h.pass h.has r in
-    let seen : Observes plan (split_notes root t) (notes w.pass) (own_run old.done).trace = subst (λ (n : Notes). Observes plan n (notes w.pass) (own_run old.done).trace) h.holds.fresh w.observes in
+has_seen : {P : Type 0} (run : Course) (is_pass : P → Type 0) (notes : P → Notes) (root : Notes) (plan : PlanView) (j : JobView) (places : List Place) (t : ℕ) (old new : Slot P) → plan ≡ plan_view j places (task_of j t).phase →
+    HasPass (IsFresh is_pass notes root t) old → HasNotRun j places t old.done → RunsSlot run is_pass notes plan old new old.pass → HasPass (HasSeen is_pass notes plan root (trace_by run j places t) t) new
+has_seen run is_pass notes root plan j places t old new of h begun r =
+    let w : RunsWith run is_pass notes plan old new h.pass = ran_with run is_pass notes plan old new h.pass h.has r in
+    let seen : Observes plan (split_notes root t) (notes w.pass) (own_run run plan old.done).trace = subst (λ (n : Notes). Observes plan n (notes w.pass) (own_run run plan old.done).trace) h.holds.fresh w.observes in
     record {
       pass = w.pass;
       has = w.has;
-      holds = record { area = w.area; observes = subst (λ (x : Run). Observes plan (split_notes root t) (notes w.pass) x.trace) (begun_run j places t old.done begun) seen };
+      holds = record { area = w.area; observes = subst (λ (x : Run). Observes plan (split_notes root t) (notes w.pass) x.trace) (begun_run run plan j places t old.done of begun) seen };
     }
 
-run_ended : {P : Type 0} (is_pass : P → Type 0) (notes : P → Notes) (root : Notes) (plan : PlanView) (j : JobView) (places : List Place) (t : ℕ) (old new : Slot P) →
-    HasPass (IsFresh is_pass notes root t) old → IsBegun j places t old.done → RunsSlot is_pass notes plan old new old.pass → IsEnded j places t new.done
-run_ended is_pass notes root plan j places t old new h begun r =
-    let w : RunsWith is_pass notes plan old new h.pass = ran_with is_pass notes plan old new h.pass h.has r in
-    has_ended j places t old.done new.done begun w.result w.filled
+run_ended : {P : Type 0} (run : Course) (is_pass : P → Type 0) (notes : P → Notes) (root : Notes) (plan : PlanView) (j : JobView) (places : List Place) (t : ℕ) (old new : Slot P) → plan ≡ plan_view j places (task_of j t).phase →
+    HasPass (IsFresh is_pass notes root t) old → HasNotRun j places t old.done → RunsSlot run is_pass notes plan old new old.pass → IsEnded run j places t new.done
+run_ended run is_pass notes root plan j places t old new of h begun r =
+    let w : RunsWith run is_pass notes plan old new h.pass = ran_with run is_pass notes plan old new h.pass h.has r in
+    has_ended run plan j places t old.done new.done of begun w.result w.filled
+
+-- the area is over the plan of the task's phase
+plan_here : (plan : PlanView) (j : JobView) (places : List Place) (phase t : ℕ) → plan ≡ plan_view j places phase → in_phase j phase t ≡ true → plan ≡ plan_view j places (task_of j t).phase
+plan_here plan j places phase t of h = of ∙ ap (plan_view j places) (sym (eqb-true (task_of j t).phase phase h))
 
 no_longer : (a : Bool) (t : ℕ) → (not (nat_lt t 0) && a) ≡ false → a ≡ false
 no_longer a t h = grind (arith, nat_tests)
 
-pub AreOver-start : {P : Type 0} (is_pass : P → Type 0) (notes : P → Notes) (root : Notes) (plan : PlanView) (j : JobView) (places : List Place) (phase : ℕ) (old mid new : List (Slot P)) →
-    AreSplit is_pass notes root j phase (length j.tasks) old mid → AreRun j places phase old → length new ≡ length mid →
-    ((t : ℕ) (d : Slot P) → t < length mid → RunsSlot is_pass notes plan (get_or mid t d) (get_or new t d) (get_or mid t d).pass) →
-    AreOver is_pass notes plan root j places phase 0 new
-AreOver-start is_pass notes root plan j places phase old mid new a r same runs = record {
+pub AreOver-start : {P : Type 0} (run : Course) (is_pass : P → Type 0) (notes : P → Notes) (root : Notes) (plan : PlanView) (j : JobView) (places : List Place) (phase : ℕ) (old mid new : List (Slot P)) →
+    plan ≡ plan_view j places phase → AreSplit is_pass notes root j phase (length j.tasks) old mid → AreRun run j places phase old → length new ≡ length mid →
+    ((t : ℕ) (d : Slot P) → t < length mid → RunsSlot run is_pass notes plan (get_or mid t d) (get_or new t d) (get_or mid t d).pass) →
+    AreOver run is_pass notes plan root j places phase 0 new
+AreOver-start run is_pass notes root plan j places phase old mid new of a r same runs = record {
   some = λ t d from l h.
       let here : t < length old = omega (arith, l, same, a.count) in
-      has_seen is_pass notes root plan j places t (get_or mid t d) (get_or new t d) (a.some t d here (omega (arith, here, r.count)) h)
-      (begun_at is_pass notes root j places phase old mid t d a r here h) (runs t d (omega (arith, l, same)));
+      has_seen run is_pass notes root plan j places t (get_or mid t d) (get_or new t d) (plan_here plan j places phase t of h) (a.some t d here (omega (arith, here, r.count)) h)
+      (begun_at run is_pass notes root j places phase old mid t d a r here h) (runs t d (omega (arith, l, same)));
   none = λ t d l h.
       let here : t < length old = omega (arith, l, same, a.count) in
       let empty : (get_or mid t d).pass ≡ None = a.none t d here (not_before (in_phase j phase t) t (length j.tasks) (no_longer (in_phase j phase t) t h)) in
-      ap (λ s. s.pass) (ran_not is_pass notes plan (get_or mid t d) (get_or new t d) empty (runs t d (omega (arith, l, same)))) ∙ empty;
+      ap (λ s. s.pass) (ran_not run is_pass notes plan (get_or mid t d) (get_or new t d) empty (runs t d (omega (arith, l, same)))) ∙ empty;
 }
 
-pub AreRun-after : {P : Type 0} (is_pass : P → Type 0) (notes : P → Notes) (root : Notes) (plan : PlanView) (j : JobView) (places : List Place) (phase : ℕ) (old mid new : List (Slot P)) →
-    AreSplit is_pass notes root j phase (length j.tasks) old mid → AreRun j places phase old → length new ≡ length mid →
-    ((t : ℕ) (d : Slot P) → t < length mid → RunsSlot is_pass notes plan (get_or mid t d) (get_or new t d) (get_or mid t d).pass) →
-    AreRun j places (phase + 1) new
-AreRun-after is_pass notes root plan j places phase old mid new a r same runs = AreRun-next j places phase old new r (same ∙ a.count)
-    (λ t d l h. run_ended is_pass notes root plan j places t (get_or mid t d) (get_or new t d) (a.some t d l (omega (arith, l, r.count)) h)
-    (begun_at is_pass notes root j places phase old mid t d a r l h) (runs t d (omega (arith, l, a.count))))
+pub AreRun-after : {P : Type 0} (run : Course) (is_pass : P → Type 0) (notes : P → Notes) (root : Notes) (plan : PlanView) (j : JobView) (places : List Place) (phase : ℕ) (old mid new : List (Slot P)) →
+    plan ≡ plan_view j places phase → AreSplit is_pass notes root j phase (length j.tasks) old mid → AreRun run j places phase old → length new ≡ length mid →
+    ((t : ℕ) (d : Slot P) → t < length mid → RunsSlot run is_pass notes plan (get_or mid t d) (get_or new t d) (get_or mid t d).pass) →
+    AreRun run j places (phase + 1) new
+AreRun-after run is_pass notes root plan j places phase old mid new of a r same runs = AreRun-next run j places phase old new r (same ∙ a.count)
+    (λ t d l h. run_ended run is_pass notes root plan j places t (get_or mid t d) (get_or new t d) (plan_here plan j places phase t of h) (a.some t d l (omega (arith, l, r.count)) h)
+    (begun_at run is_pass notes root j places phase old mid t d a r l h) (runs t d (omega (arith, l, a.count))))
     (λ t d l h.
     let empty : (get_or mid t d).pass ≡ None = a.none t d l (not_before (in_phase j phase t) t (length j.tasks) h) in
-    ap (λ s. s.done) (ran_not is_pass notes plan (get_or mid t d) (get_or new t d) empty (runs t d (omega (arith, l, a.count)))) ∙ a.done t d l)
+    ap (λ s. s.done) (ran_not run is_pass notes plan (get_or mid t d) (get_or new t d) empty (runs t d (omega (arith, l, a.count)))) ∙ a.done t d l)
 
 -- the passes are taken back one after the other
 
 not_last : (a : Bool) (t next : ℕ) → t ≢ next → (not (nat_lt t next) && a) ≡ (not (nat_lt t (next + 1)) && a)
 not_last a t next h = grind (arith, nat_tests)
 
-pub AreOver-next : {P : Type 0} (is_pass : P → Type 0) (notes : P → Notes) (root : Notes) (plan : PlanView) (j : JobView) (places : List Place) (phase next : ℕ) (slots : List (Slot P)) (e : Slot P) →
-    next < length slots → e.pass ≡ None → AreOver is_pass notes plan root j places phase next slots → AreOver is_pass notes plan root j places phase (next + 1) (set slots next e)
-AreOver-next is_pass notes root plan j places phase next slots e here none a = record {
+pub AreOver-next : {P : Type 0} (run : Course) (is_pass : P → Type 0) (notes : P → Notes) (root : Notes) (plan : PlanView) (j : JobView) (places : List Place) (phase next : ℕ) (slots : List (Slot P)) (e : Slot P) →
+    next < length slots → e.pass ≡ None → AreOver run is_pass notes plan root j places phase next slots → AreOver run is_pass notes plan root j places phase (next + 1) (set slots next e)
+AreOver-next run is_pass notes root plan j places phase next slots e here none a = record {
   some = λ t d from l h.
-      subst (HasPass (HasSeen is_pass notes plan root (trace_of j places t) t)) (sym (get_or-set_other slots next t e d (λ same. absurd (omega (arith, same, from)))))
+      subst (HasPass (HasSeen is_pass notes plan root (trace_by run j places t) t)) (sym (get_or-set_other slots next t e d (λ same. absurd (omega (arith, same, from)))))
       (a.some t d (omega (arith, from)) (omega (arith, l, length-set slots next e)) h);
   none = λ t d l h. elim (same_or t next) [
     | inl same ↦ ap (λ s. s.pass) (get_or-set_at slots next t e d same here) ∙ none
@@ -265,21 +270,21 @@ AreOver-next is_pass notes root plan j places phase next slots e here none a = r
 past : (a : Bool) (t n : ℕ) → t < n → (not (nat_lt t n) && a) ≡ false
 past a t n h = grind (arith, nat_tests)
 
-pub AreOver-all : {P : Type 0} (is_pass : P → Type 0) (notes : P → Notes) (root : Notes) (plan : PlanView) (j : JobView) (places : List Place) (phase n : ℕ) (slots : List (Slot P)) → length slots ≤ n →
-    AreOver is_pass notes plan root j places phase n slots → AreEmpty slots
-AreOver-all is_pass notes root plan j places phase n slots all a k d l = a.none k d l (past (in_phase j phase k) k n (omega (arith, l, all)))
+pub AreOver-all : {P : Type 0} (run : Course) (is_pass : P → Type 0) (notes : P → Notes) (root : Notes) (plan : PlanView) (j : JobView) (places : List Place) (phase n : ℕ) (slots : List (Slot P)) → length slots ≤ n →
+    AreOver run is_pass notes plan root j places phase n slots → AreEmpty slots
+AreOver-all run is_pass notes root plan j places phase n slots all a k d l = a.none k d l (past (in_phase j phase k) k n (omega (arith, l, all)))
 
 -- the next task's pass, where it is one of the phase
-pub seen_next : {P : Type 0} (is_pass : P → Type 0) (notes : P → Notes) (root : Notes) (plan : PlanView) (j : JobView) (places : List Place) (phase next : ℕ) (slots : List (Slot P)) (d : Slot P) →
-    next < length slots → AreOver is_pass notes plan root j places phase next slots → in_phase j phase next ≡ true → HasPass (HasSeen is_pass notes plan root (trace_of j places next) next) (get_or slots next d)
-seen_next is_pass notes root plan j places phase next slots d l a h = a.some next d (omega arith) l h
+pub seen_next : {P : Type 0} (run : Course) (is_pass : P → Type 0) (notes : P → Notes) (root : Notes) (plan : PlanView) (j : JobView) (places : List Place) (phase next : ℕ) (slots : List (Slot P)) (d : Slot P) →
+    next < length slots → AreOver run is_pass notes plan root j places phase next slots → in_phase j phase next ≡ true → HasPass (HasSeen is_pass notes plan root (trace_by run j places next) next) (get_or slots next d)
+seen_next run is_pass notes root plan j places phase next slots d l a h = a.some next d (omega arith) l h
 
 still : (t : ℕ) → not (nat_lt t t) ≡ true
 still t = grind (arith, nat_tests)
 
-pub empty_next : {P : Type 0} (is_pass : P → Type 0) (notes : P → Notes) (root : Notes) (plan : PlanView) (j : JobView) (places : List Place) (phase next : ℕ) (slots : List (Slot P)) (d : Slot P) →
-    next < length slots → AreOver is_pass notes plan root j places phase next slots → in_phase j phase next ≡ false → (get_or slots next d).pass ≡ None
-empty_next is_pass notes root plan j places phase next slots d l a h = a.none next d l (let s = still next in rw (s, h) refl)
+pub empty_next : {P : Type 0} (run : Course) (is_pass : P → Type 0) (notes : P → Notes) (root : Notes) (plan : PlanView) (j : JobView) (places : List Place) (phase next : ℕ) (slots : List (Slot P)) (d : Slot P) →
+    next < length slots → AreOver run is_pass notes plan root j places phase next slots → in_phase j phase next ≡ false → (get_or slots next d).pass ≡ None
+empty_next run is_pass notes root plan j places phase next slots d l a h = a.none next d l (let s = still next in rw (s, h) refl)
 
 -- the tasks whose passes aren't joined yet
 abbrev pub left_out : JobView → ℕ → ℕ → ℕ → Bool
@@ -322,23 +327,23 @@ none_left j phase n t l = all_gone (in_phase j phase t) t (length j.tasks) n l
 the_pass : {P : Type 0} (p : P) (q : P) → Some p ≡ Some q → p ≡ q
 the_pass p q e = ap (λ o. unwrap_or o p) e
 
-pub pass_of : {P : Type 0} (is_pass : P → Type 0) (notes : P → Notes) (root : Notes) (plan : PlanView) (j : JobView) (places : List Place) (phase next : ℕ) (slots : List (Slot P)) (d : Slot P) (p : P) →
-    next < length slots → AreOver is_pass notes plan root j places phase next slots → (get_or slots next d).pass ≡ Some p →
-    (in_phase j phase next ≡ true) × HasSeen is_pass notes plan root (trace_of j places next) next p
-pass_of is_pass notes root plan j places phase next slots d p l a h = by_phase (in_phase j phase next) refl
+pub pass_of : {P : Type 0} (run : Course) (is_pass : P → Type 0) (notes : P → Notes) (root : Notes) (plan : PlanView) (j : JobView) (places : List Place) (phase next : ℕ) (slots : List (Slot P)) (d : Slot P) (p : P) →
+    next < length slots → AreOver run is_pass notes plan root j places phase next slots → (get_or slots next d).pass ≡ Some p →
+    (in_phase j phase next ≡ true) × HasSeen is_pass notes plan root (trace_by run j places next) next p
+pass_of run is_pass notes root plan j places phase next slots d p l a h = by_phase (in_phase j phase next) refl
   where
-    by_phase : (b : Bool) → in_phase j phase next ≡ b → (in_phase j phase next ≡ true) × HasSeen is_pass notes plan root (trace_of j places next) next p
+    by_phase : (b : Bool) → in_phase j phase next ≡ b → (in_phase j phase next ≡ true) × HasSeen is_pass notes plan root (trace_by run j places next) next p
     by_phase true e =
-        let s = seen_next is_pass notes root plan j places phase next slots d l a e in
-        (e, subst (HasSeen is_pass notes plan root (trace_of j places next) next) (the_pass s.pass p (sym s.has ∙ h)) s.holds)
-    by_phase false e = let never : None ≡ Some p = sym (empty_next is_pass notes root plan j places phase next slots d l a e) ∙ h in absurd cc
+        let s = seen_next run is_pass notes root plan j places phase next slots d l a e in
+        (e, subst (HasSeen is_pass notes plan root (trace_by run j places next) next) (the_pass s.pass p (sym s.has ∙ h)) s.holds)
+    by_phase false e = let never : None ≡ Some p = sym (empty_next run is_pass notes root plan j places phase next slots d l a e) ∙ h in absurd cc
 
-pub not_of : {P : Type 0} (is_pass : P → Type 0) (notes : P → Notes) (root : Notes) (plan : PlanView) (j : JobView) (places : List Place) (phase next : ℕ) (slots : List (Slot P)) (d : Slot P) →
-    next < length slots → AreOver is_pass notes plan root j places phase next slots → (get_or slots next d).pass ≡ None → in_phase j phase next ≡ false
-not_of is_pass notes root plan j places phase next slots d l a h = by_phase (in_phase j phase next) refl
+pub not_of : {P : Type 0} (run : Course) (is_pass : P → Type 0) (notes : P → Notes) (root : Notes) (plan : PlanView) (j : JobView) (places : List Place) (phase next : ℕ) (slots : List (Slot P)) (d : Slot P) →
+    next < length slots → AreOver run is_pass notes plan root j places phase next slots → (get_or slots next d).pass ≡ None → in_phase j phase next ≡ false
+not_of run is_pass notes root plan j places phase next slots d l a h = by_phase (in_phase j phase next) refl
   where
     by_phase : (b : Bool) → in_phase j phase next ≡ b → in_phase j phase next ≡ false
-    by_phase true e = let s = seen_next is_pass notes root plan j places phase next slots d l a e in let never : None ≡ Some s.pass = sym h ∙ s.has in absurd cc
+    by_phase true e = let s = seen_next run is_pass notes root plan j places phase next slots d l a e in let never : None ≡ Some s.pass = sym h ∙ s.has in absurd cc
     by_phase false e = e
 
 -- a slot in which only the pass has changed
@@ -351,15 +356,15 @@ set_done slots next e none here same t d l = elim (same_or t next) [
 
 -- one task more, as it begins
 pub begun_more : {P : Type 0} (j : JobView) (places : List Place) (slots : List (Slot P)) (e : Slot P) →
-    ((k : ℕ) (d : Slot P) → k < length slots → IsBegun j places k (get_or slots k d).done) → IsBegun j places (length slots) e.done →
-    (k : ℕ) (d : Slot P) → k < length (slots ++ e ∷ []) → IsBegun j places k (get_or (slots ++ e ∷ []) k d).done
+    ((k : ℕ) (d : Slot P) → k < length slots → HasNotRun j places k (get_or slots k d).done) → HasNotRun j places (length slots) e.done →
+    (k : ℕ) (d : Slot P) → k < length (slots ++ e ∷ []) → HasNotRun j places k (get_or (slots ++ e ∷ []) k d).done
 begun_more j places slots e begun last k d l = elim (same_or k (length slots)) [
   | inl at ↦
       let found : get_or (slots ++ e ∷ []) k d ≡ e = ap (λ n. get_or (slots ++ e ∷ []) n d) at ∙ get_or-append_seam slots e [] d in
-      subst (λ (s : Slot _). IsBegun j places k s.done) (sym found) (subst (λ (n : ℕ). IsBegun j places n e.done) (sym at) last)
+      subst (λ (s : Slot _). HasNotRun j places k s.done) (sym found) (subst (λ (n : ℕ). HasNotRun j places n e.done) (sym at) last)
   | inr other ↦
       let before : k < length slots = omega (arith, l, other, length-append slots (e ∷ [])) in
-      subst (λ (s : Slot _). IsBegun j places k s.done) (sym (get_or_append_left slots (e ∷ []) d k before)) (begun k d before)
+      subst (λ (s : Slot _). HasNotRun j places k s.done) (sym (get_or_append_left slots (e ∷ []) d k before)) (begun k d before)
 ]
 
 pub empty_more : {P : Type 0} (slots : List (Slot P)) (e : Slot P) → AreEmpty slots → e.pass ≡ None → AreEmpty (slots ++ e ∷ [])

@@ -7,30 +7,33 @@ use Rattle.std.proofs.lemmas.List.Elements.{All-get_or}
 use Rattle.cov_base.specs.Memory.{Memory, ImageView}
 use Rattle.cov_base.specs.States.{State}
 use Rattle.s370_state.specs.declared.endings.Ending.{Ending}
-use Rattle.s370_exec.specs.Solo.{Run, solo_run}
+use Rattle.s370_exec.specs.Solo.{Run}
 use Rattle.module_area.specs.Notes.{Notes, calls}
 use Rattle.module_area.specs.PlanView.{PlanView}
 use Rattle.module_area.specs.declared.places.Place.{Place}
 use Rattle.brk_table.specs.Places.{memory_of}
 use Rattle.svc_monitor.specs.Observed.{Observes}
+use Rattle.task_run.specs.Courses.{Course}
 use Rattle.session_book.specs.JobView.{JobView, IsJob, IsTask}
 use Rattle.session_book.specs.Results.{ResultView}
-use Rattle.session_book.specs.Sessions.{task_of, no_task, first_state}
-use Rattle.space_map.specs.Space.{memory_of_space, row_of}
+use Rattle.session_book.specs.Sessions.{task_of, no_task, first_state, plan_view}
+use Rattle.space_map.specs.Space.{SpaceView, memory_of_space, row_of}
+use Rattle.task_run.proofs.CourseLemmas.{IsCourse}
 use Rattle.task_run.proofs.RunLemmas.{visits-most}
-use Rattle.s370_exec.proofs.TraceLemmas.{solo_run-done, solo_run-visits}
-use Rattle.job_run.specs.Runs.{run_of, trace_of, result_of, result_of_run}
+use Rattle.job_run.specs.Runs.{run_by, trace_by, result_by, result_of_run}
 use Rattle.job_run.specs.Slots.{dones, in_phase}
-use Rattle.job_run.specs.Tasks.{IsBegun, IsEnded, AreRun, has_run, done_result, no_result, results_of, own_run}
+use Rattle.job_run.specs.Tasks.{HasNotRun, IsEnded, AreRun, has_run, done_result, no_result, results_of, own_run}
 use Rattle.job_run.specs.declared.outcome.Done.{Done}
 use Rattle.job_run.specs.declared.slots.Slot.{Slot}
 
-same_run : (m m' : Memory) (b b' : ℕ) (s s' : State) → m ≡ m' → b ≡ b' → s ≡ s' → solo_run m b s ≡ solo_run m' b' s'
-same_run m m' b b' s s' p q r = ap (λ (n : Memory). solo_run n b s) p ∙ (ap (λ (n : ℕ). solo_run m' n s) q ∙ ap (λ (n : State). solo_run m' b' n) r)
+same_run : (run : Course) (p p' : PlanView) (m m' : Memory) (b b' : ℕ) (s s' : State) → p ≡ p' → m ≡ m' → b ≡ b' → s ≡ s' → run p m b s ≡ run p' m' b' s'
+same_run run p p' m m' b b' s s' plan memory budget state =
+    ap (λ (x : PlanView). run x m b s) plan ∙ (ap (λ (n : Memory). run p' n b s) memory ∙ (ap (λ (n : ℕ). run p' m' n s) budget ∙ ap (λ (n : State). run p' m' b' n) state))
 
--- a task that has not run yet runs as it does alone
-pub begun_run : (j : JobView) (places : List Place) (t : ℕ) (d : Done) → IsBegun j places t d → own_run d ≡ run_of j places t
-begun_run j places t d b = same_run _ _ _ _ _ _ b.memory b.budget b.state
+-- a task that has not run yet runs as its card says
+pub begun_run : (run : Course) (plan : PlanView) (j : JobView) (places : List Place) (t : ℕ) (d : Done) → plan ≡ plan_view j places (task_of j t).phase → HasNotRun j places t d →
+    own_run run plan d ≡ run_by run j places t
+begun_run run plan j places t d of b = same_run run _ _ _ _ _ _ _ _ of b.begun.memory b.budget b.begun.state
 
 result_at : State → Ending → ResultView
 result_at s e = record { ending = Some e; done = s.done; cpu = s.machine.cpu; output = s.io.output; bytes = s.machine.bytes }
@@ -45,31 +48,36 @@ private_of : (size : ℕ) (images : List ImageView) (places : List Place) → (m
 unfolding memory_of
 private_of size images places = refl
 
+-- private storage keeps its size
+pub still_filled : (s s' : SpaceView) → memory_of_space s ≡ memory_of_space s' → length s.bytes ≡ (memory_of_space s').private
+still_filled s s' e = sym (private_of (length s.bytes) s.images s.places) ∙ ap (λ (m : Memory). m.private) e
+
 -- what a task has come to
-pub has_ended : (j : JobView) (places : List Place) (t : ℕ) (d e : Done) → IsBegun j places t d → done_result e ≡ result_of_run (own_run d) →
-    length e.task.space.bytes ≡ (memory_of_space d.task.space).private → IsEnded j places t e
-has_ended j places t d e b result filled = record {
-  result = result ∙ ap result_of_run (begun_run j places t d b);
-  filled = filled ∙ (ap (λ (m : Memory). m.private) b.memory ∙ private_of (task_of j t).private j.images places);
+pub has_ended : (run : Course) (plan : PlanView) (j : JobView) (places : List Place) (t : ℕ) (d e : Done) → plan ≡ plan_view j places (task_of j t).phase → HasNotRun j places t d →
+    done_result e ≡ result_of_run (own_run run plan d) → length e.task.space.bytes ≡ (memory_of_space d.task.space).private → IsEnded run j places t e
+has_ended run plan j places t d e of b result filled = record {
+  result = result ∙ ap result_of_run (begun_run run plan j places t d of b);
+  filled = filled ∙ (ap (λ (m : Memory). m.private) b.begun.memory ∙ private_of (task_of j t).private j.images places);
 }
 
 -- at most six calls for each instruction of the budget
-pub run_calls : (plan : PlanView) (old new : Notes) (j : JobView) (places : List Place) (t : ℕ) → IsTask (length j.phases) (task_of j t) →
-    Observes plan old new (trace_of j places t) → calls new ≤ calls old + 300000000
-run_calls plan old new j places t is o =
+pub run_calls : (run : Course) (plan : PlanView) (old new : Notes) (j : JobView) (places : List Place) (t : ℕ) → IsCourse run → IsTask (length j.phases) (task_of j t) →
+    Observes plan old new (trace_by run j places t) → calls new ≤ calls old + 300000000
+run_calls run plan old new j places t course is o =
+    let of : PlanView = plan_view j places (task_of j t).phase in
     let m : Memory = memory_of (task_of j t).private j.images places in
-    let most = visits-most plan.places (trace_of j places t) in
-    let visits = solo_run-visits m (task_of j t).budget (first_state (task_of j t)) refl in
-    let done = solo_run-done m (task_of j t).budget (first_state (task_of j t)) in
-    omega (arith, most, visits, done, is.budget, o.fetches, o.marks, o.lifts, o.grows.plants, o.grows.closes)
+    let most = visits-most plan.places (trace_by run j places t) in
+    let visits = course.visits of m (task_of j t).budget (first_state (task_of j t)) refl in
+    let done = course.done of m (task_of j t).budget (first_state (task_of j t)) refl in
+    omega (arith, most, visits, done, is.budget, o.fetches, o.marks, o.lifts, o.plants, o.closes)
 
 -- no task has run before the first phase
 none_earlier : (p : ℕ) → nat_lt p 0 ≡ true → ⊥
 none_earlier p h = absurd (omega (arith, ltb-true p 0 h))
 
-pub AreRun-start : {P : Type 0} (j : JobView) (places : List Place) (slots : List (Slot P)) → length slots ≡ length j.tasks →
-    ((t : ℕ) (d : Slot P) → t < length slots → IsBegun j places t (get_or slots t d).done) → AreRun j places 0 slots
-AreRun-start j places slots count begun = record {
+pub AreRun-start : {P : Type 0} (run : Course) (j : JobView) (places : List Place) (slots : List (Slot P)) → length slots ≡ length j.tasks →
+    ((t : ℕ) (d : Slot P) → t < length slots → HasNotRun j places t (get_or slots t d).done) → AreRun run j places 0 slots
+AreRun-start run j places slots count begun = record {
   count = count;
   ended = λ t d l h. absurd (none_earlier (task_of j t).phase h);
   begun = λ t d l h. begun t d l;
@@ -83,30 +91,30 @@ not_next : (p phase : ℕ) → nat_eq p phase ≡ true → nat_lt p (phase + 1) 
 not_next p phase h k = let e : nat_lt p (phase + 1) ≡ true = grind (arith, nat_tests) in let never : true ≡ false = sym e ∙ k in absurd cc
 
 -- the tasks of this phase have run, and no other has changed
-pub AreRun-next : {P : Type 0} (j : JobView) (places : List Place) (phase : ℕ) (old new : List (Slot P)) → AreRun j places phase old → length new ≡ length old →
-    ((t : ℕ) (d : Slot P) → t < length old → in_phase j phase t ≡ true → IsEnded j places t (get_or new t d).done) →
-    ((t : ℕ) (d : Slot P) → t < length old → in_phase j phase t ≡ false → (get_or new t d).done ≡ (get_or old t d).done) → AreRun j places (phase + 1) new
-AreRun-next j places phase old new a same ended kept = record {
+pub AreRun-next : {P : Type 0} (run : Course) (j : JobView) (places : List Place) (phase : ℕ) (old new : List (Slot P)) → AreRun run j places phase old → length new ≡ length old →
+    ((t : ℕ) (d : Slot P) → t < length old → in_phase j phase t ≡ true → IsEnded run j places t (get_or new t d).done) →
+    ((t : ℕ) (d : Slot P) → t < length old → in_phase j phase t ≡ false → (get_or new t d).done ≡ (get_or old t d).done) → AreRun run j places (phase + 1) new
+AreRun-next run j places phase old new a same ended kept = record {
   count = same ∙ a.count;
   ended = λ t d l h. is_ended t d (omega (arith, l, same)) h (in_phase j phase t) refl;
   begun = λ t d l h. is_begun t d (omega (arith, l, same)) h (in_phase j phase t) refl;
 }
   where
-    is_ended : (t : ℕ) (d : Slot _) → t < length old → has_run j (phase + 1) t ≡ true → (b : Bool) → in_phase j phase t ≡ b → IsEnded j places t (get_or new t d).done
+    is_ended : (t : ℕ) (d : Slot _) → t < length old → has_run j (phase + 1) t ≡ true → (b : Bool) → in_phase j phase t ≡ b → IsEnded run j places t (get_or new t d).done
     is_ended t d l h true e = ended t d l e
-    is_ended t d l h false e = subst (λ (x : Done). IsEnded j places t x) (sym (kept t d l e)) (a.ended t d l (earlier_or (task_of j t).phase phase e ∙ h))
+    is_ended t d l h false e = subst (λ (x : Done). IsEnded run j places t x) (sym (kept t d l e)) (a.ended t d l (earlier_or (task_of j t).phase phase e ∙ h))
 
-    is_begun : (t : ℕ) (d : Slot _) → t < length old → has_run j (phase + 1) t ≡ false → (b : Bool) → in_phase j phase t ≡ b → IsBegun j places t (get_or new t d).done
+    is_begun : (t : ℕ) (d : Slot _) → t < length old → has_run j (phase + 1) t ≡ false → (b : Bool) → in_phase j phase t ≡ b → HasNotRun j places t (get_or new t d).done
     is_begun t d l h true e = absurd (not_next (task_of j t).phase phase e h)
-    is_begun t d l h false e = subst (λ (x : Done). IsBegun j places t x) (sym (kept t d l e)) (a.begun t d l (earlier_or (task_of j t).phase phase e ∙ h))
+    is_begun t d l h false e = subst (λ (x : Done). HasNotRun j places t x) (sym (kept t d l e)) (a.begun t d l (earlier_or (task_of j t).phase phase e ∙ h))
 
 -- only passes were given or taken
-pub AreRun-same : {P : Type 0} (j : JobView) (places : List Place) (phase : ℕ) (old new : List (Slot P)) → AreRun j places phase old → length new ≡ length old →
-    ((t : ℕ) (d : Slot P) → t < length old → (get_or new t d).done ≡ (get_or old t d).done) → AreRun j places phase new
-AreRun-same j places phase old new a same kept = record {
+pub AreRun-same : {P : Type 0} (run : Course) (j : JobView) (places : List Place) (phase : ℕ) (old new : List (Slot P)) → AreRun run j places phase old → length new ≡ length old →
+    ((t : ℕ) (d : Slot P) → t < length old → (get_or new t d).done ≡ (get_or old t d).done) → AreRun run j places phase new
+AreRun-same run j places phase old new a same kept = record {
   count = same ∙ a.count;
-  ended = λ t d l h. subst (λ (x : Done). IsEnded j places t x) (sym (kept t d (omega (arith, l, same)))) (a.ended t d (omega (arith, l, same)) h);
-  begun = λ t d l h. subst (λ (x : Done). IsBegun j places t x) (sym (kept t d (omega (arith, l, same)))) (a.begun t d (omega (arith, l, same)) h);
+  ended = λ t d l h. subst (λ (x : Done). IsEnded run j places t x) (sym (kept t d (omega (arith, l, same)))) (a.ended t d (omega (arith, l, same)) h);
+  begun = λ t d l h. subst (λ (x : Done). HasNotRun j places t x) (sym (kept t d (omega (arith, l, same)))) (a.begun t d (omega (arith, l, same)) h);
 }
 
 pub is_task : (j : JobView) (t : ℕ) → IsJob j → t < length j.tasks → IsTask (length j.phases) (task_of j t)
@@ -117,7 +125,7 @@ no_done = record {
   ending = None;
   task = record {
     cpu = record { regs = []; ia = 0; condition = 0; mask = 0 };
-    space = record { size = 0; bytes = []; images = []; places = [] };
+    space = record { bytes = []; images = []; places = [] };
     io = record { input = []; taken = 0; output = []; room = 0 };
     done = 0;
     budget = 0;
@@ -131,12 +139,12 @@ earlier : (p n : ℕ) → p < n → nat_lt p n ≡ true
 earlier p n l = grind (arith, nat_tests)
 
 -- after the last phase
-pub all_ended : {P : Type 0} (j : JobView) (places : List Place) (slots : List (Slot P)) (t : ℕ) → IsJob j → AreRun j places (length j.phases) slots → t < length j.tasks →
-    (results_of (dones slots) t ≡ result_of j places t) × (length (results_of (dones slots) t).bytes ≡ (task_of j t).private)
-all_ended j places slots t job a l =
+pub all_ended : {P : Type 0} (run : Course) (j : JobView) (places : List Place) (slots : List (Slot P)) (t : ℕ) → IsJob j → AreRun run j places (length j.phases) slots → t < length j.tasks →
+    (results_of (dones slots) t ≡ result_by run j places t) × (length (results_of (dones slots) t).bytes ≡ (task_of j t).private)
+all_ended run j places slots t job a l =
     let here : t < length slots = omega (arith, l, a.count) in
     let there : t < length (dones slots) = omega (arith, here, length-map slots (λ s. s.done)) in
-    let ended : IsEnded j places t (get_or slots t no_slot).done = a.ended t no_slot here (earlier (task_of j t).phase (length j.phases) (is_task j t job l).phase) in
+    let ended : IsEnded run j places t (get_or slots t no_slot).done = a.ended t no_slot here (earlier (task_of j t).phase (length j.phases) (is_task j t job l).phase) in
     let found : results_of (dones slots) t ≡ done_result (get_or slots t no_slot).done =
     get_or-map done_result (dones slots) t no_done no_result there ∙ ap done_result (get_or-map (λ s. s.done) slots t no_slot no_done here) in
     (found ∙ ended.result, ap (λ (r : ResultView). length r.bytes) found ∙ ended.filled)

@@ -7,9 +7,10 @@ use Rattle.module_area.specs.declared.places.Place.{Place}
 use Rattle.space_map.specs.Space.{memory_of_space}
 use Rattle.svc_monitor.specs.First.{IsOver}
 use Rattle.svc_monitor.specs.Observed.{Observes}
+use Rattle.task_run.specs.Courses.{Course}
 use Rattle.session_book.specs.JobView.{JobView}
 use Rattle.session_book.specs.Sessions.{task_of}
-use Rattle.job_run.specs.Runs.{result_of_run, trace_of}
+use Rattle.job_run.specs.Runs.{result_of_run, trace_by}
 use Rattle.job_run.specs.Tasks.{done_result, own_run}
 use Rattle.job_run.specs.declared.outcome.Done.{Done}
 use Rattle.job_run.specs.declared.slots.Slot.{Slot}
@@ -67,18 +68,18 @@ pub record CanRun {P : Type 0} (is_pass : P → Type 0) (notes : P → Notes) (p
   pub fresh : IfSome s.pass (λ _. s.done.task.done ≡ 0)
 
 -- the task has run with the pass
-pub record RunsWith {P : Type 0} (is_pass : P → Type 0) (notes : P → Notes) (plan : PlanView) (old new : Slot P) (p : P) : Type 0 where
+pub record RunsWith {P : Type 0} (run : Course) (is_pass : P → Type 0) (notes : P → Notes) (plan : PlanView) (old new : Slot P) (p : P) : Type 0 where
   pub pass : P
   pub has : new.pass ≡ Some pass
   pub area : is_pass pass
-  pub result : done_result new.done ≡ result_of_run (own_run old.done)
+  pub result : done_result new.done ≡ result_of_run (own_run run plan old.done)
   pub filled : length new.done.task.space.bytes ≡ (memory_of_space old.done.task.space).private
-  pub observes : Observes plan (notes p) (notes pass) (own_run old.done).trace
+  pub observes : Observes plan (notes p) (notes pass) (own_run run plan old.done).trace
 
 -- the slot after its run: as before where it has no pass
-abbrev pub RunsSlot : {P : Type 0} → (P → Type 0) → (P → Notes) → PlanView → Slot P → Slot P → Option P → Type 0
-RunsSlot is_pass notes plan old new None = new ≡ old
-RunsSlot is_pass notes plan old new (Some p) = RunsWith is_pass notes plan old new p
+abbrev pub RunsSlot : {P : Type 0} → Course → (P → Type 0) → (P → Notes) → PlanView → Slot P → Slot P → Option P → Type 0
+RunsSlot run is_pass notes plan old new None = new ≡ old
+RunsSlot run is_pass notes plan old new (Some p) = RunsWith run is_pass notes plan old new p
 
 -- the pass has observed the task's visits since it was split off from the root
 pub record HasSeen {P : Type 0} (is_pass : P → Type 0) (notes : P → Notes) (plan : PlanView) (root : Notes) (visits : List Visit) (t : ℕ) (p : P) : Type 0 where
@@ -86,8 +87,8 @@ pub record HasSeen {P : Type 0} (is_pass : P → Type 0) (notes : P → Notes) (
   pub observes : Observes plan (split_notes root t) (notes p) visits
 
 -- each of the phase's tasks from the next on has such a pass, and no other slot has one
-pub record AreOver {P : Type 0} (is_pass : P → Type 0) (notes : P → Notes) (plan : PlanView) (root : Notes) (j : JobView) (places : List Place) (phase next : ℕ) (slots : List (Slot P)) : Type 0 where
-  pub some : (t : ℕ) (d : Slot P) → next ≤ t → t < length slots → in_phase j phase t ≡ true → HasPass (HasSeen is_pass notes plan root (trace_of j places t) t) (get_or slots t d)
+pub record AreOver {P : Type 0} (run : Course) (is_pass : P → Type 0) (notes : P → Notes) (plan : PlanView) (root : Notes) (j : JobView) (places : List Place) (phase next : ℕ) (slots : List (Slot P)) : Type 0 where
+  pub some : (t : ℕ) (d : Slot P) → next ≤ t → t < length slots → in_phase j phase t ≡ true → HasPass (HasSeen is_pass notes plan root (trace_by run j places t) t) (get_or slots t d)
   pub none : (t : ℕ) (d : Slot P) → t < length slots → (not (nat_lt t next) && in_phase j phase t) ≡ false → (get_or slots t d).pass ≡ None
 
 -- the root has observed these visits, by passes that were split off from it and joined to it

@@ -1,13 +1,15 @@
 -- The tasks of a job before and after they have run.
 use Rattle.std.specs.Prelude.{◌≡◌, ℕ, ◌<◌, Bool, true, false, nat_lt, None, List, [], length, get_or, map}
-use Rattle.s370_exec.specs.Solo.{Run, state_of, solo_run}
+use Rattle.s370_exec.specs.Solo.{Run, state_of}
+use Rattle.module_area.specs.PlanView.{PlanView}
 use Rattle.module_area.specs.declared.places.Place.{Place}
-use Rattle.brk_table.specs.Places.{AreSeen, memory_of}
 use Rattle.space_map.specs.Space.{memory_of_space}
+use Rattle.task_run.specs.Courses.{Course}
+use Rattle.session_book.specs.Begun.{IsBegun}
 use Rattle.session_book.specs.JobView.{JobView}
 use Rattle.session_book.specs.Results.{ResultView}
-use Rattle.session_book.specs.Sessions.{task_of, first_state}
-use Rattle.job_run.specs.Runs.{result_of}
+use Rattle.session_book.specs.Sessions.{task_of}
+use Rattle.job_run.specs.Runs.{result_by}
 use Rattle.job_run.specs.declared.outcome.Done.{Done}
 use Rattle.job_run.specs.declared.slots.Slot.{Slot}
 
@@ -27,22 +29,20 @@ no_result = record { ending = None; done = 0; cpu = record { regs = []; ia = 0; 
 abbrev pub results_of : List Done → ℕ → ResultView
 results_of tasks t = get_or (map done_result tasks) t no_result
 
--- its run alone from where it stands, with nothing done yet
-abbrev pub own_run : Done → Run
-own_run d = solo_run (memory_of_space d.task.space) d.task.budget (state_of d.task.cpu d.task.space.bytes d.task.io 0)
+-- its run from where it stands, with nothing done yet
+abbrev pub own_run : Course → PlanView → Done → Run
+own_run run plan d = run plan (memory_of_space d.task.space) d.task.budget (state_of d.task.cpu d.task.space.bytes d.task.io 0)
 
 -- task t as its card says, not run yet
-pub record IsBegun (j : JobView) (places : List Place) (t : ℕ) (d : Done) : Type 0 where
+pub record HasNotRun (j : JobView) (places : List Place) (t : ℕ) (d : Done) : Type 0 where
   pub ending : d.ending ≡ None
-  pub memory : memory_of_space d.task.space ≡ memory_of (task_of j t).private j.images places
-  pub state : state_of d.task.cpu d.task.space.bytes d.task.io 0 ≡ first_state (task_of j t)
+  pub begun : IsBegun j places t (record { cpu = d.task.cpu; space = d.task.space; io = d.task.io })
   pub budget : d.task.budget ≡ (task_of j t).budget
   pub done : d.task.done ≡ 0
-  pub seen : AreSeen (memory_of (task_of j t).private j.images places) places
 
 -- task t after its run
-pub record IsEnded (j : JobView) (places : List Place) (t : ℕ) (d : Done) : Type 0 where
-  pub result : done_result d ≡ result_of j places t
+pub record IsEnded (run : Course) (j : JobView) (places : List Place) (t : ℕ) (d : Done) : Type 0 where
+  pub result : done_result d ≡ result_by run j places t
   pub filled : length d.task.space.bytes ≡ (task_of j t).private
 
 -- it is a task of an earlier phase
@@ -50,7 +50,7 @@ abbrev pub has_run : JobView → ℕ → ℕ → Bool
 has_run j phase t = nat_lt (task_of j t).phase phase
 
 -- the tasks of the earlier phases have run, and the others are as they begin
-pub record AreRun {P : Type 0} (j : JobView) (places : List Place) (phase : ℕ) (slots : List (Slot P)) : Type 0 where
+pub record AreRun {P : Type 0} (run : Course) (j : JobView) (places : List Place) (phase : ℕ) (slots : List (Slot P)) : Type 0 where
   pub count : length slots ≡ length j.tasks
-  pub ended : (t : ℕ) (d : Slot P) → t < length slots → has_run j phase t ≡ true → IsEnded j places t (get_or slots t d).done
-  pub begun : (t : ℕ) (d : Slot P) → t < length slots → has_run j phase t ≡ false → IsBegun j places t (get_or slots t d).done
+  pub ended : (t : ℕ) (d : Slot P) → t < length slots → has_run j phase t ≡ true → IsEnded run j places t (get_or slots t d).done
+  pub begun : (t : ℕ) (d : Slot P) → t < length slots → has_run j phase t ≡ false → HasNotRun j places t (get_or slots t d).done

@@ -8,7 +8,6 @@ use cov_base::{Bits, PlaceNo, SessNo, TaskNo};
 use module_area::Finals;
 use s370_state::{Cpu, Ending};
 use session_book::{FactSets, Job, Results};
-use space_map::TaskSpace;
 use std::marker::Model;
 use task_run::Task;
 
@@ -16,7 +15,7 @@ use task_run::Task;
 #[derive(Drop)]
 pub struct Done<'a> {
     pub ending: Option<Ending>,
-    pub task: Task<TaskSpace<'a>>,
+    pub task: Task<'a>,
 }
 
 /// The sets of a job's sessions: for each phase those that its area ended with.

@@ -4,13 +4,14 @@ ghost use Rattle.brk_table.specs.Places.{IsIn};
 ghost use Rattle.session_book.specs.JobView.{IsJob};
 ghost use Rattle.session_book.specs.Sessions.{plan_view};
 ghost use Rattle.job_run.specs.Areas.{GrowsBy};
+ghost use Rattle.task_run.specs.Courses.{solo};
 ghost use Rattle.job_run.specs.Outcomes.{IsOutcome};
 ghost use Rattle.job_run.specs.Runs.{Account, HasLeft, phase_trace};
 ghost use Rattle.job_run.specs.Slots.{AreEmpty};
 ghost use Rattle.job_run.specs.Tasks.{AreRun};
 
 use crate::outcome::{Outcome, Sets};
-use crate::slots::{Slot, make_slots, task_count, tasks_of};
+use crate::slots::{Slot, make_slots, tasks_of};
 use crate::threads::run_tasks;
 use brk_table::Tables;
 use cov_base::NoMemory;
@@ -21,14 +22,6 @@ use session_book::{Job, plan_of};
 use std::alloc::Global;
 use std::sync::Wait;
 use std::thread::Threads;
-
-/// The number of the job's phases.
-fn phase_count(job: &Job) -> u32
-    ensures value { result ≡ length job.now.phases }
-    ensures job { IsJob job.now }
-{
-    job.phases.len() as u32
-}
 
 /// Runs a phase: makes an area of its plan, plants every place with a window, runs the phase's tasks, and ends the area.
 fn run_phase<'a, T: Threads + Sync, A: Areas, G: Gate + Sync>(
@@ -43,11 +36,11 @@ fn run_phase<'a, T: Threads + Sync, A: Areas, G: Gate + Sync>(
 ) -> Result<Finals, NoMemory>
     requires room { A.made areas.old < 2 ^ 62 }
     requires phase { phase < length job.now.phases }
-    requires tasks { AreRun job.now tables.now.places phase slots.old }
+    requires tasks { AreRun solo job.now tables.now.places phase slots.old }
     requires empty { AreEmpty slots.old }
     ensures made { IfOk result (λ _. A.made areas.new ≡ A.made areas.old + 1) }
-    ensures grown { IfOk result (λ f. GrowsBy (plan_view job.now tables.now.places phase) (phase_trace job.now tables.now.places phase) (A.ledger areas.old) (A.ledger areas.new) (A.finals areas.old) (A.finals areas.new) f) }
-    ensures tasks { IfOk result (λ _. AreRun job.now tables.now.places (phase + 1) slots.new) }
+    ensures grown { IfOk result (λ f. GrowsBy (plan_view job.now tables.now.places phase) (phase_trace solo job.now tables.now.places phase) (A.ledger areas.old) (A.ledger areas.new) (A.finals areas.old) (A.finals areas.new) f) }
+    ensures tasks { IfOk result (λ _. AreRun solo job.now tables.now.places (phase + 1) slots.new) }
     ensures empty { IfOk result (λ _. AreEmpty slots.new) }
     ensures ledger_kept { OnErr result (A.ledger areas.new ≡ A.ledger areas.old) }
     ensures finals_kept { OnErr result (A.finals areas.new ≡ A.finals areas.old) }
@@ -72,13 +65,13 @@ fn run_phases<'a, T: Threads + Sync, A: Areas, G: Gate + Sync>(
     slots: &mut [Slot<'a, <A::C as Cells>::Pass>],
 ) -> Result<Vec<Finals>, NoMemory>
     requires room { A.made areas.old < 2 ^ 61 }
-    requires tasks { AreRun job.now tables.now.places 0 slots.old }
+    requires tasks { AreRun solo job.now tables.now.places 0 slots.old }
     requires empty { AreEmpty slots.old }
     ensures job { IsJob job.now }
     ensures left { IfOk result (λ v. HasLeft job.now tables.now.places (record { ledger = A.ledger areas.old; finals = A.finals areas.old; made = A.made areas.old }) (record { ledger = A.ledger areas.new; finals = A.finals areas.new; made = A.made areas.new }) v.items) }
-    ensures tasks { IfOk result (λ _. AreRun job.now tables.now.places (length job.now.phases) slots.new) }
+    ensures tasks { IfOk result (λ _. AreRun solo job.now tables.now.places (length job.now.phases) slots.new) }
 {
-    let count = phase_count(job);
+    let count = job.phase_count();
     let mut finals = Vec::with_capacity(alloc, count as usize)?;
     for phase in 0..count {
         let ended = run_phase(rt, alloc, areas, gate, job, tables, phase, slots)?;
@@ -103,7 +96,7 @@ pub fn run_job<'a, T: Threads + Wait + Sync, A: Areas, G: Gate + Sync>(
     ensures left { IfOk result (λ o. HasLeft job.now tables.now.places (record { ledger = A.ledger areas.old; finals = A.finals areas.old; made = A.made areas.old }) (record { ledger = A.ledger areas.new; finals = A.finals areas.new; made = A.made areas.new }) o.sets.finals) }
     ensures outcome { IfOk result (λ o. IsOutcome job.now tables.now.places o.tasks.items o.sets) }
 {
-    let tasks = Vec::with_capacity(alloc, task_count(job))?;
+    let tasks = Vec::with_capacity(alloc, job.task_count())?;
     let mut slots = make_slots(alloc, job, tables)?;
     let finals = run_phases(rt, alloc, areas, gate, job, tables, &mut slots)?;
     Ok(Outcome {

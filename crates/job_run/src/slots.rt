@@ -1,20 +1,16 @@
 //! The tasks of a job with the passes that their threads work with.
 ghost use Rattle.std.specs.Prelude.{◌≡◌, ◌<◌, ◌≤◌, nat_eq, [], length, All, IfOk, vec_capacity};
 ghost use Rattle.std.specs.declared.option.Option.TheVariants.{Some, None};
-ghost use Rattle.module_area.specs.Images.{AreImages};
 ghost use Rattle.brk_table.specs.Places.{IsIn};
-ghost use Rattle.session_book.specs.JobView.{IsJob, IsTask};
 ghost use Rattle.session_book.specs.Sessions.{task_of};
+ghost use Rattle.task_run.specs.Courses.{solo};
 ghost use Rattle.job_run.specs.Slots.{AreEmpty, dones};
-ghost use Rattle.job_run.specs.Tasks.{AreRun, IsBegun};
+ghost use Rattle.job_run.specs.Tasks.{AreRun, HasNotRun};
 
 use crate::outcome::Done;
 use brk_table::Tables;
 use cov_base::NoMemory;
-use module_area::Images;
-use s370_state::{Cpu, TaskIo};
-use session_book::{Job, TaskCard};
-use space_map::TaskSpace;
+use session_book::{Begun, Job, begin};
 use std::alloc::Global;
 use task_run::Task;
 
@@ -25,37 +21,12 @@ pub struct Slot<'a, P> {
     pub pass: Option<P>,
 }
 
-/// A task of the job.
-fn card_of(job: &Job, t: usize) -> &TaskCard
-    requires { t < length job.now.tasks }
-    ensures value { result.now ≡ task_of job.now t }
-    ensures card { IsTask (length job.now.phases) result.now }
-{
-    &job.tasks[t]
-}
-
-/// The job's modules.
-fn images_of(job: &Job) -> &Images
-    ensures value { result.now ≡ job.now.images }
-    ensures images { AreImages result.now }
-{
-    &job.images
-}
-
-/// The number of the job's tasks.
-pub fn task_count(job: &Job) -> usize
-    ensures value { result ≡ length job.now.tasks }
-    ensures job { IsJob job.now }
-{
-    job.tasks.len()
-}
-
 /// Whether a task of the job is one of the phase.
 pub fn is_of(job: &Job, t: usize, phase: u32) -> bool
     requires { t < length job.now.tasks }
     ensures { result ≡ nat_eq (task_of job.now t).phase phase }
 {
-    job.tasks[t].phase == phase
+    job.card(t).phase == phase
 }
 
 /// A task as its card says, over the modules and tables.
@@ -67,24 +38,15 @@ fn new_task<'a>(
 ) -> Result<Done<'a>, NoMemory>
     requires task { t < length job.now.tasks }
     requires tables { All (IsIn job.now.images) tables.now.places }
-    ensures { IfOk result (λ d. IsBegun job.now tables.now.places t d) }
+    ensures { IfOk result (λ d. HasNotRun job.now tables.now.places t d) }
 {
-    let card = card_of(job, t);
-    let space = TaskSpace::new(alloc, card.private, &card.cards, images_of(job), tables)?;
-    let input = card.input.to_vec(alloc)?;
-    let io = TaskIo::new(alloc, input, card.room)?;
-    let cpu = Cpu {
-        regs: card.regs,
-        ia: card.entry,
-        cc: 0,
-        mask: 0,
-    };
+    let Begun { cpu, space, io } = begin(alloc, job, tables, t)?;
     let task = Task {
         cpu,
         space,
         io,
         done: 0,
-        budget: card.budget,
+        budget: job.card(t).budget,
     };
     Ok(Done { ending: None, task })
 }
@@ -96,10 +58,10 @@ pub fn make_slots<'a, P: Drop>(
     tables: &'a Tables,
 ) -> Result<Vec<Slot<'a, P>>, NoMemory>
     requires { All (IsIn job.now.images) tables.now.places }
-    ensures tasks { IfOk result (λ v. AreRun job.now tables.now.places 0 v.items) }
+    ensures tasks { IfOk result (λ v. AreRun solo job.now tables.now.places 0 v.items) }
     ensures empty { IfOk result (λ v. AreEmpty v.items) }
 {
-    let count = task_count(job);
+    let count = job.task_count();
     let mut slots = Vec::with_capacity(alloc, count)?;
     for t in 0..count {
         let done = new_task(alloc, job, tables, t)?;

@@ -7,12 +7,13 @@ ghost use Rattle.svc_monitor.specs.First.{IsOver};
 ghost use Rattle.svc_monitor.specs.Observed.{Observes};
 ghost use Rattle.session_book.specs.JobView.{IsJob};
 ghost use Rattle.session_book.specs.Sessions.{plan_view, tasks_from};
+ghost use Rattle.task_run.specs.Courses.{solo};
 ghost use Rattle.job_run.specs.Runs.{phase_trace, result_of_run};
 ghost use Rattle.job_run.specs.Slots.{AreEmpty, AreSplit, CanRun, HasSplit, IsRange, in_phase, JoinsAll, RunsSlot};
 ghost use Rattle.job_run.specs.Tasks.{AreRun, done_result, own_run};
 
 use crate::outcome::Done;
-use crate::slots::{Slot, give, is_of, take, task_count};
+use crate::slots::{Slot, give, is_of, take};
 use brk_table::Tables;
 use cov_base::TaskNo;
 use cov_outside::Gate;
@@ -30,13 +31,11 @@ fn run_one<'a, C: Cells>(cells: &C, pass: &mut C::Pass, tables: &Tables, done: &
     requires room { calls (C.notes pass.old) < 2 ^ 60 }
     requires fresh { done.old.task.done ≡ 0 }
     ensures area { C.is_pass cells.now pass.new }
-    ensures result { done_result done.new ≡ result_of_run (own_run done.old) }
+    ensures result { done_result done.new ≡ result_of_run (own_run solo (C.plan cells.now) done.old) }
     ensures filled { length done.new.task.space.bytes ≡ (memory_of_space done.old.task.space).private }
-    ensures observes { Observes (C.plan cells.now) (C.notes pass.old) (C.notes pass.new) (own_run done.old).trace }
+    ensures observes { Observes (C.plan cells.now) (C.notes pass.old) (C.notes pass.new) (own_run solo (C.plan cells.now) done.old).trace }
 {
     let ending = run_task(cells, pass, tables, &mut done.task);
-    // the proof reads off the size that private storage still fills it
-    let _ = done.task.space.size();
     done.ending = Some(ending);
 }
 
@@ -50,7 +49,7 @@ fn run_slot<'a, C: Cells, G: Gate>(
 )
     requires number { t < 64 }
     requires ready { CanRun (C.is_pass cells.now) C.notes (C.plan cells.now) tables.now.places slot.old }
-    ensures { RunsSlot (C.is_pass cells.now) C.notes (C.plan cells.now) slot.old slot.new slot.old.pass }
+    ensures { RunsSlot solo (C.is_pass cells.now) C.notes (C.plan cells.now) slot.old slot.new slot.old.pass }
 {
     if let Some(pass) = &mut slot.pass {
         gate.arrive(TaskNo(t as u32));
@@ -71,7 +70,7 @@ fn run_slots<'a, T: Threads + Sync, C: Cells + Sync, G: Gate + Sync>(
     requires number { first + length slots.old ≤ 64 }
     requires ready { All (CanRun (C.is_pass cells.now) C.notes (C.plan cells.now) tables.now.places) slots.old }
     ensures count { length slots.new ≡ length slots.old }
-    ensures runs { (t : ℕ) (d : _) → t < length slots.old → RunsSlot (C.is_pass cells.now) C.notes (C.plan cells.now) (slice_index_or slots.old t d) (slice_index_or slots.new t d) (slice_index_or slots.old t d).pass }
+    ensures runs { (t : ℕ) (d : _) → t < length slots.old → RunsSlot solo (C.is_pass cells.now) C.notes (C.plan cells.now) (slice_index_or slots.old t d) (slice_index_or slots.new t d) (slice_index_or slots.old t d).pass }
 {
     if slots.len() == 0 {
         return;
@@ -79,7 +78,7 @@ fn run_slots<'a, T: Threads + Sync, C: Cells + Sync, G: Gate + Sync>(
     let count = slots.len();
     let work = |t: usize, slot: &mut Slot<'_, C::Pass>|
         requires { (first + t < 64) × CanRun (C.is_pass cells.now) C.notes (C.plan cells.now) tables.now.places slot.now }
-        ensures { RunsSlot (C.is_pass cells.entry.now) C.notes (C.plan cells.entry.now) slot.entry.now slot.exit.now slot.entry.now.pass }
+        ensures { RunsSlot solo (C.is_pass cells.entry.now) C.notes (C.plan cells.entry.now) slot.entry.now slot.exit.now slot.entry.now.pass }
     { run_slot(cells, gate, tables, first + t, slot) };
     thread::for_each_mut(rt, slots, count, &work);
 }
@@ -103,7 +102,7 @@ fn up_to(range: Range<usize>, t: usize) -> Range<usize>
 fn range_of(job: &Job, phase: u32) -> Range<usize>
     ensures { IsRange job.now phase (length job.now.tasks) result.start result.end }
 {
-    let count = task_count(job);
+    let count = job.task_count();
     let mut range = 0..0;
     for t in 0..count {
         if is_of(job, t, phase) {
@@ -128,7 +127,7 @@ fn run_those<'a, T: Threads + Sync, C: Cells + Sync, G: Gate + Sync>(
     requires ready { All (CanRun (C.is_pass cells.now) C.notes (C.plan cells.now) tables.now.places) slots.old }
     requires others { (t : ℕ) (d : _) → t < length slots.old → in_phase job.now phase t ≡ false → (slice_index_or slots.old t d).pass ≡ None }
     ensures count { length slots.new ≡ length slots.old }
-    ensures runs { (t : ℕ) (d : _) → t < length slots.old → RunsSlot (C.is_pass cells.now) C.notes (C.plan cells.now) (slice_index_or slots.old t d) (slice_index_or slots.new t d) (slice_index_or slots.old t d).pass }
+    ensures runs { (t : ℕ) (d : _) → t < length slots.old → RunsSlot solo (C.is_pass cells.now) C.notes (C.plan cells.now) (slice_index_or slots.old t d) (slice_index_or slots.new t d) (slice_index_or slots.old t d).pass }
 {
     let range = range_of(job, phase);
     let first = range.start;
@@ -155,7 +154,7 @@ fn split_all<'a, C: Forks>(
     ensures notes { HasSplit job.now phase (length job.now.tasks) (C.notes root.old) (C.notes root.new) }
     ensures passes { AreSplit (C.is_pass cells.now) C.notes (C.notes root.old) job.now phase (length job.now.tasks) slots.old slots.new }
 {
-    let count = task_count(job);
+    let count = job.task_count();
     for t in 0..count {
         if is_of(job, t, phase) {
             let pass = cells.split(root, TaskNo(t as u32));
@@ -181,18 +180,18 @@ pub fn run_tasks<'a, T: Threads + Sync, C: Forks + Sync, G: Gate + Sync>(
     requires given { (t : ℕ) → (C.notes root.old).given t ≡ false }
     requires out { (t : ℕ) → (C.notes root.old).out t ≡ false }
     requires room { calls (C.notes root.old) ≤ 2 ^ 16 }
-    requires tasks { AreRun job.now tables.now.places phase slots.old }
+    requires tasks { AreRun solo job.now tables.now.places phase slots.old }
     requires empty { AreEmpty slots.old }
     ensures area { C.is_pass cells.now root.new }
     ensures root { (C.notes root.new).bears ≡ None }
     ensures joined { (t : ℕ) → (C.notes root.new).out t ≡ false }
-    ensures observes { JoinsAll (C.plan cells.now) (C.notes root.old) (C.notes root.new) (phase_trace job.now tables.now.places phase) }
-    ensures tasks { AreRun job.now tables.now.places (phase + 1) slots.new }
+    ensures observes { JoinsAll (C.plan cells.now) (C.notes root.old) (C.notes root.new) (phase_trace solo job.now tables.now.places phase) }
+    ensures tasks { AreRun solo job.now tables.now.places (phase + 1) slots.new }
     ensures empty { AreEmpty slots.new }
 {
     split_all(cells, root, job, phase, slots);
     run_those(rt, cells, gate, job, tables, phase, slots);
-    let count = task_count(job);
+    let count = job.task_count();
     for t in 0..count {
         if let Some(pass) = take(&mut slots[t]) {
             cells.join(root, pass);

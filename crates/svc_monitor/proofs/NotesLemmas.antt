@@ -27,8 +27,6 @@ Grows-fetched plan n p cell h = record {
   bears = refl;
   given = refl;
   out = refl;
-  plants = refl;
-  closes = refl;
 }
 
 -- what a settled trap adds
@@ -39,6 +37,8 @@ pub record Adds (old new : Notes) (s p : ℕ) (f : Fact) : Type 0 where
   pub fetches : new.tally.fetches ≡ old.tally.fetches
   pub marks : new.tally.marks ≡ old.tally.marks + 1
   pub lifts : new.tally.lifts ≤ old.tally.lifts + 1
+  pub plants : new.tally.plants ≡ old.tally.plants
+  pub closes : new.tally.closes ≡ old.tally.closes
 
 pub all_three : (x y z : Bool) → (x && y && z) ≡ true → (x ≡ true) × (y ≡ true) × (z ≡ true)
 all_three true true true h = (refl, refl, refl)
@@ -68,14 +68,14 @@ marked_alone plan n s p f found part = record {
     bears = refl;
     given = refl;
     out = refl;
-    plants = refl;
-    closes = refl;
   };
   marked = λ t q g. refl;
   seen = λ q. refl;
   fetches = refl;
   marks = refl;
   lifts = omega arith;
+  plants = refl;
+  closes = refl;
 }
 
 marked_lifted : (plan : PlanView) (n : Notes) (s p : ℕ) (f : Fact) (found : FactSet) (exchanged : Bool) →
@@ -95,14 +95,14 @@ marked_lifted plan n s p f found exchanged = record {
     bears = refl;
     given = refl;
     out = refl;
-    plants = refl;
-    closes = refl;
   };
   marked = λ t q g. refl;
   seen = λ q. refl;
   fetches = refl;
   marks = refl;
   lifts = omega (arith, one_at_most exchanged);
+  plants = refl;
+  closes = refl;
 }
 
 pub Adds-settled : (plan : PlanView) (old new : Notes) (s p : ℕ) (f : Fact) → Settles plan old new s p f → Adds old new s p f

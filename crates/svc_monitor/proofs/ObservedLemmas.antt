@@ -1,5 +1,5 @@
 -- One visit of a pass, and visits one after the other.
-use Rattle.std.proofs.Common.{◌≡◌, ◌≢◌, ℕ, ◌+◌, ◌*◌, ◌/◌, Bool, true, false, ◌&&◌, ◌||◌, if◌then◌else◌, ◌==◌, nat_eq, List, [], ◌∷◌, ◌++◌, inl, inr, refl, sym, ◌∙◌, ap, subst, arith}
+use Rattle.std.proofs.Common.{◌≡◌, ◌≢◌, ◌⊎◌, ℕ, ◌+◌, ◌*◌, ◌/◌, Bool, true, false, ◌&&◌, ◌||◌, if◌then◌else◌, ◌==◌, nat_eq, List, [], ◌∷◌, ◌++◌, inl, inr, refl, sym, ◌∙◌, ap, subst, arith}
 use Rattle.std.proofs.lemmas.Bool.{or_cases, or_left, or_right, and_parts, and_from, eqb-true, eq-eqb, cond_both, both_ways}
 use Rattle.cov_base.specs.Codes.{breakpoint}
 use Rattle.cov_base.specs.FactSet.{FactSet}
@@ -9,14 +9,14 @@ use Rattle.cov_base.specs.declared.facts.Fact.{Fact}
 use Rattle.cov_base.specs.declared.facts.Fact.TheVariants.{Ran, Went, Stayed}
 use Rattle.module_area.specs.declared.cells.Cell.{Cell}
 use Rattle.module_area.specs.declared.places.Place.{Place}
-use Rattle.module_area.specs.PlanView.{PlanView, place_of, kind_at, original_at, window_at}
+use Rattle.module_area.specs.PlanView.{PlanView, place_of, kind_at, original_at}
 use Rattle.module_area.specs.Notes.{Notes, after_fetch, is_free_under, IsAnswer}
 use Rattle.module_area.specs.Executions.{executes, facts_at, is_place, visits_at_places}
 use Rattle.module_area.proofs.FactLemmas.{has_fact-with_fact, same_fact-true}
 use Rattle.brk_table.proofs.PlaceLemmas.{is_place-there}
 use Rattle.svc_monitor.specs.First.{BeginsAt}
 use Rattle.svc_monitor.specs.Settled.{Settles}
-use Rattle.svc_monitor.specs.Observed.{Grows, Observes, IsPlanted, IsShown}
+use Rattle.svc_monitor.specs.Observed.{Grows, Observes, Stays, ShowsAt, IsShown}
 use Rattle.svc_monitor.proofs.NotesLemmas.{Adds, Adds-settled, Grows-fetched, all_three, three_from}
 use Rattle.svc_monitor.proofs.PlaceLemmas.{none_begins}
 
@@ -93,8 +93,6 @@ Grows-same n = record {
   bears = refl;
   given = refl;
   out = refl;
-  plants = refl;
-  closes = refl;
 }
 
 pub Grows-trans : (a b c : Notes) → Grows a b → Grows b c → Grows a c
@@ -110,12 +108,10 @@ Grows-trans a b c g h = record {
   bears = h.bears ∙ g.bears;
   given = h.given ∙ g.given;
   out = h.out ∙ g.out;
-  plants = h.plants ∙ g.plants;
-  closes = h.closes ∙ g.closes;
 }
 
-shown_later : (plan : PlanView) (b c : Notes) (p : ℕ) (f : Fact) → Grows b c → IsShown plan b p f → IsShown plan c p f
-shown_later plan b c p f h s = elim s [ inl m ↦ inl (h.marked (window_at plan p) p f m) | inr m ↦ inr (h.full (window_at plan p) p m) ]
+shown_later : (b c : Notes) (s p : ℕ) (f : Fact) → Grows b c → IsShown b s p f → IsShown c s p f
+shown_later b c s p f h shown = elim shown [ inl m ↦ inl (h.marked s p f m) | inr m ↦ inr (h.full s p m) ]
 
 -- no visit, and one at no place
 
@@ -123,11 +119,13 @@ pub Observes-none : (plan : PlanView) (n : Notes) → Observes plan n n []
 Observes-none plan n = record {
   grows = Grows-same n;
   nothing_else = λ s p f m. inl m;
-  shown = λ p f lt planted h. absurd (both_ways (has_fact no_facts f) (has_fact-none f) h);
-  planted = λ p planted. planted;
+  shown = λ s p f stays h. absurd (both_ways (has_fact no_facts f) (has_fact-none f) h.there);
+  stays = λ s p stays. stays;
+  plants = refl;
   fetches = omega arith;
   marks = omega arith;
   lifts = omega arith;
+  closes = refl;
 }
 
 pub Observes-plain : (plan : PlanView) (n : Notes) (v : Visit) → is_place plan.places v.at ≡ false → Observes plan n n (v ∷ [])
@@ -136,11 +134,13 @@ Observes-plain plan n v none =
     record {
       grows = Grows-same n;
       nothing_else = λ s p f m. inl m;
-      shown = λ p f lt planted h. absurd (none_begins plan.places v.at p none lt (sym (one_shows (place_of plan.places p) v f h).1));
-      planted = λ p planted. planted;
+      shown = λ s p f stays h. absurd (none_begins plan.places v.at p none h.exists (sym (one_shows (place_of plan.places p) v f h.there).1));
+      stays = λ s p stays. stays;
+      plants = refl;
       fetches = omega arith;
       marks = omega arith;
       lifts = omega arith;
+      closes = refl;
     }
 
 -- one visit at a place
@@ -148,19 +148,19 @@ Observes-plain plan n v none =
 one_at_place : (plan : PlanView) (v : Visit) (q : ℕ) → BeginsAt plan.places v.at q → visits_at_places plan.places (v ∷ []) ≡ 1
 one_at_place plan v q b = let there : is_place plan.places v.at ≡ true = is_place-there plan.places q v.at b.exists b.begins in rw there refl
 
--- while the whole session runs its tag is answered
-planted_tag : (plan : PlanView) (old : Notes) (p q : ℕ) (cell : Cell) → IsAnswer plan old q cell → p ≡ q → IsPlanted plan old p → cell.tag + 1 ≡ 2 * window_at plan p
-planted_tag plan old p q cell a e planted =
-    let there : IsPlanted plan old q = subst (IsPlanted plan old) e planted in
-    let tag : cell.tag ≡ old.seen q = a.window there.0 there.1 in
-    let same : window_at plan p ≡ window_at plan q = ap (window_at plan) e in
-    omega (arith, there.1)
+-- the tag that stays is answered
+stays_tag : (plan : PlanView) (old : Notes) (s p q : ℕ) (cell : Cell) → IsAnswer plan old q cell → p ≡ q → Stays plan old s p → cell.tag + 1 ≡ 2 * s
+stays_tag plan old s p q cell a e stays =
+    let there : Stays plan old s q = subst (Stays plan old s) e stays in
+    let tag : cell.tag ≡ old.seen q = a.window (omega (arith, there.some, there.whole)) (omega (arith, there.seen, there.whole)) in
+    omega (arith, there.seen, tag)
 
-planted_fetched : (plan : PlanView) (old : Notes) (q : ℕ) (cell : Cell) → IsAnswer plan old q cell → (p : ℕ) → IsPlanted plan old p → IsPlanted plan (after_fetch plan old q cell) p
-planted_fetched plan old q cell a p planted = (
-  planted.0,
-  cond_both (nat_eq p q) cell.tag (old.seen p) (λ t. t + 1 ≡ 2 * window_at plan p) (λ e. planted_tag plan old p q cell a (eqb-true p q e) planted) (λ e. planted.1),
-)
+stays_fetched : (plan : PlanView) (old : Notes) (q : ℕ) (cell : Cell) → IsAnswer plan old q cell → (s p : ℕ) → Stays plan old s p → Stays plan (after_fetch plan old q cell) s p
+stays_fetched plan old q cell a s p stays = record {
+  some = stays.some;
+  whole = stays.whole;
+  seen = cond_both (nat_eq p q) cell.tag (old.seen p) (λ t. t + 1 ≡ 2 * s) (λ e. stays_tag plan old s p q cell a (eqb-true p q e) stays) (λ e. stays.seen);
+}
 
 -- the place was free, or the visit wasn't begun
 pub Observes-kept : (plan : PlanView) (old : Notes) (q : ℕ) (cell : Cell) (v : Visit) →
@@ -170,18 +170,19 @@ Observes-kept plan old q cell v b a free =
     record {
       grows = Grows-fetched plan old q cell a.later;
       nothing_else = λ s p f m. inl m;
-      shown = λ p f lt planted h.
-          let parts = one_shows (place_of plan.places p) v f h in
-          let e : p ≡ q = b.only p lt (sym parts.1) in
-          let w : ℕ = window_at plan p in
+      shown = λ s p f stays h.
+          let parts = one_shows (place_of plan.places p) v f h.there in
+          let e : p ≡ q = b.only p h.exists (sym parts.1) in
           let half : nat_eq cell.half (original_at plan q) ≡ true = eq-eqb cell.half (original_at plan q) (a.plain (free parts.0)) in
-          let tag : nat_eq (cell.tag + 1) (2 * w) ≡ true = eq-eqb (cell.tag + 1) (2 * w) (planted_tag plan old p q cell a e planted) in
-          let under : is_free_under plan q cell w ≡ true = and_from (nat_eq cell.half (original_at plan q)) (nat_eq (cell.tag + 1) (2 * w)) half tag in
-          inr (or_right (old.full w p) (nat_eq p q && is_free_under plan q cell w) (and_from (nat_eq p q) (is_free_under plan q cell w) (eq-eqb p q e) under));
-      planted = planted_fetched plan old q cell a;
+          let tag : nat_eq (cell.tag + 1) (2 * s) ≡ true = eq-eqb (cell.tag + 1) (2 * s) (stays_tag plan old s p q cell a e stays) in
+          let under : is_free_under plan q cell s ≡ true = and_from (nat_eq cell.half (original_at plan q)) (nat_eq (cell.tag + 1) (2 * s)) half tag in
+          inr (or_right (old.full s p) (nat_eq p q && is_free_under plan q cell s) (and_from (nat_eq p q) (is_free_under plan q cell s) (eq-eqb p q e) under));
+      stays = stays_fetched plan old q cell a;
+      plants = refl;
       fetches = omega arith;
       marks = omega arith;
       lifts = omega arith;
+      closes = refl;
     }
 
 -- a trap was settled
@@ -202,23 +203,45 @@ Observes-settled plan old new q cell v b a begun h =
             let parts = all_three (nat_eq t s) (nat_eq p q) (same_fact f g) now in
             let e : p ≡ q = eqb-true p q parts.1 in
             let same : f ≡ g = same_fact-true f g parts.2 in
-            let there : has_fact (facts_at (place_of plan.places q) (v ∷ [])) g ≡ true = shows_one (place_of plan.places q) v begun (sym b.begins) in
-            inr (subst (λ r. has_fact (facts_at (place_of plan.places r) (v ∷ [])) f ≡ true) (sym e) (subst (λ x. has_fact (facts_at (place_of plan.places q) (v ∷ [])) x ≡ true) (sym same) there))
+            let there : ShowsAt plan (v ∷ []) q g = record { exists = b.exists; there = shows_one (place_of plan.places q) v begun (sym b.begins) } in
+            inr (subst (λ r. ShowsAt plan (v ∷ []) r f) (sym e) (subst (λ x. ShowsAt plan (v ∷ []) q x) (sym same) there))
       ];
-      shown = λ p f lt planted h.
-          let parts = one_shows (place_of plan.places p) v f h in
-          let e : p ≡ q = b.only p lt (sym parts.1) in
-          let w : ℕ = window_at plan p in
-          let session : nat_eq w s ≡ true = eq-eqb w s (let tag = planted_tag plan old p q cell a e planted in omega arith) in
+      shown = λ w p f stays h.
+          let parts = one_shows (place_of plan.places p) v f h.there in
+          let e : p ≡ q = b.only p h.exists (sym parts.1) in
+          let session : nat_eq w s ≡ true = eq-eqb w s (let tag = stays_tag plan old w p q cell a e stays in omega arith) in
           let same : f ≡ g = parts.2 ∙ ap (λ r. fact_of (kind_at plan r) v.went) e in
           let fact : same_fact f g ≡ true = subst (λ x. same_fact f x ≡ true) same (same_fact-self f) in
           inl (adds.marked w p f ∙ or_right (old.marked w p f) (nat_eq w s && nat_eq p q && same_fact f g)
           (three_from (nat_eq w s) (nat_eq p q) (same_fact f g) session (eq-eqb p q e) fact));
-      planted = λ p planted. let now = planted_fetched plan old q cell a p planted in (now.0, ap (λ n. n + 1) (adds.seen p) ∙ now.1);
+      stays = λ w p stays.
+          let now = stays_fetched plan old q cell a w p stays in
+          record { some = now.some; whole = now.whole; seen = ap (λ n. n + 1) (adds.seen p) ∙ now.seen };
+      plants = adds.plants;
       fetches = omega (arith, adds.fetches);
       marks = omega (arith, adds.marks);
       lifts = omega (arith, adds.lifts);
+      closes = adds.closes;
     }
+
+-- visits with others before or behind them
+pub shows_before : (plan : PlanView) (xs ys : List Visit) (p : ℕ) (f : Fact) → ShowsAt plan xs p f → ShowsAt plan (xs ++ ys) p f
+shows_before plan xs ys p f h =
+    let place : Place = place_of plan.places p in
+    record { exists = h.exists; there = facts_at-append place xs ys f ∙ or_left (has_fact (facts_at place xs) f) (has_fact (facts_at place ys) f) h.there }
+
+pub shows_behind : (plan : PlanView) (xs ys : List Visit) (p : ℕ) (f : Fact) → ShowsAt plan ys p f → ShowsAt plan (xs ++ ys) p f
+shows_behind plan xs ys p f h =
+    let place : Place = place_of plan.places p in
+    record { exists = h.exists; there = facts_at-append place xs ys f ∙ or_right (has_fact (facts_at place xs) f) (has_fact (facts_at place ys) f) h.there }
+
+pub shows_either : (plan : PlanView) (xs ys : List Visit) (p : ℕ) (f : Fact) → ShowsAt plan (xs ++ ys) p f → ShowsAt plan xs p f ⊎ ShowsAt plan ys p f
+shows_either plan xs ys p f h =
+    let place : Place = place_of plan.places p in
+    elim (or_cases (has_fact (facts_at place xs) f) (has_fact (facts_at place ys) f) (sym (facts_at-append place xs ys f) ∙ h.there)) [
+      | inl first ↦ inl (record { exists = h.exists; there = first })
+      | inr last ↦ inr (record { exists = h.exists; there = last })
+    ]
 
 -- visits one after the other
 pub Observes-append : (plan : PlanView) (a b c : Notes) (xs ys : List Visit) → Observes plan a b xs → Observes plan b c ys → Observes plan a c (xs ++ ys)
@@ -226,24 +249,18 @@ Observes-append plan a b c xs ys r h =
     let count = visits_at_places-append plan.places xs ys in
     record {
       grows = Grows-trans a b c r.grows h.grows;
-      nothing_else = λ s p f m.
-          let place : Place = place_of plan.places p in
-          let both = facts_at-append place xs ys f in
-          elim (h.nothing_else s p f m) [
-            | inl before ↦ elim (r.nothing_else s p f before) [
-              | inl old ↦ inl old
-              | inr first ↦ inr (both ∙ or_left (has_fact (facts_at place xs) f) (has_fact (facts_at place ys) f) first)
-            ]
-            | inr last ↦ inr (both ∙ or_right (has_fact (facts_at place xs) f) (has_fact (facts_at place ys) f) last)
-          ];
-      shown = λ p f lt planted there.
-          let place : Place = place_of plan.places p in
-          elim (or_cases (has_fact (facts_at place xs) f) (has_fact (facts_at place ys) f) (sym (facts_at-append place xs ys f) ∙ there)) [
-            | inl first ↦ shown_later plan b c p f h.grows (r.shown p f lt planted first)
-            | inr last ↦ h.shown p f lt (r.planted p planted) last
-          ];
-      planted = λ p planted. h.planted p (r.planted p planted);
+      nothing_else = λ s p f m. elim (h.nothing_else s p f m) [
+        | inl before ↦ elim (r.nothing_else s p f before) [ inl old ↦ inl old | inr first ↦ inr (shows_before plan xs ys p f first) ]
+        | inr last ↦ inr (shows_behind plan xs ys p f last)
+      ];
+      shown = λ s p f stays there. elim (shows_either plan xs ys p f there) [
+        | inl first ↦ shown_later b c s p f h.grows (r.shown s p f stays first)
+        | inr last ↦ h.shown s p f (r.stays s p stays) last
+      ];
+      stays = λ s p stays. h.stays s p (r.stays s p stays);
+      plants = h.plants ∙ r.plants;
       fetches = omega (arith, r.fetches, h.fetches);
       marks = omega (arith, r.marks, h.marks);
       lifts = omega (arith, r.lifts, h.lifts);
+      closes = h.closes ∙ r.closes;
     }

@@ -17,24 +17,32 @@ pub record Grows (old new : Notes) : Type 0 where
   pub bears : new.bears ≡ old.bears
   pub given : new.given ≡ old.given
   pub out : new.out ≡ old.out
-  pub plants : new.tally.plants ≡ old.tally.plants
-  pub closes : new.tally.closes ≡ old.tally.closes
 
--- the pass marked the fact for the place's whole session, or met its set full
-abbrev pub IsShown : PlanView → Notes → ℕ → Fact → Type 0
-IsShown plan notes p f = notes.marked (window_at plan p) p f ≡ true ⊎ notes.full (window_at plan p) p ≡ true
+-- the pass marked the fact for the session at the place, or met the set full
+abbrev pub IsShown : Notes → ℕ → ℕ → Fact → Type 0
+IsShown notes s p f = notes.marked s p f ≡ true ⊎ notes.full s p ≡ true
 
--- the notes have seen the place planted by its whole session
-abbrev pub IsPlanted : PlanView → Notes → ℕ → Type 0
-IsPlanted plan notes p = (0 < window_at plan p) × (notes.seen p + 1 ≡ 2 * window_at plan p)
+-- The odd tag of the session is what each fetch of the pass at the place answers: the notes have seen the place planted
+-- by it, and it is the place's whole session, which doesn't close while tasks run.
+pub record Stays (plan : PlanView) (notes : Notes) (s p : ℕ) : Type 0 where
+  pub some : 0 < s
+  pub whole : window_at plan p ≡ s
+  pub seen : notes.seen p + 1 ≡ 2 * s
 
--- From the old to the new notes the pass has made these visits: it marked no fact that they don't show, and of a place
--- that it had seen planted it marked all that they show, or met the set full. One fetch for each visit at a place.
+-- the visits show the fact at the place, which is one of the plan
+pub record ShowsAt (plan : PlanView) (visits : List Visit) (p : ℕ) (f : Fact) : Type 0 where
+  pub exists : p < length plan.places
+  pub there : has_fact (facts_at (place_of plan.places p) visits) f ≡ true
+
+-- From the old to the new notes the pass has made these visits: it marked no fact that they don't show, and where the
+-- session's tag stays it marked all that they show, or met the set full. One fetch for each visit at a place.
 pub record Observes (plan : PlanView) (old new : Notes) (visits : List Visit) : Type 0 where
   pub grows : Grows old new
-  pub nothing_else : (s p : ℕ) (f : Fact) → new.marked s p f ≡ true → old.marked s p f ≡ true ⊎ has_fact (facts_at (place_of plan.places p) visits) f ≡ true
-  pub shown : (p : ℕ) (f : Fact) → p < length plan.places → IsPlanted plan old p → has_fact (facts_at (place_of plan.places p) visits) f ≡ true → IsShown plan new p f
-  pub planted : (p : ℕ) → IsPlanted plan old p → IsPlanted plan new p
+  pub nothing_else : (s p : ℕ) (f : Fact) → new.marked s p f ≡ true → old.marked s p f ≡ true ⊎ ShowsAt plan visits p f
+  pub shown : (s p : ℕ) (f : Fact) → Stays plan old s p → ShowsAt plan visits p f → IsShown new s p f
+  pub stays : (s p : ℕ) → Stays plan old s p → Stays plan new s p
+  pub plants : new.tally.plants ≡ old.tally.plants
   pub fetches : new.tally.fetches ≡ old.tally.fetches + visits_at_places plan.places visits
   pub marks : new.tally.marks ≤ old.tally.marks + visits_at_places plan.places visits
   pub lifts : new.tally.lifts ≤ old.tally.lifts + visits_at_places plan.places visits
+  pub closes : new.tally.closes ≡ old.tally.closes

@@ -9,12 +9,9 @@ ghost use Rattle.s370_exec.specs.Fetch.{first_tests};
 ghost use Rattle.svc_monitor.specs.First.{IsOver, IsPlaced, IsMet, half_of};
 
 use brk_table::Tables;
-use cov_base::{Addr, PlaceNo};
+use cov_base::{Addr, BREAKPOINT, PlaceNo};
 use module_area::{Cell, Cells};
 use s370_state::{Ending, Space};
-
-/// SVC 255.
-const BREAKPOINT: u16 = 0x0AFF;
 
 /// How the first halfword was met. Each variant ends with the original halfword.
 #[derive(Clone, Copy)]

@@ -1,6 +1,5 @@
 //! One instruction over the cells.
 ghost use Rattle.std.specs.Prelude.{◌≡◌, ℕ, ◌+◌, ◌%◌, ◌<◌, ◌^◌, length};
-ghost use Rattle.cov_base.specs.Facts.{fact_of};
 ghost use Rattle.module_area.specs.Notes.{calls};
 ghost use Rattle.s370_decode.specs.Fields.{first_half};
 ghost use Rattle.s370_decode.specs.Table.{op_of};
@@ -14,22 +13,11 @@ ghost use Rattle.svc_monitor.specs.Observed.{Observes};
 use crate::first::{Met, first_half};
 use crate::trap::settle;
 use brk_table::Tables;
-use cov_base::{Fact, Kind};
 use module_area::Cells;
 use s370_branch::outcome;
 use s370_decode::Code;
 use s370_exec::{execute, fetch_rest, fetch_subject, is_execute, subject_address};
 use s370_state::{Cpu, Next, Space, TaskIo};
-
-/// What an execution shows that branched, or did not.
-fn fact_of(kind: Kind, went: bool) -> Fact
-    ensures { result ≡ fact_of kind went }
-{
-    match kind {
-        Kind::Straight => Fact::Ran,
-        Kind::Conditional => if went { Fact::Went } else { Fact::Stayed },
-    }
-}
 
 /// Settles a trap whose instruction was begun, by what it does as it is executed.
 fn show<C: Cells>(cells: &C, pass: &mut C::Pass, tables: &Tables, met: Met, cpu: &Cpu, code: &Code)
@@ -42,7 +30,7 @@ fn show<C: Cells>(cells: &C, pass: &mut C::Pass, tables: &Tables, met: Met, cpu:
 {
     if let Met::Trap(place, cell, _) = met {
         let kind = tables.place(place).kind;
-        let fact = fact_of(kind, outcome(cpu, code));
+        let fact = kind.fact(outcome(cpu, code));
         settle(cells, pass, tables, place, cell, fact);
     }
 }

@@ -1,3 +1,4 @@
 pub mod CountLemmas
+pub mod CourseLemmas
 pub mod RunLemmas
 pub mod SetLemmas

@@ -16,14 +16,14 @@ use Rattle.svc_monitor.proofs.ObservedLemmas.{Observes-none, Observes-append}
 use Rattle.s370_exec.proofs.TraceLemmas.{solo_step-visits}
 
 -- i instructions of the run have led to this state, and the pass has observed them
-pub record HasRun (m : Memory) (plan : PlanView) (old new : Notes) (budget : ℕ) (first : State) (i : ℕ) (now : State) : Type 0 where
+pub record LedTo (m : Memory) (plan : PlanView) (old new : Notes) (budget : ℕ) (first : State) (i : ℕ) (now : State) : Type 0 where
   pub trace : List Visit
   pub observes : Observes plan old new trace
   pub size : length trace ≤ 2 * i
   pub run : solo_run m budget first ≡ run_on m (budget - i) now trace
 
-pub HasRun-start : (m : Memory) (plan : PlanView) (n : Notes) (budget : ℕ) (s : State) → HasRun m plan n n budget s 0 s
-HasRun-start m plan n budget s = record { trace = []; observes = Observes-none plan n; size = omega arith; run = let all : budget - 0 ≡ budget = omega arith in rw all refl }
+pub LedTo-start : (m : Memory) (plan : PlanView) (n : Notes) (budget : ℕ) (s : State) → LedTo m plan n n budget s 0 s
+LedTo-start m plan n budget s = record { trace = []; observes = Observes-none plan n; size = omega arith; run = let all : budget - 0 ≡ budget = omega arith in rw all refl }
 
 run_on-more : (m : Memory) (n : ℕ) (s t : State) (trace : List Visit) → has_returned s ≡ false → (solo_step m s).next ≡ On → (solo_step m s).state ≡ t →
     run_on m (suc n) s trace ≡ run_on m n t (trace ++ (solo_step m s).visits)
@@ -47,10 +47,10 @@ run_on-spent m s trace here = rw here refl
 left : (budget i : ℕ) → i < budget → budget - i ≡ suc (budget - (i + 1))
 left budget i lt = omega arith
 
-pub HasRun-more : (m : Memory) (plan : PlanView) (old mid new : Notes) (budget : ℕ) (first : State) (i : ℕ) (s t : State) →
-    HasRun m plan old mid budget first i s → i < budget → has_returned s ≡ false → (solo_step m s).next ≡ On → (solo_step m s).state ≡ t →
-    Observes plan mid new (solo_step m s).visits → HasRun m plan old new budget first (i + 1) t
-HasRun-more m plan old mid new budget first i s t r lt here next state observes = record {
+pub LedTo-more : (m : Memory) (plan : PlanView) (old mid new : Notes) (budget : ℕ) (first : State) (i : ℕ) (s t : State) →
+    LedTo m plan old mid budget first i s → i < budget → has_returned s ≡ false → (solo_step m s).next ≡ On → (solo_step m s).state ≡ t →
+    Observes plan mid new (solo_step m s).visits → LedTo m plan old new budget first (i + 1) t
+LedTo-more m plan old mid new budget first i s t r lt here next state observes = record {
   trace = r.trace ++ (solo_step m s).visits;
   observes = Observes-append plan old mid new r.trace (solo_step m s).visits r.observes observes;
   size = omega (arith, r.size, solo_step-visits m s, length-append r.trace (solo_step m s).visits);
@@ -64,7 +64,7 @@ pub record IsRun (plan : PlanView) (old new : Notes) (run : Run) (e : Ending) (s
   pub observes : Observes plan old new run.trace
 
 pub IsRun-ended : (m : Memory) (plan : PlanView) (old mid new : Notes) (budget : ℕ) (first : State) (i : ℕ) (s t : State) (e : Ending) →
-    HasRun m plan old mid budget first i s → i < budget → has_returned s ≡ false → (solo_step m s).next ≡ Ended e → (solo_step m s).state ≡ t →
+    LedTo m plan old mid budget first i s → i < budget → has_returned s ≡ false → (solo_step m s).next ≡ Ended e → (solo_step m s).state ≡ t →
     Observes plan mid new (solo_step m s).visits → IsRun plan old new (solo_run m budget first) e t
 IsRun-ended m plan old mid new budget first i s t e r lt here next state observes =
     let run : solo_run m budget first ≡ run_ended e t (r.trace ++ (solo_step m s).visits) =
@@ -72,13 +72,13 @@ IsRun-ended m plan old mid new budget first i s t e r lt here next state observe
     rw run (record { ending = refl; state = refl; observes = Observes-append plan old mid new r.trace (solo_step m s).visits r.observes observes })
 
 pub IsRun-returned : (m : Memory) (plan : PlanView) (old new : Notes) (budget : ℕ) (first : State) (i : ℕ) (s : State) →
-    HasRun m plan old new budget first i s → has_returned s ≡ true → IsRun plan old new (solo_run m budget first) Returned s
+    LedTo m plan old new budget first i s → has_returned s ≡ true → IsRun plan old new (solo_run m budget first) Returned s
 IsRun-returned m plan old new budget first i s r here =
     let run : solo_run m budget first ≡ run_ended Returned s r.trace = r.run ∙ run_on-returned m (budget - i) s r.trace here in
     rw run (record { ending = refl; state = refl; observes = r.observes })
 
 pub IsRun-spent : (m : Memory) (plan : PlanView) (old new : Notes) (budget : ℕ) (first : State) (i : ℕ) (s : State) →
-    HasRun m plan old new budget first i s → budget ≤ i → has_returned s ≡ false → IsRun plan old new (solo_run m budget first) Spent s
+    LedTo m plan old new budget first i s → budget ≤ i → has_returned s ≡ false → IsRun plan old new (solo_run m budget first) Spent s
 IsRun-spent m plan old new budget first i s r all here =
     let none : budget - i ≡ 0 = omega arith in
     let run : solo_run m budget first ≡ run_ended Spent s r.trace = r.run ∙ ap (λ k. run_on m k s r.trace) none ∙ run_on-spent m s r.trace here in
@@ -90,9 +90,9 @@ visits-most places (v ∷ vs) =
     cond_both (is_place places v.at) 1 0 (λ n. n + visits_at_places places vs ≤ length (v ∷ vs)) (λ e. omega (arith, visits-most places vs)) (λ e. omega (arith, visits-most places vs))
 
 -- six calls for each instruction, at most
-pub HasRun-calls : (m : Memory) (plan : PlanView) (old new : Notes) (budget : ℕ) (first : State) (i : ℕ) (now : State) →
-    HasRun m plan old new budget first i now → calls new ≤ calls old + 6 * i
-HasRun-calls m plan old new budget first i now r =
+pub LedTo-calls : (m : Memory) (plan : PlanView) (old new : Notes) (budget : ℕ) (first : State) (i : ℕ) (now : State) →
+    LedTo m plan old new budget first i now → calls new ≤ calls old + 6 * i
+LedTo-calls m plan old new budget first i now r =
     let o = r.observes in
     let most = visits-most plan.places r.trace in
-    omega (arith, r.size, o.fetches, o.marks, o.lifts, o.grows.plants, o.grows.closes)
+    omega (arith, r.size, o.fetches, o.marks, o.lifts, o.plants, o.closes)

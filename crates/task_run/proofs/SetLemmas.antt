@@ -20,7 +20,7 @@ use Rattle.module_area.specs.Ended.{HasSets, HasTally, full_places}
 use Rattle.module_area.proofs.CountLemmas.{count_same}
 use Rattle.module_area.proofs.FactLemmas.{same_fact-true}
 use Rattle.module_area.proofs.Indices.{same_tests}
-use Rattle.svc_monitor.specs.Observed.{Observes, IsPlanted, IsShown}
+use Rattle.svc_monitor.specs.Observed.{Observes, Stays, IsShown}
 use Rattle.svc_monitor.proofs.ObservedLemmas.{has_fact-none, facts_at-more, facts_at-append, visits_at_places-append}
 
 -- sets with the same facts
@@ -80,7 +80,7 @@ visits_at_places-one places (t ∷ ts) =
 pub set_at-facts : (plan : PlanView) (ended : Notes) (finals : FinalsView) (p : ℕ) (facts : FactSet) → IsPlan plan → HasSets plan ended finals →
     p < length plan.places → 0 < window_at plan p →
     ((f : Fact) → ended.marked (window_at plan p) p f ≡ true → has_fact facts f ≡ true) →
-    ((f : Fact) → has_fact facts f ≡ true → IsShown plan ended p f) →
+    ((f : Fact) → has_fact facts f ≡ true → IsShown ended (window_at plan p) p f) →
     ((f : Fact) → has_fact facts f ≡ true → is_of_kind (kind_at plan p) f ≡ true) → set_at finals (window_at plan p) p ≡ facts
 set_at-facts plan ended finals p facts is sets lt window within shown kind =
     let w : ℕ = window_at plan p in
@@ -98,7 +98,7 @@ set_at-facts plan ended finals p facts is sets lt window within shown kind =
 pub record IsReady (plan : PlanView) (old : Notes) : Type 0 where
   pub none : (s p : ℕ) (f : Fact) → old.marked s p f ≡ false
   pub none_full : (s p : ℕ) → old.full s p ≡ false
-  pub planted : (p : ℕ) → p < length plan.places → 0 < window_at plan p → IsPlanted plan old p
+  pub planted : (p : ℕ) → p < length plan.places → 0 < window_at plan p → Stays plan old (window_at plan p) p
 
 -- the set of each place's whole session is what the trace shows there
 pub exact_set : (plan : PlanView) (old ended : Notes) (trace : List Visit) (finals : FinalsView) → IsPlan plan → IsReady plan old → Observes plan old ended trace →
@@ -107,9 +107,9 @@ exact_set plan old ended trace finals is ready observes sets p lt window =
     set_at-facts plan ended finals p (facts_at (place_of plan.places p) trace) is sets lt window
     (λ f marked. elim (observes.nothing_else (window_at plan p) p f marked) [
       | inl before ↦ absurd (both_ways (old.marked (window_at plan p) p f) (ready.none (window_at plan p) p f) before)
-      | inr there ↦ there
+      | inr shows ↦ shows.there
     ])
-    (λ f there. observes.shown p f lt (ready.planted p lt window) there)
+    (λ f there. observes.shown (window_at plan p) p f (ready.planted p lt window) (record { exists = lt; there = there }))
     (facts_at-kind (place_of plan.places p) trace)
 
 -- the breakpoints that were lifted are those of the places whose set is full

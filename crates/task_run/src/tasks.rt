@@ -1,13 +1,13 @@
 //! The state of a task.
 
 use s370_state::{Cpu, TaskIo};
+use space_map::TaskSpace;
 
-/// A task over a space: its processor, storage, input and output, how many instructions it has done, and how many it
-/// may do.
+/// A task: its processor, storage, input and output, how many instructions it has done, and how many it may do.
 #[derive(Drop)]
-pub struct Task<P> {
+pub struct Task<'a> {
     pub cpu: Cpu,
-    pub space: P,
+    pub space: TaskSpace<'a>,
     pub io: TaskIo,
     pub done: u32,
     pub budget: u32,

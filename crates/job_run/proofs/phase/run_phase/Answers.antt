@@ -1,6 +1,7 @@
 use Rattle.std.proofs.Common.{List, IfOk, subst}
 use Rattle.cov_base.specs.States.{Visit}
 use Rattle.module_area.specs.PlanView.{IsPlan, PlanView}
+use Rattle.task_run.specs.Courses.{solo}
 use Rattle.job_run.specs.Areas.{GrowsBy}
 use Rattle.job_run.specs.Runs.{phase_trace}
 use Rattle.job_run.proofs.AreaLemmas.{grows_if}
@@ -9,7 +10,7 @@ use Rattle.job_run.proofs.phase.run_phase.Goals as goal
 pub returns-clause-grown : goal.returns-clause-grown
 returns-clause-grown g c =
     let is : IsPlan c.in_ok-plan.plan = subst IsPlan c.plan.view_is c.plan.invariant in
-    let trace : List Visit = phase_trace c.args.job.now c.args.tables.now.places c.args.phase in
+    let trace : List Visit = phase_trace solo c.args.job.now c.args.tables.now.places c.args.phase in
     let grown = grows_if c.in_ok-plan.plan _ _ _ (g.A.C.Cells.notes c.run_tasks.new.root) trace c.finish.result _ _ (g.A.Areas.ledger c.finish.new.self) _ _ (g.A.Areas.finals c.finish.new.self) is
     c.in_ok-cells.ensures.plan c.in_ok-cells.ensures.root c.plant_all.ensures.notes c.run_tasks.ensures.observes c.finish.ensures.sets c.finish.ensures.tally
     c.make.ensures.ledger c.make.ensures.finals c.finish.ensures.ledger c.finish.ensures.finals in

@@ -1,4 +1,5 @@
 use Rattle.std.proofs.Common.{◌≤◌, length, arith}
+use Rattle.task_run.specs.Courses.{solo}
 use Rattle.job_run.proofs.RangeLemmas.{part_ready, part_size, runs_all}
 use Rattle.job_run.proofs.threads.run_those.Goals as goal
 
@@ -16,5 +17,5 @@ run_slots-requires-clause-ready g c κs within =
 
 pub returns-clause-runs : goal.returns-clause-runs
 returns-clause-runs g c =
-    runs_all (g.C.Cells.is_pass c.args.cells.now) g.C.Cells.notes (g.C.Cells.plan c.args.cells.now) c.args.job.now c.args.phase c.args.slots.now c.run_slots.new.slots
+    runs_all solo (g.C.Cells.is_pass c.args.cells.now) g.C.Cells.notes (g.C.Cells.plan c.args.cells.now) c.args.job.now c.args.phase c.args.slots.now c.run_slots.new.slots
     c.range_of-range.result.start c.range_of-range.result.end c.range_of-range.ensures c.requires.count c.requires.others c.run_slots.ensures.count c.run_slots.ensures.runs

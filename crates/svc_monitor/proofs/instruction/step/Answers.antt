@@ -3,7 +3,6 @@ use Rattle.s370_decode.specs.Fields.{first_half}
 use Rattle.s370_decode.specs.Table.{op_of}
 use Rattle.s370_branch.specs.Branch.{goes}
 use Rattle.s370_exec.specs.Effects.{effect_of}
-use Rattle.s370_exec.specs.Fetch.{is_execute}
 use Rattle.s370_exec.specs.Solo.{state_of, solo_step, subject_step, ended, stepped, behind, visit}
 use Rattle.s370_exec.proofs.Subjects.{first_half-code_at}
 use Rattle.s370_exec.proofs.StepLemmas.{solo_step-refused, solo_step-rest_refused, solo_step-begun, solo_step-execute}

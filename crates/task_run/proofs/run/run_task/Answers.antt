@@ -1,13 +1,23 @@
 use Rattle.std.proofs.Common.{ℕ, ◌+◌, arith, refl, sym, ◌∙◌}
 use Rattle.s370_state.specs.declared.endings.Ending.TheVariants.{Returned, Spent}
 use Rattle.s370_exec.specs.Solo.{state_of, solo_run}
-use Rattle.task_run.proofs.RunLemmas.{IsRun, HasRun-more, HasRun-calls, IsRun-ended, IsRun-returned, IsRun-spent}
+use Rattle.space_map.specs.Space.{memory_of_space}
+use Rattle.task_run.proofs.RunLemmas.{IsRun, LedTo-start, LedTo-more, LedTo-calls, IsRun-ended, IsRun-returned, IsRun-spent}
 use Rattle.task_run.proofs.run.run_task.Given as given
 use Rattle.task_run.proofs.run.run_task.Goals as goal
 
 pub step-requires-clause-room : goal.step-requires-clause-room
 step-requires-clause-room g c κs within =
-    omega (arith, HasRun-calls _ _ _ _ _ _ _ _ c.loop-done.invariant.run, c.requires.room, c.fits-task)
+    omega (arith, LedTo-calls _ _ _ _ _ _ _ _ c.loop-done.invariant.run, c.requires.room)
+
+pub loop-done-init : goal.loop-done-init
+loop-done-init g c = record {
+  area = c.requires.area;
+  memory = refl;
+  budget = refl;
+  done = c.requires.fresh;
+  run = LedTo-start _ _ _ _ _;
+}
 
 pub loop-done-preserved : goal.loop-done-preserved
 loop-done-preserved g c =
@@ -18,18 +28,18 @@ loop-done-preserved g c =
       memory = c.step.ensures.memory ∙ same;
       budget = c.loop-done.invariant.budget;
       done = refl;
-      run = HasRun-more _ _ _ (g.C.Cells.notes c.loop-done.pass) _ _ _ i (state_of c.loop-done.task.cpu (g.P.Space.bytes c.loop-done.task.space) c.loop-done.task.io i) _
+      run = LedTo-more _ _ _ (g.C.Cells.notes c.loop-done.pass) _ _ _ i (state_of c.loop-done.task.cpu c.loop-done.task.space.bytes c.loop-done.task.io i) _
           c.loop-done.invariant.run c.loop-done-test.true (sym c.if-has_returned.ensures) (rw same at (c.step.ensures.next i ∙ c.in_default.is)) (rw same at (c.step.ensures.state i)) (rw same at (c.step.ensures.observes i));
     }
 
 ended : (g : given.Over) (c : goal.In-Ended g) →
     IsRun (g.C.Cells.plan c.args.cells.now) (g.C.Cells.notes c.args.pass.now) (g.C.Cells.notes c.step.new.pass)
-    (solo_run (g.P.Space.memory c.args.task.now.space) c.args.task.now.budget (state_of c.args.task.now.cpu (g.P.Space.bytes c.args.task.now.space) c.args.task.now.io 0))
-    c.in-Ended.e (state_of c.step.new.cpu (g.P.Space.bytes c.step.new.space) c.step.new.io (c.loop-done.done + 1))
+    (solo_run (memory_of_space c.args.task.now.space) c.args.task.now.budget (state_of c.args.task.now.cpu c.args.task.now.space.bytes c.args.task.now.io 0))
+    c.in-Ended.e (state_of c.step.new.cpu c.step.new.space.bytes c.step.new.io (c.loop-done.done + 1))
 ended g c =
     let i : ℕ = c.loop-done.done in
     let same = c.loop-done.invariant.memory in
-    IsRun-ended _ _ _ (g.C.Cells.notes c.loop-done.pass) _ _ _ i (state_of c.loop-done.task.cpu (g.P.Space.bytes c.loop-done.task.space) c.loop-done.task.io i) _ c.in-Ended.e
+    IsRun-ended _ _ _ (g.C.Cells.notes c.loop-done.pass) _ _ _ i (state_of c.loop-done.task.cpu c.loop-done.task.space.bytes c.loop-done.task.io i) _ c.in-Ended.e
     c.loop-done.invariant.run c.loop-done-test.true (sym c.if-has_returned.ensures) (rw same at (c.step.ensures.next i ∙ c.in-Ended.is)) (rw same at (c.step.ensures.state i)) (rw same at (c.step.ensures.observes i))
 
 pub returns-in-Ended-clause-ending : goal.returns-in-Ended-clause-ending
@@ -43,8 +53,8 @@ returns-in-Ended-clause-observes g c = (ended g c).observes
 
 returned : (g : given.Over) (c : goal.Then-has_returned g) →
     IsRun (g.C.Cells.plan c.args.cells.now) (g.C.Cells.notes c.args.pass.now) (g.C.Cells.notes c.loop-done.pass)
-    (solo_run (g.P.Space.memory c.args.task.now.space) c.args.task.now.budget (state_of c.args.task.now.cpu (g.P.Space.bytes c.args.task.now.space) c.args.task.now.io 0))
-    Returned (state_of c.loop-done.task.cpu (g.P.Space.bytes c.loop-done.task.space) c.loop-done.task.io c.loop-done.done)
+    (solo_run (memory_of_space c.args.task.now.space) c.args.task.now.budget (state_of c.args.task.now.cpu c.args.task.now.space.bytes c.args.task.now.io 0))
+    Returned (state_of c.loop-done.task.cpu c.loop-done.task.space.bytes c.loop-done.task.io c.loop-done.done)
 returned g c = IsRun-returned _ _ _ _ _ _ _ _ c.loop-done.invariant.run (sym c.if-has_returned.ensures)
 
 pub returns-then-has_returned-clause-ending : goal.returns-then-has_returned-clause-ending
@@ -58,8 +68,8 @@ returns-then-has_returned-clause-observes g c = (returned g c).observes
 
 returned_last : (g : given.Over) (c : goal.Then-has_returned-2 g) →
     IsRun (g.C.Cells.plan c.args.cells.now) (g.C.Cells.notes c.args.pass.now) (g.C.Cells.notes c.loop-done.pass)
-    (solo_run (g.P.Space.memory c.args.task.now.space) c.args.task.now.budget (state_of c.args.task.now.cpu (g.P.Space.bytes c.args.task.now.space) c.args.task.now.io 0))
-    Returned (state_of c.loop-done.task.cpu (g.P.Space.bytes c.loop-done.task.space) c.loop-done.task.io c.loop-done.done)
+    (solo_run (memory_of_space c.args.task.now.space) c.args.task.now.budget (state_of c.args.task.now.cpu c.args.task.now.space.bytes c.args.task.now.io 0))
+    Returned (state_of c.loop-done.task.cpu c.loop-done.task.space.bytes c.loop-done.task.io c.loop-done.done)
 returned_last g c = IsRun-returned _ _ _ _ _ _ _ _ c.loop-done.invariant.run (sym c.if-has_returned-2.ensures)
 
 pub returns-then-has_returned-2-clause-ending : goal.returns-then-has_returned-2-clause-ending
@@ -73,8 +83,8 @@ returns-then-has_returned-2-clause-observes g c = (returned_last g c).observes
 
 spent : (g : given.Over) (c : goal.Else-has_returned-2 g) →
     IsRun (g.C.Cells.plan c.args.cells.now) (g.C.Cells.notes c.args.pass.now) (g.C.Cells.notes c.loop-done.pass)
-    (solo_run (g.P.Space.memory c.args.task.now.space) c.args.task.now.budget (state_of c.args.task.now.cpu (g.P.Space.bytes c.args.task.now.space) c.args.task.now.io 0))
-    Spent (state_of c.loop-done.task.cpu (g.P.Space.bytes c.loop-done.task.space) c.loop-done.task.io c.loop-done.done)
+    (solo_run (memory_of_space c.args.task.now.space) c.args.task.now.budget (state_of c.args.task.now.cpu c.args.task.now.space.bytes c.args.task.now.io 0))
+    Spent (state_of c.loop-done.task.cpu c.loop-done.task.space.bytes c.loop-done.task.io c.loop-done.done)
 spent g c = IsRun-spent _ _ _ _ _ _ _ _ c.loop-done.invariant.run c.loop-done-test.false (sym c.if-has_returned-2.ensures)
 
 pub returns-else-has_returned-2-clause-ending : goal.returns-else-has_returned-2-clause-ending
