@@ -1,14 +1,17 @@
 -- What a card that was read keeps.
-use Rattle.std.proofs.Common.{◌≡◌, ℕ, ◌+◌, ◌*◌, ◌<◌, ◌≤◌, Bool, true, false, ◌&&◌, nat_le, cond, Option, Some, None, List, [], ◌∷◌, ◌++◌, length, refl, subst, option_map, arith, codes, slice_index}
+use Rattle.std.proofs.Common.{◌≡◌, ℕ, ◌+◌, ◌*◌, ◌<◌, ◌≤◌, Bool, true, false, ◌&&◌, nat_le, cond, Option, Some, None, Result, Ok, Err, List, [], ◌∷◌, ◌++◌, length, refl, sym, ◌∙◌, subst, option_map, arith, codes, slice_index}
 use Rattle.std.proofs.lemmas.Bool.Decides.{nat_tests}
 use Rattle.std.proofs.lemmas.List.{length-append}
 use Rattle.std.specs.Str.{bytes_eq}
 use Rattle.cov_base.specs.Names.{is_digit, is_name, name_at, padded, unpadded}
 use Rattle.cov_base.proofs.NameLemmas.{unpadded-padded}
+use Rattle.hex.specs.Hex.{decode_sized}
+use Rattle.hex.specs.declared.error.FromHexError.{FromHexError}
+use Rattle.hex.proofs.HexLemmas.{decode_sized-ok, decode_sized-twice, decode_of-ok}
 use Rattle.job_text.specs.CardView.{CardView, Cover, Module, Text, Listing, Phase, Session, Task, Reg, Data, Input, End}
-use Rattle.job_text.specs.Words.{words, number_at, bytes_at, is_upper_hex, is_lower_hex, hex_value, is_address, address_value, address_at, word_at, put_name, names_on, names_at}
+use Rattle.job_text.specs.Words.{words, number_at, bytes_at, ok_of, address_in, address_at, word_at, put_name, names_on, names_at}
 use Rattle.job_text.specs.Cards.{may_stand, module_of, session_of, task_of, reg_of, data_of, short_card, pair_card, long_card, card_of, card_at}
-use Rattle.job_text.proofs.Guards.{guard_some, guard_more}
+use Rattle.job_text.proofs.Guards.{some_same, guard_some, guard_more}
 
 -- a name filled with blanks
 pub record IsName (n : List ℕ) : Type 0 where
@@ -27,37 +30,19 @@ name_good w n e =
     let back : unpadded (padded w) ≡ w = unpadded-padded w g.0 in
     subst IsName g.1 (record { is = rw back g.0; filled = rw back refl })
 
-digit_below : (b : ℕ) → is_digit b ≡ true → b ≤ 57
-digit_below b e = grind (arith, nat_tests)
-
-upper_below : (b : ℕ) → is_upper_hex b ≡ true → b ≤ 70
-upper_below b e = grind (arith, nat_tests)
-
-lower_below : (b : ℕ) → is_lower_hex b ≡ true → b ≤ 102
-lower_below b e = grind (arith, nat_tests)
-
-hex_by : (b : ℕ) (p q r : Bool) → is_digit b ≡ p → is_upper_hex b ≡ q → is_lower_hex b ≡ r → hex_value b ≤ 15
-hex_by b true q r d u l = rw d (omega (arith, digit_below b d))
-hex_by b false true r d u l = rw (d, u) (omega (arith, upper_below b u))
-hex_by b false false true d u l = rw (d, u, l) (omega (arith, lower_below b l))
-hex_by b false false false d u l = rw (d, u, l) (omega arith)
-
-pub hex_most : (b : ℕ) → hex_value b ≤ 15
-hex_most b = hex_by b (is_digit b) (is_upper_hex b) (is_lower_hex b) refl refl refl
+address_below : (w : List ℕ) (r : Result (List ℕ) FromHexError) (e : ℕ) → decode_sized w 3 ≡ r → option_map address_in (ok_of r) ≡ Some e → e < 16777216
+address_below w (Ok bytes) e is h =
+    let size : length w ≡ 2 * 3 = decode_sized-ok w 3 bytes is in
+    let few = (decode_of-ok w bytes (sym (decode_sized-twice w 3 size) ∙ is)).3 in
+    let same : address_in bytes ≡ e = some_same (address_in bytes) e h in
+    let a : slice_index bytes 0 < 256 = few 0 in
+    let b : slice_index bytes 1 < 256 = few 1 in
+    let c : slice_index bytes 2 < 256 = few 2 in
+    omega (arith, same, a, b, c)
+address_below w (Err f) e is h = absurd cc
 
 pub address_good : (w : List ℕ) (e : ℕ) → address_at w ≡ Some e → e < 16777216
-address_good w e h =
-    let g = guard_some (is_address w) (address_value w) e h in
-    let a : hex_value (slice_index w 0) ≤ 15 = hex_most (slice_index w 0) in
-    let b : hex_value (slice_index w (0 + 1)) ≤ 15 = hex_most (slice_index w (0 + 1)) in
-    let c : hex_value (slice_index w (0 + 2)) ≤ 15 = hex_most (slice_index w (0 + 2)) in
-    let d : hex_value (slice_index w (0 + 3)) ≤ 15 = hex_most (slice_index w (0 + 3)) in
-    let f : hex_value (slice_index w 4) ≤ 15 = hex_most (slice_index w 4) in
-    let k : hex_value (slice_index w 5) ≤ 15 = hex_most (slice_index w 5) in
-    below_of (hex_value (slice_index w 0)) (hex_value (slice_index w (0 + 1))) (hex_value (slice_index w (0 + 2))) (hex_value (slice_index w (0 + 3))) (hex_value (slice_index w 4)) (hex_value (slice_index w 5)) e g.1 a b c d f k
-  where
-    below_of : (u v x y z t n : ℕ) → (u * 4096 + v * 256 + x * 16 + y) * 256 + z * 16 + t ≡ n → u ≤ 15 → v ≤ 15 → x ≤ 15 → y ≤ 15 → z ≤ 15 → t ≤ 15 → n < 16777216
-    below_of u v x y z t n e a b c d f k = omega arith
+address_good w e h = address_below w (decode_sized w 3) e refl h
 
 module_good : (n : Option (List ℕ)) (b s : Option ℕ) (c : CardView) → ((m : List ℕ) → n ≡ Some m → IsName m) → module_of n b s ≡ Some c → Good c
 module_good (Some n) (Some b) (Some s) c is e = let g = guard_some (may_stand b s) (Module n b s) c e in subst Good g.1 (is n refl, g.0)

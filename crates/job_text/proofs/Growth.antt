@@ -5,6 +5,7 @@ use Rattle.std.proofs.lemmas.List.{length-replicate}
 use Rattle.std.proofs.lemmas.List.Folds.{list_all-append}
 use Rattle.std.specs.List.{list_all}
 use Rattle.cov_base.specs.Memory.{ImageView}
+use Rattle.cov_base.specs.declared.limits.TheConstants.{MODULE_LIMIT, SIZE_LIMIT, LINE_LIMIT, PHASE_LIMIT, SESSION_LIMIT, TASK_LIMIT, PRIVATE_LIMIT, BUDGET_LIMIT, ROOM_LIMIT}
 use Rattle.session_book.specs.JobView.{JobView, TaskView}
 use Rattle.job_text.specs.Lines.{LineView, listing_text}
 use Rattle.job_text.specs.CardView.{CardView, Cover, Module, Text, Listing, Phase, Session, Task, Reg, Data, Input, End}
@@ -87,41 +88,41 @@ no_room xs x n e = let one : length (xs ++ x ∷ []) ≡ length xs + 1 = omega (
 -- a module more
 
 module_more : (j : JobView) (i : ImageView) (listing : Option (List (List ℕ))) (w : Limit) → keeps w (with_module j i listing) ≡ true → keeps w j ≡ true
-module_more j i listing limit.Modules e = fewer j.images i 16 e
+module_more j i listing limit.Modules e = fewer j.images i MODULE_LIMIT e
 module_more j i listing limit.Size e = first_of is_small j.images i e
 module_more j i listing limit.Line e = first_of are_short j.listings listing e
 module_more j i listing w e = e
 
-module_keeps : (j : JobView) (i : ImageView) → IsWithin j → nat_le 16 (length j.images) ≡ false → is_small i ≡ true → (w : Limit) → keeps w (with_module j i None) ≡ true
-module_keeps j i h room small limit.Modules = room_left j.images i 16 room
+module_keeps : (j : JobView) (i : ImageView) → IsWithin j → nat_le MODULE_LIMIT (length j.images) ≡ false → is_small i ≡ true → (w : Limit) → keeps w (with_module j i None) ≡ true
+module_keeps j i h room small limit.Modules = room_left j.images i MODULE_LIMIT room
 module_keeps j i h room small limit.Size = all_last is_small j.images i (h limit.Size) small
 module_keeps j i h room small limit.Line = all_last are_short j.listings None (h limit.Line) refl
 module_keeps j i h room small w = h w
 
-module_first : (j : JobView) (i : ImageView) → nat_le 16 (length j.images) ≡ false → (w : Limit) → rank w < rank limit.Size → keeps w (with_module j i None) ≡ true
+module_first : (j : JobView) (i : ImageView) → nat_le MODULE_LIMIT (length j.images) ≡ false → (w : Limit) → rank w < rank limit.Size → keeps w (with_module j i None) ≡ true
 module_first j i room limit.Input h = refl
-module_first j i room limit.Modules h = room_left j.images i 16 room
+module_first j i room limit.Modules h = room_left j.images i MODULE_LIMIT room
 module_first j i room w h = absurd (omega arith)
 
 input_first : (j : JobView) (w : Limit) → rank w < rank limit.Modules → keeps w j ≡ true
 input_first j limit.Input h = refl
 input_first j w h = absurd (omega arith)
 
-module_judged : (j : JobView) (i : ImageView) (q r : Bool) → nat_le 16 (length j.images) ≡ q → is_small i ≡ r → IsWithin j →
+module_judged : (j : JobView) (i : ImageView) (q r : Bool) → nat_le MODULE_LIMIT (length j.images) ≡ q → is_small i ≡ r → IsWithin j →
     Judged (cond q (Some limit.Modules) (cond r None (Some limit.Size))) (with_module j i None)
-module_judged j i true r a b h = (no_room j.images i 16 a, input_first (with_module j i None))
+module_judged j i true r a b h = (no_room j.images i MODULE_LIMIT a, input_first (with_module j i None))
 module_judged j i false true a b h = module_keeps j i h a b
 module_judged j i false false a b h = (all_not is_small j.images i b, module_first j i a)
 
-size_of : (name : List ℕ) (base size : ℕ) → is_small (with_bytes (no_bytes name base) (replicate size 0)) ≡ nat_le size 262144
-size_of name base size = ap (λ (n : ℕ). nat_le n 262144) (length-replicate size 0)
+size_of : (name : List ℕ) (base size : ℕ) → is_small (with_bytes (no_bytes name base) (replicate size 0)) ≡ nat_le size SIZE_LIMIT
+size_of name base size = ap (λ (n : ℕ). nat_le n SIZE_LIMIT) (length-replicate size 0)
 
 module_grown : (j : JobView) (name : List ℕ) (base size : ℕ) → Grown j (with_module j (with_bytes (no_bytes name base) (replicate size 0)) None) (module_over j size)
 module_grown j name base size =
     let i : ImageView = with_bytes (no_bytes name base) (replicate size 0) in
     record {
       more = module_more j i None;
-      judged = module_judged j i (nat_le 16 (length j.images)) (nat_le size 262144) refl (size_of name base size);
+      judged = module_judged j i (nat_le MODULE_LIMIT (length j.images)) (nat_le size SIZE_LIMIT) refl (size_of name base size);
     }
 
 -- further bytes of it, its listing, and a line of this
@@ -129,7 +130,7 @@ module_grown j name base size =
 module_alike : (j : JobView) (i k : ImageView) (a b : Option (List (List ℕ))) → is_small i ≡ is_small k → are_short a ≡ are_short b → (w : Limit) → keeps w (with_module j i a) ≡ keeps w (with_module j k b)
 module_alike j i k a b p q limit.Modules =
     let x : length (j.images ++ i ∷ []) ≡ length (j.images ++ k ∷ []) = omega (arith, length-append j.images (i ∷ []), length-append j.images (k ∷ [])) in
-    ap (λ (n : ℕ). nat_le n 16) x
+    ap (λ (n : ℕ). nat_le n MODULE_LIMIT) x
 module_alike j i k a b p q limit.Size = all_same is_small j.images i k p
 module_alike j i k a b p q limit.Line = all_same are_short j.listings a b q
 module_alike j i k a b p q w = refl
@@ -141,10 +142,10 @@ text_grown j i left bytes h =
     let b : ImageView = with_bytes (with_bytes i bytes) (replicate (left - length bytes) 0) in
     let same : length a.bytes ≡ length b.bytes =
     omega (arith, length-append i.bytes (replicate left 0), length-append (i.bytes ++ bytes) (replicate (left - length bytes) 0), length-append i.bytes bytes, length-replicate {A = ℕ} left 0, length-replicate {A = ℕ} (left - length bytes) 0) in
-    alike _ _ (module_alike j a b None None (ap (λ (n : ℕ). nat_le n 262144) same) refl)
+    alike _ _ (module_alike j a b None None (ap (λ (n : ℕ). nat_le n SIZE_LIMIT) same) refl)
 
 abbrev is_short : List ℕ → Bool
-is_short t = nat_le (length t) 150
+is_short t = nat_le (length t) LINE_LIMIT
 
 empty_short : (n : ℕ) → list_all is_short (replicate n []) ≡ true
 empty_short zero = refl
@@ -206,52 +207,52 @@ abbrev put_phase : JobView → List ℕ → JobView
 put_phase j name = record j { phases = j.phases ++ name ∷ [] }
 
 phase_more : (j : JobView) (name : List ℕ) (w : Limit) → keeps w (put_phase j name) ≡ true → keeps w j ≡ true
-phase_more j name limit.Phases e = fewer j.phases name 16 e
+phase_more j name limit.Phases e = fewer j.phases name PHASE_LIMIT e
 phase_more j name w e = e
 
-phase_keeps : (j : JobView) (name : List ℕ) → IsWithin j → nat_le 16 (length j.phases) ≡ false → (w : Limit) → keeps w (put_phase j name) ≡ true
-phase_keeps j name h room limit.Phases = room_left j.phases name 16 room
+phase_keeps : (j : JobView) (name : List ℕ) → IsWithin j → nat_le PHASE_LIMIT (length j.phases) ≡ false → (w : Limit) → keeps w (put_phase j name) ≡ true
+phase_keeps j name h room limit.Phases = room_left j.phases name PHASE_LIMIT room
 phase_keeps j name h room w = h w
 
 phase_first : (j : JobView) (name : List ℕ) → IsWithin j → (w : Limit) → rank w < rank limit.Phases → keeps w (put_phase j name) ≡ true
 phase_first j name h limit.Phases less = absurd (omega arith)
 phase_first j name h w less = h w
 
-phase_judged : (j : JobView) (name : List ℕ) (q : Bool) → nat_le 16 (length j.phases) ≡ q → IsWithin j → Judged (cond q (Some limit.Phases) None) (put_phase j name)
-phase_judged j name true e h = (no_room j.phases name 16 e, phase_first j name h)
+phase_judged : (j : JobView) (name : List ℕ) (q : Bool) → nat_le PHASE_LIMIT (length j.phases) ≡ q → IsWithin j → Judged (cond q (Some limit.Phases) None) (put_phase j name)
+phase_judged j name true e h = (no_room j.phases name PHASE_LIMIT e, phase_first j name h)
 phase_judged j name false e h = phase_keeps j name h e
 
 phase_grown : (j k : JobView) (name : List ℕ) → with_phase j name ≡ Some k → Grown j k (phase_over j)
 phase_grown j k name e =
     let g = guard_none _ (put_phase j name) k e in
-    subst (λ (x : JobView). Grown j x (phase_over j)) g.1 (record { more = phase_more j name; judged = phase_judged j name (nat_le 16 (length j.phases)) refl })
+    subst (λ (x : JobView). Grown j x (phase_over j)) g.1 (record { more = phase_more j name; judged = phase_judged j name (nat_le PHASE_LIMIT (length j.phases)) refl })
 
 session_more : (j : JobView) (name : List ℕ) (ms : List ℕ) (w : Limit) → keeps w (put_session j name ms) ≡ true → keeps w j ≡ true
-session_more j name ms limit.Sessions e = fewer j.sessions _ 16 e
+session_more j name ms limit.Sessions e = fewer j.sessions _ SESSION_LIMIT e
 session_more j name ms w e = e
 
-session_keeps : (j : JobView) (name : List ℕ) (ms : List ℕ) → IsWithin j → nat_le 16 (length j.sessions) ≡ false → (w : Limit) → keeps w (put_session j name ms) ≡ true
-session_keeps j name ms h room limit.Sessions = room_left j.sessions _ 16 room
+session_keeps : (j : JobView) (name : List ℕ) (ms : List ℕ) → IsWithin j → nat_le SESSION_LIMIT (length j.sessions) ≡ false → (w : Limit) → keeps w (put_session j name ms) ≡ true
+session_keeps j name ms h room limit.Sessions = room_left j.sessions _ SESSION_LIMIT room
 session_keeps j name ms h room w = h w
 
 session_first : (j : JobView) (name : List ℕ) (ms : List ℕ) → IsWithin j → (w : Limit) → rank w < rank limit.Sessions → keeps w (put_session j name ms) ≡ true
 session_first j name ms h limit.Sessions less = absurd (omega arith)
 session_first j name ms h w less = h w
 
-session_judged : (j : JobView) (name : List ℕ) (ms : List ℕ) (q : Bool) → nat_le 16 (length j.sessions) ≡ q → IsWithin j → Judged (cond q (Some limit.Sessions) None) (put_session j name ms)
-session_judged j name ms true e h = (no_room j.sessions _ 16 e, session_first j name ms h)
+session_judged : (j : JobView) (name : List ℕ) (ms : List ℕ) (q : Bool) → nat_le SESSION_LIMIT (length j.sessions) ≡ q → IsWithin j → Judged (cond q (Some limit.Sessions) None) (put_session j name ms)
+session_judged j name ms true e h = (no_room j.sessions _ SESSION_LIMIT e, session_first j name ms h)
 session_judged j name ms false e h = session_keeps j name ms h e
 
 session_grown : (j k : JobView) (name : List ℕ) (names : List (List ℕ)) → with_session j name names ≡ Some k → Grown j k (session_over j)
 session_grown j k name names e =
     let g = guard_then _ (option_map (put_session j name) (indices_on j (Some []) names)) k e in
     let m = map_some (put_session j name) (indices_on j (Some []) names) k g.1 in
-    subst (λ (x : JobView). Grown j x (session_over j)) m.gives (record { more = session_more j name m.from; judged = session_judged j name m.from (nat_le 16 (length j.sessions)) refl })
+    subst (λ (x : JobView). Grown j x (session_over j)) m.gives (record { more = session_more j name m.from; judged = session_judged j name m.from (nat_le SESSION_LIMIT (length j.sessions)) refl })
 
 -- a task more
 
 task_more_of : (j : JobView) (t : TaskView) (w : Limit) → keeps w (with_task j t) ≡ true → keeps w j ≡ true
-task_more_of j t limit.Tasks e = fewer j.tasks _ 64 e
+task_more_of j t limit.Tasks e = fewer j.tasks _ TASK_LIMIT e
 task_more_of j t limit.Private e = first_of has_private j.tasks _ e
 task_more_of j t limit.Budget e = first_of has_budget j.tasks _ e
 task_more_of j t limit.Room e = first_of has_room j.tasks _ e
@@ -259,13 +260,13 @@ task_more_of j t w e = e
 
 -- it keeps each limit that comes before this one
 record TaskKeeps (j : JobView) (t : TaskView) (n : ℕ) : Type 0 where
-  count : 7 < n → nat_le 64 (length j.tasks) ≡ false
+  count : 7 < n → nat_le TASK_LIMIT (length j.tasks) ≡ false
   private : 8 < n → has_private t ≡ true
   budget : 9 < n → has_budget t ≡ true
   room : 10 < n → has_room t ≡ true
 
 task_first : (j : JobView) (t : TaskView) (n : ℕ) → IsWithin j → TaskKeeps j t n → (w : Limit) → rank w < n → keeps w (with_task j t) ≡ true
-task_first j t n h k limit.Tasks less = room_left j.tasks _ 64 (k.count less)
+task_first j t n h k limit.Tasks less = room_left j.tasks _ TASK_LIMIT (k.count less)
 task_first j t n h k limit.Private less = all_last has_private j.tasks _ (h limit.Private) (k.private less)
 task_first j t n h k limit.Budget less = all_last has_budget j.tasks _ (h limit.Budget) (k.budget less)
 task_first j t n h k limit.Room less = all_last has_room j.tasks _ (h limit.Room) (k.room less)
@@ -284,10 +285,10 @@ rank_most limit.Private = omega arith
 rank_most limit.Budget = omega arith
 rank_most limit.Room = omega arith
 
-task_judged : (j : JobView) (t : TaskView) (q a b c : Bool) → nat_le 64 (length j.tasks) ≡ q → has_private t ≡ a → has_budget t ≡ b → has_room t ≡ c → IsWithin j →
+task_judged : (j : JobView) (t : TaskView) (q a b c : Bool) → nat_le TASK_LIMIT (length j.tasks) ≡ q → has_private t ≡ a → has_budget t ≡ b → has_room t ≡ c → IsWithin j →
     Judged (cond q (Some limit.Tasks) (cond a (cond b (cond c None (Some limit.Room)) (Some limit.Budget)) (Some limit.Private))) (with_task j t)
 task_judged j t true a b c e p u r h =
-    (no_room j.tasks _ 64 e, task_first j t 7 h (record { count = λ l. absurd (omega (arith, l)); private = λ l. absurd (omega (arith, l)); budget = λ l. absurd (omega (arith, l)); room = λ l. absurd (omega (arith, l)) }))
+    (no_room j.tasks _ TASK_LIMIT e, task_first j t 7 h (record { count = λ l. absurd (omega (arith, l)); private = λ l. absurd (omega (arith, l)); budget = λ l. absurd (omega (arith, l)); room = λ l. absurd (omega (arith, l)) }))
 task_judged j t false false b c e p u r h =
     (all_not has_private j.tasks _ p, task_first j t 8 h (record { count = λ l. e; private = λ l. absurd (omega (arith, l)); budget = λ l. absurd (omega (arith, l)); room = λ l. absurd (omega (arith, l)) }))
 task_judged j t false true false c e p u r h =
@@ -302,7 +303,7 @@ task_grown j name entry private budget room =
     let t : TaskView = (fresh_task name entry private budget room).task in
     record {
       more = task_more_of j t;
-      judged = task_judged j t (nat_le 64 (length j.tasks)) (nat_le private 1048576) (nat_le budget 50000000) (nat_le room 65536) refl refl refl refl;
+      judged = task_judged j t (nat_le TASK_LIMIT (length j.tasks)) (nat_le private PRIVATE_LIMIT) (nat_le budget BUDGET_LIMIT) (nat_le room ROOM_LIMIT) refl refl refl refl;
     }
 
 -- further cards of it
@@ -315,10 +316,10 @@ record SameSizes (t u : TaskView) : Type 0 where
 task_alike : (j : JobView) (t u : TaskView) → SameSizes t u → (w : Limit) → keeps w (with_task j t) ≡ keeps w (with_task j u)
 task_alike j t u s limit.Tasks =
     let x : length (with_task j t).tasks ≡ length (with_task j u).tasks = omega (arith, length-append {A = TaskView}) in
-    ap (λ (n : ℕ). nat_le n 64) x
-task_alike j t u s limit.Private = all_same has_private j.tasks _ _ (ap (λ (n : ℕ). nat_le n 1048576) s.private)
-task_alike j t u s limit.Budget = all_same has_budget j.tasks _ _ (ap (λ (n : ℕ). nat_le n 50000000) s.budget)
-task_alike j t u s limit.Room = all_same has_room j.tasks _ _ (ap (λ (n : ℕ). nat_le n 65536) s.room)
+    ap (λ (n : ℕ). nat_le n TASK_LIMIT) x
+task_alike j t u s limit.Private = all_same has_private j.tasks _ _ (ap (λ (n : ℕ). nat_le n PRIVATE_LIMIT) s.private)
+task_alike j t u s limit.Budget = all_same has_budget j.tasks _ _ (ap (λ (n : ℕ). nat_le n BUDGET_LIMIT) s.budget)
+task_alike j t u s limit.Room = all_same has_room j.tasks _ _ (ap (λ (n : ℕ). nat_le n ROOM_LIMIT) s.room)
 task_alike j t u s w = refl
 
 same_sizes : (t : TaskView) (p q : TaskPart) → p ≡ q → SameSizes t p.task → SameSizes t q.task

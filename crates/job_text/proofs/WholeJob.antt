@@ -12,6 +12,7 @@ use Rattle.std.proofs.lemmas.List.Sums.{AllPass-from_list_all}
 use Rattle.cov_base.specs.Memory.{ImageView}
 use Rattle.module_area.specs.Images.{IsImage, AreClear}
 use Rattle.module_area.specs.Views.{DataView}
+use Rattle.cov_base.specs.declared.limits.TheConstants.{MODULE_LIMIT, SIZE_LIMIT, LINE_LIMIT, PHASE_LIMIT, SESSION_LIMIT, TASK_LIMIT, PRIVATE_LIMIT, BUDGET_LIMIT, ROOM_LIMIT}
 use Rattle.session_book.specs.JobView.{JobView, SessionView, TaskView, IsJob, IsSession, IsListing, AreParted, Differ, first_regs}
 use Rattle.session_book.specs.Sessions.{observes}
 use Rattle.job_text.specs.Lines.{LineView}
@@ -346,7 +347,7 @@ at_most : (n k : ℕ) → nat_le n k ≡ true → n ≤ k
 at_most n k e = grind (arith, nat_tests)
 
 short_listing : (o : Option (List (List ℕ))) → are_short o ≡ true → IsListing o
-short_listing (Some texts) e = λ k d l. at_most (length (get_or texts k d)) 150 (AllPass-from_list_all (λ (t : List ℕ). nat_le (length t) 150) texts e k d l)
+short_listing (Some texts) e = λ k d l. at_most (length (get_or texts k d)) LINE_LIMIT (AllPass-from_list_all (λ (t : List ℕ). nat_le (length t) LINE_LIMIT) texts e k d l)
 short_listing None e = tt
 
 job_keeps : (ls : List LineView) (job : JobView) → Spells ls job → IsWithin job → IsJob job
@@ -355,12 +356,12 @@ job_keeps ls job p within =
     record {
       listings = s.listings;
       images = record { each = s.each; apart = s.apart };
-      sizes = λ k d l. at_most _ 262144 (AllPass-from_list_all _ job.images (within limit.Size) k d l);
-      modules = at_most (length job.images) 16 (within limit.Modules);
+      sizes = λ k d l. at_most _ SIZE_LIMIT (AllPass-from_list_all _ job.images (within limit.Size) k d l);
+      modules = at_most (length job.images) MODULE_LIMIT (within limit.Modules);
       lines = λ k d l. short_listing (get_or job.listings k d) (AllPass-from_list_all are_short job.listings (within limit.Line) k d l);
-      phases = at_most (length job.phases) 16 (within limit.Phases);
-      sessions = at_most (length job.sessions) 16 (within limit.Sessions);
-      tasks = at_most (length job.tasks) 64 (within limit.Tasks);
+      phases = at_most (length job.phases) PHASE_LIMIT (within limit.Phases);
+      sessions = at_most (length job.sessions) SESSION_LIMIT (within limit.Sessions);
+      tasks = at_most (length job.tasks) TASK_LIMIT (within limit.Tasks);
       are_sessions = s.are_sessions;
       parted = s.parted;
       are_tasks = λ k d l.
@@ -368,10 +369,10 @@ job_keeps ls job p within =
           record {
             phase = t.phase;
             entry = t.entry;
-            private = at_most _ 1048576 (AllPass-from_list_all _ job.tasks (within limit.Private) k d l);
+            private = at_most _ PRIVATE_LIMIT (AllPass-from_list_all _ job.tasks (within limit.Private) k d l);
             some = t.some;
-            budget = at_most _ 50000000 (AllPass-from_list_all _ job.tasks (within limit.Budget) k d l);
-            room = at_most _ 65536 (AllPass-from_list_all _ job.tasks (within limit.Room) k d l);
+            budget = at_most _ BUDGET_LIMIT (AllPass-from_list_all _ job.tasks (within limit.Budget) k d l);
+            room = at_most _ ROOM_LIMIT (AllPass-from_list_all _ job.tasks (within limit.Room) k d l);
             regs = t.regs;
             cards = t.cards;
           };

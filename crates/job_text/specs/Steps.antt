@@ -1,6 +1,7 @@
 -- The reader's states, and what a line makes of each. Only private contracts cite this.
 use Rattle.std.specs.Prelude.{◌≡◌, ℕ, ◌+◌, ◌-◌, ◌≤◌, Bool, true, false, not, nat_eq, nat_le, if◌then◌else◌, Option, Some, None, List, [], ◌∷◌, ◌++◌, length, option_map, option_and_then}
 use Rattle.cov_base.specs.Memory.{ImageView}
+use Rattle.cov_base.specs.declared.limits.TheConstants.{MODULE_LIMIT, SIZE_LIMIT, LINE_LIMIT, PHASE_LIMIT, SESSION_LIMIT, TASK_LIMIT, PRIVATE_LIMIT, BUDGET_LIMIT, ROOM_LIMIT}
 use Rattle.session_book.specs.JobView.{JobView}
 use Rattle.job_text.specs.Lines.{LineView, listing_text}
 use Rattle.job_text.specs.CardView.{CardView, Cover, Module, Text, Listing, Phase, Session, Task, End}
@@ -67,21 +68,21 @@ abbrev pub with_bytes : ImageView → List ℕ → ImageView
 with_bytes i bytes = record i { bytes = i.bytes ++ bytes }
 
 abbrev pub module_over : JobView → ℕ → Option Limit
-module_over j size = if nat_le 16 (length j.images) then Some limit.Modules else (if nat_le size 262144 then None else Some limit.Size)
+module_over j size = if nat_le MODULE_LIMIT (length j.images) then Some limit.Modules else (if nat_le size SIZE_LIMIT then None else Some limit.Size)
 
 abbrev pub line_over : List ℕ → Option Limit
-line_over text = if nat_le (length text) 150 then None else Some limit.Line
+line_over text = if nat_le (length text) LINE_LIMIT then None else Some limit.Line
 
 abbrev pub phase_over : JobView → Option Limit
-phase_over j = if nat_le 16 (length j.phases) then Some limit.Phases else None
+phase_over j = if nat_le PHASE_LIMIT (length j.phases) then Some limit.Phases else None
 
 abbrev pub session_over : JobView → Option Limit
-session_over j = if nat_le 16 (length j.sessions) then Some limit.Sessions else None
+session_over j = if nat_le SESSION_LIMIT (length j.sessions) then Some limit.Sessions else None
 
 abbrev pub task_over : JobView → ℕ → ℕ → ℕ → Option Limit
 task_over j private budget room =
-    if nat_le 64 (length j.tasks) then Some limit.Tasks
-    else (if nat_le private 1048576 then (if nat_le budget 50000000 then (if nat_le room 65536 then None
+    if nat_le TASK_LIMIT (length j.tasks) then Some limit.Tasks
+    else (if nat_le private PRIVATE_LIMIT then (if nat_le budget BUDGET_LIMIT then (if nat_le room ROOM_LIMIT then None
     else Some limit.Room)
     else Some limit.Budget)
     else Some limit.Private)
@@ -148,8 +149,8 @@ open_modules p = 0
 
 -- what was read is within the limits that numbers of 32 bits need
 pub record HasRoom (p : Part) (j : JobView) : Type 0 where
-  pub modules : length j.images + open_modules p ≤ 16
-  pub phases : length j.phases ≤ 16
+  pub modules : length j.images + open_modules p ≤ MODULE_LIMIT
+  pub phases : length j.phases ≤ PHASE_LIMIT
 
 -- how a line is refused: it is bad, or it passes a limit
 abbrev pub Refuses : Option State → LineRefused → Type 0

@@ -6,7 +6,7 @@ use module_area::DataCard;
 
 /// What a REG card says: the number of a general register, 0 to 15, and its word as the task begins.
 #[derive(Clone, Copy)]
-pub struct RegCard {
+pub(crate) struct RegCard {
     pub number: u8,
     pub value: u32,
     ghost in_range: { number ≤ 15 },
@@ -16,7 +16,7 @@ pub struct RegCard {
 /// instructions. The rules of one card alone hold: a module stands on a doubleword from X'100000' on, has an even
 /// size of at least 2 and ends by X'FFF000'; a budget is at least 1; TEXT, DATA and INPUT have 1 to 64 bytes; a register is one of 16. No limit is tested.
 #[derive(Drop)]
-pub enum Card {
+pub(crate) enum Card {
     /// `COVERJOB 1`
     Cover,
     /// `MODULE name base size`

@@ -183,7 +183,7 @@ fn card_of(alloc: Global, words: &[&[u8]]) -> Result<Option<Card>, AllocError>
 }
 
 /// The card that the line is; none exactly where it is no card.
-pub fn read_card(alloc: Global, line: &[u8]) -> Result<Option<Card>, AllocError>
+pub(crate) fn read_card(alloc: Global, line: &[u8]) -> Result<Option<Card>, AllocError>
     ensures { IfOk result (λ o. option_map view o ≡ spell.card_at line.now) }
 {
     let words = split(alloc, line)?;

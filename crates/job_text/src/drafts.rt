@@ -2,6 +2,7 @@
 ghost use Rattle.std.specs.Prelude.{◌≡◌, ℕ, ◌+◌, ◌≤◌, ◌<◌, ◌&&◌, [], Option, Some, None, IfOk, IfSome, IsErrOf, nat_eq, length, option_map};
 ghost use Rattle.std.specs.List.{list_any, list_all};
 ghost use Rattle.std.specs.Str.{bytes_eq};
+ghost use Rattle.cov_base.specs.declared.limits.TheConstants.{MODULE_LIMIT, PHASE_LIMIT};
 ghost use Rattle.session_book.specs.Sessions.{observes};
 ghost use Rattle.job_text.specs.Adding as adding;
 ghost use Rattle.job_text.specs.Steps as machine;
@@ -77,7 +78,7 @@ fn is_in_session(job: &Draft, phase: u32, m: u32) -> bool
 }
 
 fn this_phase(job: &Draft) -> u32
-    requires { length job.now.phases ≤ 16 }
+    requires { length job.now.phases ≤ PHASE_LIMIT }
     ensures { result ≡ adding.this_phase job.now }
 {
     let count = job.phases.len() as u32;
@@ -85,7 +86,7 @@ fn this_phase(job: &Draft) -> u32
 }
 
 fn is_free(job: &Draft, used: &[u32], m: u32) -> bool
-    requires { length job.now.phases ≤ 16 }
+    requires { length job.now.phases ≤ PHASE_LIMIT }
     ensures { result ≡ adding.is_free job.now used.now m }
 {
     !has_index(used, m) && !is_in_session(job, this_phase(job), m)
@@ -93,8 +94,8 @@ fn is_free(job: &Draft, used: &[u32], m: u32) -> bool
 
 /// The modules behind these, with the one of this name; none where it may not come.
 fn put_index(job: &Draft, mut used: Vec<u32>, name: &Name) -> Result<Option<Vec<u32>>, NoMemory>
-    requires modules { length job.now.images ≤ 16 }
-    requires phases { length job.now.phases ≤ 16 }
+    requires modules { length job.now.images ≤ MODULE_LIMIT }
+    requires phases { length job.now.phases ≤ PHASE_LIMIT }
     ensures { IfOk result (λ o. adding.put_index job.now used.items (adding.index_of job.now name.now) ≡ option_map (λ v. v.items) o) }
 {
     match index_of(job, name) {
@@ -111,8 +112,8 @@ fn put_index(job: &Draft, mut used: Vec<u32>, name: &Name) -> Result<Option<Vec<
 }
 
 fn indices(alloc: Global, job: &Draft, names: &[Name]) -> Result<Option<Vec<u32>>, NoMemory>
-    requires modules { length job.now.images ≤ 16 }
-    requires phases { length job.now.phases ≤ 16 }
+    requires modules { length job.now.images ≤ MODULE_LIMIT }
+    requires phases { length job.now.phases ≤ PHASE_LIMIT }
     ensures { IfOk result (λ o. adding.indices_on job.now (Some []) names.now ≡ option_map (λ v. v.items) o) }
 {
     let mut used = Vec::new(alloc);
@@ -134,7 +135,7 @@ fn put_module(mut job: Draft, image: Image, listing: Option<Lines>) -> Result<Dr
 }
 
 fn put_task(mut job: Draft, task: TaskCard) -> Result<Draft, NoMemory>
-    requires { length job.phases ≤ 16 }
+    requires { length job.phases ≤ PHASE_LIMIT }
     ensures { IfOk result (λ d. d ≡ adding.with_task job task) }
 {
     let phase = this_phase(&job);
@@ -160,8 +161,8 @@ pub(crate) fn with_session(
     name: Name,
     names: &[Name],
 ) -> Result<Option<Draft>, NoMemory>
-    requires modules { length job.images ≤ 16 }
-    requires phases { length job.phases ≤ 16 }
+    requires modules { length job.images ≤ MODULE_LIMIT }
+    requires phases { length job.phases ≤ PHASE_LIMIT }
     ensures { IfOk result (λ o. o ≡ adding.with_session job name names.now) }
 {
     if has_session(&job, &name) {

@@ -1,5 +1,6 @@
 //! Reads a job.
 ghost use Rattle.std.specs.Prelude.{◌≡◌, ℕ, ◌≤◌, IfOk, IfErr, length, take};
+ghost use Rattle.cov_base.specs.declared.constants.TheConstants.{INPUT_LIMIT};
 ghost use Rattle.session_book.specs.JobView.{JobView};
 ghost use Rattle.job_text.specs.Lines.{lines_of};
 ghost use Rattle.job_text.specs.Limits.{IsWithin};
@@ -34,9 +35,9 @@ pub enum JobFault {
 }
 
 /// Reads the job that the input's first lines spell. The bytes after its ENDJOB line are the caller's. The input has
-/// at most 16,777,216 bytes; neither `Limit::Input` nor `Limit::Places` is answered.
+/// at most `INPUT_LIMIT` bytes; neither `Limit::Input` nor `Limit::Places` is answered.
 pub fn read_job(alloc: Global, input: &[u8]) -> Result<ReadJob, JobFault>
-    requires { length input.now ≤ 16777216 }
+    requires { length input.now ≤ INPUT_LIMIT }
     ensures job { IfOk result (IsRead input.now) }
     ensures only { (n : ℕ) (job : JobView) → n ≤ length (lines_of input.now) → Spells (take n (lines_of input.now)) job → IsWithin job → IsOnly n job result }
     ensures fault { IfErr result (IsRefusal (lines_of input.now)) }
@@ -71,9 +72,9 @@ pub fn read_job(alloc: Global, input: &[u8]) -> Result<ReadJob, JobFault>
 }
 
 /// Reads the job that all of the input's lines spell. Where a line follows ENDJOB it is `BadJob` at that line. The input
-/// has at most 16,777,216 bytes.
+/// has at most `INPUT_LIMIT` bytes.
 pub fn read_whole_job(alloc: Global, input: &[u8]) -> Result<Job, JobFault>
-    requires { length input.now ≤ 16777216 }
+    requires { length input.now ≤ INPUT_LIMIT }
     ensures job { IfOk result (Spells (lines_of input.now)) }
     ensures within { IfOk result IsWithin }
     ensures only { (job : JobView) → Spells (lines_of input.now) job → IsWithin job → IfOk result (λ found. found ≡ job) }

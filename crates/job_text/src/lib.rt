@@ -14,8 +14,6 @@ mod steps;
 mod task;
 mod words;
 
-pub use card::{Card, RegCard};
-pub use cards::read_card;
 pub use jobs::{JobFault, ReadJob, read_job, read_whole_job};
 pub use limit::Limit;
 pub use lines::{FirstLine, first_line};

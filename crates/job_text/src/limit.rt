@@ -1,20 +1,28 @@
 //! What is limited.
 
-/// A quantity with a limit, in the order in which limits are told: bytes of input (16,777,216), modules (16), bytes
-/// of a module (262,144), bytes of a listing line (150), places (65,536), phases, sessions (16 each), tasks (64),
-/// bytes of a task's private storage (1,048,576), its budget (50,000,000 instructions) and bytes of its output
-/// (65,536).
+/// A quantity with a limit, in the order in which limits are told. cov_base has the limits, as `MODULE_LIMIT`.
 #[derive(Clone, Copy, Debug, PartialEq, Eq)]
 pub enum Limit {
+    /// Bytes of input.
     Input,
+    /// Modules.
     Modules,
+    /// Bytes of a module.
     Size,
+    /// Bytes of a line of a listing.
     Line,
+    /// Places.
     Places,
+    /// Phases.
     Phases,
+    /// Sessions.
     Sessions,
+    /// Tasks.
     Tasks,
+    /// Bytes of a task's private storage.
     Private,
+    /// A task's budget in instructions.
     Budget,
+    /// Bytes of a task's output.
     Room,
 }

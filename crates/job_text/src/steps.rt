@@ -1,5 +1,6 @@
 //! Takes a job line by line.
 ghost use Rattle.std.specs.Prelude.{◌≡◌, ℕ, ◌<◌, ◌≤◌, true, Option, Some, None, IfOk, IfErr, length};
+ghost use Rattle.cov_base.specs.declared.limits.TheConstants.{PHASE_LIMIT};
 ghost use Rattle.session_book.specs.JobView.{IsJob};
 ghost use Rattle.job_text.specs.CardView as says;
 ghost use Rattle.job_text.specs.Lines.{LineView};
@@ -15,7 +16,10 @@ use crate::lines::listing_text;
 use crate::parts::{Draft, Part};
 use crate::refused::LineRefused;
 use crate::task::fresh_task;
-use cov_base::{Addr, Name};
+use cov_base::{
+    Addr, BUDGET_LIMIT, LINE_LIMIT, MODULE_LIMIT, Name, PHASE_LIMIT, PRIVATE_LIMIT, ROOM_LIMIT,
+    SESSION_LIMIT, SIZE_LIMIT, TASK_LIMIT,
+};
 use listing_lines::ListingLine;
 use module_area::{Image, Images};
 use session_book::{Job, Lines};
@@ -250,7 +254,7 @@ impl JobReader {
                 left,
                 mut lines,
             } => {
-                if text.len() > 150 {
+                if text.len() > LINE_LIMIT {
                     return Err(LineRefused::TooLarge(Limit::Line));
                 }
                 lines.0.push(ListingLine::new(text.to_vec(alloc)?))?;
@@ -325,17 +329,17 @@ fn open_module(
     base: Addr,
     size: u32,
 ) -> Result<JobReader, LineRefused>
-    requires { length job.phases ≤ 16 }
+    requires { length job.phases ≤ PHASE_LIMIT }
     ensures ok { IfOk result (λ r. machine.open_module name base size job ≡ Some (machine.plain r)) }
     ensures err { IfErr result (machine.Refuses (machine.open_module name base size job)) }
 {
     if !fits(&job, &name, base.get(), size) {
         return Err(LineRefused::Bad);
     }
-    if job.images.len() >= 16 {
+    if job.images.len() >= MODULE_LIMIT {
         return Err(LineRefused::TooLarge(Limit::Modules));
     }
-    if size > 262_144 {
+    if size > SIZE_LIMIT {
         return Err(LineRefused::TooLarge(Limit::Size));
     }
     let image = Image {
@@ -358,7 +362,7 @@ fn open_phase(job: Draft, name: Name) -> Result<JobReader, LineRefused>
     match with_phase(job, name)? {
         None => Err(LineRefused::Bad),
         Some(job) => {
-            if count >= 16 {
+            if count >= PHASE_LIMIT {
                 return Err(LineRefused::TooLarge(Limit::Phases));
             }
             Ok(JobReader {
@@ -383,7 +387,7 @@ fn add_session(
     match with_session(alloc, job, name, names)? {
         None => Err(LineRefused::Bad),
         Some(job) => {
-            if count >= 16 {
+            if count >= SESSION_LIMIT {
                 return Err(LineRefused::TooLarge(Limit::Sessions));
             }
             Ok(JobReader {
@@ -410,16 +414,16 @@ fn open_task(
     if has_task(&job, &name) {
         return Err(LineRefused::Bad);
     }
-    if job.tasks.len() >= 64 {
+    if job.tasks.len() >= TASK_LIMIT {
         return Err(LineRefused::TooLarge(Limit::Tasks));
     }
-    if private > 1_048_576 {
+    if private > PRIVATE_LIMIT {
         return Err(LineRefused::TooLarge(Limit::Private));
     }
-    if budget > 50_000_000 {
+    if budget > BUDGET_LIMIT {
         return Err(LineRefused::TooLarge(Limit::Budget));
     }
-    if room > 65_536 {
+    if room > ROOM_LIMIT {
         return Err(LineRefused::TooLarge(Limit::Room));
     }
     Ok(JobReader {

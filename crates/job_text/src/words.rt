@@ -6,7 +6,7 @@ ghost use Rattle.cov_base.specs.Names.{is_digit};
 ghost use Rattle.job_text.specs.Words as spell;
 
 use cov_base::{Addr, Name};
-use hex::FromHexError;
+use hex::{FromHex, FromHexError};
 use std::alloc::{AllocError, Global};
 
 pub(crate) fn first_blank(rest: &[u8]) -> Option<usize>
@@ -83,95 +83,26 @@ pub(crate) fn bytes_of(alloc: Global, word: &[u8]) -> Result<Option<Vec<u8>>, Al
     }
 }
 
-fn is_upper_hex(b: u8) -> bool
-    ensures { result ≡ spell.is_upper_hex b }
-{
-    b >= b'A' && b <= b'F'
-}
-
-fn is_lower_hex(b: u8) -> bool
-    ensures { result ≡ spell.is_lower_hex b }
-{
-    b >= b'a' && b <= b'f'
-}
-
-fn is_hex(b: u8) -> bool
-    ensures { result ≡ spell.is_hex b }
-{
-    is_digit(b) || (is_upper_hex(b) || is_lower_hex(b))
-}
-
-fn hex_value(b: u8) -> u32
-    ensures value { result ≡ spell.hex_value b }
-    ensures below { result ≤ 15 }
-{
-    if is_digit(b) {
-        u32::from(b) - 48
-    } else if is_upper_hex(b) {
-        u32::from(b) - 55
-    } else if is_lower_hex(b) {
-        u32::from(b) - 87
-    } else {
-        0
-    }
-}
-
-/// The value of the four digits from `k` on.
-fn half_value(word: &[u8], k: usize) -> u32
-    requires { k + 4 ≤ length word.now }
-    ensures value { result ≡ spell.half_value word.now k }
-    ensures below { result < 65536 }
-{
-    hex_value(word[k]) * 4096
-        + hex_value(word[k + 1]) * 256
-        + hex_value(word[k + 2]) * 16
-        + hex_value(word[k + 3])
-}
-
-fn all_hex(word: &[u8]) -> bool
-    ensures { result ≡ list_all spell.is_hex word.now }
-{
-    word.iter().all(|b| is_hex(*b))
-}
-
-fn is_address(word: &[u8]) -> bool
-    ensures { result ≡ spell.is_address word.now }
-{
-    word.len() == 6 && all_hex(word)
-}
-
-fn address_value(word: &[u8]) -> u32
-    requires { length word.now ≡ 6 }
-    ensures value { result ≡ spell.address_value word.now }
-    ensures below { result < 16777216 }
-{
-    half_value(word, 0) * 256 + hex_value(word[4]) * 16 + hex_value(word[5])
-}
-
 /// The address of six hexadecimal digits of either case.
 pub(crate) fn address_of(word: &[u8]) -> Option<Addr>
     ensures { result ≡ spell.address_at word.now }
 {
-    if !is_address(word) {
-        return None;
+    match <[u8; 3] as FromHex>::from_hex(word) {
+        Ok(bytes) => Addr::new(
+            u32::from(bytes[0]) * 65_536 + u32::from(bytes[1]) * 256 + u32::from(bytes[2]),
+        ),
+        Err(_) => None,
     }
-    Addr::new(address_value(word))
-}
-
-fn is_word(word: &[u8]) -> bool
-    ensures { result ≡ spell.is_word word.now }
-{
-    word.len() == 8 && all_hex(word)
 }
 
 /// The word of eight hexadecimal digits of either case.
 pub(crate) fn word_of(word: &[u8]) -> Option<u32>
     ensures { result ≡ spell.word_at word.now }
 {
-    if !is_word(word) {
-        return None;
+    match <[u8; 4] as FromHex>::from_hex(word) {
+        Ok(bytes) => Some(u32::from_be_bytes(bytes)),
+        Err(_) => None,
     }
-    Some(half_value(word, 0) * 65_536 + half_value(word, 4))
 }
 
 /// The names that the words spell; none where one of them is no name.
