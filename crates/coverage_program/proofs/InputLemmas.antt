@@ -19,10 +19,6 @@ few_of lines j most s =
     fewer n (Some texts) h f = omega (arith, h, f)
 
 -- a listing's lines are lines of the input
-pub few_lines : (bytes : List ℕ) (j : JobView) → length bytes ≤ 16777216 → Spells (lines_of bytes) j → HasFewLines j
-few_lines bytes j most s = few_of (lines_of bytes) j (omega (arith, most, lines_count bytes)) s
-
--- and those of a job that the first lines spell
 pub few_first : (bytes : List ℕ) (r : ReadJob) → length bytes ≤ 16777216 → IsRead bytes r → HasFewLines r.job
 few_first bytes r most read =
     let size : length (lines_of bytes) ≡ length (lines_of (take r.end bytes)) + length (lines_of (drop r.end bytes)) = ap length read.parted ∙ length-append (lines_of (take r.end bytes)) (lines_of (drop r.end bytes)) in

@@ -5,3 +5,5 @@ pub mod InputLemmas
 pub mod OneTables
 pub mod ReplayLemmas
 pub mod TableLemmas
+pub mod UntouchedLemmas
+pub mod RunLemmas

@@ -1,5 +1,5 @@
 -- A schedule's items one by one, and a task's events up to its end.
-use Rattle.std.proofs.Common.{◌≡◌, ℕ, zero, suc, ◌+◌, ◌<◌, ◌≤◌, Bool, true, false, nat_eq, ◌==◌, if◌then◌else◌, Option, Some, None, Result, codes, List, [], ◌∷◌, ◌++◌, ◌-◌, length, length-append, get_or, subst, refl, sym, ap, ◌∙◌, arith, append-nil}
+use Rattle.std.proofs.Common.{◌≡◌, ℕ, suc, ◌+◌, ◌<◌, ◌≤◌, Bool, true, false, nat_eq, ◌==◌, if◌then◌else◌, Option, Some, None, Result, codes, List, [], ◌∷◌, ◌++◌, ◌-◌, length, length-append, get_or, subst, refl, sym, ap, ◌∙◌, arith, append-nil}
 use Rattle.std.proofs.lemmas.List.{get_or_default}
 use Rattle.interleave_core.specs.World.{World, Parts}
 use Rattle.cov_base.specs.Facts.{is_within}

@@ -1,6 +1,9 @@
 pub mod Answers
+pub mod Changes
+pub mod Complete
 pub mod Refusals
 pub mod Refused
 pub mod Reports
 pub mod Words
 pub mod Replay
+pub mod Untouched

@@ -1,5 +1,5 @@
 -- A schedule played on a core, and the text that tells it.
-use Rattle.std.specs.Prelude.{◌≡◌, ℕ, zero, suc, ◌+◌, ◌-◌, ◌*◌, Bool, true, false, nat_eq, if◌then◌else◌, Option, Some, None, is_none, List, [], ◌∷◌, ◌++◌, length, get_or, codes, decimal}
+use Rattle.std.specs.Prelude.{◌≡◌, ℕ, zero, suc, ◌+◌, ◌-◌, ◌*◌, Bool, true, false, nat_eq, if◌then◌else◌, Option, Some, None, is_none, is_some, IsSome, List, [], ◌∷◌, ◌++◌, length, get_or, codes, decimal}
 use Rattle.annotator.specs.Digits.{hex_digits}
 use Rattle.cov_base.specs.FactSet.{FactSet}
 use Rattle.cov_base.specs.Names.{unpadded}
@@ -10,11 +10,11 @@ use Rattle.brk_table.specs.Places.{TablesView}
 use Rattle.session_book.specs.JobView.{JobView}
 use Rattle.session_book.specs.Sessions.{task_of}
 use Rattle.interleave_core.specs.World.{World, TaskPart, Parts, part_of, plan_in, budget_in, first_parts}
+use Rattle.interleave_core.specs.Core.{CoreState, core_run}
 use Rattle.interleave_core.specs.Steps.{Stepped, parts_step, is_spent, set_of}
 use Rattle.interleave_core.specs.Results.{next_of, results_of}
 use Rattle.interleave_core.specs.declared.stage.Due.{Due}
 use Rattle.interleave_core.specs.declared.stage.Due.TheVariants.{Marking, Lifting, Nothing}
-use Rattle.interleave_core.specs.declared.stage.Hand.{Hand}
 use Rattle.interleave_core.specs.declared.stage.Stage.{Stage}
 use Rattle.interleave_core.specs.declared.stage.Stage.TheVariants.{Ready, Awaiting, Holding, Ended}
 use Rattle.interleave_core.specs.declared.events.Event.{Event}
@@ -41,8 +41,12 @@ abbrev pub after : Parts → Option Stepped → Parts
 after c None = c
 after c (Some x) = x.parts
 
+-- the plant of a place for its session
+abbrev pub plant_of : World → ℕ → Event
+plant_of w p = event.Plant (record { 0 = window_at (plan_in w) p }) (record { 0 = p })
+
 abbrev pub plant_at : World → Parts → ℕ → Parts
-plant_at w c p = after c (parts_step w c (event.Plant (record { 0 = window_at (plan_in w) p }) (record { 0 = p })))
+plant_at w c p = after c (parts_step w c (plant_of w p))
 
 -- before the first item the places that a session observes are planted in their order, from place p on so many
 abbrev pub planted_from : World → ℕ → ℕ → Parts → Parts
@@ -77,13 +81,17 @@ abbrev pub go : World → ℕ → Parts → TaskNo → Parts
 go w zero c t = c
 go w (suc n) c t = go_by (λ d. go w n d t) w c (next_of w c t)
 
--- an item, where it is possible: one event, or all of a task that hasn't ended
+-- the task has ended
+abbrev pub gone : Parts → TaskNo → Option Stepped
+gone d t = if is_some (results_of d t.0).ending then Some (record { parts = d; shown = Done }) else None
+
+-- an item, where it is possible: one event, or all of a task that hasn't ended, which then has
 abbrev pub play_item : World → Parts → Item → Option Stepped
 play_item w c (Fetch t) = parts_step w c (event.Fetch t)
 play_item w c (Mark t) = parts_step w c (event.Mark t)
 play_item w c (Lift t) = parts_step w c (event.Lift t)
 play_item w c (Do t) = parts_step w c (event.Do t)
-play_item w c (Go t) = if is_none (next_of w c t) then None else Some (record { parts = go w (left w c t.0) c t; shown = Done })
+play_item w c (Go t) = if is_none (next_of w c t) then None else gone (go w (left w c t.0) c t) t
 play_item w c End = None
 
 abbrev pub with_item : Played → Play → Play
@@ -117,6 +125,58 @@ abbrev pub play_of : JobView → List Place → ℕ → List LineView → Play
 play_of j places count lines =
     let w : World = record { job = j; places = places } in
     if nat_eq (length j.phases) 1 then play w (count + 1) (planted w) lines else Bad 0
+
+-- an event that is passed over where it isn't possible
+abbrev pub where_possible : Event → Option Stepped → List Event
+where_possible e None = []
+where_possible e (Some x) = e ∷ []
+
+-- the events of `planted_from`
+abbrev pub plants_from : World → ℕ → ℕ → Parts → List Event
+plants_from w p zero c = []
+plants_from w p (suc count) c = where_possible (plant_of w p) (parts_step w c (plant_of w p)) ++ plants_from w (p + 1) count (plant_at w c p)
+
+abbrev pub next_events : (Parts → List Event) → World → Parts → Option Event → List Event
+next_events more w c None = []
+next_events more w c (Some e) = where_possible e (parts_step w c e) ++ more (after c (parts_step w c e))
+
+-- the events of `go`
+abbrev pub go_events : World → ℕ → Parts → TaskNo → List Event
+go_events w zero c t = []
+go_events w (suc n) c t = next_events (λ d. go_events w n d t) w c (next_of w c t)
+
+-- the events that an item stands for: one, or those that GO has made
+abbrev pub item_events : World → Parts → Item → List Event
+item_events w c (Fetch t) = event.Fetch t ∷ []
+item_events w c (Mark t) = event.Mark t ∷ []
+item_events w c (Lift t) = event.Lift t ∷ []
+item_events w c (Do t) = event.Do t ∷ []
+item_events w c (Go t) = go_events w (left w c t.0) c t
+item_events w c End = []
+
+abbrev pub items_events : World → Parts → List Played → List Event
+items_events w c [] = []
+items_events w c (p ∷ ps) = item_events w c p.item ++ items_events w (after c (play_item w c p.item)) ps
+
+-- all events of a schedule: the plants, and then those of its items
+abbrev pub schedule_events : World → List Played → List Event
+schedule_events w played = plants_from w 0 (length w.places) (first_parts w) ++ items_events w (planted w) played
+
+-- behind a GO its task has ended
+abbrev pub HasEnded : Parts → Item → Type 0
+HasEnded d (Go t) = IsSome (results_of d t.0).ending
+HasEnded d item = Unit {0}
+
+abbrev pub AreEnded : World → Parts → List Played → Type 0
+AreEnded w c [] = Unit {0}
+AreEnded w c (p ∷ ps) = HasEnded (after c (play_item w c p.item)) p.item × AreEnded w (after c (play_item w c p.item)) ps
+
+-- The play is the core's run of the list of all events, and behind each GO its task has ended.
+pub record IsRun (w : World) (parts : Parts) (played : List Played) : Type 0 where
+  pub core : CoreState
+  pub run : core_run w (schedule_events w played) ≡ Some core
+  pub stored : core.parts ≡ parts
+  pub ended : AreEnded w (planted w) played
 
 -- a line that was played, or that ended the schedule
 abbrev pub IsLine : Option Played → Play → (Played → Play) → Play → Type 0

@@ -1,6 +1,7 @@
 -- What the report of a run tells.
 use Rattle.std.specs.Prelude.{◌≡◌, ℕ, ◌≤◌, ◌<◌, true, List, length}
 use Rattle.cov_base.specs.FactSet.{FactSet}
+use Rattle.module_area.specs.FinalsView.{FinalsView}
 use Rattle.module_area.specs.PlanView.{place_of}
 use Rattle.brk_table.specs.Places.{TablesView}
 use Rattle.session_book.specs.JobView.{JobView}
@@ -8,13 +9,15 @@ use Rattle.session_book.specs.Results.{ResultView}
 use Rattle.session_book.specs.Sessions.{session_of, observes}
 use Rattle.report_text.specs.Report.{report_of}
 use Rattle.job_run.specs.Runs.{result_of, set_of}
+use Rattle.job_run.specs.Sets.{set_left}
 
 -- The text is the report of these results and sets, which are those of each task's run alone and, at each place that a
--- session observes, those of its executions.
-pub record Reports (j : JobView) (tables : TablesView) (text : List ℕ) : Type 0 where
+-- session observes, those of its executions; and at every place they are those of the area of the session's phase.
+pub record Reports (j : JobView) (tables : TablesView) (areas : List FinalsView) (text : List ℕ) : Type 0 where
   pub results : ℕ → ResultView
   pub sets : ℕ → ℕ → FactSet
   pub are_results : (t : ℕ) → t < length j.tasks → results t ≡ result_of j tables.places t
   pub are_sets : (s p : ℕ) → 0 < s → s ≤ length j.sessions → p < length tables.places →
       observes (session_of j s).phase (place_of tables.places p).module (session_of j s) ≡ true → sets s p ≡ set_of j tables.places s p
+  pub are_final : (s p : ℕ) → 0 < s → s ≤ length j.sessions → p < length tables.places → sets s p ≡ set_left j areas s p
   pub is_text : text ≡ report_of j tables results sets

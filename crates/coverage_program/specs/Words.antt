@@ -5,23 +5,33 @@ use Rattle.job_text.specs.declared.limit.Limit.TheVariants as limit
 use Rattle.coverage_program.specs.declared.words.Command.{Command}
 use Rattle.coverage_program.specs.declared.words.Command.TheVariants.{Run, Table, Replay, Unknown}
 
--- the command that the words are: one word alone
+-- the command of one word
+abbrev pub command_alone : List ℕ → Command
+command_alone w = if bytes_eq w (codes "run") then Run else (if bytes_eq w (codes "table") then Table else (if bytes_eq w (codes "replay") then Replay else Unknown))
+
+-- the command that the words are, by how many there are
 abbrev pub command_of : List (List ℕ) → Command
-command_of (w ∷ []) = if bytes_eq w (codes "run") then Run else (if bytes_eq w (codes "table") then Table else (if bytes_eq w (codes "replay") then Replay else Unknown))
+command_of (w ∷ []) = command_alone w
 command_of words = Unknown
+
+-- it runs tasks
+abbrev pub makes_areas : Command → Bool
+makes_areas Run = true
+makes_areas c = false
 
 -- as it is served without areas
 abbrev pub without_areas : Command → Command
-without_areas Run = Unknown
-without_areas Table = Table
-without_areas Replay = Replay
-without_areas Unknown = Unknown
+without_areas c = if makes_areas c then Unknown else c
 
+-- it reads the source to its end
+abbrev pub reads_input : Command → Bool
+reads_input Unknown = false
+reads_input c = true
+
+-- its input has a job
 abbrev pub reads_job : Command → Bool
-reads_job Run = true
-reads_job Table = true
-reads_job Replay = true
 reads_job Unknown = false
+reads_job c = true
 
 -- more than a job may stand in its input
 abbrev pub takes_more : Command → Bool

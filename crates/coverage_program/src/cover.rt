@@ -1,21 +1,23 @@
 //! The program over any source, sink and areas.
-ghost use Rattle.std.specs.Prelude.{◌≡◌, ◌+◌, ◌<◌, ◌^◌, false, All, map, length, string_bytes};
-ghost use Rattle.job_text.specs.Lines.{lines_of};
+ghost use Rattle.std.specs.Prelude.{◌≡◌, ◌+◌, ◌<◌, ◌^◌, ℕ, List, false, true, All, map, length, drop, string_bytes};
 ghost use Rattle.brk_table.specs.Places.{IsIn, all_places};
-ghost use Rattle.coverage_program.specs.Answers.{SourceChange, CameJob, CameFirst, Answers, IsComplete};
+ghost use Rattle.coverage_program.specs.Answers.{CameJob, CameFirst, Answers};
+ghost use Rattle.coverage_program.specs.Changes.{SourceChange, source_change, sink_change, areas_change, no_change};
+ghost use Rattle.coverage_program.specs.Complete.{IsComplete};
 ghost use Rattle.coverage_program.specs.Refusals.{Match};
+ghost use Rattle.coverage_program.specs.Untouched.{IsUntouched, IsReportCut};
 ghost use Rattle.job_run.specs.Runs.{Account};
 ghost use Rattle.report_text.specs.Conditions.{HasFewLines};
 ghost use Rattle.coverage_program.specs.Words.{command_of, without_areas};
 
 use crate::lines::{NO_MEMORY, USAGE, bad_schedule_line};
-use crate::ready::{make_ready, make_ready_first};
+use crate::ready::make_ready;
 use crate::replay::replay_text;
 use crate::schedule::{ScheduleFault, replay};
-use crate::status::{Status, told};
+use crate::status::{Status, status_of, told};
 use crate::words::{Command, command_of};
 use brk_table::Tables;
-use cov_outside::{Failed, Gate, Sink, Source};
+use cov_outside::{Gate, Sink, Source};
 use job_run::run_job;
 use module_area::Areas;
 use report_text::{report, table};
@@ -40,17 +42,13 @@ fn answer_tables<T: Threads + Wait + Sync, K: Sink, A: Areas, G: Gate + Sync>(
     requires places { All (IsIn job.now.images) tables.now.places }
     requires room { A.made areas.old < 2 ^ 61 }
     ensures { (s : SourceChange) → CameJob false s job.now →
-        Answers Command.Run s (record { ledger = A.ledger areas.old; finals = A.finals areas.old; made = A.made areas.old }) (record { ledger = A.ledger areas.new; finals = A.finals areas.new; made = A.made areas.new })
-        (K.written sink.old) (K.written sink.new) (K.faults sink.old) (K.faults sink.new) result.0 }
+        Answers Command.Run s (areas_change A.ledger A.finals A.made areas.old areas.new) (sink_change K.written K.faults sink.old sink.new) result.0 }
 {
     let outcome = match run_job(rt, alloc, areas, gate, job, tables) {
         Ok(outcome) => outcome,
         Err(_) => return told(sink, NO_MEMORY, 7),
     };
-    match report(sink, job, tables, &outcome) {
-        Ok(()) => Status(0),
-        Err(_) => Status(6),
-    }
+    status_of(report(sink, job, tables, &outcome))
 }
 
 /// Reads a job, runs it and writes its report.
@@ -63,11 +61,9 @@ fn answer_run<T: Threads + Wait + Sync, S: Source, K: Sink, A: Areas, G: Gate + 
     gate: &G,
 ) -> Status
     requires { A.made areas.old < 2 ^ 61 }
-    ensures { Answers Command.Run (record { left = S.left source.old; rest = S.left source.new; faults = S.faults source.old; later = S.faults source.new })
-        (record { ledger = A.ledger areas.old; finals = A.finals areas.old; made = A.made areas.old }) (record { ledger = A.ledger areas.new; finals = A.finals areas.new; made = A.made areas.new })
-        (K.written sink.old) (K.written sink.new) (K.faults sink.old) (K.faults sink.new) result.0 }
+    ensures { Answers Command.Run (source_change S.left S.faults source.old source.new) (areas_change A.ledger A.finals A.made areas.old areas.new) (sink_change K.written K.faults sink.old sink.new) result.0 }
 {
-    match make_ready(alloc, source) {
+    match make_ready(alloc, source, false) {
         Ok(read) => answer_tables(rt, alloc, &read.job, &read.tables, sink, areas, gate),
         Err(refusal) => told(sink, &refusal.line, refusal.status),
     }
@@ -75,24 +71,21 @@ fn answer_run<T: Threads + Wait + Sync, S: Source, K: Sink, A: Areas, G: Gate + 
 
 /// Reads a job and writes the places of its modules.
 fn answer_table<S: Source, K: Sink>(alloc: Global, source: &mut S, sink: &mut K) -> Status
-    ensures { (a : Account) → Answers Command.Table (record { left = S.left source.old; rest = S.left source.new; faults = S.faults source.old; later = S.faults source.new }) a a (K.written sink.old) (K.written sink.new) (K.faults sink.old) (K.faults sink.new) result.0 }
+    ensures { (a : Account) → Answers Command.Table (source_change S.left S.faults source.old source.new) (no_change a) (sink_change K.written K.faults sink.old sink.new) result.0 }
 {
-    let read = match make_ready(alloc, source) {
+    let read = match make_ready(alloc, source, false) {
         Ok(read) => read,
         Err(refusal) => return told(sink, &refusal.line, refusal.status),
     };
-    match table(sink, &read.job, &read.tables) {
-        Ok(()) => Status(0),
-        Err(Failed) => Status(6),
-    }
+    status_of(table(sink, &read.job, &read.tables))
 }
 
-/// Plays the schedule behind a job, and writes what its items have shown.
+/// Plays the schedule behind a job's lines, so many, and writes what its items have shown.
 fn answer_schedule<K: Sink>(
     alloc: Global,
     job: &Job,
     tables: &Tables,
-    count: u32,
+    lines: u32,
     schedule: &[u8],
     sink: &mut K,
 ) -> Status
@@ -100,26 +93,23 @@ fn answer_schedule<K: Sink>(
     requires matching { Match job.now tables.now.tables }
     requires numbered { tables.now.places ≡ all_places tables.now.tables }
     requires places { All (IsIn job.now.images) tables.now.places }
-    requires numbers { count + 1 + length schedule.now < 2 ^ 32 }
-    ensures { (s : SourceChange) (a : Account) → CameFirst s job.now count (lines_of schedule.now) →
-        Answers Command.Replay s a a (K.written sink.old) (K.written sink.new) (K.faults sink.old) (K.faults sink.new) result.0 }
+    requires numbers { lines + 1 + length schedule.now < 2 ^ 32 }
+    ensures { (s : SourceChange) (a : Account) (bytes : List ℕ) (end : ℕ) → CameFirst true s job.now bytes lines end → schedule.now ≡ drop end bytes →
+        Answers Command.Replay s (no_change a) (sink_change K.written K.faults sink.old sink.new) result.0 }
 {
-    let replayed = match replay(alloc, job, tables, count, schedule) {
+    let replayed = match replay(alloc, job, tables, lines, schedule) {
         Ok(replayed) => replayed,
         Err(ScheduleFault::Bad { line }) => return told(sink, &bad_schedule_line(line), 9),
         Err(ScheduleFault::NoMemory) => return told(sink, NO_MEMORY, 7),
     };
-    match replay_text(sink, job, tables, &replayed.core, &replayed.played) {
-        Ok(()) => Status(0),
-        Err(_failed) => Status(6),
-    }
+    status_of(replay_text(sink, job, tables, &replayed.core, &replayed.played))
 }
 
 /// Reads a job and a schedule, and plays it.
 fn answer_replay<S: Source, K: Sink>(alloc: Global, source: &mut S, sink: &mut K) -> Status
-    ensures { (a : Account) → Answers Command.Replay (record { left = S.left source.old; rest = S.left source.new; faults = S.faults source.old; later = S.faults source.new }) a a (K.written sink.old) (K.written sink.new) (K.faults sink.old) (K.faults sink.new) result.0 }
+    ensures { (a : Account) → Answers Command.Replay (source_change S.left S.faults source.old source.new) (no_change a) (sink_change K.written K.faults sink.old sink.new) result.0 }
 {
-    let read = match make_ready_first(alloc, source) {
+    let read = match make_ready(alloc, source, true) {
         Ok(read) => read,
         Err(refusal) => return told(sink, &refusal.line, refusal.status),
     };
@@ -127,50 +117,48 @@ fn answer_replay<S: Source, K: Sink>(alloc: Global, source: &mut S, sink: &mut K
     answer_schedule(alloc, &read.job, &read.tables, read.lines, schedule, sink)
 }
 
-/// Answers the words that need no areas.
+/// Answers the commands that need no areas; all others are usage.
 fn answer_one<S: Source, K: Sink>(
     alloc: Global,
-    words: &[String],
+    command: Command,
     source: &mut S,
     sink: &mut K,
 ) -> Status
-    ensures { (a : Account) → Answers (without_areas (command_of (map string_bytes words.now))) (record { left = S.left source.old; rest = S.left source.new; faults = S.faults source.old; later = S.faults source.new }) a a (K.written sink.old) (K.written sink.new) (K.faults sink.old) (K.faults sink.new) result.0 }
+    ensures { (a : Account) → Answers (without_areas command) (source_change S.left S.faults source.old source.new) (no_change a) (sink_change K.written K.faults sink.old sink.new) result.0 }
 {
-    match command_of(words) {
+    match command {
         Command::Table => answer_table(alloc, source, sink),
         Command::Replay => answer_replay(alloc, source, sink),
-        Command::Run => told(sink, USAGE, 1),
-        Command::Unknown => told(sink, USAGE, 1),
+        Command::Run | Command::Unknown => told(sink, USAGE, 1),
     }
 }
 
-/// Answers the words.
-fn answer_words<T: Threads + Wait + Sync, S: Source, K: Sink, A: Areas, G: Gate + Sync>(
+/// Answers every command.
+fn answer<T: Threads + Wait + Sync, S: Source, K: Sink, A: Areas, G: Gate + Sync>(
     rt: &T,
     alloc: Global,
-    words: &[String],
+    command: Command,
     source: &mut S,
     sink: &mut K,
     areas: &mut A,
     gate: &G,
 ) -> Status
     requires { A.made areas.old < 2 ^ 61 }
-    ensures { Answers (command_of (map string_bytes words.now)) (record { left = S.left source.old; rest = S.left source.new; faults = S.faults source.old; later = S.faults source.new })
-        (record { ledger = A.ledger areas.old; finals = A.finals areas.old; made = A.made areas.old }) (record { ledger = A.ledger areas.new; finals = A.finals areas.new; made = A.made areas.new })
-        (K.written sink.old) (K.written sink.new) (K.faults sink.old) (K.faults sink.new) result.0 }
+    ensures { Answers command (source_change S.left S.faults source.old source.new) (areas_change A.ledger A.finals A.made areas.old areas.new) (sink_change K.written K.faults sink.old sink.new) result.0 }
 {
-    match command_of(words) {
+    match command {
         Command::Run => answer_run(rt, alloc, source, sink, areas, gate),
-        Command::Table => cover_one(alloc, words, source, sink),
-        Command::Replay => cover_one(alloc, words, source, sink),
-        Command::Unknown => cover_one(alloc, words, source, sink),
+        Command::Table | Command::Replay | Command::Unknown => {
+            answer_one(alloc, command, source, sink)
+        }
     }
 }
 
 /// Serves the command that the words are: `run` reads a job from the source, runs its tasks on threads, each past the
 /// gate, and writes its report to the sink; all other words are answered as `cover_one` answers them. Each refusal has its
 /// status and its line; the answer is 6 where the sink fails. Where no fault of source or sink was counted, it is that of
-/// the words and bytes, or 7. It waits for the threads of the tasks; for all words but `run` it waits for nothing.
+/// the words and bytes, or 7. The areas are as they were but for a run of a job whose listings match. It waits for the
+/// threads of the tasks; for all words but `run` it waits for nothing.
 pub fn cover<T: Threads + Wait + Sync, S: Source, K: Sink, A: Areas, G: Gate + Sync>(
     rt: &T,
     alloc: Global,
@@ -181,12 +169,12 @@ pub fn cover<T: Threads + Wait + Sync, S: Source, K: Sink, A: Areas, G: Gate + S
     gate: &G,
 ) -> Status
     requires { A.made areas.old < 2 ^ 61 }
-    ensures answers { Answers (command_of (map string_bytes words.now)) (record { left = S.left source.old; rest = S.left source.new; faults = S.faults source.old; later = S.faults source.new })
-        (record { ledger = A.ledger areas.old; finals = A.finals areas.old; made = A.made areas.old }) (record { ledger = A.ledger areas.new; finals = A.finals areas.new; made = A.made areas.new })
-        (K.written sink.old) (K.written sink.new) (K.faults sink.old) (K.faults sink.new) result.0 }
-    ensures complete { IsComplete (command_of (map string_bytes words.now)) (record { left = S.left source.old; rest = S.left source.new; faults = S.faults source.old; later = S.faults source.new }) (K.faults sink.old) (K.faults sink.new) result.0 }
+    ensures answers { Answers (command_of (map string_bytes words.now)) (source_change S.left S.faults source.old source.new) (areas_change A.ledger A.finals A.made areas.old areas.new) (sink_change K.written K.faults sink.old sink.new) result.0 }
+    ensures complete { IsComplete (command_of (map string_bytes words.now)) (source_change S.left S.faults source.old source.new) (sink_change K.written K.faults sink.old sink.new) result.0 }
+    ensures untouched { IsUntouched (command_of (map string_bytes words.now)) (source_change S.left S.faults source.old source.new) (areas_change A.ledger A.finals A.made areas.old areas.new) result.0 }
+    ensures cut { IsReportCut (command_of (map string_bytes words.now)) (source_change S.left S.faults source.old source.new) (areas_change A.ledger A.finals A.made areas.old areas.new) (sink_change K.written K.faults sink.old sink.new) result.0 }
 {
-    answer_words(rt, alloc, words, source, sink, areas, gate)
+    answer(rt, alloc, command_of(words), source, sink, areas, gate)
 }
 
 /// Serves the commands that need no areas: `table` reads a job from the source and writes the places of its modules to
@@ -199,8 +187,8 @@ pub fn cover_one<S: Source, K: Sink>(
     source: &mut S,
     sink: &mut K,
 ) -> Status
-    ensures answers { (a : Account) → Answers (without_areas (command_of (map string_bytes words.now))) (record { left = S.left source.old; rest = S.left source.new; faults = S.faults source.old; later = S.faults source.new }) a a (K.written sink.old) (K.written sink.new) (K.faults sink.old) (K.faults sink.new) result.0 }
-    ensures complete { IsComplete (without_areas (command_of (map string_bytes words.now))) (record { left = S.left source.old; rest = S.left source.new; faults = S.faults source.old; later = S.faults source.new }) (K.faults sink.old) (K.faults sink.new) result.0 }
+    ensures answers { (a : Account) → Answers (without_areas (command_of (map string_bytes words.now))) (source_change S.left S.faults source.old source.new) (no_change a) (sink_change K.written K.faults sink.old sink.new) result.0 }
+    ensures complete { IsComplete (without_areas (command_of (map string_bytes words.now))) (source_change S.left S.faults source.old source.new) (sink_change K.written K.faults sink.old sink.new) result.0 }
 {
-    answer_one(alloc, words, source, sink)
+    answer_one(alloc, command_of(words), source, sink)
 }

@@ -1,9 +1,12 @@
 //! The job that a source gives, and the tables of its listings.
-ghost use Rattle.std.specs.Prelude.{◌≡◌, ◌≤◌, Bool, true, false, length, drop, IfOk, IfErr, All};
+ghost use Rattle.std.specs.Prelude.{◌≡◌, ◌≤◌, ℕ, Bool, true, false, length, IfOk, IfErr, All};
 ghost use Rattle.brk_table.specs.Places.{IsIn, all_places};
 ghost use Rattle.job_text.specs.Lines.{lines_of};
+ghost use Rattle.job_text.specs.Refusals.{IsRead, IsRefusal};
+ghost use Rattle.session_book.specs.JobView.{JobView};
 ghost use Rattle.report_text.specs.Conditions.{HasFewLines};
-ghost use Rattle.coverage_program.specs.Answers.{SourceChange, CameWhole, CameJob, CameFirst, IsStopped, fault_refusal};
+ghost use Rattle.coverage_program.specs.Answers.{HasJob, CameWhole, CameJob, CameFirst, IsStopped, fault_refusal};
+ghost use Rattle.coverage_program.specs.Changes.{SourceChange, source_change};
 ghost use Rattle.coverage_program.specs.Refusals.{job_refusal, Match};
 ghost use Rattle.coverage_program.specs.Refused.{IsRefused, refused_refusal};
 
@@ -19,27 +22,20 @@ use std::alloc::Global;
 /// The most bytes of input.
 const INPUT_LIMIT: usize = 16_777_216;
 
-/// A job whose listings match, and their tables.
+/// A job whose listings match, their tables, the input, the number of the job's lines and the offset behind the last.
 #[derive(Drop)]
 pub struct Ready {
     pub job: Job,
     pub tables: Tables,
-}
-
-/// The same, with the input, the offset behind the job's last line, and the number of the job's lines.
-#[derive(Drop)]
-pub struct ReadyFirst {
-    pub job: Job,
-    pub tables: Tables,
     pub input: Vec<u8>,
-    pub end: usize,
     pub lines: u32,
+    pub end: usize,
 }
 
 /// Reads the source to its end.
 fn read_input<S: Source>(alloc: Global, source: &mut S) -> Result<Vec<u8>, Refusal>
-    ensures bytes { IfOk result (λ v. CameWhole (record { left = S.left source.old; rest = S.left source.new; faults = S.faults source.old; later = S.faults source.new }) v.items) }
-    ensures stopped { (more : Bool) → IfErr result (λ r. IsStopped more (record { left = S.left source.old; rest = S.left source.new; faults = S.faults source.old; later = S.faults source.new }) r.status r.line) }
+    ensures bytes { IfOk result (λ v. CameWhole (source_change S.left S.faults source.old source.new) v.items) }
+    ensures stopped { (job more : Bool) → IfErr result (λ r. IsStopped job more (source_change S.left S.faults source.old source.new) r.status r.line) }
 {
     match read_all(alloc, source, INPUT_LIMIT) {
         Ok(bytes) => Ok(bytes),
@@ -65,30 +61,32 @@ fn fault_refusal(fault: JobFault) -> Refusal
     }
 }
 
-/// Reads the job that the whole input spells.
-fn read_whole(alloc: Global, bytes: &[u8]) -> Result<Job, Refusal>
+/// The cards of the input's first lines, or of all where nothing more may stand there.
+fn read_cards(alloc: Global, bytes: &[u8], more: bool) -> Result<ReadJob, JobFault>
     requires { length bytes.now ≤ 16777216 }
-    ensures job { (s : SourceChange) → CameWhole s bytes.now → IfOk result (CameJob false s) }
-    ensures few { IfOk result HasFewLines }
-    ensures stopped { (s : SourceChange) → CameWhole s bytes.now → IfErr result (λ r. IsStopped false s r.status r.line) }
+    ensures read { IfOk result (IsRead bytes.now) }
+    ensures whole { more ≡ false → IfOk result (λ r. r.end ≡ length bytes.now) }
+    ensures fault { IfErr result (IsRefusal (lines_of bytes.now)) }
+    ensures jobless { IfErr result (λ e. (n : ℕ) → e ≡ JobFault.BadJob n → (j : JobView) → HasJob more (lines_of bytes.now) j → ⊥) }
 {
-    match read_whole_job(alloc, bytes) {
-        Ok(job) => Ok(job),
-        Err(fault) => Err(fault_refusal(fault)),
+    if more {
+        read_job(alloc, bytes)
+    } else {
+        read_whole_job(alloc, bytes)
     }
 }
 
-/// Reads the job that the input's first lines spell.
-fn read_first(alloc: Global, bytes: &[u8]) -> Result<ReadJob, Refusal>
+/// Reads the job that the input spells by its first lines, or by all of them where nothing more may stand there.
+fn read_lines(alloc: Global, bytes: &[u8], more: bool) -> Result<ReadJob, Refusal>
     requires { length bytes.now ≤ 16777216 }
     ensures inside { IfOk result (λ r. r.end ≤ length bytes.now) }
     ensures few_lines { IfOk result (λ r. r.lines ≤ length bytes.now) }
-    ensures job { (s : SourceChange) → CameWhole s bytes.now → IfOk result (λ r. CameFirst s r.job r.lines (lines_of (drop r.end bytes.now))) }
-    ensures came { (s : SourceChange) → CameWhole s bytes.now → IfOk result (λ r. CameJob true s r.job) }
+    ensures came { (s : SourceChange) → CameWhole s bytes.now → IfOk result (λ r. CameFirst more s r.job bytes.now r.lines r.end) }
+    ensures job { (s : SourceChange) → CameWhole s bytes.now → IfOk result (λ r. CameJob more s r.job) }
     ensures few { IfOk result (λ r. HasFewLines r.job) }
-    ensures stopped { (s : SourceChange) → CameWhole s bytes.now → IfErr result (λ r. IsStopped true s r.status r.line) }
+    ensures stopped { (s : SourceChange) → CameWhole s bytes.now → IfErr result (λ r. IsStopped true more s r.status r.line) }
 {
-    match read_job(alloc, bytes) {
+    match read_cards(alloc, bytes, more) {
         Ok(read) => Ok(read),
         Err(fault) => Err(fault_refusal(fault)),
     }
@@ -109,7 +107,7 @@ fn read_tables(alloc: Global, job: &Job) -> Result<Tables, Refusal>
     ensures matching { IfOk result (λ t. Match job.now t.tables) }
     ensures numbered { IfOk result (λ t. t.places ≡ all_places t.tables) }
     ensures places { IfOk result (λ t. All (IsIn job.now.images) t.places) }
-    ensures stopped { (more : Bool) (s : SourceChange) → CameJob more s job.now → IfErr result (λ r. IsStopped more s r.status r.line) }
+    ensures stopped { (more : Bool) (s : SourceChange) → CameJob more s job.now → IfErr result (λ r. IsStopped true more s r.status r.line) }
 {
     match tables_of(alloc, job) {
         Ok(tables) => Ok(tables),
@@ -117,43 +115,27 @@ fn read_tables(alloc: Global, job: &Job) -> Result<Tables, Refusal>
     }
 }
 
-/// Reads the source to its end, the job that its bytes spell, and the tables of the job's listings; or the first
-/// refusal of these, in this order.
-pub fn make_ready<S: Source>(alloc: Global, source: &mut S) -> Result<Ready, Refusal>
-    ensures came { IfOk result (λ r. CameJob false (record { left = S.left source.old; rest = S.left source.new; faults = S.faults source.old; later = S.faults source.new }) r.job) }
-    ensures few { IfOk result (λ r. HasFewLines r.job) }
-    ensures matching { IfOk result (λ r. Match r.job r.tables.tables) }
-    ensures numbered { IfOk result (λ r. r.tables.places ≡ all_places r.tables.tables) }
-    ensures places { IfOk result (λ r. All (IsIn r.job.images) r.tables.places) }
-    ensures stopped { IfErr result (λ r. IsStopped false (record { left = S.left source.old; rest = S.left source.new; faults = S.faults source.old; later = S.faults source.new }) r.status r.line) }
-{
-    let bytes = read_input(alloc, source)?;
-    let job = read_whole(alloc, &bytes)?;
-    let tables = read_tables(alloc, &job)?;
-    Ok(Ready { job, tables })
-}
-
-/// Reads the source to its end, the job that its first lines spell, and the tables of the job's listings; or the first
-/// refusal of these, in this order. What stands behind the job is the caller's.
-pub fn make_ready_first<S: Source>(alloc: Global, source: &mut S) -> Result<ReadyFirst, Refusal>
+/// Reads the source to its end, the job of its lines, and the tables of the job's listings; or the first refusal of
+/// these, in this order. What stands behind the job is the caller's where more may stand there; else nothing does.
+pub fn make_ready<S: Source>(alloc: Global, source: &mut S, more: bool) -> Result<Ready, Refusal>
     ensures inside { IfOk result (λ r. r.end ≤ length r.input.items) }
     ensures few_lines { IfOk result (λ r. r.lines ≤ length r.input.items) }
     ensures short { IfOk result (λ r. length r.input.items ≤ 16777216) }
-    ensures came { IfOk result (λ r. CameFirst (record { left = S.left source.old; rest = S.left source.new; faults = S.faults source.old; later = S.faults source.new }) r.job r.lines (lines_of (drop r.end r.input.items))) }
+    ensures came { IfOk result (λ r. CameFirst more (source_change S.left S.faults source.old source.new) r.job r.input.items r.lines r.end) }
     ensures few { IfOk result (λ r. HasFewLines r.job) }
     ensures matching { IfOk result (λ r. Match r.job r.tables.tables) }
     ensures numbered { IfOk result (λ r. r.tables.places ≡ all_places r.tables.tables) }
     ensures places { IfOk result (λ r. All (IsIn r.job.images) r.tables.places) }
-    ensures stopped { IfErr result (λ r. IsStopped true (record { left = S.left source.old; rest = S.left source.new; faults = S.faults source.old; later = S.faults source.new }) r.status r.line) }
+    ensures stopped { IfErr result (λ r. IsStopped true more (source_change S.left S.faults source.old source.new) r.status r.line) }
 {
     let input = read_input(alloc, source)?;
-    let read = read_first(alloc, &input)?;
+    let read = read_lines(alloc, &input, more)?;
     let tables = read_tables(alloc, &read.job)?;
-    Ok(ReadyFirst {
+    Ok(Ready {
         job: read.job,
         tables,
         input,
-        end: read.end,
         lines: read.lines,
+        end: read.end,
     })
 }

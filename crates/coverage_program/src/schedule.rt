@@ -1,11 +1,11 @@
 //! A schedule behind a job, played on the core.
-ghost use Rattle.std.specs.Prelude.{◌≡◌, ◌≢◌, ℕ, List, [], ◌+◌, ◌<◌, ◌≤◌, ◌^◌, nat_eq, length, None, Some, IfOk, IfErr, OnErr, All};
+ghost use Rattle.std.specs.Prelude.{◌≡◌, ◌≢◌, ℕ, List, [], ◌+◌, ◌<◌, ◌≤◌, ◌^◌, nat_eq, length, None, Some, IsSome, IfOk, IfErr, OnErr, All};
 ghost use Rattle.brk_table.specs.Places.{IsIn};
 ghost use Rattle.job_text.specs.Lines.{LineView, lines_of};
 ghost use Rattle.job_text.specs.Schedule.{item_at};
 ghost use Rattle.interleave_core.specs.World.{Parts, plan_in};
 ghost use Rattle.module_area.specs.PlanView.{window_at};
-ghost use Rattle.interleave_core.specs.Results.{Fits};
+ghost use Rattle.interleave_core.specs.Results.{Fits, results_of};
 ghost use Rattle.coverage_program.specs.Replay.{Play, with_item, play, play_end, play_of, play_line, play_item, plant_at, planted, planted_from, go, left, IsLine, IsUnplayed};
 
 use brk_table::Tables;
@@ -64,6 +64,7 @@ fn go<'a>(core: &mut Core<'a>, t: TaskNo)
     ensures world { core.new.world ≡ core.old.world }
     ensures fits { Fits core.old.world core.old.parts → Fits core.new.world core.new.parts }
     ensures parts { core.new.parts ≡ go core.old.world (left core.old.world core.old.parts t.0) core.old.parts t }
+    ensures ended { t.0 < length core.old.world.job.tasks → IsSome (results_of core.new.parts t.0).ending }
 {
     while let Some(event) = core.next(t) {
         let Ok(_) = core.apply(event) else {

@@ -1,6 +1,6 @@
 //! The words of the command line.
 ghost use Rattle.std.specs.Prelude.{◌≡◌, map, string_bytes};
-ghost use Rattle.coverage_program.specs.Words.{command_of};
+ghost use Rattle.coverage_program.specs.Words.{command_alone, command_of};
 
 /// What the words ask for.
 #[derive(Clone, Copy, Debug, PartialEq, Eq)]
@@ -15,14 +15,10 @@ pub enum Command {
     Unknown,
 }
 
-/// The command that the words are.
-pub fn command_of(words: &[String]) -> Command
-    ensures { result ≡ command_of (map string_bytes words.now) }
+/// The command of one word.
+fn command_alone(word: &str) -> Command
+    ensures { result ≡ command_alone word.now }
 {
-    if words.len() != 1 {
-        return Command::Unknown;
-    }
-    let word = words[0].as_str();
     if word == "run" {
         Command::Run
     } else if word == "table" {
@@ -31,5 +27,15 @@ pub fn command_of(words: &[String]) -> Command
         Command::Replay
     } else {
         Command::Unknown
+    }
+}
+
+/// The command that the words are.
+pub fn command_of(words: &[String]) -> Command
+    ensures { result ≡ command_of (map string_bytes words.now) }
+{
+    match words {
+        [word] => command_alone(word),
+        _ => Command::Unknown,
     }
 }

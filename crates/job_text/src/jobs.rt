@@ -73,22 +73,18 @@ pub fn read_job(alloc: Global, input: &[u8]) -> Result<ReadJob, JobFault>
 
 /// Reads the job that all of the input's lines spell. Where a line follows ENDJOB it is `BadJob` at that line. The input
 /// has at most `INPUT_LIMIT` bytes.
-pub fn read_whole_job(alloc: Global, input: &[u8]) -> Result<Job, JobFault>
+pub fn read_whole_job(alloc: Global, input: &[u8]) -> Result<ReadJob, JobFault>
     requires { length input.now ≤ INPUT_LIMIT }
-    ensures job { IfOk result (Spells (lines_of input.now)) }
-    ensures within { IfOk result IsWithin }
-    ensures only { (job : JobView) → Spells (lines_of input.now) job → IsWithin job → IfOk result (λ found. found ≡ job) }
+    ensures job { IfOk result (IsRead input.now) }
+    ensures whole { IfOk result (λ r. r.end ≡ length input.now) }
+    ensures only { (job : JobView) → Spells (lines_of input.now) job → IsWithin job → IfOk result (λ r. r.job ≡ job) }
     ensures fault { IfErr result (IsRefusal (lines_of input.now)) }
 {
-    match read_job(alloc, input) {
-        Ok(read) => {
-            if read.end < input.len() {
-                return Err(JobFault::BadJob {
-                    line: read.lines + 1,
-                });
-            }
-            Ok(read.job)
-        }
-        Err(fault) => Err(fault),
+    let read = read_job(alloc, input)?;
+    if read.end < input.len() {
+        return Err(JobFault::BadJob {
+            line: read.lines + 1,
+        });
     }
+    Ok(read)
 }

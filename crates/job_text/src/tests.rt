@@ -2,7 +2,7 @@
 mod items;
 mod jobs;
 
-use crate::{JobFault, read_whole_job};
+use crate::{JobFault, ReadJob, read_whole_job};
 use std::alloc::{AllocError, Global};
 use std::test::Fail;
 
@@ -58,7 +58,7 @@ fn reads_the_job(rt: HostRuntime) -> Result<(), Fail> {
     let input = with_line(a, 0, b"")?;
     assert!(rt; input.len() <= 1_000);
     match read_whole_job(a, &input) {
-        Ok(job) => {
+        Ok(ReadJob { job, .. }) => {
             assert_eq!(rt; job.images.0.len(), 1);
             assert_eq!(rt;
                 job.images.0[0].bytes.as_slice(),
@@ -368,7 +368,7 @@ fn keeps_data_and_input_in_their_order(rt: HostRuntime) -> Result<(), Fail> {
     )?;
     assert!(rt; input.len() <= 1_000);
     match read_whole_job(a, &input) {
-        Ok(job) => {
+        Ok(ReadJob { job, .. }) => {
             assert_eq!(rt; job.tasks.len(), 1);
             let task = &job.tasks[0];
             assert_eq!(rt; task.cards.len(), 2);

@@ -1,4 +1,4 @@
-use Rattle.std.proofs.Common.{◌≡◌, ◌+◌, ◌<◌, length, arith, rules}
+use Rattle.std.proofs.Common.{◌+◌, ◌<◌, length, rules}
 use Rattle.report_text.proofs.RowLemmas.{lines_from-next}
 use Rattle.report_text.proofs.WriteLemmas.{progress_at, progress_more, progress_exit}
 use Rattle.coverage_program.proofs.ReplayLemmas.{line_of, told_line}

@@ -1,4 +1,4 @@
-use Rattle.std.proofs.Common.{◌+◌, ◌-◌, [], ◌∷◌, length, get_or}
+use Rattle.std.proofs.Common.{◌+◌, ◌-◌, length}
 use Rattle.report_text.specs.Text.{lines_from}
 use Rattle.report_text.proofs.WriteLemmas.{Progress}
 use Rattle.coverage_program.proofs.ReplayLemmas.{line_of}

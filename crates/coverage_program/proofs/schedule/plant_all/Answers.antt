@@ -1,4 +1,4 @@
-use Rattle.std.proofs.Common.{◌≡◌, length, get_or, sym, ap, ◌∙◌}
+use Rattle.std.proofs.Common.{length, get_or, sym, ap, ◌∙◌}
 use Rattle.module_area.specs.PlanView.{window_at}
 use Rattle.interleave_core.specs.World.{World, plan_in}
 use Rattle.coverage_program.proofs.ReplayLemmas.{planted_next, planted_end}

@@ -5,13 +5,13 @@ use Rattle.job_text.proofs.Verdicts.{bad_behind, whole_alone, lines_most}
 use Rattle.job_text.proofs.jobs.read_whole_job.Goals as goal
 
 pub overflow_add-result : goal.overflow_add-result
-overflow_add-result c = omega (arith, lines_most c.args.input.now c.in-Ok.read c.in-Ok.ensures.job, c.requires)
+overflow_add-result c = omega (arith, lines_most c.args.input.now c.in_ok-read.read c.in_ok-read.ensures.job, c.requires)
 
 pub returns-then-read-input-clause-fault : goal.returns-then-read-input-clause-fault
 returns-then-read-input-clause-fault c =
-    let more : c.in-Ok.read.end < length c.args.input.now = grind (arith, nat_tests, c.if-read-input.true) in
-    bad_behind c.args.input.now c.in-Ok.read c.in-Ok.ensures.job more
+    let more : c.in_ok-read.read.end < length c.args.input.now = grind (arith, nat_tests, c.if-read-input.true) in
+    bad_behind c.args.input.now c.in_ok-read.read c.in_ok-read.ensures.job more
 
-pub returns-else-read-input-clause-only : goal.returns-else-read-input-clause-only
-returns-else-read-input-clause-only c =
-    λ job p within. (c.in-Ok.ensures.only (length (lines_of c.args.input.now)) job (omega arith) (whole_alone c.args.input.now job p) within).0
+pub returns-clause-only : goal.returns-clause-only
+returns-clause-only c =
+    λ job p within. (c.in_ok-read.ensures.only (length (lines_of c.args.input.now)) job (omega arith) (whole_alone c.args.input.now job p) within).0

@@ -1,0 +1,188 @@
+-- A schedule that was played is a run of the core.
+use Rattle.std.proofs.Common.{◌≡◌, inl, inr, ℕ, zero, suc, ◌+◌, Bool, true, false, nat_eq, if◌then◌else◌, Option, Some, None, option_map, is_none, is_some, IsSome, IsNone, ◌↔◌, ◌<◌, arith, List, [], ◌∷◌, ◌++◌, length, refl, sym, ap, ◌∙◌, subst}
+use Rattle.std.proofs.lemmas.Bool.{cases_lt}
+use Rattle.cov_base.specs.declared.numbers.TaskNo.{TaskNo}
+use Rattle.module_area.specs.declared.places.Place.{Place}
+use Rattle.session_book.specs.JobView.{JobView}
+use Rattle.interleave_core.specs.World.{World, Parts, first_parts}
+use Rattle.interleave_core.specs.Core.{CoreState, core_start, core_step, core_after, core_from, go_on}
+use Rattle.interleave_core.specs.Steps.{Stepped, parts_step}
+use Rattle.interleave_core.specs.Results.{next_of, results_of}
+use Rattle.interleave_core.specs.declared.events.Event.{Event}
+use Rattle.interleave_core.specs.declared.events.Event.TheVariants as event
+use Rattle.interleave_core.specs.declared.events.Shown.TheVariants as shown
+use Rattle.interleave_core.proofs.Runs.{some_core, through}
+use Rattle.job_text.specs.Lines.{LineView}
+use Rattle.job_text.specs.Schedule.{item_at}
+use Rattle.job_text.specs.declared.schedule.Item.{Item}
+use Rattle.job_text.specs.declared.schedule.Item.TheVariants.{Fetch, Mark, Lift, Do, Go, End}
+use Rattle.coverage_program.specs.Replay.{Play, Bad, Whole, after, plant_of, plant_at, planted, planted_from, plants_from, where_possible, next_events, go, go_by, go_events, gone, left, play, play_item, play_line, play_on, play_end, play_of, with_item, is_end, item_events, items_events, schedule_events, HasEnded, AreEnded, IsRun}
+use Rattle.coverage_program.specs.declared.schedule.Played.{Played}
+
+-- from this core these events are possible one after the other, and what is then stored
+record Leads (w : World) (k : CoreState) (events : List Event) (parts : Parts) : Type 0 where
+  core : CoreState
+  run : core_from w k events ≡ Some core
+  stored : core.parts ≡ parts
+
+core_from-append : (w : World) (c d : CoreState) (xs ys : List Event) → core_from w c xs ≡ Some d → core_from w c (xs ++ ys) ≡ core_from w d ys
+core_from-append w c d [] ys h = ap (λ (b : CoreState). core_from w b ys) (some_core c d h)
+core_from-append w c d (e ∷ xs) ys h =
+    let at = through (λ b. core_from w b xs) (core_step w c e) d h in
+    ap (go_on (λ b. core_from w b (xs ++ ys))) at.1 ∙ core_from-append w at.0.core d xs ys at.2
+
+-- the events before a point, and those behind it
+joins : (w : World) (k : CoreState) (xs ys : List Event) (c d : Parts) → Leads w k xs c → ((l : CoreState) → l.parts ≡ c → Leads w l ys d) → Leads w k (xs ++ ys) d
+joins w k xs ys c d first more =
+    let rest : Leads w first.core ys d = more first.core first.stored in
+    record { core = rest.core; run = core_from-append w k first.core xs ys first.run ∙ rest.run; stored = rest.stored }
+
+nothing : (w : World) (k : CoreState) (c : Parts) → k.parts ≡ c → Leads w k [] c
+nothing w k c e = record { core = k; run = refl; stored = e }
+
+one : (w : World) (k : CoreState) (c : Parts) (e : Event) (x : Stepped) → k.parts ≡ c → parts_step w c e ≡ Some x → Leads w k (e ∷ []) x.parts
+one w k c e x same step =
+    let here : parts_step w k.parts e ≡ Some x = ap (λ (p : Parts). parts_step w p e) same ∙ step in
+    record {
+      core = (core_after w k e x).core;
+      run = ap (λ (o : Option Stepped). go_on (λ d. core_from w d []) (option_map (core_after w k e) o)) here;
+      stored = refl;
+    }
+
+where_leads : (w : World) (k : CoreState) (c : Parts) (e : Event) (o : Option Stepped) → k.parts ≡ c → parts_step w c e ≡ o → Leads w k (where_possible e o) (after c o)
+where_leads w k c e None same step = nothing w k c same
+where_leads w k c e (Some x) same step = one w k c e x same step
+
+plants_lead : (w : World) (k : CoreState) (p count : ℕ) (c : Parts) → k.parts ≡ c → Leads w k (plants_from w p count c) (planted_from w p count c)
+plants_lead w k p zero c same = nothing w k c same
+plants_lead w k p (suc count) c same =
+    joins w k (where_possible (plant_of w p) (parts_step w c (plant_of w p))) (plants_from w (p + 1) count (plant_at w c p)) (plant_at w c p) (planted_from w (p + 1) count (plant_at w c p))
+    (where_leads w k c (plant_of w p) (parts_step w c (plant_of w p)) same refl) (λ l e. plants_lead w l (p + 1) count (plant_at w c p) e)
+
+go_leads : (w : World) (k : CoreState) (n : ℕ) (c : Parts) (t : TaskNo) → k.parts ≡ c → Leads w k (go_events w n c t) (go w n c t)
+go_leads w k zero c t same = nothing w k c same
+go_leads w k (suc n) c t same = by_next (next_of w c t) (λ l d e. go_leads w l n d t e)
+  where
+    by_next : (o : Option Event) → ((l : CoreState) (d : Parts) → l.parts ≡ d → Leads w l (go_events w n d t) (go w n d t)) → Leads w k (next_events (λ d. go_events w n d t) w c o) (go_by (λ d. go w n d t) w c o)
+    by_next None more = nothing w k c same
+    by_next (Some e) more =
+        let d : Parts = after c (parts_step w c e) in
+        joins w k (where_possible e (parts_step w c e)) (go_events w n d t) d (go w n d t) (where_leads w k c e (parts_step w c e) same refl) (λ l q. more l d q)
+
+-- a task that has ended
+gone_is : (d : Parts) (t : TaskNo) (x : Stepped) → gone d t ≡ Some x → (x.parts ≡ d) × IsSome (results_of d t.0).ending
+gone_is d t x h = by_end (is_some (results_of d t.0).ending) refl h
+  where
+    by_end : (b : Bool) → is_some (results_of d t.0).ending ≡ b → (if b then Some (record { parts = d; shown = shown.Done }) else None) ≡ Some x → (x.parts ≡ d) × IsSome (results_of d t.0).ending
+    by_end true e q = (let s : record { parts = d; shown = shown.Done } ≡ x = cc in ap (λ (y : Stepped). y.parts) (sym s), e)
+    by_end false e q = absurd cc
+
+went : (w : World) (c : Parts) (t : TaskNo) (x : Stepped) → play_item w c (Go t) ≡ Some x → gone (go w (left w c t.0) c t) t ≡ Some x
+went w c t x h = by_none (is_none (next_of w c t)) h
+  where
+    by_none : (b : Bool) → (if b then None else gone (go w (left w c t.0) c t) t) ≡ Some x → gone (go w (left w c t.0) c t) t ≡ Some x
+    by_none true q = absurd cc
+    by_none false q = q
+
+item_leads : (w : World) (k : CoreState) (c : Parts) (item : Item) (x : Stepped) → k.parts ≡ c → play_item w c item ≡ Some x → Leads w k (item_events w c item) x.parts
+item_leads w k c (Fetch t) x same h = one w k c (event.Fetch t) x same h
+item_leads w k c (Mark t) x same h = one w k c (event.Mark t) x same h
+item_leads w k c (Lift t) x same h = one w k c (event.Lift t) x same h
+item_leads w k c (Do t) x same h = one w k c (event.Do t) x same h
+item_leads w k c (Go t) x same h =
+    let there : x.parts ≡ go w (left w c t.0) c t = (gone_is (go w (left w c t.0) c t) t x (went w c t x h)).0 in
+    subst (λ (d : Parts). Leads w k (go_events w (left w c t.0) c t) d) (sym there) (go_leads w k (left w c t.0) c t same)
+item_leads w k c End x same h = absurd cc
+
+item_ended : (w : World) (c : Parts) (item : Item) (x : Stepped) → play_item w c item ≡ Some x → HasEnded x.parts item
+item_ended w c (Fetch t) x h = tt
+item_ended w c (Mark t) x h = tt
+item_ended w c (Lift t) x h = tt
+item_ended w c (Do t) x h = tt
+item_ended w c (Go t) x h =
+    let g = gone_is (go w (left w c t.0) c t) t x (went w c t x h) in
+    subst (λ (d : Parts). IsSome (results_of d t.0).ending) (sym g.0) g.1
+item_ended w c End x h = tt
+
+-- what a schedule that was played is
+record PlayedSo (w : World) (c : Parts) (played : List Played) (d : Parts) : Type 0 where
+  leads : (k : CoreState) → k.parts ≡ c → Leads w k (items_events w c played) d
+  ended : AreEnded w c played
+
+whole_parts : (c d : Parts) (ps qs : List Played) → Whole c ps ≡ Whole d qs → (c ≡ d) × (ps ≡ qs)
+whole_parts c d ps qs h = (cc, cc)
+
+ended_so : (w : World) (c d : Parts) (played : List Played) → Whole c [] ≡ Whole d played → PlayedSo w c played d
+ended_so w c d played h =
+    let e = whole_parts c d [] played h in
+    subst (λ (ps : List Played). PlayedSo w c ps d) e.1 (record { leads = λ k same. nothing w k d (same ∙ e.0); ended = tt })
+
+item_so : (w : World) (c e : Parts) (item : Item) (x : Stepped) (ps : List Played) → play_item w c item ≡ Some x → PlayedSo w x.parts ps e → PlayedSo w c (record { item = item; shown = x.shown } ∷ ps) e
+item_so w c e item x ps h so =
+    let there : after c (play_item w c item) ≡ x.parts = ap (after c) h in
+    record {
+      leads = λ k same. joins w k (item_events w c item) (items_events w (after c (play_item w c item)) ps) x.parts e (item_leads w k c item x same h)
+          (λ l q. subst (λ (d : Parts). Leads w l (items_events w d ps) e) (sym there) (so.leads l q));
+      ended = (subst (λ (d : Parts). HasEnded d item) (sym there) (item_ended w c item x h), subst (λ (d : Parts). AreEnded w d ps) (sym there) so.ended);
+    }
+
+play_so : (w : World) (n : ℕ) (c d : Parts) (lines : List LineView) (played : List Played) → play w n c lines ≡ Whole d played → PlayedSo w c played d
+play_so w n c d [] played h = absurd cc
+play_so w n c d (line ∷ lines) played h = by_item (item_at w.job line.bytes) (λ b ps q. play_so w (n + 1) b d lines ps q) h
+  where
+    more : Parts → Play
+    more e = play w (n + 1) e lines
+
+    Rest : Type 0
+    Rest = (b : Parts) (ps : List Played) → play w (n + 1) b lines ≡ Whole d ps → PlayedSo w b ps d
+
+    by_end : (ls : List LineView) → play_end n c ls ≡ Whole d played → PlayedSo w c played d
+    by_end [] q = ended_so w c d played q
+    by_end (l ∷ ls) q = absurd cc
+
+    by_play : (item : Item) (x : Stepped) → play_item w c item ≡ Some x → Rest → (p : Play) → more x.parts ≡ p → with_item (record { item = item; shown = x.shown }) p ≡ Whole d played → PlayedSo w c played d
+    by_play item x step rest (Bad m) e q = absurd cc
+    by_play item x step rest (Whole b ps) e q =
+        let s = whole_parts b d (record { item = item; shown = x.shown } ∷ ps) played q in
+        let so : PlayedSo w x.parts ps d = rest x.parts ps (e ∙ ap (λ (f : Parts). Whole f ps) s.0) in
+        subst (λ (l : List Played). PlayedSo w c l d) s.1 (item_so w c d item x ps step so)
+
+    by_step : (item : Item) → Rest → (o : Option Stepped) → play_item w c item ≡ o → play_on more n item o ≡ Whole d played → PlayedSo w c played d
+    by_step item rest None step q = absurd cc
+    by_step item rest (Some x) step q = by_play item x step rest (more x.parts) refl q
+
+    by_line : (item : Item) → Rest → (b : Bool) → (if b then play_end n c lines else play_on more n item (play_item w c item)) ≡ Whole d played → PlayedSo w c played d
+    by_line item rest true q = by_end lines q
+    by_line item rest false q = by_step item rest (play_item w c item) refl q
+
+    by_item : (o : Option Item) → Rest → play_line more w n c lines o ≡ Whole d played → PlayedSo w c played d
+    by_item None rest q = absurd cc
+    by_item (Some item) rest q = by_line item rest (is_end item) q
+
+pub is_run : (w : World) (n : ℕ) (d : Parts) (lines : List LineView) (played : List Played) → play w n (planted w) lines ≡ Whole d played → IsRun w d played
+is_run w n d lines played h =
+    let so : PlayedSo w (planted w) played d = play_so w n (planted w) d lines played h in
+    let whole : Leads w (core_start w) (schedule_events w played) d =
+    joins w (core_start w) (plants_from w 0 (length w.places) (first_parts w)) (items_events w (planted w) played) (planted w) d (plants_lead w (core_start w) 0 (length w.places) (first_parts w) refl) so.leads in
+    record { core = whole.core; run = whole.run; stored = whole.stored; ended = so.ended }
+
+-- of the schedule of a job of one phase
+pub play_is_run : (j : JobView) (places : List Place) (count : ℕ) (d : Parts) (lines : List LineView) (played : List Played) → play_of j places count lines ≡ Whole d played → IsRun (record { job = j; places = places }) d played
+play_is_run j places count d lines played h = by_phases (nat_eq (length j.phases) 1) h
+  where
+    by_phases : (b : Bool) → (let w : World = record { job = j; places = places } in if b then play w (count + 1) (planted w) lines else Bad 0) ≡ Whole d played → IsRun (record { job = j; places = places }) d played
+    by_phases true q = is_run (record { job = j; places = places }) (count + 1) d lines played q
+    by_phases false q = absurd cc
+
+-- ---- a task that goes
+
+pub is_there : {A : Type 0} (o : Option A) (n t : ℕ) (Q : Type 0) → (IsNone o ↔ (t < n → Q)) → is_none o ≡ false → t < n
+is_there None n t Q h e = absurd cc
+is_there (Some x) n t Q h e = elim (cases_lt t n) [
+  | inl l ↦ l
+  | inr k ↦ (let none : IsNone (Some x) = h.1 (λ l. absurd (omega (arith, l, k))) in absurd cc)
+]
+
+pub goes : (w : World) (c d : Parts) (t : TaskNo) → is_none (next_of w c t) ≡ false → d ≡ go w (left w c t.0) c t → IsSome (results_of d t.0).ending → play_item w c (Go t) ≡ Some (record { parts = d; shown = shown.Done })
+goes w c d t some at ended =
+    ap (λ (b : Bool). if b then None else gone (go w (left w c t.0) c t) t) some ∙ (ap (λ (e : Parts). gone e t) (sym at) ∙ ap (λ (b : Bool). if b then Some (record { parts = d; shown = shown.Done }) else None) ended)
