@@ -1,9 +1,7 @@
 -- What the program answers with, cause by cause.
 use Rattle.std.proofs.Common.{inl, inr, OnOk, OnErr, IfErr, ◌≡◌, ◌≢◌, ℕ, ◌≤◌, Bool, true, false, Result, Ok, Err, List, length, take, drop, refl, sym, ap, ◌∙◌, arith}
 use Rattle.std.proofs.lemmas.List.{length-append, take_all, take_at, drop_at}
-use Rattle.std.specs.Io.KnownBytes.{Appends}
-use Rattle.cov_outside.specs.Causes.{HasCause}
-use Rattle.cov_outside.specs.Whole.{AppendsSome}
+use Rattle.cov_outside.specs.Writes.{Writes}
 use Rattle.module_area.specs.declared.places.Place.{Place}
 use Rattle.brk_table.specs.Places.{TablesView, all_places}
 use Rattle.session_book.specs.JobView.{JobView}
@@ -20,7 +18,7 @@ use Rattle.report_text.specs.Conditions.{AreResultsOf, AreSetsOf}
 use Rattle.report_text.specs.Report.{report_of}
 use Rattle.report_text.specs.Table.{table_text}
 use Rattle.coverage_program.specs.Answers.{HasJob, CameWhole, CameJob, CameFirst, HasPlay, IsStopped, BadJob, LargeJob, BadListing, WantOfMemory, Report, Places, Replayed, BadSchedule, Stopped, NoMemoryToRun, IsWritten, Answers, fault_refusal}
-use Rattle.coverage_program.specs.Changes.{SourceChange, SinkChange, AreasChange, no_change}
+use Rattle.coverage_program.specs.Changes.{SourceChange, SinkChange, AreasChange, sink_change, no_change}
 use Rattle.coverage_program.specs.declared.schedule.Played.{Played}
 use Rattle.job_run.specs.declared.outcome.Done.{Done}
 use Rattle.coverage_program.specs.declared.tables.Refused.{Refused}
@@ -62,10 +60,10 @@ reports j tables before after tasks sets l o = record {
 }
 
 -- a text that was written, as its status tells
-pub written_as : {T E : Type 0} (k : SinkChange) (text : List ℕ) (r : Result T E) (answer : ℕ) → OnOk r (Appends k.written k.grown text) → OnErr r (AppendsSome k.written k.grown text) → HasCause k.faults k.later r →
-    OnOk r (answer ≡ 0) → OnErr r (answer ≡ 6) → IsWritten 0 text k answer
-written_as k text (Ok v) answer whole some cause good bad = inl (good, whole, cause.later)
-written_as k text (Err e) answer whole some cause good bad = inr (bad, some, cause.failed)
+pub written_as : {K T E : Type 0} {written : K → Option (List ℕ)} {faults : K → ℕ} {old new : K} (text : List ℕ) (r : Result T E) (answer : ℕ) → Writes written faults old new r text →
+    OnOk r (answer ≡ 0) → OnErr r (answer ≡ 6) → IsWritten 0 text (sink_change written faults old new) answer
+written_as text (Ok v) answer w good bad = inl (good, w.whole, w.cause.later)
+written_as text (Err e) answer w good bad = inr (bad, w.some, w.cause.failed)
 
 pub reported : (s : SourceChange) (j : JobView) (tables : TablesView) (a : AreasChange) (k : SinkChange) (answer : ℕ) (text : List ℕ) →
     CameJob false s j → Match j tables.tables → tables.places ≡ all_places tables.tables → (run : HasRun j tables.places a.before a.after) → Reports j tables run.sets text → IsWritten 0 text k answer →

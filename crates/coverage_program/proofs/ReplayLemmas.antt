@@ -12,7 +12,7 @@ use Rattle.report_text.specs.Conditions.{AreResultsOf, AreSetsOf}
 use Rattle.session_book.specs.JobView.{JobView}
 use Rattle.session_book.specs.Sessions.{task_of, session_of}
 use Rattle.report_text.specs.Report.{result_lines}
-use Rattle.report_text.specs.Writes.{Writes}
+use Rattle.report_text.specs.Writes.{WritesLines}
 use Rattle.coverage_program.specs.Replay.{Play, Bad, Whole, with_item, event_line, event_lines, no_item, replay_lines, plant_at, planted_from, play, play_line, play_end, IsLine, IsUnplayed}
 use Rattle.coverage_program.specs.declared.schedule.ScheduleFault.{ScheduleFault}
 use Rattle.coverage_program.specs.declared.schedule.ScheduleFault.TheVariants as fault
@@ -73,10 +73,10 @@ core_sets j tables w c is numbered fits = record {
 }
 
 -- the text of the core's sets is that of its world's
-pub told_core : {T E : Type 0} (old new : Option (List ℕ)) (before later : ℕ) (r : Result T E) (j : JobView) (tables : TablesView) (w : World) (c : Parts) (played : List Played) → w ≡ record { job = j; places = tables.places } →
-    Writes old new before later r (codes "COVERAGE REPLAY" ∷ (event_lines j played ++ result_lines j tables (λ t. results_of c t) (λ s p. set_of w c s p))) → Writes old new before later r (replay_lines j tables c played)
-told_core old new before later r j tables w c played is told =
-    subst (λ (v : World). Writes old new before later r (codes "COVERAGE REPLAY" ∷ (event_lines j played ++ result_lines j tables (λ t. results_of c t) (λ s p. set_of v c s p)))) is told
+pub told_core : {K T E : Type 0} {written : K → Option (List ℕ)} {faults : K → ℕ} {old new : K} {r : Result T E} (j : JobView) (tables : TablesView) (w : World) (c : Parts) (played : List Played) → w ≡ record { job = j; places = tables.places } →
+    WritesLines written faults old new r (codes "COVERAGE REPLAY" ∷ (event_lines j played ++ result_lines j tables (λ t. results_of c t) (λ s p. set_of w c s p))) → WritesLines written faults old new r (replay_lines j tables c played)
+told_core {written = written} {faults = faults} {old = old} {new = new} {r = r} j tables w c played is told =
+    subst (λ (v : World). WritesLines written faults old new r (codes "COVERAGE REPLAY" ∷ (event_lines j played ++ result_lines j tables (λ t. results_of c t) (λ s p. set_of v c s p)))) is told
 
 pub planted_next : (w : World) (p n : ℕ) (c : Parts) → p < n → planted_from w p (n - p) c ≡ planted_from w (p + 1) (n - (p + 1)) (plant_at w c p)
 planted_next w p n c lt = let more : n - p ≡ suc (n - (p + 1)) = omega arith in rw more refl

@@ -5,7 +5,7 @@ ghost use Rattle.brk_table.specs.Places.{IsIn, all_places};
 ghost use Rattle.cov_base.specs.Names.{unpadded};
 ghost use Rattle.interleave_core.specs.Results.{Fits};
 ghost use Rattle.report_text.specs.Conditions.{HasFewLines};
-ghost use Rattle.report_text.specs.Writes.{Writes};
+ghost use Rattle.report_text.specs.Writes.{WritesLines};
 ghost use Rattle.session_book.specs.Sessions.{task_of};
 ghost use Rattle.coverage_program.specs.Replay.{letters, or_dash, shown_words, item_words, event_line, event_lines, no_item, replay_lines};
 
@@ -115,7 +115,7 @@ fn event_line(job: &Job, n: u32, played: Played) -> ArrayVec<u8, 160>
 /// The lines of all items.
 fn events_text<K: Sink>(sink: &mut K, job: &Job, played: &[Played]) -> Result<(), Failed>
     requires { length played.now < 2 ^ 32 }
-    ensures { Writes (K.written sink.old) (K.written sink.new) (K.faults sink.old) (K.faults sink.new) result (event_lines job.now played.now) }
+    ensures { WritesLines K.written K.faults sink.old sink.new result (event_lines job.now played.now) }
 {
     for i in 0..played.len() {
         put(sink, event_line(job, i as u32 + 1, played[i]))?;
@@ -138,7 +138,7 @@ pub fn replay_text<K: Sink>(
     requires core { core.now.world ≡ record { job = job.now; places = tables.now.places } }
     requires fits { Fits core.now.world core.now.parts }
     requires items { length played.now < 2 ^ 32 }
-    ensures { Writes (K.written sink.old) (K.written sink.new) (K.faults sink.old) (K.faults sink.new) result (replay_lines job.now tables.now core.now.parts played.now) }
+    ensures { WritesLines K.written K.faults sink.old sink.new result (replay_lines job.now tables.now core.now.parts played.now) }
 {
     put(sink, words_line(b"COVERAGE REPLAY"))?;
     events_text(sink, job, played)?;

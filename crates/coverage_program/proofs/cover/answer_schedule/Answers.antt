@@ -10,4 +10,4 @@ returns g c s a bytes end came behind =
     let there = ap (λ (b : List ℕ). play_of c.args.job.now c.args.tables.now.places c.args.lines (lines_of b)) (sym behind) in
     replayed s c.args.job.now c.args.tables.now c.in-Ok.replayed.core.parts c.deref-2.result.now a _ _
     (record { bytes = bytes; count = c.args.lines; end = end; came = came; match = c.requires.matching; numbered = c.requires.numbered; plays = there ∙ (c.in-Ok.ensures.whole ∙ ap (Whole c.in-Ok.replayed.core.parts) (sym same)) })
-    (written_as _ _ _ _ c.replay_text.ensures.whole c.replay_text.ensures.some c.replay_text.ensures.cause c.status_of.ensures.whole c.status_of.ensures.failed)
+    (written_as _ _ _ c.replay_text.ensures.as_text c.status_of.ensures.whole c.status_of.ensures.failed)

@@ -4,4 +4,4 @@ use Rattle.coverage_program.proofs.cover.answer_table.Goals as goal
 pub returns : goal.returns
 returns g c a =
     listed_places _ c.in-Ok.read.job c.in-Ok.read.tables a _ _ (first_came _ _ _ _ c.in-Ok.ensures.came) c.in-Ok.ensures.matching c.in-Ok.ensures.numbered
-    (written_as _ _ _ _ c.table.ensures.whole c.table.ensures.some c.table.ensures.cause c.status_of.ensures.whole c.status_of.ensures.failed)
+    (written_as _ _ _ c.table.ensures c.status_of.ensures.whole c.status_of.ensures.failed)

@@ -11,4 +11,4 @@ pub returns : goal.returns
 returns g c s came =
     reported s c.args.job.now c.args.tables.now _ _ _ _ came c.requires.matching c.requires.numbered c.in-Ok.ensures.left.ran
     (reports c.args.job.now c.args.tables.now _ _ c.in-Ok.outcome.tasks.items c.in-Ok.outcome.sets c.in-Ok.ensures.left c.in-Ok.ensures.outcome)
-    (written_as _ _ _ _ c.report.ensures.whole c.report.ensures.some c.report.ensures.cause c.status_of.ensures.whole c.status_of.ensures.failed)
+    (written_as _ _ _ c.report.ensures c.status_of.ensures.whole c.status_of.ensures.failed)

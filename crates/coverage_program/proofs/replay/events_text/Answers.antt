@@ -10,7 +10,7 @@ returns-in_err-put g c =
     let i = c.loop-i.i in
     let here : i < length c.args.played.now = search rules in
     let told = told_line c.args.job.now c.args.played.now i c.index-played-i.result _ here c.index-played-i.is c.event_line.ensures in
-    progress_exit _ _ _ _ _ _ _ _ _ _ _ c.from_residual.ensures.0 (c.in_err-put.ensures _ told) (progress_at _ _ _ _ _ _ _ (lines_from-next lines (i + 1) i (length c.args.played.now) here) c.loop-i.invariant)
+    progress_exit _ c.from_residual.ensures.0 (c.in_err-put.ensures _ told) (progress_at (lines_from-next lines (i + 1) i (length c.args.played.now) here) c.loop-i.invariant)
 
 pub loop-i-preserved : goal.loop-i-preserved
 loop-i-preserved g c =
@@ -18,4 +18,4 @@ loop-i-preserved g c =
     let i = c.loop-i.i in
     let here : i < length c.args.played.now = search rules in
     let told = told_line c.args.job.now c.args.played.now i c.index-played-i.result _ here c.index-played-i.is c.event_line.ensures in
-    progress_more _ _ _ _ _ _ _ _ _ _ (c.in_ok-put.ensures _ told) (progress_at _ _ _ _ _ _ _ (lines_from-next lines (i + 1) i (length c.args.played.now) here) c.loop-i.invariant)
+    progress_more (c.in_ok-put.ensures _ told) (progress_at (lines_from-next lines (i + 1) i (length c.args.played.now) here) c.loop-i.invariant)

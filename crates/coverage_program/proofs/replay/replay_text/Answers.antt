@@ -6,20 +6,20 @@ use Rattle.coverage_program.proofs.replay.replay_text.Goals as goal
 pub returns-in_err-put : goal.returns-in_err-put
 returns-in_err-put g c =
     let head : c.words_line.result.items ≡ codes "COVERAGE REPLAY" ++ 10 ∷ [] = search rules in
-    progress_exit _ _ _ _ _ _ _ _ _ _ _ c.from_residual.ensures.0 (c.in_err-put.ensures _ head) (progress_start _ _ _)
+    progress_exit _ c.from_residual.ensures.0 (c.in_err-put.ensures _ head) progress_start
 
 pub returns-in_err-events_text : goal.returns-in_err-events_text
 returns-in_err-events_text g c =
     let head : c.words_line.result.items ≡ codes "COVERAGE REPLAY" ++ 10 ∷ [] = search rules in
-    let first = progress_more _ _ _ _ _ _ _ _ _ _ (c.in_ok-put.ensures _ head) (progress_start _ _ _) in
-    progress_exit _ _ _ _ _ _ _ _ _ _ _ c.from_residual-in_err-events_text.ensures.0 c.in_err-events_text.ensures first
+    let first = progress_more (c.in_ok-put.ensures _ head) progress_start in
+    progress_exit _ c.from_residual-in_err-events_text.ensures.0 c.in_err-events_text.ensures first
 
 pub returns : goal.returns
 returns g c =
     let head : c.words_line.result.items ≡ codes "COVERAGE REPLAY" ++ 10 ∷ [] = search rules in
-    let first = progress_more _ _ _ _ _ _ _ _ _ _ (c.in_ok-put.ensures _ head) (progress_start _ _ _) in
-    let second = progress_more _ _ _ _ _ _ _ _ _ _ c.in_ok-events_text.ensures first in
-    told_core _ _ _ _ _ c.args.job.now c.args.tables.now c.args.core.now.world c.args.core.now.parts c.args.played.now c.requires.core (progress_last _ _ _ _ _ _ _ _ _ c.results_part.ensures second)
+    let first = progress_more (c.in_ok-put.ensures _ head) progress_start in
+    let second = progress_more c.in_ok-events_text.ensures first in
+    told_core c.args.job.now c.args.tables.now c.args.core.now.world c.args.core.now.parts c.args.played.now c.requires.core (progress_last c.results_part.ensures second)
 
 pub results_part-requires-clause-results : goal.results_part-requires-clause-results
 results_part-requires-clause-results g c = core_results c.args.job.now c.args.tables.now c.args.core.now.world c.args.core.now.parts c.requires.core c.requires.fits
