@@ -11,63 +11,20 @@ use Rattle.interleave_core.specs.Results.{next_of, results_of}
 use Rattle.interleave_core.specs.declared.events.Event.{Event}
 use Rattle.interleave_core.specs.declared.events.Event.TheVariants as event
 use Rattle.interleave_core.specs.declared.events.Shown.TheVariants as shown
-use Rattle.interleave_core.proofs.Runs.{some_core, through}
+use Rattle.interleave_core.specs.Going.{Leads, HasGone, after, where_possible, left, go, go_events}
+use Rattle.interleave_core.proofs.GoneLemmas.{joins, nothing, one_leads, where_leads, go_leads}
 use Rattle.job_text.specs.Lines.{LineView}
 use Rattle.job_text.specs.Schedule.{item_at}
 use Rattle.job_text.specs.declared.schedule.Item.{Item}
 use Rattle.job_text.specs.declared.schedule.Item.TheVariants.{Fetch, Mark, Lift, Do, Go, End}
-use Rattle.coverage_program.specs.Replay.{Play, Bad, Whole, after, plant_of, plant_at, planted, planted_from, plants_from, where_possible, next_events, go, go_by, go_events, gone, left, play, play_item, play_line, play_on, play_end, play_of, with_item, is_end, item_events, items_events, schedule_events, HasEnded, AreEnded, IsRun}
+use Rattle.coverage_program.specs.Replay.{Play, Bad, Whole, plant_of, plant_at, planted, planted_from, plants_from, gone, play, play_item, play_line, play_on, play_end, play_of, with_item, is_end, item_events, items_events, schedule_events, HasEnded, AreEnded, IsRun}
 use Rattle.coverage_program.specs.declared.schedule.Played.{Played}
-
--- from this core these events are possible one after the other, and what is then stored
-record Leads (w : World) (k : CoreState) (events : List Event) (parts : Parts) : Type 0 where
-  core : CoreState
-  run : core_from w k events ≡ Some core
-  stored : core.parts ≡ parts
-
-core_from-append : (w : World) (c d : CoreState) (xs ys : List Event) → core_from w c xs ≡ Some d → core_from w c (xs ++ ys) ≡ core_from w d ys
-core_from-append w c d [] ys h = ap (λ (b : CoreState). core_from w b ys) (some_core c d h)
-core_from-append w c d (e ∷ xs) ys h =
-    let at = through (λ b. core_from w b xs) (core_step w c e) d h in
-    ap (go_on (λ b. core_from w b (xs ++ ys))) at.1 ∙ core_from-append w at.0.core d xs ys at.2
-
--- the events before a point, and those behind it
-joins : (w : World) (k : CoreState) (xs ys : List Event) (c d : Parts) → Leads w k xs c → ((l : CoreState) → l.parts ≡ c → Leads w l ys d) → Leads w k (xs ++ ys) d
-joins w k xs ys c d first more =
-    let rest : Leads w first.core ys d = more first.core first.stored in
-    record { core = rest.core; run = core_from-append w k first.core xs ys first.run ∙ rest.run; stored = rest.stored }
-
-nothing : (w : World) (k : CoreState) (c : Parts) → k.parts ≡ c → Leads w k [] c
-nothing w k c e = record { core = k; run = refl; stored = e }
-
-one : (w : World) (k : CoreState) (c : Parts) (e : Event) (x : Stepped) → k.parts ≡ c → parts_step w c e ≡ Some x → Leads w k (e ∷ []) x.parts
-one w k c e x same step =
-    let here : parts_step w k.parts e ≡ Some x = ap (λ (p : Parts). parts_step w p e) same ∙ step in
-    record {
-      core = (core_after w k e x).core;
-      run = ap (λ (o : Option Stepped). go_on (λ d. core_from w d []) (option_map (core_after w k e) o)) here;
-      stored = refl;
-    }
-
-where_leads : (w : World) (k : CoreState) (c : Parts) (e : Event) (o : Option Stepped) → k.parts ≡ c → parts_step w c e ≡ o → Leads w k (where_possible e o) (after c o)
-where_leads w k c e None same step = nothing w k c same
-where_leads w k c e (Some x) same step = one w k c e x same step
 
 plants_lead : (w : World) (k : CoreState) (p count : ℕ) (c : Parts) → k.parts ≡ c → Leads w k (plants_from w p count c) (planted_from w p count c)
 plants_lead w k p zero c same = nothing w k c same
 plants_lead w k p (suc count) c same =
     joins w k (where_possible (plant_of w p) (parts_step w c (plant_of w p))) (plants_from w (p + 1) count (plant_at w c p)) (plant_at w c p) (planted_from w (p + 1) count (plant_at w c p))
     (where_leads w k c (plant_of w p) (parts_step w c (plant_of w p)) same refl) (λ l e. plants_lead w l (p + 1) count (plant_at w c p) e)
-
-go_leads : (w : World) (k : CoreState) (n : ℕ) (c : Parts) (t : TaskNo) → k.parts ≡ c → Leads w k (go_events w n c t) (go w n c t)
-go_leads w k zero c t same = nothing w k c same
-go_leads w k (suc n) c t same = by_next (next_of w c t) (λ l d e. go_leads w l n d t e)
-  where
-    by_next : (o : Option Event) → ((l : CoreState) (d : Parts) → l.parts ≡ d → Leads w l (go_events w n d t) (go w n d t)) → Leads w k (next_events (λ d. go_events w n d t) w c o) (go_by (λ d. go w n d t) w c o)
-    by_next None more = nothing w k c same
-    by_next (Some e) more =
-        let d : Parts = after c (parts_step w c e) in
-        joins w k (where_possible e (parts_step w c e)) (go_events w n d t) d (go w n d t) (where_leads w k c e (parts_step w c e) same refl) (λ l q. more l d q)
 
 -- a task that has ended
 gone_is : (d : Parts) (t : TaskNo) (x : Stepped) → gone d t ≡ Some x → (x.parts ≡ d) × IsSome (results_of d t.0).ending
@@ -85,10 +42,10 @@ went w c t x h = by_none (is_none (next_of w c t)) h
     by_none false q = q
 
 item_leads : (w : World) (k : CoreState) (c : Parts) (item : Item) (x : Stepped) → k.parts ≡ c → play_item w c item ≡ Some x → Leads w k (item_events w c item) x.parts
-item_leads w k c (Fetch t) x same h = one w k c (event.Fetch t) x same h
-item_leads w k c (Mark t) x same h = one w k c (event.Mark t) x same h
-item_leads w k c (Lift t) x same h = one w k c (event.Lift t) x same h
-item_leads w k c (Do t) x same h = one w k c (event.Do t) x same h
+item_leads w k c (Fetch t) x same h = one_leads w k c (event.Fetch t) x same h
+item_leads w k c (Mark t) x same h = one_leads w k c (event.Mark t) x same h
+item_leads w k c (Lift t) x same h = one_leads w k c (event.Lift t) x same h
+item_leads w k c (Do t) x same h = one_leads w k c (event.Do t) x same h
 item_leads w k c (Go t) x same h =
     let there : x.parts ≡ go w (left w c t.0) c t = (gone_is (go w (left w c t.0) c t) t x (went w c t x h)).0 in
     subst (λ (d : Parts). Leads w k (go_events w (left w c t.0) c t) d) (sym there) (go_leads w k (left w c t.0) c t same)
@@ -174,15 +131,9 @@ play_is_run j places count d lines played h = by_phases (nat_eq (length j.phases
     by_phases true q = is_run (record { job = j; places = places }) (count + 1) d lines played q
     by_phases false q = absurd cc
 
--- ---- a task that goes
-
-pub is_there : {A : Type 0} (o : Option A) (n t : ℕ) (Q : Type 0) → (IsNone o ↔ (t < n → Q)) → is_none o ≡ false → t < n
-is_there None n t Q h e = absurd cc
-is_there (Some x) n t Q h e = elim (cases_lt t n) [
-  | inl l ↦ l
-  | inr k ↦ (let none : IsNone (Some x) = h.1 (λ l. absurd (omega (arith, l, k))) in absurd cc)
-]
-
 pub goes : (w : World) (c d : Parts) (t : TaskNo) → is_none (next_of w c t) ≡ false → d ≡ go w (left w c t.0) c t → IsSome (results_of d t.0).ending → play_item w c (Go t) ≡ Some (record { parts = d; shown = shown.Done })
 goes w c d t some at ended =
     ap (λ (b : Bool). if b then None else gone (go w (left w c t.0) c t) t) some ∙ (ap (λ (e : Parts). gone e t) (sym at) ∙ ap (λ (b : Bool). if b then Some (record { parts = d; shown = shown.Done }) else None) ended)
+
+pub stays : (w : World) (c : Parts) (t : TaskNo) → next_of w c t ≡ None → play_item w c (Go t) ≡ None
+stays w c t none = ap (λ (o : Option Event). if is_none o then None else gone (go w (left w c t.0) c t) t) none

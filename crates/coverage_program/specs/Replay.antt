@@ -12,6 +12,7 @@ use Rattle.session_book.specs.Sessions.{task_of}
 use Rattle.interleave_core.specs.World.{World, TaskPart, Parts, part_of, plan_in, budget_in, first_parts}
 use Rattle.interleave_core.specs.Core.{CoreState, core_run}
 use Rattle.interleave_core.specs.Steps.{Stepped, parts_step, is_spent, set_of}
+use Rattle.interleave_core.specs.Going.{after, where_possible, left, go, go_events}
 use Rattle.interleave_core.specs.Results.{next_of, results_of}
 use Rattle.interleave_core.specs.declared.stage.Due.{Due}
 use Rattle.interleave_core.specs.declared.stage.Due.TheVariants.{Marking, Lifting, Nothing}
@@ -36,11 +37,6 @@ pub data Play : Type 0 where
   Bad : ℕ → Play
   Whole : Parts → List Played → Play
 
--- what is stored after an event, where it was possible
-abbrev pub after : Parts → Option Stepped → Parts
-after c None = c
-after c (Some x) = x.parts
-
 -- the plant of a place for its session
 abbrev pub plant_of : World → ℕ → Event
 plant_of w p = event.Plant (record { 0 = window_at (plan_in w) p }) (record { 0 = p })
@@ -55,31 +51,6 @@ planted_from w p (suc count) c = planted_from w (p + 1) count (plant_at w c p)
 
 abbrev pub planted : World → Parts
 planted w = planted_from w 0 (length w.places) (first_parts w)
-
-abbrev pub due_left : Due → ℕ
-due_left Marking = 3
-due_left Lifting = 2
-due_left Nothing = 1
-
--- More than the events that are left to a task, by the instructions that are left: at most 8 an instruction, which is
--- fetched, marked, lifted and done, and so is the subject of an EX.
-abbrev pub left_of : World → ℕ → TaskPart → Stage → ℕ
-left_of w t u Ready = if is_spent w t u.state then 1 else 8 * (budget_in w t - u.state.done) + 9
-left_of w t u Awaiting = 8 * (budget_in w t - u.state.done) + 5
-left_of w t u (Holding h) = 8 * (budget_in w t - u.state.done) + due_left h.due + (if h.subject then 1 else 5)
-left_of w t u (Ended e) = 0
-
-abbrev pub left : World → Parts → ℕ → ℕ
-left w c t = left_of w t (part_of c t) (part_of c t).stage
-
-abbrev pub go_by : (Parts → Parts) → World → Parts → Option Event → Parts
-go_by more w c None = c
-go_by more w c (Some e) = more (after c (parts_step w c e))
-
--- the task's events one by one until it has ended, at most so many
-abbrev pub go : World → ℕ → Parts → TaskNo → Parts
-go w zero c t = c
-go w (suc n) c t = go_by (λ d. go w n d t) w c (next_of w c t)
 
 -- the task has ended
 abbrev pub gone : Parts → TaskNo → Option Stepped
@@ -126,24 +97,10 @@ play_of j places count lines =
     let w : World = record { job = j; places = places } in
     if nat_eq (length j.phases) 1 then play w (count + 1) (planted w) lines else Bad 0
 
--- an event that is passed over where it isn't possible
-abbrev pub where_possible : Event → Option Stepped → List Event
-where_possible e None = []
-where_possible e (Some x) = e ∷ []
-
 -- the events of `planted_from`
 abbrev pub plants_from : World → ℕ → ℕ → Parts → List Event
 plants_from w p zero c = []
 plants_from w p (suc count) c = where_possible (plant_of w p) (parts_step w c (plant_of w p)) ++ plants_from w (p + 1) count (plant_at w c p)
-
-abbrev pub next_events : (Parts → List Event) → World → Parts → Option Event → List Event
-next_events more w c None = []
-next_events more w c (Some e) = where_possible e (parts_step w c e) ++ more (after c (parts_step w c e))
-
--- the events of `go`
-abbrev pub go_events : World → ℕ → Parts → TaskNo → List Event
-go_events w zero c t = []
-go_events w (suc n) c t = next_events (λ d. go_events w n d t) w c (next_of w c t)
 
 -- the events that an item stands for: one, or those that GO has made
 abbrev pub item_events : World → Parts → Item → List Event

@@ -1,12 +1,12 @@
 //! A schedule behind a job, played on the core.
-ghost use Rattle.std.specs.Prelude.{◌≡◌, ◌≢◌, ℕ, List, [], ◌+◌, ◌<◌, ◌≤◌, ◌^◌, nat_eq, length, None, Some, IsSome, IfOk, IfErr, OnErr, All};
+ghost use Rattle.std.specs.Prelude.{◌≡◌, ◌≢◌, ℕ, List, [], ◌+◌, ◌<◌, ◌≤◌, ◌^◌, nat_eq, length, None, Some, IfOk, IfErr, OnErr, All};
 ghost use Rattle.brk_table.specs.Places.{IsIn};
 ghost use Rattle.job_text.specs.Lines.{LineView, lines_of};
 ghost use Rattle.job_text.specs.Schedule.{item_at};
 ghost use Rattle.interleave_core.specs.World.{Parts, plan_in};
 ghost use Rattle.module_area.specs.PlanView.{window_at};
-ghost use Rattle.interleave_core.specs.Results.{Fits, results_of};
-ghost use Rattle.coverage_program.specs.Replay.{Play, with_item, play, play_end, play_of, play_line, play_item, plant_at, planted, planted_from, go, left, IsLine, IsUnplayed};
+ghost use Rattle.interleave_core.specs.Results.{Fits};
+ghost use Rattle.coverage_program.specs.Replay.{Play, with_item, play, play_end, play_of, play_line, play_item, plant_at, planted, planted_from, IsLine, IsUnplayed};
 
 use brk_table::Tables;
 use cov_base::{NoMemory, PlaceNo, SessNo, TaskNo};
@@ -59,20 +59,6 @@ impl From<NoMemory> for ScheduleFault {
     }
 }
 
-/// Applies the task's events until it has ended.
-fn go<'a>(core: &mut Core<'a>, t: TaskNo)
-    ensures world { core.new.world ≡ core.old.world }
-    ensures fits { Fits core.old.world core.old.parts → Fits core.new.world core.new.parts }
-    ensures parts { core.new.parts ≡ go core.old.world (left core.old.world core.old.parts t.0) core.old.parts t }
-    ensures ended { t.0 < length core.old.world.job.tasks → IsSome (results_of core.new.parts t.0).ending }
-{
-    while let Some(event) = core.next(t) {
-        let Ok(_) = core.apply(event) else {
-            unreachable!()
-        };
-    }
-}
-
 /// Plays one item: one event, or all of a task that hasn't ended.
 fn play_item<'a>(core: &mut Core<'a>, item: Item) -> Result<Shown, NotPossible>
     ensures possible { IfOk result (λ shown. play_item core.old.world core.old.parts item ≡ Some (record { parts = core.new.parts; shown = shown })) }
@@ -85,13 +71,10 @@ fn play_item<'a>(core: &mut Core<'a>, item: Item) -> Result<Shown, NotPossible>
         Item::Mark(t) => core.apply(Event::Mark(t)),
         Item::Lift(t) => core.apply(Event::Lift(t)),
         Item::Do(t) => core.apply(Event::Do(t)),
-        Item::Go(t) => {
-            if core.next(t).is_none() {
-                return Err(NotPossible);
-            }
-            go(core, t);
-            Ok(Shown::Done)
-        }
+        Item::Go(t) => match core.go(t) {
+            Ok(()) => Ok(Shown::Done),
+            Err(NotPossible) => Err(NotPossible),
+        },
         Item::End => Err(NotPossible),
     }
 }

@@ -1,14 +1,52 @@
-//! Areas that hand each call on to others and keep the first calls of each pass.
+//! Areas that hand each call on to others and keep the first calls of each pass, and a gate that counts the arrivals of
+//! each task, which stand among the calls where the task's next call finds them.
 ghost use Rattle.std.specs.Prelude.{◌≡◌};
 
 use arrayvec::ArrayVec;
 use cov_base::{Bits, Fact, NoMemory, PlaceNo, SessNo, TaskNo};
+use cov_outside::Gate;
 use module_area::{Areas, Cell, Cells, Finals, Forks, Plan, Tally};
-use std::alloc::Global;
+use std::alloc::{AllocError, Global};
+use std::sync::atomic::{AtomicU64, Ordering};
 
-/// A call on a place.
+/// A gate that holds no task and counts how often each has arrived.
+#[derive(Drop)]
+pub struct Arrivals {
+    counts: Vec<AtomicU64>,
+}
+
+impl Arrivals {
+    /// For the tasks of a job, so many, none of which has arrived.
+    pub fn new(alloc: Global, tasks: usize) -> Result<Arrivals, AllocError> {
+        let mut counts = Vec::new(alloc);
+        for _ in 0..tasks {
+            counts.push(AtomicU64::new(0))?;
+        }
+        Ok(Arrivals { counts })
+    }
+
+    /// How often the task has arrived.
+    pub fn of(&self, task: u32) -> u64 {
+        match self.counts.get(task as usize) {
+            Some(count) => count.load(Ordering::SeqCst),
+            None => 0,
+        }
+    }
+}
+
+impl Gate for Arrivals {
+    fn arrive(&self, task: TaskNo) {
+        if let Some(count) = self.counts.get(task.0 as usize) {
+            let before = count.load(Ordering::SeqCst);
+            count.store(before.saturating_add(1), Ordering::SeqCst);
+        }
+    }
+}
+
+/// A call on a place, or that its task has arrived at the gate for so many times by the next call.
 #[derive(Clone, Copy, Debug, PartialEq, Eq)]
 pub enum Call {
+    Arrive(u64),
     Plant(u32),
     Fetch(u32),
     Mark(u32, Fact),
@@ -35,18 +73,48 @@ fn keep_all(calls: &mut Calls, others: &Calls) {
     }
 }
 
+/// The calls of one pass, of a task but for the root's, and how often that task had arrived by the last of them.
 #[derive(Drop)]
-pub struct NotedPass<P> {
-    pass: P,
+struct Kept {
+    task: Option<u32>,
+    arrived: u64,
     calls: Calls,
 }
 
-#[derive(Drop)]
-pub struct NotedCells<C> {
-    cells: C,
+impl Kept {
+    fn new(task: Option<u32>) -> Kept {
+        Kept {
+            task,
+            arrived: 0,
+            calls: ArrayVec::new(),
+        }
+    }
+
+    fn keep(&mut self, arrivals: &Arrivals, call: Call) {
+        if let Some(task) = self.task {
+            let arrived = arrivals.of(task);
+            if arrived != self.arrived {
+                keep(&mut self.calls, Call::Arrive(arrived));
+                self.arrived = arrived;
+            }
+        }
+        keep(&mut self.calls, call);
+    }
 }
 
-impl<C: Forks> Cells for NotedCells<C> {
+#[derive(Drop)]
+pub struct NotedPass<P> {
+    pass: P,
+    kept: Kept,
+}
+
+#[derive(Drop)]
+pub struct NotedCells<'a, C> {
+    cells: C,
+    arrivals: &'a Arrivals,
+}
+
+impl<'a, C: Forks> Cells for NotedCells<'a, C> {
     type Pass = NotedPass<C::Pass>;
 
     ghost plan = { λ c. C.plan c.cells };
@@ -56,62 +124,64 @@ impl<C: Forks> Cells for NotedCells<C> {
     ghost notes = { λ p. C.notes p.pass };
 
     fn fetch(&self, pass: &mut NotedPass<C::Pass>, place: PlaceNo) -> Cell {
-        keep(&mut pass.calls, Call::Fetch(place.0));
+        pass.kept.keep(self.arrivals, Call::Fetch(place.0));
         self.cells.fetch(&mut pass.pass, place)
     }
 
     fn mark(&self, pass: &mut NotedPass<C::Pass>, s: SessNo, place: PlaceNo, fact: Fact) -> Bits {
-        keep(&mut pass.calls, Call::Mark(place.0, fact));
+        pass.kept.keep(self.arrivals, Call::Mark(place.0, fact));
         self.cells.mark(&mut pass.pass, s, place, fact)
     }
 
     fn lift(&self, pass: &mut NotedPass<C::Pass>, s: SessNo, place: PlaceNo) -> bool {
-        keep(&mut pass.calls, Call::Lift(place.0));
+        pass.kept.keep(self.arrivals, Call::Lift(place.0));
         self.cells.lift(&mut pass.pass, s, place)
     }
 
     fn plant(&self, pass: &mut NotedPass<C::Pass>, s: SessNo, place: PlaceNo) {
-        keep(&mut pass.calls, Call::Plant(place.0));
+        pass.kept.keep(self.arrivals, Call::Plant(place.0));
         self.cells.plant(&mut pass.pass, s, place)
     }
 }
 
-impl<C: Forks> Forks for NotedCells<C> {
+impl<'a, C: Forks> Forks for NotedCells<'a, C> {
     fn split(&self, root: &mut NotedPass<C::Pass>, task: TaskNo) -> NotedPass<C::Pass> {
         NotedPass {
             pass: self.cells.split(&mut root.pass, task),
-            calls: ArrayVec::new(),
+            kept: Kept::new(Some(task.0)),
         }
     }
 
     fn join(&self, root: &mut NotedPass<C::Pass>, other: NotedPass<C::Pass>) {
-        let NotedPass { pass, calls } = other;
-        keep_all(&mut root.calls, &calls);
+        let NotedPass { pass, kept } = other;
+        keep_all(&mut root.kept.calls, &kept.calls);
         self.cells.join(&mut root.pass, pass)
     }
 }
 
 /// The calls are those of the area that was finished last.
 #[derive(Drop)]
-pub struct NotedAreas<A> {
+pub struct NotedAreas<'a, A> {
     areas: A,
+    arrivals: &'a Arrivals,
     pub calls: Calls,
 }
 
-impl<A: Areas> NotedAreas<A> {
+impl<'a, A: Areas> NotedAreas<'a, A> {
     /// No area was finished yet.
-    pub fn new(areas: A) -> NotedAreas<A>
+    pub fn new(areas: A, arrivals: &'a Arrivals) -> NotedAreas<'a, A>
         ensures { result.areas ≡ areas }
     {
         NotedAreas {
             areas,
+            arrivals,
             calls: ArrayVec::new(),
         }
     }
 }
 
-impl<A: Areas> Areas for NotedAreas<A> {
-    type C = NotedCells<A::C>;
+impl<'a, A: Areas> Areas for NotedAreas<'a, A> {
+    type C = NotedCells<'a, A::C>;
 
     ghost ledger = { λ a. A.ledger a.areas };
 
@@ -123,24 +193,25 @@ impl<A: Areas> Areas for NotedAreas<A> {
         &mut self,
         alloc: Global,
         plan: &Plan,
-    ) -> Result<(NotedCells<A::C>, NotedPass<<A::C as Cells>::Pass>), NoMemory> {
+    ) -> Result<(NotedCells<'a, A::C>, NotedPass<<A::C as Cells>::Pass>), NoMemory> {
         let (cells, pass) = self.areas.make(alloc, plan)?;
         let root = NotedPass {
             pass,
-            calls: ArrayVec::new(),
+            kept: Kept::new(None),
         };
-        Ok((NotedCells { cells }, root))
+        let arrivals = self.arrivals;
+        Ok((NotedCells { cells, arrivals }, root))
     }
 
     fn finish(
         &mut self,
         alloc: Global,
-        cells: NotedCells<A::C>,
+        cells: NotedCells<'a, A::C>,
         pass: NotedPass<<A::C as Cells>::Pass>,
     ) -> Result<Finals, NoMemory> {
-        let NotedCells { cells } = cells;
-        let NotedPass { pass, calls } = pass;
-        self.calls = calls;
+        let NotedCells { cells, arrivals: _ } = cells;
+        let NotedPass { pass, kept } = pass;
+        self.calls = kept.calls;
         self.areas.finish(alloc, cells, pass)
     }
 

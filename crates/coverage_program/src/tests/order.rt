@@ -1,12 +1,12 @@
-//! The calls on cells come in the order of the instructions: each place is planted first, and a trap marks and then
-//! lifts before the instruction is done.
+//! The calls on cells come in the order of the instructions: each place is planted first, then the task arrives at the
+//! gate, once, and a trap marks and then lifts before the instruction is done.
 ghost use Rattle.std.specs.Prelude.{◌≡◌};
 
-use super::noted::{Call, NotedAreas};
+use super::noted::{Arrivals, Call, NotedAreas};
 use crate::cover::cover;
 use crate::status::Status;
 use cov_base::Fact;
-use cov_outside::{MemSink, MemSource, OpenGate};
+use cov_outside::{MemSink, MemSource};
 use shared_area::SharedAreas;
 use std::alloc::Global;
 use std::sync::Wait;
@@ -27,9 +27,10 @@ TASK A 100000 16 100 0\n\
 REG 1 00000003\n\
 ENDJOB\n";
 
-const COUNT_DOWN_CALLS: [Call; 12] = [
+const COUNT_DOWN_CALLS: [Call; 13] = [
     Call::Plant(0),
     Call::Plant(1),
+    Call::Arrive(1),
     Call::Fetch(0),
     Call::Mark(0, Fact::Went),
     Call::Fetch(0),
@@ -56,46 +57,87 @@ SESSION S M\n\
 TASK A 100000 16 100 0\n\
 ENDJOB\n";
 
-const EXECUTED_CALLS: [Call; 7] = [
+const EXECUTED_CALLS: [Call; 8] = [
     Call::Plant(0),
     Call::Plant(1),
     Call::Plant(2),
+    Call::Arrive(1),
     Call::Fetch(0),
     Call::Mark(0, Fact::Ran),
     Call::Lift(0),
     Call::Fetch(1),
 ];
 
-/// Runs a job over areas that keep their calls.
+/// Tasks of two phases: one in code that is listed, one in code that isn't, which makes no call, and one that is spent
+/// at its second instruction.
+const THREE: &[u8] = b"\
+COVERJOB 1\n\
+MODULE M 100000 4\n\
+TEXT 182207FE\n\
+LISTING 3\n\
+\x20 Loc  Object Code    Addr1 Addr2  Stmt   Source Statement\n\
+000000 1822                           1          LR\n\
+000002 07FE                           2          BR\n\
+MODULE N 200000 2\n\
+TEXT 07FE\n\
+PHASE P\n\
+TASK A 100000 16 100 0\n\
+PHASE Q\n\
+SESSION S M\n\
+TASK B 200000 16 100 0\n\
+TASK C 100000 16 1 0\n\
+ENDJOB\n";
+
+const THREE_CALLS: [Call; 6] = [
+    Call::Plant(0),
+    Call::Plant(1),
+    Call::Arrive(1),
+    Call::Fetch(0),
+    Call::Mark(0, Fact::Ran),
+    Call::Lift(0),
+];
+
+/// Runs a job of so many tasks over areas that keep their calls: its status, the calls on its last area, and how often
+/// each task has arrived at the gate.
 fn run_noted<T: Threads + Wait + Sync>(
     rt: &T,
     alloc: Global,
     job: &[u8],
-) -> Result<(Status, NotedAreas<SharedAreas>), Fail> {
+    tasks: u32,
+) -> Result<(Status, Vec<Call>, Vec<u64>), Fail> {
     let words = [String::from_str(alloc, "run")?];
     let mut source = MemSource::new(job.to_vec(alloc)?, 64, Vec::new(alloc));
     let mut sink = MemSink::new(alloc, 4096, 4096, Vec::new(alloc)).map_err(|_| "memory")?;
-    let shared = SharedAreas::new(alloc, 1).map_err(|_| "memory")?;
-    let mut areas = NotedAreas::new(shared);
-    let status = cover(
-        rt,
-        alloc,
-        &words,
-        &mut source,
-        &mut sink,
-        &mut areas,
-        &OpenGate,
-    );
-    Ok((status, areas))
+    let shared = SharedAreas::new(alloc, 2).map_err(|_| "memory")?;
+    let gate = Arrivals::new(alloc, tasks as usize)?;
+    let mut areas = NotedAreas::new(shared, &gate);
+    let status = cover(rt, alloc, &words, &mut source, &mut sink, &mut areas, &gate);
+    let calls = areas.calls.as_slice().to_vec(alloc)?;
+    let mut arrivals = Vec::new(alloc);
+    for task in 0..tasks {
+        arrivals.push(gate.of(task))?;
+    }
+    Ok((status, calls, arrivals))
 }
 
 #[test]
 fn plants_first_and_marks_before_it_lifts(rt: HostRuntime) -> Result<(), Fail> {
-    let (status, areas) = run_noted(&rt, rt.alloc(), COUNT_DOWN)?;
+    let (status, calls, arrivals) = run_noted(&rt, rt.alloc(), COUNT_DOWN, 1)?;
     assert_eq!(rt; status, Status(0));
-    assert_eq!(rt; areas.calls.as_slice(), COUNT_DOWN_CALLS.as_slice());
-    let (status, areas) = run_noted(&rt, rt.alloc(), EXECUTED)?;
+    assert_eq!(rt; calls.as_slice(), COUNT_DOWN_CALLS.as_slice());
+    assert_eq!(rt; arrivals.as_slice(), [1u64].as_slice());
+    let (status, calls, arrivals) = run_noted(&rt, rt.alloc(), EXECUTED, 1)?;
     assert_eq!(rt; status, Status(0));
-    assert_eq!(rt; areas.calls.as_slice(), EXECUTED_CALLS.as_slice());
+    assert_eq!(rt; calls.as_slice(), EXECUTED_CALLS.as_slice());
+    assert_eq!(rt; arrivals.as_slice(), [1u64].as_slice());
+    Ok(())
+}
+
+#[test]
+fn each_task_arrives_once_before_its_first_call(rt: HostRuntime) -> Result<(), Fail> {
+    let (status, calls, arrivals) = run_noted(&rt, rt.alloc(), THREE, 3)?;
+    assert_eq!(rt; status, Status(0));
+    assert_eq!(rt; calls.as_slice(), THREE_CALLS.as_slice());
+    assert_eq!(rt; arrivals.as_slice(), [1u64, 1, 1].as_slice());
     Ok(())
 }
