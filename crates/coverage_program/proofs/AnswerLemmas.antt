@@ -1,5 +1,5 @@
 -- What the program answers with, cause by cause.
-use Rattle.std.proofs.Common.{inl, inr, OnOk, OnErr, IfErr, ◌≡◌, ◌≢◌, ℕ, ◌≤◌, Bool, true, false, Result, Ok, Err, List, length, take, drop, refl, sym, ap, ◌∙◌, arith}
+use Rattle.std.proofs.Common.{inl, inr, OnOk, OnErr, IfErr, ◌≡◌, ◌≢◌, ℕ, ◌≤◌, Bool, true, false, Option, Result, Ok, Err, List, length, take, drop, refl, sym, ap, ◌∙◌, arith}
 use Rattle.std.proofs.lemmas.List.{length-append, take_all, take_at, drop_at}
 use Rattle.cov_outside.specs.Writes.{Writes}
 use Rattle.module_area.specs.declared.places.Place.{Place}
@@ -28,6 +28,7 @@ use Rattle.coverage_program.specs.declared.words.Command.TheVariants.{Run, Table
 use Rattle.job_run.specs.Outcomes.{IsOutcome}
 use Rattle.coverage_program.specs.Refusals.{RefusalView, job_refusal, Match}
 use Rattle.coverage_program.specs.Refused.{IsRefused, refused_refusal}
+use Rattle.task_run.specs.Courses.{solo}
 use Rattle.job_run.specs.Runs.{Account, HasRun, HasLeft}
 use Rattle.coverage_program.specs.Reports.{Reports}
 use Rattle.job_run.specs.Sets.{SetsView, set_in}
@@ -55,7 +56,7 @@ reports j tables before after tasks sets l o = record {
   sets = λ s p. set_in sets s p;
   are_results = o.are_results;
   are_sets = o.are_sets;
-  are_final = λ s p some most here. set_is_left j tables.places before after sets s p l o.job o.size here;
+  are_final = λ s p some most here. set_is_left solo j tables.places before after sets s p l o.job o.size here;
   is_text = refl;
 }
 

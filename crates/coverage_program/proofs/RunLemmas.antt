@@ -1,17 +1,16 @@
 -- A schedule that was played is a run of the core.
-use Rattle.std.proofs.Common.{◌≡◌, inl, inr, ℕ, zero, suc, ◌+◌, Bool, true, false, nat_eq, if◌then◌else◌, Option, Some, None, option_map, is_none, is_some, IsSome, IsNone, ◌↔◌, ◌<◌, arith, List, [], ◌∷◌, ◌++◌, length, refl, sym, ap, ◌∙◌, subst}
-use Rattle.std.proofs.lemmas.Bool.{cases_lt}
+use Rattle.std.proofs.Common.{◌≡◌, ℕ, zero, suc, ◌+◌, Bool, true, false, nat_eq, if◌then◌else◌, Option, Some, None, is_none, is_some, IsSome, List, [], ◌∷◌, length, refl, sym, ap, ◌∙◌, subst}
 use Rattle.cov_base.specs.declared.numbers.TaskNo.{TaskNo}
 use Rattle.module_area.specs.declared.places.Place.{Place}
 use Rattle.session_book.specs.JobView.{JobView}
 use Rattle.interleave_core.specs.World.{World, Parts, first_parts}
-use Rattle.interleave_core.specs.Core.{CoreState, core_start, core_step, core_after, core_from, go_on}
+use Rattle.interleave_core.specs.Core.{CoreState, core_start}
 use Rattle.interleave_core.specs.Steps.{Stepped, parts_step}
 use Rattle.interleave_core.specs.Results.{next_of, results_of}
 use Rattle.interleave_core.specs.declared.events.Event.{Event}
 use Rattle.interleave_core.specs.declared.events.Event.TheVariants as event
 use Rattle.interleave_core.specs.declared.events.Shown.TheVariants as shown
-use Rattle.interleave_core.specs.Going.{Leads, HasGone, after, where_possible, left, go, go_events}
+use Rattle.interleave_core.specs.Going.{Leads, after, where_possible, left, go, go_events}
 use Rattle.interleave_core.proofs.GoneLemmas.{joins, nothing, one_leads, where_leads, go_leads}
 use Rattle.job_text.specs.Lines.{LineView}
 use Rattle.job_text.specs.Schedule.{item_at}

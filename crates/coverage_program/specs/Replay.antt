@@ -1,5 +1,5 @@
 -- A schedule played on a core, and the text that tells it.
-use Rattle.std.specs.Prelude.{◌≡◌, ℕ, zero, suc, ◌+◌, ◌-◌, ◌*◌, Bool, true, false, nat_eq, if◌then◌else◌, Option, Some, None, is_none, is_some, IsSome, List, [], ◌∷◌, ◌++◌, length, get_or, codes, decimal}
+use Rattle.std.specs.Prelude.{◌≡◌, ℕ, zero, suc, ◌+◌, ◌-◌, Bool, true, false, nat_eq, if◌then◌else◌, Option, Some, None, is_none, is_some, IsSome, List, [], ◌∷◌, ◌++◌, length, get_or, codes, decimal}
 use Rattle.annotator.specs.Digits.{hex_digits}
 use Rattle.cov_base.specs.FactSet.{FactSet}
 use Rattle.cov_base.specs.Names.{unpadded}
@@ -9,15 +9,11 @@ use Rattle.module_area.specs.declared.places.Place.{Place}
 use Rattle.brk_table.specs.Places.{TablesView}
 use Rattle.session_book.specs.JobView.{JobView}
 use Rattle.session_book.specs.Sessions.{task_of}
-use Rattle.interleave_core.specs.World.{World, TaskPart, Parts, part_of, plan_in, budget_in, first_parts}
+use Rattle.interleave_core.specs.World.{World, Parts, plan_in, first_parts}
 use Rattle.interleave_core.specs.Core.{CoreState, core_run}
-use Rattle.interleave_core.specs.Steps.{Stepped, parts_step, is_spent, set_of}
+use Rattle.interleave_core.specs.Steps.{Stepped, parts_step, set_of}
 use Rattle.interleave_core.specs.Going.{after, where_possible, left, go, go_events}
 use Rattle.interleave_core.specs.Results.{next_of, results_of}
-use Rattle.interleave_core.specs.declared.stage.Due.{Due}
-use Rattle.interleave_core.specs.declared.stage.Due.TheVariants.{Marking, Lifting, Nothing}
-use Rattle.interleave_core.specs.declared.stage.Stage.{Stage}
-use Rattle.interleave_core.specs.declared.stage.Stage.TheVariants.{Ready, Awaiting, Holding, Ended}
 use Rattle.interleave_core.specs.declared.events.Event.{Event}
 use Rattle.interleave_core.specs.declared.events.Event.TheVariants as event
 use Rattle.interleave_core.specs.declared.events.Shown.{Shown}
