@@ -2,7 +2,6 @@
 from __future__ import annotations
 
 import os
-import re
 import sys
 
 from command import Fault, UsageError, WRITE_FAULT, read_input, reason, run, write_file
@@ -45,7 +44,7 @@ def record(folder: str, session: Session, module: Module) -> list[str]:
     conditional = [(at, it) for at, it in lines if it.is_conditional]
     hit = sum(len(it.mark.strip("^:")) + (it.mark == "&") for _, it in conditional)
     return [
-        f"TN:{re.sub('[^A-Z0-9]', '_', session.name)}",
+        f"TN:{session.name.translate(IN_FILES)}",
         f"SF:{os.path.join(folder, file_of(module))}",
         *(text for at, it in conditional for text in branches(at, it)),
         f"BRF:{2 * len(conditional)}",
@@ -63,6 +62,8 @@ def main(words: list[str]) -> None:
     folder = words[0]
     report = read_report("standard input", read_input())
     found = [(session, it) for session in report.sessions for it in session.modules if it.lines]
+    if not found:
+        raise Fault("standard input", "the report has no listing")
     tracefile = [line for session, it in found for line in record(folder, session, it)]
     try:
         os.makedirs(folder, exist_ok=True)
@@ -70,7 +71,7 @@ def main(words: list[str]) -> None:
         raise Fault(folder, reason(error), WRITE_FAULT) from None
     for _, module in found:
         write_file(os.path.join(folder, file_of(module)), b"".join(it.text + b"\n" for it in module.lines))
-    write_file(os.path.join(folder, "coverage.info"), "".join(f"{it}\n" for it in tracefile).encode())
+    write_file(os.path.join(folder, "coverage.info"), "".join(f"{it}\n" for it in tracefile).encode("utf-8", "surrogateescape"))
 
 
 if __name__ == "__main__":

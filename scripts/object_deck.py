@@ -42,6 +42,7 @@ class Piece:
     refers: int = 0
     length: int = 0
     is_negative: bool = False
+    is_branch: bool = False
 
 
 @dataclass
@@ -146,7 +147,7 @@ def read_constants(deck: Deck, place: str, record: bytes) -> None:
         if not is_chained:
             refers, section = number(item[0:2]), number(item[2:4])
         flags, address = item[-4], number(item[-3:])
-        deck.constants.append(Piece(place, section, address, b"", refers, length_of(place, flags), bool(flags & 2)))
+        deck.constants.append(Piece(place, section, address, b"", refers, length_of(place, flags), bool(flags & 2), flags >> 4 == 1))
         is_chained, at = bool(flags & 1), at + size
     if is_chained:
         raise Fault(place, "the last item of the relocation dictionary says that another follows, and none does")
@@ -252,5 +253,8 @@ def relocate(deck: Deck, piece: Piece, text: bytearray, addresses: dict[int, int
         raise Fault(piece.place, f"an address constant of the symbol {piece.refers}, which no ESD record has")
     offset = offset_in(piece, section, piece.length, "an address constant")
     end, change = offset + piece.length, addresses[piece.refers]
+    if piece.is_branch and deck.symbols[piece.refers].kind in SECTIONS:
+        # A V constant holds nothing of its section's origin.
+        change += deck.symbols[piece.refers].origin
     value = number(text[offset:end]) + (-change if piece.is_negative else change)
     text[offset:end] = (value % 256**piece.length).to_bytes(piece.length, "big")

@@ -193,7 +193,7 @@ def style() -> str:
 
 def page(report: Report) -> str:
     """The whole page."""
-    title = "Coverage of a schedule" if report.events else "Coverage report"
+    title = "Coverage of a schedule" if report.title == "COVERAGE REPLAY" else "Coverage report"
     modules = "\n".join(module_part(session, it) for session in report.sessions for it in session.modules if it.lines)
     return f"""<!DOCTYPE html>
 <html lang="en">

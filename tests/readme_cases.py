@@ -4,6 +4,7 @@ from __future__ import annotations
 import os
 import re
 import shutil
+import subprocess
 
 from harness import TOP, Tally, folder, run
 
@@ -32,6 +33,9 @@ def run_all(tally: Tally) -> None:
             if command.startswith("genhtml") and not shutil.which("genhtml"):
                 tally.left_out.append(f"README's {command}")
                 continue
-            ran = run(["bash", "-c", command], cwd=at)
-            fault = f"status {ran.status}: {ran.error[:300]}{ran.output[:200]!r}" if ran.status else None
+            try:
+                ran = run(["bash", "-c", command], cwd=at)
+                fault = f"status {ran.status}: {ran.error[:300]}{ran.output[:200]!r}" if ran.status else None
+            except subprocess.TimeoutExpired:
+                fault = "it took too long"
             tally.note(f"README: {command}", fault)

@@ -118,6 +118,9 @@ def constants() -> None:
     items = rld("00020001" "0C" "000000" + chained + "00010001" "0E" "00000C" "00030001" "1C" "000010")
     wanted = "0020001C" "200002" "00" "200003" "00" "00000000" "00200018" "00000001" + "0" * 16
     equal(text_of(module_of(names + text + items + END, "200000")), wanted)
+    # A V constant of a section that was assembled from 8 on.
+    own = esd(1, item("A", SD, 0, 8), item("B", SD, 8, 8)) + rld("00020001" "1C" "000000") + END
+    equal(text_of(module_of(own, "200000")), "00200008" + "0" * 24)
 
 
 def labels() -> None:
@@ -326,6 +329,9 @@ def lcov_files() -> None:
                 equal(file.read().splitlines(), COUNTED.listing())
             with open(f"{at}/out/coverage.info", encoding="ascii") as file:
                 equal(file.read(), wanted.format(*counts))
+    with folder() as at:
+        refused(coverage("lcov", f"{at}/out", data=b"COVERAGE REPORT\nEND\n"), 2, "standard input", "no listing")
+        equal(os.path.lexists(f"{at}/out"), False)
 
 
 def words_and_streams() -> None:
