@@ -17,7 +17,7 @@ use Rattle.brk_table.specs.Together.{IsTableOf, AreTables}
 use Rattle.brk_table.specs.declared.faults.BuildFault.{BuildFault}
 use Rattle.brk_table.specs.declared.faults.BuildFault.TheVariants as fault
 use Rattle.session_book.specs.JobView.{JobView}
-use Rattle.report_text.specs.Sessions.{no_module}
+use Rattle.session_book.specs.Sessions.{no_module}
 use Rattle.coverage_program.specs.Refused.{IsRefused, list_refused, build_refused}
 use Rattle.coverage_program.specs.Refusals.{listing_refusal, build_refusal, list_refusal, refusal_from, job_refusal, places_in, AreTablesFrom, Match}
 use Rattle.coverage_program.specs.Refusals.{IsTableOf as IsModuleTable}

@@ -6,7 +6,6 @@ use Rattle.annotator.specs.Digits.{hex_digits}
 use Rattle.cov_base.specs.FactSet.{FactSet}
 use Rattle.cov_base.specs.Facts.{full_of}
 use Rattle.cov_base.specs.Marks.{mark_of}
-use Rattle.cov_base.specs.Memory.{ImageView}
 use Rattle.cov_base.specs.Names.{unpadded}
 use Rattle.cov_base.specs.declared.marks.Mark.{Mark}
 use Rattle.cov_base.specs.declared.marks.Mark.TheVariants.{Text}
@@ -15,14 +14,9 @@ use Rattle.module_area.specs.PlanView.{place_of}
 use Rattle.module_area.specs.declared.places.Place.{Place}
 use Rattle.brk_table.specs.Places.{TablesView, first_place, place_count, place_at_line}
 use Rattle.session_book.specs.JobView.{JobView, SessionView}
+use Rattle.session_book.specs.Sessions.{module_of}
 use Rattle.report_text.specs.declared.sessions.Run.{Run}
 use Rattle.report_text.specs.Text.{sum_from}
-
-abbrev pub no_module : ImageView
-no_module = record { name = []; base = 0; bytes = [] }
-
-abbrev pub module_of : JobView → ℕ → ImageView
-module_of job m = get_or job.images m no_module
 
 -- none of the facts
 abbrev pub lacks : FactSet → Bool

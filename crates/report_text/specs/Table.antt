@@ -8,7 +8,8 @@ use Rattle.module_area.specs.PlanView.{place_of}
 use Rattle.module_area.specs.declared.places.Place.{Place}
 use Rattle.brk_table.specs.Places.{TablesView, first_place, place_count}
 use Rattle.session_book.specs.JobView.{JobView}
-use Rattle.report_text.specs.Sessions.{module_of, location_of}
+use Rattle.session_book.specs.Sessions.{module_of}
+use Rattle.report_text.specs.Sessions.{location_of}
 use Rattle.report_text.specs.Text.{text_of, lines_from}
 
 abbrev pub kind_letter : Kind → List ℕ

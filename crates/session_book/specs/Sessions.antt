@@ -1,6 +1,7 @@
 -- What observes each place in a phase, and what a session's executions show.
 use Rattle.std.specs.Prelude.{ℕ, ◌+◌, ◌-◌, Bool, ◌&&◌, nat_eq, if◌then◌else◌, None, List, [], ◌∷◌, length, get_or, map}
 use Rattle.std.specs.List.{list_any}
+use Rattle.cov_base.specs.Memory.{ImageView}
 use Rattle.cov_base.specs.States.{State, Visit}
 use Rattle.cov_base.specs.FactSet.{FactSet}
 use Rattle.cov_base.specs.declared.numbers.TaskNo.{TaskNo}
@@ -10,6 +11,12 @@ use Rattle.module_area.specs.Views.{first_bytes}
 use Rattle.module_area.specs.declared.places.Place.{Place}
 use Rattle.s370_state.specs.Io.{fresh_io}
 use Rattle.session_book.specs.JobView.{JobView, SessionView, TaskView}
+
+abbrev pub no_module : ImageView
+no_module = record { name = []; base = 0; bytes = [] }
+
+abbrev pub module_of : JobView → ℕ → ImageView
+module_of j m = get_or j.images m no_module
 
 abbrev pub no_session : SessionView
 no_session = record { name = []; phase = 0; modules = []; by = None }

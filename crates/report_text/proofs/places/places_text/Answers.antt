@@ -1,6 +1,6 @@
 use Rattle.std.proofs.Common.{◌≡◌, ◌-◌, [], ◌∷◌, ◌++◌, arith}
 use Rattle.brk_table.specs.Places.{place_count}
-use Rattle.report_text.specs.Sessions.{module_of}
+use Rattle.session_book.specs.Sessions.{module_of}
 use Rattle.report_text.specs.Table.{module_line}
 use Rattle.report_text.proofs.WriteLemmas.{progress_start, progress_more, progress_exit, progress_last}
 use Rattle.report_text.proofs.places.places_text.Goals as goal

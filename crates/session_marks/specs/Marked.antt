@@ -1,0 +1,40 @@
+-- The marks of a session of a job: the table of its modules' places, and a set at each.
+use Rattle.std.specs.Prelude.{ℕ, zero, suc, ◌+◌, ◌-◌, List, [], ◌∷◌, length, map}
+use Rattle.cov_base.specs.FactSet.{FactSet}
+use Rattle.cov_base.specs.Facts.{no_facts}
+use Rattle.marks_file.specs.Marks.{MarkedView}
+use Rattle.marks_file.specs.MarksFile.{rows}
+use Rattle.marks_file.specs.declared.marks.MarkedPlace.{MarkedPlace}
+use Rattle.module_area.specs.PlanView.{place_of}
+use Rattle.module_area.specs.declared.places.Place.{Place}
+use Rattle.brk_table.specs.Places.{TablesView, first_place, place_count}
+use Rattle.session_book.specs.JobView.{JobView}
+use Rattle.session_book.specs.Sessions.{module_of, session_of}
+
+-- place n of a module of this base
+abbrev pub marked_place : ℕ → List Place → (ℕ → FactSet) → ℕ → MarkedPlace
+marked_place base places sets n =
+    let p : Place = place_of places n in
+    record { location = p.at - base; len = p.len; kind = p.kind; original = p.original; set = sets n }
+
+-- so many places from n on
+abbrev pub marked_places : ℕ → List Place → (ℕ → FactSet) → ℕ → ℕ → List MarkedPlace
+marked_places base places sets n zero = []
+marked_places base places sets n (suc count) = marked_place base places sets n ∷ marked_places base places sets (n + 1) count
+
+-- module m; one that has no table has no places
+abbrev pub marked_module : JobView → TablesView → (ℕ → FactSet) → ℕ → MarkedView
+marked_module j tables sets m = record {
+  name = (module_of j m).name;
+  base = (module_of j m).base;
+  size = length (module_of j m).bytes;
+  places = marked_places (module_of j m).base tables.places sets (first_place tables.tables m) (place_count tables.tables m);
+}
+
+-- the modules of session s in the order of its card; `sets` has the set of the place of each number
+abbrev pub session_marks : JobView → TablesView → (ℕ → FactSet) → ℕ → List MarkedView
+session_marks j tables sets s = map (marked_module j tables sets) (session_of j s).modules
+
+-- the rows of its table, which hold no sets
+abbrev pub session_rows : JobView → TablesView → ℕ → List (List ℕ)
+session_rows j tables s = rows (session_marks j tables (λ n. no_facts) s)
