@@ -17,7 +17,8 @@ use Rattle.interleave_core.specs.World.{Parts}
 use Rattle.report_text.specs.Conditions.{AreResultsOf, AreSetsOf}
 use Rattle.report_text.specs.Report.{report_of}
 use Rattle.report_text.specs.Table.{table_text}
-use Rattle.coverage_program.specs.Answers.{HasJob, CameWhole, CameJob, CameFirst, HasPlay, IsStopped, BadJob, LargeJob, BadListing, WantOfMemory, Report, Places, Replayed, BadSchedule, Stopped, NoMemoryToRun, IsWritten, Answers, fault_refusal}
+use Rattle.coverage_program.specs.Answers.{HasPlay, IsStopped, BadJob, LargeJob, BadListing, WantOfMemory, Report, Places, Replayed, BadSchedule, Stopped, NoMemoryToRun, IsWritten, Answers, fault_refusal}
+use Rattle.coverage_program.specs.Inputs.{HasJob, CameWhole, CameJob, CameFirst}
 use Rattle.coverage_program.specs.Changes.{SourceChange, SinkChange, AreasChange, sink_change, no_change}
 use Rattle.coverage_program.specs.declared.schedule.Played.{Played}
 use Rattle.job_run.specs.declared.outcome.Done.{Done}

@@ -10,7 +10,8 @@ use Rattle.job_text.specs.declared.limit.Limit.{Limit}
 use Rattle.job_text.proofs.Excluded.{never_over_first}
 use Rattle.job_text.proofs.Excluded as excluded
 use Rattle.job_text.proofs.Spelled.{one_first}
-use Rattle.coverage_program.specs.Answers.{HasJob, HasPlay, CameWhole, CameJob, IsStopped, BadJob, LargeJob, BadListing, LargeInput, ReadFault, WantOfMemory, IsCause, Report, Places, Replayed, BadSchedule, Usage, Stopped, NoMemoryToRun, Answers, input_limit}
+use Rattle.coverage_program.specs.Answers.{HasPlay, IsStopped, BadJob, LargeJob, BadListing, LargeInput, ReadFault, WantOfMemory, IsCause, Report, Places, Replayed, BadSchedule, Usage, Stopped, NoMemoryToRun, Answers}
+use Rattle.coverage_program.specs.Inputs.{HasJob, CameWhole, CameJob, input_limit}
 use Rattle.coverage_program.specs.Changes.{SourceChange, SinkChange, AreasChange}
 use Rattle.coverage_program.specs.Complete.{IsAnswer, IsComplete}
 use Rattle.coverage_program.specs.Complete as wanted

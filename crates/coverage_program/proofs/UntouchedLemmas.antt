@@ -13,7 +13,8 @@ use Rattle.brk_table.specs.declared.faults.BuildFault.TheVariants as fault
 use Rattle.brk_table.specs.Places.{TablesView}
 use Rattle.session_book.specs.JobView.{JobView}
 use Rattle.job_text.specs.Lines.{lines_of}
-use Rattle.coverage_program.specs.Answers.{HasJob, CameMatched, IsReport, IsReady, IsCause, Report, Places, Replayed, BadSchedule, Usage, Stopped, NoMemoryToRun, Answers, input_limit}
+use Rattle.coverage_program.specs.Answers.{IsReport, IsReady, IsCause, Report, Places, Replayed, BadSchedule, Usage, Stopped, NoMemoryToRun, Answers}
+use Rattle.coverage_program.specs.Inputs.{HasJob, CameMatched, input_limit}
 use Rattle.coverage_program.specs.Changes.{SourceChange, SinkChange, AreasChange}
 use Rattle.coverage_program.specs.Complete.{IsAnswer}
 use Rattle.coverage_program.specs.Complete as wanted

@@ -1,5 +1,5 @@
 -- What the program answers: its status and text, by the words and the bytes that came.
-use Rattle.std.specs.Prelude.{◌≡◌, ◌⊎◌, ℕ, ◌≤◌, Bool, true, false, Some, List, length, take, drop}
+use Rattle.std.specs.Prelude.{◌≡◌, ◌⊎◌, ℕ, ◌≤◌, Bool, true, false, Option, Some, None, List, length, take, drop, IsSome}
 use Rattle.std.specs.Io.KnownBytes.{Appends}
 use Rattle.cov_outside.specs.Causes.{Rose}
 use Rattle.cov_outside.specs.Whole.{IsWhole, HasMoreThan, AppendsSome}
@@ -16,63 +16,22 @@ use Rattle.interleave_core.specs.World.{Parts}
 use Rattle.report_text.specs.Table.{table_text}
 use Rattle.coverage_program.specs.declared.words.Command.{Command}
 use Rattle.coverage_program.specs.declared.schedule.Played.{Played}
-use Rattle.coverage_program.specs.declared.words.Command.TheVariants.{Run, Table, Replay, Unknown}
+use Rattle.coverage_program.specs.declared.words.Command.TheVariants.{Run, Marks, Table, Replay, Combine, Show, Unknown}
+use Rattle.coverage_program.specs.Files.{IsUnion, IsBadFile, IsOtherFile, IsShown, IsBadShown, IsOtherShown}
+use Rattle.coverage_program.specs.Inputs.{CameWhole, CameJob, CameFirst, CameMatched, HasJob, input_limit}
+use Rattle.coverage_program.specs.Named.{HasNamed, session_number}
 use Rattle.coverage_program.specs.Refusals.{RefusalView, refusal, job_refusal, Match}
 use Rattle.job_run.specs.Runs.{HasRun}
 use Rattle.coverage_program.specs.Changes.{SourceChange, SinkChange, AreasChange}
-use Rattle.coverage_program.specs.Reports.{Reports}
+use Rattle.coverage_program.specs.Reports.{Reports, Records}
 use Rattle.coverage_program.specs.Replay.{Play, Bad, Whole, IsRun, play_of, replay_text}
-use Rattle.coverage_program.specs.Words.{reads_input, reads_job, takes_more, makes_areas, usage_line, too_large_input_line, read_fault_line, no_memory_line, bad_job_line, large_job_line, bad_schedule_line}
-
--- the most bytes of input
-abbrev pub input_limit : ℕ
-input_limit = 16777216
+use Rattle.coverage_program.specs.Words.{reads_input, reads_job, takes_more, makes_areas, session_named, usage_line, too_large_input_line, read_fault_line, no_memory_line, bad_job_line, large_job_line, bad_schedule_line, no_session_line}
 
 -- how a job that wasn't read is told
 abbrev pub fault_refusal : JobFault → RefusalView
 fault_refusal (fault.BadJob n) = refusal 2 (bad_job_line n)
 fault_refusal (fault.TooLarge what n) = refusal 4 (large_job_line what n)
 fault_refusal fault.NoMemory = refusal 7 no_memory_line
-
--- the source was read to its end, and these bytes came
-pub record CameWhole (s : SourceChange) (bytes : List ℕ) : Type 0 where
-  pub whole : IsWhole s.left s.rest bytes
-  pub within : length bytes ≤ input_limit
-  pub no_fault : s.later ≡ s.faults
-
--- The first lines of an input, so many, spell this job, which is within the limits. Others stand behind them only where
--- more than a job may.
-pub record HasJob (more : Bool) (all : List LineView) (j : JobView) : Type 0 where
-  pub count : ℕ
-  pub inside : count ≤ length all
-  pub spells : Spells (take count all) j
-  pub within : IsWithin j
-  pub over : more ≡ false → count ≡ length all
-
--- the bytes that came have this job
-pub record CameJob (more : Bool) (s : SourceChange) (j : JobView) : Type 0 where
-  pub bytes : List ℕ
-  pub came : CameWhole s bytes
-  pub has : HasJob more (lines_of bytes) j
-
--- the input's first bytes, up to this offset, are its first lines, so many
-pub record IsParted (bytes : List ℕ) (count end : ℕ) : Type 0 where
-  pub inside : end ≤ length bytes
-  pub before : lines_of (take end bytes) ≡ take count (lines_of bytes)
-  pub behind : lines_of (drop end bytes) ≡ drop count (lines_of bytes)
-
--- these bytes came, and their first lines, so many, which end at this offset, spell this job
-pub record CameFirst (more : Bool) (s : SourceChange) (j : JobView) (bytes : List ℕ) (count end : ℕ) : Type 0 where
-  pub came : CameWhole s bytes
-  pub has : HasJob more (lines_of bytes) j
-  pub counts : has.count ≡ count
-  pub parted : IsParted bytes count end
-
--- the bytes that came have this job, its listings match, and these are their tables
-pub record CameMatched (more : Bool) (s : SourceChange) (j : JobView) (tables : TablesView) : Type 0 where
-  pub came : CameJob more s j
-  pub match : Match j tables.tables
-  pub numbered : tables.places ≡ all_places tables.tables
 
 -- the report of a job whose listings match
 pub record IsReport (s : SourceChange) (a : AreasChange) (text : List ℕ) : Type 0 where
@@ -81,6 +40,16 @@ pub record IsReport (s : SourceChange) (a : AreasChange) (text : List ℕ) : Typ
   pub came : CameMatched false s job tables
   pub ran : HasRun job tables.places a.before a.after
   pub reports : Reports job tables ran.sets text
+
+-- the marks file of the session of this name, of a job whose listings match
+pub record IsRecord (name : List ℕ) (s : SourceChange) (a : AreasChange) (text : List ℕ) : Type 0 where
+  pub job : JobView
+  pub tables : TablesView
+  pub number : ℕ
+  pub came : CameMatched false s job tables
+  pub is_number : session_number job name ≡ Some number
+  pub ran : HasRun job tables.places a.before a.after
+  pub records : Records job tables ran.sets number text
 
 -- the places of a job whose listings match
 pub record IsPlacesText (s : SourceChange) (text : List ℕ) : Type 0 where
@@ -135,37 +104,56 @@ pub record IsLargeJob (s : SourceChange) (text : List ℕ) : Type 0 where
   pub first_over : IsOverAt (lines_of bytes) what line
   pub told : text ≡ large_job_line what line
 
--- the first fault of a job's listings
-pub record IsBadListing (more : Bool) (s : SourceChange) (status : ℕ) (text : List ℕ) : Type 0 where
+-- no session of the job has the name
+pub record IsNoSession (more : Bool) (name : Option (List ℕ)) (s : SourceChange) (text : List ℕ) : Type 0 where
+  pub job : JobView
+  pub wanted : List ℕ
+  pub came : CameJob more s job
+  pub named : name ≡ Some wanted
+  pub missing : session_number job wanted ≡ None
+  pub told : text ≡ no_session_line wanted
+
+-- the first fault of a job's listings; where a session was named the job has it
+pub record IsBadListing (more : Bool) (name : Option (List ℕ)) (s : SourceChange) (status : ℕ) (text : List ℕ) : Type 0 where
   pub job : JobView
   pub came : CameJob more s job
+  pub named : HasNamed name job
   pub first : job_refusal job ≡ Some (refusal status text)
 
 -- Why the input wasn't read whole or, where it is to have a job, no job with its tables was come to. Each cause has its own
 -- status; a refused listing has that of its fault, 3, 4, 8 or 12.
-pub data IsStopped (job more : Bool) (s : SourceChange) (status : ℕ) (text : List ℕ) : Type 0 where
-  BadJob : job ≡ true → status ≡ 2 → IsBadJob more s text → IsStopped job more s status text
-  LargeJob : job ≡ true → status ≡ 4 → IsLargeJob s text → IsStopped job more s status text
-  BadListing : job ≡ true → IsBadListing more s status text → IsStopped job more s status text
-  LargeInput : (status ≡ 4) × (text ≡ too_large_input_line) × HasMoreThan s.left input_limit × (s.later ≡ s.faults) → IsStopped job more s status text
-  ReadFault : (status ≡ 5) × (text ≡ read_fault_line) × Rose s.faults s.later → IsStopped job more s status text
-  WantOfMemory : (status ≡ 7) × (text ≡ no_memory_line) → IsStopped job more s status text
+pub data IsStopped (job more : Bool) (name : Option (List ℕ)) (s : SourceChange) (status : ℕ) (text : List ℕ) : Type 0 where
+  BadJob : job ≡ true → status ≡ 2 → IsBadJob more s text → IsStopped job more name s status text
+  LargeJob : job ≡ true → status ≡ 4 → IsLargeJob s text → IsStopped job more name s status text
+  NoSession : job ≡ true → status ≡ 13 → IsNoSession more name s text → IsStopped job more name s status text
+  BadListing : job ≡ true → IsBadListing more name s status text → IsStopped job more name s status text
+  LargeInput : (status ≡ 4) × (text ≡ too_large_input_line) × HasMoreThan s.left input_limit × (s.later ≡ s.faults) → IsStopped job more name s status text
+  ReadFault : (status ≡ 5) × (text ≡ read_fault_line) × Rose s.faults s.later → IsStopped job more name s status text
+  WantOfMemory : (status ≡ 7) × (text ≡ no_memory_line) → IsStopped job more name s status text
 
 -- all of a job that comes before its areas are made
 pub record IsReady (c : Command) (s : SourceChange) : Type 0 where
   pub job : JobView
   pub tables : TablesView
   pub came : CameMatched (takes_more c) s job tables
+  pub named : HasNamed (session_named c) job
 
--- Why the call answers with this status and text, leaving out whether the text could be written. Nothing but a report, and
--- want of memory in the run of a job whose listings match, has made an area.
+-- Why the call answers with this status and text, leaving out whether the text could be written. Nothing but a report or
+-- marks file of a run, and want of memory in the run of a job whose listings match, has made an area.
 pub data IsCause (c : Command) (s : SourceChange) (a : AreasChange) (status : ℕ) (text : List ℕ) : Type 0 where
   Report : (status ≡ 0) × (c ≡ Run) → IsReport s a text → IsCause c s a status text
+  Recorded : (name : List ℕ) → (status ≡ 0) × (c ≡ Marks name) → IsRecord name s a text → IsCause c s a status text
   Places : (status ≡ 0) × (c ≡ Table) → IsPlacesText s text → a.after ≡ a.before → IsCause c s a status text
   Replayed : (status ≡ 0) × (c ≡ Replay) → IsReplayed s text → a.after ≡ a.before → IsCause c s a status text
   BadSchedule : (status ≡ 9) × (c ≡ Replay) → IsBadSchedule s text → a.after ≡ a.before → IsCause c s a status text
+  United : (status ≡ 0) × (c ≡ Combine) → IsUnion s text → a.after ≡ a.before → IsCause c s a status text
+  BadFile : (status ≡ 10) × (c ≡ Combine) → IsBadFile s text → a.after ≡ a.before → IsCause c s a status text
+  OtherFile : (status ≡ 11) × (c ≡ Combine) → IsOtherFile s text → a.after ≡ a.before → IsCause c s a status text
+  Shown : (name : List ℕ) → (status ≡ 0) × (c ≡ Show name) → IsShown name s text → a.after ≡ a.before → IsCause c s a status text
+  BadShown : (name : List ℕ) → (status ≡ 10) × (c ≡ Show name) → IsBadShown name s text → a.after ≡ a.before → IsCause c s a status text
+  OtherShown : (name : List ℕ) → (status ≡ 11) × (c ≡ Show name) → IsOtherShown name s text → a.after ≡ a.before → IsCause c s a status text
   Usage : (status ≡ 1) × (c ≡ Unknown) × (text ≡ usage_line) × (s.rest ≡ s.left) × (s.later ≡ s.faults) → a.after ≡ a.before → IsCause c s a status text
-  Stopped : reads_input c ≡ true → IsStopped (reads_job c) (takes_more c) s status text → a.after ≡ a.before → IsCause c s a status text
+  Stopped : reads_input c ≡ true → IsStopped (reads_job c) (takes_more c) (session_named c) s status text → a.after ≡ a.before → IsCause c s a status text
   NoMemoryToRun : (status ≡ 7) × (makes_areas c ≡ true) × (text ≡ no_memory_line) → IsReady c s → IsCause c s a status text
 
 -- the text was written whole, or its first bytes where the sink failed; its count of faults never falls

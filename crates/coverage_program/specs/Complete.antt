@@ -1,18 +1,40 @@
 -- The answer that the words and bytes have, and that the call gives it.
-use Rattle.std.specs.Prelude.{◌≡◌, ◌<◌, ◌⊎◌, ℕ, ◌≤◌, true, false, Some, None, List, length, drop}
+use Rattle.std.specs.Prelude.{◌≡◌, ◌<◌, ◌⊎◌, ℕ, ◌≤◌, true, false, Some, None, IsSome, if◌then◌else◌, List, [], ◌∷◌, ◌++◌, length, drop}
 use Rattle.cov_outside.specs.Causes.{Rose}
 use Rattle.brk_table.specs.Places.{TablesView, all_places}
 use Rattle.session_book.specs.JobView.{JobView}
 use Rattle.job_text.specs.declared.limit.Limit.{Limit}
-use Rattle.job_text.specs.Lines.{lines_of}
+use Rattle.cov_base.specs.FactSet.{FactSet}
+use Rattle.job_text.specs.Lines.{LineView, lines_of}
+use Rattle.marks_file.specs.Marks.{MarkedView}
+use Rattle.marks_file.specs.MarksFile.{rows}
+use Rattle.session_marks.specs.Marked.{session_marks, session_rows}
+use Rattle.table_combine.specs.Combine.{Difference, first_difference}
+use Rattle.table_combine.specs.Files.{IsCombined, IsBad, IsOtherTable}
 use Rattle.job_text.specs.Refusals.{IsBadAt, IsOverAt}
 use Rattle.coverage_program.specs.declared.words.Command.{Command}
-use Rattle.coverage_program.specs.declared.words.Command.TheVariants.{Run, Table, Replay, Unknown}
-use Rattle.coverage_program.specs.Answers.{HasJob, input_limit}
+use Rattle.coverage_program.specs.declared.words.Command.TheVariants.{Run, Marks, Table, Replay, Combine, Show, Unknown}
+use Rattle.coverage_program.specs.Files.{IsFile, IsNoFile}
+use Rattle.coverage_program.specs.Inputs.{HasJob, input_limit}
+use Rattle.coverage_program.specs.Named.{HasNamed, session_number}
 use Rattle.coverage_program.specs.Changes.{SourceChange, SinkChange}
 use Rattle.coverage_program.specs.Refusals.{RefusalView, job_refusal, Match}
 use Rattle.coverage_program.specs.Replay.{play_of, play_status}
-use Rattle.coverage_program.specs.Words.{reads_input, reads_job, takes_more}
+use Rattle.coverage_program.specs.Words.{reads_input, reads_job, takes_more, session_named}
+
+-- the bytes of lines
+abbrev pub bytes_of : List LineView → List ℕ
+bytes_of [] = []
+bytes_of (l ∷ ls) = l.bytes ++ ((if l.ended then 10 ∷ [] else []) ++ bytes_of ls)
+
+-- a job whose listings match, the number of its session of this name, and the bytes behind its lines
+pub record StandsBehind (name bytes : List ℕ) (j : JobView) (tables : TablesView) (number : ℕ) (rest : List ℕ) : Type 0 where
+  pub few : length bytes ≤ input_limit
+  pub has : HasJob true (lines_of bytes) j
+  pub match : Match j tables.tables
+  pub numbered : tables.places ≡ all_places tables.tables
+  pub is_number : session_number j name ≡ Some number
+  pub behind : rest ≡ bytes_of (drop has.count (lines_of bytes))
 
 -- The status that the words and bytes have, leaving out faults of the source and the sink, and want of memory.
 pub data IsAnswer (c : Command) (bytes : List ℕ) (status : ℕ) : Type 0 where
@@ -20,8 +42,17 @@ pub data IsAnswer (c : Command) (bytes : List ℕ) (status : ℕ) : Type 0 where
   LargeInput : reads_input c ≡ true → input_limit < length bytes → status ≡ 4 → IsAnswer c bytes status
   BadJob : (n : ℕ) → reads_job c ≡ true → length bytes ≤ input_limit → IsBadAt (lines_of bytes) n → ((j : JobView) → HasJob (takes_more c) (lines_of bytes) j → ⊥) → status ≡ 2 → IsAnswer c bytes status
   LargeJob : (what : Limit) (n : ℕ) → reads_job c ≡ true → length bytes ≤ input_limit → IsOverAt (lines_of bytes) what n → status ≡ 4 → IsAnswer c bytes status
-  BadListing : (j : JobView) (r : RefusalView) → reads_job c ≡ true → length bytes ≤ input_limit → HasJob (takes_more c) (lines_of bytes) j → job_refusal j ≡ Some r → status ≡ r.status → IsAnswer c bytes status
+  NoSession : (j : JobView) (name : List ℕ) → reads_job c ≡ true → length bytes ≤ input_limit → HasJob (takes_more c) (lines_of bytes) j → session_named c ≡ Some name → session_number j name ≡ None → status ≡ 13 → IsAnswer c bytes status
+  BadListing : (j : JobView) (r : RefusalView) → reads_job c ≡ true → length bytes ≤ input_limit → HasJob (takes_more c) (lines_of bytes) j → HasNamed (session_named c) j → job_refusal j ≡ Some r → status ≡ r.status → IsAnswer c bytes status
   Matched : (j : JobView) → (c ≡ Run) ⊎ (c ≡ Table) → length bytes ≤ input_limit → HasJob false (lines_of bytes) j → job_refusal j ≡ None → status ≡ 0 → IsAnswer c bytes status
+  Recorded : (j : JobView) (name : List ℕ) → c ≡ Marks name → length bytes ≤ input_limit → HasJob false (lines_of bytes) j → IsSome (session_number j name) → job_refusal j ≡ None → status ≡ 0 → IsAnswer c bytes status
+  United : (marks : List MarkedView) → c ≡ Combine → length bytes ≤ input_limit → IsCombined bytes marks → status ≡ 0 → IsAnswer c bytes status
+  BadFile : (offset : ℕ) → c ≡ Combine → length bytes ≤ input_limit → IsBad bytes offset → status ≡ 10 → IsAnswer c bytes status
+  OtherFile : (d : Difference) → c ≡ Combine → length bytes ≤ input_limit → IsOtherTable bytes d → status ≡ 11 → IsAnswer c bytes status
+  Shown : (name : List ℕ) (j : JobView) (tables : TablesView) (number : ℕ) (rest : List ℕ) (sets : ℕ → FactSet) → c ≡ Show name → StandsBehind name bytes j tables number rest → IsFile rest (session_marks j tables sets number) → status ≡ 0 → IsAnswer c bytes status
+  BadShown : (name : List ℕ) (j : JobView) (tables : TablesView) (number : ℕ) (rest : List ℕ) (offset : ℕ) → c ≡ Show name → StandsBehind name bytes j tables number rest → IsNoFile rest offset → status ≡ 10 → IsAnswer c bytes status
+  OtherShown : (name : List ℕ) (j : JobView) (tables : TablesView) (number : ℕ) (rest : List ℕ) (marks : List MarkedView) (d : Difference) → c ≡ Show name → StandsBehind name bytes j tables number rest →
+      IsFile rest marks → first_difference 0 (session_rows j tables number) (rows marks) ≡ Some d → status ≡ 11 → IsAnswer c bytes status
   Replayed : (j : JobView) (tables : TablesView) (has : HasJob true (lines_of bytes) j) → c ≡ Replay → length bytes ≤ input_limit → Match j tables.tables → tables.places ≡ all_places tables.tables →
       status ≡ play_status (play_of j tables.places has.count (drop has.count (lines_of bytes))) → IsAnswer c bytes status
 

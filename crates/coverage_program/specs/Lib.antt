@@ -5,5 +5,8 @@ pub mod Refusals
 pub mod Refused
 pub mod Reports
 pub mod Words
+pub mod Inputs
+pub mod Named
+pub mod Files
 pub mod Replay
 pub mod Untouched

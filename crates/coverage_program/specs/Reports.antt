@@ -10,6 +10,8 @@ use Rattle.session_book.specs.Sessions.{session_of, observes}
 use Rattle.report_text.specs.Report.{report_of}
 use Rattle.job_run.specs.Runs.{result_of, set_of}
 use Rattle.job_run.specs.Sets.{set_left}
+use Rattle.marks_file.specs.MarksFile.{file_bytes}
+use Rattle.session_marks.specs.Marked.{session_marks}
 
 -- The text is the report of these results and sets, which are those of each task's run alone and, at each place that a
 -- session observes, those of its executions; and at every place they are those of the area of the session's phase.
@@ -21,3 +23,12 @@ pub record Reports (j : JobView) (tables : TablesView) (areas : List FinalsView)
       observes (session_of j s).phase (place_of tables.places p).module (session_of j s) ≡ true → sets s p ≡ set_of j tables.places s p
   pub are_final : (s p : ℕ) → 0 < s → s ≤ length j.sessions → p < length tables.places → sets s p ≡ set_left j areas s p
   pub is_text : text ≡ report_of j tables results sets
+
+-- The text is the marks file of session s: at each place that it observes the set of its executions, and at every place
+-- that of the area of its phase.
+pub record Records (j : JobView) (tables : TablesView) (areas : List FinalsView) (s : ℕ) (text : List ℕ) : Type 0 where
+  pub sets : ℕ → FactSet
+  pub are_sets : (p : ℕ) → p < length tables.places →
+      observes (session_of j s).phase (place_of tables.places p).module (session_of j s) ≡ true → sets p ≡ set_of j tables.places s p
+  pub are_final : (p : ℕ) → p < length tables.places → sets p ≡ set_left j areas s p
+  pub is_text : text ≡ file_bytes (session_marks j tables sets s)

@@ -1,29 +1,38 @@
 -- When the areas are as they were, and what a report that wasn't written whole says of them.
-use Rattle.std.specs.Prelude.{◌≡◌, ◌≢◌, ◌⊎◌, ℕ, false, Some, None, List}
+use Rattle.std.specs.Prelude.{◌≡◌, ◌≢◌, ◌⊎◌, ℕ, true, false, Some, None, List}
 use Rattle.cov_outside.specs.Causes.{Rose}
 use Rattle.cov_outside.specs.Whole.{AppendsSome}
 use Rattle.session_book.specs.JobView.{JobView}
 use Rattle.coverage_program.specs.declared.words.Command.{Command}
-use Rattle.coverage_program.specs.declared.words.Command.TheVariants.{Run}
-use Rattle.coverage_program.specs.Answers.{CameJob, IsReport}
+use Rattle.coverage_program.specs.declared.words.Command.TheVariants.{Run, Marks}
+use Rattle.coverage_program.specs.Answers.{IsReport, IsRecord}
 use Rattle.coverage_program.specs.Changes.{SourceChange, SinkChange, AreasChange}
 use Rattle.coverage_program.specs.Complete.{IsAnswer}
+use Rattle.coverage_program.specs.Inputs.{CameJob}
 use Rattle.coverage_program.specs.Refusals.{job_refusal}
-use Rattle.coverage_program.specs.Words.{makes_areas, takes_more, no_memory_line}
+use Rattle.coverage_program.specs.Named.{HasNamed}
+use Rattle.coverage_program.specs.Words.{makes_areas, takes_more, session_named, no_memory_line}
 
 -- Ledger, sets and number of the areas are as they were for every command that runs no tasks, after every refusal that was
--- told, where the source has failed, and where no job came whose listings match, be it told or not.
+-- told, where the source has failed, and where no job came whose listings match and which has
+-- the session that was named, be it told or not.
 pub record IsUntouched (c : Command) (s : SourceChange) (a : AreasChange) (answer : ℕ) : Type 0 where
   pub others : makes_areas c ≡ false → a.after ≡ a.before
   pub refused : answer ≢ 0 → answer ≢ 6 → answer ≢ 7 → a.after ≡ a.before
   pub failed : s.later ≢ s.faults → a.after ≡ a.before
-  pub unmatched : ((j : JobView) → CameJob (takes_more c) s j → job_refusal j ≡ None → ⊥) → a.after ≡ a.before
+  pub unmatched : ((j : JobView) → CameJob (takes_more c) s j → HasNamed (session_named c) j → job_refusal j ≡ None → ⊥) → a.after ≡ a.before
   pub unreported : (bytes : List ℕ) (status : ℕ) → s.left ≡ Some bytes → IsAnswer c bytes status → status ≢ 0 → a.after ≡ a.before
 
--- the first bytes of a report were written, and the areas are as it says
-pub record HasReport (s : SourceChange) (a : AreasChange) (k : SinkChange) : Type 0 where
+-- what a command that runs tasks writes: the report, or a session's marks file
+abbrev pub IsRunText : Command → SourceChange → AreasChange → List ℕ → Type 0
+IsRunText Run s a text = IsReport s a text
+IsRunText (Marks name) s a text = IsRecord name s a text
+IsRunText c s a text = ⊥
+
+-- the first bytes of it were written, and the areas are as it says
+pub record HasReport (c : Command) (s : SourceChange) (a : AreasChange) (k : SinkChange) : Type 0 where
   pub text : List ℕ
-  pub is : IsReport s a text
+  pub is : IsRunText c s a text
   pub some : AppendsSome k.written k.grown text
 
 -- the words and bytes have a report, no fault of the source was counted, and the sink has failed
@@ -36,5 +45,5 @@ pub record IsCut (c : Command) (s : SourceChange) (answer : ℕ) : Type 0 where
 
 -- what the first bytes are then of: the report, or the line of want of memory
 pub record IsReportCut (c : Command) (s : SourceChange) (a : AreasChange) (k : SinkChange) (answer : ℕ) : Type 0 where
-  pub report : c ≡ Run → IsCut c s answer → (AppendsSome k.written k.grown no_memory_line → ⊥) → HasReport s a k
-  pub either : c ≡ Run → IsCut c s answer → HasReport s a k ⊎ AppendsSome k.written k.grown no_memory_line
+  pub report : makes_areas c ≡ true → IsCut c s answer → (AppendsSome k.written k.grown no_memory_line → ⊥) → HasReport c s a k
+  pub either : makes_areas c ≡ true → IsCut c s answer → HasReport c s a k ⊎ AppendsSome k.written k.grown no_memory_line

@@ -1,22 +1,32 @@
 -- The words of a command, and the lines that a refusal is told by.
-use Rattle.std.specs.Prelude.{ℕ, Bool, true, false, if◌then◌else◌, List, [], ◌∷◌, ◌++◌, bytes_eq, codes, decimal}
+use Rattle.std.specs.Prelude.{ℕ, Bool, true, false, if◌then◌else◌, Option, Some, None, List, [], ◌∷◌, ◌++◌, bytes_eq, codes, decimal}
+use Rattle.cov_base.specs.Names.{name_at, unpadded}
 use Rattle.job_text.specs.declared.limit.Limit.{Limit}
 use Rattle.job_text.specs.declared.limit.Limit.TheVariants as limit
 use Rattle.coverage_program.specs.declared.words.Command.{Command}
-use Rattle.coverage_program.specs.declared.words.Command.TheVariants.{Run, Table, Replay, Unknown}
+use Rattle.coverage_program.specs.declared.words.Command.TheVariants.{Run, Marks, Table, Replay, Combine, Show, Unknown}
+use Rattle.report_text.specs.Text.{hex_bytes}
+use Rattle.table_combine.specs.Combine.{Difference}
 
 -- the command of one word
 abbrev pub command_alone : List ℕ → Command
-command_alone w = if bytes_eq w (codes "run") then Run else (if bytes_eq w (codes "table") then Table else (if bytes_eq w (codes "replay") then Replay else Unknown))
+command_alone w = if bytes_eq w (codes "run") then Run else (if bytes_eq w (codes "table") then Table else (if bytes_eq w (codes "replay") then Replay else (if bytes_eq w (codes "combine") then Combine else Unknown)))
+
+-- the command of a word and a session's name, where the second word is a name
+abbrev pub command_named : List ℕ → Option (List ℕ) → Command
+command_named w None = Unknown
+command_named w (Some name) = if bytes_eq w (codes "marks") then Marks name else (if bytes_eq w (codes "show") then Show name else Unknown)
 
 -- the command that the words are, by how many there are
 abbrev pub command_of : List (List ℕ) → Command
 command_of (w ∷ []) = command_alone w
+command_of (w ∷ n ∷ []) = command_named w (name_at n)
 command_of words = Unknown
 
 -- it runs tasks
 abbrev pub makes_areas : Command → Bool
 makes_areas Run = true
+makes_areas (Marks name) = true
 makes_areas c = false
 
 -- as it is served without areas
@@ -31,12 +41,20 @@ reads_input c = true
 -- its input has a job
 abbrev pub reads_job : Command → Bool
 reads_job Unknown = false
+reads_job Combine = false
 reads_job c = true
 
 -- more than a job may stand in its input
 abbrev pub takes_more : Command → Bool
 takes_more Replay = true
+takes_more (Show name) = true
 takes_more c = false
+
+-- the session that its second word names
+abbrev pub session_named : Command → Option (List ℕ)
+session_named (Marks name) = Some name
+session_named (Show name) = Some name
+session_named c = None
 
 abbrev pub usage_line : List ℕ
 usage_line = codes "USAGE: run | marks NAME | trial NUMBER TASKS | table | replay | combine | show NAME\n"
@@ -73,3 +91,20 @@ large_job_line what n = codes "TOO LARGE " ++ limit_name what ++ codes " LINE " 
 -- a line of the input that is no item of its schedule
 abbrev pub bad_schedule_line : ℕ → List ℕ
 bad_schedule_line n = codes "BAD SCHEDULE LINE " ++ decimal n ++ 10 ∷ []
+
+-- no session of the job has this name, which is filled with blanks
+abbrev pub no_session_line : List ℕ → List ℕ
+no_session_line name = codes "NO SESSION " ++ unpadded name ++ 10 ∷ []
+
+-- the first bad field, by its offset from the first byte of the first marks file
+abbrev pub bad_marks_line : ℕ → List ℕ
+bad_marks_line offset = codes "BAD MARKS OFFSET " ++ decimal offset ++ 10 ∷ []
+
+-- a row of a table; a dash where the table has none
+abbrev pub row_text : Option (List ℕ) → List ℕ
+row_text None = codes "-"
+row_text (Some row) = hex_bytes row
+
+-- the first row in which two tables differ
+abbrev pub other_table_line : Difference → List ℕ
+other_table_line d = codes "OTHER TABLE ROW " ++ decimal d.row ++ codes " LEFT " ++ row_text d.left ++ codes " RIGHT " ++ row_text d.right ++ 10 ∷ []

@@ -1,7 +1,8 @@
 //! The program over any source, sink and areas.
 ghost use Rattle.std.specs.Prelude.{◌≡◌, ◌+◌, ◌<◌, ◌^◌, ℕ, List, false, true, All, map, length, drop, string_bytes};
 ghost use Rattle.brk_table.specs.Places.{IsIn, all_places};
-ghost use Rattle.coverage_program.specs.Answers.{CameJob, CameFirst, Answers};
+ghost use Rattle.coverage_program.specs.Answers.{Answers};
+ghost use Rattle.coverage_program.specs.Inputs.{CameJob, CameFirst};
 ghost use Rattle.coverage_program.specs.Changes.{SourceChange, source_change, sink_change, areas_change, no_change};
 ghost use Rattle.coverage_program.specs.Complete.{IsComplete};
 ghost use Rattle.coverage_program.specs.Refusals.{Match};

@@ -1,10 +1,15 @@
 //! The lines that refusals are told by.
-ghost use Rattle.std.specs.Prelude.{◌≡◌, ◌<◌, ◌≤◌, ◌^◌, ◌++◌, ◌∷◌, [], codes, decimal, length};
-ghost use Rattle.coverage_program.specs.Words.{bad_job_line, limit_name, large_job_line, bad_schedule_line};
+ghost use Rattle.std.specs.Prelude.{◌≡◌, ◌<◌, ◌≤◌, ◌^◌, ◌++◌, ◌∷◌, ◌+◌, [], codes, decimal, length, option_map};
+ghost use Rattle.coverage_program.specs.Words.{bad_job_line, limit_name, large_job_line, bad_schedule_line, no_session_line, bad_marks_line, row_text, other_table_line};
+ghost use Rattle.arrayvec.specs.ArrayVec.{array_vec_len};
+ghost use Rattle.table_combine.specs.Combine.{difference_of};
 
 use annotator::text::{add_number, add_text};
 use arrayvec::ArrayVec;
+use cov_base::Name;
 use job_text::Limit;
+use report_text::add_bytes;
+use table_combine::OtherTable;
 
 /// For words that are none of the table.
 pub const USAGE: &[u8] =
@@ -74,6 +79,55 @@ pub fn large_job_line(what: Limit, n: u32) -> ArrayVec<u8, 160>
     add_text(&mut line, limit_name(what));
     add_text(&mut line, b" LINE ");
     add_number(&mut line, u64::from(n));
+    add_text(&mut line, b"\n");
+    line
+}
+
+/// No session of the job has the name.
+pub fn no_session_line(name: &Name) -> ArrayVec<u8, 160>
+    ensures { result.items ≡ no_session_line name.now }
+{
+    let mut line = ArrayVec::new();
+    add_text(&mut line, b"NO SESSION ");
+    add_text(&mut line, name.bytes());
+    add_text(&mut line, b"\n");
+    line
+}
+
+/// The field at the offset is the first bad one, counted from the first byte of the first marks file.
+pub fn bad_marks_line(offset: usize) -> ArrayVec<u8, 160>
+    ensures { result.items ≡ bad_marks_line offset }
+{
+    let mut line = ArrayVec::new();
+    add_text(&mut line, b"BAD MARKS OFFSET ");
+    add_number(&mut line, offset as u64);
+    add_text(&mut line, b"\n");
+    line
+}
+
+/// A row in hexadecimal, or a dash where the table has none.
+fn add_row(line: &mut ArrayVec<u8, 160>, row: &Option<ArrayVec<u8, 20>>)
+    requires { array_vec_len line.old + 40 ≤ 160 }
+    ensures items { line.new.items ≡ line.old.items ++ row_text (option_map (λ v. v.items) row.now) }
+    ensures len { array_vec_len line.new ≤ array_vec_len line.old + 40 }
+{
+    match row {
+        Some(bytes) => add_bytes(line, bytes),
+        None => add_text(line, b"-"),
+    }
+}
+
+/// The first row in which two tables differ.
+pub fn other_table_line(other: &OtherTable) -> ArrayVec<u8, 160>
+    ensures { result.items ≡ other_table_line (difference_of other.now) }
+{
+    let mut line = ArrayVec::new();
+    add_text(&mut line, b"OTHER TABLE ROW ");
+    add_number(&mut line, u64::from(other.row));
+    add_text(&mut line, b" LEFT ");
+    add_row(&mut line, &other.left);
+    add_text(&mut line, b" RIGHT ");
+    add_row(&mut line, &other.right);
     add_text(&mut line, b"\n");
     line
 }

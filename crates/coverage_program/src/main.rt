@@ -1,12 +1,15 @@
 //! The coverage utility.
 #![tactic(auto)]
 
+mod combining;
 mod cover;
 mod lines;
+mod named;
 mod ready;
 mod refusals;
 mod replay;
 mod schedule;
+mod showing;
 mod status;
 mod tables;
 #[cfg(test)]

@@ -150,6 +150,7 @@ pub fn tables_of(alloc: Global, job: &Job) -> Result<Tables, Refused>
     ensures matching { IfOk result (λ t. Match job.now t.tables) }
     ensures numbered { IfOk result (λ t. t.places ≡ all_places t.tables) }
     ensures places { IfOk result (λ t. All (IsIn job.now.images) t.places) }
+    ensures own { IfOk result (λ t. AreTables job.now.images t.tables) }
 {
     let tables = tables_in_order(alloc, job)?;
     Ok(Tables::of(alloc, tables)?)

@@ -1,5 +1,5 @@
 use Rattle.std.proofs.Common.{List, ℕ, sym, subst}
-use Rattle.coverage_program.specs.Answers.{CameWhole, CameFirst}
+use Rattle.coverage_program.specs.Inputs.{CameWhole, CameFirst}
 use Rattle.coverage_program.specs.Changes.{SourceChange, source_change}
 use Rattle.coverage_program.proofs.ready.make_ready.Goals as goal
 

@@ -1,0 +1,42 @@
+//! The session that a command names.
+ghost use Rattle.std.specs.Prelude.{◌≡◌, ◌<◌, ◌≤◌, ◌+◌, Bool, Some, None, length, option_map, IfSome, IfOk, IfErr};
+ghost use Rattle.cov_base.specs.declared.numbers.SessNo.{SessNo as Number};
+ghost use Rattle.coverage_program.specs.Answers.{IsStopped};
+ghost use Rattle.coverage_program.specs.Changes.{SourceChange};
+ghost use Rattle.coverage_program.specs.Inputs.{CameJob};
+ghost use Rattle.coverage_program.specs.Named.{session_number};
+
+use crate::lines::no_session_line;
+use crate::refusals::Refusal;
+use cov_base::{Name, SessNo};
+use session_book::Job;
+
+/// The number of the session of the name; none exactly where no session of the job has it.
+fn find_session(job: &Job, name: &Name) -> Option<SessNo>
+    ensures value { option_map (λ (s : Number). s.0) result ≡ session_number job.now name.now }
+    ensures from { IfSome result (λ s. 0 < s.0) }
+    ensures to { IfSome result (λ s. s.0 ≤ length job.now.sessions) }
+{
+    for i in 0..job.sessions.len() {
+        if job.sessions[i].name == *name {
+            return Some(SessNo(i as u32 + 1));
+        }
+    }
+    None
+}
+
+/// The number of the session of the name, or that the job has none.
+pub fn named_session(job: &Job, name: &Name) -> Result<SessNo, Refusal>
+    ensures number { IfOk result (λ s. session_number job.now name.now ≡ Some s.0) }
+    ensures from { IfOk result (λ s. 0 < s.0) }
+    ensures to { IfOk result (λ s. s.0 ≤ length job.now.sessions) }
+    ensures stopped { (more : Bool) (s : SourceChange) → CameJob more s job.now → IfErr result (λ r. IsStopped true more (Some name.now) s r.status r.line) }
+{
+    match find_session(job, name) {
+        Some(session) => Ok(session),
+        None => Err(Refusal {
+            status: 13,
+            line: no_session_line(name),
+        }),
+    }
+}
