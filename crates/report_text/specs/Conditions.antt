@@ -1,13 +1,12 @@
 -- What a report needs of tables, results and sets.
-use Rattle.std.specs.Prelude.{◌≡◌, ℕ, ◌+◌, ◌<◌, ◌≤◌, true, length, All, IfSome}
+use Rattle.std.specs.Prelude.{◌≡◌, ℕ, ◌<◌, ◌≤◌, length, All, IfSome}
 use Rattle.cov_base.specs.declared.constants.TheConstants.{INPUT_LIMIT}
 use Rattle.cov_base.specs.FactSet.{FactSet}
-use Rattle.cov_base.specs.Facts.{is_within}
-use Rattle.module_area.specs.PlanView.{place_of}
-use Rattle.brk_table.specs.Places.{TablesView, IsIn, first_place, place_count}
+use Rattle.brk_table.specs.Places.{TablesView, IsIn}
 use Rattle.session_book.specs.JobView.{JobView}
 use Rattle.session_book.specs.Results.{ResultView}
 use Rattle.session_book.specs.Sessions.{session_of, task_of}
+use Rattle.session_book.specs.Sets.{AreWithin}
 
 -- each line of a listing has a number
 abbrev pub HasFewLines : JobView → Type 0
@@ -27,16 +26,6 @@ pub record HasResultOf (job : JobView) (tasks : ℕ) (results : ℕ → ResultVi
 pub record AreResultsOf (job : JobView) (tasks : ℕ) (results : ℕ → ResultView) : Type 0 where
   pub count : tasks ≡ length job.tasks
   pub sizes : (t : ℕ) → t < length job.tasks → length (results t).bytes ≡ (task_of job t).private
-
--- at each place of module m the set is within the place's kind
-abbrev pub AreWithin : TablesView → (ℕ → FactSet) → ℕ → Type 0
-AreWithin tables sets m = (n : ℕ) → first_place tables.tables m ≤ n → n < first_place tables.tables m + place_count tables.tables m → is_within (place_of tables.places n).kind (sets n) ≡ true
-
--- of a session a set at each place, within its kind at those of the session's modules
-pub record HasSetsOf (job : JobView) (tables : TablesView) (sessions places : ℕ) (sets : ℕ → ℕ → FactSet) (s : ℕ) : Type 0 where
-  pub exists : s < sessions + 1
-  pub size : places ≡ length tables.places
-  pub within : All (AreWithin tables (sets s)) (session_of job s).modules
 
 -- for each session of the job a set at each place, within its kind at those of the session's modules
 pub record AreSetsOf (job : JobView) (tables : TablesView) (sessions places : ℕ) (sets : ℕ → ℕ → FactSet) : Type 0 where

@@ -2,5 +2,10 @@
 #![tactic(auto)]
 
 mod marking;
+mod no_sets;
 
 pub use marking::marks_of;
+pub use no_sets::NoSets;
+
+#[cfg(test)]
+mod tests;

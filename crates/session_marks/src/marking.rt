@@ -1,11 +1,149 @@
 //! The marks that a session's sets come to.
-ghost use Rattle.std.specs.Prelude.{◌≡◌, ◌<◌, ◌≤◌, length, IfOk};
-ghost use Rattle.brk_table.specs.Places.{all_places};
+ghost use Rattle.std.specs.Prelude.{◌≡◌, ℕ, ◌+◌, ◌-◌, ◌<◌, ◌≤◌, length, map, All, IfOk};
 ghost use Rattle.brk_table.specs.Together.{AreTables};
-ghost use Rattle.session_marks.specs.Marked.{session_marks};
+ghost use Rattle.module_area.specs.PlanView.{place_of};
+ghost use Rattle.session_book.specs.Sessions.{module_of, session_of};
+ghost use Rattle.session_book.specs.Sets.{HasSetsOf};
+ghost use Rattle.session_marks.specs.Marked.{marked_place, marked_places, marked_module, session_marks};
+ghost use Rattle.session_marks.specs.Fields.{HasFields, AreHalfwords};
 
 use brk_table::Tables;
-use cov_base::{NoMemory, SessNo};
-use marks_file::Marks;
+use cov_base::{NoMemory, PlaceNo, SessNo};
+use marks_file::{MarkedModule, MarkedPlace, Marks};
+use module_area::Image;
 use session_book::{FactSets, Job};
 use std::alloc::Global;
+
+/// A place of a module of this base, and its set.
+fn marked_place<R: FactSets>(
+    tables: &Tables,
+    results: &R,
+    s: SessNo,
+    base: u32,
+    n: u32,
+) -> MarkedPlace
+    requires some { 0 < s.0 }
+    requires session { s.0 < R.sessions results.now + 1 }
+    requires size { R.places results.now ≡ length tables.now.places }
+    requires exists { n < length tables.now.places }
+    requires from { base ≤ (place_of tables.now.places n).at }
+    ensures value { result ≡ marked_place base tables.now.places (R.set_of results.now s.0) n }
+    ensures halfword { result.original < 65536 }
+{
+    let place = tables.place(PlaceNo(n));
+    MarkedPlace {
+        location: place.at.get() - base,
+        len: place.len,
+        kind: place.kind,
+        original: place.original,
+        set: results.set(s, PlaceNo(n)),
+    }
+}
+
+/// The places from `first` on, below `past`, of a module of this base.
+fn marked_places<R: FactSets>(
+    alloc: Global,
+    tables: &Tables,
+    results: &R,
+    s: SessNo,
+    base: u32,
+    first: u32,
+    past: u32,
+) -> Result<Vec<MarkedPlace>, NoMemory>
+    requires some { 0 < s.0 }
+    requires session { s.0 < R.sessions results.now + 1 }
+    requires size { R.places results.now ≡ length tables.now.places }
+    requires range { first ≤ past }
+    requires exist { past ≤ length tables.now.places }
+    requires from { (n : ℕ) → first ≤ n → n < past → base ≤ (place_of tables.now.places n).at }
+    ensures value { IfOk result (λ v. v.items ≡ marked_places base tables.now.places (R.set_of results.now s.0) first (past - first)) }
+    ensures halfwords { IfOk result (λ v. AreHalfwords v.items) }
+{
+    let mut places = Vec::with_capacity(alloc, (past - first) as usize)?;
+    for n in first..past {
+        places.push(marked_place(tables, results, s, base, n))?;
+    }
+    Ok(places)
+}
+
+/// The module of that number.
+fn image_of(job: &Job, m: u32) -> &Image
+    requires { m < length job.now.images }
+    ensures { result.now ≡ module_of job.now m }
+{
+    &job.images.0[m as usize]
+}
+
+/// A module, and its places with their sets.
+fn marked_module<R: FactSets>(
+    alloc: Global,
+    job: &Job,
+    tables: &Tables,
+    results: &R,
+    s: SessNo,
+    m: u32,
+) -> Result<MarkedModule, NoMemory>
+    requires module { m < length job.now.images }
+    requires tables { AreTables job.now.images tables.now.tables }
+    requires some { 0 < s.0 }
+    requires session { s.0 < R.sessions results.now + 1 }
+    requires size { R.places results.now ≡ length tables.now.places }
+    ensures value { IfOk result (λ v. v ≡ marked_module job.now tables.now (R.set_of results.now s.0) m) }
+    ensures fields { IfOk result (λ v. HasFields v) }
+{
+    let image = image_of(job, m);
+    let base = image.base.get();
+    let (first, past) = tables.range(m);
+    let places = marked_places(alloc, tables, results, s, base, first, past)?;
+    Ok(MarkedModule {
+        name: image.name,
+        base,
+        size: image.bytes.len() as u32,
+        places,
+    })
+}
+
+/// The modules, and their places with their sets.
+fn marked_modules<R: FactSets>(
+    alloc: Global,
+    job: &Job,
+    tables: &Tables,
+    results: &R,
+    s: SessNo,
+    modules: &[u32],
+) -> Result<Vec<MarkedModule>, NoMemory>
+    requires modules { All (λ m. m < length job.now.images) modules.now }
+    requires tables { AreTables job.now.images tables.now.tables }
+    requires some { 0 < s.0 }
+    requires session { s.0 < R.sessions results.now + 1 }
+    requires size { R.places results.now ≡ length tables.now.places }
+    ensures value { IfOk result (λ v. v.items ≡ map (marked_module job.now tables.now (R.set_of results.now s.0)) modules.now) }
+    ensures fields { IfOk result (λ v. All HasFields v.items) }
+{
+    let mut marked = Vec::with_capacity(alloc, modules.len())?;
+    for m in modules {
+        marked.push(marked_module(alloc, job, tables, results, s, *m)?)?;
+    }
+    Ok(marked)
+}
+
+/// The marks of session s of the job: its modules in the order of its card, a module without a listing too, and each
+/// with the places of its table and the session's set at each. The tables are those of the job's listings, and each
+/// set has facts of its place's kind alone. NoMemory comes exactly where no memory was found. Time and memory are
+/// linear in the places of the session's modules.
+pub fn marks_of<R: FactSets>(
+    alloc: Global,
+    job: &Job,
+    tables: &Tables,
+    results: &R,
+    s: SessNo,
+) -> Result<Marks, NoMemory>
+    requires from { 0 < s.0 }
+    requires to { s.0 ≤ length job.now.sessions }
+    requires tables { AreTables job.now.images tables.now.tables }
+    requires sets { HasSetsOf job.now tables.now (R.sessions results.now) (R.places results.now) (R.set_of results.now) s.0 }
+    ensures { IfOk result (λ m. m ≡ session_marks job.now tables.now (R.set_of results.now s.0) s.0) }
+{
+    let modules = marked_modules(alloc, job, tables, results, s, &job.session(s).modules)?;
+    Ok(Marks { modules })
+}
