@@ -1,1 +1,3 @@
 pub mod SetsLemmas
+pub mod TableLemmas
+pub mod OwnLemmas

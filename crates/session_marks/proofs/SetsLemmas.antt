@@ -27,7 +27,7 @@ no_more_places : (ps : List MarkedPlace) → unite_places ps [] ≡ ps
 no_more_places [] = refl
 no_more_places (p ∷ ps) = refl
 
-no_more_modules : (ms : List MarkedView) → unite ms [] ≡ ms
+pub no_more_modules : (ms : List MarkedView) → unite ms [] ≡ ms
 no_more_modules [] = refl
 no_more_modules (m ∷ ms) = refl
 

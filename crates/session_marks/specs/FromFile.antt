@@ -1,14 +1,15 @@
 -- The sets that a marks file has for a session, and why a file is none of the session's.
-use Rattle.std.specs.Prelude.{◌≡◌, ℕ, ◌+◌, ◌<◌, Some, List, length, get_or}
+use Rattle.std.specs.Prelude.{◌≡◌, ℕ, ◌+◌, ◌<◌, ◌≤◌, Some, None, List, length, get_or, All}
 use Rattle.cov_base.specs.FactSet.{FactSet}
 use Rattle.cov_base.specs.Facts.{no_facts}
 use Rattle.marks_file.specs.Marks.{MarkedView}
 use Rattle.marks_file.specs.MarksFile.{rows}
 use Rattle.marks_file.specs.declared.marks.MarkedPlace.{MarkedPlace}
 use Rattle.table_combine.specs.Combine.{first_difference, difference_of}
-use Rattle.brk_table.specs.Places.{TableView, TablesView, first_place}
+use Rattle.brk_table.specs.Places.{TableView, TablesView, first_place, place_count}
 use Rattle.session_book.specs.JobView.{JobView}
-use Rattle.session_marks.specs.Marked.{session_rows}
+use Rattle.session_book.specs.Sessions.{session_of}
+use Rattle.session_marks.specs.Marked.{session_marks, session_rows}
 use Rattle.session_marks.specs.declared.from_file.SetsFault.{SetsFault}
 use Rattle.session_marks.specs.declared.from_file.SetsFault.TheVariants.{Other, NoMemory}
 
@@ -36,3 +37,19 @@ HaveSetsAt tables sets count modules file = (i m : ℕ) (d : MarkedView) → i <
 abbrev pub IsSetsFault : JobView → TablesView → ℕ → List MarkedView → SetsFault → Type 0
 IsSetsFault j tables s file (Other e) = first_difference 0 (session_rows j tables s) (rows file) ≡ Some (difference_of e)
 IsSetsFault j tables s file NoMemory = Unit {0}
+
+-- the sets with which a file is the session's marks
+pub record IsOwn (j : JobView) (tables : TablesView) (s : ℕ) (file : List MarkedView) : Type 0 where
+  pub sets : ℕ → FactSet
+  pub is : file ≡ session_marks j tables sets s
+
+-- at each place of module m the same set
+abbrev pub AreSameAt : TablesView → (ℕ → FactSet) → (ℕ → FactSet) → ℕ → Type 0
+AreSameAt tables sets others m = (n : ℕ) → first_place tables.tables m ≤ n → n < first_place tables.tables m + place_count tables.tables m → sets n ≡ others n
+
+-- A file is the session's marks with some sets exactly where no row differs, and its sets at the session's places are
+-- then the only ones.
+pub record IsDecided (j : JobView) (tables : TablesView) (s : ℕ) (file : List MarkedView) : Type 0 where
+  pub own : IsOwn j tables s file → first_difference 0 (session_rows j tables s) (rows file) ≡ None
+  pub found : first_difference 0 (session_rows j tables s) (rows file) ≡ None → IsOwn j tables s file
+  pub one : (sets others : ℕ → FactSet) → file ≡ session_marks j tables sets s → file ≡ session_marks j tables others s → All (AreSameAt tables sets others) (session_of j s).modules
