@@ -1,3 +1,3 @@
 pub mod SetsLemmas
-pub mod TableLemmas
+pub mod SessionLemmas
 pub mod OwnLemmas

@@ -18,7 +18,7 @@ use Rattle.session_book.specs.Sessions.{session_of}
 use Rattle.session_marks.specs.Marked.{marked_module, session_marks, session_rows}
 use Rattle.session_marks.specs.FromFile.{HasSetsAt, HaveSetsAt, IsOwn, IsDecided}
 use Rattle.session_marks.proofs.SetsLemmas.{empty, file_kept, same_marks, modules_filled, sets_step}
-use Rattle.session_marks.proofs.TableLemmas.{own_same, sets_one, counts_united}
+use Rattle.session_marks.proofs.SessionLemmas.{own_same, sets_one, counts_united}
 
 -- rows in which there is no difference are the same
 went_on : (c : Bool) (x : Option Difference) (d : Difference) → (if c then x else Some d) ≡ None → (c ≡ true) × (x ≡ None)
@@ -141,9 +141,18 @@ own_found j tables s file differ h g none =
     }
 
 -- each file has one answer
-pub decided : (j : JobView) (tables : TablesView) (s : ℕ) (file : List MarkedView) → AllPairs (λ m n. m ≢ n) (session_of j s).modules → are_marks (session_marks j tables empty s) ≡ true → are_marks file ≡ true → IsDecided j tables s file
-decided j tables s file differ h g = record {
+pub decided : (j : JobView) (tables : TablesView) (s : ℕ) (file : List MarkedView) → AllPairs (λ m n. m ≢ n) (session_of j s).modules → IsDecided j tables s file
+decided j tables s file differ = record {
   own = own_same j tables s file;
-  found = own_found j tables s file differ h g;
+  found = own_found j tables s file differ;
   one = λ sets others. sets_one j tables sets others s file;
 }
+
+-- a file that was united with the session's table
+pub united_sets : (j : JobView) (tables : TablesView) (s : ℕ) (file own : List MarkedView) (sets : ℕ → FactSet) → own ≡ unite (session_marks j tables empty s) file → are_marks own ≡ true → are_marks file ≡ true
+    → file_bytes (unite (session_marks j tables empty s) file) ≡ file_bytes (unite file (session_marks j tables empty s))
+    → HaveSetsAt tables.tables sets (length (session_of j s).modules) (session_of j s).modules own → file ≡ session_marks j tables sets s
+united_sets j tables s file own sets e h g turned have =
+    let ms = (session_of j s).modules in
+    let is : own ≡ file = same_marks own file h g (ap file_bytes e ∙ (turned ∙ ap file_bytes (file_kept j tables ms file))) in
+    sym is ∙ (e ∙ sym (modules_filled j tables sets ms file (subst (HaveSetsAt tables.tables sets (length ms) ms) e have)))

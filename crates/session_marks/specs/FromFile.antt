@@ -1,8 +1,8 @@
 -- The sets that a marks file has for a session, and why a file is none of the session's.
-use Rattle.std.specs.Prelude.{◌≡◌, ℕ, ◌+◌, ◌<◌, ◌≤◌, Some, None, List, length, get_or, All}
+use Rattle.std.specs.Prelude.{◌≡◌, ℕ, ◌+◌, ◌<◌, ◌≤◌, true, Some, None, List, length, get_or, All}
 use Rattle.cov_base.specs.FactSet.{FactSet}
 use Rattle.cov_base.specs.Facts.{no_facts}
-use Rattle.marks_file.specs.Marks.{MarkedView}
+use Rattle.marks_file.specs.Marks.{MarkedView, are_marks}
 use Rattle.marks_file.specs.MarksFile.{rows}
 use Rattle.marks_file.specs.declared.marks.MarkedPlace.{MarkedPlace}
 use Rattle.table_combine.specs.Combine.{first_difference, difference_of}
@@ -47,9 +47,9 @@ pub record IsOwn (j : JobView) (tables : TablesView) (s : ℕ) (file : List Mark
 abbrev pub AreSameAt : TablesView → (ℕ → FactSet) → (ℕ → FactSet) → ℕ → Type 0
 AreSameAt tables sets others m = (n : ℕ) → first_place tables.tables m ≤ n → n < first_place tables.tables m + place_count tables.tables m → sets n ≡ others n
 
--- A file is the session's marks with some sets exactly where no row differs, and its sets at the session's places are
--- then the only ones.
+-- Of a file that keeps the rules of marks files, as the session's table does: it is the session's marks with some sets
+-- exactly where no row differs, and its sets at the session's places are then the only ones.
 pub record IsDecided (j : JobView) (tables : TablesView) (s : ℕ) (file : List MarkedView) : Type 0 where
   pub own : IsOwn j tables s file → first_difference 0 (session_rows j tables s) (rows file) ≡ None
-  pub found : first_difference 0 (session_rows j tables s) (rows file) ≡ None → IsOwn j tables s file
+  pub found : are_marks (session_marks j tables (λ n. no_facts) s) ≡ true → are_marks file ≡ true → first_difference 0 (session_rows j tables s) (rows file) ≡ None → IsOwn j tables s file
   pub one : (sets others : ℕ → FactSet) → file ≡ session_marks j tables sets s → file ≡ session_marks j tables others s → All (AreSameAt tables sets others) (session_of j s).modules

@@ -3,9 +3,10 @@ ghost use Rattle.std.specs.Prelude.{◌≡◌, ◌≢◌, ◌⊎◌, ℕ, ◌+�
 ghost use Rattle.brk_table.specs.Places.{place_count};
 ghost use Rattle.brk_table.specs.Together.{AreTables};
 ghost use Rattle.marks_file.specs.Marks.{MarkedView};
+ghost use Rattle.session_book.specs.Sessions.{session_of};
 ghost use Rattle.session_book.specs.Sets.{HasSetsOf};
 ghost use Rattle.session_marks.specs.Marked.{session_marks};
-ghost use Rattle.session_marks.specs.FromFile.{set_at, sets_of_one, HasSetsAt, HaveSetsAt, IsSetsFault};
+ghost use Rattle.session_marks.specs.FromFile.{set_at, sets_of_one, HasSetsAt, HaveSetsAt, IsSetsFault, IsDecided};
 
 use crate::marking::marks_of;
 use crate::no_sets::NoSets;
@@ -97,18 +98,20 @@ fn sets_of(
     Ok(sets)
 }
 
-/// The sets that the file has for session s of the job, whose tables these are. Other comes exactly where the file's
-/// table isn't the session's, NoMemory exactly where no memory was found.
-pub fn file_sets(
+/// The sets that the file has for the session of these modules.
+fn session_sets(
     alloc: Global,
     job: &Job,
     tables: &Tables,
     s: SessNo,
+    modules: &[u32],
     file: &Marks,
 ) -> Result<FileSets, SetsFault>
     requires from { 0 < s.0 }
     requires to { s.0 ≤ length job.now.sessions }
     requires tables { AreTables job.now.images tables.now.tables }
+    requires modules { modules.now ≡ (session_of job.now s.0).modules }
+    requires differ { AllPairs (λ m n. m ≢ n) modules.now }
     ensures same { IfOk result (λ f. file.now ≡ session_marks job.now tables.now (set_at f.sets) s.0) }
     ensures sets { IfOk result (λ f. HasSetsOf job.now tables.now f.session (length f.sets) (sets_of_one f) s.0) }
     ensures fault { IfErr result (λ e. IsSetsFault job.now tables.now s.0 file.now e) }
@@ -124,8 +127,31 @@ pub fn file_sets(
     if let Err(other) = combine(&mut own, file) {
         return Err(SetsFault::Other(other));
     }
-    match sets_of(alloc, tables, &job.session(s).modules, &own.modules) {
+    // The union of the file and a table without facts is the file, whose rules are known once it was read.
+    let _ = file.modules.len();
+    match sets_of(alloc, tables, modules, &own.modules) {
         Ok(sets) => Ok(FileSets { session: s, sets }),
         Err(NoMemory) => Err(SetsFault::NoMemory),
     }
+}
+
+/// The sets that the file has for session s of the job, whose tables these are. Other comes exactly where the file's
+/// table isn't the session's, NoMemory exactly where no memory was found. Time and memory are linear in the places.
+pub fn file_sets(
+    alloc: Global,
+    job: &Job,
+    tables: &Tables,
+    s: SessNo,
+    file: &Marks,
+) -> Result<FileSets, SetsFault>
+    requires from { 0 < s.0 }
+    requires to { s.0 ≤ length job.now.sessions }
+    requires tables { AreTables job.now.images tables.now.tables }
+    ensures same { IfOk result (λ f. file.now ≡ session_marks job.now tables.now (set_at f.sets) s.0) }
+    ensures sets { IfOk result (λ f. HasSetsOf job.now tables.now f.session (length f.sets) (sets_of_one f) s.0) }
+    ensures decided { IsDecided job.now tables.now s.0 file.now }
+    ensures fault { IfErr result (λ e. IsSetsFault job.now tables.now s.0 file.now e) }
+{
+    let card = job.session(s);
+    session_sets(alloc, job, tables, s, &card.modules, file)
 }
