@@ -2,17 +2,25 @@
 ghost use Rattle.std.specs.Prelude.{◌≡◌, ℕ, ◌+◌, ◌-◌, ◌<◌, ◌≤◌, length, map, All, IfOk};
 ghost use Rattle.brk_table.specs.Together.{AreTables};
 ghost use Rattle.module_area.specs.PlanView.{place_of};
+ghost use Rattle.session_book.specs.JobView.{IsJob};
 ghost use Rattle.session_book.specs.Sessions.{module_of, session_of};
 ghost use Rattle.session_book.specs.Sets.{HasSetsOf};
 ghost use Rattle.session_marks.specs.Marked.{marked_place, marked_places, marked_module, session_marks};
 ghost use Rattle.session_marks.specs.Fields.{HasFields, AreHalfwords};
 
 use brk_table::Tables;
-use cov_base::{NoMemory, PlaceNo, SessNo};
+use cov_base::{Name, NoMemory, PlaceNo, SessNo};
 use marks_file::{MarkedModule, MarkedPlace, Marks};
-use module_area::Image;
+use module_area::{Image, Place};
 use session_book::{FactSets, Job};
 use std::alloc::Global;
+
+/// The place's original, of which a caller then knows that it is a halfword.
+fn original_of(place: &Place) -> u16
+    ensures { result ≡ place.now.original }
+{
+    place.original
+}
 
 /// A place of a module of this base, and its set.
 fn marked_place<R: FactSets>(
@@ -35,7 +43,7 @@ fn marked_place<R: FactSets>(
         location: place.at.get() - base,
         len: place.len,
         kind: place.kind,
-        original: place.original,
+        original: original_of(place),
         set: results.set(s, PlaceNo(n)),
     }
 }
@@ -69,9 +77,17 @@ fn marked_places<R: FactSets>(
 /// The module of that number.
 fn image_of(job: &Job, m: u32) -> &Image
     requires { m < length job.now.images }
-    ensures { result.now ≡ module_of job.now m }
+    ensures value { result.now ≡ module_of job.now m }
+    ensures job { IsJob job.now }
 {
     &job.images.0[m as usize]
+}
+
+/// Its name.
+fn name_of(image: &Image) -> Name
+    ensures { result ≡ image.now.name }
+{
+    image.name
 }
 
 /// A module, and its places with their sets.
@@ -96,7 +112,7 @@ fn marked_module<R: FactSets>(
     let (first, past) = tables.range(m);
     let places = marked_places(alloc, tables, results, s, base, first, past)?;
     Ok(MarkedModule {
-        name: image.name,
+        name: name_of(image),
         base,
         size: image.bytes.len() as u32,
         places,
