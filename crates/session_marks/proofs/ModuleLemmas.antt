@@ -12,19 +12,21 @@ use Rattle.std.proofs.lemmas.Map.Steps.{length-le_from_distinct_below}
 use Rattle.std.proofs.lemmas.Slice.Eq.{bytes_eq-Decides}
 use Rattle.cov_base.specs.FactSet.{FactSet}
 use Rattle.cov_base.specs.Memory.{ImageView}
+use Rattle.cov_base.specs.Names.{is_filled}
 use Rattle.module_area.specs.Images.{IsImage, AreClear}
 use Rattle.module_area.specs.PlanView.{place_of, no_place}
 use Rattle.module_area.specs.declared.places.Place.{Place}
 use Rattle.brk_table.specs.Places.{TableView, TablesView, IsPlace, AreApart, all_places, first_place}
 use Rattle.brk_table.specs.Places.{place_count as count_in}
 use Rattle.brk_table.specs.Together.{AreTables}
-use Rattle.marks_file.specs.Marks.{MarkedView, is_new_name, is_base, is_clear, is_size, is_count, place_count, is_module, are_modules, is_module_count, are_marks}
+use Rattle.marks_file.specs.Marks.{MarkedView, is_new_name, is_base, is_clear, is_size, is_count, place_count, is_module, are_modules, is_module_count, are_marks, are_places}
+use Rattle.marks_file.specs.declared.marks.MarkedPlace.{MarkedPlace}
 use Rattle.marks_file.proofs.MarksLemmas.{both}
 use Rattle.session_book.specs.JobView.{JobView, IsJob}
 use Rattle.session_book.specs.Sessions.{module_of, no_module}
 use Rattle.session_book.specs.Sets.{AreWithin}
-use Rattle.session_marks.specs.Fields.{HasFields}
-use Rattle.session_marks.specs.Marked.{marked_module}
+use Rattle.session_marks.specs.Fields.{HasGoodFields, AreHalfwords}
+use Rattle.session_marks.specs.Marked.{marked_module, marked_places}
 use Rattle.session_marks.proofs.TableLemmas.{OwnTable, own_table, Differ, count_of, counts_fit, count_more, first_differs, rest_differs}
 use Rattle.session_marks.proofs.RuleLemmas.{IsMarkable, AreMarkable, places_kept, some_bytes, at_most, equal, length-marked_places}
 
@@ -94,13 +96,18 @@ from_base j tables m are all n from to = elim (own_table j.images tables.tables 
       rw (image, place_in j tables m n all o from to) own.from)
 ]
 
+-- a module's places keep their rules
+pub own_places_kept : (j : JobView) (tables : TablesView) (sets : ℕ → FactSet) (m : ℕ) → AreTabled j tables → m < length j.images → AreWithin tables sets m → AreHalfwords (marked_module j tables sets m).places
+    → are_places (length (module_of j m).bytes) 0 (marked_module j tables sets m).places ≡ true
+own_places_kept j tables sets m are l within halves =
+    places_kept (module_of j m) tables.places sets (first_place tables.tables m) (count_in tables.tables m) (are.job.images.each m no_module l) (markable j tables sets m are within) halves
+
 -- ---- the modules of a session differ
 
--- a module of a session: one of the job's, its sets, and what its fields hold
+-- one of the job's modules, which keeps the rules that look at no other
 pub record IsMarked (j : JobView) (tables : TablesView) (sets : ℕ → FactSet) (m : ℕ) : Type 0 where
   pub exists : m < length j.images
-  pub within : AreWithin tables sets m
-  pub fields : HasFields (marked_module j tables sets m)
+  pub fields : HasGoodFields (marked_module j tables sets m)
 
 length-mapped : {X Y : Type 0} (f : X → Y) (xs : List X) → length (map f xs) ≡ length xs
 length-mapped f [] = refl
@@ -197,41 +204,40 @@ size_kept j tables sets m es is one are differ =
     let size = length (module_of j m).bytes in
     both _ _ (equal _ 0 i.even) (both _ _ (at_most 2 size i.some) (both _ _ (at_most size 262144 few) (both _ _ (at_most _ _ i.to) (all_clear j tables sets m es is one.exists are differ))))
 
-count_kept : (j : JobView) (tables : TablesView) (sets : ℕ → FactSet) (m : ℕ) (es : List ℕ) → AreTabled j tables → Differ (es ++ m ∷ []) → is_count (map (marked_module j tables sets) es) (length (marked_module j tables sets m).places) ≡ true
+count_kept : (j : JobView) (tables : TablesView) (sets : ℕ → FactSet) (m : ℕ) (es : List ℕ) → AreTables j.images tables.tables → Differ (es ++ m ∷ []) → is_count (map (marked_module j tables sets) es) (length (marked_module j tables sets m).places) ≡ true
 unfolding is_count
 count_kept j tables sets m es are differ =
     let one = length-marked_places (module_of j m).base tables.places sets (first_place tables.tables m) (count_in tables.tables m) in
     let before = counted j tables sets es in
     let more = count_more tables.tables es m in
     let fit = counts_fit tables.tables (es ++ m ∷ []) differ in
-    let most = are.are.most in
+    let most = are.most in
     at_most (place_count (map (marked_module j tables sets) es) + length (marked_module j tables sets m).places) 65536 (omega (arith, one, before, more, fit, most))
 
-module_kept : (j : JobView) (tables : TablesView) (sets : ℕ → FactSet) (m : ℕ) (es : List ℕ) → AreTabled j tables → IsMarked j tables sets m → All (IsMarked j tables sets) es → All (λ e. e ≢ m) es → Differ (es ++ m ∷ [])
+module_kept : (j : JobView) (tables : TablesView) (sets : ℕ → FactSet) (m : ℕ) (es : List ℕ) → IsJob j → AreTables j.images tables.tables → IsMarked j tables sets m → All (IsMarked j tables sets) es → All (λ e. e ≢ m) es → Differ (es ++ m ∷ [])
     → is_module (map (marked_module j tables sets) es) (marked_module j tables sets m) ≡ true
-module_kept j tables sets m es are one earlier other differ =
-    let i = module_is j m are.job one.exists in
-    both _ _ (name_kept j tables sets m es are.job one earlier other)
+module_kept j tables sets m es is are one earlier other differ =
+    let i = module_is j m is one.exists in
+    both _ _ (name_kept j tables sets m es is one earlier other)
     (both _ _ (base_kept (module_of j m) i)
-    (both _ _ (size_kept j tables sets m es are.job one earlier other)
-    (both _ _ (count_kept j tables sets m es are differ)
-    (places_kept (module_of j m) tables.places sets (first_place tables.tables m) (count_in tables.tables m) i (markable j tables sets m are one.within) one.fields.originals))))
+    (both _ _ (size_kept j tables sets m es is one earlier other)
+    (both _ _ (count_kept j tables sets m es are differ) one.fields.places)))
 
 differ_more : (m : ℕ) (es : List ℕ) → Differ es → All (λ e. e ≢ m) es → Differ (es ++ m ∷ [])
 differ_more m es differ other = all_pairs_push (λ a b. a ≢ b) es m differ other
 
-modules_from : (j : JobView) (tables : TablesView) (sets : ℕ → FactSet) (es ms : List ℕ) → AreTabled j tables → All (IsMarked j tables sets) es → All (IsMarked j tables sets) ms → Differ es → Differ ms → All (λ m. All (λ e. e ≢ m) es) ms
+modules_from : (j : JobView) (tables : TablesView) (sets : ℕ → FactSet) (es ms : List ℕ) → IsJob j → AreTables j.images tables.tables → All (IsMarked j tables sets) es → All (IsMarked j tables sets) ms → Differ es → Differ ms → All (λ m. All (λ e. e ≢ m) es) ms
     → are_modules (map (marked_module j tables sets) es) (map (marked_module j tables sets) ms) ≡ true
-modules_from j tables sets es [] are earlier later differ apart other = refl
-modules_from j tables sets es (m ∷ ms) are earlier later differ apart other =
+modules_from j tables sets es [] is are earlier later differ apart other = refl
+modules_from j tables sets es (m ∷ ms) is are earlier later differ apart other =
     let f = marked_module j tables sets in
     let here = later 0 m (omega arith) in
     let mine = other 0 m (omega arith) in
     let more = differ_more m es differ mine in
     let rest = All-tail (IsMarked j tables sets) m ms later in
     let others : All (λ n. All (λ e. e ≢ n) (es ++ m ∷ [])) ms = λ k d l. All-push (λ e. e ≢ get_or ms k d) es m (All-tail (λ n. All (λ e. e ≢ n) es) m ms other k d l) (first_differs m ms apart k d l) in
-    let next = modules_from j tables sets (es ++ m ∷ []) ms are (All-push (IsMarked j tables sets) es m earlier here) rest more (rest_differs m ms apart) others in
-    both _ _ (module_kept j tables sets m es are here earlier mine more) (subst (λ x. are_modules x (map f ms) ≡ true) (map-append f es (m ∷ [])) next)
+    let next = modules_from j tables sets (es ++ m ∷ []) ms is are (All-push (IsMarked j tables sets) es m earlier here) rest more (rest_differs m ms apart) others in
+    both _ _ (module_kept j tables sets m es is are here earlier mine more) (subst (λ x. are_modules x (map f ms) ≡ true) (map-append f es (m ∷ [])) next)
 
 below_either : (n q m : ℕ) (rest : Bool) → m < n → (rest ≡ true → q < n) → ((q == m) || rest) ≡ true → q < n
 below_either n q m rest l h e = by (q == m) refl e
@@ -252,21 +258,34 @@ all_mapped : {X Y : Type 0} (P : Y → Type 0) (f : X → Y) (xs : List X) → A
 all_mapped P f [] h = All-nil (λ x. P (f x))
 all_mapped P f (x ∷ xs) h = All-cons (λ x. P (f x)) x xs (h 0 (f x) (omega arith)) (all_mapped P f xs (All-tail P (f x) (map f xs) h))
 
-are_marked : (j : JobView) (tables : TablesView) (sets : ℕ → FactSet) (ms : List ℕ) → All (λ m. m < length j.images) ms → All (AreWithin tables sets) ms → All HasFields (map (marked_module j tables sets) ms) → All (IsMarked j tables sets) ms
-are_marked j tables sets ms exist within fields k d l = record {
+are_marked : (j : JobView) (tables : TablesView) (sets : ℕ → FactSet) (ms : List ℕ) → All (λ m. m < length j.images) ms → All HasGoodFields (map (marked_module j tables sets) ms) → All (IsMarked j tables sets) ms
+are_marked j tables sets ms exist fields k d l = record {
   exists = exist k d l;
-  within = within k d l;
-  fields = all_mapped HasFields (marked_module j tables sets) ms fields k d l;
+  fields = all_mapped HasGoodFields (marked_module j tables sets) ms fields k d l;
 }
 
--- different modules of a job, with the sets at their places, make a marks file
-pub marks_kept : (j : JobView) (tables : TablesView) (sets : ℕ → FactSet) (ms : List ℕ) → AreTabled j tables → 1 ≤ length ms → All (λ m. m < length j.images) ms → Differ ms → All (AreWithin tables sets) ms → All HasFields (map (marked_module j tables sets) ms)
+-- different modules of a job make a marks file
+pub marks_kept : (j : JobView) (tables : TablesView) (sets : ℕ → FactSet) (ms : List ℕ) → IsJob j → AreTables j.images tables.tables → 1 ≤ length ms → All (λ m. m < length j.images) ms → Differ ms → All HasGoodFields (map (marked_module j tables sets) ms)
     → are_marks (map (marked_module j tables sets) ms) ≡ true
 unfolding is_module_count
-marks_kept j tables sets ms are some exist differ within fields =
+marks_kept j tables sets ms is are some exist differ fields =
     let long = length-mapped (marked_module j tables sets) ms in
     let many = few (length j.images) ms exist differ in
-    let most = are.job.modules in
+    let most = is.modules in
     let size = length (map (marked_module j tables sets) ms) in
     both _ _ (both _ _ (at_most 1 size (omega (arith, long, some))) (at_most size 16 (omega (arith, long, many, most))))
-    (modules_from j tables sets [] ms are (All-nil (IsMarked j tables sets)) (are_marked j tables sets ms exist within fields) (λ a b d l h. absurd (omega arith)) differ (λ k d l. All-nil (λ e. e ≢ get_or ms k d)))
+    (modules_from j tables sets [] ms is are (All-nil (IsMarked j tables sets)) (are_marked j tables sets ms exist fields) (λ a b d l h. absurd (omega arith)) differ (λ k d l. All-nil (λ e. e ≢ get_or ms k d)))
+
+-- what was made of a module with these fields
+pub module_fields : (j : JobView) (tables : TablesView) (sets : ℕ → FactSet) (m base size first past : ℕ) (image : ImageView) (name : List ℕ) (places : List MarkedPlace)
+    → AreTabled j tables → m < length j.images → AreWithin tables sets m → image ≡ module_of j m → base ≡ image.base → size ≡ length image.bytes → first ≡ first_place tables.tables m → past ≡ first_place tables.tables m + count_in tables.tables m
+    → places ≡ marked_places base tables.places sets first (past - first) → AreHalfwords places → is_filled name ≡ true → HasGoodFields (record { name = name; base = base; size = size; places = places })
+module_fields j tables sets m base size first past image name places are l within same eb es ef ep made halves filled =
+    let count : past - first ≡ count_in tables.tables m = omega arith in
+    let at : base ≡ (module_of j m).base = eb ∙ ap (λ (i : ImageView). i.base) same in
+    let long : size ≡ length (module_of j m).bytes = es ∙ ap (λ (i : ImageView). length i.bytes) same in
+    let own : places ≡ (marked_module j tables sets m).places = made ∙ (ap (λ b. marked_places b tables.places sets first (past - first)) at ∙ (ap (λ k. marked_places (module_of j m).base tables.places sets k (past - first)) ef ∙ ap (marked_places (module_of j m).base tables.places sets (first_place tables.tables m)) count)) in
+    record {
+      name = filled;
+      places = rw (long, own) (own_places_kept j tables sets m are l within (subst AreHalfwords own halves));
+    }

@@ -21,3 +21,8 @@ places_more base places sets first n h =
 
 pub no_places_yet : (base : ℕ) (places : List Place) (sets : ℕ → FactSet) (first : ℕ) → marked_places base places sets first (first - first) ≡ []
 no_places_yet base places sets first = let none : first - first ≡ zero = omega arith in ap (marked_places base places sets first) none
+
+-- a place pushed
+pub places_step : (base : ℕ) (places : List Place) (sets : ℕ → FactSet) (first n : ℕ) (was now : List MarkedPlace) (p : MarkedPlace) → first ≤ n → was ≡ marked_places base places sets first (n - first) → now ≡ was ++ p ∷ [] → p ≡ marked_place base places sets n → now ≡ marked_places base places sets first (n + 1 - first)
+places_step base places sets first n was now p h before push is =
+    push ∙ (ap (λ ps. ps ++ p ∷ []) before ∙ (ap (λ q. marked_places base places sets first (n - first) ++ q ∷ []) is ∙ sym (places_more base places sets first n h)))
