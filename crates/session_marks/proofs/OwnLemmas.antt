@@ -3,6 +3,7 @@ use Rattle.std.proofs.Common.{◌≡◌, ◌≢◌, ◌⊎◌, inl, inr, ℕ, �
 use Rattle.std.specs.Str.{bytes_eq}
 use Rattle.std.proofs.lemmas.Bool.Decides.{nat_tests}
 use Rattle.std.proofs.lemmas.List.{length-map, get_or_default}
+use Rattle.std.proofs.lemmas.List.Elements.{All-tail}
 use Rattle.cov_base.specs.FactSet.{FactSet}
 use Rattle.marks_file.specs.Marks.{MarkedView, HasRow, are_marks}
 use Rattle.marks_file.specs.MarksFile.{place_row, module_row, module_rows, rows, file_bytes}
@@ -51,9 +52,6 @@ split_rows (p ∷ ps) (q ∷ qs) xs ys l e =
     let more = split_rows ps qs xs ys (omega arith) (tail_same (place_row p) (place_row q) (map place_row ps ++ xs) (map place_row qs ++ ys) e) in
     ((head_same (place_row p) (place_row q) (map place_row ps ++ xs) (map place_row qs ++ ys) e, more.0), more.1)
 
-tail : (m : MarkedView) (ms : List MarkedView) → All HasRow (m ∷ ms) → All HasRow ms
-tail m ms h k d l = h (suc k) d (omega arith)
-
 same_tables : (ms ns : List MarkedView) → All HasRow ms → All HasRow ns → rows ms ≡ rows ns → SameTables ms ns
 same_tables [] [] hm hn e = tt
 same_tables [] (n ∷ ns) hm hn e = absurd cc
@@ -61,7 +59,7 @@ same_tables (m ∷ ms) [] hm hn e = absurd cc
 same_tables (m ∷ ms) (n ∷ ns) hm hn e =
     let row : module_row m ≡ module_row n = head_same (module_row m) (module_row n) (map place_row m.places ++ rows ms) (map place_row n.places ++ rows ns) e in
     let more = split_rows m.places n.places (rows ms) (rows ns) (row_count m n (hm 0 m (omega arith)) (hn 0 n (omega arith)) row) (tail_same (module_row m) (module_row n) (map place_row m.places ++ rows ms) (map place_row n.places ++ rows ns) e) in
-    ((row, more.0), same_tables ms ns (tail m ms hm) (tail n ns hn) more.1)
+    ((row, more.0), same_tables ms ns (All-tail HasRow m ms hm) (All-tail HasRow n ns hn) more.1)
 
 -- these places' sets from number n on, and the others before them
 put_sets : (ℕ → FactSet) → ℕ → List MarkedPlace → ℕ → FactSet

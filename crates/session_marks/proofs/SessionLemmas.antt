@@ -20,11 +20,8 @@ use Rattle.session_book.specs.Sessions.{module_of, session_of}
 use Rattle.session_book.specs.Sets.{AreWithin}
 use Rattle.session_marks.specs.Marked.{marked_place, marked_places, marked_module, session_marks, session_rows}
 use Rattle.session_marks.specs.FromFile.{IsOwn, AreSameAt}
+use Rattle.session_marks.proofs.RuleLemmas.{length-marked_places}
 use Rattle.session_marks.proofs.SetsLemmas.{empty, no_more_modules}
-
-pub length-marked_places : (base : ℕ) (places : List Place) (sets : ℕ → FactSet) (n count : ℕ) → length (marked_places base places sets n count) ≡ count
-length-marked_places base places sets n zero = refl
-length-marked_places base places sets n (suc count) = ap suc (length-marked_places base places sets (n + 1) count)
 
 -- the rows are the same whatever the sets are
 places_rows : (base : ℕ) (places : List Place) (sets others : ℕ → FactSet) (n count : ℕ) → map place_row (marked_places base places sets n count) ≡ map place_row (marked_places base places others n count)
