@@ -6,7 +6,7 @@ use Rattle.std.proofs.lemmas.List.{length-map, get_or_default}
 use Rattle.std.proofs.lemmas.List.Elements.{All-tail}
 use Rattle.cov_base.specs.FactSet.{FactSet}
 use Rattle.marks_file.specs.Marks.{MarkedView, HasRow, are_marks}
-use Rattle.marks_file.specs.MarksFile.{place_row, module_row, module_rows, rows, file_bytes}
+use Rattle.marks_file.specs.MarksFile.{place_row, module_row, rows, file_bytes}
 use Rattle.marks_file.specs.declared.marks.MarkedPlace.{MarkedPlace}
 use Rattle.marks_file.proofs.MarksLemmas.{same_bytes, marks_have_rows}
 use Rattle.table_combine.specs.Combine.{Difference, first_difference, SamePlaces, SameTables, unite}

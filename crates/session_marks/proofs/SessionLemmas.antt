@@ -1,5 +1,5 @@
 -- What the marks of a session say of its table and its sets.
-use Rattle.std.proofs.Common.{◌≡◌, ℕ, ◌+◌, ◌-◌, ◌<◌, ◌≤◌, zero, suc, true, ◌&&◌, Option, Some, None, List, [], ◌∷◌, ◌++◌, length, get_or, map, All, refl, ap, sym, ◌∙◌, subst, arith}
+use Rattle.std.proofs.Common.{◌≡◌, ℕ, ◌+◌, ◌-◌, ◌<◌, zero, suc, true, None, List, [], ◌∷◌, ◌++◌, length, get_or, map, All, refl, ap, sym, ◌∙◌, subst, arith}
 use Rattle.std.proofs.lemmas.List.{get_or-map}
 use Rattle.cov_base.specs.FactSet.{FactSet, number_of_facts}
 use Rattle.cov_base.specs.Facts.{is_within}
@@ -11,7 +11,7 @@ use Rattle.marks_file.proofs.MarksLemmas.{both-left, both-right}
 use Rattle.marks_file.proofs.SpellLemmas.{set_read}
 use Rattle.module_area.specs.PlanView.{place_of}
 use Rattle.module_area.specs.declared.places.Place.{Place}
-use Rattle.table_combine.specs.Combine.{first_difference, unite_places, unite}
+use Rattle.table_combine.specs.Combine.{first_difference, unite}
 use Rattle.table_combine.proofs.DifferenceLemmas.{row_same}
 use Rattle.table_combine.proofs.UnionLemmas.{same_rows, joined_rows, length-unite_places}
 use Rattle.brk_table.specs.Places.{TablesView, first_place, place_count}

@@ -1,4 +1,4 @@
-use Rattle.std.proofs.Common.{◌≢◌, AllPairs, ap, subst}
+use Rattle.std.proofs.Common.{◌≢◌, AllPairs, subst}
 use Rattle.session_book.specs.JobView.{SessionView}
 use Rattle.session_marks.proofs.OwnLemmas.{decided}
 use Rattle.session_marks.proofs.from_file.file_sets.Goals as goal

@@ -1,5 +1,5 @@
 use Rattle.brk_table.specs.Places.{place_count}
-use Rattle.std.proofs.Common.{◌≡◌, true, List, length, get_or, ap, subst, sym, ◌∙◌, refl, arith}
+use Rattle.std.proofs.Common.{◌≡◌, true, List, length, get_or, ap, sym, ◌∙◌, arith}
 use Rattle.std.proofs.lemmas.List.{length-map}
 use Rattle.marks_file.specs.Marks.{MarkedView, are_marks}
 use Rattle.marks_file.specs.MarksFile.{file_bytes}
