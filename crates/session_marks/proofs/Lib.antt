@@ -5,3 +5,4 @@ pub mod ModuleLemmas
 pub mod SetsLemmas
 pub mod SessionLemmas
 pub mod OwnLemmas
+pub mod Sample

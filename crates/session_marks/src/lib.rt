@@ -11,3 +11,6 @@ pub use no_sets::NoSets;
 
 #[cfg(test)]
 mod tests;
+
+#[cfg(test)]
+mod file_tests;
