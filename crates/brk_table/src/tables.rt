@@ -178,6 +178,7 @@ impl Tables {
         ensures first { result.0 ≡ first_place self.now.tables «module» }
         ensures past { result.1 ≡ first_place self.now.tables «module» + place_count self.now.tables «module» }
         ensures exist { result.1 ≤ length self.now.places }
+        ensures all { self.now.places ≡ all_places self.now.tables }
     {
         let mut first = 0;
         for i in 0..self.tables.len() {

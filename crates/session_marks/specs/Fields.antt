@@ -1,12 +1,12 @@
--- What the fields of a module's values hold by their own types.
+-- The rules of a marks file that a module keeps whatever other modules the file has.
 use Rattle.std.specs.Prelude.{◌≡◌, ◌<◌, true, List, All}
 use Rattle.cov_base.specs.Names.{is_filled}
-use Rattle.marks_file.specs.Marks.{MarkedView}
+use Rattle.marks_file.specs.Marks.{MarkedView, are_places}
 use Rattle.marks_file.specs.declared.marks.MarkedPlace.{MarkedPlace}
 
 abbrev pub AreHalfwords : List MarkedPlace → Type 0
 AreHalfwords places = All (λ (p : MarkedPlace). p.original < 65536) places
 
-pub record HasFields (m : MarkedView) : Type 0 where
+pub record HasGoodFields (m : MarkedView) : Type 0 where
   pub name : is_filled m.name ≡ true
-  pub originals : AreHalfwords m.places
+  pub places : are_places m.size 0 m.places ≡ true

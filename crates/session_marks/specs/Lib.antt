@@ -1,2 +1,4 @@
 pub mod Fields
+pub mod FromFile
 pub mod Marked
+pub mod Sample

@@ -2,17 +2,25 @@
 ghost use Rattle.std.specs.Prelude.{◌≡◌, ℕ, ◌+◌, ◌-◌, ◌<◌, ◌≤◌, length, map, All, IfOk};
 ghost use Rattle.brk_table.specs.Together.{AreTables};
 ghost use Rattle.module_area.specs.PlanView.{place_of};
+ghost use Rattle.session_book.specs.JobView.{IsJob, IsSession};
 ghost use Rattle.session_book.specs.Sessions.{module_of, session_of};
-ghost use Rattle.session_book.specs.Sets.{HasSetsOf};
+ghost use Rattle.session_book.specs.Sets.{HasSetsOf, AreWithin};
 ghost use Rattle.session_marks.specs.Marked.{marked_place, marked_places, marked_module, session_marks};
-ghost use Rattle.session_marks.specs.Fields.{HasFields, AreHalfwords};
+ghost use Rattle.session_marks.specs.Fields.{HasGoodFields, AreHalfwords};
 
 use brk_table::Tables;
-use cov_base::{NoMemory, PlaceNo, SessNo};
+use cov_base::{Name, NoMemory, PlaceNo, SessNo};
 use marks_file::{MarkedModule, MarkedPlace, Marks};
-use module_area::Image;
+use module_area::{Image, Place};
 use session_book::{FactSets, Job};
 use std::alloc::Global;
+
+/// The place's original, of which a caller then knows that it is a halfword.
+fn original_of(place: &Place) -> u16
+    ensures { result ≡ place.now.original }
+{
+    place.original
+}
 
 /// A place of a module of this base, and its set.
 fn marked_place<R: FactSets>(
@@ -35,7 +43,7 @@ fn marked_place<R: FactSets>(
         location: place.at.get() - base,
         len: place.len,
         kind: place.kind,
-        original: place.original,
+        original: original_of(place),
         set: results.set(s, PlaceNo(n)),
     }
 }
@@ -69,9 +77,17 @@ fn marked_places<R: FactSets>(
 /// The module of that number.
 fn image_of(job: &Job, m: u32) -> &Image
     requires { m < length job.now.images }
-    ensures { result.now ≡ module_of job.now m }
+    ensures value { result.now ≡ module_of job.now m }
+    ensures job { IsJob job.now }
 {
     &job.images.0[m as usize]
+}
+
+/// Its name.
+fn name_of(image: &Image) -> Name
+    ensures { result ≡ image.now.name }
+{
+    image.name
 }
 
 /// A module, and its places with their sets.
@@ -88,15 +104,16 @@ fn marked_module<R: FactSets>(
     requires some { 0 < s.0 }
     requires session { s.0 < R.sessions results.now + 1 }
     requires size { R.places results.now ≡ length tables.now.places }
+    requires within { AreWithin tables.now (R.set_of results.now s.0) m }
     ensures value { IfOk result (λ v. v ≡ marked_module job.now tables.now (R.set_of results.now s.0) m) }
-    ensures fields { IfOk result (λ v. HasFields v) }
+    ensures fields { IfOk result (λ v. HasGoodFields v) }
 {
     let image = image_of(job, m);
     let base = image.base.get();
     let (first, past) = tables.range(m);
     let places = marked_places(alloc, tables, results, s, base, first, past)?;
     Ok(MarkedModule {
-        name: image.name,
+        name: name_of(image),
         base,
         size: image.bytes.len() as u32,
         places,
@@ -117,14 +134,26 @@ fn marked_modules<R: FactSets>(
     requires some { 0 < s.0 }
     requires session { s.0 < R.sessions results.now + 1 }
     requires size { R.places results.now ≡ length tables.now.places }
+    requires within { All (AreWithin tables.now (R.set_of results.now s.0)) modules.now }
     ensures value { IfOk result (λ v. v.items ≡ map (marked_module job.now tables.now (R.set_of results.now s.0)) modules.now) }
-    ensures fields { IfOk result (λ v. All HasFields v.items) }
+    ensures fields { IfOk result (λ v. All HasGoodFields v.items) }
 {
     let mut marked = Vec::with_capacity(alloc, modules.len())?;
     for m in modules {
         marked.push(marked_module(alloc, job, tables, results, s, *m)?)?;
     }
     Ok(marked)
+}
+
+/// The modules of the session.
+fn modules_of(job: &Job, s: SessNo) -> &[u32]
+    requires from { 0 < s.0 }
+    requires to { s.0 ≤ length job.now.sessions }
+    ensures value { result.now ≡ (session_of job.now s.0).modules }
+    ensures is { IsSession (length job.now.images) (length job.now.phases) (session_of job.now s.0) }
+    ensures job { IsJob job.now }
+{
+    &job.sessions[s.0 as usize - 1].modules
 }
 
 /// The marks of session s of the job: its modules in the order of its card, a module without a listing too, and each
@@ -144,6 +173,6 @@ pub fn marks_of<R: FactSets>(
     requires sets { HasSetsOf job.now tables.now (R.sessions results.now) (R.places results.now) (R.set_of results.now) s.0 }
     ensures { IfOk result (λ m. m ≡ session_marks job.now tables.now (R.set_of results.now s.0) s.0) }
 {
-    let modules = marked_modules(alloc, job, tables, results, s, &job.session(s).modules)?;
+    let modules = marked_modules(alloc, job, tables, results, s, modules_of(job, s))?;
     Ok(Marks { modules })
 }

@@ -31,6 +31,7 @@ returns-then-is_of c =
       first = own.before;
       past = omega (arith, own.before, own.count, c.size-count.ensures);
       exist = omega (arith, own.room, ap length all, c.size-count.ensures);
+      all = sym all;
     }
 
 pub returns : goal.returns
@@ -43,4 +44,5 @@ returns c =
       first = none.before;
       past = omega (arith, none.before, none.count);
       exist = omega (arith, none.room, ap length all);
+      all = sym all;
     }

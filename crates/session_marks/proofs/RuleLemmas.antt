@@ -1,0 +1,121 @@
+-- The places of a module keep the rules of a marks file.
+use Rattle.std.proofs.Common.{◌≡◌, ◌≢◌, ◌⊎◌, inl, inr, ℕ, ◌+◌, ◌-◌, ◌%◌, ◌<◌, ◌≤◌, zero, suc, Bool, true, false, ◌&&◌, ◌||◌, not, nat_eq, nat_lt, nat_le, List, [], ◌∷◌, length, All, refl, sym, ap, ◌∙◌, arith}
+use Rattle.std.proofs.lemmas.Bool.Decides.{nat_tests}
+use Rattle.std.proofs.lemmas.List.Elements.{All-tail}
+use Rattle.cov_base.specs.Codes.{length_of, kind_of, breakpoint}
+use Rattle.cov_base.specs.FactSet.{FactSet, facts_of_number, number_of_facts}
+use Rattle.cov_base.specs.Facts.{is_within}
+use Rattle.cov_base.specs.Memory.{ImageView}
+use Rattle.cov_base.specs.declared.facts.Kind.{Kind}
+use Rattle.module_area.specs.Images.{IsImage}
+use Rattle.module_area.specs.PlanView.{place_of}
+use Rattle.module_area.specs.declared.places.Place.{Place}
+use Rattle.brk_table.specs.Places.{IsPlace}
+use Rattle.marks_file.specs.Marks.{kind_number, is_location, is_length, is_original, is_set, is_place, are_places, end_of}
+use Rattle.marks_file.specs.declared.marks.MarkedPlace.{MarkedPlace}
+use Rattle.marks_file.proofs.MarksLemmas.{both}
+use Rattle.marks_file.proofs.SpellLemmas.{set_read}
+use Rattle.session_marks.specs.Fields.{AreHalfwords}
+use Rattle.session_marks.specs.Marked.{marked_place, marked_places}
+
+-- a place of a module, and a set there
+pub record IsMarkable (image : ImageView) (p : Place) (set : FactSet) : Type 0 where
+  pub is : IsPlace p
+  pub from : image.base ≤ p.at
+  pub to : p.at + p.len ≤ image.base + length image.bytes
+  pub within : is_within p.kind set ≡ true
+
+pub equal : (a b : ℕ) → a ≡ b → nat_eq a b ≡ true
+equal a b h = grind (arith, nat_tests)
+
+differ : (a b : ℕ) → a ≢ b → not (nat_eq a b) ≡ true
+differ a b h = grind (arith, nat_tests)
+
+below : (a b : ℕ) → a < b → nat_lt a b ≡ true
+below a b h = grind (arith, nat_tests)
+
+pub at_most : (a b : ℕ) → a ≤ b → nat_le a b ≡ true
+at_most a b h = grind (arith, nat_tests)
+
+pub length_cases : (h : ℕ) → (length_of h ≡ 2) ⊎ ((length_of h ≡ 4) ⊎ (length_of h ≡ 6))
+unfolding length_of
+length_cases h = grind (arith, nat_tests)
+
+pub some_bytes : (h : ℕ) → 2 ≤ length_of h
+some_bytes h = elim (length_cases h) [ inl a ↦ omega arith | inr b ↦ elim b [ inl c ↦ omega arith | inr d ↦ omega arith ] ]
+
+even_location : (at base : ℕ) → at % 2 ≡ 0 → base % 8 ≡ 0 → base ≤ at → (at - base) % 2 ≡ 0
+even_location at base a b l = omega arith
+
+location_kept : (image : ImageView) (p : Place) (set : FactSet) (end : ℕ) → IsImage image → IsMarkable image p set → end + image.base ≤ p.at → is_location (length image.bytes) end (p.at - image.base) ≡ true
+unfolding is_location
+location_kept image p set end i m h =
+    let long = some_bytes p.original in
+    let size = m.is.size in
+    both _ _ (equal _ 0 (even_location p.at image.base m.is.even i.doubleword m.from)) (both _ _ (below (p.at - image.base) (length image.bytes) (omega (arith, m.to, m.from, long, size))) (at_most end (p.at - image.base) (omega (arith, m.from))))
+
+one_length : (n h : ℕ) → n ≡ length_of h → (nat_eq n 2 || (nat_eq n 4 || nat_eq n 6)) ≡ true
+one_length n h e = let c = length_cases h in grind (arith, nat_tests)
+
+length_kept : (image : ImageView) (p : Place) (set : FactSet) → IsMarkable image p set → is_length (length image.bytes) (p.at - image.base) p.len ≡ true
+unfolding is_length
+length_kept image p set m =
+    both _ _ (one_length p.len p.original m.is.size) (at_most (p.at - image.base + p.len) (length image.bytes) (omega (arith, m.to, m.from)))
+
+original_kept : (p : Place) → IsPlace p → p.original < 65536 → is_original p.len p.kind p.original ≡ true
+unfolding is_original
+original_kept p is half =
+    both _ _ (below _ _ half) (both _ _ (equal _ _ (sym is.size)) (both _ _ (equal _ _ (ap kind_number (sym is.kind))) (differ _ _ is.no_breakpoint)))
+
+small_number : (a b c : Bool) → nat_lt (number_of_facts (record { ran = a; went = b; stayed = c })) 8 ≡ true
+small_number false false false = refl
+small_number true false false = refl
+small_number false true false = refl
+small_number true true false = refl
+small_number false false true = refl
+small_number true false true = refl
+small_number false true true = refl
+small_number true true true = refl
+
+set_kept : (k : Kind) (s : FactSet) → is_within k s ≡ true → is_set k (number_of_facts s) ≡ true
+unfolding is_set
+set_kept k s h = both (nat_lt (number_of_facts s) 8) _ (small_number s.ran s.went s.stayed) (ap (is_within k) (set_read s) ∙ h)
+
+place_kept : (image : ImageView) (places : List Place) (sets : ℕ → FactSet) (n end : ℕ) → IsImage image → IsMarkable image (place_of places n) (sets n) → (place_of places n).original < 65536 → end + image.base ≤ (place_of places n).at
+    → is_place (length image.bytes) end (marked_place image.base places sets n) ≡ true
+place_kept image places sets n end i m half h =
+    let p = place_of places n in
+    both _ _ (location_kept image p (sets n) end i m h) (both _ _ (length_kept image p (sets n) m) (both _ _ (original_kept p m.is half) (set_kept p.kind (sets n) m.within)))
+
+-- the places from first on that a module has, in order
+pub record AreMarkable (image : ImageView) (places : List Place) (sets : ℕ → FactSet) (first count : ℕ) : Type 0 where
+  pub each : (n : ℕ) → first ≤ n → n < first + count → IsMarkable image (place_of places n) (sets n)
+  pub rise : (n : ℕ) → first ≤ n → n + 1 < first + count → (place_of places n).at + (place_of places n).len ≤ (place_of places (n + 1)).at
+
+later_places : (image : ImageView) (places : List Place) (sets : ℕ → FactSet) (first count : ℕ) → AreMarkable image places sets first (suc count) → AreMarkable image places sets (first + 1) count
+later_places image places sets first count are = record {
+  each = λ n l h. are.each n (omega arith) (omega arith);
+  rise = λ n l h. are.rise n (omega arith) (omega arith);
+}
+
+places_from : (image : ImageView) (places : List Place) (sets : ℕ → FactSet) (first count end : ℕ) → IsImage image → AreMarkable image places sets first count → AreHalfwords (marked_places image.base places sets first count) → (0 < count → end + image.base ≤ (place_of places first).at)
+    → are_places (length image.bytes) end (marked_places image.base places sets first count) ≡ true
+places_from image places sets first zero end i are halves h = refl
+places_from image places sets first (suc count) end i are halves h =
+    let p = marked_place image.base places sets first in
+    let rest = marked_places image.base places sets (first + 1) count in
+    let here = are.each first (omega arith) (omega arith) in
+    let half = halves 0 p (omega arith) in
+    let next : 0 < count → end_of p + image.base ≤ (place_of places (first + 1)).at = λ l. (let rise = are.rise first (omega arith) (omega arith) in omega (arith, rise, here.from)) in
+    both _ _ (place_kept image places sets first end i here half (h (omega arith)))
+    (places_from image places sets (first + 1) count (end_of p) i (later_places image places sets first count are) (All-tail (λ (q : MarkedPlace). q.original < 65536) p rest halves) next)
+
+-- a module's places keep their rules
+pub places_kept : (image : ImageView) (places : List Place) (sets : ℕ → FactSet) (first count : ℕ) → IsImage image → AreMarkable image places sets first count → AreHalfwords (marked_places image.base places sets first count)
+    → are_places (length image.bytes) 0 (marked_places image.base places sets first count) ≡ true
+places_kept image places sets first count i are halves =
+    places_from image places sets first count 0 i are halves (λ l. (let here = are.each first (omega arith) (omega arith) in omega (arith, here.from)))
+
+pub length-marked_places : (base : ℕ) (places : List Place) (sets : ℕ → FactSet) (first count : ℕ) → length (marked_places base places sets first count) ≡ count
+length-marked_places base places sets first zero = refl
+length-marked_places base places sets first (suc count) = ap suc (length-marked_places base places sets (first + 1) count)
