@@ -25,8 +25,9 @@ use Rattle.job_run.specs.declared.outcome.Done.{Done}
 use Rattle.coverage_program.specs.declared.tables.Refused.{Refused}
 use Rattle.coverage_program.specs.declared.tables.Refused.TheVariants.{Told, NoMemory}
 use Rattle.coverage_program.specs.declared.words.Command.{Command}
-use Rattle.coverage_program.specs.declared.words.Command.TheVariants.{Run, Table, Replay, Unknown}
+use Rattle.coverage_program.specs.declared.words.Command.TheVariants.{Run, Marks, Table, Replay, Combine, Show, Unknown}
 use Rattle.job_run.specs.Outcomes.{IsOutcome}
+use Rattle.coverage_program.specs.Named.{HasNamed}
 use Rattle.coverage_program.specs.Refusals.{RefusalView, job_refusal, Match}
 use Rattle.coverage_program.specs.Refused.{IsRefused, refused_refusal}
 use Rattle.task_run.specs.Courses.{solo}
@@ -37,7 +38,7 @@ use Rattle.job_run.proofs.SessionLemmas.{set_is_left}
 use Rattle.job_run.specs.Tasks.{results_of}
 use Rattle.coverage_program.specs.Replay.{Bad, Whole, replay_text}
 use Rattle.coverage_program.proofs.RunLemmas.{play_is_run}
-use Rattle.coverage_program.specs.Words.{reads_input, reads_job, takes_more, without_areas, no_memory_line, bad_schedule_line}
+use Rattle.coverage_program.specs.Words.{reads_input, reads_job, takes_more, makes_areas, session_named, without_areas, no_memory_line, bad_schedule_line}
 
 pub are_sets : (j : JobView) (tables : TablesView) (tasks : List Done) (sets : SetsView) → IsOutcome j tables.places tasks sets →
     AreSetsOf j tables (length sets.job.sessions) sets.places (λ s p. set_in sets s p)
@@ -82,7 +83,7 @@ pub wanting_to_run : (s : SourceChange) (j : JobView) (tables : TablesView) (a :
 wanting_to_run s j tables a k answer came match' numbered told = record {
   status = 7;
   text = no_memory_line;
-  cause = NoMemoryToRun (refl, refl, refl) (record { job = j; tables = tables; came = record { came = came; match = match'; numbered = numbered } });
+  cause = NoMemoryToRun (refl, refl, refl) (record { job = j; tables = tables; came = record { came = came; match = match'; numbered = numbered }; named = tt });
   told = told;
 }
 
@@ -97,7 +98,7 @@ listed_places s j tables a k answer came match' numbered told = record {
 }
 
 pub stopped : (c : Command) (s : SourceChange) (a : Account) (k : SinkChange) (answer : ℕ) (r : RefusalView) →
-    reads_input c ≡ true → IsStopped (reads_job c) (takes_more c) s r.status r.line → IsWritten r.status r.line k answer → Answers c s (no_change a) k answer
+    reads_input c ≡ true → IsStopped (reads_job c) (takes_more c) (session_named c) s r.status r.line → IsWritten r.status r.line k answer → Answers c s (no_change a) k answer
 stopped c s a k answer r reads stop told = record { status = r.status; text = r.line; cause = Stopped reads stop refl; told = told }
 
 -- all lines spell the job
@@ -129,11 +130,11 @@ whole_jobless_all bytes (Ok v) bad = tt
 whole_jobless_all bytes (Err e) bad = whole_none (lines_of bytes) e bad
 
 -- by the reader's fault
-pub unread : (more : Bool) (s : SourceChange) (bytes : List ℕ) (e : JobFault) → CameWhole s bytes → IsRefusal (lines_of bytes) e → ((n : ℕ) → e ≡ fault.BadJob n → (j : JobView) → HasJob more (lines_of bytes) j → ⊥) →
-    IsStopped true more s (fault_refusal e).status (fault_refusal e).line
-unread more s bytes (fault.BadJob n) came first none = BadJob refl refl (record { bytes = bytes; line = n; came = came; first_bad = first; jobless = none n refl; told = refl })
-unread more s bytes (fault.TooLarge what n) came first none = LargeJob refl refl (record { bytes = bytes; what = what; line = n; came = came; first_over = first; told = refl })
-unread more s bytes fault.NoMemory came first none = WantOfMemory (refl, refl)
+pub unread : (more : Bool) (name : Option (List ℕ)) (s : SourceChange) (bytes : List ℕ) (e : JobFault) → CameWhole s bytes → IsRefusal (lines_of bytes) e → ((n : ℕ) → e ≡ fault.BadJob n → (j : JobView) → HasJob more (lines_of bytes) j → ⊥) →
+    IsStopped true more name s (fault_refusal e).status (fault_refusal e).line
+unread more name s bytes (fault.BadJob n) came first none = BadJob refl refl (record { bytes = bytes; line = n; came = came; first_bad = first; jobless = none n refl; told = refl })
+unread more name s bytes (fault.TooLarge what n) came first none = LargeJob refl refl (record { bytes = bytes; what = what; line = n; came = came; first_over = first; told = refl })
+unread more name s bytes fault.NoMemory came first none = WantOfMemory (refl, refl)
 
 -- the job that the first lines spell, and where they end
 pub read_is : (more : Bool) (s : SourceChange) (bytes : List ℕ) (r : ReadJob) → CameWhole s bytes → IsRead bytes r → (more ≡ false → r.end ≡ length bytes) → CameFirst more s r.job bytes r.lines r.end
@@ -155,9 +156,9 @@ pub first_came : (more : Bool) (s : SourceChange) (bytes : List ℕ) (r : ReadJo
 first_came more s bytes r c = record { bytes = bytes; came = c.came; has = c.has }
 
 -- by the first fault of the job's listings
-pub unmatched : (more : Bool) (s : SourceChange) (j : JobView) (r : Refused) → CameJob more s j → IsRefused (job_refusal j) r → IsStopped true more s (refused_refusal r).status (refused_refusal r).line
-unmatched more s j (Told r) came first = BadListing refl (record { job = j; came = came; first = first })
-unmatched more s j NoMemory came first = WantOfMemory (refl, refl)
+pub unmatched : (more : Bool) (name : Option (List ℕ)) (s : SourceChange) (j : JobView) (r : Refused) → CameJob more s j → HasNamed name j → IsRefused (job_refusal j) r → IsStopped true more name s (refused_refusal r).status (refused_refusal r).line
+unmatched more name s j (Told r) came named first = BadListing refl (record { job = j; came = came; named = named; first = first })
+unmatched more name s j NoMemory came named first = WantOfMemory (refl, refl)
 
 -- a schedule that was played, and one that wasn't
 pub replayed : (s : SourceChange) (j : JobView) (tables : TablesView) (core : Parts) (played : List Played) (a : Account) (k : SinkChange) (answer : ℕ) →
@@ -182,8 +183,11 @@ pub unplayed_wanting : (s : SourceChange) (a : Account) (k : SinkChange) (answer
 unplayed_wanting s a k answer told = record { status = 7; text = no_memory_line; cause = Stopped refl (WantOfMemory (refl, refl)) refl; told = told }
 
 -- the words that need no areas are answered alike
-pub alike : (c : Command) → c ≢ Run → without_areas c ≡ c
-alike Run h = absurd (h refl)
+pub alike : (c : Command) → makes_areas c ≡ false → without_areas c ≡ c
+alike Run h = absurd cc
+alike (Marks name) h = absurd cc
 alike Table h = refl
 alike Replay h = refl
+alike Combine h = refl
+alike (Show name) h = refl
 alike Unknown h = refl

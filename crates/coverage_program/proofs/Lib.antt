@@ -6,3 +6,5 @@ pub mod ReplayLemmas
 pub mod TableLemmas
 pub mod UntouchedLemmas
 pub mod RunLemmas
+pub mod StopLemmas
+pub mod BehindLemmas

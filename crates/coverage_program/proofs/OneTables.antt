@@ -12,7 +12,7 @@ use Rattle.coverage_program.specs.Refusals.{IsTableOf, AreTablesFrom, Match}
 same_lines : (texts : List (List ℕ)) (a b : List Line) → listing_of texts ≡ Some a → listing_of texts ≡ Some b → a ≡ b
 same_lines texts a b p q = let e : Some a ≡ Some b = sym p ∙ q in cc
 
-one_of : (m : ℕ) (image : ImageView) (texts : List (List ℕ)) (a b : TableView) → IsTableOf m image texts a → IsTableOf m image texts b → a.places ≡ b.places
+pub one_of : (m : ℕ) (image : ImageView) (texts : List (List ℕ)) (a b : TableView) → IsTableOf m image texts a → IsTableOf m image texts b → a.places ≡ b.places
 one_of m image texts a b p q =
     let e : p.lines ≡ q.lines = same_lines texts p.lines q.lines p.listing q.listing in
     one_table m image.base q.lines a b (subst (λ (l : List Line). IsTable m image.base l a) e p.table) q.table

@@ -1,5 +1,5 @@
 -- What a command has come to that has made an area.
-use Rattle.std.proofs.Common.{◌≡◌, ◌≢◌, ◌⊎◌, inl, inr, ℕ, ◌-◌, ◌≤◌, Bool, true, false, Option, Some, None, option_map, List, [], ◌∷◌, length, sym, ◌∙◌, ap, subst}
+use Rattle.std.proofs.Common.{◌≡◌, ◌≢◌, ◌⊎◌, inl, inr, ℕ, ◌-◌, ◌≤◌, Bool, true, false, Option, Some, None, option_map, List, [], ◌∷◌, length, refl, sym, ◌∙◌, ap, subst}
 use Rattle.cov_outside.specs.Causes.{Rose}
 use Rattle.cov_outside.specs.Whole.{AppendsSome}
 use Rattle.cov_base.specs.Memory.{ImageView}
@@ -13,17 +13,20 @@ use Rattle.brk_table.specs.declared.faults.BuildFault.TheVariants as fault
 use Rattle.brk_table.specs.Places.{TablesView}
 use Rattle.session_book.specs.JobView.{JobView}
 use Rattle.job_text.specs.Lines.{lines_of}
-use Rattle.coverage_program.specs.Answers.{IsReport, IsReady, IsCause, Report, Places, Replayed, BadSchedule, Usage, Stopped, NoMemoryToRun, Answers}
+use Rattle.coverage_program.specs.Answers.{IsStopped, IsReady, IsCause, Report, Recorded, Places, Replayed, BadSchedule, United, BadFile, OtherFile, Shown, BadShown, OtherShown, Usage, Stopped, NoMemoryToRun, Answers}
 use Rattle.coverage_program.specs.Inputs.{HasJob, CameMatched, input_limit}
 use Rattle.coverage_program.specs.Changes.{SourceChange, SinkChange, AreasChange}
 use Rattle.coverage_program.specs.Complete.{IsAnswer}
 use Rattle.coverage_program.specs.Complete as wanted
-use Rattle.coverage_program.specs.Untouched.{IsUntouched, HasReport, IsCut, IsReportCut}
+use Rattle.coverage_program.specs.Untouched.{IsUntouched, IsRunText, HasReport, IsCut, IsReportCut}
 use Rattle.coverage_program.specs.declared.words.Command.{Command}
-use Rattle.coverage_program.specs.declared.words.Command.TheVariants.{Run, Table, Replay, Unknown}
+use Rattle.coverage_program.specs.declared.words.Command.TheVariants.{Run, Marks, Table, Replay, Combine, Show, Unknown}
 use Rattle.coverage_program.specs.Refusals.{RefusalView, list_refusal, build_refusal, refusal_by, refusal_from, or_refusal, places_in, job_refusal}
-use Rattle.coverage_program.specs.Words.{takes_more, makes_areas, no_memory_line}
-use Rattle.coverage_program.proofs.CompleteLemmas.{same_job, not_both, never_came, never_large, too_many, matched_stop, status_of}
+use Rattle.coverage_program.specs.Words.{reads_job, takes_more, makes_areas, session_named, no_memory_line}
+use Rattle.coverage_program.proofs.CompleteLemmas.{status_of}
+use Rattle.coverage_program.proofs.StopLemmas.{same_job, not_both, never_came, never_large, too_many, not_named, matched_stop}
+use Rattle.coverage_program.specs.Named.{HasNamed, session_number}
+use Rattle.std.specs.Prelude.{IsSome}
 
 -- ---- a refusal is no report
 
@@ -71,18 +74,30 @@ never_zero j r e = subst IsTold e (told_from 65536 j.images j.listings)
 
 -- ---- the areas
 
-ready_run : (c : Command) (s : SourceChange) (j : JobView) (tables : TablesView) → c ≡ Run → CameMatched false s j tables → IsReady c s
-ready_run c s j tables e came = record { job = j; tables = tables; came = subst (λ (m : Bool). CameMatched m s j tables) (sym (ap takes_more e)) came }
+ready_run : (c d : Command) (s : SourceChange) (j : JobView) (tables : TablesView) → c ≡ d → takes_more d ≡ false → HasNamed (session_named d) j → CameMatched false s j tables → IsReady c s
+ready_run c d s j tables e more named came = record {
+  job = j;
+  tables = tables;
+  came = subst (λ (m : Bool). CameMatched m s j tables) (sym (ap takes_more e ∙ more)) came;
+  named = subst (λ (x : Command). HasNamed (session_named x) j) (sym e) named;
+}
 
 -- the areas are as they were, or a job whose listings match has been run or was to be
 abbrev Touched : Command → SourceChange → AreasChange → ℕ → Type 0
 Touched c s a status = (a.after ≡ a.before) ⊎ ((makes_areas c ≡ true) × IsReady c s × ((status ≡ 0) ⊎ (status ≡ 7)))
 
 touched : (c : Command) (s : SourceChange) (a : AreasChange) (status : ℕ) (text : List ℕ) → IsCause c s a status text → Touched c s a status
-touched c s a status text (Report p q) = inr (ap makes_areas p.1, ready_run c s q.job q.tables p.1 q.came, inl p.0)
+touched c s a status text (Report p q) = inr (ap makes_areas p.1, ready_run c Run s q.job q.tables p.1 refl tt q.came, inl p.0)
+touched c s a status text (Recorded name p q) = inr (ap makes_areas p.1, ready_run c (Marks name) s q.job q.tables p.1 refl (subst IsSome (sym q.is_number) refl) q.came, inl p.0)
 touched c s a status text (Places p q k) = inl k
 touched c s a status text (Replayed p q k) = inl k
 touched c s a status text (BadSchedule p q k) = inl k
+touched c s a status text (United p q k) = inl k
+touched c s a status text (BadFile p q k) = inl k
+touched c s a status text (OtherFile p q k) = inl k
+touched c s a status text (Shown name p q k) = inl k
+touched c s a status text (BadShown name p q k) = inl k
+touched c s a status text (OtherShown name p q k) = inl k
 touched c s a status text (Usage p k) = inl k
 touched c s a status text (Stopped p q k) = inl k
 touched c s a status text (NoMemoryToRun p q) = inr (p.1, q, inr p.0)
@@ -93,9 +108,18 @@ reported c s b n m r e (wanted.Usage u i) = absurd (not_both (makes_areas c) m (
 reported c s b n m r e (wanted.LargeInput t l i) = absurd (too_many s b r.came.came.bytes e l r.came.came.came)
 reported c s b n m r e (wanted.BadJob k t l bad none i) = absurd (never_came (takes_more c) s b r.job e none r.came.came)
 reported c s b n m r e (wanted.LargeJob what k t l over i) = absurd (never_large (takes_more c) s b r.job what k e over r.came.came)
-reported c s b n m r e (wanted.BadListing j x t l has some i) =
+reported c s b n m r e (wanted.NoSession j name t l has named none i) =
+    absurd (not_named (session_named c) j name named none (subst (λ (k : JobView). HasNamed (session_named c) k) (sym (same_job (takes_more c) s b j r.job e has r.came.came)) r.named))
+reported c s b n m r e (wanted.BadListing j x t l has named some i) =
     let q : Some x ≡ None = sym some ∙ (ap job_refusal (same_job (takes_more c) s b j r.job e has r.came.came) ∙ r.came.match.faultless) in absurd cc
 reported c s b n m r e (wanted.Matched j t l has none i) = i
+reported c s b n m r e (wanted.Recorded j name x l has some none i) = i
+reported c s b n m r e (wanted.United marks x l is i) = absurd (not_both (makes_areas c) m (ap makes_areas x))
+reported c s b n m r e (wanted.BadFile offset x l is i) = absurd (not_both (makes_areas c) m (ap makes_areas x))
+reported c s b n m r e (wanted.OtherFile d x l is i) = absurd (not_both (makes_areas c) m (ap makes_areas x))
+reported c s b n m r e (wanted.Shown name j tables number rest sets x h file i) = absurd (not_both (makes_areas c) m (ap makes_areas x))
+reported c s b n m r e (wanted.BadShown name j tables number rest offset x h bad i) = absurd (not_both (makes_areas c) m (ap makes_areas x))
+reported c s b n m r e (wanted.OtherShown name j tables number rest marks d x h file differs i) = absurd (not_both (makes_areas c) m (ap makes_areas x))
 reported c s b n m r e (wanted.Replayed j tables has x l match' numbered i) = absurd (not_both (makes_areas c) m (ap makes_areas x))
 
 -- the answer is told as a refusal, or 6
@@ -119,47 +143,88 @@ untouched c s a k answer x =
       others = λ f. or_else c s a x.status t (λ m r. not_both (makes_areas c) m f);
       refused = same_where c s a k answer x;
       failed = λ d. or_else c s a x.status t (λ m r. d r.came.came.came.no_fault);
-      unmatched = λ none. or_else c s a x.status t (λ m r. none r.job r.came.came r.came.match.faultless);
+      unmatched = λ none. or_else c s a x.status t (λ m r. none r.job r.came.came r.named r.came.match.faultless);
       unreported = λ b n e w d. or_else c s a x.status t (λ m r. d (reported c s b n m r e w));
     }
 
 -- ---- a report that wasn't written whole
 
+-- a command that runs tasks takes one job and no more
+runs_alone : (c : Command) → makes_areas c ≡ true → (reads_job c ≡ true) × (takes_more c ≡ false)
+runs_alone Run m = (refl, refl)
+runs_alone (Marks name) m = (refl, refl)
+runs_alone Table m = absurd cc
+runs_alone Replay m = absurd cc
+runs_alone Combine m = absurd cc
+runs_alone (Show name) m = absurd cc
+runs_alone Unknown m = absurd cc
+
 -- the words and bytes of a run that has a report
-has_job : (b : List ℕ) → IsAnswer Run b 0 → (j : JobView) × (length b ≤ input_limit) × HasJob false (lines_of b) j × (job_refusal j ≡ None)
-has_job b (wanted.Usage u i) = absurd cc
-has_job b (wanted.LargeInput t l i) = absurd cc
-has_job b (wanted.BadJob n t l bad none i) = absurd cc
-has_job b (wanted.LargeJob what n t l over i) = absurd cc
-has_job b (wanted.BadListing j r t l has some i) = absurd (never_zero j r some (sym i))
-has_job b (wanted.Matched j t l has none i) = (j, l, has, none)
-has_job b (wanted.Replayed j tables has x l match' numbered i) = absurd cc
+record HasJobToRun (c : Command) (b : List ℕ) : Type 0 where
+  job : JobView
+  few : length b ≤ input_limit
+  has : HasJob (takes_more c) (lines_of b) job
+  named : HasNamed (session_named c) job
+  faultless : job_refusal job ≡ None
+
+run_named : (c : Command) (j : JobView) → makes_areas c ≡ true → (c ≡ Run) ⊎ (c ≡ Table) → HasNamed (session_named c) j
+run_named c j m (inl e) = subst (λ (x : Command). HasNamed (session_named x) j) (sym e) tt
+run_named c j m (inr e) = absurd (not_both (makes_areas c) m (ap makes_areas e))
+
+has_job : (c : Command) (b : List ℕ) → makes_areas c ≡ true → IsAnswer c b 0 → HasJobToRun c b
+has_job c b m (wanted.Usage u i) = absurd cc
+has_job c b m (wanted.LargeInput t l i) = absurd cc
+has_job c b m (wanted.BadJob n t l bad none i) = absurd cc
+has_job c b m (wanted.LargeJob what n t l over i) = absurd cc
+has_job c b m (wanted.NoSession j name t l has named none i) = absurd cc
+has_job c b m (wanted.BadListing j r t l has named some i) = absurd (never_zero j r some (sym i))
+has_job c b m (wanted.Matched j t l has none i) =
+    record { job = j; few = l; has = subst (λ (x : Bool). HasJob x (lines_of b) j) (sym (runs_alone c m).1) has; named = run_named c j m t; faultless = none }
+has_job c b m (wanted.Recorded j name e l has some none i) =
+    record { job = j; few = l; has = subst (λ (x : Bool). HasJob x (lines_of b) j) (sym (runs_alone c m).1) has; named = subst (λ (x : Command). HasNamed (session_named x) j) (sym e) some; faultless = none }
+has_job c b m (wanted.United marks x l is i) = absurd (not_both (makes_areas c) m (ap makes_areas x))
+has_job c b m (wanted.BadFile offset x l is i) = absurd cc
+has_job c b m (wanted.OtherFile d x l is i) = absurd cc
+has_job c b m (wanted.Shown name j tables number rest sets x h file i) = absurd (not_both (makes_areas c) m (ap makes_areas x))
+has_job c b m (wanted.BadShown name j tables number rest offset x h bad i) = absurd cc
+has_job c b m (wanted.OtherShown name j tables number rest marks d x h file differs i) = absurd cc
+has_job c b m (wanted.Replayed j tables has x l match' numbered i) = absurd (not_both (makes_areas c) m (ap makes_areas x))
+
+text_by : (c d : Command) (s : SourceChange) (a : AreasChange) (text : List ℕ) → c ≡ d → IsRunText d s a text → IsRunText c s a text
+text_by c d s a text e h = subst (λ (x : Command). IsRunText x s a text) (sym e) h
 
 -- what a run answers with where it has a report
-cut_text : (s : SourceChange) (a : AreasChange) (status : ℕ) (text b : List ℕ) → IsCause Run s a status text → s.left ≡ Some b → IsAnswer Run b 0 → (Rose s.faults s.later → ⊥) → IsReport s a text ⊎ (text ≡ no_memory_line)
-cut_text s a status text b (Report p q) e w quiet = inl q
-cut_text s a status text b (Places p q k) e w quiet = let x : Run ≡ Table = p.1 in absurd cc
-cut_text s a status text b (Replayed p q k) e w quiet = let x : Run ≡ Replay = p.1 in absurd cc
-cut_text s a status text b (BadSchedule p q k) e w quiet = let x : Run ≡ Replay = p.1 in absurd cc
-cut_text s a status text b (Usage p k) e w quiet = let x : Run ≡ Unknown = p.1 in absurd cc
-cut_text s a status text b (Stopped p q k) e w quiet = let h = has_job b w in inr (matched_stop false s status text b h.0 q e h.1 h.2 h.3 quiet).1
-cut_text s a status text b (NoMemoryToRun p q) e w quiet = inr p.2
+cut_text : (c : Command) (s : SourceChange) (a : AreasChange) (status : ℕ) (text b : List ℕ) → makes_areas c ≡ true → IsCause c s a status text → s.left ≡ Some b → IsAnswer c b 0 → (Rose s.faults s.later → ⊥) → IsRunText c s a text ⊎ (text ≡ no_memory_line)
+cut_text c s a status text b m (Report p q) e w quiet = inl (text_by c Run s a text p.1 q)
+cut_text c s a status text b m (Recorded name p q) e w quiet = inl (text_by c (Marks name) s a text p.1 q)
+cut_text c s a status text b m (Places p q k) e w quiet = absurd (not_both (makes_areas c) m (ap makes_areas p.1))
+cut_text c s a status text b m (Replayed p q k) e w quiet = absurd (not_both (makes_areas c) m (ap makes_areas p.1))
+cut_text c s a status text b m (BadSchedule p q k) e w quiet = absurd (not_both (makes_areas c) m (ap makes_areas p.1))
+cut_text c s a status text b m (United p q k) e w quiet = absurd (not_both (makes_areas c) m (ap makes_areas p.1))
+cut_text c s a status text b m (BadFile p q k) e w quiet = absurd (not_both (makes_areas c) m (ap makes_areas p.1))
+cut_text c s a status text b m (OtherFile p q k) e w quiet = absurd (not_both (makes_areas c) m (ap makes_areas p.1))
+cut_text c s a status text b m (Shown name p q k) e w quiet = absurd (not_both (makes_areas c) m (ap makes_areas p.1))
+cut_text c s a status text b m (BadShown name p q k) e w quiet = absurd (not_both (makes_areas c) m (ap makes_areas p.1))
+cut_text c s a status text b m (OtherShown name p q k) e w quiet = absurd (not_both (makes_areas c) m (ap makes_areas p.1))
+cut_text c s a status text b m (Usage p k) e w quiet = absurd (not_both (makes_areas c) m (ap makes_areas p.1))
+cut_text c s a status text b m (Stopped p q k) e w quiet =
+    let h : HasJobToRun c b = has_job c b m w in
+    let stop : IsStopped true (takes_more c) (session_named c) s status text = subst (λ (x : Bool). IsStopped x (takes_more c) (session_named c) s status text) (runs_alone c m).0 q in
+    inr (matched_stop (takes_more c) (session_named c) s status text b h.job stop e h.few h.has h.named h.faultless quiet).1
+cut_text c s a status text b m (NoMemoryToRun p q) e w quiet = inr p.2
 
 six : (n : ℕ) → 6 ≡ n → (n ≡ 0) ⊎ (n ≡ 7) → ⊥
 six n e (inl h) = let x : 6 ≡ 0 = e ∙ h in absurd cc
 six n e (inr h) = let x : 6 ≡ 7 = e ∙ h in absurd cc
 
-run_cut : (s : SourceChange) (a : AreasChange) (k : SinkChange) (answer : ℕ) → Answers Run s a k answer → IsCut Run s answer → HasReport s a k ⊎ AppendsSome k.written k.grown no_memory_line
-run_cut s a k answer x cut = elim x.told [
-  | inl h ↦ absurd (six x.status (sym cut.failed ∙ h.0) (status_of Run s a x.status x.text cut.bytes 0 x.cause cut.left cut.reported cut.quiet))
-  | inr h ↦ elim (cut_text s a x.status x.text cut.bytes x.cause cut.left cut.reported cut.quiet) [
+report_cut : (c : Command) (s : SourceChange) (a : AreasChange) (k : SinkChange) (answer : ℕ) → makes_areas c ≡ true → Answers c s a k answer → IsCut c s answer → HasReport c s a k ⊎ AppendsSome k.written k.grown no_memory_line
+report_cut c s a k answer m x cut = elim x.told [
+  | inl h ↦ absurd (six x.status (sym cut.failed ∙ h.0) (status_of c s a x.status x.text cut.bytes 0 x.cause cut.left cut.reported cut.quiet))
+  | inr h ↦ elim (cut_text c s a x.status x.text cut.bytes m x.cause cut.left cut.reported cut.quiet) [
     | inl r ↦ inl (record { text = x.text; is = r; some = h.1 })
     | inr e ↦ inr (subst (λ (t : List ℕ). AppendsSome k.written k.grown t) e h.1)
   ]
 ]
-
-report_cut : (c : Command) (s : SourceChange) (a : AreasChange) (k : SinkChange) (answer : ℕ) → c ≡ Run → Answers c s a k answer → IsCut c s answer → HasReport s a k ⊎ AppendsSome k.written k.grown no_memory_line
-report_cut c s a k answer e x cut = run_cut s a k answer (subst (λ (d : Command). Answers d s a k answer) e x) (subst (λ (d : Command). IsCut d s answer) e cut)
 
 but_not : {A B : Type 0} → A ⊎ B → (B → ⊥) → A
 but_not (inl a) never = a

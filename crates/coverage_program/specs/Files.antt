@@ -117,8 +117,12 @@ pub record IsOtherShown (name : List ℕ) (s : SourceChange) (text : List ℕ) :
   pub differs : first_difference 0 (session_rows job tables number) (rows marks) ≡ Some difference
   pub told : text ≡ other_table_line difference
 
+-- why bytes are not one whole file, or want of memory
+pub data IsFileRefusal (rest : List ℕ) (r : RefusalView) : Type 0 where
+  Bad : (offset : ℕ) → IsNoFile rest offset → r ≡ refusal 10 (bad_marks_line offset) → IsFileRefusal rest r
+  Wanting : r ≡ refusal 7 no_memory_line → IsFileRefusal rest r
+
 -- why the bytes behind a job are no file of the session of that number, or want of memory
 pub data IsShowRefusal (j : JobView) (tables : TablesView) (number : ℕ) (rest : List ℕ) (r : RefusalView) : Type 0 where
-  Bad : (offset : ℕ) → IsNoFile rest offset → r ≡ refusal 10 (bad_marks_line offset) → IsShowRefusal j tables number rest r
+  NoFile : IsFileRefusal rest r → IsShowRefusal j tables number rest r
   Other : (marks : List MarkedView) (d : Difference) → IsFile rest marks → first_difference 0 (session_rows j tables number) (rows marks) ≡ Some d → r ≡ refusal 11 (other_table_line d) → IsShowRefusal j tables number rest r
-  Wanting : r ≡ refusal 7 no_memory_line → IsShowRefusal j tables number rest r

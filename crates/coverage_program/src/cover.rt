@@ -1,28 +1,35 @@
 //! The program over any source, sink and areas.
-ghost use Rattle.std.specs.Prelude.{◌≡◌, ◌+◌, ◌<◌, ◌^◌, ℕ, List, false, true, All, map, length, drop, string_bytes};
+ghost use Rattle.std.specs.Prelude.{◌≡◌, ◌+◌, ◌<◌, ◌^◌, ℕ, List, ◌≤◌, false, true, Some, All, map, length, drop, string_bytes};
 ghost use Rattle.brk_table.specs.Places.{IsIn, all_places};
 ghost use Rattle.coverage_program.specs.Answers.{Answers};
 ghost use Rattle.coverage_program.specs.Inputs.{CameJob, CameFirst};
 ghost use Rattle.coverage_program.specs.Changes.{SourceChange, source_change, sink_change, areas_change, no_change};
 ghost use Rattle.coverage_program.specs.Complete.{IsComplete};
+ghost use Rattle.brk_table.specs.Together.{AreTables};
+ghost use Rattle.coverage_program.specs.Named.{session_number};
 ghost use Rattle.coverage_program.specs.Refusals.{Match};
 ghost use Rattle.coverage_program.specs.Untouched.{IsUntouched, IsReportCut};
 ghost use Rattle.job_run.specs.Runs.{Account};
 ghost use Rattle.report_text.specs.Conditions.{HasFewLines};
 ghost use Rattle.coverage_program.specs.Words.{command_of, without_areas};
 
+use crate::combining::answer_combine;
 use crate::lines::{NO_MEMORY, USAGE, bad_schedule_line};
-use crate::ready::make_ready;
+use crate::ready::{make_named, make_ready};
 use crate::replay::replay_text;
 use crate::schedule::{ScheduleFault, replay};
+use crate::showing::answer_show;
 use crate::status::{Status, status_of, told};
 use crate::words::{Command, command_of};
 use brk_table::Tables;
+use cov_base::{Name, SessNo};
 use cov_outside::{Gate, Sink, Source};
 use job_run::run_job;
+use marks_file::write;
 use module_area::Areas;
 use report_text::{report, table};
 use session_book::Job;
+use session_marks::marks_of;
 use std::alloc::Global;
 use std::sync::Wait;
 use std::thread::Threads;
@@ -68,6 +75,60 @@ fn answer_run<T: Threads + Wait + Sync, S: Source, K: Sink, A: Areas, G: Gate + 
         Ok(read) => answer_tables(rt, alloc, &read.job, &read.tables, sink, areas, gate),
         Err(refusal) => told(sink, &refusal.line, refusal.status),
     }
+}
+
+/// Runs a job whose listings match, and writes the marks file of session s, of that name.
+fn answer_session<T: Threads + Wait + Sync, K: Sink, A: Areas, G: Gate + Sync>(
+    rt: &T,
+    alloc: Global,
+    name: &Name,
+    job: &Job,
+    tables: &Tables,
+    s: SessNo,
+    sink: &mut K,
+    areas: &mut A,
+    gate: &G,
+) -> Status
+    requires from { 0 < s.0 }
+    requires to { s.0 ≤ length job.now.sessions }
+    requires own { AreTables job.now.images tables.now.tables }
+    requires matching { Match job.now tables.now.tables }
+    requires numbered { tables.now.places ≡ all_places tables.now.tables }
+    requires places { All (IsIn job.now.images) tables.now.places }
+    requires number { session_number job.now name.now ≡ Some s.0 }
+    requires room { A.made areas.old < 2 ^ 61 }
+    ensures { (c : SourceChange) → CameJob false c job.now →
+        Answers (Command.Marks name.now) c (areas_change A.ledger A.finals A.made areas.old areas.new) (sink_change K.written K.faults sink.old sink.new) result.0 }
+{
+    let outcome = match run_job(rt, alloc, areas, gate, job, tables) {
+        Ok(outcome) => outcome,
+        Err(_) => return told(sink, NO_MEMORY, 7),
+    };
+    let marks = match marks_of(alloc, job, tables, &outcome, s) {
+        Ok(marks) => marks,
+        Err(_) => return told(sink, NO_MEMORY, 7),
+    };
+    status_of(write(sink, &marks))
+}
+
+/// Reads a job, runs it and writes the marks file of the session of the name.
+fn answer_marks<T: Threads + Wait + Sync, S: Source, K: Sink, A: Areas, G: Gate + Sync>(
+    rt: &T,
+    alloc: Global,
+    name: &Name,
+    source: &mut S,
+    sink: &mut K,
+    areas: &mut A,
+    gate: &G,
+) -> Status
+    requires { A.made areas.old < 2 ^ 61 }
+    ensures { Answers (Command.Marks name.now) (source_change S.left S.faults source.old source.new) (areas_change A.ledger A.finals A.made areas.old areas.new) (sink_change K.written K.faults sink.old sink.new) result.0 }
+{
+    let (read, session) = match make_named(alloc, source, false, name) {
+        Ok(read) => read,
+        Err(refusal) => return told(sink, &refusal.line, refusal.status),
+    };
+    answer_session(rt, alloc, name, &read.job, &read.tables, session, sink, areas, gate)
 }
 
 /// Reads a job and writes the places of its modules.
@@ -130,7 +191,9 @@ fn answer_one<S: Source, K: Sink>(
     match command {
         Command::Table => answer_table(alloc, source, sink),
         Command::Replay => answer_replay(alloc, source, sink),
-        Command::Run | Command::Unknown => told(sink, USAGE, 1),
+        Command::Combine => answer_combine(alloc, source, sink),
+        Command::Show(name) => answer_show(alloc, &name, source, sink),
+        Command::Run | Command::Marks(_) | Command::Unknown => told(sink, USAGE, 1),
     }
 }
 
@@ -149,17 +212,21 @@ fn answer<T: Threads + Wait + Sync, S: Source, K: Sink, A: Areas, G: Gate + Sync
 {
     match command {
         Command::Run => answer_run(rt, alloc, source, sink, areas, gate),
-        Command::Table | Command::Replay | Command::Unknown => {
-            answer_one(alloc, command, source, sink)
-        }
+        Command::Marks(name) => answer_marks(rt, alloc, &name, source, sink, areas, gate),
+        Command::Table
+        | Command::Replay
+        | Command::Combine
+        | Command::Show(_)
+        | Command::Unknown => answer_one(alloc, command, source, sink),
     }
 }
 
 /// Serves the command that the words are: `run` reads a job from the source, runs its tasks on threads, each past the
-/// gate, and writes its report to the sink; all other words are answered as `cover_one` answers them. Each refusal has its
-/// status and its line; the answer is 6 where the sink fails. Where no fault of source or sink was counted, it is that of
-/// the words and bytes, or 7. The areas are as they were but for a run of a job whose listings match. It waits for the
-/// threads of the tasks; for all words but `run` it waits for nothing.
+/// gate, and writes its report to the sink; `marks NAME` does the same but writes the marks file of the session of the name;
+/// all other words are answered as `cover_one` answers them. Each refusal has its status and its line; the answer is 6 where
+/// the sink fails. Where no fault of source or sink was counted, it is that of the words and bytes, or 7. The areas are as
+/// they were but for a run of a job whose listings match. It waits for the threads of the tasks; for all words but `run`
+/// and `marks` it waits for nothing.
 pub fn cover<T: Threads + Wait + Sync, S: Source, K: Sink, A: Areas, G: Gate + Sync>(
     rt: &T,
     alloc: Global,
@@ -180,8 +247,9 @@ pub fn cover<T: Threads + Wait + Sync, S: Source, K: Sink, A: Areas, G: Gate + S
 
 /// Serves the commands that need no areas: `table` reads a job from the source and writes the places of its modules to
 /// the sink; `replay` reads a job of one phase and a schedule, plays the schedule on the core, and writes what its
-/// items have shown and the report of what they come to. For all other words, `run` too, it is status 1. It always
-/// returns.
+/// items have shown and the report of what they come to; `combine` reads marks files in succession and writes the file of
+/// their union; `show NAME` reads a job and one marks file behind it, and writes the listings of the session of the name
+/// with the file's marks. For all other words, `run` and `marks` too, it is status 1. It always returns.
 pub fn cover_one<S: Source, K: Sink>(
     alloc: Global,
     words: &[String],

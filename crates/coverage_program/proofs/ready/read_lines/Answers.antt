@@ -15,7 +15,7 @@ pub returns-in-Ok-clause-few : goal.returns-in-Ok-clause-few
 returns-in-Ok-clause-few c = few_first c.args.bytes.now c.in-Ok.read c.requires c.in-Ok.ensures.read
 
 pub returns-in-Err-clause-stopped : goal.returns-in-Err-clause-stopped
-returns-in-Err-clause-stopped c s came = rw c.fault_refusal.ensures (unread c.args.more s c.args.bytes.now c.in-Err.fault came c.in-Err.ensures.fault c.in-Err.ensures.jobless)
+returns-in-Err-clause-stopped c name s came = rw c.fault_refusal.ensures (unread c.args.more name s c.args.bytes.now c.in-Err.fault came c.in-Err.ensures.fault c.in-Err.ensures.jobless)
 
 pub returns-in-Ok-clause-job : goal.returns-in-Ok-clause-job
 returns-in-Ok-clause-job c s came = first_came c.args.more s c.args.bytes.now c.in-Ok.read (read_is c.args.more s c.args.bytes.now c.in-Ok.read came c.in-Ok.ensures.read c.in-Ok.ensures.whole)
