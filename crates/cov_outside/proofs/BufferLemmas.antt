@@ -1,6 +1,5 @@
 -- Texts that are put into a buffer one after another.
-use Rattle.std.proofs.Common.{◌≡◌, ℕ, ◌≤◌, Option, Result, Ok, Err, IsErr, List, [], ◌++◌, take, drop, refl, sym, ◌∙◌, ap, subst, append_assoc, append-nil}
-use Rattle.std.specs.Io.KnownBytes.{Appends}
+use Rattle.std.proofs.Common.{◌≡◌, ℕ, Option, Result, Ok, Err, IsErr, List, [], ◌++◌, take, drop, sym, ◌∙◌, ap, subst, append_assoc, append-nil}
 use Rattle.std.proofs.KnownBytes.{Appends-trans}
 use Rattle.std.proofs.lemmas.Bool.{false≢true}
 use Rattle.std.proofs.lemmas.List.{take-append-drop}
@@ -8,7 +7,7 @@ use Rattle.std.proofs.lemmas.Result.{on_ok_weaker, on_err_weaker}
 use Rattle.std.proofs.Math.Nat.{le_trans}
 use Rattle.cov_outside.specs.Whole.{AppendsSome}
 use Rattle.cov_outside.specs.Writes.{Writes}
-use Rattle.cov_outside.specs.Puts.{AppendsUpTo, Puts}
+use Rattle.cov_outside.specs.Puts.{Puts}
 use Rattle.cov_outside.proofs.WriteLemmas.{cause_since, some_more, some_after, Progress, progress_last}
 
 -- a piece more was put into the buffer

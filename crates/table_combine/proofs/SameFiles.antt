@@ -1,12 +1,12 @@
 -- The union depends on which files there are alone, neither on their order nor on how often each stands there.
-use Rattle.std.proofs.Common.{◌≡◌, ℕ, ◌<◌, suc, zero, Bool, true, false, ◌||◌, List, [], ◌∷◌, ◌++◌, length, take, drop, map, fold, All, slice_index_or, refl, ap, sym, subst, ◌∙◌, arith, length-append}
-use Rattle.std.specs.List.{Contains, flat_map}
+use Rattle.std.proofs.Common.{◌≡◌, ℕ, ◌<◌, suc, zero, Bool, true, false, ◌||◌, List, [], ◌∷◌, ◌++◌, length, take, drop, map, fold, All, slice_index_or, refl, ap, sym, subst, ◌∙◌, arith}
+use Rattle.std.specs.List.{Contains}
 use Rattle.std.proofs.lemmas.List.Elements.{All-contains, All-contains_itself}
 use Rattle.std.proofs.Math.Seq.{drop-append_seam, take-append_seam}
 use Rattle.cov_base.specs.Facts.{union}
 use Rattle.cov_base.specs.FactSet.{FactSet}
 use Rattle.marks_file.specs.Marks.{MarkedView, HasRow, are_marks}
-use Rattle.marks_file.specs.MarksFile.{place_row, module_row, module_rows, rows, file_bytes}
+use Rattle.marks_file.specs.MarksFile.{place_row, module_row, rows}
 use Rattle.marks_file.specs.declared.marks.MarkedPlace.{MarkedPlace}
 use Rattle.marks_file.proofs.MarksLemmas.{marks_have_rows}
 use Rattle.table_combine.specs.Combine.{unite_place, unite_places, unite_module, unite, SamePlaces, SameTables}
@@ -14,7 +14,7 @@ use Rattle.table_combine.proofs.UnionLemmas.{union_is_marks}
 use Rattle.table_combine.proofs.DifferenceLemmas.{row_count}
 use Rattle.table_combine.proofs.LawLemmas.{files_turned, file_itself}
 use Rattle.table_combine.proofs.FilesLemmas.{rows_kept}
-use Rattle.table_combine.specs.Files.{AreOfOneTable, IsCombined, AreFilesOf, AreSameFiles, IsUnionAnyhow, spelling}
+use Rattle.table_combine.specs.Files.{AreOfOneTable, IsCombined, AreSameFiles, IsUnionAnyhow, spelling}
 use Rattle.table_combine.proofs.AnswerLemmas.{one_file, same_rest}
 
 -- tables of the same rows are the same
@@ -27,9 +27,10 @@ same_places (p ∷ ps) (q ∷ qs) e =
     (head, same_places ps qs (ap (drop 1) e))
 
 parted : (x y xs ys : List (List ℕ)) → length x ≡ length y → x ++ xs ≡ y ++ ys → (x ≡ y) × (xs ≡ ys)
-parted x y xs ys l e =
-    (sym (take-append_seam x xs) ∙ (ap (take (length x)) e ∙ (ap (λ k. take k (y ++ ys)) l ∙ take-append_seam y ys)),
-    sym (drop-append_seam x xs) ∙ (ap (drop (length x)) e ∙ (ap (λ k. drop k (y ++ ys)) l ∙ drop-append_seam y ys)))
+parted x y xs ys l e = (
+  sym (take-append_seam x xs) ∙ (ap (take (length x)) e ∙ (ap (λ k. take k (y ++ ys)) l ∙ take-append_seam y ys)),
+  sym (drop-append_seam x xs) ∙ (ap (drop (length x)) e ∙ (ap (λ k. drop k (y ++ ys)) l ∙ drop-append_seam y ys)),
+)
 
 map_length : (ps : List MarkedPlace) → length (map place_row ps) ≡ length ps
 map_length [] = refl
