@@ -25,12 +25,12 @@ pub cause_since : {T E : Type 0} {a b c : ℕ} {r : Result T E} → a ≤ b → 
 cause_since {a = a} {b = b} {c = c} {r = r} h k = record { later = le_trans h k.later; failed = on_err_weaker r (λ f. rose_since a b c h f) k.failed }
 
 -- what a sink took of a text it took of a longer one
-some_more : (old new : Option (List ℕ)) (text rest : List ℕ) → AppendsSome old new text → AppendsSome old new (text ++ rest)
+pub some_more : (old new : Option (List ℕ)) (text rest : List ℕ) → AppendsSome old new text → AppendsSome old new (text ++ rest)
 some_more old new text rest h =
     (h.0, omega (arith, h.1, length-append text rest), rw (take-append-le h.0 text rest h.1) h.2)
 
 -- and after another text
-some_after : (old mid new : Option (List ℕ)) (before text : List ℕ) → Appends old mid before → AppendsSome mid new text → AppendsSome old new (before ++ text)
+pub some_after : (old mid new : Option (List ℕ)) (before text : List ℕ) → Appends old mid before → AppendsSome mid new text → AppendsSome old new (before ++ text)
 some_after old mid new before text h s =
     (length before + s.0, omega (arith, s.1, length-append before text), rw (take-append-add before text s.0) (Appends-trans old mid new before (take s.0 text) h s.2))
 

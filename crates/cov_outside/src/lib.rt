@@ -2,6 +2,7 @@
 #![tactic(auto)]
 
 mod adapters;
+mod buffer;
 mod gate;
 mod memory;
 mod streams;
@@ -9,6 +10,7 @@ mod sure;
 mod whole;
 
 pub use adapters::{StdSink, StdSource};
+pub use buffer::WriteBuffer;
 pub use gate::{Gate, OpenGate};
 pub use memory::{MemSink, MemSource};
 pub use streams::{Failed, Sink, Source};

@@ -160,6 +160,13 @@ impl MemSink {
         &self.bytes
     }
 
+    /// How often it was called, to 2^64 - 1.
+    pub fn calls(&self) -> u64
+        ensures { result ≡ self.now.calls }
+    {
+        self.calls
+    }
+
     /// How often it has failed, to 2^64 - 1.
     pub fn faults(&self) -> u64
         ensures { result ≡ self.now.faults }

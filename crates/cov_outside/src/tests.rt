@@ -1,7 +1,7 @@
 //! Faults in mid-stream, at the call that is listed and at the next, and each call with ample memory.
 use crate::{
     Failed, MemSink, MemSource, ReadFault, Sink, Source, StdSink, StdSource, SureSink, SureSource,
-    read_all, write_all,
+    WriteBuffer, read_all, write_all,
 };
 use std::io::{Error, ErrorKind, Read, Result as IoResult, Write};
 use std::test::Fail;
@@ -100,4 +100,44 @@ fn counts_the_faults_of_std(rt: HostRuntime) {
     let mut sink = StdSink::new(Stuck);
     assert!(rt; sink.write(b"A") == Err(Failed));
     assert_eq!(rt; sink.faults(), 1);
+}
+
+#[test]
+fn a_buffer_gives_when_it_is_full(rt: HostRuntime) -> Result<(), Fail> {
+    let alloc = rt.alloc();
+    let Ok(mut sink) = MemSink::new(alloc, 20_000, 20_000, Vec::new(alloc)) else {
+        return Err(Fail::from("no memory"));
+    };
+    let mut buffer = WriteBuffer::new();
+    for _i in 0..455 {
+        assert!(rt; buffer.put(&mut sink, b"ABCDEFGHI") == Ok(()));
+    }
+    assert_eq!(rt; sink.calls(), 0);
+    assert!(rt; buffer.put(&mut sink, b"JKLMNOPQR") == Ok(()));
+    assert_eq!(rt; sink.calls(), 1);
+    assert_eq!(rt; sink.bytes().len(), 4096);
+    assert!(rt; buffer.flush(&mut sink) == Ok(()));
+    assert_eq!(rt; sink.calls(), 2);
+    assert!(rt; &sink.bytes()[4094..] == b"IJKLMNOPQR".as_slice());
+    assert!(rt; buffer.flush(&mut sink) == Ok(()));
+    assert!(rt; buffer.put(&mut sink, &[b'T'; 9000]) == Ok(()));
+    assert_eq!(rt; sink.calls(), 4);
+    assert_eq!(rt; sink.bytes().len(), 13_104);
+    Ok(())
+}
+
+#[test]
+fn a_buffer_holds_nothing_after_a_fault(rt: HostRuntime) -> Result<(), Fail> {
+    let alloc = rt.alloc();
+    let fail = Vec::from_slice(alloc, &[1])?;
+    let Ok(mut sink) = MemSink::new(alloc, 20, 20, fail) else {
+        return Err(Fail::from("no memory"));
+    };
+    let mut buffer = WriteBuffer::new();
+    assert!(rt; buffer.put(&mut sink, b"ABC") == Ok(()));
+    assert!(rt; buffer.flush(&mut sink) == Err(Failed));
+    assert!(rt; buffer.put(&mut sink, b"DE") == Ok(()));
+    assert!(rt; buffer.flush(&mut sink) == Ok(()));
+    assert_eq!(rt; sink.bytes(), b"DE".as_slice());
+    Ok(())
 }

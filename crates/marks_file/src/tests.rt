@@ -70,6 +70,64 @@ fn a_failed_write_leaves_the_first_bytes(rt: HostRuntime) -> Result<(), Fail> {
     Ok(())
 }
 
+/// A file of one module and so many places.
+fn many_places(alloc: Global, count: u32) -> Result<Vec<u8>, Fail>
+    requires { count < 65536 }
+{
+    let mut bytes = Vec::from_slice(alloc, b"S370COV1\0\x01M       \0\x10\0\0")?;
+    bytes.extend_from_slice(&(2 * count).to_be_bytes())?;
+    bytes.extend_from_slice(&count.to_be_bytes())?;
+    for i in 0..count {
+        bytes.extend_from_slice(&(2 * i).to_be_bytes())?;
+        bytes.extend_from_slice(&[2, 0, 0x07, 0xFE, 1])?;
+    }
+    Ok(bytes)
+}
+
+fn sink(alloc: Global, piece: usize, fail: Vec<u64>) -> Result<MemSink, Fail>
+    requires { 0 < piece }
+{
+    match MemSink::new(alloc, 20_000, piece, fail) {
+        Ok(sink) => Ok(sink),
+        Err(_) => Err(Fail::from("no memory")),
+    }
+}
+
+#[test]
+fn a_file_is_written_in_pieces(rt: HostRuntime) -> Result<(), Fail> {
+    let alloc = rt.alloc();
+    let bytes = many_places(alloc, 2000)?;
+    assert_eq!(rt; bytes.len(), 18_030);
+    let Ok((marks, _)) = read(alloc, &bytes, 0) else {
+        return Err(Fail::from("not read"));
+    };
+    let mut whole = sink(alloc, 20_000, Vec::new(alloc))?;
+    assert!(rt; write(&mut whole, &marks) == Ok(()));
+    assert!(rt; whole.bytes() == bytes.as_slice());
+    assert_eq!(rt; whole.calls(), 5);
+    let mut slow = sink(alloc, 7, Vec::new(alloc))?;
+    assert!(rt; write(&mut slow, &marks) == Ok(()));
+    assert!(rt; slow.bytes() == bytes.as_slice());
+    Ok(())
+}
+
+#[test]
+fn a_fault_at_each_piece_leaves_those_before(rt: HostRuntime) -> Result<(), Fail> {
+    let alloc = rt.alloc();
+    let bytes = many_places(alloc, 2000)?;
+    let Ok((marks, _)) = read(alloc, &bytes, 0) else {
+        return Err(Fail::from("not read"));
+    };
+    for piece in 0..5 {
+        let mut failing = sink(alloc, 20_000, Vec::from_slice(alloc, &[piece + 1])?)?;
+        assert!(rt; write(&mut failing, &marks).is_err());
+        assert_eq!(rt; failing.faults(), 1);
+        let taken = 4096 * piece as usize;
+        assert!(rt; bytes.get(..taken) == Some(failing.bytes()));
+    }
+    Ok(())
+}
+
 #[test]
 fn a_file_may_stand_behind_other_bytes(rt: HostRuntime) -> Result<(), Fail> {
     let alloc = rt.alloc();

@@ -14,11 +14,16 @@ none_differs : (n : ℕ) (xs : List (List ℕ)) → first_difference n xs xs ≡
 none_differs n [] = refl
 none_differs n (x ∷ xs) = row_same n x x xs xs refl ∙ none_differs (n + 1) xs
 
+pub none_other : (a b : List MarkedView) (d : Difference) → b ≡ a → first_difference 0 (rows a) (rows b) ≡ Some d → ⊥
+none_other a b d e found =
+    let clash : None ≡ Some d = sym (none_differs 0 (rows a)) ∙ (ap (λ z. first_difference 0 (rows a) (rows z)) (sym e) ∙ found) in
+    absurd cc
+
 -- a file that begins the bytes is the only one
-one_file : (x y : List MarkedView) (t u : List ℕ) → are_marks x ≡ true → are_marks y ≡ true → file_bytes x ++ t ≡ file_bytes y ++ u → x ≡ y
+pub one_file : (x y : List MarkedView) (t u : List ℕ) → are_marks x ≡ true → are_marks y ≡ true → file_bytes x ++ t ≡ file_bytes y ++ u → x ≡ y
 one_file x y t u hx hy e = sym (file_read 0 x t hx).value ∙ (ap marks_at e ∙ (file_read 0 y u hy).value)
 
-same_rest : (x y : List MarkedView) (t u : List ℕ) → x ≡ y → file_bytes x ++ t ≡ file_bytes y ++ u → t ≡ u
+pub same_rest : (x y : List MarkedView) (t u : List ℕ) → x ≡ y → file_bytes x ++ t ≡ file_bytes y ++ u → t ≡ u
 same_rest x y t u e h =
     let own : file_bytes x ++ t ≡ file_bytes x ++ u = h ∙ ap (λ z. file_bytes z ++ u) (sym e) in
     sym (drop-append_seam (file_bytes x) t) ∙ (ap (λ z. drop (length (file_bytes x)) z) own ∙ drop-append_seam (file_bytes x) u)

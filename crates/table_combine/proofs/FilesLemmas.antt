@@ -26,7 +26,7 @@ places_kept (p ∷ ps) (q ∷ qs) = same_rows (place_row p) (place_row p) (map p
 pub row_kept : (m n : MarkedView) → module_row (unite_module m n) ≡ module_row m
 row_kept m n = ap (λ k. m.name ++ (big_bytes 4 m.base ++ (big_bytes 4 m.size ++ big_bytes 4 k))) (length-unite_places m.places n.places)
 
-rows_kept : (ms ns : List MarkedView) → rows (unite ms ns) ≡ rows ms
+pub rows_kept : (ms ns : List MarkedView) → rows (unite ms ns) ≡ rows ms
 rows_kept [] ns = refl
 rows_kept (m ∷ ms) [] = refl
 rows_kept (m ∷ ms) (n ∷ ns) = joined_rows (module_rows (unite_module m n)) (module_rows m) (rows (unite ms ns)) (rows ms) (same_rows (module_row (unite_module m n)) (module_row m) (map place_row (unite_places m.places n.places)) (map place_row m.places) (row_kept m n) (places_kept m.places n.places)) (rows_kept ms ns)

@@ -1,5 +1,6 @@
-pub mod DifferenceLemmas
-pub mod UnionLemmas
-pub mod FilesLemmas
 pub mod AnswerLemmas
+pub mod DifferenceLemmas
+pub mod FilesLemmas
 pub mod LawLemmas
+pub mod SameFiles
+pub mod UnionLemmas

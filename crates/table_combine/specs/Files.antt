@@ -1,6 +1,6 @@
 -- Marks files one after another, and their union.
 use Rattle.std.specs.Prelude.{◌≡◌, ◌≢◌, ◌⊎◌, ℕ, true, Some, List, [], ◌∷◌, ◌++◌, length, fold, All}
-use Rattle.std.specs.List.{flat_map}
+use Rattle.std.specs.List.{Contains, flat_map}
 use Rattle.marks_file.specs.Marks.{MarkedView, are_marks}
 use Rattle.marks_file.specs.MarksFile.{file_bytes, rows}
 use Rattle.marks_file.specs.Reading.{first_bad, file_fields}
@@ -69,3 +69,17 @@ pub record HasOneAnswer (bytes : List ℕ) : Type 0 where
   pub combined_or_bad : (m : List MarkedView) (o : ℕ) → IsCombined bytes m → IsBad bytes o → ⊥
   pub combined_or_other : (m : List MarkedView) (d : Difference) → IsCombined bytes m → IsOtherTable bytes d → ⊥
   pub bad_or_other : (o : ℕ) (d : Difference) → IsBad bytes o → IsOtherTable bytes d → ⊥
+
+-- the bytes are these files
+pub record AreFilesOf (bytes : List ℕ) (files : List (List MarkedView)) : Type 0 where
+  pub are : All (λ m. are_marks m ≡ true) files
+  pub spelled : bytes ≡ spelling files
+
+-- the same files, in whichever order and however often each
+pub record AreSameFiles (files others : List (List MarkedView)) : Type 0 where
+  pub there : (m : List MarkedView) → Contains files m → Contains others m
+  pub back : (m : List MarkedView) → Contains others m → Contains files m
+
+-- the union of the files of these bytes is that of the same files anyhow
+abbrev pub IsUnionAnyhow : List ℕ → List MarkedView → Type 0
+IsUnionAnyhow bytes m = (files others : List (List MarkedView)) → AreFilesOf bytes files → AreSameFiles files others → IsCombined (spelling others) m

@@ -4,7 +4,7 @@ ghost use Rattle.std.specs.Io.{StartsWith};
 ghost use Rattle.marks_file.specs.Marks.{are_marks};
 ghost use Rattle.marks_file.specs.MarksFile.{file_bytes};
 ghost use Rattle.marks_file.specs.Reading.{IsFault, file_fields};
-ghost use Rattle.table_combine.specs.Files.{IsCombined, IsCombineFault, HasOneAnswer};
+ghost use Rattle.table_combine.specs.Files.{IsCombined, IsCombineFault, HasOneAnswer, IsUnionAnyhow};
 
 use crate::difference::OtherTable;
 use crate::union::combine;
@@ -67,11 +67,14 @@ fn combine_all(alloc: Global, bytes: &[u8]) -> Result<Marks, CombineFault>
 }
 
 /// The union of the files that the bytes are. BadMarks where at the end of some files of one table, or at offset 0, no
-/// file begins; Other at the first file of another table than the first one's.
+/// file begins; Other at the first file of another table than the first one's. The union depends on which files there
+/// are alone, neither on their order nor on how often each stands there. It reads each byte once, and holds the union
+/// and one file at a time.
 pub fn combine_files(alloc: Global, bytes: &[u8]) -> Result<Marks, CombineFault>
     ensures whole { IfOk result (IsCombined bytes.now) }
     ensures fault { IfErr result (IsCombineFault bytes.now) }
     ensures one { HasOneAnswer bytes.now }
+    ensures anyhow { IfOk result (IsUnionAnyhow bytes.now) }
 {
     combine_all(alloc, bytes)
 }

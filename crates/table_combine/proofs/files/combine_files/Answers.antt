@@ -1,5 +1,10 @@
+use Rattle.std.proofs.lemmas.Result.{IfOk-weaker}
 use Rattle.table_combine.proofs.AnswerLemmas.{one_answer}
+use Rattle.table_combine.proofs.SameFiles.{union_anyhow}
 use Rattle.table_combine.proofs.files.combine_files.Goals as goal
 
 pub returns-clause-one : goal.returns-clause-one
 returns-clause-one c = one_answer c.args.bytes.now
+
+pub returns-clause-anyhow : goal.returns-clause-anyhow
+returns-clause-anyhow c = IfOk-weaker c.combine_all.result _ _ (union_anyhow c.args.bytes.now) c.combine_all.ensures.whole

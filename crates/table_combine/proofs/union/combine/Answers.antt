@@ -1,4 +1,4 @@
-use Rattle.std.proofs.Common.{◌≡◌, refl, length, All, ap, subst, sym, ◌∙◌, arith}
+use Rattle.std.proofs.Common.{◌≡◌, true, refl, length, All, ap, subst, sym, ◌∙◌, arith}
 use Rattle.std.specs.Vec.{with_items}
 use Rattle.std.proofs.lemmas.List.{with_items_is}
 use Rattle.marks_file.specs.Marks.{HasRow, are_marks, place_count}
@@ -6,7 +6,9 @@ use Rattle.marks_file.specs.MarksFile.{rows}
 use Rattle.marks_file.proofs.MarksLemmas.{marks_have_rows, marks_count}
 use Rattle.table_combine.specs.Combine.{SameTables, unite}
 use Rattle.table_combine.proofs.UnionLemmas.{union_is_marks, length-unite, tables_rows, marks_places}
-use Rattle.table_combine.proofs.LawLemmas.{files_turned}
+use Rattle.table_combine.proofs.AnswerLemmas.{none_other}
+use Rattle.table_combine.proofs.LawLemmas.{file_itself}
+use Rattle.table_combine.proofs.SameFiles.{unite_turned, file_again}
 use Rattle.table_combine.proofs.union.combine.Goals as goal
 
 pub first_difference-requires-clause-left : goal.first_difference-requires-clause-left
@@ -35,8 +37,30 @@ returns-in-None-clause-same c =
     let same : SameTables c.a.inside.modules.items c.b.inside.modules.items = rw (c.deref.ensures.value, c.deref-2.ensures.value) at found in
     sym (ap rows c.a.view_is) ∙ (tables_rows _ _ same ∙ ap rows c.b.view_is)
 
+pub returns-in-None-clause-union : goal.returns-in-None-clause-union
+returns-in-None-clause-union c =
+    let u : c.unite.new.a ≡ unite c.a.inside.modules.items c.b.inside.modules.items = c.unite.ensures ∙ (ap (λ x. unite x c.deref-in-None.result.now) c.deref_mut.ensures.value ∙ ap (λ y. unite c.a.inside.modules.items y) c.deref-in-None.ensures.value) in
+    let kept : (with_items c.a.inside.modules c.unite.new.a).items ≡ c.unite.new.a = with_items_is c.a.inside.modules c.unite.new.a (ap length u ∙ (length-unite c.a.inside.modules.items c.b.inside.modules.items ∙ sym c.a.inside.modules.ok.0)) in
+    kept ∙ (u ∙ (ap (λ x. unite x c.b.inside.modules.items) c.a.view_is ∙ ap (λ y. unite c.args.a.now y) c.b.view_is))
+
 pub returns-in-None-clause-turned : goal.returns-in-None-clause-turned
 returns-in-None-clause-turned c =
     let found : SameTables c.deref.result.now c.deref-2.result.now = c.in-None.ensures.none refl in
-    let same : SameTables c.a.inside.modules.items c.b.inside.modules.items = rw (c.deref.ensures.value, c.deref-2.ensures.value) at found in
-    rw (c.a.view_is, c.b.view_is) at (files_turned c.a.inside.modules.items c.b.inside.modules.items same)
+    let same : SameTables c.args.a.now c.args.b.now = rw (c.deref.ensures.value, c.deref-2.ensures.value, c.a.view_is, c.b.view_is) at found in
+    let first : are_marks c.args.a.now ≡ true = rw c.a.view_is at c.a.invariant in
+    let second : are_marks c.args.b.now ≡ true = rw c.b.view_is at c.b.invariant in
+    returns-in-None-clause-union c ∙ unite_turned c.args.a.now c.args.b.now first second (tables_rows _ _ same)
+
+pub returns-in-None-clause-again : goal.returns-in-None-clause-again
+returns-in-None-clause-again c =
+    let is = returns-in-None-clause-union c in
+    ap (λ m. unite m c.args.b.now) is ∙ (file_again c.args.a.now c.args.b.now ∙ sym is)
+
+pub returns-in-None-clause-same_file : goal.returns-in-None-clause-same_file
+returns-in-None-clause-same_file c e =
+    returns-in-None-clause-union c ∙ (ap (λ m. unite c.args.a.now m) e ∙ file_itself c.args.a.now)
+
+pub returns-in-Some-clause-same_file_ok : goal.returns-in-Some-clause-same_file_ok
+returns-in-Some-clause-same_file_ok c e =
+    let same : c.deref-2.result.now ≡ c.deref.result.now = c.deref-2.ensures.value ∙ (c.b.view_is ∙ (e ∙ (sym c.a.view_is ∙ sym c.deref.ensures.value))) in
+    absurd (none_other _ _ _ same c.in-Some.ensures.some)
