@@ -5,4 +5,5 @@ pub mod ModuleLemmas
 pub mod SetsLemmas
 pub mod SessionLemmas
 pub mod OwnLemmas
+pub mod ExampleLemmas
 pub mod Sample
