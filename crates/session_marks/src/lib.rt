@@ -12,7 +12,6 @@ pub use marking::marks_of;
 pub use no_sets::NoSets;
 
 #[cfg(test)]
-mod tests;
-
-#[cfg(test)]
 mod file_tests;
+#[cfg(test)]
+mod tests;
