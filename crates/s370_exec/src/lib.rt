@@ -11,7 +11,7 @@ mod subject;
 pub use alone::{has_returned, instruction_went, step, subject_seen};
 pub use fetch::{fetch_first, fetch_rest};
 pub use instruction::execute;
-pub use subject::{fetch_subject, is_execute, subject_address};
+pub use subject::{fetch_subject, is_execute, merge, subject_address};
 
 #[cfg(test)]
 mod tests;
