@@ -18,11 +18,6 @@ unfoldable pub functions : Memory → List ℕ → ℕ → ℕ → ℕ → List 
 functions m bytes a t zero = []
 functions m bytes a t (suc n) = functions m bytes a t n ++ (reads (function_at m bytes a t n) 1 ∷ [])
 
--- the ending that comes first
-abbrev pub or_ending : Option Ending → Option Ending → Option Ending
-or_ending None q = q
-or_ending (Some e) q = Some e
-
 -- the bytes after the first n arguments became their function bytes, as these then stand, left to right; no argument
 -- changes before its turn
 unfoldable pub translated : Memory → List ℕ → ℕ → ℕ → ℕ → List ℕ
