@@ -1,7 +1,6 @@
 -- Numbers of which a register keeps 32 bits, and halfwords.
-use Rattle.std.specs.Prelude.{ℕ, ◌+◌, ◌%◌, ◌/◌, ◌-◌, List, slice_set, nat_lt, ◌==◌, if◌then◌else◌, Bool, ℤ, pos, negsuc}
+use Rattle.std.specs.Prelude.{ℕ, ◌%◌, ◌-◌, nat_lt, ◌==◌, if◌then◌else◌, Bool, ℤ, pos, negsuc}
 use Rattle.std.specs.Int.{cast_signed, w16}
-use Rattle.cov_base.specs.Memory.{wrap}
 
 -- a halfword as a signed number
 unfoldable pub signed_half : ℕ → ℤ
@@ -32,7 +31,3 @@ is_doubleword z = is_within 9223372036854775808 z
 unfoldable pub sign_code : ℤ → ℕ
 sign_code (pos n) = if n == 0 then 0 else 2
 sign_code (negsuc n) = 1
-
--- the low halfword of a register is stored
-unfoldable pub store_half : List ℕ → ℕ → ℕ → List ℕ
-store_half bytes a v = slice_set (slice_set bytes (wrap a) (v / 256 % 256)) (wrap (a + 1)) (v % 256)
