@@ -30,9 +30,9 @@ pub fn low_word(z: i64) -> u32
     }
 }
 
-/// Whether the number fits a signed word; where it does not, a sum or difference overflows.
+/// Whether the number fits a signed word; where it does not, a sum, a difference or a left shift overflows.
 #[tactic(auto, unfolding(crate::specs::Words::is_word))]
-pub fn is_word(z: i64) -> bool
+pub fn is_word(z: i128) -> bool
     ensures { result ≡ is_word z }
 {
     -2_147_483_648 <= z && z < 2_147_483_648
@@ -40,7 +40,7 @@ pub fn is_word(z: i64) -> bool
 
 /// The condition code of a signed result that fits: 0 for zero, 1 for negative, 2 for positive.
 #[tactic(auto, unfolding(crate::specs::Words::sign_code))]
-pub fn sign_code(z: i64) -> u8
+pub fn sign_code(z: i128) -> u8
     ensures value { result ≡ sign_code z }
     ensures below { result ≤ 2 }
 {
