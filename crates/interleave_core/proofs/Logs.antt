@@ -40,7 +40,7 @@ use Rattle.s370_state.specs.declared.endings.Ending.TheVariants.{Returned, Spent
 use Rattle.s370_state.specs.declared.endings.Next.{Next}
 use Rattle.s370_state.specs.declared.endings.Next.TheVariants.{On, Ended as NextEnded}
 use Rattle.session_book.specs.Sessions.{task_of, no_task, first_state}
-use Rattle.module_area.specs.Parties.{session_of}
+use Rattle.module_area.specs.Parties.{tag_session}
 use Rattle.module_area.specs.PlainWords.{word_at}
 use Rattle.std.proofs.lemmas.Grind.{get_or-set_at}
 use Rattle.interleave_core.specs.declared.stage.Due.{Due}
@@ -266,7 +266,7 @@ log_step w c (Mark t) x world h is =
     let at = exists_by (nat_lt t.0 (length c.parts.tasks)) (mark_step w c.parts t.0 u) x h in
     let lt : t.0 < length c.parts.tasks = lt_of t.0 (length c.parts.tasks) at.0 in
     let p = got Hand (marked w c.parts t.0 u) (in_hand Marking u.stage) x at.1 in
-    let found : FactSet = set_of w c.parts (session_of p.0.cell.tag) p.0.place.0 in
+    let found : FactSet = set_of w c.parts (tag_session p.0.cell.tag) p.0.place.0 in
     let stage = (in_hand-stage Marking u.stage p.0 p.1).0 in
     let before : logged (c.logs t.0) ≡ noted w (trace_of w t.0 u ++ visits_in_hand (Holding p.0) (visits_of w t.0 u)) = subst (λ (s : Stage). logged (c.logs t.0) ≡ noted w (trace_of w t.0 u ++ visits_in_hand s (visits_of w t.0 u))) stage (is.logs t.0 lt) in
     subst (λ (y : Stepped). (length y.parts.tasks ≡ length w.job.tasks) × HaveLogs w y.parts (core_after w c (Mark t) y).core.logs) (sym p.2)

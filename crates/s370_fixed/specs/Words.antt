@@ -16,16 +16,16 @@ unfoldable pub low_word : ℤ → ℕ
 low_word z = modulo 4294967296 z
 
 -- the number is at least -m, and below m
-abbrev pub is_within : ℕ → ℤ → Bool
-is_within m (pos n) = nat_lt n m
-is_within m (negsuc n) = nat_lt n m
+abbrev pub is_in_range : ℕ → ℤ → Bool
+is_in_range m (pos n) = nat_lt n m
+is_in_range m (negsuc n) = nat_lt n m
 
 -- the number fits a signed word, and a signed doubleword
 unfoldable pub is_word : ℤ → Bool
-is_word z = is_within 2147483648 z
+is_word z = is_in_range 2147483648 z
 
 unfoldable pub is_doubleword : ℤ → Bool
-is_doubleword z = is_within 9223372036854775808 z
+is_doubleword z = is_in_range 9223372036854775808 z
 
 -- 0 for zero, 1 for negative, 2 for positive
 unfoldable pub sign_code : ℤ → ℕ
