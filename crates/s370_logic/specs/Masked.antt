@@ -1,7 +1,7 @@
 -- The rows of operations on the bytes of R1 that a mask of four bits selects, left to right (Principles of Operation,
 -- "General Instructions", "Insert Characters under Mask", "Store Characters under Mask", "Compare Logical Characters
 -- under Mask"). A zero mask selects no byte, and the operand then has none.
-use Rattle.std.specs.Prelude.{ℕ, zero, suc, ◌+◌, ◌*◌, ◌/◌, ◌%◌, true, ◌==◌, nat_le, if◌then◌else◌, List, [], ◌∷◌, count_ones}
+use Rattle.std.specs.Prelude.{ℕ, zero, suc, ◌+◌, ◌*◌, ◌/◌, ◌%◌, true, ◌==◌, nat_le, if◌then◌else◌, [], ◌∷◌, count_ones}
 use Rattle.std.specs.Ordering.{nat_cmp}
 use Rattle.cov_base.specs.States.{Machine}
 use Rattle.cov_base.specs.Memory.{Memory, byte_at}

@@ -4,7 +4,6 @@ use Rattle.std.specs.Prelude.{ℕ, zero, suc, ◌+◌, ◌*◌, ◌/◌, true, i
 use Rattle.cov_base.specs.States.{Machine}
 use Rattle.cov_base.specs.Memory.{Memory, byte_at, wrap}
 use Rattle.s370_state.specs.Row.{Row, Use, Outcome, Completes, reads, stores, with_cc, with_bytes, with_regs, with_address}
-use Rattle.s370_state.specs.declared.endings.Ending.{Ending}
 use Rattle.s370_decode.specs.Fields.{i2, e1, e2}
 use Rattle.s370_decode.specs.declared.code.Code.{Code}
 use Rattle.s370_storage.specs.Searches.{first_where}
