@@ -1,7 +1,7 @@
 use Rattle.std.proofs.Common.{◌∙◌, sym}
 use Rattle.s370_exec.specs.Solo.{state_of}
 use Rattle.s370_exec.proofs.StepLemmas.{unread-went, read-went}
-use Rattle.s370_exec.proofs.alone.instruction_went.Goals as goal
+use Rattle.s370_exec.proofs.solo.instruction_went.Goals as goal
 
 pub returns-in-Ok : goal.returns-in-Ok
 returns-in-Ok g c = λ io d.

@@ -4,7 +4,7 @@ use Rattle.s370_decode.specs.Table.{op_of}
 use Rattle.s370_exec.specs.Effects.{effect, updated, link_code}
 use Rattle.s370_exec.specs.Solo.{state_of, subject_seen}
 use Rattle.s370_exec.proofs.StepLemmas.{subject_step-unread, subject_step-begun}
-use Rattle.s370_exec.proofs.alone.subject_went.Goals as goal
+use Rattle.s370_exec.proofs.solo.subject_went.Goals as goal
 
 pub returns-in-Ok : goal.returns-in-Ok
 returns-in-Ok g c = λ io d v.

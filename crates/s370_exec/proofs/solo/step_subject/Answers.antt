@@ -5,8 +5,8 @@ use Rattle.s370_branch.specs.Branch.{goes}
 use Rattle.s370_exec.specs.Effects.{effect_of}
 use Rattle.s370_exec.specs.Solo.{state_of, subject_step, ended, stepped, visit}
 use Rattle.s370_exec.proofs.StepLemmas.{subject_step-refused, subject_step-unread, subject_step-begun}
-use Rattle.s370_exec.proofs.alone.step_subject.Given as given
-use Rattle.s370_exec.proofs.alone.step_subject.Goals as goal
+use Rattle.s370_exec.proofs.solo.step_subject.Given as given
+use Rattle.s370_exec.proofs.solo.step_subject.Goals as goal
 
 refused : (g : given.Over) (c : goal.In-Err g) (d : ℕ) →
     let s = state_of c.args.cpu.now (g.P.Space.bytes c.args.space.now) c.args.io.now d in

@@ -6,8 +6,8 @@ use Rattle.s370_exec.specs.Effects.{effect_of}
 use Rattle.s370_exec.specs.Solo.{solo_step, stepped, visit}
 use Rattle.s370_exec.specs.Solo.{state_of}
 use Rattle.s370_exec.proofs.StepLemmas.{unread-state, unread-next, solo_step-read, solo_step-ex}
-use Rattle.s370_exec.proofs.alone.step.Given as given
-use Rattle.s370_exec.proofs.alone.step.Goals as goal
+use Rattle.s370_exec.proofs.solo.step.Given as given
+use Rattle.s370_exec.proofs.solo.step.Goals as goal
 
 pub returns-in-Err-clause-state : goal.returns-in-Err-clause-state
 returns-in-Err-clause-state g c = λ d. unread-state _ (state_of c.args.cpu.now (g.P.Space.bytes c.args.space.now) c.args.io.now d) c.at.result c.in-Err.e c.at.ensures c.in-Err.ensures.refused

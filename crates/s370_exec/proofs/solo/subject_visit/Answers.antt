@@ -2,7 +2,7 @@ use Rattle.std.proofs.Common.{◌∷◌, ap}
 use Rattle.s370_exec.specs.Solo.{state_of}
 use Rattle.s370_exec.proofs.StepLemmas.{subject_step-refused}
 use Rattle.s370_exec.specs.Solo.{subject_seen}
-use Rattle.s370_exec.proofs.alone.subject_visit.Goals as goal
+use Rattle.s370_exec.proofs.solo.subject_visit.Goals as goal
 
 pub returns-in-Err : goal.returns-in-Err
 returns-in-Err g c = λ io d v.

@@ -5,7 +5,7 @@ use Rattle.s370_branch.specs.Branch.{goes}
 use Rattle.s370_exec.specs.Solo.{visit}
 use Rattle.s370_exec.specs.Solo.{state_of}
 use Rattle.s370_exec.proofs.StepLemmas.{unread-subject, read-subject, ex-subject}
-use Rattle.s370_exec.proofs.alone.subject_seen.Goals as goal
+use Rattle.s370_exec.proofs.solo.subject_seen.Goals as goal
 
 pub returns-in-Err : goal.returns-in-Err
 returns-in-Err g c = λ io d. unread-subject _ (state_of c.args.cpu.now (g.P.Space.bytes c.args.space.now) io d) c.at.result _ c.at.ensures c.in-Err.ensures.refused
