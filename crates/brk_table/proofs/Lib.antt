@@ -1,5 +1,6 @@
 pub mod PlaceLemmas
 pub mod MapLemmas
+pub mod TouchLemmas
 pub mod RangeLemmas
 pub mod CoverLemmas
 pub mod FaultLemmas
