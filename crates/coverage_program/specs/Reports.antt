@@ -29,6 +29,6 @@ pub record Reports (j : JobView) (tables : TablesView) (areas : List FinalsView)
 pub record Records (j : JobView) (tables : TablesView) (areas : List FinalsView) (s : ℕ) (text : List ℕ) : Type 0 where
   pub sets : ℕ → FactSet
   pub are_sets : (p : ℕ) → p < length tables.places →
-      observes (session_of j s).phase (place_of tables.places p).module (session_of j s) ≡ true → sets p ≡ set_of j tables.places s p
+      observes (session_of j s).phase (place_of tables.places p).module (session_of j s) ≡ true → sets p ≡ solo_set j tables.places s p
   pub are_final : (p : ℕ) → p < length tables.places → sets p ≡ set_left j areas s p
   pub is_text : text ≡ file_bytes (session_marks j tables sets s)

@@ -2,6 +2,7 @@
 mod cases;
 mod gates;
 mod jobs;
+mod kept;
 mod modules;
 mod notation;
 mod noted;
