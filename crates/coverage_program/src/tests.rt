@@ -3,6 +3,8 @@ mod cases;
 mod gates;
 mod jobs;
 mod kept;
+mod marked;
+mod marks;
 mod modules;
 mod notation;
 mod noted;
