@@ -94,13 +94,15 @@ pub fn step<C: Cells, P: Space>(
         Err(e) => return Next::Ended(e),
     };
     let original = met.original();
-    let code = match fetch_rest(space, at, original) {
+    // Read where it was made: a copy would wait for the parts that were just written.
+    let fetched = fetch_rest(space, at, original);
+    let code = match &fetched {
         Ok(code) => code,
-        Err(e) => return Next::Ended(e),
+        Err(e) => return Next::Ended(*e),
     };
-    show(cells, pass, tables, met, cpu, &code);
+    show(cells, pass, tables, met, cpu, code);
     if is_execute(original) {
-        return step_subject(cells, pass, tables, cpu, space, io, &code);
+        return step_subject(cells, pass, tables, cpu, space, io, code);
     }
-    execute(cpu, space, io, &code, None)
+    execute(cpu, space, io, code, None)
 }

@@ -1,4 +1,5 @@
 use Rattle.std.proofs.Common.{◌≡◌, ℕ, true, false, [], ◌∷◌, ap, sym, ◌∙◌}
+use Rattle.std.proofs.lemmas.Result.{IfOk-at_ok, IfErr-at_err}
 use Rattle.s370_decode.specs.Fields.{first_half}
 use Rattle.s370_decode.specs.Table.{op_of}
 use Rattle.s370_branch.specs.Branch.{goes}
@@ -25,21 +26,21 @@ returns-in-Err-clause-next g c = λ d. ap (λ r. r.next) (refused g c d)
 pub returns-in-Err-clause-observes : goal.returns-in-Err-clause-observes
 returns-in-Err-clause-observes g c = λ d. rw (refused g c d, c.in-Err.ensures.kept) (Observes-none _ _)
 
-rest_refused : (g : given.Over) (c : goal.In-Err-fetch_rest g) (d : ℕ) →
+rest_refused : (g : given.Over) (c : goal.After-result-1 g) (d : ℕ) →
     let s = state_of c.args.cpu.now (g.P.Space.bytes c.args.space.now) c.args.io.now d in
-    solo_step (g.P.Space.memory c.args.space.now) s ≡ ended s c.in-Err-fetch_rest.e (visit s c.at-at.result false false false ∷ [])
+    solo_step (g.P.Space.memory c.args.space.now) s ≡ ended s c.in-Err-fetched.e (visit s c.at-at.result false false false ∷ [])
 rest_refused g c d =
-    solo_step-rest_refused _ (state_of c.args.cpu.now (g.P.Space.bytes c.args.space.now) c.args.io.now d) c.at-at.result c.original-original.result c.in-Err-fetch_rest.e c.at-at.ensures
-    c.in-Ok.ensures.passed (c.original-original.ensures ∙ c.in-Ok.ensures.half) c.in-Err-fetch_rest.ensures.refused
+    solo_step-rest_refused _ (state_of c.args.cpu.now (g.P.Space.bytes c.args.space.now) c.args.io.now d) c.at-at.result c.original-original.result c.in-Err-fetched.e c.at-at.ensures
+    c.in-Ok.ensures.passed (c.original-original.ensures ∙ c.in-Ok.ensures.half) (IfErr-at_err _ c.in-Err-fetched.is c.fetch_rest-fetched.ensures.refused)
 
-pub returns-in-Err-fetch_rest-clause-state : goal.returns-in-Err-fetch_rest-clause-state
-returns-in-Err-fetch_rest-clause-state g c = λ d. ap (λ r. r.state) (rest_refused g c d)
+pub returns-in-Err-fetched-clause-state : goal.returns-in-Err-fetched-clause-state
+returns-in-Err-fetched-clause-state g c = λ d. ap (λ r. r.state) (rest_refused g c d)
 
-pub returns-in-Err-fetch_rest-clause-next : goal.returns-in-Err-fetch_rest-clause-next
-returns-in-Err-fetch_rest-clause-next g c = λ d. ap (λ r. r.next) (rest_refused g c d)
+pub returns-in-Err-fetched-clause-next : goal.returns-in-Err-fetched-clause-next
+returns-in-Err-fetched-clause-next g c = λ d. ap (λ r. r.next) (rest_refused g c d)
 
-pub returns-in-Err-fetch_rest-clause-observes : goal.returns-in-Err-fetch_rest-clause-observes
-returns-in-Err-fetch_rest-clause-observes g c = λ d. rw (rest_refused g c d)
+pub returns-in-Err-fetched-clause-observes : goal.returns-in-Err-fetched-clause-observes
+returns-in-Err-fetched-clause-observes g c = λ d. rw (rest_refused g c d)
     (Observes-not_begun _ c.args.tables.now.places _ _ c.in-Ok.met (state_of c.args.cpu.now (g.P.Space.bytes c.args.space.now) c.args.io.now d) c.at-at.result false
     c.requires.over.same c.in-Ok.ensures.placed c.in-Ok.ensures.met)
 
@@ -47,11 +48,11 @@ returns-in-Err-fetch_rest-clause-observes g c = λ d. rw (rest_refused g c d)
 executes : (g : given.Over) (c : goal.After-step_subject g) (d : ℕ) →
     let s = state_of c.args.cpu.now (g.P.Space.bytes c.args.space.now) c.args.io.now d in
     solo_step (g.P.Space.memory c.args.space.now) s
-    ≡ behind (visit s c.at-at.result true (goes (op_of (first_half c.in-Ok-fetch_rest.code)) c.args.cpu.now c.in-Ok-fetch_rest.code) false)
-    (subject_step (g.P.Space.memory c.args.space.now) s c.in-Ok-fetch_rest.code)
+    ≡ behind (visit s c.at-at.result true (goes (op_of (first_half c.in-Ok-fetched.code)) c.args.cpu.now c.in-Ok-fetched.code) false)
+    (subject_step (g.P.Space.memory c.args.space.now) s c.in-Ok-fetched.code)
 executes g c d =
-    solo_step-execute _ (state_of c.args.cpu.now (g.P.Space.bytes c.args.space.now) c.args.io.now d) c.at-at.result c.original-original.result c.in-Ok-fetch_rest.code
-    c.at-at.ensures c.in-Ok.ensures.passed (c.original-original.ensures ∙ c.in-Ok.ensures.half) c.in-Ok-fetch_rest.ensures.passed c.in-Ok-fetch_rest.ensures.code
+    solo_step-execute _ (state_of c.args.cpu.now (g.P.Space.bytes c.args.space.now) c.args.io.now d) c.at-at.result c.original-original.result c.in-Ok-fetched.code
+    c.at-at.ensures c.in-Ok.ensures.passed (c.original-original.ensures ∙ c.in-Ok.ensures.half) (IfOk-at_ok _ c.in-Ok-fetched.is c.fetch_rest-fetched.ensures.passed) (IfOk-at_ok _ c.in-Ok-fetched.is c.fetch_rest-fetched.ensures.code)
     (sym c.is_execute.ensures ∙ c.if-is_execute.true)
 
 pub returns-then-is_execute-clause-state : goal.returns-then-is_execute-clause-state
@@ -63,24 +64,24 @@ returns-then-is_execute-clause-next g c = λ d. ap (λ r. r.next) (executes g c 
 pub returns-then-is_execute-clause-observes : goal.returns-then-is_execute-clause-observes
 returns-then-is_execute-clause-observes g c = λ d.
     let s = state_of c.args.cpu.now (g.P.Space.bytes c.args.space.now) c.args.io.now d in
-    let went = goes (op_of (first_half c.in-Ok-fetch_rest.code)) c.args.cpu.now c.in-Ok-fetch_rest.code in
+    let went = goes (op_of (first_half c.in-Ok-fetched.code)) c.args.cpu.now c.in-Ok-fetched.code in
     let own = Observes-begun _ c.args.tables.now.places _ _ _ c.in-Ok.met s c.at-at.result went false c.requires.over.same c.in-Ok.ensures.placed c.in-Ok.ensures.met c.show.ensures.shows in
     rw (executes g c d) (Observes-append _ _ _ _ (visit s c.at-at.result true went false ∷ []) _ own (c.step_subject.ensures.observes d))
 
 pub execute-requires : goal.execute-requires
 execute-requires g c = record {
-  subject = rw (c.in-Ok-fetch_rest.ensures.code, first_half-code_at _ _ c.at-at.result c.original-original.result) (sym c.is_execute.ensures ∙ c.if-is_execute.false);
+  subject = rw ((IfOk-at_ok _ c.in-Ok-fetched.is c.fetch_rest-fetched.ensures.code), first_half-code_at _ _ c.at-at.result c.original-original.result) (sym c.is_execute.ensures ∙ c.if-is_execute.false);
 }
 
 begun : (g : given.Over) (c : goal.After-execute g) (d : ℕ) →
     let s = state_of c.args.cpu.now (g.P.Space.bytes c.args.space.now) c.args.io.now d in
     solo_step (g.P.Space.memory c.args.space.now) s
     ≡ stepped s (effect_of c.execute.new.cpu (g.P.Space.bytes c.execute.new.space) c.execute.new.io c.execute.result)
-    (visit s c.at-at.result true (goes (op_of (first_half c.in-Ok-fetch_rest.code)) c.args.cpu.now c.in-Ok-fetch_rest.code) false ∷ [])
+    (visit s c.at-at.result true (goes (op_of (first_half c.in-Ok-fetched.code)) c.args.cpu.now c.in-Ok-fetched.code) false ∷ [])
 begun g c d =
-    solo_step-begun _ (state_of c.args.cpu.now (g.P.Space.bytes c.args.space.now) c.args.io.now d) c.at-at.result c.original-original.result c.in-Ok-fetch_rest.code
+    solo_step-begun _ (state_of c.args.cpu.now (g.P.Space.bytes c.args.space.now) c.args.io.now d) c.at-at.result c.original-original.result c.in-Ok-fetched.code
     (effect_of c.execute.new.cpu (g.P.Space.bytes c.execute.new.space) c.execute.new.io c.execute.result) c.at-at.ensures
-    c.in-Ok.ensures.passed (c.original-original.ensures ∙ c.in-Ok.ensures.half) c.in-Ok-fetch_rest.ensures.passed c.in-Ok-fetch_rest.ensures.code
+    c.in-Ok.ensures.passed (c.original-original.ensures ∙ c.in-Ok.ensures.half) (IfOk-at_ok _ c.in-Ok-fetched.is c.fetch_rest-fetched.ensures.passed) (IfOk-at_ok _ c.in-Ok-fetched.is c.fetch_rest-fetched.ensures.code)
     (sym c.is_execute.ensures ∙ c.if-is_execute.false) c.execute.ensures.effect
 
 pub returns-clause-state : goal.returns-clause-state
@@ -92,4 +93,4 @@ returns-clause-next g c = λ d. ap (λ r. r.next) (begun g c d)
 pub returns-clause-observes : goal.returns-clause-observes
 returns-clause-observes g c = λ d. rw (begun g c d)
     (Observes-begun _ c.args.tables.now.places _ _ _ c.in-Ok.met (state_of c.args.cpu.now (g.P.Space.bytes c.args.space.now) c.args.io.now d) c.at-at.result
-    (goes (op_of (first_half c.in-Ok-fetch_rest.code)) c.args.cpu.now c.in-Ok-fetch_rest.code) false c.requires.over.same c.in-Ok.ensures.placed c.in-Ok.ensures.met c.show.ensures.shows)
+    (goes (op_of (first_half c.in-Ok-fetched.code)) c.args.cpu.now c.in-Ok-fetched.code) false c.requires.over.same c.in-Ok.ensures.placed c.in-Ok.ensures.met c.show.ensures.shows)
