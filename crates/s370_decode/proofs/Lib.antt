@@ -1,1 +1,2 @@
+pub mod OpTable
 pub mod Words
