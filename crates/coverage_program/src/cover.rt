@@ -29,7 +29,7 @@ use marks_file::write;
 use module_area::Areas;
 use report_text::{report, table};
 use session_book::Job;
-use session_marks::marks_of;
+use session_marks::{NoSets, fill_marks, marks_of};
 use std::alloc::Global;
 use std::sync::Wait;
 use std::thread::Threads;
@@ -100,14 +100,19 @@ fn answer_session<T: Threads + Wait + Sync, K: Sink, A: Areas, G: Gate + Sync>(
     ensures { (c : SourceChange) → CameJob false c job.now →
         Answers (Command.Marks name.now) c (areas_change A.ledger A.finals A.made areas.old areas.new) (sink_change K.written K.faults sink.old sink.new) result.0 }
 {
+    // The memory of the marks is taken before a task runs.
+    let none = NoSets {
+        sessions: s.0,
+        places: tables.len(),
+    };
+    let Ok(mut marks) = marks_of(alloc, job, tables, &none, s) else {
+        return told(sink, NO_MEMORY, 7);
+    };
     let outcome = match run_job(rt, alloc, areas, gate, job, tables) {
         Ok(outcome) => outcome,
         Err(_) => return told(sink, NO_MEMORY, 7),
     };
-    let marks = match marks_of(alloc, job, tables, &outcome, s) {
-        Ok(marks) => marks,
-        Err(_) => return told(sink, NO_MEMORY, 7),
-    };
+    fill_marks(&mut marks, job, tables, &outcome, s);
     status_of(write(sink, &marks))
 }
 

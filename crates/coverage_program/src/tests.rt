@@ -2,6 +2,7 @@
 mod cases;
 mod gates;
 mod jobs;
+mod kept;
 mod marked;
 mod marks;
 mod modules;

@@ -8,6 +8,7 @@ pub mod Held
 pub mod Images
 pub mod Notes
 pub mod Parties
+pub mod PlaceCode
 pub mod PlainPass
 pub mod PlainWords
 pub mod PlanView

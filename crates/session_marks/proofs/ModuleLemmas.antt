@@ -109,7 +109,7 @@ pub record IsMarked (j : JobView) (tables : TablesView) (sets : ℕ → FactSet)
   pub exists : m < length j.images
   pub fields : HasGoodFields (marked_module j tables sets m)
 
-length-mapped : {X Y : Type 0} (f : X → Y) (xs : List X) → length (map f xs) ≡ length xs
+pub length-mapped : {X Y : Type 0} (f : X → Y) (xs : List X) → length (map f xs) ≡ length xs
 length-mapped f [] = refl
 length-mapped f (x ∷ xs) = ap suc (length-mapped f xs)
 

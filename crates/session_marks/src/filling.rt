@@ -7,6 +7,7 @@ ghost use Rattle.session_book.specs.Sets.{HasSetsOf};
 ghost use Rattle.session_marks.specs.Filled.{with_sets, filled_module, AreThere, filled};
 ghost use Rattle.session_marks.specs.Marked.{session_marks};
 
+use crate::marking::modules_of;
 use brk_table::Tables;
 use cov_base::{PlaceNo, SessNo};
 use marks_file::{MarkedModule, MarkedPlace, Marks};
@@ -47,6 +48,7 @@ fn fill_modules<R: FactSets>(
     requires some { 0 < s.0 }
     requires session { s.0 < R.sessions results.now + 1 }
     requires size { R.places results.now ≡ length tables.now.places }
+    requires most { length tables.now.places ≤ 65536 }
     requires there { AreThere tables.now marked.old modules.now }
     ensures { marked.new ≡ filled tables.now (R.set_of results.now s.0) marked.old modules.now }
 {
@@ -72,5 +74,6 @@ pub fn fill_marks<R: FactSets>(
     requires empty { marks.old ≡ session_marks job.now tables.now (λ n. no_facts) s.0 }
     ensures { marks.new ≡ session_marks job.now tables.now (R.set_of results.now s.0) s.0 }
 {
-    fill_modules(&mut marks.modules, tables, results, s, &job.session(s).modules);
+    let _ = tables.range(0);
+    fill_modules(&mut marks.modules, tables, results, s, modules_of(job, s));
 }

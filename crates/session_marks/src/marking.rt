@@ -146,7 +146,7 @@ fn marked_modules<R: FactSets>(
 }
 
 /// The modules of the session.
-fn modules_of(job: &Job, s: SessNo) -> &[u32]
+pub fn modules_of(job: &Job, s: SessNo) -> &[u32]
     requires from { 0 < s.0 }
     requires to { s.0 ≤ length job.now.sessions }
     ensures value { result.now ≡ (session_of job.now s.0).modules }
