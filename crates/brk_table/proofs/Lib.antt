@@ -1,6 +1,5 @@
 pub mod PlaceLemmas
 pub mod MapLemmas
-pub mod TouchLemmas
 pub mod RangeLemmas
 pub mod CoverLemmas
 pub mod FaultLemmas

@@ -10,7 +10,7 @@ use Rattle.std.proofs.lemmas.List.Folds.{list_any_at}
 use Rattle.std.proofs.lemmas.Slice.Eq.{bytes_eq-Decides}
 use Rattle.cov_base.specs.Codes.{breakpoint, length_of}
 use Rattle.cov_base.specs.Memory.{ImageView}
-use Rattle.s370_decode.specs.Fields.{part, first_half}
+use Rattle.s370_decode.specs.Fields.{first_half}
 use Rattle.s370_decode.specs.declared.code.Code.{Code}
 use Rattle.module_area.specs.PlanView.{no_place, place_of}
 use Rattle.module_area.specs.declared.places.Place.{Place}
@@ -18,7 +18,7 @@ use Rattle.listing_reader.specs.Listing.{is_sound}
 use Rattle.listing_reader.specs.declared.lines.Line.{Line}
 use Rattle.listing_reader.specs.declared.lines.Line.TheVariants.{Text}
 use Rattle.listing_reader.specs.declared.lines.Line.TheVariants as says
-use Rattle.brk_table.specs.Places.{TableView, module_half, IsPlace, AreApart}
+use Rattle.brk_table.specs.Places.{TableView, IsPlace, AreApart}
 use Rattle.brk_table.specs.Build.{shares, is_code, module_code, fault_at, first_fault, or_fault, place_from, IsEntry, IsTable, IsOwn, HasOwnPlaces}
 use Rattle.brk_table.specs.declared.faults.BuildFault.{BuildFault}
 use Rattle.brk_table.proofs.FaultLemmas.{IsFaultless, faultless, sound_length, lt_true}
@@ -96,13 +96,6 @@ own_half bytes loc code long e =
     let second : slice_index code.bytes 1 ≡ slice_index bytes (loc + 1) = ap (λ x. slice_index x 1) same ∙ rw one_in refl in
     ap (λ x. x * 256 + slice_index code.bytes 1) first ∙ ap (λ x. slice_index bytes loc * 256 + x) second
 
-own_later : (bytes : List ℕ) (loc : ℕ) (code : Code) → bytes_eq code.bytes (module_code bytes loc code.len).bytes ≡ true
-    → (part code 2 * 256 + part code 3 ≡ module_half bytes loc code.len 2) × (part code 4 * 256 + part code 5 ≡ module_half bytes loc code.len 4)
-unfolding module_code
-own_later bytes loc code e =
-    let same = (bytes_eq-Decides code.bytes (module_code bytes loc code.len).bytes).0 e in
-    (ap (λ x. slice_index x 2 * 256 + slice_index x 3) same, ap (λ x. slice_index x 4 * 256 + slice_index x 5) same)
-
 -- a place, as its line has it
 place_is : (m : ℕ) (image : ImageView) (loc : ℕ) (code : Code) (room before : ℕ) (shared : Bool) → image.base % 2 ≡ 0 → image.base + length image.bytes ≤ 16777216 → code.len ≡ length_of (first_half code) → IsFaultless image.bytes room shared before loc code
     → IsPlace (place_from m image.base loc code)
@@ -122,8 +115,6 @@ own_is m image loc code room before shared long fine =
       from = omega arith;
       to = omega (arith, fine.inside);
       original = rw at (own_half image.bytes loc code long fine.same);
-      second = rw at (own_later image.bytes loc code fine.same).0;
-      third = rw at (own_later image.bytes loc code fine.same).1;
     }
 
 apart_bytes : (m base a b : ℕ) (c d : Code) → shares a c (says.Code b d) ≡ false → AreApart (place_from m base a c) (place_from m base b d)

@@ -38,8 +38,6 @@ in_of images t is k d l =
       from = own.from;
       to = own.to;
       original = own.original;
-      second = own.second;
-      third = own.third;
     }
 
 pub all_in : (images : List ImageView) (tables : List TableView) → All (IsTableOf images) tables → All (IsIn images) (all_places tables)

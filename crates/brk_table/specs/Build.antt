@@ -6,12 +6,12 @@ use Rattle.cov_base.specs.Codes.{breakpoint, kind_of}
 use Rattle.cov_base.specs.Memory.{ImageView}
 use Rattle.module_area.specs.PlanView.{place_of}
 use Rattle.module_area.specs.declared.places.Place.{Place}
-use Rattle.s370_decode.specs.Fields.{part, first_half}
+use Rattle.s370_decode.specs.Fields.{first_half}
 use Rattle.s370_decode.specs.declared.code.Code.{Code}
 use Rattle.listing_reader.specs.declared.lines.Line.{Line}
 use Rattle.listing_reader.specs.declared.lines.Line.TheVariants.{Text}
 use Rattle.listing_reader.specs.declared.lines.Line.TheVariants as says
-use Rattle.brk_table.specs.Places.{TableView, module_byte, module_half, IsPlace, AreApart, HasRisingPlaces, HasItsPlaces}
+use Rattle.brk_table.specs.Places.{TableView, IsPlace, AreApart, HasRisingPlaces, HasItsPlaces}
 use Rattle.brk_table.specs.declared.faults.BuildFault.{BuildFault}
 use Rattle.brk_table.specs.declared.faults.BuildFault.TheVariants.{Odd, Outside, Overlap, TooMany, OwnSvc, Mismatch}
 
@@ -23,6 +23,9 @@ is_code (says.Code loc code) = true
 abbrev pub shares : ℕ → Code → Line → Bool
 shares loc code Text = false
 shares loc code (says.Code other d) = nat_lt loc (other + d.len) && nat_lt other (loc + code.len)
+
+abbrev pub module_byte : List ℕ → ℕ → ℕ → ℕ → ℕ
+module_byte bytes loc len i = if nat_lt i len then slice_index bytes (loc + i) else 0
 
 -- so many bytes of the module
 unfoldable pub module_code : List ℕ → ℕ → ℕ → Code
@@ -63,15 +66,7 @@ first_fault bytes room earlier (line ∷ lines) =
 
 -- the place of an instruction of module m at loc
 abbrev pub place_from : ℕ → ℕ → ℕ → Code → Place
-place_from m base loc code = record {
-  «module» = m;
-  at = base + loc;
-  len = code.len;
-  original = first_half code;
-  second = part code 2 * 256 + part code 3;
-  third = part code 4 * 256 + part code 5;
-  kind = kind_of (first_half code);
-}
+place_from m base loc code = record { «module» = m; at = base + loc; len = code.len; original = first_half code; kind = kind_of (first_half code) }
 
 -- what a table has for a line: nothing for text, else the index of its place
 abbrev pub IsEntry : ℕ → ℕ → List Place → Line → Option ℕ → Type 0
@@ -87,14 +82,12 @@ pub record IsTable (m base : ℕ) (lines : List Line) (t : TableView) : Type 0 w
   pub of_lines : (k : ℕ) → k < length t.places → Contains t.lines (Some k)
   pub rising : AllPairs (λ p q. p.at < q.at) t.places
 
--- a place of module m lies in it, and has its halfwords there
+-- a place of module m lies in it, and has its halfword there
 pub record IsOwn (m : ℕ) (image : ImageView) (p : Place) : Type 0 where
   pub of : p.«module» ≡ m
   pub from : image.base ≤ p.at
   pub to : p.at + p.len ≤ image.base + length image.bytes
   pub original : p.original ≡ slice_index image.bytes (p.at - image.base) * 256 + slice_index image.bytes (p.at - image.base + 1)
-  pub second : p.second ≡ module_half image.bytes (p.at - image.base) p.len 2
-  pub third : p.third ≡ module_half image.bytes (p.at - image.base) p.len 4
 
 -- what every table that was built has
 pub record HasOwnPlaces (m : ℕ) (image : ImageView) (t : TableView) : Type 0 where

@@ -1,8 +1,8 @@
 -- The places of all modules, and the memory that a task sees over them.
-use Rattle.std.specs.Prelude.{◌≡◌, ◌≢◌, ◌⊎◌, ℕ, ◌+◌, ◌-◌, ◌*◌, ◌%◌, ◌<◌, ◌≤◌, Bool, true, false, ◌&&◌, ◌||◌, ◌==◌, nat_le, nat_lt, nat_eq, if◌then◌else◌, Option, None, option_map, IfSome, List, [], ◌∷◌, ◌++◌, length, slice_index, get_or, All, AllPairs}
+use Rattle.std.specs.Prelude.{◌≡◌, ◌≢◌, ◌⊎◌, ℕ, ◌+◌, ◌-◌, ◌*◌, ◌%◌, ◌<◌, ◌≤◌, Bool, true, ◌&&◌, ◌||◌, ◌==◌, nat_le, nat_lt, nat_eq, if◌then◌else◌, Option, None, option_map, IfSome, List, [], ◌∷◌, ◌++◌, length, slice_index, get_or, All, AllPairs}
 use Rattle.std.specs.List.{list_any}
 use Rattle.cov_base.specs.Codes.{breakpoint, kind_of, length_of}
-use Rattle.cov_base.specs.Memory.{Memory, ImageView, wrap, can_reach, half_at}
+use Rattle.cov_base.specs.Memory.{Memory, ImageView, can_reach, half_at}
 use Rattle.module_area.specs.PlanView.{place_of}
 use Rattle.module_area.specs.declared.places.Place.{Place}
 
@@ -84,14 +84,7 @@ memory_of size images places = record {
   is_touch = λ a. touches places a;
 }
 
-abbrev pub module_byte : List ℕ → ℕ → ℕ → ℕ → ℕ
-module_byte bytes loc len i = if nat_lt i len then slice_index bytes (loc + i) else 0
-
--- the halfword from byte i on of so many bytes of the module, 0 past these
-abbrev pub module_half : List ℕ → ℕ → ℕ → ℕ → ℕ
-module_half bytes loc len i = module_byte bytes loc len i * 256 + module_byte bytes loc len (i + 1)
-
--- the place lies in its module, which has its halfwords there
+-- the place lies in its module, which has its first halfword there
 pub record IsIn (images : List ImageView) (p : Place) : Type 0 where
   pub image : ImageView
   pub exists : p.module < length images
@@ -99,21 +92,11 @@ pub record IsIn (images : List ImageView) (p : Place) : Type 0 where
   pub from : image.base ≤ p.at
   pub to : p.at + p.len ≤ image.base + length image.bytes
   pub original : p.original ≡ slice_index image.bytes (p.at - image.base) * 256 + slice_index image.bytes (p.at - image.base + 1)
-  pub second : p.second ≡ module_half image.bytes (p.at - image.base) p.len 2
-  pub third : p.third ≡ module_half image.bytes (p.at - image.base) p.len 4
 
--- the halfword from byte i of the place on, 0 past the place
-abbrev pub later_half : Memory → List ℕ → Place → ℕ → ℕ
-later_half m bytes p i = if nat_lt i p.len then half_at m bytes (wrap (p.at + i)) else 0
-
--- a place as a task sees it, whatever its private bytes are: no later halfword is another's first
+-- a place as a task sees it, whatever its private bytes are
 pub record IsSeen (m : Memory) (p : Place) : Type 0 where
   pub reached : can_reach m p.at 2 ≡ true
   pub original : (bytes : List ℕ) → half_at m bytes p.at ≡ p.original
-  pub later_reached : (i : ℕ) → 2 ≤ i → i + 2 ≤ p.len → can_reach m (wrap (p.at + i)) 2 ≡ true
-  pub later_untouched : (i : ℕ) → 2 ≤ i → i + 2 ≤ p.len → m.is_touch (wrap (p.at + i)) ≡ false
-  pub second : (bytes : List ℕ) → later_half m bytes p 2 ≡ p.second
-  pub third : (bytes : List ℕ) → later_half m bytes p 4 ≡ p.third
 
 abbrev pub AreSeen : Memory → List Place → Type 0
 AreSeen m places = (n : ℕ) → n < length places → IsSeen m (place_of places n)

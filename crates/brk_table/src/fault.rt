@@ -2,8 +2,7 @@
 ghost use Rattle.std.specs.Prelude.{◌≡◌, ℕ, ◌+◌, ◌<◌, ◌≤◌, None, IsNone, [], length, get_or, count_by};
 ghost use Rattle.std.specs.List.{AllPass};
 ghost use Rattle.listing_reader.specs.Listing.{is_sound};
-ghost use Rattle.brk_table.specs.Places.{module_byte};
-ghost use Rattle.brk_table.specs.Build.{module_code, fault_by, is_code, first_fault};
+ghost use Rattle.brk_table.specs.Build.{module_byte, module_code, fault_by, is_code, first_fault};
 ghost use Rattle.brk_table.specs.Cover.{is_covered, is_inside, IsCover};
 
 use crate::cover::{is_covered, mark};

@@ -25,8 +25,6 @@ fn place_from(module: u32, base: Addr, loc: u32, code: &Code) -> Place
         at: base.plus(loc),
         len: code.len,
         original,
-        second: u16::from(code.bytes[2]) * 256 + u16::from(code.bytes[3]),
-        third: u16::from(code.bytes[4]) * 256 + u16::from(code.bytes[5]),
         kind: kind(original),
     }
 }

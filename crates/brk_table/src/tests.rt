@@ -177,8 +177,6 @@ fn far_place(k: u32) -> Place
         at: Addr::of(0x100F00 + k / 200 * 0xE8000 + k % 200 * 6),
         len: length(original),
         original,
-        second: 0,
-        third: 0,
         kind: kind(original),
     }
 }

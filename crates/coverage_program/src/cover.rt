@@ -133,7 +133,17 @@ fn answer_marks<T: Threads + Wait + Sync, S: Source, K: Sink, A: Areas, G: Gate 
         Ok(read) => read,
         Err(refusal) => return told(sink, &refusal.line, refusal.status),
     };
-    answer_session(rt, alloc, name, &read.job, &read.tables, session, sink, areas, gate)
+    answer_session(
+        rt,
+        alloc,
+        name,
+        &read.job,
+        &read.tables,
+        session,
+        sink,
+        areas,
+        gate,
+    )
 }
 
 /// Reads a job and writes the places of its modules.
@@ -218,11 +228,8 @@ fn answer<T: Threads + Wait + Sync, S: Source, K: Sink, A: Areas, G: Gate + Sync
     match command {
         Command::Run => answer_run(rt, alloc, source, sink, areas, gate),
         Command::Marks(name) => answer_marks(rt, alloc, &name, source, sink, areas, gate),
-        Command::Table
-        | Command::Replay
-        | Command::Combine
-        | Command::Show(_)
-        | Command::Unknown => answer_one(alloc, command, source, sink),
+        Command::Table | Command::Replay | Command::Combine | Command::Show(_) | Command::Unknown =>
+            answer_one(alloc, command, source, sink),
     }
 }
 

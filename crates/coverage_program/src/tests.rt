@@ -2,7 +2,6 @@
 mod cases;
 mod gates;
 mod jobs;
-mod kept;
 mod marked;
 mod marks;
 mod modules;

@@ -8,7 +8,6 @@ pub mod Held
 pub mod Images
 pub mod Notes
 pub mod Parties
-pub mod PlaceCode
 pub mod PlainPass
 pub mod PlainWords
 pub mod PlanView

@@ -23,7 +23,7 @@ pub record PlanView : Type 0 where
   pub sessions : ℕ
 
 abbrev pub no_place : Place
-no_place = record { «module» = 0; at = 0; len = 0; original = 0; second = 0; third = 0; kind = Straight }
+no_place = record { «module» = 0; at = 0; len = 0; original = 0; kind = Straight }
 
 abbrev pub place_of : List Place → ℕ → Place
 place_of places p = get_or places p no_place

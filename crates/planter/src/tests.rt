@@ -70,8 +70,6 @@ fn counts_and_keeps_a_loop_of_three_turns(rt: HostRuntime) -> Result<(), Fail> {
         at: Addr::of(0x10_0000),
         len: 4,
         original: 0x4610,
-        second: 0xC000,
-        third: 0,
         kind: Kind::Conditional,
     };
     let back = Place {
@@ -79,8 +77,6 @@ fn counts_and_keeps_a_loop_of_three_turns(rt: HostRuntime) -> Result<(), Fail> {
         at: Addr::of(0x10_0004),
         len: 2,
         original: 0x07FE,
-        second: 0,
-        third: 0,
         kind: Kind::Straight,
     };
     let places = vec![in alloc; branch, back]?;

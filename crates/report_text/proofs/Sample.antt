@@ -16,8 +16,8 @@ use Rattle.std.specs.Fmt.{digits}
 abbrev heading : List ℕ
 heading = codes "  Loc  Object Code    Addr1 Addr2  Stmt   Source Statement"
 
-abbrev place : ℕ → ℕ → ℕ → ℕ → Place
-place at len original second = record { «module» = 0; at = at; len = len; original = original; second = second; third = 0; kind = Straight }
+abbrev place : ℕ → ℕ → ℕ → Place
+place at len original = record { «module» = 0; at = at; len = len; original = original; kind = Straight }
 
 abbrev job : JobView
 job = record {
@@ -30,8 +30,8 @@ job = record {
 
 abbrev tables : TablesView
 tables = record {
-  tables = record { «module» = 0; places = place 1048576 4 16656 5 ∷ place 1048580 2 6673 0 ∷ place 1048582 2 2046 0 ∷ []; lines = None ∷ Some 0 ∷ Some 1 ∷ Some 2 ∷ [] } ∷ [];
-  places = place 1048576 4 16656 5 ∷ place 1048580 2 6673 0 ∷ place 1048582 2 2046 0 ∷ [];
+  tables = record { «module» = 0; places = place 1048576 4 16656 ∷ place 1048580 2 6673 ∷ place 1048582 2 2046 ∷ []; lines = None ∷ Some 0 ∷ Some 1 ∷ Some 2 ∷ [] } ∷ [];
+  places = place 1048576 4 16656 ∷ place 1048580 2 6673 ∷ place 1048582 2 2046 ∷ [];
 }
 
 abbrev result : ℕ → ResultView
@@ -116,9 +116,9 @@ three = record job {
 
 abbrev tables_of_three : TablesView
 tables_of_three = record {
-  tables = record { «module» = 0; places = record (place 1048576 4 17936 49156) { kind = Conditional } ∷ place 1048580 2 2046 0 ∷ []; lines = None ∷ Some 0 ∷ Some 1 ∷ [] }
+  tables = record { «module» = 0; places = record (place 1048576 4 17936) { kind = Conditional } ∷ place 1048580 2 2046 ∷ []; lines = None ∷ Some 0 ∷ Some 1 ∷ [] }
       ∷ record { «module» = 2; places = []; lines = None ∷ [] } ∷ [];
-  places = record (place 1048576 4 17936 49156) { kind = Conditional } ∷ place 1048580 2 2046 0 ∷ [];
+  places = record (place 1048576 4 17936) { kind = Conditional } ∷ place 1048580 2 2046 ∷ [];
 }
 
 sample-table : table_lines three tables_of_three ≡ (

@@ -37,7 +37,7 @@ HaveSetsAt tables sets count modules file = (i m : ℕ) (d : MarkedView) → i <
 abbrev pub IsOutside : List TableView → ℕ → ℕ → Type 0
 IsOutside tables m n = (n < first_place tables m) ⊎ (first_place tables m + place_count tables m ≤ n)
 
--- at the places of no other modules than these does a set have a fact
+-- where none of these modules has a place the set is empty
 abbrev pub AreEmptyElsewhere : List TableView → (ℕ → FactSet) → List ℕ → Type 0
 AreEmptyElsewhere tables sets modules = (n : ℕ) → All (λ m. IsOutside tables m n) modules → sets n ≡ no_facts
 

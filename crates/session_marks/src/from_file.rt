@@ -139,7 +139,8 @@ fn session_sets(
 }
 
 /// The sets that the file has for session s of the job, whose tables these are. Other comes exactly where the file's
-/// table isn't the session's, NoMemory exactly where no memory was found. Time and memory are linear in the places.
+/// table isn't the session's, NoMemory only for want of memory. Time and memory are linear in the places of the tables;
+/// memory is taken once a module, and once for the sets.
 pub fn file_sets(
     alloc: Global,
     job: &Job,

@@ -157,8 +157,6 @@ fn branch_and_return(alloc: Global) -> Result<Plan, Fail>
         at: Addr::of(0x10_0000),
         len: 4,
         original: 0x4610,
-        second: 0xC000,
-        third: 0,
         kind: Kind::Conditional,
     };
     let back = Place {
@@ -166,8 +164,6 @@ fn branch_and_return(alloc: Global) -> Result<Plan, Fail>
         at: Addr::of(0x10_0004),
         len: 2,
         original: 0x07FE,
-        second: 0,
-        third: 0,
         kind: Kind::Straight,
     };
     let places = vec![in alloc; branch, back]?;

@@ -1,17 +1,15 @@
--- Each place is reached, and shows its halfwords.
-use Rattle.std.proofs.Common.{◌≡◌, ℕ, ◌+◌, ◌-◌, ◌*◌, ◌<◌, ◌≤◌, zero, suc, Bool, true, false, ◌||◌, nat_lt, if◌then◌else◌, List, [], ◌∷◌, length, get_or, slice_index, refl, sym, ap, ◌%◌, ◌∙◌, arith, inl, inr}
+-- Each place is reached, and shows its original.
+use Rattle.std.proofs.Common.{◌≡◌, ℕ, ◌+◌, ◌-◌, ◌*◌, ◌<◌, ◌≤◌, zero, suc, Bool, true, false, ◌||◌, nat_lt, if◌then◌else◌, List, [], ◌∷◌, length, get_or, slice_index, refl, sym, ◌∙◌, arith, inl, inr}
 use Rattle.std.specs.List.{All, AllPairs, Contains, list_any}
-use Rattle.std.proofs.lemmas.Bool.{cases_lt}
 use Rattle.std.proofs.lemmas.Bool.Decides.{nat_tests}
+use Rattle.std.proofs.lemmas.List.Elements.{All-get_or}
 use Rattle.std.proofs.lemmas.List.{get_or_read}
 use Rattle.cov_base.specs.Codes.{length_of}
-use Rattle.cov_base.specs.Memory.{Memory, ImageView, wrap, byte_at}
+use Rattle.cov_base.specs.Memory.{ImageView, wrap, byte_at}
 use Rattle.module_area.specs.declared.places.Place.{Place}
-use Rattle.module_area.specs.PlanView.{no_place, place_of}
+use Rattle.module_area.specs.PlanView.{no_place}
 use Rattle.module_area.specs.Images.{AreImages, AreClear}
-use Rattle.brk_table.specs.Places.{IsPlace, ArePlaces, IsIn, AreSeen, touches, in_image, image_byte, memory_of, module_half, later_half}
-use Rattle.brk_table.proofs.PlaceLemmas.{length_of-least}
-use Rattle.brk_table.proofs.TouchLemmas.{not_touched}
+use Rattle.brk_table.specs.Places.{IsPlace, ArePlaces, IsIn, IsSeen, AreSeen, in_image, image_byte, memory_of}
 use Rattle.space_map.proofs.Ranges.{reach_image}
 use Rattle.space_map.proofs.Touches.{base_from}
 
@@ -50,6 +48,15 @@ image_byte-there (i ∷ is) d zero a l f h = rw h refl
 image_byte-there (i ∷ is) d (suc n) a l f h =
     rw (clear i (get_or is n d) a (f 0 (suc n) d (omega arith) (omega arith)) h) (image_byte-there is d n a (omega arith) (λ x y e p q. f (suc x) (suc y) e (omega arith) (omega arith)) h)
 
+pick : (b c : Bool) → 2 ≤ (if b then 2 else (if c then 4 else 6))
+pick true c = omega arith
+pick false true = omega arith
+pick false false = omega arith
+
+two_or_more : (h : ℕ) → 2 ≤ length_of h
+unfolding length_of
+two_or_more h = pick (nat_lt h 16384) (nat_lt h 49152)
+
 pub byte_at-image : (size : ℕ) (images : List ImageView) (places : List Place) (bytes : List ℕ) (a : ℕ) → size ≤ a → byte_at (memory_of size images places) bytes a ≡ image_byte images a
 unfolding byte_at memory_of
 byte_at-image size images places bytes a h = rw (let e : nat_lt a size ≡ false = grind (arith, nat_tests) in e) refl
@@ -62,64 +69,18 @@ pub is_image-of : (size : ℕ) (images : List ImageView) (places : List Place) (
 unfolding memory_of
 is_image-of size images places p q a from to = list_any-there images q.image p.module a q.exists (rw q.is (in_image-inside q.image a from to))
 
-even_length : (h : ℕ) → length_of h % 2 ≡ 0
-unfolding length_of
-even_length h = even (nat_lt h 16384) (nat_lt h 49152)
-  where
-    even : (b c : Bool) → (if b then 2 else (if c then 4 else 6)) % 2 ≡ 0
-    even true c = refl
-    even false true = refl
-    even false false = refl
-
-is_below : (a b : ℕ) → a < b → nat_lt a b ≡ true
-is_below a b h = grind (arith, nat_tests)
-
-not_below : (a b : ℕ) → b ≤ a → nat_lt a b ≡ false
-not_below a b h = grind (arith, nat_tests)
-
--- a byte of a place is that of its module
-byte_there : (size : ℕ) (images : List ImageView) (places : List Place) (p : Place) (q : IsIn images p) (bytes : List ℕ) (i : ℕ) → size ≤ 1048576 → AreImages images → i < p.len
-    → byte_at (memory_of size images places) bytes (p.at + i) ≡ slice_index q.image.bytes (p.at - q.image.base + i)
-byte_there size images places p q bytes i h f l =
-    let start : 1048576 ≤ p.at = base_from images p f q in
-    let at : p.at + i - q.image.base ≡ p.at - q.image.base + i = omega (arith, q.from) in
-    byte_at-image size images places bytes (p.at + i) (omega (arith, start)) ∙ (image_byte-of images p q (p.at + i) f (omega (arith, q.from)) (omega (arith, q.to)) ∙ ap (slice_index q.image.bytes) at)
-
-later_there : (size : ℕ) (images : List ImageView) (places : List Place) (p : Place) (q : IsIn images p) (bytes : List ℕ) (i : ℕ) → size ≤ 1048576 → AreImages images → IsPlace p → i % 2 ≡ 0
-    → later_half (memory_of size images places) bytes p i ≡ module_half q.image.bytes (p.at - q.image.base) p.len i
-later_there size images places p q bytes i h f g even = elim (cases_lt i p.len) [
-  | inl l ↦ (
-      let next : i + 1 < p.len = omega (arith, even, g.size, even_length p.original) in
-      let here : wrap (p.at + i) ≡ p.at + i = omega (arith, g.below) in
-      let there : wrap (p.at + i + 1) ≡ p.at + (i + 1) = omega (arith, g.below) in
-      rw (is_below i p.len l, is_below (i + 1) p.len next, here, there, byte_there size images places p q bytes i h f l, byte_there size images places p q bytes (i + 1) h f next) refl)
-  | inr m ↦ rw (not_below i p.len m, not_below (i + 1) p.len (omega arith)) refl
-]
-
-untouched : (size : ℕ) (images : List ImageView) (places : List Place) (x : ℕ) → touches places x ≡ false → (memory_of size images places).is_touch x ≡ false
-unfolding memory_of
-untouched size images places x h = h
-
-pub are_seen : (size : ℕ) (images : List ImageView) (places : List Place) → size ≤ 1048576 → AreImages images → ArePlaces places → All (IsIn images) places → AreSeen (memory_of size images places) places
-are_seen size images places h f are inside n l =
-    let p : Place = place_of places n in
-    let g : IsPlace p = are.each n no_place l in
-    let q : IsIn images p = inside n no_place l in
-    let m : Memory = memory_of size images places in
-    let two : 2 ≤ p.len = omega (arith, g.size, length_of-least p.original) in
+is_seen : (size : ℕ) (images : List ImageView) (places : List Place) (p : Place) → size ≤ 1048576 → AreImages images → IsPlace p → IsIn images p → IsSeen (memory_of size images places) p
+is_seen size images places p h f g q =
+    let two : 2 ≤ p.len = omega (arith, two_or_more p.original) in
     let start : 1048576 ≤ p.at = base_from images p f q in
     record {
-      reached = reach_image m p.at 2 (λ b from to. is_image-of size images places p q b (omega (arith, q.from)) (omega (arith, q.to))) (omega (arith, g.below));
-      original = λ bytes. rw (let e : wrap (p.at + 1) ≡ p.at + 1 = omega (arith, g.below) in e, byte_at-image size images places bytes p.at (omega (arith, start)), byte_there size images places p q bytes 1 h f (omega (arith, two)), image_byte-of images p q p.at f (omega (arith, q.from)) (omega (arith, q.to))) (sym q.original);
-      later_reached = λ i from to.
-          (let here : wrap (p.at + i) ≡ p.at + i = omega (arith, g.below) in
-          rw here (reach_image m (p.at + i) 2 (λ b low high. is_image-of size images places p q b (omega (arith, q.from)) (omega (arith, q.to))) (omega (arith, g.below))));
-      later_untouched = λ i from to.
-          (let here : wrap (p.at + i) ≡ p.at + i = omega (arith, g.below) in
-          rw here (untouched size images places (p.at + i) (not_touched places n (p.at + i) are l (omega arith) (omega arith))));
-      second = λ bytes. later_there size images places p q bytes 2 h f g refl ∙ sym q.second;
-      third = λ bytes. later_there size images places p q bytes 4 h f g refl ∙ sym q.third;
+      reached = reach_image (memory_of size images places) p.at 2 (λ b from to. is_image-of size images places p q b (omega arith) (omega arith)) (omega arith);
+      original = λ bytes. rw (let e : wrap (p.at + 1) ≡ p.at + 1 = omega arith in e, byte_at-image size images places bytes p.at (omega arith), byte_at-image size images places bytes (p.at + 1) (omega arith), image_byte-of images p q p.at f (omega arith) (omega arith), image_byte-of images p q (p.at + 1) f (omega arith) (omega arith)) (let e : p.at + 1 - q.image.base ≡ p.at - q.image.base + 1 = omega arith in rw e (sym q.original));
     }
+
+pub are_seen : (size : ℕ) (images : List ImageView) (places : List Place) → size ≤ 1048576 → AreImages images → ArePlaces places → All (IsIn images) places → AreSeen (memory_of size images places) places
+are_seen size images places h f g q n l =
+    is_seen size images places (get_or places n no_place) h f (All-get_or IsPlace places n no_place l g.each) (All-get_or (IsIn images) places n no_place l q)
 
 pub image_byte-contained : (images : List ImageView) (i : ImageView) (a : ℕ) → AreImages images → Contains images i → in_image i a ≡ true → image_byte images a ≡ slice_index i.bytes (a - i.base)
 image_byte-contained images i a f (k, l, e) h =

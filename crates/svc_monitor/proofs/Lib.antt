@@ -1,4 +1,3 @@
-pub mod KeptCode
 pub mod NotesLemmas
 pub mod ObservedLemmas
 pub mod PlaceLemmas

@@ -1,27 +1,23 @@
 //! One instruction over the cells.
-ghost use Rattle.std.specs.Prelude.{◌≡◌, ℕ, ◌+◌, ◌%◌, ◌<◌, ◌^◌, length, IfOk, IfErr, Some, None};
-ghost use Rattle.cov_base.specs.Codes.{length_of};
-ghost use Rattle.cov_base.specs.Memory.{half_at};
+ghost use Rattle.std.specs.Prelude.{◌≡◌, ℕ, ◌+◌, ◌%◌, ◌<◌, ◌^◌, length};
 ghost use Rattle.module_area.specs.Notes.{calls};
 ghost use Rattle.s370_decode.specs.Fields.{first_half};
 ghost use Rattle.s370_decode.specs.Table.{op_of};
 ghost use Rattle.s370_branch.specs.Branch.{goes};
-ghost use Rattle.brk_table.specs.Places.{AreSeen};
-ghost use Rattle.s370_exec.specs.Fetch.{is_execute, rest_tests, code_at};
+ghost use Rattle.s370_exec.specs.Fetch.{is_execute};
 ghost use Rattle.s370_exec.specs.Solo.{state_of, solo_step, subject_step};
-ghost use Rattle.svc_monitor.specs.First.{IsOver, IsPending, IsPlaced, half_of};
+ghost use Rattle.svc_monitor.specs.First.{IsOver, IsPending};
 ghost use Rattle.svc_monitor.specs.Settled.{Shows};
 ghost use Rattle.svc_monitor.specs.Observed.{Observes};
 
 use crate::first::{Met, first_half};
 use crate::trap::settle;
 use brk_table::Tables;
-use cov_base::Addr;
 use module_area::Cells;
 use s370_branch::outcome;
 use s370_decode::Code;
 use s370_exec::{execute, fetch_rest, fetch_subject, is_execute, subject_address};
-use s370_state::{Cpu, Ending, Next, Space, TaskIo};
+use s370_state::{Cpu, Next, Space, TaskIo};
 
 /// Settles a trap whose instruction was begun, by what it does as it is executed.
 fn show<C: Cells>(cells: &C, pass: &mut C::Pass, tables: &Tables, met: Met, cpu: &Cpu, code: &Code)
@@ -36,23 +32,6 @@ fn show<C: Cells>(cells: &C, pass: &mut C::Pass, tables: &Tables, met: Met, cpu:
         let kind = tables.place(place).kind;
         let fact = kind.fact(outcome(cpu, code));
         settle(cells, pass, tables, place, cell, fact);
-    }
-}
-
-/// The whole instruction whose first halfword was met: as its table has it where a place begins there, else as it is
-/// fetched. Code 5 or Touched exactly by the first later halfword that is refused, of which a place has none.
-fn whole_code<P: Space>(tables: &Tables, space: &P, at: Addr, met: Met) -> Result<Code, Ending>
-    requires seen { AreSeen (P.memory space.now) tables.now.places }
-    requires placed { IsPlaced tables.now.places at met }
-    requires half { half_of met ≡ half_at (P.memory space.now) (P.bytes space.now) at }
-    ensures refused { IfErr result (λ e. rest_tests (P.memory space.now) at (length_of (half_of met)) ≡ Some e) }
-    ensures passed { IfOk result (λ _. rest_tests (P.memory space.now) at (length_of (half_of met)) ≡ None) }
-    ensures code { IfOk result (λ c. c ≡ code_at (P.memory space.now) (P.bytes space.now) at (half_of met)) }
-{
-    match met {
-        Met::Plain(half) => fetch_rest(space, at, half),
-        Met::Free(place, _) => Ok(tables.place(place).code()),
-        Met::Trap(place, _, _) => Ok(tables.place(place).code()),
     }
 }
 
@@ -114,12 +93,13 @@ pub fn step<C: Cells, P: Space>(
         Ok(met) => met,
         Err(e) => return Next::Ended(e),
     };
-    let code = match whole_code(tables, space, at, met) {
+    let original = met.original();
+    let code = match fetch_rest(space, at, original) {
         Ok(code) => code,
         Err(e) => return Next::Ended(e),
     };
     show(cells, pass, tables, met, cpu, &code);
-    if is_execute(met.original()) {
+    if is_execute(original) {
         return step_subject(cells, pass, tables, cpu, space, io, &code);
     }
     execute(cpu, space, io, &code, None)

@@ -3,11 +3,9 @@ use Rattle.s370_decode.specs.Fields.{first_half}
 use Rattle.s370_decode.specs.Table.{op_of}
 use Rattle.s370_branch.specs.Branch.{goes}
 use Rattle.s370_exec.specs.Effects.{effect_of}
-use Rattle.s370_exec.specs.Fetch.{is_execute}
 use Rattle.s370_exec.specs.Solo.{state_of, solo_step, subject_step, ended, stepped, behind, visit}
 use Rattle.s370_exec.proofs.Subjects.{first_half-code_at}
 use Rattle.s370_exec.proofs.StepLemmas.{solo_step-refused, solo_step-rest_refused, solo_step-begun, solo_step-execute}
-use Rattle.svc_monitor.specs.First.{half_of}
 use Rattle.svc_monitor.proofs.StepLemmas.{Observes-not_begun, Observes-begun}
 use Rattle.svc_monitor.proofs.ObservedLemmas.{Observes-none, Observes-append}
 use Rattle.svc_monitor.proofs.instruction.step.Given as given
@@ -27,21 +25,21 @@ returns-in-Err-clause-next g c = λ d. ap (λ r. r.next) (refused g c d)
 pub returns-in-Err-clause-observes : goal.returns-in-Err-clause-observes
 returns-in-Err-clause-observes g c = λ d. rw (refused g c d, c.in-Err.ensures.kept) (Observes-none _ _)
 
-rest_refused : (g : given.Over) (c : goal.In-Err-whole_code g) (d : ℕ) →
+rest_refused : (g : given.Over) (c : goal.In-Err-fetch_rest g) (d : ℕ) →
     let s = state_of c.args.cpu.now (g.P.Space.bytes c.args.space.now) c.args.io.now d in
-    solo_step (g.P.Space.memory c.args.space.now) s ≡ ended s c.in-Err-whole_code.e (visit s c.at-at.result false false false ∷ [])
+    solo_step (g.P.Space.memory c.args.space.now) s ≡ ended s c.in-Err-fetch_rest.e (visit s c.at-at.result false false false ∷ [])
 rest_refused g c d =
-    solo_step-rest_refused _ (state_of c.args.cpu.now (g.P.Space.bytes c.args.space.now) c.args.io.now d) c.at-at.result (half_of c.in-Ok.met) c.in-Err-whole_code.e c.at-at.ensures
-    c.in-Ok.ensures.passed c.in-Ok.ensures.half c.in-Err-whole_code.ensures.refused
+    solo_step-rest_refused _ (state_of c.args.cpu.now (g.P.Space.bytes c.args.space.now) c.args.io.now d) c.at-at.result c.original-original.result c.in-Err-fetch_rest.e c.at-at.ensures
+    c.in-Ok.ensures.passed (c.original-original.ensures ∙ c.in-Ok.ensures.half) c.in-Err-fetch_rest.ensures.refused
 
-pub returns-in-Err-whole_code-clause-state : goal.returns-in-Err-whole_code-clause-state
-returns-in-Err-whole_code-clause-state g c = λ d. ap (λ r. r.state) (rest_refused g c d)
+pub returns-in-Err-fetch_rest-clause-state : goal.returns-in-Err-fetch_rest-clause-state
+returns-in-Err-fetch_rest-clause-state g c = λ d. ap (λ r. r.state) (rest_refused g c d)
 
-pub returns-in-Err-whole_code-clause-next : goal.returns-in-Err-whole_code-clause-next
-returns-in-Err-whole_code-clause-next g c = λ d. ap (λ r. r.next) (rest_refused g c d)
+pub returns-in-Err-fetch_rest-clause-next : goal.returns-in-Err-fetch_rest-clause-next
+returns-in-Err-fetch_rest-clause-next g c = λ d. ap (λ r. r.next) (rest_refused g c d)
 
-pub returns-in-Err-whole_code-clause-observes : goal.returns-in-Err-whole_code-clause-observes
-returns-in-Err-whole_code-clause-observes g c = λ d. rw (rest_refused g c d)
+pub returns-in-Err-fetch_rest-clause-observes : goal.returns-in-Err-fetch_rest-clause-observes
+returns-in-Err-fetch_rest-clause-observes g c = λ d. rw (rest_refused g c d)
     (Observes-not_begun _ c.args.tables.now.places _ _ c.in-Ok.met (state_of c.args.cpu.now (g.P.Space.bytes c.args.space.now) c.args.io.now d) c.at-at.result false
     c.requires.over.same c.in-Ok.ensures.placed c.in-Ok.ensures.met)
 
@@ -49,12 +47,12 @@ returns-in-Err-whole_code-clause-observes g c = λ d. rw (rest_refused g c d)
 executes : (g : given.Over) (c : goal.After-step_subject g) (d : ℕ) →
     let s = state_of c.args.cpu.now (g.P.Space.bytes c.args.space.now) c.args.io.now d in
     solo_step (g.P.Space.memory c.args.space.now) s
-    ≡ behind (visit s c.at-at.result true (goes (op_of (first_half c.in-Ok-whole_code.code)) c.args.cpu.now c.in-Ok-whole_code.code) false)
-    (subject_step (g.P.Space.memory c.args.space.now) s c.in-Ok-whole_code.code)
+    ≡ behind (visit s c.at-at.result true (goes (op_of (first_half c.in-Ok-fetch_rest.code)) c.args.cpu.now c.in-Ok-fetch_rest.code) false)
+    (subject_step (g.P.Space.memory c.args.space.now) s c.in-Ok-fetch_rest.code)
 executes g c d =
-    solo_step-execute _ (state_of c.args.cpu.now (g.P.Space.bytes c.args.space.now) c.args.io.now d) c.at-at.result (half_of c.in-Ok.met) c.in-Ok-whole_code.code
-    c.at-at.ensures c.in-Ok.ensures.passed c.in-Ok.ensures.half c.in-Ok-whole_code.ensures.passed c.in-Ok-whole_code.ensures.code
-    (ap is_execute (sym c.original.ensures) ∙ (sym c.is_execute.ensures ∙ c.if-is_execute.true))
+    solo_step-execute _ (state_of c.args.cpu.now (g.P.Space.bytes c.args.space.now) c.args.io.now d) c.at-at.result c.original-original.result c.in-Ok-fetch_rest.code
+    c.at-at.ensures c.in-Ok.ensures.passed (c.original-original.ensures ∙ c.in-Ok.ensures.half) c.in-Ok-fetch_rest.ensures.passed c.in-Ok-fetch_rest.ensures.code
+    (sym c.is_execute.ensures ∙ c.if-is_execute.true)
 
 pub returns-then-is_execute-clause-state : goal.returns-then-is_execute-clause-state
 returns-then-is_execute-clause-state g c = λ d. ap (λ r. r.state) (executes g c d) ∙ c.step_subject.ensures.state d
@@ -65,25 +63,25 @@ returns-then-is_execute-clause-next g c = λ d. ap (λ r. r.next) (executes g c 
 pub returns-then-is_execute-clause-observes : goal.returns-then-is_execute-clause-observes
 returns-then-is_execute-clause-observes g c = λ d.
     let s = state_of c.args.cpu.now (g.P.Space.bytes c.args.space.now) c.args.io.now d in
-    let went = goes (op_of (first_half c.in-Ok-whole_code.code)) c.args.cpu.now c.in-Ok-whole_code.code in
+    let went = goes (op_of (first_half c.in-Ok-fetch_rest.code)) c.args.cpu.now c.in-Ok-fetch_rest.code in
     let own = Observes-begun _ c.args.tables.now.places _ _ _ c.in-Ok.met s c.at-at.result went false c.requires.over.same c.in-Ok.ensures.placed c.in-Ok.ensures.met c.show.ensures.shows in
     rw (executes g c d) (Observes-append _ _ _ _ (visit s c.at-at.result true went false ∷ []) _ own (c.step_subject.ensures.observes d))
 
 pub execute-requires : goal.execute-requires
 execute-requires g c = record {
-  subject = rw (c.in-Ok-whole_code.ensures.code, first_half-code_at _ _ c.at-at.result (half_of c.in-Ok.met)) (ap is_execute (sym c.original.ensures) ∙ (sym c.is_execute.ensures ∙ c.if-is_execute.false));
+  subject = rw (c.in-Ok-fetch_rest.ensures.code, first_half-code_at _ _ c.at-at.result c.original-original.result) (sym c.is_execute.ensures ∙ c.if-is_execute.false);
 }
 
 begun : (g : given.Over) (c : goal.After-execute g) (d : ℕ) →
     let s = state_of c.args.cpu.now (g.P.Space.bytes c.args.space.now) c.args.io.now d in
     solo_step (g.P.Space.memory c.args.space.now) s
     ≡ stepped s (effect_of c.execute.new.cpu (g.P.Space.bytes c.execute.new.space) c.execute.new.io c.execute.result)
-    (visit s c.at-at.result true (goes (op_of (first_half c.in-Ok-whole_code.code)) c.args.cpu.now c.in-Ok-whole_code.code) false ∷ [])
+    (visit s c.at-at.result true (goes (op_of (first_half c.in-Ok-fetch_rest.code)) c.args.cpu.now c.in-Ok-fetch_rest.code) false ∷ [])
 begun g c d =
-    solo_step-begun _ (state_of c.args.cpu.now (g.P.Space.bytes c.args.space.now) c.args.io.now d) c.at-at.result (half_of c.in-Ok.met) c.in-Ok-whole_code.code
+    solo_step-begun _ (state_of c.args.cpu.now (g.P.Space.bytes c.args.space.now) c.args.io.now d) c.at-at.result c.original-original.result c.in-Ok-fetch_rest.code
     (effect_of c.execute.new.cpu (g.P.Space.bytes c.execute.new.space) c.execute.new.io c.execute.result) c.at-at.ensures
-    c.in-Ok.ensures.passed c.in-Ok.ensures.half c.in-Ok-whole_code.ensures.passed c.in-Ok-whole_code.ensures.code
-    (ap is_execute (sym c.original.ensures) ∙ (sym c.is_execute.ensures ∙ c.if-is_execute.false)) c.execute.ensures.effect
+    c.in-Ok.ensures.passed (c.original-original.ensures ∙ c.in-Ok.ensures.half) c.in-Ok-fetch_rest.ensures.passed c.in-Ok-fetch_rest.ensures.code
+    (sym c.is_execute.ensures ∙ c.if-is_execute.false) c.execute.ensures.effect
 
 pub returns-clause-state : goal.returns-clause-state
 returns-clause-state g c = λ d. ap (λ r. r.state) (begun g c d)
@@ -94,4 +92,4 @@ returns-clause-next g c = λ d. ap (λ r. r.next) (begun g c d)
 pub returns-clause-observes : goal.returns-clause-observes
 returns-clause-observes g c = λ d. rw (begun g c d)
     (Observes-begun _ c.args.tables.now.places _ _ _ c.in-Ok.met (state_of c.args.cpu.now (g.P.Space.bytes c.args.space.now) c.args.io.now d) c.at-at.result
-    (goes (op_of (first_half c.in-Ok-whole_code.code)) c.args.cpu.now c.in-Ok-whole_code.code) false c.requires.over.same c.in-Ok.ensures.placed c.in-Ok.ensures.met c.show.ensures.shows)
+    (goes (op_of (first_half c.in-Ok-fetch_rest.code)) c.args.cpu.now c.in-Ok-fetch_rest.code) false c.requires.over.same c.in-Ok.ensures.placed c.in-Ok.ensures.met c.show.ensures.shows)
