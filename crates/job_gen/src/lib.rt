@@ -7,7 +7,6 @@ mod jobs;
 mod listing;
 mod tasks;
 
-
 pub use jobs::trial;
 
 #[cfg(test)]
