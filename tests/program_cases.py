@@ -164,7 +164,9 @@ def marks_files() -> list[Case]:
         Case("combine of a file that is cut", ["combine"], file[:-1], offset % 47, 10),
         Case("combine of a second file that is cut", ["combine"], file + file[:-1], offset % 95, 10),
         Case("combine of another table", ["combine"], file + other + file[:-1], row, 11),
-        Case("INPUT, of combine", ["combine"], file * 349_526, b"TOO LARGE INPUT\n", 4),
+        Case("the most bytes of combine", ["combine"], b"\n" * 16_777_216, offset % 0, 10),
+        Case("INPUT, of combine", ["combine"], b"\n" * 16_777_217, b"TOO LARGE INPUT\n", 4),
+        Case("INPUT, of marks", ["marks", "X"], ends + bytes(16_777_216), b"TOO LARGE INPUT\n", 4),
         Case("INPUT, of show", ["show", "S"], ends + bytes(16_777_216), b"TOO LARGE INPUT\n", 4),
     ]
 

@@ -84,13 +84,11 @@ impl<W: Write> StdSink<W> {
         ensures no_fault { OnOk result (write_faults self.new ≡ write_faults self.old) }
         ensures one { OnErr result (write_faults self.new ≡ raised (write_faults self.old)) }
     {
-        match self.inner.flush() {
-            Ok(()) => Ok(()),
-            Err(_) => {
-                self.faults = self.faults.saturating_add(1);
-                Err(Failed)
-            }
+        if self.inner.flush().is_err() {
+            self.faults = self.faults.saturating_add(1);
+            return Err(Failed);
         }
+        Ok(())
     }
 }
 

@@ -108,9 +108,8 @@ fn answer_session<T: Threads + Wait + Sync, K: Sink, A: Areas, G: Gate + Sync>(
     let Ok(mut marks) = marks_of(alloc, job, tables, &none, s) else {
         return told(sink, NO_MEMORY, 7);
     };
-    let outcome = match run_job(rt, alloc, areas, gate, job, tables) {
-        Ok(outcome) => outcome,
-        Err(_) => return told(sink, NO_MEMORY, 7),
+    let Ok(outcome) = run_job(rt, alloc, areas, gate, job, tables) else {
+        return told(sink, NO_MEMORY, 7);
     };
     fill_marks(&mut marks, job, tables, &outcome, s);
     status_of(write(sink, &marks))

@@ -134,6 +134,11 @@ const O_N_M: Part = Bytes(
     "53333730434F5631 0003 4F20202020202020 00100010 00000006 00000002 00000000 04 00 4110 01 00000004 02 00 07FE 00 4E20202020202020 00100008 00000002 00000000 4D20202020202020 00100000 00000006 00000002 00000000 04 01 4610 06 00000004 02 00 07FE 01",
 );
 
+/// The count of M is in register 2.
+const O_N_OTHER: Part = Bytes(
+    "53333730434F5631 0003 4F20202020202020 00100010 00000006 00000002 00000000 04 00 4110 01 00000004 02 00 07FE 00 4E20202020202020 00100008 00000002 00000000 4D20202020202020 00100000 00000006 00000002 00000000 04 01 4620 06 00000004 02 00 07FE 01",
+);
+
 /// The same modules and sets in the order of the job.
 const M_N_O: Part = Bytes(
     "53333730434F5631 0003 4D20202020202020 00100000 00000006 00000002 00000000 04 01 4610 06 00000004 02 00 07FE 01 4E20202020202020 00100008 00000002 00000000 4F20202020202020 00100010 00000006 00000002 00000000 04 00 4110 01 00000004 02 00 07FE 00",
@@ -171,6 +176,8 @@ const SHOWN_WENT: [Part; 4] = [
 const SHOWN_BOTH: [Part; 3] = [SHOW, Marked(COUNT, "&: EXECUTED 2 FACTS 3 OF 3"), END];
 
 const OTHER_COUNT: Part = Text("OTHER TABLE ROW 1 LEFT 0000000004014610 RIGHT 0000000004014620\n");
+
+const OTHER_THIRD: Part = Text("OTHER TABLE ROW 5 LEFT 0000000004014610 RIGHT 0000000004014620\n");
 
 /// What each gives that is refused for nothing.
 pub const GOOD: [Row; 22] = [
@@ -365,7 +372,7 @@ MODULE N PLACES 0 EXECUTED 0 FACTS 0 OF 0\n",
 ];
 
 /// What is refused, and why: where there are several causes the one that is told comes first.
-pub const REFUSED: [Row; 46] = [
+pub const REFUSED: [Row; 48] = [
     Row {
         name: "no session of the name",
         words: &["marks", "X"],
@@ -577,6 +584,13 @@ pub const REFUSED: [Row; 46] = [
         output: &[OTHER_COUNT],
     },
     Row {
+        name: "show: another instruction in the third module of the card",
+        words: &["show", "S"],
+        input: &[THREE, O_N_OTHER],
+        status: 11,
+        output: &[OTHER_THIRD],
+    },
+    Row {
         name: "show: another base",
         words: &["show", "S"],
         input: &[Code(COUNT), ENDS, MOVED],
@@ -695,6 +709,13 @@ pub const REFUSED: [Row; 46] = [
         input: &[FELL, WENT, OTHER],
         status: 11,
         output: &[OTHER_COUNT],
+    },
+    Row {
+        name: "combine: another instruction in the third module",
+        words: &["combine"],
+        input: &[O_N_M, O_N_M, O_N_OTHER],
+        status: 11,
+        output: &[OTHER_THIRD],
     },
     Row {
         name: "combine: a first file of another table than the rest",

@@ -86,6 +86,7 @@ pub fn words_of(alloc: Global, words: &[&str]) -> Result<Vec<String>, Fail> {
     Ok(all)
 }
 
+/// Serves the words over areas that threads share, and once more without areas.
 pub fn serve<T: Threads + Wait + Sync>(
     rt: &T,
     alloc: Global,

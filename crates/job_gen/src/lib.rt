@@ -1,0 +1,13 @@
+//! Makes jobs to try the program on: one module of drawn blocks, and tasks that go through it together.
+#![tactic(auto)]
+
+mod code;
+mod instruction;
+mod jobs;
+mod listing;
+mod tasks;
+
+pub use jobs::trial;
+
+#[cfg(test)]
+mod tests;
