@@ -97,7 +97,7 @@ trial_code_is : (number : ℕ) → trial_code number ≡ code_from 400 number 0
 unfolding trial_code
 trial_code_is number = refl
 
-pub trial_code_most : (number : ℕ) → length (trial_code number) ≤ 2000
+trial_code_most : (number : ℕ) → length (trial_code number) ≤ 2000
 trial_code_most number = let k = (code_size 400 number 0).most in rw trial_code_is (omega arith)
 
 module_is : (number : ℕ) → IsImage (trial_module number)
