@@ -1,10 +1,11 @@
-"""Small jobs, and the reports that docs/REPORT.md and docs/MACHINE.md give them."""
+"""Small jobs, the reports that docs/REPORT.md and docs/MACHINE.md give them, and the files of docs/MARKS.md."""
 from __future__ import annotations
 
 from dataclasses import dataclass, field
 
 HEADING = "  Loc  Object Code    Addr1 Addr2  Stmt   Source Statement"
 FACTS = {"^": 0, ":": 1, ">": 1, "V": 1, "&": 2}
+CONDITIONAL = ("BCT", "BE")
 TASK = "TASK A 100000 16 100 0\n"
 
 
@@ -88,6 +89,19 @@ class Program:
         """The whole report."""
         parts = [title, *(line for it in results for line in it.lines()), *self.session(marks, possible, ranges), "END", ""]
         return "\n".join(parts).encode()
+
+    def shown(self, marks: str, possible: int, *ranges: str) -> bytes:
+        """What `show` writes of session S."""
+        return "\n".join(["COVERAGE SHOW", *self.session(marks, possible, ranges), "END", ""]).encode()
+
+    def marks_file(self, *sets: int) -> bytes:
+        """The marks file of session S: a set for each instruction."""
+        table = b"S370COV1" + (1).to_bytes(2, "big") + b"M       " + (0x100000).to_bytes(4, "big")
+        table += len(self.text()).to_bytes(4, "big") + len(self.code).to_bytes(4, "big")
+        for (at, digits, operation), it in zip(self.code, sets):
+            code = bytes.fromhex(digits)
+            table += at.to_bytes(4, "big") + bytes([len(code), operation in CONDITIONAL, *code[:2], it])
+        return table
 
 
 FIRST = Program.of("0 41100005 LA, 4 1A11 AR, 6 07FE BR")

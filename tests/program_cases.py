@@ -5,11 +5,14 @@ import os
 import subprocess
 from dataclasses import replace
 
-from harness import COVERAGE, PROGRAM, Case, equal
+from harness import COVERAGE, PROGRAM, TOP, Case, equal, run, well
 from jobs import COUNTED, FIRST, FIRST_REPORT, FIRST_RESULT, TASK, Program, Result
 
 USAGE = b"USAGE: run | marks NAME | trial NUMBER TASKS | table | replay | combine | show NAME\n"
 PRIVATE_END = 0xFFFFFC
+OTHER_COUNT = Program.of("0 4620F000 BCT, 4 07FE BR")
+# Of the program that counts: what it shows where its count ends at once, where it is spent as it goes on, and both.
+FELL, WENT, BOTH = COUNTED.marks_file(4, 1), COUNTED.marks_file(2, 0), COUNTED.marks_file(6, 1)
 
 
 def runs(name: str, program: Program, task: str, result: Result, marks: str, possible: int, *ranges: str) -> Case:
@@ -126,6 +129,48 @@ def commands() -> list[Case]:
     ]
 
 
+def marks_files() -> list[Case]:
+    """marks, combine and show: the file of a run, the union of several, the listings that it marks, and what is refused."""
+    ends, goes_on = COUNTED.job(task("REG 1 00000001")), COUNTED.job(task("REG 1 00000002", "TASK A 100000 16 1 0\n"))
+    digits = "53333730434F5631 0001 4D20202020202020 00100000 00000006 00000002 00000000 04 01 4610 04 00000004 02 00 07FE 01"
+    file, other = bytes.fromhex(digits), OTHER_COUNT.marks_file(4, 1)
+    both = COUNTED.shown("&:", 3)
+    mismatch = COUNTED.job(listing=[it.replace("F000", "F004") for it in COUNTED.listing()])
+    offset = b"BAD MARKS OFFSET %d\n"
+    row = b"OTHER TABLE ROW 1 LEFT 0000000004014610 RIGHT 0000000004014620\n"
+    return [
+        Case("marks", ["marks", "S"], ends, file),
+        Case("marks of another input", ["marks", "S"], goes_on, WENT),
+        Case("combine", ["combine"], file + WENT, BOTH),
+        Case("combine in the other order", ["combine"], WENT + file, BOTH),
+        Case("show", ["show", "S"], ends + BOTH, both),
+        Case("show of one file", ["show", "S"], ends + WENT, COUNTED.shown(">^", 3, "000004-000005")),
+        Case("marks by the script", ["marks", "S"], ends, file, command=COVERAGE),
+        Case("combine by the script", ["combine"], file + WENT, BOTH, command=COVERAGE),
+        Case("show by the script", ["show", "S"], ends + BOTH, both, command=COVERAGE),
+        Case("marks without a name", ["marks"], ends, USAGE, 1),
+        Case("marks of what is no name", ["marks", "9X"], ends, USAGE, 1),
+        Case("show of a name of nine letters", ["show", "ABCDEFGHI"], ends + file, USAGE, 1),
+        Case("combine with a name", ["combine", "S"], file, USAGE, 1),
+        Case("marks of a session that isn't there", ["marks", "X"], FIRST.job(), b"NO SESSION X\n", 13),
+        Case("show of a session that isn't there, and no file", ["show", "X"], mismatch, b"NO SESSION X\n", 13),
+        Case("a file behind the job of marks", ["marks", "S"], ends + file, b"BAD JOB LINE 13\n", 2),
+        Case("show of a listing that doesn't match, and no file", ["show", "S"], mismatch,
+             b"MISMATCH M LINE 2 LOC 000000 LISTING 4610F004 MODULE 4610F000\n", 3),
+        Case("no file behind the job of show", ["show", "S"], ends, offset % 0, 10),
+        Case("a byte past the file of show", ["show", "S"], ends + other + b"\n", offset % 48, 10),
+        Case("another table behind the job of show", ["show", "S"], ends + other, row, 11),
+        Case("combine of nothing", ["combine"], b"", offset % 0, 10),
+        Case("combine of a file that is cut", ["combine"], file[:-1], offset % 47, 10),
+        Case("combine of a second file that is cut", ["combine"], file + file[:-1], offset % 95, 10),
+        Case("combine of another table", ["combine"], file + other + file[:-1], row, 11),
+        Case("the most bytes of combine", ["combine"], b"\n" * 16_777_216, offset % 0, 10),
+        Case("INPUT, of combine", ["combine"], b"\n" * 16_777_217, b"TOO LARGE INPUT\n", 4),
+        Case("INPUT, of marks", ["marks", "X"], ends + bytes(16_777_216), b"TOO LARGE INPUT\n", 4),
+        Case("INPUT, of show", ["show", "S"], ends + bytes(16_777_216), b"TOO LARGE INPUT\n", 4),
+    ]
+
+
 def refusals() -> list[Case]:
     """Each refusal of a job, of its listing and of its schedule."""
     job, listing = FIRST.job(), FIRST.listing()
@@ -189,9 +234,15 @@ def streams() -> list[Case]:
         Case("a folder as input", ["run"], b"", b"READ FAULT\n", 5, redirect="</"),
         Case("a folder as input, of table", ["table"], b"", b"READ FAULT\n", 5, redirect="</"),
         Case("a folder as input, of replay", ["replay"], b"", b"READ FAULT\n", 5, redirect="</"),
+        Case("a folder as input, of marks", ["marks", "S"], b"", b"READ FAULT\n", 5, redirect="</"),
+        Case("a folder as input, of combine", ["combine"], b"", b"READ FAULT\n", 5, redirect="</"),
+        Case("a folder as input, of show", ["show", "S"], b"", b"READ FAULT\n", 5, redirect="</"),
         Case("a full output", ["run"], job, b"", 6, redirect=">/dev/full"),
         Case("a full output, of table", ["table"], job, b"", 6, redirect=">/dev/full"),
         Case("a full output, of replay", ["replay"], FIRST.job(more="GO A\nENDSCHED\n"), b"", 6, redirect=">/dev/full"),
+        Case("a full output, of marks", ["marks", "S"], job, b"", 6, redirect=">/dev/full"),
+        Case("a full output, of combine", ["combine"], BOTH, b"", 6, redirect=">/dev/full"),
+        Case("a full output, of show", ["show", "S"], COUNTED.job() + BOTH, b"", 6, redirect=">/dev/full"),
         Case("a full output for a refusal", ["run"], b"", b"", 6, redirect=">/dev/full"),
         Case("a full output for the usage", [], b"", b"", 6, redirect=">/dev/full"),
         Case("a full output by the script", ["run"], job, b"", 6, redirect=">/dev/full", command=COVERAGE),
@@ -217,9 +268,24 @@ def broken_pipe() -> None:
     equal((ran.returncode, ran.stderr), (6, b""))
 
 
-CHECKS = [broken_pipe]
+def two_runs() -> None:
+    """examples: two runs of the orders, their files united in either order, and the listing with the marks of both"""
+    with open(f"{TOP}/examples/orders.job", "rb") as job, open(f"{TOP}/examples/short.tasks", "rb") as tasks:
+        first, short = job.read(), tasks.read()
+    second = first[: first.index(b"PHASE ")] + short + b"ENDJOB\n"
+    files = [well(run([PROGRAM, "marks", "ORDERS"], it)).output for it in (first, second)]
+    union = well(run([PROGRAM, "combine"], files[0] + files[1])).output
+    equal(well(run([PROGRAM, "combine"], files[1] + files[0])).output, union)
+    shown = well(run([PROGRAM, "show", "ORDERS"], first + union)).output.splitlines()
+    # A record that ends early takes the other side of one branch, and reaches four lines more: all but a branch behind a count.
+    equal([it for it in shown if it.startswith((b"MODULE ORDERS ", b"NOT EXECUTED"))],
+          [b"MODULE ORDERS PLACES 76 EXECUTED 75 FACTS 80 OF 83", b"NOT EXECUTED 0000E2-0000E5"])
+    equal([it[:1] for it in shown if it[3:9] in (b"000036", b"0000E2", b"0000F6")], [b"&", b"^", b":"])
+
+
+CHECKS = [broken_pipe, two_runs]
 
 
 def cases() -> list[Case]:
     """All of the program's."""
-    return [*instructions(), *endings(), *commands(), *refusals(), *streams()]
+    return [*instructions(), *endings(), *commands(), *marks_files(), *refusals(), *streams()]

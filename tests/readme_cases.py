@@ -8,7 +8,7 @@ import subprocess
 
 from harness import TOP, Tally, folder, run
 
-COMMAND = re.compile(r" {4,}(\./coverage .*|genhtml .*)")
+COMMAND = re.compile(r" {4,}(\./coverage .*|genhtml .*|cat .*)")
 
 
 def lines_of_readme() -> list[str]:

@@ -1,10 +1,12 @@
 pub mod PlaceLemmas
+pub mod MapLemmas
 pub mod RangeLemmas
 pub mod CoverLemmas
 pub mod FaultLemmas
 pub mod Passes
 pub mod TabledLemmas
-pub mod AtLemmas
+pub mod AllPlaces
 pub mod OwnPlaces
 pub mod Together
 pub mod OneTable
+pub mod FarPlaces

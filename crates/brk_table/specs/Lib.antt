@@ -1,4 +1,5 @@
 pub mod Places
+pub mod Map
 pub mod Build
 pub mod Cover
 pub mod Together

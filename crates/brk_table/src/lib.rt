@@ -5,6 +5,7 @@ mod builder;
 mod cover;
 mod fault;
 mod faults;
+mod map;
 mod places;
 mod tables;
 #[cfg(test)]

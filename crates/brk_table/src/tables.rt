@@ -6,6 +6,7 @@ ghost use Rattle.std.specs.Prelude.{◌+◌, nat_eq, option_map};
 ghost use Rattle.brk_table.specs.Places.{HasItsPlaces, HasRisingPlaces, first_place, place_count, entry_of_line, place_at_line};
 ghost use Rattle.cov_base.specs.declared.numbers.PlaceNo.{PlaceNo as Number};
 
+use crate::map::{enter_all, entry_at};
 use cov_base::{Addr, NoMemory, PlaceNo};
 use module_area::Place;
 use std::alloc::Global;
@@ -33,42 +34,23 @@ impl Model for Table {
 pub struct Tables {
     tables: Vec<Table>,
     places: Vec<Place>,
+    // for each page of 4 KB the number of its 2,048 entries, one for each halfword: its place's number and 1, or 0
+    pages: Vec<u32>,
+    entries: Vec<u32>,
 }
 
 impl Model for Tables {
     ghost use Rattle.std.specs.Prelude.{◌≡◌};
     ghost use Rattle.std.specs.Prelude.{All};
     ghost use Rattle.brk_table.specs.Places.{TablesView, ArePlaces, HasItsPlaces, HasRisingPlaces, all_places};
+    ghost use Rattle.std.specs.Prelude.{length};
+    ghost use Rattle.brk_table.specs.Map.{IsMap};
 
     ghost Value = { TablesView };
 
     ghost view = { λ t. record { tables = t.tables.items; places = t.places.items } };
 
-    ghost invariant = { λ t. (t.places.items ≡ all_places t.tables.items) × ArePlaces t.places.items × All HasItsPlaces t.tables.items × All HasRisingPlaces t.tables.items };
-}
-
-/// The index of the place that begins at the address, where the places rise.
-fn search(places: &[Place], a: Addr) -> Option<usize>
-    requires { AllPairs (λ p q. p.at < q.at) places.now }
-    ensures exists { IfSome result (λ n. n < length places.now) }
-    ensures begins { IfSome result (λ n. (place_of places.now n).at ≡ a) }
-    ensures none { IsNone result → is_place places.now a ≡ false }
-{
-    let mut low = 0;
-    let mut high = places.len();
-    while low < high {
-        let middle = low + (high - low) / 2;
-        let at = places[middle].at.get();
-        if at == a.get() {
-            return Some(middle);
-        }
-        if at < a.get() {
-            low = middle + 1;
-        } else {
-            high = middle;
-        }
-    }
-    None
+    ghost invariant = { λ t. (t.places.items ≡ all_places t.tables.items) × ArePlaces t.places.items × All HasItsPlaces t.tables.items × All HasRisingPlaces t.tables.items × IsMap t.pages.items t.entries.items t.places.items (length t.places.items) };
 }
 
 impl Table {
@@ -77,16 +59,6 @@ impl Table {
         ensures { result.now ≡ self.now.places }
     {
         &self.places
-    }
-
-    /// The index of the place that begins at the address, by halves.
-    fn find(&self, a: Addr) -> Option<usize>
-        requires { HasRisingPlaces self.now }
-        ensures exists { IfSome result (λ n. n < length self.now.places) }
-        ensures begins { IfSome result (λ n. (place_of self.now.places n).at ≡ a) }
-        ensures none { IsNone result → is_place self.now.places a ≡ false }
-    {
-        search(self.places(), a)
     }
 
     /// The number of its places.
@@ -135,25 +107,31 @@ impl Tables {
         for table in &tables {
             places.extend_from_slice(table.places())?;
         }
-        Ok(Tables { tables, places })
+        let mut pages = vec![in alloc; 0u32; 4096]?;
+        let mut entries = vec![in alloc; 0u32; 2048]?;
+        enter_all(&mut pages, &mut entries, &places)?;
+        Ok(Tables {
+            tables,
+            places,
+            pages,
+            entries,
+        })
     }
 
-    /// The place that begins at the address; none exactly where no place begins there. Searches each module's places
-    /// by halves.
+    /// The place that begins at the address; none exactly where no place begins there.
     pub fn at(&self, a: Addr) -> Option<PlaceNo>
         ensures exists { IfSome result (λ n. n.0 < length self.now.places) }
         ensures begins { IfSome result (λ n. (place_of self.now.places n.0).at ≡ a) }
         ensures none { IsNone result ↔ (is_place self.now.places a ≡ false) }
     {
-        let mut first = 0;
-        for i in 0..self.tables.len() {
-            let table = &self.tables[i];
-            if let Some(k) = table.find(a) {
-                return Some(PlaceNo((first + k) as u32));
-            }
-            first += table.size();
+        let entry = entry_at(&self.pages, &self.entries, a);
+        if entry == 0 {
+            return None;
         }
-        None
+        if a.get() % 2 == 1 {
+            return None;
+        }
+        Some(PlaceNo(entry - 1))
     }
 
     /// The place of an existing number.

@@ -1,5 +1,6 @@
 -- What a task's addresses hold, and which may be reached, stored and read.
 use Rattle.std.specs.Prelude.{ℕ, ◌+◌, ◌%◌, ◌*◌, zero, suc, Bool, true, ◌&&◌, ◌||◌, if◌then◌else◌, nat_lt, Option, Some, None, List, slice_index}
+use Rattle.std.specs.Option.{option_or}
 
 -- a module's bytes from its base on
 pub record ImageView : Type 0 where
@@ -41,14 +42,10 @@ unfoldable pub can_store : Memory → ℕ → ℕ → Bool
 can_store m a zero = true
 can_store m a (suc n) = can_store m a n && is_private m (wrap (a + n))
 
-abbrev pub or_else : Option ℕ → Option ℕ → Option ℕ
-or_else None q = q
-or_else (Some a) q = Some a
-
 -- the first touch byte of the n bytes from a on
 unfoldable pub first_touch : Memory → ℕ → ℕ → Option ℕ
 first_touch m a zero = None
-first_touch m a (suc n) = or_else (first_touch m a n) (if m.is_touch (wrap (a + n)) then Some (wrap (a + n)) else None)
+first_touch m a (suc n) = option_or (first_touch m a n) (if m.is_touch (wrap (a + n)) then Some (wrap (a + n)) else None)
 
 -- the halfword from a on
 abbrev pub half_at : Memory → List ℕ → ℕ → ℕ

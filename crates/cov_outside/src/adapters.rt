@@ -1,7 +1,7 @@
 //! A source over any reader and a sink over any writer of std.
 ghost use Rattle.std.specs.Prelude.{◌≡◌, ◌<◌, ◌≤◌, length, IfOk, OnOk, OnErr};
 ghost use Rattle.std.specs.Io.{ReadsAtMost};
-ghost use Rattle.std.specs.Io.KnownBytes.{ReadConsumes, WriteAppends};
+ghost use Rattle.std.specs.Io.KnownBytes.{Keeps, ReadConsumes, WriteAppends};
 ghost use Rattle.cov_outside.specs.Causes.{HasCause, raised};
 ghost use Rattle.cov_outside.specs.Adapters.{reader_of, read_faults, writer_of, write_faults};
 
@@ -76,6 +76,19 @@ impl<W: Write> StdSink<W> {
         ensures { result ≡ write_faults self.now }
     {
         self.faults
+    }
+
+    /// Hands on what the writer still holds. Failed where that answers an error, which raises the count by one.
+    pub fn flush(&mut self) -> Result<(), Failed>
+        ensures kept { Keeps (W.contents (writer_of self.old)) (W.contents (writer_of self.new)) }
+        ensures no_fault { OnOk result (write_faults self.new ≡ write_faults self.old) }
+        ensures one { OnErr result (write_faults self.new ≡ raised (write_faults self.old)) }
+    {
+        if self.inner.flush().is_err() {
+            self.faults = self.faults.saturating_add(1);
+            return Err(Failed);
+        }
+        Ok(())
     }
 }
 

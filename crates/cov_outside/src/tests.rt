@@ -20,6 +20,20 @@ impl Write for Stuck {
     }
 }
 
+/// Takes all, and fails as it is to hand it on.
+#[derive(Drop)]
+struct Holding;
+
+impl Write for Holding {
+    fn write(&mut self, piece: &[u8]) -> IoResult<usize> {
+        Ok(piece.len())
+    }
+
+    fn flush(&mut self) -> IoResult<()> {
+        Err(Error::from(ErrorKind::Other))
+    }
+}
+
 /// Gives a byte at each call but the second.
 #[derive(Drop)]
 struct Halting {
@@ -99,6 +113,12 @@ fn counts_the_faults_of_std(rt: HostRuntime) {
     assert_eq!(rt; source.faults(), 1);
     let mut sink = StdSink::new(Stuck);
     assert!(rt; sink.write(b"A") == Err(Failed));
+    assert_eq!(rt; sink.faults(), 1);
+    assert!(rt; sink.flush() == Ok(()));
+    assert_eq!(rt; sink.faults(), 1);
+    let mut sink = StdSink::new(Holding);
+    assert!(rt; sink.write(b"A") == Ok(1));
+    assert!(rt; sink.flush() == Err(Failed));
     assert_eq!(rt; sink.faults(), 1);
 }
 

@@ -1,5 +1,6 @@
 pub mod AnswerLemmas
 pub mod CompleteLemmas
+pub mod FileLemmas
 pub mod InputLemmas
 pub mod OneTables
 pub mod ReplayLemmas

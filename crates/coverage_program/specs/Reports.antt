@@ -8,7 +8,7 @@ use Rattle.session_book.specs.JobView.{JobView}
 use Rattle.session_book.specs.Results.{ResultView}
 use Rattle.session_book.specs.Sessions.{session_of, observes}
 use Rattle.report_text.specs.Report.{report_of}
-use Rattle.job_run.specs.Runs.{result_of, set_of}
+use Rattle.job_run.specs.Runs.{solo_result, solo_set}
 use Rattle.job_run.specs.Sets.{set_left}
 use Rattle.marks_file.specs.MarksFile.{file_bytes}
 use Rattle.session_marks.specs.Marked.{session_marks}
@@ -18,9 +18,9 @@ use Rattle.session_marks.specs.Marked.{session_marks}
 pub record Reports (j : JobView) (tables : TablesView) (areas : List FinalsView) (text : List ℕ) : Type 0 where
   pub results : ℕ → ResultView
   pub sets : ℕ → ℕ → FactSet
-  pub are_results : (t : ℕ) → t < length j.tasks → results t ≡ result_of j tables.places t
+  pub are_results : (t : ℕ) → t < length j.tasks → results t ≡ solo_result j tables.places t
   pub are_sets : (s p : ℕ) → 0 < s → s ≤ length j.sessions → p < length tables.places →
-      observes (session_of j s).phase (place_of tables.places p).module (session_of j s) ≡ true → sets s p ≡ set_of j tables.places s p
+      observes (session_of j s).phase (place_of tables.places p).module (session_of j s) ≡ true → sets s p ≡ solo_set j tables.places s p
   pub are_final : (s p : ℕ) → 0 < s → s ≤ length j.sessions → p < length tables.places → sets s p ≡ set_left j areas s p
   pub is_text : text ≡ report_of j tables results sets
 
@@ -29,6 +29,6 @@ pub record Reports (j : JobView) (tables : TablesView) (areas : List FinalsView)
 pub record Records (j : JobView) (tables : TablesView) (areas : List FinalsView) (s : ℕ) (text : List ℕ) : Type 0 where
   pub sets : ℕ → FactSet
   pub are_sets : (p : ℕ) → p < length tables.places →
-      observes (session_of j s).phase (place_of tables.places p).module (session_of j s) ≡ true → sets p ≡ set_of j tables.places s p
+      observes (session_of j s).phase (place_of tables.places p).module (session_of j s) ≡ true → sets p ≡ solo_set j tables.places s p
   pub are_final : (p : ℕ) → p < length tables.places → sets p ≡ set_left j areas s p
   pub is_text : text ≡ file_bytes (session_marks j tables sets s)

@@ -29,7 +29,7 @@ use marks_file::write;
 use module_area::Areas;
 use report_text::{report, table};
 use session_book::Job;
-use session_marks::marks_of;
+use session_marks::{NoSets, fill_marks, marks_of};
 use std::alloc::Global;
 use std::sync::Wait;
 use std::thread::Threads;
@@ -100,14 +100,18 @@ fn answer_session<T: Threads + Wait + Sync, K: Sink, A: Areas, G: Gate + Sync>(
     ensures { (c : SourceChange) → CameJob false c job.now →
         Answers (Command.Marks name.now) c (areas_change A.ledger A.finals A.made areas.old areas.new) (sink_change K.written K.faults sink.old sink.new) result.0 }
 {
-    let outcome = match run_job(rt, alloc, areas, gate, job, tables) {
-        Ok(outcome) => outcome,
-        Err(_) => return told(sink, NO_MEMORY, 7),
+    // The memory of the marks is taken before a task runs.
+    let none = NoSets {
+        sessions: s.0,
+        places: tables.len(),
     };
-    let marks = match marks_of(alloc, job, tables, &outcome, s) {
-        Ok(marks) => marks,
-        Err(_) => return told(sink, NO_MEMORY, 7),
+    let Ok(mut marks) = marks_of(alloc, job, tables, &none, s) else {
+        return told(sink, NO_MEMORY, 7);
     };
+    let Ok(outcome) = run_job(rt, alloc, areas, gate, job, tables) else {
+        return told(sink, NO_MEMORY, 7);
+    };
+    fill_marks(&mut marks, job, tables, &outcome, s);
     status_of(write(sink, &marks))
 }
 
@@ -128,7 +132,17 @@ fn answer_marks<T: Threads + Wait + Sync, S: Source, K: Sink, A: Areas, G: Gate 
         Ok(read) => read,
         Err(refusal) => return told(sink, &refusal.line, refusal.status),
     };
-    answer_session(rt, alloc, name, &read.job, &read.tables, session, sink, areas, gate)
+    answer_session(
+        rt,
+        alloc,
+        name,
+        &read.job,
+        &read.tables,
+        session,
+        sink,
+        areas,
+        gate,
+    )
 }
 
 /// Reads a job and writes the places of its modules.
@@ -213,11 +227,8 @@ fn answer<T: Threads + Wait + Sync, S: Source, K: Sink, A: Areas, G: Gate + Sync
     match command {
         Command::Run => answer_run(rt, alloc, source, sink, areas, gate),
         Command::Marks(name) => answer_marks(rt, alloc, &name, source, sink, areas, gate),
-        Command::Table
-        | Command::Replay
-        | Command::Combine
-        | Command::Show(_)
-        | Command::Unknown => answer_one(alloc, command, source, sink),
+        Command::Table | Command::Replay | Command::Combine | Command::Show(_) | Command::Unknown =>
+            answer_one(alloc, command, source, sink),
     }
 }
 

@@ -20,6 +20,7 @@ use cov_outside::{OpenGate, StdSink, StdSource};
 use cover::cover;
 use shared_area::SharedAreas;
 use std::alloc::AllocError;
+use std::io::BufWriter;
 use std::process::ExitCode;
 use std::{env, io};
 
@@ -45,7 +46,10 @@ fn main(rt: HostRuntime) -> ExitCode {
         return ExitCode::from(7);
     };
     let mut source = StdSource::new(rt.stdin());
-    let mut sink = StdSink::new(rt.stdout());
+    let Ok(writer) = BufWriter::with_capacity(rt.alloc(), 65_536, rt.stdout()) else {
+        return ExitCode::from(7);
+    };
+    let mut sink = StdSink::new(writer);
     let status = cover(
         &rt,
         rt.alloc(),
@@ -55,5 +59,9 @@ fn main(rt: HostRuntime) -> ExitCode {
         &mut areas,
         &OpenGate,
     );
-    ExitCode::from(status.0)
+    // What is still held goes out before the exit tells of it.
+    match sink.flush() {
+        Ok(()) => ExitCode::from(status.0),
+        Err(_) => ExitCode::from(6),
+    }
 }

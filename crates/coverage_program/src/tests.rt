@@ -2,6 +2,8 @@
 mod cases;
 mod gates;
 mod jobs;
+mod marked;
+mod marks;
 mod modules;
 mod notation;
 mod noted;

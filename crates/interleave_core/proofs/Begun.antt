@@ -1,5 +1,6 @@
 -- A visit whose breakpoint is to be marked is begun.
 use Rattle.std.proofs.Common.{◌≡◌, ◌≢◌, ◌⊎◌, inl, inr, ℕ, ◌+◌, ◌<◌, ◌≤◌, Bool, true, false, not, ◌==◌, ◌||◌, nat_lt, if◌then◌else◌, Option, Some, None, List, [], ◌∷◌, length, get_or, refl, sym, ◌∙◌, ap, subst, arith}
+use Rattle.std.specs.Option.{option_or}
 use Rattle.std.proofs.lemmas.Bool.Decides.{nat_tests}
 use Rattle.std.proofs.lemmas.List.{get_or_default}
 use Rattle.std.proofs.lemmas.List.Folds.{list_any_none}
@@ -13,7 +14,7 @@ use Rattle.s370_decode.specs.Table.{op_of}
 use Rattle.s370_decode.specs.declared.code.Code.{Code}
 use Rattle.s370_branch.specs.Branch.{goes}
 use Rattle.s370_exec.specs.Effects.{Effect, effect, updated, link_code}
-use Rattle.s370_exec.specs.Fetch.{later, or_ending, first_tests, rest_tests, whole_tests, subject_tests, is_execute, code_at, merged}
+use Rattle.s370_exec.specs.Fetch.{later, first_tests, rest_tests, whole_tests, subject_tests, is_execute, code_at, merged}
 use Rattle.s370_exec.specs.Solo.{Step, solo_step, ended, visit, subject_step, no_visit}
 use Rattle.module_area.specs.PlanView.{place_of, no_place, original_at}
 use Rattle.module_area.specs.declared.places.Place.{Place}
@@ -145,7 +146,7 @@ half_of_place w t a p bytes world there h =
 first_pass : (w : World) (t a p : ℕ) → IsWorld w → t < length w.job.tasks → place_at w a ≡ Some p → first_tests (memory_in w t) a ≡ None
 first_pass w t a p world there h = at_place w (memory_in w t) a p world.places (world.seen t there) h
 
-both_pass : (a b : Option Ending) → a ≡ None → b ≡ None → or_ending a b ≡ None
+both_pass : (a b : Option Ending) → a ≡ None → b ≡ None → option_or a b ≡ None
 both_pass a b h k = rw (h, k) refl
 
 whole_pass : (w : World) (t a p : ℕ) (bytes : List ℕ) → IsWorld w → t < length w.job.tasks → place_at w a ≡ Some p → whole_tests (memory_in w t) bytes a ≡ None

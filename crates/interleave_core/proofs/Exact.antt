@@ -11,7 +11,7 @@ use Rattle.cov_base.specs.declared.facts.Kind.{Kind}
 use Rattle.cov_base.specs.declared.facts.Kind.TheVariants.{Straight, Conditional}
 use Rattle.s370_state.specs.declared.endings.Ending.{Ending}
 use Rattle.module_area.specs.Held.{planted, untouched, lifted as lifted_cell, IsForm, Held}
-use Rattle.module_area.specs.Parties.{Has, session_of, window_tag, is_breakpoint, is_lifted, fetching}
+use Rattle.module_area.specs.Parties.{Has, tag_session, window_tag, is_breakpoint, is_lifted, fetching}
 use Rattle.module_area.specs.PlainWords.{word_at}
 use Rattle.module_area.specs.PlanView.{PlanView, IsPlan, original_at, kind_at, is_over}
 use Rattle.module_area.specs.declared.cells.Cell.{Cell}
@@ -113,7 +113,7 @@ settled_step w c v (Mark t) x world h is =
     let p = got Hand (marked w c.parts t.0 u) (in_hand Marking u.stage) x at.1 in
     let hand = held_hand w t.0 u (c.logs t.0) u.stage Marking p.0 (is.ruled.hands t.0 lt) p.1 in
     let b : HasBreakpoint w p.0 = hand.3 in
-    let found : FactSet = set_of w c.parts (session_of p.0.cell.tag) p.0.place.0 in
+    let found : FactSet = set_of w c.parts (tag_session p.0.cell.tag) p.0.place.0 in
     let u2 : TaskPart = with_due u p.0 (if is_full (kind_at (plan_in w) p.0.place.0) (with_fact found (fact_in w t.0 u p.0)) then Lifting else Nothing) in
     subst (λ (y : Stepped). Settle w (core_after w c (Mark t) y).core) (sym p.2)
     (one_log w (λ n y log. AreSettled w log) c (marked w c.parts t.0 u p.0).parts t.0 u2 (Marked found) refl lt
@@ -165,7 +165,7 @@ run_sound w c events world h = sound_from w (core_start w) c (first_planter (len
 -- ---- what a party marked, its log shows
 
 marked_by : (plan : PlanView) (e : Entry) (l : Option Bool) (o : Option FactSet) (k : Option Fact) (v : View) (s p : ℕ) (f : Fact) → Has (s, p, f) (with_lift e l (with_mark plan e o k v)).marked →
-    ((found : FactSet) × (o ≡ Some found) × (k ≡ Some f) × (session_of e.cell.tag ≡ s) × (e.place ≡ p)) ⊎ Has (s, p, f) v.marked
+    ((found : FactSet) × (o ≡ Some found) × (k ≡ Some f) × (tag_session e.cell.tag ≡ s) × (e.place ≡ p)) ⊎ Has (s, p, f) v.marked
 marked_by plan e None None k v s p f h = inr h
 marked_by plan e (Some b) None k v s p f h = inr h
 marked_by plan e None (Some o) None v s p f h = inr h
@@ -175,7 +175,7 @@ marked_by plan e None (Some o) (Some k) v s p f (inr h) = inr h
 marked_by plan e (Some b) (Some o) (Some k) v s p f (inl same) = inl (o, refl, ap (λ (z : ℕ × ℕ × Fact). Some z.2) same, ap (λ (z : ℕ × ℕ × Fact). z.0) same, ap (λ (z : ℕ × ℕ × Fact). z.1) same)
 marked_by plan e (Some b) (Some o) (Some k) v s p f (inr h) = inr h
 
-tag_is : (t s n : ℕ) → 0 < n → t ≡ window_tag n → session_of t ≡ s → t ≡ window_tag s
+tag_is : (t s n : ℕ) → 0 < n → t ≡ window_tag n → tag_session t ≡ s → t ≡ window_tag s
 tag_is t s n pos h k = omega arith
 
 marked_shown : (w : World) (t : ℕ) (log : List Entry) (s p : ℕ) (f : Fact) → AreSettled w log → Has (s, p, f) (task_view w t log).marked → HasShown s p f log
@@ -202,20 +202,20 @@ full_more plan e None None k v x h = h
 full_more plan e (Some b) None k v x h = h
 full_more plan e None (Some o) None v x h = h
 full_more plan e (Some b) (Some o) None v x h = h
-full_more plan e None (Some o) (Some k) v x h = more-add_if _ x (session_of e.cell.tag, e.place) v.full h
-full_more plan e (Some b) (Some o) (Some k) v x h = more-add_if _ x (session_of e.cell.tag, e.place) v.full h
+full_more plan e None (Some o) (Some k) v x h = more-add_if _ x (tag_session e.cell.tag, e.place) v.full h
+full_more plan e (Some b) (Some o) (Some k) v x h = more-add_if _ x (tag_session e.cell.tag, e.place) v.full h
 
-marked_here : (plan : PlanView) (e : Entry) (l : Option Bool) (o : FactSet) (k : Fact) (v : View) → Has (session_of e.cell.tag, e.place, k) (with_lift e l (with_mark plan e (Some o) (Some k) v)).marked
+marked_here : (plan : PlanView) (e : Entry) (l : Option Bool) (o : FactSet) (k : Fact) (v : View) → Has (tag_session e.cell.tag, e.place, k) (with_lift e l (with_mark plan e (Some o) (Some k) v)).marked
 marked_here plan e None o k v = inl refl
 marked_here plan e (Some b) o k v = inl refl
 
 met_before : (plan : PlanView) (p : ℕ) (c : Cell) (v : View) (x : ℕ × ℕ) → Has x v.full → Has x (fetching plan p c v).full
-met_before plan p c v x h = more-add_if (is_lifted plan p c) x (session_of c.tag, p) v.full h
+met_before plan p c v x h = more-add_if (is_lifted plan p c) x (tag_session c.tag, p) v.full h
 
 abbrev Tells : PlanView → View → ℕ → ℕ → Fact → Type 0
 Tells plan v s p f = Has (s, p, f) v.marked ⊎ (Has (s, p) v.full × (is_of_kind (kind_at plan p) f ≡ true))
 
-of_tag : (t s : ℕ) → 0 < s → t ≡ window_tag s → session_of t ≡ s
+of_tag : (t s : ℕ) → 0 < s → t ≡ window_tag s → tag_session t ≡ s
 of_tag t s pos h = omega arith
 
 odd_tag : (t s : ℕ) → 0 < s → t ≡ window_tag s → t % 2 ≡ 1
@@ -233,12 +233,12 @@ entry_tells w e v s f is marks pos tag fact = by is.form
     plan : PlanView
     plan = plan_in w
 
-    same : session_of e.cell.tag ≡ s
+    same : tag_session e.cell.tag ≡ s
     same = of_tag e.cell.tag s pos tag
 
     met : is_lifted (plan_in w) e.place e.cell ≡ true → Tells (plan_in w) (with_notes (plan_in w) e v) s e.place f
     met there =
-        let here : Has (session_of e.cell.tag, e.place) (fetching (plan_in w) e.place e.cell v).full = here-add_if (is_lifted (plan_in w) e.place e.cell) (session_of e.cell.tag, e.place) v.full there in
+        let here : Has (tag_session e.cell.tag, e.place) (fetching (plan_in w) e.place e.cell v).full = here-add_if (is_lifted (plan_in w) e.place e.cell) (tag_session e.cell.tag, e.place) v.full there in
         inr (full_more (plan_in w) e e.lifted e.found e.fact (fetching (plan_in w) e.place e.cell v) (s, e.place) (subst (λ (n : ℕ). Has (n, e.place) (fetching (plan_in w) e.place e.cell v).full) same here), is.kind f fact)
 
     by : IsForm (plan_in w) e.place e.cell → Tells (plan_in w) (with_notes (plan_in w) e v) s e.place f

@@ -4,7 +4,7 @@ use Rattle.std.proofs.lemmas.Bool.Decides.{nat_tests}
 use Rattle.std.proofs.lemmas.Grind.{get_or-set_at}
 use Rattle.cov_base.specs.declared.numbers.TaskNo.{TaskNo}
 use Rattle.cov_base.specs.Facts.{is_full, with_fact}
-use Rattle.module_area.specs.Parties.{session_of}
+use Rattle.module_area.specs.Parties.{tag_session}
 use Rattle.module_area.specs.PlanView.{kind_at}
 use Rattle.module_area.specs.PlainWords.{word_at}
 use Rattle.s370_state.specs.declared.endings.Ending.TheVariants.{Returned, Spent}
@@ -180,10 +180,10 @@ marked_less w c t x e =
     let h = m.0 in
     let held = in_hand_is Marking u.stage h m.1 in
     let due : h.due ≡ Marking = same_due_is h.due Marking held.1 in
-    let full = is_full (kind_at (plan_in w) h.place.0) (with_fact (set_of w c (session_of h.cell.tag) h.place.0) (fact_in w t u h)) in
+    let full = is_full (kind_at (plan_in w) h.place.0) (with_fact (set_of w c (tag_session h.cell.tag) h.place.0) (fact_in w t u h)) in
     let d = if full then Lifting else Nothing in
     let v = with_due u h d in
-    let facts = with_set w c (session_of h.cell.tag) h.place.0 (with_fact (set_of w c (session_of h.cell.tag) h.place.0) (fact_in w t u h)) in
+    let facts = with_set w c (tag_session h.cell.tag) h.place.0 (with_fact (set_of w c (tag_session h.cell.tag) h.place.0) (fact_in w t u h)) in
     let kept : left w (with_task facts t v) t ≡ left_of w t v v.stage = put_left w facts t v (exists c t _ refl here.0) in
     let less : due_left d < due_left h.due = rw due (mark_due_less full) in
     rw (← m.2) (rw (kept, holding_left w t u h held.0) (due_less w t u h d less))

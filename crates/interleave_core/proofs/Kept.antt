@@ -14,7 +14,7 @@ use Rattle.cov_base.specs.Facts.{no_facts, is_within, with_fact, is_full, fact_o
 use Rattle.cov_base.specs.declared.facts.Kind.{Kind}
 use Rattle.cov_base.specs.declared.facts.Kind.TheVariants.{Straight, Conditional}
 use Rattle.module_area.proofs.Indices.{same_index, index_below}
-use Rattle.module_area.specs.Parties.{session_of}
+use Rattle.module_area.specs.Parties.{tag_session}
 use Rattle.module_area.specs.PlainWords.{IsWord, word_at, no_cell, set_in, index_of}
 use Rattle.module_area.specs.PlanView.{PlanView, IsPlan, kind_at, window_at, original_at}
 use Rattle.module_area.specs.declared.cells.Cell.{Cell}
@@ -264,21 +264,21 @@ hand_due w cells sets plan tasks t r due h is lt read e some =
 pub due_hand : (w : World) (t : ℕ) (u : TaskPart) (h g : Hand) (d : Due) → HandDue w t u h → g ≡ record h { due = d } → IsHand w g
 due_hand w t u h g d is e = subst (λ (x : Hand). IsHand w x) (sym e) (record { place = is.hand.place; planted = λ n. (is.some, is.tag, is.half) })
 
-session_is : (tag window : ℕ) → 0 < window → tag + 1 ≡ 2 * window → session_of tag ≡ window
+session_is : (tag window : ℕ) → 0 < window → tag + 1 ≡ 2 * window → tag_session tag ≡ window
 session_is tag window some e = omega arith
 
 pub mark_index : (w : World) (cells : List Cell) (sets : List FactSet) (plan : PlanView) (tasks : List RunningView) (t : ℕ) (u : TaskPart) (h : Hand) (n : ℕ) →
-    IsCore w cells sets plan tasks → HandDue w t u h → n ≡ length cells → h.cell.tag / 2 * n + h.place.0 ≡ index_of (length w.places) (session_of h.cell.tag) h.place.0
+    IsCore w cells sets plan tasks → HandDue w t u h → n ≡ length cells → h.cell.tag / 2 * n + h.place.0 ≡ index_of (length w.places) (tag_session h.cell.tag) h.place.0
 mark_index w cells sets plan tasks t u h n is due e =
-    let less : session_of h.cell.tag - 1 ≡ h.cell.tag / 2 = omega (arith, due.some, due.tag) in
+    let less : tag_session h.cell.tag - 1 ≡ h.cell.tag / 2 = omega (arith, due.some, due.tag) in
     rw (e, is.cell_count, less) refl
 
 pub mark_fits : (w : World) (cells : List Cell) (sets : List FactSet) (plan : PlanView) (tasks : List RunningView) (t : ℕ) (u : TaskPart) (h : Hand) →
-    IsCore w cells sets plan tasks → HandDue w t u h → index_of (length w.places) (session_of h.cell.tag) h.place.0 < length sets
+    IsCore w cells sets plan tasks → HandDue w t u h → index_of (length w.places) (tag_session h.cell.tag) h.place.0 < length sets
 mark_fits w cells sets plan tasks t u h is due =
-    let session : session_of h.cell.tag ≡ window_at (plan_in w) h.place.0 = session_is h.cell.tag _ due.some due.tag in
-    subst (λ n. index_of (length w.places) (session_of h.cell.tag) h.place.0 < n) (sym is.set_count)
-    (index_below (length w.places) (length w.job.sessions) (session_of h.cell.tag) h.place.0 (subst (λ n. 0 < n) (sym session) due.some) (subst (λ n. n ≤ length w.job.sessions) (sym session) due.most) due.hand.place)
+    let session : tag_session h.cell.tag ≡ window_at (plan_in w) h.place.0 = session_is h.cell.tag _ due.some due.tag in
+    subst (λ n. index_of (length w.places) (tag_session h.cell.tag) h.place.0 < n) (sym is.set_count)
+    (index_below (length w.places) (length w.job.sessions) (tag_session h.cell.tag) h.place.0 (subst (λ n. 0 < n) (sym session) due.some) (subst (λ n. n ≤ length w.job.sessions) (sym session) due.most) due.hand.place)
 
 pub within_fact : (k : Kind) (s : FactSet) (went : Bool) → is_within k s ≡ true → is_within k (with_fact s (fact_of k went)) ≡ true
 within_fact Straight s went h = h
@@ -287,25 +287,25 @@ within_fact Conditional s false h = h
 
 pub marked_core : (w : World) (cells : List Cell) (sets : List FactSet) (plan : PlanView) (tasks : List RunningView) (t : ℕ) (r m n : RunningView) (h g : Hand) (d : Due) (at : ℕ) (found facts : FactSet) (kind : Kind) (went : Bool) →
     IsCore w cells sets plan tasks → t < length tasks → r ≡ get_or tasks t r → m ≡ get_or tasks t m → HandDue w t r.part h →
-    at ≡ index_of (length w.places) (session_of h.cell.tag) h.place.0 → found ≡ get_or sets at found → kind ≡ kind_at (plan_in w) h.place.0 →
+    at ≡ index_of (length w.places) (tag_session h.cell.tag) h.place.0 → found ≡ get_or sets at found → kind ≡ kind_at (plan_in w) h.place.0 →
     facts ≡ with_fact found (fact_of kind went) → g ≡ record h { due = d } → n ≡ record m { part = with_stage m.part (Holding g) } →
     IsCore w cells (set sets at facts) plan (set tasks t n)
 marked_core w cells sets plan tasks t r m n h g d at found facts kind went is lt read_r read_m due index read_found is_kind is_facts is_g e =
     let same : r ≡ m = same_read tasks t r m lt read_r read_m in
     let fits = mark_fits w cells sets plan tasks t r.part h is due in
-    let found_is : found ≡ set_in (length w.places) sets (session_of h.cell.tag) h.place.0 =
-    read_found ∙ (ap (λ (i : ℕ). get_or sets i found) index ∙ get_or_default sets (index_of (length w.places) (session_of h.cell.tag) h.place.0) found no_facts fits) in
-    let s0 : 0 < session_of h.cell.tag = subst (λ n. 0 < n) (sym (session_is h.cell.tag _ due.some due.tag)) due.some in
-    let own : is_within (kind_at (plan_in w) h.place.0) found ≡ true = subst (λ (f : FactSet). is_within (kind_at (plan_in w) h.place.0) f ≡ true) (sym found_is) (is.within (session_of h.cell.tag) h.place.0 s0 due.hand.place) in
+    let found_is : found ≡ set_in (length w.places) sets (tag_session h.cell.tag) h.place.0 =
+    read_found ∙ (ap (λ (i : ℕ). get_or sets i found) index ∙ get_or_default sets (index_of (length w.places) (tag_session h.cell.tag) h.place.0) found no_facts fits) in
+    let s0 : 0 < tag_session h.cell.tag = subst (λ n. 0 < n) (sym (session_is h.cell.tag _ due.some due.tag)) due.some in
+    let own : is_within (kind_at (plan_in w) h.place.0) found ≡ true = subst (λ (f : FactSet). is_within (kind_at (plan_in w) h.place.0) f ≡ true) (sym found_is) (is.within (tag_session h.cell.tag) h.place.0 s0 due.hand.place) in
     let grown : is_within (kind_at (plan_in w) h.place.0) facts ≡ true = subst (λ (f : FactSet). is_within (kind_at (plan_in w) h.place.0) f ≡ true) (sym is_facts)
     (subst (λ (k : Kind). is_within (kind_at (plan_in w) h.place.0) (with_fact found (fact_of k went)) ≡ true) (sym is_kind) (within_fact (kind_at (plan_in w) h.place.0) found went own)) in
     let core : IsCore w cells (set sets at facts) plan tasks = subst (λ (i : ℕ). IsCore w cells (set sets i facts) plan tasks) (sym index)
-    (IsCore-set w cells sets plan tasks (session_of h.cell.tag) h.place.0 facts is s0 due.hand.place fits grown) in
+    (IsCore-set w cells sets plan tasks (tag_session h.cell.tag) h.place.0 facts is s0 due.hand.place fits grown) in
     held_core w cells (set sets at facts) plan tasks t m n g core lt read_m e (subst (λ (x : RunningView). is_spent w t x.part.state ≡ false) same due.unspent) (due_hand w t r.part h g d due is_g)
 
 pub mark_possible : (w : World) (cells : List Cell) (sets : List FactSet) (plan : PlanView) (tasks : List RunningView) (t : ℕ) (r m q n : RunningView) (h g : Hand) (d : Due) (at : ℕ) (found facts : FactSet) (kind : Kind) (went : Bool) →
     IsCore w cells sets plan tasks → t < length tasks → r ≡ get_or tasks t r → m ≡ get_or tasks t m → q ≡ get_or tasks t q → in_hand Marking r.part.stage ≡ Some h → HandDue w t r.part h →
-    at ≡ index_of (length w.places) (session_of h.cell.tag) h.place.0 → found ≡ get_or sets at found → kind ≡ kind_at (plan_in w) h.place.0 →
+    at ≡ index_of (length w.places) (tag_session h.cell.tag) h.place.0 → found ≡ get_or sets at found → kind ≡ kind_at (plan_in w) h.place.0 →
     facts ≡ with_fact found (fact_of kind went) → (visit_of (step_of w t q.part) h.subject).went ≡ went → d ≡ (if is_full kind facts then Lifting else Nothing) →
     g ≡ record h { due = d } → n ≡ record m { part = with_stage m.part (Holding g) } →
     of_task (record { cells = cells; sets = sets; tasks = parts_of tasks }) t (mark_step w (record { cells = cells; sets = sets; tasks = parts_of tasks }) t)
@@ -313,25 +313,25 @@ pub mark_possible : (w : World) (cells : List Cell) (sets : List FactSet) (plan 
 mark_possible w cells sets plan tasks t r m q n h g d at found facts kind went is lt read_r read_m read_q held due index read_found is_kind is_facts is_went is_d is_g e =
     let P : Parts = record { cells = cells; sets = sets; tasks = parts_of tasks } in
     let K : Kind = kind_at (plan_in w) h.place.0 in
-    let i : ℕ = index_of (length w.places) (session_of h.cell.tag) h.place.0 in
-    let X : FactSet = with_fact (set_of w P (session_of h.cell.tag) h.place.0) (fact_in w t r.part h) in
+    let i : ℕ = index_of (length w.places) (tag_session h.cell.tag) h.place.0 in
+    let X : FactSet = with_fact (set_of w P (tag_session h.cell.tag) h.place.0) (fact_in w t r.part h) in
     let same_m : m ≡ r = same_read tasks t m r lt read_m read_r in
     let fits = mark_fits w cells sets plan tasks t r.part h is due in
-    let found_is : found ≡ set_of w P (session_of h.cell.tag) h.place.0 =
+    let found_is : found ≡ set_of w P (tag_session h.cell.tag) h.place.0 =
     read_found ∙ (ap (λ (j : ℕ). get_or sets j found) index ∙ get_or_default sets i found no_facts fits) in
     let went_is : went ≡ (visit_of (step_of w t r.part) h.subject).went = sym is_went ∙ ap (λ (x : RunningView). (visit_of (step_of w t x.part) h.subject).went) (same_read tasks t q r lt read_q read_r) in
     let facts_is : facts ≡ X = is_facts ∙ (ap (λ (f : FactSet). with_fact f (fact_of kind went)) found_is
-    ∙ (ap (λ (k : Kind). with_fact (set_of w P (session_of h.cell.tag) h.place.0) (fact_of k went)) is_kind
-    ∙ ap (λ (b : Bool). with_fact (set_of w P (session_of h.cell.tag) h.place.0) (fact_of K b)) went_is)) in
+    ∙ (ap (λ (k : Kind). with_fact (set_of w P (tag_session h.cell.tag) h.place.0) (fact_of k went)) is_kind
+    ∙ ap (λ (b : Bool). with_fact (set_of w P (tag_session h.cell.tag) h.place.0) (fact_of K b)) went_is)) in
     let d_is : d ≡ (if is_full K X then Lifting else Nothing) = is_d ∙ (ap (λ (k : Kind). if is_full k facts then Lifting else Nothing) is_kind ∙ ap (λ (f : FactSet). if is_full K f then Lifting else Nothing) facts_is) in
     let part : n.part ≡ with_due r.part h (if is_full K X then Lifting else Nothing) =
     ap (λ (x : RunningView). x.part) e ∙ (ap (λ (x : RunningView). with_stage x.part (Holding g)) same_m
     ∙ (ap (λ (z : Hand). with_stage r.part (Holding z)) is_g ∙ ap (λ (z : Due). with_due r.part h z) d_is)) in
-    let made : marked w P t r.part h ≡ record { parts = record { cells = cells; sets = set sets i X; tasks = parts_of (set tasks t n) }; shown = Marked (set_of w P (session_of h.cell.tag) h.place.0) } =
+    let made : marked w P t r.part h ≡ record { parts = record { cells = cells; sets = set sets i X; tasks = parts_of (set tasks t n) }; shown = Marked (set_of w P (tag_session h.cell.tag) h.place.0) } =
     stepped_is _ _ _ (parts_with cells (set sets i X) tasks t n _ part) in
     of_task-read cells sets tasks t r (mark_step w P t) _ lt read_r (ap (option_map (marked w P t r.part)) held ∙ ap Some (made
-    ∙ (ap (λ (f : FactSet). record { parts = record { cells = cells; sets = set sets i f; tasks = parts_of (set tasks t n) }; shown = Marked (set_of w P (session_of h.cell.tag) h.place.0) }) (sym facts_is)
-    ∙ (ap (λ (j : ℕ). record { parts = record { cells = cells; sets = set sets j facts; tasks = parts_of (set tasks t n) }; shown = Marked (set_of w P (session_of h.cell.tag) h.place.0) }) (sym index)
+    ∙ (ap (λ (f : FactSet). record { parts = record { cells = cells; sets = set sets i f; tasks = parts_of (set tasks t n) }; shown = Marked (set_of w P (tag_session h.cell.tag) h.place.0) }) (sym facts_is)
+    ∙ (ap (λ (j : ℕ). record { parts = record { cells = cells; sets = set sets j facts; tasks = parts_of (set tasks t n) }; shown = Marked (set_of w P (tag_session h.cell.tag) h.place.0) }) (sym index)
     ∙ ap (λ (f : FactSet). record { parts = record { cells = cells; sets = set sets at facts; tasks = parts_of (set tasks t n) }; shown = Marked f }) (sym found_is)))))
 
 exchanged : (b : Bool) (w : World) (cells : List Cell) (sets : List FactSet) (plan : PlanView) (tasks : List RunningView) (p : ℕ) (x : Cell) →

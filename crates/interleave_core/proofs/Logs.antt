@@ -1,5 +1,6 @@
 -- Each event keeps each task's log.
 use Rattle.std.proofs.Common.{◌≡◌, ◌≢◌, ◌⊎◌, inl, inr, ℕ, zero, suc, ◌+◌, ◌%◌, ◌<◌, ◌≤◌, Bool, true, false, ◌==◌, nat_lt, nat_eq, if◌then◌else◌, Option, Some, None, option_map, List, [], ◌∷◌, ◌++◌, length, get_or, set, refl, sym, ◌∙◌, ap, subst, arith}
+use Rattle.std.specs.Option.{option_or}
 use Rattle.std.proofs.lemmas.Bool.Decides.{nat_tests}
 use Rattle.std.proofs.lemmas.List.{append_assoc, append-nil, get_or-map, get_or-set_other, length-set, length-map}
 use Rattle.cov_base.specs.Memory.{Memory, can_reach, half_at}
@@ -9,7 +10,7 @@ use Rattle.s370_decode.specs.Fields.{first_half}
 use Rattle.s370_decode.specs.Table.{op_of}
 use Rattle.s370_decode.specs.declared.code.Code.{Code}
 use Rattle.s370_exec.specs.Effects.{effect, updated, link_code}
-use Rattle.s370_exec.specs.Fetch.{is_execute, code_at, first_tests, rest_tests, whole_tests, or_ending}
+use Rattle.s370_exec.specs.Fetch.{is_execute, code_at, first_tests, rest_tests, whole_tests}
 use Rattle.s370_exec.specs.Solo.{Run, Step, solo_run, solo_step, ended, visit, behind, subject_step, no_visit}
 use Rattle.s370_exec.proofs.TraceLemmas.{solo_step-visits}
 use Rattle.module_area.specs.PlanView.{place_of}
@@ -39,7 +40,7 @@ use Rattle.s370_state.specs.declared.endings.Ending.TheVariants.{Returned, Spent
 use Rattle.s370_state.specs.declared.endings.Next.{Next}
 use Rattle.s370_state.specs.declared.endings.Next.TheVariants.{On, Ended as NextEnded}
 use Rattle.session_book.specs.Sessions.{task_of, no_task, first_state}
-use Rattle.module_area.specs.Parties.{session_of}
+use Rattle.module_area.specs.Parties.{tag_session}
 use Rattle.module_area.specs.PlainWords.{word_at}
 use Rattle.std.proofs.lemmas.Grind.{get_or-set_at}
 use Rattle.interleave_core.specs.declared.stage.Due.{Due}
@@ -102,7 +103,7 @@ pub pass_by : (m : Memory) (s : State) (tests : Option Ending) → first_tests m
 pass_by m s None pass h = visits_by m s (code_at m s.machine.bytes s.machine.cpu.ia (half_at m s.machine.bytes s.machine.cpu.ia)) _ h refl refl
 pass_by m s (Some e) pass h =
     let a : ℕ = s.machine.cpu.ia in
-    let rest : rest_tests m a (length_of (half_at m s.machine.bytes a)) ≡ Some e = subst (λ (o : Option Ending). or_ending o (rest_tests m a (length_of (half_at m s.machine.bytes a))) ≡ Some e) pass h in
+    let rest : rest_tests m a (length_of (half_at m s.machine.bytes a)) ≡ Some e = subst (λ (o : Option Ending). option_or o (rest_tests m a (length_of (half_at m s.machine.bytes a))) ≡ Some e) pass h in
     (visit s a false false false, [], ap (λ (r : Step). r.visits) (solo_step-rest_refused m s a (half_at m s.machine.bytes a) e refl pass refl rest), refl)
 
 -- one fetch of an instruction more
@@ -265,7 +266,7 @@ log_step w c (Mark t) x world h is =
     let at = exists_by (nat_lt t.0 (length c.parts.tasks)) (mark_step w c.parts t.0 u) x h in
     let lt : t.0 < length c.parts.tasks = lt_of t.0 (length c.parts.tasks) at.0 in
     let p = got Hand (marked w c.parts t.0 u) (in_hand Marking u.stage) x at.1 in
-    let found : FactSet = set_of w c.parts (session_of p.0.cell.tag) p.0.place.0 in
+    let found : FactSet = set_of w c.parts (tag_session p.0.cell.tag) p.0.place.0 in
     let stage = (in_hand-stage Marking u.stage p.0 p.1).0 in
     let before : logged (c.logs t.0) ≡ noted w (trace_of w t.0 u ++ visits_in_hand (Holding p.0) (visits_of w t.0 u)) = subst (λ (s : Stage). logged (c.logs t.0) ≡ noted w (trace_of w t.0 u ++ visits_in_hand s (visits_of w t.0 u))) stage (is.logs t.0 lt) in
     subst (λ (y : Stepped). (length y.parts.tasks ≡ length w.job.tasks) × HaveLogs w y.parts (core_after w c (Mark t) y).core.logs) (sym p.2)

@@ -21,7 +21,7 @@ use Rattle.s370_exec.specs.Fetch.{is_execute}
 use Rattle.s370_exec.specs.Solo.{has_returned, visit_of}
 use Rattle.module_area.specs.FreshWords.{fresh_word}
 use Rattle.module_area.specs.Held.{planted, untouched, lifted as lifted_cell, IsForm, Keeps, KeepsAs, Held}
-use Rattle.module_area.specs.Parties.{Has, session_of, window_tag, is_breakpoint, blank, fetching, marking, lifting, planting, giving, newcomer, last_tag}
+use Rattle.module_area.specs.Parties.{Has, tag_session, window_tag, is_breakpoint, blank, fetching, marking, lifting, planting, giving, newcomer, last_tag}
 use Rattle.module_area.specs.PlainWords.{word_at, no_cell, index_of}
 use Rattle.module_area.specs.PlanView.{PlanView, IsPlan, original_at, kind_at, window_at, is_over, no_place}
 use Rattle.module_area.specs.declared.cells.Cell.{Cell}
@@ -143,11 +143,11 @@ held_hand w t u log stage due h is e =
     let at = in_hand-stage due stage h e in
     subst (λ (d : Due). InHand w t u log h d) (due_same h.due due at.1) (subst (λ (s : Stage). InStage w t u log s) at.0 is)
 
-of_window : (s : ℕ) → 0 < s → session_of (window_tag s) ≡ s
+of_window : (s : ℕ) → 0 < s → tag_session (window_tag s) ≡ s
 of_window s h = omega arith
 
-hand_of : (w : World) (h : Hand) (b : HasBreakpoint w h) → session_of h.cell.tag ≡ b.session
-hand_of w h b = ap (λ (c : Cell). session_of c.tag) b.cell ∙ of_window b.session b.some_session
+hand_of : (w : World) (h : Hand) (b : HasBreakpoint w h) → tag_session h.cell.tag ≡ b.session
+hand_of w h b = ap (λ (c : Cell). tag_session c.tag) b.cell ∙ of_window b.session b.some_session
 
 -- ---- the rule, and what the events need besides
 
@@ -273,10 +273,10 @@ marked_in w t u h rest found false full marked has = ((λ f b some. (found, refl
 -- the sets with the fact that a mark adds
 module _ (w : World) (c : Parts) (h : Hand) (b : HasBreakpoint w h) (f : Fact) (plan : IsPlan (plan_in w)) (sets : length c.sets ≡ length w.job.sessions * length w.places) where
   abbrev grown : FactSet
-  grown = with_fact (set_of w c (session_of h.cell.tag) h.place.0) f
+  grown = with_fact (set_of w c (tag_session h.cell.tag) h.place.0) f
 
   abbrev index : ℕ
-  index = index_of (length w.places) (session_of h.cell.tag) h.place.0
+  index = index_of (length w.places) (tag_session h.cell.tag) h.place.0
 
   index_is : index_of (length w.places) b.session h.place.0 ≡ index
   index_is = ap (λ (s : ℕ). index_of (length w.places) s h.place.0) (sym (hand_of w h b))
@@ -296,7 +296,7 @@ module _ (w : World) (c : Parts) (h : Hand) (b : HasBreakpoint w h) (f : Fact) (
       (λ e. n (same_index (length w.places) s q b.session h.place.0 pos b.some_session lt b.inside (e ∙ sym index_is)))
 
 pub rule_mark : (w : World) (c : CoreState) (v : View) (t : ℕ) (h : Hand) → Ruled w c v → t < length c.parts.tasks → in_hand Marking (part_of c.parts t).stage ≡ Some h →
-    Ruled w (record { parts = (marked w c.parts t (part_of c.parts t) h).parts; logs = logs_after w c (marked w c.parts t (part_of c.parts t) h).parts t (Marked (set_of w c.parts (session_of h.cell.tag) h.place.0)) }) v
+    Ruled w (record { parts = (marked w c.parts t (part_of c.parts t) h).parts; logs = logs_after w c (marked w c.parts t (part_of c.parts t) h).parts t (Marked (set_of w c.parts (tag_session h.cell.tag) h.place.0)) }) v
 rule_mark w c v t h is lt due =
     let u : TaskPart = part_of c.parts t in
     let there : t < length w.job.tasks = subst (λ (n : ℕ). t < n) is.count lt in
@@ -305,7 +305,7 @@ rule_mark w c v t h is lt due =
     let b : HasBreakpoint w h = hand.3 in
     let f : Fact = fact_in w t u h in
     let p : ℕ = h.place.0 in
-    let found : FactSet = set_of w c.parts (session_of h.cell.tag) p in
+    let found : FactSet = set_of w c.parts (tag_session h.cell.tag) p in
     let d : Due = if is_full (kind_at (plan_in w) p) (with_fact found f) then Lifting else Nothing in
     let u2 : TaskPart = with_due u h d in
     let view : View = task_view w t (c.logs t) in
@@ -318,7 +318,7 @@ rule_mark w c v t h is lt due =
     ∙ (ap (λ (s : ℕ). marking (plan_in w) s p f found (task_view w t (entry_in w t u h None ∷ rest))) (sym (hand_of w h b))
     ∙ ap (task_view w t) (sym logged))) in
     after_task w c v (marked w c.parts t u h).parts t u2 (Marked found) (marking (plan_in w) b.session p f (set_of w c.parts b.session p) view) is lt refl is.cells
-    (length-set c.parts.sets (index_of (length w.places) (session_of h.cell.tag) p) (with_fact found f) ∙ is.sets)
+    (length-set c.parts.sets (index_of (length w.places) (tag_session h.cell.tag) p) (with_fact found f) ∙ is.sets)
     (marks (plan_in w) (λ q. word_at c.parts.cells q) (λ s q. set_of w c.parts s q) (v ∷ task_views w c.logs 0 (length w.job.tasks)) is.held (suc t) view (view_at w c.logs 0 (length w.job.tasks) t t (omega arith) there) live
     b.session p f b.inside b.some_session pending (kind_fact (kind_at (plan_in w) p) (visit_of (step_of w t u) h.subject).went) (λ q. word_at c.parts.cells q) (λ s q. set_of w (marked w c.parts t u h).parts s q)
     (λ q l. refl) (set_here w c.parts h b f is.held.is_plan is.sets) (set_other w c.parts h b f is.held.is_plan is.sets))
@@ -391,8 +391,8 @@ rule_lift w c v t h is lt due =
     let view : View = task_view w t (c.logs t) in
     let live : view.role ≢ Spent = λ e. spent_not_task t (sym e ∙ task_role w t (c.logs t)) in
     let e : Entry = entry_in w t u h (Some found) in
-    let met_there : Has (session_of h.cell.tag, p) (task_view w t (e ∷ rest)).full =
-    here-add_if (is_full (kind_at (plan_in w) p) (with_fact found (fact_in w t u h))) (session_of h.cell.tag, p) (fetching (plan_in w) p h.cell (task_view w t rest)).full hand.3 in
+    let met_there : Has (tag_session h.cell.tag, p) (task_view w t (e ∷ rest)).full =
+    here-add_if (is_full (kind_at (plan_in w) p) (with_fact found (fact_in w t u h))) (tag_session h.cell.tag, p) (fetching (plan_in w) p h.cell (task_view w t rest)).full hand.3 in
     let met : Has (b.session, p) view.full = subst (λ (l : List Entry). Has (b.session, p) (task_view w t l).full) (sym hand.2) (subst (λ (s : ℕ). Has (s, p) (task_view w t (e ∷ rest)).full) (hand_of w h b) met_there) in
     let logged : log_after w t u2 (Lifted taken) (c.logs t) ≡ record e { lifted = Some taken } ∷ rest = ap (log_after w t u2 (Lifted taken)) hand.2 in
     let view_is : lifting b.session p taken view ≡ task_view w t (log_after w t u2 (Lifted taken) (c.logs t)) =

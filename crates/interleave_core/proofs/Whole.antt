@@ -12,7 +12,7 @@ use Rattle.cov_base.specs.declared.facts.Fact.TheVariants.{Ran, Went, Stayed}
 use Rattle.s370_state.specs.declared.endings.Ending.{Ending}
 use Rattle.s370_exec.specs.Solo.{Run}
 use Rattle.module_area.specs.Executions.{executes, facts_at, facts_of_all}
-use Rattle.module_area.specs.Parties.{Has, session_of, window_tag}
+use Rattle.module_area.specs.Parties.{Has, tag_session, window_tag}
 use Rattle.module_area.specs.PlainWords.{word_at, no_cell}
 use Rattle.module_area.specs.PlanView.{kind_at, window_at, place_of, no_place}
 use Rattle.module_area.specs.declared.cells.Cell.{Cell}
@@ -23,7 +23,7 @@ use Rattle.module_area.proofs.Indices.{same_tests}
 use Rattle.module_area.proofs.PartyLemmas.{has-append, left-append, right-append}
 use Rattle.module_area.proofs.StepLemmas.{or_cases, or_left, or_right, same_fact-same}
 use Rattle.session_book.specs.JobView.{IsJob, SessionView, TaskView}
-use Rattle.session_book.specs.Sessions.{session_of as job_session, no_session, no_task, observes, window_from, window_of, traces_from, session_set}
+use Rattle.session_book.specs.Sessions.{session_of, no_session, no_task, observes, window_from, window_of, traces_from, session_set}
 use Rattle.brk_table.proofs.PlaceLemmas.{one_begins}
 use Rattle.interleave_core.specs.World.{World, IsWorld, TaskPart, Parts, part_of, plan_in, place_at, place_from, budget_in}
 use Rattle.interleave_core.specs.Steps.{Stepped, parts_step, fetch_step, fetched, mark_step, marked, lift_step, lifted, do_step, done_by, may_plant, breakpoint_of, with_cell, with_due, with_stage, original_under, same_cell, in_hand, hand_at, step_of, place_due, is_awaiting, task_done, set_of, fact_in}
@@ -110,7 +110,7 @@ open_step w c v (Mark t) x world h is up all =
     let at = exists_by (nat_lt t.0 (length c.parts.tasks)) (mark_step w c.parts t.0 u) x h in
     let lt : t.0 < length c.parts.tasks = lt_of t.0 (length c.parts.tasks) at.0 in
     let p = got Hand (marked w c.parts t.0 u) (in_hand Marking u.stage) x at.1 in
-    let found : FactSet = set_of w c.parts (session_of p.0.cell.tag) p.0.place.0 in
+    let found : FactSet = set_of w c.parts (tag_session p.0.cell.tag) p.0.place.0 in
     let u2 : TaskPart = with_due u p.0 (if is_full (kind_at (plan_in w) p.0.place.0) (with_fact found (fact_in w t.0 u p.0)) then Lifting else Nothing) in
     subst (λ (y : Stepped). Up w y.parts × AllEntered w (core_after w c (Mark t) y).core) (sym p.2)
     (up, one_log w (λ n y log. Entered w log) c (marked w c.parts t.0 u p.0).parts t.0 u2 (Marked found) refl lt (log_kept_mark w t.0 u2 found (c.logs t.0) (all t.0 lt)) all)
@@ -342,7 +342,7 @@ window_below n (s ∷ ss) m h = by (observes 0 m s) h (λ g. window_below (n + 1
     by true g more = (0, omega arith, omega arith)
     by false g more = let r = more g in (suc r.0, omega (arith, r.1), omega (arith, r.2))
 
-session_phase : (w : World) (p : ℕ) → IsWorld w → p < length w.places → 0 < window_at (plan_in w) p → (job_session w.job (window_at (plan_in w) p)).phase ≡ 0
+session_phase : (w : World) (p : ℕ) → IsWorld w → p < length w.places → 0 < window_at (plan_in w) p → (session_of w.job (window_at (plan_in w) p)).phase ≡ 0
 session_phase w p world lt pos =
     let is : window_at (plan_in w) p ≡ window_of w.job 0 (place_of w.places p) = get_or-map (window_of w.job 0) w.places p no_place 0 lt in
     let r = window_below 1 w.job.sessions (place_of w.places p).module (subst (λ (n : ℕ). 0 < n) is pos) in

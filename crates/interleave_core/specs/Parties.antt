@@ -5,7 +5,7 @@ use Rattle.cov_base.specs.FactSet.{FactSet}
 use Rattle.module_area.specs.declared.parties.Role.TheVariants.{Root, Task}
 use Rattle.module_area.specs.declared.parties.View.{View}
 use Rattle.module_area.specs.Held.{Held}
-use Rattle.module_area.specs.Parties.{session_of, blank, fetching, marking, lifting, planting}
+use Rattle.module_area.specs.Parties.{tag_session, blank, fetching, marking, lifting, planting}
 use Rattle.module_area.specs.PlainWords.{word_at}
 use Rattle.module_area.specs.PlanView.{PlanView}
 use Rattle.interleave_core.specs.World.{World, Parts, plan_in}
@@ -16,12 +16,12 @@ use Rattle.interleave_core.specs.declared.events.Event.TheVariants.{Plant}
 
 -- what the entry's mark adds, where there was one
 abbrev pub with_mark : PlanView → Entry → Option FactSet → Option Fact → View → View
-with_mark plan e (Some found) (Some f) v = marking plan (session_of e.cell.tag) e.place f found v
+with_mark plan e (Some found) (Some f) v = marking plan (tag_session e.cell.tag) e.place f found v
 with_mark plan e found fact v = v
 
 -- and its lift
 abbrev pub with_lift : Entry → Option Bool → View → View
-with_lift e (Some exchanged) v = lifting (session_of e.cell.tag) e.place exchanged v
+with_lift e (Some exchanged) v = lifting (tag_session e.cell.tag) e.place exchanged v
 with_lift e None v = v
 
 abbrev pub with_notes : PlanView → Entry → View → View

@@ -12,7 +12,7 @@ use Rattle.s370_state.specs.declared.endings.Next.{Next}
 use Rattle.s370_state.specs.declared.endings.Next.TheVariants.{On, Ended as NextEnded}
 use Rattle.s370_exec.specs.Fetch.{is_execute}
 use Rattle.s370_exec.specs.Solo.{Step, solo_step, visit_of, has_returned}
-use Rattle.module_area.specs.Parties.{session_of}
+use Rattle.module_area.specs.Parties.{tag_session}
 use Rattle.module_area.specs.PlainWords.{word_at, index_of, set_in}
 use Rattle.module_area.specs.PlanView.{original_at, kind_at, window_at}
 use Rattle.module_area.specs.declared.cells.Cell.{Cell}
@@ -94,7 +94,7 @@ with_due u h due = with_stage u (Holding (record h { due = due }))
 -- Mark: the fact joins the set; a set that is full then is followed by a Lift
 abbrev pub marked : World → Parts → ℕ → TaskPart → Hand → Stepped
 marked w c t u h =
-    let s = session_of h.cell.tag in
+    let s = tag_session h.cell.tag in
     let found = set_of w c s h.place.0 in
     let facts = with_fact found (fact_in w t u h) in
     record {

@@ -36,6 +36,7 @@ pub(crate) struct Running<'a> {
 
 impl<'a> Model for Running<'a> {
     ghost use Rattle.std.specs.Prelude.{◌≤◌};
+    ghost use Rattle.cov_base.specs.declared.limits.TheConstants.{BUDGET_LIMIT};
     ghost use Rattle.s370_exec.specs.Solo.{state_of};
     ghost use Rattle.interleave_core.specs.Views.{RunningView};
 
@@ -43,7 +44,7 @@ impl<'a> Model for Running<'a> {
 
     ghost view = { λ r. record { part = record { state = state_of r.cpu r.space.bytes r.io r.done; stage = r.stage }; space = r.space; budget = r.budget } };
 
-    ghost invariant = { λ r. (r.done ≤ r.budget) × (r.budget ≤ 50000000) };
+    ghost invariant = { λ r. (r.done ≤ r.budget) × (r.budget ≤ BUDGET_LIMIT) };
 }
 
 /// The place that begins at the address.

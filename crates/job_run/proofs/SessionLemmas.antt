@@ -75,8 +75,8 @@ joined-flat : (traces : List (List Visit)) → joined traces ≡ flat_map (λ t.
 joined-flat [] = refl
 joined-flat (t ∷ ts) = ap (λ (vs : List Visit). t ++ vs) (joined-flat ts) ∙ sym (flat_map-cons (λ u. u) t ts)
 
-pub set_of-trace : (run : Course) (j : JobView) (places : List Place) (s p : ℕ) → set_by run j places s p ≡ facts_at (place_of places p) (phase_trace run j places (session_of j s).phase)
-set_of-trace run j places s p =
+pub set_by-trace : (run : Course) (j : JobView) (places : List Place) (s p : ℕ) → set_by run j places s p ≡ facts_at (place_of places p) (phase_trace run j places (session_of j s).phase)
+set_by-trace run j places s p =
     let traces : List (List Visit) = traces_from 0 j.tasks (session_of j s).phase (trace_by run j places) in
     facts_of_all-one (place_of places p) traces ∙ ap (facts_at (place_of places p)) (sym (joined-flat traces))
 
@@ -117,7 +117,7 @@ set_is run j places v s p job of size a some most l h =
     let w : window_at (plan_view j places (session_of j s).phase) p ≡ s = window_at-session j places s p job some most l h in
     let left : set_at f s p ≡ facts_at (place_of places p) (phase_trace run j places (session_of j s).phase) = rw w at (a.ends.sets p l (omega (arith, w, some))) in
     let of_job : set_at (get_or v.finals (session_of v.job s).phase no_finals) s p ≡ set_at f s p = ap (λ (i : JobView). set_at (get_or v.finals (session_of i s).phase no_finals) s p) of in
-    here_is v s p (omega (arith, l, size)) ∙ (of_job ∙ (left ∙ sym (set_of-trace run j places s p)))
+    here_is v s p (omega (arith, l, size)) ∙ (of_job ∙ (left ∙ sym (set_by-trace run j places s p)))
 
 pub set_within : (run : Course) (j : JobView) (places : List Place) (v : SetsView) (s p : ℕ) → v.job ≡ j → v.places ≡ length places →
     AreaOf run j places (session_of j s).phase (get_or v.finals (session_of j s).phase no_finals) → 0 < s → s ≤ length j.sessions →

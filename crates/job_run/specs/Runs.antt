@@ -74,11 +74,11 @@ pub record HasLeftBy (run : Course) (j : JobView) (places : List Place) (before 
 
 -- the same where each task runs as it does alone
 
-abbrev pub result_of : JobView → List Place → ℕ → ResultView
-result_of j places t = result_by solo j places t
+abbrev pub solo_result : JobView → List Place → ℕ → ResultView
+solo_result j places t = result_by solo j places t
 
-abbrev pub set_of : JobView → List Place → ℕ → ℕ → FactSet
-set_of j places s p = set_by solo j places s p
+abbrev pub solo_set : JobView → List Place → ℕ → ℕ → FactSet
+solo_set j places s p = set_by solo j places s p
 
 abbrev pub HasRun : JobView → List Place → Account → Account → Type 0
 HasRun j places before after = HasRunBy solo j places before after

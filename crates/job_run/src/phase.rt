@@ -81,8 +81,9 @@ fn run_phases<'a, T: Threads + Sync, A: Areas, G: Gate + Sync>(
 }
 
 /// Runs the job, phase after phase: the areas are left as the runs of the tasks alone give, and so is the outcome, whose
-/// sets are those of the areas that this call has finished, one for each phase. The tasks of a phase run at once, each on a thread of its own that has passed the gate. All tasks take their memory
-/// before the first phase runs, and a phase takes all but its area's end before it plants.
+/// sets are those of the areas that this call has finished, one for each phase. The tasks of a phase run at once, each on
+/// a thread of its own that has passed the gate. All tasks take their memory before the first phase runs, and a phase
+/// takes all but its area's end before it plants.
 pub fn run_job<'a, T: Threads + Wait + Sync, A: Areas, G: Gate + Sync>(
     rt: &T,
     alloc: Global,

@@ -1,6 +1,7 @@
 //! The tasks of a phase, each on a thread of its own.
 ghost use Rattle.std.specs.Prelude.{◌≡◌, ℕ, ◌+◌, ◌<◌, ◌≤◌, ◌^◌, false, nat_eq, if◌then◌else◌, All, length, slice_index_or};
 ghost use Rattle.std.specs.declared.option.Option.TheVariants.{None};
+ghost use Rattle.cov_base.specs.declared.limits.TheConstants.{PLACE_LIMIT, TASK_LIMIT};
 ghost use Rattle.module_area.specs.Notes.{calls};
 ghost use Rattle.space_map.specs.Space.{memory_of_space};
 ghost use Rattle.svc_monitor.specs.First.{IsOver};
@@ -47,7 +48,7 @@ fn run_slot<'a, C: Cells, G: Gate>(
     t: usize,
     slot: &mut Slot<'a, C::Pass>,
 )
-    requires number { t < 64 }
+    requires number { t < TASK_LIMIT }
     requires ready { CanRun (C.is_pass cells.now) C.notes (C.plan cells.now) tables.now.places slot.old }
     ensures { RunsSlot solo (C.is_pass cells.now) C.notes (C.plan cells.now) slot.old slot.new slot.old.pass }
 {
@@ -67,7 +68,7 @@ fn run_slots<'a, T: Threads + Sync, C: Cells + Sync, G: Gate + Sync>(
     first: usize,
     slots: &mut [Slot<'a, C::Pass>],
 )
-    requires number { first + length slots.old ≤ 64 }
+    requires number { first + length slots.old ≤ TASK_LIMIT }
     requires ready { All (CanRun (C.is_pass cells.now) C.notes (C.plan cells.now) tables.now.places) slots.old }
     ensures count { length slots.new ≡ length slots.old }
     ensures runs { (t : ℕ) (d : _) → t < length slots.old → RunsSlot solo (C.is_pass cells.now) C.notes (C.plan cells.now) (slice_index_or slots.old t d) (slice_index_or slots.new t d) (slice_index_or slots.old t d).pass }
@@ -77,7 +78,7 @@ fn run_slots<'a, T: Threads + Sync, C: Cells + Sync, G: Gate + Sync>(
     }
     let count = slots.len();
     let work = |t: usize, slot: &mut Slot<'_, C::Pass>|
-        requires { (first + t < 64) × CanRun (C.is_pass cells.now) C.notes (C.plan cells.now) tables.now.places slot.now }
+        requires { (first + t < TASK_LIMIT) × CanRun (C.is_pass cells.now) C.notes (C.plan cells.now) tables.now.places slot.now }
         ensures { RunsSlot solo (C.is_pass cells.entry.now) C.notes (C.plan cells.entry.now) slot.entry.now slot.exit.now slot.entry.now.pass }
     { run_slot(cells, gate, tables, first + t, slot) };
     thread::for_each_mut(rt, slots, count, &work);
@@ -122,7 +123,7 @@ fn run_those<'a, T: Threads + Sync, C: Cells + Sync, G: Gate + Sync>(
     phase: u32,
     slots: &mut [Slot<'a, C::Pass>],
 )
-    requires number { length slots.old ≤ 64 }
+    requires number { length slots.old ≤ TASK_LIMIT }
     requires count { length slots.old ≡ length job.now.tasks }
     requires ready { All (CanRun (C.is_pass cells.now) C.notes (C.plan cells.now) tables.now.places) slots.old }
     requires others { (t : ℕ) (d : _) → t < length slots.old → in_phase job.now phase t ≡ false → (slice_index_or slots.old t d).pass ≡ None }
@@ -179,7 +180,7 @@ pub fn run_tasks<'a, T: Threads + Sync, C: Forks + Sync, G: Gate + Sync>(
     requires root { (C.notes root.old).bears ≡ None }
     requires given { (t : ℕ) → (C.notes root.old).given t ≡ false }
     requires out { (t : ℕ) → (C.notes root.old).out t ≡ false }
-    requires room { calls (C.notes root.old) ≤ 2 ^ 16 }
+    requires room { calls (C.notes root.old) ≤ PLACE_LIMIT }
     requires tasks { AreRun solo job.now tables.now.places phase slots.old }
     requires empty { AreEmpty slots.old }
     ensures area { C.is_pass cells.now root.new }

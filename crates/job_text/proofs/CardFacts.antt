@@ -10,7 +10,7 @@ use Rattle.hex.specs.declared.error.FromHexError.{FromHexError}
 use Rattle.hex.proofs.HexLemmas.{decode_sized-ok, decode_sized-twice, decode_of-ok}
 use Rattle.job_text.specs.CardView.{CardView, Cover, Module, Text, Listing, Phase, Session, Task, Reg, Data, Input, End}
 use Rattle.job_text.specs.Words.{words, number_at, bytes_at, ok_of, address_in, address_at, word_at, put_name, names_on, names_at}
-use Rattle.job_text.specs.Cards.{may_stand, module_of, session_of, task_of, reg_of, data_of, short_card, pair_card, long_card, card_of, card_at}
+use Rattle.job_text.specs.Cards.{may_stand, as_module, as_session, as_task, as_reg, as_data, short_card, pair_card, long_card, card_of, card_at}
 use Rattle.job_text.proofs.Guards.{some_same, guard_some, guard_more}
 
 -- a name filled with blanks
@@ -44,13 +44,13 @@ address_below w (Err f) e is h = absurd cc
 pub address_good : (w : List ℕ) (e : ℕ) → address_at w ≡ Some e → e < 16777216
 address_good w e h = address_below w (decode_sized w 3) e refl h
 
-module_good : (n : Option (List ℕ)) (b s : Option ℕ) (c : CardView) → ((m : List ℕ) → n ≡ Some m → IsName m) → module_of n b s ≡ Some c → Good c
+module_good : (n : Option (List ℕ)) (b s : Option ℕ) (c : CardView) → ((m : List ℕ) → n ≡ Some m → IsName m) → as_module n b s ≡ Some c → Good c
 module_good (Some n) (Some b) (Some s) c is e = let g = guard_some (may_stand b s) (Module n b s) c e in subst Good g.1 (is n refl, g.0)
 module_good (Some n) (Some b) None c is e = absurd cc
 module_good (Some n) None s c is e = absurd cc
 module_good None b s c is e = absurd cc
 
-session_good : (n : Option (List ℕ)) (ns : Option (List (List ℕ))) (c : CardView) → ((ms : List (List ℕ)) → ns ≡ Some ms → 1 ≤ length ms) → session_of n ns ≡ Some c → Good c
+session_good : (n : Option (List ℕ)) (ns : Option (List (List ℕ))) (c : CardView) → ((ms : List (List ℕ)) → ns ≡ Some ms → 1 ≤ length ms) → as_session n ns ≡ Some c → Good c
 session_good (Some n) (Some ns) c some e = let same : Session n ns ≡ c = cc in subst Good same (some ns refl)
 session_good (Some n) None c some e = absurd cc
 session_good None ns c some e = absurd cc
@@ -81,7 +81,7 @@ names_some w ws ms e = by (put_name [] (name_at w)) refl e
 some_budget : (b : ℕ) → nat_le 1 b ≡ true → 1 ≤ b
 some_budget b e = grind (arith, nat_tests)
 
-task_good : (n : Option (List ℕ)) (e p b r : Option ℕ) (c : CardView) → ((k : ℕ) → e ≡ Some k → k < 16777216) → task_of n e p b r ≡ Some c → Good c
+task_good : (n : Option (List ℕ)) (e p b r : Option ℕ) (c : CardView) → ((k : ℕ) → e ≡ Some k → k < 16777216) → as_task n e p b r ≡ Some c → Good c
 task_good (Some n) (Some e) (Some p) (Some b) (Some r) c is h = let g = guard_some (nat_le 1 b) (Task n e p b r) c h in subst Good g.1 (is e refl, some_budget b g.0)
 task_good (Some n) (Some e) (Some p) (Some b) None c is h = absurd cc
 task_good (Some n) (Some e) (Some p) None r c is h = absurd cc
@@ -89,12 +89,12 @@ task_good (Some n) (Some e) None b r c is h = absurd cc
 task_good (Some n) None p b r c is h = absurd cc
 task_good None e p b r c is h = absurd cc
 
-reg_good : (n v : Option ℕ) (c : CardView) → reg_of n v ≡ Some c → Good c
+reg_good : (n v : Option ℕ) (c : CardView) → as_reg n v ≡ Some c → Good c
 reg_good (Some n) (Some v) c e = let g = guard_some (nat_le n 15) (Reg n v) c e in subst Good g.1 tt
 reg_good (Some n) None c e = absurd cc
 reg_good None v c e = absurd cc
 
-data_good : (n : Option ℕ) (v : Option (List ℕ)) (c : CardView) → data_of n v ≡ Some c → Good c
+data_good : (n : Option ℕ) (v : Option (List ℕ)) (c : CardView) → as_data n v ≡ Some c → Good c
 data_good (Some n) (Some v) c e = let same : Data (record { offset = n; bytes = v }) ≡ c = cc in subst Good same tt
 data_good (Some n) None c e = absurd cc
 data_good None v c e = absurd cc
@@ -131,29 +131,29 @@ short_good key a c e =
     (input_good (bytes_eq key (codes "INPUT")) (bytes_at a) _ c
     (last_good (bytes_eq key (codes "COVERJOB") && bytes_eq a (codes "1")) c Cover tt)))) e
 
-reg_or_more : (q : Bool) (n v : Option ℕ) (more : Option CardView) (c : CardView) → (more ≡ Some c → Good c) → cond q (reg_of n v) more ≡ Some c → Good c
+reg_or_more : (q : Bool) (n v : Option ℕ) (more : Option CardView) (c : CardView) → (more ≡ Some c → Good c) → cond q (as_reg n v) more ≡ Some c → Good c
 reg_or_more true n v more c g e = reg_good n v c e
 reg_or_more false n v more c g e = g e
 
 pair_good : (key a b : List ℕ) (c : CardView) → pair_card key a b ≡ Some c → Good c
 pair_good key a b c e =
     reg_or_more (bytes_eq key (codes "REG")) (number_at a) (word_at b) _ c
-    (λ d. let g = guard_more (bytes_eq key (codes "DATA")) (data_of (number_at a) (bytes_at b)) c d in data_good (number_at a) (bytes_at b) c g.1) e
+    (λ d. let g = guard_more (bytes_eq key (codes "DATA")) (as_data (number_at a) (bytes_at b)) c d in data_good (number_at a) (bytes_at b) c g.1) e
 
 long_good : (key a : List ℕ) (ws : List (List ℕ)) (c : CardView) → long_card key a ws ≡ Some c → Good c
 long_good key a [] c e = absurd cc
 long_good key a (b ∷ []) c e = pair_good key a b c e
 long_good key a (b ∷ s ∷ []) c e =
-    let g = guard_more (bytes_eq key (codes "MODULE")) (module_of (name_at a) (address_at b) (number_at s)) c e in
+    let g = guard_more (bytes_eq key (codes "MODULE")) (as_module (name_at a) (address_at b) (number_at s)) c e in
     module_good (name_at a) (address_at b) (number_at s) c (λ m h. name_good a m h) g.1
 long_good key a (b ∷ s ∷ d ∷ []) c e = absurd cc
 long_good key a (b ∷ p ∷ q ∷ r ∷ []) c e =
-    let g = guard_more (bytes_eq key (codes "TASK")) (task_of (name_at a) (address_at b) (number_at p) (number_at q) (number_at r)) c e in
+    let g = guard_more (bytes_eq key (codes "TASK")) (as_task (name_at a) (address_at b) (number_at p) (number_at q) (number_at r)) c e in
     task_good (name_at a) (address_at b) (number_at p) (number_at q) (number_at r) c (λ k h. address_good b k h) g.1
 long_good key a (b ∷ p ∷ q ∷ r ∷ s ∷ ws) c e = absurd cc
 
 session_or_long : (q : Bool) (n : Option (List ℕ)) (ns : Option (List (List ℕ))) (more : Option CardView) (c : CardView) → ((ms : List (List ℕ)) → ns ≡ Some ms → 1 ≤ length ms) → (more ≡ Some c → Good c) →
-    cond q (session_of n ns) more ≡ Some c → Good c
+    cond q (as_session n ns) more ≡ Some c → Good c
 session_or_long true n ns more c some g e = session_good n ns c some e
 session_or_long false n ns more c some g e = g e
 

@@ -10,27 +10,28 @@ use Rattle.job_text.specs.Words.{words, number_at, bytes_at, address_at, word_at
 abbrev pub may_stand : ℕ → ℕ → Bool
 may_stand base size = nat_eq (base % 8) 0 && nat_le 1048576 base && nat_eq (size % 2) 0 && nat_le 2 size && nat_le (base + size) 16773120
 
-abbrev pub module_of : Option (List ℕ) → Option ℕ → Option ℕ → Option CardView
-module_of (Some n) (Some b) (Some s) = if may_stand b s then Some (Module n b s) else None
-module_of n b s = None
+-- the MODULE card of these fields, and so on for the other keys; none where a field is bad
+abbrev pub as_module : Option (List ℕ) → Option ℕ → Option ℕ → Option CardView
+as_module (Some n) (Some b) (Some s) = if may_stand b s then Some (Module n b s) else None
+as_module n b s = None
 
-abbrev pub session_of : Option (List ℕ) → Option (List (List ℕ)) → Option CardView
-session_of (Some n) (Some ns) = Some (Session n ns)
-session_of n ns = None
+abbrev pub as_session : Option (List ℕ) → Option (List (List ℕ)) → Option CardView
+as_session (Some n) (Some ns) = Some (Session n ns)
+as_session n ns = None
 
-abbrev pub task_of : Option (List ℕ) → Option ℕ → Option ℕ → Option ℕ → Option ℕ → Option CardView
-task_of (Some n) (Some e) (Some p) (Some b) (Some r) = if nat_le 1 b then Some (Task n e p b r) else None
-task_of n e p b r = None
+abbrev pub as_task : Option (List ℕ) → Option ℕ → Option ℕ → Option ℕ → Option ℕ → Option CardView
+as_task (Some n) (Some e) (Some p) (Some b) (Some r) = if nat_le 1 b then Some (Task n e p b r) else None
+as_task n e p b r = None
 
 -- a register of the sixteen
-abbrev pub reg_of : Option ℕ → Option ℕ → Option CardView
-reg_of (Some n) (Some v) = if nat_le n 15 then Some (Reg n v) else None
-reg_of n v = None
+abbrev pub as_reg : Option ℕ → Option ℕ → Option CardView
+as_reg (Some n) (Some v) = if nat_le n 15 then Some (Reg n v) else None
+as_reg n v = None
 
 -- bytes at an offset of private storage
-abbrev pub data_of : Option ℕ → Option (List ℕ) → Option CardView
-data_of (Some n) (Some bytes) = Some (Data (record { offset = n; bytes = bytes }))
-data_of n bytes = None
+abbrev pub as_data : Option ℕ → Option (List ℕ) → Option CardView
+as_data (Some n) (Some bytes) = Some (Data (record { offset = n; bytes = bytes }))
+as_data n bytes = None
 
 -- the card of a key and one word
 abbrev pub short_card : List ℕ → List ℕ → Option CardView
@@ -45,15 +46,15 @@ short_card key a =
 -- the card of a key and two words that is no SESSION
 abbrev pub pair_card : List ℕ → List ℕ → List ℕ → Option CardView
 pair_card key a b =
-    if bytes_eq key (codes "REG") then reg_of (number_at a) (word_at b)
-    else (if bytes_eq key (codes "DATA") then data_of (number_at a) (bytes_at b)
+    if bytes_eq key (codes "REG") then as_reg (number_at a) (word_at b)
+    else (if bytes_eq key (codes "DATA") then as_data (number_at a) (bytes_at b)
     else None)
 
 abbrev pub module_card : List ℕ → List ℕ → List ℕ → List ℕ → Option CardView
-module_card key a b c = if bytes_eq key (codes "MODULE") then module_of (name_at a) (address_at b) (number_at c) else None
+module_card key a b c = if bytes_eq key (codes "MODULE") then as_module (name_at a) (address_at b) (number_at c) else None
 
 abbrev pub task_card : List ℕ → List ℕ → List ℕ → List ℕ → List ℕ → List ℕ → Option CardView
-task_card key a b c d e = if bytes_eq key (codes "TASK") then task_of (name_at a) (address_at b) (number_at c) (number_at d) (number_at e) else None
+task_card key a b c d e = if bytes_eq key (codes "TASK") then as_task (name_at a) (address_at b) (number_at c) (number_at d) (number_at e) else None
 
 -- the card of a key and two or more words that is no SESSION
 abbrev pub long_card : List ℕ → List ℕ → List (List ℕ) → Option CardView
@@ -67,7 +68,7 @@ abbrev pub card_of : List (List ℕ) → Option CardView
 card_of [] = None
 card_of (key ∷ []) = if bytes_eq key (codes "ENDJOB") then Some End else None
 card_of (key ∷ a ∷ []) = short_card key a
-card_of (key ∷ a ∷ b ∷ more) = if bytes_eq key (codes "SESSION") then session_of (name_at a) (names_at (b ∷ more)) else long_card key a (b ∷ more)
+card_of (key ∷ a ∷ b ∷ more) = if bytes_eq key (codes "SESSION") then as_session (name_at a) (names_at (b ∷ more)) else long_card key a (b ∷ more)
 
 abbrev pub card_at : List ℕ → Option CardView
 card_at line = card_of (words line)

@@ -33,7 +33,7 @@ fn short_card(alloc: Global, key: &[u8], a: &[u8]) -> Result<Option<Card>, Alloc
 }
 
 fn session(alloc: Global, name: &[u8], modules: &[&[u8]]) -> Result<Option<Card>, AllocError>
-    ensures { IfOk result (λ o. option_map view o ≡ spell.session_of (name_at name.now) (names_at (map (λ w. w.now) modules.now))) }
+    ensures { IfOk result (λ o. option_map view o ≡ spell.as_session (name_at name.now) (names_at (map (λ w. w.now) modules.now))) }
 {
     let names = names_of(alloc, modules)?;
     match (Name::read(name), names) {
@@ -71,7 +71,7 @@ fn module_card(key: &[u8], a: &[u8], b: &[u8], c: &[u8]) -> Option<Card>
 }
 
 fn reg_card(a: &[u8], b: &[u8]) -> Option<Card>
-    ensures { option_map view result ≡ spell.reg_of (number_at a.now) (word_at b.now) }
+    ensures { option_map view result ≡ spell.as_reg (number_at a.now) (word_at b.now) }
 {
     match (number_of(a), word_of(b)) {
         (Some(number), Some(value)) => {
@@ -89,7 +89,7 @@ fn reg_card(a: &[u8], b: &[u8]) -> Option<Card>
 }
 
 fn data_card(alloc: Global, a: &[u8], b: &[u8]) -> Result<Option<Card>, AllocError>
-    ensures { IfOk result (λ o. option_map view o ≡ spell.data_of (number_at a.now) (bytes_at b.now)) }
+    ensures { IfOk result (λ o. option_map view o ≡ spell.as_data (number_at a.now) (bytes_at b.now)) }
 {
     let bytes = bytes_of(alloc, b)?;
     match (number_of(a), bytes) {

@@ -5,7 +5,7 @@ ghost use Rattle.job_text.specs.Views.{view};
 
 use crate::card::{Card, RegCard};
 use crate::refused::LineRefused;
-use cov_base::{Addr, Name};
+use cov_base::{Addr, Name, RETURN_ADDRESS};
 use module_area::DataCard;
 use session_book::TaskCard;
 use std::alloc::{AllocError, Global};
@@ -40,7 +40,7 @@ pub(crate) fn fresh_task(
     ensures { result ≡ parts.fresh_task name entry private budget room }
 {
     let mut regs = [0u32; 16];
-    regs[14] = 0x00FF_FFFE;
+    regs[14] = RETURN_ADDRESS;
     regs[15] = entry.get();
     let task = TaskCard {
         name,

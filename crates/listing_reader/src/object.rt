@@ -95,8 +95,7 @@ fn code_with(line: &[u8], shift: u8, groups: u8) -> Option<Code>
         return None;
     }
     let code = code_in(line, shift, groups);
-    let half = u16::from(code.bytes[0]) * 256 + u16::from(code.bytes[1]);
-    if length(half) == 2 * groups {
+    if length(code.first_half()) == 2 * groups {
         Some(code)
     } else {
         None

@@ -8,13 +8,13 @@ use Rattle.module_area.specs.declared.parties.View.{View}
 use Rattle.module_area.specs.declared.parties.Role.{Role}
 use Rattle.module_area.specs.declared.parties.Role.TheVariants.{Root, Task, Spent}
 use Rattle.module_area.specs.PlanView.{PlanView, original_at, is_controller}
-use Rattle.module_area.specs.Parties.{Has, times, total, last_tag, chosen, window_tag, blank, giving, newcomer, joining, task_of}
+use Rattle.module_area.specs.Parties.{Has, times, total, last_tag, chosen, window_tag, blank, giving, newcomer, joining, role_task}
 use Rattle.module_area.specs.Held.{Once, KeepsAs, Keeps, IsRole, Owes, Kept, Held}
 use Rattle.module_area.proofs.StepLemmas.{task_not_root, spent_not_root, spent_not_task, moved, same, once_same, first_only, role_before}
 use Rattle.module_area.proofs.PartyLemmas.{has-append, left-append, right-append, at_set, at_end, at_two, all_snoc, all_two, some_snoc, some_two, total-snoc, total_two, times-append, has-chosen, kept_tag, dropped_tag, no_tag, first_tag}
 
 task_is : {t u : ℕ} → Task t ≡ Task u → t ≡ u
-task_is e = ap task_of e
+task_is e = ap role_task e
 
 module _ (plan : PlanView) (cell : ℕ → Cell) (sets : ℕ → ℕ → FactSet) (views : List View) (r : Held plan cell sets views) (id : ℕ) (v : View) (at : get_elem? views id ≡ some v) (root : v.role ≡ Root) where
   abbrev Tied : View → Type 0
@@ -107,8 +107,8 @@ module _ (plan : PlanView) (cell : ℕ → Cell) (sets : ℕ → ℕ → FactSet
 
   -- ---- the root takes in the party that stands at k
   module _ (k : ℕ) (o : View) (there : get_elem? views k ≡ some o) (t : ℕ) (bears : o.role ≡ Task t) (other : k ≢ id) where
-    is_t : task_of o.role ≡ t
-    is_t = ap task_of bears
+    is_t : role_task o.role ≡ t
+    is_t = ap role_task bears
 
     join_kept : Kept plan cell sets (joining plan v o)
     join_kept = let a = r.kept id v at in let b = r.kept k o there in record {
@@ -119,9 +119,9 @@ module _ (plan : PlanView) (cell : ℕ → Cell) (sets : ℕ → ℕ → FactSet
       free = λ s p h. ⊎_elim (λ y. let x = b.free s p y in (left-append (s, p) o.full v.full x.0, x.1)) (λ y. let x = a.free s p y in (right-append (s, p) o.full v.full x.0, x.1)) (has-append (s, p) o.free v.free h);
       lifted = λ s p h. ⊎_elim (λ y. b.lifted s p y) (λ y. a.lifted s p y) (has-append (s, p) o.lifted v.lifted h);
       planted = λ p x h. ⊎_elim
-          (λ y. left-append (p, x) o.seen v.seen (b.planted p x (has-chosen (is_controller plan (task_of o.role)) p x o.planted y)))
-          (λ y. right-append (p, x) o.seen v.seen (a.planted p x (has-chosen (λ q. not (is_controller plan (task_of o.role) q)) p x v.planted y)))
-          (has-append (p, x) (chosen (is_controller plan (task_of o.role)) o.planted) (chosen (λ q. not (is_controller plan (task_of o.role) q)) v.planted) h);
+          (λ y. left-append (p, x) o.seen v.seen (b.planted p x (has-chosen (is_controller plan (role_task o.role)) p x o.planted y)))
+          (λ y. right-append (p, x) o.seen v.seen (a.planted p x (has-chosen (λ q. not (is_controller plan (role_task o.role) q)) p x v.planted y)))
+          (has-append (p, x) (chosen (is_controller plan (role_task o.role)) o.planted) (chosen (λ q. not (is_controller plan (role_task o.role) q)) v.planted) h);
       joined = λ u h. ⊎_elim (λ e. subst (λ z. Has z v.given) (sym is_t ∙ e) ((subst (IsRole views k) bears (r.roles k o there)) id v at root).0) (λ y. a.joined u y) h;
     }
 

@@ -26,10 +26,10 @@ use Rattle.module_area.proofs.FactLemmas.{full_of_kind, within_kind, is_full-tru
 word_of : (places : List Place) (p : ℕ) → word_at (map fresh_word places) p ≡ fresh_word (get_or places p no_place)
 word_of places p = get_or-map fresh_word places p no_place
 
-set_of : (n i : ℕ) → get_or (replicate n no_facts) i no_facts ≡ no_facts
-set_of zero i = refl
-set_of (suc n) zero = refl
-set_of (suc n) (suc i) = set_of n i
+fresh_set : (n i : ℕ) → get_or (replicate n no_facts) i no_facts ≡ no_facts
+fresh_set zero i = refl
+fresh_set (suc n) zero = refl
+fresh_set (suc n) (suc i) = fresh_set n i
 
 no_fact : (f : Fact) → has_fact no_facts f ≡ false
 no_fact Ran = refl
@@ -45,9 +45,9 @@ fresh_notes places n =
     let words : List Cell = map fresh_word places in
     let sets : List FactSet = replicate n no_facts in
     let marked : (λ s p f. is_in (length words) sets s p && has_fact (set_in (length words) sets s p) f) ≡ (λ s p f. false) =
-    fun_ext (λ (s : ℕ). fun_ext (λ (p : ℕ). fun_ext (λ (f : Fact). rw (set_of n (index_of (length words) s p), no_fact f, and_false (is_in (length words) sets s p)) refl))) in
+    fun_ext (λ (s : ℕ). fun_ext (λ (p : ℕ). fun_ext (λ (f : Fact). rw (fresh_set n (index_of (length words) s p), no_fact f, and_false (is_in (length words) sets s p)) refl))) in
     let full : (λ s p. is_in (length words) sets s p && is_some_full (set_in (length words) sets s p)) ≡ (λ s p. false) =
-    fun_ext (λ (s : ℕ). fun_ext (λ (p : ℕ). rw (set_of n (index_of (length words) s p)) (and_false (is_in (length words) sets s p)))) in
+    fun_ext (λ (s : ℕ). fun_ext (λ (p : ℕ). rw (fresh_set n (index_of (length words) s p)) (and_false (is_in (length words) sets s p)))) in
     let free : (λ s p. nat_lt p (length words) && (nat_eq ((word_at words p).tag + 1) (2 * s) && not (nat_eq (word_at words p).half breakpoint))) ≡ (λ s p. false) =
     fun_ext (λ (s : ℕ). fun_ext (λ (p : ℕ). rw (word_of places p) (grind (arith, nat_tests)))) in
     let seen : (λ p. (word_at words p).tag) ≡ (λ p. 0) = fun_ext (λ (p : ℕ). ap (λ (c : Cell). c.tag) (word_of places p)) in
@@ -78,7 +78,7 @@ fresh_keeps plan ok =
       cells = λ p lt. rw (word_of plan.places p) (inl (refl, refl));
       full = λ p lt tag half. absurd (tag (ap (λ (c : Cell). c.tag) (word_of plan.places p)));
       own = λ s p f pos within lt has.
-          let never : false ≡ true = sym (no_fact f) ∙ (ap (λ (x : FactSet). has_fact x f) (sym (set_of n (index_of (length plan.places) s p))) ∙ has) in
+          let never : false ≡ true = sym (no_fact f) ∙ (ap (λ (x : FactSet). has_fact x f) (sym (fresh_set n (index_of (length plan.places) s p))) ∙ has) in
           absurd cc;
       waiting = λ p t never. absurd cc;
       marks = rw (no_facts_sum n) (omega arith);

@@ -16,7 +16,7 @@ use Rattle.module_area.specs.declared.parties.View.{View}
 use Rattle.module_area.specs.declared.parties.Role.{Role}
 use Rattle.module_area.specs.declared.parties.Role.TheVariants.{Root, Task, Spent}
 use Rattle.module_area.specs.PlanView.{PlanView, original_at, kind_at, is_over, is_controlled, is_controller}
-use Rattle.module_area.specs.Parties.{Has, add_if, times, total, last_tag, window_tag, session_of, is_breakpoint, is_lifted, blank, fetching, marking, lifting, planting, closing}
+use Rattle.module_area.specs.Parties.{Has, add_if, times, total, last_tag, window_tag, tag_session, is_breakpoint, is_lifted, blank, fetching, marking, lifting, planting, closing}
 use Rattle.module_area.specs.Held.{planted, lifted, closed, IsForm, Once, KeepsAs, Keeps, IsRole, Owes, Kept, IsSite, Held}
 use Rattle.module_area.proofs.FactLemmas.{has_fact-with_fact, same_fact-true, is_full-true}
 use Rattle.module_area.proofs.PlanLemmas.{one_controller, no_controller}
@@ -236,16 +236,16 @@ module _ (plan : PlanView) where
       was_planted : (cell p).half ≡ breakpoint → (s : ℕ) × (0 < s) × (is_over plan s p ≡ true) × ((cell p).tag ≡ window_tag s)
       was_planted e = let a = breakpoint_form plan p (cell p) (r.is_plan.no_breakpoint p l) (r.site p l).form e in (a.0, a.1, a.2, ap (λ (z : Cell). z.tag) a.3)
 
-      was_lifted : is_lifted plan p (cell p) ≡ true → (0 < session_of (cell p).tag) × (window_tag (session_of (cell p).tag) ≡ (cell p).tag) × (is_full (kind_at plan p) (sets (session_of (cell p).tag) p) ≡ true) × (cell p ≢ planted (session_of (cell p).tag))
+      was_lifted : is_lifted plan p (cell p) ≡ true → (0 < tag_session (cell p).tag) × (window_tag (tag_session (cell p).tag) ≡ (cell p).tag) × (is_full (kind_at plan p) (sets (tag_session (cell p).tag) p) ≡ true) × (cell p ≢ planted (tag_session (cell p).tag))
       was_lifted e = let a = lifted_form plan p (cell p) (r.is_plan.no_breakpoint p l) (r.site p l).form e in
           let o : ℕ = original_at plan p in
           let pos = a.1 in
           let tag : (cell p).tag ≡ window_tag a.0 = ap (λ (z : Cell). z.tag) a.3 in
-          let is : session_of (cell p).tag ≡ a.0 = omega (arith, tag, pos) in (
+          let is : tag_session (cell p).tag ≡ a.0 = omega (arith, tag, pos) in (
             subst (λ k. 0 < k) (sym is) pos,
             ap window_tag is ∙ sym tag,
             subst (λ k. is_full (kind_at plan p) (sets k p) ≡ true) (sym is) ((r.site p l).full a.0 pos a.3),
-            λ b. planted_not (session_of (cell p).tag) (lifted a.0 o) (r.is_plan.no_breakpoint p l) (sym b ∙ a.3),
+            λ b. planted_not (tag_session (cell p).tag) (lifted a.0 o) (r.is_plan.no_breakpoint p l) (sym b ∙ a.3),
           )
 
       pub fetch_kept : Kept plan cell sets (fetching plan p (cell p) v)
@@ -256,15 +256,15 @@ module _ (plan : PlanView) where
             (let a = was_planted (eqb-true _ _ b.0) in (a.0, a.1, a.2, a.3, inl refl));
         marked = k.marked;
         full = λ s q h. ⊎_elim
-            (λ (b : (is_lifted plan p (cell p) ≡ true) × ((session_of (cell p).tag, p) ≡ (s, q))). let f = was_lifted b.0 in
+            (λ (b : (is_lifted plan p (cell p) ≡ true) × ((tag_session (cell p).tag, p) ≡ (s, q))). let f = was_lifted b.0 in
             subst (λ (z : ℕ × ℕ). (0 < z.0) × Has (z.1, window_tag z.0) w.seen × (is_full (kind_at plan z.1) (sets z.0 z.1) ≡ true)) b.1 (f.0, inl (ap (λ (t : ℕ). (p, t)) (sym f.1)), f.2))
             (λ (o : Has (s, q) v.full). let f = k.full s q o in (f.0, inr f.1, f.2))
-            (has-add_if (is_lifted plan p (cell p)) (s, q) (session_of (cell p).tag, p) v.full h);
+            (has-add_if (is_lifted plan p (cell p)) (s, q) (tag_session (cell p).tag, p) v.full h);
         free = λ s q h. ⊎_elim
-            (λ (b : (is_lifted plan p (cell p) ≡ true) × ((session_of (cell p).tag, p) ≡ (s, q))). let f = was_lifted b.0 in
-            subst (λ (z : ℕ × ℕ). Has z w.full × (cell z.1 ≢ planted z.0)) b.1 (here-add_if (is_lifted plan p (cell p)) (session_of (cell p).tag, p) v.full b.0, f.3))
-            (λ (o : Has (s, q) v.free). let f = k.free s q o in (more-add_if (is_lifted plan p (cell p)) (s, q) (session_of (cell p).tag, p) v.full f.0, f.1))
-            (has-add_if (is_lifted plan p (cell p)) (s, q) (session_of (cell p).tag, p) v.free h);
+            (λ (b : (is_lifted plan p (cell p) ≡ true) × ((tag_session (cell p).tag, p) ≡ (s, q))). let f = was_lifted b.0 in
+            subst (λ (z : ℕ × ℕ). Has z w.full × (cell z.1 ≢ planted z.0)) b.1 (here-add_if (is_lifted plan p (cell p)) (tag_session (cell p).tag, p) v.full b.0, f.3))
+            (λ (o : Has (s, q) v.free). let f = k.free s q o in (more-add_if (is_lifted plan p (cell p)) (s, q) (tag_session (cell p).tag, p) v.full f.0, f.1))
+            (has-add_if (is_lifted plan p (cell p)) (s, q) (tag_session (cell p).tag, p) v.free h);
         lifted = k.lifted;
         planted = λ q t h. inr (k.planted q t h);
         joined = k.joined;
@@ -284,11 +284,11 @@ module _ (plan : PlanView) where
           full,
           e,
           λ h. (
-            more-add_if (is_lifted plan p (cell p)) (s, q) (session_of (cell p).tag, p) v.full h.0,
+            more-add_if (is_lifted plan p (cell p)) (s, q) (tag_session (cell p).tag, p) v.full h.0,
             λ free. ⊎_elim
-                (λ (b : (is_lifted plan p (cell p) ≡ true) × ((session_of (cell p).tag, p) ≡ (s, q))). subst (λ (z : ℕ × ℕ). cell z.1 ≢ planted z.0) b.1 (was_lifted b.0).3 e)
+                (λ (b : (is_lifted plan p (cell p) ≡ true) × ((tag_session (cell p).tag, p) ≡ (s, q))). subst (λ (z : ℕ × ℕ). cell z.1 ≢ planted z.0) b.1 (was_lifted b.0).3 e)
                 (λ (o : Has (s, q) v.free). h.1 o)
-                (has-add_if (is_lifted plan p (cell p)) (s, q) (session_of (cell p).tag, p) v.free free),
+                (has-add_if (is_lifted plan p (cell p)) (s, q) (tag_session (cell p).tag, p) v.free free),
           ),
         );
         once = λ s q _ _ n n' e. once_same s (original_at plan q) (cell q) n n' (times s q v.lifted) e;

@@ -45,8 +45,8 @@ abbrev pub is_breakpoint : Cell → Bool
 is_breakpoint c = nat_eq c.half breakpoint
 
 -- the session of the tag, in its window or after it
-abbrev pub session_of : ℕ → ℕ
-session_of t = (t + 1) / 2
+abbrev pub tag_session : ℕ → ℕ
+tag_session t = (t + 1) / 2
 
 -- the original in a window
 abbrev pub is_lifted : PlanView → ℕ → Cell → Bool
@@ -61,8 +61,8 @@ abbrev pub fetching : PlanView → ℕ → Cell → View → View
 fetching plan p c v = record v {
   seen = (p, c.tag) ∷ v.seen;
   pending = if is_breakpoint c then Some (p, c.tag) else None;
-  full = add_if (is_lifted plan p c) (session_of c.tag, p) v.full;
-  free = add_if (is_lifted plan p c) (session_of c.tag, p) v.free;
+  full = add_if (is_lifted plan p c) (tag_session c.tag, p) v.full;
+  free = add_if (is_lifted plan p c) (tag_session c.tag, p) v.free;
 }
 
 -- A mark of the fact for session s at place p found the set.
@@ -94,13 +94,13 @@ giving t v = record v { given = t ∷ v.given }
 abbrev pub newcomer : PlanView → ℕ → View → View
 newcomer plan t v = record (blank (Task t)) { seen = v.seen; planted = chosen (is_controller plan t) v.planted }
 
-abbrev pub task_of : Role → ℕ
-task_of (Task t) = t
-task_of r = 0
+abbrev pub role_task : Role → ℕ
+role_task (Task t) = t
+role_task r = 0
 
 -- the root after it took in another party and the places that this one controls
 abbrev pub joining : PlanView → View → View → View
-joining plan v o = let t : ℕ = task_of o.role in record v {
+joining plan v o = let t : ℕ = role_task o.role in record v {
   marked = o.marked ++ v.marked;
   full = o.full ++ v.full;
   free = o.free ++ v.free;

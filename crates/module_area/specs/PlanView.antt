@@ -4,6 +4,7 @@ use Rattle.std.specs.List.{list_any}
 use Rattle.cov_base.specs.Codes.{breakpoint, kind_of}
 use Rattle.cov_base.specs.declared.facts.Kind.{Kind}
 use Rattle.cov_base.specs.declared.facts.Kind.TheVariants.{Straight}
+use Rattle.cov_base.specs.declared.limits.TheConstants.{PLACE_LIMIT, SESSION_LIMIT}
 use Rattle.cov_base.specs.declared.numbers.TaskNo.{TaskNo}
 use Rattle.cov_base.specs.declared.numbers.PlaceNo.{PlaceNo}
 use Rattle.module_area.specs.declared.places.Place.{Place}
@@ -81,8 +82,8 @@ pub record IsPlan (plan : PlanView) : Type 0 where
   pub in_range : (p : ℕ) → p < length plan.places → window_at plan p ≤ plan.sessions
   pub no_breakpoint : (p : ℕ) → p < length plan.places → original_at plan p ≢ breakpoint
   pub kinds : (p : ℕ) → p < length plan.places → kind_at plan p ≡ kind_of (original_at plan p)
-  pub places : length plan.places ≤ 65536
-  pub sessions : plan.sessions ≤ 16
+  pub places : length plan.places ≤ PLACE_LIMIT
+  pub sessions : plan.sessions ≤ SESSION_LIMIT
   pub tasks_differ : AllPairs (λ t u. t.0 ≢ u.0) plan.tasks
   pub controlled : All (IsControlled plan) plan.controlled
   pub apart : AllPairs AreApart plan.controlled

@@ -5,7 +5,7 @@ ghost use Rattle.module_area.specs.PlanView.{IsPlan, MayStand, place_of, whole_p
 
 use crate::places::Place;
 use crate::plan::Plan;
-use cov_base::{BREAKPOINT, TaskNo};
+use cov_base::{BREAKPOINT, PLACE_LIMIT, SESSION_LIMIT, TaskNo};
 use s370_decode::kind;
 use std::alloc::Global;
 
@@ -71,7 +71,10 @@ impl Plan {
         ensures value { IfSome result (λ p. p ≡ whole_plan places.items windows.items tasks.items sessions) }
         ensures none { IsNone result ↔ (IsPlan (whole_plan places.items windows.items tasks.items sessions) → ⊥) }
     {
-        if places.len() > 65_536 || sessions > 16 || windows.len() != places.len() {
+        if places.len() > PLACE_LIMIT as usize
+            || sessions > SESSION_LIMIT as u32
+            || windows.len() != places.len()
+        {
             return None;
         }
         if !differ(&tasks) || !may_all_stand(&places, &windows, sessions) {

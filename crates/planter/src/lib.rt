@@ -3,6 +3,7 @@
 
 ghost use Rattle.std.specs.Prelude.{◌≡◌, ℕ, ◌+◌, ◌<◌, ◌≤◌, ◌^◌, length};
 ghost use Rattle.std.specs.declared.option.Option.TheVariants.{None};
+ghost use Rattle.cov_base.specs.declared.limits.TheConstants.{PLACE_LIMIT};
 ghost use Rattle.module_area.specs.PlanView.{window_at};
 ghost use Rattle.module_area.specs.Notes.{calls};
 ghost use Rattle.planter.specs.Planted.{planted_notes};
@@ -23,7 +24,7 @@ pub fn plant_all<C: Cells>(cells: &C, pass: &mut C::Pass, plan: &Plan)
     requires first { (p : ℕ) → 0 < window_at plan.now p → (C.notes pass.old).seen p ≡ 0 }
     ensures area { C.is_pass cells.now pass.new }
     ensures notes { C.notes pass.new ≡ planted_notes plan.now (C.notes pass.old) (length plan.now.windows) }
-    ensures calls { calls (C.notes pass.new) ≤ calls (C.notes pass.old) + 2 ^ 16 }
+    ensures calls { calls (C.notes pass.new) ≤ calls (C.notes pass.old) + PLACE_LIMIT }
 {
     for (i, window) in plan.windows.iter().enumerate() {
         if *window != 0 {

@@ -21,7 +21,7 @@ use annotator::annotate;
 use annotator::text::{add_hex, add_number, add_text};
 use arrayvec::ArrayVec;
 use brk_table::Tables;
-use cov_base::{Bits, Fact, INPUT_LIMIT, Kind, Mark, Name, PlaceNo, SessNo, mark_of};
+use cov_base::{Bits, Fact, INPUT_LIMIT, Kind, LINE_LIMIT, Mark, Name, PlaceNo, SessNo, mark_of};
 use cov_outside::{Failed, Sink};
 use module_area::Place;
 use session_book::{FactSets, Job, Lines};
@@ -78,7 +78,7 @@ fn count_line(name: &Name, places: u32, counts: Counts) -> ArrayVec<u8, 160>
 
 /// A listing line with its mark.
 fn marked_line(line: &[u8], mark: Mark) -> ArrayVec<u8, 160>
-    requires { length line.now ≤ 150 }
+    requires { length line.now ≤ LINE_LIMIT }
     ensures { result.items ≡ annotated mark line.now ++ 10 ∷ [] }
 {
     let mut marked = annotate(line, mark);
@@ -208,7 +208,7 @@ fn listing_part<K: Sink, R: FactSets>(
     m: u32,
 ) -> Result<(), Failed>
     requires lines { length lines.now ≤ INPUT_LIMIT }
-    requires short { All (λ line. length line ≤ 150) lines.now }
+    requires short { All (λ line. length line ≤ LINE_LIMIT) lines.now }
     requires from { 0 < s.0 }
     requires to { s.0 < R.sessions results.now + 1 }
     requires size { R.places results.now ≡ length tables.now.places }

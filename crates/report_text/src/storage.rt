@@ -1,5 +1,6 @@
 //! Private storage, by blocks and in them row by row.
 ghost use Rattle.std.specs.Prelude.{◌≡◌, ℕ, ◌+◌, ◌-◌, ◌*◌, ◌<◌, ◌≤◌, ◌++◌, ◌∷◌, [], List, length, take, replicate, not, bytes_eq, All};
+ghost use Rattle.cov_base.specs.declared.limits.TheConstants.{PRIVATE_LIMIT};
 ghost use Rattle.module_area.specs.Views.{first_bytes, with_card};
 ghost use Rattle.report_text.specs.FirstRows.{IsPartOf, FitsIn};
 ghost use Rattle.report_text.specs.Tasks.{storage_line, row_lines, changed_row, storage_lines};
@@ -95,7 +96,7 @@ fn block_part<K: Sink, R: Results>(
     past: u32,
 ) -> Result<(), Failed>
     requires task { t.0 < R.tasks results.now }
-    requires most { task.now.private ≤ 1048576 }
+    requires most { task.now.private ≤ PRIVATE_LIMIT }
     requires cards { All (FitsIn task.now.private) task.now.cards }
     requires size { length (R.result_of results.now t.0).bytes ≡ task.now.private }
     requires from { from ≤ past }
@@ -120,7 +121,7 @@ pub fn storage_part<K: Sink, R: Results>(
     t: TaskNo,
 ) -> Result<(), Failed>
     requires task { t.0 < R.tasks results.now }
-    requires most { task.now.private ≤ 1048576 }
+    requires most { task.now.private ≤ PRIVATE_LIMIT }
     requires cards { All (FitsIn task.now.private) task.now.cards }
     requires size { length (R.result_of results.now t.0).bytes ≡ task.now.private }
     ensures { WritesLines K.written K.faults sink.old sink.new result (storage_lines (first_bytes task.now.private task.now.cards) (R.result_of results.now t.0).bytes) }

@@ -1,5 +1,6 @@
 -- The solo step by the tests of its halfwords.
 use Rattle.std.proofs.Common.{◌≡◌, ◌⊎◌, inl, inr, ℕ, Bool, true, false, Option, Some, None, List, [], ◌∷◌, refl, sym, ◌∙◌, ap}
+use Rattle.std.specs.Option.{option_or}
 use Rattle.cov_base.specs.Codes.{length_of}
 use Rattle.cov_base.specs.Memory.{Memory, half_at}
 use Rattle.cov_base.specs.States.{State}
@@ -9,7 +10,7 @@ use Rattle.s370_decode.specs.Table.{op_of}
 use Rattle.s370_decode.specs.declared.code.Code.{Code}
 use Rattle.s370_branch.specs.Branch.{goes}
 use Rattle.s370_exec.specs.Effects.{Effect, effect, updated, link_code}
-use Rattle.s370_exec.specs.Fetch.{first_tests, rest_tests, whole_tests, subject_tests, or_ending, code_at, is_execute, merged}
+use Rattle.s370_exec.specs.Fetch.{first_tests, rest_tests, whole_tests, subject_tests, code_at, is_execute, merged}
 use Rattle.s370_exec.specs.Solo.{solo_step, from_first, fetched, ended, stepped, begun_step, visit, subject_step, subject_fetched, subject_begun, behind, visit_of, subject_seen}
 use Rattle.s370_exec.proofs.Subjects.{first_half-code_at, at-code_at, at-merged, execute_stays}
 
@@ -101,16 +102,16 @@ subject_step-begun m s c a h x e at none half tests merges made =
 
 -- the step by whether its instruction is read whole
 
-or_none-first : (p q : Option Ending) → or_ending p q ≡ None → p ≡ None
+or_none-first : (p q : Option Ending) → option_or p q ≡ None → p ≡ None
 or_none-first None q h = refl
 or_none-first (Some e) q h = let k : Some e ≡ None = h in absurd cc
 
-or_none-rest : (p q : Option Ending) → or_ending p q ≡ None → q ≡ None
+or_none-rest : (p q : Option Ending) → option_or p q ≡ None → q ≡ None
 or_none-rest None q h = h
 or_none-rest (Some e) q h = let k : Some e ≡ None = h in absurd cc
 
 unread_by : (m : Memory) (s : State) (a : ℕ) (e : Ending) (first : Option Ending) → a ≡ s.machine.cpu.ia → first_tests m a ≡ first →
-    or_ending first (rest_tests m a (length_of (half_at m s.machine.bytes a))) ≡ Some e →
+    option_or first (rest_tests m a (length_of (half_at m s.machine.bytes a))) ≡ Some e →
     (solo_step m s ≡ ended s e []) ⊎ (solo_step m s ≡ ended s e (visit s a false false false ∷ []))
 unread_by m s a e (Some f) at h k = inl (solo_step-refused m s a e at (h ∙ k))
 unread_by m s a e None at h k = inr (solo_step-rest_refused m s a (half_at m s.machine.bytes a) e at h refl k)

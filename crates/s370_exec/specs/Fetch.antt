@@ -1,5 +1,6 @@
 -- Fetching an instruction behind its first halfword, and the instruction that EX executes.
 use Rattle.std.specs.Prelude.{ℕ, ◌+◌, ◌/◌, ◌%◌, Bool, if◌then◌else◌, ◌==◌, Option, Some, None, List, [], ◌∷◌, slice_index, slice_set, bit_or}
+use Rattle.std.specs.Option.{option_or}
 use Rattle.cov_base.specs.States.{CpuView}
 use Rattle.cov_base.specs.Memory.{Memory, can_reach, half_at, wrap}
 use Rattle.cov_base.specs.Codes.{length_of}
@@ -16,17 +17,13 @@ first_tests m a = if a % 2 == 1 then Some (Abend 6) else (if can_reach m a 2 the
 abbrev pub later : Memory → ℕ → Option Ending
 later m a = if can_reach m a 2 then (if m.is_touch a then Some (Touched a) else None) else Some (Abend 5)
 
-abbrev pub or_ending : Option Ending → Option Ending → Option Ending
-or_ending None q = q
-or_ending (Some e) q = Some e
-
 -- the halfwords after the first
 unfoldable pub rest_tests : Memory → ℕ → ℕ → Option Ending
-rest_tests m a size = if size == 2 then None else or_ending (later m (wrap (a + 2))) (if size == 4 then None else later m (wrap (a + 4)))
+rest_tests m a size = if size == 2 then None else option_or (later m (wrap (a + 2))) (if size == 4 then None else later m (wrap (a + 4)))
 
 -- an instruction's halfwords in their order
 abbrev pub whole_tests : Memory → List ℕ → ℕ → Option Ending
-whole_tests m bytes a = or_ending (first_tests m a) (rest_tests m a (length_of (half_at m bytes a)))
+whole_tests m bytes a = option_or (first_tests m a) (rest_tests m a (length_of (half_at m bytes a)))
 
 -- the instruction at a, whose first halfword is h
 unfoldable pub code_at : Memory → List ℕ → ℕ → ℕ → Code

@@ -2,16 +2,16 @@
 //! of a task alone.
 #![tactic(auto)]
 
-mod alone;
 mod calls;
 mod fetch;
 mod instruction;
+mod solo;
 mod subject;
 
-pub use alone::{has_returned, instruction_went, step, subject_seen};
 pub use fetch::{fetch_first, fetch_rest};
 pub use instruction::execute;
-pub use subject::{fetch_subject, is_execute, subject_address};
+pub use solo::{has_returned, instruction_went, step, subject_seen};
+pub use subject::{fetch_subject, is_execute, merge, subject_address};
 
 #[cfg(test)]
 mod tests;

@@ -34,9 +34,9 @@ fn modifier(cpu: &Cpu, ex: &Code) -> u8
 }
 
 /// The subject as the EX executes it: bits 8-15 ORed with bits 24-31 of R1, unless R1 is 0. The subject in storage stays
-/// as it is, and so do operation code and length.
+/// as it is, and so do the address, the operation code and the length. It isn't tested here: it can be itself EX.
 #[tactic(auto, unfolding(crate::specs::Fetch::merged))]
-pub(crate) fn merge(cpu: &Cpu, ex: &Code, subject: &Code) -> Code
+pub fn merge(cpu: &Cpu, ex: &Code, subject: &Code) -> Code
     ensures { result ≡ merged cpu.now ex.now subject.now }
 {
     let mut code = *subject;

@@ -8,8 +8,7 @@ mod harness;
 mod logic;
 mod storage;
 
-use crate::subject::merge;
-use crate::{execute, fetch_rest, is_execute, subject_address};
+use crate::{execute, fetch_rest, is_execute, merge, subject_address};
 use branches::SELECTED;
 use cov_base::Addr;
 use harness::check;

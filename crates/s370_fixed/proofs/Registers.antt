@@ -1,7 +1,7 @@
 -- The recursions of several registers, one register on, and halfwords by their bytes.
-use Rattle.std.proofs.Common.{◌≡◌, ℕ, ◌+◌, ◌*◌, ◌%◌, List, slice_index, slice_set, refl, add-one, zero-add, add-zero}
+use Rattle.std.proofs.Common.{◌≡◌, ℕ, ◌+◌, ◌*◌, ◌/◌, ◌%◌, List, slice_index, slice_set, refl, add-one, zero-add, add-zero}
 use Rattle.cov_base.specs.Memory.{Memory, byte_at, wrap}
-use Rattle.s370_state.specs.Words.{number_at, store_word}
+use Rattle.s370_state.specs.Words.{number_at, store_number}
 use Rattle.s370_fixed.specs.Multiple.{loaded, stored}
 
 pub loaded_none : (m : Memory) (bytes regs : List ℕ) (r a : ℕ) → loaded m bytes regs r a 0 ≡ regs
@@ -16,10 +16,14 @@ pub stored_none : (bytes regs : List ℕ) (r a : ℕ) → stored bytes regs r a 
 unfolding stored
 stored_none bytes regs r a = refl
 
-pub stored_more : (bytes regs : List ℕ) (r a n : ℕ) → stored bytes regs r a (n + 1) ≡ store_word (stored bytes regs r a n) (a + 4 * n) (slice_index regs ((r + n) % 16))
+pub stored_more : (bytes regs : List ℕ) (r a n : ℕ) → stored bytes regs r a (n + 1) ≡ store_number (stored bytes regs r a n) (a + 4 * n) 4 (slice_index regs ((r + n) % 16))
 unfolding stored
 stored_more bytes regs r a n = rw add-one refl
 
 pub half_of_bytes : (m : Memory) (bytes : List ℕ) (a : ℕ) → number_at m bytes a 2 ≡ byte_at m bytes (wrap a) * 256 + byte_at m bytes (wrap (a + 1))
 unfolding number_at
 half_of_bytes m bytes a = rw (zero-add, add-zero)
+
+pub half_stored : (bytes : List ℕ) (a v : ℕ) → store_number bytes a 2 v ≡ slice_set (slice_set bytes (wrap (a + 1)) (v % 256)) (wrap a) (v / 256 % 256)
+unfolding store_number
+half_stored bytes a v = rw add-zero refl

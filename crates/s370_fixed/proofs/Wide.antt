@@ -33,11 +33,11 @@ nonzero_back : (d : ℤ) → nat_lt 0 (unsigned_abs d) ≡ true → FitsSigned w
 nonzero_back (pos n) h f = grind (arith, nat_tests)
 nonzero_back (negsuc n) h f = let g : n < 2 ^ 63 = f.sfits in omega arith
 
-pub divides_true : (p d : ℤ) → CanDivide w64 p d → is_word (int_div p d) ≡ true → divides p d ≡ true
+divides_true : (p d : ℤ) → CanDivide w64 p d → is_word (int_div p d) ≡ true → divides p d ≡ true
 unfolding divides
 divides_true p d h w = rw (nonzero d h.0) w
 
-pub divides_wide : (p d : ℤ) → is_word (int_div p d) ≡ false → divides p d ≡ false
+divides_wide : (p d : ℤ) → is_word (int_div p d) ≡ false → divides p d ≡ false
 unfolding divides
 divides_wide p d w = rw w (and_false _)
 
@@ -53,3 +53,6 @@ divides_none p d f cannot = not_both _ _ (λ a b. cannot (nonzero_back d a f, wo
 pub divides_told : (p d q p' d' q' : ℤ) → p' ≡ p → d' ≡ d → q' ≡ q → CanDivide w64 p' d' × (q ≡ int_div p' d') → true ≡ is_word q' → divides p d ≡ true
 divides_told p d q p' d' q' ep ed eq h w =
     rw (← ep, ← ed) (divides_true p' d' h.0 (rw (← h.1, ← eq) (sym w)))
+
+pub divides_not : (p d q p' d' q' : ℤ) → p' ≡ p → d' ≡ d → q' ≡ q → CanDivide w64 p' d' × (q ≡ int_div p' d') → false ≡ is_word q' → divides p d ≡ false
+divides_not p d q p' d' q' ep ed eq h w = rw (← ep, ← ed) (divides_wide p' d' (rw (← h.1, ← eq) (sym w)))

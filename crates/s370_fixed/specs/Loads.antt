@@ -4,8 +4,8 @@ use Rattle.std.specs.Int.RustNames.{unsigned_abs}
 use Rattle.cov_base.specs.States.{Machine}
 use Rattle.cov_base.specs.Memory.{Memory}
 use Rattle.s370_state.specs.Row.{Row, Completes, stores, reg, with_reg, with_cc, with_bytes, at_once, from_word}
-use Rattle.s370_state.specs.Words.{signed, store_word}
-use Rattle.s370_fixed.specs.Words.{low_word, sign_code, store_half}
+use Rattle.s370_state.specs.Words.{signed, store_number}
+use Rattle.s370_fixed.specs.Words.{low_word, sign_code}
 use Rattle.s370_decode.specs.Fields.{r1, ex}
 use Rattle.s370_decode.specs.declared.code.Code.{Code}
 use Rattle.s370_fixed.specs.Operands.{from_register, from_half, loads, results}
@@ -40,8 +40,8 @@ abbrev pub row_la : Memory → Machine → Code → Row
 row_la m s c = at_once (loads s c (ex s.cpu c))
 
 abbrev pub row_st : Memory → Machine → Code → Row
-row_st m s c = record { well = true; uses = stores (ex s.cpu c) 4 ∷ []; outcome = Completes (with_bytes s (store_word s.bytes (ex s.cpu c) (reg s (r1 c)))) }
+row_st m s c = record { well = true; uses = stores (ex s.cpu c) 4 ∷ []; outcome = Completes (with_bytes s (store_number s.bytes (ex s.cpu c) 4 (reg s (r1 c)))) }
 
 -- the low halfword of R1
 abbrev pub row_sth : Memory → Machine → Code → Row
-row_sth m s c = record { well = true; uses = stores (ex s.cpu c) 2 ∷ []; outcome = Completes (with_bytes s (store_half s.bytes (ex s.cpu c) (reg s (r1 c)))) }
+row_sth m s c = record { well = true; uses = stores (ex s.cpu c) 2 ∷ []; outcome = Completes (with_bytes s (store_number s.bytes (ex s.cpu c) 2 (reg s (r1 c)))) }

@@ -3,7 +3,7 @@ use Rattle.std.specs.Prelude.{ℕ, zero, suc, ◌+◌, ◌-◌, ◌*◌, ◌%◌
 use Rattle.cov_base.specs.States.{Machine}
 use Rattle.cov_base.specs.Memory.{Memory}
 use Rattle.s370_state.specs.Row.{Row, Completes, reads, stores, with_bytes, with_regs}
-use Rattle.s370_state.specs.Words.{number_at, store_word}
+use Rattle.s370_state.specs.Words.{number_at, store_number}
 use Rattle.s370_decode.specs.Fields.{r1, r2, e2}
 use Rattle.s370_decode.specs.declared.code.Code.{Code}
 
@@ -19,7 +19,7 @@ loaded m bytes regs r a (suc n) = slice_set (loaded m bytes regs r a n) ((r + n)
 -- the bytes after the words of n registers, r and on, were stored from a on
 unfoldable pub stored : List ℕ → List ℕ → ℕ → ℕ → ℕ → List ℕ
 stored bytes regs r a zero = bytes
-stored bytes regs r a (suc n) = store_word (stored bytes regs r a n) (a + 4 * n) (slice_index regs ((r + n) % 16))
+stored bytes regs r a (suc n) = store_number (stored bytes regs r a n) (a + 4 * n) 4 (slice_index regs ((r + n) % 16))
 
 abbrev pub row_lm : Memory → Machine → Code → Row
 row_lm m s c = record {

@@ -1,7 +1,6 @@
 -- Numbers of which a register keeps 32 bits, and halfwords.
-use Rattle.std.specs.Prelude.{ℕ, ◌+◌, ◌%◌, ◌/◌, ◌-◌, List, slice_set, nat_lt, ◌==◌, if◌then◌else◌, Bool, ℤ, pos, negsuc}
+use Rattle.std.specs.Prelude.{ℕ, ◌%◌, ◌-◌, nat_lt, ◌==◌, if◌then◌else◌, Bool, ℤ, pos, negsuc}
 use Rattle.std.specs.Int.{cast_signed, w16}
-use Rattle.cov_base.specs.Memory.{wrap}
 
 -- a halfword as a signed number
 unfoldable pub signed_half : ℕ → ℤ
@@ -17,22 +16,18 @@ unfoldable pub low_word : ℤ → ℕ
 low_word z = modulo 4294967296 z
 
 -- the number is at least -m, and below m
-abbrev pub is_within : ℕ → ℤ → Bool
-is_within m (pos n) = nat_lt n m
-is_within m (negsuc n) = nat_lt n m
+abbrev pub is_in_range : ℕ → ℤ → Bool
+is_in_range m (pos n) = nat_lt n m
+is_in_range m (negsuc n) = nat_lt n m
 
 -- the number fits a signed word, and a signed doubleword
 unfoldable pub is_word : ℤ → Bool
-is_word z = is_within 2147483648 z
+is_word z = is_in_range 2147483648 z
 
 unfoldable pub is_doubleword : ℤ → Bool
-is_doubleword z = is_within 9223372036854775808 z
+is_doubleword z = is_in_range 9223372036854775808 z
 
 -- 0 for zero, 1 for negative, 2 for positive
 unfoldable pub sign_code : ℤ → ℕ
 sign_code (pos n) = if n == 0 then 0 else 2
 sign_code (negsuc n) = 1
-
--- the low halfword of a register is stored
-unfoldable pub store_half : List ℕ → ℕ → ℕ → List ℕ
-store_half bytes a v = slice_set (slice_set bytes (wrap a) (v / 256 % 256)) (wrap (a + 1)) (v % 256)

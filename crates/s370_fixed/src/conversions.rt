@@ -23,7 +23,7 @@ fn convert(cpu: &mut Cpu, r: u8, f: Field) -> Next
     ensures { (bytes : List ℕ) → after cpu.new bytes result ≡ finish (machine_of cpu.old bytes) (converted (machine_of cpu.old bytes) r f) }
 {
     let z = number(f) as i64;
-    if is_word(z) {
+    if is_word(i128::from(z)) {
         cpu.set_reg(r, low_word(z));
         Next::On
     } else {

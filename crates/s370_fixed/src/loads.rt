@@ -58,7 +58,7 @@ pub fn load_and_test<P: Space>(cpu: &mut Cpu, space: &mut P, code: &Code) -> Nex
 {
     let v = cpu.reg(code.r2());
     cpu.set_reg(code.r1(), v);
-    cpu.set_cc(sign_code(signed(v)));
+    cpu.set_cc(sign_code(i128::from(signed(v))));
     Next::On
 }
 

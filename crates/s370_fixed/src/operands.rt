@@ -58,8 +58,9 @@ pub fn set_result(cpu: &mut Cpu, r: u8, z: i64) -> Next
     ensures next { result ≡ next_after cpu.old.mask (if is_word z then 0 else 8) }
 {
     cpu.set_reg(r, low_word(z));
-    if is_word(z) {
-        cpu.set_cc(sign_code(z));
+    let wide = i128::from(z);
+    if is_word(wide) {
+        cpu.set_cc(sign_code(wide));
         next_after(cpu.mask(), 0)
     } else {
         cpu.set_cc(3);

@@ -59,7 +59,7 @@ fn divide<P: Space>(cpu: &mut Cpu, space: &P, r: u8, d: i64) -> Next
 }
 
 /// Quotient and remainder, where the quotient is a word.
-#[tactic(auto, using(crate::proofs::Wide::divides_true, crate::proofs::Wide::divides_wide, crate::proofs::Wide::divides_none))]
+#[tactic(auto, using(crate::proofs::Wide::divides_none))]
 fn quotient(p: i64, d: i64) -> Option<(i64, i64)>
     ensures divides { IfSome result (λ t. divides p d ≡ true) }
     ensures quotient { IfSome result (λ t. t.0 ≡ int_div p d) }
@@ -68,7 +68,7 @@ fn quotient(p: i64, d: i64) -> Option<(i64, i64)>
 {
     match p.checked_div(d) {
         Some(q) => {
-            if is_word(q) {
+            if is_word(i128::from(q)) {
                 Some((q, p.wrapping_rem(d)))
             } else {
                 None

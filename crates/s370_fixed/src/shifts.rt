@@ -9,7 +9,7 @@ ghost use Rattle.s370_fixed.specs.Words.{low_word, is_word, is_doubleword, sign_
 ghost use Rattle.s370_fixed.specs.Shifts.{left_by, right_by, with_sign, row_sll, row_srl, row_sla, row_sra, row_sldl, row_srdl, row_slda, row_srda};
 
 use crate::operands::load;
-use crate::words::{low_word, sign_code};
+use crate::words::{is_word, low_word, sign_code};
 use s370_decode::Code;
 use s370_state::{Cpu, Ending, Next, Space, next_after, signed};
 
@@ -53,15 +53,7 @@ fn with_sign(sign: u64, x: i64, z: i128) -> u64
     }
 }
 
-/// Whether the product fits a signed word.
-#[tactic(auto, unfolding(crate::specs::Words::is_word))]
-fn is_word(z: i128) -> bool
-    ensures { result ≡ is_word z }
-{
-    -2_147_483_648 <= z && z < 2_147_483_648
-}
-
-/// Whether it fits a signed doubleword.
+/// Whether the product fits a signed doubleword.
 #[tactic(auto, unfolding(crate::specs::Words::is_doubleword))]
 fn is_doubleword(z: i128) -> bool
     ensures { result ≡ is_doubleword z }
@@ -69,22 +61,7 @@ fn is_doubleword(z: i128) -> bool
     -9_223_372_036_854_775_808 <= z && z < 9_223_372_036_854_775_808
 }
 
-/// The sign code of a product.
-#[tactic(auto, unfolding(crate::specs::Words::sign_code))]
-fn product_code(z: i128) -> u8
-    ensures value { result ≡ sign_code z }
-    ensures below { result ≤ 2 }
-{
-    if z == 0 {
-        0
-    } else if z < 0 {
-        1
-    } else {
-        2
-    }
-}
-
-/// The number right_by by 2^n, rounded down.
+/// The number divided by 2^n, rounded down.
 #[tactic(auto, using(crate::proofs::Powers::right_is))]
 fn right_by(x: i64, n: u32) -> i64
     requires { n < 64 }
@@ -137,7 +114,7 @@ pub fn shift_left<P: Space>(cpu: &mut Cpu, space: &mut P, code: &Code) -> Next
     let x = signed(cpu.reg(code.r1()));
     let z = left_by(x, n);
     cpu.set_reg(code.r1(), with_sign(WORD_SIGN, x, z) as u32);
-    set_code(cpu, is_word(z), product_code(z))
+    set_code(cpu, is_word(z), sign_code(z))
 }
 
 /// SRA.
@@ -148,7 +125,7 @@ pub fn shift_right<P: Space>(cpu: &mut Cpu, space: &mut P, code: &Code) -> Next
     let n = distance(cpu, code);
     let z = right_by(signed(cpu.reg(code.r1())), n);
     cpu.set_reg(code.r1(), low_word(z));
-    cpu.set_cc(sign_code(z));
+    cpu.set_cc(sign_code(i128::from(z)));
     Next::On
 }
 
@@ -193,7 +170,7 @@ pub fn shift_left_double<P: Space>(cpu: &mut Cpu, space: &mut P, code: &Code) ->
     let x = cpu.pair(r).cast_signed();
     let z = left_by(x, n);
     cpu.set_pair(r, with_sign(DOUBLE_SIGN, x, z));
-    set_code(cpu, is_doubleword(z), product_code(z))
+    set_code(cpu, is_doubleword(z), sign_code(z))
 }
 
 /// SRDA.
@@ -208,6 +185,6 @@ pub fn shift_right_double<P: Space>(cpu: &mut Cpu, space: &mut P, code: &Code) -
     let n = distance(cpu, code);
     let z = right_by(cpu.pair(r).cast_signed(), n);
     cpu.set_pair(r, z.cast_unsigned());
-    cpu.set_cc(sign_code(z));
+    cpu.set_cc(sign_code(i128::from(z)));
     Next::On
 }

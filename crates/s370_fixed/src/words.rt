@@ -2,8 +2,8 @@
 //! and halfwords.
 ghost use Rattle.std.specs.Prelude.{◌≡◌, ℕ, ◌+◌, ◌%◌, ◌<◌, ◌≤◌, ◌^◌, true, ℤ, pos, neg_ℤ, ◌≤ℤ◌, ◌<ℤ◌};
 ghost use Rattle.cov_base.specs.Memory.{can_reach, can_store};
-ghost use Rattle.s370_state.specs.Words.{number_at};
-ghost use Rattle.s370_fixed.specs.Words.{signed_half, low_word, is_word, sign_code, store_half};
+ghost use Rattle.s370_state.specs.Words.{number_at, store_number};
+ghost use Rattle.s370_fixed.specs.Words.{signed_half, low_word, is_word, sign_code};
 
 use cov_base::Addr;
 use s370_state::{Space, byte_of, put_into};
@@ -30,9 +30,9 @@ pub fn low_word(z: i64) -> u32
     }
 }
 
-/// Whether the number fits a signed word; where it does not, a sum or difference overflows.
+/// Whether the number fits a signed word; where it does not, a sum, a difference or a left shift overflows.
 #[tactic(auto, unfolding(crate::specs::Words::is_word))]
-pub fn is_word(z: i64) -> bool
+pub fn is_word(z: i128) -> bool
     ensures { result ≡ is_word z }
 {
     -2_147_483_648 <= z && z < 2_147_483_648
@@ -40,7 +40,7 @@ pub fn is_word(z: i64) -> bool
 
 /// The condition code of a signed result that fits: 0 for zero, 1 for negative, 2 for positive.
 #[tactic(auto, unfolding(crate::specs::Words::sign_code))]
-pub fn sign_code(z: i64) -> u8
+pub fn sign_code(z: i128) -> u8
     ensures value { result ≡ sign_code z }
     ensures below { result ≤ 2 }
 {
@@ -64,15 +64,15 @@ pub fn half_of<P: Space>(space: &P, at: Addr, i: u32, len: u32) -> u16
 }
 
 /// A word's low halfword is stored at a distance into an operand that was tested.
-#[tactic(auto, unfolding(crate::specs::Words::store_half))]
+#[tactic(auto, using(crate::proofs::Registers::half_stored))]
 pub fn put_half<P: Space>(space: &mut P, at: Addr, i: u32, len: u32, value: u32)
     requires store { can_store (P.memory space.old) at len ≡ true }
     requires below { i + 2 ≤ len }
     ensures memory { P.memory space.new ≡ P.memory space.old }
-    ensures bytes { P.bytes space.new ≡ store_half (P.bytes space.old) (at + i) value }
+    ensures bytes { P.bytes space.new ≡ store_number (P.bytes space.old) (at + i) 2 value }
 {
-    put_into(space, at, i, len, (value / 256 % 256) as u8);
     put_into(space, at, i + 1, len, (value % 256) as u8);
+    put_into(space, at, i, len, (value / 256 % 256) as u8);
 }
 
 #[cfg(test)]

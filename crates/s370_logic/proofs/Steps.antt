@@ -1,10 +1,10 @@
 -- The recursions over an operand's bytes, one byte on, and a doubleword by its words.
-use Rattle.std.proofs.Common.{◌≡◌, ℕ, ◌+◌, ◌*◌, ◌<◌, zero, suc, true, false, ◌&&◌, ◌==◌, List, slice_set, refl, add-one, add_assoc, arith, inl, inr}
+use Rattle.std.proofs.Common.{◌≡◌, ℕ, ◌+◌, ◌*◌, ◌/◌, ◌%◌, ◌<◌, zero, suc, true, false, ◌&&◌, ◌==◌, List, slice_set, refl, add-one, add_assoc, arith, inl, inr}
 use Rattle.std.proofs.Math.Nat.{eq-or-lt_of_le}
 use Rattle.std.proofs.lemmas.Bool.Decides.{nat_tests}
 use Rattle.std.specs.Ordering.{nat_cmp}
 use Rattle.cov_base.specs.Memory.{Memory, byte_at, wrap}
-use Rattle.s370_state.specs.Words.{number_at, order_code}
+use Rattle.s370_state.specs.Words.{number_at, store_number, order_code}
 use Rattle.s370_logic.specs.Bitwise.{joined, joined_byte, are_zero}
 use Rattle.s370_logic.specs.Comparisons.{compared}
 
@@ -49,3 +49,13 @@ compared_decided m bytes a b (suc n) i code l e h k = elim (eq-or-lt_of_le {n = 
 pub double_of_words : (m : Memory) (bytes : List ℕ) (a : ℕ) → number_at m bytes a 8 ≡ number_at m bytes a 4 * 4294967296 + number_at m bytes (a + 4) 4
 unfolding number_at
 double_of_words m bytes a = simp add_assoc (omega arith)
+
+pub double_stored : (bytes : List ℕ) (a v : ℕ) → store_number bytes a 8 v ≡ store_number (store_number bytes (a + 4) 4 (v % 4294967296)) a 4 (v / 4294967296)
+unfolding store_number
+double_stored bytes a v =
+    let last : v % 4294967296 % 256 ≡ v % 256 = omega arith in
+    let third : v % 4294967296 / 256 % 256 ≡ v / 256 % 256 = omega arith in
+    let second : v % 4294967296 / 256 / 256 % 256 ≡ v / 256 / 256 % 256 = omega arith in
+    let first : v % 4294967296 / 256 / 256 / 256 % 256 ≡ v / 256 / 256 / 256 % 256 = omega arith in
+    let high : v / 256 / 256 / 256 / 256 ≡ v / 4294967296 = omega arith in
+    rw (last, third, second, first, high) (simp add_assoc refl)

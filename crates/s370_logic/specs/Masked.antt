@@ -1,12 +1,12 @@
 -- The rows of operations on the bytes of R1 that a mask of four bits selects, left to right (Principles of Operation,
 -- "General Instructions", "Insert Characters under Mask", "Store Characters under Mask", "Compare Logical Characters
 -- under Mask"). A zero mask selects no byte, and the operand then has none.
-use Rattle.std.specs.Prelude.{ℕ, zero, suc, ◌+◌, ◌*◌, ◌/◌, ◌%◌, true, ◌==◌, nat_le, if◌then◌else◌, List, [], ◌∷◌, count_ones, slice_set}
+use Rattle.std.specs.Prelude.{ℕ, zero, suc, ◌+◌, ◌*◌, ◌/◌, ◌%◌, true, ◌==◌, nat_le, if◌then◌else◌, [], ◌∷◌, count_ones}
 use Rattle.std.specs.Ordering.{nat_cmp}
 use Rattle.cov_base.specs.States.{Machine}
-use Rattle.cov_base.specs.Memory.{Memory, byte_at, wrap}
+use Rattle.cov_base.specs.Memory.{Memory, byte_at}
 use Rattle.s370_state.specs.Row.{Row, Completes, reads, stores, reg, with_reg, with_cc, with_bytes}
-use Rattle.s370_state.specs.Words.{number_at, order_code}
+use Rattle.s370_state.specs.Words.{number_at, store_number, order_code}
 use Rattle.s370_decode.specs.Fields.{r1, r2, e2}
 use Rattle.s370_decode.specs.declared.code.Code.{Code}
 
@@ -40,11 +40,6 @@ row_icm m s c =
       uses = reads a (size c) ∷ [];
       outcome = Completes (with_cc (with_reg s (r1 c) (inserted 4 (r2 c) (reg s (r1 c)) v)) (insert_code v (byte_at m s.bytes a)));
     }
-
--- the n bytes from a on become the low bytes of a number
-unfoldable pub store_number : List ℕ → ℕ → ℕ → ℕ → List ℕ
-store_number bytes a zero v = bytes
-store_number bytes a (suc n) v = store_number (slice_set bytes (wrap (a + n)) (v % 256)) a n (v / 256)
 
 abbrev pub row_stcm : Memory → Machine → Code → Row
 row_stcm m s c =

@@ -1,10 +1,10 @@
 -- The rows of compare and swap (Principles of Operation, "General Instructions", "Compare and Swap", "Compare Double
 -- and Swap"). Their operand counts as stored also where it is loaded.
-use Rattle.std.specs.Prelude.{ℕ, ◌+◌, ◌/◌, ◌%◌, List, ◌&&◌, ◌==◌, if◌then◌else◌, [], ◌∷◌}
+use Rattle.std.specs.Prelude.{◌%◌, ◌&&◌, ◌==◌, if◌then◌else◌, [], ◌∷◌}
 use Rattle.cov_base.specs.States.{Machine}
 use Rattle.cov_base.specs.Memory.{Memory}
 use Rattle.s370_state.specs.Row.{Row, Completes, stores, reg, with_reg, with_cc, with_bytes, with_regs, is_even, pair, with_pair}
-use Rattle.s370_state.specs.Words.{number_at, store_word}
+use Rattle.s370_state.specs.Words.{number_at, store_number}
 use Rattle.s370_decode.specs.Fields.{r1, r2, e2}
 use Rattle.s370_decode.specs.declared.code.Code.{Code}
 
@@ -16,13 +16,9 @@ row_cs m s c =
     record {
       well = a % 4 == 0;
       uses = stores a 4 ∷ [];
-      outcome = if reg s (r1 c) == v then Completes (with_cc (with_bytes s (store_word s.bytes a (reg s (r2 c)))) 0)
+      outcome = if reg s (r1 c) == v then Completes (with_cc (with_bytes s (store_number s.bytes a 4 (reg s (r2 c)))) 0)
           else Completes (with_cc (with_reg s (r1 c) v) 1);
     }
-
--- a doubleword is stored
-unfoldable pub store_double : List ℕ → ℕ → ℕ → List ℕ
-store_double bytes a v = store_word (store_word bytes a (v / 4294967296)) (a + 4) (v % 4294967296)
 
 -- the same of pairs and a doubleword
 abbrev pub row_cds : Memory → Machine → Code → Row
@@ -32,6 +28,6 @@ row_cds m s c =
     record {
       well = is_even (r1 c) && is_even (r2 c) && a % 8 == 0;
       uses = stores a 8 ∷ [];
-      outcome = if pair s.cpu (r1 c) == v then Completes (with_cc (with_bytes s (store_double s.bytes a (pair s.cpu (r2 c)))) 0)
+      outcome = if pair s.cpu (r1 c) == v then Completes (with_cc (with_bytes s (store_number s.bytes a 8 (pair s.cpu (r2 c)))) 0)
           else Completes (with_cc (with_regs s (with_pair s.cpu.regs (r1 c) v)) 1);
     }

@@ -4,8 +4,8 @@
 ghost use Rattle.std.specs.Prelude.{◌≡◌, ℕ, ◌+◌, ◌-◌, ◌*◌, ◌/◌, ◌%◌, ◌<◌, ◌≤◌, ◌^◌, true, ◌==◌, if◌then◌else◌};
 ghost use Rattle.cov_base.specs.Memory.{can_reach, can_store, byte_at};
 ghost use Rattle.s370_state.specs.Row.{Performs};
-ghost use Rattle.s370_state.specs.Words.{number_at};
-ghost use Rattle.s370_logic.specs.Masked.{size, gathered, inserted, insert_code, store_number, row_icm, row_stcm, row_clm};
+ghost use Rattle.s370_state.specs.Words.{number_at, store_number};
+ghost use Rattle.s370_logic.specs.Masked.{size, gathered, inserted, insert_code, row_icm, row_stcm, row_clm};
 
 use cov_base::Addr;
 use s370_decode::Code;

@@ -4,8 +4,8 @@
 ghost use Rattle.std.specs.Prelude.{◌≡◌, ℕ, ◌+◌, ◌*◌, ◌/◌, ◌%◌, ◌<◌, ◌≤◌, ◌^◌, true, false, ◌==◌, ◌&&◌, if◌then◌else◌};
 ghost use Rattle.cov_base.specs.Memory.{can_reach, can_store};
 ghost use Rattle.s370_state.specs.Row.{Performs};
-ghost use Rattle.s370_state.specs.Words.{number_at};
-ghost use Rattle.s370_logic.specs.Swaps.{store_double, row_cs, row_cds};
+ghost use Rattle.s370_state.specs.Words.{number_at, store_number};
+ghost use Rattle.s370_logic.specs.Swaps.{row_cs, row_cds};
 
 use cov_base::Addr;
 use s370_decode::Code;
@@ -23,15 +23,15 @@ fn double_of<P: Space>(space: &P, at: Addr, i: u32, len: u32) -> u64
 }
 
 /// A doubleword is stored at a distance into an operand that was tested.
-#[tactic(auto, unfolding(crate::specs::Swaps::store_double))]
+#[tactic(auto, using(crate::proofs::Steps::double_stored))]
 fn put_double<P: Space>(space: &mut P, at: Addr, i: u32, len: u32, value: u64)
     requires store { can_store (P.memory space.old) at len ≡ true }
     requires below { i + 8 ≤ len }
     ensures memory { P.memory space.new ≡ P.memory space.old }
-    ensures bytes { P.bytes space.new ≡ store_double (P.bytes space.old) (at + i) value }
+    ensures bytes { P.bytes space.new ≡ store_number (P.bytes space.old) (at + i) 8 value }
 {
-    put_word(space, at, i, len, (value / 4_294_967_296) as u32);
     put_word(space, at, i + 4, len, (value % 4_294_967_296) as u32);
+    put_word(space, at, i, len, (value / 4_294_967_296) as u32);
 }
 
 /// CS: stores R3 in a word that equals R1, or else loads R1 from it.

@@ -1,7 +1,7 @@
 -- What an operand that passed its tests gives for each of its bytes.
-use Rattle.std.proofs.Common.{◌≡◌, ℕ, ◌+◌, ◌*◌, ◌<◌, zero, suc, Bool, true, false, ◌&&◌, List, arith, zero-add, add-zero, refl, ◌⊎◌, inl, inr}
+use Rattle.std.proofs.Common.{◌≡◌, ℕ, ◌+◌, ◌*◌, ◌/◌, ◌%◌, ◌<◌, zero, suc, Bool, true, false, ◌&&◌, List, slice_set, arith, zero-add, add-zero, refl, ◌⊎◌, inl, inr}
 use Rattle.cov_base.specs.Memory.{Memory, can_reach, can_store, is_accessible, is_private, wrap, byte_at}
-use Rattle.s370_state.specs.Words.{number_at}
+use Rattle.s370_state.specs.Words.{number_at, store_number}
 
 both-left : (a b : Bool) → (a && b) ≡ true → a ≡ true
 both-left true b h = refl
@@ -35,3 +35,11 @@ store_at m a (suc n) i b h l e =
 pub word_of_bytes : (m : Memory) (bytes : List ℕ) (a : ℕ) → number_at m bytes a 4 ≡ ((byte_at m bytes (wrap a) * 256 + byte_at m bytes (wrap (a + 1))) * 256 + byte_at m bytes (wrap (a + 2))) * 256 + byte_at m bytes (wrap (a + 3))
 unfolding number_at
 word_of_bytes m bytes a = rw (zero-add, add-zero)
+
+pub word_stored : (bytes : List ℕ) (a v : ℕ) → v < 4294967296 →
+    store_number bytes a 4 v ≡ slice_set (slice_set (slice_set (slice_set bytes (wrap (a + 3)) (v % 256)) (wrap (a + 2)) (v / 256 % 256)) (wrap (a + 1)) (v / 65536 % 256)) (wrap a) (v / 16777216)
+unfolding store_number
+word_stored bytes a v h =
+    let second : v / 256 / 256 % 256 ≡ v / 65536 % 256 = omega arith in
+    let first : v / 256 / 256 / 256 % 256 ≡ v / 16777216 = omega arith in
+    rw (add-zero, second, first) refl

@@ -1,7 +1,8 @@
 -- A row is what one operation says of one state. The order of tests is stated here once, for all rows.
 use Rattle.std.specs.Prelude.{◌≡◌, ℕ, ◌+◌, ◌*◌, ◌%◌, ◌/◌, Bool, true, false, ◌&&◌, if◌then◌else◌, ◌==◌, nat_le, Option, Some, None, List, [], ◌∷◌, slice_index, slice_set}
+use Rattle.std.specs.Option.{option_or}
 use Rattle.cov_base.specs.States.{CpuView, Machine}
-use Rattle.cov_base.specs.Memory.{Memory, can_reach, can_store, first_touch, or_else}
+use Rattle.cov_base.specs.Memory.{Memory, can_reach, can_store, first_touch}
 use Rattle.s370_state.specs.Words.{number_at}
 use Rattle.s370_state.specs.declared.endings.Ending.{Ending}
 use Rattle.s370_state.specs.declared.endings.Ending.TheVariants.{Abend, Touched}
@@ -45,7 +46,7 @@ all_stored m (u ∷ us) = (if u.stores then can_store m u.at u.size else true) &
 
 unfoldable pub touched : Memory → List Use → Option ℕ
 touched m [] = None
-touched m (u ∷ us) = or_else (if u.stores then None else first_touch m u.at u.size) (touched m us)
+touched m (u ∷ us) = option_or (if u.stores then None else first_touch m u.at u.size) (touched m us)
 
 abbrev pub touch_ending : Option ℕ → Option Ending
 touch_ending None = None

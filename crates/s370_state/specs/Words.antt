@@ -10,10 +10,10 @@ unfoldable pub number_at : Memory → List ℕ → ℕ → ℕ → ℕ
 number_at m bytes a zero = 0
 number_at m bytes a (suc n) = number_at m bytes a n * 256 + byte_at m bytes (wrap (a + n))
 
--- a word of a register is stored
-unfoldable pub store_word : List ℕ → ℕ → ℕ → List ℕ
-store_word bytes a v =
-    slice_set (slice_set (slice_set (slice_set bytes (wrap a) (v / 16777216)) (wrap (a + 1)) (v / 65536 % 256)) (wrap (a + 2)) (v / 256 % 256)) (wrap (a + 3)) (v % 256)
+-- the n bytes from a on become the low bytes of a number
+unfoldable pub store_number : List ℕ → ℕ → ℕ → ℕ → List ℕ
+store_number bytes a zero v = bytes
+store_number bytes a (suc n) v = store_number (slice_set bytes (wrap (a + n)) (v % 256)) a n (v / 256)
 
 -- a register as a signed number
 unfoldable pub signed : ℕ → ℤ

@@ -2,7 +2,7 @@
 ghost use Rattle.std.specs.Prelude.{◌≡◌, ℕ, ◌+◌, ◌-◌, ◌*◌, ◌%◌, ◌/◌, ◌<◌, ◌≤◌, ◌^◌, List, [], ◌∷◌, true, IfOk, IfErr, slice_set, if◌then◌else◌, ◌&&◌};
 ghost use Rattle.cov_base.specs.Memory.{Memory, byte_at, is_accessible, is_private, can_reach, can_store, wrap};
 ghost use Rattle.s370_state.specs.Row.{Use, reads, stores, use_tests};
-ghost use Rattle.s370_state.specs.Words.{number_at, store_word};
+ghost use Rattle.s370_state.specs.Words.{number_at, store_number};
 ghost use Rattle.s370_state.specs.Answers.{ending_of};
 
 use crate::endings::Ending;
@@ -153,15 +153,15 @@ pub fn read_word<P: Space>(space: &P, at: Addr) -> Result<u32, Ending>
 }
 
 /// A word is stored at a distance into an operand that was tested.
-#[tactic(auto, unfolding(crate::specs::Words::store_word))]
+#[tactic(auto, using(crate::proofs::Tested::word_stored))]
 pub fn put_word<P: Space>(space: &mut P, at: Addr, i: u32, len: u32, value: u32)
     requires store { can_store (P.memory space.old) at len ≡ true }
     requires below { i + 4 ≤ len }
     ensures memory { P.memory space.new ≡ P.memory space.old }
-    ensures bytes { P.bytes space.new ≡ store_word (P.bytes space.old) (at + i) value }
+    ensures bytes { P.bytes space.new ≡ store_number (P.bytes space.old) (at + i) 4 value }
 {
-    put_into(space, at, i, len, (value / 16_777_216) as u8);
-    put_into(space, at, i + 1, len, (value / 65_536 % 256) as u8);
-    put_into(space, at, i + 2, len, (value / 256 % 256) as u8);
     put_into(space, at, i + 3, len, (value % 256) as u8);
+    put_into(space, at, i + 2, len, (value / 256 % 256) as u8);
+    put_into(space, at, i + 1, len, (value / 65_536 % 256) as u8);
+    put_into(space, at, i, len, (value / 16_777_216) as u8);
 }

@@ -1,6 +1,6 @@
 -- The first number that passes a test, one number on.
 use Rattle.std.proofs.Common.{◌≡◌, ℕ, ◌+◌, ◌<◌, ◌≤◌, zero, suc, Bool, true, false, if◌then◌else◌, Option, Some, None, refl, add-one, arith, ◌⊎◌, inl, inr}
-use Rattle.cov_base.specs.Memory.{or_else}
+use Rattle.std.specs.Option.{option_or}
 use Rattle.s370_storage.specs.Searches.{first_where}
 
 last_or : (i n : ℕ) → i < suc n → (i ≡ n) ⊎ (i < n)
@@ -26,7 +26,7 @@ first_here p (suc n) i l h k =
       | inr z ↦ rw (first_here p n i z h k) refl
     ]
 
-last_of : (b : Bool) (q : Option ℕ) (n j : ℕ) → or_else q (if b then Some n else None) ≡ Some j → (q ≡ Some j) ⊎ (j ≡ n)
+last_of : (b : Bool) (q : Option ℕ) (n j : ℕ) → option_or q (if b then Some n else None) ≡ Some j → (q ≡ Some j) ⊎ (j ≡ n)
 last_of true None n j h = let e : Some n ≡ Some j = h in inr cc
 last_of false None n j h = let e : None ≡ Some j = h in absurd cc
 last_of b (Some k) n j h = inl h

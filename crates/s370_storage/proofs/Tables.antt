@@ -1,11 +1,12 @@
 -- The function bytes of a table, one argument on.
 use Rattle.std.proofs.Common.{◌≡◌, ◌≢◌, ℕ, ◌+◌, ◌<◌, ◌≤◌, zero, suc, Bool, true, false, ◌&&◌, Option, Some, None, List, [], ◌∷◌, ◌++◌, slice_set, refl, sym, ◌∙◌, add-one, arith, get_or-set_other, ◌⊎◌, inl, inr, not, ◌==◌}
+use Rattle.std.specs.Option.{option_or}
 use Rattle.std.proofs.lemmas.Bool.Decides.{nat_tests}
-use Rattle.cov_base.specs.Memory.{Memory, byte_at, wrap, or_else, can_reach, first_touch, is_accessible}
+use Rattle.cov_base.specs.Memory.{Memory, byte_at, wrap, can_reach, first_touch, is_accessible}
 use Rattle.s370_state.specs.Row.{Use, reads, all_reached, all_stored, touched, touch_ending}
 use Rattle.s370_state.proofs.Tested.{reach_at}
 use Rattle.s370_storage.proofs.Firsts.{first_none, first_more, first_here, first_past}
-use Rattle.s370_storage.specs.Translations.{function_at, functions, translated, function, selected, looked_up, or_ending}
+use Rattle.s370_storage.specs.Translations.{function_at, functions, translated, function, selected, looked_up}
 
 pub functions_none : (m : Memory) (bytes : List ℕ) (a t : ℕ) → functions m bytes a t 0 ≡ []
 unfolding functions
@@ -98,20 +99,20 @@ unfolding functions all_stored
 functions_stored m bytes a t zero = refl
 functions_stored m bytes a t (suc n) = stored_last m (functions m bytes a t n) _ (functions_stored m bytes a t n)
 
-or_none : (p : Option ℕ) → or_else p None ≡ p
+or_none : (p : Option ℕ) → option_or p None ≡ p
 or_none None = refl
 or_none (Some a) = refl
 
-or_assoc : (p q r : Option ℕ) → or_else p (or_else q r) ≡ or_else (or_else p q) r
+or_assoc : (p q r : Option ℕ) → option_or p (option_or q r) ≡ option_or (option_or p q) r
 or_assoc None q r = refl
 or_assoc (Some a) q r = refl
 
-touched_last : (m : Memory) (us : List Use) (b : ℕ) → touched m (us ++ (reads b 1 ∷ [])) ≡ or_else (touched m us) (first_touch m b 1)
+touched_last : (m : Memory) (us : List Use) (b : ℕ) → touched m (us ++ (reads b 1 ∷ [])) ≡ option_or (touched m us) (first_touch m b 1)
 unfolding touched
 touched_last m [] b = or_none (first_touch m b 1)
 touched_last m (u ∷ us) b = rw (touched_last m us b) (or_assoc _ (touched m us) (first_touch m b 1))
 
-or_touch : (p q : Option ℕ) → touch_ending (or_else p q) ≡ or_ending (touch_ending p) (touch_ending q)
+or_touch : (p q : Option ℕ) → touch_ending (option_or p q) ≡ option_or (touch_ending p) (touch_ending q)
 or_touch None q = refl
 or_touch (Some a) q = refl
 
@@ -119,7 +120,7 @@ pub functions_touched_none : (m : Memory) (bytes : List ℕ) (a t : ℕ) → tou
 unfolding functions touched
 functions_touched_none m bytes a t = refl
 
-pub functions_touched_more : (m : Memory) (bytes : List ℕ) (a t n : ℕ) → touch_ending (touched m (functions m bytes a t (n + 1))) ≡ or_ending (touch_ending (touched m (functions m bytes a t n))) (touch_ending (first_touch m (function_at m bytes a t n) 1))
+pub functions_touched_more : (m : Memory) (bytes : List ℕ) (a t n : ℕ) → touch_ending (touched m (functions m bytes a t (n + 1))) ≡ option_or (touch_ending (touched m (functions m bytes a t n))) (touch_ending (first_touch m (function_at m bytes a t n) 1))
 unfolding functions
 functions_touched_more m bytes a t n = rw (add-one, touched_last m (functions m bytes a t n) (function_at m bytes a t n)) (or_touch (touched m (functions m bytes a t n)) _)
 

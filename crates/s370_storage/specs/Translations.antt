@@ -4,7 +4,6 @@ use Rattle.std.specs.Prelude.{ℕ, zero, suc, ◌+◌, ◌*◌, ◌/◌, true, i
 use Rattle.cov_base.specs.States.{Machine}
 use Rattle.cov_base.specs.Memory.{Memory, byte_at, wrap}
 use Rattle.s370_state.specs.Row.{Row, Use, Outcome, Completes, reads, stores, with_cc, with_bytes, with_regs, with_address}
-use Rattle.s370_state.specs.declared.endings.Ending.{Ending}
 use Rattle.s370_decode.specs.Fields.{i2, e1, e2}
 use Rattle.s370_decode.specs.declared.code.Code.{Code}
 use Rattle.s370_storage.specs.Searches.{first_where}
@@ -17,11 +16,6 @@ function_at m bytes a t n = wrap (t + byte_at m bytes (wrap (a + n)))
 unfoldable pub functions : Memory → List ℕ → ℕ → ℕ → ℕ → List Use
 functions m bytes a t zero = []
 functions m bytes a t (suc n) = functions m bytes a t n ++ (reads (function_at m bytes a t n) 1 ∷ [])
-
--- the ending that comes first
-abbrev pub or_ending : Option Ending → Option Ending → Option Ending
-or_ending None q = q
-or_ending (Some e) q = Some e
 
 -- the bytes after the first n arguments became their function bytes, as these then stand, left to right; no argument
 -- changes before its turn

@@ -2,9 +2,9 @@
 #![tactic(auto, using(s370_state::proofs::Performs::passes, s370_state::proofs::Performs::refuses))]
 
 ghost use Rattle.std.specs.Prelude.{◌≡◌, ℕ, ◌+◌, ◌*◌, ◌/◌, ◌%◌, ◌<◌, ◌≤◌, ◌^◌, ◌∷◌, Some, None, true, false, IfOk, IfErr, IfSome, List, if◌then◌else◌, ◌==◌};
-ghost use Rattle.cov_base.specs.Memory.{can_reach, can_store, byte_at, wrap, first_touch, or_else};
+ghost use Rattle.cov_base.specs.Memory.{can_reach, can_store, byte_at, wrap, first_touch};
 ghost use Rattle.s370_state.specs.Row.{Performs, use_tests, stores, reads, all_reached, touched, touch_ending, machine_of, after, finish};
-ghost use Rattle.s370_storage.specs.Translations.{function_at, functions, or_ending, translated, row_tr, function, selected, looked_up, selecting, selects, searches, row_trt};
+ghost use Rattle.s370_storage.specs.Translations.{function_at, functions, translated, row_tr, function, selected, looked_up, selecting, selects, searches, row_trt};
 
 use cov_base::Addr;
 use s370_decode::Code;
@@ -17,16 +17,6 @@ fn function_at<P: Space>(space: &P, a: Addr, t: Addr, i: u32, n: u32) -> Addr
     ensures { result ≡ function_at (P.memory space.now) (P.bytes space.now) a t i }
 {
     t.plus(u32::from(byte_of(space, a, i, n)))
-}
-
-/// The ending that comes first.
-fn first_ending(first: Option<Ending>, second: Option<Ending>) -> Option<Ending>
-    ensures { result ≡ or_ending first second }
-{
-    match first {
-        Some(e) => Some(e),
-        None => second,
-    }
 }
 
 /// How a touch byte ends the task.
@@ -55,7 +45,7 @@ fn test_functions<P: Space>(space: &P, a: Addr, t: Addr, n: u32) -> Result<Optio
         if space.can_reach(at, 1).is_err() {
             return Err(Ending::Abend(5));
         }
-        met = first_ending(met, touch(space, at));
+        met = met.or(touch(space, at));
     }
     Ok(met)
 }
@@ -149,7 +139,7 @@ fn search<P: Space>(space: &P, a: Addr, t: Addr, n: u32) -> Result<Found, Ending
         if space.can_reach(function, 1).is_err() {
             return Err(Ending::Abend(5));
         }
-        met = first_ending(met, touch(space, function));
+        met = met.or(touch(space, function));
         if space.byte(function) != 0 {
             return Ok(Found {
                 selected: Some(i),

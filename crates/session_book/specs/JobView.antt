@@ -3,6 +3,7 @@ use Rattle.std.specs.Prelude.{◌≡◌, ◌≢◌, ℕ, ◌+◌, ◌<◌, ◌�
 use Rattle.std.specs.List.{list_any}
 use Rattle.cov_base.specs.Memory.{ImageView}
 use Rattle.cov_base.specs.declared.constants.TheConstants.{RETURN_ADDRESS}
+use Rattle.cov_base.specs.declared.limits.TheConstants.{MODULE_LIMIT, SIZE_LIMIT, LINE_LIMIT, PHASE_LIMIT, SESSION_LIMIT, TASK_LIMIT, PRIVATE_LIMIT, BUDGET_LIMIT, ROOM_LIMIT}
 use Rattle.module_area.specs.Images.{AreImages}
 use Rattle.module_area.specs.Views.{DataView}
 
@@ -43,10 +44,10 @@ Differ names = AllPairs (λ a b. a ≢ b) names
 pub record IsTask (phases : ℕ) (t : TaskView) : Type 0 where
   pub phase : t.phase < phases
   pub entry : t.entry < 16777216
-  pub private : t.private ≤ 1048576
+  pub private : t.private ≤ PRIVATE_LIMIT
   pub some : 1 ≤ t.budget
-  pub budget : t.budget ≤ 50000000
-  pub room : t.room ≤ 65536
+  pub budget : t.budget ≤ BUDGET_LIMIT
+  pub room : t.room ≤ ROOM_LIMIT
   pub regs : length t.regs ≡ 16
   pub cards : All (λ (c : DataView). c.offset + length c.bytes ≤ t.private) t.cards
 
@@ -63,17 +64,17 @@ abbrev pub AreParted : SessionView → SessionView → Type 0
 AreParted s t = s.phase ≡ t.phase → All (λ m. list_any (nat_eq m) t.modules ≡ false) s.modules
 
 abbrev pub IsListing : Option (List (List ℕ)) → Type 0
-IsListing listing = IfSome listing (All (λ l. length l ≤ 150))
+IsListing listing = IfSome listing (All (λ l. length l ≤ LINE_LIMIT))
 
 pub record IsJob (j : JobView) : Type 0 where
   pub listings : length j.listings ≡ length j.images
   pub images : AreImages j.images
-  pub sizes : All (λ (i : ImageView). length i.bytes ≤ 262144) j.images
-  pub modules : length j.images ≤ 16
+  pub sizes : All (λ (i : ImageView). length i.bytes ≤ SIZE_LIMIT) j.images
+  pub modules : length j.images ≤ MODULE_LIMIT
   pub lines : All IsListing j.listings
-  pub phases : length j.phases ≤ 16
-  pub sessions : length j.sessions ≤ 16
-  pub tasks : length j.tasks ≤ 64
+  pub phases : length j.phases ≤ PHASE_LIMIT
+  pub sessions : length j.sessions ≤ SESSION_LIMIT
+  pub tasks : length j.tasks ≤ TASK_LIMIT
   pub are_sessions : All (IsSession (length j.images) (length j.phases)) j.sessions
   pub parted : AllPairs AreParted j.sessions
   pub are_tasks : All (IsTask (length j.phases)) j.tasks

@@ -1,6 +1,7 @@
 //! The plan of a phase.
 ghost use Rattle.std.specs.Prelude.{◌≡◌, ◌<◌, ◌≤◌, nat_eq, length, map, IfOk};
 ghost use Rattle.std.specs.List.{list_any};
+ghost use Rattle.cov_base.specs.declared.limits.TheConstants.{SESSION_LIMIT, TASK_LIMIT};
 ghost use Rattle.brk_table.specs.Places.{ArePlaces};
 ghost use Rattle.session_book.specs.Sessions.{observes, window_from, window_of, tasks_from, plan_view};
 
@@ -24,7 +25,7 @@ fn observes(session: &Session, phase: u32, m: u32) -> bool
 
 /// The number of the session that observes the module in the phase, or 0.
 fn window_of(sessions: &[Session], phase: u32, m: u32) -> u32
-    requires { length sessions.now ≤ 16 }
+    requires { length sessions.now ≤ SESSION_LIMIT }
     ensures { result ≡ window_from 1 sessions.now phase m }
 {
     for i in 0..sessions.len() {
@@ -64,7 +65,7 @@ fn is_of(task: &TaskCard, phase: u32) -> bool
 }
 
 fn tasks_of(alloc: Global, tasks: &[TaskCard], phase: u32) -> Result<Vec<TaskNo>, NoMemory>
-    requires { length tasks.now ≤ 64 }
+    requires { length tasks.now ≤ TASK_LIMIT }
     ensures { IfOk result (λ v. v.items ≡ tasks_from 0 tasks.now phase) }
 {
     let mut numbers = Vec::new(alloc);

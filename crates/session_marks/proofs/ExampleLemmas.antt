@@ -1,5 +1,5 @@
 -- The table of the tests is one of a module of their job.
-use Rattle.std.proofs.Common.{◌≡◌, ◌<◌, inl, ℕ, zero, suc, List, [], ◌∷◌, length, get_or, All, AllPairs, refl, arith}
+use Rattle.std.proofs.Common.{◌<◌, inl, List, [], ◌∷◌, All, AllPairs, refl, arith}
 use Rattle.std.specs.Prelude.{codes}
 use Rattle.std.proofs.lemmas.List.Elements.{All-cons, All-nil}
 use Rattle.std.proofs.lemmas.List.Kept.{AllPairs-cons}

@@ -7,3 +7,4 @@ pub mod SessionLemmas
 pub mod OwnLemmas
 pub mod Sample
 pub mod ExampleLemmas
+pub mod FillLemmas

@@ -1,10 +1,10 @@
 -- The modules of a session, with their places, keep the rules of a marks file.
-use Rattle.std.proofs.Common.{◌≡◌, ◌≢◌, ◌⊎◌, inl, inr, ℕ, ◌+◌, ◌-◌, ◌%◌, ◌<◌, ◌≤◌, suc, Bool, true, false, ◌&&◌, ◌||◌, ◌==◌, not, nat_eq, nat_le, List, [], ◌∷◌, ◌++◌, length, map, get_or, All, AllPairs, refl, sym, ap, ◌∙◌, subst, arith}
+use Rattle.std.proofs.Common.{◌≡◌, ◌≢◌, inl, inr, ℕ, ◌+◌, ◌-◌, ◌%◌, ◌<◌, ◌≤◌, suc, Bool, true, false, ◌||◌, ◌==◌, not, nat_le, List, [], ◌∷◌, ◌++◌, length, map, get_or, take, All, refl, sym, ap, ◌∙◌, subst, arith}
 use Rattle.std.specs.List.{list_any, list_all}
 use Rattle.std.specs.Str.{bytes_eq}
 use Rattle.std.proofs.lemmas.Bool.{cases_lt, false≢true}
 use Rattle.std.proofs.lemmas.Bool.Decides.{nat_tests, Decides-eqb}
-use Rattle.std.proofs.lemmas.List.{get_or_default, get_or-map, map-append}
+use Rattle.std.proofs.lemmas.List.{get_or_default, get_or-map, map-append, map_more}
 use Rattle.std.proofs.lemmas.List.Elements.{All-tail, All-cons, All-push, All-nil}
 use Rattle.std.proofs.lemmas.List.Quantifiers.{all_pairs_push}
 use Rattle.std.proofs.lemmas.Map.Made.{IsDistinct-from_AllPairs}
@@ -16,7 +16,7 @@ use Rattle.cov_base.specs.Names.{is_filled}
 use Rattle.module_area.specs.Images.{IsImage, AreClear}
 use Rattle.module_area.specs.PlanView.{place_of, no_place}
 use Rattle.module_area.specs.declared.places.Place.{Place}
-use Rattle.brk_table.specs.Places.{TableView, TablesView, IsPlace, AreApart, all_places, first_place}
+use Rattle.brk_table.specs.Places.{TablesView, IsPlace, AreApart, all_places, first_place}
 use Rattle.brk_table.specs.Places.{place_count as count_in}
 use Rattle.brk_table.specs.Together.{AreTables}
 use Rattle.marks_file.specs.Marks.{MarkedView, is_new_name, is_base, is_clear, is_size, is_count, place_count, is_module, are_modules, is_module_count, are_marks, are_places}
@@ -28,7 +28,7 @@ use Rattle.session_book.specs.Sets.{AreWithin}
 use Rattle.session_marks.specs.Fields.{HasGoodFields, AreHalfwords}
 use Rattle.session_marks.specs.Marked.{marked_module, marked_places}
 use Rattle.session_marks.proofs.TableLemmas.{OwnTable, own_table, Differ, count_of, counts_fit, count_more, first_differs, rest_differs}
-use Rattle.session_marks.proofs.RuleLemmas.{IsMarkable, AreMarkable, places_kept, some_bytes, at_most, equal, length-marked_places}
+use Rattle.session_marks.proofs.RuleLemmas.{AreMarkable, places_kept, some_bytes, at_most, equal, length-marked_places}
 
 -- a job and the tables of its modules
 pub record AreTabled (j : JobView) (tables : TablesView) : Type 0 where
@@ -109,7 +109,7 @@ pub record IsMarked (j : JobView) (tables : TablesView) (sets : ℕ → FactSet)
   pub exists : m < length j.images
   pub fields : HasGoodFields (marked_module j tables sets m)
 
-length-mapped : {X Y : Type 0} (f : X → Y) (xs : List X) → length (map f xs) ≡ length xs
+pub length-mapped : {X Y : Type 0} (f : X → Y) (xs : List X) → length (map f xs) ≡ length xs
 length-mapped f [] = refl
 length-mapped f (x ∷ xs) = ap suc (length-mapped f xs)
 
@@ -155,6 +155,7 @@ clear_of j m n is differ a b = elim (cases_lt m n) [
     by : (x y : ImageView) → AreClear x y → (nat_le (x.base + length x.bytes) y.base || nat_le (y.base + length y.bytes) x.base) ≡ true
     by x y (inl h) = or_left _ _ (at_most (x.base + length x.bytes) y.base h)
     by x y (inr h) = or_right _ _ (at_most (y.base + length y.bytes) x.base h)
+
     turned : (x y : ImageView) → AreClear y x → (nat_le (x.base + length x.bytes) y.base || nat_le (y.base + length y.bytes) x.base) ≡ true
     turned x y (inl h) = or_right _ _ (at_most (y.base + length y.bytes) x.base h)
     turned x y (inr h) = or_left _ _ (at_most (x.base + length x.bytes) y.base h)
@@ -289,3 +290,8 @@ module_fields j tables sets m base size first past image name places are l withi
       name = filled;
       places = rw (long, own) (own_places_kept j tables sets m are l within (subst AreHalfwords own halves));
     }
+
+-- one more module
+pub mapped_step : {X Y : Type 0} (f : X → Y) (xs : List X) (i : ℕ) (d : X) (was now : List Y) (y : Y) → i < length xs → was ≡ map f (take i xs) → now ≡ was ++ y ∷ [] → y ≡ f (get_or xs i d) → now ≡ map f (take (i + 1) xs)
+mapped_step f xs i d was now y h before push is =
+    push ∙ (ap (λ ys. ys ++ y ∷ []) before ∙ (ap (λ z. map f (take i xs) ++ z ∷ []) is ∙ sym (map_more f xs i d h)))

@@ -1,5 +1,5 @@
 -- The places of a table as a module's.
-use Rattle.std.proofs.Common.{◌≡◌, ℕ, ◌+◌, ◌-◌, ◌<◌, ◌≤◌, zero, suc, List, [], ◌∷◌, ◌++◌, length, refl, sym, ap, ◌∙◌, arith}
+use Rattle.std.proofs.Common.{◌≡◌, ℕ, ◌+◌, ◌-◌, ◌≤◌, zero, suc, List, [], ◌∷◌, ◌++◌, sym, ap, ◌∙◌, arith}
 use Rattle.cov_base.specs.FactSet.{FactSet}
 use Rattle.module_area.specs.declared.places.Place.{Place}
 use Rattle.marks_file.specs.declared.marks.MarkedPlace.{MarkedPlace}

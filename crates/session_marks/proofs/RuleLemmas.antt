@@ -1,9 +1,9 @@
 -- The places of a module keep the rules of a marks file.
-use Rattle.std.proofs.Common.{◌≡◌, ◌≢◌, ◌⊎◌, inl, inr, ℕ, ◌+◌, ◌-◌, ◌%◌, ◌<◌, ◌≤◌, zero, suc, Bool, true, false, ◌&&◌, ◌||◌, not, nat_eq, nat_lt, nat_le, List, [], ◌∷◌, length, All, refl, sym, ap, ◌∙◌, arith}
+use Rattle.std.proofs.Common.{◌≡◌, ◌≢◌, ◌⊎◌, inl, inr, ℕ, ◌+◌, ◌-◌, ◌%◌, ◌<◌, ◌≤◌, zero, suc, Bool, true, false, ◌||◌, not, nat_eq, nat_lt, nat_le, List, length, refl, sym, ap, ◌∙◌, arith}
 use Rattle.std.proofs.lemmas.Bool.Decides.{nat_tests}
 use Rattle.std.proofs.lemmas.List.Elements.{All-tail}
-use Rattle.cov_base.specs.Codes.{length_of, kind_of, breakpoint}
-use Rattle.cov_base.specs.FactSet.{FactSet, facts_of_number, number_of_facts}
+use Rattle.cov_base.specs.Codes.{length_of}
+use Rattle.cov_base.specs.FactSet.{FactSet, number_of_facts}
 use Rattle.cov_base.specs.Facts.{is_within}
 use Rattle.cov_base.specs.Memory.{ImageView}
 use Rattle.cov_base.specs.declared.facts.Kind.{Kind}

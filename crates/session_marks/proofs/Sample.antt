@@ -1,14 +1,14 @@
 -- The sample's tables are those of its modules.
-use Rattle.std.proofs.Common.{◌≡◌, ◌+◌, ◌<◌, ◌≤◌, ℕ, List, [], ◌∷◌, Option, Some, length, get_or, codes, All, AllPairs, IfSome, refl, inl, arith}
+use Rattle.std.proofs.Common.{◌≡◌, ◌+◌, ◌<◌, ◌≤◌, ℕ, [], ◌∷◌, Some, length, get_or, codes, All, AllPairs, IfSome, refl, inl, arith}
 use Rattle.std.proofs.lemmas.List.Elements.{All-cons, All-nil}
 use Rattle.std.proofs.lemmas.List.Kept.{AllPairs-cons}
 use Rattle.cov_base.specs.Codes.{length_of, kind_of}
 use Rattle.cov_base.specs.Memory.{ImageView}
 use Rattle.cov_base.specs.declared.facts.Kind.TheVariants.{Straight, Conditional}
 use Rattle.module_area.specs.declared.places.Place.{Place}
-use Rattle.brk_table.specs.Places.{TableView, IsPlace, AreApart, ArePlaces, HasItsPlaces, HasRisingPlaces, all_places}
+use Rattle.brk_table.specs.Places.{TableView, IsPlace, AreApart, ArePlaces, all_places}
 use Rattle.brk_table.specs.Together.{IsTableOf, AreTables}
-use Rattle.brk_table.specs.Build.{HasOwnPlaces, IsOwn}
+use Rattle.brk_table.specs.Build.{IsOwn}
 use Rattle.session_marks.specs.Sample.{sample_images, sample_tables, sample_place}
 
 two : {X : Type 0} (P : X → Type 0) (x y : X) → P x → P y → All P (x ∷ y ∷ [])
@@ -65,10 +65,10 @@ sample_are_tables =
     let second : TableView = record { «module» = 2; places = loads ∷ ends ∷ []; lines = Some 0 ∷ Some 1 ∷ [] } in
     record {
       of = two (IsTableOf sample_images) first second
-      (table_of m 0 loops returns (omega arith) refl loops_is returns_is
-      (record { of = refl; from = omega arith; to = omega arith; original = refl }) (record { of = refl; from = omega arith; to = omega arith; original = refl }) (omega arith) (omega arith))
-      (table_of o 2 loads ends (omega arith) refl loads_is ends_is
-      (record { of = refl; from = omega arith; to = omega arith; original = refl }) (record { of = refl; from = omega arith; to = omega arith; original = refl }) (omega arith) (omega arith));
+          (table_of m 0 loops returns (omega arith) refl loops_is returns_is
+          (record { of = refl; from = omega arith; to = omega arith; original = refl }) (record { of = refl; from = omega arith; to = omega arith; original = refl }) (omega arith) (omega arith))
+          (table_of o 2 loads ends (omega arith) refl loads_is ends_is
+          (record { of = refl; from = omega arith; to = omega arith; original = refl }) (record { of = refl; from = omega arith; to = omega arith; original = refl }) (omega arith) (omega arith));
       rising = pair (λ (t u : TableView). t.«module» < u.«module») first second (omega arith);
       most = omega arith;
     }
@@ -85,6 +85,6 @@ sample_are_places =
     record {
       each = All-cons IsPlace loops (returns ∷ loads ∷ ends ∷ []) loops_is (All-cons IsPlace returns (loads ∷ ends ∷ []) returns_is (two IsPlace loads ends loads_is ends_is));
       apart = AllPairs-cons AreApart loops (returns ∷ loads ∷ ends ∷ []) (three_past loops returns loads ends (inl (omega arith)) (inl (omega arith)) (inl (omega arith)))
-      (AllPairs-cons AreApart returns (loads ∷ ends ∷ []) (two (AreApart returns) loads ends (inl (omega arith)) (inl (omega arith))) (pair AreApart loads ends (inl (omega arith))));
+          (AllPairs-cons AreApart returns (loads ∷ ends ∷ []) (two (AreApart returns) loads ends (inl (omega arith)) (inl (omega arith))) (pair AreApart loads ends (inl (omega arith))));
       most = omega arith;
     }

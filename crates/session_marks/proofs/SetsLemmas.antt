@@ -17,7 +17,7 @@ use Rattle.brk_table.proofs.RangeLemmas.{first-here, count-here, first-past, cou
 use Rattle.session_book.specs.JobView.{JobView}
 use Rattle.session_book.specs.Sessions.{module_of}
 use Rattle.session_marks.specs.Marked.{marked_place, marked_places, marked_module}
-use Rattle.session_marks.specs.FromFile.{HasSetsAt, HaveSetsAt}
+use Rattle.session_marks.specs.FromFile.{HasSetsAt, HaveSetsAt, IsOutside}
 
 abbrev pub empty : ℕ → FactSet
 empty n = no_facts
@@ -148,13 +148,23 @@ pub sets_step : (tables : List TableView) (before after : ℕ → FactSet) (i m 
     → HaveSetsAt tables after (i + 1) modules file
 sets_step tables before after i m modules file f differ below many counts em ef h here others k n d l = elim (cases_lt k i) as (λ _. HasSetsAt after (first_place tables (get_or modules k n)) (get_or file k d).places) [
   | inl earlier ↦
-    let e : get_or modules i n ≡ m = get_or_default modules i n 0 below ∙ sym em in
-    let apart : get_or modules k n ≢ m = λ same. differ k i n earlier below (same ∙ sym e) in
-    let count : length f.places ≡ place_count tables m = ap (λ (x : MarkedView). length x.places) ef ∙ (counts i n f below ∙ ap (place_count tables) e) in
-    kept_sets tables before after (get_or modules k n) m (get_or file k d).places apart (counts k n d (omega arith)) (h k n d earlier) (λ x o. others x (elim o as (λ _. (x < first_place tables m) ⊎ (first_place tables m + length f.places ≤ x)) [ inl a ↦ inl a | inr b ↦ inr (omega (arith, b, count)) ]))
+      let e : get_or modules i n ≡ m = get_or_default modules i n 0 below ∙ sym em in
+      let apart : get_or modules k n ≢ m = λ same. differ k i n earlier below (same ∙ sym e) in
+      let count : length f.places ≡ place_count tables m = ap (λ (x : MarkedView). length x.places) ef ∙ (counts i n f below ∙ ap (place_count tables) e) in
+      kept_sets tables before after (get_or modules k n) m (get_or file k d).places apart (counts k n d (omega arith)) (h k n d earlier) (λ x o. others x (elim o as (λ _. (x < first_place tables m) ⊎ (first_place tables m + length f.places ≤ x)) [ inl a ↦ inl a | inr b ↦ inr (omega (arith, b, count)) ]))
   | inr past ↦
-    let is : k ≡ i = omega arith in
-    let e : get_or modules k n ≡ m = ap (λ x. get_or modules x n) is ∙ (get_or_default modules i n 0 below ∙ sym em) in
-    let own : get_or file k d ≡ f = ap (λ x. get_or file x d) is ∙ (get_or_default file i d f (omega (arith, below, many)) ∙ sym ef) in
-    subst (λ x. HasSetsAt after (first_place tables x) (get_or file k d).places) (sym e) (subst (λ (x : MarkedView). HasSetsAt after (first_place tables m) x.places) (sym own) here)
+      let is : k ≡ i = omega arith in
+      let e : get_or modules k n ≡ m = ap (λ x. get_or modules x n) is ∙ (get_or_default modules i n 0 below ∙ sym em) in
+      let own : get_or file k d ≡ f = ap (λ x. get_or file x d) is ∙ (get_or_default file i d f (omega (arith, below, many)) ∙ sym ef) in
+      subst (λ x. HasSetsAt after (first_place tables x) (get_or file k d).places) (sym e) (subst (λ (x : MarkedView). HasSetsAt after (first_place tables m) x.places) (sym own) here)
 ]
+
+-- where no place of the next module is, nothing is put
+pub outside_step : (tables : List TableView) (before after : ℕ → FactSet) (i m : ℕ) (modules : List ℕ) (f : MarkedView) → i < length modules → m ≡ get_or modules i 0 → length f.places ≡ place_count tables m
+    → ((n : ℕ) → ((k q : ℕ) → k < i → IsOutside tables (get_or modules k q) n) → before n ≡ no_facts)
+    → ((k : ℕ) → (k < first_place tables m) ⊎ (first_place tables m + length f.places ≤ k) → after k ≡ before k)
+    → (n : ℕ) → ((k q : ℕ) → k < i + 1 → IsOutside tables (get_or modules k q) n) → after n ≡ no_facts
+outside_step tables before after i m modules f below em count h others n out =
+    let here : IsOutside tables m n = subst (λ x. IsOutside tables x n) (sym em) (out i 0 (omega arith)) in
+    let past : (n < first_place tables m) ⊎ (first_place tables m + length f.places ≤ n) = elim here as (λ _. (n < first_place tables m) ⊎ (first_place tables m + length f.places ≤ n)) [ inl a ↦ inl a | inr b ↦ inr (omega (arith, b, count)) ] in
+    others n past ∙ h n (λ k q l. out k q (omega arith))

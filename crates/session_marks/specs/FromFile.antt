@@ -1,5 +1,5 @@
 -- The sets that a marks file has for a session, and why a file is none of the session's.
-use Rattle.std.specs.Prelude.{◌≡◌, ℕ, ◌+◌, ◌<◌, ◌≤◌, true, Some, None, List, length, get_or, All}
+use Rattle.std.specs.Prelude.{◌≡◌, ◌⊎◌, ℕ, ◌+◌, ◌<◌, ◌≤◌, true, Some, None, List, length, get_or, All}
 use Rattle.cov_base.specs.FactSet.{FactSet}
 use Rattle.cov_base.specs.Facts.{no_facts}
 use Rattle.marks_file.specs.Marks.{MarkedView, are_marks}
@@ -32,6 +32,14 @@ HasSetsAt sets n places = (k : ℕ) (d : MarkedPlace) → k < length places → 
 -- the sets of the first so many of a file's modules, which are these
 abbrev pub HaveSetsAt : List TableView → (ℕ → FactSet) → ℕ → List ℕ → List MarkedView → Type 0
 HaveSetsAt tables sets count modules file = (i m : ℕ) (d : MarkedView) → i < count → HasSetsAt sets (first_place tables (get_or modules i m)) (get_or file i d).places
+
+-- the number is of no place of module m
+abbrev pub IsOutside : List TableView → ℕ → ℕ → Type 0
+IsOutside tables m n = (n < first_place tables m) ⊎ (first_place tables m + place_count tables m ≤ n)
+
+-- where none of these modules has a place the set is empty
+abbrev pub AreEmptyElsewhere : List TableView → (ℕ → FactSet) → List ℕ → Type 0
+AreEmptyElsewhere tables sets modules = (n : ℕ) → All (λ m. IsOutside tables m n) modules → sets n ≡ no_facts
 
 -- why a file is none of the session's: the first row in which its table, on the right, differs from the session's
 abbrev pub IsSetsFault : JobView → TablesView → ℕ → List MarkedView → SetsFault → Type 0

@@ -1,4 +1,5 @@
 pub mod Fields
+pub mod Filled
 pub mod FromFile
 pub mod Marked
 pub mod Sample

@@ -1,5 +1,5 @@
 -- The modules and tables that tests are made of.
-use Rattle.std.specs.Prelude.{ℕ, Option, Some, List, [], ◌∷◌, codes}
+use Rattle.std.specs.Prelude.{ℕ, Some, List, [], ◌∷◌, codes}
 use Rattle.cov_base.specs.Memory.{ImageView}
 use Rattle.cov_base.specs.declared.facts.Kind.{Kind}
 use Rattle.cov_base.specs.declared.facts.Kind.TheVariants.{Straight, Conditional}

@@ -42,12 +42,7 @@ fn images(alloc: Global) -> Result<Images, Fail>
 {
     let m = image(alloc, b"M", 0x100000, &[0x46, 0x10, 0xF0, 0x00, 0x07, 0xFE])?;
     let n = image(alloc, b"N", 0x100008, &[0x07, 0xFE])?;
-    let o = image(
-        alloc,
-        b"O",
-        0x100010,
-        &[0x41, 0x10, 0x00, 0x05, 0x07, 0xFE],
-    )?;
+    let o = image(alloc, b"O", 0x100010, &[0x41, 0x10, 0x00, 0x05, 0x07, 0xFE])?;
     Ok(Images(vec![in alloc; m, n, o]?))
 }
 
@@ -64,7 +59,11 @@ fn job(alloc: Global) -> Result<Job, Fail>
     };
     Ok(Job {
         images: images(alloc)?,
-        listings: vec![in alloc; Some(Lines(Vec::new(alloc))), None, Some(Lines(Vec::new(alloc)))]?,
+        listings: vec![in alloc;
+            Some(Lines(Vec::new(alloc))),
+            None,
+            Some(Lines(Vec::new(alloc))),
+        ]?,
         phases: vec![in alloc; Name::read(b"P").ok_or("name")?]?,
         sessions: vec![in alloc; session]?,
         tasks: Vec::new(alloc),

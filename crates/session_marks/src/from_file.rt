@@ -1,12 +1,13 @@
 //! The sets of a session that a marks file has.
-ghost use Rattle.std.specs.Prelude.{◌≡◌, ◌≢◌, ◌⊎◌, ℕ, ◌+◌, ◌<◌, ◌≤◌, length, get_or, AllPairs, IfOk, IfErr};
+ghost use Rattle.std.specs.Prelude.{◌≡◌, ◌≢◌, ◌⊎◌, ℕ, ◌+◌, ◌<◌, ◌≤◌, length, get_or, replicate, AllPairs, IfOk, IfErr};
+ghost use Rattle.cov_base.specs.Facts.{no_facts};
 ghost use Rattle.brk_table.specs.Places.{place_count};
 ghost use Rattle.brk_table.specs.Together.{AreTables};
 ghost use Rattle.marks_file.specs.Marks.{MarkedView};
 ghost use Rattle.session_book.specs.Sessions.{session_of};
 ghost use Rattle.session_book.specs.Sets.{HasSetsOf};
 ghost use Rattle.session_marks.specs.Marked.{session_marks};
-ghost use Rattle.session_marks.specs.FromFile.{set_at, sets_of_one, HasSetsAt, HaveSetsAt, IsSetsFault, IsDecided};
+ghost use Rattle.session_marks.specs.FromFile.{set_at, sets_of_one, HasSetsAt, HaveSetsAt, AreEmptyElsewhere, IsSetsFault, IsDecided};
 
 use crate::marking::marks_of;
 use crate::no_sets::NoSets;
@@ -69,7 +70,7 @@ fn put(sets: &mut [Bits], first: usize, places: &[MarkedPlace])
 
 /// So many empty sets.
 fn empty_sets(alloc: Global, count: usize) -> Result<Vec<Bits>, NoMemory>
-    ensures { IfOk result (λ v. length v.items ≡ count) }
+    ensures { IfOk result (λ v. v.items ≡ replicate count no_facts) }
 {
     let sets = vec![in alloc; Bits::empty(); count]?;
     Ok(sets)
@@ -88,6 +89,7 @@ fn sets_of(
     requires counts { (i m : ℕ) (d : MarkedView) → i < length modules.now → length (get_or file.now i d).places ≡ place_count tables.now.tables (get_or modules.now i m) }
     ensures size { IfOk result (λ v. length v.items ≡ length tables.now.places) }
     ensures sets { IfOk result (λ v. HaveSetsAt tables.now.tables (set_at v.items) (length modules.now) modules.now file.now) }
+    ensures elsewhere { IfOk result (λ v. AreEmptyElsewhere tables.now.tables (set_at v.items) modules.now) }
 {
     let mut sets = empty_sets(alloc, tables.len() as usize)?;
     for i in 0..modules.len() {
@@ -114,6 +116,7 @@ fn session_sets(
     requires differ { AllPairs (λ m n. m ≢ n) modules.now }
     ensures same { IfOk result (λ f. file.now ≡ session_marks job.now tables.now (set_at f.sets) s.0) }
     ensures sets { IfOk result (λ f. HasSetsOf job.now tables.now f.session (length f.sets) (sets_of_one f) s.0) }
+    ensures elsewhere { IfOk result (λ f. AreEmptyElsewhere tables.now.tables (set_at f.sets) (session_of job.now s.0).modules) }
     ensures fault { IfErr result (λ e. IsSetsFault job.now tables.now s.0 file.now e) }
 {
     let none = NoSets {
@@ -136,7 +139,8 @@ fn session_sets(
 }
 
 /// The sets that the file has for session s of the job, whose tables these are. Other comes exactly where the file's
-/// table isn't the session's, NoMemory exactly where no memory was found. Time and memory are linear in the places.
+/// table isn't the session's, NoMemory only for want of memory. Time and memory are linear in the places of the tables;
+/// memory is taken once a module, and once for the sets.
 pub fn file_sets(
     alloc: Global,
     job: &Job,
@@ -149,6 +153,7 @@ pub fn file_sets(
     requires tables { AreTables job.now.images tables.now.tables }
     ensures same { IfOk result (λ f. file.now ≡ session_marks job.now tables.now (set_at f.sets) s.0) }
     ensures sets { IfOk result (λ f. HasSetsOf job.now tables.now f.session (length f.sets) (sets_of_one f) s.0) }
+    ensures elsewhere { IfOk result (λ f. AreEmptyElsewhere tables.now.tables (set_at f.sets) (session_of job.now s.0).modules) }
     ensures decided { IsDecided job.now tables.now s.0 file.now }
     ensures fault { IfErr result (λ e. IsSetsFault job.now tables.now s.0 file.now e) }
 {

@@ -83,7 +83,7 @@ fn image_of(job: &Job, m: u32) -> &Image
     &job.images.0[m as usize]
 }
 
-/// Its name.
+/// The module's name, of which a caller then knows that it is one filled with blanks.
 fn name_of(image: &Image) -> Name
     ensures { result ≡ image.now.name }
 {
@@ -146,7 +146,7 @@ fn marked_modules<R: FactSets>(
 }
 
 /// The modules of the session.
-fn modules_of(job: &Job, s: SessNo) -> &[u32]
+pub fn modules_of(job: &Job, s: SessNo) -> &[u32]
     requires from { 0 < s.0 }
     requires to { s.0 ≤ length job.now.sessions }
     ensures value { result.now ≡ (session_of job.now s.0).modules }
@@ -158,8 +158,8 @@ fn modules_of(job: &Job, s: SessNo) -> &[u32]
 
 /// The marks of session s of the job: its modules in the order of its card, a module without a listing too, and each
 /// with the places of its table and the session's set at each. The tables are those of the job's listings, and each
-/// set has facts of its place's kind alone. NoMemory comes exactly where no memory was found. Time and memory are
-/// linear in the places of the session's modules.
+/// set has facts of its place's kind alone. Refused only for want of memory. Time is linear in the places of the
+/// session's modules, and so is memory, which is taken once a module.
 pub fn marks_of<R: FactSets>(
     alloc: Global,
     job: &Job,

@@ -10,7 +10,7 @@ use Rattle.module_area.specs.declared.parties.View.{View}
 use Rattle.module_area.specs.declared.parties.Role.{Role}
 use Rattle.module_area.specs.declared.parties.Role.TheVariants.{Root, Task, Spent}
 use Rattle.module_area.specs.PlanView.{PlanView, original_at, kind_at, window_at, is_over, is_controlled}
-use Rattle.module_area.specs.Parties.{Has, add_if, window_tag, fetching, marking, lifting, planting, giving, joining, task_of}
+use Rattle.module_area.specs.Parties.{Has, add_if, window_tag, fetching, marking, lifting, planting, giving, joining, role_task}
 use Rattle.module_area.specs.Held.{KeepsAs, Keeps}
 use Rattle.shared_area.specs.declared.rule.NoSlot.{NoSlot}
 use Rattle.shared_area.specs.declared.cells.SharedCells.{SharedCells}
@@ -52,7 +52,7 @@ plant_live s p a b v v' e h = subst (IsLive a b) (sym e) record { live = h.live;
 pub split_live : (t a b : ℕ) (v v' : View) → v' ≡ giving t v → IsLive a b v → IsLive a b v'
 split_live t a b v v' e h = subst (IsLive a b) (sym e) record { live = h.live; counted = h.counted; given = more_given t v.given v.joined h.given }
 
-pub is_task : (r : Role) → IsSome (bears_as r) → r ≡ Task (task_of r)
+pub is_task : (r : Role) → IsSome (bears_as r) → r ≡ Task (role_task r)
 is_task (Task t) h = refl
 is_task Root h = absurd cc
 is_task Spent h = absurd cc

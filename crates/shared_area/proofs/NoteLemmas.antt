@@ -9,7 +9,7 @@ use Rattle.module_area.specs.declared.parties.View.{View}
 use Rattle.module_area.specs.declared.parties.Role.TheVariants.{Task}
 use Rattle.module_area.specs.declared.tallies.Tally.{Tally}
 use Rattle.module_area.specs.PlanView.{PlanView, original_at, kind_at}
-use Rattle.module_area.specs.Parties.{Has, add_if, is_lifted, session_of, window_tag, last_tag, fetching, marking, planting, giving, joining, task_of}
+use Rattle.module_area.specs.Parties.{Has, add_if, is_lifted, tag_session, window_tag, last_tag, fetching, marking, planting, giving, joining, role_task}
 use Rattle.module_area.specs.Notes.{is_free_under, after_fetch, after_mark, after_plant, after_split, after_join, bearer}
 use Rattle.module_area.proofs.Indices.{and_left, and_right, and_both, same_tests}
 use Rattle.module_area.proofs.FactLemmas.{same_fact-true}
@@ -104,19 +104,19 @@ seen_after q p t xs false e h = refl
 pub seen_now : (p t : ℕ) (xs : List (ℕ × ℕ)) → seen_at p xs ≤ t → ◌≡◌ {A = ℕ → ℕ} (λ q. seen_at q ((p, t) ∷ xs)) (λ q. if nat_eq q p then t else seen_at q xs)
 seen_now p t xs h = fun_ext (λ q. seen_after q p t xs (nat_eq q p) refl h)
 
-odd_session : (s t : ℕ) → t % 2 ≡ 1 → s ≡ session_of t → t + 1 ≡ 2 * s
+odd_session : (s t : ℕ) → t % 2 ≡ 1 → s ≡ tag_session t → t + 1 ≡ 2 * s
 odd_session s t odd e = omega arith
 
-session_odd : (s t : ℕ) → t + 1 ≡ 2 * s → (t % 2 ≡ 1) × (s ≡ session_of t)
+session_odd : (s t : ℕ) → t + 1 ≡ 2 * s → (t % 2 ≡ 1) × (s ≡ tag_session t)
 session_odd s t e = (omega arith, omega arith)
 
-lifted_tests : (b : Bool) (s q p t : ℕ) → ((b && nat_eq (t % 2) 1) && (nat_eq s (session_of t) && nat_eq q p)) ≡ (nat_eq q p && (b && nat_eq (t + 1) (2 * s)))
+lifted_tests : (b : Bool) (s q p t : ℕ) → ((b && nat_eq (t % 2) 1) && (nat_eq s (tag_session t) && nat_eq q p)) ≡ (nat_eq q p && (b && nat_eq (t + 1) (2 * s)))
 lifted_tests b s q p t = same_tests _ _
     (λ h. let first = and_left (b && nat_eq (t % 2) 1) _ h in let rest = and_right (b && nat_eq (t % 2) 1) _ h in
-    and_both (nat_eq q p) _ (and_right (nat_eq s (session_of t)) _ rest)
-    (and_both b _ (and_left b _ first) (eq-eqb _ _ (odd_session s t (eqb-true _ _ (and_right b _ first)) (eqb-true _ _ (and_left (nat_eq s (session_of t)) _ rest))))))
+    and_both (nat_eq q p) _ (and_right (nat_eq s (tag_session t)) _ rest)
+    (and_both b _ (and_left b _ first) (eq-eqb _ _ (odd_session s t (eqb-true _ _ (and_right b _ first)) (eqb-true _ _ (and_left (nat_eq s (tag_session t)) _ rest))))))
     (λ h. let at = and_left (nat_eq q p) _ h in let r = and_right (nat_eq q p) _ h in let x = session_odd s t (eqb-true _ _ (and_right b _ r)) in
-    and_both (b && nat_eq (t % 2) 1) _ (and_both b _ (and_left b _ r) (eq-eqb _ _ x.0)) (and_both (nat_eq s (session_of t)) _ (eq-eqb _ _ x.1) at))
+    and_both (b && nat_eq (t % 2) 1) _ (and_both b _ (and_left b _ r) (eq-eqb _ _ x.0)) (and_both (nat_eq s (tag_session t)) _ (eq-eqb _ _ x.1) at))
 
 pair_add_if : (c : Bool) (s q t p : ℕ) (xs : List (ℕ × ℕ)) → has_pair s q (add_if c (t, p) xs) ≡ (has_pair s q xs || (c && (nat_eq s t && nat_eq q p)))
 pair_add_if true s q t p xs = refl
@@ -126,8 +126,8 @@ pair_add_if false s q t p xs = or_false (has_pair s q xs)
     or_false true = refl
     or_false false = refl
 
-fetch_pairs : (plan : PlanView) (p : ℕ) (c : Cell) (xs : List (ℕ × ℕ)) → ◌≡◌ {A = ℕ → ℕ → Bool} (λ s q. has_pair s q (add_if (is_lifted plan p c) (session_of c.tag, p) xs)) (λ s q. has_pair s q xs || (nat_eq q p && is_free_under plan p c s))
-fetch_pairs plan p c xs = fun_ext (λ s. fun_ext (λ q. pair_add_if (is_lifted plan p c) s q (session_of c.tag) p xs
+fetch_pairs : (plan : PlanView) (p : ℕ) (c : Cell) (xs : List (ℕ × ℕ)) → ◌≡◌ {A = ℕ → ℕ → Bool} (λ s q. has_pair s q (add_if (is_lifted plan p c) (tag_session c.tag, p) xs)) (λ s q. has_pair s q xs || (nat_eq q p && is_free_under plan p c s))
+fetch_pairs plan p c xs = fun_ext (λ s. fun_ext (λ q. pair_add_if (is_lifted plan p c) s q (tag_session c.tag) p xs
     ∙ ap (λ b. has_pair s q xs || b) (lifted_tests (nat_eq c.half (original_at plan p)) s q p c.tag)))
 
 pub fetch_notes : (plan : PlanView) (p : ℕ) (c : Cell) (v : View) (tally : Tally) → seen_at p v.seen ≤ c.tag
@@ -215,7 +215,7 @@ join_notes plan v o t a b bears =
     let full : (λ s p. has_pair s p (o.full ++ v.full)) ≡ (λ s p. has_pair s p v.full || has_pair s p o.full) = fun_ext (λ s. fun_ext (λ p. pair-append s p o.full v.full)) in
     let free : (λ s p. has_pair s p (o.free ++ v.free)) ≡ (λ s p. has_pair s p v.free || has_pair s p o.free) = fun_ext (λ s. fun_ext (λ p. pair-append s p o.free v.free)) in
     let seen : (λ p. seen_at p (o.seen ++ v.seen)) ≡ (λ p. max (seen_at p v.seen) (seen_at p o.seen)) = fun_ext (λ p. seen-append p o.seen v.seen) in
-    let number : task_of o.role ≡ bearer (notes_in o b) = ap task_of bears ∙ sym (ap (λ r. unwrap_or (bears_as r) 0) bears) in
-    let out : (λ u. has_number u v.given && not (has_number u v.joined || nat_eq u (task_of o.role))) ≡ (λ u. (has_number u v.given && not (has_number u v.joined)) && not (nat_eq u (bearer (notes_in o b)))) =
-    fun_ext (λ u. and_nor (has_number u v.given) (has_number u v.joined) (nat_eq u (task_of o.role)) ∙ ap (λ k. (has_number u v.given && not (has_number u v.joined)) && not (nat_eq u k)) number) in
+    let number : role_task o.role ≡ bearer (notes_in o b) = ap role_task bears ∙ sym (ap (λ r. unwrap_or (bears_as r) 0) bears) in
+    let out : (λ u. has_number u v.given && not (has_number u v.joined || nat_eq u (role_task o.role))) ≡ (λ u. (has_number u v.given && not (has_number u v.joined)) && not (nat_eq u (bearer (notes_in o b)))) =
+    fun_ext (λ u. and_nor (has_number u v.given) (has_number u v.joined) (nat_eq u (role_task o.role)) ∙ ap (λ k. (has_number u v.given && not (has_number u v.joined)) && not (nat_eq u k)) number) in
     λ i. record (after_join (notes_in v a) (notes_in o b)) { marked = marked i; full = full i; free = free i; seen = seen i; out = out i }

@@ -8,7 +8,7 @@ use Rattle.cov_base.specs.FactSet.{FactSet}
 use Rattle.cov_base.specs.Facts.{with_fact}
 use Rattle.module_area.specs.declared.cells.Cell.{Cell}
 use Rattle.module_area.specs.Held.{lifted}
-use Rattle.module_area.specs.Parties.{session_of}
+use Rattle.module_area.specs.Parties.{tag_session}
 use Rattle.shared_area.specs.Words.{cell_of, word_of, session_in, facts_of, bit_of, fact_in}
 
 pub same_cell : (c d : Cell) → c.tag ≡ d.tag → c.half ≡ d.half → c ≡ d
@@ -18,7 +18,7 @@ pub cell_of-word_of : (s half : ℕ) → half < 65536 → cell_of (word_of s hal
 cell_of-word_of s half h = same_cell (cell_of (word_of s half)) (lifted s half) (omega arith) (omega arith)
 
 pub session_in-word_of : (s half : ℕ) → 0 < s → half < 65536 → session_in (word_of s half) ≡ s
-session_in-word_of s half pos h = let e : word_of s half / 65536 ≡ 2 * s - 1 = omega arith in ap session_of e ∙ (let x : (2 * s - 1 + 1) / 2 ≡ s = omega arith in x)
+session_in-word_of s half pos h = let e : word_of s half / 65536 ≡ 2 * s - 1 = omega arith in ap tag_session e ∙ (let x : (2 * s - 1 + 1) / 2 ≡ s = omega arith in x)
 
 pub cell_word : (w x : ℕ) → cell_of w ≡ cell_of x → w ≡ x
 cell_word w x e = let a : w / 65536 ≡ x / 65536 = ap (λ (c : Cell). c.tag) e in let b : w % 65536 ≡ x % 65536 = ap (λ (c : Cell). c.half) e in omega arith

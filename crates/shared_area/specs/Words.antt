@@ -4,7 +4,7 @@ use Rattle.cov_base.specs.declared.facts.Fact.{Fact}
 use Rattle.cov_base.specs.declared.facts.Fact.TheVariants.{Ran, Went, Stayed}
 use Rattle.cov_base.specs.FactSet.{FactSet}
 use Rattle.module_area.specs.declared.cells.Cell.{Cell}
-use Rattle.module_area.specs.Parties.{session_of}
+use Rattle.module_area.specs.Parties.{tag_session}
 
 -- the tag above the halfword
 abbrev pub cell_of : ℕ → Cell
@@ -16,7 +16,7 @@ word_of s half = (2 * s - 1) * 65536 + half
 
 -- the session that a cell's word names
 abbrev pub session_in : ℕ → ℕ
-session_in w = session_of (w / 65536)
+session_in w = tag_session (w / 65536)
 
 abbrev pub facts_of : ℕ → FactSet
 facts_of w = record { ran = nat_eq (w % 2) 1; went = nat_eq (w / 2 % 2) 1; stayed = nat_eq (w / 4 % 2) 1 }

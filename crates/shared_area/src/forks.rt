@@ -1,7 +1,7 @@
 //! Passes split off for tasks and joined again, each by one load.
 ghost use Rattle.std.specs.Prelude.{◌≡◌, []};
 ghost use Rattle.module_area.specs.declared.parties.Role.TheVariants.{Root, Task};
-ghost use Rattle.module_area.specs.Parties.{Has, giving, newcomer, joining, task_of};
+ghost use Rattle.module_area.specs.Parties.{Has, giving, newcomer, joining, role_task};
 
 use crate::cells::SharedCells;
 use crate::pass::SharedPass;
@@ -36,7 +36,7 @@ impl SharedCells {
         requires area { seat.old.table_id ≡ self.now.table.shared.table_id }
         requires other { (other.table_id ≡ self.now.table.shared.table_id) × (other.me.1 ≡ []) }
         requires root { seat.old.me.0.role ≡ Root }
-        requires task { other.me.0.role ≡ Task (task_of other.me.0.role) }
+        requires task { other.me.0.role ≡ Task (role_task other.me.0.role) }
         requires picked { K.plan ≡ self.now.plan }
         ensures area { seat.new.table_id ≡ seat.old.table_id }
         ensures view { seat.new.me.0 ≡ joining self.now.plan seat.old.me.0 other.me.0 }

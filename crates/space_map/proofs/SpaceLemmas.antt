@@ -40,8 +40,8 @@ touch_empty m a (suc n) h = absurd (omega arith)
 ends : (a b : ℕ) → (a ≤ b) ⊎ (b < a)
 ends a b = grind arith
 
-is_within : (a b : ℕ) → a ≤ b → nat_le a b ≡ true
-is_within a b h = grind (arith, nat_tests)
+le_is_true : (a b : ℕ) → a ≤ b → nat_le a b ≡ true
+le_is_true a b h = grind (arith, nat_tests)
 
 is_past : (a b : ℕ) → b < a → nat_le a b ≡ false
 is_past a b h = grind (arith, nat_tests)
@@ -55,7 +55,7 @@ pub store_range : (s : SpaceView) (monitored : Bool) (a n x size : ℕ) → IsSp
 unfolding memory_of
 store_range s monitored a n x size k f l p e =
     elim (ends x size) [
-      | inl h ↦ rw (is_within x size h, store_private (memory_of_space s) a n (omega arith) (omega arith)) refl
+      | inl h ↦ rw (le_is_true x size h, store_private (memory_of_space s) a n (omega arith) (omega arith)) refl
       | inr h ↦ rw (is_past x size h, store_outside (memory_of_space s) a n p (omega arith) l (omega arith)) refl
     ]
 

@@ -1,10 +1,11 @@
 -- Touch bytes, and the look-ups that tell them.
 use Rattle.std.proofs.Common.{◌≡◌, ℕ, ◌+◌, ◌-◌, ◌%◌, ◌<◌, ◌≤◌, zero, suc, Bool, true, false, ◌||◌, ◌==◌, if◌then◌else◌, ◌↔◌, Option, Some, None, List, [], ◌∷◌, length, get_or, refl, sym, ◌∙◌, arith, ◌⊎◌, inl, inr}
+use Rattle.std.specs.Option.{option_or}
 use Rattle.std.specs.List.{All}
 use Rattle.std.specs.Option.{IsNone, is_some}
 use Rattle.std.proofs.lemmas.Bool.Decides.{nat_tests}
 use Rattle.std.proofs.lemmas.List.Elements.{All-head, All-tail, All-get_or}
-use Rattle.cov_base.specs.Memory.{Memory, ImageView, wrap, first_touch, or_else}
+use Rattle.cov_base.specs.Memory.{Memory, ImageView, wrap, first_touch}
 use Rattle.module_area.specs.declared.places.Place.{Place}
 use Rattle.module_area.specs.Executions.{is_place}
 use Rattle.module_area.specs.Images.{IsImage, AreImages}
@@ -50,11 +51,11 @@ touches-halfword places a b f e =
       | inr h ↦ rw (let d : b ≡ a - 1 = omega arith in d) (touches-odd places a f h)
     ]
 
-or_none : (o q : Option ℕ) → or_else o q ≡ None → o ≡ None
+or_none : (o q : Option ℕ) → option_or o q ≡ None → o ≡ None
 or_none None q h = refl
 or_none (Some a) q h = let e : Some a ≡ None = h in absurd cc
 
-then_none : (o q : Option ℕ) → or_else o q ≡ None → q ≡ None
+then_none : (o q : Option ℕ) → option_or o q ≡ None → q ≡ None
 then_none None q h = h
 then_none (Some a) q h = let e : Some a ≡ None = h in absurd cc
 

@@ -1,6 +1,7 @@
 //! A task's space.
 ghost use Rattle.std.specs.Prelude.{◌≡◌, ℕ, ◌+◌, ◌*◌, None, ◌<◌, ◌≤◌, length, All, IfOk, IsTrue, true, refl};
 ghost use Rattle.cov_base.specs.Memory.{wrap, byte_at, half_at, is_accessible, can_reach, can_store, first_touch};
+ghost use Rattle.cov_base.specs.declared.limits.TheConstants.{PRIVATE_LIMIT};
 ghost use Rattle.s370_state.specs.Answers.{reach_answer, store_answer, touch_answer};
 ghost use Rattle.module_area.specs.Images.{AreImages};
 ghost use Rattle.brk_table.specs.Places.{memory_of, IsIn, AreSeen, touches};
@@ -48,7 +49,7 @@ impl<'a> TaskSpace<'a> {
         images: &'a Images,
         tables: &'a Tables,
     ) -> Result<TaskSpace<'a>, NoMemory>
-        requires size { size ≤ 1048576 }
+        requires size { size ≤ PRIVATE_LIMIT }
         requires cards { All (λ c. c.offset + length c.bytes ≤ size) cards.now }
         requires images { AreImages images.now }
         requires tables { All (IsIn images.now) tables.now.places }
@@ -75,7 +76,7 @@ impl<'a> TaskSpace<'a> {
     pub fn size(&self) -> u32
         ensures value { result ≡ length self.now.bytes }
         ensures private { (memory_of_space self.now).private ≡ result }
-        ensures most { result ≤ 1048576 }
+        ensures most { result ≤ PRIVATE_LIMIT }
     {
         self.bytes.len() as u32
     }

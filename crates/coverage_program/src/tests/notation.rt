@@ -1,4 +1,4 @@
-//! The notation of jobs and of what is written for them, in which what most cases share is said once.
+//! The notation of jobs, of marks files and of what is written for them, in which what most cases share is said once.
 
 use std::alloc::Global;
 use std::test::Fail;
@@ -20,6 +20,19 @@ pub struct Case {
     /// The plants, fetches, marks and lifts of each phase, where they are compared.
     pub tallies: Option<&'static [(u64, u64, u64, u64)]>,
     pub text: &'static str,
+}
+
+/// A part of an input or of what is written for it.
+#[derive(Clone, Copy)]
+pub enum Part {
+    /// Stands for itself.
+    Text(&'static str),
+    /// The lines of a job up to session S, over module M of these instructions.
+    Code(&'static str),
+    /// Module M's part of a listing, by its instructions, and a mark for each and how the module's line ends.
+    Marked(&'static str, &'static str),
+    /// Bytes, by hexadecimal digits in upper case with blanks between them.
+    Bytes(&'static str),
 }
 
 const HEADING: &str = "  Loc  Object Code    Addr1 Addr2  Stmt   Source Statement\n";
@@ -109,13 +122,18 @@ fn add_module(text: &mut Vec<u8>, alloc: Global, code: &str) -> Result<(), Fail>
     Ok(())
 }
 
+/// The lines of a job up to its session.
+fn add_code(text: &mut Vec<u8>, alloc: Global, code: &str) -> Result<(), Fail> {
+    add(text, "COVERJOB 1\n")?;
+    add_module(text, alloc, code)?;
+    add(text, "PHASE P\nSESSION S M\n")
+}
+
 /// The bytes of the case's job.
 pub fn job_of(alloc: Global, case: &Case) -> Result<Vec<u8>, Fail> {
     let mut text = Vec::new(alloc);
     if !case.code.is_empty() {
-        add(&mut text, "COVERJOB 1\n")?;
-        add_module(&mut text, alloc, case.code)?;
-        add(&mut text, "PHASE P\nSESSION S M\n")?;
+        add_code(&mut text, alloc, case.code)?;
     }
     add(&mut text, case.job)?;
     Ok(text)
@@ -169,6 +187,46 @@ pub fn text_of(alloc: Global, case: &Case) -> Result<Vec<u8>, Fail> {
         } else {
             add(&mut text, line)?;
             add(&mut text, "\n")?;
+        }
+    }
+    Ok(text)
+}
+
+/// What a hexadecimal digit in upper case stands for.
+fn digit_of(digit: u8) -> u8 {
+    match digit {
+        b'0'..=b'9' => digit.wrapping_sub(b'0'),
+        b'A'..=b'F' => digit.wrapping_sub(b'A' - 10),
+        _ => 0,
+    }
+}
+
+fn add_bytes(text: &mut Vec<u8>, digits: &str) -> Result<(), Fail> {
+    let mut high = None;
+    for digit in digits.as_bytes() {
+        if *digit == b' ' {
+            continue;
+        }
+        high = match high {
+            None => Some(digit_of(*digit)),
+            Some(first) => {
+                text.push(first.wrapping_mul(16).wrapping_add(digit_of(*digit)))?;
+                None
+            }
+        };
+    }
+    Ok(())
+}
+
+/// The bytes that the parts stand for, one after the other.
+pub fn bytes_of(alloc: Global, parts: &[Part]) -> Result<Vec<u8>, Fail> {
+    let mut text = Vec::new(alloc);
+    for part in parts {
+        match part {
+            Part::Text(words) => add(&mut text, words)?,
+            Part::Code(code) => add_code(&mut text, alloc, code)?,
+            Part::Marked(code, words) => add_marked(&mut text, alloc, code, words)?,
+            Part::Bytes(digits) => add_bytes(&mut text, digits)?,
         }
     }
     Ok(text)

@@ -28,7 +28,7 @@ PLACE 000004 2 S 07FE\n\
 END\n",
 };
 
-const USAGE: &[u8] =
+pub const USAGE: &[u8] =
     b"USAGE: run | marks NAME | trial NUMBER TASKS | table | replay | combine | show NAME\n";
 
 /// Jobs with what `table` writes for them.
@@ -77,16 +77,23 @@ pub struct Came {
     pub made: u64,
 }
 
+/// The words, each a string of its own.
+pub fn words_of(alloc: Global, words: &[&str]) -> Result<Vec<String>, Fail> {
+    let mut all = Vec::new(alloc);
+    for word in words {
+        all.push(String::from_str(alloc, word)?)?;
+    }
+    Ok(all)
+}
+
+/// Serves the words over areas that threads share, and once more without areas.
 pub fn serve<T: Threads + Wait + Sync>(
     rt: &T,
     alloc: Global,
     words: &[&str],
     job: &[u8],
 ) -> Result<Came, Fail> {
-    let mut all = Vec::new(alloc);
-    for word in words {
-        all.push(String::from_str(alloc, word)?)?;
-    }
+    let all = words_of(alloc, words)?;
     let mut areas = SharedAreas::new(alloc, 1).map_err(|_| "memory")?;
     let mut source = MemSource::new(job.to_vec(alloc)?, 64, Vec::new(alloc));
     let mut sink = MemSink::new(alloc, 4096, 4096, Vec::new(alloc)).map_err(|_| "memory")?;

@@ -14,7 +14,11 @@ fn words_are_signed_in_twos_complement(rt: HostRuntime) {
         (0, 0, true, 0),
     ] {
         assert_eq!(rt;
-            (low_word(number), is_word(number), sign_code(number)),
+            (
+                low_word(number),
+                is_word(i128::from(number)),
+                sign_code(i128::from(number))
+            ),
             (word, fits, code)
         );
     }

@@ -1,4 +1,3 @@
-use Rattle.std.proofs.Common.{sym}
 use Rattle.session_marks.proofs.Sample.{sample_are_tables}
 use Rattle.session_marks.proofs.file_tests.shown.Goals as goal
 

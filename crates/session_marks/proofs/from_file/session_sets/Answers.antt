@@ -36,7 +36,8 @@ own_file c =
     let items = c.own.inside.modules.items in
     let union : items ≡ unite own c.args.file.now = c.own.view_is ∙ (c.in_default.ensures.union ∙ ap (λ x. unite x c.args.file.now) c.in-Ok.ensures) in
     let rules : are_marks c.args.file.now ≡ true = ap are_marks (sym c.file.view_is) ∙ c.file.invariant in
-    let turned : file_bytes (unite own c.args.file.now) ≡ file_bytes (unite c.args.file.now own) = rw c.in-Ok.ensures at c.in_default.ensures.turned in
+    let other : items ≡ unite c.args.file.now own = c.own.view_is ∙ (c.in_default.ensures.turned ∙ ap (λ x. unite c.args.file.now x) c.in-Ok.ensures) in
+    let turned : file_bytes (unite own c.args.file.now) ≡ file_bytes (unite c.args.file.now own) = ap file_bytes (sym union ∙ other) in
     let have : HaveSetsAt c.args.tables.now.tables sets (length (session_of c.args.job.now c.args.s.0).modules) (session_of c.args.job.now c.args.s.0).modules items = rw (c.requires.modules, c.deref.ensures.value) at c.in-Ok-sets_of.ensures.sets in
     united_sets c.args.job.now c.args.tables.now c.args.s.0 c.args.file.now items sets union c.own.invariant rules turned have
 

@@ -1,4 +1,4 @@
-use Rattle.std.proofs.Common.{rules, ◌≡◌, ◌<◌, ◌≤◌, ◌-◌, length, true, ap, sym, subst, ◌∙◌, arith}
+use Rattle.std.proofs.Common.{rules, ◌≡◌, length, true, ap, ◌∙◌, arith}
 use Rattle.cov_base.specs.Memory.{ImageView}
 use Rattle.cov_base.specs.Names.{is_filled}
 use Rattle.session_marks.proofs.ModuleLemmas.{AreTabled, from_base, module_fields}

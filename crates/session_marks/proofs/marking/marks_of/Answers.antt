@@ -1,8 +1,4 @@
-use Rattle.std.proofs.Common.{◌≡◌, ◌<◌, length, map, All, ap, sym, subst, ◌∙◌, arith}
-use Rattle.marks_file.specs.Marks.{are_marks}
 use Rattle.session_book.specs.Sessions.{session_of}
-use Rattle.session_marks.specs.Fields.{HasGoodFields}
-use Rattle.session_marks.specs.Marked.{marked_module}
 use Rattle.session_marks.proofs.ModuleLemmas.{marks_kept}
 use Rattle.session_marks.proofs.marking.marks_of.Goals as goal
 
@@ -13,5 +9,6 @@ invariant_of-result g c =
     let sets = g.R.FactSets.set_of c.args.results.now c.args.s.0 in
     let modules = (session_of job c.args.s.0).modules in
     let is = c.modules_of.ensures.is in
-    let value = c.in_ok-modules.ensures.value ∙ ap (map (marked_module job tables sets)) c.modules_of.ensures.value in
-    rw value (marks_kept job tables sets modules c.modules_of.ensures.job c.requires.tables is.some is.modules is.differ (subst (All HasGoodFields) value c.in_ok-modules.ensures.fields))
+    let value = c.in_ok-modules.ensures.value in
+    let these = c.modules_of.ensures.value in
+    rw (value, these) (marks_kept job tables sets modules c.modules_of.ensures.job c.requires.tables is.some is.modules is.differ (rw (value, these) at c.in_ok-modules.ensures.fields))

@@ -2,7 +2,7 @@ use Rattle.std.proofs.Common.{sym, subst}
 use Rattle.atomic_table.specs.Table.{Joins}
 use Rattle.module_area.specs.declared.parties.Role.TheVariants.{Spent}
 use Rattle.module_area.specs.PlanView.{PlanView}
-use Rattle.module_area.specs.Parties.{blank, joining, task_of}
+use Rattle.module_area.specs.Parties.{blank, joining, role_task}
 use Rattle.shared_area.specs.Rule.{IsArea}
 use Rattle.shared_area.proofs.TableLemmas.{join_allowed}
 use Rattle.shared_area.proofs.cells.SharedCells.merge.Goals as goal
@@ -13,5 +13,5 @@ join_seat-requires g c = let me = c.args.self.now in let seat = c.args.seat.now 
   c.requires.other.0,
   c.requires.other.1,
   me.some,
-  subst (λ (z : PlanView × PlanView). Joins (IsArea z.0) seat.id v c.args.other.id o (joining z.1 v o) (blank Spent)) (λ i. (sym me.keyed i, sym c.requires.picked i)) (join_allowed me.plan seat.id c.args.other.id (task_of o.role) v o c.requires.root c.requires.task),
+  subst (λ (z : PlanView × PlanView). Joins (IsArea z.0) seat.id v c.args.other.id o (joining z.1 v o) (blank Spent)) (λ i. (sym me.keyed i, sym c.requires.picked i)) (join_allowed me.plan seat.id c.args.other.id (role_task o.role) v o c.requires.root c.requires.task),
 )

@@ -1,0 +1,16 @@
+use Rattle.std.proofs.Common.{IfErr, ap, rules}
+use Rattle.std.proofs.lemmas.Result.{IfErr-weaker}
+use Rattle.table_combine.specs.Combine.{difference_of}
+use Rattle.coverage_program.specs.Files.{IsFileRefusal, NoFile, Other}
+use Rattle.coverage_program.specs.Refusals.{refusal}
+use Rattle.coverage_program.proofs.showing.sets_behind.Goals as goal
+
+pub returns-in_err-marks-clause-refused : goal.returns-in_err-marks-clause-refused
+returns-in_err-marks-clause-refused c =
+    let no : IfErr c.from_residual.result (IsFileRefusal c.args.rest.now) = search rules in
+    IfErr-weaker _ _ _ (λ r h. NoFile h) no
+
+pub returns-in-Err-Other-clause-refused : goal.returns-in-Err-Other-clause-refused
+returns-in-Err-Other-clause-refused c =
+    let e = c.in-Err-Other in
+    Other c.in_ok-marks.marks (difference_of e.other) c.in_ok-marks.ensures.file (rw e.field-0-is at e.ensures.fault) (ap (refusal 11) c.other_table_line.ensures)

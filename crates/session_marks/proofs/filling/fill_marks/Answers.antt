@@ -1,0 +1,47 @@
+use Rattle.std.proofs.Common.{◌≡◌, ◌≤◌, ℕ, List, length, map, All, refl, ap, sym, subst, ◌∙◌, arith}
+use Rattle.std.specs.Vec.{with_items}
+use Rattle.std.proofs.lemmas.List.{with_items_is}
+use Rattle.cov_base.specs.FactSet.{FactSet}
+use Rattle.cov_base.specs.Facts.{no_facts}
+use Rattle.brk_table.specs.Places.{TablesView}
+use Rattle.marks_file.specs.Marks.{MarkedView, are_marks}
+use Rattle.session_book.specs.JobView.{JobView}
+use Rattle.session_book.specs.Sessions.{session_of}
+use Rattle.session_marks.specs.Filled.{AreThere, filled}
+use Rattle.session_marks.specs.Marked.{marked_module}
+use Rattle.session_marks.proofs.ModuleLemmas.{length-mapped}
+use Rattle.session_marks.proofs.FillLemmas.{are_there, modules_are_filled, filled_are_marks}
+use Rattle.session_marks.proofs.filling.fill_marks.Goals as goal
+
+pub fill_modules-requires-clause-there : goal.fill_modules-requires-clause-there
+fill_modules-requires-clause-there g c =
+    let ms = (session_of c.args.job.now c.args.s.0).modules in
+    let old : c.deref_mut.result.now ≡ map (marked_module c.args.job.now c.args.tables.now (λ n. no_facts)) ms = c.deref_mut.ensures.value ∙ (c.marks.view_is ∙ c.requires.empty) in
+    rw (old, c.modules_of.ensures.value) (are_there c.args.job.now c.args.tables.now (λ n. no_facts) ms c.range.ensures.all)
+
+pub invariant_of-marks : goal.invariant_of-marks
+invariant_of-marks g c =
+    let j : JobView = c.args.job.now in
+    let t : TablesView = c.args.tables.now in
+    let sets : ℕ → FactSet = g.R.FactSets.set_of c.args.results.now c.args.s.0 in
+    let ms : List ℕ = (session_of j c.args.s.0).modules in
+    let is = c.modules_of.ensures.is in
+    let old : c.marks.inside.modules.items ≡ map (marked_module j t (λ n. no_facts)) ms = c.marks.view_is ∙ c.requires.empty in
+    let new : c.fill_modules.new.marked ≡ map (marked_module j t sets) ms =
+        c.fill_modules.ensures ∙ (ap (λ (x : List MarkedView). filled t sets x c.modules_of.result.now) (c.deref_mut.ensures.value ∙ old) ∙ (ap (λ (y : List ℕ). filled t sets (map (marked_module j t (λ n. no_facts)) ms) y) c.modules_of.ensures.value ∙ modules_are_filled j t (λ n. no_facts) sets ms)) in
+    let size : length c.fill_modules.new.marked ≡ length c.marks.inside.modules.items = ap length new ∙ (length-mapped (marked_module j t sets) ms ∙ (sym (length-mapped (marked_module j t (λ n. no_facts)) ms) ∙ sym (ap length old))) in
+    let kept : (with_items c.marks.inside.modules c.fill_modules.new.marked).items ≡ c.fill_modules.new.marked = with_items_is c.marks.inside.modules c.fill_modules.new.marked (size ∙ sym c.marks.inside.modules.ok.0) in
+    ap are_marks (kept ∙ new) ∙ filled_are_marks j t (λ n. no_facts) sets ms (record { job = c.modules_of.ensures.job; are = c.requires.tables; places = c.range.ensures.all }) is.some is.modules is.differ c.requires.sets.within (ap are_marks (sym old) ∙ c.marks.invariant)
+
+pub returns : goal.returns
+returns g c =
+    let j : JobView = c.args.job.now in
+    let t : TablesView = c.args.tables.now in
+    let sets : ℕ → FactSet = g.R.FactSets.set_of c.args.results.now c.args.s.0 in
+    let ms : List ℕ = (session_of j c.args.s.0).modules in
+    let old : c.marks.inside.modules.items ≡ map (marked_module j t (λ n. no_facts)) ms = c.marks.view_is ∙ c.requires.empty in
+    let new : c.fill_modules.new.marked ≡ map (marked_module j t sets) ms =
+        c.fill_modules.ensures ∙ (ap (λ (x : List MarkedView). filled t sets x c.modules_of.result.now) (c.deref_mut.ensures.value ∙ old) ∙ (ap (λ (y : List ℕ). filled t sets (map (marked_module j t (λ n. no_facts)) ms) y) c.modules_of.ensures.value ∙ modules_are_filled j t (λ n. no_facts) sets ms)) in
+    let size : length c.fill_modules.new.marked ≡ length c.marks.inside.modules.items = ap length new ∙ (length-mapped (marked_module j t sets) ms ∙ (sym (length-mapped (marked_module j t (λ n. no_facts)) ms) ∙ sym (ap length old))) in
+    let kept : (with_items c.marks.inside.modules c.fill_modules.new.marked).items ≡ c.fill_modules.new.marked = with_items_is c.marks.inside.modules c.fill_modules.new.marked (size ∙ sym c.marks.inside.modules.ok.0) in
+    kept ∙ new
