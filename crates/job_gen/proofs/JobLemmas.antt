@@ -12,7 +12,7 @@ use Rattle.session_book.specs.JobView.{TaskView, IsJob, IsTask, IsSession, IsLis
 use Rattle.job_gen.specs.declared.instruction.Instruction.{Instruction}
 use Rattle.job_gen.specs.declared.instruction.Operation.{Operation}
 use Rattle.job_gen.specs.declared.instruction.Operation.TheVariants.{La, Ar, Ltr, Bc, Lcr, St, Bct, Br}
-use Rattle.job_gen.specs.Code.{object, bytes_of, code_from}
+use Rattle.job_gen.specs.Code.{object, code_from}
 use Rattle.job_gen.specs.Listing.{name_of, second_group, groups, object_text, number_text, plain_line, lines_from, heading, listing_of}
 use Rattle.job_gen.specs.Trial.{task_name, trial_task, trial_session, trial_code, trial_module, trial_job}
 use Rattle.job_gen.proofs.CodeLemmas.{code_size, code_some}
@@ -97,7 +97,7 @@ trial_code_is : (number : ℕ) → trial_code number ≡ code_from 400 number 0
 unfolding trial_code
 trial_code_is number = refl
 
-pub trial_code_most : (number : ℕ) → length (trial_code number) ≤ 2000
+trial_code_most : (number : ℕ) → length (trial_code number) ≤ 2000
 trial_code_most number = let k = (code_size 400 number 0).most in rw trial_code_is (omega arith)
 
 module_is : (number : ℕ) → IsImage (trial_module number)
@@ -108,8 +108,12 @@ module_is number =
     let some = code_some 400 number 0 in
     rw trial_code_is (record { doubleword = refl; from = omega arith; even = even; some = some; to = omega arith })
 
-module_fits : (number : ℕ) → length (bytes_of (trial_code number)) ≤ 262144
-module_fits number = let k = (code_size 400 number 0).fits in rw trial_code_is (omega arith)
+-- the most bytes are 400 blocks of 8, and 6
+pub trial_module_size : (number : ℕ) → length (trial_module number).bytes ≤ 3206
+trial_module_size number = let k = (code_size 400 number 0).fits in rw trial_code_is (omega arith)
+
+module_fits : (number : ℕ) → length (trial_module number).bytes ≤ 262144
+module_fits number = let k = trial_module_size number in omega arith
 
 one : {X : Type 0} (P : X → Type 0) (x : X) → P x → All P (x ∷ [])
 one P x p = All-cons P x [] p (All-nil P)

@@ -65,10 +65,10 @@ kind x = drawn (next x) 4
 
 -- a block of the kind with the state of its own draw, at a location; its branch goes behind the block
 abbrev pub block_of : ℕ → ℕ → ℕ → List Instruction
-block_of n x at =
-    if nat_eq n 0 then la (drawn x 16) ∷ []
-    else if nat_eq n 1 then ar ∷ []
-    else if nat_eq n 2 then ltr ∷ bc (1 + drawn x 14) (at + 8) ∷ lcr ∷ []
+block_of which x at =
+    if nat_eq which 0 then la (drawn x 16) ∷ []
+    else if nat_eq which 1 then ar ∷ []
+    else if nat_eq which 2 then ltr ∷ bc (1 + drawn x 14) (at + 8) ∷ lcr ∷ []
     else st (4 * drawn x 64) ∷ []
 
 -- the block that is drawn behind a state

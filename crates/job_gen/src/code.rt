@@ -86,7 +86,8 @@ fn put_block(code: &mut Vec<Instruction>, draws: &mut Draws, at: u16) -> Result<
 /// The code of so many blocks, at most 400, drawn from this state on.
 pub(crate) fn code_of(alloc: Global, state: u32, blocks: u16) -> Result<Vec<Instruction>, NoMemory>
     requires { blocks ≤ 400 }
-    ensures { IfOk result (λ v. v.items ≡ code_from blocks state 0) }
+    ensures code { IfOk result (λ v. v.items ≡ code_from blocks state 0) }
+    ensures most { IfOk result (λ v. length v.items ≤ 2000) }
 {
     let mut draws = Draws { state };
     let mut code = Vec::new(alloc);

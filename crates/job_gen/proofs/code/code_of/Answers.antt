@@ -1,5 +1,6 @@
-use Rattle.std.proofs.Common.{◌+◌, ◌-◌, arith, append_assoc}
-use Rattle.job_gen.proofs.CodeLemmas.{block_size, code_more, code_end}
+use Rattle.std.proofs.Common.{◌≡◌, ◌+◌, ◌-◌, arith, append_assoc}
+use Rattle.job_gen.specs.Code.{code_from}
+use Rattle.job_gen.proofs.CodeLemmas.{block_size, code_size, code_more, code_end}
 use Rattle.job_gen.proofs.code.code_of.Goals as goal
 
 pub loop-block-preserved : goal.loop-block-preserved
@@ -15,4 +16,6 @@ pub returns : goal.returns
 returns c =
     let l = c.loop-block in
     let end = code_end (c.args.blocks - l._block) l.draws.state l.at (omega arith) in
-    rw (c.in_ok-push-2.ensures.items, c.in_ok-push.ensures.items, append_assoc) (rw end at l.invariant.code)
+    let all : c.push-2.new.self.items ≡ code_from c.args.blocks c.args.state 0 = rw (c.in_ok-push-2.ensures.items, c.in_ok-push.ensures.items, append_assoc) (rw end at l.invariant.code) in
+    let most = (code_size c.args.blocks c.args.state 0).most in
+    record { code = all; most = rw all (omega arith) }

@@ -1,16 +1,12 @@
 use Rattle.std.proofs.Common.{refl}
 use Rattle.job_gen.specs.Trial.{trial_job, trial_code}
-use Rattle.job_gen.proofs.JobLemmas.{trial_is_job, trial_code_most}
+use Rattle.job_gen.proofs.JobLemmas.{trial_is_job}
 use Rattle.job_gen.proofs.jobs.trial.Goals as goal
-
-pub listing_of-requires : goal.listing_of-requires
-unfolding trial_code
-listing_of-requires c = rw (c.deref-2.ensures.value, c.in_ok-code.ensures) (trial_code_most c.args.number)
 
 pub invariant_of-result : goal.invariant_of-result
 unfolding trial_job trial_code
-invariant_of-result c = rw (c.in_ok-vec-2.ensures.items, c.in_ok-vec-3.ensures.items, c.in_ok-vec-4.ensures.items, c.in_ok-vec-5.ensures.items, c.in_ok-tasks_of.ensures, c.in_ok-listing_of.ensures, c.in_ok-bytes_of.ensures, c.deref.ensures.value, c.deref-2.ensures.value, c.in_ok-code.ensures, c.letter.ensures, c.letter-2.ensures, c.letter-3.ensures, c.of.ensures, c.in_ok-vec.ensures.items) (trial_is_job c.args.number c.args.tasks c.requires.most)
+invariant_of-result c = rw (c.in_ok-vec-2.ensures.items, c.in_ok-vec-3.ensures.items, c.in_ok-vec-4.ensures.items, c.in_ok-vec-5.ensures.items, c.in_ok-tasks_of.ensures, c.in_ok-listing_of.ensures, c.in_ok-bytes_of.ensures, c.deref.ensures.value, c.deref-2.ensures.value, c.in_ok-code.ensures.code, c.letter.ensures, c.letter-2.ensures, c.letter-3.ensures, c.of.ensures, c.in_ok-vec.ensures.items) (trial_is_job c.args.number c.args.tasks c.requires.most)
 
 pub returns : goal.returns
 unfolding trial_job trial_code
-returns c = rw (c.in_ok-vec-2.ensures.items, c.in_ok-vec-3.ensures.items, c.in_ok-vec-4.ensures.items, c.in_ok-vec-5.ensures.items, c.in_ok-tasks_of.ensures, c.in_ok-listing_of.ensures, c.in_ok-bytes_of.ensures, c.deref.ensures.value, c.deref-2.ensures.value, c.in_ok-code.ensures, c.letter.ensures, c.letter-2.ensures, c.letter-3.ensures, c.of.ensures, c.in_ok-vec.ensures.items) refl
+returns c = rw (c.in_ok-vec-2.ensures.items, c.in_ok-vec-3.ensures.items, c.in_ok-vec-4.ensures.items, c.in_ok-vec-5.ensures.items, c.in_ok-tasks_of.ensures, c.in_ok-listing_of.ensures, c.in_ok-bytes_of.ensures, c.deref.ensures.value, c.deref-2.ensures.value, c.in_ok-code.ensures.code, c.letter.ensures, c.letter-2.ensures, c.letter-3.ensures, c.of.ensures, c.in_ok-vec.ensures.items) refl
