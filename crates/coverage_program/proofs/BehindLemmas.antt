@@ -1,5 +1,5 @@
 -- What `combine` and `show` answer is what the bytes are.
-use Rattle.std.proofs.Common.{◌≡◌, ◌⊎◌, inl, inr, ℕ, zero, suc, ◌+◌, ◌<◌, ◌≤◌, Bool, true, false, cond, nat_eq, Option, Some, None, List, [], ◌∷◌, ◌++◌, length, take, drop, map, refl, sym, ◌∙◌, ap, subst, arith}
+use Rattle.std.proofs.Common.{◌≡◌, ◌⊎◌, inl, inr, ℕ, ◌+◌, ◌<◌, ◌≤◌, Bool, true, false, nat_eq, Option, Some, None, List, [], ◌∷◌, ◌++◌, length, take, drop, map, refl, sym, ◌∙◌, ap, subst, arith}
 use Rattle.std.specs.Io.{StartsWith}
 use Rattle.std.proofs.Math.Seq.{take-length, take-append_seam}
 use Rattle.std.proofs.lemmas.Bool.{eqb-true}
@@ -9,17 +9,15 @@ use Rattle.cov_base.specs.FactSet.{FactSet}
 use Rattle.cov_base.specs.Facts.{no_facts}
 use Rattle.cov_base.specs.Memory.{ImageView}
 use Rattle.cov_outside.specs.Causes.{Rose}
-use Rattle.brk_table.specs.Places.{TableView, TablesView, all_places, first_place, place_count}
+use Rattle.brk_table.specs.Places.{TableView, TablesView, first_place, place_count}
 use Rattle.job_text.specs.Lines.{LineView, lines_of, put_on}
 use Rattle.job_text.specs.Spells.{Spells}
 use Rattle.job_text.proofs.Spelled.{one_first}
-use Rattle.marks_file.specs.Marks.{MarkedView, are_marks}
+use Rattle.marks_file.specs.Marks.{MarkedView}
 use Rattle.marks_file.specs.MarksFile.{file_bytes, rows}
-use Rattle.marks_file.specs.Reading.{first_bad, file_fields}
 use Rattle.marks_file.proofs.FileLemmas.{file_found, one_spelling}
 use Rattle.session_book.specs.JobView.{JobView}
 use Rattle.session_book.specs.Sessions.{session_of}
-use Rattle.session_marks.specs.FromFile.{IsOwn}
 use Rattle.session_marks.specs.Marked.{marked_module, session_marks, session_rows}
 use Rattle.session_marks.proofs.SessionLemmas.{own_same}
 use Rattle.table_combine.specs.Combine.{Difference, first_difference}
@@ -28,15 +26,15 @@ use Rattle.table_combine.proofs.AnswerLemmas.{one_answer}
 use Rattle.coverage_program.specs.Answers.{IsStopped, BadJob, LargeJob, NoSession, BadListing, LargeInput, ReadFault, WantOfMemory, IsCause, Report, Recorded, Places, Replayed, BadSchedule, United, BadFile, OtherFile, Shown, BadShown, OtherShown, Usage, Stopped, NoMemoryToRun}
 use Rattle.coverage_program.specs.Changes.{SourceChange, AreasChange}
 use Rattle.coverage_program.specs.Complete.{StandsBehind, bytes_of}
-use Rattle.coverage_program.specs.Files.{HasRest, IsFile, IsPast, IsNoFile}
-use Rattle.coverage_program.specs.Inputs.{CameWhole, HasJob, input_limit}
+use Rattle.coverage_program.specs.Files.{HasRest, IsFile, IsNoFile}
+use Rattle.coverage_program.specs.Inputs.{input_limit}
 use Rattle.coverage_program.specs.Named.{session_number}
-use Rattle.coverage_program.specs.Refusals.{IsTableOf, AreTablesFrom, Match}
-use Rattle.coverage_program.specs.Words.{reads_job, takes_more, session_named, makes_areas, no_memory_line}
+use Rattle.coverage_program.specs.Refusals.{AreTablesFrom, Match}
+use Rattle.coverage_program.specs.Words.{reads_job, takes_more, session_named, makes_areas}
 use Rattle.coverage_program.specs.declared.words.Command.{Command}
 use Rattle.coverage_program.specs.declared.words.Command.TheVariants.{Run, Marks, Table, Replay, Combine, Show, Unknown}
 use Rattle.coverage_program.proofs.OneTables.{one_of, one_places}
-use Rattle.coverage_program.proofs.StopLemmas.{came_is, same_job, not_both, not_more, too_many, large_stop, matched_stop}
+use Rattle.coverage_program.proofs.StopLemmas.{came_is, not_both, not_more, too_many, large_stop, matched_stop}
 
 -- ---- files alone
 

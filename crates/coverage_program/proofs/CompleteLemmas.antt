@@ -1,18 +1,15 @@
 -- Each cause but its own is contradicted by what the words and bytes are.
 use Rattle.std.specs.Prelude.{IsSome}
-use Rattle.std.proofs.Common.{◌≡◌, ◌⊎◌, inl, inr, ℕ, ◌<◌, ◌≤◌, Bool, true, false, Option, Some, None, List, [], ◌∷◌, ◌++◌, length, take, drop, refl, sym, ◌∙◌, ap, subst, arith}
+use Rattle.std.proofs.Common.{◌≡◌, ◌⊎◌, inl, inr, ℕ, ◌<◌, ◌≤◌, Bool, true, false, Option, Some, None, List, [], length, take, drop, refl, sym, ◌∙◌, ap, subst}
 use Rattle.cov_outside.specs.Causes.{Rose}
-use Rattle.cov_outside.specs.Whole.{IsWhole, HasMoreThan}
 use Rattle.session_book.specs.JobView.{JobView}
 use Rattle.job_text.specs.Lines.{LineView, lines_of}
 use Rattle.job_text.specs.Refusals.{IsBadAt, IsOverAt}
 use Rattle.job_text.specs.Spells.{Spells}
 use Rattle.job_text.specs.declared.limit.Limit.{Limit}
-use Rattle.job_text.proofs.Excluded.{never_over_first}
-use Rattle.job_text.proofs.Excluded as excluded
 use Rattle.job_text.proofs.Spelled.{one_first}
-use Rattle.coverage_program.specs.Answers.{HasPlay, IsStopped, BadJob, LargeJob, NoSession, BadListing, LargeInput, ReadFault, WantOfMemory, IsCause, Report, Recorded, Places, Replayed, BadSchedule, United, BadFile, OtherFile, Shown, BadShown, OtherShown, Usage, Stopped, NoMemoryToRun, Answers}
-use Rattle.coverage_program.specs.Inputs.{HasJob, CameWhole, CameJob, input_limit}
+use Rattle.coverage_program.specs.Answers.{HasPlay, IsStopped, IsCause, Report, Recorded, Places, Replayed, BadSchedule, United, BadFile, OtherFile, Shown, BadShown, OtherShown, Usage, Stopped, NoMemoryToRun, Answers}
+use Rattle.coverage_program.specs.Inputs.{HasJob, CameJob, input_limit}
 use Rattle.coverage_program.specs.Changes.{SourceChange, SinkChange, AreasChange}
 use Rattle.coverage_program.specs.Complete.{IsAnswer, IsComplete}
 use Rattle.coverage_program.specs.Complete as wanted
@@ -21,12 +18,12 @@ use Rattle.coverage_program.specs.declared.words.Command.TheVariants.{Run, Marks
 use Rattle.module_area.specs.declared.places.Place.{Place}
 use Rattle.brk_table.specs.Places.{TablesView, all_places}
 use Rattle.coverage_program.specs.Named.{HasNamed, session_number}
-use Rattle.coverage_program.specs.Refusals.{RefusalView, refusal, job_refusal, Match}
+use Rattle.coverage_program.specs.Refusals.{RefusalView, job_refusal, Match}
 use Rattle.coverage_program.specs.Replay.{Play, Bad, Whole, play_of, play_status}
 use Rattle.coverage_program.proofs.OneTables.{one_places}
 use Rattle.job_run.specs.Runs.{Account}
-use Rattle.coverage_program.specs.Words.{reads_input, reads_job, takes_more, makes_areas, session_named, no_memory_line}
-use Rattle.coverage_program.proofs.StopLemmas.{append_none, all_of, came_is, same_job, not_both, not_more, over_there, bad_there, has_there, has_here, none_over, not_named, one_missing, matched_stop, refused_stop, never_came, bad_stop, never_large, over_stop, too_many, large_stop, missing_stop, HasNone}
+use Rattle.coverage_program.specs.Words.{reads_input, reads_job, takes_more, makes_areas, session_named}
+use Rattle.coverage_program.proofs.StopLemmas.{came_is, same_job, not_both, not_named, matched_stop, refused_stop, never_came, bad_stop, never_large, over_stop, too_many, large_stop, missing_stop, HasNone}
 use Rattle.coverage_program.proofs.BehindLemmas.{large_files, files_outcome, united_case, bad_files_case, other_files_case, show_outcome, shown_case, bad_shown_case, other_shown_case}
 use Rattle.coverage_program.specs.Files.{HasRest}
 

@@ -25,7 +25,7 @@ use Rattle.coverage_program.specs.Refusals.{RefusalView, list_refusal, build_ref
 use Rattle.coverage_program.specs.Words.{reads_job, takes_more, makes_areas, session_named, no_memory_line}
 use Rattle.coverage_program.proofs.CompleteLemmas.{status_of}
 use Rattle.coverage_program.proofs.StopLemmas.{same_job, not_both, never_came, never_large, too_many, not_named, matched_stop}
-use Rattle.coverage_program.specs.Named.{HasNamed, session_number}
+use Rattle.coverage_program.specs.Named.{HasNamed}
 use Rattle.std.specs.Prelude.{IsSome}
 
 -- ---- a refusal is no report

@@ -1,17 +1,15 @@
 -- What the program answers: its status and text, by the words and the bytes that came.
-use Rattle.std.specs.Prelude.{◌≡◌, ◌⊎◌, ℕ, ◌≤◌, Bool, true, false, Option, Some, None, List, length, take, drop, IsSome}
+use Rattle.std.specs.Prelude.{◌≡◌, ◌⊎◌, ℕ, ◌≤◌, Bool, true, false, Option, Some, None, List, drop}
 use Rattle.std.specs.Io.KnownBytes.{Appends}
 use Rattle.cov_outside.specs.Causes.{Rose}
-use Rattle.cov_outside.specs.Whole.{IsWhole, HasMoreThan, AppendsSome}
+use Rattle.cov_outside.specs.Whole.{HasMoreThan, AppendsSome}
 use Rattle.brk_table.specs.Places.{TablesView, all_places}
 use Rattle.session_book.specs.JobView.{JobView}
 use Rattle.job_text.specs.declared.jobs.JobFault.{JobFault}
 use Rattle.job_text.specs.declared.jobs.JobFault.TheVariants as fault
 use Rattle.job_text.specs.declared.limit.Limit.{Limit}
-use Rattle.job_text.specs.Limits.{IsWithin}
-use Rattle.job_text.specs.Lines.{LineView, lines_of}
+use Rattle.job_text.specs.Lines.{lines_of}
 use Rattle.job_text.specs.Refusals.{IsBadAt, IsOverAt}
-use Rattle.job_text.specs.Spells.{Spells}
 use Rattle.interleave_core.specs.World.{Parts}
 use Rattle.report_text.specs.Table.{table_text}
 use Rattle.coverage_program.specs.declared.words.Command.{Command}

@@ -1,5 +1,5 @@
 -- The session of a name.
-use Rattle.std.specs.Prelude.{◌≡◌, ℕ, ◌+◌, if◌then◌else◌, Option, Some, None, IsSome, List, [], ◌∷◌, bytes_eq}
+use Rattle.std.specs.Prelude.{ℕ, ◌+◌, if◌then◌else◌, Option, Some, None, IsSome, List, [], ◌∷◌, bytes_eq}
 use Rattle.session_book.specs.JobView.{JobView, SessionView}
 
 -- the number of the first of these sessions that has the name, counted on from n

@@ -180,7 +180,7 @@ const OTHER_COUNT: Part = Text("OTHER TABLE ROW 1 LEFT 0000000004014610 RIGHT 00
 const OTHER_THIRD: Part = Text("OTHER TABLE ROW 5 LEFT 0000000004014610 RIGHT 0000000004014620\n");
 
 /// What each gives that is refused for nothing.
-pub const GOOD: [Row; 22] = [
+static GOOD: [Row; 22] = [
     Row {
         name: "the file of a run",
         words: &["marks", "S"],
@@ -371,8 +371,9 @@ MODULE N PLACES 0 EXECUTED 0 FACTS 0 OF 0\n",
     },
 ];
 
-/// What is refused, and why: where there are several causes the one that is told comes first.
-pub const REFUSED: [Row; 48] = [
+/// A job that is refused, or its session, and why: where there are several causes the one that is told comes first, here and in
+/// the next two tables.
+static BAD_JOBS: [Row; 16] = [
     Row {
         name: "no session of the name",
         words: &["marks", "X"],
@@ -506,6 +507,10 @@ pub const REFUSED: [Row; 48] = [
         status: 8,
         output: &[Text("OWN SVC M LINE 2\n")],
     },
+];
+
+/// A marks file behind a good job that is refused, and why.
+static BAD_SHOWN: [Row; 16] = [
     Row {
         name: "show: no file",
         words: &["show", "S"],
@@ -626,6 +631,10 @@ pub const REFUSED: [Row; 48] = [
             "OTHER TABLE ROW 0 LEFT 4F20202020202020001000100000000600000002 RIGHT 4D20202020202020001000000000000600000002\n",
         )],
     },
+];
+
+/// Marks files in succession that are refused, and why.
+static BAD_FILES: [Row; 16] = [
     Row {
         name: "combine: no bytes",
         words: &["combine"],
@@ -745,7 +754,7 @@ pub const REFUSED: [Row; 48] = [
 ];
 
 /// Words that are no command, though some are nearly one.
-pub const NO_COMMANDS: [&[&str]; 16] = [
+static NO_COMMANDS: [&[&str]; 16] = [
     &["marks"],
     &["marks", ""],
     &["marks", "9X"],
@@ -786,3 +795,28 @@ pub const SHOWN_UNION: [Part; 4] = [
     Text("NOT EXECUTED 000004-000005\n"),
     END,
 ];
+
+/// What is not refused.
+pub fn good() -> &'static [Row] {
+    &GOOD
+}
+
+/// A job that is refused, or its session.
+pub fn bad_jobs() -> &'static [Row] {
+    &BAD_JOBS
+}
+
+/// A marks file behind a good job that is refused.
+pub fn bad_shown() -> &'static [Row] {
+    &BAD_SHOWN
+}
+
+/// Marks files in succession that are refused.
+pub fn bad_files() -> &'static [Row] {
+    &BAD_FILES
+}
+
+/// Words that are no command.
+pub fn no_commands() -> &'static [&'static [&'static str]] {
+    &NO_COMMANDS
+}

@@ -1,7 +1,9 @@
 //! The commands `marks`, `combine` and `show`: what they write, the first cause of what they refuse, and faults of source
 //! and sink at each call in turn.
 
-use super::marked::{GOOD, NO_COMMANDS, REFUSED, RUNS, Row, SHOWN_UNION, UNION};
+use super::marked::{
+    RUNS, Row, SHOWN_UNION, UNION, bad_files, bad_jobs, bad_shown, good, no_commands,
+};
 use super::notation::bytes_of;
 use super::places::{USAGE, serve, words_of};
 use crate::cover::cover;
@@ -66,6 +68,11 @@ fn runs(words: &[&str]) -> bool {
     }
 }
 
+/// Whether this is the text and the status.
+fn is_told(text: &[u8], status: Status, wanted: &[u8], number: u8) -> bool {
+    text == wanted && status == Status(number)
+}
+
 /// Serves the row's words, with areas and without.
 fn check_row<T: Abort + Threads + Wait + Sync>(
     rt: &T,
@@ -77,19 +84,18 @@ fn check_row<T: Abort + Threads + Wait + Sync>(
     let came = serve(rt, alloc, row.words, &bytes_of(alloc, row.input)?)?;
     assert_eq!(rt; came.text.as_slice(), output.as_slice(), "{name}");
     assert_eq!(rt; came.status, Status(row.status), "{name}");
-    if runs(row.words) {
-        assert_eq!(rt; came.text_alone.as_slice(), USAGE, "{name}");
-        assert_eq!(rt; came.alone, Status(1), "{name}");
+    let alone = if runs(row.words) {
+        is_told(&came.text_alone, came.alone, USAGE, 1)
     } else {
-        assert_eq!(rt; came.text_alone.as_slice(), output.as_slice(), "{name}");
-        assert_eq!(rt; came.alone, Status(row.status), "{name}");
-    }
+        is_told(&came.text_alone, came.alone, &output, row.status)
+    };
+    assert!(rt; alone, "{name}");
     Ok(came.made)
 }
 
 #[test]
 fn gives_what_is_not_refused(rt: HostRuntime) -> Result<(), Fail> {
-    for row in &GOOD {
+    for row in good() {
         let name = row.name;
         let made = check_row(&rt, rt.alloc(), row)?;
         assert_eq!(rt; made > 0, runs(row.words), "{name}");
@@ -97,20 +103,31 @@ fn gives_what_is_not_refused(rt: HostRuntime) -> Result<(), Fail> {
     Ok(())
 }
 
-#[test]
-fn tells_the_first_cause(rt: HostRuntime) -> Result<(), Fail> {
-    for row in &REFUSED {
+/// Serves the words of rows that are refused, for which no area is made.
+fn check_refused<T: Abort + Threads + Wait + Sync>(
+    rt: &T,
+    alloc: Global,
+    rows: &[Row],
+) -> Result<(), Fail> {
+    for row in rows {
         let name = row.name;
-        let made = check_row(&rt, rt.alloc(), row)?;
+        let made = check_row(rt, alloc, row)?;
         assert_eq!(rt; made, 0, "{name}");
     }
     Ok(())
 }
 
 #[test]
+fn tells_the_first_cause(rt: HostRuntime) -> Result<(), Fail> {
+    check_refused(&rt, rt.alloc(), bad_jobs())?;
+    check_refused(&rt, rt.alloc(), bad_shown())?;
+    check_refused(&rt, rt.alloc(), bad_files())
+}
+
+#[test]
 fn refuses_words_before_it_reads(rt: HostRuntime) -> Result<(), Fail> {
     let alloc = rt.alloc();
-    for words in &NO_COMMANDS {
+    for words in no_commands() {
         for input in [b"".as_slice(), b"GO A\n".as_slice()] {
             let came = serve(&rt, alloc, *words, input)?;
             assert_eq!(rt; came.status, Status(1));
@@ -239,24 +256,23 @@ fn check_writes<T: Abort + Threads + Wait + Sync>(
     Ok(())
 }
 
-#[test]
-fn tells_a_fault_at_each_read(rt: HostRuntime) -> Result<(), Fail> {
-    for row in &GOOD {
-        check_reads(&rt, rt.alloc(), row)?;
-    }
-    for row in &REFUSED {
-        check_reads(&rt, rt.alloc(), row)?;
+/// Lets each read and each write of these rows fail.
+fn check_faults<T: Abort + Threads + Wait + Sync>(
+    rt: &T,
+    alloc: Global,
+    rows: &[Row],
+) -> Result<(), Fail> {
+    for row in rows {
+        check_reads(rt, alloc, row)?;
+        check_writes(rt, alloc, row)?;
     }
     Ok(())
 }
 
 #[test]
-fn tells_a_fault_at_each_write(rt: HostRuntime) -> Result<(), Fail> {
-    for row in &GOOD {
-        check_writes(&rt, rt.alloc(), row)?;
-    }
-    for row in &REFUSED {
-        check_writes(&rt, rt.alloc(), row)?;
-    }
-    Ok(())
+fn tells_a_fault_at_each_read_and_write(rt: HostRuntime) -> Result<(), Fail> {
+    check_faults(&rt, rt.alloc(), good())?;
+    check_faults(&rt, rt.alloc(), bad_jobs())?;
+    check_faults(&rt, rt.alloc(), bad_shown())?;
+    check_faults(&rt, rt.alloc(), bad_files())
 }
