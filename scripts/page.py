@@ -13,9 +13,9 @@ from report import Line, Module, Report, Session, Task, read_report, text_of
 USAGE = """\
 usage: coverage page < REPORT > PAGE
 
-Makes a report (of run or replay) one HTML page, which stands alone: a table of the sessions' modules with their
+Makes a report (of run, replay or show) one HTML page, which stands alone: a table of the sessions' modules with their
 places and facts, each listing with its marks, in colour and in print, links to what wasn't executed, and the tasks'
-results, folded. It has no script, follows the browser's light or dark, and its wide listings scroll.
+results, folded, which show has none of. It has no script, follows the browser's light or dark, and its wide listings scroll.
 
 What is no report is refused by its line on standard error; then the status is 2, and nothing is written. This script
 is not proved.
@@ -30,6 +30,11 @@ MARKS = {
 # What no page may hold: control characters.
 CONTROLS = re.compile("[\x00-\x1f\x7f-\x9f\ud800-\udfff]")
 ROW = 16
+HEADINGS = {
+    "COVERAGE REPORT": "Coverage report",
+    "COVERAGE REPLAY": "Coverage of a schedule",
+    "COVERAGE SHOW": "Coverage by a marks file",
+}
 
 
 def safe(text: str) -> str:
@@ -171,7 +176,9 @@ def events_part(report: Report) -> str:
 
 
 def tasks_part(report: Report) -> str:
-    """The results of all tasks."""
+    """The results of all tasks; marks files have none."""
+    if report.title == "COVERAGE SHOW":
+        return ""
     tasks = "\n".join(map(task_part, report.tasks)) or "<p>The job has no task.</p>"
     return f'<section aria-labelledby="tasks"><h2 id="tasks">Tasks</h2>\n{tasks}\n{events_part(report)}</section>'
 
@@ -181,8 +188,10 @@ def whole(report: Report) -> str:
     modules = [it for session in report.sessions for it in session.modules]
     places, facts = sum(it.places for it in modules), sum(it.facts for it in modules)
     executed, possible = sum(it.executed for it in modules), sum(it.possible for it in modules)
-    whose = f"{count_of(len(report.sessions), 'session')}, {count_of(len(report.tasks), 'task')}"
-    return f"{whose}: {counts_of(executed, places, facts, possible)}"
+    whose = [count_of(len(report.sessions), "session")]
+    if report.title != "COVERAGE SHOW":
+        whose.append(count_of(len(report.tasks), "task"))
+    return f"{', '.join(whose)}: {counts_of(executed, places, facts, possible)}"
 
 
 def style() -> str:
@@ -193,7 +202,7 @@ def style() -> str:
 
 def page(report: Report) -> str:
     """The whole page."""
-    title = "Coverage of a schedule" if report.title == "COVERAGE REPLAY" else "Coverage report"
+    title = HEADINGS[report.title]
     modules = "\n".join(module_part(session, it) for session in report.sessions for it in session.modules if it.lines)
     return f"""<!DOCTYPE html>
 <html lang="en">

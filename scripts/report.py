@@ -8,7 +8,7 @@ from typing import NoReturn, Optional
 from command import Fault
 from listing import object_code, shift_of
 
-TITLES = (b"COVERAGE REPORT", b"COVERAGE REPLAY")
+TITLES = (b"COVERAGE REPORT", b"COVERAGE REPLAY", b"COVERAGE SHOW")
 NAME = rb"([A-Z@#$][A-Z@#$0-9]{0,7})"
 ENDING = rb"(RETURNED|EXIT|ABEND [0-9A-F]|BADSVC [0-9]{1,3}|TOUCHED [0-9A-F]{6}|OUTFULL|SPENT|RUNNING)"
 EVENT = re.compile(rb"EVENT [0-9]{1,9} (?:FETCH|MARK|LIFT|DO|GO) .+")
@@ -122,12 +122,12 @@ class Reader:
     def report(self) -> Report:
         if not self.lines or self.lines[0] not in TITLES:
             has = shown(self.lines[0]) if self.lines else "nothing"
-            self.refuse(f"no report, which begins COVERAGE REPORT or COVERAGE REPLAY: {has}")
+            self.refuse(f"no report, which begins COVERAGE REPORT, COVERAGE REPLAY or COVERAGE SHOW: {has}")
         report = Report(self.lines[0].decode())
         self.at = 1
         while self.lines[0] == TITLES[1] and (event := self.next_if(EVENT)):
             report.events.append(event[0].decode("ascii", "replace"))
-        while self.look().startswith(b"TASK "):
+        while self.lines[0] != TITLES[2] and self.look().startswith(b"TASK "):
             report.tasks.append(self.task())
         while self.look() != b"END":
             report.sessions.append(self.session())

@@ -226,6 +226,7 @@ MARKED = COUNTED.report([Result("RETURNED", 2)], "V:", 3)
 NOT_RUN = COUNTED.report([], "^^", 3, "000000-000005")
 BAD_REPORTS = [
     (b"", "line 1", "nothing"),
+    (FIRST_REPORT.replace(b"REPORT", b"SHOW"), "line 2", "TASK A"),
     (b"BAD JOB LINE 3\n", "line 1", "BAD JOB LINE 3"),
     (FIRST_REPORT[:-4], "line 12", "ends early"),
     (FIRST_REPORT + b"more\n", "line 13", "behind END"),
@@ -276,7 +277,8 @@ def example_report(name: str) -> bytes:
 
 def pages() -> None:
     """page: each line with its mark, unexecuted ranges as links, tasks folded, no script, light and dark"""
-    for report in (FIRST_REPORT, MARKED, NOT_RUN, example_report("orders"), example_report("palindrome")):
+    shown = COUNTED.shown("&:", 3)
+    for report in (FIRST_REPORT, MARKED, NOT_RUN, shown, example_report("orders"), example_report("palindrome")):
         text = well(coverage("page", data=report)).output.decode()
         page = Page(text)
         equal(len(set(page.ids)), len(page.ids))
@@ -302,6 +304,12 @@ def replay_page() -> None:
     """page: the events of a schedule"""
     data = well(coverage("replay", data=FIRST.job(more="GO A\nENDSCHED\n"))).output
     assert "EVENT 1 GO A" in Page(well(coverage("page", data=data)).output.decode()).text
+
+
+def show_page() -> None:
+    """page: what `show` writes, which has no task"""
+    text = Page(well(coverage("page", data=COUNTED.shown("&:", 3))).output.decode()).text
+    assert "Coverage by a marks file" in text and "Tasks" not in text and "1 session: " in text
 
 
 def bad_reports() -> None:
@@ -472,6 +480,6 @@ def in_browser(browser: str) -> None:
 
 CHECKS = [
     raw_bytes, no_listing, listings, brackets, long_lines, sections, constants, labels, bad_decks, bad_modules, jobs,
-    bad_jobs, pages, page_escapes, replay_page, bad_reports, lcov_files, words_and_streams, examples_are_made, orders,
+    bad_jobs, pages, page_escapes, replay_page, show_page, bad_reports, lcov_files, words_and_streams, examples_are_made, orders,
     palindromes,
 ]
