@@ -10,8 +10,8 @@ from report import Line, Module, Session, read_report
 USAGE = """\
 usage: coverage lcov FOLDER < REPORT
 
-Writes the listings of a report into FOLDER, each module's as NAME.lst, and beside them coverage.info, a tracefile
-that genhtml and others take:
+Writes the listings of a report (of run, replay or show) into FOLDER, each module's as NAME.lst, and beside them
+coverage.info, a tracefile that genhtml and others take:
 
   genhtml --branch-coverage --output-directory PAGES FOLDER/coverage.info
 

@@ -131,6 +131,8 @@ class Reader:
             report.tasks.append(self.task())
         while self.look() != b"END":
             report.sessions.append(self.session())
+        if self.lines[0] == TITLES[2] and len(report.sessions) != 1:
+            self.refuse("not one session, which COVERAGE SHOW has")
         if self.at + 1 < len(self.lines):
             self.refuse("a line behind END", self.at + 1)
         return report

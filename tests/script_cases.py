@@ -227,6 +227,7 @@ NOT_RUN = COUNTED.report([], "^^", 3, "000000-000005")
 BAD_REPORTS = [
     (b"", "line 1", "nothing"),
     (FIRST_REPORT.replace(b"REPORT", b"SHOW"), "line 2", "TASK A"),
+    (b"COVERAGE SHOW\nEND\n", "line 2", "not one session"),
     (b"BAD JOB LINE 3\n", "line 1", "BAD JOB LINE 3"),
     (FIRST_REPORT[:-4], "line 12", "ends early"),
     (FIRST_REPORT + b"more\n", "line 13", "behind END"),
