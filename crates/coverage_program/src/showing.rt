@@ -50,6 +50,7 @@ fn one_file(alloc: Global, rest: &[u8]) -> Result<Marks, Refusal>
             if end < rest.len() {
                 return Err(bad_marks(end));
             }
+            // For the rules of a file, which its type keeps.
             let _modules = &marks.modules;
             Ok(marks)
         }

@@ -77,8 +77,8 @@ fn put_file<K: Sink>(
     put_modules(buffer, sink, modules)
 }
 
-/// Writes the marks file of these modules, in pieces of 4,096 bytes and a last one. Failed only where the sink's count
-/// of faults rose; the sink has then taken a first part of the file. Takes no memory.
+/// Writes the marks file of these modules, by way of a buffer of 4,096 bytes. Failed only where the sink's count of
+/// faults rose; the sink has then taken a first part of the file. Takes no memory.
 pub fn write<K: Sink>(sink: &mut K, m: &Marks) -> Result<(), Failed>
     ensures { Writes K.written K.faults sink.old sink.new result (file_bytes m.now) }
 {

@@ -39,7 +39,7 @@ pub modules_are_filled : (j : JobView) (tables : TablesView) (old new : ℕ → 
 modules_are_filled j tables old new [] = refl
 modules_are_filled j tables old new (m ∷ ms) =
     let one : filled_module new (first_place tables.tables m) (marked_module j tables old m) ≡ marked_module j tables new m =
-        ap (λ (ps : List MarkedPlace). record (marked_module j tables new m) { places = ps }) (places_filled (marked_module j tables old m).base tables.places old new (first_place tables.tables m) (place_count tables.tables m)) in
+    ap (λ (ps : List MarkedPlace). record (marked_module j tables new m) { places = ps }) (places_filled (marked_module j tables old m).base tables.places old new (first_place tables.tables m) (place_count tables.tables m)) in
     ap (λ (x : MarkedView). x ∷ filled tables new (map (marked_module j tables old) ms) ms) one ∙ ap (λ (xs : List MarkedView). marked_module j tables new m ∷ xs) (modules_are_filled j tables old new ms)
 
 -- a module's places are some of all

@@ -74,6 +74,7 @@ pub fn fill_marks<R: FactSets>(
     requires empty { marks.old ≡ session_marks job.now tables.now (λ n. no_facts) s.0 }
     ensures { marks.new ≡ session_marks job.now tables.now (R.set_of results.now s.0) s.0 }
 {
+    // For what it says of the tables: their places are all places, one table after the other.
     let _ = tables.range(0);
     fill_modules(&mut marks.modules, tables, results, s, modules_of(job, s));
 }

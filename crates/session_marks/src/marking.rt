@@ -145,7 +145,7 @@ fn marked_modules<R: FactSets>(
     Ok(marked)
 }
 
-/// The modules of the session.
+/// The modules of the session; the clause `job` is what `Job::session` doesn't say.
 pub fn modules_of(job: &Job, s: SessNo) -> &[u32]
     requires from { 0 < s.0 }
     requires to { s.0 ≤ length job.now.sessions }

@@ -44,6 +44,7 @@ fn next_file(alloc: Global, bytes: &[u8], at: usize) -> Result<(Marks, usize), M
     ensures bad { IfErr result (IsFault (file_fields at (drop at bytes.now))) }
 {
     let (marks, end) = read(alloc, bytes, at)?;
+    // For the rules of a file, which its type keeps.
     let _modules = &marks.modules;
     Ok((marks, end))
 }

@@ -28,7 +28,7 @@ invariant_of-marks g c =
     let is = c.modules_of.ensures.is in
     let old : c.marks.inside.modules.items ≡ map (marked_module j t (λ n. no_facts)) ms = c.marks.view_is ∙ c.requires.empty in
     let new : c.fill_modules.new.marked ≡ map (marked_module j t sets) ms =
-        c.fill_modules.ensures ∙ (ap (λ (x : List MarkedView). filled t sets x c.modules_of.result.now) (c.deref_mut.ensures.value ∙ old) ∙ (ap (λ (y : List ℕ). filled t sets (map (marked_module j t (λ n. no_facts)) ms) y) c.modules_of.ensures.value ∙ modules_are_filled j t (λ n. no_facts) sets ms)) in
+    c.fill_modules.ensures ∙ (ap (λ (x : List MarkedView). filled t sets x c.modules_of.result.now) (c.deref_mut.ensures.value ∙ old) ∙ (ap (λ (y : List ℕ). filled t sets (map (marked_module j t (λ n. no_facts)) ms) y) c.modules_of.ensures.value ∙ modules_are_filled j t (λ n. no_facts) sets ms)) in
     let size : length c.fill_modules.new.marked ≡ length c.marks.inside.modules.items = ap length new ∙ (length-mapped (marked_module j t sets) ms ∙ (sym (length-mapped (marked_module j t (λ n. no_facts)) ms) ∙ sym (ap length old))) in
     let kept : (with_items c.marks.inside.modules c.fill_modules.new.marked).items ≡ c.fill_modules.new.marked = with_items_is c.marks.inside.modules c.fill_modules.new.marked (size ∙ sym c.marks.inside.modules.ok.0) in
     ap are_marks (kept ∙ new) ∙ filled_are_marks j t (λ n. no_facts) sets ms (record { job = c.modules_of.ensures.job; are = c.requires.tables; places = c.range.ensures.all }) is.some is.modules is.differ c.requires.sets.within (ap are_marks (sym old) ∙ c.marks.invariant)
@@ -41,7 +41,7 @@ returns g c =
     let ms : List ℕ = (session_of j c.args.s.0).modules in
     let old : c.marks.inside.modules.items ≡ map (marked_module j t (λ n. no_facts)) ms = c.marks.view_is ∙ c.requires.empty in
     let new : c.fill_modules.new.marked ≡ map (marked_module j t sets) ms =
-        c.fill_modules.ensures ∙ (ap (λ (x : List MarkedView). filled t sets x c.modules_of.result.now) (c.deref_mut.ensures.value ∙ old) ∙ (ap (λ (y : List ℕ). filled t sets (map (marked_module j t (λ n. no_facts)) ms) y) c.modules_of.ensures.value ∙ modules_are_filled j t (λ n. no_facts) sets ms)) in
+    c.fill_modules.ensures ∙ (ap (λ (x : List MarkedView). filled t sets x c.modules_of.result.now) (c.deref_mut.ensures.value ∙ old) ∙ (ap (λ (y : List ℕ). filled t sets (map (marked_module j t (λ n. no_facts)) ms) y) c.modules_of.ensures.value ∙ modules_are_filled j t (λ n. no_facts) sets ms)) in
     let size : length c.fill_modules.new.marked ≡ length c.marks.inside.modules.items = ap length new ∙ (length-mapped (marked_module j t sets) ms ∙ (sym (length-mapped (marked_module j t (λ n. no_facts)) ms) ∙ sym (ap length old))) in
     let kept : (with_items c.marks.inside.modules c.fill_modules.new.marked).items ≡ c.fill_modules.new.marked = with_items_is c.marks.inside.modules c.fill_modules.new.marked (size ∙ sym c.marks.inside.modules.ok.0) in
     kept ∙ new
