@@ -94,9 +94,10 @@ class Program:
         """What `show` writes of session S."""
         return "\n".join(["COVERAGE SHOW", *self.session(marks, possible, ranges), "END", ""]).encode()
 
-    def marks_file(self, *sets: int) -> bytes:
-        """The marks file of session S: a set for each instruction."""
-        table = b"S370COV1" + (1).to_bytes(2, "big") + b"M       " + (0x100000).to_bytes(4, "big")
+    def marks_file(self, *sets: int, name: str = "S", runs: int = 1, version: int = 2) -> bytes:
+        """The marks file of a session over module M: a set for each instruction."""
+        head = b"S370COV1" if version == 1 else b"S370COV2" + name.ljust(8).encode() + runs.to_bytes(4, "big")
+        table = head + (1).to_bytes(2, "big") + b"M       " + (0x100000).to_bytes(4, "big")
         table += len(self.text()).to_bytes(4, "big") + len(self.code).to_bytes(4, "big")
         for (at, digits, operation), it in zip(self.code, sets):
             code = bytes.fromhex(digits)

@@ -7,12 +7,13 @@ from dataclasses import replace
 
 from harness import COVERAGE, PROGRAM, TOP, Case, equal, run, well
 from jobs import COUNTED, FIRST, FIRST_REPORT, FIRST_RESULT, TASK, Program, Result
+from trial import summary
 
 USAGE = b"USAGE: run | marks NAME | trial NUMBER TASKS | table | replay | combine | show NAME\n"
 PRIVATE_END = 0xFFFFFC
 OTHER_COUNT = Program.of("0 4620F000 BCT, 4 07FE BR")
-# Of the program that counts: what it shows where its count ends at once, where it is spent as it goes on, and both.
-FELL, WENT, BOTH = COUNTED.marks_file(4, 1), COUNTED.marks_file(2, 0), COUNTED.marks_file(6, 1)
+# Of the program that counts: what it shows where its count ends at once, where it is spent as it goes on, and the two runs together.
+FELL, WENT, BOTH = COUNTED.marks_file(4, 1), COUNTED.marks_file(2, 0), COUNTED.marks_file(6, 1, runs=2)
 
 
 def runs(name: str, program: Program, task: str, result: Result, marks: str, possible: int, *ranges: str) -> Case:
@@ -132,7 +133,7 @@ def commands() -> list[Case]:
 def marks_files() -> list[Case]:
     """marks, combine and show: the file of a run, the union of several, the listings that it marks, and what is refused."""
     ends, goes_on = COUNTED.job(task("REG 1 00000001")), COUNTED.job(task("REG 1 00000002", "TASK A 100000 16 1 0\n"))
-    digits = "53333730434F5631 0001 4D20202020202020 00100000 00000006 00000002 00000000 04 01 4610 04 00000004 02 00 07FE 01"
+    digits = "53333730434F5632 5320202020202020 00000001 0001 4D20202020202020 00100000 00000006 00000002 00000000 04 01 4610 04 00000004 02 00 07FE 01"
     file, other = bytes.fromhex(digits), OTHER_COUNT.marks_file(4, 1)
     both = COUNTED.shown("&:", 3)
     mismatch = COUNTED.job(listing=[it.replace("F000", "F004") for it in COUNTED.listing()])
@@ -143,7 +144,12 @@ def marks_files() -> list[Case]:
         Case("marks of another input", ["marks", "S"], goes_on, WENT),
         Case("combine", ["combine"], file + WENT, BOTH),
         Case("combine in the other order", ["combine"], WENT + file, BOTH),
+        Case("combine of a file of version 1", ["combine"], COUNTED.marks_file(4, 1, version=1) + file, COUNTED.marks_file(4, 1, name="", runs=2)),
+        Case("combine of another session's file", ["combine"], COUNTED.marks_file(2, 0, name="T", runs=7) + file, COUNTED.marks_file(6, 1, name="T", runs=8)),
+        Case("combine of the most runs", ["combine"], COUNTED.marks_file(4, 1, runs=0xFFFFFFFF) + file, COUNTED.marks_file(4, 1, runs=0xFFFFFFFF)),
         Case("show", ["show", "S"], ends + BOTH, both),
+        Case("show of a file of version 1", ["show", "S"], ends + COUNTED.marks_file(6, 1, version=1), both),
+        Case("show of another session's file", ["show", "S"], ends + COUNTED.marks_file(6, 1, name="X", runs=9), both),
         Case("show of one file", ["show", "S"], ends + WENT, COUNTED.shown(">^", 3, "000004-000005")),
         Case("marks by the script", ["marks", "S"], ends, file, command=COVERAGE),
         Case("combine by the script", ["combine"], file + WENT, BOTH, command=COVERAGE),
@@ -158,16 +164,36 @@ def marks_files() -> list[Case]:
         Case("show of a listing that doesn't match, and no file", ["show", "S"], mismatch,
              b"MISMATCH M LINE 2 LOC 000000 LISTING 4610F004 MODULE 4610F000\n", 3),
         Case("no file behind the job of show", ["show", "S"], ends, offset % 0, 10),
-        Case("a byte past the file of show", ["show", "S"], ends + other + b"\n", offset % 48, 10),
+        Case("a byte past the file of show", ["show", "S"], ends + other + b"\n", offset % 60, 10),
         Case("another table behind the job of show", ["show", "S"], ends + other, row, 11),
         Case("combine of nothing", ["combine"], b"", offset % 0, 10),
-        Case("combine of a file that is cut", ["combine"], file[:-1], offset % 47, 10),
-        Case("combine of a second file that is cut", ["combine"], file + file[:-1], offset % 95, 10),
+        Case("combine of a file that is cut", ["combine"], file[:-1], offset % 59, 10),
+        Case("combine of a second file that is cut", ["combine"], file + file[:-1], offset % 119, 10),
         Case("combine of another table", ["combine"], file + other + file[:-1], row, 11),
         Case("the most bytes of combine", ["combine"], b"\n" * 16_777_216, offset % 0, 10),
         Case("INPUT, of combine", ["combine"], b"\n" * 16_777_217, b"TOO LARGE INPUT\n", 4),
         Case("INPUT, of marks", ["marks", "X"], ends + bytes(16_777_216), b"TOO LARGE INPUT\n", 4),
         Case("INPUT, of show", ["show", "S"], ends + bytes(16_777_216), b"TOO LARGE INPUT\n", 4),
+    ]
+
+
+def trials() -> list[Case]:
+    """trial: what a model of the generated job comes to, and the words that are none."""
+    eight = summary(7, 8)
+    usage = [
+        ["trial"], ["trial", "7"], ["trial", "7", "8", "9"], ["trials", "7", "8"], ["trial", "8", "7", ""],
+        ["trial", "7", "0"], ["trial", "7", "65"], ["trial", "7", "08"], ["trial", "7", "+8"], ["trial", "7", "8 "], ["trial", "7", ""],
+        ["trial", "07", "8"], ["trial", "00", "8"], ["trial", "-1", "8"], ["trial", "4294967296", "8"], ["trial", "S", "8"],
+    ]
+    return [
+        Case("trial", ["trial", "7", "8"], b"", eight),
+        Case("trial once more, and bytes that are left", ["trial", "7", "8"], b"no job\n", eight),
+        Case("trial of number 0", ["trial", "0", "1"], b"", summary(0, 1)),
+        Case("trial of the last number", ["trial", "4294967295", "2"], b"", summary(4294967295, 2)),
+        Case("trial, nothing read", ["trial", "0", "1"], b"", summary(0, 1), redirect="</"),
+        Case("trial by the script", ["trial", "7", "8"], b"", eight, command=COVERAGE),
+        Case("a full output, of trial", ["trial", "0", "1"], b"", b"", 6, redirect=">/dev/full"),
+        *[Case(" ".join(["no words of trial:", *it]), it, b"", USAGE, 1) for it in usage],
     ]
 
 
@@ -288,4 +314,4 @@ CHECKS = [broken_pipe, two_runs]
 
 def cases() -> list[Case]:
     """All of the program's."""
-    return [*instructions(), *endings(), *commands(), *marks_files(), *refusals(), *streams()]
+    return [*instructions(), *endings(), *commands(), *marks_files(), *trials(), *refusals(), *streams()]

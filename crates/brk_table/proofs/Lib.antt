@@ -10,3 +10,4 @@ pub mod OwnPlaces
 pub mod Together
 pub mod OneTable
 pub mod FarPlaces
+pub mod NumberLemmas

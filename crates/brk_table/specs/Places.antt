@@ -1,5 +1,5 @@
 -- The places of all modules, and the memory that a task sees over them.
-use Rattle.std.specs.Prelude.{◌≡◌, ◌≢◌, ◌⊎◌, ℕ, ◌+◌, ◌-◌, ◌*◌, ◌%◌, ◌<◌, ◌≤◌, Bool, true, ◌&&◌, ◌||◌, ◌==◌, nat_le, nat_lt, nat_eq, if◌then◌else◌, Option, None, option_map, IfSome, List, [], ◌∷◌, ◌++◌, length, slice_index, get_or, All, AllPairs}
+use Rattle.std.specs.Prelude.{◌≡◌, ◌≢◌, ◌⊎◌, ℕ, zero, suc, ◌+◌, ◌-◌, ◌*◌, ◌%◌, ◌<◌, ◌≤◌, Bool, true, ◌&&◌, ◌||◌, ◌==◌, nat_le, nat_lt, nat_eq, if◌then◌else◌, Option, Some, None, option_map, IfSome, List, [], ◌∷◌, ◌++◌, length, slice_index, get_or, All, AllPairs}
 use Rattle.std.specs.List.{list_any}
 use Rattle.cov_base.specs.Codes.{breakpoint, kind_of, length_of}
 use Rattle.cov_base.specs.Memory.{Memory, ImageView, can_reach, half_at}
@@ -30,6 +30,11 @@ first_place (t ∷ ts) m = if nat_eq t.«module» m then 0 else length t.places 
 abbrev pub place_count : List TableView → ℕ → ℕ
 place_count [] m = 0
 place_count (t ∷ ts) m = if nat_eq t.«module» m then length t.places else place_count ts m
+
+-- the index that a number stands for, which is one more; 0 stands for none
+abbrev pub place_numbered : ℕ → Option ℕ
+place_numbered zero = None
+place_numbered (suc k) = Some k
 
 -- what is entered for line k of a listing, counted from 1; there is no line 0
 abbrev pub entry_of_line : List (Option ℕ) → ℕ → Option ℕ

@@ -9,7 +9,7 @@ use crate::faults::BuildFault;
 use crate::places::place_lines;
 use crate::tables::Table;
 use cov_base::INPUT_LIMIT;
-use listing_reader::Line;
+use listing_reader::Listing;
 use module_area::Image;
 use std::alloc::Global;
 
@@ -21,7 +21,7 @@ use std::alloc::Global;
 pub fn build(
     alloc: Global,
     module: u32,
-    lines: &[Line],
+    lines: &Listing,
     image: &Image,
     room: u32,
 ) -> Result<Table, BuildFault>

@@ -8,7 +8,7 @@ ghost use Rattle.brk_table.specs.Cover.{is_covered, is_inside, IsCover};
 use crate::cover::{is_covered, mark};
 use crate::faults::BuildFault;
 use cov_base::{Addr, BREAKPOINT, INPUT_LIMIT};
-use listing_reader::Line;
+use listing_reader::{Line, Listing};
 use s370_decode::Code;
 
 fn module_byte(bytes: &[u8], loc: usize, len: u8, i: u8) -> u8
@@ -83,7 +83,7 @@ pub fn fault_by(
 /// has it.
 pub fn first_fault(
     bytes: &[u8],
-    lines: &[Line],
+    lines: &Listing,
     room: u32,
     cover: &mut [Option<u32>],
 ) -> Option<BuildFault>
@@ -98,11 +98,11 @@ pub fn first_fault(
 {
     let mut before: u32 = 0;
     for i in 0..lines.len() {
-        if let Line::Code { loc, bytes: code } = &lines[i] {
-            if let Some(fault) = fault_by(bytes, room, cover, before, i as u32 + 1, *loc, code) {
+        if let Line::Code { loc, bytes: code } = lines.line(i) {
+            if let Some(fault) = fault_by(bytes, room, cover, before, i as u32 + 1, loc, &code) {
                 return Some(fault);
             }
-            mark(cover, *loc as usize, code.len as usize, i as u32);
+            mark(cover, loc as usize, code.len as usize, i as u32);
             before += 1;
         }
     }

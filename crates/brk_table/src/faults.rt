@@ -1,5 +1,6 @@
 //! Why a listing makes no table over its module.
 
+use cov_base::NoMemory as Shortage;
 use s370_decode::Code;
 use std::alloc::{AllocError, AllocFailed};
 
@@ -54,6 +55,17 @@ impl<T: Drop> From<AllocFailed<T>> for BuildFault {
     ghost from_gives = { λ _ e. e ≡ NoMemory };
 
     fn from(_: AllocFailed<T>) -> Self {
+        BuildFault::NoMemory
+    }
+}
+
+impl From<Shortage> for BuildFault {
+    ghost use Rattle.std.specs.Prelude.{◌≡◌};
+    ghost use Rattle.brk_table.specs.declared.faults.BuildFault.TheVariants.{NoMemory};
+
+    ghost from_gives = { λ _ e. e ≡ NoMemory };
+
+    fn from(_: Shortage) -> Self {
         BuildFault::NoMemory
     }
 }

@@ -5,6 +5,7 @@ mod builder;
 mod cover;
 mod fault;
 mod faults;
+mod line_places;
 mod map;
 mod places;
 mod tables;
@@ -13,4 +14,5 @@ mod tests;
 
 pub use builder::build;
 pub use faults::BuildFault;
+pub use line_places::LinePlaces;
 pub use tables::{Table, Tables};

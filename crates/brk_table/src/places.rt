@@ -8,9 +8,10 @@ ghost use Rattle.brk_table.specs.Build.{place_from, is_code, IsTable};
 ghost use Rattle.brk_table.specs.Cover.{is_inside, IsCover, IsTabled, OnlyAt};
 
 use crate::faults::BuildFault;
+use crate::line_places::LinePlaces;
 use crate::tables::Table;
 use cov_base::{Addr, INPUT_LIMIT};
-use listing_reader::Line;
+use listing_reader::{Line, Listing};
 use module_area::Place;
 use s370_decode::{Code, kind};
 use std::alloc::Global;
@@ -30,12 +31,12 @@ fn place_from(module: u32, base: Addr, loc: u32, code: &Code) -> Place
 }
 
 /// Whether the line's instruction begins there.
-fn begins<'a>(line: &'a Line, at: u32) -> Option<&'a Code>
-    ensures code { IfSome result (λ c. line.now ≡ says.Code at c.now) }
-    ensures none { IsNone result → (c : Instruction) → line.now ≡ says.Code at c → ⊥ }
+fn begins(line: Line, at: u32) -> Option<Code>
+    ensures code { IfSome result (λ c. line ≡ says.Code at c) }
+    ensures none { IsNone result → (c : Instruction) → line ≡ says.Code at c → ⊥ }
 {
     match line {
-        Line::Code { loc, bytes } => { if *loc == at { Some(bytes) } else { None } }
+        Line::Code { loc, bytes } => { if loc == at { Some(bytes) } else { None } }
         Line::Text => None,
     }
 }
@@ -45,7 +46,7 @@ pub fn place_lines(
     alloc: Global,
     module: u32,
     base: Addr,
-    lines: &[Line],
+    lines: &Listing,
     cover: &[Option<u32>],
 ) -> Result<Table, BuildFault>
     requires cover { IsCover lines.now cover.now }
@@ -58,7 +59,7 @@ pub fn place_lines(
     ensures fault { IfErr result (λ e. e ≡ BuildFault.NoMemory) }
 {
     let mut places = Vec::new(alloc);
-    let mut entries: Vec<Option<u32>> = vec![in alloc; None; lines.len()]?;
+    let mut entries = LinePlaces::none(alloc, lines.len())?;
     for at in 0..cover.len() {
         if let Some(i) = cover[at] {
             place_line(
@@ -83,22 +84,22 @@ pub fn place_lines(
 fn place_line(
     module: u32,
     base: Addr,
-    lines: &[Line],
+    lines: &Listing,
     i: usize,
     at: u32,
     places: &mut Vec<Place>,
-    entries: &mut Vec<Option<u32>>,
+    entries: &mut LinePlaces,
 ) -> Result<(), BuildFault>
     requires line { i < length lines.now }
     requires only { OnlyAt lines.now at i }
     requires place { base + at < 16777216 }
-    requires tabled { IsTabled «module» base lines.now at places.old.items entries.old.items }
-    ensures tabled { OnOk result (IsTabled «module» base lines.now (at + 1) places.new.items entries.new.items) }
+    requires tabled { IsTabled «module» base lines.now at places.old.items entries.old }
+    ensures tabled { OnOk result (IsTabled «module» base lines.now (at + 1) places.new.items entries.new) }
     ensures fault { IfErr result (λ e. e ≡ BuildFault.NoMemory) }
 {
-    if let Some(code) = begins(&lines[i], at) {
-        entries[i] = Some(places.len() as u32);
-        places.push(place_from(module, base, at, code))?;
+    if let Some(code) = begins(lines.line(i), at) {
+        entries.set(i, places.len() as u32);
+        places.push(place_from(module, base, at, &code))?;
     }
     Ok(())
 }

@@ -6,6 +6,7 @@ ghost use Rattle.std.specs.Prelude.{◌+◌, nat_eq, option_map};
 ghost use Rattle.brk_table.specs.Places.{HasItsPlaces, HasRisingPlaces, first_place, place_count, entry_of_line, place_at_line};
 ghost use Rattle.cov_base.specs.declared.numbers.PlaceNo.{PlaceNo as Number};
 
+use crate::line_places::LinePlaces;
 use crate::map::{enter_all, entry_at};
 use cov_base::{Addr, NoMemory, PlaceNo};
 use module_area::Place;
@@ -18,7 +19,7 @@ use std::marker::Model;
 pub struct Table {
     pub module: u32,
     pub places: Vec<Place>,
-    pub lines: Vec<Option<u32>>,
+    pub lines: LinePlaces,
 }
 
 impl Model for Table {
@@ -26,7 +27,7 @@ impl Model for Table {
 
     ghost Value = { TableView };
 
-    ghost view = { λ t. record { «module» = t.«module»; places = t.places.items; lines = t.lines.items } };
+    ghost view = { λ t. record { «module» = t.«module»; places = t.places.items; lines = t.lines } };
 }
 
 /// The tables of the monitored modules, whose places are numbered module by module.
@@ -84,7 +85,7 @@ impl Table {
         if line == 0 || line as usize > self.lines.len() {
             return None;
         }
-        match self.lines[line as usize - 1] {
+        match self.lines.get(line as usize - 1) {
             Some(i) => Some(PlaceNo(first as u32 + i)),
             None => None,
         }

@@ -4,6 +4,8 @@ use Rattle.std.proofs.lemmas.List.{length-append, take_all, take_at, drop_at}
 use Rattle.cov_outside.specs.Writes.{Writes}
 use Rattle.module_area.specs.declared.places.Place.{Place}
 use Rattle.brk_table.specs.Places.{TablesView, all_places}
+use Rattle.cov_base.specs.FactSet.{FactSet}
+use Rattle.session_book.specs.Results.{ResultView}
 use Rattle.session_book.specs.JobView.{JobView}
 use Rattle.job_text.specs.Limits.{IsWithin}
 use Rattle.job_text.specs.Refusals.{IsRead, IsOnly, IsBadAt, IsRefusal}
@@ -25,7 +27,7 @@ use Rattle.job_run.specs.declared.outcome.Done.{Done}
 use Rattle.coverage_program.specs.declared.tables.Refused.{Refused}
 use Rattle.coverage_program.specs.declared.tables.Refused.TheVariants.{Told, NoMemory}
 use Rattle.coverage_program.specs.declared.words.Command.{Command}
-use Rattle.coverage_program.specs.declared.words.Command.TheVariants.{Run, Marks, Table, Replay, Combine, Show, Unknown}
+use Rattle.coverage_program.specs.declared.words.Command.TheVariants.{Run, Marks, Trial, Table, Replay, Combine, Show, Unknown}
 use Rattle.job_run.specs.Outcomes.{IsOutcome}
 use Rattle.coverage_program.specs.Named.{HasNamed}
 use Rattle.coverage_program.specs.Refusals.{RefusalView, job_refusal, Match}
@@ -51,9 +53,9 @@ are_sets j tables tasks sets o = record {
 pub are_results : (j : JobView) (places : List Place) (tasks : List Done) (sets : SetsView) → IsOutcome j places tasks sets → AreResultsOf j (length tasks) (λ t. results_of tasks t)
 are_results j places tasks sets o = record { count = o.count; sizes = o.filled }
 
-pub reports : (j : JobView) (tables : TablesView) (before after : Account) (tasks : List Done) (sets : SetsView) (l : HasLeft j tables.places before after sets.finals) → IsOutcome j tables.places tasks sets →
-    Reports j tables l.ran.sets (report_of j tables (λ t. results_of tasks t) (λ s p. set_in sets s p))
-reports j tables before after tasks sets l o = record {
+pub reports : (j : JobView) (tables : TablesView) (before after : Account) (tasks : List Done) (sets : SetsView) (form : (ℕ → ResultView) → (ℕ → ℕ → FactSet) → List ℕ) (l : HasLeft j tables.places before after sets.finals) → IsOutcome j tables.places tasks sets →
+    Reports j tables l.ran.sets form (form (λ t. results_of tasks t) (λ s p. set_in sets s p))
+reports j tables before after tasks sets form l o = record {
   results = λ t. results_of tasks t;
   sets = λ s p. set_in sets s p;
   are_results = o.are_results;
@@ -69,7 +71,7 @@ written_as text (Ok v) answer w good bad = inl (good, w.whole, w.cause.later)
 written_as text (Err e) answer w good bad = inr (bad, w.some, w.cause.failed)
 
 pub reported : (s : SourceChange) (j : JobView) (tables : TablesView) (a : AreasChange) (k : SinkChange) (answer : ℕ) (text : List ℕ) →
-    CameJob false s j → Match j tables.tables → tables.places ≡ all_places tables.tables → (run : HasRun j tables.places a.before a.after) → Reports j tables run.sets text → IsWritten 0 text k answer →
+    CameJob false s j → Match j tables.tables → tables.places ≡ all_places tables.tables → (run : HasRun j tables.places a.before a.after) → Reports j tables run.sets (report_of j tables) text → IsWritten 0 text k answer →
     Answers Run s a k answer
 reported s j tables a k answer text came match' numbered ran reps told = record {
   status = 0;
@@ -83,7 +85,7 @@ pub wanting_to_run : (s : SourceChange) (j : JobView) (tables : TablesView) (a :
 wanting_to_run s j tables a k answer came match' numbered told = record {
   status = 7;
   text = no_memory_line;
-  cause = NoMemoryToRun (refl, refl, refl) (record { job = j; tables = tables; came = record { came = came; match = match'; numbered = numbered }; named = tt });
+  cause = NoMemoryToRun (refl, refl, refl) (record { job = j; tables = tables; reads = refl; came = record { came = came; match = match'; numbered = numbered }; named = tt });
   told = told;
 }
 
@@ -186,6 +188,7 @@ unplayed_wanting s a k answer told = record { status = 7; text = no_memory_line;
 pub alike : (c : Command) → makes_areas c ≡ false → without_areas c ≡ c
 alike Run h = absurd cc
 alike (Marks name) h = absurd cc
+alike (Trial number tasks) h = absurd cc
 alike Table h = refl
 alike Replay h = refl
 alike Combine h = refl

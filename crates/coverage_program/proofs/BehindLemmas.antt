@@ -13,9 +13,9 @@ use Rattle.brk_table.specs.Places.{TableView, TablesView, first_place, place_cou
 use Rattle.job_text.specs.Lines.{LineView, lines_of, put_on}
 use Rattle.job_text.specs.Spells.{Spells}
 use Rattle.job_text.proofs.Spelled.{one_first}
-use Rattle.marks_file.specs.Marks.{MarkedView}
+use Rattle.marks_file.specs.Marks.{MarkedView, MarksView}
 use Rattle.marks_file.specs.MarksFile.{file_bytes, rows}
-use Rattle.marks_file.proofs.FileLemmas.{file_found, one_spelling}
+use Rattle.marks_file.proofs.FileLemmas.{file_found, one_modules as one_content, no_prefix}
 use Rattle.session_book.specs.JobView.{JobView}
 use Rattle.session_book.specs.Sessions.{session_of}
 use Rattle.session_marks.specs.Marked.{marked_module, session_marks, session_rows}
@@ -23,14 +23,14 @@ use Rattle.session_marks.proofs.SessionLemmas.{own_same}
 use Rattle.table_combine.specs.Combine.{Difference, first_difference}
 use Rattle.table_combine.specs.Files.{IsCombined, IsBad, IsOtherTable}
 use Rattle.table_combine.proofs.AnswerLemmas.{one_answer}
-use Rattle.coverage_program.specs.Answers.{IsStopped, BadJob, LargeJob, NoSession, BadListing, LargeInput, ReadFault, WantOfMemory, IsCause, Report, Recorded, Places, Replayed, BadSchedule, United, BadFile, OtherFile, Shown, BadShown, OtherShown, Usage, Stopped, NoMemoryToRun}
+use Rattle.coverage_program.specs.Answers.{IsStopped, BadJob, LargeJob, NoSession, BadListing, LargeInput, ReadFault, WantOfMemory, IsCause, Report, Recorded, Places, Replayed, BadSchedule, United, BadFile, OtherFile, Shown, BadShown, OtherShown, Usage, Stopped, NoMemoryToRun, Tried, NoMemoryToTry}
 use Rattle.coverage_program.specs.Changes.{SourceChange, AreasChange}
 use Rattle.coverage_program.specs.Complete.{StandsBehind, bytes_of}
 use Rattle.coverage_program.specs.Files.{HasRest, IsFile, IsNoFile}
 use Rattle.coverage_program.specs.Inputs.{input_limit}
 use Rattle.coverage_program.specs.Named.{session_number}
 use Rattle.coverage_program.specs.Refusals.{AreTablesFrom, Match}
-use Rattle.coverage_program.specs.Words.{reads_job, takes_more, session_named, makes_areas}
+use Rattle.coverage_program.specs.Words.{reads_job, takes_more, session_named, makes_areas, makes_job}
 use Rattle.coverage_program.specs.declared.words.Command.{Command}
 use Rattle.coverage_program.specs.declared.words.Command.TheVariants.{Run, Marks, Table, Replay, Combine, Show, Unknown}
 use Rattle.coverage_program.proofs.OneTables.{one_of, one_places}
@@ -39,7 +39,7 @@ use Rattle.coverage_program.proofs.StopLemmas.{came_is, not_both, not_more, too_
 -- ---- files alone
 
 pub data IsCombining (b : List ℕ) (status : ℕ) : Type 0 where
-  Whole : (m : List MarkedView) → IsCombined b m → status ≡ 0 → IsCombining b status
+  Whole : (m : MarksView) → IsCombined b m → status ≡ 0 → IsCombining b status
   Broken : (o : ℕ) → IsBad b o → status ≡ 10 → IsCombining b status
   Strange : (d : Difference) → IsOtherTable b d → status ≡ 11 → IsCombining b status
   Lacking : status ≡ 7 → IsCombining b status
@@ -69,8 +69,10 @@ files_outcome c s a status text b (Usage p k) same e l quiet = let x : Unknown �
 files_outcome c s a status text b (Stopped p q k) same e l quiet =
     Lacking (files_stop (takes_more c) (session_named c) s status text b (subst (λ (d : Command). IsStopped (reads_job d) (takes_more c) (session_named c) s status text) same q) e l quiet)
 files_outcome c s a status text b (NoMemoryToRun p q) same e l quiet = absurd (not_both (makes_areas c) p.1 (ap makes_areas same))
+files_outcome c s a status text b (Tried number tasks p q) same e l quiet = absurd (not_both (makes_job c) (ap makes_job p.1) (ap makes_job same))
+files_outcome c s a status text b (NoMemoryToTry p q) same e l quiet = absurd (not_both (makes_job c) p.1 (ap makes_job same))
 
-pub united_case : (b : List ℕ) (status : ℕ) (m : List MarkedView) → IsCombining b status → IsCombined b m → (status ≡ 0) ⊎ (status ≡ 7)
+pub united_case : (b : List ℕ) (status : ℕ) (m : MarksView) → IsCombining b status → IsCombined b m → (status ≡ 0) ⊎ (status ≡ 7)
 united_case b status m (Whole n i z) is = inl z
 united_case b status m (Broken o i z) is = absurd ((one_answer b).combined_or_bad m o is i)
 united_case b status m (Strange d i z) is = absurd ((one_answer b).combined_or_other m d is i)
@@ -103,6 +105,8 @@ large_files c s a status text b (OtherShown name p q k) same e l quiet = let x :
 large_files c s a status text b (Usage p k) same e l quiet = let x : Unknown ≡ Combine = sym p.1 ∙ same in absurd cc
 large_files c s a status text b (Stopped p q k) same e l quiet = large_stop (reads_job c) (takes_more c) (session_named c) s status text b q e l quiet
 large_files c s a status text b (NoMemoryToRun p q) same e l quiet = absurd (not_both (makes_areas c) p.1 (ap makes_areas same))
+large_files c s a status text b (Tried number tasks p q) same e l quiet = absurd (not_both (makes_job c) (ap makes_job p.1) (ap makes_job same))
+large_files c s a status text b (NoMemoryToTry p q) same e l quiet = absurd (not_both (makes_job c) p.1 (ap makes_job same))
 
 -- ---- a file behind a job
 
@@ -199,31 +203,35 @@ show_outcome c name s a status text b j tables number rest (BadShown n p q k) sa
 show_outcome c name s a status text b j tables number rest (OtherShown n p q k) same h e quiet =
     let i = one_rest name n s b j q.job tables q.tables number q.number rest q.rest (one_name c n name p.1 same) e q.has h in
     let table : session_rows q.job q.tables q.number ≡ session_rows j tables number = ap rows (i.marks (λ x. no_facts)) in
-    OfOther q.marks q.difference (subst (λ (r : List ℕ). IsFile r q.marks) i.rests q.file) (subst (λ (t : List (List ℕ)). first_difference 0 t (rows q.marks) ≡ Some q.difference) table q.differs) p.0
+    OfOther q.modules q.difference (subst (λ (r : List ℕ). IsFile r q.modules) i.rests q.file) (subst (λ (t : List (List ℕ)). first_difference 0 t (rows q.modules) ≡ Some q.difference) table q.differs) p.0
 show_outcome c name s a status text b j tables number rest (Usage p k) same h e quiet = let x : Unknown ≡ Show name = sym p.1 ∙ same in absurd cc
 show_outcome c name s a status text b j tables number rest (Stopped p q k) same h e quiet =
     let stop : IsStopped true true (Some name) s status text = subst (λ (d : Command). IsStopped (reads_job d) (takes_more d) (session_named d) s status text) same q in
     Wanting (matched_stop true (Some name) s status text b j stop e h.few h.has (subst IsSome (sym h.is_number) refl) h.match.faultless quiet).0
 show_outcome c name s a status text b j tables number rest (NoMemoryToRun p q) same h e quiet = absurd (not_both (makes_areas c) p.1 (ap makes_areas same))
+show_outcome c name s a status text b j tables number rest (Tried n tasks p q) same h e quiet = absurd (not_both (makes_job c) (ap makes_job p.1) (ap makes_job same))
+show_outcome c name s a status text b j tables number rest (NoMemoryToTry p q) same h e quiet = absurd (not_both (makes_job c) p.1 (ap makes_job same))
+
+begins_with : (rest : List ℕ) (m : List MarkedView) (f : IsFile rest m) → StartsWith rest (file_bytes f.version f.marks)
+begins_with rest m f = subst (λ (t : List ℕ). StartsWith t (file_bytes f.version f.marks)) (sym f.is) (take-length (file_bytes f.version f.marks))
 
 one_file : (rest : List ℕ) (m n : List MarkedView) → IsFile rest m → IsFile rest n → m ≡ n
 one_file rest m n f g =
-    let same : file_bytes m ≡ file_bytes n = sym f.is ∙ g.is in
-    let begins : StartsWith (file_bytes m) (file_bytes n) = subst (λ (t : List ℕ). StartsWith t (file_bytes n)) (sym same) (take-length (file_bytes n)) in
-    one_spelling m n f.rules g.rules begins
+    let begins : StartsWith (file_bytes f.version f.marks) (file_bytes g.version g.marks) = subst (λ (t : List ℕ). StartsWith t (file_bytes g.version g.marks)) f.is (begins_with rest n g) in
+    sym f.are ∙ (one_content f.version g.version f.marks g.marks f.rules g.rules begins ∙ g.are)
 
 -- a file is no bytes that are none
 file_or_none : (rest : List ℕ) (m : List MarkedView) (o : ℕ) → IsFile rest m → IsNoFile rest o → ⊥
 file_or_none rest m o f (inl bad) =
-    let begins : StartsWith rest (file_bytes m) = subst (λ (t : List ℕ). StartsWith t (file_bytes m)) (sym f.is) (take-length (file_bytes m)) in
-    let clash : None ≡ Some o = sym (file_found 0 m rest f.rules begins).good ∙ bad in
+    let clash : None ≡ Some o = sym (file_found f.version 0 f.marks rest f.rules (begins_with rest m f)).good ∙ bad in
     absurd cc
 file_or_none rest m o f (inr past) =
-    let whole : file_bytes m ≡ file_bytes past.marks ++ past.more = sym f.is ∙ past.is in
-    let begins : StartsWith (file_bytes m) (file_bytes past.marks) = subst (λ (t : List ℕ). StartsWith t (file_bytes past.marks)) (sym whole) (take-append_seam (file_bytes past.marks) past.more) in
-    let same : m ≡ past.marks = one_spelling m past.marks f.rules past.rules begins in
-    let size : length (file_bytes past.marks) ≡ length (file_bytes past.marks ++ past.more) = ap (λ (x : List MarkedView). length (file_bytes x)) (sym same) ∙ ap length whole in
-    past.some (nil_from_length past.more (omega (arith, size, length-append (file_bytes past.marks) past.more)))
+    let text : List ℕ = file_bytes past.version past.marks in
+    let whole : file_bytes f.version f.marks ≡ text ++ past.more = sym f.is ∙ past.is in
+    let begins : StartsWith (file_bytes f.version f.marks) text = subst (λ (t : List ℕ). StartsWith t text) (sym whole) (take-append_seam text past.more) in
+    let same : file_bytes f.version f.marks ≡ text = no_prefix f.version past.version f.marks past.marks f.rules past.rules begins in
+    let size : length text ≡ length (text ++ past.more) = ap length (sym same ∙ whole) in
+    past.some (nil_from_length past.more (omega (arith, size, length-append text past.more)))
 
 no_difference : (j : JobView) (tables : TablesView) (number : ℕ) (rest : List ℕ) (sets : ℕ → FactSet) (m : List MarkedView) (d : Difference) → IsFile rest (session_marks j tables sets number) → IsFile rest m → first_difference 0 (session_rows j tables number) (rows m) ≡ Some d → ⊥
 no_difference j tables number rest sets m d f g differs =

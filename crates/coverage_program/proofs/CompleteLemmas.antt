@@ -8,13 +8,13 @@ use Rattle.job_text.specs.Refusals.{IsBadAt, IsOverAt}
 use Rattle.job_text.specs.Spells.{Spells}
 use Rattle.job_text.specs.declared.limit.Limit.{Limit}
 use Rattle.job_text.proofs.Spelled.{one_first}
-use Rattle.coverage_program.specs.Answers.{HasPlay, IsStopped, IsCause, Report, Recorded, Places, Replayed, BadSchedule, United, BadFile, OtherFile, Shown, BadShown, OtherShown, Usage, Stopped, NoMemoryToRun, Answers}
+use Rattle.coverage_program.specs.Answers.{HasPlay, IsStopped, IsCause, Report, Recorded, Places, Replayed, BadSchedule, United, BadFile, OtherFile, Shown, BadShown, OtherShown, Usage, Stopped, NoMemoryToRun, Tried, NoMemoryToTry, Answers}
 use Rattle.coverage_program.specs.Inputs.{HasJob, CameJob, input_limit}
 use Rattle.coverage_program.specs.Changes.{SourceChange, SinkChange, AreasChange}
 use Rattle.coverage_program.specs.Complete.{IsAnswer, IsComplete}
 use Rattle.coverage_program.specs.Complete as wanted
 use Rattle.coverage_program.specs.declared.words.Command.{Command}
-use Rattle.coverage_program.specs.declared.words.Command.TheVariants.{Run, Marks, Table, Replay, Combine, Show, Unknown}
+use Rattle.coverage_program.specs.declared.words.Command.TheVariants.{Run, Marks, Trial, Table, Replay, Combine, Show, Unknown}
 use Rattle.module_area.specs.declared.places.Place.{Place}
 use Rattle.brk_table.specs.Places.{TablesView, all_places}
 use Rattle.coverage_program.specs.Named.{HasNamed, session_number}
@@ -22,10 +22,11 @@ use Rattle.coverage_program.specs.Refusals.{RefusalView, job_refusal, Match}
 use Rattle.coverage_program.specs.Replay.{Play, Bad, Whole, play_of, play_status}
 use Rattle.coverage_program.proofs.OneTables.{one_places}
 use Rattle.job_run.specs.Runs.{Account}
-use Rattle.coverage_program.specs.Words.{reads_input, reads_job, takes_more, makes_areas, session_named}
+use Rattle.coverage_program.specs.Words.{reads_input, reads_job, takes_more, makes_areas, makes_job, session_named}
 use Rattle.coverage_program.proofs.StopLemmas.{came_is, same_job, not_both, not_named, matched_stop, refused_stop, never_came, bad_stop, never_large, over_stop, too_many, large_stop, missing_stop, HasNone}
 use Rattle.coverage_program.proofs.BehindLemmas.{large_files, files_outcome, united_case, bad_files_case, other_files_case, show_outcome, shown_case, bad_shown_case, other_shown_case}
 use Rattle.coverage_program.specs.Files.{HasRest}
+use Rattle.coverage_program.proofs.TrialLemmas.{IsMade, Summed, Lacking, made}
 
 -- A command that reads a job answers of one whose listings match and which has the session that was named, or why there is
 -- none. What stands behind it may be refused.
@@ -66,6 +67,8 @@ outcome c s a status text (OtherShown name p q k) r = shown_done c name s status
 outcome c s a status text (Usage p k) r = absurd (not_both (reads_job c) r (ap reads_job p.1))
 outcome c s a status text (Stopped p q k) r = None' (subst (λ (b : Bool). IsStopped b (takes_more c) (session_named c) s status text) r q)
 outcome c s a status text (NoMemoryToRun p q) r = Wanting p.0
+outcome c s a status text (Tried number tasks p q) r = absurd (not_both (reads_job c) r (ap reads_job p.1))
+outcome c s a status text (NoMemoryToTry p q) r = Wanting p.0
 
 matched_case : (name : Option (List ℕ)) (s : SourceChange) (status : ℕ) (text b : List ℕ) (j : JobView) → IsOutcome false name s status text → s.left ≡ Some b → length b ≤ input_limit → HasJob false (lines_of b) j → HasNamed name j → job_refusal j ≡ None → (Rose s.faults s.later → ⊥) → (status ≡ 0) ⊎ (status ≡ 7)
 matched_case name s status text b j (Done k p came h f) e l has named none quiet = elim p [ inl h ↦ inl h | inr h ↦ absurd (not_both false h refl) ]
@@ -110,6 +113,8 @@ replayed_case c s a status text b j tables has (Stopped p q k) r =
     let stop : IsStopped true true None s status text = subst (λ (d : Command). IsStopped (reads_job d) (takes_more d) (session_named d) s status text) r.0 q in
     inr (matched_stop true None s status text b j stop r.1 r.2 has tt r.3.faultless r.5).0
 replayed_case c s a status text b j tables has (NoMemoryToRun p q) r = inr p.0
+replayed_case c s a status text b j tables has (Tried number tasks p q) r = let x : Trial number tasks ≡ Replay = sym p.1 ∙ r.0 in absurd cc
+replayed_case c s a status text b j tables has (NoMemoryToTry p q) r = inr p.0
 
 refused_case : (more : Bool) (name : Option (List ℕ)) (s : SourceChange) (status : ℕ) (text b : List ℕ) (j : JobView) (r : RefusalView) → IsOutcome more name s status text → s.left ≡ Some b → length b ≤ input_limit → HasJob more (lines_of b) j → HasNamed name j → job_refusal j ≡ Some r → (Rose s.faults s.later → ⊥) →
     (status ≡ r.status) ⊎ (status ≡ 7)
@@ -155,11 +160,14 @@ usage_case c s a status text (OtherShown name p q k) u = let e : Show name ≡ U
 usage_case c s a status text (Usage p k) u = p.0
 usage_case c s a status text (Stopped p q k) u = absurd (not_both (reads_input c) p (ap reads_input u))
 usage_case c s a status text (NoMemoryToRun p q) u = absurd (not_both (makes_areas c) p.1 (ap makes_areas u))
+usage_case c s a status text (Tried number tasks p q) u = let e : Trial number tasks ≡ Unknown = sym p.1 ∙ u in absurd cc
+usage_case c s a status text (NoMemoryToTry p q) u = absurd (not_both (makes_job c) p.1 (ap makes_job u))
 
 -- a command that reads its input reads a job, or files alone
 reads_all : (c : Command) → reads_input c ≡ true → (reads_job c ≡ true) ⊎ (c ≡ Combine)
 reads_all Run t = inl refl
 reads_all (Marks name) t = inl refl
+reads_all (Trial number tasks) t = absurd cc
 reads_all Table t = inl refl
 reads_all Replay t = inl refl
 reads_all Combine t = inr refl
@@ -209,6 +217,14 @@ status_of c s a status text b n cause e (wanted.OtherShown name j tables number 
 status_of c s a status text b n cause e (wanted.Replayed j tables has r l match' numbered i) quiet =
     joined status n (play_status (play_of j tables.places has.count (drop has.count (lines_of b)))) i (replayed_case c s a status text b j tables has cause (r, e, l, match', numbered, quiet))
 
+-- a generated job is tried, or memory was wanting
+pub made_status : (c : Command) (s : SourceChange) (a : AreasChange) (status : ℕ) (text : List ℕ) → IsCause c s a status text → makes_job c ≡ true → (status ≡ 0) ⊎ (status ≡ 7)
+made_status c s a status text cause m = by_made (made c s a status text cause m)
+  where
+    by_made : IsMade c s a status text → (status ≡ 0) ⊎ (status ≡ 7)
+    by_made (Summed e is) = inl e
+    by_made (Lacking e is) = inr e
+
 -- the answer is the cause's status where the sink counted no fault
 told_status : (c : Command) (s : SourceChange) (a : AreasChange) (k : SinkChange) (answer : ℕ) (x : Answers c s a k answer) → (Rose k.faults k.later → ⊥) → answer ≡ x.status
 told_status c s a k answer x quiet = elim x.told [ inl h ↦ h.0 | inr h ↦ absurd (quiet h.2) ]
@@ -219,6 +235,7 @@ either answer status m n e (inr h) = inr (e ∙ h)
 
 pub complete : (c : Command) (s : SourceChange) (a : AreasChange) (k : SinkChange) (answer : ℕ) → Answers c s a k answer → IsComplete c s k answer
 complete c s a k answer x = record {
+  tried = λ m quiet. either answer x.status 0 7 (told_status c s a k answer x quiet) (made_status c s a x.status x.text x.cause m);
   usage = λ u quiet. told_status c s a k answer x quiet ∙ usage_case c s a x.status x.text x.cause u;
   answers = λ b n e w calm quiet. either answer x.status n 7 (told_status c s a k answer x quiet) (status_of c s a x.status x.text b n x.cause e w calm);
 }

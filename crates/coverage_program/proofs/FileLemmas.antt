@@ -1,11 +1,12 @@
 -- What the program answers of marks files, cause by cause.
 use Rattle.std.proofs.Common.{◌≡◌, inr, ℕ, ◌+◌, ◌<◌, ◌≤◌, true, false, Some, List, ◌++◌, length, drop, refl, sym, ap, ◌∙◌, subst, arith}
 use Rattle.std.specs.Io.{StartsWith}
-use Rattle.std.proofs.lemmas.List.{take-append-drop, length-drop}
+use Rattle.std.proofs.lemmas.List.{take-append-drop, length-drop, take_all}
 use Rattle.brk_table.specs.Places.{TablesView, all_places}
 use Rattle.cov_base.specs.FactSet.{FactSet}
-use Rattle.marks_file.specs.Marks.{MarkedView, are_marks}
-use Rattle.marks_file.specs.MarksFile.{file_bytes, rows}
+use Rattle.marks_file.specs.Marks.{MarkedView, MarksView, keeps_rules}
+use Rattle.marks_file.specs.MarksFile.{file_bytes, HasFile, rows}
+use Rattle.marks_file.specs.declared.version.Version.TheVariants.{Second}
 use Rattle.table_combine.specs.Combine.{Difference, first_difference, difference_of}
 use Rattle.table_combine.specs.Files.{IsCombined, IsOtherTable, IsCombineFault}
 use Rattle.table_combine.specs.declared.files.CombineFault.{CombineFault}
@@ -17,7 +18,7 @@ use Rattle.job_run.specs.Runs.{Account, HasRun, HasLeft}
 use Rattle.job_run.specs.Sets.{SetsView, set_in}
 use Rattle.job_run.specs.declared.outcome.Done.{Done}
 use Rattle.job_run.proofs.SessionLemmas.{set_is_left}
-use Rattle.session_marks.specs.Marked.{session_marks, session_rows}
+use Rattle.session_marks.specs.Marked.{session_marks, session_file, session_rows}
 use Rattle.coverage_program.specs.declared.words.Command.TheVariants.{Marks, Combine, Show}
 use Rattle.coverage_program.specs.Answers.{WantOfMemory, Recorded, United, BadFile, OtherFile, Shown, BadShown, OtherShown, Stopped, IsWritten, Answers}
 use Rattle.coverage_program.specs.Changes.{SourceChange, SinkChange, AreasChange, no_change}
@@ -29,11 +30,11 @@ use Rattle.coverage_program.specs.Reports.{Records}
 use Rattle.coverage_program.specs.Words.{no_memory_line, bad_marks_line, other_table_line}
 
 -- files that were united, and files that weren't
-pub united : (s : SourceChange) (bytes : List ℕ) (marks : List MarkedView) (a : Account) (k : SinkChange) (answer : ℕ) →
-    CameWhole s bytes → IsCombined bytes marks → IsWritten 0 (file_bytes marks) k answer → Answers Combine s (no_change a) k answer
+pub united : (s : SourceChange) (bytes : List ℕ) (marks : MarksView) (a : Account) (k : SinkChange) (answer : ℕ) →
+    CameWhole s bytes → IsCombined bytes marks → IsWritten 0 (file_bytes Second marks) k answer → Answers Combine s (no_change a) k answer
 united s bytes marks a k answer came combined told = record {
   status = 0;
-  text = file_bytes marks;
+  text = file_bytes Second marks;
   cause = United (refl, refl) (record { bytes = bytes; marks = marks; came = came; combined = combined; is_text = refl }) refl;
   told = told;
 }
@@ -71,17 +72,33 @@ told_as status line bytes r k answer is same told =
     subst (λ (v : RefusalView). IsWritten v.status v.line k answer) is (subst (λ (b : List ℕ). IsWritten status b k answer) same told)
 
 -- more bytes stand behind a file
-pub past : (rest : List ℕ) (marks : List MarkedView) (offset : ℕ) → are_marks marks ≡ true → StartsWith rest (file_bytes marks) → offset ≡ 0 + length (file_bytes marks) → offset < length rest → IsNoFile rest offset
-past rest marks offset rules starts ends more =
-    let n : ℕ = length (file_bytes marks) in
+pub past : (rest : List ℕ) (marks : MarksView) (offset : ℕ) → keeps_rules marks ≡ true → HasFile 0 rest marks offset → offset < length rest → IsNoFile rest offset
+past rest marks offset rules file more =
+    let text : List ℕ = file_bytes file.version marks in
+    let n : ℕ = length text in
     inr (record {
+      version = file.version;
       marks = marks;
       more = drop n rest;
       rules = rules;
-      is = sym (ap (λ (b : List ℕ). b ++ drop n rest) (sym starts) ∙ take-append-drop n rest);
-      some = λ none. absurd (omega (arith, ends, more, length-drop n rest, ap length none));
-      ends = omega (arith, ends);
+      tells = file.tells;
+      is = sym (ap (λ (b : List ℕ). b ++ drop n rest) (sym file.starts) ∙ take-append-drop n rest);
+      some = λ none. absurd (omega (arith, file.ends, more, length-drop n rest, ap length none));
+      ends = omega (arith, file.ends);
     })
+
+-- none do
+pub alone : (rest : List ℕ) (marks : MarksView) (offset : ℕ) → keeps_rules marks ≡ true → HasFile 0 rest marks offset → length rest ≤ offset → IsFile rest marks.modules
+alone rest marks offset rules file less =
+    let text : List ℕ = file_bytes file.version marks in
+    record {
+      version = file.version;
+      marks = marks;
+      rules = rules;
+      tells = file.tells;
+      are = refl;
+      is = sym (sym file.starts ∙ take_all (length text) rest (omega (arith, less, file.ends)));
+    }
 
 -- what stands behind the job, where the session of the name has this number
 pub has_rest : (name : List ℕ) (s : SourceChange) (j : JobView) (tables : TablesView) (number : ℕ) (rest bytes : List ℕ) (count end : ℕ) →
@@ -121,7 +138,7 @@ other_shown : (name : List ℕ) (s : SourceChange) (j : JobView) (tables : Table
 other_shown name s j tables number rest marks d a k answer has file differs told = record {
   status = 11;
   text = other_table_line d;
-  cause = OtherShown name (refl, refl) (record { job = j; tables = tables; number = number; rest = rest; marks = marks; difference = d; has = has; file = file; differs = differs; told = refl }) refl;
+  cause = OtherShown name (refl, refl) (record { job = j; tables = tables; number = number; rest = rest; modules = marks; difference = d; has = has; file = file; differs = differs; told = refl }) refl;
   told = told;
 }
 
@@ -139,13 +156,13 @@ unshown name s j tables number rest r a k answer has (NoFile (Wanting is)) told 
 unshown name s j tables number rest r a k answer has (Other marks d file differs is) told = other_shown name s j tables number rest marks d a k answer has file differs (retold r (refusal 11 (other_table_line d)) k answer is told)
 
 -- the marks of a run
-pub records : (j : JobView) (tables : TablesView) (before after : Account) (tasks : List Done) (sets : SetsView) (s : ℕ) (marks : List MarkedView) (l : HasLeft j tables.places before after sets.finals) → IsOutcome j tables.places tasks sets → 0 < s → s ≤ length j.sessions →
-    marks ≡ session_marks j tables (λ p. set_in sets s p) s → Records j tables l.ran.sets s (file_bytes marks)
+pub records : (j : JobView) (tables : TablesView) (before after : Account) (tasks : List Done) (sets : SetsView) (s : ℕ) (marks : MarksView) (l : HasLeft j tables.places before after sets.finals) → IsOutcome j tables.places tasks sets → 0 < s → s ≤ length j.sessions →
+    marks ≡ session_file j tables (λ p. set_in sets s p) s → Records j tables l.ran.sets s (file_bytes Second marks)
 records j tables before after tasks sets s marks l o from to is = record {
   sets = λ p. set_in sets s p;
   are_sets = λ p here seen. o.are_sets s p from to here seen;
   are_final = λ p here. set_is_left solo j tables.places before after sets s p l o.job o.size here;
-  is_text = ap file_bytes is;
+  is_text = ap (file_bytes Second) is;
 }
 
 pub recorded : (name : List ℕ) (s : SourceChange) (j : JobView) (tables : TablesView) (number : ℕ) (a : AreasChange) (k : SinkChange) (answer : ℕ) (text : List ℕ) →

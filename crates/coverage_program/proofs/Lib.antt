@@ -9,3 +9,5 @@ pub mod UntouchedLemmas
 pub mod RunLemmas
 pub mod StopLemmas
 pub mod BehindLemmas
+pub mod TrialLemmas
+pub mod NumberLemmas

@@ -13,17 +13,19 @@ use Rattle.brk_table.specs.declared.faults.BuildFault.TheVariants as fault
 use Rattle.brk_table.specs.Places.{TablesView}
 use Rattle.session_book.specs.JobView.{JobView}
 use Rattle.job_text.specs.Lines.{lines_of}
-use Rattle.coverage_program.specs.Answers.{IsStopped, IsReady, IsCause, Report, Recorded, Places, Replayed, BadSchedule, United, BadFile, OtherFile, Shown, BadShown, OtherShown, Usage, Stopped, NoMemoryToRun, Answers}
-use Rattle.coverage_program.specs.Inputs.{HasJob, CameMatched, input_limit}
+use Rattle.coverage_program.specs.Answers.{IsStopped, IsReady, IsCause, Report, Recorded, Places, Replayed, BadSchedule, United, BadFile, OtherFile, Shown, BadShown, OtherShown, Usage, Stopped, NoMemoryToRun, Tried, NoMemoryToTry, Answers}
+use Rattle.coverage_program.specs.Inputs.{CameJob, HasJob, CameMatched, input_limit}
 use Rattle.coverage_program.specs.Changes.{SourceChange, SinkChange, AreasChange}
 use Rattle.coverage_program.specs.Complete.{IsAnswer}
 use Rattle.coverage_program.specs.Complete as wanted
-use Rattle.coverage_program.specs.Untouched.{IsUntouched, IsRunText, HasReport, IsCut, IsReportCut}
+use Rattle.coverage_program.specs.Untouched.{IsUntouched, IsRunText, HasReport, HasText, Read, Made, IsCut, IsReportCut}
 use Rattle.coverage_program.specs.declared.words.Command.{Command}
-use Rattle.coverage_program.specs.declared.words.Command.TheVariants.{Run, Marks, Table, Replay, Combine, Show, Unknown}
+use Rattle.coverage_program.specs.declared.words.Command.TheVariants.{Run, Marks, Trial, Table, Replay, Combine, Show, Unknown}
 use Rattle.coverage_program.specs.Refusals.{RefusalView, list_refusal, build_refusal, refusal_by, refusal_from, or_refusal, places_in, job_refusal}
-use Rattle.coverage_program.specs.Words.{reads_job, takes_more, makes_areas, session_named, no_memory_line}
-use Rattle.coverage_program.proofs.CompleteLemmas.{status_of}
+use Rattle.coverage_program.specs.Words.{reads_job, takes_more, makes_areas, makes_job, session_named, no_memory_line}
+use Rattle.coverage_program.proofs.CompleteLemmas.{status_of, made_status}
+use Rattle.coverage_program.proofs.TrialLemmas.{made_areas, made_jobless, never_answered, IsMade, Summed, Lacking, made}
+use Rattle.coverage_program.specs.Trial.{IsUnread}
 use Rattle.coverage_program.proofs.StopLemmas.{same_job, not_both, never_came, never_large, too_many, not_named, matched_stop}
 use Rattle.coverage_program.specs.Named.{HasNamed}
 use Rattle.std.specs.Prelude.{IsSome}
@@ -74,21 +76,27 @@ never_zero j r e = subst IsTold e (told_from 65536 j.images j.listings)
 
 -- ---- the areas
 
-ready_run : (c d : Command) (s : SourceChange) (j : JobView) (tables : TablesView) → c ≡ d → takes_more d ≡ false → HasNamed (session_named d) j → CameMatched false s j tables → IsReady c s
-ready_run c d s j tables e more named came = record {
+ready_run : (c d : Command) (s : SourceChange) (j : JobView) (tables : TablesView) → c ≡ d → reads_job d ≡ true → takes_more d ≡ false → HasNamed (session_named d) j → CameMatched false s j tables → IsReady c s
+ready_run c d s j tables e reads more named came = record {
   job = j;
   tables = tables;
+  reads = ap reads_job e ∙ reads;
   came = subst (λ (m : Bool). CameMatched m s j tables) (sym (ap takes_more e ∙ more)) came;
   named = subst (λ (x : Command). HasNamed (session_named x) j) (sym e) named;
 }
 
--- the areas are as they were, or a job whose listings match has been run or was to be
+-- a job whose listings match has been run or was to be: one that came, or a generated one
+data HasTasks (c : Command) (s : SourceChange) : Type 0 where
+  Came : makes_areas c ≡ true → IsReady c s → HasTasks c s
+  Generated : makes_job c ≡ true → IsUnread s → HasTasks c s
+
+-- or the areas are as they were
 abbrev Touched : Command → SourceChange → AreasChange → ℕ → Type 0
-Touched c s a status = (a.after ≡ a.before) ⊎ ((makes_areas c ≡ true) × IsReady c s × ((status ≡ 0) ⊎ (status ≡ 7)))
+Touched c s a status = (a.after ≡ a.before) ⊎ (HasTasks c s × ((status ≡ 0) ⊎ (status ≡ 7)))
 
 touched : (c : Command) (s : SourceChange) (a : AreasChange) (status : ℕ) (text : List ℕ) → IsCause c s a status text → Touched c s a status
-touched c s a status text (Report p q) = inr (ap makes_areas p.1, ready_run c Run s q.job q.tables p.1 refl tt q.came, inl p.0)
-touched c s a status text (Recorded name p q) = inr (ap makes_areas p.1, ready_run c (Marks name) s q.job q.tables p.1 refl (subst IsSome (sym q.is_number) refl) q.came, inl p.0)
+touched c s a status text (Report p q) = inr (Came (ap makes_areas p.1) (ready_run c Run s q.job q.tables p.1 refl refl tt q.came), inl p.0)
+touched c s a status text (Recorded name p q) = inr (Came (ap makes_areas p.1) (ready_run c (Marks name) s q.job q.tables p.1 refl refl (subst IsSome (sym q.is_number) refl) q.came), inl p.0)
 touched c s a status text (Places p q k) = inl k
 touched c s a status text (Replayed p q k) = inl k
 touched c s a status text (BadSchedule p q k) = inl k
@@ -100,7 +108,9 @@ touched c s a status text (BadShown name p q k) = inl k
 touched c s a status text (OtherShown name p q k) = inl k
 touched c s a status text (Usage p k) = inl k
 touched c s a status text (Stopped p q k) = inl k
-touched c s a status text (NoMemoryToRun p q) = inr (p.1, q, inr p.0)
+touched c s a status text (NoMemoryToRun p q) = inr (Came p.1 q, inr p.0)
+touched c s a status text (Tried number tasks p q) = inr (Generated (ap makes_job p.1) q.unread, inl p.0)
+touched c s a status text (NoMemoryToTry p q) = inr (Generated p.1 q, inr p.0)
 
 -- the words and bytes of such a job have a report
 reported : (c : Command) (s : SourceChange) (b : List ℕ) (n : ℕ) → makes_areas c ≡ true → IsReady c s → s.left ≡ Some b → IsAnswer c b n → n ≡ 0
@@ -128,36 +138,53 @@ same_where c s a k answer x zero' six seven = elim x.told [
   | inr h ↦ absurd (six h.0)
   | inl h ↦ elim (touched c s a x.status x.text x.cause) [
     | inl same ↦ same
-    | inr t ↦ elim t.2 [ inl n ↦ absurd (zero' (h.0 ∙ n)) | inr n ↦ absurd (seven (h.0 ∙ n)) ]
+    | inr t ↦ elim t.1 [ inl n ↦ absurd (zero' (h.0 ∙ n)) | inr n ↦ absurd (seven (h.0 ∙ n)) ]
   ]
 ]
 
-or_else : (c : Command) (s : SourceChange) (a : AreasChange) (status : ℕ) → Touched c s a status → (makes_areas c ≡ true → IsReady c s → ⊥) → a.after ≡ a.before
+or_else : (c : Command) (s : SourceChange) (a : AreasChange) (status : ℕ) → Touched c s a status → (HasTasks c s → ⊥) → a.after ≡ a.before
 or_else c s a status (inl same) never = same
-or_else c s a status (inr t) never = absurd (never t.0 t.1)
+or_else c s a status (inr t) never = absurd (never t.0)
+
+no_areas : (c : Command) (s : SourceChange) → HasTasks c s → makes_areas c ≡ false → ⊥
+no_areas c s (Came m r) f = not_both (makes_areas c) m f
+no_areas c s (Generated m u) f = not_both (makes_areas c) (made_areas c m) f
+
+no_source_fault : (c : Command) (s : SourceChange) → HasTasks c s → s.later ≢ s.faults → ⊥
+no_source_fault c s (Came m r) d = d r.came.came.came.no_fault
+no_source_fault c s (Generated m u) d = d u.1
+
+no_match : (c : Command) (s : SourceChange) → HasTasks c s → reads_job c ≡ true → ((j : JobView) → CameJob (takes_more c) s j → HasNamed (session_named c) j → job_refusal j ≡ None → ⊥) → ⊥
+no_match c s (Came m r) reads none = none r.job r.came.came r.named r.came.match.faultless
+no_match c s (Generated m u) reads none = not_both (reads_job c) reads (made_jobless c m)
+
+no_report : (c : Command) (s : SourceChange) (b : List ℕ) (n : ℕ) → HasTasks c s → s.left ≡ Some b → IsAnswer c b n → n ≢ 0 → ⊥
+no_report c s b n (Came m r) e w d = d (reported c s b n m r e w)
+no_report c s b n (Generated m u) e w d = never_answered c b n m w
 
 pub untouched : (c : Command) (s : SourceChange) (a : AreasChange) (k : SinkChange) (answer : ℕ) → Answers c s a k answer → IsUntouched c s a answer
 untouched c s a k answer x =
     let t : Touched c s a x.status = touched c s a x.status x.text x.cause in
     record {
-      others = λ f. or_else c s a x.status t (λ m r. not_both (makes_areas c) m f);
+      others = λ f. or_else c s a x.status t (λ h. no_areas c s h f);
       refused = same_where c s a k answer x;
-      failed = λ d. or_else c s a x.status t (λ m r. d r.came.came.came.no_fault);
-      unmatched = λ none. or_else c s a x.status t (λ m r. none r.job r.came.came r.named r.came.match.faultless);
-      unreported = λ b n e w d. or_else c s a x.status t (λ m r. d (reported c s b n m r e w));
+      failed = λ d. or_else c s a x.status t (λ h. no_source_fault c s h d);
+      unmatched = λ reads none. or_else c s a x.status t (λ h. no_match c s h reads none);
+      unreported = λ b n e w d. or_else c s a x.status t (λ h. no_report c s b n h e w d);
     }
 
 -- ---- a report that wasn't written whole
 
--- a command that runs tasks takes one job and no more
-runs_alone : (c : Command) → makes_areas c ≡ true → (reads_job c ≡ true) × (takes_more c ≡ false)
-runs_alone Run m = (refl, refl)
-runs_alone (Marks name) m = (refl, refl)
-runs_alone Table m = absurd cc
-runs_alone Replay m = absurd cc
-runs_alone Combine m = absurd cc
-runs_alone (Show name) m = absurd cc
-runs_alone Unknown m = absurd cc
+-- a command that runs the tasks of a job that comes takes one job and no more
+runs_alone : (c : Command) → makes_areas c ≡ true → makes_job c ≡ false → (reads_job c ≡ true) × (takes_more c ≡ false)
+runs_alone Run m n = (refl, refl)
+runs_alone (Marks name) m n = (refl, refl)
+runs_alone (Trial number tasks) m n = absurd cc
+runs_alone Table m n = absurd cc
+runs_alone Replay m n = absurd cc
+runs_alone Combine m n = absurd cc
+runs_alone (Show name) m n = absurd cc
+runs_alone Unknown m n = absurd cc
 
 -- the words and bytes of a run that has a report
 record HasJobToRun (c : Command) (b : List ℕ) : Type 0 where
@@ -171,24 +198,32 @@ run_named : (c : Command) (j : JobView) → makes_areas c ≡ true → (c ≡ Ru
 run_named c j m (inl e) = subst (λ (x : Command). HasNamed (session_named x) j) (sym e) tt
 run_named c j m (inr e) = absurd (not_both (makes_areas c) m (ap makes_areas e))
 
-has_job : (c : Command) (b : List ℕ) → makes_areas c ≡ true → IsAnswer c b 0 → HasJobToRun c b
-has_job c b m (wanted.Usage u i) = absurd cc
-has_job c b m (wanted.LargeInput t l i) = absurd cc
-has_job c b m (wanted.BadJob n t l bad none i) = absurd cc
-has_job c b m (wanted.LargeJob what n t l over i) = absurd cc
-has_job c b m (wanted.NoSession j name t l has named none i) = absurd cc
-has_job c b m (wanted.BadListing j r t l has named some i) = absurd (never_zero j r some (sym i))
-has_job c b m (wanted.Matched j t l has none i) =
-    record { job = j; few = l; has = subst (λ (x : Bool). HasJob x (lines_of b) j) (sym (runs_alone c m).1) has; named = run_named c j m t; faultless = none }
-has_job c b m (wanted.Recorded j name e l has some none i) =
-    record { job = j; few = l; has = subst (λ (x : Bool). HasJob x (lines_of b) j) (sym (runs_alone c m).1) has; named = subst (λ (x : Command). HasNamed (session_named x) j) (sym e) some; faultless = none }
-has_job c b m (wanted.United marks x l is i) = absurd (not_both (makes_areas c) m (ap makes_areas x))
-has_job c b m (wanted.BadFile offset x l is i) = absurd cc
-has_job c b m (wanted.OtherFile d x l is i) = absurd cc
-has_job c b m (wanted.Shown name j tables number rest sets x h file i) = absurd (not_both (makes_areas c) m (ap makes_areas x))
-has_job c b m (wanted.BadShown name j tables number rest offset x h bad i) = absurd cc
-has_job c b m (wanted.OtherShown name j tables number rest marks d x h file differs i) = absurd cc
-has_job c b m (wanted.Replayed j tables has x l match' numbered i) = absurd (not_both (makes_areas c) m (ap makes_areas x))
+-- what is answered of bytes isn't `trial`
+not_made : (c : Command) (b : List ℕ) (n : ℕ) → IsAnswer c b n → makes_job c ≡ false
+not_made c b n w = by_test (makes_job c) refl
+  where
+    by_test : (q : Bool) → makes_job c ≡ q → makes_job c ≡ false
+    by_test true e = absurd (never_answered c b n e w)
+    by_test false e = e
+
+has_job : (c : Command) (b : List ℕ) → makes_areas c ≡ true → makes_job c ≡ false → IsAnswer c b 0 → HasJobToRun c b
+has_job c b m g (wanted.Usage u i) = absurd cc
+has_job c b m g (wanted.LargeInput t l i) = absurd cc
+has_job c b m g (wanted.BadJob n t l bad none i) = absurd cc
+has_job c b m g (wanted.LargeJob what n t l over i) = absurd cc
+has_job c b m g (wanted.NoSession j name t l has named none i) = absurd cc
+has_job c b m g (wanted.BadListing j r t l has named some i) = absurd (never_zero j r some (sym i))
+has_job c b m g (wanted.Matched j t l has none i) =
+    record { job = j; few = l; has = subst (λ (x : Bool). HasJob x (lines_of b) j) (sym (runs_alone c m g).1) has; named = run_named c j m t; faultless = none }
+has_job c b m g (wanted.Recorded j name e l has some none i) =
+    record { job = j; few = l; has = subst (λ (x : Bool). HasJob x (lines_of b) j) (sym (runs_alone c m g).1) has; named = subst (λ (x : Command). HasNamed (session_named x) j) (sym e) some; faultless = none }
+has_job c b m g (wanted.United marks x l is i) = absurd (not_both (makes_areas c) m (ap makes_areas x))
+has_job c b m g (wanted.BadFile offset x l is i) = absurd cc
+has_job c b m g (wanted.OtherFile d x l is i) = absurd cc
+has_job c b m g (wanted.Shown name j tables number rest sets x h file i) = absurd (not_both (makes_areas c) m (ap makes_areas x))
+has_job c b m g (wanted.BadShown name j tables number rest offset x h bad i) = absurd cc
+has_job c b m g (wanted.OtherShown name j tables number rest marks d x h file differs i) = absurd cc
+has_job c b m g (wanted.Replayed j tables has x l match' numbered i) = absurd (not_both (makes_areas c) m (ap makes_areas x))
 
 text_by : (c d : Command) (s : SourceChange) (a : AreasChange) (text : List ℕ) → c ≡ d → IsRunText d s a text → IsRunText c s a text
 text_by c d s a text e h = subst (λ (x : Command). IsRunText x s a text) (sym e) h
@@ -208,23 +243,40 @@ cut_text c s a status text b m (BadShown name p q k) e w quiet = absurd (not_bot
 cut_text c s a status text b m (OtherShown name p q k) e w quiet = absurd (not_both (makes_areas c) m (ap makes_areas p.1))
 cut_text c s a status text b m (Usage p k) e w quiet = absurd (not_both (makes_areas c) m (ap makes_areas p.1))
 cut_text c s a status text b m (Stopped p q k) e w quiet =
-    let h : HasJobToRun c b = has_job c b m w in
-    let stop : IsStopped true (takes_more c) (session_named c) s status text = subst (λ (x : Bool). IsStopped x (takes_more c) (session_named c) s status text) (runs_alone c m).0 q in
+    let h : HasJobToRun c b = has_job c b m (not_made c b 0 w) w in
+    let stop : IsStopped true (takes_more c) (session_named c) s status text = subst (λ (x : Bool). IsStopped x (takes_more c) (session_named c) s status text) (runs_alone c m (not_made c b 0 w)).0 q in
     inr (matched_stop (takes_more c) (session_named c) s status text b h.job stop e h.few h.has h.named h.faultless quiet).1
 cut_text c s a status text b m (NoMemoryToRun p q) e w quiet = inr p.2
+cut_text c s a status text b m (Tried number tasks p q) e w quiet = inl (text_by c (Trial number tasks) s a text p.1 q)
+cut_text c s a status text b m (NoMemoryToTry p q) e w quiet = inr p.2
+
+made_text : (c : Command) (s : SourceChange) (a : AreasChange) (status : ℕ) (text : List ℕ) → IsMade c s a status text → IsRunText c s a text ⊎ (text ≡ no_memory_line)
+made_text c s a status text (Summed e is) = inl is
+made_text c s a status text (Lacking e is) = inr is
+
+-- the cause of an answer whose text there is
+record IsCutText (c : Command) (s : SourceChange) (a : AreasChange) (status : ℕ) (text : List ℕ) : Type 0 where
+  number : (status ≡ 0) ⊎ (status ≡ 7)
+  is : IsRunText c s a text ⊎ (text ≡ no_memory_line)
+
+cut_of : (c : Command) (s : SourceChange) (a : AreasChange) (status : ℕ) (text : List ℕ) → makes_areas c ≡ true → IsCause c s a status text → HasText c s → IsCutText c s a status text
+cut_of c s a status text m cause (Read bytes left w quiet) = record { number = status_of c s a status text bytes 0 cause left w quiet; is = cut_text c s a status text bytes m cause left w quiet }
+cut_of c s a status text m cause (Made g) = record { number = made_status c s a status text cause g; is = made_text c s a status text (made c s a status text cause g) }
 
 six : (n : ℕ) → 6 ≡ n → (n ≡ 0) ⊎ (n ≡ 7) → ⊥
 six n e (inl h) = let x : 6 ≡ 0 = e ∙ h in absurd cc
 six n e (inr h) = let x : 6 ≡ 7 = e ∙ h in absurd cc
 
 report_cut : (c : Command) (s : SourceChange) (a : AreasChange) (k : SinkChange) (answer : ℕ) → makes_areas c ≡ true → Answers c s a k answer → IsCut c s answer → HasReport c s a k ⊎ AppendsSome k.written k.grown no_memory_line
-report_cut c s a k answer m x cut = elim x.told [
-  | inl h ↦ absurd (six x.status (sym cut.failed ∙ h.0) (status_of c s a x.status x.text cut.bytes 0 x.cause cut.left cut.reported cut.quiet))
-  | inr h ↦ elim (cut_text c s a x.status x.text cut.bytes m x.cause cut.left cut.reported cut.quiet) [
-    | inl r ↦ inl (record { text = x.text; is = r; some = h.1 })
-    | inr e ↦ inr (subst (λ (t : List ℕ). AppendsSome k.written k.grown t) e h.1)
-  ]
-]
+report_cut c s a k answer m x cut =
+    let t : IsCutText c s a x.status x.text = cut_of c s a x.status x.text m x.cause cut.reported in
+    elim x.told [
+      | inl h ↦ absurd (six x.status (sym cut.failed ∙ h.0) t.number)
+      | inr h ↦ elim t.is [
+        | inl r ↦ inl (record { text = x.text; is = r; some = h.1 })
+        | inr e ↦ inr (subst (λ (t : List ℕ). AppendsSome k.written k.grown t) e h.1)
+      ]
+    ]
 
 but_not : {A B : Type 0} → A ⊎ B → (B → ⊥) → A
 but_not (inl a) never = a

@@ -11,10 +11,11 @@ use Rattle.job_text.specs.declared.limit.Limit.{Limit}
 use Rattle.job_text.specs.Lines.{lines_of}
 use Rattle.job_text.specs.Refusals.{IsBadAt, IsOverAt}
 use Rattle.interleave_core.specs.World.{Parts}
+use Rattle.report_text.specs.Report.{report_of}
 use Rattle.report_text.specs.Table.{table_text}
 use Rattle.coverage_program.specs.declared.words.Command.{Command}
 use Rattle.coverage_program.specs.declared.schedule.Played.{Played}
-use Rattle.coverage_program.specs.declared.words.Command.TheVariants.{Run, Marks, Table, Replay, Combine, Show, Unknown}
+use Rattle.coverage_program.specs.declared.words.Command.TheVariants.{Run, Marks, Trial, Table, Replay, Combine, Show, Unknown}
 use Rattle.coverage_program.specs.Files.{IsUnion, IsBadFile, IsOtherFile, IsShown, IsBadShown, IsOtherShown}
 use Rattle.coverage_program.specs.Inputs.{CameWhole, CameJob, CameFirst, CameMatched, HasJob, input_limit}
 use Rattle.coverage_program.specs.Named.{HasNamed, session_number}
@@ -23,7 +24,8 @@ use Rattle.job_run.specs.Runs.{HasRun}
 use Rattle.coverage_program.specs.Changes.{SourceChange, SinkChange, AreasChange}
 use Rattle.coverage_program.specs.Reports.{Reports, Records}
 use Rattle.coverage_program.specs.Replay.{Play, Bad, Whole, IsRun, play_of, replay_text}
-use Rattle.coverage_program.specs.Words.{reads_input, reads_job, takes_more, makes_areas, session_named, usage_line, too_large_input_line, read_fault_line, no_memory_line, bad_job_line, large_job_line, bad_schedule_line, no_session_line}
+use Rattle.coverage_program.specs.Trial.{IsUnread, IsTried}
+use Rattle.coverage_program.specs.Words.{reads_input, reads_job, takes_more, makes_areas, makes_job, session_named, usage_line, too_large_input_line, read_fault_line, no_memory_line, bad_job_line, large_job_line, bad_schedule_line, no_session_line}
 
 -- how a job that wasn't read is told
 abbrev pub fault_refusal : JobFault → RefusalView
@@ -37,7 +39,7 @@ pub record IsReport (s : SourceChange) (a : AreasChange) (text : List ℕ) : Typ
   pub tables : TablesView
   pub came : CameMatched false s job tables
   pub ran : HasRun job tables.places a.before a.after
-  pub reports : Reports job tables ran.sets text
+  pub reports : Reports job tables ran.sets (report_of job tables) text
 
 -- the marks file of the session of this name, of a job whose listings match
 pub record IsRecord (name : List ℕ) (s : SourceChange) (a : AreasChange) (text : List ℕ) : Type 0 where
@@ -133,11 +135,12 @@ pub data IsStopped (job more : Bool) (name : Option (List ℕ)) (s : SourceChang
 pub record IsReady (c : Command) (s : SourceChange) : Type 0 where
   pub job : JobView
   pub tables : TablesView
+  pub reads : reads_job c ≡ true
   pub came : CameMatched (takes_more c) s job tables
   pub named : HasNamed (session_named c) job
 
--- Why the call answers with this status and text, leaving out whether the text could be written. Nothing but a report or
--- marks file of a run, and want of memory in the run of a job whose listings match, has made an area.
+-- Why the call answers with this status and text, leaving out whether the text could be written. Nothing but a report,
+-- marks file or summary of a run, and want of memory in the run of a job whose listings match, has made an area.
 pub data IsCause (c : Command) (s : SourceChange) (a : AreasChange) (status : ℕ) (text : List ℕ) : Type 0 where
   Report : (status ≡ 0) × (c ≡ Run) → IsReport s a text → IsCause c s a status text
   Recorded : (name : List ℕ) → (status ≡ 0) × (c ≡ Marks name) → IsRecord name s a text → IsCause c s a status text
@@ -153,6 +156,8 @@ pub data IsCause (c : Command) (s : SourceChange) (a : AreasChange) (status : �
   Usage : (status ≡ 1) × (c ≡ Unknown) × (text ≡ usage_line) × (s.rest ≡ s.left) × (s.later ≡ s.faults) → a.after ≡ a.before → IsCause c s a status text
   Stopped : reads_input c ≡ true → IsStopped (reads_job c) (takes_more c) (session_named c) s status text → a.after ≡ a.before → IsCause c s a status text
   NoMemoryToRun : (status ≡ 7) × (makes_areas c ≡ true) × (text ≡ no_memory_line) → IsReady c s → IsCause c s a status text
+  Tried : (number tasks : ℕ) → (status ≡ 0) × (c ≡ Trial number tasks) → IsTried number tasks s a text → IsCause c s a status text
+  NoMemoryToTry : (status ≡ 7) × (makes_job c ≡ true) × (text ≡ no_memory_line) → IsUnread s → IsCause c s a status text
 
 -- the text was written whole, or its first bytes where the sink failed; its count of faults never falls
 abbrev pub IsWritten : ℕ → List ℕ → SinkChange → ℕ → Type 0

@@ -6,7 +6,7 @@ use Rattle.session_book.specs.JobView.{JobView}
 use Rattle.job_text.specs.declared.limit.Limit.{Limit}
 use Rattle.cov_base.specs.FactSet.{FactSet}
 use Rattle.job_text.specs.Lines.{LineView, lines_of}
-use Rattle.marks_file.specs.Marks.{MarkedView}
+use Rattle.marks_file.specs.Marks.{MarkedView, MarksView}
 use Rattle.marks_file.specs.MarksFile.{rows}
 use Rattle.session_marks.specs.Marked.{session_marks, session_rows}
 use Rattle.table_combine.specs.Combine.{Difference, first_difference}
@@ -20,7 +20,7 @@ use Rattle.coverage_program.specs.Named.{HasNamed, session_number}
 use Rattle.coverage_program.specs.Changes.{SourceChange, SinkChange}
 use Rattle.coverage_program.specs.Refusals.{RefusalView, job_refusal, Match}
 use Rattle.coverage_program.specs.Replay.{play_of, play_status}
-use Rattle.coverage_program.specs.Words.{reads_input, reads_job, takes_more, session_named}
+use Rattle.coverage_program.specs.Words.{reads_input, reads_job, makes_job, takes_more, session_named}
 
 -- the bytes of lines
 abbrev pub bytes_of : List LineView → List ℕ
@@ -36,7 +36,8 @@ pub record StandsBehind (name bytes : List ℕ) (j : JobView) (tables : TablesVi
   pub is_number : session_number j name ≡ Some number
   pub behind : rest ≡ bytes_of (drop has.count (lines_of bytes))
 
--- The status that the words and bytes have, leaving out faults of the source and the sink, and want of memory.
+-- The status that the words and bytes have, leaving out faults of the source and the sink, and want of memory. That of
+-- `trial` doesn't depend on bytes.
 pub data IsAnswer (c : Command) (bytes : List ℕ) (status : ℕ) : Type 0 where
   Usage : c ≡ Unknown → status ≡ 1 → IsAnswer c bytes status
   LargeInput : reads_input c ≡ true → input_limit < length bytes → status ≡ 4 → IsAnswer c bytes status
@@ -46,17 +47,18 @@ pub data IsAnswer (c : Command) (bytes : List ℕ) (status : ℕ) : Type 0 where
   BadListing : (j : JobView) (r : RefusalView) → reads_job c ≡ true → length bytes ≤ input_limit → HasJob (takes_more c) (lines_of bytes) j → HasNamed (session_named c) j → job_refusal j ≡ Some r → status ≡ r.status → IsAnswer c bytes status
   Matched : (j : JobView) → (c ≡ Run) ⊎ (c ≡ Table) → length bytes ≤ input_limit → HasJob false (lines_of bytes) j → job_refusal j ≡ None → status ≡ 0 → IsAnswer c bytes status
   Recorded : (j : JobView) (name : List ℕ) → c ≡ Marks name → length bytes ≤ input_limit → HasJob false (lines_of bytes) j → IsSome (session_number j name) → job_refusal j ≡ None → status ≡ 0 → IsAnswer c bytes status
-  United : (marks : List MarkedView) → c ≡ Combine → length bytes ≤ input_limit → IsCombined bytes marks → status ≡ 0 → IsAnswer c bytes status
+  United : (marks : MarksView) → c ≡ Combine → length bytes ≤ input_limit → IsCombined bytes marks → status ≡ 0 → IsAnswer c bytes status
   BadFile : (offset : ℕ) → c ≡ Combine → length bytes ≤ input_limit → IsBad bytes offset → status ≡ 10 → IsAnswer c bytes status
   OtherFile : (d : Difference) → c ≡ Combine → length bytes ≤ input_limit → IsOtherTable bytes d → status ≡ 11 → IsAnswer c bytes status
   Shown : (name : List ℕ) (j : JobView) (tables : TablesView) (number : ℕ) (rest : List ℕ) (sets : ℕ → FactSet) → c ≡ Show name → StandsBehind name bytes j tables number rest → IsFile rest (session_marks j tables sets number) → status ≡ 0 → IsAnswer c bytes status
   BadShown : (name : List ℕ) (j : JobView) (tables : TablesView) (number : ℕ) (rest : List ℕ) (offset : ℕ) → c ≡ Show name → StandsBehind name bytes j tables number rest → IsNoFile rest offset → status ≡ 10 → IsAnswer c bytes status
-  OtherShown : (name : List ℕ) (j : JobView) (tables : TablesView) (number : ℕ) (rest : List ℕ) (marks : List MarkedView) (d : Difference) → c ≡ Show name → StandsBehind name bytes j tables number rest →
-      IsFile rest marks → first_difference 0 (session_rows j tables number) (rows marks) ≡ Some d → status ≡ 11 → IsAnswer c bytes status
+  OtherShown : (name : List ℕ) (j : JobView) (tables : TablesView) (number : ℕ) (rest : List ℕ) (modules : List MarkedView) (d : Difference) → c ≡ Show name → StandsBehind name bytes j tables number rest →
+      IsFile rest modules → first_difference 0 (session_rows j tables number) (rows modules) ≡ Some d → status ≡ 11 → IsAnswer c bytes status
   Replayed : (j : JobView) (tables : TablesView) (has : HasJob true (lines_of bytes) j) → c ≡ Replay → length bytes ≤ input_limit → Match j tables.tables → tables.places ≡ all_places tables.tables →
       status ≡ play_status (play_of j tables.places has.count (drop has.count (lines_of bytes))) → IsAnswer c bytes status
 
--- where no fault of source or sink was counted, the status is that of the words and bytes, or 7
+-- where no fault of source or sink was counted, the status is that of the words and bytes, or 7; that of `trial` is 0 or 7
 pub record IsComplete (c : Command) (s : SourceChange) (k : SinkChange) (answer : ℕ) : Type 0 where
   pub usage : c ≡ Unknown → (Rose k.faults k.later → ⊥) → answer ≡ 1
+  pub tried : makes_job c ≡ true → (Rose k.faults k.later → ⊥) → (answer ≡ 0) ⊎ (answer ≡ 7)
   pub answers : (bytes : List ℕ) (status : ℕ) → s.left ≡ Some bytes → IsAnswer c bytes status → (Rose s.faults s.later → ⊥) → (Rose k.faults k.later → ⊥) → (answer ≡ status) ⊎ (answer ≡ 7)

@@ -2,9 +2,11 @@
 use Rattle.std.specs.Prelude.{◌≡◌, ◌≢◌, ◌⊎◌, ℕ, true, Some, List, [], ◌∷◌, ◌++◌, length, drop, codes}
 use Rattle.brk_table.specs.Places.{TablesView, all_places}
 use Rattle.cov_base.specs.FactSet.{FactSet}
-use Rattle.marks_file.specs.Marks.{MarkedView, are_marks}
-use Rattle.marks_file.specs.MarksFile.{file_bytes, rows}
+use Rattle.marks_file.specs.Marks.{MarkedView, MarksView, keeps_rules}
+use Rattle.marks_file.specs.MarksFile.{file_bytes, Tells, rows}
 use Rattle.marks_file.specs.Reading.{first_bad, file_fields}
+use Rattle.marks_file.specs.declared.version.Version.{Version}
+use Rattle.marks_file.specs.declared.version.Version.TheVariants.{Second}
 use Rattle.report_text.specs.Report.{session_part}
 use Rattle.report_text.specs.Text.{text_of}
 use Rattle.session_book.specs.JobView.{JobView}
@@ -22,10 +24,10 @@ use Rattle.coverage_program.specs.Words.{no_memory_line, bad_marks_line, other_t
 -- the bytes that came are files of one table, and the text is the file of their union
 pub record IsUnion (s : SourceChange) (text : List ℕ) : Type 0 where
   pub bytes : List ℕ
-  pub marks : List MarkedView
+  pub marks : MarksView
   pub came : CameWhole s bytes
   pub combined : IsCombined bytes marks
-  pub is_text : text ≡ file_bytes marks
+  pub is_text : text ≡ file_bytes Second marks
 
 -- the first bad field of the files that came
 pub record IsBadFile (s : SourceChange) (text : List ℕ) : Type 0 where
@@ -60,19 +62,25 @@ pub record HasRest (name : List ℕ) (s : SourceChange) (job : JobView) (tables 
   pub is_number : session_number job name ≡ Some number
   pub behind : rest ≡ drop end bytes
 
--- one whole marks file behind a job
-pub record IsFile (rest : List ℕ) (marks : List MarkedView) : Type 0 where
-  pub rules : are_marks marks ≡ true
-  pub is : rest ≡ file_bytes marks
+-- one whole marks file of these modules behind a job, of either version, whatever name and runs it tells
+pub record IsFile (rest : List ℕ) (modules : List MarkedView) : Type 0 where
+  pub version : Version
+  pub marks : MarksView
+  pub rules : keeps_rules marks ≡ true
+  pub tells : Tells version marks
+  pub are : marks.modules ≡ modules
+  pub is : rest ≡ file_bytes version marks
 
 -- more bytes behind one
 pub record IsPast (rest : List ℕ) (offset : ℕ) : Type 0 where
-  pub marks : List MarkedView
+  pub version : Version
+  pub marks : MarksView
   pub more : List ℕ
-  pub rules : are_marks marks ≡ true
-  pub is : rest ≡ file_bytes marks ++ more
+  pub rules : keeps_rules marks ≡ true
+  pub tells : Tells version marks
+  pub is : rest ≡ file_bytes version marks ++ more
   pub some : more ≢ []
-  pub ends : offset ≡ length (file_bytes marks)
+  pub ends : offset ≡ length (file_bytes version marks)
 
 -- the first bad field, or the first byte past the file
 abbrev pub IsNoFile : List ℕ → ℕ → Type 0
@@ -110,11 +118,11 @@ pub record IsOtherShown (name : List ℕ) (s : SourceChange) (text : List ℕ) :
   pub tables : TablesView
   pub number : ℕ
   pub rest : List ℕ
-  pub marks : List MarkedView
+  pub modules : List MarkedView
   pub difference : Difference
   pub has : HasRest name s job tables number rest
-  pub file : IsFile rest marks
-  pub differs : first_difference 0 (session_rows job tables number) (rows marks) ≡ Some difference
+  pub file : IsFile rest modules
+  pub differs : first_difference 0 (session_rows job tables number) (rows modules) ≡ Some difference
   pub told : text ≡ other_table_line difference
 
 -- why bytes are not one whole file, or want of memory
@@ -125,4 +133,4 @@ pub data IsFileRefusal (rest : List ℕ) (r : RefusalView) : Type 0 where
 -- why the bytes behind a job are no file of the session of that number, or want of memory
 pub data IsShowRefusal (j : JobView) (tables : TablesView) (number : ℕ) (rest : List ℕ) (r : RefusalView) : Type 0 where
   NoFile : IsFileRefusal rest r → IsShowRefusal j tables number rest r
-  Other : (marks : List MarkedView) (d : Difference) → IsFile rest marks → first_difference 0 (session_rows j tables number) (rows marks) ≡ Some d → r ≡ refusal 11 (other_table_line d) → IsShowRefusal j tables number rest r
+  Other : (modules : List MarkedView) (d : Difference) → IsFile rest modules → first_difference 0 (session_rows j tables number) (rows modules) ≡ Some d → r ≡ refusal 11 (other_table_line d) → IsShowRefusal j tables number rest r

@@ -10,3 +10,4 @@ pub mod Named
 pub mod Files
 pub mod Replay
 pub mod Untouched
+pub mod Trial

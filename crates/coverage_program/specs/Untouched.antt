@@ -4,29 +4,31 @@ use Rattle.cov_outside.specs.Causes.{Rose}
 use Rattle.cov_outside.specs.Whole.{AppendsSome}
 use Rattle.session_book.specs.JobView.{JobView}
 use Rattle.coverage_program.specs.declared.words.Command.{Command}
-use Rattle.coverage_program.specs.declared.words.Command.TheVariants.{Run, Marks}
+use Rattle.coverage_program.specs.declared.words.Command.TheVariants.{Run, Marks, Trial}
 use Rattle.coverage_program.specs.Answers.{IsReport, IsRecord}
 use Rattle.coverage_program.specs.Changes.{SourceChange, SinkChange, AreasChange}
 use Rattle.coverage_program.specs.Complete.{IsAnswer}
 use Rattle.coverage_program.specs.Inputs.{CameJob}
 use Rattle.coverage_program.specs.Refusals.{job_refusal}
 use Rattle.coverage_program.specs.Named.{HasNamed}
-use Rattle.coverage_program.specs.Words.{makes_areas, takes_more, session_named, no_memory_line}
+use Rattle.coverage_program.specs.Trial.{IsTried}
+use Rattle.coverage_program.specs.Words.{reads_job, makes_areas, makes_job, takes_more, session_named, no_memory_line}
 
 -- Ledger, sets and number of the areas are as they were for every command that runs no tasks, after every refusal that was
--- told, where the source has failed, and where no job came whose listings match and which has
+-- told, where the source has failed, and, of a command that reads a job, where none came whose listings match and which has
 -- the session that was named, be it told or not.
 pub record IsUntouched (c : Command) (s : SourceChange) (a : AreasChange) (answer : ℕ) : Type 0 where
   pub others : makes_areas c ≡ false → a.after ≡ a.before
   pub refused : answer ≢ 0 → answer ≢ 6 → answer ≢ 7 → a.after ≡ a.before
   pub failed : s.later ≢ s.faults → a.after ≡ a.before
-  pub unmatched : ((j : JobView) → CameJob (takes_more c) s j → HasNamed (session_named c) j → job_refusal j ≡ None → ⊥) → a.after ≡ a.before
+  pub unmatched : reads_job c ≡ true → ((j : JobView) → CameJob (takes_more c) s j → HasNamed (session_named c) j → job_refusal j ≡ None → ⊥) → a.after ≡ a.before
   pub unreported : (bytes : List ℕ) (status : ℕ) → s.left ≡ Some bytes → IsAnswer c bytes status → status ≢ 0 → a.after ≡ a.before
 
--- what a command that runs tasks writes: the report, or a session's marks file
+-- what a command that runs tasks writes: the report, a session's marks file, or the summary of a generated job
 abbrev pub IsRunText : Command → SourceChange → AreasChange → List ℕ → Type 0
 IsRunText Run s a text = IsReport s a text
 IsRunText (Marks name) s a text = IsRecord name s a text
+IsRunText (Trial number tasks) s a text = IsTried number tasks s a text
 IsRunText c s a text = ⊥
 
 -- the first bytes of it were written, and the areas are as it says
@@ -35,12 +37,14 @@ pub record HasReport (c : Command) (s : SourceChange) (a : AreasChange) (k : Sin
   pub is : IsRunText c s a text
   pub some : AppendsSome k.written k.grown text
 
--- the words and bytes have a report, no fault of the source was counted, and the sink has failed
+-- the words and bytes have a report and no fault of the source was counted; `trial` has its summary in any case
+pub data HasText (c : Command) (s : SourceChange) : Type 0 where
+  Read : (bytes : List ℕ) → s.left ≡ Some bytes → IsAnswer c bytes 0 → (Rose s.faults s.later → ⊥) → HasText c s
+  Made : makes_job c ≡ true → HasText c s
+
+-- and the sink has failed
 pub record IsCut (c : Command) (s : SourceChange) (answer : ℕ) : Type 0 where
-  pub bytes : List ℕ
-  pub left : s.left ≡ Some bytes
-  pub reported : IsAnswer c bytes 0
-  pub quiet : Rose s.faults s.later → ⊥
+  pub reported : HasText c s
   pub failed : answer ≡ 6
 
 -- what the first bytes are then of: the report, or the line of want of memory

@@ -1,10 +1,11 @@
 -- The words of a command, and the lines that a refusal is told by.
-use Rattle.std.specs.Prelude.{ℕ, Bool, true, false, if◌then◌else◌, Option, Some, None, List, [], ◌∷◌, ◌++◌, bytes_eq, codes, decimal}
+use Rattle.std.specs.Prelude.{ℕ, ◌≤◌, Bool, true, false, ◌&&◌, nat_le, nat_lt, if◌then◌else◌, Option, Some, None, List, [], ◌∷◌, ◌++◌, bytes_eq, codes, decimal}
+use Rattle.std.specs.Str.Parse.{digits_value}
 use Rattle.cov_base.specs.Names.{name_at, unpadded}
 use Rattle.job_text.specs.declared.limit.Limit.{Limit}
 use Rattle.job_text.specs.declared.limit.Limit.TheVariants as limit
 use Rattle.coverage_program.specs.declared.words.Command.{Command}
-use Rattle.coverage_program.specs.declared.words.Command.TheVariants.{Run, Marks, Table, Replay, Combine, Show, Unknown}
+use Rattle.coverage_program.specs.declared.words.Command.TheVariants.{Run, Marks, Trial, Table, Replay, Combine, Show, Unknown}
 use Rattle.report_text.specs.Text.{hex_bytes}
 use Rattle.table_combine.specs.Combine.{Difference}
 
@@ -17,17 +18,38 @@ abbrev pub command_named : List ℕ → Option (List ℕ) → Command
 command_named w None = Unknown
 command_named w (Some name) = if bytes_eq w (codes "marks") then Marks name else (if bytes_eq w (codes "show") then Show name else Unknown)
 
+-- the number that a word is the decimal of: it has no sign, and no leading zero but in 0 itself
+abbrev pub number_at : List ℕ → Option ℕ
+number_at w = if nat_lt (digits_value 10 w) 4294967296 && bytes_eq w (decimal (digits_value 10 w)) then Some (digits_value 10 w) else None
+
+-- the command of a word, a generated job's number and how many tasks it has, 1 to 64
+abbrev pub command_numbered : List ℕ → Option ℕ → Option ℕ → Command
+command_numbered w (Some number) (Some tasks) = if bytes_eq w (codes "trial") && (nat_le 1 tasks && nat_le tasks 64) then Trial number tasks else Unknown
+command_numbered w number tasks = Unknown
+
 -- the command that the words are, by how many there are
 abbrev pub command_of : List (List ℕ) → Command
 command_of (w ∷ []) = command_alone w
 command_of (w ∷ n ∷ []) = command_named w (name_at n)
+command_of (w ∷ n ∷ t ∷ []) = command_numbered w (number_at n) (number_at t)
 command_of words = Unknown
 
 -- it runs tasks
 abbrev pub makes_areas : Command → Bool
 makes_areas Run = true
 makes_areas (Marks name) = true
+makes_areas (Trial number tasks) = true
 makes_areas c = false
+
+-- it makes its job in place of reading
+abbrev pub makes_job : Command → Bool
+makes_job (Trial number tasks) = true
+makes_job c = false
+
+-- a generated job has 1 to 64 tasks
+abbrev pub HasFewTasks : Command → Type 0
+HasFewTasks (Trial number tasks) = (1 ≤ tasks) × (tasks ≤ 64)
+HasFewTasks c = Unit {0}
 
 -- as it is served without areas
 abbrev pub without_areas : Command → Command
@@ -36,12 +58,14 @@ without_areas c = if makes_areas c then Unknown else c
 -- it reads the source to its end
 abbrev pub reads_input : Command → Bool
 reads_input Unknown = false
+reads_input (Trial number tasks) = false
 reads_input c = true
 
 -- its input has a job
 abbrev pub reads_job : Command → Bool
 reads_job Unknown = false
 reads_job Combine = false
+reads_job (Trial number tasks) = false
 reads_job c = true
 
 -- more than a job may stand in its input

@@ -11,7 +11,7 @@ ghost use Rattle.coverage_program.specs.Refusals.{Match};
 ghost use Rattle.coverage_program.specs.Untouched.{IsUntouched, IsReportCut};
 ghost use Rattle.job_run.specs.Runs.{Account};
 ghost use Rattle.report_text.specs.Conditions.{HasFewLines};
-ghost use Rattle.coverage_program.specs.Words.{command_of, without_areas};
+ghost use Rattle.coverage_program.specs.Words.{command_of, without_areas, HasFewTasks};
 
 use crate::combining::answer_combine;
 use crate::lines::{NO_MEMORY, USAGE, bad_schedule_line};
@@ -20,6 +20,7 @@ use crate::replay::replay_text;
 use crate::schedule::{ScheduleFault, replay};
 use crate::showing::answer_show;
 use crate::status::{Status, status_of, told};
+use crate::trial::answer_trial;
 use crate::words::{Command, command_of};
 use brk_table::Tables;
 use cov_base::{Name, SessNo};
@@ -207,7 +208,9 @@ fn answer_one<S: Source, K: Sink>(
         Command::Replay => answer_replay(alloc, source, sink),
         Command::Combine => answer_combine(alloc, source, sink),
         Command::Show(name) => answer_show(alloc, &name, source, sink),
-        Command::Run | Command::Marks(_) | Command::Unknown => told(sink, USAGE, 1),
+        Command::Run | Command::Marks(_) | Command::Trial { .. } | Command::Unknown => told(
+            sink, USAGE, 1,
+        ),
     }
 }
 
@@ -221,12 +224,16 @@ fn answer<T: Threads + Wait + Sync, S: Source, K: Sink, A: Areas, G: Gate + Sync
     areas: &mut A,
     gate: &G,
 ) -> Status
-    requires { A.made areas.old < 2 ^ 61 }
+    requires room { A.made areas.old < 2 ^ 61 }
+    requires few { HasFewTasks command }
     ensures { Answers command (source_change S.left S.faults source.old source.new) (areas_change A.ledger A.finals A.made areas.old areas.new) (sink_change K.written K.faults sink.old sink.new) result.0 }
 {
     match command {
         Command::Run => answer_run(rt, alloc, source, sink, areas, gate),
         Command::Marks(name) => answer_marks(rt, alloc, &name, source, sink, areas, gate),
+        Command::Trial { number, tasks } => answer_trial(
+            rt, alloc, number, tasks, sink, areas, gate,
+        ),
         Command::Table | Command::Replay | Command::Combine | Command::Show(_) | Command::Unknown =>
             answer_one(alloc, command, source, sink),
     }
@@ -234,10 +241,11 @@ fn answer<T: Threads + Wait + Sync, S: Source, K: Sink, A: Areas, G: Gate + Sync
 
 /// Serves the command that the words are: `run` reads a job from the source, runs its tasks on threads, each past the
 /// gate, and writes its report to the sink; `marks NAME` does the same but writes the marks file of the session of the name;
-/// all other words are answered as `cover_one` answers them. Each refusal has its status and its line; the answer is 6 where
+/// `trial NUMBER TASKS` reads nothing, runs the generated job of that number and so many tasks, 1 to 64, and writes its
+/// summary; all other words are answered as `cover_one` answers them. Each refusal has its status and its line; the answer is 6 where
 /// the sink fails. Where no fault of source or sink was counted, it is that of the words and bytes, or 7. The areas are as
-/// they were but for a run of a job whose listings match. It waits for the threads of the tasks; for all words but `run`
-/// and `marks` it waits for nothing.
+/// they were but for a run of a job whose listings match. It waits for the threads of the tasks; for all words but `run`,
+/// `marks` and `trial` it waits for nothing.
 pub fn cover<T: Threads + Wait + Sync, S: Source, K: Sink, A: Areas, G: Gate + Sync>(
     rt: &T,
     alloc: Global,
@@ -260,7 +268,7 @@ pub fn cover<T: Threads + Wait + Sync, S: Source, K: Sink, A: Areas, G: Gate + S
 /// the sink; `replay` reads a job of one phase and a schedule, plays the schedule on the core, and writes what its
 /// items have shown and the report of what they come to; `combine` reads marks files in succession and writes the file of
 /// their union; `show NAME` reads a job and one marks file behind it, and writes the listings of the session of the name
-/// with the file's marks. For all other words, `run` and `marks` too, it is status 1. It always returns.
+/// with the file's marks. For all other words, `run`, `marks` and `trial` too, it is status 1. It always returns.
 pub fn cover_one<S: Source, K: Sink>(
     alloc: Global,
     words: &[String],

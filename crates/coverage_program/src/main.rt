@@ -14,6 +14,7 @@ mod status;
 mod tables;
 #[cfg(test)]
 mod tests;
+mod trial;
 mod words;
 
 use cov_outside::{OpenGate, StdSink, StdSource};

@@ -7,7 +7,7 @@ use annotator::text::{add_hex, add_number, add_text};
 use arrayvec::ArrayVec;
 use brk_table::BuildFault;
 use cov_base::Name;
-use listing_reader::{Line, ListFault};
+use listing_reader::{Line, ListFault, Listing};
 use report_text::add_bytes;
 use s370_decode::Code;
 use std::marker::Model;
@@ -106,7 +106,7 @@ pub fn list_refusal(name: &Name, fault: ListFault) -> Refusal
 }
 
 /// Where the instruction of line n stands in its module.
-fn location_at(lines: &[Line], n: u32) -> u32
+fn location_at(lines: &Listing, n: u32) -> u32
     ensures value { result ≡ location_of (get_or lines.now (n - 1) Line.Text) }
     ensures below { result < 16 ^ 6 }
 {
@@ -114,14 +114,14 @@ fn location_at(lines: &[Line], n: u32) -> u32
     if at >= lines.len() {
         return 0;
     }
-    match lines[at] {
+    match lines.line(at) {
         Line::Text => 0,
         Line::Code { loc, bytes: _ } => loc % 16_777_216,
     }
 }
 
 /// Why a listing's lines make no table over their module, for all but want of memory.
-pub fn build_refusal(name: &Name, lines: &[Line], fault: BuildFault) -> Refusal
+pub fn build_refusal(name: &Name, lines: &Listing, fault: BuildFault) -> Refusal
     requires { fault ≢ BuildFault.NoMemory }
     ensures { result ≡ build_refusal name.now lines.now fault }
 {

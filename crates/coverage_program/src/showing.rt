@@ -42,7 +42,7 @@ fn bad_marks(offset: usize) -> Refusal
 
 /// The one marks file that the bytes are.
 fn one_file(alloc: Global, rest: &[u8]) -> Result<Marks, Refusal>
-    ensures file { IfOk result (IsFile rest.now) }
+    ensures file { IfOk result (λ m. IsFile rest.now m.modules) }
     ensures refused { IfErr result (IsFileRefusal rest.now) }
 {
     match read(alloc, rest, 0) {

@@ -12,8 +12,8 @@ ghost use Rattle.coverage_program.specs.Refused.{IsRefused, list_refused, build_
 use crate::refusals::{Refusal, build_refusal, list_refusal};
 use brk_table::{BuildFault, Table, Tables, build};
 use cov_base::{Name, NoMemory};
-use listing_lines::ListingLine;
-use listing_reader::{Line, ListFault, read_listing};
+use listing_lines::ListingLines;
+use listing_reader::{ListFault, Listing, read_listing};
 use module_area::Image;
 use session_book::Job;
 use std::alloc::{AllocFailed, Global};
@@ -56,7 +56,7 @@ fn list_refused(name: &Name, fault: ListFault) -> Refused
     }
 }
 
-fn build_refused(name: &Name, lines: &[Line], fault: BuildFault) -> Refused
+fn build_refused(name: &Name, lines: &Listing, fault: BuildFault) -> Refused
     ensures { result ≡ build_refused name.now lines.now fault }
 {
     match fault {
@@ -70,7 +70,7 @@ fn table_of(
     alloc: Global,
     m: u32,
     image: &Image,
-    texts: &[ListingLine],
+    texts: &ListingLines,
     room: u32,
 ) -> Result<Table, Refused>
     requires image { IsImage image.now }
@@ -111,14 +111,14 @@ fn image_at(job: &Job, m: u32) -> &Image
 }
 
 /// The listing of module m, where it has one.
-fn listing_at(job: &Job, m: u32) -> Option<&[ListingLine]>
+fn listing_at(job: &Job, m: u32) -> Option<&ListingLines>
     requires exists { m < length job.now.images }
     requires few { HasFewLines job.now }
     ensures value { drop m job.now.listings ≡ option_map (λ texts. texts.now) result ∷ drop (m + 1) job.now.listings }
     ensures few { IfSome result (λ texts. length texts.now ≤ 16777216) }
 {
     match &job.listings[m as usize] {
-        Some(lines) => Some(&lines.0),
+        Some(lines) => Some(lines),
         None => None,
     }
 }

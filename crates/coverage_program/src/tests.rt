@@ -1,5 +1,6 @@
 //! Jobs through `cover`, from the bytes in to the bytes out, over memory and over areas that threads share.
 mod cases;
+mod faults;
 mod gates;
 mod jobs;
 mod marked;
@@ -11,6 +12,7 @@ mod order;
 mod places;
 mod programs;
 mod schedules;
+mod trials;
 
 use crate::cover::cover;
 use crate::status::Status;
@@ -28,10 +30,7 @@ use std::test::Fail;
 use std::thread::Threads;
 
 /// The first job, as a whole.
-const FIRST: Case = Case {
-    name: "the first job",
-    code: "",
-    job: "\
+const FIRST_JOB: &str = "\
 COVERJOB 1\n\
 MODULE M 100000 8\n\
 TEXT 411000051A1107FE\n\
@@ -43,10 +42,10 @@ LISTING 4\n\
 PHASE P\n\
 SESSION S M\n\
 TASK A 100000 16 100 0\n\
-ENDJOB\n",
-    status: 0,
-    tallies: Some(&[(3, 3, 3, 3)]),
-    text: "\
+ENDJOB\n";
+
+/// What `run` writes for it.
+const FIRST_TEXT: &str = "\
 COVERAGE REPORT\n\
 TASK A RETURNED COUNT 3 CC 2\n\
 R0 00000000 0000000A 00000000 00000000 00000000 00000000 00000000 00000000\n\
@@ -58,7 +57,15 @@ MODULE M PLACES 3 EXECUTED 3 FACTS 3 OF 3\n\
 : 000000 4110 0005                      1          LA\n\
 : 000004 1A11                           2          AR\n\
 : 000006 07FE                           3          BR\n\
-END\n",
+END\n";
+
+const FIRST: Case = Case {
+    name: "the first job",
+    code: "",
+    job: FIRST_JOB,
+    status: 0,
+    tallies: Some(&[(3, 3, 3, 3)]),
+    text: FIRST_TEXT,
 };
 
 /// The words `run`.
@@ -77,16 +84,10 @@ struct Came {
     made: u64,
 }
 
-fn run<T: Threads + Wait + Sync>(
-    rt: &T,
-    alloc: Global,
-    job: Vec<u8>,
-    bad_reads: Vec<u64>,
-    bad_writes: Vec<u64>,
-) -> Result<Came, Fail> {
+fn run<T: Threads + Wait + Sync>(rt: &T, alloc: Global, job: Vec<u8>) -> Result<Came, Fail> {
     let words = run_words(alloc)?;
-    let mut source = MemSource::new(job, 64, bad_reads);
-    let mut sink = MemSink::new(alloc, 4096, 4096, bad_writes).map_err(|_| "memory")?;
+    let mut source = MemSource::new(job, 64, Vec::new(alloc));
+    let mut sink = MemSink::new(alloc, 4096, 4096, Vec::new(alloc)).map_err(|_| "memory")?;
     let mut areas = SharedAreas::new(alloc, 16).map_err(|_| "memory")?;
     let status = cover(
         rt,
@@ -113,34 +114,6 @@ fn runs_the_first_job(rt: HostRuntime) -> Result<(), Fail> {
 }
 
 #[test]
-fn tells_faults_of_source_and_sink(rt: HostRuntime) -> Result<(), Fail> {
-    let alloc = rt.alloc();
-    let unread = run(
-        &rt,
-        alloc,
-        job_of(alloc, &FIRST)?,
-        [3u64].to_vec(alloc)?,
-        Vec::new(alloc),
-    )?;
-    assert_eq!(rt; unread.status, Status(5));
-    assert_eq!(rt; unread.text.as_slice(), b"READ FAULT\n".as_slice());
-    assert_eq!(rt; (unread.made, unread.tallies.len()), (0, 0));
-    let unwritten = run(
-        &rt,
-        alloc,
-        job_of(alloc, &FIRST)?,
-        Vec::new(alloc),
-        [2u64].to_vec(alloc)?,
-    )?;
-    assert_eq!(rt; unwritten.status, Status(6));
-    assert_eq!(rt; unwritten.text.as_slice(), b"COVERAGE REPORT\n".as_slice());
-    assert_eq!(rt; unwritten.made, 1);
-    assert_eq!(rt; unwritten.tallies.len(), 1);
-    assert_eq!(rt; counts(&unwritten.tallies[0]), (3, 3, 3, 3));
-    Ok(())
-}
-
-#[test]
 fn answers_over_devices_that_never_fail(rt: HostRuntime) -> Result<(), Fail> {
     let alloc = rt.alloc();
     let words = run_words(alloc)?;
@@ -157,6 +130,8 @@ fn answers_over_devices_that_never_fail(rt: HostRuntime) -> Result<(), Fail> {
         &OpenGate,
     );
     assert_eq!(rt; status, Status(0));
+    assert_eq!(rt; areas.ledger().len(), 1);
+    assert_eq!(rt; counts(&areas.ledger()[0]), (3, 3, 3, 3));
     let none = Vec::new(alloc);
     let mut others = SharedAreas::new(alloc, 16).map_err(|_| "memory")?;
     let refused = cover(
@@ -184,13 +159,7 @@ fn check<T: Abort + Threads + Wait + Sync>(
     case: &Case,
 ) -> Result<Came, Fail> {
     let name = case.name;
-    let came = run(
-        rt,
-        alloc,
-        job_of(alloc, case)?,
-        Vec::new(alloc),
-        Vec::new(alloc),
-    )?;
+    let came = run(rt, alloc, job_of(alloc, case)?)?;
     assert_eq!(rt; came.status, Status(case.status), "{name}");
     assert_eq!(rt;
         came.text.as_slice(),

@@ -1,8 +1,10 @@
 //! The words of the command line.
 ghost use Rattle.std.specs.Prelude.{◌≡◌, map, string_bytes};
 ghost use Rattle.cov_base.specs.Names.{name_at};
-ghost use Rattle.coverage_program.specs.Words.{command_alone, command_named, command_of};
+ghost use Rattle.coverage_program.specs.Words.{number_at, command_alone, command_named, command_numbered, command_of, HasFewTasks};
 
+use annotator::text::add_number;
+use arrayvec::ArrayVec;
 use cov_base::Name;
 
 /// What the words ask for.
@@ -12,6 +14,8 @@ pub enum Command {
     Run,
     /// `marks NAME`: the marks file of a session of a job that is run.
     Marks(Name),
+    /// `trial NUMBER TASKS`: the summary of a generated job that is run.
+    Trial { number: u32, tasks: u32 },
     /// `table`: the places of its modules.
     Table,
     /// `replay`: a schedule of its tasks' events, played on a core.
@@ -57,13 +61,46 @@ fn command_named(word: &str, name: &str) -> Command
     }
 }
 
+/// The number that the word is the decimal of, below 2^32 and without a leading zero.
+fn number_of(word: &str) -> Option<u32>
+    ensures { result ≡ number_at word.now }
+{
+    let Ok(number) = word.parse::<u32>() else {
+        return None;
+    };
+    let mut digits: ArrayVec<u8, 160> = ArrayVec::new();
+    add_number(&mut digits, u64::from(number));
+    if digits.as_slice() == word.as_bytes() {
+        Some(number)
+    } else {
+        None
+    }
+}
+
+/// The command of a word and two numbers.
+fn command_numbered(word: &str, number: &str, tasks: &str) -> Command
+    ensures value { result ≡ command_numbered word.now (number_at number.now) (number_at tasks.now) }
+    ensures few { HasFewTasks result }
+{
+    let (Some(number), Some(tasks)) = (number_of(number), number_of(tasks)) else {
+        return Command::Unknown;
+    };
+    if word == "trial" && (1 <= tasks && tasks <= 64) {
+        Command::Trial { number, tasks }
+    } else {
+        Command::Unknown
+    }
+}
+
 /// The command that the words are.
 pub fn command_of(words: &[String]) -> Command
-    ensures { result ≡ command_of (map string_bytes words.now) }
+    ensures value { result ≡ command_of (map string_bytes words.now) }
+    ensures few { HasFewTasks result }
 {
     match words {
         [word] => command_alone(word),
         [word, name] => command_named(word, name),
+        [word, number, tasks] => command_numbered(word, number, tasks),
         _ => Command::Unknown,
     }
 }

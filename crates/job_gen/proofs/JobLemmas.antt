@@ -43,7 +43,7 @@ short_number : (n : ℕ) → n < 2 ^ 32 → length (number_text n) ≤ 15
 unfolding number_text
 short_number n h = let k : length (decimal n) ≤ 10 = length-decimal-le 10 n (omega arith) (omega arith) (omega arith) in rw (length-append, length-replicate) (omega arith)
 
-short_line : (at n : ℕ) (i : Instruction) → n < 2 ^ 32 → length (plain_line at n i) ≤ 150
+pub short_line : (at n : ℕ) (i : Instruction) → n < 2 ^ 32 → length (plain_line at n i) ≤ 150
 unfolding plain_line
 short_line at n i h =
     let a = short_object i in

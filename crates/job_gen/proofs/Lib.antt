@@ -1,2 +1,4 @@
 pub mod CodeLemmas
 pub mod JobLemmas
+pub mod LineLemmas
+pub mod MatchLemmas

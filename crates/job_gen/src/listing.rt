@@ -8,8 +8,7 @@ use crate::instruction::{Instruction, Operation};
 use annotator::text::{add_hex, add_number, add_text};
 use arrayvec::ArrayVec;
 use cov_base::NoMemory;
-use listing_lines::ListingLine;
-use session_book::Lines;
+use listing_lines::ListingLines;
 use std::alloc::Global;
 
 /// The bytes of the code.
@@ -102,13 +101,6 @@ fn plain_line(at: u32, number: u32, instruction: &Instruction) -> ArrayVec<u8, 1
     line
 }
 
-fn put_line(lines: &mut Vec<ListingLine>, text: &[u8], alloc: Global) -> Result<(), NoMemory>
-    ensures { IfOk result (λ _. lines.new.items ≡ lines.old.items ++ text.now ∷ []) }
-{
-    lines.push(ListingLine::new(text.to_vec(alloc)?))?;
-    Ok(())
-}
-
 /// The number of the instruction's bytes.
 fn length_of(instruction: &Instruction) -> u32
     ensures value { result ≡ length (object instruction.now) }
@@ -118,19 +110,19 @@ fn length_of(instruction: &Instruction) -> u32
 }
 
 /// The heading and the lines of the code, which has at most 2,000 instructions.
-pub(crate) fn listing_of(alloc: Global, code: &[Instruction]) -> Result<Lines, NoMemory>
+pub(crate) fn listing_of(alloc: Global, code: &[Instruction]) -> Result<ListingLines, NoMemory>
     requires { length code.now ≤ 2000 }
     ensures { IfOk result (λ l. l ≡ listing_of code.now) }
 {
-    let mut lines = Vec::new(alloc);
-    put_line(&mut lines, HEADING, alloc)?;
+    let mut lines = ListingLines::new(alloc);
+    lines.push(HEADING)?;
     let mut at = 0;
     for i in 0..code.len() {
         let line = plain_line(at, i as u32 + 1, &code[i]);
-        put_line(&mut lines, line.as_slice(), alloc)?;
+        lines.push(line.as_slice())?;
         at += length_of(&code[i]);
     }
-    Ok(Lines(lines))
+    Ok(lines)
 }
 
 const HEADING: &[u8] = b"  Loc  Object Code    Addr1 Addr2  Stmt   Source Statement";

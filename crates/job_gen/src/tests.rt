@@ -18,7 +18,7 @@ fn bytes(job: &Job) -> Result<&[u8], Fail> {
 /// Whether line n of the listing is this text.
 fn is_line(job: &Job, n: usize, text: &[u8]) -> bool {
     if let Some(Some(lines)) = job.listings.first() {
-        n < lines.0.len() && lines.0[n].bytes() == text
+        n < lines.len() && lines.line(n) == text
     } else {
         false
     }
@@ -26,7 +26,7 @@ fn is_line(job: &Job, n: usize, text: &[u8]) -> bool {
 
 fn line_count(job: &Job) -> usize {
     if let Some(Some(lines)) = job.listings.first() {
-        lines.0.len()
+        lines.len()
     } else {
         0
     }

@@ -133,7 +133,7 @@ no_done = record {
 }
 
 pub no_slot : {P : Type 0} → Slot P
-no_slot = record { done = no_done; pass = None }
+no_slot = record { done = no_done; pass = None; apart = [] }
 
 earlier : (p n : ℕ) → p < n → nat_lt p n ≡ true
 earlier p n l = grind (arith, nat_tests)

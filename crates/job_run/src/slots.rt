@@ -14,11 +14,13 @@ use session_book::{Begun, Job, begin};
 use std::alloc::Global;
 use task_run::Task;
 
-/// A task, and while its phase runs the pass that was split off for it.
+/// A task, and while its phase runs the pass that was split off for it. The next slot begins 128 bytes behind them, so
+/// that no two threads write to one cache line.
 #[derive(Drop)]
 pub struct Slot<'a, P> {
     pub done: Done<'a>,
     pub pass: Option<P>,
+    apart: [u64; 16],
 }
 
 /// Whether a task of the job is one of the phase.
@@ -65,7 +67,11 @@ pub fn make_slots<'a, P: Drop>(
     let mut slots = Vec::with_capacity(alloc, count)?;
     for t in 0..count {
         let done = new_task(alloc, job, tables, t)?;
-        slots.push(Slot { done, pass: None })?;
+        slots.push(Slot {
+            done,
+            pass: None,
+            apart: [0; 16],
+        })?;
     }
     Ok(slots)
 }
@@ -94,7 +100,11 @@ pub fn tasks_of<'a, P: Drop>(slots: Vec<Slot<'a, P>>, mut tasks: Vec<Done<'a>>) 
     ensures { result.items ≡ dones slots.entry.items }
 {
     for slot in slots {
-        let Slot { done, pass: _ } = slot;
+        let Slot {
+            done,
+            pass: _,
+            apart: _,
+        } = slot;
         let Ok(()) = tasks.push(done) else {
             unreachable!()
         };

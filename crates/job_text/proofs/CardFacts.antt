@@ -3,7 +3,7 @@ use Rattle.std.proofs.Common.{◌≡◌, ℕ, ◌+◌, ◌*◌, ◌<◌, ◌≤�
 use Rattle.std.proofs.lemmas.Bool.Decides.{nat_tests}
 use Rattle.std.proofs.lemmas.List.{length-append}
 use Rattle.std.specs.Str.{bytes_eq}
-use Rattle.cov_base.specs.Names.{is_digit, is_name, name_at, padded, unpadded}
+use Rattle.cov_base.specs.Names.{is_name, name_at, padded, unpadded}
 use Rattle.cov_base.proofs.NameLemmas.{unpadded-padded}
 use Rattle.hex.specs.Hex.{decode_sized}
 use Rattle.hex.specs.declared.error.FromHexError.{FromHexError}

@@ -1,11 +1,14 @@
 pub mod CardFacts
+pub mod EndedLines
 pub mod Excluded
 pub mod Growth
 pub mod Guards
 pub mod Indices
 pub mod ItemLemmas
+pub mod Joined
 pub mod LineLemmas
 pub mod Numbers
+pub mod Readings
 pub mod Rests
 pub mod Shortest
 pub mod Spans

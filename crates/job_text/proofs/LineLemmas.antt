@@ -29,11 +29,11 @@ line_ends : (s : List ℕ) → end_of s < length s → EndsAt s (end_of s)
 line_ends [] h = absurd (omega arith)
 line_ends (b ∷ bs) h = ends_first b bs (nat_eq b 10) refl (line_ends bs) h
 
-abbrev Whole : List ℕ → List LineView
+abbrev pub Whole : List ℕ → List LineView
 Whole [] = []
 Whole (b ∷ bs) = open_line (b ∷ bs) ∷ []
 
-put_whole : (b : ℕ) (bs : List ℕ) → put_on b (Whole bs) ≡ open_line (b ∷ bs) ∷ []
+pub put_whole : (b : ℕ) (bs : List ℕ) → put_on b (Whole bs) ≡ open_line (b ∷ bs) ∷ []
 put_whole b [] = refl
 put_whole b (c ∷ cs) = refl
 

@@ -2,23 +2,20 @@
 use Rattle.std.proofs.Common.{◌≡◌, ℕ, ◌+◌, ◌-◌, ◌<◌, ◌≤◌, zero, suc, Bool, true, false, Option, Some, None, List, [], ◌∷◌, ◌++◌, length, take, drop, refl, ap, subst, sym, ◌∙◌, arith, append-nil, option_map, option_and_then, inl, inr, take-append-drop}
 use Rattle.std.proofs.Math.Seq.{take-length}
 use Rattle.std.proofs.lemmas.Bool.{cases_order, cases_lt}
-use Rattle.std.proofs.lemmas.List.{length-drop, length-take-le}
+use Rattle.std.proofs.lemmas.List.{length-drop}
 use Rattle.session_book.specs.JobView.{JobView}
-use Rattle.job_text.specs.Lines.{LineView, lines_of, span, spans}
+use Rattle.job_text.specs.Lines.{LineView, lines_of}
 use Rattle.job_text.specs.Spells.{Spells}
 use Rattle.job_text.specs.Limits.{keeps, IsWithin, Passes}
 use Rattle.job_text.specs.Refusals.{IsRead, GoesOn, IsBadAt, IsOverAt}
 use Rattle.job_text.specs.declared.jobs.ReadJob.{ReadJob}
 use Rattle.job_text.specs.declared.limit.Limit.{Limit}
-use Rattle.job_text.specs.declared.refused.LineRefused.{LineRefused}
-use Rattle.job_text.specs.declared.refused.LineRefused.TheVariants as refused
 use Rattle.job_text.specs.declared.parts.Part.{Part}
 use Rattle.job_text.specs.declared.parts.Part.TheVariants as kind
-use Rattle.job_text.specs.Steps.{State, start, is_done, step, run, Refuses}
+use Rattle.job_text.specs.Steps.{State, start, is_done, step, run}
 use Rattle.job_text.proofs.Guards.{some_same, FromMap, map_some}
-use Rattle.job_text.proofs.Spans.{Cut, cut_at, no_lines, lines_count}
+use Rattle.job_text.proofs.Spans.{no_lines, lines_count}
 use Rattle.job_text.proofs.Spelled.{Reaches, Is, run_append, run_spelled, run_begun, done_step, not_later}
-use Rattle.job_text.proofs.Rests.{run_spells}
 use Rattle.job_text.proofs.Shortest.{sofar_at, sofar, run_begins}
 use Rattle.job_text.proofs.Growth.{Judged, step_grows, run_more}
 use Rattle.job_text.proofs.Excluded.{bad_later}
@@ -104,19 +101,6 @@ over_here ls n l more s what d e within f =
       first = λ w less. kept_passes (take (n + 1) ls) m.from w r (judged.1 w less);
     }
 
--- the lines up to here, where the line at n passed no limit
-pub record Further (ls : List LineView) (n : ℕ) (t : State) (more : List LineView) (l : LineView) : Type 0 where
-  pub at : At ls n l more
-  pub runs : run start (take (n + 1) ls) ≡ Some t
-  pub kept : IsWithin (sofar t)
-
-pub further : (ls : List LineView) (n : ℕ) (l : LineView) (more : List LineView) (s t : State) → drop n ls ≡ l ∷ more → run start (take n ls) ≡ Some s → IsWithin (sofar s) → step s l ≡ Some t → t.over ≡ None → Further ls n t more l
-further ls n l more s t d e within f none = record {
-  at = at_line ls n l more d;
-  runs = run_on ls n l more s t d e f;
-  kept = subst (λ (o : Option Limit). Judged o (sofar t)) none ((step_grows s t l f).judged within);
-}
-
 whole_take : (ls : List LineView) (n : ℕ) → drop n ls ≡ [] → take n ls ≡ ls
 whole_take ls n d = take_all (take n ls) (drop n ls) d ∙ take-append-drop n ls
   where
@@ -173,28 +157,6 @@ done_sofar p j e = absurd cc
 pub job_within : (s : State) → is_done s.part ≡ true → IsWithin (sofar s) → IsWithin s.job
 job_within s d h = subst IsWithin (done_sofar s.part s.job d) h
 
-spans_last : (ls : List LineView) (l : LineView) → spans (ls ++ l ∷ []) ≡ spans ls + span l
-spans_last [] l = omega arith
-spans_last (x ∷ xs) l = omega (arith, spans_last xs l)
-
-pub spans_on : (ls : List LineView) (n : ℕ) (l : LineView) (more : List LineView) → drop n ls ≡ l ∷ more → spans (take (n + 1) ls) ≡ spans (take n ls) + span l
-spans_on ls n l more d = rw (at_line ls n l more d).taken (spans_last (take n ls) l)
-
--- the bytes up to the end spell the job
-pub is_read : (input : List ℕ) (n : ℕ) (s : State) (r : ReadJob) → n ≤ length (lines_of input) → run start (take n (lines_of input)) ≡ Some s → is_done s.part ≡ true → IsWithin (sofar s) →
-    r.job ≡ s.job → r.end ≡ spans (take n (lines_of input)) → r.lines ≡ n → IsRead input r
-is_read input n s r h runs done within job end count =
-    let c : Cut input n (spans (take n (lines_of input))) = cut_at input n h in
-    let front : lines_of (take r.end input) ≡ take n (lines_of input) = rw end c.front in
-    let back : lines_of (drop r.end input) ≡ drop n (lines_of input) = rw end c.back in
-    record {
-      inside = rw end c.inside;
-      parted = rw (front, back) (sym (take-append-drop n (lines_of input)));
-      count = rw front (length-take-le n (lines_of input) h ∙ sym count);
-      spells = rw (front, job) (run_spells (take n (lines_of input)) s runs done);
-      within = rw job (job_within s done within);
-    }
-
 -- a line behind the job is bad
 
 some_left : (bs : List ℕ) (n : ℕ) → n < length bs → drop n bs ≡ [] → ⊥
@@ -203,11 +165,11 @@ some_left bs n h e =
     let b : length (drop n bs) ≡ 0 = ap (λ (x : List ℕ). length x) e in
     omega (arith, a, b, h)
 
-take_front : (a b : List LineView) → take (length a) (a ++ b) ≡ a
+pub take_front : (a b : List LineView) → take (length a) (a ++ b) ≡ a
 take_front [] b = refl
 take_front (x ∷ xs) b = ap (λ (y : List LineView). x ∷ y) (take_front xs b)
 
-drop_front : (a b : List LineView) → drop (length a) (a ++ b) ≡ b
+pub drop_front : (a b : List LineView) → drop (length a) (a ++ b) ≡ b
 drop_front [] b = refl
 drop_front (x ∷ xs) b = drop_front xs b
 
@@ -234,9 +196,3 @@ taken_most (suc n) (b ∷ bs) = omega (arith, taken_most n bs)
 
 pub lines_most : (input : List ℕ) (r : ReadJob) → IsRead input r → r.lines ≤ length input
 lines_most input r i = omega (arith, i.count, lines_count (take r.end input), i.inside, taken_most r.end input)
-
-pub refused_bad : (o : Option State) (e : LineRefused) → e ≡ refused.Bad → Refuses o e → o ≡ None
-refused_bad o e is r = rw is at r
-
-pub refused_over : (o : Option State) (e : LineRefused) (what : Limit) → e ≡ refused.TooLarge what → Refuses o e → option_map (λ s. s.over) o ≡ Some (Some what)
-refused_over o e what is r = rw is at r

@@ -3,10 +3,12 @@ pub mod CardView
 pub mod Cards
 pub mod Limits
 pub mod Lines
+pub mod Pieces
 pub mod Refusals
 pub mod Schedule
 pub mod Spells
 pub mod Steps
+pub mod Taken
 pub mod TaskParts
 pub mod Tasks
 pub mod Views

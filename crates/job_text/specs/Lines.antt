@@ -1,5 +1,5 @@
 -- The lines of an input, and the text of a listing line.
-use Rattle.std.specs.Prelude.{ℕ, ◌+◌, ◌-◌, Bool, true, false, ◌&&◌, nat_eq, nat_le, if◌then◌else◌, List, [], ◌∷◌, length, take, slice_index}
+use Rattle.std.specs.Prelude.{◌≡◌, ℕ, ◌+◌, ◌-◌, Bool, true, false, ◌&&◌, nat_eq, nat_le, if◌then◌else◌, List, [], ◌∷◌, length, take, slice_index}
 
 pub record LineView : Type 0 where
   pub bytes : List ℕ
@@ -27,6 +27,11 @@ listing_text l = if has_cr l then take (length l.bytes - 1) l.bytes else l.bytes
 abbrev pub span : LineView → ℕ
 span l = if l.ended then length l.bytes + 1 else length l.bytes
 
-abbrev pub spans : List LineView → ℕ
-spans [] = 0
-spans (l ∷ ls) = span l + spans ls
+-- the lines whose LF has come: all but a last one that lacks it
+abbrev pub ended_lines : List LineView → List LineView
+ended_lines [] = []
+ended_lines (l ∷ ls) = if l.ended then l ∷ ended_lines ls else []
+
+-- no bytes, or bytes that an LF ends
+abbrev pub IsClosed : List ℕ → Type 0
+IsClosed bytes = ended_lines (lines_of bytes) ≡ lines_of bytes

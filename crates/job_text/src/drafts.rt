@@ -10,8 +10,9 @@ ghost use Rattle.job_text.specs.declared.parts.Part.TheVariants as kind;
 
 use crate::parts::{Draft, Part};
 use cov_base::{Name, NoMemory};
+use listing_lines::ListingLines;
 use module_area::Image;
-use session_book::{Lines, Session, TaskCard};
+use session_book::{Session, TaskCard};
 use std::alloc::Global;
 
 fn is_clear(image: &Image, name: &Name, base: u32, size: u32) -> bool
@@ -126,7 +127,11 @@ fn indices(alloc: Global, job: &Draft, names: &[Name]) -> Result<Option<Vec<u32>
     Ok(Some(used))
 }
 
-fn put_module(mut job: Draft, image: Image, listing: Option<Lines>) -> Result<Draft, NoMemory>
+fn put_module(
+    mut job: Draft,
+    image: Image,
+    listing: Option<ListingLines>,
+) -> Result<Draft, NoMemory>
     ensures { IfOk result (λ d. d ≡ adding.with_module job image listing) }
 {
     job.images.push(image)?;

@@ -8,11 +8,10 @@ ghost use Rattle.job_text.specs.Refusals.{IsRead, IsOnly, IsRefusal};
 ghost use Rattle.job_text.specs.Spells.{Spells};
 
 use crate::limit::Limit;
-use crate::lines::first_line;
-use crate::refused::LineRefused;
-use crate::steps::JobReader;
+use crate::reader::JobReader;
+use cov_base::NoMemory as OutOfMemory;
 use session_book::Job;
-use std::alloc::Global;
+use std::alloc::{AllocError, Global};
 
 /// A job that was read, the offset past its ENDJOB line, and the number of lines up to and including that line.
 #[derive(Drop)]
@@ -34,6 +33,28 @@ pub enum JobFault {
     NoMemory,
 }
 
+impl From<AllocError> for JobFault {
+    ghost use Rattle.std.specs.Prelude.{◌≡◌};
+    ghost use Rattle.job_text.specs.declared.jobs.JobFault.TheVariants.{NoMemory};
+
+    ghost from_gives = { λ _ e. e ≡ NoMemory };
+
+    fn from(_: AllocError) -> Self {
+        JobFault::NoMemory
+    }
+}
+
+impl From<OutOfMemory> for JobFault {
+    ghost use Rattle.std.specs.Prelude.{◌≡◌};
+    ghost use Rattle.job_text.specs.declared.jobs.JobFault.TheVariants.{NoMemory};
+
+    ghost from_gives = { λ _ e. e ≡ NoMemory };
+
+    fn from(_: OutOfMemory) -> Self {
+        JobFault::NoMemory
+    }
+}
+
 /// Reads the job that the input's first lines spell. The bytes after its ENDJOB line are the caller's. The input has
 /// at most `INPUT_LIMIT` bytes; neither `Limit::Input` nor `Limit::Places` is answered.
 pub fn read_job(alloc: Global, input: &[u8]) -> Result<ReadJob, JobFault>
@@ -42,33 +63,9 @@ pub fn read_job(alloc: Global, input: &[u8]) -> Result<ReadJob, JobFault>
     ensures only { (n : ℕ) (job : JobView) → n ≤ length (lines_of input.now) → Spells (take n (lines_of input.now)) job → IsWithin job → IsOnly n job result }
     ensures fault { IfErr result (IsRefusal (lines_of input.now)) }
 {
-    let mut reader = JobReader::new(alloc);
-    let mut rest = input;
-    let mut read: u32 = 0;
-    while !rest.is_empty() {
-        let line = first_line(rest);
-        match reader.line(alloc, line.bytes, line.ended) {
-            Ok(next) => reader = next,
-            Err(LineRefused::Bad) => return Err(JobFault::BadJob { line: read + 1 }),
-            Err(LineRefused::TooLarge(what)) => {
-                return Err(JobFault::TooLarge {
-                    what,
-                    line: read + 1,
-                });
-            }
-            Err(LineRefused::NoMemory) => return Err(JobFault::NoMemory),
-        }
-        rest = line.rest;
-        read += 1;
-        if reader.is_done() {
-            return Ok(ReadJob {
-                job: reader.finish(),
-                end: input.len() - rest.len(),
-                lines: read,
-            });
-        }
-    }
-    Err(JobFault::BadJob { line: read + 1 })
+    let mut reader = JobReader::new(alloc)?;
+    let _fed = reader.feed(alloc, input)?;
+    reader.finish(alloc)
 }
 
 /// Reads the job that all of the input's lines spell. Where a line follows ENDJOB it is `BadJob` at that line. The input

@@ -8,15 +8,20 @@ mod jobs;
 mod limit;
 mod lines;
 mod parts;
+mod pieces;
+mod reader;
 mod refused;
 mod schedule;
 mod steps;
+mod taken;
 mod task;
 mod words;
 
 pub use jobs::{JobFault, ReadJob, read_job, read_whole_job};
 pub use limit::Limit;
 pub use lines::{FirstLine, first_line};
+pub use pieces::Fed;
+pub use reader::JobReader;
 pub use schedule::{Item, item_of};
 
 #[cfg(test)]

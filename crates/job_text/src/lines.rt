@@ -10,7 +10,8 @@ pub struct FirstLine<'a> {
     pub rest: &'a [u8],
 }
 
-fn first_end(text: &[u8]) -> Option<usize>
+/// Where the first LF stands.
+pub(crate) fn first_end(text: &[u8]) -> Option<usize>
     ensures { result ≡ position (λ b. nat_eq b 10) text.now }
 {
     text.iter().position(|b| *b == b'\n')

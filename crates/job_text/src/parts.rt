@@ -2,15 +2,16 @@
 
 use crate::task::TaskPart;
 use cov_base::Name;
+use listing_lines::ListingLines;
 use module_area::Image;
-use session_book::{Lines, Session, TaskCard};
+use session_book::{Session, TaskCard};
 use std::marker::Model;
 
 /// What of a job was read whole.
 #[derive(Drop)]
 pub(crate) struct Draft {
     pub images: Vec<Image>,
-    pub listings: Vec<Option<Lines>>,
+    pub listings: Vec<Option<ListingLines>>,
     pub phases: Vec<Name>,
     pub sessions: Vec<Session>,
     pub tasks: Vec<TaskCard>,
@@ -40,7 +41,7 @@ pub(crate) enum Part {
     Listed {
         image: Image,
         left: u32,
-        lines: Lines,
+        lines: ListingLines,
     },
     /// SESSION: no task of the phase was read.
     Sessions,

@@ -20,20 +20,20 @@ use cov_base::{
     Addr, BUDGET_LIMIT, LINE_LIMIT, MODULE_LIMIT, Name, PHASE_LIMIT, PRIVATE_LIMIT, ROOM_LIMIT,
     SESSION_LIMIT, SIZE_LIMIT, TASK_LIMIT,
 };
-use listing_lines::ListingLine;
+use listing_lines::ListingLines;
 use module_area::{Image, Images};
-use session_book::{Job, Lines};
+use session_book::Job;
 use std::alloc::Global;
 use std::marker::Model;
 
 /// What of a job was read.
 #[derive(Drop)]
-pub(crate) struct JobReader {
+pub(crate) struct LineReader {
     part: Part,
     job: Draft,
 }
 
-impl Model for JobReader {
+impl Model for LineReader {
     ghost use Rattle.std.specs.Prelude.{None};
     ghost use Rattle.job_text.specs.Steps.{State, HasRoom};
 
@@ -44,12 +44,12 @@ impl Model for JobReader {
     ghost invariant = { λ r. HasRoom r.part r.job };
 }
 
-impl JobReader {
+impl LineReader {
     /// Nothing was read.
-    pub(crate) fn new(alloc: Global) -> JobReader
+    pub(crate) fn new(alloc: Global) -> LineReader
         ensures { result ≡ machine.start }
     {
-        JobReader {
+        LineReader {
             part: Part::Start,
             job: Draft {
                 images: Vec::new(alloc),
@@ -61,12 +61,12 @@ impl JobReader {
         }
     }
 
-    fn cover_card(self) -> Result<JobReader, LineRefused>
+    fn cover_card(self) -> Result<LineReader, LineRefused>
         ensures ok { IfOk result (λ r. machine.take_card self says.Cover ≡ Some (machine.plain r)) }
         ensures err { IfErr result (machine.Refuses (machine.take_card self says.Cover)) }
     {
         match self.part {
-            Part::Start => Ok(JobReader {
+            Part::Start => Ok(LineReader {
                 part: Part::Modules,
                 job: self.job,
             }),
@@ -80,7 +80,7 @@ impl JobReader {
         name: Name,
         base: Addr,
         size: u32,
-    ) -> Result<JobReader, LineRefused>
+    ) -> Result<LineReader, LineRefused>
         ensures ok { IfOk result (λ r. machine.take_card self (says.Module name base size) ≡ Some (machine.plain r)) }
         ensures err { IfErr result (machine.Refuses (machine.take_card self (says.Module name base size))) }
     {
@@ -90,11 +90,11 @@ impl JobReader {
         }
     }
 
-    fn text_card(self, more: &[u8]) -> Result<JobReader, LineRefused>
+    fn text_card(self, more: &[u8]) -> Result<LineReader, LineRefused>
         ensures ok { IfOk result (λ r. machine.take_card self (says.Text more.now) ≡ Some (machine.plain r)) }
         ensures err { IfErr result (machine.Refuses (machine.take_card self (says.Text more.now))) }
     {
-        let JobReader { part, job } = self;
+        let LineReader { part, job } = self;
         match part {
             Part::Texts { mut image, left } => {
                 if more.len() > left as usize {
@@ -102,7 +102,7 @@ impl JobReader {
                 }
                 image.bytes.extend_from_slice(more)?;
                 let left = left - more.len() as u32;
-                Ok(JobReader {
+                Ok(LineReader {
                     part: Part::Texts { image, left },
                     job,
                 })
@@ -111,18 +111,18 @@ impl JobReader {
         }
     }
 
-    fn listing_card(self, alloc: Global, n: u32) -> Result<JobReader, LineRefused>
+    fn listing_card(self, alloc: Global, n: u32) -> Result<LineReader, LineRefused>
         ensures ok { IfOk result (λ r. machine.take_card self (says.Listing n) ≡ Some (machine.plain r)) }
         ensures err { IfErr result (machine.Refuses (machine.take_card self (says.Listing n))) }
     {
-        let JobReader { part, job } = self;
+        let LineReader { part, job } = self;
         match part {
             Part::Texts { image, left } => {
                 if left != 0 {
                     return Err(LineRefused::Bad);
                 }
-                let lines = Lines(Vec::new(alloc));
-                Ok(JobReader {
+                let lines = ListingLines::new(alloc);
+                Ok(LineReader {
                     part: Part::Listed {
                         image,
                         left: n,
@@ -135,7 +135,7 @@ impl JobReader {
         }
     }
 
-    fn phase_card(self, name: Name) -> Result<JobReader, LineRefused>
+    fn phase_card(self, name: Name) -> Result<LineReader, LineRefused>
         ensures ok { IfOk result (λ r. machine.take_card self (says.Phase name) ≡ Some (machine.plain r)) }
         ensures err { IfErr result (machine.Refuses (machine.take_card self (says.Phase name))) }
     {
@@ -150,7 +150,7 @@ impl JobReader {
         alloc: Global,
         name: Name,
         names: &[Name],
-    ) -> Result<JobReader, LineRefused>
+    ) -> Result<LineReader, LineRefused>
         ensures ok { IfOk result (λ r. machine.take_card self (says.Session name names.now) ≡ Some (machine.plain r)) }
         ensures err { IfErr result (machine.Refuses (machine.take_card self (says.Session name names.now))) }
     {
@@ -168,7 +168,7 @@ impl JobReader {
         private: u32,
         budget: u32,
         room: u32,
-    ) -> Result<JobReader, LineRefused>
+    ) -> Result<LineReader, LineRefused>
         ensures ok { IfOk result (λ r. machine.take_card self (says.Task name entry private budget room) ≡ Some (machine.plain r)) }
         ensures err { IfErr result (machine.Refuses (machine.take_card self (says.Task name entry private budget room))) }
     {
@@ -178,13 +178,13 @@ impl JobReader {
         }
     }
 
-    fn end_card(self) -> Result<JobReader, LineRefused>
+    fn end_card(self) -> Result<LineReader, LineRefused>
         ensures ok { IfOk result (λ r. machine.take_card self says.End ≡ Some (machine.plain r)) }
         ensures err { IfErr result (machine.Refuses (machine.take_card self says.End)) }
     {
         match closed(self.part, self.job)? {
             None => Err(LineRefused::Bad),
-            Some(job) => Ok(JobReader {
+            Some(job) => Ok(LineReader {
                 part: Part::Done,
                 job,
             }),
@@ -192,13 +192,13 @@ impl JobReader {
     }
 
     /// Takes a further card of the open task.
-    fn more_card(self, card: Card) -> Result<JobReader, LineRefused>
+    fn more_card(self, card: Card) -> Result<LineReader, LineRefused>
         ensures ok { IfOk result (λ r. machine.take_more self.part self.job (view card) ≡ Some (machine.plain r)) }
         ensures err { IfErr result (machine.Refuses (machine.take_more self.part self.job (view card))) }
     {
-        let JobReader { part, job } = self;
+        let LineReader { part, job } = self;
         match part {
-            Part::Task(task) => Ok(JobReader {
+            Part::Task(task) => Ok(LineReader {
                 part: Part::Task(task.card(card)?),
                 job,
             }),
@@ -206,7 +206,7 @@ impl JobReader {
         }
     }
 
-    fn card(self, alloc: Global, card: Card) -> Result<JobReader, LineRefused>
+    fn card(self, alloc: Global, card: Card) -> Result<LineReader, LineRefused>
         ensures ok { IfOk result (λ r. machine.take_card self (view card) ≡ Some (machine.plain r)) }
         ensures err { IfErr result (machine.Refuses (machine.take_card self (view card))) }
     {
@@ -242,12 +242,12 @@ impl JobReader {
         }
     }
 
-    fn listing_line(self, alloc: Global, text: &[u8]) -> Result<JobReader, LineRefused>
+    fn listing_line(self, alloc: Global, text: &[u8]) -> Result<LineReader, LineRefused>
         requires { machine.takes_raw self.part ≡ true }
         ensures ok { IfOk result (λ r. machine.take_raw self.part self.job text.now ≡ Some (machine.plain r)) }
         ensures err { IfErr result (machine.Refuses (machine.take_raw self.part self.job text.now)) }
     {
-        let JobReader { part, job } = self;
+        let LineReader { part, job } = self;
         match part {
             Part::Listed {
                 image,
@@ -257,8 +257,8 @@ impl JobReader {
                 if text.len() > LINE_LIMIT {
                     return Err(LineRefused::TooLarge(Limit::Line));
                 }
-                lines.0.push(ListingLine::new(text.to_vec(alloc)?))?;
-                Ok(JobReader {
+                lines.push(text)?;
+                Ok(LineReader {
                     part: Part::Listed {
                         image,
                         left: left - 1,
@@ -277,7 +277,7 @@ impl JobReader {
         alloc: Global,
         bytes: &[u8],
         ended: bool,
-    ) -> Result<JobReader, LineRefused>
+    ) -> Result<LineReader, LineRefused>
         ensures ok { IfOk result (λ r. machine.step self (record { bytes = bytes.now; ended = ended }) ≡ Some (machine.plain r)) }
         ensures err { IfErr result (machine.Refuses (machine.step self (record { bytes = bytes.now; ended = ended }))) }
     {
@@ -328,7 +328,7 @@ fn open_module(
     name: Name,
     base: Addr,
     size: u32,
-) -> Result<JobReader, LineRefused>
+) -> Result<LineReader, LineRefused>
     requires { length job.phases ≤ PHASE_LIMIT }
     ensures ok { IfOk result (λ r. machine.open_module name base size job ≡ Some (machine.plain r)) }
     ensures err { IfErr result (machine.Refuses (machine.open_module name base size job)) }
@@ -347,13 +347,13 @@ fn open_module(
         base,
         bytes: Vec::new(alloc),
     };
-    Ok(JobReader {
+    Ok(LineReader {
         part: Part::Texts { image, left: size },
         job,
     })
 }
 
-fn open_phase(job: Draft, name: Name) -> Result<JobReader, LineRefused>
+fn open_phase(job: Draft, name: Name) -> Result<LineReader, LineRefused>
     requires { machine.HasRoom kind.Modules job }
     ensures ok { IfOk result (λ r. machine.open_phase name job ≡ Some (machine.plain r)) }
     ensures err { IfErr result (machine.Refuses (machine.open_phase name job)) }
@@ -365,7 +365,7 @@ fn open_phase(job: Draft, name: Name) -> Result<JobReader, LineRefused>
             if count >= PHASE_LIMIT {
                 return Err(LineRefused::TooLarge(Limit::Phases));
             }
-            Ok(JobReader {
+            Ok(LineReader {
                 part: Part::Sessions,
                 job,
             })
@@ -378,7 +378,7 @@ fn add_session(
     job: Draft,
     name: Name,
     names: &[Name],
-) -> Result<JobReader, LineRefused>
+) -> Result<LineReader, LineRefused>
     requires { machine.HasRoom kind.Modules job }
     ensures ok { IfOk result (λ r. machine.add_session job name names.now ≡ Some (machine.plain r)) }
     ensures err { IfErr result (machine.Refuses (machine.add_session job name names.now)) }
@@ -390,7 +390,7 @@ fn add_session(
             if count >= SESSION_LIMIT {
                 return Err(LineRefused::TooLarge(Limit::Sessions));
             }
-            Ok(JobReader {
+            Ok(LineReader {
                 part: Part::Sessions,
                 job,
             })
@@ -406,7 +406,7 @@ fn open_task(
     private: u32,
     budget: u32,
     room: u32,
-) -> Result<JobReader, LineRefused>
+) -> Result<LineReader, LineRefused>
     requires { machine.HasRoom kind.Modules job }
     ensures ok { IfOk result (λ r. machine.open_task name entry private budget room job ≡ Some (machine.plain r)) }
     ensures err { IfErr result (machine.Refuses (machine.open_task name entry private budget room job)) }
@@ -426,7 +426,7 @@ fn open_task(
     if room > ROOM_LIMIT {
         return Err(LineRefused::TooLarge(Limit::Room));
     }
-    Ok(JobReader {
+    Ok(LineReader {
         part: Part::Task(fresh_task(alloc, name, entry, private, budget, room)),
         job,
     })

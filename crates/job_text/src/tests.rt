@@ -1,6 +1,7 @@
 //! Inputs that are jobs of the first form, and inputs that aren't, with the first line that is bad.
 mod items;
 mod jobs;
+mod pieces;
 
 use crate::{JobFault, ReadJob, read_whole_job};
 use std::alloc::{AllocError, Global};

@@ -1,2 +1,3 @@
 pub mod Columns
 pub mod Heading
+pub mod Buffer

@@ -9,4 +9,4 @@ mod tests;
 
 pub use columns::column;
 pub use heading::shift_of;
-pub use lines::ListingLine;
+pub use lines::ListingLines;

@@ -1,5 +1,5 @@
 -- The first bad line from a number on, and that a listing is refused exactly where it has a fault.
-use Rattle.std.proofs.Common.{◌≡◌, ℕ, ◌+◌, ◌<◌, suc, Bool, true, false, cond, not, nat_lt, Option, Some, None, List, [], ◌∷◌, ◌++◌, length, get_or, drop, replicate, position, refl, sym, ap, ◌∙◌, if◌then◌else◌, add-zero, arith}
+use Rattle.std.proofs.Common.{◌≡◌, ℕ, ◌+◌, ◌<◌, suc, Bool, true, false, cond, not, nat_lt, Option, Some, None, List, [], ◌∷◌, ◌++◌, length, get_or, drop, replicate, position, refl, sym, ap, ◌∙◌, if◌then◌else◌, add-zero, append_assoc, arith}
 use Rattle.std.specs.Prelude.{is_some, is_none, option_map}
 use Rattle.std.specs.List.{prefix_len}
 use Rattle.std.proofs.lemmas.Bool.Decides.{nat_tests}
@@ -45,12 +45,24 @@ as_fault : (o : Option ℕ) (first n : ℕ) → option_map (λ k. first + k) o �
 as_fault None first n e = absurd cc
 as_fault (Some k) first n e = let s : first + k ≡ n = cc in ap (λ x. Some (BadObject x)) s
 
-pub bad_here : (lines : List (List ℕ)) (shift first n i : ℕ) (line : List ℕ) → i < length lines → line ≡ get_or lines i line → line_of narrow shift line ≡ None
-    → bad_from narrow shift n (drop i lines) ≡ bad_from narrow shift first lines
-    → option_map (λ k. BadObject (first + k)) (position (is_bad narrow shift) lines) ≡ Some (BadObject n)
-bad_here lines shift first n i line l at none e =
-    let here : bad_from narrow shift n (drop i lines) ≡ Some n = rw (drop_more lines i line l, ← at, none) refl in
-    as_fault _ first n (sym (bad_from-position narrow shift first lines) ∙ (sym e ∙ here))
+pub bad_here : (lines later : List (List ℕ)) (shift first n i : ℕ) (line : List ℕ) → i < length lines → line ≡ get_or lines i [] → line_of narrow shift line ≡ None
+    → bad_from narrow shift n (drop i lines) ≡ bad_from narrow shift first later
+    → option_map (λ k. BadObject (first + k)) (position (is_bad narrow shift) later) ≡ Some (BadObject n)
+bad_here lines later shift first n i line l at none e =
+    let here : bad_from narrow shift n (drop i lines) ≡ Some n = rw (drop_more lines i [] l, ← at, none) refl in
+    as_fault _ first n (sym (bad_from-position narrow shift first later) ∙ (sym e ∙ here))
+
+joined : (read : List Line) (says : Line) (rest : Option (List Line)) → option_map (λ more. (read ++ says ∷ []) ++ more) rest ≡ option_map (λ more. read ++ more) (add_line (Some says) rest)
+joined read says None = refl
+joined read says (Some rest) = ap (λ x. Some x) (append_assoc read (says ∷ []) rest)
+
+-- a line that says something
+module _ (lines : List (List ℕ)) (shift i : ℕ) (line : List ℕ) (says : Line) (l : i < length lines) (at : line ≡ get_or lines i []) (is : line_of narrow shift line ≡ Some says) where
+  pub read_here : (read : List Line) → option_map (λ rest. (read ++ says ∷ []) ++ rest) (lines_of narrow shift (drop (i + 1) lines)) ≡ option_map (λ rest. read ++ rest) (lines_of narrow shift (drop i lines))
+  read_here read = rw (drop_more lines i [] l, ← at, is) (joined read says (lines_of narrow shift (drop (i + 1) lines)))
+
+  pub none_here : (n : ℕ) → bad_from narrow shift (n + 1) (drop (i + 1) lines) ≡ bad_from narrow shift n (drop i lines)
+  none_here n = rw (drop_more lines i [] l, ← at, is) refl
 
 undefined : (line : Option Line) (rest : Option (List Line)) (bad : Option ℕ) (n : ℕ) → is_none rest ≡ is_some bad → is_none (add_line line rest) ≡ is_some (if is_none line then Some n else bad)
 undefined None rest bad n e = refl

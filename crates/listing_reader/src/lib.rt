@@ -3,6 +3,7 @@
 
 mod fields;
 mod lines;
+mod listing;
 mod object;
 mod operation;
 mod reader;
@@ -10,4 +11,5 @@ mod reader;
 mod tests;
 
 pub use lines::{Line, ListFault};
+pub use listing::Listing;
 pub use reader::read_listing;

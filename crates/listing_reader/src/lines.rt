@@ -1,7 +1,7 @@
 //! What a listing line says, and why a listing is refused.
 
+use cov_base::NoMemory;
 use s370_decode::Code;
-use std::alloc::{AllocError, AllocFailed};
 
 /// A line of a listing.
 #[derive(Clone, Copy)]
@@ -23,24 +23,13 @@ pub enum ListFault {
     NoMemory,
 }
 
-impl From<AllocError> for ListFault {
+impl From<NoMemory> for ListFault {
     ghost use Rattle.std.specs.Prelude.{◌≡◌};
-    ghost use Rattle.listing_reader.specs.declared.lines.ListFault.TheVariants.{NoMemory};
+    ghost use Rattle.listing_reader.specs.declared.lines.ListFault.TheVariants.{NoMemory as Wanting};
 
-    ghost from_gives = { λ _ e. e ≡ NoMemory };
+    ghost from_gives = { λ _ e. e ≡ Wanting };
 
-    fn from(_: AllocError) -> Self {
-        ListFault::NoMemory
-    }
-}
-
-impl<T: Drop> From<AllocFailed<T>> for ListFault {
-    ghost use Rattle.std.specs.Prelude.{◌≡◌};
-    ghost use Rattle.listing_reader.specs.declared.lines.ListFault.TheVariants.{NoMemory};
-
-    ghost from_gives = { λ _ e. e ≡ NoMemory };
-
-    fn from(_: AllocFailed<T>) -> Self {
+    fn from(_: NoMemory) -> Self {
         ListFault::NoMemory
     }
 }

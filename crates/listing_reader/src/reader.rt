@@ -1,5 +1,5 @@
 //! Reads a whole listing.
-ghost use Rattle.std.specs.Prelude.{◌≡◌, ◌+◌, ◌≤◌, ◌<◌, ◌++◌, ◌⊎◌, length, Option, IfOk, IfErr, OnOk, OnErr, option_map, replicate, position, IfSome, true};
+ghost use Rattle.std.specs.Prelude.{◌≡◌, ◌+◌, ◌≤◌, ◌<◌, ◌++◌, ◌⊎◌, length, Option, IfOk, IfErr, OnOk, OnErr, option_map, replicate, position, drop, IfSome, true};
 ghost use Rattle.std.specs.declared.option.Option.TheVariants.{Some, None};
 ghost use Rattle.std.specs.List.{AllPass};
 ghost use Rattle.listing_lines.specs.Columns.{narrow};
@@ -8,10 +8,11 @@ ghost use Rattle.listing_reader.specs.Listing.{is_sound, line_of, is_bad, lines_
 
 use crate::fields::{are_blank, is_blank_at, number_in};
 use crate::lines::{Line, ListFault};
+use crate::listing::Listing;
 use crate::object::object_of;
 use crate::operation::has_mnemonic;
 use cov_base::INPUT_LIMIT;
-use listing_lines::{ListingLine, shift_of};
+use listing_lines::{ListingLines, shift_of};
 use std::alloc::Global;
 
 #[tactic(auto, unfolding(crate::specs::Fields::is_instruction))]
@@ -38,38 +39,36 @@ fn read_line(line: &[u8], shift: u8) -> Option<Line>
     Some(Line::Code { loc, bytes })
 }
 
-/// Appends what the lines behind the heading say; the first of them is the listing's line of that number.
+/// Adds what the lines from one behind the heading on say.
 fn read_later(
-    lines: &[ListingLine],
+    lines: &ListingLines,
+    from: usize,
     shift: u8,
-    first: u32,
-    read: &mut Vec<Line>,
+    read: &mut Listing,
 ) -> Result<(), ListFault>
-    requires { first + length lines.now ≤ INPUT_LIMIT + 1 }
-    ensures lines { OnOk result (option_map (λ rest. read.old.items ++ rest) (lines_of narrow shift lines.now) ≡ Some read.new.items) }
-    ensures count { OnOk result (length read.new.items ≡ length read.old.items + length lines.now) }
-    ensures sound { AllPass is_sound read.old.items → AllPass is_sound read.new.items }
-    ensures fault { IfErr result (λ e. (e ≡ ListFault.NoMemory) ⊎ (option_map (λ k. ListFault.BadObject (first + k)) (position (is_bad narrow shift) lines.now) ≡ Some e)) }
+    requires count { length lines.now ≤ INPUT_LIMIT }
+    requires within { from ≤ length lines.now }
+    ensures lines { OnOk result (option_map (λ rest. read.old ++ rest) (lines_of narrow shift (drop from lines.now)) ≡ Some read.new) }
+    ensures count { OnOk result (length read.new + from ≡ length read.old + length lines.now) }
+    ensures sound { AllPass is_sound read.old → AllPass is_sound read.new }
+    ensures fault { IfErr result (λ e. (e ≡ ListFault.NoMemory) ⊎ (option_map (λ k. ListFault.BadObject (from + 1 + k)) (position (is_bad narrow shift) (drop from lines.now)) ≡ Some e)) }
 {
-    let mut n = first;
-    for line in lines {
-        match read_line(line.bytes(), shift) {
-            None => return Err(ListFault::BadObject { line: n }),
+    for i in from..lines.len() {
+        match read_line(lines.line(i), shift) {
+            None => return Err(ListFault::BadObject { line: i as u32 + 1 }),
             Some(says) => read.push(says)?,
         }
-        n += 1;
     }
     Ok(())
 }
 
 /// As many text lines.
-fn texts(alloc: Global, count: usize, room: usize) -> Result<Vec<Line>, ListFault>
-    requires { room ≤ INPUT_LIMIT }
-    ensures lines { IfOk result (λ v. v.items ≡ replicate count Line.Text) }
-    ensures sound { IfOk result (λ v. AllPass is_sound v.items) }
+fn texts(alloc: Global, count: usize, room: usize) -> Result<Listing, ListFault>
+    ensures lines { IfOk result (λ l. l ≡ replicate count Line.Text) }
+    ensures sound { IfOk result (λ l. AllPass is_sound l) }
     ensures fault { IfErr result (λ e. e ≡ ListFault.NoMemory) }
 {
-    let mut read = Vec::with_capacity(alloc, room)?;
+    let mut read = Listing::new(alloc, room)?;
     for _k in 0..count {
         read.push(Line::Text)?;
     }
@@ -81,18 +80,18 @@ fn texts(alloc: Global, count: usize, room: usize) -> Result<Vec<Line>, ListFaul
 /// the first line behind the heading that is an instruction's and whose object code is not one to three groups of
 /// four hexadecimal digits, or not as long as its first byte gives (High Level Assembler, the source and object
 /// section of the listing).
-pub fn read_listing(alloc: Global, lines: &[ListingLine]) -> Result<Vec<Line>, ListFault>
+pub fn read_listing(alloc: Global, lines: &ListingLines) -> Result<Listing, ListFault>
     requires { length lines.now ≤ INPUT_LIMIT }
-    ensures listing { IfOk result (λ v. listing_of lines.now ≡ Some v.items) }
-    ensures count { IfOk result (λ v. length v.items ≡ length lines.now) }
-    ensures sound { IfOk result (λ v. AllPass is_sound v.items) }
+    ensures listing { IfOk result (λ v. listing_of lines.now ≡ Some v) }
+    ensures count { IfOk result (λ v. length v ≡ length lines.now) }
+    ensures sound { IfOk result (λ v. AllPass is_sound v) }
     ensures fault { IfErr result (λ e. (e ≡ ListFault.NoMemory) ⊎ (fault_of lines.now ≡ Some e)) }
 {
     match shift_of(lines) {
         None => Err(ListFault::NoHeading),
         Some((at, shift)) => {
             let mut read = texts(alloc, at + 1, lines.len())?;
-            read_later(&lines[at + 1..], shift, at as u32 + 2, &mut read)?;
+            read_later(lines, at + 1, shift, &mut read)?;
             Ok(read)
         }
     }

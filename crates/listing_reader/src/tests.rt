@@ -1,7 +1,8 @@
 //! Listings as the assembler lays them out, and lines with one thing changed.
-use crate::{Line, ListFault, read_listing};
-use listing_lines::ListingLine;
-use std::alloc::{AllocError, Global};
+use crate::{Line, ListFault, Listing, read_listing};
+use cov_base::{LINE_LIMIT, NoMemory};
+use listing_lines::ListingLines;
+use std::alloc::Global;
 use std::test::Fail;
 
 const HEADING: &[u8] = b"  Loc  Object Code    Addr1 Addr2  Stmt   Source Statement";
@@ -32,11 +33,13 @@ enum Says {
     Nothing,
 }
 
-fn of_line(line: Option<&Line>) -> Says {
-    match line {
-        Some(Line::Code { loc, bytes }) => Says::Code(*loc, bytes.len, bytes.bytes),
-        Some(Line::Text) => Says::Text,
-        None => Says::Nothing,
+fn of_line(read: &Listing, at: usize) -> Says {
+    if at >= read.len() {
+        return Says::Nothing;
+    }
+    match read.line(at) {
+        Line::Code { loc, bytes } => Says::Code(loc, bytes.len, bytes.bytes),
+        Line::Text => Says::Text,
     }
 }
 
@@ -49,25 +52,27 @@ fn of_fault(fault: ListFault) -> Says {
 }
 
 /// What the line of that index says.
-fn read(alloc: Global, texts: &[&[u8]], at: usize, lower: bool) -> Result<Says, AllocError> {
-    let mut lines = Vec::new(alloc);
+fn read(alloc: Global, texts: &[&[u8]], at: usize, lower: bool) -> Result<Says, NoMemory> {
+    let mut lines = ListingLines::new(alloc);
     for text in texts {
         let mut bytes = text.to_vec(alloc)?;
         if lower {
             bytes.make_ascii_lowercase();
         }
-        lines.push(ListingLine::new(bytes))?;
+        if bytes.len() <= LINE_LIMIT {
+            lines.push(&bytes)?;
+        }
     }
     if lines.len() > 100 {
         return Ok(Says::Nothing);
     }
     match read_listing(alloc, &lines) {
-        Ok(read) => Ok(of_line(read.get(at))),
+        Ok(read) => Ok(of_line(&read, at)),
         Err(e) => Ok(of_fault(e)),
     }
 }
 
-fn plain(alloc: Global, text: &[u8]) -> Result<Says, AllocError> {
+fn plain(alloc: Global, text: &[u8]) -> Result<Says, NoMemory> {
     let page: [&[u8]; 2] = [HEADING, text];
     read(alloc, &page, 1, false)
 }

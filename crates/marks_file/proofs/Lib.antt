@@ -4,4 +4,5 @@ pub mod SpellLemmas
 pub mod LoopLemmas
 pub mod ModuleLemmas
 pub mod ModuleLoop
+pub mod HeadingLemmas
 pub mod FileLemmas

@@ -4,7 +4,7 @@ use Rattle.std.specs.Str.{bytes_eq}
 use Rattle.std.proofs.lemmas.Bool.Decides.{nat_tests}
 use Rattle.std.proofs.lemmas.Slice.Eq.{bytes_eq-Decides}
 use Rattle.cov_base.specs.Names.{is_name, padded, unpadded, is_filled}
-use Rattle.marks_file.specs.Marks.{MarkedView, HasRow, is_new_name, is_base, is_size, is_count, is_module, are_modules, is_module_count, are_marks, place_count}
+use Rattle.marks_file.specs.Marks.{MarkedView, MarksView, HasRow, is_new_name, is_base, is_size, is_count, is_module, are_modules, is_module_count, are_marks, is_session_name, is_runs, keeps_rules, place_count}
 
 pub both-left : (a b : Bool) → (a && b) ≡ true → a ≡ true
 both-left true b h = refl
@@ -45,3 +45,6 @@ marks_have_rows ms h = modules_have_rows [] ms (both-right (is_module_count (len
 pub marks_count : (ms : List MarkedView) → are_marks ms ≡ true → length ms ≤ 16
 unfolding is_module_count
 marks_count ms h = le_of_test _ _ (both-right (nat_le 1 (length ms)) _ (both-left (is_module_count (length ms)) _ h))
+
+pub kept_modules : (m : MarksView) → keeps_rules m ≡ true → are_marks m.modules ≡ true
+kept_modules m h = both-right (is_runs m.runs) _ (both-right (is_session_name m.name) _ h)

@@ -1,17 +1,15 @@
--- Modules and whole files that are read spell the bytes that they were read from, and what was spelled is read back.
+-- Modules that are read spell the bytes that they were read from, and what was spelled is read back.
 use Rattle.std.proofs.Common.{◌≡◌, ℕ, ◌+◌, ◌-◌, ◌*◌, ◌≤◌, ◌<◌, ◌^◌, zero, suc, None, true, ◌&&◌, nat_le, List, [], ◌∷◌, ◌++◌, length, take, drop, replicate, slice_index, refl, ap, sym, ◌∙◌, arith, append_assoc, length-append, length-drop}
 use Rattle.std.specs.Str.{bytes_eq}
 use Rattle.std.specs.List.{flat_map, list_all}
-use Rattle.std.specs.Io.{StartsWith}
 use Rattle.std.proofs.lemmas.List.{drop-drop, take-append-drop, length-replicate}
-use Rattle.std.proofs.Math.Seq.{take-append_seam}
 use Rattle.byteorder.specs.Endian.{big_number, big_bytes}
 use Rattle.byteorder.specs.Numbers.{big_number-reads_back}
 use Rattle.cov_base.specs.Names.{is_name, is_letter, is_name_byte, padded, unpadded, is_filled}
 use Rattle.marks_file.specs.Marks.{MarkedView, is_count, is_module, are_modules, is_module_count, are_marks, place_count}
-use Rattle.marks_file.specs.MarksFile.{place_bytes, module_row, module_bytes, magic, file_bytes}
-use Rattle.marks_file.specs.Reading.{first_bad, field, places_at, places_fields, header_fields, module_fields, module_at, modules_at, modules_fields, module_size, count_at, file_fields, marks_at}
-use Rattle.marks_file.proofs.MarksLemmas.{both-left, both-right, both, le_of_test, same_bytes, filled_name}
+use Rattle.marks_file.specs.MarksFile.{place_bytes, module_row, module_bytes, modules_bytes}
+use Rattle.marks_file.specs.Reading.{first_bad, field, places_at, places_fields, header_fields, module_fields, module_at, modules_at, modules_fields, module_size, count_at, table_fields, table_at}
+use Rattle.marks_file.proofs.MarksLemmas.{both-left, both-right, both, le_of_test, filled_name}
 use Rattle.marks_file.proofs.FieldLemmas.{module_record, all_good, none_left, none_right}
 use Rattle.marks_file.proofs.SpellLemmas.{AreBytes, bytes_later, word_of, half_of, length-places_at, ArePlaceRecords, places_spelled}
 
@@ -22,7 +20,7 @@ chain a b c d e bs d8 d12 d16 h1 h2 h3 h4 =
     ∙ (ap (λ t. a ++ t) (append_assoc b (c ++ d) e ∙ (ap (λ t. b ++ t) (append_assoc c d e ∙ (ap (λ t. c ++ t) h1 ∙ h2)) ∙ h3))
     ∙ h4)
 
-word_at : (k m : ℕ) (bs : List ℕ) → k + 4 ≡ m → m ≤ length bs → AreBytes bs → big_bytes 4 (big_number 4 (drop k bs)) ++ drop m bs ≡ drop k bs
+pub word_at : (k m : ℕ) (bs : List ℕ) → k + 4 ≡ m → m ≤ length bs → AreBytes bs → big_bytes 4 (big_number 4 (drop k bs)) ++ drop m bs ≡ drop k bs
 word_at k m bs e h u =
     let past : drop m bs ≡ drop 4 (drop k bs) = ap (λ j. drop j bs) (sym e) ∙ sym (drop-drop 4 k bs) in
     ap (λ t. big_bytes 4 (big_number 4 (drop k bs)) ++ t) past ∙ word_of (drop k bs) (omega (arith, length-drop k bs)) (bytes_later k bs u)
@@ -91,57 +89,44 @@ modules_spelled at earlier (suc n) bs u h =
           ∙ (ap (λ t. module_bytes (module_at bs) ++ t) more.spelled ∙ one.spelled);
     }
 
--- what the bytes say where no field is bad
-pub record IsFileSpelled (bs : List ℕ) : Type 0 where
-  pub are : are_marks (marks_at bs) ≡ true
-  pub starts : StartsWith bs (file_bytes (marks_at bs))
+-- the number of modules is good, and so are the fields behind it
+record IsCounted (at : ℕ) (bs : List ℕ) : Type 0 where
+  pub room : 2 ≤ length bs
+  pub count : is_module_count (big_number 2 bs) ≡ true
+  pub good : first_bad (modules_fields (at + 2) [] (big_number 2 bs) (drop 2 bs)) ≡ None
 
-starts_with : (prefix rest bs : List ℕ) → prefix ++ rest ≡ bs → StartsWith bs prefix
-starts_with prefix rest bs e = ap (λ t. take (length prefix) t) (sym e) ∙ take-append_seam prefix rest
-
-file_joined : (a b c rest bs d8 d10 : List ℕ) → c ++ rest ≡ d10 → b ++ d10 ≡ d8 → a ++ d8 ≡ bs → (a ++ (b ++ c)) ++ rest ≡ bs
-file_joined a b c rest bs d8 d10 h1 h2 h3 = append_assoc a (b ++ c) rest ∙ (ap (λ t. a ++ t) (append_assoc b c rest ∙ (ap (λ t. b ++ t) h1 ∙ h2)) ∙ h3)
-
--- the first two fields, and the others
-pub record IsHead (at : ℕ) (bs : List ℕ) : Type 0 where
-  pub magic_is : take 8 bs ≡ magic
-  pub room : 10 ≤ length bs
-  pub count : is_module_count (big_number 2 (drop 8 bs)) ≡ true
-  pub good : first_bad (modules_fields (at + 10) [] (big_number 2 (drop 8 bs)) (drop 10 bs)) ≡ None
-
-head_of : (at : ℕ) (bs : List ℕ) → first_bad (file_fields at bs) ≡ None → IsHead at bs
-unfolding file_fields
-head_of at bs h =
-    let f1 = field at bs 0 8 (bytes_eq (take 8 bs) magic) in
-    let f2 = field at bs 8 2 (is_module_count (big_number 2 (drop 8 bs))) in
-    let others = modules_fields (at + 10) [] (big_number 2 (drop 8 bs)) (drop 10 bs) in
-    let first = none_left (f1 ∷ f2 ∷ []) others h in
-    let t1 = nat_le 8 (length bs) && bytes_eq (take 8 bs) magic in
-    let t2 = nat_le 10 (length bs) && is_module_count (big_number 2 (drop 8 bs)) in
-    let all : (t1 && (t2 && true)) ≡ true = all_good (f1 ∷ f2 ∷ []) first in
-    let h2 = both-left t2 true (both-right t1 (t2 && true) all) in
+counted : (at : ℕ) (bs : List ℕ) → first_bad (table_fields at bs) ≡ None → IsCounted at bs
+counted at bs h =
+    let f = field at bs 0 2 (is_module_count (big_number 2 bs)) in
+    let others = modules_fields (at + 2) [] (big_number 2 bs) (drop 2 bs) in
+    let t = nat_le 2 (length bs) && is_module_count (big_number 2 bs) in
+    let all : (t && true) ≡ true = all_good (f ∷ []) (none_left (f ∷ []) others h) in
+    let one : t ≡ true = both-left t true all in
     record {
-      magic_is = same_bytes (take 8 bs) magic (both-right (nat_le 8 (length bs)) _ (both-left t1 (t2 && true) all));
-      room = le_of_test 10 (length bs) (both-left (nat_le 10 (length bs)) _ h2);
-      count = both-right (nat_le 10 (length bs)) _ h2;
-      good = none_right (f1 ∷ f2 ∷ []) others h;
+      room = le_of_test 2 (length bs) (both-left (nat_le 2 (length bs)) _ one);
+      count = both-right (nat_le 2 (length bs)) _ one;
+      good = none_right (f ∷ []) others h;
     }
 
-pub file_spelled : (at : ℕ) (bs : List ℕ) → AreBytes bs → first_bad (file_fields at bs) ≡ None → IsFileSpelled bs
-unfolding marks_at
-file_spelled at bs u h =
-    let head = head_of at bs h in
-    let n = big_number 2 (drop 8 bs) in
-    let ms = modules_spelled (at + 10) [] n (drop 10 bs) (bytes_later 10 bs u) head.good in
-    let many : length (modules_at n (drop 10 bs)) ≡ n = length-modules_at n (drop 10 bs) in
-    let room = head.room in
-    let past : drop 10 bs ≡ drop 2 (drop 8 bs) = sym (drop-drop 2 8 bs) in
-    let count : big_bytes 2 (length (modules_at n (drop 10 bs))) ++ drop 10 bs ≡ drop 8 bs =
-    ap (λ k. big_bytes 2 k ++ drop 10 bs) many ∙ (ap (λ t. big_bytes 2 n ++ t) past ∙ half_of (drop 8 bs) (omega (arith, length-drop 8 bs)) (bytes_later 8 bs u)) in
-    let begins : magic ++ drop 8 bs ≡ bs = ap (λ t. t ++ drop 8 bs) (sym head.magic_is) ∙ take-append-drop 8 bs in
+-- where no field from the number of modules on is bad
+pub record IsTableSpelled (bs : List ℕ) : Type 0 where
+  pub are : are_marks (table_at bs) ≡ true
+  pub rest : List ℕ
+  pub spelled : modules_bytes (table_at bs) ++ rest ≡ bs
+
+pub table_spelled : (at : ℕ) (bs : List ℕ) → AreBytes bs → first_bad (table_fields at bs) ≡ None → IsTableSpelled bs
+table_spelled at bs u h =
+    let head = counted at bs h in
+    let n = big_number 2 bs in
+    let table = modules_at n (drop 2 bs) in
+    let ms = modules_spelled (at + 2) [] n (drop 2 bs) (bytes_later 2 bs u) head.good in
+    let many : length table ≡ n = length-modules_at n (drop 2 bs) in
     record {
       are = both _ _ (ap is_module_count many ∙ head.count) ms.are;
-      starts = starts_with (file_bytes (modules_at n (drop 10 bs))) ms.rest bs (file_joined magic (big_bytes 2 (length (modules_at n (drop 10 bs)))) (flat_map module_bytes (modules_at n (drop 10 bs))) ms.rest bs (drop 8 bs) (drop 10 bs) ms.spelled count begins);
+      rest = ms.rest;
+      spelled = append_assoc (big_bytes 2 (length table)) (flat_map module_bytes table) ms.rest
+          ∙ (ap (λ t. big_bytes 2 (length table) ++ t) ms.spelled
+          ∙ (ap (λ k. big_bytes 2 k ++ drop 2 bs) many ∙ half_of bs head.room u));
     }
 
 short_name : (word : List ℕ) → is_name word ≡ true → nat_le (length word) 8 ≡ true

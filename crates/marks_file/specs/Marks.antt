@@ -1,5 +1,5 @@
 -- The values of a marks file, and the rule of each of its fields.
-use Rattle.std.specs.Prelude.{◌≡◌, ℕ, ◌<◌, ◌^◌, ◌+◌, ◌%◌, Bool, true, ◌&&◌, ◌||◌, not, nat_eq, nat_lt, nat_le, if◌then◌else◌, List, [], ◌∷◌, ◌++◌, length}
+use Rattle.std.specs.Prelude.{◌≡◌, ℕ, ◌<◌, ◌^◌, ◌+◌, ◌%◌, Bool, true, ◌&&◌, ◌||◌, not, nat_eq, nat_lt, nat_le, if◌then◌else◌, Option, Some, None, List, [], ◌∷◌, ◌++◌, length}
 use Rattle.std.specs.List.{list_any, list_all}
 use Rattle.std.specs.Str.{bytes_eq}
 use Rattle.cov_base.specs.Codes.{length_of, kind_of, breakpoint}
@@ -16,6 +16,12 @@ pub record MarkedView : Type 0 where
   pub base : ℕ
   pub size : ℕ
   pub places : List MarkedPlace
+
+-- a session's name filled with blanks, where there is one; the runs that have shown the sets; its modules in order
+pub record MarksView : Type 0 where
+  pub name : Option (List ℕ)
+  pub runs : ℕ
+  pub modules : List MarkedView
 
 abbrev pub kind_number : Kind → ℕ
 kind_number Straight = 0
@@ -88,6 +94,23 @@ is_module_count n = nat_le 1 n && nat_le n 16
 
 abbrev pub are_marks : List MarkedView → Bool
 are_marks ms = is_module_count (length ms) && are_modules [] ms
+
+-- name: one filled with blanks, or none
+abbrev pub is_session_name : Option (List ℕ) → Bool
+is_session_name None = true
+is_session_name (Some name) = is_filled name
+
+-- the most runs that a file tells
+abbrev pub most_runs : ℕ
+most_runs = 4294967295
+
+-- runs: 1 to 4,294,967,295
+unfoldable pub is_runs : ℕ → Bool
+is_runs n = nat_le 1 n && nat_le n most_runs
+
+-- the rules of all of them
+abbrev pub keeps_rules : MarksView → Bool
+keeps_rules m = is_session_name m.name && (is_runs m.runs && are_marks m.modules)
 
 -- what makes a module's row 20 bytes that can be read back
 pub record HasRow (m : MarkedView) : Type 0 where

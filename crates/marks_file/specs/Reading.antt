@@ -1,13 +1,16 @@
 -- What bytes say where a marks file is expected: its fields in their order, and the first of them that is bad.
-use Rattle.std.specs.Prelude.{◌≡◌, ℕ, zero, suc, ◌+◌, ◌*◌, Bool, ◌&&◌, nat_le, if◌then◌else◌, Option, Some, None, List, [], ◌∷◌, ◌++◌, length, take, drop, slice_index}
+use Rattle.std.specs.Prelude.{◌≡◌, ℕ, zero, suc, ◌+◌, ◌*◌, Bool, ◌&&◌, ◌||◌, nat_le, if◌then◌else◌, Option, Some, None, List, [], ◌∷◌, ◌++◌, length, take, drop, slice_index}
 use Rattle.std.specs.Str.{bytes_eq}
 use Rattle.byteorder.specs.Endian.{big_number}
 use Rattle.cov_base.specs.FactSet.{facts_of_number}
-use Rattle.marks_file.specs.Marks.{MarkedView, kind_of_number, is_location, is_length, is_original, is_set, end_of, is_new_name, is_base, is_size, is_count, is_module_count}
-use Rattle.marks_file.specs.MarksFile.{magic}
+use Rattle.cov_base.specs.Names.{is_filled}
+use Rattle.marks_file.specs.Marks.{MarkedView, MarksView, kind_of_number, is_location, is_length, is_original, is_set, end_of, is_new_name, is_base, is_size, is_count, is_module_count}
+use Rattle.marks_file.specs.MarksFile.{magic, name_field}
 use Rattle.marks_file.specs.declared.fault.MarksFault.{MarksFault}
 use Rattle.marks_file.specs.declared.fault.MarksFault.TheVariants.{BadMarks, NoMemory}
 use Rattle.marks_file.specs.declared.marks.MarkedPlace.{MarkedPlace}
+use Rattle.marks_file.specs.declared.version.Version.{Version}
+use Rattle.marks_file.specs.declared.version.Version.TheVariants.{First, Second}
 
 -- the offset of a field, and whether the input has it whole and it keeps its rule
 pub record Field : Type 0 where
@@ -87,15 +90,62 @@ abbrev pub modules_fields : ℕ → List MarkedView → ℕ → List ℕ → Lis
 modules_fields at earlier zero bs = []
 modules_fields at earlier (suc n) bs = module_fields at earlier bs ++ modules_fields (at + module_size (count_at bs)) (earlier ++ module_at bs ∷ []) n (drop (module_size (count_at bs)) bs)
 
--- the fields of the file that the bytes begin with, where the first of them has this offset
-unfoldable pub file_fields : ℕ → List ℕ → List Field
-file_fields at bs =
-    field at bs 0 8 (bytes_eq (take 8 bs) magic)
-    ∷ field at bs 8 2 (is_module_count (big_number 2 (drop 8 bs)))
-    ∷ modules_fields (at + 10) [] (big_number 2 (drop 8 bs)) (drop 10 bs)
+-- of the number of modules, and of the modules behind it
+abbrev pub table_fields : ℕ → List ℕ → List Field
+table_fields at bs = field at bs 0 2 (is_module_count (big_number 2 bs)) ∷ modules_fields (at + 2) [] (big_number 2 bs) (drop 2 bs)
 
-unfoldable pub marks_at : List ℕ → List MarkedView
-marks_at bs = modules_at (big_number 2 (drop 8 bs)) (drop 10 bs)
+abbrev pub table_at : List ℕ → List MarkedView
+table_at bs = modules_at (big_number 2 bs) (drop 2 bs)
+
+abbrev pub is_magic : List ℕ → Bool
+is_magic bs = bytes_eq bs (magic First) || bytes_eq bs (magic Second)
+
+-- the version of which the bytes have the magic, if they have one
+abbrev pub version_of : List ℕ → Version
+version_of bs = if bytes_eq (take 8 bs) (magic First) then First else Second
+
+-- where the number of modules stands
+abbrev pub table_from : Version → ℕ
+table_from First = 8
+table_from Second = 20
+
+-- a name filled with blanks, or eight blanks
+abbrev pub is_name_field : List ℕ → Bool
+is_name_field bs = is_filled bs || bytes_eq bs (name_field None)
+
+-- of name and runs
+abbrev pub session_fields : Version → ℕ → List ℕ → List Field
+session_fields First at bs = []
+session_fields Second at bs =
+    field at bs 8 8 (is_name_field (take 8 (drop 8 bs)))
+    ∷ field at bs 16 4 (nat_le 1 (big_number 4 (drop 16 bs)))
+    ∷ []
+
+-- of what stands before the number of modules
+unfoldable pub heading_fields : ℕ → List ℕ → List Field
+heading_fields at bs = field at bs 0 8 (is_magic (take 8 bs)) ∷ session_fields (version_of bs) at bs
+
+-- the fields of the file that the bytes begin with, where the first of them has this offset
+abbrev pub file_fields : ℕ → List ℕ → List Field
+file_fields at bs = heading_fields at bs ++ table_fields (at + table_from (version_of bs)) (drop (table_from (version_of bs)) bs)
+
+-- the name that the field is, none where it is blank
+abbrev pub named : List ℕ → Option (List ℕ)
+named bs = if is_filled bs then Some bs else None
+
+abbrev pub name_at : Version → List ℕ → Option (List ℕ)
+name_at First bs = None
+name_at Second bs = named (take 8 (drop 8 bs))
+
+abbrev pub runs_at : Version → List ℕ → ℕ
+runs_at First bs = 1
+runs_at Second bs = big_number 4 (drop 16 bs)
+
+abbrev pub marks_of : Version → List ℕ → MarksView
+marks_of v bs = record { name = name_at v bs; runs = runs_at v bs; modules = table_at (drop (table_from v) bs) }
+
+unfoldable pub marks_at : List ℕ → MarksView
+marks_at bs = marks_of (version_of bs) bs
 
 -- a fault of these fields: the first bad one, or want of memory
 abbrev pub IsFault : List Field → MarksFault → Type 0

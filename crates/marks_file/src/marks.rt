@@ -31,22 +31,28 @@ impl Model for MarkedModule {
     ghost view = { λ m. record { name = m.name; base = m.base; size = m.size; places = m.places.items } };
 }
 
-/// The modules of a session, 1 to 16, of different names. They stand on doublewords from X'100000' on, below X'FFF000',
-/// have an even size of 2 to 262,144 bytes and share no byte; together they have at most 65,536 places. A module's
-/// places are even, lie inside it and don't overlap; length and kind are those of the original, which is never
-/// X'0AFF', and a set has facts of its place's kind alone.
+/// What executions have shown of a session.
+///
+/// - `name`: the session's, where it is known.
+/// - `runs`: how many runs have shown it, 1 at least; 4,294,967,295 stands for as many or more.
+/// - `modules`: 1 to 16, of different names. They stand on doublewords from X'100000' on, below X'FFF000', have an even
+///   size of 2 to 262,144 bytes and share no byte; together they have at most 65,536 places. A module's places are
+///   even, lie inside it and don't overlap; length and kind are those of the original, which is never X'0AFF', and a
+///   set has facts of its place's kind alone.
 #[derive(Drop)]
 pub struct Marks {
+    pub name: Option<Name>,
+    pub runs: u32,
     pub modules: Vec<MarkedModule>,
 }
 
 impl Model for Marks {
-    ghost use Rattle.std.specs.Prelude.{◌≡◌, List, true};
-    ghost use Rattle.marks_file.specs.Marks.{MarkedView, are_marks};
+    ghost use Rattle.std.specs.Prelude.{◌≡◌, true};
+    ghost use Rattle.marks_file.specs.Marks.{MarksView, keeps_rules};
 
-    ghost Value = { List MarkedView };
+    ghost Value = { MarksView };
 
-    ghost view = { λ m. m.modules.items };
+    ghost view = { λ m. record { name = m.name; runs = m.runs; modules = m.modules.items } };
 
-    ghost invariant = { λ m. are_marks m.modules.items ≡ true };
+    ghost invariant = { λ m. keeps_rules (record { name = m.name; runs = m.runs; modules = m.modules.items }) ≡ true };
 }

@@ -2,13 +2,14 @@
 ghost use Rattle.std.specs.Prelude.{◌≡◌, ℕ, ◌+◌, ◌≤◌, ◌<◌, ◌^◌, ◌&&◌, List, [], length, true, take, drop, nat_le, None, Some, IfOk, OnOk, IfErr, OnErr, slice_index};
 ghost use Rattle.std.specs.Io.{StartsWith};
 ghost use Rattle.std.specs.List.{flat_map};
-ghost use Rattle.std.specs.Str.{bytes_eq};
 ghost use Rattle.byteorder.specs.Endian.{big_number};
-ghost use Rattle.marks_file.specs.Marks.{MarkedView, is_location, is_length, is_original, is_set, kind_of_number, is_base, is_size, is_count, is_module_count, place_count, are_marks};
-ghost use Rattle.marks_file.specs.MarksFile.{magic, module_bytes, file_bytes};
-ghost use Rattle.marks_file.specs.Reading.{first_bad, place_at, place_fields, places_at, places_fields, header_fields, module_at, module_fields, modules_at, modules_fields, count_at, IsFault, file_fields, marks_at};
+ghost use Rattle.marks_file.specs.Marks.{MarksView, is_location, is_length, is_original, is_set, kind_of_number, is_base, is_size, is_count, is_module_count, place_count, keeps_rules};
+ghost use Rattle.marks_file.specs.MarksFile.{module_bytes, modules_bytes, file_bytes, HasFile};
+ghost use Rattle.marks_file.specs.Reading.{first_bad, place_at, place_fields, places_at, places_fields, header_fields, module_at, module_fields, modules_at, modules_fields, table_fields, table_at, count_at, IsFault, file_fields, marks_at};
+ghost use Rattle.marks_file.specs.declared.version.Version.{Version};
 
 use crate::fault::{BadField, MarksFault};
+use crate::heading::read_heading;
 use crate::marks::{MarkedModule, MarkedPlace, Marks};
 use crate::names::new_name;
 use crate::numbers::{kind_of_number, set_of_number};
@@ -250,58 +251,71 @@ fn read_modules(
     Ok((modules, at))
 }
 
-fn has_magic(bytes: &[u8]) -> bool
-    ensures { result ≡ (nat_le 8 (length bytes.now) && bytes_eq (take 8 bytes.now) magic) }
+fn has_module_count(bytes: &[u8]) -> bool
+    ensures { result ≡ (nat_le 2 (length bytes.now) && is_module_count (big_number 2 bytes.now)) }
 {
-    if bytes.len() < 8 {
-        return false;
-    }
-    let magic = &bytes[..8];
-    magic == b"S370COV1".as_slice()
+    bytes.len() >= 2 && is_module_count(BigEndian::read_u16(bytes))
 }
 
-fn has_module_count(bytes: &[u8]) -> bool
-    ensures { result ≡ (nat_le 10 (length bytes.now) && is_module_count (big_number 2 (drop 8 bytes.now))) }
+/// The modules behind their number, which stands there, and the offset past them.
+fn read_table(
+    alloc: Global,
+    input: &[u8],
+    from: usize,
+) -> Result<(Vec<MarkedModule>, usize), MarksFault>
+    requires { from ≤ length input.now }
+    ensures modules { IfOk result (λ r. r.0.items ≡ table_at (drop from input.now)) }
+    ensures end { IfOk result (λ r. r.1 ≡ from + length (modules_bytes r.0.items)) }
+    ensures good { OnOk result (first_bad (table_fields from (drop from input.now)) ≡ None) }
+    ensures bad { IfErr result (IsFault (table_fields from (drop from input.now))) }
 {
-    bytes.len() >= 10 && is_module_count(half_at(bytes, 8))
+    let bytes = rest_of(input, from);
+    if !has_module_count(bytes) {
+        return Err(MarksFault::BadMarks { offset: from });
+    }
+    read_modules(alloc, input, from + 2, BigEndian::read_u16(bytes))
 }
 
 /// The file that begins there, and the offset past it.
 fn read_file(alloc: Global, input: &[u8], from: usize) -> Result<(Marks, usize), MarksFault>
     requires { from ≤ length input.now }
     ensures value { IfOk result (λ r. r.0 ≡ marks_at (drop from input.now)) }
-    ensures file { IfOk result (λ r. StartsWith (drop from input.now) (file_bytes r.0)) }
-    ensures end { IfOk result (λ r. r.1 ≡ from + length (file_bytes r.0)) }
+    ensures file { IfOk result (λ r. HasFile from (drop from input.now) r.0 r.1) }
     ensures good { OnOk result (first_bad (file_fields from (drop from input.now)) ≡ None) }
     ensures bad { IfErr result (IsFault (file_fields from (drop from input.now))) }
 {
-    let bytes = rest_of(input, from);
-    if !has_magic(bytes) {
-        return Err(MarksFault::BadMarks { offset: from });
-    }
-    if !has_module_count(bytes) {
-        return Err(MarksFault::BadMarks { offset: from + 8 });
-    }
-    let (modules, end) = read_modules(alloc, input, from + 10, half_at(bytes, 8))?;
-    Ok((Marks { modules }, end))
+    let heading = read_heading(rest_of(input, from), from)?;
+    let (modules, end) = read_table(alloc, input, from + heading.size)?;
+    let marks = Marks {
+        name: heading.name,
+        runs: heading.runs,
+        modules,
+    };
+    Ok((marks, end))
 }
 
 /// Reads the marks file with which the input goes on from there, whatever follows it, and gives the offset past it. A
-/// field is bad where the input ends before the field does, and where it breaks its rule:
-/// - the magic is `S370COV1`, and the number of modules 1 to 16;
+/// file of version 1 has no name, and stands for one run. A field is bad where the input ends before the field does,
+/// and where it breaks its rule:
+/// - the magic is `S370COV1` or `S370COV2`, and of the latter the session's name is filled with blanks or blank, and
+///   the runs are 1 at least;
+/// - the number of modules is 1 to 16;
 /// - a module's name is filled with blanks and new, its base a doubleword from X'100000' to X'FFEFF8', its size even, 2
 ///   to 262,144 and up to X'FFF000', with no byte of an earlier module, and the counts so far sum to at most 65,536;
 /// - a place's location is even, below the size, at or past the end of the place before, its length 2, 4 or 6 and
 ///   inside the module, its kind 0 or 1, its original of this length and kind and not X'0AFF', its set of the kind.
 pub fn read(alloc: Global, input: &[u8], from: usize) -> Result<(Marks, usize), MarksFault>
     requires { from ≤ length input.now }
-    ensures file { IfOk result (λ r. StartsWith (drop from input.now) (file_bytes r.0)) }
-    ensures end { IfOk result (λ r. r.1 ≡ from + length (file_bytes r.0)) }
-    ensures only { (m : List MarkedView) → are_marks m ≡ true → StartsWith (drop from input.now) (file_bytes m) → IfOk result (λ r. r.0 ≡ m) }
-    ensures sure { (m : List MarkedView) → are_marks m ≡ true → StartsWith (drop from input.now) (file_bytes m) → IfErr result (λ e. e ≡ MarksFault.NoMemory) }
+    ensures file { IfOk result (λ r. HasFile from (drop from input.now) r.0 r.1) }
+    ensures only { (m : MarksView) (end : ℕ) → keeps_rules m ≡ true → HasFile from (drop from input.now) m end → IfOk result (λ r. r.0 ≡ m) }
+    ensures only_end { (m : MarksView) (end : ℕ) → keeps_rules m ≡ true → HasFile from (drop from input.now) m end → IfOk result (λ r. r.1 ≡ end) }
+    ensures sure { (m : MarksView) (end : ℕ) → keeps_rules m ≡ true → HasFile from (drop from input.now) m end → IfErr result (λ e. e ≡ MarksFault.NoMemory) }
     ensures good { OnOk result (first_bad (file_fields from (drop from input.now)) ≡ None) }
     ensures bad { IfErr result (IsFault (file_fields from (drop from input.now))) }
-    ensures one { (m n : List MarkedView) → are_marks m ≡ true → are_marks n ≡ true → StartsWith (file_bytes m) (file_bytes n) → m ≡ n }
+    ensures one { (m n : MarksView) → keeps_rules m ≡ true → keeps_rules n ≡ true → StartsWith (file_bytes Version.Second m) (file_bytes Version.Second n) → m ≡ n }
+    ensures one_first { (m n : MarksView) → keeps_rules m ≡ true → keeps_rules n ≡ true → StartsWith (file_bytes Version.First m) (file_bytes Version.First n) → m.modules ≡ n.modules }
+    ensures one_version { (v w : Version) (m n : MarksView) → StartsWith (file_bytes v m) (file_bytes w n) → v ≡ w }
+    ensures no_prefix { (v w : Version) (m n : MarksView) → keeps_rules m ≡ true → keeps_rules n ≡ true → StartsWith (file_bytes v m) (file_bytes w n) → file_bytes v m ≡ file_bytes w n }
 {
     read_file(alloc, input, from)
 }

@@ -1,4 +1,5 @@
-//! A file of one module and two places: read, written, cut short anywhere, and each of its rules broken.
+//! A file of one module and two places, in both versions: read, written, cut short anywhere, and each of its rules
+//! broken.
 ghost use Rattle.std.specs.Prelude.{◌<◌};
 
 use crate::{MarksFault, place_row, read, write};
@@ -7,7 +8,16 @@ use cov_outside::MemSink;
 use std::alloc::Global;
 use std::test::Fail;
 
-const FILE: [u8; 48] = [
+/// Of version 2: session S, one run.
+const FILE: [u8; 60] = [
+    0x53, 0x33, 0x37, 0x30, 0x43, 0x4F, 0x56, 0x32, 0x53, 0x20, 0x20, 0x20, 0x20, 0x20, 0x20, 0x20,
+    0x00, 0x00, 0x00, 0x01, 0x00, 0x01, 0x4D, 0x20, 0x20, 0x20, 0x20, 0x20, 0x20, 0x20, 0x00, 0x10,
+    0x00, 0x00, 0x00, 0x00, 0x00, 0x06, 0x00, 0x00, 0x00, 0x02, 0x00, 0x00, 0x00, 0x00, 0x04, 0x01,
+    0x46, 0x10, 0x04, 0x00, 0x00, 0x00, 0x04, 0x02, 0x00, 0x07, 0xFE, 0x01,
+];
+
+/// The same of version 1.
+const OLD: [u8; 48] = [
     0x53, 0x33, 0x37, 0x30, 0x43, 0x4F, 0x56, 0x31, 0x00, 0x01, 0x4D, 0x20, 0x20, 0x20, 0x20, 0x20,
     0x20, 0x20, 0x00, 0x10, 0x00, 0x00, 0x00, 0x00, 0x00, 0x06, 0x00, 0x00, 0x00, 0x02, 0x00, 0x00,
     0x00, 0x00, 0x04, 0x01, 0x46, 0x10, 0x04, 0x00, 0x00, 0x00, 0x04, 0x02, 0x00, 0x07, 0xFE, 0x01,
@@ -21,11 +31,19 @@ fn bad(alloc: Global, bytes: &[u8]) -> Option<usize> {
     }
 }
 
-fn changed(at: usize, value: u8) -> [u8; 48]
-    requires { at < 48 }
-{
+fn changed(at: usize, value: u8) -> [u8; 60] {
     let mut bytes = FILE;
-    bytes[at] = value;
+    if at < 60 {
+        bytes[at] = value;
+    }
+    bytes
+}
+
+fn old_changed(at: usize, value: u8) -> [u8; 48] {
+    let mut bytes = OLD;
+    if at < 48 {
+        bytes[at] = value;
+    }
     bytes
 }
 
@@ -35,7 +53,13 @@ fn reads_and_writes(rt: HostRuntime) -> Result<(), Fail> {
     let Ok((marks, end)) = read(alloc, &FILE, 0) else {
         return Err(Fail::from("not read"));
     };
-    assert_eq!(rt; end, 48);
+    assert_eq!(rt; end, 60);
+    assert!(rt;
+        marks
+            .name
+            .is_some_and(|name| name.bytes() == b"S".as_slice())
+    );
+    assert_eq!(rt; marks.runs, 1);
     assert_eq!(rt; marks.modules.len(), 1);
     let marked = &marks.modules[0];
     assert!(rt; marked.name.bytes() == b"M".as_slice());
@@ -44,14 +68,31 @@ fn reads_and_writes(rt: HostRuntime) -> Result<(), Fail> {
     assert!(rt; place.location == 0 && place.len == 4 && place.original == 0x4610);
     assert!(rt; place.kind == Kind::Conditional);
     assert!(rt; place.set.has(Fact::Stayed) && !place.set.has(Fact::Went));
-    assert!(rt; place_row(place).as_slice() == &FILE[30..38]);
+    assert!(rt; place_row(place).as_slice() == &FILE[42..50]);
     let place = &marked.places[1];
     assert!(rt; place.kind == Kind::Straight && place.set.has(Fact::Ran));
-    let Ok(mut sink) = MemSink::new(alloc, 48, 7, Vec::new(alloc)) else {
+    let Ok(mut sink) = MemSink::new(alloc, 60, 7, Vec::new(alloc)) else {
         return Err(Fail::from("no memory"));
     };
     assert!(rt; write(&mut sink, &marks) == Ok(()));
     assert!(rt; sink.bytes() == FILE.as_slice());
+    Ok(())
+}
+
+#[test]
+fn version_1_has_no_name_and_one_run(rt: HostRuntime) -> Result<(), Fail> {
+    let alloc = rt.alloc();
+    let Ok((marks, end)) = read(alloc, &OLD, 0) else {
+        return Err(Fail::from("not read"));
+    };
+    assert_eq!(rt; end, 48);
+    assert!(rt; marks.name.is_none());
+    assert_eq!(rt; marks.runs, 1);
+    let Ok(mut sink) = MemSink::new(alloc, 60, 64, Vec::new(alloc)) else {
+        return Err(Fail::from("no memory"));
+    };
+    assert!(rt; write(&mut sink, &marks) == Ok(()));
+    assert!(rt; sink.bytes() == changed(8, b' ').as_slice());
     Ok(())
 }
 
@@ -74,7 +115,7 @@ fn a_failed_write_leaves_the_first_bytes(rt: HostRuntime) -> Result<(), Fail> {
 fn many_places(alloc: Global, count: u32) -> Result<Vec<u8>, Fail>
     requires { count < 65536 }
 {
-    let mut bytes = Vec::from_slice(alloc, b"S370COV1\0\x01M       \0\x10\0\0")?;
+    let mut bytes = Vec::from_slice(alloc, b"S370COV2        \0\0\x01\0\0\x01M       \0\x10\0\0")?;
     bytes.extend_from_slice(&(2 * count).to_be_bytes())?;
     bytes.extend_from_slice(&count.to_be_bytes())?;
     for i in 0..count {
@@ -97,7 +138,7 @@ fn sink(alloc: Global, piece: usize, fail: Vec<u64>) -> Result<MemSink, Fail>
 fn a_file_is_written_in_pieces(rt: HostRuntime) -> Result<(), Fail> {
     let alloc = rt.alloc();
     let bytes = many_places(alloc, 2000)?;
-    assert_eq!(rt; bytes.len(), 18_030);
+    assert_eq!(rt; bytes.len(), 18_042);
     let Ok((marks, _)) = read(alloc, &bytes, 0) else {
         return Err(Fail::from("not read"));
     };
@@ -140,77 +181,151 @@ fn a_file_may_stand_behind_other_bytes(rt: HostRuntime) -> Result<(), Fail> {
     let Ok((marks, end)) = read(alloc, &bytes, 7) else {
         return Err(Fail::from("not read"));
     };
-    assert_eq!(rt; end, 55);
+    assert_eq!(rt; end, 67);
     assert_eq!(rt; marks.modules.len(), 1);
     Ok(())
 }
 
+/// The offsets of the fields, and the length.
+static FIELDS: [usize; 19] = [
+    0, 8, 16, 20, 22, 30, 34, 38, 42, 46, 47, 48, 50, 51, 55, 56, 57, 59, 60,
+];
+
+static OLD_FIELDS: [usize; 17] = [
+    0, 8, 10, 18, 22, 26, 30, 34, 35, 36, 38, 39, 43, 44, 45, 47, 48,
+];
+
 #[test]
 fn the_field_that_is_cut_short_is_bad(rt: HostRuntime) {
     let alloc = rt.alloc();
-    let starts: [usize; 17] = [
-        0, 8, 10, 18, 22, 26, 30, 34, 35, 36, 38, 39, 43, 44, 45, 47, 48,
-    ];
     let mut field = 0;
-    for k in 0..48 {
-        if field < 16 && starts[field + 1] <= k {
+    for k in 0..60 {
+        if field < 18 && FIELDS[field + 1] <= k {
             field += 1;
         }
-        if field < 17 {
-            assert_eq!(rt; bad(alloc, &FILE[..k]), Some(starts[field]), "{k}");
-        }
+        assert_eq!(rt; bad(alloc, &FILE[..k]), FIELDS.get(field).copied(), "{k}");
     }
     assert_eq!(rt; bad(alloc, &FILE), None);
 }
 
 #[test]
+fn of_version_1_too(rt: HostRuntime) {
+    let alloc = rt.alloc();
+    let mut field = 0;
+    for k in 0..48 {
+        if field < 16 && OLD_FIELDS[field + 1] <= k {
+            field += 1;
+        }
+        assert_eq!(rt;
+            bad(alloc, &OLD[..k]),
+            OLD_FIELDS.get(field).copied(),
+            "{k}"
+        );
+    }
+    assert_eq!(rt; bad(alloc, &OLD), None);
+}
+
+/// A byte of the file, another value there, and the field that is then the first bad one; 60 where none is.
+static BROKEN_HEADS: [(usize, u8, usize); 20] = [
+    (0, 0, 0),
+    (7, b'3', 0),
+    (8, b' ', 60),
+    (8, b'1', 8),
+    (10, b'S', 8),
+    (15, 0, 8),
+    (19, 0, 16),
+    (21, 0, 20),
+    (21, 17, 20),
+    (22, b'1', 22),
+    (24, b'M', 22),
+    (22, b' ', 22),
+    (33, 4, 30),
+    (31, 0x0F, 30),
+    (30, 1, 30),
+    (37, 7, 34),
+    (37, 0, 34),
+    (35, 4, 34),
+    (39, 1, 38),
+    (38, 1, 38),
+];
+
+static BROKEN_PLACES: [(usize, u8, usize); 15] = [
+    (45, 1, 42),
+    (45, 6, 42),
+    (46, 5, 46),
+    (45, 4, 46),
+    (47, 2, 47),
+    (47, 0, 48),
+    (48, 0x41, 48),
+    (50, 0, 60),
+    (50, 1, 50),
+    (50, 3, 50),
+    (50, 8, 50),
+    (54, 2, 51),
+    (55, 4, 55),
+    (59, 2, 59),
+    (59, 0, 60),
+];
+
+static OLD_BROKEN: [(usize, u8, usize); 8] = [
+    (0, 0, 0),
+    (7, b'2', 8),
+    (9, 0, 8),
+    (9, 17, 8),
+    (10, b' ', 10),
+    (38, 3, 38),
+    (42, 2, 39),
+    (47, 2, 47),
+];
+
+#[test]
 fn each_rule_has_its_field(rt: HostRuntime) {
     let alloc = rt.alloc();
-    assert_eq!(rt; bad(alloc, &changed(7, b'2')), Some(0));
-    assert_eq!(rt; bad(alloc, &changed(9, 0)), Some(8));
-    assert_eq!(rt; bad(alloc, &changed(9, 17)), Some(8));
-    assert_eq!(rt; bad(alloc, &changed(10, b'1')), Some(10));
-    assert_eq!(rt; bad(alloc, &changed(12, b'M')), Some(10));
-    assert_eq!(rt; bad(alloc, &changed(10, b' ')), Some(10));
-    assert_eq!(rt; bad(alloc, &changed(21, 4)), Some(18));
-    assert_eq!(rt; bad(alloc, &changed(19, 0x0F)), Some(18));
-    assert_eq!(rt; bad(alloc, &changed(18, 1)), Some(18));
-    assert_eq!(rt; bad(alloc, &changed(25, 7)), Some(22));
-    assert_eq!(rt; bad(alloc, &changed(25, 0)), Some(22));
-    assert_eq!(rt; bad(alloc, &changed(23, 4)), Some(22));
-    assert_eq!(rt; bad(alloc, &changed(27, 1)), Some(26));
-    assert_eq!(rt; bad(alloc, &changed(33, 1)), Some(30));
-    assert_eq!(rt; bad(alloc, &changed(33, 6)), Some(30));
-    assert_eq!(rt; bad(alloc, &changed(34, 5)), Some(34));
-    assert_eq!(rt; bad(alloc, &changed(33, 4)), Some(34));
-    assert_eq!(rt; bad(alloc, &changed(35, 2)), Some(35));
-    assert_eq!(rt; bad(alloc, &changed(35, 0)), Some(36));
-    assert_eq!(rt; bad(alloc, &changed(36, 0x41)), Some(36));
-    assert_eq!(rt; bad(alloc, &changed(38, 1)), Some(38));
-    assert_eq!(rt; bad(alloc, &changed(38, 8)), Some(38));
-    assert_eq!(rt; bad(alloc, &changed(42, 2)), Some(39));
-    assert_eq!(rt; bad(alloc, &changed(43, 4)), Some(43));
-    assert_eq!(rt; bad(alloc, &changed(47, 2)), Some(47));
+    for (at, value, offset) in BROKEN_HEADS {
+        let expected = if offset < 60 { Some(offset) } else { None };
+        assert_eq!(rt; bad(alloc, &changed(at, value)), expected, "{at} {value}");
+    }
+}
+
+#[test]
+fn each_rule_of_a_place_has_its_field(rt: HostRuntime) {
+    let alloc = rt.alloc();
+    for (at, value, offset) in BROKEN_PLACES {
+        let expected = if offset < 60 { Some(offset) } else { None };
+        assert_eq!(rt; bad(alloc, &changed(at, value)), expected, "{at} {value}");
+    }
+}
+
+#[test]
+fn each_rule_of_version_1_has_its_field(rt: HostRuntime) {
+    let alloc = rt.alloc();
+    for (at, value, offset) in OLD_BROKEN {
+        assert_eq!(rt;
+            bad(alloc, &old_changed(at, value)),
+            Some(offset),
+            "{at} {value}"
+        );
+    }
 }
 
 #[test]
 fn a_breakpoint_is_no_original(rt: HostRuntime) {
     let alloc = rt.alloc();
-    let mut bytes = changed(45, 0x0A);
-    bytes[46] = 0xFF;
-    assert_eq!(rt; bad(alloc, &bytes), Some(45));
-    bytes[46] = 0xFE;
+    let mut bytes = changed(57, 0x0A);
+    bytes[58] = 0xFF;
+    assert_eq!(rt; bad(alloc, &bytes), Some(57));
+    bytes[58] = 0xFE;
     assert_eq!(rt; bad(alloc, &bytes), None);
 }
 
 #[test]
 fn modules_differ_and_share_no_byte(rt: HostRuntime) -> Result<(), Fail> {
     let alloc = rt.alloc();
-    let mut bytes = Vec::from_slice(alloc, &changed(9, 2))?;
-    bytes.extend_from_slice(&FILE[10..])?;
-    assert_eq!(rt; bad(alloc, &bytes), Some(48));
-    let mut bytes = Vec::from_slice(alloc, &changed(9, 2))?;
-    bytes.extend_from_slice(&changed(10, b'N')[10..])?;
+    let mut bytes = Vec::from_slice(alloc, &changed(21, 2))?;
+    bytes.extend_from_slice(&FILE[22..])?;
     assert_eq!(rt; bad(alloc, &bytes), Some(60));
+    let mut bytes = Vec::from_slice(alloc, &changed(21, 2))?;
+    bytes.extend_from_slice(&changed(22, b'N')[22..])?;
+    assert_eq!(rt; bad(alloc, &bytes), Some(72));
     Ok(())
 }

@@ -5,11 +5,13 @@ ghost use Rattle.byteorder.specs.Endian.{big_bytes};
 ghost use Rattle.cov_outside.specs.Puts.{Puts};
 ghost use Rattle.cov_outside.specs.Writes.{Writes};
 ghost use Rattle.marks_file.specs.Marks.{HasRow};
-ghost use Rattle.marks_file.specs.MarksFile.{place_bytes, module_bytes, file_bytes, magic};
+ghost use Rattle.marks_file.specs.MarksFile.{place_bytes, module_bytes, magic, name_field, file_bytes};
+ghost use Rattle.marks_file.specs.declared.version.Version.{Version};
 
 use crate::marks::{MarkedModule, MarkedPlace, Marks};
 use crate::rows::{module_row, place_bytes};
 use byteorder::{BigEndian, ByteOrder};
+use cov_base::Name;
 use cov_outside::{Failed, Sink, WriteBuffer};
 
 /// The places of a module.
@@ -54,12 +56,24 @@ fn put_modules<K: Sink>(
     Ok(())
 }
 
-/// What stands before the modules.
-fn head(count: u16) -> [u8; 10]
-    ensures { result ≡ magic ++ big_bytes 2 count }
+/// The name filled with blanks; eight blanks for none.
+fn name_field(name: Option<Name>) -> [u8; 8]
+    ensures { result ≡ name_field name }
 {
-    let mut bytes = *b"S370COV1\0\0";
-    BigEndian::write_u16(&mut bytes[8..], count);
+    match name {
+        Some(name) => name.filled(),
+        None => *b"        ",
+    }
+}
+
+/// What stands before the modules: the magic, the name, the runs, and the number of modules.
+fn head(name: Option<Name>, runs: u32, count: u16) -> [u8; 22]
+    ensures { result ≡ (magic Version.Second ++ (name_field name ++ big_bytes 4 runs)) ++ big_bytes 2 count }
+{
+    let mut bytes = *b"S370COV2        \0\0\0\0\0\0";
+    BigEndian::write_u32(&mut bytes[16..], runs);
+    BigEndian::write_u16(&mut bytes[20..], count);
+    bytes[8..16].copy_from_slice(&name_field(name));
     bytes
 }
 
@@ -67,22 +81,24 @@ fn head(count: u16) -> [u8; 10]
 fn put_file<K: Sink>(
     buffer: &mut WriteBuffer,
     sink: &mut K,
+    name: Option<Name>,
+    runs: u32,
     modules: &[MarkedModule],
 ) -> Result<(), Failed>
     requires rows { All HasRow modules.now }
     requires count { length modules.now < 2 ^ 16 }
-    ensures { Puts K.written K.faults sink.old sink.new buffer.old buffer.new result (file_bytes modules.now) }
+    ensures { Puts K.written K.faults sink.old sink.new buffer.old buffer.new result (file_bytes Version.Second (record { name = name; runs = runs; modules = modules.now })) }
 {
-    buffer.put(sink, &head(modules.len() as u16))?;
+    buffer.put(sink, &head(name, runs, modules.len() as u16))?;
     put_modules(buffer, sink, modules)
 }
 
-/// Writes the marks file of these modules, by way of a buffer of 4,096 bytes. Failed only where the sink's count of
-/// faults rose; the sink has then taken a first part of the file. Takes no memory.
+/// Writes the marks file of these marks, which is of version 2, by way of a buffer of 4,096 bytes. Failed only where
+/// the sink's count of faults rose; the sink has then taken a first part of the file. Takes no memory.
 pub fn write<K: Sink>(sink: &mut K, m: &Marks) -> Result<(), Failed>
-    ensures { Writes K.written K.faults sink.old sink.new result (file_bytes m.now) }
+    ensures { Writes K.written K.faults sink.old sink.new result (file_bytes Version.Second m.now) }
 {
     let mut buffer = WriteBuffer::new();
-    put_file(&mut buffer, sink, &m.modules)?;
+    put_file(&mut buffer, sink, m.name, m.runs, &m.modules)?;
     buffer.flush(sink)
 }

@@ -27,9 +27,9 @@ pub sum_step : (amount : ℕ → ℕ) (n past so_far x total : ℕ) → n < past
 sum_step amount n past so_far x total h is sum = omega (arith, sum, sum_from-next amount n past h, is)
 
 -- the next line of a listing, and those after it
-pub marked_lines-next : (mark : ℕ → Mark) (lines : List (List ℕ)) (i : ℕ) (line : List ℕ) → i < length lines → line ≡ get_or lines i line → marked_lines mark (i + 1) (drop i lines) ≡ (annotated (mark (i + 1)) line ∷ []) ++ marked_lines mark (i + 1 + 1) (drop (i + 1) lines)
+pub marked_lines-next : (mark : ℕ → Mark) (lines : List (List ℕ)) (i : ℕ) (line : List ℕ) → i < length lines → line ≡ get_or lines i [] → marked_lines mark (i + 1) (drop i lines) ≡ (annotated (mark (i + 1)) line ∷ []) ++ marked_lines mark (i + 1 + 1) (drop (i + 1) lines)
 marked_lines-next mark lines i line h is =
-    let next : drop i lines ≡ line ∷ drop (i + 1) lines = drop_more lines i line h ∙ ap (λ x. x ∷ drop (i + 1) lines) (sym is) in
+    let next : drop i lines ≡ line ∷ drop (i + 1) lines = drop_more lines i [] h ∙ ap (λ x. x ∷ drop (i + 1) lines) (sym is) in
     rw next refl
 
 pub marked_lines-end : (mark : ℕ → Mark) (lines : List (List ℕ)) (i : ℕ) → length lines ≤ i → marked_lines mark (i + 1) (drop i lines) ≡ []

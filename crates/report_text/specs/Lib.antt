@@ -5,4 +5,5 @@ pub mod Sessions
 pub mod Table
 pub mod Tasks
 pub mod Text
+pub mod Trial
 pub mod Writes

@@ -23,8 +23,9 @@ use arrayvec::ArrayVec;
 use brk_table::Tables;
 use cov_base::{Bits, Fact, INPUT_LIMIT, Kind, LINE_LIMIT, Mark, Name, PlaceNo, SessNo, mark_of};
 use cov_outside::{Failed, Sink};
+use listing_lines::ListingLines;
 use module_area::Place;
-use session_book::{FactSets, Job, Lines};
+use session_book::{FactSets, Job};
 
 /// The names of a session and of its phase.
 #[tactic(auto, unfolding(crate::specs::Sessions::session_line))]
@@ -201,7 +202,7 @@ fn mark_at<R: FactSets>(tables: &Tables, results: &R, s: SessNo, m: u32, k: u32)
 /// A listing with marks.
 fn listing_part<K: Sink, R: FactSets>(
     sink: &mut K,
-    lines: &Lines,
+    lines: &ListingLines,
     tables: &Tables,
     results: &R,
     s: SessNo,
@@ -216,9 +217,9 @@ fn listing_part<K: Sink, R: FactSets>(
     requires within { AreWithin tables.now (R.set_of results.now s.0) m }
     ensures { WritesLines K.written K.faults sink.old sink.new result (marked_lines (λ k. line_mark tables.now.places (R.set_of results.now s.0) (place_at_line tables.now.tables m k)) 1 lines.now) }
 {
-    for i in 0..lines.0.len() {
+    for i in 0..lines.len() {
         let mark = mark_at(tables, results, s, m, i as u32 + 1);
-        put(sink, marked_line(lines.0[i].bytes(), mark))?;
+        put(sink, marked_line(lines.line(i), mark))?;
     }
     Ok(())
 }

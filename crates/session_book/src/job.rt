@@ -4,21 +4,9 @@ ghost use Rattle.session_book.specs.JobView.{IsJob, IsSession, IsTask};
 ghost use Rattle.session_book.specs.Sessions.{session_of, task_of};
 
 use cov_base::{Addr, Name, SessNo};
-use listing_lines::ListingLine;
+use listing_lines::ListingLines;
 use module_area::{DataCard, Images};
 use std::marker::Model;
-
-/// The lines of a listing.
-#[derive(Drop)]
-pub struct Lines(pub Vec<ListingLine>);
-
-impl Model for Lines {
-    ghost use Rattle.std.specs.Prelude.{List, ℕ};
-
-    ghost Value = { List (List ℕ) };
-
-    ghost view = { λ l. l.0.items };
-}
 
 /// A session: its name, its phase and modules by index, and the controller's index among the job's tasks, none
 /// for a whole session.
@@ -66,7 +54,7 @@ impl Model for TaskCard {
 #[derive(Drop)]
 pub struct Job {
     pub images: Images,
-    pub listings: Vec<Option<Lines>>,
+    pub listings: Vec<Option<ListingLines>>,
     pub phases: Vec<Name>,
     pub sessions: Vec<Session>,
     pub tasks: Vec<TaskCard>,

@@ -7,6 +7,6 @@ mod plans;
 mod results;
 
 pub use beginning::{Begun, begin};
-pub use job::{Job, Lines, Session, TaskCard};
+pub use job::{Job, Session, TaskCard};
 pub use plans::plan_of;
 pub use results::{FactSets, Results};

@@ -6,19 +6,20 @@ use Rattle.std.proofs.lemmas.List.{length-map, get_or_default}
 use Rattle.std.proofs.lemmas.List.Elements.{All-tail}
 use Rattle.cov_base.specs.FactSet.{FactSet}
 use Rattle.marks_file.specs.Marks.{MarkedView, HasRow, are_marks}
-use Rattle.marks_file.specs.MarksFile.{place_row, module_row, rows, file_bytes}
+use Rattle.marks_file.specs.MarksFile.{place_row, module_row, rows, modules_bytes}
 use Rattle.marks_file.specs.declared.marks.MarkedPlace.{MarkedPlace}
 use Rattle.marks_file.proofs.MarksLemmas.{same_bytes, marks_have_rows}
 use Rattle.table_combine.specs.Combine.{Difference, first_difference, SamePlaces, SameTables, unite}
 use Rattle.table_combine.proofs.DifferenceLemmas.{row_count}
 use Rattle.table_combine.proofs.UnionLemmas.{union_is_marks, length-unite}
+use Rattle.marks_file.proofs.FileLemmas.{one_table}
 use Rattle.table_combine.proofs.LawLemmas.{files_turned}
 use Rattle.brk_table.specs.Places.{TableView, TablesView, first_place, place_count}
 use Rattle.session_book.specs.JobView.{JobView}
 use Rattle.session_book.specs.Sessions.{session_of}
 use Rattle.session_marks.specs.Marked.{marked_module, session_marks, session_rows}
 use Rattle.session_marks.specs.FromFile.{HasSetsAt, HaveSetsAt, IsOwn, IsDecided}
-use Rattle.session_marks.proofs.SetsLemmas.{empty, file_kept, same_marks, modules_filled, sets_step}
+use Rattle.session_marks.proofs.SetsLemmas.{empty, file_kept, modules_filled, sets_step}
 use Rattle.session_marks.proofs.SessionLemmas.{own_same, sets_one, counts_united}
 
 -- rows in which there is no difference are the same
@@ -117,7 +118,7 @@ have_upto tables modules file d (suc i) differ below many counts =
 united : (own file : List MarkedView) → are_marks own ≡ true → are_marks file ≡ true → unite file own ≡ file → rows own ≡ rows file → unite own file ≡ file
 united own file h g kept e =
     let table = same_tables own file (marks_have_rows own h) (marks_have_rows file g) e in
-    same_marks (unite own file) file (union_is_marks own file h g table) g (files_turned own file table ∙ ap file_bytes kept)
+    one_table (unite own file) file (union_is_marks own file h g table) g (files_turned own file table ∙ ap modules_bytes kept)
 
 no_module : MarkedView
 no_module = record { name = []; base = 0; size = 0; places = [] }
@@ -147,10 +148,10 @@ decided j tables s file differ = record {
 }
 
 -- a file that was united with the session's table
-pub united_sets : (j : JobView) (tables : TablesView) (s : ℕ) (file own : List MarkedView) (sets : ℕ → FactSet) → own ≡ unite (session_marks j tables empty s) file → are_marks own ≡ true → are_marks file ≡ true
-    → file_bytes (unite (session_marks j tables empty s) file) ≡ file_bytes (unite file (session_marks j tables empty s))
+pub united_sets : (j : JobView) (tables : TablesView) (s : ℕ) (file own : List MarkedView) (sets : ℕ → FactSet) → own ≡ unite (session_marks j tables empty s) file
+    → unite (session_marks j tables empty s) file ≡ unite file (session_marks j tables empty s)
     → HaveSetsAt tables.tables sets (length (session_of j s).modules) (session_of j s).modules own → file ≡ session_marks j tables sets s
-united_sets j tables s file own sets e h g turned have =
+united_sets j tables s file own sets e turned have =
     let ms = (session_of j s).modules in
-    let is : own ≡ file = same_marks own file h g (ap file_bytes e ∙ (turned ∙ ap file_bytes (file_kept j tables ms file))) in
+    let is : own ≡ file = e ∙ (turned ∙ file_kept j tables ms file) in
     sym is ∙ (e ∙ sym (modules_filled j tables sets ms file (subst (HaveSetsAt tables.tables sets (length ms) ms) e have)))

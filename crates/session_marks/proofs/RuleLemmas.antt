@@ -11,12 +11,16 @@ use Rattle.module_area.specs.Images.{IsImage}
 use Rattle.module_area.specs.PlanView.{place_of}
 use Rattle.module_area.specs.declared.places.Place.{Place}
 use Rattle.brk_table.specs.Places.{IsPlace}
-use Rattle.marks_file.specs.Marks.{kind_number, is_location, is_length, is_original, is_set, is_place, are_places, end_of}
+use Rattle.marks_file.specs.Marks.{kind_number, is_location, is_length, is_original, is_set, is_place, are_places, end_of, is_runs}
 use Rattle.marks_file.specs.declared.marks.MarkedPlace.{MarkedPlace}
 use Rattle.marks_file.proofs.MarksLemmas.{both}
 use Rattle.marks_file.proofs.SpellLemmas.{set_read}
 use Rattle.session_marks.specs.Fields.{AreHalfwords}
 use Rattle.session_marks.specs.Marked.{marked_place, marked_places}
+
+pub one_run : is_runs 1 ≡ true
+unfolding is_runs
+one_run = refl
 
 -- a place of a module, and a set there
 pub record IsMarkable (image : ImageView) (p : Place) (set : FactSet) : Type 0 where

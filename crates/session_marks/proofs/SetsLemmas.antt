@@ -1,15 +1,11 @@
 -- A file of the session's table is the session's marks with the file's sets.
 use Rattle.std.proofs.Common.{◌≡◌, ◌≢◌, ◌⊎◌, inl, inr, ℕ, ◌+◌, ◌<◌, ◌≤◌, zero, suc, Bool, true, false, ◌||◌, List, [], ◌∷◌, length, get_or, map, AllPairs, refl, ap, sym, ◌∙◌, subst, arith}
-use Rattle.std.specs.Io.{StartsWith}
-use Rattle.std.proofs.Math.Seq.{take-length}
 use Rattle.std.proofs.lemmas.Bool.{cases_eq, cases_lt}
 use Rattle.std.proofs.lemmas.List.{get_or_default}
 use Rattle.cov_base.specs.FactSet.{FactSet}
 use Rattle.cov_base.specs.Facts.{no_facts, union}
-use Rattle.marks_file.specs.Marks.{MarkedView, are_marks}
-use Rattle.marks_file.specs.MarksFile.{file_bytes}
+use Rattle.marks_file.specs.Marks.{MarkedView}
 use Rattle.marks_file.specs.declared.marks.MarkedPlace.{MarkedPlace}
-use Rattle.marks_file.proofs.FileLemmas.{one_spelling}
 use Rattle.module_area.specs.declared.places.Place.{Place}
 use Rattle.table_combine.specs.Combine.{unite_place, unite_places, unite_module, unite}
 use Rattle.brk_table.specs.Places.{TableView, TablesView, first_place, place_count}
@@ -58,12 +54,6 @@ file_kept j tables [] (f ∷ fs) = refl
 file_kept j tables (m ∷ ms) (f ∷ fs) =
     joined_modules (unite_module f (marked_module j tables empty m)) f (unite fs (map (marked_module j tables empty) ms)) fs
     (ap (λ ps. record f { places = ps }) (places_kept (module_of j m).base tables.places (first_place tables.tables m) (place_count tables.tables m) f.places)) (file_kept j tables ms fs)
-
--- marks of the same bytes
-pub same_marks : (m n : List MarkedView) → are_marks m ≡ true → are_marks n ≡ true → file_bytes m ≡ file_bytes n → m ≡ n
-same_marks m n hm hn e =
-    let starts : StartsWith (file_bytes m) (file_bytes n) = subst (λ bs. StartsWith bs (file_bytes n)) (sym e) (take-length (file_bytes n)) in
-    one_spelling m n hm hn starts
 
 -- the places with these sets
 pub filled : (base : ℕ) (places : List Place) (sets : ℕ → FactSet) (n count : ℕ) (qs : List MarkedPlace)

@@ -1,4 +1,5 @@
--- The sets that a marks file has for a session, and why a file is none of the session's.
+-- The sets that a marks file has for a session, and why a file is none of the session's: by its modules alone, whatever
+-- name and runs it has.
 use Rattle.std.specs.Prelude.{◌≡◌, ◌⊎◌, ℕ, ◌+◌, ◌<◌, ◌≤◌, true, Some, None, List, length, get_or, All}
 use Rattle.cov_base.specs.FactSet.{FactSet}
 use Rattle.cov_base.specs.Facts.{no_facts}

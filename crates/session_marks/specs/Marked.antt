@@ -1,8 +1,8 @@
 -- The marks of a session of a job: the table of its modules' places, and a set at each.
-use Rattle.std.specs.Prelude.{ℕ, zero, suc, ◌+◌, ◌-◌, List, [], ◌∷◌, length, map}
+use Rattle.std.specs.Prelude.{ℕ, zero, suc, ◌+◌, ◌-◌, Some, List, [], ◌∷◌, length, map}
 use Rattle.cov_base.specs.FactSet.{FactSet}
 use Rattle.cov_base.specs.Facts.{no_facts}
-use Rattle.marks_file.specs.Marks.{MarkedView}
+use Rattle.marks_file.specs.Marks.{MarkedView, MarksView}
 use Rattle.marks_file.specs.MarksFile.{rows}
 use Rattle.marks_file.specs.declared.marks.MarkedPlace.{MarkedPlace}
 use Rattle.module_area.specs.PlanView.{place_of}
@@ -34,6 +34,10 @@ marked_module j tables sets m = record {
 -- the modules of session s in the order of its card; `sets` has the set of the place of each number
 abbrev pub session_marks : JobView → TablesView → (ℕ → FactSet) → ℕ → List MarkedView
 session_marks j tables sets s = map (marked_module j tables sets) (session_of j s).modules
+
+-- what one run of the job tells of it: its name too
+abbrev pub session_file : JobView → TablesView → (ℕ → FactSet) → ℕ → MarksView
+session_file j tables sets s = record { name = Some (session_of j s).name; runs = 1; modules = session_marks j tables sets s }
 
 -- the rows of its table, which hold no sets
 abbrev pub session_rows : JobView → TablesView → ℕ → List (List ℕ)

@@ -1,20 +1,21 @@
 //! A session of three modules, one of them without a listing, whose card has them in another order than the job: a
 //! file of its table, and files of other tables. The job and its tables are made by hand.
-ghost use Rattle.std.specs.Prelude.{◌≡◌, ◌≤◌, length, IfOk};
+ghost use Rattle.std.specs.Prelude.{◌≡◌, ◌≤◌, ◌∷◌, [], Some, length, IfOk};
 ghost use Rattle.cov_base.specs.Names.{padded};
 ghost use Rattle.session_marks.specs.Sample.{sample_images, sample_tables};
 
 use crate::{FileSets, SetsFault, file_sets};
-use brk_table::{Table, Tables};
+use brk_table::{LinePlaces, Table, Tables};
 use cov_base::{Addr, Bits, Fact, Kind, Name, PlaceNo, SessNo};
+use listing_lines::ListingLines;
 use marks_file::read;
 use module_area::{Image, Images, Place};
-use session_book::{FactSets, Job, Lines, Session};
+use session_book::{FactSets, Job, Session};
 use std::alloc::Global;
 use std::test::Fail;
 use table_combine::OtherTable;
 
-/// Modules O, N and M: O's first place ran, M's first place branched and fell through, M's second place ran.
+/// Of version 1. Modules O, N and M: O's first place ran, M's first place branched and fell through, M's second place ran.
 const FILE: [u8; 106] = [
     0x53, 0x33, 0x37, 0x30, 0x43, 0x4F, 0x56, 0x31, 0x00, 0x03, 0x4F, 0x20, 0x20, 0x20, 0x20, 0x20,
     0x20, 0x20, 0x00, 0x10, 0x00, 0x10, 0x00, 0x00, 0x00, 0x06, 0x00, 0x00, 0x00, 0x02, 0x00, 0x00,
@@ -60,9 +61,9 @@ fn job(alloc: Global) -> Result<Job, Fail>
     Ok(Job {
         images: images(alloc)?,
         listings: vec![in alloc;
-            Some(Lines(Vec::new(alloc))),
+            Some(ListingLines::new(alloc)),
             None,
-            Some(Lines(Vec::new(alloc))),
+            Some(ListingLines::new(alloc)),
         ]?,
         phases: vec![in alloc; Name::read(b"P").ok_or("name")?]?,
         sessions: vec![in alloc; session]?,
@@ -83,6 +84,16 @@ fn place(module: u32, at: u32, len: u8, kind: Kind, original: u16) -> Place
     }
 }
 
+/// Two lines, whose places have the indices 0 and 1.
+fn two_lines(alloc: Global) -> Result<LinePlaces, Fail>
+    ensures { IfOk result (λ l. l ≡ Some 0 ∷ Some 1 ∷ []) }
+{
+    let mut lines = LinePlaces::none(alloc, 2)?;
+    lines.set(0, 0);
+    lines.set(1, 1);
+    Ok(lines)
+}
+
 /// The tables of M and O, whose places have the numbers 0 and 1, and 2 and 3.
 fn tables(alloc: Global) -> Result<Tables, Fail>
     ensures { IfOk result (λ t. t.tables ≡ sample_tables) }
@@ -92,14 +103,14 @@ fn tables(alloc: Global) -> Result<Tables, Fail>
     let m = Table {
         module: 0,
         places: vec![in alloc; loops, returns]?,
-        lines: vec![in alloc; Some(0), Some(1)]?,
+        lines: two_lines(alloc)?,
     };
     let loads = place(2, 0x100010, 4, Kind::Straight, 0x4110);
     let ends = place(2, 0x100014, 2, Kind::Straight, 0x07FE);
     let o = Table {
         module: 2,
         places: vec![in alloc; loads, ends]?,
-        lines: vec![in alloc; Some(0), Some(1)]?,
+        lines: two_lines(alloc)?,
     };
     Ok(Tables::of(alloc, vec![in alloc; m, o]?)?)
 }

@@ -5,7 +5,7 @@ ghost use Rattle.brk_table.specs.Together.{AreTables};
 ghost use Rattle.cov_base.specs.Facts.{no_facts};
 ghost use Rattle.session_book.specs.Sets.{HasSetsOf};
 ghost use Rattle.session_marks.specs.Filled.{with_sets, filled_module, AreThere, filled};
-ghost use Rattle.session_marks.specs.Marked.{session_marks};
+ghost use Rattle.session_marks.specs.Marked.{session_file};
 
 use crate::marking::modules_of;
 use brk_table::Tables;
@@ -71,8 +71,8 @@ pub fn fill_marks<R: FactSets>(
     requires to { s.0 ≤ length job.now.sessions }
     requires tables { AreTables job.now.images tables.now.tables }
     requires sets { HasSetsOf job.now tables.now (R.sessions results.now) (R.places results.now) (R.set_of results.now) s.0 }
-    requires empty { marks.old ≡ session_marks job.now tables.now (λ n. no_facts) s.0 }
-    ensures { marks.new ≡ session_marks job.now tables.now (R.set_of results.now s.0) s.0 }
+    requires empty { marks.old ≡ session_file job.now tables.now (λ n. no_facts) s.0 }
+    ensures { marks.new ≡ session_file job.now tables.now (R.set_of results.now s.0) s.0 }
 {
     // For what it says of the tables: their places are all places, one table after the other.
     let _ = tables.range(0);

@@ -114,10 +114,10 @@ fn session_sets(
     requires tables { AreTables job.now.images tables.now.tables }
     requires modules { modules.now ≡ (session_of job.now s.0).modules }
     requires differ { AllPairs (λ m n. m ≢ n) modules.now }
-    ensures same { IfOk result (λ f. file.now ≡ session_marks job.now tables.now (set_at f.sets) s.0) }
+    ensures same { IfOk result (λ f. file.now.modules ≡ session_marks job.now tables.now (set_at f.sets) s.0) }
     ensures sets { IfOk result (λ f. HasSetsOf job.now tables.now f.session (length f.sets) (sets_of_one f) s.0) }
     ensures elsewhere { IfOk result (λ f. AreEmptyElsewhere tables.now.tables (set_at f.sets) (session_of job.now s.0).modules) }
-    ensures fault { IfErr result (λ e. IsSetsFault job.now tables.now s.0 file.now e) }
+    ensures fault { IfErr result (λ e. IsSetsFault job.now tables.now s.0 file.now.modules e) }
 {
     let none = NoSets {
         sessions: s.0,
@@ -138,8 +138,8 @@ fn session_sets(
     }
 }
 
-/// The sets that the file has for session s of the job, whose tables these are. Other comes exactly where the file's
-/// table isn't the session's, NoMemory only for want of memory. Time and memory are linear in the places of the tables;
+/// The sets that the file has for session s of the job, whose tables these are; its name and runs may be any. Other comes
+/// exactly where the file's table isn't the session's, NoMemory only for want of memory. Time and memory are linear in the places of the tables;
 /// memory is taken once a module, and once for the sets.
 pub fn file_sets(
     alloc: Global,
@@ -151,11 +151,11 @@ pub fn file_sets(
     requires from { 0 < s.0 }
     requires to { s.0 ≤ length job.now.sessions }
     requires tables { AreTables job.now.images tables.now.tables }
-    ensures same { IfOk result (λ f. file.now ≡ session_marks job.now tables.now (set_at f.sets) s.0) }
+    ensures same { IfOk result (λ f. file.now.modules ≡ session_marks job.now tables.now (set_at f.sets) s.0) }
     ensures sets { IfOk result (λ f. HasSetsOf job.now tables.now f.session (length f.sets) (sets_of_one f) s.0) }
     ensures elsewhere { IfOk result (λ f. AreEmptyElsewhere tables.now.tables (set_at f.sets) (session_of job.now s.0).modules) }
-    ensures decided { IsDecided job.now tables.now s.0 file.now }
-    ensures fault { IfErr result (λ e. IsSetsFault job.now tables.now s.0 file.now e) }
+    ensures decided { IsDecided job.now tables.now s.0 file.now.modules }
+    ensures fault { IfErr result (λ e. IsSetsFault job.now tables.now s.0 file.now.modules e) }
 {
     let card = job.session(s);
     session_sets(alloc, job, tables, s, &card.modules, file)

@@ -5,7 +5,7 @@ ghost use Rattle.module_area.specs.PlanView.{place_of};
 ghost use Rattle.session_book.specs.JobView.{IsJob, IsSession};
 ghost use Rattle.session_book.specs.Sessions.{module_of, session_of};
 ghost use Rattle.session_book.specs.Sets.{HasSetsOf, AreWithin};
-ghost use Rattle.session_marks.specs.Marked.{marked_place, marked_places, marked_module, session_marks};
+ghost use Rattle.session_marks.specs.Marked.{marked_place, marked_places, marked_module, session_file};
 ghost use Rattle.session_marks.specs.Fields.{HasGoodFields, AreHalfwords};
 
 use brk_table::Tables;
@@ -156,10 +156,19 @@ pub fn modules_of(job: &Job, s: SessNo) -> &[u32]
     &job.sessions[s.0 as usize - 1].modules
 }
 
-/// The marks of session s of the job: its modules in the order of its card, a module without a listing too, and each
-/// with the places of its table and the session's set at each. The tables are those of the job's listings, and each
-/// set has facts of its place's kind alone. Refused only for want of memory. Time is linear in the places of the
-/// session's modules, and so is memory, which is taken once a module.
+/// The session's name, of which a caller then knows that it is one filled with blanks.
+fn session_name(job: &Job, s: SessNo) -> Name
+    requires from { 0 < s.0 }
+    requires to { s.0 ≤ length job.now.sessions }
+    ensures { result ≡ (session_of job.now s.0).name }
+{
+    job.session(s).name
+}
+
+/// The marks of session s of the job: its name, one run, its modules in the order of its card, a module without a
+/// listing too, and each with the places of its table and the session's set at each. The tables are those of the job's
+/// listings, and each set has facts of its place's kind alone. Refused only for want of memory. Time is linear in the
+/// places of the session's modules, and so is memory, which is taken once a module.
 pub fn marks_of<R: FactSets>(
     alloc: Global,
     job: &Job,
@@ -171,8 +180,12 @@ pub fn marks_of<R: FactSets>(
     requires to { s.0 ≤ length job.now.sessions }
     requires tables { AreTables job.now.images tables.now.tables }
     requires sets { HasSetsOf job.now tables.now (R.sessions results.now) (R.places results.now) (R.set_of results.now) s.0 }
-    ensures { IfOk result (λ m. m ≡ session_marks job.now tables.now (R.set_of results.now s.0) s.0) }
+    ensures { IfOk result (λ m. m ≡ session_file job.now tables.now (R.set_of results.now s.0) s.0) }
 {
     let modules = marked_modules(alloc, job, tables, results, s, modules_of(job, s))?;
-    Ok(Marks { modules })
+    Ok(Marks {
+        name: Some(session_name(job, s)),
+        runs: 1,
+        modules,
+    })
 }

@@ -7,7 +7,7 @@ ghost use Rattle.cov_base.specs.declared.facts.Kind.TheVariants.{Straight, Condi
 ghost use Rattle.session_book.specs.Sessions.{session_of};
 
 use crate::{NoSets, marks_of};
-use brk_table::{Table, Tables};
+use brk_table::{LinePlaces, Table, Tables};
 use cov_base::{Addr, Bits, Fact, Kind, Name, PlaceNo, SessNo};
 use module_area::{Image, Images, Place};
 use session_book::{FactSets, Job, Session};
@@ -75,7 +75,7 @@ fn tables(alloc: Global) -> Result<Tables, Fail>
     let table = Table {
         module: 0,
         places: vec![in alloc; branch, back]?,
-        lines: Vec::new(alloc),
+        lines: LinePlaces::none(alloc, 0)?,
     };
     Ok(Tables::of(alloc, vec![in alloc; table]?)?)
 }
@@ -101,6 +101,12 @@ fn marks_follow_the_session_card(rt: HostRuntime) -> Result<(), Fail> {
     let job = job(alloc)?;
     let tables = tables(alloc)?;
     let marks = marks_of(alloc, &job, &tables, &Shown, SessNo(1))?;
+    assert!(rt;
+        marks
+            .name
+            .is_some_and(|name| name.bytes() == b"S".as_slice())
+    );
+    assert_eq!(rt; marks.runs, 1);
     assert_eq!(rt; marks.modules.len(), 2);
     let plain = &marks.modules[0];
     assert!(rt; plain.name.bytes() == b"PLAIN".as_slice());

@@ -1,67 +1,88 @@
--- The words of a new area keep the rule.
-use Rattle.std.proofs.Common.{◌≡◌, ℕ, zero, suc, ◌+◌, ◌-◌, ◌*◌, ◌<◌, ◌≤◌, Bool, true, false, nat_eq, if◌then◌else◌, List, [], ◌∷◌, ◌++◌, map, length, replicate, get_or, take, drop, sym, refl, ap, ◌∙◌, subst, arith, length-append, suc-mul, add-one, eqb-true}
+-- The words of a new area keep the rule, and how the sets are read in the end.
+use Rattle.std.proofs.Common.{◌≡◌, ℕ, zero, suc, ◌+◌, ◌-◌, ◌*◌, ◌/◌, ◌%◌, ◌<◌, true, nat_eq, List, [], ◌∷◌, ◌++◌, map, length, replicate, get_or, sym, refl, ap, ◌∙◌, subst, arith, length-append, suc-mul}
+use mathlib.Core.Logic.{dite}
 use mathlib.Core.Option.{some, some-injective, some-ne-none}
+use native.Mathlib.Decide.{ℕ_discrete}
 use lib.ListN.{get_elem?}
+use Rattle.std.proofs.Math.Seq.{get_or-append_seam}
+use Rattle.std.proofs.lemmas.Nat.{div-mul-add, mod-mul-add}
+use Rattle.std.proofs.lemmas.Nat.Bits.{bit_at-zero}
 use Rattle.std.proofs.lemmas.List.{get_or-map, get_or-append_right, get_or_append_left, length-map, length-replicate}
 use Rattle.atomic_table.specs.Table.{opening}
 use Rattle.cov_base.specs.declared.facts.Fact.{Fact}
 use Rattle.cov_base.specs.declared.facts.Fact.TheVariants.{Ran, Went, Stayed}
-use Rattle.cov_base.specs.Facts.{has_fact}
+use Rattle.cov_base.specs.declared.facts.Kind.{Kind}
+use Rattle.cov_base.specs.declared.facts.Kind.TheVariants.{Straight, Conditional}
+use Rattle.cov_base.specs.FactSet.{FactSet}
+use Rattle.cov_base.specs.Facts.{has_fact, no_facts}
 use Rattle.module_area.specs.declared.cells.Cell.{Cell}
 use Rattle.module_area.specs.declared.parties.Role.TheVariants.{Root}
-use Rattle.module_area.specs.PlanView.{PlanView, IsPlan, original_at, no_place}
+use Rattle.module_area.specs.PlanView.{PlanView, IsPlan, original_at, kind_at, no_place}
 use Rattle.module_area.specs.Parties.{blank}
 use Rattle.module_area.specs.Held.{untouched}
 use Rattle.module_area.proofs.BeginLemmas.{begins}
-use Rattle.shared_area.specs.Words.{cell_of, facts_of, place_of, cells_in, sets_in}
-use Rattle.shared_area.specs.Begin.{original_of, zeros_of, starting, AllFit}
+use Rattle.shared_area.specs.Words.{cell_of, bit_of, has_bit, facts_of, set_word, word_count, cells_in, sets_in}
+use Rattle.shared_area.specs.Begin.{original_of, starting, AllFit, AreSets}
 use Rattle.shared_area.specs.Rule.{IsArea}
-use Rattle.shared_area.proofs.WordLemmas.{same_cell}
-use Rattle.shared_area.proofs.TableLemmas.{past_row}
+use Rattle.shared_area.proofs.WordLemmas.{same_cell, words_enough}
 
 zeroes : (n i : ℕ) → ◌≡◌ {A = ℕ} (get_or (replicate n 0) i 0) 0
 zeroes zero i = refl
 zeroes (suc n) zero = refl
 zeroes (suc n) (suc i) = zeroes n i
 
-nothing : (f : Fact) → has_fact (facts_of 0) f ≡ true → ⊥
-nothing Ran h = cc
-nothing Went h = cc
-nothing Stayed h = cc
+no_bit : (i : ℕ) → has_bit 0 i ≡ true → ⊥
+no_bit i h = let e : nat_eq 0 1 ≡ true = subst (λ z. nat_eq z 1 ≡ true) (bit_at-zero i) h in cc
 
-wide_by : (n sessions : ℕ) (b : Bool) → nat_eq n 0 ≡ b → place_of n (sessions + 1) 0 ≤ n + (if b then 1 else sessions * n)
-wide_by n sessions true e = let z = eqb-true n 0 e in let x : (sessions + 1) * n ≡ (sessions + 1) * 0 = ap (λ k. (sessions + 1) * k) z in omega arith
-wide_by n sessions false e = let x : (sessions + 1) * n ≡ suc sessions * n = ap (λ k. k * n) (add-one sessions) in let y : suc sessions * n ≡ sessions * n + n = suc-mul sessions n in omega arith
+nothing : (k : Kind) (p : ℕ) (f : Fact) → has_fact (facts_of k p 0) f ≡ true → ⊥
+nothing Straight p Ran h = no_bit (bit_of p Ran) h
+nothing Straight p Went h = cc
+nothing Straight p Stayed h = no_bit (bit_of p Stayed) h
+nothing Conditional p Ran h = cc
+nothing Conditional p Went h = no_bit (bit_of p Went) h
+nothing Conditional p Stayed h = no_bit (bit_of p Stayed) h
 
 module _ (plan : PlanView) (ok : IsPlan plan) (fits : AllFit plan (length plan.places)) where
-  first_cell : (p : ℕ) → p < length plan.places → get_or (starting plan) p 0 ≡ original_at plan p
-  first_cell p l = get_or_append_left (map original_of plan.places) (replicate (zeros_of plan) 0) 0 p (let e = length-map plan.places original_of in omega arith) ∙ get_or-map original_of plan.places p no_place 0 l
+  abbrev idle : List ℕ
+  idle = replicate (word_count plan - length plan.places) 0
 
-  first_set : (s p : ℕ) → 0 < s → get_or (starting plan) (place_of (length plan.places) s p) 0 ≡ 0
-  first_set s p pos = get_or-append_right (map original_of plan.places) (replicate (zeros_of plan) 0) (length plan.places) (place_of (length plan.places) s p) 0 (length-map plan.places original_of) (past_row (length plan.places) s p pos)
-      ∙ zeroes (zeros_of plan) (place_of (length plan.places) s p - length plan.places)
+  first_cell : (p : ℕ) → p < length plan.places → get_or (starting plan) p 0 ≡ original_at plan p
+  first_cell p l = get_or_append_left (map original_of plan.places) idle 0 p (let e = length-map plan.places original_of in omega arith) ∙ get_or-map original_of plan.places p no_place 0 l
+
+  first_set : (s p : ℕ) → get_or (starting plan) (set_word (length plan.places) s p) 0 ≡ 0
+  first_set s p = get_or-append_right (map original_of plan.places) idle (length plan.places) (set_word (length plan.places) s p) 0 (length-map plan.places original_of) (omega arith)
+      ∙ zeroes (word_count plan - length plan.places) (set_word (length plan.places) s p - length plan.places)
 
   plain : (p : ℕ) → p < length plan.places → cells_in (starting plan) p ≡ untouched (original_at plan p)
   plain p l = let f = fits p l in ap cell_of (first_cell p l) ∙ same_cell (cell_of (original_at plan p)) (untouched (original_at plan p)) (omega arith) (omega arith)
 
   pub begins_area : IsArea plan (opening (starting plan) [] (blank Root))
   begins_area = record {
-    wide = let a = length-append (map original_of plan.places) (replicate (zeros_of plan) 0) in let b = length-map plan.places original_of in let c = length-replicate (zeros_of plan) zero in
-        let d = wide_by (length plan.places) plan.sessions (nat_eq (length plan.places) 0) refl in omega arith;
-    held = begins plan (cells_in (starting plan)) (sets_in (length plan.places) (starting plan)) ok plain (λ s p f _ pos h. nothing f (subst (λ w. has_fact (facts_of w) f ≡ true) (first_set s p pos) h));
+    wide = let a = length-append (map original_of plan.places) idle in let b = length-map plan.places original_of in let c = length-replicate (word_count plan - length plan.places) zero in
+        let d = words_enough (length plan.places) plan.sessions in omega arith;
+    held = begins plan (cells_in (starting plan)) (sets_in plan (starting plan)) ok plain (λ s p f _ _ h. nothing (kind_at plan p) p f (subst (λ w. has_fact (facts_of (kind_at plan p) p w) f ≡ true) (first_set s p) h));
     whole = λ p l _. ap (λ (c : Cell). c.tag) (plain p l);
   }
 
 -- ---- the sets as they are read in the end
-next_set : (l : List ℕ) (i w : ℕ) → get_elem? l i ≡ some w → map facts_of (take i l) ++ facts_of w ∷ [] ≡ map facts_of (take (suc i) l)
-next_set [] i w e = absurd (some-ne-none w (sym e))
-next_set (y ∷ ys) zero w e = ap (λ z. facts_of z ∷ []) (sym (some-injective y w e))
-next_set (y ∷ ys) (suc i) w e = ap (λ zs. facts_of y ∷ zs) (next_set ys i w e)
+read_at : (l : List ℕ) (i w : ℕ) → get_elem? l i ≡ some w → get_or l i 0 ≡ w
+read_at [] i w e = absurd (some-ne-none w (sym e))
+read_at (y ∷ ys) zero w e = some-injective y w e
+read_at (y ∷ ys) (suc i) w e = read_at ys i w e
 
-dropped_at : (l : List ℕ) (n i w : ℕ) → get_elem? l (n + i) ≡ some w → get_elem? (drop n l) i ≡ some w
-dropped_at l zero i w e = let z : 0 + i ≡ i = omega arith in subst (λ k. get_elem? l k ≡ some w) z e
-dropped_at [] (suc n) i w e = absurd (some-ne-none w (sym e))
-dropped_at (y ∷ ys) (suc n) i w e = let z : suc n + i ≡ suc (n + i) = omega arith in dropped_at ys n i w (subst (λ k. get_elem? (y ∷ ys) k ≡ some w) z e)
+-- the session and place of the next set
+place_of_next : (n k s p : ℕ) → 0 < s → p < n → k + n ≡ s * n + p → (s ≡ k / n + 1) × (p ≡ k % n)
+place_of_next n k s p pos l e = let a : s * n ≡ suc (s - 1) * n = ap (λ z. z * n) (let x : s ≡ suc (s - 1) = omega arith in x) in let b : suc (s - 1) * n ≡ (s - 1) * n + n = suc-mul (s - 1) n in
+    let is : k ≡ (s - 1) * n + p = omega arith in
+    let d : k / n ≡ s - 1 = ap (λ z. z / n) is ∙ div-mul-add (s - 1) n p l in
+    (omega arith, sym (ap (λ z. z % n) is ∙ mod-mul-add (s - 1) n p l))
 
-pub more_sets : (l : List ℕ) (n i w : ℕ) → get_elem? l (n + i) ≡ some w → map facts_of (take i (drop n l)) ++ facts_of w ∷ [] ≡ map facts_of (take (i + 1) (drop n l))
-more_sets l n i w e = next_set (drop n l) i w (dropped_at l n i w e) ∙ ap (λ k. map facts_of (take k (drop n l))) (sym (add-one i))
+pub next_set : (plan : PlanView) (words : List ℕ) (sets : List FactSet) (s p w : ℕ) (x : FactSet) → AreSets plan words sets → 0 < s → p < length plan.places → length sets + length plan.places ≡ s * length plan.places + p
+    → get_elem? words (set_word (length plan.places) s p) ≡ some w → x ≡ facts_of (kind_at plan p) p w → AreSets plan words (sets ++ x ∷ [])
+next_set plan words sets s p w x old pos l at e is i li = let long = length-append sets (x ∷ []) in let at_place = place_of_next (length plan.places) (length sets) s p pos l at in dite (ℕ_discrete i (length sets))
+    (λ here. ap (λ k. get_or (sets ++ x ∷ []) k no_facts) here
+    ∙ (get_or-append_seam sets x [] no_facts
+    ∙ (is
+    ∙ (ap (facts_of (kind_at plan p) p) (sym (read_at words (set_word (length plan.places) s p) w e))
+    ∙ ((λ j. sets_in plan words (at_place.0 j) (at_place.1 j)) ∙ ap (λ k. sets_in plan words (k / length plan.places + 1) (k % length plan.places)) (sym here))))))
+    (λ other. get_or_append_left sets (x ∷ []) no_facts i (omega arith) ∙ old i (omega arith))

@@ -1,28 +1,28 @@
 -- What the calls of an area ask of its table, and what the steps' tellings come to.
-use Rattle.std.proofs.Common.{◌≡◌, ◌≢◌, ℕ, ◌+◌, ◌/◌, ◌%◌, ◌<◌, ◌≤◌, Bool, true, false, nat_eq, eqb, Some, None, List, length, sym, refl, ap, ◌∙◌, subst, arith, bit_or, inl, if◌then◌else◌, nat_lt, lt-ltb, eq-eqb, length-append, IsSome}
+use Rattle.std.proofs.Common.{◌≡◌, ◌≢◌, ℕ, ◌+◌, ◌^◌, ◌<◌, ◌≤◌, Bool, true, false, nat_eq, eqb, None, List, length, sym, refl, ap, ◌∙◌, subst, arith, bit_or, inl, if◌then◌else◌, nat_lt, lt-ltb, eq-eqb, IsSome}
 use prog.Atomic.{either}
 use Rattle.atomic_table.specs.Table.{Allows}
 use Rattle.atomic_table.specs.declared.shared.Seat.{Seat}
 use Rattle.cov_base.specs.declared.facts.Fact.{Fact}
-use Rattle.cov_base.specs.Facts.{is_of_kind}
+use Rattle.cov_base.specs.FactSet.{FactSet}
 use Rattle.cov_base.specs.Codes.{breakpoint}
 use Rattle.module_area.specs.declared.parties.View.{View}
 use Rattle.module_area.specs.declared.parties.Role.{Role}
 use Rattle.module_area.specs.declared.parties.Role.TheVariants.{Root, Task, Spent}
 use Rattle.module_area.specs.PlanView.{PlanView, original_at, kind_at, window_at, is_over, is_controlled}
-use Rattle.module_area.specs.Parties.{Has, add_if, window_tag, fetching, marking, lifting, planting, giving, joining, role_task}
+use Rattle.module_area.specs.Parties.{Has, add_if, fetching, marking, lifting, planting, giving, role_task}
 use Rattle.module_area.specs.Held.{KeepsAs, Keeps}
 use Rattle.shared_area.specs.declared.rule.NoSlot.{NoSlot}
 use Rattle.shared_area.specs.declared.cells.SharedCells.{SharedCells}
-use Rattle.shared_area.specs.Words.{cell_of, word_of, session_in, facts_of, bit_of, fact_in, place_of}
-use Rattle.shared_area.specs.Told.{is_given, has_number, bears_as, seen_at}
-use Rattle.shared_area.specs.Rule.{IsArea, Fetched, Marked, Lifted}
-use Rattle.shared_area.proofs.WordLemmas.{session_in-word_of, fact_in-bit_of}
+use Rattle.shared_area.specs.Words.{cell_of, word_of, session_in, bit_of, facts_of, set_word}
+use Rattle.shared_area.specs.Told.{is_given, bears_as, seen_at}
+use Rattle.shared_area.specs.Rule.{IsArea, Fetched, MayMark, Marked, Looked, Lifted}
+use Rattle.shared_area.proofs.WordLemmas.{session_in-word_of, words_enough, words_some, set_word_within}
 use Rattle.module_area.proofs.Indices.{and_both}
 use Rattle.module_area.proofs.StepLemmas.{or_left}
 use Rattle.shared_area.proofs.NoteLemmas.{more_given}
 use Rattle.shared_area.proofs.AnswerLemmas.{is_root}
-use Rattle.shared_area.proofs.TableLemmas.{row_within, row_of, column_of, fetch_allowed, mark_allowed, lift_allowed, plant_allowed}
+use Rattle.shared_area.proofs.TableLemmas.{fetch_allowed, mark_allowed, look_allowed, lift_allowed, plant_allowed}
 
 -- ---- what a pass keeps
 pub record IsLive (marks lifts : ℕ) (v : View) : Type 0 where
@@ -40,8 +40,8 @@ length-add_if false x xs n k e h = omega arith
 pub fetch_live : (plan : PlanView) (p w a b : ℕ) (v v' : View) → v' ≡ fetching plan p (cell_of w) v → IsLive a b v → IsLive a b v'
 fetch_live plan p w a b v v' e h = subst (IsLive a b) (sym e) record { live = h.live; counted = h.counted; given = h.given }
 
-pub mark_live : (plan : PlanView) (s p : ℕ) (f : Fact) (w a b : ℕ) (v v' : View) → v' ≡ marking plan s p f (facts_of w) v → IsLive a b v → IsLive (a + 1) b v'
-mark_live plan s p f w a b v v' e h = subst (IsLive (a + 1) b) (sym e) record { live = h.live; counted = ((let c = h.counted.0 in omega arith), h.counted.1); given = h.given }
+pub mark_live : (plan : PlanView) (s p : ℕ) (f : Fact) (found : FactSet) (a b : ℕ) (v v' : View) → v' ≡ marking plan s p f found v → IsLive a b v → IsLive (a + 1) b v'
+mark_live plan s p f found a b v v' e h = subst (IsLive (a + 1) b) (sym e) record { live = h.live; counted = ((let c = h.counted.0 in omega arith), h.counted.1); given = h.given }
 
 pub lift_live : (s p a b k : ℕ) (did : Bool) (v v' : View) → v' ≡ lifting s p did v → k ≡ one_of did → IsLive a b v → IsLive a (b + k) v'
 lift_live s p a b k did v v' e n h = subst (IsLive a (b + k)) (sym e) record { live = h.live; counted = (h.counted.0, length-add_if did (s, p) v.lifted b k h.counted.1 n); given = h.given }
@@ -61,14 +61,14 @@ module _ (me : SharedCells) where
   abbrev Key : PlanView
   Key = me.table.shared.key.value
 
-  row_there : (s p : ℕ) → s ≤ me.plan.sessions → p < length me.plan.places → place_of (length me.plan.places) s p < me.table.shared.table_id.words
-  row_there s p ls l = let a = row_within (length me.plan.places) (me.plan.sessions + 1) s p (omega arith) l in let w = me.wide in omega arith
+  pub some_word : 0 < me.table.shared.table_id.words
+  some_word = let a = words_some (length me.plan.places) me.plan.sessions in let w = me.wide in omega arith
 
   pub cell_there : (p : ℕ) → p < length me.plan.places → p < me.table.shared.table_id.words
-  cell_there p l = let a = row_there 0 p (omega arith) l in omega arith
+  cell_there p l = let a = words_enough (length me.plan.places) me.plan.sessions in let w = me.wide in omega arith
 
-  pub set_there : (s p i : ℕ) → s ≤ me.plan.sessions → p < length me.plan.places → i ≡ place_of (length me.plan.places) s p → i < me.table.shared.table_id.words
-  set_there s p i ls l e = subst (λ k. k < me.table.shared.table_id.words) (sym e) (row_there s p ls l)
+  set_there : (s p i : ℕ) → 0 < s → s ≤ me.plan.sessions → p < length me.plan.places → i ≡ set_word (length me.plan.places) s p → i < me.table.shared.table_id.words
+  set_there s p i pos ls l e = let a = set_word_within (length me.plan.places) me.plan.sessions s p pos ls l in let w = me.wide in omega arith
 
   pub fetch_at : (seat : Seat NoSlot View) (p : ℕ) → seat.me.0.role ≢ Spent → p < length me.plan.places
       → Allows (IsArea me.table.shared.key.value) me.table.shared.table_id.slots seat.id seat.me p (λ w. w) (λ w m. Fetched me.table.shared.key.value p seat.me.0 w m.0 × (m.1 ≡ seat.me.1))
@@ -78,23 +78,20 @@ module _ (me : SharedCells) where
   pub fetched_is : (v v' : View) (p w : ℕ) → Fetched me.table.shared.key.value p v w v' → Fetched me.plan p v w v'
   fetched_is v v' p w h = subst (λ (q : PlanView). Fetched q p v w v') me.keyed h
 
-  pub mark_at : (seat : Seat NoSlot View) (s p : ℕ) (f : Fact) (i k : ℕ) → seat.me.0.role ≢ Spent → p < length me.plan.places → 0 < s → s ≤ me.plan.sessions → seat.me.0.pending ≡ Some (p, window_tag s) → is_of_kind (kind_at me.plan p) f ≡ true
-      → i ≡ place_of (length me.plan.places) s p → k ≡ bit_of f
-      → Allows (IsArea me.table.shared.key.value) me.table.shared.table_id.slots seat.id seat.me i (λ x. bit_or x k)
-      (λ w m. Marked me.table.shared.key.value (i / length me.table.shared.key.value.places) (i % length me.table.shared.key.value.places) (fact_in k) seat.me.0 w m.0 × (m.1 ≡ seat.me.1))
-  mark_at seat s p f i k live l pos ls pend fits ei ek = let n : ℕ = length me.plan.places in
-      let F : PlanView → Type 0 = λ q. Allows (IsArea q) me.table.shared.table_id.slots seat.id seat.me i (λ x. bit_or x k) (λ w m. Marked q (i / length q.places) (i % length q.places) (fact_in k) seat.me.0 w m.0 × (m.1 ≡ seat.me.1)) in
-      let G : ℕ × ℕ × ℕ × ℕ × Fact → Type 0 = λ z. Allows (IsArea me.plan) me.table.shared.table_id.slots seat.id seat.me z.0 (λ x. bit_or x z.1) (λ w m. Marked me.plan z.2 z.3 z.4 seat.me.0 w m.0 × (m.1 ≡ seat.me.1)) in
-      let is_s : i / n ≡ s = ap (λ z. z / n) ei ∙ row_of n s p l in let is_p : i % n ≡ p = ap (λ z. z % n) ei ∙ column_of n s p l in
-      let is_f : fact_in k ≡ f = ap fact_in ek ∙ fact_in-bit_of f in
-      subst F (sym me.keyed) (subst G (λ j. (sym ei j, sym ek j, sym is_s j, sym is_p j, sym is_f j)) (mark_allowed me.plan me.table.shared.table_id.slots seat.id s p f seat.me live l pos ls pend fits))
+  -- the two steps of a mark, by what the call picked: its plan, session, place and fact
+  module _ (seat : Seat NoSlot View) (s p : ℕ) (f : Fact) (i : ℕ) (may : MayMark me.plan s p f seat.me.0) (at : i ≡ set_word (length me.plan.places) s p) (plan : PlanView) (t q : ℕ) (g : Fact)
+      (picked : (plan ≡ me.plan) × (t ≡ s) × (q ≡ p) × (g ≡ f)) where
+    pub word_there : i < me.table.shared.table_id.words
+    word_there = set_there s p i may.session may.in_plan may.place at
 
-  pub marked_is : (v v' : View) (s p : ℕ) (f : Fact) (i k w : ℕ) → p < length me.plan.places → i ≡ place_of (length me.plan.places) s p → k ≡ bit_of f
-      → Marked me.table.shared.key.value (i / length me.table.shared.key.value.places) (i % length me.table.shared.key.value.places) (fact_in k) v w v' → Marked me.plan s p f v w v'
-  marked_is v v' s p f i k w l ei ek h = let n : ℕ = length me.plan.places in
-      let h' : Marked me.plan (i / n) (i % n) (fact_in k) v w v' = subst (λ (q : PlanView). Marked q (i / length q.places) (i % length q.places) (fact_in k) v w v') me.keyed h in
-      subst (λ (z : ℕ × ℕ × Fact). Marked me.plan z.0 z.1 z.2 v w v')
-      (λ j. ((ap (λ z. z / n) ei ∙ row_of n s p l) j, (ap (λ z. z % n) ei ∙ column_of n s p l) j, (ap fact_in ek ∙ fact_in-bit_of f) j)) h'
+    pub look_at : Allows (IsArea me.table.shared.key.value) me.table.shared.table_id.slots seat.id seat.me i (λ x. x) (λ w m. Looked plan t q g seat.me.0 (facts_of (kind_at plan q) q w) m.0 × (m.1 ≡ seat.me.1))
+    look_at = subst (λ (z : PlanView × ℕ × PlanView × ℕ × ℕ × Fact). Allows (IsArea z.0) me.table.shared.table_id.slots seat.id seat.me z.1 (λ x. x) (λ w m. Looked z.2 z.3 z.4 z.5 seat.me.0 (facts_of (kind_at z.2 z.4) z.4 w) m.0 × (m.1 ≡ seat.me.1)))
+        (λ j. (sym me.keyed j, sym at j, sym picked.0 j, sym picked.1 j, sym picked.2 j, sym picked.3 j)) (look_allowed me.plan me.table.shared.table_id.slots seat.id s p f seat.me may)
+
+    pub mark_at : (k : ℕ) → k ≡ 2 ^ bit_of p f
+        → Allows (IsArea me.table.shared.key.value) me.table.shared.table_id.slots seat.id seat.me i (λ x. bit_or x k) (λ w m. Marked plan t q g seat.me.0 (facts_of (kind_at plan q) q w) m.0 × (m.1 ≡ seat.me.1))
+    mark_at k bit = subst (λ (z : PlanView × ℕ × ℕ × PlanView × ℕ × ℕ × Fact). Allows (IsArea z.0) me.table.shared.table_id.slots seat.id seat.me z.1 (λ x. bit_or x z.2) (λ w m. Marked z.3 z.4 z.5 z.6 seat.me.0 (facts_of (kind_at z.3 z.5) z.5 w) m.0 × (m.1 ≡ seat.me.1)))
+        (λ j. (sym me.keyed j, sym at j, sym bit j, sym picked.0 j, sym picked.1 j, sym picked.2 j, sym picked.3 j)) (mark_allowed me.plan me.table.shared.table_id.slots seat.id s p f seat.me may)
 
   pub lift_at : (seat : Seat NoSlot View) (s p old new : ℕ) → original_at me.plan p < 65536 → seat.me.0.role ≢ Spent → p < length me.plan.places → 0 < s → Has (s, p) seat.me.0.full → old ≡ word_of s breakpoint → new ≡ word_of s (original_at me.plan p)
       → Allows (IsArea me.table.shared.key.value) me.table.shared.table_id.slots seat.id seat.me p (λ x. either (eqb x old) new x) (λ w m. Lifted (session_in old) p old seat.me.0 w m.0 × (m.1 ≡ seat.me.1))

@@ -1,14 +1,15 @@
 -- Each step on a word keeps the rule, and tells what the rule says of the word.
-use Rattle.std.proofs.Common.{◌≡◌, ◌≢◌, ◌⊎◌, ℕ, zero, suc, ◌+◌, ◌*◌, ◌/◌, ◌%◌, ◌<◌, ◌≤◌, true, false, nat_eq, eqb, Some, List, length, get_or, set, sym, refl, ap, ◌∙◌, subst, inl, inr, ⊎_elim, arith, bit_or, eq-eqb, ne_eqb, length-set, get_or-set_same, get_or-set_other, mul-le-mul_right, suc-mul}
+use Rattle.std.proofs.Common.{◌≡◌, ◌≢◌, ◌⊎◌, ℕ, ◌^◌, ◌<◌, ◌≤◌, Bool, true, false, nat_eq, eqb, List, length, get_or, set, sym, refl, ap, ◌∙◌, subst, inl, inr, ⊎_elim, arith, bit_or, eq-eqb, ne_eqb, length-set, get_or-set_same, get_or-set_other}
 use lib.Seq.{set-get_or}
 use mathlib.Core.Logic.{dite}
+use mathlib.Core.Option.{some}
+use lib.ListN.{get_elem?}
 use native.Mathlib.Decide.{ℕ_discrete}
 use prog.Atomic.{either}
-use Rattle.std.proofs.lemmas.Nat.{div-mul-add, mod-mul-add}
-use Rattle.atomic_table.proofs.Lists.{set_else}
+use Rattle.atomic_table.proofs.Lists.{set_else, set_again}
 use Rattle.atomic_table.specs.Table.{State, Me, keeps, Allows, Splits, Joins}
 use Rattle.cov_base.specs.declared.facts.Fact.{Fact}
-use Rattle.cov_base.specs.Facts.{is_of_kind}
+use Rattle.cov_base.specs.Facts.{has_fact}
 use Rattle.cov_base.specs.Codes.{breakpoint}
 use Rattle.module_area.specs.declared.cells.Cell.{Cell}
 use Rattle.module_area.specs.declared.parties.View.{View}
@@ -19,55 +20,46 @@ use Rattle.module_area.specs.Held.{planted, lifted, Keeps}
 use Rattle.module_area.proofs.StepLemmas.{fetches, marks, lifts, plants}
 use Rattle.module_area.proofs.ForkLemmas.{splits, joins}
 use Rattle.shared_area.specs.declared.rule.NoSlot.{NoSlot}
-use Rattle.shared_area.specs.Words.{cell_of, word_of, facts_of, bit_of, place_of, cells_in, sets_in}
+use Rattle.shared_area.specs.Words.{cell_of, word_of, bit_of, facts_of, set_word, cells_in, sets_in}
 use Rattle.shared_area.specs.Told.{seen_at}
-use Rattle.shared_area.specs.Rule.{IsArea, Fetched, Marked, Lifted}
+use Rattle.shared_area.specs.Rule.{IsArea, Fetched, MayMark, Marked, Looked, Lifted}
 use Rattle.shared_area.proofs.NoteLemmas.{pair_there}
-use Rattle.shared_area.proofs.WordLemmas.{cell_of-word_of, cell_word, facts_of-bit_or}
+use Rattle.shared_area.proofs.WordLemmas.{cell_of-word_of, cell_word, facts_of-added, facts_of-other, with_fact-there, same_word, words_enough, set_word_within}
 use Rattle.shared_area.proofs.AnswerLemmas.{answers, founds, tag_small, last_seen}
 
--- rows of n words do not meet
-pub past_row : (n s q : ℕ) → 0 < s → n ≤ place_of n s q
-past_row n (suc s) q pos = let m : 1 * n ≤ suc s * n = mul-le-mul_right n (omega arith) in omega arith
-past_row n zero q pos = absurd (omega arith)
-
-pub row_of : (n s q : ℕ) → q < n → place_of n s q / n ≡ s
-row_of n s q h = div-mul-add s n q h
-
-pub column_of : (n s q : ℕ) → q < n → place_of n s q % n ≡ q
-column_of n s q h = mod-mul-add s n q h
-
-same_place : (n s p t q : ℕ) → p < n → q < n → place_of n s p ≡ place_of n t q → (s ≡ t) × (p ≡ q)
-same_place n s p t q lp lq e = (sym (row_of n s p lp) ∙ (ap (λ k. k / n) e ∙ row_of n t q lq), sym (column_of n s p lp) ∙ (ap (λ k. k % n) e ∙ column_of n t q lq))
-
-pub row_within : (n m s q : ℕ) → s < m → q < n → place_of n s q < place_of n m 0
-row_within n m s q ls lq = let k : suc s * n ≤ m * n = mul-le-mul_right n (omega arith) in let e : suc s * n ≡ s * n + n = suc-mul s n in omega arith
-
 module _ (plan : PlanView) where
-  abbrev N : ℕ
-  N = length plan.places
-
   abbrev St : Type 0
   St = State NoSlot View
 
   cell_there : (s : St) → IsArea plan s → (p : ℕ) → p < length plan.places → p < length s.words
-  cell_there s r p l = let a = row_within (length plan.places) (plan.sessions + 1) 0 p (omega arith) l in let w = r.wide in omega arith
+  cell_there s r p l = let a = words_enough (length plan.places) plan.sessions in let w = r.wide in omega arith
 
-  set_there : (s : St) → IsArea plan s → (t p : ℕ) → t ≤ plan.sessions → p < length plan.places → place_of (length plan.places) t p < length s.words
-  set_there s r t p lt l = let a = row_within (length plan.places) (plan.sessions + 1) t p (omega arith) l in let w = r.wide in omega arith
+  set_there : (s : St) → IsArea plan s → (t p : ℕ) → 0 < t → t ≤ plan.sessions → p < length plan.places → set_word (length plan.places) t p < length s.words
+  set_there s r t p pos lt l = subst (λ k. set_word (length plan.places) t p < k) (sym r.wide) (set_word_within (length plan.places) plan.sessions t p pos lt l)
 
   -- a write to a cell changes no other cell and no set
   other_cell : (ws : List ℕ) (p x q : ℕ) → q ≢ p → cells_in (set ws p x) q ≡ cells_in ws q
   other_cell ws p x q n = ap cell_of (get_or-set_other ws p q x 0 n)
 
-  cell_no_set : (ws : List ℕ) (p x t q : ℕ) → p < length plan.places → 0 < t → sets_in (length plan.places) (set ws p x) t q ≡ sets_in (length plan.places) ws t q
-  cell_no_set ws p x t q l pos = ap facts_of (get_or-set_other ws p (place_of (length plan.places) t q) x 0 (λ e. let a = past_row (length plan.places) t q pos in absurd (omega arith)))
+  cell_no_set : (ws : List ℕ) (p x t q : ℕ) → p < length plan.places → sets_in plan (set ws p x) t q ≡ sets_in plan ws t q
+  cell_no_set ws p x t q l = ap (facts_of (kind_at plan q) q) (get_or-set_other ws p (set_word (length plan.places) t q) x 0 (λ e. absurd (omega arith)))
 
-  set_no_cell : (ws : List ℕ) (s p x q : ℕ) → q < length plan.places → 0 < s → cells_in (set ws (place_of (length plan.places) s p) x) q ≡ cells_in ws q
-  set_no_cell ws s p x q l pos = ap cell_of (get_or-set_other ws (place_of (length plan.places) s p) q x 0 (λ e. let a = past_row (length plan.places) s p pos in absurd (omega arith)))
+  set_no_cell : (ws : List ℕ) (s p x q : ℕ) → q < length plan.places → cells_in (set ws (set_word (length plan.places) s p) x) q ≡ cells_in ws q
+  set_no_cell ws s p x q l = ap cell_of (get_or-set_other ws (set_word (length plan.places) s p) q x 0 (λ e. absurd (omega arith)))
 
-  other_set : (ws : List ℕ) (s p x t q : ℕ) → p < length plan.places → q < length plan.places → ((t ≡ s) × (q ≡ p) → ⊥) → sets_in (length plan.places) (set ws (place_of (length plan.places) s p) x) t q ≡ sets_in (length plan.places) ws t q
-  other_set ws s p x t q lp lq n = ap facts_of (get_or-set_other ws (place_of (length plan.places) s p) (place_of (length plan.places) t q) x 0 (λ e. n (same_place (length plan.places) t q s p lq lp e)))
+  -- the word of the set of session s at place p, with the fact's bit
+  abbrev added : List ℕ → ℕ → ℕ → Fact → ℕ
+  added ws s p f = bit_or (get_or ws (set_word (length plan.places) s p) 0) (2 ^ bit_of p f)
+
+  -- a bit that is set changes no other set
+  other_set : (ws : List ℕ) (s p : ℕ) (f : Fact) (t q : ℕ) → 0 < s → 0 < t → p < length plan.places → q < length plan.places → set_word (length plan.places) s p < length ws → ((t ≡ s) × (q ≡ p) → ⊥)
+      → sets_in plan (set ws (set_word (length plan.places) s p) (added ws s p f)) t q ≡ sets_in plan ws t q
+  other_set ws s p f t q ps pt lp lq inside apart = let n : ℕ = length plan.places in let i : ℕ = set_word n s p in let j : ℕ = set_word n t q in let x : ℕ = added ws s p f in dite (ℕ_discrete j i)
+      (λ e. let same = same_word n t s q p pt ps lq lp e in
+      ap (λ k. facts_of (kind_at plan q) q (get_or (set ws i x) k 0)) e
+      ∙ (ap (facts_of (kind_at plan q) q) (get_or-set_same ws i x 0 inside)
+      ∙ (facts_of-other (kind_at plan q) p q (get_or ws i 0) f (λ m. apart (same.0, let a = same.1 in omega arith)) ∙ ap (λ k. facts_of (kind_at plan q) q (get_or ws k 0)) (sym e))))
+      (λ d. ap (facts_of (kind_at plan q) q) (get_or-set_other ws i j x 0 d))
 
   pub fetch_allowed : (slots id p : ℕ) (me : Me NoSlot View) → me.0.role ≢ Spent → p < length plan.places → Allows (IsArea plan) slots id me p (λ w. w) (λ w me'. Fetched plan p me.0 w me'.0 × (me'.1 ≡ me.1))
   fetch_allowed slots id p me live l s r _ at _ = let w : View = fetching plan p (cell_of (get_or s.words p 0)) me.0 in let tag = tag_small plan p (cells_in s.words p) r.held.is_plan l (r.held.site p l).form in (
@@ -76,13 +68,13 @@ module _ (plan : PlanView) where
     tt,
     subst (λ ws. IsArea plan record { words = ws; homes = s.homes; views = set s.views id w }) (sym (set-get_or s.words p 0)) record {
       wide = r.wide;
-      held = fetches plan (cells_in s.words) (sets_in (length plan.places) s.words) s.views r.held id me.0 at live p l;
+      held = fetches plan (cells_in s.words) (sets_in plan s.words) s.views r.held id me.0 at live p l;
       whole = r.whole;
     },
     (
       record {
         after = refl;
-        answer = answers plan (cells_in s.words) (sets_in (length plan.places) s.words) s.views r.held id me.0 at live p l;
+        answer = answers plan (cells_in s.words) (sets_in plan s.words) s.views r.held id me.0 at live p l;
         within = tag;
         small = let few = r.held.is_plan.sessions in omega arith;
       },
@@ -90,23 +82,51 @@ module _ (plan : PlanView) where
     ),
   )
 
-  pub mark_allowed : (slots id s p : ℕ) (f : Fact) (me : Me NoSlot View) → me.0.role ≢ Spent → p < length plan.places → 0 < s → s ≤ plan.sessions → me.0.pending ≡ Some (p, window_tag s) → is_of_kind (kind_at plan p) f ≡ true
-      → Allows (IsArea plan) slots id me (place_of (length plan.places) s p) (λ x. bit_or x (bit_of f)) (λ w me'. Marked plan s p f me.0 w me'.0 × (me'.1 ≡ me.1))
-  mark_allowed slots id s p f me live l pos ls pend fits st r _ at _ = let i : ℕ = place_of (length plan.places) s p in let x : ℕ = bit_or (get_or st.words i 0) (bit_of f) in
-      let w : View = marking plan s p f (facts_of (get_or st.words i 0)) me.0 in (
-        w,
-        keeps,
-        tt,
-        record {
-          wide = subst (λ k. place_of (length plan.places) (plan.sessions + 1) 0 ≤ k) (sym (length-set st.words i x)) r.wide;
-          held = marks plan (cells_in st.words) (sets_in (length plan.places) st.words) st.views r.held id me.0 at live s p f l pos pend fits (cells_in (set st.words i x)) (sets_in (length plan.places) (set st.words i x))
-              (λ q lq. set_no_cell st.words s p x q lq pos)
-              (ap facts_of (get_or-set_same st.words i x 0 (set_there st r s p ls l)) ∙ facts_of-bit_or (get_or st.words i 0) f)
-              (λ t q lq _ no. other_set st.words s p x t q l lq no);
-          whole = λ q lq e. ap (λ (c : Cell). c.tag) (set_no_cell st.words s p x q lq pos) ∙ r.whole q lq e;
-        },
-        (record { after = refl; found = founds plan (cells_in st.words) (sets_in (length plan.places) st.words) st.views r.held id me.0 at s p l pos }, refl),
-      )
+  pub mark_allowed : (slots id s p : ℕ) (f : Fact) (me : Me NoSlot View) → MayMark plan s p f me.0
+      → Allows (IsArea plan) slots id me (set_word (length plan.places) s p) (λ x. bit_or x (2 ^ bit_of p f)) (λ w me'. Marked plan s p f me.0 (facts_of (kind_at plan p) p w) me'.0 × (me'.1 ≡ me.1))
+  mark_allowed slots id s p f me may st r _ at _ = let i : ℕ = set_word (length plan.places) s p in let x : ℕ = added st.words s p f in let inside = set_there st r s p may.session may.in_plan may.place in (
+    marking plan s p f (sets_in plan st.words s p) me.0,
+    keeps,
+    tt,
+    record {
+      wide = length-set st.words i x ∙ r.wide;
+      held = marks plan (cells_in st.words) (sets_in plan st.words) st.views r.held id me.0 at may.live s p f may.place may.session may.pending may.kind (cells_in (set st.words i x)) (sets_in plan (set st.words i x))
+          (λ q lq. set_no_cell st.words s p x q lq)
+          (ap (facts_of (kind_at plan p) p) (get_or-set_same st.words i x 0 inside) ∙ facts_of-added (kind_at plan p) p (get_or st.words i 0) f may.kind)
+          (λ t q lq pos no. other_set st.words s p f t q may.session pos may.place lq inside no);
+      whole = λ q lq e. ap (λ (c : Cell). c.tag) (set_no_cell st.words s p x q lq) ∙ r.whole q lq e;
+    },
+    (record { after = refl; is_found = founds plan (cells_in st.words) (sets_in plan st.words) st.views r.held id me.0 at s p may.place may.session }, refl),
+  )
+
+  -- a look that finds the fact is a mark that changes no word, and another changes nothing
+  look_by : (st : St) (r : IsArea plan st) (id s p : ℕ) (f : Fact) (v : View) → get_elem? st.views id ≡ some v → MayMark plan s p f v → (b : Bool) → has_fact (sets_in plan st.words s p) f ≡ b
+      → (w : View) × IsArea plan record { words = st.words; homes = st.homes; views = set st.views id w } × Looked plan s p f v (sets_in plan st.words s p) w
+  look_by st r id s p f v at may true e = (
+    marking plan s p f (sets_in plan st.words s p) v,
+    record {
+      wide = r.wide;
+      held = marks plan (cells_in st.words) (sets_in plan st.words) st.views r.held id v at may.live s p f may.place may.session may.pending may.kind (cells_in st.words) (sets_in plan st.words)
+          (λ q _. refl) (sym (with_fact-there (sets_in plan st.words s p) f e)) (λ t q _ _ _. refl);
+      whole = r.whole;
+    },
+    record { there = λ _. record { after = refl; is_found = founds plan (cells_in st.words) (sets_in plan st.words) st.views r.held id v at s p may.place may.session }; wanting = λ n. absurd (let z : true ≡ false = sym e ∙ n in cc) },
+  )
+  look_by st r id s p f v at may false e = (
+    v,
+    subst (λ (vs : List View). IsArea plan record { words = st.words; homes = st.homes; views = vs }) (sym (set_again st.views id v at)) record { wide = r.wide; held = r.held; whole = r.whole },
+    record { there = λ h. absurd (let z : false ≡ true = sym e ∙ h in cc); wanting = λ _. refl },
+  )
+
+  pub look_allowed : (slots id s p : ℕ) (f : Fact) (me : Me NoSlot View) → MayMark plan s p f me.0
+      → Allows (IsArea plan) slots id me (set_word (length plan.places) s p) (λ x. x) (λ w me'. Looked plan s p f me.0 (facts_of (kind_at plan p) p w) me'.0 × (me'.1 ≡ me.1))
+  look_allowed slots id s p f me may st r _ at _ = let x = look_by st r id s p f me.0 at may (has_fact (sets_in plan st.words s p) f) refl in (
+    x.0,
+    keeps,
+    tt,
+    subst (λ ws. IsArea plan record { words = ws; homes = st.homes; views = set st.views id x.0 }) (sym (set-get_or st.words (set_word (length plan.places) s p) 0)) x.1,
+    (x.2, refl),
+  )
 
   -- what a compare-exchange of the breakpoint does to the cell
   lift_did : (o s c x : ℕ) → o < 65536 → x ≡ either (eqb c (word_of s breakpoint)) (word_of s o) c
@@ -133,11 +153,11 @@ module _ (plan : PlanView) where
         keeps,
         tt,
         record {
-          wide = subst (λ k. place_of (length plan.places) (plan.sessions + 1) 0 ≤ k) (sym (length-set st.words p x)) r.wide;
-          held = lifts plan (cells_in st.words) (sets_in (length plan.places) st.words) st.views r.held id me.0 at live s p l met (nat_eq c old) (cells_in (set st.words p x)) (sets_in (length plan.places) (set st.words p x))
+          wide = length-set st.words p x ∙ r.wide;
+          held = lifts plan (cells_in st.words) (sets_in plan st.words) st.views r.held id me.0 at live s p l met (nat_eq c old) (cells_in (set st.words p x)) (sets_in plan (set st.words p x))
               (⊎_elim (λ a. inl (a.0, a.1, x_here ∙ a.2)) (λ a. inr (a.0, a.1, x_here ∙ a.2)) did)
               (λ q _ no. other_cell st.words p x q no)
-              (λ t q _ pos_t. cell_no_set st.words p x t q l pos_t);
+              (λ t q _ _. cell_no_set st.words p x t q l);
           whole = λ q lq e. dite (ℕ_discrete q p)
               (λ qp. ap (λ k. (cells_in (set st.words p x) k).tag) qp ∙ (ap (λ (z : Cell). z.tag) x_here ∙ (⊎_elim (λ a. ap (λ (z : Cell). z.tag) a.2 ∙ ap (λ (z : Cell). z.tag) (sym a.1)) (λ a. ap (λ (z : Cell). z.tag) a.2) did ∙ r.whole p l (ap (window_at plan) (sym qp) ∙ e))))
               (λ n. ap (λ (z : Cell). z.tag) (other_cell st.words p x q n) ∙ r.whole q lq e);
@@ -147,16 +167,16 @@ module _ (plan : PlanView) where
 
   pub plant_allowed : (slots id s p : ℕ) (me : Me NoSlot View) → me.0.role ≢ Spent → p < length plan.places → Keeps plan me.0 p → 0 < s → window_at plan p ≡ s → is_over plan s p ≡ true → seen_at p me.0.seen ≡ 0
       → Allows (IsArea plan) slots id me p (λ _. word_of s breakpoint) (λ _ me'. (me'.0 ≡ planting s p me.0) × (me'.1 ≡ me.1))
-  plant_allowed slots id s p me live l keep pos its over first st r _ at _ = let x : ℕ = word_of s breakpoint in let most = last_seen plan (cells_in st.words) (sets_in (length plan.places) st.words) st.views r.held id me.0 at p in let later : last_tag p me.0.planted < window_tag s = omega arith in (
+  plant_allowed slots id s p me live l keep pos its over first st r _ at _ = let x : ℕ = word_of s breakpoint in let most = last_seen plan (cells_in st.words) (sets_in plan st.words) st.views r.held id me.0 at p in let later : last_tag p me.0.planted < window_tag s = omega arith in (
     planting s p me.0,
     keeps,
     tt,
     record {
-      wide = subst (λ k. place_of (length plan.places) (plan.sessions + 1) 0 ≤ k) (sym (length-set st.words p x)) r.wide;
-      held = plants plan (cells_in st.words) (sets_in (length plan.places) st.words) st.views r.held id me.0 at live s p l keep pos over later (cells_in (set st.words p x)) (sets_in (length plan.places) (set st.words p x))
+      wide = length-set st.words p x ∙ r.wide;
+      held = plants plan (cells_in st.words) (sets_in plan st.words) st.views r.held id me.0 at live s p l keep pos over later (cells_in (set st.words p x)) (sets_in plan (set st.words p x))
           (ap cell_of (get_or-set_same st.words p x 0 (cell_there st r p l)) ∙ cell_of-word_of s breakpoint (omega arith))
           (λ q _ no. other_cell st.words p x q no)
-          (λ t q _ pos_t. cell_no_set st.words p x t q l pos_t);
+          (λ t q _ _. cell_no_set st.words p x t q l);
       whole = λ q lq e. dite (ℕ_discrete q p)
           (λ qp. let z : window_at plan p ≡ 0 = ap (window_at plan) (sym qp) ∙ e in absurd (omega arith))
           (λ n. ap (λ (z : Cell). z.tag) (other_cell st.words p x q n) ∙ r.whole q lq e);
@@ -167,13 +187,13 @@ module _ (plan : PlanView) where
   pub split_allowed : (id t : ℕ) (v : View) → v.role ≡ Root → (Has t v.given → ⊥) → Splits (IsArea plan) id v (giving t v) (newcomer plan t v)
   split_allowed id t v root new s r at = record {
     wide = r.wide;
-    held = splits plan (cells_in s.words) (sets_in (length plan.places) s.words) s.views r.held id v at root t new;
+    held = splits plan (cells_in s.words) (sets_in plan s.words) s.views r.held id v at root t new;
     whole = r.whole;
   }
 
   pub join_allowed : (id k t : ℕ) (v o : View) → v.role ≡ Root → o.role ≡ Task t → Joins (IsArea plan) id v k o (joining plan v o) (blank Spent)
   join_allowed id k t v o root bears s r at other there = record {
     wide = r.wide;
-    held = joins plan (cells_in s.words) (sets_in (length plan.places) s.words) s.views r.held id v at root k o (sym (set_else s.views id k (joining plan v o) other) ∙ there) t bears other;
+    held = joins plan (cells_in s.words) (sets_in plan s.words) s.views r.held id v at root k o (sym (set_else s.views id k (joining plan v o) other) ∙ there) t bears other;
     whole = r.whole;
   }

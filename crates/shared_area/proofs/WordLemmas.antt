@@ -1,15 +1,18 @@
 -- Cells and sets of facts in words.
-use Rattle.std.proofs.Common.{◌≡◌, ℕ, ◌+◌, ◌-◌, ◌*◌, ◌/◌, ◌%◌, ◌<◌, nat_eq, sym, refl, ap, ◌∙◌, arith, bit_or}
+use Rattle.std.proofs.Common.{◌≡◌, ◌≢◌, ℕ, zero, suc, ◌+◌, ◌-◌, ◌*◌, ◌/◌, ◌%◌, ◌^◌, ◌<◌, ◌≤◌, Bool, true, false, nat_eq, if◌then◌else◌, sym, refl, ap, ◌∙◌, arith, bit_or, eq-eqb, eqb-true, mul-le-mul_right, suc-mul}
 use Rattle.std.specs.Int.{bit_at}
-use Rattle.std.proofs.lemmas.Nat.Bits.{bit_at_or, bit_at-lt, bit_at_lowest}
+use Rattle.std.proofs.lemmas.Nat.{div-mul-add, mod-mul-add}
+use Rattle.std.proofs.lemmas.Nat.Bits.{bit_at_or, bit_at-lt, bit_at-pow_same, bit_at-pow_other}
 use Rattle.cov_base.specs.declared.facts.Fact.{Fact}
 use Rattle.cov_base.specs.declared.facts.Fact.TheVariants.{Ran, Went, Stayed}
+use Rattle.cov_base.specs.declared.facts.Kind.{Kind}
+use Rattle.cov_base.specs.declared.facts.Kind.TheVariants.{Straight, Conditional}
 use Rattle.cov_base.specs.FactSet.{FactSet}
-use Rattle.cov_base.specs.Facts.{with_fact}
+use Rattle.cov_base.specs.Facts.{has_fact, with_fact, is_of_kind}
 use Rattle.module_area.specs.declared.cells.Cell.{Cell}
 use Rattle.module_area.specs.Held.{lifted}
 use Rattle.module_area.specs.Parties.{tag_session}
-use Rattle.shared_area.specs.Words.{cell_of, word_of, session_in, facts_of, bit_of, fact_in}
+use Rattle.shared_area.specs.Words.{cell_of, word_of, session_in, bit_of, has_bit, facts_of, session_words, set_word, words_of}
 
 pub same_cell : (c d : Cell) → c.tag ≡ d.tag → c.half ≡ d.half → c ≡ d
 same_cell c d e f = λ i. record { tag = e i; half = f i }
@@ -23,25 +26,70 @@ session_in-word_of s half pos h = let e : word_of s half / 65536 ≡ 2 * s - 1 =
 pub cell_word : (w x : ℕ) → cell_of w ≡ cell_of x → w ≡ x
 cell_word w x e = let a : w / 65536 ≡ x / 65536 = ap (λ (c : Cell). c.tag) e in let b : w % 65536 ≡ x % 65536 = ap (λ (c : Cell). c.half) e in omega arith
 
-pub fact_in-bit_of : (f : Fact) → fact_in (bit_of f) ≡ f
-fact_in-bit_of Ran = refl
-fact_in-bit_of Went = refl
-fact_in-bit_of Stayed = refl
+-- ---- one bit of a word
+bit_set : (w k i : ℕ) → bit_at k i ≡ 1 → has_bit (bit_or w k) i ≡ true
+bit_set w k i e = let m = bit_at_or w k i in let l = bit_at-lt w i in eq-eqb (bit_at (bit_or w k) i) 1 (omega arith)
 
-abbrev by_bits : ℕ → ℕ → ℕ → FactSet
-by_bits a b c = record { ran = nat_eq a 1; went = nat_eq b 1; stayed = nat_eq c 1 }
+bit_kept : (w k i : ℕ) → bit_at k i ≡ 0 → has_bit (bit_or w k) i ≡ has_bit w i
+bit_kept w k i e = let m = bit_at_or w k i in let same : bit_at (bit_or w k) i ≡ bit_at w i = omega arith in ap (λ z. nat_eq z 1) same
 
-by_its_bits : (w : ℕ) → facts_of w ≡ by_bits (bit_at w 0) (bit_at w 1) (bit_at w 2)
-by_its_bits w = ap (λ k. by_bits k (w / 2 % 2) (w / 4 % 2)) (sym (bit_at_lowest w))
+has_added : (w b : ℕ) → has_bit (bit_or w (2 ^ b)) b ≡ true
+has_added w b = bit_set w (2 ^ b) b (bit_at-pow_same b)
 
-bit_kept : (w k i : ℕ) → bit_at k i ≡ 0 → bit_at (bit_or w k) i ≡ bit_at w i
-bit_kept w k i e = let m = bit_at_or w k i in omega arith
+has_other : (w b i : ℕ) → i ≢ b → has_bit (bit_or w (2 ^ b)) i ≡ has_bit w i
+has_other w b i n = bit_kept w (2 ^ b) i (bit_at-pow_other b i n)
 
-bit_set : (w k i : ℕ) → bit_at k i ≡ 1 → bit_at (bit_or w k) i ≡ 1
-bit_set w k i e = let m = bit_at_or w k i in let l = bit_at-lt w i in omega arith
+-- ---- the bit of a fact adds the fact
+pub facts_of-added : (k : Kind) (p w : ℕ) (f : Fact) → is_of_kind k f ≡ true → facts_of k p (bit_or w (2 ^ bit_of p f)) ≡ with_fact (facts_of k p w) f
+facts_of-added Straight p w Ran h = λ i. record { ran = has_added w (bit_of p Ran) i; went = false; stayed = has_other w (bit_of p Ran) (bit_of p Stayed) (λ e. absurd (omega arith)) i }
+facts_of-added Straight p w Went h = absurd cc
+facts_of-added Straight p w Stayed h = absurd cc
+facts_of-added Conditional p w Ran h = absurd cc
+facts_of-added Conditional p w Went h = λ i. record { ran = false; went = has_added w (bit_of p Went) i; stayed = has_other w (bit_of p Went) (bit_of p Stayed) (λ e. absurd (omega arith)) i }
+facts_of-added Conditional p w Stayed h = λ i. record { ran = false; went = has_other w (bit_of p Stayed) (bit_of p Went) (λ e. absurd (omega arith)) i; stayed = has_added w (bit_of p Stayed) i }
 
--- the bit of a fact adds the fact
-pub facts_of-bit_or : (w : ℕ) (f : Fact) → facts_of (bit_or w (bit_of f)) ≡ with_fact (facts_of w) f
-facts_of-bit_or w Ran = by_its_bits (bit_or w 1) ∙ ((λ i. by_bits (bit_set w 1 0 refl i) (bit_kept w 1 1 refl i) (bit_kept w 1 2 refl i)) ∙ sym (ap (λ s. with_fact s Ran) (by_its_bits w)))
-facts_of-bit_or w Went = by_its_bits (bit_or w 2) ∙ ((λ i. by_bits (bit_kept w 2 0 refl i) (bit_set w 2 1 refl i) (bit_kept w 2 2 refl i)) ∙ sym (ap (λ s. with_fact s Went) (by_its_bits w)))
-facts_of-bit_or w Stayed = by_its_bits (bit_or w 4) ∙ ((λ i. by_bits (bit_kept w 4 0 refl i) (bit_kept w 4 1 refl i) (bit_set w 4 2 refl i)) ∙ sym (ap (λ s. with_fact s Stayed) (by_its_bits w)))
+bits_apart : (p q : ℕ) (f g : Fact) → q % 32 ≢ p % 32 → bit_of q g ≢ bit_of p f
+bits_apart p q Ran Ran n e = n (omega arith)
+bits_apart p q Ran Went n e = n (omega arith)
+bits_apart p q Ran Stayed n e = absurd (omega arith)
+bits_apart p q Went Ran n e = n (omega arith)
+bits_apart p q Went Went n e = n (omega arith)
+bits_apart p q Went Stayed n e = absurd (omega arith)
+bits_apart p q Stayed Ran n e = absurd (omega arith)
+bits_apart p q Stayed Went n e = absurd (omega arith)
+bits_apart p q Stayed Stayed n e = n (omega arith)
+
+-- and changes the set at no other of the 32 places
+pub facts_of-other : (k : Kind) (p q w : ℕ) (f : Fact) → q % 32 ≢ p % 32 → facts_of k q (bit_or w (2 ^ bit_of p f)) ≡ facts_of k q w
+facts_of-other Straight p q w f n = λ i. record { ran = has_other w (bit_of p f) (bit_of q Ran) (bits_apart p q f Ran n) i; went = false; stayed = has_other w (bit_of p f) (bit_of q Stayed) (bits_apart p q f Stayed n) i }
+facts_of-other Conditional p q w f n = λ i. record { ran = false; went = has_other w (bit_of p f) (bit_of q Went) (bits_apart p q f Went n) i; stayed = has_other w (bit_of p f) (bit_of q Stayed) (bits_apart p q f Stayed n) i }
+
+-- a fact that is there adds nothing
+pub with_fact-there : (s : FactSet) (f : Fact) → has_fact s f ≡ true → with_fact s f ≡ s
+with_fact-there s Ran h = λ i. record s { ran = sym h i }
+with_fact-there s Went h = λ i. record s { went = sym h i }
+with_fact-there s Stayed h = λ i. record s { stayed = sym h i }
+
+-- ---- where the words lie
+pub in_session : (n p : ℕ) → p < n → p / 32 < session_words n
+in_session n p l = omega arith
+
+pub same_word : (n s t p q : ℕ) → 0 < s → 0 < t → p < n → q < n → set_word n s p ≡ set_word n t q → (s ≡ t) × (p / 32 ≡ q / 32)
+same_word n s t p q ps pt lp lq e = let w : ℕ = session_words n in let x : (s - 1) * w + p / 32 ≡ (t - 1) * w + q / 32 = omega arith in
+    let a : s - 1 ≡ t - 1 = sym (div-mul-add (s - 1) w (p / 32) (in_session n p lp)) ∙ (ap (λ k. k / w) x ∙ div-mul-add (t - 1) w (q / 32) (in_session n q lq)) in
+    (omega arith, sym (mod-mul-add (s - 1) w (p / 32) (in_session n p lp)) ∙ (ap (λ k. k % w) x ∙ mod-mul-add (t - 1) w (q / 32) (in_session n q lq)))
+
+by_total : (total : ℕ) (b : Bool) → nat_eq total 0 ≡ b → (total ≤ (if b then 1 else total)) × (0 < (if b then 1 else total))
+by_total total true e = (let z = eqb-true total 0 e in omega arith, omega arith)
+by_total zero false e = absurd cc
+by_total (suc total) false e = (omega arith, omega arith)
+
+pub words_enough : (n sessions : ℕ) → n + sessions * session_words n ≤ words_of n sessions
+words_enough n sessions = (by_total (n + sessions * session_words n) (nat_eq (n + sessions * session_words n) 0) refl).0
+
+pub words_some : (n sessions : ℕ) → 0 < words_of n sessions
+words_some n sessions = (by_total (n + sessions * session_words n) (nat_eq (n + sessions * session_words n) 0) refl).1
+
+pub set_word_within : (n sessions s p : ℕ) → 0 < s → s ≤ sessions → p < n → set_word n s p < words_of n sessions
+set_word_within n sessions s p pos ls l = let w : ℕ = session_words n in let m : suc (s - 1) * w ≤ sessions * w = mul-le-mul_right w (omega arith) in let e : suc (s - 1) * w ≡ (s - 1) * w + w = suc-mul (s - 1) w in
+    let a = in_session n p l in let b = words_enough n sessions in omega arith

@@ -1,20 +1,23 @@
 -- The rule over all words and all passes, and what a step tells.
-use Rattle.std.specs.Prelude.{◌≡◌, ℕ, ◌+◌, ◌*◌, ◌<◌, ◌≤◌, true, false, nat_eq, length}
+use Rattle.std.specs.Prelude.{◌≡◌, ◌≢◌, ℕ, ◌*◌, ◌<◌, ◌≤◌, true, false, nat_eq, Some, length}
 use Rattle.atomic_table.specs.Table.{State}
 use Rattle.cov_base.specs.declared.facts.Fact.{Fact}
+use Rattle.cov_base.specs.FactSet.{FactSet}
+use Rattle.cov_base.specs.Facts.{has_fact, is_of_kind}
+use Rattle.module_area.specs.declared.parties.Role.TheVariants.{Spent}
 use Rattle.module_area.specs.declared.parties.View.{View}
-use Rattle.module_area.specs.PlanView.{PlanView, window_at}
-use Rattle.module_area.specs.Parties.{fetching, marking, lifting}
+use Rattle.module_area.specs.PlanView.{PlanView, kind_at, window_at}
+use Rattle.module_area.specs.Parties.{window_tag, fetching, marking, lifting}
 use Rattle.module_area.specs.Notes.{IsAnswer, IsFound, no_tally}
 use Rattle.module_area.specs.Held.{Held}
 use Rattle.shared_area.specs.declared.rule.NoSlot.{NoSlot}
-use Rattle.shared_area.specs.Words.{cell_of, facts_of, place_of, cells_in, sets_in}
+use Rattle.shared_area.specs.Words.{cell_of, word_count, cells_in, sets_in}
 use Rattle.shared_area.specs.Told.{has_pair, notes_in}
 
 -- `whole`: nothing is planted at a place without a whole session
 pub record IsArea (plan : PlanView) (s : State NoSlot View) : Type 0 where
-  pub wide : place_of (length plan.places) (plan.sessions + 1) 0 ≤ length s.words
-  pub held : Held plan (cells_in s.words) (sets_in (length plan.places) s.words) s.views
+  pub wide : length s.words ≡ word_count plan
+  pub held : Held plan (cells_in s.words) (sets_in plan s.words) s.views
   pub whole : (p : ℕ) → p < length plan.places → window_at plan p ≡ 0 → (cells_in s.words p).tag ≡ 0
 
 -- a fetch at place p found the word
@@ -24,10 +27,24 @@ pub record Fetched (plan : PlanView) (p : ℕ) (v : View) (w : ℕ) (v' : View) 
   pub within : (cell_of w).tag ≤ 2 * plan.sessions
   pub small : (cell_of w).tag ≤ 32
 
--- a mark of the fact for session s at place p found the word
-pub record Marked (plan : PlanView) (s p : ℕ) (f : Fact) (v : View) (w : ℕ) (v' : View) : Type 0 where
-  pub after : v' ≡ marking plan s p f (facts_of w) v
-  pub found : IsFound plan (notes_in v no_tally) s p (facts_of w)
+-- a living party that has just fetched the breakpoint of session s at place p, and a fact that it may mark there
+pub record MayMark (plan : PlanView) (s p : ℕ) (f : Fact) (v : View) : Type 0 where
+  pub live : v.role ≢ Spent
+  pub place : p < length plan.places
+  pub session : 0 < s
+  pub in_plan : s ≤ plan.sessions
+  pub pending : v.pending ≡ Some (p, window_tag s)
+  pub kind : is_of_kind (kind_at plan p) f ≡ true
+
+-- a mark of the fact for session s at place p found the set
+pub record Marked (plan : PlanView) (s p : ℕ) (f : Fact) (v : View) (found : FactSet) (v' : View) : Type 0 where
+  pub after : v' ≡ marking plan s p f found v
+  pub is_found : IsFound plan (notes_in v no_tally) s p found
+
+-- a look at the set that was found: the mark itself where the fact is there, and else nothing
+pub record Looked (plan : PlanView) (s p : ℕ) (f : Fact) (v : View) (found : FactSet) (v' : View) : Type 0 where
+  pub there : has_fact found f ≡ true → Marked plan s p f v found v'
+  pub wanting : has_fact found f ≡ false → v' ≡ v
 
 -- a lift for session s at place p, of the word `old`, found the word
 pub record Lifted (s p old : ℕ) (v : View) (w : ℕ) (v' : View) : Type 0 where

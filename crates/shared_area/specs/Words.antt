@@ -1,10 +1,14 @@
--- How a cell, and a set of facts, lie in a word, and where the words lie.
-use Rattle.std.specs.Prelude.{ℕ, ◌+◌, ◌-◌, ◌*◌, ◌/◌, ◌%◌, nat_eq, if◌then◌else◌, List, get_or}
+-- How a cell and the sets of facts lie in words, and where the words lie.
+use Rattle.std.specs.Prelude.{ℕ, ◌+◌, ◌-◌, ◌*◌, ◌/◌, ◌%◌, Bool, false, nat_eq, if◌then◌else◌, List, length, get_or}
+use Rattle.std.specs.Int.{bit_at}
 use Rattle.cov_base.specs.declared.facts.Fact.{Fact}
 use Rattle.cov_base.specs.declared.facts.Fact.TheVariants.{Ran, Went, Stayed}
+use Rattle.cov_base.specs.declared.facts.Kind.{Kind}
+use Rattle.cov_base.specs.declared.facts.Kind.TheVariants.{Straight, Conditional}
 use Rattle.cov_base.specs.FactSet.{FactSet}
 use Rattle.module_area.specs.declared.cells.Cell.{Cell}
 use Rattle.module_area.specs.Parties.{tag_session}
+use Rattle.module_area.specs.PlanView.{PlanView, kind_at}
 
 -- the tag above the halfword
 abbrev pub cell_of : ℕ → Cell
@@ -18,23 +22,37 @@ word_of s half = (2 * s - 1) * 65536 + half
 abbrev pub session_in : ℕ → ℕ
 session_in w = tag_session (w / 65536)
 
-abbrev pub facts_of : ℕ → FactSet
-facts_of w = record { ran = nat_eq (w % 2) 1; went = nat_eq (w / 2 % 2) 1; stayed = nat_eq (w / 4 % 2) 1 }
+-- the bit of a fact at place p, in a word of the sets at 32 places: each has two, and Ran shares one with Went
+abbrev pub bit_of : ℕ → Fact → ℕ
+bit_of p Ran = 2 * (p % 32)
+bit_of p Went = 2 * (p % 32)
+bit_of p Stayed = 2 * (p % 32) + 1
 
-abbrev pub bit_of : Fact → ℕ
-bit_of Ran = 1
-bit_of Went = 2
-bit_of Stayed = 4
+abbrev pub has_bit : ℕ → ℕ → Bool
+has_bit w i = nat_eq (bit_at w i) 1
 
-abbrev pub fact_in : ℕ → Fact
-fact_in k = if nat_eq k 1 then Ran else (if nat_eq k 2 then Went else Stayed)
+-- the set at place p, of the kind, in its word
+abbrev pub facts_of : Kind → ℕ → ℕ → FactSet
+facts_of Straight p w = record { ran = has_bit w (bit_of p Ran); went = false; stayed = has_bit w (bit_of p Stayed) }
+facts_of Conditional p w = record { ran = false; went = has_bit w (bit_of p Went); stayed = has_bit w (bit_of p Stayed) }
 
--- the word of session s at place p, of n places; the cells are row 0
-abbrev pub place_of : ℕ → ℕ → ℕ → ℕ
-place_of n s p = s * n + p
+-- the words of one session's sets at n places
+abbrev pub session_words : ℕ → ℕ
+session_words n = (n + 31) / 32
+
+-- the word of the set of session s at place p, of n places: the cells come first, then session after session
+abbrev pub set_word : ℕ → ℕ → ℕ → ℕ
+set_word n s p = n + ((s - 1) * session_words n + p / 32)
+
+-- the words of n places and so many sessions, or an idle one
+abbrev pub words_of : ℕ → ℕ → ℕ
+words_of n sessions = if nat_eq (n + sessions * session_words n) 0 then 1 else n + sessions * session_words n
+
+abbrev pub word_count : PlanView → ℕ
+word_count plan = words_of (length plan.places) plan.sessions
 
 abbrev pub cells_in : List ℕ → ℕ → Cell
 cells_in words p = cell_of (get_or words p 0)
 
-abbrev pub sets_in : ℕ → List ℕ → ℕ → ℕ → FactSet
-sets_in n words s p = facts_of (get_or words (place_of n s p) 0)
+abbrev pub sets_in : PlanView → List ℕ → ℕ → ℕ → FactSet
+sets_in plan words s p = facts_of (kind_at plan p) p (get_or words (set_word (length plan.places) s p) 0)

@@ -79,13 +79,11 @@ fn end_area(alloc: Global, cells: SharedCells, root: SharedPass) -> Result<Final
 {
     let SharedCells { table, plan } = cells;
     let SharedPass { seat, tally: _ } = root;
-    let places = plan.places_len();
-    let count = plan.sessions as usize * places as usize;
     let closed = table.close_with(seat);
-    let sets = last_sets(alloc, &closed, places as usize, count);
+    let sets = last_sets(alloc, &closed, &plan);
     closed.free();
     Ok(Finals {
-        places,
+        places: plan.places_len(),
         sets: sets?,
     })
 }

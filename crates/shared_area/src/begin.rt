@@ -1,36 +1,23 @@
 //! How the words of an area begin and end.
-ghost use Rattle.std.specs.Prelude.{◌≡◌, ◌+◌, ◌*◌, ◌≤◌, length, map, take, drop, IfOk, OnOk};
+ghost use Rattle.std.specs.Prelude.{◌≡◌, ◌+◌, ◌*◌, ◌<◌, ◌≤◌, length, map, IfOk, OnOk};
 ghost use Rattle.std.specs.Slots.{slots_items, slots_len, IsFull};
-ghost use Rattle.shared_area.specs.Words.{facts_of};
-ghost use Rattle.shared_area.specs.Begin.{starting, zeros_of, original_of, AllFit};
+ghost use Rattle.shared_area.specs.Words.{word_count};
+ghost use Rattle.shared_area.specs.Begin.{starting, original_of, AllFit, AreSets};
 ghost use Rattle.module_area.specs.PlanView.{IsPlan};
 
 use crate::rule::NoSlot;
-use crate::words::facts;
+use crate::words::{count, facts, word_at};
 use atomic_table::Closed;
-use cov_base::{Bits, PlaceNo};
+use cov_base::{Bits, PlaceNo, SessNo};
 use module_area::Plan;
 use std::alloc::{AllocError, Global};
-
-/// How many words follow the cells: one per session and place, and an idle one where there is no place.
-fn zeros(plan: &Plan) -> usize
-    ensures value { result ≡ zeros_of plan.now }
-    ensures plan { IsPlan plan.now }
-{
-    let places = plan.places_len() as usize;
-    if places == 0 {
-        1
-    } else {
-        plan.sessions as usize * places
-    }
-}
 
 /// The words of the cells, which are the originals.
 fn cell_words(alloc: Global, plan: &Plan) -> Result<Vec<u64>, AllocError>
     ensures value { IfOk result (λ v. v.items ≡ map original_of plan.now.places) }
     ensures fits { OnOk result (AllFit plan.now (length plan.now.places)) }
 {
-    let mut words = Vec::new(alloc);
+    let mut words = Vec::with_capacity(alloc, count(plan))?;
     for i in 0..plan.places_len() {
         words.push(plan.original(PlaceNo(i)) as u64)?;
     }
@@ -43,28 +30,54 @@ pub(crate) fn first_words(alloc: Global, plan: &Plan) -> Result<Vec<u64>, AllocE
     ensures fits { OnOk result (AllFit plan.now (length plan.now.places)) }
     ensures plan { IsPlan plan.now }
 {
-    let zeros = zeros(plan);
+    let count = count(plan);
     let mut words = cell_words(alloc, plan)?;
-    for _ in 0..zeros {
+    let sets = count - words.len();
+    for _ in 0..sets {
         words.push(0)?;
     }
     Ok(words)
 }
 
-/// The sets of so many words from the first one on.
+/// Adds the sets of a session, place by place.
+fn push_sets(
+    sets: &mut Vec<Bits>,
+    closed: &Closed<NoSlot, Global>,
+    plan: &Plan,
+    s: SessNo,
+) -> Result<(), AllocError>
+    requires full { IsFull closed.now.words }
+    requires wide { word_count plan.now ≤ slots_len closed.now.words }
+    requires session { 0 < s.0 }
+    requires in_plan { s.0 ≤ plan.now.sessions }
+    requires before { length sets.old.items + length plan.now.places ≡ s.0 * length plan.now.places }
+    requires sets { AreSets plan.now (slots_items closed.now.words) sets.old.items }
+    ensures size { OnOk result (length sets.new.items ≡ s.0 * length plan.now.places) }
+    ensures sets { OnOk result (AreSets plan.now (slots_items closed.now.words) sets.new.items) }
+{
+    for p in 0..plan.places_len() {
+        let place = PlaceNo(p);
+        let word = closed.word(word_at(plan, s, place));
+        sets.push(facts(plan.kind(place), place, word))?;
+    }
+    Ok(())
+}
+
+/// The sets that the words show in the end.
 pub(crate) fn last_sets(
     alloc: Global,
     closed: &Closed<NoSlot, Global>,
-    first: usize,
-    count: usize,
+    plan: &Plan,
 ) -> Result<Vec<Bits>, AllocError>
     requires full { IsFull closed.now.words }
-    requires within { first + count ≤ slots_len closed.now.words }
-    ensures { IfOk result (λ v. v.items ≡ map facts_of (take count (drop first (slots_items closed.now.words)))) }
+    requires wide { word_count plan.now ≤ slots_len closed.now.words }
+    ensures size { IfOk result (λ v. length v.items ≡ plan.now.sessions * length plan.now.places) }
+    ensures sets { IfOk result (λ v. AreSets plan.now (slots_items closed.now.words) v.items) }
 {
-    let mut sets = Vec::new(alloc);
-    for i in 0..count {
-        sets.push(facts(closed.word(first + i)))?;
+    let size = plan.sessions as usize * plan.places_len() as usize;
+    let mut sets = Vec::with_capacity(alloc, size)?;
+    for s in 0..plan.sessions {
+        push_sets(&mut sets, closed, plan, SessNo(s + 1))?;
     }
     Ok(sets)
 }

@@ -1,10 +1,11 @@
-//! The area that threads share: a word for each place, and one for each session and place.
+//! The area that threads share: a word for each place, and one for the sets of each session at 32 places.
 #![tactic(auto)]
 
 mod areas;
 mod begin;
 mod cells;
 mod forks;
+mod marks;
 mod pass;
 mod rule;
 mod steps;

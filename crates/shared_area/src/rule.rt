@@ -1,6 +1,7 @@
 //! The rule of the words, and what a call picks of a step.
-ghost use Rattle.std.specs.Prelude.{ℕ};
-ghost use Rattle.module_area.specs.PlanView.{PlanView};
+ghost use Rattle.std.specs.Prelude.{◌≡◌, ℕ};
+ghost use Rattle.cov_base.specs.declared.facts.Fact.{Fact};
+ghost use Rattle.module_area.specs.PlanView.{PlanView, kind_at};
 
 use atomic_table::{Join, Play, Split, TableRule};
 use module_area::{Plan, View};
@@ -21,6 +22,50 @@ impl TableRule<NoSlot, View, Snapshot<Plan>> for AreaRule {
     ghost holds = { λ k. IsArea k.value };
 
     ghost first = { λ _. blank Root };
+}
+
+/// Which fact a step marks: at which place, for which session, under which plan.
+pub(crate) trait Marking {
+    ghost plan: { PlanView };
+
+    ghost session: { ℕ };
+
+    ghost place: { ℕ };
+
+    ghost fact: { Fact };
+}
+
+impl Marking for Brand {
+    ghost use Rattle.std.specs.Prelude.{[]};
+    ghost use Rattle.cov_base.specs.declared.facts.Fact.TheVariants.{Ran};
+
+    ghost plan = { record { places = []; windows = []; controlled = []; tasks = []; sessions = 0 } };
+
+    ghost session = { 0 };
+
+    ghost place = { 0 };
+
+    ghost fact = { Ran };
+}
+
+/// A load of the word that has the set.
+pub(crate) struct Look<K: Marking>(PhantomData<K>);
+
+impl<K: Marking> Play<NoSlot, View> for Look<K> {
+    ghost use Rattle.shared_area.specs.Words.{facts_of};
+    ghost use Rattle.shared_area.specs.Rule.{Looked};
+
+    ghost then = { λ _ me w me'. Looked K.plan K.session K.place K.fact me.0 (facts_of (kind_at K.plan K.place) K.place w) me'.0 × (me'.1 ≡ me.1) };
+}
+
+/// A fetch_or of the fact's bit.
+pub(crate) struct Addition<K: Marking>(PhantomData<K>);
+
+impl<K: Marking> Play<NoSlot, View> for Addition<K> {
+    ghost use Rattle.shared_area.specs.Words.{facts_of};
+    ghost use Rattle.shared_area.specs.Rule.{Marked};
+
+    ghost then = { λ _ me w me'. Marked K.plan K.session K.place K.fact me.0 (facts_of (kind_at K.plan K.place) K.place w) me'.0 × (me'.1 ≡ me.1) };
 }
 
 // Each call picks what its step tells.

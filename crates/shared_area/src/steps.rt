@@ -1,9 +1,11 @@
 //! One step on one word for each call.
+ghost use Rattle.std.specs.Prelude.{◌≡◌};
 ghost use Rattle.shared_area.specs.Passes.{notes_of, IsPassOf};
+ghost use Rattle.shared_area.specs.Words.{word_count};
 
 use crate::cells::SharedCells;
 use crate::pass::SharedPass;
-use crate::words::{bit, cell, facts, window_word};
+use crate::words::{cell, window_word};
 use cov_base::{BREAKPOINT, Bits, Fact, PlaceNo, SessNo};
 use module_area::{Cell, Cells};
 use std::marker::Brand;
@@ -27,13 +29,9 @@ impl Cells for SharedCells {
     }
 
     fn mark(&self, pass: &mut SharedPass, s: SessNo, place: PlaceNo, fact: Fact) -> Bits {
-        let at = s.0 as usize * self.plan.places_len() as usize + place.0 as usize;
-        let found = self
-            .table
-            .shared
-            .fetch_or::<Brand>(&mut pass.seat, at, bit(fact));
+        let found = self.mark_set(&mut pass.seat, s, place, fact);
         pass.tally.marks += 1;
-        facts(found)
+        found
     }
 
     fn lift(&self, pass: &mut SharedPass, s: SessNo, place: PlaceNo) -> bool {
@@ -55,5 +53,15 @@ impl Cells for SharedCells {
             .shared
             .swap::<Brand>(&mut pass.seat, place.0 as usize, new);
         pass.tally.plants += 1;
+    }
+}
+
+impl SharedCells {
+    /// The number of words that the area has: one for each place, and for each session one for 32 places, the last of
+    /// which may have fewer; or 1 where there is neither.
+    pub fn words(&self) -> u64
+        ensures { result ≡ word_count (⟦<SharedCells as Cells>⟧.plan self.now) }
+    {
+        self.table.word_count() as u64
     }
 }

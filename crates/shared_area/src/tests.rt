@@ -1,16 +1,19 @@
-//! A branch and a return under one session: two passes in turn, and two threads at once.
+//! A branch and a return under one session: two passes in turn, a mark between the two steps of another, and two
+//! threads at once. How many words an area has.
 ghost use Rattle.std.specs.Prelude.{◌≡◌, ◌+◌, ◌<◌, ◌≤◌, ◌^◌, length, true, IfOk};
-ghost use Rattle.std.specs.declared.option.Option.TheVariants.{None};
+ghost use Rattle.std.specs.declared.option.Option.TheVariants.{Some, None};
 ghost use Rattle.cov_base.specs.declared.facts.Fact.TheVariants.{Went, Stayed};
 ghost use Rattle.cov_base.specs.declared.facts.Kind.TheVariants.{Straight, Conditional};
 ghost use Rattle.cov_base.specs.Facts.{is_of_kind};
 ghost use Rattle.module_area.specs.PlanView.{kind_at, window_at, has_task};
 ghost use Rattle.module_area.specs.Notes.{calls};
+ghost use Rattle.shared_area.specs.Passes.{notes_of, IsPassOf};
 
-use crate::SharedAreas;
-use cov_base::{Addr, Fact, Kind, NoMemory, PlaceNo, SessNo, TaskNo};
+use crate::{SharedAreas, SharedCells, SharedPass};
+use cov_base::{Addr, Bits, Fact, Kind, NoMemory, PlaceNo, SessNo, TaskNo};
 use module_area::{Areas, Cells, Forks, Place, Plan, Tally};
 use std::alloc::Global;
+use std::marker::Brand;
 use std::test::Fail;
 use std::thread;
 use std::thread::Threads;
@@ -135,6 +138,104 @@ where
     Ok(finals.set(SessNo(1), PlaceNo(0)).is_full(Kind::Conditional))
 }
 
+/// Whether a set has Went, and whether Stayed.
+type Shown = (bool, bool);
+
+fn shown(set: Bits) -> Shown {
+    (set.has(Fact::Went), set.has(Fact::Stayed))
+}
+
+/// Whether the pass meets the breakpoint of session 1 at the branch.
+fn is_trapped(cells: &SharedCells, pass: &mut SharedPass) -> bool
+    requires area { IsPassOf cells.now pass.old }
+    requires room { calls (notes_of pass.old) < 2 ^ 60 }
+    requires place { 0 < length cells.now.plan.places }
+    ensures area { IsPassOf cells.now pass.new }
+    ensures pending { result ≡ true → (notes_of pass.new).pending ≡ Some (0, 1) }
+    ensures room { calls (notes_of pass.new) ≤ calls (notes_of pass.old) + 1 }
+{
+    let cell = cells.fetch(pass, PlaceNo(0));
+    cell.tag == 1 && cell.half == 0x0AFF
+}
+
+/// The two steps of a mark of Went, with a mark of Stayed by the other pass between them: the sets that these three
+/// find, or none where the look has found the fact.
+fn raced(cells: &SharedCells, pass: SharedPass, other: &mut SharedPass) -> Option<[Shown; 3]>
+    requires area { IsPassOf cells.now pass }
+    requires other { IsPassOf cells.now other.old }
+    requires room { calls (notes_of other.old) < 2 ^ 60 }
+    requires branch { (0 < length cells.now.plan.places) × (kind_at cells.now.plan 0 ≡ Conditional) × (1 ≤ cells.now.plan.sessions) }
+    requires pending { ((notes_of pass).pending ≡ Some (0, 1)) × ((notes_of other.old).pending ≡ Some (0, 1)) }
+{
+    let SharedPass { mut seat, tally: _ } = pass;
+    let looked = cells.look::<Brand>(&mut seat, SessNo(1), PlaceNo(0), Fact::Went);
+    if looked.has(Fact::Went) {
+        return None;
+    }
+    let between = cells.mark(other, SessNo(1), PlaceNo(0), Fact::Stayed);
+    let added = cells.add::<Brand>(&mut seat, SessNo(1), PlaceNo(0), Fact::Went);
+    Some([shown(looked), shown(between), shown(added)])
+}
+
+/// The set that a look for Went finds.
+fn looked(cells: &SharedCells, pass: SharedPass) -> Shown
+    requires area { IsPassOf cells.now pass }
+    requires branch { (0 < length cells.now.plan.places) × (kind_at cells.now.plan 0 ≡ Conditional) × (1 ≤ cells.now.plan.sessions) }
+    requires pending { (notes_of pass).pending ≡ Some (0, 1) }
+{
+    let SharedPass { mut seat, tally: _ } = pass;
+    shown(cells.look::<Brand>(&mut seat, SessNo(1), PlaceNo(0), Fact::Went))
+}
+
+/// An area in which the branch is planted, its root, and the passes of tasks 0 and 1.
+fn two_passes<A: Areas>(
+    alloc: Global,
+    areas: &mut A,
+    plan: &Plan,
+) -> Result<
+    (
+        A::C,
+        <A::C as Cells>::Pass,
+        <A::C as Cells>::Pass,
+        <A::C as Cells>::Pass,
+    ),
+    NoMemory,
+>
+    requires room { A.made areas.old < 2 ^ 62 }
+    requires branch { (0 < length plan.now.places) × (window_at plan.now 0 ≡ 1) }
+    requires tasks { (has_task plan.now.tasks 0 ≡ true) × (has_task plan.now.tasks 1 ≡ true) }
+    ensures plan { IfOk result (λ a. A.C.plan a.0 ≡ plan.now) }
+    ensures root { IfOk result (λ a. A.C.is_pass a.0 a.1 × (calls (A.C.notes a.1) < 2 ^ 8)) }
+    ensures first { IfOk result (λ a. A.C.is_pass a.0 a.2 × (calls (A.C.notes a.2) < 2 ^ 8)) }
+    ensures second { IfOk result (λ a. A.C.is_pass a.0 a.3 × (calls (A.C.notes a.3) < 2 ^ 8)) }
+{
+    let (cells, mut root) = areas.make(alloc, plan)?;
+    cells.plant(&mut root, SessNo(1), PlaceNo(0));
+    let first = cells.split(&mut root, TaskNo(0));
+    let second = cells.split(&mut root, TaskNo(1));
+    Ok((cells, root, first, second))
+}
+
+/// What the steps of two passes find in turn, and then a look of the root; none where no breakpoint stands.
+fn step_by_step(alloc: Global, plan: &Plan) -> Result<Option<([Shown; 3], Shown)>, NoMemory>
+    requires branch { (0 < length plan.now.places) × (kind_at plan.now 0 ≡ Conditional) × (window_at plan.now 0 ≡ 1) }
+    requires tasks { (has_task plan.now.tasks 0 ≡ true) × (has_task plan.now.tasks 1 ≡ true) }
+    requires sessions { 1 ≤ plan.now.sessions }
+{
+    let mut areas = SharedAreas::new(alloc, 1)?;
+    let (cells, mut root, mut first, mut second) = two_passes(alloc, &mut areas, plan)?;
+    if !is_trapped(&cells, &mut first)
+        || !is_trapped(&cells, &mut second)
+        || !is_trapped(&cells, &mut root)
+    {
+        return Ok(None);
+    }
+    let Some(three) = raced(&cells, first, &mut second) else {
+        return Ok(None);
+    };
+    Ok(Some((three, looked(&cells, root))))
+}
+
 /// An area in which nothing is done, and how many sets it ends with.
 fn nothing_done<A: Areas>(alloc: Global, areas: &mut A, plan: &Plan) -> Result<usize, NoMemory>
     requires { A.made areas.old < 2 ^ 62 }
@@ -224,5 +325,61 @@ fn an_area_without_places(rt: HostRuntime) -> Result<(), Fail> {
     let mut areas = SharedAreas::new(alloc, 1)?;
     assert_eq!(rt; nothing_done(alloc, &mut areas, &plan)?, 0);
     assert_eq!(rt; areas.made(), 1);
+    Ok(())
+}
+
+#[test]
+fn a_mark_between_look_and_addition(rt: HostRuntime) -> Result<(), Fail> {
+    let alloc = rt.alloc();
+    let plan = branch_and_return(alloc)?;
+    let found = step_by_step(alloc, &plan)?;
+    let three = [(false, false), (false, false), (false, true)];
+    assert_eq!(rt; found, Some((three, (true, true))));
+    Ok(())
+}
+
+/// So many places of one instruction each, and as many sessions, which observe none.
+fn straight(alloc: Global, places: u32, sessions: u32) -> Result<Plan, Fail> {
+    let mut list = Vec::new(alloc);
+    let mut windows = Vec::new(alloc);
+    for i in 0..places.min(100) {
+        list.push(Place {
+            module: 0,
+            at: Addr::of(0x10_0000 + 2 * i),
+            len: 2,
+            original: 0x1A12,
+            kind: Kind::Straight,
+        })?;
+        windows.push(0)?;
+    }
+    let plan = Plan::checked(alloc, list, windows, Vec::new(alloc), sessions).ok_or("no plan")?;
+    Ok(plan)
+}
+
+/// Places, sessions, and the words of their area.
+static WORDS: [(u32, u32, u64); 8] = [
+    (3, 1, 4),
+    (32, 1, 33),
+    (33, 1, 35),
+    (33, 2, 37),
+    (65, 16, 113),
+    (3, 0, 3),
+    (0, 16, 1),
+    (0, 0, 1),
+];
+
+#[test]
+fn words_of_an_area(rt: HostRuntime) -> Result<(), Fail> {
+    let alloc = rt.alloc();
+    for (places, sessions, words) in WORDS {
+        let plan = straight(alloc, places, sessions)?;
+        let mut areas = SharedAreas::new(alloc, 1)?;
+        let (cells, _root) = areas.make(alloc, &plan)?;
+        assert_eq!(rt;
+            cells.words(),
+            words,
+            "{places} places, {sessions} sessions"
+        );
+    }
     Ok(())
 }

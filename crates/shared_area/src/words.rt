@@ -1,9 +1,10 @@
-//! How a cell, and a set of facts, lie in a word.
-ghost use Rattle.std.specs.Prelude.{◌≡◌, ◌*◌, ◌/◌, ◌^◌, ◌<◌, ◌≤◌};
-ghost use Rattle.shared_area.specs.Words.{cell_of, facts_of, bit_of, word_of};
+//! How a cell and the sets of facts lie in words, and where the words lie.
+ghost use Rattle.std.specs.Prelude.{◌≡◌, ◌*◌, ◌/◌, ◌^◌, ◌<◌, ◌≤◌, length};
+ghost use Rattle.module_area.specs.PlanView.{IsPlan};
+ghost use Rattle.shared_area.specs.Words.{cell_of, has_bit, facts_of, bit_of, word_of, session_words, set_word, word_count};
 
-use cov_base::{Bits, Fact};
-use module_area::Cell;
+use cov_base::{Bits, Fact, Kind, PlaceNo, SessNo};
+use module_area::{Cell, Plan};
 
 /// The cell of a place's word.
 pub(crate) fn cell(word: u64) -> Cell
@@ -24,30 +25,70 @@ pub(crate) fn window_word(session: u32, half: u16) -> u64
     (2 * session as u64 - 1) * 65536 + half as u64
 }
 
-/// The set of facts of a word.
-pub(crate) fn facts(word: u64) -> Bits
-    ensures { result ≡ facts_of word }
+/// The number of a fact's bit at a place, in the word of its session and its 32 places.
+fn bit_number(place: PlaceNo, fact: Fact) -> u32
+    ensures value { result ≡ bit_of place.0 fact }
+    ensures few { result < 64 }
+{
+    let first = 2 * (place.0 % 32);
+    match fact {
+        Fact::Ran | Fact::Went => first,
+        Fact::Stayed => first + 1,
+    }
+}
+
+/// The word of that bit alone.
+pub(crate) fn bit(place: PlaceNo, fact: Fact) -> u64
+    ensures { result ≡ 2 ^ bit_of place.0 fact }
+{
+    1 << bit_number(place, fact)
+}
+
+fn has(word: u64, bit: u32) -> bool
+    requires { bit < 64 }
+    ensures { result ≡ has_bit word bit }
+{
+    (word >> bit) % 2 == 1
+}
+
+/// The set of facts at a place of the kind, in the word of its session and its 32 places.
+pub(crate) fn facts(kind: Kind, place: PlaceNo, word: u64) -> Bits
+    ensures { result ≡ facts_of kind place.0 word }
 {
     let mut set = Bits::empty();
-    if word % 2 == 1 {
-        set = set.with(Fact::Ran);
+    if has(word, bit_number(place, kind.fact(true))) {
+        set = set.with(kind.fact(true));
     }
-    if word / 2 % 2 == 1 {
-        set = set.with(Fact::Went);
-    }
-    if word / 4 % 2 == 1 {
+    if has(word, bit_number(place, Fact::Stayed)) {
         set = set.with(Fact::Stayed);
     }
     set
 }
 
-/// The word of a set of this fact alone.
-pub(crate) fn bit(fact: Fact) -> u64
-    ensures { result ≡ bit_of fact }
+/// How many words the sets of one session take.
+fn session_words(plan: &Plan) -> usize
+    ensures value { result ≡ session_words (length plan.now.places) }
+    ensures few { result ≤ 2048 }
 {
-    match fact {
-        Fact::Ran => 1,
-        Fact::Went => 2,
-        Fact::Stayed => 4,
-    }
+    (plan.places_len() as usize + 31) / 32
+}
+
+/// The number of the word that has the set of a session at a place.
+pub(crate) fn word_at(plan: &Plan, s: SessNo, place: PlaceNo) -> usize
+    requires place { place.0 < length plan.now.places }
+    requires session { 0 < s.0 }
+    requires in_plan { s.0 ≤ plan.now.sessions }
+    ensures { result ≡ set_word (length plan.now.places) s.0 place.0 }
+{
+    plan.places_len() as usize + ((s.0 as usize - 1) * session_words(plan) + place.0 as usize / 32)
+}
+
+/// How many words the plan takes.
+pub(crate) fn count(plan: &Plan) -> usize
+    ensures value { result ≡ word_count plan.now }
+    ensures cells { length plan.now.places ≤ result }
+    ensures plan { IsPlan plan.now }
+{
+    let count = plan.places_len() as usize + plan.sessions as usize * session_words(plan);
+    if count == 0 { 1 } else { count }
 }

@@ -1,19 +1,24 @@
 -- Files one after another: what the loop over them keeps.
-use Rattle.std.proofs.Common.{◌≡◌, ◌≢◌, inl, inr, ℕ, ◌+◌, ◌≤◌, ◌<◌, true, Some, List, [], ◌∷◌, ◌++◌, length, drop, map, fold, refl, ap, sym, ◌∙◌, arith, append_assoc, append-nil, length-append, length-drop}
+use Rattle.std.proofs.Common.{◌≡◌, ◌≢◌, inl, inr, ℕ, ◌+◌, ◌≤◌, ◌<◌, true, nat_le, Some, List, [], ◌∷◌, ◌++◌, length, drop, map, fold, refl, ap, sym, ◌∙◌, arith, append_assoc, append-nil, length-append, length-drop}
 use Rattle.std.specs.Io.{StartsWith}
-use Rattle.std.proofs.lemmas.List.{take-append-drop, drop-drop, length-take}
+use Rattle.std.specs.List.{sum_by}
+use Rattle.std.proofs.lemmas.List.{take-append-drop, drop-drop, length-take, map-append}
 use Rattle.std.proofs.lemmas.List.Elements.{All-push}
-use Rattle.std.proofs.lemmas.List.Sums.{fold-append}
+use Rattle.std.proofs.lemmas.List.Sums.{fold-append, sum_by-append}
 use Rattle.std.proofs.lemmas.Grind.{flat_map-append}
 use Rattle.byteorder.specs.Endian.{big_bytes}
-use Rattle.marks_file.specs.Marks.{MarkedView, are_marks}
-use Rattle.marks_file.specs.MarksFile.{place_row, module_row, module_rows, rows, file_bytes}
+use Rattle.marks_file.specs.Marks.{MarkedView, MarksView, is_session_name, most_runs, is_runs, keeps_rules}
+use Rattle.marks_file.specs.MarksFile.{place_row, module_row, module_rows, rows, HasFile}
 use Rattle.marks_file.specs.Reading.{IsFault, first_bad, file_fields}
 use Rattle.marks_file.specs.declared.marks.MarkedPlace.{MarkedPlace}
 use Rattle.marks_file.specs.declared.fault.MarksFault.{MarksFault}
 use Rattle.marks_file.specs.declared.fault.MarksFault.TheVariants.{BadMarks, NoMemory}
+use Rattle.marks_file.specs.declared.version.Version.{Version}
+use Rattle.marks_file.proofs.MarksLemmas.{both-left, both-right, both, le_of_test}
+use Rattle.marks_file.proofs.FieldLemmas.{test_of_le}
+use Rattle.marks_file.proofs.FileLemmas.{same_marks}
 use Rattle.table_combine.specs.Combine.{Difference, first_difference, unite, unite_places, unite_module}
-use Rattle.table_combine.specs.Files.{AreOfOneTable, IsOtherTable, IsCombineFault, spelling}
+use Rattle.table_combine.specs.Files.{File, IsFile, text_of, modules_of, runs_of, held, united, AreOfOneTable, IsOtherTable, IsCombineFault, spelling}
 use Rattle.table_combine.specs.FaultView.{fault_of}
 use Rattle.table_combine.proofs.UnionLemmas.{length-unite_places, same_rows, joined_rows}
 
@@ -32,15 +37,15 @@ rows_kept (m ∷ ms) [] = refl
 rows_kept (m ∷ ms) (n ∷ ns) = joined_rows (module_rows (unite_module m n)) (module_rows m) (rows (unite ms ns)) (rows ms) (same_rows (module_row (unite_module m n)) (module_row m) (map place_row (unite_places m.places n.places)) (map place_row m.places) (row_kept m n) (places_kept m.places n.places)) (rows_kept ms ns)
 
 -- files of one table were read up to `at`, and this is their union
-pub record FilesSoFar (bytes : List ℕ) (at : ℕ) (all : List MarkedView) : Type 0 where
+pub record FilesSoFar (bytes : List ℕ) (at : ℕ) (all : MarksView) : Type 0 where
   pub inside : at ≤ length bytes
-  pub first : List MarkedView
-  pub others : List (List MarkedView)
+  pub first : File
+  pub others : List File
   pub table : AreOfOneTable first others
   pub spelled : bytes ≡ spelling (first ∷ others) ++ drop at bytes
   pub end : at ≡ length (spelling (first ∷ others))
-  pub is : all ≡ fold unite first others
-  pub rows_are : rows all ≡ rows first
+  pub is : all ≡ united first others
+  pub rows_are : rows all.modules ≡ rows (modules_of first)
 
 starts : (p bs : List ℕ) → StartsWith bs p → bs ≡ p ++ drop (length p) bs
 starts p bs h = sym (ap (λ t. t ++ drop (length p) bs) (sym h) ∙ take-append-drop (length p) bs)
@@ -48,47 +53,83 @@ starts p bs h = sym (ap (λ t. t ++ drop (length p) bs) (sym h) ∙ take-append-
 fits : (p bs : List ℕ) → StartsWith bs p → length p ≤ length bs
 fits p bs h = omega (arith, length-take (length p) bs, ap length h)
 
-pub files_start : (bytes : List ℕ) (at : ℕ) (m : List MarkedView) → are_marks m ≡ true → StartsWith bytes (file_bytes m) → at ≡ 0 + length (file_bytes m) → FilesSoFar bytes at m
-files_start bytes at m h s f =
-    let e : at ≡ length (file_bytes m) = omega (arith, f) in
-    let inside = fits (file_bytes m) bytes s in
-    let alone : spelling (m ∷ []) ≡ file_bytes m = append-nil (file_bytes m) in
+-- the file of these marks that was read
+file_of : (at : ℕ) (bs : List ℕ) (m : MarksView) (end : ℕ) → HasFile at bs m end → File
+file_of at bs m end f = record { version = f.version; marks = m }
+
+file_of_is : (at : ℕ) (bs : List ℕ) (m : MarksView) (end : ℕ) (f : HasFile at bs m end) → keeps_rules m ≡ true → IsFile (file_of at bs m end f)
+unfolding file_of
+file_of_is at bs m end f h = record { rules = h; tells = f.tells }
+
+runs_small : (m : MarksView) → keeps_rules m ≡ true → m.runs ≤ most_runs
+unfolding is_runs
+runs_small m h = le_of_test m.runs most_runs (both-right (nat_le 1 m.runs) _ (both-left (is_runs m.runs) _ (both-right (is_session_name m.name) _ h)))
+
+alone : (m : MarksView) (v : Version) → keeps_rules m ≡ true → m ≡ united (record { version = v; marks = m }) []
+alone m v h =
+    let small = runs_small m h in
+    let runs : m.runs ≡ held (sum_by runs_of (record { version = v; marks = m } ∷ [])) = omega arith in
+    ap (λ n. record { name = m.name; runs = n; modules = m.modules }) runs
+
+pub files_start : (bytes : List ℕ) (at : ℕ) (m : MarksView) → keeps_rules m ≡ true → HasFile 0 bytes m at → FilesSoFar bytes at m
+unfolding file_of
+files_start bytes at m h f =
+    let x = file_of 0 bytes m at f in
+    let e : at ≡ length (text_of x) = omega (arith, f.ends) in
+    let inside = fits (text_of x) bytes f.starts in
+    let one : spelling (x ∷ []) ≡ text_of x = append-nil (text_of x) in
     record {
       inside = omega (arith, e, inside);
-      first = m;
+      first = x;
       others = [];
-      table = record { first_is = h; are = λ k d l. absurd (omega arith); same = λ k d l. absurd (omega arith) };
-      spelled = starts (file_bytes m) bytes s ∙ (ap (λ t. t ++ drop (length (file_bytes m)) bytes) (sym alone) ∙ ap (λ k. spelling (m ∷ []) ++ drop k bytes) (sym e));
-      end = e ∙ ap length (sym alone);
-      is = refl;
+      table = record { first_is = file_of_is 0 bytes m at f h; are = λ k d l. absurd (omega arith); same = λ k d l. absurd (omega arith) };
+      spelled = starts (text_of x) bytes f.starts ∙ (ap (λ t. t ++ drop (length (text_of x)) bytes) (sym one) ∙ ap (λ k. spelling (x ∷ []) ++ drop k bytes) (sym e));
+      end = e ∙ ap length (sym one);
+      is = alone m f.version h;
       rows_are = refl;
     }
 
-more_spelled : (first : List MarkedView) (others : List (List MarkedView)) (m : List MarkedView) → spelling (first ∷ (others ++ m ∷ [])) ≡ spelling (first ∷ others) ++ file_bytes m
-more_spelled first others m = flat_map-append file_bytes (first ∷ others) (m ∷ []) ∙ ap (λ t. spelling (first ∷ others) ++ t) (append-nil (file_bytes m))
+more_spelled : (first : File) (others : List File) (x : File) → spelling (first ∷ (others ++ x ∷ [])) ≡ spelling (first ∷ others) ++ text_of x
+more_spelled first others x = flat_map-append text_of (first ∷ others) (x ∷ []) ∙ ap (λ t. spelling (first ∷ others) ++ t) (append-nil (text_of x))
 
-pub files_step : (bytes : List ℕ) (at end : ℕ) (all next united : List MarkedView) → FilesSoFar bytes at all → are_marks next ≡ true → StartsWith (drop at bytes) (file_bytes next) → end ≡ at + length (file_bytes next) → rows all ≡ rows next → united ≡ unite all next → FilesSoFar bytes end united
-files_step bytes at end all next united s h starts_so e same is =
-    let fb = file_bytes next in
-    let more = more_spelled s.first s.others next in
+-- the union with a further file
+more_united : (first : File) (others : List File) (x : File) (all : MarksView) → all.name ≡ (united first others).name → all.runs ≡ held ((united first others).runs + x.marks.runs) → all.modules ≡ unite (united first others).modules (modules_of x) → all ≡ united first (others ++ x ∷ [])
+more_united first others x all name runs modules =
+    let sum = sum_by-append runs_of (first ∷ others) (x ∷ []) in
+    let more : held ((united first others).runs + x.marks.runs) ≡ held (sum_by runs_of (first ∷ (others ++ x ∷ []))) = omega (arith, sum) in
+    let sets : unite (united first others).modules (modules_of x) ≡ fold unite (modules_of first) (map modules_of (others ++ x ∷ [])) =
+    sym (ap (λ ms. fold unite (modules_of first) ms) (map-append modules_of others (x ∷ [])) ∙ fold-append unite (modules_of first) (map modules_of others) (modules_of x ∷ [])) in
+    same_marks all.name all.runs all.modules (united first (others ++ x ∷ [])) name (runs ∙ more) (modules ∙ sets)
+
+pub files_step : (bytes : List ℕ) (at end : ℕ) (all next new : MarksView) → FilesSoFar bytes at all → keeps_rules next ≡ true → HasFile at (drop at bytes) next end → rows all.modules ≡ rows next.modules
+    → new.name ≡ all.name → new.runs ≡ held (all.runs + next.runs) → new.modules ≡ unite all.modules next.modules → FilesSoFar bytes end new
+unfolding file_of
+files_step bytes at end all next new s h f same name runs modules =
+    let x = file_of at (drop at bytes) next end f in
+    let text = text_of x in
+    let e : end ≡ at + length text = f.ends in
+    let more = more_spelled s.first s.others x in
     let inside = s.inside in
-    let room = fits fb (drop at bytes) starts_so in
-    let past : drop (length fb) (drop at bytes) ≡ drop end bytes = drop-drop (length fb) at bytes ∙ ap (λ k. drop k bytes) (sym e) in
+    let room = fits text (drop at bytes) f.starts in
+    let past : drop (length text) (drop at bytes) ≡ drop end bytes = drop-drop (length text) at bytes ∙ ap (λ k. drop k bytes) (sym e) in
     record {
       inside = omega (arith, e, room, length-drop at bytes);
       first = s.first;
-      others = s.others ++ next ∷ [];
+      others = s.others ++ x ∷ [];
       table = record {
         first_is = s.table.first_is;
-        are = All-push (λ (m : List MarkedView). are_marks m ≡ true) s.others next s.table.are h;
-        same = All-push (λ (m : List MarkedView). rows s.first ≡ rows m) s.others next s.table.same (sym s.rows_are ∙ same);
+        are = All-push IsFile s.others x s.table.are (file_of_is at (drop at bytes) next end f h);
+        same = All-push (λ (y : File). rows (modules_of s.first) ≡ rows (modules_of y)) s.others x s.table.same (sym s.rows_are ∙ same);
       };
       spelled = s.spelled
-          ∙ (ap (λ t. spelling (s.first ∷ s.others) ++ t) (starts fb (drop at bytes) starts_so ∙ ap (λ t. fb ++ t) past)
-          ∙ (sym (append_assoc (spelling (s.first ∷ s.others)) fb (drop end bytes)) ∙ ap (λ t. t ++ drop end bytes) (sym more)));
-      end = omega (arith, e, s.end, ap length more, length-append (spelling (s.first ∷ s.others)) fb);
-      is = is ∙ (ap (λ x. unite x next) s.is ∙ sym (fold-append unite s.first s.others (next ∷ [])));
-      rows_are = ap rows is ∙ (rows_kept all next ∙ s.rows_are);
+          ∙ (ap (λ t. spelling (s.first ∷ s.others) ++ t) (starts text (drop at bytes) f.starts ∙ ap (λ t. text ++ t) past)
+          ∙ (sym (append_assoc (spelling (s.first ∷ s.others)) text (drop end bytes)) ∙ ap (λ t. t ++ drop end bytes) (sym more)));
+      end = omega (arith, e, s.end, ap length more, length-append (spelling (s.first ∷ s.others)) text);
+      is = more_united s.first s.others x new
+          (name ∙ ap (λ (m : MarksView). m.name) s.is)
+          (runs ∙ ap (λ (m : MarksView). held (m.runs + next.runs)) s.is)
+          (modules ∙ ap (λ (m : MarksView). unite m.modules next.modules) s.is);
+      rows_are = ap rows modules ∙ (rows_kept all.modules next.modules ∙ s.rows_are);
     }
 
 pub first_fault : (bytes : List ℕ) (fault : MarksFault) → IsFault (file_fields 0 bytes) fault → IsCombineFault bytes (fault_of fault)
@@ -98,7 +139,7 @@ first_fault bytes (BadMarks o) h = inl h
 some_left : (bytes : List ℕ) (at : ℕ) → at < length bytes → drop at bytes ≢ []
 some_left bytes at h e = let l = length-drop at bytes in let z : length (drop at bytes) ≡ 0 = ap length e in omega arith
 
-pub later_fault : (bytes : List ℕ) (at : ℕ) (all : List MarkedView) (fault : MarksFault) → FilesSoFar bytes at all → at < length bytes → IsFault (file_fields at (drop at bytes)) fault → IsCombineFault bytes (fault_of fault)
+pub later_fault : (bytes : List ℕ) (at : ℕ) (all : MarksView) (fault : MarksFault) → FilesSoFar bytes at all → at < length bytes → IsFault (file_fields at (drop at bytes)) fault → IsCombineFault bytes (fault_of fault)
 later_fault bytes at all NoMemory s l h = tt
 later_fault bytes at all (BadMarks o) s l h = inr (record {
   first = s.first;
@@ -110,14 +151,24 @@ later_fault bytes at all (BadMarks o) s l h = inr (record {
   bad = ap (λ k. first_bad (file_fields k (drop at bytes))) (sym s.end) ∙ h;
 })
 
-pub other_fault : (bytes : List ℕ) (at : ℕ) (all next : List MarkedView) (d : Difference) → FilesSoFar bytes at all → are_marks next ≡ true → StartsWith (drop at bytes) (file_bytes next) → first_difference 0 (rows all) (rows next) ≡ Some d → IsOtherTable bytes d
-other_fault bytes at all next d s h starts_so found = record {
-  first = s.first;
-  others = s.others;
-  next = next;
-  rest = drop (length (file_bytes next)) (drop at bytes);
-  table = s.table;
-  next_is = h;
-  spelled = s.spelled ∙ ap (λ t. spelling (s.first ∷ s.others) ++ t) (starts (file_bytes next) (drop at bytes) starts_so);
-  differs = ap (λ r. first_difference 0 r (rows next)) (sym s.rows_are) ∙ found;
-}
+pub other_fault : (bytes : List ℕ) (at end : ℕ) (all next : MarksView) (d : Difference) → FilesSoFar bytes at all → keeps_rules next ≡ true → HasFile at (drop at bytes) next end → first_difference 0 (rows all.modules) (rows next.modules) ≡ Some d → IsOtherTable bytes d
+unfolding file_of
+other_fault bytes at end all next d s h f found =
+    let x = file_of at (drop at bytes) next end f in
+    record {
+      first = s.first;
+      others = s.others;
+      next = x;
+      rest = drop (length (text_of x)) (drop at bytes);
+      table = s.table;
+      next_is = file_of_is at (drop at bytes) next end f h;
+      spelled = s.spelled ∙ ap (λ t. spelling (s.first ∷ s.others) ++ t) (starts (text_of x) (drop at bytes) f.starts);
+      differs = ap (λ r. first_difference 0 r (rows next.modules)) (sym s.rows_are) ∙ found;
+    }
+
+-- runs that are added keep the rule
+pub held_runs : (a b : ℕ) → is_runs a ≡ true → is_runs b ≡ true → is_runs (held (a + b)) ≡ true
+unfolding is_runs
+held_runs a b h g =
+    let some = le_of_test 1 a (both-left (nat_le 1 a) _ h) in
+    both (nat_le 1 (held (a + b))) _ (test_of_le 1 (held (a + b)) (omega (arith, some))) (test_of_le (held (a + b)) most_runs (omega arith))

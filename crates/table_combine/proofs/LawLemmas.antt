@@ -5,7 +5,7 @@ use Rattle.byteorder.specs.Endian.{big_bytes}
 use Rattle.cov_base.specs.Facts.{union}
 use Rattle.cov_base.specs.FactSet.{FactSet, number_of_facts}
 use Rattle.marks_file.specs.Marks.{MarkedView}
-use Rattle.marks_file.specs.MarksFile.{place_row, place_bytes, module_row, module_bytes, magic, file_bytes}
+use Rattle.marks_file.specs.MarksFile.{place_row, place_bytes, module_row, module_bytes, modules_bytes}
 use Rattle.marks_file.specs.declared.marks.MarkedPlace.{MarkedPlace}
 use Rattle.table_combine.specs.Combine.{unite_place, unite_places, unite_module, unite, SamePlaces, SameTables}
 use Rattle.table_combine.proofs.UnionLemmas.{length-unite}
@@ -48,10 +48,10 @@ length_same [] (n ∷ ns) h = absurd h
 length_same (m ∷ ms) [] h = absurd h
 length_same (m ∷ ms) (n ∷ ns) h = omega (arith, length_same ms ns h.1)
 
-pub files_turned : (ms ns : List MarkedView) → SameTables ms ns → file_bytes (unite ms ns) ≡ file_bytes (unite ns ms)
+pub files_turned : (ms ns : List MarkedView) → SameTables ms ns → modules_bytes (unite ms ns) ≡ modules_bytes (unite ns ms)
 files_turned ms ns h =
     let count = length-unite ms ns ∙ (length_same ms ns h ∙ sym (length-unite ns ms)) in
-    ap (λ bs. magic ++ bs) (joined_bytes (big_bytes 2 (length (unite ms ns))) (big_bytes 2 (length (unite ns ms))) _ _ (ap (λ n. big_bytes 2 n) count) (modules_turned ms ns h))
+    joined_bytes (big_bytes 2 (length (unite ms ns))) (big_bytes 2 (length (unite ns ms))) _ _ (ap (λ n. big_bytes 2 n) count) (modules_turned ms ns h)
 
 one_of_both : (a : Bool) → (a || a) ≡ a
 one_of_both true = refl

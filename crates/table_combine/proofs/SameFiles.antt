@@ -1,21 +1,23 @@
--- The union depends on which files there are alone, neither on their order nor on how often each stands there.
+-- The sets of a union depend on which tables and sets there are alone, neither on their order nor on how often each
+-- stands there.
 use Rattle.std.proofs.Common.{◌≡◌, ℕ, ◌<◌, suc, zero, Bool, true, false, ◌||◌, List, [], ◌∷◌, ◌++◌, length, take, drop, map, fold, All, slice_index_or, refl, ap, sym, subst, ◌∙◌, arith}
-use Rattle.std.specs.List.{Contains}
-use Rattle.std.proofs.lemmas.List.Elements.{All-contains, All-contains_itself}
+use Rattle.std.specs.List.{Contains, sum_by}
+use Rattle.std.proofs.lemmas.List.Elements.{All-contains, All-contains_itself, All-map}
 use Rattle.std.proofs.Math.Seq.{drop-append_seam, take-append_seam}
 use Rattle.cov_base.specs.Facts.{union}
 use Rattle.cov_base.specs.FactSet.{FactSet}
-use Rattle.marks_file.specs.Marks.{MarkedView, HasRow, are_marks}
+use Rattle.marks_file.specs.Marks.{MarkedView, MarksView, HasRow, are_marks}
 use Rattle.marks_file.specs.MarksFile.{place_row, module_row, rows}
 use Rattle.marks_file.specs.declared.marks.MarkedPlace.{MarkedPlace}
-use Rattle.marks_file.proofs.MarksLemmas.{marks_have_rows}
+use Rattle.marks_file.proofs.MarksLemmas.{marks_have_rows, kept_modules}
+use Rattle.marks_file.proofs.FileLemmas.{one_table}
 use Rattle.table_combine.specs.Combine.{unite_place, unite_places, unite_module, unite, SamePlaces, SameTables}
 use Rattle.table_combine.proofs.UnionLemmas.{union_is_marks}
 use Rattle.table_combine.proofs.DifferenceLemmas.{row_count}
 use Rattle.table_combine.proofs.LawLemmas.{files_turned, file_itself}
 use Rattle.table_combine.proofs.FilesLemmas.{rows_kept}
-use Rattle.table_combine.specs.Files.{AreOfOneTable, IsCombined, AreSameFiles, IsUnionAnyhow, spelling}
-use Rattle.table_combine.proofs.AnswerLemmas.{one_file, same_rest}
+use Rattle.table_combine.specs.Files.{File, IsFile, modules_of, runs_of, spelling, AreOfOneTable, held, first_name, united, IsCombined, HaveSameSets, IsUnionAnyhow}
+use Rattle.table_combine.proofs.AnswerLemmas.{one_file, same_rest, no_text}
 
 -- tables of the same rows are the same
 same_places : (ps qs : List MarkedPlace) → map place_row ps ≡ map place_row qs → SamePlaces ps qs
@@ -54,7 +56,7 @@ union_marks a b h g e = union_is_marks a b h g (same_tables a b (marks_have_rows
 pub unite_turned : (a b : List MarkedView) → are_marks a ≡ true → are_marks b ≡ true → rows a ≡ rows b → unite a b ≡ unite b a
 unite_turned a b h g e =
     let bytes = files_turned a b (same_tables a b (marks_have_rows a h) (marks_have_rows b g) e) in
-    one_file (unite a b) (unite b a) [] [] (union_marks a b h g e) (union_marks b a g h (sym e)) (ap (λ t. t ++ []) bytes)
+    one_table (unite a b) (unite b a) (union_marks a b h g e) (union_marks b a g h (sym e)) bytes
 
 last : (a b c : Bool) → ((a || b) || c) ≡ ((a || c) || b)
 last true b c = refl
@@ -149,7 +151,12 @@ union_of x (y ∷ ys) h a =
     let more = union_of (unite x y) ys (union_marks x y h of_y.is of_y.same) (λ k d l. let t = a (suc k) d (omega (arith, l)) in record { is = t.is; same = sym kept ∙ t.same }) in
     record { is = more.is; same = kept ∙ more.same }
 
-same_union : (x y : List MarkedView) (xs ys : List (List MarkedView)) → are_marks x ≡ true → are_marks y ≡ true → rows x ≡ rows y → All (IsOfTable x) xs → All (IsOfTable y) ys → AreSameFiles (x ∷ xs) (y ∷ ys) → fold unite x xs ≡ fold unite y ys
+-- the same ones, in whichever order and however often each
+record AreSame (xs ys : List (List MarkedView)) : Type 0 where
+  pub there : (m : List MarkedView) → Contains xs m → Contains ys m
+  pub back : (m : List MarkedView) → Contains ys m → Contains xs m
+
+same_union : (x y : List MarkedView) (xs ys : List (List MarkedView)) → are_marks x ≡ true → are_marks y ≡ true → rows x ≡ rows y → All (IsOfTable x) xs → All (IsOfTable y) ys → AreSame (x ∷ xs) (y ∷ ys) → fold unite x xs ≡ fold unite y ys
 same_union x y xs ys hx hy e a b s =
     let u = union_of x xs hx a in
     let v = union_of y ys hy b in
@@ -158,41 +165,53 @@ same_union x y xs ys hx hy e a b s =
     left ∙ (unite_turned (fold unite y ys) (fold unite x xs) v.is u.is (sym v.same ∙ (sym e ∙ u.same)) ∙ sym right)
 
 -- bytes are the files of one list alone
-one_list : (xs ys : List (List MarkedView)) → All (λ m. are_marks m ≡ true) xs → All (λ m. are_marks m ≡ true) ys → spelling xs ≡ spelling ys → xs ≡ ys
+one_list : (xs ys : List File) → All IsFile xs → All IsFile ys → spelling xs ≡ spelling ys → xs ≡ ys
 one_list [] [] h g e = refl
-one_list [] (y ∷ ys) h g e = absurd (let l = ap length e in omega (arith, l))
-one_list (x ∷ xs) [] h g e = absurd (let l = ap length e in omega (arith, l))
+one_list [] (y ∷ ys) h g e = absurd (no_text y (spelling ys) (ap length e))
+one_list (x ∷ xs) [] h g e = absurd (no_text x (spelling xs) (ap length (sym e)))
 one_list (x ∷ xs) (y ∷ ys) h g e =
     let is = one_file x y (spelling xs) (spelling ys) (h 0 x (omega arith)) (g 0 y (omega arith)) e in
     let rest = one_list xs ys (λ k d l. h (suc k) d (omega (arith, l))) (λ k d l. g (suc k) d (omega (arith, l))) (same_rest x y (spelling xs) (spelling ys) is e) in
     rw (is, rest) refl
 
-any_union : (x : List MarkedView) (xs others : List (List MarkedView)) → AreOfOneTable x xs → AreSameFiles (x ∷ xs) others → IsCombined (spelling others) (fold unite x xs)
-any_union x xs [] t s = absurd (let c = s.there x (0, omega arith, refl) in let l = c.1 in omega (arith, l))
-any_union x xs (y ∷ ys) t s =
-    let all : All (IsOfTable x) (x ∷ xs) = λ k d l. of_table k d l in
-    let theirs : All (IsOfTable x) (y ∷ ys) = λ k d l. All-contains (IsOfTable x) (x ∷ xs) _ all (s.back _ (All-contains_itself (y ∷ ys) k d l)) in
-    let first = theirs 0 y (omega arith) in
-    let rest : All (IsOfTable y) ys = λ k d l. let t = theirs (suc k) d (omega (arith, l)) in record { is = t.is; same = sym first.same ∙ t.same } in
+-- of files, by their tables and sets
+all_of_table : (x : File) (xs : List File) → AreOfOneTable x xs → All (IsOfTable (modules_of x)) (map modules_of (x ∷ xs))
+all_of_table x xs t = All-map (IsOfTable (modules_of x)) modules_of (x ∷ xs) (λ k d l. at k d l)
+  where
+    at : (k : ℕ) (d : File) → k < length (x ∷ xs) → IsOfTable (modules_of x) (modules_of (slice_index_or (x ∷ xs) k d))
+    at zero d l = record { is = kept_modules x.marks t.first_is.rules; same = refl }
+    at (suc k) d l = record { is = kept_modules (slice_index_or xs k d).marks (t.are k d (omega (arith, l))).rules; same = t.same k d (omega (arith, l)) }
+
+of_all : (P : List MarkedView → Type 0) (ys : List File) → All P (map modules_of ys) → All (λ f. P (modules_of f)) ys
+of_all P [] h k d l = absurd (omega (arith, l))
+of_all P (y ∷ ys) h zero d l = h 0 (modules_of y) (omega arith)
+of_all P (y ∷ ys) h (suc k) d l = of_all P ys (λ i e m. h (suc i) e (omega (arith, m))) k d (omega (arith, l))
+
+any_union : (x : File) (xs others : List File) → AreOfOneTable x xs → All IsFile others → HaveSameSets (x ∷ xs) others
+    → IsCombined (spelling others) (record { name = first_name others; runs = held (sum_by runs_of others); modules = (united x xs).modules })
+any_union x xs [] t files s = absurd (let c = s.there (modules_of x) (0, omega arith, refl) in let l = c.1 in omega (arith, l))
+any_union x xs (y ∷ ys) t files s =
+    let of = IsOfTable (modules_of x) in
+    let all : All of (map modules_of (x ∷ xs)) = all_of_table x xs t in
+    let theirs : All of (map modules_of (y ∷ ys)) = λ k d l. All-contains of (map modules_of (x ∷ xs)) _ all (s.back _ (All-contains_itself (map modules_of (y ∷ ys)) k d l)) in
+    let first = theirs 0 (modules_of y) (omega arith) in
+    let rest : All (IsOfTable (modules_of y)) (map modules_of ys) = λ k d l. let t = theirs (suc k) d (omega (arith, l)) in record { is = t.is; same = sym first.same ∙ t.same } in
+    let one = same_union (modules_of x) (modules_of y) (map modules_of xs) (map modules_of ys) (kept_modules x.marks t.first_is.rules) first.is first.same (λ k d l. all (suc k) d (omega (arith, l))) rest (record { there = s.there; back = s.back }) in
     record {
       first = y;
       others = ys;
-      table = record { first_is = first.is; are = λ k d l. (rest k d l).is; same = λ k d l. (rest k d l).same };
+      table = record { first_is = files 0 y (omega arith); are = λ k d l. files (suc k) d (omega (arith, l)); same = λ k d l. (of_all (IsOfTable (modules_of y)) ys rest k d l).same };
       spelled = refl;
-      is = same_union x y xs ys t.first_is first.is first.same (λ k d l. all (suc k) d (omega (arith, l))) rest s;
+      is = ap (λ ms. record { name = first_name (y ∷ ys); runs = held (sum_by runs_of (y ∷ ys)); modules = ms }) one;
     }
-  where
-    of_table : (k : ℕ) (d : List MarkedView) → k < length (x ∷ xs) → IsOfTable x (slice_index_or (x ∷ xs) k d)
-    of_table zero d l = record { is = t.first_is; same = refl }
-    of_table (suc k) d l = record { is = t.are k d (omega (arith, l)); same = t.same k d (omega (arith, l)) }
 
-pub union_anyhow : (bytes : List ℕ) (m : List MarkedView) → IsCombined bytes m → IsUnionAnyhow bytes m
-union_anyhow bytes m c files others f s =
-    let marks : All (λ m. are_marks m ≡ true) (c.first ∷ c.others) = λ k d l. at k d l in
+pub union_anyhow : (bytes : List ℕ) (m : MarksView) → IsCombined bytes m → IsUnionAnyhow bytes m
+union_anyhow bytes m c files others f theirs s =
+    let marks : All IsFile (c.first ∷ c.others) = λ k d l. at k d l in
     let is : c.first ∷ c.others ≡ files = one_list (c.first ∷ c.others) files marks f.are (sym c.spelled ∙ f.spelled) in
-    let same : AreSameFiles (c.first ∷ c.others) others = subst (λ z. AreSameFiles z others) (sym is) s in
-    subst (IsCombined (spelling others)) (sym c.is) (any_union c.first c.others others c.table same)
+    let same : HaveSameSets (c.first ∷ c.others) others = subst (λ z. HaveSameSets z others) (sym is) s in
+    subst (λ ms. IsCombined (spelling others) (record { name = first_name others; runs = held (sum_by runs_of others); modules = ms })) (sym (ap (λ (x : MarksView). x.modules) c.is)) (any_union c.first c.others others c.table theirs same)
   where
-    at : (k : ℕ) (d : List MarkedView) → k < length (c.first ∷ c.others) → are_marks (slice_index_or (c.first ∷ c.others) k d) ≡ true
+    at : (k : ℕ) (d : File) → k < length (c.first ∷ c.others) → IsFile (slice_index_or (c.first ∷ c.others) k d)
     at zero d l = c.table.first_is
     at (suc k) d l = c.table.are k d (omega (arith, l))

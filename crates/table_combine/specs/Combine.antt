@@ -1,4 +1,4 @@
--- Whether two files have the same table, and the union of two files.
+-- Whether two files have the same table, and the union of their sets.
 use Rattle.std.specs.Prelude.{◌≡◌, ℕ, ◌+◌, option_map, Option, Some, None, if◌then◌else◌, List, [], ◌∷◌}
 use Rattle.std.specs.Str.{bytes_eq}
 use Rattle.cov_base.specs.Facts.{union}

@@ -1,8 +1,7 @@
 //! Combines marks files that stand one after another.
-ghost use Rattle.std.specs.Prelude.{◌≡◌, ℕ, ◌+◌, ◌≤◌, ◌++◌, length, drop, true, IfOk, IfErr};
-ghost use Rattle.std.specs.Io.{StartsWith};
-ghost use Rattle.marks_file.specs.Marks.{are_marks};
-ghost use Rattle.marks_file.specs.MarksFile.{file_bytes};
+ghost use Rattle.std.specs.Prelude.{◌≡◌, ◌≤◌, length, drop, true, IfOk, IfErr};
+ghost use Rattle.marks_file.specs.Marks.{keeps_rules};
+ghost use Rattle.marks_file.specs.MarksFile.{HasFile};
 ghost use Rattle.marks_file.specs.Reading.{IsFault, file_fields};
 ghost use Rattle.table_combine.specs.Files.{IsCombined, IsCombineFault, HasOneAnswer, IsUnionAnyhow};
 
@@ -38,9 +37,8 @@ impl From<MarksFault> for CombineFault {
 /// The file that begins there, which keeps the rules of marks files, and the offset past it.
 fn next_file(alloc: Global, bytes: &[u8], at: usize) -> Result<(Marks, usize), MarksFault>
     requires { at ≤ length bytes.now }
-    ensures rules { IfOk result (λ r. are_marks r.0 ≡ true) }
-    ensures file { IfOk result (λ r. StartsWith (drop at bytes.now) (file_bytes r.0)) }
-    ensures end { IfOk result (λ r. r.1 ≡ at + length (file_bytes r.0)) }
+    ensures rules { IfOk result (λ r. keeps_rules r.0 ≡ true) }
+    ensures file { IfOk result (λ r. HasFile at (drop at bytes.now) r.0 r.1) }
     ensures bad { IfErr result (IsFault (file_fields at (drop at bytes.now))) }
 {
     let (marks, end) = read(alloc, bytes, at)?;
@@ -67,10 +65,11 @@ fn combine_all(alloc: Global, bytes: &[u8]) -> Result<Marks, CombineFault>
     Ok(all)
 }
 
-/// The union of the files that the bytes are. BadMarks where at the end of some files of one table, or at offset 0, no
-/// file begins; Other at the first file of another table than the first one's. The union depends on which files there
-/// are alone, neither on their order nor on how often each stands there. It reads each byte once, and holds the union
-/// and one file at a time.
+/// The union of the files that the bytes are, of either version: its name is that of the first file, and its runs are
+/// the sum of all, up to 4,294,967,295. BadMarks where at the end of some files of one table, or at offset 0, no file
+/// begins; Other at the first file of another table than the first one's. The sets depend on which tables and sets the
+/// files have alone, neither on their order nor on how often each stands there. It reads each byte once, and holds the
+/// union and one file at a time.
 pub fn combine_files(alloc: Global, bytes: &[u8]) -> Result<Marks, CombineFault>
     ensures whole { IfOk result (IsCombined bytes.now) }
     ensures fault { IfErr result (IsCombineFault bytes.now) }

@@ -1,11 +1,20 @@
-//! Two files of one table and one of another.
+//! Files of one table, of both versions, and one of another.
 use crate::{CombineFault, combine, combine_files};
-use cov_base::Fact;
+use cov_base::{Fact, Name};
 use marks_file::{Marks, read};
 use std::alloc::Global;
 use std::test::Fail;
 
-const FILE: [u8; 48] = [
+/// Of version 2: session S, one run.
+const FILE: [u8; 60] = [
+    0x53, 0x33, 0x37, 0x30, 0x43, 0x4F, 0x56, 0x32, 0x53, 0x20, 0x20, 0x20, 0x20, 0x20, 0x20, 0x20,
+    0x00, 0x00, 0x00, 0x01, 0x00, 0x01, 0x4D, 0x20, 0x20, 0x20, 0x20, 0x20, 0x20, 0x20, 0x00, 0x10,
+    0x00, 0x00, 0x00, 0x00, 0x00, 0x06, 0x00, 0x00, 0x00, 0x02, 0x00, 0x00, 0x00, 0x00, 0x04, 0x01,
+    0x46, 0x10, 0x04, 0x00, 0x00, 0x00, 0x04, 0x02, 0x00, 0x07, 0xFE, 0x01,
+];
+
+/// The same of version 1.
+const OLD: [u8; 48] = [
     0x53, 0x33, 0x37, 0x30, 0x43, 0x4F, 0x56, 0x31, 0x00, 0x01, 0x4D, 0x20, 0x20, 0x20, 0x20, 0x20,
     0x20, 0x20, 0x00, 0x10, 0x00, 0x00, 0x00, 0x00, 0x00, 0x06, 0x00, 0x00, 0x00, 0x02, 0x00, 0x00,
     0x00, 0x00, 0x04, 0x01, 0x46, 0x10, 0x04, 0x00, 0x00, 0x00, 0x04, 0x02, 0x00, 0x07, 0xFE, 0x01,
@@ -23,8 +32,8 @@ fn sets_are_united(rt: HostRuntime) -> Result<(), Fail> {
     let alloc = rt.alloc();
     let mut first = marks(alloc, &FILE)?;
     let mut bytes = FILE;
-    bytes[38] = 2;
-    bytes[47] = 0;
+    bytes[50] = 2;
+    bytes[59] = 0;
     let second = marks(alloc, &bytes)?;
     assert!(rt; combine(&mut first, &second).is_ok());
     assert_eq!(rt; first.modules.len(), 1);
@@ -43,7 +52,7 @@ fn a_row_that_differs_is_told(rt: HostRuntime) -> Result<(), Fail> {
     let alloc = rt.alloc();
     let mut first = marks(alloc, &FILE)?;
     let mut bytes = FILE;
-    bytes[37] = 0x20;
+    bytes[49] = 0x20;
     let second = marks(alloc, &bytes)?;
     let Err(other) = combine(&mut first, &second) else {
         return Err(Fail::from("combined"));
@@ -52,12 +61,12 @@ fn a_row_that_differs_is_told(rt: HostRuntime) -> Result<(), Fail> {
     assert!(rt;
         other
             .left
-            .is_some_and(|row| row.as_slice() == &FILE[30..38])
+            .is_some_and(|row| row.as_slice() == &FILE[42..50])
     );
     assert!(rt;
         other
             .right
-            .is_some_and(|row| row.as_slice() == &bytes[30..38])
+            .is_some_and(|row| row.as_slice() == &bytes[42..50])
     );
     Ok(())
 }
@@ -68,10 +77,10 @@ fn a_row_that_is_missing_is_told(rt: HostRuntime) -> Result<(), Fail> {
     let mut first = marks(alloc, &FILE)?;
     let mut bytes = Vec::from_slice(alloc, &FILE)?;
     bytes.extend_from_slice(b"N       \0\x20\0\0\0\0\0\x02\0\0\0\0")?;
-    if bytes.len() < 10 {
+    if bytes.len() < 22 {
         return Err(Fail::from("short"));
     }
-    bytes[9] = 2;
+    bytes[21] = 2;
     let second = marks(alloc, &bytes)?;
     let Err(other) = combine(&mut first, &second) else {
         return Err(Fail::from("combined"));
@@ -86,8 +95,8 @@ fn a_row_that_is_missing_is_told(rt: HostRuntime) -> Result<(), Fail> {
 fn files_in_succession_are_combined(rt: HostRuntime) -> Result<(), Fail> {
     let alloc = rt.alloc();
     let mut second = FILE;
-    second[38] = 2;
-    second[47] = 0;
+    second[50] = 2;
+    second[59] = 0;
     let mut bytes = Vec::from_slice(alloc, &FILE)?;
     bytes.extend_from_slice(&second)?;
     let Ok(all) = combine_files(alloc, &bytes) else {
@@ -98,9 +107,9 @@ fn files_in_succession_are_combined(rt: HostRuntime) -> Result<(), Fail> {
     assert_eq!(rt; marked.places.len(), 2);
     let place = &marked.places[0];
     assert!(rt; place.set.has(Fact::Went) && place.set.has(Fact::Stayed));
-    bytes.extend_from_slice(&FILE[..47])?;
+    bytes.extend_from_slice(&FILE[..59])?;
     match combine_files(alloc, &bytes) {
-        Err(CombineFault::BadMarks { offset }) => assert_eq!(rt; offset, 143),
+        Err(CombineFault::BadMarks { offset }) => assert_eq!(rt; offset, 179),
         _ => return Err(Fail::from("not cut short")),
     }
     match combine_files(alloc, &FILE[..0]) {
@@ -114,12 +123,55 @@ fn files_in_succession_are_combined(rt: HostRuntime) -> Result<(), Fail> {
 fn a_later_table_that_differs_is_told(rt: HostRuntime) -> Result<(), Fail> {
     let alloc = rt.alloc();
     let mut second = FILE;
-    second[37] = 0x20;
+    second[49] = 0x20;
     let mut bytes = Vec::from_slice(alloc, &FILE)?;
     bytes.extend_from_slice(&second)?;
     match combine_files(alloc, &bytes) {
         Err(CombineFault::Other(other)) => assert_eq!(rt; other.row, 1),
         _ => return Err(Fail::from("no other table")),
     }
+    Ok(())
+}
+
+/// The name, where there is one, and the runs of the union of two files.
+fn of_both(alloc: Global, first: &[u8], second: &[u8]) -> Result<(Option<Name>, u32), Fail> {
+    let mut bytes = Vec::from_slice(alloc, first)?;
+    bytes.extend_from_slice(second)?;
+    match combine_files(alloc, &bytes) {
+        Ok(all) => Ok((all.name, all.runs)),
+        Err(_) => Err(Fail::from("not combined")),
+    }
+}
+
+#[test]
+fn the_first_name_and_all_runs(rt: HostRuntime) -> Result<(), Fail> {
+    let alloc = rt.alloc();
+    let mut other = FILE;
+    other[8] = b'T';
+    other[19] = 5;
+    let (name, runs) = of_both(alloc, &FILE, &other)?;
+    assert!(rt; name.is_some_and(|name| name.bytes() == b"S".as_slice()));
+    assert_eq!(rt; runs, 6);
+    let (name, runs) = of_both(alloc, &other, &FILE)?;
+    assert!(rt; name.is_some_and(|name| name.bytes() == b"T".as_slice()));
+    assert_eq!(rt; runs, 6);
+    let (name, runs) = of_both(alloc, &OLD, &FILE)?;
+    assert!(rt; name.is_none());
+    assert_eq!(rt; runs, 2);
+    let (name, runs) = of_both(alloc, &other, &OLD)?;
+    assert!(rt; name.is_some_and(|name| name.bytes() == b"T".as_slice()));
+    assert_eq!(rt; runs, 6);
+    Ok(())
+}
+
+#[test]
+fn runs_are_held(rt: HostRuntime) -> Result<(), Fail> {
+    let alloc = rt.alloc();
+    let mut most = FILE;
+    most[16..20].copy_from_slice(&[0xFF, 0xFF, 0xFF, 0xFE]);
+    let (_, runs) = of_both(alloc, &most, &FILE)?;
+    assert_eq!(rt; runs, 4_294_967_295);
+    let (_, runs) = of_both(alloc, &most, &most)?;
+    assert_eq!(rt; runs, 4_294_967_295);
     Ok(())
 }

@@ -1,7 +1,8 @@
 //! The union of two files.
-ghost use Rattle.std.specs.Prelude.{◌≡◌, IsOk, OnOk, OnErr, IfErr, Some, None};
+ghost use Rattle.std.specs.Prelude.{◌≡◌, ◌+◌, IsOk, OnOk, OnErr, IfErr, Some, None};
 ghost use Rattle.marks_file.specs.MarksFile.{rows};
 ghost use Rattle.table_combine.specs.Combine.{first_difference, difference_of, unite_place, unite_places, unite_module, unite};
+ghost use Rattle.table_combine.specs.Files.{held};
 
 use crate::difference::{OtherTable, first_difference};
 use marks_file::{MarkedModule, MarkedPlace, Marks};
@@ -34,25 +35,29 @@ fn unite(a: &mut [MarkedModule], b: &[MarkedModule])
     }
 }
 
-/// Adds to each set the facts of the other file's at the same place. Where the tables differ, which is told at the
-/// first row that does, nothing changes. The order of the two doesn't matter, a file once more changes nothing, and a
-/// file with itself is combined and changes nothing. Takes no memory.
+/// Adds to each set the facts of the other file's at the same place, and to the runs the other file's, up to
+/// 4,294,967,295. The name stays. Where the tables differ, which is told at the first row that does, nothing changes. To
+/// the sets the order of the two doesn't matter, and a file once more changes none of them; a file with itself is
+/// combined. Takes no memory.
 #[tactic(auto, using(crate::proofs::LawLemmas::file_itself))]
 pub fn combine(a: &mut Marks, b: &Marks) -> Result<(), OtherTable>
-    ensures same { OnOk result (rows a.old ≡ rows b.now) }
-    ensures union { OnOk result (a.new ≡ unite a.old b.now) }
-    ensures turned { OnOk result (a.new ≡ unite b.now a.old) }
-    ensures again { OnOk result (unite a.new b.now ≡ a.new) }
-    ensures itself { unite a.old a.old ≡ a.old }
-    ensures same_file { b.now ≡ a.old → a.new ≡ a.old }
-    ensures same_file_ok { b.now ≡ a.old → IsOk result }
-    ensures other { IfErr result (λ e. first_difference 0 (rows a.old) (rows b.now) ≡ Some (difference_of e)) }
+    ensures same { OnOk result (rows a.old.modules ≡ rows b.now.modules) }
+    ensures union { OnOk result (a.new.modules ≡ unite a.old.modules b.now.modules) }
+    ensures first_name { OnOk result (a.new.name ≡ a.old.name) }
+    ensures all_runs { OnOk result (a.new.runs ≡ held (a.old.runs + b.now.runs)) }
+    ensures turned { OnOk result (a.new.modules ≡ unite b.now.modules a.old.modules) }
+    ensures again { OnOk result (unite a.new.modules b.now.modules ≡ a.new.modules) }
+    ensures itself { unite a.old.modules a.old.modules ≡ a.old.modules }
+    ensures same_file { b.now.modules ≡ a.old.modules → a.new.modules ≡ a.old.modules }
+    ensures same_file_ok { b.now.modules ≡ a.old.modules → IsOk result }
+    ensures other { IfErr result (λ e. first_difference 0 (rows a.old.modules) (rows b.now.modules) ≡ Some (difference_of e)) }
     ensures kept { OnErr result (a.new ≡ a.old) }
 {
     match first_difference(&a.modules, &b.modules) {
         Some(other) => Err(other),
         None => {
             unite(&mut a.modules, &b.modules);
+            a.runs = a.runs.saturating_add(b.runs);
             Ok(())
         }
     }

@@ -68,7 +68,7 @@ ENDJOB\n",
 );
 
 /// Two phases over one module, with a session each.
-const PHASES: Part = Text(
+pub const PHASES: Part = Text(
     "\
 TASK A 100000 16 100 0\n\
 REG 1 00000001\n\
@@ -81,83 +81,128 @@ ENDJOB\n",
 
 /// Files of module M. The count fell through, and the return was executed.
 const FELL: Part = Bytes(
-    "53333730434F5631 0001 4D20202020202020 00100000 00000006 00000002 00000000 04 01 4610 04 00000004 02 00 07FE 01",
+    "53333730434F5632 5320202020202020 00000001 0001 4D20202020202020 00100000 00000006 00000002 00000000 04 01 4610 04 00000004 02 00 07FE 01",
 );
 
 /// The count branched.
 const WENT: Part = Bytes(
-    "53333730434F5631 0001 4D20202020202020 00100000 00000006 00000002 00000000 04 01 4610 02 00000004 02 00 07FE 00",
+    "53333730434F5632 5320202020202020 00000001 0001 4D20202020202020 00100000 00000006 00000002 00000000 04 01 4610 02 00000004 02 00 07FE 00",
 );
 
 /// The count branched and fell through, and the return was executed.
 const BOTH: Part = Bytes(
-    "53333730434F5631 0001 4D20202020202020 00100000 00000006 00000002 00000000 04 01 4610 06 00000004 02 00 07FE 01",
-);
-
-/// The count branched and fell through.
-const BUT_THE_RETURN: Part = Bytes(
-    "53333730434F5631 0001 4D20202020202020 00100000 00000006 00000002 00000000 04 01 4610 06 00000004 02 00 07FE 00",
+    "53333730434F5632 5320202020202020 00000001 0001 4D20202020202020 00100000 00000006 00000002 00000000 04 01 4610 06 00000004 02 00 07FE 01",
 );
 
 /// Nothing was executed.
 const NONE: Part = Bytes(
-    "53333730434F5631 0001 4D20202020202020 00100000 00000006 00000002 00000000 04 01 4610 00 00000004 02 00 07FE 00",
+    "53333730434F5632 5320202020202020 00000001 0001 4D20202020202020 00100000 00000006 00000002 00000000 04 01 4610 00 00000004 02 00 07FE 00",
 );
 
 /// The file of the count that fell through, without its last byte.
 const CUT: Part = Bytes(
-    "53333730434F5631 0001 4D20202020202020 00100000 00000006 00000002 00000000 04 01 4610 04 00000004 02 00 07FE",
+    "53333730434F5632 5320202020202020 00000001 0001 4D20202020202020 00100000 00000006 00000002 00000000 04 01 4610 04 00000004 02 00 07FE",
 );
 
 /// The count is in register 2.
 const OTHER: Part = Bytes(
-    "53333730434F5631 0001 4D20202020202020 00100000 00000006 00000002 00000000 04 01 4620 04 00000004 02 00 07FE 01",
+    "53333730434F5632 5320202020202020 00000001 0001 4D20202020202020 00100000 00000006 00000002 00000000 04 01 4620 04 00000004 02 00 07FE 01",
 );
 
 /// That file without its last byte.
 const OTHER_CUT: Part = Bytes(
-    "53333730434F5631 0001 4D20202020202020 00100000 00000006 00000002 00000000 04 01 4620 04 00000004 02 00 07FE",
+    "53333730434F5632 5320202020202020 00000001 0001 4D20202020202020 00100000 00000006 00000002 00000000 04 01 4620 04 00000004 02 00 07FE",
 );
 
 /// Module M at another base.
 const MOVED: Part = Bytes(
-    "53333730434F5631 0001 4D20202020202020 00100008 00000006 00000002 00000000 04 01 4610 04 00000004 02 00 07FE 01",
+    "53333730434F5632 5320202020202020 00000001 0001 4D20202020202020 00100008 00000006 00000002 00000000 04 01 4610 04 00000004 02 00 07FE 01",
 );
 
 /// Modules M and N, where nothing was executed.
 const M_AND_N: Part = Bytes(
-    "53333730434F5631 0002 4D20202020202020 00100000 00000006 00000002 00000000 04 01 4610 00 00000004 02 00 07FE 00 4E20202020202020 00100008 00000002 00000000",
+    "53333730434F5632 5320202020202020 00000001 0002 4D20202020202020 00100000 00000006 00000002 00000000 04 01 4610 00 00000004 02 00 07FE 00 4E20202020202020 00100008 00000002 00000000",
 );
 
 /// Modules O, N and M, in this order.
 const O_N_M: Part = Bytes(
-    "53333730434F5631 0003 4F20202020202020 00100010 00000006 00000002 00000000 04 00 4110 01 00000004 02 00 07FE 00 4E20202020202020 00100008 00000002 00000000 4D20202020202020 00100000 00000006 00000002 00000000 04 01 4610 06 00000004 02 00 07FE 01",
+    "53333730434F5632 5320202020202020 00000001 0003 4F20202020202020 00100010 00000006 00000002 00000000 04 00 4110 01 00000004 02 00 07FE 00 4E20202020202020 00100008 00000002 00000000 4D20202020202020 00100000 00000006 00000002 00000000 04 01 4610 06 00000004 02 00 07FE 01",
 );
 
 /// The count of M is in register 2.
 const O_N_OTHER: Part = Bytes(
-    "53333730434F5631 0003 4F20202020202020 00100010 00000006 00000002 00000000 04 00 4110 01 00000004 02 00 07FE 00 4E20202020202020 00100008 00000002 00000000 4D20202020202020 00100000 00000006 00000002 00000000 04 01 4620 06 00000004 02 00 07FE 01",
+    "53333730434F5632 5320202020202020 00000001 0003 4F20202020202020 00100010 00000006 00000002 00000000 04 00 4110 01 00000004 02 00 07FE 00 4E20202020202020 00100008 00000002 00000000 4D20202020202020 00100000 00000006 00000002 00000000 04 01 4620 06 00000004 02 00 07FE 01",
 );
 
 /// The same modules and sets in the order of the job.
 const M_N_O: Part = Bytes(
-    "53333730434F5631 0003 4D20202020202020 00100000 00000006 00000002 00000000 04 01 4610 06 00000004 02 00 07FE 01 4E20202020202020 00100008 00000002 00000000 4F20202020202020 00100010 00000006 00000002 00000000 04 00 4110 01 00000004 02 00 07FE 00",
+    "53333730434F5632 5320202020202020 00000001 0003 4D20202020202020 00100000 00000006 00000002 00000000 04 01 4610 06 00000004 02 00 07FE 01 4E20202020202020 00100008 00000002 00000000 4F20202020202020 00100010 00000006 00000002 00000000 04 00 4110 01 00000004 02 00 07FE 00",
 );
 
 /// No module.
-const NO_MODULES: Part = Bytes("53333730434F5631 0000");
+const NO_MODULES: Part = Bytes("53333730434F5632 5320202020202020 00000001 0000");
 
 /// A kind that there isn't, and behind it facts that the place can't have.
 const TWO_BAD_FIELDS: Part = Bytes(
-    "53333730434F5631 0001 4D20202020202020 00100000 00000006 00000002 00000000 04 02 4610 01 00000004 02 00 07FE 01",
+    "53333730434F5632 5320202020202020 00000001 0001 4D20202020202020 00100000 00000006 00000002 00000000 04 02 4610 01 00000004 02 00 07FE 01",
 );
 
 /// A set that a conditional place can't have.
 const BAD_SET: Part = Bytes(
-    "53333730434F5631 0001 4D20202020202020 00100000 00000006 00000002 00000000 04 01 4610 01 00000004 02 00 07FE 01",
+    "53333730434F5632 5320202020202020 00000001 0001 4D20202020202020 00100000 00000006 00000002 00000000 04 01 4610 01 00000004 02 00 07FE 01",
 );
 
-const LATER_VERSION: Part = Bytes("53333730434F5632");
+/// That the count branched, of session T.
+const WENT_OF_T: Part = Bytes(
+    "53333730434F5632 5420202020202020 00000001 0001 4D20202020202020 00100000 00000006 00000002 00000000 04 01 4610 02 00000004 02 00 07FE 00",
+);
+
+/// That it fell through, of two runs.
+const FELL_TWICE: Part = Bytes(
+    "53333730434F5632 5320202020202020 00000002 0001 4D20202020202020 00100000 00000006 00000002 00000000 04 01 4610 04 00000004 02 00 07FE 01",
+);
+
+/// That it branched and fell through, of two runs.
+const BOTH_TWICE: Part = Bytes(
+    "53333730434F5632 5320202020202020 00000002 0001 4D20202020202020 00100000 00000006 00000002 00000000 04 01 4610 06 00000004 02 00 07FE 01",
+);
+
+/// Of three runs.
+const BOTH_THRICE: Part = Bytes(
+    "53333730434F5632 5320202020202020 00000003 0001 4D20202020202020 00100000 00000006 00000002 00000000 04 01 4610 06 00000004 02 00 07FE 01",
+);
+
+/// What two runs have shown, where neither has executed the return.
+const RETURN_LEFT: Part = Bytes(
+    "53333730434F5632 5320202020202020 00000002 0001 4D20202020202020 00100000 00000006 00000002 00000000 04 01 4610 06 00000004 02 00 07FE 00",
+);
+
+/// And what four have.
+const RETURN_LEFT_BY_FOUR: Part = Bytes(
+    "53333730434F5632 5320202020202020 00000004 0001 4D20202020202020 00100000 00000006 00000002 00000000 04 01 4610 06 00000004 02 00 07FE 00",
+);
+
+/// Modules O, N and M, of three runs.
+const O_N_M_THRICE: Part = Bytes(
+    "53333730434F5632 5320202020202020 00000003 0003 4F20202020202020 00100010 00000006 00000002 00000000 04 00 4110 01 00000004 02 00 07FE 00 4E20202020202020 00100008 00000002 00000000 4D20202020202020 00100000 00000006 00000002 00000000 04 01 4610 06 00000004 02 00 07FE 01",
+);
+
+/// That the count fell through, in version 1.
+const OLD_FELL: Part = Bytes(
+    "53333730434F5631 0001 4D20202020202020 00100000 00000006 00000002 00000000 04 01 4610 04 00000004 02 00 07FE 01",
+);
+
+/// The same, of no session that is known.
+const UNNAMED_FELL: Part = Bytes(
+    "53333730434F5632 2020202020202020 00000001 0001 4D20202020202020 00100000 00000006 00000002 00000000 04 01 4610 04 00000004 02 00 07FE 01",
+);
+
+/// Of two runs.
+const UNNAMED_FELL_TWICE: Part = Bytes(
+    "53333730434F5632 2020202020202020 00000002 0001 4D20202020202020 00100000 00000006 00000002 00000000 04 01 4610 04 00000004 02 00 07FE 01",
+);
+
+const LATER_VERSION: Part = Bytes("53333730434F5633");
 
 /// What `show` writes before and behind the session's listings.
 const SHOW: Part = Text("COVERAGE SHOW\nSESSION S PHASE P\n");
@@ -234,7 +279,7 @@ static GOOD: [Row; 22] = [
         words: &["marks", "T"],
         input: &[Code(COUNT), PHASES],
         status: 0,
-        output: &[WENT],
+        output: &[WENT_OF_T],
     },
     Row {
         name: "the file of modules in the order of the card",
@@ -255,14 +300,14 @@ static GOOD: [Row; 22] = [
         words: &["combine"],
         input: &[FELL, WENT],
         status: 0,
-        output: &[BOTH],
+        output: &[BOTH_TWICE],
     },
     Row {
         name: "two files in the other order",
         words: &["combine"],
         input: &[WENT, FELL],
         status: 0,
-        output: &[BOTH],
+        output: &[BOTH_TWICE],
     },
     Row {
         name: "one file",
@@ -276,21 +321,21 @@ static GOOD: [Row; 22] = [
         words: &["combine"],
         input: &[FELL, FELL],
         status: 0,
-        output: &[FELL],
+        output: &[FELL_TWICE],
     },
     Row {
         name: "a union with one of its files, and with a file of nothing",
         words: &["combine"],
         input: &[NONE, BOTH, WENT],
         status: 0,
-        output: &[BOTH],
+        output: &[BOTH_THRICE],
     },
     Row {
         name: "three files of three modules",
         words: &["combine"],
         input: &[O_N_M, O_N_M, O_N_M],
         status: 0,
-        output: &[O_N_M],
+        output: &[O_N_M_THRICE],
     },
     Row {
         name: "a file is shown",
@@ -309,7 +354,7 @@ static GOOD: [Row; 22] = [
     Row {
         name: "a union is shown",
         words: &["show", "S"],
-        input: &[Code(COUNT), ENDS, BOTH],
+        input: &[Code(COUNT), ENDS, BOTH_TWICE],
         status: 0,
         output: &SHOWN_BOTH,
     },
@@ -368,6 +413,47 @@ MODULE N PLACES 0 EXECUTED 0 FACTS 0 OF 0\n",
             Text("NOT EXECUTED 000000-000005\nMODULE N PLACES 0 EXECUTED 0 FACTS 0 OF 0\n"),
             END,
         ],
+    },
+];
+
+/// What files of version 1 give, of which no session is known.
+static OLD: [Row; 5] = [
+    Row {
+        name: "one file of version 1",
+        words: &["combine"],
+        input: &[OLD_FELL],
+        status: 0,
+        output: &[UNNAMED_FELL],
+    },
+    Row {
+        name: "a file of version 1, and one of version 2",
+        words: &["combine"],
+        input: &[OLD_FELL, FELL],
+        status: 0,
+        output: &[UNNAMED_FELL_TWICE],
+    },
+    Row {
+        name: "a file of version 2, and one of version 1",
+        words: &["combine"],
+        input: &[FELL, OLD_FELL],
+        status: 0,
+        output: &[FELL_TWICE],
+    },
+    Row {
+        name: "a file of session T, and one of session S",
+        words: &["combine"],
+        input: &[WENT_OF_T, WENT],
+        status: 0,
+        output: &[Bytes(
+            "53333730434F5632 5420202020202020 00000002 0001 4D20202020202020 00100000 00000006 00000002 00000000 04 01 4610 02 00000004 02 00 07FE 00",
+        )],
+    },
+    Row {
+        name: "a file of version 1 is shown",
+        words: &["show", "S"],
+        input: &[Code(COUNT), ENDS, OLD_FELL],
+        status: 0,
+        output: &SHOWN_FELL,
     },
 ];
 
@@ -537,49 +623,49 @@ static BAD_SHOWN: [Row; 16] = [
         words: &["show", "S"],
         input: &[Code(COUNT), ENDS, CUT],
         status: 10,
-        output: &[Text("BAD MARKS OFFSET 47\n")],
+        output: &[Text("BAD MARKS OFFSET 59\n")],
     },
     Row {
         name: "show: no modules",
         words: &["show", "S"],
         input: &[Code(COUNT), ENDS, NO_MODULES],
         status: 10,
-        output: &[Text("BAD MARKS OFFSET 8\n")],
+        output: &[Text("BAD MARKS OFFSET 20\n")],
     },
     Row {
         name: "show: two bad fields",
         words: &["show", "S"],
         input: &[Code(COUNT), ENDS, TWO_BAD_FIELDS],
         status: 10,
-        output: &[Text("BAD MARKS OFFSET 35\n")],
+        output: &[Text("BAD MARKS OFFSET 47\n")],
     },
     Row {
         name: "show: a bad set, and bytes past the file",
         words: &["show", "S"],
         input: &[Code(COUNT), ENDS, BAD_SET, Text("\n")],
         status: 10,
-        output: &[Text("BAD MARKS OFFSET 38\n")],
+        output: &[Text("BAD MARKS OFFSET 50\n")],
     },
     Row {
         name: "show: two files",
         words: &["show", "S"],
         input: &[Code(COUNT), ENDS, FELL, WENT],
         status: 10,
-        output: &[Text("BAD MARKS OFFSET 48\n")],
+        output: &[Text("BAD MARKS OFFSET 60\n")],
     },
     Row {
         name: "show: a byte past a file of another table",
         words: &["show", "S"],
         input: &[Code(COUNT), ENDS, OTHER, Text("\n")],
         status: 10,
-        output: &[Text("BAD MARKS OFFSET 48\n")],
+        output: &[Text("BAD MARKS OFFSET 60\n")],
     },
     Row {
         name: "show: a file of another table that is cut",
         words: &["show", "S"],
         input: &[Code(COUNT), ENDS, OTHER_CUT],
         status: 10,
-        output: &[Text("BAD MARKS OFFSET 47\n")],
+        output: &[Text("BAD MARKS OFFSET 59\n")],
     },
     Row {
         name: "show: another instruction",
@@ -654,49 +740,49 @@ static BAD_FILES: [Row; 16] = [
         words: &["combine"],
         input: &[CUT],
         status: 10,
-        output: &[Text("BAD MARKS OFFSET 47\n")],
+        output: &[Text("BAD MARKS OFFSET 59\n")],
     },
     Row {
         name: "combine: a first file that is cut, before one of another table",
         words: &["combine"],
         input: &[CUT, OTHER],
         status: 10,
-        output: &[Text("BAD MARKS OFFSET 47\n")],
+        output: &[Text("BAD MARKS OFFSET 59\n")],
     },
     Row {
         name: "combine: a byte past a file",
         words: &["combine"],
         input: &[FELL, Text("\n")],
         status: 10,
-        output: &[Text("BAD MARKS OFFSET 48\n")],
+        output: &[Text("BAD MARKS OFFSET 60\n")],
     },
     Row {
         name: "combine: a second file of a later version",
         words: &["combine"],
         input: &[FELL, LATER_VERSION],
         status: 10,
-        output: &[Text("BAD MARKS OFFSET 48\n")],
+        output: &[Text("BAD MARKS OFFSET 60\n")],
     },
     Row {
         name: "combine: a third file that is cut",
         words: &["combine"],
         input: &[FELL, WENT, CUT],
         status: 10,
-        output: &[Text("BAD MARKS OFFSET 143\n")],
+        output: &[Text("BAD MARKS OFFSET 179\n")],
     },
     Row {
         name: "combine: a second file that is cut, before one of another table than the first",
         words: &["combine"],
         input: &[FELL, CUT, OTHER],
         status: 10,
-        output: &[Text("BAD MARKS OFFSET 95\n")],
+        output: &[Text("BAD MARKS OFFSET 119\n")],
     },
     Row {
         name: "combine: a second file of another table that is cut",
         words: &["combine"],
         input: &[FELL, OTHER_CUT],
         status: 10,
-        output: &[Text("BAD MARKS OFFSET 95\n")],
+        output: &[Text("BAD MARKS OFFSET 119\n")],
     },
     Row {
         name: "combine: a second file of another table",
@@ -786,7 +872,10 @@ pub const RUNS: [[Part; 2]; 2] = [
 ];
 
 /// The file of their union.
-pub const UNION: [Part; 1] = [BUT_THE_RETURN];
+pub const UNION: [Part; 1] = [RETURN_LEFT];
+
+/// That of each of both files twice.
+pub const UNION_AGAIN: [Part; 1] = [RETURN_LEFT_BY_FOUR];
 
 /// What `show` writes of it.
 pub const SHOWN_UNION: [Part; 4] = [
@@ -799,6 +888,11 @@ pub const SHOWN_UNION: [Part; 4] = [
 /// What is not refused.
 pub fn good() -> &'static [Row] {
     &GOOD
+}
+
+/// Files of version 1 and of other sessions.
+pub fn old() -> &'static [Row] {
+    &OLD
 }
 
 /// A job that is refused, or its session.

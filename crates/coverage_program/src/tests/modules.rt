@@ -6,10 +6,10 @@ ghost use Rattle.report_text.specs.Conditions.{HasFewLines};
 use crate::tables::{Refused, tables_of};
 use cov_base::{Addr, Name};
 use cov_outside::MemSink;
-use listing_lines::ListingLine;
+use listing_lines::ListingLines;
 use module_area::{Image, Images};
 use report_text::table;
-use session_book::{Job, Lines};
+use session_book::Job;
 use std::alloc::Global;
 use std::test::Fail;
 
@@ -32,23 +32,23 @@ fn image(alloc: Global, name: &[u8], base: u32, bytes: &[u8]) -> Result<Image, F
     })
 }
 
-fn lines(alloc: Global, texts: &[&[u8]]) -> Result<Lines, Fail>
+fn lines(alloc: Global, texts: &[&[u8]]) -> Result<ListingLines, Fail>
     requires { length texts.now ≤ 100 }
     ensures few { IfOk result (λ l. length l ≤ 100) }
     ensures short { IfOk result (All (λ l. length l ≤ 150)) }
 {
-    let mut lines = Vec::new(alloc);
+    let mut lines = ListingLines::new(alloc);
     for text in texts {
         if text.len() > 150 {
             return Err("a long line".into());
         }
-        lines.push(ListingLine::new(text.to_vec(alloc)?))?;
+        lines.push(text)?;
     }
-    Ok(Lines(lines))
+    Ok(lines)
 }
 
 /// Module M with a loop and this listing, module N without one, and module O with a return and that listing.
-fn three(alloc: Global, first: Lines, third: Lines) -> Result<Job, Fail>
+fn three(alloc: Global, first: ListingLines, third: ListingLines) -> Result<Job, Fail>
     requires few { length first ≤ 100 }
     requires few_third { length third ≤ 100 }
     requires short { All (λ l. length l ≤ 150) first }

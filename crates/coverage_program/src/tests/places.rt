@@ -159,18 +159,3 @@ fn runs_nothing_without_areas(rt: HostRuntime) -> Result<(), Fail> {
     assert_eq!(rt; came.text_alone.as_slice(), USAGE);
     Ok(())
 }
-
-#[test]
-fn a_table_that_is_not_written_is_told(rt: HostRuntime) -> Result<(), Fail> {
-    let alloc = rt.alloc();
-    let words = [String::from_str(alloc, "table")?];
-    let mut source = MemSource::new(job_of(alloc, &LOOP)?, 64, Vec::new(alloc));
-    let mut sink = MemSink::new(alloc, 4096, 4096, [3u64].to_vec(alloc)?).map_err(|_| "memory")?;
-    let status = cover_one(alloc, &words, &mut source, &mut sink);
-    assert_eq!(rt; status, Status(6));
-    assert_eq!(rt;
-        sink.bytes(),
-        b"COVERAGE TABLE\nMODULE M PLACES 2\n".as_slice()
-    );
-    Ok(())
-}

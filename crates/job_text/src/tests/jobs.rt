@@ -69,9 +69,9 @@ fn reads_a_job_without_tasks(rt: HostRuntime) -> Result<(), Fail> {
             assert_eq!(rt; job.listings.len(), 1);
             match &job.listings[0] {
                 Some(listing) => {
-                    assert_eq!(rt; listing.0.len(), 4);
+                    assert_eq!(rt; listing.len(), 4);
                     assert_eq!(rt;
-                        listing.0[3].bytes(),
+                        listing.line(3),
                         &b"000006 07FE                           3          BR"[..]
                     );
                 }

@@ -1,5 +1,4 @@
-use Rattle.std.proofs.Common.{◌≡◌, ◌+◌, ◌∙◌, sym, get_or, None, arith}
-use Rattle.std.proofs.lemmas.List.{get_or_read}
+use Rattle.std.proofs.Common.{◌≡◌, ◌+◌, ◌<◌, ◌∙◌, sym, length, get_or, None, arith}
 use Rattle.listing_reader.specs.declared.lines.Line.TheVariants.{Text}
 use Rattle.listing_reader.specs.declared.lines.Line.TheVariants as says
 use Rattle.brk_table.specs.Build.{fault_by}
@@ -13,8 +12,9 @@ loop-i-init c = record { at = at_start _ _ _ _ c.requires.size c.requires.fresh;
 
 pub returns-in-Some-clause-fault : goal.returns-in-Some-clause-fault
 returns-in-Some-clause-fault c =
-    let is : get_or c.args.lines.now c.loop-i.i Text ≡ says.Code c.in-Code.loc c.in-Code.code = sym (get_or_read c.args.lines.now c.loop-i.i c.index-lines-i.result c.loop-i-test.true c.index-lines-i.is Text) ∙ c.in-Code.is in
-    sym (found_fault c.args.bytes.now c.args.room c.args.lines.now c.loop-i.i c.loop-i.cover c.loop-i.before c.in-Code.loc c.in-Code.code c.in-Some.fault c.loop-i.invariant.at c.loop-i-test.true c.requires.sound is (sym c.fault_by.ensures ∙ c.in-Some.is))
+    let below : c.loop-i.i < length c.args.lines.now = omega (arith, c.len-i-end.ensures) in
+    let is : get_or c.args.lines.now c.loop-i.i Text ≡ says.Code c.in-Code.loc c.in-Code.code = sym c.line.ensures ∙ c.in-Code.is in
+    sym (found_fault c.args.bytes.now c.args.room c.args.lines.now c.loop-i.i c.loop-i.cover c.loop-i.before c.in-Code.loc c.in-Code.code c.in-Some.fault c.loop-i.invariant.at below c.requires.sound is (sym c.fault_by.ensures ∙ c.in-Some.is))
 
 pub mark-requires : goal.mark-requires
 mark-requires c =
@@ -23,15 +23,17 @@ mark-requires c =
     omega (arith, none.inside, c.loop-i.invariant.at.size)
 
 pub loop-i-preserved : goal.loop-i-preserved
-loop-i-preserved c = elim c.match-lines-i.branch [
+loop-i-preserved c = elim c.match-line.branch [
   | in-Code+in_default-fault_by w ↦ (
-      let is : get_or c.args.lines.now c.loop-i.i Text ≡ says.Code w.in-Code.loc w.in-Code.code = sym (get_or_read c.args.lines.now c.loop-i.i c.index-lines-i.result c.loop-i-test.true c.index-lines-i.is Text) ∙ w.in-Code.is in
-      let passed = code_passed c.args.bytes.now c.args.room c.args.lines.now c.loop-i.i c.loop-i.cover w.mark.new.cover c.loop-i.before w.in-Code.loc w.in-Code.code c.loop-i.invariant.at c.loop-i-test.true c.requires.sound is
+      let below : c.loop-i.i < length c.args.lines.now = omega (arith, c.len-i-end.ensures) in
+      let is : get_or c.args.lines.now c.loop-i.i Text ≡ says.Code w.in-Code.loc w.in-Code.code = sym c.line.ensures ∙ w.in-Code.is in
+      let passed = code_passed c.args.bytes.now c.args.room c.args.lines.now c.loop-i.i c.loop-i.cover w.mark.new.cover c.loop-i.before w.in-Code.loc w.in-Code.code c.loop-i.invariant.at below c.requires.sound is
       (sym w.fault_by.ensures ∙ w.in_default-fault_by.is) w.mark.auto.cover w.mark.ensures.inside w.mark.ensures.outside in
       record { at = rw (w.cover-is, w.before-is) passed; low = omega arith })
   | in_default w ↦ (
-      let is : get_or c.args.lines.now c.loop-i.i Text ≡ Text = sym (get_or_read c.args.lines.now c.loop-i.i c.index-lines-i.result c.loop-i-test.true c.index-lines-i.is Text) ∙ w.in_default.is in
-      let passed = text_passed c.args.bytes.now c.args.room c.args.lines.now c.loop-i.i c.loop-i.cover c.loop-i.before c.loop-i.invariant.at c.loop-i-test.true is in
+      let below : c.loop-i.i < length c.args.lines.now = omega (arith, c.len-i-end.ensures) in
+      let is : get_or c.args.lines.now c.loop-i.i Text ≡ Text = sym c.line.ensures ∙ w.in_default.is in
+      let passed = text_passed c.args.bytes.now c.args.room c.args.lines.now c.loop-i.i c.loop-i.cover c.loop-i.before c.loop-i.invariant.at below is in
       record { at = rw (w.cover-is, w.before-is) passed; low = omega arith })
 ]
 

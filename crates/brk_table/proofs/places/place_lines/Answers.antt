@@ -16,7 +16,7 @@ loop-at-preserved c = elim c.match-cover-at.branch [
 ]
 
 pub returns-clause-table : goal.returns-clause-table
-returns-clause-table c = (tabled_all c.args.module c.args.base c.args.lines.now c.loop-at.at _ c.loop-at.places.items c.loop-at.entries.items c.loop-at.invariant (omega arith) c.requires.inside c.requires.sound).table
+returns-clause-table c = (tabled_all c.args.module c.args.base c.args.lines.now c.loop-at.at _ c.loop-at.places.items c.loop-at.entries c.loop-at.invariant (omega arith) c.requires.inside c.requires.sound).table
 
 pub returns-clause-places : goal.returns-clause-places
-returns-clause-places c = (tabled_all c.args.module c.args.base c.args.lines.now c.loop-at.at _ c.loop-at.places.items c.loop-at.entries.items c.loop-at.invariant (omega arith) c.requires.inside c.requires.sound).size
+returns-clause-places c = (tabled_all c.args.module c.args.base c.args.lines.now c.loop-at.at _ c.loop-at.places.items c.loop-at.entries c.loop-at.invariant (omega arith) c.requires.inside c.requires.sound).size

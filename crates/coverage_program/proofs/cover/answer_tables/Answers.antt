@@ -1,3 +1,4 @@
+use Rattle.report_text.specs.Report.{report_of}
 use Rattle.coverage_program.proofs.AnswerLemmas.{are_results, are_sets, reports, reported, written_as}
 use Rattle.coverage_program.proofs.cover.answer_tables.Goals as goal
 
@@ -10,5 +11,5 @@ report-requires-clause-sets g c = are_sets c.args.job.now c.args.tables.now c.in
 pub returns : goal.returns
 returns g c s came =
     reported s c.args.job.now c.args.tables.now _ _ _ _ came c.requires.matching c.requires.numbered c.in-Ok.ensures.left.ran
-    (reports c.args.job.now c.args.tables.now _ _ c.in-Ok.outcome.tasks.items c.in-Ok.outcome.sets c.in-Ok.ensures.left c.in-Ok.ensures.outcome)
+    (reports c.args.job.now c.args.tables.now _ _ c.in-Ok.outcome.tasks.items c.in-Ok.outcome.sets (report_of c.args.job.now c.args.tables.now) c.in-Ok.ensures.left c.in-Ok.ensures.outcome)
     (written_as _ _ _ c.report.ensures c.status_of.ensures.whole c.status_of.ensures.failed)

@@ -4,10 +4,10 @@ use Rattle.coverage_program.proofs.UntouchedLemmas.{untouched, is_cut}
 use Rattle.coverage_program.proofs.cover.cover.Goals as goal
 
 pub returns-clause-complete : goal.returns-clause-complete
-returns-clause-complete g c = rw (sym c.command_of.ensures) (complete c.command_of.result _ _ _ _ c.answer.ensures)
+returns-clause-complete g c = rw (sym c.command_of.ensures.value) (complete c.command_of.result _ _ _ _ c.answer.ensures)
 
 pub returns-clause-untouched : goal.returns-clause-untouched
-returns-clause-untouched g c = rw (sym c.command_of.ensures) (untouched c.command_of.result _ _ _ _ c.answer.ensures)
+returns-clause-untouched g c = rw (sym c.command_of.ensures.value) (untouched c.command_of.result _ _ _ _ c.answer.ensures)
 
 pub returns-clause-cut : goal.returns-clause-cut
-returns-clause-cut g c = rw (sym c.command_of.ensures) (is_cut c.command_of.result _ _ _ _ c.answer.ensures)
+returns-clause-cut g c = rw (sym c.command_of.ensures.value) (is_cut c.command_of.result _ _ _ _ c.answer.ensures)

@@ -5,4 +5,4 @@ use Rattle.coverage_program.proofs.CompleteLemmas.{complete, nothing}
 use Rattle.coverage_program.proofs.cover.cover_one.Goals as goal
 
 pub returns-clause-complete : goal.returns-clause-complete
-returns-clause-complete g c = rw (sym c.command_of.ensures) (complete (without_areas c.command_of.result) _ (no_change nothing) _ _ (c.answer_one.ensures nothing))
+returns-clause-complete g c = rw (sym c.command_of.ensures.value) (complete (without_areas c.command_of.result) _ (no_change nothing) _ _ (c.answer_one.ensures nothing))

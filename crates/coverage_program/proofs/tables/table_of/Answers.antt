@@ -9,13 +9,12 @@ use Rattle.coverage_program.proofs.tables.table_of.Goals as goal
 
 pub returns-in-Ok-build-clause-faultless : goal.returns-in-Ok-build-clause-faultless
 returns-in-Ok-build-clause-faultless c =
-    unrefused c.args.image.now c.args.room c.args.texts.now c.in-Ok.lines.items c.in-Ok.ensures.listing (rw c.deref.ensures.value at (c.in-Ok-build.ensures.matches refl))
+    unrefused c.args.image.now c.args.room c.args.texts.now c.in-Ok.lines c.in-Ok.ensures.listing (c.in-Ok-build.ensures.matches refl)
 
 pub returns-clause-refused : goal.returns-clause-refused
 returns-clause-refused c =
     let image : ImageView = c.args.image.now in
-    let lines : List Line = c.in-Ok.lines.items in
-    let told = build_told image c.args.room c.args.texts.now lines c.in-Err-build.fault c.in-Ok.ensures.listing (rw c.deref.ensures.value at c.in-Err-build.ensures.fault) in
-    let named = ap (λ (i : ImageView). build_refused i.name c.deref-in-Err-build.result.now c.in-Err-build.fault) c.image.view_is in
-    let lined = ap (λ (l : List Line). build_refused image.name l c.in-Err-build.fault) c.deref-in-Err-build.ensures.value in
-    subst (λ (r : Refused). IsRefused (listing_refusal image c.args.room c.args.texts.now) r) (sym (c.build_refused.ensures ∙ (named ∙ lined))) told
+    let lines : List Line = c.in-Ok.lines in
+    let told = build_told image c.args.room c.args.texts.now lines c.in-Err-build.fault c.in-Ok.ensures.listing c.in-Err-build.ensures.fault in
+    let named = ap (λ (i : ImageView). build_refused i.name lines c.in-Err-build.fault) c.image.view_is in
+    subst (λ (r : Refused). IsRefused (listing_refusal image c.args.room c.args.texts.now) r) (sym (c.build_refused.ensures ∙ named)) told

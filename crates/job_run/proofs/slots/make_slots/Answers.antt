@@ -1,4 +1,4 @@
-use Rattle.std.proofs.Common.{◌≡◌, ℕ, None, List, [], ◌∷◌, ◌++◌, length, refl, sym, ap, subst, arith, ◌<◌, get_or}
+use Rattle.std.proofs.Common.{◌≡◌, ℕ, None, List, [], ◌∷◌, ◌++◌, length, refl, sym, ap, subst, arith, ◌<◌, get_or, replicate}
 use Rattle.std.proofs.lemmas.List.{length-append}
 use Rattle.task_run.specs.Courses.{solo}
 use Rattle.job_run.specs.Slots.{AreEmpty}
@@ -15,7 +15,7 @@ returns-clause-tasks g c =
 pub loop-t-preserved : goal.loop-t-preserved
 loop-t-preserved g c =
     let i = c.loop-t.invariant in
-    let e : Slot _ = record { done = c.in_ok-done.done; pass = None } in
+    let e : Slot _ = record { done = c.in_ok-done.done; pass = None; apart = replicate 16 0 } in
     let items : c.push.new.self.items ≡ c.loop-t.slots.items ++ e ∷ [] = c.in_ok-push.ensures.items in
     let last : HasNotRun c.args.job.now c.args.tables.now.places (length c.loop-t.slots.items) e.done =
     subst (λ (n : ℕ). HasNotRun c.args.job.now c.args.tables.now.places n c.in_ok-done.done) (sym i.count) c.in_ok-done.ensures in

@@ -5,4 +5,4 @@ use Rattle.listing_reader.specs.declared.lines.Line.TheVariants.{Text}
 use Rattle.listing_reader.proofs.reader.texts.Given as goal
 
 abbrev pub invariant-loop-k : goal.invariant-loop-k
-invariant-loop-k l = (l.read.items ≡ replicate l._k Text) × AllPass is_sound l.read.items
+invariant-loop-k l = (l.read ≡ replicate l._k Text) × AllPass is_sound l.read

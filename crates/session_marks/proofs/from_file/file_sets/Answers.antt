@@ -5,4 +5,4 @@ use Rattle.session_marks.proofs.from_file.file_sets.Goals as goal
 
 pub returns-clause-decided : goal.returns-clause-decided
 returns-clause-decided c =
-    decided c.args.job.now c.args.tables.now c.args.s.0 c.args.file.now (subst (λ (s : SessionView). AllPairs (λ m n. m ≢ n) s.modules) c.session-card.ensures.value c.session-card.ensures.is.differ)
+    decided c.args.job.now c.args.tables.now c.args.s.0 c.args.file.now.modules (subst (λ (s : SessionView). AllPairs (λ m n. m ≢ n) s.modules) c.session-card.ensures.value c.session-card.ensures.is.differ)

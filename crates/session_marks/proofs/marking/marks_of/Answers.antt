@@ -1,5 +1,10 @@
+use Rattle.std.proofs.Common.{rules, ◌≡◌, true}
+use Rattle.cov_base.specs.Names.{is_filled}
+use Rattle.marks_file.specs.Marks.{are_marks}
+use Rattle.marks_file.proofs.MarksLemmas.{both}
 use Rattle.session_book.specs.Sessions.{session_of}
 use Rattle.session_marks.proofs.ModuleLemmas.{marks_kept}
+use Rattle.session_marks.proofs.RuleLemmas.{one_run}
 use Rattle.session_marks.proofs.marking.marks_of.Goals as goal
 
 pub invariant_of-result : goal.invariant_of-result
@@ -11,4 +16,6 @@ invariant_of-result g c =
     let is = c.modules_of.ensures.is in
     let value = c.in_ok-modules.ensures.value in
     let these = c.modules_of.ensures.value in
-    rw (value, these) (marks_kept job tables sets modules c.modules_of.ensures.job c.requires.tables is.some is.modules is.differ (rw (value, these) at c.in_ok-modules.ensures.fields))
+    let name : is_filled c.session_name.result ≡ true = search rules in
+    let kept : are_marks c.in_ok-modules.modules.items ≡ true = rw (value, these) (marks_kept job tables sets modules c.modules_of.ensures.job c.requires.tables is.some is.modules is.differ (rw (value, these) at c.in_ok-modules.ensures.fields)) in
+    both (is_filled c.session_name.result) _ name (both _ _ one_run kept)

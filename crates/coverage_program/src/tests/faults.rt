@@ -1,0 +1,370 @@
+//! Faults of source and sink at each call in turn, of every command; and tasks that begin where nothing can be fetched, or
+//! change their own code.
+
+use super::marked::{PHASES, Row, bad_files, bad_jobs, bad_shown, good};
+use super::notation::Part::{Code, Marked, Text};
+use super::notation::{Case, bytes_of};
+use super::places::{USAGE, words_of};
+use super::{FIRST_JOB, FIRST_TEXT, check};
+use crate::cover::cover;
+use crate::status::Status;
+use cov_outside::{MemSink, MemSource, OpenGate};
+use module_area::{Areas, Tally};
+use shared_area::SharedAreas;
+use std::alloc::Global;
+use std::process::Abort;
+use std::sync::Wait;
+use std::test::Fail;
+use std::thread::Threads;
+
+/// The bytes that a read gives at most, and those that a write takes.
+const READ: usize = 64;
+
+const WRITE: usize = 16;
+
+const LOAD: &str = "000000 4110 0005 LA, 000004 1A11 AR, 000006 07FE BR";
+
+const COUNT: &str = "000000 4610 F000 BCT, 000004 07FE BR";
+
+/// The commands that take no marks file, on what they serve and on what they refuse.
+static SERVED: [Row; 7] = [
+    Row {
+        name: "run",
+        words: &["run"],
+        input: &[Text(FIRST_JOB)],
+        status: 0,
+        output: &[Text(FIRST_TEXT)],
+    },
+    Row {
+        name: "run: two phases",
+        words: &["run"],
+        input: &[Code(COUNT), PHASES],
+        status: 0,
+        output: &[
+            Text(
+                "\
+COVERAGE REPORT\n\
+TASK A RETURNED COUNT 2 CC 0\n\
+R0 00000000 00000000 00000000 00000000 00000000 00000000 00000000 00000000\n\
+R8 00000000 00000000 00000000 00000000 00000000 00000000 00FFFFFE 00100000\n\
+OUT 0\n\
+TASK B SPENT COUNT 1 CC 0\n\
+R0 00000000 00000001 00000000 00000000 00000000 00000000 00000000 00000000\n\
+R8 00000000 00000000 00000000 00000000 00000000 00000000 00FFFFFE 00100000\n\
+OUT 0\n\
+SESSION S PHASE P\n",
+            ),
+            Marked(COUNT, "V: EXECUTED 2 FACTS 2 OF 3"),
+            Text("SESSION T PHASE Q\n"),
+            Marked(COUNT, ">^ EXECUTED 1 FACTS 1 OF 3"),
+            Text("NOT EXECUTED 000004-000005\nEND\n"),
+        ],
+    },
+    Row {
+        name: "run: no last card",
+        words: &["run"],
+        input: &[Code(LOAD), Text("TASK A 100000 16 100 0\n")],
+        status: 2,
+        output: &[Text("BAD JOB LINE 12\n")],
+    },
+    Row {
+        name: "run: other bytes than the module's",
+        words: &["run"],
+        input: &[
+            Code("411000051A1107FE: 000000 4110 0006 LA, 000004 1A11 AR, 000006 07FE BR"),
+            Text("ENDJOB\n"),
+        ],
+        status: 3,
+        output: &[Text("MISMATCH M LINE 2 LOC 000000 LISTING 41100006 MODULE 41100005\n")],
+    },
+    Row {
+        name: "table",
+        words: &["table"],
+        input: &[Code(COUNT), Text("ENDJOB\n")],
+        status: 0,
+        output: &[Text(
+            "COVERAGE TABLE\nMODULE M PLACES 2\nPLACE 000000 4 C 4610\nPLACE 000004 2 S 07FE\nEND\n",
+        )],
+    },
+    Row {
+        name: "replay",
+        words: &["replay"],
+        input: &[
+            Code(LOAD),
+            Text("TASK A 100000 16 100 0\nENDJOB\nFETCH A\nGO A\nENDSCHED\n"),
+        ],
+        status: 0,
+        output: &[
+            Text(
+                "\
+COVERAGE REPLAY\n\
+EVENT 1 FETCH A TAG 1 HALF 0AFF\n\
+EVENT 2 GO A\n\
+TASK A RETURNED COUNT 3 CC 2\n\
+R0 00000000 0000000A 00000000 00000000 00000000 00000000 00000000 00000000\n\
+R8 00000000 00000000 00000000 00000000 00000000 00000000 00FFFFFE 00100000\n\
+OUT 0\n\
+SESSION S PHASE P\n",
+            ),
+            Marked(LOAD, "::: EXECUTED 3 FACTS 3 OF 3"),
+            Text("END\n"),
+        ],
+    },
+    Row {
+        name: "replay: no end of the schedule",
+        words: &["replay"],
+        input: &[
+            Code(LOAD),
+            Text("TASK A 100000 16 100 0\nENDJOB\nFETCH A\nGO A\n"),
+        ],
+        status: 9,
+        output: &[Text("BAD SCHEDULE LINE 15\n")],
+    },
+];
+
+/// Tasks over the first job's module, none of which reaches it: what they fetch, mark and lift there is nothing.
+static ASTRAY: [Case; 4] = [
+    Case {
+        name: "an odd entry",
+        code: LOAD,
+        job: "TASK A 100001 16 100 0\nENDJOB\n",
+        status: 0,
+        tallies: Some(&[(3, 0, 0, 0)]),
+        text: "\
+COVERAGE REPORT\n\
+TASK A ABEND 6 COUNT 1 CC 0\n\
+regs F=00100001\n\
+OUT 0\n\
+SESSION S PHASE P\n\
+marks ^^^ EXECUTED 0 FACTS 0 OF 3\n\
+NOT EXECUTED 000000-000007\n\
+END\n",
+    },
+    Case {
+        name: "the return address as entry",
+        code: LOAD,
+        job: "TASK A FFFFFE 16 100 0\nENDJOB\n",
+        status: 0,
+        tallies: Some(&[(3, 0, 0, 0)]),
+        text: "\
+COVERAGE REPORT\n\
+TASK A RETURNED COUNT 0 CC 0\n\
+regs F=00FFFFFE\n\
+OUT 0\n\
+SESSION S PHASE P\n\
+marks ^^^ EXECUTED 0 FACTS 0 OF 3\n\
+NOT EXECUTED 000000-000007\n\
+END\n",
+    },
+    Case {
+        name: "output of more bytes than there are",
+        code: LOAD,
+        job: "TASK A 000000 16 100 0\nREG 0 FFFFFFFF\nDATA 0 0A0107FE\nENDJOB\n",
+        status: 0,
+        tallies: Some(&[(3, 0, 0, 0)]),
+        text: "\
+COVERAGE REPORT\n\
+TASK A ABEND 5 COUNT 1 CC 0\n\
+regs 0=FFFFFFFF F=00000000\n\
+OUT 0\n\
+SESSION S PHASE P\n\
+marks ^^^ EXECUTED 0 FACTS 0 OF 3\n\
+NOT EXECUTED 000000-000007\n\
+END\n",
+    },
+    Case {
+        name: "code that changes itself",
+        code: LOAD,
+        job: "TASK A 000000 16 100 0\nDATA 0 92FE00050700\nENDJOB\n",
+        status: 0,
+        tallies: Some(&[(3, 0, 0, 0)]),
+        text: "\
+COVERAGE REPORT\n\
+TASK A RETURNED COUNT 2 CC 0\n\
+regs F=00000000\n\
+OUT 0\n\
+STOR 000000 92FE000507FE00000000000000000000\n\
+SESSION S PHASE P\n\
+marks ^^^ EXECUTED 0 FACTS 0 OF 3\n\
+NOT EXECUTED 000000-000007\n\
+END\n",
+    },
+];
+
+/// Words of each command, and words that are none.
+static WORDS: [&[&str]; 7] = [
+    &["run"],
+    &["marks", "S"],
+    &["table"],
+    &["replay"],
+    &["combine"],
+    &["show", "S"],
+    &[],
+];
+
+/// What came of words and an input where a read or a write fails.
+#[derive(Drop)]
+pub struct Faulty {
+    pub status: Status,
+    pub bytes: Vec<u8>,
+    made: u64,
+    ledger: Vec<Tally>,
+}
+
+/// Serves the words where these reads and writes fail.
+pub fn serve_faulty<T: Threads + Wait + Sync>(
+    rt: &T,
+    alloc: Global,
+    words: &[&str],
+    input: &[u8],
+    bad_reads: Vec<u64>,
+    bad_writes: Vec<u64>,
+) -> Result<Faulty, Fail> {
+    let all = words_of(alloc, words)?;
+    let mut areas = SharedAreas::new(alloc, 2).map_err(|_| "memory")?;
+    let mut source = MemSource::new(input.to_vec(alloc)?, READ, bad_reads);
+    let mut sink = MemSink::new(alloc, 4096, WRITE, bad_writes).map_err(|_| "memory")?;
+    let status = cover(
+        rt,
+        alloc,
+        &all,
+        &mut source,
+        &mut sink,
+        &mut areas,
+        &OpenGate,
+    );
+    Ok(Faulty {
+        status,
+        bytes: sink.bytes().to_vec(alloc)?,
+        made: areas.made(),
+        ledger: areas.ledger().to_vec(alloc)?,
+    })
+}
+
+/// Each read fails in turn, the one that finds the end too; the read behind that isn't made.
+fn check_reads<T: Abort + Threads + Wait + Sync>(
+    rt: &T,
+    alloc: Global,
+    row: &Row,
+) -> Result<(), Fail> {
+    let name = row.name;
+    let input = bytes_of(alloc, row.input)?;
+    let reads = (input.len().div_ceil(READ) as u64).saturating_add(1);
+    for n in 1..=reads {
+        let bad_reads = [n].to_vec(alloc)?;
+        let came = serve_faulty(rt, alloc, row.words, &input, bad_reads, Vec::new(alloc))?;
+        assert_eq!(rt; came.status, Status(5), "{name}: read {n}");
+        assert_eq!(rt;
+            came.bytes.as_slice(),
+            b"READ FAULT\n".as_slice(),
+            "{name}: read {n}"
+        );
+        assert_eq!(rt; (came.made, came.ledger.len()), (0, 0), "{name}: read {n}");
+    }
+    let bad_reads = [reads.saturating_add(1)].to_vec(alloc)?;
+    let came = serve_faulty(rt, alloc, row.words, &input, bad_reads, Vec::new(alloc))?;
+    assert_eq!(rt; came.status, Status(row.status), "{name}");
+    Ok(())
+}
+
+/// Lets one write fail, and answers how many bytes came: they are the first of the output, and the areas are those of the
+/// run without a fault.
+fn check_write<T: Abort + Threads + Wait + Sync>(
+    rt: &T,
+    alloc: Global,
+    row: &Row,
+    input: &[u8],
+    whole: &Faulty,
+    n: u64,
+) -> Result<usize, Fail> {
+    let name = row.name;
+    let bad_writes = [n].to_vec(alloc)?;
+    let came = serve_faulty(rt, alloc, row.words, input, Vec::new(alloc), bad_writes)?;
+    let length = came.bytes.len();
+    assert!(rt; whole.bytes.starts_with(&came.bytes), "{name}: write {n}");
+    assert_eq!(rt; came.made, whole.made, "{name}: write {n}");
+    assert!(rt; came.ledger == whole.ledger, "{name}: write {n}");
+    if length == whole.bytes.len() {
+        assert_eq!(rt; came.status, Status(row.status), "{name}: write {n}");
+    } else {
+        assert_eq!(rt; came.status, Status(6), "{name}: write {n}");
+    }
+    Ok(length)
+}
+
+/// Each write fails in turn: no byte comes where the first does, and at each further one more bytes, at most what one takes.
+fn check_writes<T: Abort + Threads + Wait + Sync>(
+    rt: &T,
+    alloc: Global,
+    row: &Row,
+) -> Result<(), Fail> {
+    let name = row.name;
+    let input = bytes_of(alloc, row.input)?;
+    let output = bytes_of(alloc, row.output)?;
+    let none = Vec::new(alloc);
+    let whole = serve_faulty(rt, alloc, row.words, &input, none, Vec::new(alloc))?;
+    assert_eq!(rt; whole.status, Status(row.status), "{name}");
+    assert_eq!(rt; whole.bytes.as_slice(), output.as_slice(), "{name}");
+    let first = check_write(rt, alloc, row, &input, &whole, 1)?;
+    assert_eq!(rt; first, 0, "{name}");
+    let mut had = 0;
+    for n in 2..=(output.len() as u64).saturating_add(1) {
+        if had < output.len() {
+            let length = check_write(rt, alloc, row, &input, &whole, n)?;
+            assert!(rt; had < length, "{name}: write {n}");
+            assert!(rt; length <= had.saturating_add(WRITE), "{name}: write {n}");
+            had = length;
+        }
+    }
+    assert_eq!(rt; had, output.len(), "{name}");
+    Ok(())
+}
+
+/// Lets each read and each write of these rows fail.
+fn check_faults<T: Abort + Threads + Wait + Sync>(
+    rt: &T,
+    alloc: Global,
+    rows: &[Row],
+) -> Result<(), Fail> {
+    for row in rows {
+        check_reads(rt, alloc, row)?;
+        check_writes(rt, alloc, row)?;
+    }
+    Ok(())
+}
+
+#[test]
+fn tells_a_fault_at_each_read_and_write(rt: HostRuntime) -> Result<(), Fail> {
+    check_faults(&rt, rt.alloc(), &SERVED)?;
+    check_faults(&rt, rt.alloc(), good())?;
+    check_faults(&rt, rt.alloc(), bad_jobs())?;
+    check_faults(&rt, rt.alloc(), bad_shown())?;
+    check_faults(&rt, rt.alloc(), bad_files())
+}
+
+#[test]
+fn writes_nothing_where_it_can_neither_read_nor_write(rt: HostRuntime) -> Result<(), Fail> {
+    let alloc = rt.alloc();
+    let input = bytes_of(alloc, &[Text(FIRST_JOB)])?;
+    for words in &WORDS {
+        let once = [1u64].to_vec(alloc)?;
+        let came = serve_faulty(&rt, alloc, words, &input, once, [1u64].to_vec(alloc)?)?;
+        assert_eq!(rt; came.status, Status(6));
+        assert_eq!(rt; came.bytes.len(), 0);
+        assert_eq!(rt; (came.made, came.ledger.len()), (0, 0));
+    }
+    // Words that are none are refused before anything is read.
+    let once = [1u64].to_vec(alloc)?;
+    let came = serve_faulty(&rt, alloc, &[], &input, once, Vec::new(alloc))?;
+    assert_eq!(rt; came.status, Status(1));
+    assert_eq!(rt; came.bytes.as_slice(), USAGE);
+    Ok(())
+}
+
+#[test]
+fn runs_tasks_that_go_astray(rt: HostRuntime) -> Result<(), Fail> {
+    for case in &ASTRAY {
+        check(&rt, rt.alloc(), case)?;
+    }
+    Ok(())
+}

@@ -1,0 +1,121 @@
+//! A job that is read in pieces.
+ghost use Rattle.std.specs.Prelude.{◌≡◌, ◌+◌, ◌≤◌, ◌++◌, ℕ, List, [], false, None, Some, Err, IfOk, IfErr, length, take};
+ghost use Rattle.cov_base.specs.declared.constants.TheConstants.{INPUT_LIMIT};
+ghost use Rattle.session_book.specs.JobView.{JobView};
+ghost use Rattle.job_text.specs.Lines.{lines_of};
+ghost use Rattle.job_text.specs.Limits.{IsWithin};
+ghost use Rattle.job_text.specs.Pieces.{IsTold, Feeds, used_of, used_count, is_end};
+ghost use Rattle.job_text.specs.Refusals.{IsRead, IsOnly, IsRefusal};
+ghost use Rattle.job_text.specs.Spells.{Spells};
+ghost use Rattle.job_text.specs.Taken.{IsFed, told, has_ended, fed_size};
+
+use crate::jobs::{JobFault, ReadJob};
+use crate::pieces::{Fed, Pieces};
+use crate::taken::Taken;
+use cov_base::NoMemory;
+use std::alloc::Global;
+use std::marker::Model;
+use std::mem;
+
+/// How far a reader has come.
+#[derive(Drop)]
+pub(crate) enum Stage {
+    Reading(Pieces),
+    Failed(JobFault),
+}
+
+/// Reads a job from pieces of bytes as they come.
+#[derive(Drop)]
+pub struct JobReader {
+    stage: Stage,
+}
+
+impl Model for JobReader {
+    ghost use Rattle.job_text.specs.declared.reader.Stage.{Stage};
+
+    ghost Value = { Stage };
+
+    ghost use Rattle.job_text.specs.Taken.{WasFed};
+
+    ghost view = { λ r. r.stage };
+
+    ghost invariant = { λ r. WasFed r.stage };
+}
+
+impl JobReader {
+    /// Nothing was fed.
+    pub fn new(alloc: Global) -> Result<JobReader, NoMemory>
+        ensures nothing { IfOk result (IsFed []) }
+        ensures no_fault { IfOk result (λ r. told r ≡ None) }
+        ensures reading { IfOk result (λ r. has_ended r ≡ false) }
+        ensures size { IfOk result (λ r. fed_size r ≡ 0) }
+    {
+        Ok(JobReader {
+            stage: Stage::Reading(Pieces {
+                taken: Taken::new(alloc),
+                cut: Vec::new(alloc),
+            }),
+        })
+    }
+
+    /// Takes the next bytes of the input. `BadJob` or `TooLarge` exactly where the bytes so far hold, with its LF, the first
+    /// line that is bad or passes a limit, and the fault is that of `read_job` at that line; an input that ends early is a
+    /// fault of `finish` alone. Else it is `Ended` exactly where the LF of ENDJOB's line stands in this piece; the bytes
+    /// behind it are the caller's. No earlier call has answered `Ended`, and the pieces have at most `INPUT_LIMIT` bytes
+    /// together. After a fault each later call answers the same. A line that lies whole in the piece is not copied.
+    pub fn feed(&mut self, alloc: Global, piece: &[u8]) -> Result<Fed, JobFault>
+        requires reading { has_ended self.old ≡ false }
+        requires room { fed_size self.old + length piece.now ≤ INPUT_LIMIT }
+        ensures taken { (before : List ℕ) → IsFed before self.old → IfOk result (λ f. IsFed (before ++ used_of piece.now f) self.new) }
+        ensures fed { (before : List ℕ) → IsFed before self.old → IfOk result (Feeds before piece.now) }
+        ensures used { IfOk result (λ f. used_count piece.now f ≤ length piece.now) }
+        ensures fault { (before : List ℕ) → IsFed before self.old → IfErr result (IsTold (before ++ piece.now)) }
+        ensures failed { (before : List ℕ) → IsFed before self.old → IfErr result (λ _. IsFed (before ++ piece.now) self.new) }
+        ensures same { (e : JobFault) → told self.old ≡ Some e → result ≡ Err e }
+        ensures told { IfErr result (λ e. told self.new ≡ Some e) }
+        ensures no_fault { IfOk result (λ _. told self.new ≡ None) }
+        ensures ended { IfOk result (λ f. has_ended self.new ≡ is_end f) }
+        ensures size { fed_size self.new ≤ fed_size self.old + length piece.now }
+    {
+        match mem::replace(&mut self.stage, Stage::Failed(JobFault::NoMemory)) {
+            Stage::Failed(fault) => {
+                self.stage = Stage::Failed(fault);
+                Err(fault)
+            }
+            Stage::Reading(pieces) => match pieces.feed(alloc, piece) {
+                Ok((pieces, fed)) => {
+                    self.stage = Stage::Reading(pieces);
+                    Ok(fed)
+                }
+                Err(fault) => {
+                    self.stage = Stage::Failed(fault);
+                    Err(fault)
+                }
+            },
+        }
+    }
+
+    /// Whether `feed` has answered `Ended`.
+    pub fn has_ended(&self) -> bool
+        ensures { result ≡ has_ended self.now }
+    {
+        match &self.stage {
+            Stage::Reading(pieces) => pieces.taken.reader.is_done(),
+            Stage::Failed(_) => false,
+        }
+    }
+
+    /// What `read_job` answers for the bytes that were fed, up to ENDJOB's.
+    pub fn finish(self, alloc: Global) -> Result<ReadJob, JobFault>
+        ensures job { (bytes : List ℕ) → IsFed bytes self → IfOk result (IsRead bytes) }
+        ensures whole { (bytes : List ℕ) → IsFed bytes self → IfOk result (λ r. r.end ≡ length bytes) }
+        ensures only { (bytes : List ℕ) → IsFed bytes self → (n : ℕ) (job : JobView) → n ≤ length (lines_of bytes) → Spells (take n (lines_of bytes)) job → IsWithin job → IsOnly n job result }
+        ensures fault { (bytes : List ℕ) → IsFed bytes self → IfErr result (IsRefusal (lines_of bytes)) }
+        ensures same { (e : JobFault) → told self ≡ Some e → result ≡ Err e }
+    {
+        match self.stage {
+            Stage::Failed(fault) => Err(fault),
+            Stage::Reading(pieces) => pieces.finish(alloc),
+        }
+    }
+}

@@ -1,0 +1,86 @@
+//! The whole lines of a job that were taken.
+ghost use Rattle.std.specs.Prelude.{◌≡◌, ◌+◌, ◌<◌, ◌≤◌, ◌^◌, ℕ, List, IfOk, IfErr, length, take};
+ghost use Rattle.session_book.specs.JobView.{JobView};
+ghost use Rattle.job_text.specs.Lines.{LineView, lines_of, span};
+ghost use Rattle.job_text.specs.Limits.{IsWithin};
+ghost use Rattle.job_text.specs.Refusals.{IsRead, IsOnly, IsRefusal};
+ghost use Rattle.job_text.specs.Spells.{Spells};
+ghost use Rattle.job_text.specs.Steps.{start, step};
+ghost use Rattle.job_text.specs.Taken.{IsNext, IsFaultOf, HasRun};
+
+use crate::jobs::{JobFault, ReadJob};
+use crate::refused::LineRefused;
+use crate::steps::LineReader;
+use std::alloc::Global;
+
+/// What the lines say that were taken, how many they are, and how many bytes with their LFs.
+#[derive(Drop)]
+pub(crate) struct Taken {
+    pub reader: LineReader,
+    pub lines: u32,
+    pub bytes: usize,
+}
+
+impl Taken {
+    /// No line.
+    pub(crate) fn new(alloc: Global) -> Taken
+        ensures reader { result.reader ≡ start }
+        ensures lines { result.lines ≡ 0 }
+        ensures bytes { result.bytes ≡ 0 }
+    {
+        Taken {
+            reader: LineReader::new(alloc),
+            lines: 0,
+            bytes: 0,
+        }
+    }
+
+    /// Takes the next line; `ended` where an LF ended it.
+    pub(crate) fn line(self, alloc: Global, bytes: &[u8], ended: bool) -> Result<Taken, JobFault>
+        requires few { self.lines + 1 < 2 ^ 32 }
+        requires room { self.bytes + length bytes.now + 1 < 2 ^ 32 }
+        ensures next { IfOk result (λ t. IsNext self t (record { bytes = bytes.now; ended = ended })) }
+        ensures fault { IfErr result (IsFaultOf (step self.reader (record { bytes = bytes.now; ended = ended })) (self.lines + 1)) }
+    {
+        let Taken {
+            reader,
+            lines,
+            bytes: before,
+        } = self;
+        let size = if ended { bytes.len() + 1 } else { bytes.len() };
+        match reader.line(alloc, bytes, ended) {
+            Ok(reader) => Ok(Taken {
+                reader,
+                lines: lines + 1,
+                bytes: before + size,
+            }),
+            Err(LineRefused::Bad) => Err(JobFault::BadJob { line: lines + 1 }),
+            Err(LineRefused::TooLarge(what)) => Err(JobFault::TooLarge {
+                what,
+                line: lines + 1,
+            }),
+            Err(LineRefused::NoMemory) => Err(JobFault::NoMemory),
+        }
+    }
+
+    /// The job that all lines of an input spell.
+    pub(crate) fn finish(self) -> Result<ReadJob, JobFault>
+        requires ran { (bytes : List ℕ) × HasRun bytes self }
+        requires room { self.bytes + 1 < 2 ^ 32 }
+        ensures job { (bytes : List ℕ) → HasRun bytes self → IfOk result (IsRead bytes) }
+        ensures whole { (bytes : List ℕ) → HasRun bytes self → IfOk result (λ r. r.end ≡ length bytes) }
+        ensures only { (bytes : List ℕ) → HasRun bytes self → (n : ℕ) (job : JobView) → n ≤ length (lines_of bytes) → Spells (take n (lines_of bytes)) job → IsWithin job → IsOnly n job result }
+        ensures fault { (bytes : List ℕ) → HasRun bytes self → IfErr result (IsRefusal (lines_of bytes)) }
+    {
+        if self.reader.is_done() {
+            return Ok(ReadJob {
+                job: self.reader.finish(),
+                end: self.bytes,
+                lines: self.lines,
+            });
+        }
+        Err(JobFault::BadJob {
+            line: self.lines + 1,
+        })
+    }
+}

@@ -1,0 +1,180 @@
+"""Damaged input: of each command a small input, cut after each byte, and each byte changed to 00, FF and a blank.
+
+What must come of it is told by tests/model.py: the first bad line, field, listing or row, or the whole output. No such change makes
+another job that runs in another way: the bytes of the module and the cards of tasks are hexadecimal digits and numbers, which are
+bad with any of them in their place. So what the tasks do is worked out once, by hand, and only the places that a changed listing
+line leaves differ.
+"""
+from __future__ import annotations
+
+import os
+import subprocess
+from concurrent.futures import ThreadPoolExecutor
+from dataclasses import dataclass
+from typing import Callable, Iterator
+
+import model
+from harness import PROGRAM, SECONDS, Tally, equal
+from harness import run as run_command
+from jobs import COUNTED, FIRST, FIRST_RESULT, Program, Result
+from model import Refused
+
+# What a task shows that goes through the first job's three instructions.
+FIRST_FACTS = {0: 1, 4: 1, 6: 1}
+# The count begins with 2: it goes on once, and falls through; then the return is executed.
+TASK = "TASK A 100000 16 9 0\nREG 1 00000002\nDATA 0 C1\nINPUT C2\n"
+FACTS = {0: 6, 4: 1}
+# Each item with the line that tells of it.
+ITEMS = [
+    (b"FETCH A", b"FETCH A TAG 1 HALF 0AFF"), (b"MARK A", b"MARK A OLD -"), (b"DO A", b"DO A"),
+    (b"FETCH A", b"FETCH A TAG 1 HALF 0AFF"), (b"MARK A", b"MARK A OLD W"), (b"LIFT A", b"LIFT A TAKEN"), (b"GO A", b"GO A"),
+]
+END = b"ENDSCHED"
+OTHER = Program.of("0 1A11 AR, 2 07FE BR")
+FILE = COUNTED.marks_file(4, 1)
+# Where the fields of that file begin in version 1.
+FIELDS = (0, 8, 10, 18, 22, 26, 30, 34, 35, 36, 38, 39, 43, 44, 45, 47)
+
+
+@dataclass
+class Command:
+    """A command, its input, and what must come of an input."""
+
+    words: list[str]
+    input: bytes
+    model: Callable[[bytes], bytes]
+
+
+def job() -> bytes:
+    """A job whose first instruction line ends with CR and LF."""
+    return COUNTED.job(TASK).replace(b"BCT\n", b"BCT\r\n")
+
+
+def two_modules() -> bytes:
+    """A job of a module whose listing has print control characters, and of one that has none."""
+    listing = [f" {it}" for it in OTHER.listing()]
+    cards = ["COVERJOB 1", "MODULE MM 200000 4", "TEXT 1A11", "TEXT 07fe", f"LISTING {len(listing)}", *listing]
+    return "\n".join([*cards, "MODULE N 200008 2", "TEXT 07FE", "ENDJOB", ""]).encode()
+
+
+def listed(data: bytes, alone: bool) -> model.Job:
+    """The job of the bytes, its places found."""
+    it = model.job_of(data, alone)
+    model.read_listings(it)
+    return it
+
+
+def done(result: Result) -> bytes:
+    """A task's lines."""
+    return "\n".join(result.lines()).encode() + b"\n"
+
+
+def run(data: bytes) -> bytes:
+    (session,) = listed(data, True).sessions
+    return b"COVERAGE REPORT\n" + done(FIRST_RESULT) + model.session_part(*session, FIRST_FACTS) + b"END\n"
+
+
+def marks(data: bytes) -> bytes:
+    ((name, _, modules),) = listed(data, True).sessions
+    return model.session_file(name, modules, FACTS).data()
+
+
+def table(data: bytes) -> bytes:
+    return model.table_text(listed(data, True))
+
+
+def replay(data: bytes) -> bytes:
+    """The items up to the first that differs, or that fetches at a place that a damaged listing has no longer."""
+    it = listed(data, False)
+    lines = data[it.end :].split(b"\n")
+    lines = lines[:-1] if lines[-1] == b"" else lines
+    ((name, phase, modules),) = it.sessions
+    places = {place.location for place in modules[0].table()}
+    for number, line in enumerate(lines, it.lines + 1):
+        at = number - it.lines - 1
+        wanted = ITEMS[at][0] if at < len(ITEMS) else END
+        if at > len(ITEMS) or line != wanted or (line == b"FETCH A" and 0 not in places):
+            raise Refused(9, f"BAD SCHEDULE LINE {number}")
+    if len(lines) <= len(ITEMS):
+        raise Refused(9, f"BAD SCHEDULE LINE {it.lines + len(lines) + 1}")
+    events = b"".join(b"EVENT %d %s\n" % (at, event) for at, (_, event) in enumerate(ITEMS, 1))
+    part = model.session_part(name, phase, modules, FACTS)
+    return b"COVERAGE REPLAY\n" + events + done(Result("RETURNED", 3)) + part + b"END\n"
+
+
+def show(data: bytes) -> bytes:
+    it = listed(data, False)
+    ((name, phase, modules),) = it.sessions
+    rest = data[it.end :]
+    file = model.file_of(rest, 0)
+    if file.end < len(rest):
+        raise Refused(10, f"BAD MARKS OFFSET {file.end}")
+    model.compare(model.session_file(name, modules, {}), file)
+    places = [place for module in modules for place in module.table()]
+    facts = {place.location: bits for place, bits in zip(places, (it for it in file.sets if it is not None))}
+    return b"COVERAGE SHOW\n" + model.session_part(name, phase, modules, facts) + b"END\n"
+
+
+def commands() -> list[Command]:
+    """The six."""
+    items = b"".join(it + b"\n" for it, _ in ITEMS) + END + b"\n"
+    return [
+        Command(["run"], FIRST.job(), run),
+        Command(["marks", "S"], job(), marks),
+        Command(["table"], two_modules(), table),
+        Command(["replay"], job() + items, replay),
+        Command(["combine"], FILE + COUNTED.marks_file(2, 0, version=1), model.combined),
+        Command(["show", "S"], job() + COUNTED.marks_file(6, 1), show),
+    ]
+
+
+def damaged(data: bytes) -> Iterator[tuple[str, bytes]]:
+    """The input, its cuts, and its changes of a byte."""
+    yield "whole", data
+    for at in range(len(data)):
+        yield f"cut after {at} bytes", data[:at]
+        for other in (b"\x00", b"\xff", b" "):
+            if data[at : at + 1] != other:
+                yield f"byte {at} changed to {other.hex()}", data[:at] + other + data[at + 1 :]
+
+
+def fault_of(command: Command, name: str, data: bytes) -> str | None:
+    """What is wrong with what comes of an input."""
+    try:
+        status, output = 0, command.model(data)
+    except Refused as refused:
+        status, output = refused.answer
+    ran = subprocess.run([PROGRAM, *command.words], input=data, capture_output=True, timeout=SECONDS, check=False)
+    if (ran.returncode, ran.stdout, ran.stderr) == (status, output, b""):
+        return None
+    return f"{name}: status {ran.returncode}, and not {status}; {ran.stdout[-200:]!r}, and not {output[-200:]!r}; {ran.stderr[:200]!r}"
+
+
+def offsets() -> None:
+    """a marks file that is cut is refused at the field that the cut is in, and one with a changed byte at that byte's field"""
+    def refused(data: bytes, offset: int) -> None:
+        ran = run_command([PROGRAM, "combine"], data)
+        equal((ran.status, ran.output, ran.error), (10, b"BAD MARKS OFFSET %d\n" % offset, ""))
+
+    first_version = (COUNTED.marks_file(4, 1, version=1), FIELDS, ((0, 0, 0), (9, 0, 8), (38, 3, 38), (42, 2, 39)))
+    second = (FILE, [0, 8, 16, *(it + 12 for it in FIELDS[1:])], ((0, 0, 0), (21, 0, 20), (50, 3, 50), (54, 2, 51)))
+    for file, fields, changes in (first_version, second):
+        for size in range(len(file)):
+            refused(file[:size], max(it for it in fields if it <= size))
+        for at, byte, offset in changes:
+            refused(file[:at] + bytes([byte]) + file[at + 1 :], offset)
+
+
+CHECKS = [offsets]
+
+
+def run_all(tally: Tally) -> None:
+    """Tries each command with each damaged input, and prints how many that were."""
+    tried = []
+    with ThreadPoolExecutor(os.cpu_count()) as pool:
+        for command in commands():
+            inputs = list(damaged(command.input))
+            faults = [it for it in pool.map(lambda it: fault_of(command, *it), inputs) if it]
+            tally.note(f"damaged input of {command.words[0]}", f"{len(faults)} of {len(inputs)}, {faults[0]}" if faults else None)
+            tried.append(f"{command.words[0]} {len(inputs)}")
+    print(f"tests/command_line: damaged inputs: {', '.join(tried)}", flush=True)

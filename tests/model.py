@@ -1,0 +1,421 @@
+"""Which inputs the rules of docs/JOB.md, docs/LISTING.md and docs/MARKS.md allow, read again from these pages alone.
+
+It is slow and plain, knows of limits only that of a listing line, and runs no task: what the places have shown is given to it.
+"""
+from __future__ import annotations
+
+import re
+from dataclasses import dataclass, field
+from typing import NoReturn
+
+from harness import TOP
+
+NAME, NUMBER = rb"([A-Z@#$][A-Z0-9@#$]{0,7})", rb"(0|[1-9][0-9]{0,8})"
+ADDRESS, WORD, BYTES = rb"([0-9A-Fa-f]{6})", rb"([0-9A-Fa-f]{8})", rb"((?:[0-9A-Fa-f]{2}){1,64})"
+CARDS = {
+    b"COVERJOB": rb"COVERJOB (1)",
+    b"MODULE": rb"MODULE %s %s %s" % (NAME, ADDRESS, NUMBER),
+    b"TEXT": rb"TEXT %s" % BYTES,
+    b"LISTING": rb"LISTING %s" % NUMBER,
+    b"PHASE": rb"PHASE %s" % NAME,
+    b"SESSION": rb"SESSION %s((?: %s)+)" % (NAME, NAME),
+    b"TASK": rb"TASK %s %s %s %s %s" % (NAME, ADDRESS, NUMBER, NUMBER, NUMBER),
+    b"REG": rb"REG %s %s" % (NUMBER, WORD),
+    b"DATA": rb"DATA %s %s" % (NUMBER, BYTES),
+    b"INPUT": rb"INPUT %s" % BYTES,
+    b"ENDJOB": rb"(ENDJOB)",
+}
+HEADING = b"Loc  Object Code    Addr1 Addr2  Stmt   Source Statement".lower()
+EXTENDED = "B BR NOP NOPR BH BL BE BNH BNL BNE BO BP BM BNP BNM BNZ BZ BNO".split()
+MARKS = {0: "^", 1: ":", 2: ">", 4: "V", 6: "&"}
+
+
+class Refused(Exception):
+    """A status and its line."""
+
+    def __init__(self, status: int, line: str) -> None:
+        super().__init__(line)
+        self.answer = (status, f"{line}\n".encode())
+
+
+def mnemonics() -> set[bytes]:
+    """The names of docs/MACHINE.md's operations, and the extended ones."""
+    with open(f"{TOP}/docs/MACHINE.md", encoding="utf-8") as file:
+        rows = re.findall(r"^\| (?:[0-9A-F]{2} ?)+ \| ([A-Z ]+) \|", file.read(), re.M)
+    names = {name for it in rows for name in it.split()}
+    assert len(names) == 99, len(names)
+    names |= {*EXTENDED, *(f"{it}R" for it in EXTENDED[4:])}
+    return {it.encode() for it in names}
+
+
+MNEMONICS = mnemonics()
+
+
+@dataclass
+class Place:
+    """A place of a module."""
+
+    location: int
+    length: int
+    half: bytes
+
+    def kind(self) -> int:
+        return int(is_conditional(self.half))
+
+    def row(self) -> bytes:
+        return self.location.to_bytes(4, "big") + bytes([self.length, self.kind()]) + self.half
+
+
+@dataclass
+class Module:
+    """A module of a job; its listing as lines, or none."""
+
+    name: bytes
+    base: int
+    size: int
+    text: bytes = b""
+    listing: list[bytes] | None = None
+    # For each line of the listing its place, where it is one.
+    places: list[Place | None] = field(default_factory=list)
+
+    def table(self) -> list[Place]:
+        return sorted((it for it in self.places if it), key=lambda it: it.location)
+
+
+@dataclass
+class Job:
+    """A job, and how many bytes and lines its cards are."""
+
+    modules: list[Module] = field(default_factory=list)
+    phases: list[bytes] = field(default_factory=list)
+    # Of each session its name, its phase and its modules.
+    sessions: list[tuple[bytes, bytes, list[Module]]] = field(default_factory=list)
+    tasks: list[bytes] = field(default_factory=list)
+    end: int = 0
+    lines: int = 0
+
+
+def is_conditional(half: bytes) -> bool:
+    """Whether an instruction that begins so is a conditional branch."""
+    mask, second = half[1] >> 4, half[1] & 15
+    if half[0] in (0x47, 0x07):
+        return 1 <= mask <= 14 and (half[0] == 0x47 or second != 0)
+    return half[0] in (0x46, 0x86, 0x87) or (half[0] == 0x06 and second != 0)
+
+
+def length_of(first: int) -> int:
+    """How many bytes an instruction has that begins with this one."""
+    return (2, 4, 4, 6)[first >> 6]
+
+
+class Reader:
+    """The lines of an input, card by card."""
+
+    def __init__(self, data: bytes) -> None:
+        self.data, self.at, self.number, self.job = data, 0, 0, Job()
+
+    def line(self) -> tuple[bytes, bool]:
+        """The next line, and whether it ends with LF."""
+        self.number += 1
+        if self.at == len(self.data):
+            self.bad()
+        text, end, _ = self.data[self.at :].partition(b"\n")
+        self.at += len(text) + len(end)
+        return text, bool(end)
+
+    def bad(self) -> NoReturn:
+        raise Refused(2, f"BAD JOB LINE {self.number}")
+
+    def need(self, holds: bool) -> None:
+        if not holds:
+            self.bad()
+
+    def card(self, *kinds: bytes) -> tuple[bytes, list[bytes]]:
+        """The next card, which must be of one of the kinds: its kind and its fields."""
+        text, _ = self.line()
+        for kind in kinds:
+            found = re.fullmatch(CARDS[kind], text)
+            if found:
+                return kind, list(found.groups())
+        self.bad()
+
+    def read(self) -> Job:
+        """Reads a job to its ENDJOB line."""
+        self.card(b"COVERJOB")
+        kind, fields = self.card(b"MODULE", b"PHASE", b"ENDJOB")
+        while kind == b"MODULE":
+            kind, fields = self.module(fields)
+        while kind == b"PHASE":
+            kind, fields = self.phase(fields[0])
+        self.job.end, self.job.lines = self.at, self.number
+        return self.job
+
+    def module(self, fields: list[bytes]) -> tuple[bytes, list[bytes]]:
+        """A module with its text and its listing; answers the card behind it."""
+        it = Module(fields[0], int(fields[1], 16), int(fields[2]))
+        self.need(it.base % 8 == 0 and it.base >= 0x100000 and it.size % 2 == 0 and it.size >= 2)
+        self.need(it.base + it.size <= 0xFFF000)
+        for other in self.job.modules:
+            self.need(it.name != other.name and not overlap(it.base, it.size, other.base, other.size))
+        self.job.modules.append(it)
+        while len(it.text) < it.size:
+            it.text += bytes.fromhex(self.card(b"TEXT")[1][0].decode())
+            self.need(len(it.text) <= it.size)
+        kind, fields = self.card(b"LISTING", b"MODULE", b"PHASE", b"ENDJOB")
+        if kind == b"LISTING":
+            it.listing = [self.listing_line() for _ in range(int(fields[0]))]
+            kind, fields = self.card(b"MODULE", b"PHASE", b"ENDJOB")
+        return kind, fields
+
+    def listing_line(self) -> bytes:
+        text, ended = self.line()
+        if ended and text.endswith(b"\r"):
+            text = text[:-1]
+        if len(text) > 150:
+            raise Refused(4, f"TOO LARGE LINE LINE {self.number}")
+        return text
+
+    def phase(self, name: bytes) -> tuple[bytes, list[bytes]]:
+        """A phase with its sessions and tasks; answers the card behind it."""
+        self.need(name not in self.job.phases)
+        self.job.phases.append(name)
+        named: list[bytes] = []
+        kind, fields = self.card(b"SESSION", b"TASK", b"PHASE", b"ENDJOB")
+        while kind == b"SESSION":
+            modules = fields[1].split()
+            self.need(all(fields[0] != it for it, _, _ in self.job.sessions))
+            self.need(len(set(named + modules)) == len(named + modules))
+            named += modules
+            known = {it.name: it for it in self.job.modules}
+            self.need(all(it in known for it in modules))
+            self.job.sessions.append((fields[0], name, [known[it] for it in modules]))
+            kind, fields = self.card(b"SESSION", b"TASK", b"PHASE", b"ENDJOB")
+        while kind == b"TASK":
+            kind, fields = self.task(fields)
+        return kind, fields
+
+    def task(self, fields: list[bytes]) -> tuple[bytes, list[bytes]]:
+        """A task with its cards; answers the card behind it."""
+        private, budget = int(fields[2]), int(fields[3])
+        self.need(fields[0] not in self.job.tasks and budget >= 1)
+        self.job.tasks.append(fields[0])
+        after, last = [b"REG", b"DATA", b"INPUT", b"TASK", b"PHASE", b"ENDJOB"], -1
+        while True:
+            kind, fields = self.card(*after)
+            if kind == b"REG":
+                self.need(last < int(fields[0]) <= 15)
+                last = int(fields[0])
+            elif kind == b"DATA":
+                self.need(int(fields[0]) + len(fields[1]) // 2 <= private)
+            elif kind != b"INPUT":
+                return kind, fields
+            after = after[after.index(kind) :]
+
+
+def overlap(base: int, size: int, other: int, its: int) -> bool:
+    """Whether two ranges of bytes share one."""
+    return base < other + its and other < base + size
+
+
+def job_of(data: bytes, alone: bool) -> Job:
+    """The job that the first lines spell, or all lines, with the places of its listings."""
+    reader = Reader(data)
+    job = reader.read()
+    if alone and job.end < len(data):
+        raise Refused(2, f"BAD JOB LINE {job.lines + 1}")
+    return job
+
+
+def read_listings(job: Job) -> None:
+    """Finds the places of all modules, or the first fault."""
+    for it in job.modules:
+        if it.listing is not None:
+            it.places = places_of(it, it.listing)
+
+
+def places_of(module: Module, listing: list[bytes]) -> list[Place | None]:
+    """The place of each line. The faults behind OBJECT can't come of a change to blank, 00 or FF, and mustn't."""
+    name = module.name.decode()
+    heads = [at for at, it in enumerate(listing) if HEADING in (it[2:58].lower(), it[3:59].lower())]
+    if not heads:
+        raise Refused(12, f"BAD LISTING {name} LINE 0 HEADING")
+    shift = int(listing[heads[0]][2:58].lower() != HEADING)
+    places: list[Place | None] = [None] * (heads[0] + 1)
+    for number, line in enumerate(listing[heads[0] + 1 :], heads[0] + 2):
+        code = object_code(line[shift:].ljust(150))
+        if code == b"":
+            raise Refused(12, f"BAD LISTING {name} LINE {number} OBJECT")
+        place = None
+        if code:
+            place = Place(int(line[shift : shift + 6], 16), len(code), code[:2])
+            assert code == module.text[place.location : place.location + place.length], "a listing that doesn't match"
+        places.append(place)
+    return places
+
+
+def object_code(line: bytes) -> bytes | None:
+    """The bytes of an instruction line; empty where they are bad, and none of a text line."""
+    if not re.fullmatch(rb"[0-9A-Fa-f]{6} ", line[:7]) or operation(line) not in MNEMONICS or not line[7:21].strip(b" "):
+        return None
+    found = re.fullmatch(rb"([0-9A-Fa-f]{4}(?: [0-9A-Fa-f]{4}){0,2}) *", line[7:21])
+    code = bytes.fromhex(found[1].decode()) if found else b""
+    return code if code and len(code) == length_of(code[0]) else b""
+
+
+def operation(line: bytes) -> bytes | None:
+    """The operation of a statement from column 41 on."""
+    source = line[40:]
+    if source[:1] == b"*":
+        return None
+    runs = [it for it in source.split(b" ") if it]
+    at = 0 if source[:1] == b" " else 1
+    return runs[at].upper() if len(runs) > at else None
+
+
+@dataclass
+class File:
+    """The rows of a marks file's table, and the set of each row that is a place's; where the file ends, its session and runs."""
+
+    rows: list[bytes]
+    sets: list[int | None]
+    end: int = 0
+    session: bytes = b" " * 8
+    runs: int = 1
+
+    def data(self) -> bytes:
+        modules = sum(len(it) == 20 for it in self.rows)
+        parts = [row if it is None else row + bytes([it]) for row, it in zip(self.rows, self.sets)]
+        head = b"S370COV2" + self.session + self.runs.to_bytes(4, "big")
+        return head + modules.to_bytes(2, "big") + b"".join(parts)
+
+
+def file_of(data: bytes, start: int) -> File:
+    """The marks file that begins there."""
+    at = start
+
+    def take(size: int) -> bytes:
+        nonlocal at
+        need(at + size <= len(data))
+        at += size
+        return data[at - size : at]
+
+    def need(holds: bool, size: int = 0) -> None:
+        if not holds:
+            raise Refused(10, f"BAD MARKS OFFSET {at - size}")
+
+    session, runs = b" " * 8, 1
+    magic = take(8)
+    need(magic in (b"S370COV1", b"S370COV2"), 8)
+    if magic == b"S370COV2":
+        session = take(8)
+        need(session == b" " * 8 or re.fullmatch(NAME, session.rstrip(b" ")) is not None, 8)
+        runs = int.from_bytes(take(4), "big")
+        need(runs >= 1, 4)
+    count = int.from_bytes(take(2), "big")
+    need(1 <= count <= 16, 2)
+    rows: list[bytes] = []
+    sets: list[int | None] = []
+    bases: list[tuple[int, int]] = []
+    names: list[bytes] = []
+    for _ in range(count):
+        name = take(8)
+        need(re.fullmatch(NAME, name.rstrip(b" ")) is not None and name not in names, 8)
+        base = int.from_bytes(take(4), "big")
+        need(base % 8 == 0 and 0x100000 <= base <= 0xFFEFF8, 4)
+        size = int.from_bytes(take(4), "big")
+        need(size % 2 == 0 and 2 <= size <= 262_144 and base + size <= 0xFFF000, 4)
+        need(not any(overlap(base, size, *it) for it in bases), 4)
+        places = int.from_bytes(take(4), "big")
+        need(places + sum(len(it) == 8 for it in rows) <= 65_536, 4)
+        names.append(name)
+        bases.append((base, size))
+        rows.append(data[at - 20 : at])
+        sets.append(None)
+        last = 0
+        for _ in range(places):
+            location = int.from_bytes(take(4), "big")
+            need(location % 2 == 0 and last <= location < size, 4)
+            length = take(1)[0]
+            need(length in (2, 4, 6) and location + length <= size, 1)
+            kind = take(1)[0]
+            need(kind <= 1, 1)
+            half = take(2)
+            need(length_of(half[0]) == length and is_conditional(half) == bool(kind) and half != b"\x0a\xff", 2)
+            bits = take(1)[0]
+            need(bits in ((0, 2, 4, 6) if kind else (0, 1)), 1)
+            rows.append(data[at - 9 : at - 1])
+            sets.append(bits)
+            last = location + length
+    return File(rows, sets, at, session, runs)
+
+
+def compare(left: File, right: File) -> None:
+    """Refuses files of other tables by the first row in which they differ."""
+    for at in range(max(len(left.rows), len(right.rows))):
+        one, other = (it.rows[at].hex().upper() if at < len(it.rows) else "-" for it in (left, right))
+        if one != other:
+            raise Refused(11, f"OTHER TABLE ROW {at} LEFT {one} RIGHT {other}")
+
+
+def combined(data: bytes) -> bytes:
+    """The file of the union of the files that the bytes are."""
+    first = file_of(data, 0)
+    end = first.end
+    while end < len(data):
+        other = file_of(data, end)
+        compare(first, other)
+        first.sets = [None if a is None or b is None else a | b for a, b in zip(first.sets, other.sets)]
+        first.runs = min(first.runs + other.runs, 0xFFFF_FFFF)
+        end = other.end
+    return first.data()
+
+
+def session_file(name: bytes, modules: list[Module], facts: dict[int, int]) -> File:
+    """The marks of a session's modules, of which a place at a location has these facts, after one run."""
+    rows: list[bytes] = []
+    sets: list[int | None] = []
+    for it in modules:
+        table = it.table()
+        numbers = b"".join(n.to_bytes(4, "big") for n in (it.base, it.size, len(table)))
+        rows += [it.name.ljust(8) + numbers, *(place.row() for place in table)]
+        sets += [None, *(facts.get(place.location, 0) for place in table)]
+    return File(rows, sets, session=name.ljust(8))
+
+
+def session_part(name: bytes, phase: bytes, modules: list[Module], facts: dict[int, int]) -> bytes:
+    """A session's part of a report."""
+    lines = [b"SESSION %s PHASE %s" % (name, phase)]
+    for it in modules:
+        table = it.table()
+        sets = [facts.get(place.location, 0) for place in table]
+        counts = (len(table), sum(bits > 0 for bits in sets), sum(bits.bit_count() for bits in sets))
+        possible = sum(1 + place.kind() for place in table)
+        lines.append(b"MODULE %s PLACES %d EXECUTED %d FACTS %d OF %d" % (it.name, *counts, possible))
+        for line, place in zip(it.listing or [], it.places):
+            mark = MARKS[facts.get(place.location, 0)] if place else " "
+            lines.append(mark.encode() + b" " + line)
+        lines += not_executed(table, sets)
+    return b"".join(it + b"\n" for it in lines)
+
+
+def not_executed(table: list[Place], sets: list[int]) -> list[bytes]:
+    """The line of each longest run of places without a fact."""
+    lines, begun = [], None
+    for at, place in enumerate(table):
+        begun = place if begun is None and not sets[at] else begun
+        if begun and not sets[at] and (at + 1 == len(table) or sets[at + 1]):
+            lines.append(b"NOT EXECUTED %06X-%06X" % (begun.location, place.location + place.length - 1))
+            begun = None
+    return lines
+
+
+def table_text(job: Job) -> bytes:
+    """What `table` writes."""
+    lines = [b"COVERAGE TABLE"]
+    for it in job.modules:
+        if it.listing is not None:
+            lines.append(b"MODULE %s PLACES %d" % (it.name, len(it.table())))
+            for place in it.table():
+                kind, half = b"SC"[place.kind() :][:1], place.half.hex().upper().encode()
+                lines.append(b"PLACE %06X %d %s %s" % (place.location, place.length, kind, half))
+    return b"\n".join([*lines, b"END", b""])

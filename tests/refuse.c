@@ -1,0 +1,92 @@
+/* Loaded before a program (LD_PRELOAD), refuses it one growth of its memory, or all from one on, and tells what it has seen.
+
+   Only calls from the program's own code count, and not those of the C library. COVERAGE_REFUSE has the number of the growth,
+   from 1, or 0 for none; COVERAGE_REFUSE_ALL, where it is there, refuses the later ones too; COVERAGE_SEEN names the file that the
+   numbers are written to. */
+#define _GNU_SOURCE
+#include <dlfcn.h>
+#include <link.h>
+#include <pthread.h>
+#include <stdio.h>
+#include <stdlib.h>
+#include <sys/syscall.h>
+#include <unistd.h>
+
+extern void *__libc_malloc(size_t);
+extern void *__libc_realloc(void *, size_t);
+extern void __libc_free(void *);
+
+static char *low, *high;
+static long refused, every, growths, kept, elsewhere, threads, threads_at[64];
+static pthread_t first;
+
+static int note_program(struct dl_phdr_info *info, size_t size, void *data) {
+  (void)size, (void)data;
+  for (int i = 0; i < info->dlpi_phnum; i++) {
+    const ElfW(Phdr) *it = &info->dlpi_phdr[i];
+    if (it->p_type == PT_LOAD && (it->p_flags & PF_X)) {
+      low = (char *)info->dlpi_addr + it->p_vaddr;
+      high = low + it->p_memsz;
+    }
+  }
+  return 1; /* the first is the program */
+}
+
+__attribute__((constructor)) static void begin(void) {
+  const char *number = getenv("COVERAGE_REFUSE");
+  refused = number ? atol(number) : 0;
+  every = getenv("COVERAGE_REFUSE_ALL") != NULL;
+  first = pthread_self();
+  dl_iterate_phdr(note_program, NULL);
+}
+
+static int is_own(void *caller) { return low <= (char *)caller && (char *)caller < high; }
+
+/* Whether this growth is refused. */
+static int is_refused(void) {
+  long number = __atomic_add_fetch(&growths, 1, __ATOMIC_SEQ_CST);
+  if (!pthread_equal(pthread_self(), first)) __atomic_add_fetch(&elsewhere, 1, __ATOMIC_SEQ_CST);
+  return refused && (every ? number >= refused : number == refused);
+}
+
+void *malloc(size_t size) {
+  if (!is_own(__builtin_return_address(0))) return __libc_malloc(size);
+  if (is_refused()) return NULL;
+  void *it = __libc_malloc(size);
+  if (it) __atomic_add_fetch(&kept, 1, __ATOMIC_SEQ_CST);
+  return it;
+}
+
+void *realloc(void *old, size_t size) {
+  if (!is_own(__builtin_return_address(0))) return __libc_realloc(old, size);
+  if (is_refused()) return NULL;
+  void *it = __libc_realloc(old, size);
+  if (it && !old) __atomic_add_fetch(&kept, 1, __ATOMIC_SEQ_CST);
+  return it;
+}
+
+void free(void *it) {
+  if (it && is_own(__builtin_return_address(0))) __atomic_sub_fetch(&kept, 1, __ATOMIC_SEQ_CST);
+  __libc_free(it);
+}
+
+int pthread_create(pthread_t *thread, const pthread_attr_t *attributes, void *(*start)(void *), void *argument) {
+  static int (*next)(pthread_t *, const pthread_attr_t *, void *(*)(void *), void *);
+  if (!next) next = (int (*)(pthread_t *, const pthread_attr_t *, void *(*)(void *), void *))dlsym(RTLD_NEXT, "pthread_create");
+  long number = __atomic_fetch_add(&threads, 1, __ATOMIC_SEQ_CST);
+  if (number < 64) threads_at[number] = growths;
+  return next(thread, attributes, start, argument);
+}
+
+/* The program's end: writes the growths, those on another thread than the first, the blocks that weren't given back, the threads
+   that began, and for each of these the growths before it. */
+__attribute__((noreturn)) void _exit(int status) {
+  const char *name = getenv("COVERAGE_SEEN");
+  FILE *file = name ? fopen(name, "w") : NULL;
+  if (!file) abort();
+  fprintf(file, "%ld %ld %ld %ld", growths, elsewhere, kept, threads);
+  for (long at = 0; at < threads && at < 64; at++) fprintf(file, " %ld", threads_at[at]);
+  fclose(file);
+  syscall(SYS_exit_group, status);
+  __builtin_unreachable();
+}
