@@ -6,5 +6,5 @@ use Rattle.session_marks.proofs.file_tests.tables.Goals as goal
 
 pub of-requires-clause-places : goal.of-requires-clause-places
 of-requires-clause-places c =
-    let is : c.in_ok-vec-5.field-0.items ≡ sample_tables = search rules in
+    let is : c.in_ok-vec-3.field-0.items ≡ sample_tables = search rules in
     subst (λ (ts : List TableView). ArePlaces (all_places ts)) (sym is) sample_are_places
