@@ -232,8 +232,7 @@ pub(crate) fn closed(part: Part, job: Draft) -> Result<Option<Draft>, NoMemory>
     ensures room { IfOk result (λ o. IfSome o (machine.HasRoom kind.Modules)) }
 {
     match part {
-        Part::Sessions => Ok(Some(job)),
-        Part::Task(task) => Ok(Some(put_task(job, task.task)?)),
-        part => closed_module(part, job),
+        Part::Sessions | Part::Task(_) => closed_task(part, job),
+        _ => closed_module(part, job),
     }
 }
