@@ -27,7 +27,7 @@ piece_given xs got buf at n fits e =
     let front : take n (got ++ drop n buf) ≡ take n (drop at xs) = rw (take-append-le n got (drop n buf) (omega (arith, size)), e, same) (take-take n n (drop at xs) (omega arith)) in
     rw (front, ← drop-drop n at xs) (sym (take-append-drop n (drop at xs)))
 
-consumes-trans : (a b c : Option (List ℕ)) (xs ys : List ℕ) → Consumes a b xs → Consumes b c ys → Consumes a c (xs ++ ys)
+pub consumes-trans : (a b c : Option (List ℕ)) (xs ys : List ℕ) → Consumes a b xs → Consumes b c ys → Consumes a c (xs ++ ys)
 consumes-trans None b c xs ys h k = tt
 consumes-trans (Some x) None c xs ys h k = absurd h
 consumes-trans (Some x) (Some y) None xs ys h k = k

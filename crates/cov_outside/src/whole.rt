@@ -1,5 +1,6 @@
 //! Whole inputs and whole texts.
-ghost use Rattle.std.specs.Prelude.{◌≡◌, ◌<◌, ◌≤◌, ◌^◌, length, IfOk, OnOk, OnErr, IsErrOf};
+ghost use Rattle.std.specs.Prelude.{◌≡◌, ◌<◌, ◌≤◌, ◌^◌, length, take, IfOk, OnOk, OnErr, IsErrOf};
+ghost use Rattle.std.specs.Io.KnownBytes.{Consumes, IsAtEnd};
 ghost use Rattle.cov_outside.specs.Causes.{Rose};
 ghost use Rattle.cov_outside.specs.Whole.{IsWhole, HasMoreThan, HasAtMost, ConsumesSome};
 ghost use Rattle.cov_outside.specs.Writes.{Writes};
@@ -40,6 +41,33 @@ impl From<AllocError> for ReadFault {
     }
 }
 
+/// Reads the next bytes of an input into the front of the buffer, and answers with how many; with 0 only at its end. TooLarge
+/// where more than `room` come; a fault that comes after the first byte past them is not met.
+pub fn read_piece<S: Source>(
+    source: &mut S,
+    buffer: &mut [u8],
+    room: usize,
+) -> Result<usize, ReadFault>
+    requires { 0 < length buffer.old }
+    ensures bytes { IfOk result (λ n. Consumes (S.left source.old) (S.left source.new) (take n buffer.new)) }
+    ensures end { IfOk result (λ n. n ≡ 0 → IsAtEnd (S.left source.new)) }
+    ensures bound { IfOk result (λ n. n ≤ length buffer.new) }
+    ensures within { IfOk result (λ n. n ≤ room) }
+    ensures rest { OnErr result (ConsumesSome (S.left source.old) (S.left source.new)) }
+    ensures large { IsErrOf result ReadFault.TooLarge → HasMoreThan (S.left source.old) room }
+    ensures failed { IsErrOf result ReadFault.Failed → Rose (S.faults source.old) (S.faults source.new) }
+    ensures no_memory { IsErrOf result ReadFault.NoMemory → ⊥ }
+    ensures no_fault { OnOk result (S.faults source.new ≡ S.faults source.old) }
+    ensures no_fault_large { IsErrOf result ReadFault.TooLarge → S.faults source.new ≡ S.faults source.old }
+    ensures later { S.faults source.old ≤ S.faults source.new }
+{
+    let count = source.read(buffer)?;
+    if count > room {
+        return Err(ReadFault::TooLarge);
+    }
+    Ok(count)
+}
+
 /// Reads a source to its end, with one more read to tell the end. TooLarge where more than `limit` bytes
 /// were left, as soon as the first past the limit comes; a fault that comes after that byte is not met.
 pub fn read_all<S: Source>(
@@ -62,14 +90,11 @@ pub fn read_all<S: Source>(
     let mut all = Vec::new(alloc);
     let mut piece = [0u8; 4096];
     for _turn in 0..limit + 1 {
-        let count = source.read(&mut piece)?;
+        let count = read_piece(source, &mut piece, limit - all.len())?;
         if count == 0 {
             return Ok(all);
         }
         all.extend_from_slice(&piece[..count])?;
-        if all.len() > limit {
-            return Err(ReadFault::TooLarge);
-        }
     }
     Err(ReadFault::TooLarge)
 }

@@ -123,13 +123,9 @@ ReadsOnly bytes result = (n : ℕ) (job : JobView) → n ≤ length (lines_of by
 pub first_none : (bytes : List ℕ) (e : JobFault) → ReadsOnly bytes (Err e) → (n : ℕ) → e ≡ fault.BadJob n → (j : JobView) → HasJob true (lines_of bytes) j → ⊥
 first_none bytes e only n q j has = let wanting : e ≡ fault.NoMemory = only has.count j has.inside has.spells has.within in absurd cc
 
-pub first_jobless : (bytes : List ℕ) (r : Result ReadJob JobFault) → ReadsOnly bytes r → IfErr r (λ e. (n : ℕ) → e ≡ fault.BadJob n → (j : JobView) → HasJob true (lines_of bytes) j → ⊥)
-first_jobless bytes (Ok v) only = tt
-first_jobless bytes (Err e) only = first_none bytes e only
-
-pub whole_jobless_all : (bytes : List ℕ) (r : Result ReadJob JobFault) → IfErr r (IsRefusal (lines_of bytes)) → IfErr r (λ e. (n : ℕ) → e ≡ fault.BadJob n → (j : JobView) → HasJob false (lines_of bytes) j → ⊥)
-whole_jobless_all bytes (Ok v) bad = tt
-whole_jobless_all bytes (Err e) bad = whole_none (lines_of bytes) e bad
+pub none_by : (more : Bool) (bytes : List ℕ) (e : JobFault) → ReadsOnly bytes (Err e) → IsRefusal (lines_of bytes) e → (n : ℕ) → e ≡ fault.BadJob n → (j : JobView) → HasJob more (lines_of bytes) j → ⊥
+none_by true bytes e only bad = first_none bytes e only
+none_by false bytes e only bad = whole_none (lines_of bytes) e bad
 
 -- by the reader's fault
 pub unread : (more : Bool) (name : Option (List ℕ)) (s : SourceChange) (bytes : List ℕ) (e : JobFault) → CameWhole s bytes → IsRefusal (lines_of bytes) e → ((n : ℕ) → e ≡ fault.BadJob n → (j : JobView) → HasJob more (lines_of bytes) j → ⊥) →
@@ -152,10 +148,6 @@ read_is more s bytes r came read whole =
       counts = refl;
       parted = record { inside = read.inside; before = sym first; behind = sym behind };
     }
-
--- it came
-pub first_came : (more : Bool) (s : SourceChange) (bytes : List ℕ) (r : ReadJob) → CameFirst more s r.job bytes r.lines r.end → CameJob more s r.job
-first_came more s bytes r c = record { bytes = bytes; came = c.came; has = c.has }
 
 -- by the first fault of the job's listings
 pub unmatched : (more : Bool) (name : Option (List ℕ)) (s : SourceChange) (j : JobView) (r : Refused) → CameJob more s j → HasNamed name j → IsRefused (job_refusal j) r → IsStopped true more name s (refused_refusal r).status (refused_refusal r).line

@@ -1,5 +1,6 @@
 -- What a whole input's size says of its lines.
-use Rattle.std.proofs.Common.{◌≡◌, ◌≤◌, ℕ, ◌+◌, Option, Some, None, List, length, length-append, take, drop, get_or, ap, ◌∙◌, arith, All}
+use Rattle.std.proofs.Common.{◌≡◌, ◌≤◌, ℕ, ◌+◌, ◌-◌, Option, Some, None, List, length, length-append, length-drop, take, drop, get_or, ap, ◌∙◌, arith, All}
+use Rattle.std.proofs.lemmas.List.{length-take-le}
 use Rattle.session_book.specs.JobView.{JobView}
 use Rattle.job_text.specs.Lines.{LineView, lines_of}
 use Rattle.job_text.specs.Refusals.{IsRead}
@@ -24,7 +25,9 @@ few_first bytes r most read =
     let size : length (lines_of bytes) ≡ length (lines_of (take r.end bytes)) + length (lines_of (drop r.end bytes)) = ap length read.parted ∙ length-append (lines_of (take r.end bytes)) (lines_of (drop r.end bytes)) in
     few_of (lines_of (take r.end bytes)) r.job (omega (arith, size, most, lines_count bytes)) read.spells
 
-pub count_most : (bytes : List ℕ) (r : ReadJob) → IsRead bytes r → r.lines ≤ length bytes
-count_most bytes r read =
-    let size : length (lines_of bytes) ≡ length (lines_of (take r.end bytes)) + length (lines_of (drop r.end bytes)) = ap length read.parted ∙ length-append (lines_of (take r.end bytes)) (lines_of (drop r.end bytes)) in
-    omega (arith, size, read.count, lines_count bytes)
+-- the lines of the job, and the bytes behind it, are no more than all bytes
+pub behind_few : (bytes : List ℕ) (r : ReadJob) (rest : List ℕ) → length bytes ≤ 16777216 → IsRead bytes r → rest ≡ drop r.end bytes → r.lines + length rest ≤ 16777216
+behind_few bytes r rest most read behind =
+    let front : length (take r.end bytes) ≡ r.end = length-take-le r.end bytes read.inside in
+    let back : length rest ≡ length bytes - r.end = ap length behind ∙ length-drop r.end bytes in
+    omega (arith, front, back, most, read.inside, read.count, lines_count (take r.end bytes))

@@ -1,6 +1,7 @@
 pub mod AnswerLemmas
 pub mod CompleteLemmas
 pub mod FileLemmas
+pub mod IncomingLemmas
 pub mod InputLemmas
 pub mod OneTables
 pub mod ReplayLemmas

@@ -3,6 +3,8 @@ use Rattle.std.specs.Prelude.{◌≡◌, ◌⊎◌, ℕ, ◌≤◌, Bool, true, 
 use Rattle.std.specs.Io.KnownBytes.{Appends}
 use Rattle.cov_outside.specs.Causes.{Rose}
 use Rattle.cov_outside.specs.Whole.{HasMoreThan, AppendsSome}
+use Rattle.cov_outside.specs.declared.whole.ReadFault.{ReadFault as InputFault}
+use Rattle.cov_outside.specs.declared.whole.ReadFault.TheVariants as read
 use Rattle.brk_table.specs.Places.{TablesView, all_places}
 use Rattle.session_book.specs.JobView.{JobView}
 use Rattle.job_text.specs.declared.jobs.JobFault.{JobFault}
@@ -32,6 +34,12 @@ abbrev pub fault_refusal : JobFault → RefusalView
 fault_refusal (fault.BadJob n) = refusal 2 (bad_job_line n)
 fault_refusal (fault.TooLarge what n) = refusal 4 (large_job_line what n)
 fault_refusal fault.NoMemory = refusal 7 no_memory_line
+
+-- how an input that wasn't read whole is told
+abbrev pub read_refusal : InputFault → RefusalView
+read_refusal read.Failed = refusal 5 read_fault_line
+read_refusal read.TooLarge = refusal 4 too_large_input_line
+read_refusal read.NoMemory = refusal 7 no_memory_line
 
 -- the report of a job whose listings match
 pub record IsReport (s : SourceChange) (a : AreasChange) (text : List ℕ) : Type 0 where

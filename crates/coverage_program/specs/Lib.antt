@@ -5,6 +5,7 @@ pub mod Refusals
 pub mod Refused
 pub mod Reports
 pub mod Words
+pub mod Incoming
 pub mod Inputs
 pub mod Named
 pub mod Files

@@ -1,8 +1,9 @@
 //! The program over any source, sink and areas.
-ghost use Rattle.std.specs.Prelude.{◌≡◌, ◌+◌, ◌<◌, ◌^◌, ℕ, List, ◌≤◌, false, true, Some, All, map, length, drop, string_bytes};
+ghost use Rattle.std.specs.Prelude.{◌≡◌, ◌+◌, ◌<◌, ◌^◌, ℕ, List, ◌≤◌, false, true, Some, All, map, length, string_bytes};
 ghost use Rattle.brk_table.specs.Places.{IsIn, all_places};
 ghost use Rattle.coverage_program.specs.Answers.{Answers};
-ghost use Rattle.coverage_program.specs.Inputs.{CameJob, CameFirst};
+ghost use Rattle.coverage_program.specs.Incoming.{CameWith};
+ghost use Rattle.coverage_program.specs.Inputs.{CameJob};
 ghost use Rattle.coverage_program.specs.Changes.{SourceChange, source_change, sink_change, areas_change, no_change};
 ghost use Rattle.coverage_program.specs.Complete.{IsComplete};
 ghost use Rattle.brk_table.specs.Together.{AreTables};
@@ -171,7 +172,7 @@ fn answer_schedule<K: Sink>(
     requires numbered { tables.now.places ≡ all_places tables.now.tables }
     requires places { All (IsIn job.now.images) tables.now.places }
     requires numbers { lines + 1 + length schedule.now < 2 ^ 32 }
-    ensures { (s : SourceChange) (a : Account) (bytes : List ℕ) (end : ℕ) → CameFirst true s job.now bytes lines end → schedule.now ≡ drop end bytes →
+    ensures { (s : SourceChange) (a : Account) → CameWith true s job.now lines schedule.now →
         Answers Command.Replay s (no_change a) (sink_change K.written K.faults sink.old sink.new) result.0 }
 {
     let replayed = match replay(alloc, job, tables, lines, schedule) {
@@ -190,8 +191,7 @@ fn answer_replay<S: Source, K: Sink>(alloc: Global, source: &mut S, sink: &mut K
         Ok(read) => read,
         Err(refusal) => return told(sink, &refusal.line, refusal.status),
     };
-    let schedule = &read.input[read.end..];
-    answer_schedule(alloc, &read.job, &read.tables, read.lines, schedule, sink)
+    answer_schedule(alloc, &read.job, &read.tables, read.lines, &read.rest, sink)
 }
 
 /// Answers the commands that need no areas; all others are usage.

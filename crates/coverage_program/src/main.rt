@@ -3,6 +3,7 @@
 
 mod combining;
 mod cover;
+mod incoming;
 mod lines;
 mod named;
 mod ready;

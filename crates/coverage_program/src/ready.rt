@@ -1,18 +1,17 @@
 //! The job that a source gives, and the tables of its listings.
-ghost use Rattle.std.specs.Prelude.{◌≡◌, ◌≤◌, ◌<◌, ℕ, Bool, true, false, Option, Some, None, List, length, IfOk, IfErr, All};
+ghost use Rattle.std.specs.Prelude.{◌≡◌, ◌≤◌, ◌<◌, ◌+◌, ℕ, Bool, true, false, Option, Some, None, List, length, IfOk, IfErr, All};
 ghost use Rattle.brk_table.specs.Places.{IsIn, all_places};
 ghost use Rattle.brk_table.specs.Together.{AreTables};
-ghost use Rattle.job_text.specs.Lines.{lines_of};
-ghost use Rattle.job_text.specs.Refusals.{IsRead, IsRefusal};
-ghost use Rattle.session_book.specs.JobView.{JobView};
 ghost use Rattle.report_text.specs.Conditions.{HasFewLines};
-ghost use Rattle.coverage_program.specs.Answers.{IsStopped, fault_refusal};
-ghost use Rattle.coverage_program.specs.Inputs.{HasJob, CameWhole, CameJob, CameFirst};
+ghost use Rattle.coverage_program.specs.Answers.{IsStopped, fault_refusal, read_refusal};
+ghost use Rattle.coverage_program.specs.Incoming.{HasCome, CameWith};
+ghost use Rattle.coverage_program.specs.Inputs.{CameWhole, CameJob};
 ghost use Rattle.coverage_program.specs.Changes.{SourceChange, source_change};
 ghost use Rattle.coverage_program.specs.Named.{HasNamed, session_number};
 ghost use Rattle.coverage_program.specs.Refusals.{job_refusal, Match};
 ghost use Rattle.coverage_program.specs.Refused.{IsRefused, refused_refusal};
 
+use crate::incoming::Incoming;
 use crate::lines::{NO_MEMORY, READ_FAULT, TOO_LARGE_INPUT, bad_job_line, large_job_line};
 use crate::named::named_session;
 use crate::refusals::{Refusal, plain_refusal};
@@ -20,18 +19,28 @@ use crate::tables::{Refused, tables_of};
 use brk_table::Tables;
 use cov_base::{INPUT_LIMIT, Name, SessNo};
 use cov_outside::{ReadFault, Source, read_all};
-use job_text::{JobFault, ReadJob, read_job, read_whole_job};
+use job_text::{JobFault, ReadJob};
 use session_book::Job;
 use std::alloc::Global;
 
-/// A job whose listings match, their tables, the input, the number of the job's lines and the offset behind the last.
+/// A job whose listings match, their tables, the number of the job's lines, and the bytes behind the last where more than a
+/// job may come.
 #[derive(Drop)]
 pub struct Ready {
     pub job: Job,
     pub tables: Tables,
-    pub input: Vec<u8>,
     pub lines: u32,
-    pub end: usize,
+    pub rest: Vec<u8>,
+}
+
+fn read_refusal(fault: ReadFault) -> Refusal
+    ensures { result ≡ read_refusal fault }
+{
+    match fault {
+        ReadFault::Failed => plain_refusal(5, READ_FAULT),
+        ReadFault::TooLarge => plain_refusal(4, TOO_LARGE_INPUT),
+        ReadFault::NoMemory => plain_refusal(7, NO_MEMORY),
+    }
 }
 
 /// Reads the source to its end.
@@ -41,9 +50,22 @@ pub fn read_input<S: Source>(alloc: Global, source: &mut S) -> Result<Vec<u8>, R
 {
     match read_all(alloc, source, INPUT_LIMIT) {
         Ok(bytes) => Ok(bytes),
-        Err(ReadFault::Failed) => Err(plain_refusal(5, READ_FAULT)),
-        Err(ReadFault::TooLarge) => Err(plain_refusal(4, TOO_LARGE_INPUT)),
-        Err(ReadFault::NoMemory) => Err(plain_refusal(7, NO_MEMORY)),
+        Err(fault) => Err(read_refusal(fault)),
+    }
+}
+
+/// Reads the source to its end, and the job of its lines meanwhile.
+fn read_incoming<S: Source>(alloc: Global, source: &mut S, more: bool) -> Result<Incoming, Refusal>
+    ensures come { IfOk result (λ i. (bytes : List ℕ) × CameWhole (source_change S.left S.faults source.old source.new) bytes × HasCome bytes i) }
+    ensures more { IfOk result (λ i. i.more ≡ more) }
+    ensures stopped { (job after : Bool) (name : Option (List ℕ)) → IfErr result (λ r. IsStopped job after name (source_change S.left S.faults source.old source.new) r.status r.line) }
+{
+    let Ok(mut incoming) = Incoming::new(alloc, more) else {
+        return Err(plain_refusal(7, NO_MEMORY));
+    };
+    match incoming.fill(alloc, source) {
+        Ok(()) => Ok(incoming),
+        Err(fault) => Err(read_refusal(fault)),
     }
 }
 
@@ -63,35 +85,34 @@ fn fault_refusal(fault: JobFault) -> Refusal
     }
 }
 
-/// The cards of the input's first lines, or of all where nothing more may stand there.
-fn read_cards(alloc: Global, bytes: &[u8], more: bool) -> Result<ReadJob, JobFault>
-    requires { length bytes.now ≤ 16777216 }
-    ensures read { IfOk result (IsRead bytes.now) }
-    ensures whole { more ≡ false → IfOk result (λ r. r.end ≡ length bytes.now) }
-    ensures fault { IfErr result (IsRefusal (lines_of bytes.now)) }
-    ensures jobless { IfErr result (λ e. (n : ℕ) → e ≡ JobFault.BadJob n → (j : JobView) → HasJob more (lines_of bytes.now) j → ⊥) }
+/// The job that came, and what stands behind it.
+fn read_lines(alloc: Global, incoming: Incoming) -> Result<(ReadJob, Vec<u8>), Refusal>
+    requires { (bytes : List ℕ) × HasCome bytes incoming × (length bytes ≤ 16777216) }
+    ensures few_lines { incoming.more ≡ true → IfOk result (λ r. r.0.lines + length r.1.items ≤ 16777216) }
+    ensures came { (s : SourceChange) (bytes : List ℕ) → CameWhole s bytes → HasCome bytes incoming → IfOk result (λ r. CameWith incoming.more s r.0.job r.0.lines r.1.items) }
+    ensures few { IfOk result (λ r. HasFewLines r.0.job) }
+    ensures stopped { (name : Option (List ℕ)) (s : SourceChange) (bytes : List ℕ) → CameWhole s bytes → HasCome bytes incoming → IfErr result (λ r. IsStopped true incoming.more name s r.status r.line) }
 {
-    if more {
-        read_job(alloc, bytes)
-    } else {
-        read_whole_job(alloc, bytes)
-    }
-}
-
-/// Reads the job that the input spells by its first lines, or by all of them where nothing more may stand there.
-fn read_lines(alloc: Global, bytes: &[u8], more: bool) -> Result<ReadJob, Refusal>
-    requires { length bytes.now ≤ 16777216 }
-    ensures inside { IfOk result (λ r. r.end ≤ length bytes.now) }
-    ensures few_lines { IfOk result (λ r. r.lines ≤ length bytes.now) }
-    ensures came { (s : SourceChange) → CameWhole s bytes.now → IfOk result (λ r. CameFirst more s r.job bytes.now r.lines r.end) }
-    ensures job { (s : SourceChange) → CameWhole s bytes.now → IfOk result (λ r. CameJob more s r.job) }
-    ensures few { IfOk result (λ r. HasFewLines r.job) }
-    ensures stopped { (name : Option (List ℕ)) (s : SourceChange) → CameWhole s bytes.now → IfErr result (λ r. IsStopped true more name s r.status r.line) }
-{
-    match read_cards(alloc, bytes, more) {
+    match incoming.finish(alloc) {
         Ok(read) => Ok(read),
         Err(fault) => Err(fault_refusal(fault)),
     }
+}
+
+/// Reads the source to its end, and the job of its lines; and what stands behind it.
+fn job_of_source<S: Source>(
+    alloc: Global,
+    source: &mut S,
+    more: bool,
+) -> Result<(ReadJob, Vec<u8>), Refusal>
+    ensures few_lines { more ≡ true → IfOk result (λ r. r.0.lines + length r.1.items ≤ 16777216) }
+    ensures came { IfOk result (λ r. CameWith more (source_change S.left S.faults source.old source.new) r.0.job r.0.lines r.1.items) }
+    ensures job { IfOk result (λ r. CameJob more (source_change S.left S.faults source.old source.new) r.0.job) }
+    ensures few { IfOk result (λ r. HasFewLines r.0.job) }
+    ensures stopped { (name : Option (List ℕ)) → IfErr result (λ r. IsStopped true more name (source_change S.left S.faults source.old source.new) r.status r.line) }
+{
+    let incoming = read_incoming(alloc, source, more)?;
+    read_lines(alloc, incoming)
 }
 
 fn refused_refusal(refused: Refused) -> Refusal
@@ -121,25 +142,22 @@ fn read_tables(alloc: Global, job: &Job) -> Result<Tables, Refusal>
 /// Reads the source to its end, the job of its lines, and the tables of the job's listings; or the first refusal of
 /// these, in this order. What stands behind the job is the caller's where more may stand there; else nothing does.
 pub fn make_ready<S: Source>(alloc: Global, source: &mut S, more: bool) -> Result<Ready, Refusal>
-    ensures inside { IfOk result (λ r. r.end ≤ length r.input.items) }
-    ensures few_lines { IfOk result (λ r. r.lines ≤ length r.input.items) }
-    ensures short { IfOk result (λ r. length r.input.items ≤ 16777216) }
-    ensures came { IfOk result (λ r. CameFirst more (source_change S.left S.faults source.old source.new) r.job r.input.items r.lines r.end) }
+    ensures few_lines { more ≡ true → IfOk result (λ r. r.lines + length r.rest.items ≤ 16777216) }
+    ensures came { IfOk result (λ r. CameWith more (source_change S.left S.faults source.old source.new) r.job r.lines r.rest.items) }
+    ensures job { IfOk result (λ r. CameJob more (source_change S.left S.faults source.old source.new) r.job) }
     ensures few { IfOk result (λ r. HasFewLines r.job) }
     ensures matching { IfOk result (λ r. Match r.job r.tables.tables) }
     ensures numbered { IfOk result (λ r. r.tables.places ≡ all_places r.tables.tables) }
     ensures places { IfOk result (λ r. All (IsIn r.job.images) r.tables.places) }
     ensures stopped { IfErr result (λ r. IsStopped true more None (source_change S.left S.faults source.old source.new) r.status r.line) }
 {
-    let input = read_input(alloc, source)?;
-    let read = read_lines(alloc, &input, more)?;
+    let (read, rest) = job_of_source(alloc, source, more)?;
     let tables = read_tables(alloc, &read.job)?;
     Ok(Ready {
         job: read.job,
         tables,
-        input,
         lines: read.lines,
-        end: read.end,
+        rest,
     })
 }
 
@@ -152,8 +170,8 @@ pub fn make_named<S: Source>(
     more: bool,
     name: &Name,
 ) -> Result<(Ready, SessNo), Refusal>
-    ensures inside { IfOk result (λ r. r.0.end ≤ length r.0.input.items) }
-    ensures came { IfOk result (λ r. CameFirst more (source_change S.left S.faults source.old source.new) r.0.job r.0.input.items r.0.lines r.0.end) }
+    ensures came { IfOk result (λ r. CameWith more (source_change S.left S.faults source.old source.new) r.0.job r.0.lines r.0.rest.items) }
+    ensures job { IfOk result (λ r. CameJob more (source_change S.left S.faults source.old source.new) r.0.job) }
     ensures few { IfOk result (λ r. HasFewLines r.0.job) }
     ensures matching { IfOk result (λ r. Match r.0.job r.0.tables.tables) }
     ensures numbered { IfOk result (λ r. r.0.tables.places ≡ all_places r.0.tables.tables) }
@@ -164,16 +182,14 @@ pub fn make_named<S: Source>(
     ensures to { IfOk result (λ r. r.1.0 ≤ length r.0.job.sessions) }
     ensures stopped { IfErr result (λ r. IsStopped true more (Some name.now) (source_change S.left S.faults source.old source.new) r.status r.line) }
 {
-    let input = read_input(alloc, source)?;
-    let read = read_lines(alloc, &input, more)?;
+    let (read, rest) = job_of_source(alloc, source, more)?;
     let session = named_session(&read.job, name)?;
     let tables = read_tables(alloc, &read.job)?;
     let ready = Ready {
         job: read.job,
         tables,
-        input,
         lines: read.lines,
-        end: read.end,
+        rest,
     };
     Ok((ready, session))
 }

@@ -1,12 +1,12 @@
 //! A session's listings, marked by a marks file.
-ghost use Rattle.std.specs.Prelude.{◌≡◌, ◌<◌, ◌≤◌, ℕ, true, Some, List, length, drop, IfOk, IfErr};
+ghost use Rattle.std.specs.Prelude.{◌≡◌, ◌<◌, ◌≤◌, ℕ, true, Some, List, length, IfOk, IfErr};
 ghost use Rattle.brk_table.specs.Places.{all_places};
 ghost use Rattle.brk_table.specs.Together.{AreTables};
 ghost use Rattle.cov_outside.specs.Writes.{Writes};
 ghost use Rattle.coverage_program.specs.Answers.{Answers};
 ghost use Rattle.coverage_program.specs.Changes.{SourceChange, source_change, sink_change, no_change};
 ghost use Rattle.coverage_program.specs.Files.{IsFile, IsFileRefusal, IsShowRefusal, show_text};
-ghost use Rattle.coverage_program.specs.Inputs.{CameFirst};
+ghost use Rattle.coverage_program.specs.Incoming.{CameWith};
 ghost use Rattle.coverage_program.specs.Named.{session_number};
 ghost use Rattle.coverage_program.specs.Refusals.{Match, refusal};
 ghost use Rattle.coverage_program.specs.Words.{bad_marks_line, no_memory_line};
@@ -121,7 +121,7 @@ fn answer_file<K: Sink>(
     requires matching { Match job.now tables.now.tables }
     requires numbered { tables.now.places ≡ all_places tables.now.tables }
     requires number { session_number job.now name.now ≡ Some s.0 }
-    ensures { (c : SourceChange) (a : Account) (bytes : List ℕ) (count end : ℕ) → CameFirst true c job.now bytes count end → rest.now ≡ drop end bytes →
+    ensures { (c : SourceChange) (a : Account) (count : ℕ) → CameWith true c job.now count rest.now →
         Answers (Command.Show name.now) c (no_change a) (sink_change K.written K.faults sink.old sink.new) result.0 }
 {
     match sets_behind(alloc, job, tables, s, rest) {
@@ -143,6 +143,13 @@ pub fn answer_show<S: Source, K: Sink>(
         Ok(read) => read,
         Err(refusal) => return told(sink, &refusal.line, refusal.status),
     };
-    let rest = &read.input[read.end..];
-    answer_file(alloc, name, &read.job, &read.tables, session, rest, sink)
+    answer_file(
+        alloc,
+        name,
+        &read.job,
+        &read.tables,
+        session,
+        &read.rest,
+        sink,
+    )
 }

@@ -14,6 +14,8 @@ mod programs;
 mod schedules;
 mod trials;
 
+ghost use Rattle.std.specs.Prelude.{◌<◌};
+
 use crate::cover::cover;
 use crate::status::Status;
 use cases::CASES;
@@ -84,9 +86,17 @@ struct Came {
     made: u64,
 }
 
-fn run<T: Threads + Wait + Sync>(rt: &T, alloc: Global, job: Vec<u8>) -> Result<Came, Fail> {
+/// Runs a job that comes in pieces of so many bytes.
+fn run<T: Threads + Wait + Sync>(
+    rt: &T,
+    alloc: Global,
+    job: Vec<u8>,
+    piece: usize,
+) -> Result<Came, Fail>
+    requires { 0 < piece }
+{
     let words = run_words(alloc)?;
-    let mut source = MemSource::new(job, 64, Vec::new(alloc));
+    let mut source = MemSource::new(job, piece, Vec::new(alloc));
     let mut sink = MemSink::new(alloc, 4096, 4096, Vec::new(alloc)).map_err(|_| "memory")?;
     let mut areas = SharedAreas::new(alloc, 16).map_err(|_| "memory")?;
     let status = cover(
@@ -152,14 +162,27 @@ fn counts(t: &Tally) -> (u64, u64, u64, u64) {
     (t.plants, t.fetches, t.marks, t.lifts)
 }
 
-/// Runs the case's job: status and text are the case's, and so are the tallies of its areas, where the case has them.
+/// Runs the case's job in pieces of 64 bytes.
 fn check<T: Abort + Threads + Wait + Sync>(
     rt: &T,
     alloc: Global,
     case: &Case,
 ) -> Result<Came, Fail> {
+    check_pieces(rt, alloc, case, 64)
+}
+
+/// Runs the case's job in pieces of so many bytes: status and text are the case's, and so are the tallies of its areas, where
+/// the case has them.
+fn check_pieces<T: Abort + Threads + Wait + Sync>(
+    rt: &T,
+    alloc: Global,
+    case: &Case,
+    piece: usize,
+) -> Result<Came, Fail>
+    requires { 0 < piece }
+{
     let name = case.name;
-    let came = run(rt, alloc, job_of(alloc, case)?)?;
+    let came = run(rt, alloc, job_of(alloc, case)?, piece)?;
     assert_eq!(rt; came.status, Status(case.status), "{name}");
     assert_eq!(rt;
         came.text.as_slice(),
@@ -183,6 +206,15 @@ fn answers_each_job(rt: HostRuntime) -> Result<(), Fail> {
         let came = check(&rt, rt.alloc(), case)?;
         let name = case.name;
         assert_eq!(rt; came.made, u64::from(case.status == 0), "{name}");
+    }
+    Ok(())
+}
+
+#[test]
+fn answers_each_job_byte_by_byte(rt: HostRuntime) -> Result<(), Fail> {
+    check_pieces(&rt, rt.alloc(), &FIRST, 1)?;
+    for case in &CASES {
+        check_pieces(&rt, rt.alloc(), case, 1)?;
     }
     Ok(())
 }

@@ -1,21 +1,24 @@
-use Rattle.coverage_program.proofs.AnswerLemmas.{unread, read_is, first_came}
-use Rattle.coverage_program.proofs.InputLemmas.{few_first, count_most}
+use Rattle.coverage_program.proofs.AnswerLemmas.{unread, read_is}
+use Rattle.coverage_program.proofs.InputLemmas.{few_first, behind_few}
 use Rattle.coverage_program.proofs.ready.read_lines.Goals as goal
 
-pub returns-in-Ok-clause-inside : goal.returns-in-Ok-clause-inside
-returns-in-Ok-clause-inside c = c.in-Ok.ensures.read.inside
-
 pub returns-in-Ok-clause-few_lines : goal.returns-in-Ok-clause-few_lines
-returns-in-Ok-clause-few_lines c = count_most c.args.bytes.now c.in-Ok.read c.in-Ok.ensures.read
+returns-in-Ok-clause-few_lines c = λ more.
+    let bytes = c.requires.0 in
+    let h = c.requires.1 in
+    behind_few bytes c.in-Ok.read.0 c.in-Ok.read.1.items c.requires.2 (c.in-Ok.ensures.read bytes h) (c.in-Ok.ensures.behind bytes h more)
 
 pub returns-in-Ok-clause-came : goal.returns-in-Ok-clause-came
-returns-in-Ok-clause-came c s came = read_is c.args.more s c.args.bytes.now c.in-Ok.read came c.in-Ok.ensures.read c.in-Ok.ensures.whole
+returns-in-Ok-clause-came c = λ s bytes came h. record {
+  bytes = bytes;
+  end = c.in-Ok.read.0.end;
+  first = read_is c.args.incoming.more s bytes c.in-Ok.read.0 came (c.in-Ok.ensures.read bytes h) (c.in-Ok.ensures.whole bytes h);
+  behind = c.in-Ok.ensures.behind bytes h;
+}
 
 pub returns-in-Ok-clause-few : goal.returns-in-Ok-clause-few
-returns-in-Ok-clause-few c = few_first c.args.bytes.now c.in-Ok.read c.requires c.in-Ok.ensures.read
+returns-in-Ok-clause-few c = few_first c.requires.0 c.in-Ok.read.0 c.requires.2 (c.in-Ok.ensures.read c.requires.0 c.requires.1)
 
 pub returns-in-Err-clause-stopped : goal.returns-in-Err-clause-stopped
-returns-in-Err-clause-stopped c name s came = rw c.fault_refusal.ensures (unread c.args.more name s c.args.bytes.now c.in-Err.fault came c.in-Err.ensures.fault c.in-Err.ensures.jobless)
-
-pub returns-in-Ok-clause-job : goal.returns-in-Ok-clause-job
-returns-in-Ok-clause-job c s came = first_came c.args.more s c.args.bytes.now c.in-Ok.read (read_is c.args.more s c.args.bytes.now c.in-Ok.read came c.in-Ok.ensures.read c.in-Ok.ensures.whole)
+returns-in-Err-clause-stopped c = λ name s bytes came h.
+    rw c.fault_refusal.ensures (unread c.args.incoming.more name s bytes c.in-Err.fault came (c.in-Err.ensures.fault bytes h) (c.in-Err.ensures.jobless bytes h))

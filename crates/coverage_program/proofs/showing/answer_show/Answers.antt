@@ -1,10 +1,10 @@
-use Rattle.std.proofs.Common.{◌-◌, List, ℕ, length, drop, ap, ◌∙◌, arith, length-drop}
-use Rattle.std.proofs.lemmas.List.{take_all}
+use Rattle.std.proofs.Common.{List, ℕ, true, subst, sym}
+use Rattle.coverage_program.specs.Incoming.{CameWith}
+use Rattle.coverage_program.specs.Changes.{SourceChange, source_change}
 use Rattle.coverage_program.proofs.showing.answer_show.Goals as goal
 
 pub returns : goal.returns
 returns g c a =
-    let bytes : List ℕ = c.deref-2.result.now in
-    let end : ℕ = c.in-Ok.read.0.end in
-    c.answer_file.ensures _ a _ _ _ c.in-Ok.ensures.came
-    (take_all (length bytes - end) (drop end bytes) (omega (arith, length-drop end bytes)) ∙ ap (λ (x : List ℕ). drop end x) c.deref-2.ensures.value)
+    let s : SourceChange = source_change g.S.Source.left g.S.Source.faults c.args.source.now c.make_named.new.source in
+    let r = c.in-Ok.read.0 in
+    c.answer_file.ensures s a r.lines (subst (λ (b : List ℕ). CameWith true s r.job r.lines b) (sym c.deref-2.ensures.value) c.in-Ok.ensures.came)

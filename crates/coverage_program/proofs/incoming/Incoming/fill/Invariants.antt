@@ -1,0 +1,12 @@
+use Rattle.std.proofs.Common.{◌≡◌, ◌≤◌, ◌+◌, length}
+use Rattle.cov_base.specs.declared.constants.TheConstants.{INPUT_LIMIT}
+use Rattle.job_text.specs.Taken.{fed_size}
+use Rattle.coverage_program.proofs.IncomingLemmas.{HasReached}
+use Rattle.coverage_program.proofs.incoming.Incoming.fill.Given as goal
+
+abbrev pub invariant-loop-turn : goal.invariant-loop-turn
+invariant-loop-turn g l = record {
+  reached : HasReached (g.S.Source.left l.initial.source) (g.S.Source.left l.source) l._turn l.room l.self;
+  faults : g.S.Source.faults l.source ≡ g.S.Source.faults l.initial.source;
+  more : l.self.more ≡ l.initial.self.more;
+}
