@@ -171,19 +171,19 @@ low_of half = omega arith
 module _ (at n first : ℕ) (o : Operation) where
   byte_0 : (s : Option ℕ) → first < 65536 → byte_in narrow (plain_line at n (plain o first s)) 0 0 ≡ first / 256
   unfolding plain_line column object_text groups
-  byte_0 s h = byte_in_two (plain_line at n (plain o first s)) 0 0 (Some (first / 16 / 16 / 16 % 16)) (Some (first / 16 / 16 % 16)) (digit_value (first / 16 / 16 / 16)) (digit_value (first / 16 / 16)) ∙ high_of first h
+  byte_0 s h = byte_in_two narrow (plain_line at n (plain o first s)) 0 0 (Some (first / 16 / 16 / 16 % 16)) (Some (first / 16 / 16 % 16)) (digit_value (first / 16 / 16 / 16)) (digit_value (first / 16 / 16)) ∙ high_of first h
 
   byte_1 : (s : Option ℕ) → byte_in narrow (plain_line at n (plain o first s)) 0 1 ≡ first % 256
   unfolding plain_line column object_text groups
-  byte_1 s = byte_in_two (plain_line at n (plain o first s)) 0 1 (Some (first / 16 % 16)) (Some (first % 16)) (digit_value (first / 16)) (digit_value first) ∙ low_of first
+  byte_1 s = byte_in_two narrow (plain_line at n (plain o first s)) 0 1 (Some (first / 16 % 16)) (Some (first % 16)) (digit_value (first / 16)) (digit_value first) ∙ low_of first
 
   byte_2 : (half : ℕ) → half < 65536 → byte_in narrow (plain_line at n (plain o first (Some half))) 0 2 ≡ half / 256
   unfolding plain_line column object_text groups
-  byte_2 half h = byte_in_two (plain_line at n (plain o first (Some half))) 0 2 (Some (half / 16 / 16 / 16 % 16)) (Some (half / 16 / 16 % 16)) (digit_value (half / 16 / 16 / 16)) (digit_value (half / 16 / 16)) ∙ high_of half h
+  byte_2 half h = byte_in_two narrow (plain_line at n (plain o first (Some half))) 0 2 (Some (half / 16 / 16 / 16 % 16)) (Some (half / 16 / 16 % 16)) (digit_value (half / 16 / 16 / 16)) (digit_value (half / 16 / 16)) ∙ high_of half h
 
   byte_3 : (half : ℕ) → byte_in narrow (plain_line at n (plain o first (Some half))) 0 3 ≡ half % 256
   unfolding plain_line column object_text groups
-  byte_3 half = byte_in_two (plain_line at n (plain o first (Some half))) 0 3 (Some (half / 16 % 16)) (Some (half % 16)) (digit_value (half / 16)) (digit_value half) ∙ low_of half
+  byte_3 half = byte_in_two narrow (plain_line at n (plain o first (Some half))) 0 3 (Some (half / 16 % 16)) (Some (half % 16)) (digit_value (half / 16)) (digit_value half) ∙ low_of half
 
   one_group : are_groups narrow (plain_line at n (plain o first None)) 0 1 ≡ true
   unfolding are_groups all_below plain_line column object_text groups

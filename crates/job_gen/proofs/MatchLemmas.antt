@@ -9,7 +9,8 @@ use Rattle.std.proofs.lemmas.List.{get_or-append-add}
 use Rattle.std.proofs.lemmas.List.Sums.{count_by-le-length}
 use Rattle.cov_base.specs.Codes.{breakpoint, length_of}
 use Rattle.listing_lines.specs.Columns.{narrow}
-use Rattle.listing_lines.specs.Heading.{is_heading_after, heading_of}
+use Rattle.listing_lines.specs.declared.columns.Width.TheVariants.{Narrow}
+use Rattle.listing_lines.specs.Heading.{narrow_text, is_text_after, heading_of}
 use Rattle.listing_reader.specs.Listing.{line_of, lines_of}
 use Rattle.listing_reader.specs.Listing as reader
 use Rattle.listing_reader.specs.declared.lines.Line.{Line}
@@ -109,11 +110,11 @@ lines_are (i ∷ is) at n h k p =
     let size : length (bytes_of (i ∷ is)) ≡ length (object i) + length (bytes_of is) = length-append (object i) (bytes_of is) in
     rw (line_is at n i (omega arith) (omega arith) p.0.sound, lines_are is (at + length (object i)) (n + 1) (omega arith) (omega arith) p.1) refl
 
-heading_is : is_heading_after heading 2 ≡ true
-unfolding is_heading_after
+heading_is : is_text_after narrow_text heading 2 ≡ true
+unfolding is_text_after
 heading_is = refl
 
-heading_first : (lines : List (List ℕ)) → heading_of (heading ∷ lines) ≡ Some (0, 0)
+heading_first : (lines : List (List ℕ)) → heading_of (heading ∷ lines) ≡ Some (0, 0, Narrow)
 heading_first lines =
     let some : nat_lt 0 (suc (length lines)) ≡ true = grind (arith, nat_tests) in
     rw (heading_is, some, heading_is) refl

@@ -1,20 +1,27 @@
 -- The columns of a listing line, counted from 1 (High Level Assembler, the source and object section).
-use Rattle.std.specs.Prelude.{ℕ, ◌+◌, ◌-◌, List, slice_index_or}
-
--- which columns hold the fields
-pub record Columns : Type 0 where
-  -- the first of the location, and how many there are
-  pub location : ℕ
-  pub digits : ℕ
-  -- the first of the object code, and how many there are
-  pub object : ℕ
-  pub room : ℕ
-  -- the first of the source statement
-  pub source : ℕ
+use Rattle.std.specs.Prelude.{ℕ, ◌+◌, ◌-◌, ◌≤◌, List, slice_index_or}
+use Rattle.listing_lines.specs.declared.columns.Columns.{Columns}
+use Rattle.listing_lines.specs.declared.columns.Width.{Width}
+use Rattle.listing_lines.specs.declared.columns.Width.TheVariants.{Narrow, Wide}
 
 -- a listing of 121 columns
 abbrev pub narrow : Columns
 narrow = record { location = 1; digits = 6; object = 8; room = 14; source = 41 }
+
+-- a listing whose locations have eight digits
+abbrev pub wide : Columns
+wide = record { location = 1; digits = 8; object = 10; room = 16; source = 51 }
+
+abbrev pub columns_of : Width → Columns
+columns_of Narrow = narrow
+columns_of Wide = wide
+
+-- columns count from 1, and a location fits 32 bits
+pub record AreColumns (c : Columns) : Type 0 where
+  pub location : 1 ≤ c.location
+  pub digits : c.digits ≤ 8
+  pub object : 1 ≤ c.object
+  pub source : 1 ≤ c.source
 
 -- the byte in column n behind the shift, in a line that is filled with blanks
 unfoldable pub column : List ℕ → ℕ → ℕ → ℕ

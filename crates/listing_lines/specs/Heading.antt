@@ -1,28 +1,41 @@
--- The heading line, and the shift that it tells.
+-- The heading line, and the shift and the width that it tells.
 use Rattle.std.specs.Prelude.{ℕ, ◌+◌, Bool, ◌&&◌, ◌||◌, nat_le, if◌then◌else◌, Option, Some, None, List, [], length, slice_range, slice_index_or, position, codes, map}
 use Rattle.std.specs.Str.{bytes_eq}
 use Rattle.std.specs.Char.{to_ascii_lowercase}
+use Rattle.listing_lines.specs.declared.columns.Width.{Width}
+use Rattle.listing_lines.specs.declared.columns.Width.TheVariants.{Narrow, Wide}
 
--- the heading's text, in small letters
-abbrev pub heading_text : List ℕ
-heading_text = codes "loc  object code    addr1 addr2  stmt   source statement"
+-- the heading's text
+abbrev pub narrow_text : List ℕ
+narrow_text = codes "Loc  Object Code    Addr1 Addr2  Stmt   Source Statement"
+
+abbrev pub wide_text : List ℕ
+wide_text = codes "Loc    Object Code      Address1 Address2  Stmt   Source Statement"
 
 -- it stands behind so many columns, its letters in either case
-unfoldable pub is_heading_after : List ℕ → ℕ → Bool
-is_heading_after line before = nat_le (before + 56) (length line) && bytes_eq (map to_ascii_lowercase (slice_range line before (before + 56))) heading_text
+unfoldable pub is_text_after : List ℕ → List ℕ → ℕ → Bool
+is_text_after text line before =
+    nat_le (before + length text) (length line) && bytes_eq (map to_ascii_lowercase (slice_range line before (before + length text))) (map to_ascii_lowercase text)
 
 -- it begins at column 3 or at column 4
+abbrev pub has_heading : List ℕ → List ℕ → Bool
+has_heading text line = is_text_after text line 2 || is_text_after text line 3
+
 abbrev pub is_heading : List ℕ → Bool
-is_heading line = is_heading_after line 2 || is_heading_after line 3
+is_heading line = has_heading narrow_text line || has_heading wide_text line
 
 -- of a heading line, its column less 3
 abbrev pub shift_in : List ℕ → ℕ
-shift_in line = if is_heading_after line 2 then 0 else 1
+shift_in line = if is_text_after narrow_text line 2 || is_text_after wide_text line 2 then 0 else 1
 
-abbrev pub heading_at : List (List ℕ) → Option ℕ → Option (ℕ × ℕ)
+-- and the width whose text it has
+abbrev pub width_in : List ℕ → Width
+width_in line = if has_heading narrow_text line then Narrow else Wide
+
+abbrev pub heading_at : List (List ℕ) → Option ℕ → Option (ℕ × ℕ × Width)
 heading_at lines None = None
-heading_at lines (Some i) = Some (i, shift_in (slice_index_or lines i []))
+heading_at lines (Some i) = Some (i, shift_in (slice_index_or lines i []), width_in (slice_index_or lines i []))
 
--- the index of the first heading line, and its shift
-abbrev pub heading_of : List (List ℕ) → Option (ℕ × ℕ)
+-- the index of the first heading line, its shift and its width
+abbrev pub heading_of : List (List ℕ) → Option (ℕ × ℕ × Width)
 heading_of lines = heading_at lines (position is_heading lines)

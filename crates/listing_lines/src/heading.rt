@@ -1,34 +1,58 @@
 //! The heading of a listing's source and object section.
 ghost use Rattle.std.specs.Prelude.{◌≡◌, ◌≤◌, ◌<◌, IfSome, length, position};
-ghost use Rattle.listing_lines.specs.Heading.{is_heading_after, is_heading, shift_in, heading_of};
+ghost use Rattle.listing_lines.specs.Heading.{is_text_after, has_heading, is_heading, shift_in, width_in, heading_of};
 
+use crate::columns::Width;
 use crate::lines::ListingLines;
 
 /// The text of the heading, whose letters are read in either case.
-const HEADING: &[u8] = b"Loc  Object Code    Addr1 Addr2  Stmt   Source Statement";
+const NARROW: &[u8] = b"Loc  Object Code    Addr1 Addr2  Stmt   Source Statement";
 
-/// Whether the heading's text stands behind so many columns.
-#[tactic(auto, unfolding(crate::specs::Heading::is_heading_after))]
-fn is_heading_after(line: &[u8], before: usize) -> bool
+const WIDE: &[u8] = b"Loc    Object Code      Address1 Address2  Stmt   Source Statement";
+
+/// Whether the text stands behind so many columns.
+#[tactic(auto, unfolding(crate::specs::Heading::is_text_after))]
+fn is_text_after(text: &[u8], line: &[u8], before: usize) -> bool
     requires { before ≤ 3 }
-    ensures { result ≡ is_heading_after line.now before }
+    ensures { result ≡ is_text_after text.now line.now before }
 {
-    if line.len() < before + 56 {
+    let count = line.len();
+    if count < before || count - before < text.len() {
         return false;
     }
-    line[before..before + 56].eq_ignore_ascii_case(HEADING)
+    line[before..before + text.len()].eq_ignore_ascii_case(text)
+}
+
+fn has_heading(text: &[u8], line: &[u8]) -> bool
+    ensures { result ≡ has_heading text.now line.now }
+{
+    is_text_after(text, line, 2) || is_text_after(text, line, 3)
 }
 
 fn is_heading(line: &[u8]) -> bool
     ensures { result ≡ is_heading line.now }
 {
-    is_heading_after(line, 2) || is_heading_after(line, 3)
+    has_heading(NARROW, line) || has_heading(WIDE, line)
 }
 
 fn shift_in(line: &[u8]) -> u8
     ensures { result ≡ shift_in line.now }
 {
-    if is_heading_after(line, 2) { 0 } else { 1 }
+    if is_text_after(NARROW, line, 2) || is_text_after(WIDE, line, 2) {
+        0
+    } else {
+        1
+    }
+}
+
+fn width_in(line: &[u8]) -> Width
+    ensures { result ≡ width_in line.now }
+{
+    if has_heading(NARROW, line) {
+        Width::Narrow
+    } else {
+        Width::Wide
+    }
 }
 
 fn first_heading(lines: &ListingLines) -> Option<usize>
@@ -42,13 +66,15 @@ fn first_heading(lines: &ListingLines) -> Option<usize>
     None
 }
 
-/// The index of the first heading line, and by how many columns it and all later lines are shifted: 0 where
-/// the heading begins at column 3, 1 where it begins at column 4. None exactly where no line is a heading.
-pub fn shift_of(lines: &ListingLines) -> Option<(usize, u8)>
+/// The index of the first heading line; by how many columns it and all later lines are shifted, 0 where the heading
+/// begins at column 3 and 1 where it begins at column 4; and the width that its text tells. None exactly where no
+/// line is a heading.
+pub fn heading_of(lines: &ListingLines) -> Option<(usize, u8, Width)>
     ensures value { result ≡ heading_of lines.now }
     ensures within { IfSome result (λ h. h.0 < length lines.now) }
     ensures shift { IfSome result (λ h. h.1 ≤ 1) }
 {
     let at = first_heading(lines)?;
-    Some((at, shift_in(lines.line(at))))
+    let line = lines.line(at);
+    Some((at, shift_in(line), width_in(line)))
 }

@@ -1,4 +1,4 @@
-//! The lines of an assembler listing, their columns and the heading.
+//! The lines of an assembler listing, their columns of either width, and the heading.
 #![tactic(auto)]
 
 mod columns;
@@ -7,6 +7,6 @@ mod lines;
 #[cfg(test)]
 mod tests;
 
-pub use columns::column;
-pub use heading::shift_of;
+pub use columns::{Columns, Width, column, columns_of};
+pub use heading::heading_of;
 pub use lines::ListingLines;

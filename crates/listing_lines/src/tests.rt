@@ -1,5 +1,5 @@
 //! The heading of listings with and without a print control character, and lines that are read as they were added.
-use crate::{ListingLines, column, shift_of};
+use crate::{ListingLines, Width, column, heading_of};
 use cov_base::{LINE_LIMIT, NoMemory};
 use std::alloc::Global;
 use std::test::Fail;
@@ -22,7 +22,7 @@ fn finds_the_heading_behind_a_print_control_character(rt: HostRuntime) -> Result
         b" 000000 4110 F00C            0000C     2          LA    1,12(,15)",
     ];
     let all = lines(rt.alloc(), &page)?;
-    assert_eq!(rt; shift_of(&all), Some((1, 1)));
+    assert_eq!(rt; heading_of(&all), Some((1, 1, Width::Narrow)));
     assert_eq!(rt; all.len(), 3);
     if all.len() == 3 {
         assert_eq!(rt; column(all.line(2), 1, 8), b'4');
@@ -39,9 +39,9 @@ fn finds_the_heading_in_capital_letters(rt: HostRuntime) -> Result<(), Fail> {
         b"  LOC  OBJECT CODE    ADDR1 ADDR2  STMT   SOURCE STATEMENT    PAGE    3",
     ];
     let all = lines(rt.alloc(), &page)?;
-    assert_eq!(rt; shift_of(&all), Some((2, 0)));
+    assert_eq!(rt; heading_of(&all), Some((2, 0, Width::Narrow)));
     let none = lines(rt.alloc(), &[])?;
-    assert_eq!(rt; shift_of(&none), None);
+    assert_eq!(rt; heading_of(&none), None);
     Ok(())
 }
 
@@ -52,6 +52,80 @@ fn finds_the_heading_behind_many_lines(rt: HostRuntime) -> Result<(), Fail> {
         all.push(&[b'-'; LINE_LIMIT][..k % 151])?;
     }
     all.push(b"  Loc  Object Code    Addr1 Addr2  Stmt   Source Statement")?;
-    assert_eq!(rt; shift_of(&all), Some((1000, 0)));
+    assert_eq!(rt; heading_of(&all), Some((1000, 0, Width::Narrow)));
+    Ok(())
+}
+
+static HEADINGS: [(&[u8], Option<(usize, u8, Width)>); 12] = [
+    (
+        b"  Loc  Object Code    Addr1 Addr2  Stmt   Source Statement",
+        Some((0, 0, Width::Narrow)),
+    ),
+    (
+        b"   Loc  Object Code    Addr1 Addr2  Stmt   Source Statement",
+        Some((0, 1, Width::Narrow)),
+    ),
+    (
+        b"  Loc    Object Code      Address1 Address2  Stmt   Source Statement",
+        Some((0, 0, Width::Wide)),
+    ),
+    (
+        b"-  loc    object code      address1 address2  stmt   source statement  X",
+        Some((0, 1, Width::Wide)),
+    ),
+    (
+        b" Loc    Object Code      Address1 Address2  Stmt   Source Statement",
+        None,
+    ),
+    (
+        b"    Loc    Object Code      Address1 Address2  Stmt   Source Statement",
+        None,
+    ),
+    (
+        b"  Loc    Object Code      Address1 Address2  Stmt   Source Statemen",
+        None,
+    ),
+    (
+        b"   Loc    Object Code      Address1 Address2  Stmt   Source Statemen",
+        None,
+    ),
+    (
+        b"  Loc   Object Code      Address1 Address2  Stmt   Source Statement",
+        None,
+    ),
+    (
+        b"  Loc    Object Code    Address1 Address2  Stmt   Source Statement",
+        None,
+    ),
+    (
+        b"  Loc    Object Code    Addr1 Addr2  Stmt   Source Statement",
+        None,
+    ),
+    (
+        b"  Loc  Object Code      Address1 Address2  Stmt   Source Statement",
+        None,
+    ),
+];
+
+#[test]
+fn tells_the_width_by_the_text(rt: HostRuntime) -> Result<(), Fail> {
+    for (line, expected) in &HEADINGS {
+        assert_eq!(rt; heading_of(&lines(rt.alloc(), &[*line])?), *expected);
+    }
+    Ok(())
+}
+
+#[test]
+fn takes_the_first_of_two_headings(rt: HostRuntime) -> Result<(), Fail> {
+    let wide: &[u8] = b"   Loc    Object Code      Address1 Address2  Stmt   Source Statement";
+    let narrow: &[u8] = b"  Loc  Object Code    Addr1 Addr2  Stmt   Source Statement";
+    assert_eq!(rt;
+        heading_of(&lines(rt.alloc(), &[b"", wide, narrow])?),
+        Some((1, 1, Width::Wide))
+    );
+    assert_eq!(rt;
+        heading_of(&lines(rt.alloc(), &[narrow, wide])?),
+        Some((0, 0, Width::Narrow))
+    );
     Ok(())
 }

@@ -2,7 +2,8 @@
 use Rattle.std.proofs.Common.{◌≡◌, ℕ, ◌+◌, ◌*◌, ◌^◌, ◌/◌, ◌%◌, ◌⊎◌, inl, inr, unwrap_or, ◌<◌, ◌≤◌, zero, suc, Bool, true, false, ◌&&◌, Option, Some, None, List, refl, add-one, arith}
 use Rattle.std.proofs.Common.{add-zero}
 use Rattle.hex.specs.Hex.{hex_digit_value}
-use Rattle.listing_lines.specs.Columns.{column, narrow}
+use Rattle.listing_lines.specs.declared.columns.Columns.{Columns}
+use Rattle.listing_lines.specs.Columns.{column}
 use Rattle.listing_reader.specs.Fields.{all_below, with_digit, number_in, byte_in}
 
 and_false : (b : Bool) → (b && false) ≡ false
@@ -52,17 +53,19 @@ pub number_in_two : (line : List ℕ) (shift from : ℕ) → number_in line shif
 unfolding number_in
 number_in_two line shift from = rw (add-zero from) refl
 
-pub power_16 : (i : ℕ) → i < 6 → 16 ^ i ≤ 1048576
+pub power_16 : (i : ℕ) → i < 8 → 16 ^ i ≤ 268435456
 power_16 zero h = omega arith
 power_16 (suc zero) h = omega arith
 power_16 (suc (suc zero)) h = omega arith
 power_16 (suc (suc (suc zero))) h = omega arith
 power_16 (suc (suc (suc (suc zero)))) h = omega arith
 power_16 (suc (suc (suc (suc (suc zero))))) h = omega arith
-power_16 (suc (suc (suc (suc (suc (suc i)))))) h = absurd (omega arith)
+power_16 (suc (suc (suc (suc (suc (suc zero)))))) h = omega arith
+power_16 (suc (suc (suc (suc (suc (suc (suc zero))))))) h = omega arith
+power_16 (suc (suc (suc (suc (suc (suc (suc (suc i)))))))) h = absurd (omega arith)
 
 -- a byte of the object code by its two digits
-pub byte_in_two : (line : List ℕ) (shift i : ℕ) (high low : Option ℕ) → hex_digit_value (column line shift (8 + 5 * (i / 2) + 2 * (i % 2))) ≡ high
-    → hex_digit_value (column line shift (8 + 5 * (i / 2) + 2 * (i % 2) + 1)) ≡ low → byte_in narrow line shift i ≡ unwrap_or (with_digit (with_digit (Some 0) high) low) 0
+pub byte_in_two : (c : Columns) (line : List ℕ) (shift i : ℕ) (high low : Option ℕ) → hex_digit_value (column line shift (c.object + 5 * (i / 2) + 2 * (i % 2))) ≡ high
+    → hex_digit_value (column line shift (c.object + 5 * (i / 2) + 2 * (i % 2) + 1)) ≡ low → byte_in c line shift i ≡ unwrap_or (with_digit (with_digit (Some 0) high) low) 0
 unfolding byte_in
-byte_in_two line shift i high low e f = rw (number_in_two line shift (8 + 5 * (i / 2) + 2 * (i % 2)), e, f) refl
+byte_in_two c line shift i high low e f = rw (number_in_two line shift (c.object + 5 * (i / 2) + 2 * (i % 2)), e, f) refl

@@ -4,7 +4,9 @@ use Rattle.std.specs.Prelude.{is_some, is_none, option_map}
 use Rattle.std.specs.List.{prefix_len}
 use Rattle.std.proofs.lemmas.Bool.Decides.{nat_tests}
 use Rattle.std.proofs.lemmas.List.{drop_more}
-use Rattle.listing_lines.specs.Columns.{Columns, narrow}
+use Rattle.listing_lines.specs.declared.columns.Columns.{Columns}
+use Rattle.listing_lines.specs.declared.columns.Width.{Width}
+use Rattle.listing_lines.specs.Columns.{columns_of}
 use Rattle.listing_lines.specs.Heading.{heading_of}
 use Rattle.listing_reader.specs.Listing.{line_of, lines_of, is_bad, add_line, listing_by, listing_of, fault_by, fault_of}
 use Rattle.listing_reader.specs.declared.lines.Line.{Line}
@@ -45,23 +47,23 @@ as_fault : (o : Option ℕ) (first n : ℕ) → option_map (λ k. first + k) o �
 as_fault None first n e = absurd cc
 as_fault (Some k) first n e = let s : first + k ≡ n = cc in ap (λ x. Some (BadObject x)) s
 
-pub bad_here : (lines later : List (List ℕ)) (shift first n i : ℕ) (line : List ℕ) → i < length lines → line ≡ get_or lines i [] → line_of narrow shift line ≡ None
-    → bad_from narrow shift n (drop i lines) ≡ bad_from narrow shift first later
-    → option_map (λ k. BadObject (first + k)) (position (is_bad narrow shift) later) ≡ Some (BadObject n)
-bad_here lines later shift first n i line l at none e =
-    let here : bad_from narrow shift n (drop i lines) ≡ Some n = rw (drop_more lines i [] l, ← at, none) refl in
-    as_fault _ first n (sym (bad_from-position narrow shift first later) ∙ (sym e ∙ here))
+pub bad_here : (c : Columns) (lines later : List (List ℕ)) (shift first n i : ℕ) (line : List ℕ) → i < length lines → line ≡ get_or lines i [] → line_of c shift line ≡ None
+    → bad_from c shift n (drop i lines) ≡ bad_from c shift first later
+    → option_map (λ k. BadObject (first + k)) (position (is_bad c shift) later) ≡ Some (BadObject n)
+bad_here c lines later shift first n i line l at none e =
+    let here : bad_from c shift n (drop i lines) ≡ Some n = rw (drop_more lines i [] l, ← at, none) refl in
+    as_fault _ first n (sym (bad_from-position c shift first later) ∙ (sym e ∙ here))
 
 joined : (read : List Line) (says : Line) (rest : Option (List Line)) → option_map (λ more. (read ++ says ∷ []) ++ more) rest ≡ option_map (λ more. read ++ more) (add_line (Some says) rest)
 joined read says None = refl
 joined read says (Some rest) = ap (λ x. Some x) (append_assoc read (says ∷ []) rest)
 
 -- a line that says something
-module _ (lines : List (List ℕ)) (shift i : ℕ) (line : List ℕ) (says : Line) (l : i < length lines) (at : line ≡ get_or lines i []) (is : line_of narrow shift line ≡ Some says) where
-  pub read_here : (read : List Line) → option_map (λ rest. (read ++ says ∷ []) ++ rest) (lines_of narrow shift (drop (i + 1) lines)) ≡ option_map (λ rest. read ++ rest) (lines_of narrow shift (drop i lines))
-  read_here read = rw (drop_more lines i [] l, ← at, is) (joined read says (lines_of narrow shift (drop (i + 1) lines)))
+module _ (c : Columns) (lines : List (List ℕ)) (shift i : ℕ) (line : List ℕ) (says : Line) (l : i < length lines) (at : line ≡ get_or lines i []) (is : line_of c shift line ≡ Some says) where
+  pub read_here : (read : List Line) → option_map (λ rest. (read ++ says ∷ []) ++ rest) (lines_of c shift (drop (i + 1) lines)) ≡ option_map (λ rest. read ++ rest) (lines_of c shift (drop i lines))
+  read_here read = rw (drop_more lines i [] l, ← at, is) (joined read says (lines_of c shift (drop (i + 1) lines)))
 
-  pub none_here : (n : ℕ) → bad_from narrow shift (n + 1) (drop (i + 1) lines) ≡ bad_from narrow shift n (drop i lines)
+  pub none_here : (n : ℕ) → bad_from c shift (n + 1) (drop (i + 1) lines) ≡ bad_from c shift n (drop i lines)
   none_here n = rw (drop_more lines i [] l, ← at, is) refl
 
 undefined : (line : Option Line) (rest : Option (List Line)) (bad : Option ℕ) (n : ℕ) → is_none rest ≡ is_some bad → is_none (add_line line rest) ≡ is_some (if is_none line then Some n else bad)
@@ -81,15 +83,16 @@ is_some-map : {A B : Type 0} (f : A → B) (o : Option A) → is_some (option_ma
 is_some-map f None = refl
 is_some-map f (Some x) = refl
 
-either : (lines : List (List ℕ)) (h : Option (ℕ × ℕ)) → is_none (listing_by lines h) ≡ is_some (fault_by lines h)
+either : (lines : List (List ℕ)) (h : Option (ℕ × ℕ × Width)) → is_none (listing_by lines h) ≡ is_some (fault_by lines h)
 either lines None = refl
-either lines (Some (i, shift)) =
+either lines (Some (i, shift, width)) =
+    let c : Columns = columns_of width in
     let later : List (List ℕ) = drop (i + 1) lines in
-    is_none-map (λ rest. replicate (i + 1) Text ++ rest) (lines_of narrow shift later)
-    ∙ (lines_or_bad narrow shift 0 later
-    ∙ (ap is_some (bad_from-position narrow shift 0 later)
-    ∙ (is_some-map (λ k. 0 + k) (position (is_bad narrow shift) later)
-    ∙ sym (is_some-map (λ k. BadObject (i + 2 + k)) (position (is_bad narrow shift) later)))))
+    is_none-map (λ rest. replicate (i + 1) Text ++ rest) (lines_of c shift later)
+    ∙ (lines_or_bad c shift 0 later
+    ∙ (ap is_some (bad_from-position c shift 0 later)
+    ∙ (is_some-map (λ k. 0 + k) (position (is_bad c shift) later)
+    ∙ sym (is_some-map (λ k. BadObject (i + 2 + k)) (position (is_bad c shift) later)))))
 
 -- a listing says nothing exactly where it has a fault
 pub listing_or_fault : (lines : List (List ℕ)) → is_none (listing_of lines) ≡ is_some (fault_of lines)

@@ -4,7 +4,8 @@ use Rattle.std.specs.List.{position_or_len}
 use Rattle.std.specs.Char.{to_ascii_uppercase}
 use Rattle.hex.specs.Hex.{hex_digit_value, is_hex_digit}
 use Rattle.cov_base.specs.Codes.{length_of}
-use Rattle.listing_lines.specs.Columns.{Columns, column}
+use Rattle.listing_lines.specs.declared.columns.Columns.{Columns}
+use Rattle.listing_lines.specs.Columns.{column}
 use Rattle.s370_decode.specs.Fields.{first_half}
 use Rattle.s370_decode.specs.Mnemonics.{is_mnemonic}
 use Rattle.s370_decode.specs.declared.code.Code.{Code}

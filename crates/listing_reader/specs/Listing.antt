@@ -2,7 +2,9 @@
 use Rattle.std.specs.Prelude.{ℕ, ◌+◌, ◌==◌, Bool, true, if◌then◌else◌, Option, Some, None, is_none, option_map, unwrap_or, List, [], ◌∷◌, ◌++◌, drop, replicate, position}
 use Rattle.cov_base.specs.Codes.{length_of}
 use Rattle.s370_decode.specs.Fields.{first_half}
-use Rattle.listing_lines.specs.Columns.{Columns, narrow}
+use Rattle.listing_lines.specs.declared.columns.Columns.{Columns}
+use Rattle.listing_lines.specs.declared.columns.Width.{Width}
+use Rattle.listing_lines.specs.Columns.{columns_of}
 use Rattle.listing_lines.specs.Heading.{heading_of}
 use Rattle.listing_reader.specs.Fields.{is_instruction, location_of, object_of}
 use Rattle.listing_reader.specs.declared.lines.Line.{Line}
@@ -35,17 +37,17 @@ lines_of c shift (line ∷ lines) = add_line (line_of c shift line) (lines_of c 
 abbrev pub is_bad : Columns → ℕ → List ℕ → Bool
 is_bad c shift line = is_none (line_of c shift line)
 
-abbrev pub listing_by : List (List ℕ) → Option (ℕ × ℕ) → Option (List Line)
+abbrev pub listing_by : List (List ℕ) → Option (ℕ × ℕ × Width) → Option (List Line)
 listing_by lines None = None
-listing_by lines (Some (i, shift)) = option_map (λ rest. replicate (i + 1) Text ++ rest) (lines_of narrow shift (drop (i + 1) lines))
+listing_by lines (Some (i, shift, width)) = option_map (λ rest. replicate (i + 1) Text ++ rest) (lines_of (columns_of width) shift (drop (i + 1) lines))
 
 -- The whole listing: the first heading line and all before it are text. None where there is no heading or a line is bad.
 abbrev pub listing_of : List (List ℕ) → Option (List Line)
 listing_of lines = listing_by lines (heading_of lines)
 
-abbrev pub fault_by : List (List ℕ) → Option (ℕ × ℕ) → Option ListFault
+abbrev pub fault_by : List (List ℕ) → Option (ℕ × ℕ × Width) → Option ListFault
 fault_by lines None = Some NoHeading
-fault_by lines (Some (i, shift)) = option_map (λ k. BadObject (i + 2 + k)) (position (is_bad narrow shift) (drop (i + 1) lines))
+fault_by lines (Some (i, shift, width)) = option_map (λ k. BadObject (i + 2 + k)) (position (is_bad (columns_of width) shift) (drop (i + 1) lines))
 
 -- its first fault: no heading, or the first bad line, counted from 1
 abbrev pub fault_of : List (List ℕ) → Option ListFault

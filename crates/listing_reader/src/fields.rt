@@ -41,14 +41,15 @@ pub fn are_blank(line: &[u8], shift: u8, from: usize, count: usize) -> bool
     true
 }
 
-/// The number that six hexadecimal digits spell from a column on.
-pub fn number_in(line: &[u8], shift: u8, from: usize) -> Option<u32>
+/// The number that so many hexadecimal digits, at most eight, spell from a column on.
+pub fn number_in(line: &[u8], shift: u8, from: usize, count: usize) -> Option<u32>
     requires from { 1 ≤ from }
-    requires fits { from + 6 < 2 ^ 64 }
-    ensures { result ≡ number_in line.now shift from 6 }
+    requires count { count ≤ 8 }
+    requires fits { from + count < 2 ^ 64 }
+    ensures { result ≡ number_in line.now shift from count }
 {
     let mut number: u32 = 0;
-    for k in 0..6 {
+    for k in 0..count {
         match digit(column(line, shift, from + k)) {
             None => return None,
             Some(d) => number = 16 * number + u32::from(d),

@@ -2,15 +2,11 @@
 ghost use Rattle.std.specs.Prelude.{◌≡◌, ◌≤◌, ◌<◌, map, length, position, not};
 ghost use Rattle.std.specs.Char.{to_ascii_uppercase};
 ghost use Rattle.std.specs.List.{position_or_len};
-ghost use Rattle.listing_lines.specs.Columns.{narrow};
 ghost use Rattle.s370_decode.specs.Mnemonics.{is_mnemonic};
 ghost use Rattle.listing_reader.specs.Fields.{is_blank, skip_blanks, run_of, after_run, source_of, operation_of, has_mnemonic};
 
 use crate::fields::is_blank_at;
-use listing_lines::column;
-
-/// The first column of the source statement.
-const SOURCE: usize = 41;
+use listing_lines::{Columns, column};
 
 fn first_blank(bytes: &[u8]) -> Option<usize>
     ensures { result ≡ position is_blank bytes.now }
@@ -51,10 +47,11 @@ fn after_run(bytes: &[u8]) -> &[u8]
     }
 }
 
-fn source_of(line: &[u8], shift: u8) -> &[u8]
-    ensures { result.now ≡ source_of narrow line.now shift }
+fn source_of(line: &[u8], shift: u8, columns: Columns) -> &[u8]
+    requires { 1 ≤ columns.source }
+    ensures { result.now ≡ source_of columns line.now shift }
 {
-    let before = usize::from(shift) + (SOURCE - 1);
+    let before = usize::from(shift) + (columns.source as usize - 1);
     if before < line.len() {
         &line[before..]
     } else {
@@ -62,11 +59,12 @@ fn source_of(line: &[u8], shift: u8) -> &[u8]
     }
 }
 
-fn operation_of(line: &[u8], shift: u8) -> &[u8]
-    ensures { result.now ≡ operation_of narrow line.now shift }
+fn operation_of(line: &[u8], shift: u8, columns: Columns) -> &[u8]
+    requires { 1 ≤ columns.source }
+    ensures { result.now ≡ operation_of columns line.now shift }
 {
-    let source = source_of(line, shift);
-    if is_blank_at(line, shift, SOURCE) {
+    let source = source_of(line, shift, columns);
+    if is_blank_at(line, shift, columns.source as usize) {
         run_of(skip_blanks(source))
     } else {
         run_of(skip_blanks(after_run(source)))
@@ -90,8 +88,10 @@ fn is_mnemonic(word: &[u8]) -> bool
 
 #[tactic(auto, unfolding(crate::specs::Fields::has_mnemonic))]
 /// Whether the line's statement has an operation that is a mnemonic.
-pub fn has_mnemonic(line: &[u8], shift: u8) -> bool
-    ensures { result ≡ has_mnemonic narrow line.now shift }
+pub fn has_mnemonic(line: &[u8], shift: u8, columns: Columns) -> bool
+    requires { 1 ≤ columns.source }
+    ensures { result ≡ has_mnemonic columns line.now shift }
 {
-    column(line, shift, SOURCE) != b'*' && is_mnemonic(operation_of(line, shift))
+    column(line, shift, columns.source as usize) != b'*'
+        && is_mnemonic(operation_of(line, shift, columns))
 }

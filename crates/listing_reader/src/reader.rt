@@ -2,8 +2,8 @@
 ghost use Rattle.std.specs.Prelude.{◌≡◌, ◌+◌, ◌≤◌, ◌<◌, ◌++◌, ◌⊎◌, length, Option, IfOk, IfErr, OnOk, OnErr, option_map, replicate, position, drop, IfSome, true};
 ghost use Rattle.std.specs.declared.option.Option.TheVariants.{Some, None};
 ghost use Rattle.std.specs.List.{AllPass};
-ghost use Rattle.listing_lines.specs.Columns.{narrow};
-ghost use Rattle.listing_reader.specs.Fields.{is_instruction};
+ghost use Rattle.listing_lines.specs.Columns.{AreColumns};
+ghost use Rattle.listing_reader.specs.Fields.{location_of, is_instruction};
 ghost use Rattle.listing_reader.specs.Listing.{is_sound, line_of, is_bad, lines_of, listing_of, fault_of};
 
 use crate::fields::{are_blank, is_blank_at, number_in};
@@ -12,30 +12,48 @@ use crate::listing::Listing;
 use crate::object::object_of;
 use crate::operation::has_mnemonic;
 use cov_base::INPUT_LIMIT;
-use listing_lines::{ListingLines, shift_of};
+use listing_lines::{Columns, ListingLines, columns_of, heading_of};
 use std::alloc::Global;
 
-#[tactic(auto, unfolding(crate::specs::Fields::is_instruction))]
-fn is_instruction(line: &[u8], shift: u8) -> bool
-    ensures { result ≡ is_instruction narrow line.now shift }
+fn location_of(line: &[u8], shift: u8, columns: Columns) -> Option<u32>
+    requires { AreColumns columns }
+    ensures { result ≡ location_of columns line.now shift }
 {
-    number_in(line, shift, 1).is_some()
-        && is_blank_at(line, shift, 7)
-        && has_mnemonic(line, shift)
-        && !are_blank(line, shift, 8, 14)
+    number_in(
+        line,
+        shift,
+        columns.location as usize,
+        columns.digits as usize,
+    )
+}
+
+#[tactic(auto, unfolding(crate::specs::Fields::is_instruction))]
+fn is_instruction(line: &[u8], shift: u8, columns: Columns) -> bool
+    requires { AreColumns columns }
+    ensures { result ≡ is_instruction columns line.now shift }
+{
+    location_of(line, shift, columns).is_some()
+        && is_blank_at(
+            line,
+            shift,
+            columns.location as usize + columns.digits as usize,
+        )
+        && has_mnemonic(line, shift, columns)
+        && !are_blank(line, shift, columns.object as usize, columns.room as usize)
 }
 
 /// A line behind the heading; none where it is an instruction's and its object code is no code.
 #[tactic(auto, unfolding(crate::specs::Listing::line_of))]
-fn read_line(line: &[u8], shift: u8) -> Option<Line>
-    ensures value { result ≡ line_of narrow shift line.now }
+fn read_line(line: &[u8], shift: u8, columns: Columns) -> Option<Line>
+    requires { AreColumns columns }
+    ensures value { result ≡ line_of columns shift line.now }
     ensures sound { IfSome result (λ l. is_sound l ≡ true) }
 {
-    if !is_instruction(line, shift) {
+    if !is_instruction(line, shift, columns) {
         return Some(Line::Text);
     }
-    let loc = number_in(line, shift, 1).unwrap_or(0);
-    let bytes = object_of(line, shift)?;
+    let loc = location_of(line, shift, columns).unwrap_or(0);
+    let bytes = object_of(line, shift, columns)?;
     Some(Line::Code { loc, bytes })
 }
 
@@ -44,17 +62,19 @@ fn read_later(
     lines: &ListingLines,
     from: usize,
     shift: u8,
+    columns: Columns,
     read: &mut Listing,
 ) -> Result<(), ListFault>
+    requires columns { AreColumns columns }
     requires count { length lines.now ≤ INPUT_LIMIT }
     requires within { from ≤ length lines.now }
-    ensures lines { OnOk result (option_map (λ rest. read.old ++ rest) (lines_of narrow shift (drop from lines.now)) ≡ Some read.new) }
+    ensures lines { OnOk result (option_map (λ rest. read.old ++ rest) (lines_of columns shift (drop from lines.now)) ≡ Some read.new) }
     ensures count { OnOk result (length read.new + from ≡ length read.old + length lines.now) }
     ensures sound { AllPass is_sound read.old → AllPass is_sound read.new }
-    ensures fault { IfErr result (λ e. (e ≡ ListFault.NoMemory) ⊎ (option_map (λ k. ListFault.BadObject (from + 1 + k)) (position (is_bad narrow shift) (drop from lines.now)) ≡ Some e)) }
+    ensures fault { IfErr result (λ e. (e ≡ ListFault.NoMemory) ⊎ (option_map (λ k. ListFault.BadObject (from + 1 + k)) (position (is_bad columns shift) (drop from lines.now)) ≡ Some e)) }
 {
     for i in from..lines.len() {
-        match read_line(lines.line(i), shift) {
+        match read_line(lines.line(i), shift, columns) {
             None => return Err(ListFault::BadObject { line: i as u32 + 1 }),
             Some(says) => read.push(says)?,
         }
@@ -87,11 +107,11 @@ pub fn read_listing(alloc: Global, lines: &ListingLines) -> Result<Listing, List
     ensures sound { IfOk result (λ v. AllPass is_sound v) }
     ensures fault { IfErr result (λ e. (e ≡ ListFault.NoMemory) ⊎ (fault_of lines.now ≡ Some e)) }
 {
-    match shift_of(lines) {
+    match heading_of(lines) {
         None => Err(ListFault::NoHeading),
-        Some((at, shift)) => {
+        Some((at, shift, width)) => {
             let mut read = texts(alloc, at + 1, lines.len())?;
-            read_later(lines, at + 1, shift, &mut read)?;
+            read_later(lines, at + 1, shift, columns_of(width), &mut read)?;
             Ok(read)
         }
     }

@@ -258,3 +258,144 @@ fn refuses_object_code_of_another_form(rt: HostRuntime) -> Result<(), Fail> {
     assert_eq!(rt; read(alloc, &page, 0, false)?, Says::Bad(4));
     Ok(())
 }
+
+const WIDE_HEADING: &[u8] = b"  Loc    Object Code      Address1 Address2  Stmt   Source Statement";
+
+/// A narrow and a wide line, both of 72 columns.
+const LINES: [&[u8]; 2] = [
+    b"00000A 4110 0005                      1          LA                     ",
+    b"0000000A 4110 0005                              1          LA           ",
+];
+
+#[derive(Clone, Copy)]
+enum Changed {
+    Kept,
+    Text,
+    Bad,
+}
+
+/// Whether the line is wide; the columns, from one up to the one before another; the byte that stands in one of them;
+/// and what the line then is.
+static CHANGED: [(bool, usize, usize, u8, Changed); 22] = [
+    (false, 1, 8, b'Z', Changed::Text),
+    (false, 8, 22, b'Z', Changed::Bad),
+    (false, 22, 42, b'Z', Changed::Kept),
+    (false, 42, 53, b'Z', Changed::Text),
+    (false, 53, 73, b'Z', Changed::Kept),
+    (false, 1, 7, b' ', Changed::Text),
+    (false, 8, 12, b' ', Changed::Bad),
+    (false, 13, 17, b' ', Changed::Bad),
+    (false, 50, 52, b' ', Changed::Kept),
+    (false, 17, 22, b'4', Changed::Bad),
+    (false, 7, 8, b'4', Changed::Text),
+    (true, 1, 10, b'Z', Changed::Text),
+    (true, 10, 26, b'Z', Changed::Bad),
+    (true, 26, 52, b'Z', Changed::Kept),
+    (true, 52, 63, b'Z', Changed::Text),
+    (true, 63, 73, b'Z', Changed::Kept),
+    (true, 1, 9, b' ', Changed::Text),
+    (true, 10, 14, b' ', Changed::Bad),
+    (true, 15, 19, b' ', Changed::Bad),
+    (true, 60, 62, b' ', Changed::Kept),
+    (true, 19, 26, b'4', Changed::Bad),
+    (true, 9, 10, b'4', Changed::Text),
+];
+
+/// What the line says where one byte of it is another.
+fn with_byte(alloc: Global, wide: bool, column: usize, byte: u8) -> Result<Says, NoMemory> {
+    let (heading, line) = if wide {
+        (WIDE_HEADING, LINES[1])
+    } else {
+        (HEADING, LINES[0])
+    };
+    let mut changed = line.to_vec(alloc)?;
+    let at = column.wrapping_sub(1);
+    if at < changed.len() {
+        changed[at] = byte;
+    }
+    read(alloc, &[heading, &changed], 1, false)
+}
+
+#[test]
+fn reads_each_column_of_either_width(rt: HostRuntime) -> Result<(), Fail> {
+    for (wide, from, to, byte, changed) in &CHANGED {
+        let expected = match changed {
+            Changed::Kept => Says::Code(10, 4, [0x41, 0x10, 0, 5, 0, 0]),
+            Changed::Text => Says::Text,
+            Changed::Bad => Says::Bad(2),
+        };
+        for column in *from..*to {
+            assert_eq!(rt; with_byte(rt.alloc(), *wide, column, *byte)?, expected);
+        }
+    }
+    Ok(())
+}
+
+/// Two headings and a line, and what the line says.
+static WIDE: [(&[u8], &[u8], &[u8], Says); 9] = [
+    (
+        WIDE_HEADING,
+        HEADING,
+        b"FFFFFFFE d200 0000 0008                         2          mvc   0(1),8",
+        Says::Code(0xFFFF_FFFE, 6, [0xD2, 0, 0, 0, 0, 8]),
+    ),
+    (
+        WIDE_HEADING,
+        HEADING,
+        b"01000000 D200 0000 0008 X                       2          MVC   0(1),8",
+        Says::Bad(3),
+    ),
+    (
+        WIDE_HEADING,
+        HEADING,
+        b"01000000 D200 0000 0008 00                      2          MVC   0(1),8",
+        Says::Bad(3),
+    ),
+    (
+        WIDE_HEADING,
+        HEADING,
+        b"01000000 D200 0000 0008  X                      2+         MVC   0(1),8",
+        Says::Code(0x0100_0000, 6, [0xD2, 0, 0, 0, 0, 8]),
+    ),
+    (
+        WIDE_HEADING,
+        HEADING,
+        b"01000000 07FE                                   2+*        BR    14",
+        Says::Text,
+    ),
+    (
+        WIDE_HEADING,
+        HEADING,
+        b"01000000 07FE                                   2+NAME     BR    14",
+        Says::Code(0x0100_0000, 2, [0x07, 0xFE, 0, 0, 0, 0]),
+    ),
+    (
+        WIDE_HEADING,
+        HEADING,
+        b"00000A 4110 0005                      1          LA",
+        Says::Text,
+    ),
+    (
+        HEADING,
+        WIDE_HEADING,
+        b"00000A 4110 0005                      1          LA",
+        Says::Code(10, 4, [0x41, 0x10, 0, 5, 0, 0]),
+    ),
+    (
+        HEADING,
+        WIDE_HEADING,
+        b"0000000A 4110 0005                              1          LA",
+        Says::Text,
+    ),
+];
+
+#[test]
+fn reads_a_listing_by_its_first_heading(rt: HostRuntime) -> Result<(), Fail> {
+    for (first, second, line, expected) in &WIDE {
+        assert_eq!(rt;
+            read(rt.alloc(), &[*first, *second, *line], 2, false)?,
+            *expected
+        );
+    }
+    Ok(())
+}

@@ -2,7 +2,7 @@
 
 use super::notation::Case;
 
-pub const CASES: [Case; 30] = [
+pub const CASES: [Case; 32] = [
     Case {
         name: "a sum past the word",
         code: "000000 1A12 AR, 000002 07FE BR",
@@ -351,6 +351,58 @@ ENDJOB\n",
         tallies: None,
         text: "\
 BAD LISTING M LINE 2 OBJECT\n",
+    },
+    Case {
+        name: "a wide listing",
+        code: "",
+        job: "\
+COVERJOB 1\n\
+MODULE M 100000 8\n\
+TEXT 411000051A1107FE\n\
+LISTING 4\n\
+\x20 Loc    Object Code      Address1 Address2  Stmt   Source Statement\n\
+00000000 4110 0005                              1          LA\n\
+00000004 1A11                                   2          AR\n\
+00000006 07FE                                   3          BR\n\
+PHASE P\n\
+SESSION S M\n\
+TASK A 100000 16 100 0\n\
+ENDJOB\n",
+        status: 0,
+        tallies: None,
+        text: "\
+COVERAGE REPORT\n\
+TASK A RETURNED COUNT 3 CC 2\n\
+regs 1=0000000A\n\
+OUT 0\n\
+SESSION S PHASE P\n\
+MODULE M PLACES 3 EXECUTED 3 FACTS 3 OF 3\n\
+\x20   Loc    Object Code      Address1 Address2  Stmt   Source Statement\n\
+: 00000000 4110 0005                              1          LA\n\
+: 00000004 1A11                                   2          AR\n\
+: 00000006 07FE                                   3          BR\n\
+END\n",
+    },
+    Case {
+        name: "a location past 24 bits",
+        code: "",
+        job: "\
+COVERJOB 1\n\
+MODULE M 100000 8\n\
+TEXT 411000051A1107FE\n\
+LISTING 4\n\
+\x20 Loc    Object Code      Address1 Address2  Stmt   Source Statement\n\
+01000000 4110 0005                              1          LA\n\
+00000004 1A11                                   2          AR\n\
+00000006 07FE                                   3          BR\n\
+PHASE P\n\
+SESSION S M\n\
+TASK A 100000 16 100 0\n\
+ENDJOB\n",
+        status: 12,
+        tallies: None,
+        text: "\
+BAD LISTING M LINE 2 OUTSIDE\n",
     },
     Case {
         name: "an odd location",

@@ -14,13 +14,13 @@ pub returns-in-None : goal.returns-in-None
 returns-in-None c =
     let e : hex_digit_value (column c.args.line.now c.args.shift (c.args.from + c.loop-k.k)) ≡ None =
     ap hex_digit_value (sym c.column.ensures) ∙ (sym c.digit.ensures.value ∙ c.in-None.is) in
-    sym (number_in_none c.args.line.now c.args.shift c.args.from 6 c.loop-k.k e c.loop-k-test.true)
+    sym (number_in_none c.args.line.now c.args.shift c.args.from c.args.count c.loop-k.k e c.loop-k-test.true)
 
 pub overflow_mul-number : goal.overflow_mul-number
-overflow_mul-number c = omega (arith, power_16 c.loop-k.k c.loop-k-test.true)
+overflow_mul-number c = omega (arith, power_16 c.loop-k.k (omega arith))
 
 pub overflow_add-number : goal.overflow_add-number
-overflow_add-number c = omega (arith, power_16 c.loop-k.k c.loop-k-test.true, c.in-Some.ensures.below)
+overflow_add-number c = omega (arith, power_16 c.loop-k.k (omega arith), c.in-Some.ensures.below)
 
 pub loop-k-preserved : goal.loop-k-preserved
 loop-k-preserved c =

@@ -3,4 +3,4 @@ use Rattle.listing_reader.specs.Fields.{all_below, fits_groups}
 use Rattle.listing_reader.proofs.object.are_groups.Given as goal
 
 abbrev pub invariant-loop-k : goal.invariant-loop-k
-invariant-loop-k l = all_below (fits_groups l.line l.shift 8 l.groups) l.k ≡ true
+invariant-loop-k l = all_below (fits_groups l.line l.shift l.columns.object l.groups) l.k ≡ true
