@@ -2,16 +2,43 @@
 from __future__ import annotations
 
 import re
+from dataclasses import dataclass
 from typing import Optional
 
 from command import Fault
 from ebcdic import to_ascii
 
-HEADING = b"loc  object code    addr1 addr2  stmt   source statement"
+
+@dataclass(frozen=True)
+class Columns:
+    """The heading of a width of listing and its columns, counted from 0 behind a print control character."""
+
+    heading: bytes
+    location: slice
+    object_code: slice
+    statement: slice
+    plus: int
+    source: int
+
+
+NARROW = Columns(
+    b"Loc  Object Code    Addr1 Addr2  Stmt   Source Statement", slice(0, 6), slice(7, 21), slice(34, 39), 39, 40
+)
+WIDE = Columns(
+    b"Loc    Object Code      Address1 Address2  Stmt   Source Statement", slice(0, 8), slice(9, 25), slice(44, 49), 49, 50
+)
 HEADING_COLUMNS, LONGEST = (2, 3), 150
 NEW_LINES = re.compile(b"\x0d?[\x15\x25]")
 RECORDS = (121, 133)
-SOURCE = 40
+
+
+@dataclass(frozen=True)
+class Heading:
+    """The first heading line: its number, from 0; 1 where its lines have a print control character, else 0; its columns."""
+
+    at: int
+    shift: int
+    columns: Columns
 
 
 def is_ebcdic(data: bytes) -> bool:
@@ -19,32 +46,33 @@ def is_ebcdic(data: bytes) -> bool:
     return data.count(b"\x40") > data.count(b"\x20")
 
 
-def shift_of(lines: list[bytes]) -> Optional[tuple[int, int]]:
-    """The number, from 0, of the first heading line, and 1 where its lines have a print control character, else 0."""
+def heading_of(lines: list[bytes]) -> Optional[Heading]:
+    """The first heading line of either width."""
     for at, line in enumerate(lines):
-        for column in HEADING_COLUMNS:
-            if line[column : column + len(HEADING)].lower() == HEADING:
-                return at, column - HEADING_COLUMNS[0]
+        for columns in (NARROW, WIDE):
+            for begin in HEADING_COLUMNS:
+                if line[begin : begin + len(columns.heading)].lower() == columns.heading.lower():
+                    return Heading(at, begin - HEADING_COLUMNS[0], columns)
     return None
 
 
-def object_code(line: bytes, shift: int) -> Optional[tuple[int, bytes]]:
+def object_code(line: bytes, heading: Heading) -> Optional[tuple[int, bytes]]:
     """The location of a line and what stands in its columns of object code, where it can be an instruction's line."""
-    columns = line[shift:].ljust(SOURCE)
-    code = columns[7:21]
-    if not re.fullmatch(rb"[0-9A-Fa-f]{6} ", columns[:7]) or not code.strip(b" "):
+    columns = heading.columns
+    text = line[heading.shift :].ljust(columns.source)
+    location, code = text[columns.location], text[columns.object_code]
+    if not re.fullmatch(rb"[0-9A-Fa-f]+", location) or not text.startswith(b" ", columns.location.stop) or not code.strip(b" "):
         return None
-    return int(columns[:6], 16), code
+    return int(location, 16), code
 
 
 def read_listing(path: str, data: bytes) -> list[bytes]:
     """The lines of a listing, in ASCII, each within the limit."""
     lines = ebcdic_lines(path, data) if is_ebcdic(data) else ascii_lines(data)
-    found = shift_of(lines)
-    if found is None:
+    heading = heading_of(lines)
+    if heading is None:
         raise Fault(path, "no line has the heading of a source listing, at column 3 or 4")
-    heading, shift = found
-    return [cut(f"{path}: line {at + 1}", it, shift, at > heading) for at, it in enumerate(lines)]
+    return [cut(f"{path}: line {at + 1}", it, heading, at > heading.at) for at, it in enumerate(lines)]
 
 
 def ascii_lines(data: bytes) -> list[bytes]:
@@ -65,25 +93,25 @@ def ebcdic_lines(path: str, data: bytes) -> list[bytes]:
     for length in RECORDS:
         if len(data) % length == 0:
             records = [to_ascii(data[at : at + length]).rstrip(b" ") for at in range(0, len(data), length)]
-            if shift_of(records) is not None:
+            if heading_of(records) is not None:
                 return records
     lengths = " or ".join(map(str, RECORDS))
     raise Fault(path, f"{len(data)} bytes in EBCDIC, with neither line ends nor records of {lengths} bytes and a heading")
 
 
-def cut(place: str, line: bytes, shift: int, may_be_read: bool) -> bytes:
+def cut(place: str, line: bytes, heading: Heading, may_be_read: bool) -> bytes:
     """The line, cut to what a job takes; refused where its operation would be cut."""
     if len(line) <= LONGEST:
         return line
     line = line.rstrip(b" ")
-    if len(line) > LONGEST and may_be_read and object_code(line, shift) and not holds_operation(line[:LONGEST], shift):
+    if len(line) > LONGEST and may_be_read and object_code(line, heading) and not holds_operation(line[:LONGEST], heading):
         raise Fault(place, f"a line of {len(line)} bytes whose operation does not end within the {LONGEST} that are kept")
     return line[:LONGEST]
 
 
-def holds_operation(line: bytes, shift: int) -> bool:
+def holds_operation(line: bytes, heading: Heading) -> bool:
     """Whether a blank ends the operation of a cut line, or the line is a comment."""
-    source = line[shift + SOURCE :]
+    source = line[heading.shift + heading.columns.source :]
     if source.startswith(b"*"):
         return True
     runs = 1 if source.startswith(b" ") else 2

@@ -19,9 +19,9 @@ Writes the cards MODULE, TEXT and LISTING of a module.
            EBCDIC (SYM is passed over), each with X'02' before it. The sections of a deck stand in their order, each
            from a doubleword on, bytes without text are zero, and address constants of 3 and 4 bytes are relocated
            to BASE. A size that is odd gets a byte of zero behind it, in a deck
-  LISTING  a file with its listing, in ASCII lines, or in EBCDIC (code page 037 or 1047), as lines or as records of
-           121 or 133 bytes. Locations are those of the module. Lines are cut to 150 bytes. Without it the module
-           runs, and nothing of it is monitored
+  LISTING  a file with its listing, narrow or wide (docs/LISTING.md), in ASCII lines, or in EBCDIC (code page 037 or
+           1047), as lines or as records of 121 or 133 bytes. Locations are those of the module. Lines are cut to
+           150 bytes. Without it the module runs, and nothing of it is monitored
 
 What is wrong is said on standard error, with its file and record or line; then the status is 2, and nothing is
 written. This script is not proved. The program that reads the cards compares each instruction line with the bytes.

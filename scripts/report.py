@@ -6,7 +6,7 @@ from dataclasses import dataclass, field
 from typing import NoReturn, Optional
 
 from command import Fault
-from listing import object_code, shift_of
+from listing import heading_of, object_code
 
 TITLES = (b"COVERAGE REPORT", b"COVERAGE REPLAY", b"COVERAGE SHOW")
 NAME = rb"([A-Z@#$][A-Z@#$0-9]{0,7})"
@@ -176,11 +176,11 @@ class Reader:
 
     def find_places(self, module: Module, first: int) -> None:
         """Gives each marked line its location and its kind, by the columns of the listing."""
-        heading = shift_of([it.text for it in module.lines])
+        heading = heading_of([it.text for it in module.lines])
         for at, line in enumerate(module.lines):
             if line.mark == " ":
                 continue
-            found = object_code(line.text, heading[1]) if heading and at > heading[0] else None
+            found = object_code(line.text, heading) if heading and at > heading.at else None
             code = found and re.match(rb"[0-9A-Fa-f]{4}", found[1])
             if not found or not code:
                 self.refuse("a mark on a line that is no instruction's", first + at)

@@ -50,10 +50,12 @@ def job() -> bytes:
     return COUNTED.job(TASK).replace(b"BCT\n", b"BCT\r\n")
 
 
-def two_modules() -> bytes:
-    """A job of a module whose listing has print control characters, and of one that has none."""
-    listing = [f" {it}" for it in OTHER.listing()]
-    cards = ["COVERJOB 1", "MODULE MM 200000 4", "TEXT 1A11", "TEXT 07fe", f"LISTING {len(listing)}", *listing]
+def three_modules() -> bytes:
+    """A job of a module whose listing has print control characters, of one whose listing is wide too, and of one that has none."""
+    cards = ["COVERJOB 1"]
+    for name, base, program in (("MM", "200000", OTHER), ("W", "200010", OTHER.wide())):
+        listing = [f" {it}" for it in program.listing()]
+        cards += [f"MODULE {name} {base} 4", "TEXT 1A11", "TEXT 07fe", f"LISTING {len(listing)}", *listing]
     return "\n".join([*cards, "MODULE N 200008 2", "TEXT 07FE", "ENDJOB", ""]).encode()
 
 
@@ -121,7 +123,7 @@ def commands() -> list[Command]:
     return [
         Command(["run"], FIRST.job(), run),
         Command(["marks", "S"], job(), marks),
-        Command(["table"], two_modules(), table),
+        Command(["table"], three_modules(), table),
         Command(["replay"], job() + items, replay),
         Command(["combine"], FILE + COUNTED.marks_file(2, 0, version=1), model.combined),
         Command(["show", "S"], job() + COUNTED.marks_file(6, 1), show),

@@ -4,6 +4,7 @@ from __future__ import annotations
 from dataclasses import dataclass, field
 
 HEADING = "  Loc  Object Code    Addr1 Addr2  Stmt   Source Statement"
+WIDE_HEADING = "  Loc    Object Code      Address1 Address2  Stmt   Source Statement"
 FACTS = {"^": 0, ":": 1, ">": 1, "V": 1, "&": 2}
 CONDITIONAL = ("BCT", "BE")
 TASK = "TASK A 100000 16 100 0\n"
@@ -41,12 +42,13 @@ def code_of(text: str) -> list[tuple[int, str, str]]:
     return [(int(at, 16), code, operation) for at, code, operation in (it.split() for it in text.split(","))]
 
 
-def listing_of(code: list[tuple[int, str, str]]) -> list[str]:
+def listing_of(code: list[tuple[int, str, str]], is_wide: bool = False) -> list[str]:
     """A heading and a line for each instruction."""
-    lines = [HEADING]
+    lines = [WIDE_HEADING if is_wide else HEADING]
     for number, (at, digits, operation) in enumerate(code, 1):
         groups = " ".join(digits[it : it + 4] for it in range(0, len(digits), 4))
-        lines.append(f"{at:06X} {groups:<27}{number:>5}{'':10}{operation}")
+        front = f"{at:08X} {groups:<35}" if is_wide else f"{at:06X} {groups:<27}"
+        lines.append(f"{front}{number:>5}{'':10}{operation}")
     return lines
 
 
@@ -55,6 +57,8 @@ class Program:
     """A module M at 100000, all of it instructions, with a listing; and the phase P with the session S over it."""
 
     code: list[tuple[int, str, str]]
+    # The listing; none: a narrow one with a line for each instruction.
+    lines: list[str] | None = None
 
     @staticmethod
     def of(text: str) -> "Program":
@@ -64,7 +68,11 @@ class Program:
         return bytes.fromhex("".join(digits for _, digits, _ in self.code))
 
     def listing(self) -> list[str]:
-        return listing_of(self.code)
+        return listing_of(self.code) if self.lines is None else self.lines
+
+    def wide(self) -> "Program":
+        """The same with a wide listing."""
+        return Program(self.code, listing_of(self.code, True))
 
     def job(self, tasks: str = TASK, listing: list[str] | None = None, more: str = "") -> bytes:
         """The job, with other tasks, another listing, or lines behind its end."""
@@ -74,14 +82,15 @@ class Program:
         return ("\n".join([*cards, *lines, "PHASE P", "SESSION S M"]) + f"\n{tasks}ENDJOB\n{more}").encode()
 
     def session(self, marks: str, possible: int, ranges: tuple[str, ...] = ()) -> list[str]:
-        """The part of session S: a mark for each instruction, the facts that there can be, what was not executed."""
-        facts, executed = sum(FACTS[it] for it in marks), sum(it != "^" for it in marks)
+        """The part of session S: a mark for each line of the listing, or for its last ones, the facts that there can be,
+        what was not executed."""
+        places = marks.replace(" ", "")
+        facts, executed = sum(FACTS[it] for it in places), sum(it != "^" for it in places)
         listing = self.listing()
         return [
             "SESSION S PHASE P",
-            f"MODULE M PLACES {len(marks)} EXECUTED {executed} FACTS {facts} OF {possible}",
-            f"  {listing[0]}",
-            *(f"{mark} {line}" for mark, line in zip(marks, listing[1:])),
+            f"MODULE M PLACES {len(places)} EXECUTED {executed} FACTS {facts} OF {possible}",
+            *(f"{mark} {line}" for mark, line in zip(marks.rjust(len(listing)), listing)),
             *(f"NOT EXECUTED {it}" for it in ranges),
         ]
 

@@ -25,7 +25,11 @@ CARDS = {
     b"INPUT": rb"INPUT %s" % BYTES,
     b"ENDJOB": rb"(ENDJOB)",
 }
-HEADING = b"Loc  Object Code    Addr1 Addr2  Stmt   Source Statement".lower()
+# Of a narrow and of a wide listing: the heading, the digits of a location, the first column behind the object code, and that of the source.
+WIDTHS = (
+    (b"loc  object code    addr1 addr2  stmt   source statement", 6, 22, 41),
+    (b"loc    object code      address1 address2  stmt   source statement", 8, 26, 51),
+)
 EXTENDED = "B BR NOP NOPR BH BL BE BNH BNL BNE BO BP BM BNP BNM BNZ BZ BNO".split()
 MARKS = {0: "^", 1: ":", 2: ">", 4: "V", 6: "&"}
 
@@ -236,35 +240,37 @@ def read_listings(job: Job) -> None:
 def places_of(module: Module, listing: list[bytes]) -> list[Place | None]:
     """The place of each line. The faults behind OBJECT can't come of a change to blank, 00 or FF, and mustn't."""
     name = module.name.decode()
-    heads = [at for at, it in enumerate(listing) if HEADING in (it[2:58].lower(), it[3:59].lower())]
+    heads = [(at, column - 3, *width) for at, it in enumerate(listing) for width in WIDTHS for column in (3, 4)
+             if it[column - 1 :].lower().startswith(width[0])]
     if not heads:
         raise Refused(12, f"BAD LISTING {name} LINE 0 HEADING")
-    shift = int(listing[heads[0]][2:58].lower() != HEADING)
-    places: list[Place | None] = [None] * (heads[0] + 1)
-    for number, line in enumerate(listing[heads[0] + 1 :], heads[0] + 2):
-        code = object_code(line[shift:].ljust(150))
+    first, shift, _, digits, end, source = heads[0]
+    places: list[Place | None] = [None] * (first + 1)
+    for number, line in enumerate(listing[first + 1 :], first + 2):
+        code = object_code(line[shift:].ljust(150), digits, end, source)
         if code == b"":
             raise Refused(12, f"BAD LISTING {name} LINE {number} OBJECT")
         place = None
         if code:
-            place = Place(int(line[shift : shift + 6], 16), len(code), code[:2])
+            place = Place(int(line[shift : shift + digits], 16), len(code), code[:2])
             assert code == module.text[place.location : place.location + place.length], "a listing that doesn't match"
         places.append(place)
     return places
 
 
-def object_code(line: bytes) -> bytes | None:
+def object_code(line: bytes, digits: int, end: int, source: int) -> bytes | None:
     """The bytes of an instruction line; empty where they are bad, and none of a text line."""
-    if not re.fullmatch(rb"[0-9A-Fa-f]{6} ", line[:7]) or operation(line) not in MNEMONICS or not line[7:21].strip(b" "):
+    columns = line[digits + 1 : end - 1]
+    is_located = re.fullmatch(rb"[0-9A-Fa-f]{%d} " % digits, line[: digits + 1])
+    if not is_located or operation(line[source - 1 :]) not in MNEMONICS or not columns.strip(b" "):
         return None
-    found = re.fullmatch(rb"([0-9A-Fa-f]{4}(?: [0-9A-Fa-f]{4}){0,2}) *", line[7:21])
+    found = re.fullmatch(rb"([0-9A-Fa-f]{4}(?: [0-9A-Fa-f]{4}){0,2}) *", columns)
     code = bytes.fromhex(found[1].decode()) if found else b""
     return code if code and len(code) == length_of(code[0]) else b""
 
 
-def operation(line: bytes) -> bytes | None:
-    """The operation of a statement from column 41 on."""
-    source = line[40:]
+def operation(source: bytes) -> bytes | None:
+    """The operation of a source statement."""
     if source[:1] == b"*":
         return None
     runs = [it for it in source.split(b" ") if it]

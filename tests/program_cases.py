@@ -6,7 +6,7 @@ import subprocess
 from dataclasses import replace
 
 from harness import COVERAGE, PROGRAM, TOP, Case, equal, run, well
-from jobs import COUNTED, FIRST, FIRST_REPORT, FIRST_RESULT, TASK, Program, Result
+from jobs import COUNTED, FIRST, FIRST_REPORT, FIRST_RESULT, HEADING, TASK, WIDE_HEADING, Program, Result
 from trial import summary
 
 USAGE = b"USAGE: run | marks NAME | trial NUMBER TASKS | table | replay | combine | show NAME\n"
@@ -76,6 +76,53 @@ def two_tasks() -> Case:
     second = Result("RETURNED", 4, 2, {1: 1}, name="B")
     report = program.report([Result("RETURNED", 3, 0), second], ":&::", 5)
     return Case("two tasks", ["run"], program.job(TASK + task("REG 1 00000001", "TASK B 100000 16 100 0\n")), report)
+
+
+def wide_listings() -> list[Case]:
+    """Listings with the wide heading, in the columns of docs/LISTING.md."""
+    wide, counted = FIRST.wide(), COUNTED.wide()
+    heading, first, *rest = wide.listing()
+    narrow = FIRST.listing()
+    front = "00000000 4110 0005 "
+    assert first.startswith(front)
+
+    def shown(name: str, lines: list[str], marks: str) -> Case:
+        """A job whose listing has these lines, and the marks of its last ones."""
+        places = len(marks.replace(" ", ""))
+        return runs(name, Program(FIRST.code, lines), TASK, FIRST_RESULT, marks, places)
+
+    def refused(name: str, new: str, why: str, line: str = front) -> Case:
+        """A job whose first instruction line begins otherwise."""
+        lines = [heading, new + first[len(line) :], *rest]
+        return Case(name, ["run"], FIRST.job(listing=lines), f"BAD LISTING M LINE 2 {why}\n".encode(), 12)
+
+    return [
+        shown("a wide listing", wide.listing(), ":::"),
+        shown("a wide listing with print control characters", [f"1{heading}", *(f" {it}" for it in (first, *rest))], ":::"),
+        shown("a wide listing in the other case", [heading.upper(), *(it.lower() for it in (first, *rest))], ":::"),
+        shown("a wide heading, then a narrow one and wide lines", [heading, HEADING, first, *rest], ":::"),
+        shown("a wide heading, then a narrow one and narrow lines", [heading, *narrow], "   "),
+        shown("a narrow heading, then a wide one and narrow lines", [HEADING, WIDE_HEADING, *narrow[1:]], ":::"),
+        shown("a narrow heading, then a wide one and wide lines", [HEADING, *wide.listing()], "   "),
+        shown("wide lines before the heading", [first, *rest, *wide.listing()], ":::"),
+        shown("a location of seven digits", [heading, f"0000000 {first[8:]}", *rest], " ::"),
+        shown("a location without a blank behind it", [heading, f"00000000_{first[9:]}", *rest], " ::"),
+        shown("a byte behind the columns of object code", [heading, f"{first[:25]}_{first[26:]}", *rest], ":::"),
+        shown("no blank before the source", [heading, f"{first[:44]}123456{first[50:]}", *rest], ":::"),
+        shown("a wide comment", [heading, f"{first[:50]}* {first[52:]}", *rest], " ::"),
+        shown("a wide line with a name", [heading, f"{first[:50]}NAME LA", *rest], ":::"),
+        shown("an operation that begins a name", [heading, f"{first[:50]}LA NAME", *rest], " ::"),
+        refused("a wide location past the module", "01000000 4110 0005 ", "OUTSIDE"),
+        refused("the last wide location", "FFFFFFFE 4110 0005 ", "OUTSIDE"),
+        refused("a wide location that is odd", "00000001 4110 0005 ", "ODD"),
+        refused("half an instruction in a wide listing", "00000000 4110      ", "OBJECT"),
+        refused("wide object code a column late", "00000000  4110 0005", "OBJECT"),
+        refused("a byte in the last column of wide object code", first[:24] + "_", "OBJECT", first[:25]),
+        Case("marks of a wide listing", ["marks", "S"], counted.job(task("REG 1 00000001")), FELL),
+        Case("show of a wide listing", ["show", "S"], counted.job() + BOTH, counted.shown("&:", 3)),
+        Case("other bytes in a wide listing", ["run"], FIRST.job(listing=[heading, first.replace("0005", "0006"), *rest]),
+             b"MISMATCH M LINE 2 LOC 000000 LISTING 41100006 MODULE 41100005\n", 3),
+    ]
 
 
 def endings() -> list[Case]:
@@ -314,4 +361,4 @@ CHECKS = [broken_pipe, two_runs]
 
 def cases() -> list[Case]:
     """All of the program's."""
-    return [*instructions(), *endings(), *commands(), *marks_files(), *trials(), *refusals(), *streams()]
+    return [*instructions(), *wide_listings(), *endings(), *commands(), *marks_files(), *trials(), *refusals(), *streams()]

@@ -2,6 +2,7 @@
 from __future__ import annotations
 
 import functools
+import itertools
 import os
 import re
 import shutil
@@ -12,7 +13,7 @@ from typing import Callable
 
 from decks import END, ebcdic, esd, item, record, rld, txt
 from harness import COVERAGE, TOP, Ran, Tally, equal, folder, run, run_checks, well
-from jobs import COUNTED, FIRST, FIRST_REPORT, Result
+from jobs import COUNTED, FIRST, FIRST_REPORT, FIRST_RESULT, HEADING, WIDE_HEADING, Result
 
 SD, LD, ER, WX = 0, 1, 2, 10
 EXAMPLES = f"{TOP}/examples"
@@ -59,9 +60,12 @@ def listing_text(listing: list[str]) -> bytes:
 
 
 def raw_bytes() -> None:
-    """module: raw bytes and a listing in ASCII, as the cards of docs/JOB.md"""
-    ran = well(module_of(FIRST.text(), listing=listing_text(FIRST.listing())))
-    equal(ran.output, FIRST.job().split(b"\n", 1)[1].split(b"PHASE")[0])
+    """module: raw bytes and a listing in ASCII, narrow or wide, as the cards of docs/JOB.md"""
+    for program in (FIRST, FIRST.wide()):
+        for before in ("", " "):
+            listing = [before + it for it in program.listing()]
+            ran = well(module_of(FIRST.text(), listing=listing_text(listing)))
+            equal(ran.output, FIRST.job(listing=listing).split(b"\n", 1)[1].split(b"PHASE")[0])
 
 
 def no_listing() -> None:
@@ -72,7 +76,11 @@ def no_listing() -> None:
 
 def listings() -> None:
     """module: the same listing in ASCII with CR, in EBCDIC of both pages, and as records of 121 and 133 bytes"""
-    lines = FIRST.listing()
+    for program in (FIRST, FIRST.wide()):
+        same_listings(program.listing())
+
+
+def same_listings(lines: list[str]) -> None:
     wanted = well(module_of(FIRST.text(), listing=listing_text(lines))).output
     ends = "\r\n", b"\x15", b"\x25", b"\x0d\x25"
     texts = ["".join(it + ends[0] for it in lines).encode()]
@@ -91,14 +99,27 @@ def brackets() -> None:
 
 def long_lines() -> None:
     """module: lines are cut to 150 bytes, and refused where the operation would be cut"""
-    first, *rest = FIRST.listing()
-    long = f"{rest[0]}  {'remark ' * 30}"
-    lines = well(module_of(FIRST.text(), listing=listing_text([first, long, *rest[1:]]))).output.decode().splitlines()
-    equal(lines[4], long[:150])
-    far = f"{rest[0][:40]}{' ' * 120}LA 1,5"
-    refused(module_of(FIRST.text(), listing=listing_text([first, far])), 2, "listing: line 2", "150")
-    blank = f"{rest[0][:40]}{' ' * 120}"
-    equal(well(module_of(FIRST.text(), listing=listing_text([first, blank]))).output.splitlines()[4], blank.rstrip().encode())
+    for program, source in ((FIRST, 40), (FIRST.wide(), 50)):
+        heading, first, *rest = program.listing()
+        long = f"{first}  {'remark ' * 30}"
+        lines = well(module_of(FIRST.text(), listing=listing_text([heading, long, *rest]))).output.decode().splitlines()
+        equal(lines[4], long[:150])
+        front, gap = first[:source], " " * 120
+        refused(module_of(FIRST.text(), listing=listing_text([heading, f"{front}{gap}LA 1,5"])), 2, "listing: line 2", "150")
+        # A blank, a comment, and what has no location are no instruction lines; nor is one of the other width.
+        for line in (f"{front}{gap}", f"{front}*{gap}LA", f"_{front[1:]}{gap}LA", f"{front.replace('000000 ', '000000_', 1)}{gap}LA"):
+            ran = well(module_of(FIRST.text(), listing=listing_text([heading, line])))
+            equal(ran.output.splitlines()[4], line.rstrip()[:150].encode())
+
+
+def bad_headings() -> None:
+    """module: a heading of either width a byte off is none"""
+    for program in (FIRST, FIRST.wide()):
+        heading, *rest = program.listing()
+        for off in (heading[1:], f"  {heading}", heading.replace("  Stmt", " Stmt"), heading[:-1], heading.replace("Code ", "Code  ")):
+            refused(module_of(FIRST.text(), listing=listing_text([off, *rest])), 2, "listing", "heading")
+        for good in (heading, f"1{heading}", heading.upper(), heading.lower(), f"{heading}  more"):
+            well(module_of(FIRST.text(), listing=listing_text([good, *rest])))
 
 
 def sections() -> None:
@@ -224,6 +245,7 @@ def bad_jobs() -> None:
 
 MARKED = COUNTED.report([Result("RETURNED", 2)], "V:", 3)
 NOT_RUN = COUNTED.report([], "^^", 3, "000000-000005")
+WIDE_REPORT = FIRST.wide().report([FIRST_RESULT], ":::", 3)
 BAD_REPORTS = [
     (b"", "line 1", "nothing"),
     (FIRST_REPORT.replace(b"REPORT", b"SHOW"), "line 2", "TASK A"),
@@ -240,6 +262,14 @@ BAD_REPORTS = [
     (FIRST_REPORT.replace(b": 000004", b"V 000004"), "line 10", "mark V"),
     (FIRST_REPORT.replace(b"    Loc", b":   Loc"), "line 8", "mark"),
     (FIRST_REPORT.replace(b"SESSION", b"SESSIONS"), "line 6", "SESSIONS"),
+    # A wide heading, location and object code, each a column off; wide lines below a narrow heading, and the other way round.
+    (WIDE_REPORT.replace(b"  Loc ", b" Loc "), "line 9", "mark"),
+    (WIDE_REPORT.replace(b": 00000004", b": 0000004 "), "line 10", "mark"),
+    (WIDE_REPORT.replace(b": 00000004 ", b": 000000041"), "line 10", "mark"),
+    (WIDE_REPORT.replace(b"00000004 1A11", b"00000004  1A1"), "line 10", "mark"),
+    (WIDE_REPORT.replace(b": 00000004", b"V 00000004"), "line 10", "mark V"),
+    (WIDE_REPORT.replace(WIDE_HEADING.encode(), HEADING.encode()), "line 9", "mark"),
+    (FIRST_REPORT.replace(HEADING.encode(), WIDE_HEADING.encode()), "line 9", "mark"),
 ]
 
 
@@ -278,8 +308,9 @@ def example_report(name: str) -> bytes:
 
 def pages() -> None:
     """page: each line with its mark, unexecuted ranges as links, tasks folded, no script, light and dark"""
-    shown = COUNTED.shown("&:", 3)
-    for report in (FIRST_REPORT, MARKED, NOT_RUN, shown, example_report("orders"), example_report("palindrome")):
+    shown, wide = COUNTED.shown("&:", 3), COUNTED.wide().report([], "^^", 3, "000000-000005")
+    examples = [example_report(it) for it in ("orders", "palindrome", "tariff")]
+    for report in (FIRST_REPORT, WIDE_REPORT, MARKED, NOT_RUN, wide, shown, *examples):
         text = well(coverage("page", data=report)).output.decode()
         page = Page(text)
         equal(len(set(page.ids)), len(page.ids))
@@ -288,7 +319,7 @@ def pages() -> None:
         for line in report.decode().splitlines():
             if re.match(r"[\^:>V& ] ", line):
                 assert line in page.text, line
-        equal(page.links.count("#S.M.000000"), int(report is NOT_RUN))
+        equal(page.links.count("#S.M.000000"), int(report in (NOT_RUN, wide)))
         equal(sum(tag == "details" and "open" not in values for tag, values in page.tags), report.count(b"\nTASK "))
         assert not [tag for tag, values in page.tags if tag in ("script", "link", "img") or "src" in values]
         assert "prefers-color-scheme: dark" in text and "@media print" in text and '<html lang="en">' in text
@@ -327,15 +358,14 @@ def lcov_files() -> None:
     wanted = (
         "TN:S\nSF:out/M.lst\nBRDA:2,0,0,{}\nBRDA:2,0,1,{}\nBRF:2\nBRH:{}\nDA:2,{}\nDA:3,{}\nLF:2\nLH:{}\nend_of_record\n"
     )
-    both = COUNTED.report([], "&:", 3)
-    went = COUNTED.report([], ">:", 3)
-    ways = [(MARKED, (0, 1, 1, 1, 1, 2)), (went, (1, 0, 1, 1, 1, 2)), (both, (1, 1, 2, 1, 1, 2))]
-    for report, counts in [*ways, (NOT_RUN, ("-", "-", 0, 0, 0, 0))]:
+    ways = [("V:", (0, 1, 1, 1, 1, 2)), (">:", (1, 0, 1, 1, 1, 2)), ("&:", (1, 1, 2, 1, 1, 2)), ("^^", ("-", "-", 0, 0, 0, 0))]
+    for program, (marks, counts) in itertools.product((COUNTED, COUNTED.wide()), ways):
+        report = program.report([], marks, 3)
         with folder() as at:
             equal(well(coverage("lcov", "out", data=report, cwd=at)).output, b"")
             equal(sorted(os.listdir(f"{at}/out")), ["M.lst", "coverage.info"])
             with open(f"{at}/out/M.lst", encoding="ascii") as file:
-                equal(file.read().splitlines(), COUNTED.listing())
+                equal(file.read().splitlines(), program.listing())
             with open(f"{at}/out/coverage.info", encoding="ascii") as file:
                 equal(file.read(), wanted.format(*counts))
     with folder() as at:
@@ -367,9 +397,12 @@ def words_and_streams() -> None:
 
 def examples_are_made() -> None:
     """examples: the decks, the listings and the jobs are those of their sources"""
-    for name, module, base, code in (("orders", "ORDERS", "100000", "ebcdic"), ("palindrome", "PALIN", "200000", "ascii")):
+    for name, module, base, *style in (
+        ("orders", "ORDERS", "100000", "ebcdic"), ("palindrome", "PALIN", "200000", "ascii"),
+        ("tariff", "TARIFF", "100000", "ascii", "wide"),
+    ):
         with folder() as at:
-            words = ["python3", "-B", "scripts/assemble.py", f"examples/{name}.asm", f"{at}/object", f"{at}/listing", code]
+            words = ["python3", "-B", "scripts/assemble.py", f"examples/{name}.asm", f"{at}/object", f"{at}/listing", *style]
             well(run(words))
             for one, other in (("object", f"{name}.object"), ("listing", f"{name}.listing")):
                 with open(f"{at}/{one}", "rb") as made, open(f"{EXAMPLES}/{other}", "rb") as kept:
@@ -418,6 +451,21 @@ def palindromes() -> None:
     for part, marks in ((one, "V&&VV"), (two, "&&&&>")):
         found = dict(re.findall(r"^(?=.  ([0-9A-F]{6}) )(.)", part, re.M))
         equal("".join(found[at] for at in branches), marks)
+
+
+def tariff() -> None:
+    """examples: the prices and marks of three parcels, from a wide listing"""
+    report = example_report("tariff")
+    # 12 at 2.10; 1 at 1.25, of which the least price is 3.50; a zone that the table hasn't.
+    equal(outputs_of(report), ["SUD 012 KG    25.20", "NOR 001 KG     3.50", "NO ZONE".ljust(19)])
+    equal(report.count(b" RETURNED COUNT "), 3)
+    marked = dict(re.findall(r"^(?=.  ([0-9A-F]{8}) )([\^:>V&])", report.decode(), re.M))
+    # The branches: a whole record, a zone found and the table's end, digits alone and their count, the least price or more.
+    wanted = dict(zip(("00000022", "00000034", "0000003C", "00000056", "0000005E", "00000074"), "V&&V&&"))
+    wanted.update({"000000AE": "^", "000000B4": "^"})
+    equal({at: mark for at, mark in marked.items() if mark != ":"}, wanted)
+    assert b"\nMODULE TARIFF PLACES 42 EXECUTED 40 FACTS 44 OF 48\n" in report
+    assert b"\nNOT EXECUTED 0000AE-0000B7\n" in report
 
 
 # what other tools make of it
@@ -480,7 +528,7 @@ def in_browser(browser: str) -> None:
 
 
 CHECKS = [
-    raw_bytes, no_listing, listings, brackets, long_lines, sections, constants, labels, bad_decks, bad_modules, jobs,
+    raw_bytes, no_listing, listings, brackets, long_lines, bad_headings, sections, constants, labels, bad_decks, bad_modules, jobs,
     bad_jobs, pages, page_escapes, replay_page, show_page, bad_reports, lcov_files, words_and_streams, examples_are_made, orders,
-    palindromes,
+    palindromes, tariff,
 ]

@@ -1,15 +1,28 @@
 """What an assembly is written as: an object deck, and a listing."""
 from __future__ import annotations
 
-from typing import Iterator
+from dataclasses import dataclass
+from typing import Iterator, Optional
 
 from assembler.constants import Reference
 from assembler.expressions import Section, Value
 from assembler.operations import OPERATIONS
 from assembler.statements import Assembly, Statement
+from listing import NARROW, WIDE, Columns
 
-TEXT_BYTES, LINES_A_PAGE, LISTING_COLUMNS = 56, 55, 121
-HEADING = "0  Loc  Object Code    Addr1 Addr2  Stmt   Source Statement"
+TEXT_BYTES, LINES_A_PAGE = 56, 55
+
+
+@dataclass(frozen=True)
+class Style:
+    """How wide a listing is with its print control characters, its columns, and the digits of an address that they show."""
+
+    record: int
+    columns: Columns
+    digits: int
+
+
+STYLES = {"narrow": Style(121, NARROW, 5), "wide": Style(133, WIDE, 8)}
 
 
 def record(kind: str, fields: dict[int, bytes], number: int) -> bytes:
@@ -127,25 +140,37 @@ def object_columns(statement: Statement) -> str:
     return digits[:16]
 
 
-def listing_line(assembly: Assembly, statement: Statement, number: int) -> str:
+def listing_line(assembly: Assembly, statement: Statement, number: int, style: Style) -> str:
     """A line of the listing behind its print control character."""
-    place = f"{assembly.shown(statement.at):06X}" if statement.at else ""
-    size = assembly.sections[statement.name].size if statement.operation == "CSECT" else None
-    first, second = (None, size) if size is not None else (statement.first, statement.second)
-    columns = f"{place:<6} {object_columns(statement):<15}{f'{first:05X}' if first is not None else '':<6}"
-    if size is not None:
-        columns = f"{place:<6} {'':<15}00000 "
+    columns = style.columns
+    addresses = columns.statement.start - 2 * (style.digits + 1)
+    line = [" "] * columns.source
+
+    def put(at: int, text: str) -> None:
+        line[at : at + len(text)] = text
+
+    def put_address(which: int, address: Optional[int]) -> None:
+        if address is not None:
+            put(addresses + which * (style.digits + 1), f"{address:0{style.digits}X}")
+
     if statement.using:
-        columns = f"{'':<16}{statement.using:<12}"
-    return f"{columns[:28]:<28}{f'{second:05X}' if second is not None else '':<5} {number:>5} {statement.text}"
+        put(columns.object_code.start + 9, statement.using)
+    elif statement.at:
+        put(0, f"{assembly.shown(statement.at):0{columns.location.stop}X}")
+        put(columns.object_code.start, object_columns(statement))
+    is_section = statement.operation == "CSECT"
+    put_address(0, 0 if is_section else statement.first)
+    put_address(1, assembly.sections[statement.name].size if is_section else statement.second)
+    put(columns.statement.start, f"{number:>5}")
+    return "".join(line) + statement.text
 
 
-def listing(assembly: Assembly, title: str) -> list[str]:
+def listing(assembly: Assembly, title: str, style: Style) -> list[str]:
     """The listing's lines, each with a print control character, in pages."""
     lines: list[str] = []
     for number, statement in enumerate(assembly.statements, 1):
         if (number - 1) % LINES_A_PAGE == 0:
             page = (number - 1) // LINES_A_PAGE + 1
-            lines += [f"1{title:<109}Page {page:>4}", HEADING]
-        lines.append(f" {listing_line(assembly, statement, number)}"[:LISTING_COLUMNS])
+            lines += [f"1{title:<{style.record - 12}}Page {page:>4}", f"0  {style.columns.heading.decode()}"]
+        lines.append(f" {listing_line(assembly, statement, number, style)}"[: style.record])
     return lines
