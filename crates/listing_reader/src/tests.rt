@@ -261,11 +261,11 @@ fn refuses_object_code_of_another_form(rt: HostRuntime) -> Result<(), Fail> {
 
 const WIDE_HEADING: &[u8] = b"  Loc    Object Code      Address1 Address2  Stmt   Source Statement";
 
-/// A narrow and a wide line, both of 72 columns.
-const LINES: [&[u8]; 2] = [
-    b"00000A 4110 0005                      1          LA                     ",
-    b"0000000A 4110 0005                              1          LA           ",
-];
+/// A line of either width, both of 72 columns.
+const LINE: &[u8] = b"00000A 4110 0005                      1          LA                     ";
+
+const WIDE_LINE: &[u8] =
+    b"0000000A 4110 0005                              1          LA           ";
 
 #[derive(Clone, Copy)]
 enum Changed {
@@ -302,12 +302,13 @@ static CHANGED: [(bool, usize, usize, u8, Changed); 22] = [
 ];
 
 /// What the line says where one byte of it is another.
-fn with_byte(alloc: Global, wide: bool, column: usize, byte: u8) -> Result<Says, NoMemory> {
-    let (heading, line) = if wide {
-        (WIDE_HEADING, LINES[1])
-    } else {
-        (HEADING, LINES[0])
-    };
+fn with_byte(
+    alloc: Global,
+    heading: &[u8],
+    line: &[u8],
+    column: usize,
+    byte: u8,
+) -> Result<Says, NoMemory> {
     let mut changed = line.to_vec(alloc)?;
     let at = column.wrapping_sub(1);
     if at < changed.len() {
@@ -325,7 +326,12 @@ fn reads_each_column_of_either_width(rt: HostRuntime) -> Result<(), Fail> {
             Changed::Bad => Says::Bad(2),
         };
         for column in *from..*to {
-            assert_eq!(rt; with_byte(rt.alloc(), *wide, column, *byte)?, expected);
+            let says = if *wide {
+                with_byte(rt.alloc(), WIDE_HEADING, WIDE_LINE, column, *byte)?
+            } else {
+                with_byte(rt.alloc(), HEADING, LINE, column, *byte)?
+            };
+            assert_eq!(rt; says, expected);
         }
     }
     Ok(())
