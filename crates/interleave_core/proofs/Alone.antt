@@ -14,7 +14,7 @@ use Rattle.s370_exec.proofs.TraceLemmas.{solo_step-done}
 use Rattle.session_book.specs.Sessions.{task_of, no_task, first_state}
 use Rattle.interleave_core.specs.World.{World, TaskPart, Parts, part_of, no_part, memory_in, budget_in, first_parts, first_part, place_at}
 use Rattle.interleave_core.specs.Steps.{Stepped, parts_step, fetch_step, fetched, mark_step, marked, lift_step, lifted, do_step, done_by, may_plant, breakpoint_of, with_cell, with_due, original_under, same_cell, in_hand, with_stage, step_of, is_spent, executed, stage_after, place_due, task_done, subject_place, subject_executed, instruction_executed, awaits_or, unless_at, same_due}
-use Rattle.module_area.specs.PlainWords.{word_at}
+use Rattle.module_area.specs.CellWords.{word_at}
 use Rattle.module_area.specs.declared.cells.Cell.{Cell}
 use Rattle.interleave_core.specs.Core.{CoreState, CoreStepped, core_start, core_step, core_after, core_from, core_run, go_on}
 use Rattle.interleave_core.proofs.Kept.{in_hand-stage}

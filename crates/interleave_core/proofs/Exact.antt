@@ -12,7 +12,7 @@ use Rattle.cov_base.specs.declared.facts.Kind.TheVariants.{Straight, Conditional
 use Rattle.s370_state.specs.declared.endings.Ending.{Ending}
 use Rattle.module_area.specs.Held.{planted, untouched, lifted as lifted_cell, IsForm, Held}
 use Rattle.module_area.specs.Parties.{Has, tag_session, window_tag, is_breakpoint, is_lifted, fetching}
-use Rattle.module_area.specs.PlainWords.{word_at}
+use Rattle.module_area.specs.CellWords.{word_at}
 use Rattle.module_area.specs.PlanView.{PlanView, IsPlan, original_at, kind_at, is_over}
 use Rattle.module_area.specs.declared.cells.Cell.{Cell}
 use Rattle.module_area.specs.declared.parties.View.{View}

@@ -6,7 +6,7 @@ use Rattle.cov_base.specs.declared.numbers.TaskNo.{TaskNo}
 use Rattle.cov_base.specs.Facts.{is_full, with_fact}
 use Rattle.module_area.specs.Parties.{tag_session}
 use Rattle.module_area.specs.PlanView.{kind_at}
-use Rattle.module_area.specs.PlainWords.{word_at}
+use Rattle.module_area.specs.CellWords.{word_at}
 use Rattle.s370_state.specs.declared.endings.Ending.TheVariants.{Returned, Spent}
 use Rattle.s370_state.specs.declared.endings.Next.{Next}
 use Rattle.s370_state.specs.declared.endings.Next.TheVariants.{On, Ended as NextEnded}

@@ -15,7 +15,8 @@ use Rattle.cov_base.specs.declared.facts.Kind.{Kind}
 use Rattle.cov_base.specs.declared.facts.Kind.TheVariants.{Straight, Conditional}
 use Rattle.module_area.proofs.Indices.{same_index, index_below}
 use Rattle.module_area.specs.Parties.{tag_session}
-use Rattle.module_area.specs.PlainWords.{IsWord, word_at, no_cell, set_in, index_of}
+use Rattle.module_area.specs.CellWords.{IsWord, word_at, no_cell}
+use Rattle.module_area.specs.FinalsView.{set_in, index_of}
 use Rattle.module_area.specs.PlanView.{PlanView, IsPlan, kind_at, window_at, original_at}
 use Rattle.module_area.specs.declared.cells.Cell.{Cell}
 use Rattle.interleave_core.specs.World.{World, TaskPart, Parts, plan_in, place_at, part_of, no_part}

@@ -41,7 +41,7 @@ use Rattle.s370_state.specs.declared.endings.Next.{Next}
 use Rattle.s370_state.specs.declared.endings.Next.TheVariants.{On, Ended as NextEnded}
 use Rattle.session_book.specs.Sessions.{task_of, no_task, first_state}
 use Rattle.module_area.specs.Parties.{tag_session}
-use Rattle.module_area.specs.PlainWords.{word_at}
+use Rattle.module_area.specs.CellWords.{word_at}
 use Rattle.std.proofs.lemmas.Grind.{get_or-set_at}
 use Rattle.interleave_core.specs.declared.stage.Due.{Due}
 use Rattle.interleave_core.specs.declared.stage.Stage.{Stage}

@@ -19,10 +19,10 @@ use Rattle.s370_state.specs.declared.endings.Next.{Next}
 use Rattle.s370_state.specs.declared.endings.Next.TheVariants.{On, Ended as NextEnded}
 use Rattle.s370_exec.specs.Fetch.{is_execute}
 use Rattle.s370_exec.specs.Solo.{has_returned, visit_of}
-use Rattle.module_area.specs.FreshWords.{fresh_word}
+use Rattle.module_area.specs.CellWords.{fresh_word, word_at, no_cell}
 use Rattle.module_area.specs.Held.{planted, untouched, lifted as lifted_cell, IsForm, Keeps, KeepsAs, Held}
 use Rattle.module_area.specs.Parties.{Has, tag_session, window_tag, is_breakpoint, blank, fetching, marking, lifting, planting, giving, newcomer, last_tag}
-use Rattle.module_area.specs.PlainWords.{word_at, no_cell, index_of}
+use Rattle.module_area.specs.FinalsView.{index_of}
 use Rattle.module_area.specs.PlanView.{PlanView, IsPlan, original_at, kind_at, window_at, is_over, no_place}
 use Rattle.module_area.specs.declared.cells.Cell.{Cell}
 use Rattle.module_area.specs.declared.parties.Role.{Role}

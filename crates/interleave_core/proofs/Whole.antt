@@ -13,7 +13,7 @@ use Rattle.s370_state.specs.declared.endings.Ending.{Ending}
 use Rattle.s370_exec.specs.Solo.{Run}
 use Rattle.module_area.specs.Executions.{executes, facts_at, facts_of_all}
 use Rattle.module_area.specs.Parties.{Has, tag_session, window_tag}
-use Rattle.module_area.specs.PlainWords.{word_at, no_cell}
+use Rattle.module_area.specs.CellWords.{word_at, no_cell}
 use Rattle.module_area.specs.PlanView.{kind_at, window_at, place_of, no_place}
 use Rattle.module_area.specs.declared.cells.Cell.{Cell}
 use Rattle.module_area.specs.declared.parties.View.{View}

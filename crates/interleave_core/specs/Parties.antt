@@ -6,7 +6,7 @@ use Rattle.module_area.specs.declared.parties.Role.TheVariants.{Root, Task}
 use Rattle.module_area.specs.declared.parties.View.{View}
 use Rattle.module_area.specs.Held.{Held}
 use Rattle.module_area.specs.Parties.{tag_session, blank, fetching, marking, lifting, planting}
-use Rattle.module_area.specs.PlainWords.{word_at}
+use Rattle.module_area.specs.CellWords.{word_at}
 use Rattle.module_area.specs.PlanView.{PlanView}
 use Rattle.interleave_core.specs.World.{World, Parts, plan_in}
 use Rattle.interleave_core.specs.Steps.{set_of}

@@ -13,7 +13,8 @@ use Rattle.s370_state.specs.declared.endings.Next.TheVariants.{On, Ended as Next
 use Rattle.s370_exec.specs.Fetch.{is_execute}
 use Rattle.s370_exec.specs.Solo.{Step, solo_step, visit_of, has_returned}
 use Rattle.module_area.specs.Parties.{tag_session}
-use Rattle.module_area.specs.PlainWords.{word_at, index_of, set_in}
+use Rattle.module_area.specs.CellWords.{word_at}
+use Rattle.module_area.specs.FinalsView.{index_of, set_in}
 use Rattle.module_area.specs.PlanView.{original_at, kind_at, window_at}
 use Rattle.module_area.specs.declared.cells.Cell.{Cell}
 use Rattle.interleave_core.specs.World.{World, TaskPart, Parts, plan_in, memory_in, budget_in, place_at, part_of}

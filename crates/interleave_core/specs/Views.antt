@@ -4,7 +4,8 @@ use Rattle.cov_base.specs.Codes.{breakpoint}
 use Rattle.cov_base.specs.Facts.{is_within}
 use Rattle.cov_base.specs.FactSet.{FactSet}
 use Rattle.module_area.specs.declared.cells.Cell.{Cell}
-use Rattle.module_area.specs.PlainWords.{IsWord, word_at, set_in}
+use Rattle.module_area.specs.CellWords.{IsWord, word_at}
+use Rattle.module_area.specs.FinalsView.{set_in}
 use Rattle.module_area.specs.PlanView.{PlanView, IsPlan, kind_at, window_at}
 use Rattle.module_area.specs.declared.places.Place.{Place}
 use Rattle.brk_table.specs.Places.{AreSeen, ArePlaces, IsIn}

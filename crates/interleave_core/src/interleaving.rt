@@ -1,7 +1,7 @@
 //! The core.
 ghost use Rattle.std.specs.Prelude.{◌≡◌, ℕ, ◌+◌, ◌*◌, ◌<◌, ◌≤◌, [], length, map, replicate, set, if◌then◌else◌, All, IfOk, OnErr, IfSome, IsNone, IsSome, ◌↔◌};
 ghost use Rattle.std.specs.declared.option.Option.TheVariants.{Some, None};
-ghost use Rattle.module_area.specs.PlainWords.{word_at};
+ghost use Rattle.module_area.specs.CellWords.{word_at, fresh_word};
 ghost use Rattle.brk_table.specs.Places.{IsIn};
 ghost use Rattle.cov_base.specs.Facts.{is_full, no_facts};
 ghost use Rattle.interleave_core.specs.declared.stage.Due.TheVariants.{Lifting, Nothing};
@@ -12,7 +12,6 @@ ghost use Rattle.interleave_core.specs.declared.events.Event.{Event};
 ghost use Rattle.interleave_core.specs.Going.{HasGone, go, left};
 ghost use Rattle.interleave_core.specs.Results.{next_of, IsDue, results_of, Fits};
 ghost use Rattle.interleave_core.specs.Views.{AreReady};
-ghost use Rattle.module_area.specs.FreshWords.{fresh_word};
 
 use crate::events::{Event, NotPossible, Shown};
 use crate::running::Running;

@@ -14,8 +14,8 @@ max_over a b c h = grind arith
 max_same : (a b n : ℕ) → a + 1 ≡ n → b + 1 ≡ n → max a b + 1 ≡ n
 max_same a b n h k = grind arith
 
-pub joins-more : (plan : PlanView) (old mid other : Notes) (t : ℕ) (xs ys : List Visit) → JoinsAll plan old mid xs → Observes plan (split_notes old t) other ys →
-    JoinsAll plan old (after_join mid other) (xs ++ ys)
+pub joins-more : (plan : PlanView) (old mid other : Notes) (t : ℕ) (xs ys : List Visit) → JoinsAll plan old mid xs → Observes plan (split_notes plan old t) other ys →
+    JoinsAll plan old (after_join plan mid other) (xs ++ ys)
 joins-more plan old mid other t xs ys r h =
     let count = visits_at_places-append plan.places xs ys in
     record {
@@ -56,8 +56,8 @@ joins-more plan old mid other t xs ys r h =
     no e = cc
 
     -- root and pass have seen the same tags
-    split_stays : {s p : ℕ} → Stays plan (record old { given = (after_join mid other).given; out = (after_join mid other).out }) s p → Stays plan (split_notes old t) s p
+    split_stays : {s p : ℕ} → Stays plan (record old { given = (after_join plan mid other).given; out = (after_join plan mid other).out }) s p → Stays plan (split_notes plan old t) s p
     split_stays h = record { some = h.some; whole = h.whole; seen = h.seen }
 
-    same_stays : {s p : ℕ} → Stays plan (record old { given = (after_join mid other).given; out = (after_join mid other).out }) s p → Stays plan (record old { given = mid.given; out = mid.out }) s p
+    same_stays : {s p : ℕ} → Stays plan (record old { given = (after_join plan mid other).given; out = (after_join plan mid other).out }) s p → Stays plan (record old { given = mid.given; out = mid.out }) s p
     same_stays h = record { some = h.some; whole = h.whole; seen = h.seen }

@@ -52,12 +52,12 @@ HasObserved-start run plan old new j places phase next split = record {
 
 -- a pass has done no more than this since it was split off
 pub pass_calls : (run : Course) (plan : PlanView) (root other : Notes) (j : JobView) (places : List Place) (t : ℕ) → IsCourse run → IsTask (length j.phases) (task_of j t) →
-    Observes plan (split_notes root t) other (trace_by run j places t) → calls other ≤ 300000000
-pass_calls run plan root other j places t course is o = run_calls run plan (split_notes root t) other j places t course is o
+    Observes plan (split_notes plan root t) other (trace_by run j places t) → calls other ≤ 300000000
+pass_calls run plan root other j places t course is o = run_calls run plan (split_notes plan root t) other j places t course is o
 
 pub HasObserved-one : (run : Course) (plan : PlanView) (old mid other : Notes) (j : JobView) (places : List Place) (phase next : ℕ) → IsCourse run → next < length j.tasks → nat_eq (task_of j next).phase phase ≡ true →
-    IsTask (length j.phases) (task_of j next) → HasObserved run plan old mid j places phase next → Observes plan (split_notes old next) other (trace_by run j places next) →
-    HasObserved run plan old (after_join mid other) j places phase (next + 1)
+    IsTask (length j.phases) (task_of j next) → HasObserved run plan old mid j places phase next → Observes plan (split_notes plan old next) other (trace_by run j places next) →
+    HasObserved run plan old (after_join plan mid other) j places phase (next + 1)
 HasObserved-one run plan old mid other j places phase next course l h is o more =
     let after : rest_of run j places phase next ≡ trace_by run j places next ++ rest_of run j places phase (next + 1) =
     next_of run j places phase next l ∙ one_of run j places phase next (drop (next + 1) j.tasks) h in

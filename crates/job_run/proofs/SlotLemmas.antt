@@ -99,18 +99,18 @@ HasSplit-other j phase next before mid h s = record {
 
 -- the passes while they are split off
 
-pub AreSplit-start : {P : Type 0} (is_pass : P → Type 0) (notes : P → Notes) (root : Notes) (j : JobView) (phase : ℕ) (slots : List (Slot P)) → AreEmpty slots → AreSplit is_pass notes root j phase 0 slots slots
-AreSplit-start is_pass notes root j phase slots empty = record {
+pub AreSplit-start : {P : Type 0} (is_pass : P → Type 0) (notes : P → Notes) (plan : PlanView) (root : Notes) (j : JobView) (phase : ℕ) (slots : List (Slot P)) → AreEmpty slots → AreSplit is_pass notes plan root j phase 0 slots slots
+AreSplit-start is_pass notes plan root j phase slots empty = record {
   count = refl;
   done = λ t d l. refl;
   some = λ t d l never h. absurd (omega (arith, never));
   none = λ t d l h. empty t d l;
 }
 
-pub AreSplit-one : {P : Type 0} (is_pass : P → Type 0) (notes : P → Notes) (root : Notes) (j : JobView) (phase next : ℕ) (old mid : List (Slot P)) (e none : Slot P) (p : P) →
-    next < length old → in_phase j phase next ≡ true → AreSplit is_pass notes root j phase next old mid →
-    e.pass ≡ Some p → is_pass p → notes p ≡ split_notes root next → e.done ≡ (get_or mid next none).done → AreSplit is_pass notes root j phase (next + 1) old (set mid next e)
-AreSplit-one is_pass notes root j phase next old mid e none p here of a has area fresh done = record {
+pub AreSplit-one : {P : Type 0} (is_pass : P → Type 0) (notes : P → Notes) (plan : PlanView) (root : Notes) (j : JobView) (phase next : ℕ) (old mid : List (Slot P)) (e none : Slot P) (p : P) →
+    next < length old → in_phase j phase next ≡ true → AreSplit is_pass notes plan root j phase next old mid →
+    e.pass ≡ Some p → is_pass p → notes p ≡ split_notes plan root next → e.done ≡ (get_or mid next none).done → AreSplit is_pass notes plan root j phase (next + 1) old (set mid next e)
+AreSplit-one is_pass notes plan root j phase next old mid e none p here of a has area fresh done = record {
   count = length-set mid next e ∙ a.count;
   done = λ t d l. elim (same_or t next) [
     | inl same ↦ ap (λ s. s.done) (get_or-set_at mid next t e d same there) ∙ (done ∙ (a.done next none here ∙ ap (λ s. s.done) (get_or_default old next none d here ∙ ap (λ k. get_or old k d) (sym same))))
@@ -120,9 +120,9 @@ AreSplit-one is_pass notes root j phase next old mid e none p here of a has area
     | inl same ↦ record {
       pass = p;
       has = ap (λ s. s.pass) (get_or-set_at mid next t e d same there) ∙ has;
-      holds = record { area = area; fresh = fresh ∙ ap (split_notes root) (sym same) };
+      holds = record { area = area; fresh = fresh ∙ ap (split_notes plan root) (sym same) };
     }
-    | inr other ↦ subst (HasPass (IsFresh is_pass notes root t)) (sym (get_or-set_other mid next t e d other)) (a.some t d l (omega (arith, below, other)) h)
+    | inr other ↦ subst (HasPass (IsFresh is_pass notes plan root t)) (sym (get_or-set_other mid next t e d other)) (a.some t d l (omega (arith, below, other)) h)
   ];
   none = λ t d l h. elim (same_or t next) [
     | inl same ↦ absurd (both (is_before j phase (next + 1) t) (is_here (in_phase j phase t) t (next + 1) (omega (arith, same)) (here_too j phase next true of t same)) h)
@@ -133,9 +133,9 @@ AreSplit-one is_pass notes root j phase next old mid e none p here of a has area
     there : next < length mid
     there = omega (arith, here, a.count)
 
-pub AreSplit-other : {P : Type 0} (is_pass : P → Type 0) (notes : P → Notes) (root : Notes) (j : JobView) (phase next : ℕ) (old mid : List (Slot P)) → in_phase j phase next ≡ false →
-    AreSplit is_pass notes root j phase next old mid → AreSplit is_pass notes root j phase (next + 1) old mid
-AreSplit-other is_pass notes root j phase next old mid h a = record {
+pub AreSplit-other : {P : Type 0} (is_pass : P → Type 0) (notes : P → Notes) (plan : PlanView) (root : Notes) (j : JobView) (phase next : ℕ) (old mid : List (Slot P)) → in_phase j phase next ≡ false →
+    AreSplit is_pass notes plan root j phase next old mid → AreSplit is_pass notes plan root j phase (next + 1) old mid
+AreSplit-other is_pass notes plan root j phase next old mid h a = record {
   count = a.count;
   done = a.done;
   some = λ t d l below of. elim (same_or t next) [
@@ -147,7 +147,7 @@ AreSplit-other is_pass notes root j phase next old mid h a = record {
 
 -- all can run
 
-can_run : {P : Type 0} (is_pass : P → Type 0) (notes : P → Notes) (root : Notes) (t : ℕ) (plan : PlanView) (places : List Place) (s : Slot P) → HasPass (IsFresh is_pass notes root t) s →
+can_run : {P : Type 0} (is_pass : P → Type 0) (notes : P → Notes) (root : Notes) (t : ℕ) (plan : PlanView) (places : List Place) (s : Slot P) → HasPass (IsFresh is_pass notes plan root t) s →
     IsOver plan (memory_of_space s.done.task.space) places → s.done.task.done ≡ 0 → CanRun is_pass notes plan places s
 can_run is_pass notes root t plan places s h over fresh = record {
   area = rw h.has h.holds.area;
@@ -166,16 +166,16 @@ not_run : (p phase : ℕ) → nat_eq p phase ≡ true → nat_lt p phase ≡ fal
 not_run p phase h = grind (arith, nat_tests)
 
 -- a task of the phase is as it begins
-begun_at : {P : Type 0} (run : Course) (is_pass : P → Type 0) (notes : P → Notes) (root : Notes) (j : JobView) (places : List Place) (phase : ℕ) (old slots : List (Slot P)) (t : ℕ) (d : Slot P) →
-    AreSplit is_pass notes root j phase (length j.tasks) old slots → AreRun run j places phase old → t < length old → in_phase j phase t ≡ true → HasNotRun j places t (get_or slots t d).done
-begun_at run is_pass notes root j places phase old slots t d a r l h =
+begun_at : {P : Type 0} (run : Course) (is_pass : P → Type 0) (notes : P → Notes) (plan : PlanView) (root : Notes) (j : JobView) (places : List Place) (phase : ℕ) (old slots : List (Slot P)) (t : ℕ) (d : Slot P) →
+    AreSplit is_pass notes plan root j phase (length j.tasks) old slots → AreRun run j places phase old → t < length old → in_phase j phase t ≡ true → HasNotRun j places t (get_or slots t d).done
+begun_at run is_pass notes plan root j places phase old slots t d a r l h =
     subst (λ (x : Done). HasNotRun j places t x) (sym (a.done t d l)) (r.begun t d l (not_run (task_of j t).phase phase h))
 
 is_over_begun : (plan : PlanView) (j : JobView) (places : List Place) (t : ℕ) (d : Done) → plan.places ≡ places → HasNotRun j places t d → IsOver plan (memory_of_space d.task.space) places
 is_over_begun plan j places t d of b = record { same = of; seen = subst (λ (m : Memory). AreSeen m places) (sym b.begun.memory) b.begun.seen }
 
 pub all_ready : {P : Type 0} (run : Course) (is_pass : P → Type 0) (notes : P → Notes) (root : Notes) (plan : PlanView) (j : JobView) (places : List Place) (phase : ℕ) (old slots : List (Slot P)) → plan.places ≡ places →
-    AreSplit is_pass notes root j phase (length j.tasks) old slots → AreRun run j places phase old → All (CanRun is_pass notes plan places) slots
+    AreSplit is_pass notes plan root j phase (length j.tasks) old slots → AreRun run j places phase old → All (CanRun is_pass notes plan places) slots
 all_ready run is_pass notes root plan j places phase old slots of a r k d l = by_phase (in_phase j phase k) refl
   where
     here : k < length old
@@ -183,14 +183,14 @@ all_ready run is_pass notes root plan j places phase old slots of a r k d l = by
 
     by_phase : (b : Bool) → in_phase j phase k ≡ b → CanRun is_pass notes plan places (get_or slots k d)
     by_phase true e =
-        let begun : HasNotRun j places k (get_or slots k d).done = begun_at run is_pass notes root j places phase old slots k d a r here e in
+        let begun : HasNotRun j places k (get_or slots k d).done = begun_at run is_pass notes plan root j places phase old slots k d a r here e in
         can_run is_pass notes root k plan places (get_or slots k d) (a.some k d here (omega (arith, here, r.count)) e) (is_over_begun plan j places k (get_or slots k d).done of begun) begun.done
     by_phase false e = need_not is_pass notes plan places (get_or slots k d) (a.none k d here (not_before (in_phase j phase k) k (length j.tasks) e))
 
 -- no other slot has a pass
-pub none_other : {P : Type 0} (is_pass : P → Type 0) (notes : P → Notes) (root : Notes) (j : JobView) (phase : ℕ) (old slots : List (Slot P)) → AreSplit is_pass notes root j phase (length j.tasks) old slots →
+pub none_other : {P : Type 0} (is_pass : P → Type 0) (notes : P → Notes) (plan : PlanView) (root : Notes) (j : JobView) (phase : ℕ) (old slots : List (Slot P)) → AreSplit is_pass notes plan root j phase (length j.tasks) old slots →
     (t : ℕ) (d : Slot P) → t < length slots → in_phase j phase t ≡ false → (get_or slots t d).pass ≡ None
-none_other is_pass notes root j phase old slots a t d l h = a.none t d (omega (arith, l, a.count)) (not_before (in_phase j phase t) t (length j.tasks) h)
+none_other is_pass notes plan root j phase old slots a t d l h = a.none t d (omega (arith, l, a.count)) (not_before (in_phase j phase t) t (length j.tasks) h)
 
 -- all have run
 
@@ -201,18 +201,18 @@ ran_not : {P : Type 0} (run : Course) (is_pass : P → Type 0) (notes : P → No
 ran_not run is_pass notes plan old new e r = subst (RunsSlot run is_pass notes plan old new) e r
 
 has_seen : {P : Type 0} (run : Course) (is_pass : P → Type 0) (notes : P → Notes) (root : Notes) (plan : PlanView) (j : JobView) (places : List Place) (t : ℕ) (old new : Slot P) → plan ≡ plan_view j places (task_of j t).phase →
-    HasPass (IsFresh is_pass notes root t) old → HasNotRun j places t old.done → RunsSlot run is_pass notes plan old new old.pass → HasPass (HasSeen is_pass notes plan root (trace_by run j places t) t) new
+    HasPass (IsFresh is_pass notes plan root t) old → HasNotRun j places t old.done → RunsSlot run is_pass notes plan old new old.pass → HasPass (HasSeen is_pass notes plan root (trace_by run j places t) t) new
 has_seen run is_pass notes root plan j places t old new of h begun r =
     let w : RunsWith run is_pass notes plan old new h.pass = ran_with run is_pass notes plan old new h.pass h.has r in
-    let seen : Observes plan (split_notes root t) (notes w.pass) (own_run run plan old.done).trace = subst (λ (n : Notes). Observes plan n (notes w.pass) (own_run run plan old.done).trace) h.holds.fresh w.observes in
+    let seen : Observes plan (split_notes plan root t) (notes w.pass) (own_run run plan old.done).trace = subst (λ (n : Notes). Observes plan n (notes w.pass) (own_run run plan old.done).trace) h.holds.fresh w.observes in
     record {
       pass = w.pass;
       has = w.has;
-      holds = record { area = w.area; observes = subst (λ (x : Run). Observes plan (split_notes root t) (notes w.pass) x.trace) (begun_run run plan j places t old.done of begun) seen };
+      holds = record { area = w.area; observes = subst (λ (x : Run). Observes plan (split_notes plan root t) (notes w.pass) x.trace) (begun_run run plan j places t old.done of begun) seen };
     }
 
 run_ended : {P : Type 0} (run : Course) (is_pass : P → Type 0) (notes : P → Notes) (root : Notes) (plan : PlanView) (j : JobView) (places : List Place) (t : ℕ) (old new : Slot P) → plan ≡ plan_view j places (task_of j t).phase →
-    HasPass (IsFresh is_pass notes root t) old → HasNotRun j places t old.done → RunsSlot run is_pass notes plan old new old.pass → IsEnded run j places t new.done
+    HasPass (IsFresh is_pass notes plan root t) old → HasNotRun j places t old.done → RunsSlot run is_pass notes plan old new old.pass → IsEnded run j places t new.done
 run_ended run is_pass notes root plan j places t old new of h begun r =
     let w : RunsWith run is_pass notes plan old new h.pass = ran_with run is_pass notes plan old new h.pass h.has r in
     has_ended run plan j places t old.done new.done of begun w.result w.filled
@@ -225,14 +225,14 @@ no_longer : (a : Bool) (t : ℕ) → (not (nat_lt t 0) && a) ≡ false → a ≡
 no_longer a t h = grind (arith, nat_tests)
 
 pub AreOver-start : {P : Type 0} (run : Course) (is_pass : P → Type 0) (notes : P → Notes) (root : Notes) (plan : PlanView) (j : JobView) (places : List Place) (phase : ℕ) (old mid new : List (Slot P)) →
-    plan ≡ plan_view j places phase → AreSplit is_pass notes root j phase (length j.tasks) old mid → AreRun run j places phase old → length new ≡ length mid →
+    plan ≡ plan_view j places phase → AreSplit is_pass notes plan root j phase (length j.tasks) old mid → AreRun run j places phase old → length new ≡ length mid →
     ((t : ℕ) (d : Slot P) → t < length mid → RunsSlot run is_pass notes plan (get_or mid t d) (get_or new t d) (get_or mid t d).pass) →
     AreOver run is_pass notes plan root j places phase 0 new
 AreOver-start run is_pass notes root plan j places phase old mid new of a r same runs = record {
   some = λ t d from l h.
       let here : t < length old = omega (arith, l, same, a.count) in
       has_seen run is_pass notes root plan j places t (get_or mid t d) (get_or new t d) (plan_here plan j places phase t of h) (a.some t d here (omega (arith, here, r.count)) h)
-      (begun_at run is_pass notes root j places phase old mid t d a r here h) (runs t d (omega (arith, l, same)));
+      (begun_at run is_pass notes plan root j places phase old mid t d a r here h) (runs t d (omega (arith, l, same)));
   none = λ t d l h.
       let here : t < length old = omega (arith, l, same, a.count) in
       let empty : (get_or mid t d).pass ≡ None = a.none t d here (not_before (in_phase j phase t) t (length j.tasks) (no_longer (in_phase j phase t) t h)) in
@@ -240,12 +240,12 @@ AreOver-start run is_pass notes root plan j places phase old mid new of a r same
 }
 
 pub AreRun-after : {P : Type 0} (run : Course) (is_pass : P → Type 0) (notes : P → Notes) (root : Notes) (plan : PlanView) (j : JobView) (places : List Place) (phase : ℕ) (old mid new : List (Slot P)) →
-    plan ≡ plan_view j places phase → AreSplit is_pass notes root j phase (length j.tasks) old mid → AreRun run j places phase old → length new ≡ length mid →
+    plan ≡ plan_view j places phase → AreSplit is_pass notes plan root j phase (length j.tasks) old mid → AreRun run j places phase old → length new ≡ length mid →
     ((t : ℕ) (d : Slot P) → t < length mid → RunsSlot run is_pass notes plan (get_or mid t d) (get_or new t d) (get_or mid t d).pass) →
     AreRun run j places (phase + 1) new
 AreRun-after run is_pass notes root plan j places phase old mid new of a r same runs = AreRun-next run j places phase old new r (same ∙ a.count)
     (λ t d l h. run_ended run is_pass notes root plan j places t (get_or mid t d) (get_or new t d) (plan_here plan j places phase t of h) (a.some t d l (omega (arith, l, r.count)) h)
-    (begun_at run is_pass notes root j places phase old mid t d a r l h) (runs t d (omega (arith, l, a.count))))
+    (begun_at run is_pass notes plan root j places phase old mid t d a r l h) (runs t d (omega (arith, l, a.count))))
     (λ t d l h.
     let empty : (get_or mid t d).pass ≡ None = a.none t d l (not_before (in_phase j phase t) t (length j.tasks) h) in
     ap (λ s. s.done) (ran_not run is_pass notes plan (get_or mid t d) (get_or new t d) empty (runs t d (omega (arith, l, a.count)))) ∙ a.done t d l)

@@ -49,15 +49,15 @@ pub record HasPass {P : Type 0} (good : P → Type 0) (s : Slot P) : Type 0 wher
   pub holds : good pass
 
 -- the pass was split off from the root for the task
-pub record IsFresh {P : Type 0} (is_pass : P → Type 0) (notes : P → Notes) (root : Notes) (t : ℕ) (p : P) : Type 0 where
+pub record IsFresh {P : Type 0} (is_pass : P → Type 0) (notes : P → Notes) (plan : PlanView) (root : Notes) (t : ℕ) (p : P) : Type 0 where
   pub area : is_pass p
-  pub fresh : notes p ≡ split_notes root t
+  pub fresh : notes p ≡ split_notes plan root t
 
 -- the slots with a pass for each of the phase's tasks before the next
-pub record AreSplit {P : Type 0} (is_pass : P → Type 0) (notes : P → Notes) (root : Notes) (j : JobView) (phase next : ℕ) (old new : List (Slot P)) : Type 0 where
+pub record AreSplit {P : Type 0} (is_pass : P → Type 0) (notes : P → Notes) (plan : PlanView) (root : Notes) (j : JobView) (phase next : ℕ) (old new : List (Slot P)) : Type 0 where
   pub count : length new ≡ length old
   pub done : (t : ℕ) (d : Slot P) → t < length old → (get_or new t d).done ≡ (get_or old t d).done
-  pub some : (t : ℕ) (d : Slot P) → t < length old → t < next → in_phase j phase t ≡ true → HasPass (IsFresh is_pass notes root t) (get_or new t d)
+  pub some : (t : ℕ) (d : Slot P) → t < length old → t < next → in_phase j phase t ≡ true → HasPass (IsFresh is_pass notes plan root t) (get_or new t d)
   pub none : (t : ℕ) (d : Slot P) → t < length old → is_before j phase next t ≡ false → (get_or new t d).pass ≡ None
 
 -- the slot's task can run with its pass, if it has one
@@ -84,7 +84,7 @@ RunsSlot run is_pass notes plan old new (Some p) = RunsWith run is_pass notes pl
 -- the pass has observed the task's visits since it was split off from the root
 pub record HasSeen {P : Type 0} (is_pass : P → Type 0) (notes : P → Notes) (plan : PlanView) (root : Notes) (visits : List Visit) (t : ℕ) (p : P) : Type 0 where
   pub area : is_pass p
-  pub observes : Observes plan (split_notes root t) (notes p) visits
+  pub observes : Observes plan (split_notes plan root t) (notes p) visits
 
 -- each of the phase's tasks from the next on has such a pass, and no other slot has one
 pub record AreOver {P : Type 0} (run : Course) (is_pass : P → Type 0) (notes : P → Notes) (plan : PlanView) (root : Notes) (j : JobView) (places : List Place) (phase next : ℕ) (slots : List (Slot P)) : Type 0 where

@@ -153,7 +153,7 @@ fn split_all<'a, C: Forks>(
     ensures job { IsJob job.now }
     ensures area { C.is_pass cells.now root.new }
     ensures notes { HasSplit job.now phase (length job.now.tasks) (C.notes root.old) (C.notes root.new) }
-    ensures passes { AreSplit (C.is_pass cells.now) C.notes (C.notes root.old) job.now phase (length job.now.tasks) slots.old slots.new }
+    ensures passes { AreSplit (C.is_pass cells.now) C.notes (C.plan cells.now) (C.notes root.old) job.now phase (length job.now.tasks) slots.old slots.new }
 {
     let count = job.task_count();
     for t in 0..count {

@@ -6,8 +6,6 @@ use Rattle.cov_base.specs.declared.facts.Kind.{Kind}
 use Rattle.cov_base.specs.declared.facts.Kind.TheVariants.{Straight, Conditional}
 use Rattle.cov_base.specs.FactSet.{FactSet}
 use Rattle.cov_base.specs.Facts.{has_fact, is_of_kind, is_full, with_fact, same_fact, full_of, is_within}
-use Rattle.module_area.specs.PlainWords.{is_some_full}
-use Rattle.module_area.proofs.Indices.{and_left}
 
 or_false : (b : Bool) → b ≡ (b || false)
 or_false true = refl
@@ -38,21 +36,6 @@ same_fact-true Went Stayed h = absurd cc
 same_fact-true Stayed Ran h = absurd cc
 same_fact-true Stayed Went h = absurd cc
 same_fact-true Stayed Stayed h = refl
-
-straight_full : (r w s : Bool) → (w ≡ true → false ≡ true) → (s ≡ true → false ≡ true) → (r || (w && s)) ≡ (r && (not w && not s))
-straight_full r true s h k = let e : false ≡ true = h refl in absurd cc
-straight_full r false true h k = let e : false ≡ true = k refl in absurd cc
-straight_full true false false h k = refl
-straight_full false false false h k = refl
-
-conditional_full : (r w s : Bool) → (r ≡ true → false ≡ true) → (r || (w && s)) ≡ (not r && (w && s))
-conditional_full true w s h = let e : false ≡ true = h refl in absurd cc
-conditional_full false w s h = refl
-
--- in a set of one kind
-pub full_of_kind : (k : Kind) (s : FactSet) → ((g : Fact) → has_fact s g ≡ true → is_of_kind k g ≡ true) → is_some_full s ≡ is_full k s
-full_of_kind Straight s h = straight_full s.ran s.went s.stayed (h Went) (h Stayed)
-full_of_kind Conditional s h = conditional_full s.ran s.went s.stayed (h Ran)
 
 straight_within : (w s : Bool) → (w ≡ true → false ≡ true) → (s ≡ true → false ≡ true) → (not w && not s) ≡ true
 straight_within true s h k = let e : false ≡ true = h refl in absurd cc
@@ -86,25 +69,5 @@ full_by Conditional false true false h = absurd cc
 full_by Conditional false false true h = absurd cc
 full_by Conditional false false false h = absurd cc
 
-stays_by : (f : Fact) (r w s : Bool) → (r || (w && s)) ≡ true → is_some_full (with_fact (record { ran = r; went = w; stayed = s }) f) ≡ true
-stays_by Ran r w s h = refl
-stays_by Went true w s h = refl
-stays_by Went false true s h = h
-stays_by Went false false s h = absurd cc
-stays_by Stayed true w s h = refl
-stays_by Stayed false true s h = refl
-stays_by Stayed false false s h = absurd cc
-
-some_by : (s : FactSet) (b : Bool) → s.ran ≡ b → (b || (s.went && s.stayed)) ≡ true → (f : Fact) × (has_fact s f ≡ true)
-some_by s true e h = (Ran, e)
-some_by s false e h = (Went, and_left s.went s.stayed h)
-
 pub is_full-true : (k : Kind) (s : FactSet) → is_full k s ≡ true → s ≡ full_of k
 is_full-true k s h = full_by k s.ran s.went s.stayed h
-
-pub stays_full : (s : FactSet) (f : Fact) → is_some_full s ≡ true → is_some_full (with_fact s f) ≡ true
-stays_full s f h = stays_by f s.ran s.went s.stayed h
-
--- a full set has a fact
-pub some_fact : (s : FactSet) → is_some_full s ≡ true → (f : Fact) × (has_fact s f ≡ true)
-some_fact s h = some_by s s.ran refl h

@@ -117,7 +117,7 @@ module _ (plan : PlanView) (cell : ℕ → Cell) (sets : ℕ → ℕ → FactSet
       marked = λ s p f h. ⊎_elim (λ y. b.marked s p f y) (λ y. a.marked s p f y) (has-append (s, p, f) o.marked v.marked h);
       full = λ s p h. ⊎_elim (λ y. let x = b.full s p y in (x.0, left-append (p, window_tag s) o.seen v.seen x.1, x.2)) (λ y. let x = a.full s p y in (x.0, right-append (p, window_tag s) o.seen v.seen x.1, x.2)) (has-append (s, p) o.full v.full h);
       free = λ s p h. ⊎_elim (λ y. let x = b.free s p y in (left-append (s, p) o.full v.full x.0, x.1)) (λ y. let x = a.free s p y in (right-append (s, p) o.full v.full x.0, x.1)) (has-append (s, p) o.free v.free h);
-      lifted = λ s p h. ⊎_elim (λ y. b.lifted s p y) (λ y. a.lifted s p y) (has-append (s, p) o.lifted v.lifted h);
+      lifted = λ s p h. ⊎_elim (λ y. let x = b.lifted s p y in (x.0, x.1, x.2, left-append (s, p) o.free v.free x.3)) (λ y. let x = a.lifted s p y in (x.0, x.1, x.2, right-append (s, p) o.free v.free x.3)) (has-append (s, p) o.lifted v.lifted h);
       planted = λ p x h. ⊎_elim
           (λ y. left-append (p, x) o.seen v.seen (b.planted p x (has-chosen (is_controller plan (role_task o.role)) p x o.planted y)))
           (λ y. right-append (p, x) o.seen v.seen (a.planted p x (has-chosen (λ q. not (is_controller plan (role_task o.role) q)) p x v.planted y)))

@@ -1,11 +1,11 @@
 -- What the sessions of a plan say of a place.
-use Rattle.std.proofs.Common.{◌≡◌, ◌⊎◌, ℕ, suc, ◌<◌, ◌≤◌, Bool, true, false, ◌&&◌, ◌||◌, nat_eq, nat_lt, List, [], ◌∷◌, length, get_or, Contains, sym, refl, ap, ◌∙◌, inl, inr, ⊎_elim, arith, eqb-true, lt_of_not-le}
+use Rattle.std.proofs.Common.{◌≡◌, ◌⊎◌, ℕ, zero, suc, ◌<◌, ◌≤◌, Bool, true, false, ◌&&◌, ◌||◌, nat_eq, nat_lt, List, [], ◌∷◌, length, get_or, Contains, sym, refl, ap, ◌∙◌, inl, inr, ⊎_elim, arith, eqb-true, eq-eqb, lt_of_not-le}
 use Rattle.std.specs.List.{list_any}
 use mathlib.Core.Logic.{dite}
 use native.Mathlib.Decide.{dec_le}
 use Rattle.cov_base.specs.declared.numbers.PlaceNo.{PlaceNo}
 use Rattle.module_area.specs.PlanView.{PlanView, ControlledView, IsPlan, has_place, is_controlled, is_controller, is_over, window_at}
-use Rattle.module_area.proofs.Indices.{and_left, and_right}
+use Rattle.module_area.proofs.Indices.{and_left, and_right, and_both}
 
 any_step : {X : Type 0} (f : X → Bool) (x : X) (xs : List X) (d : X) (b : Bool) → f x ≡ b → (b || list_any f xs) ≡ true
     → (list_any f xs ≡ true → (k : ℕ) × (k < length xs) × (f (get_or xs k d) ≡ true)) → (k : ℕ) × (k < length (x ∷ xs)) × (f (get_or (x ∷ xs) k d) ≡ true)
@@ -15,6 +15,15 @@ any_step f x xs d false e h rest = let r = rest h in let l = r.1 in (suc r.0, om
 pub any_at : {X : Type 0} (f : X → Bool) (xs : List X) (d : X) → list_any f xs ≡ true → (k : ℕ) × (k < length xs) × (f (get_or xs k d) ≡ true)
 any_at f [] d h = absurd cc
 any_at f (x ∷ xs) d h = any_step f x xs d (f x) refl h (any_at f xs d)
+
+pub any_shown : {X : Type 0} (f : X → Bool) (xs : List X) (d : X) (k : ℕ) → k < length xs → f (get_or xs k d) ≡ true → list_any f xs ≡ true
+any_shown f [] d k l h = absurd (omega arith)
+any_shown f (x ∷ xs) d zero l h = ap (λ b. b || list_any f xs) h
+any_shown f (x ∷ xs) d (suc k) l h = any_more (f x) (any_shown f xs d k (omega arith) h)
+  where
+    any_more : {c : Bool} (b : Bool) → c ≡ true → (b || c) ≡ true
+    any_more true e = refl
+    any_more false e = e
 
 abbrev number : ℕ → PlaceNo
 number p = record { 0 = p }
@@ -55,12 +64,27 @@ no_controlled plan s p ok pos h = let a = controlled_at plan s p h in let c = a.
     let z : window_at plan (get_or (session_at plan a.0).places c.0 (number p)).0 ≡ 0 = (ok.controlled a.0 no_session a.1).free c.0 (number p) c.1 in
     let e : window_at plan p ≡ 0 = sym (ap (λ (q : PlaceNo). window_at plan q.0) c.2) ∙ z in absurd (omega arith)
 
-over_cases : (plan : PlanView) (s p : ℕ) → is_over plan s p ≡ true → (window_at plan p ≡ s) ⊎ (is_controlled plan s p ≡ true)
+pub over_cases : (plan : PlanView) (s p : ℕ) → is_over plan s p ≡ true → (window_at plan p ≡ s) ⊎ (is_controlled plan s p ≡ true)
 over_cases plan s p h = by_test (nat_lt 0 s && nat_eq (window_at plan p) s) (is_controlled plan s p) refl refl h
   where
     by_test : (a b : Bool) → (nat_lt 0 s && nat_eq (window_at plan p) s) ≡ a → is_controlled plan s p ≡ b → (a || b) ≡ true → (window_at plan p ≡ s) ⊎ (is_controlled plan s p ≡ true)
     by_test true b ea eb x = inl (eqb-true _ _ (and_right (nat_lt 0 s) _ ea))
     by_test false b ea eb x = inr (eb ∙ x)
+
+-- the controlled session at an index has a controller
+controller_there : (plan : PlanView) (i p : ℕ) → i < length plan.controlled → has_place (session_at plan i).places p ≡ true → is_controller plan (session_at plan i).by p ≡ true
+controller_there plan i p l h = any_shown (λ (c : ControlledView). nat_eq c.by (session_at plan i).by && has_place c.places p) plan.controlled no_session i l
+    (and_both _ _ (eq-eqb (session_at plan i).by (session_at plan i).by refl) h)
+
+-- some controlled session of the test over the place gives a controller of the test
+pub tested_controller : (plan : PlanView) (f : ℕ → Bool) (p : ℕ) → list_any (λ (c : ControlledView). f c.by && has_place c.places p) plan.controlled ≡ true → (t : ℕ) × (is_controller plan t p ≡ true) × (f t ≡ true)
+tested_controller plan f p h = let a = any_at (λ (c : ControlledView). f c.by && has_place c.places p) plan.controlled no_session h in
+    ((session_at plan a.0).by, controller_there plan a.0 p a.1 (and_right (f (session_at plan a.0).by) _ a.2), and_left _ _ a.2)
+
+-- a controlled session over a place has a controller there
+pub controller_of : (plan : PlanView) (s p : ℕ) → is_controlled plan s p ≡ true → (t : ℕ) × (is_controller plan t p ≡ true)
+controller_of plan s p h = let a = any_at (λ (c : ControlledView). nat_eq c.session s && has_place c.places p) plan.controlled no_session h in
+    ((session_at plan a.0).by, controller_there plan a.0 p a.1 (and_right (nat_eq (session_at plan a.0).session s) _ a.2))
 
 -- a place with a window is under its whole session alone
 pub over_window : (plan : PlanView) (s p : ℕ) → IsPlan plan → 0 < window_at plan p → is_over plan s p ≡ true → window_at plan p ≡ s
@@ -69,3 +93,7 @@ over_window plan s p ok pos h = ⊎_elim (λ e. e) (λ c. absurd (no_controlled 
 pub over_small : (plan : PlanView) (s p : ℕ) → IsPlan plan → p < length plan.places → is_over plan s p ≡ true → s ≤ plan.sessions
 over_small plan s p ok l h = ⊎_elim (λ e. let x = ok.in_range p l in omega arith)
     (λ c. let a = controlled_at plan s p c in let x = (ok.controlled a.0 no_session a.1).to in let e = a.2 in omega arith) (over_cases plan s p h)
+
+-- in a phase without controlled sessions a session over a place is its whole session
+pub over_whole : (plan : PlanView) (s p : ℕ) → plan.controlled ≡ [] → is_over plan s p ≡ true → window_at plan p ≡ s
+over_whole plan s p none h = ⊎_elim (λ e. e) (λ c. let z : false ≡ true = sym (ap (list_any (λ (d : ControlledView). nat_eq d.session s && has_place d.places p)) none) ∙ c in absurd cc) (over_cases plan s p h)

@@ -265,7 +265,7 @@ module _ (plan : PlanView) where
             subst (λ (z : ℕ × ℕ). Has z w.full × (cell z.1 ≢ planted z.0)) b.1 (here-add_if (is_lifted plan p (cell p)) (tag_session (cell p).tag, p) v.full b.0, f.3))
             (λ (o : Has (s, q) v.free). let f = k.free s q o in (more-add_if (is_lifted plan p (cell p)) (s, q) (tag_session (cell p).tag, p) v.full f.0, f.1))
             (has-add_if (is_lifted plan p (cell p)) (s, q) (tag_session (cell p).tag, p) v.free h);
-        lifted = k.lifted;
+        lifted = λ s q h. let x = k.lifted s q h in (x.0, x.1, x.2, more-add_if (is_lifted plan p (cell p)) (s, q) (tag_session (cell p).tag, p) v.free x.3);
         planted = λ q t h. inr (k.planted q t h);
         joined = k.joined;
       }
@@ -462,8 +462,8 @@ module _ (plan : PlanView) where
                   (λ (old : Has (t, q) v.free). k.free t q old)
                   h;
               lifted = λ t q h. ⊎_elim
-                  (λ (e : (exchanged ≡ true) × ((s, p) ≡ (t, q))). subst (λ (z : ℕ × ℕ). (z.1 < length plan.places) × (0 < z.0) × (is_over plan z.0 z.1 ≡ true)) e.1 (l, lift_known.0, lift_session (hit_of e.0)))
-                  (λ (old : Has (t, q) v.lifted). k.lifted t q old)
+                  (λ (e : (exchanged ≡ true) × ((s, p) ≡ (t, q))). subst (λ (z : ℕ × ℕ). (z.1 < length plan.places) × (0 < z.0) × (is_over plan z.0 z.1 ≡ true) × Has z (lifting s p exchanged v).free) e.1 (l, lift_known.0, lift_session (hit_of e.0), inl refl))
+                  (λ (old : Has (t, q) v.lifted). let x = k.lifted t q old in (x.0, x.1, x.2, inr x.3))
                   (has-add_if exchanged (t, q) (s, p) v.lifted h);
               planted = k.planted;
               joined = k.joined;

@@ -1,10 +1,10 @@
 -- The sets that an area ends with are those that its passes marked.
-use Rattle.std.specs.Prelude.{◌≡◌, ℕ, ◌*◌, ◌<◌, ◌≤◌, true, ◌&&◌, nat_lt, length, sum_by}
+use Rattle.std.specs.Prelude.{◌≡◌, ℕ, ◌+◌, ◌*◌, ◌<◌, ◌≤◌, true, ◌&&◌, nat_lt, length, sum_by}
 use Rattle.cov_base.specs.declared.facts.Fact.{Fact}
 use Rattle.cov_base.specs.Facts.{has_fact, full_of, is_full, is_within}
-use Rattle.module_area.specs.PlanView.{PlanView, kind_at, window_at}
+use Rattle.module_area.specs.PlanView.{PlanView, kind_at, window_at, is_over}
 use Rattle.module_area.specs.FinalsView.{FinalsView, set_at}
-use Rattle.module_area.specs.Counts.{count_below, fact_count}
+use Rattle.module_area.specs.Counts.{count_below, count_pairs, fact_count}
 use Rattle.module_area.specs.Notes.{Notes}
 
 pub record HasSets (plan : PlanView) (notes : Notes) (finals : FinalsView) : Type 0 where
@@ -13,12 +13,21 @@ pub record HasSets (plan : PlanView) (notes : Notes) (finals : FinalsView) : Typ
   pub marked : (s p : ℕ) (f : Fact) → 0 < s → s ≤ plan.sessions → p < length plan.places → has_fact (set_at finals s p) f ≡ notes.marked s p f
   pub within : (s p : ℕ) → 0 < s → s ≤ plan.sessions → p < length plan.places → is_within (kind_at plan p) (set_at finals s p) ≡ true
   pub full : (s p : ℕ) → 0 < s → s ≤ plan.sessions → p < length plan.places → notes.full s p ≡ true → set_at finals s p ≡ full_of (kind_at plan p)
+  -- no fact where the session isn't over the place, or by the last tag was never planted there
+  pub over : (s p : ℕ) (f : Fact) → 0 < s → s ≤ plan.sessions → p < length plan.places → has_fact (set_at finals s p) f ≡ true → is_over plan s p ≡ true
+  pub planted : (s p : ℕ) (f : Fact) → 0 < s → s ≤ plan.sessions → p < length plan.places → has_fact (set_at finals s p) f ≡ true → 2 * s ≤ notes.last p + 1
 
 -- how many places with a window have a full set
 abbrev pub full_places : PlanView → FinalsView → ℕ
 full_places plan finals = count_below (λ p. nat_lt 0 (window_at plan p) && is_full (kind_at plan p) (set_at finals (window_at plan p) p)) (length plan.places)
 
--- Each fact was marked at least once. Where each set that was met full was met free or tried to be lifted, the lifts are the places whose set is full.
+-- how many sessions and places have a full set
+abbrev pub full_pairs : PlanView → FinalsView → ℕ
+full_pairs plan finals = count_pairs (λ s p. is_full (kind_at plan p) (set_at finals s p)) plan.sessions (length plan.places)
+
+-- Each fact was marked at least once. Where each set that was met full was met free or tried to be lifted, the lifts are
+-- at least the places whose whole session's set is full, and at most the sessions and places whose set is full.
 pub record HasTally (plan : PlanView) (notes : Notes) (finals : FinalsView) : Type 0 where
   pub marks : sum_by fact_count finals.sets ≤ notes.tally.marks
-  pub lifts : ((s p : ℕ) → notes.full s p ≡ true → notes.free s p ≡ true) → notes.tally.lifts ≡ full_places plan finals
+  pub lifts_least : ((s p : ℕ) → notes.full s p ≡ true → notes.free s p ≡ true) → full_places plan finals ≤ notes.tally.lifts
+  pub lifts_most : notes.tally.lifts ≤ full_pairs plan finals

@@ -66,7 +66,7 @@ module _ (plan : PlanView) (cell : ℕ → Cell) (sets : ℕ → ℕ → FactSet
     pub marked : (s p : ℕ) (f : Fact) → Has (s, p, f) v.marked → (p < length plan.places) × (0 < s) × (is_over plan s p ≡ true) × (is_of_kind (kind_at plan p) f ≡ true) × (has_fact (sets s p) f ≡ true)
     pub full : (s p : ℕ) → Has (s, p) v.full → (0 < s) × Has (p, window_tag s) v.seen × (is_full (kind_at plan p) (sets s p) ≡ true)
     pub free : (s p : ℕ) → Has (s, p) v.free → Has (s, p) v.full × (cell p ≢ planted s)
-    pub lifted : (s p : ℕ) → Has (s, p) v.lifted → (p < length plan.places) × (0 < s) × (is_over plan s p ≡ true)
+    pub lifted : (s p : ℕ) → Has (s, p) v.lifted → (p < length plan.places) × (0 < s) × (is_over plan s p ≡ true) × Has (s, p) v.free
     pub planted : (p t : ℕ) → Has (p, t) v.planted → Has (p, t) v.seen
     pub joined : (t : ℕ) → Has t v.joined → Has t v.given
 

@@ -1,14 +1,12 @@
 pub mod AreasView
+pub mod CellWords
 pub mod Counts
 pub mod Ended
 pub mod Executions
 pub mod FinalsView
-pub mod FreshWords
 pub mod Held
 pub mod Images
 pub mod Notes
 pub mod Parties
-pub mod PlainPass
-pub mod PlainWords
 pub mod PlanView
 pub mod Views

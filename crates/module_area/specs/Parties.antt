@@ -54,13 +54,14 @@ is_lifted plan p c = nat_eq c.half (original_at plan p) && nat_eq (c.tag % 2) 1
 
 -- a party that has done and knows nothing
 abbrev pub blank : Role → View
-blank r = record { role = r; marked = []; full = []; free = []; lifted = []; seen = []; pending = None; planted = []; given = []; joined = [] }
+blank r = record { role = r; marked = []; full = []; free = []; lifted = []; seen = []; pending = None; answered = []; planted = []; given = []; joined = [] }
 
 -- A fetch at place p found the cell.
 abbrev pub fetching : PlanView → ℕ → Cell → View → View
 fetching plan p c v = record v {
   seen = (p, c.tag) ∷ v.seen;
   pending = if is_breakpoint c then Some (p, c.tag) else None;
+  answered = v.answered ++ (p, c) ∷ [];
   full = add_if (is_lifted plan p c) (tag_session c.tag, p) v.full;
   free = add_if (is_lifted plan p c) (tag_session c.tag, p) v.free;
 }

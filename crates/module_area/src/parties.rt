@@ -1,5 +1,6 @@
 //! What a party has done and knows, as the rule of an area tells it. It exists in proofs alone.
 
+use crate::cells::Cell;
 use cov_base::Fact;
 use std::collections::LinkedList;
 
@@ -25,6 +26,8 @@ pub struct View {
     pub seen: LinkedList<(u64, u64)>,
     /// Place and tag of its last fetch, where that answered a breakpoint.
     pub pending: Option<(u64, u64)>,
+    /// Place and cell of each of its fetches, in order.
+    pub answered: LinkedList<(u64, Cell)>,
     /// Place and tag of what it planted and closed, the last first.
     pub planted: LinkedList<(u64, u64)>,
     /// For the root: the tasks that were given out, and those of them that have come back.

@@ -2,8 +2,8 @@
 ghost use Rattle.std.specs.Prelude.{◌≡◌, ℕ, ◌+◌, ◌-◌, ◌*◌, ◌<◌, ◌≤◌, ◌^◌, length, true, false, IsSome};
 ghost use Rattle.std.specs.declared.option.Option.TheVariants.{Some, None};
 ghost use Rattle.cov_base.specs.Facts.{is_of_kind};
-ghost use Rattle.module_area.specs.PlanView.{PlanView, kind_at, window_at, has_task};
-ghost use Rattle.module_area.specs.Notes.{Notes, calls, after_fetch, after_mark, after_lift, after_plant, after_split, split_notes, after_join, bearer, IsAnswer, IsFound};
+ghost use Rattle.module_area.specs.PlanView.{PlanView, kind_at, has_task, is_over, is_controlled};
+ghost use Rattle.module_area.specs.Notes.{Notes, calls, after_fetch, after_mark, after_lift, after_plant, after_close, after_split, split_notes, after_join, bearer, keeps, IsAnswer, IsFound};
 
 use crate::cells::Cell;
 use cov_base::{Bits, Fact, PlaceNo, SessNo, TaskNo};
@@ -23,7 +23,8 @@ pub trait Cells {
     /// What the pass has done and knows.
     ghost notes: { Self.Pass → Notes };
 
-    /// The cell as it stands: the original, or the breakpoint under an odd tag.
+    /// The cell as it stands: the original, or the breakpoint under an odd tag. Where the pass keeps the place, under
+    /// its last tag there.
     fn fetch(&self, pass: &mut Self::Pass, place: PlaceNo) -> Cell
         requires area { is_pass self.now pass.old }
         requires place { place.0 < length (plan self.now).places }
@@ -57,23 +58,38 @@ pub trait Cells {
         ensures area { is_pass self.now pass.new }
         ensures notes { notes pass.new ≡ after_lift (notes pass.old) s.0 place.0 result };
 
-    /// Plants the breakpoint of the whole session over the place, by the root, once.
+    /// Plants the breakpoint of a session over the place, by the pass that keeps the place, once: its last tag there
+    /// is below the session's. A whole session's place is the root's.
     fn plant(&self, pass: &mut Self::Pass, s: SessNo, place: PlaceNo)
         requires area { is_pass self.now pass.old }
         requires place { place.0 < length (plan self.now).places }
         requires room { calls (notes pass.old) < 2 ^ 62 }
-        requires root { (notes pass.old).bears ≡ None }
         requires session { 0 < s.0 }
-        requires window { window_at (plan self.now) place.0 ≡ s.0 }
-        requires first { (notes pass.old).seen place.0 ≡ 0 }
+        requires over { is_over (plan self.now) s.0 place.0 ≡ true }
+        requires keeper { keeps (plan self.now) (notes pass.old) place.0 ≡ true }
+        requires later { (notes pass.old).last place.0 + 1 < 2 * s.0 }
         ensures area { is_pass self.now pass.new }
         ensures notes { notes pass.new ≡ after_plant (notes pass.old) s.0 place.0 };
+
+    /// Ends the controlled session at the place, by the pass that keeps the place and planted the session there last:
+    /// the original stands again, under an even tag.
+    fn close(&self, pass: &mut Self::Pass, s: SessNo, place: PlaceNo)
+        requires area { is_pass self.now pass.old }
+        requires place { place.0 < length (plan self.now).places }
+        requires room { calls (notes pass.old) < 2 ^ 62 }
+        requires session { 0 < s.0 }
+        requires controlled { is_controlled (plan self.now) s.0 place.0 ≡ true }
+        requires keeper { keeps (plan self.now) (notes pass.old) place.0 ≡ true }
+        requires planted { (notes pass.old).last place.0 + 1 ≡ 2 * s.0 }
+        ensures area { is_pass self.now pass.new }
+        ensures notes { notes pass.new ≡ after_close (notes pass.old) s.0 place.0 };
 }
 
 /// Cells on which several threads work, each with a pass of its own.
 pub trait Forks: Cells {
     /// A pass for a task of the plan, split off from the root, once for each task: it bears the task's number and has
-    /// seen what the root has seen; nothing is marked, and its tally is zero.
+    /// seen what the root has seen; nothing is marked, and its tally is zero. It keeps the places that its task controls,
+    /// under the root's last tags, and the root keeps them no longer.
     fn split(&self, root: &mut Self::Pass, task: TaskNo) -> Self::Pass
         requires area { Self.is_pass self.now root.old }
         requires root { (Self.notes root.old).bears ≡ None }
@@ -82,10 +98,10 @@ pub trait Forks: Cells {
         ensures area { Self.is_pass self.now root.new }
         ensures split { Self.is_pass self.now result }
         ensures notes { Self.notes root.new ≡ after_split (Self.notes root.old) task.0 }
-        ensures fresh { Self.notes result ≡ split_notes (Self.notes root.old) task.0 };
+        ensures fresh { Self.notes result ≡ split_notes (Self.plan self.now) (Self.notes root.old) task.0 };
 
-    /// Adds to the root what a pass that was split from it has done and knows. Both tallies together sum to at most
-    /// 2^62.
+    /// Adds to the root what a pass that was split from it has done and knows, but for its answered pairs, and gives the
+    /// root the places that it kept, under its last tags. Both tallies together sum to at most 2^62.
     fn join(&self, root: &mut Self::Pass, other: Self::Pass)
         requires area { Self.is_pass self.now root.old }
         requires other { Self.is_pass self.now other }
@@ -94,5 +110,5 @@ pub trait Forks: Cells {
         requires out { (Self.notes root.old).out (bearer (Self.notes other)) ≡ true }
         requires room { calls (Self.notes root.old) + calls (Self.notes other) ≤ 2 ^ 62 }
         ensures area { Self.is_pass self.now root.new }
-        ensures notes { Self.notes root.new ≡ after_join (Self.notes root.old) (Self.notes other) };
+        ensures notes { Self.notes root.new ≡ after_join (Self.plan self.now) (Self.notes root.old) (Self.notes other) };
 }

@@ -25,15 +25,17 @@ pub planted_more : (plan : PlanView) (notes : Notes) (n : ℕ) → n < length pl
     planted_notes plan notes (n + 1) ≡ after_plant (planted_notes plan notes n) (window_at plan n) n
 planted_more plan notes n h ne =
     let seen = fun_ext (λ (p : ℕ). seen_more (window_at plan) notes.seen n p ne) in
+    let last = fun_ext (λ (p : ℕ). seen_more (window_at plan) notes.last n p ne) in
     let count = count_by_more_yes (λ w. not (nat_eq w 0)) plan.windows n 0 h (is_window (window_at plan n) ne) in
     let plants : (planted_notes plan notes (n + 1)).tally.plants ≡ (planted_notes plan notes n).tally.plants + 1 = omega (arith, count) in
-    λ i. record notes { seen = seen i; tally = record notes.tally { plants = plants i } }
+    λ i. record notes { seen = seen i; last = last i; tally = record notes.tally { plants = plants i } }
 
 -- there is no window over the place
 pub planted_skip : (plan : PlanView) (notes : Notes) (n : ℕ) → n < length plan.windows → window_at plan n ≡ 0 →
     planted_notes plan notes (n + 1) ≡ planted_notes plan notes n
 planted_skip plan notes n h e =
     let seen = fun_ext (λ (p : ℕ). seen_skip (window_at plan) notes.seen n p e) in
+    let last = fun_ext (λ (p : ℕ). seen_skip (window_at plan) notes.last n p e) in
     let count = count_by_more_no (λ w. not (nat_eq w 0)) plan.windows n 0 h (rw e refl) in
     let plants : (planted_notes plan notes (n + 1)).tally.plants ≡ (planted_notes plan notes n).tally.plants = omega (arith, count) in
-    λ i. record notes { seen = seen i; tally = record notes.tally { plants = plants i } }
+    λ i. record notes { seen = seen i; last = last i; tally = record notes.tally { plants = plants i } }

@@ -7,5 +7,6 @@ use Rattle.module_area.specs.Notes.{Notes}
 abbrev pub planted_notes : PlanView → Notes → ℕ → Notes
 planted_notes plan notes n = record notes {
   seen = λ p. if nat_lt p n && not (nat_eq (window_at plan p) 0) then 2 * window_at plan p - 1 else notes.seen p;
+  last = λ p. if nat_lt p n && not (nat_eq (window_at plan p) 0) then 2 * window_at plan p - 1 else notes.last p;
   tally = record notes.tally { plants = notes.tally.plants + count_by (λ w. not (nat_eq w 0)) (take n plan.windows) };
 }

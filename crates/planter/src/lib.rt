@@ -8,9 +8,6 @@ ghost use Rattle.module_area.specs.PlanView.{window_at};
 ghost use Rattle.module_area.specs.Notes.{calls};
 ghost use Rattle.planter.specs.Planted.{planted_notes};
 
-#[cfg(test)]
-mod tests;
-
 use cov_base::{PlaceNo, SessNo};
 use module_area::{Cells, Plan};
 
@@ -21,7 +18,7 @@ pub fn plant_all<C: Cells>(cells: &C, pass: &mut C::Pass, plan: &Plan)
     requires plan { C.plan cells.now ≡ plan.now }
     requires room { calls (C.notes pass.old) < 2 ^ 61 }
     requires root { (C.notes pass.old).bears ≡ None }
-    requires first { (p : ℕ) → 0 < window_at plan.now p → (C.notes pass.old).seen p ≡ 0 }
+    requires first { (p : ℕ) → 0 < window_at plan.now p → (C.notes pass.old).last p ≡ 0 }
     ensures area { C.is_pass cells.now pass.new }
     ensures notes { C.notes pass.new ≡ planted_notes plan.now (C.notes pass.old) (length plan.now.windows) }
     ensures calls { calls (C.notes pass.new) ≤ calls (C.notes pass.old) + PLACE_LIMIT }

@@ -1,5 +1,5 @@
 -- What the rule says of the word that a step finds.
-use Rattle.std.proofs.Common.{◌≡◌, ◌≢◌, ℕ, ◌+◌, ◌*◌, ◌/◌, ◌<◌, ◌≤◌, true, None, List, length, sym, refl, ap, subst, inl, inr, ⊎_elim, arith}
+use Rattle.std.proofs.Common.{◌≡◌, ◌≢◌, ◌⊎◌, ℕ, ◌+◌, ◌*◌, ◌/◌, ◌<◌, ◌≤◌, Bool, true, false, not, ◌&&◌, nat_lt, None, List, length, refl, ap, subst, inl, inr, ⊎_elim, arith, ltb-true}
 use mathlib.Core.Option.{some}
 use lib.ListN.{get_elem?}
 use Rattle.cov_base.specs.FactSet.{FactSet}
@@ -10,20 +10,37 @@ use Rattle.module_area.specs.declared.parties.View.{View}
 use Rattle.module_area.specs.declared.parties.Role.{Role}
 use Rattle.module_area.specs.declared.parties.Role.TheVariants.{Root, Task, Spent}
 use Rattle.module_area.specs.PlanView.{PlanView, IsPlan, original_at, kind_at, window_at, is_over}
-use Rattle.module_area.specs.Parties.{last_tag, window_tag}
-use Rattle.module_area.specs.Held.{planted, IsForm, KeepsAs, Held}
-use Rattle.module_area.specs.Notes.{IsAnswer, IsFound, no_tally}
+use Rattle.module_area.specs.Parties.{Has, last_tag, window_tag}
+use Rattle.module_area.specs.Held.{planted, IsForm, KeepsAs, Keeps, Held}
+use Rattle.module_area.specs.declared.tallies.Tally.{Tally}
+use Rattle.module_area.specs.Notes.{IsAnswer, IsFound, no_tally, keeps_as, keeps}
 use Rattle.module_area.proofs.FactLemmas.{is_full-true, within_kind}
-use Rattle.module_area.proofs.PlanLemmas.{no_controlled, over_window, over_small}
-use Rattle.module_area.proofs.StepLemmas.{breakpoint_form}
-use Rattle.shared_area.specs.Told.{bears_as, seen_at, notes_in}
-use Rattle.shared_area.proofs.NoteLemmas.{pair_there, mark_there, seen_has, seen_most, last_has}
+use Rattle.module_area.proofs.PlanLemmas.{no_controlled, over_window, over_small, tested_controller}
+use Rattle.module_area.proofs.StepLemmas.{breakpoint_form, or_cases}
+use Rattle.shared_area.specs.Told.{bears_as, has_number, seen_at, notes_in}
+use Rattle.shared_area.proofs.NoteLemmas.{pair_there, mark_there, number_there, not_there, seen_has, seen_most, last_has}
 use Rattle.shared_area.proofs.WordLemmas.{same_cell}
 
 pub is_root : (r : Role) → r ≢ Spent → bears_as r ≡ None → r ≡ Root
 is_root Root live e = refl
 is_root (Task t) live e = absurd cc
 is_root Spent live e = absurd (live refl)
+
+back_or_not : (v : View) (t : ℕ) (g j : Bool) → has_number t v.given ≡ g → has_number t v.joined ≡ j → not (g && not j) ≡ true → (Has t v.given → ⊥) ⊎ Has t v.joined
+back_or_not v t true true eg ej h = inr (number_there t v.joined ej)
+back_or_not v t true false eg ej h = absurd (let x : false ≡ true = h in cc)
+back_or_not v t false j eg ej h = inl (not_there t v.given eg)
+
+keeps_as_there : (plan : PlanView) (v : View) (p : ℕ) (tally : Tally) (r : Role) → r ≢ Spent → keeps_as plan (bears_as r) (notes_in v tally).out p ≡ true → KeepsAs plan v p r
+keeps_as_there plan v p tally Root live h = ⊎_elim (λ w. inl (ltb-true 0 (window_at plan p) w))
+    (λ c. let a = tested_controller plan (λ t. not ((notes_in v tally).out t)) p c in inr (a.0, a.1, back_or_not v a.0 (has_number a.0 v.given) (has_number a.0 v.joined) refl refl a.2))
+    (or_cases (nat_lt 0 (window_at plan p)) _ h)
+keeps_as_there plan v p tally (Task t) live h = h
+keeps_as_there plan v p tally Spent live h = absurd (live refl)
+
+-- what the notes say that it keeps, it keeps
+pub keeps_there : (plan : PlanView) (v : View) (p : ℕ) (tally : Tally) → v.role ≢ Spent → keeps plan (notes_in v tally) p ≡ true → Keeps plan v p
+keeps_there plan v p tally live h = keeps_as_there plan v p tally v.role live h
 
 module _ (plan : PlanView) (p : ℕ) (c : Cell) (ok : IsPlan plan) (l : p < length plan.places) where
   plain_half : IsForm plan p c → c.half ≢ breakpoint → c.half ≡ original_at plan p
@@ -59,9 +76,9 @@ module _ (plan : PlanView) (cell : ℕ → Cell) (sets : ℕ → ℕ → FactSet
     later : seen_at p v.seen ≤ (cell p).tag
     later = seen_most p (cell p).tag v.seen (λ t h. ((r.kept id v at).seen p t h).1)
 
-    root_tag : bears_as v.role ≡ None → 0 < window_at plan p → (cell p).tag ≤ seen_at p v.seen
-    root_tag e w = let tie = r.ties id v at p l (subst (KeepsAs plan v p) (sym (is_root v.role live e)) (inl w)) in
-        let x = last_seen p in omega arith
+    -- a keeper has seen no higher tag than its last one
+    pub keeper_seen : Keeps plan v p → seen_at p v.seen ≤ last_tag p v.planted
+    keeper_seen k = let tie = r.ties id v at p l k in let x = later in omega arith
 
     pub answers : IsAnswer plan (notes_in v no_tally) p (cell p)
     answers = let form = (r.site p l).form in let ok = r.is_plan in record {
@@ -69,7 +86,7 @@ module _ (plan : PlanView) (cell : ℕ → Cell) (sets : ℕ → ℕ → FactSet
       plain = plain_half plan p (cell p) ok l form;
       later = later;
       window = λ w e. let a = window_most plan p (cell p) ok l form w in let b = later in omega arith;
-      root = λ e w. let a = root_tag e w in let b = later in omega arith;
+      kept = λ k. r.ties id v at p l (keeps_there plan v p no_tally live k);
       over = over_of plan p (cell p) ok l form;
       lifted = λ s h b e. ((r.kept id v at).free s p (pair_there s p v.free h)).1 (same_cell (cell p) (planted s) (omega arith) b);
     }

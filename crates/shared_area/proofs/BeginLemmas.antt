@@ -15,7 +15,6 @@ use Rattle.cov_base.specs.declared.facts.Kind.{Kind}
 use Rattle.cov_base.specs.declared.facts.Kind.TheVariants.{Straight, Conditional}
 use Rattle.cov_base.specs.FactSet.{FactSet}
 use Rattle.cov_base.specs.Facts.{has_fact, no_facts}
-use Rattle.module_area.specs.declared.cells.Cell.{Cell}
 use Rattle.module_area.specs.declared.parties.Role.TheVariants.{Root}
 use Rattle.module_area.specs.PlanView.{PlanView, IsPlan, original_at, kind_at, no_place}
 use Rattle.module_area.specs.Parties.{blank}
@@ -61,7 +60,6 @@ module _ (plan : PlanView) (ok : IsPlan plan) (fits : AllFit plan (length plan.p
     wide = let a = length-append (map original_of plan.places) idle in let b = length-map plan.places original_of in let c = length-replicate (word_count plan - length plan.places) zero in
         let d = words_enough (length plan.places) plan.sessions in omega arith;
     held = begins plan (cells_in (starting plan)) (sets_in plan (starting plan)) ok plain (λ s p f _ _ h. nothing (kind_at plan p) p f (subst (λ w. has_fact (facts_of (kind_at plan p) p w) f ≡ true) (first_set s p) h));
-    whole = λ p l _. ap (λ (c : Cell). c.tag) (plain p l);
   }
 
 -- ---- the sets as they are read in the end

@@ -1,5 +1,5 @@
 -- What the calls of an area ask of its table, and what the steps' tellings come to.
-use Rattle.std.proofs.Common.{◌≡◌, ◌≢◌, ℕ, ◌+◌, ◌^◌, ◌<◌, ◌≤◌, Bool, true, false, nat_eq, eqb, None, List, length, sym, refl, ap, ◌∙◌, subst, arith, bit_or, inl, if◌then◌else◌, nat_lt, lt-ltb, eq-eqb, IsSome}
+use Rattle.std.proofs.Common.{◌≡◌, ◌≢◌, ℕ, ◌+◌, ◌*◌, ◌^◌, ◌<◌, ◌≤◌, Bool, true, false, eqb, List, length, sym, refl, ap, ◌∙◌, subst, arith, bit_or, if◌then◌else◌, IsSome}
 use prog.Atomic.{either}
 use Rattle.atomic_table.specs.Table.{Allows}
 use Rattle.atomic_table.specs.declared.shared.Seat.{Seat}
@@ -9,20 +9,17 @@ use Rattle.cov_base.specs.Codes.{breakpoint}
 use Rattle.module_area.specs.declared.parties.View.{View}
 use Rattle.module_area.specs.declared.parties.Role.{Role}
 use Rattle.module_area.specs.declared.parties.Role.TheVariants.{Root, Task, Spent}
-use Rattle.module_area.specs.PlanView.{PlanView, original_at, kind_at, window_at, is_over, is_controlled}
-use Rattle.module_area.specs.Parties.{Has, add_if, fetching, marking, lifting, planting, giving, role_task}
-use Rattle.module_area.specs.Held.{KeepsAs, Keeps}
+use Rattle.module_area.specs.PlanView.{PlanView, original_at, kind_at, is_over, is_controlled}
+use Rattle.module_area.specs.Parties.{Has, add_if, last_tag, window_tag, fetching, marking, lifting, tagging, giving, role_task}
+use Rattle.module_area.specs.Held.{Keeps}
 use Rattle.shared_area.specs.declared.rule.NoSlot.{NoSlot}
 use Rattle.shared_area.specs.declared.cells.SharedCells.{SharedCells}
-use Rattle.shared_area.specs.Words.{cell_of, word_of, session_in, bit_of, facts_of, set_word}
-use Rattle.shared_area.specs.Told.{is_given, bears_as, seen_at}
-use Rattle.shared_area.specs.Rule.{IsArea, Fetched, MayMark, Marked, Looked, Lifted}
-use Rattle.shared_area.proofs.WordLemmas.{session_in-word_of, words_enough, words_some, set_word_within}
-use Rattle.module_area.proofs.Indices.{and_both}
-use Rattle.module_area.proofs.StepLemmas.{or_left}
+use Rattle.shared_area.specs.Words.{cell_of, word_of, closed_word_of, tag_in, session_in, bit_of, facts_of, set_word}
+use Rattle.shared_area.specs.Told.{is_given, bears_as}
+use Rattle.shared_area.specs.Rule.{IsArea, Fetched, MayMark, Marked, Looked, Lifted, Tagged}
+use Rattle.shared_area.proofs.WordLemmas.{session_in-word_of, tag_in-word_of, tag_in-closed_word_of, words_enough, words_some, set_word_within}
 use Rattle.shared_area.proofs.NoteLemmas.{more_given}
-use Rattle.shared_area.proofs.AnswerLemmas.{is_root}
-use Rattle.shared_area.proofs.TableLemmas.{fetch_allowed, mark_allowed, look_allowed, lift_allowed, plant_allowed}
+use Rattle.shared_area.proofs.TableLemmas.{fetch_allowed, mark_allowed, look_allowed, lift_allowed, plant_allowed, close_allowed}
 
 -- ---- what a pass keeps
 pub record IsLive (marks lifts : ℕ) (v : View) : Type 0 where
@@ -46,8 +43,8 @@ mark_live plan s p f found a b v v' e h = subst (IsLive (a + 1) b) (sym e) recor
 pub lift_live : (s p a b k : ℕ) (did : Bool) (v v' : View) → v' ≡ lifting s p did v → k ≡ one_of did → IsLive a b v → IsLive a (b + k) v'
 lift_live s p a b k did v v' e n h = subst (IsLive a (b + k)) (sym e) record { live = h.live; counted = (h.counted.0, length-add_if did (s, p) v.lifted b k h.counted.1 n); given = h.given }
 
-pub plant_live : (s p a b : ℕ) (v v' : View) → v' ≡ planting s p v → IsLive a b v → IsLive a b v'
-plant_live s p a b v v' e h = subst (IsLive a b) (sym e) record { live = h.live; counted = h.counted; given = h.given }
+pub tag_live : (p t a b : ℕ) (v v' : View) → v' ≡ tagging p t v → IsLive a b v → IsLive a b v'
+tag_live p t a b v v' e h = subst (IsLive a b) (sym e) record { live = h.live; counted = h.counted; given = h.given }
 
 pub split_live : (t a b : ℕ) (v v' : View) → v' ≡ giving t v → IsLive a b v → IsLive a b v'
 split_live t a b v v' e h = subst (IsLive a b) (sym e) record { live = h.live; counted = h.counted; given = more_given t v.given v.joined h.given }
@@ -101,22 +98,27 @@ module _ (me : SharedCells) where
       let is_s : session_in old ≡ s = ap session_in eo ∙ session_in-word_of s breakpoint pos (omega arith) in
       subst F (sym me.keyed) (subst G (λ j. (sym eo j, sym en j, sym is_s j)) (lift_allowed me.plan me.table.shared.table_id.slots seat.id s p seat.me small live l pos met))
 
-  pub plant_at : (seat : Seat NoSlot View) (s p new : ℕ) → seat.me.0.role ≢ Spent → p < length me.plan.places → Keeps me.plan seat.me.0 p → 0 < s → window_at me.plan p ≡ s → is_over me.plan s p ≡ true → seen_at p seat.me.0.seen ≡ 0 → new ≡ word_of s breakpoint
-      → Allows (IsArea me.table.shared.key.value) me.table.shared.table_id.slots seat.id seat.me p (λ _. new) (λ w m. (m.0 ≡ planting (session_in new) p seat.me.0) × (m.1 ≡ seat.me.1))
-  plant_at seat s p new live l keep pos its over first en =
-      let F : PlanView → Type 0 = λ q. Allows (IsArea q) me.table.shared.table_id.slots seat.id seat.me p (λ _. new) (λ w m. (m.0 ≡ planting (session_in new) p seat.me.0) × (m.1 ≡ seat.me.1)) in
-      let G : ℕ × ℕ → Type 0 = λ z. Allows (IsArea me.plan) me.table.shared.table_id.slots seat.id seat.me p (λ _. z.0) (λ w m. (m.0 ≡ planting z.1 p seat.me.0) × (m.1 ≡ seat.me.1)) in
-      let is_s : session_in new ≡ s = ap session_in en ∙ session_in-word_of s breakpoint pos (omega arith) in
-      subst F (sym me.keyed) (subst G (λ j. (sym en j, sym is_s j)) (plant_allowed me.plan me.table.shared.table_id.slots seat.id s p seat.me live l keep pos its over first))
+  pub plant_at : (seat : Seat NoSlot View) (s p new : ℕ) → seat.me.0.role ≢ Spent → p < length me.plan.places → Keeps me.plan seat.me.0 p → 0 < s → is_over me.plan s p ≡ true → last_tag p seat.me.0.planted < window_tag s → new ≡ word_of s breakpoint
+      → Allows (IsArea me.table.shared.key.value) me.table.shared.table_id.slots seat.id seat.me p (λ _. new) (λ w m. Tagged p (tag_in new) seat.me.0 m.0 × (m.1 ≡ seat.me.1))
+  plant_at seat s p new live l keep pos over later en =
+      let F : PlanView → Type 0 = λ q. Allows (IsArea q) me.table.shared.table_id.slots seat.id seat.me p (λ _. new) (λ w m. Tagged p (tag_in new) seat.me.0 m.0 × (m.1 ≡ seat.me.1)) in
+      let G : ℕ × ℕ → Type 0 = λ z. Allows (IsArea me.plan) me.table.shared.table_id.slots seat.id seat.me p (λ _. z.0) (λ w m. Tagged p z.1 seat.me.0 m.0 × (m.1 ≡ seat.me.1)) in
+      let is_t : tag_in new ≡ window_tag s = ap tag_in en ∙ tag_in-word_of s breakpoint (omega arith) in
+      subst F (sym me.keyed) (subst G (λ j. (sym en j, sym is_t j)) (plant_allowed me.plan me.table.shared.table_id.slots seat.id s p seat.me live l keep pos over later))
+
+  pub close_at : (seat : Seat NoSlot View) (s p new : ℕ) → original_at me.plan p < 65536 → seat.me.0.role ≢ Spent → p < length me.plan.places → Keeps me.plan seat.me.0 p → 0 < s → is_controlled me.plan s p ≡ true → last_tag p seat.me.0.planted ≡ window_tag s → new ≡ closed_word_of s (original_at me.plan p)
+      → Allows (IsArea me.table.shared.key.value) me.table.shared.table_id.slots seat.id seat.me p (λ _. new) (λ w m. Tagged p (tag_in new) seat.me.0 m.0 × (m.1 ≡ seat.me.1))
+  close_at seat s p new small live l keep pos its is_open en =
+      let F : PlanView → Type 0 = λ q. Allows (IsArea q) me.table.shared.table_id.slots seat.id seat.me p (λ _. new) (λ w m. Tagged p (tag_in new) seat.me.0 m.0 × (m.1 ≡ seat.me.1)) in
+      let G : ℕ × ℕ → Type 0 = λ z. Allows (IsArea me.plan) me.table.shared.table_id.slots seat.id seat.me p (λ _. z.0) (λ w m. Tagged p z.1 seat.me.0 m.0 × (m.1 ≡ seat.me.1)) in
+      let is_t : tag_in new ≡ 2 * s = ap tag_in en ∙ tag_in-closed_word_of s (original_at me.plan p) small in
+      subst F (sym me.keyed) (subst G (λ j. (sym en j, sym is_t j)) (close_allowed me.plan me.table.shared.table_id.slots seat.id s p seat.me small live l keep pos its is_open))
 
 pub lifted_is : (v v' : View) (s p old w : ℕ) → 0 < s → old ≡ word_of s breakpoint → Lifted (session_in old) p old v w v' → Lifted s p old v w v'
 lifted_is v v' s p old w pos eo h = subst (λ z. Lifted z p old v w v') (ap session_in eo ∙ session_in-word_of s breakpoint pos (omega arith)) h
 
-pub planted_is : (v v' : View) (s p new : ℕ) → 0 < s → new ≡ word_of s breakpoint → v' ≡ planting (session_in new) p v → v' ≡ planting s p v
-planted_is v v' s p new pos en h = subst (λ z. v' ≡ planting z p v) (ap session_in en ∙ session_in-word_of s breakpoint pos (omega arith)) h
+pub planted_is : (v v' : View) (s p new : ℕ) → new ≡ word_of s breakpoint → Tagged p (tag_in new) v v' → Tagged p (window_tag s) v v'
+planted_is v v' s p new en h = subst (λ z. Tagged p z v v') (ap tag_in en ∙ tag_in-word_of s breakpoint (omega arith)) h
 
-pub root_keeps : (plan : PlanView) (v : View) (s p : ℕ) → v.role ≢ Spent → bears_as v.role ≡ None → 0 < s → window_at plan p ≡ s → Keeps plan v p
-root_keeps plan v s p live e pos w = subst (KeepsAs plan v p) (sym (is_root v.role live e)) (inl (subst (λ k. 0 < k) (sym w) pos))
-
-pub window_over : (plan : PlanView) (s p : ℕ) → 0 < s → window_at plan p ≡ s → is_over plan s p ≡ true
-window_over plan s p pos w = or_left _ (is_controlled plan s p) (and_both (nat_lt 0 s) (nat_eq (window_at plan p) s) (lt-ltb 0 s pos) (eq-eqb _ _ w))
+pub closed_is : (v v' : View) (s p new half : ℕ) → half < 65536 → new ≡ closed_word_of s half → Tagged p (tag_in new) v v' → Tagged p (2 * s) v v'
+closed_is v v' s p new half small en h = subst (λ z. Tagged p z v v') (ap tag_in en ∙ tag_in-closed_word_of s half small) h

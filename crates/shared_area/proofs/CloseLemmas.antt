@@ -26,8 +26,8 @@ use Rattle.shared_area.specs.Told.{has_mark, has_number, notes_in}
 use Rattle.shared_area.specs.Rule.{IsArea}
 use Rattle.shared_area.proofs.NoteLemmas.{mark_there, mark_shown, pair_there, pair_shown, number_there, number_shown}
 use Rattle.shared_area.proofs.AnswerLemmas.{set_within, founds}
-use Rattle.shared_area.proofs.SumLemmas.{facts_by_marks}
-use Rattle.shared_area.proofs.EndLemmas.{end_marks, end_count}
+use Rattle.shared_area.proofs.SumLemmas.{facts_by_marks, pairs_same}
+use Rattle.shared_area.proofs.EndLemmas.{end_marks, end_over, end_planted, lifts_least, lifts_most}
 
 no_more_out : (g j : Bool) → (g && not j) ≡ false → g ≡ true → j ≡ true
 no_more_out true true h e = refl
@@ -61,7 +61,7 @@ module _ (plan : PlanView) (id : ℕ) (v : View) (tally : Tally) (words : List �
   abbrev set_of : (t p : ℕ) → 0 < t → t ≤ plan.sessions → p < length plan.places → set_at finals t p ≡ sets_in plan words t p
   set_of t p pos lt l = set_is plan words finals places size read t p pos lt l
 
-  module _ (views : List View) (r : Held plan (cells_in words) (sets_in plan words) views) (whole : (p : ℕ) → p < length plan.places → window_at plan p ≡ 0 → (cells_in words p).tag ≡ 0) (at : get_elem? views id ≡ some v) where
+  module _ (views : List View) (r : Held plan (cells_in words) (sets_in plan words) views) (at : get_elem? views id ≡ some v) where
     -- a fact is in a final set exactly where the root has marked it
     marked_exactly : (t p : ℕ) (f : Fact) → 0 < t → t ≤ plan.sessions → p < length plan.places → has_fact (set_at finals t p) f ≡ has_mark t p f v.marked
     marked_exactly t p f pos lt l = ap (λ x. has_fact x f) (set_of t p pos lt l) ∙ same_tests _ _
@@ -75,6 +75,8 @@ module _ (plan : PlanView) (id : ℕ) (v : View) (tally : Tally) (words : List �
       marked = marked_exactly;
       within = λ t p pos lt l. subst (λ x. is_within (kind_at plan p) x ≡ true) (sym (set_of t p pos lt l)) (set_within plan (cells_in words) (sets_in plan words) views r id v at t p l pos);
       full = λ t p pos lt l h. set_of t p pos lt l ∙ (founds plan (cells_in words) (sets_in plan words) views r id v at t p l pos).full h;
+      over = λ t p f pos lt l h. end_over plan (cells_in words) (sets_in plan words) views r id v at root all t p f l pos (subst (λ x. has_fact x f ≡ true) (set_of t p pos lt l) h);
+      planted = λ t p f pos lt l h. end_planted plan (cells_in words) (sets_in plan words) views r id v at root all t p f l pos (subst (λ x. has_fact x f ≡ true) (set_of t p pos lt l) h);
     }
 
     -- the mark that made a fact of the sets
@@ -93,11 +95,16 @@ module _ (plan : PlanView) (id : ℕ) (v : View) (tally : Tally) (words : List �
     ended_tally : HasTally plan (notes_in v tally) finals
     ended_tally = record {
       marks = let a = facts_by_marks (map (at_index (length plan.places)) v.marked) finals.sets its_mark in let b = length-map v.marked (at_index (length plan.places)) in let c = counted.0 in omega arith;
-      lifts = λ tried. counted.1 ∙ (end_count plan (cells_in words) (sets_in plan words) views r id v at root all whole (λ t q h. pair_there t q v.free (tried t q (pair_shown t q v.full h)))
-          ∙ count_same (λ p. nat_lt 0 (window_at plan p) && is_full (kind_at plan p) (sets_in plan words (window_at plan p) p)) (λ p. nat_lt 0 (window_at plan p) && is_full (kind_at plan p) (set_at finals (window_at plan p) p)) (length plan.places)
+      lifts_least = λ tried. let few = lifts_least plan (cells_in words) (sets_in plan words) views r id v at root all (λ t q h. pair_there t q v.free (tried t q (pair_shown t q v.full h))) in
+          let same = count_same (λ p. nat_lt 0 (window_at plan p) && is_full (kind_at plan p) (sets_in plan words (window_at plan p) p)) (λ p. nat_lt 0 (window_at plan p) && is_full (kind_at plan p) (set_at finals (window_at plan p) p)) (length plan.places)
           (λ p l. dite (ℕ_discrete (window_at plan p) 0)
           (λ e. ap (λ b. b && is_full (kind_at plan p) (sets_in plan words (window_at plan p) p)) (no_window e) ∙ sym (ap (λ b. b && is_full (kind_at plan p) (set_at finals (window_at plan p) p)) (no_window e)))
-          (λ n. ap (λ x. nat_lt 0 (window_at plan p) && is_full (kind_at plan p) x) (sym (set_of (window_at plan p) p (omega arith) (r.is_plan.in_range p l) l)))));
+          (λ n. ap (λ x. nat_lt 0 (window_at plan p) && is_full (kind_at plan p) x) (sym (set_of (window_at plan p) p (omega arith) (r.is_plan.in_range p l) l)))) in
+          let c = counted.1 in omega (arith, few, same, c);
+      lifts_most = let most = lifts_most plan (cells_in words) (sets_in plan words) views r id v at root all in
+          let same = pairs_same (λ t p. is_full (kind_at plan p) (sets_in plan words t p)) (λ t p. is_full (kind_at plan p) (set_at finals t p)) plan.sessions (length plan.places)
+          (λ t p pos lt l. ap (is_full (kind_at plan p)) (sym (set_of t p pos lt l))) in
+          let c = counted.1 in omega (arith, most, same, c);
     }
       where
         no_window : {w : ℕ} → w ≡ 0 → nat_lt 0 w ≡ false
@@ -106,5 +113,4 @@ module _ (plan : PlanView) (id : ℕ) (v : View) (tally : Tally) (words : List �
   pub ended : Final (Seen (IsArea plan) id v) words slots → HasSets plan (notes_in v tally) finals × HasTally plan (notes_in v tally) finals
   ended h = let s : State NoSlot View = h.0 in let r : IsArea plan s = h.1.0 in
       let held : Held plan (cells_in words) (sets_in plan words) s.views = subst (λ ws. Held plan (cells_in ws) (sets_in plan ws) s.views) h.2 r.held in
-      let whole : (p : ℕ) → p < length plan.places → window_at plan p ≡ 0 → (cells_in words p).tag ≡ 0 = subst (λ ws. (p : ℕ) → p < length plan.places → window_at plan p ≡ 0 → (cells_in ws p).tag ≡ 0) h.2 r.whole in
-      (ended_sets s.views held whole h.1.1, ended_tally s.views held whole h.1.1)
+      (ended_sets s.views held h.1.1, ended_tally s.views held h.1.1)

@@ -8,11 +8,12 @@ use Rattle.module_area.specs.declared.cells.Cell.{Cell}
 use Rattle.module_area.specs.declared.parties.View.{View}
 use Rattle.module_area.specs.declared.parties.Role.TheVariants.{Task}
 use Rattle.module_area.specs.declared.tallies.Tally.{Tally}
-use Rattle.module_area.specs.PlanView.{PlanView, original_at, kind_at}
-use Rattle.module_area.specs.Parties.{Has, add_if, is_lifted, tag_session, window_tag, last_tag, fetching, marking, planting, giving, joining, role_task}
-use Rattle.module_area.specs.Notes.{is_free_under, after_fetch, after_mark, after_plant, after_split, after_join, bearer}
+use Rattle.module_area.specs.PlanView.{PlanView, original_at, kind_at, is_controller}
+use Rattle.module_area.specs.Parties.{Has, add_if, is_lifted, tag_session, window_tag, last_tag, chosen, fetching, marking, planting, closing, giving, newcomer, joining, role_task}
+use Rattle.module_area.specs.Notes.{no_tally, is_free_under, after_fetch, after_mark, after_plant, after_close, after_split, split_notes, after_join, bearer}
 use Rattle.module_area.proofs.Indices.{and_left, and_right, and_both, same_tests}
 use Rattle.module_area.proofs.FactLemmas.{same_fact-true}
+use Rattle.module_area.proofs.PartyLemmas.{kept_tag, dropped_tag, no_tag, first_tag}
 use Rattle.module_area.proofs.StepLemmas.{or_cases, or_left, or_right, same_fact-same}
 use Rattle.shared_area.specs.Told.{has_mark, has_pair, has_number, seen_at, bears_as, notes_in, is_given}
 
@@ -151,8 +152,18 @@ mark_notes plan s p f found v tally = let b : Bool = is_full (kind_at plan p) (w
     fun_ext (λ t. fun_ext (λ q. pair_add_if b t q s p v.full ∙ ap (λ x. has_pair t q v.full || x) (full_tests (nat_eq t s) (nat_eq q p) b))) in
     λ i. record (after_mark plan (notes_in v tally) s p f found) { full = full i }
 
-pub plant_notes : (s p : ℕ) (v : View) (tally : Tally) → seen_at p v.seen ≡ 0 → notes_in (planting s p v) (record tally { plants = tally.plants + 1 }) ≡ after_plant (notes_in v tally) s p
-plant_notes s p v tally h = let seen = seen_now p (window_tag s) v.seen (omega arith) in λ i. record (after_plant (notes_in v tally) s p) { seen = seen i }
+eqb_turned : (a b : ℕ) → nat_eq a b ≡ nat_eq b a
+eqb_turned a b = same_tests (nat_eq a b) (nat_eq b a) (λ h. eq-eqb b a (sym (eqb-true a b h))) (λ h. eq-eqb a b (sym (eqb-true b a h)))
+
+-- the last tags after one more
+last_now : (p t : ℕ) (xs : List (ℕ × ℕ)) → ◌≡◌ {A = ℕ → ℕ} (λ q. last_tag q ((p, t) ∷ xs)) (λ q. if nat_eq q p then t else last_tag q xs)
+last_now p t xs = fun_ext (λ q. ap (λ b. if b then t else last_tag q xs) (eqb_turned p q))
+
+pub plant_notes : (s p : ℕ) (v : View) (tally : Tally) → seen_at p v.seen ≤ window_tag s → notes_in (planting s p v) (record tally { plants = tally.plants + 1 }) ≡ after_plant (notes_in v tally) s p
+plant_notes s p v tally h = let seen = seen_now p (window_tag s) v.seen h in let last = last_now p (window_tag s) v.planted in λ i. record (after_plant (notes_in v tally) s p) { seen = seen i; last = last i }
+
+pub close_notes : (s p : ℕ) (v : View) (tally : Tally) → seen_at p v.seen ≤ 2 * s → notes_in (closing s p v) (record tally { closes = tally.closes + 1 }) ≡ after_close (notes_in v tally) s p
+close_notes s p v tally h = let seen = seen_now p (2 * s) v.seen h in let last = last_now p (2 * s) v.planted in λ i. record (after_close (notes_in v tally) s p) { seen = seen i; last = last i }
 
 -- ---- Split and Join
 out_after : (g j e : Bool) → (e ≡ true → j ≡ false) → ((g || e) && not j) ≡ ((g && not j) || e)
@@ -183,6 +194,19 @@ pub more_given : (t : ℕ) (given joined : List ℕ) → is_given given joined �
 more_given t given [] h = refl
 more_given t given (u ∷ us) h = and_both (has_number u (t ∷ given)) _ (or_left (has_number u given) (nat_eq u t) (and_left (has_number u given) _ h)) (more_given t given us (and_right (has_number u given) _ h))
 
+-- ---- the last tags that are handed over
+handed_by : (f : ℕ → Bool) (p : ℕ) (xs : List (ℕ × ℕ)) (b : Bool) → f p ≡ b → last_tag p (chosen f xs) ≡ (if b then last_tag p xs else 0)
+handed_by f p xs true e = kept_tag f p xs e
+handed_by f p xs false e = no_tag f p xs e
+
+pub split_pass : (plan : PlanView) (t : ℕ) (v : View) (a : Tally) → notes_in (newcomer plan t v) no_tally ≡ split_notes plan (notes_in v a) t
+split_pass plan t v a = let last : (λ p. last_tag p (chosen (is_controller plan t) v.planted)) ≡ (λ p. if is_controller plan t p then last_tag p v.planted else 0) = fun_ext (λ p. handed_by (is_controller plan t) p v.planted (is_controller plan t p) refl) in
+    λ i. record (split_notes plan (notes_in v a) t) { last = last i }
+
+taken_by : (f : ℕ → Bool) (p : ℕ) (xs ys : List (ℕ × ℕ)) (b : Bool) → f p ≡ b → last_tag p (chosen f xs ++ chosen (λ q. not (f q)) ys) ≡ (if b then last_tag p xs else last_tag p ys)
+taken_by f p xs ys true e = first_tag p (chosen f xs) (chosen (λ q. not (f q)) ys) (no_tag (λ q. not (f q)) p ys (ap not e)) ∙ kept_tag f p xs e
+taken_by f p xs ys false e = dropped_tag f p xs (chosen (λ q. not (f q)) ys) e ∙ kept_tag (λ q. not (f q)) p ys (ap not e)
+
 or_swap : (a b : Bool) → (a || b) ≡ (b || a)
 or_swap true true = refl
 or_swap true false = refl
@@ -209,7 +233,7 @@ and_nor false j e = refl
 abbrev pub both_tallies : Tally → Tally → Tally
 both_tallies a b = record { plants = a.plants + b.plants; fetches = a.fetches + b.fetches; marks = a.marks + b.marks; lifts = a.lifts + b.lifts; closes = a.closes + b.closes }
 
-pub join_notes : (plan : PlanView) (v o : View) (t : ℕ) (a b : Tally) → o.role ≡ Task t → notes_in (joining plan v o) (both_tallies a b) ≡ after_join (notes_in v a) (notes_in o b)
+pub join_notes : (plan : PlanView) (v o : View) (t : ℕ) (a b : Tally) → o.role ≡ Task t → notes_in (joining plan v o) (both_tallies a b) ≡ after_join plan (notes_in v a) (notes_in o b)
 join_notes plan v o t a b bears =
     let marked : (λ s p f. has_mark s p f (o.marked ++ v.marked)) ≡ (λ s p f. has_mark s p f v.marked || has_mark s p f o.marked) = fun_ext (λ s. fun_ext (λ p. fun_ext (λ f. mark-append s p f o.marked v.marked))) in
     let full : (λ s p. has_pair s p (o.full ++ v.full)) ≡ (λ s p. has_pair s p v.full || has_pair s p o.full) = fun_ext (λ s. fun_ext (λ p. pair-append s p o.full v.full)) in
@@ -218,4 +242,6 @@ join_notes plan v o t a b bears =
     let number : role_task o.role ≡ bearer (notes_in o b) = ap role_task bears ∙ sym (ap (λ r. unwrap_or (bears_as r) 0) bears) in
     let out : (λ u. has_number u v.given && not (has_number u v.joined || nat_eq u (role_task o.role))) ≡ (λ u. (has_number u v.given && not (has_number u v.joined)) && not (nat_eq u (bearer (notes_in o b)))) =
     fun_ext (λ u. and_nor (has_number u v.given) (has_number u v.joined) (nat_eq u (role_task o.role)) ∙ ap (λ k. (has_number u v.given && not (has_number u v.joined)) && not (nat_eq u k)) number) in
-    λ i. record (after_join (notes_in v a) (notes_in o b)) { marked = marked i; full = full i; free = free i; seen = seen i; out = out i }
+    let last : (λ p. last_tag p (chosen (is_controller plan (role_task o.role)) o.planted ++ chosen (λ q. not (is_controller plan (role_task o.role) q)) v.planted)) ≡ (λ p. if is_controller plan (bearer (notes_in o b)) p then last_tag p o.planted else last_tag p v.planted) =
+    fun_ext (λ p. taken_by (is_controller plan (role_task o.role)) p o.planted v.planted (is_controller plan (role_task o.role) p) refl ∙ ap (λ k. if is_controller plan k p then last_tag p o.planted else last_tag p v.planted) number) in
+    λ i. record (after_join plan (notes_in v a) (notes_in o b)) { marked = marked i; full = full i; free = free i; seen = seen i; last = last i; out = out i }

@@ -7,7 +7,8 @@ use Rattle.cov_base.specs.declared.facts.Fact.{Fact}
 use Rattle.cov_base.specs.declared.facts.Fact.TheVariants.{Ran, Went, Stayed}
 use Rattle.cov_base.specs.FactSet.{FactSet}
 use Rattle.cov_base.specs.Facts.{has_fact, no_facts}
-use Rattle.module_area.specs.Counts.{count_below, fact_count}
+use Rattle.module_area.specs.Counts.{count_below, count_pairs, fact_count}
+use Rattle.module_area.proofs.CountLemmas.{count_same}
 use Rattle.module_area.specs.Parties.{Has, times}
 
 abbrev one_if : Bool → ℕ
@@ -18,24 +19,27 @@ abbrev pub sum_below : (ℕ → ℕ) → ℕ → ℕ
 sum_below g zero = 0
 sum_below g (suc n) = sum_below g n + g n
 
-pub counts_sum : (f : ℕ → Bool) (g : ℕ → ℕ) (n : ℕ) → ((p : ℕ) → p < n → g p ≡ (if f p then 1 else 0)) → sum_below g n ≡ count_below f n
-counts_sum f g zero h = refl
-counts_sum f g (suc n) h = let a = counts_sum f g n (λ p l. h p (omega arith)) in let b = h n (omega arith) in omega (arith, a, b)
-
-same_below : (f g : ℕ → ℕ) (n : ℕ) → ((p : ℕ) → p < n → f p ≡ g p) → sum_below f n ≡ sum_below g n
-same_below f g zero h = refl
-same_below f g (suc n) h = let a = h n (omega arith) in let b = same_below f g n (λ p l. h p (omega arith)) in omega arith
-
 none_below : (n : ℕ) → sum_below (λ _. 0) n ≡ 0
 none_below zero = refl
 none_below (suc n) = let a = none_below n in omega arith
 
--- one more at one place
-one_below : (n p : ℕ) (f g : ℕ → ℕ) → p < n → f p ≡ 1 + g p → ((q : ℕ) → q < n → q ≢ p → f q ≡ g q) → sum_below f n ≡ 1 + sum_below g n
-one_below zero p f g l here others = absurd (omega arith)
-one_below (suc n) p f g l here others = dite (ℕ_discrete p n)
-    (λ e. let a : f n ≡ 1 + g n = subst (λ z. f z ≡ 1 + g z) e here in let b = same_below f g n (λ q lq. others q (omega arith) (λ z. absurd (omega arith))) in omega arith)
-    (λ x. let a = others n (omega arith) (λ z. x (sym z)) in let b = one_below n p f g (omega arith) here (λ q lq. others q (omega arith)) in omega arith)
+mono_below : (f g : ℕ → ℕ) (n : ℕ) → ((p : ℕ) → p < n → f p ≤ g p) → sum_below f n ≤ sum_below g n
+mono_below f g zero h = omega arith
+mono_below f g (suc n) h = let a = mono_below f g n (λ p l. h p (omega arith)) in let b = h n (omega arith) in omega (arith, a, b)
+
+-- one less at one place
+less_below : (f g : ℕ → ℕ) (n p : ℕ) → p < n → 1 + f p ≤ g p → ((q : ℕ) → q < n → f q ≤ g q) → 1 + sum_below f n ≤ sum_below g n
+less_below f g zero p l here others = absurd (omega arith)
+less_below f g (suc n) p l here others = dite (ℕ_discrete p n)
+    (λ e. let a : 1 + f n ≤ g n = subst (λ z. 1 + f z ≤ g z) e here in let b = mono_below f g n (λ q lq. others q (omega arith)) in omega (arith, a, b))
+    (λ x. let a = others n (omega arith) in let b = less_below f g n p (omega arith) here (λ q lq. others q (omega arith)) in omega (arith, a, b))
+
+-- at most one more at one place
+more_below : (f g : ℕ → ℕ) (n p : ℕ) → g p ≤ 1 + f p → ((q : ℕ) → q ≢ p → g q ≤ f q) → sum_below g n ≤ 1 + sum_below f n
+more_below f g zero p here others = omega arith
+more_below f g (suc n) p here others = dite (ℕ_discrete n p)
+    (λ e. let a : g n ≤ 1 + f n = subst (λ z. g z ≤ 1 + f z) (sym e) here in let b = mono_below g f n (λ q lq. others q (λ z. absurd (omega arith))) in omega (arith, a, b))
+    (λ x. let a = others n x in let b = more_below f g n p here others in omega (arith, a, b))
 
 both_true : (a b c d : ℕ) → a ≡ b → c ≡ d → ◌≡◌ {A = ℕ} (if nat_eq a b && nat_eq c d then 1 else 0) 1
 both_true a b c d e f = ap (λ x. one_if (x && nat_eq c d)) (eq-eqb a b e) ∙ ap one_if (eq-eqb c d f)
@@ -44,13 +48,62 @@ second_false : (x : Bool) (c d : ℕ) → c ≢ d → ◌≡◌ {A = ℕ} (if x 
 second_false true c d n = ap one_if (ne_eqb c d n)
 second_false false c d n = refl
 
--- as many pairs as stand at all places, where each pair is the place's own
-pub length_sum : (w : ℕ → ℕ) (n : ℕ) (l : List (ℕ × ℕ)) → ((s p : ℕ) → Has (s, p) l → (p < n) × (s ≡ w p)) → length l ≡ sum_below (λ p. times (w p) p l) n
-length_sum w n [] h = sym (none_below n)
-length_sum w n (x ∷ xs) h = let mine = h x.0 x.1 (inl refl) in let rest = length_sum w n xs (λ s p y. h s p (inr y)) in
-    let more = one_below n x.1 (λ p. times (w p) p (x ∷ xs)) (λ p. times (w p) p xs) mine.0
-    (let a = both_true x.0 (w x.1) x.1 x.1 mine.1 refl in omega arith)
-    (λ q _ other. let a = second_false (nat_eq x.0 (w q)) x.1 q (λ z. other (sym z)) in omega arith) in omega arith
+one_most : (b : Bool) → one_if b ≤ 1
+one_most true = omega arith
+one_most false = omega arith
+
+more_times : (s p : ℕ) (x : ℕ × ℕ) (xs : List (ℕ × ℕ)) → times s p xs ≤ times s p (x ∷ xs)
+more_times s p x xs = omega arith
+
+-- the pairs of one session at each place are among all
+pub some_sum : (w : ℕ → ℕ) (n : ℕ) (l : List (ℕ × ℕ)) → sum_below (λ p. times (w p) p l) n ≤ length l
+some_sum w n [] = let a = none_below n in omega arith
+some_sum w n (x ∷ xs) = let rest = some_sum w n xs in
+    let more = more_below (λ p. times (w p) p xs) (λ p. times (w p) p (x ∷ xs)) n x.1
+    (let a = one_most (nat_eq x.0 (w x.1) && nat_eq x.1 x.1) in omega arith)
+    (λ q other. let a = second_false (nat_eq x.0 (w q)) x.1 q (λ z. other (sym z)) in omega arith) in omega (arith, rest, more)
+
+-- g of each session from 1 to m and number below n, added up
+abbrev pub sum_pairs : (ℕ → ℕ → ℕ) → ℕ → ℕ → ℕ
+sum_pairs g zero n = 0
+sum_pairs g (suc m) n = sum_pairs g m n + sum_below (g (suc m)) n
+
+mono_pairs : (f g : ℕ → ℕ → ℕ) (m n : ℕ) → ((s p : ℕ) → f s p ≤ g s p) → sum_pairs f m n ≤ sum_pairs g m n
+mono_pairs f g zero n h = omega arith
+mono_pairs f g (suc m) n h = let a = mono_pairs f g m n h in let b = mono_below (f (suc m)) (g (suc m)) n (λ p _. h (suc m) p) in omega (arith, a, b)
+
+less_pairs : (f g : ℕ → ℕ → ℕ) (m n s p : ℕ) → 0 < s → s ≤ m → p < n → 1 + f s p ≤ g s p → ((t q : ℕ) → f t q ≤ g t q) → 1 + sum_pairs f m n ≤ sum_pairs g m n
+less_pairs f g zero n s p pos ls l here others = absurd (omega arith)
+less_pairs f g (suc m) n s p pos ls l here others = dite (ℕ_discrete s (suc m))
+    (λ e. let a = less_below (f (suc m)) (g (suc m)) n p l (subst (λ z. 1 + f z p ≤ g z p) e here) (λ q _. others (suc m) q) in let b = mono_pairs f g m n others in omega (arith, a, b))
+    (λ x. let a = mono_below (f (suc m)) (g (suc m)) n (λ q _. others (suc m) q) in let b = less_pairs f g m n s p pos (omega arith) l here others in omega (arith, a, b))
+
+-- no more entries than stand at all sessions and places
+pub all_sum : (m n : ℕ) (l : List (ℕ × ℕ)) → ((s p : ℕ) → Has (s, p) l → (0 < s) × (s ≤ m) × (p < n)) → length l ≤ sum_pairs (λ s p. times s p l) m n
+all_sum m n [] h = omega arith
+all_sum m n (x ∷ xs) h = let mine = h x.0 x.1 (inl refl) in let rest = all_sum m n xs (λ s p y. h s p (inr y)) in
+    let more = less_pairs (λ s p. times s p xs) (λ s p. times s p (x ∷ xs)) m n x.0 x.1 mine.0 mine.1 mine.2
+    (let a = both_true x.0 x.0 x.1 x.1 refl refl in omega arith) (λ t q. more_times t q x xs) in omega (arith, rest, more)
+
+pub count_least : (f : ℕ → Bool) (g : ℕ → ℕ) (n : ℕ) → ((p : ℕ) → p < n → f p ≡ true → 1 ≤ g p) → count_below f n ≤ sum_below g n
+count_least f g zero h = omega arith
+count_least f g (suc n) h = let a = count_least f g n (λ p l. h p (omega arith)) in let b = by_test (f n) (g n) (h n (omega arith)) in omega (arith, a, b)
+  where
+    by_test : (b : Bool) (k : ℕ) → (b ≡ true → 1 ≤ k) → one_if b ≤ k
+    by_test true k h = h refl
+    by_test false k h = omega arith
+
+count_most : (f : ℕ → Bool) (g : ℕ → ℕ) (n : ℕ) → ((p : ℕ) → p < n → g p ≤ one_if (f p)) → sum_below g n ≤ count_below f n
+count_most f g zero h = omega arith
+count_most f g (suc n) h = let a = count_most f g n (λ p l. h p (omega arith)) in let b = h n (omega arith) in omega (arith, a, b)
+
+pub pairs_most : (f : ℕ → ℕ → Bool) (g : ℕ → ℕ → ℕ) (m n : ℕ) → ((s p : ℕ) → 0 < s → s ≤ m → p < n → g s p ≤ (if f s p then 1 else 0)) → sum_pairs g m n ≤ count_pairs f m n
+pairs_most f g zero n h = omega arith
+pairs_most f g (suc m) n h = let a = pairs_most f g m n (λ s p pos ls. h s p pos (omega arith)) in let b = count_most (f (suc m)) (g (suc m)) n (λ p. h (suc m) p (omega arith) (omega arith)) in omega (arith, a, b)
+
+pub pairs_same : (f g : ℕ → ℕ → Bool) (m n : ℕ) → ((s p : ℕ) → 0 < s → s ≤ m → p < n → f s p ≡ g s p) → count_pairs f m n ≡ count_pairs g m n
+pairs_same f g zero n h = refl
+pairs_same f g (suc m) n h = let a = pairs_same f g m n (λ s p pos ls. h s p pos (omega arith)) in let b = count_same (f (suc m)) (g (suc m)) n (λ p. h (suc m) p (omega arith) (omega arith)) in omega (arith, a, b)
 
 pub times_none : (s p : ℕ) (l : List (ℕ × ℕ)) → (Has (s, p) l → ⊥) → times s p l ≡ 0
 times_none s p [] h = refl

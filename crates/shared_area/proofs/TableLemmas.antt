@@ -1,5 +1,5 @@
 -- Each step on a word keeps the rule, and tells what the rule says of the word.
-use Rattle.std.proofs.Common.{◌≡◌, ◌≢◌, ◌⊎◌, ℕ, ◌^◌, ◌<◌, ◌≤◌, Bool, true, false, nat_eq, eqb, List, length, get_or, set, sym, refl, ap, ◌∙◌, subst, inl, inr, ⊎_elim, arith, bit_or, eq-eqb, ne_eqb, length-set, get_or-set_same, get_or-set_other}
+use Rattle.std.proofs.Common.{◌≡◌, ◌≢◌, ◌⊎◌, ℕ, ◌*◌, ◌^◌, ◌<◌, ◌≤◌, Bool, true, false, nat_eq, eqb, List, length, get_or, set, sym, refl, ap, ◌∙◌, subst, inl, inr, ⊎_elim, arith, bit_or, eq-eqb, ne_eqb, length-set, get_or-set_same, get_or-set_other}
 use lib.Seq.{set-get_or}
 use mathlib.Core.Logic.{dite}
 use mathlib.Core.Option.{some}
@@ -11,21 +11,19 @@ use Rattle.atomic_table.specs.Table.{State, Me, keeps, Allows, Splits, Joins}
 use Rattle.cov_base.specs.declared.facts.Fact.{Fact}
 use Rattle.cov_base.specs.Facts.{has_fact}
 use Rattle.cov_base.specs.Codes.{breakpoint}
-use Rattle.module_area.specs.declared.cells.Cell.{Cell}
 use Rattle.module_area.specs.declared.parties.View.{View}
 use Rattle.module_area.specs.declared.parties.Role.TheVariants.{Root, Task, Spent}
-use Rattle.module_area.specs.PlanView.{PlanView, original_at, kind_at, window_at, is_over}
-use Rattle.module_area.specs.Parties.{Has, last_tag, window_tag, blank, fetching, marking, lifting, planting, giving, newcomer, joining}
+use Rattle.module_area.specs.PlanView.{PlanView, original_at, kind_at, is_over, is_controlled}
+use Rattle.module_area.specs.Parties.{Has, last_tag, window_tag, blank, fetching, marking, lifting, planting, closing, giving, newcomer, joining}
 use Rattle.module_area.specs.Held.{planted, lifted, Keeps}
-use Rattle.module_area.proofs.StepLemmas.{fetches, marks, lifts, plants}
+use Rattle.module_area.proofs.StepLemmas.{fetches, marks, lifts, plants, closes}
 use Rattle.module_area.proofs.ForkLemmas.{splits, joins}
 use Rattle.shared_area.specs.declared.rule.NoSlot.{NoSlot}
-use Rattle.shared_area.specs.Words.{cell_of, word_of, bit_of, facts_of, set_word, cells_in, sets_in}
-use Rattle.shared_area.specs.Told.{seen_at}
-use Rattle.shared_area.specs.Rule.{IsArea, Fetched, MayMark, Marked, Looked, Lifted}
+use Rattle.shared_area.specs.Words.{cell_of, word_of, closed_word_of, bit_of, facts_of, set_word, cells_in, sets_in}
+use Rattle.shared_area.specs.Rule.{IsArea, Fetched, MayMark, Marked, Looked, Lifted, Tagged}
 use Rattle.shared_area.proofs.NoteLemmas.{pair_there}
-use Rattle.shared_area.proofs.WordLemmas.{cell_of-word_of, cell_word, facts_of-added, facts_of-other, with_fact-there, same_word, words_enough, set_word_within}
-use Rattle.shared_area.proofs.AnswerLemmas.{answers, founds, tag_small, last_seen}
+use Rattle.shared_area.proofs.WordLemmas.{cell_of-word_of, cell_of-closed_word_of, cell_word, facts_of-added, facts_of-other, with_fact-there, same_word, words_enough, set_word_within}
+use Rattle.shared_area.proofs.AnswerLemmas.{answers, founds, tag_small, keeper_seen}
 
 module _ (plan : PlanView) where
   abbrev St : Type 0
@@ -69,7 +67,6 @@ module _ (plan : PlanView) where
     subst (λ ws. IsArea plan record { words = ws; homes = s.homes; views = set s.views id w }) (sym (set-get_or s.words p 0)) record {
       wide = r.wide;
       held = fetches plan (cells_in s.words) (sets_in plan s.words) s.views r.held id me.0 at live p l;
-      whole = r.whole;
     },
     (
       record {
@@ -94,7 +91,6 @@ module _ (plan : PlanView) where
           (λ q lq. set_no_cell st.words s p x q lq)
           (ap (facts_of (kind_at plan p) p) (get_or-set_same st.words i x 0 inside) ∙ facts_of-added (kind_at plan p) p (get_or st.words i 0) f may.kind)
           (λ t q lq pos no. other_set st.words s p f t q may.session pos may.place lq inside no);
-      whole = λ q lq e. ap (λ (c : Cell). c.tag) (set_no_cell st.words s p x q lq) ∙ r.whole q lq e;
     },
     (record { after = refl; is_found = founds plan (cells_in st.words) (sets_in plan st.words) st.views r.held id me.0 at s p may.place may.session }, refl),
   )
@@ -108,13 +104,12 @@ module _ (plan : PlanView) where
       wide = r.wide;
       held = marks plan (cells_in st.words) (sets_in plan st.words) st.views r.held id v at may.live s p f may.place may.session may.pending may.kind (cells_in st.words) (sets_in plan st.words)
           (λ q _. refl) (sym (with_fact-there (sets_in plan st.words s p) f e)) (λ t q _ _ _. refl);
-      whole = r.whole;
     },
     record { there = λ _. record { after = refl; is_found = founds plan (cells_in st.words) (sets_in plan st.words) st.views r.held id v at s p may.place may.session }; wanting = λ n. absurd (let z : true ≡ false = sym e ∙ n in cc) },
   )
   look_by st r id s p f v at may false e = (
     v,
-    subst (λ (vs : List View). IsArea plan record { words = st.words; homes = st.homes; views = vs }) (sym (set_again st.views id v at)) record { wide = r.wide; held = r.held; whole = r.whole },
+    subst (λ (vs : List View). IsArea plan record { words = st.words; homes = st.homes; views = vs }) (sym (set_again st.views id v at)) record { wide = r.wide; held = r.held },
     record { there = λ h. absurd (let z : false ≡ true = sym e ∙ h in cc); wanting = λ _. refl },
   )
 
@@ -158,16 +153,13 @@ module _ (plan : PlanView) where
               (⊎_elim (λ a. inl (a.0, a.1, x_here ∙ a.2)) (λ a. inr (a.0, a.1, x_here ∙ a.2)) did)
               (λ q _ no. other_cell st.words p x q no)
               (λ t q _ _. cell_no_set st.words p x t q l);
-          whole = λ q lq e. dite (ℕ_discrete q p)
-              (λ qp. ap (λ k. (cells_in (set st.words p x) k).tag) qp ∙ (ap (λ (z : Cell). z.tag) x_here ∙ (⊎_elim (λ a. ap (λ (z : Cell). z.tag) a.2 ∙ ap (λ (z : Cell). z.tag) (sym a.1)) (λ a. ap (λ (z : Cell). z.tag) a.2) did ∙ r.whole p l (ap (window_at plan) (sym qp) ∙ e))))
-              (λ n. ap (λ (z : Cell). z.tag) (other_cell st.words p x q n) ∙ r.whole q lq e);
         },
         (record { after = refl; again = λ h. ⊎_elim (λ a. absurd (((r.held.kept id me.0 at).free s p (pair_there s p me.0.free h)).1 a.1)) (λ a. a.0) did }, refl),
       )
 
-  pub plant_allowed : (slots id s p : ℕ) (me : Me NoSlot View) → me.0.role ≢ Spent → p < length plan.places → Keeps plan me.0 p → 0 < s → window_at plan p ≡ s → is_over plan s p ≡ true → seen_at p me.0.seen ≡ 0
-      → Allows (IsArea plan) slots id me p (λ _. word_of s breakpoint) (λ _ me'. (me'.0 ≡ planting s p me.0) × (me'.1 ≡ me.1))
-  plant_allowed slots id s p me live l keep pos its over first st r _ at _ = let x : ℕ = word_of s breakpoint in let most = last_seen plan (cells_in st.words) (sets_in plan st.words) st.views r.held id me.0 at p in let later : last_tag p me.0.planted < window_tag s = omega arith in (
+  pub plant_allowed : (slots id s p : ℕ) (me : Me NoSlot View) → me.0.role ≢ Spent → p < length plan.places → Keeps plan me.0 p → 0 < s → is_over plan s p ≡ true → last_tag p me.0.planted < window_tag s
+      → Allows (IsArea plan) slots id me p (λ _. word_of s breakpoint) (λ _ me'. Tagged p (window_tag s) me.0 me'.0 × (me'.1 ≡ me.1))
+  plant_allowed slots id s p me live l keep pos over later st r _ at _ = let x : ℕ = word_of s breakpoint in let most = keeper_seen plan (cells_in st.words) (sets_in plan st.words) st.views r.held id me.0 at live p l keep in (
     planting s p me.0,
     keeps,
     tt,
@@ -177,23 +169,34 @@ module _ (plan : PlanView) where
           (ap cell_of (get_or-set_same st.words p x 0 (cell_there st r p l)) ∙ cell_of-word_of s breakpoint (omega arith))
           (λ q _ no. other_cell st.words p x q no)
           (λ t q _ _. cell_no_set st.words p x t q l);
-      whole = λ q lq e. dite (ℕ_discrete q p)
-          (λ qp. let z : window_at plan p ≡ 0 = ap (window_at plan) (sym qp) ∙ e in absurd (omega arith))
-          (λ n. ap (λ (z : Cell). z.tag) (other_cell st.words p x q n) ∙ r.whole q lq e);
     },
-    (refl, refl),
+    (record { after = refl; higher = omega arith }, refl),
+  )
+
+  pub close_allowed : (slots id s p : ℕ) (me : Me NoSlot View) → original_at plan p < 65536 → me.0.role ≢ Spent → p < length plan.places → Keeps plan me.0 p → 0 < s → is_controlled plan s p ≡ true → last_tag p me.0.planted ≡ window_tag s
+      → Allows (IsArea plan) slots id me p (λ _. closed_word_of s (original_at plan p)) (λ _ me'. Tagged p (2 * s) me.0 me'.0 × (me'.1 ≡ me.1))
+  close_allowed slots id s p me small live l keep pos its is_open st r _ at _ = let x : ℕ = closed_word_of s (original_at plan p) in let most = keeper_seen plan (cells_in st.words) (sets_in plan st.words) st.views r.held id me.0 at live p l keep in (
+    closing s p me.0,
+    keeps,
+    tt,
+    record {
+      wide = length-set st.words p x ∙ r.wide;
+      held = closes plan (cells_in st.words) (sets_in plan st.words) st.views r.held id me.0 at live s p l keep pos its is_open (cells_in (set st.words p x)) (sets_in plan (set st.words p x))
+          (ap cell_of (get_or-set_same st.words p x 0 (cell_there st r p l)) ∙ cell_of-closed_word_of s (original_at plan p) small)
+          (λ q _ no. other_cell st.words p x q no)
+          (λ t q _ _. cell_no_set st.words p x t q l);
+    },
+    (record { after = refl; higher = omega arith }, refl),
   )
 
   pub split_allowed : (id t : ℕ) (v : View) → v.role ≡ Root → (Has t v.given → ⊥) → Splits (IsArea plan) id v (giving t v) (newcomer plan t v)
   split_allowed id t v root new s r at = record {
     wide = r.wide;
     held = splits plan (cells_in s.words) (sets_in plan s.words) s.views r.held id v at root t new;
-    whole = r.whole;
   }
 
   pub join_allowed : (id k t : ℕ) (v o : View) → v.role ≡ Root → o.role ≡ Task t → Joins (IsArea plan) id v k o (joining plan v o) (blank Spent)
   join_allowed id k t v o root bears s r at other there = record {
     wide = r.wide;
     held = joins plan (cells_in s.words) (sets_in plan s.words) s.views r.held id v at root k o (sym (set_else s.views id k (joining plan v o) other) ∙ there) t bears other;
-    whole = r.whole;
   }

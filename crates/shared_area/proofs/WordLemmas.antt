@@ -10,15 +10,24 @@ use Rattle.cov_base.specs.declared.facts.Kind.TheVariants.{Straight, Conditional
 use Rattle.cov_base.specs.FactSet.{FactSet}
 use Rattle.cov_base.specs.Facts.{has_fact, with_fact, is_of_kind}
 use Rattle.module_area.specs.declared.cells.Cell.{Cell}
-use Rattle.module_area.specs.Held.{lifted}
-use Rattle.module_area.specs.Parties.{tag_session}
-use Rattle.shared_area.specs.Words.{cell_of, word_of, session_in, bit_of, has_bit, facts_of, session_words, set_word, words_of}
+use Rattle.module_area.specs.Held.{lifted, closed}
+use Rattle.module_area.specs.Parties.{tag_session, window_tag}
+use Rattle.shared_area.specs.Words.{cell_of, word_of, closed_word_of, tag_in, session_in, bit_of, has_bit, facts_of, session_words, set_word, words_of}
 
 pub same_cell : (c d : Cell) → c.tag ≡ d.tag → c.half ≡ d.half → c ≡ d
 same_cell c d e f = λ i. record { tag = e i; half = f i }
 
 pub cell_of-word_of : (s half : ℕ) → half < 65536 → cell_of (word_of s half) ≡ lifted s half
 cell_of-word_of s half h = same_cell (cell_of (word_of s half)) (lifted s half) (omega arith) (omega arith)
+
+pub cell_of-closed_word_of : (s half : ℕ) → half < 65536 → cell_of (closed_word_of s half) ≡ closed s half
+cell_of-closed_word_of s half h = same_cell (cell_of (closed_word_of s half)) (closed s half) (omega arith) (omega arith)
+
+pub tag_in-word_of : (s half : ℕ) → half < 65536 → tag_in (word_of s half) ≡ window_tag s
+tag_in-word_of s half h = omega arith
+
+pub tag_in-closed_word_of : (s half : ℕ) → half < 65536 → tag_in (closed_word_of s half) ≡ 2 * s
+tag_in-closed_word_of s half h = omega arith
 
 pub session_in-word_of : (s half : ℕ) → 0 < s → half < 65536 → session_in (word_of s half) ≡ s
 session_in-word_of s half pos h = let e : word_of s half / 65536 ≡ 2 * s - 1 = omega arith in ap tag_session e ∙ (let x : (2 * s - 1 + 1) / 2 ≡ s = omega arith in x)

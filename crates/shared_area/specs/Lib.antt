@@ -1,4 +1,5 @@
 pub mod Begin
+pub mod Late
 pub mod Passes
 pub mod Rule
 pub mod Told

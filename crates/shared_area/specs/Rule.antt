@@ -6,19 +6,17 @@ use Rattle.cov_base.specs.FactSet.{FactSet}
 use Rattle.cov_base.specs.Facts.{has_fact, is_of_kind}
 use Rattle.module_area.specs.declared.parties.Role.TheVariants.{Spent}
 use Rattle.module_area.specs.declared.parties.View.{View}
-use Rattle.module_area.specs.PlanView.{PlanView, kind_at, window_at}
-use Rattle.module_area.specs.Parties.{window_tag, fetching, marking, lifting}
+use Rattle.module_area.specs.PlanView.{PlanView, kind_at}
+use Rattle.module_area.specs.Parties.{window_tag, fetching, marking, lifting, tagging}
 use Rattle.module_area.specs.Notes.{IsAnswer, IsFound, no_tally}
 use Rattle.module_area.specs.Held.{Held}
 use Rattle.shared_area.specs.declared.rule.NoSlot.{NoSlot}
 use Rattle.shared_area.specs.Words.{cell_of, word_count, cells_in, sets_in}
-use Rattle.shared_area.specs.Told.{has_pair, notes_in}
+use Rattle.shared_area.specs.Told.{has_pair, notes_in, seen_at}
 
--- `whole`: nothing is planted at a place without a whole session
 pub record IsArea (plan : PlanView) (s : State NoSlot View) : Type 0 where
   pub wide : length s.words ≡ word_count plan
   pub held : Held plan (cells_in s.words) (sets_in plan s.words) s.views
-  pub whole : (p : ℕ) → p < length plan.places → window_at plan p ≡ 0 → (cells_in s.words p).tag ≡ 0
 
 -- a fetch at place p found the word
 pub record Fetched (plan : PlanView) (p : ℕ) (v : View) (w : ℕ) (v' : View) : Type 0 where
@@ -50,3 +48,8 @@ pub record Looked (plan : PlanView) (s p : ℕ) (f : Fact) (v : View) (found : F
 pub record Lifted (s p old : ℕ) (v : View) (w : ℕ) (v' : View) : Type 0 where
   pub after : v' ≡ lifting s p (nat_eq w old) v
   pub again : has_pair s p v.free ≡ true → nat_eq w old ≡ false
+
+-- its keeper gave place p the tag, by a plant or a close
+pub record Tagged (p t : ℕ) (v v' : View) : Type 0 where
+  pub after : v' ≡ tagging p t v
+  pub higher : seen_at p v.seen ≤ t

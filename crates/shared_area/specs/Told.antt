@@ -5,6 +5,7 @@ use Rattle.cov_base.specs.Facts.{same_fact}
 use Rattle.module_area.specs.declared.parties.Role.{Role}
 use Rattle.module_area.specs.declared.parties.Role.TheVariants.{Task}
 use Rattle.module_area.specs.declared.parties.View.{View}
+use Rattle.module_area.specs.Parties.{last_tag}
 use Rattle.module_area.specs.declared.tallies.Tally.{Tally}
 use Rattle.module_area.specs.Notes.{Notes}
 
@@ -36,6 +37,8 @@ notes_in v tally = record {
   free = λ s p. has_pair s p v.free;
   seen = λ p. seen_at p v.seen;
   pending = v.pending;
+  last = λ p. last_tag p v.planted;
+  answered = v.answered;
   tally = tally;
   bears = bears_as v.role;
   given = λ t. has_number t v.given;

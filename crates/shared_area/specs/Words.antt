@@ -18,6 +18,14 @@ cell_of w = record { tag = w / 65536; half = w % 65536 }
 abbrev pub word_of : ℕ → ℕ → ℕ
 word_of s half = (2 * s - 1) * 65536 + half
 
+-- the word of a cell under the tag of session s that is over
+abbrev pub closed_word_of : ℕ → ℕ → ℕ
+closed_word_of s half = 2 * s * 65536 + half
+
+-- the tag in a cell's word
+abbrev pub tag_in : ℕ → ℕ
+tag_in w = w / 65536
+
 -- the session that a cell's word names
 abbrev pub session_in : ℕ → ℕ
 session_in w = tag_session (w / 65536)

@@ -5,6 +5,8 @@ mod areas;
 mod begin;
 mod cells;
 mod forks;
+#[cfg(test)]
+mod late;
 mod marks;
 mod pass;
 mod rule;

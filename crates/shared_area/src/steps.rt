@@ -5,7 +5,7 @@ ghost use Rattle.shared_area.specs.Words.{word_count};
 
 use crate::cells::SharedCells;
 use crate::pass::SharedPass;
-use crate::words::{cell, window_word};
+use crate::words::{cell, closed_word, window_word};
 use cov_base::{BREAKPOINT, Bits, Fact, PlaceNo, SessNo};
 use module_area::{Cell, Cells};
 use std::marker::Brand;
@@ -53,6 +53,14 @@ impl Cells for SharedCells {
             .shared
             .swap::<Brand>(&mut pass.seat, place.0 as usize, new);
         pass.tally.plants += 1;
+    }
+
+    fn close(&self, pass: &mut SharedPass, s: SessNo, place: PlaceNo) {
+        let over = closed_word(s.0, self.plan.original(place));
+        self.table
+            .shared
+            .swap::<Brand>(&mut pass.seat, place.0 as usize, over);
+        pass.tally.closes += 1;
     }
 }
 

@@ -1,7 +1,7 @@
 //! How a cell and the sets of facts lie in words, and where the words lie.
 ghost use Rattle.std.specs.Prelude.{◌≡◌, ◌*◌, ◌/◌, ◌^◌, ◌<◌, ◌≤◌, length};
 ghost use Rattle.module_area.specs.PlanView.{IsPlan};
-ghost use Rattle.shared_area.specs.Words.{cell_of, has_bit, facts_of, bit_of, word_of, session_words, set_word, word_count};
+ghost use Rattle.shared_area.specs.Words.{cell_of, has_bit, facts_of, bit_of, word_of, closed_word_of, session_words, set_word, word_count};
 
 use cov_base::{Bits, Fact, Kind, PlaceNo, SessNo};
 use module_area::{Cell, Plan};
@@ -23,6 +23,13 @@ pub(crate) fn window_word(session: u32, half: u16) -> u64
     ensures { result ≡ word_of session half }
 {
     (2 * session as u64 - 1) * 65536 + half as u64
+}
+
+/// The word of a cell under the tag of a session that is over.
+pub(crate) fn closed_word(session: u32, half: u16) -> u64
+    ensures { result ≡ closed_word_of session half }
+{
+    2 * session as u64 * 65536 + half as u64
 }
 
 /// The number of a fact's bit at a place, in the word of its session and its 32 places.

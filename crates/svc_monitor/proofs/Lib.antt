@@ -1,3 +1,4 @@
+pub mod AnsweredLemmas
 pub mod NotesLemmas
 pub mod ObservedLemmas
 pub mod PlaceLemmas

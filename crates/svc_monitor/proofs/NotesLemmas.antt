@@ -34,6 +34,8 @@ pub record Adds (old new : Notes) (s p : ℕ) (f : Fact) : Type 0 where
   pub grows : Grows old new
   pub marked : (t q : ℕ) (g : Fact) → new.marked t q g ≡ (old.marked t q g || (nat_eq t s && nat_eq q p && same_fact g f))
   pub seen : (q : ℕ) → new.seen q ≡ old.seen q
+  pub answered : new.answered ≡ old.answered
+  pub last : new.last ≡ old.last
   pub fetches : new.tally.fetches ≡ old.tally.fetches
   pub marks : new.tally.marks ≡ old.tally.marks + 1
   pub lifts : new.tally.lifts ≤ old.tally.lifts + 1
@@ -71,6 +73,8 @@ marked_alone plan n s p f found part = record {
   };
   marked = λ t q g. refl;
   seen = λ q. refl;
+  answered = refl;
+  last = refl;
   fetches = refl;
   marks = refl;
   lifts = omega arith;
@@ -98,6 +102,8 @@ marked_lifted plan n s p f found exchanged = record {
   };
   marked = λ t q g. refl;
   seen = λ q. refl;
+  answered = refl;
+  last = refl;
   fetches = refl;
   marks = refl;
   lifts = omega (arith, one_at_most exchanged);

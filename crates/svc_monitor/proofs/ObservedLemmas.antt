@@ -22,7 +22,7 @@ use Rattle.svc_monitor.proofs.PlaceLemmas.{none_begins}
 
 -- facts in sets
 
-same_fact-self : (f : Fact) → same_fact f f ≡ true
+pub same_fact-self : (f : Fact) → same_fact f f ≡ true
 same_fact-self Ran = refl
 same_fact-self Went = refl
 same_fact-self Stayed = refl
@@ -38,12 +38,12 @@ or_turned true false = refl
 or_turned false true = refl
 or_turned false false = refl
 
-or_apart : (a b c : Bool) → (a || (b || c)) ≡ ((a || b) || c)
+pub or_apart : (a b c : Bool) → (a || (b || c)) ≡ ((a || b) || c)
 or_apart true b c = refl
 or_apart false b c = refl
 
 -- the fact of an execution, if it is one
-has_fact-more : (b : Bool) (g f : Fact) (s : FactSet) → has_fact (if b then with_fact s g else s) f ≡ ((b && same_fact f g) || has_fact s f)
+pub has_fact-more : (b : Bool) (g f : Fact) (s : FactSet) → has_fact (if b then with_fact s g else s) f ≡ ((b && same_fact f g) || has_fact s f)
 has_fact-more true g f s = has_fact-with_fact s g f ∙ or_turned (has_fact s f) (same_fact f g)
 has_fact-more false g f s = refl
 
@@ -110,7 +110,7 @@ Grows-trans a b c g h = record {
   out = h.out ∙ g.out;
 }
 
-shown_later : (b c : Notes) (s p : ℕ) (f : Fact) → Grows b c → IsShown b s p f → IsShown c s p f
+pub shown_later : (b c : Notes) (s p : ℕ) (f : Fact) → Grows b c → IsShown b s p f → IsShown c s p f
 shown_later b c s p f h shown = elim shown [ inl m ↦ inl (h.marked s p f m) | inr m ↦ inr (h.full s p m) ]
 
 -- no visit, and one at no place

@@ -1,3 +1,4 @@
+pub mod Answered
 pub mod First
 pub mod Observed
 pub mod Settled

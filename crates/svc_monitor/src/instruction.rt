@@ -8,7 +8,7 @@ ghost use Rattle.s370_exec.specs.Fetch.{is_execute};
 ghost use Rattle.s370_exec.specs.Solo.{state_of, solo_step, subject_step};
 ghost use Rattle.svc_monitor.specs.First.{IsOver, IsPending};
 ghost use Rattle.svc_monitor.specs.Settled.{Shows};
-ghost use Rattle.svc_monitor.specs.Observed.{Observes};
+ghost use Rattle.svc_monitor.specs.Answered.{Makes};
 
 use crate::first::{Met, first_half};
 use crate::trap::settle;
@@ -35,7 +35,7 @@ fn show<C: Cells>(cells: &C, pass: &mut C::Pass, tables: &Tables, met: Met, cpu:
     }
 }
 
-/// Executes the subject of an EX that was begun, and observes its visit. Code 6 exactly at an odd address, else code 5
+/// Executes the subject of an EX that was begun, and makes its visit. Code 6 exactly at an odd address, else code 5
 /// exactly where its first halfword is inaccessible, else code 3 exactly where it is itself EX, of which no fact is
 /// marked.
 fn step_subject<C: Cells, P: Space>(
@@ -54,7 +54,7 @@ fn step_subject<C: Cells, P: Space>(
     ensures memory { P.memory space.new ≡ P.memory space.old }
     ensures state { (d : ℕ) → (subject_step (P.memory space.old) (state_of cpu.old (P.bytes space.old) io.old d) ex.now).state ≡ state_of cpu.new (P.bytes space.new) io.new (d + 1) }
     ensures next { (d : ℕ) → (subject_step (P.memory space.old) (state_of cpu.old (P.bytes space.old) io.old d) ex.now).next ≡ result }
-    ensures observes { (d : ℕ) → Observes (C.plan cells.now) (C.notes pass.old) (C.notes pass.new) (subject_step (P.memory space.old) (state_of cpu.old (P.bytes space.old) io.old d) ex.now).visits }
+    ensures makes { (d : ℕ) → Makes (C.plan cells.now) (C.notes pass.old) (C.notes pass.new) (subject_step (P.memory space.old) (state_of cpu.old (P.bytes space.old) io.old d) ex.now).visits }
 {
     let at = subject_address(cpu, ex);
     let met = match first_half(cells, pass, tables, space, at) {
@@ -70,7 +70,8 @@ fn step_subject<C: Cells, P: Space>(
 }
 
 /// One instruction of the task, of which neither budget nor return address is tested: it ends or goes on as over
-/// modules that were never planted, and the pass observes its visits.
+/// modules that were never planted, and the pass makes its visits: each fetch's answer is kept, and what a
+/// visit shows under a session's odd tag is marked for that session alone.
 pub fn step<C: Cells, P: Space>(
     cells: &C,
     pass: &mut C::Pass,
@@ -86,7 +87,7 @@ pub fn step<C: Cells, P: Space>(
     ensures memory { P.memory space.new ≡ P.memory space.old }
     ensures state { (d : ℕ) → (solo_step (P.memory space.old) (state_of cpu.old (P.bytes space.old) io.old d)).state ≡ state_of cpu.new (P.bytes space.new) io.new (d + 1) }
     ensures next { (d : ℕ) → (solo_step (P.memory space.old) (state_of cpu.old (P.bytes space.old) io.old d)).next ≡ result }
-    ensures observes { (d : ℕ) → Observes (C.plan cells.now) (C.notes pass.old) (C.notes pass.new) (solo_step (P.memory space.old) (state_of cpu.old (P.bytes space.old) io.old d)).visits }
+    ensures makes { (d : ℕ) → Makes (C.plan cells.now) (C.notes pass.old) (C.notes pass.new) (solo_step (P.memory space.old) (state_of cpu.old (P.bytes space.old) io.old d)).visits }
 {
     let at = cpu.at();
     let met = match first_half(cells, pass, tables, space, at) {

@@ -9,11 +9,10 @@ use Rattle.cov_base.specs.FactSet.{FactSet}
 use Rattle.cov_base.specs.Facts.{no_facts}
 use Rattle.cov_base.specs.States.{Visit}
 use Rattle.module_area.specs.PlanView.{PlanView, IsPlan, place_of, window_at}
-use Rattle.module_area.specs.PlainWords.{index_of}
+use Rattle.module_area.specs.FinalsView.{index_of, FinalsView, set_at}
 use Rattle.module_area.specs.Notes.{Notes}
 use Rattle.module_area.specs.Counts.{fact_count}
 use Rattle.module_area.specs.Executions.{facts_at}
-use Rattle.module_area.specs.FinalsView.{FinalsView, set_at}
 use Rattle.module_area.specs.Ended.{HasSets, HasTally}
 use Rattle.module_area.proofs.Indices.{index_below, same_index}
 use Rattle.svc_monitor.specs.Observed.{Observes}

@@ -1,5 +1,5 @@
 -- The sets that an area ends with are the facts of the visits that its passes observed.
-use Rattle.std.proofs.Common.{◌≡◌, ℕ, ◌+◌, ◌<◌, ◌≤◌, Bool, true, false, ◌&&◌, ◌||◌, nat_lt, List, [], ◌∷◌, ◌++◌, length, inl, inr, refl, sym, ◌∙◌, ap, subst}
+use Rattle.std.proofs.Common.{◌≡◌, ℕ, ◌+◌, ◌<◌, ◌≤◌, Bool, true, false, ◌&&◌, ◌||◌, nat_lt, List, [], ◌∷◌, ◌++◌, length, inl, inr, refl, sym, ◌∙◌, ap, subst, arith}
 use Rattle.std.specs.List.{flat_map, sum_by}
 use Rattle.std.proofs.lemmas.Bool.{or_cases, and_parts, both_ways, ltb-true}
 use Rattle.std.proofs.lemmas.List.Sums.{sum_by-cons}
@@ -19,6 +19,7 @@ use Rattle.module_area.specs.FinalsView.{FinalsView, set_at}
 use Rattle.module_area.specs.Ended.{HasSets, HasTally, full_places}
 use Rattle.module_area.proofs.CountLemmas.{count_same}
 use Rattle.module_area.proofs.FactLemmas.{same_fact-true}
+use Rattle.module_area.proofs.EndedLemmas.{pairs_are_places}
 use Rattle.module_area.proofs.Indices.{same_tests}
 use Rattle.svc_monitor.specs.Observed.{Observes, Stays, IsShown}
 use Rattle.svc_monitor.proofs.ObservedLemmas.{has_fact-none, facts_at-more, facts_at-append, visits_at_places-append}
@@ -112,13 +113,17 @@ exact_set plan old ended trace finals is ready observes sets p lt window =
     (λ f there. observes.shown (window_at plan p) p f (ready.planted p lt window) (record { exists = lt; there = there }))
     (facts_at-kind (place_of plan.places p) trace)
 
--- the breakpoints that were lifted are those of the places whose set is full
-pub exact_lifts : (plan : PlanView) (old ended : Notes) (trace : List Visit) (finals : FinalsView) → IsReady plan old → Observes plan old ended trace →
-    HasTally plan ended finals → ended.tally.lifts ≡ full_places plan finals
-exact_lifts plan old ended trace finals ready observes tally = tally.lifts (λ s p full. elim (observes.grows.met s p full) [
-  | inl before ↦ absurd (both_ways (old.full s p) (ready.none_full s p) before)
-  | inr free ↦ free
-])
+-- in a phase without controlled sessions the breakpoints that were lifted are those of the places whose set is full
+pub exact_lifts : (plan : PlanView) (old ended : Notes) (trace : List Visit) (finals : FinalsView) → plan.controlled ≡ [] → IsReady plan old → Observes plan old ended trace →
+    HasSets plan ended finals → HasTally plan ended finals → ended.tally.lifts ≡ full_places plan finals
+exact_lifts plan old ended trace finals whole ready observes sets tally =
+    let least = tally.lifts_least (λ s p full. elim (observes.grows.met s p full) [
+      | inl before ↦ absurd (both_ways (old.full s p) (ready.none_full s p) before)
+      | inr free ↦ free
+    ]) in
+    let most = tally.lifts_most in
+    let same = pairs_are_places plan ended finals whole sets in
+    omega (arith, least, most, same)
 
 shows_full : (plan : PlanView) (finals : FinalsView) (trace : List Visit) (p : ℕ) (b : Bool) → nat_lt 0 (window_at plan p) ≡ b →
     (0 < window_at plan p → set_at finals (window_at plan p) p ≡ facts_at (place_of plan.places p) trace) →

@@ -4,7 +4,7 @@ ghost use Rattle.module_area.specs.Notes.{calls};
 ghost use Rattle.s370_exec.specs.Solo.{state_of, solo_run};
 ghost use Rattle.space_map.specs.Space.{memory_of_space};
 ghost use Rattle.svc_monitor.specs.First.{IsOver};
-ghost use Rattle.svc_monitor.specs.Observed.{Observes};
+ghost use Rattle.svc_monitor.specs.Answered.{Makes};
 
 use crate::tasks::Task;
 use brk_table::Tables;
@@ -15,7 +15,7 @@ use svc_monitor::step;
 
 /// Runs the task until it ends: before each instruction it ends Returned at X'FFFFFE', else Spent where it has done as
 /// many instructions as its budget. Ending, state and count are those of its run alone over modules that were never
-/// planted, and the pass observes that run's visits. The pass's tally sums to less than 2^60 before.
+/// planted, and the pass makes that run's visits. The pass's tally sums to less than 2^60 before.
 pub fn run_task<C: Cells>(
     cells: &C,
     pass: &mut C::Pass,
@@ -32,7 +32,7 @@ pub fn run_task<C: Cells>(
     ensures done { task.new.done ≤ task.old.budget }
     ensures ending { result ≡ (solo_run (memory_of_space task.old.space) task.old.budget (state_of task.old.cpu task.old.space.bytes task.old.io 0)).ending }
     ensures state { state_of task.new.cpu task.new.space.bytes task.new.io task.new.done ≡ (solo_run (memory_of_space task.old.space) task.old.budget (state_of task.old.cpu task.old.space.bytes task.old.io 0)).state }
-    ensures observes { Observes (C.plan cells.now) (C.notes pass.old) (C.notes pass.new) (solo_run (memory_of_space task.old.space) task.old.budget (state_of task.old.cpu task.old.space.bytes task.old.io 0)).trace }
+    ensures makes { Makes (C.plan cells.now) (C.notes pass.old) (C.notes pass.new) (solo_run (memory_of_space task.old.space) task.old.budget (state_of task.old.cpu task.old.space.bytes task.old.io 0)).trace }
 {
     let budget = task.budget;
     for done in 0..budget {

@@ -1,6 +1,6 @@
 use Rattle.std.proofs.Common.{rules, refl, ◌≡◌, ◌*◌, map, replicate, length, []}
 use Rattle.cov_base.specs.Facts.{no_facts}
-use Rattle.module_area.specs.FreshWords.{fresh_word}
+use Rattle.module_area.specs.CellWords.{fresh_word}
 use Rattle.interleave_core.specs.World.{World}
 use Rattle.interleave_core.specs.Core.{core_start}
 use Rattle.interleave_core.proofs.Follows.{run_stands}

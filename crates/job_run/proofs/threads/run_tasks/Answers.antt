@@ -31,7 +31,7 @@ loop-t-init g c =
 
 pub run_those-requires-clause-others : goal.run_those-requires-clause-others
 run_those-requires-clause-others g c κs within =
-    none_other (g.C.Cells.is_pass c.args.cells.now) g.C.Cells.notes (g.C.Cells.notes c.args.root.now) c.args.job.now c.args.phase c.args.slots.now c.split_all.new.slots c.split_all.ensures.passes
+    none_other (g.C.Cells.is_pass c.args.cells.now) g.C.Cells.notes (g.C.Cells.plan c.args.cells.now) (g.C.Cells.notes c.args.root.now) c.args.job.now c.args.phase c.args.slots.now c.split_all.new.slots c.split_all.ensures.passes
 
 -- what the pass that is joined has seen
 seen_of : (g : given.Over) (c : goal.After-join-arg-1 g) → (in_phase c.args.job.now c.args.phase c.loop-t.t ≡ true) ×
@@ -76,7 +76,7 @@ loop-t-preserved g c =
           let s = pass_of solo (g.C.Cells.is_pass c.args.cells.now) g.C.Cells.notes before (g.C.Cells.plan c.args.cells.now) c.args.job.now c.args.tables.now.places c.args.phase t c.loop-t.slots
           c.index-slots-t.result w.in-Some.pass there i.over (sym c.take.ensures.pass ∙ w.in-Some.is) in
           let other : Notes = g.C.Cells.notes w.in-Some.pass in
-          let new : g.C.Cells.notes c.match-take.root ≡ after_join mid other = ap g.C.Cells.notes w.root-is ∙ w.join.ensures.notes in
+          let new : g.C.Cells.notes c.match-take.root ≡ after_join (g.C.Cells.plan c.args.cells.now) mid other = ap g.C.Cells.notes w.root-is ∙ w.join.ensures.notes in
           let bears : bearer other ≡ t = ap (λ (o : Option ℕ). unwrap_or o 0) s.1.observes.grows.bears in
           record {
             area = rw (w.root-is) w.join.ensures.area;

@@ -22,12 +22,12 @@ loop-t-preserved g c =
           let here : t < length c.args.slots.now = omega (arith, c.loop-t-test.true, c.task_count-count.ensures.value, c.requires.count) in
           let s = w.split-pass.ensures in
           let new : g.C.Cells.notes c.if-is_of.root ≡ after_split mid t = ap g.C.Cells.notes w.root-is ∙ s.notes in
-          let fresh : g.C.Cells.notes w.split-pass.result ≡ split_notes before t = s.fresh ∙ ap (λ (n : Notes). split_notes n t) i.split.same in
+          let fresh : g.C.Cells.notes w.split-pass.result ≡ split_notes (g.C.Cells.plan c.args.cells.now) before t = s.fresh ∙ ap (λ (n : Notes). split_notes (g.C.Cells.plan c.args.cells.now) n t) i.split.same in
           record {
             area = rw (w.root-is) s.area;
             root = ap (λ (n : Notes). n.bears) new ∙ i.root;
             split = subst (λ (n : Notes). HasSplit c.args.job.now c.args.phase (t + 1) before n) (sym new) (HasSplit-one c.args.job.now c.args.phase t before mid of i.split);
-            passes = rw (w.slots-is) (AreSplit-one (g.C.Cells.is_pass c.args.cells.now) g.C.Cells.notes before c.args.job.now c.args.phase t c.args.slots.now c.loop-t.slots w.give.new.slot w.index-slots-t.result
+            passes = rw (w.slots-is) (AreSplit-one (g.C.Cells.is_pass c.args.cells.now) g.C.Cells.notes (g.C.Cells.plan c.args.cells.now) before c.args.job.now c.args.phase t c.args.slots.now c.loop-t.slots w.give.new.slot w.index-slots-t.result
                 w.split-pass.result here of i.passes w.give.ensures.pass s.split fresh w.give.ensures.done);
           }
       | else-is_of w ↦
@@ -36,7 +36,7 @@ loop-t-preserved g c =
             area = rw (w.root-is) i.area;
             root = rw (w.root-is) i.root;
             split = rw (w.root-is) (HasSplit-other c.args.job.now c.args.phase t before mid other i.split);
-            passes = rw (w.slots-is) (AreSplit-other (g.C.Cells.is_pass c.args.cells.now) g.C.Cells.notes before c.args.job.now c.args.phase t c.args.slots.now c.loop-t.slots other i.passes);
+            passes = rw (w.slots-is) (AreSplit-other (g.C.Cells.is_pass c.args.cells.now) g.C.Cells.notes (g.C.Cells.plan c.args.cells.now) before c.args.job.now c.args.phase t c.args.slots.now c.loop-t.slots other i.passes);
           }
     ]
 
@@ -48,4 +48,4 @@ returns-clause-notes g c =
 pub returns-clause-passes : goal.returns-clause-passes
 returns-clause-passes g c =
     let all : c.loop-t.t ≡ length c.args.job.now.tasks = omega (arith, c.loop-t-test.false, c.loop-t.auto.t-end, c.task_count-count.ensures.value) in
-    subst (λ (n : ℕ). AreSplit (g.C.Cells.is_pass c.args.cells.now) g.C.Cells.notes (g.C.Cells.notes c.args.root.now) c.args.job.now c.args.phase n c.args.slots.now c.loop-t.slots) all c.loop-t.invariant.passes
+    subst (λ (n : ℕ). AreSplit (g.C.Cells.is_pass c.args.cells.now) g.C.Cells.notes (g.C.Cells.plan c.args.cells.now) (g.C.Cells.notes c.args.root.now) c.args.job.now c.args.phase n c.args.slots.now c.loop-t.slots) all c.loop-t.invariant.passes

@@ -7,8 +7,8 @@ use Rattle.s370_exec.specs.Effects.{effect_of}
 use Rattle.s370_exec.specs.Solo.{state_of, solo_step, subject_step, ended, stepped, behind, visit}
 use Rattle.s370_exec.proofs.Subjects.{first_half-code_at}
 use Rattle.s370_exec.proofs.StepLemmas.{solo_step-refused, solo_step-rest_refused, solo_step-begun, solo_step-execute}
-use Rattle.svc_monitor.proofs.StepLemmas.{Observes-not_begun, Observes-begun}
-use Rattle.svc_monitor.proofs.ObservedLemmas.{Observes-none, Observes-append}
+use Rattle.svc_monitor.proofs.StepLemmas.{Makes-not_begun, Makes-begun}
+use Rattle.svc_monitor.proofs.AnsweredLemmas.{Makes-none, Makes-append}
 use Rattle.svc_monitor.proofs.instruction.step.Given as given
 use Rattle.svc_monitor.proofs.instruction.step.Goals as goal
 
@@ -23,8 +23,8 @@ returns-in-Err-clause-state g c = λ d. ap (λ r. r.state) (refused g c d)
 pub returns-in-Err-clause-next : goal.returns-in-Err-clause-next
 returns-in-Err-clause-next g c = λ d. ap (λ r. r.next) (refused g c d)
 
-pub returns-in-Err-clause-observes : goal.returns-in-Err-clause-observes
-returns-in-Err-clause-observes g c = λ d. rw (refused g c d, c.in-Err.ensures.kept) (Observes-none _ _)
+pub returns-in-Err-clause-makes : goal.returns-in-Err-clause-makes
+returns-in-Err-clause-makes g c = λ d. rw (refused g c d, c.in-Err.ensures.kept) (Makes-none _ _)
 
 rest_refused : (g : given.Over) (c : goal.After-result-1 g) (d : ℕ) →
     let s = state_of c.args.cpu.now (g.P.Space.bytes c.args.space.now) c.args.io.now d in
@@ -39,9 +39,9 @@ returns-in-Err-fetched-clause-state g c = λ d. ap (λ r. r.state) (rest_refused
 pub returns-in-Err-fetched-clause-next : goal.returns-in-Err-fetched-clause-next
 returns-in-Err-fetched-clause-next g c = λ d. ap (λ r. r.next) (rest_refused g c d)
 
-pub returns-in-Err-fetched-clause-observes : goal.returns-in-Err-fetched-clause-observes
-returns-in-Err-fetched-clause-observes g c = λ d. rw (rest_refused g c d)
-    (Observes-not_begun _ c.args.tables.now.places _ _ c.in-Ok.met (state_of c.args.cpu.now (g.P.Space.bytes c.args.space.now) c.args.io.now d) c.at-at.result false
+pub returns-in-Err-fetched-clause-makes : goal.returns-in-Err-fetched-clause-makes
+returns-in-Err-fetched-clause-makes g c = λ d. rw (rest_refused g c d)
+    (Makes-not_begun _ c.args.tables.now.places _ _ c.in-Ok.met (state_of c.args.cpu.now (g.P.Space.bytes c.args.space.now) c.args.io.now d) c.at-at.result false
     c.requires.over.same c.in-Ok.ensures.placed c.in-Ok.ensures.met)
 
 -- an EX: its own visit, and those of its subject
@@ -61,12 +61,12 @@ returns-then-is_execute-clause-state g c = λ d. ap (λ r. r.state) (executes g 
 pub returns-then-is_execute-clause-next : goal.returns-then-is_execute-clause-next
 returns-then-is_execute-clause-next g c = λ d. ap (λ r. r.next) (executes g c d) ∙ c.step_subject.ensures.next d
 
-pub returns-then-is_execute-clause-observes : goal.returns-then-is_execute-clause-observes
-returns-then-is_execute-clause-observes g c = λ d.
+pub returns-then-is_execute-clause-makes : goal.returns-then-is_execute-clause-makes
+returns-then-is_execute-clause-makes g c = λ d.
     let s = state_of c.args.cpu.now (g.P.Space.bytes c.args.space.now) c.args.io.now d in
     let went = goes (op_of (first_half c.in-Ok-fetched.code)) c.args.cpu.now c.in-Ok-fetched.code in
-    let own = Observes-begun _ c.args.tables.now.places _ _ _ c.in-Ok.met s c.at-at.result went false c.requires.over.same c.in-Ok.ensures.placed c.in-Ok.ensures.met c.show.ensures.shows in
-    rw (executes g c d) (Observes-append _ _ _ _ (visit s c.at-at.result true went false ∷ []) _ own (c.step_subject.ensures.observes d))
+    let own = Makes-begun _ c.args.tables.now.places _ _ _ c.in-Ok.met s c.at-at.result went false c.requires.over.same c.in-Ok.ensures.placed c.in-Ok.ensures.met c.show.ensures.shows in
+    rw (executes g c d) (Makes-append _ _ _ _ (visit s c.at-at.result true went false ∷ []) _ own (c.step_subject.ensures.makes d))
 
 pub execute-requires : goal.execute-requires
 execute-requires g c = record {
@@ -90,7 +90,7 @@ returns-clause-state g c = λ d. ap (λ r. r.state) (begun g c d)
 pub returns-clause-next : goal.returns-clause-next
 returns-clause-next g c = λ d. ap (λ r. r.next) (begun g c d)
 
-pub returns-clause-observes : goal.returns-clause-observes
-returns-clause-observes g c = λ d. rw (begun g c d)
-    (Observes-begun _ c.args.tables.now.places _ _ _ c.in-Ok.met (state_of c.args.cpu.now (g.P.Space.bytes c.args.space.now) c.args.io.now d) c.at-at.result
+pub returns-clause-makes : goal.returns-clause-makes
+returns-clause-makes g c = λ d. rw (begun g c d)
+    (Makes-begun _ c.args.tables.now.places _ _ _ c.in-Ok.met (state_of c.args.cpu.now (g.P.Space.bytes c.args.space.now) c.args.io.now d) c.at-at.result
     (goes (op_of (first_half c.in-Ok-fetched.code)) c.args.cpu.now c.in-Ok-fetched.code) false c.requires.over.same c.in-Ok.ensures.placed c.in-Ok.ensures.met c.show.ensures.shows)

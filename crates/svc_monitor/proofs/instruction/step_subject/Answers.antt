@@ -5,8 +5,8 @@ use Rattle.s370_branch.specs.Branch.{goes}
 use Rattle.s370_exec.specs.Effects.{effect_of}
 use Rattle.s370_exec.specs.Solo.{state_of, subject_step, ended, stepped, visit}
 use Rattle.s370_exec.proofs.StepLemmas.{subject_step-refused, subject_step-unread, subject_step-begun}
-use Rattle.svc_monitor.proofs.StepLemmas.{Observes-not_begun, Observes-begun}
-use Rattle.svc_monitor.proofs.ObservedLemmas.{Observes-none}
+use Rattle.svc_monitor.proofs.StepLemmas.{Makes-not_begun, Makes-begun}
+use Rattle.svc_monitor.proofs.AnsweredLemmas.{Makes-none}
 use Rattle.svc_monitor.proofs.instruction.step_subject.Given as given
 use Rattle.svc_monitor.proofs.instruction.step_subject.Goals as goal
 
@@ -22,8 +22,8 @@ returns-in-Err-clause-state g c = λ d. ap (λ r. r.state) (refused g c d)
 pub returns-in-Err-clause-next : goal.returns-in-Err-clause-next
 returns-in-Err-clause-next g c = λ d. ap (λ r. r.next) (refused g c d)
 
-pub returns-in-Err-clause-observes : goal.returns-in-Err-clause-observes
-returns-in-Err-clause-observes g c = λ d. rw (refused g c d, c.in-Err.ensures.kept) (Observes-none _ _)
+pub returns-in-Err-clause-makes : goal.returns-in-Err-clause-makes
+returns-in-Err-clause-makes g c = λ d. rw (refused g c d, c.in-Err.ensures.kept) (Makes-none _ _)
 
 unread : (g : given.Over) (c : goal.In-Err-fetch_subject g) (d : ℕ) →
     let s = state_of c.args.cpu.now (g.P.Space.bytes c.args.space.now) c.args.io.now d in
@@ -38,9 +38,9 @@ returns-in-Err-fetch_subject-clause-state g c = λ d. ap (λ r. r.state) (unread
 pub returns-in-Err-fetch_subject-clause-next : goal.returns-in-Err-fetch_subject-clause-next
 returns-in-Err-fetch_subject-clause-next g c = λ d. ap (λ r. r.next) (unread g c d)
 
-pub returns-in-Err-fetch_subject-clause-observes : goal.returns-in-Err-fetch_subject-clause-observes
-returns-in-Err-fetch_subject-clause-observes g c = λ d. rw (unread g c d)
-    (Observes-not_begun _ c.args.tables.now.places _ _ c.in-Ok.met (state_of c.args.cpu.now (g.P.Space.bytes c.args.space.now) c.args.io.now d) c.subject_address-at.result true
+pub returns-in-Err-fetch_subject-clause-makes : goal.returns-in-Err-fetch_subject-clause-makes
+returns-in-Err-fetch_subject-clause-makes g c = λ d. rw (unread g c d)
+    (Makes-not_begun _ c.args.tables.now.places _ _ c.in-Ok.met (state_of c.args.cpu.now (g.P.Space.bytes c.args.space.now) c.args.io.now d) c.subject_address-at.result true
     c.requires.over.same c.in-Ok.ensures.placed c.in-Ok.ensures.met)
 
 begun : (g : given.Over) (c : goal.After-execute g) (d : ℕ) →
@@ -61,7 +61,7 @@ returns-clause-state g c = λ d. ap (λ r. r.state) (begun g c d)
 pub returns-clause-next : goal.returns-clause-next
 returns-clause-next g c = λ d. ap (λ r. r.next) (begun g c d)
 
-pub returns-clause-observes : goal.returns-clause-observes
-returns-clause-observes g c = λ d. let x = c.in-Ok-fetch_subject.code in rw (begun g c d)
-    (Observes-begun _ c.args.tables.now.places _ _ _ c.in-Ok.met (state_of c.args.cpu.now (g.P.Space.bytes c.args.space.now) c.args.io.now d) c.subject_address-at.result
+pub returns-clause-makes : goal.returns-clause-makes
+returns-clause-makes g c = λ d. let x = c.in-Ok-fetch_subject.code in rw (begun g c d)
+    (Makes-begun _ c.args.tables.now.places _ _ _ c.in-Ok.met (state_of c.args.cpu.now (g.P.Space.bytes c.args.space.now) c.args.io.now d) c.subject_address-at.result
     (goes (op_of (first_half x)) c.args.cpu.now x) true c.requires.over.same c.in-Ok.ensures.placed c.in-Ok.ensures.met c.show.ensures.shows)

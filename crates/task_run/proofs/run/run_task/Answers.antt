@@ -29,7 +29,7 @@ loop-done-preserved g c =
       budget = c.loop-done.invariant.budget;
       done = refl;
       run = LedTo-more _ _ _ (g.C.Cells.notes c.loop-done.pass) _ _ _ i (state_of c.loop-done.task.cpu c.loop-done.task.space.bytes c.loop-done.task.io i) _
-          c.loop-done.invariant.run c.loop-done-test.true (sym c.if-has_returned.ensures) (rw same at (c.step.ensures.next i ∙ c.in_default.is)) (rw same at (c.step.ensures.state i)) (rw same at (c.step.ensures.observes i));
+          c.loop-done.invariant.run c.loop-done-test.true (sym c.if-has_returned.ensures) (rw same at (c.step.ensures.next i ∙ c.in_default.is)) (rw same at (c.step.ensures.state i)) (rw same at (c.step.ensures.makes i));
     }
 
 ended : (g : given.Over) (c : goal.In-Ended g) →
@@ -40,7 +40,7 @@ ended g c =
     let i : ℕ = c.loop-done.done in
     let same = c.loop-done.invariant.memory in
     IsRun-ended _ _ _ (g.C.Cells.notes c.loop-done.pass) _ _ _ i (state_of c.loop-done.task.cpu c.loop-done.task.space.bytes c.loop-done.task.io i) _ c.in-Ended.e
-    c.loop-done.invariant.run c.loop-done-test.true (sym c.if-has_returned.ensures) (rw same at (c.step.ensures.next i ∙ c.in-Ended.is)) (rw same at (c.step.ensures.state i)) (rw same at (c.step.ensures.observes i))
+    c.loop-done.invariant.run c.loop-done-test.true (sym c.if-has_returned.ensures) (rw same at (c.step.ensures.next i ∙ c.in-Ended.is)) (rw same at (c.step.ensures.state i)) (rw same at (c.step.ensures.makes i))
 
 pub returns-in-Ended-clause-ending : goal.returns-in-Ended-clause-ending
 returns-in-Ended-clause-ending g c = (ended g c).ending
@@ -48,8 +48,8 @@ returns-in-Ended-clause-ending g c = (ended g c).ending
 pub returns-in-Ended-clause-state : goal.returns-in-Ended-clause-state
 returns-in-Ended-clause-state g c = (ended g c).state
 
-pub returns-in-Ended-clause-observes : goal.returns-in-Ended-clause-observes
-returns-in-Ended-clause-observes g c = (ended g c).observes
+pub returns-in-Ended-clause-makes : goal.returns-in-Ended-clause-makes
+returns-in-Ended-clause-makes g c = (ended g c).makes
 
 returned : (g : given.Over) (c : goal.Then-has_returned g) →
     IsRun (g.C.Cells.plan c.args.cells.now) (g.C.Cells.notes c.args.pass.now) (g.C.Cells.notes c.loop-done.pass)
@@ -63,8 +63,8 @@ returns-then-has_returned-clause-ending g c = (returned g c).ending
 pub returns-then-has_returned-clause-state : goal.returns-then-has_returned-clause-state
 returns-then-has_returned-clause-state g c = rw c.loop-done.invariant.done (returned g c).state
 
-pub returns-then-has_returned-clause-observes : goal.returns-then-has_returned-clause-observes
-returns-then-has_returned-clause-observes g c = (returned g c).observes
+pub returns-then-has_returned-clause-makes : goal.returns-then-has_returned-clause-makes
+returns-then-has_returned-clause-makes g c = (returned g c).makes
 
 returned_last : (g : given.Over) (c : goal.Then-has_returned-2 g) →
     IsRun (g.C.Cells.plan c.args.cells.now) (g.C.Cells.notes c.args.pass.now) (g.C.Cells.notes c.loop-done.pass)
@@ -78,8 +78,8 @@ returns-then-has_returned-2-clause-ending g c = (returned_last g c).ending
 pub returns-then-has_returned-2-clause-state : goal.returns-then-has_returned-2-clause-state
 returns-then-has_returned-2-clause-state g c = rw c.loop-done.invariant.done (returned_last g c).state
 
-pub returns-then-has_returned-2-clause-observes : goal.returns-then-has_returned-2-clause-observes
-returns-then-has_returned-2-clause-observes g c = (returned_last g c).observes
+pub returns-then-has_returned-2-clause-makes : goal.returns-then-has_returned-2-clause-makes
+returns-then-has_returned-2-clause-makes g c = (returned_last g c).makes
 
 spent : (g : given.Over) (c : goal.Else-has_returned-2 g) →
     IsRun (g.C.Cells.plan c.args.cells.now) (g.C.Cells.notes c.args.pass.now) (g.C.Cells.notes c.loop-done.pass)
@@ -93,5 +93,5 @@ returns-else-has_returned-2-clause-ending g c = (spent g c).ending
 pub returns-else-has_returned-2-clause-state : goal.returns-else-has_returned-2-clause-state
 returns-else-has_returned-2-clause-state g c = rw c.loop-done.invariant.done (spent g c).state
 
-pub returns-else-has_returned-2-clause-observes : goal.returns-else-has_returned-2-clause-observes
-returns-else-has_returned-2-clause-observes g c = (spent g c).observes
+pub returns-else-has_returned-2-clause-makes : goal.returns-else-has_returned-2-clause-makes
+returns-else-has_returned-2-clause-makes g c = (spent g c).makes

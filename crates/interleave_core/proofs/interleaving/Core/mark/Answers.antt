@@ -4,7 +4,7 @@ use Rattle.interleave_core.specs.World.{World}
 use Rattle.interleave_core.specs.Steps.{Stepped, of_task, mark_step}
 use Rattle.interleave_core.specs.Views.{RunningView, CoreView, parts_of}
 use Rattle.interleave_core.specs.declared.events.Shown.TheVariants.{Marked}
-use Rattle.module_area.specs.PlainWords.{index_of}
+use Rattle.module_area.specs.FinalsView.{index_of}
 use Rattle.interleave_core.specs.declared.stage.Due.TheVariants.{Marking, Nothing}
 use Rattle.interleave_core.proofs.Kept.{read_running, hand_due, mark_index, mark_fits, marked_core, mark_possible}
 use Rattle.interleave_core.proofs.interleaving.Core.mark.Goals as goal

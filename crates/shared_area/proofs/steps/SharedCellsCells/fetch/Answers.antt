@@ -29,7 +29,7 @@ returns-clause-area c = (
 pub returns-clause-answer : goal.returns-clause-answer
 returns-clause-answer c = let h = fetched_is c.args.self.now _ _ c.args.place.0 c.load-found.result c.load-found.ensures.2.0 in
     subst (IsAnswer c.args.self.now.plan (notes_of c.args.pass.now) c.args.place.0) (sym c.cell.ensures)
-    record { planted = h.answer.planted; plain = h.answer.plain; later = h.answer.later; window = h.answer.window; root = h.answer.root; over = h.answer.over; lifted = h.answer.lifted }
+    record { planted = h.answer.planted; plain = h.answer.plain; later = h.answer.later; window = h.answer.window; kept = h.answer.kept; over = h.answer.over; lifted = h.answer.lifted }
 
 pub returns-clause-notes : goal.returns-clause-notes
 returns-clause-notes c = let h = fetched_is c.args.self.now _ _ c.args.place.0 c.load-found.result c.load-found.ensures.2.0 in let pass = c.args.pass.now in

@@ -1,0 +1,441 @@
+//! Three instructions under two sessions that task 1 opens and closes, and traps of tasks 0 and 2 that come late.
+ghost use Rattle.std.specs.Prelude.{◌≡◌, ℕ, ◌+◌, ◌-◌, ◌*◌, ◌<◌, ◌≤◌, ◌^◌, true, length, [], ◌∷◌, IfOk, IfSome};
+ghost use Rattle.std.specs.declared.option.Option.TheVariants.{Some, None};
+ghost use Rattle.cov_base.specs.declared.facts.Kind.TheVariants.{Straight};
+ghost use Rattle.module_area.specs.PlanView.{kind_at, has_task, is_over};
+ghost use Rattle.shared_area.specs.Late.{IsTwice};
+ghost use Rattle.module_area.specs.Notes.{calls, keeps};
+
+use crate::SharedAreas;
+use cov_base::{Addr, Fact, Kind, NoMemory, PlaceNo, SessNo, TaskNo};
+use module_area::{Areas, Cell, Cells, Controlled, Forks, Place, Plan};
+use std::alloc::Global;
+use std::test::Fail;
+
+/// The three places.
+fn three(alloc: Global) -> Result<Vec<PlaceNo>, NoMemory>
+    ensures { IfOk result (λ v. v.items ≡ record { 0 = 0 } ∷ record { 0 = 1 } ∷ record { 0 = 2 } ∷ []) }
+{
+    Ok(vec![in alloc; PlaceNo(0), PlaceNo(1), PlaceNo(2)]?)
+}
+
+/// The plan of three places, with sessions 1 and 2 of task 1 over them.
+fn with_sessions(alloc: Global, plan: Plan) -> Result<Plan, NoMemory>
+    requires places { length plan.places ≡ 3 }
+    requires free { plan.windows ≡ 0 ∷ 0 ∷ 0 ∷ [] }
+    requires task { has_task plan.tasks 1 ≡ true }
+    requires sessions { 2 ≤ plan.sessions }
+    ensures over { IfOk result (λ p. (q : ℕ) → q < 3 → IsTwice p q) }
+    ensures places { IfOk result (λ p. p.places ≡ plan.places) }
+    ensures tasks { IfOk result (λ p. p.tasks ≡ plan.tasks) }
+    ensures sessions { IfOk result (λ p. p.sessions ≡ plan.sessions) }
+{
+    let first = Controlled {
+        session: SessNo(1),
+        by: TaskNo(1),
+        places: three(alloc)?,
+    };
+    let second = Controlled {
+        session: SessNo(2),
+        by: TaskNo(1),
+        places: three(alloc)?,
+    };
+    let Plan {
+        places,
+        windows,
+        controlled: _,
+        tasks,
+        sessions,
+    } = plan;
+    Ok(Plan {
+        places,
+        windows,
+        controlled: vec![in alloc; first, second]?,
+        tasks,
+        sessions,
+    })
+}
+
+/// Whether the pass meets the breakpoint under the tag at the place.
+fn traps<C: Cells>(cells: &C, pass: &mut C::Pass, place: PlaceNo, tag: u32) -> bool
+    requires area { C.is_pass cells.now pass.old }
+    requires room { calls (C.notes pass.old) < 2 ^ 60 }
+    requires place { place.0 < length (C.plan cells.now).places }
+    ensures area { C.is_pass cells.now pass.new }
+    ensures pending { result ≡ true → (C.notes pass.new).pending ≡ Some (place.0, tag) }
+    ensures room { calls (C.notes pass.new) ≤ calls (C.notes pass.old) + 1 }
+    ensures bears { (C.notes pass.new).bears ≡ (C.notes pass.old).bears }
+{
+    let cell = cells.fetch(pass, place);
+    cell.tag == tag && cell.half == 0x0AFF
+}
+
+/// Marks the run of the place: whether it was there; none where the set isn't full with it.
+fn marks<C: Cells>(cells: &C, pass: &mut C::Pass, s: SessNo, place: PlaceNo) -> Option<bool>
+    requires area { C.is_pass cells.now pass.old }
+    requires room { calls (C.notes pass.old) < 2 ^ 61 }
+    requires place { (place.0 < length (C.plan cells.now).places) × (kind_at (C.plan cells.now) place.0 ≡ Straight) }
+    requires session { 0 < s.0 }
+    requires pending { (C.notes pass.old).pending ≡ Some (place.0, 2 * s.0 - 1) }
+    ensures area { C.is_pass cells.now pass.new }
+    ensures full { IfSome result (λ _. (C.notes pass.new).full s.0 place.0 ≡ true) }
+    ensures room { calls (C.notes pass.new) ≤ calls (C.notes pass.old) + 1 }
+    ensures bears { (C.notes pass.new).bears ≡ (C.notes pass.old).bears }
+{
+    let found = cells.mark(pass, s, place, Fact::Ran);
+    if found.with(Fact::Ran).is_full(Kind::Straight) {
+        Some(found.has(Fact::Ran))
+    } else {
+        None
+    }
+}
+
+/// Closes session 1, and plants session 2 where that is asked for.
+fn change<C: Cells>(cells: &C, control: &mut C::Pass, plants: bool)
+    requires area { C.is_pass cells.now control.old }
+    requires room { calls (C.notes control.old) < 2 ^ 60 }
+    requires place { (0 < length (C.plan cells.now).places) × IsTwice (C.plan cells.now) 0 }
+    requires bears { (C.notes control.old).bears ≡ Some 1 }
+    requires open { (C.notes control.old).last 0 ≡ 1 }
+    ensures area { C.is_pass cells.now control.new }
+    ensures room { calls (C.notes control.new) ≤ calls (C.notes control.old) + 2 }
+    ensures bears { (C.notes control.new).bears ≡ (C.notes control.old).bears }
+{
+    cells.close(control, SessNo(1), PlaceNo(0));
+    if plants {
+        cells.plant(control, SessNo(2), PlaceNo(0));
+    }
+}
+
+/// What a late trap finds: whether the run was marked before, whether its lift exchanged, and the cell that it meets next.
+type Late = (bool, bool, Cell);
+
+/// A trap of session 1 that is marked after the session was closed.
+fn marks_late<C: Cells>(
+    cells: &C,
+    control: &mut C::Pass,
+    pass: &mut C::Pass,
+    plants: bool,
+) -> Option<Late>
+    requires area { C.is_pass cells.now control.old × C.is_pass cells.now pass.old }
+    requires room { (calls (C.notes control.old) < 2 ^ 8) × (calls (C.notes pass.old) < 2 ^ 8) }
+    requires place { (0 < length (C.plan cells.now).places) × (kind_at (C.plan cells.now) 0 ≡ Straight) × IsTwice (C.plan cells.now) 0 }
+    requires bears { (C.notes control.old).bears ≡ Some 1 }
+    requires first { (C.notes control.old).last 0 ≡ 0 }
+    ensures area { C.is_pass cells.now control.new × C.is_pass cells.now pass.new }
+    ensures room { (calls (C.notes control.new) < 2 ^ 9) × (calls (C.notes pass.new) < 2 ^ 9) }
+    ensures bears { ((C.notes control.new).bears ≡ Some 1) × ((C.notes pass.new).bears ≡ (C.notes pass.old).bears) }
+{
+    cells.plant(control, SessNo(1), PlaceNo(0));
+    if !traps(cells, pass, PlaceNo(0), 1) {
+        return None;
+    }
+    change(cells, control, plants);
+    let there = marks(cells, pass, SessNo(1), PlaceNo(0))?;
+    let lifted = cells.lift(pass, SessNo(1), PlaceNo(0));
+    Some((there, lifted, cells.fetch(pass, PlaceNo(0))))
+}
+
+/// A trap of session 1 that is lifted after the session was closed.
+fn lifts_late<C: Cells>(
+    cells: &C,
+    control: &mut C::Pass,
+    pass: &mut C::Pass,
+    plants: bool,
+) -> Option<Late>
+    requires area { C.is_pass cells.now control.old × C.is_pass cells.now pass.old }
+    requires room { (calls (C.notes control.old) < 2 ^ 8) × (calls (C.notes pass.old) < 2 ^ 8) }
+    requires place { (0 < length (C.plan cells.now).places) × (kind_at (C.plan cells.now) 0 ≡ Straight) × IsTwice (C.plan cells.now) 0 }
+    requires bears { (C.notes control.old).bears ≡ Some 1 }
+    requires first { (C.notes control.old).last 0 ≡ 0 }
+    ensures area { C.is_pass cells.now control.new × C.is_pass cells.now pass.new }
+    ensures room { (calls (C.notes control.new) < 2 ^ 9) × (calls (C.notes pass.new) < 2 ^ 9) }
+    ensures bears { ((C.notes control.new).bears ≡ Some 1) × ((C.notes pass.new).bears ≡ (C.notes pass.old).bears) }
+{
+    cells.plant(control, SessNo(1), PlaceNo(0));
+    if !traps(cells, pass, PlaceNo(0), 1) {
+        return None;
+    }
+    let there = marks(cells, pass, SessNo(1), PlaceNo(0))?;
+    change(cells, control, plants);
+    let lifted = cells.lift(pass, SessNo(1), PlaceNo(0));
+    Some((there, lifted, cells.fetch(pass, PlaceNo(0))))
+}
+
+/// Two tasks with traps of two sessions in hand: each marks and lifts in its own session, the later one first.
+fn two_late<C: Cells>(
+    cells: &C,
+    control: &mut C::Pass,
+    pass: &mut C::Pass,
+    other: &mut C::Pass,
+) -> Option<(Late, Late)>
+    requires area { C.is_pass cells.now control.old × C.is_pass cells.now pass.old × C.is_pass cells.now other.old }
+    requires room { (calls (C.notes control.old) < 2 ^ 8) × (calls (C.notes pass.old) < 2 ^ 8) × (calls (C.notes other.old) < 2 ^ 8) }
+    requires place { (0 < length (C.plan cells.now).places) × (kind_at (C.plan cells.now) 0 ≡ Straight) × IsTwice (C.plan cells.now) 0 }
+    requires bears { (C.notes control.old).bears ≡ Some 1 }
+    requires first { (C.notes control.old).last 0 ≡ 0 }
+{
+    cells.plant(control, SessNo(1), PlaceNo(0));
+    if !traps(cells, pass, PlaceNo(0), 1) {
+        return None;
+    }
+    change(cells, control, true);
+    if !traps(cells, other, PlaceNo(0), 3) {
+        return None;
+    }
+    let there = marks(cells, pass, SessNo(1), PlaceNo(0))?;
+    let second_there = marks(cells, other, SessNo(2), PlaceNo(0))?;
+    let second_lifted = cells.lift(other, SessNo(2), PlaceNo(0));
+    let lifted = cells.lift(pass, SessNo(1), PlaceNo(0));
+    let first = (there, lifted, cells.fetch(pass, PlaceNo(0)));
+    let second = (second_there, second_lifted, cells.fetch(other, PlaceNo(0)));
+    Some((first, second))
+}
+
+/// When a trap of session 1 is settled.
+#[derive(Clone, Copy, PartialEq, Eq, Debug)]
+enum Order {
+    MarkAfterClose,
+    MarkAfterPlant,
+    LiftAfterClose,
+    LiftAfterPlant,
+}
+
+fn in_order<C: Cells>(
+    cells: &C,
+    control: &mut C::Pass,
+    pass: &mut C::Pass,
+    order: Order,
+) -> Option<Late>
+    requires area { C.is_pass cells.now control.old × C.is_pass cells.now pass.old }
+    requires room { (calls (C.notes control.old) < 2 ^ 8) × (calls (C.notes pass.old) < 2 ^ 8) }
+    requires place { (0 < length (C.plan cells.now).places) × (kind_at (C.plan cells.now) 0 ≡ Straight) × IsTwice (C.plan cells.now) 0 }
+    requires bears { (C.notes control.old).bears ≡ Some 1 }
+    requires first { (C.notes control.old).last 0 ≡ 0 }
+    ensures area { C.is_pass cells.now control.new × C.is_pass cells.now pass.new }
+    ensures room { (calls (C.notes control.new) < 2 ^ 9) × (calls (C.notes pass.new) < 2 ^ 9) }
+    ensures bears { ((C.notes control.new).bears ≡ Some 1) × ((C.notes pass.new).bears ≡ (C.notes pass.old).bears) }
+{
+    match order {
+        Order::MarkAfterClose => marks_late(cells, control, pass, false),
+        Order::MarkAfterPlant => marks_late(cells, control, pass, true),
+        Order::LiftAfterClose => lifts_late(cells, control, pass, false),
+        Order::LiftAfterPlant => lifts_late(cells, control, pass, true),
+    }
+}
+
+/// The order in an area of its own: what the trap finds, and whether sessions 1 and 2 have the run in the end.
+#[tactic(auto, using(module_area::proofs::EndedLemmas::session_has_sets))]
+fn one_late<A: Areas>(
+    alloc: Global,
+    areas: &mut A,
+    plan: &Plan,
+    order: Order,
+) -> Result<(Option<Late>, bool, bool), NoMemory>
+where
+    A::C: Forks + Sync,
+    requires room { A.made areas.old < 2 ^ 62 }
+    requires place { (0 < length plan.now.places) × (kind_at plan.now 0 ≡ Straight) × IsTwice plan.now 0 }
+    requires tasks { (has_task plan.now.tasks 0 ≡ true) × (has_task plan.now.tasks 1 ≡ true) }
+    requires sessions { 2 ≤ plan.now.sessions }
+{
+    let (cells, mut root) = areas.make(alloc, plan)?;
+    let mut pass = cells.split(&mut root, TaskNo(0));
+    let mut control = cells.split(&mut root, TaskNo(1));
+    let late = in_order(&cells, &mut control, &mut pass, order);
+    cells.join(&mut root, pass);
+    cells.join(&mut root, control);
+    let finals = areas.finish(alloc, cells, root)?;
+    let first = finals.set(SessNo(1), PlaceNo(0)).has(Fact::Ran);
+    let second = finals.set(SessNo(2), PlaceNo(0)).has(Fact::Ran);
+    Ok((late, first, second))
+}
+
+/// Two late traps in an area of its own.
+fn two_in_area<A: Areas>(
+    alloc: Global,
+    areas: &mut A,
+    plan: &Plan,
+) -> Result<Option<(Late, Late)>, NoMemory>
+where
+    A::C: Forks + Sync,
+    requires room { A.made areas.old < 2 ^ 62 }
+    requires place { (0 < length plan.now.places) × (kind_at plan.now 0 ≡ Straight) × IsTwice plan.now 0 }
+    requires tasks { (has_task plan.now.tasks 0 ≡ true) × (has_task plan.now.tasks 1 ≡ true) × (has_task plan.now.tasks 2 ≡ true) }
+{
+    let (cells, mut root) = areas.make(alloc, plan)?;
+    let mut pass = cells.split(&mut root, TaskNo(0));
+    let mut control = cells.split(&mut root, TaskNo(1));
+    let mut other = cells.split(&mut root, TaskNo(2));
+    Ok(two_late(&cells, &mut control, &mut pass, &mut other))
+}
+
+/// Plants the three places for a session.
+fn plants_all<C: Cells>(cells: &C, control: &mut C::Pass, s: SessNo)
+    requires area { C.is_pass cells.now control.old }
+    requires room { calls (C.notes control.old) < 2 ^ 60 }
+    requires places { 2 < length (C.plan cells.now).places }
+    requires session { 0 < s.0 }
+    requires over { (is_over (C.plan cells.now) s.0 0 ≡ true) × (is_over (C.plan cells.now) s.0 1 ≡ true) × (is_over (C.plan cells.now) s.0 2 ≡ true) }
+    requires keeper { (keeps (C.plan cells.now) (C.notes control.old) 0 ≡ true) × (keeps (C.plan cells.now) (C.notes control.old) 1 ≡ true) × (keeps (C.plan cells.now) (C.notes control.old) 2 ≡ true) }
+    requires later { ((C.notes control.old).last 0 + 1 < 2 * s.0) × ((C.notes control.old).last 1 + 1 < 2 * s.0) × ((C.notes control.old).last 2 + 1 < 2 * s.0) }
+    ensures area { C.is_pass cells.now control.new }
+    ensures room { calls (C.notes control.new) ≡ calls (C.notes control.old) + 3 }
+    ensures bears { (C.notes control.new).bears ≡ (C.notes control.old).bears }
+    ensures last { ((C.notes control.new).last 0 + 1 ≡ 2 * s.0) × ((C.notes control.new).last 1 + 1 ≡ 2 * s.0) × ((C.notes control.new).last 2 + 1 ≡ 2 * s.0) }
+{
+    cells.plant(control, s, PlaceNo(0));
+    cells.plant(control, s, PlaceNo(1));
+    cells.plant(control, s, PlaceNo(2));
+}
+
+/// Closes session 1 at the three places.
+fn closes_all<C: Cells>(cells: &C, control: &mut C::Pass)
+    requires area { C.is_pass cells.now control.old }
+    requires room { calls (C.notes control.old) < 2 ^ 60 }
+    requires places { 2 < length (C.plan cells.now).places }
+    requires over { IsTwice (C.plan cells.now) 0 × IsTwice (C.plan cells.now) 1 × IsTwice (C.plan cells.now) 2 }
+    requires bears { (C.notes control.old).bears ≡ Some 1 }
+    requires open { ((C.notes control.old).last 0 ≡ 1) × ((C.notes control.old).last 1 ≡ 1) × ((C.notes control.old).last 2 ≡ 1) }
+    ensures area { C.is_pass cells.now control.new }
+    ensures room { calls (C.notes control.new) ≡ calls (C.notes control.old) + 3 }
+    ensures bears { (C.notes control.new).bears ≡ (C.notes control.old).bears }
+    ensures last { ((C.notes control.new).last 0 ≡ 2) × ((C.notes control.new).last 1 ≡ 2) × ((C.notes control.new).last 2 ≡ 2) }
+{
+    cells.close(control, SessNo(1), PlaceNo(0));
+    cells.close(control, SessNo(1), PlaceNo(1));
+    cells.close(control, SessNo(1), PlaceNo(2));
+}
+
+/// What the events of a job of two sessions find: a trap of session 1 is settled once session 2 is planted, and the cell
+/// that the task then meets at the same place.
+fn through_two_sessions<C: Cells>(
+    cells: &C,
+    control: &mut C::Pass,
+    pass: &mut C::Pass,
+) -> Option<Late>
+    requires area { C.is_pass cells.now control.old × C.is_pass cells.now pass.old }
+    requires room { (calls (C.notes control.old) < 2 ^ 8) × (calls (C.notes pass.old) < 2 ^ 8) }
+    requires places { (2 < length (C.plan cells.now).places) × (kind_at (C.plan cells.now) 0 ≡ Straight) }
+    requires over { IsTwice (C.plan cells.now) 0 × IsTwice (C.plan cells.now) 1 × IsTwice (C.plan cells.now) 2 }
+    requires bears { (C.notes control.old).bears ≡ Some 1 }
+    requires first { ((C.notes control.old).last 0 ≡ 0) × ((C.notes control.old).last 1 ≡ 0) × ((C.notes control.old).last 2 ≡ 0) }
+{
+    plants_all(cells, control, SessNo(1));
+    if !traps(cells, pass, PlaceNo(0), 1) {
+        return None;
+    }
+    closes_all(cells, control);
+    plants_all(cells, control, SessNo(2));
+    let there = marks(cells, pass, SessNo(1), PlaceNo(0))?;
+    let lifted = cells.lift(pass, SessNo(1), PlaceNo(0));
+    Some((there, lifted, cells.fetch(pass, PlaceNo(0))))
+}
+
+/// The same by passes split for tasks 0 and 1.
+fn two_sessions_in_area<A: Areas>(
+    alloc: Global,
+    areas: &mut A,
+    plan: &Plan,
+) -> Result<Option<Late>, NoMemory>
+where
+    A::C: Forks + Sync,
+    requires room { A.made areas.old < 2 ^ 62 }
+    requires places { (2 < length plan.now.places) × (kind_at plan.now 0 ≡ Straight) }
+    requires over { IsTwice plan.now 0 × IsTwice plan.now 1 × IsTwice plan.now 2 }
+    requires tasks { (has_task plan.now.tasks 0 ≡ true) × (has_task plan.now.tasks 1 ≡ true) }
+{
+    let (cells, mut root) = areas.make(alloc, plan)?;
+    let mut pass = cells.split(&mut root, TaskNo(0));
+    let mut control = cells.split(&mut root, TaskNo(1));
+    Ok(through_two_sessions(&cells, &mut control, &mut pass))
+}
+
+/// Load address, add, branch, and tasks 0, 1 and 2.
+fn three_instructions(alloc: Global) -> Result<Plan, Fail>
+    ensures places { IfOk result (λ p. length p.places ≡ 3) }
+    ensures kinds { IfOk result (λ p. (kind_at p 0 ≡ Straight) × (kind_at p 1 ≡ Straight) × (kind_at p 2 ≡ Straight)) }
+    ensures over { IfOk result (λ p. (q : ℕ) → q < 3 → IsTwice p q) }
+    ensures tasks { IfOk result (λ p. (has_task p.tasks 0 ≡ true) × (has_task p.tasks 1 ≡ true) × (has_task p.tasks 2 ≡ true)) }
+    ensures sessions { IfOk result (λ p. p.sessions ≡ 2) }
+{
+    let load = Place {
+        module: 0,
+        at: Addr::of(0x10_0000),
+        len: 4,
+        original: 0x4110,
+        kind: Kind::Straight,
+    };
+    let add = Place {
+        module: 0,
+        at: Addr::of(0x10_0004),
+        len: 2,
+        original: 0x1A11,
+        kind: Kind::Straight,
+    };
+    let branch = Place {
+        module: 0,
+        at: Addr::of(0x10_0006),
+        len: 2,
+        original: 0x07FE,
+        kind: Kind::Straight,
+    };
+    let places = vec![in alloc; load, add, branch]?;
+    let windows = vec![in alloc; 0, 0, 0]?;
+    let tasks = vec![in alloc; TaskNo(0), TaskNo(1), TaskNo(2)]?;
+    let plan = Plan::checked(alloc, places, windows, tasks, 2).ok_or("no plan")?;
+    Ok(with_sessions(alloc, plan)?)
+}
+
+/// The orders, and the cell that the task meets next: never is the fact lost, and never does a late lift take out what
+/// stands there now.
+static ORDERS: [(Order, u32, u16); 4] = [
+    (Order::MarkAfterClose, 2, 0x4110),
+    (Order::MarkAfterPlant, 3, 0x0AFF),
+    (Order::LiftAfterClose, 2, 0x4110),
+    (Order::LiftAfterPlant, 3, 0x0AFF),
+];
+
+#[test]
+fn late_traps(rt: HostRuntime) -> Result<(), Fail> {
+    let alloc = rt.alloc();
+    let plan = three_instructions(alloc)?;
+    for (order, tag, half) in ORDERS {
+        let mut areas = SharedAreas::new(alloc, 1)?;
+        let found = one_late(alloc, &mut areas, &plan, order)?;
+        let late = (false, false, Cell { tag, half });
+        assert_eq!(rt; found, (Some(late), true, false), "{order:?}");
+    }
+    Ok(())
+}
+
+#[test]
+fn two_traps_of_two_sessions(rt: HostRuntime) -> Result<(), Fail> {
+    let alloc = rt.alloc();
+    let plan = three_instructions(alloc)?;
+    let mut areas = SharedAreas::new(alloc, 1)?;
+    let found = two_in_area(alloc, &mut areas, &plan)?;
+    let lifted = Cell {
+        tag: 3,
+        half: 0x4110,
+    };
+    assert_eq!(rt;
+        found,
+        Some(((false, false, lifted), (false, true, lifted)))
+    );
+    Ok(())
+}
+
+#[test]
+fn a_trap_through_two_sessions(rt: HostRuntime) -> Result<(), Fail> {
+    let alloc = rt.alloc();
+    let plan = three_instructions(alloc)?;
+    let mut areas = SharedAreas::new(alloc, 1)?;
+    let found = two_sessions_in_area(alloc, &mut areas, &plan)?;
+    let planted = Cell {
+        tag: 3,
+        half: 0x0AFF,
+    };
+    assert_eq!(rt; found, Some((false, false, planted)));
+    Ok(())
+}
