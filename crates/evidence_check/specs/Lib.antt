@@ -1,0 +1,5 @@
+pub mod Evidence
+pub mod Firsts
+pub mod Found
+pub mod Proved
+pub mod Seen
