@@ -1,5 +1,5 @@
 -- What `verify` hands to the calls below it.
-use Rattle.std.proofs.Common.{◌≡◌, ℕ, ◌+◌, ◌<◌, ◌≤◌, None, List, ◌++◌, length, take, drop, refl, sym, ◌∙◌, ap, subst, arith}
+use Rattle.std.proofs.Common.{◌≡◌, ℕ, ◌<◌, List, length, drop, sym, ◌∙◌, ap, subst}
 use Rattle.cov_base.specs.declared.facts.Fact.{Fact}
 use Rattle.brk_table.specs.Places.{TablesView, all_places}
 use Rattle.marks_file.specs.Marks.{MarkedView}
@@ -10,16 +10,11 @@ use Rattle.session_marks.specs.Filled.{AreThere}
 use Rattle.session_marks.specs.FromFile.{IsOwn}
 use Rattle.session_marks.proofs.FillLemmas.{are_there}
 use Rattle.evidence_check.specs.Claims.{modules_claims, evidence_claims}
-use Rattle.evidence_check.specs.Evidence.{magic}
 use Rattle.evidence_check.specs.Fields.{evidence_fields}
 use Rattle.evidence_check.specs.Firsts.{phase_first, session_first}
 use Rattle.evidence_check.specs.Found.{found_at, AreFirsts}
 use Rattle.evidence_check.specs.declared.firsts.Found.{Found}
 use Rattle.evidence_check.proofs.CheckLemmas.{same_claims}
-use Rattle.evidence_check.proofs.VerifiedLemmas.{fields_read}
-
-pub begins : (tasks count : ℕ) (bs : List ℕ) → first_bad (evidence_fields tasks count bs) ≡ None → 8 ≤ length bs
-begins tasks count bs h = let front : length bs ≡ length (magic ++ drop 8 bs) = ap length (fields_read tasks count bs h).0 in omega (arith, front)
 
 pub own_there : (j : JobView) (tables : TablesView) (s : ℕ) (file held : List MarkedView) (ns : List ℕ) → tables.places ≡ all_places tables.tables → IsOwn j tables s file → held ≡ file → ns ≡ (session_of j s).modules →
     AreThere tables held ns
