@@ -95,9 +95,10 @@ place_agreed row set facts firsts bs of h =
     let h3 = went_on (agrees set.stayed (firsts Stayed) stayed) None (row, Stayed) h2.1 in
     let a = agreed set.ran (firsts Ran) bs h1.0 in
     let b = agreed set.went (firsts Went) went h2.0 in
-    let c = agreed set.stayed (firsts Stayed) stayed h3.0 in
-    (same_set set facts (a.0 ∙ of Ran) (b.0 ∙ of Went) (c.0 ∙ of Stayed),
-    a.1 ∙ (ap (λ t. fact_bytes (firsts Ran) ++ t) (b.1 ∙ ap (λ t. fact_bytes (firsts Went) ++ t) c.1) ∙ sym (entries_split firsts (past_place set bs))))
+    let c = agreed set.stayed (firsts Stayed) stayed h3.0 in (
+      same_set set facts (a.0 ∙ of Ran) (b.0 ∙ of Went) (c.0 ∙ of Stayed),
+      a.1 ∙ (ap (λ t. fact_bytes (firsts Ran) ++ t) (b.1 ∙ ap (λ t. fact_bytes (firsts Went) ++ t) c.1) ∙ sym (entries_split firsts (past_place set bs))),
+    )
 
 one_more : (e rest bs more : List ℕ) → bs ≡ e ++ rest → rest ≡ more → bs ≡ e ++ more
 one_more e rest bs more a b = a ∙ ap (λ t. e ++ t) b
@@ -111,10 +112,11 @@ places_agreed base places sets facts firsts row n (suc count) bs of h =
     let others = places_claims firsts (row + 1) (n + 1) (marked_places base places sets (n + 1) count) (past_place (sets n) bs) in
     let here = place_agreed row (sets n) (facts n) (firsts n) bs (of n) (refuted_left own others h) in
     let there = places_agreed base places sets facts firsts (row + 1) (n + 1) count (past_place (sets n) bs) of (refuted_right own others h) in
-    let place : marked_place base places sets n ≡ marked_place base places facts n = ap (λ x. record (marked_place base places sets n) { set = x }) here.0 in
-    (ap (λ (p : MarkedPlace). p ∷ marked_places base places sets (n + 1) count) place ∙ ap (λ ps. marked_place base places facts n ∷ ps) there.0,
-    one_more (place_entries (firsts n)) (past_place (sets n) bs) bs _ here.1 there.1
-    ∙ sym (append_assoc (place_entries (firsts n)) (places_entries firsts (n + 1) count) (past_places (marked_places base places sets (n + 1) count) (past_place (sets n) bs))))
+    let place : marked_place base places sets n ≡ marked_place base places facts n = ap (λ x. record (marked_place base places sets n) { set = x }) here.0 in (
+      ap (λ (p : MarkedPlace). p ∷ marked_places base places sets (n + 1) count) place ∙ ap (λ ps. marked_place base places facts n ∷ ps) there.0,
+      one_more (place_entries (firsts n)) (past_place (sets n) bs) bs _ here.1 there.1
+          ∙ sym (append_assoc (place_entries (firsts n)) (places_entries firsts (n + 1) count) (past_places (marked_places base places sets (n + 1) count) (past_place (sets n) bs))),
+    )
 
 abbrev pub past_modules : List MarkedView → List ℕ → List ℕ
 past_modules [] bs = bs
@@ -133,10 +135,11 @@ modules_agreed j tables sets facts firsts row (n ∷ ns) bs of h =
     let others = modules_claims tables firsts (row + 1 + length m.places) (map (marked_module j tables sets) ns) ns (past_places m.places bs) in
     let here = places_agreed (module_of j n).base tables.places sets facts firsts (row + 1) first count bs of (refuted_left own others h) in
     let there = modules_agreed j tables sets facts firsts (row + 1 + length m.places) ns (past_places m.places bs) of (refuted_right own others h) in
-    let whole : m ≡ marked_module j tables facts n = ap (λ (ps : List MarkedPlace). record m { places = ps }) here.0 in
-    (ap (λ (x : MarkedView). x ∷ map (marked_module j tables sets) ns) whole ∙ ap (λ (xs : List MarkedView). marked_module j tables facts n ∷ xs) there.0,
-    one_more (module_entries tables firsts n) (past_places m.places bs) bs _ here.1 there.1
-    ∙ sym (append_assoc (module_entries tables firsts n) (flat_map (module_entries tables firsts) ns) (past_modules (map (marked_module j tables sets) ns) (past_places m.places bs))))
+    let whole : m ≡ marked_module j tables facts n = ap (λ (ps : List MarkedPlace). record m { places = ps }) here.0 in (
+      ap (λ (x : MarkedView). x ∷ map (marked_module j tables sets) ns) whole ∙ ap (λ (xs : List MarkedView). marked_module j tables facts n ∷ xs) there.0,
+      one_more (module_entries tables firsts n) (past_places m.places bs) bs _ here.1 there.1
+          ∙ sym (append_assoc (module_entries tables firsts n) (flat_map (module_entries tables firsts) ns) (past_modules (map (marked_module j tables sets) ns) (past_places m.places bs))),
+    )
 
 -- entries that are read are as many as the facts
 

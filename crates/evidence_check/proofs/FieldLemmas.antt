@@ -67,9 +67,10 @@ passed false at h = absurd cc
 
 pub entries_read : (tasks at n : ℕ) (bs : List ℕ) → first_bad (entries_fields tasks at n bs) ≡ None → AreEntries tasks n bs
 entries_read tasks at zero bs h = is_zero (length bs) (passed (nat_eq (length bs) 0) at h)
-entries_read tasks at (suc n) bs h =
-    (entry_read tasks at bs (none_left (entry_fields tasks at bs) (entries_fields tasks (at + 7) n (drop 7 bs)) h),
-    entries_read tasks (at + 7) n (drop 7 bs) (none_right (entry_fields tasks at bs) (entries_fields tasks (at + 7) n (drop 7 bs)) h))
+entries_read tasks at (suc n) bs h = (
+  entry_read tasks at bs (none_left (entry_fields tasks at bs) (entries_fields tasks (at + 7) n (drop 7 bs)) h),
+  entries_read tasks (at + 7) n (drop 7 bs) (none_right (entry_fields tasks at bs) (entries_fields tasks (at + 7) n (drop 7 bs)) h),
+)
 
 pub entries_none : (tasks at n : ℕ) (bs : List ℕ) → AreEntries tasks n bs → first_bad (entries_fields tasks at n bs) ≡ None
 entries_none tasks at zero bs h = rw (test_of_zero (length bs) h) refl

@@ -29,7 +29,11 @@ fn agrees(bytes: &[u8], at: usize, has: bool, first: Option<First>) -> bool
     ensures { result ≡ agrees has first (drop at bytes.now) }
 {
     match first {
-        Some(first) => if has { is_entry(bytes, at, first) } else { false },
+        Some(first) => if has {
+            is_entry(bytes, at, first)
+        } else {
+            false
+        },
         None => !has,
     }
 }
@@ -61,13 +65,7 @@ fn past_place(bytes: &[u8], at: usize, set: Bits) -> usize
 }
 
 /// The first claim of a place that is refuted.
-fn check_place(
-    bytes: &[u8],
-    at: usize,
-    row: u32,
-    set: Bits,
-    found: &Found,
-) -> Option<(u32, Fact)>
+fn check_place(bytes: &[u8], at: usize, row: u32, set: Bits, found: &Found) -> Option<(u32, Fact)>
     requires { at ≤ length bytes.now }
     ensures { result ≡ first_refuted (place_claims row set (found_of found.now) (drop at bytes.now)) }
 {
@@ -79,7 +77,12 @@ fn check_place(
         return Some((row, Fact::Went));
     }
     let stayed = past(bytes, went, set.has(Fact::Went));
-    if !agrees(bytes, stayed, set.has(Fact::Stayed), found.get(Fact::Stayed)) {
+    if !agrees(
+        bytes,
+        stayed,
+        set.has(Fact::Stayed),
+        found.get(Fact::Stayed),
+    ) {
         return Some((row, Fact::Stayed));
     }
     None

@@ -76,14 +76,7 @@ fn note_at(tables: &Tables, found: &mut [Found], place: PlaceNo, went: bool, fir
 }
 
 /// Notes a visit of task t after so many instructions.
-fn note_visit(
-    tables: &Tables,
-    found: &mut [Found],
-    t: u16,
-    done: u32,
-    v: Seen,
-    subject: bool,
-)
+fn note_visit(tables: &Tables, found: &mut [Found], t: u16, done: u32, v: Seen, subject: bool)
     requires size { length found.old ≡ length tables.now.places }
     ensures { Notes tables.now.places t (visit_of done subject v ∷ []) found.old found.new }
 {
@@ -106,13 +99,7 @@ fn note_visit(
 }
 
 /// Notes what an instruction of task t has visited after so many.
-pub(crate) fn note_visits(
-    tables: &Tables,
-    found: &mut [Found],
-    t: u16,
-    done: u32,
-    visits: Visits,
-)
+pub(crate) fn note_visits(tables: &Tables, found: &mut [Found], t: u16, done: u32, visits: Visits)
     requires size { length found.old ≡ length tables.now.places }
     ensures { Notes tables.now.places t (visits_of done visits) found.old found.new }
 {

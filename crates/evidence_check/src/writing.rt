@@ -43,11 +43,7 @@ fn put_fact<K: Sink>(
     }
 }
 
-fn put_place<K: Sink>(
-    buffer: &mut WriteBuffer,
-    sink: &mut K,
-    found: &Found,
-) -> Result<(), Failed>
+fn put_place<K: Sink>(buffer: &mut WriteBuffer, sink: &mut K, found: &Found) -> Result<(), Failed>
     ensures { Puts K.written K.faults sink.old sink.new buffer.old buffer.new result (place_entries (found_of found.now)) }
 {
     put_fact(buffer, sink, found.get(Fact::Ran))?;

@@ -36,10 +36,11 @@ returns-in-Some-check_modules-clause-fault c =
     let claims = found_claims c.args.job.now c.args.tables.now c.args.s.0 c.session.inside.phase c.in-Ok.found.items c.deref-4.result.now c.args.marks.now.modules c.deref-2.result.now c.deref-3.result.now c.args.evidence.now
     c.range.ensures.all c.requires.own c.in-Ok.ensures c.deref-4.ensures.value (c.deref-2.ensures.value ∙ ap (λ (m : MarksView). m.modules) c.marks.view_is) (ap (λ (x : SessionView). x.phase) session)
     (c.deref-3.ensures.value ∙ ap (λ (x : SessionView). x.modules) session) in
-    let told : c.check_modules.result ≡ Some (c.in-Some-check_modules.row, c.in-Some-check_modules.fact) = c.in-Some-check_modules.is in
-    (same_fields c.task_count.result (length c.args.job.now.tasks) c.facts_of_modules-facts.result (facts_of_modules c.args.marks.now.modules) c.args.evidence.now c.task_count.ensures.value (c.facts_of_modules-facts.ensures ∙ ap facts_of_modules file)
-    ∙ sym c.in_default.ensures,
-    ap first_refuted (sym claims) ∙ (sym c.check_modules.ensures ∙ told))
+    let told : c.check_modules.result ≡ Some (c.in-Some-check_modules.row, c.in-Some-check_modules.fact) = c.in-Some-check_modules.is in (
+      same_fields c.task_count.result (length c.args.job.now.tasks) c.facts_of_modules-facts.result (facts_of_modules c.args.marks.now.modules) c.args.evidence.now c.task_count.ensures.value (c.facts_of_modules-facts.ensures ∙ ap facts_of_modules file)
+          ∙ sym c.in_default.ensures,
+      ap first_refuted (sym claims) ∙ (sym c.check_modules.ensures ∙ told),
+    )
 
 pub returns-in-Some-check_modules-clause-passes : goal.returns-in-Some-check_modules-clause-passes
 returns-in-Some-check_modules-clause-passes c = verified_passes c.args.job.now c.args.tables.now c.args.s.0 c.args.marks.now.modules c.args.evidence.now c.task_count.ensures.job
