@@ -1,5 +1,5 @@
 -- What a Do, a Plant or a Close that was possible did.
-use Rattle.std.proofs.Common.{◌≡◌, ◌⊎◌, inl, inr, ℕ, ◌+◌, ◌*◌, ◌<◌, Bool, true, false, not, ◌&&◌, ◌||◌, nat_eq, nat_lt, if◌then◌else◌, Option, Some, None, is_none, length, refl, sym, eqb-true}
+use Rattle.std.proofs.Common.{◌≡◌, ◌⊎◌, inl, inr, ℕ, ◌+◌, ◌*◌, ◌<◌, Bool, true, false, not, ◌&&◌, ◌||◌, nat_eq, nat_lt, if◌then◌else◌, Option, Some, None, is_none, List, ◌∷◌, length, refl, sym, ◌∙◌, ap, eqb-true}
 use Rattle.std.specs.Option.{option_and_then}
 use Rattle.s370_exec.specs.Solo.{has_returned}
 use Rattle.s370_state.specs.declared.endings.Ending.TheVariants.{Returned, Spent}
@@ -7,7 +7,14 @@ use Rattle.module_area.specs.CellWords.{word_at}
 use Rattle.interleave_core.specs.World.{World, TaskPart, Parts, part_of, place_at}
 use Rattle.interleave_core.specs.Control.{PlaceChange, controller_of, change_of, next_place}
 use Rattle.interleave_core.specs.Steps.{Stepped, step_of, subject_place, is_spent, with_cell, with_stage, executed, awaits_or, unless_at, task_goes_on, same_due, change_due, unless_due, task_done, breakpoint_of, of_task, may_change, changed, change_where, change_step, by_controller, may_plant, whole_step, plant_step, close_step}
-use Rattle.interleave_core.specs.declared.events.Shown.TheVariants.{Planted}
+use Rattle.cov_base.specs.declared.numbers.PlaceNo.{PlaceNo}
+use Rattle.cov_base.specs.declared.numbers.SessNo.{SessNo}
+use Rattle.module_area.specs.Parties.{window_tag}
+use Rattle.interleave_core.specs.Core.{CoreState, core_after, is_task, log_after}
+use Rattle.interleave_core.specs.Entries.{Item, Gave}
+use Rattle.interleave_core.specs.declared.events.Event.TheVariants.{Plant, Close}
+use Rattle.interleave_core.specs.declared.events.Shown.{Shown}
+use Rattle.interleave_core.specs.declared.events.Shown.TheVariants.{Planted, Closed}
 use Rattle.interleave_core.specs.declared.stage.Due.TheVariants.{Nothing}
 use Rattle.interleave_core.specs.declared.stage.Stage.{Stage}
 use Rattle.interleave_core.specs.declared.stage.Stage.TheVariants.{Ready, Awaiting, Holding, Ended}
@@ -122,3 +129,24 @@ close_by w c s p x h = by (controller_of w s) refl h
     by : (o : Option ℕ) → controller_of w s ≡ o → by_controller w c true s p None o ≡ Some x → Changed w c true s p x
     by None e k = let n : None ≡ Some x = k in absurd cc
     by (Some t) e k = by_task w c true s p t x e k
+
+-- ---- the logs after them
+
+-- task t has given place p the tag
+abbrev pub logs_given : (ℕ → List Item) → ℕ → ℕ → ℕ → ℕ → List Item
+logs_given logs t p tag u = if nat_eq t u then Gave p tag ∷ logs u else logs u
+
+pub logs_whole : (w : World) (c : CoreState) (s : SessNo) (p : PlaceNo) (x : Stepped) → IsWholePlant w c.parts s.0 p.0 x → (u : ℕ) → (core_after w c (Plant s p) x).core.logs u ≡ c.logs u
+logs_whole w c s p x is u = ap (λ (o : Option ℕ). if is_task o u then Gave p.0 (window_tag s.0) ∷ log_after w u (part_of x.parts u) x.shown (c.logs u) else c.logs u) is.by_none
+
+pub logs_plant : (w : World) (c : CoreState) (s : SessNo) (p : PlaceNo) (x : Stepped) (is : Changed w c.parts false s.0 p.0 x) (u : ℕ) → (core_after w c (Plant s p) x).core.logs u ≡ logs_given c.logs is.task p.0 (window_tag s.0) u
+logs_plant w c s p x is u =
+    let shown : x.shown ≡ Planted = ap (λ (y : Stepped). y.shown) is.made ∙ ap (λ (b : Bool). if b then Closed else Planted) is.closes_is in
+    ap (λ (o : Option ℕ). if is_task o u then Gave p.0 (window_tag s.0) ∷ log_after w u (part_of x.parts u) x.shown (c.logs u) else c.logs u) is.by_task
+    ∙ ap (λ (y : Shown). if nat_eq is.task u then Gave p.0 (window_tag s.0) ∷ log_after w u (part_of x.parts u) y (c.logs u) else c.logs u) shown
+
+pub logs_close : (w : World) (c : CoreState) (s : SessNo) (p : PlaceNo) (x : Stepped) (is : Changed w c.parts true s.0 p.0 x) (u : ℕ) → (core_after w c (Close s p) x).core.logs u ≡ logs_given c.logs is.task p.0 (2 * s.0) u
+logs_close w c s p x is u =
+    let shown : x.shown ≡ Closed = ap (λ (y : Stepped). y.shown) is.made ∙ ap (λ (b : Bool). if b then Closed else Planted) is.closes_is in
+    ap (λ (o : Option ℕ). if is_task o u then Gave p.0 (2 * s.0) ∷ log_after w u (part_of x.parts u) x.shown (c.logs u) else c.logs u) is.by_task
+    ∙ ap (λ (y : Shown). if nat_eq is.task u then Gave p.0 (2 * s.0) ∷ log_after w u (part_of x.parts u) y (c.logs u) else c.logs u) shown
