@@ -1,5 +1,5 @@
 -- A task's events one by one until it has ended.
-use Rattle.std.specs.Prelude.{◌≡◌, ℕ, zero, suc, ◌+◌, ◌-◌, ◌*◌, true, false, if◌then◌else◌, Option, Some, None, is_none, IsSome, List, [], ◌∷◌, ◌++◌, All}
+use Rattle.std.specs.Prelude.{◌≡◌, ℕ, zero, suc, ◌+◌, ◌-◌, ◌*◌, true, false, if◌then◌else◌, Option, Some, None, is_none, IsSome, List, [], ◌∷◌, ◌++◌, length, All}
 use Rattle.cov_base.specs.declared.numbers.TaskNo.{TaskNo}
 use Rattle.interleave_core.specs.World.{World, TaskPart, Parts, part_of, budget_in}
 use Rattle.interleave_core.specs.Steps.{Stepped, parts_step, is_spent}

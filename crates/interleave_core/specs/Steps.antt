@@ -188,8 +188,8 @@ abbrev pub change_due : World → ℕ → TaskPart → Stage → Option PlaceCha
 change_due w t u stage = if executes w t u stage then option_and_then (next_place u.changed) (change_of w t u) else None
 
 abbrev pub unless_due : Option PlaceChange → Option TaskPart → Option TaskPart
-unless_due None done = done
-unless_due (Some x) done = None
+unless_due None u = u
+unless_due (Some x) u = None
 
 -- the task after a Do, which is possible where no other event of the task is
 abbrev pub task_done : World → ℕ → TaskPart → Stage → Option TaskPart

@@ -1,5 +1,5 @@
 -- What a task of a core keeps besides what the core stores of it, and what holds of a core at every moment.
-use Rattle.std.specs.Prelude.{◌≡◌, ◌≢◌, ℕ, ◌+◌, ◌-◌, ◌*◌, ◌<◌, ◌≤◌, Bool, true, false, if◌then◌else◌, Option, Some, None, List, [], ◌∷◌, length, get_or, map, All}
+use Rattle.std.specs.Prelude.{◌≡◌, ◌≢◌, ℕ, ◌+◌, ◌-◌, ◌*◌, ◌<◌, ◌≤◌, Bool, true, false, nat_le, nat_lt, if◌then◌else◌, Option, Some, None, List, [], ◌∷◌, length, get_or, map, All}
 use Rattle.cov_base.specs.Facts.{is_within}
 use Rattle.cov_base.specs.FactSet.{FactSet}
 use Rattle.cov_base.specs.declared.numbers.PlaceNo.{PlaceNo}
@@ -56,19 +56,30 @@ abbrev pub session_at : World → ℕ → ℕ → ControlledView
 session_at w t n = get_or (sessions_by w t) n no_controlled
 
 -- the session that the task's next SVC 4 or 5 opens or closes
+abbrev pub turn_number : TaskPart → ℕ
+turn_number u = if u.is_open then u.opened - 1 else u.opened
+
 abbrev pub turn_of : World → ℕ → TaskPart → ControlledView
-turn_of w t u = session_at w t (if u.is_open then u.opened - 1 else u.opened)
+turn_of w t u = session_at w t (turn_number u)
+
+-- at which of its places it has its window: where it is open those that the task hasn't closed, else those that it has
+-- planted
+abbrev pub has_window : TaskPart → ℕ → Bool
+has_window u i = if u.is_open then nat_le u.changed i else nat_lt i u.changed
+
+abbrev pub number_at : List PlaceNo → ℕ → ℕ
+number_at places i = (get_or places i (record { 0 = 0 })).0
 
 abbrev pub tag_at : List Cell → List PlaceNo → ℕ → ℕ
-tag_at cells places i = (word_at cells (get_or places i (record { 0 = 0 })).0).tag
+tag_at cells places i = (word_at cells (number_at places i)).tag
 
--- Task t and its sessions: an open session has its window at each of its places but those that the task has closed, and
--- a later one has been planted nowhere but where the task has begun to open it.
+-- Task t and its sessions: its turn has its window where it is planted and not closed, and a later session has been
+-- planted nowhere but where the task has begun to open it.
 pub record IsTied (w : World) (cells : List Cell) (t : ℕ) (u : TaskPart) : Type 0 where
   pub opened : u.opened ≤ length (sessions_by w t)
   pub some : u.is_open ≡ true → 0 < u.opened
   pub changed : u.changed ≤ length (turn_of w t u).places
-  pub planted : u.is_open ≡ true → (i : ℕ) → u.changed ≤ i → i < length (turn_of w t u).places → tag_at cells (turn_of w t u).places i + 1 ≡ 2 * (turn_of w t u).session
+  pub planted : (i : ℕ) → i < length (turn_of w t u).places → has_window u i ≡ true → tag_at cells (turn_of w t u).places i + 1 ≡ 2 * (turn_of w t u).session
   pub later : (n i : ℕ) → u.opened ≤ n → n < length (sessions_by w t) → (n ≡ u.opened → u.is_open ≡ false → u.changed ≤ i) → i < length (session_at w t n).places →
       tag_at cells (session_at w t n).places i + 1 < 2 * (session_at w t n).session
 
