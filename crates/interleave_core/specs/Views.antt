@@ -12,7 +12,7 @@ use Rattle.brk_table.specs.Places.{AreSeen, ArePlaces, IsIn}
 use Rattle.space_map.specs.Space.{SpaceView, memory_of_space}
 use Rattle.session_book.specs.JobView.{IsJob}
 use Rattle.session_book.specs.Sessions.{task_of}
-use Rattle.interleave_core.specs.World.{World, TaskPart, Parts, first_part, plan_in, memory_in, budget_in}
+use Rattle.interleave_core.specs.World.{World, TaskPart, Parts, part_of, first_part, plan_in, memory_in, budget_in}
 use Rattle.interleave_core.specs.Control.{sessions_by}
 use Rattle.interleave_core.specs.Steps.{step_of, subject_place, is_spent}
 use Rattle.interleave_core.specs.declared.stage.Due.TheVariants.{Nothing}
@@ -81,6 +81,10 @@ pub record IsTied (w : World) (cells : List Cell) (t : ℕ) (u : TaskPart) : Typ
   pub later : (n i : ℕ) → u.opened ≤ n → n < length (sessions_by w t) → (n ≡ u.opened → u.is_open ≡ false → u.changed ≤ i) → i < length (session_at w t n).places →
       tag_at cells (session_at w t n).places i + 1 < 2 * (session_at w t n).session
 
+-- all tasks and their sessions
+abbrev pub AreTied : World → Parts → Type 0
+AreTied w c = (t : ℕ) → t < length c.tasks → IsTied w c.cells t (part_of c t)
+
 -- what contracts see of a core
 pub record CoreView : Type 0 where
   pub world : World
@@ -100,7 +104,7 @@ pub record IsCore (w : World) (cells : List Cell) (sets : List FactSet) (plan : 
   pub within : (s p : ℕ) → 0 < s → p < length w.places → is_within (kind_at (plan_in w) p) (set_in (length w.places) sets s p) ≡ true
   pub running : (t : ℕ) (r : RunningView) → t < length tasks → IsRunning w t (get_or tasks t r)
   pub stages : (t : ℕ) (r : RunningView) → t < length tasks → IsStage w t (get_or tasks t r).part (get_or tasks t r).part.stage
-  pub tied : (t : ℕ) (r : RunningView) → t < length tasks → IsTied w cells t (get_or tasks t r).part
+  pub tied : AreTied w (record { cells = cells; sets = sets; tasks = parts_of tasks })
 
 -- the first tasks of the world, before their first instructions
 pub record AreReady (w : World) (number : ℕ) (tasks : List RunningView) : Type 0 where

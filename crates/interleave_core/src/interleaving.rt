@@ -227,6 +227,7 @@ impl<'a> Core<'a> {
             Event::Lift(t) => self.lift(t),
             Event::Do(t) => self.run(t),
             Event::Plant(s, p) => self.plant(s, p),
+            Event::Close(_, _) => Err(NotPossible),
         }
     }
 

@@ -32,6 +32,11 @@ pub(crate) struct Running<'a> {
     pub(crate) done: u32,
     pub(crate) budget: u32,
     pub(crate) stage: Stage,
+    /// Of the sessions that it controls: how many it has opened, whether the last of them is open, and at how many places
+    /// of the one that the SVC in hand opens or closes it has done so.
+    opened: u32,
+    is_open: bool,
+    changed: u32,
 }
 
 impl<'a> Model for Running<'a> {
@@ -42,7 +47,7 @@ impl<'a> Model for Running<'a> {
 
     ghost Value = { RunningView };
 
-    ghost view = { λ r. record { part = record { state = state_of r.cpu r.space.bytes r.io r.done; stage = r.stage }; space = r.space; budget = r.budget } };
+    ghost view = { λ r. record { part = record { state = state_of r.cpu r.space.bytes r.io r.done; stage = r.stage; opened = r.opened; is_open = r.is_open; changed = r.changed }; space = r.space; budget = r.budget } };
 
     ghost invariant = { λ r. (r.done ≤ r.budget) × (r.budget ≤ BUDGET_LIMIT) };
 }
@@ -290,6 +295,9 @@ impl<'a> Running<'a> {
             done: 0,
             budget,
             stage: Stage::Ready,
+            opened: 0,
+            is_open: false,
+            changed: 0,
         })
     }
 }
