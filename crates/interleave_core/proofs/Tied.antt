@@ -29,7 +29,7 @@ use Rattle.interleave_core.specs.declared.stage.Hand.{Hand}
 use Rattle.interleave_core.specs.declared.stage.Stage.{Stage}
 use Rattle.interleave_core.specs.declared.stage.Stage.TheVariants.{Holding}
 use Rattle.interleave_core.proofs.Changes.{is_done, may_by, Changed, plant_cases, close_by}
-use Rattle.interleave_core.specs.Views.{session_at, turn_number, turn_of, has_window, number_at, tag_at, IsTied}
+use Rattle.interleave_core.specs.Views.{session_at, turn_number, turn_of, has_window, number_at, tag_at, IsTied, AreTied}
 use Rattle.interleave_core.proofs.Runs.{same_or, lt_of, exists_by, got, lifted_tasks}
 use Rattle.interleave_core.proofs.Turns.{own, places_differ, session_rises, IsAsked, IsChange, change_asked, due_is}
 
@@ -212,11 +212,8 @@ tied_done w cells t u v stage h is = elim (is_done w t u v stage h) [
 
 -- ---- each event
 
-abbrev pub AllTied : World → Parts → Type 0
-AllTied w c = (t : ℕ) → t < length c.tasks → IsTied w c.cells t (part_of c t)
-
 -- one task changes
-all_but : (w : World) (c d : Parts) (t : ℕ) (u : TaskPart) → d.tasks ≡ set c.tasks t u → t < length c.tasks → IsTied w d.cells t u → ((s : ℕ) → s < length c.tasks → s ≢ t → IsTied w d.cells s (part_of c s)) → AllTied w d
+all_but : (w : World) (c d : Parts) (t : ℕ) (u : TaskPart) → d.tasks ≡ set c.tasks t u → t < length c.tasks → IsTied w d.cells t u → ((s : ℕ) → s < length c.tasks → s ≢ t → IsTied w d.cells s (part_of c s)) → AreTied w d
 all_but w c d t u e lt one all s l =
     let inside : s < length c.tasks = subst (λ (n : ℕ). s < n) (ap (λ (x : List TaskPart). length x) e ∙ length-set c.tasks t u) l in
     let there : part_of d s ≡ get_or (set c.tasks t u) s no_part = ap (λ (x : List TaskPart). get_or x s no_part) e in
@@ -233,8 +230,8 @@ changed_tag w x b s e same pos = ap (λ (y : Bool). (if y then closed_of w x.ses
     by true = omega (arith, same)
     by false = omega (arith, same, pos)
 
-tied_changed : (w : World) (c : Parts) (t : ℕ) (x : PlaceChange) → IsPlan (plan_in w) → length c.cells ≡ length w.places → t < length c.tasks → change_due w t (part_of c t) (part_of c t).stage ≡ Some x → AllTied w c →
-    AllTied w (changed w c t (part_of c t) x).parts
+tied_changed : (w : World) (c : Parts) (t : ℕ) (x : PlaceChange) → IsPlan (plan_in w) → length c.cells ≡ length w.places → t < length c.tasks → change_due w t (part_of c t) (part_of c t).stage ≡ Some x → AreTied w c →
+    AreTied w (changed w c t (part_of c t) x).parts
 tied_changed w c t x plan size lt due all =
     let u : TaskPart = part_of c t in
     let is : IsChange w c.cells t u x = due_is w c.cells t u u.stage x plan (all t lt) due in
@@ -255,7 +252,7 @@ lift_tag w c h true e p lt = elim (same_or p h.place.0) [
   | inr apart ↦ ap (λ (x : Cell). x.tag) (get_or-set_other c.cells h.place.0 p (original_under w h.place.0 h.cell) no_cell apart)
 ]
 
-tied_lifted : (w : World) (c : Parts) (t : ℕ) (h : Hand) → IsPlan (plan_in w) → length c.cells ≡ length w.places → t < length c.tasks → AllTied w c → AllTied w (lifted w c t (part_of c t) h).parts
+tied_lifted : (w : World) (c : Parts) (t : ℕ) (h : Hand) → IsPlan (plan_in w) → length c.cells ≡ length w.places → t < length c.tasks → AreTied w c → AreTied w (lifted w c t (part_of c t) h).parts
 tied_lifted w c t h plan size lt all =
     let taken : Bool = same_cell (word_at c.cells h.place.0) h.cell in
     let u : TaskPart = part_of c t in
@@ -268,19 +265,19 @@ tied_lifted w c t h plan size lt all =
     all_but w c (lifted w c t u h).parts t (with_due u h Nothing) tasks lt (tied_stage w (if taken then with_cell c h.place.0 x else c).cells t u u.state (Holding (record h { due = Nothing })) (same t (all t lt)))
     (λ s l apart. same s (all s l))
 
-tied_whole : (w : World) (c : Parts) (s p : ℕ) → IsPlan (plan_in w) → may_plant w c s p ≡ true → AllTied w c → AllTied w (with_cell c p (breakpoint_of s))
+tied_whole : (w : World) (c : Parts) (s p : ℕ) → IsPlan (plan_in w) → may_plant w c s p ≡ true → AreTied w c → AreTied w (with_cell c p (breakpoint_of s))
 tied_whole w c s p plan may all t lt =
     let at = may_by (nat_lt p (length w.places)) (nat_lt 0 s) (nat_eq (window_at (plan_in w) p) s) (nat_eq (word_at c.cells p).tag 0) may in
     let pos : 0 < window_at (plan_in w) p = subst (λ (n : ℕ). 0 < n) (sym (eqb-true (window_at (plan_in w) p) s at.2)) (lt_of 0 s at.1) in
     tied_window w c.cells t p (breakpoint_of s) (part_of c t) plan pos (all t lt)
 
-pub tied_step : (w : World) (c : Parts) (e : Event) (x : Stepped) → IsPlan (plan_in w) → length c.cells ≡ length w.places → parts_step w c e ≡ Some x → AllTied w c → AllTied w x.parts
+pub tied_step : (w : World) (c : Parts) (e : Event) (x : Stepped) → IsPlan (plan_in w) → length c.cells ≡ length w.places → parts_step w c e ≡ Some x → AreTied w c → AreTied w x.parts
 tied_step w c (Fetch t) x plan size h all =
     let u : TaskPart = part_of c t.0 in
     let at = exists_by (nat_lt t.0 (length c.tasks)) (fetch_step w c t.0 u) x h in
     let lt : t.0 < length c.tasks = lt_of t.0 (length c.tasks) at.0 in
     let p = got ℕ (fetched w c t.0 u) (place_due w t.0 u u.stage) x at.1 in
-    subst (λ (y : Stepped). AllTied w y.parts) (sym p.2)
+    subst (λ (y : Stepped). AreTied w y.parts) (sym p.2)
     (all_but w c (fetched w c t.0 u p.0).parts t.0 _ refl lt (tied_stage w c.cells t.0 u u.state (Holding (hand_at w c (is_awaiting u.stage) p.0)) (all t.0 lt)) (λ s l apart. all s l))
 tied_step w c (Mark t) x plan size h all =
     let u : TaskPart = part_of c t.0 in
@@ -289,26 +286,26 @@ tied_step w c (Mark t) x plan size h all =
     let g = got Hand (marked w c t.0 u) (in_hand Marking u.stage) x at.1 in
     let found : FactSet = set_of w c (tag_session g.0.cell.tag) g.0.place.0 in
     let due : Due = if is_full (kind_at (plan_in w) g.0.place.0) (with_fact found (fact_in w t.0 u g.0)) then Lifting else Nothing in
-    subst (λ (y : Stepped). AllTied w y.parts) (sym g.2)
+    subst (λ (y : Stepped). AreTied w y.parts) (sym g.2)
     (all_but w c (marked w c t.0 u g.0).parts t.0 (with_due u g.0 due) refl lt (tied_stage w c.cells t.0 u u.state (Holding (record g.0 { due = due })) (all t.0 lt)) (λ s l apart. all s l))
 tied_step w c (Lift t) x plan size h all =
     let u : TaskPart = part_of c t.0 in
     let at = exists_by (nat_lt t.0 (length c.tasks)) (lift_step w c t.0 u) x h in
     let g = got Hand (lifted w c t.0 u) (in_hand Lifting u.stage) x at.1 in
-    subst (λ (y : Stepped). AllTied w y.parts) (sym g.2) (tied_lifted w c t.0 g.0 plan size (lt_of t.0 (length c.tasks) at.0) all)
+    subst (λ (y : Stepped). AreTied w y.parts) (sym g.2) (tied_lifted w c t.0 g.0 plan size (lt_of t.0 (length c.tasks) at.0) all)
 tied_step w c (Do t) x plan size h all =
     let u : TaskPart = part_of c t.0 in
     let at = exists_by (nat_lt t.0 (length c.tasks)) (do_step w c t.0 u) x h in
     let lt : t.0 < length c.tasks = lt_of t.0 (length c.tasks) at.0 in
     let v = got TaskPart (done_by c t.0) (task_done w t.0 u u.stage) x at.1 in
-    subst (λ (y : Stepped). AllTied w y.parts) (sym v.2) (all_but w c (done_by c t.0 v.0).parts t.0 v.0 refl lt (tied_done w c.cells t.0 u v.0 u.stage v.1 (all t.0 lt)) (λ s l apart. all s l))
+    subst (λ (y : Stepped). AreTied w y.parts) (sym v.2) (all_but w c (done_by c t.0 v.0).parts t.0 v.0 refl lt (tied_done w c.cells t.0 u v.0 u.stage v.1 (all t.0 lt)) (λ s l apart. all s l))
 tied_step w c (Plant s p) x plan size h all = elim (plant_cases w c s.0 p.0 x h) [
-  | inl whole ↦ subst (λ (y : Stepped). AllTied w y.parts) (sym whole.made) (tied_whole w c s.0 p.0 plan whole.may all)
-  | inr by ↦ subst (λ (y : Stepped). AllTied w y.parts) (sym by.made) (tied_changed w c by.task by.change plan size by.there by.due all)
+  | inl whole ↦ subst (λ (y : Stepped). AreTied w y.parts) (sym whole.made) (tied_whole w c s.0 p.0 plan whole.may all)
+  | inr by ↦ subst (λ (y : Stepped). AreTied w y.parts) (sym by.made) (tied_changed w c by.task by.change plan size by.there by.due all)
 ]
 tied_step w c (Close s p) x plan size h all =
     let by : Changed w c true s.0 p.0 x = close_by w c s.0 p.0 x h in
-    subst (λ (y : Stepped). AllTied w y.parts) (sym by.made) (tied_changed w c by.task by.change plan size by.there by.due all)
+    subst (λ (y : Stepped). AreTied w y.parts) (sym by.made) (tied_changed w c by.task by.change plan size by.there by.due all)
 
 -- ---- the start
 
@@ -329,7 +326,7 @@ tied_part w t u plan opened shut changed = record {
   later = λ n i from lt unless l. let pos = (own w t n i plan l).positive in omega (arith, tag_fresh w.places (number_at (session_at w t n).places i), pos);
 }
 
-pub tied_first : (w : World) → IsPlan (plan_in w) → AllTied w (first_parts w)
+pub tied_first : (w : World) → IsPlan (plan_in w) → AreTied w (first_parts w)
 tied_first w plan t l =
     let lt : t < length w.job.tasks = subst (λ (n : ℕ). t < n) (length-map w.job.tasks first_part) l in
     subst (IsTied w (map fresh_word w.places) t) (sym (get_or-map first_part w.job.tasks t no_task no_part lt)) (tied_part w t (first_part (task_of w.job t)) plan refl refl refl)
