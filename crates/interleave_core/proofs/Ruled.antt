@@ -514,7 +514,7 @@ module _ (w : World) (c : CoreState) (v : View) (closes : Bool) (s p : ℕ) (x :
   change_is : IsChange w c.parts.cells by.task u by.change
   change_is = due_is w c.parts.cells by.task u u.stage by.change is.held.is_plan (tied by.task by.there) by.due
 
-  its : IsOwn w by.task s p
+  pub its : IsOwn w by.task s p
   its = subst (λ (n : ℕ). IsOwn w by.task n p) by.session (subst (λ (q : ℕ). IsOwn w by.task by.change.session q) by.place change_is.own)
 
   in_job : by.task < length w.job.tasks
@@ -547,7 +547,7 @@ module _ (w : World) (c : CoreState) (v : View) (closes : Bool) (s p : ℕ) (x :
   cell_here : word_at x.parts.cells p ≡ cell
   cell_here = ap (λ (cells : List Cell). word_at cells p) made_cells ∙ get_or-set_at c.parts.cells p p cell no_cell refl (subst (λ (n : ℕ). p < n) (sym is.cells) its.inside)
 
-  cell_other : (q : ℕ) → q < length w.places → q ≢ p → word_at x.parts.cells q ≡ word_at c.parts.cells q
+  pub cell_other : (q : ℕ) → q < length w.places → q ≢ p → word_at x.parts.cells q ≡ word_at c.parts.cells q
   cell_other q l n = ap (λ (cells : List Cell). word_at cells q) made_cells ∙ get_or-set_other c.parts.cells p q cell no_cell n
 
   set_kept : (n q : ℕ) → q < length w.places → 0 < n → set_of w x.parts n q ≡ set_of w c.parts n q
