@@ -47,8 +47,8 @@ pub(crate) fn nth_session(plan: &Plan, t: TaskNo, n: u32) -> Option<&Controlled>
 }
 
 /// At the place that follows those that are done, in their order.
-pub(crate) fn next_place(change: Change, done: u32) -> Option<PlaceChange>
-    ensures { option_map seen_place result ≡ next_place done (seen_change change) }
+pub(crate) fn next_place(change: &Change, done: u32) -> Option<PlaceChange>
+    ensures { option_map seen_place result ≡ next_place done (seen_change change.now) }
 {
     let session = change.session;
     match session.places.get(done as usize) {

@@ -195,7 +195,8 @@ impl<'a> Running<'a> {
 
     /// The closing of its open session.
     fn closing<'p>(&self, t: TaskNo, plan: &'p Plan) -> Option<Change<'p>>
-        ensures { (w : World) → plan.now ≡ plan_in w → option_map seen_change result ≡ option_map (change true) (open_session w t.0 self.now.part) }
+        ensures closes { IfSome result (λ ch. ch.closes ≡ true) }
+        ensures value { (w : World) → plan.now ≡ plan_in w → option_map seen_change result ≡ option_map (change true) (open_session w t.0 self.now.part) }
     {
         if !self.is_open {
             return None;
@@ -245,7 +246,7 @@ impl<'a> Running<'a> {
         if !self.executes(tables) {
             return None;
         }
-        next_place(*change, self.changed)
+        next_place(change, self.changed)
     }
 
     /// The place at which a session is to be planted or closed before the instruction is executed.
@@ -266,7 +267,8 @@ impl<'a> Running<'a> {
     /// Its sessions after the instruction: whether that closes one, or else opens one.
     fn after_change(&mut self, closes: Option<bool>)
         requires { closes ≡ Some false → self.old.part.opened < SESSION_LIMIT }
-        ensures { (ch : Option Told) → option_map (λ c. c.closes) ch ≡ closes → self.new ≡ record self.old { part = after_change ch self.old.part } }
+        ensures rest { self.new ≡ record self.old { part = record self.old.part { opened = self.new.part.opened; is_open = self.new.part.is_open; changed = self.new.part.changed } } }
+        ensures after { (ch : Option Told) → option_map (λ c. c.closes) ch ≡ closes → self.new ≡ record self.old { part = after_change ch self.old.part } }
     {
         let Some(closes) = closes else {
             return;
