@@ -14,3 +14,6 @@ pub mod Nexts
 pub mod RunningLemmas
 pub mod Runs
 pub mod Starts
+pub mod Changes
+pub mod Tied
+pub mod Turns

@@ -6,7 +6,7 @@ use Rattle.s370_state.specs.declared.endings.Ending.{Ending}
 use Rattle.module_area.specs.Parties.{window_tag}
 use Rattle.interleave_core.specs.World.{World, Parts, part_of}
 use Rattle.interleave_core.specs.Steps.{set_of}
-use Rattle.interleave_core.specs.Entries.{Entry, Item, Met, Gave}
+use Rattle.interleave_core.specs.Entries.{Item, Met, Gave}
 use Rattle.interleave_core.specs.declared.stage.Stage.TheVariants.{Ended}
 
 -- an execution at place p in the window of session s showed the fact

@@ -1,16 +1,15 @@
 -- Each task's log has the places and facts of its run alone so far, and of the instruction in hand.
-use Rattle.std.specs.Prelude.{◌≡◌, ℕ, ◌<◌, Bool, if◌then◌else◌, Option, Some, None, List, [], ◌∷◌, ◌++◌, length}
+use Rattle.std.specs.Prelude.{◌≡◌, ℕ, ◌<◌, if◌then◌else◌, Option, Some, None, List, [], ◌∷◌, ◌++◌, length}
 use Rattle.cov_base.specs.Facts.{fact_of}
 use Rattle.cov_base.specs.States.{Visit}
 use Rattle.cov_base.specs.declared.facts.Fact.{Fact}
 use Rattle.module_area.specs.PlanView.{kind_at}
 use Rattle.interleave_core.specs.World.{World, TaskPart, Parts, part_of, plan_in, place_at}
 use Rattle.interleave_core.specs.Steps.{step_of}
-use Rattle.interleave_core.specs.Entries.{Entry, Item, Met, Gave}
+use Rattle.interleave_core.specs.Entries.{Item, Met, Gave}
 use Rattle.interleave_core.specs.Alone.{alone}
-use Rattle.interleave_core.specs.declared.stage.Hand.{Hand}
 use Rattle.interleave_core.specs.declared.stage.Stage.{Stage}
-use Rattle.interleave_core.specs.declared.stage.Stage.TheVariants.{Ready, Awaiting, Holding, Ended}
+use Rattle.interleave_core.specs.declared.stage.Stage.TheVariants.{Awaiting, Holding}
 
 -- a place that was visited, and the fact of the visit where it was begun
 pub record Noted : Type 0 where

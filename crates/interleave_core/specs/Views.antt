@@ -1,5 +1,5 @@
 -- What a task of a core keeps besides what the core stores of it, and what holds of a core at every moment.
-use Rattle.std.specs.Prelude.{◌≡◌, ◌≢◌, ℕ, ◌+◌, ◌-◌, ◌*◌, ◌<◌, ◌≤◌, Bool, true, false, nat_le, nat_lt, if◌then◌else◌, Option, Some, None, List, [], ◌∷◌, length, get_or, map, All}
+use Rattle.std.specs.Prelude.{◌≡◌, ◌≢◌, ℕ, ◌+◌, ◌-◌, ◌*◌, ◌<◌, ◌≤◌, Bool, true, false, nat_le, nat_lt, if◌then◌else◌, None, List, [], length, get_or, map, All}
 use Rattle.cov_base.specs.Facts.{is_within}
 use Rattle.cov_base.specs.FactSet.{FactSet}
 use Rattle.cov_base.specs.declared.numbers.PlaceNo.{PlaceNo}
@@ -9,7 +9,6 @@ use Rattle.module_area.specs.CellWords.{word_at}
 use Rattle.module_area.specs.Held.{planted, IsForm}
 use Rattle.module_area.specs.FinalsView.{set_in}
 use Rattle.module_area.specs.PlanView.{PlanView, ControlledView, IsPlan, kind_at, is_over}
-use Rattle.module_area.specs.declared.places.Place.{Place}
 use Rattle.brk_table.specs.Places.{AreSeen, ArePlaces, IsIn}
 use Rattle.space_map.specs.Space.{SpaceView, memory_of_space}
 use Rattle.session_book.specs.JobView.{IsJob}
@@ -19,11 +18,10 @@ use Rattle.interleave_core.specs.Control.{Change, PlaceChange, sessions_by}
 use Rattle.interleave_core.specs.declared.control.Change.{Change as Found}
 use Rattle.interleave_core.specs.declared.control.PlaceChange.{PlaceChange as PlaceFound}
 use Rattle.interleave_core.specs.Steps.{step_of, subject_place, is_spent}
-use Rattle.interleave_core.specs.declared.stage.Due.{Due}
 use Rattle.interleave_core.specs.declared.stage.Due.TheVariants.{Nothing}
 use Rattle.interleave_core.specs.declared.stage.Hand.{Hand}
 use Rattle.interleave_core.specs.declared.stage.Stage.{Stage}
-use Rattle.interleave_core.specs.declared.stage.Stage.TheVariants.{Ready, Awaiting, Holding, Ended}
+use Rattle.interleave_core.specs.declared.stage.Stage.TheVariants.{Awaiting, Holding}
 
 -- a task with its space and budget
 pub record RunningView : Type 0 where
