@@ -1,4 +1,5 @@
 pub mod Alone
+pub mod ControlLemmas
 pub mod Finds
 pub mod Follows
 pub mod GoingLemmas

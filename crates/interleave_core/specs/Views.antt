@@ -3,6 +3,7 @@ use Rattle.std.specs.Prelude.{◌≡◌, ◌≢◌, ℕ, ◌+◌, ◌-◌, ◌*�
 use Rattle.cov_base.specs.Facts.{is_within}
 use Rattle.cov_base.specs.FactSet.{FactSet}
 use Rattle.cov_base.specs.declared.numbers.PlaceNo.{PlaceNo}
+use Rattle.cov_base.specs.declared.limits.TheConstants.{SESSION_LIMIT, PLACE_LIMIT}
 use Rattle.module_area.specs.declared.cells.Cell.{Cell}
 use Rattle.module_area.specs.CellWords.{word_at}
 use Rattle.module_area.specs.Held.{planted, IsForm}
@@ -13,7 +14,9 @@ use Rattle.space_map.specs.Space.{SpaceView, memory_of_space}
 use Rattle.session_book.specs.JobView.{IsJob}
 use Rattle.session_book.specs.Sessions.{task_of}
 use Rattle.interleave_core.specs.World.{World, TaskPart, Parts, part_of, first_part, plan_in, memory_in, budget_in}
-use Rattle.interleave_core.specs.Control.{sessions_by}
+use Rattle.interleave_core.specs.Control.{Change, PlaceChange, sessions_by}
+use Rattle.interleave_core.specs.declared.control.Change.{Change as Found}
+use Rattle.interleave_core.specs.declared.control.PlaceChange.{PlaceChange as PlaceFound}
 use Rattle.interleave_core.specs.Steps.{step_of, subject_place, is_spent}
 use Rattle.interleave_core.specs.declared.stage.Due.TheVariants.{Nothing}
 use Rattle.interleave_core.specs.declared.stage.Hand.{Hand}
@@ -84,6 +87,21 @@ pub record IsTied (w : World) (cells : List Cell) (t : ℕ) (u : TaskPart) : Typ
 -- all tasks and their sessions
 abbrev pub AreTied : World → Parts → Type 0
 AreTied w c = (t : ℕ) → t < length c.tasks → IsTied w c.cells t (part_of c t)
+
+-- what a change that was found does
+abbrev pub seen_change : Found → Change
+seen_change c = record { closes = c.closes; session = c.session.now }
+
+abbrev pub seen_place : PlaceFound → PlaceChange
+seen_place x = record { closes = x.closes; session = x.session.0; place = x.place }
+
+-- a session that a task opens or closes at a place: all are in range
+pub record IsPlaced (w : World) (c : Parts) (t s p : ℕ) : Type 0 where
+  pub task : t < length c.tasks
+  pub some : 0 < s
+  pub few : s ≤ SESSION_LIMIT
+  pub inside : p < length w.places
+  pub room : (part_of c t).changed < PLACE_LIMIT
 
 -- what contracts see of a core
 pub record CoreView : Type 0 where
