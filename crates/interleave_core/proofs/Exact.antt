@@ -37,7 +37,7 @@ use Rattle.interleave_core.proofs.Changes.{Changed, plant_cases, close_by, logs_
 use Rattle.interleave_core.proofs.Runs.{lt_of, got, lifted_tasks, exists_by, some_core, through}
 use Rattle.interleave_core.proofs.Logs.{one_log, changed_log, got_step}
 use Rattle.interleave_core.proofs.Tied.{tied_step, tied_first}
-use Rattle.interleave_core.proofs.Hands.{Ruled, HasBreakpoint, IsMarked, AreMarked, entry_in, InStage, held_hand, view_at}
+use Rattle.interleave_core.proofs.Rule.{Ruled, HasBreakpoint, IsMarked, AreMarked, entry_in, InStage, held_hand, view_at}
 use Rattle.interleave_core.proofs.Ruled.{fetch_due, kind_fact, ruled_step, ruled_first}
 
 -- ---- what is so of each entry

@@ -33,7 +33,7 @@ use Rattle.interleave_core.proofs.Changes.{may_by, Changed, logs_given}
 use Rattle.interleave_core.proofs.Runs.{lt_of}
 use Rattle.interleave_core.proofs.Logs.{itself, apart, changed_log}
 use Rattle.interleave_core.proofs.Turns.{IsOwn, IsChange, due_is}
-use Rattle.interleave_core.proofs.Hands.{task_role, view_at, views_same, views_set, InHand, InStage, Ruled}
+use Rattle.interleave_core.proofs.Rule.{task_role, view_at, views_same, views_set, InHand, InStage, Ruled}
 
 -- the planter's, of a whole session
 pub rule_plant : (w : World) (c : CoreState) (v : View) (s p : ℕ) (logs : ℕ → List Item) → Ruled w c v → may_plant w c.parts s p ≡ true → ((t : ℕ) → logs t ≡ c.logs t) →

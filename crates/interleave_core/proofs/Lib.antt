@@ -8,7 +8,7 @@ pub mod Kept
 pub mod Logs
 pub mod Begun
 pub mod Given
-pub mod Hands
+pub mod Rule
 pub mod Ruled
 pub mod Exact
 pub mod Whole

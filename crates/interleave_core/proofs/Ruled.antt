@@ -49,7 +49,7 @@ use Rattle.interleave_core.proofs.Runs.{lt_of, got, some_part, lifted_tasks, exi
 use Rattle.interleave_core.proofs.Logs.{found_at, due_at, itself, got_step}
 use Rattle.interleave_core.proofs.Tied.{tied_step, tied_first}
 use Rattle.interleave_core.proofs.Begun.{begun_instruction, begun_subject}
-use Rattle.interleave_core.proofs.Hands.{task_role, view_at, set_same, HasBreakpoint, AreMarked, entry_in, InHand, InStage, due_same, held_hand, hand_of, Ruled, logs_after, after_task}
+use Rattle.interleave_core.proofs.Rule.{task_role, view_at, set_same, HasBreakpoint, AreMarked, entry_in, InHand, InStage, due_same, held_hand, hand_of, Ruled, logs_after, after_task}
 use Rattle.interleave_core.proofs.Given.{rule_plant, rule_plants, rule_closes}
 
 -- ---- Fetch
