@@ -10,7 +10,7 @@ use Rattle.module_area.specs.declared.cells.Cell.{Cell}
 use Rattle.module_area.proofs.PlanLemmas.{any_shown}
 use Rattle.s370_exec.specs.Calls.{call_of}
 use Rattle.interleave_core.specs.World.{World, TaskPart, plan_in, memory_in}
-use Rattle.interleave_core.specs.Control.{Change, change, PlaceChange, place_change, controlled_by, sessions_by, asked, change_of, next_place}
+use Rattle.interleave_core.specs.Control.{controller_from, controller_of, Change, change, PlaceChange, place_change, controlled_by, sessions_by, asked, change_of, next_place}
 use Rattle.interleave_core.specs.Steps.{executes, change_due}
 use Rattle.interleave_core.specs.declared.stage.Stage.{Stage}
 use Rattle.interleave_core.specs.Views.{no_controlled, session_at, turn_number, turn_of, has_window, number_at, tag_at, IsTied}
@@ -100,6 +100,23 @@ own w t n i plan lt =
     let r : IsListed t (plan_in w).controlled (session_at w t n) = by_at t (plan_in w).controlled n (listed w t n i lt) in
     subst (λ (c : ControlledView). IsOwn w t c.session (number_at c.places i)) (sym r.same)
     (own_at w t r.number i plan r.there r.by_task (subst (λ (c : ControlledView). i < length c.places) r.same lt))
+
+differ : (a b : ℕ) → a ≢ b → nat_eq a b ≡ false
+differ a b h = grind (arith, nat_tests)
+
+-- the task controls it
+controls : (cs : List ControlledView) (k : ℕ) → AllPairs AreApart cs → k < length cs → controller_from (get_or cs k no_controlled).session cs ≡ Some (get_or cs k no_controlled).by
+controls [] k all lt = absurd (omega arith)
+controls (c ∷ cs) zero all lt = ap (λ (b : Bool). if b then Some c.by else controller_from c.session cs) (eq-eqb c.session c.session refl)
+controls (c ∷ cs) (suc k) all lt =
+    let up : c.session < (get_or cs k no_controlled).session = (all zero (suc k) no_controlled (omega arith) lt).rising in
+    let other : nat_eq c.session (get_or cs k no_controlled).session ≡ false = differ c.session (get_or cs k no_controlled).session (λ e. omega (arith, e, up)) in
+    ap (λ (b : Bool). if b then Some c.by else controller_from (get_or cs k no_controlled).session cs) other ∙ controls cs k (tail_apart c cs all) (omega (arith, lt))
+
+pub controller : (w : World) (t n i : ℕ) → IsPlan (plan_in w) → i < length (session_at w t n).places → controller_of w (session_at w t n).session ≡ Some t
+controller w t n i plan lt =
+    let r : IsListed t (plan_in w).controlled (session_at w t n) = by_at t (plan_in w).controlled n (listed w t n i lt) in
+    ap (λ (c : ControlledView). controller_of w c.session) r.same ∙ (controls (plan_in w).controlled r.number plan.apart r.there ∙ ap Some r.by_task)
 
 -- no two places of a session are one
 pub places_differ : (w : World) (t n i j : ℕ) → IsPlan (plan_in w) → i < length (session_at w t n).places → j < length (session_at w t n).places → i ≢ j →
