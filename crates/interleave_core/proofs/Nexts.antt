@@ -17,7 +17,7 @@ use Rattle.interleave_core.specs.Results.{IsDue, stage_event, next_of, fetch_or,
 use Rattle.interleave_core.specs.Views.{IsStage, IsTied, turn_number}
 use Rattle.interleave_core.proofs.Changes.{goes_on, done_due, IsWholePlant, Changed, plant_cases, close_by}
 use Rattle.interleave_core.proofs.Runs.{exists_by, in_hand-stage}
-use Rattle.interleave_core.proofs.Turns.{IsChange, due_is, controller}
+use Rattle.interleave_core.proofs.Turns.{IsChange, due_is, due_controller}
 use Rattle.interleave_core.specs.declared.events.Event.{Event}
 use Rattle.interleave_core.specs.declared.events.Event.TheVariants.{Fetch, Mark, Lift, Do, Plant, Close}
 use Rattle.interleave_core.specs.declared.stage.Due.{Due}
@@ -73,7 +73,7 @@ change_by : (w : World) (c : Parts) (t : ℕ) (closes : Bool) (whole : Option St
     (controller_of w x.session ≡ Some t) × (by_controller w c closes x.session x.place.0 whole (controller_of w x.session) ≡ Some (changed w c t (part_of c t) x))
 change_by w c t closes whole x plan tied there due way =
     let is : IsChange w c.cells t (part_of c t) x = due_is w c.cells t (part_of c t) (part_of c t).stage x plan tied due in
-    let by : controller_of w x.session ≡ Some t = ap (controller_of w) is.session ∙ controller w t (turn_number (part_of c t)) (part_of c t).changed plan is.there in
+    let by : controller_of w x.session ≡ Some t = due_controller w t (part_of c t) (part_of c t).stage x plan due in
     let below : closes ≡ false → nat_lt ((word_at c.cells x.place.0).tag + 1) (2 * x.session) ≡ true = λ e. lt_true ((word_at c.cells x.place.0).tag + 1) (2 * x.session) (is.lower (way ∙ e)) in
     let may : may_change c closes x.session x.place.0 x ≡ true = may_from closes x.closes _ _ _ way (itself x.session) (itself x.place.0) below in
     let step : change_step w c closes x.session x.place.0 t (part_of c t) ≡ Some (changed w c t (part_of c t) x) =
@@ -263,3 +263,41 @@ next_only w c u (Plant s p) d = elim (plant_cases w c s.0 p.0 d.stepped d.step) 
 next_only w c u (Close s p) d =
     let by : Changed w c true s.0 p.0 d.stepped = close_by w c s.0 p.0 d.stepped d.step in
     changed_only w c u true s p d.stepped by (sym (ap (λ (o : Option ℕ). is_task o u.0) by.by_task) ∙ d.by)
+
+-- ---- it is the task's
+
+or_do_by : (w : World) (t : TaskNo) (u : TaskPart) (stage : Stage) → IsPlan (plan_in w) → is_by w (change_or_do t (change_due w t.0 u stage)) t.0 ≡ true
+or_do_by w t u stage plan = by (change_due w t.0 u stage) refl
+  where
+    by : (o : Option PlaceChange) → change_due w t.0 u stage ≡ o → is_by w (change_or_do t o) t.0 ≡ true
+    by None e = itself t.0
+    by (Some x) e = way x.closes
+      where
+        own : is_task (controller_of w x.session) t.0 ≡ true
+        own = ap (λ (o : Option ℕ). is_task o t.0) (due_controller w t.0 u stage x plan e) ∙ itself t.0
+
+        way : (b : Bool) → is_by w (if b then Close (record { 0 = x.session }) x.place else Plant (record { 0 = x.session }) x.place) t.0 ≡ true
+        way true = own
+        way false = own
+
+stage_by : (w : World) (t : TaskNo) (u : TaskPart) (stage : Stage) (e : Event) → IsPlan (plan_in w) → stage_event w t u stage ≡ Some e → is_by w e t.0 ≡ true
+stage_by w t u Ready e plan h = by (place_due w t.0 u Ready) h
+  where
+    by : (o : Option ℕ) → Some (fetch_or t (change_or_do t (change_due w t.0 u Ready)) o) ≡ Some e → is_by w e t.0 ≡ true
+    by None k = let same : change_or_do t (change_due w t.0 u Ready) ≡ e = cc in subst (λ (x : Event). is_by w x t.0 ≡ true) same (or_do_by w t u Ready plan)
+    by (Some p) k = let same : Fetch t ≡ e = cc in subst (λ (x : Event). is_by w x t.0 ≡ true) same (itself t.0)
+stage_by w t u Awaiting e plan h = let same : Fetch t ≡ e = cc in subst (λ (x : Event). is_by w x t.0 ≡ true) same (itself t.0)
+stage_by w t u (Holding g) e plan h = by g.due h
+  where
+    by : (d : Due) → Some (event_due t (change_due w t.0 u (Holding g)) d) ≡ Some e → is_by w e t.0 ≡ true
+    by Marking k = let same : Mark t ≡ e = cc in subst (λ (x : Event). is_by w x t.0 ≡ true) same (itself t.0)
+    by Lifting k = let same : Lift t ≡ e = cc in subst (λ (x : Event). is_by w x t.0 ≡ true) same (itself t.0)
+    by Nothing k = let same : change_or_do t (change_due w t.0 u (Holding g)) ≡ e = cc in subst (λ (x : Event). is_by w x t.0 ≡ true) same (or_do_by w t u (Holding g) plan)
+stage_by w t u (Ended x) e plan h = absurd cc
+
+pub next_by : (w : World) (c : Parts) (t : TaskNo) (e : Event) → IsPlan (plan_in w) → next_of w c t ≡ Some e → is_by w e t.0 ≡ true
+next_by w c t e plan h = by_number (nat_lt t.0 (length c.tasks)) h
+  where
+    by_number : (b : Bool) → (if b then stage_event w t (part_of c t.0) (part_of c t.0).stage else None) ≡ Some e → is_by w e t.0 ≡ true
+    by_number true q = stage_by w t (part_of c t.0) (part_of c t.0).stage e plan q
+    by_number false q = absurd cc
