@@ -7,6 +7,8 @@ pub mod GoneLemmas
 pub mod Kept
 pub mod Logs
 pub mod Begun
+pub mod Given
+pub mod Rule
 pub mod Ruled
 pub mod Exact
 pub mod Whole

@@ -11,7 +11,7 @@ use Rattle.s370_decode.specs.Table.{op_of}
 use Rattle.s370_decode.specs.declared.code.Code.{Code}
 use Rattle.s370_exec.specs.Effects.{effect, updated, link_code}
 use Rattle.s370_exec.specs.Fetch.{is_execute, code_at, first_tests, rest_tests, whole_tests}
-use Rattle.s370_exec.specs.Solo.{Run, Step, solo_run, solo_step, ended, visit, behind, subject_step, no_visit}
+use Rattle.s370_exec.specs.Solo.{Run, Step, solo_run, solo_step, visit, no_visit}
 use Rattle.s370_exec.proofs.TraceLemmas.{solo_step-visits}
 use Rattle.module_area.specs.PlanView.{place_of}
 use Rattle.module_area.specs.declared.places.Place.{Place}
@@ -22,19 +22,19 @@ use Rattle.s370_exec.specs.Solo.{has_returned}
 use Rattle.module_area.specs.declared.cells.Cell.{Cell}
 use Rattle.s370_exec.proofs.StepLemmas.{solo_step-rest_refused, solo_step-unread, solo_step-read, solo_step-ex}
 use Rattle.interleave_core.specs.World.{World, IsWorld, TaskPart, Parts, part_of, memory_in, budget_in, place_at, place_from, no_part, first_part}
-use Rattle.interleave_core.specs.Steps.{Stepped, parts_step, fetch_step, fetched, mark_step, marked, lift_step, lifted, do_step, done_by, may_plant, breakpoint_of, with_cell, with_due, original_under, same_cell, in_hand, subject_place, step_of, place_due, is_awaiting, is_spent, executed, stage_after, awaits_or, with_stage, unless_at, instruction_executed, subject_executed, task_goes_on, task_done, same_due, hand_at, set_of}
-use Rattle.interleave_core.specs.Entries.{Entry, Item, Met, Gave}
+use Rattle.interleave_core.specs.Steps.{Stepped, parts_step, fetch_step, fetched, mark_step, marked, lift_step, lifted, do_step, done_by, with_due, original_under, same_cell, in_hand, subject_place, step_of, place_due, is_awaiting, is_spent, executed, stage_after, awaits_or, with_stage, unless_at, instruction_executed, subject_executed, task_goes_on, task_done, same_due, hand_at, set_of}
+use Rattle.interleave_core.specs.Entries.{Item, Met, Gave}
 use Rattle.interleave_core.specs.Core.{CoreState, CoreStepped, core_start, core_step, core_after, core_from, core_run, log_after}
 use Rattle.interleave_core.specs.Alone.{alone}
 use Rattle.interleave_core.specs.declared.events.Shown.{Shown}
-use Rattle.interleave_core.specs.declared.events.Shown.TheVariants.{Fetched, Marked, Lifted, Done, Planted}
+use Rattle.interleave_core.specs.declared.events.Shown.TheVariants.{Fetched, Marked, Lifted, Done}
 use Rattle.interleave_core.specs.declared.events.Event.{Event}
 use Rattle.interleave_core.specs.declared.events.Event.TheVariants.{Fetch, Mark, Lift, Do, Plant, Close}
 use Rattle.interleave_core.specs.declared.stage.Hand.{Hand}
 use Rattle.interleave_core.specs.declared.stage.Due.TheVariants.{Marking, Lifting, Nothing}
-use Rattle.interleave_core.proofs.Changes.{goes_on, IsWholePlant, Changed, plant_cases, close_by, logs_given, logs_whole, logs_plant, logs_close}
+use Rattle.interleave_core.proofs.Changes.{goes_on, Changed, plant_cases, close_by, logs_given, logs_whole, logs_plant, logs_close}
 use Rattle.interleave_core.proofs.Runs.{same_or, lt_of, some_part, got, lifted_tasks, exists_by, in_hand-stage, some_core, through}
-use Rattle.interleave_core.proofs.Alone.{GoesAt, AllGo, Goes, has_ended, is_inside, executed_trace, all_step, all_first, some_core_stepped, run_zero}
+use Rattle.interleave_core.proofs.Alone.{GoesAt, AllGo, has_ended, is_inside, executed_trace, all_step, all_first, some_core_stepped, run_zero}
 use Rattle.s370_state.specs.declared.endings.Ending.TheVariants.{Returned, Spent}
 use Rattle.s370_state.specs.declared.endings.Next.{Next}
 use Rattle.s370_state.specs.declared.endings.Next.TheVariants.{On, Ended as NextEnded}
@@ -313,8 +313,7 @@ log_step w c (Do t) x world h is =
     (length-set c.parts.tasks t.0 v.0 ∙ is.count, one_log w (λ n y log. HasLog w n y log) c (done_by c.parts t.0 v.0).parts t.0 v.0 Done refl lt (log_done w t.0 u v.0 u.stage (c.logs t.0) refl v.1 (is.go t.0 lt) (is.logs t.0 lt)) is.logs)
 log_step w c (Plant s p) x world h is = elim (plant_cases w c.parts s.0 p.0 x h) [
   | inl whole ↦
-      let tasks : c.parts.tasks ≡ x.parts.tasks = ap (λ (y : Stepped). y.parts.tasks) (sym whole.made) in
-      (
+      let tasks : c.parts.tasks ≡ x.parts.tasks = ap (λ (y : Stepped). y.parts.tasks) (sym whole.made) in (
         ap (λ (ts : List TaskPart). length ts) (sym tasks) ∙ is.count,
         subst (λ (ts : List TaskPart). (t : ℕ) → t < length ts → HasLog w t (get_or ts t no_part) ((core_after w c (Plant s p) x).core.logs t)) tasks
             (λ t l. subst (HasLog w t (part_of c.parts t)) (sym (logs_whole w c s p x whole t)) (is.logs t l)),

@@ -1,51 +1,42 @@
 -- The rule of an area holds of a core after every list of events.
-use Rattle.std.proofs.Common.{◌≡◌, ◌≢◌, ◌⊎◌, inl, inr, ℕ, zero, suc, ◌+◌, ◌-◌, ◌*◌, ◌<◌, ◌≤◌, Bool, true, false, not, ◌&&◌, ◌||◌, nat_lt, nat_eq, if◌then◌else◌, Option, Some, None, is_none, List, [], ◌∷◌, ◌++◌, length, get_or, set, map, replicate, refl, sym, ◌∙◌, ap, subst, arith, eqb-true}
-use mathlib.Core.Option.{some, some-injective, some-ne-none}
-use lib.ListN.{get_elem?}
-use Rattle.std.specs.Option.{option_and_then}
-use Rattle.std.proofs.lemmas.Bool.Decides.{nat_tests}
+use Rattle.std.proofs.Common.{◌≡◌, ◌≢◌, ◌⊎◌, inl, inr, ℕ, zero, suc, ◌+◌, ◌*◌, ◌<◌, ◌≤◌, Bool, true, false, not, ◌&&◌, nat_lt, nat_eq, if◌then◌else◌, Option, Some, None, is_none, List, [], ◌∷◌, ◌++◌, length, get_or, set, replicate, refl, sym, ◌∙◌, ap, subst, arith, eqb-true}
 use Rattle.std.proofs.lemmas.Grind.{get_or-set_at}
 use Rattle.std.proofs.lemmas.List.{get_or-map, get_or-set_other, get_or-replicate, length-set, length-map, length-replicate}
 use Rattle.cov_base.specs.Codes.{breakpoint}
 use Rattle.cov_base.specs.FactSet.{FactSet}
 use Rattle.cov_base.specs.Facts.{no_facts, has_fact, with_fact, is_full, is_of_kind, fact_of}
-use Rattle.cov_base.specs.States.{State, Visit}
+use Rattle.cov_base.specs.States.{Visit}
 use Rattle.cov_base.specs.declared.facts.Fact.{Fact}
 use Rattle.cov_base.specs.declared.facts.Fact.TheVariants.{Ran, Went, Stayed}
 use Rattle.cov_base.specs.declared.facts.Kind.{Kind}
 use Rattle.cov_base.specs.declared.facts.Kind.TheVariants.{Straight, Conditional}
-use Rattle.s370_state.specs.declared.endings.Ending.{Ending}
 use Rattle.s370_state.specs.declared.endings.Ending.TheVariants.{Returned, Spent as SpentEnding}
 use Rattle.s370_state.specs.declared.endings.Next.{Next}
 use Rattle.s370_state.specs.declared.endings.Next.TheVariants.{On, Ended as NextEnded}
 use Rattle.s370_exec.specs.Fetch.{is_execute}
 use Rattle.s370_exec.specs.Solo.{has_returned, visit_of}
 use Rattle.module_area.specs.CellWords.{fresh_word, word_at, no_cell}
-use Rattle.module_area.specs.Held.{planted, untouched, lifted as lifted_cell, IsForm, Keeps, KeepsAs, Held}
-use Rattle.module_area.specs.Parties.{Has, tag_session, window_tag, is_breakpoint, blank, fetching, marking, lifting, tagging, planting, last_tag}
+use Rattle.module_area.specs.Held.{planted, lifted as lifted_cell, IsForm, Held}
+use Rattle.module_area.specs.Parties.{Has, tag_session, window_tag, is_breakpoint, blank, fetching, marking, lifting, planting}
 use Rattle.module_area.specs.FinalsView.{index_of}
-use Rattle.module_area.specs.PlanView.{PlanView, IsPlan, original_at, kind_at, window_at, is_over, is_controlled, no_place}
+use Rattle.module_area.specs.PlanView.{PlanView, IsPlan, original_at, kind_at, is_over, no_place}
 use Rattle.module_area.specs.declared.cells.Cell.{Cell}
-use Rattle.module_area.specs.declared.parties.Role.{Role}
 use Rattle.module_area.specs.declared.parties.Role.TheVariants.{Root, Task, Spent}
 use Rattle.module_area.specs.declared.parties.View.{View}
-use Rattle.module_area.specs.declared.places.Place.{Place}
 use Rattle.module_area.proofs.BeginLemmas.{begins}
 use Rattle.module_area.proofs.ForkLemmas.{splits}
-use Rattle.module_area.proofs.Indices.{index_below, same_index, and_left, and_right, and_both}
+use Rattle.module_area.proofs.Indices.{index_below, same_index}
 use Rattle.module_area.proofs.PlanLemmas.{over_small}
 use Rattle.module_area.proofs.PartyLemmas.{here-add_if}
-use Rattle.module_area.proofs.StepLemmas.{breakpoint_form, or_left, or_right, fetches, marks, lifts, plants, closes as closes_step, spent_not_root, spent_not_task}
-use Rattle.session_book.specs.Sessions.{task_of, no_task}
+use Rattle.module_area.proofs.StepLemmas.{breakpoint_form, fetches, marks, lifts, spent_not_task}
+use Rattle.session_book.specs.Sessions.{no_task}
 use Rattle.interleave_core.specs.World.{World, IsWorld, TaskPart, Parts, part_of, plan_in, place_at, first_parts, first_part, no_part}
-use Rattle.interleave_core.specs.Control.{PlaceChange, change_of, next_place}
-use Rattle.interleave_core.specs.Steps.{closed_of, change_due, task_goes_on, Stepped, parts_step, fetch_step, fetched, mark_step, marked, lift_step, lifted, do_step, done_by, may_plant, breakpoint_of, with_cell, with_due, with_stage, original_under, same_cell, same_due, in_hand, hand_at, subject_place, step_of, place_due, is_awaiting, is_spent, due_after_fetch, executed, stage_after, awaits_or, unless_at, instruction_executed, subject_executed, task_done, set_of, fact_in}
-use Rattle.interleave_core.specs.Core.{CoreState, CoreStepped, core_start, core_step, core_after, core_from, core_run, log_after, entry_of}
-use Rattle.interleave_core.specs.Entries.{Entry, Item, Met, Gave}
-use Rattle.interleave_core.specs.Parties.{with_mark, with_lift, with_notes, task_view, task_views, numbers, first_planter, planted_by, planter_from, KeepRule}
+use Rattle.interleave_core.specs.Steps.{task_goes_on, Stepped, parts_step, fetch_step, fetched, mark_step, marked, lift_step, lifted, do_step, done_by, with_cell, with_due, with_stage, original_under, same_cell, same_due, in_hand, hand_at, subject_place, step_of, place_due, is_awaiting, is_spent, executed, stage_after, awaits_or, unless_at, instruction_executed, subject_executed, task_done, set_of, fact_in}
+use Rattle.interleave_core.specs.Core.{CoreState, core_start, core_step, core_after, core_from, core_run, log_after, entry_of}
+use Rattle.interleave_core.specs.Entries.{Entry, Item, Met}
+use Rattle.interleave_core.specs.Parties.{task_view, task_views, numbers, first_planter, planted_by, planter_from, KeepRule}
 use Rattle.interleave_core.specs.declared.events.Event.{Event}
 use Rattle.interleave_core.specs.declared.events.Event.TheVariants.{Fetch, Mark, Lift, Do, Plant, Close}
-use Rattle.interleave_core.specs.declared.events.Shown.{Shown}
 use Rattle.interleave_core.specs.declared.events.Shown.TheVariants.{Fetched, Marked, Lifted, Done}
 use Rattle.interleave_core.specs.declared.stage.Hand.{Hand}
 use Rattle.interleave_core.specs.declared.stage.Due.{Due}
@@ -53,145 +44,13 @@ use Rattle.interleave_core.specs.declared.stage.Due.TheVariants.{Marking, Liftin
 use Rattle.interleave_core.specs.declared.stage.Stage.{Stage}
 use Rattle.interleave_core.specs.declared.stage.Stage.TheVariants.{Ready, Awaiting, Holding, Ended}
 use Rattle.interleave_core.specs.Views.{AreTied}
-use Rattle.interleave_core.proofs.Changes.{goes_on, may_by, IsWholePlant, Changed, plant_cases, close_by, logs_given, logs_whole, logs_plant, logs_close}
-use Rattle.interleave_core.proofs.Runs.{same_or, lt_of, got, some_part, lifted_tasks, exists_by, in_hand-stage, some_core, through}
-use Rattle.interleave_core.proofs.Logs.{found_at, due_at, itself, apart, one_log, changed_log, got_step}
+use Rattle.interleave_core.proofs.Changes.{goes_on, Changed, plant_cases, close_by, logs_whole, logs_plant, logs_close}
+use Rattle.interleave_core.proofs.Runs.{lt_of, got, some_part, lifted_tasks, exists_by, some_core, through}
+use Rattle.interleave_core.proofs.Logs.{found_at, due_at, itself, got_step}
 use Rattle.interleave_core.proofs.Tied.{tied_step, tied_first}
-use Rattle.interleave_core.proofs.Turns.{IsOwn, IsChange, due_is}
 use Rattle.interleave_core.proofs.Begun.{begun_instruction, begun_subject}
-
--- ---- the parties
-
-note_role : (plan : PlanView) (e : Entry) (l : Option Bool) (f : Option FactSet) (k : Option Fact) (v : View) → (with_lift e l (with_mark plan e f k (fetching plan e.place e.cell v))).role ≡ v.role
-note_role plan e None None k v = refl
-note_role plan e None (Some f) None v = refl
-note_role plan e None (Some f) (Some k) v = refl
-note_role plan e (Some b) None k v = refl
-note_role plan e (Some b) (Some f) None v = refl
-note_role plan e (Some b) (Some f) (Some k) v = refl
-
-task_role : (w : World) (t : ℕ) (log : List Item) → (task_view w t log).role ≡ Task t
-task_role w t [] = refl
-task_role w t (Met e ∷ log) = note_role (plan_in w) e e.lifted e.found e.fact (task_view w t log) ∙ task_role w t log
-task_role w t (Gave p tag ∷ log) = task_role w t log
-
-no_number : (A : Type 0) (k : ℕ) → k < 0 → A
-no_number A k h = absurd (omega arith)
-
-pub view_at : (w : World) (logs : ℕ → List Item) (t n k m : ℕ) → t + k ≡ m → k < n → get_elem? (task_views w logs t n) k ≡ some (task_view w m (logs m))
-view_at w logs t zero k m e lt = no_number _ k lt
-view_at w logs t (suc n) zero m e lt = let same : t ≡ m = omega (arith, e) in ap (λ (x : ℕ). some (task_view w x (logs x))) same
-view_at w logs t (suc n) (suc k) m e lt = view_at w logs (t + 1) n k m (omega (arith, e)) (omega (arith, lt))
-
-both_are : (x y : View) (xs ys : List View) → x ≡ y → xs ≡ ys → x ∷ xs ≡ y ∷ ys
-both_are x y xs ys h k = ap (λ (z : View). z ∷ xs) h ∙ ap (λ (zs : List View). y ∷ zs) k
-
-views_same : (w : World) (logs more : ℕ → List Item) (t n : ℕ) → ((s : ℕ) → t ≤ s → more s ≡ logs s) → task_views w logs t n ≡ task_views w more t n
-views_same w logs more t zero h = refl
-views_same w logs more t (suc n) h = both_are _ _ _ _ (ap (task_view w t) (sym (h t (omega arith)))) (views_same w logs more (t + 1) n (λ s l. h s (omega (arith, l))))
-
-views_set : (w : World) (logs more : ℕ → List Item) (t n k m : ℕ) (x : View) → t + k ≡ m → k < n → x ≡ task_view w m (more m) → ((s : ℕ) → s ≢ m → more s ≡ logs s) → set (task_views w logs t n) k x ≡ task_views w more t n
-views_set w logs more t zero k m x e lt is other = no_number _ k lt
-views_set w logs more t (suc n) zero m x e lt is other =
-    let same : m ≡ t = omega (arith, e) in
-    both_are _ _ _ _ (is ∙ ap (λ (y : ℕ). task_view w y (more y)) same) (views_same w logs more (t + 1) n (λ s l. other s (λ h. omega (arith, h, l, same))))
-views_set w logs more t (suc n) (suc k) m x e lt is other =
-    both_are _ _ _ _ (ap (task_view w t) (sym (other t (λ h. omega (arith, h, e))))) (views_set w logs more (t + 1) n k m x (omega (arith, e)) (omega (arith, lt)) is other)
-
-set_same : (l : List View) (i : ℕ) (v : View) → get_elem? l i ≡ some v → set l i v ≡ l
-set_same [] i v h = refl
-set_same (x ∷ xs) zero v h = ap (λ (y : View). y ∷ xs) (sym (some-injective x v h))
-set_same (x ∷ xs) (suc i) v h = ap (λ (ys : List View). x ∷ ys) (set_same xs i v h)
-
--- ---- cells in hand
-
-pub record HasBreakpoint (w : World) (h : Hand) : Type 0 where
-  pub session : ℕ
-  pub some_session : 0 < session
-  pub inside : h.place.0 < length w.places
-  pub over : is_over (plan_in w) session h.place.0 ≡ true
-  pub cell : h.cell ≡ planted session
-
--- a begun execution whose fetch answered the breakpoint is marked
-abbrev pub IsMarked : Entry → Type 0
-IsMarked e = (f : Fact) → is_breakpoint e.cell ≡ true → e.fact ≡ Some f → (found : FactSet) × (e.found ≡ Some found)
-
-abbrev pub AreMarked : List Item → Type 0
-AreMarked [] = Unit {0}
-AreMarked (Met e ∷ log) = IsMarked e × AreMarked log
-AreMarked (Gave p tag ∷ log) = AreMarked log
-
-abbrev pub entry_in : World → ℕ → TaskPart → Hand → Option FactSet → Entry
-entry_in w t u h found = record { place = h.place.0; cell = h.cell; fact = Some (fact_in w t u h); found = found; lifted = None }
-
-abbrev pub InHand : World → ℕ → TaskPart → List Item → Hand → Due → Type 0
-InHand w t u log h Marking = (rest : List Item) × (log ≡ Met (entry_in w t u h None) ∷ rest) × AreMarked rest × HasBreakpoint w h
-InHand w t u log h Lifting = (rest : List Item) × (found : FactSet) × (log ≡ Met (entry_in w t u h (Some found)) ∷ rest) × (is_full (kind_at (plan_in w) h.place.0) (with_fact found (fact_in w t u h)) ≡ true) × AreMarked rest × HasBreakpoint w h
-InHand w t u log h Nothing = AreMarked log
-
-abbrev pub InStage : World → ℕ → TaskPart → List Item → Stage → Type 0
-InStage w t u log (Holding h) = InHand w t u log h h.due
-InStage w t u log stage = AreMarked log
-
-due_same : (a b : Due) → same_due a b ≡ true → a ≡ b
-due_same Marking Marking h = refl
-due_same Lifting Lifting h = refl
-due_same Nothing Nothing h = refl
-due_same Marking Lifting h = let f : false ≡ true = h in absurd cc
-due_same Marking Nothing h = let f : false ≡ true = h in absurd cc
-due_same Lifting Marking h = let f : false ≡ true = h in absurd cc
-due_same Lifting Nothing h = let f : false ≡ true = h in absurd cc
-due_same Nothing Marking h = let f : false ≡ true = h in absurd cc
-due_same Nothing Lifting h = let f : false ≡ true = h in absurd cc
-
-pub held_hand : (w : World) (t : ℕ) (u : TaskPart) (log : List Item) (stage : Stage) (due : Due) (h : Hand) → InStage w t u log stage → in_hand due stage ≡ Some h → InHand w t u log h due
-held_hand w t u log stage due h is e =
-    let at = in_hand-stage due stage h e in
-    subst (λ (d : Due). InHand w t u log h d) (due_same h.due due at.1) (subst (λ (s : Stage). InStage w t u log s) at.0 is)
-
-of_window : (s : ℕ) → 0 < s → tag_session (window_tag s) ≡ s
-of_window s h = omega arith
-
-hand_of : (w : World) (h : Hand) (b : HasBreakpoint w h) → tag_session h.cell.tag ≡ b.session
-hand_of w h b = ap (λ (c : Cell). tag_session c.tag) b.cell ∙ of_window b.session b.some_session
-
--- ---- the rule, and what the events need besides
-
-pub record Ruled (w : World) (c : CoreState) (v : View) : Type 0 where
-  pub count : length c.parts.tasks ≡ length w.job.tasks
-  pub sets : length c.parts.sets ≡ length w.job.sessions * length w.places
-  pub cells : length c.parts.cells ≡ length w.places
-  pub role : v.role ≡ Root
-  pub held : Held (plan_in w) (λ p. word_at c.parts.cells p) (λ s p. set_of w c.parts s p) (v ∷ task_views w c.logs 0 (length w.job.tasks))
-  pub hands : (t : ℕ) → t < length c.parts.tasks → InStage w t (part_of c.parts t) (c.logs t) (part_of c.parts t).stage
-
-abbrev pub logs_after : World → CoreState → Parts → ℕ → Shown → ℕ → List Item
-logs_after w c d t shown s = if nat_eq t s then log_after w s (part_of d s) shown (c.logs s) else c.logs s
-
-own_log : (w : World) (c : CoreState) (d : Parts) (t : ℕ) (u : TaskPart) (shown : Shown) → d.tasks ≡ set c.parts.tasks t u → t < length c.parts.tasks → log_after w t u shown (c.logs t) ≡ logs_after w c d t shown t
-own_log w c d t u shown e lt =
-    let part : part_of d t ≡ u = ap (λ (x : List TaskPart). get_or x t no_part) e ∙ get_or-set_at c.parts.tasks t t u no_part refl lt in
-    ap (λ (x : TaskPart). log_after w t x shown (c.logs t)) (sym part) ∙ ap (λ (b : Bool). if b then log_after w t (part_of d t) shown (c.logs t) else c.logs t) (sym (itself t))
-
-other_log : (w : World) (c : CoreState) (d : Parts) (t : ℕ) (shown : Shown) (s : ℕ) → s ≢ t → logs_after w c d t shown s ≡ c.logs s
-other_log w c d t shown s h = ap (λ (b : Bool). if b then log_after w s (part_of d s) shown (c.logs s) else c.logs s) (apart t s h)
-
--- one task's event, by its view after it
-after_task : (w : World) (c : CoreState) (v : View) (d : Parts) (t : ℕ) (u : TaskPart) (shown : Shown) (x : View) → Ruled w c v → t < length c.parts.tasks → d.tasks ≡ set c.parts.tasks t u → length d.cells ≡ length w.places →
-    length d.sets ≡ length w.job.sessions * length w.places → Held (plan_in w) (λ p. word_at d.cells p) (λ s p. set_of w d s p) (set (v ∷ task_views w c.logs 0 (length w.job.tasks)) (suc t) x) →
-    x ≡ task_view w t (log_after w t u shown (c.logs t)) → InStage w t u (log_after w t u shown (c.logs t)) u.stage → Ruled w (record { parts = d; logs = logs_after w c d t shown }) v
-after_task w c v d t u shown x is lt tasks cells sets held view stage =
-    let there : t < length w.job.tasks = subst (λ (n : ℕ). t < n) is.count lt in
-    let views : set (task_views w c.logs 0 (length w.job.tasks)) t x ≡ task_views w (logs_after w c d t shown) 0 (length w.job.tasks) =
-    views_set w c.logs (logs_after w c d t shown) 0 (length w.job.tasks) t t x (omega arith) there (view ∙ ap (task_view w t) (own_log w c d t u shown tasks lt)) (other_log w c d t shown) in
-    record {
-      count = ap (λ (ts : List TaskPart). length ts) tasks ∙ (length-set c.parts.tasks t u ∙ is.count);
-      sets = sets;
-      cells = cells;
-      role = is.role;
-      held = subst (λ (vs : List View). Held (plan_in w) (λ p. word_at d.cells p) (λ s p. set_of w d s p) (v ∷ vs)) views held;
-      hands = one_log w (λ n y log. InStage w n y log y.stage) c d t u shown tasks lt stage is.hands;
-    }
+use Rattle.interleave_core.proofs.Rule.{task_role, view_at, set_same, HasBreakpoint, AreMarked, entry_in, InHand, InStage, due_same, held_hand, hand_of, Ruled, logs_after, after_task}
+use Rattle.interleave_core.proofs.Given.{rule_plant, rule_plants, rule_closes}
 
 -- ---- Fetch
 
@@ -450,136 +309,6 @@ rule_do w c v t u is lt done =
     (subst (λ (vs : List View). Held (plan_in w) (λ p. word_at c.parts.cells p) (λ s p. set_of w c.parts s p) vs) (sym (set_same views (suc t) view (view_at w c.logs 0 (length w.job.tasks) t t (omega arith) there))) is.held)
     refl
     (done_hand w t (part_of c.parts t) u (c.logs t) (part_of c.parts t).stage (is.hands t lt) done)
-
--- ---- Plant and Close
-
--- the planter's, of a whole session
-pub rule_plant : (w : World) (c : CoreState) (v : View) (s p : ℕ) (logs : ℕ → List Item) → Ruled w c v → may_plant w c.parts s p ≡ true → ((t : ℕ) → logs t ≡ c.logs t) →
-    Ruled w (record { parts = with_cell c.parts p (breakpoint_of s); logs = logs }) (planting s p v)
-rule_plant w c v s p logs is may same =
-    let at = may_by (nat_lt p (length w.places)) (nat_lt 0 s) (nat_eq (window_at (plan_in w) p) s) (nat_eq (word_at c.parts.cells p).tag 0) may in
-    let lt : p < length w.places = lt_of p (length w.places) at.0 in
-    let pos : 0 < s = lt_of 0 s at.1 in
-    let window : window_at (plan_in w) p ≡ s = eqb-true (window_at (plan_in w) p) s at.2 in
-    let zero_tag : (word_at c.parts.cells p).tag ≡ 0 = eqb-true (word_at c.parts.cells p).tag 0 at.3 in
-    let live : v.role ≢ Spent = λ e. spent_not_root (sym e ∙ is.role) in
-    let keeps : Keeps (plan_in w) v p = subst (λ (r : Role). KeepsAs (plan_in w) v p r) (sym is.role) (inl (subst (λ (n : ℕ). 0 < n) (sym window) pos)) in
-    let over : is_over (plan_in w) s p ≡ true = or_left (nat_lt 0 s && nat_eq (window_at (plan_in w) p) s) (is_controlled (plan_in w) s p) (and_both (nat_lt 0 s) (nat_eq (window_at (plan_in w) p) s) at.1 at.2) in
-    let last : last_tag p v.planted ≡ 0 = sym (is.held.ties 0 v refl p lt keeps) ∙ zero_tag in
-    let later : last_tag p v.planted < window_tag s = omega (arith, last, pos) in
-    let inside : p < length c.parts.cells = subst (λ (n : ℕ). p < n) (sym is.cells) lt in
-    let views : task_views w c.logs 0 (length w.job.tasks) ≡ task_views w logs 0 (length w.job.tasks) = views_same w c.logs logs 0 (length w.job.tasks) (λ t l. same t) in
-    record {
-      count = is.count;
-      sets = is.sets;
-      cells = length-set c.parts.cells p (breakpoint_of s) ∙ is.cells;
-      role = is.role;
-      held = subst (λ (vs : List View). Held (plan_in w) (λ q. word_at (set c.parts.cells p (breakpoint_of s)) q) (λ n q. set_of w c.parts n q) (planting s p v ∷ vs)) views
-          (plants (plan_in w) (λ q. word_at c.parts.cells q) (λ n q. set_of w c.parts n q) (v ∷ task_views w c.logs 0 (length w.job.tasks)) is.held 0 v refl live s p lt keeps pos over later
-          (λ q. word_at (set c.parts.cells p (breakpoint_of s)) q) (λ n q. set_of w c.parts n q) (get_or-set_at c.parts.cells p p (breakpoint_of s) no_cell refl inside)
-          (λ q l n. get_or-set_other c.parts.cells p q (breakpoint_of s) no_cell n) (λ n q l k. refl));
-      hands = λ t l. subst (λ (log : List Item). InStage w t (part_of c.parts t) log (part_of c.parts t).stage) (sym (same t)) (is.hands t l);
-    }
-
--- nothing is due of a cell in hand where a place of a session is
-changed_hand : (w : World) (t n p tag : ℕ) (u : TaskPart) (log : List Item) (stage : Stage) (x : PlaceChange) → change_due w t u stage ≡ Some x → InStage w t u log stage → InStage w t (record u { changed = n }) (Gave p tag ∷ log) stage
-changed_hand w t n p tag u log Ready x due is = is
-changed_hand w t n p tag u log Awaiting x due is = is
-changed_hand w t n p tag u log (Ended e) x due is = is
-changed_hand w t n p tag u log (Holding h) x due is = by h.due due is
-  where
-    by : (d : Due) → (if same_due d Nothing && (h.subject || is_none (subject_place w (step_of w t u).visits)) then option_and_then (next_place u.changed) (change_of w t u) else None) ≡ Some x →
-        InHand w t u log h d → InHand w t (record u { changed = n }) (Gave p tag ∷ log) h d
-    by Marking k has = let none : None ≡ Some x = k in absurd cc
-    by Lifting k has = let none : None ≡ Some x = k in absurd cc
-    by Nothing k has = has
-
--- a controller's, of a session that it opens or closes: the cell that it leaves, and the rule of the step
-module _ (w : World) (c : CoreState) (v : View) (closes : Bool) (s p : ℕ) (x : Stepped) (logs : ℕ → List Item) (is : Ruled w c v) (tied : AreTied w c.parts) (by : Changed w c.parts closes s p x) where
-  abbrev t : ℕ
-  t = by.task
-
-  abbrev u : TaskPart
-  u = part_of c.parts by.task
-
-  abbrev view : View
-  view = task_view w by.task (c.logs by.task)
-
-  abbrev views : List View
-  views = v ∷ task_views w c.logs 0 (length w.job.tasks)
-
-  abbrev cell : Cell
-  cell = if closes then closed_of w s p else breakpoint_of s
-
-  change_is : IsChange w c.parts.cells by.task u by.change
-  change_is = due_is w c.parts.cells by.task u u.stage by.change is.held.is_plan (tied by.task by.there) by.due
-
-  pub its : IsOwn w by.task s p
-  its = subst (λ (n : ℕ). IsOwn w by.task n p) by.session (subst (λ (q : ℕ). IsOwn w by.task by.change.session q) by.place change_is.own)
-
-  in_job : by.task < length w.job.tasks
-  in_job = subst (λ (n : ℕ). by.task < n) is.count by.there
-
-  stands : get_elem? views (suc by.task) ≡ some view
-  stands = view_at w c.logs 0 (length w.job.tasks) by.task by.task (omega arith) in_job
-
-  alive : view.role ≢ Spent
-  alive e = spent_not_task by.task (sym e ∙ task_role w by.task (c.logs by.task))
-
-  keeps_place : Keeps (plan_in w) view p
-  keeps_place = subst (λ (r : Role). KeepsAs (plan_in w) view p r) (sym (task_role w by.task (c.logs by.task))) its.controller
-
-  last_is : (word_at c.parts.cells p).tag ≡ last_tag p view.planted
-  last_is = is.held.ties (suc by.task) view stands p its.inside keeps_place
-
-  its_over : is_over (plan_in w) s p ≡ true
-  its_over = or_right (nat_lt 0 s && nat_eq (window_at (plan_in w) p) s) (is_controlled (plan_in w) s p) its.controlled
-
-  made_cells : x.parts.cells ≡ set c.parts.cells p cell
-  made_cells = ap (λ (y : Stepped). y.parts.cells) by.made
-      ∙ (ap (λ (q : ℕ). set c.parts.cells q (if by.change.closes then closed_of w by.change.session q else breakpoint_of by.change.session)) by.place
-      ∙ (ap (λ (n : ℕ). set c.parts.cells p (if by.change.closes then closed_of w n p else breakpoint_of n)) by.session
-      ∙ ap (λ (b : Bool). set c.parts.cells p (if b then closed_of w s p else breakpoint_of s)) by.closes_is))
-
-  made_sets : x.parts.sets ≡ c.parts.sets
-  made_sets = ap (λ (y : Stepped). y.parts.sets) by.made
-
-  cell_here : word_at x.parts.cells p ≡ cell
-  cell_here = ap (λ (cells : List Cell). word_at cells p) made_cells ∙ get_or-set_at c.parts.cells p p cell no_cell refl (subst (λ (n : ℕ). p < n) (sym is.cells) its.inside)
-
-  pub cell_other : (q : ℕ) → q < length w.places → q ≢ p → word_at x.parts.cells q ≡ word_at c.parts.cells q
-  cell_other q l n = ap (λ (cells : List Cell). word_at cells q) made_cells ∙ get_or-set_other c.parts.cells p q cell no_cell n
-
-  set_kept : (n q : ℕ) → q < length w.places → 0 < n → set_of w x.parts n q ≡ set_of w c.parts n q
-  set_kept n q l pos = ap (λ (sets : List FactSet). get_or sets (index_of (length w.places) n q) no_facts) made_sets
-
-  pub rule_given : (tag : ℕ) → ((r : ℕ) → logs r ≡ logs_given c.logs by.task p tag r) → Held (plan_in w) (λ q. word_at x.parts.cells q) (λ n q. set_of w x.parts n q) (set views (suc by.task) (tagging p tag view)) →
-      Ruled w (record { parts = x.parts; logs = logs }) v
-  rule_given tag given held =
-      let own_log : logs by.task ≡ Gave p tag ∷ c.logs by.task = given by.task ∙ ap (λ (b : Bool). if b then Gave p tag ∷ c.logs by.task else c.logs by.task) (itself by.task) in
-      let new : set (task_views w c.logs 0 (length w.job.tasks)) by.task (tagging p tag view) ≡ task_views w logs 0 (length w.job.tasks) =
-      views_set w c.logs logs 0 (length w.job.tasks) by.task by.task (tagging p tag view) (omega arith) in_job (ap (task_view w by.task) (sym own_log))
-          (λ r other. given r ∙ ap (λ (b : Bool). if b then Gave p tag ∷ c.logs r else c.logs r) (apart by.task r other)) in
-      record {
-        count = ap (λ (y : Stepped). length y.parts.tasks) by.made ∙ (length-set c.parts.tasks by.task _ ∙ is.count);
-        sets = ap (λ (sets : List FactSet). length sets) made_sets ∙ is.sets;
-        cells = ap (λ (cells : List Cell). length cells) made_cells ∙ (length-set c.parts.cells p cell ∙ is.cells);
-        role = is.role;
-        held = subst (λ (vs : List View). Held (plan_in w) (λ q. word_at x.parts.cells q) (λ n q. set_of w x.parts n q) (v ∷ vs)) new held;
-        hands = changed_log w (λ n y log. InStage w n y log y.stage) c closes s p tag x logs by given (changed_hand w by.task (u.changed + 1) p tag u (c.logs by.task) u.stage by.change by.due (is.hands by.task by.there)) is.hands;
-      }
-
-  pub rule_plants : closes ≡ false → ((r : ℕ) → logs r ≡ logs_given c.logs by.task p (window_tag s) r) → Ruled w (record { parts = x.parts; logs = logs }) v
-  rule_plants way given =
-      let low : (word_at c.parts.cells p).tag + 1 < 2 * s = subst (λ (n : ℕ). (word_at c.parts.cells p).tag + 1 < 2 * n) by.session (subst (λ (q : ℕ). (word_at c.parts.cells q).tag + 1 < 2 * by.change.session) by.place (change_is.lower (by.closes_is ∙ way))) in
-      rule_given (window_tag s) given (plants (plan_in w) (λ q. word_at c.parts.cells q) (λ n q. set_of w c.parts n q) views is.held (suc by.task) view stands alive s p its.inside keeps_place its.positive its_over (omega (arith, low, last_is))
-      (λ q. word_at x.parts.cells q) (λ n q. set_of w x.parts n q) (cell_here ∙ ap (λ (b : Bool). if b then closed_of w s p else breakpoint_of s) way) cell_other set_kept)
-
-  pub rule_closes : closes ≡ true → ((r : ℕ) → logs r ≡ logs_given c.logs by.task p (2 * s) r) → Ruled w (record { parts = x.parts; logs = logs }) v
-  rule_closes way given =
-      let tag : (word_at c.parts.cells p).tag + 1 ≡ 2 * s = subst (λ (n : ℕ). (word_at c.parts.cells p).tag + 1 ≡ 2 * n) by.session (subst (λ (q : ℕ). (word_at c.parts.cells q).tag + 1 ≡ 2 * by.change.session) by.place (change_is.window (by.closes_is ∙ way))) in
-      rule_given (2 * s) given (closes_step (plan_in w) (λ q. word_at c.parts.cells q) (λ n q. set_of w c.parts n q) views is.held (suc by.task) view stands alive s p its.inside keeps_place its.positive its.controlled (omega (arith, tag, last_is))
-      (λ q. word_at x.parts.cells q) (λ n q. set_of w x.parts n q) (cell_here ∙ ap (λ (b : Bool). if b then closed_of w s p else breakpoint_of s) way) cell_other set_kept)
 
 -- ---- the start
 
