@@ -63,21 +63,21 @@ moved_core w cells new_cells sets new_sets plan tasks new_tasks is cell_count se
   tied = tied;
 }
 
-running_with : (w : World) (cells : List Cell) (sets : List FactSet) (plan : PlanView) (tasks : List RunningView) (t : ℕ) (r : RunningView) → IsCore w cells sets plan tasks → t < length tasks → IsRunning w t r →
+pub running_with : (w : World) (cells : List Cell) (sets : List FactSet) (plan : PlanView) (tasks : List RunningView) (t : ℕ) (r : RunningView) → IsCore w cells sets plan tasks → t < length tasks → IsRunning w t r →
     (u : ℕ) (d : RunningView) → u < length (set tasks t r) → IsRunning w u (get_or (set tasks t r) u d)
 running_with w cells sets plan tasks t r is lt runs u d l = elim (same_or u t) [
   | inl same ↦ subst (λ (x : RunningView). IsRunning w u x) (sym (get_or-set_at tasks t u r d same lt)) (subst (λ (n : ℕ). IsRunning w n r) (sym same) runs)
   | inr other ↦ subst (λ (x : RunningView). IsRunning w u x) (sym (get_or-set_other tasks t u r d other)) (is.running u d (subst (λ n. u < n) (length-set tasks t r) l))
 ]
 
-stages_with : (w : World) (cells : List Cell) (sets : List FactSet) (plan : PlanView) (tasks : List RunningView) (t : ℕ) (r : RunningView) → IsCore w cells sets plan tasks → t < length tasks → IsStage w t r.part r.part.stage →
+pub stages_with : (w : World) (cells : List Cell) (sets : List FactSet) (plan : PlanView) (tasks : List RunningView) (t : ℕ) (r : RunningView) → IsCore w cells sets plan tasks → t < length tasks → IsStage w t r.part r.part.stage →
     (u : ℕ) (d : RunningView) → u < length (set tasks t r) → IsStage w u (get_or (set tasks t r) u d).part (get_or (set tasks t r) u d).part.stage
 stages_with w cells sets plan tasks t r is lt stage u d l = elim (same_or u t) [
   | inl same ↦ subst (λ (x : RunningView). IsStage w u x.part x.part.stage) (sym (get_or-set_at tasks t u r d same lt)) (subst (λ (n : ℕ). IsStage w n r.part r.part.stage) (sym same) stage)
   | inr other ↦ subst (λ (x : RunningView). IsStage w u x.part x.part.stage) (sym (get_or-set_other tasks t u r d other)) (is.stages u d (subst (λ n. u < n) (length-set tasks t r) l))
 ]
 
-words_with : (w : World) (cells : List Cell) (sets : List FactSet) (plan : PlanView) (tasks : List RunningView) (p : ℕ) (x : Cell) → IsCore w cells sets plan tasks → p < length cells → IsForm (plan_in w) p x →
+pub words_with : (w : World) (cells : List Cell) (sets : List FactSet) (plan : PlanView) (tasks : List RunningView) (p : ℕ) (x : Cell) → IsCore w cells sets plan tasks → p < length cells → IsForm (plan_in w) p x →
     (q : ℕ) → q < length w.places → IsForm (plan_in w) q (word_at (set cells p x) q)
 words_with w cells sets plan tasks p x is lt form q l = elim (same_or q p) [
   | inl same ↦ subst (λ (c : Cell). IsForm (plan_in w) q c) (sym (get_or-set_at cells p q x no_cell same lt)) (subst (λ (n : ℕ). IsForm (plan_in w) n x) (sym same) form)
