@@ -13,6 +13,7 @@ pub mod Ruled
 pub mod Exact
 pub mod Whole
 pub mod Nexts
+pub mod Placing
 pub mod RunningLemmas
 pub mod Runs
 pub mod Starts

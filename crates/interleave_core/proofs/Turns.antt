@@ -31,7 +31,7 @@ pub record IsListed (t : ℕ) (cs : List ControlledView) (c : ControlledView) : 
 behind : (t : ℕ) (cs : List ControlledView) (c d : ControlledView) → IsListed t cs d → IsListed t (c ∷ cs) d
 behind t cs c d is = record { number = suc is.number; there = omega (arith, is.there); same = is.same; by_task = is.by_task }
 
-by_at : (t : ℕ) (cs : List ControlledView) (n : ℕ) → n < length (controlled_by t cs) → IsListed t cs (get_or (controlled_by t cs) n no_controlled)
+pub by_at : (t : ℕ) (cs : List ControlledView) (n : ℕ) → n < length (controlled_by t cs) → IsListed t cs (get_or (controlled_by t cs) n no_controlled)
 by_at t [] n lt = absurd (omega arith)
 by_at t (c ∷ cs) n lt = by (nat_eq c.by t) refl n lt (λ m l. behind t cs c _ (by_at t cs m l))
   where

@@ -6,6 +6,7 @@ ghost use Rattle.brk_table.specs.Places.{IsIn};
 ghost use Rattle.cov_base.specs.Facts.{no_facts};
 ghost use Rattle.cov_base.specs.declared.limits.TheConstants.{SESSION_LIMIT};
 ghost use Rattle.interleave_core.specs.World.{IsWorld, first_parts};
+ghost use Rattle.interleave_core.specs.Control.{controller_of};
 ghost use Rattle.interleave_core.specs.Steps.{of_task, fetch_step, mark_step, lift_step, do_step, plant_step, close_step, whole_step, change_step, changed_cell, parts_step, set_of};
 ghost use Rattle.interleave_core.specs.Core.{core_start, Stands, FollowsAll, FollowsNone};
 ghost use Rattle.interleave_core.specs.declared.events.Event.{Event};
@@ -198,6 +199,7 @@ impl<'a> Core<'a> {
 
     /// Plants or closes the session there, where that is due of task t.
     fn change_by(&mut self, closes: bool, s: SessNo, p: PlaceNo, t: TaskNo) -> Result<Shown, NotPossible>
+        requires { controller_of self.old.world s.0 ≡ Some t.0 }
         ensures possible { IfOk result (λ shown. of_task self.old.parts t.0 (change_step self.old.world self.old.parts closes s.0 p.0 t.0) ≡ Some (record { parts = self.new.parts; shown = shown })) }
         ensures refused { OnErr result (of_task self.old.parts t.0 (change_step self.old.world self.old.parts closes s.0 p.0 t.0) ≡ None) }
         ensures kept { OnErr result (self.new ≡ self.old) }
