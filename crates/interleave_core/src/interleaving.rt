@@ -300,6 +300,7 @@ impl<'a> Core<'a> {
         ensures parts { self.new.parts ≡ go self.old.world (left self.old.world self.old.parts t.0) self.old.parts t }
         ensures ended { t.0 < length self.old.world.job.tasks → IsSome (results_of self.new.parts t.0).ending }
     {
+        self.fits();
         while let Some(event) = self.next(t) {
             let Ok(_) = self.apply(event) else {
                 unreachable!()
@@ -317,8 +318,8 @@ impl<'a> Core<'a> {
         ensures world { self.new.world ≡ self.old.world }
         ensures fits { Fits self.new.world self.new.parts }
     {
+        self.fits();
         if self.next(t).is_none() {
-            self.fits();
             return Err(NotPossible);
         }
         self.go_on(t);
