@@ -9,8 +9,9 @@ use Rattle.module_area.specs.PlanView.{ControlledView, IsPlan, IsControlled, Are
 use Rattle.module_area.specs.declared.cells.Cell.{Cell}
 use Rattle.module_area.proofs.PlanLemmas.{any_shown}
 use Rattle.s370_exec.specs.Calls.{call_of}
+use Rattle.interleave_core.proofs.ControlLemmas.{few_places}
 use Rattle.interleave_core.specs.World.{World, TaskPart, plan_in, memory_in}
-use Rattle.interleave_core.specs.Control.{Change, change, PlaceChange, place_change, controlled_by, sessions_by, asked, change_of, next_place}
+use Rattle.interleave_core.specs.Control.{controller_from, controller_of, Change, change, PlaceChange, place_change, controlled_by, sessions_by, asked, change_of, next_place}
 use Rattle.interleave_core.specs.Steps.{executes, change_due}
 use Rattle.interleave_core.specs.declared.stage.Stage.{Stage}
 use Rattle.interleave_core.specs.Views.{no_controlled, session_at, turn_number, turn_of, has_window, number_at, tag_at, IsTied}
@@ -101,6 +102,23 @@ own w t n i plan lt =
     subst (λ (c : ControlledView). IsOwn w t c.session (number_at c.places i)) (sym r.same)
     (own_at w t r.number i plan r.there r.by_task (subst (λ (c : ControlledView). i < length c.places) r.same lt))
 
+differ : (a b : ℕ) → a ≢ b → nat_eq a b ≡ false
+differ a b h = grind (arith, nat_tests)
+
+-- the task controls it
+controls : (cs : List ControlledView) (k : ℕ) → AllPairs AreApart cs → k < length cs → controller_from (get_or cs k no_controlled).session cs ≡ Some (get_or cs k no_controlled).by
+controls [] k all lt = absurd (omega arith)
+controls (c ∷ cs) zero all lt = ap (λ (b : Bool). if b then Some c.by else controller_from c.session cs) (eq-eqb c.session c.session refl)
+controls (c ∷ cs) (suc k) all lt =
+    let up : c.session < (get_or cs k no_controlled).session = (all zero (suc k) no_controlled (omega arith) lt).rising in
+    let other : nat_eq c.session (get_or cs k no_controlled).session ≡ false = differ c.session (get_or cs k no_controlled).session (λ e. omega (arith, e, up)) in
+    ap (λ (b : Bool). if b then Some c.by else controller_from (get_or cs k no_controlled).session cs) other ∙ controls cs k (tail_apart c cs all) (omega (arith, lt))
+
+pub controller : (w : World) (t n i : ℕ) → IsPlan (plan_in w) → i < length (session_at w t n).places → controller_of w (session_at w t n).session ≡ Some t
+controller w t n i plan lt =
+    let r : IsListed t (plan_in w).controlled (session_at w t n) = by_at t (plan_in w).controlled n (listed w t n i lt) in
+    ap (λ (c : ControlledView). controller_of w c.session) r.same ∙ (controls (plan_in w).controlled r.number plan.apart r.there ∙ ap Some r.by_task)
+
 -- no two places of a session are one
 pub places_differ : (w : World) (t n i j : ℕ) → IsPlan (plan_in w) → i < length (session_at w t n).places → j < length (session_at w t n).places → i ≢ j →
     number_at (session_at w t n).places i ≢ number_at (session_at w t n).places j
@@ -118,6 +136,13 @@ session_rises w t n m plan nm lt = by_rises t (plan_in w).controlled plan.apart 
 -- ---- what is due of a task's sessions
 
 -- an SVC in hand plants or closes the task's turn at the next of its places
+pub record IsNext (w : World) (t : ℕ) (u : TaskPart) (x : PlaceChange) : Type 0 where
+  pub closes : x.closes ≡ u.is_open
+  pub there : u.changed < length (turn_of w t u).places
+  pub session : x.session ≡ (turn_of w t u).session
+  pub place : x.place ≡ get_or (turn_of w t u).places u.changed (record { 0 = 0 })
+
+-- and the tag there is that of its window, or lower
 pub record IsChange (w : World) (cells : List Cell) (t : ℕ) (u : TaskPart) (x : PlaceChange) : Type 0 where
   pub closes : x.closes ≡ u.is_open
   pub there : u.changed < length (turn_of w t u).places
@@ -188,32 +213,50 @@ next_is (p ∷ ps) ch (suc done) x h = let r = next_is ps ch done x h in (omega 
 pub change_asked : (w : World) (t : ℕ) (u : TaskPart) (ch : Change) → change_of w t u ≡ Some ch → IsAsked w t u ch
 change_asked w t u ch h = let call = and_then (asked w t u) (call_of (memory_in w t) u.state) ch h in asked_is w t u call.0 ch call.2
 
-pub due_is : (w : World) (cells : List Cell) (t : ℕ) (u : TaskPart) (stage : Stage) (x : PlaceChange) → IsPlan (plan_in w) → IsTied w cells t u → change_due w t u stage ≡ Some x → IsChange w cells t u x
-due_is w cells t u stage x plan is h =
+pub due_next : (w : World) (t : ℕ) (u : TaskPart) (stage : Stage) (x : PlaceChange) → change_due w t u stage ≡ Some x → IsNext w t u x
+due_next w t u stage x h =
     let made = and_then (next_place u.changed) (change_of w t u) x (if_some (executes w t u stage) _ x h) in
     let ch : Change = made.0 in
     let ask : IsAsked w t u ch = change_asked w t u ch made.1 in
     let next = next_is ch.session.places ch u.changed x made.2 in
-    let session : x.session ≡ (turn_of w t u).session = ap (λ (y : PlaceChange). y.session) next.1 ∙ ap (λ (c : ControlledView). c.session) ask.session in
-    let place : x.place ≡ get_or (turn_of w t u).places u.changed (record { 0 = 0 }) =
-    ap (λ (y : PlaceChange). y.place) next.1 ∙ ap (λ (c : ControlledView). get_or c.places u.changed (record { 0 = 0 })) ask.session in
-    let there : u.changed < length (turn_of w t u).places = subst (λ (c : ControlledView). u.changed < length c.places) ask.session next.0 in
-    let closes : x.closes ≡ u.is_open = ap (λ (y : PlaceChange). y.closes) next.1 ∙ ask.closes in
-    let tag : (word_at cells x.place.0).tag ≡ tag_at cells (turn_of w t u).places u.changed = ap (λ (q : PlaceNo). (word_at cells q.0).tag) place in
     record {
-      closes = closes;
-      there = there;
-      session = session;
-      place = place;
-      own = subst (λ (s : ℕ). IsOwn w t s x.place.0) (sym session) (subst (λ (q : PlaceNo). IsOwn w t (turn_of w t u).session q.0) (sym place) (own w t (turn_number u) u.changed plan there));
+      closes = ap (λ (y : PlaceChange). y.closes) next.1 ∙ ask.closes;
+      there = subst (λ (c : ControlledView). u.changed < length c.places) ask.session next.0;
+      session = ap (λ (y : PlaceChange). y.session) next.1 ∙ ap (λ (c : ControlledView). c.session) ask.session;
+      place = ap (λ (y : PlaceChange). y.place) next.1 ∙ ap (λ (c : ControlledView). get_or c.places u.changed (record { 0 = 0 })) ask.session;
+    }
+
+pub due_is : (w : World) (cells : List Cell) (t : ℕ) (u : TaskPart) (stage : Stage) (x : PlaceChange) → IsPlan (plan_in w) → IsTied w cells t u → change_due w t u stage ≡ Some x → IsChange w cells t u x
+due_is w cells t u stage x plan is h =
+    let next : IsNext w t u x = due_next w t u stage x h in
+    let tag : (word_at cells x.place.0).tag ≡ tag_at cells (turn_of w t u).places u.changed = ap (λ (q : PlaceNo). (word_at cells q.0).tag) next.place in
+    record {
+      closes = next.closes;
+      there = next.there;
+      session = next.session;
+      place = next.place;
+      own = subst (λ (s : ℕ). IsOwn w t s x.place.0) (sym next.session) (subst (λ (q : PlaceNo). IsOwn w t (turn_of w t u).session q.0) (sym next.place) (own w t (turn_number u) u.changed plan next.there));
       window = λ e.
-          let is_open : u.is_open ≡ true = sym closes ∙ e in
+          let is_open : u.is_open ≡ true = sym next.closes ∙ e in
           let at : has_window u u.changed ≡ true = ap (λ (b : Bool). if b then nat_le u.changed u.changed else nat_lt u.changed u.changed) is_open ∙ le_same u.changed in
-          ap (λ (n : ℕ). n + 1) tag ∙ (is.planted u.changed there at ∙ ap (λ (n : ℕ). 2 * n) (sym session));
+          ap (λ (n : ℕ). n + 1) tag ∙ (is.planted u.changed next.there at ∙ ap (λ (n : ℕ). 2 * n) (sym next.session));
       lower = λ e.
-          let shut : u.is_open ≡ false = sym closes ∙ e in
+          let shut : u.is_open ≡ false = sym next.closes ∙ e in
           let number : turn_number u ≡ u.opened = ap (λ (b : Bool). if b then u.opened - 1 else u.opened) shut in
           let low : tag_at cells (session_at w t (turn_number u)).places u.changed + 1 < 2 * (session_at w t (turn_number u)).session =
-          is.later (turn_number u) u.changed (omega (arith, number)) ask.there (λ same shut. omega arith) there in
-          omega (arith, tag, session, low);
+          is.later (turn_number u) u.changed (omega (arith, number)) (listed w t (turn_number u) u.changed next.there) (λ same shut. omega arith) next.there in
+          omega (arith, tag, next.session, low);
     }
+
+-- it is of the session's controller
+pub due_controller : (w : World) (t : ℕ) (u : TaskPart) (stage : Stage) (x : PlaceChange) → IsPlan (plan_in w) → change_due w t u stage ≡ Some x → controller_of w x.session ≡ Some t
+due_controller w t u stage x plan h = let next : IsNext w t u x = due_next w t u stage x h in ap (controller_of w) next.session ∙ controller w t (turn_number u) u.changed plan next.there
+
+-- and one of the world's few places
+pub due_below : (w : World) (t : ℕ) (u : TaskPart) (stage : Stage) (x : PlaceChange) → IsPlan (plan_in w) → change_due w t u stage ≡ Some x → u.changed < length w.places
+due_below w t u stage x plan h =
+    let there = (due_next w t u stage x h).there in
+    let r : IsListed t (plan_in w).controlled (turn_of w t u) = by_at t (plan_in w).controlled (turn_number u) (listed w t (turn_number u) u.changed there) in
+    let few : length (turn_of w t u).places ≤ length w.places = subst (λ (c : ControlledView). length c.places ≤ length w.places) (sym r.same)
+    (few_places (plan_in w) (get_or (plan_in w).controlled r.number no_controlled) (plan.controlled r.number no_controlled r.there)) in
+    omega (arith, there, few)

@@ -24,7 +24,7 @@ use Rattle.module_area.proofs.Indices.{same_tests}
 use Rattle.module_area.proofs.PartyLemmas.{has-append, left-append, right-append}
 use Rattle.module_area.proofs.StepLemmas.{or_cases, or_left, or_right, same_fact-same}
 use Rattle.session_book.specs.JobView.{SessionView, TaskView}
-use Rattle.session_book.specs.Sessions.{session_of, no_session, no_task, observes, window_from, window_of, traces_from}
+use Rattle.session_book.specs.Sessions.{session_of, no_session, no_task, is_whole, observes, window_from, window_of, traces_from}
 use Rattle.brk_table.proofs.PlaceLemmas.{one_begins}
 use Rattle.interleave_core.specs.World.{World, IsWorld, TaskPart, Parts, part_of, plan_in, place_at}
 use Rattle.interleave_core.specs.Steps.{Stepped, parts_step, fetch_step, fetched, mark_step, marked, lift_step, lifted, do_step, done_by, may_plant, breakpoint_of, with_cell, with_due, with_stage, original_under, same_cell, in_hand, hand_at, step_of, place_due, is_awaiting, task_done, set_of, fact_in}
@@ -378,7 +378,7 @@ tasks_in w world i l = below_one _ _ (world.job.are_tasks i no_task l).phase wor
 -- the session of a window is one of the job's, whose phases are one
 window_below : (n : ℕ) (ss : List SessionView) (m : ℕ) → 0 < window_from n ss 0 m → (k : ℕ) × (k < length ss) × (window_from n ss 0 m ≡ n + k)
 window_below n [] m h = absurd (omega arith)
-window_below n (s ∷ ss) m h = by (observes 0 m s) h (λ g. window_below (n + 1) ss m g)
+window_below n (s ∷ ss) m h = by (is_whole s && observes 0 m s) h (λ g. window_below (n + 1) ss m g)
   where
     by : (b : Bool) → 0 < (if b then n else window_from (n + 1) ss 0 m) → (0 < window_from (n + 1) ss 0 m → (k : ℕ) × (k < length ss) × (window_from (n + 1) ss 0 m ≡ n + 1 + k)) → (k : ℕ) × (k < length (s ∷ ss)) × ((if b then n else window_from (n + 1) ss 0 m) ≡ n + k)
     by true g more = (0, omega arith, omega arith)

@@ -27,14 +27,15 @@ due_left Nothing = 1
 abbrev pub left_each : World → ℕ
 left_each w = 8 + length w.places
 
+-- the instructions that are left, and the places that are left to an SVC in hand
 abbrev pub left_later : World → ℕ → TaskPart → ℕ
-left_later w t u = left_each w * (budget_in w t - u.state.done)
+left_later w t u = left_each w * (budget_in w t - u.state.done) + (length w.places - u.changed)
 
--- more than the events that are left to a task, by the instructions that are left
+-- more than the events that are left to a task
 abbrev pub left_of : World → ℕ → TaskPart → Stage → ℕ
-left_of w t u Ready = if is_spent w t u.state then 1 else left_later w t u + 9 - u.changed
-left_of w t u Awaiting = left_later w t u + 5 - u.changed
-left_of w t u (Holding h) = left_later w t u + due_left h.due + (if h.subject then 1 else 5) - u.changed
+left_of w t u Ready = if is_spent w t u.state then 1 else left_later w t u + 9
+left_of w t u Awaiting = left_later w t u + 5
+left_of w t u (Holding h) = left_later w t u + due_left h.due + (if h.subject then 1 else 5)
 left_of w t u (Ended e) = 0
 
 abbrev pub left : World → Parts → ℕ → ℕ
