@@ -1,9 +1,9 @@
 -- The sessions of a plan are few, and so are each one's places.
-use Rattle.std.proofs.Common.{◌≡◌, ◌⊎◌, inl, inr, ℕ, zero, suc, ◌+◌, ◌-◌, ◌<◌, ◌≤◌, Bool, true, false, nat_eq, if◌then◌else◌, Option, Some, None, IsSome, option_map, List, [], ◌∷◌, length, get_or, slice_get, AllPairs, All, refl, sym, ◌∙◌, ap, subst, arith}
+use Rattle.std.proofs.Common.{◌≡◌, ℕ, zero, suc, ◌+◌, ◌-◌, ◌<◌, ◌≤◌, Bool, true, false, nat_eq, if◌then◌else◌, Option, Some, None, IsSome, option_map, List, [], ◌∷◌, length, get_or, slice_get, refl, sym, subst, arith}
 use Rattle.std.proofs.lemmas.Option.{slice_get_within}
-use Rattle.cov_base.specs.declared.limits.TheConstants.{SESSION_LIMIT, PLACE_LIMIT}
+use Rattle.cov_base.specs.declared.limits.TheConstants.{SESSION_LIMIT}
 use Rattle.cov_base.specs.declared.numbers.PlaceNo.{PlaceNo}
-use Rattle.module_area.specs.PlanView.{PlanView, ControlledView, IsPlan, IsControlled, AreApart}
+use Rattle.module_area.specs.PlanView.{PlanView, ControlledView, IsPlan, IsControlled}
 use Rattle.interleave_core.specs.Control.{controlled_by}
 
 -- numbers that rise from 0 on, below this one

@@ -1,21 +1,15 @@
 -- What a task that goes has made: its own events, which lead on until it has ended.
-use Rattle.std.proofs.Common.{◌≡◌, inl, inr, ℕ, zero, suc, ◌<◌, ◌≤◌, Bool, true, false, nat_eq, nat_lt, if◌then◌else◌, Option, Some, None, option_map, is_none, IsSome, IsNone, ◌↔◌, List, [], ◌∷◌, ◌++◌, length, All, refl, sym, ap, ◌∙◌, subst, arith}
+use Rattle.std.proofs.Common.{◌≡◌, inl, inr, ℕ, zero, suc, ◌<◌, true, false, Option, Some, None, option_map, is_none, IsSome, IsNone, ◌↔◌, List, [], ◌∷◌, ◌++◌, All, refl, sym, ap, ◌∙◌, subst, arith}
 use Rattle.std.proofs.lemmas.Bool.{cases_lt}
-use Rattle.std.proofs.lemmas.Bool.Decides.{nat_tests}
 use Rattle.std.proofs.lemmas.List.Elements.{All-cons}
 use Rattle.cov_base.specs.declared.numbers.TaskNo.{TaskNo}
 use Rattle.module_area.specs.PlanView.{IsPlan}
 use Rattle.interleave_core.specs.World.{World, Parts, plan_in}
-use Rattle.interleave_core.specs.Core.{CoreState, CoreStepped, core_step, core_after, core_from, go_on, is_by}
-use Rattle.interleave_core.specs.Steps.{Stepped, parts_step, place_due}
+use Rattle.interleave_core.specs.Core.{CoreState, core_step, core_after, core_from, go_on, is_by}
+use Rattle.interleave_core.specs.Steps.{Stepped, parts_step}
 use Rattle.interleave_core.specs.Results.{next_of, results_of}
 use Rattle.interleave_core.specs.Going.{Leads, HasGone, after, where_possible, next_events, left, go, go_by, go_events}
 use Rattle.interleave_core.specs.declared.events.Event.{Event}
-use Rattle.interleave_core.specs.declared.events.Event.TheVariants as event
-use Rattle.interleave_core.specs.declared.stage.Due.{Due}
-use Rattle.interleave_core.specs.declared.stage.Due.TheVariants.{Marking, Lifting, Nothing}
-use Rattle.interleave_core.specs.declared.stage.Stage.{Stage}
-use Rattle.interleave_core.specs.declared.stage.Stage.TheVariants.{Ready, Awaiting, Holding, Ended}
 use Rattle.interleave_core.proofs.Nexts.{next_by}
 use Rattle.interleave_core.proofs.Runs.{some_core, through}
 

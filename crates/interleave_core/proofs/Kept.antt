@@ -1,5 +1,5 @@
 -- What is kept of a core as one of its tasks, cells or sets changes.
-use Rattle.std.proofs.Common.{◌≡◌, ◌≢◌, ◌⊎◌, inl, inr, ℕ, ◌+◌, ◌-◌, ◌*◌, ◌/◌, ◌<◌, ◌≤◌, Bool, true, false, not, ◌&&◌, nat_eq, nat_lt, if◌then◌else◌, Option, Some, None, option_map, List, [], ◌∷◌, length, get_or, set, map, refl, sym, ◌∙◌, ap, subst, arith}
+use Rattle.std.proofs.Common.{◌≡◌, ◌≢◌, inl, inr, ℕ, ◌+◌, ◌-◌, ◌*◌, ◌/◌, ◌<◌, ◌≤◌, Bool, true, false, ◌&&◌, nat_eq, nat_lt, if◌then◌else◌, Option, Some, None, option_map, List, length, get_or, set, refl, sym, ◌∙◌, ap, subst, arith}
 use Rattle.std.proofs.lemmas.Bool.Decides.{nat_tests}
 use Rattle.std.proofs.lemmas.Grind.{get_or-set_at}
 use Rattle.std.proofs.lemmas.List.{get_or-map, get_or-set_other, length-set, length-map, map-set, get_or_default}
@@ -21,8 +21,8 @@ use Rattle.module_area.specs.Held.{IsForm, planted, lifted as lifted_cell}
 use Rattle.module_area.specs.FinalsView.{set_in, index_of}
 use Rattle.module_area.specs.PlanView.{PlanView, IsPlan, kind_at, original_at, is_over}
 use Rattle.module_area.specs.declared.cells.Cell.{Cell}
-use Rattle.interleave_core.specs.World.{World, TaskPart, Parts, plan_in, place_at, part_of, no_part}
-use Rattle.interleave_core.specs.Steps.{Stepped, of_task, with_task, with_stage, with_due, with_set, with_cell, place_due, is_spent, is_awaiting, subject_place, step_of, due_after_fetch, in_hand, same_due, fetched, fetch_step, marked, mark_step, lifted, lift_step, done_by, do_step, task_done, task_goes_on, parts_step, set_of, fact_in, original_under, same_cell, hand_at, executed, subject_executed, stage_after, awaits_or, unless_at, instruction_executed}
+use Rattle.interleave_core.specs.World.{World, TaskPart, Parts, plan_in, place_at, no_part}
+use Rattle.interleave_core.specs.Steps.{Stepped, of_task, with_task, with_stage, with_due, with_cell, place_due, is_spent, is_awaiting, subject_place, step_of, due_after_fetch, in_hand, same_due, fetched, fetch_step, marked, mark_step, lifted, lift_step, done_by, do_step, task_done, task_goes_on, parts_step, set_of, fact_in, original_under, same_cell, hand_at, executed, subject_executed, stage_after, awaits_or, unless_at, instruction_executed}
 use Rattle.interleave_core.specs.Views.{RunningView, IsRunning, IsStage, IsHand, AreTied, IsCore, parts_of}
 use Rattle.interleave_core.proofs.Changes.{goes_on}
 use Rattle.interleave_core.proofs.Runs.{same_or, in_hand-stage}
@@ -308,8 +308,8 @@ marked_core w cells sets plan tasks t r m n h g d at found facts kind went is lt
     let grown : is_within (kind_at (plan_in w) h.place.0) facts ≡ true = subst (λ (f : FactSet). is_within (kind_at (plan_in w) h.place.0) f ≡ true) (sym is_facts)
     (subst (λ (k : Kind). is_within (kind_at (plan_in w) h.place.0) (with_fact found (fact_of k went)) ≡ true) (sym is_kind) (within_fact (kind_at (plan_in w) h.place.0) found went own)) in
     let within : (s p : ℕ) → 0 < s → p < length w.places → is_within (kind_at (plan_in w) p) (set_in (length w.places) (set sets at facts) s p) ≡ true =
-        λ s p s0 p_in. subst (λ (i : ℕ). is_within (kind_at (plan_in w) p) (set_in (length w.places) (set sets i facts) s p) ≡ true) (sym index)
-        (set_within w sets (tag_session h.cell.tag) h.place.0 p s facts own0 s0 due.hand.place p_in fits grown (is.within s p s0 p_in)) in
+    λ s p s0 p_in. subst (λ (i : ℕ). is_within (kind_at (plan_in w) p) (set_in (length w.places) (set sets i facts) s p) ≡ true) (sym index)
+    (set_within w sets (tag_session h.cell.tag) h.place.0 p s facts own0 s0 due.hand.place p_in fits grown (is.within s p s0 p_in)) in
     stage_core w cells cells sets (set sets at facts) plan tasks t m n g is lt read_m e (subst (λ (x : RunningView). is_spent w t x.part.state ≡ false) same due.unspent) (due_hand w t r.part h g d due is_g)
     refl (length-set sets at facts) is.words within tied
 
@@ -357,7 +357,7 @@ lifted_core w cells cells2 sets plan tasks t r m n h g taken original is lt read
     let same : r ≡ m = same_read tasks t r m lt read_r read_m in
     let p_in : h.place.0 < length cells = subst (λ k. h.place.0 < k) (sym is.cell_count) due.hand.place in
     let out : ◌≡◌ {A = Cell} (record { tag = h.cell.tag; half = original }) (lifted_cell due.session (original_at (plan_in w) h.place.0)) =
-        ap (λ (c : Cell). record { tag = c.tag; half = original }) due.planted ∙ ap (λ (o : ℕ). record { tag = window_tag due.session; half = o }) is_original in
+    ap (λ (c : Cell). record { tag = c.tag; half = original }) due.planted ∙ ap (λ (o : ℕ). record { tag = window_tag due.session; half = o }) is_original in
     let form : IsForm (plan_in w) h.place.0 (record { tag = h.cell.tag; half = original }) = inr (due.session, due.some, due.over, inr (inl out)) in
     let both = exchanged taken w cells sets plan tasks h.place.0 (record { tag = h.cell.tag; half = original }) is p_in form in
     stage_core w cells cells2 sets sets plan tasks t m n g is lt read_m e (subst (λ (x : RunningView). is_spent w t x.part.state ≡ false) same due.unspent) (due_hand w t r.part h g Nothing due is_g)

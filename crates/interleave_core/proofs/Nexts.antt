@@ -1,6 +1,6 @@
 -- The event that is possible of a task.
 use Rattle.std.specs.Option.{option_and_then}
-use Rattle.std.proofs.Common.{◌≡◌, ◌≢◌, ◌⊎◌, inl, inr, ℕ, ◌+◌, ◌*◌, ◌<◌, Bool, true, false, not, ◌&&◌, ◌||◌, nat_eq, nat_lt, if◌then◌else◌, Option, Some, None, is_none, option_map, IfSome, List, length, refl, sym, ◌∙◌, ap, subst, arith}
+use Rattle.std.proofs.Common.{◌≡◌, inl, inr, ℕ, ◌+◌, ◌*◌, ◌<◌, Bool, true, false, not, ◌&&◌, ◌||◌, nat_eq, nat_lt, if◌then◌else◌, Option, Some, None, is_none, option_map, IfSome, length, refl, sym, ◌∙◌, ap, subst, arith}
 use Rattle.std.proofs.lemmas.Bool.Decides.{nat_tests}
 use Rattle.cov_base.specs.declared.numbers.TaskNo.{TaskNo}
 use Rattle.s370_state.specs.declared.endings.Ending.TheVariants.{Returned, Spent}
@@ -11,11 +11,11 @@ use Rattle.cov_base.specs.declared.numbers.PlaceNo.{PlaceNo as Number}
 use Rattle.cov_base.specs.declared.numbers.SessNo.{SessNo}
 use Rattle.interleave_core.specs.World.{World, TaskPart, Parts, part_of, place_at, plan_in}
 use Rattle.interleave_core.specs.Control.{PlaceChange, controller_of, change_of, next_place}
-use Rattle.interleave_core.specs.Steps.{Stepped, parts_step, of_task, task_goes_on, change_due, unless_due, may_change, changed, change_where, change_step, by_controller, whole_step, fetch_step, fetched, mark_step, marked, lift_step, lifted, do_step, done_by, task_done, ready_done, instruction_executed, subject_executed, unless_at, with_stage, place_due, subject_place, step_of, is_spent, in_hand, same_due}
+use Rattle.interleave_core.specs.Steps.{Stepped, of_task, task_goes_on, change_due, unless_due, may_change, changed, change_where, change_step, by_controller, whole_step, fetch_step, fetched, mark_step, marked, lift_step, lifted, do_step, done_by, task_done, ready_done, instruction_executed, subject_executed, unless_at, with_stage, place_due, subject_place, step_of, is_spent, in_hand, same_due}
 use Rattle.interleave_core.specs.Core.{is_by, is_task}
 use Rattle.interleave_core.specs.Results.{IsDue, stage_event, next_of, fetch_or, change_or_do, event_due}
-use Rattle.interleave_core.specs.Views.{IsStage, IsTied, turn_number}
-use Rattle.interleave_core.proofs.Changes.{goes_on, done_due, IsWholePlant, Changed, plant_cases, close_by}
+use Rattle.interleave_core.specs.Views.{IsStage, IsTied}
+use Rattle.interleave_core.proofs.Changes.{goes_on, done_due, Changed, plant_cases, close_by}
 use Rattle.interleave_core.proofs.Runs.{exists_by, in_hand-stage}
 use Rattle.interleave_core.proofs.Turns.{IsChange, due_is, due_controller}
 use Rattle.interleave_core.specs.declared.events.Event.{Event}

@@ -1,33 +1,32 @@
 -- A core as a session is planted or closed at a place.
-use Rattle.std.proofs.Common.{◌≡◌, inl, inr, ℕ, ◌+◌, ◌-◌, ◌*◌, ◌<◌, ◌≤◌, Bool, true, false, not, ◌&&◌, ◌||◌, nat_eq, nat_lt, if◌then◌else◌, Option, Some, None, is_some, List, [], length, get_or, set, map, refl, sym, ◌∙◌, ap, subst, arith, eqb-true}
+use Rattle.std.proofs.Common.{◌≡◌, inl, inr, ℕ, ◌+◌, ◌*◌, ◌<◌, ◌≤◌, Bool, true, false, not, ◌||◌, nat_eq, nat_lt, if◌then◌else◌, Option, Some, None, is_some, List, length, get_or, set, refl, sym, ◌∙◌, ap, subst, arith, eqb-true}
 use Rattle.std.specs.Option.{option_and_then}
 use Rattle.std.proofs.lemmas.Bool.Decides.{nat_tests}
-use Rattle.std.proofs.lemmas.List.{get_or-map, get_or_default, length-set, length-map}
+use Rattle.std.proofs.lemmas.List.{get_or-map, length-set, length-map}
 use Rattle.cov_base.specs.FactSet.{FactSet}
 use Rattle.cov_base.specs.declared.limits.TheConstants.{SESSION_LIMIT, PLACE_LIMIT}
 use Rattle.cov_base.specs.declared.numbers.PlaceNo.{PlaceNo}
 use Rattle.cov_base.specs.declared.numbers.SessNo.{SessNo}
 use Rattle.module_area.specs.CellWords.{word_at}
 use Rattle.module_area.specs.Held.{IsForm}
-use Rattle.module_area.specs.PlanView.{PlanView, IsPlan, IsControlled, window_at, is_over, is_controlled, original_at}
+use Rattle.module_area.specs.PlanView.{PlanView, IsPlan, IsControlled, window_at, is_over, is_controlled}
 use Rattle.module_area.specs.declared.cells.Cell.{Cell}
 use Rattle.module_area.proofs.PlanLemmas.{over_small}
 use Rattle.interleave_core.specs.World.{World, TaskPart, Parts, plan_in, part_of, no_part}
 use Rattle.interleave_core.specs.Control.{PlaceChange, controller_of}
-use Rattle.interleave_core.specs.Steps.{Stepped, of_task, with_task, with_cell, breakpoint_of, changed_cell, may_change, changed, change_where, change_step, change_due, parts_step, by_controller, whole_step}
-use Rattle.interleave_core.specs.Views.{RunningView, IsRunning, IsStage, IsCore, IsTied, AreTied, IsPlaced, parts_of, no_controlled, session_at, turn_number, turn_of}
+use Rattle.interleave_core.specs.Steps.{Stepped, of_task, with_task, breakpoint_of, changed_cell, may_change, changed, change_where, change_step, change_due, parts_step, by_controller, whole_step}
+use Rattle.interleave_core.specs.Views.{RunningView, IsRunning, IsStage, IsCore, IsTied, IsPlaced, parts_of, no_controlled, session_at, turn_number, turn_of}
 use Rattle.interleave_core.specs.declared.events.Event.{Event}
 use Rattle.interleave_core.specs.declared.events.Event.TheVariants.{Plant, Close}
-use Rattle.interleave_core.specs.declared.events.Shown.{Shown}
 use Rattle.interleave_core.specs.declared.events.Shown.TheVariants.{Planted, Closed}
 use Rattle.interleave_core.specs.declared.stage.Stage.{Stage}
 use Rattle.interleave_core.specs.declared.stage.Stage.TheVariants.{Ready, Awaiting, Holding, Ended}
 use Rattle.interleave_core.proofs.Changes.{may_by}
 use Rattle.interleave_core.proofs.ControlLemmas.{few_places}
-use Rattle.interleave_core.proofs.Kept.{moved_core, running_with, stages_with, words_with, read_running, read_stage, parts_with, of_task-read, tied_by}
+use Rattle.interleave_core.proofs.Kept.{moved_core, running_with, stages_with, words_with, read_running, read_stage, parts_with, tied_by}
 use Rattle.interleave_core.proofs.Runs.{lt_of}
 use Rattle.interleave_core.proofs.Tied.{tied_window}
-use Rattle.interleave_core.proofs.Turns.{IsListed, by_at, listed, IsOwn, IsChange, due_is}
+use Rattle.interleave_core.proofs.Turns.{IsListed, by_at, listed, IsChange, due_is}
 
 -- ---- a whole session
 
@@ -83,9 +82,9 @@ due_of w c closes s p t (Some y) there due h = by (may_change c closes s p.0 y) 
     by true e k =
         let at = may_by (if closes then y.closes else not y.closes) (nat_eq y.session s) (nat_eq y.place.0 p.0) (closes || nat_lt ((word_at c.cells p.0).tag + 1) (2 * s)) e in
         let same : y ≡ record { closes = closes; session = s; place = p } =
-            ap (λ (b : Bool). record { closes = b; session = y.session; place = y.place }) (same_way closes y.closes at.0)
-            ∙ (ap (λ (n : ℕ). record { closes = closes; session = n; place = y.place }) (eqb-true y.session s at.1)
-            ∙ ap (λ (q : PlaceNo). record { closes = closes; session = s; place = q }) (same_place y.place p (eqb-true y.place.0 p.0 at.2))) in
+        ap (λ (b : Bool). record { closes = b; session = y.session; place = y.place }) (same_way closes y.closes at.0)
+        ∙ (ap (λ (n : ℕ). record { closes = closes; session = n; place = y.place }) (eqb-true y.session s at.1)
+        ∙ ap (λ (q : PlaceNo). record { closes = closes; session = s; place = q }) (same_place y.place p (eqb-true y.place.0 p.0 at.2))) in
         record {
           there = lt_of t (length c.tasks) there;
           due = due ∙ ap Some same;
@@ -143,7 +142,7 @@ change_possible w cells sets tasks closes s p t m n x lt read some is_x e =
     let P : Parts = record { cells = cells; sets = sets; tasks = parts_of tasks } in
     let due : IsDue w P closes s p t = is_due w P closes s p t some in
     let part : n.part ≡ record (part_of P t) { changed = (part_of P t).changed + 1 } =
-        ap (λ (r : RunningView). r.part) e ∙ ap (λ (u : TaskPart). record u { changed = u.changed + 1 }) (sym (read_part tasks t m lt read)) in
+    ap (λ (r : RunningView). r.part) e ∙ ap (λ (u : TaskPart). record u { changed = u.changed + 1 }) (sym (read_part tasks t m lt read)) in
     due.step ∙ (ap (λ (c : Cell). Some (made c)) (sym is_x) ∙ ap (λ (q : Parts). Some (record { parts = q; shown = if closes then Closed else Planted })) (parts_with (set cells p.0 x) sets tasks t n (record (part_of P t) { changed = (part_of P t).changed + 1 }) part))
   where
     made : Cell → Stepped

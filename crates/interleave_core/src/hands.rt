@@ -90,5 +90,9 @@ pub(crate) fn with_due(hand: Hand, due: Due) -> Hand
 pub(crate) fn shown_of(closes: bool) -> Shown
     ensures { result ≡ (if closes then Closed else Planted) }
 {
-    if closes { Shown::Closed } else { Shown::Planted }
+    if closes {
+        Shown::Closed
+    } else {
+        Shown::Planted
+    }
 }

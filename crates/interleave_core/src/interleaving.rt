@@ -198,7 +198,13 @@ impl<'a> Core<'a> {
     }
 
     /// Plants or closes the session there, where that is due of task t.
-    fn change_by(&mut self, closes: bool, s: SessNo, p: PlaceNo, t: TaskNo) -> Result<Shown, NotPossible>
+    fn change_by(
+        &mut self,
+        closes: bool,
+        s: SessNo,
+        p: PlaceNo,
+        t: TaskNo,
+    ) -> Result<Shown, NotPossible>
         requires { controller_of self.old.world s.0 ≡ Some t.0 }
         ensures possible { IfOk result (λ shown. of_task self.old.parts t.0 (change_step self.old.world self.old.parts closes s.0 p.0 t.0) ≡ Some (record { parts = self.new.parts; shown = shown })) }
         ensures refused { OnErr result (of_task self.old.parts t.0 (change_step self.old.world self.old.parts closes s.0 p.0 t.0) ≡ None) }

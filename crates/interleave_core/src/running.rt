@@ -230,8 +230,12 @@ impl<'a> Running<'a> {
         ensures { (w : World) (t : ℕ) → w.places ≡ tables.now.places → IsRunning w t self.now → result ≡ executes w t self.now.part self.now.part.stage }
     {
         match self.stage {
-            Stage::Ready => !self.has_returned() && !self.is_spent() && place_at(tables, self.cpu.at()).is_none() && self.subject_place(tables).is_none(),
-            Stage::Holding(hand) => hand.due == Due::Nothing && (hand.subject || self.subject_place(tables).is_none()),
+            Stage::Ready => !self.has_returned()
+                && !self.is_spent()
+                && place_at(tables, self.cpu.at()).is_none()
+                && self.subject_place(tables).is_none(),
+            Stage::Holding(hand) => hand.due == Due::Nothing
+                && (hand.subject || self.subject_place(tables).is_none()),
             _ => false,
         }
     }
@@ -332,7 +336,12 @@ impl<'a> Running<'a> {
     }
 
     /// Executes the instruction in hand.
-    fn go_on(&mut self, tables: &Tables, hand: Hand, closes: Option<bool>) -> Result<(), NotPossible>
+    fn go_on(
+        &mut self,
+        tables: &Tables,
+        hand: Hand,
+        closes: Option<bool>,
+    ) -> Result<(), NotPossible>
         requires budget { self.old.part.state.done < self.old.budget }
         requires room { closes ≡ Some false → self.old.part.opened < SESSION_LIMIT }
         ensures done { (w : World) (t : ℕ) → w.places ≡ tables.now.places → IsRunning w t self.old → option_map (λ c. c.closes) (change_of w t self.old.part) ≡ closes → IfOk result (λ _. task_goes_on w t self.old.part (Holding hand) ≡ Some self.new.part) }
@@ -400,7 +409,11 @@ impl<'a> Running<'a> {
         ensures { (w : World) → plan.now ≡ plan_in w → w.places ≡ tables.now.places → IsRunning w t.0 self.now → result ≡ change_or_do t (change_due w t.0 self.now.part self.now.part.stage) }
     {
         match self.change_due(t, plan, tables) {
-            Some(x) => if x.closes { Event::Close(x.session, x.place) } else { Event::Plant(x.session, x.place) },
+            Some(x) => if x.closes {
+                Event::Close(x.session, x.place)
+            } else {
+                Event::Plant(x.session, x.place)
+            },
             None => Event::Do(t),
         }
     }

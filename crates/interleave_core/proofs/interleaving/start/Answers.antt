@@ -1,4 +1,4 @@
-use Rattle.std.proofs.Common.{rules, refl, sym, ◌∙◌, subst, ◌≡◌, ◌*◌, map, replicate, length, []}
+use Rattle.std.proofs.Common.{rules, refl, ◌∙◌, subst, ◌≡◌, ◌*◌, map, replicate, length, []}
 use Rattle.module_area.specs.PlanView.{IsPlan}
 use Rattle.cov_base.specs.Facts.{no_facts}
 use Rattle.module_area.specs.CellWords.{fresh_word}
