@@ -14,7 +14,7 @@ use Rattle.s370_exec.proofs.TraceLemmas.{solo_step-done}
 use Rattle.session_book.specs.Sessions.{task_of, no_task, first_state}
 use Rattle.interleave_core.specs.World.{World, TaskPart, Parts, part_of, no_part, memory_in, budget_in, first_parts, first_part, place_at}
 use Rattle.interleave_core.specs.Control.{PlaceChange}
-use Rattle.interleave_core.specs.Steps.{Stepped, parts_step, fetch_step, fetched, mark_step, marked, lift_step, lifted, do_step, done_by, changed, with_due, original_under, same_cell, in_hand, with_stage, step_of, is_spent, executed, stage_after, place_due, task_goes_on, task_done, subject_place, subject_executed, instruction_executed, awaits_or, unless_at, same_due}
+use Rattle.interleave_core.specs.Steps.{Stepped, parts_step, fetch_step, fetched, mark_step, marked, lift_step, lifted, do_step, done_by, changed, with_due, original_under, same_cell, in_hand, with_stage, step_of, is_spent, executed, stage_after, place_due, task_goes_on, task_done, subject_place, instruction_executed, awaits_or, unless_at, same_due}
 use Rattle.module_area.specs.CellWords.{word_at}
 use Rattle.interleave_core.specs.Core.{CoreState, CoreStepped, core_start, core_step, core_after, core_from, core_run}
 use Rattle.interleave_core.proofs.Changes.{goes_on, Changed, plant_cases, close_by}
@@ -211,7 +211,7 @@ goes_going w t u v Awaiting at h g = let n : None ≡ Some v = h in absurd cc
 goes_going w t u v (Ended e) at h g = let n : None ≡ Some v = h in absurd cc
 goes_going w t u v (Holding x) at h g = by (same_due x.due Nothing) x.subject h
   where
-    by : (nothing subject : Bool) → (if nothing then Some (if subject then subject_executed w t u else instruction_executed w t u) else None) ≡ Some v → GoesAt w t v
+    by : (nothing subject : Bool) → (if nothing then Some (if subject then executed w t u else instruction_executed w t u) else None) ≡ Some v → GoesAt w t v
     by false subject k = let n : None ≡ Some v = k in absurd cc
     by true true k = subst (λ (y : TaskPart). GoesAt w t y) (some_part _ v k) (goes_executed w t u (ap has_ended at) (g.inside (ap is_inside at)).0 (g.inside (ap is_inside at)).1 g)
     by true false k = subst (λ (y : TaskPart). GoesAt w t y) (some_part _ v k)

@@ -15,7 +15,7 @@ use Rattle.s370_state.specs.declared.endings.Next.TheVariants.{On, Ended as Next
 use Rattle.s370_exec.specs.Solo.{has_returned}
 use Rattle.s370_exec.proofs.TraceLemmas.{solo_step-done}
 use Rattle.interleave_core.specs.World.{World, TaskPart, Parts, part_of, no_part, plan_in, memory_in, budget_in, place_at}
-use Rattle.interleave_core.specs.Steps.{change_due, task_goes_on, Stepped, parts_step, of_task, with_task, with_stage, with_due, with_set, with_cell, place_due, is_spent, is_awaiting, due_after_fetch, hand_at, fetched, fetch_step, marked, mark_step, lifted, lift_step, in_hand, same_due, same_cell, original_under, step_of, subject_place, executed, stage_after, subject_executed, instruction_executed, awaits_or, unless_at, ready_done, task_done, done_by, do_step, set_of, fact_in}
+use Rattle.interleave_core.specs.Steps.{change_due, task_goes_on, Stepped, parts_step, of_task, with_task, with_stage, with_due, with_set, with_cell, place_due, is_spent, is_awaiting, due_after_fetch, hand_at, fetched, fetch_step, marked, mark_step, lifted, lift_step, in_hand, same_due, same_cell, original_under, step_of, subject_place, executed, stage_after, instruction_executed, awaits_or, unless_at, ready_done, task_done, done_by, do_step, set_of, fact_in}
 use Rattle.interleave_core.specs.Results.{next_of, stage_event}
 use Rattle.interleave_core.specs.Core.{is_by, is_task}
 use Rattle.interleave_core.specs.Control.{PlaceChange, change_of, next_place}
@@ -128,17 +128,17 @@ going_less w t u v Awaiting e = absurd cc
 going_less w t u v (Ended x) e = absurd cc
 going_less w t u v (Holding h) e = by_due h.due e
   where
-    by_subject : (b : Bool) → (if b then subject_executed w t u else instruction_executed w t u) ≡ v → left_of w t v v.stage < left_later w t u + due_left Nothing + (if b then 1 else 5)
+    by_subject : (b : Bool) → (if b then executed w t u else instruction_executed w t u) ≡ v → left_of w t v v.stage < left_later w t u + due_left Nothing + (if b then 1 else 5)
     by_subject true q = let less = executed_left w t u in rw (← q) (omega (arith, less))
     by_subject false q = let less = instruction_left w t u in rw (← q) (omega (arith, less))
 
     some_due : (d : Due) (b : Bool) (n : ℕ) → n < left_later w t u + due_left Nothing + (if b then 1 else 5) → n < left_later w t u + due_left d + (if b then 1 else 5)
     some_due d b n less = let some : 1 ≤ due_left d = due_some d in omega (arith, less, some)
 
-    by_due : (d : Due) → (if same_due d Nothing then Some (if h.subject then subject_executed w t u else instruction_executed w t u) else None) ≡ Some v → left_of w t v v.stage < left_of w t u (Holding h)
+    by_due : (d : Due) → (if same_due d Nothing then Some (if h.subject then executed w t u else instruction_executed w t u) else None) ≡ Some v → left_of w t v v.stage < left_of w t u (Holding h)
     by_due Marking q = absurd cc
     by_due Lifting q = absurd cc
-    by_due Nothing q = let same : (if h.subject then subject_executed w t u else instruction_executed w t u) ≡ v = cc in some_due h.due h.subject _ (by_subject h.subject same)
+    by_due Nothing q = let same : (if h.subject then executed w t u else instruction_executed w t u) ≡ v = cc in some_due h.due h.subject _ (by_subject h.subject same)
 
 done_less : (w : World) (t : ℕ) (u v : TaskPart) (s : Stage) → task_done w t u s ≡ Some v → left_of w t v v.stage < left_of w t u s
 done_less w t u v s e = going_less w t u v s (goes_on w t u v s e)

@@ -22,7 +22,7 @@ use Rattle.module_area.specs.FinalsView.{set_in, index_of}
 use Rattle.module_area.specs.PlanView.{PlanView, IsPlan, kind_at, original_at, is_over}
 use Rattle.module_area.specs.declared.cells.Cell.{Cell}
 use Rattle.interleave_core.specs.World.{World, TaskPart, Parts, plan_in, place_at, no_part}
-use Rattle.interleave_core.specs.Steps.{Stepped, of_task, with_task, with_stage, with_due, with_cell, place_due, is_spent, is_awaiting, subject_place, step_of, due_after_fetch, in_hand, same_due, fetched, fetch_step, marked, mark_step, lifted, lift_step, done_by, do_step, task_done, task_goes_on, parts_step, set_of, fact_in, original_under, same_cell, hand_at, executed, subject_executed, stage_after, awaits_or, unless_at, instruction_executed}
+use Rattle.interleave_core.specs.Steps.{Stepped, of_task, with_task, with_stage, with_due, with_cell, place_due, is_spent, is_awaiting, subject_place, step_of, due_after_fetch, in_hand, same_due, fetched, fetch_step, marked, mark_step, lifted, lift_step, done_by, do_step, task_done, task_goes_on, parts_step, set_of, fact_in, original_under, same_cell, hand_at, executed, stage_after, awaits_or, unless_at, instruction_executed}
 use Rattle.interleave_core.specs.Views.{RunningView, IsRunning, IsStage, IsHand, AreTied, IsCore, parts_of}
 use Rattle.interleave_core.proofs.Changes.{goes_on}
 use Rattle.interleave_core.proofs.Runs.{same_or, in_hand-stage}
@@ -425,7 +425,7 @@ goes_stage w t u v Awaiting is h = let n : None ≡ Some v = h in absurd cc
 goes_stage w t u v (Ended e) is h = let n : None ≡ Some v = h in absurd cc
 goes_stage w t u v (Holding g) is h = by (same_due g.due Nothing) g.subject h
   where
-    by : (nothing subject : Bool) → (if nothing then Some (if subject then subject_executed w t u else instruction_executed w t u) else None) ≡ Some v → IsStage w t v v.stage
+    by : (nothing subject : Bool) → (if nothing then Some (if subject then executed w t u else instruction_executed w t u) else None) ≡ Some v → IsStage w t v v.stage
     by false subject k = let n : None ≡ Some v = k in absurd cc
     by true true k = subst (λ (x : TaskPart). IsStage w t x x.stage) (some_of _ v k) (executed_stage w t (executed w t u) (step_of w t u).next)
     by true false k = subst (λ (x : TaskPart). IsStage w t x x.stage) (some_of _ v k) (instruction_stage w t u is.0)

@@ -22,7 +22,7 @@ use Rattle.s370_exec.specs.Solo.{has_returned}
 use Rattle.module_area.specs.declared.cells.Cell.{Cell}
 use Rattle.s370_exec.proofs.StepLemmas.{solo_step-rest_refused, solo_step-unread, solo_step-read, solo_step-ex}
 use Rattle.interleave_core.specs.World.{World, IsWorld, TaskPart, Parts, part_of, memory_in, budget_in, place_at, place_from, no_part, first_part}
-use Rattle.interleave_core.specs.Steps.{Stepped, parts_step, fetch_step, fetched, mark_step, marked, lift_step, lifted, do_step, done_by, with_due, original_under, same_cell, in_hand, subject_place, step_of, place_due, is_awaiting, is_spent, executed, stage_after, awaits_or, with_stage, unless_at, instruction_executed, subject_executed, task_goes_on, task_done, same_due, hand_at, set_of}
+use Rattle.interleave_core.specs.Steps.{Stepped, parts_step, fetch_step, fetched, mark_step, marked, lift_step, lifted, do_step, done_by, with_due, original_under, same_cell, in_hand, subject_place, step_of, place_due, is_awaiting, is_spent, executed, stage_after, awaits_or, with_stage, unless_at, instruction_executed, task_goes_on, task_done, same_due, hand_at, set_of}
 use Rattle.interleave_core.specs.Entries.{Item, Met, Gave}
 use Rattle.interleave_core.specs.Core.{CoreState, CoreStepped, core_start, core_step, core_after, core_from, core_run, log_after}
 use Rattle.interleave_core.specs.Alone.{alone}
@@ -213,7 +213,7 @@ log_going w t u v Awaiting log at h g e = let n : None ≡ Some v = h in absurd 
 log_going w t u v (Ended x) log at h g e = let n : None ≡ Some v = h in absurd cc
 log_going w t u v (Holding x) log at h g e = by (same_due x.due Nothing) x.subject h e
   where
-    by : (nothing subject : Bool) → (if nothing then Some (if subject then subject_executed w t u else instruction_executed w t u) else None) ≡ Some v →
+    by : (nothing subject : Bool) → (if nothing then Some (if subject then executed w t u else instruction_executed w t u) else None) ≡ Some v →
         logged log ≡ noted w (trace_of w t u ++ (if subject then visits_of w t u else first_visit (visits_of w t u))) → HasLog w t v log
     by false subject k f = let n : None ≡ Some v = k in absurd cc
     by true true k f = subst (λ (y : TaskPart). HasLog w t y log) (some_part _ v k)

@@ -11,7 +11,7 @@ use Rattle.cov_base.specs.declared.numbers.PlaceNo.{PlaceNo as Number}
 use Rattle.cov_base.specs.declared.numbers.SessNo.{SessNo}
 use Rattle.interleave_core.specs.World.{World, TaskPart, Parts, part_of, place_at, plan_in}
 use Rattle.interleave_core.specs.Control.{PlaceChange, controller_of, change_of, next_place}
-use Rattle.interleave_core.specs.Steps.{Stepped, of_task, task_goes_on, change_due, unless_due, may_change, changed, change_where, change_step, by_controller, whole_step, fetch_step, fetched, mark_step, marked, lift_step, lifted, do_step, done_by, task_done, ready_done, instruction_executed, subject_executed, unless_at, with_stage, place_due, subject_place, step_of, is_spent, in_hand, same_due}
+use Rattle.interleave_core.specs.Steps.{Stepped, of_task, task_goes_on, change_due, unless_due, may_change, changed, change_where, change_step, by_controller, whole_step, fetch_step, fetched, mark_step, marked, lift_step, lifted, do_step, done_by, task_done, ready_done, instruction_executed, executed, unless_at, with_stage, place_due, subject_place, step_of, is_spent, in_hand, same_due}
 use Rattle.interleave_core.specs.Core.{is_by, is_task}
 use Rattle.interleave_core.specs.Results.{IsDue, stage_event, next_of, fetch_or, change_or_do, event_due}
 use Rattle.interleave_core.specs.Views.{IsStage, IsTied}
@@ -128,7 +128,7 @@ possible_at w c t Awaiting plan tied there e is = by (subject_place w (step_of w
 possible_at w c t (Holding h) plan tied there e is = by h.due refl
   where
     whole : TaskPart
-    whole = if h.subject then subject_executed w t.0 (part_of c t.0) else instruction_executed w t.0 (part_of c t.0)
+    whole = if h.subject then executed w t.0 (part_of c t.0) else instruction_executed w t.0 (part_of c t.0)
 
     by : (d : Due) → h.due ≡ d → IsDue w c t.0 (event_due t (change_due w t.0 (part_of c t.0) (Holding h)) d)
     by Marking s = due_mark w c t h there (ap (in_hand Marking) e ∙ ap (λ (d : Due). if same_due d Marking then Some h else None) s)
@@ -185,7 +185,7 @@ going_only w t u Awaiting v h = let n : None ≡ Some v = h in absurd cc
 going_only w t u (Ended e) v h = let n : None ≡ Some v = h in absurd cc
 going_only w t u (Holding g) v h = by (same_due g.due Nothing) refl h
   where
-    by : (b : Bool) → same_due g.due Nothing ≡ b → (if b then Some (if g.subject then subject_executed w t.0 u else instruction_executed w t.0 u) else None) ≡ Some v →
+    by : (b : Bool) → same_due g.due Nothing ≡ b → (if b then Some (if g.subject then executed w t.0 u else instruction_executed w t.0 u) else None) ≡ Some v →
         Some (event_due t (change_due w t.0 u (Holding g)) g.due) ≡ Some (change_or_do t (change_due w t.0 u (Holding g)))
     by true s k = ap Some (held_only Nothing g.due t (change_due w t.0 u (Holding g)) s)
     by false s k = let n : None ≡ Some v = k in absurd cc
@@ -208,7 +208,7 @@ executes_on w t u (Ended e) x h = let n : None ≡ Some x = h in absurd cc
 executes_on w t u (Holding g) x h = by (same_due g.due Nothing) (g.subject || is_none (subject_place w (step_of w t.0 u).visits)) h
   where
     by : (nothing b : Bool) → (if nothing && b then option_and_then (next_place u.changed) (change_of w t.0 u) else None) ≡ Some x →
-        (v : TaskPart) × ((if nothing then Some (if g.subject then subject_executed w t.0 u else instruction_executed w t.0 u) else None) ≡ Some v)
+        (v : TaskPart) × ((if nothing then Some (if g.subject then executed w t.0 u else instruction_executed w t.0 u) else None) ≡ Some v)
     by true b k = (_, refl)
     by false b k = let n : None ≡ Some x = k in absurd cc
 

@@ -31,7 +31,7 @@ use Rattle.module_area.proofs.PartyLemmas.{here-add_if}
 use Rattle.module_area.proofs.StepLemmas.{breakpoint_form, fetches, marks, lifts, spent_not_task}
 use Rattle.session_book.specs.Sessions.{no_task}
 use Rattle.interleave_core.specs.World.{World, IsWorld, TaskPart, Parts, part_of, plan_in, place_at, first_parts, first_part, no_part}
-use Rattle.interleave_core.specs.Steps.{task_goes_on, Stepped, parts_step, fetch_step, fetched, mark_step, marked, lift_step, lifted, do_step, done_by, with_cell, with_due, with_stage, original_under, same_cell, same_due, in_hand, hand_at, subject_place, step_of, place_due, is_awaiting, is_spent, executed, stage_after, awaits_or, unless_at, instruction_executed, subject_executed, task_done, set_of, fact_in}
+use Rattle.interleave_core.specs.Steps.{task_goes_on, Stepped, parts_step, fetch_step, fetched, mark_step, marked, lift_step, lifted, do_step, done_by, with_cell, with_due, with_stage, original_under, same_cell, same_due, in_hand, hand_at, subject_place, step_of, place_due, is_awaiting, is_spent, executed, stage_after, awaits_or, unless_at, instruction_executed, task_done, set_of, fact_in}
 use Rattle.interleave_core.specs.Core.{CoreState, core_start, core_step, core_after, core_from, core_run, log_after, entry_of}
 use Rattle.interleave_core.specs.Entries.{Entry, Item, Met}
 use Rattle.interleave_core.specs.Parties.{task_view, task_views, numbers, first_planter, planted_by, planter_from, KeepRule}
@@ -291,7 +291,7 @@ going_hand w t u v log Awaiting is h = let n : None ≡ Some v = h in absurd cc
 going_hand w t u v log (Ended e) is h = let n : None ≡ Some v = h in absurd cc
 going_hand w t u v log (Holding g) is h = by (same_due g.due Nothing) refl g.subject h
   where
-    by : (nothing : Bool) → same_due g.due Nothing ≡ nothing → (subject : Bool) → (if nothing then Some (if subject then subject_executed w t u else instruction_executed w t u) else None) ≡ Some v → InStage w t v log v.stage
+    by : (nothing : Bool) → same_due g.due Nothing ≡ nothing → (subject : Bool) → (if nothing then Some (if subject then executed w t u else instruction_executed w t u) else None) ≡ Some v → InStage w t v log v.stage
     by false e subject k = let n : None ≡ Some v = k in absurd cc
     by true e true k = subst (λ (x : TaskPart). InStage w t x log x.stage) (some_part _ v k) (executed_hand w t (executed w t u) log (step_of w t u).next (subst (λ (d : Due). InHand w t u log g d) (due_same g.due Nothing e) is))
     by true e false k = subst (λ (x : TaskPart). InStage w t x log x.stage) (some_part _ v k) (awaits_hand w t u log (subject_place w (step_of w t u).visits) (subst (λ (d : Due). InHand w t u log g d) (due_same g.due Nothing e) is))

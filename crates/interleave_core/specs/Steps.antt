@@ -145,11 +145,7 @@ stage_after (NextEnded e) = Ended e
 abbrev pub executed : World → ℕ → TaskPart → TaskPart
 executed w t u = record (after_change (change_of w t u) u) { state = (step_of w t u).state; stage = stage_after (step_of w t u).next }
 
--- the instruction is executed whole, or from its subject on
-abbrev pub subject_executed : World → ℕ → TaskPart → TaskPart
-subject_executed w t u = executed w t u
-
--- or the EX that it is, up to its subject, where a place begins there
+-- the EX that it is, up to its subject, where a place begins there, or the instruction whole
 abbrev pub awaits_or : TaskPart → TaskPart → Option ℕ → TaskPart
 awaits_or u whole None = whole
 awaits_or u whole (Some p) = with_stage u Awaiting
@@ -171,7 +167,7 @@ ready_done w t u =
 -- the task after a Do, where none of Fetch, Mark and Lift is possible
 abbrev pub task_goes_on : World → ℕ → TaskPart → Stage → Option TaskPart
 task_goes_on w t u Ready = ready_done w t u
-task_goes_on w t u (Holding h) = if same_due h.due Nothing then Some (if h.subject then subject_executed w t u else instruction_executed w t u) else None
+task_goes_on w t u (Holding h) = if same_due h.due Nothing then Some (if h.subject then executed w t u else instruction_executed w t u) else None
 task_goes_on w t u stage = None
 
 -- whether that Do executes the instruction that the task is at
