@@ -1,6 +1,6 @@
 -- A job as far as its cards were read: a session has its controller's name until the whole job is known.
-use Rattle.std.specs.Prelude.{ℕ, Bool, true, ◌&&◌, nat_eq, Option, Some, None, is_some, List, map, option_and_then, position}
-use Rattle.std.specs.List.{list_all}
+use Rattle.std.specs.Prelude.{ℕ, Bool, true, ◌&&◌, nat_eq, Option, Some, None, List, map, option_and_then, position}
+use Rattle.std.specs.List.{list_any, list_all}
 use Rattle.std.specs.Str.{bytes_eq}
 use Rattle.cov_base.specs.Memory.{ImageView}
 use Rattle.session_book.specs.JobView.{JobView, SessionView, TaskView}
@@ -32,12 +32,15 @@ abbrev pub asked : Bool → Controllers
 asked true = Present
 asked b = Barred
 
--- the task of the phase that has this name
+-- the task is the one of the phase that has this name
+abbrev pub is_controller : ℕ → List ℕ → TaskView → Bool
+is_controller phase name t = bytes_eq t.name name && nat_eq t.phase phase
+
 abbrev pub controller_of : List TaskView → ℕ → List ℕ → Option ℕ
-controller_of tasks phase name = position (λ t. bytes_eq t.name name && nat_eq t.phase phase) tasks
+controller_of tasks phase name = position (is_controller phase name) tasks
 
 abbrev pub is_met_by : List TaskView → ℕ → Option (List ℕ) → Bool
-is_met_by tasks phase (Some name) = is_some (controller_of tasks phase name)
+is_met_by tasks phase (Some name) = list_any (is_controller phase name) tasks
 is_met_by tasks phase None = true
 
 abbrev pub is_met : List TaskView → SessionDraft → Bool

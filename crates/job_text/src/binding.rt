@@ -1,7 +1,6 @@
 //! The tasks that control sessions.
-ghost use Rattle.std.specs.Prelude.{◌≡◌, ℕ, ◌+◌, ◌<◌, ◌≤◌, ◌&&◌, IfOk, IfSome, length, map, nat_eq, option_and_then};
-ghost use Rattle.std.specs.List.{list_all};
-ghost use Rattle.std.specs.Str.{bytes_eq};
+ghost use Rattle.std.specs.Prelude.{◌≡◌, ℕ, ◌+◌, ◌<◌, ◌≤◌, IfOk, IfSome, length, map, option_and_then};
+ghost use Rattle.std.specs.List.{list_any, list_all};
 ghost use Rattle.cov_base.specs.declared.limits.TheConstants.{TASK_LIMIT};
 ghost use Rattle.job_text.specs.Drafts as drafts;
 
@@ -11,7 +10,7 @@ use session_book::{Session, TaskCard};
 use std::alloc::Global;
 
 fn is_controller(task: &TaskCard, phase: u32, name: &Name) -> bool
-    ensures { result ≡ (bytes_eq task.now.name name.now && nat_eq task.now.phase phase) }
+    ensures { result ≡ drafts.is_controller phase name.now task.now }
 {
     task.name == *name && task.phase == phase
 }
@@ -26,12 +25,18 @@ fn controller_of(tasks: &[TaskCard], phase: u32, name: &Name) -> Option<usize>
         .position(|task| is_controller(task, phase, name))
 }
 
+fn has_controller(tasks: &[TaskCard], phase: u32, name: &Name) -> bool
+    ensures { result ≡ list_any (drafts.is_controller phase name.now) tasks.now }
+{
+    tasks.iter().any(|task| is_controller(task, phase, name))
+}
+
 fn is_met(tasks: &[TaskCard], session: &SessionDraft) -> bool
     ensures { result ≡ drafts.is_met tasks.now session.now }
 {
     match session.by {
         None => true,
-        Some(name) => controller_of(tasks, session.phase, &name).is_some(),
+        Some(name) => has_controller(tasks, session.phase, &name),
     }
 }
 

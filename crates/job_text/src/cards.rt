@@ -73,11 +73,10 @@ fn controlled_card(
 ) -> Result<Option<Card>, AllocError>
     ensures { IfOk result (λ o. option_map view o ≡ spell.controlled_card name.now (map (λ w. w.now) words.now)) }
 {
-    match words {
-        [] => Ok(None),
-        [_] => Ok(None),
-        [task, modules @ ..] => controlled_session(alloc, name, task, modules),
+    if words.len() < 2 {
+        return Ok(None);
     }
+    controlled_session(alloc, name, words[0], &words[1..])
 }
 
 /// The card of the words behind SESSION and a name.

@@ -65,25 +65,25 @@ fn has_index(used: &[u32], m: u32) -> bool
     used.iter().any(|u| m == *u)
 }
 
-fn is_same_controller(a: Option<Name>, b: Option<Name>) -> bool
-    ensures { result ≡ adding.is_same_controller a b }
+fn is_same_controller(a: &Option<Name>, b: &Option<Name>) -> bool
+    ensures { result ≡ adding.is_same_controller a.now b.now }
 {
     match (a, b) {
-        (Some(a), Some(b)) => a == b,
+        (Some(a), Some(b)) => *a == *b,
         _ => false,
     }
 }
 
-fn bars(session: &SessionDraft, phase: u32, by: Option<Name>, m: u32) -> bool
-    ensures { result ≡ adding.bars phase by m session.now }
+fn bars(session: &SessionDraft, phase: u32, by: &Option<Name>, m: u32) -> bool
+    ensures { result ≡ adding.bars phase by.now m session.now }
 {
     session.phase == phase
-        && !is_same_controller(session.by, by)
+        && !is_same_controller(&session.by, by)
         && has_index(&session.modules, m)
 }
 
-fn is_barred(job: &Draft, phase: u32, by: Option<Name>, m: u32) -> bool
-    ensures { result ≡ list_any (adding.bars phase by m) job.now.sessions }
+fn is_barred(job: &Draft, phase: u32, by: &Option<Name>, m: u32) -> bool
+    ensures { result ≡ list_any (adding.bars phase by.now m) job.now.sessions }
 {
     job.sessions
         .iter()
@@ -98,9 +98,9 @@ fn this_phase(job: &Draft) -> u32
     if count == 0 { 0 } else { count - 1 }
 }
 
-fn is_free(job: &Draft, by: Option<Name>, used: &[u32], m: u32) -> bool
+fn is_free(job: &Draft, by: &Option<Name>, used: &[u32], m: u32) -> bool
     requires { length job.now.phases ≤ PHASE_LIMIT }
-    ensures { result ≡ adding.is_free job.now by used.now m }
+    ensures { result ≡ adding.is_free job.now by.now used.now m }
 {
     !has_index(used, m) && !is_barred(job, this_phase(job), by, m)
 }
@@ -108,13 +108,13 @@ fn is_free(job: &Draft, by: Option<Name>, used: &[u32], m: u32) -> bool
 /// The modules behind these, with the one of this name; none where it may not come.
 fn put_index(
     job: &Draft,
-    by: Option<Name>,
+    by: &Option<Name>,
     mut used: Vec<u32>,
     name: &Name,
 ) -> Result<Option<Vec<u32>>, NoMemory>
     requires modules { length job.now.images ≤ MODULE_LIMIT }
     requires phases { length job.now.phases ≤ PHASE_LIMIT }
-    ensures { IfOk result (λ o. adding.put_index job.now by used.items (adding.index_of job.now name.now) ≡ option_map (λ v. v.items) o) }
+    ensures { IfOk result (λ o. adding.put_index job.now by.now used.items (adding.index_of job.now name.now) ≡ option_map (λ v. v.items) o) }
 {
     match index_of(job, name) {
         None => Ok(None),
@@ -132,12 +132,12 @@ fn put_index(
 fn indices(
     alloc: Global,
     job: &Draft,
-    by: Option<Name>,
+    by: &Option<Name>,
     names: &[Name],
 ) -> Result<Option<Vec<u32>>, NoMemory>
     requires modules { length job.now.images ≤ MODULE_LIMIT }
     requires phases { length job.now.phases ≤ PHASE_LIMIT }
-    ensures { IfOk result (λ o. adding.indices_on job.now by (Some []) names.now ≡ option_map (λ v. v.items) o) }
+    ensures { IfOk result (λ o. adding.indices_on job.now by.now (Some []) names.now ≡ option_map (λ v. v.items) o) }
 {
     let mut used = Vec::new(alloc);
     for name in names {
@@ -182,12 +182,12 @@ pub(crate) fn with_phase(mut job: Draft, name: Name) -> Result<Option<Draft>, No
 }
 
 /// Whether a session may have this controller, where `controlled` says that sessions may have one.
-fn may_have(job: &Draft, controlled: bool, by: Option<Name>) -> bool
-    ensures { result ≡ adding.may_have (asked controlled) job.now by }
+fn may_have(job: &Draft, controlled: bool, by: &Option<Name>) -> bool
+    ensures { result ≡ adding.may_have (asked controlled) job.now by.now }
 {
     match by {
         None => true,
-        Some(task) => controlled && !has_task(job, &task),
+        Some(task) => controlled && !has_task(job, task),
     }
 }
 
@@ -205,10 +205,10 @@ pub(crate) fn with_session(
     requires phases { length job.phases ≤ PHASE_LIMIT }
     ensures { IfOk result (λ o. o ≡ adding.with_session (asked controlled) job name by names.now) }
 {
-    if has_session(&job, &name) || !may_have(&job, controlled, by) {
+    if has_session(&job, &name) || !may_have(&job, controlled, &by) {
         return Ok(None);
     }
-    match indices(alloc, &job, by, names)? {
+    match indices(alloc, &job, &by, names)? {
         None => Ok(None),
         Some(modules) => {
             let phase = this_phase(&job);

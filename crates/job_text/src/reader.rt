@@ -116,9 +116,10 @@ impl JobReader {
         ensures fault { (bytes : List ℕ) → IsFed bytes self → IfErr result (IsRefusal (asked self.by) (lines_of bytes)) }
         ensures same { (e : JobFault) → told self ≡ Some e → result ≡ Err e }
     {
-        match self.stage {
+        let JobReader { by, stage } = self;
+        match stage {
             Stage::Failed(fault) => Err(fault),
-            Stage::Reading(pieces) => pieces.finish(alloc, self.by),
+            Stage::Reading(pieces) => pieces.finish(alloc, by),
         }
     }
 }
