@@ -66,11 +66,7 @@ fn controlled_session(
 }
 
 /// The card of the words behind BY.
-fn controlled_card(
-    alloc: Global,
-    name: &[u8],
-    words: &[&[u8]],
-) -> Result<Option<Card>, AllocError>
+fn controlled_card(alloc: Global, name: &[u8], words: &[&[u8]]) -> Result<Option<Card>, AllocError>
     ensures { IfOk result (λ o. option_map view o ≡ spell.controlled_card name.now (map (λ w. w.now) words.now)) }
 {
     if words.len() < 2 {

@@ -77,9 +77,7 @@ fn is_same_controller(a: &Option<Name>, b: &Option<Name>) -> bool
 fn bars(session: &SessionDraft, phase: u32, by: &Option<Name>, m: u32) -> bool
     ensures { result ≡ adding.bars phase by.now m session.now }
 {
-    session.phase == phase
-        && !is_same_controller(&session.by, by)
-        && has_index(&session.modules, m)
+    session.phase == phase && !is_same_controller(&session.by, by) && has_index(&session.modules, m)
 }
 
 fn is_barred(job: &Draft, phase: u32, by: &Option<Name>, m: u32) -> bool

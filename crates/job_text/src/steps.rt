@@ -210,12 +210,7 @@ impl LineReader {
         }
     }
 
-    fn card(
-        self,
-        alloc: Global,
-        controlled: bool,
-        card: Card,
-    ) -> Result<LineReader, LineRefused>
+    fn card(self, alloc: Global, controlled: bool, card: Card) -> Result<LineReader, LineRefused>
         ensures ok { IfOk result (λ r. machine.take_card (asked controlled) self (view card) ≡ Some (machine.plain r)) }
         ensures err { IfErr result (machine.Refuses (machine.take_card (asked controlled) self (view card))) }
     {

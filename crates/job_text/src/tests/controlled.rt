@@ -60,11 +60,7 @@ static RULES: [(&[u8], u32, u32); 20] = [
         9,
     ),
     // a module twice, an unknown one, and none
-    (
-        b"SESSION S BY T M M\nTASK T 000000 0 1 0\nENDJOB\n",
-        9,
-        9,
-    ),
+    (b"SESSION S BY T M M\nTASK T 000000 0 1 0\nENDJOB\n", 9, 9),
     (b"SESSION S BY T X\nTASK T 000000 0 1 0\nENDJOB\n", 9, 9),
     (b"SESSION S BY T\nTASK T 000000 0 1 0\nENDJOB\n", 9, 9),
     // a controller of an earlier phase, of a later one, and of none
@@ -83,11 +79,7 @@ static RULES: [(&[u8], u32, u32); 20] = [
     (b"SESSION S BY T M\n", 10, 9),
     (b"SESSION S BY T M\nTASK T 000000 0 1 0\n", 11, 9),
     // a controlled session behind the tasks, and a session twice
-    (
-        b"TASK T 000000 0 1 0\nSESSION S BY T M\nENDJOB\n",
-        10,
-        10,
-    ),
+    (b"TASK T 000000 0 1 0\nSESSION S BY T M\nENDJOB\n", 10, 10),
     (
         b"SESSION S BY T M\nSESSION S BY T N\nTASK T 000000 0 1 0\nENDJOB\n",
         10,
@@ -105,11 +97,7 @@ static RULES: [(&[u8], u32, u32); 20] = [
 static WORDS: [(&[u8], u32, u32); 13] = [
     (b"SESSION S BY BY M\nTASK BY 000000 0 1 0\nENDJOB\n", 0, 9),
     (b"SESSION S BY T BY\nTASK T 000000 0 1 0\nENDJOB\n", 0, 9),
-    (
-        b"SESSION S BY T M BY\nTASK T 000000 0 1 0\nENDJOB\n",
-        0,
-        9,
-    ),
+    (b"SESSION S BY T M BY\nTASK T 000000 0 1 0\nENDJOB\n", 0, 9),
     (b"SESSION BY BY T M\nTASK T 000000 0 1 0\nENDJOB\n", 0, 9),
     (b"SESSION S M BY\nENDJOB\n", 0, 0),
     (b"SESSION BY M\nENDJOB\n", 0, 0),
