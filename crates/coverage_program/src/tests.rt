@@ -1,5 +1,6 @@
 //! Jobs through `cover`, from the bytes in to the bytes out, over memory and over areas that threads share.
 mod cases;
+mod controllers;
 mod faults;
 mod gates;
 mod jobs;
@@ -8,6 +9,7 @@ mod marks;
 mod modules;
 mod notation;
 mod noted;
+mod opened;
 mod order;
 mod places;
 mod programs;
