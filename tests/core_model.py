@@ -11,6 +11,7 @@ from jobs import Result, listing_of
 
 PLANTED = "0AFF"
 RETURN = 0xFFFFFE
+EVENTS = ("FETCH", "MARK", "LIFT", "PLANT", "CLOSE", "DO")
 MARKS = {"": "^", "R": ":", "W": ">", "S": "V", "WS": "&"}
 OPERATIONS = {0x41: "LA", 0x18: "LR", 0x47: "BC", 0x07: "BCR", 0x46: "BCT", 0x06: "BCTR", 0x0A: "SVC", 0x44: "EX"}
 
@@ -302,9 +303,10 @@ class Core:
         task = self.tasks[name]
         if key == "GO":
             while task.ending is None:
-                self.play(next(it for it in ("FETCH", "MARK", "LIFT", "PLANT", "CLOSE", "DO") if self.is_possible(it, name)), name)
+                self.play(next(it for it in EVENTS if self.is_possible(it, name)), name)
             return ""
-        return {"FETCH": self.fetch, "MARK": self.mark, "LIFT": self.lift, "PLANT": self.put, "CLOSE": self.put, "DO": self.execute}[key](task)
+        makes = (self.fetch, self.mark, self.lift, self.put, self.put, self.execute)
+        return dict(zip(EVENTS, makes))[key](task)
 
     def fetch(self, task: Task) -> str:
         place = self.to_fetch(task)

@@ -3,14 +3,14 @@ from __future__ import annotations
 
 import random
 
-from core_model import Core, Module, Session, Task
+from core_model import EVENTS, Core, Module, Session, Task
 from harness import PROGRAM, difference, run
 
 # Operations whose second byte can be ORed with 4 or 5 without another place to go to.
 SAFE = ("LA", "LR", "SVC", "BCR")
-KEYS = ("FETCH", "MARK", "LIFT", "PLANT", "CLOSE", "DO", "GO")
+KEYS = (*EVENTS, "GO")
 # How many schedules a run of the tests plays, and from which number on they are drawn.
-COUNT, FIRST = 400, 1
+COUNT, FIRST = 2000, 1
 
 
 def code_of(draw: random.Random, base: int, size: int) -> list[str]:
@@ -38,13 +38,14 @@ def code_of(draw: random.Random, base: int, size: int) -> list[str]:
 
 
 def private_of(draw: random.Random, modules: list[Module]) -> str:
-    """A controller's instructions in private storage: calls, EX of a call and of an instruction of a module, and last a branch."""
+    """A controller's instructions in private storage: calls, EX of a call and of a module's instruction, and last a branch."""
     rows, tail = [], "0A000A04"
     for _ in range(draw.randrange(2, 9)):
         place, kind = draw.choice([(it.base - 0x100000 + at, kind) for it in modules for at, _, kind in it.located()])
         ored = draw.choice((0, 4, 5)) if kind in SAFE else 0
         call = draw.choice((0x40, 0x42))
-        rows.append(draw.choice(("0A04", "0A05", "0A04", "0A05", f"4450{call:04X}", f"4440{call:04X}", f"44{ored:X}0C{place:03X}")))
+        execute = draw.choice((f"4450{call:04X}", f"4440{call:04X}", f"44{ored:X}0C{place:03X}"))
+        rows.append(draw.choice(("0A04", "0A05", "0A04", "0A05", execute, execute, execute)))
     rows.append(draw.choice(("07FE", f"47F0C{modules[0].base - 0x100000:03X}")))
     return "".join(rows).ljust(0x80, "0") + tail
 
