@@ -24,6 +24,10 @@ class Module:
     base: int
     code: list[str]
     has_listing: bool = True
+    text: bytes = b""
+
+    def __post_init__(self) -> None:
+        self.text = bytes.fromhex("".join(self.code))
 
     def located(self) -> list[tuple[int, str, str]]:
         """Of each instruction its location, its digits and its operation."""
@@ -34,8 +38,8 @@ class Module:
         return rows
 
     def cards(self) -> list[str]:
-        text = "".join(self.code)
-        rows = [f"MODULE {self.name} {self.base:06X} {len(text) // 2}"]
+        text = self.text.hex().upper()
+        rows = [f"MODULE {self.name} {self.base:06X} {len(self.text)}"]
         rows += [f"TEXT {text[at : at + 128]}" for at in range(0, len(text), 128)]
         if self.has_listing:
             lines = listing_of(self.located())
@@ -103,6 +107,7 @@ class Task:
     budget: int
     first: dict[int, int]
     private: str
+    storage: bytes = b""
     registers: list[int] = field(default_factory=list)
     at: int = 0
     count: int = 0
@@ -115,6 +120,7 @@ class Task:
     done: int = 0
 
     def __post_init__(self) -> None:
+        self.storage = bytes.fromhex(self.private)
         self.registers = [0] * 16
         self.registers[14], self.registers[15] = RETURN, self.entry
         for number, value in self.first.items():
@@ -122,7 +128,7 @@ class Task:
         self.at = self.entry
 
     def cards(self) -> list[str]:
-        rows = [f"TASK {self.name} {self.entry:06X} {max(len(self.private) // 2, 2)} {self.budget} 0"]
+        rows = [f"TASK {self.name} {self.entry:06X} {max(len(self.storage), 2)} {self.budget} 0"]
         rows += [f"REG {number} {value:08X}" for number, value in sorted(self.first.items())]
         rows += [f"DATA {at // 2} {self.private[at : at + 128]}" for at in range(0, len(self.private), 128)]
         return rows
@@ -168,10 +174,10 @@ class Core:
         return [it for it in self.places if it.module in session.modules]
 
     def bytes_at(self, task: Task, at: int, size: int) -> list[int]:
-        if at + size <= len(task.private) // 2:
-            return list(bytes.fromhex(task.private))[at : at + size]
-        module = next(it for it in self.modules if it.base <= at < it.base + len("".join(it.code)) // 2)
-        return list(bytes.fromhex("".join(module.code)))[at - module.base : at - module.base + size]
+        if at + size <= len(task.storage):
+            return list(task.storage[at : at + size])
+        module = next(it for it in self.modules if it.base <= at < it.base + len(it.text))
+        return list(module.text[at - module.base : at - module.base + size])
 
     # ---- one instruction
 
@@ -179,7 +185,8 @@ class Core:
         """What the instruction that the task is at would do, its subject included."""
         code = self.bytes_at(task, task.at, 2)
         if code[0] != 0x44:
-            return self.operate(task, self.whole(task, task.at), len(self.whole(task, task.at)))
+            code = self.whole(task, task.at)
+            return self.operate(task, code, len(code))
         code = self.whole(task, task.at)
         at = self.address(task, code)
         if at % 2:
@@ -388,5 +395,5 @@ class Core:
                 rows.append(f"NOT EXECUTED {start:06X}-{place.location - 1:06X}")
                 start = None
         if start is not None:
-            rows.append(f"NOT EXECUTED {start:06X}-{len(''.join(module.code)) // 2 - 1:06X}")
+            rows.append(f"NOT EXECUTED {start:06X}-{len(module.text) - 1:06X}")
         return rows
