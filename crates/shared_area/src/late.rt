@@ -71,7 +71,12 @@ pub(crate) fn traps<C: Cells>(cells: &C, pass: &mut C::Pass, place: PlaceNo, tag
 }
 
 /// Marks the run of the place: whether it was there; none where the set isn't full with it.
-pub(crate) fn marks<C: Cells>(cells: &C, pass: &mut C::Pass, s: SessNo, place: PlaceNo) -> Option<bool>
+pub(crate) fn marks<C: Cells>(
+    cells: &C,
+    pass: &mut C::Pass,
+    s: SessNo,
+    place: PlaceNo,
+) -> Option<bool>
     requires area { C.is_pass cells.now pass.old }
     requires room { calls (C.notes pass.old) < 2 ^ 61 }
     requires place { (place.0 < length (C.plan cells.now).places) × (kind_at (C.plan cells.now) place.0 ≡ Straight) }

@@ -100,11 +100,7 @@ fn visits<C: Cells>(cells: &C, pass: &mut C::Pass, place: PlaceNo) -> Option<(bo
 type Course = (Late, (bool, bool), (bool, bool));
 
 /// The task comes to its end, and session 2 is closed behind it.
-fn to_the_end<C: Cells>(
-    cells: &C,
-    control: &mut C::Pass,
-    pass: &mut C::Pass,
-) -> Option<Course>
+fn to_the_end<C: Cells>(cells: &C, control: &mut C::Pass, pass: &mut C::Pass) -> Option<Course>
     requires area { C.is_pass cells.now control.old × C.is_pass cells.now pass.old }
     requires room { (calls (C.notes control.old) < 2 ^ 8) × (calls (C.notes pass.old) < 2 ^ 8) }
     requires places { 2 < length (C.plan cells.now).places }
