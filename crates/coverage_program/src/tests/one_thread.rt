@@ -85,26 +85,25 @@ where
     Ok(Some((ending, met)))
 }
 
+/// What comes of the first task of a job, alone in its area.
+fn came(alloc: Global, job: &[u8]) -> Result<Option<(Ending, [Cell; 2])>, Fail> {
+    let mut source = MemSource::new(job.to_vec(alloc)?, 64, Vec::new(alloc));
+    let ready = make_ready(alloc, &mut source, false).map_err(|_| "no job")?;
+    let mut areas = SharedAreas::new(alloc, 1)?;
+    Ok(alone(alloc, &mut areas, &ready.job, &ready.tables)?)
+}
+
 fn cell(half: u16) -> Cell {
     Cell { tag: 1, half }
 }
 
-/// A job, how its task ends, and the halfwords at its first two places then.
-static ALONE: [(&[u8], Ending, [u16; 2]); 2] = [
-    (COUNT_DOWN, Ending::Returned, [0x4610, 0x07FE]),
-    (EXECUTED, Ending::Abend(3), [0x4400, 0x0AFF]),
-];
-
 #[test]
 fn a_split_pass_lifts_what_is_full(rt: HostRuntime) -> Result<(), Fail> {
-    let alloc = rt.alloc();
-    for (job, ending, [first, second]) in ALONE {
-        let mut source = MemSource::new(job.to_vec(alloc)?, 64, Vec::new(alloc));
-        let ready = make_ready(alloc, &mut source, false).map_err(|_| "no job")?;
-        let mut areas = SharedAreas::new(alloc, 1)?;
-        let came = alone(alloc, &mut areas, &ready.job, &ready.tables)?;
-        let expected = (ending, [cell(first), cell(second)]);
-        assert!(rt; came == Some(expected));
-    }
+    let counted = came(rt.alloc(), COUNT_DOWN)?;
+    let both_gone = [cell(0x4610), cell(0x07FE)];
+    assert!(rt; counted == Some((Ending::Returned, both_gone)));
+    let executed = came(rt.alloc(), EXECUTED)?;
+    let subject_stays = [cell(0x4400), cell(0x0AFF)];
+    assert!(rt; executed == Some((Ending::Abend(3), subject_stays)));
     Ok(())
 }
