@@ -8,6 +8,7 @@ mod marks;
 mod modules;
 mod notation;
 mod noted;
+mod one_thread;
 mod order;
 mod places;
 mod programs;

@@ -1,5 +1,5 @@
 -- Each event keeps each task where its run alone is.
-use Rattle.std.proofs.Common.{◌≡◌, ◌≢◌, ◌⊎◌, inl, inr, ℕ, zero, suc, ◌+◌, ◌-◌, ◌<◌, ◌≤◌, Bool, true, false, nat_le, nat_lt, if◌then◌else◌, Option, Some, None, option_map, List, [], ◌∷◌, ◌++◌, length, get_or, set, map, refl, sym, ◌∙◌, ap, subst, arith}
+use Rattle.std.proofs.Common.{◌≡◌, ◌≢◌, ◌⊎◌, inl, inr, ℕ, zero, suc, ◌+◌, ◌-◌, ◌<◌, ◌≤◌, Bool, true, false, nat_le, nat_lt, if◌then◌else◌, Option, Some, None, option_map, List, [], ◌∷◌, ◌++◌, length, get_or, set, refl, sym, ◌∙◌, ap, subst, arith}
 use Rattle.std.proofs.lemmas.Bool.Decides.{nat_tests}
 use Rattle.std.proofs.lemmas.Grind.{get_or-set_at}
 use Rattle.std.proofs.lemmas.List.{get_or-map, get_or-set_other, length-set, length-map}
@@ -9,21 +9,21 @@ use Rattle.s370_state.specs.declared.endings.Ending.{Ending}
 use Rattle.s370_state.specs.declared.endings.Ending.TheVariants.{Returned, Spent}
 use Rattle.s370_state.specs.declared.endings.Next.{Next}
 use Rattle.s370_state.specs.declared.endings.Next.TheVariants.{On, Ended as NextEnded}
-use Rattle.s370_exec.specs.Solo.{Run, Step, solo_run, solo_step, run_on, run_after, run_ended, has_returned}
+use Rattle.s370_exec.specs.Solo.{Run, solo_run, solo_step, run_on, run_after, run_ended, has_returned}
 use Rattle.s370_exec.proofs.TraceLemmas.{solo_step-done}
 use Rattle.session_book.specs.Sessions.{task_of, no_task, first_state}
 use Rattle.interleave_core.specs.World.{World, TaskPart, Parts, part_of, no_part, memory_in, budget_in, first_parts, first_part, place_at}
 use Rattle.interleave_core.specs.Steps.{Stepped, parts_step, fetch_step, fetched, mark_step, marked, lift_step, lifted, do_step, done_by, may_plant, breakpoint_of, with_cell, with_due, original_under, same_cell, in_hand, with_stage, step_of, is_spent, executed, stage_after, place_due, task_done, subject_place, subject_executed, instruction_executed, awaits_or, unless_at, same_due}
 use Rattle.module_area.specs.CellWords.{word_at}
 use Rattle.module_area.specs.declared.cells.Cell.{Cell}
-use Rattle.interleave_core.specs.Core.{CoreState, CoreStepped, core_start, core_step, core_after, core_from, core_run, go_on}
+use Rattle.interleave_core.specs.Core.{CoreState, CoreStepped, core_start, core_step, core_after, core_from, core_run}
 use Rattle.interleave_core.proofs.Kept.{in_hand-stage}
 use Rattle.interleave_core.proofs.Nexts.{exists_by}
 use Rattle.interleave_core.proofs.Runs.{some_core, through}
 use Rattle.interleave_core.specs.declared.events.Event.{Event}
 use Rattle.interleave_core.specs.declared.events.Event.TheVariants.{Fetch, Mark, Lift, Do, Plant}
 use Rattle.interleave_core.specs.declared.events.Shown.TheVariants.{Planted}
-use Rattle.interleave_core.specs.Alone.{alone, IsAlone, AreAlone}
+use Rattle.interleave_core.specs.Alone.{IsAlone, AreAlone}
 use Rattle.interleave_core.specs.declared.stage.Hand.{Hand}
 use Rattle.interleave_core.specs.declared.stage.Due.TheVariants.{Marking, Lifting, Nothing}
 use Rattle.interleave_core.specs.declared.stage.Stage.{Stage}

@@ -1,8 +1,7 @@
 -- The sets are exact once all tasks have ended.
-use Rattle.std.proofs.Common.{◌≡◌, ◌≢◌, ◌⊎◌, inl, inr, ⊎_elim, ℕ, zero, suc, ◌+◌, ◌%◌, ◌<◌, ◌≤◌, Bool, true, false, ◌&&◌, nat_lt, nat_eq, if◌then◌else◌, Option, Some, None, List, [], ◌∷◌, length, get_or, set, refl, sym, ◌∙◌, ap, subst, arith, eqb-true, eq-eqb, ◌↔◌}
+use Rattle.std.proofs.Common.{◌≡◌, ◌⊎◌, inl, inr, ℕ, zero, suc, ◌+◌, ◌%◌, ◌<◌, Bool, true, false, ◌&&◌, nat_lt, if◌then◌else◌, Option, Some, None, List, [], ◌∷◌, length, set, refl, sym, ◌∙◌, ap, subst, arith, eq-eqb}
 use mathlib.Core.Option.{some, some-injective, some-ne-none}
 use lib.ListN.{get_elem?}
-use Rattle.cov_base.specs.Codes.{breakpoint}
 use Rattle.cov_base.specs.FactSet.{FactSet}
 use Rattle.cov_base.specs.Facts.{has_fact, with_fact, is_full, full_of, is_of_kind, fact_of}
 use Rattle.cov_base.specs.declared.facts.Fact.{Fact}
@@ -10,29 +9,28 @@ use Rattle.cov_base.specs.declared.facts.Fact.TheVariants.{Ran, Went, Stayed}
 use Rattle.cov_base.specs.declared.facts.Kind.{Kind}
 use Rattle.cov_base.specs.declared.facts.Kind.TheVariants.{Straight, Conditional}
 use Rattle.s370_state.specs.declared.endings.Ending.{Ending}
-use Rattle.module_area.specs.Held.{planted, untouched, lifted as lifted_cell, IsForm, Held}
+use Rattle.module_area.specs.Held.{planted, IsForm}
 use Rattle.module_area.specs.Parties.{Has, tag_session, window_tag, is_breakpoint, is_lifted, fetching}
 use Rattle.module_area.specs.CellWords.{word_at}
-use Rattle.module_area.specs.PlanView.{PlanView, IsPlan, original_at, kind_at, is_over}
+use Rattle.module_area.specs.PlanView.{PlanView, original_at, kind_at}
 use Rattle.module_area.specs.declared.cells.Cell.{Cell}
 use Rattle.module_area.specs.declared.parties.View.{View}
 use Rattle.module_area.proofs.FactLemmas.{is_full-true}
 use Rattle.module_area.proofs.PartyLemmas.{here-add_if, more-add_if}
-use Rattle.interleave_core.specs.World.{World, IsWorld, TaskPart, Parts, part_of, plan_in, first_part, first_parts, no_part}
+use Rattle.interleave_core.specs.World.{World, IsWorld, TaskPart, part_of, plan_in}
 use Rattle.s370_exec.specs.Solo.{visit_of}
 use Rattle.interleave_core.specs.Steps.{Stepped, parts_step, fetch_step, fetched, mark_step, marked, lift_step, lifted, do_step, done_by, may_plant, breakpoint_of, with_cell, with_due, with_stage, original_under, same_cell, in_hand, hand_at, step_of, place_due, is_awaiting, task_done, set_of, fact_in}
-use Rattle.interleave_core.specs.Core.{CoreState, CoreStepped, core_start, core_step, core_after, core_from, core_run, log_after, entry_of}
+use Rattle.interleave_core.specs.Core.{CoreState, core_start, core_step, core_after, core_from, core_run, log_after, entry_of}
 use Rattle.interleave_core.specs.Entries.{Entry}
 use Rattle.interleave_core.specs.Exact.{HasShown, HaveEnded, AreExact}
 use Rattle.interleave_core.specs.Parties.{with_mark, with_lift, with_notes, task_view, task_views, first_planter, planted_by, planter_from}
 use Rattle.interleave_core.specs.declared.events.Event.{Event}
 use Rattle.interleave_core.specs.declared.events.Event.TheVariants.{Fetch, Mark, Lift, Do, Plant}
-use Rattle.interleave_core.specs.declared.events.Shown.{Shown}
 use Rattle.interleave_core.specs.declared.events.Shown.TheVariants.{Fetched, Marked, Lifted, Done, Planted}
 use Rattle.interleave_core.specs.declared.stage.Hand.{Hand}
 use Rattle.interleave_core.specs.declared.stage.Due.TheVariants.{Marking, Lifting, Nothing}
 use Rattle.interleave_core.specs.declared.stage.Stage.{Stage}
-use Rattle.interleave_core.specs.declared.stage.Stage.TheVariants.{Ready, Awaiting, Holding, Ended}
+use Rattle.interleave_core.specs.declared.stage.Stage.TheVariants.{Holding, Ended}
 use Rattle.interleave_core.proofs.Nexts.{exists_by}
 use Rattle.interleave_core.proofs.Runs.{some_core, through}
 use Rattle.interleave_core.proofs.Alone.{lt_of, got, some_stepped, lifted_tasks}

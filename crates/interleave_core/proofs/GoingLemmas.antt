@@ -1,5 +1,5 @@
 -- A task's events have an end: each leaves less.
-use Rattle.std.proofs.Common.{◌≡◌, ◌≢◌, ℕ, zero, suc, ◌+◌, ◌-◌, ◌*◌, ◌<◌, ◌≤◌, Bool, true, false, nat_lt, nat_le, if◌then◌else◌, Option, Some, None, option_map, List, length, get_or, set, refl, sym, ap, ◌∙◌, subst, arith}
+use Rattle.std.proofs.Common.{◌≡◌, ℕ, zero, suc, ◌+◌, ◌-◌, ◌*◌, ◌<◌, ◌≤◌, Bool, true, false, nat_lt, nat_le, if◌then◌else◌, Option, Some, None, option_map, length, refl, sym, ap, ◌∙◌, subst, arith}
 use Rattle.std.proofs.lemmas.Bool.Decides.{nat_tests}
 use Rattle.std.proofs.lemmas.Grind.{get_or-set_at}
 use Rattle.cov_base.specs.declared.numbers.TaskNo.{TaskNo}
@@ -10,7 +10,7 @@ use Rattle.module_area.specs.CellWords.{word_at}
 use Rattle.s370_state.specs.declared.endings.Ending.TheVariants.{Returned, Spent}
 use Rattle.s370_state.specs.declared.endings.Next.{Next}
 use Rattle.s370_state.specs.declared.endings.Next.TheVariants.{On, Ended as NextEnded}
-use Rattle.s370_exec.specs.Solo.{Step, solo_step, has_returned}
+use Rattle.s370_exec.specs.Solo.{has_returned}
 use Rattle.s370_exec.proofs.TraceLemmas.{solo_step-done}
 use Rattle.interleave_core.specs.World.{World, TaskPart, Parts, part_of, no_part, plan_in, memory_in, budget_in, place_at}
 use Rattle.interleave_core.specs.Steps.{Stepped, parts_step, of_task, with_task, with_stage, with_due, with_set, with_cell, place_due, is_spent, is_awaiting, due_after_fetch, hand_at, fetched, fetch_step, marked, mark_step, lifted, lift_step, in_hand, same_due, same_cell, original_under, step_of, subject_place, executed, stage_after, subject_executed, instruction_executed, awaits_or, unless_at, ready_done, task_done, done_by, do_step, set_of, fact_in}

@@ -1,11 +1,11 @@
 -- What a task that goes has made: its own events, which lead on until it has ended.
-use Rattle.std.proofs.Common.{◌≡◌, inl, inr, ℕ, zero, suc, ◌<◌, ◌≤◌, Bool, true, false, nat_eq, nat_lt, if◌then◌else◌, Option, Some, None, option_map, is_none, IsSome, IsNone, ◌↔◌, List, [], ◌∷◌, ◌++◌, length, All, refl, sym, ap, ◌∙◌, subst, arith}
+use Rattle.std.proofs.Common.{◌≡◌, inl, inr, ℕ, zero, suc, ◌<◌, Bool, true, false, nat_eq, nat_lt, if◌then◌else◌, Option, Some, None, option_map, is_none, IsSome, IsNone, ◌↔◌, List, [], ◌∷◌, ◌++◌, length, All, refl, sym, ap, ◌∙◌, subst, arith}
 use Rattle.std.proofs.lemmas.Bool.{cases_lt}
 use Rattle.std.proofs.lemmas.Bool.Decides.{nat_tests}
 use Rattle.std.proofs.lemmas.List.Elements.{All-cons}
 use Rattle.cov_base.specs.declared.numbers.TaskNo.{TaskNo}
 use Rattle.interleave_core.specs.World.{World, TaskPart, Parts, part_of}
-use Rattle.interleave_core.specs.Core.{CoreState, CoreStepped, core_step, core_after, core_from, go_on, is_by}
+use Rattle.interleave_core.specs.Core.{CoreState, core_step, core_after, core_from, go_on, is_by}
 use Rattle.interleave_core.specs.Steps.{Stepped, parts_step, place_due}
 use Rattle.interleave_core.specs.Results.{next_of, stage_event, event_due, fetch_or_do, results_of}
 use Rattle.interleave_core.specs.Going.{Leads, HasGone, after, where_possible, next_events, left, go, go_by, go_events}

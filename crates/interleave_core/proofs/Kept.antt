@@ -1,5 +1,5 @@
 -- What is kept of a core as one of its tasks, cells or sets changes.
-use Rattle.std.proofs.Common.{◌≡◌, ◌≢◌, ◌⊎◌, inl, inr, ℕ, ◌+◌, ◌-◌, ◌*◌, ◌/◌, ◌<◌, ◌≤◌, Bool, true, false, not, ◌&&◌, nat_eq, nat_lt, if◌then◌else◌, Option, Some, None, option_map, List, [], ◌∷◌, length, get_or, set, map, refl, sym, ◌∙◌, ap, subst, arith}
+use Rattle.std.proofs.Common.{◌≡◌, ◌≢◌, ◌⊎◌, inl, inr, ℕ, ◌+◌, ◌-◌, ◌*◌, ◌/◌, ◌<◌, ◌≤◌, Bool, true, false, ◌&&◌, nat_eq, nat_lt, if◌then◌else◌, Option, Some, None, option_map, List, length, get_or, set, refl, sym, ◌∙◌, ap, subst, arith}
 use Rattle.std.proofs.lemmas.Bool.Decides.{nat_tests}
 use Rattle.std.proofs.lemmas.Grind.{get_or-set_at}
 use Rattle.std.proofs.lemmas.List.{get_or-map, get_or-set_other, length-set, length-map, map-set, get_or_default}
@@ -19,8 +19,8 @@ use Rattle.module_area.specs.CellWords.{IsWord, word_at, no_cell}
 use Rattle.module_area.specs.FinalsView.{set_in, index_of}
 use Rattle.module_area.specs.PlanView.{PlanView, IsPlan, kind_at, window_at, original_at}
 use Rattle.module_area.specs.declared.cells.Cell.{Cell}
-use Rattle.interleave_core.specs.World.{World, TaskPart, Parts, plan_in, place_at, part_of, no_part}
-use Rattle.interleave_core.specs.Steps.{Stepped, of_task, with_task, with_stage, with_due, with_set, with_cell, place_due, is_spent, is_awaiting, subject_place, step_of, due_after_fetch, in_hand, same_due, fetched, fetch_step, marked, mark_step, lifted, lift_step, done_by, do_step, task_done, set_of, fact_in, original_under, same_cell, hand_at, executed, subject_executed, stage_after, awaits_or, unless_at, instruction_executed}
+use Rattle.interleave_core.specs.World.{World, TaskPart, Parts, plan_in, place_at, no_part}
+use Rattle.interleave_core.specs.Steps.{Stepped, of_task, with_task, with_stage, with_due, with_cell, place_due, is_spent, is_awaiting, subject_place, step_of, due_after_fetch, in_hand, same_due, fetched, fetch_step, marked, mark_step, lifted, lift_step, done_by, do_step, task_done, set_of, fact_in, original_under, same_cell, hand_at, executed, subject_executed, stage_after, awaits_or, unless_at, instruction_executed}
 use Rattle.interleave_core.specs.Views.{RunningView, IsRunning, IsStage, IsHand, IsCore, parts_of}
 use Rattle.interleave_core.specs.declared.events.Shown.{Shown}
 use Rattle.interleave_core.specs.declared.events.Shown.TheVariants.{Fetched, Marked, Lifted, Done}

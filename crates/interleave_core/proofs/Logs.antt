@@ -11,7 +11,7 @@ use Rattle.s370_decode.specs.Table.{op_of}
 use Rattle.s370_decode.specs.declared.code.Code.{Code}
 use Rattle.s370_exec.specs.Effects.{effect, updated, link_code}
 use Rattle.s370_exec.specs.Fetch.{is_execute, code_at, first_tests, rest_tests, whole_tests}
-use Rattle.s370_exec.specs.Solo.{Run, Step, solo_run, solo_step, ended, visit, behind, subject_step, no_visit}
+use Rattle.s370_exec.specs.Solo.{Run, Step, solo_run, solo_step, visit, no_visit}
 use Rattle.s370_exec.proofs.TraceLemmas.{solo_step-visits}
 use Rattle.module_area.specs.PlanView.{place_of}
 use Rattle.module_area.specs.declared.places.Place.{Place}
@@ -35,7 +35,7 @@ use Rattle.interleave_core.specs.declared.stage.Due.TheVariants.{Marking, Liftin
 use Rattle.interleave_core.proofs.Kept.{in_hand-stage}
 use Rattle.interleave_core.proofs.Nexts.{exists_by}
 use Rattle.interleave_core.proofs.Runs.{some_core, through}
-use Rattle.interleave_core.proofs.Alone.{GoesAt, AllGo, Goes, has_ended, is_inside, executed_trace, all_step, all_first, same_or, lt_of, got, some_stepped, some_part, lifted_tasks, some_core_stepped, run_zero}
+use Rattle.interleave_core.proofs.Alone.{GoesAt, AllGo, has_ended, is_inside, executed_trace, all_step, all_first, same_or, lt_of, got, some_stepped, some_part, lifted_tasks, some_core_stepped, run_zero}
 use Rattle.s370_state.specs.declared.endings.Ending.TheVariants.{Returned, Spent}
 use Rattle.s370_state.specs.declared.endings.Next.{Next}
 use Rattle.s370_state.specs.declared.endings.Next.TheVariants.{On, Ended as NextEnded}

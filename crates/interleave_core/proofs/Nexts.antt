@@ -1,12 +1,11 @@
 -- The event that is possible of a task.
-use Rattle.std.proofs.Common.{◌≡◌, ◌≢◌, ℕ, ◌<◌, Bool, true, false, nat_eq, nat_lt, if◌then◌else◌, Option, Some, None, option_map, IfSome, List, length, refl, sym, ◌∙◌, ap, subst, arith}
+use Rattle.std.proofs.Common.{◌≡◌, ℕ, Bool, true, false, nat_eq, nat_lt, if◌then◌else◌, Option, Some, None, option_map, IfSome, length, refl, sym, ◌∙◌, ap, subst, arith}
 use Rattle.std.proofs.lemmas.Bool.Decides.{nat_tests}
 use Rattle.cov_base.specs.declared.numbers.TaskNo.{TaskNo}
 use Rattle.s370_state.specs.declared.endings.Ending.TheVariants.{Returned, Spent}
 use Rattle.s370_exec.specs.Solo.{has_returned}
 use Rattle.interleave_core.specs.World.{World, TaskPart, Parts, part_of, place_at}
-use Rattle.interleave_core.specs.Steps.{Stepped, parts_step, of_task, fetch_step, fetched, mark_step, marked, lift_step, lifted, do_step, done_by, task_done, ready_done, instruction_executed, subject_executed, unless_at, with_stage, place_due, subject_place, step_of, is_spent, in_hand, same_due}
-use Rattle.interleave_core.specs.Core.{is_by}
+use Rattle.interleave_core.specs.Steps.{Stepped, of_task, fetch_step, fetched, mark_step, marked, lift_step, lifted, do_step, done_by, task_done, ready_done, instruction_executed, subject_executed, unless_at, with_stage, place_due, subject_place, step_of, is_spent, in_hand, same_due}
 use Rattle.interleave_core.specs.Results.{IsDue, stage_event, next_of, fetch_or_do, event_due}
 use Rattle.interleave_core.specs.Views.{IsStage}
 use Rattle.interleave_core.proofs.Kept.{in_hand-stage}

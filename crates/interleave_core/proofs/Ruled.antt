@@ -1,45 +1,42 @@
 -- The rule of an area holds of a core after every list of events.
-use Rattle.std.proofs.Common.{◌≡◌, ◌≢◌, ◌⊎◌, inl, inr, ℕ, zero, suc, ◌+◌, ◌-◌, ◌*◌, ◌<◌, ◌≤◌, Bool, true, false, not, ◌&&◌, ◌||◌, nat_lt, nat_eq, if◌then◌else◌, Option, Some, None, List, [], ◌∷◌, ◌++◌, length, get_or, set, map, replicate, refl, sym, ◌∙◌, ap, subst, arith, eqb-true}
-use mathlib.Core.Option.{some, some-injective, some-ne-none}
+use Rattle.std.proofs.Common.{◌≡◌, ◌≢◌, ◌⊎◌, inl, inr, ℕ, zero, suc, ◌+◌, ◌*◌, ◌<◌, ◌≤◌, Bool, true, false, not, ◌&&◌, ◌||◌, nat_lt, nat_eq, if◌then◌else◌, Option, Some, None, List, [], ◌∷◌, ◌++◌, length, get_or, set, replicate, refl, sym, ◌∙◌, ap, subst, arith, eqb-true}
+use mathlib.Core.Option.{some, some-injective}
 use lib.ListN.{get_elem?}
-use Rattle.std.proofs.lemmas.Bool.Decides.{nat_tests}
 use Rattle.std.proofs.lemmas.Grind.{get_or-set_at}
 use Rattle.std.proofs.lemmas.List.{get_or-map, get_or-set_other, get_or-replicate, length-set, length-map, length-replicate}
 use Rattle.cov_base.specs.Codes.{breakpoint}
 use Rattle.cov_base.specs.FactSet.{FactSet}
 use Rattle.cov_base.specs.Facts.{no_facts, has_fact, with_fact, is_full, is_of_kind, fact_of}
-use Rattle.cov_base.specs.States.{State, Visit}
+use Rattle.cov_base.specs.States.{Visit}
 use Rattle.cov_base.specs.declared.facts.Fact.{Fact}
 use Rattle.cov_base.specs.declared.facts.Fact.TheVariants.{Ran, Went, Stayed}
 use Rattle.cov_base.specs.declared.facts.Kind.{Kind}
 use Rattle.cov_base.specs.declared.facts.Kind.TheVariants.{Straight, Conditional}
-use Rattle.s370_state.specs.declared.endings.Ending.{Ending}
 use Rattle.s370_state.specs.declared.endings.Ending.TheVariants.{Returned, Spent as SpentEnding}
 use Rattle.s370_state.specs.declared.endings.Next.{Next}
 use Rattle.s370_state.specs.declared.endings.Next.TheVariants.{On, Ended as NextEnded}
 use Rattle.s370_exec.specs.Fetch.{is_execute}
 use Rattle.s370_exec.specs.Solo.{has_returned, visit_of}
 use Rattle.module_area.specs.CellWords.{fresh_word, word_at, no_cell}
-use Rattle.module_area.specs.Held.{planted, untouched, lifted as lifted_cell, IsForm, Keeps, KeepsAs, Held}
-use Rattle.module_area.specs.Parties.{Has, tag_session, window_tag, is_breakpoint, blank, fetching, marking, lifting, planting, giving, newcomer, last_tag}
+use Rattle.module_area.specs.Held.{planted, lifted as lifted_cell, IsForm, Keeps, KeepsAs, Held}
+use Rattle.module_area.specs.Parties.{Has, tag_session, window_tag, is_breakpoint, blank, fetching, marking, lifting, planting, last_tag}
 use Rattle.module_area.specs.FinalsView.{index_of}
 use Rattle.module_area.specs.PlanView.{PlanView, IsPlan, original_at, kind_at, window_at, is_over, no_place}
 use Rattle.module_area.specs.declared.cells.Cell.{Cell}
 use Rattle.module_area.specs.declared.parties.Role.{Role}
 use Rattle.module_area.specs.declared.parties.Role.TheVariants.{Root, Task, Spent}
 use Rattle.module_area.specs.declared.parties.View.{View}
-use Rattle.module_area.specs.declared.places.Place.{Place}
 use Rattle.module_area.proofs.BeginLemmas.{begins}
 use Rattle.module_area.proofs.ForkLemmas.{splits}
-use Rattle.module_area.proofs.Indices.{index_below, same_index, and_left, and_right}
+use Rattle.module_area.proofs.Indices.{index_below, same_index}
 use Rattle.module_area.proofs.PartyLemmas.{here-add_if}
 use Rattle.module_area.proofs.StepLemmas.{breakpoint_form, fetches, marks, lifts, plants, spent_not_root, spent_not_task}
-use Rattle.session_book.specs.Sessions.{task_of, no_task}
+use Rattle.session_book.specs.Sessions.{no_task}
 use Rattle.interleave_core.specs.World.{World, IsWorld, TaskPart, Parts, part_of, plan_in, place_at, first_parts, first_part, no_part}
-use Rattle.interleave_core.specs.Steps.{Stepped, parts_step, fetch_step, fetched, mark_step, marked, lift_step, lifted, do_step, done_by, may_plant, breakpoint_of, with_cell, with_due, with_stage, original_under, same_cell, same_due, in_hand, hand_at, subject_place, step_of, place_due, is_awaiting, is_spent, due_after_fetch, executed, stage_after, awaits_or, unless_at, instruction_executed, subject_executed, task_done, set_of, fact_in}
-use Rattle.interleave_core.specs.Core.{CoreState, CoreStepped, core_start, core_step, core_after, core_from, core_run, log_after, entry_of}
+use Rattle.interleave_core.specs.Steps.{Stepped, parts_step, fetch_step, fetched, mark_step, marked, lift_step, lifted, do_step, done_by, may_plant, breakpoint_of, with_cell, with_due, with_stage, original_under, same_cell, same_due, in_hand, hand_at, subject_place, step_of, place_due, is_awaiting, is_spent, executed, stage_after, awaits_or, unless_at, instruction_executed, subject_executed, task_done, set_of, fact_in}
+use Rattle.interleave_core.specs.Core.{CoreState, core_start, core_step, core_after, core_from, core_run, log_after, entry_of}
 use Rattle.interleave_core.specs.Entries.{Entry}
-use Rattle.interleave_core.specs.Parties.{with_mark, with_lift, with_notes, task_view, task_views, numbers, first_planter, planted_by, planter_from, KeepRule}
+use Rattle.interleave_core.specs.Parties.{with_mark, with_lift, task_view, task_views, numbers, first_planter, planted_by, planter_from, KeepRule}
 use Rattle.interleave_core.specs.declared.events.Event.{Event}
 use Rattle.interleave_core.specs.declared.events.Event.TheVariants.{Fetch, Mark, Lift, Do, Plant}
 use Rattle.interleave_core.specs.declared.events.Shown.{Shown}
@@ -52,7 +49,7 @@ use Rattle.interleave_core.specs.declared.stage.Stage.TheVariants.{Ready, Awaiti
 use Rattle.interleave_core.proofs.Kept.{in_hand-stage}
 use Rattle.interleave_core.proofs.Nexts.{exists_by}
 use Rattle.interleave_core.proofs.Runs.{some_core, through}
-use Rattle.interleave_core.proofs.Alone.{same_or, lt_of, got, some_stepped, some_part, lifted_tasks}
+use Rattle.interleave_core.proofs.Alone.{lt_of, got, some_stepped, some_part, lifted_tasks}
 use Rattle.interleave_core.proofs.Logs.{found_at, due_at, itself, apart, one_log, got_step}
 use Rattle.interleave_core.proofs.Begun.{begun_instruction, begun_subject}
 

@@ -1,13 +1,8 @@
 -- Runs of the core, event by event.
-use Rattle.std.proofs.Common.{◌≡◌, Option, Some, None, option_map, List, [], ◌∷◌, ◌++◌, IfOk, OnErr, refl, sym, ◌∙◌, ap, subst}
-use Rattle.std.specs.declared.result.Result.{Result}
-use Rattle.std.specs.declared.result.Result.TheVariants.{Ok, Err}
-use Rattle.interleave_core.specs.World.{World, Parts}
-use Rattle.interleave_core.specs.Steps.{Stepped, parts_step}
-use Rattle.interleave_core.specs.Core.{CoreState, CoreStepped, core_start, core_step, core_after, core_from, core_run, go_on, Follows, FollowsAll, FollowsNone}
+use Rattle.std.proofs.Common.{◌≡◌, Option, Some, None, List, [], ◌∷◌, ◌++◌, refl, ◌∙◌, ap}
+use Rattle.interleave_core.specs.World.{World}
+use Rattle.interleave_core.specs.Core.{CoreState, CoreStepped, core_step, core_from, go_on}
 use Rattle.interleave_core.specs.declared.events.Event.{Event}
-use Rattle.interleave_core.specs.declared.events.NotPossible.{NotPossible}
-use Rattle.interleave_core.specs.declared.events.Shown.{Shown}
 
 pub some_core : (a b : CoreState) → Some a ≡ Some b → a ≡ b
 some_core a b h = cc

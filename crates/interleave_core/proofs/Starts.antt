@@ -7,13 +7,10 @@ use Rattle.cov_base.specs.Facts.{no_facts}
 use Rattle.module_area.specs.CellWords.{fresh_word}
 use Rattle.module_area.specs.PlanView.{PlanView}
 use Rattle.module_area.specs.declared.cells.Cell.{Cell}
-use Rattle.module_area.specs.declared.places.Place.{Place}
-use Rattle.session_book.specs.JobView.{TaskView}
-use Rattle.session_book.specs.Results.{ResultView}
 use Rattle.session_book.specs.Sessions.{task_of, no_task}
 use Rattle.space_map.specs.Space.{row_of}
 use Rattle.space_map.proofs.SpaceLemmas.{private_filled-as}
-use Rattle.interleave_core.specs.World.{World, IsWorld, TaskPart, Parts, no_part, first_part, first_parts, part_of, memory_in}
+use Rattle.interleave_core.specs.World.{World, IsWorld, TaskPart, Parts, no_part, first_part, first_parts}
 use Rattle.interleave_core.specs.Results.{Fits, results_of, part_result}
 use Rattle.interleave_core.specs.Views.{RunningView, IsRunning, IsStage, IsCore, AreReady, parts_of}
 

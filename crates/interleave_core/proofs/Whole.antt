@@ -1,6 +1,5 @@
 -- The sets are those of whole sessions where their windows were planted before any other event.
-use Rattle.std.proofs.Common.{◌≡◌, ◌≢◌, ◌⊎◌, inl, inr, ⊎_elim, ℕ, zero, suc, ◌+◌, ◌-◌, ◌<◌, ◌≤◌, Bool, true, false, ◌&&◌, ◌||◌, ◌==◌, nat_lt, nat_eq, if◌then◌else◌, Option, Some, None, List, [], ◌∷◌, ◌++◌, length, get_or, set, All, refl, sym, ◌∙◌, ap, subst, arith, eqb-true, eq-eqb}
-use Rattle.std.specs.List.{list_any}
+use Rattle.std.proofs.Common.{◌≡◌, ◌≢◌, ◌⊎◌, inl, inr, ℕ, zero, suc, ◌+◌, ◌-◌, ◌<◌, Bool, true, false, ◌&&◌, ◌||◌, ◌==◌, nat_lt, nat_eq, if◌then◌else◌, Option, Some, None, List, [], ◌∷◌, ◌++◌, length, get_or, set, refl, sym, ◌∙◌, ap, subst, arith, eqb-true, eq-eqb}
 use Rattle.std.proofs.lemmas.Bool.Decides.{nat_tests}
 use Rattle.std.proofs.lemmas.Grind.{get_or-set_at}
 use Rattle.std.proofs.lemmas.List.{get_or-set_other, get_or-map, append-nil}
@@ -22,16 +21,16 @@ use Rattle.module_area.proofs.FactLemmas.{has_fact-with_fact, same_fact-true}
 use Rattle.module_area.proofs.Indices.{same_tests}
 use Rattle.module_area.proofs.PartyLemmas.{has-append, left-append, right-append}
 use Rattle.module_area.proofs.StepLemmas.{or_cases, or_left, or_right, same_fact-same}
-use Rattle.session_book.specs.JobView.{IsJob, SessionView, TaskView}
-use Rattle.session_book.specs.Sessions.{session_of, no_session, no_task, observes, window_from, window_of, traces_from, session_set}
+use Rattle.session_book.specs.JobView.{SessionView, TaskView}
+use Rattle.session_book.specs.Sessions.{session_of, no_session, no_task, observes, window_from, window_of, traces_from}
 use Rattle.brk_table.proofs.PlaceLemmas.{one_begins}
-use Rattle.interleave_core.specs.World.{World, IsWorld, TaskPart, Parts, part_of, plan_in, place_at, place_from, budget_in}
+use Rattle.interleave_core.specs.World.{World, IsWorld, TaskPart, Parts, part_of, plan_in, place_at}
 use Rattle.interleave_core.specs.Steps.{Stepped, parts_step, fetch_step, fetched, mark_step, marked, lift_step, lifted, do_step, done_by, may_plant, breakpoint_of, with_cell, with_due, with_stage, original_under, same_cell, in_hand, hand_at, step_of, place_due, is_awaiting, task_done, set_of, fact_in}
 use Rattle.interleave_core.specs.Alone.{alone, IsAlone}
-use Rattle.interleave_core.specs.Core.{CoreState, CoreStepped, core_start, core_step, core_after, core_from, core_run, log_after, entry_of}
+use Rattle.interleave_core.specs.Core.{CoreState, core_start, core_step, core_after, core_from, core_run, log_after}
 use Rattle.interleave_core.specs.Entries.{Entry}
-use Rattle.interleave_core.specs.Exact.{HasShown, HaveEnded}
-use Rattle.interleave_core.specs.Logs.{Noted, note, noted, fact_at, logged, visits_in_hand, HasLog, HaveLogs}
+use Rattle.interleave_core.specs.Exact.{HasShown}
+use Rattle.interleave_core.specs.Logs.{Noted, note, noted, fact_at, logged, visits_in_hand, HasLog}
 use Rattle.interleave_core.specs.Parties.{planted_by, planter_from, first_planter}
 use Rattle.interleave_core.specs.Whole.{planted_first, ArePlantedFirst, trace_in, AreWhole}
 use Rattle.interleave_core.specs.declared.events.Event.{Event}
@@ -40,7 +39,7 @@ use Rattle.interleave_core.specs.declared.events.Shown.TheVariants.{Fetched, Mar
 use Rattle.interleave_core.specs.declared.stage.Hand.{Hand}
 use Rattle.interleave_core.specs.declared.stage.Due.TheVariants.{Marking, Lifting, Nothing}
 use Rattle.interleave_core.specs.declared.stage.Stage.{Stage}
-use Rattle.interleave_core.specs.declared.stage.Stage.TheVariants.{Ready, Awaiting, Holding, Ended}
+use Rattle.interleave_core.specs.declared.stage.Stage.TheVariants.{Holding, Ended}
 use Rattle.interleave_core.proofs.Alone.{lt_of, got, some_stepped, lifted_tasks, same_or, run_alone}
 use Rattle.interleave_core.proofs.Exact.{Sound, sound_step, sound_first, run_sound, exact_into, exact_from}
 use Rattle.interleave_core.proofs.Finds.{there}

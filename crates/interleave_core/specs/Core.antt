@@ -1,9 +1,6 @@
 -- The core: what it stores and each task's log, its deterministic step, and its run by a list of events.
-use Rattle.std.specs.Prelude.{◌≡◌, ℕ, Bool, true, false, nat_eq, if◌then◌else◌, Option, Some, None, option_map, List, [], ◌∷◌, ◌++◌}
-use Rattle.cov_base.specs.FactSet.{FactSet}
-use Rattle.cov_base.specs.declared.facts.Fact.{Fact}
+use Rattle.std.specs.Prelude.{◌≡◌, ℕ, Bool, false, nat_eq, if◌then◌else◌, Option, Some, None, option_map, List, [], ◌∷◌, ◌++◌}
 use Rattle.s370_exec.specs.Solo.{visit_of}
-use Rattle.module_area.specs.declared.cells.Cell.{Cell}
 use Rattle.interleave_core.specs.Alone.{AreAlone}
 use Rattle.interleave_core.specs.Entries.{Entry}
 use Rattle.interleave_core.specs.Exact.{AreExact}
@@ -15,10 +12,10 @@ use Rattle.interleave_core.specs.Steps.{Stepped, parts_step, step_of, fact_in}
 use Rattle.interleave_core.specs.declared.events.Event.{Event}
 use Rattle.interleave_core.specs.declared.events.Event.TheVariants.{Fetch, Mark, Lift, Do, Plant}
 use Rattle.interleave_core.specs.declared.events.Shown.{Shown}
-use Rattle.interleave_core.specs.declared.events.Shown.TheVariants.{Fetched, Marked, Lifted, Done, Planted}
+use Rattle.interleave_core.specs.declared.events.Shown.TheVariants.{Fetched, Marked, Lifted}
 use Rattle.interleave_core.specs.declared.stage.Hand.{Hand}
 use Rattle.interleave_core.specs.declared.stage.Stage.{Stage}
-use Rattle.interleave_core.specs.declared.stage.Stage.TheVariants.{Ready, Awaiting, Holding, Ended}
+use Rattle.interleave_core.specs.declared.stage.Stage.TheVariants.{Holding}
 
 -- what is stored, and for each task its log, the newest entry first
 pub record CoreState : Type 0 where

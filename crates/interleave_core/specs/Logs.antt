@@ -1,5 +1,5 @@
 -- Each task's log has the places and facts of its run alone so far, and of the instruction in hand.
-use Rattle.std.specs.Prelude.{◌≡◌, ℕ, ◌<◌, Bool, if◌then◌else◌, Option, Some, None, List, [], ◌∷◌, ◌++◌, length}
+use Rattle.std.specs.Prelude.{◌≡◌, ℕ, ◌<◌, if◌then◌else◌, Option, Some, None, List, [], ◌∷◌, ◌++◌, length}
 use Rattle.cov_base.specs.Facts.{fact_of}
 use Rattle.cov_base.specs.States.{Visit}
 use Rattle.cov_base.specs.declared.facts.Fact.{Fact}
@@ -8,9 +8,8 @@ use Rattle.interleave_core.specs.World.{World, TaskPart, Parts, part_of, plan_in
 use Rattle.interleave_core.specs.Steps.{step_of}
 use Rattle.interleave_core.specs.Entries.{Entry}
 use Rattle.interleave_core.specs.Alone.{alone}
-use Rattle.interleave_core.specs.declared.stage.Hand.{Hand}
 use Rattle.interleave_core.specs.declared.stage.Stage.{Stage}
-use Rattle.interleave_core.specs.declared.stage.Stage.TheVariants.{Ready, Awaiting, Holding, Ended}
+use Rattle.interleave_core.specs.declared.stage.Stage.TheVariants.{Awaiting, Holding}
 
 -- a place that was visited, and the fact of the visit where it was begun
 pub record Noted : Type 0 where

@@ -1,12 +1,10 @@
 -- The events of a core: where each is possible, and what it changes in what a core stores.
-use Rattle.std.specs.Prelude.{ℕ, ◌+◌, ◌-◌, ◌*◌, Bool, true, false, not, ◌&&◌, nat_eq, nat_lt, nat_le, if◌then◌else◌, Option, Some, None, option_map, List, [], ◌∷◌, length, set}
+use Rattle.std.specs.Prelude.{ℕ, ◌-◌, ◌*◌, Bool, true, false, not, ◌&&◌, nat_eq, nat_lt, nat_le, if◌then◌else◌, Option, Some, None, option_map, List, ◌∷◌, length, set}
 use Rattle.cov_base.specs.Codes.{breakpoint}
 use Rattle.cov_base.specs.FactSet.{FactSet}
 use Rattle.cov_base.specs.Facts.{with_fact, is_full, fact_of}
 use Rattle.cov_base.specs.States.{State, Visit}
 use Rattle.cov_base.specs.declared.facts.Fact.{Fact}
-use Rattle.cov_base.specs.declared.facts.Kind.{Kind}
-use Rattle.s370_state.specs.declared.endings.Ending.{Ending}
 use Rattle.s370_state.specs.declared.endings.Ending.TheVariants.{Returned, Spent}
 use Rattle.s370_state.specs.declared.endings.Next.{Next}
 use Rattle.s370_state.specs.declared.endings.Next.TheVariants.{On, Ended as NextEnded}

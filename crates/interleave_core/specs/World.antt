@@ -4,7 +4,6 @@ use Rattle.cov_base.specs.FactSet.{FactSet}
 use Rattle.cov_base.specs.Facts.{no_facts}
 use Rattle.cov_base.specs.Memory.{Memory}
 use Rattle.cov_base.specs.States.{State}
-use Rattle.s370_state.specs.Io.{fresh_io}
 use Rattle.module_area.specs.CellWords.{fresh_word}
 use Rattle.module_area.specs.PlanView.{PlanView, IsPlan}
 use Rattle.module_area.specs.declared.cells.Cell.{Cell}

@@ -1,11 +1,10 @@
-use Rattle.std.proofs.Common.{◌≡◌, ◌≢◌, ℕ, ◌+◌, ◌*◌, ◌/◌, ◌<◌, false, length, set, Some, ap, sym, ◌∙◌, refl, subst, arith}
+use Rattle.std.proofs.Common.{◌≡◌, ℕ, ◌+◌, ◌*◌, ◌/◌, ◌<◌, length, set, Some, ap, sym, ◌∙◌, subst, arith}
 use Rattle.cov_base.specs.Facts.{with_fact}
 use Rattle.interleave_core.specs.World.{World}
 use Rattle.interleave_core.specs.Steps.{Stepped, of_task, mark_step}
-use Rattle.interleave_core.specs.Views.{RunningView, CoreView, parts_of}
+use Rattle.interleave_core.specs.Views.{CoreView, parts_of}
 use Rattle.interleave_core.specs.declared.events.Shown.TheVariants.{Marked}
-use Rattle.module_area.specs.FinalsView.{index_of}
-use Rattle.interleave_core.specs.declared.stage.Due.TheVariants.{Marking, Nothing}
+use Rattle.interleave_core.specs.declared.stage.Due.TheVariants.{Marking}
 use Rattle.interleave_core.proofs.Kept.{read_running, hand_due, mark_index, mark_fits, marked_core, mark_possible}
 use Rattle.interleave_core.proofs.interleaving.Core.mark.Goals as goal
 
