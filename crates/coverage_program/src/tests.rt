@@ -1,5 +1,6 @@
 //! Jobs through `cover`, from the bytes in to the bytes out, over memory and over areas that threads share.
 mod cases;
+mod controllers;
 mod faults;
 mod gates;
 mod jobs;
@@ -9,6 +10,7 @@ mod modules;
 mod notation;
 mod noted;
 mod one_thread;
+mod opened;
 mod order;
 mod places;
 mod programs;
