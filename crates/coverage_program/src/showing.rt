@@ -9,7 +9,7 @@ ghost use Rattle.coverage_program.specs.Files.{IsFile, IsFileRefusal, IsShowRefu
 ghost use Rattle.coverage_program.specs.Incoming.{CameWith};
 ghost use Rattle.coverage_program.specs.Named.{session_number};
 ghost use Rattle.coverage_program.specs.Refusals.{Match, refusal};
-ghost use Rattle.coverage_program.specs.Words.{bad_marks_line, no_memory_line};
+ghost use Rattle.coverage_program.specs.Words.{to_go_on, bad_marks_line, no_memory_line};
 ghost use Rattle.job_run.specs.Runs.{Account};
 ghost use Rattle.report_text.specs.Conditions.{AreTablesOf};
 ghost use Rattle.session_book.specs.Sets.{HasSetsOf};
@@ -121,7 +121,7 @@ fn answer_file<K: Sink>(
     requires matching { Match job.now tables.now.tables }
     requires numbered { tables.now.places ≡ all_places tables.now.tables }
     requires number { session_number job.now name.now ≡ Some s.0 }
-    ensures { (c : SourceChange) (a : Account) (count : ℕ) → CameWith true c job.now count rest.now →
+    ensures { (c : SourceChange) (a : Account) (count : ℕ) → CameWith to_go_on c job.now count rest.now →
         Answers (Command.Show name.now) c (no_change a) (sink_change K.written K.faults sink.old sink.new) result.0 }
 {
     match sets_behind(alloc, job, tables, s, rest) {
@@ -139,7 +139,7 @@ pub fn answer_show<S: Source, K: Sink>(
 ) -> Status
     ensures { (a : Account) → Answers (Command.Show name.now) (source_change S.left S.faults source.old source.new) (no_change a) (sink_change K.written K.faults sink.old sink.new) result.0 }
 {
-    let (read, session) = match make_named(alloc, source, true, name) {
+    let (read, session) = match make_named(alloc, source, true, true, name) {
         Ok(read) => read,
         Err(refusal) => return told(sink, &refusal.line, refusal.status),
     };

@@ -9,6 +9,7 @@ mod marks;
 mod modules;
 mod notation;
 mod noted;
+mod one_thread;
 mod opened;
 mod order;
 mod places;

@@ -1,11 +1,11 @@
 -- Where no session may have a controller, each one of the job is whole.
-use Rattle.std.proofs.Common.{◌≡◌, ℕ, true, Option, Some, None, List, [], ◌∷◌, ◌++◌, get_or, All, refl, ap, subst, sym, ◌∙◌}
+use Rattle.std.proofs.Common.{◌≡◌, ℕ, true, Option, Some, None, List, [], ◌∷◌, ◌++◌, get_or, All, refl, ap, subst, sym}
 use Rattle.std.proofs.lemmas.List.Elements.{All-append, All-cons, All-nil, All-map}
 use Rattle.session_book.specs.JobView.{JobView, SessionView, TaskView}
 use Rattle.session_book.specs.Sessions.{is_whole}
 use Rattle.job_text.specs.Lines.{LineView}
-use Rattle.job_text.specs.Drafts.{SessionDraft, DraftView, Barred, bound_session, bound}
-use Rattle.job_text.specs.Adding.{no_job, with_phase, may_have, session_draft, with_session}
+use Rattle.job_text.specs.Drafts.{SessionDraft, DraftView, Barred, bound_session}
+use Rattle.job_text.specs.Adding.{no_job, may_have, session_draft, with_session}
 use Rattle.job_text.specs.Spells.{AreModules, IsModule, AreSessions, IsTaskBlock, AreTasks, IsPhase, ArePhases, Spells}
 use Rattle.job_text.proofs.Guards.{guard_none}
 use Rattle.job_text.proofs.Named.{session_added}

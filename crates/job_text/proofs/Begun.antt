@@ -1,5 +1,5 @@
 -- Lines that run begin a job: for each controller that is missing a task can still come.
-use Rattle.std.proofs.Common.{◌≡◌, ◌⊎◌, ℕ, ◌≤◌, zero, suc, Bool, true, false, not, ◌&&◌, ◌||◌, nat_eq, Option, Some, None, IfSome, List, [], ◌∷◌, ◌++◌, length, get_or, All, refl, ap, subst, sym, ◌∙◌, arith, append-nil, codes, option_and_then, option_map, inl, inr, ⊎_elim}
+use Rattle.std.proofs.Common.{◌≡◌, ◌⊎◌, ℕ, suc, Bool, true, false, not, ◌&&◌, ◌||◌, nat_eq, Option, Some, None, IfSome, List, [], ◌∷◌, ◌++◌, length, get_or, All, refl, ap, subst, sym, ◌∙◌, arith, codes, option_and_then, inl, inr, ⊎_elim}
 use Rattle.std.proofs.lemmas.Bool.Decides.{nat_tests}
 use Rattle.std.proofs.lemmas.List.Elements.{All-cons, All-nil, All-append}
 use Rattle.std.proofs.lemmas.List.Folds.{list_any-append}
@@ -8,20 +8,20 @@ use Rattle.std.proofs.lemmas.Slice.Eq.{bytes_eq-Decides}
 use Rattle.std.specs.List.{list_any, list_all}
 use Rattle.std.specs.Str.{bytes_eq}
 use Rattle.hex.proofs.OnLiterals.{hex_on_literals}
-use Rattle.cov_base.specs.Names.{is_letter, is_name_byte, is_name, name_at, unpadded}
+use Rattle.cov_base.specs.Names.{is_name_byte, name_at, unpadded}
 use Rattle.session_book.specs.JobView.{TaskView}
 use Rattle.job_text.specs.Lines.{LineView, listing_text}
 use Rattle.job_text.specs.Drafts.{SessionDraft, DraftView, Controllers, Barred, Present, Named, is_controller, is_met_by, is_met, are_met}
-use Rattle.job_text.specs.Words.{words, put_first, address_at, number_at}
+use Rattle.job_text.specs.Words.{words}
 use Rattle.job_text.specs.CardView.{CardView, Cover, Module, Text, Listing, Phase, Session, Task, Reg, Data, Input, End}
-use Rattle.job_text.specs.Cards.{card_at, card_of, as_task, task_card}
+use Rattle.job_text.specs.Cards.{card_at, card_of}
 use Rattle.job_text.specs.Adding.{with_module, with_phase, this_phase, may_have, with_session, has_task, with_task}
 use Rattle.job_text.specs.Spells.{JobBegins}
 use Rattle.job_text.specs.TaskParts.{fresh_task, task_more}
 use Rattle.job_text.specs.declared.limit.Limit.{Limit}
 use Rattle.job_text.specs.declared.parts.Part.{Part}
 use Rattle.job_text.specs.declared.parts.Part.TheVariants as part
-use Rattle.job_text.specs.Steps.{State, state, start, is_start, is_sessions, is_done, closed_module, closed_task, closed, no_bytes, with_bytes, module_over, session_over, phase_over, task_over, open_module, open_task, open_phase, add_session, take_text, take_listing, take_more, end, takes_raw, take_raw, take_card, step, run}
+use Rattle.job_text.specs.Steps.{State, state, start, is_start, is_sessions, is_done, closed_module, closed_task, closed, no_bytes, module_over, session_over, phase_over, task_over, open_module, open_task, open_phase, add_session, take_text, take_listing, take_more, end, takes_raw, take_raw, take_card, step, run}
 use Rattle.job_text.proofs.Guards.{some_same, guard_some, guard_more, guard_none, both, map_some, then_some, choose}
 use Rattle.job_text.proofs.CardFacts.{IsName, Good, card_good}
 use Rattle.job_text.proofs.Named.{session_added}

@@ -1,5 +1,5 @@
 -- What callers may conclude of lines: they spell a job within the limits, or one line of them is bad, or one passes a limit.
-use Rattle.std.proofs.Common.{◌≡◌, ℕ, ◌+◌, ◌-◌, ◌<◌, ◌≤◌, zero, suc, true, false, Option, Some, None, List, [], ◌∷◌, ◌++◌, length, take, drop, IfSome, All, refl, ap, subst, sym, ◌∙◌, arith, append_assoc, append-nil, inl, inr, take-append-drop, option_map}
+use Rattle.std.proofs.Common.{◌≡◌, ℕ, ◌+◌, ◌-◌, ◌<◌, ◌≤◌, zero, suc, true, false, Option, Some, None, List, [], ◌∷◌, ◌++◌, length, take, drop, IfSome, All, refl, ap, subst, sym, ◌∙◌, arith, append_assoc, append-nil, inl, inr, take-append-drop}
 use Rattle.std.proofs.Math.Seq.{take-length}
 use Rattle.std.proofs.lemmas.Bool.{cases_order, cases_lt}
 use Rattle.std.proofs.lemmas.List.{length-map, length-append, length-take-le}
@@ -7,7 +7,7 @@ use Rattle.std.proofs.lemmas.List.Elements.{All-append, All-cons, All-nil}
 use Rattle.std.specs.List.{list_any}
 use Rattle.std.specs.Str.{bytes_eq}
 use Rattle.session_book.specs.JobView.{JobView}
-use Rattle.job_text.specs.Drafts.{DraftView, Controllers, Named}
+use Rattle.job_text.specs.Drafts.{DraftView, Controllers}
 use Rattle.job_text.specs.Lines.{LineView, listing_text}
 use Rattle.job_text.specs.Spells.{joined, IsListed, IsModule, AreModules, AreSessions, IsTaskBlock, AreTasks, IsPhase, ArePhases, Spells, JobBegins}
 use Rattle.job_text.specs.Adding.{no_job, with_phase, with_session}

@@ -1,5 +1,5 @@
 -- What runs or spells a job does so, too, where controllers may be missing.
-use Rattle.std.proofs.Common.{◌≡◌, ℕ, true, false, not, Option, Some, None, List, [], ◌∷◌, refl, ap, option_map, option_and_then, inl, inr}
+use Rattle.std.proofs.Common.{◌≡◌, ℕ, true, false, Option, Some, None, List, [], ◌∷◌, refl, ap, option_map, option_and_then, inl, inr}
 use Rattle.std.specs.List.{list_any}
 use Rattle.std.specs.Str.{bytes_eq}
 use Rattle.session_book.specs.JobView.{JobView}
@@ -7,12 +7,12 @@ use Rattle.job_text.specs.Lines.{LineView, listing_text}
 use Rattle.job_text.specs.Drafts.{DraftView, Controllers, Barred, Present, Named, are_met}
 use Rattle.job_text.specs.CardView.{CardView, Phase, Session, End}
 use Rattle.job_text.specs.Cards.{card_at}
-use Rattle.job_text.specs.Adding.{has_task, with_task, indices_on, put_session, may_have, with_session}
+use Rattle.job_text.specs.Adding.{with_task, indices_on, put_session, may_have, with_session}
 use Rattle.job_text.specs.Spells.{AreSessions, IsPhase, ArePhases, Spells}
 use Rattle.job_text.specs.declared.parts.Part.{Part}
 use Rattle.job_text.specs.declared.parts.Part.TheVariants as part
 use Rattle.job_text.specs.Steps.{State, state, is_sessions, closed, session_over, open_phase, add_session, end, takes_raw, take_raw, take_card, step, run}
-use Rattle.job_text.proofs.Guards.{some_same, guard_some, guard_more, guard_then, map_some, then_some, choose}
+use Rattle.job_text.proofs.Guards.{guard_some, guard_more, guard_then, map_some, then_some, choose}
 
 named_may : (ask : Controllers) (j : DraftView) (by : Option (List ℕ)) → may_have ask j by ≡ true → may_have Named j by ≡ true
 named_may ask j None e = refl

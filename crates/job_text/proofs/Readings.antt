@@ -4,7 +4,7 @@ use Rattle.std.proofs.Math.Seq.{take-length, drop-length}
 use Rattle.std.proofs.lemmas.Bool.{cases_lt}
 use Rattle.std.proofs.lemmas.List.{take-take}
 use Rattle.session_book.specs.JobView.{JobView}
-use Rattle.job_text.specs.Drafts.{Controllers, Barred, Named, asked, bound}
+use Rattle.job_text.specs.Drafts.{Controllers, asked, bound}
 use Rattle.job_text.specs.Lines.{LineView, lines_of, ended_lines, span}
 use Rattle.job_text.specs.Limits.{keeps, IsWithin, Passes}
 use Rattle.job_text.specs.Pieces.{fault_line, IsTold, IsOpen, IsEnded, used_of}
@@ -17,7 +17,6 @@ use Rattle.job_text.specs.declared.jobs.JobFault.TheVariants as fault
 use Rattle.job_text.specs.declared.jobs.ReadJob.{ReadJob}
 use Rattle.job_text.specs.declared.limit.Limit.{Limit}
 use Rattle.job_text.specs.declared.limit.Limit.TheVariants as limit
-use Rattle.job_text.specs.declared.parts.Part.TheVariants as kind
 use Rattle.job_text.specs.declared.pieces.Fed.{Fed}
 use Rattle.job_text.specs.declared.pieces.Fed.TheVariants as fed
 use Rattle.job_text.specs.declared.pieces.Pieces.{Pieces}

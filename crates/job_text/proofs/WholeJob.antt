@@ -1,5 +1,5 @@
 -- A job that lines spell within the limits keeps the rules of jobs.
-use Rattle.std.proofs.Common.{◌≡◌, ◌≢◌, ℕ, ◌+◌, ◌%◌, ◌<◌, ◌≤◌, Bool, true, false, not, ◌&&◌, ◌||◌, nat_eq, nat_le, Option, Some, None, List, [], ◌∷◌, ◌++◌, length, map, refl, ap, sym, ◌∙◌, arith, nat_lt, cond, All, AllPairs, inl, inr, ◌⊎◌, slice_set, get_or, option_map, option_and_then, subst, IfSome, suc, position, eqb-true, eq-eqb}
+use Rattle.std.proofs.Common.{◌≡◌, ◌≢◌, ℕ, ◌+◌, ◌%◌, ◌<◌, ◌≤◌, Bool, true, false, not, ◌&&◌, ◌||◌, nat_eq, nat_le, Option, Some, None, List, [], ◌∷◌, ◌++◌, length, map, refl, ap, sym, ◌∙◌, arith, nat_lt, cond, All, AllPairs, inl, inr, ◌⊎◌, slice_set, get_or, option_and_then, subst, IfSome, suc, eqb-true, eq-eqb}
 use Rattle.std.proofs.lemmas.Bool.Decides.{nat_tests}
 use Rattle.std.specs.Str.{bytes_eq}
 use Rattle.std.specs.List.{list_any, concat, prefix_len}
@@ -15,7 +15,7 @@ use Rattle.module_area.specs.Views.{DataView}
 use Rattle.cov_base.specs.declared.limits.TheConstants.{MODULE_LIMIT, SIZE_LIMIT, LINE_LIMIT, PHASE_LIMIT, SESSION_LIMIT, TASK_LIMIT, PRIVATE_LIMIT, BUDGET_LIMIT, ROOM_LIMIT}
 use Rattle.session_book.specs.JobView.{JobView, SessionView, TaskView, IsJob, IsSession, IsListing, IsTaskOf, HasController, AreParted, Differ, first_regs}
 use Rattle.session_book.specs.JobView as book
-use Rattle.job_text.specs.Drafts.{SessionDraft, DraftView, Controllers, Barred, Present, Named, asked, is_controller, controller_of, is_met_by, is_met, are_met, bound_session, bound}
+use Rattle.job_text.specs.Drafts.{SessionDraft, DraftView, Controllers, Present, asked, is_controller, controller_of, is_met_by, is_met, are_met, bound_session, bound}
 use Rattle.job_text.specs.Lines.{LineView}
 use Rattle.job_text.specs.CardView.{Module, Session, Task}
 use Rattle.job_text.specs.Cards.{may_stand}

@@ -4,7 +4,7 @@ use Rattle.std.specs.List.{list_any, list_all}
 use Rattle.std.specs.Str.{bytes_eq}
 use Rattle.cov_base.specs.Memory.{ImageView}
 use Rattle.session_book.specs.JobView.{TaskView}
-use Rattle.job_text.specs.Drafts.{SessionDraft, DraftView, Controllers, Barred, Present, Named}
+use Rattle.job_text.specs.Drafts.{SessionDraft, DraftView, Controllers, Barred}
 
 abbrev pub no_job : DraftView
 no_job = record { images = []; listings = []; phases = []; sessions = []; tasks = [] }

@@ -1,7 +1,7 @@
 -- What reading a job gives, and when it ends with a refusal.
-use Rattle.std.specs.Prelude.{◌≡◌, ◌⊎◌, ℕ, ◌+◌, ◌-◌, ◌<◌, ◌≤◌, Bool, true, false, Result, Ok, Err, List, ◌++◌, length, take, drop, All}
+use Rattle.std.specs.Prelude.{◌≡◌, ◌⊎◌, ℕ, ◌+◌, ◌-◌, ◌<◌, ◌≤◌, Bool, true, false, Result, Ok, Err, List, ◌++◌, length, take, drop}
 use Rattle.session_book.specs.JobView.{JobView}
-use Rattle.session_book.specs.Sessions.{is_whole}
+use Rattle.session_book.specs.Sessions.{AreWhole}
 use Rattle.job_text.specs.Lines.{LineView, lines_of}
 use Rattle.job_text.specs.Drafts.{Controllers, asked}
 use Rattle.job_text.specs.Spells.{Spells, JobBegins}
@@ -18,7 +18,7 @@ pub record IsRead (by : Bool) (input : List ℕ) (r : ReadJob) : Type 0 where
   pub count : length (lines_of (take r.end input)) ≡ r.lines
   pub spells : Spells (asked by) (lines_of (take r.end input)) r.job
   pub within : IsWithin r.job
-  pub whole : by ≡ false → All (λ s. is_whole s ≡ true) r.job.sessions
+  pub whole : by ≡ false → AreWhole r.job
 
 -- The answer is this job, whose last line is line n, or want of memory: a job that was spelled is over, so that no line
 -- behind it is bad.

@@ -1,5 +1,5 @@
 -- What observes each place in a phase, and what a session's executions show.
-use Rattle.std.specs.Prelude.{ℕ, ◌+◌, ◌-◌, Bool, ◌&&◌, nat_eq, if◌then◌else◌, Option, Some, None, is_some, not, List, [], ◌∷◌, length, get_or, map}
+use Rattle.std.specs.Prelude.{◌≡◌, ℕ, ◌+◌, ◌-◌, Bool, true, ◌&&◌, nat_eq, if◌then◌else◌, Option, Some, None, is_some, not, List, [], ◌∷◌, length, get_or, map, All}
 use Rattle.std.specs.List.{list_any}
 use Rattle.cov_base.specs.Memory.{ImageView}
 use Rattle.cov_base.specs.States.{State, Visit}
@@ -35,6 +35,10 @@ task_of j t = get_or j.tasks t no_task
 -- no task opens and closes it
 abbrev pub is_whole : SessionView → Bool
 is_whole s = not (is_some s.by)
+
+-- all sessions of the job are so
+abbrev pub AreWhole : JobView → Type 0
+AreWhole j = All (λ s. is_whole s ≡ true) j.sessions
 
 -- the session is one of the phase and names the module
 abbrev pub observes : ℕ → ℕ → SessionView → Bool
