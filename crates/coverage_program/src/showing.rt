@@ -16,9 +16,9 @@ ghost use Rattle.session_book.specs.Sets.{HasSetsOf};
 ghost use Rattle.session_marks.specs.FromFile.{set_at, sets_of_one};
 ghost use Rattle.session_marks.specs.Marked.{session_marks};
 
-use crate::lines::{NO_MEMORY, bad_marks_line, other_table_line};
+use crate::lines::NO_MEMORY;
 use crate::ready::make_named;
-use crate::refusals::{Refusal, plain_refusal};
+use crate::refusals::{Refusal, bad_marks, other_table, plain_refusal};
 use crate::status::{Status, status_of, told};
 use crate::words::Command;
 use brk_table::Tables;
@@ -29,16 +29,6 @@ use report_text::{put, session_part, words_line};
 use session_book::{FactSets, Job};
 use session_marks::{FileSets, SetsFault, file_sets};
 use std::alloc::Global;
-
-/// The line of a bad field.
-fn bad_marks(offset: usize) -> Refusal
-    ensures { result ≡ refusal 10 (bad_marks_line offset) }
-{
-    Refusal {
-        status: 10,
-        line: bad_marks_line(offset),
-    }
-}
 
 /// The one marks file that the bytes are.
 fn one_file(alloc: Global, rest: &[u8]) -> Result<Marks, Refusal>
@@ -77,10 +67,7 @@ fn sets_behind(
     let marks = one_file(alloc, rest)?;
     match file_sets(alloc, job, tables, s, &marks) {
         Ok(sets) => Ok(sets),
-        Err(SetsFault::Other(other)) => Err(Refusal {
-            status: 11,
-            line: other_table_line(&other),
-        }),
+        Err(SetsFault::Other(other)) => Err(other_table(&other)),
         Err(SetsFault::NoMemory) => Err(plain_refusal(7, NO_MEMORY)),
     }
 }
