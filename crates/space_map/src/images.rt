@@ -8,6 +8,7 @@ use cov_base::Addr;
 use module_area::{Image, Images};
 
 /// The module that stands at the address.
+#[inline(always)]
 fn image_at(images: &[Image], a: u32) -> Option<&Image>
     ensures one { IfSome result (λ i. Contains images.now i.now) }
     ensures inside { IfSome result (λ i. in_image i.now a ≡ true) }
@@ -56,6 +57,7 @@ pub fn is_in_one_image(images: &Images, a: u32, len: u32) -> bool
 }
 
 /// The halfword where both its bytes stand in one module.
+#[inline(always)]
 pub fn image_half(images: &Images, a: u32) -> Option<u16>
     requires { AreImages images.now }
     ensures from { IsSome result → 1048576 ≤ a }

@@ -2,7 +2,7 @@ use Rattle.std.proofs.Common.{◌≡◌, true, length, refl}
 use Rattle.cov_base.specs.Memory.{can_reach}
 use Rattle.brk_table.specs.Places.{memory_of}
 use Rattle.space_map.proofs.SpaceLemmas.{reach_listed}
-use Rattle.space_map.proofs.space.TaskSpaceSpace.can_reach.Goals as goal
+use Rattle.space_map.proofs.space.TaskSpace.is_reached.Goals as goal
 
 pub returns-then-is_in_one_image : goal.returns-then-is_in_one_image
 returns-then-is_in_one_image c =
