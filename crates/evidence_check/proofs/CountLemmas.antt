@@ -1,0 +1,65 @@
+-- How many facts the sets of a marks file have.
+use Rattle.std.proofs.Common.{◌≡◌, ℕ, ◌+◌, ◌*◌, ◌<◌, ◌≤◌, zero, suc, Bool, true, false, if◌then◌else◌, nat_le, List, [], ◌∷◌, ◌++◌, length, get_or, drop, refl, sym, ◌∙◌, ap, arith}
+use Rattle.std.proofs.lemmas.List.{at_drop_more, at_drop_all}
+use Rattle.cov_base.specs.FactSet.{FactSet}
+use Rattle.module_area.specs.Counts.{fact_count}
+use Rattle.marks_file.specs.Marks.{MarkedView, MarksView, is_new_name, is_base, is_size, is_count, is_module, are_modules, is_module_count, are_marks, keeps_rules, place_count}
+use Rattle.marks_file.specs.declared.marks.MarkedPlace.{MarkedPlace}
+use Rattle.marks_file.proofs.MarksLemmas.{both-left, both-right, le_of_test, kept_modules, marks_count}
+use Rattle.evidence_check.specs.Claims.{facts_of_places, facts_of_modules}
+
+place_count-push : (ms : List MarkedView) (m : MarkedView) → place_count (ms ++ m ∷ []) ≡ place_count ms + length m.places
+place_count-push [] m = omega arith
+place_count-push (x ∷ ms) m = let e = place_count-push ms m in omega (arith, e)
+
+few_from : (earlier ms : List MarkedView) → place_count earlier ≤ 65536 → are_modules earlier ms ≡ true → place_count earlier + place_count ms ≤ 65536
+unfolding is_count
+few_from earlier [] few h = omega arith
+few_from earlier (m ∷ ms) few h =
+    let rest = both-right (is_size earlier m.base m.size) _ (both-right (is_base m.base) _ (both-right (is_new_name earlier m.name) _ (both-left (is_module earlier m) _ h))) in
+    let count = le_of_test (place_count earlier + length m.places) 65536 (both-left (is_count earlier (length m.places)) _ rest) in
+    let more = few_from (earlier ++ m ∷ []) ms (omega (arith, count, place_count-push earlier m)) (both-right (is_module earlier m) _ h) in
+    omega (arith, more, place_count-push earlier m)
+
+-- a marks file has at most 65,536 places, and 16 modules
+pub few_places : (m : MarksView) → keeps_rules m ≡ true → place_count m.modules ≤ 65536
+few_places m h = let few = few_from [] m.modules (omega arith) (both-right (is_module_count (length m.modules)) _ (kept_modules m h)) in omega arith
+
+pub few_modules : (m : MarksView) → keeps_rules m ≡ true → length m.modules ≤ 16
+few_modules m h = marks_count m.modules (kept_modules m h)
+
+bit-most : (b : Bool) → (if b then 1 else 0) ≤ 1
+bit-most true = omega arith
+bit-most false = omega arith
+
+fact_count-most : (s : FactSet) → fact_count s ≤ 3
+fact_count-most s = omega (arith, bit-most s.ran, bit-most s.went, bit-most s.stayed)
+
+pub facts_of_places-most : (ps : List MarkedPlace) → facts_of_places ps ≤ 3 * length ps
+facts_of_places-most [] = omega arith
+facts_of_places-most (p ∷ ps) = omega (arith, fact_count-most p.set, facts_of_places-most ps)
+
+pub facts_of_modules-most : (ms : List MarkedView) → facts_of_modules ms ≤ 3 * place_count ms
+facts_of_modules-most [] = omega arith
+facts_of_modules-most (m ∷ ms) = omega (arith, facts_of_places-most m.places, facts_of_modules-most ms)
+
+-- one of the modules has no more places than all
+pub places_within : (ms : List MarkedView) (i : ℕ) (d : MarkedView) → i < length ms → length (get_or ms i d).places ≤ place_count ms
+places_within [] i d lt = absurd (omega arith)
+places_within (m ∷ ms) zero d lt = omega arith
+places_within (m ∷ ms) (suc i) d lt = omega (arith, places_within ms i d (omega arith))
+
+-- one place or module more is counted
+pub count_place : (ps : List MarkedPlace) (i n more : ℕ) (d : MarkedPlace) → i < length ps → n + facts_of_places (drop i ps) ≡ facts_of_places ps → more ≡ fact_count (get_or ps i d).set →
+    n + more + facts_of_places (drop (i + 1) ps) ≡ facts_of_places ps
+count_place ps i n more d lt so_far is = omega (arith, so_far, is, at_drop_more facts_of_places ps i d lt)
+
+pub count_module : (ms : List MarkedView) (i n more : ℕ) (d : MarkedView) → i < length ms → n + facts_of_modules (drop i ms) ≡ facts_of_modules ms → more ≡ facts_of_places (get_or ms i d).places →
+    n + more + facts_of_modules (drop (i + 1) ms) ≡ facts_of_modules ms
+count_module ms i n more d lt so_far is = omega (arith, so_far, is, at_drop_more facts_of_modules ms i d lt)
+
+pub places_counted : (ps : List MarkedPlace) (i n : ℕ) → length ps ≤ i → n + facts_of_places (drop i ps) ≡ facts_of_places ps → n ≡ facts_of_places ps
+places_counted ps i n all so_far = omega (arith, so_far, at_drop_all facts_of_places ps i all)
+
+pub modules_counted : (ms : List MarkedView) (i n : ℕ) → length ms ≤ i → n + facts_of_modules (drop i ms) ≡ facts_of_modules ms → n ≡ facts_of_modules ms
+modules_counted ms i n all so_far = omega (arith, so_far, at_drop_all facts_of_modules ms i all)

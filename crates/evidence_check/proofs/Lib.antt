@@ -1,0 +1,12 @@
+pub mod CallLemmas
+pub mod CheckLemmas
+pub mod ClaimLemmas
+pub mod CountLemmas
+pub mod EntryLemmas
+pub mod FactLemmas
+pub mod FieldLemmas
+pub mod NoteLemmas
+pub mod PhaseLemmas
+pub mod RunLemmas
+pub mod VerifiedLemmas
+pub mod VisitLemmas

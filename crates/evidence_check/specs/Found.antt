@@ -1,0 +1,33 @@
+-- The first visits that were found so far.
+use Rattle.std.specs.Prelude.{◌≡◌, ℕ, ◌<◌, Option, None, List, length, get_or}
+use Rattle.std.specs.Option.{option_or}
+use Rattle.cov_base.specs.States.{Visit}
+use Rattle.cov_base.specs.declared.facts.Fact.{Fact}
+use Rattle.cov_base.specs.declared.facts.Fact.TheVariants.{Ran, Went, Stayed}
+use Rattle.module_area.specs.PlanView.{place_of}
+use Rattle.module_area.specs.declared.places.Place.{Place}
+use Rattle.session_book.specs.JobView.{JobView}
+use Rattle.evidence_check.specs.Firsts.{first_in, phase_first}
+use Rattle.evidence_check.specs.declared.firsts.First.{First}
+use Rattle.evidence_check.specs.declared.firsts.Found.{Found}
+
+abbrev pub found_of : Found → Fact → Option First
+found_of found Ran = found.ran
+found_of found Went = found.went
+found_of found Stayed = found.stayed
+
+abbrev pub none_found : Found
+none_found = record { ran = None; went = None; stayed = None }
+
+abbrev pub found_at : List Found → ℕ → Fact → Option First
+found_at found n f = found_of (get_or found n none_found) f
+
+-- from old to new the visits of task t were noted
+pub record Notes (places : List Place) (t : ℕ) (visits : List Visit) (old new : List Found) : Type 0 where
+  pub size : length new ≡ length old
+  pub firsts : (n : ℕ) → n < length places → (f : Fact) → found_at new n f ≡ option_or (found_at old n f) (first_in (place_of places n) f t visits)
+
+-- at each place the first visit of the phase's tasks for each fact
+pub record AreFirsts (j : JobView) (places : List Place) (phase : ℕ) (found : List Found) : Type 0 where
+  pub size : length found ≡ length places
+  pub firsts : (n : ℕ) → n < length places → (f : Fact) → found_at found n f ≡ phase_first j places phase n f
