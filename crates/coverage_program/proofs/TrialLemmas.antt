@@ -119,6 +119,10 @@ pub trial_tasks : (number tasks : ℕ) → length (trial_job number tasks).tasks
 unfolding trial_job
 trial_tasks number tasks = length-map-range_with_len trial_task 1 tasks
 
+pub trial_whole : (number tasks : ℕ) → AreWhole (trial_job number tasks)
+unfolding trial_job
+trial_whole number tasks = All-cons (λ (s : SessionView). is_whole s ≡ true) trial_session [] refl (All-nil (λ (s : SessionView). is_whole s ≡ true))
+
 pub trial_sessions : (number tasks : ℕ) → length (trial_job number tasks).sessions ≡ 1
 unfolding trial_job
 trial_sessions number tasks = refl
