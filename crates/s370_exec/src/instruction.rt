@@ -79,10 +79,10 @@ fn link_code(code: &Code, ex: &Option<Addr>) -> u8
     }
 }
 
-/// Performs a fixed-point operation in the place where it is called: of a given operation only its own steps stay there.
+/// A fixed-point operation in the place where it is called: of a given operation only its own steps stay there.
 #[inline(always)]
 #[tactic(auto, unfolding(crate::specs::Effects::effect))]
-fn perform_here<P: Space>(
+fn fixed_here<P: Space>(
     cpu: &mut Cpu,
     space: &mut P,
     code: &Code,
@@ -112,7 +112,7 @@ fn tell(next: Next, end: &mut Ending) -> Told
     }
 }
 
-/// Performs a branch in the place where it is called.
+/// A branch in the place where it is called.
 #[inline(always)]
 #[tactic(auto, unfolding(crate::specs::Effects::effect))]
 fn branch_here(cpu: &mut Cpu, code: &Code, op: Op, next: Addr, link: u8) -> Told
@@ -125,10 +125,10 @@ fn branch_here(cpu: &mut Cpu, code: &Code, op: Op, next: Addr, link: u8) -> Told
     Told::GoesOn
 }
 
-/// Performs any operation that is no branch.
+/// Carries out any operation that is no branch.
 #[inline(never)]
 #[tactic(auto, unfolding(crate::specs::Effects::effect))]
-fn perform_any<P: Space>(
+fn carry_out_any<P: Space>(
     cpu: &mut Cpu,
     space: &mut P,
     io: &mut TaskIo,
@@ -170,9 +170,9 @@ fn perform_any<P: Space>(
     }
 }
 
-/// The same: the operations that load, store or compute with a word or halfword in storage have their steps here.
+/// The same: other operations that load, store or compute with a word or halfword in storage have their steps here.
 #[inline(never)]
-fn perform_stored<P: Space>(
+fn carry_out_stored<P: Space>(
     cpu: &mut Cpu,
     space: &mut P,
     io: &mut TaskIo,
@@ -186,26 +186,56 @@ fn perform_stored<P: Space>(
         effect (P.memory space.old) (machine_of cpu.old (P.bytes space.old)) io.old code.now (op_of (first_half code.now)) next link }
 {
     match op_of(code.first_half()) {
-        Op::L => perform_here(cpu, space, code, Op::L, next, end),
-        Op::LH => perform_here(cpu, space, code, Op::LH, next, end),
-        Op::ST => perform_here(cpu, space, code, Op::ST, next, end),
-        Op::STH => perform_here(cpu, space, code, Op::STH, next, end),
-        Op::A => perform_here(cpu, space, code, Op::A, next, end),
-        Op::AH => perform_here(cpu, space, code, Op::AH, next, end),
-        Op::S => perform_here(cpu, space, code, Op::S, next, end),
-        Op::SH => perform_here(cpu, space, code, Op::SH, next, end),
-        Op::AL => perform_here(cpu, space, code, Op::AL, next, end),
-        Op::SL => perform_here(cpu, space, code, Op::SL, next, end),
-        Op::C => perform_here(cpu, space, code, Op::C, next, end),
-        Op::CH => perform_here(cpu, space, code, Op::CH, next, end),
-        _ => perform_any(cpu, space, io, code, next, end),
+        Op::LH => fixed_here(cpu, space, code, Op::LH, next, end),
+        Op::STH => fixed_here(cpu, space, code, Op::STH, next, end),
+        Op::A => fixed_here(cpu, space, code, Op::A, next, end),
+        Op::AH => fixed_here(cpu, space, code, Op::AH, next, end),
+        Op::S => fixed_here(cpu, space, code, Op::S, next, end),
+        Op::SH => fixed_here(cpu, space, code, Op::SH, next, end),
+        Op::AL => fixed_here(cpu, space, code, Op::AL, next, end),
+        Op::SL => fixed_here(cpu, space, code, Op::SL, next, end),
+        Op::C => fixed_here(cpu, space, code, Op::C, next, end),
+        Op::CH => fixed_here(cpu, space, code, Op::CH, next, end),
+        _ => carry_out_any(cpu, space, io, code, next, end),
     }
 }
 
-/// Performs an instruction that no EX executes. Where the task has ended `end` tells how.
+/// L, which is frequent and has a frame of its own.
+#[inline(never)]
+fn load_word<P: Space>(
+    cpu: &mut Cpu,
+    space: &mut P,
+    code: &Code,
+    next: Addr,
+    end: &mut Ending,
+) -> Told
+    ensures memory { P.memory space.new ≡ P.memory space.old }
+    ensures effect { (io : IoView) (link : ℕ) → effect_of cpu.new (P.bytes space.new) io (next_of result end.new) ≡
+        effect (P.memory space.old) (machine_of cpu.old (P.bytes space.old)) io code.now Op.L next link }
+{
+    fixed_here(cpu, space, code, Op::L, next, end)
+}
+
+/// ST, likewise.
+#[inline(never)]
+fn store_word<P: Space>(
+    cpu: &mut Cpu,
+    space: &mut P,
+    code: &Code,
+    next: Addr,
+    end: &mut Ending,
+) -> Told
+    ensures memory { P.memory space.new ≡ P.memory space.old }
+    ensures effect { (io : IoView) (link : ℕ) → effect_of cpu.new (P.bytes space.new) io (next_of result end.new) ≡
+        effect (P.memory space.old) (machine_of cpu.old (P.bytes space.old)) io code.now Op.ST next link }
+{
+    fixed_here(cpu, space, code, Op::ST, next, end)
+}
+
+/// Carries out an instruction that no EX executes. Where the task has ended `end` tells how.
 /// The operations on registers alone and the branches have their steps here, of which none is a call.
 #[inline(never)]
-fn perform<P: Space>(
+fn carry_out<P: Space>(
     cpu: &mut Cpu,
     space: &mut P,
     io: &mut TaskIo,
@@ -216,36 +246,38 @@ fn perform<P: Space>(
     ensures effect { effect_of cpu.new (P.bytes space.new) io.new (next_of result end.new) ≡
         effect (P.memory space.old) (machine_of cpu.old (P.bytes space.old)) io.old code.now (op_of (first_half code.now)) (updated code.now None) (link_code code.now None) }
 {
+    let op = op_of(code.first_half());
     let next = updated(code, &None);
-    match op_of(code.first_half()) {
-        Op::LR => perform_here(cpu, space, code, Op::LR, next, end),
-        Op::LTR => perform_here(cpu, space, code, Op::LTR, next, end),
-        Op::LCR => perform_here(cpu, space, code, Op::LCR, next, end),
-        Op::LPR => perform_here(cpu, space, code, Op::LPR, next, end),
-        Op::LNR => perform_here(cpu, space, code, Op::LNR, next, end),
-        Op::LA => perform_here(cpu, space, code, Op::LA, next, end),
-        Op::AR => perform_here(cpu, space, code, Op::AR, next, end),
-        Op::SR => perform_here(cpu, space, code, Op::SR, next, end),
-        Op::ALR => perform_here(cpu, space, code, Op::ALR, next, end),
-        Op::SLR => perform_here(cpu, space, code, Op::SLR, next, end),
-        Op::CR => perform_here(cpu, space, code, Op::CR, next, end),
+    match op {
+        Op::L => load_word(cpu, space, code, next, end),
+        Op::ST => store_word(cpu, space, code, next, end),
+        Op::LR => fixed_here(cpu, space, code, Op::LR, next, end),
+        Op::LTR => fixed_here(cpu, space, code, Op::LTR, next, end),
+        Op::LCR => fixed_here(cpu, space, code, Op::LCR, next, end),
+        Op::LPR => fixed_here(cpu, space, code, Op::LPR, next, end),
+        Op::LNR => fixed_here(cpu, space, code, Op::LNR, next, end),
+        Op::LA => fixed_here(cpu, space, code, Op::LA, next, end),
+        Op::AR => fixed_here(cpu, space, code, Op::AR, next, end),
+        Op::SR => fixed_here(cpu, space, code, Op::SR, next, end),
+        Op::ALR => fixed_here(cpu, space, code, Op::ALR, next, end),
+        Op::SLR => fixed_here(cpu, space, code, Op::SLR, next, end),
+        Op::CR => fixed_here(cpu, space, code, Op::CR, next, end),
         Op::BC => branch_here(cpu, code, Op::BC, next, link_code(code, &None)),
         Op::BCR => branch_here(cpu, code, Op::BCR, next, link_code(code, &None)),
         Op::BCT => branch_here(cpu, code, Op::BCT, next, link_code(code, &None)),
         Op::BCTR => branch_here(cpu, code, Op::BCTR, next, link_code(code, &None)),
         Op::BAL => branch_here(cpu, code, Op::BAL, next, link_code(code, &None)),
         Op::BALR => branch_here(cpu, code, Op::BALR, next, link_code(code, &None)),
-        Op::BAS => branch_here(cpu, code, Op::BAS, next, link_code(code, &None)),
-        Op::BASR => branch_here(cpu, code, Op::BASR, next, link_code(code, &None)),
-        Op::BXH => branch_here(cpu, code, Op::BXH, next, link_code(code, &None)),
-        Op::BXLE => branch_here(cpu, code, Op::BXLE, next, link_code(code, &None)),
-        _ => perform_stored(cpu, space, io, code, next, end),
+        Op::BAS | Op::BASR | Op::BXH | Op::BXLE => {
+            branch_here(cpu, code, op, next, link_code(code, &None))
+        }
+        _ => carry_out_stored(cpu, space, io, code, next, end),
     }
 }
 
 /// The same for the subject of the EX at the address.
 #[inline(never)]
-fn perform_subject<P: Space>(
+fn carry_out_subject<P: Space>(
     cpu: &mut Cpu,
     space: &mut P,
     io: &mut TaskIo,
@@ -261,7 +293,7 @@ fn perform_subject<P: Space>(
     let next = updated(code, &Some(ex));
     match group_of(op) {
         Group::Branch => branch_here(cpu, code, op, next, link_code(code, &Some(ex))),
-        _ => perform_stored(cpu, space, io, code, next, end),
+        _ => carry_out_stored(cpu, space, io, code, next, end),
     }
 }
 
@@ -282,8 +314,8 @@ pub fn execute<P: Space>(
 {
     let mut end = Ending::Spent;
     let told = match ex {
-        None => perform(cpu, space, io, code, &mut end),
-        Some(at) => perform_subject(cpu, space, io, code, at, &mut end),
+        None => carry_out(cpu, space, io, code, &mut end),
+        Some(at) => carry_out_subject(cpu, space, io, code, at, &mut end),
     };
     match told {
         Told::GoesOn => Next::On,

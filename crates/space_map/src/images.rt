@@ -33,6 +33,7 @@ pub fn is_image(images: &Images, a: u32) -> bool
 }
 
 /// The module's byte, or 0 where none stands.
+#[inline(never)]
 pub fn image_byte(images: &Images, a: u32) -> u8
     ensures { result ≡ image_byte images.now a }
 {

@@ -249,6 +249,7 @@ impl<'a> Space for TaskSpace<'a> {
         }
     }
 
+    #[inline(always)]
     #[tactic(auto, unfolding(brk_table::specs::Places::memory_of, cov_base::specs::Memory::byte_at, cov_base::specs::Memory::is_accessible))]
     fn byte(&self, at: Addr) -> u8 {
         if (at.get() as usize) < self.bytes.len() {
