@@ -2,6 +2,7 @@
 ghost use Rattle.std.specs.Prelude.{◌≡◌, ◌≢◌, ◌<◌, ◌≤◌, length, IfOk};
 ghost use Rattle.cov_base.specs.Codes.{breakpoint, kind_of};
 ghost use Rattle.module_area.specs.PlanView.{IsPlan, original_at, kind_at, window_at};
+ghost use Rattle.module_area.specs.Control.{places_under};
 
 use crate::places::Place;
 use cov_base::{Kind, PlaceNo, SessNo, TaskNo};
@@ -94,6 +95,19 @@ impl Plan {
         ensures session { result ≤ self.now.sessions }
     {
         self.windows[place.0 as usize]
+    }
+
+    /// The places of the controlled session of that number, rising; none where there is no such session.
+    pub fn places_under(&self, s: SessNo) -> &[PlaceNo]
+        ensures value { result.now ≡ places_under self.now s.0 }
+        ensures plan { IsPlan self.now }
+    {
+        for c in &self.controlled {
+            if c.session.0 == s.0 {
+                return &c.places;
+            }
+        }
+        &[]
     }
 
     /// A copy.
