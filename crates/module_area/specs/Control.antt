@@ -1,5 +1,6 @@
 -- A controller's sessions, and what opening the next one and closing the open one change.
-use Rattle.std.specs.Prelude.{ℕ, ◌+◌, ◌-◌, ◌*◌, nat_eq, if◌then◌else◌, Option, Some, None, List, [], ◌∷◌, length, slice_get}
+use Rattle.std.specs.Prelude.{ℕ, ◌+◌, ◌-◌, ◌*◌, nat_eq, if◌then◌else◌, Option, Some, None, List, [], ◌∷◌, map, length, slice_get}
+use Rattle.std.specs.List.{filter}
 use Rattle.cov_base.specs.declared.numbers.PlaceNo.{PlaceNo}
 use Rattle.cov_base.specs.declared.numbers.SessNo.{SessNo}
 use Rattle.module_area.specs.PlanView.{PlanView, ControlledView, has_place}
@@ -18,6 +19,16 @@ places_in (c ∷ cs) s = if nat_eq c.session s then c.places else places_in cs s
 
 abbrev pub places_under : PlanView → ℕ → List PlaceNo
 places_under plan s = places_in plan.controlled s
+
+-- the sessions of the task, and its control before it opened one
+abbrev pub number_of : ControlledView → SessNo
+number_of c = record { 0 = c.session }
+
+abbrev pub sessions_of : PlanView → ℕ → List SessNo
+sessions_of plan t = map number_of (filter (λ (c : ControlledView). nat_eq c.by t) plan.controlled)
+
+abbrev pub first_control : PlanView → ℕ → ControlView
+first_control plan t = record { sessions = sessions_of plan t; next = 0; opened = None }
 
 -- the session that opening opens: the next one, where none is open
 abbrev pub unless_open : Option SessNo → Option SessNo → Option SessNo

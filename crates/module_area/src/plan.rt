@@ -2,8 +2,9 @@
 ghost use Rattle.std.specs.Prelude.{◌≡◌, ◌≢◌, ◌<◌, ◌≤◌, length, IfOk};
 ghost use Rattle.cov_base.specs.Codes.{breakpoint, kind_of};
 ghost use Rattle.module_area.specs.PlanView.{IsPlan, original_at, kind_at, window_at};
-ghost use Rattle.module_area.specs.Control.{places_under};
+ghost use Rattle.module_area.specs.Control.{places_under, first_control};
 
+use crate::control::Control;
 use crate::places::Place;
 use cov_base::{Kind, PlaceNo, SessNo, TaskNo};
 use std::alloc::{AllocError, Global};
@@ -108,6 +109,23 @@ impl Plan {
             }
         }
         &[]
+    }
+
+    /// The control of the task, which has opened none of its sessions.
+    pub fn control_of(&self, alloc: Global, task: TaskNo) -> Result<Control, AllocError>
+        ensures { IfOk result (λ c. c ≡ first_control self.now task.0) }
+    {
+        let mut sessions = Vec::new(alloc);
+        for c in &self.controlled {
+            if c.by.0 == task.0 {
+                sessions.push(c.session)?;
+            }
+        }
+        Ok(Control {
+            sessions,
+            next: 0,
+            opened: None,
+        })
     }
 
     /// A copy.
