@@ -113,7 +113,8 @@ impl Plan {
 
     /// The control of the task, which has opened none of its sessions.
     pub fn control_of(&self, alloc: Global, task: TaskNo) -> Result<Control, AllocError>
-        ensures { IfOk result (λ c. c ≡ first_control self.now task.0) }
+        ensures value { IfOk result (λ c. c ≡ first_control self.now task.0) }
+        ensures plan { IfOk result (λ c. IsPlan self.now) }
     {
         let mut sessions = Vec::new(alloc);
         for c in &self.controlled {

@@ -56,6 +56,7 @@ pub fn open_next<C: Cells>(cells: &C, pass: &mut C::Pass, plan: &Plan, control: 
     requires tied { IsTied plan.now (C.notes pass.old) control.old }
     ensures area { C.is_pass cells.now pass.new }
     ensures tied { IsTied plan.now (C.notes pass.new) control.new }
+    ensures bears { (C.notes pass.new).bears ≡ (C.notes pass.old).bears }
     ensures control { control.new ≡ opening control.old (to_open control.old) }
     ensures notes { C.notes pass.new ≡ after_open plan.now (C.notes pass.old) (to_open control.old) }
     ensures calls { calls (C.notes pass.new) ≤ calls (C.notes pass.old) + PLACE_LIMIT }
@@ -76,6 +77,7 @@ pub fn close_open<C: Cells>(cells: &C, pass: &mut C::Pass, plan: &Plan, control:
     requires tied { IsTied plan.now (C.notes pass.old) control.old }
     ensures area { C.is_pass cells.now pass.new }
     ensures tied { IsTied plan.now (C.notes pass.new) control.new }
+    ensures bears { (C.notes pass.new).bears ≡ (C.notes pass.old).bears }
     ensures control { control.new ≡ closing control.old }
     ensures notes { C.notes pass.new ≡ after_end plan.now (C.notes pass.old) control.old.opened }
     ensures calls { calls (C.notes pass.new) ≤ calls (C.notes pass.old) + PLACE_LIMIT }

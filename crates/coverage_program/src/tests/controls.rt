@@ -22,6 +22,7 @@ fn opens<C: Cells>(cells: &C, pass: &mut C::Pass, plan: &Plan, control: &mut Con
     requires tied { IsTied plan.now (C.notes pass.old) control.old }
     ensures area { C.is_pass cells.now pass.new }
     ensures tied { IsTied plan.now (C.notes pass.new) control.new }
+    ensures bears { (C.notes pass.new).bears ≡ (C.notes pass.old).bears }
     ensures room { calls (C.notes pass.new) < calls (C.notes pass.old) + 2 ^ 17 }
 {
     open_next(cells, pass, plan, control);
@@ -35,15 +36,36 @@ fn closes<C: Cells>(cells: &C, pass: &mut C::Pass, plan: &Plan, control: &mut Co
     requires tied { IsTied plan.now (C.notes pass.old) control.old }
     ensures area { C.is_pass cells.now pass.new }
     ensures tied { IsTied plan.now (C.notes pass.new) control.new }
+    ensures bears { (C.notes pass.new).bears ≡ (C.notes pass.old).bears }
     ensures room { calls (C.notes pass.new) < calls (C.notes pass.old) + 2 ^ 17 }
 {
     close_open(cells, pass, plan, control);
     (control.next, control.opened)
 }
 
-/// Where the control stands after each of these calls, by the pass of task 1 in an area of its own.
-#[tactic(auto, using(module_area::proofs::TiedLemmas::first_tied))]
-fn course<A: Areas>(
+/// Where the control stands after each of these calls.
+fn course<C: Cells>(cells: &C, pass: &mut C::Pass, plan: &Plan, control: &mut Control) -> [Stand; 7]
+    requires area { C.is_pass cells.now pass.old }
+    requires plan { C.plan cells.now ≡ plan.now }
+    requires room { calls (C.notes pass.old) < 2 ^ 60 }
+    requires tied { IsTied plan.now (C.notes pass.old) control.old }
+    ensures area { C.is_pass cells.now pass.new }
+    ensures bears { (C.notes pass.new).bears ≡ (C.notes pass.old).bears }
+    ensures room { calls (C.notes pass.new) < calls (C.notes pass.old) + 2 ^ 20 }
+{
+    [
+        closes(cells, pass, plan, control),
+        opens(cells, pass, plan, control),
+        opens(cells, pass, plan, control),
+        closes(cells, pass, plan, control),
+        opens(cells, pass, plan, control),
+        closes(cells, pass, plan, control),
+        opens(cells, pass, plan, control),
+    ]
+}
+
+/// The same by the pass of task 1 in an area of its own.
+fn course_in_area<A: Areas>(
     alloc: Global,
     areas: &mut A,
     plan: &Plan,
@@ -56,15 +78,7 @@ where
     let (cells, mut root) = areas.make(alloc, plan)?;
     let mut control = plan.control_of(alloc, TaskNo(1))?;
     let mut pass = cells.split(&mut root, TaskNo(1));
-    let stands = [
-        closes(&cells, &mut pass, plan, &mut control),
-        opens(&cells, &mut pass, plan, &mut control),
-        opens(&cells, &mut pass, plan, &mut control),
-        closes(&cells, &mut pass, plan, &mut control),
-        opens(&cells, &mut pass, plan, &mut control),
-        closes(&cells, &mut pass, plan, &mut control),
-        opens(&cells, &mut pass, plan, &mut control),
-    ];
+    let stands = course(&cells, &mut pass, plan, &mut control);
     cells.join(&mut root, pass);
     areas.finish(alloc, cells, root)?;
     Ok(stands)
@@ -174,7 +188,7 @@ fn each_session_is_opened_and_closed_once(rt: HostRuntime) -> Result<(), Fail> {
     let gate = Arrivals::new(alloc, 2)?;
     let shared = SharedAreas::new(alloc, 1).map_err(|_| "memory")?;
     let mut areas = NotedAreas::new(shared, &gate);
-    let stands = course(alloc, &mut areas, &plan)?;
+    let stands = course_in_area(alloc, &mut areas, &plan)?;
     assert_eq!(rt; stands, STANDS);
     assert_eq!(rt; areas.calls.as_slice(), CALLS.as_slice());
     let tally = Tally {
