@@ -1,6 +1,7 @@
 //! Jobs through `cover`, from the bytes in to the bytes out, over memory and over areas that threads share.
 mod cases;
 mod controllers;
+mod controls;
 mod faults;
 mod gates;
 mod jobs;
