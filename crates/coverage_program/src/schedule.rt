@@ -110,12 +110,7 @@ fn play_plant<'a>(core: &mut Core<'a>, t: TaskNo) -> Result<Played, NotPossible>
     ensures fits { Fits core.old.world core.old.parts → Fits core.new.world core.new.parts }
 {
     match plant_due(core, t) {
-        Some((s, p)) => play_event(
-            core,
-            Item::Plant(t),
-            Event::Plant(s, p),
-            Some((s, p)),
-        ),
+        Some((s, p)) => play_event(core, Item::Plant(t), Event::Plant(s, p), Some((s, p))),
         None => Err(NotPossible),
     }
 }
@@ -129,12 +124,7 @@ fn play_close<'a>(core: &mut Core<'a>, t: TaskNo) -> Result<Played, NotPossible>
     ensures fits { Fits core.old.world core.old.parts → Fits core.new.world core.new.parts }
 {
     match close_due(core, t) {
-        Some((s, p)) => play_event(
-            core,
-            Item::Close(t),
-            Event::Close(s, p),
-            Some((s, p)),
-        ),
+        Some((s, p)) => play_event(core, Item::Close(t), Event::Close(s, p), Some((s, p))),
         None => Err(NotPossible),
     }
 }
