@@ -7,7 +7,9 @@ use Rattle.coverage_program.proofs.TrialLemmas.{trial_tasks, trial_sessions, tri
 use Rattle.coverage_program.proofs.trial.answer_job.Goals as goal
 
 pub run_job-requires-clause-whole : goal.run_job-requires-clause-whole
-run_job-requires-clause-whole g c = subst AreWhole (sym c.requires.job) (trial_whole c.args.number c.args.tasks)
+run_job-requires-clause-whole g c = λ κs x.
+    let whole : AreWhole c.args.job.now = subst (λ (j : JobView). AreWhole j) (sym c.requires.job) (trial_whole c.args.number c.args.tasks) in
+    whole
 
 pub trial_text-requires-clause-tasks : goal.trial_text-requires-clause-tasks
 trial_text-requires-clause-tasks g c =
