@@ -11,6 +11,7 @@ use Rattle.cov_base.specs.Memory.{ImageView}
 use Rattle.cov_outside.specs.Causes.{Rose}
 use Rattle.brk_table.specs.Places.{TableView, TablesView, first_place, place_count}
 use Rattle.job_text.specs.Lines.{LineView, lines_of, put_on}
+use Rattle.job_text.specs.Drafts.{Present}
 use Rattle.job_text.specs.Spells.{Spells}
 use Rattle.job_text.proofs.Spelled.{one_first}
 use Rattle.marks_file.specs.Marks.{MarkedView, MarksView}
@@ -30,7 +31,7 @@ use Rattle.coverage_program.specs.Files.{HasRest, IsFile, IsNoFile}
 use Rattle.coverage_program.specs.Inputs.{input_limit}
 use Rattle.coverage_program.specs.Named.{session_number}
 use Rattle.coverage_program.specs.Refusals.{AreTablesFrom, Match}
-use Rattle.coverage_program.specs.Words.{reads_job, takes_more, session_named, makes_areas, makes_job}
+use Rattle.coverage_program.specs.Words.{reads_job, Reading, to_go_on, reading_of, session_named, makes_areas, makes_job}
 use Rattle.coverage_program.specs.declared.words.Command.{Command}
 use Rattle.coverage_program.specs.declared.words.Command.TheVariants.{Run, Marks, Table, Replay, Combine, Show, Unknown}
 use Rattle.coverage_program.proofs.OneTables.{one_of, one_places}
@@ -44,7 +45,7 @@ pub data IsCombining (b : List ℕ) (status : ℕ) : Type 0 where
   Strange : (d : Difference) → IsOtherTable b d → status ≡ 11 → IsCombining b status
   Lacking : status ≡ 7 → IsCombining b status
 
-files_stop : (more : Bool) (name : Option (List ℕ)) (s : SourceChange) (status : ℕ) (text b : List ℕ) → IsStopped false more name s status text → s.left ≡ Some b → length b ≤ input_limit → (Rose s.faults s.later → ⊥) → status ≡ 7
+files_stop : (more : Reading) (name : Option (List ℕ)) (s : SourceChange) (status : ℕ) (text b : List ℕ) → IsStopped false more name s status text → s.left ≡ Some b → length b ≤ input_limit → (Rose s.faults s.later → ⊥) → status ≡ 7
 files_stop more name s status text b (BadJob t p q) e l quiet = absurd (not_both false t refl)
 files_stop more name s status text b (LargeJob t p q) e l quiet = absurd (not_both false t refl)
 files_stop more name s status text b (NoSession t p q) e l quiet = absurd (not_both false t refl)
@@ -67,7 +68,7 @@ files_outcome c s a status text b (BadShown name p q k) same e l quiet = let x :
 files_outcome c s a status text b (OtherShown name p q k) same e l quiet = let x : Show name ≡ Combine = sym p.1 ∙ same in absurd cc
 files_outcome c s a status text b (Usage p k) same e l quiet = let x : Unknown ≡ Combine = sym p.1 ∙ same in absurd cc
 files_outcome c s a status text b (Stopped p q k) same e l quiet =
-    Lacking (files_stop (takes_more c) (session_named c) s status text b (subst (λ (d : Command). IsStopped (reads_job d) (takes_more c) (session_named c) s status text) same q) e l quiet)
+    Lacking (files_stop (reading_of c) (session_named c) s status text b (subst (λ (d : Command). IsStopped (reads_job d) (reading_of c) (session_named c) s status text) same q) e l quiet)
 files_outcome c s a status text b (NoMemoryToRun p q) same e l quiet = absurd (not_both (makes_areas c) p.1 (ap makes_areas same))
 files_outcome c s a status text b (Tried number tasks p q) same e l quiet = absurd (not_both (makes_job c) (ap makes_job p.1) (ap makes_job same))
 files_outcome c s a status text b (NoMemoryToTry p q) same e l quiet = absurd (not_both (makes_job c) p.1 (ap makes_job same))
@@ -103,7 +104,7 @@ large_files c s a status text b (Shown name p q k) same e l quiet = let x : Show
 large_files c s a status text b (BadShown name p q k) same e l quiet = let x : Show name ≡ Combine = sym p.1 ∙ same in absurd cc
 large_files c s a status text b (OtherShown name p q k) same e l quiet = let x : Show name ≡ Combine = sym p.1 ∙ same in absurd cc
 large_files c s a status text b (Usage p k) same e l quiet = let x : Unknown ≡ Combine = sym p.1 ∙ same in absurd cc
-large_files c s a status text b (Stopped p q k) same e l quiet = large_stop (reads_job c) (takes_more c) (session_named c) s status text b q e l quiet
+large_files c s a status text b (Stopped p q k) same e l quiet = large_stop (reads_job c) (reading_of c) (session_named c) s status text b q e l quiet
 large_files c s a status text b (NoMemoryToRun p q) same e l quiet = absurd (not_both (makes_areas c) p.1 (ap makes_areas same))
 large_files c s a status text b (Tried number tasks p q) same e l quiet = absurd (not_both (makes_job c) (ap makes_job p.1) (ap makes_job same))
 large_files c s a status text b (NoMemoryToTry p q) same e l quiet = absurd (not_both (makes_job c) p.1 (ap makes_job same))
@@ -160,8 +161,8 @@ one_rest : (name n : List ℕ) (s : SourceChange) (b : List ℕ) (j k : JobView)
 one_rest name n s b j k tables others number other rest bytes named e r h =
     let c = r.came in
     let same : b ≡ r.bytes = came_is s b r.bytes e c.came in
-    let there : Spells (take c.has.count (lines_of b)) k = subst (λ (t : List ℕ). Spells (take c.has.count (lines_of t)) k) (sym same) c.has.spells in
-    let one = one_first (lines_of b) h.has.count c.has.count j k h.has.inside (subst (λ (t : List ℕ). c.has.count ≤ length (lines_of t)) (sym same) c.has.inside) h.has.spells there in
+    let there : Spells Present (take c.has.count (lines_of b)) k = subst (λ (t : List ℕ). Spells Present (take c.has.count (lines_of t)) k) (sym same) c.has.spells in
+    let one = one_first Present (lines_of b) h.has.count c.has.count j k h.has.inside (subst (λ (t : List ℕ). c.has.count ≤ length (lines_of t)) (sym same) c.has.inside) h.has.spells there in
     let jobs : j ≡ k = one.1 in
     let counts : h.has.count ≡ r.count = one.0 ∙ c.counts in
     let mine : Match j others.tables = subst (λ (i : JobView). Match i others.tables) (sym jobs) r.match in
@@ -206,8 +207,8 @@ show_outcome c name s a status text b j tables number rest (OtherShown n p q k) 
     OfOther q.modules q.difference (subst (λ (r : List ℕ). IsFile r q.modules) i.rests q.file) (subst (λ (t : List (List ℕ)). first_difference 0 t (rows q.modules) ≡ Some q.difference) table q.differs) p.0
 show_outcome c name s a status text b j tables number rest (Usage p k) same h e quiet = let x : Unknown ≡ Show name = sym p.1 ∙ same in absurd cc
 show_outcome c name s a status text b j tables number rest (Stopped p q k) same h e quiet =
-    let stop : IsStopped true true (Some name) s status text = subst (λ (d : Command). IsStopped (reads_job d) (takes_more d) (session_named d) s status text) same q in
-    Wanting (matched_stop true (Some name) s status text b j stop e h.few h.has (subst IsSome (sym h.is_number) refl) h.match.faultless quiet).0
+    let stop : IsStopped true to_go_on (Some name) s status text = subst (λ (d : Command). IsStopped (reads_job d) (reading_of d) (session_named d) s status text) same q in
+    Wanting (matched_stop to_go_on (Some name) s status text b j stop e h.few h.has (subst IsSome (sym h.is_number) refl) h.match.faultless quiet).0
 show_outcome c name s a status text b j tables number rest (NoMemoryToRun p q) same h e quiet = absurd (not_both (makes_areas c) p.1 (ap makes_areas same))
 show_outcome c name s a status text b j tables number rest (Tried n tasks p q) same h e quiet = absurd (not_both (makes_job c) (ap makes_job p.1) (ap makes_job same))
 show_outcome c name s a status text b j tables number rest (NoMemoryToTry p q) same h e quiet = absurd (not_both (makes_job c) p.1 (ap makes_job same))

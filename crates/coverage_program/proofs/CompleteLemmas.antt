@@ -4,6 +4,7 @@ use Rattle.std.proofs.Common.{◌≡◌, ◌⊎◌, inl, inr, ℕ, ◌<◌, ◌�
 use Rattle.cov_outside.specs.Causes.{Rose}
 use Rattle.session_book.specs.JobView.{JobView}
 use Rattle.job_text.specs.Lines.{LineView, lines_of}
+use Rattle.job_text.specs.Drafts.{Present, asked}
 use Rattle.job_text.specs.Refusals.{IsBadAt, IsOverAt}
 use Rattle.job_text.specs.Spells.{Spells}
 use Rattle.job_text.specs.declared.limit.Limit.{Limit}
@@ -22,7 +23,7 @@ use Rattle.coverage_program.specs.Refusals.{RefusalView, job_refusal, Match}
 use Rattle.coverage_program.specs.Replay.{Play, Bad, Whole, play_of, play_status}
 use Rattle.coverage_program.proofs.OneTables.{one_places}
 use Rattle.job_run.specs.Runs.{Account}
-use Rattle.coverage_program.specs.Words.{reads_input, reads_job, takes_more, makes_areas, makes_job, session_named}
+use Rattle.coverage_program.specs.Words.{reads_input, reads_job, Reading, to_run, to_list, to_go_on, reading_of, makes_areas, makes_job, session_named}
 use Rattle.coverage_program.proofs.StopLemmas.{came_is, same_job, not_both, not_named, matched_stop, refused_stop, never_came, bad_stop, never_large, over_stop, too_many, large_stop, missing_stop, HasNone}
 use Rattle.coverage_program.proofs.BehindLemmas.{large_files, files_outcome, united_case, bad_files_case, other_files_case, show_outcome, shown_case, bad_shown_case, other_shown_case}
 use Rattle.coverage_program.specs.Files.{HasRest}
@@ -30,13 +31,13 @@ use Rattle.coverage_program.proofs.TrialLemmas.{IsMade, Summed, Lacking, made}
 
 -- A command that reads a job answers of one whose listings match and which has the session that was named, or why there is
 -- none. What stands behind it may be refused.
-pub data IsOutcome (more : Bool) (name : Option (List ℕ)) (s : SourceChange) (status : ℕ) (text : List ℕ) : Type 0 where
-  Done : (j : JobView) → (status ≡ 0) ⊎ (more ≡ true) → CameJob more s j → HasNamed name j → job_refusal j ≡ None → IsOutcome more name s status text
-  None' : IsStopped true more name s status text → IsOutcome more name s status text
-  Wanting : status ≡ 7 → IsOutcome more name s status text
+pub data IsOutcome (how : Reading) (name : Option (List ℕ)) (s : SourceChange) (status : ℕ) (text : List ℕ) : Type 0 where
+  Done : (j : JobView) → (status ≡ 0) ⊎ (how.more ≡ true) → CameJob how s j → HasNamed name j → job_refusal j ≡ None → IsOutcome how name s status text
+  None' : IsStopped true how name s status text → IsOutcome how name s status text
+  Wanting : status ≡ 7 → IsOutcome how name s status text
 
-came_by : (c : Command) (more : Bool) (s : SourceChange) (j : JobView) → takes_more c ≡ more → CameJob more s j → CameJob (takes_more c) s j
-came_by c more s j e came = subst (λ (b : Bool). CameJob b s j) (sym e) came
+came_by : (c : Command) (how : Reading) (s : SourceChange) (j : JobView) → reading_of c ≡ how → CameJob how s j → CameJob (reading_of c) s j
+came_by c how s j e came = subst (λ (b : Reading). CameJob b s j) (sym e) came
 
 named_by : (c d : Command) (j : JobView) → c ≡ d → HasNamed (session_named d) j → HasNamed (session_named c) j
 named_by c d j e h = subst (λ (x : Command). HasNamed (session_named x) j) (sym e) h
@@ -44,20 +45,20 @@ named_by c d j e h = subst (λ (x : Command). HasNamed (session_named x) j) (sym
 found : (j : JobView) (name : List ℕ) (n : ℕ) → session_number j name ≡ Some n → IsSome (session_number j name)
 found j name n e = subst IsSome (sym e) refl
 
-first_by : (c : Command) (s : SourceChange) (j : JobView) (tables : TablesView) (play : Play) → c ≡ Replay → HasPlay s j tables play → CameJob (takes_more c) s j
-first_by c s j tables play e h = came_by c true s j (ap takes_more e) (record { bytes = h.bytes; came = h.came.came; has = h.came.has })
+first_by : (c : Command) (s : SourceChange) (j : JobView) (tables : TablesView) (play : Play) → c ≡ Replay → HasPlay s j tables play → CameJob (reading_of c) s j
+first_by c s j tables play e h = came_by c to_go_on s j (ap reading_of e) (record { bytes = h.bytes; came = h.came.came; has = h.came.has })
 
 -- a job and a file behind it
-shown_done : (c : Command) (name : List ℕ) (s : SourceChange) (status : ℕ) (text : List ℕ) (j : JobView) (tables : TablesView) (n : ℕ) (rest : List ℕ) → c ≡ Show name → HasRest name s j tables n rest → IsOutcome (takes_more c) (session_named c) s status text
+shown_done : (c : Command) (name : List ℕ) (s : SourceChange) (status : ℕ) (text : List ℕ) (j : JobView) (tables : TablesView) (n : ℕ) (rest : List ℕ) → c ≡ Show name → HasRest name s j tables n rest → IsOutcome (reading_of c) (session_named c) s status text
 shown_done c name s status text j tables n rest e h =
-    Done j (inr (ap takes_more e)) (came_by c true s j (ap takes_more e) (record { bytes = h.bytes; came = h.came.came; has = h.came.has })) (named_by c (Show name) j e (found j name n h.is_number)) h.match.faultless
+    Done j (inr (ap (λ (d : Command). (reading_of d).more) e)) (came_by c to_go_on s j (ap reading_of e) (record { bytes = h.bytes; came = h.came.came; has = h.came.has })) (named_by c (Show name) j e (found j name n h.is_number)) h.match.faultless
 
-outcome : (c : Command) (s : SourceChange) (a : AreasChange) (status : ℕ) (text : List ℕ) → IsCause c s a status text → reads_job c ≡ true → IsOutcome (takes_more c) (session_named c) s status text
-outcome c s a status text (Report p q) r = Done q.job (inl p.0) (came_by c false s q.job (ap takes_more p.1) q.came.came) (named_by c Run q.job p.1 tt) q.came.match.faultless
-outcome c s a status text (Recorded name p q) r = Done q.job (inl p.0) (came_by c false s q.job (ap takes_more p.1) q.came.came) (named_by c (Marks name) q.job p.1 (found q.job name q.number q.is_number)) q.came.match.faultless
-outcome c s a status text (Places p q k) r = Done q.job (inl p.0) (came_by c false s q.job (ap takes_more p.1) q.came.came) (named_by c Table q.job p.1 tt) q.came.match.faultless
+outcome : (c : Command) (s : SourceChange) (a : AreasChange) (status : ℕ) (text : List ℕ) → IsCause c s a status text → reads_job c ≡ true → IsOutcome (reading_of c) (session_named c) s status text
+outcome c s a status text (Report p q) r = Done q.job (inl p.0) (came_by c to_run s q.job (ap reading_of p.1) q.came.came) (named_by c Run q.job p.1 tt) q.came.match.faultless
+outcome c s a status text (Recorded name p q) r = Done q.job (inl p.0) (came_by c to_run s q.job (ap reading_of p.1) q.came.came) (named_by c (Marks name) q.job p.1 (found q.job name q.number q.is_number)) q.came.match.faultless
+outcome c s a status text (Places p q k) r = Done q.job (inl p.0) (came_by c to_list s q.job (ap reading_of p.1) q.came.came) (named_by c Table q.job p.1 tt) q.came.match.faultless
 outcome c s a status text (Replayed p q k) r = Done q.job (inl p.0) (first_by c s q.job q.tables (Whole q.core q.played) p.1 q.has) (named_by c Replay q.job p.1 tt) q.has.match.faultless
-outcome c s a status text (BadSchedule p q k) r = Done q.job (inr (ap takes_more p.1)) (first_by c s q.job q.tables (Bad q.line) p.1 q.has) (named_by c Replay q.job p.1 tt) q.has.match.faultless
+outcome c s a status text (BadSchedule p q k) r = Done q.job (inr (ap (λ (d : Command). (reading_of d).more) p.1)) (first_by c s q.job q.tables (Bad q.line) p.1 q.has) (named_by c Replay q.job p.1 tt) q.has.match.faultless
 outcome c s a status text (United p q k) r = absurd (not_both (reads_job c) r (ap reads_job p.1))
 outcome c s a status text (BadFile p q k) r = absurd (not_both (reads_job c) r (ap reads_job p.1))
 outcome c s a status text (OtherFile p q k) r = absurd (not_both (reads_job c) r (ap reads_job p.1))
@@ -65,24 +66,24 @@ outcome c s a status text (Shown name p q k) r = shown_done c name s status text
 outcome c s a status text (BadShown name p q k) r = shown_done c name s status text q.job q.tables q.number q.rest p.1 q.has
 outcome c s a status text (OtherShown name p q k) r = shown_done c name s status text q.job q.tables q.number q.rest p.1 q.has
 outcome c s a status text (Usage p k) r = absurd (not_both (reads_job c) r (ap reads_job p.1))
-outcome c s a status text (Stopped p q k) r = None' (subst (λ (b : Bool). IsStopped b (takes_more c) (session_named c) s status text) r q)
+outcome c s a status text (Stopped p q k) r = None' (subst (λ (b : Bool). IsStopped b (reading_of c) (session_named c) s status text) r q)
 outcome c s a status text (NoMemoryToRun p q) r = Wanting p.0
 outcome c s a status text (Tried number tasks p q) r = absurd (not_both (reads_job c) r (ap reads_job p.1))
 outcome c s a status text (NoMemoryToTry p q) r = Wanting p.0
 
-matched_case : (name : Option (List ℕ)) (s : SourceChange) (status : ℕ) (text b : List ℕ) (j : JobView) → IsOutcome false name s status text → s.left ≡ Some b → length b ≤ input_limit → HasJob false (lines_of b) j → HasNamed name j → job_refusal j ≡ None → (Rose s.faults s.later → ⊥) → (status ≡ 0) ⊎ (status ≡ 7)
-matched_case name s status text b j (Done k p came h f) e l has named none quiet = elim p [ inl h ↦ inl h | inr h ↦ absurd (not_both false h refl) ]
-matched_case name s status text b j (None' q) e l has named none quiet = inr (matched_stop false name s status text b j q e l has named none quiet).0
-matched_case name s status text b j (Wanting p) e l has named none quiet = inr p
+matched_case : (how : Reading) (name : Option (List ℕ)) (s : SourceChange) (status : ℕ) (text b : List ℕ) (j : JobView) → how.more ≡ false → IsOutcome how name s status text → s.left ≡ Some b → length b ≤ input_limit → HasJob how (lines_of b) j → HasNamed name j → job_refusal j ≡ None → (Rose s.faults s.later → ⊥) → (status ≡ 0) ⊎ (status ≡ 7)
+matched_case how name s status text b j alone (Done k p came h f) e l has named none quiet = elim p [ inl h ↦ inl h | inr h ↦ absurd (not_both how.more h alone) ]
+matched_case how name s status text b j alone (None' q) e l has named none quiet = inr (matched_stop how name s status text b j q e l has named none quiet).0
+matched_case how name s status text b j alone (Wanting p) e l has named none quiet = inr p
 
 -- the play of a job's schedule is determined
-same_play : (s : SourceChange) (b : List ℕ) (j k : JobView) (tables others : TablesView) (play : Play) (has : HasJob true (lines_of b) j) → s.left ≡ Some b → Match j tables.tables → tables.places ≡ all_places tables.tables → HasPlay s k others play →
+same_play : (s : SourceChange) (b : List ℕ) (j k : JobView) (tables others : TablesView) (play : Play) (has : HasJob to_go_on (lines_of b) j) → s.left ≡ Some b → Match j tables.tables → tables.places ≡ all_places tables.tables → HasPlay s k others play →
     play_of j tables.places has.count (drop has.count (lines_of b)) ≡ play
 same_play s b j k tables others play has e match' numbered p =
     let c = p.came in
     let same : b ≡ p.bytes = came_is s b p.bytes e c.came in
-    let there : Spells (take c.has.count (lines_of b)) k = subst (λ (t : List ℕ). Spells (take c.has.count (lines_of t)) k) (sym same) c.has.spells in
-    let one = one_first (lines_of b) has.count c.has.count j k has.inside (subst (λ (t : List ℕ). c.has.count ≤ length (lines_of t)) (sym same) c.has.inside) has.spells there in
+    let there : Spells Present (take c.has.count (lines_of b)) k = subst (λ (t : List ℕ). Spells Present (take c.has.count (lines_of t)) k) (sym same) c.has.spells in
+    let one = one_first Present (lines_of b) has.count c.has.count j k has.inside (subst (λ (t : List ℕ). c.has.count ≤ length (lines_of t)) (sym same) c.has.inside) has.spells there in
     let jobs : j ≡ k = one.1 in
     let places : tables.places ≡ others.places = numbered ∙ (one_places j tables.tables others.tables match' (subst (λ (i : JobView). Match i others.tables) (sym jobs) p.match) ∙ sym p.numbered) in
     let counts : has.count ≡ p.count = one.0 ∙ c.counts in
@@ -93,7 +94,7 @@ same_play s b j k tables others play has e match' numbered p =
 abbrev Replays : Command → SourceChange → List ℕ → JobView → TablesView → Type 0
 Replays c s b j tables = (c ≡ Replay) × (s.left ≡ Some b) × (length b ≤ input_limit) × Match j tables.tables × (tables.places ≡ all_places tables.tables) × (Rose s.faults s.later → ⊥)
 
-replayed_case : (c : Command) (s : SourceChange) (a : AreasChange) (status : ℕ) (text b : List ℕ) (j : JobView) (tables : TablesView) (has : HasJob true (lines_of b) j) → IsCause c s a status text → Replays c s b j tables →
+replayed_case : (c : Command) (s : SourceChange) (a : AreasChange) (status : ℕ) (text b : List ℕ) (j : JobView) (tables : TablesView) (has : HasJob to_go_on (lines_of b) j) → IsCause c s a status text → Replays c s b j tables →
     (status ≡ play_status (play_of j tables.places has.count (drop has.count (lines_of b)))) ⊎ (status ≡ 7)
 replayed_case c s a status text b j tables has (Report p q) r = let x : Run ≡ Replay = sym p.1 ∙ r.0 in absurd cc
 replayed_case c s a status text b j tables has (Recorded name p q) r = let x : Marks name ≡ Replay = sym p.1 ∙ r.0 in absurd cc
@@ -110,40 +111,40 @@ replayed_case c s a status text b j tables has (BadShown name p q k) r = let x :
 replayed_case c s a status text b j tables has (OtherShown name p q k) r = let x : Show name ≡ Replay = sym p.1 ∙ r.0 in absurd cc
 replayed_case c s a status text b j tables has (Usage p k) r = let x : Unknown ≡ Replay = sym p.1 ∙ r.0 in absurd cc
 replayed_case c s a status text b j tables has (Stopped p q k) r =
-    let stop : IsStopped true true None s status text = subst (λ (d : Command). IsStopped (reads_job d) (takes_more d) (session_named d) s status text) r.0 q in
-    inr (matched_stop true None s status text b j stop r.1 r.2 has tt r.3.faultless r.5).0
+    let stop : IsStopped true to_go_on None s status text = subst (λ (d : Command). IsStopped (reads_job d) (reading_of d) (session_named d) s status text) r.0 q in
+    inr (matched_stop to_go_on None s status text b j stop r.1 r.2 has tt r.3.faultless r.5).0
 replayed_case c s a status text b j tables has (NoMemoryToRun p q) r = inr p.0
 replayed_case c s a status text b j tables has (Tried number tasks p q) r = let x : Trial number tasks ≡ Replay = sym p.1 ∙ r.0 in absurd cc
 replayed_case c s a status text b j tables has (NoMemoryToTry p q) r = inr p.0
 
-refused_case : (more : Bool) (name : Option (List ℕ)) (s : SourceChange) (status : ℕ) (text b : List ℕ) (j : JobView) (r : RefusalView) → IsOutcome more name s status text → s.left ≡ Some b → length b ≤ input_limit → HasJob more (lines_of b) j → HasNamed name j → job_refusal j ≡ Some r → (Rose s.faults s.later → ⊥) →
+refused_case : (how : Reading) (name : Option (List ℕ)) (s : SourceChange) (status : ℕ) (text b : List ℕ) (j : JobView) (r : RefusalView) → IsOutcome how name s status text → s.left ≡ Some b → length b ≤ input_limit → HasJob how (lines_of b) j → HasNamed name j → job_refusal j ≡ Some r → (Rose s.faults s.later → ⊥) →
     (status ≡ r.status) ⊎ (status ≡ 7)
-refused_case more name s status text b j r (Done k p came h f) e l has named some quiet =
-    let x : Some r ≡ None = sym some ∙ (ap job_refusal (same_job more s b j k e has came) ∙ f) in absurd cc
-refused_case more name s status text b j r (None' q) e l has named some quiet = refused_stop more name s status text b j r q e l has named some quiet
-refused_case more name s status text b j r (Wanting p) e l has named some quiet = inr p
+refused_case how name s status text b j r (Done k p came h f) e l has named some quiet =
+    let x : Some r ≡ None = sym some ∙ (ap job_refusal (same_job how s b j k e has came) ∙ f) in absurd cc
+refused_case how name s status text b j r (None' q) e l has named some quiet = refused_stop how name s status text b j r q e l has named some quiet
+refused_case how name s status text b j r (Wanting p) e l has named some quiet = inr p
 
-missing_case : (more : Bool) (name : Option (List ℕ)) (s : SourceChange) (status : ℕ) (text b : List ℕ) (j : JobView) (wanted : List ℕ) → IsOutcome more name s status text → s.left ≡ Some b → length b ≤ input_limit → HasJob more (lines_of b) j → name ≡ Some wanted → session_number j wanted ≡ None → (Rose s.faults s.later → ⊥) →
+missing_case : (how : Reading) (name : Option (List ℕ)) (s : SourceChange) (status : ℕ) (text b : List ℕ) (j : JobView) (wanted : List ℕ) → IsOutcome how name s status text → s.left ≡ Some b → length b ≤ input_limit → HasJob how (lines_of b) j → name ≡ Some wanted → session_number j wanted ≡ None → (Rose s.faults s.later → ⊥) →
     (status ≡ 13) ⊎ (status ≡ 7)
-missing_case more name s status text b j wanted (Done k p came h f) e l has n none quiet =
-    absurd (not_named name j wanted n none (subst (λ (i : JobView). HasNamed name i) (sym (same_job more s b j k e has came)) h))
-missing_case more name s status text b j wanted (None' q) e l has n none quiet = missing_stop more name s status text b j wanted q e l has n none quiet
-missing_case more name s status text b j wanted (Wanting p) e l has n none quiet = inr p
+missing_case how name s status text b j wanted (Done k p came h f) e l has n none quiet =
+    absurd (not_named name j wanted n none (subst (λ (i : JobView). HasNamed name i) (sym (same_job how s b j k e has came)) h))
+missing_case how name s status text b j wanted (None' q) e l has n none quiet = missing_stop how name s status text b j wanted q e l has n none quiet
+missing_case how name s status text b j wanted (Wanting p) e l has n none quiet = inr p
 
-bad_case : (more : Bool) (name : Option (List ℕ)) (s : SourceChange) (status : ℕ) (text b : List ℕ) (n : ℕ) → IsOutcome more name s status text → s.left ≡ Some b → length b ≤ input_limit → IsBadAt (lines_of b) n → HasNone more b → (Rose s.faults s.later → ⊥) → (status ≡ 2) ⊎ (status ≡ 7)
-bad_case more name s status text b n (Done k p came h f) e l bad none quiet = absurd (never_came more s b k e none came)
-bad_case more name s status text b n (None' q) e l bad none quiet = bad_stop more name s status text b n q e l bad none quiet
-bad_case more name s status text b n (Wanting p) e l bad none quiet = inr p
+bad_case : (how : Reading) (name : Option (List ℕ)) (s : SourceChange) (status : ℕ) (text b : List ℕ) (n : ℕ) → IsOutcome how name s status text → s.left ≡ Some b → length b ≤ input_limit → IsBadAt (asked how.by) (lines_of b) n → HasNone how b → (Rose s.faults s.later → ⊥) → (status ≡ 2) ⊎ (status ≡ 7)
+bad_case how name s status text b n (Done k p came h f) e l bad none quiet = absurd (never_came how s b k e none came)
+bad_case how name s status text b n (None' q) e l bad none quiet = bad_stop how name s status text b n q e l bad none quiet
+bad_case how name s status text b n (Wanting p) e l bad none quiet = inr p
 
-over_case : (more : Bool) (name : Option (List ℕ)) (s : SourceChange) (status : ℕ) (text b : List ℕ) (what : Limit) (n : ℕ) → IsOutcome more name s status text → s.left ≡ Some b → length b ≤ input_limit → IsOverAt (lines_of b) what n → (Rose s.faults s.later → ⊥) → (status ≡ 4) ⊎ (status ≡ 7)
-over_case more name s status text b what n (Done k p came h f) e l over quiet = absurd (never_large more s b k what n e over came)
-over_case more name s status text b what n (None' q) e l over quiet = over_stop more name s status text b what n q e l over quiet
-over_case more name s status text b what n (Wanting p) e l over quiet = inr p
+over_case : (how : Reading) (name : Option (List ℕ)) (s : SourceChange) (status : ℕ) (text b : List ℕ) (what : Limit) (n : ℕ) → IsOutcome how name s status text → s.left ≡ Some b → length b ≤ input_limit → IsOverAt (asked how.by) (lines_of b) what n → (Rose s.faults s.later → ⊥) → (status ≡ 4) ⊎ (status ≡ 7)
+over_case how name s status text b what n (Done k p came h f) e l over quiet = absurd (never_large how s b k what n e over came)
+over_case how name s status text b what n (None' q) e l over quiet = over_stop how name s status text b what n q e l over quiet
+over_case how name s status text b what n (Wanting p) e l over quiet = inr p
 
-large_case : (more : Bool) (name : Option (List ℕ)) (s : SourceChange) (status : ℕ) (text b : List ℕ) → IsOutcome more name s status text → s.left ≡ Some b → input_limit < length b → (Rose s.faults s.later → ⊥) → (status ≡ 4) ⊎ (status ≡ 7)
-large_case more name s status text b (Done k p came h f) e l quiet = absurd (too_many s b came.bytes e l came.came)
-large_case more name s status text b (None' q) e l quiet = large_stop true more name s status text b q e l quiet
-large_case more name s status text b (Wanting p) e l quiet = inr p
+large_case : (how : Reading) (name : Option (List ℕ)) (s : SourceChange) (status : ℕ) (text b : List ℕ) → IsOutcome how name s status text → s.left ≡ Some b → input_limit < length b → (Rose s.faults s.later → ⊥) → (status ≡ 4) ⊎ (status ≡ 7)
+large_case how name s status text b (Done k p came h f) e l quiet = absurd (too_many s b came.bytes e l came.came)
+large_case how name s status text b (None' q) e l quiet = large_stop true how name s status text b q e l quiet
+large_case how name s status text b (Wanting p) e l quiet = inr p
 
 usage_case : (c : Command) (s : SourceChange) (a : AreasChange) (status : ℕ) (text : List ℕ) → IsCause c s a status text → c ≡ Unknown → status ≡ 1
 usage_case c s a status text (Report p q) u = let e : Run ≡ Unknown = sym p.1 ∙ u in absurd cc
@@ -174,21 +175,21 @@ reads_all Combine t = inr refl
 reads_all (Show name) t = inl refl
 reads_all Unknown t = absurd cc
 
-as_read : (c d : Command) (s : SourceChange) (status : ℕ) (text : List ℕ) → c ≡ d → IsOutcome (takes_more c) (session_named c) s status text → IsOutcome (takes_more d) (session_named d) s status text
-as_read c d s status text e o = subst (λ (x : Command). IsOutcome (takes_more x) (session_named x) s status text) e o
+as_read : (c d : Command) (s : SourceChange) (status : ℕ) (text : List ℕ) → c ≡ d → IsOutcome (reading_of c) (session_named c) s status text → IsOutcome (reading_of d) (session_named d) s status text
+as_read c d s status text e o = subst (λ (x : Command). IsOutcome (reading_of x) (session_named x) s status text) e o
 
 -- a run and a table need no name
-plain_case : (c d : Command) (s : SourceChange) (a : AreasChange) (status : ℕ) (text b : List ℕ) (j : JobView) → IsCause c s a status text → c ≡ d → reads_job d ≡ true → takes_more d ≡ false → HasNamed (session_named d) j → s.left ≡ Some b → length b ≤ input_limit → HasJob false (lines_of b) j → job_refusal j ≡ None → (Rose s.faults s.later → ⊥) → (status ≡ 0) ⊎ (status ≡ 7)
-plain_case c d s a status text b j cause same reads more named e l has none quiet =
-    let o : IsOutcome (takes_more d) (session_named d) s status text = as_read c d s status text same (outcome c s a status text cause (ap reads_job same ∙ reads)) in
-    matched_case (session_named d) s status text b j (subst (λ (m : Bool). IsOutcome m (session_named d) s status text) more o) e l has named none quiet
+plain_case : (c d : Command) (s : SourceChange) (a : AreasChange) (status : ℕ) (text b : List ℕ) (j : JobView) → IsCause c s a status text → c ≡ d → reads_job d ≡ true → (reading_of d).more ≡ false → HasNamed (session_named d) j → s.left ≡ Some b → length b ≤ input_limit → HasJob (reading_of d) (lines_of b) j → job_refusal j ≡ None → (Rose s.faults s.later → ⊥) → (status ≡ 0) ⊎ (status ≡ 7)
+plain_case c d s a status text b j cause same reads alone named e l has none quiet =
+    let o : IsOutcome (reading_of d) (session_named d) s status text = as_read c d s status text same (outcome c s a status text cause (ap reads_job same ∙ reads)) in
+    matched_case (reading_of d) (session_named d) s status text b j alone o e l has named none quiet
 
-run_or_table : (c : Command) (s : SourceChange) (a : AreasChange) (status : ℕ) (text b : List ℕ) (j : JobView) → IsCause c s a status text → (c ≡ Run) ⊎ (c ≡ Table) → s.left ≡ Some b → length b ≤ input_limit → HasJob false (lines_of b) j → job_refusal j ≡ None → (Rose s.faults s.later → ⊥) → (status ≡ 0) ⊎ (status ≡ 7)
-run_or_table c s a status text b j cause (inl same) e l has none quiet = plain_case c Run s a status text b j cause same refl refl tt e l has none quiet
-run_or_table c s a status text b j cause (inr same) e l has none quiet = plain_case c Table s a status text b j cause same refl refl tt e l has none quiet
+run_or_table : (c : Command) (s : SourceChange) (a : AreasChange) (status : ℕ) (text b : List ℕ) (j : JobView) → IsCause c s a status text → (c ≡ Run) ⊎ (c ≡ Table) → s.left ≡ Some b → length b ≤ input_limit → HasJob (reading_of c) (lines_of b) j → job_refusal j ≡ None → (Rose s.faults s.later → ⊥) → (status ≡ 0) ⊎ (status ≡ 7)
+run_or_table c s a status text b j cause (inl same) e l has none quiet = plain_case c Run s a status text b j cause same refl refl tt e l (subst (λ (d : Command). HasJob (reading_of d) (lines_of b) j) same has) none quiet
+run_or_table c s a status text b j cause (inr same) e l has none quiet = plain_case c Table s a status text b j cause same refl refl tt e l (subst (λ (d : Command). HasJob (reading_of d) (lines_of b) j) same has) none quiet
 
 large_any : (c : Command) (s : SourceChange) (a : AreasChange) (status : ℕ) (text b : List ℕ) → IsCause c s a status text → (reads_job c ≡ true) ⊎ (c ≡ Combine) → s.left ≡ Some b → input_limit < length b → (Rose s.faults s.later → ⊥) → (status ≡ 4) ⊎ (status ≡ 7)
-large_any c s a status text b cause (inl r) e l quiet = large_case (takes_more c) (session_named c) s status text b (outcome c s a status text cause r) e l quiet
+large_any c s a status text b cause (inl r) e l quiet = large_case (reading_of c) (session_named c) s status text b (outcome c s a status text cause r) e l quiet
 large_any c s a status text b cause (inr same) e l quiet = large_files c s a status text b cause same e l quiet
 
 joined : (status m n : ℕ) → m ≡ n → (status ≡ n) ⊎ (status ≡ 7) → (status ≡ m) ⊎ (status ≡ 7)
@@ -199,10 +200,10 @@ joined status m n e (inr h) = inr h
 pub status_of : (c : Command) (s : SourceChange) (a : AreasChange) (status : ℕ) (text b : List ℕ) (n : ℕ) → IsCause c s a status text → s.left ≡ Some b → IsAnswer c b n → (Rose s.faults s.later → ⊥) → (status ≡ n) ⊎ (status ≡ 7)
 status_of c s a status text b n cause e (wanted.Usage u i) quiet = inl (usage_case c s a status text cause u ∙ sym i)
 status_of c s a status text b n cause e (wanted.LargeInput t l i) quiet = joined status n 4 i (large_any c s a status text b cause (reads_all c t) e l quiet)
-status_of c s a status text b n cause e (wanted.BadJob m t l bad none i) quiet = joined status n 2 i (bad_case (takes_more c) (session_named c) s status text b m (outcome c s a status text cause t) e l bad none quiet)
-status_of c s a status text b n cause e (wanted.LargeJob what m t l over i) quiet = joined status n 4 i (over_case (takes_more c) (session_named c) s status text b what m (outcome c s a status text cause t) e l over quiet)
-status_of c s a status text b n cause e (wanted.NoSession j name t l has named none i) quiet = joined status n 13 i (missing_case (takes_more c) (session_named c) s status text b j name (outcome c s a status text cause t) e l has named none quiet)
-status_of c s a status text b n cause e (wanted.BadListing j r t l has named some i) quiet = joined status n r.status i (refused_case (takes_more c) (session_named c) s status text b j r (outcome c s a status text cause t) e l has named some quiet)
+status_of c s a status text b n cause e (wanted.BadJob m t l bad none i) quiet = joined status n 2 i (bad_case (reading_of c) (session_named c) s status text b m (outcome c s a status text cause t) e l bad none quiet)
+status_of c s a status text b n cause e (wanted.LargeJob what m t l over i) quiet = joined status n 4 i (over_case (reading_of c) (session_named c) s status text b what m (outcome c s a status text cause t) e l over quiet)
+status_of c s a status text b n cause e (wanted.NoSession j name t l has named none i) quiet = joined status n 13 i (missing_case (reading_of c) (session_named c) s status text b j name (outcome c s a status text cause t) e l has named none quiet)
+status_of c s a status text b n cause e (wanted.BadListing j r t l has named some i) quiet = joined status n r.status i (refused_case (reading_of c) (session_named c) s status text b j r (outcome c s a status text cause t) e l has named some quiet)
 status_of c s a status text b n cause e (wanted.Matched j t l has none i) quiet = joined status n 0 i (run_or_table c s a status text b j cause t e l has none quiet)
 status_of c s a status text b n cause e (wanted.Recorded j name same l has named none i) quiet = joined status n 0 i (plain_case c (Marks name) s a status text b j cause same refl refl named e l has none quiet)
 status_of c s a status text b n cause e (wanted.United marks same l is i) quiet = joined status n 0 i (united_case b status marks (files_outcome c s a status text b cause same e l quiet) is)

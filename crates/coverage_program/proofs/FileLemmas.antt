@@ -27,7 +27,7 @@ use Rattle.coverage_program.specs.Inputs.{CameWhole, CameJob, CameFirst}
 use Rattle.coverage_program.specs.Named.{session_number}
 use Rattle.coverage_program.specs.Refusals.{RefusalView, refusal, Match}
 use Rattle.coverage_program.specs.Reports.{Records}
-use Rattle.coverage_program.specs.Words.{no_memory_line, bad_marks_line, other_table_line}
+use Rattle.coverage_program.specs.Words.{to_run, to_go_on, no_memory_line, bad_marks_line, other_table_line}
 
 -- files that were united, and files that weren't
 pub united : (s : SourceChange) (bytes : List ℕ) (marks : MarksView) (a : Account) (k : SinkChange) (answer : ℕ) →
@@ -102,7 +102,7 @@ alone rest marks offset rules file less =
 
 -- what stands behind the job, where the session of the name has this number
 pub has_rest : (name : List ℕ) (s : SourceChange) (j : JobView) (tables : TablesView) (number : ℕ) (rest bytes : List ℕ) (count end : ℕ) →
-    CameFirst true s j bytes count end → Match j tables.tables → tables.places ≡ all_places tables.tables → session_number j name ≡ Some number → rest ≡ drop end bytes → HasRest name s j tables number rest
+    CameFirst to_go_on s j bytes count end → Match j tables.tables → tables.places ≡ all_places tables.tables → session_number j name ≡ Some number → rest ≡ drop end bytes → HasRest name s j tables number rest
 has_rest name s j tables number rest bytes count end came match' numbered is behind = record {
   bytes = bytes;
   count = count;
@@ -166,7 +166,7 @@ records j tables before after tasks sets s marks l o from to is = record {
 }
 
 pub recorded : (name : List ℕ) (s : SourceChange) (j : JobView) (tables : TablesView) (number : ℕ) (a : AreasChange) (k : SinkChange) (answer : ℕ) (text : List ℕ) →
-    CameJob false s j → Match j tables.tables → tables.places ≡ all_places tables.tables → session_number j name ≡ Some number → (run : HasRun j tables.places a.before a.after) → Records j tables run.sets number text → IsWritten 0 text k answer →
+    CameJob to_run s j → Match j tables.tables → tables.places ≡ all_places tables.tables → session_number j name ≡ Some number → (run : HasRun j tables.places a.before a.after) → Records j tables run.sets number text → IsWritten 0 text k answer →
     Answers (Marks name) s a k answer
 recorded name s j tables number a k answer text came match' numbered is ran recs told = record {
   status = 0;

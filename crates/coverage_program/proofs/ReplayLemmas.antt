@@ -4,6 +4,7 @@ use Rattle.std.proofs.lemmas.List.{get_or_default}
 use Rattle.interleave_core.specs.World.{World, Parts}
 use Rattle.cov_base.specs.Facts.{is_within}
 use Rattle.module_area.specs.PlanView.{kind_at}
+use Rattle.module_area.specs.declared.places.Place.{Place}
 use Rattle.brk_table.specs.Places.{TableView, TablesView, all_places, first_place, place_count}
 use Rattle.interleave_core.specs.Results.{Fits, results_of}
 use Rattle.interleave_core.specs.Steps.{set_of}
@@ -38,14 +39,15 @@ with_items-whole [] c qs = refl
 with_items-whole (p ∷ ps) c qs = ap (with_item p) (with_items-whole ps c qs)
 
 -- the line of item n, which numbers from 1
-abbrev pub line_of : JobView → List Played → ℕ → List (List ℕ)
-line_of j played n = event_line j n (get_or played (n - 1) no_item) ∷ []
+abbrev pub line_of : JobView → List Place → List Played → ℕ → List (List ℕ)
+line_of j places played n = event_line j places n (get_or played (n - 1) no_item) ∷ []
 
 item_here : (played : List Played) (i : ℕ) (p : Played) → i < length played → p ≡ get_or played i p → get_or played (i + 1 - 1) no_item ≡ p
 item_here played i p lt is = let same : i + 1 - 1 ≡ i = omega arith in rw same (get_or_default played i no_item p lt ∙ sym is)
 
-pub told_line : (j : JobView) (played : List Played) (i : ℕ) (p : Played) (items : List ℕ) → i < length played → p ≡ get_or played i p → items ≡ event_line j (i + 1) p ++ 10 ∷ [] → items ≡ event_line j (i + 1) (get_or played (i + 1 - 1) no_item) ++ 10 ∷ []
-told_line j played i p items lt is e = rw (item_here played i p lt is) e
+pub told_line : (j : JobView) (places : List Place) (played : List Played) (i : ℕ) (p : Played) (items : List ℕ) → i < length played → p ≡ get_or played i p → items ≡ event_line j places (i + 1) p ++ 10 ∷ [] →
+    items ≡ event_line j places (i + 1) (get_or played (i + 1 - 1) no_item) ++ 10 ∷ []
+told_line j places played i p items lt is e = rw (item_here played i p lt is) e
 
 -- a module's places are among those of all tables
 range_most : (ts : List TableView) (m : ℕ) → first_place ts m + place_count ts m ≤ length (all_places ts)
@@ -74,9 +76,9 @@ core_sets j tables w c is numbered fits = record {
 
 -- the text of the core's sets is that of its world's
 pub told_core : {K T E : Type 0} {written : K → Option (List ℕ)} {faults : K → ℕ} {old new : K} {r : Result T E} (j : JobView) (tables : TablesView) (w : World) (c : Parts) (played : List Played) → w ≡ record { job = j; places = tables.places } →
-    WritesLines written faults old new r (codes "COVERAGE REPLAY" ∷ (event_lines j played ++ result_lines j tables (λ t. results_of c t) (λ s p. set_of w c s p))) → WritesLines written faults old new r (replay_lines j tables c played)
+    WritesLines written faults old new r (codes "COVERAGE REPLAY" ∷ (event_lines j tables.places played ++ result_lines j tables (λ t. results_of c t) (λ s p. set_of w c s p))) → WritesLines written faults old new r (replay_lines j tables c played)
 told_core {written = written} {faults = faults} {old = old} {new = new} {r = r} j tables w c played is told =
-    subst (λ (v : World). WritesLines written faults old new r (codes "COVERAGE REPLAY" ∷ (event_lines j played ++ result_lines j tables (λ t. results_of c t) (λ s p. set_of v c s p)))) is told
+    subst (λ (v : World). WritesLines written faults old new r (codes "COVERAGE REPLAY" ∷ (event_lines j tables.places played ++ result_lines j tables (λ t. results_of c t) (λ s p. set_of v c s p)))) is told
 
 pub planted_next : (w : World) (p n : ℕ) (c : Parts) → p < n → planted_from w p (n - p) c ≡ planted_from w (p + 1) (n - (p + 1)) (plant_at w c p)
 planted_next w p n c lt = let more : n - p ≡ suc (n - (p + 1)) = omega arith in rw more refl

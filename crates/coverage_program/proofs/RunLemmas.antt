@@ -1,6 +1,8 @@
 -- A schedule that was played is a run of the core.
-use Rattle.std.proofs.Common.{◌≡◌, ℕ, zero, suc, ◌+◌, Bool, true, false, nat_eq, if◌then◌else◌, Option, Some, None, is_none, is_some, IsSome, List, [], ◌∷◌, length, refl, sym, ap, ◌∙◌, subst}
+use Rattle.std.proofs.Common.{◌≡◌, ℕ, zero, suc, ◌+◌, Bool, true, false, nat_eq, if◌then◌else◌, Option, Some, None, option_map, option_and_then, is_none, is_some, IsSome, List, [], ◌∷◌, length, refl, sym, ap, ◌∙◌, subst}
 use Rattle.cov_base.specs.declared.numbers.TaskNo.{TaskNo}
+use Rattle.cov_base.specs.declared.numbers.SessNo.{SessNo}
+use Rattle.cov_base.specs.declared.numbers.PlaceNo.{PlaceNo}
 use Rattle.module_area.specs.declared.places.Place.{Place}
 use Rattle.session_book.specs.JobView.{JobView}
 use Rattle.interleave_core.specs.World.{World, Parts, first_parts}
@@ -15,8 +17,8 @@ use Rattle.interleave_core.proofs.GoneLemmas.{joins, nothing, one_leads, where_l
 use Rattle.job_text.specs.Lines.{LineView}
 use Rattle.job_text.specs.Schedule.{item_at}
 use Rattle.job_text.specs.declared.schedule.Item.{Item}
-use Rattle.job_text.specs.declared.schedule.Item.TheVariants.{Fetch, Mark, Lift, Do, Go, End}
-use Rattle.coverage_program.specs.Replay.{Play, Bad, Whole, plant_of, plant_at, planted, planted_from, plants_from, gone, play, play_item, play_line, play_on, play_end, play_of, with_item, is_end, item_events, items_events, schedule_events, HasEnded, AreEnded, IsRun}
+use Rattle.job_text.specs.declared.schedule.Item.TheVariants.{Fetch, Mark, Lift, Do, Go, Plant, Close, End}
+use Rattle.coverage_program.specs.Replay.{Play, Bad, Whole, plant_of, plant_at, planted, planted_from, plants_from, gone, play, play_item, play_line, play_on, play_end, play_of, plant_due, close_due, plant_event, close_event, one_event, item_place, with_item, is_end, item_events, items_events, schedule_events, HasEnded, AreEnded, IsRun}
 use Rattle.coverage_program.specs.declared.schedule.Played.{Played}
 
 plants_lead : (w : World) (k : CoreState) (p count : ℕ) (c : Parts) → k.parts ≡ c → Leads w k (plants_from w p count c) (planted_from w p count c)
@@ -40,11 +42,17 @@ went w c t x h = by_none (is_none (next_of w c t)) h
     by_none true q = absurd cc
     by_none false q = q
 
+due_leads : (w : World) (k : CoreState) (c : Parts) (f : SessNo × PlaceNo → Event) (o : Option (SessNo × PlaceNo)) (x : Stepped) → k.parts ≡ c → option_and_then (λ at. parts_step w c (f at)) o ≡ Some x → Leads w k (one_event (option_map f o)) x.parts
+due_leads w k c f None x same h = absurd cc
+due_leads w k c f (Some at) x same h = one_leads w k c (f at) x same h
+
 item_leads : (w : World) (k : CoreState) (c : Parts) (item : Item) (x : Stepped) → k.parts ≡ c → play_item w c item ≡ Some x → Leads w k (item_events w c item) x.parts
 item_leads w k c (Fetch t) x same h = one_leads w k c (event.Fetch t) x same h
 item_leads w k c (Mark t) x same h = one_leads w k c (event.Mark t) x same h
 item_leads w k c (Lift t) x same h = one_leads w k c (event.Lift t) x same h
 item_leads w k c (Do t) x same h = one_leads w k c (event.Do t) x same h
+item_leads w k c (Plant t) x same h = due_leads w k c plant_event (plant_due (next_of w c t)) x same h
+item_leads w k c (Close t) x same h = due_leads w k c close_event (close_due (next_of w c t)) x same h
 item_leads w k c (Go t) x same h =
     let there : x.parts ≡ go w (left w c t.0) c t = (gone_is (go w (left w c t.0) c t) t x (went w c t x h)).0 in
     subst (λ (d : Parts). Leads w k (go_events w (left w c t.0) c t) d) (sym there) (go_leads w k (left w c t.0) c t same)
@@ -55,6 +63,8 @@ item_ended w c (Fetch t) x h = tt
 item_ended w c (Mark t) x h = tt
 item_ended w c (Lift t) x h = tt
 item_ended w c (Do t) x h = tt
+item_ended w c (Plant t) x h = tt
+item_ended w c (Close t) x h = tt
 item_ended w c (Go t) x h =
     let g = gone_is (go w (left w c t.0) c t) t x (went w c t x h) in
     subst (λ (d : Parts). IsSome (results_of d t.0).ending) (sym g.0) g.1
@@ -73,7 +83,7 @@ ended_so w c d played h =
     let e = whole_parts c d [] played h in
     subst (λ (ps : List Played). PlayedSo w c ps d) e.1 (record { leads = λ k same. nothing w k d (same ∙ e.0); ended = tt })
 
-item_so : (w : World) (c e : Parts) (item : Item) (x : Stepped) (ps : List Played) → play_item w c item ≡ Some x → PlayedSo w x.parts ps e → PlayedSo w c (record { item = item; shown = x.shown } ∷ ps) e
+item_so : (w : World) (c e : Parts) (item : Item) (x : Stepped) (ps : List Played) → play_item w c item ≡ Some x → PlayedSo w x.parts ps e → PlayedSo w c (record { item = item; shown = x.shown; at = item_place w c item } ∷ ps) e
 item_so w c e item x ps h so =
     let there : after c (play_item w c item) ≡ x.parts = ap (after c) h in
     record {
@@ -96,18 +106,18 @@ play_so w n c d (line ∷ lines) played h = by_item (item_at w.job line.bytes) (
     by_end [] q = ended_so w c d played q
     by_end (l ∷ ls) q = absurd cc
 
-    by_play : (item : Item) (x : Stepped) → play_item w c item ≡ Some x → Rest → (p : Play) → more x.parts ≡ p → with_item (record { item = item; shown = x.shown }) p ≡ Whole d played → PlayedSo w c played d
+    by_play : (item : Item) (x : Stepped) → play_item w c item ≡ Some x → Rest → (p : Play) → more x.parts ≡ p → with_item (record { item = item; shown = x.shown; at = item_place w c item }) p ≡ Whole d played → PlayedSo w c played d
     by_play item x step rest (Bad m) e q = absurd cc
     by_play item x step rest (Whole b ps) e q =
-        let s = whole_parts b d (record { item = item; shown = x.shown } ∷ ps) played q in
+        let s = whole_parts b d (record { item = item; shown = x.shown; at = item_place w c item } ∷ ps) played q in
         let so : PlayedSo w x.parts ps d = rest x.parts ps (e ∙ ap (λ (f : Parts). Whole f ps) s.0) in
         subst (λ (l : List Played). PlayedSo w c l d) s.1 (item_so w c d item x ps step so)
 
-    by_step : (item : Item) → Rest → (o : Option Stepped) → play_item w c item ≡ o → play_on more n item o ≡ Whole d played → PlayedSo w c played d
+    by_step : (item : Item) → Rest → (o : Option Stepped) → play_item w c item ≡ o → play_on more n item (item_place w c item) o ≡ Whole d played → PlayedSo w c played d
     by_step item rest None step q = absurd cc
     by_step item rest (Some x) step q = by_play item x step rest (more x.parts) refl q
 
-    by_line : (item : Item) → Rest → (b : Bool) → (if b then play_end n c lines else play_on more n item (play_item w c item)) ≡ Whole d played → PlayedSo w c played d
+    by_line : (item : Item) → Rest → (b : Bool) → (if b then play_end n c lines else play_on more n item (item_place w c item) (play_item w c item)) ≡ Whole d played → PlayedSo w c played d
     by_line item rest true q = by_end lines q
     by_line item rest false q = by_step item rest (play_item w c item) refl q
 

@@ -22,7 +22,7 @@ use Rattle.coverage_program.specs.Untouched.{IsUntouched, IsRunText, HasReport, 
 use Rattle.coverage_program.specs.declared.words.Command.{Command}
 use Rattle.coverage_program.specs.declared.words.Command.TheVariants.{Run, Marks, Trial, Table, Replay, Combine, Show, Unknown}
 use Rattle.coverage_program.specs.Refusals.{RefusalView, list_refusal, build_refusal, refusal_by, refusal_from, or_refusal, places_in, job_refusal}
-use Rattle.coverage_program.specs.Words.{reads_job, takes_more, makes_areas, makes_job, session_named, no_memory_line}
+use Rattle.coverage_program.specs.Words.{reads_job, reading_of, makes_areas, makes_job, session_named, no_memory_line}
 use Rattle.coverage_program.proofs.CompleteLemmas.{status_of, made_status}
 use Rattle.coverage_program.proofs.TrialLemmas.{made_areas, made_jobless, never_answered, IsMade, Summed, Lacking, made}
 use Rattle.coverage_program.specs.Trial.{IsUnread}
@@ -76,12 +76,12 @@ never_zero j r e = subst IsTold e (told_from 65536 j.images j.listings)
 
 -- ---- the areas
 
-ready_run : (c d : Command) (s : SourceChange) (j : JobView) (tables : TablesView) → c ≡ d → reads_job d ≡ true → takes_more d ≡ false → HasNamed (session_named d) j → CameMatched false s j tables → IsReady c s
-ready_run c d s j tables e reads more named came = record {
+ready_run : (c d : Command) (s : SourceChange) (j : JobView) (tables : TablesView) → c ≡ d → reads_job d ≡ true → HasNamed (session_named d) j → CameMatched (reading_of d) s j tables → IsReady c s
+ready_run c d s j tables e reads named came = record {
   job = j;
   tables = tables;
   reads = ap reads_job e ∙ reads;
-  came = subst (λ (m : Bool). CameMatched m s j tables) (sym (ap takes_more e ∙ more)) came;
+  came = subst (λ (x : Command). CameMatched (reading_of x) s j tables) (sym e) came;
   named = subst (λ (x : Command). HasNamed (session_named x) j) (sym e) named;
 }
 
@@ -95,8 +95,8 @@ abbrev Touched : Command → SourceChange → AreasChange → ℕ → Type 0
 Touched c s a status = (a.after ≡ a.before) ⊎ (HasTasks c s × ((status ≡ 0) ⊎ (status ≡ 7)))
 
 touched : (c : Command) (s : SourceChange) (a : AreasChange) (status : ℕ) (text : List ℕ) → IsCause c s a status text → Touched c s a status
-touched c s a status text (Report p q) = inr (Came (ap makes_areas p.1) (ready_run c Run s q.job q.tables p.1 refl refl tt q.came), inl p.0)
-touched c s a status text (Recorded name p q) = inr (Came (ap makes_areas p.1) (ready_run c (Marks name) s q.job q.tables p.1 refl refl (subst IsSome (sym q.is_number) refl) q.came), inl p.0)
+touched c s a status text (Report p q) = inr (Came (ap makes_areas p.1) (ready_run c Run s q.job q.tables p.1 refl tt q.came), inl p.0)
+touched c s a status text (Recorded name p q) = inr (Came (ap makes_areas p.1) (ready_run c (Marks name) s q.job q.tables p.1 refl (subst IsSome (sym q.is_number) refl) q.came), inl p.0)
 touched c s a status text (Places p q k) = inl k
 touched c s a status text (Replayed p q k) = inl k
 touched c s a status text (BadSchedule p q k) = inl k
@@ -116,12 +116,12 @@ touched c s a status text (NoMemoryToTry p q) = inr (Generated p.1 q, inr p.0)
 reported : (c : Command) (s : SourceChange) (b : List ℕ) (n : ℕ) → makes_areas c ≡ true → IsReady c s → s.left ≡ Some b → IsAnswer c b n → n ≡ 0
 reported c s b n m r e (wanted.Usage u i) = absurd (not_both (makes_areas c) m (ap makes_areas u))
 reported c s b n m r e (wanted.LargeInput t l i) = absurd (too_many s b r.came.came.bytes e l r.came.came.came)
-reported c s b n m r e (wanted.BadJob k t l bad none i) = absurd (never_came (takes_more c) s b r.job e none r.came.came)
-reported c s b n m r e (wanted.LargeJob what k t l over i) = absurd (never_large (takes_more c) s b r.job what k e over r.came.came)
+reported c s b n m r e (wanted.BadJob k t l bad none i) = absurd (never_came (reading_of c) s b r.job e none r.came.came)
+reported c s b n m r e (wanted.LargeJob what k t l over i) = absurd (never_large (reading_of c) s b r.job what k e over r.came.came)
 reported c s b n m r e (wanted.NoSession j name t l has named none i) =
-    absurd (not_named (session_named c) j name named none (subst (λ (k : JobView). HasNamed (session_named c) k) (sym (same_job (takes_more c) s b j r.job e has r.came.came)) r.named))
+    absurd (not_named (session_named c) j name named none (subst (λ (k : JobView). HasNamed (session_named c) k) (sym (same_job (reading_of c) s b j r.job e has r.came.came)) r.named))
 reported c s b n m r e (wanted.BadListing j x t l has named some i) =
-    let q : Some x ≡ None = sym some ∙ (ap job_refusal (same_job (takes_more c) s b j r.job e has r.came.came) ∙ r.came.match.faultless) in absurd cc
+    let q : Some x ≡ None = sym some ∙ (ap job_refusal (same_job (reading_of c) s b j r.job e has r.came.came) ∙ r.came.match.faultless) in absurd cc
 reported c s b n m r e (wanted.Matched j t l has none i) = i
 reported c s b n m r e (wanted.Recorded j name x l has some none i) = i
 reported c s b n m r e (wanted.United marks x l is i) = absurd (not_both (makes_areas c) m (ap makes_areas x))
@@ -154,7 +154,7 @@ no_source_fault : (c : Command) (s : SourceChange) → HasTasks c s → s.later 
 no_source_fault c s (Came m r) d = d r.came.came.came.no_fault
 no_source_fault c s (Generated m u) d = d u.1
 
-no_match : (c : Command) (s : SourceChange) → HasTasks c s → reads_job c ≡ true → ((j : JobView) → CameJob (takes_more c) s j → HasNamed (session_named c) j → job_refusal j ≡ None → ⊥) → ⊥
+no_match : (c : Command) (s : SourceChange) → HasTasks c s → reads_job c ≡ true → ((j : JobView) → CameJob (reading_of c) s j → HasNamed (session_named c) j → job_refusal j ≡ None → ⊥) → ⊥
 no_match c s (Came m r) reads none = none r.job r.came.came r.named r.came.match.faultless
 no_match c s (Generated m u) reads none = not_both (reads_job c) reads (made_jobless c m)
 
@@ -176,7 +176,7 @@ untouched c s a k answer x =
 -- ---- a report that wasn't written whole
 
 -- a command that runs the tasks of a job that comes takes one job and no more
-runs_alone : (c : Command) → makes_areas c ≡ true → makes_job c ≡ false → (reads_job c ≡ true) × (takes_more c ≡ false)
+runs_alone : (c : Command) → makes_areas c ≡ true → makes_job c ≡ false → (reads_job c ≡ true) × ((reading_of c).more ≡ false)
 runs_alone Run m n = (refl, refl)
 runs_alone (Marks name) m n = (refl, refl)
 runs_alone (Trial number tasks) m n = absurd cc
@@ -190,7 +190,7 @@ runs_alone Unknown m n = absurd cc
 record HasJobToRun (c : Command) (b : List ℕ) : Type 0 where
   job : JobView
   few : length b ≤ input_limit
-  has : HasJob (takes_more c) (lines_of b) job
+  has : HasJob (reading_of c) (lines_of b) job
   named : HasNamed (session_named c) job
   faultless : job_refusal job ≡ None
 
@@ -214,9 +214,9 @@ has_job c b m g (wanted.LargeJob what n t l over i) = absurd cc
 has_job c b m g (wanted.NoSession j name t l has named none i) = absurd cc
 has_job c b m g (wanted.BadListing j r t l has named some i) = absurd (never_zero j r some (sym i))
 has_job c b m g (wanted.Matched j t l has none i) =
-    record { job = j; few = l; has = subst (λ (x : Bool). HasJob x (lines_of b) j) (sym (runs_alone c m g).1) has; named = run_named c j m t; faultless = none }
+    record { job = j; few = l; has = has; named = run_named c j m t; faultless = none }
 has_job c b m g (wanted.Recorded j name e l has some none i) =
-    record { job = j; few = l; has = subst (λ (x : Bool). HasJob x (lines_of b) j) (sym (runs_alone c m g).1) has; named = subst (λ (x : Command). HasNamed (session_named x) j) (sym e) some; faultless = none }
+    record { job = j; few = l; has = subst (λ (x : Command). HasJob (reading_of x) (lines_of b) j) (sym e) has; named = subst (λ (x : Command). HasNamed (session_named x) j) (sym e) some; faultless = none }
 has_job c b m g (wanted.United marks x l is i) = absurd (not_both (makes_areas c) m (ap makes_areas x))
 has_job c b m g (wanted.BadFile offset x l is i) = absurd cc
 has_job c b m g (wanted.OtherFile d x l is i) = absurd cc
@@ -244,8 +244,8 @@ cut_text c s a status text b m (OtherShown name p q k) e w quiet = absurd (not_b
 cut_text c s a status text b m (Usage p k) e w quiet = absurd (not_both (makes_areas c) m (ap makes_areas p.1))
 cut_text c s a status text b m (Stopped p q k) e w quiet =
     let h : HasJobToRun c b = has_job c b m (not_made c b 0 w) w in
-    let stop : IsStopped true (takes_more c) (session_named c) s status text = subst (λ (x : Bool). IsStopped x (takes_more c) (session_named c) s status text) (runs_alone c m (not_made c b 0 w)).0 q in
-    inr (matched_stop (takes_more c) (session_named c) s status text b h.job stop e h.few h.has h.named h.faultless quiet).1
+    let stop : IsStopped true (reading_of c) (session_named c) s status text = subst (λ (x : Bool). IsStopped x (reading_of c) (session_named c) s status text) (runs_alone c m (not_made c b 0 w)).0 q in
+    inr (matched_stop (reading_of c) (session_named c) s status text b h.job stop e h.few h.has h.named h.faultless quiet).1
 cut_text c s a status text b m (NoMemoryToRun p q) e w quiet = inr p.2
 cut_text c s a status text b m (Tried number tasks p q) e w quiet = inl (text_by c (Trial number tasks) s a text p.1 q)
 cut_text c s a status text b m (NoMemoryToTry p q) e w quiet = inr p.2

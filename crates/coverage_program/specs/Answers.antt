@@ -11,6 +11,7 @@ use Rattle.job_text.specs.declared.jobs.JobFault.{JobFault}
 use Rattle.job_text.specs.declared.jobs.JobFault.TheVariants as fault
 use Rattle.job_text.specs.declared.limit.Limit.{Limit}
 use Rattle.job_text.specs.Lines.{lines_of}
+use Rattle.job_text.specs.Drafts.{asked}
 use Rattle.job_text.specs.Refusals.{IsBadAt, IsOverAt}
 use Rattle.interleave_core.specs.World.{Parts}
 use Rattle.report_text.specs.Report.{report_of}
@@ -27,7 +28,7 @@ use Rattle.coverage_program.specs.Changes.{SourceChange, SinkChange, AreasChange
 use Rattle.coverage_program.specs.Reports.{Reports, Records}
 use Rattle.coverage_program.specs.Replay.{Play, Bad, Whole, IsRun, play_of, replay_text}
 use Rattle.coverage_program.specs.Trial.{IsUnread, IsTried}
-use Rattle.coverage_program.specs.Words.{reads_input, reads_job, takes_more, makes_areas, makes_job, session_named, usage_line, too_large_input_line, read_fault_line, no_memory_line, bad_job_line, large_job_line, bad_schedule_line, no_session_line}
+use Rattle.coverage_program.specs.Words.{reads_input, reads_job, Reading, to_run, to_list, to_go_on, reading_of, makes_areas, makes_job, session_named, usage_line, too_large_input_line, read_fault_line, no_memory_line, bad_job_line, large_job_line, bad_schedule_line, no_session_line}
 
 -- how a job that wasn't read is told
 abbrev pub fault_refusal : JobFault → RefusalView
@@ -45,7 +46,7 @@ read_refusal read.NoMemory = refusal 7 no_memory_line
 pub record IsReport (s : SourceChange) (a : AreasChange) (text : List ℕ) : Type 0 where
   pub job : JobView
   pub tables : TablesView
-  pub came : CameMatched false s job tables
+  pub came : CameMatched to_run s job tables
   pub ran : HasRun job tables.places a.before a.after
   pub reports : Reports job tables ran.sets (report_of job tables) text
 
@@ -54,7 +55,7 @@ pub record IsRecord (name : List ℕ) (s : SourceChange) (a : AreasChange) (text
   pub job : JobView
   pub tables : TablesView
   pub number : ℕ
-  pub came : CameMatched false s job tables
+  pub came : CameMatched to_run s job tables
   pub is_number : session_number job name ≡ Some number
   pub ran : HasRun job tables.places a.before a.after
   pub records : Records job tables ran.sets number text
@@ -63,7 +64,7 @@ pub record IsRecord (name : List ℕ) (s : SourceChange) (a : AreasChange) (text
 pub record IsPlacesText (s : SourceChange) (text : List ℕ) : Type 0 where
   pub job : JobView
   pub tables : TablesView
-  pub came : CameMatched false s job tables
+  pub came : CameMatched to_list s job tables
   pub is_text : text ≡ table_text job tables
 
 -- a job whose listings match, and how the schedule in the bytes behind it plays
@@ -71,7 +72,7 @@ pub record HasPlay (s : SourceChange) (job : JobView) (tables : TablesView) (pla
   pub bytes : List ℕ
   pub count : ℕ
   pub end : ℕ
-  pub came : CameFirst true s job bytes count end
+  pub came : CameFirst to_go_on s job bytes count end
   pub match : Match job tables.tables
   pub numbered : tables.places ≡ all_places tables.tables
   pub plays : play_of job tables.places count (lines_of (drop end bytes)) ≡ play
@@ -95,56 +96,56 @@ pub record IsBadSchedule (s : SourceChange) (text : List ℕ) : Type 0 where
   pub told : text ≡ bad_schedule_line line
 
 -- the first line with which no job goes on, where no job has ended before it
-pub record IsBadJob (more : Bool) (s : SourceChange) (text : List ℕ) : Type 0 where
+pub record IsBadJob (how : Reading) (s : SourceChange) (text : List ℕ) : Type 0 where
   pub bytes : List ℕ
   pub line : ℕ
   pub came : CameWhole s bytes
-  pub first_bad : IsBadAt (lines_of bytes) line
-  pub jobless : (j : JobView) → HasJob more (lines_of bytes) j → ⊥
+  pub first_bad : IsBadAt (asked how.by) (lines_of bytes) line
+  pub jobless : (j : JobView) → HasJob how (lines_of bytes) j → ⊥
   pub told : text ≡ bad_job_line line
 
 -- the first line with which a limit is passed
-pub record IsLargeJob (s : SourceChange) (text : List ℕ) : Type 0 where
+pub record IsLargeJob (how : Reading) (s : SourceChange) (text : List ℕ) : Type 0 where
   pub bytes : List ℕ
   pub what : Limit
   pub line : ℕ
   pub came : CameWhole s bytes
-  pub first_over : IsOverAt (lines_of bytes) what line
+  pub first_over : IsOverAt (asked how.by) (lines_of bytes) what line
   pub told : text ≡ large_job_line what line
 
 -- no session of the job has the name
-pub record IsNoSession (more : Bool) (name : Option (List ℕ)) (s : SourceChange) (text : List ℕ) : Type 0 where
+pub record IsNoSession (how : Reading) (name : Option (List ℕ)) (s : SourceChange) (text : List ℕ) : Type 0 where
   pub job : JobView
   pub wanted : List ℕ
-  pub came : CameJob more s job
+  pub came : CameJob how s job
   pub named : name ≡ Some wanted
   pub missing : session_number job wanted ≡ None
   pub told : text ≡ no_session_line wanted
 
 -- the first fault of a job's listings; where a session was named the job has it
-pub record IsBadListing (more : Bool) (name : Option (List ℕ)) (s : SourceChange) (status : ℕ) (text : List ℕ) : Type 0 where
+pub record IsBadListing (how : Reading) (name : Option (List ℕ)) (s : SourceChange) (status : ℕ) (text : List ℕ) : Type 0 where
   pub job : JobView
-  pub came : CameJob more s job
+  pub came : CameJob how s job
   pub named : HasNamed name job
   pub first : job_refusal job ≡ Some (refusal status text)
 
 -- Why the input wasn't read whole or, where it is to have a job, no job with its tables was come to. Each cause has its own
 -- status; a refused listing has that of its fault, 3, 4, 8 or 12.
-pub data IsStopped (job more : Bool) (name : Option (List ℕ)) (s : SourceChange) (status : ℕ) (text : List ℕ) : Type 0 where
-  BadJob : job ≡ true → status ≡ 2 → IsBadJob more s text → IsStopped job more name s status text
-  LargeJob : job ≡ true → status ≡ 4 → IsLargeJob s text → IsStopped job more name s status text
-  NoSession : job ≡ true → status ≡ 13 → IsNoSession more name s text → IsStopped job more name s status text
-  BadListing : job ≡ true → IsBadListing more name s status text → IsStopped job more name s status text
-  LargeInput : (status ≡ 4) × (text ≡ too_large_input_line) × HasMoreThan s.left input_limit × (s.later ≡ s.faults) → IsStopped job more name s status text
-  ReadFault : (status ≡ 5) × (text ≡ read_fault_line) × Rose s.faults s.later → IsStopped job more name s status text
-  WantOfMemory : (status ≡ 7) × (text ≡ no_memory_line) → IsStopped job more name s status text
+pub data IsStopped (job : Bool) (how : Reading) (name : Option (List ℕ)) (s : SourceChange) (status : ℕ) (text : List ℕ) : Type 0 where
+  BadJob : job ≡ true → status ≡ 2 → IsBadJob how s text → IsStopped job how name s status text
+  LargeJob : job ≡ true → status ≡ 4 → IsLargeJob how s text → IsStopped job how name s status text
+  NoSession : job ≡ true → status ≡ 13 → IsNoSession how name s text → IsStopped job how name s status text
+  BadListing : job ≡ true → IsBadListing how name s status text → IsStopped job how name s status text
+  LargeInput : (status ≡ 4) × (text ≡ too_large_input_line) × HasMoreThan s.left input_limit × (s.later ≡ s.faults) → IsStopped job how name s status text
+  ReadFault : (status ≡ 5) × (text ≡ read_fault_line) × Rose s.faults s.later → IsStopped job how name s status text
+  WantOfMemory : (status ≡ 7) × (text ≡ no_memory_line) → IsStopped job how name s status text
 
 -- all of a job that comes before its areas are made
 pub record IsReady (c : Command) (s : SourceChange) : Type 0 where
   pub job : JobView
   pub tables : TablesView
   pub reads : reads_job c ≡ true
-  pub came : CameMatched (takes_more c) s job tables
+  pub came : CameMatched (reading_of c) s job tables
   pub named : HasNamed (session_named c) job
 
 -- Why the call answers with this status and text, leaving out whether the text could be written. Nothing but a report,
@@ -162,7 +163,7 @@ pub data IsCause (c : Command) (s : SourceChange) (a : AreasChange) (status : �
   BadShown : (name : List ℕ) → (status ≡ 10) × (c ≡ Show name) → IsBadShown name s text → a.after ≡ a.before → IsCause c s a status text
   OtherShown : (name : List ℕ) → (status ≡ 11) × (c ≡ Show name) → IsOtherShown name s text → a.after ≡ a.before → IsCause c s a status text
   Usage : (status ≡ 1) × (c ≡ Unknown) × (text ≡ usage_line) × (s.rest ≡ s.left) × (s.later ≡ s.faults) → a.after ≡ a.before → IsCause c s a status text
-  Stopped : reads_input c ≡ true → IsStopped (reads_job c) (takes_more c) (session_named c) s status text → a.after ≡ a.before → IsCause c s a status text
+  Stopped : reads_input c ≡ true → IsStopped (reads_job c) (reading_of c) (session_named c) s status text → a.after ≡ a.before → IsCause c s a status text
   NoMemoryToRun : (status ≡ 7) × (makes_areas c ≡ true) × (text ≡ no_memory_line) → IsReady c s → IsCause c s a status text
   Tried : (number tasks : ℕ) → (status ≡ 0) × (c ≡ Trial number tasks) → IsTried number tasks s a text → IsCause c s a status text
   NoMemoryToTry : (status ≡ 7) × (makes_job c ≡ true) × (text ≡ no_memory_line) → IsUnread s → IsCause c s a status text

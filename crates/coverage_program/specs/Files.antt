@@ -19,7 +19,7 @@ use Rattle.coverage_program.specs.Changes.{SourceChange}
 use Rattle.coverage_program.specs.Inputs.{CameWhole, CameFirst}
 use Rattle.coverage_program.specs.Named.{session_number}
 use Rattle.coverage_program.specs.Refusals.{RefusalView, refusal, Match}
-use Rattle.coverage_program.specs.Words.{no_memory_line, bad_marks_line, other_table_line}
+use Rattle.coverage_program.specs.Words.{to_go_on, no_memory_line, bad_marks_line, other_table_line}
 
 -- the bytes that came are files of one table, and the text is the file of their union
 pub record IsUnion (s : SourceChange) (text : List ℕ) : Type 0 where
@@ -56,7 +56,7 @@ pub record HasRest (name : List ℕ) (s : SourceChange) (job : JobView) (tables 
   pub bytes : List ℕ
   pub count : ℕ
   pub end : ℕ
-  pub came : CameFirst true s job bytes count end
+  pub came : CameFirst to_go_on s job bytes count end
   pub match : Match job tables.tables
   pub numbered : tables.places ≡ all_places tables.tables
   pub is_number : session_number job name ≡ Some number

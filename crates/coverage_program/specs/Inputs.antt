@@ -3,11 +3,13 @@ use Rattle.std.specs.Prelude.{◌≡◌, ℕ, ◌≤◌, Bool, false, List, leng
 use Rattle.cov_outside.specs.Whole.{IsWhole}
 use Rattle.brk_table.specs.Places.{TablesView, all_places}
 use Rattle.session_book.specs.JobView.{JobView}
+use Rattle.job_text.specs.Drafts.{asked}
 use Rattle.job_text.specs.Limits.{IsWithin}
 use Rattle.job_text.specs.Lines.{LineView, lines_of}
 use Rattle.job_text.specs.Spells.{Spells}
 use Rattle.coverage_program.specs.Changes.{SourceChange}
 use Rattle.coverage_program.specs.Refusals.{Match}
+use Rattle.coverage_program.specs.Words.{Reading}
 
 -- the most bytes of input
 abbrev pub input_limit : ℕ
@@ -21,18 +23,18 @@ pub record CameWhole (s : SourceChange) (bytes : List ℕ) : Type 0 where
 
 -- The first lines of an input, so many, spell this job, which is within the limits. Others stand behind them only where
 -- more than a job may.
-pub record HasJob (more : Bool) (all : List LineView) (j : JobView) : Type 0 where
+pub record HasJob (how : Reading) (all : List LineView) (j : JobView) : Type 0 where
   pub count : ℕ
   pub inside : count ≤ length all
-  pub spells : Spells (take count all) j
+  pub spells : Spells (asked how.by) (take count all) j
   pub within : IsWithin j
-  pub over : more ≡ false → count ≡ length all
+  pub over : how.more ≡ false → count ≡ length all
 
 -- the bytes that came have this job
-pub record CameJob (more : Bool) (s : SourceChange) (j : JobView) : Type 0 where
+pub record CameJob (how : Reading) (s : SourceChange) (j : JobView) : Type 0 where
   pub bytes : List ℕ
   pub came : CameWhole s bytes
-  pub has : HasJob more (lines_of bytes) j
+  pub has : HasJob how (lines_of bytes) j
 
 -- the input's first bytes, up to this offset, are its first lines, so many
 pub record IsParted (bytes : List ℕ) (count end : ℕ) : Type 0 where
@@ -41,14 +43,14 @@ pub record IsParted (bytes : List ℕ) (count end : ℕ) : Type 0 where
   pub behind : lines_of (drop end bytes) ≡ drop count (lines_of bytes)
 
 -- these bytes came, and their first lines, so many, which end at this offset, spell this job
-pub record CameFirst (more : Bool) (s : SourceChange) (j : JobView) (bytes : List ℕ) (count end : ℕ) : Type 0 where
+pub record CameFirst (how : Reading) (s : SourceChange) (j : JobView) (bytes : List ℕ) (count end : ℕ) : Type 0 where
   pub came : CameWhole s bytes
-  pub has : HasJob more (lines_of bytes) j
+  pub has : HasJob how (lines_of bytes) j
   pub counts : has.count ≡ count
   pub parted : IsParted bytes count end
 
 -- the bytes that came have this job, its listings match, and these are their tables
-pub record CameMatched (more : Bool) (s : SourceChange) (j : JobView) (tables : TablesView) : Type 0 where
-  pub came : CameJob more s j
+pub record CameMatched (how : Reading) (s : SourceChange) (j : JobView) (tables : TablesView) : Type 0 where
+  pub came : CameJob how s j
   pub match : Match j tables.tables
   pub numbered : tables.places ≡ all_places tables.tables

@@ -1,14 +1,16 @@
 -- A schedule played on a core, and the text that tells it.
-use Rattle.std.specs.Prelude.{◌≡◌, ℕ, zero, suc, ◌+◌, ◌-◌, Bool, true, false, nat_eq, if◌then◌else◌, Option, Some, None, is_none, is_some, IsSome, List, [], ◌∷◌, ◌++◌, length, get_or, codes, decimal}
+use Rattle.std.specs.Prelude.{◌≡◌, ℕ, zero, suc, ◌+◌, ◌-◌, Bool, true, false, nat_eq, if◌then◌else◌, Option, Some, None, option_map, option_and_then, is_none, is_some, IsSome, List, [], ◌∷◌, ◌++◌, length, get_or, codes, decimal}
 use Rattle.annotator.specs.Digits.{hex_digits}
 use Rattle.cov_base.specs.FactSet.{FactSet}
 use Rattle.cov_base.specs.Names.{unpadded}
 use Rattle.cov_base.specs.declared.numbers.TaskNo.{TaskNo}
-use Rattle.module_area.specs.PlanView.{window_at}
+use Rattle.cov_base.specs.declared.numbers.SessNo.{SessNo}
+use Rattle.cov_base.specs.declared.numbers.PlaceNo.{PlaceNo}
+use Rattle.module_area.specs.PlanView.{window_at, place_of}
 use Rattle.module_area.specs.declared.places.Place.{Place}
 use Rattle.brk_table.specs.Places.{TablesView}
 use Rattle.session_book.specs.JobView.{JobView}
-use Rattle.session_book.specs.Sessions.{task_of}
+use Rattle.session_book.specs.Sessions.{task_of, session_of}
 use Rattle.interleave_core.specs.World.{World, Parts, plan_in, first_parts}
 use Rattle.interleave_core.specs.Core.{CoreState, core_run}
 use Rattle.interleave_core.specs.Steps.{Stepped, parts_step, set_of}
@@ -17,11 +19,11 @@ use Rattle.interleave_core.specs.Results.{next_of, results_of}
 use Rattle.interleave_core.specs.declared.events.Event.{Event}
 use Rattle.interleave_core.specs.declared.events.Event.TheVariants as event
 use Rattle.interleave_core.specs.declared.events.Shown.{Shown}
-use Rattle.interleave_core.specs.declared.events.Shown.TheVariants.{Fetched, Marked, Lifted, Done, Planted}
+use Rattle.interleave_core.specs.declared.events.Shown.TheVariants.{Fetched, Marked, Lifted, Done, Planted, Closed}
 use Rattle.job_text.specs.Lines.{LineView}
 use Rattle.job_text.specs.Schedule.{item_at}
 use Rattle.job_text.specs.declared.schedule.Item.{Item}
-use Rattle.job_text.specs.declared.schedule.Item.TheVariants.{Fetch, Mark, Lift, Do, Go, End}
+use Rattle.job_text.specs.declared.schedule.Item.TheVariants.{Fetch, Mark, Lift, Do, Go, Plant, Close, End}
 use Rattle.report_text.specs.Report.{result_lines}
 use Rattle.report_text.specs.Text.{text_of, lines_from}
 use Rattle.coverage_program.specs.declared.schedule.Played.{Played}
@@ -52,12 +54,35 @@ planted w = planted_from w 0 (length w.places) (first_parts w)
 abbrev pub gone : Parts → TaskNo → Option Stepped
 gone d t = if is_some (results_of d t.0).ending then Some (record { parts = d; shown = Done }) else None
 
+-- the event that is next of a task, where it plants a session at a place, or closes one there
+abbrev pub plant_due : Option Event → Option (SessNo × PlaceNo)
+plant_due (Some (event.Plant s p)) = Some (s, p)
+plant_due next = None
+
+abbrev pub close_due : Option Event → Option (SessNo × PlaceNo)
+close_due (Some (event.Close s p)) = Some (s, p)
+close_due next = None
+
+abbrev pub plant_event : SessNo × PlaceNo → Event
+plant_event at = event.Plant at.0 at.1
+
+abbrev pub close_event : SessNo × PlaceNo → Event
+close_event at = event.Close at.0 at.1
+
+-- the session that an item plants or closes, and the place
+abbrev pub item_place : World → Parts → Item → Option (SessNo × PlaceNo)
+item_place w c (Plant t) = plant_due (next_of w c t)
+item_place w c (Close t) = close_due (next_of w c t)
+item_place w c item = None
+
 -- an item, where it is possible: one event, or all of a task that hasn't ended, which then has
 abbrev pub play_item : World → Parts → Item → Option Stepped
 play_item w c (Fetch t) = parts_step w c (event.Fetch t)
 play_item w c (Mark t) = parts_step w c (event.Mark t)
 play_item w c (Lift t) = parts_step w c (event.Lift t)
 play_item w c (Do t) = parts_step w c (event.Do t)
+play_item w c (Plant t) = option_and_then (λ at. parts_step w c (plant_event at)) (plant_due (next_of w c t))
+play_item w c (Close t) = option_and_then (λ at. parts_step w c (close_event at)) (close_due (next_of w c t))
 play_item w c (Go t) = if is_none (next_of w c t) then None else gone (go w (left w c t.0) c t) t
 play_item w c End = None
 
@@ -65,9 +90,9 @@ abbrev pub with_item : Played → Play → Play
 with_item p (Bad n) = Bad n
 with_item p (Whole c played) = Whole c (p ∷ played)
 
-abbrev pub play_on : (Parts → Play) → ℕ → Item → Option Stepped → Play
-play_on more n item None = Bad n
-play_on more n item (Some x) = with_item (record { item = item; shown = x.shown }) (more x.parts)
+abbrev pub play_on : (Parts → Play) → ℕ → Item → Option (SessNo × PlaceNo) → Option Stepped → Play
+play_on more n item at None = Bad n
+play_on more n item at (Some x) = with_item (record { item = item; shown = x.shown; at = at }) (more x.parts)
 
 -- behind the last item nothing stands
 abbrev pub play_end : ℕ → Parts → List LineView → Play
@@ -80,7 +105,7 @@ is_end item = false
 
 abbrev pub play_line : (Parts → Play) → World → ℕ → Parts → List LineView → Option Item → Play
 play_line more w n c lines None = Bad n
-play_line more w n c lines (Some item) = if is_end item then play_end n c lines else play_on more n item (play_item w c item)
+play_line more w n c lines (Some item) = if is_end item then play_end n c lines else play_on more n item (item_place w c item) (play_item w c item)
 
 -- the lines from number n of the input on, up to ENDSCHED
 abbrev pub play : World → ℕ → Parts → List LineView → Play
@@ -98,12 +123,18 @@ abbrev pub plants_from : World → ℕ → ℕ → Parts → List Event
 plants_from w p zero c = []
 plants_from w p (suc count) c = where_possible (plant_of w p) (parts_step w c (plant_of w p)) ++ plants_from w (p + 1) count (plant_at w c p)
 
+abbrev pub one_event : Option Event → List Event
+one_event None = []
+one_event (Some e) = e ∷ []
+
 -- the events that an item stands for: one, or those that GO has made
 abbrev pub item_events : World → Parts → Item → List Event
 item_events w c (Fetch t) = event.Fetch t ∷ []
 item_events w c (Mark t) = event.Mark t ∷ []
 item_events w c (Lift t) = event.Lift t ∷ []
 item_events w c (Do t) = event.Do t ∷ []
+item_events w c (Plant t) = one_event (option_map plant_event (plant_due (next_of w c t)))
+item_events w c (Close t) = one_event (option_map close_event (close_due (next_of w c t)))
 item_events w c (Go t) = go_events w (left w c t.0) c t
 item_events w c End = []
 
@@ -161,30 +192,38 @@ shown_words (Lifted true) = codes " TAKEN"
 shown_words (Lifted false) = codes " NOT TAKEN"
 shown_words Done = []
 shown_words Planted = []
+shown_words Closed = []
 
 abbrev pub item_words : JobView → Item → List ℕ
 item_words j (Fetch t) = codes "FETCH " ++ unpadded (task_of j t.0).name
 item_words j (Mark t) = codes "MARK " ++ unpadded (task_of j t.0).name
 item_words j (Lift t) = codes "LIFT " ++ unpadded (task_of j t.0).name
 item_words j (Do t) = codes "DO " ++ unpadded (task_of j t.0).name
+item_words j (Plant t) = codes "PLANT " ++ unpadded (task_of j t.0).name
+item_words j (Close t) = codes "CLOSE " ++ unpadded (task_of j t.0).name
 item_words j (Go t) = codes "GO " ++ unpadded (task_of j t.0).name
 item_words j End = codes "ENDSCHED"
 
+-- a session that was planted or closed, and the address of the place
+abbrev pub place_words : JobView → List Place → Option (SessNo × PlaceNo) → List ℕ
+place_words j places None = []
+place_words j places (Some at) = codes " " ++ unpadded (session_of j at.0.0).name ++ codes " " ++ hex_digits 6 (place_of places at.1.0).at
+
 -- of item n, which numbers from 1
-abbrev pub event_line : JobView → ℕ → Played → List ℕ
-event_line j n p = codes "EVENT " ++ decimal n ++ codes " " ++ item_words j p.item ++ shown_words p.shown
+abbrev pub event_line : JobView → List Place → ℕ → Played → List ℕ
+event_line j places n p = codes "EVENT " ++ decimal n ++ codes " " ++ item_words j p.item ++ place_words j places p.at ++ shown_words p.shown
 
 abbrev pub no_item : Played
-no_item = record { item = End; shown = Done }
+no_item = record { item = End; shown = Done; at = None }
 
-abbrev pub event_lines : JobView → List Played → List (List ℕ)
-event_lines j played = lines_from (λ n. event_line j n (get_or played (n - 1) no_item) ∷ []) 1 (length played)
+abbrev pub event_lines : JobView → List Place → List Played → List (List ℕ)
+event_lines j places played = lines_from (λ n. event_line j places n (get_or played (n - 1) no_item) ∷ []) 1 (length played)
 
 -- the events, and the report of the core as they left it
 abbrev pub replay_lines : JobView → TablesView → Parts → List Played → List (List ℕ)
 replay_lines j tables c played =
     let w : World = record { job = j; places = tables.places } in
-    codes "COVERAGE REPLAY" ∷ (event_lines j played ++ result_lines j tables (results_of c) (set_of w c))
+    codes "COVERAGE REPLAY" ∷ (event_lines j tables.places played ++ result_lines j tables (results_of c) (set_of w c))
 
 abbrev pub replay_text : JobView → TablesView → Parts → List Played → List ℕ
 replay_text j tables c played = text_of (replay_lines j tables c played)

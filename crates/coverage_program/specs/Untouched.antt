@@ -12,7 +12,7 @@ use Rattle.coverage_program.specs.Inputs.{CameJob}
 use Rattle.coverage_program.specs.Refusals.{job_refusal}
 use Rattle.coverage_program.specs.Named.{HasNamed}
 use Rattle.coverage_program.specs.Trial.{IsTried}
-use Rattle.coverage_program.specs.Words.{reads_job, makes_areas, makes_job, takes_more, session_named, no_memory_line}
+use Rattle.coverage_program.specs.Words.{reads_job, makes_areas, makes_job, reading_of, session_named, no_memory_line}
 
 -- Ledger, sets and number of the areas are as they were for every command that runs no tasks, after every refusal that was
 -- told, where the source has failed, and, of a command that reads a job, where none came whose listings match and which has
@@ -21,7 +21,7 @@ pub record IsUntouched (c : Command) (s : SourceChange) (a : AreasChange) (answe
   pub others : makes_areas c ≡ false → a.after ≡ a.before
   pub refused : answer ≢ 0 → answer ≢ 6 → answer ≢ 7 → a.after ≡ a.before
   pub failed : s.later ≢ s.faults → a.after ≡ a.before
-  pub unmatched : reads_job c ≡ true → ((j : JobView) → CameJob (takes_more c) s j → HasNamed (session_named c) j → job_refusal j ≡ None → ⊥) → a.after ≡ a.before
+  pub unmatched : reads_job c ≡ true → ((j : JobView) → CameJob (reading_of c) s j → HasNamed (session_named c) j → job_refusal j ≡ None → ⊥) → a.after ≡ a.before
   pub unreported : (bytes : List ℕ) (status : ℕ) → s.left ≡ Some bytes → IsAnswer c bytes status → status ≢ 0 → a.after ≡ a.before
 
 -- what a command that runs tasks writes: the report, a session's marks file, or the summary of a generated job

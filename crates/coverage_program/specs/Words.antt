@@ -68,11 +68,28 @@ reads_job Combine = false
 reads_job (Trial number tasks) = false
 reads_job c = true
 
--- more than a job may stand in its input
-abbrev pub takes_more : Command → Bool
-takes_more Replay = true
-takes_more (Show name) = true
-takes_more c = false
+-- how an input with a job is read
+pub record Reading : Type 0 where
+  -- sessions may have controllers
+  pub by : Bool
+  -- more than a job may stand in it
+  pub more : Bool
+
+-- a job of whole sessions and nothing behind it; a job and nothing behind it; a job and what stands behind it
+abbrev pub to_run : Reading
+to_run = record { by = false; more = false }
+
+abbrev pub to_list : Reading
+to_list = record { by = true; more = false }
+
+abbrev pub to_go_on : Reading
+to_go_on = record { by = true; more = true }
+
+abbrev pub reading_of : Command → Reading
+reading_of Table = to_list
+reading_of Replay = to_go_on
+reading_of (Show name) = to_go_on
+reading_of c = to_run
 
 -- the session that its second word names
 abbrev pub session_named : Command → Option (List ℕ)

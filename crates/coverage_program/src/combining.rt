@@ -6,9 +6,9 @@ ghost use Rattle.coverage_program.specs.Files.{combine_refusal};
 ghost use Rattle.coverage_program.specs.Inputs.{CameWhole};
 ghost use Rattle.job_run.specs.Runs.{Account};
 
-use crate::lines::{NO_MEMORY, bad_marks_line, other_table_line};
+use crate::lines::NO_MEMORY;
 use crate::ready::read_input;
-use crate::refusals::{Refusal, plain_refusal};
+use crate::refusals::{Refusal, bad_marks, other_table, plain_refusal};
 use crate::status::{Status, status_of, told};
 use crate::words::Command;
 use cov_outside::{Sink, Source};
@@ -21,14 +21,8 @@ fn combine_refusal(fault: CombineFault) -> Refusal
     ensures { result ≡ combine_refusal fault }
 {
     match fault {
-        CombineFault::BadMarks { offset } => Refusal {
-            status: 10,
-            line: bad_marks_line(offset),
-        },
-        CombineFault::Other(other) => Refusal {
-            status: 11,
-            line: other_table_line(&other),
-        },
+        CombineFault::BadMarks { offset } => bad_marks(offset),
+        CombineFault::Other(other) => other_table(&other),
         CombineFault::NoMemory => plain_refusal(7, NO_MEMORY),
     }
 }

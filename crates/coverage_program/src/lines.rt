@@ -25,13 +25,13 @@ pub const TOO_LARGE_INPUT: &[u8] = b"TOO LARGE INPUT\n";
 pub const NO_MEMORY: &[u8] = b"NO MEMORY\n";
 
 /// A line of these words and a number.
-fn number_line(words: &[u8], n: u32) -> ArrayVec<u8, 160>
+fn number_line(words: &[u8], n: u64) -> ArrayVec<u8, 160>
     requires { length words.now ≤ 100 }
     ensures { result.items ≡ words.now ++ decimal n ++ 10 ∷ [] }
 {
     let mut line = ArrayVec::new();
     add_text(&mut line, words);
-    add_number(&mut line, u64::from(n));
+    add_number(&mut line, n);
     add_text(&mut line, b"\n");
     line
 }
@@ -40,14 +40,14 @@ fn number_line(words: &[u8], n: u32) -> ArrayVec<u8, 160>
 pub fn bad_job_line(n: u32) -> ArrayVec<u8, 160>
     ensures { result.items ≡ bad_job_line n }
 {
-    number_line(b"BAD JOB LINE ", n)
+    number_line(b"BAD JOB LINE ", u64::from(n))
 }
 
 /// Line n of the input is no item of its schedule, or none that is possible there.
 pub fn bad_schedule_line(n: u32) -> ArrayVec<u8, 160>
     ensures { result.items ≡ bad_schedule_line n }
 {
-    number_line(b"BAD SCHEDULE LINE ", n)
+    number_line(b"BAD SCHEDULE LINE ", u64::from(n))
 }
 
 /// The name that a limit is told by.
@@ -98,11 +98,7 @@ pub fn no_session_line(name: &Name) -> ArrayVec<u8, 160>
 pub fn bad_marks_line(offset: usize) -> ArrayVec<u8, 160>
     ensures { result.items ≡ bad_marks_line offset }
 {
-    let mut line = ArrayVec::new();
-    add_text(&mut line, b"BAD MARKS OFFSET ");
-    add_number(&mut line, offset as u64);
-    add_text(&mut line, b"\n");
-    line
+    number_line(b"BAD MARKS OFFSET ", offset as u64)
 }
 
 /// A row in hexadecimal, or a dash where the table has none.

@@ -5,6 +5,7 @@ ghost use Rattle.coverage_program.specs.Answers.{IsStopped};
 ghost use Rattle.coverage_program.specs.Changes.{SourceChange};
 ghost use Rattle.coverage_program.specs.Inputs.{CameJob};
 ghost use Rattle.coverage_program.specs.Named.{session_number};
+ghost use Rattle.coverage_program.specs.Words.{Reading};
 
 use crate::lines::no_session_line;
 use crate::refusals::Refusal;
@@ -30,7 +31,7 @@ pub fn named_session(job: &Job, name: &Name) -> Result<SessNo, Refusal>
     ensures number { IfOk result (λ s. session_number job.now name.now ≡ Some s.0) }
     ensures from { IfOk result (λ s. 0 < s.0) }
     ensures to { IfOk result (λ s. s.0 ≤ length job.now.sessions) }
-    ensures stopped { (more : Bool) (s : SourceChange) → CameJob more s job.now → IfErr result (λ r. IsStopped true more (Some name.now) s r.status r.line) }
+    ensures stopped { (how : Reading) (s : SourceChange) → CameJob how s job.now → IfErr result (λ r. IsStopped true how (Some name.now) s r.status r.line) }
 {
     match find_session(job, name) {
         Some(session) => Ok(session),

@@ -1,8 +1,11 @@
-//! The refusals of listings.
+//! The refusals of listings and of marks files.
 ghost use Rattle.std.specs.Prelude.{◌≡◌, ◌≢◌, ℕ, ◌+◌, ◌-◌, ◌<◌, ◌≤◌, ◌^◌, ◌++◌, [], length, codes, decimal, get_or, take};
 ghost use Rattle.arrayvec.specs.ArrayVec.{array_vec_len};
 ghost use Rattle.coverage_program.specs.Refusals.{refusal, line_text, bad_listing, list_refusal, build_refusal, code_text, mismatch_text, location_of};
+ghost use Rattle.coverage_program.specs.Words.{bad_marks_line, other_table_line};
+ghost use Rattle.table_combine.specs.Combine.{difference_of};
 
+use crate::lines::{bad_marks_line, other_table_line};
 use annotator::text::{add_hex, add_number, add_text};
 use arrayvec::ArrayVec;
 use brk_table::BuildFault;
@@ -11,6 +14,7 @@ use listing_reader::{Line, ListFault, Listing};
 use report_text::add_bytes;
 use s370_decode::Code;
 use std::marker::Model;
+use table_combine::OtherTable;
 
 /// A refusal: its status, and the line that tells it.
 #[derive(Drop)]
@@ -35,6 +39,26 @@ pub fn plain_refusal(status: u8, line: &[u8]) -> Refusal
     let mut text = ArrayVec::new();
     add_text(&mut text, line);
     Refusal { status, line: text }
+}
+
+/// The field at the offset is the first bad one.
+pub fn bad_marks(offset: usize) -> Refusal
+    ensures { result ≡ refusal 10 (bad_marks_line offset) }
+{
+    Refusal {
+        status: 10,
+        line: bad_marks_line(offset),
+    }
+}
+
+/// Two tables are not the same.
+pub fn other_table(other: &OtherTable) -> Refusal
+    ensures { result ≡ refusal 11 (other_table_line (difference_of other.now)) }
+{
+    Refusal {
+        status: 11,
+        line: other_table_line(other),
+    }
 }
 
 /// A line on line n of a module's listing; `why` has at most 80 bytes, `what` at most 20.

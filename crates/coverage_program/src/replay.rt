@@ -7,13 +7,13 @@ ghost use Rattle.interleave_core.specs.Results.{Fits};
 ghost use Rattle.report_text.specs.Conditions.{HasFewLines};
 ghost use Rattle.report_text.specs.Writes.{WritesLines};
 ghost use Rattle.session_book.specs.Sessions.{task_of};
-ghost use Rattle.coverage_program.specs.Replay.{letters, or_dash, shown_words, item_words, event_line, event_lines, no_item, replay_lines};
+ghost use Rattle.coverage_program.specs.Replay.{letters, or_dash, shown_words, item_words, place_words, event_line, event_lines, no_item, replay_lines};
 
 use crate::schedule::Played;
 use annotator::text::{add_hex, add_number, add_text};
 use arrayvec::ArrayVec;
 use brk_table::Tables;
-use cov_base::{Bits, Fact, TaskNo};
+use cov_base::{Bits, Fact, PlaceNo, SessNo, TaskNo};
 use cov_outside::{Failed, Sink};
 use interleave_core::{Core, Shown};
 use job_text::Item;
@@ -65,7 +65,7 @@ fn add_shown(line: &mut ArrayVec<u8, 160>, shown: Shown)
         Shown::Lifted(true) => add_text(line, b" TAKEN"),
         Shown::Lifted(false) => add_text(line, b" NOT TAKEN"),
         Shown::Done => {}
-        Shown::Planted => {}
+        Shown::Planted | Shown::Closed => {}
     }
 }
 
@@ -82,6 +82,34 @@ fn add_task(line: &mut ArrayVec<u8, 160>, word: &[u8], job: &Job, t: TaskNo)
     }
 }
 
+/// Adds the name of a session and the address of a place, where there are.
+fn add_place(
+    line: &mut ArrayVec<u8, 160>,
+    job: &Job,
+    tables: &Tables,
+    at: Option<(SessNo, PlaceNo)>,
+)
+    requires { array_vec_len line.old ≤ 80 }
+    ensures items { line.new.items ≡ line.old.items ++ place_words job.now tables.now.places at }
+    ensures short { array_vec_len line.new ≤ array_vec_len line.old + 16 }
+{
+    let Some((s, p)) = at else {
+        return;
+    };
+    add_text(line, b" ");
+    let n = s.0.saturating_sub(1) as usize;
+    if n < job.sessions.len() {
+        add_text(line, job.sessions[n].name.bytes());
+    }
+    add_text(line, b" ");
+    let address = if p.0 < tables.len() {
+        tables.place(p).at.get()
+    } else {
+        0
+    };
+    add_hex(line, address, 6);
+}
+
 /// Adds an item as it stands in a schedule.
 fn add_item(line: &mut ArrayVec<u8, 160>, job: &Job, item: Item)
     requires { array_vec_len line.old ≤ 80 }
@@ -94,31 +122,39 @@ fn add_item(line: &mut ArrayVec<u8, 160>, job: &Job, item: Item)
         Item::Lift(t) => add_task(line, b"LIFT ", job, t),
         Item::Do(t) => add_task(line, b"DO ", job, t),
         Item::Go(t) => add_task(line, b"GO ", job, t),
+        Item::Plant(t) => add_task(line, b"PLANT ", job, t),
+        Item::Close(t) => add_task(line, b"CLOSE ", job, t),
         Item::End => add_text(line, b"ENDSCHED"),
     }
 }
 
 /// The line of item n.
-fn event_line(job: &Job, n: u32, played: Played) -> ArrayVec<u8, 160>
-    ensures { result.items ≡ event_line job.now n played ++ 10 ∷ [] }
+fn event_line(job: &Job, tables: &Tables, n: u32, played: Played) -> ArrayVec<u8, 160>
+    ensures { result.items ≡ event_line job.now tables.now.places n played ++ 10 ∷ [] }
 {
     let mut line = ArrayVec::new();
     add_text(&mut line, b"EVENT ");
     add_number(&mut line, u64::from(n));
     add_text(&mut line, b" ");
     add_item(&mut line, job, played.item);
+    add_place(&mut line, job, tables, played.at);
     add_shown(&mut line, played.shown);
     add_text(&mut line, b"\n");
     line
 }
 
 /// The lines of all items.
-fn events_text<K: Sink>(sink: &mut K, job: &Job, played: &[Played]) -> Result<(), Failed>
+fn events_text<K: Sink>(
+    sink: &mut K,
+    job: &Job,
+    tables: &Tables,
+    played: &[Played],
+) -> Result<(), Failed>
     requires { length played.now < 2 ^ 32 }
-    ensures { WritesLines K.written K.faults sink.old sink.new result (event_lines job.now played.now) }
+    ensures { WritesLines K.written K.faults sink.old sink.new result (event_lines job.now tables.now.places played.now) }
 {
     for i in 0..played.len() {
-        put(sink, event_line(job, i as u32 + 1, played[i]))?;
+        put(sink, event_line(job, tables, i as u32 + 1, played[i]))?;
     }
     Ok(())
 }
@@ -141,6 +177,6 @@ pub fn replay_text<K: Sink>(
     ensures { WritesLines K.written K.faults sink.old sink.new result (replay_lines job.now tables.now core.now.parts played.now) }
 {
     put(sink, words_line(b"COVERAGE REPLAY"))?;
-    events_text(sink, job, played)?;
+    events_text(sink, job, tables, played)?;
     results_part(sink, job, tables, core)
 }

@@ -5,8 +5,10 @@ ghost use Rattle.job_text.specs.Lines.{LineView, lines_of};
 ghost use Rattle.job_text.specs.Schedule.{item_at};
 ghost use Rattle.interleave_core.specs.World.{Parts, plan_in};
 ghost use Rattle.module_area.specs.PlanView.{window_at};
-ghost use Rattle.interleave_core.specs.Results.{Fits};
-ghost use Rattle.coverage_program.specs.Replay.{Play, with_item, play, play_end, play_of, play_line, play_item, plant_at, planted, planted_from, IsLine, IsUnplayed};
+ghost use Rattle.interleave_core.specs.Results.{Fits, next_of};
+ghost use Rattle.interleave_core.specs.Steps.{parts_step};
+ghost use Rattle.job_text.specs.declared.schedule.Item.TheVariants as item;
+ghost use Rattle.coverage_program.specs.Replay.{Play, plant_due, close_due, item_place, with_item, play, play_end, play_of, play_line, play_item, plant_at, planted, planted_from, IsLine, IsUnplayed};
 
 use brk_table::Tables;
 use cov_base::{NoMemory, PlaceNo, SessNo, TaskNo};
@@ -15,11 +17,12 @@ use job_text::{Item, first_line, item_of};
 use session_book::{Job, plan_of};
 use std::alloc::{AllocFailed, Global};
 
-/// An item of a schedule, and what it has shown.
+/// An item of a schedule, what it has shown, and the session that it planted or closed at a place.
 #[derive(Clone, Copy)]
 pub struct Played {
     pub item: Item,
     pub shown: Shown,
+    pub at: Option<(SessNo, PlaceNo)>,
 }
 
 /// A core that a schedule was played on, and the schedule's items.
@@ -59,20 +62,94 @@ impl From<NoMemory> for ScheduleFault {
     }
 }
 
+/// Plays an item that stands for this event.
+fn play_event<'a>(
+    core: &mut Core<'a>,
+    item: Item,
+    event: Event,
+    at: Option<(SessNo, PlaceNo)>,
+) -> Result<Played, NotPossible>
+    ensures possible { IfOk result (λ p. parts_step core.old.world core.old.parts event ≡ Some (record { parts = core.new.parts; shown = p.shown })) }
+    ensures item { IfOk result (λ p. (p.item ≡ item) × (p.at ≡ at)) }
+    ensures refused { OnErr result (parts_step core.old.world core.old.parts event ≡ None) }
+    ensures world { core.new.world ≡ core.old.world }
+    ensures fits { Fits core.old.world core.old.parts → Fits core.new.world core.new.parts }
+{
+    match core.apply(event) {
+        Ok(shown) => Ok(Played { item, shown, at }),
+        Err(NotPossible) => Err(NotPossible),
+    }
+}
+
+/// The session and the place that are to be planted of the task.
+fn plant_due<'a>(core: &Core<'a>, t: TaskNo) -> Option<(SessNo, PlaceNo)>
+    ensures { result ≡ plant_due (next_of core.now.world core.now.parts t) }
+{
+    match core.next(t) {
+        Some(Event::Plant(s, p)) => Some((s, p)),
+        _ => None,
+    }
+}
+
+/// The session and the place that are to be closed of the task.
+fn close_due<'a>(core: &Core<'a>, t: TaskNo) -> Option<(SessNo, PlaceNo)>
+    ensures { result ≡ close_due (next_of core.now.world core.now.parts t) }
+{
+    match core.next(t) {
+        Some(Event::Close(s, p)) => Some((s, p)),
+        _ => None,
+    }
+}
+
+/// Plays `PLANT task`: the planting that is due of the task.
+fn play_plant<'a>(core: &mut Core<'a>, t: TaskNo) -> Result<Played, NotPossible>
+    ensures possible { IfOk result (λ p. play_item core.old.world core.old.parts (item.Plant t) ≡ Some (record { parts = core.new.parts; shown = p.shown })) }
+    ensures item { IfOk result (λ p. (p.item ≡ item.Plant t) × (p.at ≡ item_place core.old.world core.old.parts (item.Plant t))) }
+    ensures refused { OnErr result (play_item core.old.world core.old.parts (item.Plant t) ≡ None) }
+    ensures world { core.new.world ≡ core.old.world }
+    ensures fits { Fits core.old.world core.old.parts → Fits core.new.world core.new.parts }
+{
+    match plant_due(core, t) {
+        Some((s, p)) => play_event(core, Item::Plant(t), Event::Plant(s, p), Some((s, p))),
+        None => Err(NotPossible),
+    }
+}
+
+/// Plays `CLOSE task`: the closing that is due of the task.
+fn play_close<'a>(core: &mut Core<'a>, t: TaskNo) -> Result<Played, NotPossible>
+    ensures possible { IfOk result (λ p. play_item core.old.world core.old.parts (item.Close t) ≡ Some (record { parts = core.new.parts; shown = p.shown })) }
+    ensures item { IfOk result (λ p. (p.item ≡ item.Close t) × (p.at ≡ item_place core.old.world core.old.parts (item.Close t))) }
+    ensures refused { OnErr result (play_item core.old.world core.old.parts (item.Close t) ≡ None) }
+    ensures world { core.new.world ≡ core.old.world }
+    ensures fits { Fits core.old.world core.old.parts → Fits core.new.world core.new.parts }
+{
+    match close_due(core, t) {
+        Some((s, p)) => play_event(core, Item::Close(t), Event::Close(s, p), Some((s, p))),
+        None => Err(NotPossible),
+    }
+}
+
 /// Plays one item: one event, or all of a task that hasn't ended.
-fn play_item<'a>(core: &mut Core<'a>, item: Item) -> Result<Shown, NotPossible>
-    ensures possible { IfOk result (λ shown. play_item core.old.world core.old.parts item ≡ Some (record { parts = core.new.parts; shown = shown })) }
+fn play_item<'a>(core: &mut Core<'a>, item: Item) -> Result<Played, NotPossible>
+    ensures possible { IfOk result (λ p. play_item core.old.world core.old.parts item ≡ Some (record { parts = core.new.parts; shown = p.shown })) }
+    ensures item { IfOk result (λ p. (p.item ≡ item) × (p.at ≡ item_place core.old.world core.old.parts item)) }
     ensures refused { OnErr result (play_item core.old.world core.old.parts item ≡ None) }
     ensures world { core.new.world ≡ core.old.world }
     ensures fits { Fits core.old.world core.old.parts → Fits core.new.world core.new.parts }
 {
     match item {
-        Item::Fetch(t) => core.apply(Event::Fetch(t)),
-        Item::Mark(t) => core.apply(Event::Mark(t)),
-        Item::Lift(t) => core.apply(Event::Lift(t)),
-        Item::Do(t) => core.apply(Event::Do(t)),
+        Item::Fetch(t) => play_event(core, item, Event::Fetch(t), None),
+        Item::Mark(t) => play_event(core, item, Event::Mark(t), None),
+        Item::Lift(t) => play_event(core, item, Event::Lift(t), None),
+        Item::Do(t) => play_event(core, item, Event::Do(t), None),
+        Item::Plant(t) => play_plant(core, t),
+        Item::Close(t) => play_close(core, t),
         Item::Go(t) => match core.go(t) {
-            Ok(()) => Ok(Shown::Done),
+            Ok(()) => Ok(Played {
+                item,
+                shown: Shown::Done,
+                at: None,
+            }),
             Err(NotPossible) => Err(NotPossible),
         },
         Item::End => Err(NotPossible),
@@ -134,8 +211,7 @@ fn play_line<'a>(core: &mut Core<'a>, job: &Job, line: &[u8]) -> Result<Option<P
     if item == Item::End {
         return Ok(None);
     }
-    let shown = play_item(core, item)?;
-    Ok(Some(Played { item, shown }))
+    Ok(Some(play_item(core, item)?))
 }
 
 /// The items of a schedule that has ended, behind which nothing may stand.

@@ -9,16 +9,16 @@ ghost use Rattle.coverage_program.specs.Files.{IsFile, IsFileRefusal, IsShowRefu
 ghost use Rattle.coverage_program.specs.Incoming.{CameWith};
 ghost use Rattle.coverage_program.specs.Named.{session_number};
 ghost use Rattle.coverage_program.specs.Refusals.{Match, refusal};
-ghost use Rattle.coverage_program.specs.Words.{bad_marks_line, no_memory_line};
+ghost use Rattle.coverage_program.specs.Words.{to_go_on, bad_marks_line, no_memory_line};
 ghost use Rattle.job_run.specs.Runs.{Account};
 ghost use Rattle.report_text.specs.Conditions.{AreTablesOf};
 ghost use Rattle.session_book.specs.Sets.{HasSetsOf};
 ghost use Rattle.session_marks.specs.FromFile.{set_at, sets_of_one};
 ghost use Rattle.session_marks.specs.Marked.{session_marks};
 
-use crate::lines::{NO_MEMORY, bad_marks_line, other_table_line};
+use crate::lines::NO_MEMORY;
 use crate::ready::make_named;
-use crate::refusals::{Refusal, plain_refusal};
+use crate::refusals::{Refusal, bad_marks, other_table, plain_refusal};
 use crate::status::{Status, status_of, told};
 use crate::words::Command;
 use brk_table::Tables;
@@ -29,16 +29,6 @@ use report_text::{put, session_part, words_line};
 use session_book::{FactSets, Job};
 use session_marks::{FileSets, SetsFault, file_sets};
 use std::alloc::Global;
-
-/// The line of a bad field.
-fn bad_marks(offset: usize) -> Refusal
-    ensures { result ≡ refusal 10 (bad_marks_line offset) }
-{
-    Refusal {
-        status: 10,
-        line: bad_marks_line(offset),
-    }
-}
 
 /// The one marks file that the bytes are.
 fn one_file(alloc: Global, rest: &[u8]) -> Result<Marks, Refusal>
@@ -77,10 +67,7 @@ fn sets_behind(
     let marks = one_file(alloc, rest)?;
     match file_sets(alloc, job, tables, s, &marks) {
         Ok(sets) => Ok(sets),
-        Err(SetsFault::Other(other)) => Err(Refusal {
-            status: 11,
-            line: other_table_line(&other),
-        }),
+        Err(SetsFault::Other(other)) => Err(other_table(&other)),
         Err(SetsFault::NoMemory) => Err(plain_refusal(7, NO_MEMORY)),
     }
 }
@@ -121,7 +108,7 @@ fn answer_file<K: Sink>(
     requires matching { Match job.now tables.now.tables }
     requires numbered { tables.now.places ≡ all_places tables.now.tables }
     requires number { session_number job.now name.now ≡ Some s.0 }
-    ensures { (c : SourceChange) (a : Account) (count : ℕ) → CameWith true c job.now count rest.now →
+    ensures { (c : SourceChange) (a : Account) (count : ℕ) → CameWith to_go_on c job.now count rest.now →
         Answers (Command.Show name.now) c (no_change a) (sink_change K.written K.faults sink.old sink.new) result.0 }
 {
     match sets_behind(alloc, job, tables, s, rest) {
@@ -139,7 +126,7 @@ pub fn answer_show<S: Source, K: Sink>(
 ) -> Status
     ensures { (a : Account) → Answers (Command.Show name.now) (source_change S.left S.faults source.old source.new) (no_change a) (sink_change K.written K.faults sink.old sink.new) result.0 }
 {
-    let (read, session) = match make_named(alloc, source, true, name) {
+    let (read, session) = match make_named(alloc, source, true, true, name) {
         Ok(read) => read,
         Err(refusal) => return told(sink, &refusal.line, refusal.status),
     };

@@ -1,5 +1,7 @@
 //! Jobs through `cover`, from the bytes in to the bytes out, over memory and over areas that threads share.
 mod cases;
+mod controllers;
+mod controls;
 mod faults;
 mod gates;
 mod jobs;
@@ -8,6 +10,8 @@ mod marks;
 mod modules;
 mod notation;
 mod noted;
+mod one_thread;
+mod opened;
 mod order;
 mod places;
 mod programs;

@@ -1,5 +1,5 @@
 -- Each event keeps each task where its run alone is.
-use Rattle.std.proofs.Common.{◌≡◌, ◌≢◌, ◌⊎◌, inl, inr, ℕ, zero, suc, ◌+◌, ◌-◌, ◌<◌, ◌≤◌, Bool, true, false, nat_le, nat_lt, if◌then◌else◌, Option, Some, None, option_map, List, [], ◌∷◌, ◌++◌, length, get_or, set, map, refl, sym, ◌∙◌, ap, subst, arith}
+use Rattle.std.proofs.Common.{◌≡◌, inl, inr, ℕ, zero, suc, ◌+◌, ◌-◌, ◌<◌, ◌≤◌, Bool, true, false, nat_le, nat_lt, if◌then◌else◌, Option, Some, None, option_map, List, [], ◌∷◌, ◌++◌, length, get_or, set, refl, sym, ◌∙◌, ap, subst, arith}
 use Rattle.std.proofs.lemmas.Bool.Decides.{nat_tests}
 use Rattle.std.proofs.lemmas.Grind.{get_or-set_at}
 use Rattle.std.proofs.lemmas.List.{get_or-map, get_or-set_other, length-set, length-map}
@@ -9,21 +9,19 @@ use Rattle.s370_state.specs.declared.endings.Ending.{Ending}
 use Rattle.s370_state.specs.declared.endings.Ending.TheVariants.{Returned, Spent}
 use Rattle.s370_state.specs.declared.endings.Next.{Next}
 use Rattle.s370_state.specs.declared.endings.Next.TheVariants.{On, Ended as NextEnded}
-use Rattle.s370_exec.specs.Solo.{Run, Step, solo_run, solo_step, run_on, run_after, run_ended, has_returned}
+use Rattle.s370_exec.specs.Solo.{Run, solo_run, solo_step, run_on, run_after, run_ended, has_returned}
 use Rattle.s370_exec.proofs.TraceLemmas.{solo_step-done}
 use Rattle.session_book.specs.Sessions.{task_of, no_task, first_state}
 use Rattle.interleave_core.specs.World.{World, TaskPart, Parts, part_of, no_part, memory_in, budget_in, first_parts, first_part, place_at}
-use Rattle.interleave_core.specs.Steps.{Stepped, parts_step, fetch_step, fetched, mark_step, marked, lift_step, lifted, do_step, done_by, may_plant, breakpoint_of, with_cell, with_due, original_under, same_cell, in_hand, with_stage, step_of, is_spent, executed, stage_after, place_due, task_done, subject_place, subject_executed, instruction_executed, awaits_or, unless_at, same_due}
+use Rattle.interleave_core.specs.Control.{PlaceChange}
+use Rattle.interleave_core.specs.Steps.{Stepped, parts_step, fetch_step, fetched, mark_step, marked, lift_step, lifted, do_step, done_by, changed, with_due, original_under, same_cell, in_hand, with_stage, step_of, is_spent, executed, stage_after, place_due, task_goes_on, task_done, subject_place, instruction_executed, awaits_or, unless_at, same_due}
 use Rattle.module_area.specs.CellWords.{word_at}
-use Rattle.module_area.specs.declared.cells.Cell.{Cell}
-use Rattle.interleave_core.specs.Core.{CoreState, CoreStepped, core_start, core_step, core_after, core_from, core_run, go_on}
-use Rattle.interleave_core.proofs.Kept.{in_hand-stage}
-use Rattle.interleave_core.proofs.Nexts.{exists_by}
-use Rattle.interleave_core.proofs.Runs.{some_core, through}
+use Rattle.interleave_core.specs.Core.{CoreState, CoreStepped, core_start, core_step, core_after, core_from, core_run}
+use Rattle.interleave_core.proofs.Changes.{goes_on, Changed, plant_cases, close_by}
+use Rattle.interleave_core.proofs.Runs.{same_or, lt_of, some_part, got, lifted_tasks, exists_by, in_hand-stage, some_core, through}
 use Rattle.interleave_core.specs.declared.events.Event.{Event}
-use Rattle.interleave_core.specs.declared.events.Event.TheVariants.{Fetch, Mark, Lift, Do, Plant}
-use Rattle.interleave_core.specs.declared.events.Shown.TheVariants.{Planted}
-use Rattle.interleave_core.specs.Alone.{alone, IsAlone, AreAlone}
+use Rattle.interleave_core.specs.declared.events.Event.TheVariants.{Fetch, Mark, Lift, Do, Plant, Close}
+use Rattle.interleave_core.specs.Alone.{IsAlone, AreAlone}
 use Rattle.interleave_core.specs.declared.stage.Hand.{Hand}
 use Rattle.interleave_core.specs.declared.stage.Due.TheVariants.{Marking, Lifting, Nothing}
 use Rattle.interleave_core.specs.declared.stage.Stage.{Stage}
@@ -66,9 +64,6 @@ ended_same e x h = cc
 
 ready_not : (e : Ending) → Ready ≡ Ended e → ⊥
 ready_not e h = let f : false ≡ true = ap has_ended h in absurd cc
-
-pub some_part : (u v : TaskPart) → Some u ≡ Some v → u ≡ v
-some_part u v h = cc
 
 le_of : (a b : ℕ) → nat_le a b ≡ true → a ≤ b
 le_of a b h = grind (arith, nat_tests)
@@ -142,7 +137,7 @@ on_step m first u n trace next is on going k =
     ∙ ap (λ (x : Next). run_after (λ t more. run_on m k t more) trace (solo_step m u.state).state (solo_step m u.state).visits x) is))
 
 executed_by : (m : Memory) (budget : ℕ) (first : State) (u : TaskPart) (next : Next) → (solo_step m u.state).next ≡ next → has_ended u.stage ≡ false → has_returned u.state ≡ false → u.state.done < budget →
-    Goes m budget first u → Goes m budget first (record { state = (solo_step m u.state).state; stage = stage_after next })
+    Goes m budget first u → Goes m budget first (record u { state = (solo_step m u.state).state; stage = stage_after next })
 executed_by m budget first u On is was on below g =
     let s : State = (solo_step m u.state).state in
     let trace : List Visit = g.trace ++ (solo_step m u.state).visits in
@@ -189,14 +184,15 @@ executed_trace m budget first u was on g =
     ∙ (by_next m g.trace (solo_step m u.state).state (solo_step m u.state).visits (solo_step m u.state).next
     ∙ ap (λ (t : List Visit). t ++ (solo_step m u.state).visits) (sym (ap (λ (r : Run). r.trace) g.state))))
 
-goes_executed : (m : Memory) (budget : ℕ) (first : State) (u : TaskPart) → has_ended u.stage ≡ false → has_returned u.state ≡ false → u.state.done < budget →
-    Goes m budget first u → Goes m budget first (executed (solo_step m u.state))
-goes_executed m budget first u was on below g = executed_by m budget first u (solo_step m u.state).next refl was on below g
+goes_executed : (w : World) (t : ℕ) (u : TaskPart) → has_ended u.stage ≡ false → has_returned u.state ≡ false → u.state.done < budget_in w t → GoesAt w t u → GoesAt w t (executed w t u)
+goes_executed w t u was on below g =
+    let after : GoesAt w t (record u { state = (step_of w t u).state; stage = stage_after (step_of w t u).next }) =
+    executed_by (memory_in w t) (budget_in w t) (first_state (task_of w.job t)) u (step_of w t u).next refl was on below g in
+    record { trace = after.trace; within = after.within; state = after.state; going = after.going; ended = after.ended; inside = after.inside }
 
-awaits_by : (m : Memory) (budget : ℕ) (first : State) (u : TaskPart) (at : Option ℕ) → has_ended u.stage ≡ false → has_returned u.state ≡ false → u.state.done < budget →
-    Goes m budget first u → Goes m budget first (awaits_or u (executed (solo_step m u.state)) at)
-awaits_by m budget first u None was on below g = goes_executed m budget first u was on below g
-awaits_by m budget first u (Some p) was on below g = goes_stage m budget first u Awaiting refl was (on, below) g
+awaits_by : (w : World) (t : ℕ) (u : TaskPart) (at : Option ℕ) → has_ended u.stage ≡ false → has_returned u.state ≡ false → u.state.done < budget_in w t → GoesAt w t u → GoesAt w t (awaits_or u (executed w t u) at)
+awaits_by w t u None was on below g = goes_executed w t u was on below g
+awaits_by w t u (Some p) was on below g = goes_stage (memory_in w t) (budget_in w t) (first_state (task_of w.job t)) u Awaiting refl was (on, below) g
 
 ready_goes : (m : Memory) (budget : ℕ) (first : State) (u v whole : TaskPart) (returned spent : Bool) (at : Option ℕ) → has_ended u.stage ≡ false → has_returned u.state ≡ returned → nat_le budget u.state.done ≡ spent →
     (has_returned u.state ≡ false → u.state.done < budget → Goes m budget first whole) → Goes m budget first u →
@@ -207,20 +203,26 @@ ready_goes m budget first u v whole false false None was r s go g h = subst (λ 
 ready_goes m budget first u v whole false false (Some p) was r s go g h = let n : None ≡ Some v = h in absurd cc
 
 -- a Do
-pub goes_done : (w : World) (t : ℕ) (u v : TaskPart) (stage : Stage) → u.stage ≡ stage → task_done w t u stage ≡ Some v → GoesAt w t u → GoesAt w t v
-goes_done w t u v Ready at h g =
+goes_going : (w : World) (t : ℕ) (u v : TaskPart) (stage : Stage) → u.stage ≡ stage → task_goes_on w t u stage ≡ Some v → GoesAt w t u → GoesAt w t v
+goes_going w t u v Ready at h g =
     ready_goes (memory_in w t) (budget_in w t) (first_state (task_of w.job t)) u v (instruction_executed w t u) (has_returned u.state) (is_spent w t u.state) (place_at w u.state.machine.cpu.ia) (ap has_ended at) refl refl
-    (λ r b. awaits_by (memory_in w t) (budget_in w t) (first_state (task_of w.job t)) u (subject_place w (step_of w t u).visits) (ap has_ended at) r b g) g h
-goes_done w t u v Awaiting at h g = let n : None ≡ Some v = h in absurd cc
-goes_done w t u v (Ended e) at h g = let n : None ≡ Some v = h in absurd cc
-goes_done w t u v (Holding x) at h g = by (same_due x.due Nothing) x.subject h
+    (λ r b. awaits_by w t u (subject_place w (step_of w t u).visits) (ap has_ended at) r b g) g h
+goes_going w t u v Awaiting at h g = let n : None ≡ Some v = h in absurd cc
+goes_going w t u v (Ended e) at h g = let n : None ≡ Some v = h in absurd cc
+goes_going w t u v (Holding x) at h g = by (same_due x.due Nothing) x.subject h
   where
-    by : (nothing subject : Bool) → (if nothing then Some (if subject then subject_executed w t u else instruction_executed w t u) else None) ≡ Some v → GoesAt w t v
+    by : (nothing subject : Bool) → (if nothing then Some (if subject then executed w t u else instruction_executed w t u) else None) ≡ Some v → GoesAt w t v
     by false subject k = let n : None ≡ Some v = k in absurd cc
-    by true true k = subst (λ (y : TaskPart). GoesAt w t y) (some_part _ v k)
-        (goes_executed (memory_in w t) (budget_in w t) (first_state (task_of w.job t)) u (ap has_ended at) (g.inside (ap is_inside at)).0 (g.inside (ap is_inside at)).1 g)
+    by true true k = subst (λ (y : TaskPart). GoesAt w t y) (some_part _ v k) (goes_executed w t u (ap has_ended at) (g.inside (ap is_inside at)).0 (g.inside (ap is_inside at)).1 g)
     by true false k = subst (λ (y : TaskPart). GoesAt w t y) (some_part _ v k)
-        (awaits_by (memory_in w t) (budget_in w t) (first_state (task_of w.job t)) u (subject_place w (step_of w t u).visits) (ap has_ended at) (g.inside (ap is_inside at)).0 (g.inside (ap is_inside at)).1 g)
+        (awaits_by w t u (subject_place w (step_of w t u).visits) (ap has_ended at) (g.inside (ap is_inside at)).0 (g.inside (ap is_inside at)).1 g)
+
+pub goes_done : (w : World) (t : ℕ) (u v : TaskPart) (stage : Stage) → u.stage ≡ stage → task_done w t u stage ≡ Some v → GoesAt w t u → GoesAt w t v
+goes_done w t u v stage at h g = goes_going w t u v stage at (goes_on w t u v stage h) g
+
+-- a place of a session
+pub goes_changed : (w : World) (t n : ℕ) (u : TaskPart) → GoesAt w t u → GoesAt w t (record u { changed = n })
+goes_changed w t n u g = record { trace = g.trace; within = g.within; state = g.state; going = g.going; ended = g.ended; inside = g.inside }
 
 -- before any event
 pub goes_first : (w : World) (t : ℕ) → GoesAt w t (first_part (task_of w.job t))
@@ -246,9 +248,6 @@ goes_alone w t u g = record {
 abbrev pub AllGo : World → Parts → Type 0
 AllGo w c = (t : ℕ) → t < length c.tasks → GoesAt w t (part_of c t)
 
-pub same_or : (t n : ℕ) → (t ≡ n) ⊎ (t ≢ n)
-same_or t n = grind arith
-
 -- one task changes
 pub all_but : (w : World) (c d : Parts) (t : ℕ) (u : TaskPart) → d.tasks ≡ set c.tasks t u → t < length c.tasks → GoesAt w t u → AllGo w c → AllGo w d
 all_but w c d t u e lt one all s l =
@@ -259,19 +258,9 @@ all_but w c d t u e lt one all s l =
       | inr other ↦ subst (λ (x : TaskPart). GoesAt w s x) (sym (there ∙ get_or-set_other c.tasks t s u no_part other)) (all s inside)
     ]
 
-pub lt_of : (t n : ℕ) → nat_lt t n ≡ true → t < n
-lt_of t n h = grind (arith, nat_tests)
-
-pub some_stepped : (a b : Stepped) → Some a ≡ Some b → a ≡ b
-some_stepped a b h = cc
-
-pub got : (A : Type 0) (f : A → Stepped) (o : Option A) (x : Stepped) → option_map f o ≡ Some x → (a : A) × (o ≡ Some a) × (x ≡ f a)
-got A f None x h = let n : None ≡ Some x = h in absurd cc
-got A f (Some a) x h = (a, refl, sym (some_stepped (f a) x h))
-
-pub lifted_tasks : (b : Bool) (P : Parts) (p : ℕ) (x : Cell) → (if b then with_cell P p x else P).tasks ≡ P.tasks
-lifted_tasks true P p x = refl
-lifted_tasks false P p x = refl
+all_changed : (w : World) (c : Parts) (t : ℕ) (y : PlaceChange) (x : Stepped) → t < length c.tasks → x ≡ changed w c t (part_of c t) y → AllGo w c → AllGo w x.parts
+all_changed w c t y x lt made all =
+    all_but w c x.parts t (record (part_of c t) { changed = (part_of c t).changed + 1 }) (ap (λ (z : Stepped). z.parts.tasks) made) lt (goes_changed w t ((part_of c t).changed + 1) (part_of c t) (all t lt)) all
 
 -- each event
 pub all_step : (w : World) (c : Parts) (e : Event) (x : Stepped) → parts_step w c e ≡ Some x → AllGo w c → AllGo w x.parts
@@ -296,11 +285,11 @@ all_step w c (Do t) x h all =
     let lt : t.0 < length c.tasks = lt_of t.0 (length c.tasks) at.0 in
     let v = got TaskPart (done_by c t.0) (task_done w t.0 (part_of c t.0) (part_of c t.0).stage) x at.1 in
     all_but w c x.parts t.0 v.0 (ap (λ (y : Stepped). y.parts.tasks) v.2) lt (goes_done w t.0 (part_of c t.0) v.0 (part_of c t.0).stage refl v.1 (all t.0 lt)) all
-all_step w c (Plant s p) x h all =
-    let made : (may_plant w c s.0 p.0 ≡ true) × (Some (record { parts = with_cell c p.0 (breakpoint_of s.0); shown = Planted }) ≡ Some x) =
-    exists_by (may_plant w c s.0 p.0) (Some (record { parts = with_cell c p.0 (breakpoint_of s.0); shown = Planted })) x h in
-    let same : record { parts = with_cell c p.0 (breakpoint_of s.0); shown = Planted } ≡ x = some_stepped _ x made.1 in
-    subst (λ (y : Stepped). AllGo w y.parts) same all
+all_step w c (Plant s p) x h all = elim (plant_cases w c s.0 p.0 x h) [
+  | inl whole ↦ subst (λ (y : Stepped). AllGo w y.parts) (sym whole.made) all
+  | inr by ↦ all_changed w c by.task by.change x by.there by.made all
+]
+all_step w c (Close s p) x h all = let by : Changed w c true s.0 p.0 x = close_by w c s.0 p.0 x h in all_changed w c by.task by.change x by.there by.made all
 
 pub all_first : (w : World) → AllGo w (first_parts w)
 all_first w t l =

@@ -1,8 +1,7 @@
 -- The sets are exact once all tasks have ended.
-use Rattle.std.proofs.Common.{◌≡◌, ◌≢◌, ◌⊎◌, inl, inr, ⊎_elim, ℕ, zero, suc, ◌+◌, ◌%◌, ◌<◌, ◌≤◌, Bool, true, false, ◌&&◌, nat_lt, nat_eq, if◌then◌else◌, Option, Some, None, List, [], ◌∷◌, length, get_or, set, refl, sym, ◌∙◌, ap, subst, arith, eqb-true, eq-eqb, ◌↔◌}
+use Rattle.std.proofs.Common.{◌≡◌, ◌⊎◌, inl, inr, ℕ, zero, suc, ◌+◌, ◌*◌, ◌%◌, ◌<◌, Bool, true, false, ◌&&◌, nat_lt, if◌then◌else◌, Option, Some, None, is_none, List, [], ◌∷◌, length, set, refl, sym, ◌∙◌, ap, subst, arith, eq-eqb}
 use mathlib.Core.Option.{some, some-injective, some-ne-none}
 use lib.ListN.{get_elem?}
-use Rattle.cov_base.specs.Codes.{breakpoint}
 use Rattle.cov_base.specs.FactSet.{FactSet}
 use Rattle.cov_base.specs.Facts.{has_fact, with_fact, is_full, full_of, is_of_kind, fact_of}
 use Rattle.cov_base.specs.declared.facts.Fact.{Fact}
@@ -10,34 +9,36 @@ use Rattle.cov_base.specs.declared.facts.Fact.TheVariants.{Ran, Went, Stayed}
 use Rattle.cov_base.specs.declared.facts.Kind.{Kind}
 use Rattle.cov_base.specs.declared.facts.Kind.TheVariants.{Straight, Conditional}
 use Rattle.s370_state.specs.declared.endings.Ending.{Ending}
-use Rattle.module_area.specs.Held.{planted, untouched, lifted as lifted_cell, IsForm, Held}
-use Rattle.module_area.specs.Parties.{Has, tag_session, window_tag, is_breakpoint, is_lifted, fetching}
+use Rattle.module_area.specs.Held.{planted, IsForm}
+use Rattle.module_area.specs.Parties.{Has, tag_session, window_tag, is_breakpoint, is_lifted, fetching, planting}
 use Rattle.module_area.specs.CellWords.{word_at}
-use Rattle.module_area.specs.PlanView.{PlanView, IsPlan, original_at, kind_at, is_over}
+use Rattle.module_area.specs.PlanView.{PlanView, original_at, kind_at}
 use Rattle.module_area.specs.declared.cells.Cell.{Cell}
 use Rattle.module_area.specs.declared.parties.View.{View}
 use Rattle.module_area.proofs.FactLemmas.{is_full-true}
 use Rattle.module_area.proofs.PartyLemmas.{here-add_if, more-add_if}
-use Rattle.interleave_core.specs.World.{World, IsWorld, TaskPart, Parts, part_of, plan_in, first_part, first_parts, no_part}
+use Rattle.interleave_core.specs.World.{World, IsWorld, TaskPart, part_of, plan_in}
 use Rattle.s370_exec.specs.Solo.{visit_of}
-use Rattle.interleave_core.specs.Steps.{Stepped, parts_step, fetch_step, fetched, mark_step, marked, lift_step, lifted, do_step, done_by, may_plant, breakpoint_of, with_cell, with_due, with_stage, original_under, same_cell, in_hand, hand_at, step_of, place_due, is_awaiting, task_done, set_of, fact_in}
-use Rattle.interleave_core.specs.Core.{CoreState, CoreStepped, core_start, core_step, core_after, core_from, core_run, log_after, entry_of}
-use Rattle.interleave_core.specs.Entries.{Entry}
+use Rattle.interleave_core.specs.Steps.{Stepped, parts_step, fetch_step, fetched, mark_step, marked, lift_step, lifted, do_step, done_by, with_due, with_stage, original_under, same_cell, in_hand, hand_at, step_of, place_due, is_awaiting, task_done, set_of, fact_in}
+use Rattle.interleave_core.specs.Core.{CoreState, core_start, core_step, core_after, core_from, core_run, log_after, entry_of}
+use Rattle.interleave_core.specs.Entries.{Entry, Item, Met, Gave}
 use Rattle.interleave_core.specs.Exact.{HasShown, HaveEnded, AreExact}
 use Rattle.interleave_core.specs.Parties.{with_mark, with_lift, with_notes, task_view, task_views, first_planter, planted_by, planter_from}
 use Rattle.interleave_core.specs.declared.events.Event.{Event}
-use Rattle.interleave_core.specs.declared.events.Event.TheVariants.{Fetch, Mark, Lift, Do, Plant}
-use Rattle.interleave_core.specs.declared.events.Shown.{Shown}
-use Rattle.interleave_core.specs.declared.events.Shown.TheVariants.{Fetched, Marked, Lifted, Done, Planted}
+use Rattle.interleave_core.specs.declared.events.Event.TheVariants.{Fetch, Mark, Lift, Do, Plant, Close}
+use Rattle.interleave_core.specs.declared.events.Shown.TheVariants.{Fetched, Marked, Lifted, Done}
 use Rattle.interleave_core.specs.declared.stage.Hand.{Hand}
 use Rattle.interleave_core.specs.declared.stage.Due.TheVariants.{Marking, Lifting, Nothing}
 use Rattle.interleave_core.specs.declared.stage.Stage.{Stage}
-use Rattle.interleave_core.specs.declared.stage.Stage.TheVariants.{Ready, Awaiting, Holding, Ended}
-use Rattle.interleave_core.proofs.Nexts.{exists_by}
-use Rattle.interleave_core.proofs.Runs.{some_core, through}
-use Rattle.interleave_core.proofs.Alone.{lt_of, got, some_stepped, lifted_tasks}
-use Rattle.interleave_core.proofs.Logs.{one_log, got_step}
-use Rattle.interleave_core.proofs.Ruled.{Ruled, HasBreakpoint, IsMarked, AreMarked, entry_in, InStage, held_hand, view_at, fetch_due, kind_fact, ruled_step, ruled_first}
+use Rattle.interleave_core.specs.declared.stage.Stage.TheVariants.{Holding, Ended}
+use Rattle.interleave_core.specs.Control.{controller_of}
+use Rattle.interleave_core.specs.Views.{AreTied}
+use Rattle.interleave_core.proofs.Changes.{Changed, plant_cases, close_by, logs_whole, logs_plant, logs_close}
+use Rattle.interleave_core.proofs.Runs.{lt_of, got, lifted_tasks, exists_by, some_core, through}
+use Rattle.interleave_core.proofs.Logs.{one_log, changed_log, got_step}
+use Rattle.interleave_core.proofs.Tied.{tied_step, tied_first}
+use Rattle.interleave_core.proofs.Rule.{Ruled, HasBreakpoint, IsMarked, AreMarked, entry_in, InStage, held_hand, view_at}
+use Rattle.interleave_core.proofs.Ruled.{fetch_due, kind_fact, ruled_step, ruled_first}
 
 -- ---- what is so of each entry
 
@@ -47,9 +48,10 @@ pub record IsSettled (w : World) (e : Entry) : Type 0 where
   pub kind : (f : Fact) → e.fact ≡ Some f → is_of_kind (kind_at (plan_in w) e.place) f ≡ true
   pub marked : (found : FactSet) → e.found ≡ Some found → (s : ℕ) × (0 < s) × (e.cell ≡ planted s)
 
-abbrev pub AreSettled : World → List Entry → Type 0
+abbrev pub AreSettled : World → List Item → Type 0
 AreSettled w [] = Unit {0}
-AreSettled w (e ∷ log) = IsSettled w e × AreSettled w log
+AreSettled w (Met e ∷ log) = IsSettled w e × AreSettled w log
+AreSettled w (Gave p tag ∷ log) = AreSettled w log
 
 some_fact : (f g : Fact) → Some f ≡ Some g → f ≡ g
 some_fact f g h = cc
@@ -79,17 +81,19 @@ lift_settled w e taken is = record { inside = is.inside; form = is.form; kind = 
 
 pub record Sound (w : World) (c : CoreState) (v : View) : Type 0 where
   pub ruled : Ruled w c v
+  pub tied : AreTied w c.parts
   pub quiet : v.marked ≡ []
   pub settled : (t : ℕ) → t < length c.parts.tasks → AreSettled w (c.logs t)
 
-log_marked : (w : World) (t : ℕ) (u : TaskPart) (found : FactSet) (e : Entry) (rest log : List Entry) (s : ℕ) → log ≡ e ∷ rest → 0 < s → e.cell ≡ planted s → AreSettled w log → AreSettled w (log_after w t u (Marked found) log)
+log_marked : (w : World) (t : ℕ) (u : TaskPart) (found : FactSet) (e : Entry) (rest log : List Item) (s : ℕ) → log ≡ Met e ∷ rest → 0 < s → e.cell ≡ planted s → AreSettled w log → AreSettled w (log_after w t u (Marked found) log)
 log_marked w t u found e rest log s is pos cell h =
     let both : IsSettled w e × AreSettled w rest = subst (AreSettled w) is h in
-    subst (λ (l : List Entry). AreSettled w (log_after w t u (Marked found) l)) (sym is) (mark_settled w e found s pos cell both.0, both.1)
+    subst (λ (l : List Item). AreSettled w (log_after w t u (Marked found) l)) (sym is) (mark_settled w e found s pos cell both.0, both.1)
 
-log_lifted : (w : World) (t : ℕ) (u : TaskPart) (taken : Bool) (log : List Entry) → AreSettled w log → AreSettled w (log_after w t u (Lifted taken) log)
+log_lifted : (w : World) (t : ℕ) (u : TaskPart) (taken : Bool) (log : List Item) → AreSettled w log → AreSettled w (log_after w t u (Lifted taken) log)
 log_lifted w t u taken [] h = h
-log_lifted w t u taken (e ∷ log) h = (lift_settled w e taken h.0, h.1)
+log_lifted w t u taken (Met e ∷ log) h = (lift_settled w e taken h.0, h.1)
+log_lifted w t u taken (Gave p tag ∷ log) h = h
 
 abbrev Settle : World → CoreState → Type 0
 Settle w c = (t : ℕ) → t < length c.parts.tasks → AreSettled w (c.logs t)
@@ -134,32 +138,47 @@ settled_step w c v (Do t) x world h is =
     let n = got TaskPart (done_by c.parts t.0) (task_done w t.0 u u.stage) x at.1 in
     subst (λ (y : Stepped). Settle w (core_after w c (Do t) y).core) (sym n.2)
     (one_log w (λ m y log. AreSettled w log) c (done_by c.parts t.0 n.0).parts t.0 n.0 Done refl lt (is.settled t.0 lt) is.settled)
-settled_step w c v (Plant s p) x world h is =
-    let made : (may_plant w c.parts s.0 p.0 ≡ true) × (Some (record { parts = with_cell c.parts p.0 (breakpoint_of s.0); shown = Planted }) ≡ Some x) =
-    exists_by (may_plant w c.parts s.0 p.0) (Some (record { parts = with_cell c.parts p.0 (breakpoint_of s.0); shown = Planted })) x h in
-    subst (λ (y : Stepped). Settle w (core_after w c (Plant s p) y).core) (some_stepped _ x made.1) is.settled
+settled_step w c v (Plant s p) x world h is = elim (plant_cases w c.parts s.0 p.0 x h) [
+  | inl whole ↦
+      subst (λ (ts : List TaskPart). (t : ℕ) → t < length ts → AreSettled w ((core_after w c (Plant s p) x).core.logs t)) (ap (λ (y : Stepped). y.parts.tasks) (sym whole.made))
+      (λ t l. subst (AreSettled w) (sym (logs_whole w c s p x whole t)) (is.settled t l))
+  | inr by ↦ changed_log w (λ n y log. AreSettled w log) c false s.0 p.0 (window_tag s.0) x (core_after w c (Plant s p) x).core.logs by (logs_plant w c s p x by) (is.settled by.task by.there) is.settled
+]
+settled_step w c v (Close s p) x world h is =
+    let by : Changed w c.parts true s.0 p.0 x = close_by w c.parts s.0 p.0 x h in
+    changed_log w (λ n y log. AreSettled w log) c true s.0 p.0 (2 * s.0) x (core_after w c (Close s p) x).core.logs by (logs_close w c s p x by) (is.settled by.task by.there) is.settled
 
-quiet_by : (v : View) (e : Event) → v.marked ≡ [] → (planted_by v e).marked ≡ []
-quiet_by v (Fetch t) h = h
-quiet_by v (Mark t) h = h
-quiet_by v (Lift t) h = h
-quiet_by v (Do t) h = h
-quiet_by v (Plant s p) h = h
+quiet_by : (w : World) (v : View) (e : Event) → v.marked ≡ [] → (planted_by w v e).marked ≡ []
+quiet_by w v (Fetch t) h = h
+quiet_by w v (Mark t) h = h
+quiet_by w v (Lift t) h = h
+quiet_by w v (Do t) h = h
+quiet_by w v (Plant s p) h = by (is_none (controller_of w s.0))
+  where
+    by : (b : Bool) → (if b then planting s.0 p.0 v else v).marked ≡ []
+    by true = h
+    by false = h
+quiet_by w v (Close s p) h = h
 
-pub sound_step : (w : World) (c : CoreState) (v : View) (e : Event) (x : Stepped) → IsWorld w → parts_step w c.parts e ≡ Some x → Sound w c v → Sound w (core_after w c e x).core (planted_by v e)
-sound_step w c v e x world h is = record { ruled = ruled_step w c v e x world h is.ruled; quiet = quiet_by v e is.quiet; settled = settled_step w c v e x world h is }
+pub sound_step : (w : World) (c : CoreState) (v : View) (e : Event) (x : Stepped) → IsWorld w → parts_step w c.parts e ≡ Some x → Sound w c v → Sound w (core_after w c e x).core (planted_by w v e)
+sound_step w c v e x world h is = record {
+  ruled = ruled_step w c v e x world h is.tied is.ruled;
+  tied = tied_step w c.parts e x world.is_plan is.ruled.cells h is.tied;
+  quiet = quiet_by w v e is.quiet;
+  settled = settled_step w c v e x world h is;
+}
 
-sound_from : (w : World) (d c : CoreState) (v : View) (events : List Event) → IsWorld w → Sound w d v → core_from w d events ≡ Some c → Sound w c (planter_from v events)
+sound_from : (w : World) (d c : CoreState) (v : View) (events : List Event) → IsWorld w → Sound w d v → core_from w d events ≡ Some c → Sound w c (planter_from w v events)
 sound_from w d c v [] world is h = subst (λ (x : CoreState). Sound w x v) (some_core d c h) is
 sound_from w d c v (e ∷ events) world is h =
     let at = through (λ b. core_from w b events) (core_step w d e) c h in
     let made = got_step w d e (parts_step w d.parts e) at.0 at.1 in
-    sound_from w at.0.core c (planted_by v e) events world (subst (λ (x : CoreState). Sound w x (planted_by v e)) made.2 (sound_step w d v e made.0 world made.1 is)) at.2
+    sound_from w at.0.core c (planted_by w v e) events world (subst (λ (x : CoreState). Sound w x (planted_by w v e)) made.2 (sound_step w d v e made.0 world made.1 is)) at.2
 
 pub sound_first : (w : World) → IsWorld w → Sound w (core_start w) (first_planter (length w.job.tasks))
-sound_first w world = record { ruled = ruled_first w world; quiet = refl; settled = λ t l. tt }
+sound_first w world = record { ruled = ruled_first w world; tied = tied_first w world.is_plan; quiet = refl; settled = λ t l. tt }
 
-pub run_sound : (w : World) (c : CoreState) (events : List Event) → IsWorld w → core_run w events ≡ Some c → Sound w c (planter_from (first_planter (length w.job.tasks)) events)
+pub run_sound : (w : World) (c : CoreState) (events : List Event) → IsWorld w → core_run w events ≡ Some c → Sound w c (planter_from w (first_planter (length w.job.tasks)) events)
 run_sound w c events world h = sound_from w (core_start w) c (first_planter (length w.job.tasks)) events world (sound_first w world) h
 
 -- ---- what a party marked, its log shows
@@ -178,14 +197,15 @@ marked_by plan e (Some b) (Some o) (Some k) v s p f (inr h) = inr h
 tag_is : (t s n : ℕ) → 0 < n → t ≡ window_tag n → tag_session t ≡ s → t ≡ window_tag s
 tag_is t s n pos h k = omega arith
 
-marked_shown : (w : World) (t : ℕ) (log : List Entry) (s p : ℕ) (f : Fact) → AreSettled w log → Has (s, p, f) (task_view w t log).marked → HasShown s p f log
+marked_shown : (w : World) (t : ℕ) (log : List Item) (s p : ℕ) (f : Fact) → AreSettled w log → Has (s, p, f) (task_view w t log).marked → HasShown s p f log
 marked_shown w t [] s p f is h = absurd h
-marked_shown w t (e ∷ log) s p f is h = elim (marked_by (plan_in w) e e.lifted e.found e.fact (fetching (plan_in w) e.place e.cell (task_view w t log)) s p f h) [
+marked_shown w t (Met e ∷ log) s p f is h = elim (marked_by (plan_in w) e e.lifted e.found e.fact (fetching (plan_in w) e.place e.cell (task_view w t log)) s p f h) [
   | inl at ↦
       let cell = is.0.marked at.0 at.1 in
       inl (at.4, tag_is e.cell.tag s cell.0 cell.1 (ap (λ (c : Cell). c.tag) cell.2) at.3, at.2)
   | inr old ↦ inr (marked_shown w t log s p f is.1 old)
 ]
+marked_shown w t (Gave q tag ∷ log) s p f is h = marked_shown w t log s p f is h
 
 -- ---- what a log shows, the party marked, or met full
 
@@ -224,6 +244,9 @@ odd_tag t s pos h = omega arith
 not_zero : (A : Type 0) (s : ℕ) → 0 < s → 0 ≡ window_tag s → A
 not_zero A s pos h = absurd (omega arith)
 
+even_not : (A : Type 0) (n s : ℕ) → 0 < s → 2 * n ≡ window_tag s → A
+even_not A n s pos h = absurd (omega arith)
+
 both_true : (a b : Bool) → a ≡ true → b ≡ true → (a && b) ≡ true
 both_true a b h k = rw (h, k) refl
 
@@ -250,15 +273,16 @@ entry_tells w e v s f is marks pos tag fact = by is.form
         (subst (λ (m : ℕ). Has (m, e.place, f) (with_lift e e.lifted (with_mark (plan_in w) e (Some found.0) (Some f) (fetching (plan_in w) e.place e.cell v))).marked) same
         (marked_here (plan_in w) e e.lifted found.0 f (fetching (plan_in w) e.place e.cell v)))))
     by (inr (n, some_n, over, inr (inl cell))) = met (both_true _ _ (eq-eqb e.cell.half (original_at (plan_in w) e.place) (ap (λ (c : Cell). c.half) cell)) (eq-eqb (e.cell.tag % 2) 1 (odd_tag e.cell.tag s pos tag)))
-    by (inr (n, some_n, over, inr (inr closed))) = let no : false ≡ true = closed.1 in absurd cc
+    by (inr (n, some_n, over, inr (inr over_now))) = even_not _ n s pos (sym (ap (λ (c : Cell). c.tag) over_now.0) ∙ tag)
 
-log_tells : (w : World) (t : ℕ) (log : List Entry) (s p : ℕ) (f : Fact) → AreSettled w log → AreMarked log → 0 < s → HasShown s p f log → Tells (plan_in w) (task_view w t log) s p f
+log_tells : (w : World) (t : ℕ) (log : List Item) (s p : ℕ) (f : Fact) → AreSettled w log → AreMarked log → 0 < s → HasShown s p f log → Tells (plan_in w) (task_view w t log) s p f
 log_tells w t [] s p f is marks pos h = absurd h
-log_tells w t (e ∷ log) s p f is marks pos (inl at) = subst (λ (q : ℕ). Tells (plan_in w) (task_view w t (e ∷ log)) s q f) at.0 (entry_tells w e (task_view w t log) s f is.0 marks.0 pos at.1 at.2)
-log_tells w t (e ∷ log) s p f is marks pos (inr h) = elim (log_tells w t log s p f is.1 marks.1 pos h) [
+log_tells w t (Met e ∷ log) s p f is marks pos (inl at) = subst (λ (q : ℕ). Tells (plan_in w) (task_view w t (Met e ∷ log)) s q f) at.0 (entry_tells w e (task_view w t log) s f is.0 marks.0 pos at.1 at.2)
+log_tells w t (Met e ∷ log) s p f is marks pos (inr h) = elim (log_tells w t log s p f is.1 marks.1 pos h) [
   | inl old ↦ inl (marked_more (plan_in w) e e.lifted e.found e.fact (fetching (plan_in w) e.place e.cell (task_view w t log)) (s, p, f) old)
   | inr old ↦ inr (full_more (plan_in w) e e.lifted e.found e.fact (fetching (plan_in w) e.place e.cell (task_view w t log)) (s, p) (met_before (plan_in w) e.place e.cell (task_view w t log) (s, p) old.0), old.1)
 ]
+log_tells w t (Gave q tag ∷ log) s p f is marks pos h = log_tells w t log s p f is marks pos h
 
 -- ---- the sets
 
@@ -274,12 +298,12 @@ full_has : (k : Kind) (x : FactSet) (f : Fact) → is_full k x ≡ true → is_o
 full_has k x f full is = subst (λ (y : FactSet). has_fact y f ≡ true) (sym (is_full-true k x full)) (all_of_kind k f is)
 
 -- a party is the planter, or a task
-party_is : (w : World) (logs : ℕ → List Entry) (t n k : ℕ) (x : View) → get_elem? (task_views w logs t n) k ≡ some x → (m : ℕ) × (m < t + n) × (x ≡ task_view w m (logs m))
+party_is : (w : World) (logs : ℕ → List Item) (t n k : ℕ) (x : View) → get_elem? (task_views w logs t n) k ≡ some x → (m : ℕ) × (m < t + n) × (x ≡ task_view w m (logs m))
 party_is w logs t zero k x h = absurd (some-ne-none x (sym h))
 party_is w logs t (suc n) zero x h = (t, omega arith, sym (some-injective (task_view w t (logs t)) x h))
 party_is w logs t (suc n) (suc k) x h = let r = party_is w logs (t + 1) n k x h in (r.0, omega (arith, r.1), r.2)
 
-ended_marked : (w : World) (t : ℕ) (u : TaskPart) (log : List Entry) (e : Ending) → u.stage ≡ Ended e → InStage w t u log u.stage → AreMarked log
+ended_marked : (w : World) (t : ℕ) (u : TaskPart) (log : List Item) (e : Ending) → u.stage ≡ Ended e → InStage w t u log u.stage → AreMarked log
 ended_marked w t u log e at is = subst (λ (s : Stage). InStage w t u log s) at is
 
 pub exact_into : (w : World) (c : CoreState) (v : View) → Sound w c v → (s p : ℕ) (f : Fact) → 0 < s → p < length w.places → has_fact (set_of w c.parts s p) f ≡ true → (t : ℕ) × (t < length c.parts.tasks) × HasShown s p f (c.logs t)
@@ -310,5 +334,5 @@ exact_from w c v is ended s p f pos lt t there h =
 pub run_exact : (w : World) (c : CoreState) (events : List Event) → IsWorld w → core_run w events ≡ Some c → AreExact w c.parts c.logs
 run_exact w c events world h = λ ended s p f pos lt.
     let is = run_sound w c events world h in
-    let v : View = planter_from (first_planter (length w.job.tasks)) events in
+    let v : View = planter_from w (first_planter (length w.job.tasks)) events in
     (exact_into w c v is s p f pos lt, λ x. exact_from w c v is ended s p f pos lt x.0 x.1 x.2)

@@ -1,10 +1,10 @@
 -- What follows on each list of events that leaves what a core stores.
-use Rattle.std.proofs.Common.{◌≡◌, Option, Some, None, option_map, List, [], ◌∷◌, ◌++◌, IfOk, OnErr, refl, sym, ◌∙◌, ap, subst}
+use Rattle.std.proofs.Common.{◌≡◌, Some, None, option_map, List, [], ◌∷◌, ◌++◌, IfOk, OnErr, refl, sym, ap, subst}
 use Rattle.std.specs.declared.result.Result.{Result}
 use Rattle.std.specs.declared.result.Result.TheVariants.{Ok, Err}
 use Rattle.interleave_core.specs.World.{World, IsWorld, Parts}
-use Rattle.interleave_core.specs.Steps.{Stepped, parts_step}
-use Rattle.interleave_core.specs.Core.{CoreState, CoreStepped, core_start, core_step, core_after, core_from, core_run, go_on, Stands, Follows, FollowsAll, FollowsNone}
+use Rattle.interleave_core.specs.Steps.{parts_step}
+use Rattle.interleave_core.specs.Core.{CoreState, core_start, core_step, core_after, core_run, Stands, FollowsAll, FollowsNone}
 use Rattle.interleave_core.specs.declared.events.Event.{Event}
 use Rattle.interleave_core.specs.declared.events.NotPossible.{NotPossible}
 use Rattle.interleave_core.specs.declared.events.Shown.{Shown}

@@ -1,20 +1,24 @@
 -- A task's events have an end: each leaves less.
-use Rattle.std.proofs.Common.{◌≡◌, ◌≢◌, ℕ, zero, suc, ◌+◌, ◌-◌, ◌*◌, ◌<◌, ◌≤◌, Bool, true, false, nat_lt, nat_le, if◌then◌else◌, Option, Some, None, option_map, List, length, get_or, set, refl, sym, ap, ◌∙◌, subst, arith}
+use Rattle.std.specs.Option.{option_and_then}
+use Rattle.cov_base.specs.States.{State}
+use Rattle.std.proofs.Common.{◌≡◌, inl, inr, not, ◌&&◌, is_none, eqb-true, ℕ, zero, suc, ◌+◌, ◌-◌, ◌*◌, ◌<◌, ◌≤◌, Bool, true, false, nat_lt, nat_le, if◌then◌else◌, Option, Some, None, option_map, length, refl, sym, ap, ◌∙◌, subst, arith}
 use Rattle.std.proofs.lemmas.Bool.Decides.{nat_tests}
 use Rattle.std.proofs.lemmas.Grind.{get_or-set_at}
 use Rattle.cov_base.specs.declared.numbers.TaskNo.{TaskNo}
 use Rattle.cov_base.specs.Facts.{is_full, with_fact}
 use Rattle.module_area.specs.Parties.{tag_session}
-use Rattle.module_area.specs.PlanView.{kind_at}
+use Rattle.module_area.specs.PlanView.{IsPlan, kind_at}
 use Rattle.module_area.specs.CellWords.{word_at}
 use Rattle.s370_state.specs.declared.endings.Ending.TheVariants.{Returned, Spent}
 use Rattle.s370_state.specs.declared.endings.Next.{Next}
 use Rattle.s370_state.specs.declared.endings.Next.TheVariants.{On, Ended as NextEnded}
-use Rattle.s370_exec.specs.Solo.{Step, solo_step, has_returned}
+use Rattle.s370_exec.specs.Solo.{has_returned}
 use Rattle.s370_exec.proofs.TraceLemmas.{solo_step-done}
 use Rattle.interleave_core.specs.World.{World, TaskPart, Parts, part_of, no_part, plan_in, memory_in, budget_in, place_at}
-use Rattle.interleave_core.specs.Steps.{Stepped, parts_step, of_task, with_task, with_stage, with_due, with_set, with_cell, place_due, is_spent, is_awaiting, due_after_fetch, hand_at, fetched, fetch_step, marked, mark_step, lifted, lift_step, in_hand, same_due, same_cell, original_under, step_of, subject_place, executed, stage_after, subject_executed, instruction_executed, awaits_or, unless_at, ready_done, task_done, done_by, do_step, set_of, fact_in}
-use Rattle.interleave_core.specs.Results.{next_of, stage_event, event_due, fetch_or_do}
+use Rattle.interleave_core.specs.Steps.{change_due, task_goes_on, Stepped, parts_step, of_task, with_task, with_stage, with_due, with_set, with_cell, place_due, is_spent, is_awaiting, due_after_fetch, hand_at, fetched, fetch_step, marked, mark_step, lifted, lift_step, in_hand, same_due, same_cell, original_under, step_of, subject_place, executed, stage_after, instruction_executed, awaits_or, unless_at, ready_done, task_done, done_by, do_step, set_of, fact_in}
+use Rattle.interleave_core.specs.Results.{next_of, stage_event}
+use Rattle.interleave_core.specs.Core.{is_by, is_task}
+use Rattle.interleave_core.specs.Control.{PlaceChange, change_of, next_place}
 use Rattle.interleave_core.specs.declared.events.Event.{Event}
 use Rattle.interleave_core.specs.declared.events.Event.TheVariants as event
 use Rattle.interleave_core.specs.declared.stage.Due.{Due}
@@ -22,7 +26,11 @@ use Rattle.interleave_core.specs.declared.stage.Due.TheVariants.{Marking, Liftin
 use Rattle.interleave_core.specs.declared.stage.Hand.{Hand}
 use Rattle.interleave_core.specs.declared.stage.Stage.{Stage}
 use Rattle.interleave_core.specs.declared.stage.Stage.TheVariants.{Ready, Awaiting, Holding, Ended}
-use Rattle.interleave_core.specs.Going.{due_left, left_of, left, go, go_by, after}
+use Rattle.interleave_core.proofs.Changes.{goes_on, Changed, plant_cases, close_by}
+use Rattle.interleave_core.proofs.Nexts.{next_by}
+use Rattle.interleave_core.proofs.Runs.{in_hand-stage}
+use Rattle.interleave_core.proofs.Turns.{due_below}
+use Rattle.interleave_core.specs.Going.{left_each, left_later, due_left, left_of, left, go, go_by, after}
 
 not_spent : (a b : ℕ) → nat_le a b ≡ false → b < a
 not_spent a b e = grind (arith, nat_tests)
@@ -61,39 +69,48 @@ fetch_less w c t p u (Ended x) e = absurd cc
 due_less : (w : World) (t : ℕ) (u : TaskPart) (h : Hand) (d : Due) → due_left d < due_left h.due → left_of w t u (Holding (record h { due = d })) < left_of w t u (Holding h)
 due_less w t u h d less = omega (arith, less)
 
--- an instruction that is executed whole leaves no more than one that wasn't begun, and less than one that was
-step_left : (w : World) (t : ℕ) (u : TaskPart) (s : Stage) (n : Next) → left_of w t (record { state = (step_of w t u).state; stage = s }) (stage_after n) ≤ 8 * (budget_in w t - u.state.done) + 1
-step_left w t u s (NextEnded e) = omega arith
-step_left w t u s On = go_on_by (nat_le (budget_in w t) (step_of w t u).state.done) refl
+-- what an instruction leaves that is executed whole
+abbrev later : World → ℕ → TaskPart → ℕ
+later w t u = left_each w * (budget_in w t - u.state.done)
+
+one_more : (a m n : ℕ) → n ≡ m + 1 → a * n ≡ a * m + a
+one_more a m n e = ap (λ (k : ℕ). a * k) e ∙ omega arith
+
+-- no more than one leaves that wasn't begun, and less than one that was
+step_left : (w : World) (t : ℕ) (u v : TaskPart) (n : Next) → v.state ≡ (step_of w t u).state → left_of w t v (stage_after n) ≤ later w t u + 1
+step_left w t u v (NextEnded e) same = omega arith
+step_left w t u v On same = go_on_by (is_spent w t v.state) refl
   where
-    go_on_by : (b : Bool) → nat_le (budget_in w t) (step_of w t u).state.done ≡ b → (if b then 1 else 8 * (budget_in w t - (step_of w t u).state.done) + 9) ≤ 8 * (budget_in w t - u.state.done) + 1
+    go_on_by : (b : Bool) → is_spent w t v.state ≡ b → (if b then 1 else later w t v + (length w.places - v.changed) + 9) ≤ later w t u + 1
     go_on_by true e = omega arith
     go_on_by false e =
-        let more : (step_of w t u).state.done ≡ u.state.done + 1 = solo_step-done (memory_in w t) u.state in
-        let left : (step_of w t u).state.done < budget_in w t = not_spent (budget_in w t) (step_of w t u).state.done e in
-        omega (arith, more, left)
+        let more : v.state.done ≡ u.state.done + 1 = ap (λ (s : State). s.done) same ∙ solo_step-done (memory_in w t) u.state in
+        let left : v.state.done < budget_in w t = not_spent (budget_in w t) v.state.done e in
+        let one : budget_in w t - u.state.done ≡ (budget_in w t - v.state.done) + 1 = omega (arith, more, left) in
+        let all : later w t u ≡ later w t v + left_each w = one_more (left_each w) (budget_in w t - v.state.done) (budget_in w t - u.state.done) one in
+        omega (arith, all)
 
-executed_left : (w : World) (t : ℕ) (u : TaskPart) → left_of w t (executed (step_of w t u)) (executed (step_of w t u)).stage ≤ 8 * (budget_in w t - u.state.done) + 1
-executed_left w t u = step_left w t u (stage_after (step_of w t u).next) (step_of w t u).next
+executed_left : (w : World) (t : ℕ) (u : TaskPart) → left_of w t (executed w t u) (executed w t u).stage ≤ later w t u + 1
+executed_left w t u = step_left w t u (executed w t u) (step_of w t u).next refl
 
-awaiting_left : (w : World) (t : ℕ) (u whole : TaskPart) (o : Option ℕ) → left_of w t whole whole.stage ≤ 8 * (budget_in w t - u.state.done) + 1 → left_of w t (awaits_or u whole o) (awaits_or u whole o).stage ≤ 8 * (budget_in w t - u.state.done) + 5
+awaiting_left : (w : World) (t : ℕ) (u whole : TaskPart) (o : Option ℕ) → left_of w t whole whole.stage ≤ later w t u + 1 → left_of w t (awaits_or u whole o) (awaits_or u whole o).stage ≤ left_later w t u + 5
 awaiting_left w t u whole None h = omega (arith, h)
 awaiting_left w t u whole (Some p) h = omega arith
 
-instruction_left : (w : World) (t : ℕ) (u : TaskPart) → left_of w t (instruction_executed w t u) (instruction_executed w t u).stage ≤ 8 * (budget_in w t - u.state.done) + 5
-instruction_left w t u = awaiting_left w t u (executed (step_of w t u)) (subject_place w (step_of w t u).visits) (executed_left w t u)
+instruction_left : (w : World) (t : ℕ) (u : TaskPart) → left_of w t (instruction_executed w t u) (instruction_executed w t u).stage ≤ left_later w t u + 5
+instruction_left w t u = awaiting_left w t u (executed w t u) (subject_place w (step_of w t u).visits) (executed_left w t u)
 
 ready_less : (w : World) (t : ℕ) (u v : TaskPart) → ready_done w t u ≡ Some v → left_of w t v v.stage < left_of w t u Ready
 ready_less w t u v e = by_return (has_returned u.state) refl
   where
-    some_left : (b : Bool) → 0 < (if b then 1 else 8 * (budget_in w t - u.state.done) + 9)
+    some_left : (b : Bool) → 0 < (if b then 1 else left_later w t u + 9)
     some_left true = omega arith
     some_left false = omega arith
 
     by_place : (o : Option ℕ) → is_spent w t u.state ≡ false → unless_at (instruction_executed w t u) o ≡ Some v → left_of w t v v.stage < left_of w t u Ready
     by_place None f q =
         let same : instruction_executed w t u ≡ v = cc in
-        let less : left_of w t v v.stage ≤ 8 * (budget_in w t - u.state.done) + 5 = subst (λ (x : TaskPart). left_of w t x x.stage ≤ 8 * (budget_in w t - u.state.done) + 5) same (instruction_left w t u) in
+        let less : left_of w t v v.stage ≤ left_later w t u + 5 = subst (λ (x : TaskPart). left_of w t x x.stage ≤ left_later w t u + 5) same (instruction_left w t u) in
         rw f (omega (arith, less))
     by_place (Some p) f q = absurd cc
 
@@ -105,38 +122,47 @@ ready_less w t u v e = by_return (has_returned u.state) refl
     by_return true f = let q : Some (with_stage u (Ended Returned)) ≡ Some v = rw f at e in let same : with_stage u (Ended Returned) ≡ v = cc in rw (← same) (some_left (is_spent w t u.state))
     by_return false f = by_budget (is_spent w t u.state) refl (rw f at e)
 
-done_less : (w : World) (t : ℕ) (u v : TaskPart) (s : Stage) → task_done w t u s ≡ Some v → left_of w t v v.stage < left_of w t u s
-done_less w t u v Ready e = ready_less w t u v e
-done_less w t u v Awaiting e = absurd cc
-done_less w t u v (Ended x) e = absurd cc
-done_less w t u v (Holding h) e = by_due h.due e
+going_less : (w : World) (t : ℕ) (u v : TaskPart) (s : Stage) → task_goes_on w t u s ≡ Some v → left_of w t v v.stage < left_of w t u s
+going_less w t u v Ready e = ready_less w t u v e
+going_less w t u v Awaiting e = absurd cc
+going_less w t u v (Ended x) e = absurd cc
+going_less w t u v (Holding h) e = by_due h.due e
   where
-    by_subject : (b : Bool) → (if b then subject_executed w t u else instruction_executed w t u) ≡ v → left_of w t v v.stage < 8 * (budget_in w t - u.state.done) + due_left Nothing + (if b then 1 else 5)
+    by_subject : (b : Bool) → (if b then executed w t u else instruction_executed w t u) ≡ v → left_of w t v v.stage < left_later w t u + due_left Nothing + (if b then 1 else 5)
     by_subject true q = let less = executed_left w t u in rw (← q) (omega (arith, less))
     by_subject false q = let less = instruction_left w t u in rw (← q) (omega (arith, less))
 
-    some_due : (d : Due) (b : Bool) (n : ℕ) → n < 8 * (budget_in w t - u.state.done) + due_left Nothing + (if b then 1 else 5) → n < 8 * (budget_in w t - u.state.done) + due_left d + (if b then 1 else 5)
+    some_due : (d : Due) (b : Bool) (n : ℕ) → n < left_later w t u + due_left Nothing + (if b then 1 else 5) → n < left_later w t u + due_left d + (if b then 1 else 5)
     some_due d b n less = let some : 1 ≤ due_left d = due_some d in omega (arith, less, some)
 
-    by_due : (d : Due) → (if same_due d Nothing then Some (if h.subject then subject_executed w t u else instruction_executed w t u) else None) ≡ Some v → left_of w t v v.stage < left_of w t u (Holding h)
+    by_due : (d : Due) → (if same_due d Nothing then Some (if h.subject then executed w t u else instruction_executed w t u) else None) ≡ Some v → left_of w t v v.stage < left_of w t u (Holding h)
     by_due Marking q = absurd cc
     by_due Lifting q = absurd cc
-    by_due Nothing q = let same : (if h.subject then subject_executed w t u else instruction_executed w t u) ≡ v = cc in some_due h.due h.subject _ (by_subject h.subject same)
+    by_due Nothing q = let same : (if h.subject then executed w t u else instruction_executed w t u) ≡ v = cc in some_due h.due h.subject _ (by_subject h.subject same)
+
+done_less : (w : World) (t : ℕ) (u v : TaskPart) (s : Stage) → task_done w t u s ≡ Some v → left_of w t v v.stage < left_of w t u s
+done_less w t u v s e = going_less w t u v s (goes_on w t u v s e)
+
+-- a place of a session
+place_less : (w : World) (t : ℕ) (u : TaskPart) (s : Stage) (x : PlaceChange) → IsPlan (plan_in w) → change_due w t u s ≡ Some x → left_of w t (record u { changed = u.changed + 1 }) s < left_of w t u s
+place_less w t u s x plan e = by s e (due_below w t u s x plan e)
+  where
+    by : (g : Stage) → change_due w t u g ≡ Some x → u.changed < length w.places → left_of w t (record u { changed = u.changed + 1 }) g < left_of w t u g
+    by Ready q few = ready (has_returned u.state) (is_spent w t u.state) refl q
+      where
+        ready : (returned spent : Bool) → is_spent w t u.state ≡ spent → (if not returned && (not spent && (is_none (place_at w u.state.machine.cpu.ia) && is_none (subject_place w (step_of w t u).visits))) then option_and_then (next_place u.changed) (change_of w t u) else None) ≡ Some x →
+            left_of w t (record u { changed = u.changed + 1 }) Ready < left_of w t u Ready
+        ready true spent f k = absurd cc
+        ready false true f k = absurd cc
+        ready false false f k = rw f (omega (arith, few))
+    by Awaiting q few = absurd cc
+    by (Ended y) q few = absurd cc
+    by (Holding h) q few = omega (arith, few)
 
 -- what a step answers of one that it is made of
 mapped : {A B : Type 0} (f : A → B) (o : Option A) (x : B) → option_map f o ≡ Some x → (a : A) × (o ≡ Some a) × (f a ≡ x)
 mapped f None x e = absurd cc
 mapped f (Some a) x e = let same : f a ≡ x = cc in (a, refl, same)
-
-in_hand_is : (d : Due) (s : Stage) (h : Hand) → in_hand d s ≡ Some h → (s ≡ Holding h) × (same_due h.due d ≡ true)
-in_hand_is d (Holding g) h e = by_same (same_due g.due d) refl e
-  where
-    by_same : (b : Bool) → same_due g.due d ≡ b → (if b then Some g else None) ≡ Some h → (Holding g ≡ Holding h) × (same_due h.due d ≡ true)
-    by_same true f q = let same : g ≡ h = cc in (ap Holding same, subst (λ (x : Hand). same_due x.due d ≡ true) same f)
-    by_same false f q = absurd cc
-in_hand_is d Ready h e = absurd cc
-in_hand_is d Awaiting h e = absurd cc
-in_hand_is d (Ended x) h e = absurd cc
 
 same_due_is : (a b : Due) → same_due a b ≡ true → a ≡ b
 same_due_is Marking Marking e = refl
@@ -178,7 +204,7 @@ marked_less w c t x e =
     let here = if_some (nat_lt t (length c.tasks)) (mark_step w c t u) x e in
     let m = mapped (marked w c t u) (in_hand Marking u.stage) x here.1 in
     let h = m.0 in
-    let held = in_hand_is Marking u.stage h m.1 in
+    let held = in_hand-stage Marking u.stage h m.1 in
     let due : h.due ≡ Marking = same_due_is h.due Marking held.1 in
     let full = is_full (kind_at (plan_in w) h.place.0) (with_fact (set_of w c (tag_session h.cell.tag) h.place.0) (fact_in w t u h)) in
     let d = if full then Lifting else Nothing in
@@ -194,7 +220,7 @@ lifted_less w c t x e =
     let here = if_some (nat_lt t (length c.tasks)) (lift_step w c t u) x e in
     let m = mapped (lifted w c t u) (in_hand Lifting u.stage) x here.1 in
     let h = m.0 in
-    let held = in_hand_is Lifting u.stage h m.1 in
+    let held = in_hand-stage Lifting u.stage h m.1 in
     let due : h.due ≡ Lifting = same_due_is h.due Lifting held.1 in
     let less : due_left Nothing < due_left h.due = rw due (omega arith) in
     rw (← m.2) (by_cell u h held.0 less (exists c t _ refl here.0) (same_cell (word_at c.cells h.place.0) h.cell))
@@ -213,27 +239,32 @@ run_less w c t x e =
     let kept : left w (with_task c t m.0) t ≡ left_of w t m.0 m.0.stage = put_left w c t m.0 (exists c t _ refl here.0) in
     rw (← m.2) (rw kept (done_less w t u m.0 u.stage m.1))
 
-due_event_less : (w : World) (c : Parts) (t : TaskNo) (d : Due) (x : Stepped) → parts_step w c (event_due t d) ≡ Some x → left w x.parts t.0 < left w c t.0
-due_event_less w c t Marking x e = marked_less w c t.0 x e
-due_event_less w c t Lifting x e = lifted_less w c t.0 x e
-due_event_less w c t Nothing x e = run_less w c t.0 x e
+changed_less : (w : World) (c : Parts) (t : ℕ) (closes : Bool) (s p : ℕ) (x : Stepped) (by : Changed w c closes s p x) → by.task ≡ t → IsPlan (plan_in w) → left w x.parts t < left w c t
+changed_less w c t closes s p x by same plan =
+    let u : TaskPart = part_of c by.task in
+    let v : TaskPart = record u { changed = u.changed + 1 } in
+    let parts : part_of x.parts by.task ≡ v = ap (λ (y : Stepped). part_of y.parts by.task) by.made ∙ get_or-set_at c.tasks by.task by.task v no_part refl by.there in
+    let kept : left w x.parts by.task ≡ left_of w by.task v v.stage = ap (λ (y : TaskPart). left_of w by.task y y.stage) parts in
+    let less : left_of w by.task v u.stage < left_of w by.task u u.stage = place_less w by.task u u.stage by.change plan by.due in
+    subst (λ (n : ℕ). left w x.parts n < left w c n) same (subst (λ (n : ℕ). n < left w c by.task) (sym kept) less)
 
-ready_event_less : (w : World) (c : Parts) (t : TaskNo) (o : Option ℕ) (x : Stepped) → parts_step w c (fetch_or_do t o) ≡ Some x → left w x.parts t.0 < left w c t.0
-ready_event_less w c t None x e = run_less w c t.0 x e
-ready_event_less w c t (Some p) x e = fetched_less w c t.0 x e
-
-stage_event_less : (w : World) (c : Parts) (t : TaskNo) (s : Stage) (e : Event) (x : Stepped) → stage_event w t (part_of c t.0) s ≡ Some e → parts_step w c e ≡ Some x → left w x.parts t.0 < left w c t.0
-stage_event_less w c t Ready e x q step = let o = place_due w t.0 (part_of c t.0) Ready in let same : fetch_or_do t o ≡ e = cc in ready_event_less w c t o x (rw same step)
-stage_event_less w c t Awaiting e x q step = let same : event.Fetch t ≡ e = cc in fetched_less w c t.0 x (rw (← same) at step)
-stage_event_less w c t (Holding h) e x q step = let same : event_due t h.due ≡ e = cc in due_event_less w c t h.due x (rw same step)
-stage_event_less w c t (Ended y) e x q step = absurd cc
+-- an event of the task
+own_less : (w : World) (c : Parts) (t : TaskNo) (e : Event) (x : Stepped) → IsPlan (plan_in w) → is_by w e t.0 ≡ true → parts_step w c e ≡ Some x → left w x.parts t.0 < left w c t.0
+own_less w c t (event.Fetch r) x plan by step = subst (λ (n : ℕ). left w x.parts n < left w c n) (eqb-true r.0 t.0 by) (fetched_less w c r.0 x step)
+own_less w c t (event.Mark r) x plan by step = subst (λ (n : ℕ). left w x.parts n < left w c n) (eqb-true r.0 t.0 by) (marked_less w c r.0 x step)
+own_less w c t (event.Lift r) x plan by step = subst (λ (n : ℕ). left w x.parts n < left w c n) (eqb-true r.0 t.0 by) (lifted_less w c r.0 x step)
+own_less w c t (event.Do r) x plan by step = subst (λ (n : ℕ). left w x.parts n < left w c n) (eqb-true r.0 t.0 by) (run_less w c r.0 x step)
+own_less w c t (event.Plant s p) x plan by step = elim (plant_cases w c s.0 p.0 x step) [
+  | inl whole ↦ let none : false ≡ true = sym (ap (λ (o : Option ℕ). is_task o t.0) whole.by_none) ∙ by in absurd cc
+  | inr made ↦ changed_less w c t.0 false s.0 p.0 x made (eqb-true made.task t.0 (sym (ap (λ (o : Option ℕ). is_task o t.0) made.by_task) ∙ by)) plan
+]
+own_less w c t (event.Close s p) x plan by step =
+    let made : Changed w c true s.0 p.0 x = close_by w c s.0 p.0 x step in
+    changed_less w c t.0 true s.0 p.0 x made (eqb-true made.task t.0 (sym (ap (λ (o : Option ℕ). is_task o t.0) made.by_task) ∙ by)) plan
 
 -- the task's next event leaves less
-pub next_less : (w : World) (c : Parts) (t : TaskNo) (e : Event) (x : Stepped) → next_of w c t ≡ Some e → parts_step w c e ≡ Some x → left w x.parts t.0 < left w c t.0
-next_less w c t e x q step =
-    let u = part_of c t.0 in
-    let here = if_some (nat_lt t.0 (length c.tasks)) (stage_event w t u u.stage) e q in
-    stage_event_less w c t u.stage e x here.1 step
+pub next_less : (w : World) (c : Parts) (t : TaskNo) (e : Event) (x : Stepped) → IsPlan (plan_in w) → next_of w c t ≡ Some e → parts_step w c e ≡ Some x → left w x.parts t.0 < left w c t.0
+next_less w c t e x plan q step = own_less w c t e x plan (next_by w c t e plan q) step
 
 -- a task that nothing is left of has no next event
 pub no_next : (w : World) (c : Parts) (t : TaskNo) → left w c t.0 ≡ 0 → next_of w c t ≡ None
@@ -242,7 +273,7 @@ no_next w c t e = by_number (nat_lt t.0 (length c.tasks))
     by_stage : (s : Stage) → left_of w t.0 (part_of c t.0) s ≡ 0 → stage_event w t (part_of c t.0) s ≡ None
     by_stage Ready q = by_budget (is_spent w t.0 (part_of c t.0).state) q
       where
-        by_budget : (b : Bool) → (if b then 1 else 8 * (budget_in w t.0 - (part_of c t.0).state.done) + 9) ≡ 0 → stage_event w t (part_of c t.0) Ready ≡ None
+        by_budget : (b : Bool) → (if b then 1 else left_later w t.0 (part_of c t.0) + 9) ≡ 0 → stage_event w t (part_of c t.0) Ready ≡ None
         by_budget true r = absurd (omega (arith, r))
         by_budget false r = absurd (omega (arith, r))
     by_stage Awaiting q = absurd (omega (arith, q))
@@ -266,15 +297,15 @@ go_stuck w zero c t e q step = refl
 go_stuck w (suc n) c t e q step = go_one w n c t e None q step ∙ go_stuck w n c t e q step
 
 -- the number of events makes no difference once it is as many as are left
-pub go_enough : (w : World) (n : ℕ) (c : Parts) (t : TaskNo) → left w c t.0 ≤ n → (m : ℕ) → left w c t.0 ≤ m → go w n c t ≡ go w m c t
-go_enough w zero c t h m k = let none = no_next w c t (omega (arith, h)) in sym (go_none w m c t none)
-go_enough w (suc n) c t h zero k = let none = no_next w c t (omega (arith, k)) in go_none w (suc n) c t none
-go_enough w (suc n) c t h (suc m) k = by_next (λ d a b. go_enough w n d t a m b) (next_of w c t) refl
+pub go_enough : (w : World) (n : ℕ) (c : Parts) (t : TaskNo) → IsPlan (plan_in w) → left w c t.0 ≤ n → (m : ℕ) → left w c t.0 ≤ m → go w n c t ≡ go w m c t
+go_enough w zero c t plan h m k = let none = no_next w c t (omega (arith, h)) in sym (go_none w m c t none)
+go_enough w (suc n) c t plan h zero k = let none = no_next w c t (omega (arith, k)) in go_none w (suc n) c t none
+go_enough w (suc n) c t plan h (suc m) k = by_next (λ d a b. go_enough w n d t plan a m b) (next_of w c t) refl
   where
     by_step : ((d : Parts) → left w d t.0 ≤ n → left w d t.0 ≤ m → go w n d t ≡ go w m d t) → (e : Event) → next_of w c t ≡ Some e → (o : Option Stepped) → parts_step w c e ≡ o → go w (suc n) c t ≡ go w (suc m) c t
     by_step more e q None step = go_stuck w (suc n) c t e q step ∙ sym (go_stuck w (suc m) c t e q step)
     by_step more e q (Some x) step =
-        let less = next_less w c t e x q step in
+        let less = next_less w c t e x plan q step in
         go_one w n c t e (Some x) q step ∙ (more x.parts (omega (arith, h, less)) (omega (arith, k, less)) ∙ sym (go_one w m c t e (Some x) q step))
 
     by_next : ((d : Parts) → left w d t.0 ≤ n → left w d t.0 ≤ m → go w n d t ≡ go w m d t) → (o : Option Event) → next_of w c t ≡ o → go w (suc n) c t ≡ go w (suc m) c t
@@ -282,12 +313,12 @@ go_enough w (suc n) c t h (suc m) k = by_next (λ d a b. go_enough w n d t a m b
     by_next more (Some e) q = by_step more e q (parts_step w c e) refl
 
 -- with as many events as are left, the next one and then those that are left behind it
-pub go_next : (w : World) (c d : Parts) (t : TaskNo) (e : Event) (x : Stepped) → next_of w c t ≡ Some e → parts_step w c e ≡ Some x → x.parts ≡ d → go w (left w c t.0) c t ≡ go w (left w d t.0) d t
-go_next w c d t e x q step same =
+pub go_next : (w : World) (c d : Parts) (t : TaskNo) (e : Event) (x : Stepped) → IsPlan (plan_in w) → next_of w c t ≡ Some e → parts_step w c e ≡ Some x → x.parts ≡ d → go w (left w c t.0) c t ≡ go w (left w d t.0) d t
+go_next w c d t e x plan q step same =
     let n = left w c t.0 in
-    let less = next_less w c t e x q step in
-    let more : go w n c t ≡ go w (suc n) c t = go_enough w n c t (omega arith) (suc n) (omega arith) in
-    let rest : go w n x.parts t ≡ go w (left w x.parts t.0) x.parts t = go_enough w n x.parts t (omega (arith, less)) (left w x.parts t.0) (omega arith) in
+    let less = next_less w c t e x plan q step in
+    let more : go w n c t ≡ go w (suc n) c t = go_enough w n c t plan (omega arith) (suc n) (omega arith) in
+    let rest : go w n x.parts t ≡ go w (left w x.parts t.0) x.parts t = go_enough w n x.parts t plan (omega (arith, less)) (left w x.parts t.0) (omega arith) in
     more ∙ (go_one w n c t e (Some x) q step ∙ (rest ∙ ap (λ (p : Parts). go w (left w p t.0) p t) same))
 
 -- a task without a next event goes nowhere

@@ -1,4 +1,5 @@
 pub mod Alone
+pub mod ControlLemmas
 pub mod Finds
 pub mod Follows
 pub mod GoingLemmas
@@ -6,10 +7,16 @@ pub mod GoneLemmas
 pub mod Kept
 pub mod Logs
 pub mod Begun
+pub mod Given
+pub mod Rule
 pub mod Ruled
 pub mod Exact
 pub mod Whole
 pub mod Nexts
+pub mod Placing
 pub mod RunningLemmas
 pub mod Runs
 pub mod Starts
+pub mod Changes
+pub mod Tied
+pub mod Turns

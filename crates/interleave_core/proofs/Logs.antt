@@ -1,5 +1,5 @@
 -- Each event keeps each task's log.
-use Rattle.std.proofs.Common.{◌≡◌, ◌≢◌, ◌⊎◌, inl, inr, ℕ, zero, suc, ◌+◌, ◌%◌, ◌<◌, ◌≤◌, Bool, true, false, ◌==◌, nat_lt, nat_eq, if◌then◌else◌, Option, Some, None, option_map, List, [], ◌∷◌, ◌++◌, length, get_or, set, refl, sym, ◌∙◌, ap, subst, arith}
+use Rattle.std.proofs.Common.{◌≡◌, ◌≢◌, ◌⊎◌, inl, inr, ℕ, zero, suc, ◌+◌, ◌*◌, ◌%◌, ◌<◌, ◌≤◌, Bool, true, false, ◌==◌, nat_lt, nat_eq, if◌then◌else◌, Option, Some, None, option_map, List, [], ◌∷◌, ◌++◌, length, get_or, set, refl, sym, ◌∙◌, ap, subst, arith}
 use Rattle.std.specs.Option.{option_or}
 use Rattle.std.proofs.lemmas.Bool.Decides.{nat_tests}
 use Rattle.std.proofs.lemmas.List.{append_assoc, append-nil, get_or-map, get_or-set_other, length-set, length-map}
@@ -11,7 +11,7 @@ use Rattle.s370_decode.specs.Table.{op_of}
 use Rattle.s370_decode.specs.declared.code.Code.{Code}
 use Rattle.s370_exec.specs.Effects.{effect, updated, link_code}
 use Rattle.s370_exec.specs.Fetch.{is_execute, code_at, first_tests, rest_tests, whole_tests}
-use Rattle.s370_exec.specs.Solo.{Run, Step, solo_run, solo_step, ended, visit, behind, subject_step, no_visit}
+use Rattle.s370_exec.specs.Solo.{Run, Step, solo_run, solo_step, visit, no_visit}
 use Rattle.s370_exec.proofs.TraceLemmas.{solo_step-visits}
 use Rattle.module_area.specs.PlanView.{place_of}
 use Rattle.module_area.specs.declared.places.Place.{Place}
@@ -22,25 +22,24 @@ use Rattle.s370_exec.specs.Solo.{has_returned}
 use Rattle.module_area.specs.declared.cells.Cell.{Cell}
 use Rattle.s370_exec.proofs.StepLemmas.{solo_step-rest_refused, solo_step-unread, solo_step-read, solo_step-ex}
 use Rattle.interleave_core.specs.World.{World, IsWorld, TaskPart, Parts, part_of, memory_in, budget_in, place_at, place_from, no_part, first_part}
-use Rattle.interleave_core.specs.Steps.{Stepped, parts_step, fetch_step, fetched, mark_step, marked, lift_step, lifted, do_step, done_by, may_plant, breakpoint_of, with_cell, with_due, original_under, same_cell, in_hand, subject_place, step_of, place_due, is_awaiting, is_spent, executed, stage_after, awaits_or, with_stage, unless_at, instruction_executed, subject_executed, task_done, same_due, hand_at, set_of}
-use Rattle.interleave_core.specs.Entries.{Entry}
+use Rattle.interleave_core.specs.Steps.{Stepped, parts_step, fetch_step, fetched, mark_step, marked, lift_step, lifted, do_step, done_by, with_due, original_under, same_cell, in_hand, subject_place, step_of, place_due, is_awaiting, is_spent, executed, stage_after, awaits_or, with_stage, unless_at, instruction_executed, task_goes_on, task_done, same_due, hand_at, set_of}
+use Rattle.interleave_core.specs.Entries.{Item, Met, Gave}
 use Rattle.interleave_core.specs.Core.{CoreState, CoreStepped, core_start, core_step, core_after, core_from, core_run, log_after}
 use Rattle.interleave_core.specs.Alone.{alone}
 use Rattle.interleave_core.specs.declared.events.Shown.{Shown}
-use Rattle.interleave_core.specs.declared.events.Shown.TheVariants.{Fetched, Marked, Lifted, Done, Planted}
+use Rattle.interleave_core.specs.declared.events.Shown.TheVariants.{Fetched, Marked, Lifted, Done}
 use Rattle.interleave_core.specs.declared.events.Event.{Event}
-use Rattle.interleave_core.specs.declared.events.Event.TheVariants.{Fetch, Mark, Lift, Do, Plant}
+use Rattle.interleave_core.specs.declared.events.Event.TheVariants.{Fetch, Mark, Lift, Do, Plant, Close}
 use Rattle.interleave_core.specs.declared.stage.Hand.{Hand}
 use Rattle.interleave_core.specs.declared.stage.Due.TheVariants.{Marking, Lifting, Nothing}
-use Rattle.interleave_core.proofs.Kept.{in_hand-stage}
-use Rattle.interleave_core.proofs.Nexts.{exists_by}
-use Rattle.interleave_core.proofs.Runs.{some_core, through}
-use Rattle.interleave_core.proofs.Alone.{GoesAt, AllGo, Goes, has_ended, is_inside, executed_trace, all_step, all_first, same_or, lt_of, got, some_stepped, some_part, lifted_tasks, some_core_stepped, run_zero}
+use Rattle.interleave_core.proofs.Changes.{goes_on, Changed, plant_cases, close_by, logs_given, logs_whole, logs_plant, logs_close}
+use Rattle.interleave_core.proofs.Runs.{same_or, lt_of, some_part, got, lifted_tasks, exists_by, in_hand-stage, some_core, through}
+use Rattle.interleave_core.proofs.Alone.{GoesAt, AllGo, has_ended, is_inside, executed_trace, all_step, all_first, some_core_stepped, run_zero}
 use Rattle.s370_state.specs.declared.endings.Ending.TheVariants.{Returned, Spent}
 use Rattle.s370_state.specs.declared.endings.Next.{Next}
 use Rattle.s370_state.specs.declared.endings.Next.TheVariants.{On, Ended as NextEnded}
 use Rattle.session_book.specs.Sessions.{task_of, no_task, first_state}
-use Rattle.module_area.specs.Parties.{tag_session}
+use Rattle.module_area.specs.Parties.{tag_session, window_tag}
 use Rattle.module_area.specs.CellWords.{word_at}
 use Rattle.std.proofs.lemmas.Grind.{get_or-set_at}
 use Rattle.interleave_core.specs.declared.stage.Due.{Due}
@@ -144,13 +143,15 @@ no_place w m s at = elim (visits_are m s) [
 with_nil : (w : World) (trace V : List Visit) → noted w ((trace ++ V) ++ []) ≡ noted w trace ++ noted w V
 with_nil w trace V = ap (noted w) (append-nil (trace ++ V)) ∙ noted-append w trace V
 
-found_logged : (w : World) (t : ℕ) (u : TaskPart) (f : FactSet) (log : List Entry) → logged (log_after w t u (Marked f) log) ≡ logged log
+found_logged : (w : World) (t : ℕ) (u : TaskPart) (f : FactSet) (log : List Item) → logged (log_after w t u (Marked f) log) ≡ logged log
 found_logged w t u f [] = refl
-found_logged w t u f (e ∷ log) = refl
+found_logged w t u f (Met e ∷ log) = refl
+found_logged w t u f (Gave p tag ∷ log) = refl
 
-lifted_logged : (w : World) (t : ℕ) (u : TaskPart) (b : Bool) (log : List Entry) → logged (log_after w t u (Lifted b) log) ≡ logged log
+lifted_logged : (w : World) (t : ℕ) (u : TaskPart) (b : Bool) (log : List Item) → logged (log_after w t u (Lifted b) log) ≡ logged log
 lifted_logged w t u b [] = refl
-lifted_logged w t u b (e ∷ log) = refl
+lifted_logged w t u b (Met e ∷ log) = refl
+lifted_logged w t u b (Gave p tag ∷ log) = refl
 
 abbrev trace_of : World → ℕ → TaskPart → List Visit
 trace_of w t u = (alone w t u.state.done).trace
@@ -166,7 +167,7 @@ due_at true spent at p h = let n : None ≡ Some p = h in absurd cc
 due_at false true at p h = let n : None ≡ Some p = h in absurd cc
 due_at false false at p h = h
 
-log_fetch : (w : World) (t : ℕ) (u : TaskPart) (stage : Stage) (p : ℕ) (c : Cell) (due : Due) (log : List Entry) → AreSeen (memory_in w t) w.places → ArePlaces w.places → u.stage ≡ stage → place_due w t u stage ≡ Some p →
+log_fetch : (w : World) (t : ℕ) (u : TaskPart) (stage : Stage) (p : ℕ) (c : Cell) (due : Due) (log : List Item) → AreSeen (memory_in w t) w.places → ArePlaces w.places → u.stage ≡ stage → place_due w t u stage ≡ Some p →
     logged log ≡ noted w (trace_of w t u ++ visits_in_hand stage (visits_of w t u)) →
     logged log ++ record { place = p; fact = fact_at w p (get_or (visits_of w t u) (if is_awaiting stage then 1 else 0) no_visit) } ∷ [] ≡ noted w (trace_of w t u ++ (if is_awaiting stage then visits_of w t u else first_visit (visits_of w t u)))
 log_fetch w t u Ready p c due log seen are at h e =
@@ -181,20 +182,20 @@ nothing_in_hand : (next : Next) (visits : List Visit) → visits_in_hand (stage_
 nothing_in_hand On visits = refl
 nothing_in_hand (NextEnded e) visits = refl
 
-log_executed : (w : World) (t : ℕ) (u : TaskPart) (log : List Entry) → has_ended u.stage ≡ false → has_returned u.state ≡ false → GoesAt w t u →
-    logged log ≡ noted w (trace_of w t u) ++ noted w (visits_of w t u) → HasLog w t (executed (step_of w t u)) log
+log_executed : (w : World) (t : ℕ) (u : TaskPart) (log : List Item) → has_ended u.stage ≡ false → has_returned u.state ≡ false → GoesAt w t u →
+    logged log ≡ noted w (trace_of w t u) ++ noted w (visits_of w t u) → HasLog w t (executed w t u) log
 log_executed w t u log was on g h =
-    let trace : trace_of w t (executed (step_of w t u)) ≡ trace_of w t u ++ visits_of w t u = executed_trace (memory_in w t) (budget_in w t) (first_state (task_of w.job t)) u was on g in
-    let hand : visits_in_hand (stage_after (step_of w t u).next) (visits_of w t (executed (step_of w t u))) ≡ [] = nothing_in_hand (step_of w t u).next (visits_of w t (executed (step_of w t u))) in
-    h ∙ (sym (with_nil w (trace_of w t u) (visits_of w t u)) ∙ (ap (λ (V : List Visit). noted w (V ++ [])) (sym trace) ∙ ap (λ (V : List Visit). noted w (trace_of w t (executed (step_of w t u)) ++ V)) (sym hand)))
+    let trace : trace_of w t (executed w t u) ≡ trace_of w t u ++ visits_of w t u = executed_trace (memory_in w t) (budget_in w t) (first_state (task_of w.job t)) u was on g in
+    let hand : visits_in_hand (stage_after (step_of w t u).next) (visits_of w t (executed w t u)) ≡ [] = nothing_in_hand (step_of w t u).next (visits_of w t (executed w t u)) in
+    h ∙ (sym (with_nil w (trace_of w t u) (visits_of w t u)) ∙ (ap (λ (V : List Visit). noted w (V ++ [])) (sym trace) ∙ ap (λ (V : List Visit). noted w (trace_of w t (executed w t u) ++ V)) (sym hand)))
 
-log_whole : (w : World) (t : ℕ) (u : TaskPart) (log : List Entry) (at : Option ℕ) → subject_place w (visits_of w t u) ≡ at → has_ended u.stage ≡ false → has_returned u.state ≡ false → GoesAt w t u →
-    logged log ≡ noted w (trace_of w t u ++ first_visit (visits_of w t u)) → HasLog w t (awaits_or u (executed (step_of w t u)) at) log
+log_whole : (w : World) (t : ℕ) (u : TaskPart) (log : List Item) (at : Option ℕ) → subject_place w (visits_of w t u) ≡ at → has_ended u.stage ≡ false → has_returned u.state ≡ false → GoesAt w t u →
+    logged log ≡ noted w (trace_of w t u ++ first_visit (visits_of w t u)) → HasLog w t (awaits_or u (executed w t u) at) log
 log_whole w t u log None at was on g h =
     log_executed w t u log was on g (h ∙ (noted-append w (trace_of w t u) (first_visit (visits_of w t u)) ∙ ap (λ (n : List Noted). noted w (trace_of w t u) ++ n) (sym (no_subject w (visits_of w t u) (few w t u) at))))
 log_whole w t u log (Some p) at was on g h = h
 
-log_ready : (w : World) (t : ℕ) (u v : TaskPart) (log : List Entry) (returned spent : Bool) (at : Option ℕ) → has_returned u.state ≡ returned → place_at w u.state.machine.cpu.ia ≡ at → has_ended u.stage ≡ false → GoesAt w t u →
+log_ready : (w : World) (t : ℕ) (u v : TaskPart) (log : List Item) (returned spent : Bool) (at : Option ℕ) → has_returned u.state ≡ returned → place_at w u.state.machine.cpu.ia ≡ at → has_ended u.stage ≡ false → GoesAt w t u →
     (if returned then Some (with_stage u (Ended Returned)) else (if spent then Some (with_stage u (Ended Spent)) else unless_at (instruction_executed w t u) at)) ≡ Some v →
     logged log ≡ noted w (trace_of w t u ++ []) → HasLog w t v log
 log_ready w t u v log true spent at r p was g h e = subst (λ (x : TaskPart). HasLog w t x log) (some_part _ v h) e
@@ -205,20 +206,24 @@ log_ready w t u v log false false None r p was g h e =
     e ∙ (noted-append w (trace_of w t u) [] ∙ (ap (λ (n : List Noted). noted w (trace_of w t u) ++ n) (sym (no_place w (memory_in w t) u.state p)) ∙ sym (noted-append w (trace_of w t u) (first_visit (visits_of w t u))))) in
     subst (λ (x : TaskPart). HasLog w t x log) (some_part _ v h) (log_whole w t u log (subject_place w (visits_of w t u)) refl was r g first)
 
-log_done : (w : World) (t : ℕ) (u v : TaskPart) (stage : Stage) (log : List Entry) → u.stage ≡ stage → task_done w t u stage ≡ Some v → GoesAt w t u →
+log_going : (w : World) (t : ℕ) (u v : TaskPart) (stage : Stage) (log : List Item) → u.stage ≡ stage → task_goes_on w t u stage ≡ Some v → GoesAt w t u →
     logged log ≡ noted w (trace_of w t u ++ visits_in_hand stage (visits_of w t u)) → HasLog w t v log
-log_done w t u v Ready log at h g e = log_ready w t u v log (has_returned u.state) (is_spent w t u.state) (place_at w u.state.machine.cpu.ia) refl refl (ap has_ended at) g h e
-log_done w t u v Awaiting log at h g e = let n : None ≡ Some v = h in absurd cc
-log_done w t u v (Ended x) log at h g e = let n : None ≡ Some v = h in absurd cc
-log_done w t u v (Holding x) log at h g e = by (same_due x.due Nothing) x.subject h e
+log_going w t u v Ready log at h g e = log_ready w t u v log (has_returned u.state) (is_spent w t u.state) (place_at w u.state.machine.cpu.ia) refl refl (ap has_ended at) g h e
+log_going w t u v Awaiting log at h g e = let n : None ≡ Some v = h in absurd cc
+log_going w t u v (Ended x) log at h g e = let n : None ≡ Some v = h in absurd cc
+log_going w t u v (Holding x) log at h g e = by (same_due x.due Nothing) x.subject h e
   where
-    by : (nothing subject : Bool) → (if nothing then Some (if subject then subject_executed w t u else instruction_executed w t u) else None) ≡ Some v →
+    by : (nothing subject : Bool) → (if nothing then Some (if subject then executed w t u else instruction_executed w t u) else None) ≡ Some v →
         logged log ≡ noted w (trace_of w t u ++ (if subject then visits_of w t u else first_visit (visits_of w t u))) → HasLog w t v log
     by false subject k f = let n : None ≡ Some v = k in absurd cc
     by true true k f = subst (λ (y : TaskPart). HasLog w t y log) (some_part _ v k)
         (log_executed w t u log (ap has_ended at) (g.inside (ap is_inside at)).0 g (f ∙ noted-append w (trace_of w t u) (visits_of w t u)))
     by true false k f = subst (λ (y : TaskPart). HasLog w t y log) (some_part _ v k)
         (log_whole w t u log (subject_place w (visits_of w t u)) refl (ap has_ended at) (g.inside (ap is_inside at)).0 g f)
+
+log_done : (w : World) (t : ℕ) (u v : TaskPart) (stage : Stage) (log : List Item) → u.stage ≡ stage → task_done w t u stage ≡ Some v → GoesAt w t u →
+    logged log ≡ noted w (trace_of w t u ++ visits_in_hand stage (visits_of w t u)) → HasLog w t v log
+log_done w t u v stage log at h g e = log_going w t u v stage log at (goes_on w t u v stage h) g e
 
 pub itself : (t : ℕ) → nat_eq t t ≡ true
 itself t = grind (arith, nat_tests)
@@ -232,24 +237,41 @@ pub record Logged (w : World) (c : CoreState) : Type 0 where
   pub go : AllGo w c.parts
   pub logs : HaveLogs w c.parts c.logs
 
--- what holds of each task and its log, after one task's event
-pub one_log : (w : World) (P : ℕ → TaskPart → List Entry → Type 0) (c : CoreState) (d : Parts) (t : ℕ) (u : TaskPart) (shown : Shown) → d.tasks ≡ set c.parts.tasks t u → t < length c.parts.tasks → P t u (log_after w t u shown (c.logs t)) →
-    ((s : ℕ) → s < length c.parts.tasks → P s (part_of c.parts s) (c.logs s)) → (s : ℕ) → s < length d.tasks → P s (part_of d s) (if nat_eq t s then log_after w s (part_of d s) shown (c.logs s) else c.logs s)
-one_log w P c d t u shown e lt own is s l =
+-- what holds of each task and its log, where one task and its log change
+pub all_logs : (P : ℕ → TaskPart → List Item → Type 0) (c : CoreState) (d : Parts) (t : ℕ) (u : TaskPart) (logs : ℕ → List Item) → d.tasks ≡ set c.parts.tasks t u → t < length c.parts.tasks → P t u (logs t) →
+    ((s : ℕ) → s ≢ t → logs s ≡ c.logs s) → ((s : ℕ) → s < length c.parts.tasks → P s (part_of c.parts s) (c.logs s)) → (s : ℕ) → s < length d.tasks → P s (part_of d s) (logs s)
+all_logs P c d t u logs e lt own others is s l =
     let inside : s < length c.parts.tasks = subst (λ (n : ℕ). s < n) (ap (λ (x : List TaskPart). length x) e ∙ length-set c.parts.tasks t u) l in
     let there : part_of d s ≡ get_or (set c.parts.tasks t u) s no_part = ap (λ (x : List TaskPart). get_or x s no_part) e in
     elim (same_or s t) [
-      | inl same ↦
-          let part : part_of d s ≡ u = there ∙ get_or-set_at c.parts.tasks t s u no_part same lt in
-          let test : nat_eq t s ≡ true = ap (nat_eq t) same ∙ itself t in
-          let here : P s u (log_after w s u shown (c.logs s)) = subst (λ (n : ℕ). P n u (log_after w n u shown (c.logs n))) (sym same) own in
-          subst (λ (b : Bool). P s (part_of d s) (if b then log_after w s (part_of d s) shown (c.logs s) else c.logs s)) (sym test)
-          (subst (λ (x : TaskPart). P s x (log_after w s x shown (c.logs s))) (sym part) here)
-      | inr other ↦
-          let part : part_of d s ≡ part_of c.parts s = there ∙ get_or-set_other c.parts.tasks t s u no_part other in
-          subst (λ (b : Bool). P s (part_of d s) (if b then log_after w s (part_of d s) shown (c.logs s) else c.logs s)) (sym (apart t s other))
-          (subst (λ (x : TaskPart). P s x (c.logs s)) (sym part) (is s inside))
+      | inl same ↦ subst (λ (x : TaskPart). P s x (logs s)) (sym (there ∙ get_or-set_at c.parts.tasks t s u no_part same lt)) (subst (λ (n : ℕ). P n u (logs n)) (sym same) own)
+      | inr other ↦ subst (λ (x : TaskPart). P s x (logs s)) (sym (there ∙ get_or-set_other c.parts.tasks t s u no_part other)) (subst (P s (part_of c.parts s)) (sym (others s other)) (is s inside))
     ]
+
+-- after one task's event
+pub one_log : (w : World) (P : ℕ → TaskPart → List Item → Type 0) (c : CoreState) (d : Parts) (t : ℕ) (u : TaskPart) (shown : Shown) → d.tasks ≡ set c.parts.tasks t u → t < length c.parts.tasks → P t u (log_after w t u shown (c.logs t)) →
+    ((s : ℕ) → s < length c.parts.tasks → P s (part_of c.parts s) (c.logs s)) → (s : ℕ) → s < length d.tasks → P s (part_of d s) (if nat_eq t s then log_after w s (part_of d s) shown (c.logs s) else c.logs s)
+one_log w P c d t u shown e lt own is = all_logs P c d t u (λ s. if nat_eq t s then log_after w s (part_of d s) shown (c.logs s) else c.logs s) e lt
+    (subst (λ (b : Bool). P t u (if b then log_after w t (part_of d t) shown (c.logs t) else c.logs t)) (sym (itself t)) (subst (λ (x : TaskPart). P t u (log_after w t x shown (c.logs t))) (sym part) own))
+    (λ s other. ap (λ (b : Bool). if b then log_after w s (part_of d s) shown (c.logs s) else c.logs s) (apart t s other)) is
+  where
+    part : part_of d t ≡ u
+    part = ap (λ (x : List TaskPart). get_or x t no_part) e ∙ get_or-set_at c.parts.tasks t t u no_part refl lt
+
+-- after a change of the sessions that a task controls
+pub changed_log : (w : World) (P : ℕ → TaskPart → List Item → Type 0) (c : CoreState) (closes : Bool) (s p tag : ℕ) (x : Stepped) (logs : ℕ → List Item) (by : Changed w c.parts closes s p x) → ((u : ℕ) → logs u ≡ logs_given c.logs by.task p tag u) →
+    P by.task (record (part_of c.parts by.task) { changed = (part_of c.parts by.task).changed + 1 }) (Gave p tag ∷ c.logs by.task) →
+    ((t : ℕ) → t < length c.parts.tasks → P t (part_of c.parts t) (c.logs t)) → (t : ℕ) → t < length x.parts.tasks → P t (part_of x.parts t) (logs t)
+changed_log w P c closes s p tag x logs by given own is = all_logs P c x.parts by.task (record (part_of c.parts by.task) { changed = (part_of c.parts by.task).changed + 1 }) logs (ap (λ (y : Stepped). y.parts.tasks) by.made) by.there
+    (subst (P by.task (record (part_of c.parts by.task) { changed = (part_of c.parts by.task).changed + 1 })) (sym (given by.task ∙ ap (λ (b : Bool). if b then Gave p tag ∷ c.logs by.task else c.logs by.task) (itself by.task))) own)
+    (λ u other. given u ∙ ap (λ (b : Bool). if b then Gave p tag ∷ c.logs u else c.logs u) (apart by.task u other)) is
+
+log_changed : (w : World) (c : CoreState) (closes : Bool) (s p tag : ℕ) (x : Stepped) (logs : ℕ → List Item) (by : Changed w c.parts closes s p x) → ((u : ℕ) → logs u ≡ logs_given c.logs by.task p tag u) → Logged w c →
+    (length x.parts.tasks ≡ length w.job.tasks) × HaveLogs w x.parts logs
+log_changed w c closes s p tag x logs by given is = (
+  ap (λ (y : Stepped). length y.parts.tasks) by.made ∙ (length-set c.parts.tasks by.task _ ∙ is.count),
+  changed_log w (λ n y log. HasLog w n y log) c closes s p tag x logs by given (is.logs by.task by.there) is.logs,
+)
 
 log_step : (w : World) (c : CoreState) (e : Event) (x : Stepped) → IsWorld w → parts_step w c.parts e ≡ Some x → Logged w c → (length x.parts.tasks ≡ length w.job.tasks) × HaveLogs w x.parts (core_after w c e x).core.logs
 log_step w c (Fetch t) x world h is =
@@ -289,11 +311,18 @@ log_step w c (Do t) x world h is =
     let v = got TaskPart (done_by c.parts t.0) (task_done w t.0 u u.stage) x at.1 in
     subst (λ (y : Stepped). (length y.parts.tasks ≡ length w.job.tasks) × HaveLogs w y.parts (core_after w c (Do t) y).core.logs) (sym v.2)
     (length-set c.parts.tasks t.0 v.0 ∙ is.count, one_log w (λ n y log. HasLog w n y log) c (done_by c.parts t.0 v.0).parts t.0 v.0 Done refl lt (log_done w t.0 u v.0 u.stage (c.logs t.0) refl v.1 (is.go t.0 lt) (is.logs t.0 lt)) is.logs)
-log_step w c (Plant s p) x world h is =
-    let made : (may_plant w c.parts s.0 p.0 ≡ true) × (Some (record { parts = with_cell c.parts p.0 (breakpoint_of s.0); shown = Planted }) ≡ Some x) =
-    exists_by (may_plant w c.parts s.0 p.0) (Some (record { parts = with_cell c.parts p.0 (breakpoint_of s.0); shown = Planted })) x h in
-    let same : record { parts = with_cell c.parts p.0 (breakpoint_of s.0); shown = Planted } ≡ x = some_stepped _ x made.1 in
-    subst (λ (y : Stepped). (length y.parts.tasks ≡ length w.job.tasks) × HaveLogs w y.parts (core_after w c (Plant s p) y).core.logs) same (is.count, is.logs)
+log_step w c (Plant s p) x world h is = elim (plant_cases w c.parts s.0 p.0 x h) [
+  | inl whole ↦
+      let tasks : c.parts.tasks ≡ x.parts.tasks = ap (λ (y : Stepped). y.parts.tasks) (sym whole.made) in (
+        ap (λ (ts : List TaskPart). length ts) (sym tasks) ∙ is.count,
+        subst (λ (ts : List TaskPart). (t : ℕ) → t < length ts → HasLog w t (get_or ts t no_part) ((core_after w c (Plant s p) x).core.logs t)) tasks
+            (λ t l. subst (HasLog w t (part_of c.parts t)) (sym (logs_whole w c s p x whole t)) (is.logs t l)),
+      )
+  | inr by ↦ log_changed w c false s.0 p.0 (window_tag s.0) x (core_after w c (Plant s p) x).core.logs by (logs_plant w c s p x by) is
+]
+log_step w c (Close s p) x world h is =
+    let by : Changed w c.parts true s.0 p.0 x = close_by w c.parts s.0 p.0 x h in
+    log_changed w c true s.0 p.0 (2 * s.0) x (core_after w c (Close s p) x).core.logs by (logs_close w c s p x by) is
 
 none_yet : (m : Memory) (w : World) (s : State) → s.done ≡ 0 → [] ≡ noted w ((solo_run m s.done s).trace ++ [])
 none_yet m w s zero_done =

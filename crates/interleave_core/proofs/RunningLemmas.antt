@@ -1,5 +1,5 @@
 -- A task of a core: the subject that its step visits.
-use Rattle.std.proofs.Common.{◌≡◌, ℕ, Bool, true, false, Option, Some, None, List, [], ◌∷◌, refl, sym, ◌∙◌, ap}
+use Rattle.std.proofs.Common.{◌≡◌, ℕ, Bool, true, false, Option, Some, None, List, [], ◌∷◌, refl, sym, ap}
 use Rattle.cov_base.specs.States.{Visit}
 use Rattle.s370_exec.specs.Solo.{subject_seen}
 use Rattle.interleave_core.specs.World.{World, place_at}

@@ -1,13 +1,50 @@
--- Runs of the core, event by event.
-use Rattle.std.proofs.Common.{◌≡◌, Option, Some, None, option_map, List, [], ◌∷◌, ◌++◌, IfOk, OnErr, refl, sym, ◌∙◌, ap, subst}
-use Rattle.std.specs.declared.result.Result.{Result}
-use Rattle.std.specs.declared.result.Result.TheVariants.{Ok, Err}
-use Rattle.interleave_core.specs.World.{World, Parts}
-use Rattle.interleave_core.specs.Steps.{Stepped, parts_step}
-use Rattle.interleave_core.specs.Core.{CoreState, CoreStepped, core_start, core_step, core_after, core_from, core_run, go_on, Follows, FollowsAll, FollowsNone}
+-- Runs of the core, event by event, and what a possible event was made of.
+use Rattle.std.proofs.Common.{◌≡◌, ◌≢◌, ◌⊎◌, ℕ, ◌<◌, Bool, true, false, nat_lt, if◌then◌else◌, Option, Some, None, option_map, List, [], ◌∷◌, ◌++◌, refl, sym, ◌∙◌, ap, subst, arith}
+use Rattle.std.proofs.lemmas.Bool.Decides.{nat_tests}
+use Rattle.module_area.specs.declared.cells.Cell.{Cell}
+use Rattle.interleave_core.specs.World.{World, TaskPart, Parts}
+use Rattle.interleave_core.specs.Steps.{Stepped, in_hand, same_due, with_cell}
+use Rattle.interleave_core.specs.Core.{CoreState, CoreStepped, core_step, core_from, go_on}
 use Rattle.interleave_core.specs.declared.events.Event.{Event}
-use Rattle.interleave_core.specs.declared.events.NotPossible.{NotPossible}
-use Rattle.interleave_core.specs.declared.events.Shown.{Shown}
+use Rattle.interleave_core.specs.declared.stage.Due.{Due}
+use Rattle.interleave_core.specs.declared.stage.Hand.{Hand}
+use Rattle.interleave_core.specs.declared.stage.Stage.{Stage}
+use Rattle.interleave_core.specs.declared.stage.Stage.TheVariants.{Ready, Awaiting, Holding, Ended}
+
+pub same_or : (t n : ℕ) → (t ≡ n) ⊎ (t ≢ n)
+same_or t n = grind arith
+
+pub lt_of : (t n : ℕ) → nat_lt t n ≡ true → t < n
+lt_of t n h = grind (arith, nat_tests)
+
+pub some_part : (u v : TaskPart) → Some u ≡ Some v → u ≡ v
+some_part u v h = cc
+
+pub some_stepped : (a b : Stepped) → Some a ≡ Some b → a ≡ b
+some_stepped a b h = cc
+
+pub got : (A : Type 0) (f : A → Stepped) (o : Option A) (x : Stepped) → option_map f o ≡ Some x → (a : A) × (o ≡ Some a) × (x ≡ f a)
+got A f None x h = let n : None ≡ Some x = h in absurd cc
+got A f (Some a) x h = (a, refl, sym (some_stepped (f a) x h))
+
+pub lifted_tasks : (b : Bool) (P : Parts) (p : ℕ) (x : Cell) → (if b then with_cell P p x else P).tasks ≡ P.tasks
+lifted_tasks true P p x = refl
+lifted_tasks false P p x = refl
+
+pub exists_by : (b : Bool) (o : Option Stepped) (x : Stepped) → (if b then o else None) ≡ Some x → (b ≡ true) × (o ≡ Some x)
+exists_by true o x h = (refl, h)
+exists_by false o x h = let n : None ≡ Some x = h in absurd cc
+
+-- a hand of which something is due
+pub in_hand-stage : (due : Due) (stage : Stage) (h : Hand) → in_hand due stage ≡ Some h → (stage ≡ Holding h) × (same_due h.due due ≡ true)
+in_hand-stage due Ready h e = let n : None ≡ Some h = e in absurd cc
+in_hand-stage due Awaiting h e = let n : None ≡ Some h = e in absurd cc
+in_hand-stage due (Ended x) h e = let n : None ≡ Some h = e in absurd cc
+in_hand-stage due (Holding g) h e = by (same_due g.due due) refl e
+  where
+    by : (b : Bool) → same_due g.due due ≡ b → (if b then Some g else None) ≡ Some h → (Holding g ≡ Holding h) × (same_due h.due due ≡ true)
+    by true s k = let f : Some g ≡ Some h = k in let same : g ≡ h = cc in (ap Holding same, subst (λ (x : Hand). same_due x.due due ≡ true) same s)
+    by false s k = let n : None ≡ Some h = k in absurd cc
 
 pub some_core : (a b : CoreState) → Some a ≡ Some b → a ≡ b
 some_core a b h = cc

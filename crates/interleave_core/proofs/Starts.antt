@@ -1,21 +1,24 @@
 -- A core before its first event, and what each core fits.
-use Rattle.std.proofs.Common.{◌≡◌, ◌⊎◌, inl, inr, ℕ, ◌+◌, ◌-◌, ◌*◌, ◌<◌, ◌≤◌, true, List, [], ◌∷◌, ◌++◌, length, get_or, map, replicate, take, drop, min, slice_range, nat_lt, refl, sym, ◌∙◌, ap, subst, arith}
-use Rattle.std.proofs.lemmas.List.{get_or-map, length-map, length-append, ext_get_or, get_or_push, get_or_append_left, length-drop, take_all}
+use Rattle.std.proofs.Common.{◌≡◌, ◌⊎◌, inl, inr, ℕ, zero, suc, All, ◌+◌, ◌-◌, ◌*◌, ◌<◌, ◌≤◌, true, List, [], ◌∷◌, ◌++◌, length, get_or, map, replicate, take, drop, min, slice_range, nat_lt, refl, sym, ◌∙◌, ap, subst, arith}
+use Rattle.std.proofs.lemmas.List.{get_or-map, length-map, length-replicate, length-append, ext_get_or, get_or_push, get_or_append_left, length-drop, take_all}
 use Rattle.std.proofs.lemmas.Bool.Decides.{nat_tests}
 use Rattle.cov_base.specs.FactSet.{FactSet}
-use Rattle.cov_base.specs.Facts.{no_facts}
-use Rattle.module_area.specs.CellWords.{fresh_word}
-use Rattle.module_area.specs.PlanView.{PlanView}
+use Rattle.cov_base.specs.Facts.{no_facts, is_within}
+use Rattle.cov_base.specs.declared.facts.Kind.{Kind}
+use Rattle.cov_base.specs.declared.facts.Kind.TheVariants.{Straight, Conditional}
+use Rattle.brk_table.specs.Places.{ArePlaces, IsIn}
+use Rattle.session_book.specs.JobView.{IsJob}
+use Rattle.module_area.specs.FinalsView.{index_of, set_in}
+use Rattle.module_area.specs.CellWords.{fresh_word, word_at, no_cell}
+use Rattle.module_area.specs.PlanView.{PlanView, IsPlan, kind_at, no_place}
 use Rattle.module_area.specs.declared.cells.Cell.{Cell}
-use Rattle.module_area.specs.declared.places.Place.{Place}
-use Rattle.session_book.specs.JobView.{TaskView}
-use Rattle.session_book.specs.Results.{ResultView}
 use Rattle.session_book.specs.Sessions.{task_of, no_task}
 use Rattle.space_map.specs.Space.{row_of}
 use Rattle.space_map.proofs.SpaceLemmas.{private_filled-as}
-use Rattle.interleave_core.specs.World.{World, IsWorld, TaskPart, Parts, no_part, first_part, first_parts, part_of, memory_in}
+use Rattle.interleave_core.specs.World.{World, IsWorld, TaskPart, Parts, no_part, first_part, first_parts, plan_in}
 use Rattle.interleave_core.specs.Results.{Fits, results_of, part_result}
-use Rattle.interleave_core.specs.Views.{RunningView, IsRunning, IsStage, IsCore, AreReady, parts_of}
+use Rattle.interleave_core.specs.Views.{RunningView, IsRunning, IsStage, IsCore, AreReady, AreTied, parts_of}
+use Rattle.interleave_core.proofs.Tied.{tied_first}
 
 pub part_read : (tasks : List RunningView) (t : ℕ) (r : RunningView) → t < length tasks → r ≡ get_or tasks t r → get_or (parts_of tasks) t no_part ≡ r.part
 part_read tasks t r lt read = get_or-map (λ (x : RunningView). x.part) tasks t r no_part lt ∙ ap (λ (x : RunningView). x.part) (sym read)
@@ -115,3 +118,35 @@ whole_or a b = grind arith
 
 pub row_range : (bytes : List ℕ) (n : ℕ) → 16 * n ≤ length bytes → row_of bytes n ≡ slice_range bytes (16 * n) (min (16 * n + 16) (length bytes))
 row_range bytes n l = row_at bytes (16 * n) _ l (whole_or (16 * n + 16) (length bytes)) refl
+
+-- a core before its first event is one
+pub IsCore-first : (w : World) (cells : List Cell) (sets : List FactSet) (plan : PlanView) (tasks : List RunningView) → IsJob w.job → length w.job.phases ≡ 1 → plan ≡ plan_in w → IsPlan (plan_in w) → ArePlaces w.places → All (IsIn w.job.images) w.places →
+    cells ≡ map fresh_word w.places → sets ≡ replicate (length w.job.sessions * length w.places) no_facts → AreReady w (length w.job.tasks) tasks → IsCore w cells sets plan tasks
+IsCore-first w cells sets plan tasks job phase same is_plan places inside is_cells is_sets are = record {
+  job = job;
+  phase = phase;
+  same_plan = same;
+  is_plan = is_plan;
+  places = places;
+  inside = inside;
+  count = are.count;
+  cell_count = ap (λ (cs : List Cell). length cs) is_cells ∙ length-map w.places fresh_word;
+  set_count = ap (λ (xs : List FactSet). length xs) is_sets ∙ length-replicate (length w.job.sessions * length w.places) no_facts;
+  words = λ p l. inl (ap (λ (cs : List Cell). word_at cs p) is_cells ∙ get_or-map fresh_word w.places p no_place no_cell l);
+  within = λ s p pos l. subst (λ (xs : List FactSet). is_within (kind_at (plan_in w) p) (set_in (length w.places) xs s p) ≡ true) (sym is_sets) (none_within (kind_at (plan_in w) p) (length w.job.sessions * length w.places) (index_of (length w.places) s p));
+  running = are.running;
+  stages = λ t r l. subst (λ (u : TaskPart). IsStage w t u u.stage) (sym (are.parts t r l)) tt;
+  tied = subst (AreTied w) (sym (parts_are w cells sets tasks is_cells is_sets are)) (tied_first w is_plan);
+}
+  where
+    none_within : (k : Kind) (n i : ℕ) → is_within k (get_or (replicate n no_facts) i no_facts) ≡ true
+    none_within k n i = ap (is_within k) (none_at n i) ∙ nothing k
+      where
+        none_at : (m j : ℕ) → get_or (replicate m no_facts) j no_facts ≡ no_facts
+        none_at zero j = refl
+        none_at (suc m) zero = refl
+        none_at (suc m) (suc j) = none_at m j
+
+        nothing : (x : Kind) → is_within x no_facts ≡ true
+        nothing Straight = refl
+        nothing Conditional = refl

@@ -1,12 +1,13 @@
 -- The sets are those of whole sessions where their windows were planted before any other event.
-use Rattle.std.proofs.Common.{◌≡◌, ◌≢◌, ◌⊎◌, inl, inr, ⊎_elim, ℕ, zero, suc, ◌+◌, ◌-◌, ◌<◌, ◌≤◌, Bool, true, false, ◌&&◌, ◌||◌, ◌==◌, nat_lt, nat_eq, if◌then◌else◌, Option, Some, None, List, [], ◌∷◌, ◌++◌, length, get_or, set, All, refl, sym, ◌∙◌, ap, subst, arith, eqb-true, eq-eqb}
-use Rattle.std.specs.List.{list_any}
+use Rattle.std.proofs.Common.{◌≡◌, ◌≢◌, ◌⊎◌, inl, inr, ℕ, zero, suc, ◌+◌, ◌*◌, ◌-◌, ◌<◌, Bool, true, false, ◌&&◌, ◌||◌, ◌==◌, nat_lt, nat_eq, if◌then◌else◌, Option, Some, None, List, [], ◌∷◌, ◌++◌, length, get_or, set, refl, sym, ◌∙◌, ap, subst, arith, eqb-true, eq-eqb}
 use Rattle.std.proofs.lemmas.Bool.Decides.{nat_tests}
 use Rattle.std.proofs.lemmas.Grind.{get_or-set_at}
 use Rattle.std.proofs.lemmas.List.{get_or-set_other, get_or-map, append-nil}
 use Rattle.cov_base.specs.FactSet.{FactSet}
 use Rattle.cov_base.specs.Facts.{no_facts, has_fact, with_fact, is_full, union, fact_of, same_fact}
 use Rattle.cov_base.specs.States.{Visit}
+use Rattle.cov_base.specs.declared.numbers.PlaceNo.{PlaceNo}
+use Rattle.cov_base.specs.declared.numbers.SessNo.{SessNo}
 use Rattle.cov_base.specs.declared.facts.Fact.{Fact}
 use Rattle.cov_base.specs.declared.facts.Fact.TheVariants.{Ran, Went, Stayed}
 use Rattle.s370_state.specs.declared.endings.Ending.{Ending}
@@ -22,32 +23,33 @@ use Rattle.module_area.proofs.FactLemmas.{has_fact-with_fact, same_fact-true}
 use Rattle.module_area.proofs.Indices.{same_tests}
 use Rattle.module_area.proofs.PartyLemmas.{has-append, left-append, right-append}
 use Rattle.module_area.proofs.StepLemmas.{or_cases, or_left, or_right, same_fact-same}
-use Rattle.session_book.specs.JobView.{IsJob, SessionView, TaskView}
-use Rattle.session_book.specs.Sessions.{session_of, no_session, no_task, observes, window_from, window_of, traces_from, session_set}
+use Rattle.session_book.specs.JobView.{SessionView, TaskView}
+use Rattle.session_book.specs.Sessions.{session_of, no_session, no_task, is_whole, observes, window_from, window_of, traces_from}
 use Rattle.brk_table.proofs.PlaceLemmas.{one_begins}
-use Rattle.interleave_core.specs.World.{World, IsWorld, TaskPart, Parts, part_of, plan_in, place_at, place_from, budget_in}
+use Rattle.interleave_core.specs.World.{World, IsWorld, TaskPart, Parts, part_of, plan_in, place_at}
 use Rattle.interleave_core.specs.Steps.{Stepped, parts_step, fetch_step, fetched, mark_step, marked, lift_step, lifted, do_step, done_by, may_plant, breakpoint_of, with_cell, with_due, with_stage, original_under, same_cell, in_hand, hand_at, step_of, place_due, is_awaiting, task_done, set_of, fact_in}
 use Rattle.interleave_core.specs.Alone.{alone, IsAlone}
-use Rattle.interleave_core.specs.Core.{CoreState, CoreStepped, core_start, core_step, core_after, core_from, core_run, log_after, entry_of}
-use Rattle.interleave_core.specs.Entries.{Entry}
-use Rattle.interleave_core.specs.Exact.{HasShown, HaveEnded}
-use Rattle.interleave_core.specs.Logs.{Noted, note, noted, fact_at, logged, visits_in_hand, HasLog, HaveLogs}
+use Rattle.interleave_core.specs.Core.{CoreState, core_start, core_step, core_after, core_from, core_run, log_after}
+use Rattle.interleave_core.specs.Entries.{Item, Met, Gave}
+use Rattle.interleave_core.specs.Exact.{HasShown}
+use Rattle.interleave_core.specs.Logs.{Noted, note, noted, fact_at, logged, visits_in_hand, HasLog}
 use Rattle.interleave_core.specs.Parties.{planted_by, planter_from, first_planter}
 use Rattle.interleave_core.specs.Whole.{planted_first, ArePlantedFirst, trace_in, AreWhole}
 use Rattle.interleave_core.specs.declared.events.Event.{Event}
-use Rattle.interleave_core.specs.declared.events.Event.TheVariants.{Fetch, Mark, Lift, Do, Plant}
-use Rattle.interleave_core.specs.declared.events.Shown.TheVariants.{Fetched, Marked, Lifted, Done, Planted}
+use Rattle.interleave_core.specs.declared.events.Event.TheVariants.{Fetch, Mark, Lift, Do, Plant, Close}
+use Rattle.interleave_core.specs.declared.events.Shown.TheVariants.{Fetched, Marked, Lifted, Done}
 use Rattle.interleave_core.specs.declared.stage.Hand.{Hand}
 use Rattle.interleave_core.specs.declared.stage.Due.TheVariants.{Marking, Lifting, Nothing}
 use Rattle.interleave_core.specs.declared.stage.Stage.{Stage}
-use Rattle.interleave_core.specs.declared.stage.Stage.TheVariants.{Ready, Awaiting, Holding, Ended}
-use Rattle.interleave_core.proofs.Alone.{lt_of, got, some_stepped, lifted_tasks, same_or, run_alone}
+use Rattle.interleave_core.specs.declared.stage.Stage.TheVariants.{Holding, Ended}
+use Rattle.interleave_core.proofs.Alone.{run_alone}
+use Rattle.interleave_core.proofs.Changes.{may_by, IsWholePlant, Changed, plant_cases, close_by, logs_whole, logs_plant, logs_close}
 use Rattle.interleave_core.proofs.Exact.{Sound, sound_step, sound_first, run_sound, exact_into, exact_from}
 use Rattle.interleave_core.proofs.Finds.{there}
-use Rattle.interleave_core.proofs.Logs.{found_at, one_log, got_step, run_logs}
-use Rattle.interleave_core.proofs.Nexts.{exists_by}
-use Rattle.interleave_core.proofs.Ruled.{fetch_due, same_cells, may_by}
-use Rattle.interleave_core.proofs.Runs.{some_core, through}
+use Rattle.interleave_core.proofs.Logs.{found_at, one_log, changed_log, got_step, run_logs}
+use Rattle.interleave_core.proofs.Given.{its, cell_other}
+use Rattle.interleave_core.proofs.Ruled.{fetch_due, same_cells}
+use Rattle.interleave_core.proofs.Runs.{same_or, lt_of, got, lifted_tasks, exists_by, some_core, through}
 
 -- ---- the tags
 
@@ -55,9 +57,10 @@ use Rattle.interleave_core.proofs.Runs.{some_core, through}
 abbrev Up : World → Parts → Type 0
 Up w c = (p : ℕ) → p < length w.places → 0 < window_at (plan_in w) p → (word_at c.cells p).tag ≡ window_tag (window_at (plan_in w) p)
 
-abbrev Entered : World → List Entry → Type 0
+abbrev Entered : World → List Item → Type 0
 Entered w [] = Unit {0}
-Entered w (e ∷ log) = (0 < window_at (plan_in w) e.place → e.cell.tag ≡ window_tag (window_at (plan_in w) e.place)) × Entered w log
+Entered w (Met e ∷ log) = (0 < window_at (plan_in w) e.place → e.cell.tag ≡ window_tag (window_at (plan_in w) e.place)) × Entered w log
+Entered w (Gave p tag ∷ log) = Entered w log
 
 abbrev AllEntered : World → CoreState → Type 0
 AllEntered w c = (t : ℕ) → t < length c.parts.tasks → Entered w (c.logs t)
@@ -84,13 +87,37 @@ plant_tag w c s p may =
     let at = may_by (nat_lt p (length w.places)) (nat_lt 0 s) (nat_eq (window_at (plan_in w) p) s) (nat_eq (word_at c.cells p).tag 0) may in
     ap window_tag (sym (eqb-true (window_at (plan_in w) p) s at.2))
 
-log_kept_mark : (w : World) (t : ℕ) (u : TaskPart) (found : FactSet) (log : List Entry) → Entered w log → Entered w (log_after w t u (Marked found) log)
+log_kept_mark : (w : World) (t : ℕ) (u : TaskPart) (found : FactSet) (log : List Item) → Entered w log → Entered w (log_after w t u (Marked found) log)
 log_kept_mark w t u found [] h = h
-log_kept_mark w t u found (e ∷ log) h = h
+log_kept_mark w t u found (Met e ∷ log) h = h
+log_kept_mark w t u found (Gave p tag ∷ log) h = h
 
-log_kept_lift : (w : World) (t : ℕ) (u : TaskPart) (taken : Bool) (log : List Entry) → Entered w log → Entered w (log_after w t u (Lifted taken) log)
+log_kept_lift : (w : World) (t : ℕ) (u : TaskPart) (taken : Bool) (log : List Item) → Entered w log → Entered w (log_after w t u (Lifted taken) log)
 log_kept_lift w t u taken [] h = h
-log_kept_lift w t u taken (e ∷ log) h = h
+log_kept_lift w t u taken (Met e ∷ log) h = h
+log_kept_lift w t u taken (Gave p tag ∷ log) h = h
+
+-- a place with a window is under no controlled session
+not_own : (w : World) (c : CoreState) (v : View) (closes : Bool) (s p q : ℕ) (x : Stepped) → Sound w c v → Changed w c.parts closes s p x → 0 < window_at (plan_in w) q → q ≢ p
+not_own w c v closes s p q x is by pos same =
+    let none : window_at (plan_in w) p ≡ 0 = (its w c v closes s p x c.logs is.ruled is.tied by).no_window in
+    let some : 0 < window_at (plan_in w) p = subst (λ (n : ℕ). 0 < window_at (plan_in w) n) same pos in
+    omega (arith, none, some)
+
+-- so its cell stays as it is
+cell_stays : (w : World) (c : CoreState) (v : View) (closes : Bool) (s p : ℕ) (x : Stepped) → Sound w c v → Changed w c.parts closes s p x → (q : ℕ) → q < length w.places → 0 < window_at (plan_in w) q →
+    (word_at x.parts.cells q).tag ≡ (word_at c.parts.cells q).tag
+cell_stays w c v closes s p x is by q lt pos = ap (λ (y : Cell). y.tag) (cell_other w c v closes s p x c.logs is.ruled is.tied by q lt (not_own w c v closes s p q x is by pos))
+
+up_changed : (w : World) (c : CoreState) (v : View) (closes : Bool) (s p : ℕ) (x : Stepped) → Sound w c v → Changed w c.parts closes s p x → Up w c.parts → Up w x.parts
+up_changed w c v closes s p x is by up q lt pos = cell_stays w c v closes s p x is by q lt pos ∙ up q lt pos
+
+whole_entered : (w : World) (c : CoreState) (s : SessNo) (p : PlaceNo) (x : Stepped) → IsWholePlant w c.parts s.0 p.0 x → AllEntered w c → AllEntered w (core_after w c (Plant s p) x).core
+whole_entered w c s p x whole all = subst (λ (ts : List TaskPart). (t : ℕ) → t < length ts → Entered w ((core_after w c (Plant s p) x).core.logs t)) (ap (λ (y : Stepped). y.parts.tasks) (sym whole.made))
+    (λ t l. subst (Entered w) (sym (logs_whole w c s p x whole t)) (all t l))
+
+plant_entered : (w : World) (c : CoreState) (s : SessNo) (p : PlaceNo) (x : Stepped) → Changed w c.parts false s.0 p.0 x → AllEntered w c → AllEntered w (core_after w c (Plant s p) x).core
+plant_entered w c s p x by all = changed_log w (λ n y log. Entered w log) c false s.0 p.0 (window_tag s.0) x (core_after w c (Plant s p) x).core.logs by (logs_plant w c s p x by) (all by.task by.there) all
 
 open_step : (w : World) (c : CoreState) (v : View) (e : Event) (x : Stepped) → IsWorld w → parts_step w c.parts e ≡ Some x → Sound w c v → Up w c.parts → AllEntered w c → Up w x.parts × AllEntered w (core_after w c e x).core
 open_step w c v (Fetch t) x world h is up all =
@@ -130,11 +157,18 @@ open_step w c v (Do t) x world h is up all =
     let n = got TaskPart (done_by c.parts t.0) (task_done w t.0 u u.stage) x at.1 in
     subst (λ (y : Stepped). Up w y.parts × AllEntered w (core_after w c (Do t) y).core) (sym n.2)
     (up, one_log w (λ m y log. Entered w log) c (done_by c.parts t.0 n.0).parts t.0 n.0 Done refl lt (all t.0 lt) all)
-open_step w c v (Plant s p) x world h is up all =
-    let made : (may_plant w c.parts s.0 p.0 ≡ true) × (Some (record { parts = with_cell c.parts p.0 (breakpoint_of s.0); shown = Planted }) ≡ Some x) =
-    exists_by (may_plant w c.parts s.0 p.0) (Some (record { parts = with_cell c.parts p.0 (breakpoint_of s.0); shown = Planted })) x h in
-    subst (λ (y : Stepped). Up w y.parts × AllEntered w (core_after w c (Plant s p) y).core) (some_stepped _ x made.1)
-    ((λ q lt pos. up_cell w c.parts p.0 (breakpoint_of s.0) is.ruled.cells (λ l some. plant_tag w c.parts s.0 p.0 made.0) q lt pos (λ n. up q lt pos)), all)
+open_step w c v (Plant s p) x world h is up all = elim (plant_cases w c.parts s.0 p.0 x h) [
+  | inl whole ↦ (
+    subst (λ (y : Stepped). Up w y.parts) (sym whole.made) (λ q lt pos. up_cell w c.parts p.0 (breakpoint_of s.0) is.ruled.cells (λ l some. plant_tag w c.parts s.0 p.0 whole.may) q lt pos (λ n. up q lt pos)),
+    whole_entered w c s p x whole all,
+  )
+  | inr by ↦ (up_changed w c v false s.0 p.0 x is by up, plant_entered w c s p x by all)
+]
+open_step w c v (Close s p) x world h is up all =
+    let by : Changed w c.parts true s.0 p.0 x = close_by w c.parts s.0 p.0 x h in (
+      up_changed w c v true s.0 p.0 x is by up,
+      changed_log w (λ n y log. Entered w log) c true s.0 p.0 (2 * s.0) x (core_after w c (Close s p) x).core.logs by (logs_close w c s p x by) (all by.task by.there) all,
+    )
 
 open_from : (w : World) (d c : CoreState) (v : View) (events : List Event) → IsWorld w → Sound w d v → Up w d.parts → AllEntered w d → core_from w d events ≡ Some c → AllEntered w c
 open_from w d c v [] world is up all h = subst (λ (x : CoreState). AllEntered w x) (some_core d c h) all
@@ -142,7 +176,7 @@ open_from w d c v (e ∷ events) world is up all h =
     let at = through (λ b. core_from w b events) (core_step w d e) c h in
     let made = got_step w d e (parts_step w d.parts e) at.0 at.1 in
     let step = open_step w d v e made.0 world made.1 is up all in
-    open_from w at.0.core c (planted_by v e) events world (subst (λ (x : CoreState). Sound w x (planted_by v e)) made.2 (sound_step w d v e made.0 world made.1 is))
+    open_from w at.0.core c (planted_by w v e) events world (subst (λ (x : CoreState). Sound w x (planted_by w v e)) made.2 (sound_step w d v e made.0 world made.1 is))
     (subst (λ (x : CoreState). Up w x.parts) made.2 step.0) (subst (λ (x : CoreState). AllEntered w x) made.2 step.1) at.2
 
 -- what is still to be planted before any other event
@@ -155,11 +189,20 @@ ready w c events none coming p lt pos = elim (coming p lt pos) [
   | inr now ↦ now
 ]
 
-planted_step : (w : World) (d : CoreState) (v : View) (s p : ℕ) (x : Stepped) (more : List ℕ) → Sound w d v → may_plant w d.parts s p ≡ true → (q : ℕ) → q < length w.places → 0 < window_at (plan_in w) q →
-    ((p ≡ q) ⊎ Has q more) ⊎ ((word_at d.parts.cells q).tag ≡ window_tag (window_at (plan_in w) q)) → Has q more ⊎ ((word_at (set d.parts.cells p (breakpoint_of s)) q).tag ≡ window_tag (window_at (plan_in w) q))
-planted_step w d v s p x more is may q lt pos (inl (inl same)) = inr (up_cell w d.parts p (breakpoint_of s) is.ruled.cells (λ l some. plant_tag w d.parts s p may) q lt pos (λ n. absurd (n (sym same))))
-planted_step w d v s p x more is may q lt pos (inl (inr later)) = inl later
-planted_step w d v s p x more is may q lt pos (inr now) = inr (up_cell w d.parts p (breakpoint_of s) is.ruled.cells (λ l some. plant_tag w d.parts s p may) q lt pos (λ n. now))
+-- what a plant leaves to be planted
+planted_step : (w : World) (d : CoreState) (v : View) (s p : ℕ) (x : Stepped) (more : List ℕ) → Sound w d v → IsWholePlant w d.parts s p x ⊎ Changed w d.parts false s p x → (q : ℕ) → q < length w.places → 0 < window_at (plan_in w) q →
+    ((p ≡ q) ⊎ Has q more) ⊎ ((word_at d.parts.cells q).tag ≡ window_tag (window_at (plan_in w) q)) → Has q more ⊎ ((word_at x.parts.cells q).tag ≡ window_tag (window_at (plan_in w) q))
+planted_step w d v s p x more is how q lt pos (inl (inr later)) = inl later
+planted_step w d v s p x more is (inl whole) q lt pos (inl (inl same)) = inr (subst (λ (y : Stepped). (word_at y.parts.cells q).tag ≡ window_tag (window_at (plan_in w) q)) (sym whole.made)
+    (up_cell w d.parts p (breakpoint_of s) is.ruled.cells (λ l some. plant_tag w d.parts s p whole.may) q lt pos (λ n. absurd (n (sym same)))))
+planted_step w d v s p x more is (inl whole) q lt pos (inr now) = inr (subst (λ (y : Stepped). (word_at y.parts.cells q).tag ≡ window_tag (window_at (plan_in w) q)) (sym whole.made)
+    (up_cell w d.parts p (breakpoint_of s) is.ruled.cells (λ l some. plant_tag w d.parts s p whole.may) q lt pos (λ n. now)))
+planted_step w d v s p x more is (inr by) q lt pos (inl (inl same)) = absurd (not_own w d v false s p q x is by pos (sym same))
+planted_step w d v s p x more is (inr by) q lt pos (inr now) = inr (cell_stays w d v false s p x is by q lt pos ∙ now)
+
+entered_plant : (w : World) (d : CoreState) (s : SessNo) (p : PlaceNo) (x : Stepped) → IsWholePlant w d.parts s.0 p.0 x ⊎ Changed w d.parts false s.0 p.0 x → AllEntered w d → AllEntered w (core_after w d (Plant s p) x).core
+entered_plant w d s p x (inl whole) all = whole_entered w d s p x whole all
+entered_plant w d s p x (inr by) all = plant_entered w d s p x by all
 
 first_from : (w : World) (d c : CoreState) (v : View) (events : List Event) → IsWorld w → Sound w d v → AllEntered w d → Coming w d.parts events → core_from w d events ≡ Some c → AllEntered w c
 first_from w d c v [] world is all coming h = subst (λ (x : CoreState). AllEntered w x) (some_core d c h) all
@@ -167,17 +210,14 @@ first_from w d c v (Fetch t ∷ events) world is all coming h = open_from w d c 
 first_from w d c v (Mark t ∷ events) world is all coming h = open_from w d c v (Mark t ∷ events) world is (ready w d.parts (Mark t ∷ events) refl coming) all h
 first_from w d c v (Lift t ∷ events) world is all coming h = open_from w d c v (Lift t ∷ events) world is (ready w d.parts (Lift t ∷ events) refl coming) all h
 first_from w d c v (Do t ∷ events) world is all coming h = open_from w d c v (Do t ∷ events) world is (ready w d.parts (Do t ∷ events) refl coming) all h
+first_from w d c v (Close s p ∷ events) world is all coming h = open_from w d c v (Close s p ∷ events) world is (ready w d.parts (Close s p ∷ events) refl coming) all h
 first_from w d c v (Plant s p ∷ events) world is all coming h =
     let at = through (λ b. core_from w b events) (core_step w d (Plant s p)) c h in
     let made = got_step w d (Plant s p) (parts_step w d.parts (Plant s p)) at.0 at.1 in
-    let by : (may_plant w d.parts s.0 p.0 ≡ true) × (Some (record { parts = with_cell d.parts p.0 (breakpoint_of s.0); shown = Planted }) ≡ Some made.0) =
-    exists_by (may_plant w d.parts s.0 p.0) (Some (record { parts = with_cell d.parts p.0 (breakpoint_of s.0); shown = Planted })) made.0 made.1 in
-    let parts : with_cell d.parts p.0 (breakpoint_of s.0) ≡ made.0.parts = ap (λ (y : Stepped). y.parts) (some_stepped _ made.0 by.1) in
-    let after : Coming w made.0.parts events = subst (λ (y : Parts). Coming w y events) parts (λ q lt pos. planted_step w d v s.0 p.0 made.0 (planted_first events) is by.0 q lt pos (coming q lt pos)) in
-    let tasks : d.parts.tasks ≡ made.0.parts.tasks = ap (λ (y : Parts). y.tasks) parts in
-    let logs : AllEntered w (core_after w d (Plant s p) made.0).core = subst (λ (ts : List TaskPart). (t : ℕ) → t < length ts → Entered w (d.logs t)) tasks all in
-    first_from w at.0.core c (planted_by v (Plant s p)) events world (subst (λ (x : CoreState). Sound w x (planted_by v (Plant s p))) made.2 (sound_step w d v (Plant s p) made.0 world made.1 is))
-    (subst (λ (x : CoreState). AllEntered w x) made.2 logs) (subst (λ (x : CoreState). Coming w x.parts events) made.2 after) at.2
+    let how : IsWholePlant w d.parts s.0 p.0 made.0 ⊎ Changed w d.parts false s.0 p.0 made.0 = plant_cases w d.parts s.0 p.0 made.0 made.1 in
+    let after : Coming w made.0.parts events = λ q lt pos. planted_step w d v s.0 p.0 made.0 (planted_first events) is how q lt pos (coming q lt pos) in
+    first_from w at.0.core c (planted_by w v (Plant s p)) events world (subst (λ (x : CoreState). Sound w x (planted_by w v (Plant s p))) made.2 (sound_step w d v (Plant s p) made.0 world made.1 is))
+    (subst (λ (x : CoreState). AllEntered w x) made.2 (entered_plant w d s p made.0 how all)) (subst (λ (x : CoreState). Coming w x.parts events) made.2 after) at.2
 
 run_entered : (w : World) (c : CoreState) (events : List Event) → IsWorld w → ArePlantedFirst w events → core_run w events ≡ Some c → AllEntered w c
 run_entered w c events world first h = first_from w (core_start w) c (first_planter (length w.job.tasks)) events world (sound_first w world) (λ t l. tt) (λ p lt pos. inl (first p lt pos)) h
@@ -187,15 +227,17 @@ run_entered w c events world first h = first_from w (core_start w) c (first_plan
 abbrev noted_one : ℕ → Fact → Noted
 noted_one p f = record { place = p; fact = Some f }
 
-shown_noted : (s p : ℕ) (f : Fact) (log : List Entry) → HasShown s p f log → Has (noted_one p f) (logged log)
+shown_noted : (s p : ℕ) (f : Fact) (log : List Item) → HasShown s p f log → Has (noted_one p f) (logged log)
 shown_noted s p f [] h = absurd h
-shown_noted s p f (e ∷ log) (inl at) = right-append (noted_one p f) (logged log) (record { place = e.place; fact = e.fact } ∷ [])
+shown_noted s p f (Met e ∷ log) (inl at) = right-append (noted_one p f) (logged log) (record { place = e.place; fact = e.fact } ∷ [])
     (inl (ap (λ (n : ℕ). record { place = n; fact = e.fact }) at.0 ∙ ap (λ (o : Option Fact). record { place = p; fact = o }) at.2))
-shown_noted s p f (e ∷ log) (inr h) = left-append (noted_one p f) (logged log) (record { place = e.place; fact = e.fact } ∷ []) (shown_noted s p f log h)
+shown_noted s p f (Met e ∷ log) (inr h) = left-append (noted_one p f) (logged log) (record { place = e.place; fact = e.fact } ∷ []) (shown_noted s p f log h)
+shown_noted s p f (Gave q tag ∷ log) h = shown_noted s p f log h
 
-noted_shown : (w : World) (p : ℕ) (f : Fact) (log : List Entry) → 0 < window_at (plan_in w) p → Entered w log → Has (noted_one p f) (logged log) → HasShown (window_at (plan_in w) p) p f log
+noted_shown : (w : World) (p : ℕ) (f : Fact) (log : List Item) → 0 < window_at (plan_in w) p → Entered w log → Has (noted_one p f) (logged log) → HasShown (window_at (plan_in w) p) p f log
 noted_shown w p f [] pos is h = absurd h
-noted_shown w p f (e ∷ log) pos is h = elim (has-append (noted_one p f) (logged log) (record { place = e.place; fact = e.fact } ∷ []) h) [
+noted_shown w p f (Gave q tag ∷ log) pos is h = noted_shown w p f log pos is h
+noted_shown w p f (Met e ∷ log) pos is h = elim (has-append (noted_one p f) (logged log) (record { place = e.place; fact = e.fact } ∷ []) h) [
   | inl old ↦ inr (noted_shown w p f log pos is.1 old)
   | inr new ↦ elim new [
     | inl same ↦
@@ -336,7 +378,7 @@ tasks_in w world i l = below_one _ _ (world.job.are_tasks i no_task l).phase wor
 -- the session of a window is one of the job's, whose phases are one
 window_below : (n : ℕ) (ss : List SessionView) (m : ℕ) → 0 < window_from n ss 0 m → (k : ℕ) × (k < length ss) × (window_from n ss 0 m ≡ n + k)
 window_below n [] m h = absurd (omega arith)
-window_below n (s ∷ ss) m h = by (observes 0 m s) h (λ g. window_below (n + 1) ss m g)
+window_below n (s ∷ ss) m h = by (is_whole s && observes 0 m s) h (λ g. window_below (n + 1) ss m g)
   where
     by : (b : Bool) → 0 < (if b then n else window_from (n + 1) ss 0 m) → (0 < window_from (n + 1) ss 0 m → (k : ℕ) × (k < length ss) × (window_from (n + 1) ss 0 m ≡ n + 1 + k)) → (k : ℕ) × (k < length (s ∷ ss)) × ((if b then n else window_from (n + 1) ss 0 m) ≡ n + k)
     by true g more = (0, omega arith, omega arith)
@@ -358,7 +400,7 @@ same_sets a b h =
     ∙ (ap (λ (x : Bool). record { ran = b.ran; went = x; stayed = a.stayed }) (h Went) ∙ ap (λ (x : Bool). record { ran = b.ran; went = b.went; stayed = x }) (h Stayed))
 
 -- the log of a task that has ended
-ended_log : (w : World) (t : ℕ) (u : TaskPart) (log : List Entry) (e : Ending) → u.stage ≡ Ended e → IsAlone w t u → HasLog w t u log → logged log ≡ noted w (trace_in w t)
+ended_log : (w : World) (t : ℕ) (u : TaskPart) (log : List Item) (e : Ending) → u.stage ≡ Ended e → IsAlone w t u → HasLog w t u log → logged log ≡ noted w (trace_in w t)
 ended_log w t u log e at run has =
     let trace : trace_in w t ≡ (alone w t u.state.done).trace = ap (λ (r : Run). r.trace) (run.ended e at) in
     let hand : visits_in_hand u.stage (step_of w t u).visits ≡ [] = ap (λ (s : Stage). visits_in_hand s (step_of w t u).visits) at in
@@ -367,8 +409,8 @@ ended_log w t u log e at run has =
 -- after every list of events
 pub run_whole : (w : World) (c : CoreState) (events : List Event) → IsWorld w → core_run w events ≡ Some c → AreWhole w events c.parts
 run_whole w c events world h ended first p lt pos =
-    let is : Sound w c (planter_from (first_planter (length w.job.tasks)) events) = run_sound w c events world h in
-    let v : View = planter_from (first_planter (length w.job.tasks)) events in
+    let is : Sound w c (planter_from w (first_planter (length w.job.tasks)) events) = run_sound w c events world h in
+    let v : View = planter_from w (first_planter (length w.job.tasks)) events in
     let s : ℕ = window_at (plan_in w) p in
     let place : Place = place_of w.places p in
     let entered : AllEntered w c = run_entered w c events world first h in

@@ -1,13 +1,10 @@
 -- Each task of a core is where its run alone is after as many instructions.
-use Rattle.std.specs.Prelude.{◌≡◌, ℕ, ◌+◌, ◌<◌, ◌≤◌, Bool, true, false, List, [], length}
-use Rattle.cov_base.specs.Memory.{Memory}
-use Rattle.cov_base.specs.States.{State, Visit}
+use Rattle.std.specs.Prelude.{◌≡◌, ℕ, ◌<◌, length}
 use Rattle.s370_state.specs.declared.endings.Ending.{Ending}
 use Rattle.s370_exec.specs.Solo.{Run, solo_run, run_ended}
 use Rattle.session_book.specs.Sessions.{task_of, first_state}
 use Rattle.interleave_core.specs.World.{World, TaskPart, Parts, part_of, memory_in, budget_in}
-use Rattle.interleave_core.specs.declared.stage.Stage.{Stage}
-use Rattle.interleave_core.specs.declared.stage.Stage.TheVariants.{Ready, Awaiting, Holding, Ended}
+use Rattle.interleave_core.specs.declared.stage.Stage.TheVariants.{Ended}
 
 -- task t's run alone, of at most so many instructions
 abbrev pub alone : World → ℕ → ℕ → Run

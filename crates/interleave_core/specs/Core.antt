@@ -1,11 +1,10 @@
 -- The core: what it stores and each task's log, its deterministic step, and its run by a list of events.
-use Rattle.std.specs.Prelude.{◌≡◌, ℕ, Bool, true, false, nat_eq, if◌then◌else◌, Option, Some, None, option_map, List, [], ◌∷◌, ◌++◌}
-use Rattle.cov_base.specs.FactSet.{FactSet}
-use Rattle.cov_base.specs.declared.facts.Fact.{Fact}
+use Rattle.std.specs.Prelude.{◌≡◌, ℕ, ◌*◌, Bool, false, nat_eq, if◌then◌else◌, Option, Some, None, option_map, List, [], ◌∷◌, ◌++◌}
 use Rattle.s370_exec.specs.Solo.{visit_of}
-use Rattle.module_area.specs.declared.cells.Cell.{Cell}
+use Rattle.module_area.specs.Parties.{window_tag}
 use Rattle.interleave_core.specs.Alone.{AreAlone}
-use Rattle.interleave_core.specs.Entries.{Entry}
+use Rattle.interleave_core.specs.Control.{controller_of}
+use Rattle.interleave_core.specs.Entries.{Entry, Item, Met, Gave}
 use Rattle.interleave_core.specs.Exact.{AreExact}
 use Rattle.interleave_core.specs.Logs.{HaveLogs}
 use Rattle.interleave_core.specs.Parties.{KeepRule}
@@ -13,17 +12,17 @@ use Rattle.interleave_core.specs.Whole.{AreWhole}
 use Rattle.interleave_core.specs.World.{World, TaskPart, Parts, part_of, first_parts}
 use Rattle.interleave_core.specs.Steps.{Stepped, parts_step, step_of, fact_in}
 use Rattle.interleave_core.specs.declared.events.Event.{Event}
-use Rattle.interleave_core.specs.declared.events.Event.TheVariants.{Fetch, Mark, Lift, Do, Plant}
+use Rattle.interleave_core.specs.declared.events.Event.TheVariants.{Fetch, Mark, Lift, Do, Plant, Close}
 use Rattle.interleave_core.specs.declared.events.Shown.{Shown}
-use Rattle.interleave_core.specs.declared.events.Shown.TheVariants.{Fetched, Marked, Lifted, Done, Planted}
+use Rattle.interleave_core.specs.declared.events.Shown.TheVariants.{Fetched, Marked, Lifted}
 use Rattle.interleave_core.specs.declared.stage.Hand.{Hand}
 use Rattle.interleave_core.specs.declared.stage.Stage.{Stage}
-use Rattle.interleave_core.specs.declared.stage.Stage.TheVariants.{Ready, Awaiting, Holding, Ended}
+use Rattle.interleave_core.specs.declared.stage.Stage.TheVariants.{Holding}
 
--- what is stored, and for each task its log, the newest entry first
+-- what is stored, and for each task its log, the newest item first
 pub record CoreState : Type 0 where
   pub parts : Parts
-  pub logs : ℕ → List Entry
+  pub logs : ℕ → List Item
 
 abbrev pub core_start : World → CoreState
 core_start w = record { parts = first_parts w; logs = λ t. [] }
@@ -38,23 +37,35 @@ entry_of w t u h = record {
 }
 
 -- the log with an entry for the cell in hand
-abbrev pub with_entry : World → ℕ → TaskPart → List Entry → Stage → List Entry
-with_entry w t u log (Holding h) = entry_of w t u h ∷ log
+abbrev pub with_entry : World → ℕ → TaskPart → List Item → Stage → List Item
+with_entry w t u log (Holding h) = Met (entry_of w t u h) ∷ log
 with_entry w t u log stage = log
 
 -- the task's log after an event that showed this and left it so
-abbrev pub log_after : World → ℕ → TaskPart → Shown → List Entry → List Entry
+abbrev pub log_after : World → ℕ → TaskPart → Shown → List Item → List Item
 log_after w t u (Fetched cell) log = with_entry w t u log u.stage
-log_after w t u (Marked found) (e ∷ log) = record e { found = Some found } ∷ log
-log_after w t u (Lifted taken) (e ∷ log) = record e { lifted = Some taken } ∷ log
+log_after w t u (Marked found) (Met e ∷ log) = Met (record e { found = Some found }) ∷ log
+log_after w t u (Lifted taken) (Met e ∷ log) = Met (record e { lifted = Some taken }) ∷ log
 log_after w t u shown log = log
 
-abbrev pub is_by : Event → ℕ → Bool
-is_by (Fetch t) u = nat_eq t.0 u
-is_by (Mark t) u = nat_eq t.0 u
-is_by (Lift t) u = nat_eq t.0 u
-is_by (Do t) u = nat_eq t.0 u
-is_by (Plant s p) u = false
+-- and the tag that the event gave
+abbrev pub with_tag : Event → List Item → List Item
+with_tag (Plant s p) log = Gave p.0 (window_tag s.0) ∷ log
+with_tag (Close s p) log = Gave p.0 (2 * s.0) ∷ log
+with_tag e log = log
+
+abbrev pub is_task : Option ℕ → ℕ → Bool
+is_task None u = false
+is_task (Some t) u = nat_eq t u
+
+-- the event is the task's: also the planting and the closing of a session that it controls
+abbrev pub is_by : World → Event → ℕ → Bool
+is_by w (Fetch t) u = nat_eq t.0 u
+is_by w (Mark t) u = nat_eq t.0 u
+is_by w (Lift t) u = nat_eq t.0 u
+is_by w (Do t) u = nat_eq t.0 u
+is_by w (Plant s p) u = is_task (controller_of w s.0) u
+is_by w (Close s p) u = is_task (controller_of w s.0) u
 
 pub record CoreStepped : Type 0 where
   pub core : CoreState
@@ -65,7 +76,7 @@ abbrev pub core_after : World → CoreState → Event → Stepped → CoreSteppe
 core_after w c e x = record {
   core = record {
     parts = x.parts;
-    logs = λ u. if is_by e u then log_after w u (part_of x.parts u) x.shown (c.logs u) else c.logs u;
+    logs = λ u. if is_by w e u then with_tag e (log_after w u (part_of x.parts u) x.shown (c.logs u)) else c.logs u;
   };
   shown = x.shown;
 }
@@ -94,7 +105,7 @@ pub record Stands (w : World) (events : List Event) (c : CoreState) : Type 0 whe
   pub logs : HaveLogs w c.parts c.logs
   -- the rule of an area holds of the cells and sets, and of the notes of the planter and the tasks
   pub rule : KeepRule w events c.parts c.logs
-  -- once all tasks have ended, each set has the facts of the executions in its session's window
+  -- once all tasks have ended, each set has the facts of the executions that its session's breakpoint stood over
   pub exact : AreExact w c.parts c.logs
   -- it is the whole session's set where all windows were planted before any other event
   pub whole : AreWhole w events c.parts

@@ -1,4 +1,4 @@
--- The entries of a task's log.
+-- A task's log: its fetches, and the tags that it gave.
 use Rattle.std.specs.Prelude.{ℕ, Bool, Option}
 use Rattle.cov_base.specs.FactSet.{FactSet}
 use Rattle.cov_base.specs.declared.facts.Fact.{Fact}
@@ -12,3 +12,8 @@ pub record Entry : Type 0 where
   pub fact : Option Fact
   pub found : Option FactSet
   pub lifted : Option Bool
+
+pub data Item : Type 0 where
+  Met : Entry → Item
+  -- place and tag, by planting or closing
+  Gave : ℕ → ℕ → Item

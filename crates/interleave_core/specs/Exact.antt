@@ -6,16 +6,17 @@ use Rattle.s370_state.specs.declared.endings.Ending.{Ending}
 use Rattle.module_area.specs.Parties.{window_tag}
 use Rattle.interleave_core.specs.World.{World, Parts, part_of}
 use Rattle.interleave_core.specs.Steps.{set_of}
-use Rattle.interleave_core.specs.Entries.{Entry}
+use Rattle.interleave_core.specs.Entries.{Item, Met, Gave}
 use Rattle.interleave_core.specs.declared.stage.Stage.TheVariants.{Ended}
 
 -- an execution at place p in the window of session s showed the fact
-abbrev pub HasShown : ℕ → ℕ → Fact → List Entry → Type 0
+abbrev pub HasShown : ℕ → ℕ → Fact → List Item → Type 0
 HasShown s p f [] = ⊥
-HasShown s p f (e ∷ log) = ((e.place ≡ p) × (e.cell.tag ≡ window_tag s) × (e.fact ≡ Some f)) ⊎ HasShown s p f log
+HasShown s p f (Met e ∷ log) = ((e.place ≡ p) × (e.cell.tag ≡ window_tag s) × (e.fact ≡ Some f)) ⊎ HasShown s p f log
+HasShown s p f (Gave q t ∷ log) = HasShown s p f log
 
 abbrev pub HaveEnded : Parts → Type 0
 HaveEnded c = (t : ℕ) → t < length c.tasks → (e : Ending) × ((part_of c t).stage ≡ Ended e)
 
-abbrev pub AreExact : World → Parts → (ℕ → List Entry) → Type 0
+abbrev pub AreExact : World → Parts → (ℕ → List Item) → Type 0
 AreExact w c logs = HaveEnded c → (s p : ℕ) (f : Fact) → 0 < s → p < length w.places → (has_fact (set_of w c s p) f ≡ true) ↔ ((t : ℕ) × (t < length c.tasks) × HasShown s p f (logs t))

@@ -1,5 +1,5 @@
 -- A task's events one by one until it has ended.
-use Rattle.std.specs.Prelude.{◌≡◌, ℕ, zero, suc, ◌+◌, ◌-◌, ◌*◌, true, false, if◌then◌else◌, Option, Some, None, is_none, IsSome, List, [], ◌∷◌, ◌++◌, All}
+use Rattle.std.specs.Prelude.{◌≡◌, ℕ, zero, suc, ◌+◌, ◌-◌, ◌*◌, true, false, if◌then◌else◌, Option, Some, None, is_none, IsSome, List, [], ◌∷◌, ◌++◌, length, All}
 use Rattle.cov_base.specs.declared.numbers.TaskNo.{TaskNo}
 use Rattle.interleave_core.specs.World.{World, TaskPart, Parts, part_of, budget_in}
 use Rattle.interleave_core.specs.Steps.{Stepped, parts_step, is_spent}
@@ -7,7 +7,6 @@ use Rattle.interleave_core.specs.Core.{CoreState, core_from, is_by}
 use Rattle.interleave_core.specs.Results.{next_of, results_of}
 use Rattle.interleave_core.specs.declared.stage.Due.{Due}
 use Rattle.interleave_core.specs.declared.stage.Due.TheVariants.{Marking, Lifting, Nothing}
-use Rattle.interleave_core.specs.declared.stage.Hand.{Hand}
 use Rattle.interleave_core.specs.declared.stage.Stage.{Stage}
 use Rattle.interleave_core.specs.declared.stage.Stage.TheVariants.{Ready, Awaiting, Holding, Ended}
 use Rattle.interleave_core.specs.declared.events.Event.{Event}
@@ -22,12 +21,20 @@ due_left Marking = 3
 due_left Lifting = 2
 due_left Nothing = 1
 
--- More than the events that are left to a task, by the instructions that are left: at most 8 an instruction, which is
--- fetched, marked, lifted and done, and so is the subject of an EX.
+-- of an instruction: 8, since it is fetched, marked, lifted and done, and so is the subject of an EX, and one for each
+-- place at which it may plant or close
+abbrev pub left_each : World → ℕ
+left_each w = 8 + length w.places
+
+-- the instructions that are left, and the places that are left to an SVC in hand
+abbrev pub left_later : World → ℕ → TaskPart → ℕ
+left_later w t u = left_each w * (budget_in w t - u.state.done) + (length w.places - u.changed)
+
+-- more than the events that are left to a task
 abbrev pub left_of : World → ℕ → TaskPart → Stage → ℕ
-left_of w t u Ready = if is_spent w t u.state then 1 else 8 * (budget_in w t - u.state.done) + 9
-left_of w t u Awaiting = 8 * (budget_in w t - u.state.done) + 5
-left_of w t u (Holding h) = 8 * (budget_in w t - u.state.done) + due_left h.due + (if h.subject then 1 else 5)
+left_of w t u Ready = if is_spent w t u.state then 1 else left_later w t u + 9
+left_of w t u Awaiting = left_later w t u + 5
+left_of w t u (Holding h) = left_later w t u + due_left h.due + (if h.subject then 1 else 5)
 left_of w t u (Ended e) = 0
 
 abbrev pub left : World → Parts → ℕ → ℕ
@@ -66,7 +73,7 @@ pub record Leads (w : World) (c : CoreState) (events : List Event) (parts : Part
 -- it has ended.
 pub record HasGone (w : World) (old new : Parts) (t : TaskNo) : Type 0 where
   pub begun : is_none (next_of w old t) ≡ false
-  pub own : All (λ e. is_by e t.0 ≡ true) (go_events w (left w old t.0) old t)
+  pub own : All (λ e. is_by w e t.0 ≡ true) (go_events w (left w old t.0) old t)
   pub parts : new ≡ go w (left w old t.0) old t
   pub leads : (c : CoreState) → c.parts ≡ old → Leads w c (go_events w (left w old t.0) old t) new
   pub ended : IsSome (results_of new t.0).ending

@@ -1,6 +1,7 @@
 pub mod World
 pub mod Alone
 pub mod Steps
+pub mod Control
 pub mod Core
 pub mod Entries
 pub mod Exact

@@ -1,16 +1,15 @@
 -- Each task's log has the places and facts of its run alone so far, and of the instruction in hand.
-use Rattle.std.specs.Prelude.{◌≡◌, ℕ, ◌<◌, Bool, if◌then◌else◌, Option, Some, None, List, [], ◌∷◌, ◌++◌, length}
+use Rattle.std.specs.Prelude.{◌≡◌, ℕ, ◌<◌, if◌then◌else◌, Option, Some, None, List, [], ◌∷◌, ◌++◌, length}
 use Rattle.cov_base.specs.Facts.{fact_of}
 use Rattle.cov_base.specs.States.{Visit}
 use Rattle.cov_base.specs.declared.facts.Fact.{Fact}
 use Rattle.module_area.specs.PlanView.{kind_at}
 use Rattle.interleave_core.specs.World.{World, TaskPart, Parts, part_of, plan_in, place_at}
 use Rattle.interleave_core.specs.Steps.{step_of}
-use Rattle.interleave_core.specs.Entries.{Entry}
+use Rattle.interleave_core.specs.Entries.{Item, Met, Gave}
 use Rattle.interleave_core.specs.Alone.{alone}
-use Rattle.interleave_core.specs.declared.stage.Hand.{Hand}
 use Rattle.interleave_core.specs.declared.stage.Stage.{Stage}
-use Rattle.interleave_core.specs.declared.stage.Stage.TheVariants.{Ready, Awaiting, Holding, Ended}
+use Rattle.interleave_core.specs.declared.stage.Stage.TheVariants.{Awaiting, Holding}
 
 -- a place that was visited, and the fact of the visit where it was begun
 pub record Noted : Type 0 where
@@ -29,10 +28,11 @@ abbrev pub noted : World → List Visit → List Noted
 noted w [] = []
 noted w (v ∷ vs) = note w v (place_at w v.at) ++ noted w vs
 
--- of a log, oldest entry first
-abbrev pub logged : List Entry → List Noted
+-- of a log the fetches, the oldest first
+abbrev pub logged : List Item → List Noted
 logged [] = []
-logged (e ∷ es) = logged es ++ record { place = e.place; fact = e.fact } ∷ []
+logged (Met e ∷ log) = logged log ++ record { place = e.place; fact = e.fact } ∷ []
+logged (Gave p tag ∷ log) = logged log
 
 abbrev pub first_visit : List Visit → List Visit
 first_visit [] = []
@@ -44,8 +44,8 @@ visits_in_hand Awaiting visits = first_visit visits
 visits_in_hand (Holding h) visits = if h.subject then visits else first_visit visits
 visits_in_hand stage visits = []
 
-abbrev pub HasLog : World → ℕ → TaskPart → List Entry → Type 0
+abbrev pub HasLog : World → ℕ → TaskPart → List Item → Type 0
 HasLog w t u log = logged log ≡ noted w ((alone w t u.state.done).trace ++ visits_in_hand u.stage (step_of w t u).visits)
 
-abbrev pub HaveLogs : World → Parts → (ℕ → List Entry) → Type 0
+abbrev pub HaveLogs : World → Parts → (ℕ → List Item) → Type 0
 HaveLogs w c logs = (t : ℕ) → t < length c.tasks → HasLog w t (part_of c t) (logs t)

@@ -1,16 +1,17 @@
 -- The notes of a core's parties: those of a task follow from its log, those of the planter from the events.
-use Rattle.std.specs.Prelude.{ℕ, ◌+◌, zero, suc, Bool, Option, Some, None, List, [], ◌∷◌, length}
+use Rattle.std.specs.Prelude.{ℕ, ◌+◌, zero, suc, Bool, if◌then◌else◌, Option, Some, None, is_none, List, [], ◌∷◌, length}
 use Rattle.cov_base.specs.declared.facts.Fact.{Fact}
 use Rattle.cov_base.specs.FactSet.{FactSet}
 use Rattle.module_area.specs.declared.parties.Role.TheVariants.{Root, Task}
 use Rattle.module_area.specs.declared.parties.View.{View}
 use Rattle.module_area.specs.Held.{Held}
-use Rattle.module_area.specs.Parties.{tag_session, blank, fetching, marking, lifting, planting}
+use Rattle.module_area.specs.Parties.{tag_session, blank, fetching, marking, lifting, tagging, planting}
 use Rattle.module_area.specs.CellWords.{word_at}
 use Rattle.module_area.specs.PlanView.{PlanView}
 use Rattle.interleave_core.specs.World.{World, Parts, plan_in}
 use Rattle.interleave_core.specs.Steps.{set_of}
-use Rattle.interleave_core.specs.Entries.{Entry}
+use Rattle.interleave_core.specs.Control.{controller_of}
+use Rattle.interleave_core.specs.Entries.{Entry, Item, Met, Gave}
 use Rattle.interleave_core.specs.declared.events.Event.{Event}
 use Rattle.interleave_core.specs.declared.events.Event.TheVariants.{Plant}
 
@@ -28,12 +29,13 @@ abbrev pub with_notes : PlanView → Entry → View → View
 with_notes plan e v = with_lift e e.lifted (with_mark plan e e.found e.fact (fetching plan e.place e.cell v))
 
 -- task t with its log
-abbrev pub task_view : World → ℕ → List Entry → View
+abbrev pub task_view : World → ℕ → List Item → View
 task_view w t [] = blank (Task t)
-task_view w t (e ∷ log) = with_notes (plan_in w) e (task_view w t log)
+task_view w t (Met e ∷ log) = with_notes (plan_in w) e (task_view w t log)
+task_view w t (Gave p tag ∷ log) = tagging p tag (task_view w t log)
 
 -- so many tasks, from task t on
-abbrev pub task_views : World → (ℕ → List Entry) → ℕ → ℕ → List View
+abbrev pub task_views : World → (ℕ → List Item) → ℕ → ℕ → List View
 task_views w logs t zero = []
 task_views w logs t (suc n) = task_view w t (logs t) ∷ task_views w logs (t + 1) n
 
@@ -46,17 +48,18 @@ numbers (suc n) = n ∷ numbers n
 abbrev pub first_planter : ℕ → View
 first_planter n = record (blank Root) { given = numbers n }
 
-abbrev pub planted_by : View → Event → View
-planted_by v (Plant s p) = planting s.0 p.0 v
-planted_by v e = v
+-- the planter plants the sessions that no task controls
+abbrev pub planted_by : World → View → Event → View
+planted_by w v (Plant s p) = if is_none (controller_of w s.0) then planting s.0 p.0 v else v
+planted_by w v e = v
 
-abbrev pub planter_from : View → List Event → View
-planter_from v [] = v
-planter_from v (e ∷ events) = planter_from (planted_by v e) events
+abbrev pub planter_from : World → View → List Event → View
+planter_from w v [] = v
+planter_from w v (e ∷ events) = planter_from w (planted_by w v e) events
 
-abbrev pub parties : World → List Event → (ℕ → List Entry) → List View
-parties w events logs = planter_from (first_planter (length w.job.tasks)) events ∷ task_views w logs 0 (length w.job.tasks)
+abbrev pub parties : World → List Event → (ℕ → List Item) → List View
+parties w events logs = planter_from w (first_planter (length w.job.tasks)) events ∷ task_views w logs 0 (length w.job.tasks)
 
 -- the rule of an area holds of the core's cells and sets and of its parties after these events
-abbrev pub KeepRule : World → List Event → Parts → (ℕ → List Entry) → Type 0
+abbrev pub KeepRule : World → List Event → Parts → (ℕ → List Item) → Type 0
 KeepRule w events c logs = Held (plan_in w) (λ p. word_at c.cells p) (λ s p. set_of w c s p) (parties w events logs)

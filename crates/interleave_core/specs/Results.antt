@@ -8,9 +8,10 @@ use Rattle.s370_state.specs.declared.endings.Ending.{Ending}
 use Rattle.session_book.specs.Results.{ResultView}
 use Rattle.interleave_core.specs.World.{World, TaskPart, Parts, part_of, plan_in}
 use Rattle.interleave_core.specs.Core.{is_by}
-use Rattle.interleave_core.specs.Steps.{Stepped, parts_step, place_due, set_of}
+use Rattle.interleave_core.specs.Control.{PlaceChange}
+use Rattle.interleave_core.specs.Steps.{Stepped, parts_step, place_due, change_due, set_of}
 use Rattle.interleave_core.specs.declared.events.Event.{Event}
-use Rattle.interleave_core.specs.declared.events.Event.TheVariants.{Fetch, Mark, Lift, Do}
+use Rattle.interleave_core.specs.declared.events.Event.TheVariants.{Fetch, Mark, Lift, Do, Plant, Close}
 use Rattle.interleave_core.specs.declared.stage.Due.{Due}
 use Rattle.interleave_core.specs.declared.stage.Due.TheVariants.{Marking, Lifting, Nothing}
 use Rattle.interleave_core.specs.declared.stage.Stage.{Stage}
@@ -34,20 +35,25 @@ part_result u = record {
 abbrev pub results_of : Parts → ℕ → ResultView
 results_of c t = part_result (part_of c t)
 
-abbrev pub event_due : TaskNo → Due → Event
-event_due t Marking = Mark t
-event_due t Lifting = Lift t
-event_due t Nothing = Do t
+-- the planting or closing that is due, or else Do
+abbrev pub change_or_do : TaskNo → Option PlaceChange → Event
+change_or_do t None = Do t
+change_or_do t (Some x) = if x.closes then Close (record { 0 = x.session }) x.place else Plant (record { 0 = x.session }) x.place
 
-abbrev pub fetch_or_do : TaskNo → Option ℕ → Event
-fetch_or_do t None = Do t
-fetch_or_do t (Some p) = Fetch t
+abbrev pub event_due : TaskNo → Option PlaceChange → Due → Event
+event_due t change Marking = Mark t
+event_due t change Lifting = Lift t
+event_due t change Nothing = change_or_do t change
+
+abbrev pub fetch_or : TaskNo → Event → Option ℕ → Event
+fetch_or t other None = other
+fetch_or t other (Some p) = Fetch t
 
 -- the event of the task as it stands; none where it has ended
 abbrev pub stage_event : World → TaskNo → TaskPart → Stage → Option Event
-stage_event w t u Ready = Some (fetch_or_do t (place_due w t.0 u Ready))
+stage_event w t u Ready = Some (fetch_or t (change_or_do t (change_due w t.0 u Ready)) (place_due w t.0 u Ready))
 stage_event w t u Awaiting = Some (Fetch t)
-stage_event w t u (Holding h) = Some (event_due t h.due)
+stage_event w t u (Holding h) = Some (event_due t (change_due w t.0 u (Holding h)) h.due)
 stage_event w t u (Ended e) = None
 
 -- or doesn't exist
@@ -63,6 +69,6 @@ pub record Fits (w : World) (c : Parts) : Type 0 where
 
 -- the event is the task's, and possible
 pub record IsDue (w : World) (c : Parts) (t : ℕ) (e : Event) : Type 0 where
-  pub by : is_by e t ≡ true
+  pub by : is_by w e t ≡ true
   pub stepped : Stepped
   pub step : parts_step w c e ≡ Some stepped

@@ -1,12 +1,10 @@
 -- The events of a core: where each is possible, and what it changes in what a core stores.
-use Rattle.std.specs.Prelude.{ℕ, ◌+◌, ◌-◌, ◌*◌, Bool, true, false, not, ◌&&◌, nat_eq, nat_lt, nat_le, if◌then◌else◌, Option, Some, None, option_map, List, [], ◌∷◌, length, set}
+use Rattle.std.specs.Prelude.{ℕ, ◌+◌, ◌-◌, ◌*◌, Bool, true, false, not, ◌&&◌, ◌||◌, nat_eq, nat_lt, nat_le, if◌then◌else◌, Option, Some, None, is_none, option_map, option_and_then, List, ◌∷◌, length, set}
 use Rattle.cov_base.specs.Codes.{breakpoint}
 use Rattle.cov_base.specs.FactSet.{FactSet}
 use Rattle.cov_base.specs.Facts.{with_fact, is_full, fact_of}
 use Rattle.cov_base.specs.States.{State, Visit}
 use Rattle.cov_base.specs.declared.facts.Fact.{Fact}
-use Rattle.cov_base.specs.declared.facts.Kind.{Kind}
-use Rattle.s370_state.specs.declared.endings.Ending.{Ending}
 use Rattle.s370_state.specs.declared.endings.Ending.TheVariants.{Returned, Spent}
 use Rattle.s370_state.specs.declared.endings.Next.{Next}
 use Rattle.s370_state.specs.declared.endings.Next.TheVariants.{On, Ended as NextEnded}
@@ -18,10 +16,11 @@ use Rattle.module_area.specs.FinalsView.{index_of, set_in}
 use Rattle.module_area.specs.PlanView.{original_at, kind_at, window_at}
 use Rattle.module_area.specs.declared.cells.Cell.{Cell}
 use Rattle.interleave_core.specs.World.{World, TaskPart, Parts, plan_in, memory_in, budget_in, place_at, part_of}
+use Rattle.interleave_core.specs.Control.{PlaceChange, controller_of, change_of, next_place, after_change}
 use Rattle.interleave_core.specs.declared.events.Event.{Event}
-use Rattle.interleave_core.specs.declared.events.Event.TheVariants.{Fetch, Mark, Lift, Do, Plant}
+use Rattle.interleave_core.specs.declared.events.Event.TheVariants.{Fetch, Mark, Lift, Do, Plant, Close}
 use Rattle.interleave_core.specs.declared.events.Shown.{Shown}
-use Rattle.interleave_core.specs.declared.events.Shown.TheVariants.{Fetched, Marked, Lifted, Done, Planted}
+use Rattle.interleave_core.specs.declared.events.Shown.TheVariants.{Fetched, Marked, Lifted, Done, Planted, Closed}
 use Rattle.interleave_core.specs.declared.stage.Due.{Due}
 use Rattle.interleave_core.specs.declared.stage.Due.TheVariants.{Marking, Lifting, Nothing}
 use Rattle.interleave_core.specs.declared.stage.Hand.{Hand}
@@ -142,20 +141,17 @@ abbrev pub stage_after : Next → Stage
 stage_after On = Ready
 stage_after (NextEnded e) = Ended e
 
-abbrev pub executed : Step → TaskPart
-executed step = record { state = step.state; stage = stage_after step.next }
+-- the instruction that the task is at is executed
+abbrev pub executed : World → ℕ → TaskPart → TaskPart
+executed w t u = record (after_change (change_of w t u) u) { state = (step_of w t u).state; stage = stage_after (step_of w t u).next }
 
--- the instruction is executed whole, or from its subject on
-abbrev pub subject_executed : World → ℕ → TaskPart → TaskPart
-subject_executed w t u = executed (step_of w t u)
-
--- or the EX that it is, up to its subject, where a place begins there
+-- the EX that it is, up to its subject, where a place begins there, or the instruction whole
 abbrev pub awaits_or : TaskPart → TaskPart → Option ℕ → TaskPart
 awaits_or u whole None = whole
 awaits_or u whole (Some p) = with_stage u Awaiting
 
 abbrev pub instruction_executed : World → ℕ → TaskPart → TaskPart
-instruction_executed w t u = awaits_or u (executed (step_of w t u)) (subject_place w (step_of w t u).visits)
+instruction_executed w t u = awaits_or u (executed w t u) (subject_place w (step_of w t u).visits)
 
 abbrev pub unless_at : TaskPart → Option ℕ → Option TaskPart
 unless_at u None = Some u
@@ -168,11 +164,30 @@ ready_done w t u =
     else (if is_spent w t u.state then Some (with_stage u (Ended Spent))
     else unless_at (instruction_executed w t u) (place_at w u.state.machine.cpu.ia))
 
--- the task after a Do, which is possible where none of Fetch, Mark and Lift is
+-- the task after a Do, where none of Fetch, Mark and Lift is possible
+abbrev pub task_goes_on : World → ℕ → TaskPart → Stage → Option TaskPart
+task_goes_on w t u Ready = ready_done w t u
+task_goes_on w t u (Holding h) = if same_due h.due Nothing then Some (if h.subject then executed w t u else instruction_executed w t u) else None
+task_goes_on w t u stage = None
+
+-- whether that Do executes the instruction that the task is at
+abbrev pub executes : World → ℕ → TaskPart → Stage → Bool
+executes w t u Ready =
+    not (has_returned u.state) && (not (is_spent w t u.state) && (is_none (place_at w u.state.machine.cpu.ia) && is_none (subject_place w (step_of w t u).visits)))
+executes w t u (Holding h) = same_due h.due Nothing && (h.subject || is_none (subject_place w (step_of w t u).visits))
+executes w t u stage = false
+
+-- the place at which a session is to be planted or closed before
+abbrev pub change_due : World → ℕ → TaskPart → Stage → Option PlaceChange
+change_due w t u stage = if executes w t u stage then option_and_then (next_place u.changed) (change_of w t u) else None
+
+abbrev pub unless_due : Option PlaceChange → Option TaskPart → Option TaskPart
+unless_due None u = u
+unless_due (Some x) u = None
+
+-- the task after a Do, which is possible where no other event of the task is
 abbrev pub task_done : World → ℕ → TaskPart → Stage → Option TaskPart
-task_done w t u Ready = ready_done w t u
-task_done w t u (Holding h) = if same_due h.due Nothing then Some (if h.subject then subject_executed w t u else instruction_executed w t u) else None
-task_done w t u stage = None
+task_done w t u stage = unless_due (change_due w t u stage) (task_goes_on w t u stage)
 
 abbrev pub done_by : Parts → ℕ → TaskPart → Stepped
 done_by c t u = record { parts = with_task c t u; shown = Done }
@@ -183,16 +198,50 @@ do_step w c t u = option_map (done_by c t) (task_done w t u u.stage)
 abbrev pub breakpoint_of : ℕ → Cell
 breakpoint_of s = record { tag = 2 * s - 1; half = breakpoint }
 
+-- an event of a task that exists
+abbrev pub of_task : Parts → ℕ → (TaskPart → Option Stepped) → Option Stepped
+of_task c t step = if nat_lt t (length c.tasks) then step (part_of c t) else None
+
+abbrev pub closed_of : World → ℕ → ℕ → Cell
+closed_of w s p = record { tag = 2 * s; half = original_at (plan_in w) p }
+
+abbrev pub changed_cell : World → PlaceChange → Cell
+changed_cell w x = if x.closes then closed_of w x.session x.place.0 else breakpoint_of x.session
+
+-- a session is planted where the tag is lower than the one that it gives
+abbrev pub may_change : Parts → Bool → ℕ → ℕ → PlaceChange → Bool
+may_change c closes s p x =
+    (if closes then x.closes else not x.closes) && (nat_eq x.session s && (nat_eq x.place.0 p && (closes || nat_lt ((word_at c.cells p).tag + 1) (2 * s))))
+
+abbrev pub changed : World → Parts → ℕ → TaskPart → PlaceChange → Stepped
+changed w c t u x = record {
+  parts = with_task (with_cell c x.place.0 (changed_cell w x)) t (record u { changed = u.changed + 1 });
+  shown = if x.closes then Closed else Planted;
+}
+
+abbrev pub change_where : World → Parts → Bool → ℕ → ℕ → ℕ → TaskPart → PlaceChange → Option Stepped
+change_where w c closes s p t u x = if may_change c closes s p x then Some (changed w c t u x) else None
+
+-- Plant or Close of a controlled session, at the place that is due of its controller
+abbrev pub change_step : World → Parts → Bool → ℕ → ℕ → ℕ → TaskPart → Option Stepped
+change_step w c closes s p t u = option_and_then (change_where w c closes s p t u) (change_due w t u u.stage)
+
+abbrev pub by_controller : World → Parts → Bool → ℕ → ℕ → Option Stepped → Option ℕ → Option Stepped
+by_controller w c closes s p whole None = whole
+by_controller w c closes s p whole (Some t) = of_task c t (change_step w c closes s p t)
+
 -- a place under tag 0, by its whole session
 abbrev pub may_plant : World → Parts → ℕ → ℕ → Bool
 may_plant w c s p = nat_lt p (length w.places) && (nat_lt 0 s && (nat_eq (window_at (plan_in w) p) s && nat_eq (word_at c.cells p).tag 0))
 
-abbrev pub plant_step : World → Parts → ℕ → ℕ → Option Stepped
-plant_step w c s p = if may_plant w c s p then Some (record { parts = with_cell c p (breakpoint_of s); shown = Planted }) else None
+abbrev pub whole_step : World → Parts → ℕ → ℕ → Option Stepped
+whole_step w c s p = if may_plant w c s p then Some (record { parts = with_cell c p (breakpoint_of s); shown = Planted }) else None
 
--- an event of a task that exists
-abbrev pub of_task : Parts → ℕ → (TaskPart → Option Stepped) → Option Stepped
-of_task c t step = if nat_lt t (length c.tasks) then step (part_of c t) else None
+abbrev pub plant_step : World → Parts → ℕ → ℕ → Option Stepped
+plant_step w c s p = by_controller w c false s p (whole_step w c s p) (controller_of w s)
+
+abbrev pub close_step : World → Parts → ℕ → ℕ → Option Stepped
+close_step w c s p = by_controller w c true s p None (controller_of w s)
 
 -- what the event makes of what is stored; none where it isn't possible
 abbrev pub parts_step : World → Parts → Event → Option Stepped
@@ -201,3 +250,4 @@ parts_step w c (Mark t) = of_task c t.0 (mark_step w c t.0)
 parts_step w c (Lift t) = of_task c t.0 (lift_step w c t.0)
 parts_step w c (Do t) = of_task c t.0 (do_step w c t.0)
 parts_step w c (Plant s p) = plant_step w c s.0 p.0
+parts_step w c (Close s p) = close_step w c s.0 p.0

@@ -1,24 +1,27 @@
 -- What a task of a core keeps besides what the core stores of it, and what holds of a core at every moment.
-use Rattle.std.specs.Prelude.{◌≡◌, ◌≢◌, ℕ, ◌+◌, ◌*◌, ◌<◌, Bool, true, false, Option, Some, None, List, [], ◌∷◌, length, get_or, map, All}
-use Rattle.cov_base.specs.Codes.{breakpoint}
+use Rattle.std.specs.Prelude.{◌≡◌, ◌≢◌, ℕ, ◌+◌, ◌-◌, ◌*◌, ◌<◌, ◌≤◌, Bool, true, false, nat_le, nat_lt, if◌then◌else◌, None, List, [], length, get_or, map, All}
 use Rattle.cov_base.specs.Facts.{is_within}
 use Rattle.cov_base.specs.FactSet.{FactSet}
+use Rattle.cov_base.specs.declared.numbers.PlaceNo.{PlaceNo}
+use Rattle.cov_base.specs.declared.limits.TheConstants.{SESSION_LIMIT, PLACE_LIMIT}
 use Rattle.module_area.specs.declared.cells.Cell.{Cell}
-use Rattle.module_area.specs.CellWords.{IsWord, word_at}
+use Rattle.module_area.specs.CellWords.{word_at}
+use Rattle.module_area.specs.Held.{planted, IsForm}
 use Rattle.module_area.specs.FinalsView.{set_in}
-use Rattle.module_area.specs.PlanView.{PlanView, IsPlan, kind_at, window_at}
-use Rattle.module_area.specs.declared.places.Place.{Place}
+use Rattle.module_area.specs.PlanView.{PlanView, ControlledView, IsPlan, kind_at, is_over}
 use Rattle.brk_table.specs.Places.{AreSeen, ArePlaces, IsIn}
 use Rattle.space_map.specs.Space.{SpaceView, memory_of_space}
 use Rattle.session_book.specs.JobView.{IsJob}
 use Rattle.session_book.specs.Sessions.{task_of}
-use Rattle.interleave_core.specs.World.{World, TaskPart, Parts, first_part, plan_in, memory_in, budget_in}
+use Rattle.interleave_core.specs.World.{World, TaskPart, Parts, part_of, first_part, plan_in, memory_in, budget_in}
+use Rattle.interleave_core.specs.Control.{Change, PlaceChange, sessions_by}
+use Rattle.interleave_core.specs.declared.control.Change.{Change as Found}
+use Rattle.interleave_core.specs.declared.control.PlaceChange.{PlaceChange as PlaceFound}
 use Rattle.interleave_core.specs.Steps.{step_of, subject_place, is_spent}
-use Rattle.interleave_core.specs.declared.stage.Due.{Due}
 use Rattle.interleave_core.specs.declared.stage.Due.TheVariants.{Nothing}
 use Rattle.interleave_core.specs.declared.stage.Hand.{Hand}
 use Rattle.interleave_core.specs.declared.stage.Stage.{Stage}
-use Rattle.interleave_core.specs.declared.stage.Stage.TheVariants.{Ready, Awaiting, Holding, Ended}
+use Rattle.interleave_core.specs.declared.stage.Stage.TheVariants.{Awaiting, Holding}
 
 -- a task with its space and budget
 pub record RunningView : Type 0 where
@@ -33,10 +36,10 @@ pub record IsRunning (w : World) (t : ℕ) (r : RunningView) : Type 0 where
   pub budget : r.budget ≡ budget_in w t
   pub seen : AreSeen (memory_in w t) w.places
 
--- a cell in hand is of a place; where anything is due of it, it is the breakpoint of the place's session
+-- a cell in hand is of a place; where anything is due of it, it is the breakpoint of a session over the place
 pub record IsHand (w : World) (h : Hand) : Type 0 where
   pub place : h.place.0 < length w.places
-  pub planted : h.due ≢ Nothing → (0 < window_at (plan_in w) h.place.0) × (h.cell.tag + 1 ≡ 2 * window_at (plan_in w) h.place.0) × (h.cell.half ≡ breakpoint)
+  pub planted : h.due ≢ Nothing → (s : ℕ) × (0 < s) × (is_over (plan_in w) s h.place.0 ≡ true) × (h.cell ≡ planted s)
 
 -- in an instruction, the budget isn't reached; a subject that is awaited is at a place
 abbrev pub IsStage : World → ℕ → TaskPart → Stage → Type 0
@@ -46,6 +49,59 @@ IsStage w t u stage = Unit {0}
 
 abbrev pub parts_of : List RunningView → List TaskPart
 parts_of tasks = map (λ (r : RunningView). r.part) tasks
+
+abbrev pub no_controlled : ControlledView
+no_controlled = record { session = 0; by = 0; places = [] }
+
+abbrev pub session_at : World → ℕ → ℕ → ControlledView
+session_at w t n = get_or (sessions_by w t) n no_controlled
+
+-- the session that the task's next SVC 4 or 5 opens or closes
+abbrev pub turn_number : TaskPart → ℕ
+turn_number u = if u.is_open then u.opened - 1 else u.opened
+
+abbrev pub turn_of : World → ℕ → TaskPart → ControlledView
+turn_of w t u = session_at w t (turn_number u)
+
+-- at which of its places it has its window: where it is open those that the task hasn't closed, else those that it has
+-- planted
+abbrev pub has_window : TaskPart → ℕ → Bool
+has_window u i = if u.is_open then nat_le u.changed i else nat_lt i u.changed
+
+abbrev pub number_at : List PlaceNo → ℕ → ℕ
+number_at places i = (get_or places i (record { 0 = 0 })).0
+
+abbrev pub tag_at : List Cell → List PlaceNo → ℕ → ℕ
+tag_at cells places i = (word_at cells (number_at places i)).tag
+
+-- Task t and its sessions: its turn has its window where it is planted and not closed, and a later session has been
+-- planted nowhere but where the task has begun to open it.
+pub record IsTied (w : World) (cells : List Cell) (t : ℕ) (u : TaskPart) : Type 0 where
+  pub opened : u.opened ≤ length (sessions_by w t)
+  pub some : u.is_open ≡ true → 0 < u.opened
+  pub changed : u.changed ≤ length (turn_of w t u).places
+  pub planted : (i : ℕ) → i < length (turn_of w t u).places → has_window u i ≡ true → tag_at cells (turn_of w t u).places i + 1 ≡ 2 * (turn_of w t u).session
+  pub later : (n i : ℕ) → u.opened ≤ n → n < length (sessions_by w t) → (n ≡ u.opened → u.is_open ≡ false → u.changed ≤ i) → i < length (session_at w t n).places →
+      tag_at cells (session_at w t n).places i + 1 < 2 * (session_at w t n).session
+
+-- all tasks and their sessions
+abbrev pub AreTied : World → Parts → Type 0
+AreTied w c = (t : ℕ) → t < length c.tasks → IsTied w c.cells t (part_of c t)
+
+-- what a change that was found does
+abbrev pub seen_change : Found → Change
+seen_change c = record { closes = c.closes; session = c.session.now }
+
+abbrev pub seen_place : PlaceFound → PlaceChange
+seen_place x = record { closes = x.closes; session = x.session.0; place = x.place }
+
+-- a session that a task opens or closes at a place: all are in range
+pub record IsPlaced (w : World) (c : Parts) (t s p : ℕ) : Type 0 where
+  pub task : t < length c.tasks
+  pub some : 0 < s
+  pub few : s ≤ SESSION_LIMIT
+  pub inside : p < length w.places
+  pub room : (part_of c t).changed < PLACE_LIMIT
 
 -- what contracts see of a core
 pub record CoreView : Type 0 where
@@ -62,10 +118,11 @@ pub record IsCore (w : World) (cells : List Cell) (sets : List FactSet) (plan : 
   pub count : length tasks ≡ length w.job.tasks
   pub cell_count : length cells ≡ length w.places
   pub set_count : length sets ≡ length w.job.sessions * length w.places
-  pub words : (p : ℕ) → p < length w.places → IsWord (plan_in w) p (word_at cells p)
+  pub words : (p : ℕ) → p < length w.places → IsForm (plan_in w) p (word_at cells p)
   pub within : (s p : ℕ) → 0 < s → p < length w.places → is_within (kind_at (plan_in w) p) (set_in (length w.places) sets s p) ≡ true
   pub running : (t : ℕ) (r : RunningView) → t < length tasks → IsRunning w t (get_or tasks t r)
   pub stages : (t : ℕ) (r : RunningView) → t < length tasks → IsStage w t (get_or tasks t r).part (get_or tasks t r).part.stage
+  pub tied : AreTied w (record { cells = cells; sets = sets; tasks = parts_of tasks })
 
 -- the first tasks of the world, before their first instructions
 pub record AreReady (w : World) (number : ℕ) (tasks : List RunningView) : Type 0 where

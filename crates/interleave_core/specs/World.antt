@@ -1,10 +1,9 @@
 -- What the events of a core are judged by, and what a core stores.
-use Rattle.std.specs.Prelude.{◌≡◌, ℕ, ◌<◌, ◌+◌, ◌*◌, ◌==◌, if◌then◌else◌, Option, Some, None, List, [], ◌∷◌, length, get_or, map, replicate, All}
+use Rattle.std.specs.Prelude.{◌≡◌, ℕ, ◌<◌, ◌+◌, ◌*◌, ◌==◌, Bool, false, if◌then◌else◌, Option, Some, None, List, [], ◌∷◌, length, get_or, map, replicate, All}
 use Rattle.cov_base.specs.FactSet.{FactSet}
 use Rattle.cov_base.specs.Facts.{no_facts}
 use Rattle.cov_base.specs.Memory.{Memory}
 use Rattle.cov_base.specs.States.{State}
-use Rattle.s370_state.specs.Io.{fresh_io}
 use Rattle.module_area.specs.CellWords.{fresh_word}
 use Rattle.module_area.specs.PlanView.{PlanView, IsPlan}
 use Rattle.module_area.specs.declared.cells.Cell.{Cell}
@@ -38,10 +37,15 @@ place_from n (p ∷ ps) a = if a == p.at then Some n else place_from (n + 1) ps 
 abbrev pub place_at : World → ℕ → Option ℕ
 place_at w a = place_from 0 w.places a
 
--- a task: its state, which changes only as an instruction is executed whole, and where it stands
+-- A task: its state, which changes only as an instruction is executed whole, and where it stands. Of the sessions that it
+-- controls: how many it has opened, whether the last of them is open, and at how many places of the one that the SVC in
+-- hand opens or closes it has done so.
 pub record TaskPart : Type 0 where
   pub state : State
   pub stage : Stage
+  pub opened : ℕ
+  pub is_open : Bool
+  pub changed : ℕ
 
 -- a cell for each place; the set of session s at place p at (s - 1) times the number of places plus p; the tasks
 pub record Parts : Type 0 where
@@ -50,13 +54,13 @@ pub record Parts : Type 0 where
   pub tasks : List TaskPart
 
 abbrev pub no_part : TaskPart
-no_part = record { state = first_state no_task; stage = Ready }
+no_part = record { state = first_state no_task; stage = Ready; opened = 0; is_open = false; changed = 0 }
 
 abbrev pub part_of : Parts → ℕ → TaskPart
 part_of p t = get_or p.tasks t no_part
 
 abbrev pub first_part : TaskView → TaskPart
-first_part t = record { state = first_state t; stage = Ready }
+first_part t = record { state = first_state t; stage = Ready; opened = 0; is_open = false; changed = 0 }
 
 -- nothing is planted, no set has a fact, and the tasks are as their cards say
 abbrev pub first_parts : World → Parts

@@ -14,8 +14,11 @@ pub enum Event {
     Lift(TaskNo),
     /// It executes the instruction, or ends before one.
     Do(TaskNo),
-    /// The breakpoint of the place's whole session is planted.
+    /// The session's breakpoint is planted at the place: by the planter for a whole session, by its controller as it
+    /// opens it for another.
     Plant(SessNo, PlaceNo),
+    /// The original takes the place of whatever the session has left there, as its controller closes it.
+    Close(SessNo, PlaceNo),
 }
 
 /// What an event shows.
@@ -29,6 +32,7 @@ pub enum Shown {
     Lifted(bool),
     Done,
     Planted,
+    Closed,
 }
 
 /// The event isn't possible in the core as it stands.

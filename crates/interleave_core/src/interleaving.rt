@@ -1,25 +1,27 @@
 //! The core.
-ghost use Rattle.std.specs.Prelude.{◌≡◌, ℕ, ◌+◌, ◌*◌, ◌<◌, ◌≤◌, [], length, map, replicate, set, if◌then◌else◌, All, IfOk, OnErr, IfSome, IsNone, IsSome, ◌↔◌};
+ghost use Rattle.std.specs.Prelude.{◌≡◌, ℕ, ◌+◌, ◌*◌, ◌<◌, ◌≤◌, nat_lt, true, false, [], length, map, replicate, All, IfOk, OnErr, IfSome, is_some, IsTrue, IsNone, IsSome, ◌↔◌};
 ghost use Rattle.std.specs.declared.option.Option.TheVariants.{Some, None};
 ghost use Rattle.module_area.specs.CellWords.{word_at, fresh_word};
 ghost use Rattle.brk_table.specs.Places.{IsIn};
-ghost use Rattle.cov_base.specs.Facts.{is_full, no_facts};
-ghost use Rattle.interleave_core.specs.declared.stage.Due.TheVariants.{Lifting, Nothing};
-ghost use Rattle.interleave_core.specs.World.{World, IsWorld, first_parts};
-ghost use Rattle.interleave_core.specs.Steps.{of_task, fetch_step, mark_step, lift_step, do_step, plant_step, parts_step, set_of, due_after_fetch, in_hand, same_cell};
+ghost use Rattle.cov_base.specs.Facts.{no_facts};
+ghost use Rattle.cov_base.specs.declared.limits.TheConstants.{SESSION_LIMIT};
+ghost use Rattle.interleave_core.specs.World.{IsWorld, first_parts};
+ghost use Rattle.interleave_core.specs.Control.{controller_of};
+ghost use Rattle.interleave_core.specs.Steps.{of_task, fetch_step, mark_step, lift_step, do_step, plant_step, close_step, whole_step, change_step, changed_cell, parts_step, set_of};
 ghost use Rattle.interleave_core.specs.Core.{core_start, Stands, FollowsAll, FollowsNone};
 ghost use Rattle.interleave_core.specs.declared.events.Event.{Event};
 ghost use Rattle.interleave_core.specs.Going.{HasGone, go, left};
 ghost use Rattle.interleave_core.specs.Results.{next_of, IsDue, results_of, Fits};
-ghost use Rattle.interleave_core.specs.Views.{AreReady};
+ghost use Rattle.interleave_core.specs.Views.{AreReady, IsPlaced};
 
+use crate::control::controller_of;
 use crate::events::{Event, NotPossible, Shown};
+use crate::hands::{breakpoint_of, due_after_fetch, due_after_mark, exchange, shown_of, with_due};
 use crate::running::Running;
-use crate::stage::{Due, Hand, Stage};
+use crate::stage::{Due, Hand};
 use brk_table::Tables;
-use cov_base::{BREAKPOINT, Bits, Kind, NoMemory, PlaceNo, SessNo, TaskNo};
+use cov_base::{Bits, NoMemory, PlaceNo, SessNo, TaskNo};
 use module_area::{Cell, Place, Plan};
-use s370_exec::is_execute;
 use s370_state::{Cpu, Ending};
 use session_book::{FactSets, Job, Results, plan_of};
 use std::alloc::{AllocError, Global};
@@ -45,66 +47,6 @@ impl<'a> Model for Core<'a> {
     ghost view = { λ c. record { world = record { job = c.job.now; places = c.tables.now.places }; parts = record { cells = c.cells.items; sets = c.sets.items; tasks = parts_of c.tasks.items } } };
 
     ghost invariant = { λ c. IsCore (record { job = c.job.now; places = c.tables.now.places }) c.cells.items c.sets.items c.plan c.tasks.items };
-}
-
-/// What is due of a cell that was fetched: a breakpoint is to be marked, but that of a subject that is itself EX isn't.
-fn due_after_fetch(tables: &Tables, subject: bool, place: PlaceNo, cell: Cell) -> Due
-    requires { place.0 < length tables.now.places }
-    ensures { (w : World) → w.places ≡ tables.now.places → result ≡ due_after_fetch w subject place.0 cell }
-{
-    if cell.half != BREAKPOINT {
-        return Due::Nothing;
-    }
-    if subject && is_execute(tables.place(place).original) {
-        Due::Nothing
-    } else {
-        Due::Marking
-    }
-}
-
-/// Whether both are the same cell.
-fn same_cell(a: Cell, b: Cell) -> bool
-    ensures { result ≡ same_cell a b }
-{
-    a.tag == b.tag && a.half == b.half
-}
-
-/// Exchanges the cell for the original under its tag, where it still stands; whether it did.
-fn exchange(cells: &mut Vec<Cell>, p: usize, cell: Cell, original: u16) -> bool
-    requires { p < length cells.old.items }
-    ensures taken { result ≡ same_cell (word_at cells.old.items p) cell }
-    ensures cells { cells.new.items ≡ (if result then set cells.old.items p (record { tag = cell.tag; half = original }) else cells.old.items) }
-{
-    if same_cell(cells[p], cell) {
-        cells[p] = Cell {
-            tag: cell.tag,
-            half: original,
-        };
-        true
-    } else {
-        false
-    }
-}
-
-fn due_after_mark(kind: Kind, facts: Bits) -> Due
-    ensures { result ≡ (if is_full kind facts then Lifting else Nothing) }
-{
-    if facts.is_full(kind) {
-        Due::Lifting
-    } else {
-        Due::Nothing
-    }
-}
-
-fn with_due(hand: Hand, due: Due) -> Hand
-    ensures { result ≡ record hand { due = due } }
-{
-    Hand {
-        subject: hand.subject,
-        place: hand.place,
-        cell: hand.cell,
-        due,
-    }
 }
 
 impl<'a> Core<'a> {
@@ -186,15 +128,15 @@ impl<'a> Core<'a> {
         if n >= self.tasks.len() {
             return Err(NotPossible);
         }
-        let Ok(()) = self.tasks[n].run(self.tables) else {
+        let Ok(()) = self.tasks[n].run(t, &self.plan, self.tables) else {
             return Err(NotPossible);
         };
         Ok(Shown::Done)
     }
 
-    fn plant(&mut self, s: SessNo, p: PlaceNo) -> Result<Shown, NotPossible>
-        ensures possible { IfOk result (λ shown. plant_step self.old.world self.old.parts s.0 p.0 ≡ Some (record { parts = self.new.parts; shown = shown })) }
-        ensures refused { OnErr result (plant_step self.old.world self.old.parts s.0 p.0 ≡ None) }
+    fn plant_whole(&mut self, s: SessNo, p: PlaceNo) -> Result<Shown, NotPossible>
+        ensures possible { IfOk result (λ shown. whole_step self.old.world self.old.parts s.0 p.0 ≡ Some (record { parts = self.new.parts; shown = shown })) }
+        ensures refused { OnErr result (whole_step self.old.world self.old.parts s.0 p.0 ≡ None) }
         ensures kept { OnErr result (self.new ≡ self.old) }
         ensures world { self.new.world ≡ self.old.world }
     {
@@ -208,11 +150,97 @@ impl<'a> Core<'a> {
         if self.cells[n].tag != 0 {
             return Err(NotPossible);
         }
-        self.cells[n] = Cell {
-            tag: 2 * s.0 - 1,
-            half: BREAKPOINT,
-        };
+        self.cells[n] = breakpoint_of(s);
         Ok(Shown::Planted)
+    }
+
+    /// Whether the session may be planted there under its tag, which rises.
+    fn is_below(&self, s: SessNo, p: PlaceNo) -> bool
+        requires { p.0 < length self.now.world.places }
+        ensures { result ≡ nat_lt ((word_at self.now.parts.cells p.0).tag + 1) (2 * s.0) }
+    {
+        u64::from(self.cells[p.0 as usize].tag) + 1 < 2 * u64::from(s.0)
+    }
+
+    /// Whether this is the place at which task t is to plant or close this session.
+    fn may_change(&self, closes: bool, s: SessNo, p: PlaceNo, t: TaskNo) -> bool
+        ensures value { result ≡ is_some (of_task self.now.parts t.0 (change_step self.now.world self.now.parts closes s.0 p.0 t.0)) }
+        ensures placed { IsTrue result → IsPlaced self.now.world self.now.parts t.0 s.0 p.0 }
+    {
+        let n = t.0 as usize;
+        if n >= self.tasks.len() {
+            return false;
+        }
+        let Some(x) = self.tasks[n].change_due(t, &self.plan, self.tables) else {
+            return false;
+        };
+        if x.closes != closes || x.session.0 != s.0 || x.place.0 != p.0 {
+            return false;
+        }
+        closes || self.is_below(s, p)
+    }
+
+    /// What the session leaves there as it is planted or closed.
+    fn changed_cell(&self, closes: bool, s: SessNo, p: PlaceNo) -> Cell
+        requires some { 0 < s.0 }
+        requires few { s.0 ≤ SESSION_LIMIT }
+        requires place { p.0 < length self.now.world.places }
+        ensures { result ≡ changed_cell self.now.world (record { closes = closes; session = s.0; place = p }) }
+    {
+        if closes {
+            Cell {
+                tag: 2 * s.0,
+                half: self.plan.original(p),
+            }
+        } else {
+            breakpoint_of(s)
+        }
+    }
+
+    /// Plants or closes the session there, where that is due of task t.
+    fn change_by(
+        &mut self,
+        closes: bool,
+        s: SessNo,
+        p: PlaceNo,
+        t: TaskNo,
+    ) -> Result<Shown, NotPossible>
+        requires { controller_of self.old.world s.0 ≡ Some t.0 }
+        ensures possible { IfOk result (λ shown. of_task self.old.parts t.0 (change_step self.old.world self.old.parts closes s.0 p.0 t.0) ≡ Some (record { parts = self.new.parts; shown = shown })) }
+        ensures refused { OnErr result (of_task self.old.parts t.0 (change_step self.old.world self.old.parts closes s.0 p.0 t.0) ≡ None) }
+        ensures kept { OnErr result (self.new ≡ self.old) }
+        ensures world { self.new.world ≡ self.old.world }
+    {
+        if !self.may_change(closes, s, p, t) {
+            return Err(NotPossible);
+        }
+        self.cells[p.0 as usize] = self.changed_cell(closes, s, p);
+        self.tasks[t.0 as usize].changed();
+        Ok(shown_of(closes))
+    }
+
+    fn plant(&mut self, s: SessNo, p: PlaceNo) -> Result<Shown, NotPossible>
+        ensures possible { IfOk result (λ shown. plant_step self.old.world self.old.parts s.0 p.0 ≡ Some (record { parts = self.new.parts; shown = shown })) }
+        ensures refused { OnErr result (plant_step self.old.world self.old.parts s.0 p.0 ≡ None) }
+        ensures kept { OnErr result (self.new ≡ self.old) }
+        ensures world { self.new.world ≡ self.old.world }
+    {
+        match controller_of(&self.plan.controlled, s) {
+            Some(t) => self.change_by(false, s, p, t),
+            None => self.plant_whole(s, p),
+        }
+    }
+
+    fn close(&mut self, s: SessNo, p: PlaceNo) -> Result<Shown, NotPossible>
+        ensures possible { IfOk result (λ shown. close_step self.old.world self.old.parts s.0 p.0 ≡ Some (record { parts = self.new.parts; shown = shown })) }
+        ensures refused { OnErr result (close_step self.old.world self.old.parts s.0 p.0 ≡ None) }
+        ensures kept { OnErr result (self.new ≡ self.old) }
+        ensures world { self.new.world ≡ self.old.world }
+    {
+        match controller_of(&self.plan.controlled, s) {
+            Some(t) => self.change_by(true, s, p, t),
+            None => Err(NotPossible),
+        }
     }
 
     fn step(&mut self, e: Event) -> Result<Shown, NotPossible>
@@ -227,6 +255,7 @@ impl<'a> Core<'a> {
             Event::Lift(t) => self.lift(t),
             Event::Do(t) => self.run(t),
             Event::Plant(s, p) => self.plant(s, p),
+            Event::Close(s, p) => self.close(s, p),
         }
     }
 
@@ -267,7 +296,7 @@ impl<'a> Core<'a> {
         if n >= self.tasks.len() {
             return None;
         }
-        self.tasks[n].next(t, self.tables)
+        self.tasks[n].next(t, &self.plan, self.tables)
     }
 
     /// Makes the task's events until none is possible.
@@ -277,6 +306,7 @@ impl<'a> Core<'a> {
         ensures parts { self.new.parts ≡ go self.old.world (left self.old.world self.old.parts t.0) self.old.parts t }
         ensures ended { t.0 < length self.old.world.job.tasks → IsSome (results_of self.new.parts t.0).ending }
     {
+        self.fits();
         while let Some(event) = self.next(t) {
             let Ok(_) = self.apply(event) else {
                 unreachable!()
@@ -294,8 +324,8 @@ impl<'a> Core<'a> {
         ensures world { self.new.world ≡ self.old.world }
         ensures fits { Fits self.new.world self.new.parts }
     {
+        self.fits();
         if self.next(t).is_none() {
-            self.fits();
             return Err(NotPossible);
         }
         self.go_on(t);

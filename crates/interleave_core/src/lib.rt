@@ -1,7 +1,9 @@
 //! The core: cells, sets and tasks under every order of their events.
 #![tactic(auto)]
 
+mod control;
 mod events;
+mod hands;
 mod interleaving;
 mod running;
 mod stage;

@@ -1,21 +1,26 @@
 //! A task of a core.
-ghost use Rattle.std.specs.Prelude.{◌≡◌, ℕ, ◌<◌, option_map, length, IfSome, nat_le, All, IfOk, OnErr};
+ghost use Rattle.std.specs.Prelude.{◌≡◌, ℕ, ◌+◌, ◌<◌, false, true, if◌then◌else◌, option_map, option_and_then, length, IsSome, IfSome, nat_le, All, IfOk, OnErr};
+ghost use Rattle.std.specs.declared.option.Option.{Option};
 ghost use Rattle.std.specs.declared.option.Option.TheVariants.{Some, None};
 ghost use Rattle.brk_table.specs.Places.{IsIn};
 ghost use Rattle.session_book.specs.Sessions.{task_of};
 ghost use Rattle.s370_exec.specs.Solo.{has_returned, visit_of};
 ghost use Rattle.interleave_core.specs.declared.stage.Stage.TheVariants.{Ready, Holding};
+ghost use Rattle.cov_base.specs.declared.limits.TheConstants.{SESSION_LIMIT, PLACE_LIMIT};
 ghost use Rattle.cov_base.specs.declared.numbers.PlaceNo.{PlaceNo as Number};
-ghost use Rattle.interleave_core.specs.World.{World, place_from, first_part};
-ghost use Rattle.interleave_core.specs.Steps.{place_due, subject_place, step_of, stage_after, is_awaiting, with_stage, in_hand, executed, instruction_executed, ready_done, task_done};
-ghost use Rattle.interleave_core.specs.Results.{stage_event, ending_of};
-ghost use Rattle.interleave_core.specs.Views.{IsRunning};
+ghost use Rattle.interleave_core.specs.World.{World, plan_in, place_from, first_part};
+ghost use Rattle.interleave_core.specs.Control.{Change as Told, change, next_session, open_session, change_of, next_place, after_change};
+ghost use Rattle.interleave_core.specs.Steps.{place_due, subject_place, step_of, stage_after, is_awaiting, with_stage, in_hand, executed, instruction_executed, ready_done, task_goes_on, task_done, executes, change_due};
+ghost use Rattle.interleave_core.specs.Results.{stage_event, change_or_do, ending_of};
+ghost use Rattle.interleave_core.specs.Views.{IsRunning, seen_change, seen_place};
 
+use crate::control::{Change, PlaceChange, next_place, nth_session};
 use crate::events::{Event, NotPossible};
 use crate::stage::{Due, Hand, Stage};
 use brk_table::Tables;
 use cov_base::{Addr, NoMemory, PlaceNo, TaskNo};
-use s370_exec::{has_returned, instruction_went, step, subject_seen};
+use module_area::Plan;
+use s370_exec::{has_returned, instruction_went, step, subject_seen, supervisor_call};
 use s370_state::{Cpu, Ending, Next, TaskIo};
 use session_book::{Begun, Job, begin};
 use space_map::TaskSpace;
@@ -32,6 +37,11 @@ pub(crate) struct Running<'a> {
     pub(crate) done: u32,
     pub(crate) budget: u32,
     pub(crate) stage: Stage,
+    /// Of the sessions that it controls: how many it has opened, whether the last of them is open, and at how many places
+    /// of the one that the SVC in hand opens or closes it has done so.
+    opened: u32,
+    is_open: bool,
+    changed: u32,
 }
 
 impl<'a> Model for Running<'a> {
@@ -42,7 +52,7 @@ impl<'a> Model for Running<'a> {
 
     ghost Value = { RunningView };
 
-    ghost view = { λ r. record { part = record { state = state_of r.cpu r.space.bytes r.io r.done; stage = r.stage }; space = r.space; budget = r.budget } };
+    ghost view = { λ r. record { part = record { state = state_of r.cpu r.space.bytes r.io r.done; stage = r.stage; opened = r.opened; is_open = r.is_open; changed = r.changed }; space = r.space; budget = r.budget } };
 
     ghost invariant = { λ r. (r.done ≤ r.budget) × (r.budget ≤ BUDGET_LIMIT) };
 }
@@ -55,6 +65,16 @@ fn place_at(tables: &Tables, a: Addr) -> Option<PlaceNo>
     // the proof reads off the number of places that they differ in address
     let _ = tables.len();
     tables.at(a)
+}
+
+/// Whether the change closes the session, where there is one.
+fn closes(change: &Option<Change>) -> Option<bool>
+    ensures { result ≡ option_map (λ c. c.closes) change.now }
+{
+    match change {
+        Some(c) => Some(c.closes),
+        None => None,
+    }
 }
 
 fn stage_after(next: Next) -> Stage
@@ -156,32 +176,144 @@ impl<'a> Running<'a> {
         }
     }
 
-    /// Executes an instruction whole.
-    fn execute(&mut self)
-        requires { self.old.part.state.done < self.old.budget }
-        ensures part { (w : World) (t : ℕ) → IsRunning w t self.old → self.new.part ≡ executed (step_of w t self.old.part) }
+    /// The opening of the task's next session, where none is open.
+    fn opening<'p>(&self, t: TaskNo, plan: &'p Plan) -> Option<Change<'p>>
+        ensures value { (w : World) → plan.now ≡ plan_in w → option_map seen_change result ≡ option_map (change false) (next_session w t.0 self.now.part) }
+        ensures room { IsSome result → self.now.part.opened < SESSION_LIMIT }
+    {
+        if self.is_open {
+            return None;
+        }
+        match nth_session(plan, t, self.opened) {
+            Some(session) => Some(Change {
+                closes: false,
+                session,
+            }),
+            None => None,
+        }
+    }
+
+    /// The closing of its open session.
+    fn closing<'p>(&self, t: TaskNo, plan: &'p Plan) -> Option<Change<'p>>
+        ensures closes { IfSome result (λ ch. ch.closes ≡ true) }
+        ensures value { (w : World) → plan.now ≡ plan_in w → option_map seen_change result ≡ option_map (change true) (open_session w t.0 self.now.part) }
+    {
+        if !self.is_open {
+            return None;
+        }
+        match nth_session(plan, t, self.opened.saturating_sub(1)) {
+            Some(session) => Some(Change {
+                closes: true,
+                session,
+            }),
+            None => None,
+        }
+    }
+
+    /// What the instruction that it is at does to its sessions.
+    fn change<'p>(&self, t: TaskNo, plan: &'p Plan) -> Option<Change<'p>>
+        ensures value { (w : World) → plan.now ≡ plan_in w → IsRunning w t.0 self.now → option_map seen_change result ≡ change_of w t.0 self.now.part }
+        ensures room { IfSome result (λ ch. ch.closes ≡ false → self.now.part.opened < SESSION_LIMIT) }
+    {
+        if plan.controlled.is_empty() {
+            return None;
+        }
+        match supervisor_call(&self.cpu, &self.space) {
+            Some(4) => self.opening(t, plan),
+            Some(5) => self.closing(t, plan),
+            _ => None,
+        }
+    }
+
+    /// Whether a Do executes the instruction that it is at.
+    fn executes(&self, tables: &Tables) -> bool
+        ensures { (w : World) (t : ℕ) → w.places ≡ tables.now.places → IsRunning w t self.now → result ≡ executes w t self.now.part self.now.part.stage }
+    {
+        match self.stage {
+            Stage::Ready => !self.has_returned()
+                && !self.is_spent()
+                && place_at(tables, self.cpu.at()).is_none()
+                && self.subject_place(tables).is_none(),
+            Stage::Holding(hand) => hand.due == Due::Nothing
+                && (hand.subject || self.subject_place(tables).is_none()),
+            _ => false,
+        }
+    }
+
+    /// Of this change the next place, where the instruction is what a Do executes.
+    fn next_place(&self, tables: &Tables, change: &Option<Change>) -> Option<PlaceChange>
+        ensures { (w : World) (t : ℕ) → w.places ≡ tables.now.places → IsRunning w t self.now → option_map seen_place result ≡ (if executes w t self.now.part self.now.part.stage then option_and_then (next_place self.now.part.changed) (option_map seen_change change.now) else None) }
+    {
+        let Some(change) = change else {
+            return None;
+        };
+        if !self.executes(tables) {
+            return None;
+        }
+        next_place(change, self.changed)
+    }
+
+    /// The place at which a session is to be planted or closed before the instruction is executed.
+    pub(crate) fn change_due(&self, t: TaskNo, plan: &Plan, tables: &Tables) -> Option<PlaceChange>
+        ensures { (w : World) → plan.now ≡ plan_in w → w.places ≡ tables.now.places → IsRunning w t.0 self.now → option_map seen_place result ≡ change_due w t.0 self.now.part self.now.part.stage }
+    {
+        self.next_place(tables, &self.change(t, plan))
+    }
+
+    /// One place more of that session is done.
+    pub(crate) fn changed(&mut self)
+        requires { self.old.part.changed < PLACE_LIMIT }
+        ensures { self.new ≡ record self.old { part = record self.old.part { changed = self.old.part.changed + 1 } } }
+    {
+        self.changed += 1;
+    }
+
+    /// Its sessions after the instruction: whether that closes one, or else opens one.
+    fn after_change(&mut self, closes: Option<bool>)
+        requires { closes ≡ Some false → self.old.part.opened < SESSION_LIMIT }
+        ensures rest { self.new ≡ record self.old { part = record self.old.part { opened = self.new.part.opened; is_open = self.new.part.is_open; changed = self.new.part.changed } } }
+        ensures after { (ch : Option Told) → option_map (λ c. c.closes) ch ≡ closes → self.new ≡ record self.old { part = after_change ch self.old.part } }
+    {
+        let Some(closes) = closes else {
+            return;
+        };
+        if !closes {
+            self.opened += 1;
+        }
+        self.is_open = !closes;
+        self.changed = 0;
+    }
+
+    /// Executes an instruction whole, which opens or closes a session where it is said.
+    fn execute(&mut self, closes: Option<bool>)
+        requires budget { self.old.part.state.done < self.old.budget }
+        requires room { closes ≡ Some false → self.old.part.opened < SESSION_LIMIT }
+        ensures part { (w : World) (t : ℕ) → IsRunning w t self.old → option_map (λ c. c.closes) (change_of w t self.old.part) ≡ closes → self.new.part ≡ executed w t self.old.part }
         ensures running { (w : World) (t : ℕ) → IsRunning w t self.old → IsRunning w t self.new }
     {
         self.done += 1;
         let next = step(&mut self.cpu, &mut self.space, &mut self.io);
         self.stage = stage_after(next);
+        self.after_change(closes);
     }
 
     /// Executes an instruction whole, or an EX up to its subject where a place begins there.
-    fn execute_to_place(&mut self, tables: &Tables)
-        requires { self.old.part.state.done < self.old.budget }
-        ensures part { (w : World) (t : ℕ) → w.places ≡ tables.now.places → IsRunning w t self.old → self.new.part ≡ instruction_executed w t self.old.part }
+    fn execute_to_place(&mut self, tables: &Tables, closes: Option<bool>)
+        requires budget { self.old.part.state.done < self.old.budget }
+        requires room { closes ≡ Some false → self.old.part.opened < SESSION_LIMIT }
+        ensures part { (w : World) (t : ℕ) → w.places ≡ tables.now.places → IsRunning w t self.old → option_map (λ c. c.closes) (change_of w t self.old.part) ≡ closes → self.new.part ≡ instruction_executed w t self.old.part }
         ensures running { (w : World) (t : ℕ) → IsRunning w t self.old → IsRunning w t self.new }
     {
         match self.subject_place(tables) {
             Some(_) => self.stage = Stage::Awaiting,
-            None => self.execute(),
+            None => self.execute(closes),
         }
     }
 
     /// Ends the task before an instruction, or executes the instruction; refused where a place begins there.
-    fn begin(&mut self, tables: &Tables) -> Result<(), NotPossible>
-        ensures done { (w : World) (t : ℕ) → w.places ≡ tables.now.places → IsRunning w t self.old → IfOk result (λ _. ready_done w t self.old.part ≡ Some self.new.part) }
+    fn begin(&mut self, tables: &Tables, closes: Option<bool>) -> Result<(), NotPossible>
+        requires room { closes ≡ Some false → self.old.part.opened < SESSION_LIMIT }
+        ensures done { (w : World) (t : ℕ) → w.places ≡ tables.now.places → IsRunning w t self.old → option_map (λ c. c.closes) (change_of w t self.old.part) ≡ closes → IfOk result (λ _. ready_done w t self.old.part ≡ Some self.new.part) }
         ensures refused { (w : World) (t : ℕ) → w.places ≡ tables.now.places → IsRunning w t self.old → OnErr result (ready_done w t self.old.part ≡ None) }
         ensures kept { OnErr result (self.new ≡ self.old) }
         ensures running { (w : World) (t : ℕ) → IsRunning w t self.old → IsRunning w t self.new }
@@ -197,26 +329,32 @@ impl<'a> Running<'a> {
         match place_at(tables, self.cpu.at()) {
             Some(_) => Err(NotPossible),
             None => {
-                self.execute_to_place(tables);
+                self.execute_to_place(tables, closes);
                 Ok(())
             }
         }
     }
 
     /// Executes the instruction in hand.
-    fn go_on(&mut self, tables: &Tables, hand: Hand) -> Result<(), NotPossible>
-        requires { self.old.part.state.done < self.old.budget }
-        ensures done { (w : World) (t : ℕ) → w.places ≡ tables.now.places → IsRunning w t self.old → IfOk result (λ _. task_done w t self.old.part (Holding hand) ≡ Some self.new.part) }
-        ensures refused { (w : World) (t : ℕ) → OnErr result (task_done w t self.old.part (Holding hand) ≡ None) }
+    fn go_on(
+        &mut self,
+        tables: &Tables,
+        hand: Hand,
+        closes: Option<bool>,
+    ) -> Result<(), NotPossible>
+        requires budget { self.old.part.state.done < self.old.budget }
+        requires room { closes ≡ Some false → self.old.part.opened < SESSION_LIMIT }
+        ensures done { (w : World) (t : ℕ) → w.places ≡ tables.now.places → IsRunning w t self.old → option_map (λ c. c.closes) (change_of w t self.old.part) ≡ closes → IfOk result (λ _. task_goes_on w t self.old.part (Holding hand) ≡ Some self.new.part) }
+        ensures refused { (w : World) (t : ℕ) → OnErr result (task_goes_on w t self.old.part (Holding hand) ≡ None) }
         ensures kept { OnErr result (self.new ≡ self.old) }
         ensures running { (w : World) (t : ℕ) → IsRunning w t self.old → IsRunning w t self.new }
     {
         match hand.due {
             Due::Nothing => {
                 if hand.subject {
-                    self.execute();
+                    self.execute(closes);
                 } else {
-                    self.execute_to_place(tables);
+                    self.execute_to_place(tables, closes);
                 }
                 Ok(())
             }
@@ -224,20 +362,36 @@ impl<'a> Running<'a> {
         }
     }
 
-    /// Executes the next instruction or the one in hand, or ends the task before an instruction; refused where a cell
-    /// is to be fetched, marked or lifted before, or the task has ended.
-    pub(crate) fn run(&mut self, tables: &Tables) -> Result<(), NotPossible>
-        requires { (h : Hand) → self.old.part.stage ≡ Holding h → self.old.part.state.done < self.old.budget }
-        ensures done { (w : World) (t : ℕ) → w.places ≡ tables.now.places → IsRunning w t self.old → IfOk result (λ _. task_done w t self.old.part self.old.part.stage ≡ Some self.new.part) }
-        ensures refused { (w : World) (t : ℕ) → w.places ≡ tables.now.places → IsRunning w t self.old → OnErr result (task_done w t self.old.part self.old.part.stage ≡ None) }
+    /// Executes the next instruction or the one in hand, or ends the task before an instruction.
+    fn proceed(&mut self, tables: &Tables, closes: Option<bool>) -> Result<(), NotPossible>
+        requires budget { (h : Hand) → self.old.part.stage ≡ Holding h → self.old.part.state.done < self.old.budget }
+        requires room { closes ≡ Some false → self.old.part.opened < SESSION_LIMIT }
+        ensures done { (w : World) (t : ℕ) → w.places ≡ tables.now.places → IsRunning w t self.old → option_map (λ c. c.closes) (change_of w t self.old.part) ≡ closes → IfOk result (λ _. task_goes_on w t self.old.part self.old.part.stage ≡ Some self.new.part) }
+        ensures refused { (w : World) (t : ℕ) → w.places ≡ tables.now.places → IsRunning w t self.old → OnErr result (task_goes_on w t self.old.part self.old.part.stage ≡ None) }
         ensures kept { OnErr result (self.new ≡ self.old) }
         ensures running { (w : World) (t : ℕ) → IsRunning w t self.old → IsRunning w t self.new }
     {
         match self.stage {
-            Stage::Ready => self.begin(tables),
-            Stage::Holding(hand) => self.go_on(tables, hand),
+            Stage::Ready => self.begin(tables, closes),
+            Stage::Holding(hand) => self.go_on(tables, hand, closes),
             _ => Err(NotPossible),
         }
+    }
+
+    /// Executes the next instruction or the one in hand, or ends the task before an instruction; refused where a cell
+    /// is to be fetched, marked, lifted, planted or closed before, or the task has ended.
+    pub(crate) fn run(&mut self, t: TaskNo, plan: &Plan, tables: &Tables) -> Result<(), NotPossible>
+        requires { (h : Hand) → self.old.part.stage ≡ Holding h → self.old.part.state.done < self.old.budget }
+        ensures done { (w : World) → plan.now ≡ plan_in w → w.places ≡ tables.now.places → IsRunning w t.0 self.old → IfOk result (λ _. task_done w t.0 self.old.part self.old.part.stage ≡ Some self.new.part) }
+        ensures refused { (w : World) → plan.now ≡ plan_in w → w.places ≡ tables.now.places → IsRunning w t.0 self.old → OnErr result (task_done w t.0 self.old.part self.old.part.stage ≡ None) }
+        ensures kept { OnErr result (self.new ≡ self.old) }
+        ensures running { (w : World) → IsRunning w t.0 self.old → IsRunning w t.0 self.new }
+    {
+        let change = self.change(t, plan);
+        if self.next_place(tables, &change).is_some() {
+            return Err(NotPossible);
+        }
+        self.proceed(tables, closes(&change))
     }
 
     /// How it has ended.
@@ -250,20 +404,34 @@ impl<'a> Running<'a> {
         }
     }
 
+    /// Do, or the planting or closing that is due before.
+    fn change_or_do(&self, t: TaskNo, plan: &Plan, tables: &Tables) -> Event
+        ensures { (w : World) → plan.now ≡ plan_in w → w.places ≡ tables.now.places → IsRunning w t.0 self.now → result ≡ change_or_do t (change_due w t.0 self.now.part self.now.part.stage) }
+    {
+        match self.change_due(t, plan, tables) {
+            Some(x) => if x.closes {
+                Event::Close(x.session, x.place)
+            } else {
+                Event::Plant(x.session, x.place)
+            },
+            None => Event::Do(t),
+        }
+    }
+
     /// The event that is possible of it as task t; none where it has ended.
-    pub(crate) fn next(&self, t: TaskNo, tables: &Tables) -> Option<Event>
-        ensures { (w : World) → w.places ≡ tables.now.places → IsRunning w t.0 self.now → result ≡ stage_event w t self.now.part self.now.part.stage }
+    pub(crate) fn next(&self, t: TaskNo, plan: &Plan, tables: &Tables) -> Option<Event>
+        ensures { (w : World) → plan.now ≡ plan_in w → w.places ≡ tables.now.places → IsRunning w t.0 self.now → result ≡ stage_event w t self.now.part self.now.part.stage }
     {
         match self.stage {
             Stage::Ready => match self.instruction_due(tables) {
                 Some(_) => Some(Event::Fetch(t)),
-                None => Some(Event::Do(t)),
+                None => Some(self.change_or_do(t, plan, tables)),
             },
             Stage::Awaiting => Some(Event::Fetch(t)),
             Stage::Holding(hand) => match hand.due {
                 Due::Marking => Some(Event::Mark(t)),
                 Due::Lifting => Some(Event::Lift(t)),
-                Due::Nothing => Some(Event::Do(t)),
+                Due::Nothing => Some(self.change_or_do(t, plan, tables)),
             },
             Stage::Ended(_) => None,
         }
@@ -290,6 +458,9 @@ impl<'a> Running<'a> {
             done: 0,
             budget,
             stage: Stage::Ready,
+            opened: 0,
+            is_open: false,
+            changed: 0,
         })
     }
 }

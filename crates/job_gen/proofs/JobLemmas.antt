@@ -8,7 +8,7 @@ use Rattle.std.proofs.lemmas.List.FromFn.{get_or-map-range_with_len, length-map-
 use Rattle.cov_base.specs.Memory.{ImageView}
 use Rattle.cov_base.specs.Names.{padded}
 use Rattle.module_area.specs.Images.{IsImage, AreClear}
-use Rattle.session_book.specs.JobView.{TaskView, IsJob, IsTask, IsSession, IsListing, AreParted}
+use Rattle.session_book.specs.JobView.{TaskView, IsJob, IsTask, IsSession, IsListing, AreParted, HasController}
 use Rattle.job_gen.specs.declared.instruction.Instruction.{Instruction}
 use Rattle.job_gen.specs.declared.instruction.Operation.{Operation}
 use Rattle.job_gen.specs.declared.instruction.Operation.TheVariants.{La, Ar, Ltr, Bc, Lcr, St, Bct, Br}
@@ -132,8 +132,9 @@ trial_is_job number tasks most = record {
   phases = omega arith;
   sessions = omega arith;
   tasks = omega (arith, length-map-range_with_len trial_task 1 tasks);
-  are_sessions = one (IsSession 1 1) trial_session (record { phase = omega arith; some = omega arith; modules = one (λ m. m < 1) 0 (omega arith); differ = alone (λ m n. m ≢ n) 0; whole = refl });
+  are_sessions = one (IsSession 1 1) trial_session (record { phase = omega arith; some = omega arith; modules = one (λ m. m < 1) 0 (omega arith); differ = alone (λ m n. m ≢ n) 0 });
   parted = alone AreParted trial_session;
+  controllers = one (HasController (map trial_task (range_with_len 1 tasks))) trial_session tt;
   are_tasks = tasks_are tasks;
   module_names = alone (λ a b. a ≢ b) (trial_module number).name;
   phase_names = alone (λ a b. a ≢ b) (padded (codes "P"));

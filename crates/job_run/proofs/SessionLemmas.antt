@@ -1,5 +1,5 @@
 -- The sets of a job's sessions.
-use Rattle.std.proofs.Common.{◌≡◌, ℕ, ◌+◌, ◌-◌, ◌<◌, ◌≤◌, zero, suc, Bool, true, false, nat_eq, nat_lt, List, [], ◌∷◌, ◌++◌, length, get_or, All, AllPairs, refl, sym, ◌∙◌, ap, subst, arith}
+use Rattle.std.proofs.Common.{◌≡◌, ℕ, ◌+◌, ◌-◌, ◌<◌, ◌≤◌, zero, suc, Bool, true, false, not, nat_eq, nat_lt, Option, Some, None, is_some, List, [], ◌∷◌, ◌++◌, length, get_or, All, AllPairs, refl, sym, ◌∙◌, ap, subst, arith}
 use Rattle.std.specs.List.{list_any, flat_map}
 use Rattle.std.proofs.lemmas.Bool.{and_parts, both_ways, eqb-true, ltb-true}
 use Rattle.std.proofs.lemmas.Bool.Decides.{nat_tests}
@@ -17,8 +17,8 @@ use Rattle.module_area.specs.PlanView.{place_of, no_place, window_at}
 use Rattle.module_area.specs.declared.places.Place.{Place}
 use Rattle.task_run.proofs.SetLemmas.{facts_of_all-one}
 use Rattle.task_run.specs.Courses.{Course}
-use Rattle.session_book.specs.JobView.{JobView, SessionView, IsJob, IsSession, AreParted}
-use Rattle.session_book.specs.Sessions.{session_of, no_session, observes, window_from, window_of, plan_view, traces_from}
+use Rattle.session_book.specs.JobView.{JobView, SessionView, IsJob, IsSession, AreParted, is_same_controller}
+use Rattle.session_book.specs.Sessions.{session_of, no_session, is_whole, AreWhole, observes, window_from, window_of, plan_view, traces_from}
 use Rattle.job_run.specs.Runs.{Account, HasLeftBy, joined, phase_trace, set_by, trace_by}
 use Rattle.job_run.specs.Sets.{SetsView, IsSized, no_finals, set_left, set_in}
 use Rattle.job_run.specs.Outcomes.{IsOutcomeBy}
@@ -42,33 +42,37 @@ no_other m (n ∷ ns) ms h all = by_first m n ns ms (nat_eq m n) refl h all (no_
     by_first m n ns ms true e h all rest = subst (λ (k : ℕ). list_any (nat_eq k) ms ≡ false) (sym (eqb-true m n e)) (all 0 0 (omega arith))
     by_first m n ns ms false e h all rest = rest (has_other m n ns ms h e) (λ k d l. all (suc k) d (omega arith))
 
-not_both : (phase m : ℕ) (s t : SessionView) → AreParted s t → observes phase m s ≡ true → observes phase m t ≡ true → ⊥
-not_both phase m s t parted h k =
+apart_of : (a b : Option ℕ) → not (is_some a) ≡ true → is_same_controller a b ≡ false
+apart_of None b e = refl
+apart_of (Some t) b e = absurd cc
+
+not_both : (phase m : ℕ) (s t : SessionView) → is_whole s ≡ true → AreParted s t → observes phase m s ≡ true → observes phase m t ≡ true → ⊥
+not_both phase m s t whole parted h k =
     let first = and_parts (nat_eq s.phase phase) (list_any (nat_eq m) s.modules) h in
     let second = and_parts (nat_eq t.phase phase) (list_any (nat_eq m) t.modules) k in
     let same : s.phase ≡ t.phase = eqb-true s.phase phase first.0 ∙ sym (eqb-true t.phase phase second.0) in
-    both_ways (list_any (nat_eq m) t.modules) (no_other m s.modules t.modules first.1 (parted same)) second.1
+    both_ways (list_any (nat_eq m) t.modules) (no_other m s.modules t.modules first.1 (parted same (apart_of s.by t.by whole))) second.1
 
 -- a module that a session names is observed by it alone
-later_is : (n : ℕ) (s : SessionView) (ss : List SessionView) (phase m k : ℕ) (q : Bool) → observes phase m s ≡ q → (q ≡ true → ⊥) → window_from (n + 1) ss phase m ≡ n + 1 + k →
+later_is : (n : ℕ) (s : SessionView) (ss : List SessionView) (phase m k : ℕ) (q : Bool) → is_whole s ≡ true → observes phase m s ≡ q → (q ≡ true → ⊥) → window_from (n + 1) ss phase m ≡ n + 1 + k →
     window_from n (s ∷ ss) phase m ≡ n + suc k
-later_is n s ss phase m k true e never h = absurd (never refl)
-later_is n s ss phase m k false e never h = let there : n + 1 + k ≡ n + suc k = omega arith in rw e (h ∙ there)
+later_is n s ss phase m k true w e never h = absurd (never refl)
+later_is n s ss phase m k false w e never h = let there : n + 1 + k ≡ n + suc k = omega arith in rw (w, e) (h ∙ there)
 
-pub window_is : (n : ℕ) (ss : List SessionView) (phase m k : ℕ) → AllPairs AreParted ss → k < length ss → observes phase m (get_or ss k no_session) ≡ true → window_from n ss phase m ≡ n + k
-window_is n [] phase m k parted l h = absurd (omega arith)
-window_is n (s ∷ ss) phase m zero parted l h = let same : n + 0 ≡ n = omega arith in rw (h, same) refl
-window_is n (s ∷ ss) phase m (suc k) parted l h =
-    later_is n s ss phase m k (observes phase m s) refl
-    (λ e. not_both phase m s (get_or ss k no_session) (parted 0 (suc k) no_session (omega arith) l) e h)
-    (window_is (n + 1) ss phase m k (λ i j d a b. parted (suc i) (suc j) d (omega arith) (omega arith)) (omega arith) h)
+pub window_is : (n : ℕ) (ss : List SessionView) (phase m k : ℕ) → All (λ s. is_whole s ≡ true) ss → AllPairs AreParted ss → k < length ss → observes phase m (get_or ss k no_session) ≡ true → window_from n ss phase m ≡ n + k
+window_is n [] phase m k whole parted l h = absurd (omega arith)
+window_is n (s ∷ ss) phase m zero whole parted l h = let same : n + 0 ≡ n = omega arith in rw (whole 0 s (omega arith), h, same) refl
+window_is n (s ∷ ss) phase m (suc k) whole parted l h =
+    later_is n s ss phase m k (observes phase m s) (whole 0 s (omega arith)) refl
+    (λ e. not_both phase m s (get_or ss k no_session) (whole 0 s (omega arith)) (parted 0 (suc k) no_session (omega arith) l) e h)
+    (window_is (n + 1) ss phase m k (λ i d a. whole (suc i) d (omega arith)) (λ i j d a b. parted (suc i) (suc j) d (omega arith) (omega arith)) (omega arith) h)
 
-pub window_at-session : (j : JobView) (places : List Place) (s p : ℕ) → IsJob j → 0 < s → s ≤ length j.sessions → p < length places →
+pub window_at-session : (j : JobView) (places : List Place) (s p : ℕ) → IsJob j → AreWhole j → 0 < s → s ≤ length j.sessions → p < length places →
     observes (session_of j s).phase (place_of places p).«module» (session_of j s) ≡ true → window_at (plan_view j places (session_of j s).phase) p ≡ s
-window_at-session j places s p job some most l h =
+window_at-session j places s p job whole some most l h =
     let k : 1 + (s - 1) ≡ s = omega arith in
     get_or-map (window_of j (session_of j s).phase) places p no_place 0 l
-    ∙ (window_is 1 j.sessions (session_of j s).phase (place_of places p).«module» (s - 1) job.parted (omega arith) h ∙ k)
+    ∙ (window_is 1 j.sessions (session_of j s).phase (place_of places p).«module» (s - 1) whole job.parted (omega arith) h ∙ k)
 
 -- several traces are as one
 joined-flat : (traces : List (List Visit)) → joined traces ≡ flat_map (λ t. t) traces
@@ -109,12 +113,12 @@ set_is_left run j places before after v s p l of size here =
     here_is v s p (omega (arith, here, size)) ∙ (ap (λ (i : JobView). set_left i v.finals s p) of ∙ ap (λ (fs : List FinalsView). set_left j fs s p) l.are)
 
 -- by how the area of the session's phase was left
-pub set_is : (run : Course) (j : JobView) (places : List Place) (v : SetsView) (s p : ℕ) → IsJob j → v.job ≡ j → v.places ≡ length places →
+pub set_is : (run : Course) (j : JobView) (places : List Place) (v : SetsView) (s p : ℕ) → IsJob j → AreWhole j → v.job ≡ j → v.places ≡ length places →
     AreaOf run j places (session_of j s).phase (get_or v.finals (session_of j s).phase no_finals) → 0 < s → s ≤ length j.sessions → p < length places →
     observes (session_of j s).phase (place_of places p).«module» (session_of j s) ≡ true → set_in v s p ≡ set_by run j places s p
-set_is run j places v s p job of size a some most l h =
+set_is run j places v s p job whole of size a some most l h =
     let f : FinalsView = get_or v.finals (session_of j s).phase no_finals in
-    let w : window_at (plan_view j places (session_of j s).phase) p ≡ s = window_at-session j places s p job some most l h in
+    let w : window_at (plan_view j places (session_of j s).phase) p ≡ s = window_at-session j places s p job whole some most l h in
     let left : set_at f s p ≡ facts_at (place_of places p) (phase_trace run j places (session_of j s).phase) = rw w at (a.ends.sets p l (omega (arith, w, some))) in
     let of_job : set_at (get_or v.finals (session_of v.job s).phase no_finals) s p ≡ set_at f s p = ap (λ (i : JobView). set_at (get_or v.finals (session_of i s).phase no_finals) s p) of in
     here_is v s p (omega (arith, l, size)) ∙ (of_job ∙ (left ∙ sym (set_by-trace run j places s p)))
@@ -134,23 +138,23 @@ set_within run j places v s p of size a some most = by_place (nat_lt p v.places)
 pub all_sized : (run : Course) (j : JobView) (places : List Place) (before after : Account) (sets : List FinalsView) → HasLeftBy run j places before after sets → All (IsSized j (length places)) sets
 all_sized run j places before after sets l k d h = sized run j places k (get_or sets k d) (left_at run j places before after sets k d l (omega (arith, h, left_count run j places before after sets l)))
 
-is_outcome : {P : Type 0} (run : Course) (j : JobView) (places : List Place) (before after : Account) (slots : List (Slot P)) (sets : SetsView) → IsJob j → HasLeftBy run j places before after sets.finals →
+is_outcome : {P : Type 0} (run : Course) (j : JobView) (places : List Place) (before after : Account) (slots : List (Slot P)) (sets : SetsView) → IsJob j → AreWhole j → HasLeftBy run j places before after sets.finals →
     AreRun run j places (length j.phases) slots → sets.job ≡ j → sets.places ≡ length places → IsOutcomeBy run j places (dones slots) sets
-is_outcome run j places before after slots sets job left ended of size = record {
+is_outcome run j places before after slots sets job each left ended of size = record {
   count = length-map slots (λ s. s.done) ∙ ended.count;
   are_results = λ t l. (all_ended run j places slots t job ended l).0;
   filled = λ t l. (all_ended run j places slots t job ended l).1;
   job = of;
   size = size;
-  are_sets = λ s p some most l h. set_is run j places sets s p job of size (left_at run j places before after sets.finals (session_of j s).phase no_finals left (phase_in j s job some most)) some most l h;
+  are_sets = λ s p some most l h. set_is run j places sets s p job each of size (left_at run j places before after sets.finals (session_of j s).phase no_finals left (phase_in j s job some most)) some most l h;
   within = λ s p some most. set_within run j places sets s p of size (left_at run j places before after sets.finals (session_of j s).phase no_finals left (phase_in j s job some most)) some most;
 }
 
-pub outcome : {P : Type 0} (run : Course) (j : JobView) (places : List Place) (before after : Account) (slots : List (Slot P)) (tasks : List Done) (finals : List FinalsView) (sets : SetsView) → IsJob j →
+pub outcome : {P : Type 0} (run : Course) (j : JobView) (places : List Place) (before after : Account) (slots : List (Slot P)) (tasks : List Done) (finals : List FinalsView) (sets : SetsView) → IsJob j → AreWhole j →
     HasLeftBy run j places before after finals → AreRun run j places (length j.phases) slots → tasks ≡ dones slots → sets ≡ record { job = j; places = length places; finals = finals } →
     IsOutcomeBy run j places tasks sets
-outcome run j places before after slots tasks finals sets job left ended moved same =
+outcome run j places before after slots tasks finals sets job each left ended moved same =
     let whole : IsOutcomeBy run j places (dones slots) (record { job = j; places = length places; finals = finals }) =
-    is_outcome run j places before after slots (record { job = j; places = length places; finals = finals }) job left ended refl refl in
+    is_outcome run j places before after slots (record { job = j; places = length places; finals = finals }) job each left ended refl refl in
     subst (λ (v : SetsView). IsOutcomeBy run j places tasks v) (sym same)
     (subst (λ (ds : List Done). IsOutcomeBy run j places ds (record { job = j; places = length places; finals = finals })) (sym moved) whole)

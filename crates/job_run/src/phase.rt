@@ -2,7 +2,7 @@
 ghost use Rattle.std.specs.Prelude.{◌≡◌, ◌+◌, ◌<◌, ◌≤◌, ◌^◌, length, All, IfOk, OnErr};
 ghost use Rattle.brk_table.specs.Places.{IsIn};
 ghost use Rattle.session_book.specs.JobView.{IsJob};
-ghost use Rattle.session_book.specs.Sessions.{plan_view};
+ghost use Rattle.session_book.specs.Sessions.{plan_view, AreWhole};
 ghost use Rattle.job_run.specs.Areas.{GrowsBy};
 ghost use Rattle.task_run.specs.Courses.{solo};
 ghost use Rattle.job_run.specs.Outcomes.{IsOutcome};
@@ -36,6 +36,7 @@ fn run_phase<'a, T: Threads + Sync, A: Areas, G: Gate + Sync>(
 ) -> Result<Finals, NoMemory>
     requires room { A.made areas.old < 2 ^ 62 }
     requires phase { phase < length job.now.phases }
+    requires whole { AreWhole job.now }
     requires tasks { AreRun solo job.now tables.now.places phase slots.old }
     requires empty { AreEmpty slots.old }
     ensures made { IfOk result (λ _. A.made areas.new ≡ A.made areas.old + 1) }
@@ -65,6 +66,7 @@ fn run_phases<'a, T: Threads + Sync, A: Areas, G: Gate + Sync>(
     slots: &mut [Slot<'a, <A::C as Cells>::Pass>],
 ) -> Result<Vec<Finals>, NoMemory>
     requires room { A.made areas.old < 2 ^ 61 }
+    requires whole { AreWhole job.now }
     requires tasks { AreRun solo job.now tables.now.places 0 slots.old }
     requires empty { AreEmpty slots.old }
     ensures job { IsJob job.now }
@@ -82,7 +84,7 @@ fn run_phases<'a, T: Threads + Sync, A: Areas, G: Gate + Sync>(
 
 /// Runs the job, phase after phase: the areas are left as the runs of the tasks alone give, and so is the outcome, whose
 /// sets are those of the areas that this call has finished, one for each phase. The tasks of a phase run at once, each on
-/// a thread of its own that has passed the gate. All tasks take their memory before the first phase runs, and a phase
+/// a thread of its own that has passed the gate. No session of the job has a controller. All tasks take their memory before the first phase runs, and a phase
 /// takes all but its area's end before it plants.
 pub fn run_job<'a, T: Threads + Wait + Sync, A: Areas, G: Gate + Sync>(
     rt: &T,
@@ -93,6 +95,7 @@ pub fn run_job<'a, T: Threads + Wait + Sync, A: Areas, G: Gate + Sync>(
     tables: &'a Tables,
 ) -> Result<Outcome<'a>, NoMemory>
     requires tables { All (IsIn job.now.images) tables.now.places }
+    requires whole { AreWhole job.now }
     requires room { A.made areas.old < 2 ^ 61 }
     ensures left { IfOk result (λ o. HasLeft job.now tables.now.places (record { ledger = A.ledger areas.old; finals = A.finals areas.old; made = A.made areas.old }) (record { ledger = A.ledger areas.new; finals = A.finals areas.new; made = A.made areas.new }) o.sets.finals) }
     ensures outcome { IfOk result (λ o. IsOutcome job.now tables.now.places o.tasks.items o.sets) }

@@ -1,5 +1,5 @@
 -- What a card that was read keeps.
-use Rattle.std.proofs.Common.{◌≡◌, ℕ, ◌+◌, ◌*◌, ◌<◌, ◌≤◌, Bool, true, false, ◌&&◌, nat_le, cond, Option, Some, None, Result, Ok, Err, List, [], ◌∷◌, ◌++◌, length, refl, sym, ◌∙◌, subst, option_map, arith, codes, slice_index}
+use Rattle.std.proofs.Common.{◌≡◌, ℕ, ◌+◌, ◌*◌, ◌<◌, ◌≤◌, Bool, true, false, ◌&&◌, nat_le, cond, Option, Some, None, Result, Ok, Err, List, [], ◌∷◌, ◌++◌, length, refl, sym, ◌∙◌, subst, option_map, arith, codes, slice_index, IfSome}
 use Rattle.std.proofs.lemmas.Bool.Decides.{nat_tests}
 use Rattle.std.proofs.lemmas.List.{length-append}
 use Rattle.std.specs.Str.{bytes_eq}
@@ -10,7 +10,7 @@ use Rattle.hex.specs.declared.error.FromHexError.{FromHexError}
 use Rattle.hex.proofs.HexLemmas.{decode_sized-ok, decode_sized-twice, decode_of-ok}
 use Rattle.job_text.specs.CardView.{CardView, Cover, Module, Text, Listing, Phase, Session, Task, Reg, Data, Input, End}
 use Rattle.job_text.specs.Words.{words, number_at, bytes_at, ok_of, address_in, address_at, word_at, put_name, names_on, names_at}
-use Rattle.job_text.specs.Cards.{may_stand, as_module, as_session, as_task, as_reg, as_data, short_card, pair_card, long_card, card_of, card_at}
+use Rattle.job_text.specs.Cards.{may_stand, as_module, as_session, as_controlled, controlled_card, session_card, as_task, as_reg, as_data, short_card, pair_card, long_card, card_of, card_at}
 use Rattle.job_text.proofs.Guards.{some_same, guard_some, guard_more}
 
 -- a name filled with blanks
@@ -20,7 +20,7 @@ pub record IsName (n : List ℕ) : Type 0 where
 
 abbrev pub Good : CardView → Type 0
 Good (Module n b s) = IsName n × (may_stand b s ≡ true)
-Good (Session n ns) = 1 ≤ length ns
+Good (Session n by ns) = IfSome by IsName × (1 ≤ length ns)
 Good (Task n e p b r) = (e < 16777216) × (1 ≤ b)
 Good c = Unit {0}
 
@@ -51,9 +51,15 @@ module_good (Some n) None s c is e = absurd cc
 module_good None b s c is e = absurd cc
 
 session_good : (n : Option (List ℕ)) (ns : Option (List (List ℕ))) (c : CardView) → ((ms : List (List ℕ)) → ns ≡ Some ms → 1 ≤ length ms) → as_session n ns ≡ Some c → Good c
-session_good (Some n) (Some ns) c some e = let same : Session n ns ≡ c = cc in subst Good same (some ns refl)
+session_good (Some n) (Some ns) c some e = let same : Session n None ns ≡ c = cc in subst Good same (tt, some ns refl)
 session_good (Some n) None c some e = absurd cc
 session_good None ns c some e = absurd cc
+
+controlled_good : (n t : Option (List ℕ)) (ns : Option (List (List ℕ))) (c : CardView) → ((m : List ℕ) → t ≡ Some m → IsName m) → ((ms : List (List ℕ)) → ns ≡ Some ms → 1 ≤ length ms) → as_controlled n t ns ≡ Some c → Good c
+controlled_good (Some n) (Some t) (Some ns) c is some e = let same : Session n (Some t) ns ≡ c = cc in subst Good same (is t refl, some ns refl)
+controlled_good (Some n) (Some t) None c is some e = absurd cc
+controlled_good (Some n) None ns c is some e = absurd cc
+controlled_good None t ns c is some e = absurd cc
 
 no_names : (ws ms : List (List ℕ)) → names_on None ws ≡ Some ms → ⊥
 no_names [] ms e = absurd cc
@@ -152,18 +158,26 @@ long_good key a (b ∷ p ∷ q ∷ r ∷ []) c e =
     task_good (name_at a) (address_at b) (number_at p) (number_at q) (number_at r) c (λ k h. address_good b k h) g.1
 long_good key a (b ∷ p ∷ q ∷ r ∷ s ∷ ws) c e = absurd cc
 
-session_or_long : (q : Bool) (n : Option (List ℕ)) (ns : Option (List (List ℕ))) (more : Option CardView) (c : CardView) → ((ms : List (List ℕ)) → ns ≡ Some ms → 1 ≤ length ms) → (more ≡ Some c → Good c) →
-    cond q (as_session n ns) more ≡ Some c → Good c
-session_or_long true n ns more c some g e = session_good n ns c some e
-session_or_long false n ns more c some g e = g e
+one_of : (q : Bool) (o more : Option CardView) (c : CardView) → (o ≡ Some c → Good c) → (more ≡ Some c → Good c) → cond q o more ≡ Some c → Good c
+one_of true o more c f g e = f e
+one_of false o more c f g e = g e
+
+behind_by : (name : List ℕ) (ws : List (List ℕ)) (c : CardView) → controlled_card name ws ≡ Some c → Good c
+behind_by name [] c e = absurd cc
+behind_by name (t ∷ []) c e = absurd cc
+behind_by name (t ∷ m ∷ more) c e = controlled_good (name_at name) (name_at t) (names_at (m ∷ more)) c (λ n h. name_good t n h) (names_some m more) e
+
+behind_name : (name a : List ℕ) (more : List (List ℕ)) (c : CardView) → session_card name (a ∷ more) ≡ Some c → Good c
+behind_name name a more c e =
+    one_of (bytes_eq a (codes "BY")) (controlled_card name more) (as_session (name_at name) (names_at (a ∷ more))) c (behind_by name more c) (session_good (name_at name) (names_at (a ∷ more)) c (names_some a more)) e
 
 words_good : (ws : List (List ℕ)) (c : CardView) → card_of ws ≡ Some c → Good c
 words_good [] c e = absurd cc
 words_good (key ∷ []) c e = last_good (bytes_eq key (codes "ENDJOB")) c End tt e
 words_good (key ∷ a ∷ []) c e = short_good key a c e
 words_good (key ∷ a ∷ b ∷ more) c e =
-    session_or_long (bytes_eq key (codes "SESSION")) (name_at a) (names_at (b ∷ more)) (long_card key a (b ∷ more)) c (names_some b more) (long_good key a (b ∷ more) c) e
+    one_of (bytes_eq key (codes "SESSION")) (session_card a (b ∷ more)) (long_card key a (b ∷ more)) c (behind_name a b more c) (long_good key a (b ∷ more) c) e
 
--- a module's name is a name and it may stand there, a session has a module, an entry is an address, and a budget is at least 1
+-- a module's name is a name and it may stand there, a controller's name is one, a session has a module, an entry is an address, and a budget is at least 1
 pub card_good : (line : List ℕ) (c : CardView) → card_at line ≡ Some c → Good c
 card_good line c e = words_good (words line) c e

@@ -1,16 +1,17 @@
 -- What lines pass they have passed for good: each line only adds, and of the limits that it passes the first is told.
-use Rattle.std.proofs.Common.{◌≡◌, ℕ, ◌+◌, ◌-◌, ◌<◌, ◌≤◌, zero, suc, Bool, true, false, ◌&&◌, nat_eq, nat_le, cond, Option, Some, None, List, [], ◌∷◌, ◌++◌, length, replicate, refl, ap, subst, sym, ◌∙◌, arith, append-nil, length-append, option_map, option_and_then, inl, inr}
+use Rattle.std.proofs.Common.{◌≡◌, ℕ, ◌+◌, ◌-◌, ◌<◌, ◌≤◌, zero, suc, Bool, true, false, ◌&&◌, nat_eq, nat_le, cond, Option, Some, None, List, [], ◌∷◌, ◌++◌, length, replicate, refl, ap, subst, sym, ◌∙◌, arith, append-nil, length-append, option_and_then, inl, inr}
 use Rattle.std.proofs.lemmas.Bool.Decides.{nat_tests}
-use Rattle.std.proofs.lemmas.List.{length-replicate}
+use Rattle.std.proofs.lemmas.List.{length-replicate, length-map}
 use Rattle.std.proofs.lemmas.List.Folds.{list_all-append}
 use Rattle.std.specs.List.{list_all}
 use Rattle.cov_base.specs.Memory.{ImageView}
 use Rattle.cov_base.specs.declared.limits.TheConstants.{MODULE_LIMIT, SIZE_LIMIT, LINE_LIMIT, PHASE_LIMIT, SESSION_LIMIT, TASK_LIMIT, PRIVATE_LIMIT, BUDGET_LIMIT, ROOM_LIMIT}
 use Rattle.session_book.specs.JobView.{JobView, TaskView}
+use Rattle.job_text.specs.Drafts.{DraftView, Controllers, bound}
 use Rattle.job_text.specs.Lines.{LineView, listing_text}
 use Rattle.job_text.specs.CardView.{CardView, Cover, Module, Text, Listing, Phase, Session, Task, Reg, Data, Input, End}
 use Rattle.job_text.specs.Cards.{card_at}
-use Rattle.job_text.specs.Adding.{fits, with_module, with_phase, put_session, with_session, has_task, with_task, indices_on}
+use Rattle.job_text.specs.Adding.{fits, with_module, with_phase, put_session, with_session, has_task, with_task}
 use Rattle.job_text.specs.TaskParts.{part, takes_reg, takes_data, is_inside, with_reg, with_data, fresh_task, task_more}
 use Rattle.job_text.specs.Limits.{are_short, is_small, has_private, has_budget, has_room, keeps, IsWithin, rank}
 use Rattle.job_text.specs.declared.task.TaskPart.{TaskPart}
@@ -20,9 +21,10 @@ use Rattle.job_text.specs.declared.limit.Limit.TheVariants as limit
 use Rattle.job_text.specs.declared.parts.Part.{Part}
 use Rattle.job_text.specs.declared.parts.Part.TheVariants as kind
 use Rattle.job_text.specs.Steps.{State, state, is_start, is_sessions, closed_module, closed_task, closed, no_bytes, with_bytes, module_over, line_over, phase_over, session_over, task_over, open_module, open_task, open_phase, add_session, take_text, take_listing, take_more, end, takes_raw, take_raw, take_card, step, run}
-use Rattle.job_text.proofs.Guards.{some_same, guard_some, guard_more, both, map_some, then_some, choose, guard_none, guard_then}
-use Rattle.job_text.proofs.Spelled.{closed_of_module, closed_of_task}
-use Rattle.job_text.proofs.Shortest.{sofar_at, sofar, closed_sofar}
+use Rattle.job_text.proofs.Guards.{some_same, guard_some, guard_more, both, map_some, then_some, choose, guard_none}
+use Rattle.job_text.proofs.Named.{session_added}
+use Rattle.job_text.proofs.Spelled.{closed_of_module}
+use Rattle.job_text.proofs.Shortest.{sofar_at, draft_sofar, sofar, closed_sofar, task_sofar}
 
 -- this limit was passed, and none before it in the order of limits; or none at all
 abbrev pub Judged : Option Limit → JobView → Type 0
@@ -34,14 +36,45 @@ pub record Grown (a b : JobView) (over : Option Limit) : Type 0 where
   pub more : (w : Limit) → keeps w b ≡ true → keeps w a ≡ true
   pub judged : IsWithin a → Judged over b
 
-alike : (a b : JobView) → ((w : Limit) → keeps w a ≡ keeps w b) → Grown a b None
+-- the same of what was read of a job
+
+abbrev holds : Limit → DraftView → Bool
+holds limit.Sessions j = nat_le (length j.sessions) SESSION_LIMIT
+holds w j = keeps w (bound j)
+
+keeps_is : (w : Limit) (j : DraftView) → keeps w (bound j) ≡ holds w j
+keeps_is limit.Sessions j = ap (λ (n : ℕ). nat_le n SESSION_LIMIT) (length-map j.sessions _)
+keeps_is w j = refl
+
+abbrev Holds : DraftView → Type 0
+Holds j = (w : Limit) → holds w j ≡ true
+
+abbrev Found : Option Limit → DraftView → Type 0
+Found None j = Holds j
+Found (Some what) j = (holds what j ≡ false) × ((other : Limit) → rank other < rank what → holds other j ≡ true)
+
+record More (a b : DraftView) (over : Option Limit) : Type 0 where
+  more : (w : Limit) → holds w b ≡ true → holds w a ≡ true
+  judged : Holds a → Found over b
+
+judged_of : (over : Option Limit) (j : DraftView) → Found over j → Judged over (bound j)
+judged_of None j h = λ w. keeps_is w j ∙ h w
+judged_of (Some what) j h = (keeps_is what j ∙ h.0, λ other less. keeps_is other j ∙ h.1 other less)
+
+grown_of : (a b : DraftView) (over : Option Limit) → More a b over → Grown (bound a) (bound b) over
+grown_of a b over g = record {
+  more = λ w e. keeps_is w a ∙ g.more w (sym (keeps_is w b) ∙ e);
+  judged = λ h. judged_of over b (g.judged (λ w. sym (keeps_is w a) ∙ h w));
+}
+
+alike : (a b : DraftView) → ((w : Limit) → holds w a ≡ holds w b) → More a b None
 alike a b same = record { more = λ w e. same w ∙ e; judged = λ h w. sym (same w) ∙ h w }
 
-same_grown : (a b : JobView) → b ≡ a → Grown a b None
-same_grown a b e = alike a b (λ w. ap (λ (x : JobView). keeps w x) (sym e))
+same_grown : (a b : DraftView) → b ≡ a → More a b None
+same_grown a b e = alike a b (λ w. ap (λ (x : DraftView). holds w x) (sym e))
 
-from_closed : (p : Part) (j k b : JobView) (over : Option Limit) → closed p j ≡ Some k → Grown k b over → Grown (sofar_at p j) b over
-from_closed p j k b over e g = subst (λ (x : JobView). Grown x b over) (closed_sofar p j k e) g
+from_closed : (ask : Controllers) (p : Part) (j k b : DraftView) (over : Option Limit) → closed ask p j ≡ Some k → More k b over → More (sofar_at p j) b over
+from_closed ask p j k b over e g = subst (λ (x : DraftView). More x b over) (closed_sofar ask p j k e) g
 
 -- lists with one more
 
@@ -87,37 +120,37 @@ no_room xs x n e = let one : length (xs ++ x ∷ []) ≡ length xs + 1 = omega (
 
 -- a module more
 
-module_more : (j : JobView) (i : ImageView) (listing : Option (List (List ℕ))) (w : Limit) → keeps w (with_module j i listing) ≡ true → keeps w j ≡ true
+module_more : (j : DraftView) (i : ImageView) (listing : Option (List (List ℕ))) (w : Limit) → holds w (with_module j i listing) ≡ true → holds w j ≡ true
 module_more j i listing limit.Modules e = fewer j.images i MODULE_LIMIT e
 module_more j i listing limit.Size e = first_of is_small j.images i e
 module_more j i listing limit.Line e = first_of are_short j.listings listing e
 module_more j i listing w e = e
 
-module_keeps : (j : JobView) (i : ImageView) → IsWithin j → nat_le MODULE_LIMIT (length j.images) ≡ false → is_small i ≡ true → (w : Limit) → keeps w (with_module j i None) ≡ true
-module_keeps j i h room small limit.Modules = room_left j.images i MODULE_LIMIT room
-module_keeps j i h room small limit.Size = all_last is_small j.images i (h limit.Size) small
-module_keeps j i h room small limit.Line = all_last are_short j.listings None (h limit.Line) refl
-module_keeps j i h room small w = h w
+module_holds : (j : DraftView) (i : ImageView) → Holds j → nat_le MODULE_LIMIT (length j.images) ≡ false → is_small i ≡ true → (w : Limit) → holds w (with_module j i None) ≡ true
+module_holds j i h room small limit.Modules = room_left j.images i MODULE_LIMIT room
+module_holds j i h room small limit.Size = all_last is_small j.images i (h limit.Size) small
+module_holds j i h room small limit.Line = all_last are_short j.listings None (h limit.Line) refl
+module_holds j i h room small w = h w
 
-module_first : (j : JobView) (i : ImageView) → nat_le MODULE_LIMIT (length j.images) ≡ false → (w : Limit) → rank w < rank limit.Size → keeps w (with_module j i None) ≡ true
+module_first : (j : DraftView) (i : ImageView) → nat_le MODULE_LIMIT (length j.images) ≡ false → (w : Limit) → rank w < rank limit.Size → holds w (with_module j i None) ≡ true
 module_first j i room limit.Input h = refl
 module_first j i room limit.Modules h = room_left j.images i MODULE_LIMIT room
 module_first j i room w h = absurd (omega arith)
 
-input_first : (j : JobView) (w : Limit) → rank w < rank limit.Modules → keeps w j ≡ true
+input_first : (j : DraftView) (w : Limit) → rank w < rank limit.Modules → holds w j ≡ true
 input_first j limit.Input h = refl
 input_first j w h = absurd (omega arith)
 
-module_judged : (j : JobView) (i : ImageView) (q r : Bool) → nat_le MODULE_LIMIT (length j.images) ≡ q → is_small i ≡ r → IsWithin j →
-    Judged (cond q (Some limit.Modules) (cond r None (Some limit.Size))) (with_module j i None)
+module_judged : (j : DraftView) (i : ImageView) (q r : Bool) → nat_le MODULE_LIMIT (length j.images) ≡ q → is_small i ≡ r → Holds j →
+    Found (cond q (Some limit.Modules) (cond r None (Some limit.Size))) (with_module j i None)
 module_judged j i true r a b h = (no_room j.images i MODULE_LIMIT a, input_first (with_module j i None))
-module_judged j i false true a b h = module_keeps j i h a b
+module_judged j i false true a b h = module_holds j i h a b
 module_judged j i false false a b h = (all_not is_small j.images i b, module_first j i a)
 
 size_of : (name : List ℕ) (base size : ℕ) → is_small (with_bytes (no_bytes name base) (replicate size 0)) ≡ nat_le size SIZE_LIMIT
 size_of name base size = ap (λ (n : ℕ). nat_le n SIZE_LIMIT) (length-replicate size 0)
 
-module_grown : (j : JobView) (name : List ℕ) (base size : ℕ) → Grown j (with_module j (with_bytes (no_bytes name base) (replicate size 0)) None) (module_over j size)
+module_grown : (j : DraftView) (name : List ℕ) (base size : ℕ) → More j (with_module j (with_bytes (no_bytes name base) (replicate size 0)) None) (module_over j size)
 module_grown j name base size =
     let i : ImageView = with_bytes (no_bytes name base) (replicate size 0) in
     record {
@@ -127,7 +160,7 @@ module_grown j name base size =
 
 -- further bytes of it, its listing, and a line of this
 
-module_alike : (j : JobView) (i k : ImageView) (a b : Option (List (List ℕ))) → is_small i ≡ is_small k → are_short a ≡ are_short b → (w : Limit) → keeps w (with_module j i a) ≡ keeps w (with_module j k b)
+module_alike : (j : DraftView) (i k : ImageView) (a b : Option (List (List ℕ))) → is_small i ≡ is_small k → are_short a ≡ are_short b → (w : Limit) → holds w (with_module j i a) ≡ holds w (with_module j k b)
 module_alike j i k a b p q limit.Modules =
     let x : length (j.images ++ i ∷ []) ≡ length (j.images ++ k ∷ []) = omega (arith, length-append j.images (i ∷ []), length-append j.images (k ∷ [])) in
     ap (λ (n : ℕ). nat_le n MODULE_LIMIT) x
@@ -135,8 +168,8 @@ module_alike j i k a b p q limit.Size = all_same is_small j.images i k p
 module_alike j i k a b p q limit.Line = all_same are_short j.listings a b q
 module_alike j i k a b p q w = refl
 
-text_grown : (j : JobView) (i : ImageView) (left : ℕ) (bytes : List ℕ) → length bytes ≤ left →
-    Grown (with_module j (with_bytes i (replicate left 0)) None) (with_module j (with_bytes (with_bytes i bytes) (replicate (left - length bytes) 0)) None) None
+text_grown : (j : DraftView) (i : ImageView) (left : ℕ) (bytes : List ℕ) → length bytes ≤ left →
+    More (with_module j (with_bytes i (replicate left 0)) None) (with_module j (with_bytes (with_bytes i bytes) (replicate (left - length bytes) 0)) None) None
 text_grown j i left bytes h =
     let a : ImageView = with_bytes i (replicate left 0) in
     let b : ImageView = with_bytes (with_bytes i bytes) (replicate (left - length bytes) 0) in
@@ -154,45 +187,45 @@ empty_short (suc n) = empty_short n
 listed_short : (texts : List (List ℕ)) (n : ℕ) → are_short (Some (texts ++ replicate n [])) ≡ list_all is_short texts
 listed_short texts n = list_all-append is_short texts (replicate n []) ∙ (ap (λ (b : Bool). list_all is_short texts && b) (empty_short n) ∙ and_true (list_all is_short texts))
 
-listing_grown : (j : JobView) (i : ImageView) (left n : ℕ) → left ≡ 0 → Grown (with_module j (with_bytes i (replicate left 0)) None) (with_module j i (Some ([] ++ replicate n []))) None
+listing_grown : (j : DraftView) (i : ImageView) (left n : ℕ) → left ≡ 0 → More (with_module j (with_bytes i (replicate left 0)) None) (with_module j i (Some ([] ++ replicate n []))) None
 listing_grown j i left n e =
     let same : is_small (with_bytes i (replicate left 0)) ≡ is_small i = rw (e, append-nil {A = ℕ}) refl in
     alike _ _ (module_alike j (with_bytes i (replicate left 0)) i None (Some ([] ++ replicate n [])) same (sym (listed_short [] n)))
 
-line_more : (j : JobView) (i : ImageView) (a b : Option (List (List ℕ))) → (are_short b ≡ true → are_short a ≡ true) → (w : Limit) → keeps w (with_module j i b) ≡ true → keeps w (with_module j i a) ≡ true
+line_more : (j : DraftView) (i : ImageView) (a b : Option (List (List ℕ))) → (are_short b ≡ true → are_short a ≡ true) → (w : Limit) → holds w (with_module j i b) ≡ true → holds w (with_module j i a) ≡ true
 line_more j i a b f limit.Modules e = e
 line_more j i a b f limit.Line e =
     let p = both (list_all are_short j.listings) (are_short b) (sym (last_all are_short j.listings b) ∙ e) in
     all_last are_short j.listings a p.0 (f p.1)
 line_more j i a b f w e = e
 
-line_keeps : (j : JobView) (i : ImageView) (a b : Option (List (List ℕ))) → are_short b ≡ true → IsWithin (with_module j i a) → (w : Limit) → keeps w (with_module j i b) ≡ true
-line_keeps j i a b short h limit.Line = all_last are_short j.listings b (first_of are_short j.listings a (h limit.Line)) short
-line_keeps j i a b short h w = h w
+line_holds : (j : DraftView) (i : ImageView) (a b : Option (List (List ℕ))) → are_short b ≡ true → Holds (with_module j i a) → (w : Limit) → holds w (with_module j i b) ≡ true
+line_holds j i a b short h limit.Line = all_last are_short j.listings b (first_of are_short j.listings a (h limit.Line)) short
+line_holds j i a b short h w = h w
 
-line_first : (j : JobView) (i : ImageView) (a b : Option (List (List ℕ))) → IsWithin (with_module j i a) → (w : Limit) → rank w < rank limit.Line → keeps w (with_module j i b) ≡ true
+line_first : (j : DraftView) (i : ImageView) (a b : Option (List (List ℕ))) → Holds (with_module j i a) → (w : Limit) → rank w < rank limit.Line → holds w (with_module j i b) ≡ true
 line_first j i a b h limit.Input less = refl
 line_first j i a b h limit.Modules less = h limit.Modules
 line_first j i a b h limit.Size less = h limit.Size
 line_first j i a b h w less = absurd (omega arith)
 
-line_judged : (j : JobView) (i : ImageView) (texts : List (List ℕ)) (t : List ℕ) (m n : ℕ) (q : Bool) → is_short t ≡ q → IsWithin (with_module j i (Some (texts ++ replicate m []))) →
-    Judged (cond q None (Some limit.Line)) (with_module j i (Some ((texts ++ t ∷ []) ++ replicate n [])))
+line_judged : (j : DraftView) (i : ImageView) (texts : List (List ℕ)) (t : List ℕ) (m n : ℕ) (q : Bool) → is_short t ≡ q → Holds (with_module j i (Some (texts ++ replicate m []))) →
+    Found (cond q None (Some limit.Line)) (with_module j i (Some ((texts ++ t ∷ []) ++ replicate n [])))
 line_judged j i texts t m n true e h =
     let a : Option (List (List ℕ)) = Some (texts ++ replicate m []) in
     let b : Option (List (List ℕ)) = Some ((texts ++ t ∷ []) ++ replicate n []) in
     let p = both (list_all are_short j.listings) (are_short a) (sym (last_all are_short j.listings a) ∙ h limit.Line) in
     let old : list_all is_short texts ≡ true = sym (listed_short texts m) ∙ p.1 in
     let short : are_short b ≡ true = listed_short (texts ++ t ∷ []) n ∙ all_last is_short texts t old e in
-    line_keeps j i a b short h
+    line_holds j i a b short h
 line_judged j i texts t m n false e h =
     let a : Option (List (List ℕ)) = Some (texts ++ replicate m []) in
     let b : Option (List (List ℕ)) = Some ((texts ++ t ∷ []) ++ replicate n []) in
     let long : are_short b ≡ false = listed_short (texts ++ t ∷ []) n ∙ all_not is_short texts t e in
     (all_not are_short j.listings b long, line_first j i a b h)
 
-line_grown : (j : JobView) (i : ImageView) (texts : List (List ℕ)) (t : List ℕ) (m n : ℕ) →
-    Grown (with_module j i (Some (texts ++ replicate m []))) (with_module j i (Some ((texts ++ t ∷ []) ++ replicate n []))) (line_over t)
+line_grown : (j : DraftView) (i : ImageView) (texts : List (List ℕ)) (t : List ℕ) (m n : ℕ) →
+    More (with_module j i (Some (texts ++ replicate m []))) (with_module j i (Some ((texts ++ t ∷ []) ++ replicate n []))) (line_over t)
 line_grown j i texts t m n =
     let a : Option (List (List ℕ)) = Some (texts ++ replicate m []) in
     let b : Option (List (List ℕ)) = Some ((texts ++ t ∷ []) ++ replicate n []) in
@@ -203,69 +236,68 @@ line_grown j i texts t m n =
 
 -- a phase more, a session more
 
-abbrev put_phase : JobView → List ℕ → JobView
+abbrev put_phase : DraftView → List ℕ → DraftView
 put_phase j name = record j { phases = j.phases ++ name ∷ [] }
 
-phase_more : (j : JobView) (name : List ℕ) (w : Limit) → keeps w (put_phase j name) ≡ true → keeps w j ≡ true
+phase_more : (j : DraftView) (name : List ℕ) (w : Limit) → holds w (put_phase j name) ≡ true → holds w j ≡ true
 phase_more j name limit.Phases e = fewer j.phases name PHASE_LIMIT e
 phase_more j name w e = e
 
-phase_keeps : (j : JobView) (name : List ℕ) → IsWithin j → nat_le PHASE_LIMIT (length j.phases) ≡ false → (w : Limit) → keeps w (put_phase j name) ≡ true
-phase_keeps j name h room limit.Phases = room_left j.phases name PHASE_LIMIT room
-phase_keeps j name h room w = h w
+phase_holds : (j : DraftView) (name : List ℕ) → Holds j → nat_le PHASE_LIMIT (length j.phases) ≡ false → (w : Limit) → holds w (put_phase j name) ≡ true
+phase_holds j name h room limit.Phases = room_left j.phases name PHASE_LIMIT room
+phase_holds j name h room w = h w
 
-phase_first : (j : JobView) (name : List ℕ) → IsWithin j → (w : Limit) → rank w < rank limit.Phases → keeps w (put_phase j name) ≡ true
+phase_first : (j : DraftView) (name : List ℕ) → Holds j → (w : Limit) → rank w < rank limit.Phases → holds w (put_phase j name) ≡ true
 phase_first j name h limit.Phases less = absurd (omega arith)
 phase_first j name h w less = h w
 
-phase_judged : (j : JobView) (name : List ℕ) (q : Bool) → nat_le PHASE_LIMIT (length j.phases) ≡ q → IsWithin j → Judged (cond q (Some limit.Phases) None) (put_phase j name)
+phase_judged : (j : DraftView) (name : List ℕ) (q : Bool) → nat_le PHASE_LIMIT (length j.phases) ≡ q → Holds j → Found (cond q (Some limit.Phases) None) (put_phase j name)
 phase_judged j name true e h = (no_room j.phases name PHASE_LIMIT e, phase_first j name h)
-phase_judged j name false e h = phase_keeps j name h e
+phase_judged j name false e h = phase_holds j name h e
 
-phase_grown : (j k : JobView) (name : List ℕ) → with_phase j name ≡ Some k → Grown j k (phase_over j)
+phase_grown : (j k : DraftView) (name : List ℕ) → with_phase j name ≡ Some k → More j k (phase_over j)
 phase_grown j k name e =
     let g = guard_none _ (put_phase j name) k e in
-    subst (λ (x : JobView). Grown j x (phase_over j)) g.1 (record { more = phase_more j name; judged = phase_judged j name (nat_le PHASE_LIMIT (length j.phases)) refl })
+    subst (λ (x : DraftView). More j x (phase_over j)) g.1 (record { more = phase_more j name; judged = phase_judged j name (nat_le PHASE_LIMIT (length j.phases)) refl })
 
-session_more : (j : JobView) (name : List ℕ) (ms : List ℕ) (w : Limit) → keeps w (put_session j name ms) ≡ true → keeps w j ≡ true
-session_more j name ms limit.Sessions e = fewer j.sessions _ SESSION_LIMIT e
-session_more j name ms w e = e
+session_more : (j : DraftView) (name : List ℕ) (by : Option (List ℕ)) (ms : List ℕ) (w : Limit) → holds w (put_session j name by ms) ≡ true → holds w j ≡ true
+session_more j name by ms limit.Sessions e = fewer j.sessions _ SESSION_LIMIT e
+session_more j name by ms w e = e
 
-session_keeps : (j : JobView) (name : List ℕ) (ms : List ℕ) → IsWithin j → nat_le SESSION_LIMIT (length j.sessions) ≡ false → (w : Limit) → keeps w (put_session j name ms) ≡ true
-session_keeps j name ms h room limit.Sessions = room_left j.sessions _ SESSION_LIMIT room
-session_keeps j name ms h room w = h w
+session_holds : (j : DraftView) (name : List ℕ) (by : Option (List ℕ)) (ms : List ℕ) → Holds j → nat_le SESSION_LIMIT (length j.sessions) ≡ false → (w : Limit) → holds w (put_session j name by ms) ≡ true
+session_holds j name by ms h room limit.Sessions = room_left j.sessions _ SESSION_LIMIT room
+session_holds j name by ms h room w = h w
 
-session_first : (j : JobView) (name : List ℕ) (ms : List ℕ) → IsWithin j → (w : Limit) → rank w < rank limit.Sessions → keeps w (put_session j name ms) ≡ true
-session_first j name ms h limit.Sessions less = absurd (omega arith)
-session_first j name ms h w less = h w
+session_first : (j : DraftView) (name : List ℕ) (by : Option (List ℕ)) (ms : List ℕ) → Holds j → (w : Limit) → rank w < rank limit.Sessions → holds w (put_session j name by ms) ≡ true
+session_first j name by ms h limit.Sessions less = absurd (omega arith)
+session_first j name by ms h w less = h w
 
-session_judged : (j : JobView) (name : List ℕ) (ms : List ℕ) (q : Bool) → nat_le SESSION_LIMIT (length j.sessions) ≡ q → IsWithin j → Judged (cond q (Some limit.Sessions) None) (put_session j name ms)
-session_judged j name ms true e h = (no_room j.sessions _ SESSION_LIMIT e, session_first j name ms h)
-session_judged j name ms false e h = session_keeps j name ms h e
+session_judged : (j : DraftView) (name : List ℕ) (by : Option (List ℕ)) (ms : List ℕ) (q : Bool) → nat_le SESSION_LIMIT (length j.sessions) ≡ q → Holds j → Found (cond q (Some limit.Sessions) None) (put_session j name by ms)
+session_judged j name by ms true e h = (no_room j.sessions _ SESSION_LIMIT e, session_first j name by ms h)
+session_judged j name by ms false e h = session_holds j name by ms h e
 
-session_grown : (j k : JobView) (name : List ℕ) (names : List (List ℕ)) → with_session j name names ≡ Some k → Grown j k (session_over j)
-session_grown j k name names e =
-    let g = guard_then _ (option_map (put_session j name) (indices_on j (Some []) names)) k e in
-    let m = map_some (put_session j name) (indices_on j (Some []) names) k g.1 in
-    subst (λ (x : JobView). Grown j x (session_over j)) m.gives (record { more = session_more j name m.from; judged = session_judged j name m.from (nat_le SESSION_LIMIT (length j.sessions)) refl })
+session_grown : (ask : Controllers) (j k : DraftView) (name : List ℕ) (by : Option (List ℕ)) (names : List (List ℕ)) → with_session ask j name by names ≡ Some k → More j k (session_over j)
+session_grown ask j k name by names e =
+    let m = session_added ask j k name by names e in
+    subst (λ (x : DraftView). More j x (session_over j)) m.is (record { more = session_more j name by m.modules; judged = session_judged j name by m.modules (nat_le SESSION_LIMIT (length j.sessions)) refl })
 
 -- a task more
 
-task_more_of : (j : JobView) (t : TaskView) (w : Limit) → keeps w (with_task j t) ≡ true → keeps w j ≡ true
+task_more_of : (j : DraftView) (t : TaskView) (w : Limit) → holds w (with_task j t) ≡ true → holds w j ≡ true
 task_more_of j t limit.Tasks e = fewer j.tasks _ TASK_LIMIT e
 task_more_of j t limit.Private e = first_of has_private j.tasks _ e
 task_more_of j t limit.Budget e = first_of has_budget j.tasks _ e
 task_more_of j t limit.Room e = first_of has_room j.tasks _ e
 task_more_of j t w e = e
 
--- it keeps each limit that comes before this one
-record TaskKeeps (j : JobView) (t : TaskView) (n : ℕ) : Type 0 where
+-- it holds each limit that comes before this one
+record TaskKeeps (j : DraftView) (t : TaskView) (n : ℕ) : Type 0 where
   count : 7 < n → nat_le TASK_LIMIT (length j.tasks) ≡ false
   private : 8 < n → has_private t ≡ true
   budget : 9 < n → has_budget t ≡ true
   room : 10 < n → has_room t ≡ true
 
-task_first : (j : JobView) (t : TaskView) (n : ℕ) → IsWithin j → TaskKeeps j t n → (w : Limit) → rank w < n → keeps w (with_task j t) ≡ true
+task_first : (j : DraftView) (t : TaskView) (n : ℕ) → Holds j → TaskKeeps j t n → (w : Limit) → rank w < n → holds w (with_task j t) ≡ true
 task_first j t n h k limit.Tasks less = room_left j.tasks _ TASK_LIMIT (k.count less)
 task_first j t n h k limit.Private less = all_last has_private j.tasks _ (h limit.Private) (k.private less)
 task_first j t n h k limit.Budget less = all_last has_budget j.tasks _ (h limit.Budget) (k.budget less)
@@ -285,8 +317,8 @@ rank_most limit.Private = omega arith
 rank_most limit.Budget = omega arith
 rank_most limit.Room = omega arith
 
-task_judged : (j : JobView) (t : TaskView) (q a b c : Bool) → nat_le TASK_LIMIT (length j.tasks) ≡ q → has_private t ≡ a → has_budget t ≡ b → has_room t ≡ c → IsWithin j →
-    Judged (cond q (Some limit.Tasks) (cond a (cond b (cond c None (Some limit.Room)) (Some limit.Budget)) (Some limit.Private))) (with_task j t)
+task_judged : (j : DraftView) (t : TaskView) (q a b c : Bool) → nat_le TASK_LIMIT (length j.tasks) ≡ q → has_private t ≡ a → has_budget t ≡ b → has_room t ≡ c → Holds j →
+    Found (cond q (Some limit.Tasks) (cond a (cond b (cond c None (Some limit.Room)) (Some limit.Budget)) (Some limit.Private))) (with_task j t)
 task_judged j t true a b c e p u r h =
     (no_room j.tasks _ TASK_LIMIT e, task_first j t 7 h (record { count = λ l. absurd (omega (arith, l)); private = λ l. absurd (omega (arith, l)); budget = λ l. absurd (omega (arith, l)); room = λ l. absurd (omega (arith, l)) }))
 task_judged j t false false b c e p u r h =
@@ -298,7 +330,7 @@ task_judged j t false true true false e p u r h =
 task_judged j t false true true true e p u r h =
     λ w. task_first j t 11 h (record { count = λ l. e; private = λ l. p; budget = λ l. u; room = λ l. r }) w (rank_most w)
 
-task_grown : (j : JobView) (name : List ℕ) (entry private budget room : ℕ) → Grown j (with_task j (fresh_task name entry private budget room).task) (task_over j private budget room)
+task_grown : (j : DraftView) (name : List ℕ) (entry private budget room : ℕ) → More j (with_task j (fresh_task name entry private budget room).task) (task_over j private budget room)
 task_grown j name entry private budget room =
     let t : TaskView = (fresh_task name entry private budget room).task in
     record {
@@ -313,7 +345,7 @@ record SameSizes (t u : TaskView) : Type 0 where
   budget : t.budget ≡ u.budget
   room : t.room ≡ u.room
 
-task_alike : (j : JobView) (t u : TaskView) → SameSizes t u → (w : Limit) → keeps w (with_task j t) ≡ keeps w (with_task j u)
+task_alike : (j : DraftView) (t u : TaskView) → SameSizes t u → (w : Limit) → holds w (with_task j t) ≡ holds w (with_task j u)
 task_alike j t u s limit.Tasks =
     let x : length (with_task j t).tasks ≡ length (with_task j u).tasks = omega (arith, length-append {A = TaskView}) in
     ap (λ (n : ℕ). nat_le n TASK_LIMIT) x
@@ -333,84 +365,84 @@ more_sizes c t u e = absurd cc
 
 -- each line
 
-grows_to : (st s t : State) → t ≡ s → Grown (sofar st) (sofar t) t.over → Grown (sofar st) (sofar s) s.over
-grows_to st s t e g = subst (λ (x : State). Grown (sofar st) (sofar x) x.over) e g
+grows_to : (st s t : State) → t ≡ s → More (draft_sofar st) (draft_sofar t) t.over → More (draft_sofar st) (draft_sofar s) s.over
+grows_to st s t e g = subst (λ (x : State). More (draft_sofar st) (draft_sofar x) x.over) e g
 
-raw_grows : (p : Part) (j : JobView) (text : List ℕ) (s : State) → takes_raw p ≡ true → take_raw p j text ≡ Some s → Grown (sofar_at p j) (sofar s) s.over
+raw_grows : (p : Part) (j : DraftView) (text : List ℕ) (s : State) → takes_raw p ≡ true → take_raw p j text ≡ Some s → More (sofar_at p j) (draft_sofar s) s.over
 raw_grows (kind.Listed i left texts) j text s raw e =
-    subst (λ (x : State). Grown (with_module j i (Some (texts ++ replicate left []))) (sofar x) x.over) (some_same _ s e) (line_grown j i texts text left (left - 1))
+    subst (λ (x : State). More (with_module j i (Some (texts ++ replicate left []))) (draft_sofar x) x.over) (some_same _ s e) (line_grown j i texts text left (left - 1))
 raw_grows p j text s raw e = absurd cc
 
-text_grows : (p : Part) (j : JobView) (bytes : List ℕ) (s : State) → take_text p j bytes ≡ Some s → Grown (sofar_at p j) (sofar s) s.over
+text_grows : (p : Part) (j : DraftView) (bytes : List ℕ) (s : State) → take_text p j bytes ≡ Some s → More (sofar_at p j) (draft_sofar s) s.over
 text_grows (kind.Texts i left) j bytes s e =
     let next : State = state (kind.Texts (with_bytes i bytes) (left - length bytes)) j None in
     let g = guard_some (nat_le (length bytes) left) next s e in
     let fit : length bytes ≤ left = grind (arith, nat_tests, g.0) in
-    subst (λ (x : State). Grown (with_module j (with_bytes i (replicate left 0)) None) (sofar x) x.over) g.1 (text_grown j i left bytes fit)
+    subst (λ (x : State). More (with_module j (with_bytes i (replicate left 0)) None) (draft_sofar x) x.over) g.1 (text_grown j i left bytes fit)
 text_grows p j bytes s e = absurd cc
 
-listing_grows : (p : Part) (j : JobView) (n : ℕ) (s : State) → take_listing p j n ≡ Some s → Grown (sofar_at p j) (sofar s) s.over
+listing_grows : (p : Part) (j : DraftView) (n : ℕ) (s : State) → take_listing p j n ≡ Some s → More (sofar_at p j) (draft_sofar s) s.over
 listing_grows (kind.Texts i left) j n s e =
     let next : State = state (kind.Listed i n []) j None in
     let g = guard_some (nat_eq left 0) next s e in
     let none : left ≡ 0 = grind (arith, nat_tests, g.0) in
-    subst (λ (x : State). Grown (with_module j (with_bytes i (replicate left 0)) None) (sofar x) x.over) g.1 (listing_grown j i left n none)
+    subst (λ (x : State). More (with_module j (with_bytes i (replicate left 0)) None) (draft_sofar x) x.over) g.1 (listing_grown j i left n none)
 listing_grows p j n s e = absurd cc
 
-more_grows : (p : Part) (j : JobView) (c : CardView) (s : State) → take_more p j c ≡ Some s → Grown (sofar_at p j) (sofar s) s.over
+more_grows : (p : Part) (j : DraftView) (c : CardView) (s : State) → take_more p j c ≡ Some s → More (sofar_at p j) (draft_sofar s) s.over
 more_grows (kind.Task t) j c s e =
     let m = map_some (λ u. state (kind.Task u) j None) (task_more t c) s e in
-    subst (λ (x : State). Grown (with_task j t.task) (sofar x) x.over) m.gives (alike _ _ (task_alike j t.task m.from.task (more_sizes c t m.from m.was)))
+    subst (λ (x : State). More (with_task j t.task) (draft_sofar x) x.over) m.gives (alike _ _ (task_alike j t.task m.from.task (more_sizes c t m.from m.was)))
 more_grows p j c s e = absurd cc
 
-session_grows : (p : Part) (j : JobView) (name : List ℕ) (names : List (List ℕ)) (s : State) → is_sessions p ≡ true → add_session j name names ≡ Some s → Grown (sofar_at p j) (sofar s) s.over
-session_grows kind.Sessions j name names s is e =
-    let m = map_some (λ k. state kind.Sessions k (session_over j)) (with_session j name names) s e in
-    subst (λ (x : State). Grown j (sofar x) x.over) m.gives (session_grown j m.from name names m.was)
-session_grows p j name names s is e = absurd cc
+session_grows : (ask : Controllers) (p : Part) (j : DraftView) (name : List ℕ) (by : Option (List ℕ)) (names : List (List ℕ)) (s : State) → is_sessions p ≡ true → add_session ask j name by names ≡ Some s → More (sofar_at p j) (draft_sofar s) s.over
+session_grows ask kind.Sessions j name by names s is e =
+    let m = map_some (λ k. state kind.Sessions k (session_over j)) (with_session ask j name by names) s e in
+    subst (λ (x : State). More j (draft_sofar x) x.over) m.gives (session_grown ask j m.from name by names m.was)
+session_grows ask p j name by names s is e = absurd cc
 
-cover_grows : (p : Part) (j : JobView) → is_start p ≡ true → Grown (sofar_at p j) j None
+cover_grows : (p : Part) (j : DraftView) → is_start p ≡ true → More (sofar_at p j) j None
 cover_grows kind.Start j e = same_grown j j refl
 cover_grows p j e = absurd cc
 
-card_grows : (c : CardView) (st s : State) → take_card st c ≡ Some s → Grown (sofar st) (sofar s) s.over
-card_grows Cover st s e =
+card_grows : (ask : Controllers) (c : CardView) (st s : State) → take_card ask st c ≡ Some s → More (draft_sofar st) (draft_sofar s) s.over
+card_grows ask Cover st s e =
     let g = guard_some (is_start st.part) (state kind.Modules st.job None) s e in
     grows_to st s (state kind.Modules st.job None) g.1 (cover_grows st.part st.job g.0)
-card_grows (Module name base size) st s e =
+card_grows ask (Module name base size) st s e =
     let t = then_some (open_module name base size) (closed_module st.part st.job) s e in
     let next : State = state (kind.Texts (no_bytes name base) size) t.from (module_over t.from size) in
     let g = guard_some (fits t.from name base size) next s t.gives in
-    grows_to st s next g.1 (from_closed st.part st.job t.from (sofar next) (module_over t.from size) (closed_of_module st.part st.job t.from t.was) (module_grown t.from name base size))
-card_grows (Text bytes) st s e = text_grows st.part st.job bytes s e
-card_grows (Listing n) st s e = listing_grows st.part st.job n s e
-card_grows (Phase name) st s e =
-    let t = then_some (open_phase name) (closed st.part st.job) s e in
+    grows_to st s next g.1 (from_closed ask st.part st.job t.from (draft_sofar next) (module_over t.from size) (closed_of_module ask st.part st.job t.from t.was) (module_grown t.from name base size))
+card_grows ask (Text bytes) st s e = text_grows st.part st.job bytes s e
+card_grows ask (Listing n) st s e = listing_grows st.part st.job n s e
+card_grows ask (Phase name) st s e =
+    let t = then_some (open_phase name) (closed ask st.part st.job) s e in
     let m = map_some (λ k. state kind.Sessions k (phase_over t.from)) (with_phase t.from name) s t.gives in
-    grows_to st s (state kind.Sessions m.from (phase_over t.from)) m.gives (from_closed st.part st.job t.from m.from (phase_over t.from) t.was (phase_grown t.from m.from name m.was))
-card_grows (Session name names) st s e =
-    let g = guard_more (is_sessions st.part) (add_session st.job name names) s e in
-    session_grows st.part st.job name names s g.0 g.1
-card_grows (Task n e p b r) st s took =
+    grows_to st s (state kind.Sessions m.from (phase_over t.from)) m.gives (from_closed ask st.part st.job t.from m.from (phase_over t.from) t.was (phase_grown t.from m.from name m.was))
+card_grows ask (Session name by names) st s e =
+    let g = guard_more (is_sessions st.part) (add_session ask st.job name by names) s e in
+    session_grows ask st.part st.job name by names s g.0 g.1
+card_grows ask (Task n e p b r) st s took =
     let t = then_some (open_task n e p b r) (closed_task st.part st.job) s took in
     let next : State = state (kind.Task (fresh_task n e p b r)) t.from (task_over t.from p b r) in
     let g = guard_none (has_task t.from n) next s t.gives in
-    grows_to st s next g.1 (from_closed st.part st.job t.from (sofar next) (task_over t.from p b r) (closed_of_task st.part st.job t.from t.was) (task_grown t.from n e p b r))
-card_grows End st s e =
-    let m = map_some end (closed st.part st.job) s e in
-    grows_to st s (end m.from) m.gives (from_closed st.part st.job m.from m.from None m.was (same_grown m.from m.from refl))
-card_grows (Reg n v) st s e = more_grows st.part st.job (Reg n v) s e
-card_grows (Data c) st s e = more_grows st.part st.job (Data c) s e
-card_grows (Input bytes) st s e = more_grows st.part st.job (Input bytes) s e
+    grows_to st s next g.1 (subst (λ (x : DraftView). More x (draft_sofar next) (task_over t.from p b r)) (task_sofar st.part st.job t.from t.was) (task_grown t.from n e p b r))
+card_grows ask End st s e =
+    let m = map_some end (closed ask st.part st.job) s e in
+    grows_to st s (end m.from) m.gives (from_closed ask st.part st.job m.from m.from None m.was (same_grown m.from m.from refl))
+card_grows ask (Reg n v) st s e = more_grows st.part st.job (Reg n v) s e
+card_grows ask (Data c) st s e = more_grows st.part st.job (Data c) s e
+card_grows ask (Input bytes) st s e = more_grows st.part st.job (Input bytes) s e
 
-pub step_grows : (st s : State) (l : LineView) → step st l ≡ Some s → Grown (sofar st) (sofar s) s.over
-step_grows st s l e = elim (choose (takes_raw st.part) (take_raw st.part st.job (listing_text l)) (option_and_then (take_card st) (card_at l.bytes)) (Some s) e) [
-  | inl w ↦ raw_grows st.part st.job (listing_text l) s w.0 w.1
-  | inr w ↦ (let t = then_some (take_card st) (card_at l.bytes) s w.1 in card_grows t.from st s t.gives)
+pub step_grows : (ask : Controllers) (st s : State) (l : LineView) → step ask st l ≡ Some s → Grown (sofar st) (sofar s) s.over
+step_grows ask st s l e = elim (choose (takes_raw st.part) (take_raw st.part st.job (listing_text l)) (option_and_then (take_card ask st) (card_at l.bytes)) (Some s) e) [
+  | inl w ↦ grown_of (draft_sofar st) (draft_sofar s) s.over (raw_grows st.part st.job (listing_text l) s w.0 w.1)
+  | inr w ↦ (let t = then_some (take_card ask st) (card_at l.bytes) s w.1 in grown_of (draft_sofar st) (draft_sofar s) s.over (card_grows ask t.from st s t.gives))
 ]
 
-pub run_more : (ls : List LineView) (st e : State) → run st ls ≡ Some e → (w : Limit) → keeps w (sofar e) ≡ true → keeps w (sofar st) ≡ true
-run_more [] st e r w k = let same : st ≡ e = some_same st e r in subst (λ (x : State). keeps w (sofar x) ≡ true) (sym same) k
-run_more (l ∷ ls) st e r w k =
-    let t = then_some (λ s. run s ls) (step st l) e r in
-    (step_grows st t.from l t.was).more w (run_more ls t.from e t.gives w k)
+pub run_more : (ask : Controllers) (ls : List LineView) (st e : State) → run ask st ls ≡ Some e → (w : Limit) → keeps w (sofar e) ≡ true → keeps w (sofar st) ≡ true
+run_more ask [] st e r w k = let same : st ≡ e = some_same st e r in subst (λ (x : State). keeps w (sofar x) ≡ true) (sym same) k
+run_more ask (l ∷ ls) st e r w k =
+    let t = then_some (λ s. run ask s ls) (step ask st l) e r in
+    (step_grows ask st t.from l t.was).more w (run_more ask ls t.from e t.gives w k)

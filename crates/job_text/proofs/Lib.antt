@@ -1,3 +1,5 @@
+pub mod Barred
+pub mod Begun
 pub mod CardFacts
 pub mod EndedLines
 pub mod Excluded
@@ -7,6 +9,7 @@ pub mod Indices
 pub mod ItemLemmas
 pub mod Joined
 pub mod LineLemmas
+pub mod Named
 pub mod Numbers
 pub mod Readings
 pub mod Rests

@@ -1,10 +1,10 @@
 -- A job that lines spell within the limits keeps the rules of jobs.
-use Rattle.std.proofs.Common.{◌≡◌, ◌≢◌, ℕ, ◌+◌, ◌%◌, ◌<◌, ◌≤◌, Bool, true, false, not, ◌&&◌, ◌||◌, nat_eq, nat_le, Option, Some, None, List, [], ◌∷◌, ◌++◌, length, map, refl, ap, sym, ◌∙◌, arith, All, AllPairs, inl, inr, ◌⊎◌, slice_set, get_or, option_map}
+use Rattle.std.proofs.Common.{◌≡◌, ◌≢◌, ℕ, ◌+◌, ◌%◌, ◌<◌, ◌≤◌, Bool, true, false, not, ◌&&◌, ◌||◌, nat_eq, nat_le, Option, Some, None, List, [], ◌∷◌, ◌++◌, length, map, refl, ap, sym, ◌∙◌, arith, nat_lt, cond, All, AllPairs, inl, inr, ◌⊎◌, slice_set, get_or, option_and_then, subst, IfSome, suc, eqb-true, eq-eqb}
 use Rattle.std.proofs.lemmas.Bool.Decides.{nat_tests}
 use Rattle.std.specs.Str.{bytes_eq}
-use Rattle.std.specs.List.{list_any, concat}
+use Rattle.std.specs.List.{list_any, concat, prefix_len}
 use Rattle.std.proofs.lemmas.Slice.Eq.{bytes_eq-Decides}
-use Rattle.std.proofs.lemmas.List.{length-set, length-append, map-append}
+use Rattle.std.proofs.lemmas.List.{length-set, length-append, length-map, get_or-map, map-append}
 use Rattle.std.proofs.lemmas.List.Elements.{All-append, All-cons, All-nil, All-map}
 use Rattle.std.proofs.lemmas.List.Folds.{list_any_none}
 use Rattle.std.proofs.lemmas.List.Quantifiers.{all_pairs_push, position-Some}
@@ -13,18 +13,21 @@ use Rattle.cov_base.specs.Memory.{ImageView}
 use Rattle.module_area.specs.Images.{IsImage, AreClear}
 use Rattle.module_area.specs.Views.{DataView}
 use Rattle.cov_base.specs.declared.limits.TheConstants.{MODULE_LIMIT, SIZE_LIMIT, LINE_LIMIT, PHASE_LIMIT, SESSION_LIMIT, TASK_LIMIT, PRIVATE_LIMIT, BUDGET_LIMIT, ROOM_LIMIT}
-use Rattle.session_book.specs.JobView.{JobView, SessionView, TaskView, IsJob, IsSession, IsListing, AreParted, Differ, first_regs}
-use Rattle.session_book.specs.Sessions.{observes}
+use Rattle.session_book.specs.JobView.{JobView, SessionView, TaskView, IsJob, IsSession, IsListing, IsTaskOf, HasController, AreParted, Differ, first_regs}
+use Rattle.session_book.specs.JobView as book
+use Rattle.job_text.specs.Drafts.{SessionDraft, DraftView, Controllers, Present, asked, is_controller, controller_of, is_met_by, is_met, are_met, bound_session, bound}
 use Rattle.job_text.specs.Lines.{LineView}
 use Rattle.job_text.specs.CardView.{Module, Session, Task}
 use Rattle.job_text.specs.Cards.{may_stand}
 use Rattle.job_text.specs.Tasks.{RegView, set_regs, AreData, task_view}
-use Rattle.job_text.specs.Adding.{no_job, is_clear, with_phase, this_phase, index_of, is_free, put_index, indices_on, session_view, put_session, with_session}
+use Rattle.job_text.specs.Adding.{no_job, is_clear, with_phase, this_phase, is_same_controller, bars, index_of, is_free, put_index, indices_on, session_draft, with_session}
 use Rattle.job_text.specs.Spells.{AreModules, IsModule, AreSessions, IsTaskBlock, AreTasks, IsPhase, ArePhases, Spells}
 use Rattle.job_text.specs.Limits.{are_short, IsWithin}
 use Rattle.job_text.specs.declared.limit.Limit.TheVariants as limit
 use Rattle.job_text.specs.Steps.{State, start, is_done, run}
-use Rattle.job_text.proofs.Guards.{guard_some, both, map_some, guard_none, guard_then}
+use Rattle.job_text.proofs.Barred.{barred_without}
+use Rattle.job_text.proofs.Guards.{guard_some, both, guard_none}
+use Rattle.job_text.proofs.Named.{session_added}
 use Rattle.job_text.proofs.CardFacts.{Good, card_good}
 use Rattle.job_text.proofs.Rests.{run_spells}
 use Rattle.job_text.proofs.Shortest.{sofar}
@@ -70,16 +73,26 @@ record IsTaskSoFar (phases : ℕ) (t : TaskView) : Type 0 where
   regs : length t.regs ≡ 16
   cards : All (λ (c : DataView). c.offset + length c.bytes ≤ t.private) t.cards
 
-record SoFar (j : JobView) : Type 0 where
+record IsSessionSoFar (images phases : ℕ) (s : SessionDraft) : Type 0 where
+  phase : s.phase < phases
+  some : 1 ≤ length s.modules
+  modules : All (λ m. m < images) s.modules
+  differ : AllPairs (λ m n. m ≢ n) s.modules
+
+-- no module is in two sessions of one phase but in those of one controller
+abbrev ArePartedSoFar : SessionDraft → SessionDraft → Type 0
+ArePartedSoFar s t = s.phase ≡ t.phase → is_same_controller s.by t.by ≡ false → All (λ m. list_any (nat_eq m) t.modules ≡ false) s.modules
+
+record SoFar (j : DraftView) : Type 0 where
   listings : length j.listings ≡ length j.images
   each : All IsImage j.images
   apart : AllPairs AreClear j.images
-  are_sessions : All (IsSession (length j.images) (length j.phases)) j.sessions
-  parted : AllPairs AreParted j.sessions
+  are_sessions : All (IsSessionSoFar (length j.images) (length j.phases)) j.sessions
+  parted : AllPairs ArePartedSoFar j.sessions
   are_tasks : All (IsTaskSoFar (length j.phases)) j.tasks
   module_names : Differ (map (λ (i : ImageView). i.name) j.images)
   phase_names : Differ j.phases
-  session_names : Differ (map (λ (s : SessionView). s.name) j.sessions)
+  session_names : Differ (map (λ (s : SessionDraft). s.name) j.sessions)
   task_names : Differ (map (λ (t : TaskView). t.name) j.tasks)
 
 no_pairs : {X : Type 0} (R : X → X → Type 0) → AllPairs R []
@@ -90,8 +103,8 @@ none_so_far = record {
   listings = refl;
   each = All-nil IsImage;
   apart = no_pairs AreClear;
-  are_sessions = All-nil (IsSession 0 0);
-  parted = no_pairs AreParted;
+  are_sessions = All-nil (IsSessionSoFar 0 0);
+  parted = no_pairs ArePartedSoFar;
   are_tasks = All-nil (IsTaskSoFar 0);
   module_names = no_pairs (λ a b. a ≢ b);
   phase_names = no_pairs (λ a b. a ≢ b);
@@ -99,8 +112,8 @@ none_so_far = record {
   task_names = no_pairs (λ a b. a ≢ b);
 }
 
-more_session : (a b c d : ℕ) (s : SessionView) → a ≤ c → b ≤ d → IsSession a b s → IsSession c d s
-more_session a b c d s p q i = record { phase = omega (arith, i.phase); some = i.some; modules = λ k e l. omega (arith, i.modules k e l); differ = i.differ; whole = i.whole }
+more_session : (a b c d : ℕ) (s : SessionDraft) → a ≤ c → b ≤ d → IsSessionSoFar a b s → IsSessionSoFar c d s
+more_session a b c d s p q i = record { phase = omega (arith, i.phase); some = i.some; modules = λ k e l. omega (arith, i.modules k e l); differ = i.differ }
 
 more_task : (a b : ℕ) (t : TaskView) → a ≤ b → IsTaskSoFar a t → IsTaskSoFar b t
 more_task a b t p i = record { phase = omega (arith, i.phase); entry = i.entry; some = i.some; regs = i.regs; cards = i.cards }
@@ -136,7 +149,7 @@ clear_of i x e = elim (or_by (nat_le (x.base + length x.bytes) i.base) (nat_le (
   | inr b ↦ inr (grind (arith, nat_tests, b))
 ]
 
-module_so_far : (block : List LineView) (j after : JobView) → IsModule j block after → SoFar j → SoFar after
+module_so_far : (block : List LineView) (j after : DraftView) → IsModule j block after → SoFar j → SoFar after
 module_so_far block j after m s =
     let i : ImageView = m.image in
     let card : Good (Module i.name i.base (length i.bytes)) = card_good m.head.bytes (Module i.name i.base (length i.bytes)) m.card in
@@ -156,7 +169,7 @@ module_so_far block j after m s =
       task_names = s.task_names;
     })
 
-modules_so_far : (blocks : List (List LineView)) (j after : JobView) → AreModules j blocks after → SoFar j → SoFar after
+modules_so_far : (blocks : List (List LineView)) (j after : DraftView) → AreModules j blocks after → SoFar j → SoFar after
 modules_so_far [] j after are s = rw (← are) s
 modules_so_far (block ∷ blocks) j after are s = modules_so_far blocks are.mid after are.then (module_so_far block j are.mid are.is_module s)
 
@@ -166,7 +179,7 @@ map_same : (xs : List (List ℕ)) → map (λ x. x) xs ≡ xs
 map_same [] = refl
 map_same (x ∷ xs) = ap (λ (y : List (List ℕ)). x ∷ y) (map_same xs)
 
-phase_so_far : (j after : JobView) (name : List ℕ) → with_phase j name ≡ Some after → SoFar j → SoFar after
+phase_so_far : (j after : DraftView) (name : List ℕ) → with_phase j name ≡ Some after → SoFar j → SoFar after
 phase_so_far j after name e s =
     let g = guard_none (list_any (λ p. bytes_eq p name) j.phases) (record j { phases = j.phases ++ name ∷ [] }) after e in
     let one : length (j.phases ++ name ∷ []) ≡ length j.phases + 1 = longer_by_one j.phases name in
@@ -184,108 +197,105 @@ phase_so_far j after name e s =
       task_names = s.task_names;
     })
 
-phase_is : (j after : JobView) (name : List ℕ) → with_phase j name ≡ Some after → 1 ≤ length after.phases
+phase_is : (j after : DraftView) (name : List ℕ) → with_phase j name ≡ Some after → 1 ≤ length after.phases
 phase_is j after name e =
     let g = guard_none (list_any (λ p. bytes_eq p name) j.phases) (record j { phases = j.phases ++ name ∷ [] }) after e in
     rw (← g.1) (omega (arith, longer_by_one j.phases name))
 
 -- sessions
 
-record AreUsed (j : JobView) (used : List ℕ) : Type 0 where
+record AreUsed (j : DraftView) (by : Option (List ℕ)) (used : List ℕ) : Type 0 where
   exist : All (λ m. m < length j.images) used
   differ : AllPairs (λ m n. m ≢ n) used
-  free : All (λ m. list_any (observes (this_phase j) m) j.sessions ≡ false) used
+  free : All (λ m. list_any (bars (this_phase j) by m) j.sessions ≡ false) used
 
 differ_of : (m n : ℕ) → nat_eq m n ≡ false → n ≢ m
 differ_of m n e same = let is : nat_eq m n ≡ true = grind (arith, nat_tests) in absurd cc
 
-put_used : (j : JobView) (used : List ℕ) (m : ℕ) → m < length j.images → is_free j used m ≡ true → AreUsed j used → AreUsed j (used ++ m ∷ [])
-put_used j used m h e u =
-    let p = both (not (list_any (nat_eq m) used)) (not (list_any (observes (this_phase j) m) j.sessions)) e in
+put_used : (j : DraftView) (by : Option (List ℕ)) (used : List ℕ) (m : ℕ) → m < length j.images → is_free j by used m ≡ true → AreUsed j by used → AreUsed j by (used ++ m ∷ [])
+put_used j by used m h e u =
+    let p = both (not (list_any (nat_eq m) used)) (not (list_any (bars (this_phase j) by m) j.sessions)) e in
     let others : All (λ n. nat_eq m n ≡ false) used = none_of (nat_eq m) used (not_false _ p.0) in
     record {
       exist = all_push (λ n. n < length j.images) used m u.exist h;
       differ = pairs_push (λ a b. a ≢ b) used m u.differ (λ k d l. differ_of m (get_or used k d) (others k d l));
-      free = all_push (λ n. list_any (observes (this_phase j) n) j.sessions ≡ false) used m u.free (not_false _ p.1);
+      free = all_push (λ n. list_any (bars (this_phase j) by n) j.sessions ≡ false) used m u.free (not_false _ p.1);
     }
 
-record Indices (j : JobView) (used ms : List ℕ) (count : ℕ) : Type 0 where
-  are : AreUsed j ms
+record Indices (j : DraftView) (by : Option (List ℕ)) (used ms : List ℕ) (count : ℕ) : Type 0 where
+  are : AreUsed j by ms
   length : length ms ≡ length used + count
 
-index_put : (j : JobView) (used next : List ℕ) (o : Option ℕ) (n : List ℕ) → index_of j n ≡ o → put_index j used o ≡ Some next → AreUsed j used → Indices j used next 1
-index_put j used next (Some m) n is e u =
-    let g = guard_some (is_free j used m) (used ++ m ∷ []) next e in
+index_put : (j : DraftView) (by : Option (List ℕ)) (used next : List ℕ) (o : Option ℕ) (n : List ℕ) → index_of j n ≡ o → put_index j by used o ≡ Some next → AreUsed j by used → Indices j by used next 1
+index_put j by used next (Some m) n is e u =
+    let g = guard_some (is_free j by used m) (used ++ m ∷ []) next e in
     let h : m < length j.images = (position-Some (λ (i : ImageView). bytes_eq i.name n) j.images m (record { name = []; base = 0; bytes = [] }) is).0 in
-    rw (← g.1) (record { are = put_used j used m h g.0 u; length = longer_by_one used m })
-index_put j used next None n is e u = absurd cc
+    rw (← g.1) (record { are = put_used j by used m h g.0 u; length = longer_by_one used m })
+index_put j by used next None n is e u = absurd cc
 
-no_indices : (j : JobView) (ns : List (List ℕ)) (ms : List ℕ) → indices_on j None ns ≡ Some ms → ⊥
-no_indices j [] ms e = absurd cc
-no_indices j (n ∷ ns) ms e = absurd cc
+no_indices : (j : DraftView) (by : Option (List ℕ)) (ns : List (List ℕ)) (ms : List ℕ) → indices_on j by None ns ≡ Some ms → ⊥
+no_indices j by [] ms e = absurd cc
+no_indices j by (n ∷ ns) ms e = absurd cc
 
-are_indices : (j : JobView) (ns : List (List ℕ)) (used ms : List ℕ) → indices_on j (Some used) ns ≡ Some ms → AreUsed j used → Indices j used ms (length ns)
-are_indices j [] used ms e u = let same : used ≡ ms = cc in rw (← same) (record { are = u; length = omega arith })
-are_indices j (n ∷ ns) used ms e u = by (put_index j used (index_of j n)) refl e (λ next. are_indices j ns next ms)
+are_indices : (j : DraftView) (by : Option (List ℕ)) (ns : List (List ℕ)) (used ms : List ℕ) → indices_on j by (Some used) ns ≡ Some ms → AreUsed j by used → Indices j by used ms (length ns)
+are_indices j by [] used ms e u = let same : used ≡ ms = cc in rw (← same) (record { are = u; length = omega arith })
+are_indices j by (n ∷ ns) used ms e u = by_index (put_index j by used (index_of j n)) refl e (λ next. are_indices j by ns next ms)
   where
-    by : (o : Option (List ℕ)) → put_index j used (index_of j n) ≡ o → indices_on j o ns ≡ Some ms → ((next : List ℕ) → indices_on j (Some next) ns ≡ Some ms → AreUsed j next → Indices j next ms (length ns)) →
-        Indices j used ms (length (n ∷ ns))
-    by (Some next) f g more =
-        let p : Indices j used next 1 = index_put j used next (index_of j n) n refl f u in
-        let r : Indices j next ms (length ns) = more next g p.are in
+    by_index : (o : Option (List ℕ)) → put_index j by used (index_of j n) ≡ o → indices_on j by o ns ≡ Some ms → ((next : List ℕ) → indices_on j by (Some next) ns ≡ Some ms → AreUsed j by next → Indices j by next ms (length ns)) →
+        Indices j by used ms (length (n ∷ ns))
+    by_index (Some next) f g more =
+        let p : Indices j by used next 1 = index_put j by used next (index_of j n) n refl f u in
+        let r : Indices j by next ms (length ns) = more next g p.are in
         record { are = r.are; length = omega (arith, p.length, r.length) }
-    by None f g more = absurd (no_indices j ns ms g)
+    by_index None f g more = absurd (no_indices j by ns ms g)
 
 and_false : (a b : Bool) → (a && b) ≡ false → a ≡ true → b ≡ false
 and_false true b e h = e
 and_false false b e h = absurd cc
 
-parted_of : (phase : ℕ) (sessions : List SessionView) (s t : SessionView) → t.phase ≡ phase → All (λ m. observes phase m s ≡ false) t.modules → AreParted s t
-parted_of phase sessions s t at free same =
+parted_of : (phase : ℕ) (s t : SessionDraft) → t.phase ≡ phase → All (λ m. bars phase t.by m s ≡ false) t.modules → ArePartedSoFar s t
+parted_of phase s t at free same other =
     let here : nat_eq s.phase phase ≡ true = rw (same, at) (grind (arith, nat_tests)) in
+    let barred : (nat_eq s.phase phase && not (is_same_controller s.by t.by)) ≡ true = rw (here, other) refl in
     λ k d l. list_any_none (nat_eq (get_or s.modules k d)) t.modules
-    (λ i e h. let off : list_any (nat_eq (get_or t.modules i e)) s.modules ≡ false = and_false (nat_eq s.phase phase) _ (free i e h) here in
-    let other : nat_eq (get_or t.modules i e) (get_or s.modules k d) ≡ false = none_of (nat_eq (get_or t.modules i e)) s.modules off k d l in
-    grind (arith, nat_tests, other))
+    (λ i e h. let off : list_any (nat_eq (get_or t.modules i e)) s.modules ≡ false = and_false (nat_eq s.phase phase && not (is_same_controller s.by t.by)) _ (free i e h) barred in
+    let apart : nat_eq (get_or t.modules i e) (get_or s.modules k d) ≡ false = none_of (nat_eq (get_or t.modules i e)) s.modules off k d l in
+    grind (arith, nat_tests, apart))
 
-session_so_far : (j after : JobView) (name : List ℕ) (names : List (List ℕ)) → with_session j name names ≡ Some after → 1 ≤ length names → 1 ≤ length j.phases → SoFar j → SoFar after
-session_so_far j after name names e some phases s =
-    let g = guard_then (list_any (λ x. bytes_eq x.name name) j.sessions) (option_map (put_session j name) (indices_on j (Some []) names)) after e in
-    let m = map_some (put_session j name) (indices_on j (Some []) names) after g.1 in
-    let t : SessionView = session_view j name m.from in
-    let none : AreUsed j [] = record { exist = All-nil (λ m. m < length j.images); differ = no_pairs (λ m n. m ≢ n); free = All-nil (λ m. list_any (observes (this_phase j) m) j.sessions ≡ false) } in
-    let r : Indices j [] m.from (length names) = are_indices j names [] m.from m.was none in
-    let is : IsSession (length j.images) (length j.phases) t = record { phase = omega (arith, phases); some = omega (arith, r.length, some); modules = r.are.exist; differ = r.are.differ; whole = refl } in
-    rw (← m.gives) (record {
+session_so_far : (ask : Controllers) (j after : DraftView) (name : List ℕ) (by : Option (List ℕ)) (names : List (List ℕ)) → with_session ask j name by names ≡ Some after → 1 ≤ length names → 1 ≤ length j.phases → SoFar j → SoFar after
+session_so_far ask j after name by names e some phases s =
+    let m = session_added ask j after name by names e in
+    let t : SessionDraft = session_draft j name by m.modules in
+    let none : AreUsed j by [] = record { exist = All-nil (λ m. m < length j.images); differ = no_pairs (λ m n. m ≢ n); free = All-nil (λ m. list_any (bars (this_phase j) by m) j.sessions ≡ false) } in
+    let r : Indices j by [] m.modules (length names) = are_indices j by names [] m.modules m.are none in
+    let is : IsSessionSoFar (length j.images) (length j.phases) t = record { phase = omega (arith, phases); some = omega (arith, r.length, some); modules = r.are.exist; differ = r.are.differ } in
+    rw (← m.is) (record {
       listings = s.listings;
       each = s.each;
       apart = s.apart;
-      are_sessions = all_push (IsSession (length j.images) (length j.phases)) j.sessions t s.are_sessions is;
-      parted = pairs_push AreParted j.sessions t s.parted (λ k d l. parted_of (this_phase j) j.sessions (get_or j.sessions k d) t refl (λ i f h. none_of (observes (this_phase j) (get_or m.from i f)) j.sessions (r.are.free i f h) k d l));
+      are_sessions = all_push (IsSessionSoFar (length j.images) (length j.phases)) j.sessions t s.are_sessions is;
+      parted = pairs_push ArePartedSoFar j.sessions t s.parted (λ k d l. parted_of (this_phase j) (get_or j.sessions k d) t refl (λ i f h. none_of (bars (this_phase j) by (get_or m.modules i f)) j.sessions (r.are.free i f h) k d l));
       are_tasks = s.are_tasks;
       module_names = s.module_names;
       phase_names = s.phase_names;
-      session_names = names_differ (λ (x : SessionView). x.name) j.sessions t s.session_names (none_of (λ x. bytes_eq x.name name) j.sessions g.0);
+      session_names = names_differ (λ (x : SessionDraft). x.name) j.sessions t s.session_names (none_of (λ x. bytes_eq x.name name) j.sessions m.new);
       task_names = s.task_names;
     })
 
 -- as many phases
-session_phases : (j after : JobView) (name : List ℕ) (names : List (List ℕ)) → with_session j name names ≡ Some after → after.phases ≡ j.phases
-session_phases j after name names e =
-    let g = guard_then (list_any (λ x. bytes_eq x.name name) j.sessions) (option_map (put_session j name) (indices_on j (Some []) names)) after e in
-    let m = map_some (put_session j name) (indices_on j (Some []) names) after g.1 in
-    ap (λ (x : JobView). x.phases) (sym m.gives)
+session_phases : (ask : Controllers) (j after : DraftView) (name : List ℕ) (by : Option (List ℕ)) (names : List (List ℕ)) → with_session ask j name by names ≡ Some after → after.phases ≡ j.phases
+session_phases ask j after name by names e = ap (λ (x : DraftView). x.phases) (sym (session_added ask j after name by names e).is)
 
-record InPhase (j : JobView) : Type 0 where
+record InPhase (j : DraftView) : Type 0 where
   so_far : SoFar j
   phase : 1 ≤ length j.phases
 
-sessions_so_far : (ls : List LineView) (j after : JobView) → AreSessions j ls after → InPhase j → InPhase after
-sessions_so_far [] j after are s = rw (← are) s
-sessions_so_far (l ∷ ls) j after are s =
-    let some : Good (Session are.name are.names) = card_good l.bytes (Session are.name are.names) are.card in
-    let next : InPhase are.mid = record { so_far = session_so_far j are.mid are.name are.names are.adds some s.phase s.so_far; phase = rw (session_phases j are.mid are.name are.names are.adds) s.phase } in
-    sessions_so_far ls are.mid after are.then next
+sessions_so_far : (ask : Controllers) (ls : List LineView) (j after : DraftView) → AreSessions ask j ls after → InPhase j → InPhase after
+sessions_so_far ask [] j after are s = rw (← are) s
+sessions_so_far ask (l ∷ ls) j after are s =
+    let good : Good (Session are.name are.by are.names) = card_good l.bytes (Session are.name are.by are.names) are.card in
+    let next : InPhase are.mid = record { so_far = session_so_far ask j are.mid are.name are.by are.names are.adds good.1 s.phase s.so_far; phase = rw (session_phases ask j are.mid are.name are.by are.names are.adds) s.phase } in
+    sessions_so_far ask ls are.mid after are.then next
 
 -- tasks
 
@@ -301,7 +311,7 @@ data_inside private [] ls are = All-nil (IsInside private)
 data_inside private (c ∷ cs) [] are = absurd are
 data_inside private (c ∷ cs) (l ∷ ls) are = All-cons (IsInside private) c cs are.0.1 (data_inside private cs ls are.1)
 
-task_so_far : (block : List LineView) (j after : JobView) → IsTaskBlock j block after → InPhase j → InPhase after
+task_so_far : (block : List LineView) (j after : DraftView) → IsTaskBlock j block after → InPhase j → InPhase after
 task_so_far block j after m s =
     let card : Good (Task m.name m.entry m.private m.budget m.room) = card_good m.head.bytes (Task m.name m.entry m.private m.budget m.room) m.card in
     let t : TaskView = record (task_view m.name m.entry m.private m.budget m.room (set_regs (first_regs m.entry) m.regs) m.cards (concat m.inputs)) { phase = this_phase j } in
@@ -328,18 +338,18 @@ task_so_far block j after m s =
       phase = s.phase;
     })
 
-tasks_so_far : (blocks : List (List LineView)) (j after : JobView) → AreTasks j blocks after → InPhase j → InPhase after
+tasks_so_far : (blocks : List (List LineView)) (j after : DraftView) → AreTasks j blocks after → InPhase j → InPhase after
 tasks_so_far [] j after are s = rw (← are) s
 tasks_so_far (block ∷ blocks) j after are s = tasks_so_far blocks are.mid after are.then (task_so_far block j are.mid are.is_task s)
 
-phases_so_far : (blocks : List (List LineView)) (j after : JobView) → ArePhases j blocks after → SoFar j → SoFar after
-phases_so_far [] j after are s = rw (← are) s
-phases_so_far (block ∷ blocks) j after are s =
-    let p : IsPhase j block are.mid = are.is_phase in
+phases_so_far : (ask : Controllers) (blocks : List (List LineView)) (j after : DraftView) → ArePhases ask j blocks after → SoFar j → SoFar after
+phases_so_far ask [] j after are s = rw (← are) s
+phases_so_far ask (block ∷ blocks) j after are s =
+    let p : IsPhase ask j block are.mid = are.is_phase in
     let named : InPhase p.named = record { so_far = phase_so_far j p.named p.name p.adds s; phase = phase_is j p.named p.name p.adds } in
-    let mid : InPhase p.mid = sessions_so_far p.sessions p.named p.mid p.are_sessions named in
+    let mid : InPhase p.mid = sessions_so_far ask p.sessions p.named p.mid p.are_sessions named in
     let end : InPhase are.mid = tasks_so_far p.tasks p.mid are.mid p.are_tasks mid in
-    phases_so_far blocks are.mid after are.then end.so_far
+    phases_so_far ask blocks are.mid after are.then end.so_far
 
 -- the limits
 
@@ -350,38 +360,125 @@ short_listing : (o : Option (List (List ℕ))) → are_short o ≡ true → IsLi
 short_listing (Some texts) e = λ k d l. at_most (length (get_or texts k d)) LINE_LIMIT (AllPass-from_list_all (λ (t : List ℕ). nat_le (length t) LINE_LIMIT) texts e k d l)
 short_listing None e = tt
 
-job_keeps : (ls : List LineView) (job : JobView) → Spells ls job → IsWithin job → IsJob job
-job_keeps ls job p within =
-    let s : SoFar job = phases_so_far p.phases p.mid job p.are_phases (modules_so_far p.modules no_job p.mid p.are_modules none_so_far) in
-    record {
+-- the sessions as the job has them
+
+map_map : {X Y Z : Type 0} (f : Y → Z) (g : X → Y) (xs : List X) → map f (map g xs) ≡ map (λ x. f (g x)) xs
+map_map f g [] = refl
+map_map f g (x ∷ xs) = ap (λ ys. f (g x) ∷ ys) (map_map f g xs)
+
+is_session : (a b : ℕ) (tasks : List TaskView) (s : SessionDraft) → IsSessionSoFar a b s → IsSession a b (bound_session tasks s)
+is_session a b tasks s i = record { phase = i.phase; some = i.some; modules = i.modules; differ = i.differ }
+
+found_controller : (tasks : List TaskView) (phase : ℕ) (n : List ℕ) (o : Option ℕ) → controller_of tasks phase n ≡ o → IfSome o (IsTaskOf tasks phase)
+found_controller tasks phase n None e = tt
+found_controller tasks phase n (Some t) e = λ d.
+    let p = position-Some (is_controller phase n) tasks t d e in
+    (p.0, eqb-true _ _ (both (bytes_eq (get_or tasks t d).name n) (nat_eq (get_or tasks t d).phase phase) p.1).1)
+
+has_controller : (tasks : List TaskView) (phase : ℕ) (by : Option (List ℕ)) → IfSome (option_and_then (controller_of tasks phase) by) (IsTaskOf tasks phase)
+has_controller tasks phase None = tt
+has_controller tasks phase (Some n) = found_controller tasks phase n (controller_of tasks phase n) refl
+
+not_least : (n most : ℕ) → cond (nat_lt n most) (Some n) None ≡ None → nat_lt n most ≡ false
+not_least n most e = by_test (nat_lt n most) refl e
+  where
+    by_test : (q : Bool) → nat_lt n most ≡ q → cond q (Some n) None ≡ None → nat_lt n most ≡ false
+    by_test true f g = absurd cc
+    by_test false f g = f
+
+one_more : (n most : ℕ) → nat_lt (1 + n) (suc most) ≡ false → nat_lt n most ≡ false
+one_more n most e = grind (arith, nat_tests, e)
+
+never_least : (most : ℕ) → nat_lt 0 (suc most) ≡ false → ⊥
+never_least most e = let is : nat_lt 0 (suc most) ≡ true = grind (arith, nat_tests) in absurd cc
+
+-- where no element is the first that passes, none does
+none_pass : {X : Type 0} (p : X → Bool) (xs : List X) → nat_lt (prefix_len (λ x. not (p x)) xs) (length xs) ≡ false → list_any p xs ≡ false
+none_pass p [] e = refl
+none_pass p (x ∷ xs) e = by_test (none_pass p xs) (p x) refl e
+  where
+    by_test : (nat_lt (prefix_len (λ y. not (p y)) xs) (length xs) ≡ false → list_any p xs ≡ false) → (q : Bool) → p x ≡ q → nat_lt (cond (not q) (1 + prefix_len (λ y. not (p y)) xs) 0) (suc (length xs)) ≡ false → (p x || list_any p xs) ≡ false
+    by_test more true f g = absurd (never_least (length xs) g)
+    by_test more false f g = rw f (more (one_more _ _ g))
+
+same_indices : (tasks : List TaskView) (p q : ℕ) (m n : List ℕ) (o : Option ℕ) → controller_of tasks p m ≡ o → list_any (is_controller p m) tasks ≡ true → p ≡ q → m ≡ n → book.is_same_controller (controller_of tasks p m) (controller_of tasks q n) ≡ true
+same_indices tasks p q m n (Some t) e met same name = rw (← same, ← name, e) (eq-eqb t t refl)
+same_indices tasks p q m n None e met same name = let none : list_any (is_controller p m) tasks ≡ false = none_pass (is_controller p m) tasks (not_least _ _ e) in absurd cc
+
+-- sessions whose controllers are there share a controller in the job where the cards name the same one
+same_by : (tasks : List TaskView) (p q : ℕ) (a b : Option (List ℕ)) (r : Bool) → is_same_controller a b ≡ r → is_met_by tasks p a ≡ true → p ≡ q
+    → book.is_same_controller (option_and_then (controller_of tasks p) a) (option_and_then (controller_of tasks q) b) ≡ false → is_same_controller a b ≡ false
+same_by tasks p q a b false e met same off = e
+same_by tasks p q (Some m) (Some n) true e met same off =
+    let on : book.is_same_controller (controller_of tasks p m) (controller_of tasks q n) ≡ true = same_indices tasks p q m n (controller_of tasks p m) refl met same ((bytes_eq-Decides m n).0 e) in
+    absurd cc
+same_by tasks p q (Some m) None true e met same off = absurd cc
+same_by tasks p q None b true e met same off = absurd cc
+
+parted_in_job : (tasks : List TaskView) (s t : SessionDraft) → is_met tasks s ≡ true → ArePartedSoFar s t → AreParted (bound_session tasks s) (bound_session tasks t)
+parted_in_job tasks s t met parted same other = parted same (same_by tasks s.phase t.phase s.by t.by (is_same_controller s.by t.by) refl met same other)
+
+all_parted : (tasks : List TaskView) (ss : List SessionDraft) → All (λ s. is_met tasks s ≡ true) ss → AllPairs ArePartedSoFar ss → AllPairs AreParted (map (bound_session tasks) ss)
+all_parted tasks ss met parted i j d l m =
+    let few : length (map (bound_session tasks) ss) ≡ length ss = length-map ss (bound_session tasks) in
+    let none : SessionDraft = record { name = []; phase = 0; modules = []; by = None } in
+    rw (get_or-map (bound_session tasks) ss i none d (omega (arith, few, l, m)), get_or-map (bound_session tasks) ss j none d (omega (arith, few, m)))
+    (parted_in_job tasks (get_or ss i none) (get_or ss j none) (met i none (omega (arith, few, l, m))) (parted i j none l (omega (arith, few, m))))
+
+-- no controller is missing
+
+modules_none : (blocks : List (List LineView)) (j after : DraftView) → AreModules j blocks after → j.sessions ≡ [] → after.sessions ≡ []
+modules_none [] j after are e = ap (λ (x : DraftView). x.sessions) (sym are) ∙ e
+modules_none (block ∷ blocks) j after are e = modules_none blocks are.mid after are.then (ap (λ (x : DraftView). x.sessions) are.is_module.is_after ∙ e)
+
+phases_met : (blocks : List (List LineView)) (j after : DraftView) → ArePhases Present j blocks after → are_met Present j ≡ true → are_met Present after ≡ true
+phases_met [] j after are e = rw (← are) e
+phases_met (block ∷ blocks) j after are e = phases_met blocks are.mid after are.then are.is_phase.met
+
+met_none : (tasks : List TaskView) (phase : ℕ) (by : Option (List ℕ)) → by ≡ None → is_met_by tasks phase by ≡ true
+met_none tasks phase by e = rw e refl
+
+all_met : (by : Bool) (ls : List LineView) (job : JobView) (p : Spells (asked by) ls job) → All (λ s. is_met p.draft.tasks s ≡ true) p.draft.sessions
+all_met true ls job p =
+    let none : p.mid.sessions ≡ [] = modules_none p.modules no_job p.mid p.are_modules refl in
+    AllPass-from_list_all (is_met p.draft.tasks) p.draft.sessions (phases_met p.phases p.mid p.draft p.are_phases (rw none refl))
+all_met false ls job p = λ k d l. met_none p.draft.tasks (get_or p.draft.sessions k d).phase (get_or p.draft.sessions k d).by (barred_without ls job p k d l)
+
+job_keeps : (by : Bool) (ls : List LineView) (job : JobView) → Spells (asked by) ls job → IsWithin job → IsJob job
+job_keeps by ls job p within =
+    let j : DraftView = p.draft in
+    let s : SoFar j = phases_so_far (asked by) p.phases p.mid j p.are_phases (modules_so_far p.modules no_job p.mid p.are_modules none_so_far) in
+    let kept : IsWithin (bound j) = subst IsWithin p.is within in
+    subst IsJob (sym p.is) (record {
       listings = s.listings;
       images = record { each = s.each; apart = s.apart };
-      sizes = λ k d l. at_most _ SIZE_LIMIT (AllPass-from_list_all _ job.images (within limit.Size) k d l);
-      modules = at_most (length job.images) MODULE_LIMIT (within limit.Modules);
-      lines = λ k d l. short_listing (get_or job.listings k d) (AllPass-from_list_all are_short job.listings (within limit.Line) k d l);
-      phases = at_most (length job.phases) PHASE_LIMIT (within limit.Phases);
-      sessions = at_most (length job.sessions) SESSION_LIMIT (within limit.Sessions);
-      tasks = at_most (length job.tasks) TASK_LIMIT (within limit.Tasks);
-      are_sessions = s.are_sessions;
-      parted = s.parted;
+      sizes = λ k d l. at_most _ SIZE_LIMIT (AllPass-from_list_all _ j.images (kept limit.Size) k d l);
+      modules = at_most (length j.images) MODULE_LIMIT (kept limit.Modules);
+      lines = λ k d l. short_listing (get_or j.listings k d) (AllPass-from_list_all are_short j.listings (kept limit.Line) k d l);
+      phases = at_most (length j.phases) PHASE_LIMIT (kept limit.Phases);
+      sessions = at_most (length (bound j).sessions) SESSION_LIMIT (kept limit.Sessions);
+      tasks = at_most (length j.tasks) TASK_LIMIT (kept limit.Tasks);
+      are_sessions = All-map (IsSession (length j.images) (length j.phases)) (bound_session j.tasks) j.sessions (λ k d l. is_session _ _ j.tasks (get_or j.sessions k d) (s.are_sessions k d l));
+      parted = all_parted j.tasks j.sessions (all_met by ls job p) s.parted;
+      controllers = All-map (HasController j.tasks) (bound_session j.tasks) j.sessions (λ k d l. has_controller j.tasks (get_or j.sessions k d).phase (get_or j.sessions k d).by);
       are_tasks = λ k d l.
-          let t : IsTaskSoFar (length job.phases) (get_or job.tasks k d) = s.are_tasks k d l in
+          let t : IsTaskSoFar (length j.phases) (get_or j.tasks k d) = s.are_tasks k d l in
           record {
             phase = t.phase;
             entry = t.entry;
-            private = at_most _ PRIVATE_LIMIT (AllPass-from_list_all _ job.tasks (within limit.Private) k d l);
+            private = at_most _ PRIVATE_LIMIT (AllPass-from_list_all _ j.tasks (kept limit.Private) k d l);
             some = t.some;
-            budget = at_most _ BUDGET_LIMIT (AllPass-from_list_all _ job.tasks (within limit.Budget) k d l);
-            room = at_most _ ROOM_LIMIT (AllPass-from_list_all _ job.tasks (within limit.Room) k d l);
+            budget = at_most _ BUDGET_LIMIT (AllPass-from_list_all _ j.tasks (kept limit.Budget) k d l);
+            room = at_most _ ROOM_LIMIT (AllPass-from_list_all _ j.tasks (kept limit.Room) k d l);
             regs = t.regs;
             cards = t.cards;
           };
       module_names = s.module_names;
       phase_names = s.phase_names;
-      session_names = s.session_names;
+      session_names = rw (map_map (λ (x : SessionView). x.name) (bound_session j.tasks) j.sessions) s.session_names;
       task_names = s.task_names;
-    }
+    })
 
 -- lines that run to the end within the limits have read such a job
-pub read_keeps : (ls : List LineView) (s : State) → run start ls ≡ Some s → is_done s.part ≡ true → IsWithin (sofar s) → IsJob s.job
-read_keeps ls s r done within = job_keeps ls s.job (run_spells ls s r done) (job_within s done within)
+pub read_keeps : (by : Bool) (ls : List LineView) (s : State) → run (asked by) start ls ≡ Some s → is_done s.part ≡ true → IsWithin (sofar s) → IsJob (bound s.job)
+read_keeps by ls s r done within = job_keeps by ls (bound s.job) (run_spells (asked by) ls s r done) (job_within s done within)

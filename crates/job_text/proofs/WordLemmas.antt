@@ -1,11 +1,12 @@
 -- The first word of a line, and the others.
-use Rattle.std.proofs.Common.{◌≡◌, ℕ, ◌+◌, ◌<◌, ◌≤◌, Bool, true, false, not, cond, nat_eq, nat_lt, Some, None, List, [], ◌∷◌, length, take, drop, arith, suc, zero, refl, map, ◌++◌, ◌-◌, append_assoc, sym}
+use Rattle.std.proofs.Common.{◌≡◌, ℕ, ◌+◌, ◌<◌, ◌≤◌, Bool, true, false, not, cond, nat_eq, nat_lt, Some, None, List, [], ◌∷◌, length, take, drop, get_or, arith, suc, zero, refl, map, ◌++◌, ◌-◌, append_assoc, sym}
 use Rattle.std.proofs.lemmas.List.{map-append}
 use Rattle.std.proofs.Math.Seq.{take-length}
 use Rattle.std.proofs.lemmas.Bool.Decides.{nat_tests}
 use Rattle.std.specs.List.{position, position_or_len}
-use Rattle.job_text.specs.Words.{words, names_on}
-use Rattle.job_text.specs.Cards.{long_card}
+use Rattle.job_text.specs.Words.{words, names_at, names_on}
+use Rattle.cov_base.specs.Names.{name_at}
+use Rattle.job_text.specs.Cards.{as_controlled, controlled_card, long_card}
 
 abbrev pub end_of : List ℕ → ℕ
 end_of s = position_or_len (λ b. nat_eq b 32) s
@@ -85,3 +86,12 @@ long_card-none key a (b ∷ c ∷ []) n l o m t = absurd (m (sym l))
 long_card-none key a (b ∷ c ∷ d ∷ []) n l o m t = refl
 long_card-none key a (b ∷ c ∷ d ∷ e ∷ []) n l o m t = absurd (t (sym l))
 long_card-none key a (b ∷ c ∷ d ∷ e ∷ f ∷ ws) n l o m t = refl
+
+-- two words or more behind BY are a task and its modules
+pub controlled_parted : {X : Type 0} (f : X → List ℕ) (name : List ℕ) (ws : List X) (d : X) → 2 ≤ length ws →
+    controlled_card name (map f ws) ≡ as_controlled (name_at name) (name_at (f (get_or ws 0 d))) (names_at (map f (take (length ws - 1) (drop 1 ws))))
+controlled_parted f name [] d h = absurd (omega arith)
+controlled_parted f name (t ∷ []) d h = absurd (omega arith)
+controlled_parted f name (t ∷ m ∷ more) d h =
+    let less : length (t ∷ m ∷ more) - 1 ≡ length (m ∷ more) = omega arith in
+    rw (less, take-length more) refl

@@ -1,5 +1,5 @@
 -- What a card says, wherever memory holds it. Names are filled with blanks.
-use Rattle.std.specs.Prelude.{ℕ, List}
+use Rattle.std.specs.Prelude.{ℕ, Option, List}
 use Rattle.module_area.specs.Views.{DataView}
 
 pub data CardView : Type 0 where
@@ -10,8 +10,8 @@ pub data CardView : Type 0 where
   -- how many lines
   Listing : ℕ → CardView
   Phase : List ℕ → CardView
-  -- name and modules
-  Session : List ℕ → List (List ℕ) → CardView
+  -- name, controller where it has one, and modules
+  Session : List ℕ → Option (List ℕ) → List (List ℕ) → CardView
   -- name, entry, private storage, budget and room
   Task : List ℕ → ℕ → ℕ → ℕ → ℕ → CardView
   -- number and value

@@ -15,9 +15,25 @@ abbrev pub as_module : Option (List ℕ) → Option ℕ → Option ℕ → Optio
 as_module (Some n) (Some b) (Some s) = if may_stand b s then Some (Module n b s) else None
 as_module n b s = None
 
+-- of a whole session
 abbrev pub as_session : Option (List ℕ) → Option (List (List ℕ)) → Option CardView
-as_session (Some n) (Some ns) = Some (Session n ns)
+as_session (Some n) (Some ns) = Some (Session n None ns)
 as_session n ns = None
+
+-- of a session that a task opens and closes
+abbrev pub as_controlled : Option (List ℕ) → Option (List ℕ) → Option (List (List ℕ)) → Option CardView
+as_controlled (Some n) (Some t) (Some ns) = Some (Session n (Some t) ns)
+as_controlled n t ns = None
+
+-- of the words behind the session's name and BY: a task and its modules
+abbrev pub controlled_card : List ℕ → List (List ℕ) → Option CardView
+controlled_card name (task ∷ m ∷ more) = as_controlled (name_at name) (name_at task) (names_at (m ∷ more))
+controlled_card name words = None
+
+-- of the words behind SESSION and a name; the word BY is never its first module
+abbrev pub session_card : List ℕ → List (List ℕ) → Option CardView
+session_card name (a ∷ more) = if bytes_eq a (codes "BY") then controlled_card name more else as_session (name_at name) (names_at (a ∷ more))
+session_card name words = None
 
 abbrev pub as_task : Option (List ℕ) → Option ℕ → Option ℕ → Option ℕ → Option ℕ → Option CardView
 as_task (Some n) (Some e) (Some p) (Some b) (Some r) = if nat_le 1 b then Some (Task n e p b r) else None
@@ -68,7 +84,7 @@ abbrev pub card_of : List (List ℕ) → Option CardView
 card_of [] = None
 card_of (key ∷ []) = if bytes_eq key (codes "ENDJOB") then Some End else None
 card_of (key ∷ a ∷ []) = short_card key a
-card_of (key ∷ a ∷ b ∷ more) = if bytes_eq key (codes "SESSION") then as_session (name_at a) (names_at (b ∷ more)) else long_card key a (b ∷ more)
+card_of (key ∷ a ∷ b ∷ more) = if bytes_eq key (codes "SESSION") then session_card a (b ∷ more) else long_card key a (b ∷ more)
 
 abbrev pub card_at : List ℕ → Option CardView
 card_at line = card_of (words line)

@@ -1,6 +1,7 @@
 pub mod Adding
 pub mod CardView
 pub mod Cards
+pub mod Drafts
 pub mod Limits
 pub mod Lines
 pub mod Pieces

@@ -5,6 +5,7 @@ use Rattle.cov_base.specs.Memory.{ImageView}
 use Rattle.cov_base.specs.declared.limits.TheConstants.{MODULE_LIMIT, SIZE_LIMIT, LINE_LIMIT, PHASE_LIMIT, SESSION_LIMIT, TASK_LIMIT, PRIVATE_LIMIT, BUDGET_LIMIT, ROOM_LIMIT}
 use Rattle.session_book.specs.JobView.{JobView, TaskView}
 use Rattle.job_text.specs.Lines.{LineView}
+use Rattle.job_text.specs.Drafts.{Named}
 use Rattle.job_text.specs.Spells.{Spells}
 use Rattle.job_text.specs.declared.limit.Limit.{Limit}
 use Rattle.job_text.specs.declared.limit.Limit.TheVariants as limit
@@ -42,9 +43,10 @@ keeps limit.Room j = list_all has_room j.tasks
 abbrev pub IsWithin : JobView → Type 0
 IsWithin j = (what : Limit) → keeps what j ≡ true
 
--- lines pass a limit where no job that they begin keeps it
+-- Lines pass a limit where nothing that they begin keeps it, be the controllers there or not: a task that is still to
+-- come for a session is none of theirs.
 abbrev pub Passes : Limit → List LineView → Type 0
-Passes what lines = (rest : List LineView) (job : JobView) → Spells (lines ++ rest) job → keeps what job ≡ false
+Passes what lines = (rest : List LineView) (job : JobView) → Spells Named (lines ++ rest) job → keeps what job ≡ false
 
 abbrev pub rank : Limit → ℕ
 rank limit.Input = 0

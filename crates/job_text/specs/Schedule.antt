@@ -23,7 +23,9 @@ item_for key t =
     else (if bytes_eq key (codes "LIFT") then Some (item.Lift t)
     else (if bytes_eq key (codes "DO") then Some (item.Do t)
     else (if bytes_eq key (codes "GO") then Some (item.Go t)
-    else None))))
+    else (if bytes_eq key (codes "PLANT") then Some (item.Plant t)
+    else (if bytes_eq key (codes "CLOSE") then Some (item.Close t)
+    else None))))))
 
 abbrev pub task_item : JobView → List ℕ → List ℕ → Option Item
 task_item j key name = option_and_then (item_for key) (option_and_then (task_named j) (name_at name))

@@ -4,6 +4,7 @@ use Rattle.std.specs.List.{concat}
 use Rattle.cov_base.specs.Memory.{ImageView}
 use Rattle.module_area.specs.Views.{DataView}
 use Rattle.session_book.specs.JobView.{JobView, first_regs}
+use Rattle.job_text.specs.Drafts.{DraftView, Controllers, are_met, bound}
 use Rattle.job_text.specs.Lines.{LineView, listing_text}
 use Rattle.job_text.specs.CardView.{Cover, Module, Text, Listing, Phase, Session, Task, End}
 use Rattle.job_text.specs.Cards.{IsCard}
@@ -33,7 +34,7 @@ IsListed lines None = lines ≡ []
 IsListed [] (Some texts) = ⊥
 IsListed (l ∷ ls) (Some texts) = IsCard l (Listing (length ls)) × (texts ≡ map listing_text ls)
 
-pub record IsModule (j : JobView) (block : List LineView) (after : JobView) : Type 0 where
+pub record IsModule (j : DraftView) (block : List LineView) (after : DraftView) : Type 0 where
   -- the lines, in order
   pub head : LineView
   pub texts : List LineView
@@ -48,29 +49,30 @@ pub record IsModule (j : JobView) (block : List LineView) (after : JobView) : Ty
   pub is_listed : IsListed listing listed
   pub is_after : after ≡ with_module j image listed
 
-pub record ModuleFirst (j : JobView) (block : List LineView) (More : JobView → Type 0) : Type 0 where
-  pub mid : JobView
+pub record ModuleFirst (j : DraftView) (block : List LineView) (More : DraftView → Type 0) : Type 0 where
+  pub mid : DraftView
   pub is_module : IsModule j block mid
   pub then : More mid
 
-abbrev pub AreModules : JobView → List (List LineView) → JobView → Type 0
+abbrev pub AreModules : DraftView → List (List LineView) → DraftView → Type 0
 AreModules j [] after = j ≡ after
 AreModules j (block ∷ blocks) after = ModuleFirst j block (λ mid. AreModules mid blocks after)
 
-pub record SessionFirst (j : JobView) (line : LineView) (More : JobView → Type 0) : Type 0 where
+pub record SessionFirst (c : Controllers) (j : DraftView) (line : LineView) (More : DraftView → Type 0) : Type 0 where
   pub name : List ℕ
+  pub by : Option (List ℕ)
   pub names : List (List ℕ)
-  pub mid : JobView
-  pub card : IsCard line (Session name names)
-  pub adds : with_session j name names ≡ Some mid
+  pub mid : DraftView
+  pub card : IsCard line (Session name by names)
+  pub adds : with_session c j name by names ≡ Some mid
   pub then : More mid
 
-abbrev pub AreSessions : JobView → List LineView → JobView → Type 0
-AreSessions j [] after = j ≡ after
-AreSessions j (l ∷ ls) after = SessionFirst j l (λ mid. AreSessions mid ls after)
+abbrev pub AreSessions : Controllers → DraftView → List LineView → DraftView → Type 0
+AreSessions c j [] after = j ≡ after
+AreSessions c j (l ∷ ls) after = SessionFirst c j l (λ mid. AreSessions c mid ls after)
 
 -- TASK, and then REG, DATA and INPUT cards, of each kind as many as wanted
-pub record IsTaskBlock (j : JobView) (block : List LineView) (after : JobView) : Type 0 where
+pub record IsTaskBlock (j : DraftView) (block : List LineView) (after : DraftView) : Type 0 where
   -- the lines, in order
   pub head : LineView
   pub reg_lines : List LineView
@@ -93,52 +95,55 @@ pub record IsTaskBlock (j : JobView) (block : List LineView) (after : JobView) :
   pub are_inputs : AreInputs inputs input_lines
   pub is_after : after ≡ with_task j (task_view name entry private budget room (set_regs (first_regs entry) regs) cards (concat inputs))
 
-pub record TaskFirst (j : JobView) (block : List LineView) (More : JobView → Type 0) : Type 0 where
-  pub mid : JobView
+pub record TaskFirst (j : DraftView) (block : List LineView) (More : DraftView → Type 0) : Type 0 where
+  pub mid : DraftView
   pub is_task : IsTaskBlock j block mid
   pub then : More mid
 
-abbrev pub AreTasks : JobView → List (List LineView) → JobView → Type 0
+abbrev pub AreTasks : DraftView → List (List LineView) → DraftView → Type 0
 AreTasks j [] after = j ≡ after
 AreTasks j (block ∷ blocks) after = TaskFirst j block (λ mid. AreTasks mid blocks after)
 
-pub record IsPhase (j : JobView) (block : List LineView) (after : JobView) : Type 0 where
+pub record IsPhase (c : Controllers) (j : DraftView) (block : List LineView) (after : DraftView) : Type 0 where
   pub head : LineView
   pub sessions : List LineView
   pub tasks : List (List LineView)
   pub whole : block ≡ head ∷ (sessions ++ joined tasks)
   pub name : List ℕ
-  pub named : JobView
-  pub mid : JobView
+  pub named : DraftView
+  pub mid : DraftView
   pub card : IsCard head (Phase name)
   pub adds : with_phase j name ≡ Some named
-  pub are_sessions : AreSessions named sessions mid
+  pub are_sessions : AreSessions c named sessions mid
   pub are_tasks : AreTasks mid tasks after
+  pub met : are_met c after ≡ true
 
-pub record PhaseFirst (j : JobView) (block : List LineView) (More : JobView → Type 0) : Type 0 where
-  pub mid : JobView
-  pub is_phase : IsPhase j block mid
+pub record PhaseFirst (c : Controllers) (j : DraftView) (block : List LineView) (More : DraftView → Type 0) : Type 0 where
+  pub mid : DraftView
+  pub is_phase : IsPhase c j block mid
   pub then : More mid
 
-abbrev pub ArePhases : JobView → List (List LineView) → JobView → Type 0
-ArePhases j [] after = j ≡ after
-ArePhases j (block ∷ blocks) after = PhaseFirst j block (λ mid. ArePhases mid blocks after)
+abbrev pub ArePhases : Controllers → DraftView → List (List LineView) → DraftView → Type 0
+ArePhases c j [] after = j ≡ after
+ArePhases c j (block ∷ blocks) after = PhaseFirst c j block (λ mid. ArePhases c mid blocks after)
 
 -- COVERJOB, the modules, the phases, ENDJOB
-pub record Spells (lines : List LineView) (job : JobView) : Type 0 where
+pub record Spells (c : Controllers) (lines : List LineView) (job : JobView) : Type 0 where
   pub first : LineView
   pub modules : List (List LineView)
   pub phases : List (List LineView)
   pub last : LineView
   pub whole : lines ≡ first ∷ (joined modules ++ (joined phases ++ last ∷ []))
-  pub mid : JobView
+  pub mid : DraftView
+  pub draft : DraftView
   pub cover : IsCard first Cover
   pub are_modules : AreModules no_job modules mid
-  pub are_phases : ArePhases mid phases job
+  pub are_phases : ArePhases c mid phases draft
   pub ends : IsCard last End
+  pub is : job ≡ bound draft
 
 -- some list of lines with this prefix spells a job
-pub record JobBegins (lines : List LineView) : Type 0 where
+pub record JobBegins (c : Controllers) (lines : List LineView) : Type 0 where
   pub rest : List LineView
   pub job : JobView
-  pub spells : Spells (lines ++ rest) job
+  pub spells : Spells c (lines ++ rest) job

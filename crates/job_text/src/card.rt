@@ -31,9 +31,10 @@ pub(crate) enum Card {
     Listing(u32),
     /// `PHASE name`
     Phase(Name),
-    /// `SESSION name module ..`
+    /// `SESSION name module ..` or `SESSION name BY task module ..`
     Session {
         name: Name,
+        by: Option<Name>,
         modules: Vec<Name>,
     },
     /// `TASK name entry private budget room`

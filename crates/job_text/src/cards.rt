@@ -32,13 +32,61 @@ fn short_card(alloc: Global, key: &[u8], a: &[u8]) -> Result<Option<Card>, Alloc
     Ok(None)
 }
 
-fn session(alloc: Global, name: &[u8], modules: &[&[u8]]) -> Result<Option<Card>, AllocError>
+fn whole_session(alloc: Global, name: &[u8], modules: &[&[u8]]) -> Result<Option<Card>, AllocError>
     ensures { IfOk result (λ o. option_map view o ≡ spell.as_session (name_at name.now) (names_at (map (λ w. w.now) modules.now))) }
 {
     let names = names_of(alloc, modules)?;
     match (Name::read(name), names) {
-        (Some(name), Some(modules)) => Ok(Some(Card::Session { name, modules })),
+        (Some(name), Some(modules)) => Ok(Some(Card::Session {
+            name,
+            by: None,
+            modules,
+        })),
         _ => Ok(None),
+    }
+}
+
+fn controlled_session(
+    alloc: Global,
+    name: &[u8],
+    task: &[u8],
+    modules: &[&[u8]],
+) -> Result<Option<Card>, AllocError>
+    ensures { IfOk result (λ o. option_map view o ≡ spell.as_controlled (name_at name.now) (name_at task.now) (names_at (map (λ w. w.now) modules.now))) }
+{
+    let names = names_of(alloc, modules)?;
+    match (Name::read(name), Name::read(task), names) {
+        (Some(name), Some(task), Some(modules)) => Ok(Some(Card::Session {
+            name,
+            by: Some(task),
+            modules,
+        })),
+        _ => Ok(None),
+    }
+}
+
+/// The card of the words behind BY.
+fn controlled_card(alloc: Global, name: &[u8], words: &[&[u8]]) -> Result<Option<Card>, AllocError>
+    ensures { IfOk result (λ o. option_map view o ≡ spell.controlled_card name.now (map (λ w. w.now) words.now)) }
+{
+    if words.len() < 2 {
+        return Ok(None);
+    }
+    controlled_session(alloc, name, words[0], &words[1..])
+}
+
+/// The card of the words behind SESSION and a name.
+fn session_card(alloc: Global, name: &[u8], words: &[&[u8]]) -> Result<Option<Card>, AllocError>
+    ensures { IfOk result (λ o. option_map view o ≡ spell.session_card name.now (map (λ w. w.now) words.now)) }
+{
+    match words {
+        [] => Ok(None),
+        [first, rest @ ..] => {
+            if is(first, b"BY") {
+                return controlled_card(alloc, name, rest);
+            }
+            whole_session(alloc, name, words)
+        }
     }
 }
 
@@ -175,7 +223,7 @@ fn card_of(alloc: Global, words: &[&[u8]]) -> Result<Option<Card>, AllocError>
         [key, a] => short_card(alloc, key, a),
         [key, a, rest @ ..] => {
             if is(key, b"SESSION") {
-                return session(alloc, a, rest);
+                return session_card(alloc, a, rest);
             }
             long_card(alloc, key, a, rest)
         }

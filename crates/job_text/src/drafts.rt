@@ -3,16 +3,17 @@ ghost use Rattle.std.specs.Prelude.{◌≡◌, ℕ, ◌+◌, ◌≤◌, ◌<◌,
 ghost use Rattle.std.specs.List.{list_any, list_all};
 ghost use Rattle.std.specs.Str.{bytes_eq};
 ghost use Rattle.cov_base.specs.declared.limits.TheConstants.{MODULE_LIMIT, PHASE_LIMIT};
-ghost use Rattle.session_book.specs.Sessions.{observes};
+ghost use Rattle.job_text.specs.Drafts.{asked};
 ghost use Rattle.job_text.specs.Adding as adding;
 ghost use Rattle.job_text.specs.Steps as machine;
 ghost use Rattle.job_text.specs.declared.parts.Part.TheVariants as kind;
 
-use crate::parts::{Draft, Part};
+use crate::binding::are_met;
+use crate::parts::{Draft, Part, SessionDraft};
 use cov_base::{Name, NoMemory};
 use listing_lines::ListingLines;
 use module_area::Image;
-use session_book::{Session, TaskCard};
+use session_book::TaskCard;
 use std::alloc::Global;
 
 fn is_clear(image: &Image, name: &Name, base: u32, size: u32) -> bool
@@ -64,18 +65,27 @@ fn has_index(used: &[u32], m: u32) -> bool
     used.iter().any(|u| m == *u)
 }
 
-fn observes(session: &Session, phase: u32, m: u32) -> bool
-    ensures { result ≡ observes phase m session.now }
+fn is_same_controller(a: &Option<Name>, b: &Option<Name>) -> bool
+    ensures { result ≡ adding.is_same_controller a.now b.now }
 {
-    session.phase == phase && has_index(&session.modules, m)
+    match (a, b) {
+        (Some(a), Some(b)) => *a == *b,
+        _ => false,
+    }
 }
 
-fn is_in_session(job: &Draft, phase: u32, m: u32) -> bool
-    ensures { result ≡ list_any (observes phase m) job.now.sessions }
+fn bars(session: &SessionDraft, phase: u32, by: &Option<Name>, m: u32) -> bool
+    ensures { result ≡ adding.bars phase by.now m session.now }
+{
+    session.phase == phase && !is_same_controller(&session.by, by) && has_index(&session.modules, m)
+}
+
+fn is_barred(job: &Draft, phase: u32, by: &Option<Name>, m: u32) -> bool
+    ensures { result ≡ list_any (adding.bars phase by.now m) job.now.sessions }
 {
     job.sessions
         .iter()
-        .any(|session| observes(session, phase, m))
+        .any(|session| bars(session, phase, by, m))
 }
 
 fn this_phase(job: &Draft) -> u32
@@ -86,24 +96,29 @@ fn this_phase(job: &Draft) -> u32
     if count == 0 { 0 } else { count - 1 }
 }
 
-fn is_free(job: &Draft, used: &[u32], m: u32) -> bool
+fn is_free(job: &Draft, by: &Option<Name>, used: &[u32], m: u32) -> bool
     requires { length job.now.phases ≤ PHASE_LIMIT }
-    ensures { result ≡ adding.is_free job.now used.now m }
+    ensures { result ≡ adding.is_free job.now by.now used.now m }
 {
-    !has_index(used, m) && !is_in_session(job, this_phase(job), m)
+    !has_index(used, m) && !is_barred(job, this_phase(job), by, m)
 }
 
 /// The modules behind these, with the one of this name; none where it may not come.
-fn put_index(job: &Draft, mut used: Vec<u32>, name: &Name) -> Result<Option<Vec<u32>>, NoMemory>
+fn put_index(
+    job: &Draft,
+    by: &Option<Name>,
+    mut used: Vec<u32>,
+    name: &Name,
+) -> Result<Option<Vec<u32>>, NoMemory>
     requires modules { length job.now.images ≤ MODULE_LIMIT }
     requires phases { length job.now.phases ≤ PHASE_LIMIT }
-    ensures { IfOk result (λ o. adding.put_index job.now used.items (adding.index_of job.now name.now) ≡ option_map (λ v. v.items) o) }
+    ensures { IfOk result (λ o. adding.put_index job.now by.now used.items (adding.index_of job.now name.now) ≡ option_map (λ v. v.items) o) }
 {
     match index_of(job, name) {
         None => Ok(None),
         Some(at) => {
             let m = at as u32;
-            if !is_free(job, &used, m) {
+            if !is_free(job, by, &used, m) {
                 return Ok(None);
             }
             used.push(m)?;
@@ -112,14 +127,19 @@ fn put_index(job: &Draft, mut used: Vec<u32>, name: &Name) -> Result<Option<Vec<
     }
 }
 
-fn indices(alloc: Global, job: &Draft, names: &[Name]) -> Result<Option<Vec<u32>>, NoMemory>
+fn indices(
+    alloc: Global,
+    job: &Draft,
+    by: &Option<Name>,
+    names: &[Name],
+) -> Result<Option<Vec<u32>>, NoMemory>
     requires modules { length job.now.images ≤ MODULE_LIMIT }
     requires phases { length job.now.phases ≤ PHASE_LIMIT }
-    ensures { IfOk result (λ o. adding.indices_on job.now (Some []) names.now ≡ option_map (λ v. v.items) o) }
+    ensures { IfOk result (λ o. adding.indices_on job.now by.now (Some []) names.now ≡ option_map (λ v. v.items) o) }
 {
     let mut used = Vec::new(alloc);
     for name in names {
-        match put_index(job, used, name)? {
+        match put_index(job, by, used, name)? {
             None => return Ok(None),
             Some(more) => used = more,
         }
@@ -159,29 +179,42 @@ pub(crate) fn with_phase(mut job: Draft, name: Name) -> Result<Option<Draft>, No
     Ok(Some(job))
 }
 
-/// The job with a session more; none where a session has the name, or a module isn't free.
+/// Whether a session may have this controller, where `controlled` says that sessions may have one.
+fn may_have(job: &Draft, controlled: bool, by: &Option<Name>) -> bool
+    ensures { result ≡ adding.may_have (asked controlled) job.now by.now }
+{
+    match by {
+        None => true,
+        Some(task) => controlled && !has_task(job, task),
+    }
+}
+
+/// The job with a session more; none where a session has the name, it may not have the controller, or a module
+/// isn't free.
 pub(crate) fn with_session(
     alloc: Global,
     mut job: Draft,
+    controlled: bool,
     name: Name,
+    by: Option<Name>,
     names: &[Name],
 ) -> Result<Option<Draft>, NoMemory>
     requires modules { length job.images ≤ MODULE_LIMIT }
     requires phases { length job.phases ≤ PHASE_LIMIT }
-    ensures { IfOk result (λ o. o ≡ adding.with_session job name names.now) }
+    ensures { IfOk result (λ o. o ≡ adding.with_session (asked controlled) job name by names.now) }
 {
-    if has_session(&job, &name) {
+    if has_session(&job, &name) || !may_have(&job, controlled, &by) {
         return Ok(None);
     }
-    match indices(alloc, &job, names)? {
+    match indices(alloc, &job, &by, names)? {
         None => Ok(None),
         Some(modules) => {
             let phase = this_phase(&job);
-            job.sessions.push(Session {
+            job.sessions.push(SessionDraft {
                 name,
                 phase,
                 modules,
-                by: None,
+                by,
             })?;
             Ok(Some(job))
         }
@@ -225,14 +258,26 @@ pub(crate) fn closed_task(part: Part, job: Draft) -> Result<Option<Draft>, NoMem
     }
 }
 
-/// The job with what was open; none where it isn't whole.
-pub(crate) fn closed(part: Part, job: Draft) -> Result<Option<Draft>, NoMemory>
+/// The job; none where a controller is missing.
+fn met_of(job: Draft, controlled: bool) -> Option<Draft>
+    ensures { result ≡ machine.met_of (asked controlled) job }
+{
+    if are_met(&job, controlled) {
+        Some(job)
+    } else {
+        None
+    }
+}
+
+/// The job with what was open; none where it isn't whole, or a controller is missing.
+pub(crate) fn closed(part: Part, job: Draft, controlled: bool) -> Result<Option<Draft>, NoMemory>
     requires { machine.HasRoom part job }
-    ensures value { IfOk result (λ o. o ≡ machine.closed part job) }
+    ensures value { IfOk result (λ o. o ≡ machine.closed (asked controlled) part job) }
     ensures room { IfOk result (λ o. IfSome o (machine.HasRoom kind.Modules)) }
 {
     match part {
-        Part::Sessions | Part::Task(_) => closed_task(part, job),
+        Part::Sessions => Ok(met_of(job, controlled)),
+        Part::Task(task) => Ok(met_of(put_task(job, task.task)?, controlled)),
         _ => closed_module(part, job),
     }
 }

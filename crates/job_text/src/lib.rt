@@ -1,6 +1,7 @@
 //! Which bytes spell a job, and reading one.
 #![tactic(auto)]
 
+mod binding;
 mod card;
 mod cards;
 mod drafts;

@@ -4,8 +4,25 @@ use crate::task::TaskPart;
 use cov_base::Name;
 use listing_lines::ListingLines;
 use module_area::Image;
-use session_book::{Session, TaskCard};
+use session_book::TaskCard;
 use std::marker::Model;
+
+/// A session as its card says, with its controller's name, none for a whole session.
+#[derive(Drop)]
+pub(crate) struct SessionDraft {
+    pub name: Name,
+    pub phase: u32,
+    pub modules: Vec<u32>,
+    pub by: Option<Name>,
+}
+
+impl Model for SessionDraft {
+    ghost use Rattle.job_text.specs.Drafts as drafts;
+
+    ghost Value = { drafts.SessionDraft };
+
+    ghost view = { λ s. record { name = s.name; phase = s.phase; modules = s.modules.items; by = s.by } };
+}
 
 /// What of a job was read whole.
 #[derive(Drop)]
@@ -13,14 +30,14 @@ pub(crate) struct Draft {
     pub images: Vec<Image>,
     pub listings: Vec<Option<ListingLines>>,
     pub phases: Vec<Name>,
-    pub sessions: Vec<Session>,
+    pub sessions: Vec<SessionDraft>,
     pub tasks: Vec<TaskCard>,
 }
 
 impl Model for Draft {
-    ghost use Rattle.session_book.specs.JobView.{JobView};
+    ghost use Rattle.job_text.specs.Drafts.{DraftView};
 
-    ghost Value = { JobView };
+    ghost Value = { DraftView };
 
     ghost view = { λ d. record { images = d.images.items; listings = d.listings.items; phases = d.phases.items; sessions = d.sessions.items; tasks = d.tasks.items } };
 }

@@ -20,6 +20,10 @@ pub enum Item {
     Do(TaskNo),
     /// `GO task`
     Go(TaskNo),
+    /// `PLANT task`
+    Plant(TaskNo),
+    /// `CLOSE task`
+    Close(TaskNo),
     /// `ENDSCHED`
     End,
 }
@@ -57,6 +61,12 @@ fn item_for(key: &[u8], task: TaskNo) -> Option<Item>
     }
     if is(key, b"GO") {
         return Some(Item::Go(task));
+    }
+    if is(key, b"PLANT") {
+        return Some(Item::Plant(task));
+    }
+    if is(key, b"CLOSE") {
+        return Some(Item::Close(task));
     }
     None
 }

@@ -3,11 +3,13 @@ ghost use Rattle.std.specs.Prelude.{◌≡◌, ℕ, ◌<◌, ◌≤◌, true, Op
 ghost use Rattle.cov_base.specs.declared.limits.TheConstants.{PHASE_LIMIT};
 ghost use Rattle.session_book.specs.JobView.{IsJob};
 ghost use Rattle.job_text.specs.CardView as says;
+ghost use Rattle.job_text.specs.Drafts.{asked, bound};
 ghost use Rattle.job_text.specs.Lines.{LineView};
 ghost use Rattle.job_text.specs.Steps as machine;
 ghost use Rattle.job_text.specs.declared.parts.Part.TheVariants as kind;
 ghost use Rattle.job_text.specs.Views.{view};
 
+use crate::binding::bound_sessions;
 use crate::card::Card;
 use crate::cards::read_card;
 use crate::drafts::{closed, closed_module, closed_task, fits, has_task, with_phase, with_session};
@@ -17,8 +19,8 @@ use crate::parts::{Draft, Part};
 use crate::refused::LineRefused;
 use crate::task::fresh_task;
 use cov_base::{
-    Addr, BUDGET_LIMIT, LINE_LIMIT, MODULE_LIMIT, Name, PHASE_LIMIT, PRIVATE_LIMIT, ROOM_LIMIT,
-    SESSION_LIMIT, SIZE_LIMIT, TASK_LIMIT,
+    Addr, BUDGET_LIMIT, LINE_LIMIT, MODULE_LIMIT, Name, NoMemory, PHASE_LIMIT, PRIVATE_LIMIT,
+    ROOM_LIMIT, SESSION_LIMIT, SIZE_LIMIT, TASK_LIMIT,
 };
 use listing_lines::ListingLines;
 use module_area::{Image, Images};
@@ -62,8 +64,8 @@ impl LineReader {
     }
 
     fn cover_card(self) -> Result<LineReader, LineRefused>
-        ensures ok { IfOk result (λ r. machine.take_card self says.Cover ≡ Some (machine.plain r)) }
-        ensures err { IfErr result (machine.Refuses (machine.take_card self says.Cover)) }
+        ensures ok { IfOk result (λ r. machine.take_cover self ≡ Some (machine.plain r)) }
+        ensures err { IfErr result (machine.Refuses (machine.take_cover self)) }
     {
         match self.part {
             Part::Start => Ok(LineReader {
@@ -81,8 +83,8 @@ impl LineReader {
         base: Addr,
         size: u32,
     ) -> Result<LineReader, LineRefused>
-        ensures ok { IfOk result (λ r. machine.take_card self (says.Module name base size) ≡ Some (machine.plain r)) }
-        ensures err { IfErr result (machine.Refuses (machine.take_card self (says.Module name base size))) }
+        ensures ok { IfOk result (λ r. machine.take_module self name base size ≡ Some (machine.plain r)) }
+        ensures err { IfErr result (machine.Refuses (machine.take_module self name base size)) }
     {
         match closed_module(self.part, self.job)? {
             None => Err(LineRefused::Bad),
@@ -91,8 +93,8 @@ impl LineReader {
     }
 
     fn text_card(self, more: &[u8]) -> Result<LineReader, LineRefused>
-        ensures ok { IfOk result (λ r. machine.take_card self (says.Text more.now) ≡ Some (machine.plain r)) }
-        ensures err { IfErr result (machine.Refuses (machine.take_card self (says.Text more.now))) }
+        ensures ok { IfOk result (λ r. machine.take_text self.part self.job more.now ≡ Some (machine.plain r)) }
+        ensures err { IfErr result (machine.Refuses (machine.take_text self.part self.job more.now)) }
     {
         let LineReader { part, job } = self;
         match part {
@@ -112,8 +114,8 @@ impl LineReader {
     }
 
     fn listing_card(self, alloc: Global, n: u32) -> Result<LineReader, LineRefused>
-        ensures ok { IfOk result (λ r. machine.take_card self (says.Listing n) ≡ Some (machine.plain r)) }
-        ensures err { IfErr result (machine.Refuses (machine.take_card self (says.Listing n))) }
+        ensures ok { IfOk result (λ r. machine.take_listing self.part self.job n ≡ Some (machine.plain r)) }
+        ensures err { IfErr result (machine.Refuses (machine.take_listing self.part self.job n)) }
     {
         let LineReader { part, job } = self;
         match part {
@@ -135,11 +137,11 @@ impl LineReader {
         }
     }
 
-    fn phase_card(self, name: Name) -> Result<LineReader, LineRefused>
-        ensures ok { IfOk result (λ r. machine.take_card self (says.Phase name) ≡ Some (machine.plain r)) }
-        ensures err { IfErr result (machine.Refuses (machine.take_card self (says.Phase name))) }
+    fn phase_card(self, controlled: bool, name: Name) -> Result<LineReader, LineRefused>
+        ensures ok { IfOk result (λ r. machine.take_card (asked controlled) self (says.Phase name) ≡ Some (machine.plain r)) }
+        ensures err { IfErr result (machine.Refuses (machine.take_card (asked controlled) self (says.Phase name))) }
     {
-        match closed(self.part, self.job)? {
+        match closed(self.part, self.job, controlled)? {
             None => Err(LineRefused::Bad),
             Some(job) => open_phase(job, name),
         }
@@ -148,14 +150,16 @@ impl LineReader {
     fn session_card(
         self,
         alloc: Global,
+        controlled: bool,
         name: Name,
+        by: Option<Name>,
         names: &[Name],
     ) -> Result<LineReader, LineRefused>
-        ensures ok { IfOk result (λ r. machine.take_card self (says.Session name names.now) ≡ Some (machine.plain r)) }
-        ensures err { IfErr result (machine.Refuses (machine.take_card self (says.Session name names.now))) }
+        ensures ok { IfOk result (λ r. machine.take_card (asked controlled) self (says.Session name by names.now) ≡ Some (machine.plain r)) }
+        ensures err { IfErr result (machine.Refuses (machine.take_card (asked controlled) self (says.Session name by names.now))) }
     {
         match self.part {
-            Part::Sessions => add_session(alloc, self.job, name, names),
+            Part::Sessions => add_session(alloc, self.job, controlled, name, by, names),
             _ => Err(LineRefused::Bad),
         }
     }
@@ -169,8 +173,8 @@ impl LineReader {
         budget: u32,
         room: u32,
     ) -> Result<LineReader, LineRefused>
-        ensures ok { IfOk result (λ r. machine.take_card self (says.Task name entry private budget room) ≡ Some (machine.plain r)) }
-        ensures err { IfErr result (machine.Refuses (machine.take_card self (says.Task name entry private budget room))) }
+        ensures ok { IfOk result (λ r. machine.take_task self name entry private budget room ≡ Some (machine.plain r)) }
+        ensures err { IfErr result (machine.Refuses (machine.take_task self name entry private budget room)) }
     {
         match closed_task(self.part, self.job)? {
             None => Err(LineRefused::Bad),
@@ -178,11 +182,11 @@ impl LineReader {
         }
     }
 
-    fn end_card(self) -> Result<LineReader, LineRefused>
-        ensures ok { IfOk result (λ r. machine.take_card self says.End ≡ Some (machine.plain r)) }
-        ensures err { IfErr result (machine.Refuses (machine.take_card self says.End)) }
+    fn end_card(self, controlled: bool) -> Result<LineReader, LineRefused>
+        ensures ok { IfOk result (λ r. machine.take_card (asked controlled) self says.End ≡ Some (machine.plain r)) }
+        ensures err { IfErr result (machine.Refuses (machine.take_card (asked controlled) self says.End)) }
     {
-        match closed(self.part, self.job)? {
+        match closed(self.part, self.job, controlled)? {
             None => Err(LineRefused::Bad),
             Some(job) => Ok(LineReader {
                 part: Part::Done,
@@ -206,17 +210,19 @@ impl LineReader {
         }
     }
 
-    fn card(self, alloc: Global, card: Card) -> Result<LineReader, LineRefused>
-        ensures ok { IfOk result (λ r. machine.take_card self (view card) ≡ Some (machine.plain r)) }
-        ensures err { IfErr result (machine.Refuses (machine.take_card self (view card))) }
+    fn card(self, alloc: Global, controlled: bool, card: Card) -> Result<LineReader, LineRefused>
+        ensures ok { IfOk result (λ r. machine.take_card (asked controlled) self (view card) ≡ Some (machine.plain r)) }
+        ensures err { IfErr result (machine.Refuses (machine.take_card (asked controlled) self (view card))) }
     {
         match card {
             Card::Cover => self.cover_card(),
             Card::Module { name, base, size } => self.module_card(alloc, name, base, size),
             Card::Text(bytes) => self.text_card(&bytes),
             Card::Listing(n) => self.listing_card(alloc, n),
-            Card::Phase(name) => self.phase_card(name),
-            Card::Session { name, modules } => self.session_card(alloc, name, &modules),
+            Card::Phase(name) => self.phase_card(controlled, name),
+            Card::Session { name, by, modules } => {
+                self.session_card(alloc, controlled, name, by, &modules)
+            }
             Card::Task {
                 name,
                 entry,
@@ -224,7 +230,7 @@ impl LineReader {
                 budget,
                 room,
             } => self.task_card(alloc, name, entry, private, budget, room),
-            Card::End => self.end_card(),
+            Card::End => self.end_card(controlled),
             card => self.more_card(card),
         }
     }
@@ -271,29 +277,30 @@ impl LineReader {
         }
     }
 
-    /// Takes the next line; `ended` where an LF ended it.
+    /// Takes the next line; `ended` where an LF ended it. `controlled` says that sessions may have controllers.
     pub(crate) fn line(
         self,
         alloc: Global,
+        controlled: bool,
         bytes: &[u8],
         ended: bool,
     ) -> Result<LineReader, LineRefused>
-        ensures ok { IfOk result (λ r. machine.step self (record { bytes = bytes.now; ended = ended }) ≡ Some (machine.plain r)) }
-        ensures err { IfErr result (machine.Refuses (machine.step self (record { bytes = bytes.now; ended = ended }))) }
+        ensures ok { IfOk result (λ r. machine.step (asked controlled) self (record { bytes = bytes.now; ended = ended }) ≡ Some (machine.plain r)) }
+        ensures err { IfErr result (machine.Refuses (machine.step (asked controlled) self (record { bytes = bytes.now; ended = ended }))) }
     {
         if self.takes_raw() {
             return self.listing_line(alloc, listing_text(bytes, ended));
         }
         match read_card(alloc, bytes)? {
             None => Err(LineRefused::Bad),
-            Some(card) => self.card(alloc, card),
+            Some(card) => self.card(alloc, controlled, card),
         }
     }
 
     /// The job that was read.
-    pub(crate) fn finish(self) -> Job
-        requires { IsJob self.job }
-        ensures { result ≡ self.job }
+    pub(crate) fn finish(self, alloc: Global) -> Result<Job, NoMemory>
+        requires { IsJob (bound self.job) }
+        ensures { IfOk result (λ job. job ≡ bound self.job) }
     {
         let Draft {
             images,
@@ -302,13 +309,14 @@ impl LineReader {
             sessions,
             tasks,
         } = self.job;
-        Job {
+        let sessions = bound_sessions(alloc, &tasks, sessions)?;
+        Ok(Job {
             images: Images(images),
             listings,
             phases,
             sessions,
             tasks,
-        }
+        })
     }
 
     /// Whether ENDJOB was read.
@@ -376,15 +384,17 @@ fn open_phase(job: Draft, name: Name) -> Result<LineReader, LineRefused>
 fn add_session(
     alloc: Global,
     job: Draft,
+    controlled: bool,
     name: Name,
+    by: Option<Name>,
     names: &[Name],
 ) -> Result<LineReader, LineRefused>
     requires { machine.HasRoom kind.Modules job }
-    ensures ok { IfOk result (λ r. machine.add_session job name names.now ≡ Some (machine.plain r)) }
-    ensures err { IfErr result (machine.Refuses (machine.add_session job name names.now)) }
+    ensures ok { IfOk result (λ r. machine.add_session (asked controlled) job name by names.now ≡ Some (machine.plain r)) }
+    ensures err { IfErr result (machine.Refuses (machine.add_session (asked controlled) job name by names.now)) }
 {
     let count = job.sessions.len();
-    match with_session(alloc, job, name, names)? {
+    match with_session(alloc, job, controlled, name, by, names)? {
         None => Err(LineRefused::Bad),
         Some(job) => {
             if count >= SESSION_LIMIT {

@@ -1,4 +1,5 @@
 //! Inputs that are jobs of the first form, and inputs that aren't, with the first line that is bad.
+mod controlled;
 mod items;
 mod jobs;
 mod pieces;
@@ -31,7 +32,7 @@ fn bad_line(alloc: Global, input: &[u8]) -> u32 {
     if input.len() > 16_777_216 {
         return 99_999;
     }
-    match read_whole_job(alloc, input) {
+    match read_whole_job(alloc, input, true) {
         Ok(_) => 0,
         Err(JobFault::BadJob { line }) => line,
         Err(JobFault::TooLarge { what: _, line }) => 10_000 + line % 10_000,
@@ -58,7 +59,7 @@ fn reads_the_job(rt: HostRuntime) -> Result<(), Fail> {
     let a = rt.alloc();
     let input = with_line(a, 0, b"")?;
     assert!(rt; input.len() <= 1_000);
-    match read_whole_job(a, &input) {
+    match read_whole_job(a, &input, true) {
         Ok(ReadJob { job, .. }) => {
             assert_eq!(rt; job.images.0.len(), 1);
             assert_eq!(rt;
@@ -368,7 +369,7 @@ fn keeps_data_and_input_in_their_order(rt: HostRuntime) -> Result<(), Fail> {
         b"DATA 4 0102\nDATA 5 FF\nINPUT C1C2\nINPUT 00\nINPUT c3\nENDJOB\n",
     )?;
     assert!(rt; input.len() <= 1_000);
-    match read_whole_job(a, &input) {
+    match read_whole_job(a, &input, true) {
         Ok(ReadJob { job, .. }) => {
             assert_eq!(rt; job.tasks.len(), 1);
             let task = &job.tasks[0];

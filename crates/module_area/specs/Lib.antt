@@ -1,5 +1,6 @@
 pub mod AreasView
 pub mod CellWords
+pub mod Control
 pub mod Counts
 pub mod Ended
 pub mod Executions
@@ -9,4 +10,5 @@ pub mod Images
 pub mod Notes
 pub mod Parties
 pub mod PlanView
+pub mod Tied
 pub mod Views

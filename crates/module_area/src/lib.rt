@@ -4,6 +4,7 @@
 mod areas;
 mod cells;
 mod checked_plan;
+mod control;
 mod finals;
 mod images;
 mod parties;
@@ -14,6 +15,7 @@ mod traits;
 
 pub use areas::Areas;
 pub use cells::Cell;
+pub use control::Control;
 pub use finals::Finals;
 pub use images::{DataCard, Image, Images};
 pub use parties::{Role, View};

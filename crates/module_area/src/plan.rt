@@ -2,7 +2,9 @@
 ghost use Rattle.std.specs.Prelude.{◌≡◌, ◌≢◌, ◌<◌, ◌≤◌, length, IfOk};
 ghost use Rattle.cov_base.specs.Codes.{breakpoint, kind_of};
 ghost use Rattle.module_area.specs.PlanView.{IsPlan, original_at, kind_at, window_at};
+ghost use Rattle.module_area.specs.Control.{places_under, first_control};
 
+use crate::control::Control;
 use crate::places::Place;
 use cov_base::{Kind, PlaceNo, SessNo, TaskNo};
 use std::alloc::{AllocError, Global};
@@ -94,6 +96,37 @@ impl Plan {
         ensures session { result ≤ self.now.sessions }
     {
         self.windows[place.0 as usize]
+    }
+
+    /// The places of the controlled session of that number, rising; none where there is no such session.
+    pub fn places_under(&self, s: SessNo) -> &[PlaceNo]
+        ensures value { result.now ≡ places_under self.now s.0 }
+        ensures plan { IsPlan self.now }
+    {
+        for c in &self.controlled {
+            if c.session.0 == s.0 {
+                return &c.places;
+            }
+        }
+        &[]
+    }
+
+    /// The control of the task, which has opened none of its sessions.
+    pub fn control_of(&self, alloc: Global, task: TaskNo) -> Result<Control, AllocError>
+        ensures value { IfOk result (λ c. c ≡ first_control self.now task.0) }
+        ensures plan { IfOk result (λ c. IsPlan self.now) }
+    {
+        let mut sessions = Vec::new(alloc);
+        for c in &self.controlled {
+            if c.by.0 == task.0 {
+                sessions.push(c.session)?;
+            }
+        }
+        Ok(Control {
+            sessions,
+            next: 0,
+            opened: None,
+        })
     }
 
     /// A copy.

@@ -8,6 +8,9 @@ ghost use Rattle.module_area.specs.PlanView.{window_at};
 ghost use Rattle.module_area.specs.Notes.{calls};
 ghost use Rattle.planter.specs.Planted.{planted_notes};
 
+mod control;
+
+pub use control::{close_open, open_next};
 use cov_base::{PlaceNo, SessNo};
 use module_area::{Cells, Plan};
 

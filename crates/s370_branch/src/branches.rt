@@ -1,7 +1,7 @@
 //! Branches (Principles of Operation, "General Instructions", "Branching").
 ghost use Rattle.std.specs.Prelude.{◌≡◌, ℕ, ◌+◌, ◌*◌, ◌%◌, ◌<◌, ◌≤◌, ◌^◌, true, not, ◌&&◌, ◌==◌, int_lt, if◌then◌else◌, slice_index, slice_set};
 ghost use Rattle.s370_state.specs.Words.{signed};
-ghost use Rattle.s370_decode.specs.Fields.{first_half};
+ghost use Rattle.s370_decode.specs.Fields.{first_half, ex};
 ghost use Rattle.s370_decode.specs.Groups.{group_of};
 ghost use Rattle.s370_decode.specs.Table.{op_of};
 ghost use Rattle.s370_branch.specs.Branch.{is_selected, less_one, index_sum, comparand, is_high, goes, branch_target, link_word, branch_regs, branched};
@@ -60,6 +60,7 @@ fn is_high(cpu: &Cpu, code: &Code) -> bool
 }
 
 /// Whether the operation on these fields branches.
+#[inline(always)]
 #[tactic(auto, unfolding(crate::specs::Branch::goes))]
 fn goes(cpu: &Cpu, code: &Code, op: Op) -> bool
     ensures { result ≡ goes op cpu.now code.now }
@@ -86,6 +87,20 @@ pub fn outcome(cpu: &Cpu, code: &Code) -> bool
     goes(cpu, code, op_of(code.first_half()))
 }
 
+/// The second operand's address in the RX format, of which each instruction has four bytes.
+#[inline(always)]
+#[tactic(auto, unfolding(s370_decode::specs::Fields::b1, s370_decode::specs::Fields::d1, s370_decode::specs::Fields::b2, s370_decode::specs::Fields::d2))]
+fn indexed(cpu: &Cpu, code: &Code) -> Addr
+    ensures { result ≡ ex cpu.now code.now }
+{
+    if code.len == 6 {
+        cpu.address(code.b2(), code.x2(), code.d2())
+    } else {
+        cpu.address(code.b1(), code.x2(), code.d1())
+    }
+}
+
+#[inline(always)]
 #[tactic(auto, unfolding(crate::specs::Branch::branch_target))]
 fn branch_target(cpu: &Cpu, code: &Code, op: Op) -> Addr
     ensures { result ≡ branch_target op cpu.now code.now }
@@ -93,7 +108,7 @@ fn branch_target(cpu: &Cpu, code: &Code, op: Op) -> Addr
     match op {
         Op::BCR | Op::BCTR | Op::BALR | Op::BASR => Addr::of(cpu.reg(code.r2())),
         Op::BXH | Op::BXLE => cpu.based(code.b2(), code.d2()),
-        _ => cpu.address(code.b2(), code.x2(), code.d2()),
+        _ => indexed(cpu, code),
     }
 }
 
@@ -109,6 +124,7 @@ fn link_word(cpu: &Cpu, next: Addr, link: u8) -> u32
 }
 
 /// Leaves in R1 what the operation says.
+#[inline(always)]
 #[tactic(auto, unfolding(crate::specs::Branch::branch_regs))]
 fn set_registers(cpu: &mut Cpu, code: &Code, op: Op, next: Addr, link: u8)
     requires { link ≤ 2 }
@@ -128,6 +144,7 @@ fn set_registers(cpu: &mut Cpu, code: &Code, op: Op, next: Addr, link: u8)
 /// address; `link` is the length code that BAL and BALR leave: 1 for two bytes, 2 for four bytes and under EX. A branch
 /// has no test and no interruption, also where it goes to an odd address. The operation is that of the code's first
 /// byte: it is passed because the caller has decoded it. Takes no memory.
+#[inline(always)]
 pub fn branch(cpu: &mut Cpu, code: &Code, op: Op, next: Addr, link: u8)
     requires group { group_of op ≡ Group.Branch }
     requires link { link ≤ 2 }

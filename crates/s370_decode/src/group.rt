@@ -22,6 +22,7 @@ pub enum Group {
 }
 
 /// The group that the operation is of.
+#[inline(always)]
 pub fn group_of(op: Op) -> Group
     ensures { result ≡ group_of op }
 {

@@ -1,4 +1,5 @@
 pub mod CallBytes
+pub mod CallLemmas
 pub mod StepLemmas
 pub mod Subjects
 pub mod TraceLemmas

@@ -19,6 +19,8 @@ use Rattle.s370_storage.specs.Storage.{storage_row}
 use Rattle.s370_decimal.specs.Decimal.{decimal_row}
 use Rattle.s370_edit.specs.Edit.{edit_row}
 use Rattle.s370_branch.specs.Branch.{branched}
+use Rattle.s370_exec.specs.declared.instruction.Told.{Told}
+use Rattle.s370_exec.specs.declared.instruction.Told.TheVariants.{GoesOn, HasEnded}
 use Rattle.s370_decode.specs.declared.group.Group.{Group}
 use Rattle.s370_decode.specs.declared.group.Group.TheVariants.{Fixed, Logic, Storage, Decimal, Edit, Branch, Call, Supervisor, Missing}
 
@@ -51,6 +53,11 @@ ended_by next io s e false = record { machine = s; io = io; next = Ended e }
 abbrev pub onward_by : ℕ → IoView → Machine → Next → Effect
 onward_by next io s On = record { machine = at_address s next; io = io; next = On }
 onward_by next io s (Ended e) = ended_by next io s e (is_completed e)
+
+-- how the task goes on, or how it has ended
+abbrev pub next_of : Told → Ending → Next
+next_of GoesOn e = On
+next_of HasEnded e = Ended e
 
 abbrev pub onward : ℕ → IoView → After → Effect
 onward next io r = onward_by next io r.machine r.next

@@ -1,3 +1,4 @@
+pub mod Calls
 pub mod Effects
 pub mod Fetch
 pub mod Solo

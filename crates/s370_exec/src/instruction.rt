@@ -1,11 +1,14 @@
 //! The effect of an instruction that was fetched whole.
-ghost use Rattle.std.specs.Prelude.{◌≡◌, ℕ, ◌+◌, ◌*◌, ◌/◌, ◌%◌, ◌<◌, ◌≤◌, List, false};
+ghost use Rattle.std.specs.Prelude.{◌≡◌, ℕ, ◌≢◌, ◌+◌, ◌*◌, ◌/◌, ◌%◌, ◌<◌, ◌≤◌, List, false};
+ghost use Rattle.std.specs.declared.option.Option.TheVariants.{Some, None};
 ghost use Rattle.cov_base.specs.States.{CpuView, IoView, Machine};
 ghost use Rattle.s370_state.specs.Row.{machine_of};
 ghost use Rattle.s370_decode.specs.Fields.{first_half, i2};
+ghost use Rattle.s370_decode.specs.Groups.{group_of};
 ghost use Rattle.s370_decode.specs.Table.{op_of};
+ghost use Rattle.cov_base.specs.Memory.{Memory};
 ghost use Rattle.s370_exec.specs.Fetch.{is_execute};
-ghost use Rattle.s370_exec.specs.Effects.{effect, effect_of, is_completed, onward_by, updated, link_code};
+ghost use Rattle.s370_exec.specs.Effects.{effect, effect_of, next_of, is_completed, onward_by, updated, link_code};
 
 use crate::calls::task_call;
 use cov_base::Addr;
@@ -18,6 +21,13 @@ use s370_logic::logic;
 use s370_state::{Cpu, Ending, Next, Space, TaskIo};
 use s370_storage::storage;
 
+/// Whether a task goes on. Unlike `Next` it fits a register: how the task has ended is told beside it.
+#[derive(Clone, Copy)]
+pub(crate) enum Told {
+    GoesOn,
+    HasEnded,
+}
+
 /// Whether the ending comes once the results are in place, as those by codes 8 and X'A' do.
 fn is_completed(e: &Ending) -> bool
     ensures { result ≡ is_completed e.now }
@@ -28,21 +38,22 @@ fn is_completed(e: &Ending) -> bool
     }
 }
 
-/// Goes on at the updated address, unless the task has ended.
-fn onward(cpu: &mut Cpu, to: Addr, next: Next) -> Next
-    ensures { (bytes : List ℕ) (io : IoView) → effect_of cpu.new bytes io result ≡ onward_by to io (machine_of cpu.old bytes) next }
+/// Goes on at the updated address, unless the task has ended: then `end` tells how.
+fn onward(cpu: &mut Cpu, to: Addr, next: Next, end: &mut Ending) -> Told
+    ensures { (bytes : List ℕ) (io : IoView) → effect_of cpu.new bytes io (next_of result end.new) ≡ onward_by to io (machine_of cpu.old bytes) next }
 {
     match next {
         Next::On => {
             cpu.go(to);
-            Next::On
+            Told::GoesOn
         }
         Next::Ended(e) => {
+            *end = e;
             if is_completed(&e) {
                 cpu.go(to);
-                return Next::Ended(e);
+                return Told::HasEnded;
             }
-            Next::Ended(e)
+            Told::HasEnded
         }
     }
 }
@@ -68,9 +79,227 @@ fn link_code(code: &Code, ex: &Option<Addr>) -> u8
     }
 }
 
+/// A fixed-point operation in the place where it is called: of a given operation only its own steps stay there.
+#[inline(always)]
+#[tactic(auto, unfolding(crate::specs::Effects::effect))]
+fn fixed_here<P: Space>(
+    cpu: &mut Cpu,
+    space: &mut P,
+    code: &Code,
+    op: Op,
+    next: Addr,
+    end: &mut Ending,
+) -> Told
+    requires group { group_of op ≡ Group.Fixed }
+    ensures memory { P.memory space.new ≡ P.memory space.old }
+    ensures effect { (io : IoView) (link : ℕ) → effect_of cpu.new (P.bytes space.new) io (next_of result end.new) ≡
+        effect (P.memory space.old) (machine_of cpu.old (P.bytes space.old)) io code.now op next link }
+{
+    let n = fixed(cpu, space, code, op);
+    onward(cpu, next, n, end)
+}
+
+/// Where the task has ended `end` tells how.
+fn tell(next: Next, end: &mut Ending) -> Told
+    ensures { next_of result end.new ≡ next }
+{
+    match next {
+        Next::On => Told::GoesOn,
+        Next::Ended(e) => {
+            *end = e;
+            Told::HasEnded
+        }
+    }
+}
+
+/// A branch in the place where it is called.
+#[inline(always)]
+#[tactic(auto, unfolding(crate::specs::Effects::effect))]
+fn branch_here(cpu: &mut Cpu, code: &Code, op: Op, next: Addr, link: u8) -> Told
+    requires group { group_of op ≡ Group.Branch }
+    requires link { link ≤ 2 }
+    ensures { (m : Memory) (bytes : List ℕ) (io : IoView) (e : Ending) → effect_of cpu.new bytes io (next_of result e) ≡
+        effect m (machine_of cpu.old bytes) io code.now op next link }
+{
+    branch(cpu, code, op, next, link);
+    Told::GoesOn
+}
+
+/// Carries out any operation that is no branch.
+#[inline(never)]
+#[tactic(auto, unfolding(crate::specs::Effects::effect))]
+fn carry_out_any<P: Space>(
+    cpu: &mut Cpu,
+    space: &mut P,
+    io: &mut TaskIo,
+    code: &Code,
+    next: Addr,
+    end: &mut Ending,
+) -> Told
+    requires group { group_of (op_of (first_half code.now)) ≢ Group.Branch }
+    ensures memory { P.memory space.new ≡ P.memory space.old }
+    ensures effect { (link : ℕ) → effect_of cpu.new (P.bytes space.new) io.new (next_of result end.new) ≡
+        effect (P.memory space.old) (machine_of cpu.old (P.bytes space.old)) io.old code.now (op_of (first_half code.now)) next link }
+{
+    let op = op_of(code.first_half());
+    match group_of(op) {
+        Group::Fixed => {
+            let n = fixed(cpu, space, code, op);
+            onward(cpu, next, n, end)
+        }
+        Group::Logic => {
+            let n = logic(cpu, space, code, op);
+            onward(cpu, next, n, end)
+        }
+        Group::Storage => {
+            let n = storage(cpu, space, code, op);
+            onward(cpu, next, n, end)
+        }
+        Group::Decimal => {
+            let n = decimal(cpu, space, code, op);
+            onward(cpu, next, n, end)
+        }
+        Group::Edit => {
+            let n = edit(cpu, space, code, op);
+            onward(cpu, next, n, end)
+        }
+        Group::Call => tell(task_call(cpu, space, io, code.i2(), next), end),
+        Group::Supervisor => tell(Next::Ended(Ending::Abend(2)), end),
+        Group::Missing => tell(Next::Ended(Ending::Abend(1)), end),
+        Group::Branch => unreachable!(),
+    }
+}
+
+/// The same: other operations that load, store or compute with a word or halfword in storage have their steps here.
+#[inline(never)]
+fn carry_out_stored<P: Space>(
+    cpu: &mut Cpu,
+    space: &mut P,
+    io: &mut TaskIo,
+    code: &Code,
+    next: Addr,
+    end: &mut Ending,
+) -> Told
+    requires group { group_of (op_of (first_half code.now)) ≢ Group.Branch }
+    ensures memory { P.memory space.new ≡ P.memory space.old }
+    ensures effect { (link : ℕ) → effect_of cpu.new (P.bytes space.new) io.new (next_of result end.new) ≡
+        effect (P.memory space.old) (machine_of cpu.old (P.bytes space.old)) io.old code.now (op_of (first_half code.now)) next link }
+{
+    match op_of(code.first_half()) {
+        Op::LH => fixed_here(cpu, space, code, Op::LH, next, end),
+        Op::STH => fixed_here(cpu, space, code, Op::STH, next, end),
+        Op::A => fixed_here(cpu, space, code, Op::A, next, end),
+        Op::AH => fixed_here(cpu, space, code, Op::AH, next, end),
+        Op::S => fixed_here(cpu, space, code, Op::S, next, end),
+        Op::SH => fixed_here(cpu, space, code, Op::SH, next, end),
+        Op::AL => fixed_here(cpu, space, code, Op::AL, next, end),
+        Op::SL => fixed_here(cpu, space, code, Op::SL, next, end),
+        Op::C => fixed_here(cpu, space, code, Op::C, next, end),
+        Op::CH => fixed_here(cpu, space, code, Op::CH, next, end),
+        _ => carry_out_any(cpu, space, io, code, next, end),
+    }
+}
+
+/// L, which is frequent and has a frame of its own.
+#[inline(never)]
+fn load_word<P: Space>(
+    cpu: &mut Cpu,
+    space: &mut P,
+    code: &Code,
+    next: Addr,
+    end: &mut Ending,
+) -> Told
+    ensures memory { P.memory space.new ≡ P.memory space.old }
+    ensures effect { (io : IoView) (link : ℕ) → effect_of cpu.new (P.bytes space.new) io (next_of result end.new) ≡
+        effect (P.memory space.old) (machine_of cpu.old (P.bytes space.old)) io code.now Op.L next link }
+{
+    fixed_here(cpu, space, code, Op::L, next, end)
+}
+
+/// ST, likewise.
+#[inline(never)]
+fn store_word<P: Space>(
+    cpu: &mut Cpu,
+    space: &mut P,
+    code: &Code,
+    next: Addr,
+    end: &mut Ending,
+) -> Told
+    ensures memory { P.memory space.new ≡ P.memory space.old }
+    ensures effect { (io : IoView) (link : ℕ) → effect_of cpu.new (P.bytes space.new) io (next_of result end.new) ≡
+        effect (P.memory space.old) (machine_of cpu.old (P.bytes space.old)) io code.now Op.ST next link }
+{
+    fixed_here(cpu, space, code, Op::ST, next, end)
+}
+
+/// Carries out an instruction that no EX executes. Where the task has ended `end` tells how.
+/// The operations on registers alone and the branches have their steps here, of which none is a call.
+#[inline(never)]
+fn carry_out<P: Space>(
+    cpu: &mut Cpu,
+    space: &mut P,
+    io: &mut TaskIo,
+    code: &Code,
+    end: &mut Ending,
+) -> Told
+    ensures memory { P.memory space.new ≡ P.memory space.old }
+    ensures effect { effect_of cpu.new (P.bytes space.new) io.new (next_of result end.new) ≡
+        effect (P.memory space.old) (machine_of cpu.old (P.bytes space.old)) io.old code.now (op_of (first_half code.now)) (updated code.now None) (link_code code.now None) }
+{
+    let op = op_of(code.first_half());
+    let next = updated(code, &None);
+    match op {
+        Op::L => load_word(cpu, space, code, next, end),
+        Op::ST => store_word(cpu, space, code, next, end),
+        Op::LR => fixed_here(cpu, space, code, Op::LR, next, end),
+        Op::LTR => fixed_here(cpu, space, code, Op::LTR, next, end),
+        Op::LCR => fixed_here(cpu, space, code, Op::LCR, next, end),
+        Op::LPR => fixed_here(cpu, space, code, Op::LPR, next, end),
+        Op::LNR => fixed_here(cpu, space, code, Op::LNR, next, end),
+        Op::LA => fixed_here(cpu, space, code, Op::LA, next, end),
+        Op::AR => fixed_here(cpu, space, code, Op::AR, next, end),
+        Op::SR => fixed_here(cpu, space, code, Op::SR, next, end),
+        Op::ALR => fixed_here(cpu, space, code, Op::ALR, next, end),
+        Op::SLR => fixed_here(cpu, space, code, Op::SLR, next, end),
+        Op::CR => fixed_here(cpu, space, code, Op::CR, next, end),
+        Op::BC => branch_here(cpu, code, Op::BC, next, link_code(code, &None)),
+        Op::BCR => branch_here(cpu, code, Op::BCR, next, link_code(code, &None)),
+        Op::BCT => branch_here(cpu, code, Op::BCT, next, link_code(code, &None)),
+        Op::BCTR => branch_here(cpu, code, Op::BCTR, next, link_code(code, &None)),
+        Op::BAL => branch_here(cpu, code, Op::BAL, next, link_code(code, &None)),
+        Op::BALR => branch_here(cpu, code, Op::BALR, next, link_code(code, &None)),
+        Op::BAS | Op::BASR | Op::BXH | Op::BXLE => {
+            branch_here(cpu, code, op, next, link_code(code, &None))
+        }
+        _ => carry_out_stored(cpu, space, io, code, next, end),
+    }
+}
+
+/// The same for the subject of the EX at the address.
+#[inline(never)]
+fn carry_out_subject<P: Space>(
+    cpu: &mut Cpu,
+    space: &mut P,
+    io: &mut TaskIo,
+    code: &Code,
+    ex: Addr,
+    end: &mut Ending,
+) -> Told
+    ensures memory { P.memory space.new ≡ P.memory space.old }
+    ensures effect { effect_of cpu.new (P.bytes space.new) io.new (next_of result end.new) ≡
+        effect (P.memory space.old) (machine_of cpu.old (P.bytes space.old)) io.old code.now (op_of (first_half code.now)) (updated code.now (Some ex)) (link_code code.now (Some ex)) }
+{
+    let op = op_of(code.first_half());
+    let next = updated(code, &Some(ex));
+    match group_of(op) {
+        Group::Branch => branch_here(cpu, code, op, next, link_code(code, &Some(ex))),
+        _ => carry_out_stored(cpu, space, io, code, next, end),
+    }
+}
+
 /// Executes an instruction that is no EX and whose length is that of its first halfword, under the order of tests
 /// from the operation on; `ex` is the address of the EX that executes it.
-#[tactic(auto, unfolding(crate::specs::Effects::effect))]
+#[inline(always)]
 pub fn execute<P: Space>(
     cpu: &mut Cpu,
     space: &mut P,
@@ -83,35 +312,13 @@ pub fn execute<P: Space>(
     ensures effect { effect_of cpu.new (P.bytes space.new) io.new result ≡
         effect (P.memory space.old) (machine_of cpu.old (P.bytes space.old)) io.old code.now (op_of (first_half code.now)) (updated code.now ex) (link_code code.now ex) }
 {
-    let op = op_of(code.first_half());
-    let next = updated(code, &ex);
-    match group_of(op) {
-        Group::Fixed => {
-            let n = fixed(cpu, space, code, op);
-            onward(cpu, next, n)
-        }
-        Group::Logic => {
-            let n = logic(cpu, space, code, op);
-            onward(cpu, next, n)
-        }
-        Group::Storage => {
-            let n = storage(cpu, space, code, op);
-            onward(cpu, next, n)
-        }
-        Group::Decimal => {
-            let n = decimal(cpu, space, code, op);
-            onward(cpu, next, n)
-        }
-        Group::Edit => {
-            let n = edit(cpu, space, code, op);
-            onward(cpu, next, n)
-        }
-        Group::Branch => {
-            branch(cpu, code, op, next, link_code(code, &ex));
-            Next::On
-        }
-        Group::Call => task_call(cpu, space, io, code.i2(), next),
-        Group::Supervisor => Next::Ended(Ending::Abend(2)),
-        Group::Missing => Next::Ended(Ending::Abend(1)),
+    let mut end = Ending::Spent;
+    let told = match ex {
+        None => carry_out(cpu, space, io, code, &mut end),
+        Some(at) => carry_out_subject(cpu, space, io, code, at, &mut end),
+    };
+    match told {
+        Told::GoesOn => Next::On,
+        Told::HasEnded => Next::Ended(end),
     }
 }

@@ -10,7 +10,7 @@ mod subject;
 
 pub use fetch::{fetch_first, fetch_rest};
 pub use instruction::execute;
-pub use solo::{has_returned, instruction_went, step, subject_seen};
+pub use solo::{has_returned, instruction_went, step, subject_seen, supervisor_call};
 pub use subject::{fetch_subject, is_execute, merge, subject_address};
 
 #[cfg(test)]

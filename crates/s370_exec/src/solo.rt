@@ -5,6 +5,7 @@ ghost use Rattle.cov_base.specs.Memory.{half_at};
 ghost use Rattle.cov_base.specs.States.{IoView, Visit};
 ghost use Rattle.s370_decode.specs.Fields.{first_half, ex as subject_of};
 ghost use Rattle.s370_exec.specs.Fetch.{is_execute, first_tests};
+ghost use Rattle.s370_exec.specs.Calls.{call_in, subject_call, call_of};
 ghost use Rattle.s370_exec.specs.Solo.{return_address, state_of, solo_step, subject_step, visit_of, subject_seen};
 
 use crate::fetch::{fetch_first, fetch_whole};
@@ -109,4 +110,45 @@ pub fn instruction_went<P: Space>(cpu: &Cpu, space: &P) -> bool
         Ok(code) => outcome(cpu, &code),
         Err(_) => false,
     }
+}
+
+/// The number of the supervisor call that the instruction is, whose operation code is X'0A'.
+fn call_in(code: &Code) -> Option<u8>
+    ensures { call_in code.now ≡ result }
+{
+    if code.bytes[0] == 0x0A {
+        Some(code.bytes[1])
+    } else {
+        None
+    }
+}
+
+/// The call that the subject of an EX that was fetched whole is, its number ORed.
+fn subject_call<P: Space>(cpu: &Cpu, space: &P, ex: &Code) -> Option<u8>
+    ensures { (io : IoView) (d : ℕ) → subject_call (P.memory space.now) (state_of cpu.now (P.bytes space.now) io d) ex.now ≡ result }
+{
+    let at = subject_address(cpu, ex);
+    let half = match fetch_first(space, at) {
+        Ok(half) => half,
+        Err(_) => return None,
+    };
+    match fetch_subject(cpu, space, ex, at, half) {
+        Ok(subject) => call_in(&subject),
+        Err(_) => None,
+    }
+}
+
+/// The number of the supervisor call that the next instruction executes, itself or as EX; none where it executes
+/// another instruction, or ends before it has fetched one whole.
+pub fn supervisor_call<P: Space>(cpu: &Cpu, space: &P) -> Option<u8>
+    ensures { (io : IoView) (d : ℕ) → call_of (P.memory space.now) (state_of cpu.now (P.bytes space.now) io d) ≡ result }
+{
+    let code = match fetch_whole(space, cpu.at()) {
+        Ok(code) => code,
+        Err(_) => return None,
+    };
+    if is_ex(&code) {
+        return subject_call(cpu, space, &code);
+    }
+    call_in(&code)
 }

@@ -22,6 +22,7 @@ fn magnitude(z: i64) -> i64
 }
 
 /// LR.
+#[inline(always)]
 pub fn load_register<P: Space>(cpu: &mut Cpu, space: &mut P, code: &Code) -> Next
     ensures memory { P.memory space.new ≡ P.memory space.old }
     ensures row { Performs (P.memory space.old) cpu.old (P.bytes space.old) (λ m s. row_lr m s code.now) cpu.new (P.bytes space.new) result }
@@ -30,6 +31,7 @@ pub fn load_register<P: Space>(cpu: &mut Cpu, space: &mut P, code: &Code) -> Nex
 }
 
 /// L.
+#[inline(always)]
 pub fn load_word<P: Space>(cpu: &mut Cpu, space: &mut P, code: &Code) -> Next
     ensures memory { P.memory space.new ≡ P.memory space.old }
     ensures row { Performs (P.memory space.old) cpu.old (P.bytes space.old) (λ m s. row_l m s code.now) cpu.new (P.bytes space.new) result }
@@ -41,6 +43,7 @@ pub fn load_word<P: Space>(cpu: &mut Cpu, space: &mut P, code: &Code) -> Next
 }
 
 /// LH.
+#[inline(always)]
 pub fn load_half<P: Space>(cpu: &mut Cpu, space: &mut P, code: &Code) -> Next
     ensures memory { P.memory space.new ≡ P.memory space.old }
     ensures row { Performs (P.memory space.old) cpu.old (P.bytes space.old) (λ m s. row_lh m s code.now) cpu.new (P.bytes space.new) result }
@@ -52,6 +55,7 @@ pub fn load_half<P: Space>(cpu: &mut Cpu, space: &mut P, code: &Code) -> Next
 }
 
 /// LTR.
+#[inline(always)]
 pub fn load_and_test<P: Space>(cpu: &mut Cpu, space: &mut P, code: &Code) -> Next
     ensures memory { P.memory space.new ≡ P.memory space.old }
     ensures row { Performs (P.memory space.old) cpu.old (P.bytes space.old) (λ m s. row_ltr m s code.now) cpu.new (P.bytes space.new) result }
@@ -63,6 +67,7 @@ pub fn load_and_test<P: Space>(cpu: &mut Cpu, space: &mut P, code: &Code) -> Nex
 }
 
 /// LCR.
+#[inline(always)]
 pub fn load_complement<P: Space>(cpu: &mut Cpu, space: &mut P, code: &Code) -> Next
     ensures memory { P.memory space.new ≡ P.memory space.old }
     ensures row { Performs (P.memory space.old) cpu.old (P.bytes space.old) (λ m s. row_lcr m s code.now) cpu.new (P.bytes space.new) result }
@@ -71,6 +76,7 @@ pub fn load_complement<P: Space>(cpu: &mut Cpu, space: &mut P, code: &Code) -> N
 }
 
 /// LPR.
+#[inline(always)]
 pub fn load_positive<P: Space>(cpu: &mut Cpu, space: &mut P, code: &Code) -> Next
     ensures memory { P.memory space.new ≡ P.memory space.old }
     ensures row { Performs (P.memory space.old) cpu.old (P.bytes space.old) (λ m s. row_lpr m s code.now) cpu.new (P.bytes space.new) result }
@@ -79,6 +85,7 @@ pub fn load_positive<P: Space>(cpu: &mut Cpu, space: &mut P, code: &Code) -> Nex
 }
 
 /// LNR.
+#[inline(always)]
 pub fn load_negative<P: Space>(cpu: &mut Cpu, space: &mut P, code: &Code) -> Next
     ensures memory { P.memory space.new ≡ P.memory space.old }
     ensures row { Performs (P.memory space.old) cpu.old (P.bytes space.old) (λ m s. row_lnr m s code.now) cpu.new (P.bytes space.new) result }
@@ -87,6 +94,7 @@ pub fn load_negative<P: Space>(cpu: &mut Cpu, space: &mut P, code: &Code) -> Nex
 }
 
 /// LA.
+#[inline(always)]
 pub fn load_address<P: Space>(cpu: &mut Cpu, space: &mut P, code: &Code) -> Next
     ensures memory { P.memory space.new ≡ P.memory space.old }
     ensures row { Performs (P.memory space.old) cpu.old (P.bytes space.old) (λ m s. row_la m s code.now) cpu.new (P.bytes space.new) result }
@@ -95,6 +103,7 @@ pub fn load_address<P: Space>(cpu: &mut Cpu, space: &mut P, code: &Code) -> Next
 }
 
 /// ST.
+#[inline(always)]
 pub fn store_word<P: Space>(cpu: &mut Cpu, space: &mut P, code: &Code) -> Next
     ensures memory { P.memory space.new ≡ P.memory space.old }
     ensures row { Performs (P.memory space.old) cpu.old (P.bytes space.old) (λ m s. row_st m s code.now) cpu.new (P.bytes space.new) result }
@@ -108,6 +117,7 @@ pub fn store_word<P: Space>(cpu: &mut Cpu, space: &mut P, code: &Code) -> Next
 }
 
 /// STH.
+#[inline(always)]
 pub fn store_half<P: Space>(cpu: &mut Cpu, space: &mut P, code: &Code) -> Next
     ensures memory { P.memory space.new ≡ P.memory space.old }
     ensures row { Performs (P.memory space.old) cpu.old (P.bytes space.old) (λ m s. row_sth m s code.now) cpu.new (P.bytes space.new) result }

@@ -10,14 +10,21 @@ use cov_base::Addr;
 use s370_decode::Code;
 use s370_state::{Cpu, Ending, Next, Space, next_after, read_word, test_read};
 
-/// The second operand's address in the RX format.
+/// The second operand's address in the RX format, of which each instruction has four bytes.
+#[inline(always)]
+#[tactic(auto, unfolding(s370_decode::specs::Fields::b1, s370_decode::specs::Fields::d1, s370_decode::specs::Fields::b2, s370_decode::specs::Fields::d2))]
 pub fn address(cpu: &Cpu, code: &Code) -> Addr
     ensures { result ≡ ex cpu.now code.now }
 {
-    cpu.address(code.b2(), code.x2(), code.d2())
+    if code.len == 6 {
+        cpu.address(code.b2(), code.x2(), code.d2())
+    } else {
+        cpu.address(code.b1(), code.x2(), code.d1())
+    }
 }
 
 /// The word at the second operand's address.
+#[inline(always)]
 pub fn word<P: Space>(cpu: &Cpu, space: &P, code: &Code) -> Result<u32, Ending>
     ensures refused { IfErr result (λ e. use_tests (P.memory space.now) (reads (ex cpu.now code.now) 4 ∷ []) ≡ Some e) }
     ensures passed { IfOk result (λ _. use_tests (P.memory space.now) (reads (ex cpu.now code.now) 4 ∷ []) ≡ None) }
@@ -27,6 +34,7 @@ pub fn word<P: Space>(cpu: &Cpu, space: &P, code: &Code) -> Result<u32, Ending>
 }
 
 /// The halfword there, extended by its sign.
+#[inline(always)]
 pub fn half<P: Space>(cpu: &Cpu, space: &P, code: &Code) -> Result<i64, Ending>
     ensures refused { IfErr result (λ e. use_tests (P.memory space.now) (reads (ex cpu.now code.now) 2 ∷ []) ≡ Some e) }
     ensures passed { IfOk result (λ _. use_tests (P.memory space.now) (reads (ex cpu.now code.now) 2 ∷ []) ≡ None) }
@@ -42,6 +50,7 @@ pub fn half<P: Space>(cpu: &Cpu, space: &P, code: &Code) -> Result<i64, Ending>
 }
 
 /// The word goes to the register.
+#[inline(always)]
 pub fn load(cpu: &mut Cpu, r: u8, v: u32) -> Next
     requires { r < 16 }
     ensures cpu { cpu.new ≡ record cpu.old { regs = slice_set cpu.old.regs r v } }
@@ -52,6 +61,8 @@ pub fn load(cpu: &mut Cpu, r: u8, v: u32) -> Next
 }
 
 /// The signed result goes to the register, with its condition code; overflow is code 8.
+#[inline(always)]
+#[tactic(auto, unfolding(s370_state::specs::Row::next_after))]
 pub fn set_result(cpu: &mut Cpu, r: u8, z: i64) -> Next
     requires { r < 16 }
     ensures cpu { cpu.new ≡ record cpu.old { regs = slice_set cpu.old.regs r (low_word z); condition = if is_word z then sign_code z else 3 } }
@@ -61,7 +72,7 @@ pub fn set_result(cpu: &mut Cpu, r: u8, z: i64) -> Next
     let wide = i128::from(z);
     if is_word(wide) {
         cpu.set_cc(sign_code(wide));
-        next_after(cpu.mask(), 0)
+        Next::On
     } else {
         cpu.set_cc(3);
         next_after(cpu.mask(), 8)

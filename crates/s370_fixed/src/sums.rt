@@ -13,6 +13,7 @@ use s370_decode::Code;
 use s370_state::{Cpu, Next, Space, order_code, signed};
 
 /// Adds a signed word to the register.
+#[inline(always)]
 fn add(cpu: &mut Cpu, r: u8, z: i64) -> Next
     requires r { r < 16 }
     requires low { neg_ℤ (pos 2147483648) ≤ℤ z }
@@ -26,6 +27,7 @@ fn add(cpu: &mut Cpu, r: u8, z: i64) -> Next
 }
 
 /// Subtracts a signed word from the register.
+#[inline(always)]
 fn subtract(cpu: &mut Cpu, r: u8, z: i64) -> Next
     requires r { r < 16 }
     requires low { neg_ℤ (pos 2147483648) ≤ℤ z }
@@ -39,6 +41,7 @@ fn subtract(cpu: &mut Cpu, r: u8, z: i64) -> Next
 }
 
 /// The low word of a sum without signs goes to the register, with its condition code.
+#[inline(always)]
 fn set_sum(cpu: &mut Cpu, r: u8, n: u64) -> Next
     requires r { r < 16 }
     requires carry { n < 8589934592 }
@@ -53,6 +56,7 @@ fn set_sum(cpu: &mut Cpu, r: u8, n: u64) -> Next
     Next::On
 }
 
+#[inline(always)]
 fn add_unsigned(cpu: &mut Cpu, r: u8, v: u32) -> Next
     requires { r < 16 }
     ensures cpu { let n = slice_index cpu.old.regs r + v in
@@ -64,6 +68,7 @@ fn add_unsigned(cpu: &mut Cpu, r: u8, v: u32) -> Next
 }
 
 /// Adds the one's complement and 1.
+#[inline(always)]
 fn subtract_unsigned(cpu: &mut Cpu, r: u8, v: u32) -> Next
     requires { r < 16 }
     ensures cpu { let n = slice_index cpu.old.regs r + (4294967295 - v) + 1 in
@@ -75,6 +80,7 @@ fn subtract_unsigned(cpu: &mut Cpu, r: u8, v: u32) -> Next
 }
 
 /// Compares the register with a signed word.
+#[inline(always)]
 fn compare(cpu: &mut Cpu, r: u8, z: i64) -> Next
     requires { r < 16 }
     ensures cpu { cpu.new ≡ record cpu.old { condition = order_code (int_cmp (signed (slice_index cpu.old.regs r)) z) } }
@@ -85,6 +91,7 @@ fn compare(cpu: &mut Cpu, r: u8, z: i64) -> Next
 }
 
 /// AR.
+#[inline(always)]
 pub fn add_register<P: Space>(cpu: &mut Cpu, space: &mut P, code: &Code) -> Next
     ensures memory { P.memory space.new ≡ P.memory space.old }
     ensures row { Performs (P.memory space.old) cpu.old (P.bytes space.old) (λ m s. row_ar m s code.now) cpu.new (P.bytes space.new) result }
@@ -93,6 +100,7 @@ pub fn add_register<P: Space>(cpu: &mut Cpu, space: &mut P, code: &Code) -> Next
 }
 
 /// A.
+#[inline(always)]
 pub fn add_word<P: Space>(cpu: &mut Cpu, space: &mut P, code: &Code) -> Next
     ensures memory { P.memory space.new ≡ P.memory space.old }
     ensures row { Performs (P.memory space.old) cpu.old (P.bytes space.old) (λ m s. row_a m s code.now) cpu.new (P.bytes space.new) result }
@@ -104,6 +112,7 @@ pub fn add_word<P: Space>(cpu: &mut Cpu, space: &mut P, code: &Code) -> Next
 }
 
 /// AH.
+#[inline(always)]
 pub fn add_half<P: Space>(cpu: &mut Cpu, space: &mut P, code: &Code) -> Next
     ensures memory { P.memory space.new ≡ P.memory space.old }
     ensures row { Performs (P.memory space.old) cpu.old (P.bytes space.old) (λ m s. row_ah m s code.now) cpu.new (P.bytes space.new) result }
@@ -115,6 +124,7 @@ pub fn add_half<P: Space>(cpu: &mut Cpu, space: &mut P, code: &Code) -> Next
 }
 
 /// SR.
+#[inline(always)]
 pub fn subtract_register<P: Space>(cpu: &mut Cpu, space: &mut P, code: &Code) -> Next
     ensures memory { P.memory space.new ≡ P.memory space.old }
     ensures row { Performs (P.memory space.old) cpu.old (P.bytes space.old) (λ m s. row_sr m s code.now) cpu.new (P.bytes space.new) result }
@@ -123,6 +133,7 @@ pub fn subtract_register<P: Space>(cpu: &mut Cpu, space: &mut P, code: &Code) ->
 }
 
 /// S.
+#[inline(always)]
 pub fn subtract_word<P: Space>(cpu: &mut Cpu, space: &mut P, code: &Code) -> Next
     ensures memory { P.memory space.new ≡ P.memory space.old }
     ensures row { Performs (P.memory space.old) cpu.old (P.bytes space.old) (λ m s. row_s m s code.now) cpu.new (P.bytes space.new) result }
@@ -134,6 +145,7 @@ pub fn subtract_word<P: Space>(cpu: &mut Cpu, space: &mut P, code: &Code) -> Nex
 }
 
 /// SH.
+#[inline(always)]
 pub fn subtract_half<P: Space>(cpu: &mut Cpu, space: &mut P, code: &Code) -> Next
     ensures memory { P.memory space.new ≡ P.memory space.old }
     ensures row { Performs (P.memory space.old) cpu.old (P.bytes space.old) (λ m s. row_sh m s code.now) cpu.new (P.bytes space.new) result }
@@ -145,6 +157,7 @@ pub fn subtract_half<P: Space>(cpu: &mut Cpu, space: &mut P, code: &Code) -> Nex
 }
 
 /// ALR.
+#[inline(always)]
 pub fn add_logical_register<P: Space>(cpu: &mut Cpu, space: &mut P, code: &Code) -> Next
     ensures memory { P.memory space.new ≡ P.memory space.old }
     ensures row { Performs (P.memory space.old) cpu.old (P.bytes space.old) (λ m s. row_alr m s code.now) cpu.new (P.bytes space.new) result }
@@ -153,6 +166,7 @@ pub fn add_logical_register<P: Space>(cpu: &mut Cpu, space: &mut P, code: &Code)
 }
 
 /// AL.
+#[inline(always)]
 pub fn add_logical_word<P: Space>(cpu: &mut Cpu, space: &mut P, code: &Code) -> Next
     ensures memory { P.memory space.new ≡ P.memory space.old }
     ensures row { Performs (P.memory space.old) cpu.old (P.bytes space.old) (λ m s. row_al m s code.now) cpu.new (P.bytes space.new) result }
@@ -164,6 +178,7 @@ pub fn add_logical_word<P: Space>(cpu: &mut Cpu, space: &mut P, code: &Code) -> 
 }
 
 /// SLR.
+#[inline(always)]
 pub fn subtract_logical_register<P: Space>(cpu: &mut Cpu, space: &mut P, code: &Code) -> Next
     ensures memory { P.memory space.new ≡ P.memory space.old }
     ensures row { Performs (P.memory space.old) cpu.old (P.bytes space.old) (λ m s. row_slr m s code.now) cpu.new (P.bytes space.new) result }
@@ -172,6 +187,7 @@ pub fn subtract_logical_register<P: Space>(cpu: &mut Cpu, space: &mut P, code: &
 }
 
 /// SL.
+#[inline(always)]
 pub fn subtract_logical_word<P: Space>(cpu: &mut Cpu, space: &mut P, code: &Code) -> Next
     ensures memory { P.memory space.new ≡ P.memory space.old }
     ensures row { Performs (P.memory space.old) cpu.old (P.bytes space.old) (λ m s. row_sl m s code.now) cpu.new (P.bytes space.new) result }
@@ -183,6 +199,7 @@ pub fn subtract_logical_word<P: Space>(cpu: &mut Cpu, space: &mut P, code: &Code
 }
 
 /// CR.
+#[inline(always)]
 pub fn compare_register<P: Space>(cpu: &mut Cpu, space: &mut P, code: &Code) -> Next
     ensures memory { P.memory space.new ≡ P.memory space.old }
     ensures row { Performs (P.memory space.old) cpu.old (P.bytes space.old) (λ m s. row_cr m s code.now) cpu.new (P.bytes space.new) result }
@@ -191,6 +208,7 @@ pub fn compare_register<P: Space>(cpu: &mut Cpu, space: &mut P, code: &Code) -> 
 }
 
 /// C.
+#[inline(always)]
 pub fn compare_word<P: Space>(cpu: &mut Cpu, space: &mut P, code: &Code) -> Next
     ensures memory { P.memory space.new ≡ P.memory space.old }
     ensures row { Performs (P.memory space.old) cpu.old (P.bytes space.old) (λ m s. row_c m s code.now) cpu.new (P.bytes space.new) result }
@@ -202,6 +220,7 @@ pub fn compare_word<P: Space>(cpu: &mut Cpu, space: &mut P, code: &Code) -> Next
 }
 
 /// CH.
+#[inline(always)]
 pub fn compare_half<P: Space>(cpu: &mut Cpu, space: &mut P, code: &Code) -> Next
     ensures memory { P.memory space.new ≡ P.memory space.old }
     ensures row { Performs (P.memory space.old) cpu.old (P.bytes space.old) (λ m s. row_ch m s code.now) cpu.new (P.bytes space.new) result }

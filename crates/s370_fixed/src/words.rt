@@ -10,6 +10,7 @@ use s370_state::{Space, byte_of, put_into};
 
 /// The halfword as a signed number, -2^15 to 2^15 - 1.
 #[tactic(auto, unfolding(crate::specs::Words::signed_half))]
+#[inline(always)]
 pub fn signed_half(h: u16) -> i64
     ensures value { result ≡ signed_half h }
     ensures low { neg_ℤ (pos 32768) ≤ℤ result }
@@ -20,6 +21,7 @@ pub fn signed_half(h: u16) -> i64
 
 /// The number modulo 2^32, as a register holds it.
 #[tactic(auto, unfolding(crate::specs::Words::low_word))]
+#[inline(always)]
 pub fn low_word(z: i64) -> u32
     ensures { result ≡ low_word z }
 {
@@ -32,6 +34,7 @@ pub fn low_word(z: i64) -> u32
 
 /// Whether the number fits a signed word; where it does not, a sum, a difference or a left shift overflows.
 #[tactic(auto, unfolding(crate::specs::Words::is_word))]
+#[inline(always)]
 pub fn is_word(z: i128) -> bool
     ensures { result ≡ is_word z }
 {
@@ -40,6 +43,7 @@ pub fn is_word(z: i128) -> bool
 
 /// The condition code of a signed result that fits: 0 for zero, 1 for negative, 2 for positive.
 #[tactic(auto, unfolding(crate::specs::Words::sign_code))]
+#[inline(always)]
 pub fn sign_code(z: i128) -> u8
     ensures value { result ≡ sign_code z }
     ensures below { result ≤ 2 }
@@ -55,6 +59,7 @@ pub fn sign_code(z: i128) -> u8
 
 /// The halfword at a distance into an operand that was tested, unsigned.
 #[tactic(auto, using(crate::proofs::Registers::half_of_bytes))]
+#[inline(always)]
 pub fn half_of<P: Space>(space: &P, at: Addr, i: u32, len: u32) -> u16
     requires reach { can_reach (P.memory space.now) at len ≡ true }
     requires below { i + 2 ≤ len }
@@ -65,6 +70,7 @@ pub fn half_of<P: Space>(space: &P, at: Addr, i: u32, len: u32) -> u16
 
 /// A word's low halfword is stored at a distance into an operand that was tested.
 #[tactic(auto, using(crate::proofs::Registers::half_stored))]
+#[inline(always)]
 pub fn put_half<P: Space>(space: &mut P, at: Addr, i: u32, len: u32, value: u32)
     requires store { can_store (P.memory space.old) at len ≡ true }
     requires below { i + 2 ≤ len }

@@ -119,6 +119,7 @@ impl Cpu {
     }
 
     /// A register as base or index, where register 0 means zero.
+    #[inline(always)]
     fn base(&self, r: u8) -> u32
         requires { r < 16 }
         ensures { result ≡ base self.now r }
@@ -128,6 +129,7 @@ impl Cpu {
 
     /// The effective address of base, index and displacement, modulo 2^24 (Principles of Operation,
     /// "Address Generation").
+    #[inline(always)]
     pub fn address(&self, b: u8, x: u8, d: u16) -> Addr
         requires b { b < 16 }
         requires x { x < 16 }

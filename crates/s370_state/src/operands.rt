@@ -10,6 +10,7 @@ use crate::space::{Refused, Space};
 use cov_base::Addr;
 
 /// How a refused operand or halfword ends the task: codes 5 and 4, or Touched.
+#[inline(always)]
 pub fn ending_of(r: Refused) -> Ending
     ensures { result ≡ ending_of r }
 {
@@ -22,6 +23,7 @@ pub fn ending_of(r: Refused) -> Ending
 
 /// Tests an operand that is read: code 5, then touch.
 #[tactic(auto, unfolding(crate::specs::Row::use_tests, crate::specs::Row::all_reached, crate::specs::Row::all_stored, crate::specs::Row::touched))]
+#[inline(always)]
 pub fn test_read<P: Space>(space: &P, at: Addr, len: u32) -> Result<(), Ending>
     ensures refused { IfErr result (λ e. use_tests (P.memory space.now) (reads at len ∷ []) ≡ Some e) }
     ensures passed { IfOk result (λ _. use_tests (P.memory space.now) (reads at len ∷ []) ≡ None) }
@@ -38,6 +40,7 @@ pub fn test_read<P: Space>(space: &P, at: Addr, len: u32) -> Result<(), Ending>
 
 /// Tests an operand that is stored, and maybe read: code 5, then code 4.
 #[tactic(auto, unfolding(crate::specs::Row::use_tests, crate::specs::Row::all_reached, crate::specs::Row::all_stored, crate::specs::Row::touched))]
+#[inline(always)]
 pub fn test_store<P: Space>(space: &P, at: Addr, len: u32) -> Result<(), Ending>
     ensures refused { IfErr result (λ e. use_tests (P.memory space.now) (stores at len ∷ []) ≡ Some e) }
     ensures passed { IfOk result (λ _. use_tests (P.memory space.now) (stores at len ∷ []) ≡ None) }
@@ -106,6 +109,7 @@ fn reach_both<P: Space>(space: &P, a: Addr, n: u32, b: Addr, k: u32) -> Result<(
 
 /// A byte at a distance into an operand that was tested.
 #[tactic(auto, using(crate::proofs::Tested::reach_at, crate::proofs::Tested::store_at))]
+#[inline(always)]
 pub fn byte_of<P: Space>(space: &P, at: Addr, i: u32, len: u32) -> u8
     requires reach { can_reach (P.memory space.now) at len ≡ true }
     requires below { i < len }
@@ -116,6 +120,7 @@ pub fn byte_of<P: Space>(space: &P, at: Addr, i: u32, len: u32) -> u8
 
 /// A byte is stored at a distance into an operand that was tested.
 #[tactic(auto, using(crate::proofs::Tested::reach_at, crate::proofs::Tested::store_at))]
+#[inline(always)]
 pub fn put_into<P: Space>(space: &mut P, at: Addr, i: u32, len: u32, value: u8)
     requires store { can_store (P.memory space.old) at len ≡ true }
     requires below { i < len }
@@ -127,6 +132,7 @@ pub fn put_into<P: Space>(space: &mut P, at: Addr, i: u32, len: u32, value: u8)
 
 /// The word at a distance into an operand that was tested, unsigned.
 #[tactic(auto, using(crate::proofs::Tested::word_of_bytes))]
+#[inline(always)]
 pub fn word_of<P: Space>(space: &P, at: Addr, i: u32, len: u32) -> u32
     requires reach { can_reach (P.memory space.now) at len ≡ true }
     requires below { i + 4 ≤ len }
@@ -141,6 +147,7 @@ pub fn word_of<P: Space>(space: &P, at: Addr, i: u32, len: u32) -> u32
 }
 
 /// The word at an address, tested as an operand that is read.
+#[inline(always)]
 pub fn read_word<P: Space>(space: &P, at: Addr) -> Result<u32, Ending>
     ensures refused { IfErr result (λ e. use_tests (P.memory space.now) (reads at 4 ∷ []) ≡ Some e) }
     ensures passed { IfOk result (λ _. use_tests (P.memory space.now) (reads at 4 ∷ []) ≡ None) }
@@ -154,6 +161,7 @@ pub fn read_word<P: Space>(space: &P, at: Addr) -> Result<u32, Ending>
 
 /// A word is stored at a distance into an operand that was tested.
 #[tactic(auto, using(crate::proofs::Tested::word_stored))]
+#[inline(always)]
 pub fn put_word<P: Space>(space: &mut P, at: Addr, i: u32, len: u32, value: u32)
     requires store { can_store (P.memory space.old) at len ≡ true }
     requires below { i + 4 ≤ len }

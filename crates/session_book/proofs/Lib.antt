@@ -1,1 +1,2 @@
+pub mod ControlledLemmas
 pub mod PlanLemmas

@@ -1,5 +1,5 @@
 -- A job as lists, wherever memory holds it, and the rules that its values keep.
-use Rattle.std.specs.Prelude.{◌≡◌, ◌≢◌, ℕ, ◌+◌, ◌<◌, ◌≤◌, false, nat_eq, Option, None, List, length, replicate, slice_set, map, All, AllPairs, IfSome}
+use Rattle.std.specs.Prelude.{◌≡◌, ◌≢◌, ℕ, ◌+◌, ◌<◌, ◌≤◌, Bool, false, nat_eq, Option, Some, List, length, get_or, replicate, slice_set, map, All, AllPairs, IfSome}
 use Rattle.std.specs.List.{list_any}
 use Rattle.cov_base.specs.Memory.{ImageView}
 use Rattle.cov_base.specs.declared.constants.TheConstants.{RETURN_ADDRESS}
@@ -51,17 +51,28 @@ pub record IsTask (phases : ℕ) (t : TaskView) : Type 0 where
   pub regs : length t.regs ≡ 16
   pub cards : All (λ (c : DataView). c.offset + length c.bytes ≤ t.private) t.cards
 
--- whole sessions alone, so far
 pub record IsSession (images phases : ℕ) (s : SessionView) : Type 0 where
   pub phase : s.phase < phases
   pub some : 1 ≤ length s.modules
   pub modules : All (λ m. m < images) s.modules
   pub differ : AllPairs (λ m n. m ≢ n) s.modules
-  pub whole : s.by ≡ None
 
--- no module is in two sessions of one phase
+-- the sessions of a task, which it opens and closes one after the other
+abbrev pub is_same_controller : Option ℕ → Option ℕ → Bool
+is_same_controller (Some t) (Some u) = nat_eq t u
+is_same_controller t u = false
+
+-- no module is in two sessions of one phase but in those of one controller
 abbrev pub AreParted : SessionView → SessionView → Type 0
-AreParted s t = s.phase ≡ t.phase → All (λ m. list_any (nat_eq m) t.modules ≡ false) s.modules
+AreParted s t = s.phase ≡ t.phase → is_same_controller s.by t.by ≡ false → All (λ m. list_any (nat_eq m) t.modules ≡ false) s.modules
+
+-- a task of the phase
+abbrev pub IsTaskOf : List TaskView → ℕ → ℕ → Type 0
+IsTaskOf tasks phase t = (d : TaskView) → (t < length tasks) × ((get_or tasks t d).phase ≡ phase)
+
+-- the controller, where there is one, is a task of the session's phase
+abbrev pub HasController : List TaskView → SessionView → Type 0
+HasController tasks s = IfSome s.by (IsTaskOf tasks s.phase)
 
 abbrev pub IsListing : Option (List (List ℕ)) → Type 0
 IsListing listing = IfSome listing (All (λ l. length l ≤ LINE_LIMIT))
@@ -77,6 +88,7 @@ pub record IsJob (j : JobView) : Type 0 where
   pub tasks : length j.tasks ≤ TASK_LIMIT
   pub are_sessions : All (IsSession (length j.images) (length j.phases)) j.sessions
   pub parted : AllPairs AreParted j.sessions
+  pub controllers : All (HasController j.tasks) j.sessions
   pub are_tasks : All (IsTask (length j.phases)) j.tasks
   pub module_names : Differ (map (λ (i : ImageView). i.name) j.images)
   pub phase_names : Differ j.phases

@@ -1,12 +1,13 @@
 -- What observes each place in a phase, and what a session's executions show.
-use Rattle.std.specs.Prelude.{ℕ, ◌+◌, ◌-◌, Bool, ◌&&◌, nat_eq, if◌then◌else◌, None, List, [], ◌∷◌, length, get_or, map}
+use Rattle.std.specs.Prelude.{◌≡◌, ℕ, ◌+◌, ◌-◌, Bool, true, ◌&&◌, nat_eq, if◌then◌else◌, Option, Some, None, is_some, not, List, [], ◌∷◌, length, get_or, map, All}
 use Rattle.std.specs.List.{list_any}
 use Rattle.cov_base.specs.Memory.{ImageView}
 use Rattle.cov_base.specs.States.{State, Visit}
 use Rattle.cov_base.specs.FactSet.{FactSet}
 use Rattle.cov_base.specs.declared.numbers.TaskNo.{TaskNo}
+use Rattle.cov_base.specs.declared.numbers.PlaceNo.{PlaceNo}
 use Rattle.module_area.specs.Executions.{facts_of_all}
-use Rattle.module_area.specs.PlanView.{PlanView}
+use Rattle.module_area.specs.PlanView.{PlanView, ControlledView}
 use Rattle.module_area.specs.Views.{first_bytes}
 use Rattle.module_area.specs.declared.places.Place.{Place}
 use Rattle.s370_state.specs.Io.{fresh_io}
@@ -31,14 +32,22 @@ session_of j s = get_or j.sessions (s - 1) no_session
 abbrev pub task_of : JobView → ℕ → TaskView
 task_of j t = get_or j.tasks t no_task
 
+-- no task opens and closes it
+abbrev pub is_whole : SessionView → Bool
+is_whole s = not (is_some s.by)
+
+-- all sessions of the job are so
+abbrev pub AreWhole : JobView → Type 0
+AreWhole j = All (λ s. is_whole s ≡ true) j.sessions
+
 -- the session is one of the phase and names the module
 abbrev pub observes : ℕ → ℕ → SessionView → Bool
 observes phase m s = nat_eq s.phase phase && list_any (nat_eq m) s.modules
 
--- the number of the session that observes the module in the phase, counted on from n, or 0
+-- the number of the whole session that observes the module in the phase, counted on from n, or 0
 abbrev pub window_from : ℕ → List SessionView → ℕ → ℕ → ℕ
 window_from n [] phase m = 0
-window_from n (s ∷ ss) phase m = if observes phase m s then n else window_from (n + 1) ss phase m
+window_from n (s ∷ ss) phase m = if is_whole s && observes phase m s then n else window_from (n + 1) ss phase m
 
 abbrev pub window_of : JobView → ℕ → Place → ℕ
 window_of j phase place = window_from 1 j.sessions phase place.module
@@ -48,11 +57,25 @@ abbrev pub tasks_from : ℕ → List TaskView → ℕ → List TaskNo
 tasks_from n [] phase = []
 tasks_from n (t ∷ ts) phase = if nat_eq t.phase phase then record { 0 = n } ∷ tasks_from (n + 1) ts phase else tasks_from (n + 1) ts phase
 
+-- the numbers of the places of these modules, counted on from n
+abbrev pub places_from : ℕ → List Place → List ℕ → List PlaceNo
+places_from n [] modules = []
+places_from n (p ∷ ps) modules = if list_any (nat_eq p.module) modules then record { 0 = n } ∷ places_from (n + 1) ps modules else places_from (n + 1) ps modules
+
+-- the controlled sessions of the phase, counted on from n, with their places
+abbrev pub with_controlled : ℕ → SessionView → List Place → Option ℕ → List ControlledView → List ControlledView
+with_controlled n s places None cs = cs
+with_controlled n s places (Some t) cs = record { session = n; by = t; places = places_from 0 places s.modules } ∷ cs
+
+abbrev pub controlled_from : ℕ → List SessionView → List Place → ℕ → List ControlledView
+controlled_from n [] places phase = []
+controlled_from n (s ∷ ss) places phase = if nat_eq s.phase phase then with_controlled n s places s.by (controlled_from (n + 1) ss places phase) else controlled_from (n + 1) ss places phase
+
 abbrev pub plan_view : JobView → List Place → ℕ → PlanView
 plan_view j places phase = record {
   places = places;
   windows = map (window_of j phase) places;
-  controlled = [];
+  controlled = controlled_from 1 j.sessions places phase;
   tasks = tasks_from 0 j.tasks phase;
   sessions = length j.sessions;
 }

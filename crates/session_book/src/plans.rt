@@ -1,14 +1,14 @@
 //! The plan of a phase.
 ghost use Rattle.std.specs.Prelude.{◌≡◌, ◌<◌, ◌≤◌, nat_eq, length, map, IfOk};
 ghost use Rattle.std.specs.List.{list_any};
-ghost use Rattle.cov_base.specs.declared.limits.TheConstants.{SESSION_LIMIT, TASK_LIMIT};
+ghost use Rattle.cov_base.specs.declared.limits.TheConstants.{PLACE_LIMIT, SESSION_LIMIT, TASK_LIMIT};
 ghost use Rattle.brk_table.specs.Places.{ArePlaces};
-ghost use Rattle.session_book.specs.Sessions.{observes, window_from, window_of, tasks_from, plan_view};
+ghost use Rattle.session_book.specs.Sessions.{is_whole, observes, window_from, window_of, tasks_from, places_from, controlled_from, plan_view};
 
 use crate::job::{Job, Session, TaskCard};
 use brk_table::Tables;
-use cov_base::{NoMemory, PlaceNo, TaskNo};
-use module_area::{Place, Plan};
+use cov_base::{NoMemory, PlaceNo, SessNo, TaskNo};
+use module_area::{Controlled, Place, Plan};
 use std::alloc::Global;
 
 fn has_module(modules: &[u32], m: u32) -> bool
@@ -23,13 +23,19 @@ fn observes(session: &Session, phase: u32, m: u32) -> bool
     session.phase == phase && has_module(&session.modules, m)
 }
 
-/// The number of the session that observes the module in the phase, or 0.
+fn is_whole(session: &Session) -> bool
+    ensures { result ≡ is_whole session.now }
+{
+    session.by.is_none()
+}
+
+/// The number of the whole session that observes the module in the phase, or 0.
 fn window_of(sessions: &[Session], phase: u32, m: u32) -> u32
     requires { length sessions.now ≤ SESSION_LIMIT }
     ensures { result ≡ window_from 1 sessions.now phase m }
 {
     for i in 0..sessions.len() {
-        if observes(&sessions[i], phase, m) {
+        if is_whole(&sessions[i]) && observes(&sessions[i], phase, m) {
             return i as u32 + 1;
         }
     }
@@ -77,19 +83,62 @@ fn tasks_of(alloc: Global, tasks: &[TaskCard], phase: u32) -> Result<Vec<TaskNo>
     Ok(numbers)
 }
 
-/// The plan of a phase of the job, over the tables of the job's listings: every place, and the number of the
-/// session that observes it in this phase, or 0.
+/// The numbers of the places of these modules.
+fn numbers_of(alloc: Global, places: &[Place], modules: &[u32]) -> Result<Vec<PlaceNo>, NoMemory>
+    requires { length places.now ≤ PLACE_LIMIT }
+    ensures { IfOk result (λ v. v.items ≡ places_from 0 places.now modules.now) }
+{
+    let mut numbers = Vec::new(alloc);
+    for i in 0..places.len() {
+        if has_module(modules, places[i].module) {
+            numbers.push(PlaceNo(i as u32))?;
+        }
+    }
+    Ok(numbers)
+}
+
+/// The controlled sessions of the phase, with their places.
+fn controlled_of(
+    alloc: Global,
+    sessions: &[Session],
+    places: &[Place],
+    phase: u32,
+) -> Result<Vec<Controlled>, NoMemory>
+    requires sessions { length sessions.now ≤ SESSION_LIMIT }
+    requires places { length places.now ≤ PLACE_LIMIT }
+    ensures { IfOk result (λ v. v.items ≡ controlled_from 1 sessions.now places.now phase) }
+{
+    let mut controlled = Vec::new(alloc);
+    for i in 0..sessions.len() {
+        let session = &sessions[i];
+        if session.phase == phase {
+            if let Some(t) = session.by {
+                let places = numbers_of(alloc, places, &session.modules)?;
+                controlled.push(Controlled {
+                    session: SessNo(i as u32 + 1),
+                    by: TaskNo(t),
+                    places,
+                })?;
+            }
+        }
+    }
+    Ok(controlled)
+}
+
+/// The plan of a phase of the job, over the tables of the job's listings: every place, the number of the whole
+/// session that observes it in this phase, or 0, and the phase's controlled sessions with their places.
 pub fn plan_of(alloc: Global, job: &Job, tables: &Tables, phase: u32) -> Result<Plan, NoMemory>
     requires phase { phase < length job.now.phases }
     ensures { IfOk result (λ plan. plan ≡ plan_view job.now tables.now.places phase) }
 {
     let places = places_of(alloc, tables)?;
     let windows = windows_of(alloc, job, &places, phase)?;
+    let controlled = controlled_of(alloc, &job.sessions, &places, phase)?;
     let tasks = tasks_of(alloc, &job.tasks, phase)?;
     Ok(Plan {
         places,
         windows,
-        controlled: Vec::new(alloc),
+        controlled,
         tasks,
         sessions: job.sessions.len() as u32,
     })

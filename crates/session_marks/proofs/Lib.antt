@@ -5,6 +5,5 @@ pub mod ModuleLemmas
 pub mod SetsLemmas
 pub mod SessionLemmas
 pub mod OwnLemmas
-pub mod Sample
-pub mod ExampleLemmas
+pub mod SampleLemmas
 pub mod FillLemmas

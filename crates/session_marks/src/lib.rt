@@ -14,4 +14,6 @@ pub use no_sets::NoSets;
 #[cfg(test)]
 mod file_tests;
 #[cfg(test)]
+mod sample;
+#[cfg(test)]
 mod tests;

@@ -1,10 +1,10 @@
-//! Three instructions under two sessions that task 1 opens and closes, and traps of tasks 0 and 2 that come late.
+//! Three instructions under two sessions that task 1 opens and closes, and traps of tasks 0 and 2 that are settled late.
 ghost use Rattle.std.specs.Prelude.{◌≡◌, ℕ, ◌+◌, ◌-◌, ◌*◌, ◌<◌, ◌≤◌, ◌^◌, true, length, [], ◌∷◌, IfOk, IfSome};
 ghost use Rattle.std.specs.declared.option.Option.TheVariants.{Some, None};
 ghost use Rattle.cov_base.specs.declared.facts.Kind.TheVariants.{Straight};
-ghost use Rattle.module_area.specs.PlanView.{kind_at, has_task, is_over};
+ghost use Rattle.module_area.specs.PlanView.{kind_at, has_task};
 ghost use Rattle.shared_area.specs.Late.{IsTwice};
-ghost use Rattle.module_area.specs.Notes.{calls, keeps};
+ghost use Rattle.module_area.specs.Notes.{calls};
 
 use crate::SharedAreas;
 use cov_base::{Addr, Fact, Kind, NoMemory, PlaceNo, SessNo, TaskNo};
@@ -57,7 +57,7 @@ fn with_sessions(alloc: Global, plan: Plan) -> Result<Plan, NoMemory>
 }
 
 /// Whether the pass meets the breakpoint under the tag at the place.
-fn traps<C: Cells>(cells: &C, pass: &mut C::Pass, place: PlaceNo, tag: u32) -> bool
+pub(crate) fn traps<C: Cells>(cells: &C, pass: &mut C::Pass, place: PlaceNo, tag: u32) -> bool
     requires area { C.is_pass cells.now pass.old }
     requires room { calls (C.notes pass.old) < 2 ^ 60 }
     requires place { place.0 < length (C.plan cells.now).places }
@@ -71,7 +71,12 @@ fn traps<C: Cells>(cells: &C, pass: &mut C::Pass, place: PlaceNo, tag: u32) -> b
 }
 
 /// Marks the run of the place: whether it was there; none where the set isn't full with it.
-fn marks<C: Cells>(cells: &C, pass: &mut C::Pass, s: SessNo, place: PlaceNo) -> Option<bool>
+pub(crate) fn marks<C: Cells>(
+    cells: &C,
+    pass: &mut C::Pass,
+    s: SessNo,
+    place: PlaceNo,
+) -> Option<bool>
     requires area { C.is_pass cells.now pass.old }
     requires room { calls (C.notes pass.old) < 2 ^ 61 }
     requires place { (place.0 < length (C.plan cells.now).places) × (kind_at (C.plan cells.now) place.0 ≡ Straight) }
@@ -108,7 +113,7 @@ fn change<C: Cells>(cells: &C, control: &mut C::Pass, plants: bool)
 }
 
 /// What a late trap finds: whether the run was marked before, whether its lift exchanged, and the cell that it meets next.
-type Late = (bool, bool, Cell);
+pub(crate) type Late = (bool, bool, Cell);
 
 /// A trap of session 1 that is marked after the session was closed.
 fn marks_late<C: Cells>(
@@ -174,6 +179,9 @@ fn two_late<C: Cells>(
     requires place { (0 < length (C.plan cells.now).places) × (kind_at (C.plan cells.now) 0 ≡ Straight) × IsTwice (C.plan cells.now) 0 }
     requires bears { (C.notes control.old).bears ≡ Some 1 }
     requires first { (C.notes control.old).last 0 ≡ 0 }
+    ensures area { C.is_pass cells.now control.new × C.is_pass cells.now pass.new × C.is_pass cells.now other.new }
+    ensures room { (calls (C.notes control.new) < 2 ^ 9) × (calls (C.notes pass.new) < 2 ^ 9) × (calls (C.notes other.new) < 2 ^ 9) }
+    ensures bears { ((C.notes control.new).bears ≡ Some 1) × ((C.notes pass.new).bears ≡ (C.notes pass.old).bears) × ((C.notes other.new).bears ≡ (C.notes other.old).bears) }
 {
     cells.plant(control, SessNo(1), PlaceNo(0));
     if !traps(cells, pass, PlaceNo(0), 1) {
@@ -192,7 +200,7 @@ fn two_late<C: Cells>(
     Some((first, second))
 }
 
-/// When a trap of session 1 is settled.
+/// When a trap of session 1 is settled. The last two close the session between its mark and its lift.
 #[derive(Clone, Copy, PartialEq, Eq, Debug)]
 enum Order {
     MarkAfterClose,
@@ -251,108 +259,36 @@ where
     Ok((late, first, second))
 }
 
-/// Two late traps in an area of its own.
+/// Two late traps in an area of its own, and whether sessions 1 and 2 have the run in the end.
+#[tactic(auto, using(module_area::proofs::EndedLemmas::session_has_sets))]
 fn two_in_area<A: Areas>(
     alloc: Global,
     areas: &mut A,
     plan: &Plan,
-) -> Result<Option<(Late, Late)>, NoMemory>
+) -> Result<(Option<(Late, Late)>, bool, bool), NoMemory>
 where
     A::C: Forks + Sync,
     requires room { A.made areas.old < 2 ^ 62 }
     requires place { (0 < length plan.now.places) × (kind_at plan.now 0 ≡ Straight) × IsTwice plan.now 0 }
     requires tasks { (has_task plan.now.tasks 0 ≡ true) × (has_task plan.now.tasks 1 ≡ true) × (has_task plan.now.tasks 2 ≡ true) }
+    requires sessions { 2 ≤ plan.now.sessions }
 {
     let (cells, mut root) = areas.make(alloc, plan)?;
     let mut pass = cells.split(&mut root, TaskNo(0));
     let mut control = cells.split(&mut root, TaskNo(1));
     let mut other = cells.split(&mut root, TaskNo(2));
-    Ok(two_late(&cells, &mut control, &mut pass, &mut other))
-}
-
-/// Plants the three places for a session.
-fn plants_all<C: Cells>(cells: &C, control: &mut C::Pass, s: SessNo)
-    requires area { C.is_pass cells.now control.old }
-    requires room { calls (C.notes control.old) < 2 ^ 60 }
-    requires places { 2 < length (C.plan cells.now).places }
-    requires session { 0 < s.0 }
-    requires over { (is_over (C.plan cells.now) s.0 0 ≡ true) × (is_over (C.plan cells.now) s.0 1 ≡ true) × (is_over (C.plan cells.now) s.0 2 ≡ true) }
-    requires keeper { (keeps (C.plan cells.now) (C.notes control.old) 0 ≡ true) × (keeps (C.plan cells.now) (C.notes control.old) 1 ≡ true) × (keeps (C.plan cells.now) (C.notes control.old) 2 ≡ true) }
-    requires later { ((C.notes control.old).last 0 + 1 < 2 * s.0) × ((C.notes control.old).last 1 + 1 < 2 * s.0) × ((C.notes control.old).last 2 + 1 < 2 * s.0) }
-    ensures area { C.is_pass cells.now control.new }
-    ensures room { calls (C.notes control.new) ≡ calls (C.notes control.old) + 3 }
-    ensures bears { (C.notes control.new).bears ≡ (C.notes control.old).bears }
-    ensures last { ((C.notes control.new).last 0 + 1 ≡ 2 * s.0) × ((C.notes control.new).last 1 + 1 ≡ 2 * s.0) × ((C.notes control.new).last 2 + 1 ≡ 2 * s.0) }
-{
-    cells.plant(control, s, PlaceNo(0));
-    cells.plant(control, s, PlaceNo(1));
-    cells.plant(control, s, PlaceNo(2));
-}
-
-/// Closes session 1 at the three places.
-fn closes_all<C: Cells>(cells: &C, control: &mut C::Pass)
-    requires area { C.is_pass cells.now control.old }
-    requires room { calls (C.notes control.old) < 2 ^ 60 }
-    requires places { 2 < length (C.plan cells.now).places }
-    requires over { IsTwice (C.plan cells.now) 0 × IsTwice (C.plan cells.now) 1 × IsTwice (C.plan cells.now) 2 }
-    requires bears { (C.notes control.old).bears ≡ Some 1 }
-    requires open { ((C.notes control.old).last 0 ≡ 1) × ((C.notes control.old).last 1 ≡ 1) × ((C.notes control.old).last 2 ≡ 1) }
-    ensures area { C.is_pass cells.now control.new }
-    ensures room { calls (C.notes control.new) ≡ calls (C.notes control.old) + 3 }
-    ensures bears { (C.notes control.new).bears ≡ (C.notes control.old).bears }
-    ensures last { ((C.notes control.new).last 0 ≡ 2) × ((C.notes control.new).last 1 ≡ 2) × ((C.notes control.new).last 2 ≡ 2) }
-{
-    cells.close(control, SessNo(1), PlaceNo(0));
-    cells.close(control, SessNo(1), PlaceNo(1));
-    cells.close(control, SessNo(1), PlaceNo(2));
-}
-
-/// What the events of a job of two sessions find: a trap of session 1 is settled once session 2 is planted, and the cell
-/// that the task then meets at the same place.
-fn through_two_sessions<C: Cells>(
-    cells: &C,
-    control: &mut C::Pass,
-    pass: &mut C::Pass,
-) -> Option<Late>
-    requires area { C.is_pass cells.now control.old × C.is_pass cells.now pass.old }
-    requires room { (calls (C.notes control.old) < 2 ^ 8) × (calls (C.notes pass.old) < 2 ^ 8) }
-    requires places { (2 < length (C.plan cells.now).places) × (kind_at (C.plan cells.now) 0 ≡ Straight) }
-    requires over { IsTwice (C.plan cells.now) 0 × IsTwice (C.plan cells.now) 1 × IsTwice (C.plan cells.now) 2 }
-    requires bears { (C.notes control.old).bears ≡ Some 1 }
-    requires first { ((C.notes control.old).last 0 ≡ 0) × ((C.notes control.old).last 1 ≡ 0) × ((C.notes control.old).last 2 ≡ 0) }
-{
-    plants_all(cells, control, SessNo(1));
-    if !traps(cells, pass, PlaceNo(0), 1) {
-        return None;
-    }
-    closes_all(cells, control);
-    plants_all(cells, control, SessNo(2));
-    let there = marks(cells, pass, SessNo(1), PlaceNo(0))?;
-    let lifted = cells.lift(pass, SessNo(1), PlaceNo(0));
-    Some((there, lifted, cells.fetch(pass, PlaceNo(0))))
-}
-
-/// The same by passes split for tasks 0 and 1.
-fn two_sessions_in_area<A: Areas>(
-    alloc: Global,
-    areas: &mut A,
-    plan: &Plan,
-) -> Result<Option<Late>, NoMemory>
-where
-    A::C: Forks + Sync,
-    requires room { A.made areas.old < 2 ^ 62 }
-    requires places { (2 < length plan.now.places) × (kind_at plan.now 0 ≡ Straight) }
-    requires over { IsTwice plan.now 0 × IsTwice plan.now 1 × IsTwice plan.now 2 }
-    requires tasks { (has_task plan.now.tasks 0 ≡ true) × (has_task plan.now.tasks 1 ≡ true) }
-{
-    let (cells, mut root) = areas.make(alloc, plan)?;
-    let mut pass = cells.split(&mut root, TaskNo(0));
-    let mut control = cells.split(&mut root, TaskNo(1));
-    Ok(through_two_sessions(&cells, &mut control, &mut pass))
+    let late = two_late(&cells, &mut control, &mut pass, &mut other);
+    cells.join(&mut root, pass);
+    cells.join(&mut root, control);
+    cells.join(&mut root, other);
+    let finals = areas.finish(alloc, cells, root)?;
+    let first = finals.set(SessNo(1), PlaceNo(0)).has(Fact::Ran);
+    let second = finals.set(SessNo(2), PlaceNo(0)).has(Fact::Ran);
+    Ok((late, first, second))
 }
 
 /// Load address, add, branch, and tasks 0, 1 and 2.
-fn three_instructions(alloc: Global) -> Result<Plan, Fail>
+pub(crate) fn three_instructions(alloc: Global) -> Result<Plan, Fail>
     ensures places { IfOk result (λ p. length p.places ≡ 3) }
     ensures kinds { IfOk result (λ p. (kind_at p 0 ≡ Straight) × (kind_at p 1 ≡ Straight) × (kind_at p 2 ≡ Straight)) }
     ensures over { IfOk result (λ p. (q : ℕ) → q < 3 → IsTwice p q) }
@@ -419,23 +355,7 @@ fn two_traps_of_two_sessions(rt: HostRuntime) -> Result<(), Fail> {
         tag: 3,
         half: 0x4110,
     };
-    assert_eq!(rt;
-        found,
-        Some(((false, false, lifted), (false, true, lifted)))
-    );
-    Ok(())
-}
-
-#[test]
-fn a_trap_through_two_sessions(rt: HostRuntime) -> Result<(), Fail> {
-    let alloc = rt.alloc();
-    let plan = three_instructions(alloc)?;
-    let mut areas = SharedAreas::new(alloc, 1)?;
-    let found = two_sessions_in_area(alloc, &mut areas, &plan)?;
-    let planted = Cell {
-        tag: 3,
-        half: 0x0AFF,
-    };
-    assert_eq!(rt; found, Some((false, false, planted)));
+    let both = ((false, false, lifted), (false, true, lifted));
+    assert_eq!(rt; found, (Some(both), true, true));
     Ok(())
 }

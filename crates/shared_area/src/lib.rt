@@ -13,6 +13,8 @@ mod rule;
 mod steps;
 #[cfg(test)]
 mod tests;
+#[cfg(test)]
+mod through;
 mod words;
 
 pub use areas::SharedAreas;

@@ -8,6 +8,7 @@ use cov_base::Addr;
 use module_area::{Image, Images};
 
 /// The module that stands at the address.
+#[inline(always)]
 fn image_at(images: &[Image], a: u32) -> Option<&Image>
     ensures one { IfSome result (λ i. Contains images.now i.now) }
     ensures inside { IfSome result (λ i. in_image i.now a ≡ true) }
@@ -32,6 +33,7 @@ pub fn is_image(images: &Images, a: u32) -> bool
 }
 
 /// The module's byte, or 0 where none stands.
+#[inline(never)]
 pub fn image_byte(images: &Images, a: u32) -> u8
     ensures { result ≡ image_byte images.now a }
 {
@@ -56,6 +58,7 @@ pub fn is_in_one_image(images: &Images, a: u32, len: u32) -> bool
 }
 
 /// The halfword where both its bytes stand in one module.
+#[inline(always)]
 pub fn image_half(images: &Images, a: u32) -> Option<u16>
     requires { AreImages images.now }
     ensures from { IsSome result → 1048576 ≤ a }

@@ -1,8 +1,8 @@
 //! A task's space.
-ghost use Rattle.std.specs.Prelude.{◌≡◌, ℕ, ◌+◌, ◌*◌, None, ◌<◌, ◌≤◌, length, All, IfOk, IsTrue, true, refl};
+ghost use Rattle.std.specs.Prelude.{◌≡◌, ℕ, ◌+◌, ◌*◌, Some, None, if◌then◌else◌, ◌<◌, ◌≤◌, length, All, IfOk, IsTrue, true, refl};
 ghost use Rattle.cov_base.specs.Memory.{wrap, byte_at, half_at, is_accessible, can_reach, can_store, first_touch};
 ghost use Rattle.cov_base.specs.declared.limits.TheConstants.{PRIVATE_LIMIT};
-ghost use Rattle.s370_state.specs.Answers.{reach_answer, store_answer, touch_answer};
+ghost use Rattle.s370_state.specs.Answers.{reach_answer, store_answer};
 ghost use Rattle.module_area.specs.Images.{AreImages};
 ghost use Rattle.brk_table.specs.Places.{memory_of, IsIn, AreSeen, touches};
 ghost use Rattle.module_area.specs.Views.{first_bytes};
@@ -99,6 +99,7 @@ impl<'a> TaskSpace<'a> {
     }
 
     // A range that ends in private storage lies in it, since addresses wrap far above it.
+    #[inline(always)]
     fn is_private(&self, at: Addr, len: u32) -> bool
         ensures value { result ≡ can_store (memory_of_space self.now) at len }
         ensures reach { IsTrue result → can_reach (memory_of_space self.now) at len ≡ true }
@@ -114,6 +115,35 @@ impl<'a> TaskSpace<'a> {
         (at.get() as usize) < self.bytes.len() || is_image(self.images, at.get())
     }
 
+    // All bytes are accessible, of which some needn't be private.
+    #[inline(never)]
+    fn is_reached(&self, at: Addr, len: u32) -> bool
+        ensures { result ≡ can_reach (memory_of_space self.now) at len }
+    {
+        if is_in_one_image(self.images, at.get(), len) {
+            return true;
+        }
+        match self.reach_bytes(at, len) {
+            Ok(()) => true,
+            Err(_) => false,
+        }
+    }
+
+    // A halfword byte by byte. It is rare, and kept out of the task's loop.
+    #[cold]
+    #[inline(never)]
+    #[tactic(auto, using(s370_state::proofs::Ranges::reach_two, s370_state::proofs::Ranges::answer_ok))]
+    fn half_by_bytes(&self, at: Addr) -> Option<u16>
+        ensures { result ≡ (if can_reach (memory_of_space self.now) at 2 then Some (half_at (memory_of_space self.now) self.now.bytes at) else None) }
+    {
+        match self.can_reach(at, 2) {
+            Ok(()) => Some(
+                u16::from(self.byte(at.plus(0))) * 256 + u16::from(self.byte(at.plus(1))),
+            ),
+            Err(_) => None,
+        }
+    }
+
     #[tactic(auto, using(s370_state::proofs::Ranges::reach_none, s370_state::proofs::Ranges::reach_more, s370_state::proofs::Ranges::reach_fails))]
     fn reach_bytes(&self, at: Addr, len: u32) -> Result<(), Refused>
         ensures { result ≡ reach_answer (memory_of_space self.now) at len }
@@ -126,18 +156,20 @@ impl<'a> TaskSpace<'a> {
         Ok(())
     }
 
+    #[inline(never)]
     #[tactic(auto, using(s370_state::proofs::Ranges::touch_none, s370_state::proofs::Ranges::touch_more, s370_state::proofs::Ranges::touch_found))]
-    fn read_bytes(&self, at: Addr, len: u32) -> Result<(), Refused>
-        ensures { result ≡ touch_answer (memory_of_space self.now) at len }
+    fn read_bytes(&self, at: Addr, len: u32) -> Option<Addr>
+        ensures { result ≡ first_touch (memory_of_space self.now) at len }
     {
         for i in 0..len {
             if self.is_next_touch(at, i) {
-                return Err(Refused::Touch(at.plus(i)));
+                return Some(at.plus(i));
             }
         }
-        Ok(())
+        None
     }
 
+    #[inline(always)]
     fn is_touch(&self, at: Addr) -> bool
         ensures { result ≡ (memory_of_space self.now).is_touch at }
     {
@@ -167,6 +199,7 @@ impl<'a> Space for TaskSpace<'a> {
 
     ghost bytes = { λ s. s.bytes };
 
+    #[inline(always)]
     fn half(&self, at: Addr) -> Result<u16, Refused> {
         let h = self.first(at)?;
         if self.is_touch(at) {
@@ -176,26 +209,27 @@ impl<'a> Space for TaskSpace<'a> {
         }
     }
 
+    #[inline(always)]
     fn first(&self, at: Addr) -> Result<u16, Refused> {
         if let Some(h) = image_half(self.images, at.get()) {
             return Ok(h);
         }
-        match self.can_reach(at, 2) {
-            Ok(()) => Ok(u16::from(self.byte(at.plus(0))) * 256 + u16::from(self.byte(at.plus(1)))),
-            Err(_) => Err(Refused::Addressing),
+        match self.half_by_bytes(at) {
+            Some(h) => Ok(h),
+            None => Err(Refused::Addressing),
         }
     }
 
+    #[inline(always)]
     fn can_reach(&self, at: Addr, len: u32) -> Result<(), Refused> {
-        if self.is_private(at, len) {
-            return Ok(());
+        if self.is_private(at, len) || self.is_reached(at, len) {
+            Ok(())
+        } else {
+            Err(Refused::Addressing)
         }
-        if is_in_one_image(self.images, at.get(), len) {
-            return Ok(());
-        }
-        self.reach_bytes(at, len)
     }
 
+    #[inline(always)]
     fn can_store(&self, at: Addr, len: u32) -> Result<(), Refused> {
         if self.is_private(at, len) {
             Ok(())
@@ -204,14 +238,18 @@ impl<'a> Space for TaskSpace<'a> {
         }
     }
 
+    #[inline(always)]
     fn can_read(&self, at: Addr, len: u32) -> Result<(), Refused> {
         if self.is_private(at, len) {
-            Ok(())
-        } else {
-            self.read_bytes(at, len)
+            return Ok(());
+        }
+        match self.read_bytes(at, len) {
+            Some(a) => Err(Refused::Touch(a)),
+            None => Ok(()),
         }
     }
 
+    #[inline(always)]
     #[tactic(auto, unfolding(brk_table::specs::Places::memory_of, cov_base::specs::Memory::byte_at, cov_base::specs::Memory::is_accessible))]
     fn byte(&self, at: Addr) -> u8 {
         if (at.get() as usize) < self.bytes.len() {

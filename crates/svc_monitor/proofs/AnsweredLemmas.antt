@@ -1,23 +1,21 @@
 -- The pairs of one visit, and of visits one after the other.
-use Rattle.std.proofs.Common.{◌≡◌, ◌≢◌, ◌⊎◌, ℕ, ◌+◌, ◌*◌, ◌/◌, Bool, true, false, ◌&&◌, ◌||◌, if◌then◌else◌, nat_eq, List, [], ◌∷◌, ◌++◌, inl, inr, refl, sym, ◌∙◌, ap, subst, arith}
+use Rattle.std.proofs.Common.{◌≡◌, ◌≢◌, ℕ, ◌+◌, ◌*◌, ◌/◌, Bool, true, false, ◌&&◌, ◌||◌, if◌then◌else◌, nat_eq, List, [], ◌∷◌, ◌++◌, inl, inr, refl, sym, ◌∙◌, ap, subst, arith}
 use Rattle.std.proofs.lemmas.Bool.{or_cases, or_left, or_right, and_parts, and_from, eqb-true, eq-eqb, both_ways}
 use Rattle.std.proofs.lemmas.List.{append_assoc, append-nil}
 use Rattle.cov_base.specs.Codes.{breakpoint}
-use Rattle.cov_base.specs.FactSet.{FactSet}
-use Rattle.cov_base.specs.Facts.{no_facts, has_fact, with_fact, same_fact, fact_of}
+use Rattle.cov_base.specs.Facts.{no_facts, has_fact, same_fact, fact_of}
 use Rattle.cov_base.specs.States.{Visit}
 use Rattle.cov_base.specs.declared.facts.Fact.{Fact}
 use Rattle.module_area.specs.declared.cells.Cell.{Cell}
 use Rattle.module_area.specs.declared.places.Place.{Place}
 use Rattle.module_area.specs.PlanView.{PlanView, kind_at, original_at}
-use Rattle.module_area.specs.Notes.{Notes, after_fetch, is_free_under, keeps, keeps_as, IsAnswer}
+use Rattle.module_area.specs.Notes.{Notes, after_fetch, is_free_under, keeps_as, IsAnswer}
 use Rattle.module_area.specs.Executions.{is_place}
 use Rattle.module_area.proofs.FactLemmas.{same_fact-true}
 use Rattle.brk_table.proofs.PlaceLemmas.{is_place-there}
 use Rattle.svc_monitor.specs.First.{BeginsAt}
 use Rattle.svc_monitor.specs.Settled.{Settles}
-use Rattle.svc_monitor.specs.Observed.{Grows, Observes, IsShown}
-use Rattle.svc_monitor.specs.Answered.{at_places, IsPair, ArePairs, is_under, facts_under, Answered, Makes}
+use Rattle.svc_monitor.specs.Answered.{at_places, ArePairs, is_under, facts_under, Makes}
 use Rattle.svc_monitor.proofs.NotesLemmas.{Adds, Adds-settled, all_three, three_from}
 use Rattle.svc_monitor.proofs.ObservedLemmas.{has_fact-more, has_fact-none, or_apart, same_fact-self, shown_later, Observes-none, Observes-plain, Observes-kept, Observes-settled, Observes-append}
 

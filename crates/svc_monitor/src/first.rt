@@ -59,7 +59,7 @@ fn at_place<C: Cells>(cells: &C, pass: &mut C::Pass, tables: &Tables, place: Pla
     if is_breakpoint(cell) {
         Met::Trap(place, cell, original)
     } else {
-        Met::Free(place, cell.half)
+        Met::Free(place, original)
     }
 }
 

@@ -20,6 +20,7 @@ use s370_exec::{execute, fetch_rest, fetch_subject, is_execute, subject_address}
 use s370_state::{Cpu, Next, Space, TaskIo};
 
 /// Settles a trap whose instruction was begun, by what it does as it is executed.
+#[inline(always)]
 fn show<C: Cells>(cells: &C, pass: &mut C::Pass, tables: &Tables, met: Met, cpu: &Cpu, code: &Code)
     requires area { C.is_pass cells.now pass.old }
     requires plan { (C.plan cells.now).places ≡ tables.now.places }

@@ -79,6 +79,11 @@ REG 1 00000002\n\
 ENDJOB\n",
 );
 
+/// A job with two sessions that its task C controls.
+const CONTROLLED: Part = Text(
+    "COVERJOB 1\nMODULE M 100000 8\nTEXT 411000051A1107FE\nLISTING 4\n  Loc  Object Code    Addr1 Addr2  Stmt   Source Statement\n000000 4110 0005                      1          LA\n000004 1A11                           2          AR\n000006 07FE                           3          BR\nPHASE P\nSESSION S1 BY C M\nSESSION S2 BY C M\nTASK A 100000 16 100 0\nTASK C 000000 16 100 0\nDATA 0 0A040A050A040A0507FE\nENDJOB\n",
+);
+
 /// Files of module M. The count fell through, and the return was executed.
 const FELL: Part = Bytes(
     "53333730434F5632 5320202020202020 00000001 0001 4D20202020202020 00100000 00000006 00000002 00000000 04 01 4610 04 00000004 02 00 07FE 01",
@@ -459,7 +464,7 @@ static OLD: [Row; 5] = [
 
 /// A job that is refused, or its session, and why: where there are several causes the one that is told comes first, here and in
 /// the next two tables.
-static BAD_JOBS: [Row; 16] = [
+static BAD_JOBS: [Row; 19] = [
     Row {
         name: "no session of the name",
         words: &["marks", "X"],
@@ -592,6 +597,27 @@ static BAD_JOBS: [Row; 16] = [
         ],
         status: 8,
         output: &[Text("OWN SVC M LINE 2\n")],
+    },
+    Row {
+        name: "run: a controlled session",
+        words: &["run"],
+        input: &[CONTROLLED],
+        status: 2,
+        output: &[Text("BAD JOB LINE 10\n")],
+    },
+    Row {
+        name: "marks: a controlled session, and no session",
+        words: &["marks", "X"],
+        input: &[CONTROLLED],
+        status: 2,
+        output: &[Text("BAD JOB LINE 10\n")],
+    },
+    Row {
+        name: "show: a controlled session, and no session",
+        words: &["show", "X"],
+        input: &[CONTROLLED],
+        status: 13,
+        output: &[Text("NO SESSION X\n")],
     },
 ];
 

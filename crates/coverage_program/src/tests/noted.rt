@@ -51,6 +51,7 @@ pub enum Call {
     Fetch(u32),
     Mark(u32, Fact),
     Lift(u32),
+    Close(u32),
 }
 
 impl Default for Call {
@@ -141,6 +142,11 @@ impl<'a, C: Forks> Cells for NotedCells<'a, C> {
     fn plant(&self, pass: &mut NotedPass<C::Pass>, s: SessNo, place: PlaceNo) {
         pass.kept.keep(self.arrivals, Call::Plant(place.0));
         self.cells.plant(&mut pass.pass, s, place)
+    }
+
+    fn close(&self, pass: &mut NotedPass<C::Pass>, s: SessNo, place: PlaceNo) {
+        pass.kept.keep(self.arrivals, Call::Close(place.0));
+        self.cells.close(&mut pass.pass, s, place)
     }
 }
 

@@ -13,7 +13,7 @@ use std::sync::Wait;
 use std::test::Fail;
 use std::thread::Threads;
 
-const COUNT_DOWN: &[u8] = b"\
+pub const COUNT_DOWN: &[u8] = b"\
 COVERJOB 1\n\
 MODULE M 100000 6\n\
 TEXT 4610F00007FE\n\
@@ -43,7 +43,7 @@ const COUNT_DOWN_CALLS: [Call; 13] = [
     Call::Lift(1),
 ];
 
-const EXECUTED: &[u8] = b"\
+pub const EXECUTED: &[u8] = b"\
 COVERJOB 1\n\
 MODULE M 100000 10\n\
 TEXT 4400F0044400F00007FE\n\

@@ -14,12 +14,14 @@ const B: TaskNo = TaskNo(1);
 
 const LAST: TaskNo = TaskNo(2);
 
-const ITEMS: [(&[u8], Option<Item>); 46] = [
+const ITEMS: [(&[u8], Option<Item>); 47] = [
     (b"FETCH A", Some(Item::Fetch(A))),
     (b"MARK A", Some(Item::Mark(A))),
     (b"LIFT A", Some(Item::Lift(A))),
     (b"DO A", Some(Item::Do(A))),
     (b"GO A", Some(Item::Go(A))),
+    (b"PLANT A", Some(Item::Plant(A))),
+    (b"CLOSE B1", Some(Item::Close(B))),
     (b"ENDSCHED", Some(Item::End)),
     (b"FETCH B1", Some(Item::Fetch(B))),
     (b"GO B1", Some(Item::Go(B))),
@@ -44,7 +46,6 @@ const ITEMS: [(&[u8], Option<Item>); 46] = [
     // no task of the job
     (b"FETCH C", None),
     (b"FETCH B", None),
-    (b"FETCH AB", None),
     (b"FETCH ABCDEFG", None),
     (b"FETCH ABCDEFGHI", None),
     (b"FETCH P", None),
@@ -63,7 +64,7 @@ const ITEMS: [(&[u8], Option<Item>); 46] = [
     (b"FETCHA", None),
     (b"FETCHS A", None),
     (b"FETC A", None),
-    (b"STOP A", None),
+    (b"PLANT C", None),
     (b"ENDJOB", None),
     (b"FETCH A\0", None),
 ];
@@ -71,7 +72,7 @@ const ITEMS: [(&[u8], Option<Item>); 46] = [
 #[test]
 fn knows_each_item(rt: HostRuntime) -> Result<(), Fail> {
     let a = rt.alloc();
-    match read_job(a, JOB) {
+    match read_job(a, JOB, true) {
         Ok(read) => {
             for n in 0..ITEMS.len() {
                 let (line, item) = ITEMS[n];

@@ -29,7 +29,7 @@ fn told(alloc: Global, input: &[u8]) -> (u32, Option<Limit>) {
     if input.len() > 16_777_216 {
         return (99_999, None);
     }
-    match read_job(alloc, input) {
+    match read_job(alloc, input, true) {
         Ok(_) => (0, None),
         Err(fault) => told_of(fault),
     }
@@ -45,7 +45,7 @@ fn told_whole(alloc: Global, input: &[u8]) -> (u32, Option<Limit>) {
     if input.len() > 16_777_216 {
         return (99_999, None);
     }
-    match read_whole_job(alloc, input) {
+    match read_whole_job(alloc, input, true) {
         Ok(_) => (0, None),
         Err(fault) => told_of(fault),
     }
@@ -56,7 +56,7 @@ fn reads_a_job_without_tasks(rt: HostRuntime) -> Result<(), Fail> {
     let a = rt.alloc();
     let input = joined(a, &[HEAD, b"ENDJOB\n"])?;
     assert!(rt; input.len() <= 1_000);
-    match read_job(a, &input) {
+    match read_job(a, &input, true) {
         Ok(ReadJob { job, end, lines }) => {
             assert_eq!(rt; (end, lines), (input.len(), 11));
             assert_eq!(rt; job.images.0.len(), 1);
@@ -97,7 +97,7 @@ fn reads_a_job_of_two_phases(rt: HostRuntime) -> Result<(), Fail> {
         ],
     )?;
     assert!(rt; input.len() <= 1_000);
-    match read_job(a, &input) {
+    match read_job(a, &input, true) {
         Ok(ReadJob { job, end, lines }) => {
             assert_eq!(rt; (end, lines), (input.len(), 15));
             assert_eq!(rt; job.phases.len(), 2);
@@ -122,7 +122,7 @@ fn reads_tasks_with_registers(rt: HostRuntime) -> Result<(), Fail> {
     let a = rt.alloc();
     let input =
         b"COVERJOB 1\nMODULE M 100000 10\nTEXT 12114780F00818\nTEXT 2207FE\nLISTING 0\nPHASE P\nSESSION S M\nTASK A 100000 16 100 0\nTASK B 100000 16 100 0\nREG 1 00000001\nENDJOB\n";
-    match read_job(a, &input[..]) {
+    match read_job(a, &input[..], true) {
         Ok(ReadJob { job, end: _, lines }) => {
             assert_eq!(rt; lines, 11);
             assert_eq!(rt; job.images.0.len(), 1);
@@ -153,7 +153,7 @@ fn ends_behind_endjob(rt: HostRuntime) -> Result<(), Fail> {
         (b"COVERJOB 1\nPHASE P\nENDJOB\n\xFF", 26, 3, 4),
     ];
     for (input, past, count, bad) in &ends {
-        match read_job(a, *input) {
+        match read_job(a, *input, true) {
             Ok(ReadJob { job: _, end, lines }) => assert_eq!(rt; (end, lines), (*past, *count)),
             Err(_) => assert!(rt; false),
         }
@@ -257,7 +257,7 @@ const PHASES: [(&[u8], u32); 29] = [
     ),
     (
         b"MODULE BY 100000 2\nTEXT 0102\nPHASE P\nSESSION S BY\nENDJOB\n",
-        0,
+        5,
     ),
     (b"PHASE P\nTASK T 100000 0 1 0\nTASK T 100000 0 1 0\n", 4),
     (
@@ -529,6 +529,20 @@ fn tells_the_task_that_is_too_many(rt: HostRuntime) -> Result<(), Fail> {
     ];
     for (card, line, what) in &ends {
         assert_eq!(rt; told_with(a, &input, *card)?, (*line, *what));
+    }
+    // a session's controller counts with its TASK card
+    let calls: [(&[u8], u32, Option<Limit>); 2] = [
+        (
+            b"PHASE R\nSESSION S BY U M\nTASK U 100000 0 1 0\n",
+            72,
+            Some(Limit::Tasks),
+        ),
+        (b"PHASE R\nSESSION S BY U M\nENDJOB\n", 72, None),
+    ];
+    let mut module = joined(a, &[b"COVERJOB 1\nMODULE M 100000 2\nTEXT 07FE\n"])?;
+    module.extend_from_slice(&input[11..])?;
+    for (card, line, what) in &calls {
+        assert_eq!(rt; told_with(a, &module, *card)?, (*line, *what));
     }
     Ok(())
 }

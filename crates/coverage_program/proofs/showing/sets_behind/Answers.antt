@@ -13,4 +13,4 @@ returns-in_err-marks-clause-refused c =
 pub returns-in-Err-Other-clause-refused : goal.returns-in-Err-Other-clause-refused
 returns-in-Err-Other-clause-refused c =
     let e = c.in-Err-Other in
-    Other c.in_ok-marks.marks.modules (difference_of e.other) c.in_ok-marks.ensures.file (rw e.field-0-is at e.ensures.fault) (ap (refusal 11) c.other_table_line.ensures)
+    Other c.in_ok-marks.marks.modules (difference_of e.other) c.in_ok-marks.ensures.file (rw e.field-0-is at e.ensures.fault) c.other_table.ensures

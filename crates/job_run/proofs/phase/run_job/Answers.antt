@@ -22,5 +22,5 @@ returns-clause-outcome g c =
     let new : List (Slot _) = c.run_phases.new.slots in
     let whole : take c.in_ok-slots.slots.len (new ++ drop (length new) old) ≡ new =
     written old new c.in_ok-slots.slots.len (c.run_phases.auto.slots ∙ ap (λ (ds : List (Slot _)). length ds) c.deref_mut.ensures.value) (sym c.in_ok-slots.slots.ok.0) in
-    outcome solo c.args.job.now c.args.tables.now.places _ _ new c.tasks_of.result.items c.in_ok-finals.finals.items c.new.result c.run_phases.ensures.job c.in_ok-finals.ensures.left c.in_ok-finals.ensures.tasks
+    outcome solo c.args.job.now c.args.tables.now.places _ _ new c.tasks_of.result.items c.in_ok-finals.finals.items c.new.result c.run_phases.ensures.job c.requires.whole c.in_ok-finals.ensures.left c.in_ok-finals.ensures.tasks
     (c.tasks_of.ensures ∙ ap (λ (ds : List (Slot _)). dones ds) whole) c.new.ensures

@@ -2,8 +2,9 @@ use Rattle.std.proofs.Common.{◌≡◌, ◌<◌, false, length, set, Some, sym,
 use Rattle.interleave_core.specs.World.{World}
 use Rattle.interleave_core.specs.Steps.{Stepped, of_task, place_due, is_spent, fetch_step}
 use Rattle.interleave_core.specs.Views.{RunningView, CoreView, parts_of}
+use Rattle.interleave_core.specs.declared.events.Event.TheVariants.{Fetch}
 use Rattle.interleave_core.specs.declared.events.Shown.TheVariants.{Fetched}
-use Rattle.interleave_core.proofs.Kept.{held_core, read_running, read_stage, same_read, due_unspent, fetched_hand, fetch_possible}
+use Rattle.interleave_core.proofs.Kept.{held_core, read_running, read_stage, same_read, due_unspent, fetched_hand, fetch_possible, tied_by}
 use Rattle.interleave_core.proofs.interleaving.Core.fetch.Goals as goal
 
 pub invariant_of-self : goal.invariant_of-self
@@ -13,9 +14,14 @@ invariant_of-self c =
     let runs = read_running _ _ _ _ _ c.args.t.0 c.index.result.now c.self.invariant lt c.index.ensures in
     let at : place_due w c.args.t.0 c.index.result.now.part c.index.result.now.part.stage ≡ Some c.in-Some.place.0 = sym (c.in-Some.ensures.value w c.args.t.0 refl runs) in
     let unspent = due_unspent w c.args.t.0 c.index.result.now.part c.index.result.now.part.stage c.in-Some.place.0 (read_stage _ _ _ _ _ c.args.t.0 c.index.result.now c.self.invariant lt c.index.ensures) at in
+    let p_in : c.in-Some.place.0 < length c.self.inside.cells.items = subst (λ n. c.in-Some.place.0 < n) (sym c.self.invariant.cell_count) c.in-Some.ensures.exists in
     held_core w _ _ _ _ c.args.t.0 c.index_mut.result.now c.hold.new.self _ c.self.invariant lt c.index_mut.ensures.value c.hold.ensures
     (subst (λ (x : RunningView). is_spent w c.args.t.0 x.part.state ≡ false) (same_read _ _ _ _ lt c.index.ensures c.index_mut.ensures.value) unspent)
     (fetched_hand w _ _ _ _ c.is_awaiting-subject.result c.in-Some.place c.index-cell.result.now c.due_after_fetch-due.result c.self.invariant c.in-Some.ensures.exists c.index-cell.ensures (c.due_after_fetch-due.ensures w refl))
+    (tied_by w c.self.inside.cells.items c.self.inside.cells.items c.self.inside.sets.items c.self.inside.sets.items c.self.inside.plan c.self.inside.tasks.items (set c.self.inside.tasks.items c.args.t.0 c.hold.new.self) (Fetch c.args.t) (Fetched c.index-cell.result.now) c.self.invariant
+    (fetch_possible w c.self.inside.cells.items c.self.inside.sets.items c.self.inside.tasks.items c.args.t.0 c.index.result.now c.index_mut.result.now c.index-2.result.now c.hold.new.self c.is_awaiting-subject.result c.in-Some.place
+    c.index-cell.result.now c.due_after_fetch-due.result lt c.index.ensures c.index_mut.ensures.value c.index-2.ensures at c.is_awaiting-subject.ensures p_in c.index-cell.ensures
+    (c.due_after_fetch-due.ensures w refl) c.hold.ensures))
 
 pub returns-clause-possible : goal.returns-clause-possible
 returns-clause-possible c =

@@ -2,9 +2,10 @@ use Rattle.std.proofs.Common.{◌≡◌, ◌<◌, length, set, Some, ap, sym, su
 use Rattle.interleave_core.specs.World.{World}
 use Rattle.interleave_core.specs.Steps.{Stepped, of_task, lift_step}
 use Rattle.interleave_core.specs.Views.{CoreView, parts_of}
+use Rattle.interleave_core.specs.declared.events.Event.TheVariants.{Lift}
 use Rattle.interleave_core.specs.declared.events.Shown.TheVariants.{Lifted}
 use Rattle.interleave_core.specs.declared.stage.Due.TheVariants.{Lifting}
-use Rattle.interleave_core.proofs.Kept.{hand_due, lifted_core, lift_possible}
+use Rattle.interleave_core.proofs.Kept.{hand_due, lifted_core, lift_possible, tied_by}
 use Rattle.interleave_core.proofs.interleaving.Core.lift.Goals as goal
 
 pub invariant_of-self : goal.invariant_of-self
@@ -14,6 +15,9 @@ invariant_of-self c =
     let due = hand_due w c.self.inside.cells.items c.self.inside.sets.items c.self.inside.plan c.self.inside.tasks.items c.args.t.0 c.index.result.now Lifting c.in-Some.hand c.self.invariant lt c.index.ensures (sym c.in-Some.ensures) (λ e. absurd cc) in
     lifted_core w c.self.inside.cells.items c.exchange-taken.new.cells.items _ _ _ c.args.t.0 c.index.result.now c.index_mut.result.now c.hold.new.self c.in-Some.hand c.with_due.result c.exchange-taken.result c.place.result.now.original
     c.self.invariant lt c.index.ensures c.index_mut.ensures.value due (ap (λ x. x.original) c.place.ensures.value) c.exchange-taken.ensures.cells c.with_due.ensures c.hold.ensures
+    (tied_by w c.self.inside.cells.items c.exchange-taken.new.cells.items c.self.inside.sets.items c.self.inside.sets.items c.self.inside.plan c.self.inside.tasks.items (set c.self.inside.tasks.items c.args.t.0 c.hold.new.self) (Lift c.args.t) (Lifted c.exchange-taken.result) c.self.invariant
+    (lift_possible w c.self.inside.cells.items c.exchange-taken.new.cells.items c.self.inside.sets.items c.self.inside.tasks.items c.args.t.0 c.index.result.now c.index_mut.result.now c.hold.new.self c.in-Some.hand c.with_due.result c.exchange-taken.result
+    c.place.result.now.original lt c.index.ensures c.index_mut.ensures.value (sym c.in-Some.ensures) (ap (λ x. x.original) c.place.ensures.value) c.exchange-taken.ensures.taken c.exchange-taken.ensures.cells c.with_due.ensures c.hold.ensures))
 
 pub returns-clause-possible : goal.returns-clause-possible
 returns-clause-possible c =

@@ -1,12 +1,12 @@
-use Rattle.std.proofs.Common.{◌≡◌, ◌≢◌, ℕ, ◌+◌, ◌*◌, ◌/◌, ◌<◌, false, length, set, Some, ap, sym, ◌∙◌, refl, subst, arith}
+use Rattle.std.proofs.Common.{◌≡◌, ℕ, ◌+◌, ◌*◌, ◌/◌, ◌<◌, length, set, Some, ap, sym, ◌∙◌, subst, arith}
 use Rattle.cov_base.specs.Facts.{with_fact}
 use Rattle.interleave_core.specs.World.{World}
 use Rattle.interleave_core.specs.Steps.{Stepped, of_task, mark_step}
-use Rattle.interleave_core.specs.Views.{RunningView, CoreView, parts_of}
+use Rattle.interleave_core.specs.Views.{CoreView, parts_of}
+use Rattle.interleave_core.specs.declared.events.Event.TheVariants.{Mark}
 use Rattle.interleave_core.specs.declared.events.Shown.TheVariants.{Marked}
-use Rattle.module_area.specs.FinalsView.{index_of}
-use Rattle.interleave_core.specs.declared.stage.Due.TheVariants.{Marking, Nothing}
-use Rattle.interleave_core.proofs.Kept.{read_running, hand_due, mark_index, mark_fits, marked_core, mark_possible}
+use Rattle.interleave_core.specs.declared.stage.Due.TheVariants.{Marking}
+use Rattle.interleave_core.proofs.Kept.{read_running, hand_due, mark_index, mark_fits, marked_core, mark_possible, tied_by}
 use Rattle.interleave_core.proofs.interleaving.Core.mark.Goals as goal
 
 pub index-found-requires : goal.index-found-requires
@@ -33,9 +33,14 @@ invariant_of-self c =
     let lt : c.args.t.0 < length c.self.inside.tasks.items = omega (arith, c.if-n-len.false, c.len.ensures) in
     let due = hand_due w c.self.inside.cells.items c.self.inside.sets.items c.self.inside.plan c.self.inside.tasks.items c.args.t.0 c.index.result.now Marking c.in-Some.hand c.self.invariant lt c.index.ensures (sym c.in-Some.ensures) (λ e. absurd cc) in
     let at = mark_index w c.self.inside.cells.items c.self.inside.sets.items c.self.inside.plan c.self.inside.tasks.items c.args.t.0 c.index.result.now.part c.in-Some.hand c.len-2.result c.self.invariant due (c.len-2.ensures ∙ c.self.inside.cells.ok.0) in
+    let runs = read_running w c.self.inside.cells.items c.self.inside.sets.items c.self.inside.plan c.self.inside.tasks.items c.args.t.0 c.index-2.result.now c.self.invariant lt c.index-2.ensures in
     marked_core w _ _ _ _ c.args.t.0 c.index.result.now c.index_mut-2.result.now c.hold.new.self c.in-Some.hand c.with_due.result c.due_after_mark.result _ c.index-found.result.now c.with-facts.result
     c.place.result.now.kind c.went-went.result c.self.invariant lt c.index.ensures c.index_mut-2.ensures.value due at c.index-found.ensures (ap (λ x. x.kind) c.place.ensures.value)
     (c.with-facts.ensures ∙ ap (with_fact c.index-found.result.now) c.fact.ensures) c.with_due.ensures c.hold.ensures
+    (tied_by w c.self.inside.cells.items c.self.inside.cells.items c.self.inside.sets.items (set c.self.inside.sets.items (c.in-Some.hand.cell.tag / 2 * c.len-2.result + c.in-Some.hand.place.0) c.with-facts.result) c.self.inside.plan c.self.inside.tasks.items (set c.self.inside.tasks.items c.args.t.0 c.hold.new.self) (Mark c.args.t) (Marked c.index-found.result.now) c.self.invariant
+    (mark_possible w c.self.inside.cells.items c.self.inside.sets.items c.self.inside.plan c.self.inside.tasks.items c.args.t.0 c.index.result.now c.index_mut-2.result.now c.index-2.result.now c.hold.new.self c.in-Some.hand c.with_due.result c.due_after_mark.result (c.in-Some.hand.cell.tag / 2 * c.len-2.result + c.in-Some.hand.place.0)
+    c.index-found.result.now c.with-facts.result c.place.result.now.kind c.went-went.result c.self.invariant lt c.index.ensures c.index_mut-2.ensures.value c.index-2.ensures (sym c.in-Some.ensures) due at c.index-found.ensures
+    (ap (λ x. x.kind) c.place.ensures.value) (c.with-facts.ensures ∙ ap (with_fact c.index-found.result.now) c.fact.ensures) (c.went-went.ensures w c.args.t.0 runs) c.due_after_mark.ensures c.with_due.ensures c.hold.ensures))
 
 pub returns-clause-possible : goal.returns-clause-possible
 returns-clause-possible c =

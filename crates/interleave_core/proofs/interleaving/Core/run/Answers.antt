@@ -2,8 +2,9 @@ use Rattle.std.proofs.Common.{◌≡◌, ◌<◌, length, set, Some, refl, subst
 use Rattle.interleave_core.specs.World.{World}
 use Rattle.interleave_core.specs.Steps.{Stepped, of_task, do_step}
 use Rattle.interleave_core.specs.Views.{CoreView, parts_of}
+use Rattle.interleave_core.specs.declared.events.Event.TheVariants.{Do}
 use Rattle.interleave_core.specs.declared.events.Shown.TheVariants.{Done}
-use Rattle.interleave_core.proofs.Kept.{read_running, run_possible, ran_core}
+use Rattle.interleave_core.proofs.Kept.{read_running, run_possible, ran_core, tied_by}
 use Rattle.interleave_core.proofs.interleaving.Core.run.Goals as goal
 
 pub invariant_of-self-2 : goal.invariant_of-self-2
@@ -11,7 +12,9 @@ invariant_of-self-2 c =
     let w : World = record { job = c.self.inside.job.now; places = c.self.inside.tables.now.places } in
     let lt : c.args.t.0 < length c.self.inside.tasks.items = omega (arith, c.if-n-len.false, c.len.ensures) in
     let runs = read_running w c.self.inside.cells.items c.self.inside.sets.items c.self.inside.plan c.self.inside.tasks.items c.args.t.0 c.index_mut.result.now c.self.invariant lt c.index_mut.ensures.value in
-    ran_core w _ _ _ _ c.args.t.0 c.index_mut.result.now c.run.new.self c.self.invariant lt c.index_mut.ensures.value (c.in-Ok.ensures.done w c.args.t.0 refl runs) (c.run.ensures.running w c.args.t.0 runs)
+    ran_core w _ _ _ _ c.args.t.0 c.index_mut.result.now c.run.new.self c.self.invariant lt c.index_mut.ensures.value (c.in-Ok.ensures.done w c.self.invariant.same_plan refl runs) (c.run.ensures.running w runs)
+    (tied_by w c.self.inside.cells.items c.self.inside.cells.items c.self.inside.sets.items c.self.inside.sets.items c.self.inside.plan c.self.inside.tasks.items (set c.self.inside.tasks.items c.args.t.0 c.run.new.self) (Do c.args.t) Done c.self.invariant
+    (run_possible w c.self.inside.cells.items c.self.inside.sets.items c.self.inside.tasks.items c.args.t.0 c.index_mut.result.now c.run.new.self lt c.index_mut.ensures.value (c.in-Ok.ensures.done w c.self.invariant.same_plan refl runs)))
 
 pub returns-clause-possible : goal.returns-clause-possible
 returns-clause-possible c =
@@ -20,4 +23,4 @@ returns-clause-possible c =
     let runs = read_running w c.self.inside.cells.items c.self.inside.sets.items c.self.inside.plan c.self.inside.tasks.items c.args.t.0 c.index_mut.result.now c.self.invariant lt c.index_mut.ensures.value in
     let target : Stepped = record { parts = record { cells = c.self.inside.cells.items; sets = c.self.inside.sets.items; tasks = parts_of (set c.self.inside.tasks.items c.args.t.0 c.run.new.self) }; shown = Done } in
     subst (λ (v : CoreView). of_task v.parts c.args.t.0 (do_step v.world v.parts c.args.t.0) ≡ Some target) c.self.view_is
-    (run_possible w c.self.inside.cells.items c.self.inside.sets.items c.self.inside.tasks.items c.args.t.0 c.index_mut.result.now c.run.new.self lt c.index_mut.ensures.value (c.in-Ok.ensures.done w c.args.t.0 refl runs))
+    (run_possible w c.self.inside.cells.items c.self.inside.sets.items c.self.inside.tasks.items c.args.t.0 c.index_mut.result.now c.run.new.self lt c.index_mut.ensures.value (c.in-Ok.ensures.done w c.self.invariant.same_plan refl runs))

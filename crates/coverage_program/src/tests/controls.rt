@@ -1,0 +1,203 @@
+//! A task opens and closes two sessions over three places: each place in order of number, and no session twice.
+ghost use Rattle.std.specs.Prelude.{◌≡◌, ℕ, ◌+◌, ◌<◌, ◌≤◌, ◌^◌, true, length, [], ◌∷◌, IfOk};
+ghost use Rattle.module_area.specs.PlanView.{has_task};
+ghost use Rattle.module_area.specs.Notes.{calls};
+ghost use Rattle.module_area.specs.Tied.{IsTied};
+
+use super::noted::{Arrivals, Call, NotedAreas};
+use cov_base::{Addr, Kind, NoMemory, PlaceNo, SessNo, TaskNo};
+use module_area::{Areas, Cells, Control, Controlled, Forks, Place, Plan, Tally};
+use planter::{close_open, open_next};
+use shared_area::SharedAreas;
+use std::alloc::Global;
+use std::test::Fail;
+
+/// How many of a control's sessions were opened, and the open one.
+type Stand = (u32, Option<SessNo>);
+
+fn opens<C: Cells>(cells: &C, pass: &mut C::Pass, plan: &Plan, control: &mut Control) -> Stand
+    requires area { C.is_pass cells.now pass.old }
+    requires plan { C.plan cells.now ≡ plan.now }
+    requires room { calls (C.notes pass.old) < 2 ^ 61 }
+    requires tied { IsTied plan.now (C.notes pass.old) control.old }
+    ensures area { C.is_pass cells.now pass.new }
+    ensures tied { IsTied plan.now (C.notes pass.new) control.new }
+    ensures bears { (C.notes pass.new).bears ≡ (C.notes pass.old).bears }
+    ensures room { calls (C.notes pass.new) < calls (C.notes pass.old) + 2 ^ 17 }
+{
+    open_next(cells, pass, plan, control);
+    (control.next, control.opened)
+}
+
+fn closes<C: Cells>(cells: &C, pass: &mut C::Pass, plan: &Plan, control: &mut Control) -> Stand
+    requires area { C.is_pass cells.now pass.old }
+    requires plan { C.plan cells.now ≡ plan.now }
+    requires room { calls (C.notes pass.old) < 2 ^ 61 }
+    requires tied { IsTied plan.now (C.notes pass.old) control.old }
+    ensures area { C.is_pass cells.now pass.new }
+    ensures tied { IsTied plan.now (C.notes pass.new) control.new }
+    ensures bears { (C.notes pass.new).bears ≡ (C.notes pass.old).bears }
+    ensures room { calls (C.notes pass.new) < calls (C.notes pass.old) + 2 ^ 17 }
+{
+    close_open(cells, pass, plan, control);
+    (control.next, control.opened)
+}
+
+/// Where the control stands after each of these calls.
+fn course<C: Cells>(cells: &C, pass: &mut C::Pass, plan: &Plan, control: &mut Control) -> [Stand; 7]
+    requires area { C.is_pass cells.now pass.old }
+    requires plan { C.plan cells.now ≡ plan.now }
+    requires room { calls (C.notes pass.old) < 2 ^ 60 }
+    requires tied { IsTied plan.now (C.notes pass.old) control.old }
+    ensures area { C.is_pass cells.now pass.new }
+    ensures bears { (C.notes pass.new).bears ≡ (C.notes pass.old).bears }
+    ensures room { calls (C.notes pass.new) < calls (C.notes pass.old) + 2 ^ 20 }
+{
+    [
+        closes(cells, pass, plan, control),
+        opens(cells, pass, plan, control),
+        opens(cells, pass, plan, control),
+        closes(cells, pass, plan, control),
+        opens(cells, pass, plan, control),
+        closes(cells, pass, plan, control),
+        opens(cells, pass, plan, control),
+    ]
+}
+
+/// The same by the pass of task 1 in an area of its own.
+fn course_in_area<A: Areas>(
+    alloc: Global,
+    areas: &mut A,
+    plan: &Plan,
+) -> Result<[Stand; 7], NoMemory>
+where
+    A::C: Forks + Sync,
+    requires room { A.made areas.old < 2 ^ 62 }
+    requires task { has_task plan.now.tasks 1 ≡ true }
+{
+    let (cells, mut root) = areas.make(alloc, plan)?;
+    let mut control = plan.control_of(alloc, TaskNo(1))?;
+    let mut pass = cells.split(&mut root, TaskNo(1));
+    let stands = course(&cells, &mut pass, plan, &mut control);
+    cells.join(&mut root, pass);
+    areas.finish(alloc, cells, root)?;
+    Ok(stands)
+}
+
+fn three(alloc: Global) -> Result<Vec<PlaceNo>, NoMemory>
+    ensures { IfOk result (λ v. v.items ≡ record { 0 = 0 } ∷ record { 0 = 1 } ∷ record { 0 = 2 } ∷ []) }
+{
+    Ok(vec![in alloc; PlaceNo(0), PlaceNo(1), PlaceNo(2)]?)
+}
+
+/// The plan with sessions 1 and 2 of task 1 over its three places.
+fn with_sessions(alloc: Global, plan: Plan) -> Result<Plan, NoMemory>
+    requires places { length plan.places ≡ 3 }
+    requires free { plan.windows ≡ 0 ∷ 0 ∷ 0 ∷ [] }
+    requires task { has_task plan.tasks 1 ≡ true }
+    requires sessions { 2 ≤ plan.sessions }
+    ensures tasks { IfOk result (λ p. p.tasks ≡ plan.tasks) }
+{
+    let first = Controlled {
+        session: SessNo(1),
+        by: TaskNo(1),
+        places: three(alloc)?,
+    };
+    let second = Controlled {
+        session: SessNo(2),
+        by: TaskNo(1),
+        places: three(alloc)?,
+    };
+    let Plan {
+        places,
+        windows,
+        controlled: _,
+        tasks,
+        sessions,
+    } = plan;
+    Ok(Plan {
+        places,
+        windows,
+        controlled: vec![in alloc; first, second]?,
+        tasks,
+        sessions,
+    })
+}
+
+/// Load address, add and branch, and tasks 0 and 1.
+fn two_sessions(alloc: Global) -> Result<Plan, Fail>
+    ensures { IfOk result (λ p. has_task p.tasks 1 ≡ true) }
+{
+    let load = Place {
+        module: 0,
+        at: Addr::of(0x10_0000),
+        len: 4,
+        original: 0x4110,
+        kind: Kind::Straight,
+    };
+    let add = Place {
+        module: 0,
+        at: Addr::of(0x10_0004),
+        len: 2,
+        original: 0x1A11,
+        kind: Kind::Straight,
+    };
+    let branch = Place {
+        module: 0,
+        at: Addr::of(0x10_0006),
+        len: 2,
+        original: 0x07FE,
+        kind: Kind::Straight,
+    };
+    let places = vec![in alloc; load, add, branch]?;
+    let windows = vec![in alloc; 0, 0, 0]?;
+    let tasks = vec![in alloc; TaskNo(0), TaskNo(1)]?;
+    let plan = Plan::checked(alloc, places, windows, tasks, 2).ok_or("no plan")?;
+    Ok(with_sessions(alloc, plan)?)
+}
+
+const STANDS: [Stand; 7] = [
+    (0, None),
+    (1, Some(SessNo(1))),
+    (1, Some(SessNo(1))),
+    (1, None),
+    (2, Some(SessNo(2))),
+    (2, None),
+    (2, None),
+];
+
+const CALLS: [Call; 12] = [
+    Call::Plant(0),
+    Call::Plant(1),
+    Call::Plant(2),
+    Call::Close(0),
+    Call::Close(1),
+    Call::Close(2),
+    Call::Plant(0),
+    Call::Plant(1),
+    Call::Plant(2),
+    Call::Close(0),
+    Call::Close(1),
+    Call::Close(2),
+];
+
+#[test]
+fn each_session_is_opened_and_closed_once(rt: HostRuntime) -> Result<(), Fail> {
+    let alloc = rt.alloc();
+    let plan = two_sessions(alloc)?;
+    let gate = Arrivals::new(alloc, 2)?;
+    let shared = SharedAreas::new(alloc, 1).map_err(|_| "memory")?;
+    let mut areas = NotedAreas::new(shared, &gate);
+    let stands = course_in_area(alloc, &mut areas, &plan)?;
+    assert_eq!(rt; stands, STANDS);
+    assert_eq!(rt; areas.calls.as_slice(), CALLS.as_slice());
+    let tally = Tally {
+        plants: 6,
+        fetches: 0,
+        marks: 0,
+        lifts: 0,
+        closes: 6,
+    };
+    assert_eq!(rt; areas.ledger(), [tally].as_slice());
+    Ok(())
+}

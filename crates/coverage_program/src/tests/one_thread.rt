@@ -1,0 +1,111 @@
+//! A task over a pass that was split for it, on one thread: how it ends, and what the root meets at its places then.
+ghost use Rattle.std.specs.Prelude.{◌≡◌, ◌<◌, ◌≤◌, ◌^◌, true, length, All};
+ghost use Rattle.brk_table.specs.Places.{IsIn};
+ghost use Rattle.module_area.specs.Notes.{calls};
+ghost use Rattle.module_area.specs.PlanView.{window_at, has_task};
+
+use super::order::{COUNT_DOWN, EXECUTED};
+use crate::ready::make_ready;
+use brk_table::Tables;
+use cov_base::{NoMemory, PlaceNo, SessNo, TaskNo};
+use cov_outside::MemSource;
+use module_area::{Areas, Cell, Cells, Forks, Plan};
+use s370_state::Ending;
+use session_book::{Begun, Job, begin, plan_of};
+use shared_area::SharedAreas;
+use std::alloc::Global;
+use std::test::Fail;
+use task_run::{Task, run_task};
+
+/// Whether session 1 observes the first two places, and the first task is one of the phase.
+fn may_run(plan: &Plan) -> bool
+    ensures places { result ≡ true → 2 ≤ length plan.now.places }
+    ensures windows { result ≡ true → (window_at plan.now 0 ≡ 1) × (window_at plan.now 1 ≡ 1) }
+    ensures task { result ≡ true → has_task plan.now.tasks 0 ≡ true }
+{
+    if plan.places_len() < 2 || plan.window(PlaceNo(0)) != 1 || plan.window(PlaceNo(1)) != 1 {
+        return false;
+    }
+    plan.tasks.iter().any(|t| t.0 == 0)
+}
+
+/// Runs the first task with the pass.
+fn run_first<C: Cells>(
+    alloc: Global,
+    cells: &C,
+    pass: &mut C::Pass,
+    job: &Job,
+    tables: &Tables,
+) -> Result<Ending, NoMemory>
+    requires area { C.is_pass cells.now pass.old }
+    requires room { calls (C.notes pass.old) < 2 ^ 60 }
+    requires places { (C.plan cells.now).places ≡ tables.now.places }
+    requires task { 0 < length job.now.tasks }
+    requires tables { All (IsIn job.now.images) tables.now.places }
+{
+    let Begun { cpu, space, io } = begin(alloc, job, tables, 0)?;
+    let mut task = Task {
+        cpu,
+        space,
+        io,
+        done: 0,
+        budget: job.card(0).budget,
+    };
+    Ok(run_task(cells, pass, tables, &mut task))
+}
+
+/// The first phase's first task, with two places planted.
+fn alone<A: Areas>(
+    alloc: Global,
+    areas: &mut A,
+    job: &Job,
+    tables: &Tables,
+) -> Result<Option<(Ending, [Cell; 2])>, NoMemory>
+where
+    A::C: Forks + Sync,
+    requires room { A.made areas.old < 2 ^ 62 }
+    requires tables { All (IsIn job.now.images) tables.now.places }
+{
+    if job.phase_count() == 0 || job.task_count() == 0 {
+        return Ok(None);
+    }
+    let plan = plan_of(alloc, job, tables, 0)?;
+    if !may_run(&plan) {
+        return Ok(None);
+    }
+    let (cells, mut root) = areas.make(alloc, &plan)?;
+    cells.plant(&mut root, SessNo(1), PlaceNo(0));
+    cells.plant(&mut root, SessNo(1), PlaceNo(1));
+    let mut pass = cells.split(&mut root, TaskNo(0));
+    let ending = run_first(alloc, &cells, &mut pass, job, tables)?;
+    let met = [
+        cells.fetch(&mut root, PlaceNo(0)),
+        cells.fetch(&mut root, PlaceNo(1)),
+    ];
+    Ok(Some((ending, met)))
+}
+
+/// What comes of the first task of a job, alone in its area; none where no job is read.
+fn came(alloc: Global, job: &[u8]) -> Result<Option<(Ending, [Cell; 2])>, Fail> {
+    let mut source = MemSource::new(job.to_vec(alloc)?, 64, Vec::new(alloc));
+    let Ok(ready) = make_ready(alloc, &mut source, true, false) else {
+        return Ok(None);
+    };
+    let mut areas = SharedAreas::new(alloc, 1)?;
+    Ok(alone(alloc, &mut areas, &ready.job, &ready.tables)?)
+}
+
+fn cell(half: u16) -> Cell {
+    Cell { tag: 1, half }
+}
+
+#[test]
+fn a_split_pass_lifts_what_is_full(rt: HostRuntime) -> Result<(), Fail> {
+    let counted = came(rt.alloc(), COUNT_DOWN)?;
+    let both_gone = [cell(0x4610), cell(0x07FE)];
+    assert!(rt; counted == Some((Ending::Returned, both_gone)));
+    let executed = came(rt.alloc(), EXECUTED)?;
+    let subject_stays = [cell(0x4400), cell(0x0AFF)];
+    assert!(rt; executed == Some((Ending::Abend(3), subject_stays)));
+    Ok(())
+}

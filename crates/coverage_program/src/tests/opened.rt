@@ -1,0 +1,442 @@
+//! Sessions that tasks open and close under `replay`: a late trap, calls that open and close nothing, calls under EX, and
+//! plants and closes that are not due.
+
+use super::notation::{Case, job_of, text_of};
+use super::places::serve;
+use crate::status::Status;
+use std::test::Fail;
+
+const SCHEDULES: [Case; 10] = [
+    Case {
+        name: "a late trap marks in the session that it was planted for",
+        code: "",
+        job: "\
+COVERJOB 1\n\
+MODULE M 100000 8\n\
+TEXT 411000051A1107FE\n\
+LISTING 4\n\
+\x20 Loc  Object Code    Addr1 Addr2  Stmt   Source Statement\n\
+000000 4110 0005                      1          LA\n\
+000004 1A11                           2          AR\n\
+000006 07FE                           3          BR\n\
+PHASE P\n\
+SESSION S1 BY C M\n\
+SESSION S2 BY C M\n\
+TASK A 100000 16 100 0\n\
+TASK C 000000 16 100 0\n\
+DATA 0 0A040A050A040A0507FE\n\
+ENDJOB\n\
+PLANT C\n\
+PLANT C\n\
+PLANT C\n\
+DO C\n\
+FETCH A\n\
+CLOSE C\n\
+CLOSE C\n\
+CLOSE C\n\
+DO C\n\
+PLANT C\n\
+PLANT C\n\
+PLANT C\n\
+DO C\n\
+MARK A\n\
+LIFT A\n\
+DO A\n\
+GO A\n\
+GO C\n\
+ENDSCHED\n",
+        status: 0,
+        tallies: None,
+        text: "\
+COVERAGE REPLAY\n\
+EVENT 1 PLANT C S1 100000\n\
+EVENT 2 PLANT C S1 100004\n\
+EVENT 3 PLANT C S1 100006\n\
+EVENT 4 DO C\n\
+EVENT 5 FETCH A TAG 1 HALF 0AFF\n\
+EVENT 6 CLOSE C S1 100000\n\
+EVENT 7 CLOSE C S1 100004\n\
+EVENT 8 CLOSE C S1 100006\n\
+EVENT 9 DO C\n\
+EVENT 10 PLANT C S2 100000\n\
+EVENT 11 PLANT C S2 100004\n\
+EVENT 12 PLANT C S2 100006\n\
+EVENT 13 DO C\n\
+EVENT 14 MARK A OLD -\n\
+EVENT 15 LIFT A NOT TAKEN\n\
+EVENT 16 DO A\n\
+EVENT 17 GO A\n\
+EVENT 18 GO C\n\
+TASK A RETURNED COUNT 3 CC 2\n\
+regs 1=0000000A\n\
+OUT 0\n\
+TASK C RETURNED COUNT 5 CC 0\n\
+R0 00000000 00000000 00000000 00000000 00000000 00000000 00000000 00000000\n\
+R8 00000000 00000000 00000000 00000000 00000000 00000000 00FFFFFE 00000000\n\
+OUT 0\n\
+SESSION S1 PHASE P\n\
+MODULE M PLACES 3 EXECUTED 1 FACTS 1 OF 3\n\
+\x20   Loc  Object Code    Addr1 Addr2  Stmt   Source Statement\n\
+: 000000 4110 0005                      1          LA\n\
+^ 000004 1A11                           2          AR\n\
+^ 000006 07FE                           3          BR\n\
+NOT EXECUTED 000004-000007\n\
+SESSION S2 PHASE P\n\
+MODULE M PLACES 3 EXECUTED 2 FACTS 2 OF 3\n\
+\x20   Loc  Object Code    Addr1 Addr2  Stmt   Source Statement\n\
+^ 000000 4110 0005                      1          LA\n\
+: 000004 1A11                           2          AR\n\
+: 000006 07FE                           3          BR\n\
+NOT EXECUTED 000000-000003\n\
+END\n",
+    },
+    Case {
+        name: "calls with nothing to open or close",
+        code: "",
+        job: "\
+COVERJOB 1\n\
+MODULE M 100000 2\n\
+TEXT 07FE\n\
+LISTING 2\n\
+\x20 Loc  Object Code    Addr1 Addr2  Stmt   Source Statement\n\
+000000 07FE                           1          BCR\n\
+PHASE P\n\
+SESSION S BY C M\n\
+TASK C 000000 12 100 0\n\
+DATA 0 0A050A040A040A050A0407FE\n\
+ENDJOB\n\
+DO C\n\
+PLANT C\n\
+DO C\n\
+DO C\n\
+CLOSE C\n\
+DO C\n\
+DO C\n\
+GO C\n\
+ENDSCHED\n",
+        status: 0,
+        tallies: None,
+        text: "\
+COVERAGE REPLAY\n\
+EVENT 1 DO C\n\
+EVENT 2 PLANT C S 100000\n\
+EVENT 3 DO C\n\
+EVENT 4 DO C\n\
+EVENT 5 CLOSE C S 100000\n\
+EVENT 6 DO C\n\
+EVENT 7 DO C\n\
+EVENT 8 GO C\n\
+TASK C RETURNED COUNT 6 CC 0\n\
+R0 00000000 00000000 00000000 00000000 00000000 00000000 00000000 00000000\n\
+R8 00000000 00000000 00000000 00000000 00000000 00000000 00FFFFFE 00000000\n\
+OUT 0\n\
+SESSION S PHASE P\n\
+MODULE M PLACES 1 EXECUTED 0 FACTS 0 OF 1\n\
+\x20   Loc  Object Code    Addr1 Addr2  Stmt   Source Statement\n\
+^ 000000 07FE                           1          BCR\n\
+NOT EXECUTED 000000-000001\n\
+END\n",
+    },
+    Case {
+        name: "calls under EX, at a place and at none",
+        code: "",
+        job: "\
+COVERJOB 1\n\
+MODULE M 100000 4\n\
+TEXT 0A0007FE\n\
+LISTING 3\n\
+\x20 Loc  Object Code    Addr1 Addr2  Stmt   Source Statement\n\
+000000 0A00                           1          SVC\n\
+000002 07FE                           2          BCR\n\
+PHASE P\n\
+SESSION S BY C M\n\
+TASK C 000000 18 100 0\n\
+REG 4 00000004\n\
+REG 5 00000005\n\
+REG 12 00100000\n\
+DATA 0 4440C000445000100A0407FE000000000A00\n\
+ENDJOB\n\
+DO C\n\
+FETCH C\n\
+PLANT C\n\
+PLANT C\n\
+DO C\n\
+CLOSE C\n\
+CLOSE C\n\
+DO C\n\
+GO C\n\
+ENDSCHED\n",
+        status: 0,
+        tallies: None,
+        text: "\
+COVERAGE REPLAY\n\
+EVENT 1 DO C\n\
+EVENT 2 FETCH C TAG 0 HALF 0A00\n\
+EVENT 3 PLANT C S 100000\n\
+EVENT 4 PLANT C S 100002\n\
+EVENT 5 DO C\n\
+EVENT 6 CLOSE C S 100000\n\
+EVENT 7 CLOSE C S 100002\n\
+EVENT 8 DO C\n\
+EVENT 9 GO C\n\
+TASK C RETURNED COUNT 4 CC 0\n\
+R0 00000000 00000000 00000000 00000000 00000004 00000005 00000000 00000000\n\
+R8 00000000 00000000 00000000 00000000 00100000 00000000 00FFFFFE 00000000\n\
+OUT 0\n\
+SESSION S PHASE P\n\
+MODULE M PLACES 2 EXECUTED 0 FACTS 0 OF 2\n\
+\x20   Loc  Object Code    Addr1 Addr2  Stmt   Source Statement\n\
+^ 000000 0A00                           1          SVC\n\
+^ 000002 07FE                           2          BCR\n\
+NOT EXECUTED 000000-000003\n\
+END\n",
+    },
+    Case {
+        name: "a session over a module without a listing",
+        code: "",
+        job: "\
+COVERJOB 1\n\
+MODULE M 100000 2\n\
+TEXT 07FE\n\
+LISTING 2\n\
+\x20 Loc  Object Code    Addr1 Addr2  Stmt   Source Statement\n\
+000000 07FE                           1          BCR\n\
+MODULE U 100008 2\n\
+TEXT 07FE\n\
+PHASE P\n\
+SESSION S BY C U\n\
+SESSION T BY C M U\n\
+TASK C 000000 8 100 0\n\
+DATA 0 0A040A050A0407FE\n\
+ENDJOB\n\
+DO C\n\
+DO C\n\
+PLANT C\n\
+DO C\n\
+GO C\n\
+ENDSCHED\n",
+        status: 0,
+        tallies: None,
+        text: "\
+COVERAGE REPLAY\n\
+EVENT 1 DO C\n\
+EVENT 2 DO C\n\
+EVENT 3 PLANT C T 100000\n\
+EVENT 4 DO C\n\
+EVENT 5 GO C\n\
+TASK C RETURNED COUNT 4 CC 0\n\
+R0 00000000 00000000 00000000 00000000 00000000 00000000 00000000 00000000\n\
+R8 00000000 00000000 00000000 00000000 00000000 00000000 00FFFFFE 00000000\n\
+OUT 0\n\
+SESSION S PHASE P\n\
+MODULE U PLACES 0 EXECUTED 0 FACTS 0 OF 0\n\
+SESSION T PHASE P\n\
+MODULE M PLACES 1 EXECUTED 0 FACTS 0 OF 1\n\
+\x20   Loc  Object Code    Addr1 Addr2  Stmt   Source Statement\n\
+^ 000000 07FE                           1          BCR\n\
+NOT EXECUTED 000000-000001\n\
+MODULE U PLACES 0 EXECUTED 0 FACTS 0 OF 0\n\
+END\n",
+    },
+    Case {
+        name: "a call at a place of its own session",
+        code: "",
+        job: "\
+COVERJOB 1\n\
+MODULE M 100000 6\n\
+TEXT 0A040A0507FE\n\
+LISTING 4\n\
+\x20 Loc  Object Code    Addr1 Addr2  Stmt   Source Statement\n\
+000000 0A04                           1          SVC\n\
+000002 0A05                           2          SVC\n\
+000004 07FE                           3          BCR\n\
+PHASE P\n\
+SESSION S BY C M\n\
+TASK C 000000 4 100 0\n\
+REG 12 00100000\n\
+DATA 0 47F0C000\n\
+ENDJOB\n\
+DO C\n\
+FETCH C\n\
+PLANT C\n\
+PLANT C\n\
+PLANT C\n\
+DO C\n\
+FETCH C\n\
+MARK C\n\
+LIFT C\n\
+CLOSE C\n\
+CLOSE C\n\
+CLOSE C\n\
+DO C\n\
+FETCH C\n\
+DO C\n\
+DO C\n\
+ENDSCHED\n",
+        status: 0,
+        tallies: None,
+        text: "\
+COVERAGE REPLAY\n\
+EVENT 1 DO C\n\
+EVENT 2 FETCH C TAG 0 HALF 0A04\n\
+EVENT 3 PLANT C S 100000\n\
+EVENT 4 PLANT C S 100002\n\
+EVENT 5 PLANT C S 100004\n\
+EVENT 6 DO C\n\
+EVENT 7 FETCH C TAG 1 HALF 0AFF\n\
+EVENT 8 MARK C OLD -\n\
+EVENT 9 LIFT C TAKEN\n\
+EVENT 10 CLOSE C S 100000\n\
+EVENT 11 CLOSE C S 100002\n\
+EVENT 12 CLOSE C S 100004\n\
+EVENT 13 DO C\n\
+EVENT 14 FETCH C TAG 2 HALF 07FE\n\
+EVENT 15 DO C\n\
+EVENT 16 DO C\n\
+TASK C RETURNED COUNT 4 CC 0\n\
+R0 00000000 00000000 00000000 00000000 00000000 00000000 00000000 00000000\n\
+R8 00000000 00000000 00000000 00000000 00100000 00000000 00FFFFFE 00000000\n\
+OUT 0\n\
+SESSION S PHASE P\n\
+MODULE M PLACES 3 EXECUTED 1 FACTS 1 OF 3\n\
+\x20   Loc  Object Code    Addr1 Addr2  Stmt   Source Statement\n\
+^ 000000 0A04                           1          SVC\n\
+: 000002 0A05                           2          SVC\n\
+^ 000004 07FE                           3          BCR\n\
+NOT EXECUTED 000000-000001\n\
+NOT EXECUTED 000004-000005\n\
+END\n",
+    },
+    Case {
+        name: "a plant that no call asks for",
+        code: "",
+        job: "\
+COVERJOB 1\n\
+MODULE M 100000 2\n\
+TEXT 07FE\n\
+LISTING 2\n\
+\x20 Loc  Object Code    Addr1 Addr2  Stmt   Source Statement\n\
+000000 07FE                           1          BCR\n\
+PHASE P\n\
+SESSION S BY C M\n\
+TASK C 000000 12 100 0\n\
+DATA 0 0A050A040A040A050A0407FE\n\
+ENDJOB\n\
+PLANT C\n\
+ENDSCHED\n",
+        status: 9,
+        tallies: None,
+        text: "\
+BAD SCHEDULE LINE 12\n",
+    },
+    Case {
+        name: "a Do before the last place is planted",
+        code: "",
+        job: "\
+COVERJOB 1\n\
+MODULE M 100000 4\n\
+TEXT 07FE07FE\n\
+LISTING 3\n\
+\x20 Loc  Object Code    Addr1 Addr2  Stmt   Source Statement\n\
+000000 07FE                           1          BCR\n\
+000002 07FE                           2          BCR\n\
+PHASE P\n\
+SESSION S BY C M\n\
+TASK C 000000 4 100 0\n\
+DATA 0 0A0407FE\n\
+ENDJOB\n\
+PLANT C\n\
+DO C\n\
+ENDSCHED\n",
+        status: 9,
+        tallies: None,
+        text: "\
+BAD SCHEDULE LINE 14\n",
+    },
+    Case {
+        name: "a close while the session is opened",
+        code: "",
+        job: "\
+COVERJOB 1\n\
+MODULE M 100000 2\n\
+TEXT 07FE\n\
+LISTING 2\n\
+\x20 Loc  Object Code    Addr1 Addr2  Stmt   Source Statement\n\
+000000 07FE                           1          BCR\n\
+PHASE P\n\
+SESSION S BY C M\n\
+TASK C 000000 4 100 0\n\
+DATA 0 0A0407FE\n\
+ENDJOB\n\
+CLOSE C\n\
+ENDSCHED\n",
+        status: 9,
+        tallies: None,
+        text: "\
+BAD SCHEDULE LINE 12\n",
+    },
+    Case {
+        name: "a third plant of two places",
+        code: "",
+        job: "\
+COVERJOB 1\n\
+MODULE M 100000 4\n\
+TEXT 07FE07FE\n\
+LISTING 3\n\
+\x20 Loc  Object Code    Addr1 Addr2  Stmt   Source Statement\n\
+000000 07FE                           1          BCR\n\
+000002 07FE                           2          BCR\n\
+PHASE P\n\
+SESSION S BY C M\n\
+TASK C 000000 4 100 0\n\
+DATA 0 0A0407FE\n\
+ENDJOB\n\
+PLANT C\n\
+PLANT C\n\
+PLANT C\n\
+ENDSCHED\n",
+        status: 9,
+        tallies: None,
+        text: "\
+BAD SCHEDULE LINE 15\n",
+    },
+    Case {
+        name: "a plant at a spent budget",
+        code: "",
+        job: "\
+COVERJOB 1\n\
+MODULE M 100000 2\n\
+TEXT 07FE\n\
+LISTING 2\n\
+\x20 Loc  Object Code    Addr1 Addr2  Stmt   Source Statement\n\
+000000 07FE                           1          BCR\n\
+PHASE P\n\
+SESSION S BY C M\n\
+TASK C 000000 4 1 0\n\
+DATA 0 0A050A04\n\
+ENDJOB\n\
+DO C\n\
+PLANT C\n\
+ENDSCHED\n",
+        status: 9,
+        tallies: None,
+        text: "\
+BAD SCHEDULE LINE 13\n",
+    },
+];
+
+#[test]
+fn plays_each_schedule_of_controllers(rt: HostRuntime) -> Result<(), Fail> {
+    for case in &SCHEDULES {
+        let name = case.name;
+        let text = text_of(rt.alloc(), case)?;
+        let job = job_of(rt.alloc(), case)?;
+        let came = serve(&rt, rt.alloc(), &["replay"], &job)?;
+        assert_eq!(rt; came.text.as_slice(), text.as_slice(), "{name}");
+        assert_eq!(rt; came.status, Status(case.status), "{name}");
+        assert_eq!(rt; came.text_alone.as_slice(), text.as_slice(), "{name}");
+        assert_eq!(rt; came.alone, Status(case.status), "{name}");
+        assert_eq!(rt; came.made, 0, "{name}");
+    }
+    Ok(())
+}

@@ -1,0 +1,28 @@
+-- How a pass stands to the control of its task.
+use Rattle.std.specs.Prelude.{◌≡◌, ℕ, ◌+◌, ◌*◌, ◌<◌, ◌≤◌, Bool, true, not, ◌&&◌, nat_eq, Option, Some, None, List, length, take, drop, All, AllPairs}
+use Rattle.std.specs.List.{list_any}
+use Rattle.cov_base.specs.declared.numbers.SessNo.{SessNo}
+use Rattle.module_area.specs.PlanView.{PlanView, ControlledView}
+use Rattle.module_area.specs.Notes.{Notes}
+use Rattle.module_area.specs.Control.{ControlView, places_under}
+
+abbrev pub has_session : List SessNo → ℕ → Bool
+has_session sessions s = list_any (λ (t : SessNo). nat_eq t.0 s) sessions
+
+-- The controlled session is the pass's own: its task's, or for the root that of a task whose pass isn't out.
+abbrev pub keeps_session_as : PlanView → Option ℕ → (ℕ → Bool) → ℕ → Bool
+keeps_session_as plan (Some t) out s = list_any (λ (c : ControlledView). nat_eq c.session s && nat_eq c.by t) plan.controlled
+keeps_session_as plan None out s = list_any (λ (c : ControlledView). nat_eq c.session s && not (out c.by)) plan.controlled
+
+abbrev pub keeps_session : PlanView → Notes → ℕ → Bool
+keeps_session plan n s = keeps_session_as plan n.bears n.out s
+
+-- The pass keeps exactly the sessions of the control, which rise; the open one is before the next; it was planted last
+-- at each of its places, and those not yet opened are later than what was planted or closed last at theirs.
+pub record IsTied (plan : PlanView) (n : Notes) (c : ControlView) : Type 0 where
+  pub keeps : (s : ℕ) → has_session c.sessions s ≡ keeps_session plan n s
+  pub rising : AllPairs (λ s t. s.0 < t.0) c.sessions
+  pub next : c.next ≤ length c.sessions
+  pub opened : (s : SessNo) → c.opened ≡ Some s → has_session (take c.next c.sessions) s.0 ≡ true
+  pub planted : (s : SessNo) → c.opened ≡ Some s → All (λ p. n.last p.0 + 1 ≡ 2 * s.0) (places_under plan s.0)
+  pub later : All (λ s. All (λ p. n.last p.0 + 1 < 2 * s.0) (places_under plan s.0)) (drop c.next c.sessions)

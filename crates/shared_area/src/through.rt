@@ -1,0 +1,184 @@
+//! The course of a task through two sessions: one is closed and the next one planted while it holds a trap.
+ghost use Rattle.std.specs.Prelude.{◌≡◌, ◌+◌, ◌*◌, ◌<◌, ◌≤◌, ◌^◌, true, length, IfSome};
+ghost use Rattle.std.specs.declared.option.Option.TheVariants.{Some};
+ghost use Rattle.cov_base.specs.declared.facts.Kind.TheVariants.{Straight};
+ghost use Rattle.module_area.specs.PlanView.{kind_at, has_task, is_controlled, is_over};
+ghost use Rattle.shared_area.specs.Late.{IsTwice};
+ghost use Rattle.module_area.specs.Notes.{calls, keeps};
+
+use crate::SharedAreas;
+use crate::late::{Late, marks, three_instructions, traps};
+use cov_base::{Fact, NoMemory, PlaceNo, SessNo, TaskNo};
+use module_area::{Areas, Cell, Cells, Finals, Forks, Plan, Tally};
+use std::alloc::Global;
+use std::test::Fail;
+
+/// Plants the three places for a session.
+fn plants_all<C: Cells>(cells: &C, control: &mut C::Pass, s: SessNo)
+    requires area { C.is_pass cells.now control.old }
+    requires room { calls (C.notes control.old) < 2 ^ 60 }
+    requires places { 2 < length (C.plan cells.now).places }
+    requires session { 0 < s.0 }
+    requires over { (is_over (C.plan cells.now) s.0 0 ≡ true) × (is_over (C.plan cells.now) s.0 1 ≡ true) × (is_over (C.plan cells.now) s.0 2 ≡ true) }
+    requires keeper { (keeps (C.plan cells.now) (C.notes control.old) 0 ≡ true) × (keeps (C.plan cells.now) (C.notes control.old) 1 ≡ true) × (keeps (C.plan cells.now) (C.notes control.old) 2 ≡ true) }
+    requires later { ((C.notes control.old).last 0 + 1 < 2 * s.0) × ((C.notes control.old).last 1 + 1 < 2 * s.0) × ((C.notes control.old).last 2 + 1 < 2 * s.0) }
+    ensures area { C.is_pass cells.now control.new }
+    ensures room { calls (C.notes control.new) ≡ calls (C.notes control.old) + 3 }
+    ensures bears { (C.notes control.new).bears ≡ (C.notes control.old).bears }
+    ensures last { ((C.notes control.new).last 0 + 1 ≡ 2 * s.0) × ((C.notes control.new).last 1 + 1 ≡ 2 * s.0) × ((C.notes control.new).last 2 + 1 ≡ 2 * s.0) }
+{
+    cells.plant(control, s, PlaceNo(0));
+    cells.plant(control, s, PlaceNo(1));
+    cells.plant(control, s, PlaceNo(2));
+}
+
+/// Closes a session at the three places.
+fn closes_all<C: Cells>(cells: &C, control: &mut C::Pass, s: SessNo)
+    requires area { C.is_pass cells.now control.old }
+    requires room { calls (C.notes control.old) < 2 ^ 60 }
+    requires places { 2 < length (C.plan cells.now).places }
+    requires session { 0 < s.0 }
+    requires over { (is_controlled (C.plan cells.now) s.0 0 ≡ true) × (is_controlled (C.plan cells.now) s.0 1 ≡ true) × (is_controlled (C.plan cells.now) s.0 2 ≡ true) }
+    requires keeper { (keeps (C.plan cells.now) (C.notes control.old) 0 ≡ true) × (keeps (C.plan cells.now) (C.notes control.old) 1 ≡ true) × (keeps (C.plan cells.now) (C.notes control.old) 2 ≡ true) }
+    requires open { ((C.notes control.old).last 0 + 1 ≡ 2 * s.0) × ((C.notes control.old).last 1 + 1 ≡ 2 * s.0) × ((C.notes control.old).last 2 + 1 ≡ 2 * s.0) }
+    ensures area { C.is_pass cells.now control.new }
+    ensures room { calls (C.notes control.new) ≡ calls (C.notes control.old) + 3 }
+    ensures bears { (C.notes control.new).bears ≡ (C.notes control.old).bears }
+    ensures last { ((C.notes control.new).last 0 ≡ 2 * s.0) × ((C.notes control.new).last 1 ≡ 2 * s.0) × ((C.notes control.new).last 2 ≡ 2 * s.0) }
+{
+    cells.close(control, s, PlaceNo(0));
+    cells.close(control, s, PlaceNo(1));
+    cells.close(control, s, PlaceNo(2));
+}
+
+/// A trap of session 1 at the first place that is settled once session 2 is planted, and the cell that the task then meets
+/// there.
+fn through_two_sessions<C: Cells>(
+    cells: &C,
+    control: &mut C::Pass,
+    pass: &mut C::Pass,
+) -> Option<Late>
+    requires area { C.is_pass cells.now control.old × C.is_pass cells.now pass.old }
+    requires room { (calls (C.notes control.old) < 2 ^ 8) × (calls (C.notes pass.old) < 2 ^ 8) }
+    requires places { (2 < length (C.plan cells.now).places) × (kind_at (C.plan cells.now) 0 ≡ Straight) }
+    requires over { IsTwice (C.plan cells.now) 0 × IsTwice (C.plan cells.now) 1 × IsTwice (C.plan cells.now) 2 }
+    requires bears { (C.notes control.old).bears ≡ Some 1 }
+    requires first { ((C.notes control.old).last 0 ≡ 0) × ((C.notes control.old).last 1 ≡ 0) × ((C.notes control.old).last 2 ≡ 0) }
+    ensures area { C.is_pass cells.now control.new × C.is_pass cells.now pass.new }
+    ensures room { (calls (C.notes control.new) < 2 ^ 9) × (calls (C.notes pass.new) < 2 ^ 9) }
+    ensures bears { ((C.notes control.new).bears ≡ Some 1) × ((C.notes pass.new).bears ≡ (C.notes pass.old).bears) }
+    ensures open { IfSome result (λ _. ((C.notes control.new).last 0 ≡ 3) × ((C.notes control.new).last 1 ≡ 3) × ((C.notes control.new).last 2 ≡ 3)) }
+{
+    plants_all(cells, control, SessNo(1));
+    if !traps(cells, pass, PlaceNo(0), 1) {
+        return None;
+    }
+    closes_all(cells, control, SessNo(1));
+    plants_all(cells, control, SessNo(2));
+    let there = marks(cells, pass, SessNo(1), PlaceNo(0))?;
+    let lifted = cells.lift(pass, SessNo(1), PlaceNo(0));
+    Some((there, lifted, cells.fetch(pass, PlaceNo(0))))
+}
+
+/// A visit under session 2: whether the run was marked before, and whether the lift exchanged.
+fn visits<C: Cells>(cells: &C, pass: &mut C::Pass, place: PlaceNo) -> Option<(bool, bool)>
+    requires area { C.is_pass cells.now pass.old }
+    requires room { calls (C.notes pass.old) < 2 ^ 60 }
+    requires place { (place.0 < length (C.plan cells.now).places) × (kind_at (C.plan cells.now) place.0 ≡ Straight) }
+    ensures area { C.is_pass cells.now pass.new }
+    ensures room { calls (C.notes pass.new) ≤ calls (C.notes pass.old) + 3 }
+    ensures bears { (C.notes pass.new).bears ≡ (C.notes pass.old).bears }
+{
+    if !traps(cells, pass, place, 3) {
+        return None;
+    }
+    let there = marks(cells, pass, SessNo(2), place)?;
+    Some((there, cells.lift(pass, SessNo(2), place)))
+}
+
+/// What the task finds at the first place, and at its visits of the two behind it.
+type Course = (Late, (bool, bool), (bool, bool));
+
+/// The task comes to its end, and session 2 is closed behind it.
+fn to_the_end<C: Cells>(cells: &C, control: &mut C::Pass, pass: &mut C::Pass) -> Option<Course>
+    requires area { C.is_pass cells.now control.old × C.is_pass cells.now pass.old }
+    requires room { (calls (C.notes control.old) < 2 ^ 8) × (calls (C.notes pass.old) < 2 ^ 8) }
+    requires places { 2 < length (C.plan cells.now).places }
+    requires kinds { (kind_at (C.plan cells.now) 0 ≡ Straight) × (kind_at (C.plan cells.now) 1 ≡ Straight) × (kind_at (C.plan cells.now) 2 ≡ Straight) }
+    requires over { IsTwice (C.plan cells.now) 0 × IsTwice (C.plan cells.now) 1 × IsTwice (C.plan cells.now) 2 }
+    requires bears { (C.notes control.old).bears ≡ Some 1 }
+    requires first { ((C.notes control.old).last 0 ≡ 0) × ((C.notes control.old).last 1 ≡ 0) × ((C.notes control.old).last 2 ≡ 0) }
+    ensures area { C.is_pass cells.now control.new × C.is_pass cells.now pass.new }
+    ensures room { (calls (C.notes control.new) < 2 ^ 10) × (calls (C.notes pass.new) < 2 ^ 10) }
+    ensures bears { ((C.notes control.new).bears ≡ Some 1) × ((C.notes pass.new).bears ≡ (C.notes pass.old).bears) }
+{
+    let late = through_two_sessions(cells, control, pass)?;
+    let add = visits(cells, pass, PlaceNo(1))?;
+    let branch = visits(cells, pass, PlaceNo(2))?;
+    closes_all(cells, control, SessNo(2));
+    Some((late, add, branch))
+}
+
+/// Whether the session has the run of each of the three places.
+fn runs(finals: &Finals, s: SessNo) -> [bool; 3]
+    requires session { 0 < s.0 }
+    requires places { 2 < finals.now.places }
+    requires within { s.0 * finals.now.places ≤ length finals.now.sets }
+{
+    [
+        finals.set(s, PlaceNo(0)).has(Fact::Ran),
+        finals.set(s, PlaceNo(1)).has(Fact::Ran),
+        finals.set(s, PlaceNo(2)).has(Fact::Ran),
+    ]
+}
+
+/// The same by passes split for tasks 0 and 1, and the runs of sessions 1 and 2 in the end.
+#[tactic(auto, using(module_area::proofs::EndedLemmas::session_has_sets))]
+fn two_sessions_in_area<A: Areas>(
+    alloc: Global,
+    areas: &mut A,
+    plan: &Plan,
+) -> Result<(Option<Course>, [bool; 3], [bool; 3]), NoMemory>
+where
+    A::C: Forks + Sync,
+    requires room { A.made areas.old < 2 ^ 62 }
+    requires places { 2 < length plan.now.places }
+    requires kinds { (kind_at plan.now 0 ≡ Straight) × (kind_at plan.now 1 ≡ Straight) × (kind_at plan.now 2 ≡ Straight) }
+    requires over { IsTwice plan.now 0 × IsTwice plan.now 1 × IsTwice plan.now 2 }
+    requires tasks { (has_task plan.now.tasks 0 ≡ true) × (has_task plan.now.tasks 1 ≡ true) }
+    requires sessions { 2 ≤ plan.now.sessions }
+{
+    let (cells, mut root) = areas.make(alloc, plan)?;
+    let mut pass = cells.split(&mut root, TaskNo(0));
+    let mut control = cells.split(&mut root, TaskNo(1));
+    let course = to_the_end(&cells, &mut control, &mut pass);
+    cells.join(&mut root, pass);
+    cells.join(&mut root, control);
+    let finals = areas.finish(alloc, cells, root)?;
+    Ok((course, runs(&finals, SessNo(1)), runs(&finals, SessNo(2))))
+}
+
+#[test]
+fn a_trap_through_two_sessions(rt: HostRuntime) -> Result<(), Fail> {
+    let alloc = rt.alloc();
+    let plan = three_instructions(alloc)?;
+    let mut areas = SharedAreas::new(alloc, 1)?;
+    let (course, first, second) = two_sessions_in_area(alloc, &mut areas, &plan)?;
+    let planted = Cell {
+        tag: 3,
+        half: 0x0AFF,
+    };
+    let expected = ((false, false, planted), (false, true), (false, true));
+    assert_eq!(rt; course, Some(expected));
+    assert_eq!(rt; first, [true, false, false]);
+    assert_eq!(rt; second, [false, true, true]);
+    let tally = Tally {
+        plants: 6,
+        fetches: 4,
+        marks: 3,
+        lifts: 2,
+        closes: 6,
+    };
+    assert_eq!(rt; areas.ledger(), [tally].as_slice());
+    Ok(())
+}
