@@ -1,7 +1,7 @@
 use Rattle.brk_table.proofs.Together.{all_in}
 use Rattle.session_marks.specs.FromFile.{set_at}
 use Rattle.session_marks.specs.Sample.{sample_images, sample_tables}
-use Rattle.session_marks.proofs.Sample.{sample_are_tables}
+use Rattle.session_marks.proofs.SampleLemmas.{sample_are_tables}
 use Rattle.evidence_check.proofs.tests.checked.Goals as goal
 
 pub file_sets-requires-clause-tables : goal.file_sets-requires-clause-tables

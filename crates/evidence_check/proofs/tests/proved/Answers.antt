@@ -1,6 +1,6 @@
 use Rattle.brk_table.proofs.Together.{all_in}
 use Rattle.session_marks.specs.Sample.{sample_images, sample_tables}
-use Rattle.session_marks.proofs.Sample.{sample_are_tables}
+use Rattle.session_marks.proofs.SampleLemmas.{sample_are_tables}
 use Rattle.evidence_check.proofs.tests.proved.Goals as goal
 
 pub prove-answer-requires-clause-tables : goal.prove-answer-requires-clause-tables

@@ -1,7 +1,7 @@
 use Rattle.std.proofs.Common.{◌≡◌, List, sym, subst, rules}
 use Rattle.brk_table.specs.Places.{TableView, ArePlaces, all_places}
 use Rattle.session_marks.specs.Sample.{sample_tables}
-use Rattle.session_marks.proofs.Sample.{sample_are_places}
+use Rattle.session_marks.proofs.SampleLemmas.{sample_are_places}
 use Rattle.evidence_check.proofs.tests.tables.Goals as goal
 
 pub of-requires-clause-places : goal.of-requires-clause-places
