@@ -17,7 +17,7 @@ use std::thread::Threads;
 /// Whether the words run the job's tasks.
 fn runs(words: &[&str]) -> bool {
     match words.first() {
-        Some(word) => *word == "marks",
+        Some(word) => *word == "marks" || *word == "run",
         None => false,
     }
 }
