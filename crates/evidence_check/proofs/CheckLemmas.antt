@@ -1,17 +1,17 @@
 -- What the loops over claims keep.
-use Rattle.std.proofs.Common.{◌≡◌, ◌≢◌, ℕ, ◌+◌, ◌-◌, ◌<◌, ◌≤◌, zero, suc, Bool, true, false, if◌then◌else◌, Option, Some, None, List, [], ◌∷◌, ◌++◌, length, take, drop, get_or, min, ◌⊎◌, inl, inr, refl, sym, ◌∙◌, ap, subst, arith, length-take, length-drop}
+use Rattle.std.proofs.Common.{◌≡◌, ◌≢◌, ℕ, ◌+◌, ◌-◌, ◌<◌, ◌≤◌, Bool, true, false, Option, Some, None, List, [], ◌∷◌, ◌++◌, length, take, drop, get_or, min, ◌⊎◌, inl, inr, refl, sym, ◌∙◌, ap, subst, arith, length-take, length-drop}
 use Rattle.std.specs.Str.{bytes_eq}
 use Rattle.std.proofs.Math.ListN.{drop_of_length-le}
 use Rattle.std.proofs.lemmas.Bool.{cases_lt}
-use Rattle.std.proofs.lemmas.List.{drop-drop, at_drop_more, at_drop_all, get_or_default}
+use Rattle.std.proofs.lemmas.List.{drop-drop, at_drop_more, at_drop_all}
 use Rattle.std.proofs.lemmas.Slice.Eq.{bytes_eq-Decides}
 use Rattle.cov_base.specs.declared.facts.Fact.{Fact}
 use Rattle.cov_base.specs.declared.facts.Fact.TheVariants.{Ran, Went, Stayed}
-use Rattle.brk_table.specs.Places.{TablesView, all_places, first_place}
+use Rattle.brk_table.specs.Places.{TablesView, first_place}
 use Rattle.marks_file.specs.Marks.{MarkedView, place_count}
 use Rattle.marks_file.specs.declared.marks.MarkedPlace.{MarkedPlace}
 use Rattle.session_marks.specs.Filled.{AreThere}
-use Rattle.evidence_check.specs.Claims.{agrees, past, past_place, past_places, place_claims, places_claims, modules_claims, first_refuted}
+use Rattle.evidence_check.specs.Claims.{past, past_place, past_places, place_claims, places_claims, modules_claims, first_refuted}
 use Rattle.evidence_check.specs.Evidence.{entry_bytes}
 use Rattle.evidence_check.specs.declared.firsts.First.{First}
 use Rattle.evidence_check.proofs.ClaimLemmas.{refuted_none, refuted_some}

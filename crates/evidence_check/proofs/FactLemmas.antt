@@ -1,5 +1,5 @@
 -- A fact has a first visit exactly where it was shown.
-use Rattle.std.proofs.Common.{◌≡◌, ℕ, ◌+◌, Bool, true, false, ◌||◌, ◌&&◌, nat_eq, if◌then◌else◌, is_some, Option, Some, None, option_map, List, [], ◌∷◌, refl, sym, ◌∙◌, ap}
+use Rattle.std.proofs.Common.{◌≡◌, ℕ, ◌+◌, Bool, true, false, ◌||◌, nat_eq, is_some, Option, Some, None, option_map, List, [], ◌∷◌, refl, sym, ◌∙◌}
 use Rattle.std.specs.List.{find}
 use Rattle.std.specs.Option.{option_or}
 use Rattle.cov_base.specs.FactSet.{FactSet}

@@ -1,12 +1,11 @@
 -- The fields of evidence, entry by entry.
-use Rattle.std.proofs.Common.{◌≡◌, ℕ, ◌+◌, ◌-◌, ◌<◌, ◌≤◌, ◌^◌, zero, suc, Bool, true, false, ◌&&◌, nat_eq, nat_le, nat_lt, if◌then◌else◌, slice_index, Option, Some, None, List, [], ◌∷◌, ◌++◌, length, take, drop, refl, sym, ◌∙◌, ap, subst, arith, length-drop}
-use Rattle.std.specs.Str.{bytes_eq}
+use Rattle.std.proofs.Common.{◌≡◌, ℕ, ◌+◌, ◌-◌, ◌<◌, ◌≤◌, zero, suc, Bool, true, false, ◌&&◌, nat_eq, nat_le, nat_lt, if◌then◌else◌, slice_index, Some, None, List, ◌∷◌, ◌++◌, length, drop, refl, sym, ◌∙◌, ap, arith, length-drop}
 use Rattle.std.proofs.lemmas.Bool.Decides.{nat_tests}
-use Rattle.std.proofs.lemmas.List.{drop-drop, nil_from_length}
+use Rattle.std.proofs.lemmas.List.{drop-drop}
 use Rattle.byteorder.specs.Endian.{big_bytes, big_number}
 use Rattle.byteorder.specs.Numbers.{big_number-reads_back}
 use Rattle.cov_base.specs.declared.limits.TheConstants.{BUDGET_LIMIT}
-use Rattle.marks_file.specs.Reading.{Field, first_bad}
+use Rattle.marks_file.specs.Reading.{first_bad}
 use Rattle.marks_file.proofs.FieldLemmas.{first_none, first_some, none_left, none_right, all_good, test_of_le}
 use Rattle.marks_file.proofs.MarksLemmas.{both-left, both-right, le_of_test}
 use Rattle.marks_file.proofs.SpellLemmas.{lt_of_test}

@@ -1,10 +1,10 @@
 -- One instruction more of a run.
-use Rattle.std.proofs.Common.{◌≡◌, ℕ, ◌+◌, ◌-◌, ◌<◌, ◌≤◌, zero, suc, true, false, None, if◌then◌else◌, List, [], ◌∷◌, ◌++◌, length, refl, sym, ◌∙◌, ap, arith}
+use Rattle.std.proofs.Common.{◌≡◌, ℕ, ◌+◌, ◌-◌, ◌<◌, ◌≤◌, zero, suc, true, false, None, List, [], ◌++◌, refl, sym, ◌∙◌, ap, arith}
 use Rattle.cov_base.specs.Codes.{length_of}
 use Rattle.cov_base.specs.Memory.{Memory, half_at}
 use Rattle.cov_base.specs.States.{State, Visit}
 use Rattle.s370_state.specs.declared.endings.Ending.{Ending}
-use Rattle.s370_state.specs.declared.endings.Ending.TheVariants.{Returned, Spent}
+use Rattle.s370_state.specs.declared.endings.Ending.TheVariants.{Returned}
 use Rattle.s370_state.specs.declared.endings.Next.TheVariants.{On, Ended}
 use Rattle.s370_decode.specs.Fields.{first_half}
 use Rattle.s370_decode.specs.declared.code.Code.{Code}

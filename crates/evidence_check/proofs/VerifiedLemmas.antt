@@ -1,10 +1,9 @@
 -- Marks and evidence pass exactly where they are the session's.
-use Rattle.std.proofs.Common.{◌≡◌, ℕ, ◌+◌, ◌≤◌, Bool, true, false, if◌then◌else◌, Option, Some, None, List, [], ◌∷◌, ◌++◌, length, take, drop, refl, sym, ◌∙◌, ap, subst, arith, append-nil}
+use Rattle.std.proofs.Common.{◌≡◌, ℕ, ◌+◌, Bool, true, false, if◌then◌else◌, Option, Some, None, List, [], ◌++◌, length, take, drop, refl, sym, ◌∙◌, ap, subst, arith, append-nil}
 use Rattle.std.specs.List.{flat_map}
 use Rattle.std.specs.Str.{bytes_eq}
 use Rattle.std.proofs.lemmas.List.{take-append-drop, nil_from_length}
 use Rattle.std.proofs.lemmas.Slice.Eq.{bytes_eq-Decides}
-use Rattle.cov_base.specs.declared.facts.Fact.{Fact}
 use Rattle.brk_table.specs.Places.{TablesView}
 use Rattle.marks_file.specs.Marks.{MarkedView}
 use Rattle.marks_file.specs.Reading.{field, first_bad}
@@ -13,16 +12,15 @@ use Rattle.session_book.specs.JobView.{JobView, IsJob}
 use Rattle.session_book.specs.Sessions.{session_of}
 use Rattle.session_marks.specs.FromFile.{IsOwn}
 use Rattle.session_marks.specs.Marked.{session_marks}
-use Rattle.evidence_check.specs.Claims.{facts_of_modules, modules_claims, evidence_claims, first_refuted}
-use Rattle.evidence_check.specs.Evidence.{magic, module_entries, evidence}
+use Rattle.evidence_check.specs.Claims.{facts_of_modules, modules_claims, first_refuted}
+use Rattle.evidence_check.specs.Evidence.{magic, module_entries}
 use Rattle.evidence_check.specs.Fields.{entries_fields, evidence_fields}
 use Rattle.evidence_check.specs.Firsts.{session_first, session_facts}
 use Rattle.evidence_check.specs.Verified.{IsVerified, Passes}
-use Rattle.evidence_check.specs.declared.firsts.First.{First}
 use Rattle.evidence_check.proofs.ClaimLemmas.{AreOf, past_modules, modules_agreed, modules_skipped, modules_back}
 use Rattle.evidence_check.proofs.FactLemmas.{first_is_shown}
 use Rattle.evidence_check.proofs.FieldLemmas.{AreEntries, entries_read, entries_none, whole}
-use Rattle.evidence_check.proofs.VisitLemmas.{IsFirst, session_is_first}
+use Rattle.evidence_check.proofs.VisitLemmas.{session_is_first}
 
 went_on : (g : Bool) (at : ℕ) (x : Option ℕ) → (if g then x else Some at) ≡ None → (g ≡ true) × (x ≡ None)
 went_on true at x h = (refl, h)

@@ -1,5 +1,5 @@
 -- How many instructions were done before a visit, and what a first visit says.
-use Rattle.std.proofs.Common.{◌≡◌, ℕ, ◌+◌, ◌<◌, ◌≤◌, zero, suc, Bool, true, false, nat_eq, if◌then◌else◌, Option, Some, None, option_map, List, [], ◌∷◌, ◌++◌, length, get_or, ◌⊎◌, inl, inr, refl, sym, ◌∙◌, ap, arith}
+use Rattle.std.proofs.Common.{◌≡◌, ℕ, ◌+◌, ◌<◌, ◌≤◌, zero, suc, Bool, true, false, nat_eq, if◌then◌else◌, Option, Some, None, option_map, List, [], ◌∷◌, ◌++◌, length, ◌⊎◌, inl, inr, refl, arith}
 use Rattle.std.specs.List.{find}
 use Rattle.std.specs.Option.{option_or}
 use Rattle.std.proofs.lemmas.Bool.{cond_both}
@@ -18,7 +18,7 @@ use Rattle.s370_decode.specs.declared.code.Code.{Code}
 use Rattle.s370_branch.specs.Branch.{goes}
 use Rattle.s370_exec.specs.Effects.{effect, updated, link_code}
 use Rattle.s370_exec.specs.Fetch.{code_at, first_tests, rest_tests, subject_tests, is_execute}
-use Rattle.s370_exec.specs.Solo.{Step, Run, solo_step, from_first, fetched, begun_step, stepped, visit, behind, subject_step, subject_fetched, run_on, run_after, run_ended, solo_run, has_returned}
+use Rattle.s370_exec.specs.Solo.{Step, Run, solo_step, from_first, fetched, begun_step, stepped, visit, behind, subject_step, subject_fetched, run_on, run_after, run_ended, has_returned}
 use Rattle.s370_exec.proofs.TraceLemmas.{solo_step-done}
 use Rattle.module_area.specs.PlanView.{place_of}
 use Rattle.module_area.specs.declared.places.Place.{Place}

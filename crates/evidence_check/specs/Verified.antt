@@ -1,5 +1,5 @@
 -- What it means that marks and evidence are verified, and the faults.
-use Rattle.std.specs.Prelude.{◌≡◌, ℕ, Some, None, List, length, drop}
+use Rattle.std.specs.Prelude.{◌≡◌, ℕ, Some, None, List, length}
 use Rattle.brk_table.specs.Places.{TablesView}
 use Rattle.marks_file.specs.Marks.{MarkedView}
 use Rattle.marks_file.specs.Reading.{first_bad}

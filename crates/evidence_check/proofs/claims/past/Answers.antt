@@ -1,4 +1,4 @@
-use Rattle.std.proofs.Common.{◌≡◌, true, drop, rules, arith}
+use Rattle.std.proofs.Common.{drop, rules, arith}
 use Rattle.evidence_check.proofs.CheckLemmas.{past_of, short_past, whole_past}
 use Rattle.evidence_check.proofs.claims.past.Goals as goal
 

@@ -1,7 +1,6 @@
 use Rattle.std.proofs.Common.{◌≡◌, ℕ, ◌+◌, refl, sym, ◌∙◌, ap}
 use Rattle.s370_exec.specs.Solo.{state_of, solo_step}
 use Rattle.space_map.specs.Space.{memory_of_space}
-use Rattle.evidence_check.specs.Found.{Notes}
 use Rattle.evidence_check.specs.Seen.{step_made}
 use Rattle.evidence_check.proofs.RunLemmas.{LedTo-start, LedTo-more, noted-ended, noted-returned, noted-all}
 use Rattle.evidence_check.proofs.runs.run_task.Goals as goal

@@ -1,4 +1,4 @@
-use Rattle.std.proofs.Common.{◌≡◌, true, false, ap, sym, ◌∙◌}
+use Rattle.std.proofs.Common.{ap, sym, ◌∙◌}
 use Rattle.s370_decode.specs.Fields.{first_half}
 use Rattle.s370_exec.specs.Effects.{effect_of}
 use Rattle.s370_exec.specs.Fetch.{is_execute}

@@ -1,4 +1,4 @@
-use Rattle.std.proofs.Common.{◌≡◌, true, false, ap, sym, ◌∙◌}
+use Rattle.std.proofs.Common.{true, false, ap}
 use Rattle.s370_exec.specs.Effects.{effect_of}
 use Rattle.s370_exec.specs.Solo.{state_of, behind, visit}
 use Rattle.s370_exec.proofs.StepLemmas.{subject_step-refused, subject_step-unread, subject_step-begun}

@@ -1,6 +1,6 @@
-use Rattle.std.proofs.Common.{rules, ◌≡◌, ◌+◌, ◌≤◌, ◌∷◌, [], None, Some, length, All, ℕ, ◌<◌, arith}
+use Rattle.std.proofs.Common.{rules, [], length}
 use Rattle.std.proofs.lemmas.List.Elements.{All-cons, All-nil}
-use Rattle.session_book.specs.JobView.{IsJob, IsTask}
+use Rattle.session_book.specs.JobView.{IsTask}
 use Rattle.evidence_check.proofs.tests.job.Goals as goal
 
 pub invariant_of-result : goal.invariant_of-result

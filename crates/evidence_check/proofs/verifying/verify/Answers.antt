@@ -1,5 +1,5 @@
-use Rattle.std.proofs.Common.{◌≡◌, ℕ, Some, None, List, length, sym, ◌∙◌, ap, arith}
-use Rattle.marks_file.specs.Marks.{MarkedView, MarksView}
+use Rattle.std.proofs.Common.{◌≡◌, Some, length, sym, ◌∙◌, ap, arith}
+use Rattle.marks_file.specs.Marks.{MarksView}
 use Rattle.session_book.specs.JobView.{SessionView}
 use Rattle.evidence_check.specs.Claims.{facts_of_modules, first_refuted}
 use Rattle.evidence_check.proofs.CallLemmas.{own_there, found_claims, same_fields}
