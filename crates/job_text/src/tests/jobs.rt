@@ -540,6 +540,7 @@ fn tells_the_task_that_is_too_many(rt: HostRuntime) -> Result<(), Fail> {
         (b"PHASE R\nSESSION S BY U M\nENDJOB\n", 72, None),
     ];
     let mut module = joined(a, &[b"COVERJOB 1\nMODULE M 100000 2\nTEXT 07FE\n"])?;
+    assert!(rt; input.len() >= 11);
     module.extend_from_slice(&input[11..])?;
     for (card, line, what) in &calls {
         assert_eq!(rt; told_with(a, &module, *card)?, (*line, *what));
