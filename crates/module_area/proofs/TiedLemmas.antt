@@ -1,5 +1,5 @@
 -- The pass that is split for a task is tied to the task's first control.
-use Rattle.std.proofs.Common.{◌≡◌, ℕ, ◌+◌, ◌*◌, ◌<◌, Bool, true, false, ◌&&◌, ◌||◌, nat_eq, if◌then◌else◌, Option, Some, None, List, [], ◌∷◌, map, length, drop, get_or, All, AllPairs, sym, refl, ap, subst, ◌∙◌, arith}
+use Rattle.std.proofs.Common.{◌≡◌, ℕ, ◌+◌, ◌*◌, ◌<◌, Bool, true, false, ◌&&◌, ◌||◌, nat_eq, if◌then◌else◌, List, [], ◌∷◌, map, length, drop, get_or, All, AllPairs, sym, refl, ap, subst, ◌∙◌, arith}
 use Rattle.std.specs.List.{list_any, filter}
 use Rattle.std.proofs.lemmas.List.{get_or-map, length-map}
 use Rattle.std.proofs.lemmas.List.Kept.{AllPairs-filter}
@@ -8,8 +8,8 @@ use Rattle.cov_base.specs.declared.numbers.PlaceNo.{PlaceNo}
 use Rattle.cov_base.specs.declared.numbers.SessNo.{SessNo}
 use Rattle.module_area.specs.PlanView.{PlanView, ControlledView, IsPlan, IsControlled, AreApart, is_controller}
 use Rattle.module_area.specs.Notes.{Notes, split_notes}
-use Rattle.module_area.specs.Control.{number_of, sessions_of, first_control, places_under}
-use Rattle.module_area.specs.Tied.{has_session, keeps_session, IsTied}
+use Rattle.module_area.specs.Control.{ControlView, number_of, first_control, places_under}
+use Rattle.module_area.specs.Tied.{has_session, keeps_session_as, IsTied}
 
 abbrev by_task : ℕ → ControlledView → Bool
 by_task t c = nat_eq c.by t
@@ -61,4 +61,15 @@ first_tied plan n t ok none = record {
       let from : 0 < (get_or its i no_session).session = (All-filter (by_task t) (IsControlled plan) plan.controlled ok.controlled i no_session a.0).from in
       let e : (get_or (map number_of its) i s).0 ≡ (get_or its i no_session).session = ap (λ (s : SessNo). s.0) a.1 in
       λ j p lj. fresh_tag (is_controller plan t _) (n.last _) _ (omega arith) (none _);
+}
+
+-- the tie speaks of the pass's task and last tags alone
+pub tied_same : (plan : PlanView) (old new : Notes) (c : ControlView) → new.last ≡ old.last → new.bears ≡ old.bears → new.out ≡ old.out → IsTied plan old c → IsTied plan new c
+tied_same plan old new c last bears out tie = record {
+  keeps = λ s. tie.keeps s ∙ sym (λ i. keeps_session_as plan (bears i) (out i) s);
+  rising = tie.rising;
+  next = tie.next;
+  opened = tie.opened;
+  planted = λ s e. subst (λ (g : ℕ → ℕ). All (λ (p : PlaceNo). g p.0 + 1 ≡ 2 * s.0) (places_under plan s.0)) (sym last) (tie.planted s e);
+  later = subst (λ (g : ℕ → ℕ). All (λ (s : SessNo). All (λ (p : PlaceNo). g p.0 + 1 < 2 * s.0) (places_under plan s.0)) (drop c.next c.sessions)) (sym last) tie.later;
 }

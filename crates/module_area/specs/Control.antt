@@ -1,5 +1,5 @@
 -- A controller's sessions, and what opening the next one and closing the open one change.
-use Rattle.std.specs.Prelude.{ℕ, ◌+◌, ◌-◌, ◌*◌, nat_eq, if◌then◌else◌, Option, Some, None, List, [], ◌∷◌, map, length, slice_get}
+use Rattle.std.specs.Prelude.{ℕ, ◌+◌, ◌-◌, ◌*◌, ◌==◌, nat_eq, if◌then◌else◌, Option, Some, None, List, [], ◌∷◌, map, length, slice_get}
 use Rattle.std.specs.List.{filter}
 use Rattle.cov_base.specs.declared.numbers.PlaceNo.{PlaceNo}
 use Rattle.cov_base.specs.declared.numbers.SessNo.{SessNo}
@@ -69,3 +69,12 @@ after_open plan n (Some s) = after_plants n s.0 (places_under plan s.0)
 abbrev pub after_end : PlanView → Notes → Option SessNo → Notes
 after_end plan n None = n
 after_end plan n (Some s) = after_closes n s.0 (places_under plan s.0)
+
+-- the pass after a supervisor call, if the instruction was one: SVC 4 opens, SVC 5 closes, and no other changes a session
+abbrev pub after_call : PlanView → Notes → ControlView → Option ℕ → Notes
+after_call plan n c None = n
+after_call plan n c (Some k) = if k == 4 then after_open plan n (to_open c) else (if k == 5 then after_end plan n c.opened else n)
+
+abbrev pub control_after : ControlView → Option ℕ → ControlView
+control_after c None = c
+control_after c (Some k) = if k == 4 then opening c (to_open c) else (if k == 5 then closing c else c)

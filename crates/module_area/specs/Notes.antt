@@ -1,5 +1,5 @@
 -- What a pass has done and knows, and how each call changes it.
-use Rattle.std.specs.Prelude.{◌≡◌, ◌≢◌, ℕ, ◌+◌, ◌-◌, ◌*◌, ◌/◌, ◌%◌, ◌<◌, ◌≤◌, Bool, true, false, not, ◌&&◌, ◌||◌, if◌then◌else◌, nat_eq, nat_lt, Option, Some, None, List, [], ◌∷◌, ◌++◌, unwrap_or, max}
+use Rattle.std.specs.Prelude.{◌≡◌, ◌≢◌, ℕ, ◌+◌, ◌-◌, ◌*◌, ◌/◌, ◌%◌, ◌<◌, ◌≤◌, Bool, true, false, not, ◌&&◌, ◌||◌, if◌then◌else◌, nat_eq, nat_lt, Option, Some, None, is_some, List, [], ◌∷◌, ◌++◌, unwrap_or, max}
 use Rattle.std.specs.List.{list_any}
 use Rattle.cov_base.specs.declared.facts.Fact.{Fact}
 use Rattle.cov_base.specs.FactSet.{FactSet}
@@ -51,6 +51,10 @@ root_notes = record {
 
 abbrev pub calls : Notes → ℕ
 calls n = n.tally.plants + n.tally.fetches + n.tally.marks + n.tally.lifts + n.tally.closes
+
+-- the pass of a task, which alone fetches and marks
+abbrev pub is_working : Notes → Bool
+is_working n = is_some n.bears
 
 -- The sessions over the place are its own to plant and close. A task's pass works those that its task controls; the
 -- root those of windows, and those of the tasks whose passes aren't out.

@@ -3,7 +3,7 @@ ghost use Rattle.std.specs.Prelude.{◌≡◌, ℕ, ◌+◌, ◌-◌, ◌*◌, �
 ghost use Rattle.std.specs.declared.option.Option.TheVariants.{Some, None};
 ghost use Rattle.cov_base.specs.Facts.{is_of_kind};
 ghost use Rattle.module_area.specs.PlanView.{PlanView, kind_at, has_task, is_over, is_controlled};
-ghost use Rattle.module_area.specs.Notes.{Notes, calls, after_fetch, after_mark, after_lift, after_plant, after_close, after_split, split_notes, after_join, bearer, keeps, IsAnswer, IsFound};
+ghost use Rattle.module_area.specs.Notes.{Notes, calls, after_fetch, after_mark, after_lift, after_plant, after_close, after_split, split_notes, after_join, bearer, is_working, keeps, IsAnswer, IsFound};
 
 use crate::cells::Cell;
 use cov_base::{Bits, Fact, PlaceNo, SessNo, TaskNo};
@@ -23,10 +23,11 @@ pub trait Cells {
     /// What the pass has done and knows.
     ghost notes: { Self.Pass → Notes };
 
-    /// The cell as it stands: the original, or the breakpoint under an odd tag. Where the pass keeps the place, under
+    /// The cell as it stands, for the pass of a task: the original, or the breakpoint under an odd tag. Where the pass keeps the place, under
     /// its last tag there.
     fn fetch(&self, pass: &mut Self::Pass, place: PlaceNo) -> Cell
         requires area { is_pass self.now pass.old }
+        requires working { is_working (notes pass.old) ≡ true }
         requires place { place.0 < length (plan self.now).places }
         requires room { calls (notes pass.old) < 2 ^ 62 }
         ensures area { is_pass self.now pass.new }
@@ -37,6 +38,7 @@ pub trait Cells {
     /// and answers the set as it was.
     fn mark(&self, pass: &mut Self::Pass, s: SessNo, place: PlaceNo, fact: Fact) -> Bits
         requires area { is_pass self.now pass.old }
+        requires working { is_working (notes pass.old) ≡ true }
         requires place { place.0 < length (plan self.now).places }
         requires room { calls (notes pass.old) < 2 ^ 62 }
         requires session { 0 < s.0 }

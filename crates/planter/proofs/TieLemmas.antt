@@ -39,7 +39,7 @@ kept_at plan (Some t) out s h = let a = any_at (λ (c : ControlledView). nat_eq 
 kept_at plan None out s h = let a = any_at (λ (c : ControlledView). nat_eq c.session s && not (out c.by)) plan.controlled no_session h in let c : ControlledView = get_or plan.controlled a.0 no_session in
     (a.0, a.1, eqb-true _ _ (and_left _ _ a.2), λ p has. or_right (nat_lt 0 (window_at plan p)) _ (any_shown (λ (c : ControlledView). not (out c.by) && has_place c.places p) plan.controlled no_session a.0 a.1 (and_both (not (out c.by)) (has_place c.places p) (and_right (nat_eq c.session s) _ a.2) has)))
 
-has_here : (places : List PlaceNo) (k : ℕ) (d : PlaceNo) → k < length places → has_place places (get_or places k d).0 ≡ true
+pub has_here : (places : List PlaceNo) (k : ℕ) (d : PlaceNo) → k < length places → has_place places (get_or places k d).0 ≡ true
 has_here places k d l = any_shown (λ (q : PlaceNo). nat_eq q.0 (get_or places k d).0) places d k l (eq-eqb (get_or places k d).0 (get_or places k d).0 refl)
 
 place_above : (places : List PlaceNo) (d : PlaceNo) (i : ℕ) → AllPairs (λ (p q : PlaceNo). p.0 < q.0) places → i < length places → i ≤ (get_or places i d).0
@@ -152,7 +152,7 @@ opens_next None next s e = (refl, e)
 opens_next (Some t) next s e = absurd cc
 
 module _ (plan : PlanView) (n : Notes) (c : ControlView) (tie : IsTied plan n c) (s : SessNo) (to : to_open c ≡ Some s) where
-  next_at : (c.opened ≡ None) × (c.next < length c.sessions) × (get_or c.sessions c.next s ≡ s)
+  pub next_at : (c.opened ≡ None) × (c.next < length c.sessions) × (get_or c.sessions c.next s ≡ s)
   next_at = let a = opens_next c.opened (slice_get c.sessions c.next) s to in (a.0, slice_get_within c.sessions c.next s a.1, get_or_from_slice_get c.sessions c.next s s a.1)
 
   pub next_kept : keeps_session plan n s.0 ≡ true

@@ -4,7 +4,7 @@ ghost use Rattle.std.specs.declared.option.Option.TheVariants.{Some, None};
 ghost use Rattle.cov_base.specs.declared.facts.Kind.TheVariants.{Straight};
 ghost use Rattle.module_area.specs.PlanView.{kind_at, has_task};
 ghost use Rattle.shared_area.specs.Late.{IsTwice};
-ghost use Rattle.module_area.specs.Notes.{calls};
+ghost use Rattle.module_area.specs.Notes.{calls, is_working};
 
 use crate::SharedAreas;
 use cov_base::{Addr, Fact, Kind, NoMemory, PlaceNo, SessNo, TaskNo};
@@ -60,6 +60,7 @@ fn with_sessions(alloc: Global, plan: Plan) -> Result<Plan, NoMemory>
 pub(crate) fn traps<C: Cells>(cells: &C, pass: &mut C::Pass, place: PlaceNo, tag: u32) -> bool
     requires area { C.is_pass cells.now pass.old }
     requires room { calls (C.notes pass.old) < 2 ^ 60 }
+    requires working { is_working (C.notes pass.old) ≡ true }
     requires place { place.0 < length (C.plan cells.now).places }
     ensures area { C.is_pass cells.now pass.new }
     ensures pending { result ≡ true → (C.notes pass.new).pending ≡ Some (place.0, tag) }
@@ -79,6 +80,7 @@ pub(crate) fn marks<C: Cells>(
 ) -> Option<bool>
     requires area { C.is_pass cells.now pass.old }
     requires room { calls (C.notes pass.old) < 2 ^ 61 }
+    requires working { is_working (C.notes pass.old) ≡ true }
     requires place { (place.0 < length (C.plan cells.now).places) × (kind_at (C.plan cells.now) place.0 ≡ Straight) }
     requires session { 0 < s.0 }
     requires pending { (C.notes pass.old).pending ≡ Some (place.0, 2 * s.0 - 1) }
@@ -124,6 +126,7 @@ fn marks_late<C: Cells>(
 ) -> Option<Late>
     requires area { C.is_pass cells.now control.old × C.is_pass cells.now pass.old }
     requires room { (calls (C.notes control.old) < 2 ^ 8) × (calls (C.notes pass.old) < 2 ^ 8) }
+    requires working { is_working (C.notes pass.old) ≡ true }
     requires place { (0 < length (C.plan cells.now).places) × (kind_at (C.plan cells.now) 0 ≡ Straight) × IsTwice (C.plan cells.now) 0 }
     requires bears { (C.notes control.old).bears ≡ Some 1 }
     requires first { (C.notes control.old).last 0 ≡ 0 }
@@ -150,6 +153,7 @@ fn lifts_late<C: Cells>(
 ) -> Option<Late>
     requires area { C.is_pass cells.now control.old × C.is_pass cells.now pass.old }
     requires room { (calls (C.notes control.old) < 2 ^ 8) × (calls (C.notes pass.old) < 2 ^ 8) }
+    requires working { is_working (C.notes pass.old) ≡ true }
     requires place { (0 < length (C.plan cells.now).places) × (kind_at (C.plan cells.now) 0 ≡ Straight) × IsTwice (C.plan cells.now) 0 }
     requires bears { (C.notes control.old).bears ≡ Some 1 }
     requires first { (C.notes control.old).last 0 ≡ 0 }
@@ -176,6 +180,7 @@ fn two_late<C: Cells>(
 ) -> Option<(Late, Late)>
     requires area { C.is_pass cells.now control.old × C.is_pass cells.now pass.old × C.is_pass cells.now other.old }
     requires room { (calls (C.notes control.old) < 2 ^ 8) × (calls (C.notes pass.old) < 2 ^ 8) × (calls (C.notes other.old) < 2 ^ 8) }
+    requires working { (is_working (C.notes pass.old) ≡ true) × (is_working (C.notes other.old) ≡ true) }
     requires place { (0 < length (C.plan cells.now).places) × (kind_at (C.plan cells.now) 0 ≡ Straight) × IsTwice (C.plan cells.now) 0 }
     requires bears { (C.notes control.old).bears ≡ Some 1 }
     requires first { (C.notes control.old).last 0 ≡ 0 }
@@ -217,6 +222,7 @@ fn in_order<C: Cells>(
 ) -> Option<Late>
     requires area { C.is_pass cells.now control.old × C.is_pass cells.now pass.old }
     requires room { (calls (C.notes control.old) < 2 ^ 8) × (calls (C.notes pass.old) < 2 ^ 8) }
+    requires working { is_working (C.notes pass.old) ≡ true }
     requires place { (0 < length (C.plan cells.now).places) × (kind_at (C.plan cells.now) 0 ≡ Straight) × IsTwice (C.plan cells.now) 0 }
     requires bears { (C.notes control.old).bears ≡ Some 1 }
     requires first { (C.notes control.old).last 0 ≡ 0 }

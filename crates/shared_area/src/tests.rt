@@ -6,7 +6,7 @@ ghost use Rattle.cov_base.specs.declared.facts.Fact.TheVariants.{Went, Stayed};
 ghost use Rattle.cov_base.specs.declared.facts.Kind.TheVariants.{Straight, Conditional};
 ghost use Rattle.cov_base.specs.Facts.{is_of_kind};
 ghost use Rattle.module_area.specs.PlanView.{kind_at, window_at, has_task};
-ghost use Rattle.module_area.specs.Notes.{calls};
+ghost use Rattle.module_area.specs.Notes.{calls, is_working};
 ghost use Rattle.shared_area.specs.Passes.{notes_of, IsPassOf};
 
 use crate::{SharedAreas, SharedCells, SharedPass};
@@ -29,6 +29,7 @@ fn visit<C: Cells>(
     requires area { C.is_pass cells.now pass.old }
     requires plan { C.plan cells.now ≡ plan.now }
     requires room { calls (C.notes pass.old) < 2 ^ 60 }
+    requires working { is_working (C.notes pass.old) ≡ true }
     requires place { place.0 < length plan.now.places }
     requires kind { is_of_kind (kind_at plan.now place.0) fact ≡ true }
     ensures area { C.is_pass cells.now pass.new }
@@ -52,6 +53,7 @@ fn visited<C: Cells>(cells: &C, pass: C::Pass, plan: &Plan, place: PlaceNo, fact
     requires area { C.is_pass cells.now pass }
     requires plan { C.plan cells.now ≡ plan.now }
     requires room { calls (C.notes pass) < 2 ^ 60 }
+    requires working { is_working (C.notes pass) ≡ true }
     requires place { place.0 < length plan.now.places }
     requires kind { is_of_kind (kind_at plan.now place.0) fact ≡ true }
     ensures area { C.is_pass cells.now result }
@@ -126,10 +128,10 @@ where
     let (first, second) = thread::join(
         rt,
         move ||
-            requires { A.C.is_pass shared.now first × (A.C.plan shared.now ≡ plan.now) × (calls (A.C.notes first) < 2 ^ 60) × (0 < length plan.now.places) × (is_of_kind (kind_at plan.now 0) Went ≡ true) }
+            requires { A.C.is_pass shared.now first × (A.C.plan shared.now ≡ plan.now) × (calls (A.C.notes first) < 2 ^ 60) × (is_working (A.C.notes first) ≡ true) × (0 < length plan.now.places) × (is_of_kind (kind_at plan.now 0) Went ≡ true) }
         { visited(shared, first, plan, PlaceNo(0), Fact::Went) },
         move ||
-            requires { A.C.is_pass shared.now second × (A.C.plan shared.now ≡ plan.now) × (calls (A.C.notes second) < 2 ^ 60) × (0 < length plan.now.places) × (is_of_kind (kind_at plan.now 0) Stayed ≡ true) }
+            requires { A.C.is_pass shared.now second × (A.C.plan shared.now ≡ plan.now) × (calls (A.C.notes second) < 2 ^ 60) × (is_working (A.C.notes second) ≡ true) × (0 < length plan.now.places) × (is_of_kind (kind_at plan.now 0) Stayed ≡ true) }
         { visited(shared, second, plan, PlaceNo(0), Fact::Stayed) },
     );
     cells.join(&mut root, first);
@@ -149,10 +151,12 @@ fn shown(set: Bits) -> Shown {
 fn is_trapped(cells: &SharedCells, pass: &mut SharedPass) -> bool
     requires area { IsPassOf cells.now pass.old }
     requires room { calls (notes_of pass.old) < 2 ^ 60 }
+    requires working { is_working (notes_of pass.old) ≡ true }
     requires place { 0 < length cells.now.plan.places }
     ensures area { IsPassOf cells.now pass.new }
     ensures pending { result ≡ true → (notes_of pass.new).pending ≡ Some (0, 1) }
     ensures room { calls (notes_of pass.new) ≤ calls (notes_of pass.old) + 1 }
+    ensures bears { (notes_of pass.new).bears ≡ (notes_of pass.old).bears }
 {
     let cell = cells.fetch(pass, PlaceNo(0));
     cell.tag == 1 && cell.half == 0x0AFF
@@ -164,6 +168,7 @@ fn raced(cells: &SharedCells, pass: SharedPass, other: &mut SharedPass) -> Optio
     requires area { IsPassOf cells.now pass }
     requires other { IsPassOf cells.now other.old }
     requires room { calls (notes_of other.old) < 2 ^ 60 }
+    requires working { is_working (notes_of other.old) ≡ true }
     requires branch { (0 < length cells.now.plan.places) × (kind_at cells.now.plan 0 ≡ Conditional) × (1 ≤ cells.now.plan.sessions) }
     requires pending { ((notes_of pass).pending ≡ Some (0, 1)) × ((notes_of other.old).pending ≡ Some (0, 1)) }
 {
@@ -187,8 +192,8 @@ fn looked(cells: &SharedCells, pass: SharedPass) -> Shown
     shown(cells.look::<Brand>(&mut seat, SessNo(1), PlaceNo(0), Fact::Went))
 }
 
-/// An area in which the branch is planted, its root, and the passes of tasks 0 and 1.
-fn two_passes<A: Areas>(
+/// An area in which the branch is planted, and the passes of tasks 0, 1 and 2.
+fn three_passes<A: Areas>(
     alloc: Global,
     areas: &mut A,
     plan: &Plan,
@@ -203,37 +208,38 @@ fn two_passes<A: Areas>(
 >
     requires room { A.made areas.old < 2 ^ 62 }
     requires branch { (0 < length plan.now.places) × (window_at plan.now 0 ≡ 1) }
-    requires tasks { (has_task plan.now.tasks 0 ≡ true) × (has_task plan.now.tasks 1 ≡ true) }
+    requires tasks { (has_task plan.now.tasks 0 ≡ true) × (has_task plan.now.tasks 1 ≡ true) × (has_task plan.now.tasks 2 ≡ true) }
     ensures plan { IfOk result (λ a. A.C.plan a.0 ≡ plan.now) }
-    ensures root { IfOk result (λ a. A.C.is_pass a.0 a.1 × (calls (A.C.notes a.1) < 2 ^ 8)) }
-    ensures first { IfOk result (λ a. A.C.is_pass a.0 a.2 × (calls (A.C.notes a.2) < 2 ^ 8)) }
-    ensures second { IfOk result (λ a. A.C.is_pass a.0 a.3 × (calls (A.C.notes a.3) < 2 ^ 8)) }
+    ensures first { IfOk result (λ a. A.C.is_pass a.0 a.1 × (calls (A.C.notes a.1) < 2 ^ 8) × (is_working (A.C.notes a.1) ≡ true)) }
+    ensures second { IfOk result (λ a. A.C.is_pass a.0 a.2 × (calls (A.C.notes a.2) < 2 ^ 8) × (is_working (A.C.notes a.2) ≡ true)) }
+    ensures third { IfOk result (λ a. A.C.is_pass a.0 a.3 × (calls (A.C.notes a.3) < 2 ^ 8) × (is_working (A.C.notes a.3) ≡ true)) }
 {
     let (cells, mut root) = areas.make(alloc, plan)?;
     cells.plant(&mut root, SessNo(1), PlaceNo(0));
     let first = cells.split(&mut root, TaskNo(0));
     let second = cells.split(&mut root, TaskNo(1));
-    Ok((cells, root, first, second))
+    let third = cells.split(&mut root, TaskNo(2));
+    Ok((cells, first, second, third))
 }
 
-/// What the steps of two passes find in turn, and then a look of the root; none where no breakpoint stands.
+/// What the steps of two passes find in turn, and then a look of the third; none where no breakpoint stands.
 fn step_by_step(alloc: Global, plan: &Plan) -> Result<Option<([Shown; 3], Shown)>, NoMemory>
     requires branch { (0 < length plan.now.places) × (kind_at plan.now 0 ≡ Conditional) × (window_at plan.now 0 ≡ 1) }
-    requires tasks { (has_task plan.now.tasks 0 ≡ true) × (has_task plan.now.tasks 1 ≡ true) }
+    requires tasks { (has_task plan.now.tasks 0 ≡ true) × (has_task plan.now.tasks 1 ≡ true) × (has_task plan.now.tasks 2 ≡ true) }
     requires sessions { 1 ≤ plan.now.sessions }
 {
     let mut areas = SharedAreas::new(alloc, 1)?;
-    let (cells, mut root, mut first, mut second) = two_passes(alloc, &mut areas, plan)?;
+    let (cells, mut first, mut second, mut third) = three_passes(alloc, &mut areas, plan)?;
     if !is_trapped(&cells, &mut first)
         || !is_trapped(&cells, &mut second)
-        || !is_trapped(&cells, &mut root)
+        || !is_trapped(&cells, &mut third)
     {
         return Ok(None);
     }
     let Some(three) = raced(&cells, first, &mut second) else {
         return Ok(None);
     };
-    Ok(Some((three, looked(&cells, root))))
+    Ok(Some((three, looked(&cells, third))))
 }
 
 /// An area in which nothing is done, and how many sets it ends with.
@@ -245,12 +251,12 @@ fn nothing_done<A: Areas>(alloc: Global, areas: &mut A, plan: &Plan) -> Result<u
     Ok(finals.sets.len())
 }
 
-/// A branch on count and a return, under session 1 both, and tasks 0 and 1.
+/// A branch on count and a return, under session 1 both, and tasks 0, 1 and 2.
 fn branch_and_return(alloc: Global) -> Result<Plan, Fail>
     ensures places { IfOk result (λ p. 2 ≤ length p.places) }
     ensures branch { IfOk result (λ p. (kind_at p 0 ≡ Conditional) × (window_at p 0 ≡ 1)) }
     ensures back { IfOk result (λ p. (kind_at p 1 ≡ Straight) × (window_at p 1 ≡ 1)) }
-    ensures tasks { IfOk result (λ p. (has_task p.tasks 0 ≡ true) × (has_task p.tasks 1 ≡ true)) }
+    ensures tasks { IfOk result (λ p. (has_task p.tasks 0 ≡ true) × (has_task p.tasks 1 ≡ true) × (has_task p.tasks 2 ≡ true)) }
     ensures sessions { IfOk result (λ p. p.sessions ≡ 1) }
 {
     let branch = Place {
@@ -269,7 +275,7 @@ fn branch_and_return(alloc: Global) -> Result<Plan, Fail>
     };
     let places = vec![in alloc; branch, back]?;
     let windows = vec![in alloc; 1, 1]?;
-    let tasks = vec![in alloc; TaskNo(0), TaskNo(1)]?;
+    let tasks = vec![in alloc; TaskNo(0), TaskNo(1), TaskNo(2)]?;
     let plan = Plan::checked(alloc, places, windows, tasks, 1).ok_or("no plan")?;
     Ok(plan)
 }

@@ -4,7 +4,7 @@ ghost use Rattle.std.specs.declared.option.Option.TheVariants.{Some};
 ghost use Rattle.cov_base.specs.declared.facts.Kind.TheVariants.{Straight};
 ghost use Rattle.module_area.specs.PlanView.{kind_at, has_task, is_controlled, is_over};
 ghost use Rattle.shared_area.specs.Late.{IsTwice};
-ghost use Rattle.module_area.specs.Notes.{calls, keeps};
+ghost use Rattle.module_area.specs.Notes.{calls, is_working, keeps};
 
 use crate::SharedAreas;
 use crate::late::{Late, marks, three_instructions, traps};
@@ -60,6 +60,7 @@ fn through_two_sessions<C: Cells>(
 ) -> Option<Late>
     requires area { C.is_pass cells.now control.old × C.is_pass cells.now pass.old }
     requires room { (calls (C.notes control.old) < 2 ^ 8) × (calls (C.notes pass.old) < 2 ^ 8) }
+    requires working { is_working (C.notes pass.old) ≡ true }
     requires places { (2 < length (C.plan cells.now).places) × (kind_at (C.plan cells.now) 0 ≡ Straight) }
     requires over { IsTwice (C.plan cells.now) 0 × IsTwice (C.plan cells.now) 1 × IsTwice (C.plan cells.now) 2 }
     requires bears { (C.notes control.old).bears ≡ Some 1 }
@@ -84,6 +85,7 @@ fn through_two_sessions<C: Cells>(
 fn visits<C: Cells>(cells: &C, pass: &mut C::Pass, place: PlaceNo) -> Option<(bool, bool)>
     requires area { C.is_pass cells.now pass.old }
     requires room { calls (C.notes pass.old) < 2 ^ 60 }
+    requires working { is_working (C.notes pass.old) ≡ true }
     requires place { (place.0 < length (C.plan cells.now).places) × (kind_at (C.plan cells.now) place.0 ≡ Straight) }
     ensures area { C.is_pass cells.now pass.new }
     ensures room { calls (C.notes pass.new) ≤ calls (C.notes pass.old) + 3 }
@@ -103,6 +105,7 @@ type Course = (Late, (bool, bool), (bool, bool));
 fn to_the_end<C: Cells>(cells: &C, control: &mut C::Pass, pass: &mut C::Pass) -> Option<Course>
     requires area { C.is_pass cells.now control.old × C.is_pass cells.now pass.old }
     requires room { (calls (C.notes control.old) < 2 ^ 8) × (calls (C.notes pass.old) < 2 ^ 8) }
+    requires working { is_working (C.notes pass.old) ≡ true }
     requires places { 2 < length (C.plan cells.now).places }
     requires kinds { (kind_at (C.plan cells.now) 0 ≡ Straight) × (kind_at (C.plan cells.now) 1 ≡ Straight) × (kind_at (C.plan cells.now) 2 ≡ Straight) }
     requires over { IsTwice (C.plan cells.now) 0 × IsTwice (C.plan cells.now) 1 × IsTwice (C.plan cells.now) 2 }

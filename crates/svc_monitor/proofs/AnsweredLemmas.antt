@@ -1,5 +1,5 @@
 -- The pairs of one visit, and of visits one after the other.
-use Rattle.std.proofs.Common.{◌≡◌, ◌≢◌, ℕ, ◌+◌, ◌*◌, ◌/◌, Bool, true, false, ◌&&◌, ◌||◌, if◌then◌else◌, nat_eq, List, [], ◌∷◌, ◌++◌, inl, inr, refl, sym, ◌∙◌, ap, subst, arith}
+use Rattle.std.proofs.Common.{◌≡◌, ◌≢◌, ℕ, ◌+◌, ◌*◌, ◌/◌, ◌≤◌, Bool, true, false, ◌&&◌, ◌||◌, if◌then◌else◌, nat_eq, Option, None, List, [], ◌∷◌, ◌++◌, inl, inr, refl, sym, ◌∙◌, ap, subst, arith}
 use Rattle.std.proofs.lemmas.Bool.{or_cases, or_left, or_right, and_parts, and_from, eqb-true, eq-eqb, both_ways}
 use Rattle.std.proofs.lemmas.List.{append_assoc, append-nil}
 use Rattle.cov_base.specs.Codes.{breakpoint}
@@ -10,14 +10,31 @@ use Rattle.module_area.specs.declared.cells.Cell.{Cell}
 use Rattle.module_area.specs.declared.places.Place.{Place}
 use Rattle.module_area.specs.PlanView.{PlanView, kind_at, original_at}
 use Rattle.module_area.specs.Notes.{Notes, after_fetch, is_free_under, keeps_as, IsAnswer}
+use Rattle.module_area.specs.Control.{ControlView}
+use Rattle.module_area.specs.Parties.{Has}
 use Rattle.module_area.specs.Executions.{is_place}
 use Rattle.module_area.proofs.FactLemmas.{same_fact-true}
 use Rattle.brk_table.proofs.PlaceLemmas.{is_place-there}
 use Rattle.svc_monitor.specs.First.{BeginsAt}
 use Rattle.svc_monitor.specs.Settled.{Settles}
-use Rattle.svc_monitor.specs.Answered.{at_places, ArePairs, is_under, facts_under, Makes}
-use Rattle.svc_monitor.proofs.NotesLemmas.{Adds, Adds-settled, all_three, three_from}
+use Rattle.svc_monitor.specs.Observed.{Grows}
+use Rattle.svc_monitor.specs.Answered.{at_places, ArePairs, is_under, facts_under, LeavesSessions, Answered, Makes, Turns}
+use Rattle.svc_monitor.proofs.NotesLemmas.{Adds, Adds-settled, seen_fetched, all_three, three_from}
 use Rattle.svc_monitor.proofs.ObservedLemmas.{has_fact-more, has_fact-none, or_apart, same_fact-self, shown_later, Observes-none, Observes-plain, Observes-kept, Observes-settled, Observes-append}
+
+-- what is planted and closed stays
+
+LeavesSessions-same : (n : Notes) → LeavesSessions n n
+LeavesSessions-same n = record { seen = λ p. omega arith; last = refl; plants = refl; closes = refl }
+
+LeavesSessions-trans : (a b c : Notes) → LeavesSessions a b → LeavesSessions b c → LeavesSessions a c
+LeavesSessions-trans a b c g h = record { seen = λ p. omega (arith, g.seen p, h.seen p); last = h.last ∙ g.last; plants = h.plants ∙ g.plants; closes = h.closes ∙ g.closes }
+
+LeavesSessions-fetched : (plan : PlanView) (n : Notes) (q : ℕ) (cell : Cell) → n.seen q ≤ cell.tag → LeavesSessions n (after_fetch plan n q cell)
+LeavesSessions-fetched plan n q cell h = record { seen = λ p. seen_fetched n.seen q p cell.tag h; last = refl; plants = refl; closes = refl }
+
+LeavesSessions-added : (old new : Notes) (s p : ℕ) (f : Fact) → Adds old new s p f → LeavesSessions old new
+LeavesSessions-added old new s p f adds = record { seen = λ q. omega (arith, adds.seen q); last = adds.last; plants = adds.plants; closes = adds.closes }
 
 one_more : (l m n : List Visit) (b : Bool) (v : Visit) → l ≡ m ++ n → (if b then v ∷ l else l) ≡ (if b then v ∷ m else m) ++ n
 one_more l m n true v e = ap (λ (k : List Visit). v ∷ k) e
@@ -33,35 +50,36 @@ only_there plan v q b = rw (is_place-there plan.places q v.at b.exists b.begins)
 none_there : (plan : PlanView) (v : Visit) → is_place plan.places v.at ≡ false → at_places plan.places (v ∷ []) ≡ []
 none_there plan v none = rw none refl
 
-ArePairs-append : (plan : PlanView) (old : Notes) (xs ys : List (ℕ × Cell)) (vs ws : List Visit) → ArePairs plan old xs vs → ArePairs plan old ys ws → ArePairs plan old (xs ++ ys) (vs ++ ws)
-ArePairs-append plan old [] ys [] ws a b = b
-ArePairs-append plan old [] ys (v ∷ vs) ws a b = absurd a
-ArePairs-append plan old (x ∷ xs) ys [] ws a b = absurd a
-ArePairs-append plan old (x ∷ xs) ys (v ∷ vs) ws a b = (a.0, ArePairs-append plan old xs ys vs ws a.1 b)
+ArePairs-append : (plan : PlanView) (old : Notes) (last : ℕ → ℕ → ℕ) (xs ys : List (ℕ × Cell)) (vs ws : List Visit) → ArePairs plan old last xs vs → ArePairs plan old last ys ws → ArePairs plan old last (xs ++ ys) (vs ++ ws)
+ArePairs-append plan old last [] ys [] ws a b = b
+ArePairs-append plan old last [] ys (v ∷ vs) ws a b = absurd a
+ArePairs-append plan old last (x ∷ xs) ys [] ws a b = absurd a
+ArePairs-append plan old last (x ∷ xs) ys (v ∷ vs) ws a b = (a.0, ArePairs-append plan old last xs ys vs ws a.1 b)
 
--- by notes that keep the same and have the same last tags
-ArePairs-same : (plan : PlanView) (old mid : Notes) (xs : List (ℕ × Cell)) (vs : List Visit) → mid.last ≡ old.last → mid.bears ≡ old.bears → mid.out ≡ old.out → ArePairs plan mid xs vs → ArePairs plan old xs vs
-ArePairs-same plan old mid [] [] l b o a = tt
-ArePairs-same plan old mid [] (v ∷ vs) l b o a = absurd a
-ArePairs-same plan old mid (x ∷ xs) [] l b o a = absurd a
-ArePairs-same plan old mid (x ∷ xs) (v ∷ vs) l b o a = (
+-- by notes that keep the same, and tags that are the same at these visits
+ArePairs-same : (plan : PlanView) (old mid : Notes) (last next : ℕ → ℕ → ℕ) (xs : List (ℕ × Cell)) (vs : List Visit) → ((v : Visit) → Has v vs → (p : ℕ) → next v.before p ≡ last v.before p) →
+    mid.bears ≡ old.bears → mid.out ≡ old.out → ArePairs plan mid next xs vs → ArePairs plan old last xs vs
+ArePairs-same plan old mid last next [] [] l b o a = tt
+ArePairs-same plan old mid last next [] (v ∷ vs) l b o a = absurd a
+ArePairs-same plan old mid last next (x ∷ xs) [] l b o a = absurd a
+ArePairs-same plan old mid last next (x ∷ xs) (v ∷ vs) l b o a = (
   record {
     begins = a.0.begins;
-    kept = λ k. a.0.kept ((λ i. keeps_as plan (b i) (o i) x.0) ∙ k) ∙ ap (λ (g : ℕ → ℕ). g x.0) l;
+    kept = λ k. a.0.kept ((λ i. keeps_as plan (b i) (o i) x.0) ∙ k) ∙ l v (inl refl) x.0;
   },
-  ArePairs-same plan old mid xs vs l b o a.1,
+  ArePairs-same plan old mid last next xs vs (λ w there. l w (inr there)) b o a.1,
 )
 
-facts_under-append : (plan : PlanView) (old : Notes) (s p : ℕ) (f : Fact) (xs ys : List (ℕ × Cell)) (vs ws : List Visit) → ArePairs plan old xs vs →
+facts_under-append : (plan : PlanView) (old : Notes) (last : ℕ → ℕ → ℕ) (s p : ℕ) (f : Fact) (xs ys : List (ℕ × Cell)) (vs ws : List Visit) → ArePairs plan old last xs vs →
     has_fact (facts_under plan s p (xs ++ ys) (vs ++ ws)) f ≡ (has_fact (facts_under plan s p xs vs) f || has_fact (facts_under plan s p ys ws) f)
-facts_under-append plan old s p f [] ys [] ws a = ap (λ b. b || has_fact (facts_under plan s p ys ws) f) (sym (has_fact-none f))
-facts_under-append plan old s p f [] ys (v ∷ vs) ws a = absurd a
-facts_under-append plan old s p f (x ∷ xs) ys [] ws a = absurd a
-facts_under-append plan old s p f (x ∷ xs) ys (v ∷ vs) ws a =
+facts_under-append plan old last s p f [] ys [] ws a = ap (λ b. b || has_fact (facts_under plan s p ys ws) f) (sym (has_fact-none f))
+facts_under-append plan old last s p f [] ys (v ∷ vs) ws a = absurd a
+facts_under-append plan old last s p f (x ∷ xs) ys [] ws a = absurd a
+facts_under-append plan old last s p f (x ∷ xs) ys (v ∷ vs) ws a =
     let g : Fact = fact_of (kind_at plan p) v.went in
     let here : Bool = is_under s p x v && same_fact f g in
     has_fact-more (is_under s p x v) g f (facts_under plan s p (xs ++ ys) (vs ++ ws))
-    ∙ ap (λ b. here || b) (facts_under-append plan old s p f xs ys vs ws a.1)
+    ∙ ap (λ b. here || b) (facts_under-append plan old last s p f xs ys vs ws a.1)
     ∙ or_apart here (has_fact (facts_under plan s p xs vs) f) (has_fact (facts_under plan s p ys ws) f)
     ∙ ap (λ b. b || has_fact (facts_under plan s p ys ws) f) (sym (has_fact-more (is_under s p x v) g f (facts_under plan s p xs vs)))
 
@@ -89,23 +107,10 @@ under_one plan s p x v place tag begun =
     has_fact-more (is_under s p x v) g g no_facts ∙ or_left (is_under s p x v && same_fact g g) (has_fact no_facts g) (and_from (is_under s p x v) (same_fact g g) there (same_fact-self g))
 
 -- the pair of one visit
-own_pair : (plan : PlanView) (old : Notes) (q : ℕ) (cell : Cell) (v : Visit) → BeginsAt plan.places v.at q → IsAnswer plan old q cell → ArePairs plan old ((q, cell) ∷ []) (at_places plan.places (v ∷ []))
-own_pair plan old q cell v b a = subst (ArePairs plan old ((q, cell) ∷ [])) (sym (only_there plan v q b)) (record { begins = b; kept = a.kept }, tt)
+own_pair : (plan : PlanView) (old : Notes) (q : ℕ) (cell : Cell) (v : Visit) → BeginsAt plan.places v.at q → IsAnswer plan old q cell → ArePairs plan old (λ before. old.last) ((q, cell) ∷ []) (at_places plan.places (v ∷ []))
+own_pair plan old q cell v b a = subst (ArePairs plan old (λ before. old.last) ((q, cell) ∷ [])) (sym (only_there plan v q b)) (record { begins = b; kept = a.kept }, tt)
 
--- no visit, and one at no place
-
-pub Makes-none : (plan : PlanView) (n : Notes) → Makes plan n n []
-Makes-none plan n = record {
-  observes = Observes-none plan n;
-  answered = record {
-    pairs = [];
-    appended = sym (append-nil n.answered);
-    each = tt;
-    shown = λ s p f h. absurd (both_ways (has_fact no_facts f) (has_fact-none f) h);
-    nothing_else = λ s p f m. inl m;
-    last = refl;
-  };
-}
+-- one visit at no place
 
 pub Makes-plain : (plan : PlanView) (n : Notes) (v : Visit) → is_place plan.places v.at ≡ false → Makes plan n n (v ∷ [])
 Makes-plain plan n v none = record {
@@ -113,11 +118,11 @@ Makes-plain plan n v none = record {
   answered = record {
     pairs = [];
     appended = sym (append-nil n.answered);
-    each = subst (ArePairs plan n []) (sym (none_there plan v none)) tt;
+    each = subst (ArePairs plan n (λ before. n.last) []) (sym (none_there plan v none)) tt;
     shown = λ s p f h. absurd (both_ways (has_fact no_facts f) (has_fact-none f) h);
     nothing_else = λ s p f m. inl m;
-    last = refl;
   };
+  still = LeavesSessions-same n;
 }
 
 -- the place was free, or the visit wasn't begun
@@ -135,8 +140,8 @@ Makes-kept plan old q cell v b a free = record {
         let under : is_free_under plan q cell s ≡ true = and_from (nat_eq cell.half (original_at plan q)) (nat_eq (cell.tag + 1) (2 * s)) half (eq-eqb (cell.tag + 1) (2 * s) u.tag) in
         inr (or_right (old.full s p) (nat_eq p q && is_free_under plan q cell s) (and_from (nat_eq p q) (is_free_under plan q cell s) (eq-eqb p q (sym u.place)) under));
     nothing_else = λ s p f m. inl m;
-    last = refl;
   };
+  still = LeavesSessions-fetched plan old q cell a.later;
 }
 
 -- a trap was settled
@@ -175,38 +180,82 @@ Makes-settled plan old new q cell v b met a begun h =
               let there = under_one plan t p (q, cell) v (sym e) (let x = session in omega (arith, x, tag)) begun in
               inr (subst (λ vs. has_fact (facts_under plan t p ((q, cell) ∷ []) vs) f ≡ true) (sym at) (subst (λ x. has_fact (facts_under plan t p ((q, cell) ∷ []) (v ∷ [])) x ≡ true) (sym same) there))
         ];
-        last = adds.last;
       };
+      still = LeavesSessions-trans old mid new (LeavesSessions-fetched plan old q cell a.later) (LeavesSessions-added mid new s q g adds);
     }
 
+-- a visit at a place is one of the visits
+has_if : (b : Bool) (w v : Visit) (xs ws : List Visit) → (Has v xs → Has v ws) → Has v (if b then w ∷ xs else xs) → Has v (w ∷ ws)
+has_if true w v xs ws rest h = elim h [ inl e ↦ inl e | inr later ↦ inr (rest later) ]
+has_if false w v xs ws rest h = inr (rest h)
+
+at_has : (places : List Place) (vs : List Visit) (v : Visit) → Has v (at_places places vs) → Has v vs
+at_has places [] v h = absurd h
+at_has places (w ∷ ws) v h = has_if (is_place places w.at) w v (at_places places ws) ws (at_has places ws v) h
+
+pub Answered-none : (plan : PlanView) (n : Notes) (last : ℕ → ℕ → ℕ) → Answered plan n n last []
+Answered-none plan n last = record {
+  pairs = [];
+  appended = sym (append-nil n.answered);
+  each = tt;
+  shown = λ s p f h. absurd (both_ways (has_fact no_facts f) (has_fact-none f) h);
+  nothing_else = λ s p f m. inl m;
+}
+
+-- by tags that are the same at the visits
+pub Answered-tags : (plan : PlanView) (a b : Notes) (last next : ℕ → ℕ → ℕ) (xs : List Visit) → ((v : Visit) → Has v xs → (p : ℕ) → next v.before p ≡ last v.before p) →
+    Answered plan a b next xs → Answered plan a b last xs
+Answered-tags plan a b last next xs same r = record {
+  pairs = r.pairs;
+  appended = r.appended;
+  each = ArePairs-same plan a a last next r.pairs (at_places plan.places xs) (λ v there. same v (at_has plan.places xs v there)) refl refl r.each;
+  shown = r.shown;
+  nothing_else = r.nothing_else;
+}
+
 -- visits one after the other
-pub Makes-append : (plan : PlanView) (a b c : Notes) (xs ys : List Visit) → Makes plan a b xs → Makes plan b c ys → Makes plan a c (xs ++ ys)
-Makes-append plan a b c xs ys r h =
+pub Answered-append : (plan : PlanView) (a b c : Notes) (last next : ℕ → ℕ → ℕ) (xs ys : List Visit) → Answered plan a b last xs → Answered plan b c next ys → Grows b c → b.bears ≡ a.bears → b.out ≡ a.out →
+    ((v : Visit) → Has v ys → (p : ℕ) → next v.before p ≡ last v.before p) → Answered plan a c last (xs ++ ys)
+Answered-append plan a b c last next xs ys first more grows bears out same =
     let vs : List Visit = at_places plan.places xs in
     let ws : List Visit = at_places plan.places ys in
     let at : at_places plan.places (xs ++ ys) ≡ vs ++ ws = at_places-append plan.places xs ys in
-    let first = r.answered in
-    let more = h.answered in
     let split : (s p : ℕ) (f : Fact) → has_fact (facts_under plan s p (first.pairs ++ more.pairs) (at_places plan.places (xs ++ ys))) f ≡ (has_fact (facts_under plan s p first.pairs vs) f || has_fact (facts_under plan s p more.pairs ws) f) =
-    λ s p f. ap (λ l. has_fact (facts_under plan s p (first.pairs ++ more.pairs) l) f) at ∙ facts_under-append plan a s p f first.pairs more.pairs vs ws first.each in
+    λ s p f. ap (λ l. has_fact (facts_under plan s p (first.pairs ++ more.pairs) l) f) at ∙ facts_under-append plan a last s p f first.pairs more.pairs vs ws first.each in
     record {
-      observes = Observes-append plan a b c xs ys r.observes h.observes;
-      answered = record {
-        pairs = first.pairs ++ more.pairs;
-        appended = more.appended ∙ (ap (λ l. l ++ more.pairs) first.appended ∙ append_assoc a.answered first.pairs more.pairs);
-        each = subst (ArePairs plan a (first.pairs ++ more.pairs)) (sym at)
-            (ArePairs-append plan a first.pairs more.pairs vs ws first.each (ArePairs-same plan a b more.pairs ws first.last r.observes.grows.bears r.observes.grows.out more.each));
-        shown = λ s p f there. elim (or_cases (has_fact (facts_under plan s p first.pairs vs) f) (has_fact (facts_under plan s p more.pairs ws) f) (sym (split s p f) ∙ there)) [
-          | inl x ↦ shown_later b c s p f h.observes.grows (first.shown s p f x)
-          | inr x ↦ more.shown s p f x
-        ];
-        nothing_else = λ s p f m. elim (more.nothing_else s p f m) [
-          | inl before ↦ elim (first.nothing_else s p f before) [
-            | inl old ↦ inl old
-            | inr x ↦ inr (split s p f ∙ or_left (has_fact (facts_under plan s p first.pairs vs) f) (has_fact (facts_under plan s p more.pairs ws) f) x)
-          ]
-          | inr x ↦ inr (split s p f ∙ or_right (has_fact (facts_under plan s p first.pairs vs) f) (has_fact (facts_under plan s p more.pairs ws) f) x)
-        ];
-        last = more.last ∙ first.last;
-      };
+      pairs = first.pairs ++ more.pairs;
+      appended = more.appended ∙ (ap (λ l. l ++ more.pairs) first.appended ∙ append_assoc a.answered first.pairs more.pairs);
+      each = subst (ArePairs plan a last (first.pairs ++ more.pairs)) (sym at)
+          (ArePairs-append plan a last first.pairs more.pairs vs ws first.each
+          (ArePairs-same plan a b last next more.pairs ws (λ v there. same v (at_has plan.places ys v there)) bears out more.each));
+      shown = λ s p f there. elim (or_cases (has_fact (facts_under plan s p first.pairs vs) f) (has_fact (facts_under plan s p more.pairs ws) f) (sym (split s p f) ∙ there)) [
+        | inl x ↦ shown_later b c s p f grows (first.shown s p f x)
+        | inr x ↦ more.shown s p f x
+      ];
+      nothing_else = λ s p f m. elim (more.nothing_else s p f m) [
+        | inl before ↦ elim (first.nothing_else s p f before) [
+          | inl old ↦ inl old
+          | inr x ↦ inr (split s p f ∙ or_left (has_fact (facts_under plan s p first.pairs vs) f) (has_fact (facts_under plan s p more.pairs ws) f) x)
+        ]
+        | inr x ↦ inr (split s p f ∙ or_right (has_fact (facts_under plan s p first.pairs vs) f) (has_fact (facts_under plan s p more.pairs ws) f) x)
+      ];
     }
+
+pub Makes-none : (plan : PlanView) (n : Notes) → Makes plan n n []
+Makes-none plan n = record { observes = Observes-none plan n; answered = Answered-none plan n (λ before. n.last); still = LeavesSessions-same n }
+
+pub Makes-append : (plan : PlanView) (a b c : Notes) (xs ys : List Visit) → Makes plan a b xs → Makes plan b c ys → Makes plan a c (xs ++ ys)
+Makes-append plan a b c xs ys r h = record {
+  observes = Observes-append plan a b c xs ys r.observes h.observes;
+  answered = Answered-append plan a b c (λ before. a.last) (λ before. b.last) xs ys r.answered h.answered h.observes.grows r.observes.grows.bears r.observes.grows.out
+      (λ v there p. ap (λ (g : ℕ → ℕ). g p) r.still.last);
+  still = LeavesSessions-trans a b c r.still h.still;
+}
+
+-- the instruction is no call
+pub Turns-alone : (plan : PlanView) (old new : Notes) (visits : List Visit) (c : ControlView) → Makes plan old new visits → Turns plan old new visits c None
+Turns-alone plan old new visits c makes = record { mid = new; makes = makes; notes = refl }
+
+-- an instruction behind visits of its own, as the subject of an EX
+pub Turns-behind : (plan : PlanView) (a b d : Notes) (xs ys : List Visit) (c : ControlView) (call : Option ℕ) → Makes plan a b xs → Turns plan b d ys c call → Turns plan a d (xs ++ ys) c call
+Turns-behind plan a b d xs ys c call first rest = record { mid = rest.mid; makes = Makes-append plan a b rest.mid xs ys first rest.makes; notes = rest.notes }

@@ -1,5 +1,7 @@
 pub mod AnsweredLemmas
+pub mod CallLemmas
 pub mod NotesLemmas
 pub mod ObservedLemmas
 pub mod PlaceLemmas
 pub mod StepLemmas
+pub mod TieLemmas

@@ -13,17 +13,16 @@ use Rattle.svc_monitor.specs.Observed.{Grows}
 both_grow : (a b x : Bool) → (a || x) ≡ true → a ≡ true ⊎ (b || x) ≡ true
 both_grow a b x h = elim (or_cases a x h) [ inl l ↦ inl l | inr r ↦ inr (or_right b x r) ]
 
-seen_fetched : (seen : ℕ → ℕ) (p q tag : ℕ) → seen p ≤ tag → seen q ≤ (if nat_eq q p then tag else seen q)
+pub seen_fetched : (seen : ℕ → ℕ) (p q tag : ℕ) → seen p ≤ tag → seen q ≤ (if nat_eq q p then tag else seen q)
 seen_fetched seen p q tag h =
     cond_both (nat_eq q p) tag (seen q) (λ t. seen q ≤ t) (λ e. subst (λ r. seen r ≤ tag) (sym (eqb-true q p e)) h) (λ e. omega arith)
 
-pub Grows-fetched : (plan : PlanView) (n : Notes) (p : ℕ) (cell : Cell) → n.seen p ≤ cell.tag → Grows n (after_fetch plan n p cell)
-Grows-fetched plan n p cell h = record {
+pub Grows-fetched : (plan : PlanView) (n : Notes) (p : ℕ) (cell : Cell) → Grows n (after_fetch plan n p cell)
+Grows-fetched plan n p cell = record {
   marked = λ s q f m. m;
   full = λ s q m. or_left (n.full s q) (nat_eq q p && is_free_under plan p cell s) m;
   free = λ s q m. or_left (n.free s q) (nat_eq q p && is_free_under plan p cell s) m;
   met = λ s q m. both_grow (n.full s q) (n.free s q) (nat_eq q p && is_free_under plan p cell s) m;
-  seen = λ q. seen_fetched n.seen p q cell.tag h;
   bears = refl;
   given = refl;
   out = refl;
@@ -66,7 +65,6 @@ marked_alone plan n s p f found part = record {
       | inl old ↦ inl old
       | inr now ↦ absurd (both_ways (is_full (kind_at plan p) (with_fact found f)) part (all_three (nat_eq t s) (nat_eq q p) (is_full (kind_at plan p) (with_fact found f)) now).2)
     ];
-    seen = λ q. omega arith;
     bears = refl;
     given = refl;
     out = refl;
@@ -95,7 +93,6 @@ marked_lifted plan n s p f found exchanged = record {
           let parts = all_three (nat_eq t s) (nat_eq q p) (is_full (kind_at plan p) (with_fact found f)) now in
           inr (or_right (n.free t q) (nat_eq t s && nat_eq q p) (and_from (nat_eq t s) (nat_eq q p) parts.0 parts.1))
     ];
-    seen = λ q. omega arith;
     bears = refl;
     given = refl;
     out = refl;

@@ -89,7 +89,6 @@ Grows-same n = record {
   full = λ s p m. m;
   free = λ s p m. m;
   met = λ s p m. inl m;
-  seen = λ p. omega arith;
   bears = refl;
   given = refl;
   out = refl;
@@ -104,7 +103,6 @@ Grows-trans a b c g h = record {
     | inl old ↦ elim (g.met s p old) [ inl first ↦ inl first | inr free ↦ inr (h.free s p free) ]
     | inr free ↦ inr free
   ];
-  seen = λ p. omega (arith, g.seen p, h.seen p);
   bears = h.bears ∙ g.bears;
   given = h.given ∙ g.given;
   out = h.out ∙ g.out;
@@ -121,11 +119,9 @@ Observes-none plan n = record {
   nothing_else = λ s p f m. inl m;
   shown = λ s p f stays h. absurd (both_ways (has_fact no_facts f) (has_fact-none f) h.there);
   stays = λ s p stays. stays;
-  plants = refl;
   fetches = omega arith;
   marks = omega arith;
   lifts = omega arith;
-  closes = refl;
 }
 
 pub Observes-plain : (plan : PlanView) (n : Notes) (v : Visit) → is_place plan.places v.at ≡ false → Observes plan n n (v ∷ [])
@@ -136,11 +132,9 @@ Observes-plain plan n v none =
       nothing_else = λ s p f m. inl m;
       shown = λ s p f stays h. absurd (none_begins plan.places v.at p none h.exists (sym (one_shows (place_of plan.places p) v f h.there).1));
       stays = λ s p stays. stays;
-      plants = refl;
       fetches = omega arith;
       marks = omega arith;
       lifts = omega arith;
-      closes = refl;
     }
 
 -- one visit at a place
@@ -168,7 +162,7 @@ pub Observes-kept : (plan : PlanView) (old : Notes) (q : ℕ) (cell : Cell) (v :
 Observes-kept plan old q cell v b a free =
     let count = one_at_place plan v q b in
     record {
-      grows = Grows-fetched plan old q cell a.later;
+      grows = Grows-fetched plan old q cell;
       nothing_else = λ s p f m. inl m;
       shown = λ s p f stays h.
           let parts = one_shows (place_of plan.places p) v f h.there in
@@ -178,11 +172,9 @@ Observes-kept plan old q cell v b a free =
           let under : is_free_under plan q cell s ≡ true = and_from (nat_eq cell.half (original_at plan q)) (nat_eq (cell.tag + 1) (2 * s)) half tag in
           inr (or_right (old.full s p) (nat_eq p q && is_free_under plan q cell s) (and_from (nat_eq p q) (is_free_under plan q cell s) (eq-eqb p q e) under));
       stays = stays_fetched plan old q cell a;
-      plants = refl;
       fetches = omega arith;
       marks = omega arith;
       lifts = omega arith;
-      closes = refl;
     }
 
 -- a trap was settled
@@ -196,7 +188,7 @@ Observes-settled plan old new q cell v b a begun h =
     let adds : Adds mid new s q g = Adds-settled plan mid new s q g h in
     let count = one_at_place plan v q b in
     record {
-      grows = Grows-trans old mid new (Grows-fetched plan old q cell a.later) adds.grows;
+      grows = Grows-trans old mid new (Grows-fetched plan old q cell) adds.grows;
       nothing_else = λ t p f m. elim (or_cases (old.marked t p f) (nat_eq t s && nat_eq p q && same_fact f g) (sym (adds.marked t p f) ∙ m)) [
         | inl before ↦ inl before
         | inr now ↦
@@ -217,11 +209,9 @@ Observes-settled plan old new q cell v b a begun h =
       stays = λ w p stays.
           let now = stays_fetched plan old q cell a w p stays in
           record { some = now.some; whole = now.whole; seen = ap (λ n. n + 1) (adds.seen p) ∙ now.seen };
-      plants = adds.plants;
       fetches = omega (arith, adds.fetches);
       marks = omega (arith, adds.marks);
       lifts = omega (arith, adds.lifts);
-      closes = adds.closes;
     }
 
 -- visits with others before or behind them
@@ -258,9 +248,7 @@ Observes-append plan a b c xs ys r h =
         | inr last ↦ h.shown s p f (r.stays s p stays) last
       ];
       stays = λ s p stays. h.stays s p (r.stays s p stays);
-      plants = h.plants ∙ r.plants;
       fetches = omega (arith, r.fetches, h.fetches);
       marks = omega (arith, r.marks, h.marks);
       lifts = omega (arith, r.lifts, h.lifts);
-      closes = h.closes ∙ r.closes;
     }

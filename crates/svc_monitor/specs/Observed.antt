@@ -13,7 +13,6 @@ pub record Grows (old new : Notes) : Type 0 where
   pub full : (s p : ℕ) → old.full s p ≡ true → new.full s p ≡ true
   pub free : (s p : ℕ) → old.free s p ≡ true → new.free s p ≡ true
   pub met : (s p : ℕ) → new.full s p ≡ true → old.full s p ≡ true ⊎ new.free s p ≡ true
-  pub seen : (p : ℕ) → old.seen p ≤ new.seen p
   pub bears : new.bears ≡ old.bears
   pub given : new.given ≡ old.given
   pub out : new.out ≡ old.out
@@ -41,8 +40,6 @@ pub record Observes (plan : PlanView) (old new : Notes) (visits : List Visit) : 
   pub nothing_else : (s p : ℕ) (f : Fact) → new.marked s p f ≡ true → old.marked s p f ≡ true ⊎ ShowsAt plan visits p f
   pub shown : (s p : ℕ) (f : Fact) → Stays plan old s p → ShowsAt plan visits p f → IsShown new s p f
   pub stays : (s p : ℕ) → Stays plan old s p → Stays plan new s p
-  pub plants : new.tally.plants ≡ old.tally.plants
   pub fetches : new.tally.fetches ≡ old.tally.fetches + visits_at_places plan.places visits
   pub marks : new.tally.marks ≤ old.tally.marks + visits_at_places plan.places visits
   pub lifts : new.tally.lifts ≤ old.tally.lifts + visits_at_places plan.places visits
-  pub closes : new.tally.closes ≡ old.tally.closes

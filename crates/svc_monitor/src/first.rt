@@ -1,10 +1,10 @@
 //! The first halfword of an instruction.
-ghost use Rattle.std.specs.Prelude.{◌≡◌, ◌≢◌, ℕ, ◌+◌, ◌<◌, ◌^◌, IfOk, IfErr, OnErr, length, nat_eq};
+ghost use Rattle.std.specs.Prelude.{◌≡◌, ◌≢◌, ℕ, ◌+◌, ◌<◌, ◌^◌, IfOk, IfErr, OnErr, length, nat_eq, true};
 ghost use Rattle.std.specs.declared.option.Option.TheVariants.{Some, None};
 ghost use Rattle.cov_base.specs.Codes.{breakpoint};
 ghost use Rattle.cov_base.specs.Memory.{half_at};
 ghost use Rattle.module_area.specs.PlanView.{original_at, place_of};
-ghost use Rattle.module_area.specs.Notes.{calls};
+ghost use Rattle.module_area.specs.Notes.{calls, is_working};
 ghost use Rattle.s370_exec.specs.Fetch.{first_tests};
 ghost use Rattle.svc_monitor.specs.First.{IsOver, IsPlaced, IsMet, half_of};
 
@@ -48,6 +48,7 @@ fn at_place<C: Cells>(cells: &C, pass: &mut C::Pass, tables: &Tables, place: Pla
     requires area { C.is_pass cells.now pass.old }
     requires plan { (C.plan cells.now).places ≡ tables.now.places }
     requires room { calls (C.notes pass.old) < 2 ^ 62 }
+    requires working { is_working (C.notes pass.old) ≡ true }
     requires place { place.0 < length tables.now.places }
     ensures area { C.is_pass cells.now pass.new }
     ensures half { half_of result ≡ original_at (C.plan cells.now) place.0 }
@@ -76,6 +77,7 @@ pub fn first_half<C: Cells, P: Space>(
     requires area { C.is_pass cells.now pass.old }
     requires over { IsOver (C.plan cells.now) (P.memory space.now) tables.now.places }
     requires room { calls (C.notes pass.old) < 2 ^ 61 + 2 ^ 16 }
+    requires working { is_working (C.notes pass.old) ≡ true }
     ensures area { C.is_pass cells.now pass.new }
     ensures refused { IfErr result (λ e. first_tests (P.memory space.now) at ≡ Some e) }
     ensures passed { IfOk result (λ _. first_tests (P.memory space.now) at ≡ None) }

@@ -1,19 +1,25 @@
 //! One instruction over the cells.
-ghost use Rattle.std.specs.Prelude.{◌≡◌, ℕ, ◌+◌, ◌%◌, ◌<◌, ◌^◌, length};
-ghost use Rattle.module_area.specs.Notes.{calls};
+ghost use Rattle.std.specs.Prelude.{◌≡◌, ℕ, ◌+◌, ◌%◌, ◌<◌, ◌≤◌, ◌^◌, length, true};
+ghost use Rattle.cov_base.specs.declared.limits.TheConstants.{PLACE_LIMIT};
+ghost use Rattle.module_area.specs.Notes.{calls, is_working};
+ghost use Rattle.module_area.specs.Control.{control_after};
+ghost use Rattle.module_area.specs.Tied.{IsTied};
 ghost use Rattle.s370_decode.specs.Fields.{first_half};
 ghost use Rattle.s370_decode.specs.Table.{op_of};
 ghost use Rattle.s370_branch.specs.Branch.{goes};
 ghost use Rattle.s370_exec.specs.Fetch.{is_execute};
+ghost use Rattle.s370_exec.specs.Calls.{call_of, subject_call};
 ghost use Rattle.s370_exec.specs.Solo.{state_of, solo_step, subject_step};
 ghost use Rattle.svc_monitor.specs.First.{IsOver, IsPending};
 ghost use Rattle.svc_monitor.specs.Settled.{Shows};
-ghost use Rattle.svc_monitor.specs.Answered.{Makes};
+ghost use Rattle.svc_monitor.specs.Answered.{Turns};
+ghost use Rattle.svc_monitor.specs.Called.{call_at};
 
+use crate::calls::answer;
 use crate::first::{Met, first_half};
 use crate::trap::settle;
 use brk_table::Tables;
-use module_area::Cells;
+use module_area::{Cells, Control, Plan};
 use s370_branch::outcome;
 use s370_decode::Code;
 use s370_exec::{execute, fetch_rest, fetch_subject, is_execute, subject_address};
@@ -25,6 +31,7 @@ fn show<C: Cells>(cells: &C, pass: &mut C::Pass, tables: &Tables, met: Met, cpu:
     requires area { C.is_pass cells.now pass.old }
     requires plan { (C.plan cells.now).places ≡ tables.now.places }
     requires room { calls (C.notes pass.old) < 2 ^ 61 + 2 ^ 16 }
+    requires working { is_working (C.notes pass.old) ≡ true }
     requires pending { IsPending (C.plan cells.now) (C.notes pass.old) met }
     ensures area { C.is_pass cells.now pass.new }
     ensures shows { Shows (C.plan cells.now) (C.notes pass.old) (C.notes pass.new) met (goes (op_of (first_half code.now)) cpu.now code.now) }
@@ -47,15 +54,23 @@ fn step_subject<C: Cells, P: Space>(
     space: &mut P,
     io: &mut TaskIo,
     ex: &Code,
+    plan: &Plan,
+    control: &mut Control,
 ) -> Next
     requires area { C.is_pass cells.now pass.old }
+    requires plan { C.plan cells.now ≡ plan.now }
     requires over { IsOver (C.plan cells.now) (P.memory space.old) tables.now.places }
     requires room { calls (C.notes pass.old) < 2 ^ 61 + 2 ^ 8 }
+    requires working { is_working (C.notes pass.old) ≡ true }
+    requires tied { IsTied (C.plan cells.now) (C.notes pass.old) control.old }
     ensures area { C.is_pass cells.now pass.new }
+    ensures tied { IsTied (C.plan cells.now) (C.notes pass.new) control.new }
+    ensures calls { calls (C.notes pass.new) ≤ calls (C.notes pass.old) + 3 + PLACE_LIMIT }
+    ensures control { (d : ℕ) → control.new ≡ control_after control.old (subject_call (P.memory space.old) (state_of cpu.old (P.bytes space.old) io.old d) ex.now) }
     ensures memory { P.memory space.new ≡ P.memory space.old }
     ensures state { (d : ℕ) → (subject_step (P.memory space.old) (state_of cpu.old (P.bytes space.old) io.old d) ex.now).state ≡ state_of cpu.new (P.bytes space.new) io.new (d + 1) }
     ensures next { (d : ℕ) → (subject_step (P.memory space.old) (state_of cpu.old (P.bytes space.old) io.old d) ex.now).next ≡ result }
-    ensures makes { (d : ℕ) → Makes (C.plan cells.now) (C.notes pass.old) (C.notes pass.new) (subject_step (P.memory space.old) (state_of cpu.old (P.bytes space.old) io.old d) ex.now).visits }
+    ensures turns { (d : ℕ) → Turns (C.plan cells.now) (C.notes pass.old) (C.notes pass.new) (subject_step (P.memory space.old) (state_of cpu.old (P.bytes space.old) io.old d) ex.now).visits control.old (subject_call (P.memory space.old) (state_of cpu.old (P.bytes space.old) io.old d) ex.now) }
 {
     let at = subject_address(cpu, ex);
     let met = match first_half(cells, pass, tables, space, at) {
@@ -67,12 +82,14 @@ fn step_subject<C: Cells, P: Space>(
         Err(e) => return Next::Ended(e),
     };
     show(cells, pass, tables, met, cpu, &subject);
+    answer(cells, pass, plan, control, subject.first_half());
     execute(cpu, space, io, &subject, Some(ex.at))
 }
 
 /// One instruction of the task, of which neither budget nor return address is tested: it ends or goes on as over
 /// modules that were never planted, and the pass makes its visits: each fetch's answer is kept, and what a
-/// visit shows under a session's odd tag is marked for that session alone.
+/// visit shows under a session's odd tag is marked for that session alone. Then, and before what the instruction does,
+/// SVC 4 opens the next session of the control and SVC 5 closes the open one.
 pub fn step<C: Cells, P: Space>(
     cells: &C,
     pass: &mut C::Pass,
@@ -80,15 +97,23 @@ pub fn step<C: Cells, P: Space>(
     cpu: &mut Cpu,
     space: &mut P,
     io: &mut TaskIo,
+    plan: &Plan,
+    control: &mut Control,
 ) -> Next
     requires area { C.is_pass cells.now pass.old }
+    requires plan { C.plan cells.now ≡ plan.now }
     requires over { IsOver (C.plan cells.now) (P.memory space.old) tables.now.places }
     requires room { calls (C.notes pass.old) < 2 ^ 61 }
+    requires working { is_working (C.notes pass.old) ≡ true }
+    requires tied { IsTied (C.plan cells.now) (C.notes pass.old) control.old }
     ensures area { C.is_pass cells.now pass.new }
+    ensures tied { IsTied (C.plan cells.now) (C.notes pass.new) control.new }
+    ensures calls { calls (C.notes pass.new) ≤ calls (C.notes pass.old) + 6 + PLACE_LIMIT }
+    ensures control { (d : ℕ) → control.new ≡ control_after control.old (call_of (P.memory space.old) (state_of cpu.old (P.bytes space.old) io.old d)) }
     ensures memory { P.memory space.new ≡ P.memory space.old }
     ensures state { (d : ℕ) → (solo_step (P.memory space.old) (state_of cpu.old (P.bytes space.old) io.old d)).state ≡ state_of cpu.new (P.bytes space.new) io.new (d + 1) }
     ensures next { (d : ℕ) → (solo_step (P.memory space.old) (state_of cpu.old (P.bytes space.old) io.old d)).next ≡ result }
-    ensures makes { (d : ℕ) → Makes (C.plan cells.now) (C.notes pass.old) (C.notes pass.new) (solo_step (P.memory space.old) (state_of cpu.old (P.bytes space.old) io.old d)).visits }
+    ensures turns { (d : ℕ) → Turns (C.plan cells.now) (C.notes pass.old) (C.notes pass.new) (solo_step (P.memory space.old) (state_of cpu.old (P.bytes space.old) io.old d)).visits control.old (call_of (P.memory space.old) (state_of cpu.old (P.bytes space.old) io.old d)) }
 {
     let at = cpu.at();
     let met = match first_half(cells, pass, tables, space, at) {
@@ -104,7 +129,8 @@ pub fn step<C: Cells, P: Space>(
     };
     show(cells, pass, tables, met, cpu, code);
     if is_execute(original) {
-        return step_subject(cells, pass, tables, cpu, space, io, code);
+        return step_subject(cells, pass, tables, cpu, space, io, code, plan, control);
     }
+    answer(cells, pass, plan, control, original);
     execute(cpu, space, io, code, None)
 }

@@ -1,6 +1,7 @@
 //! A task's instructions over cells in which breakpoints stand: SVC 255 traps, and the original is run.
 #![tactic(auto)]
 
+mod calls;
 mod first;
 mod instruction;
 mod trap;

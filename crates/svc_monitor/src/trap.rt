@@ -3,7 +3,7 @@ ghost use Rattle.std.specs.Prelude.{◌≡◌, ℕ, ◌+◌, ◌/◌, ◌%◌, �
 ghost use Rattle.std.specs.declared.option.Option.TheVariants.{Some};
 ghost use Rattle.cov_base.specs.Facts.{is_of_kind};
 ghost use Rattle.module_area.specs.PlanView.{kind_at};
-ghost use Rattle.module_area.specs.Notes.{calls};
+ghost use Rattle.module_area.specs.Notes.{calls, is_working};
 ghost use Rattle.svc_monitor.specs.Settled.{Settles};
 
 use brk_table::Tables;
@@ -23,6 +23,7 @@ pub fn settle<C: Cells>(
     requires area { C.is_pass cells.now pass.old }
     requires plan { (C.plan cells.now).places ≡ tables.now.places }
     requires room { calls (C.notes pass.old) < 2 ^ 61 + 2 ^ 16 }
+    requires working { is_working (C.notes pass.old) ≡ true }
     requires place { place.0 < length tables.now.places }
     requires pending { (C.notes pass.old).pending ≡ Some (place.0, cell.tag) }
     requires planted { cell.tag % 2 ≡ 1 }

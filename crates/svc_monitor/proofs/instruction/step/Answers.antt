@@ -1,14 +1,20 @@
-use Rattle.std.proofs.Common.{◌≡◌, ℕ, true, false, [], ◌∷◌, ap, sym, ◌∙◌}
+use Rattle.std.proofs.Common.{◌≡◌, ℕ, true, false, None, [], ◌∷◌, refl, ap, sym, subst, ◌∙◌, arith}
 use Rattle.std.proofs.lemmas.Result.{IfOk-at_ok, IfErr-at_err}
 use Rattle.s370_decode.specs.Fields.{first_half}
 use Rattle.s370_decode.specs.Table.{op_of}
 use Rattle.s370_branch.specs.Branch.{goes}
+use Rattle.s370_exec.specs.Calls.{call_of, subject_call}
 use Rattle.s370_exec.specs.Effects.{effect_of}
 use Rattle.s370_exec.specs.Solo.{state_of, solo_step, subject_step, ended, stepped, behind, visit}
 use Rattle.s370_exec.proofs.Subjects.{first_half-code_at}
 use Rattle.s370_exec.proofs.StepLemmas.{solo_step-refused, solo_step-rest_refused, solo_step-begun, solo_step-execute}
 use Rattle.svc_monitor.proofs.StepLemmas.{Makes-not_begun, Makes-begun}
-use Rattle.svc_monitor.proofs.AnsweredLemmas.{Makes-none, Makes-append}
+use Rattle.module_area.specs.PlanView.{PlanView}
+use Rattle.module_area.specs.Tied.{IsTied}
+use Rattle.svc_monitor.specs.Called.{call_at}
+use Rattle.svc_monitor.proofs.AnsweredLemmas.{Makes-none, Turns-alone, Turns-behind}
+use Rattle.svc_monitor.proofs.CallLemmas.{call_of-refused, call_of-rest_refused, call_of-execute, call_of-begun}
+use Rattle.svc_monitor.proofs.TieLemmas.{IsLater-met, IsLater-settled, working_later, tied_later}
 use Rattle.svc_monitor.proofs.instruction.step.Given as given
 use Rattle.svc_monitor.proofs.instruction.step.Goals as goal
 
@@ -23,8 +29,14 @@ returns-in-Err-clause-state g c = λ d. ap (λ r. r.state) (refused g c d)
 pub returns-in-Err-clause-next : goal.returns-in-Err-clause-next
 returns-in-Err-clause-next g c = λ d. ap (λ r. r.next) (refused g c d)
 
-pub returns-in-Err-clause-makes : goal.returns-in-Err-clause-makes
-returns-in-Err-clause-makes g c = λ d. rw (refused g c d, c.in-Err.ensures.kept) (Makes-none _ _)
+called_refused : (g : given.Over) (c : goal.In-Err g) (d : ℕ) → call_of (g.P.Space.memory c.args.space.now) (state_of c.args.cpu.now (g.P.Space.bytes c.args.space.now) c.args.io.now d) ≡ None
+called_refused g c d = call_of-refused _ (state_of c.args.cpu.now (g.P.Space.bytes c.args.space.now) c.args.io.now d) c.at-at.result c.in-Err.e c.at-at.ensures c.in-Err.ensures.refused
+
+pub returns-in-Err-clause-control : goal.returns-in-Err-clause-control
+returns-in-Err-clause-control g c = λ d. rw (called_refused g c d) refl
+
+pub returns-in-Err-clause-turns : goal.returns-in-Err-clause-turns
+returns-in-Err-clause-turns g c = λ d. rw (refused g c d, called_refused g c d, c.in-Err.ensures.kept) (Turns-alone _ _ _ _ _ (Makes-none _ _))
 
 rest_refused : (g : given.Over) (c : goal.After-result-1 g) (d : ℕ) →
     let s = state_of c.args.cpu.now (g.P.Space.bytes c.args.space.now) c.args.io.now d in
@@ -39,10 +51,30 @@ returns-in-Err-fetched-clause-state g c = λ d. ap (λ r. r.state) (rest_refused
 pub returns-in-Err-fetched-clause-next : goal.returns-in-Err-fetched-clause-next
 returns-in-Err-fetched-clause-next g c = λ d. ap (λ r. r.next) (rest_refused g c d)
 
-pub returns-in-Err-fetched-clause-makes : goal.returns-in-Err-fetched-clause-makes
-returns-in-Err-fetched-clause-makes g c = λ d. rw (rest_refused g c d)
+called_rest_refused : (g : given.Over) (c : goal.After-result-1 g) (d : ℕ) → call_of (g.P.Space.memory c.args.space.now) (state_of c.args.cpu.now (g.P.Space.bytes c.args.space.now) c.args.io.now d) ≡ None
+called_rest_refused g c d =
+    call_of-rest_refused _ (state_of c.args.cpu.now (g.P.Space.bytes c.args.space.now) c.args.io.now d) c.at-at.result c.original-original.result c.in-Err-fetched.e c.at-at.ensures
+    c.in-Ok.ensures.passed (c.original-original.ensures ∙ c.in-Ok.ensures.half) (IfErr-at_err _ c.in-Err-fetched.is c.fetch_rest-fetched.ensures.refused)
+
+pub returns-in-Err-fetched-clause-tied : goal.returns-in-Err-fetched-clause-tied
+returns-in-Err-fetched-clause-tied g c = tied_later _ 1 _ _ _ (IsLater-met _ _ _ c.in-Ok.met c.in-Ok.ensures.met) c.requires.tied
+
+pub returns-in-Err-fetched-clause-control : goal.returns-in-Err-fetched-clause-control
+returns-in-Err-fetched-clause-control g c = λ d. rw (called_rest_refused g c d) refl
+
+pub returns-in-Err-fetched-clause-turns : goal.returns-in-Err-fetched-clause-turns
+returns-in-Err-fetched-clause-turns g c = λ d. rw (rest_refused g c d, called_rest_refused g c d) (Turns-alone _ _ _ _ _
     (Makes-not_begun _ c.args.tables.now.places _ _ c.in-Ok.met (state_of c.args.cpu.now (g.P.Space.bytes c.args.space.now) c.args.io.now d) c.at-at.result false
-    c.requires.over.same c.in-Ok.ensures.placed c.in-Ok.ensures.met)
+    c.requires.over.same c.in-Ok.ensures.placed c.in-Ok.ensures.met))
+
+pub show-requires-clause-working : goal.show-requires-clause-working
+show-requires-clause-working g c κs within = working_later 1 _ _ (IsLater-met _ _ _ c.in-Ok.met c.in-Ok.ensures.met) c.requires.working
+
+pub step_subject-requires-clause-working : goal.step_subject-requires-clause-working
+step_subject-requires-clause-working g c κs within = working_later 3 _ _ (IsLater-settled _ _ _ _ c.in-Ok.met _ c.in-Ok.ensures.met c.show.ensures.shows) c.requires.working
+
+pub step_subject-requires-clause-tied : goal.step_subject-requires-clause-tied
+step_subject-requires-clause-tied g c κs within = tied_later _ 3 _ _ _ (IsLater-settled _ _ _ _ c.in-Ok.met _ c.in-Ok.ensures.met c.show.ensures.shows) c.requires.tied
 
 -- an EX: its own visit, and those of its subject
 executes : (g : given.Over) (c : goal.After-step_subject g) (d : ℕ) →
@@ -61,12 +93,26 @@ returns-then-is_execute-clause-state g c = λ d. ap (λ r. r.state) (executes g 
 pub returns-then-is_execute-clause-next : goal.returns-then-is_execute-clause-next
 returns-then-is_execute-clause-next g c = λ d. ap (λ r. r.next) (executes g c d) ∙ c.step_subject.ensures.next d
 
-pub returns-then-is_execute-clause-makes : goal.returns-then-is_execute-clause-makes
-returns-then-is_execute-clause-makes g c = λ d.
+called_subject : (g : given.Over) (c : goal.After-step_subject g) (d : ℕ) →
+    let s = state_of c.args.cpu.now (g.P.Space.bytes c.args.space.now) c.args.io.now d in
+    call_of (g.P.Space.memory c.args.space.now) s ≡ subject_call (g.P.Space.memory c.args.space.now) s c.in-Ok-fetched.code
+called_subject g c d =
+    call_of-execute _ (state_of c.args.cpu.now (g.P.Space.bytes c.args.space.now) c.args.io.now d) c.at-at.result c.original-original.result c.in-Ok-fetched.code
+    c.at-at.ensures c.in-Ok.ensures.passed (c.original-original.ensures ∙ c.in-Ok.ensures.half) (IfOk-at_ok _ c.in-Ok-fetched.is c.fetch_rest-fetched.ensures.passed) (IfOk-at_ok _ c.in-Ok-fetched.is c.fetch_rest-fetched.ensures.code)
+    (sym c.is_execute.ensures ∙ c.if-is_execute.true)
+
+pub returns-then-is_execute-clause-calls : goal.returns-then-is_execute-clause-calls
+returns-then-is_execute-clause-calls g c = let l = (IsLater-settled _ _ _ _ c.in-Ok.met _ c.in-Ok.ensures.met c.show.ensures.shows) in omega (arith, l.few, c.step_subject.ensures.calls)
+
+pub returns-then-is_execute-clause-control : goal.returns-then-is_execute-clause-control
+returns-then-is_execute-clause-control g c = λ d. rw (called_subject g c d) (c.step_subject.ensures.control d)
+
+pub returns-then-is_execute-clause-turns : goal.returns-then-is_execute-clause-turns
+returns-then-is_execute-clause-turns g c = λ d.
     let s = state_of c.args.cpu.now (g.P.Space.bytes c.args.space.now) c.args.io.now d in
     let went = goes (op_of (first_half c.in-Ok-fetched.code)) c.args.cpu.now c.in-Ok-fetched.code in
     let own = Makes-begun _ c.args.tables.now.places _ _ _ c.in-Ok.met s c.at-at.result went false c.requires.over.same c.in-Ok.ensures.placed c.in-Ok.ensures.met c.show.ensures.shows in
-    rw (executes g c d) (Makes-append _ _ _ _ (visit s c.at-at.result true went false ∷ []) _ own (c.step_subject.ensures.makes d))
+    rw (executes g c d, called_subject g c d) (Turns-behind _ _ _ _ (visit s c.at-at.result true went false ∷ []) _ _ _ own (c.step_subject.ensures.turns d))
 
 pub execute-requires : goal.execute-requires
 execute-requires g c = record {
@@ -90,7 +136,33 @@ returns-clause-state g c = λ d. ap (λ r. r.state) (begun g c d)
 pub returns-clause-next : goal.returns-clause-next
 returns-clause-next g c = λ d. ap (λ r. r.next) (begun g c d)
 
-pub returns-clause-makes : goal.returns-clause-makes
-returns-clause-makes g c = λ d. rw (begun g c d)
-    (Makes-begun _ c.args.tables.now.places _ _ _ c.in-Ok.met (state_of c.args.cpu.now (g.P.Space.bytes c.args.space.now) c.args.io.now d) c.at-at.result
-    (goes (op_of (first_half c.in-Ok-fetched.code)) c.args.cpu.now c.in-Ok-fetched.code) false c.requires.over.same c.in-Ok.ensures.placed c.in-Ok.ensures.met c.show.ensures.shows)
+called : (g : given.Over) (c : goal.After-execute g) (d : ℕ) →
+    call_of (g.P.Space.memory c.args.space.now) (state_of c.args.cpu.now (g.P.Space.bytes c.args.space.now) c.args.io.now d) ≡ call_at c.original-original.result
+called g c d =
+    call_of-begun _ (state_of c.args.cpu.now (g.P.Space.bytes c.args.space.now) c.args.io.now d) c.at-at.result c.original-original.result c.in-Ok-fetched.code
+    c.at-at.ensures c.in-Ok.ensures.passed (c.original-original.ensures ∙ c.in-Ok.ensures.half) (IfOk-at_ok _ c.in-Ok-fetched.is c.fetch_rest-fetched.ensures.passed) (IfOk-at_ok _ c.in-Ok-fetched.is c.fetch_rest-fetched.ensures.code)
+    (sym c.is_execute.ensures ∙ c.if-is_execute.false)
+
+pub answer-requires-clause-tied : goal.answer-requires-clause-tied
+answer-requires-clause-tied g c κs within =
+    subst (λ (p : PlanView). IsTied p (g.C.Cells.notes c.show.new.pass) c.args.control.now) c.requires.plan (tied_later _ 3 _ _ _ (IsLater-settled _ _ _ _ c.in-Ok.met _ c.in-Ok.ensures.met c.show.ensures.shows) c.requires.tied)
+
+pub answer-requires-clause-room : goal.answer-requires-clause-room
+answer-requires-clause-room g c κs within = let l = (IsLater-settled _ _ _ _ c.in-Ok.met _ c.in-Ok.ensures.met c.show.ensures.shows) in omega (arith, l.few, c.requires.room)
+
+pub returns-clause-tied : goal.returns-clause-tied
+returns-clause-tied g c = subst (λ (p : PlanView). IsTied p (g.C.Cells.notes c.answer.new.pass) c.answer.new.control) (sym c.requires.plan) c.answer.ensures.tied
+
+pub returns-clause-calls : goal.returns-clause-calls
+returns-clause-calls g c = let l = (IsLater-settled _ _ _ _ c.in-Ok.met _ c.in-Ok.ensures.met c.show.ensures.shows) in omega (arith, l.few, c.answer.ensures.calls)
+
+pub returns-clause-control : goal.returns-clause-control
+returns-clause-control g c = λ d. rw (called g c d) c.answer.ensures.control
+
+pub returns-clause-turns : goal.returns-clause-turns
+returns-clause-turns g c = λ d. rw (begun g c d, called g c d) (record {
+  mid = g.C.Cells.notes c.show.new.pass;
+  makes = Makes-begun _ c.args.tables.now.places _ _ _ c.in-Ok.met (state_of c.args.cpu.now (g.P.Space.bytes c.args.space.now) c.args.io.now d) c.at-at.result
+      (goes (op_of (first_half c.in-Ok-fetched.code)) c.args.cpu.now c.in-Ok-fetched.code) false c.requires.over.same c.in-Ok.ensures.placed c.in-Ok.ensures.met c.show.ensures.shows;
+  notes = rw c.requires.plan c.answer.ensures.notes;
+})

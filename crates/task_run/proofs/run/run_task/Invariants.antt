@@ -1,4 +1,5 @@
-use Rattle.std.proofs.Common.{◌≡◌}
+use Rattle.std.proofs.Common.{◌≡◌, ◌≤◌}
+use Rattle.module_area.specs.Tied.{IsTied}
 use Rattle.s370_exec.specs.Solo.{state_of}
 use Rattle.space_map.specs.Space.{memory_of_space}
 use Rattle.task_run.proofs.RunLemmas.{LedTo}
@@ -10,6 +11,8 @@ invariant-loop-done g l = record {
   memory : memory_of_space l.task.space ≡ memory_of_space l.initial.task.space;
   budget : l.task.budget ≡ l.initial.task.budget;
   done : l.task.done ≡ l.done;
-  run : LedTo (memory_of_space l.initial.task.space) (g.C.Cells.plan l.cells) (g.C.Cells.notes l.initial.pass) (g.C.Cells.notes l.pass) l.initial.task.budget
+  within : l.done ≤ l.initial.task.budget;
+  tied : IsTied (g.C.Cells.plan l.cells) (g.C.Cells.notes l.pass) l.task.control;
+  run : LedTo (memory_of_space l.initial.task.space) (g.C.Cells.plan l.cells) (g.C.Cells.notes l.initial.pass) (g.C.Cells.notes l.pass) l.initial.task.control l.task.control l.initial.task.budget
       (state_of l.initial.task.cpu l.initial.task.space.bytes l.initial.task.io 0) l.done (state_of l.task.cpu l.task.space.bytes l.task.io l.done);
 }

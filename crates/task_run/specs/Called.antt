@@ -1,0 +1,67 @@
+-- The supervisor calls of a run, and what they make of the sessions that the task controls.
+use Rattle.std.specs.Prelude.{◌≡◌, ◌↔◌, ℕ, ◌+◌, ◌*◌, true, zero, suc, if◌then◌else◌, Option, Some, None, List, [], ◌∷◌, length, take}
+use Rattle.std.specs.List.{sum_by}
+use Rattle.cov_base.specs.Memory.{Memory}
+use Rattle.cov_base.specs.States.{State, Visit}
+use Rattle.s370_state.specs.declared.endings.Next.{Next}
+use Rattle.s370_state.specs.declared.endings.Next.TheVariants.{On, Ended}
+use Rattle.s370_exec.specs.Calls.{call_of}
+use Rattle.s370_exec.specs.Solo.{solo_step, has_returned}
+use Rattle.module_area.specs.PlanView.{PlanView, has_place}
+use Rattle.cov_base.specs.declared.numbers.SessNo.{SessNo}
+use Rattle.module_area.specs.Tied.{has_session}
+use Rattle.module_area.specs.Notes.{Notes}
+use Rattle.module_area.specs.Control.{ControlView, places_under, after_call, control_after}
+use Rattle.svc_monitor.specs.Observed.{Observes}
+use Rattle.svc_monitor.specs.Answered.{Answered}
+
+abbrev pub unless_over : Next → List (Option ℕ) → List (Option ℕ)
+unless_over On calls = calls
+unless_over (Ended e) calls = []
+
+-- for each instruction of the run the call that it executes, if it is one; with so many instructions left of the budget
+unfoldable pub calls_on : Memory → ℕ → State → List (Option ℕ)
+calls_on m zero s = []
+calls_on m (suc n) s = if has_returned s then [] else call_of m s ∷ unless_over (solo_step m s).next (calls_on m n (solo_step m s).state)
+
+-- the control after these calls, and what the pass has planted and closed by them
+abbrev pub control_by : ControlView → List (Option ℕ) → ControlView
+control_by c [] = c
+control_by c (k ∷ ks) = control_by (control_after c k) ks
+
+abbrev pub notes_by : PlanView → Notes → ControlView → List (Option ℕ) → Notes
+notes_by plan n c [] = n
+notes_by plan n c (k ∷ ks) = notes_by plan (after_call plan n c k) (control_after c k) ks
+
+-- the last tags of the pass after so many instructions
+abbrev pub last_by : PlanView → Notes → ControlView → List (Option ℕ) → ℕ → ℕ → ℕ
+last_by plan n c calls before = (notes_by plan n c (take before calls)).last
+
+-- From the old to the new notes the pass has made these visits, and at each instruction has opened or closed what its
+-- call asks for, behind the instruction's visits.
+pub record Follows (plan : PlanView) (old new : Notes) (trace : List Visit) (calls : List (Option ℕ)) (c d : ControlView) : Type 0 where
+  pub observes : Observes plan old new trace
+  pub answered : Answered plan old new (last_by plan old c calls) trace
+  pub control : d ≡ control_by c calls
+  pub last : new.last ≡ (notes_by plan old c calls).last
+  pub plants : new.tally.plants ≡ (notes_by plan old c calls).tally.plants
+  pub closes : new.tally.closes ≡ (notes_by plan old c calls).tally.closes
+
+-- At a place of a session of the control the last tag before an instruction is the session's odd one exactly where the
+-- session is open then: behind the instruction that opens it, up to and including the one that closes it.
+pub record HasWindows (plan : PlanView) (old : Notes) (c : ControlView) (calls : List (Option ℕ)) : Type 0 where
+  pub exact : (before : ℕ) (s : SessNo) (p : ℕ) → has_session c.sessions s.0 ≡ true → has_place (places_under plan s.0) p ≡ true →
+      (last_by plan old c calls before p + 1 ≡ 2 * s.0) ↔ ((control_by c (take before calls)).opened ≡ Some s)
+
+-- the number of the session's places, and those of several sessions together
+abbrev pub places_of : PlanView → Option SessNo → ℕ
+places_of plan None = 0
+places_of plan (Some s) = length (places_under plan s.0)
+
+abbrev pub places_in_all : PlanView → List SessNo → ℕ
+places_in_all plan sessions = sum_by (λ (s : SessNo). places_of plan (Some s)) sessions
+
+-- one plant for each place of each session that was opened, and one close for each place of those but the open one
+pub record HasPlanted (plan : PlanView) (old new : Notes) (d : ControlView) : Type 0 where
+  pub plants : new.tally.plants ≡ old.tally.plants + places_in_all plan (take d.next d.sessions)
+  pub closes : new.tally.closes + places_of plan d.opened ≡ old.tally.closes + places_in_all plan (take d.next d.sessions)
