@@ -1,2 +1,4 @@
 pub mod Called
 pub mod Courses
+pub mod Ran
+pub mod Windows

@@ -2,7 +2,9 @@
 #![tactic(auto)]
 
 mod run;
+mod runner;
 mod tasks;
 
 pub use run::run_task;
+pub use runner::{NoExtra, PlainRunner, Runner};
 pub use tasks::Task;

@@ -1,13 +1,12 @@
 //! The run of a task.
 ghost use Rattle.std.specs.Prelude.{◌≡◌, ℕ, ◌+◌, ◌*◌, ◌<◌, ◌≤◌, ◌^◌, true};
 ghost use Rattle.std.specs.declared.option.Option.TheVariants.{None};
-ghost use Rattle.cov_base.specs.declared.limits.TheConstants.{PLACE_LIMIT};
 ghost use Rattle.module_area.specs.Notes.{calls, is_working};
 ghost use Rattle.module_area.specs.Tied.{IsTied};
-ghost use Rattle.s370_exec.specs.Solo.{state_of, solo_run};
 ghost use Rattle.space_map.specs.Space.{memory_of_space};
 ghost use Rattle.svc_monitor.specs.First.{IsOver};
-ghost use Rattle.task_run.specs.Called.{calls_on, Follows, HasPlanted, HasWindows};
+ghost use Rattle.task_run.specs.Courses.{solo};
+ghost use Rattle.task_run.specs.Ran.{RanAs};
 
 use crate::tasks::Task;
 use brk_table::Tables;
@@ -36,16 +35,7 @@ pub fn run_task<C: Cells>(
     requires tied { IsTied (C.plan cells.now) (C.notes pass.old) task.old.control }
     requires first { (task.old.control.next ≡ 0) × (task.old.control.opened ≡ None) }
     ensures area { C.is_pass cells.now pass.new }
-    ensures memory { memory_of_space task.new.space ≡ memory_of_space task.old.space }
-    ensures budget { task.new.budget ≡ task.old.budget }
-    ensures done { task.new.done ≤ task.old.budget }
-    ensures ending { result ≡ (solo_run (memory_of_space task.old.space) task.old.budget (state_of task.old.cpu task.old.space.bytes task.old.io 0)).ending }
-    ensures state { state_of task.new.cpu task.new.space.bytes task.new.io task.new.done ≡ (solo_run (memory_of_space task.old.space) task.old.budget (state_of task.old.cpu task.old.space.bytes task.old.io 0)).state }
-    ensures follows { Follows (C.plan cells.now) (C.notes pass.old) (C.notes pass.new) (solo_run (memory_of_space task.old.space) task.old.budget (state_of task.old.cpu task.old.space.bytes task.old.io 0)).trace (calls_on (memory_of_space task.old.space) task.old.budget (state_of task.old.cpu task.old.space.bytes task.old.io 0)) task.old.control task.new.control }
-    ensures windows { HasWindows (C.plan cells.now) (C.notes pass.old) task.old.control (calls_on (memory_of_space task.old.space) task.old.budget (state_of task.old.cpu task.old.space.bytes task.old.io 0)) }
-    ensures planted { HasPlanted (C.plan cells.now) (C.notes pass.old) (C.notes pass.new) task.new.control }
-    ensures tied { IsTied (C.plan cells.now) (C.notes pass.new) task.new.control }
-    ensures few { calls (C.notes pass.new) ≤ calls (C.notes pass.old) + (6 + PLACE_LIMIT) * task.old.budget }
+    ensures ran { RanAs solo (C.plan cells.now) (C.notes pass.old) (C.notes pass.new) task.old task.new result }
 {
     // Read for what every plan keeps.
     let _ = plan.places_len();

@@ -1,0 +1,65 @@
+-- What a controlled session's set at a place lies between, by the runs of the phase's tasks; and which sessions a run
+-- opens and closes.
+use Rattle.std.specs.Prelude.{◌≡◌, ℕ, Bool, true, false, not, nat_eq, if◌then◌else◌, Option, Some, None, List, [], ◌∷◌, take}
+use Rattle.std.specs.List.{filter, sum_by}
+use Rattle.cov_base.specs.declared.facts.Fact.{Fact}
+use Rattle.cov_base.specs.declared.numbers.SessNo.{SessNo}
+use Rattle.cov_base.specs.declared.numbers.TaskNo.{TaskNo}
+use Rattle.cov_base.specs.FactSet.{FactSet}
+use Rattle.cov_base.specs.Facts.{no_facts, has_fact, union}
+use Rattle.cov_base.specs.States.{Visit}
+use Rattle.module_area.specs.Control.{ControlView, first_control}
+use Rattle.module_area.specs.Executions.{facts_at, facts_of_all}
+use Rattle.module_area.specs.PlanView.{PlanView}
+use Rattle.module_area.specs.Tied.{has_session}
+use Rattle.module_area.specs.declared.places.Place.{Place}
+use Rattle.task_run.specs.Called.{control_by, places_in_all}
+use Rattle.task_run.specs.Courses.{Walk}
+
+-- the session is the open one
+abbrev pub is_opened : ℕ → Option SessNo → Bool
+is_opened s None = false
+is_opened s (Some t) = nat_eq t.0 s
+
+-- the visits of the instructions before which the session is open: those behind the call that opens it, up to and
+-- including the one that closes it
+abbrev pub visits_under : ControlView → List (Option ℕ) → ℕ → List Visit → List Visit
+visits_under c calls s visits = filter (λ (v : Visit). is_opened s (control_by c (take v.before calls)).opened) visits
+
+-- the task's control after its run; the sessions that the run has opened, and those of them that it has closed
+abbrev pub last_control : PlanView → (ℕ → Walk) → ℕ → ControlView
+last_control plan walks t = control_by (first_control plan t) (walks t).calls
+
+abbrev pub opened_by : ControlView → List SessNo
+opened_by d = take d.next d.sessions
+
+abbrev pub closed_by : ControlView → List SessNo
+closed_by d = filter (λ (s : SessNo). not (is_opened s.0 d.opened)) (opened_by d)
+
+-- The facts at the place that session s of this controller has at least: those of the controller's own visits while the
+-- session is open.
+abbrev pub least_set : PlanView → (ℕ → Walk) → ℕ → ℕ → Place → FactSet
+least_set plan walks by s place = facts_at place (visits_under (first_control plan by) (walks by).calls s (walks by).trace)
+
+-- the traces of the other tasks
+abbrev pub traces_but : (ℕ → Walk) → List TaskNo → ℕ → List (List Visit)
+traces_but walks [] by = []
+traces_but walks (t ∷ ts) by = if nat_eq t.0 by then traces_but walks ts by else (walks t.0).trace ∷ traces_but walks ts by
+
+-- The facts that it has at most: none where its controller never opens it, else those and all that the other tasks of
+-- the phase show there.
+abbrev pub most_set : PlanView → (ℕ → Walk) → ℕ → ℕ → Place → FactSet
+most_set plan walks by s place =
+    if has_session (opened_by (last_control plan walks by)) s then union (least_set plan walks by s place) (facts_of_all place (traces_but walks plan.tasks by)) else no_facts
+
+-- no fewer facts than the least set, and no others than the most
+pub record IsBetween (least most set : FactSet) : Type 0 where
+  pub least : (f : Fact) → has_fact least f ≡ true → has_fact set f ≡ true
+  pub most : (f : Fact) → has_fact set f ≡ true → has_fact most f ≡ true
+
+-- how many places are opened, and closed, by the runs of these tasks: each session's places count at each of both
+abbrev pub opened_places : PlanView → (ℕ → Walk) → ℕ
+opened_places plan walks = sum_by (λ (t : TaskNo). places_in_all plan (opened_by (last_control plan walks t.0))) plan.tasks
+
+abbrev pub closed_places : PlanView → (ℕ → Walk) → ℕ
+closed_places plan walks = sum_by (λ (t : TaskNo). places_in_all plan (closed_by (last_control plan walks t.0))) plan.tasks

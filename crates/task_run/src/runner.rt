@@ -1,0 +1,97 @@
+//! What runs a task, and keeps of it what it wants beside the task itself.
+ghost use Rattle.std.specs.Prelude.{◌≡◌, ℕ, ◌+◌, ◌*◌, ◌<◌, ◌≤◌, ◌^◌, true, IfOk};
+ghost use Rattle.std.specs.declared.option.Option.TheVariants.{None};
+ghost use Rattle.cov_base.specs.FactSet.{FactSet};
+ghost use Rattle.module_area.specs.Notes.{Notes, bearer, calls, is_working, split_notes};
+ghost use Rattle.module_area.specs.PlanView.{PlanView};
+ghost use Rattle.module_area.specs.Tied.{IsTied};
+ghost use Rattle.space_map.specs.Space.{memory_of_space};
+ghost use Rattle.svc_monitor.specs.First.{IsOver};
+ghost use Rattle.task_run.specs.Courses.{Course, solo};
+ghost use Rattle.task_run.specs.Ran.{RanAs};
+ghost use Rattle.task_run.specs.declared.tasks.Task.{Task as TaskView};
+
+use crate::run::run_task;
+use crate::tasks::Task;
+use brk_table::Tables;
+use cov_base::{NoMemory, TaskNo};
+use module_area::{Cells, Plan};
+use s370_state::Ending;
+use std::alloc::Global;
+
+/// Runs tasks of a phase over cells, each along a course of its own from its first instruction to its end, and keeps
+/// something of each.
+pub trait Runner<C: Cells> {
+    /// What is kept of a task's run beside the task.
+    type Extra: Send + Drop;
+
+    /// The course that a task takes, as it would alone.
+    ghost course: { Course };
+
+    /// The extra is one with which the task of this number may begin, with a pass of these notes.
+    ghost begins: { PlanView → ℕ → Self.Extra → Notes → Type 0 };
+
+    /// What the extra tells after a run, of the task before and after it, where these are the phase's sets.
+    ghost ends: { PlanView → TaskView → TaskView → Self.Extra → (ℕ → ℕ → FactSet) → Type 0 };
+
+    /// The extra of a task of the plan, before it runs.
+    fn extra(&self, alloc: Global, plan: &Plan, task: TaskNo) -> Result<Self::Extra, NoMemory>
+        ensures { IfOk result (λ extra. (root : Notes) → begins plan.now task.0 extra (split_notes plan.now root task.0)) };
+
+    /// Runs the task until it ends: ending, state, count and what the pass has done are those of its course. The pass's
+    /// tally sums to less than 2^60 before.
+    fn run(
+        &self,
+        cells: &C,
+        pass: &mut C::Pass,
+        tables: &Tables,
+        plan: &Plan,
+        extra: &mut Self::Extra,
+        task: &mut Task<'_>,
+    ) -> Ending
+        requires area { C.is_pass cells.now pass.old }
+        requires plan { C.plan cells.now ≡ plan.now }
+        requires over { IsOver (C.plan cells.now) (memory_of_space task.old.space) tables.now.places }
+        requires room { calls (C.notes pass.old) < 2 ^ 60 }
+        requires working { is_working (C.notes pass.old) ≡ true }
+        requires fresh { task.old.done ≡ 0 }
+        requires tied { IsTied (C.plan cells.now) (C.notes pass.old) task.old.control }
+        requires first { (task.old.control.next ≡ 0) × (task.old.control.opened ≡ None) }
+        requires begins { begins plan.now (bearer (C.notes pass.old)) extra.old (C.notes pass.old) }
+        ensures area { C.is_pass cells.now pass.new }
+        ensures ran { RanAs course (C.plan cells.now) (C.notes pass.old) (C.notes pass.new) task.old task.new result }
+        ensures ends { (sets : ℕ → ℕ → FactSet) → ends plan.now task.old task.new extra.new sets };
+}
+
+/// Of a task's plain run nothing is kept.
+#[derive(Drop)]
+pub struct NoExtra;
+
+/// Runs a task as it runs alone.
+pub struct PlainRunner;
+
+impl<C: Cells> Runner<C> for PlainRunner {
+    type Extra = NoExtra;
+
+    ghost course = { solo };
+
+    ghost begins = { λ plan t extra notes. Unit {0} };
+
+    ghost ends = { λ plan old new extra sets. Unit {0} };
+
+    fn extra(&self, alloc: Global, plan: &Plan, task: TaskNo) -> Result<NoExtra, NoMemory> {
+        Ok(NoExtra)
+    }
+
+    fn run(
+        &self,
+        cells: &C,
+        pass: &mut C::Pass,
+        tables: &Tables,
+        plan: &Plan,
+        extra: &mut NoExtra,
+        task: &mut Task<'_>,
+    ) -> Ending {
+        run_task(cells, pass, tables, plan, task)
+    }
+}
