@@ -24,7 +24,7 @@ abbrev pub walk_from : Course → PlanView → Task → Walk
 walk_from course plan t = walk course plan (memory_of_space t.space) t.budget (stands t 0)
 
 -- Ending, state and count are those of the course. The pass has made its visits, has opened and closed the task's sessions
--- by its calls, and has answered no more calls than these.
+-- by its calls, and has made at most so many calls of the area.
 pub record RanAs (course : Course) (plan : PlanView) (before after : Notes) (old new : Task) (ending : Ending) : Type 0 where
   pub memory : memory_of_space new.space ≡ memory_of_space old.space
   pub budget : new.budget ≡ old.budget
