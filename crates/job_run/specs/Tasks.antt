@@ -4,11 +4,13 @@ use Rattle.s370_exec.specs.Solo.{Run, state_of}
 use Rattle.module_area.specs.PlanView.{PlanView}
 use Rattle.module_area.specs.declared.places.Place.{Place}
 use Rattle.space_map.specs.Space.{memory_of_space}
+use Rattle.module_area.specs.Control.{first_control}
 use Rattle.task_run.specs.Courses.{Course}
+use Rattle.task_run.specs.Ran.{run_from}
 use Rattle.session_book.specs.Begun.{IsBegun}
 use Rattle.session_book.specs.JobView.{JobView}
 use Rattle.session_book.specs.Results.{ResultView}
-use Rattle.session_book.specs.Sessions.{task_of}
+use Rattle.session_book.specs.Sessions.{task_of, plan_view}
 use Rattle.job_run.specs.Runs.{result_by}
 use Rattle.job_run.specs.declared.outcome.Done.{Done}
 use Rattle.job_run.specs.declared.slots.Slot.{Slot}
@@ -31,7 +33,7 @@ results_of tasks t = get_or (map done_result tasks) t no_result
 
 -- its run from where it stands, with nothing done yet
 abbrev pub own_run : Course → PlanView → Done → Run
-own_run run plan d = run plan (memory_of_space d.task.space) d.task.budget (state_of d.task.cpu d.task.space.bytes d.task.io 0)
+own_run course plan d = run_from course plan d.task
 
 -- task t as its card says, not run yet
 pub record HasNotRun (j : JobView) (places : List Place) (t : ℕ) (d : Done) : Type 0 where
@@ -40,9 +42,14 @@ pub record HasNotRun (j : JobView) (places : List Place) (t : ℕ) (d : Done) : 
   pub budget : d.task.budget ≡ (task_of j t).budget
   pub done : d.task.done ≡ 0
 
+-- and it has the sessions of its phase that it controls, of which it has opened none
+pub record IsEquipped (j : JobView) (places : List Place) (t : ℕ) (d : Done) : Type 0 where
+  pub begun : HasNotRun j places t d
+  pub control : d.task.control ≡ first_control (plan_view j places (task_of j t).phase) t
+
 -- task t after its run
-pub record IsEnded (run : Course) (j : JobView) (places : List Place) (t : ℕ) (d : Done) : Type 0 where
-  pub result : done_result d ≡ result_by run j places t
+pub record IsEnded (course : Course) (j : JobView) (places : List Place) (t : ℕ) (d : Done) : Type 0 where
+  pub result : done_result d ≡ result_by course j places t
   pub filled : length d.task.space.bytes ≡ (task_of j t).private
 
 -- it is a task of an earlier phase
@@ -50,7 +57,7 @@ abbrev pub has_run : JobView → ℕ → ℕ → Bool
 has_run j phase t = nat_lt (task_of j t).phase phase
 
 -- the tasks of the earlier phases have run, and the others are as they begin
-pub record AreRun {P : Type 0} (run : Course) (j : JobView) (places : List Place) (phase : ℕ) (slots : List (Slot P)) : Type 0 where
+pub record AreRun {P : Type 0} (course : Course) (j : JobView) (places : List Place) (phase : ℕ) (slots : List (Slot P)) : Type 0 where
   pub count : length slots ≡ length j.tasks
-  pub ended : (t : ℕ) (d : Slot P) → t < length slots → has_run j phase t ≡ true → IsEnded run j places t (get_or slots t d).done
+  pub ended : (t : ℕ) (d : Slot P) → t < length slots → has_run j phase t ≡ true → IsEnded course j places t (get_or slots t d).done
   pub begun : (t : ℕ) (d : Slot P) → t < length slots → has_run j phase t ≡ false → HasNotRun j places t (get_or slots t d).done
