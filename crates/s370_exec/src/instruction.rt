@@ -16,7 +16,12 @@ use s370_branch::branch;
 use s370_decimal::decimal;
 use s370_decode::{Code, Group, Op, group_of, op_of};
 use s370_edit::edit;
-use s370_fixed::fixed;
+use s370_fixed::{
+    add_half, add_logical_register, add_logical_word, add_register, add_word, compare_half,
+    compare_register, compare_word, fixed, load_address, load_and_test, load_complement, load_half,
+    load_negative, load_positive, load_register, load_word, store_half, store_word, subtract_half,
+    subtract_logical_register, subtract_logical_word, subtract_register, subtract_word,
+};
 use s370_logic::logic;
 use s370_state::{Cpu, Ending, Next, Space, TaskIo};
 use s370_storage::storage;
@@ -77,26 +82,6 @@ fn link_code(code: &Code, ex: &Option<Addr>) -> u8
         None => if code.len == 2 { 1 } else { 2 },
         Some(_) => 2,
     }
-}
-
-/// A fixed-point operation in the place where it is called: of a given operation only its own steps stay there.
-#[inline(always)]
-#[tactic(auto, unfolding(crate::specs::Effects::effect))]
-fn fixed_here<P: Space>(
-    cpu: &mut Cpu,
-    space: &mut P,
-    code: &Code,
-    op: Op,
-    next: Addr,
-    end: &mut Ending,
-) -> Told
-    requires group { group_of op ≡ Group.Fixed }
-    ensures memory { P.memory space.new ≡ P.memory space.old }
-    ensures effect { (io : IoView) (link : ℕ) → effect_of cpu.new (P.bytes space.new) io (next_of result end.new) ≡
-        effect (P.memory space.old) (machine_of cpu.old (P.bytes space.old)) io code.now op next link }
-{
-    let n = fixed(cpu, space, code, op);
-    onward(cpu, next, n, end)
 }
 
 /// Where the task has ended `end` tells how.
@@ -172,6 +157,7 @@ fn carry_out_any<P: Space>(
 
 /// The same: other operations that load, store or compute with a word or halfword in storage have their steps here.
 #[inline(never)]
+#[tactic(auto, unfolding(crate::specs::Effects::effect))]
 fn carry_out_stored<P: Space>(
     cpu: &mut Cpu,
     space: &mut P,
@@ -186,23 +172,54 @@ fn carry_out_stored<P: Space>(
         effect (P.memory space.old) (machine_of cpu.old (P.bytes space.old)) io.old code.now (op_of (first_half code.now)) next link }
 {
     match op_of(code.first_half()) {
-        Op::LH => fixed_here(cpu, space, code, Op::LH, next, end),
-        Op::STH => fixed_here(cpu, space, code, Op::STH, next, end),
-        Op::A => fixed_here(cpu, space, code, Op::A, next, end),
-        Op::AH => fixed_here(cpu, space, code, Op::AH, next, end),
-        Op::S => fixed_here(cpu, space, code, Op::S, next, end),
-        Op::SH => fixed_here(cpu, space, code, Op::SH, next, end),
-        Op::AL => fixed_here(cpu, space, code, Op::AL, next, end),
-        Op::SL => fixed_here(cpu, space, code, Op::SL, next, end),
-        Op::C => fixed_here(cpu, space, code, Op::C, next, end),
-        Op::CH => fixed_here(cpu, space, code, Op::CH, next, end),
+        Op::LH => {
+            let n = load_half(cpu, space, code);
+            onward(cpu, next, n, end)
+        }
+        Op::STH => {
+            let n = store_half(cpu, space, code);
+            onward(cpu, next, n, end)
+        }
+        Op::A => {
+            let n = add_word(cpu, space, code);
+            onward(cpu, next, n, end)
+        }
+        Op::AH => {
+            let n = add_half(cpu, space, code);
+            onward(cpu, next, n, end)
+        }
+        Op::S => {
+            let n = subtract_word(cpu, space, code);
+            onward(cpu, next, n, end)
+        }
+        Op::SH => {
+            let n = subtract_half(cpu, space, code);
+            onward(cpu, next, n, end)
+        }
+        Op::AL => {
+            let n = add_logical_word(cpu, space, code);
+            onward(cpu, next, n, end)
+        }
+        Op::SL => {
+            let n = subtract_logical_word(cpu, space, code);
+            onward(cpu, next, n, end)
+        }
+        Op::C => {
+            let n = compare_word(cpu, space, code);
+            onward(cpu, next, n, end)
+        }
+        Op::CH => {
+            let n = compare_half(cpu, space, code);
+            onward(cpu, next, n, end)
+        }
         _ => carry_out_any(cpu, space, io, code, next, end),
     }
 }
 
 /// L, which is frequent and has a frame of its own.
 #[inline(never)]
-fn load_word<P: Space>(
+#[tactic(auto, unfolding(crate::specs::Effects::effect))]
+fn load_word_apart<P: Space>(
     cpu: &mut Cpu,
     space: &mut P,
     code: &Code,
@@ -213,12 +230,14 @@ fn load_word<P: Space>(
     ensures effect { (io : IoView) (link : ℕ) → effect_of cpu.new (P.bytes space.new) io (next_of result end.new) ≡
         effect (P.memory space.old) (machine_of cpu.old (P.bytes space.old)) io code.now Op.L next link }
 {
-    fixed_here(cpu, space, code, Op::L, next, end)
+    let n = load_word(cpu, space, code);
+    onward(cpu, next, n, end)
 }
 
 /// ST, likewise.
 #[inline(never)]
-fn store_word<P: Space>(
+#[tactic(auto, unfolding(crate::specs::Effects::effect))]
+fn store_word_apart<P: Space>(
     cpu: &mut Cpu,
     space: &mut P,
     code: &Code,
@@ -229,12 +248,46 @@ fn store_word<P: Space>(
     ensures effect { (io : IoView) (link : ℕ) → effect_of cpu.new (P.bytes space.new) io (next_of result end.new) ≡
         effect (P.memory space.old) (machine_of cpu.old (P.bytes space.old)) io code.now Op.ST next link }
 {
-    fixed_here(cpu, space, code, Op::ST, next, end)
+    let n = store_word(cpu, space, code);
+    onward(cpu, next, n, end)
+}
+
+/// The same of an operation that has a branch or a word in storage, in the place where it is called.
+#[inline(always)]
+fn carry_out_other<P: Space>(
+    cpu: &mut Cpu,
+    space: &mut P,
+    io: &mut TaskIo,
+    code: &Code,
+    op: Op,
+    next: Addr,
+    end: &mut Ending,
+) -> Told
+    requires op { op_of (first_half code.now) ≡ op }
+    ensures memory { P.memory space.new ≡ P.memory space.old }
+    ensures effect { effect_of cpu.new (P.bytes space.new) io.new (next_of result end.new) ≡
+        effect (P.memory space.old) (machine_of cpu.old (P.bytes space.old)) io.old code.now op next (link_code code.now None) }
+{
+    match op {
+        Op::L => load_word_apart(cpu, space, code, next, end),
+        Op::ST => store_word_apart(cpu, space, code, next, end),
+        Op::BC => branch_here(cpu, code, Op::BC, next, link_code(code, &None)),
+        Op::BCR => branch_here(cpu, code, Op::BCR, next, link_code(code, &None)),
+        Op::BCT => branch_here(cpu, code, Op::BCT, next, link_code(code, &None)),
+        Op::BCTR => branch_here(cpu, code, Op::BCTR, next, link_code(code, &None)),
+        Op::BAL => branch_here(cpu, code, Op::BAL, next, link_code(code, &None)),
+        Op::BALR => branch_here(cpu, code, Op::BALR, next, link_code(code, &None)),
+        Op::BAS | Op::BASR | Op::BXH | Op::BXLE => {
+            branch_here(cpu, code, op, next, link_code(code, &None))
+        }
+        _ => carry_out_stored(cpu, space, io, code, next, end),
+    }
 }
 
 /// Carries out an instruction that no EX executes. Where the task has ended `end` tells how.
 /// The operations on registers alone and the branches have their steps here, of which none is a call.
 #[inline(never)]
+#[tactic(auto, unfolding(crate::specs::Effects::effect))]
 fn carry_out<P: Space>(
     cpu: &mut Cpu,
     space: &mut P,
@@ -249,29 +302,51 @@ fn carry_out<P: Space>(
     let op = op_of(code.first_half());
     let next = updated(code, &None);
     match op {
-        Op::L => load_word(cpu, space, code, next, end),
-        Op::ST => store_word(cpu, space, code, next, end),
-        Op::LR => fixed_here(cpu, space, code, Op::LR, next, end),
-        Op::LTR => fixed_here(cpu, space, code, Op::LTR, next, end),
-        Op::LCR => fixed_here(cpu, space, code, Op::LCR, next, end),
-        Op::LPR => fixed_here(cpu, space, code, Op::LPR, next, end),
-        Op::LNR => fixed_here(cpu, space, code, Op::LNR, next, end),
-        Op::LA => fixed_here(cpu, space, code, Op::LA, next, end),
-        Op::AR => fixed_here(cpu, space, code, Op::AR, next, end),
-        Op::SR => fixed_here(cpu, space, code, Op::SR, next, end),
-        Op::ALR => fixed_here(cpu, space, code, Op::ALR, next, end),
-        Op::SLR => fixed_here(cpu, space, code, Op::SLR, next, end),
-        Op::CR => fixed_here(cpu, space, code, Op::CR, next, end),
-        Op::BC => branch_here(cpu, code, Op::BC, next, link_code(code, &None)),
-        Op::BCR => branch_here(cpu, code, Op::BCR, next, link_code(code, &None)),
-        Op::BCT => branch_here(cpu, code, Op::BCT, next, link_code(code, &None)),
-        Op::BCTR => branch_here(cpu, code, Op::BCTR, next, link_code(code, &None)),
-        Op::BAL => branch_here(cpu, code, Op::BAL, next, link_code(code, &None)),
-        Op::BALR => branch_here(cpu, code, Op::BALR, next, link_code(code, &None)),
-        Op::BAS | Op::BASR | Op::BXH | Op::BXLE => {
-            branch_here(cpu, code, op, next, link_code(code, &None))
+        Op::LR => {
+            let n = load_register(cpu, space, code);
+            onward(cpu, next, n, end)
         }
-        _ => carry_out_stored(cpu, space, io, code, next, end),
+        Op::LTR => {
+            let n = load_and_test(cpu, space, code);
+            onward(cpu, next, n, end)
+        }
+        Op::LCR => {
+            let n = load_complement(cpu, space, code);
+            onward(cpu, next, n, end)
+        }
+        Op::LPR => {
+            let n = load_positive(cpu, space, code);
+            onward(cpu, next, n, end)
+        }
+        Op::LNR => {
+            let n = load_negative(cpu, space, code);
+            onward(cpu, next, n, end)
+        }
+        Op::LA => {
+            let n = load_address(cpu, space, code);
+            onward(cpu, next, n, end)
+        }
+        Op::AR => {
+            let n = add_register(cpu, space, code);
+            onward(cpu, next, n, end)
+        }
+        Op::SR => {
+            let n = subtract_register(cpu, space, code);
+            onward(cpu, next, n, end)
+        }
+        Op::ALR => {
+            let n = add_logical_register(cpu, space, code);
+            onward(cpu, next, n, end)
+        }
+        Op::SLR => {
+            let n = subtract_logical_register(cpu, space, code);
+            onward(cpu, next, n, end)
+        }
+        Op::CR => {
+            let n = compare_register(cpu, space, code);
+            onward(cpu, next, n, end)
+        }
+        _ => carry_out_other(cpu, space, io, code, op, next, end),
     }
 }
 
