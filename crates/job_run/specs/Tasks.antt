@@ -68,7 +68,7 @@ pub record HasExtra {P E : Type 0} (ends : Ends E) (j : JobView) (places : List 
   pub has : s.extra ≡ Some extra
   pub first : Done
   pub begun : IsEquipped j places t first
-  pub ends : (sets : ℕ → ℕ → FactSet) → ends (plan_view j places (task_of j t).phase) first.task s.done.task extra sets
+  pub tells : (sets : ℕ → ℕ → FactSet) → ends (plan_view j places (task_of j t).phase) first.task s.done.task extra sets
 
 -- it is a task of an earlier phase
 abbrev pub has_run : JobView → ℕ → ℕ → Bool

@@ -3,7 +3,7 @@ ghost use Rattle.std.specs.Prelude.{◌≡◌, ◌<◌, ◌≤◌, nat_eq, [], l
 ghost use Rattle.std.specs.declared.option.Option.TheVariants.{Some, None};
 ghost use Rattle.brk_table.specs.Places.{IsIn};
 ghost use Rattle.session_book.specs.Sessions.{task_of};
-ghost use Rattle.job_run.specs.Slots.{AreEmpty, dones, extras};
+ghost use Rattle.job_run.specs.Slots.{AreEmpty, dones, extras_of};
 ghost use Rattle.job_run.specs.Tasks.{HasNotRun, AreNew};
 
 use crate::outcome::Done;
@@ -124,7 +124,7 @@ pub fn parts_of<'a, P: Drop, E: Drop>(
     requires extras_room { length slots.items ≤ vec_capacity extras }
     requires some { All (λ s. IsSome s.extra) slots.items }
     ensures tasks { result.0.items ≡ dones slots.entry.items }
-    ensures extras { map Some result.1.items ≡ extras slots.entry.items }
+    ensures extras { map Some result.1.items ≡ extras_of slots.entry.items }
 {
     for slot in slots {
         let Slot {
