@@ -209,7 +209,7 @@ leaves plan walks t root n d is first follows windows planted tied few =
     record {
       least = λ s p f own there. follows.answered.shown s p f (sym (own_facts plan walks t root n s p f is first windows follows.answered own) ∙ there);
       most = λ s p f m. record {
-        shows = elim (follows.observes.nothing_else s p f m) [ | inl before ↦ absurd (never before) | inr shows ↦ shows.there ];
+        shows = elim (follows.observes.nothing_else s p f m) [ inl before ↦ absurd (never before) | inr shows ↦ shows.there ];
         own = λ own. elim (follows.answered.nothing_else s p f m) [
           | inl before ↦ absurd (never before)
           | inr there ↦ own_facts plan walks t root n s p f is first windows follows.answered own ∙ there
@@ -240,7 +240,7 @@ joins_none plan walks old new unmarked same = record {
 one_of : (tasks : List TaskNo) (t u : ℕ) → has_task (tasks ++ record { 0 = t } ∷ []) u ≡ true → (has_task tasks u ≡ true) ⊎ (t ≡ u)
 one_of tasks t u h = elim (or_cases (has_task tasks u) (nat_eq t u || false) (sym (list_any-append (λ (w : TaskNo). nat_eq w.0 u) tasks (record { 0 = t } ∷ [])) ∙ h)) [
   | inl before ↦ inl before
-  | inr here ↦ elim (or_cases (nat_eq t u) false here) [ | inl same ↦ inr (eqb-true t u same) | inr never ↦ absurd cc ]
+  | inr here ↦ elim (or_cases (nat_eq t u) false here) [ inl same ↦ inr (eqb-true t u same) | inr never ↦ absurd cc ]
 ]
 
 of_before : (tasks : List TaskNo) (t u : ℕ) → has_task tasks u ≡ true → has_task (tasks ++ record { 0 = t } ∷ []) u ≡ true
@@ -256,7 +256,7 @@ joins_one plan walks tasks t old mid other is bears j l =
     let closed = sum_by_push (λ (u : TaskNo). places_in_all plan (closed_by (last_control plan walks u.0))) tasks (record { 0 = t }) in
     record {
       least = λ u s p f has own there. elim (one_of tasks t u has) [
-        | inl before ↦ elim (j.least u s p f before own there) [ | inl m ↦ inl (or_left (mid.marked s p f) (other.marked s p f) m) | inr m ↦ inr (or_left (mid.full s p) (other.full s p) m) ]
+        | inl before ↦ elim (j.least u s p f before own there) [ inl m ↦ inl (or_left (mid.marked s p f) (other.marked s p f) m) | inr m ↦ inr (or_left (mid.full s p) (other.full s p) m) ]
         | inr same ↦ elim (l.least s p f (subst (λ (k : ℕ). IsOwn plan k s p) (sym same) own) (subst (λ (k : ℕ). has_fact (least_set plan walks k s (place_of plan.places p)) f ≡ true) (sym same) there)) [
           | inl m ↦ inl (or_right (mid.marked s p f) (other.marked s p f) m)
           | inr m ↦ inr (or_right (mid.full s p) (other.full s p) m)

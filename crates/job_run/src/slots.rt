@@ -113,6 +113,22 @@ pub fn take<'a, P: Drop, E: Drop>(slot: &mut Slot<'a, P, E>) -> Option<P>
     slot.pass.take()
 }
 
+/// The slot's task and its extra.
+fn taken_apart<'a, P: Drop, E: Drop>(slot: Slot<'a, P, E>) -> (Done<'a>, E)
+    requires { IsSome slot.extra }
+    ensures done { result.0 ≡ slot.entry.done }
+    ensures extra { Some result.1 ≡ slot.entry.extra }
+{
+    let Slot {
+        done,
+        pass: _,
+        extra,
+        apart: _,
+    } = slot;
+    let Some(extra) = extra else { unreachable!() };
+    (done, extra)
+}
+
 /// The tasks of the slots and their extras, moved into lists that have room for them.
 pub fn parts_of<'a, P: Drop, E: Drop>(
     slots: Vec<Slot<'a, P, E>>,
@@ -127,13 +143,7 @@ pub fn parts_of<'a, P: Drop, E: Drop>(
     ensures extras { map Some result.1.items ≡ extras_of slots.entry.items }
 {
     for slot in slots {
-        let Slot {
-            done,
-            pass: _,
-            extra,
-            apart: _,
-        } = slot;
-        let Some(extra) = extra else { unreachable!() };
+        let (done, extra) = taken_apart(slot);
         let Ok(()) = tasks.push(done) else {
             unreachable!()
         };

@@ -79,7 +79,13 @@ fn run_slot<'a, C: Cells, G: Gate, R: Runner<C>>(
 
 /// Runs the tasks of all slots that have a pass, with a thread for each slot. The first of them is the task of this
 /// number.
-fn run_slots<'a, T: Threads + Sync, C: Cells<Pass: Send> + Sync, G: Gate + Sync, R: Runner<C> + Sync>(
+fn run_slots<
+    'a,
+    T: Threads + Sync,
+    C: Cells<Pass: Send> + Sync,
+    G: Gate + Sync,
+    R: Runner<C> + Sync,
+>(
     rt: &T,
     cells: &C,
     gate: &G,
@@ -136,7 +142,13 @@ fn range_of(job: &Job, phase: u32) -> Range<usize>
 }
 
 /// Runs the phase's tasks, whose slots alone have passes, each on a thread of its own.
-fn run_those<'a, T: Threads + Sync, C: Cells<Pass: Send> + Sync, G: Gate + Sync, R: Runner<C> + Sync>(
+fn run_those<
+    'a,
+    T: Threads + Sync,
+    C: Cells<Pass: Send> + Sync,
+    G: Gate + Sync,
+    R: Runner<C> + Sync,
+>(
     rt: &T,
     cells: &C,
     gate: &G,
@@ -157,7 +169,16 @@ fn run_those<'a, T: Threads + Sync, C: Cells<Pass: Send> + Sync, G: Gate + Sync,
 {
     let range = range_of(job, phase);
     let first = range.start;
-    run_slots(rt, cells, gate, runner, tables, plan, first, &mut slots[range]);
+    run_slots(
+        rt,
+        cells,
+        gate,
+        runner,
+        tables,
+        plan,
+        first,
+        &mut slots[range],
+    );
 }
 
 /// Splits off a pass for each task of the phase, in job order.
@@ -220,7 +241,13 @@ pub fn equip_all<'a, C: Cells, R: Runner<C>>(
 }
 
 /// Runs the phase's tasks: splits off a pass for each, runs all at once, and joins the passes.
-pub fn run_tasks<'a, T: Threads + Sync, C: Forks<Pass: Send> + Sync, G: Gate + Sync, R: Runner<C> + Sync>(
+pub fn run_tasks<
+    'a,
+    T: Threads + Sync,
+    C: Forks<Pass: Send> + Sync,
+    G: Gate + Sync,
+    R: Runner<C> + Sync,
+>(
     rt: &T,
     cells: &C,
     root: &mut C::Pass,

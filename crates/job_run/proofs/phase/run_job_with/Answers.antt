@@ -1,6 +1,6 @@
 use Rattle.std.proofs.Common.{◌≡◌, ◌++◌, List, length, take, drop, sym, ◌∙◌, ap, subst}
 use Rattle.job_run.specs.Slots.{dones, extras_of}
-use Rattle.job_run.specs.Tasks.{AreRun}
+use Rattle.job_run.specs.Tasks.{AreNew, AreRun}
 use Rattle.job_run.specs.declared.slots.Slot.{Slot}
 use Rattle.job_run.proofs.PhaseLemmas.{left_count, written}
 use Rattle.job_run.proofs.SessionLemmas.{all_sized, are_extras, has_some, left_of, outcome}
@@ -9,4 +9,24 @@ use Rattle.job_run.proofs.phase.run_job_with.Given as given
 use Rattle.job_run.proofs.phase.run_job_with.Goals as goal
 
 pub run_phases-requires-clause-tasks : goal.run_phases-requires-clause-tasks
-run_phases-requires-clause-tasks g c κs within = ?
+run_phases-requires-clause-tasks g c κs within =
+    AreRun-start g.R.Runner.course g.R.Runner.ends c.args.job.now c.args.tables.now.places c.deref_mut.result.now
+    (subst (λ (ss : List (Slot _ _)). AreNew c.args.job.now c.args.tables.now.places ss) (sym c.deref_mut.ensures.value) c.in_ok-slots.ensures.tasks)
+
+pub parts_of-tasks-requires-clause-some : goal.parts_of-tasks-requires-clause-some
+parts_of-tasks-requires-clause-some g c = ?
+
+pub new-sets-requires-clause-count : goal.new-sets-requires-clause-count
+new-sets-requires-clause-count g c = left_count g.R.Runner.course c.args.job.now c.args.tables.now.places _ _ c.in_ok-finals.finals.items c.in_ok-finals.ensures.left
+
+pub new-sets-requires-clause-sizes : goal.new-sets-requires-clause-sizes
+new-sets-requires-clause-sizes g c = all_sized g.R.Runner.course c.args.job.now c.args.tables.now.places _ _ c.in_ok-finals.finals.items c.in_ok-finals.ensures.left
+
+pub returns-clause-left : goal.returns-clause-left
+returns-clause-left g c = ?
+
+pub returns-clause-outcome : goal.returns-clause-outcome
+returns-clause-outcome g c = ?
+
+pub returns-clause-extras : goal.returns-clause-extras
+returns-clause-extras g c = ?

@@ -5,7 +5,7 @@ use Rattle.session_book.specs.Sessions.{task_of}
 use Rattle.job_run.specs.Slots.{AreEquipped, HasStart}
 use Rattle.job_run.proofs.SlotLemmas.{AreEquipped-start, AreEquipped-one, AreEquipped-other, AreRun-equipped, begun_in, empty_set, plan_here}
 use Rattle.job_run.proofs.threads.equip_all.Goals as goal
-use Rattle.job_run.proofs.threads.equip_all.Goals.{then-is_of, else-is_of}
+use Rattle.job_run.proofs.threads.equip_all.Goals.{then-is_of+in_ok-control+in_ok-extra, else-is_of}
 
 pub loop-t-init : goal.loop-t-init
 loop-t-init g c = record {
@@ -14,13 +14,16 @@ loop-t-init g c = record {
   equipped = AreEquipped-start g.R.Runner.begins c.args.plan.now c.args.job.now c.args.tables.now.places c.args.phase c.args.slots.now;
 }
 
+pub offset_bounds-slots-t : goal.offset_bounds-slots-t
+offset_bounds-slots-t g c = ?
+
 pub loop-t-preserved : goal.loop-t-preserved
 loop-t-preserved g c =
     let t : ℕ = c.loop-t.t in
     let i = c.loop-t.invariant in
     let there : t < length c.loop-t.slots = omega (arith, c.loop-t-test.true, c.task_count-count.ensures.value, i.tasks.count) in
     elim c.if-is_of.branch [
-      | then-is_of w ↦
+      | then-is_of+in_ok-control+in_ok-extra w ↦
           let of : nat_eq (task_of c.args.job.now t).phase c.args.phase ≡ true = sym c.is_of.ensures ∙ w.if-is_of.true in
           let begun = w.equip.ensures.begun c.args.job.now c.args.tables.now.places t (begun_in g.R.Runner.course g.R.Runner.ends c.args.job.now c.args.tables.now.places c.args.phase t c.loop-t.slots w.index-slots-t.result i.tasks there of) in
           let start : HasStart g.R.Runner.begins c.args.plan.now c.args.job.now c.args.tables.now.places t w.equip.new.slot = record {

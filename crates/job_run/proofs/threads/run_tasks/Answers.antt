@@ -28,6 +28,9 @@ loop-t-init g c =
           c.args.slots.now c.split_all.new.slots c.run_those.new.slots c.requires.plan s.passes c.requires.tasks c.requires.equipped c.run_those.ensures.count c.run_those.ensures.runs;
     }
 
+pub offset_bounds-slots-t : goal.offset_bounds-slots-t
+offset_bounds-slots-t g c = omega (arith, c.loop-t-test.true, c.task_count-count.ensures.value, c.loop-t.invariant.tasks.count)
+
 pub run_those-requires-clause-ready : goal.run_those-requires-clause-ready
 run_those-requires-clause-ready g c κs within =
     all_ready (g.C.Cells.is_pass c.args.cells.now) g.C.Cells.notes g.R.Runner.begins (g.C.Cells.notes c.args.root.now) c.args.plan.now c.args.job.now c.args.tables.now.places c.args.phase c.args.slots.now c.split_all.new.slots
