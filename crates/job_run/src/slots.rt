@@ -1,5 +1,5 @@
 //! The tasks of a job with the passes that their threads work with.
-ghost use Rattle.std.specs.Prelude.{◌≡◌, ◌<◌, ◌≤◌, nat_eq, [], length, map, All, IsSome, IfOk, vec_capacity};
+ghost use Rattle.std.specs.Prelude.{◌≡◌, ◌<◌, ◌≤◌, nat_eq, [], length, map, All, IsSome, IfOk, slice_index_or, slice_set, vec_capacity};
 ghost use Rattle.std.specs.declared.option.Option.TheVariants.{Some, None};
 ghost use Rattle.brk_table.specs.Places.{IsIn};
 ghost use Rattle.session_book.specs.Sessions.{task_of};
@@ -104,13 +104,20 @@ pub fn give<'a, P: Drop, E: Drop>(slot: &mut Slot<'a, P, E>, pass: P)
 }
 
 /// Takes the pass out of the slot.
-pub fn take<'a, P: Drop, E: Drop>(slot: &mut Slot<'a, P, E>) -> Option<P>
+fn take<'a, P: Drop, E: Drop>(slot: &mut Slot<'a, P, E>) -> Option<P>
     ensures pass { result ≡ slot.old.pass }
-    ensures none { slot.new.pass ≡ None }
-    ensures done { slot.new.done ≡ slot.old.done }
-    ensures extra { slot.new.extra ≡ slot.old.extra }
+    ensures rest { slot.new ≡ record slot.old { pass = None } }
 {
     slot.pass.take()
+}
+
+/// Takes the pass out of the slot of this task.
+pub fn take_at<'a, P: Drop, E: Drop>(slots: &mut [Slot<'a, P, E>], t: usize) -> Option<P>
+    requires { t < length slots.old }
+    ensures pass { (d : _) → result ≡ (slice_index_or slots.old t d).pass }
+    ensures rest { (d : _) → slots.new ≡ slice_set slots.old t (record (slice_index_or slots.old t d) { pass = None }) }
+{
+    take(&mut slots[t])
 }
 
 /// The slot's task and its extra.

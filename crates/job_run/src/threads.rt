@@ -15,7 +15,7 @@ ghost use Rattle.job_run.specs.Slots.{AreEmpty, AreEquipped, AreSplit, CanRun, H
 ghost use Rattle.job_run.specs.Tasks.{AreRun};
 
 use crate::outcome::Done;
-use crate::slots::{Slot, equip, give, is_of, take};
+use crate::slots::{Slot, equip, give, is_of, take_at};
 use brk_table::Tables;
 use cov_base::{NoMemory, TaskNo};
 use cov_outside::Gate;
@@ -232,9 +232,10 @@ pub fn equip_all<'a, C: Cells, R: Runner<C>>(
     let count = job.task_count();
     for t in 0..count {
         if is_of(job, t, phase) {
+            let slot = &mut slots[t];
             let control = plan.control_of(alloc, TaskNo(t as u32))?;
             let extra = runner.extra(alloc, plan, TaskNo(t as u32))?;
-            equip(&mut slots[t], control, extra);
+            equip(slot, control, extra);
         }
     }
     Ok(())
@@ -285,7 +286,7 @@ pub fn run_tasks<
     run_those(rt, cells, gate, runner, job, tables, plan, phase, slots);
     let count = job.task_count();
     for t in 0..count {
-        if let Some(pass) = take(&mut slots[t]) {
+        if let Some(pass) = take_at(slots, t) {
             cells.join(root, pass);
         }
     }

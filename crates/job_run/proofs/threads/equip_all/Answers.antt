@@ -14,9 +14,6 @@ loop-t-init g c = record {
   equipped = AreEquipped-start g.R.Runner.begins c.args.plan.now c.args.job.now c.args.tables.now.places c.args.phase c.args.slots.now;
 }
 
-pub offset_bounds-slots-t : goal.offset_bounds-slots-t
-offset_bounds-slots-t g c = ?
-
 pub loop-t-preserved : goal.loop-t-preserved
 loop-t-preserved g c =
     let t : ℕ = c.loop-t.t in

@@ -1,13 +1,15 @@
-use Rattle.std.proofs.Common.{◌≡◌, ℕ, ◌+◌, ◌<◌, Bool, true, false, not, ◌&&◌, nat_eq, Option, unwrap_or, length, set, refl, sym, ◌∙◌, ap, subst, arith}
+use Rattle.std.proofs.Common.{◌≡◌, ℕ, ◌+◌, ◌<◌, Bool, true, false, not, ◌&&◌, nat_eq, Option, None, unwrap_or, List, get_or, length, set, refl, sym, ◌∙◌, ap, subst, arith}
 use Rattle.std.proofs.lemmas.List.{length-set}
 use Rattle.cov_base.specs.declared.facts.Fact.{Fact}
 use Rattle.module_area.specs.Notes.{Notes, bearer, after_join}
 use Rattle.module_area.specs.PlanView.{PlanView, is_controller}
 use Rattle.job_run.specs.Runs.{walk_by}
-use Rattle.job_run.specs.Slots.{HasSeen, in_phase}
+use Rattle.job_run.specs.Slots.{AreOver, HasSeen, in_phase}
+use Rattle.job_run.specs.Tasks.{AreRun}
+use Rattle.job_run.specs.declared.slots.Slot.{Slot}
 use Rattle.job_run.proofs.PhaseLemmas.{HasObserved, HasObserved-start, HasObserved-one, HasObserved-other, HasObserved-all, HasJoined-all}
 use Rattle.job_run.proofs.SlotLemmas.{all_ready, none_other, AreOver-start, AreOver-next, AreOver-all, AreRun-after, pass_of, not_of, set_done, set_extra, left_out, left_start, left_here, left_next, left_other, none_left}
-use Rattle.job_run.proofs.TaskLemmas.{AreRun-same}
+use Rattle.job_run.proofs.TaskLemmas.{AreRun-same, no_slot}
 use Rattle.job_run.proofs.threads.run_tasks.Given as given
 use Rattle.job_run.proofs.threads.run_tasks.Goals as goal
 use Rattle.job_run.proofs.threads.run_tasks.Goals.{in-Some, in_default}
@@ -28,9 +30,6 @@ loop-t-init g c =
           c.args.slots.now c.split_all.new.slots c.run_those.new.slots c.requires.plan s.passes c.requires.tasks c.requires.equipped c.run_those.ensures.count c.run_those.ensures.runs;
     }
 
-pub offset_bounds-slots-t : goal.offset_bounds-slots-t
-offset_bounds-slots-t g c = omega (arith, c.loop-t-test.true, c.task_count-count.ensures.value, c.loop-t.invariant.tasks.count)
-
 pub run_those-requires-clause-ready : goal.run_those-requires-clause-ready
 run_those-requires-clause-ready g c κs within =
     all_ready (g.C.Cells.is_pass c.args.cells.now) g.C.Cells.notes g.R.Runner.begins (g.C.Cells.notes c.args.root.now) c.args.plan.now c.args.job.now c.args.tables.now.places c.args.phase c.args.slots.now c.split_all.new.slots
@@ -45,7 +44,7 @@ seen_of : (g : given.Over) (c : goal.After-join-arg-1 g) → (in_phase c.args.jo
     HasSeen (g.C.Cells.is_pass c.args.cells.now) g.C.Cells.notes c.args.plan.now (g.C.Cells.notes c.args.root.now) (walk_by g.R.Runner.course c.args.job.now c.args.tables.now.places) c.loop-t.t c.in-Some.pass
 seen_of g c =
     pass_of g.R.Runner.course (g.C.Cells.is_pass c.args.cells.now) g.C.Cells.notes (g.C.Cells.notes c.args.root.now) c.args.plan.now c.args.job.now c.args.tables.now.places c.args.phase c.loop-t.t c.loop-t.slots
-    c.index-slots-t.result c.in-Some.pass (omega (arith, c.loop-t-test.true, c.task_count-count.ensures.value, c.loop-t.invariant.tasks.count)) c.loop-t.invariant.over (sym c.take.ensures.pass ∙ c.in-Some.is)
+    no_slot c.in-Some.pass (omega (arith, c.loop-t-test.true, c.task_count-count.ensures.value, c.loop-t.invariant.tasks.count)) c.loop-t.invariant.over (sym (c.take_at.ensures.pass no_slot) ∙ c.in-Some.is)
 
 pub join-requires-clause-other : goal.join-requires-clause-other
 join-requires-clause-other g c = (seen_of g c).1.area
@@ -72,16 +71,19 @@ loop-t-preserved g c =
     let mid : Notes = g.C.Cells.notes c.loop-t.root in
     let here : t < length c.args.job.now.tasks = omega (arith, c.loop-t-test.true, c.task_count-count.ensures.value) in
     let there : t < length c.loop-t.slots = omega (arith, here, i.tasks.count) in
-    let taken = AreOver-next g.R.Runner.course (g.C.Cells.is_pass c.args.cells.now) g.C.Cells.notes before c.args.plan.now c.args.job.now c.args.tables.now.places c.args.phase t
-    c.loop-t.slots c.take.new.slot there c.take.ensures.none i.over in
-    let tasks = AreRun-same g.R.Runner.course g.R.Runner.ends c.args.job.now c.args.tables.now.places (c.args.phase + 1) c.loop-t.slots (set c.loop-t.slots t c.take.new.slot) i.tasks (length-set c.loop-t.slots t c.take.new.slot)
-    (set_done c.loop-t.slots t c.take.new.slot c.index-slots-t.result there c.take.ensures.done) (set_extra c.loop-t.slots t c.take.new.slot c.index-slots-t.result there c.take.ensures.extra) in
-    elim c.match-take.branch [
+    let e : Slot _ _ = record (get_or c.loop-t.slots t no_slot) { pass = None } in
+    let rest : c.take_at.new.slots ≡ set c.loop-t.slots t e = c.take_at.ensures.rest no_slot in
+    let taken = subst (λ (ss : List (Slot _ _)). AreOver g.R.Runner.course (g.C.Cells.is_pass c.args.cells.now) g.C.Cells.notes c.args.plan.now before c.args.job.now c.args.tables.now.places c.args.phase (t + 1) ss) (sym rest)
+    (AreOver-next g.R.Runner.course (g.C.Cells.is_pass c.args.cells.now) g.C.Cells.notes before c.args.plan.now c.args.job.now c.args.tables.now.places c.args.phase t c.loop-t.slots e there refl i.over) in
+    let tasks = subst (λ (ss : List (Slot _ _)). AreRun g.R.Runner.course g.R.Runner.ends c.args.job.now c.args.tables.now.places (c.args.phase + 1) ss) (sym rest)
+    (AreRun-same g.R.Runner.course g.R.Runner.ends c.args.job.now c.args.tables.now.places (c.args.phase + 1) c.loop-t.slots (set c.loop-t.slots t e) i.tasks (length-set c.loop-t.slots t e)
+    (set_done c.loop-t.slots t e no_slot there refl) (set_extra c.loop-t.slots t e no_slot there refl)) in
+    elim c.match-take_at.branch [
       | in-Some w ↦
           let s = pass_of g.R.Runner.course (g.C.Cells.is_pass c.args.cells.now) g.C.Cells.notes before c.args.plan.now c.args.job.now c.args.tables.now.places c.args.phase t c.loop-t.slots
-          c.index-slots-t.result w.in-Some.pass there i.over (sym c.take.ensures.pass ∙ w.in-Some.is) in
+          no_slot w.in-Some.pass there i.over (sym (c.take_at.ensures.pass no_slot) ∙ w.in-Some.is) in
           let other : Notes = g.C.Cells.notes w.in-Some.pass in
-          let new : g.C.Cells.notes c.match-take.root ≡ after_join c.args.plan.now mid other =
+          let new : g.C.Cells.notes c.match-take_at.root ≡ after_join c.args.plan.now mid other =
           ap g.C.Cells.notes w.root-is ∙ (w.join.ensures.notes ∙ ap (λ (p : PlanView). after_join p mid other) c.requires.cells) in
           let bears : bearer other ≡ t = ap (λ (o : Option ℕ). unwrap_or o 0) s.1.observes.grows.bears in
           record {
@@ -97,7 +99,7 @@ loop-t-preserved g c =
           }
       | in_default w ↦
           let not_here = not_of g.R.Runner.course (g.C.Cells.is_pass c.args.cells.now) g.C.Cells.notes before c.args.plan.now c.args.job.now c.args.tables.now.places c.args.phase t c.loop-t.slots
-          c.index-slots-t.result there i.over (sym c.take.ensures.pass ∙ w.in_default.is) in
+          no_slot there i.over (sym (c.take_at.ensures.pass no_slot) ∙ w.in_default.is) in
           record {
             area = rw (w.root-is) i.area;
             root = rw (w.root-is) i.root;
