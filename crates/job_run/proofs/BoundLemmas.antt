@@ -1,6 +1,6 @@
 -- What a task's pass leaves of the task's sessions, passes joined one after the other, and the bounds of the sets.
 use Rattle.std.proofs.Common.{◌≡◌, ◌↔◌, ◌⊎◌, ℕ, zero, suc, ◌+◌, ◌*◌, ◌<◌, ◌≤◌, ◌^◌, Bool, true, false, ◌&&◌, ◌||◌, ◌==◌, if◌then◌else◌, nat_eq, Option, Some, None, List, [], ◌∷◌, ◌++◌, length, get_or, take, drop, All, AllPairs, inl, inr, refl, sym, ◌∙◌, ap, subst, arith, eqb-true, eq-eqb, ne_eqb, zero-add}
-use Rattle.std.specs.List.{list_any, filter, sum_by}
+use Rattle.std.specs.List.{filter}
 use Rattle.std.proofs.lemmas.Bool.{or_cases, or_left, or_right, and_from, both_ways, cases_Bool}
 use Rattle.std.proofs.lemmas.List.{get_or_default, take-append-drop}
 use Rattle.std.proofs.lemmas.List.Folds.{list_any-append}
@@ -33,7 +33,7 @@ use Rattle.task_run.specs.Windows.{is_opened, visits_under, last_control, opened
 use Rattle.task_run.proofs.CloseLemmas.{closes_closed}
 use Rattle.task_run.proofs.SetLemmas.{facts_at-kind, has_fact-full_of, has_fact-union}
 use Rattle.job_run.specs.Areas.{IsBounded}
-use Rattle.job_run.specs.Bounds.{IsOwn, IsOf, IsOfOne, Leaves, JoinsTasks, never_opens, no_controlled}
+use Rattle.job_run.specs.Bounds.{IsOwn, Leaves, JoinsTasks, never_opens, no_controlled}
 
 -- facts of visits while a session is open, and of pairs under its odd tag
 

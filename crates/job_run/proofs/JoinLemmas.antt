@@ -1,5 +1,5 @@
 -- A root that has observed some visits, and a pass joined to it that has observed others.
-use Rattle.std.proofs.Common.{◌≡◌, ℕ, ◌+◌, ◌*◌, ◌≤◌, true, false, max, List, ◌++◌, inl, inr, refl, arith}
+use Rattle.std.proofs.Common.{◌≡◌, ℕ, ◌+◌, ◌*◌, true, false, max, List, ◌++◌, inl, inr, refl, arith}
 use Rattle.std.proofs.lemmas.Bool.{or_cases, or_left, or_right}
 use Rattle.cov_base.specs.States.{Visit}
 use Rattle.module_area.specs.Notes.{Notes, split_notes, after_join}

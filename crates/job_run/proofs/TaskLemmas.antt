@@ -4,7 +4,6 @@ use Rattle.std.proofs.lemmas.Bool.Decides.{nat_tests}
 use Rattle.std.proofs.lemmas.Bool.{ltb-true}
 use Rattle.std.proofs.lemmas.List.{get_or-map, length-map, length-drop, take_all}
 use Rattle.std.proofs.lemmas.List.Elements.{All-get_or}
-use Rattle.cov_base.specs.FactSet.{FactSet}
 use Rattle.cov_base.specs.Memory.{Memory, ImageView}
 use Rattle.cov_base.specs.States.{State}
 use Rattle.cov_base.specs.declared.limits.TheConstants.{PLACE_LIMIT, BUDGET_LIMIT}

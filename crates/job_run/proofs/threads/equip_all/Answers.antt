@@ -1,4 +1,4 @@
-use Rattle.std.proofs.Common.{◌≡◌, ℕ, ◌+◌, ◌<◌, true, false, nat_eq, length, refl, sym, ◌∙◌, ap, subst, arith}
+use Rattle.std.proofs.Common.{◌≡◌, ℕ, ◌<◌, true, false, nat_eq, length, sym, ◌∙◌, ap, subst, arith}
 use Rattle.module_area.specs.Control.{first_control}
 use Rattle.module_area.specs.PlanView.{PlanView}
 use Rattle.session_book.specs.Sessions.{task_of}

@@ -1,8 +1,7 @@
-use Rattle.std.proofs.Common.{◌≡◌, ℕ, ◌+◌, ◌<◌, Bool, true, false, not, ◌&&◌, nat_eq, Option, None, unwrap_or, List, get_or, length, set, refl, sym, ◌∙◌, ap, subst, arith}
+use Rattle.std.proofs.Common.{◌≡◌, ℕ, ◌+◌, ◌<◌, Bool, true, not, ◌&&◌, nat_eq, Option, None, unwrap_or, List, get_or, length, set, refl, sym, ◌∙◌, ap, subst, arith}
 use Rattle.std.proofs.lemmas.List.{length-set}
-use Rattle.cov_base.specs.declared.facts.Fact.{Fact}
 use Rattle.module_area.specs.Notes.{Notes, bearer, after_join}
-use Rattle.module_area.specs.PlanView.{PlanView, is_controller}
+use Rattle.module_area.specs.PlanView.{PlanView}
 use Rattle.job_run.specs.Runs.{walk_by}
 use Rattle.job_run.specs.Slots.{AreOver, HasSeen, in_phase}
 use Rattle.job_run.specs.Tasks.{AreRun}
