@@ -28,7 +28,7 @@ use Rattle.job_run.specs.declared.outcome.Done.{Done}
 use Rattle.coverage_program.specs.declared.tables.Refused.{Refused}
 use Rattle.coverage_program.specs.declared.tables.Refused.TheVariants.{Told, NoMemory}
 use Rattle.coverage_program.specs.declared.words.Command.{Command}
-use Rattle.coverage_program.specs.declared.words.Command.TheVariants.{Run, Marks, Trial, Table, Replay, Combine, Show, Unknown}
+use Rattle.coverage_program.specs.declared.words.Command.TheVariants.{Run, Marks, Trial, Table, Replay, Combine, Show, Prove, Verify, Unknown}
 use Rattle.job_run.specs.Outcomes.{IsOutcome}
 use Rattle.coverage_program.specs.Named.{HasNamed}
 use Rattle.coverage_program.specs.Refusals.{RefusalView, job_refusal, Match}
@@ -125,7 +125,7 @@ pub first_none : (how : Reading) (bytes : List ℕ) (e : JobFault) → ReadsOnly
 first_none how bytes e only n q j has = let wanting : e ≡ fault.NoMemory = only has.count j has.inside has.spells has.within in absurd cc
 
 -- by the reader's fault
-pub unread : (how : Reading) (name : Option (List ℕ)) (s : SourceChange) (bytes : List ℕ) (e : JobFault) → CameWhole s bytes → IsRefusal (asked how.by) (lines_of bytes) e → ((n : ℕ) → e ≡ fault.BadJob n → (j : JobView) → HasJob how (lines_of bytes) j → ⊥) →
+pub unread : (how : Reading) (name : Option Wanted) (s : SourceChange) (bytes : List ℕ) (e : JobFault) → CameWhole s bytes → IsRefusal (asked how.by) (lines_of bytes) e → ((n : ℕ) → e ≡ fault.BadJob n → (j : JobView) → HasJob how (lines_of bytes) j → ⊥) →
     IsStopped true how name s (fault_refusal e).status (fault_refusal e).line
 unread how name s bytes (fault.BadJob n) came first none = BadJob refl refl (record { bytes = bytes; line = n; came = came; first_bad = first; jobless = none n refl; told = refl })
 unread how name s bytes (fault.TooLarge what n) came first none = LargeJob refl refl (record { bytes = bytes; what = what; line = n; came = came; first_over = first; told = refl })
@@ -147,7 +147,7 @@ read_is how s bytes r came read whole =
     }
 
 -- by the first fault of the job's listings
-pub unmatched : (how : Reading) (name : Option (List ℕ)) (s : SourceChange) (j : JobView) (r : Refused) → CameJob how s j → HasNamed name j → IsRefused (job_refusal j) r → IsStopped true how name s (refused_refusal r).status (refused_refusal r).line
+pub unmatched : (how : Reading) (name : Option Wanted) (s : SourceChange) (j : JobView) (r : Refused) → CameJob how s j → HasNamed name j → IsRefused (job_refusal j) r → IsStopped true how name s (refused_refusal r).status (refused_refusal r).line
 unmatched how name s j (Told r) came named first = BadListing refl (record { job = j; came = came; named = named; first = first })
 unmatched how name s j NoMemory came named first = WantOfMemory (refl, refl)
 
@@ -182,4 +182,6 @@ alike Table h = refl
 alike Replay h = refl
 alike Combine h = refl
 alike (Show name) h = refl
+alike (Prove name) h = refl
+alike (Verify name) h = refl
 alike Unknown h = refl
