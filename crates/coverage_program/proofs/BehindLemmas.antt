@@ -215,11 +215,11 @@ show_outcome c name s a status text b j tables number rest (BadShown n p q k) sa
     let i = one_rest name n s b j q.job tables q.tables number q.number rest q.rest (one_name c n name p.1 same) e q.has h in
     NoFile q.offset (subst (λ (r : List ℕ). IsNoFile r q.offset) i.rests q.bad) p.0
 show_outcome c name s a status text b j tables number rest (OtherShown n p q k) same h e quiet =
-show_outcome c name s a status text b j tables number rest (Proved n p q k) same h e quiet = let x : Prove n ≡ Show name = sym p.1 ∙ same in absurd cc
-show_outcome c name s a status text b j tables number rest (Checked n p q k) same h e quiet = let x : Verify n ≡ Show name = sym p ∙ same in absurd cc
     let i = one_rest name n s b j q.job tables q.tables number q.number rest q.rest (one_name c n name p.1 same) e q.has h in
     let table : session_rows q.job q.tables q.number ≡ session_rows j tables number = ap rows (i.marks (λ x. no_facts)) in
     OfOther q.modules q.difference (subst (λ (r : List ℕ). IsFile r q.modules) i.rests q.file) (subst (λ (t : List (List ℕ)). first_difference 0 t (rows q.modules) ≡ Some q.difference) table q.differs) p.0
+show_outcome c name s a status text b j tables number rest (Proved n p q k) same h e quiet = let x : Prove n ≡ Show name = sym p.1 ∙ same in absurd cc
+show_outcome c name s a status text b j tables number rest (Checked n p q k) same h e quiet = let x : Verify n ≡ Show name = sym p ∙ same in absurd cc
 show_outcome c name s a status text b j tables number rest (Usage p k) same h e quiet = let x : Unknown ≡ Show name = sym p.1 ∙ same in absurd cc
 show_outcome c name s a status text b j tables number rest (Stopped p q k) same h e quiet =
     let stop : IsStopped true to_go_on (session_named (Show name)) s status text = subst (λ (d : Command). IsStopped (reads_job d) (reading_of d) (session_named d) s status text) same q in
