@@ -41,7 +41,7 @@ use Rattle.job_run.proofs.SessionLemmas.{set_is_left}
 use Rattle.job_run.specs.Tasks.{results_of}
 use Rattle.coverage_program.specs.Replay.{Bad, Whole, replay_text}
 use Rattle.coverage_program.proofs.RunLemmas.{play_is_run}
-use Rattle.coverage_program.specs.Words.{reads_input, reads_job, Reading, to_run, to_list, reading_of, makes_areas, session_named, without_areas, no_memory_line, bad_schedule_line}
+use Rattle.coverage_program.specs.Words.{reads_input, reads_job, Reading, Wanted, to_run, to_list, reading_of, makes_areas, session_named, without_areas, no_memory_line, bad_schedule_line}
 
 pub are_sets : (j : JobView) (tables : TablesView) (tasks : List Done) (sets : SetsView) → IsOutcome j tables.places tasks sets →
     AreSetsOf j tables (length sets.job.sessions) sets.places (λ s p. set_in sets s p)

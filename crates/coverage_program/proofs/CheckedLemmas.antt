@@ -1,7 +1,5 @@
 -- What the program answers of evidence, cause by cause.
-use Rattle.std.proofs.Common.{◌≡◌, ◌⊎◌, inl, inr, ℕ, Option, Some, None, List, length, drop, refl, sym, ◌∙◌, ap, subst}
-use Rattle.std.specs.Io.KnownBytes.{Appends}
-use Rattle.cov_outside.specs.Causes.{Rose}
+use Rattle.std.proofs.Common.{◌≡◌, ℕ, true, Option, Some, None, List, length, drop, refl, sym, ◌∙◌, ap, subst}
 use Rattle.cov_base.specs.declared.facts.Fact.{Fact}
 use Rattle.brk_table.specs.Places.{TablesView, all_places}
 use Rattle.evidence_check.specs.Claims.{facts_of_modules, evidence_claims, first_refuted}
@@ -10,14 +8,11 @@ use Rattle.evidence_check.specs.Fields.{evidence_fields}
 use Rattle.evidence_check.specs.Verified.{IsVerified, Passes, IsVerifyFault}
 use Rattle.evidence_check.specs.declared.verifying.VerifyFault.{VerifyFault}
 use Rattle.evidence_check.specs.declared.verifying.VerifyFault.TheVariants as fault
-use Rattle.evidence_check.proofs.VerifiedLemmas.{verified_passes}
 use Rattle.job_run.specs.Runs.{Account}
-use Rattle.job_text.proofs.WholeJob.{job_keeps}
-use Rattle.job_text.specs.Lines.{LineView, lines_of}
 use Rattle.marks_file.specs.Marks.{MarkedView, MarksView, keeps_rules}
 use Rattle.marks_file.specs.MarksFile.{HasFile, rows}
 use Rattle.marks_file.specs.Reading.{first_bad}
-use Rattle.session_book.specs.JobView.{JobView, IsJob}
+use Rattle.session_book.specs.JobView.{JobView}
 use Rattle.session_book.specs.Sessions.{session_of}
 use Rattle.session_marks.specs.FromFile.{IsOwn}
 use Rattle.session_marks.specs.Marked.{session_rows}
@@ -31,7 +26,7 @@ use Rattle.coverage_program.specs.Files.{HasRest}
 use Rattle.coverage_program.specs.Inputs.{CameJob}
 use Rattle.coverage_program.specs.Named.{session_number}
 use Rattle.coverage_program.specs.Refusals.{RefusalView, refusal, Match}
-use Rattle.coverage_program.specs.Words.{to_list, no_memory_line, bad_marks_line, other_table_line}
+use Rattle.coverage_program.specs.Words.{to_list, no_memory_line, other_table_line}
 use Rattle.coverage_program.specs.declared.words.Command.TheVariants.{Prove, Verify}
 
 -- evidence that was written
