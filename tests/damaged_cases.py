@@ -24,6 +24,10 @@ FIRST_FACTS = {0: 1, 4: 1, 6: 1}
 # The count begins with 2: it goes on once, and falls through; then the return is executed.
 TASK = "TASK A 100000 16 9 0\nREG 1 00000002\nDATA 0 C1\nINPUT C2\n"
 FACTS = {0: 6, 4: 1}
+FIRSTS: model.Firsts = {0: {2: (0, 0, 0), 4: (0, 1, 0)}, 4: {1: (0, 2, 0)}}
+# The same of a count that begins with 3.
+FROM_3 = "TASK A 100000 16 100 0\nREG 1 00000003\n"
+FIRSTS_FROM_3: model.Firsts = {0: {2: (0, 0, 0), 4: (0, 2, 0)}, 4: {1: (0, 3, 0)}}
 # Each item with the line that tells of it.
 ITEMS = [
     (b"FETCH A", b"FETCH A TAG 1 HALF 0AFF"), (b"MARK A", b"MARK A OLD -"), (b"DO A", b"DO A"),
@@ -32,6 +36,8 @@ ITEMS = [
 END = b"ENDSCHED"
 OTHER = Program.of("0 1A11 AR, 2 07FE BR")
 FILE = COUNTED.marks_file(4, 1)
+BOTH = COUNTED.marks_file(6, 1)
+EVIDENCE = bytes.fromhex("5333373045564431 00000000000000 00000000000100 00000000000200")
 # Where the fields of that file begin in version 1.
 FIELDS = (0, 8, 10, 18, 22, 26, 30, 34, 35, 36, 38, 39, 43, 44, 45, 47)
 
@@ -117,8 +123,21 @@ def show(data: bytes) -> bytes:
     return b"COVERAGE SHOW\n" + model.session_part(name, phase, modules, facts) + b"END\n"
 
 
+def prove(data: bytes) -> bytes:
+    ((_, _, modules),) = listed(data, True).sessions
+    return model.evidence_of(modules, FIRSTS)
+
+
+def verify(data: bytes, firsts: model.Firsts = FIRSTS) -> bytes:
+    it = listed(data, False)
+    ((name, _, modules),) = it.sessions
+    file = model.file_of(data[it.end :], 0)
+    model.compare(model.session_file(name, modules, {}), file)
+    return model.verified(name, len(it.tasks), file, data[it.end + file.end :], firsts)
+
+
 def commands() -> list[Command]:
-    """The six."""
+    """The eight."""
     items = b"".join(it + b"\n" for it, _ in ITEMS) + END + b"\n"
     return [
         Command(["run"], FIRST.job(), run),
@@ -126,7 +145,9 @@ def commands() -> list[Command]:
         Command(["table"], three_modules(), table),
         Command(["replay"], job() + items, replay),
         Command(["combine"], FILE + COUNTED.marks_file(2, 0, version=1), model.combined),
-        Command(["show", "S"], job() + COUNTED.marks_file(6, 1), show),
+        Command(["show", "S"], job() + BOTH, show),
+        Command(["prove", "S"], job(), prove),
+        Command(["verify", "S"], job() + BOTH + EVIDENCE, verify),
     ]
 
 
@@ -167,7 +188,37 @@ def offsets() -> None:
             refused(file[:at] + bytes([byte]) + file[at + 1 :], offset)
 
 
-CHECKS = [offsets]
+def evidence() -> Iterator[bytes]:
+    """The evidence of a count from 3 with each bit of each byte changed, cut after each byte, with other bytes behind it, with an
+    entry doubled, left out or put in another's place, and with entries exchanged."""
+    whole = b"S370EVD1" + b"".join(model.entry(it) for facts in FIRSTS_FROM_3.values() for it in facts.values())
+    yield whole
+    for at in range(len(whole)):
+        yield whole[:at]
+        yield from (whole[:at] + bytes([whole[at] ^ (1 << bit)]) + whole[at + 1 :] for bit in range(8))
+    yield from (whole + bytes([it]) for it in (0, 1, 0x53))
+    head, entries = whole[:8], [whole[at : at + 7] for at in range(8, len(whole), 7)]
+    for at, it in enumerate(entries):
+        yield head + b"".join([*entries[: at + 1], *entries[at:]])
+        yield head + b"".join([*entries[:at], *entries[at + 1 :]])
+        for other in range(len(entries)):
+            yield head + b"".join([*entries[:other], it, *entries[other + 1 :]])
+            changed = list(entries)
+            changed[at], changed[other] = changed[other], changed[at]
+            yield head + b"".join(changed)
+
+
+def damaged_evidence() -> None:
+    """evidence that is damaged in each way, behind each file that the sets of a count can have"""
+    front = COUNTED.job(FROM_3)
+    inputs = [front + COUNTED.marks_file(*sets) + it for sets in ((6, 1), (2, 1), (4, 1), (6, 0), (0, 0)) for it in evidence()]
+    command = Command(["verify", "S"], front, lambda data: verify(data, FIRSTS_FROM_3))
+    with ThreadPoolExecutor(os.cpu_count()) as pool:
+        faults = [it for it in pool.map(lambda data: fault_of(command, data[len(front) :].hex(), data), inputs) if it]
+    equal((len(faults), faults[:1]), (0, []))
+
+
+CHECKS = [offsets, damaged_evidence]
 
 
 def run_all(tally: Tally) -> None:

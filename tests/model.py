@@ -1,6 +1,6 @@
-"""Which inputs the rules of docs/JOB.md, docs/LISTING.md and docs/MARKS.md allow, read again from these pages alone.
+"""Which inputs the rules of docs/JOB.md, docs/LISTING.md, docs/MARKS.md and docs/EVIDENCE.md allow, read again from these pages alone.
 
-It is slow and plain, knows of limits only that of a listing line, and runs no task: what the places have shown is given to it.
+It is slow and plain, knows of limits only that of a listing line, and runs no task: what the places have shown, and when first, is given to it.
 """
 from __future__ import annotations
 
@@ -32,6 +32,10 @@ WIDTHS = (
 )
 EXTENDED = "B BR NOP NOPR BH BL BE BNH BNL BNE BO BP BM BNP BNM BNZ BZ BNO".split()
 MARKS = {0: "^", 1: ":", 2: ">", 4: "V", 6: "&"}
+# The facts in their order, by their letters and their numbers in a set.
+FACTS = (("R", 1), ("W", 2), ("S", 4))
+# Of a location, for each of its facts the task, the instructions before and whether a subject, of the first visit.
+Firsts = dict[int, dict[int, tuple[int, int, int]]]
 
 
 class Refused(Exception):
@@ -386,6 +390,44 @@ def session_file(name: bytes, modules: list[Module], facts: dict[int, int]) -> F
         rows += [it.name.ljust(8) + numbers, *(place.row() for place in table)]
         sets += [None, *(facts.get(place.location, 0) for place in table)]
     return File(rows, sets, session=name.ljust(8))
+
+
+def entry(first: tuple[int, int, int]) -> bytes:
+    """What evidence has of a first visit."""
+    task, before, subject = first
+    return task.to_bytes(2, "big") + before.to_bytes(4, "big") + bytes([subject])
+
+
+def evidence_of(modules: list[Module], firsts: Firsts) -> bytes:
+    """The evidence of a session's modules, of which a place at a location has these first visits."""
+    places = [place for it in modules for place in it.table()]
+    shown = [firsts.get(place.location, {}) for place in places]
+    return b"S370EVD1" + b"".join(entry(it[bit]) for it in shown for _, bit in FACTS if bit in it)
+
+
+def verified(name: bytes, tasks: int, file: File, data: bytes, firsts: Firsts) -> bytes:
+    """What `verify` says of a file with the session's table, where its places have these first visits, and of evidence."""
+    facts = sum(it.bit_count() for it in file.sets if it is not None)
+
+    def need(holds: bool, offset: int) -> None:
+        if not holds:
+            raise Refused(15, f"BAD EVIDENCE OFFSET {offset}")
+
+    need(data[:8] == b"S370EVD1", 0)
+    for at in range(8, 8 + 7 * facts, 7):
+        need(len(data) >= at + 2 and int.from_bytes(data[at : at + 2], "big") < tasks, at)
+        need(len(data) >= at + 6 and int.from_bytes(data[at + 2 : at + 6], "big") < 50_000_000, at + 2)
+        need(len(data) >= at + 7 and data[at + 6] <= 1, at + 6)
+    need(len(data) == 8 + 7 * facts, 8 + 7 * facts)
+    at = 8
+    for number, (row, bits) in enumerate(zip(file.rows, file.sets)):
+        shown = {} if bits is None else firsts.get(int.from_bytes(row[:4], "big"), {})
+        for letter, bit in FACTS if bits is not None else ():
+            has = bool(bits & bit)
+            if has != (bit in shown) or (has and data[at : at + 7] != entry(shown[bit])):
+                raise Refused(16, f"REFUTED ROW {number} FACT {letter}")
+            at += 7 * has
+    return b"VERIFIED %s FACTS %d\n" % (name, facts)
 
 
 def session_part(name: bytes, phase: bytes, modules: list[Module], facts: dict[int, int]) -> bytes:

@@ -9,7 +9,7 @@ from harness import COVERAGE, PROGRAM, TOP, Case, equal, run, well
 from jobs import COUNTED, FIRST, FIRST_REPORT, FIRST_RESULT, HEADING, TASK, WIDE_HEADING, Program, Result
 from trial import summary
 
-USAGE = b"USAGE: run | marks NAME | trial NUMBER TASKS | table | replay | combine | show NAME\n"
+USAGE = b"USAGE: run | marks NAME | trial NUMBER TASKS | table | replay | combine | show NAME | prove NAME | verify NAME\n"
 PRIVATE_END = 0xFFFFFC
 OTHER_COUNT = Program.of("0 4620F000 BCT, 4 07FE BR")
 # Of the program that counts: what it shows where its count ends at once, where it is spent as it goes on, and the two runs together.
@@ -224,6 +224,58 @@ def marks_files() -> list[Case]:
     ]
 
 
+def evidence() -> list[Case]:
+    """prove and verify: the evidence of a run, what it verifies, and what is refused."""
+    count, short = COUNTED.job(task("REG 1 00000003")), COUNTED.job(task("REG 1 00000003", "TASK A 100000 16 2 0\n"))
+    magic, went, stayed, left = (bytes.fromhex(it) for it in ("5333373045564431", "00000000000000", "00000000000200", "00000000000300"))
+    proof, file = magic + went + stayed + left, COUNTED.marks_file(6, 1)
+    execute = Program.of("0 4410F006 EX, 4 07FE BR, 6 D20000000008 MVC")
+    moves = execute.job(task("REG 1 00000002 / DATA 8 010203"))
+    moved = magic + bytes.fromhex("00000000000000 00000000000100 00000000000001")
+    mismatch = COUNTED.job(listing=[it.replace("F000", "F004") for it in COUNTED.listing()])
+    controlled = COUNTED.job().replace(b"SESSION S M", b"SESSION S BY A M")
+    verified = b"VERIFIED S FACTS 3\n"
+
+    def refuted(name: str, sets: bytes, text: bytes, line: bytes, job: bytes = count) -> Case:
+        return Case(name, ["verify", "S"], job + sets + text, b"REFUTED ROW %s\n" % line, 16)
+
+    def bad(name: str, text: bytes, offset: int) -> Case:
+        return Case(name, ["verify", "S"], count + file + text, b"BAD EVIDENCE OFFSET %d\n" % offset, 15)
+
+    return [
+        Case("prove", ["prove", "S"], count, proof),
+        Case("prove of a subject of EX", ["prove", "S"], moves, moved),
+        Case("prove of no task", ["prove", "S"], COUNTED.job(""), magic),
+        Case("prove by the script", ["prove", "S"], count, proof, command=COVERAGE),
+        Case("verify", ["verify", "S"], count + file + proof, verified),
+        Case("verify of a file of version 1", ["verify", "S"], count + COUNTED.marks_file(6, 1, version=1) + proof, verified),
+        Case("verify of another session's file of two runs", ["verify", "S"], count + COUNTED.marks_file(6, 1, name="X", runs=2) + proof, verified),
+        Case("verify of a subject of EX", ["verify", "S"], moves + execute.marks_file(1, 1, 1) + moved, verified),
+        Case("verify by the script", ["verify", "S"], count + file + proof, verified, command=COVERAGE),
+        Case("prove without a name", ["prove"], count, USAGE, 1),
+        Case("verify of what is no name", ["verify", "9X"], count, USAGE, 1),
+        Case("prove of a session that isn't there", ["prove", "X"], mismatch, b"NO SESSION X\n", 13),
+        Case("verify of a session that isn't there", ["verify", "X"], mismatch, b"NO SESSION X\n", 13),
+        Case("prove of a session with a controller", ["prove", "S"], controlled, b"CONTROLLED S\n", 14),
+        Case("verify of a session with a controller", ["verify", "S"], controlled, b"CONTROLLED S\n", 14),
+        Case("prove of a listing that doesn't match", ["prove", "S"], mismatch, b"MISMATCH M LINE 2 LOC 000000 LISTING 4610F004 MODULE 4610F000\n", 3),
+        Case("a file behind the job of prove", ["prove", "S"], count + file, b"BAD JOB LINE 13\n", 2),
+        Case("no file behind the job of verify", ["verify", "S"], count, b"BAD MARKS OFFSET 0\n", 10),
+        Case("a file that is cut behind the job of verify", ["verify", "S"], count + file[:-1], b"BAD MARKS OFFSET 59\n", 10),
+        Case("another table behind the job of verify", ["verify", "S"], count + OTHER_COUNT.marks_file(6, 1),
+             b"OTHER TABLE ROW 1 LEFT 0000000004014610 RIGHT 0000000004014620\n", 11),
+        bad("no evidence", b"", 0),
+        bad("evidence without its last byte", proof[:-1], 28),
+        bad("a byte behind evidence", proof + b"\n", 29),
+        bad("evidence of a task that isn't there", magic + b"\0\1" + proof[10:], 8),
+        refuted("a fact that is left out", COUNTED.marks_file(2, 1), magic + went + left, b"1 FACT S"),
+        refuted("a later visit", file, magic + left + stayed + left, b"1 FACT W"),
+        refuted("a return that is left out", COUNTED.marks_file(6, 0), magic + went + stayed, b"2 FACT R"),
+        refuted("a subject as an instruction", execute.marks_file(1, 1, 1), moved[:-1] + b"\0", b"3 FACT R", moves),
+        refuted("a fact of another job", file, proof, b"1 FACT S", short),
+    ]
+
+
 def trials() -> list[Case]:
     """trial: what a model of the generated job comes to, and the words that are none."""
     eight = summary(7, 8)
@@ -310,12 +362,16 @@ def streams() -> list[Case]:
         Case("a folder as input, of marks", ["marks", "S"], b"", b"READ FAULT\n", 5, redirect="</"),
         Case("a folder as input, of combine", ["combine"], b"", b"READ FAULT\n", 5, redirect="</"),
         Case("a folder as input, of show", ["show", "S"], b"", b"READ FAULT\n", 5, redirect="</"),
+        Case("a folder as input, of prove", ["prove", "S"], b"", b"READ FAULT\n", 5, redirect="</"),
+        Case("a folder as input, of verify", ["verify", "S"], b"", b"READ FAULT\n", 5, redirect="</"),
         Case("a full output", ["run"], job, b"", 6, redirect=">/dev/full"),
         Case("a full output, of table", ["table"], job, b"", 6, redirect=">/dev/full"),
         Case("a full output, of replay", ["replay"], FIRST.job(more="GO A\nENDSCHED\n"), b"", 6, redirect=">/dev/full"),
         Case("a full output, of marks", ["marks", "S"], job, b"", 6, redirect=">/dev/full"),
         Case("a full output, of combine", ["combine"], BOTH, b"", 6, redirect=">/dev/full"),
         Case("a full output, of show", ["show", "S"], COUNTED.job() + BOTH, b"", 6, redirect=">/dev/full"),
+        Case("a full output, of prove", ["prove", "S"], job, b"", 6, redirect=">/dev/full"),
+        Case("a full output, of verify", ["verify", "X"], job, b"", 6, redirect=">/dev/full"),
         Case("a full output for a refusal", ["run"], b"", b"", 6, redirect=">/dev/full"),
         Case("a full output for the usage", [], b"", b"", 6, redirect=">/dev/full"),
         Case("a full output by the script", ["run"], job, b"", 6, redirect=">/dev/full", command=COVERAGE),
@@ -356,9 +412,28 @@ def two_runs() -> None:
     equal([it[:1] for it in shown if it[3:9] in (b"000036", b"0000E2", b"0000F6")], [b"&", b"^", b":"])
 
 
-CHECKS = [broken_pipe, two_runs]
+def evidence_of_two() -> None:
+    """examples: evidence of a run of the orders verifies its file, and refutes it once another run's is united with it"""
+    with open(f"{TOP}/examples/orders.job", "rb") as job, open(f"{TOP}/examples/short.tasks", "rb") as tasks:
+        first, short = job.read(), tasks.read()
+    second = first[: first.index(b"PHASE ")] + short + b"ENDJOB\n"
+    for it, facts in ((first, 75), (second, 60)):
+        file, proof = (well(run([PROGRAM, word, "ORDERS"], it)).output for word in ("marks", "prove"))
+        said = well(run([PROGRAM, "verify", "ORDERS"], it + file + proof)).output
+        equal((said, len(proof)), (b"VERIFIED ORDERS FACTS %d\n" % facts, 8 + 7 * facts))
+    files = [well(run([PROGRAM, "marks", "ORDERS"], it)).output for it in (first, second)]
+    union = well(run([PROGRAM, "combine"], files[0] + files[1])).output
+    proof = well(run([PROGRAM, "prove", "ORDERS"], first)).output
+    # The union has five facts more than the evidence of the first run has entries; with entries for them the first is refuted.
+    ran = run([PROGRAM, "verify", "ORDERS"], first + union + proof)
+    equal((ran.status, ran.output), (15, b"BAD EVIDENCE OFFSET %d\n" % len(proof)))
+    ran = run([PROGRAM, "verify", "ORDERS"], first + union + proof + proof[-7:] * 5)
+    equal((ran.status, ran.output), (16, b"REFUTED ROW 14 FACT W\n"))
+
+
+CHECKS = [broken_pipe, two_runs, evidence_of_two]
 
 
 def cases() -> list[Case]:
     """All of the program's."""
-    return [*instructions(), *wide_listings(), *endings(), *commands(), *marks_files(), *trials(), *refusals(), *streams()]
+    return [*instructions(), *wide_listings(), *endings(), *commands(), *marks_files(), *evidence(), *trials(), *refusals(), *streams()]

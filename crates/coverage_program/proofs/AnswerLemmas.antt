@@ -28,7 +28,7 @@ use Rattle.job_run.specs.declared.outcome.Done.{Done}
 use Rattle.coverage_program.specs.declared.tables.Refused.{Refused}
 use Rattle.coverage_program.specs.declared.tables.Refused.TheVariants.{Told, NoMemory}
 use Rattle.coverage_program.specs.declared.words.Command.{Command}
-use Rattle.coverage_program.specs.declared.words.Command.TheVariants.{Run, Marks, Trial, Table, Replay, Combine, Show, Unknown}
+use Rattle.coverage_program.specs.declared.words.Command.TheVariants.{Run, Marks, Trial, Table, Replay, Combine, Show, Prove, Verify, Unknown}
 use Rattle.job_run.specs.Outcomes.{IsOutcome}
 use Rattle.coverage_program.specs.Named.{HasNamed}
 use Rattle.coverage_program.specs.Refusals.{RefusalView, job_refusal, Match}
@@ -41,7 +41,7 @@ use Rattle.job_run.proofs.SessionLemmas.{set_is_left}
 use Rattle.job_run.specs.Tasks.{results_of}
 use Rattle.coverage_program.specs.Replay.{Bad, Whole, replay_text}
 use Rattle.coverage_program.proofs.RunLemmas.{play_is_run}
-use Rattle.coverage_program.specs.Words.{reads_input, reads_job, Reading, to_run, to_list, reading_of, makes_areas, session_named, without_areas, no_memory_line, bad_schedule_line}
+use Rattle.coverage_program.specs.Words.{reads_input, reads_job, Reading, Wanted, to_run, to_list, reading_of, makes_areas, session_named, without_areas, no_memory_line, bad_schedule_line}
 
 pub are_sets : (j : JobView) (tables : TablesView) (tasks : List Done) (sets : SetsView) → IsOutcome j tables.places tasks sets →
     AreSetsOf j tables (length sets.job.sessions) sets.places (λ s p. set_in sets s p)
@@ -125,7 +125,7 @@ pub first_none : (how : Reading) (bytes : List ℕ) (e : JobFault) → ReadsOnly
 first_none how bytes e only n q j has = let wanting : e ≡ fault.NoMemory = only has.count j has.inside has.spells has.within in absurd cc
 
 -- by the reader's fault
-pub unread : (how : Reading) (name : Option (List ℕ)) (s : SourceChange) (bytes : List ℕ) (e : JobFault) → CameWhole s bytes → IsRefusal (asked how.by) (lines_of bytes) e → ((n : ℕ) → e ≡ fault.BadJob n → (j : JobView) → HasJob how (lines_of bytes) j → ⊥) →
+pub unread : (how : Reading) (name : Option Wanted) (s : SourceChange) (bytes : List ℕ) (e : JobFault) → CameWhole s bytes → IsRefusal (asked how.by) (lines_of bytes) e → ((n : ℕ) → e ≡ fault.BadJob n → (j : JobView) → HasJob how (lines_of bytes) j → ⊥) →
     IsStopped true how name s (fault_refusal e).status (fault_refusal e).line
 unread how name s bytes (fault.BadJob n) came first none = BadJob refl refl (record { bytes = bytes; line = n; came = came; first_bad = first; jobless = none n refl; told = refl })
 unread how name s bytes (fault.TooLarge what n) came first none = LargeJob refl refl (record { bytes = bytes; what = what; line = n; came = came; first_over = first; told = refl })
@@ -147,7 +147,7 @@ read_is how s bytes r came read whole =
     }
 
 -- by the first fault of the job's listings
-pub unmatched : (how : Reading) (name : Option (List ℕ)) (s : SourceChange) (j : JobView) (r : Refused) → CameJob how s j → HasNamed name j → IsRefused (job_refusal j) r → IsStopped true how name s (refused_refusal r).status (refused_refusal r).line
+pub unmatched : (how : Reading) (name : Option Wanted) (s : SourceChange) (j : JobView) (r : Refused) → CameJob how s j → HasNamed name j → IsRefused (job_refusal j) r → IsStopped true how name s (refused_refusal r).status (refused_refusal r).line
 unmatched how name s j (Told r) came named first = BadListing refl (record { job = j; came = came; named = named; first = first })
 unmatched how name s j NoMemory came named first = WantOfMemory (refl, refl)
 
@@ -182,4 +182,6 @@ alike Table h = refl
 alike Replay h = refl
 alike Combine h = refl
 alike (Show name) h = refl
+alike (Prove name) h = refl
+alike (Verify name) h = refl
 alike Unknown h = refl

@@ -24,18 +24,18 @@ use Rattle.session_marks.proofs.SessionLemmas.{own_same}
 use Rattle.table_combine.specs.Combine.{Difference, first_difference}
 use Rattle.table_combine.specs.Files.{IsCombined, IsBad, IsOtherTable}
 use Rattle.table_combine.proofs.AnswerLemmas.{one_answer}
-use Rattle.coverage_program.specs.Answers.{IsStopped, BadJob, LargeJob, NoSession, BadListing, LargeInput, ReadFault, WantOfMemory, IsCause, Report, Recorded, Places, Replayed, BadSchedule, United, BadFile, OtherFile, Shown, BadShown, OtherShown, Usage, Stopped, NoMemoryToRun, Tried, NoMemoryToTry}
+use Rattle.coverage_program.specs.Answers.{IsStopped, BadJob, LargeJob, NoSession, Controlled, BadListing, LargeInput, ReadFault, WantOfMemory, IsCause, Report, Recorded, Places, Replayed, BadSchedule, United, BadFile, OtherFile, Shown, BadShown, OtherShown, Proved, Checked, Usage, Stopped, NoMemoryToRun, Tried, NoMemoryToTry}
 use Rattle.coverage_program.specs.Changes.{SourceChange, AreasChange}
 use Rattle.coverage_program.specs.Complete.{StandsBehind, bytes_of}
 use Rattle.coverage_program.specs.Files.{HasRest, IsFile, IsNoFile}
 use Rattle.coverage_program.specs.Inputs.{input_limit}
 use Rattle.coverage_program.specs.Named.{session_number}
 use Rattle.coverage_program.specs.Refusals.{AreTablesFrom, Match}
-use Rattle.coverage_program.specs.Words.{reads_job, Reading, to_go_on, reading_of, session_named, makes_areas, makes_job}
+use Rattle.coverage_program.specs.Words.{reads_job, Reading, Wanted, to_go_on, reading_of, session_named, makes_areas, makes_job}
 use Rattle.coverage_program.specs.declared.words.Command.{Command}
-use Rattle.coverage_program.specs.declared.words.Command.TheVariants.{Run, Marks, Table, Replay, Combine, Show, Unknown}
+use Rattle.coverage_program.specs.declared.words.Command.TheVariants.{Run, Marks, Table, Replay, Combine, Show, Prove, Verify, Unknown}
 use Rattle.coverage_program.proofs.OneTables.{one_of, one_places}
-use Rattle.coverage_program.proofs.StopLemmas.{came_is, not_both, not_more, too_many, large_stop, matched_stop}
+use Rattle.coverage_program.proofs.StopLemmas.{came_is, any_named, not_both, not_more, too_many, large_stop, matched_stop}
 
 -- ---- files alone
 
@@ -45,10 +45,11 @@ pub data IsCombining (b : List ℕ) (status : ℕ) : Type 0 where
   Strange : (d : Difference) → IsOtherTable b d → status ≡ 11 → IsCombining b status
   Lacking : status ≡ 7 → IsCombining b status
 
-files_stop : (more : Reading) (name : Option (List ℕ)) (s : SourceChange) (status : ℕ) (text b : List ℕ) → IsStopped false more name s status text → s.left ≡ Some b → length b ≤ input_limit → (Rose s.faults s.later → ⊥) → status ≡ 7
+files_stop : (more : Reading) (name : Option Wanted) (s : SourceChange) (status : ℕ) (text b : List ℕ) → IsStopped false more name s status text → s.left ≡ Some b → length b ≤ input_limit → (Rose s.faults s.later → ⊥) → status ≡ 7
 files_stop more name s status text b (BadJob t p q) e l quiet = absurd (not_both false t refl)
 files_stop more name s status text b (LargeJob t p q) e l quiet = absurd (not_both false t refl)
 files_stop more name s status text b (NoSession t p q) e l quiet = absurd (not_both false t refl)
+files_stop more name s status text b (Controlled t p q) e l quiet = absurd (not_both false t refl)
 files_stop more name s status text b (BadListing t q) e l quiet = absurd (not_both false t refl)
 files_stop more name s status text b (LargeInput p) e l quiet = absurd (not_more s b e l p.2)
 files_stop more name s status text b (ReadFault p) e l quiet = absurd (quiet p.2)
@@ -66,6 +67,8 @@ files_outcome c s a status text b (OtherFile p q k) same e l quiet = Strange q.d
 files_outcome c s a status text b (Shown name p q k) same e l quiet = let x : Show name ≡ Combine = sym p.1 ∙ same in absurd cc
 files_outcome c s a status text b (BadShown name p q k) same e l quiet = let x : Show name ≡ Combine = sym p.1 ∙ same in absurd cc
 files_outcome c s a status text b (OtherShown name p q k) same e l quiet = let x : Show name ≡ Combine = sym p.1 ∙ same in absurd cc
+files_outcome c s a status text b (Proved name p q k) same e l quiet = let x : Prove name ≡ Combine = sym p.1 ∙ same in absurd cc
+files_outcome c s a status text b (Checked name p q k) same e l quiet = let x : Verify name ≡ Combine = sym p ∙ same in absurd cc
 files_outcome c s a status text b (Usage p k) same e l quiet = let x : Unknown ≡ Combine = sym p.1 ∙ same in absurd cc
 files_outcome c s a status text b (Stopped p q k) same e l quiet =
     Lacking (files_stop (reading_of c) (session_named c) s status text b (subst (λ (d : Command). IsStopped (reads_job d) (reading_of c) (session_named c) s status text) same q) e l quiet)
@@ -103,6 +106,8 @@ large_files c s a status text b (OtherFile p q k) same e l quiet = absurd (too_m
 large_files c s a status text b (Shown name p q k) same e l quiet = let x : Show name ≡ Combine = sym p.1 ∙ same in absurd cc
 large_files c s a status text b (BadShown name p q k) same e l quiet = let x : Show name ≡ Combine = sym p.1 ∙ same in absurd cc
 large_files c s a status text b (OtherShown name p q k) same e l quiet = let x : Show name ≡ Combine = sym p.1 ∙ same in absurd cc
+large_files c s a status text b (Proved name p q k) same e l quiet = let x : Prove name ≡ Combine = sym p.1 ∙ same in absurd cc
+large_files c s a status text b (Checked name p q k) same e l quiet = let x : Verify name ≡ Combine = sym p ∙ same in absurd cc
 large_files c s a status text b (Usage p k) same e l quiet = let x : Unknown ≡ Combine = sym p.1 ∙ same in absurd cc
 large_files c s a status text b (Stopped p q k) same e l quiet = large_stop (reads_job c) (reading_of c) (session_named c) s status text b q e l quiet
 large_files c s a status text b (NoMemoryToRun p q) same e l quiet = absurd (not_both (makes_areas c) p.1 (ap makes_areas same))
@@ -123,7 +128,7 @@ joined_by : (b : ℕ) (bs : List ℕ) (q : Bool) → nat_eq b 10 ≡ q → bytes
 joined_by b bs true e h = rw (e, ten b e, h) refl
 joined_by b bs false e h = rw (e, put_joined b (lines_of bs) e, h) refl
 
-joined : (bs : List ℕ) → bytes_of (lines_of bs) ≡ bs
+pub joined : (bs : List ℕ) → bytes_of (lines_of bs) ≡ bs
 joined [] = refl
 joined (b ∷ bs) = joined_by b bs (nat_eq b 10) refl (joined bs)
 
@@ -153,11 +158,15 @@ one_modules j a b sets [] p q places = refl
 one_modules j a b sets (m ∷ ms) p q places = ap (λ (x : MarkedView). x ∷ map (marked_module j a sets) ms) (one_module j a b sets m p q places) ∙ ap (λ (x : List MarkedView). marked_module j b sets m ∷ x) (one_modules j a b sets ms p q places)
 
 -- what stands behind a job is determined, and so are the session's marks by their sets
-record IsSame (j : JobView) (tables : TablesView) (number : ℕ) (rest : List ℕ) (k : JobView) (others : TablesView) (other : ℕ) (bytes : List ℕ) : Type 0 where
-  rests : bytes ≡ rest
-  marks : (sets : ℕ → FactSet) → session_marks k others sets other ≡ session_marks j tables sets number
+pub record IsSame (j : JobView) (tables : TablesView) (number : ℕ) (rest : List ℕ) (k : JobView) (others : TablesView) (other : ℕ) (bytes : List ℕ) : Type 0 where
+  pub rests : bytes ≡ rest
+  pub jobs : k ≡ j
+  pub numbers : other ≡ number
+  pub places : others.places ≡ tables.places
+  pub firsts : (n : ℕ) → first_place others.tables n ≡ first_place tables.tables n
+  pub marks : (sets : ℕ → FactSet) → session_marks k others sets other ≡ session_marks j tables sets number
 
-one_rest : (name n : List ℕ) (s : SourceChange) (b : List ℕ) (j k : JobView) (tables others : TablesView) (number other : ℕ) (rest bytes : List ℕ) → n ≡ name → s.left ≡ Some b → HasRest n s k others other bytes → StandsBehind name b j tables number rest → IsSame j tables number rest k others other bytes
+pub one_rest : (name n : List ℕ) (s : SourceChange) (b : List ℕ) (j k : JobView) (tables others : TablesView) (number other : ℕ) (rest bytes : List ℕ) → n ≡ name → s.left ≡ Some b → HasRest n s k others other bytes → StandsBehind name b j tables number rest → IsSame j tables number rest k others other bytes
 one_rest name n s b j k tables others number other rest bytes named e r h =
     let c = r.came in
     let same : b ≡ r.bytes = came_is s b r.bytes e c.came in
@@ -173,6 +182,10 @@ one_rest name n s b j k tables others number other rest bytes named e r h =
     let behind : drop r.end r.bytes ≡ bytes_of (drop h.has.count (lines_of b)) = sym (joined (drop r.end r.bytes)) ∙ ap bytes_of lines in
     record {
       rests = r.behind ∙ (behind ∙ sym h.behind);
+      jobs = sym jobs;
+      numbers = numbers;
+      places = places;
+      firsts = λ n. (one_numbers 0 j.images j.listings others.tables tables.tables n mine.tables_of h.match.tables_of).0;
       marks = λ sets. ap (λ (i : JobView). session_marks i others sets other) (sym jobs) ∙ (ap (λ (i : ℕ). session_marks j others sets i) numbers ∙ one_modules j others tables sets (session_of j number).modules mine h.match places);
     }
 
@@ -205,10 +218,12 @@ show_outcome c name s a status text b j tables number rest (OtherShown n p q k) 
     let i = one_rest name n s b j q.job tables q.tables number q.number rest q.rest (one_name c n name p.1 same) e q.has h in
     let table : session_rows q.job q.tables q.number ≡ session_rows j tables number = ap rows (i.marks (λ x. no_facts)) in
     OfOther q.modules q.difference (subst (λ (r : List ℕ). IsFile r q.modules) i.rests q.file) (subst (λ (t : List (List ℕ)). first_difference 0 t (rows q.modules) ≡ Some q.difference) table q.differs) p.0
+show_outcome c name s a status text b j tables number rest (Proved n p q k) same h e quiet = let x : Prove n ≡ Show name = sym p.1 ∙ same in absurd cc
+show_outcome c name s a status text b j tables number rest (Checked n p q k) same h e quiet = let x : Verify n ≡ Show name = sym p ∙ same in absurd cc
 show_outcome c name s a status text b j tables number rest (Usage p k) same h e quiet = let x : Unknown ≡ Show name = sym p.1 ∙ same in absurd cc
 show_outcome c name s a status text b j tables number rest (Stopped p q k) same h e quiet =
-    let stop : IsStopped true to_go_on (Some name) s status text = subst (λ (d : Command). IsStopped (reads_job d) (reading_of d) (session_named d) s status text) same q in
-    Wanting (matched_stop to_go_on (Some name) s status text b j stop e h.few h.has (subst IsSome (sym h.is_number) refl) h.match.faultless quiet).0
+    let stop : IsStopped true to_go_on (session_named (Show name)) s status text = subst (λ (d : Command). IsStopped (reads_job d) (reading_of d) (session_named d) s status text) same q in
+    Wanting (matched_stop to_go_on (session_named (Show name)) s status text b j stop e h.few h.has (any_named j name number h.is_number) h.match.faultless quiet).0
 show_outcome c name s a status text b j tables number rest (NoMemoryToRun p q) same h e quiet = absurd (not_both (makes_areas c) p.1 (ap makes_areas same))
 show_outcome c name s a status text b j tables number rest (Tried n tasks p q) same h e quiet = absurd (not_both (makes_job c) (ap makes_job p.1) (ap makes_job same))
 show_outcome c name s a status text b j tables number rest (NoMemoryToTry p q) same h e quiet = absurd (not_both (makes_job c) p.1 (ap makes_job same))

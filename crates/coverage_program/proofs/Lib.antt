@@ -1,5 +1,8 @@
 pub mod AnswerLemmas
+pub mod CheckedLemmas
 pub mod CompleteLemmas
+pub mod ExactLemmas
+pub mod VerdictLemmas
 pub mod FileLemmas
 pub mod IncomingLemmas
 pub mod InputLemmas

@@ -15,12 +15,12 @@ use Rattle.session_book.specs.JobView.{JobView, SessionView}
 use Rattle.session_book.specs.Sessions.{is_whole, AreWhole}
 use Rattle.report_text.specs.Conditions.{HasFewLines}
 use Rattle.report_text.specs.Trial.{trial_text}
-use Rattle.coverage_program.specs.Answers.{IsCause, Report, Recorded, Places, Replayed, BadSchedule, United, BadFile, OtherFile, Shown, BadShown, OtherShown, Usage, Stopped, NoMemoryToRun, Tried, NoMemoryToTry, IsWritten, Answers}
+use Rattle.coverage_program.specs.Answers.{IsCause, Report, Recorded, Places, Replayed, BadSchedule, United, BadFile, OtherFile, Shown, BadShown, OtherShown, Proved, Checked, Usage, Stopped, NoMemoryToRun, Tried, NoMemoryToTry, IsWritten, Answers}
 use Rattle.coverage_program.specs.Changes.{SourceChange, SinkChange, AreasChange}
 use Rattle.coverage_program.specs.Complete.{IsAnswer}
 use Rattle.coverage_program.specs.Complete as wanted
 use Rattle.coverage_program.specs.declared.words.Command.{Command}
-use Rattle.coverage_program.specs.declared.words.Command.TheVariants.{Run, Marks, Trial, Table, Replay, Combine, Show, Unknown}
+use Rattle.coverage_program.specs.declared.words.Command.TheVariants.{Run, Marks, Trial, Table, Replay, Combine, Show, Prove, Verify, Unknown}
 use Rattle.coverage_program.specs.Refusals.{job_refusal, Match}
 use Rattle.coverage_program.specs.Trial.{IsUnread}
 use Rattle.coverage_program.specs.Untouched.{IsRunText}
@@ -39,6 +39,8 @@ made_areas Table m = absurd cc
 made_areas Replay m = absurd cc
 made_areas Combine m = absurd cc
 made_areas (Show name) m = absurd cc
+made_areas (Prove name) m = absurd cc
+made_areas (Verify name) m = absurd cc
 made_areas Unknown m = absurd cc
 
 pub made_jobless : (c : Command) → makes_job c ≡ true → reads_job c ≡ false
@@ -49,6 +51,8 @@ made_jobless Table m = absurd cc
 made_jobless Replay m = absurd cc
 made_jobless Combine m = absurd cc
 made_jobless (Show name) m = absurd cc
+made_jobless (Prove name) m = absurd cc
+made_jobless (Verify name) m = absurd cc
 made_jobless Unknown m = absurd cc
 
 pub made_silent : (c : Command) → makes_job c ≡ true → reads_input c ≡ false
@@ -59,6 +63,8 @@ made_silent Table m = absurd cc
 made_silent Replay m = absurd cc
 made_silent Combine m = absurd cc
 made_silent (Show name) m = absurd cc
+made_silent (Prove name) m = absurd cc
+made_silent (Verify name) m = absurd cc
 made_silent Unknown m = absurd cc
 
 -- what it answers doesn't hang on bytes
@@ -68,15 +74,18 @@ never_answered c b n m (wanted.LargeInput t l i) = not_both (reads_input c) t (m
 never_answered c b n m (wanted.BadJob k t l bad none i) = not_both (reads_job c) t (made_jobless c m)
 never_answered c b n m (wanted.LargeJob what k t l over i) = not_both (reads_job c) t (made_jobless c m)
 never_answered c b n m (wanted.NoSession j name t l has named none i) = not_both (reads_job c) t (made_jobless c m)
+never_answered c b n m (wanted.Controlled j name number t l has named whole is by i) = not_both (reads_job c) t (made_jobless c m)
 never_answered c b n m (wanted.BadListing j r t l has named some i) = not_both (reads_job c) t (made_jobless c m)
 never_answered c b n m (wanted.Matched j t l has none i) = elim t [ inl u ↦ not_both (makes_job c) m (ap makes_job u) | inr u ↦ not_both (makes_job c) m (ap makes_job u) ]
 never_answered c b n m (wanted.Recorded j name u l has some none i) = not_both (makes_job c) m (ap makes_job u)
+never_answered c b n m (wanted.Proved j name u l has named none i) = not_both (makes_job c) m (ap makes_job u)
 never_answered c b n m (wanted.United marks u l is i) = not_both (makes_job c) m (ap makes_job u)
 never_answered c b n m (wanted.BadFile offset u l is i) = not_both (makes_job c) m (ap makes_job u)
 never_answered c b n m (wanted.OtherFile d u l is i) = not_both (makes_job c) m (ap makes_job u)
 never_answered c b n m (wanted.Shown name j tables number rest sets u h file i) = not_both (makes_job c) m (ap makes_job u)
 never_answered c b n m (wanted.BadShown name j tables number rest offset u h bad i) = not_both (makes_job c) m (ap makes_job u)
 never_answered c b n m (wanted.OtherShown name j tables number rest marks d u h file differs i) = not_both (makes_job c) m (ap makes_job u)
+never_answered c b n m (wanted.Checked name j tables number rest v u h free is i) = not_both (makes_job c) m (ap makes_job u)
 never_answered c b n m (wanted.Replayed j tables has u l match' numbered i) = not_both (makes_job c) m (ap makes_job u)
 
 -- its text, or that memory was wanting
@@ -96,6 +105,8 @@ made c s a status text (OtherFile p q k) m = absurd (not_both (makes_job c) m (a
 made c s a status text (Shown name p q k) m = absurd (not_both (makes_job c) m (ap makes_job p.1))
 made c s a status text (BadShown name p q k) m = absurd (not_both (makes_job c) m (ap makes_job p.1))
 made c s a status text (OtherShown name p q k) m = absurd (not_both (makes_job c) m (ap makes_job p.1))
+made c s a status text (Proved name p q k) m = absurd (not_both (makes_job c) m (ap makes_job p.1))
+made c s a status text (Checked name p q k) m = absurd (not_both (makes_job c) m (ap makes_job p))
 made c s a status text (Usage p k) m = absurd (not_both (makes_job c) m (ap makes_job p.1))
 made c s a status text (Stopped p q k) m = absurd (not_both (reads_input c) p (made_silent c m))
 made c s a status text (NoMemoryToRun p q) m = absurd (not_both (reads_job c) q.reads (made_jobless c m))

@@ -13,20 +13,20 @@ use Rattle.brk_table.specs.declared.faults.BuildFault.TheVariants as fault
 use Rattle.brk_table.specs.Places.{TablesView}
 use Rattle.session_book.specs.JobView.{JobView}
 use Rattle.job_text.specs.Lines.{lines_of}
-use Rattle.coverage_program.specs.Answers.{IsStopped, IsReady, IsCause, Report, Recorded, Places, Replayed, BadSchedule, United, BadFile, OtherFile, Shown, BadShown, OtherShown, Usage, Stopped, NoMemoryToRun, Tried, NoMemoryToTry, Answers}
+use Rattle.coverage_program.specs.Answers.{IsStopped, IsReady, IsCause, Report, Recorded, Places, Replayed, BadSchedule, United, BadFile, OtherFile, Shown, BadShown, OtherShown, Proved, Checked, Usage, Stopped, NoMemoryToRun, Tried, NoMemoryToTry, Answers}
 use Rattle.coverage_program.specs.Inputs.{CameJob, HasJob, CameMatched, input_limit}
 use Rattle.coverage_program.specs.Changes.{SourceChange, SinkChange, AreasChange}
 use Rattle.coverage_program.specs.Complete.{IsAnswer}
 use Rattle.coverage_program.specs.Complete as wanted
 use Rattle.coverage_program.specs.Untouched.{IsUntouched, IsRunText, HasReport, HasText, Read, Made, IsCut, IsReportCut}
 use Rattle.coverage_program.specs.declared.words.Command.{Command}
-use Rattle.coverage_program.specs.declared.words.Command.TheVariants.{Run, Marks, Trial, Table, Replay, Combine, Show, Unknown}
+use Rattle.coverage_program.specs.declared.words.Command.TheVariants.{Run, Marks, Trial, Table, Replay, Combine, Show, Prove, Verify, Unknown}
 use Rattle.coverage_program.specs.Refusals.{RefusalView, list_refusal, build_refusal, refusal_by, refusal_from, or_refusal, places_in, job_refusal}
 use Rattle.coverage_program.specs.Words.{reads_job, reading_of, makes_areas, makes_job, session_named, no_memory_line}
-use Rattle.coverage_program.proofs.CompleteLemmas.{status_of, made_status}
+use Rattle.coverage_program.proofs.CompleteLemmas.{status_of, session_there, made_status}
 use Rattle.coverage_program.proofs.TrialLemmas.{made_areas, made_jobless, never_answered, IsMade, Summed, Lacking, made}
 use Rattle.coverage_program.specs.Trial.{IsUnread}
-use Rattle.coverage_program.proofs.StopLemmas.{same_job, not_both, never_came, never_large, too_many, not_named, matched_stop}
+use Rattle.coverage_program.proofs.StopLemmas.{same_job, any_named, not_both, never_came, never_large, too_many, not_named, not_whole, matched_stop}
 use Rattle.coverage_program.specs.Named.{HasNamed}
 use Rattle.std.specs.Prelude.{IsSome}
 
@@ -71,7 +71,7 @@ told_from room (image ∷ images) (Some texts ∷ listings) =
     told_either (refusal_by image room (fault_of texts) (listing_of texts)) (refusal_from (room - places_in (listing_of texts)) images listings)
     (told_by image room (fault_of texts) (listing_of texts)) (told_from (room - places_in (listing_of texts)) images listings)
 
-never_zero : (j : JobView) (r : RefusalView) → job_refusal j ≡ Some r → r.status ≡ 0 → ⊥
+pub never_zero : (j : JobView) (r : RefusalView) → job_refusal j ≡ Some r → r.status ≡ 0 → ⊥
 never_zero j r e = subst IsTold e (told_from 65536 j.images j.listings)
 
 -- ---- the areas
@@ -96,7 +96,7 @@ Touched c s a status = (a.after ≡ a.before) ⊎ (HasTasks c s × ((status ≡ 
 
 touched : (c : Command) (s : SourceChange) (a : AreasChange) (status : ℕ) (text : List ℕ) → IsCause c s a status text → Touched c s a status
 touched c s a status text (Report p q) = inr (Came (ap makes_areas p.1) (ready_run c Run s q.job q.tables p.1 refl tt q.came), inl p.0)
-touched c s a status text (Recorded name p q) = inr (Came (ap makes_areas p.1) (ready_run c (Marks name) s q.job q.tables p.1 refl (subst IsSome (sym q.is_number) refl) q.came), inl p.0)
+touched c s a status text (Recorded name p q) = inr (Came (ap makes_areas p.1) (ready_run c (Marks name) s q.job q.tables p.1 refl (any_named q.job name q.number q.is_number) q.came), inl p.0)
 touched c s a status text (Places p q k) = inl k
 touched c s a status text (Replayed p q k) = inl k
 touched c s a status text (BadSchedule p q k) = inl k
@@ -106,6 +106,8 @@ touched c s a status text (OtherFile p q k) = inl k
 touched c s a status text (Shown name p q k) = inl k
 touched c s a status text (BadShown name p q k) = inl k
 touched c s a status text (OtherShown name p q k) = inl k
+touched c s a status text (Proved name p q k) = inl k
+touched c s a status text (Checked name p q k) = inl k
 touched c s a status text (Usage p k) = inl k
 touched c s a status text (Stopped p q k) = inl k
 touched c s a status text (NoMemoryToRun p q) = inr (Came p.1 q, inr p.0)
@@ -120,16 +122,20 @@ reported c s b n m r e (wanted.BadJob k t l bad none i) = absurd (never_came (re
 reported c s b n m r e (wanted.LargeJob what k t l over i) = absurd (never_large (reading_of c) s b r.job what k e over r.came.came)
 reported c s b n m r e (wanted.NoSession j name t l has named none i) =
     absurd (not_named (session_named c) j name named none (subst (λ (k : JobView). HasNamed (session_named c) k) (sym (same_job (reading_of c) s b j r.job e has r.came.came)) r.named))
+reported c s b n m r e (wanted.Controlled j name number t l has named whole is by i) =
+    absurd (not_whole (session_named c) j name number named whole is by (subst (λ (k : JobView). HasNamed (session_named c) k) (sym (same_job (reading_of c) s b j r.job e has r.came.came)) r.named))
 reported c s b n m r e (wanted.BadListing j x t l has named some i) =
     let q : Some x ≡ None = sym some ∙ (ap job_refusal (same_job (reading_of c) s b j r.job e has r.came.came) ∙ r.came.match.faultless) in absurd cc
 reported c s b n m r e (wanted.Matched j t l has none i) = i
 reported c s b n m r e (wanted.Recorded j name x l has some none i) = i
+reported c s b n m r e (wanted.Proved j name x l has named none i) = i
 reported c s b n m r e (wanted.United marks x l is i) = absurd (not_both (makes_areas c) m (ap makes_areas x))
 reported c s b n m r e (wanted.BadFile offset x l is i) = absurd (not_both (makes_areas c) m (ap makes_areas x))
 reported c s b n m r e (wanted.OtherFile d x l is i) = absurd (not_both (makes_areas c) m (ap makes_areas x))
 reported c s b n m r e (wanted.Shown name j tables number rest sets x h file i) = absurd (not_both (makes_areas c) m (ap makes_areas x))
 reported c s b n m r e (wanted.BadShown name j tables number rest offset x h bad i) = absurd (not_both (makes_areas c) m (ap makes_areas x))
 reported c s b n m r e (wanted.OtherShown name j tables number rest marks d x h file differs i) = absurd (not_both (makes_areas c) m (ap makes_areas x))
+reported c s b n m r e (wanted.Checked name j tables number rest v x h free is i) = absurd (not_both (makes_areas c) m (ap makes_areas x))
 reported c s b n m r e (wanted.Replayed j tables has x l match' numbered i) = absurd (not_both (makes_areas c) m (ap makes_areas x))
 
 -- the answer is told as a refusal, or 6
@@ -184,6 +190,8 @@ runs_alone Table m n = absurd cc
 runs_alone Replay m n = absurd cc
 runs_alone Combine m n = absurd cc
 runs_alone (Show name) m n = absurd cc
+runs_alone (Prove name) m n = absurd cc
+runs_alone (Verify name) m n = absurd cc
 runs_alone Unknown m n = absurd cc
 
 -- the words and bytes of a run that has a report
@@ -212,17 +220,20 @@ has_job c b m g (wanted.LargeInput t l i) = absurd cc
 has_job c b m g (wanted.BadJob n t l bad none i) = absurd cc
 has_job c b m g (wanted.LargeJob what n t l over i) = absurd cc
 has_job c b m g (wanted.NoSession j name t l has named none i) = absurd cc
+has_job c b m g (wanted.Controlled j name number t l has named whole is by i) = absurd cc
 has_job c b m g (wanted.BadListing j r t l has named some i) = absurd (never_zero j r some (sym i))
 has_job c b m g (wanted.Matched j t l has none i) =
     record { job = j; few = l; has = has; named = run_named c j m t; faultless = none }
 has_job c b m g (wanted.Recorded j name e l has some none i) =
-    record { job = j; few = l; has = subst (λ (x : Command). HasJob (reading_of x) (lines_of b) j) (sym e) has; named = subst (λ (x : Command). HasNamed (session_named x) j) (sym e) some; faultless = none }
+    record { job = j; few = l; has = subst (λ (x : Command). HasJob (reading_of x) (lines_of b) j) (sym e) has; named = subst (λ (x : Command). HasNamed (session_named x) j) (sym e) (session_there j name some); faultless = none }
+has_job c b m g (wanted.Proved j name x l has named none i) = absurd (not_both (makes_areas c) m (ap makes_areas x))
 has_job c b m g (wanted.United marks x l is i) = absurd (not_both (makes_areas c) m (ap makes_areas x))
 has_job c b m g (wanted.BadFile offset x l is i) = absurd cc
 has_job c b m g (wanted.OtherFile d x l is i) = absurd cc
 has_job c b m g (wanted.Shown name j tables number rest sets x h file i) = absurd (not_both (makes_areas c) m (ap makes_areas x))
 has_job c b m g (wanted.BadShown name j tables number rest offset x h bad i) = absurd cc
 has_job c b m g (wanted.OtherShown name j tables number rest marks d x h file differs i) = absurd cc
+has_job c b m g (wanted.Checked name j tables number rest v x h free is i) = absurd (not_both (makes_areas c) m (ap makes_areas x))
 has_job c b m g (wanted.Replayed j tables has x l match' numbered i) = absurd (not_both (makes_areas c) m (ap makes_areas x))
 
 text_by : (c d : Command) (s : SourceChange) (a : AreasChange) (text : List ℕ) → c ≡ d → IsRunText d s a text → IsRunText c s a text
@@ -241,6 +252,8 @@ cut_text c s a status text b m (OtherFile p q k) e w quiet = absurd (not_both (m
 cut_text c s a status text b m (Shown name p q k) e w quiet = absurd (not_both (makes_areas c) m (ap makes_areas p.1))
 cut_text c s a status text b m (BadShown name p q k) e w quiet = absurd (not_both (makes_areas c) m (ap makes_areas p.1))
 cut_text c s a status text b m (OtherShown name p q k) e w quiet = absurd (not_both (makes_areas c) m (ap makes_areas p.1))
+cut_text c s a status text b m (Proved name p q k) e w quiet = absurd (not_both (makes_areas c) m (ap makes_areas p.1))
+cut_text c s a status text b m (Checked name p q k) e w quiet = absurd (not_both (makes_areas c) m (ap makes_areas p))
 cut_text c s a status text b m (Usage p k) e w quiet = absurd (not_both (makes_areas c) m (ap makes_areas p.1))
 cut_text c s a status text b m (Stopped p q k) e w quiet =
     let h : HasJobToRun c b = has_job c b m (not_made c b 0 w) w in

@@ -1,5 +1,5 @@
 -- What the program answers: its status and text, by the words and the bytes that came.
-use Rattle.std.specs.Prelude.{◌≡◌, ◌⊎◌, ℕ, ◌≤◌, Bool, true, false, Option, Some, None, List, drop}
+use Rattle.std.specs.Prelude.{◌≡◌, ◌⊎◌, ℕ, ◌≤◌, Bool, true, false, Option, Some, None, IsSome, List, drop}
 use Rattle.std.specs.Io.KnownBytes.{Appends}
 use Rattle.cov_outside.specs.Causes.{Rose}
 use Rattle.cov_outside.specs.Whole.{HasMoreThan, AppendsSome}
@@ -7,6 +7,7 @@ use Rattle.cov_outside.specs.declared.whole.ReadFault.{ReadFault as InputFault}
 use Rattle.cov_outside.specs.declared.whole.ReadFault.TheVariants as read
 use Rattle.brk_table.specs.Places.{TablesView, all_places}
 use Rattle.session_book.specs.JobView.{JobView}
+use Rattle.session_book.specs.Sessions.{session_of}
 use Rattle.job_text.specs.declared.jobs.JobFault.{JobFault}
 use Rattle.job_text.specs.declared.jobs.JobFault.TheVariants as fault
 use Rattle.job_text.specs.declared.limit.Limit.{Limit}
@@ -18,7 +19,8 @@ use Rattle.report_text.specs.Report.{report_of}
 use Rattle.report_text.specs.Table.{table_text}
 use Rattle.coverage_program.specs.declared.words.Command.{Command}
 use Rattle.coverage_program.specs.declared.schedule.Played.{Played}
-use Rattle.coverage_program.specs.declared.words.Command.TheVariants.{Run, Marks, Trial, Table, Replay, Combine, Show, Unknown}
+use Rattle.coverage_program.specs.declared.words.Command.TheVariants.{Run, Marks, Trial, Table, Replay, Combine, Show, Prove, Verify, Unknown}
+use Rattle.coverage_program.specs.Checked.{IsProof, IsCheck}
 use Rattle.coverage_program.specs.Files.{IsUnion, IsBadFile, IsOtherFile, IsShown, IsBadShown, IsOtherShown}
 use Rattle.coverage_program.specs.Inputs.{CameWhole, CameJob, CameFirst, CameMatched, HasJob, input_limit}
 use Rattle.coverage_program.specs.Named.{HasNamed, session_number}
@@ -28,7 +30,7 @@ use Rattle.coverage_program.specs.Changes.{SourceChange, SinkChange, AreasChange
 use Rattle.coverage_program.specs.Reports.{Reports, Records}
 use Rattle.coverage_program.specs.Replay.{Play, Bad, Whole, IsRun, play_of, replay_text}
 use Rattle.coverage_program.specs.Trial.{IsUnread, IsTried}
-use Rattle.coverage_program.specs.Words.{reads_input, reads_job, Reading, to_run, to_list, to_go_on, reading_of, makes_areas, makes_job, session_named, usage_line, too_large_input_line, read_fault_line, no_memory_line, bad_job_line, large_job_line, bad_schedule_line, no_session_line}
+use Rattle.coverage_program.specs.Words.{reads_input, reads_job, Reading, to_run, to_list, to_go_on, reading_of, makes_areas, makes_job, session_named, Wanted, usage_line, too_large_input_line, read_fault_line, no_memory_line, bad_job_line, large_job_line, bad_schedule_line, no_session_line, controlled_line}
 
 -- how a job that wasn't read is told
 abbrev pub fault_refusal : JobFault → RefusalView
@@ -114,16 +116,28 @@ pub record IsLargeJob (how : Reading) (s : SourceChange) (text : List ℕ) : Typ
   pub told : text ≡ large_job_line what line
 
 -- no session of the job has the name
-pub record IsNoSession (how : Reading) (name : Option (List ℕ)) (s : SourceChange) (text : List ℕ) : Type 0 where
+pub record IsNoSession (how : Reading) (name : Option Wanted) (s : SourceChange) (text : List ℕ) : Type 0 where
   pub job : JobView
-  pub wanted : List ℕ
+  pub wanted : Wanted
   pub came : CameJob how s job
   pub named : name ≡ Some wanted
-  pub missing : session_number job wanted ≡ None
-  pub told : text ≡ no_session_line wanted
+  pub missing : session_number job wanted.name ≡ None
+  pub told : text ≡ no_session_line wanted.name
+
+-- the session of the name must have no controller, and has one
+pub record IsControlled (how : Reading) (name : Option Wanted) (s : SourceChange) (text : List ℕ) : Type 0 where
+  pub job : JobView
+  pub wanted : Wanted
+  pub number : ℕ
+  pub came : CameJob how s job
+  pub named : name ≡ Some wanted
+  pub whole : wanted.whole ≡ true
+  pub is_number : session_number job wanted.name ≡ Some number
+  pub by : IsSome (session_of job number).by
+  pub told : text ≡ controlled_line wanted.name
 
 -- the first fault of a job's listings; where a session was named the job has it
-pub record IsBadListing (how : Reading) (name : Option (List ℕ)) (s : SourceChange) (status : ℕ) (text : List ℕ) : Type 0 where
+pub record IsBadListing (how : Reading) (name : Option Wanted) (s : SourceChange) (status : ℕ) (text : List ℕ) : Type 0 where
   pub job : JobView
   pub came : CameJob how s job
   pub named : HasNamed name job
@@ -131,10 +145,11 @@ pub record IsBadListing (how : Reading) (name : Option (List ℕ)) (s : SourceCh
 
 -- Why the input wasn't read whole or, where it is to have a job, no job with its tables was come to. Each cause has its own
 -- status; a refused listing has that of its fault, 3, 4, 8 or 12.
-pub data IsStopped (job : Bool) (how : Reading) (name : Option (List ℕ)) (s : SourceChange) (status : ℕ) (text : List ℕ) : Type 0 where
+pub data IsStopped (job : Bool) (how : Reading) (name : Option Wanted) (s : SourceChange) (status : ℕ) (text : List ℕ) : Type 0 where
   BadJob : job ≡ true → status ≡ 2 → IsBadJob how s text → IsStopped job how name s status text
   LargeJob : job ≡ true → status ≡ 4 → IsLargeJob how s text → IsStopped job how name s status text
   NoSession : job ≡ true → status ≡ 13 → IsNoSession how name s text → IsStopped job how name s status text
+  Controlled : job ≡ true → status ≡ 14 → IsControlled how name s text → IsStopped job how name s status text
   BadListing : job ≡ true → IsBadListing how name s status text → IsStopped job how name s status text
   LargeInput : (status ≡ 4) × (text ≡ too_large_input_line) × HasMoreThan s.left input_limit × (s.later ≡ s.faults) → IsStopped job how name s status text
   ReadFault : (status ≡ 5) × (text ≡ read_fault_line) × Rose s.faults s.later → IsStopped job how name s status text
@@ -162,6 +177,8 @@ pub data IsCause (c : Command) (s : SourceChange) (a : AreasChange) (status : �
   Shown : (name : List ℕ) → (status ≡ 0) × (c ≡ Show name) → IsShown name s text → a.after ≡ a.before → IsCause c s a status text
   BadShown : (name : List ℕ) → (status ≡ 10) × (c ≡ Show name) → IsBadShown name s text → a.after ≡ a.before → IsCause c s a status text
   OtherShown : (name : List ℕ) → (status ≡ 11) × (c ≡ Show name) → IsOtherShown name s text → a.after ≡ a.before → IsCause c s a status text
+  Proved : (name : List ℕ) → (status ≡ 0) × (c ≡ Prove name) → IsProof name s text → a.after ≡ a.before → IsCause c s a status text
+  Checked : (name : List ℕ) → c ≡ Verify name → IsCheck name s status text → a.after ≡ a.before → IsCause c s a status text
   Usage : (status ≡ 1) × (c ≡ Unknown) × (text ≡ usage_line) × (s.rest ≡ s.left) × (s.later ≡ s.faults) → a.after ≡ a.before → IsCause c s a status text
   Stopped : reads_input c ≡ true → IsStopped (reads_job c) (reading_of c) (session_named c) s status text → a.after ≡ a.before → IsCause c s a status text
   NoMemoryToRun : (status ≡ 7) × (makes_areas c ≡ true) × (text ≡ no_memory_line) → IsReady c s → IsCause c s a status text

@@ -1,5 +1,6 @@
 pub mod Answers
 pub mod Changes
+pub mod Checked
 pub mod Complete
 pub mod Refusals
 pub mod Refused

@@ -1,6 +1,8 @@
 -- The session of a name.
-use Rattle.std.specs.Prelude.{ℕ, ◌+◌, if◌then◌else◌, Option, Some, None, IsSome, List, [], ◌∷◌, bytes_eq}
+use Rattle.std.specs.Prelude.{◌≡◌, ℕ, ◌+◌, Bool, true, if◌then◌else◌, Option, Some, None, List, [], ◌∷◌, bytes_eq}
 use Rattle.session_book.specs.JobView.{JobView, SessionView}
+use Rattle.session_book.specs.Sessions.{session_of}
+use Rattle.coverage_program.specs.Words.{Wanted}
 
 -- the number of the first of these sessions that has the name, counted on from n
 abbrev pub number_from : ℕ → List SessionView → List ℕ → Option ℕ
@@ -10,7 +12,13 @@ number_from n (s ∷ ss) name = if bytes_eq s.name name then Some n else number_
 abbrev pub session_number : JobView → List ℕ → Option ℕ
 session_number j name = number_from 1 j.sessions name
 
--- where a session is to have a name, the job has one of it
-abbrev pub HasNamed : Option (List ℕ) → JobView → Type 0
+-- the job has the session that is wanted
+pub record HasWanted (wanted : Wanted) (j : JobView) : Type 0 where
+  pub number : ℕ
+  pub is_number : session_number j wanted.name ≡ Some number
+  pub whole : wanted.whole ≡ true → (session_of j number).by ≡ None
+
+-- where a session is wanted, the job has it
+abbrev pub HasNamed : Option Wanted → JobView → Type 0
 HasNamed None j = Unit {0}
-HasNamed (Some name) j = IsSome (session_number j name)
+HasNamed (Some wanted) j = HasWanted wanted j

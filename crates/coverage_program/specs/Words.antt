@@ -2,10 +2,12 @@
 use Rattle.std.specs.Prelude.{ℕ, ◌≤◌, Bool, true, false, ◌&&◌, nat_le, nat_lt, if◌then◌else◌, Option, Some, None, List, [], ◌∷◌, ◌++◌, bytes_eq, codes, decimal}
 use Rattle.std.specs.Str.Parse.{digits_value}
 use Rattle.cov_base.specs.Names.{name_at, unpadded}
+use Rattle.cov_base.specs.declared.facts.Fact.{Fact}
+use Rattle.cov_base.specs.declared.facts.Fact.TheVariants.{Ran, Went, Stayed}
 use Rattle.job_text.specs.declared.limit.Limit.{Limit}
 use Rattle.job_text.specs.declared.limit.Limit.TheVariants as limit
 use Rattle.coverage_program.specs.declared.words.Command.{Command}
-use Rattle.coverage_program.specs.declared.words.Command.TheVariants.{Run, Marks, Trial, Table, Replay, Combine, Show, Unknown}
+use Rattle.coverage_program.specs.declared.words.Command.TheVariants.{Run, Marks, Trial, Table, Replay, Combine, Show, Prove, Verify, Unknown}
 use Rattle.report_text.specs.Text.{hex_bytes}
 use Rattle.table_combine.specs.Combine.{Difference}
 
@@ -16,7 +18,8 @@ command_alone w = if bytes_eq w (codes "run") then Run else (if bytes_eq w (code
 -- the command of a word and a session's name, where the second word is a name
 abbrev pub command_named : List ℕ → Option (List ℕ) → Command
 command_named w None = Unknown
-command_named w (Some name) = if bytes_eq w (codes "marks") then Marks name else (if bytes_eq w (codes "show") then Show name else Unknown)
+command_named w (Some name) =
+    if bytes_eq w (codes "marks") then Marks name else (if bytes_eq w (codes "show") then Show name else (if bytes_eq w (codes "prove") then Prove name else (if bytes_eq w (codes "verify") then Verify name else Unknown)))
 
 -- the number that a word is the decimal of: it has no sign, and no leading zero but in 0 itself
 abbrev pub number_at : List ℕ → Option ℕ
@@ -89,16 +92,26 @@ abbrev pub reading_of : Command → Reading
 reading_of Table = to_list
 reading_of Replay = to_go_on
 reading_of (Show name) = to_go_on
+reading_of (Prove name) = to_list
+reading_of (Verify name) = to_go_on
 reading_of c = to_run
 
+-- a session that a command asks for by its name
+pub record Wanted : Type 0 where
+  pub name : List ℕ
+  -- it must have no controller
+  pub whole : Bool
+
 -- the session that its second word names
-abbrev pub session_named : Command → Option (List ℕ)
-session_named (Marks name) = Some name
-session_named (Show name) = Some name
+abbrev pub session_named : Command → Option Wanted
+session_named (Marks name) = Some (record { name = name; whole = false })
+session_named (Show name) = Some (record { name = name; whole = false })
+session_named (Prove name) = Some (record { name = name; whole = true })
+session_named (Verify name) = Some (record { name = name; whole = true })
 session_named c = None
 
 abbrev pub usage_line : List ℕ
-usage_line = codes "USAGE: run | marks NAME | trial NUMBER TASKS | table | replay | combine | show NAME\n"
+usage_line = codes "USAGE: run | marks NAME | trial NUMBER TASKS | table | replay | combine | show NAME | prove NAME | verify NAME\n"
 
 abbrev pub too_large_input_line : List ℕ
 too_large_input_line = codes "TOO LARGE INPUT\n"
@@ -137,6 +150,10 @@ bad_schedule_line n = codes "BAD SCHEDULE LINE " ++ decimal n ++ 10 ∷ []
 abbrev pub no_session_line : List ℕ → List ℕ
 no_session_line name = codes "NO SESSION " ++ unpadded name ++ 10 ∷ []
 
+-- the session of this name, which is filled with blanks, has a controller
+abbrev pub controlled_line : List ℕ → List ℕ
+controlled_line name = codes "CONTROLLED " ++ unpadded name ++ 10 ∷ []
+
 -- the first bad field, by its offset from the first byte of the first marks file
 abbrev pub bad_marks_line : ℕ → List ℕ
 bad_marks_line offset = codes "BAD MARKS OFFSET " ++ decimal offset ++ 10 ∷ []
@@ -149,3 +166,20 @@ row_text (Some row) = hex_bytes row
 -- the first row in which two tables differ
 abbrev pub other_table_line : Difference → List ℕ
 other_table_line d = codes "OTHER TABLE ROW " ++ decimal d.row ++ codes " LEFT " ++ row_text d.left ++ codes " RIGHT " ++ row_text d.right ++ 10 ∷ []
+
+-- the first bad field of evidence, by its offset from the evidence's first byte
+abbrev pub bad_evidence_line : ℕ → List ℕ
+bad_evidence_line offset = codes "BAD EVIDENCE OFFSET " ++ decimal offset ++ 10 ∷ []
+
+abbrev pub fact_letter : Fact → List ℕ
+fact_letter Ran = codes "R"
+fact_letter Went = codes "W"
+fact_letter Stayed = codes "S"
+
+-- the first row and fact of which marks, evidence and the session's executions don't agree
+abbrev pub refuted_line : ℕ → Fact → List ℕ
+refuted_line row fact = codes "REFUTED ROW " ++ decimal row ++ codes " FACT " ++ fact_letter fact ++ 10 ∷ []
+
+-- marks and evidence of so many facts are those of the session of this name
+abbrev pub verified_line : List ℕ → ℕ → List ℕ
+verified_line name facts = codes "VERIFIED " ++ unpadded name ++ codes " FACTS " ++ decimal facts ++ 10 ∷ []

@@ -5,7 +5,7 @@ ghost use Rattle.coverage_program.specs.Answers.{Answers};
 ghost use Rattle.coverage_program.specs.Incoming.{CameWith};
 ghost use Rattle.coverage_program.specs.Inputs.{CameJob};
 ghost use Rattle.coverage_program.specs.Changes.{SourceChange, source_change, sink_change, areas_change, no_change};
-ghost use Rattle.coverage_program.specs.Complete.{IsComplete};
+ghost use Rattle.coverage_program.specs.Complete.{IsComplete, IsExact};
 ghost use Rattle.brk_table.specs.Together.{AreTables};
 ghost use Rattle.coverage_program.specs.Named.{session_number};
 ghost use Rattle.coverage_program.specs.Refusals.{Match};
@@ -17,12 +17,14 @@ ghost use Rattle.coverage_program.specs.Words.{command_of, without_areas, to_run
 
 use crate::combining::answer_combine;
 use crate::lines::{NO_MEMORY, USAGE, bad_schedule_line};
+use crate::proving::answer_prove;
 use crate::ready::{make_named, make_ready};
 use crate::replay::replay_text;
 use crate::schedule::{ScheduleFault, replay};
 use crate::showing::answer_show;
 use crate::status::{Status, status_of, told};
 use crate::trial::answer_trial;
+use crate::verifying::answer_verify;
 use crate::words::{Command, command_of};
 use brk_table::Tables;
 use cov_base::{Name, SessNo};
@@ -133,7 +135,7 @@ fn answer_marks<T: Threads + Wait + Sync, S: Source, K: Sink, A: Areas, G: Gate 
     requires { A.made areas.old < 2 ^ 61 }
     ensures { Answers (Command.Marks name.now) (source_change S.left S.faults source.old source.new) (areas_change A.ledger A.finals A.made areas.old areas.new) (sink_change K.written K.faults sink.old sink.new) result.0 }
 {
-    let (read, session) = match make_named(alloc, source, false, false, name) {
+    let (read, session) = match make_named(alloc, source, false, false, name, false) {
         Ok(read) => read,
         Err(refusal) => return told(sink, &refusal.line, refusal.status),
     };
@@ -211,6 +213,8 @@ fn answer_one<S: Source, K: Sink>(
         Command::Replay => answer_replay(alloc, source, sink),
         Command::Combine => answer_combine(alloc, source, sink),
         Command::Show(name) => answer_show(alloc, &name, source, sink),
+        Command::Prove(name) => answer_prove(alloc, &name, source, sink),
+        Command::Verify(name) => answer_verify(alloc, &name, source, sink),
         Command::Run | Command::Marks(_) | Command::Trial { .. } | Command::Unknown => told(
             sink, USAGE, 1,
         ),
@@ -237,8 +241,13 @@ fn answer<T: Threads + Wait + Sync, S: Source, K: Sink, A: Areas, G: Gate + Sync
         Command::Trial { number, tasks } => answer_trial(
             rt, alloc, number, tasks, sink, areas, gate,
         ),
-        Command::Table | Command::Replay | Command::Combine | Command::Show(_) | Command::Unknown =>
-            answer_one(alloc, command, source, sink),
+        Command::Table
+        | Command::Replay
+        | Command::Combine
+        | Command::Show(_)
+        | Command::Prove(_)
+        | Command::Verify(_)
+        | Command::Unknown => answer_one(alloc, command, source, sink),
     }
 }
 
@@ -261,6 +270,7 @@ pub fn cover<T: Threads + Wait + Sync, S: Source, K: Sink, A: Areas, G: Gate + S
     requires { A.made areas.old < 2 ^ 61 }
     ensures answers { Answers (command_of (map string_bytes words.now)) (source_change S.left S.faults source.old source.new) (areas_change A.ledger A.finals A.made areas.old areas.new) (sink_change K.written K.faults sink.old sink.new) result.0 }
     ensures complete { IsComplete (command_of (map string_bytes words.now)) (source_change S.left S.faults source.old source.new) (sink_change K.written K.faults sink.old sink.new) result.0 }
+    ensures exact { IsExact (command_of (map string_bytes words.now)) (source_change S.left S.faults source.old source.new) (sink_change K.written K.faults sink.old sink.new) result.0 }
     ensures untouched { IsUntouched (command_of (map string_bytes words.now)) (source_change S.left S.faults source.old source.new) (areas_change A.ledger A.finals A.made areas.old areas.new) result.0 }
     ensures cut { IsReportCut (command_of (map string_bytes words.now)) (source_change S.left S.faults source.old source.new) (areas_change A.ledger A.finals A.made areas.old areas.new) (sink_change K.written K.faults sink.old sink.new) result.0 }
 {
@@ -271,7 +281,10 @@ pub fn cover<T: Threads + Wait + Sync, S: Source, K: Sink, A: Areas, G: Gate + S
 /// the sink; `replay` reads a job of one phase and a schedule, plays the schedule on the core, and writes what its
 /// items have shown and the report of what they come to; `combine` reads marks files in succession and writes the file of
 /// their union; `show NAME` reads a job and one marks file behind it, and writes the listings of the session of the name
-/// with the file's marks. For all other words, `run`, `marks` and `trial` too, it is status 1. It always returns.
+/// with the file's marks; `prove NAME` reads a job and writes the evidence of the session of the name, which has no
+/// controller; `verify NAME` reads a job, one marks file behind it and evidence behind that, and says whether both are
+/// true of that session, or of which fact they are not. Both run each task of the session's phase once, alone. For all
+/// other words, `run`, `marks` and `trial` too, it is status 1. It always returns.
 pub fn cover_one<S: Source, K: Sink>(
     alloc: Global,
     words: &[String],
@@ -280,6 +293,7 @@ pub fn cover_one<S: Source, K: Sink>(
 ) -> Status
     ensures answers { (a : Account) → Answers (without_areas (command_of (map string_bytes words.now))) (source_change S.left S.faults source.old source.new) (no_change a) (sink_change K.written K.faults sink.old sink.new) result.0 }
     ensures complete { IsComplete (without_areas (command_of (map string_bytes words.now))) (source_change S.left S.faults source.old source.new) (sink_change K.written K.faults sink.old sink.new) result.0 }
+    ensures exact { IsExact (without_areas (command_of (map string_bytes words.now))) (source_change S.left S.faults source.old source.new) (sink_change K.written K.faults sink.old sink.new) result.0 }
 {
     answer_one(alloc, command_of(words), source, sink)
 }

@@ -1,19 +1,19 @@
 //! The lines that refusals are told by.
 ghost use Rattle.std.specs.Prelude.{◌≡◌, ◌<◌, ◌≤◌, ◌^◌, ◌++◌, ◌∷◌, ◌+◌, [], codes, decimal, length, option_map};
-ghost use Rattle.coverage_program.specs.Words.{bad_job_line, limit_name, large_job_line, bad_schedule_line, no_session_line, bad_marks_line, row_text, other_table_line};
+ghost use Rattle.coverage_program.specs.Words.{bad_job_line, limit_name, large_job_line, bad_schedule_line, no_session_line, controlled_line, bad_marks_line, row_text, other_table_line, bad_evidence_line, fact_letter, refuted_line, verified_line};
 ghost use Rattle.arrayvec.specs.ArrayVec.{array_vec_len};
 ghost use Rattle.table_combine.specs.Combine.{difference_of};
 
 use annotator::text::{add_number, add_text};
 use arrayvec::ArrayVec;
-use cov_base::Name;
+use cov_base::{Fact, Name};
 use job_text::Limit;
 use report_text::add_bytes;
 use table_combine::OtherTable;
 
 /// For words that are none of the table.
 pub const USAGE: &[u8] =
-    b"USAGE: run | marks NAME | trial NUMBER TASKS | table | replay | combine | show NAME\n";
+    b"USAGE: run | marks NAME | trial NUMBER TASKS | table | replay | combine | show NAME | prove NAME | verify NAME\n";
 
 /// For a source that failed.
 pub const READ_FAULT: &[u8] = b"READ FAULT\n";
@@ -94,6 +94,17 @@ pub fn no_session_line(name: &Name) -> ArrayVec<u8, 160>
     line
 }
 
+/// The session of the name has a controller.
+pub fn controlled_line(name: &Name) -> ArrayVec<u8, 160>
+    ensures { result.items ≡ controlled_line name.now }
+{
+    let mut line = ArrayVec::new();
+    add_text(&mut line, b"CONTROLLED ");
+    add_text(&mut line, name.bytes());
+    add_text(&mut line, b"\n");
+    line
+}
+
 /// The field at the offset is the first bad one, counted from the first byte of the first marks file.
 pub fn bad_marks_line(offset: usize) -> ArrayVec<u8, 160>
     ensures { result.items ≡ bad_marks_line offset }
@@ -124,6 +135,50 @@ pub fn other_table_line(other: &OtherTable) -> ArrayVec<u8, 160>
     add_row(&mut line, &other.left);
     add_text(&mut line, b" RIGHT ");
     add_row(&mut line, &other.right);
+    add_text(&mut line, b"\n");
+    line
+}
+
+/// The field of the evidence at the offset is the first bad one, counted from the evidence's first byte.
+pub fn bad_evidence_line(offset: usize) -> ArrayVec<u8, 160>
+    ensures { result.items ≡ bad_evidence_line offset }
+{
+    number_line(b"BAD EVIDENCE OFFSET ", offset as u64)
+}
+
+fn fact_letter(fact: Fact) -> &'static [u8]
+    ensures letter { result.now ≡ fact_letter fact }
+    ensures short { length result.now ≤ 1 }
+{
+    match fact {
+        Fact::Ran => b"R",
+        Fact::Went => b"W",
+        Fact::Stayed => b"S",
+    }
+}
+
+/// The first row and fact of which marks, evidence and the session's executions don't agree.
+pub fn refuted_line(row: u32, fact: Fact) -> ArrayVec<u8, 160>
+    ensures { result.items ≡ refuted_line row fact }
+{
+    let mut line = ArrayVec::new();
+    add_text(&mut line, b"REFUTED ROW ");
+    add_number(&mut line, u64::from(row));
+    add_text(&mut line, b" FACT ");
+    add_text(&mut line, fact_letter(fact));
+    add_text(&mut line, b"\n");
+    line
+}
+
+/// Marks and evidence of so many facts are those of the session of the name.
+pub fn verified_line(name: &Name, facts: u32) -> ArrayVec<u8, 160>
+    ensures { result.items ≡ verified_line name.now facts }
+{
+    let mut line = ArrayVec::new();
+    add_text(&mut line, b"VERIFIED ");
+    add_text(&mut line, name.bytes());
+    add_text(&mut line, b" FACTS ");
+    add_number(&mut line, u64::from(facts));
     add_text(&mut line, b"\n");
     line
 }

@@ -6,6 +6,7 @@ mod cover;
 mod incoming;
 mod lines;
 mod named;
+mod proving;
 mod ready;
 mod refusals;
 mod replay;
@@ -16,6 +17,7 @@ mod tables;
 #[cfg(test)]
 mod tests;
 mod trial;
+mod verifying;
 mod words;
 
 use cov_outside::{OpenGate, StdSink, StdSource};

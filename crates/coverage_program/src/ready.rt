@@ -3,7 +3,7 @@ ghost use Rattle.std.specs.Prelude.{◌≡◌, ◌≤◌, ◌<◌, ◌+◌, ℕ,
 ghost use Rattle.brk_table.specs.Places.{IsIn, all_places};
 ghost use Rattle.brk_table.specs.Together.{AreTables};
 ghost use Rattle.report_text.specs.Conditions.{HasFewLines};
-ghost use Rattle.session_book.specs.Sessions.{AreWhole};
+ghost use Rattle.session_book.specs.Sessions.{AreWhole, session_of};
 ghost use Rattle.coverage_program.specs.Answers.{IsStopped, fault_refusal, read_refusal};
 ghost use Rattle.coverage_program.specs.Incoming.{HasCome, CameWith};
 ghost use Rattle.coverage_program.specs.Inputs.{CameWhole, CameJob};
@@ -11,7 +11,7 @@ ghost use Rattle.coverage_program.specs.Changes.{SourceChange, source_change};
 ghost use Rattle.coverage_program.specs.Named.{HasNamed, session_number};
 ghost use Rattle.coverage_program.specs.Refusals.{job_refusal, Match};
 ghost use Rattle.coverage_program.specs.Refused.{IsRefused, refused_refusal};
-ghost use Rattle.coverage_program.specs.Words.{Reading};
+ghost use Rattle.coverage_program.specs.Words.{Reading, Wanted};
 
 use crate::incoming::Incoming;
 use crate::lines::{NO_MEMORY, READ_FAULT, TOO_LARGE_INPUT, bad_job_line, large_job_line};
@@ -48,7 +48,7 @@ fn read_refusal(fault: ReadFault) -> Refusal
 /// Reads the source to its end.
 pub fn read_input<S: Source>(alloc: Global, source: &mut S) -> Result<Vec<u8>, Refusal>
     ensures bytes { IfOk result (λ v. CameWhole (source_change S.left S.faults source.old source.new) v.items) }
-    ensures stopped { (job : Bool) (how : Reading) (name : Option (List ℕ)) → IfErr result (λ r. IsStopped job how name (source_change S.left S.faults source.old source.new) r.status r.line) }
+    ensures stopped { (job : Bool) (how : Reading) (name : Option Wanted) → IfErr result (λ r. IsStopped job how name (source_change S.left S.faults source.old source.new) r.status r.line) }
 {
     match read_all(alloc, source, INPUT_LIMIT) {
         Ok(bytes) => Ok(bytes),
@@ -66,7 +66,7 @@ fn read_incoming<S: Source>(
     ensures come { IfOk result (λ i. (bytes : List ℕ) × CameWhole (source_change S.left S.faults source.old source.new) bytes × HasCome bytes i) }
     ensures more { IfOk result (λ i. i.more ≡ more) }
     ensures by { IfOk result (λ i. i.reader.by ≡ by) }
-    ensures stopped { (job : Bool) (how : Reading) (name : Option (List ℕ)) → IfErr result (λ r. IsStopped job how name (source_change S.left S.faults source.old source.new) r.status r.line) }
+    ensures stopped { (job : Bool) (how : Reading) (name : Option Wanted) → IfErr result (λ r. IsStopped job how name (source_change S.left S.faults source.old source.new) r.status r.line) }
 {
     let Ok(mut incoming) = Incoming::new(alloc, by, more) else {
         return Err(plain_refusal(7, NO_MEMORY));
@@ -100,7 +100,7 @@ fn read_lines(alloc: Global, incoming: Incoming) -> Result<(ReadJob, Vec<u8>), R
     ensures came { (s : SourceChange) (bytes : List ℕ) → CameWhole s bytes → HasCome bytes incoming → IfOk result (λ r. CameWith (record { by = incoming.reader.by; more = incoming.more }) s r.0.job r.0.lines r.1.items) }
     ensures few { IfOk result (λ r. HasFewLines r.0.job) }
     ensures whole { incoming.reader.by ≡ false → IfOk result (λ r. AreWhole r.0.job) }
-    ensures stopped { (name : Option (List ℕ)) (s : SourceChange) (bytes : List ℕ) → CameWhole s bytes → HasCome bytes incoming → IfErr result (λ r. IsStopped true (record { by = incoming.reader.by; more = incoming.more }) name s r.status r.line) }
+    ensures stopped { (name : Option Wanted) (s : SourceChange) (bytes : List ℕ) → CameWhole s bytes → HasCome bytes incoming → IfErr result (λ r. IsStopped true (record { by = incoming.reader.by; more = incoming.more }) name s r.status r.line) }
 {
     match incoming.finish(alloc) {
         Ok(read) => Ok(read),
@@ -120,7 +120,7 @@ fn job_of_source<S: Source>(
     ensures job { IfOk result (λ r. CameJob (record { by = by; more = more }) (source_change S.left S.faults source.old source.new) r.0.job) }
     ensures few { IfOk result (λ r. HasFewLines r.0.job) }
     ensures whole { by ≡ false → IfOk result (λ r. AreWhole r.0.job) }
-    ensures stopped { (name : Option (List ℕ)) → IfErr result (λ r. IsStopped true (record { by = by; more = more }) name (source_change S.left S.faults source.old source.new) r.status r.line) }
+    ensures stopped { (name : Option Wanted) → IfErr result (λ r. IsStopped true (record { by = by; more = more }) name (source_change S.left S.faults source.old source.new) r.status r.line) }
 {
     let incoming = read_incoming(alloc, source, by, more)?;
     read_lines(alloc, incoming)
@@ -142,7 +142,7 @@ fn read_tables(alloc: Global, job: &Job) -> Result<Tables, Refusal>
     ensures numbered { IfOk result (λ t. t.places ≡ all_places t.tables) }
     ensures places { IfOk result (λ t. All (IsIn job.now.images) t.places) }
     ensures own { IfOk result (λ t. AreTables job.now.images t.tables) }
-    ensures stopped { (how : Reading) (name : Option (List ℕ)) (s : SourceChange) → CameJob how s job.now → HasNamed name job.now → IfErr result (λ r. IsStopped true how name s r.status r.line) }
+    ensures stopped { (how : Reading) (name : Option Wanted) (s : SourceChange) → CameJob how s job.now → HasNamed name job.now → IfErr result (λ r. IsStopped true how name s r.status r.line) }
 {
     match tables_of(alloc, job) {
         Ok(tables) => Ok(tables),
@@ -181,13 +181,15 @@ pub fn make_ready<S: Source>(
 
 /// Reads the source to its end, the job of its lines, the number of the session of the name, and the tables of the job's
 /// listings; or the first refusal of these, in this order. What stands behind the job is the caller's where more may
-/// stand there; else nothing does. While `by` is false no session of the job may have a controller.
+/// stand there; else nothing does. While `by` is false no session of the job may have a controller, and where it must be
+/// `whole` the named one may have none.
 pub fn make_named<S: Source>(
     alloc: Global,
     source: &mut S,
     by: bool,
     more: bool,
     name: &Name,
+    whole: bool,
 ) -> Result<(Ready, SessNo), Refusal>
     ensures came { IfOk result (λ r. CameWith (record { by = by; more = more }) (source_change S.left S.faults source.old source.new) r.0.job r.0.lines r.0.rest.items) }
     ensures job { IfOk result (λ r. CameJob (record { by = by; more = more }) (source_change S.left S.faults source.old source.new) r.0.job) }
@@ -200,10 +202,11 @@ pub fn make_named<S: Source>(
     ensures number { IfOk result (λ r. session_number r.0.job name.now ≡ Some r.1.0) }
     ensures from { IfOk result (λ r. 0 < r.1.0) }
     ensures to { IfOk result (λ r. r.1.0 ≤ length r.0.job.sessions) }
-    ensures stopped { IfErr result (λ r. IsStopped true (record { by = by; more = more }) (Some name.now) (source_change S.left S.faults source.old source.new) r.status r.line) }
+    ensures uncontrolled { whole ≡ true → IfOk result (λ r. (session_of r.0.job r.1.0).by ≡ None) }
+    ensures stopped { IfErr result (λ r. IsStopped true (record { by = by; more = more }) (Some (record { name = name.now; whole = whole })) (source_change S.left S.faults source.old source.new) r.status r.line) }
 {
     let (read, rest) = job_of_source(alloc, source, by, more)?;
-    let session = named_session(&read.job, name)?;
+    let session = named_session(&read.job, name, whole)?;
     let tables = read_tables(alloc, &read.job)?;
     let ready = Ready {
         job: read.job,

@@ -2,6 +2,7 @@
 mod cases;
 mod controllers;
 mod controls;
+mod evidence;
 mod faults;
 mod gates;
 mod jobs;

@@ -24,6 +24,10 @@ pub enum Command {
     Combine,
     /// `show NAME`: the listings of a session of a job, marked by a marks file.
     Show(Name),
+    /// `prove NAME`: the evidence of the facts of a session of a job.
+    Prove(Name),
+    /// `verify NAME`: whether a marks file and evidence of a session of a job are true.
+    Verify(Name),
     /// Any other words.
     Unknown,
 }
@@ -56,6 +60,10 @@ fn command_named(word: &str, name: &str) -> Command
         Command::Marks(name)
     } else if word == "show" {
         Command::Show(name)
+    } else if word == "prove" {
+        Command::Prove(name)
+    } else if word == "verify" {
+        Command::Verify(name)
     } else {
         Command::Unknown
     }

@@ -444,7 +444,8 @@ all_met true ls job p =
     AllPass-from_list_all (is_met p.draft.tasks) p.draft.sessions (phases_met p.phases p.mid p.draft p.are_phases (rw none refl))
 all_met false ls job p = λ k d l. met_none p.draft.tasks (get_or p.draft.sessions k d).phase (get_or p.draft.sessions k d).by (barred_without ls job p k d l)
 
-job_keeps : (by : Bool) (ls : List LineView) (job : JobView) → Spells (asked by) ls job → IsWithin job → IsJob job
+-- lines that spell a job within the limits spell one that keeps its rules
+pub job_keeps : (by : Bool) (ls : List LineView) (job : JobView) → Spells (asked by) ls job → IsWithin job → IsJob job
 job_keeps by ls job p within =
     let j : DraftView = p.draft in
     let s : SoFar j = phases_so_far (asked by) p.phases p.mid j p.are_phases (modules_so_far p.modules no_job p.mid p.are_modules none_so_far) in

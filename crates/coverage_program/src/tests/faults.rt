@@ -1,6 +1,7 @@
 //! Faults of source and sink at each call in turn, of every command; and tasks that begin where nothing can be fetched, or
 //! change their own code.
 
+use super::evidence::{proved, unproved};
 use super::marked::{PHASES, Row, bad_files, bad_jobs, bad_shown, good};
 use super::notation::Part::{Code, Marked, Text};
 use super::notation::{Case, bytes_of};
@@ -192,13 +193,15 @@ END\n",
 ];
 
 /// Words of each command, and words that are none.
-static WORDS: [&[&str]; 7] = [
+static WORDS: [&[&str]; 9] = [
     &["run"],
     &["marks", "S"],
     &["table"],
     &["replay"],
     &["combine"],
     &["show", "S"],
+    &["prove", "S"],
+    &["verify", "S"],
     &[],
 ];
 
@@ -339,7 +342,9 @@ fn tells_a_fault_at_each_read_and_write(rt: HostRuntime) -> Result<(), Fail> {
     check_faults(&rt, rt.alloc(), good())?;
     check_faults(&rt, rt.alloc(), bad_jobs())?;
     check_faults(&rt, rt.alloc(), bad_shown())?;
-    check_faults(&rt, rt.alloc(), bad_files())
+    check_faults(&rt, rt.alloc(), bad_files())?;
+    check_faults(&rt, rt.alloc(), proved())?;
+    check_faults(&rt, rt.alloc(), unproved())
 }
 
 #[test]

@@ -19,7 +19,7 @@ const COUNT: &str = "000000 4610 F000 BCT, 000004 07FE BR";
 const MISMATCH: &str = "4610F00007FE: 000000 4610 F004 BCT, 000004 07FE BR";
 
 /// A count that ends at once.
-const ENDS: Part = Text("TASK A 100000 16 100 0\nREG 1 00000001\nENDJOB\n");
+pub const ENDS: Part = Text("TASK A 100000 16 100 0\nREG 1 00000001\nENDJOB\n");
 
 /// A count that goes on, until its budget is spent.
 const GOES_ON: Part = Text("TASK A 100000 16 1 0\nREG 1 00000002\nENDJOB\n");
@@ -90,17 +90,17 @@ const FELL: Part = Bytes(
 );
 
 /// The count branched.
-const WENT: Part = Bytes(
+pub const WENT: Part = Bytes(
     "53333730434F5632 5320202020202020 00000001 0001 4D20202020202020 00100000 00000006 00000002 00000000 04 01 4610 02 00000004 02 00 07FE 00",
 );
 
 /// The count branched and fell through, and the return was executed.
-const BOTH: Part = Bytes(
+pub const BOTH: Part = Bytes(
     "53333730434F5632 5320202020202020 00000001 0001 4D20202020202020 00100000 00000006 00000002 00000000 04 01 4610 06 00000004 02 00 07FE 01",
 );
 
 /// Nothing was executed.
-const NONE: Part = Bytes(
+pub const NONE: Part = Bytes(
     "53333730434F5632 5320202020202020 00000001 0001 4D20202020202020 00100000 00000006 00000002 00000000 04 01 4610 00 00000004 02 00 07FE 00",
 );
 
@@ -110,7 +110,7 @@ const CUT: Part = Bytes(
 );
 
 /// The count is in register 2.
-const OTHER: Part = Bytes(
+pub const OTHER: Part = Bytes(
     "53333730434F5632 5320202020202020 00000001 0001 4D20202020202020 00100000 00000006 00000002 00000000 04 01 4620 04 00000004 02 00 07FE 01",
 );
 
@@ -178,7 +178,7 @@ const BOTH_THRICE: Part = Bytes(
 );
 
 /// What two runs have shown, where neither has executed the return.
-const RETURN_LEFT: Part = Bytes(
+pub const RETURN_LEFT: Part = Bytes(
     "53333730434F5632 5320202020202020 00000002 0001 4D20202020202020 00100000 00000006 00000002 00000000 04 01 4610 06 00000004 02 00 07FE 00",
 );
 
@@ -866,7 +866,7 @@ static BAD_FILES: [Row; 16] = [
 ];
 
 /// Words that are no command, though some are nearly one.
-static NO_COMMANDS: [&[&str]; 16] = [
+static NO_COMMANDS: [&[&str]; 20] = [
     &["marks"],
     &["marks", ""],
     &["marks", "9X"],
@@ -880,6 +880,10 @@ static NO_COMMANDS: [&[&str]; 16] = [
     &["show", "9X"],
     &["show", "ABCDEFGHI"],
     &["show", "S", ""],
+    &["prove"],
+    &["prove", "9X"],
+    &["verify"],
+    &["verify", "S", "S"],
     &["combine", "S"],
     &["combine", ""],
     &["mark", "S"],

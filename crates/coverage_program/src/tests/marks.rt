@@ -1,5 +1,6 @@
-//! The commands `marks`, `combine` and `show`: what they write, and the first cause of what they refuse.
+//! The commands `marks`, `combine`, `show`, `prove` and `verify`: what they write, and the first cause of what they refuse.
 
+use super::evidence::{proved, unproved};
 use super::faults::serve_faulty;
 use super::marked::{
     RUNS, Row, SHOWN_UNION, UNION, UNION_AGAIN, bad_files, bad_jobs, bad_shown, good, no_commands,
@@ -49,7 +50,7 @@ fn check_row<T: Abort + Threads + Wait + Sync>(
 
 #[test]
 fn gives_what_is_not_refused(rt: HostRuntime) -> Result<(), Fail> {
-    for row in good() {
+    for row in good().iter().chain(proved()) {
         let name = row.name;
         let made = check_row(&rt, rt.alloc(), row)?;
         assert_eq!(rt; made > 0, runs(row.words), "{name}");
@@ -83,7 +84,8 @@ fn check_refused<T: Abort + Threads + Wait + Sync>(
 fn tells_the_first_cause(rt: HostRuntime) -> Result<(), Fail> {
     check_refused(&rt, rt.alloc(), bad_jobs())?;
     check_refused(&rt, rt.alloc(), bad_shown())?;
-    check_refused(&rt, rt.alloc(), bad_files())
+    check_refused(&rt, rt.alloc(), bad_files())?;
+    check_refused(&rt, rt.alloc(), unproved())
 }
 
 #[test]
