@@ -11,7 +11,6 @@ use Rattle.marks_file.specs.MarksFile.{rows}
 use Rattle.session_marks.specs.Marked.{session_marks, session_rows}
 use Rattle.table_combine.specs.Combine.{Difference, first_difference}
 use Rattle.table_combine.specs.Files.{IsCombined, IsBad, IsOtherTable}
-use Rattle.job_text.specs.Drafts.{asked}
 use Rattle.job_text.specs.Refusals.{IsBadAt, IsOverAt}
 use Rattle.coverage_program.specs.declared.words.Command.{Command}
 use Rattle.coverage_program.specs.declared.words.Command.TheVariants.{Run, Marks, Table, Replay, Combine, Show, Unknown}
@@ -21,7 +20,7 @@ use Rattle.coverage_program.specs.Named.{HasNamed, session_number}
 use Rattle.coverage_program.specs.Changes.{SourceChange, SinkChange}
 use Rattle.coverage_program.specs.Refusals.{RefusalView, job_refusal, Match}
 use Rattle.coverage_program.specs.Replay.{play_of, play_status}
-use Rattle.coverage_program.specs.Words.{reads_input, reads_job, makes_job, to_run, to_go_on, reading_of, session_named}
+use Rattle.coverage_program.specs.Words.{reads_input, reads_job, makes_job, to_end, to_go_on, reading_of, session_named}
 
 -- the bytes of lines
 abbrev pub bytes_of : List LineView → List ℕ
@@ -42,12 +41,12 @@ pub record StandsBehind (name bytes : List ℕ) (j : JobView) (tables : TablesVi
 pub data IsAnswer (c : Command) (bytes : List ℕ) (status : ℕ) : Type 0 where
   Usage : c ≡ Unknown → status ≡ 1 → IsAnswer c bytes status
   LargeInput : reads_input c ≡ true → input_limit < length bytes → status ≡ 4 → IsAnswer c bytes status
-  BadJob : (n : ℕ) → reads_job c ≡ true → length bytes ≤ input_limit → IsBadAt (asked (reading_of c).by) (lines_of bytes) n → ((j : JobView) → HasJob (reading_of c) (lines_of bytes) j → ⊥) → status ≡ 2 → IsAnswer c bytes status
-  LargeJob : (what : Limit) (n : ℕ) → reads_job c ≡ true → length bytes ≤ input_limit → IsOverAt (asked (reading_of c).by) (lines_of bytes) what n → status ≡ 4 → IsAnswer c bytes status
+  BadJob : (n : ℕ) → reads_job c ≡ true → length bytes ≤ input_limit → IsBadAt (lines_of bytes) n → ((j : JobView) → HasJob (reading_of c) (lines_of bytes) j → ⊥) → status ≡ 2 → IsAnswer c bytes status
+  LargeJob : (what : Limit) (n : ℕ) → reads_job c ≡ true → length bytes ≤ input_limit → IsOverAt (lines_of bytes) what n → status ≡ 4 → IsAnswer c bytes status
   NoSession : (j : JobView) (name : List ℕ) → reads_job c ≡ true → length bytes ≤ input_limit → HasJob (reading_of c) (lines_of bytes) j → session_named c ≡ Some name → session_number j name ≡ None → status ≡ 13 → IsAnswer c bytes status
   BadListing : (j : JobView) (r : RefusalView) → reads_job c ≡ true → length bytes ≤ input_limit → HasJob (reading_of c) (lines_of bytes) j → HasNamed (session_named c) j → job_refusal j ≡ Some r → status ≡ r.status → IsAnswer c bytes status
   Matched : (j : JobView) → (c ≡ Run) ⊎ (c ≡ Table) → length bytes ≤ input_limit → HasJob (reading_of c) (lines_of bytes) j → job_refusal j ≡ None → status ≡ 0 → IsAnswer c bytes status
-  Recorded : (j : JobView) (name : List ℕ) → c ≡ Marks name → length bytes ≤ input_limit → HasJob to_run (lines_of bytes) j → IsSome (session_number j name) → job_refusal j ≡ None → status ≡ 0 → IsAnswer c bytes status
+  Recorded : (j : JobView) (name : List ℕ) → c ≡ Marks name → length bytes ≤ input_limit → HasJob to_end (lines_of bytes) j → IsSome (session_number j name) → job_refusal j ≡ None → status ≡ 0 → IsAnswer c bytes status
   United : (marks : MarksView) → c ≡ Combine → length bytes ≤ input_limit → IsCombined bytes marks → status ≡ 0 → IsAnswer c bytes status
   BadFile : (offset : ℕ) → c ≡ Combine → length bytes ≤ input_limit → IsBad bytes offset → status ≡ 10 → IsAnswer c bytes status
   OtherFile : (d : Difference) → c ≡ Combine → length bytes ≤ input_limit → IsOtherTable bytes d → status ≡ 11 → IsAnswer c bytes status

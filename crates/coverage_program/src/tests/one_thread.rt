@@ -88,7 +88,7 @@ where
 /// What comes of the first task of a job, alone in its area; none where no job is read.
 fn came(alloc: Global, job: &[u8]) -> Result<Option<(Ending, [Cell; 2])>, Fail> {
     let mut source = MemSource::new(job.to_vec(alloc)?, 64, Vec::new(alloc));
-    let Ok(ready) = make_ready(alloc, &mut source, true, false) else {
+    let Ok(ready) = make_ready(alloc, &mut source, false) else {
         return Ok(None);
     };
     let mut areas = SharedAreas::new(alloc, 1)?;
