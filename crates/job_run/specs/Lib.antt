@@ -1,4 +1,5 @@
 pub mod Areas
+pub mod Bounds
 pub mod Outcomes
 pub mod Runs
 pub mod Sets

@@ -7,13 +7,10 @@ use Rattle.task_run.specs.Courses.{Course, solo}
 use Rattle.session_book.specs.JobView.{JobView}
 use Rattle.session_book.specs.Sessions.{task_of, session_of, observes, is_whole, plan_view}
 use Rattle.task_run.specs.Windows.{IsBetween}
-use Rattle.task_run.specs.declared.tasks.Task.{Task}
 use Rattle.module_area.specs.FinalsView.{set_at}
-use Rattle.module_area.specs.PlanView.{PlanView}
-use Rattle.cov_base.specs.FactSet.{FactSet}
 use Rattle.job_run.specs.Runs.{result_by, set_by, least_by, most_by}
 use Rattle.job_run.specs.Sets.{SetsView, no_finals, set_in}
-use Rattle.job_run.specs.Tasks.{IsEquipped, results_of}
+use Rattle.job_run.specs.Tasks.{Ends, IsEquipped, results_of}
 use Rattle.job_run.specs.declared.outcome.Done.{Done}
 
 -- Each task's result is that of its run. At each place that a session observes its set is that of its executions where
@@ -35,12 +32,12 @@ abbrev pub IsOutcome : JobView → List Place → List Done → SetsView → Typ
 IsOutcome j places tasks sets = IsOutcomeBy solo j places tasks sets
 
 -- a task of the job ran from its first state to this one, and its extra tells this of it
-pub record HasEnded {E : Type 0} (ends : PlanView → Task → Task → E → (ℕ → ℕ → FactSet) → Type 0) (j : JobView) (places : List Place) (sets : SetsView) (t : ℕ) (d : Done) (extra : E) : Type 0 where
+pub record HasEnded {E : Type 0} (ends : Ends E) (j : JobView) (places : List Place) (sets : SetsView) (t : ℕ) (d : Done) (extra : E) : Type 0 where
   pub first : Done
   pub begun : IsEquipped j places t first
   pub ends : ends (plan_view j places (task_of j t).phase) first.task d.task extra (λ s p. set_at (get_or sets.finals (task_of j t).phase no_finals) s p)
 
 -- one for each task of the job, in order
-pub record AreExtras {E : Type 0} (ends : PlanView → Task → Task → E → (ℕ → ℕ → FactSet) → Type 0) (j : JobView) (places : List Place) (tasks : List Done) (sets : SetsView) (extras : List E) : Type 0 where
+pub record AreExtras {E : Type 0} (ends : Ends E) (j : JobView) (places : List Place) (tasks : List Done) (sets : SetsView) (extras : List E) : Type 0 where
   pub count : length extras ≡ length j.tasks
   pub each : (t : ℕ) (d : Done) (e : E) → t < length j.tasks → HasEnded ends j places sets t (get_or tasks t d) (get_or extras t e)

@@ -1,5 +1,7 @@
 -- The tasks of a job before and after they have run.
-use Rattle.std.specs.Prelude.{◌≡◌, ℕ, ◌<◌, Bool, true, false, nat_lt, None, List, [], length, get_or, map}
+use Rattle.std.specs.Prelude.{◌≡◌, ℕ, ◌<◌, Bool, true, false, nat_lt, Some, None, List, [], length, get_or, map}
+use Rattle.cov_base.specs.FactSet.{FactSet}
+use Rattle.module_area.specs.Notes.{Notes}
 use Rattle.s370_exec.specs.Solo.{Run, state_of}
 use Rattle.module_area.specs.PlanView.{PlanView}
 use Rattle.module_area.specs.declared.places.Place.{Place}
@@ -7,6 +9,7 @@ use Rattle.space_map.specs.Space.{memory_of_space}
 use Rattle.module_area.specs.Control.{first_control}
 use Rattle.task_run.specs.Courses.{Course}
 use Rattle.task_run.specs.Ran.{run_from}
+use Rattle.task_run.specs.declared.tasks.Task.{Task}
 use Rattle.session_book.specs.Begun.{IsBegun}
 use Rattle.session_book.specs.JobView.{JobView}
 use Rattle.session_book.specs.Results.{ResultView}
@@ -52,12 +55,33 @@ pub record IsEnded (course : Course) (j : JobView) (places : List Place) (t : �
   pub result : done_result d ≡ result_by course j places t
   pub filled : length d.task.space.bytes ≡ (task_of j t).private
 
+-- what a runner's extra is to a task with which it may begin, and what it tells after the run, for which sets
+abbrev pub Begins : Type 0 → Type 1
+Begins E = PlanView → ℕ → E → Notes → Type 0
+
+abbrev pub Ends : Type 0 → Type 1
+Ends E = PlanView → Task → Task → E → (ℕ → ℕ → FactSet) → Type 0
+
+-- the slot's task has run from its first state, and its extra tells this of it, whatever the sets are
+pub record HasExtra {P E : Type 0} (ends : Ends E) (j : JobView) (places : List Place) (t : ℕ) (s : Slot P E) : Type 0 where
+  pub extra : E
+  pub has : s.extra ≡ Some extra
+  pub first : Done
+  pub begun : IsEquipped j places t first
+  pub ends : (sets : ℕ → ℕ → FactSet) → ends (plan_view j places (task_of j t).phase) first.task s.done.task extra sets
+
 -- it is a task of an earlier phase
 abbrev pub has_run : JobView → ℕ → ℕ → Bool
 has_run j phase t = nat_lt (task_of j t).phase phase
 
--- the tasks of the earlier phases have run, and the others are as they begin
-pub record AreRun {P : Type 0} (course : Course) (j : JobView) (places : List Place) (phase : ℕ) (slots : List (Slot P)) : Type 0 where
+-- no task has run
+pub record AreNew {P E : Type 0} (j : JobView) (places : List Place) (slots : List (Slot P E)) : Type 0 where
   pub count : length slots ≡ length j.tasks
-  pub ended : (t : ℕ) (d : Slot P) → t < length slots → has_run j phase t ≡ true → IsEnded course j places t (get_or slots t d).done
-  pub begun : (t : ℕ) (d : Slot P) → t < length slots → has_run j phase t ≡ false → HasNotRun j places t (get_or slots t d).done
+  pub begun : (t : ℕ) (d : Slot P E) → t < length slots → HasNotRun j places t (get_or slots t d).done
+
+-- the tasks of the earlier phases have run, and the others are as they begin
+pub record AreRun {P E : Type 0} (course : Course) (ends : Ends E) (j : JobView) (places : List Place) (phase : ℕ) (slots : List (Slot P E)) : Type 0 where
+  pub count : length slots ≡ length j.tasks
+  pub ended : (t : ℕ) (d : Slot P E) → t < length slots → has_run j phase t ≡ true → IsEnded course j places t (get_or slots t d).done
+  pub extras : (t : ℕ) (d : Slot P E) → t < length slots → has_run j phase t ≡ true → HasExtra ends j places t (get_or slots t d)
+  pub begun : (t : ℕ) (d : Slot P E) → t < length slots → has_run j phase t ≡ false → HasNotRun j places t (get_or slots t d).done

@@ -7,4 +7,4 @@ mod slots;
 mod threads;
 
 pub use outcome::{Done, Outcome, Sets};
-pub use phase::run_job;
+pub use phase::{run_job, run_job_with};

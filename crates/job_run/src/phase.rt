@@ -2,17 +2,16 @@
 ghost use Rattle.std.specs.Prelude.{◌≡◌, ◌+◌, ◌<◌, ◌≤◌, ◌^◌, length, All, IfOk, OnErr};
 ghost use Rattle.brk_table.specs.Places.{IsIn};
 ghost use Rattle.session_book.specs.JobView.{IsJob};
-ghost use Rattle.session_book.specs.Sessions.{plan_view, AreWhole};
+ghost use Rattle.session_book.specs.Sessions.{plan_view};
 ghost use Rattle.job_run.specs.Areas.{GrowsBy};
-ghost use Rattle.task_run.specs.Courses.{solo};
-ghost use Rattle.job_run.specs.Outcomes.{IsOutcome};
-ghost use Rattle.job_run.specs.Runs.{Account, HasLeft, phase_trace};
+ghost use Rattle.job_run.specs.Outcomes.{AreExtras, IsOutcome, IsOutcomeBy};
+ghost use Rattle.job_run.specs.Runs.{Account, HasLeft, HasLeftBy, phase_trace, walk_by};
 ghost use Rattle.job_run.specs.Slots.{AreEmpty};
 ghost use Rattle.job_run.specs.Tasks.{AreRun};
 
 use crate::outcome::{Outcome, Sets};
-use crate::slots::{Slot, make_slots, tasks_of};
-use crate::threads::run_tasks;
+use crate::slots::{Slot, make_slots, parts_of};
+use crate::threads::{equip_all, run_tasks};
 use brk_table::Tables;
 use cov_base::NoMemory;
 use cov_outside::Gate;
@@ -22,26 +21,28 @@ use session_book::{Job, plan_of};
 use std::alloc::Global;
 use std::sync::Wait;
 use std::thread::Threads;
+use task_run::{PlainRunner, Runner};
 
-/// Runs a phase: makes an area of its plan, plants every place with a window, runs the phase's tasks, and ends the area.
-fn run_phase<'a, T: Threads + Sync, A: Areas, G: Gate + Sync>(
+/// Runs a phase: gives each of its tasks its sessions and its extra, makes an area of the phase's plan, plants every
+/// place with a window, runs the tasks, and ends the area.
+fn run_phase<'a, T: Threads + Sync, A: Areas, G: Gate + Sync, R: Runner<A::C> + Sync>(
     rt: &T,
     alloc: Global,
     areas: &mut A,
     gate: &G,
+    runner: &R,
     job: &Job,
     tables: &Tables,
     phase: u32,
-    slots: &mut [Slot<'a, <A::C as Cells>::Pass>],
+    slots: &mut [Slot<'a, <A::C as Cells>::Pass, R::Extra>],
 ) -> Result<Finals, NoMemory>
     requires room { A.made areas.old < 2 ^ 62 }
     requires phase { phase < length job.now.phases }
-    requires whole { AreWhole job.now }
-    requires tasks { AreRun solo job.now tables.now.places phase slots.old }
+    requires tasks { AreRun R.course R.ends job.now tables.now.places phase slots.old }
     requires empty { AreEmpty slots.old }
     ensures made { IfOk result (λ _. A.made areas.new ≡ A.made areas.old + 1) }
-    ensures grown { IfOk result (λ f. GrowsBy (plan_view job.now tables.now.places phase) (phase_trace solo job.now tables.now.places phase) (A.ledger areas.old) (A.ledger areas.new) (A.finals areas.old) (A.finals areas.new) f) }
-    ensures tasks { IfOk result (λ _. AreRun solo job.now tables.now.places (phase + 1) slots.new) }
+    ensures grown { IfOk result (λ f. GrowsBy (plan_view job.now tables.now.places phase) (walk_by R.course job.now tables.now.places) (phase_trace R.course job.now tables.now.places phase) (A.ledger areas.old) (A.ledger areas.new) (A.finals areas.old) (A.finals areas.new) f) }
+    ensures tasks { IfOk result (λ _. AreRun R.course R.ends job.now tables.now.places (phase + 1) slots.new) }
     ensures empty { IfOk result (λ _. AreEmpty slots.new) }
     ensures ledger_kept { OnErr result (A.ledger areas.new ≡ A.ledger areas.old) }
     ensures finals_kept { OnErr result (A.finals areas.new ≡ A.finals areas.old) }
@@ -49,43 +50,70 @@ fn run_phase<'a, T: Threads + Sync, A: Areas, G: Gate + Sync>(
     let plan = plan_of(alloc, job, tables, phase)?;
     // the proof reads the rules that a plan keeps off this look at one
     let _ = &plan.windows;
+    equip_all::<A::C, R>(alloc, runner, job, tables, &plan, phase, slots)?;
     let (cells, mut root) = areas.make(alloc, &plan)?;
     plant_all(&cells, &mut root, &plan);
-    run_tasks(rt, &cells, &mut root, gate, job, tables, phase, slots);
+    run_tasks(rt, &cells, &mut root, gate, runner, job, tables, &plan, phase, slots);
     areas.finish(alloc, cells, root)
 }
 
 /// Runs the job's phases one after the other, and gives the sets that each one's area ended with.
-fn run_phases<'a, T: Threads + Sync, A: Areas, G: Gate + Sync>(
+fn run_phases<'a, T: Threads + Sync, A: Areas, G: Gate + Sync, R: Runner<A::C> + Sync>(
     rt: &T,
     alloc: Global,
     areas: &mut A,
     gate: &G,
+    runner: &R,
     job: &Job,
     tables: &Tables,
-    slots: &mut [Slot<'a, <A::C as Cells>::Pass>],
+    slots: &mut [Slot<'a, <A::C as Cells>::Pass, R::Extra>],
 ) -> Result<Vec<Finals>, NoMemory>
     requires room { A.made areas.old < 2 ^ 61 }
-    requires whole { AreWhole job.now }
-    requires tasks { AreRun solo job.now tables.now.places 0 slots.old }
+    requires tasks { AreRun R.course R.ends job.now tables.now.places 0 slots.old }
     requires empty { AreEmpty slots.old }
     ensures job { IsJob job.now }
-    ensures left { IfOk result (λ v. HasLeft job.now tables.now.places (record { ledger = A.ledger areas.old; finals = A.finals areas.old; made = A.made areas.old }) (record { ledger = A.ledger areas.new; finals = A.finals areas.new; made = A.made areas.new }) v.items) }
-    ensures tasks { IfOk result (λ _. AreRun solo job.now tables.now.places (length job.now.phases) slots.new) }
+    ensures left { IfOk result (λ v. HasLeftBy R.course job.now tables.now.places (record { ledger = A.ledger areas.old; finals = A.finals areas.old; made = A.made areas.old }) (record { ledger = A.ledger areas.new; finals = A.finals areas.new; made = A.made areas.new }) v.items) }
+    ensures tasks { IfOk result (λ _. AreRun R.course R.ends job.now tables.now.places (length job.now.phases) slots.new) }
 {
     let count = job.phase_count();
     let mut finals = Vec::with_capacity(alloc, count as usize)?;
     for phase in 0..count {
-        let ended = run_phase(rt, alloc, areas, gate, job, tables, phase, slots)?;
+        let ended = run_phase(rt, alloc, areas, gate, runner, job, tables, phase, slots)?;
         finals.push(ended)?;
     }
     Ok(finals)
 }
 
-/// Runs the job, phase after phase: the areas are left as the runs of the tasks alone give, and so is the outcome, whose
-/// sets are those of the areas that this call has finished, one for each phase. The tasks of a phase run at once, each on
-/// a thread of its own that has passed the gate. No session of the job has a controller. All tasks take their memory before the first phase runs, and a phase
-/// takes all but its area's end before it plants.
+/// Runs the job, phase after phase: the areas are left as the courses of the tasks give, and so is the outcome, whose
+/// sets are those of the areas that this call has finished, one for each phase; the set of a session that a task
+/// controls lies between its bounds. With it come the runner's extras, in task order. The tasks of a phase run at once,
+/// each on a thread of its own that has passed the gate. All tasks take their memory before the first phase runs, and a
+/// phase takes all but its area's end before it plants: its tasks' sessions and extras too.
+pub fn run_job_with<'a, T: Threads + Wait + Sync, A: Areas, G: Gate + Sync, R: Runner<A::C> + Sync>(
+    rt: &T,
+    alloc: Global,
+    areas: &mut A,
+    gate: &G,
+    runner: &R,
+    job: &'a Job,
+    tables: &'a Tables,
+) -> Result<(Outcome<'a>, Vec<R::Extra>), NoMemory>
+    requires tables { All (IsIn job.now.images) tables.now.places }
+    requires room { A.made areas.old < 2 ^ 61 }
+    ensures left { IfOk result (λ r. HasLeftBy R.course job.now tables.now.places (record { ledger = A.ledger areas.old; finals = A.finals areas.old; made = A.made areas.old }) (record { ledger = A.ledger areas.new; finals = A.finals areas.new; made = A.made areas.new }) r.0.sets.finals) }
+    ensures outcome { IfOk result (λ r. IsOutcomeBy R.course job.now tables.now.places r.0.tasks.items r.0.sets) }
+    ensures extras { IfOk result (λ r. AreExtras R.ends job.now tables.now.places r.0.tasks.items r.0.sets r.1.items) }
+{
+    let tasks = Vec::with_capacity(alloc, job.task_count())?;
+    let extras = Vec::with_capacity(alloc, job.task_count())?;
+    let mut slots = make_slots(alloc, job, tables)?;
+    let finals = run_phases(rt, alloc, areas, gate, runner, job, tables, &mut slots)?;
+    let (tasks, extras) = parts_of(slots, tasks, extras);
+    let sets = Sets::new(job, tables, finals);
+    Ok((Outcome { tasks, sets }, extras))
+}
+
+/// Runs the job as `run_job_with` does, each task as it runs alone.
 pub fn run_job<'a, T: Threads + Wait + Sync, A: Areas, G: Gate + Sync>(
     rt: &T,
     alloc: Global,
@@ -95,16 +123,11 @@ pub fn run_job<'a, T: Threads + Wait + Sync, A: Areas, G: Gate + Sync>(
     tables: &'a Tables,
 ) -> Result<Outcome<'a>, NoMemory>
     requires tables { All (IsIn job.now.images) tables.now.places }
-    requires whole { AreWhole job.now }
     requires room { A.made areas.old < 2 ^ 61 }
     ensures left { IfOk result (λ o. HasLeft job.now tables.now.places (record { ledger = A.ledger areas.old; finals = A.finals areas.old; made = A.made areas.old }) (record { ledger = A.ledger areas.new; finals = A.finals areas.new; made = A.made areas.new }) o.sets.finals) }
     ensures outcome { IfOk result (λ o. IsOutcome job.now tables.now.places o.tasks.items o.sets) }
 {
-    let tasks = Vec::with_capacity(alloc, job.task_count())?;
-    let mut slots = make_slots(alloc, job, tables)?;
-    let finals = run_phases(rt, alloc, areas, gate, job, tables, &mut slots)?;
-    Ok(Outcome {
-        tasks: tasks_of(slots, tasks),
-        sets: Sets::new(job, tables, finals),
-    })
+    let runner = PlainRunner;
+    let (outcome, _) = run_job_with(rt, alloc, areas, gate, &runner, job, tables)?;
+    Ok(outcome)
 }

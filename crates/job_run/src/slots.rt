@@ -1,25 +1,26 @@
 //! The tasks of a job with the passes that their threads work with.
-ghost use Rattle.std.specs.Prelude.{◌≡◌, ◌<◌, ◌≤◌, nat_eq, [], length, All, IfOk, vec_capacity};
+ghost use Rattle.std.specs.Prelude.{◌≡◌, ◌<◌, ◌≤◌, nat_eq, [], length, map, All, IsSome, IfOk, vec_capacity};
 ghost use Rattle.std.specs.declared.option.Option.TheVariants.{Some, None};
 ghost use Rattle.brk_table.specs.Places.{IsIn};
 ghost use Rattle.session_book.specs.Sessions.{task_of};
-ghost use Rattle.task_run.specs.Courses.{solo};
-ghost use Rattle.job_run.specs.Slots.{AreEmpty, dones};
-ghost use Rattle.job_run.specs.Tasks.{AreRun, HasNotRun};
+ghost use Rattle.job_run.specs.Slots.{AreEmpty, dones, extras};
+ghost use Rattle.job_run.specs.Tasks.{HasNotRun, AreNew};
 
 use crate::outcome::Done;
 use brk_table::Tables;
 use cov_base::NoMemory;
+use module_area::Control;
 use session_book::{Begun, Job, begin};
 use std::alloc::Global;
 use task_run::Task;
 
-/// A task, and while its phase runs the pass that was split off for it. The next slot begins 128 bytes behind them, so
-/// that no two threads write to one cache line.
+/// A task, while its phase runs the pass that was split off for it, and from its phase on what its runner keeps of it. The
+/// next slot begins 128 bytes behind them, so that no two threads write to one cache line.
 #[derive(Drop)]
-pub struct Slot<'a, P> {
+pub struct Slot<'a, P, E> {
     pub done: Done<'a>,
     pub pass: Option<P>,
+    pub extra: Option<E>,
     apart: [u64; 16],
 }
 
@@ -49,18 +50,23 @@ fn new_task<'a>(
         io,
         done: 0,
         budget: job.card(t).budget,
+        control: Control {
+            sessions: Vec::new(alloc),
+            next: 0,
+            opened: None,
+        },
     };
     Ok(Done { ending: None, task })
 }
 
-/// The job's tasks in job order, without passes.
-pub fn make_slots<'a, P: Drop>(
+/// The job's tasks in job order, without passes, sessions and extras.
+pub fn make_slots<'a, P: Drop, E: Drop>(
     alloc: Global,
     job: &'a Job,
     tables: &'a Tables,
-) -> Result<Vec<Slot<'a, P>>, NoMemory>
+) -> Result<Vec<Slot<'a, P, E>>, NoMemory>
     requires { All (IsIn job.now.images) tables.now.places }
-    ensures tasks { IfOk result (λ v. AreRun solo job.now tables.now.places 0 v.items) }
+    ensures tasks { IfOk result (λ v. AreNew job.now tables.now.places v.items) }
     ensures empty { IfOk result (λ v. AreEmpty v.items) }
 {
     let count = job.task_count();
@@ -70,44 +76,70 @@ pub fn make_slots<'a, P: Drop>(
         slots.push(Slot {
             done,
             pass: None,
+            extra: None,
             apart: [0; 16],
         })?;
     }
     Ok(slots)
 }
 
+/// Gives the slot's task its sessions, and the slot what its runner keeps of the task.
+pub fn equip<'a, P: Drop, E: Drop>(slot: &mut Slot<'a, P, E>, control: Control, extra: E)
+    ensures control { slot.new.done.task.control ≡ control }
+    ensures begun { (j : _) (places : _) (t : _) → HasNotRun j places t slot.old.done → HasNotRun j places t slot.new.done }
+    ensures extra { slot.new.extra ≡ Some extra }
+    ensures pass { slot.new.pass ≡ slot.old.pass }
+{
+    slot.done.task.control = control;
+    slot.extra = Some(extra);
+}
+
 /// Puts a pass into the slot.
-pub fn give<'a, P: Drop>(slot: &mut Slot<'a, P>, pass: P)
+pub fn give<'a, P: Drop, E: Drop>(slot: &mut Slot<'a, P, E>, pass: P)
     ensures pass { slot.new.pass ≡ Some pass }
     ensures done { slot.new.done ≡ slot.old.done }
+    ensures extra { slot.new.extra ≡ slot.old.extra }
 {
     slot.pass = Some(pass);
 }
 
 /// Takes the pass out of the slot.
-pub fn take<'a, P: Drop>(slot: &mut Slot<'a, P>) -> Option<P>
+pub fn take<'a, P: Drop, E: Drop>(slot: &mut Slot<'a, P, E>) -> Option<P>
     ensures pass { result ≡ slot.old.pass }
     ensures none { slot.new.pass ≡ None }
     ensures done { slot.new.done ≡ slot.old.done }
+    ensures extra { slot.new.extra ≡ slot.old.extra }
 {
     slot.pass.take()
 }
 
-/// The tasks of the slots, moved into a list that has room for them.
-pub fn tasks_of<'a, P: Drop>(slots: Vec<Slot<'a, P>>, mut tasks: Vec<Done<'a>>) -> Vec<Done<'a>>
-    requires empty { tasks.items ≡ [] }
-    requires room { length slots.items ≤ vec_capacity tasks }
-    ensures { result.items ≡ dones slots.entry.items }
+/// The tasks of the slots and their extras, moved into lists that have room for them.
+pub fn parts_of<'a, P: Drop, E: Drop>(
+    slots: Vec<Slot<'a, P, E>>,
+    mut tasks: Vec<Done<'a>>,
+    mut extras: Vec<E>,
+) -> (Vec<Done<'a>>, Vec<E>)
+    requires empty { (tasks.items ≡ []) × (extras.items ≡ []) }
+    requires tasks_room { length slots.items ≤ vec_capacity tasks }
+    requires extras_room { length slots.items ≤ vec_capacity extras }
+    requires some { All (λ s. IsSome s.extra) slots.items }
+    ensures tasks { result.0.items ≡ dones slots.entry.items }
+    ensures extras { map Some result.1.items ≡ extras slots.entry.items }
 {
     for slot in slots {
         let Slot {
             done,
             pass: _,
+            extra,
             apart: _,
         } = slot;
+        let Some(extra) = extra else { unreachable!() };
         let Ok(()) = tasks.push(done) else {
             unreachable!()
         };
+        let Ok(()) = extras.push(extra) else {
+            unreachable!()
+        };
     }
-    tasks
+    (tasks, extras)
 }

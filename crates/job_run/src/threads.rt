@@ -1,86 +1,108 @@
 //! The tasks of a phase, each on a thread of its own.
-ghost use Rattle.std.specs.Prelude.{◌≡◌, ℕ, ◌+◌, ◌<◌, ◌≤◌, ◌^◌, false, nat_eq, if◌then◌else◌, All, length, slice_index_or};
+ghost use Rattle.std.specs.Prelude.{◌≡◌, ℕ, ◌×◌, ◌+◌, ◌*◌, ◌<◌, ◌≤◌, ◌^◌, true, false, nat_eq, if◌then◌else◌, All, IfOk, length, slice_index_or};
 ghost use Rattle.std.specs.declared.option.Option.TheVariants.{None};
 ghost use Rattle.cov_base.specs.declared.limits.TheConstants.{PLACE_LIMIT, TASK_LIMIT};
-ghost use Rattle.module_area.specs.Notes.{calls};
+ghost use Rattle.module_area.specs.Notes.{bearer, calls, is_working};
+ghost use Rattle.module_area.specs.PlanView.{IsPlan, is_controller};
+ghost use Rattle.module_area.specs.Tied.{IsTied};
 ghost use Rattle.space_map.specs.Space.{memory_of_space};
 ghost use Rattle.svc_monitor.specs.First.{IsOver};
-ghost use Rattle.svc_monitor.specs.Observed.{Observes};
 ghost use Rattle.session_book.specs.JobView.{IsJob};
 ghost use Rattle.session_book.specs.Sessions.{plan_view, tasks_from};
-ghost use Rattle.task_run.specs.Courses.{solo};
-ghost use Rattle.job_run.specs.Runs.{phase_trace, result_of_run};
-ghost use Rattle.job_run.specs.Slots.{AreEmpty, AreSplit, CanRun, HasSplit, IsRange, in_phase, JoinsAll, RunsSlot};
-ghost use Rattle.job_run.specs.Tasks.{AreRun, done_result, own_run};
+ghost use Rattle.job_run.specs.Bounds.{JoinsTasks};
+ghost use Rattle.job_run.specs.Runs.{phase_trace, walk_by};
+ghost use Rattle.job_run.specs.Slots.{AreEmpty, AreEquipped, AreSplit, CanRun, HasSplit, IsRange, in_phase, JoinsAll, Runs, RunsSlot};
+ghost use Rattle.job_run.specs.Tasks.{AreRun};
 
 use crate::outcome::Done;
-use crate::slots::{Slot, give, is_of, take};
+use crate::slots::{Slot, equip, give, is_of, take};
 use brk_table::Tables;
-use cov_base::TaskNo;
+use cov_base::{NoMemory, TaskNo};
 use cov_outside::Gate;
-use module_area::{Cells, Forks};
+use module_area::{Cells, Forks, Plan};
 use session_book::Job;
+use std::alloc::Global;
 use std::ops::Range;
 use std::thread;
 use std::thread::Threads;
-use task_run::run_task;
+use task_run::Runner;
 
-/// Runs the task, with its pass.
-fn run_one<'a, C: Cells>(cells: &C, pass: &mut C::Pass, tables: &Tables, done: &mut Done<'a>)
+/// Runs the task, with its pass and its extra.
+fn run_one<'a, C: Cells, R: Runner<C>>(
+    cells: &C,
+    runner: &R,
+    pass: &mut C::Pass,
+    tables: &Tables,
+    plan: &Plan,
+    extra: &mut R::Extra,
+    done: &mut Done<'a>,
+)
     requires area { C.is_pass cells.now pass.old }
+    requires plan { C.plan cells.now ≡ plan.now }
     requires over { IsOver (C.plan cells.now) (memory_of_space done.old.task.space) tables.now.places }
     requires room { calls (C.notes pass.old) < 2 ^ 60 }
+    requires working { is_working (C.notes pass.old) ≡ true }
     requires fresh { done.old.task.done ≡ 0 }
+    requires tied { IsTied (C.plan cells.now) (C.notes pass.old) done.old.task.control }
+    requires first { (done.old.task.control.next ≡ 0) × (done.old.task.control.opened ≡ None) }
+    requires begins { R.begins plan.now (bearer (C.notes pass.old)) extra.old (C.notes pass.old) }
     ensures area { C.is_pass cells.now pass.new }
-    ensures result { done_result done.new ≡ result_of_run (own_run solo (C.plan cells.now) done.old) }
-    ensures filled { length done.new.task.space.bytes ≡ (memory_of_space done.old.task.space).private }
-    ensures observes { Observes (C.plan cells.now) (C.notes pass.old) (C.notes pass.new) (own_run solo (C.plan cells.now) done.old).trace }
+    ensures runs { Runs R.course (C.plan cells.now) (C.notes pass.old) (C.notes pass.new) done.old done.new }
+    ensures ends { (sets : _) → R.ends plan.now done.old.task done.new.task extra.new sets }
 {
-    let ending = run_task(cells, pass, tables, &mut done.task);
+    let ending = runner.run(cells, pass, tables, plan, extra, &mut done.task);
     done.ending = Some(ending);
 }
 
 /// Runs the slot's task where it has a pass, once the gate lets it.
-fn run_slot<'a, C: Cells, G: Gate>(
+fn run_slot<'a, C: Cells, G: Gate, R: Runner<C>>(
     cells: &C,
     gate: &G,
+    runner: &R,
     tables: &Tables,
+    plan: &Plan,
     t: usize,
-    slot: &mut Slot<'a, C::Pass>,
+    slot: &mut Slot<'a, C::Pass, R::Extra>,
 )
+    requires plan { C.plan cells.now ≡ plan.now }
     requires number { t < TASK_LIMIT }
-    requires ready { CanRun (C.is_pass cells.now) C.notes (C.plan cells.now) tables.now.places slot.old }
-    ensures { RunsSlot solo (C.is_pass cells.now) C.notes (C.plan cells.now) slot.old slot.new slot.old.pass }
+    requires ready { CanRun (C.is_pass cells.now) C.notes R.begins plan.now tables.now.places slot.old }
+    ensures { RunsSlot R.course (C.is_pass cells.now) C.notes R.ends plan.now slot.old slot.new slot.old.pass }
 {
     if let Some(pass) = &mut slot.pass {
-        gate.arrive(TaskNo(t as u32));
-        run_one(cells, pass, tables, &mut slot.done);
+        if let Some(extra) = &mut slot.extra {
+            gate.arrive(TaskNo(t as u32));
+            run_one(cells, runner, pass, tables, plan, extra, &mut slot.done);
+        }
     }
 }
 
 /// Runs the tasks of all slots that have a pass, with a thread for each slot. The first of them is the task of this
 /// number.
-fn run_slots<'a, T: Threads + Sync, C: Cells + Sync, G: Gate + Sync>(
+fn run_slots<'a, T: Threads + Sync, C: Cells + Sync, G: Gate + Sync, R: Runner<C> + Sync>(
     rt: &T,
     cells: &C,
     gate: &G,
+    runner: &R,
     tables: &Tables,
+    plan: &Plan,
     first: usize,
-    slots: &mut [Slot<'a, C::Pass>],
+    slots: &mut [Slot<'a, C::Pass, R::Extra>],
 )
+    requires plan { C.plan cells.now ≡ plan.now }
     requires number { first + length slots.old ≤ TASK_LIMIT }
-    requires ready { All (CanRun (C.is_pass cells.now) C.notes (C.plan cells.now) tables.now.places) slots.old }
+    requires ready { All (CanRun (C.is_pass cells.now) C.notes R.begins plan.now tables.now.places) slots.old }
     ensures count { length slots.new ≡ length slots.old }
-    ensures runs { (t : ℕ) (d : _) → t < length slots.old → RunsSlot solo (C.is_pass cells.now) C.notes (C.plan cells.now) (slice_index_or slots.old t d) (slice_index_or slots.new t d) (slice_index_or slots.old t d).pass }
+    ensures runs { (t : ℕ) (d : _) → t < length slots.old → RunsSlot R.course (C.is_pass cells.now) C.notes R.ends plan.now (slice_index_or slots.old t d) (slice_index_or slots.new t d) (slice_index_or slots.old t d).pass }
 {
     if slots.len() == 0 {
         return;
     }
     let count = slots.len();
-    let work = |t: usize, slot: &mut Slot<'_, C::Pass>|
-        requires { (first + t < TASK_LIMIT) × CanRun (C.is_pass cells.now) C.notes (C.plan cells.now) tables.now.places slot.now }
-        ensures { RunsSlot solo (C.is_pass cells.entry.now) C.notes (C.plan cells.entry.now) slot.entry.now slot.exit.now slot.entry.now.pass }
-    { run_slot(cells, gate, tables, first + t, slot) };
+    let work = |t: usize, slot: &mut Slot<'_, C::Pass, R::Extra>|
+        requires { (first + t < TASK_LIMIT) × CanRun (C.is_pass cells.now) C.notes R.begins plan.now tables.now.places slot.now }
+        ensures { RunsSlot R.course (C.is_pass cells.entry.now) C.notes R.ends plan.entry.now slot.entry.now slot.exit.now slot.entry.now.pass }
+    { run_slot(cells, gate, runner, tables, plan, first + t, slot) };
     thread::for_each_mut(rt, slots, count, &work);
 }
 
@@ -114,34 +136,37 @@ fn range_of(job: &Job, phase: u32) -> Range<usize>
 }
 
 /// Runs the phase's tasks, whose slots alone have passes, each on a thread of its own.
-fn run_those<'a, T: Threads + Sync, C: Cells + Sync, G: Gate + Sync>(
+fn run_those<'a, T: Threads + Sync, C: Cells + Sync, G: Gate + Sync, R: Runner<C> + Sync>(
     rt: &T,
     cells: &C,
     gate: &G,
+    runner: &R,
     job: &Job,
     tables: &Tables,
+    plan: &Plan,
     phase: u32,
-    slots: &mut [Slot<'a, C::Pass>],
+    slots: &mut [Slot<'a, C::Pass, R::Extra>],
 )
+    requires plan { C.plan cells.now ≡ plan.now }
     requires number { length slots.old ≤ TASK_LIMIT }
     requires count { length slots.old ≡ length job.now.tasks }
-    requires ready { All (CanRun (C.is_pass cells.now) C.notes (C.plan cells.now) tables.now.places) slots.old }
+    requires ready { All (CanRun (C.is_pass cells.now) C.notes R.begins plan.now tables.now.places) slots.old }
     requires others { (t : ℕ) (d : _) → t < length slots.old → in_phase job.now phase t ≡ false → (slice_index_or slots.old t d).pass ≡ None }
     ensures count { length slots.new ≡ length slots.old }
-    ensures runs { (t : ℕ) (d : _) → t < length slots.old → RunsSlot solo (C.is_pass cells.now) C.notes (C.plan cells.now) (slice_index_or slots.old t d) (slice_index_or slots.new t d) (slice_index_or slots.old t d).pass }
+    ensures runs { (t : ℕ) (d : _) → t < length slots.old → RunsSlot R.course (C.is_pass cells.now) C.notes R.ends plan.now (slice_index_or slots.old t d) (slice_index_or slots.new t d) (slice_index_or slots.old t d).pass }
 {
     let range = range_of(job, phase);
     let first = range.start;
-    run_slots(rt, cells, gate, tables, first, &mut slots[range]);
+    run_slots(rt, cells, gate, runner, tables, plan, first, &mut slots[range]);
 }
 
 /// Splits off a pass for each task of the phase, in job order.
-fn split_all<'a, C: Forks>(
+fn split_all<'a, C: Forks, E: Drop>(
     cells: &C,
     root: &mut C::Pass,
     job: &Job,
     phase: u32,
-    slots: &mut [Slot<'a, C::Pass>],
+    slots: &mut [Slot<'a, C::Pass, E>],
 )
     requires area { C.is_pass cells.now root.old }
     requires plan { (C.plan cells.now).tasks ≡ tasks_from 0 job.now.tasks phase }
@@ -164,34 +189,71 @@ fn split_all<'a, C: Forks>(
     }
 }
 
+/// Gives each task of the phase the sessions that it controls, and its slot what its runner keeps of it.
+pub fn equip_all<'a, C: Cells, R: Runner<C>>(
+    alloc: Global,
+    runner: &R,
+    job: &Job,
+    tables: &Tables,
+    plan: &Plan,
+    phase: u32,
+    slots: &mut [Slot<'a, C::Pass, R::Extra>],
+) -> Result<(), NoMemory>
+    requires plan { plan.now ≡ plan_view job.now tables.now.places phase }
+    requires tasks { AreRun R.course R.ends job.now tables.now.places phase slots.old }
+    requires empty { AreEmpty slots.old }
+    ensures tasks { IfOk result (λ _. AreRun R.course R.ends job.now tables.now.places phase slots.new) }
+    ensures empty { IfOk result (λ _. AreEmpty slots.new) }
+    ensures equipped { IfOk result (λ _. AreEquipped R.begins plan.now job.now tables.now.places phase (length job.now.tasks) slots.new) }
+{
+    let count = job.task_count();
+    for t in 0..count {
+        if is_of(job, t, phase) {
+            let control = plan.control_of(alloc, TaskNo(t as u32))?;
+            let extra = runner.extra(alloc, plan, TaskNo(t as u32))?;
+            equip(&mut slots[t], control, extra);
+        }
+    }
+    Ok(())
+}
+
 /// Runs the phase's tasks: splits off a pass for each, runs all at once, and joins the passes.
-pub fn run_tasks<'a, T: Threads + Sync, C: Forks + Sync, G: Gate + Sync>(
+pub fn run_tasks<'a, T: Threads + Sync, C: Forks + Sync, G: Gate + Sync, R: Runner<C> + Sync>(
     rt: &T,
     cells: &C,
     root: &mut C::Pass,
     gate: &G,
+    runner: &R,
     job: &Job,
     tables: &Tables,
+    plan: &Plan,
     phase: u32,
-    slots: &mut [Slot<'a, C::Pass>],
+    slots: &mut [Slot<'a, C::Pass, R::Extra>],
 )
     requires area { C.is_pass cells.now root.old }
-    requires plan { C.plan cells.now ≡ plan_view job.now tables.now.places phase }
+    requires cells { C.plan cells.now ≡ plan.now }
+    requires plan { plan.now ≡ plan_view job.now tables.now.places phase }
     requires root { (C.notes root.old).bears ≡ None }
     requires given { (t : ℕ) → (C.notes root.old).given t ≡ false }
     requires out { (t : ℕ) → (C.notes root.old).out t ≡ false }
     requires room { calls (C.notes root.old) ≤ PLACE_LIMIT }
-    requires tasks { AreRun solo job.now tables.now.places phase slots.old }
+    requires last { (t p : ℕ) → is_controller plan.now t p ≡ true → (C.notes root.old).last p ≡ 0 }
+    requires unmarked { (s p : ℕ) (f : _) → (C.notes root.old).marked s p f ≡ false }
+    requires tasks { AreRun R.course R.ends job.now tables.now.places phase slots.old }
+    requires equipped { AreEquipped R.begins plan.now job.now tables.now.places phase (length job.now.tasks) slots.old }
     requires empty { AreEmpty slots.old }
     ensures area { C.is_pass cells.now root.new }
     ensures root { (C.notes root.new).bears ≡ None }
     ensures joined { (t : ℕ) → (C.notes root.new).out t ≡ false }
-    ensures observes { JoinsAll (C.plan cells.now) (C.notes root.old) (C.notes root.new) (phase_trace solo job.now tables.now.places phase) }
-    ensures tasks { AreRun solo job.now tables.now.places (phase + 1) slots.new }
+    ensures observes { JoinsAll plan.now (C.notes root.old) (C.notes root.new) (phase_trace R.course job.now tables.now.places phase) }
+    ensures joins { JoinsTasks plan.now (walk_by R.course job.now tables.now.places) plan.now.tasks (C.notes root.old) (C.notes root.new) }
+    ensures tasks { AreRun R.course R.ends job.now tables.now.places (phase + 1) slots.new }
     ensures empty { AreEmpty slots.new }
 {
+    // Read for what every plan keeps.
+    let _ = plan.places_len();
     split_all(cells, root, job, phase, slots);
-    run_those(rt, cells, gate, job, tables, phase, slots);
+    run_those(rt, cells, gate, runner, job, tables, plan, phase, slots);
     let count = job.task_count();
     for t in 0..count {
         if let Some(pass) = take(&mut slots[t]) {

@@ -23,8 +23,8 @@ pub trait Cells {
     /// What the pass has done and knows.
     ghost notes: { Self.Pass → Notes };
 
-    /// The cell as it stands, for the pass of a task: the original, or the breakpoint under an odd tag. Where the pass keeps the place, under
-    /// its last tag there.
+    /// The cell as it stands, for the pass of a task: the original, or the breakpoint under an odd tag. Where the pass
+    /// keeps the place, under its last tag there.
     fn fetch(&self, pass: &mut Self::Pass, place: PlaceNo) -> Cell
         requires area { is_pass self.now pass.old }
         requires working { is_working (notes pass.old) ≡ true }

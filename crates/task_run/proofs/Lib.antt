@@ -1,6 +1,7 @@
+pub mod CloseLemmas
 pub mod CountLemmas
-pub mod CourseLemmas
 pub mod FollowsLemmas
+pub mod RanLemmas
 pub mod RunLemmas
 pub mod SetLemmas
 pub mod TallyLemmas

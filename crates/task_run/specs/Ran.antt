@@ -25,11 +25,11 @@ walk_from course plan t = walk course plan (memory_of_space t.space) t.budget (s
 
 -- Ending, state and count are those of the course. The pass has made its visits, has opened and closed the task's sessions
 -- by its calls, and has made at most so many calls of the area.
-pub record RanAs (course : Course) (plan : PlanView) (before after : Notes) (old new : Task) (ending : Ending) : Type 0 where
+pub record RanAs (course : Course) (plan : PlanView) (before after : Notes) (old new : Task) (result : Ending) : Type 0 where
   pub memory : memory_of_space new.space ≡ memory_of_space old.space
   pub budget : new.budget ≡ old.budget
   pub done : new.done ≤ old.budget
-  pub ending : ending ≡ (run_from course plan old).ending
+  pub ending : result ≡ (run_from course plan old).ending
   pub state : stands new new.done ≡ (run_from course plan old).state
   pub follows : Follows plan before after (walk_from course plan old).trace (walk_from course plan old).calls old.control new.control
   pub windows : HasWindows plan before old.control (walk_from course plan old).calls

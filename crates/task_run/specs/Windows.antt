@@ -53,9 +53,9 @@ most_set plan walks by s place =
     if has_session (opened_by (last_control plan walks by)) s then union (least_set plan walks by s place) (facts_of_all place (traces_but walks plan.tasks by)) else no_facts
 
 -- no fewer facts than the least set, and no others than the most
-pub record IsBetween (least most set : FactSet) : Type 0 where
-  pub least : (f : Fact) → has_fact least f ≡ true → has_fact set f ≡ true
-  pub most : (f : Fact) → has_fact set f ≡ true → has_fact most f ≡ true
+pub record IsBetween (fewest all set : FactSet) : Type 0 where
+  pub least : (f : Fact) → has_fact fewest f ≡ true → has_fact set f ≡ true
+  pub most : (f : Fact) → has_fact set f ≡ true → has_fact all f ≡ true
 
 -- how many places are opened, and closed, by the runs of these tasks: each session's places count at each of both
 abbrev pub opened_places : PlanView → (ℕ → Walk) → ℕ

@@ -4,8 +4,7 @@ use Rattle.s370_exec.specs.Solo.{state_of, solo_run}
 use Rattle.space_map.specs.Space.{memory_of_space}
 use Rattle.task_run.specs.Called.{calls_on}
 use Rattle.task_run.proofs.RunLemmas.{IsRun, LedTo-start, LedTo-more, IsRun-ended, IsRun-returned, IsRun-spent}
-use Rattle.task_run.proofs.TallyLemmas.{has_planted}
-use Rattle.task_run.proofs.WindowLemmas.{has_windows}
+use Rattle.task_run.proofs.RanLemmas.{ran_alone}
 use Rattle.task_run.proofs.run.run_task.Given as given
 use Rattle.task_run.proofs.run.run_task.Goals as goal
 
@@ -56,50 +55,12 @@ ended g c =
     c.loop-done.invariant.run c.loop-done-test.true (sym c.if-has_returned.ensures) (rw same at (c.step.ensures.next i ∙ c.in-Ended.is)) (rw same at (c.step.ensures.state i))
     (record { turns = rw same at (c.step.ensures.turns i); control = rw same at (c.step.ensures.control i); few = c.step.ensures.calls })
 
-pub returns-in-Ended-clause-ending : goal.returns-in-Ended-clause-ending
-returns-in-Ended-clause-ending g c = (ended g c).ending
-
-pub returns-in-Ended-clause-state : goal.returns-in-Ended-clause-state
-returns-in-Ended-clause-state g c = (ended g c).state
-
-pub returns-in-Ended-clause-follows : goal.returns-in-Ended-clause-follows
-returns-in-Ended-clause-follows g c = (ended g c).follows
-
-pub returns-in-Ended-clause-planted : goal.returns-in-Ended-clause-planted
-returns-in-Ended-clause-planted g c = let f = (ended g c).follows in
-    has_planted _ _ _ _ _ _ (rw c.requires.plan c.places_len.ensures.plan) c.requires.tied c.requires.first.0 c.requires.first.1 f.plants f.closes f.control
-
-pub returns-in-Ended-clause-few : goal.returns-in-Ended-clause-few
-returns-in-Ended-clause-few g c = (ended g c).few
-
-pub returns-in-Ended-clause-windows : goal.returns-in-Ended-clause-windows
-returns-in-Ended-clause-windows g c = has_windows _ _ _ _ (rw c.requires.plan c.places_len.ensures.plan) c.requires.tied c.requires.first.0
-
 returned : (g : given.Over) (c : goal.Then-has_returned g) →
     IsRun (g.C.Cells.plan c.args.cells.now) (g.C.Cells.notes c.args.pass.now) (g.C.Cells.notes c.loop-done.pass) c.args.task.now.control c.loop-done.task.control
     (solo_run (memory_of_space c.args.task.now.space) c.args.task.now.budget (state_of c.args.task.now.cpu c.args.task.now.space.bytes c.args.task.now.io 0))
     (calls_on (memory_of_space c.args.task.now.space) c.args.task.now.budget (state_of c.args.task.now.cpu c.args.task.now.space.bytes c.args.task.now.io 0))
     Returned (state_of c.loop-done.task.cpu c.loop-done.task.space.bytes c.loop-done.task.io c.loop-done.done) c.args.task.now.budget
 returned g c = IsRun-returned _ _ _ _ _ _ _ _ _ _ c.loop-done.invariant.run c.loop-done.invariant.within (sym c.if-has_returned.ensures)
-
-pub returns-then-has_returned-clause-ending : goal.returns-then-has_returned-clause-ending
-returns-then-has_returned-clause-ending g c = (returned g c).ending
-
-pub returns-then-has_returned-clause-state : goal.returns-then-has_returned-clause-state
-returns-then-has_returned-clause-state g c = rw c.loop-done.invariant.done (returned g c).state
-
-pub returns-then-has_returned-clause-follows : goal.returns-then-has_returned-clause-follows
-returns-then-has_returned-clause-follows g c = (returned g c).follows
-
-pub returns-then-has_returned-clause-planted : goal.returns-then-has_returned-clause-planted
-returns-then-has_returned-clause-planted g c = let f = (returned g c).follows in
-    has_planted _ _ _ _ _ _ (rw c.requires.plan c.places_len.ensures.plan) c.requires.tied c.requires.first.0 c.requires.first.1 f.plants f.closes f.control
-
-pub returns-then-has_returned-clause-few : goal.returns-then-has_returned-clause-few
-returns-then-has_returned-clause-few g c = (returned g c).few
-
-pub returns-then-has_returned-clause-windows : goal.returns-then-has_returned-clause-windows
-returns-then-has_returned-clause-windows g c = has_windows _ _ _ _ (rw c.requires.plan c.places_len.ensures.plan) c.requires.tied c.requires.first.0
 
 returned_last : (g : given.Over) (c : goal.Then-has_returned-2 g) →
     IsRun (g.C.Cells.plan c.args.cells.now) (g.C.Cells.notes c.args.pass.now) (g.C.Cells.notes c.loop-done.pass) c.args.task.now.control c.loop-done.task.control
@@ -108,25 +69,6 @@ returned_last : (g : given.Over) (c : goal.Then-has_returned-2 g) →
     Returned (state_of c.loop-done.task.cpu c.loop-done.task.space.bytes c.loop-done.task.io c.loop-done.done) c.args.task.now.budget
 returned_last g c = IsRun-returned _ _ _ _ _ _ _ _ _ _ c.loop-done.invariant.run c.loop-done.invariant.within (sym c.if-has_returned-2.ensures)
 
-pub returns-then-has_returned-2-clause-ending : goal.returns-then-has_returned-2-clause-ending
-returns-then-has_returned-2-clause-ending g c = (returned_last g c).ending
-
-pub returns-then-has_returned-2-clause-state : goal.returns-then-has_returned-2-clause-state
-returns-then-has_returned-2-clause-state g c = rw c.loop-done.invariant.done (returned_last g c).state
-
-pub returns-then-has_returned-2-clause-follows : goal.returns-then-has_returned-2-clause-follows
-returns-then-has_returned-2-clause-follows g c = (returned_last g c).follows
-
-pub returns-then-has_returned-2-clause-planted : goal.returns-then-has_returned-2-clause-planted
-returns-then-has_returned-2-clause-planted g c = let f = (returned_last g c).follows in
-    has_planted _ _ _ _ _ _ (rw c.requires.plan c.places_len.ensures.plan) c.requires.tied c.requires.first.0 c.requires.first.1 f.plants f.closes f.control
-
-pub returns-then-has_returned-2-clause-few : goal.returns-then-has_returned-2-clause-few
-returns-then-has_returned-2-clause-few g c = (returned_last g c).few
-
-pub returns-then-has_returned-2-clause-windows : goal.returns-then-has_returned-2-clause-windows
-returns-then-has_returned-2-clause-windows g c = has_windows _ _ _ _ (rw c.requires.plan c.places_len.ensures.plan) c.requires.tied c.requires.first.0
-
 spent : (g : given.Over) (c : goal.Else-has_returned-2 g) →
     IsRun (g.C.Cells.plan c.args.cells.now) (g.C.Cells.notes c.args.pass.now) (g.C.Cells.notes c.loop-done.pass) c.args.task.now.control c.loop-done.task.control
     (solo_run (memory_of_space c.args.task.now.space) c.args.task.now.budget (state_of c.args.task.now.cpu c.args.task.now.space.bytes c.args.task.now.io 0))
@@ -134,21 +76,34 @@ spent : (g : given.Over) (c : goal.Else-has_returned-2 g) →
     Spent (state_of c.loop-done.task.cpu c.loop-done.task.space.bytes c.loop-done.task.io c.loop-done.done) c.args.task.now.budget
 spent g c = IsRun-spent _ _ _ _ _ _ _ _ _ _ c.loop-done.invariant.run (let all = c.loop-done-test.false in omega (arith, all, c.loop-done.invariant.within)) (sym c.if-has_returned-2.ensures)
 
-pub returns-else-has_returned-2-clause-ending : goal.returns-else-has_returned-2-clause-ending
-returns-else-has_returned-2-clause-ending g c = (spent g c).ending
+pub returns-in-Ended-clause-ran : goal.returns-in-Ended-clause-ran
+returns-in-Ended-clause-ran g c = ran_alone _ _ _ _ _ _ (rw c.requires.plan c.places_len.ensures.plan) c.requires.tied c.requires.first (record {
+  memory = c.step.ensures.memory ∙ c.loop-done.invariant.memory;
+  budget = c.loop-done.invariant.budget;
+  done = let lt = c.loop-done-test.true in omega (arith, lt);
+  tied = c.step.ensures.tied;
+}) (ended g c)
 
-pub returns-else-has_returned-2-clause-state : goal.returns-else-has_returned-2-clause-state
-returns-else-has_returned-2-clause-state g c = rw c.loop-done.invariant.done (spent g c).state
+pub returns-then-has_returned-clause-ran : goal.returns-then-has_returned-clause-ran
+returns-then-has_returned-clause-ran g c = ran_alone _ _ _ _ _ _ (rw c.requires.plan c.places_len.ensures.plan) c.requires.tied c.requires.first (record {
+  memory = c.loop-done.invariant.memory;
+  budget = c.loop-done.invariant.budget;
+  done = omega (arith, c.loop-done.invariant.done, c.loop-done.invariant.within);
+  tied = c.loop-done.invariant.tied;
+}) (rw c.loop-done.invariant.done (returned g c))
 
-pub returns-else-has_returned-2-clause-follows : goal.returns-else-has_returned-2-clause-follows
-returns-else-has_returned-2-clause-follows g c = (spent g c).follows
+pub returns-then-has_returned-2-clause-ran : goal.returns-then-has_returned-2-clause-ran
+returns-then-has_returned-2-clause-ran g c = ran_alone _ _ _ _ _ _ (rw c.requires.plan c.places_len.ensures.plan) c.requires.tied c.requires.first (record {
+  memory = c.loop-done.invariant.memory;
+  budget = c.loop-done.invariant.budget;
+  done = omega (arith, c.loop-done.invariant.done, c.loop-done.invariant.within);
+  tied = c.loop-done.invariant.tied;
+}) (rw c.loop-done.invariant.done (returned_last g c))
 
-pub returns-else-has_returned-2-clause-planted : goal.returns-else-has_returned-2-clause-planted
-returns-else-has_returned-2-clause-planted g c = let f = (spent g c).follows in
-    has_planted _ _ _ _ _ _ (rw c.requires.plan c.places_len.ensures.plan) c.requires.tied c.requires.first.0 c.requires.first.1 f.plants f.closes f.control
-
-pub returns-else-has_returned-2-clause-few : goal.returns-else-has_returned-2-clause-few
-returns-else-has_returned-2-clause-few g c = (spent g c).few
-
-pub returns-else-has_returned-2-clause-windows : goal.returns-else-has_returned-2-clause-windows
-returns-else-has_returned-2-clause-windows g c = has_windows _ _ _ _ (rw c.requires.plan c.places_len.ensures.plan) c.requires.tied c.requires.first.0
+pub returns-else-has_returned-2-clause-ran : goal.returns-else-has_returned-2-clause-ran
+returns-else-has_returned-2-clause-ran g c = ran_alone _ _ _ _ _ _ (rw c.requires.plan c.places_len.ensures.plan) c.requires.tied c.requires.first (record {
+  memory = c.loop-done.invariant.memory;
+  budget = c.loop-done.invariant.budget;
+  done = omega (arith, c.loop-done.invariant.done, c.loop-done.invariant.within);
+  tied = c.loop-done.invariant.tied;
+}) (rw c.loop-done.invariant.done (spent g c))

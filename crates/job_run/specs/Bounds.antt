@@ -1,0 +1,55 @@
+-- What the passes of a phase's tasks leave of the sessions that the tasks control.
+use Rattle.std.specs.Prelude.{◌≡◌, ℕ, ◌+◌, ◌*◌, ◌<◌, ◌^◌, true, false, List, length}
+use Rattle.std.specs.List.{sum_by}
+use Rattle.cov_base.specs.declared.facts.Fact.{Fact}
+use Rattle.cov_base.specs.declared.numbers.TaskNo.{TaskNo}
+use Rattle.cov_base.specs.Facts.{has_fact}
+use Rattle.module_area.specs.Control.{places_under, sessions_of}
+use Rattle.module_area.specs.Executions.{facts_at}
+use Rattle.module_area.specs.Notes.{Notes, calls}
+use Rattle.module_area.specs.PlanView.{PlanView, place_of, has_place, has_task}
+use Rattle.module_area.specs.Tied.{has_session}
+use Rattle.svc_monitor.specs.Observed.{IsShown}
+use Rattle.task_run.specs.Called.{places_in_all}
+use Rattle.task_run.specs.Courses.{Walk}
+use Rattle.task_run.specs.Windows.{least_set, last_control, opened_by, closed_by}
+
+-- the task controls the session, and this is one of its places
+pub record IsOwn (plan : PlanView) (t s p : ℕ) : Type 0 where
+  pub session : has_session (sessions_of plan t) s ≡ true
+  pub place : has_place (places_under plan s) p ≡ true
+  pub exists : p < length plan.places
+
+-- the task's run shows the fact at the place, and where the session is the task's own, while it is open
+pub record IsOf (plan : PlanView) (walks : ℕ → Walk) (t s p : ℕ) (f : Fact) : Type 0 where
+  pub shows : has_fact (facts_at (place_of plan.places p) (walks t).trace) f ≡ true
+  pub own : IsOwn plan t s p → has_fact (least_set plan walks t s (place_of plan.places p)) f ≡ true
+
+-- the run never opens the session
+abbrev pub never_opens : PlanView → (ℕ → Walk) → ℕ → ℕ → Type 0
+never_opens plan walks t s = has_session (opened_by (last_control plan walks t)) s ≡ false
+
+-- What the pass of a task has after its run: of each of its own sessions the facts of the run while it is open, and no
+-- fact that the run doesn't show; no tag of a session that it never opened; one plant for each place of each session
+-- that it opened, and one close for each of those that it closed.
+pub record Leaves (plan : PlanView) (walks : ℕ → Walk) (t : ℕ) (n : Notes) : Type 0 where
+  pub least : (s p : ℕ) (f : Fact) → IsOwn plan t s p → has_fact (least_set plan walks t s (place_of plan.places p)) f ≡ true → IsShown n s p f
+  pub most : (s p : ℕ) (f : Fact) → n.marked s p f ≡ true → IsOf plan walks t s p f
+  pub last : (s p : ℕ) → IsOwn plan t s p → never_opens plan walks t s → n.last p + 1 < 2 * s
+  pub plants : n.tally.plants ≡ places_in_all plan (opened_by (last_control plan walks t))
+  pub closes : n.tally.closes ≡ places_in_all plan (closed_by (last_control plan walks t))
+  pub few : calls n < 2 ^ 42
+
+-- a mark is of the run of one of these tasks
+pub record IsOfOne (plan : PlanView) (walks : ℕ → Walk) (tasks : List TaskNo) (s p : ℕ) (f : Fact) : Type 0 where
+  pub task : ℕ
+  pub there : has_task tasks task ≡ true
+  pub is : IsOf plan walks task s p f
+
+-- and what the root has once the passes of these tasks are joined to it
+pub record JoinsTasks (plan : PlanView) (walks : ℕ → Walk) (tasks : List TaskNo) (old new : Notes) : Type 0 where
+  pub least : (t s p : ℕ) (f : Fact) → has_task tasks t ≡ true → IsOwn plan t s p → has_fact (least_set plan walks t s (place_of plan.places p)) f ≡ true → IsShown new s p f
+  pub most : (s p : ℕ) (f : Fact) → new.marked s p f ≡ true → IsOfOne plan walks tasks s p f
+  pub last : (t s p : ℕ) → has_task tasks t ≡ true → IsOwn plan t s p → never_opens plan walks t s → new.last p + 1 < 2 * s
+  pub plants : new.tally.plants ≡ old.tally.plants + sum_by (λ (t : TaskNo). places_in_all plan (opened_by (last_control plan walks t.0))) tasks
+  pub closes : new.tally.closes ≡ old.tally.closes + sum_by (λ (t : TaskNo). places_in_all plan (closed_by (last_control plan walks t.0))) tasks
