@@ -147,6 +147,34 @@ def endings() -> list[Case]:
     ]
 
 
+def controlled() -> list[Case]:
+    """Sessions that a task opens and closes: through the module meanwhile, past it, and never opened."""
+
+    def job(private: str, cards: str = "REG 1 00100000 / REG 13 00FFFFFE / ", before: str = "") -> bytes:
+        """The first program under a session of the task C, whose private storage has these bytes."""
+        text = FIRST.job(before + task(f"{cards}DATA 0 {private}", "TASK C 000000 32 100 0\n"))
+        return text.replace(b"SESSION S M\n", b"SESSION S BY C M\n")
+
+    through, past, never = job("0A0445E010000A0507FD"), job("0A0445E010080A0507FD"), job("07FE", "", TASK)
+    link, none = {13: 0xFFFFFE, 14: 0x80000006}, "000000-000007"
+    ended = Result("RETURNED", 7, 2, {1: 10, **link}, name="C", entry=0)
+    astray = Result("ABEND 5", 3, 0, {1: 0x100000, **link}, name="C", entry=0)
+    returned = Result("RETURNED", 1, 0, name="C", entry=0)
+    every, nothing = FIRST.marks_file(1, 1, 1), FIRST.marks_file(0, 0, 0)
+    return [
+        Case("a session that its task opens and closes", ["run"], through, FIRST.report([ended], ":::", 3)),
+        Case("a session that its task opens and goes past", ["run"], past, FIRST.report([astray], "^^^", 3, none)),
+        Case("a session that is never opened", ["run"], never, FIRST.report([FIRST_RESULT, returned], "^^^", 3, none)),
+        Case("marks of a session that its task opens and closes", ["marks", "S"], through, every),
+        Case("marks of a session that its task opens and goes past", ["marks", "S"], past, nothing),
+        Case("marks of a session that is never opened", ["marks", "S"], never, nothing),
+        Case("combine of these", ["combine"], nothing + every, FIRST.marks_file(1, 1, 1, runs=2)),
+        Case("show of these", ["show", "S"], never + FIRST.marks_file(1, 1, 1, runs=2), FIRST.shown(":::", 3)),
+        Case("a controller that is missing", ["run"], through.replace(b"BY C", b"BY D"), b"BAD JOB LINE 15\n", 2),
+        Case("two controllers of one module", ["marks", "S"], through.replace(b"TASK C", b"SESSION T BY D M\nTASK C"), b"BAD JOB LINE 11\n", 2),
+    ]
+
+
 def commands() -> list[Case]:
     """table and replay, and the words that are none."""
     table = b"COVERAGE TABLE\nMODULE M PLACES 2\nPLACE 000000 4 C 4610\nPLACE 000004 2 S 07FE\nEND\n"
@@ -436,4 +464,4 @@ CHECKS = [broken_pipe, two_runs, evidence_of_two]
 
 def cases() -> list[Case]:
     """All of the program's."""
-    return [*instructions(), *wide_listings(), *endings(), *commands(), *marks_files(), *evidence(), *trials(), *refusals(), *streams()]
+    return [*instructions(), *wide_listings(), *endings(), *controlled(), *commands(), *marks_files(), *evidence(), *trials(), *refusals(), *streams()]

@@ -7,7 +7,7 @@ use Rattle.brk_table.specs.Places.{TablesView, all_places}
 use Rattle.cov_base.specs.FactSet.{FactSet}
 use Rattle.session_book.specs.Results.{ResultView}
 use Rattle.session_book.specs.JobView.{JobView}
-use Rattle.job_text.specs.Drafts.{Controllers, asked}
+use Rattle.job_text.specs.Drafts.{Present}
 use Rattle.job_text.specs.Limits.{IsWithin}
 use Rattle.job_text.specs.Refusals.{IsRead, IsOnly, IsBadAt, IsRefusal}
 use Rattle.job_text.specs.Spells.{Spells}
@@ -41,7 +41,7 @@ use Rattle.job_run.proofs.SessionLemmas.{set_is_left}
 use Rattle.job_run.specs.Tasks.{results_of}
 use Rattle.coverage_program.specs.Replay.{Bad, Whole, replay_text}
 use Rattle.coverage_program.proofs.RunLemmas.{play_is_run}
-use Rattle.coverage_program.specs.Words.{reads_input, reads_job, Reading, Wanted, to_run, to_list, reading_of, makes_areas, session_named, without_areas, no_memory_line, bad_schedule_line}
+use Rattle.coverage_program.specs.Words.{reads_input, reads_job, Reading, Wanted, to_end, reading_of, makes_areas, session_named, without_areas, no_memory_line, bad_schedule_line}
 
 pub are_sets : (j : JobView) (tables : TablesView) (tasks : List Done) (sets : SetsView) → IsOutcome j tables.places tasks sets →
     AreSetsOf j tables (length sets.job.sessions) sets.places (λ s p. set_in sets s p)
@@ -61,6 +61,7 @@ reports j tables before after tasks sets form l o = record {
   sets = λ s p. set_in sets s p;
   are_results = o.are_results;
   are_sets = o.are_sets;
+  are_bounded = o.are_bounded;
   are_final = λ s p some most here. set_is_left solo j tables.places before after sets s p l o.job o.size here;
   is_text = refl;
 }
@@ -72,7 +73,7 @@ written_as text (Ok v) answer w good bad = inl (good, w.whole, w.cause.later)
 written_as text (Err e) answer w good bad = inr (bad, w.some, w.cause.failed)
 
 pub reported : (s : SourceChange) (j : JobView) (tables : TablesView) (a : AreasChange) (k : SinkChange) (answer : ℕ) (text : List ℕ) →
-    CameJob to_run s j → Match j tables.tables → tables.places ≡ all_places tables.tables → (run : HasRun j tables.places a.before a.after) → Reports j tables run.sets (report_of j tables) text → IsWritten 0 text k answer →
+    CameJob to_end s j → Match j tables.tables → tables.places ≡ all_places tables.tables → (run : HasRun j tables.places a.before a.after) → Reports j tables run.sets (report_of j tables) text → IsWritten 0 text k answer →
     Answers Run s a k answer
 reported s j tables a k answer text came match' numbered ran reps told = record {
   status = 0;
@@ -82,7 +83,7 @@ reported s j tables a k answer text came match' numbered ran reps told = record 
 }
 
 pub wanting_to_run : (s : SourceChange) (j : JobView) (tables : TablesView) (a : AreasChange) (k : SinkChange) (answer : ℕ) →
-    CameJob to_run s j → Match j tables.tables → tables.places ≡ all_places tables.tables → IsWritten 7 no_memory_line k answer → Answers Run s a k answer
+    CameJob to_end s j → Match j tables.tables → tables.places ≡ all_places tables.tables → IsWritten 7 no_memory_line k answer → Answers Run s a k answer
 wanting_to_run s j tables a k answer came match' numbered told = record {
   status = 7;
   text = no_memory_line;
@@ -91,7 +92,7 @@ wanting_to_run s j tables a k answer came match' numbered told = record {
 }
 
 pub listed_places : (s : SourceChange) (j : JobView) (tables : TablesView) (a : Account) (k : SinkChange) (answer : ℕ) →
-    CameJob to_list s j → Match j tables.tables → tables.places ≡ all_places tables.tables → IsWritten 0 (table_text j tables) k answer →
+    CameJob to_end s j → Match j tables.tables → tables.places ≡ all_places tables.tables → IsWritten 0 (table_text j tables) k answer →
     Answers Table s (no_change a) k answer
 listed_places s j tables a k answer came match' numbered told = record {
   status = 0;
@@ -105,34 +106,34 @@ pub stopped : (c : Command) (s : SourceChange) (a : Account) (k : SinkChange) (a
 stopped c s a k answer r reads stop told = record { status = r.status; text = r.line; cause = Stopped reads stop refl; told = told }
 
 -- all lines spell the job
-all_spell : (how : Reading) (ls : List LineView) (j : JobView) → how.more ≡ false → HasJob how ls j → Spells (asked how.by) ls j
+all_spell : (how : Reading) (ls : List LineView) (j : JobView) → how.more ≡ false → HasJob how ls j → Spells Present ls j
 all_spell how ls j alone has = let most : length ls ≤ has.count = omega (arith, has.over alone) in rw (take_all has.count ls most) at has.spells
 
-whole_jobless : (how : Reading) (ls : List LineView) (n : ℕ) → how.more ≡ false → IsBadAt (asked how.by) ls n → (j : JobView) → HasJob how ls j → ⊥
-whole_jobless how ls n alone bad j has = never_bad (asked how.by) ls j n (all_spell how ls j alone has) bad
+whole_jobless : (how : Reading) (ls : List LineView) (n : ℕ) → how.more ≡ false → IsBadAt ls n → (j : JobView) → HasJob how ls j → ⊥
+whole_jobless how ls n alone bad j has = never_bad ls j n (all_spell how ls j alone has) bad
 
 -- what is no job of the whole input is none of it
-pub whole_none : (how : Reading) (ls : List LineView) (e : JobFault) → how.more ≡ false → IsRefusal (asked how.by) ls e → (n : ℕ) → e ≡ fault.BadJob n → (j : JobView) → HasJob how ls j → ⊥
+pub whole_none : (how : Reading) (ls : List LineView) (e : JobFault) → how.more ≡ false → IsRefusal ls e → (n : ℕ) → e ≡ fault.BadJob n → (j : JobView) → HasJob how ls j → ⊥
 whole_none how ls (fault.BadJob m) alone bad n q j has = whole_jobless how ls m alone bad j has
 whole_none how ls (fault.TooLarge what m) alone bad n q j has = absurd cc
 whole_none how ls fault.NoMemory alone bad n q j has = absurd cc
 
 -- a job that the first lines spell leaves nothing but want of memory
-abbrev pub ReadsOnly : Controllers → List ℕ → Result ReadJob JobFault → Type 0
-ReadsOnly ask bytes result = (n : ℕ) (job : JobView) → n ≤ length (lines_of bytes) → Spells ask (take n (lines_of bytes)) job → IsWithin job → IsOnly n job result
+abbrev pub ReadsOnly : List ℕ → Result ReadJob JobFault → Type 0
+ReadsOnly bytes result = (n : ℕ) (job : JobView) → n ≤ length (lines_of bytes) → Spells Present (take n (lines_of bytes)) job → IsWithin job → IsOnly n job result
 
-pub first_none : (how : Reading) (bytes : List ℕ) (e : JobFault) → ReadsOnly (asked how.by) bytes (Err e) → (n : ℕ) → e ≡ fault.BadJob n → (j : JobView) → HasJob how (lines_of bytes) j → ⊥
+pub first_none : (how : Reading) (bytes : List ℕ) (e : JobFault) → ReadsOnly bytes (Err e) → (n : ℕ) → e ≡ fault.BadJob n → (j : JobView) → HasJob how (lines_of bytes) j → ⊥
 first_none how bytes e only n q j has = let wanting : e ≡ fault.NoMemory = only has.count j has.inside has.spells has.within in absurd cc
 
 -- by the reader's fault
-pub unread : (how : Reading) (name : Option Wanted) (s : SourceChange) (bytes : List ℕ) (e : JobFault) → CameWhole s bytes → IsRefusal (asked how.by) (lines_of bytes) e → ((n : ℕ) → e ≡ fault.BadJob n → (j : JobView) → HasJob how (lines_of bytes) j → ⊥) →
+pub unread : (how : Reading) (name : Option Wanted) (s : SourceChange) (bytes : List ℕ) (e : JobFault) → CameWhole s bytes → IsRefusal (lines_of bytes) e → ((n : ℕ) → e ≡ fault.BadJob n → (j : JobView) → HasJob how (lines_of bytes) j → ⊥) →
     IsStopped true how name s (fault_refusal e).status (fault_refusal e).line
 unread how name s bytes (fault.BadJob n) came first none = BadJob refl refl (record { bytes = bytes; line = n; came = came; first_bad = first; jobless = none n refl; told = refl })
 unread how name s bytes (fault.TooLarge what n) came first none = LargeJob refl refl (record { bytes = bytes; what = what; line = n; came = came; first_over = first; told = refl })
 unread how name s bytes fault.NoMemory came first none = WantOfMemory (refl, refl)
 
 -- the job that the first lines spell, and where they end
-pub read_is : (how : Reading) (s : SourceChange) (bytes : List ℕ) (r : ReadJob) → CameWhole s bytes → IsRead how.by bytes r → (how.more ≡ false → r.end ≡ length bytes) → CameFirst how s r.job bytes r.lines r.end
+pub read_is : (how : Reading) (s : SourceChange) (bytes : List ℕ) (r : ReadJob) → CameWhole s bytes → IsRead bytes r → (how.more ≡ false → r.end ≡ length bytes) → CameFirst how s r.job bytes r.lines r.end
 read_is how s bytes r came read whole =
     let head : List LineView = lines_of (take r.end bytes) in
     let tail : List LineView = lines_of (drop r.end bytes) in

@@ -26,12 +26,12 @@ use Rattle.coverage_program.specs.Files.{HasRest}
 use Rattle.coverage_program.specs.Inputs.{CameJob}
 use Rattle.coverage_program.specs.Named.{session_number}
 use Rattle.coverage_program.specs.Refusals.{RefusalView, refusal, Match}
-use Rattle.coverage_program.specs.Words.{to_list, no_memory_line, other_table_line}
+use Rattle.coverage_program.specs.Words.{to_end, no_memory_line, other_table_line}
 use Rattle.coverage_program.specs.declared.words.Command.TheVariants.{Prove, Verify}
 
 -- evidence that was written
 pub proved : (name : List ℕ) (s : SourceChange) (j : JobView) (tables : TablesView) (number : ℕ) (a : Account) (k : SinkChange) (answer : ℕ) →
-    CameJob to_list s j → Match j tables.tables → tables.places ≡ all_places tables.tables → session_number j name ≡ Some number → (session_of j number).by ≡ None → IsWritten 0 (evidence j tables number) k answer → Answers (Prove name) s (no_change a) k answer
+    CameJob to_end s j → Match j tables.tables → tables.places ≡ all_places tables.tables → session_number j name ≡ Some number → (session_of j number).by ≡ None → IsWritten 0 (evidence j tables number) k answer → Answers (Prove name) s (no_change a) k answer
 proved name s j tables number a k answer came match' numbered is free told = record {
   status = 0;
   text = evidence j tables number;

@@ -5,7 +5,7 @@ use Rattle.cov_outside.specs.Causes.{Rose}
 use Rattle.session_book.specs.JobView.{JobView}
 use Rattle.session_book.specs.Sessions.{session_of}
 use Rattle.job_text.specs.Lines.{LineView, lines_of}
-use Rattle.job_text.specs.Drafts.{Present, asked}
+use Rattle.job_text.specs.Drafts.{Present}
 use Rattle.job_text.specs.Refusals.{IsBadAt, IsOverAt}
 use Rattle.job_text.specs.Spells.{Spells}
 use Rattle.job_text.specs.declared.limit.Limit.{Limit}
@@ -24,7 +24,7 @@ use Rattle.coverage_program.specs.Refusals.{RefusalView, job_refusal, Match}
 use Rattle.coverage_program.specs.Replay.{Play, Bad, Whole, play_of, play_status}
 use Rattle.coverage_program.proofs.OneTables.{one_places}
 use Rattle.job_run.specs.Runs.{Account}
-use Rattle.coverage_program.specs.Words.{reads_input, reads_job, Reading, Wanted, to_run, to_list, to_go_on, reading_of, makes_areas, makes_job, session_named}
+use Rattle.coverage_program.specs.Words.{reads_input, reads_job, Reading, Wanted, to_end, to_go_on, reading_of, makes_areas, makes_job, session_named}
 use Rattle.coverage_program.proofs.StopLemmas.{came_is, same_job, any_named, whole_named, not_both, not_named, not_whole, controlled_stop, matched_stop, refused_stop, never_came, bad_stop, never_large, over_stop, too_many, large_stop, missing_stop, HasNone}
 use Rattle.coverage_program.proofs.BehindLemmas.{large_files, files_outcome, united_case, bad_files_case, other_files_case, show_outcome, shown_case, bad_shown_case, other_shown_case}
 use Rattle.coverage_program.proofs.VerdictLemmas.{check_outcome, checked_case}
@@ -58,9 +58,9 @@ checked_done c name s status text j tables n rest e h free =
     Done j (inr (ap (λ (d : Command). (reading_of d).more) e)) (came_by c to_go_on s j (ap reading_of e) (record { bytes = h.bytes; came = h.came.came; has = h.came.has })) (named_by c (Verify name) j e (whole_named j name n h.is_number free)) h.match.faultless
 
 outcome : (c : Command) (s : SourceChange) (a : AreasChange) (status : ℕ) (text : List ℕ) → IsCause c s a status text → reads_job c ≡ true → IsOutcome (reading_of c) (session_named c) s status text
-outcome c s a status text (Report p q) r = Done q.job (inl p.0) (came_by c to_run s q.job (ap reading_of p.1) q.came.came) (named_by c Run q.job p.1 tt) q.came.match.faultless
-outcome c s a status text (Recorded name p q) r = Done q.job (inl p.0) (came_by c to_run s q.job (ap reading_of p.1) q.came.came) (named_by c (Marks name) q.job p.1 (any_named q.job name q.number q.is_number)) q.came.match.faultless
-outcome c s a status text (Places p q k) r = Done q.job (inl p.0) (came_by c to_list s q.job (ap reading_of p.1) q.came.came) (named_by c Table q.job p.1 tt) q.came.match.faultless
+outcome c s a status text (Report p q) r = Done q.job (inl p.0) (came_by c to_end s q.job (ap reading_of p.1) q.came.came) (named_by c Run q.job p.1 tt) q.came.match.faultless
+outcome c s a status text (Recorded name p q) r = Done q.job (inl p.0) (came_by c to_end s q.job (ap reading_of p.1) q.came.came) (named_by c (Marks name) q.job p.1 (any_named q.job name q.number q.is_number)) q.came.match.faultless
+outcome c s a status text (Places p q k) r = Done q.job (inl p.0) (came_by c to_end s q.job (ap reading_of p.1) q.came.came) (named_by c Table q.job p.1 tt) q.came.match.faultless
 outcome c s a status text (Replayed p q k) r = Done q.job (inl p.0) (first_by c s q.job q.tables (Whole q.core q.played) p.1 q.has) (named_by c Replay q.job p.1 tt) q.has.match.faultless
 outcome c s a status text (BadSchedule p q k) r = Done q.job (inr (ap (λ (d : Command). (reading_of d).more) p.1)) (first_by c s q.job q.tables (Bad q.line) p.1 q.has) (named_by c Replay q.job p.1 tt) q.has.match.faultless
 outcome c s a status text (United p q k) r = absurd (not_both (reads_job c) r (ap reads_job p.1))
@@ -69,7 +69,7 @@ outcome c s a status text (OtherFile p q k) r = absurd (not_both (reads_job c) r
 outcome c s a status text (Shown name p q k) r = shown_done c name s status text q.job q.tables q.number q.rest p.1 q.has
 outcome c s a status text (BadShown name p q k) r = shown_done c name s status text q.job q.tables q.number q.rest p.1 q.has
 outcome c s a status text (OtherShown name p q k) r = shown_done c name s status text q.job q.tables q.number q.rest p.1 q.has
-outcome c s a status text (Proved name p q k) r = Done q.job (inl p.0) (came_by c to_list s q.job (ap reading_of p.1) q.came.came) (named_by c (Prove name) q.job p.1 (whole_named q.job name q.number q.is_number q.whole)) q.came.match.faultless
+outcome c s a status text (Proved name p q k) r = Done q.job (inl p.0) (came_by c to_end s q.job (ap reading_of p.1) q.came.came) (named_by c (Prove name) q.job p.1 (whole_named q.job name q.number q.is_number q.whole)) q.came.match.faultless
 outcome c s a status text (Checked name p q k) r = checked_done c name s status text q.job q.tables q.number q.rest p q.has q.whole
 outcome c s a status text (Usage p k) r = absurd (not_both (reads_job c) r (ap reads_job p.1))
 outcome c s a status text (Stopped p q k) r = None' (subst (λ (b : Bool). IsStopped b (reading_of c) (session_named c) s status text) r q)
@@ -146,12 +146,12 @@ controlled_case how name s status text b j wanted number (Done k p came h f) e l
 controlled_case how name s status text b j wanted number (None' q) e l has n whole is by quiet = controlled_stop how name s status text b j wanted number q e l has n whole is by quiet
 controlled_case how name s status text b j wanted number (Wanting p) e l has n whole is by quiet = inr p
 
-bad_case : (how : Reading) (name : Option Wanted) (s : SourceChange) (status : ℕ) (text b : List ℕ) (n : ℕ) → IsOutcome how name s status text → s.left ≡ Some b → length b ≤ input_limit → IsBadAt (asked how.by) (lines_of b) n → HasNone how b → (Rose s.faults s.later → ⊥) → (status ≡ 2) ⊎ (status ≡ 7)
+bad_case : (how : Reading) (name : Option Wanted) (s : SourceChange) (status : ℕ) (text b : List ℕ) (n : ℕ) → IsOutcome how name s status text → s.left ≡ Some b → length b ≤ input_limit → IsBadAt (lines_of b) n → HasNone how b → (Rose s.faults s.later → ⊥) → (status ≡ 2) ⊎ (status ≡ 7)
 bad_case how name s status text b n (Done k p came h f) e l bad none quiet = absurd (never_came how s b k e none came)
 bad_case how name s status text b n (None' q) e l bad none quiet = bad_stop how name s status text b n q e l bad none quiet
 bad_case how name s status text b n (Wanting p) e l bad none quiet = inr p
 
-over_case : (how : Reading) (name : Option Wanted) (s : SourceChange) (status : ℕ) (text b : List ℕ) (what : Limit) (n : ℕ) → IsOutcome how name s status text → s.left ≡ Some b → length b ≤ input_limit → IsOverAt (asked how.by) (lines_of b) what n → (Rose s.faults s.later → ⊥) → (status ≡ 4) ⊎ (status ≡ 7)
+over_case : (how : Reading) (name : Option Wanted) (s : SourceChange) (status : ℕ) (text b : List ℕ) (what : Limit) (n : ℕ) → IsOutcome how name s status text → s.left ≡ Some b → length b ≤ input_limit → IsOverAt (lines_of b) what n → (Rose s.faults s.later → ⊥) → (status ≡ 4) ⊎ (status ≡ 7)
 over_case how name s status text b what n (Done k p came h f) e l over quiet = absurd (never_large how s b k what n e over came)
 over_case how name s status text b what n (None' q) e l over quiet = over_stop how name s status text b what n q e l over quiet
 over_case how name s status text b what n (Wanting p) e l over quiet = inr p

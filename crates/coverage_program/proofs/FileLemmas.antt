@@ -27,7 +27,7 @@ use Rattle.coverage_program.specs.Inputs.{CameWhole, CameJob, CameFirst}
 use Rattle.coverage_program.specs.Named.{session_number}
 use Rattle.coverage_program.specs.Refusals.{RefusalView, refusal, Match}
 use Rattle.coverage_program.specs.Reports.{Records}
-use Rattle.coverage_program.specs.Words.{to_run, to_go_on, no_memory_line, bad_marks_line, other_table_line}
+use Rattle.coverage_program.specs.Words.{to_end, to_go_on, no_memory_line, bad_marks_line, other_table_line}
 
 -- files that were united, and files that weren't
 pub united : (s : SourceChange) (bytes : List ℕ) (marks : MarksView) (a : Account) (k : SinkChange) (answer : ℕ) →
@@ -160,13 +160,14 @@ pub records : (j : JobView) (tables : TablesView) (before after : Account) (task
     marks ≡ session_file j tables (λ p. set_in sets s p) s → Records j tables l.ran.sets s (file_bytes Second marks)
 records j tables before after tasks sets s marks l o from to is = record {
   sets = λ p. set_in sets s p;
-  are_sets = λ p here seen. o.are_sets s p from to here seen;
+  are_sets = λ p here whole seen. o.are_sets s p from to here whole seen;
+  are_bounded = λ p by here controls seen. o.are_bounded s p by from to here controls seen;
   are_final = λ p here. set_is_left solo j tables.places before after sets s p l o.job o.size here;
   is_text = ap (file_bytes Second) is;
 }
 
 pub recorded : (name : List ℕ) (s : SourceChange) (j : JobView) (tables : TablesView) (number : ℕ) (a : AreasChange) (k : SinkChange) (answer : ℕ) (text : List ℕ) →
-    CameJob to_run s j → Match j tables.tables → tables.places ≡ all_places tables.tables → session_number j name ≡ Some number → (run : HasRun j tables.places a.before a.after) → Records j tables run.sets number text → IsWritten 0 text k answer →
+    CameJob to_end s j → Match j tables.tables → tables.places ≡ all_places tables.tables → session_number j name ≡ Some number → (run : HasRun j tables.places a.before a.after) → Records j tables run.sets number text → IsWritten 0 text k answer →
     Answers (Marks name) s a k answer
 recorded name s j tables number a k answer text came match' numbered is ran recs told = record {
   status = 0;

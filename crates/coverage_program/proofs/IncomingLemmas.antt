@@ -5,7 +5,7 @@ use Rattle.std.specs.Io.KnownBytes.{Consumes}
 use Rattle.cov_outside.specs.Whole.{HasMoreThan}
 use Rattle.cov_outside.proofs.Pieces.{consumes-trans}
 use Rattle.session_book.specs.JobView.{JobView}
-use Rattle.job_text.specs.Drafts.{Controllers, asked}
+use Rattle.job_text.specs.Drafts.{Present}
 use Rattle.job_text.specs.Limits.{IsWithin}
 use Rattle.job_text.specs.Lines.{lines_of}
 use Rattle.job_text.specs.Pieces.{IsEnded}
@@ -71,7 +71,7 @@ over_none before [] a b was some same o = append-nil {A = ℕ} before ∙ was (s
 over_none before (x ∷ xs) a b was some same o = let yes' : b ≡ true = some (omega arith) in let no' : true ≡ false = sym yes' ∙ o in absurd cc
 
 -- bytes behind the job
-pub come_kept : (all fed before behind : List ℕ) (i j : Incoming) → all ≡ fed ++ (before ++ behind) → IsFed fed j.reader → has_ended j.reader ≡ true → SpellJob j.reader.by fed →
+pub come_kept : (all fed before behind : List ℕ) (i j : Incoming) → all ≡ fed ++ (before ++ behind) → IsFed fed j.reader → has_ended j.reader ≡ true → SpellJob fed →
     (i.over ≡ true → 0 < length before) → (i.over ≡ false → before ≡ []) → (i.more ≡ true → i.rest.items ≡ before) →
     j.more ≡ i.more → (0 < length behind → j.over ≡ true) → (behind ≡ [] → j.over ≡ i.over) → (i.more ≡ true → j.rest.items ≡ i.rest.items ++ behind) → HasCome all j
 come_kept all fed before behind i j whole is_fed ended job over none kept more some same rest = record {
@@ -89,11 +89,11 @@ come_kept all fed before behind i j whole is_fed ended job over none kept more s
 -- more of them
 pub keep_more : (bytes piece : List ℕ) (i j : Incoming) → HasCome bytes i → has_ended i.reader ≡ true → j.reader ≡ i.reader → j.more ≡ i.more → (0 < length piece → j.over ≡ true) → (piece ≡ [] → j.over ≡ i.over) → (i.more ≡ true → j.rest.items ≡ i.rest.items ++ piece) → HasCome (bytes ++ piece) j
 keep_more bytes piece i j h ended reader more some same rest =
-    come_kept (bytes ++ piece) h.fed h.behind piece i j (ap (λ (x : List ℕ). x ++ piece) h.whole ∙ append_assoc h.fed h.behind piece) (subst (IsFed h.fed) (sym reader) h.is_fed) (ap has_ended reader ∙ ended) (subst (λ (r : Reader). SpellJob r.by h.fed) (sym reader) (h.ended ended))
+    come_kept (bytes ++ piece) h.fed h.behind piece i j (ap (λ (x : List ℕ). x ++ piece) h.whole ∙ append_assoc h.fed h.behind piece) (subst (IsFed h.fed) (sym reader) h.is_fed) (ap has_ended reader ∙ ended) (h.ended ended)
     h.over h.none h.kept more some same rest
 
 -- the first of them
-pub end_more : (bytes piece : List ℕ) (used : ℕ) (i j : Incoming) (h : HasCome bytes i) → has_ended i.reader ≡ false → IsFed (h.fed ++ take used piece) j.reader → has_ended j.reader ≡ true → IsEnded (asked j.reader.by) h.fed piece used → j.more ≡ i.more →
+pub end_more : (bytes piece : List ℕ) (used : ℕ) (i j : Incoming) (h : HasCome bytes i) → has_ended i.reader ≡ false → IsFed (h.fed ++ take used piece) j.reader → has_ended j.reader ≡ true → IsEnded h.fed piece used → j.more ≡ i.more →
     (0 < length (take (length piece - used) (drop used piece)) → j.over ≡ true) → (take (length piece - used) (drop used piece) ≡ [] → j.over ≡ i.over) → (i.more ≡ true → j.rest.items ≡ i.rest.items ++ take (length piece - used) (drop used piece)) → HasCome (bytes ++ piece) j
 end_more bytes piece used i j h before fed ended e more some same rest =
     let none : h.behind ≡ [] = h.reading before in
@@ -109,7 +109,7 @@ pub keep_on : {T E : Type 0} (bytes piece : List ℕ) (i j : Incoming) (r : Resu
 keep_on bytes piece i j (Ok v) h ended reader more some same rest = keep_more bytes piece i j h ended reader more some same rest
 keep_on bytes piece i j (Err e) h ended reader more some same rest = tt
 
-pub end_on : {T E : Type 0} (bytes piece : List ℕ) (used : ℕ) (i j : Incoming) (r : Result T E) (h : HasCome bytes i) → has_ended i.reader ≡ false → IsFed (h.fed ++ take used piece) j.reader → has_ended j.reader ≡ true → IsEnded (asked j.reader.by) h.fed piece used → j.more ≡ i.more →
+pub end_on : {T E : Type 0} (bytes piece : List ℕ) (used : ℕ) (i j : Incoming) (r : Result T E) (h : HasCome bytes i) → has_ended i.reader ≡ false → IsFed (h.fed ++ take used piece) j.reader → has_ended j.reader ≡ true → IsEnded h.fed piece used → j.more ≡ i.more →
     (0 < length (take (length piece - used) (drop used piece)) → j.over ≡ true) → (take (length piece - used) (drop used piece) ≡ [] → j.over ≡ i.over) → OnOk r (i.more ≡ true → j.rest.items ≡ i.rest.items ++ take (length piece - used) (drop used piece)) →
     OnOk r (HasCome (bytes ++ piece) j)
 end_on bytes piece used i j (Ok v) h before fed ended e more some same rest = end_more bytes piece used i j h before fed ended e more some same rest
@@ -152,34 +152,34 @@ reached_over (Some xs) (Some ys) turns room i h over = omega (arith, over, h.siz
 
 -- the job was read
 
-abbrev Only : Controllers → List ℕ → Result ReadJob JobFault → Type 0
-Only ask bytes res = (n : ℕ) (j : JobView) → n ≤ length (lines_of bytes) → Spells ask (take n (lines_of bytes)) j → IsWithin j → IsOnly n j res
+abbrev Only : List ℕ → Result ReadJob JobFault → Type 0
+Only bytes res = (n : ℕ) (j : JobView) → n ≤ length (lines_of bytes) → Spells Present (take n (lines_of bytes)) j → IsWithin j → IsOnly n j res
 
 fed_alone : (bytes : List ℕ) (i : Incoming) (h : HasCome bytes i) → has_ended i.reader ≡ false → h.fed ≡ bytes
 fed_alone bytes i h reading = sym (h.whole ∙ (rw (h.reading reading) (append-nil {A = ℕ} h.fed)))
 
-read_by : (q : Bool) (bytes : List ℕ) (i : Incoming) (r : ReadJob) (h : HasCome bytes i) → has_ended i.reader ≡ q → IsRead i.reader.by h.fed r → r.end ≡ length h.fed → IsRead i.reader.by bytes r
-read_by true bytes i r h e read end = rw h.whole (read_longer i.reader.by h.fed h.behind r (h.ended e).closed read end)
-read_by false bytes i r h e read end = subst (λ (x : List ℕ). IsRead i.reader.by x r) (fed_alone bytes i h e) read
+read_by : (q : Bool) (bytes : List ℕ) (i : Incoming) (r : ReadJob) (h : HasCome bytes i) → has_ended i.reader ≡ q → IsRead h.fed r → r.end ≡ length h.fed → IsRead bytes r
+read_by true bytes i r h e read end = rw h.whole (read_longer h.fed h.behind r (h.ended e).closed read end)
+read_by false bytes i r h e read end = subst (λ (x : List ℕ). IsRead x r) (fed_alone bytes i h e) read
 
-pub come_read : (bytes : List ℕ) (i : Incoming) (r : ReadJob) (h : HasCome bytes i) → IsRead i.reader.by h.fed r → r.end ≡ length h.fed → IsRead i.reader.by bytes r
+pub come_read : (bytes : List ℕ) (i : Incoming) (r : ReadJob) (h : HasCome bytes i) → IsRead h.fed r → r.end ≡ length h.fed → IsRead bytes r
 come_read bytes i r h read end = read_by (has_ended i.reader) bytes i r h refl read end
 
-only_by : (q : Bool) (bytes : List ℕ) (i : Incoming) (res : Result ReadJob JobFault) (h : HasCome bytes i) → has_ended i.reader ≡ q → Only (asked i.reader.by) h.fed res → Only (asked i.reader.by) bytes res
-only_by true bytes i res h e only = rw h.whole (only_longer (asked i.reader.by) h.fed h.behind (h.ended e).job res (h.ended e).closed (h.ended e).spells only)
-only_by false bytes i res h e only = subst (λ (x : List ℕ). Only (asked i.reader.by) x res) (fed_alone bytes i h e) only
+only_by : (q : Bool) (bytes : List ℕ) (i : Incoming) (res : Result ReadJob JobFault) (h : HasCome bytes i) → has_ended i.reader ≡ q → Only h.fed res → Only bytes res
+only_by true bytes i res h e only = rw h.whole (only_longer h.fed h.behind (h.ended e).job res (h.ended e).closed (h.ended e).spells only)
+only_by false bytes i res h e only = subst (λ (x : List ℕ). Only x res) (fed_alone bytes i h e) only
 
 pub come_only : (bytes : List ℕ) (i : Incoming) (res : Result ReadJob JobFault) (h : HasCome bytes i) →
-    ((n : ℕ) (j : JobView) → n ≤ length (lines_of h.fed) → Spells (asked i.reader.by) (take n (lines_of h.fed)) j → IsWithin j → IsOnly n j res) →
-    (n : ℕ) (j : JobView) → n ≤ length (lines_of bytes) → Spells (asked i.reader.by) (take n (lines_of bytes)) j → IsWithin j → IsOnly n j res
+    ((n : ℕ) (j : JobView) → n ≤ length (lines_of h.fed) → Spells Present (take n (lines_of h.fed)) j → IsWithin j → IsOnly n j res) →
+    (n : ℕ) (j : JobView) → n ≤ length (lines_of bytes) → Spells Present (take n (lines_of bytes)) j → IsWithin j → IsOnly n j res
 come_only bytes i res h only = only_by (has_ended i.reader) bytes i res h refl only
 
-fault_by : (q : Bool) (bytes : List ℕ) (i : Incoming) (res : Result ReadJob JobFault) (h : HasCome bytes i) → has_ended i.reader ≡ q → Only (asked i.reader.by) h.fed res → IfErr res (IsRefusal (asked i.reader.by) (lines_of h.fed)) → IfErr res (IsRefusal (asked i.reader.by) (lines_of bytes))
-fault_by true bytes i res h e only bad = rw h.whole (fault_longer (asked i.reader.by) h.fed h.behind (h.ended e).job res (h.ended e).spells (h.ended e).within only)
-fault_by false bytes i res h e only bad = subst (λ (x : List ℕ). IfErr res (IsRefusal (asked i.reader.by) (lines_of x))) (fed_alone bytes i h e) bad
+fault_by : (q : Bool) (bytes : List ℕ) (i : Incoming) (res : Result ReadJob JobFault) (h : HasCome bytes i) → has_ended i.reader ≡ q → Only h.fed res → IfErr res (IsRefusal (lines_of h.fed)) → IfErr res (IsRefusal (lines_of bytes))
+fault_by true bytes i res h e only bad = rw h.whole (fault_longer h.fed h.behind (h.ended e).job res (h.ended e).spells (h.ended e).within only)
+fault_by false bytes i res h e only bad = subst (λ (x : List ℕ). IfErr res (IsRefusal (lines_of x))) (fed_alone bytes i h e) bad
 
 pub come_fault : (bytes : List ℕ) (i : Incoming) (res : Result ReadJob JobFault) (h : HasCome bytes i) →
-    ((n : ℕ) (j : JobView) → n ≤ length (lines_of h.fed) → Spells (asked i.reader.by) (take n (lines_of h.fed)) j → IsWithin j → IsOnly n j res) → IfErr res (IsRefusal (asked i.reader.by) (lines_of h.fed)) → IfErr res (IsRefusal (asked i.reader.by) (lines_of bytes))
+    ((n : ℕ) (j : JobView) → n ≤ length (lines_of h.fed) → Spells Present (take n (lines_of h.fed)) j → IsWithin j → IsOnly n j res) → IfErr res (IsRefusal (lines_of h.fed)) → IfErr res (IsRefusal (lines_of bytes))
 come_fault bytes i res h only bad = fault_by (has_ended i.reader) bytes i res h refl only bad
 
 -- this stands behind it
@@ -187,10 +187,10 @@ pub come_behind : (bytes : List ℕ) (i : Incoming) (r : ReadJob) (h : HasCome b
 come_behind bytes i r h more end = h.kept more ∙ (rw (h.whole, end) (sym (drop-append_seam h.fed h.behind)))
 
 -- a line behind it is bad
-pub come_over : (bytes : List ℕ) (i : Incoming) (r : ReadJob) (h : HasCome bytes i) → i.over ≡ true → IsRead i.reader.by h.fed r → r.end ≡ length h.fed → IsBadAt (asked i.reader.by) (lines_of bytes) (r.lines + 1)
+pub come_over : (bytes : List ℕ) (i : Incoming) (r : ReadJob) (h : HasCome bytes i) → i.over ≡ true → IsRead h.fed r → r.end ≡ length h.fed → IsBadAt (lines_of bytes) (r.lines + 1)
 come_over bytes i r h over read end =
     let size : length bytes ≡ length h.fed + length h.behind = ap (λ (x : List ℕ). length x) h.whole ∙ length-append h.fed h.behind in
-    bad_behind i.reader.by bytes r (come_read bytes i r h read end) (omega (arith, size, end, h.over over))
+    bad_behind bytes r (come_read bytes i r h read end) (omega (arith, size, end, h.over over))
 
 pub came_job : (how : Reading) (s : SourceChange) (j : JobView) (count : ℕ) (rest : List ℕ) → CameWith how s j count rest → CameJob how s j
 came_job how s j count rest c = record { bytes = c.bytes; came = c.first.came; has = c.first.has }

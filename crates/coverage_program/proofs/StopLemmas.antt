@@ -6,7 +6,7 @@ use Rattle.cov_outside.specs.Whole.{IsWhole, HasMoreThan}
 use Rattle.session_book.specs.JobView.{JobView}
 use Rattle.session_book.specs.Sessions.{session_of}
 use Rattle.job_text.specs.Lines.{LineView, lines_of}
-use Rattle.job_text.specs.Drafts.{Controllers, asked}
+use Rattle.job_text.specs.Drafts.{Present}
 use Rattle.job_text.specs.Refusals.{IsBadAt, IsOverAt}
 use Rattle.job_text.specs.declared.limit.Limit.{Limit}
 use Rattle.job_text.proofs.Excluded.{never_over_first}
@@ -35,7 +35,7 @@ came_is s b bytes e c = all_of b bytes s.rest (subst (λ (o : Option (List ℕ))
 pub same_job : (how : Reading) (s : SourceChange) (b : List ℕ) (j k : JobView) → s.left ≡ Some b → HasJob how (lines_of b) j → CameJob how s k → j ≡ k
 same_job how s b j k e has c =
     let other : HasJob how (lines_of b) k = subst (λ (t : List ℕ). HasJob how (lines_of t) k) (sym (came_is s b c.bytes e c.came)) c.has in
-    (one_first (asked how.by) (lines_of b) has.count other.count j k has.inside other.inside has.spells other.spells).1
+    (one_first Present (lines_of b) has.count other.count j k has.inside other.inside has.spells other.spells).1
 
 pub not_both : (b : Bool) → b ≡ true → b ≡ false → ⊥
 not_both b p q = let e : true ≡ false = sym p ∙ q in absurd cc
@@ -43,11 +43,11 @@ not_both b p q = let e : true ≡ false = sym p ∙ q in absurd cc
 pub not_more : (s : SourceChange) (b : List ℕ) → s.left ≡ Some b → length b ≤ input_limit → HasMoreThan s.left input_limit → ⊥
 not_more s b e l h = let more : HasMoreThan (Some b) input_limit = subst (λ (o : Option (List ℕ)). HasMoreThan o input_limit) e h in absurd (omega arith)
 
-pub over_there : (ask : Controllers) (s : SourceChange) (b bytes : List ℕ) (what : Limit) (n : ℕ) → s.left ≡ Some b → CameWhole s bytes → IsOverAt ask (lines_of bytes) what n → IsOverAt ask (lines_of b) what n
-over_there ask s b bytes what n e came over = subst (λ (x : List ℕ). IsOverAt ask (lines_of x) what n) (sym (came_is s b bytes e came)) over
+pub over_there : (s : SourceChange) (b bytes : List ℕ) (what : Limit) (n : ℕ) → s.left ≡ Some b → CameWhole s bytes → IsOverAt (lines_of bytes) what n → IsOverAt (lines_of b) what n
+over_there s b bytes what n e came over = subst (λ (x : List ℕ). IsOverAt (lines_of x) what n) (sym (came_is s b bytes e came)) over
 
-pub bad_there : (ask : Controllers) (s : SourceChange) (b bytes : List ℕ) (n : ℕ) → s.left ≡ Some b → CameWhole s bytes → IsBadAt ask (lines_of bytes) n → IsBadAt ask (lines_of b) n
-bad_there ask s b bytes n e came bad = subst (λ (x : List ℕ). IsBadAt ask (lines_of x) n) (sym (came_is s b bytes e came)) bad
+pub bad_there : (s : SourceChange) (b bytes : List ℕ) (n : ℕ) → s.left ≡ Some b → CameWhole s bytes → IsBadAt (lines_of bytes) n → IsBadAt (lines_of b) n
+bad_there s b bytes n e came bad = subst (λ (x : List ℕ). IsBadAt (lines_of x) n) (sym (came_is s b bytes e came)) bad
 
 pub has_there : (how : Reading) (s : SourceChange) (b bytes : List ℕ) (j : JobView) → s.left ≡ Some b → CameWhole s bytes → HasJob how (lines_of bytes) j → HasJob how (lines_of b) j
 has_there how s b bytes j e came has = subst (λ (x : List ℕ). HasJob how (lines_of x) j) (sym (came_is s b bytes e came)) has
@@ -56,8 +56,8 @@ pub has_here : (how : Reading) (s : SourceChange) (b bytes : List ℕ) (j : JobV
 has_here how s b bytes j e came has = subst (λ (x : List ℕ). HasJob how (lines_of x) j) (came_is s b bytes e came) has
 
 -- a job within the limits passes none
-pub none_over : (how : Reading) (ls : List LineView) (j : JobView) (what : Limit) (n : ℕ) → HasJob how ls j → IsOverAt (asked how.by) ls what n → ⊥
-none_over how ls j what n has over = never_over_first (asked how.by) ls has.count j what n has.inside has.spells has.within over
+pub none_over : (how : Reading) (ls : List LineView) (j : JobView) (what : Limit) (n : ℕ) → HasJob how ls j → IsOverAt ls what n → ⊥
+none_over how ls j what n has over = never_over_first ls has.count j what n has.inside has.spells has.within over
 
 -- a session that was named is there or is missing
 pub not_named : (name : Option Wanted) (j : JobView) (wanted : Wanted) → name ≡ Some wanted → session_number j wanted.name ≡ None → HasNamed name j → ⊥
@@ -104,7 +104,7 @@ missing_or_there how name s b j k v w number e has came p q none is =
 -- why no job was come to, where the input has one whose listings match
 pub matched_stop : (how : Reading) (name : Option Wanted) (s : SourceChange) (status : ℕ) (text b : List ℕ) (j : JobView) → IsStopped true how name s status text → s.left ≡ Some b → length b ≤ input_limit → HasJob how (lines_of b) j → HasNamed name j → job_refusal j ≡ None → (Rose s.faults s.later → ⊥) → (status ≡ 7) × (text ≡ no_memory_line)
 matched_stop how name s status text b j (BadJob t p r) e l has named none quiet = absurd (r.jobless j (has_here how s b r.bytes j e r.came has))
-matched_stop how name s status text b j (LargeJob t p r) e l has named none quiet = absurd (none_over how (lines_of b) j r.what r.line has (over_there (asked how.by) s b r.bytes r.what r.line e r.came r.first_over))
+matched_stop how name s status text b j (LargeJob t p r) e l has named none quiet = absurd (none_over how (lines_of b) j r.what r.line has (over_there s b r.bytes r.what r.line e r.came r.first_over))
 matched_stop how name s status text b j (NoSession t p r) e l has named none quiet = absurd (one_missing how name s b j r.job r.wanted e has r.came r.named r.missing named)
 matched_stop how name s status text b j (Controlled t p r) e l has named none quiet = absurd (one_controlled how name s b text j e has r named)
 matched_stop how name s status text b j (BadListing t r) e l has named none quiet =
@@ -116,7 +116,7 @@ matched_stop how name s status text b j (WantOfMemory p) e l has named none quie
 pub refused_stop : (how : Reading) (name : Option Wanted) (s : SourceChange) (status : ℕ) (text b : List ℕ) (j : JobView) (r : RefusalView) → IsStopped true how name s status text → s.left ≡ Some b → length b ≤ input_limit → HasJob how (lines_of b) j → HasNamed name j → job_refusal j ≡ Some r → (Rose s.faults s.later → ⊥) →
     (status ≡ r.status) ⊎ (status ≡ 7)
 refused_stop how name s status text b j r (BadJob t p q) e l has named some quiet = absurd (q.jobless j (has_here how s b q.bytes j e q.came has))
-refused_stop how name s status text b j r (LargeJob t p q) e l has named some quiet = absurd (none_over how (lines_of b) j q.what q.line has (over_there (asked how.by) s b q.bytes q.what q.line e q.came q.first_over))
+refused_stop how name s status text b j r (LargeJob t p q) e l has named some quiet = absurd (none_over how (lines_of b) j q.what q.line has (over_there s b q.bytes q.what q.line e q.came q.first_over))
 refused_stop how name s status text b j r (NoSession t p q) e l has named some quiet = absurd (one_missing how name s b j q.job q.wanted e has q.came q.named q.missing named)
 refused_stop how name s status text b j r (Controlled t p q) e l has named some quiet = absurd (one_controlled how name s b text j e has q named)
 refused_stop how name s status text b j r (BadListing t q) e l has named some quiet =
@@ -133,9 +133,9 @@ HasNone how b = (j : JobView) → HasJob how (lines_of b) j → ⊥
 pub never_came : (how : Reading) (s : SourceChange) (b : List ℕ) (j : JobView) → s.left ≡ Some b → HasNone how b → CameJob how s j → ⊥
 never_came how s b j e none came = none j (has_there how s b came.bytes j e came.came came.has)
 
-pub bad_stop : (how : Reading) (name : Option Wanted) (s : SourceChange) (status : ℕ) (text b : List ℕ) (n : ℕ) → IsStopped true how name s status text → s.left ≡ Some b → length b ≤ input_limit → IsBadAt (asked how.by) (lines_of b) n → HasNone how b → (Rose s.faults s.later → ⊥) → (status ≡ 2) ⊎ (status ≡ 7)
+pub bad_stop : (how : Reading) (name : Option Wanted) (s : SourceChange) (status : ℕ) (text b : List ℕ) (n : ℕ) → IsStopped true how name s status text → s.left ≡ Some b → length b ≤ input_limit → IsBadAt (lines_of b) n → HasNone how b → (Rose s.faults s.later → ⊥) → (status ≡ 2) ⊎ (status ≡ 7)
 bad_stop how name s status text b n (BadJob t p q) e l bad none quiet = inl p
-bad_stop how name s status text b n (LargeJob t p q) e l bad none quiet = absurd (excluded.not_both (asked how.by) (lines_of b) q.what n q.line bad (over_there (asked how.by) s b q.bytes q.what q.line e q.came q.first_over))
+bad_stop how name s status text b n (LargeJob t p q) e l bad none quiet = absurd (excluded.not_both (lines_of b) q.what n q.line bad (over_there s b q.bytes q.what q.line e q.came q.first_over))
 bad_stop how name s status text b n (NoSession t p q) e l bad none quiet = absurd (never_came how s b q.job e none q.came)
 bad_stop how name s status text b n (Controlled t p q) e l bad none quiet = absurd (never_came how s b q.job e none q.came)
 bad_stop how name s status text b n (BadListing t q) e l bad none quiet = absurd (never_came how s b q.job e none q.came)
@@ -143,11 +143,11 @@ bad_stop how name s status text b n (LargeInput p) e l bad none quiet = absurd (
 bad_stop how name s status text b n (ReadFault p) e l bad none quiet = absurd (quiet p.2)
 bad_stop how name s status text b n (WantOfMemory p) e l bad none quiet = inr p.0
 
-pub never_large : (how : Reading) (s : SourceChange) (b : List ℕ) (j : JobView) (what : Limit) (n : ℕ) → s.left ≡ Some b → IsOverAt (asked how.by) (lines_of b) what n → CameJob how s j → ⊥
+pub never_large : (how : Reading) (s : SourceChange) (b : List ℕ) (j : JobView) (what : Limit) (n : ℕ) → s.left ≡ Some b → IsOverAt (lines_of b) what n → CameJob how s j → ⊥
 never_large how s b j what n e over came = none_over how (lines_of b) j what n (has_there how s b came.bytes j e came.came came.has) over
 
-pub over_stop : (how : Reading) (name : Option Wanted) (s : SourceChange) (status : ℕ) (text b : List ℕ) (what : Limit) (n : ℕ) → IsStopped true how name s status text → s.left ≡ Some b → length b ≤ input_limit → IsOverAt (asked how.by) (lines_of b) what n → (Rose s.faults s.later → ⊥) → (status ≡ 4) ⊎ (status ≡ 7)
-over_stop how name s status text b what n (BadJob t p q) e l over quiet = absurd (excluded.not_both (asked how.by) (lines_of b) what q.line n (bad_there (asked how.by) s b q.bytes q.line e q.came q.first_bad) over)
+pub over_stop : (how : Reading) (name : Option Wanted) (s : SourceChange) (status : ℕ) (text b : List ℕ) (what : Limit) (n : ℕ) → IsStopped true how name s status text → s.left ≡ Some b → length b ≤ input_limit → IsOverAt (lines_of b) what n → (Rose s.faults s.later → ⊥) → (status ≡ 4) ⊎ (status ≡ 7)
+over_stop how name s status text b what n (BadJob t p q) e l over quiet = absurd (excluded.not_both (lines_of b) what q.line n (bad_there s b q.bytes q.line e q.came q.first_bad) over)
 over_stop how name s status text b what n (LargeJob t p q) e l over quiet = inl p
 over_stop how name s status text b what n (NoSession t p q) e l over quiet = absurd (never_large how s b q.job what n e over q.came)
 over_stop how name s status text b what n (Controlled t p q) e l over quiet = absurd (never_large how s b q.job what n e over q.came)
@@ -172,7 +172,7 @@ large_stop job how name s status text b (WantOfMemory p) e l quiet = inr p.0
 pub missing_stop : (how : Reading) (name : Option Wanted) (s : SourceChange) (status : ℕ) (text b : List ℕ) (j : JobView) (wanted : Wanted) → IsStopped true how name s status text → s.left ≡ Some b → length b ≤ input_limit → HasJob how (lines_of b) j → name ≡ Some wanted → session_number j wanted.name ≡ None → (Rose s.faults s.later → ⊥) →
     (status ≡ 13) ⊎ (status ≡ 7)
 missing_stop how name s status text b j wanted (BadJob t p q) e l has n none quiet = absurd (q.jobless j (has_here how s b q.bytes j e q.came has))
-missing_stop how name s status text b j wanted (LargeJob t p q) e l has n none quiet = absurd (none_over how (lines_of b) j q.what q.line has (over_there (asked how.by) s b q.bytes q.what q.line e q.came q.first_over))
+missing_stop how name s status text b j wanted (LargeJob t p q) e l has n none quiet = absurd (none_over how (lines_of b) j q.what q.line has (over_there s b q.bytes q.what q.line e q.came q.first_over))
 missing_stop how name s status text b j wanted (NoSession t p q) e l has n none quiet = inl p
 missing_stop how name s status text b j wanted (Controlled t p q) e l has n none quiet = absurd (missing_or_there how name s b j q.job wanted q.wanted q.number e has q.came n q.named none q.is_number)
 missing_stop how name s status text b j wanted (BadListing t q) e l has n none quiet =
@@ -184,7 +184,7 @@ missing_stop how name s status text b j wanted (WantOfMemory p) e l has n none q
 pub controlled_stop : (how : Reading) (name : Option Wanted) (s : SourceChange) (status : ℕ) (text b : List ℕ) (j : JobView) (wanted : Wanted) (number : ℕ) → IsStopped true how name s status text → s.left ≡ Some b → length b ≤ input_limit → HasJob how (lines_of b) j → name ≡ Some wanted → wanted.whole ≡ true → session_number j wanted.name ≡ Some number →
     IsSome (session_of j number).by → (Rose s.faults s.later → ⊥) → (status ≡ 14) ⊎ (status ≡ 7)
 controlled_stop how name s status text b j wanted number (BadJob t p q) e l has n whole is by quiet = absurd (q.jobless j (has_here how s b q.bytes j e q.came has))
-controlled_stop how name s status text b j wanted number (LargeJob t p q) e l has n whole is by quiet = absurd (none_over how (lines_of b) j q.what q.line has (over_there (asked how.by) s b q.bytes q.what q.line e q.came q.first_over))
+controlled_stop how name s status text b j wanted number (LargeJob t p q) e l has n whole is by quiet = absurd (none_over how (lines_of b) j q.what q.line has (over_there s b q.bytes q.what q.line e q.came q.first_over))
 controlled_stop how name s status text b j wanted number (NoSession t p q) e l has n whole is by quiet = absurd (there_or_missing how name s b j q.job wanted q.wanted number e has q.came n q.named is q.missing)
 controlled_stop how name s status text b j wanted number (Controlled t p q) e l has n whole is by quiet = inl p
 controlled_stop how name s status text b j wanted number (BadListing t q) e l has n whole is by quiet =

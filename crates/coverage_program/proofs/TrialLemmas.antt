@@ -3,7 +3,7 @@ use Rattle.std.proofs.Common.{◌≡◌, inl, inr, ℕ, ◌≤◌, true, false, 
 use Rattle.std.proofs.lemmas.List.Elements.{All-cons, All-nil}
 use Rattle.std.proofs.lemmas.List.FromFn.{length-map-range_with_len}
 use Rattle.brk_table.specs.Places.{TablesView, all_places}
-use Rattle.job_gen.specs.Trial.{trial_code, trial_module, trial_task, trial_session, trial_job}
+use Rattle.job_gen.specs.Trial.{trial_code, trial_module, trial_task, trial_job}
 use Rattle.job_gen.specs.Listing.{listing_of}
 use Rattle.job_gen.proofs.MatchLemmas.{trial_lines, trial_listing, trial_matches, trial_listing_size}
 use Rattle.job_run.specs.Outcomes.{IsOutcome}
@@ -11,8 +11,7 @@ use Rattle.job_run.specs.Runs.{HasLeft}
 use Rattle.job_run.specs.Sets.{SetsView, set_in}
 use Rattle.job_run.specs.Tasks.{results_of}
 use Rattle.job_run.specs.declared.outcome.Done.{Done}
-use Rattle.session_book.specs.JobView.{JobView, SessionView}
-use Rattle.session_book.specs.Sessions.{is_whole, AreWhole}
+use Rattle.session_book.specs.JobView.{JobView}
 use Rattle.report_text.specs.Conditions.{HasFewLines}
 use Rattle.report_text.specs.Trial.{trial_text}
 use Rattle.coverage_program.specs.Answers.{IsCause, Report, Recorded, Places, Replayed, BadSchedule, United, BadFile, OtherFile, Shown, BadShown, OtherShown, Proved, Checked, Usage, Stopped, NoMemoryToRun, Tried, NoMemoryToTry, IsWritten, Answers}
@@ -130,10 +129,6 @@ trial_few_lines number tasks =
 pub trial_tasks : (number tasks : ℕ) → length (trial_job number tasks).tasks ≡ tasks
 unfolding trial_job
 trial_tasks number tasks = length-map-range_with_len trial_task 1 tasks
-
-pub trial_whole : (number tasks : ℕ) → AreWhole (trial_job number tasks)
-unfolding trial_job
-trial_whole number tasks = All-cons (λ (s : SessionView). is_whole s ≡ true) trial_session [] refl (All-nil (λ (s : SessionView). is_whole s ≡ true))
 
 pub trial_sessions : (number tasks : ℕ) → length (trial_job number tasks).sessions ≡ 1
 unfolding trial_job

@@ -12,7 +12,6 @@ use Rattle.job_text.specs.declared.jobs.JobFault.{JobFault}
 use Rattle.job_text.specs.declared.jobs.JobFault.TheVariants as fault
 use Rattle.job_text.specs.declared.limit.Limit.{Limit}
 use Rattle.job_text.specs.Lines.{lines_of}
-use Rattle.job_text.specs.Drafts.{asked}
 use Rattle.job_text.specs.Refusals.{IsBadAt, IsOverAt}
 use Rattle.interleave_core.specs.World.{Parts}
 use Rattle.report_text.specs.Report.{report_of}
@@ -30,7 +29,7 @@ use Rattle.coverage_program.specs.Changes.{SourceChange, SinkChange, AreasChange
 use Rattle.coverage_program.specs.Reports.{Reports, Records}
 use Rattle.coverage_program.specs.Replay.{Play, Bad, Whole, IsRun, play_of, replay_text}
 use Rattle.coverage_program.specs.Trial.{IsUnread, IsTried}
-use Rattle.coverage_program.specs.Words.{reads_input, reads_job, Reading, to_run, to_list, to_go_on, reading_of, makes_areas, makes_job, session_named, Wanted, usage_line, too_large_input_line, read_fault_line, no_memory_line, bad_job_line, large_job_line, bad_schedule_line, no_session_line, controlled_line}
+use Rattle.coverage_program.specs.Words.{reads_input, reads_job, Reading, to_end, to_go_on, reading_of, makes_areas, makes_job, session_named, Wanted, usage_line, too_large_input_line, read_fault_line, no_memory_line, bad_job_line, large_job_line, bad_schedule_line, no_session_line, controlled_line}
 
 -- how a job that wasn't read is told
 abbrev pub fault_refusal : JobFault → RefusalView
@@ -48,7 +47,7 @@ read_refusal read.NoMemory = refusal 7 no_memory_line
 pub record IsReport (s : SourceChange) (a : AreasChange) (text : List ℕ) : Type 0 where
   pub job : JobView
   pub tables : TablesView
-  pub came : CameMatched to_run s job tables
+  pub came : CameMatched to_end s job tables
   pub ran : HasRun job tables.places a.before a.after
   pub reports : Reports job tables ran.sets (report_of job tables) text
 
@@ -57,7 +56,7 @@ pub record IsRecord (name : List ℕ) (s : SourceChange) (a : AreasChange) (text
   pub job : JobView
   pub tables : TablesView
   pub number : ℕ
-  pub came : CameMatched to_run s job tables
+  pub came : CameMatched to_end s job tables
   pub is_number : session_number job name ≡ Some number
   pub ran : HasRun job tables.places a.before a.after
   pub records : Records job tables ran.sets number text
@@ -66,7 +65,7 @@ pub record IsRecord (name : List ℕ) (s : SourceChange) (a : AreasChange) (text
 pub record IsPlacesText (s : SourceChange) (text : List ℕ) : Type 0 where
   pub job : JobView
   pub tables : TablesView
-  pub came : CameMatched to_list s job tables
+  pub came : CameMatched to_end s job tables
   pub is_text : text ≡ table_text job tables
 
 -- a job whose listings match, and how the schedule in the bytes behind it plays
@@ -102,7 +101,7 @@ pub record IsBadJob (how : Reading) (s : SourceChange) (text : List ℕ) : Type 
   pub bytes : List ℕ
   pub line : ℕ
   pub came : CameWhole s bytes
-  pub first_bad : IsBadAt (asked how.by) (lines_of bytes) line
+  pub first_bad : IsBadAt (lines_of bytes) line
   pub jobless : (j : JobView) → HasJob how (lines_of bytes) j → ⊥
   pub told : text ≡ bad_job_line line
 
@@ -112,7 +111,7 @@ pub record IsLargeJob (how : Reading) (s : SourceChange) (text : List ℕ) : Typ
   pub what : Limit
   pub line : ℕ
   pub came : CameWhole s bytes
-  pub first_over : IsOverAt (asked how.by) (lines_of bytes) what line
+  pub first_over : IsOverAt (lines_of bytes) what line
   pub told : text ≡ large_job_line what line
 
 -- no session of the job has the name

@@ -20,14 +20,14 @@ use Rattle.coverage_program.specs.Files.{HasRest}
 use Rattle.coverage_program.specs.Inputs.{CameMatched}
 use Rattle.coverage_program.specs.Named.{session_number}
 use Rattle.coverage_program.specs.Refusals.{RefusalView, refusal}
-use Rattle.coverage_program.specs.Words.{to_list, no_memory_line, bad_marks_line, other_table_line, bad_evidence_line, refuted_line, verified_line}
+use Rattle.coverage_program.specs.Words.{to_end, no_memory_line, bad_marks_line, other_table_line, bad_evidence_line, refuted_line, verified_line}
 
 -- the evidence of the facts of the session of this name, which has no controller, of a job whose listings match
 pub record IsProof (name : List ℕ) (s : SourceChange) (text : List ℕ) : Type 0 where
   pub job : JobView
   pub tables : TablesView
   pub number : ℕ
-  pub came : CameMatched to_list s job tables
+  pub came : CameMatched to_end s job tables
   pub is_number : session_number job name ≡ Some number
   pub whole : (session_of job number).by ≡ None
   pub is_text : text ≡ evidence job tables number

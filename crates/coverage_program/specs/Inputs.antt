@@ -3,7 +3,7 @@ use Rattle.std.specs.Prelude.{◌≡◌, ℕ, ◌≤◌, Bool, false, List, leng
 use Rattle.cov_outside.specs.Whole.{IsWhole}
 use Rattle.brk_table.specs.Places.{TablesView, all_places}
 use Rattle.session_book.specs.JobView.{JobView}
-use Rattle.job_text.specs.Drafts.{asked}
+use Rattle.job_text.specs.Drafts.{Present}
 use Rattle.job_text.specs.Limits.{IsWithin}
 use Rattle.job_text.specs.Lines.{LineView, lines_of}
 use Rattle.job_text.specs.Spells.{Spells}
@@ -26,7 +26,7 @@ pub record CameWhole (s : SourceChange) (bytes : List ℕ) : Type 0 where
 pub record HasJob (how : Reading) (all : List LineView) (j : JobView) : Type 0 where
   pub count : ℕ
   pub inside : count ≤ length all
-  pub spells : Spells (asked how.by) (take count all) j
+  pub spells : Spells Present (take count all) j
   pub within : IsWithin j
   pub over : how.more ≡ false → count ≡ length all
 

@@ -73,28 +73,22 @@ reads_job c = true
 
 -- how an input with a job is read
 pub record Reading : Type 0 where
-  -- sessions may have controllers
-  pub by : Bool
   -- more than a job may stand in it
   pub more : Bool
 
--- a job of whole sessions and nothing behind it; a job and nothing behind it; a job and what stands behind it
-abbrev pub to_run : Reading
-to_run = record { by = false; more = false }
-
-abbrev pub to_list : Reading
-to_list = record { by = true; more = false }
+-- a job and nothing behind it; a job and what stands behind it
+abbrev pub to_end : Reading
+to_end = record { more = false }
 
 abbrev pub to_go_on : Reading
-to_go_on = record { by = true; more = true }
+to_go_on = record { more = true }
 
 abbrev pub reading_of : Command → Reading
-reading_of Table = to_list
 reading_of Replay = to_go_on
 reading_of (Show name) = to_go_on
-reading_of (Prove name) = to_list
+reading_of (Prove name) = to_end
 reading_of (Verify name) = to_go_on
-reading_of c = to_run
+reading_of c = to_end
 
 -- a session that a command asks for by its name
 pub record Wanted : Type 0 where

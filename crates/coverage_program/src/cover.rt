@@ -12,8 +12,7 @@ ghost use Rattle.coverage_program.specs.Refusals.{Match};
 ghost use Rattle.coverage_program.specs.Untouched.{IsUntouched, IsReportCut};
 ghost use Rattle.job_run.specs.Runs.{Account};
 ghost use Rattle.report_text.specs.Conditions.{HasFewLines};
-ghost use Rattle.session_book.specs.Sessions.{AreWhole};
-ghost use Rattle.coverage_program.specs.Words.{command_of, without_areas, to_run, to_go_on, HasFewTasks};
+ghost use Rattle.coverage_program.specs.Words.{command_of, without_areas, to_end, to_go_on, HasFewTasks};
 
 use crate::combining::answer_combine;
 use crate::lines::{NO_MEMORY, USAGE, bad_schedule_line};
@@ -50,12 +49,11 @@ fn answer_tables<T: Threads + Wait + Sync, K: Sink, A: Areas, G: Gate + Sync>(
     gate: &G,
 ) -> Status
     requires few { HasFewLines job.now }
-    requires whole { AreWhole job.now }
     requires matching { Match job.now tables.now.tables }
     requires numbered { tables.now.places ≡ all_places tables.now.tables }
     requires places { All (IsIn job.now.images) tables.now.places }
     requires room { A.made areas.old < 2 ^ 61 }
-    ensures { (s : SourceChange) → CameJob to_run s job.now →
+    ensures { (s : SourceChange) → CameJob to_end s job.now →
         Answers Command.Run s (areas_change A.ledger A.finals A.made areas.old areas.new) (sink_change K.written K.faults sink.old sink.new) result.0 }
 {
     let outcome = match run_job(rt, alloc, areas, gate, job, tables) {
@@ -77,7 +75,7 @@ fn answer_run<T: Threads + Wait + Sync, S: Source, K: Sink, A: Areas, G: Gate + 
     requires { A.made areas.old < 2 ^ 61 }
     ensures { Answers Command.Run (source_change S.left S.faults source.old source.new) (areas_change A.ledger A.finals A.made areas.old areas.new) (sink_change K.written K.faults sink.old sink.new) result.0 }
 {
-    match make_ready(alloc, source, false, false) {
+    match make_ready(alloc, source, false) {
         Ok(read) => answer_tables(rt, alloc, &read.job, &read.tables, sink, areas, gate),
         Err(refusal) => told(sink, &refusal.line, refusal.status),
     }
@@ -98,13 +96,12 @@ fn answer_session<T: Threads + Wait + Sync, K: Sink, A: Areas, G: Gate + Sync>(
     requires from { 0 < s.0 }
     requires to { s.0 ≤ length job.now.sessions }
     requires own { AreTables job.now.images tables.now.tables }
-    requires whole { AreWhole job.now }
     requires matching { Match job.now tables.now.tables }
     requires numbered { tables.now.places ≡ all_places tables.now.tables }
     requires places { All (IsIn job.now.images) tables.now.places }
     requires number { session_number job.now name.now ≡ Some s.0 }
     requires room { A.made areas.old < 2 ^ 61 }
-    ensures { (c : SourceChange) → CameJob to_run c job.now →
+    ensures { (c : SourceChange) → CameJob to_end c job.now →
         Answers (Command.Marks name.now) c (areas_change A.ledger A.finals A.made areas.old areas.new) (sink_change K.written K.faults sink.old sink.new) result.0 }
 {
     // The memory of the marks is taken before a task runs.
@@ -135,7 +132,7 @@ fn answer_marks<T: Threads + Wait + Sync, S: Source, K: Sink, A: Areas, G: Gate 
     requires { A.made areas.old < 2 ^ 61 }
     ensures { Answers (Command.Marks name.now) (source_change S.left S.faults source.old source.new) (areas_change A.ledger A.finals A.made areas.old areas.new) (sink_change K.written K.faults sink.old sink.new) result.0 }
 {
-    let (read, session) = match make_named(alloc, source, false, false, name, false) {
+    let (read, session) = match make_named(alloc, source, false, name, false) {
         Ok(read) => read,
         Err(refusal) => return told(sink, &refusal.line, refusal.status),
     };
@@ -156,7 +153,7 @@ fn answer_marks<T: Threads + Wait + Sync, S: Source, K: Sink, A: Areas, G: Gate 
 fn answer_table<S: Source, K: Sink>(alloc: Global, source: &mut S, sink: &mut K) -> Status
     ensures { (a : Account) → Answers Command.Table (source_change S.left S.faults source.old source.new) (no_change a) (sink_change K.written K.faults sink.old sink.new) result.0 }
 {
-    let read = match make_ready(alloc, source, true, false) {
+    let read = match make_ready(alloc, source, false) {
         Ok(read) => read,
         Err(refusal) => return told(sink, &refusal.line, refusal.status),
     };
@@ -192,7 +189,7 @@ fn answer_schedule<K: Sink>(
 fn answer_replay<S: Source, K: Sink>(alloc: Global, source: &mut S, sink: &mut K) -> Status
     ensures { (a : Account) → Answers Command.Replay (source_change S.left S.faults source.old source.new) (no_change a) (sink_change K.written K.faults sink.old sink.new) result.0 }
 {
-    let read = match make_ready(alloc, source, true, true) {
+    let read = match make_ready(alloc, source, true) {
         Ok(read) => read,
         Err(refusal) => return told(sink, &refusal.line, refusal.status),
     };

@@ -3,7 +3,6 @@ ghost use Rattle.std.specs.Prelude.{◌≡◌, ◌≤◌, ◌<◌, ◌+◌, ◌+
 ghost use Rattle.cov_outside.specs.Causes.{Rose};
 ghost use Rattle.cov_outside.specs.Whole.{IsWhole, HasMoreThan};
 ghost use Rattle.session_book.specs.JobView.{JobView};
-ghost use Rattle.job_text.specs.Drafts.{asked};
 ghost use Rattle.job_text.specs.Lines.{lines_of};
 ghost use Rattle.job_text.specs.Refusals.{IsRead, IsRefusal};
 ghost use Rattle.job_text.specs.Taken.{fed_size};
@@ -26,14 +25,13 @@ pub struct Incoming {
 }
 
 impl Incoming {
-    /// Nothing has come. While `by` is false no session of the job may have a controller.
-    pub fn new(alloc: Global, by: bool, more: bool) -> Result<Incoming, NoMemory>
-        ensures by { IfOk result (λ i. i.reader.by ≡ by) }
+    /// Nothing has come.
+    pub fn new(alloc: Global, more: bool) -> Result<Incoming, NoMemory>
         ensures nothing { IfOk result (HasCome []) }
         ensures size { IfOk result (λ i. fed_size i.reader ≡ 0) }
         ensures more { IfOk result (λ i. i.more ≡ more) }
     {
-        let reader = JobReader::new(alloc, by)?;
+        let reader = JobReader::new(alloc)?;
         Ok(Incoming {
             reader,
             more,
@@ -64,7 +62,6 @@ impl Incoming {
         ensures come { (bytes : List ℕ) → HasCome bytes self.old → OnOk result (HasCome (bytes ++ piece.now) self.new) }
         ensures size { fed_size self.new.reader ≤ fed_size self.old.reader + length piece.now }
         ensures more { self.new.more ≡ self.old.more }
-        ensures by { self.new.reader.by ≡ self.old.reader.by }
     {
         if self.reader.has_ended() {
             return self.keep(piece);
@@ -82,7 +79,6 @@ impl Incoming {
         requires size { fed_size self.old.reader ≡ 0 }
         ensures come { IfOk result (λ _. (bytes : List ℕ) × IsWhole (S.left source.old) (S.left source.new) bytes × (length bytes ≤ INPUT_LIMIT) × HasCome bytes self.new) }
         ensures more { self.new.more ≡ self.old.more }
-        ensures by { self.new.reader.by ≡ self.old.reader.by }
         ensures large { IsErrOf result ReadFault.TooLarge → HasMoreThan (S.left source.old) INPUT_LIMIT }
         ensures failed { IsErrOf result ReadFault.Failed → Rose (S.faults source.old) (S.faults source.new) }
         ensures no_fault { OnOk result (S.faults source.new ≡ S.faults source.old) }
@@ -104,11 +100,11 @@ impl Incoming {
     /// The job, and the bytes behind it where more than a job may come. Where none may, `BadJob` at the line behind the job.
     pub fn finish(self, alloc: Global) -> Result<(ReadJob, Vec<u8>), JobFault>
         requires { (bytes : List ℕ) × HasCome bytes self × (length bytes ≤ INPUT_LIMIT) }
-        ensures read { (bytes : List ℕ) → HasCome bytes self → IfOk result (λ r. IsRead self.reader.by bytes r.0) }
+        ensures read { (bytes : List ℕ) → HasCome bytes self → IfOk result (λ r. IsRead bytes r.0) }
         ensures whole { (bytes : List ℕ) → HasCome bytes self → self.more ≡ false → IfOk result (λ r. r.0.end ≡ length bytes) }
         ensures behind { (bytes : List ℕ) → HasCome bytes self → self.more ≡ true → IfOk result (λ r. r.1.items ≡ drop r.0.end bytes) }
-        ensures fault { (bytes : List ℕ) → HasCome bytes self → IfErr result (IsRefusal (asked self.reader.by) (lines_of bytes)) }
-        ensures jobless { (bytes : List ℕ) → HasCome bytes self → IfErr result (λ e. (n : ℕ) → e ≡ JobFault.BadJob n → (j : JobView) → HasJob (record { by = self.reader.by; more = self.more }) (lines_of bytes) j → ⊥) }
+        ensures fault { (bytes : List ℕ) → HasCome bytes self → IfErr result (IsRefusal (lines_of bytes)) }
+        ensures jobless { (bytes : List ℕ) → HasCome bytes self → IfErr result (λ e. (n : ℕ) → e ≡ JobFault.BadJob n → (j : JobView) → HasJob (record { more = self.more }) (lines_of bytes) j → ⊥) }
     {
         let Incoming {
             reader,

@@ -6,7 +6,7 @@ ghost use Rattle.coverage_program.specs.Changes.{SourceChange, source_change, si
 ghost use Rattle.coverage_program.specs.Inputs.{CameJob};
 ghost use Rattle.coverage_program.specs.Named.{session_number};
 ghost use Rattle.coverage_program.specs.Refusals.{Match};
-ghost use Rattle.coverage_program.specs.Words.{to_list};
+ghost use Rattle.coverage_program.specs.Words.{to_end};
 ghost use Rattle.job_run.specs.Runs.{Account};
 ghost use Rattle.session_book.specs.Sessions.{session_of};
 
@@ -37,7 +37,7 @@ fn answer_evidence<K: Sink>(
     requires numbered { tables.now.places ≡ all_places tables.now.tables }
     requires places { All (IsIn job.now.images) tables.now.places }
     requires number { session_number job.now name.now ≡ Some s.0 }
-    ensures { (c : SourceChange) (a : Account) → CameJob to_list c job.now →
+    ensures { (c : SourceChange) (a : Account) → CameJob to_end c job.now →
         Answers (Command.Prove name.now) c (no_change a) (sink_change K.written K.faults sink.old sink.new) result.0 }
 {
     match prove(alloc, sink, job, tables, s) {
@@ -56,7 +56,7 @@ pub fn answer_prove<S: Source, K: Sink>(
 ) -> Status
     ensures { (a : Account) → Answers (Command.Prove name.now) (source_change S.left S.faults source.old source.new) (no_change a) (sink_change K.written K.faults sink.old sink.new) result.0 }
 {
-    let (read, session) = match make_named(alloc, source, true, false, name, true) {
+    let (read, session) = match make_named(alloc, source, false, name, true) {
         Ok(read) => read,
         Err(refusal) => return told(sink, &refusal.line, refusal.status),
     };

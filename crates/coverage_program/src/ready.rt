@@ -60,15 +60,13 @@ pub fn read_input<S: Source>(alloc: Global, source: &mut S) -> Result<Vec<u8>, R
 fn read_incoming<S: Source>(
     alloc: Global,
     source: &mut S,
-    by: bool,
     more: bool,
 ) -> Result<Incoming, Refusal>
     ensures come { IfOk result (λ i. (bytes : List ℕ) × CameWhole (source_change S.left S.faults source.old source.new) bytes × HasCome bytes i) }
     ensures more { IfOk result (λ i. i.more ≡ more) }
-    ensures by { IfOk result (λ i. i.reader.by ≡ by) }
     ensures stopped { (job : Bool) (how : Reading) (name : Option Wanted) → IfErr result (λ r. IsStopped job how name (source_change S.left S.faults source.old source.new) r.status r.line) }
 {
-    let Ok(mut incoming) = Incoming::new(alloc, by, more) else {
+    let Ok(mut incoming) = Incoming::new(alloc, more) else {
         return Err(plain_refusal(7, NO_MEMORY));
     };
     match incoming.fill(alloc, source) {
@@ -97,10 +95,9 @@ fn fault_refusal(fault: JobFault) -> Refusal
 fn read_lines(alloc: Global, incoming: Incoming) -> Result<(ReadJob, Vec<u8>), Refusal>
     requires { (bytes : List ℕ) × HasCome bytes incoming × (length bytes ≤ 16777216) }
     ensures few_lines { incoming.more ≡ true → IfOk result (λ r. r.0.lines + length r.1.items ≤ 16777216) }
-    ensures came { (s : SourceChange) (bytes : List ℕ) → CameWhole s bytes → HasCome bytes incoming → IfOk result (λ r. CameWith (record { by = incoming.reader.by; more = incoming.more }) s r.0.job r.0.lines r.1.items) }
+    ensures came { (s : SourceChange) (bytes : List ℕ) → CameWhole s bytes → HasCome bytes incoming → IfOk result (λ r. CameWith (record { more = incoming.more }) s r.0.job r.0.lines r.1.items) }
     ensures few { IfOk result (λ r. HasFewLines r.0.job) }
-    ensures whole { incoming.reader.by ≡ false → IfOk result (λ r. AreWhole r.0.job) }
-    ensures stopped { (name : Option Wanted) (s : SourceChange) (bytes : List ℕ) → CameWhole s bytes → HasCome bytes incoming → IfErr result (λ r. IsStopped true (record { by = incoming.reader.by; more = incoming.more }) name s r.status r.line) }
+    ensures stopped { (name : Option Wanted) (s : SourceChange) (bytes : List ℕ) → CameWhole s bytes → HasCome bytes incoming → IfErr result (λ r. IsStopped true (record { more = incoming.more }) name s r.status r.line) }
 {
     match incoming.finish(alloc) {
         Ok(read) => Ok(read),
@@ -112,17 +109,15 @@ fn read_lines(alloc: Global, incoming: Incoming) -> Result<(ReadJob, Vec<u8>), R
 fn job_of_source<S: Source>(
     alloc: Global,
     source: &mut S,
-    by: bool,
     more: bool,
 ) -> Result<(ReadJob, Vec<u8>), Refusal>
     ensures few_lines { more ≡ true → IfOk result (λ r. r.0.lines + length r.1.items ≤ 16777216) }
-    ensures came { IfOk result (λ r. CameWith (record { by = by; more = more }) (source_change S.left S.faults source.old source.new) r.0.job r.0.lines r.1.items) }
-    ensures job { IfOk result (λ r. CameJob (record { by = by; more = more }) (source_change S.left S.faults source.old source.new) r.0.job) }
+    ensures came { IfOk result (λ r. CameWith (record { more = more }) (source_change S.left S.faults source.old source.new) r.0.job r.0.lines r.1.items) }
+    ensures job { IfOk result (λ r. CameJob (record { more = more }) (source_change S.left S.faults source.old source.new) r.0.job) }
     ensures few { IfOk result (λ r. HasFewLines r.0.job) }
-    ensures whole { by ≡ false → IfOk result (λ r. AreWhole r.0.job) }
-    ensures stopped { (name : Option Wanted) → IfErr result (λ r. IsStopped true (record { by = by; more = more }) name (source_change S.left S.faults source.old source.new) r.status r.line) }
+    ensures stopped { (name : Option Wanted) → IfErr result (λ r. IsStopped true (record { more = more }) name (source_change S.left S.faults source.old source.new) r.status r.line) }
 {
-    let incoming = read_incoming(alloc, source, by, more)?;
+    let incoming = read_incoming(alloc, source, more)?;
     read_lines(alloc, incoming)
 }
 
@@ -151,25 +146,22 @@ fn read_tables(alloc: Global, job: &Job) -> Result<Tables, Refusal>
 }
 
 /// Reads the source to its end, the job of its lines, and the tables of the job's listings; or the first refusal of
-/// these, in this order. What stands behind the job is the caller's where more may stand there; else nothing does. While
-/// `by` is false no session of the job may have a controller.
+/// these, in this order. What stands behind the job is the caller's where more may stand there; else nothing does.
 pub fn make_ready<S: Source>(
     alloc: Global,
     source: &mut S,
-    by: bool,
     more: bool,
 ) -> Result<Ready, Refusal>
     ensures few_lines { more ≡ true → IfOk result (λ r. r.lines + length r.rest.items ≤ 16777216) }
-    ensures came { IfOk result (λ r. CameWith (record { by = by; more = more }) (source_change S.left S.faults source.old source.new) r.job r.lines r.rest.items) }
-    ensures job { IfOk result (λ r. CameJob (record { by = by; more = more }) (source_change S.left S.faults source.old source.new) r.job) }
+    ensures came { IfOk result (λ r. CameWith (record { more = more }) (source_change S.left S.faults source.old source.new) r.job r.lines r.rest.items) }
+    ensures job { IfOk result (λ r. CameJob (record { more = more }) (source_change S.left S.faults source.old source.new) r.job) }
     ensures few { IfOk result (λ r. HasFewLines r.job) }
-    ensures whole { by ≡ false → IfOk result (λ r. AreWhole r.job) }
     ensures matching { IfOk result (λ r. Match r.job r.tables.tables) }
     ensures numbered { IfOk result (λ r. r.tables.places ≡ all_places r.tables.tables) }
     ensures places { IfOk result (λ r. All (IsIn r.job.images) r.tables.places) }
-    ensures stopped { IfErr result (λ r. IsStopped true (record { by = by; more = more }) None (source_change S.left S.faults source.old source.new) r.status r.line) }
+    ensures stopped { IfErr result (λ r. IsStopped true (record { more = more }) None (source_change S.left S.faults source.old source.new) r.status r.line) }
 {
-    let (read, rest) = job_of_source(alloc, source, by, more)?;
+    let (read, rest) = job_of_source(alloc, source, more)?;
     let tables = read_tables(alloc, &read.job)?;
     Ok(Ready {
         job: read.job,
@@ -181,20 +173,17 @@ pub fn make_ready<S: Source>(
 
 /// Reads the source to its end, the job of its lines, the number of the session of the name, and the tables of the job's
 /// listings; or the first refusal of these, in this order. What stands behind the job is the caller's where more may
-/// stand there; else nothing does. While `by` is false no session of the job may have a controller, and where it must be
-/// `whole` the named one may have none.
+/// stand there; else nothing does. Where it must be `whole` the named session may have no controller.
 pub fn make_named<S: Source>(
     alloc: Global,
     source: &mut S,
-    by: bool,
     more: bool,
     name: &Name,
     whole: bool,
 ) -> Result<(Ready, SessNo), Refusal>
-    ensures came { IfOk result (λ r. CameWith (record { by = by; more = more }) (source_change S.left S.faults source.old source.new) r.0.job r.0.lines r.0.rest.items) }
-    ensures job { IfOk result (λ r. CameJob (record { by = by; more = more }) (source_change S.left S.faults source.old source.new) r.0.job) }
+    ensures came { IfOk result (λ r. CameWith (record { more = more }) (source_change S.left S.faults source.old source.new) r.0.job r.0.lines r.0.rest.items) }
+    ensures job { IfOk result (λ r. CameJob (record { more = more }) (source_change S.left S.faults source.old source.new) r.0.job) }
     ensures few { IfOk result (λ r. HasFewLines r.0.job) }
-    ensures whole { by ≡ false → IfOk result (λ r. AreWhole r.0.job) }
     ensures matching { IfOk result (λ r. Match r.0.job r.0.tables.tables) }
     ensures numbered { IfOk result (λ r. r.0.tables.places ≡ all_places r.0.tables.tables) }
     ensures places { IfOk result (λ r. All (IsIn r.0.job.images) r.0.tables.places) }
@@ -203,9 +192,9 @@ pub fn make_named<S: Source>(
     ensures from { IfOk result (λ r. 0 < r.1.0) }
     ensures to { IfOk result (λ r. r.1.0 ≤ length r.0.job.sessions) }
     ensures uncontrolled { whole ≡ true → IfOk result (λ r. (session_of r.0.job r.1.0).by ≡ None) }
-    ensures stopped { IfErr result (λ r. IsStopped true (record { by = by; more = more }) (Some (record { name = name.now; whole = whole })) (source_change S.left S.faults source.old source.new) r.status r.line) }
+    ensures stopped { IfErr result (λ r. IsStopped true (record { more = more }) (Some (record { name = name.now; whole = whole })) (source_change S.left S.faults source.old source.new) r.status r.line) }
 {
-    let (read, rest) = job_of_source(alloc, source, by, more)?;
+    let (read, rest) = job_of_source(alloc, source, more)?;
     let session = named_session(&read.job, name, whole)?;
     let tables = read_tables(alloc, &read.job)?;
     let ready = Ready {

@@ -126,7 +126,7 @@ pub fn answer_show<S: Source, K: Sink>(
 ) -> Status
     ensures { (a : Account) → Answers (Command.Show name.now) (source_change S.left S.faults source.old source.new) (no_change a) (sink_change K.written K.faults sink.old sink.new) result.0 }
 {
-    let (read, session) = match make_named(alloc, source, true, true, name, false) {
+    let (read, session) = match make_named(alloc, source, true, name, false) {
         Ok(read) => read,
         Err(refusal) => return told(sink, &refusal.line, refusal.status),
     };

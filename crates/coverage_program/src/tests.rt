@@ -1,4 +1,5 @@
 //! Jobs through `cover`, from the bytes in to the bytes out, over memory and over areas that threads share.
+mod called;
 mod cases;
 mod controllers;
 mod controls;

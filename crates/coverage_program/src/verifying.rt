@@ -124,7 +124,7 @@ pub fn answer_verify<S: Source, K: Sink>(
 ) -> Status
     ensures { (a : Account) → Answers (Command.Verify name.now) (source_change S.left S.faults source.old source.new) (no_change a) (sink_change K.written K.faults sink.old sink.new) result.0 }
 {
-    let (read, session) = match make_named(alloc, source, true, true, name, true) {
+    let (read, session) = match make_named(alloc, source, true, name, true) {
         Ok(read) => read,
         Err(refusal) => return told(sink, &refusal.line, refusal.status),
     };

@@ -11,7 +11,7 @@ use Rattle.hex.proofs.OnLiterals.{hex_on_literals}
 use Rattle.cov_base.specs.Names.{is_name_byte, name_at, unpadded}
 use Rattle.session_book.specs.JobView.{TaskView}
 use Rattle.job_text.specs.Lines.{LineView, listing_text}
-use Rattle.job_text.specs.Drafts.{SessionDraft, DraftView, Controllers, Barred, Present, Named, is_controller, is_met_by, is_met, are_met}
+use Rattle.job_text.specs.Drafts.{SessionDraft, DraftView, Present, is_controller, is_met_by, is_met, are_met}
 use Rattle.job_text.specs.Words.{words}
 use Rattle.job_text.specs.CardView.{CardView, Cover, Module, Text, Listing, Phase, Session, Task, Reg, Data, Input, End}
 use Rattle.job_text.specs.Cards.{card_at, card_of}
@@ -83,13 +83,13 @@ wants_phase j k name met e w =
     let g = guard_none (list_any (λ p. bytes_eq p name) j.phases) after k e in
     subst Wants g.1 (λ i d l. wanted_met j after (get_or j.sessions i d).phase (get_or j.sessions i d).by refl (AllPass-from_list_all (is_met j.tasks) j.sessions met i d l) (w i d l))
 
-wanted_new : (j k : DraftView) (by : Option (List ℕ)) → k.tasks ≡ j.tasks → k.phases ≡ j.phases → may_have Present j by ≡ true → IfSome by IsName → IsWanted k (this_phase j) by
+wanted_new : (j k : DraftView) (by : Option (List ℕ)) → k.tasks ≡ j.tasks → k.phases ≡ j.phases → may_have j by ≡ true → IfSome by IsName → IsWanted k (this_phase j) by
 wanted_new j k None same here may good = tt
 wanted_new j k (Some n) same here may good = (good, inr ((rw same (not_false (has_task j n) may)), (rw here refl)))
 
-wants_session : (j k : DraftView) (name : List ℕ) (by : Option (List ℕ)) (names : List (List ℕ)) → IfSome by IsName → with_session Present j name by names ≡ Some k → Wants j → Wants k
+wants_session : (j k : DraftView) (name : List ℕ) (by : Option (List ℕ)) (names : List (List ℕ)) → IfSome by IsName → with_session j name by names ≡ Some k → Wants j → Wants k
 wants_session j k name by names good e w =
-    let a = session_added Present j k name by names e in
+    let a = session_added j k name by names e in
     let s : SessionDraft = record { name = name; phase = this_phase j; modules = a.modules; by = by } in
     let after : DraftView = record j { sessions = j.sessions ++ s ∷ [] } in
     subst Wants a.is (All-append (λ (x : SessionDraft). IsWanted after x.phase x.by) j.sessions (s ∷ []) w
@@ -179,8 +179,8 @@ card_waits (Phase name) st s good e w =
     let c = closed_wants st.part st.job t.from t.was w in
     subst WaitsAt m.gives (record { wants = wants_phase t.from m.from name c.1 m.was c.0; early = tt })
 card_waits (Session name by names) st s good e w =
-    let g = guard_more (is_sessions st.part) (add_session Present st.job name by names) s e in
-    let m = map_some (λ k. state part.Sessions k (session_over st.job)) (with_session Present st.job name by names) s g.1 in
+    let g = guard_more (is_sessions st.part) (add_session st.job name by names) s e in
+    let m = map_some (λ k. state part.Sessions k (session_over st.job)) (with_session st.job name by names) s g.1 in
     subst WaitsAt m.gives (record { wants = wants_session st.job m.from name by names good.0 m.was w.wants; early = tt })
 card_waits (Task n e p b r) st s good took w =
     let t = then_some (open_task n e p b r) (closed_task st.part st.job) s took in
@@ -302,16 +302,16 @@ meets st k (x ∷ xs) at w =
 
 -- each state can be brought to the end
 
-record Ending (ask : Controllers) (st : State) : Type 0 where
+record Ending (st : State) : Type 0 where
   lines : List LineView
   end : State
-  runs : run ask st lines ≡ Some end
+  runs : run Present st lines ≡ Some end
   done : is_done end.part ≡ true
 
-ending_of : (ask : Controllers) (st : State) → Completes ask st → Ending ask st
-ending_of ask st c = record { lines = c.lines; end = c.end; runs = c.runs; done = c.done }
+ending_of : (st : State) → Completes Present st → Ending st
+ending_of st c = record { lines = c.lines; end = c.end; runs = c.runs; done = c.done }
 
-ends_met : (st : State) (k : DraftView) → closed_task st.part st.job ≡ Some k → Wants k → Ending Present st
+ends_met : (st : State) (k : DraftView) → closed_task st.part st.job ≡ Some k → Wants k → Ending st
 ends_met st k at w =
     let m = meets st k k.sessions at w in
     let met : are_met Present m.job ≡ true = rw m.sessions m.all in
@@ -320,20 +320,18 @@ ends_met st k at w =
     let one : step Present m.end (ended (codes "ENDJOB")) ≡ Some (end m.job) = card_step Present m.end (end m.job) (ended (codes "ENDJOB")) End (closed_raw Present m.end.part m.end.job m.job closes) refl took in
     record { lines = m.lines ++ ended (codes "ENDJOB") ∷ []; end = end m.job; runs = run_append Present st m.lines (ended (codes "ENDJOB") ∷ []) ∙ (rw (m.runs, one) refl); done = refl }
 
-present_ends : (p : Part) (j : DraftView) (over : Option Limit) → Waits p j → Ending Present (state p j over)
+present_ends : (p : Part) (j : DraftView) (over : Option Limit) → Waits p j → Ending (state p j over)
 present_ends part.Sessions j over w = ends_met (state part.Sessions j over) j refl w.wants
 present_ends (part.Task t) j over w = ends_met (state (part.Task t) j over) (with_task j t.task) refl (wants_task j t.task w.wants)
 present_ends part.Done j over w = record { lines = []; end = state part.Done j over; runs = refl; done = refl }
-present_ends p j over w = ending_of Present (state p j over) (completes_at Present p j over (none_met (sofar_at p j) w.early))
+present_ends p j over w = ending_of (state p j over) (completes_at Present p j over (none_met (sofar_at p j) w.early))
 
-ends : (ask : Controllers) (lines : List LineView) (st : State) → run ask start lines ≡ Some st → Ending ask st
-ends Barred lines st e = ending_of Barred st (completes_at Barred st.part st.job st.over refl)
-ends Present lines st e = present_ends st.part st.job st.over (run_waits lines start st e (record { wants = none_wanted start.job refl; early = refl }))
-ends Named lines st e = ending_of Named st (completes_at Named st.part st.job st.over refl)
+ends : (lines : List LineView) (st : State) → run Present start lines ≡ Some st → Ending st
+ends lines st e = present_ends st.part st.job st.over (run_waits lines start st e (record { wants = none_wanted start.job refl; early = refl }))
 
 -- lines that run begin a job
-pub run_begins : (ask : Controllers) (lines : List LineView) (st : State) → run ask start lines ≡ Some st → JobBegins ask lines
-run_begins ask lines st e =
-    let c = ends ask lines st e in
-    let r : run ask start (lines ++ c.lines) ≡ Some c.end = run_append ask start lines c.lines ∙ (rw e c.runs) in
-    record { rest = c.lines; job = _; spells = run_spells ask (lines ++ c.lines) c.end r c.done }
+pub run_begins : (lines : List LineView) (st : State) → run Present start lines ≡ Some st → JobBegins lines
+run_begins lines st e =
+    let c = ends lines st e in
+    let r : run Present start (lines ++ c.lines) ≡ Some c.end = run_append Present start lines c.lines ∙ (rw e c.runs) in
+    record { rest = c.lines; job = _; spells = run_spells Present (lines ++ c.lines) c.end r c.done }

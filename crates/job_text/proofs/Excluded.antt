@@ -7,7 +7,7 @@ use Rattle.std.proofs.lemmas.List.Elements.{All-append, All-cons, All-nil}
 use Rattle.std.specs.List.{list_any}
 use Rattle.std.specs.Str.{bytes_eq}
 use Rattle.session_book.specs.JobView.{JobView}
-use Rattle.job_text.specs.Drafts.{DraftView, Controllers}
+use Rattle.job_text.specs.Drafts.{DraftView, Present}
 use Rattle.job_text.specs.Lines.{LineView, listing_text}
 use Rattle.job_text.specs.Spells.{joined, IsListed, IsModule, AreModules, AreSessions, IsTaskBlock, AreTasks, IsPhase, ArePhases, Spells, JobBegins}
 use Rattle.job_text.specs.Adding.{no_job, with_phase, with_session}
@@ -19,8 +19,8 @@ use Rattle.job_text.proofs.Guards.{guard_none}
 use Rattle.job_text.proofs.Named.{named_spells, session_added}
 use Rattle.job_text.proofs.Spelled.{one_first}
 
-begins_prefix : (ask : Controllers) (a b : List LineView) → JobBegins ask (a ++ b) → JobBegins ask a
-begins_prefix ask a b p = record { rest = b ++ p.rest; job = p.job; spells = rw (← append_assoc a b p.rest) p.spells }
+begins_prefix : (a b : List LineView) → JobBegins (a ++ b) → JobBegins a
+begins_prefix a b p = record { rest = b ++ p.rest; job = p.job; spells = rw (← append_assoc a b p.rest) p.spells }
 
 passes_more : (a b : List LineView) (w : Limit) → Passes w a → Passes w (a ++ b)
 passes_more a b w p rest job s = p (b ++ rest) job (rw (← append_assoc a b rest) s)
@@ -36,46 +36,46 @@ front ls (suc m) zero h = absurd (omega arith)
 front [] (suc m) (suc n) h = record { more = []; whole = refl }
 front (l ∷ ls) (suc m) (suc n) h = let f : Front ls m n = front ls m n (omega arith) in record { more = f.more; whole = ap (λ (x : List LineView). l ∷ x) f.whole }
 
-begins_less : (ask : Controllers) (ls : List LineView) (m n : ℕ) → m ≤ n → JobBegins ask (take n ls) → JobBegins ask (take m ls)
-begins_less ask ls m n h b = let f : Front ls m n = front ls m n h in begins_prefix ask (take m ls) f.more (rw f.whole at b)
+begins_less : (ls : List LineView) (m n : ℕ) → m ≤ n → JobBegins (take n ls) → JobBegins (take m ls)
+begins_less ls m n h b = let f : Front ls m n = front ls m n h in begins_prefix (take m ls) f.more (rw f.whole at b)
 
 passes_later : (ls : List LineView) (m n : ℕ) (w : Limit) → m ≤ n → Passes w (take m ls) → Passes w (take n ls)
 passes_later ls m n w h p = let f : Front ls m n = front ls m n h in rw f.whole (passes_more (take m ls) f.more w p)
 
-spelled_take : (ask : Controllers) (ls : List LineView) (job : JobView) (n : ℕ) → Spells ask ls job → Spells ask (take n ls ++ drop n ls) job
-spelled_take ask ls job n s = rw (take-append-drop n ls) s
+spelled_take : (ls : List LineView) (job : JobView) (n : ℕ) → Spells Present ls job → Spells Present (take n ls ++ drop n ls) job
+spelled_take ls job n s = rw (take-append-drop n ls) s
 
-spelled_begins : (ask : Controllers) (ls : List LineView) (job : JobView) (n : ℕ) → Spells ask ls job → JobBegins ask (take n ls)
-spelled_begins ask ls job n s = record { rest = drop n ls; job = job; spells = spelled_take ask ls job n s }
+spelled_begins : (ls : List LineView) (job : JobView) (n : ℕ) → Spells Present ls job → JobBegins (take n ls)
+spelled_begins ls job n s = record { rest = drop n ls; job = job; spells = spelled_take ls job n s }
 
 -- lines that spell a job have no bad line
-pub never_bad : (ask : Controllers) (ls : List LineView) (job : JobView) (n : ℕ) → Spells ask ls job → IsBadAt ask ls n → ⊥
-never_bad ask ls job n s b = elim b.here [
-  | inl w ↦ w.1 (spelled_begins ask ls job n s)
+pub never_bad : (ls : List LineView) (job : JobView) (n : ℕ) → Spells Present ls job → IsBadAt ls n → ⊥
+never_bad ls job n s b = elim b.here [
+  | inl w ↦ w.1 (spelled_begins ls job n s)
   | inr w ↦ w.1 job s
 ]
 
 -- and where the job is within the limits none that passes one
-pub never_over : (ask : Controllers) (ls : List LineView) (job : JobView) (what : Limit) (n : ℕ) → Spells ask ls job → IsWithin job → IsOverAt ask ls what n → ⊥
-never_over ask ls job what n s within o =
-    let over : keeps what job ≡ false = o.passes (drop n ls) job (named_spells ask (take n ls ++ drop n ls) job (spelled_take ask ls job n s)) in
+pub never_over : (ls : List LineView) (job : JobView) (what : Limit) (n : ℕ) → Spells Present ls job → IsWithin job → IsOverAt ls what n → ⊥
+never_over ls job what n s within o =
+    let over : keeps what job ≡ false = o.passes (drop n ls) job (named_spells Present (take n ls ++ drop n ls) job (spelled_take ls job n s)) in
     let no : true ≡ false = sym (within what) ∙ over in
     absurd cc
 
-begins_whole : (ask : Controllers) (ls : List LineView) (job : JobView) → Spells ask ls job → JobBegins ask ls
-begins_whole ask ls job s = record { rest = []; job = job; spells = rw (append-nil {A = LineView}) s }
+begins_whole : (ls : List LineView) (job : JobView) → Spells Present ls job → JobBegins ls
+begins_whole ls job s = record { rest = []; job = job; spells = rw (append-nil {A = LineView}) s }
 
 -- where some first lines spell a job a bad line comes behind them
-pub bad_later : (ask : Controllers) (ls : List LineView) (job : JobView) (m n : ℕ) → m ≤ n → n ≤ length ls → Spells ask (take n ls) job → IsBadAt ask ls m → ⊥
-bad_later ask ls job m n h inside s b = elim b.here [
-  | inl w ↦ w.1 (begins_less ask ls m n h (begins_whole ask (take n ls) job s))
+pub bad_later : (ls : List LineView) (job : JobView) (m n : ℕ) → m ≤ n → n ≤ length ls → Spells Present (take n ls) job → IsBadAt ls m → ⊥
+bad_later ls job m n h inside s b = elim b.here [
+  | inl w ↦ w.1 (begins_less ls m n h (begins_whole (take n ls) job s))
   | inr w ↦ absurd (omega (arith, w.0, h, inside))
 ]
 
 -- and where the job is within the limits so does one that passes a limit
-pub over_later : (ask : Controllers) (ls : List LineView) (job : JobView) (what : Limit) (m n : ℕ) → m ≤ n → Spells ask (take n ls) job → IsWithin job → IsOverAt ask ls what m → ⊥
-over_later ask ls job what m n h s within o =
-    let over : keeps what job ≡ false = passes_later ls m n what h o.passes [] job (rw (append-nil {A = LineView}) (named_spells ask (take n ls) job s)) in
+pub over_later : (ls : List LineView) (job : JobView) (what : Limit) (m n : ℕ) → m ≤ n → Spells Present (take n ls) job → IsWithin job → IsOverAt ls what m → ⊥
+over_later ls job what m n h s within o =
+    let over : keeps what job ≡ false = passes_later ls m n what h o.passes [] job (rw (append-nil {A = LineView}) (named_spells Present (take n ls) job s)) in
     let no : true ≡ false = sym (within what) ∙ over in
     absurd cc
 
@@ -85,48 +85,48 @@ take_less [] (suc m) n b h i = absurd (omega (arith, h, i))
 take_less (l ∷ ls) (suc m) zero b h i = absurd (omega (arith, h))
 take_less (l ∷ ls) (suc m) (suc n) b h i = ap (λ (x : List LineView). l ∷ x) (take_less ls m n b (omega (arith, h)) (omega (arith, i)))
 
-begun_no_longer : (ask : Controllers) (ls : List LineView) (m n : ℕ) (job : JobView) → m < n → n ≤ length ls → Spells ask (take m ls) job → JobBegins ask (take n ls) → ⊥
-begun_no_longer ask ls m n job h i s b =
+begun_no_longer : (ls : List LineView) (m n : ℕ) (job : JobView) → m < n → n ≤ length ls → Spells Present (take m ls) job → JobBegins (take n ls) → ⊥
+begun_no_longer ls m n job h i s b =
     let whole = take n ls ++ b.rest in
     let size : length whole ≡ length (take n ls) + length b.rest = length-append (take n ls) b.rest in
     let few : length (take n ls) ≡ n = length-take-le n ls i in
-    let one = one_first ask whole m (length whole) job b.job (omega (arith, size, few, h)) (omega arith) (rw (take_less ls m n b.rest (omega (arith, h)) i) s) (rw (take-length whole) b.spells) in
+    let one = one_first Present whole m (length whole) job b.job (omega (arith, size, few, h)) (omega arith) (rw (take_less ls m n b.rest (omega (arith, h)) i) s) (rw (take-length whole) b.spells) in
     absurd (omega (arith, one.0, size, few, h))
 
 -- where some first lines spell a job within the limits no line passes one
-pub never_over_first : (ask : Controllers) (ls : List LineView) (m : ℕ) (job : JobView) (what : Limit) (n : ℕ) → m ≤ length ls → Spells ask (take m ls) job → IsWithin job → IsOverAt ask ls what n → ⊥
-never_over_first ask ls m job what n h s within o = elim (cases_lt m n) [
-  | inl l ↦ begun_no_longer ask ls m n job l o.inside s o.begins
-  | inr l ↦ over_later ask ls job what n m l s within o
+pub never_over_first : (ls : List LineView) (m : ℕ) (job : JobView) (what : Limit) (n : ℕ) → m ≤ length ls → Spells Present (take m ls) job → IsWithin job → IsOverAt ls what n → ⊥
+never_over_first ls m job what n h s within o = elim (cases_lt m n) [
+  | inl l ↦ begun_no_longer ls m n job l o.inside s o.begins
+  | inr l ↦ over_later ls job what n m l s within o
 ]
 
-not_bad_before : (ask : Controllers) (ls : List LineView) (m n : ℕ) → m < n → IsBadAt ask ls m → IsBadAt ask ls n → ⊥
-not_bad_before ask ls m n h p q = elim p.here [
-  | inl w ↦ w.1 (begins_less ask ls m (n - 1) (omega arith) q.before.begins)
+not_bad_before : (ls : List LineView) (m n : ℕ) → m < n → IsBadAt ls m → IsBadAt ls n → ⊥
+not_bad_before ls m n h p q = elim p.here [
+  | inl w ↦ w.1 (begins_less ls m (n - 1) (omega arith) q.before.begins)
   | inr w ↦ (elim q.here [ inl v ↦ absurd (omega (arith, v.0, w.0)) | inr v ↦ absurd (omega (arith, v.0, w.0)) ])
 ]
 
 -- there is at most one bad line
-pub one_bad : (ask : Controllers) (ls : List LineView) (m n : ℕ) → IsBadAt ask ls m → IsBadAt ask ls n → m ≡ n
-one_bad ask ls m n p q = elim (cases_order m n) [
+pub one_bad : (ls : List LineView) (m n : ℕ) → IsBadAt ls m → IsBadAt ls n → m ≡ n
+one_bad ls m n p q = elim (cases_order m n) [
   | inl e ↦ e
-  | inr x ↦ (elim x [ inl h ↦ absurd (not_bad_before ask ls m n h p q) | inr h ↦ absurd (not_bad_before ask ls n m h q p) ])
+  | inr x ↦ (elim x [ inl h ↦ absurd (not_bad_before ls m n h p q) | inr h ↦ absurd (not_bad_before ls n m h q p) ])
 ]
 
-over_before : (ask : Controllers) (ls : List LineView) (what : Limit) (m n : ℕ) → m < n → Passes what (take m ls) → GoesOn ask (take (n - 1) ls) → ⊥
-over_before ask ls what m n h p g = g.within what (passes_later ls m (n - 1) what (omega arith) p)
+over_before : (ls : List LineView) (what : Limit) (m n : ℕ) → m < n → Passes what (take m ls) → GoesOn (take (n - 1) ls) → ⊥
+over_before ls what m n h p g = g.within what (passes_later ls m (n - 1) what (omega arith) p)
 
-bad_first : (ask : Controllers) (ls : List LineView) (what : Limit) (m n : ℕ) → m ≤ n → IsBadAt ask ls m → IsOverAt ask ls what n → ⊥
-bad_first ask ls what m n h p o = elim p.here [
-  | inl w ↦ w.1 (begins_less ask ls m n h o.begins)
+bad_first : (ls : List LineView) (what : Limit) (m n : ℕ) → m ≤ n → IsBadAt ls m → IsOverAt ls what n → ⊥
+bad_first ls what m n h p o = elim p.here [
+  | inl w ↦ w.1 (begins_less ls m n h o.begins)
   | inr w ↦ absurd (omega (arith, w.0, o.inside))
 ]
 
 -- a bad line and a line that passes a limit exclude one another
-pub not_both : (ask : Controllers) (ls : List LineView) (what : Limit) (m n : ℕ) → IsBadAt ask ls m → IsOverAt ask ls what n → ⊥
-not_both ask ls what m n p o = elim (cases_order m n) [
-  | inl e ↦ bad_first ask ls what m n (omega (arith, e)) p o
-  | inr x ↦ (elim x [ inl h ↦ bad_first ask ls what m n (omega (arith, h)) p o | inr h ↦ over_before ask ls what n m h o.passes p.before ])
+pub not_both : (ls : List LineView) (what : Limit) (m n : ℕ) → IsBadAt ls m → IsOverAt ls what n → ⊥
+not_both ls what m n p o = elim (cases_order m n) [
+  | inl e ↦ bad_first ls what m n (omega (arith, e)) p o
+  | inr x ↦ (elim x [ inl h ↦ bad_first ls what m n (omega (arith, h)) p o | inr h ↦ over_before ls what n m h o.passes p.before ])
 ]
 
 abbrev limit_of : ℕ → Limit
@@ -158,17 +158,17 @@ of_rank limit.Room = refl
 one_rank : (a b : Limit) → rank a ≡ rank b → a ≡ b
 one_rank a b e = sym (of_rank a) ∙ (ap limit_of e ∙ of_rank b)
 
-one_limit : (ask : Controllers) (ls : List LineView) (a b : Limit) (n : ℕ) → IsOverAt ask ls a n → IsOverAt ask ls b n → a ≡ b
-one_limit ask ls a b n p q = elim (cases_order (rank a) (rank b)) [
+one_limit : (ls : List LineView) (a b : Limit) (n : ℕ) → IsOverAt ls a n → IsOverAt ls b n → a ≡ b
+one_limit ls a b n p q = elim (cases_order (rank a) (rank b)) [
   | inl e ↦ one_rank a b e
   | inr x ↦ (elim x [ inl h ↦ absurd (q.first a h p.passes) | inr h ↦ absurd (p.first b h q.passes) ])
 ]
 
 -- at most one limit is told, at one line
-pub one_over : (ask : Controllers) (ls : List LineView) (a b : Limit) (m n : ℕ) → IsOverAt ask ls a m → IsOverAt ask ls b n → (a ≡ b) × (m ≡ n)
-one_over ask ls a b m n p q = elim (cases_order m n) [
-  | inl e ↦ (one_limit ask ls a b n (subst (IsOverAt ask ls a) e p) q, e)
-  | inr x ↦ (elim x [ inl h ↦ absurd (over_before ask ls a m n h p.passes q.before) | inr h ↦ absurd (over_before ask ls b n m h q.passes p.before) ])
+pub one_over : (ls : List LineView) (a b : Limit) (m n : ℕ) → IsOverAt ls a m → IsOverAt ls b n → (a ≡ b) × (m ≡ n)
+one_over ls a b m n p q = elim (cases_order m n) [
+  | inl e ↦ (one_limit ls a b n (subst (IsOverAt ls a) e p) q, e)
+  | inr x ↦ (elim x [ inl h ↦ absurd (over_before ls a m n h p.passes q.before) | inr h ↦ absurd (over_before ls b n m h q.passes p.before) ])
 ]
 
 -- a listing has at most as many lines as the input
@@ -199,12 +199,12 @@ phase_listings j after name e =
     let g = guard_none (list_any (λ p. bytes_eq p name) j.phases) (record j { phases = j.phases ++ name ∷ [] }) after e in
     ap (λ (x : DraftView). x.listings) (sym g.1)
 
-session_listings : (ask : Controllers) (j after : DraftView) (name : List ℕ) (by : Option (List ℕ)) (names : List (List ℕ)) → with_session ask j name by names ≡ Some after → after.listings ≡ j.listings
-session_listings ask j after name by names e = ap (λ (x : DraftView). x.listings) (sym (session_added ask j after name by names e).is)
+session_listings : (j after : DraftView) (name : List ℕ) (by : Option (List ℕ)) (names : List (List ℕ)) → with_session j name by names ≡ Some after → after.listings ≡ j.listings
+session_listings j after name by names e = ap (λ (x : DraftView). x.listings) (sym (session_added j after name by names e).is)
 
-sessions_keep : (ask : Controllers) (ls : List LineView) (j after : DraftView) → AreSessions ask j ls after → after.listings ≡ j.listings
-sessions_keep ask [] j after are = ap (λ (x : DraftView). x.listings) (sym are)
-sessions_keep ask (l ∷ ls) j after are = sessions_keep ask ls are.mid after are.then ∙ session_listings ask j are.mid are.name are.by are.names are.adds
+sessions_keep : (ls : List LineView) (j after : DraftView) → AreSessions j ls after → after.listings ≡ j.listings
+sessions_keep [] j after are = ap (λ (x : DraftView). x.listings) (sym are)
+sessions_keep (l ∷ ls) j after are = sessions_keep ls are.mid after are.then ∙ session_listings j are.mid are.name are.by are.names are.adds
 
 tasks_keep : (blocks : List (List LineView)) (j after : DraftView) → AreTasks j blocks after → after.listings ≡ j.listings
 tasks_keep [] j after are = ap (λ (x : DraftView). x.listings) (sym are)
@@ -212,16 +212,16 @@ tasks_keep (block ∷ blocks) j after are =
     let t : IsTaskBlock j block are.mid = are.is_task in
     tasks_keep blocks are.mid after are.then ∙ ap (λ (x : DraftView). x.listings) t.is_after
 
-phases_keep : (ask : Controllers) (blocks : List (List LineView)) (j after : DraftView) → ArePhases ask j blocks after → after.listings ≡ j.listings
-phases_keep ask [] j after are = ap (λ (x : DraftView). x.listings) (sym are)
-phases_keep ask (block ∷ blocks) j after are =
-    let p : IsPhase ask j block are.mid = are.is_phase in
-    phases_keep ask blocks are.mid after are.then ∙ (tasks_keep p.tasks p.mid are.mid p.are_tasks ∙ (sessions_keep ask p.sessions p.named p.mid p.are_sessions ∙ phase_listings j p.named p.name p.adds))
+phases_keep : (blocks : List (List LineView)) (j after : DraftView) → ArePhases Present j blocks after → after.listings ≡ j.listings
+phases_keep [] j after are = ap (λ (x : DraftView). x.listings) (sym are)
+phases_keep (block ∷ blocks) j after are =
+    let p : IsPhase Present j block are.mid = are.is_phase in
+    phases_keep blocks are.mid after are.then ∙ (tasks_keep p.tasks p.mid are.mid p.are_tasks ∙ (sessions_keep p.sessions p.named p.mid p.are_sessions ∙ phase_listings j p.named p.name p.adds))
 
 -- a listing of the job has at most as many lines as these
-pub listings_few : (ask : Controllers) (ls : List LineView) (job : JobView) → Spells ask ls job → All (IsFew (length ls)) job.listings
-listings_few ask ls job s =
+pub listings_few : (ls : List LineView) (job : JobView) → Spells Present ls job → All (IsFew (length ls)) job.listings
+listings_few ls job s =
     let a : length (joined s.modules ++ (joined s.phases ++ s.last ∷ [])) ≡ length (joined s.modules) + length (joined s.phases ++ s.last ∷ []) = length-append (joined s.modules) (joined s.phases ++ s.last ∷ []) in
     let whole : length ls ≡ length (s.first ∷ (joined s.modules ++ (joined s.phases ++ s.last ∷ []))) = ap (λ (x : List LineView). length x) s.whole in
     let few : All (IsFew (length ls)) s.mid.listings = modules_few (length ls) s.modules no_job s.mid s.are_modules (omega (arith, a, whole)) (All-nil (IsFew (length ls))) in
-    rw (s.is, phases_keep ask s.phases s.mid s.draft s.are_phases) few
+    rw (s.is, phases_keep s.phases s.mid s.draft s.are_phases) few

@@ -276,9 +276,9 @@ session_judged : (j : DraftView) (name : List ℕ) (by : Option (List ℕ)) (ms 
 session_judged j name by ms true e h = (no_room j.sessions _ SESSION_LIMIT e, session_first j name by ms h)
 session_judged j name by ms false e h = session_holds j name by ms h e
 
-session_grown : (ask : Controllers) (j k : DraftView) (name : List ℕ) (by : Option (List ℕ)) (names : List (List ℕ)) → with_session ask j name by names ≡ Some k → More j k (session_over j)
-session_grown ask j k name by names e =
-    let m = session_added ask j k name by names e in
+session_grown : (j k : DraftView) (name : List ℕ) (by : Option (List ℕ)) (names : List (List ℕ)) → with_session j name by names ≡ Some k → More j k (session_over j)
+session_grown j k name by names e =
+    let m = session_added j k name by names e in
     subst (λ (x : DraftView). More j x (session_over j)) m.is (record { more = session_more j name by m.modules; judged = session_judged j name by m.modules (nat_le SESSION_LIMIT (length j.sessions)) refl })
 
 -- a task more
@@ -395,11 +395,11 @@ more_grows (kind.Task t) j c s e =
     subst (λ (x : State). More (with_task j t.task) (draft_sofar x) x.over) m.gives (alike _ _ (task_alike j t.task m.from.task (more_sizes c t m.from m.was)))
 more_grows p j c s e = absurd cc
 
-session_grows : (ask : Controllers) (p : Part) (j : DraftView) (name : List ℕ) (by : Option (List ℕ)) (names : List (List ℕ)) (s : State) → is_sessions p ≡ true → add_session ask j name by names ≡ Some s → More (sofar_at p j) (draft_sofar s) s.over
-session_grows ask kind.Sessions j name by names s is e =
-    let m = map_some (λ k. state kind.Sessions k (session_over j)) (with_session ask j name by names) s e in
-    subst (λ (x : State). More j (draft_sofar x) x.over) m.gives (session_grown ask j m.from name by names m.was)
-session_grows ask p j name by names s is e = absurd cc
+session_grows : (p : Part) (j : DraftView) (name : List ℕ) (by : Option (List ℕ)) (names : List (List ℕ)) (s : State) → is_sessions p ≡ true → add_session j name by names ≡ Some s → More (sofar_at p j) (draft_sofar s) s.over
+session_grows kind.Sessions j name by names s is e =
+    let m = map_some (λ k. state kind.Sessions k (session_over j)) (with_session j name by names) s e in
+    subst (λ (x : State). More j (draft_sofar x) x.over) m.gives (session_grown j m.from name by names m.was)
+session_grows p j name by names s is e = absurd cc
 
 cover_grows : (p : Part) (j : DraftView) → is_start p ≡ true → More (sofar_at p j) j None
 cover_grows kind.Start j e = same_grown j j refl
@@ -421,8 +421,8 @@ card_grows ask (Phase name) st s e =
     let m = map_some (λ k. state kind.Sessions k (phase_over t.from)) (with_phase t.from name) s t.gives in
     grows_to st s (state kind.Sessions m.from (phase_over t.from)) m.gives (from_closed ask st.part st.job t.from m.from (phase_over t.from) t.was (phase_grown t.from m.from name m.was))
 card_grows ask (Session name by names) st s e =
-    let g = guard_more (is_sessions st.part) (add_session ask st.job name by names) s e in
-    session_grows ask st.part st.job name by names s g.0 g.1
+    let g = guard_more (is_sessions st.part) (add_session st.job name by names) s e in
+    session_grows st.part st.job name by names s g.0 g.1
 card_grows ask (Task n e p b r) st s took =
     let t = then_some (open_task n e p b r) (closed_task st.part st.job) s took in
     let next : State = state (kind.Task (fresh_task n e p b r)) t.from (task_over t.from p b r) in

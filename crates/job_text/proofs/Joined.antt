@@ -1,9 +1,9 @@
 -- What was read of an input's first bytes is read of the whole.
-use Rattle.std.proofs.Common.{◌≡◌, ℕ, ◌+◌, ◌≤◌, Bool, Result, Ok, Err, IfOk, IfErr, List, [], ◌++◌, length, take, drop, ap, subst, sym, ◌∙◌, arith, length-append, take-append-drop}
+use Rattle.std.proofs.Common.{◌≡◌, ℕ, ◌+◌, ◌≤◌, Result, Ok, Err, IfOk, IfErr, List, [], ◌++◌, length, take, drop, ap, subst, sym, ◌∙◌, arith, length-append, take-append-drop}
 use Rattle.std.proofs.Math.Seq.{take-length, drop-append_seam}
 use Rattle.std.proofs.lemmas.List.{take-append-le}
 use Rattle.session_book.specs.JobView.{JobView}
-use Rattle.job_text.specs.Drafts.{Controllers, asked}
+use Rattle.job_text.specs.Drafts.{Present}
 use Rattle.job_text.specs.Lines.{LineView, lines_of, IsClosed}
 use Rattle.job_text.specs.Limits.{IsWithin}
 use Rattle.job_text.specs.Pieces.{Feeds, used_of}
@@ -18,8 +18,8 @@ use Rattle.job_text.proofs.EndedLines.{closed_more}
 use Rattle.job_text.proofs.Spelled.{one_first}
 
 -- more may stand behind a job whose last line has its LF
-pub read_longer : (by : Bool) (bytes more : List ℕ) (r : ReadJob) → IsClosed bytes → IsRead by bytes r → r.end ≡ length bytes → IsRead by (bytes ++ more) r
-read_longer by bytes more r closed i end =
+pub read_longer : (bytes more : List ℕ) (r : ReadJob) → IsClosed bytes → IsRead bytes r → r.end ≡ length bytes → IsRead (bytes ++ more) r
+read_longer bytes more r closed i end =
     let front : take r.end (bytes ++ more) ≡ bytes = rw end (take-append-le (length bytes) bytes more (omega arith) ∙ take-length bytes) in
     let back : drop r.end (bytes ++ more) ≡ more = rw end (drop-append_seam bytes more) in
     let same : take r.end bytes ≡ bytes = rw end (take-length bytes) in
@@ -29,50 +29,49 @@ read_longer by bytes more r closed i end =
       count = rw front (rw same at i.count);
       spells = rw front (rw same at i.spells);
       within = i.within;
-      whole = i.whole;
     }
 
-pub only_longer : (ask : Controllers) (bytes more : List ℕ) (job : JobView) (res : Result ReadJob JobFault) → IsClosed bytes → Spells ask (lines_of bytes) job →
-    ((n : ℕ) (j : JobView) → n ≤ length (lines_of bytes) → Spells ask (take n (lines_of bytes)) j → IsWithin j → IsOnly n j res) →
-    (n : ℕ) (j : JobView) → n ≤ length (lines_of (bytes ++ more)) → Spells ask (take n (lines_of (bytes ++ more))) j → IsWithin j → IsOnly n j res
-only_longer ask bytes more job res closed s only n j h p w =
+pub only_longer : (bytes more : List ℕ) (job : JobView) (res : Result ReadJob JobFault) → IsClosed bytes → Spells Present (lines_of bytes) job →
+    ((n : ℕ) (j : JobView) → n ≤ length (lines_of bytes) → Spells Present (take n (lines_of bytes)) j → IsWithin j → IsOnly n j res) →
+    (n : ℕ) (j : JobView) → n ≤ length (lines_of (bytes ++ more)) → Spells Present (take n (lines_of (bytes ++ more))) j → IsWithin j → IsOnly n j res
+only_longer bytes more job res closed s only n j h p w =
     let ls : List LineView = lines_of (bytes ++ more) in
     let m : ℕ = length (lines_of bytes) in
     let parts : ls ≡ lines_of bytes ++ lines_of more = closed_more bytes more closed in
     let count : length ls ≡ m + length (lines_of more) = ap (λ (x : List LineView). length x) parts ∙ length-append (lines_of bytes) (lines_of more) in
     let front : take m ls ≡ take m (lines_of bytes) = ap (λ (x : List LineView). take m x) parts ∙ take-append-le m (lines_of bytes) (lines_of more) (omega arith) in
     let all : take m ls ≡ lines_of bytes = front ∙ take-length (lines_of bytes) in
-    let one = one_first ask ls m n job j (omega (arith, count)) h (rw all s) p in
-    only n j (omega (arith, one.0)) (subst (λ (k : ℕ). Spells ask (take k (lines_of bytes)) j) one.0 (rw front at (subst (λ (k : ℕ). Spells ask (take k ls) j) (sym one.0) p))) w
+    let one = one_first Present ls m n job j (omega (arith, count)) h (rw all s) p in
+    only n j (omega (arith, one.0)) (subst (λ (k : ℕ). Spells Present (take k (lines_of bytes)) j) one.0 (rw front at (subst (λ (k : ℕ). Spells Present (take k ls) j) (sym one.0) p))) w
 
-pub fault_longer : (ask : Controllers) (bytes more : List ℕ) (job : JobView) (res : Result ReadJob JobFault) → Spells ask (lines_of bytes) job → IsWithin job →
-    ((n : ℕ) (j : JobView) → n ≤ length (lines_of bytes) → Spells ask (take n (lines_of bytes)) j → IsWithin j → IsOnly n j res) → IfErr res (IsRefusal ask (lines_of (bytes ++ more)))
-fault_longer ask bytes more job (Ok r) s w only = tt
-fault_longer ask bytes more job (Err x) s w only =
+pub fault_longer : (bytes more : List ℕ) (job : JobView) (res : Result ReadJob JobFault) → Spells Present (lines_of bytes) job → IsWithin job →
+    ((n : ℕ) (j : JobView) → n ≤ length (lines_of bytes) → Spells Present (take n (lines_of bytes)) j → IsWithin j → IsOnly n j res) → IfErr res (IsRefusal (lines_of (bytes ++ more)))
+fault_longer bytes more job (Ok r) s w only = tt
+fault_longer bytes more job (Err x) s w only =
     let ls : List LineView = lines_of bytes in
     let none : x ≡ fault.NoMemory = only (length ls) job (omega arith) (rw (take-length ls) s) w in
     rw none tt
 
 -- one piece that holds the whole input
 
-pub read_of_piece : (by : Bool) (input : List ℕ) (f : Fed) (res : Result ReadJob JobFault) → Feeds (asked by) [] input f → IfOk res (IsRead by (used_of input f)) → IfOk res (λ r. r.end ≡ length (used_of input f)) → IfOk res (IsRead by input)
-read_of_piece by input f (Err e) h i end = tt
-read_of_piece by input fed.More (Ok r) h i end = i
-read_of_piece by input (fed.Ended used) (Ok r) h i end =
-    subst (λ (x : List ℕ). IsRead by x r) (take-append-drop used input) (read_longer by (take used input) (drop used input) r h.closed i end)
+pub read_of_piece : (input : List ℕ) (f : Fed) (res : Result ReadJob JobFault) → Feeds [] input f → IfOk res (IsRead (used_of input f)) → IfOk res (λ r. r.end ≡ length (used_of input f)) → IfOk res (IsRead input)
+read_of_piece input f (Err e) h i end = tt
+read_of_piece input fed.More (Ok r) h i end = i
+read_of_piece input (fed.Ended used) (Ok r) h i end =
+    subst (λ (x : List ℕ). IsRead x r) (take-append-drop used input) (read_longer (take used input) (drop used input) r h.closed i end)
 
-abbrev Only : Controllers → List ℕ → Result ReadJob JobFault → Type 0
-Only ask bytes res = (n : ℕ) (j : JobView) → n ≤ length (lines_of bytes) → Spells ask (take n (lines_of bytes)) j → IsWithin j → IsOnly n j res
+abbrev Only : List ℕ → Result ReadJob JobFault → Type 0
+Only bytes res = (n : ℕ) (j : JobView) → n ≤ length (lines_of bytes) → Spells Present (take n (lines_of bytes)) j → IsWithin j → IsOnly n j res
 
-pub only_of_piece : (ask : Controllers) (input : List ℕ) (f : Fed) (res : Result ReadJob JobFault) → Feeds ask [] input f → ((n : ℕ) (j : JobView) → n ≤ length (lines_of (used_of input f)) → Spells ask (take n (lines_of (used_of input f))) j → IsWithin j → IsOnly n j res) →
-    (n : ℕ) (j : JobView) → n ≤ length (lines_of input) → Spells ask (take n (lines_of input)) j → IsWithin j → IsOnly n j res
-only_of_piece ask input fed.More res h only = only
-only_of_piece ask input (fed.Ended used) res h only =
-    subst (λ (x : List ℕ). Only ask x res) (take-append-drop used input) (only_longer ask (take used input) (drop used input) h.job res h.closed h.spells only)
+pub only_of_piece : (input : List ℕ) (f : Fed) (res : Result ReadJob JobFault) → Feeds [] input f → ((n : ℕ) (j : JobView) → n ≤ length (lines_of (used_of input f)) → Spells Present (take n (lines_of (used_of input f))) j → IsWithin j → IsOnly n j res) →
+    (n : ℕ) (j : JobView) → n ≤ length (lines_of input) → Spells Present (take n (lines_of input)) j → IsWithin j → IsOnly n j res
+only_of_piece input fed.More res h only = only
+only_of_piece input (fed.Ended used) res h only =
+    subst (λ (x : List ℕ). Only x res) (take-append-drop used input) (only_longer (take used input) (drop used input) h.job res h.closed h.spells only)
 
-pub fault_of_piece : (ask : Controllers) (input : List ℕ) (f : Fed) (res : Result ReadJob JobFault) → Feeds ask [] input f → ((n : ℕ) (j : JobView) → n ≤ length (lines_of (used_of input f)) → Spells ask (take n (lines_of (used_of input f))) j → IsWithin j → IsOnly n j res) →
-    IfErr res (IsRefusal ask (lines_of (used_of input f))) → IfErr res (IsRefusal ask (lines_of input))
-fault_of_piece ask input f (Ok r) h only e = tt
-fault_of_piece ask input fed.More (Err x) h only e = e
-fault_of_piece ask input (fed.Ended used) (Err x) h only e =
-    subst (λ (y : List ℕ). IsRefusal ask (lines_of y) x) (take-append-drop used input) (fault_longer ask (take used input) (drop used input) h.job (Err x) h.spells h.within only)
+pub fault_of_piece : (input : List ℕ) (f : Fed) (res : Result ReadJob JobFault) → Feeds [] input f → ((n : ℕ) (j : JobView) → n ≤ length (lines_of (used_of input f)) → Spells Present (take n (lines_of (used_of input f))) j → IsWithin j → IsOnly n j res) →
+    IfErr res (IsRefusal (lines_of (used_of input f))) → IfErr res (IsRefusal (lines_of input))
+fault_of_piece input f (Ok r) h only e = tt
+fault_of_piece input fed.More (Err x) h only e = e
+fault_of_piece input (fed.Ended used) (Err x) h only e =
+    subst (λ (y : List ℕ). IsRefusal (lines_of y) x) (take-append-drop used input) (fault_longer (take used input) (drop used input) h.job (Err x) h.spells h.within only)

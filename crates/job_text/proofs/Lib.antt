@@ -1,4 +1,3 @@
-pub mod Barred
 pub mod Begun
 pub mod CardFacts
 pub mod EndedLines

@@ -1,48 +1,33 @@
 -- What runs or spells a job does so, too, where controllers may be missing.
-use Rattle.std.proofs.Common.{◌≡◌, ℕ, true, false, Option, Some, None, List, [], ◌∷◌, refl, ap, option_map, option_and_then, inl, inr}
+use Rattle.std.proofs.Common.{◌≡◌, ℕ, true, false, Option, Some, List, [], ◌∷◌, refl, ap, option_map, option_and_then, inl, inr}
 use Rattle.std.specs.List.{list_any}
 use Rattle.std.specs.Str.{bytes_eq}
 use Rattle.session_book.specs.JobView.{JobView}
 use Rattle.job_text.specs.Lines.{LineView, listing_text}
-use Rattle.job_text.specs.Drafts.{DraftView, Controllers, Barred, Present, Named, are_met}
-use Rattle.job_text.specs.CardView.{CardView, Phase, Session, End}
+use Rattle.job_text.specs.Drafts.{DraftView, Controllers, Named, are_met}
+use Rattle.job_text.specs.CardView.{CardView, Phase, End}
 use Rattle.job_text.specs.Cards.{card_at}
 use Rattle.job_text.specs.Adding.{with_task, indices_on, put_session, may_have, with_session}
-use Rattle.job_text.specs.Spells.{AreSessions, IsPhase, ArePhases, Spells}
+use Rattle.job_text.specs.Spells.{IsPhase, ArePhases, Spells}
 use Rattle.job_text.specs.declared.parts.Part.{Part}
 use Rattle.job_text.specs.declared.parts.Part.TheVariants as part
-use Rattle.job_text.specs.Steps.{State, state, is_sessions, closed, session_over, open_phase, add_session, end, takes_raw, take_raw, take_card, step, run}
+use Rattle.job_text.specs.Steps.{State, closed, open_phase, end, takes_raw, take_raw, take_card, step, run}
 use Rattle.job_text.proofs.Guards.{guard_some, guard_more, guard_then, map_some, then_some, choose}
 
-named_may : (ask : Controllers) (j : DraftView) (by : Option (List ℕ)) → may_have ask j by ≡ true → may_have Named j by ≡ true
-named_may ask j None e = refl
-named_may Barred j (Some t) e = absurd cc
-named_may Present j (Some t) e = e
-named_may Named j (Some t) e = e
-
 -- a session that was added
-pub record Added (ask : Controllers) (j after : DraftView) (name : List ℕ) (by : Option (List ℕ)) (names : List (List ℕ)) : Type 0 where
+pub record Added (j after : DraftView) (name : List ℕ) (by : Option (List ℕ)) (names : List (List ℕ)) : Type 0 where
   pub new : list_any (λ x. bytes_eq x.name name) j.sessions ≡ false
-  pub may : may_have ask j by ≡ true
+  pub may : may_have j by ≡ true
   pub modules : List ℕ
   pub are : indices_on j by (Some []) names ≡ Some modules
   pub is : put_session j name by modules ≡ after
 
-pub session_added : (ask : Controllers) (j after : DraftView) (name : List ℕ) (by : Option (List ℕ)) (names : List (List ℕ)) → with_session ask j name by names ≡ Some after → Added ask j after name by names
-session_added ask j after name by names e =
+pub session_added : (j after : DraftView) (name : List ℕ) (by : Option (List ℕ)) (names : List (List ℕ)) → with_session j name by names ≡ Some after → Added j after name by names
+session_added j after name by names e =
     let g = guard_then _ _ after e in
-    let h = guard_more (may_have ask j by) (option_map (put_session j name by) (indices_on j by (Some []) names)) after g.1 in
+    let h = guard_more (may_have j by) (option_map (put_session j name by) (indices_on j by (Some []) names)) after g.1 in
     let m = map_some (put_session j name by) (indices_on j by (Some []) names) after h.1 in
     record { new = g.0; may = h.0; modules = m.from; are = m.was; is = m.gives }
-
-named_session : (ask : Controllers) (j after : DraftView) (name : List ℕ) (by : Option (List ℕ)) (names : List (List ℕ)) → with_session ask j name by names ≡ Some after → with_session Named j name by names ≡ Some after
-named_session ask j after name by names e =
-    let a = session_added ask j after name by names e in
-    rw (a.new, named_may ask j by a.may, a.are) (ap (λ (x : DraftView). Some x) a.is)
-
-named_sessions : (ask : Controllers) (ls : List LineView) (j after : DraftView) → AreSessions ask j ls after → AreSessions Named j ls after
-named_sessions ask [] j after are = are
-named_sessions ask (l ∷ ls) j after are = record { name = are.name; by = are.by; names = are.names; mid = are.mid; card = are.card; adds = named_session ask j are.mid are.name are.by are.names are.adds; then = named_sessions ask ls are.mid after are.then }
 
 named_phases : (ask : Controllers) (blocks : List (List LineView)) (j after : DraftView) → ArePhases ask j blocks after → ArePhases Named j blocks after
 named_phases ask [] j after are = are
@@ -50,7 +35,7 @@ named_phases ask (block ∷ blocks) j after are =
     let p : IsPhase ask j block are.mid = are.is_phase in
     record {
       mid = are.mid;
-      is_phase = record { head = p.head; sessions = p.sessions; tasks = p.tasks; whole = p.whole; name = p.name; named = p.named; mid = p.mid; card = p.card; adds = p.adds; are_sessions = named_sessions ask p.sessions p.named p.mid p.are_sessions; are_tasks = p.are_tasks; met = refl };
+      is_phase = record { head = p.head; sessions = p.sessions; tasks = p.tasks; whole = p.whole; name = p.name; named = p.named; mid = p.mid; card = p.card; adds = p.adds; are_sessions = p.are_sessions; are_tasks = p.are_tasks; met = refl };
       then = named_phases ask blocks are.mid after are.then;
     }
 
@@ -79,10 +64,6 @@ named_card : (ask : Controllers) (x : CardView) (st s : State) → take_card ask
 named_card ask (Phase name) st s e =
     let t = then_some (open_phase name) (closed ask st.part st.job) s e in
     rw (named_closed ask st.part st.job t.from t.was) t.gives
-named_card ask (Session name by names) st s e =
-    let g = guard_more (is_sessions st.part) (add_session ask st.job name by names) s e in
-    let m = map_some (λ k. state part.Sessions k (session_over st.job)) (with_session ask st.job name by names) s g.1 in
-    rw (g.0, named_session ask st.job m.from name by names m.was) (ap (λ (x : State). Some x) m.gives)
 named_card ask End st s e =
     let m = map_some end (closed ask st.part st.job) s e in
     rw (named_closed ask st.part st.job m.from m.was) (ap (λ (x : State). Some x) m.gives)

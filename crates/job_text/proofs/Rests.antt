@@ -40,7 +40,7 @@ pub record RestSessions (ask : Controllers) (j : DraftView) (ls : List LineView)
   pub rest : List LineView
   pub mid : DraftView
   pub whole : ls ≡ sessions ++ rest
-  pub are : AreSessions ask j sessions mid
+  pub are : AreSessions j sessions mid
   pub after : RestTasks ask mid rest d
 
 pub record RestModules (ask : Controllers) (j : DraftView) (ls : List LineView) (d : DraftView) : Type 0 where
@@ -278,9 +278,9 @@ phase_back ask st s name l ls d card e r =
     let m = map_some (λ k. state part.Sessions k (phase_over t.from)) (with_phase t.from name) s t.gives in
     closes ask st.part st.job t.from (l ∷ ls) d t.was (phase_first ask t.from m.from l ls d name card m.was (was ask ls d (state part.Sessions m.from (phase_over t.from)) s m.gives r))
 
-session_back : (ask : Controllers) (p : Part) (j : DraftView) (s : State) (name : List ℕ) (by : Option (List ℕ)) (names : List (List ℕ)) (l : LineView) (ls : List LineView) (d : DraftView) → IsCard l (Session name by names) → is_sessions p ≡ true → add_session ask j name by names ≡ Some s → RestOf ask s ls d → Rest ask p j (l ∷ ls) d
+session_back : (ask : Controllers) (p : Part) (j : DraftView) (s : State) (name : List ℕ) (by : Option (List ℕ)) (names : List (List ℕ)) (l : LineView) (ls : List LineView) (d : DraftView) → IsCard l (Session name by names) → is_sessions p ≡ true → add_session j name by names ≡ Some s → RestOf ask s ls d → Rest ask p j (l ∷ ls) d
 session_back ask part.Sessions j s name by names l ls d card is e r =
-    let m = map_some (λ k. state part.Sessions k (session_over j)) (with_session ask j name by names) s e in
+    let m = map_some (λ k. state part.Sessions k (session_over j)) (with_session j name by names) s e in
     let a : RestSessions ask m.from ls d = was ask ls d (state part.Sessions m.from (session_over j)) s m.gives r in
     record {
       sessions = l ∷ a.sessions;
@@ -368,7 +368,7 @@ card_back ask (Text bytes) st s l ls d card e r = text_back ask st.part st.job b
 card_back ask (Listing n) st s l ls d card e r = listing_back ask st.part st.job n l ls d s card e r
 card_back ask (Phase n) st s l ls d card e r = phase_back ask st s n l ls d card e r
 card_back ask (Session n by ns) st s l ls d card e r =
-    let g = guard_more (is_sessions st.part) (add_session ask st.job n by ns) s e in
+    let g = guard_more (is_sessions st.part) (add_session st.job n by ns) s e in
     session_back ask st.part st.job s n by ns l ls d card g.0 g.1 r
 card_back ask (Task n e p b k) st s l ls d card took r = task_back ask st s n e p b k l ls d card took r
 card_back ask End st s l ls d card e r = end_back ask st s l ls d card e r

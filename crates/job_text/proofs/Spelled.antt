@@ -4,7 +4,7 @@ use Rattle.std.proofs.lemmas.Bool.{cases_order}
 use Rattle.std.proofs.lemmas.Bool.Decides.{nat_tests}
 use Rattle.cov_base.specs.Memory.{ImageView}
 use Rattle.session_book.specs.JobView.{JobView}
-use Rattle.job_text.specs.Drafts.{DraftView, Controllers, are_met, bound}
+use Rattle.job_text.specs.Drafts.{DraftView, Controllers, are_met, bound, Present}
 use Rattle.job_text.specs.Lines.{LineView, listing_text}
 use Rattle.job_text.specs.CardView.{CardView, Cover, Module, Text, Listing, Phase, Session, Task, Reg, Data, Input, End}
 use Rattle.job_text.specs.Cards.{IsCard, card_at}
@@ -136,7 +136,7 @@ run_modules ask [] j after st are a = rw (← are) (record { end = st; runs = re
 run_modules ask (block ∷ blocks) j after st are a =
     reach_on ask st block (joined blocks) _ _ (run_module ask block j are.mid st are.is_module a) (λ s b. run_modules ask blocks are.mid after s are.then b)
 
-run_sessions : (ask : Controllers) (ls : List LineView) (j after : DraftView) (st : State) → AreSessions ask j ls after → Is part.Sessions j st → Reaches ask st ls (Is part.Sessions after)
+run_sessions : (ask : Controllers) (ls : List LineView) (j after : DraftView) (st : State) → AreSessions j ls after → Is part.Sessions j st → Reaches ask st ls (Is part.Sessions after)
 run_sessions ask [] j after st are a = rw (← are) (record { end = st; runs = refl; holds = a })
 run_sessions ask (l ∷ ls) j after st are a =
     let next : State = state part.Sessions are.mid (session_over j) in
@@ -227,10 +227,10 @@ one_job ask lines a b p q =
     sym r.holds.is ∙ (ap (λ (s : State). bound s.job) same ∙ t.holds.is)
 
 -- lines that begin a job run
-pub run_begun : (ask : Controllers) (lines : List LineView) → JobBegins ask lines → Reaches ask start lines (λ s. Unit {0})
-run_begun ask lines b =
-    let r = run_spelled ask (lines ++ b.rest) b.job b.spells in
-    let t = then_some (λ s. run ask s b.rest) (run ask start lines) r.end (sym (run_append ask start lines b.rest) ∙ r.runs) in
+pub run_begun : (lines : List LineView) → JobBegins lines → Reaches Present start lines (λ s. Unit {0})
+run_begun lines b =
+    let r = run_spelled Present (lines ++ b.rest) b.job b.spells in
+    let t = then_some (λ s. run Present s b.rest) (run Present start lines) r.end (sym (run_append Present start lines b.rest) ∙ r.runs) in
     record { end = t.from; runs = t.was; holds = tt }
 
 -- a job that was read stands still

@@ -1,10 +1,9 @@
 -- What the reader's runs say of the lines.
 use Rattle.std.proofs.Common.{◌≡◌, ℕ, ◌+◌, ◌-◌, ◌<◌, ◌≤◌, zero, suc, Bool, true, false, Option, Some, None, List, [], ◌∷◌, ◌++◌, length, take, drop, refl, ap, subst, sym, ◌∙◌, arith, append-nil, option_map, option_and_then, inl, inr, take-append-drop}
-use Rattle.std.proofs.Math.Seq.{take-length}
 use Rattle.std.proofs.lemmas.Bool.{cases_order, cases_lt}
 use Rattle.std.proofs.lemmas.List.{length-drop}
 use Rattle.session_book.specs.JobView.{JobView}
-use Rattle.job_text.specs.Drafts.{DraftView, Controllers, Named, asked, bound}
+use Rattle.job_text.specs.Drafts.{DraftView, Named, Present, bound}
 use Rattle.job_text.specs.Lines.{LineView, lines_of}
 use Rattle.job_text.specs.Spells.{Spells}
 use Rattle.job_text.specs.Limits.{keeps, IsWithin, Passes}
@@ -15,7 +14,7 @@ use Rattle.job_text.specs.declared.parts.Part.{Part}
 use Rattle.job_text.specs.declared.parts.Part.TheVariants as kind
 use Rattle.job_text.specs.Steps.{State, start, is_done, step, run}
 use Rattle.job_text.proofs.Guards.{some_same, FromMap, map_some}
-use Rattle.job_text.proofs.Spans.{no_lines, lines_count}
+use Rattle.job_text.proofs.Spans.{no_lines}
 use Rattle.job_text.proofs.Spelled.{Reaches, Ends, run_append, run_spelled, run_begun, done_step, not_later}
 use Rattle.job_text.proofs.Named.{named_run}
 use Rattle.job_text.proofs.Shortest.{sofar_at, sofar, run_announces}
@@ -48,60 +47,60 @@ at_line ls n l more e =
     let one : n + 1 ≡ suc n = omega arith in
     record { inside = a.inside; taken = rw one a.taken; left = rw one a.left }
 
-run_last : (ask : Controllers) (ls : List LineView) (n : ℕ) (l : LineView) (more : List LineView) (s : State) → drop n ls ≡ l ∷ more → run ask start (take n ls) ≡ Some s → run ask start (take (n + 1) ls) ≡ option_and_then (λ t. Some t) (step ask s l)
-run_last ask ls n l more s d e = rw ((at_line ls n l more d).taken, run_append ask start (take n ls) (l ∷ []), e) refl
+run_last : (ls : List LineView) (n : ℕ) (l : LineView) (more : List LineView) (s : State) → drop n ls ≡ l ∷ more → run Present start (take n ls) ≡ Some s → run Present start (take (n + 1) ls) ≡ option_and_then (λ t. Some t) (step Present s l)
+run_last ls n l more s d e = rw ((at_line ls n l more d).taken, run_append Present start (take n ls) (l ∷ []), e) refl
 
-run_on : (ask : Controllers) (ls : List LineView) (n : ℕ) (l : LineView) (more : List LineView) (s t : State) → drop n ls ≡ l ∷ more → run ask start (take n ls) ≡ Some s → step ask s l ≡ Some t → run ask start (take (n + 1) ls) ≡ Some t
-run_on ask ls n l more s t d e f = run_last ask ls n l more s d e ∙ (rw f refl)
+run_on : (ls : List LineView) (n : ℕ) (l : LineView) (more : List LineView) (s t : State) → drop n ls ≡ l ∷ more → run Present start (take n ls) ≡ Some s → step Present s l ≡ Some t → run Present start (take (n + 1) ls) ≡ Some t
+run_on ls n l more s t d e f = run_last ls n l more s d e ∙ (rw f refl)
 
 not_true : (b : Bool) → (b ≡ true → ⊥) → b ≡ false
 not_true true h = absurd (h refl)
 not_true false h = refl
 
 -- what is over a limit stays over it
-pub over_passes : (ask : Controllers) (ls : List LineView) (s : State) (w : Limit) → run ask start ls ≡ Some s → keeps w (sofar s) ≡ false → Passes w ls
-over_passes ask ls s w r e rest job p =
+pub over_passes : (ls : List LineView) (s : State) (w : Limit) → run Present start ls ≡ Some s → keeps w (sofar s) ≡ false → Passes w ls
+over_passes ls s w r e rest job p =
     let x : Reaches Named start (ls ++ rest) (Ends job) = run_spelled Named (ls ++ rest) job p in
-    let t : run Named s rest ≡ Some x.end = (rw (run_append Named start ls rest, named_run ask ls start s r) at x.runs) in
+    let t : run Named s rest ≡ Some x.end = (rw (run_append Named start ls rest, named_run Present ls start s r) at x.runs) in
     let same : sofar x.end ≡ job = rw (x.holds.at, x.holds.is) refl in
     not_true (keeps w job) (λ k. let m : keeps w (sofar s) ≡ true = run_more Named rest s x.end t w (rw same k) in let no : true ≡ false = sym m ∙ e in absurd cc)
 
-pub kept_passes : (ask : Controllers) (ls : List LineView) (s : State) (w : Limit) → run ask start ls ≡ Some s → keeps w (sofar s) ≡ true → Passes w ls → ⊥
-kept_passes ask ls s w r e p =
-    let b = run_announces ask ls s r in
+pub kept_passes : (ls : List LineView) (s : State) (w : Limit) → run Present start ls ≡ Some s → keeps w (sofar s) ≡ true → Passes w ls → ⊥
+kept_passes ls s w r e p =
+    let b = run_announces Present ls s r in
     let over : keeps w (sofar s) ≡ false = p b.rest (sofar s) b.spells in
     let no : true ≡ false = sym e ∙ over in
     absurd cc
 
-pub goes_on : (ask : Controllers) (ls : List LineView) (s : State) → run ask start ls ≡ Some s → IsWithin (sofar s) → GoesOn ask ls
-goes_on ask ls s r within = record { begins = run_begins ask ls s r; within = λ w. kept_passes ask ls s w r (within w) }
+pub goes_on : (ls : List LineView) (s : State) → run Present start ls ≡ Some s → IsWithin (sofar s) → GoesOn ls
+goes_on ls s r within = record { begins = run_begins ls s r; within = λ w. kept_passes ls s w r (within w) }
 
-pub bad_here : (ask : Controllers) (ls : List LineView) (n : ℕ) (l : LineView) (more : List LineView) (s : State) → drop n ls ≡ l ∷ more → run ask start (take n ls) ≡ Some s → IsWithin (sofar s) → step ask s l ≡ None → IsBadAt ask ls (n + 1)
-bad_here ask ls n l more s d e within f =
-    let stuck : run ask start (take (n + 1) ls) ≡ None = run_last ask ls n l more s d e ∙ (rw f refl) in
+pub bad_here : (ls : List LineView) (n : ℕ) (l : LineView) (more : List LineView) (s : State) → drop n ls ≡ l ∷ more → run Present start (take n ls) ≡ Some s → IsWithin (sofar s) → step Present s l ≡ None → IsBadAt ls (n + 1)
+bad_here ls n l more s d e within f =
+    let stuck : run Present start (take (n + 1) ls) ≡ None = run_last ls n l more s d e ∙ (rw f refl) in
     let same : n + 1 - 1 ≡ n = omega arith in
     let inside : n < length ls = (at_line ls n l more d).inside in
     record {
       counts = omega arith;
-      before = rw same (goes_on ask (take n ls) s e within);
-      here = inl (omega (arith, inside), λ b. let r : Reaches ask start (take (n + 1) ls) (λ s. Unit {0}) = run_begun ask (take (n + 1) ls) b in let no : None ≡ Some r.end = sym stuck ∙ r.runs in absurd cc);
+      before = rw same (goes_on (take n ls) s e within);
+      here = inl (omega (arith, inside), λ b. let r : Reaches Present start (take (n + 1) ls) (λ s. Unit {0}) = run_begun (take (n + 1) ls) b in let no : None ≡ Some r.end = sym stuck ∙ r.runs in absurd cc);
     }
 
-pub over_here : (ask : Controllers) (ls : List LineView) (n : ℕ) (l : LineView) (more : List LineView) (s : State) (what : Limit) → drop n ls ≡ l ∷ more → run ask start (take n ls) ≡ Some s → IsWithin (sofar s) →
-    option_map (λ t. t.over) (step ask s l) ≡ Some (Some what) → IsOverAt ask ls what (n + 1)
-over_here ask ls n l more s what d e within f =
-    let m : FromMap (λ t. t.over) (step ask s l) (Some what) = map_some (λ t. t.over) (step ask s l) (Some what) f in
+pub over_here : (ls : List LineView) (n : ℕ) (l : LineView) (more : List LineView) (s : State) (what : Limit) → drop n ls ≡ l ∷ more → run Present start (take n ls) ≡ Some s → IsWithin (sofar s) →
+    option_map (λ t. t.over) (step Present s l) ≡ Some (Some what) → IsOverAt ls what (n + 1)
+over_here ls n l more s what d e within f =
+    let m : FromMap (λ t. t.over) (step Present s l) (Some what) = map_some (λ t. t.over) (step Present s l) (Some what) f in
     let same : n + 1 - 1 ≡ n = omega arith in
     let inside : n < length ls = (at_line ls n l more d).inside in
-    let r : run ask start (take (n + 1) ls) ≡ Some m.from = run_on ask ls n l more s m.from d e m.was in
-    let judged : Judged (Some what) (sofar m.from) = subst (λ (o : Option Limit). Judged o (sofar m.from)) m.gives ((step_grows ask s m.from l m.was).judged within) in
+    let r : run Present start (take (n + 1) ls) ≡ Some m.from = run_on ls n l more s m.from d e m.was in
+    let judged : Judged (Some what) (sofar m.from) = subst (λ (o : Option Limit). Judged o (sofar m.from)) m.gives ((step_grows Present s m.from l m.was).judged within) in
     record {
       counts = omega arith;
       inside = omega (arith, inside);
-      before = rw same (goes_on ask (take n ls) s e within);
-      begins = run_begins ask (take (n + 1) ls) m.from r;
-      passes = over_passes ask (take (n + 1) ls) m.from what r judged.0;
-      first = λ w less. kept_passes ask (take (n + 1) ls) m.from w r (judged.1 w less);
+      before = rw same (goes_on (take n ls) s e within);
+      begins = run_begins (take (n + 1) ls) m.from r;
+      passes = over_passes (take (n + 1) ls) m.from what r judged.0;
+      first = λ w less. kept_passes (take (n + 1) ls) m.from w r (judged.1 w less);
     }
 
 whole_take : (ls : List LineView) (n : ℕ) → drop n ls ≡ [] → take n ls ≡ ls
@@ -110,8 +109,8 @@ whole_take ls n d = take_all (take n ls) (drop n ls) d ∙ take-append-drop n ls
     take_all : (a b : List LineView) → b ≡ [] → a ≡ a ++ b
     take_all a b e = rw (e, append-nil {A = LineView}) refl
 
-pub ends_early : (ask : Controllers) (ls : List LineView) (n : ℕ) (s : State) → drop n ls ≡ [] → n ≤ length ls → run ask start (take n ls) ≡ Some s → IsWithin (sofar s) → is_done s.part ≡ false → IsBadAt ask ls (n + 1)
-ends_early ask ls n s d h e within f =
+pub ends_early : (ls : List LineView) (n : ℕ) (s : State) → drop n ls ≡ [] → n ≤ length ls → run Present start (take n ls) ≡ Some s → IsWithin (sofar s) → is_done s.part ≡ false → IsBadAt ls (n + 1)
+ends_early ls n s d h e within f =
     let whole : take n ls ≡ ls = whole_take ls n d in
     let a : length (drop n ls) ≡ length ls - n = length-drop n ls in
     let b : length (drop n ls) ≡ 0 = ap (λ (x : List LineView). length x) d in
@@ -119,11 +118,11 @@ ends_early ask ls n s d h e within f =
     let same : n + 1 - 1 ≡ n = omega arith in
     record {
       counts = omega arith;
-      before = rw same (goes_on ask (take n ls) s e within);
+      before = rw same (goes_on (take n ls) s e within);
       here = inr (
         omega (arith, all),
         λ job p.
-            let r : Reaches ask start ls (Ends job) = run_spelled ask ls job p in
+            let r : Reaches Present start ls (Ends job) = run_spelled Present ls job p in
             let end : r.end ≡ s = some_same r.end s (sym r.runs ∙ (rw whole at e)) in
             let no : true ≡ false = sym (ap is_done r.holds.at) ∙ (ap (λ (t : State). is_done t.part) end ∙ f) in absurd cc,
       );
@@ -132,23 +131,23 @@ ends_early ask ls n s d h e within f =
 -- what the lines that were read leave out
 
 -- none of the lines that were read ends a job
-none_yet : (ask : Controllers) (ls : List LineView) (k n : ℕ) (s : State) (job : JobView) → k ≤ length ls → run ask start (take k ls) ≡ Some s → is_done s.part ≡ false → n ≤ k → Spells ask (take n ls) job → ⊥
-none_yet ask ls k n s job inside r d h p =
-    let x : Reaches ask start (take n ls) (Ends job) = run_spelled ask (take n ls) job p in
+none_yet : (ls : List LineView) (k n : ℕ) (s : State) (job : JobView) → k ≤ length ls → run Present start (take k ls) ≡ Some s → is_done s.part ≡ false → n ≤ k → Spells Present (take n ls) job → ⊥
+none_yet ls k n s job inside r d h p =
+    let x : Reaches Present start (take n ls) (Ends job) = run_spelled Present (take n ls) job p in
     let done : is_done x.end.part ≡ true = ap is_done x.holds.at in
     elim (cases_order n k) [
-      | inl e ↦ (let t : run ask start (take n ls) ≡ Some s = (rw (← e) at r) in
+      | inl e ↦ (let t : run Present start (take n ls) ≡ Some s = (rw (← e) at r) in
           let end : s ≡ x.end = some_same s x.end (sym t ∙ x.runs) in
           let no : true ≡ false = sym done ∙ (sym (ap (λ (y : State). is_done y.part) end) ∙ d) in
           absurd cc)
-      | inr y ↦ (elim y [ inl l ↦ not_later ask ls n k x.end s l inside x.runs done r | inr l ↦ absurd (omega (arith, l, h)) ])
+      | inr y ↦ (elim y [ inl l ↦ not_later Present ls n k x.end s l inside x.runs done r | inr l ↦ absurd (omega (arith, l, h)) ])
     ]
 
 -- where the next line is bad no first lines spell a job
-pub bad_none : (ask : Controllers) (ls : List LineView) (k n : ℕ) (s : State) (job : JobView) → k ≤ length ls → run ask start (take k ls) ≡ Some s → is_done s.part ≡ false → IsBadAt ask ls (k + 1) → n ≤ length ls → Spells ask (take n ls) job → ⊥
-bad_none ask ls k n s job inside r d b h p = elim (cases_lt k n) [
-  | inl l ↦ bad_later ask ls job (k + 1) n (omega (arith, l)) h p b
-  | inr l ↦ none_yet ask ls k n s job inside r d l p
+pub bad_none : (ls : List LineView) (k n : ℕ) (s : State) (job : JobView) → k ≤ length ls → run Present start (take k ls) ≡ Some s → is_done s.part ≡ false → IsBadAt ls (k + 1) → n ≤ length ls → Spells Present (take n ls) job → ⊥
+bad_none ls k n s job inside r d b h p = elim (cases_lt k n) [
+  | inl l ↦ bad_later ls job (k + 1) n (omega (arith, l)) h p b
+  | inr l ↦ none_yet ls k n s job inside r d l p
 ]
 
 -- a job that was read is within the limits
@@ -176,26 +175,15 @@ pub drop_front : (a b : List LineView) → drop (length a) (a ++ b) ≡ b
 drop_front [] b = refl
 drop_front (x ∷ xs) b = drop_front xs b
 
-bad_next : (ask : Controllers) (a b : List LineView) (job : JobView) → Spells ask a job → IsWithin job → (b ≡ [] → ⊥) → IsBadAt ask (a ++ b) (length a + 1)
-bad_next ask a [] job p within some = absurd (some refl)
-bad_next ask a (l ∷ ls) job p within some =
-    let r : Reaches ask start a (Ends job) = run_spelled ask a job p in
+bad_next : (a b : List LineView) (job : JobView) → Spells Present a job → IsWithin job → (b ≡ [] → ⊥) → IsBadAt (a ++ b) (length a + 1)
+bad_next a [] job p within some = absurd (some refl)
+bad_next a (l ∷ ls) job p within some =
+    let r : Reaches Present start a (Ends job) = run_spelled Present a job p in
     let done : is_done r.end.part ≡ true = ap is_done r.holds.at in
     let same : sofar r.end ≡ job = rw (r.holds.at, r.holds.is) refl in
-    let stop : step ask r.end l ≡ None = done_step ask r.end.part r.end.job r.end.over l done in
-    bad_here ask (a ++ l ∷ ls) (length a) l ls r.end (drop_front a (l ∷ ls)) (rw (take_front a (l ∷ ls)) r.runs) (subst IsWithin (sym same) within) stop
+    let stop : step Present r.end l ≡ None = done_step Present r.end.part r.end.job r.end.over l done in
+    bad_here (a ++ l ∷ ls) (length a) l ls r.end (drop_front a (l ∷ ls)) (rw (take_front a (l ∷ ls)) r.runs) (subst IsWithin (sym same) within) stop
 
-pub bad_behind : (by : Bool) (input : List ℕ) (r : ReadJob) → IsRead by input r → r.end < length input → IsBadAt (asked by) (lines_of input) (r.lines + 1)
-bad_behind by input r i h =
-    rw (i.parted, ← i.count) (bad_next (asked by) (lines_of (take r.end input)) (lines_of (drop r.end input)) r.job i.spells i.within (λ none. some_left input r.end h (no_lines (drop r.end input) none)))
-
-pub whole_alone : (ask : Controllers) (input : List ℕ) (job : JobView) → Spells ask (lines_of input) job → Spells ask (take (length (lines_of input)) (lines_of input)) job
-whole_alone ask input job p = rw (take-length (lines_of input)) p
-
-taken_most : (n : ℕ) (bs : List ℕ) → length (take n bs) ≤ length bs
-taken_most zero bs = omega arith
-taken_most (suc n) [] = omega arith
-taken_most (suc n) (b ∷ bs) = omega (arith, taken_most n bs)
-
-pub lines_most : (by : Bool) (input : List ℕ) (r : ReadJob) → IsRead by input r → r.lines ≤ length input
-lines_most by input r i = omega (arith, i.count, lines_count (take r.end input), i.inside, taken_most r.end input)
+pub bad_behind : (input : List ℕ) (r : ReadJob) → IsRead input r → r.end < length input → IsBadAt (lines_of input) (r.lines + 1)
+bad_behind input r i h =
+    rw (i.parted, ← i.count) (bad_next (lines_of (take r.end input)) (lines_of (drop r.end input)) r.job i.spells i.within (λ none. some_left input r.end h (no_lines (drop r.end input) none)))

@@ -15,7 +15,7 @@ use Rattle.module_area.specs.Views.{DataView}
 use Rattle.cov_base.specs.declared.limits.TheConstants.{MODULE_LIMIT, SIZE_LIMIT, LINE_LIMIT, PHASE_LIMIT, SESSION_LIMIT, TASK_LIMIT, PRIVATE_LIMIT, BUDGET_LIMIT, ROOM_LIMIT}
 use Rattle.session_book.specs.JobView.{JobView, SessionView, TaskView, IsJob, IsSession, IsListing, IsTaskOf, HasController, AreParted, Differ, first_regs}
 use Rattle.session_book.specs.JobView as book
-use Rattle.job_text.specs.Drafts.{SessionDraft, DraftView, Controllers, Present, asked, is_controller, controller_of, is_met_by, is_met, are_met, bound_session, bound}
+use Rattle.job_text.specs.Drafts.{SessionDraft, DraftView, Controllers, Present, is_controller, controller_of, is_met_by, is_met, are_met, bound_session, bound}
 use Rattle.job_text.specs.Lines.{LineView}
 use Rattle.job_text.specs.CardView.{Module, Session, Task}
 use Rattle.job_text.specs.Cards.{may_stand}
@@ -25,7 +25,6 @@ use Rattle.job_text.specs.Spells.{AreModules, IsModule, AreSessions, IsTaskBlock
 use Rattle.job_text.specs.Limits.{are_short, IsWithin}
 use Rattle.job_text.specs.declared.limit.Limit.TheVariants as limit
 use Rattle.job_text.specs.Steps.{State, start, is_done, run}
-use Rattle.job_text.proofs.Barred.{barred_without}
 use Rattle.job_text.proofs.Guards.{guard_some, both, guard_none}
 use Rattle.job_text.proofs.Named.{session_added}
 use Rattle.job_text.proofs.CardFacts.{Good, card_good}
@@ -262,9 +261,9 @@ parted_of phase s t at free same other =
     let apart : nat_eq (get_or t.modules i e) (get_or s.modules k d) ≡ false = none_of (nat_eq (get_or t.modules i e)) s.modules off k d l in
     grind (arith, nat_tests, apart))
 
-session_so_far : (ask : Controllers) (j after : DraftView) (name : List ℕ) (by : Option (List ℕ)) (names : List (List ℕ)) → with_session ask j name by names ≡ Some after → 1 ≤ length names → 1 ≤ length j.phases → SoFar j → SoFar after
-session_so_far ask j after name by names e some phases s =
-    let m = session_added ask j after name by names e in
+session_so_far : (j after : DraftView) (name : List ℕ) (by : Option (List ℕ)) (names : List (List ℕ)) → with_session j name by names ≡ Some after → 1 ≤ length names → 1 ≤ length j.phases → SoFar j → SoFar after
+session_so_far j after name by names e some phases s =
+    let m = session_added j after name by names e in
     let t : SessionDraft = session_draft j name by m.modules in
     let none : AreUsed j by [] = record { exist = All-nil (λ m. m < length j.images); differ = no_pairs (λ m n. m ≢ n); free = All-nil (λ m. list_any (bars (this_phase j) by m) j.sessions ≡ false) } in
     let r : Indices j by [] m.modules (length names) = are_indices j by names [] m.modules m.are none in
@@ -283,19 +282,19 @@ session_so_far ask j after name by names e some phases s =
     })
 
 -- as many phases
-session_phases : (ask : Controllers) (j after : DraftView) (name : List ℕ) (by : Option (List ℕ)) (names : List (List ℕ)) → with_session ask j name by names ≡ Some after → after.phases ≡ j.phases
-session_phases ask j after name by names e = ap (λ (x : DraftView). x.phases) (sym (session_added ask j after name by names e).is)
+session_phases : (j after : DraftView) (name : List ℕ) (by : Option (List ℕ)) (names : List (List ℕ)) → with_session j name by names ≡ Some after → after.phases ≡ j.phases
+session_phases j after name by names e = ap (λ (x : DraftView). x.phases) (sym (session_added j after name by names e).is)
 
 record InPhase (j : DraftView) : Type 0 where
   so_far : SoFar j
   phase : 1 ≤ length j.phases
 
-sessions_so_far : (ask : Controllers) (ls : List LineView) (j after : DraftView) → AreSessions ask j ls after → InPhase j → InPhase after
-sessions_so_far ask [] j after are s = rw (← are) s
-sessions_so_far ask (l ∷ ls) j after are s =
+sessions_so_far : (ls : List LineView) (j after : DraftView) → AreSessions j ls after → InPhase j → InPhase after
+sessions_so_far [] j after are s = rw (← are) s
+sessions_so_far (l ∷ ls) j after are s =
     let good : Good (Session are.name are.by are.names) = card_good l.bytes (Session are.name are.by are.names) are.card in
-    let next : InPhase are.mid = record { so_far = session_so_far ask j are.mid are.name are.by are.names are.adds good.1 s.phase s.so_far; phase = rw (session_phases ask j are.mid are.name are.by are.names are.adds) s.phase } in
-    sessions_so_far ask ls are.mid after are.then next
+    let next : InPhase are.mid = record { so_far = session_so_far j are.mid are.name are.by are.names are.adds good.1 s.phase s.so_far; phase = rw (session_phases j are.mid are.name are.by are.names are.adds) s.phase } in
+    sessions_so_far ls are.mid after are.then next
 
 -- tasks
 
@@ -347,7 +346,7 @@ phases_so_far ask [] j after are s = rw (← are) s
 phases_so_far ask (block ∷ blocks) j after are s =
     let p : IsPhase ask j block are.mid = are.is_phase in
     let named : InPhase p.named = record { so_far = phase_so_far j p.named p.name p.adds s; phase = phase_is j p.named p.name p.adds } in
-    let mid : InPhase p.mid = sessions_so_far ask p.sessions p.named p.mid p.are_sessions named in
+    let mid : InPhase p.mid = sessions_so_far p.sessions p.named p.mid p.are_sessions named in
     let end : InPhase are.mid = tasks_so_far p.tasks p.mid are.mid p.are_tasks mid in
     phases_so_far ask blocks are.mid after are.then end.so_far
 
@@ -435,20 +434,16 @@ phases_met : (blocks : List (List LineView)) (j after : DraftView) → ArePhases
 phases_met [] j after are e = rw (← are) e
 phases_met (block ∷ blocks) j after are e = phases_met blocks are.mid after are.then are.is_phase.met
 
-met_none : (tasks : List TaskView) (phase : ℕ) (by : Option (List ℕ)) → by ≡ None → is_met_by tasks phase by ≡ true
-met_none tasks phase by e = rw e refl
-
-all_met : (by : Bool) (ls : List LineView) (job : JobView) (p : Spells (asked by) ls job) → All (λ s. is_met p.draft.tasks s ≡ true) p.draft.sessions
-all_met true ls job p =
+all_met : (ls : List LineView) (job : JobView) (p : Spells Present ls job) → All (λ s. is_met p.draft.tasks s ≡ true) p.draft.sessions
+all_met ls job p =
     let none : p.mid.sessions ≡ [] = modules_none p.modules no_job p.mid p.are_modules refl in
     AllPass-from_list_all (is_met p.draft.tasks) p.draft.sessions (phases_met p.phases p.mid p.draft p.are_phases (rw none refl))
-all_met false ls job p = λ k d l. met_none p.draft.tasks (get_or p.draft.sessions k d).phase (get_or p.draft.sessions k d).by (barred_without ls job p k d l)
 
 -- lines that spell a job within the limits spell one that keeps its rules
-pub job_keeps : (by : Bool) (ls : List LineView) (job : JobView) → Spells (asked by) ls job → IsWithin job → IsJob job
-job_keeps by ls job p within =
+pub job_keeps : (ls : List LineView) (job : JobView) → Spells Present ls job → IsWithin job → IsJob job
+job_keeps ls job p within =
     let j : DraftView = p.draft in
-    let s : SoFar j = phases_so_far (asked by) p.phases p.mid j p.are_phases (modules_so_far p.modules no_job p.mid p.are_modules none_so_far) in
+    let s : SoFar j = phases_so_far Present p.phases p.mid j p.are_phases (modules_so_far p.modules no_job p.mid p.are_modules none_so_far) in
     let kept : IsWithin (bound j) = subst IsWithin p.is within in
     subst IsJob (sym p.is) (record {
       listings = s.listings;
@@ -460,7 +455,7 @@ job_keeps by ls job p within =
       sessions = at_most (length (bound j).sessions) SESSION_LIMIT (kept limit.Sessions);
       tasks = at_most (length j.tasks) TASK_LIMIT (kept limit.Tasks);
       are_sessions = All-map (IsSession (length j.images) (length j.phases)) (bound_session j.tasks) j.sessions (λ k d l. is_session _ _ j.tasks (get_or j.sessions k d) (s.are_sessions k d l));
-      parted = all_parted j.tasks j.sessions (all_met by ls job p) s.parted;
+      parted = all_parted j.tasks j.sessions (all_met ls job p) s.parted;
       controllers = All-map (HasController j.tasks) (bound_session j.tasks) j.sessions (λ k d l. has_controller j.tasks (get_or j.sessions k d).phase (get_or j.sessions k d).by);
       are_tasks = λ k d l.
           let t : IsTaskSoFar (length j.phases) (get_or j.tasks k d) = s.are_tasks k d l in
@@ -481,5 +476,5 @@ job_keeps by ls job p within =
     })
 
 -- lines that run to the end within the limits have read such a job
-pub read_keeps : (by : Bool) (ls : List LineView) (s : State) → run (asked by) start ls ≡ Some s → is_done s.part ≡ true → IsWithin (sofar s) → IsJob (bound s.job)
-read_keeps by ls s r done within = job_keeps by ls (bound s.job) (run_spells (asked by) ls s r done) (job_within s done within)
+pub read_keeps : (ls : List LineView) (s : State) → run Present start ls ≡ Some s → is_done s.part ≡ true → IsWithin (sofar s) → IsJob (bound s.job)
+read_keeps ls s r done within = job_keeps ls (bound s.job) (run_spells Present ls s r done) (job_within s done within)

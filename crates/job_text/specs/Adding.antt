@@ -4,7 +4,7 @@ use Rattle.std.specs.List.{list_any, list_all}
 use Rattle.std.specs.Str.{bytes_eq}
 use Rattle.cov_base.specs.Memory.{ImageView}
 use Rattle.session_book.specs.JobView.{TaskView}
-use Rattle.job_text.specs.Drafts.{SessionDraft, DraftView, Controllers, Barred}
+use Rattle.job_text.specs.Drafts.{SessionDraft, DraftView}
 
 abbrev pub no_job : DraftView
 no_job = record { images = []; listings = []; phases = []; sessions = []; tasks = [] }
@@ -62,14 +62,13 @@ abbrev pub has_task : DraftView → List ℕ → Bool
 has_task j name = list_any (λ t. bytes_eq t.name name) j.tasks
 
 -- A session before the tasks of its phase may have this controller: no task of an earlier phase has the name.
-abbrev pub may_have : Controllers → DraftView → Option (List ℕ) → Bool
-may_have c j None = true
-may_have Barred j (Some task) = false
-may_have c j (Some task) = not (has_task j task)
+abbrev pub may_have : DraftView → Option (List ℕ) → Bool
+may_have j None = true
+may_have j (Some task) = not (has_task j task)
 
-abbrev pub with_session : Controllers → DraftView → List ℕ → Option (List ℕ) → List (List ℕ) → Option DraftView
-with_session c j name by names = if list_any (λ s. bytes_eq s.name name) j.sessions then None
-    else (if may_have c j by then option_map (put_session j name by) (indices_on j by (Some []) names) else None)
+abbrev pub with_session : DraftView → List ℕ → Option (List ℕ) → List (List ℕ) → Option DraftView
+with_session j name by names = if list_any (λ s. bytes_eq s.name name) j.sessions then None
+    else (if may_have j by then option_map (put_session j name by) (indices_on j by (Some []) names) else None)
 
 -- the task in the phase that is open
 abbrev pub with_task : DraftView → TaskView → DraftView

@@ -20,17 +20,10 @@ pub record DraftView : Type 0 where
 
 -- what is asked of the sessions' controllers
 pub data Controllers : Type 0 where
-  -- there is none
-  Barred : Controllers
   -- each is a task of its session's phase
   Present : Controllers
   -- each has a name, and may be missing
   Named : Controllers
-
--- of a job that is read with controlled sessions or without
-abbrev pub asked : Bool → Controllers
-asked true = Present
-asked b = Barred
 
 -- the task is the one of the phase that has this name
 abbrev pub is_controller : ℕ → List ℕ → TaskView → Bool

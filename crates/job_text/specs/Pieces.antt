@@ -4,7 +4,7 @@ use Rattle.session_book.specs.JobView.{JobView}
 use Rattle.job_text.specs.Lines.{lines_of, ended_lines, IsClosed}
 use Rattle.job_text.specs.Limits.{IsWithin}
 use Rattle.job_text.specs.Refusals.{GoesOn, IsRefusal}
-use Rattle.job_text.specs.Drafts.{Controllers}
+use Rattle.job_text.specs.Drafts.{Present}
 use Rattle.job_text.specs.Spells.{Spells}
 use Rattle.job_text.specs.declared.jobs.JobFault.{JobFault}
 use Rattle.job_text.specs.declared.jobs.JobFault.TheVariants as fault
@@ -18,29 +18,29 @@ fault_line (fault.TooLarge what n) = n
 fault_line fault.NoMemory = 0
 
 -- The fault is that of reading these bytes, and its line has come with its LF. No first lines spell a job within the limits.
-pub record IsTold (c : Controllers) (bytes : List ℕ) (e : JobFault) : Type 0 where
-  pub refusal : IsRefusal c (lines_of bytes) e
+pub record IsTold (bytes : List ℕ) (e : JobFault) : Type 0 where
+  pub refusal : IsRefusal (lines_of bytes) e
   pub ended : fault_line e ≤ length (ended_lines (lines_of bytes))
-  pub only : (n : ℕ) (job : JobView) → n ≤ length (lines_of bytes) → Spells c (take n (lines_of bytes)) job → IsWithin job → e ≡ fault.NoMemory
+  pub only : (n : ℕ) (job : JobView) → n ≤ length (lines_of bytes) → Spells Present (take n (lines_of bytes)) job → IsWithin job → e ≡ fault.NoMemory
 
 -- the lines that have come with their LFs begin a job, are none, and pass no limit
-pub record IsOpen (c : Controllers) (bytes : List ℕ) : Type 0 where
-  pub goes_on : GoesOn c (ended_lines (lines_of bytes))
-  pub no_job : (job : JobView) → Spells c (ended_lines (lines_of bytes)) job → ⊥
+pub record IsOpen (bytes : List ℕ) : Type 0 where
+  pub goes_on : GoesOn (ended_lines (lines_of bytes))
+  pub no_job : (job : JobView) → Spells Present (ended_lines (lines_of bytes)) job → ⊥
 
 -- So many bytes of the piece, at least one, end with an LF, and with those before they spell a job within the limits.
-pub record IsEnded (c : Controllers) (before piece : List ℕ) (used : ℕ) : Type 0 where
+pub record IsEnded (before piece : List ℕ) (used : ℕ) : Type 0 where
   pub some : 1 ≤ used
   pub inside : used ≤ length piece
   pub closed : IsClosed (before ++ take used piece)
   pub job : JobView
-  pub spells : Spells c (lines_of (before ++ take used piece)) job
+  pub spells : Spells Present (lines_of (before ++ take used piece)) job
   pub within : IsWithin job
 
 -- the answer to a piece that no fault has, behind these bytes
-abbrev pub Feeds : Controllers → List ℕ → List ℕ → Fed → Type 0
-Feeds c before piece fed.More = IsOpen c (before ++ piece)
-Feeds c before piece (fed.Ended used) = IsEnded c before piece used
+abbrev pub Feeds : List ℕ → List ℕ → Fed → Type 0
+Feeds before piece fed.More = IsOpen (before ++ piece)
+Feeds before piece (fed.Ended used) = IsEnded before piece used
 
 -- the bytes of a piece that are of the job
 abbrev pub used_of : List ℕ → Fed → List ℕ

@@ -4,7 +4,7 @@ use Rattle.std.specs.List.{concat}
 use Rattle.cov_base.specs.Memory.{ImageView}
 use Rattle.module_area.specs.Views.{DataView}
 use Rattle.session_book.specs.JobView.{JobView, first_regs}
-use Rattle.job_text.specs.Drafts.{DraftView, Controllers, are_met, bound}
+use Rattle.job_text.specs.Drafts.{DraftView, Controllers, Present, are_met, bound}
 use Rattle.job_text.specs.Lines.{LineView, listing_text}
 use Rattle.job_text.specs.CardView.{Cover, Module, Text, Listing, Phase, Session, Task, End}
 use Rattle.job_text.specs.Cards.{IsCard}
@@ -58,18 +58,18 @@ abbrev pub AreModules : DraftView → List (List LineView) → DraftView → Typ
 AreModules j [] after = j ≡ after
 AreModules j (block ∷ blocks) after = ModuleFirst j block (λ mid. AreModules mid blocks after)
 
-pub record SessionFirst (c : Controllers) (j : DraftView) (line : LineView) (More : DraftView → Type 0) : Type 0 where
+pub record SessionFirst (j : DraftView) (line : LineView) (More : DraftView → Type 0) : Type 0 where
   pub name : List ℕ
   pub by : Option (List ℕ)
   pub names : List (List ℕ)
   pub mid : DraftView
   pub card : IsCard line (Session name by names)
-  pub adds : with_session c j name by names ≡ Some mid
+  pub adds : with_session j name by names ≡ Some mid
   pub then : More mid
 
-abbrev pub AreSessions : Controllers → DraftView → List LineView → DraftView → Type 0
-AreSessions c j [] after = j ≡ after
-AreSessions c j (l ∷ ls) after = SessionFirst c j l (λ mid. AreSessions c mid ls after)
+abbrev pub AreSessions : DraftView → List LineView → DraftView → Type 0
+AreSessions j [] after = j ≡ after
+AreSessions j (l ∷ ls) after = SessionFirst j l (λ mid. AreSessions mid ls after)
 
 -- TASK, and then REG, DATA and INPUT cards, of each kind as many as wanted
 pub record IsTaskBlock (j : DraftView) (block : List LineView) (after : DraftView) : Type 0 where
@@ -114,7 +114,7 @@ pub record IsPhase (c : Controllers) (j : DraftView) (block : List LineView) (af
   pub mid : DraftView
   pub card : IsCard head (Phase name)
   pub adds : with_phase j name ≡ Some named
-  pub are_sessions : AreSessions c named sessions mid
+  pub are_sessions : AreSessions named sessions mid
   pub are_tasks : AreTasks mid tasks after
   pub met : are_met c after ≡ true
 
@@ -143,7 +143,7 @@ pub record Spells (c : Controllers) (lines : List LineView) (job : JobView) : Ty
   pub is : job ≡ bound draft
 
 -- some list of lines with this prefix spells a job
-pub record JobBegins (c : Controllers) (lines : List LineView) : Type 0 where
+pub record JobBegins (lines : List LineView) : Type 0 where
   pub rest : List LineView
   pub job : JobView
-  pub spells : Spells c (lines ++ rest) job
+  pub spells : Spells Present (lines ++ rest) job

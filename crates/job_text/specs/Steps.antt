@@ -101,8 +101,8 @@ open_task name entry private budget room j =
 abbrev pub open_phase : List ℕ → DraftView → Option State
 open_phase name j = option_map (λ k. state part.Sessions k (phase_over j)) (with_phase j name)
 
-abbrev pub add_session : Controllers → DraftView → List ℕ → Option (List ℕ) → List (List ℕ) → Option State
-add_session c j name by names = option_map (λ k. state part.Sessions k (session_over j)) (with_session c j name by names)
+abbrev pub add_session : DraftView → List ℕ → Option (List ℕ) → List (List ℕ) → Option State
+add_session j name by names = option_map (λ k. state part.Sessions k (session_over j)) (with_session j name by names)
 
 abbrev pub take_text : Part → DraftView → List ℕ → Option State
 take_text (part.Texts i left) j bytes = if nat_le (length bytes) left then Some (state (part.Texts (with_bytes i bytes) (left - length bytes)) j None) else None
@@ -134,7 +134,7 @@ take_card c st (Module name base size) = take_module st name base size
 take_card c st (Text bytes) = take_text st.part st.job bytes
 take_card c st (Listing n) = take_listing st.part st.job n
 take_card c st (Phase name) = option_and_then (open_phase name) (closed c st.part st.job)
-take_card c st (Session name by names) = if is_sessions st.part then add_session c st.job name by names else None
+take_card c st (Session name by names) = if is_sessions st.part then add_session st.job name by names else None
 take_card c st (Task name entry private budget room) = take_task st name entry private budget room
 take_card c st End = option_map end (closed c st.part st.job)
 take_card c st card = take_more st.part st.job card

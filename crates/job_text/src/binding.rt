@@ -46,11 +46,11 @@ fn all_met(tasks: &[TaskCard], sessions: &[SessionDraft]) -> bool
     sessions.iter().all(|session| is_met(tasks, session))
 }
 
-/// Whether no controller is missing, where `controlled` says that sessions may have one.
-pub(crate) fn are_met(job: &Draft, controlled: bool) -> bool
-    ensures { result ≡ drafts.are_met (drafts.asked controlled) job.now }
+/// Whether no controller is missing.
+pub(crate) fn are_met(job: &Draft) -> bool
+    ensures { result ≡ drafts.are_met drafts.Present job.now }
 {
-    !controlled || all_met(&job.tasks, &job.sessions)
+    all_met(&job.tasks, &job.sessions)
 }
 
 fn index_of(tasks: &[TaskCard], phase: u32, by: Option<Name>) -> Option<u32>

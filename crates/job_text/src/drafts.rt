@@ -3,7 +3,7 @@ ghost use Rattle.std.specs.Prelude.{◌≡◌, ℕ, ◌+◌, ◌≤◌, ◌<◌,
 ghost use Rattle.std.specs.List.{list_any, list_all};
 ghost use Rattle.std.specs.Str.{bytes_eq};
 ghost use Rattle.cov_base.specs.declared.limits.TheConstants.{MODULE_LIMIT, PHASE_LIMIT};
-ghost use Rattle.job_text.specs.Drafts.{asked};
+ghost use Rattle.job_text.specs.Drafts.{Present};
 ghost use Rattle.job_text.specs.Adding as adding;
 ghost use Rattle.job_text.specs.Steps as machine;
 ghost use Rattle.job_text.specs.declared.parts.Part.TheVariants as kind;
@@ -179,13 +179,13 @@ pub(crate) fn with_phase(mut job: Draft, name: Name) -> Result<Option<Draft>, No
     Ok(Some(job))
 }
 
-/// Whether a session may have this controller, where `controlled` says that sessions may have one.
-fn may_have(job: &Draft, controlled: bool, by: &Option<Name>) -> bool
-    ensures { result ≡ adding.may_have (asked controlled) job.now by.now }
+/// Whether a session may have this controller.
+fn may_have(job: &Draft, by: &Option<Name>) -> bool
+    ensures { result ≡ adding.may_have job.now by.now }
 {
     match by {
         None => true,
-        Some(task) => controlled && !has_task(job, task),
+        Some(task) => !has_task(job, task),
     }
 }
 
@@ -194,16 +194,15 @@ fn may_have(job: &Draft, controlled: bool, by: &Option<Name>) -> bool
 pub(crate) fn with_session(
     alloc: Global,
     mut job: Draft,
-    controlled: bool,
     name: Name,
     by: Option<Name>,
     names: &[Name],
 ) -> Result<Option<Draft>, NoMemory>
     requires modules { length job.images ≤ MODULE_LIMIT }
     requires phases { length job.phases ≤ PHASE_LIMIT }
-    ensures { IfOk result (λ o. o ≡ adding.with_session (asked controlled) job name by names.now) }
+    ensures { IfOk result (λ o. o ≡ adding.with_session job name by names.now) }
 {
-    if has_session(&job, &name) || !may_have(&job, controlled, &by) {
+    if has_session(&job, &name) || !may_have(&job, &by) {
         return Ok(None);
     }
     match indices(alloc, &job, &by, names)? {
@@ -259,25 +258,21 @@ pub(crate) fn closed_task(part: Part, job: Draft) -> Result<Option<Draft>, NoMem
 }
 
 /// The job; none where a controller is missing.
-fn met_of(job: Draft, controlled: bool) -> Option<Draft>
-    ensures { result ≡ machine.met_of (asked controlled) job }
+fn met_of(job: Draft) -> Option<Draft>
+    ensures { result ≡ machine.met_of Present job }
 {
-    if are_met(&job, controlled) {
-        Some(job)
-    } else {
-        None
-    }
+    if are_met(&job) { Some(job) } else { None }
 }
 
 /// The job with what was open; none where it isn't whole, or a controller is missing.
-pub(crate) fn closed(part: Part, job: Draft, controlled: bool) -> Result<Option<Draft>, NoMemory>
+pub(crate) fn closed(part: Part, job: Draft) -> Result<Option<Draft>, NoMemory>
     requires { machine.HasRoom part job }
-    ensures value { IfOk result (λ o. o ≡ machine.closed (asked controlled) part job) }
+    ensures value { IfOk result (λ o. o ≡ machine.closed Present part job) }
     ensures room { IfOk result (λ o. IfSome o (machine.HasRoom kind.Modules)) }
 {
     match part {
-        Part::Sessions => Ok(met_of(job, controlled)),
-        Part::Task(task) => Ok(met_of(put_task(job, task.task)?, controlled)),
+        Part::Sessions => Ok(met_of(job)),
+        Part::Task(task) => Ok(met_of(put_task(job, task.task)?)),
         _ => closed_module(part, job),
     }
 }

@@ -2,7 +2,7 @@
 ghost use Rattle.std.specs.Prelude.{◌≡◌, ℕ, ◌≤◌, IfOk, IfErr, length, take};
 ghost use Rattle.cov_base.specs.declared.constants.TheConstants.{INPUT_LIMIT};
 ghost use Rattle.session_book.specs.JobView.{JobView};
-ghost use Rattle.job_text.specs.Drafts.{asked};
+ghost use Rattle.job_text.specs.Drafts.{Present};
 ghost use Rattle.job_text.specs.Lines.{lines_of};
 ghost use Rattle.job_text.specs.Limits.{IsWithin};
 ghost use Rattle.job_text.specs.Refusals.{IsRead, IsOnly, IsRefusal};
@@ -57,33 +57,14 @@ impl From<OutOfMemory> for JobFault {
 }
 
 /// Reads the job that the input's first lines spell. The bytes after its ENDJOB line are the caller's. The input has
-/// at most `INPUT_LIMIT` bytes; neither `Limit::Input` nor `Limit::Places` is answered. While `by` is false a SESSION
-/// card with BY is bad, and each session of the job is a whole one.
-pub fn read_job(alloc: Global, input: &[u8], by: bool) -> Result<ReadJob, JobFault>
+/// at most `INPUT_LIMIT` bytes; neither `Limit::Input` nor `Limit::Places` is answered.
+pub fn read_job(alloc: Global, input: &[u8]) -> Result<ReadJob, JobFault>
     requires { length input.now ≤ INPUT_LIMIT }
-    ensures job { IfOk result (IsRead by input.now) }
-    ensures only { (n : ℕ) (job : JobView) → n ≤ length (lines_of input.now) → Spells (asked by) (take n (lines_of input.now)) job → IsWithin job → IsOnly n job result }
-    ensures fault { IfErr result (IsRefusal (asked by) (lines_of input.now)) }
+    ensures job { IfOk result (IsRead input.now) }
+    ensures only { (n : ℕ) (job : JobView) → n ≤ length (lines_of input.now) → Spells Present (take n (lines_of input.now)) job → IsWithin job → IsOnly n job result }
+    ensures fault { IfErr result (IsRefusal (lines_of input.now)) }
 {
-    let mut reader = JobReader::new(alloc, by)?;
+    let mut reader = JobReader::new(alloc)?;
     let _fed = reader.feed(alloc, input)?;
     reader.finish(alloc)
-}
-
-/// Reads the job that all of the input's lines spell. Where a line follows ENDJOB it is `BadJob` at that line. The input
-/// has at most `INPUT_LIMIT` bytes. `by` is that of `read_job`.
-pub fn read_whole_job(alloc: Global, input: &[u8], by: bool) -> Result<ReadJob, JobFault>
-    requires { length input.now ≤ INPUT_LIMIT }
-    ensures job { IfOk result (IsRead by input.now) }
-    ensures whole { IfOk result (λ r. r.end ≡ length input.now) }
-    ensures only { (job : JobView) → Spells (asked by) (lines_of input.now) job → IsWithin job → IfOk result (λ r. r.job ≡ job) }
-    ensures fault { IfErr result (IsRefusal (asked by) (lines_of input.now)) }
-{
-    let read = read_job(alloc, input, by)?;
-    if read.end < input.len() {
-        return Err(JobFault::BadJob {
-            line: read.lines + 1,
-        });
-    }
-    Ok(read)
 }

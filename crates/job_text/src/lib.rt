@@ -18,7 +18,7 @@ mod taken;
 mod task;
 mod words;
 
-pub use jobs::{JobFault, ReadJob, read_job, read_whole_job};
+pub use jobs::{JobFault, ReadJob, read_job};
 pub use limit::Limit;
 pub use lines::{FirstLine, first_line};
 pub use pieces::Fed;

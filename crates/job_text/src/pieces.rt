@@ -2,7 +2,7 @@
 ghost use Rattle.std.specs.Prelude.{◌≡◌, ◌+◌, ◌<◌, ◌≤◌, ◌++◌, ◌^◌, ℕ, List, [], true, false, IfOk, IfErr, length, take};
 ghost use Rattle.cov_base.specs.declared.constants.TheConstants.{INPUT_LIMIT};
 ghost use Rattle.session_book.specs.JobView.{JobView};
-ghost use Rattle.job_text.specs.Drafts.{asked};
+ghost use Rattle.job_text.specs.Drafts.{Present};
 ghost use Rattle.job_text.specs.Lines.{LineView, lines_of};
 ghost use Rattle.job_text.specs.Limits.{IsWithin};
 ghost use Rattle.job_text.specs.Pieces.{IsTold, Feeds, used_of, used_count, is_end};
@@ -33,46 +33,40 @@ pub(crate) struct Pieces {
 }
 
 impl Pieces {
-    /// Takes a line whose LF has come; the bytes that were kept are its first. `controlled` says that sessions may have
-    /// controllers.
-    fn ended_line(self, alloc: Global, controlled: bool, line: &[u8]) -> Result<Pieces, JobFault>
+    /// Takes a line whose LF has come; the bytes that were kept are its first.
+    fn ended_line(self, alloc: Global, line: &[u8]) -> Result<Pieces, JobFault>
         requires few { self.taken.lines + 1 < 2 ^ 32 }
         requires room { size_of self + length line.now + 1 < 2 ^ 32 }
-        ensures next { IfOk result (λ p. IsNext (asked controlled) self.taken p.taken (record { bytes = self.cut.items ++ line.now; ended = true })) }
+        ensures next { IfOk result (λ p. IsNext self.taken p.taken (record { bytes = self.cut.items ++ line.now; ended = true })) }
         ensures none { IfOk result (λ p. p.cut.items ≡ []) }
-        ensures fault { IfErr result (IsFaultOf (step (asked controlled) self.taken.reader (record { bytes = self.cut.items ++ line.now; ended = true })) (self.taken.lines + 1)) }
+        ensures fault { IfErr result (IsFaultOf (step Present self.taken.reader (record { bytes = self.cut.items ++ line.now; ended = true })) (self.taken.lines + 1)) }
     {
         let Pieces { taken, mut cut } = self;
         if cut.is_empty() {
-            let taken = taken.line(alloc, controlled, line, true)?;
+            let taken = taken.line(alloc, line, true)?;
             return Ok(Pieces { taken, cut });
         }
         cut.extend_from_slice(line)?;
-        let taken = taken.line(alloc, controlled, &cut, true)?;
+        let taken = taken.line(alloc, &cut, true)?;
         cut.clear();
         Ok(Pieces { taken, cut })
     }
 
     /// Takes the lines that end in the piece, up to ENDJOB's, and keeps the bytes behind the last LF.
-    pub(crate) fn feed(
-        self,
-        alloc: Global,
-        controlled: bool,
-        piece: &[u8],
-    ) -> Result<(Pieces, Fed), JobFault>
-        requires taken { (before : List ℕ) × HasTaken (asked controlled) before self }
+    pub(crate) fn feed(self, alloc: Global, piece: &[u8]) -> Result<(Pieces, Fed), JobFault>
+        requires taken { (before : List ℕ) × HasTaken before self }
         requires reading { is_done self.taken.reader.part ≡ false }
         requires room { size_of self + length piece.now ≤ INPUT_LIMIT }
-        ensures taken { (before : List ℕ) → HasTaken (asked controlled) before self → IfOk result (λ r. HasTaken (asked controlled) (before ++ used_of piece.now r.1) r.0) }
-        ensures fed { (before : List ℕ) → HasTaken (asked controlled) before self → IfOk result (λ r. Feeds (asked controlled) before piece.now r.1) }
+        ensures taken { (before : List ℕ) → HasTaken before self → IfOk result (λ r. HasTaken (before ++ used_of piece.now r.1) r.0) }
+        ensures fed { (before : List ℕ) → HasTaken before self → IfOk result (λ r. Feeds before piece.now r.1) }
         ensures used { IfOk result (λ r. used_count piece.now r.1 ≤ length piece.now) }
         ensures ended { IfOk result (λ r. is_done r.0.taken.reader.part ≡ is_end r.1) }
-        ensures fault { (before : List ℕ) → HasTaken (asked controlled) before self → IfErr result (IsTold (asked controlled) (before ++ piece.now)) }
+        ensures fault { (before : List ℕ) → HasTaken before self → IfErr result (IsTold (before ++ piece.now)) }
     {
         let mut pieces = self;
         let mut used = 0;
         while let Some(size) = first_end(&piece[used..]) {
-            pieces = pieces.ended_line(alloc, controlled, &piece[used..used + size])?;
+            pieces = pieces.ended_line(alloc, &piece[used..used + size])?;
             used += size + 1;
             if pieces.taken.reader.is_done() {
                 return Ok((pieces, Fed::Ended { used }));
@@ -83,18 +77,18 @@ impl Pieces {
     }
 
     /// The job of all that was taken; what was kept is the last line.
-    pub(crate) fn finish(self, alloc: Global, controlled: bool) -> Result<ReadJob, JobFault>
-        requires taken { (bytes : List ℕ) × HasTaken (asked controlled) bytes self }
+    pub(crate) fn finish(self, alloc: Global) -> Result<ReadJob, JobFault>
+        requires taken { (bytes : List ℕ) × HasTaken bytes self }
         requires room { size_of self ≤ INPUT_LIMIT }
-        ensures job { (bytes : List ℕ) → HasTaken (asked controlled) bytes self → IfOk result (IsRead controlled bytes) }
-        ensures whole { (bytes : List ℕ) → HasTaken (asked controlled) bytes self → IfOk result (λ r. r.end ≡ length bytes) }
-        ensures only { (bytes : List ℕ) → HasTaken (asked controlled) bytes self → (n : ℕ) (job : JobView) → n ≤ length (lines_of bytes) → Spells (asked controlled) (take n (lines_of bytes)) job → IsWithin job → IsOnly n job result }
-        ensures fault { (bytes : List ℕ) → HasTaken (asked controlled) bytes self → IfErr result (IsRefusal (asked controlled) (lines_of bytes)) }
+        ensures job { (bytes : List ℕ) → HasTaken bytes self → IfOk result (IsRead bytes) }
+        ensures whole { (bytes : List ℕ) → HasTaken bytes self → IfOk result (λ r. r.end ≡ length bytes) }
+        ensures only { (bytes : List ℕ) → HasTaken bytes self → (n : ℕ) (job : JobView) → n ≤ length (lines_of bytes) → Spells Present (take n (lines_of bytes)) job → IsWithin job → IsOnly n job result }
+        ensures fault { (bytes : List ℕ) → HasTaken bytes self → IfErr result (IsRefusal (lines_of bytes)) }
     {
         let Pieces { taken, cut } = self;
         if cut.is_empty() {
             return taken.finish(alloc);
         }
-        taken.line(alloc, controlled, &cut, false)?.finish(alloc)
+        taken.line(alloc, &cut, false)?.finish(alloc)
     }
 }

@@ -2,7 +2,7 @@
 ghost use Rattle.std.specs.Prelude.{◌≡◌, ◌+◌, ◌≤◌, ◌++◌, ℕ, List, [], false, None, Some, Err, IfOk, IfErr, length, take};
 ghost use Rattle.cov_base.specs.declared.constants.TheConstants.{INPUT_LIMIT};
 ghost use Rattle.session_book.specs.JobView.{JobView};
-ghost use Rattle.job_text.specs.Drafts.{asked};
+ghost use Rattle.job_text.specs.Drafts.{Present};
 ghost use Rattle.job_text.specs.Lines.{lines_of};
 ghost use Rattle.job_text.specs.Limits.{IsWithin};
 ghost use Rattle.job_text.specs.Pieces.{IsTold, Feeds, used_of, used_count, is_end};
@@ -28,31 +28,30 @@ pub(crate) enum Stage {
 /// Reads a job from pieces of bytes as they come.
 #[derive(Drop)]
 pub struct JobReader {
-    by: bool,
     stage: Stage,
 }
 
 impl Model for JobReader {
-    ghost use Rattle.job_text.specs.Taken.{Reader, WasFed};
+    ghost use Rattle.job_text.specs.declared.reader.Stage.{Stage};
 
-    ghost Value = { Reader };
+    ghost Value = { Stage };
 
-    ghost view = { λ r. record { by = r.by; stage = r.stage } };
+    ghost use Rattle.job_text.specs.Taken.{WasFed};
 
-    ghost invariant = { λ r. WasFed (record { by = r.by; stage = r.stage }) };
+    ghost view = { λ r. r.stage };
+
+    ghost invariant = { λ r. WasFed r.stage };
 }
 
 impl JobReader {
-    /// Nothing was fed. While `by` is false a SESSION card with BY is bad.
-    pub fn new(alloc: Global, by: bool) -> Result<JobReader, NoMemory>
-        ensures by { IfOk result (λ r. r.by ≡ by) }
+    /// Nothing was fed.
+    pub fn new(alloc: Global) -> Result<JobReader, NoMemory>
         ensures nothing { IfOk result (IsFed []) }
         ensures no_fault { IfOk result (λ r. told r ≡ None) }
         ensures reading { IfOk result (λ r. has_ended r ≡ false) }
         ensures size { IfOk result (λ r. fed_size r ≡ 0) }
     {
         Ok(JobReader {
-            by,
             stage: Stage::Reading(Pieces {
                 taken: Taken::new(alloc),
                 cut: Vec::new(alloc),
@@ -69,10 +68,9 @@ impl JobReader {
         requires reading { has_ended self.old ≡ false }
         requires room { fed_size self.old + length piece.now ≤ INPUT_LIMIT }
         ensures taken { (before : List ℕ) → IsFed before self.old → IfOk result (λ f. IsFed (before ++ used_of piece.now f) self.new) }
-        ensures fed { (before : List ℕ) → IsFed before self.old → IfOk result (Feeds (asked self.old.by) before piece.now) }
-        ensures by { self.new.by ≡ self.old.by }
+        ensures fed { (before : List ℕ) → IsFed before self.old → IfOk result (Feeds before piece.now) }
         ensures used { IfOk result (λ f. used_count piece.now f ≤ length piece.now) }
-        ensures fault { (before : List ℕ) → IsFed before self.old → IfErr result (IsTold (asked self.old.by) (before ++ piece.now)) }
+        ensures fault { (before : List ℕ) → IsFed before self.old → IfErr result (IsTold (before ++ piece.now)) }
         ensures failed { (before : List ℕ) → IsFed before self.old → IfErr result (λ _. IsFed (before ++ piece.now) self.new) }
         ensures same { (e : JobFault) → told self.old ≡ Some e → result ≡ Err e }
         ensures told { IfErr result (λ e. told self.new ≡ Some e) }
@@ -85,7 +83,7 @@ impl JobReader {
                 self.stage = Stage::Failed(fault);
                 Err(fault)
             }
-            Stage::Reading(pieces) => match pieces.feed(alloc, self.by, piece) {
+            Stage::Reading(pieces) => match pieces.feed(alloc, piece) {
                 Ok((pieces, fed)) => {
                     self.stage = Stage::Reading(pieces);
                     Ok(fed)
@@ -110,16 +108,15 @@ impl JobReader {
 
     /// What `read_job` answers for the bytes that were fed, up to ENDJOB's.
     pub fn finish(self, alloc: Global) -> Result<ReadJob, JobFault>
-        ensures job { (bytes : List ℕ) → IsFed bytes self → IfOk result (IsRead self.by bytes) }
+        ensures job { (bytes : List ℕ) → IsFed bytes self → IfOk result (IsRead bytes) }
         ensures whole { (bytes : List ℕ) → IsFed bytes self → IfOk result (λ r. r.end ≡ length bytes) }
-        ensures only { (bytes : List ℕ) → IsFed bytes self → (n : ℕ) (job : JobView) → n ≤ length (lines_of bytes) → Spells (asked self.by) (take n (lines_of bytes)) job → IsWithin job → IsOnly n job result }
-        ensures fault { (bytes : List ℕ) → IsFed bytes self → IfErr result (IsRefusal (asked self.by) (lines_of bytes)) }
+        ensures only { (bytes : List ℕ) → IsFed bytes self → (n : ℕ) (job : JobView) → n ≤ length (lines_of bytes) → Spells Present (take n (lines_of bytes)) job → IsWithin job → IsOnly n job result }
+        ensures fault { (bytes : List ℕ) → IsFed bytes self → IfErr result (IsRefusal (lines_of bytes)) }
         ensures same { (e : JobFault) → told self ≡ Some e → result ≡ Err e }
     {
-        let JobReader { by, stage } = self;
-        match stage {
+        match self.stage {
             Stage::Failed(fault) => Err(fault),
-            Stage::Reading(pieces) => pieces.finish(alloc, by),
+            Stage::Reading(pieces) => pieces.finish(alloc),
         }
     }
 }

@@ -3,7 +3,7 @@ ghost use Rattle.std.specs.Prelude.{◌≡◌, ℕ, ◌<◌, ◌≤◌, true, Op
 ghost use Rattle.cov_base.specs.declared.limits.TheConstants.{PHASE_LIMIT};
 ghost use Rattle.session_book.specs.JobView.{IsJob};
 ghost use Rattle.job_text.specs.CardView as says;
-ghost use Rattle.job_text.specs.Drafts.{asked, bound};
+ghost use Rattle.job_text.specs.Drafts.{Present, bound};
 ghost use Rattle.job_text.specs.Lines.{LineView};
 ghost use Rattle.job_text.specs.Steps as machine;
 ghost use Rattle.job_text.specs.declared.parts.Part.TheVariants as kind;
@@ -137,11 +137,11 @@ impl LineReader {
         }
     }
 
-    fn phase_card(self, controlled: bool, name: Name) -> Result<LineReader, LineRefused>
-        ensures ok { IfOk result (λ r. machine.take_card (asked controlled) self (says.Phase name) ≡ Some (machine.plain r)) }
-        ensures err { IfErr result (machine.Refuses (machine.take_card (asked controlled) self (says.Phase name))) }
+    fn phase_card(self, name: Name) -> Result<LineReader, LineRefused>
+        ensures ok { IfOk result (λ r. machine.take_card Present self (says.Phase name) ≡ Some (machine.plain r)) }
+        ensures err { IfErr result (machine.Refuses (machine.take_card Present self (says.Phase name))) }
     {
-        match closed(self.part, self.job, controlled)? {
+        match closed(self.part, self.job)? {
             None => Err(LineRefused::Bad),
             Some(job) => open_phase(job, name),
         }
@@ -150,16 +150,15 @@ impl LineReader {
     fn session_card(
         self,
         alloc: Global,
-        controlled: bool,
         name: Name,
         by: Option<Name>,
         names: &[Name],
     ) -> Result<LineReader, LineRefused>
-        ensures ok { IfOk result (λ r. machine.take_card (asked controlled) self (says.Session name by names.now) ≡ Some (machine.plain r)) }
-        ensures err { IfErr result (machine.Refuses (machine.take_card (asked controlled) self (says.Session name by names.now))) }
+        ensures ok { IfOk result (λ r. machine.take_card Present self (says.Session name by names.now) ≡ Some (machine.plain r)) }
+        ensures err { IfErr result (machine.Refuses (machine.take_card Present self (says.Session name by names.now))) }
     {
         match self.part {
-            Part::Sessions => add_session(alloc, self.job, controlled, name, by, names),
+            Part::Sessions => add_session(alloc, self.job, name, by, names),
             _ => Err(LineRefused::Bad),
         }
     }
@@ -182,11 +181,11 @@ impl LineReader {
         }
     }
 
-    fn end_card(self, controlled: bool) -> Result<LineReader, LineRefused>
-        ensures ok { IfOk result (λ r. machine.take_card (asked controlled) self says.End ≡ Some (machine.plain r)) }
-        ensures err { IfErr result (machine.Refuses (machine.take_card (asked controlled) self says.End)) }
+    fn end_card(self) -> Result<LineReader, LineRefused>
+        ensures ok { IfOk result (λ r. machine.take_card Present self says.End ≡ Some (machine.plain r)) }
+        ensures err { IfErr result (machine.Refuses (machine.take_card Present self says.End)) }
     {
-        match closed(self.part, self.job, controlled)? {
+        match closed(self.part, self.job)? {
             None => Err(LineRefused::Bad),
             Some(job) => Ok(LineReader {
                 part: Part::Done,
@@ -210,19 +209,17 @@ impl LineReader {
         }
     }
 
-    fn card(self, alloc: Global, controlled: bool, card: Card) -> Result<LineReader, LineRefused>
-        ensures ok { IfOk result (λ r. machine.take_card (asked controlled) self (view card) ≡ Some (machine.plain r)) }
-        ensures err { IfErr result (machine.Refuses (machine.take_card (asked controlled) self (view card))) }
+    fn card(self, alloc: Global, card: Card) -> Result<LineReader, LineRefused>
+        ensures ok { IfOk result (λ r. machine.take_card Present self (view card) ≡ Some (machine.plain r)) }
+        ensures err { IfErr result (machine.Refuses (machine.take_card Present self (view card))) }
     {
         match card {
             Card::Cover => self.cover_card(),
             Card::Module { name, base, size } => self.module_card(alloc, name, base, size),
             Card::Text(bytes) => self.text_card(&bytes),
             Card::Listing(n) => self.listing_card(alloc, n),
-            Card::Phase(name) => self.phase_card(controlled, name),
-            Card::Session { name, by, modules } => {
-                self.session_card(alloc, controlled, name, by, &modules)
-            }
+            Card::Phase(name) => self.phase_card(name),
+            Card::Session { name, by, modules } => { self.session_card(alloc, name, by, &modules) }
             Card::Task {
                 name,
                 entry,
@@ -230,7 +227,7 @@ impl LineReader {
                 budget,
                 room,
             } => self.task_card(alloc, name, entry, private, budget, room),
-            Card::End => self.end_card(controlled),
+            Card::End => self.end_card(),
             card => self.more_card(card),
         }
     }
@@ -277,23 +274,22 @@ impl LineReader {
         }
     }
 
-    /// Takes the next line; `ended` where an LF ended it. `controlled` says that sessions may have controllers.
+    /// Takes the next line; `ended` where an LF ended it.
     pub(crate) fn line(
         self,
         alloc: Global,
-        controlled: bool,
         bytes: &[u8],
         ended: bool,
     ) -> Result<LineReader, LineRefused>
-        ensures ok { IfOk result (λ r. machine.step (asked controlled) self (record { bytes = bytes.now; ended = ended }) ≡ Some (machine.plain r)) }
-        ensures err { IfErr result (machine.Refuses (machine.step (asked controlled) self (record { bytes = bytes.now; ended = ended }))) }
+        ensures ok { IfOk result (λ r. machine.step Present self (record { bytes = bytes.now; ended = ended }) ≡ Some (machine.plain r)) }
+        ensures err { IfErr result (machine.Refuses (machine.step Present self (record { bytes = bytes.now; ended = ended }))) }
     {
         if self.takes_raw() {
             return self.listing_line(alloc, listing_text(bytes, ended));
         }
         match read_card(alloc, bytes)? {
             None => Err(LineRefused::Bad),
-            Some(card) => self.card(alloc, controlled, card),
+            Some(card) => self.card(alloc, card),
         }
     }
 
@@ -384,17 +380,16 @@ fn open_phase(job: Draft, name: Name) -> Result<LineReader, LineRefused>
 fn add_session(
     alloc: Global,
     job: Draft,
-    controlled: bool,
     name: Name,
     by: Option<Name>,
     names: &[Name],
 ) -> Result<LineReader, LineRefused>
     requires { machine.HasRoom kind.Modules job }
-    ensures ok { IfOk result (λ r. machine.add_session (asked controlled) job name by names.now ≡ Some (machine.plain r)) }
-    ensures err { IfErr result (machine.Refuses (machine.add_session (asked controlled) job name by names.now)) }
+    ensures ok { IfOk result (λ r. machine.add_session job name by names.now ≡ Some (machine.plain r)) }
+    ensures err { IfErr result (machine.Refuses (machine.add_session job name by names.now)) }
 {
     let count = job.sessions.len();
-    match with_session(alloc, job, controlled, name, by, names)? {
+    match with_session(alloc, job, name, by, names)? {
         None => Err(LineRefused::Bad),
         Some(job) => {
             if count >= SESSION_LIMIT {

@@ -1,7 +1,7 @@
 //! The whole lines of a job that were taken.
-ghost use Rattle.std.specs.Prelude.{◌≡◌, ◌+◌, ◌<◌, ◌≤◌, ◌^◌, ℕ, Bool, List, IfOk, IfErr, length, take};
+ghost use Rattle.std.specs.Prelude.{◌≡◌, ◌+◌, ◌<◌, ◌≤◌, ◌^◌, ℕ, List, IfOk, IfErr, length, take};
 ghost use Rattle.session_book.specs.JobView.{JobView};
-ghost use Rattle.job_text.specs.Drafts.{asked};
+ghost use Rattle.job_text.specs.Drafts.{Present};
 ghost use Rattle.job_text.specs.Lines.{LineView, lines_of, span};
 ghost use Rattle.job_text.specs.Limits.{IsWithin};
 ghost use Rattle.job_text.specs.Refusals.{IsRead, IsOnly, IsRefusal};
@@ -36,18 +36,12 @@ impl Taken {
         }
     }
 
-    /// Takes the next line; `ended` where an LF ended it. `controlled` says that sessions may have controllers.
-    pub(crate) fn line(
-        self,
-        alloc: Global,
-        controlled: bool,
-        bytes: &[u8],
-        ended: bool,
-    ) -> Result<Taken, JobFault>
+    /// Takes the next line; `ended` where an LF ended it.
+    pub(crate) fn line(self, alloc: Global, bytes: &[u8], ended: bool) -> Result<Taken, JobFault>
         requires few { self.lines + 1 < 2 ^ 32 }
         requires room { self.bytes + length bytes.now + 1 < 2 ^ 32 }
-        ensures next { IfOk result (λ t. IsNext (asked controlled) self t (record { bytes = bytes.now; ended = ended })) }
-        ensures fault { IfErr result (IsFaultOf (step (asked controlled) self.reader (record { bytes = bytes.now; ended = ended })) (self.lines + 1)) }
+        ensures next { IfOk result (λ t. IsNext self t (record { bytes = bytes.now; ended = ended })) }
+        ensures fault { IfErr result (IsFaultOf (step Present self.reader (record { bytes = bytes.now; ended = ended })) (self.lines + 1)) }
     {
         let Taken {
             reader,
@@ -55,7 +49,7 @@ impl Taken {
             bytes: before,
         } = self;
         let size = if ended { bytes.len() + 1 } else { bytes.len() };
-        match reader.line(alloc, controlled, bytes, ended) {
+        match reader.line(alloc, bytes, ended) {
             Ok(reader) => Ok(Taken {
                 reader,
                 lines: lines + 1,
@@ -72,12 +66,12 @@ impl Taken {
 
     /// The job that all lines of an input spell.
     pub(crate) fn finish(self, alloc: Global) -> Result<ReadJob, JobFault>
-        requires ran { (by : Bool) × (bytes : List ℕ) × HasRun (asked by) bytes self }
+        requires ran { (bytes : List ℕ) × HasRun bytes self }
         requires room { self.bytes + 1 < 2 ^ 32 }
-        ensures job { (by : Bool) (bytes : List ℕ) → HasRun (asked by) bytes self → IfOk result (IsRead by bytes) }
-        ensures whole { (by : Bool) (bytes : List ℕ) → HasRun (asked by) bytes self → IfOk result (λ r. r.end ≡ length bytes) }
-        ensures only { (by : Bool) (bytes : List ℕ) → HasRun (asked by) bytes self → (n : ℕ) (job : JobView) → n ≤ length (lines_of bytes) → Spells (asked by) (take n (lines_of bytes)) job → IsWithin job → IsOnly n job result }
-        ensures fault { (by : Bool) (bytes : List ℕ) → HasRun (asked by) bytes self → IfErr result (IsRefusal (asked by) (lines_of bytes)) }
+        ensures job { (bytes : List ℕ) → HasRun bytes self → IfOk result (IsRead bytes) }
+        ensures whole { (bytes : List ℕ) → HasRun bytes self → IfOk result (λ r. r.end ≡ length bytes) }
+        ensures only { (bytes : List ℕ) → HasRun bytes self → (n : ℕ) (job : JobView) → n ≤ length (lines_of bytes) → Spells Present (take n (lines_of bytes)) job → IsWithin job → IsOnly n job result }
+        ensures fault { (bytes : List ℕ) → HasRun bytes self → IfErr result (IsRefusal (lines_of bytes)) }
     {
         if self.reader.is_done() {
             return Ok(ReadJob {

@@ -65,7 +65,7 @@ fn controllers_alone_plant_and_close_in_order(rt: HostRuntime) -> Result<(), Fai
     let alloc = rt.alloc();
     let bytes = TWO_CONTROLLERS.as_bytes().to_vec(alloc)?;
     let mut source = MemSource::new(bytes, 64, Vec::new(alloc));
-    let Ok(ready) = make_ready(alloc, &mut source, true, true) else {
+    let Ok(ready) = make_ready(alloc, &mut source, true) else {
         assert!(rt; false, "the job");
         return Ok(());
     };

@@ -464,7 +464,7 @@ static OLD: [Row; 5] = [
 
 /// A job that is refused, or its session, and why: where there are several causes the one that is told comes first, here and in
 /// the next two tables.
-static BAD_JOBS: [Row; 19] = [
+static BAD_JOBS: [Row; 18] = [
     Row {
         name: "no session of the name",
         words: &["marks", "X"],
@@ -599,18 +599,11 @@ static BAD_JOBS: [Row; 19] = [
         output: &[Text("OWN SVC M LINE 2\n")],
     },
     Row {
-        name: "run: a controlled session",
-        words: &["run"],
-        input: &[CONTROLLED],
-        status: 2,
-        output: &[Text("BAD JOB LINE 10\n")],
-    },
-    Row {
         name: "marks: a controlled session, and no session",
         words: &["marks", "X"],
         input: &[CONTROLLED],
-        status: 2,
-        output: &[Text("BAD JOB LINE 10\n")],
+        status: 13,
+        output: &[Text("NO SESSION X\n")],
     },
     Row {
         name: "show: a controlled session, and no session",

@@ -29,7 +29,7 @@ fn is_told(text: &[u8], status: Status, wanted: &[u8], number: u8) -> bool {
 }
 
 /// Serves the row's words, with areas and without.
-fn check_row<T: Abort + Threads + Wait + Sync>(
+pub fn check_row<T: Abort + Threads + Wait + Sync>(
     rt: &T,
     alloc: Global,
     row: &Row,

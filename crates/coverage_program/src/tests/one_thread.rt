@@ -1,15 +1,17 @@
 //! A task over a pass that was split for it, on one thread: how it ends, and what the root meets at its places then.
-ghost use Rattle.std.specs.Prelude.{◌≡◌, ◌<◌, ◌≤◌, ◌^◌, true, length, All};
+ghost use Rattle.std.specs.Prelude.{◌≡◌, ◌<◌, ◌≤◌, ◌^◌, true, [], length, All};
+ghost use Rattle.std.specs.declared.option.Option.TheVariants.{None};
 ghost use Rattle.brk_table.specs.Places.{IsIn};
-ghost use Rattle.module_area.specs.Notes.{calls};
+ghost use Rattle.module_area.specs.Notes.{calls, is_working};
 ghost use Rattle.module_area.specs.PlanView.{window_at, has_task};
+ghost use Rattle.module_area.specs.Tied.{IsTied};
 
 use super::order::{COUNT_DOWN, EXECUTED};
 use crate::ready::make_ready;
 use brk_table::Tables;
 use cov_base::{NoMemory, PlaceNo, SessNo, TaskNo};
 use cov_outside::MemSource;
-use module_area::{Areas, Cell, Cells, Forks, Plan};
+use module_area::{Areas, Cell, Cells, Control, Forks, Plan};
 use s370_state::Ending;
 use session_book::{Begun, Job, begin, plan_of};
 use shared_area::SharedAreas;
@@ -17,12 +19,16 @@ use std::alloc::Global;
 use std::test::Fail;
 use task_run::{Task, run_task};
 
-/// Whether session 1 observes the first two places, and the first task is one of the phase.
+/// Whether session 1 observes the first two places, the first task is one of the phase, and no task controls a session.
 fn may_run(plan: &Plan) -> bool
     ensures places { result ≡ true → 2 ≤ length plan.now.places }
     ensures windows { result ≡ true → (window_at plan.now 0 ≡ 1) × (window_at plan.now 1 ≡ 1) }
     ensures task { result ≡ true → has_task plan.now.tasks 0 ≡ true }
+    ensures whole { result ≡ true → plan.now.controlled ≡ [] }
 {
+    if !plan.controlled.is_empty() {
+        return false;
+    }
     if plan.places_len() < 2 || plan.window(PlaceNo(0)) != 1 || plan.window(PlaceNo(1)) != 1 {
         return false;
     }
@@ -36,9 +42,15 @@ fn run_first<C: Cells>(
     pass: &mut C::Pass,
     job: &Job,
     tables: &Tables,
+    plan: &Plan,
+    control: Control,
 ) -> Result<Ending, NoMemory>
     requires area { C.is_pass cells.now pass.old }
+    requires plan { C.plan cells.now ≡ plan.now }
     requires room { calls (C.notes pass.old) < 2 ^ 60 }
+    requires working { is_working (C.notes pass.old) ≡ true }
+    requires tied { IsTied (C.plan cells.now) (C.notes pass.old) control }
+    requires first { (control.next ≡ 0) × (control.opened ≡ None) }
     requires places { (C.plan cells.now).places ≡ tables.now.places }
     requires task { 0 < length job.now.tasks }
     requires tables { All (IsIn job.now.images) tables.now.places }
@@ -50,8 +62,9 @@ fn run_first<C: Cells>(
         io,
         done: 0,
         budget: job.card(0).budget,
+        control,
     };
-    Ok(run_task(cells, pass, tables, &mut task))
+    Ok(run_task(cells, pass, tables, plan, &mut task))
 }
 
 /// The first phase's first task, with two places planted.
@@ -73,11 +86,12 @@ where
     if !may_run(&plan) {
         return Ok(None);
     }
+    let control = plan.control_of(alloc, TaskNo(0))?;
     let (cells, mut root) = areas.make(alloc, &plan)?;
     cells.plant(&mut root, SessNo(1), PlaceNo(0));
     cells.plant(&mut root, SessNo(1), PlaceNo(1));
     let mut pass = cells.split(&mut root, TaskNo(0));
-    let ending = run_first(alloc, &cells, &mut pass, job, tables)?;
+    let ending = run_first(alloc, &cells, &mut pass, job, tables, &plan, control)?;
     let met = [
         cells.fetch(&mut root, PlaceNo(0)),
         cells.fetch(&mut root, PlaceNo(1)),
@@ -88,7 +102,7 @@ where
 /// What comes of the first task of a job, alone in its area; none where no job is read.
 fn came(alloc: Global, job: &[u8]) -> Result<Option<(Ending, [Cell; 2])>, Fail> {
     let mut source = MemSource::new(job.to_vec(alloc)?, 64, Vec::new(alloc));
-    let Ok(ready) = make_ready(alloc, &mut source, true, false) else {
+    let Ok(ready) = make_ready(alloc, &mut source, false) else {
         return Ok(None);
     };
     let mut areas = SharedAreas::new(alloc, 1)?;

@@ -1,7 +1,9 @@
-//! The calls on cells come in the order of the instructions: each place is planted first, then the task arrives at the
-//! gate, once, and a trap marks and then lifts before the instruction is done.
+//! The calls on cells come in the order of the instructions: each place of a whole session is planted first, then the task
+//! arrives at the gate, once, and a trap marks and then lifts before the instruction is done; a task's own sessions it plants
+//! and closes where its calls stand.
 ghost use Rattle.std.specs.Prelude.{◌≡◌};
 
+use super::called::THROUGH;
 use super::noted::{Arrivals, Call, NotedAreas};
 use crate::cover::cover;
 use crate::status::Status;
@@ -97,6 +99,25 @@ const THREE_CALLS: [Call; 6] = [
     Call::Lift(0),
 ];
 
+const THROUGH_CALLS: [Call; 16] = [
+    Call::Arrive(1),
+    Call::Plant(0),
+    Call::Plant(1),
+    Call::Plant(2),
+    Call::Fetch(0),
+    Call::Mark(0, Fact::Ran),
+    Call::Lift(0),
+    Call::Fetch(1),
+    Call::Mark(1, Fact::Ran),
+    Call::Lift(1),
+    Call::Fetch(2),
+    Call::Mark(2, Fact::Ran),
+    Call::Lift(2),
+    Call::Close(0),
+    Call::Close(1),
+    Call::Close(2),
+];
+
 /// Runs a job of so many tasks over areas that keep their calls: its status, the calls on its last area, and how often
 /// each task has arrived at the gate.
 fn run_noted<T: Threads + Wait + Sync>(
@@ -129,6 +150,15 @@ fn plants_first_and_marks_before_it_lifts(rt: HostRuntime) -> Result<(), Fail> {
     let (status, calls, arrivals) = run_noted(&rt, rt.alloc(), EXECUTED, 1)?;
     assert_eq!(rt; status, Status(0));
     assert_eq!(rt; calls.as_slice(), EXECUTED_CALLS.as_slice());
+    assert_eq!(rt; arrivals.as_slice(), [1u64].as_slice());
+    Ok(())
+}
+
+#[test]
+fn plants_and_closes_where_its_calls_stand(rt: HostRuntime) -> Result<(), Fail> {
+    let (status, calls, arrivals) = run_noted(&rt, rt.alloc(), THROUGH.as_bytes(), 1)?;
+    assert_eq!(rt; status, Status(0));
+    assert_eq!(rt; calls.as_slice(), THROUGH_CALLS.as_slice());
     assert_eq!(rt; arrivals.as_slice(), [1u64].as_slice());
     Ok(())
 }

@@ -7,107 +7,96 @@ use std::test::Fail;
 const FRONT: &[u8] =
     b"COVERJOB 1\nMODULE M 100000 2\nTEXT 07FE\nMODULE N 100008 2\nTEXT 07FE\nMODULE BY 100010 2\nTEXT 07FE\nPHASE P\n";
 
-/// The bad line with BY taken and without, 0 where the input is a job.
-fn bad_line(alloc: Global, input: &[u8], by: bool) -> u32 {
+/// The bad line, 0 where the input is a job.
+fn bad_line(alloc: Global, input: &[u8]) -> u32 {
     if input.len() > 1_000 {
         return 99_999;
     }
-    match read_job(alloc, input, by) {
+    match read_job(alloc, input) {
         Ok(_) => 0,
         Err(JobFault::BadJob { line }) => line,
         Err(_) => 99_998,
     }
 }
 
-/// What stands behind the front, and its bad lines.
-static RULES: [(&[u8], u32, u32); 20] = [
+/// What stands behind the front, and its bad line.
+static RULES: [(&[u8], u32); 20] = [
     // one controller, two of them, and a whole session beside
-    (b"SESSION S BY T M\nTASK T 000000 0 1 0\nENDJOB\n", 0, 9),
+    (b"SESSION S BY T M\nTASK T 000000 0 1 0\nENDJOB\n", 0),
     (
         b"SESSION S BY T M\nSESSION R BY U N\nTASK U 000000 0 1 0\nTASK T 000000 0 1 0\nENDJOB\n",
         0,
-        9,
     ),
     (
         b"SESSION S N\nSESSION R BY T M\nTASK T 000000 0 1 0\nENDJOB\n",
         0,
-        10,
     ),
     // its sessions share modules, and others don't
     (
         b"SESSION S BY T M N\nSESSION R BY T N M\nTASK T 000000 0 1 0\nENDJOB\n",
         0,
-        9,
     ),
     (
         b"SESSION S BY T M\nSESSION R BY U M\nTASK T 000000 0 1 0\nTASK U 000000 0 1 0\nENDJOB\n",
         10,
-        9,
     ),
     (
         b"SESSION S BY T M\nSESSION R M\nTASK T 000000 0 1 0\nENDJOB\n",
         10,
-        9,
     ),
     (
         b"SESSION S M\nSESSION R BY T M\nTASK T 000000 0 1 0\nENDJOB\n",
-        10,
         10,
     ),
     (
         b"SESSION S BY T M\nTASK T 000000 0 1 0\nPHASE Q\nSESSION R BY U M\nTASK U 000000 0 1 0\nENDJOB\n",
         0,
-        9,
     ),
     // a module twice, an unknown one, and none
-    (b"SESSION S BY T M M\nTASK T 000000 0 1 0\nENDJOB\n", 9, 9),
-    (b"SESSION S BY T X\nTASK T 000000 0 1 0\nENDJOB\n", 9, 9),
-    (b"SESSION S BY T\nTASK T 000000 0 1 0\nENDJOB\n", 9, 9),
+    (b"SESSION S BY T M M\nTASK T 000000 0 1 0\nENDJOB\n", 9),
+    (b"SESSION S BY T X\nTASK T 000000 0 1 0\nENDJOB\n", 9),
+    (b"SESSION S BY T\nTASK T 000000 0 1 0\nENDJOB\n", 9),
     // a controller of an earlier phase, of a later one, and of none
     (
         b"TASK T 000000 0 1 0\nPHASE Q\nSESSION S BY T M\nENDJOB\n",
-        11,
         11,
     ),
     (
         b"SESSION S BY T M\nTASK U 000000 0 1 0\nPHASE Q\nTASK T 000000 0 1 0\nENDJOB\n",
         11,
-        9,
     ),
-    (b"SESSION S BY T M\nENDJOB\n", 10, 9),
-    (b"SESSION S BY T M\nTASK TT 000000 0 1 0\nENDJOB\n", 11, 9),
-    (b"SESSION S BY T M\n", 10, 9),
-    (b"SESSION S BY T M\nTASK T 000000 0 1 0\n", 11, 9),
+    (b"SESSION S BY T M\nENDJOB\n", 10),
+    (b"SESSION S BY T M\nTASK TT 000000 0 1 0\nENDJOB\n", 11),
+    (b"SESSION S BY T M\n", 10),
+    (b"SESSION S BY T M\nTASK T 000000 0 1 0\n", 11),
     // a controlled session behind the tasks, and a session twice
-    (b"TASK T 000000 0 1 0\nSESSION S BY T M\nENDJOB\n", 10, 10),
+    (b"TASK T 000000 0 1 0\nSESSION S BY T M\nENDJOB\n", 10),
     (
         b"SESSION S BY T M\nSESSION S BY T N\nTASK T 000000 0 1 0\nENDJOB\n",
         10,
-        9,
     ),
     // one controller of two is missing
     (
         b"SESSION S BY T M\nSESSION R BY U N\nTASK T 000000 0 1 0\nENDJOB\n",
         12,
-        9,
     ),
 ];
 
 /// The word BY, and words that come near to it.
-static WORDS: [(&[u8], u32, u32); 13] = [
-    (b"SESSION S BY BY M\nTASK BY 000000 0 1 0\nENDJOB\n", 0, 9),
-    (b"SESSION S BY T BY\nTASK T 000000 0 1 0\nENDJOB\n", 0, 9),
-    (b"SESSION S BY T M BY\nTASK T 000000 0 1 0\nENDJOB\n", 0, 9),
-    (b"SESSION BY BY T M\nTASK T 000000 0 1 0\nENDJOB\n", 0, 9),
-    (b"SESSION S M BY\nENDJOB\n", 0, 0),
-    (b"SESSION BY M\nENDJOB\n", 0, 0),
-    (b"SESSION S BY\nENDJOB\n", 9, 9),
-    (b"SESSION S BY M\nENDJOB\n", 9, 9),
-    (b"SESSION S M BY T\nTASK T 000000 0 1 0\nENDJOB\n", 9, 9),
-    (b"SESSION S by T M\nTASK T 000000 0 1 0\nENDJOB\n", 9, 9),
-    (b"SESSION S BY t M\nENDJOB\n", 9, 9),
-    (b"SESSION S  BY T M\nTASK T 000000 0 1 0\nENDJOB\n", 9, 9),
-    (b"SESSION S BY T M \nTASK T 000000 0 1 0\nENDJOB\n", 9, 9),
+static WORDS: [(&[u8], u32); 13] = [
+    (b"SESSION S BY BY M\nTASK BY 000000 0 1 0\nENDJOB\n", 0),
+    (b"SESSION S BY T BY\nTASK T 000000 0 1 0\nENDJOB\n", 0),
+    (b"SESSION S BY T M BY\nTASK T 000000 0 1 0\nENDJOB\n", 0),
+    (b"SESSION BY BY T M\nTASK T 000000 0 1 0\nENDJOB\n", 0),
+    (b"SESSION S M BY\nENDJOB\n", 0),
+    (b"SESSION BY M\nENDJOB\n", 0),
+    (b"SESSION S BY\nENDJOB\n", 9),
+    (b"SESSION S BY M\nENDJOB\n", 9),
+    (b"SESSION S M BY T\nTASK T 000000 0 1 0\nENDJOB\n", 9),
+    (b"SESSION S by T M\nTASK T 000000 0 1 0\nENDJOB\n", 9),
+    (b"SESSION S BY t M\nENDJOB\n", 9),
+    (b"SESSION S  BY T M\nTASK T 000000 0 1 0\nENDJOB\n", 9),
+    (b"SESSION S BY T M \nTASK T 000000 0 1 0\nENDJOB\n", 9),
 ];
 
 fn joined(alloc: Global, front: &[u8], more: &[u8]) -> Result<Vec<u8>, AllocError> {
@@ -120,10 +109,9 @@ fn joined(alloc: Global, front: &[u8], more: &[u8]) -> Result<Vec<u8>, AllocErro
 #[test]
 fn tells_the_line_that_breaks_a_rule(rt: HostRuntime) -> Result<(), Fail> {
     let a = rt.alloc();
-    for (more, with, without) in &RULES {
+    for (more, bad) in &RULES {
         let input = joined(a, FRONT, *more)?;
-        assert_eq!(rt; bad_line(a, &input, true), *with);
-        assert_eq!(rt; bad_line(a, &input, false), *without);
+        assert_eq!(rt; bad_line(a, &input), *bad);
     }
     Ok(())
 }
@@ -131,10 +119,9 @@ fn tells_the_line_that_breaks_a_rule(rt: HostRuntime) -> Result<(), Fail> {
 #[test]
 fn takes_by_behind_the_name(rt: HostRuntime) -> Result<(), Fail> {
     let a = rt.alloc();
-    for (more, with, without) in &WORDS {
+    for (more, bad) in &WORDS {
         let input = joined(a, FRONT, *more)?;
-        assert_eq!(rt; bad_line(a, &input, true), *with);
-        assert_eq!(rt; bad_line(a, &input, false), *without);
+        assert_eq!(rt; bad_line(a, &input), *bad);
     }
     Ok(())
 }
@@ -148,7 +135,7 @@ fn has_the_controllers_index(rt: HostRuntime) -> Result<(), Fail> {
         b"SESSION S N\nTASK A 000000 0 1 0\nPHASE Q\nSESSION R BY C M\nSESSION U BY C M N\nTASK B 000000 0 1 0\nTASK C 000000 0 1 0\nENDJOB\n",
     )?;
     assert!(rt; input.len() <= 1_000);
-    match read_job(a, &input, true) {
+    match read_job(a, &input) {
         Ok(read) => {
             assert_eq!(rt; read.job.sessions.len(), 3);
             assert_eq!(rt; read.job.tasks.len(), 3);

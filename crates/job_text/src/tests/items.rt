@@ -72,7 +72,7 @@ const ITEMS: [(&[u8], Option<Item>); 47] = [
 #[test]
 fn knows_each_item(rt: HostRuntime) -> Result<(), Fail> {
     let a = rt.alloc();
-    match read_job(a, JOB, true) {
+    match read_job(a, JOB) {
         Ok(read) => {
             for n in 0..ITEMS.len() {
                 let (line, item) = ITEMS[n];

@@ -1,5 +1,5 @@
 //! Whole jobs, each rule of the cards broken at its line, and each limit just met and just passed.
-use crate::jobs::{JobFault, ReadJob, read_job, read_whole_job};
+use crate::jobs::{JobFault, ReadJob, read_job};
 use crate::limit::Limit;
 use std::alloc::{AllocError, Global};
 use std::test::Fail;
@@ -29,7 +29,7 @@ fn told(alloc: Global, input: &[u8]) -> (u32, Option<Limit>) {
     if input.len() > 16_777_216 {
         return (99_999, None);
     }
-    match read_job(alloc, input, true) {
+    match read_job(alloc, input) {
         Ok(_) => (0, None),
         Err(fault) => told_of(fault),
     }
@@ -41,22 +41,12 @@ fn told_with(alloc: Global, input: &[u8], more: &[u8]) -> Result<(u32, Option<Li
     Ok(told(alloc, &whole))
 }
 
-fn told_whole(alloc: Global, input: &[u8]) -> (u32, Option<Limit>) {
-    if input.len() > 16_777_216 {
-        return (99_999, None);
-    }
-    match read_whole_job(alloc, input, true) {
-        Ok(_) => (0, None),
-        Err(fault) => told_of(fault),
-    }
-}
-
 #[test]
 fn reads_a_job_without_tasks(rt: HostRuntime) -> Result<(), Fail> {
     let a = rt.alloc();
     let input = joined(a, &[HEAD, b"ENDJOB\n"])?;
     assert!(rt; input.len() <= 1_000);
-    match read_job(a, &input, true) {
+    match read_job(a, &input) {
         Ok(ReadJob { job, end, lines }) => {
             assert_eq!(rt; (end, lines), (input.len(), 11));
             assert_eq!(rt; job.images.0.len(), 1);
@@ -97,7 +87,7 @@ fn reads_a_job_of_two_phases(rt: HostRuntime) -> Result<(), Fail> {
         ],
     )?;
     assert!(rt; input.len() <= 1_000);
-    match read_job(a, &input, true) {
+    match read_job(a, &input) {
         Ok(ReadJob { job, end, lines }) => {
             assert_eq!(rt; (end, lines), (input.len(), 15));
             assert_eq!(rt; job.phases.len(), 2);
@@ -122,7 +112,7 @@ fn reads_tasks_with_registers(rt: HostRuntime) -> Result<(), Fail> {
     let a = rt.alloc();
     let input =
         b"COVERJOB 1\nMODULE M 100000 10\nTEXT 12114780F00818\nTEXT 2207FE\nLISTING 0\nPHASE P\nSESSION S M\nTASK A 100000 16 100 0\nTASK B 100000 16 100 0\nREG 1 00000001\nENDJOB\n";
-    match read_job(a, &input[..], true) {
+    match read_job(a, &input[..]) {
         Ok(ReadJob { job, end: _, lines }) => {
             assert_eq!(rt; lines, 11);
             assert_eq!(rt; job.images.0.len(), 1);
@@ -145,19 +135,18 @@ fn reads_tasks_with_registers(rt: HostRuntime) -> Result<(), Fail> {
 #[test]
 fn ends_behind_endjob(rt: HostRuntime) -> Result<(), Fail> {
     let a = rt.alloc();
-    let ends: [(&[u8], usize, u32, u32); 5] = [
-        (b"COVERJOB 1\nENDJOB", 17, 2, 0),
-        (b"COVERJOB 1\nENDJOB\n", 18, 2, 0),
-        (b"COVERJOB 1\nENDJOB\n\n", 18, 2, 3),
-        (b"COVERJOB 1\nENDJOB\nFETCH A\nENDSCHED\n", 18, 2, 3),
-        (b"COVERJOB 1\nPHASE P\nENDJOB\n\xFF", 26, 3, 4),
+    let ends: [(&[u8], usize, u32); 5] = [
+        (b"COVERJOB 1\nENDJOB", 17, 2),
+        (b"COVERJOB 1\nENDJOB\n", 18, 2),
+        (b"COVERJOB 1\nENDJOB\n\n", 18, 2),
+        (b"COVERJOB 1\nENDJOB\nFETCH A\nENDSCHED\n", 18, 2),
+        (b"COVERJOB 1\nPHASE P\nENDJOB\n\xFF", 26, 3),
     ];
-    for (input, past, count, bad) in &ends {
-        match read_job(a, *input, true) {
+    for (input, past, count) in &ends {
+        match read_job(a, *input) {
             Ok(ReadJob { job: _, end, lines }) => assert_eq!(rt; (end, lines), (*past, *count)),
             Err(_) => assert!(rt; false),
         }
-        assert_eq!(rt; told_whole(a, *input), (*bad, None));
     }
     Ok(())
 }

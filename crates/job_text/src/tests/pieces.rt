@@ -29,7 +29,7 @@ fn in_pieces(
     requires first { first ≤ 1000 }
     requires size { size ≤ 1000 }
 {
-    let Ok(mut reader) = JobReader::new(alloc, true) else {
+    let Ok(mut reader) = JobReader::new(alloc) else {
         return Err(AllocError);
     };
     let mut at = 0;
@@ -77,7 +77,7 @@ fn takes_a_job_in_pieces(rt: HostRuntime) -> Result<(), Fail> {
     for (input, bytes, lines) in &JOBS {
         assert_eq!(rt; input.len(), *bytes);
         assert!(rt; input.len() <= 1_000);
-        let Ok(whole) = read_job(a, *input, true) else {
+        let Ok(whole) = read_job(a, *input) else {
             assert!(rt; false);
             return Ok(());
         };
@@ -137,7 +137,7 @@ fn tells_when_the_line_has_come(rt: HostRuntime) -> Result<(), Fail> {
             assert!(rt; fed >= *bytes);
             assert_eq!(rt; told(&answer), *wanted);
         }
-        assert_eq!(rt; told(&read_job(a, *input, true)), *wanted);
+        assert_eq!(rt; told(&read_job(a, *input)), *wanted);
     }
     Ok(())
 }

@@ -1,15 +1,8 @@
 use Rattle.std.proofs.Common.{◌≡◌, length, ap, subst, sym, ◌∙◌, arith}
-use Rattle.session_book.specs.JobView.{JobView}
-use Rattle.session_book.specs.Sessions.{AreWhole}
 use Rattle.coverage_program.specs.Changes.{areas_change}
 use Rattle.coverage_program.proofs.AnswerLemmas.{written_as}
-use Rattle.coverage_program.proofs.TrialLemmas.{trial_tasks, trial_sessions, trial_whole, tried}
+use Rattle.coverage_program.proofs.TrialLemmas.{trial_tasks, trial_sessions, tried}
 use Rattle.coverage_program.proofs.trial.answer_job.Goals as goal
-
-pub run_job-requires-clause-whole : goal.run_job-requires-clause-whole
-run_job-requires-clause-whole g c = λ κs x.
-    let whole : AreWhole c.args.job.now = subst (λ (j : JobView). AreWhole j) (sym c.requires.job) (trial_whole c.args.number c.args.tasks) in
-    whole
 
 pub trial_text-requires-clause-tasks : goal.trial_text-requires-clause-tasks
 trial_text-requires-clause-tasks g c =

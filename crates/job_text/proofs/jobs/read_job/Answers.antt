@@ -1,6 +1,5 @@
 use Rattle.std.proofs.Common.{[]}
 use Rattle.std.proofs.lemmas.Result.{err_from_is_err_and}
-use Rattle.job_text.specs.Drafts.{asked}
 use Rattle.job_text.specs.Pieces.{used_of}
 use Rattle.job_text.proofs.Joined.{read_of_piece, only_of_piece, fault_of_piece}
 use Rattle.job_text.proofs.jobs.read_job.Goals as goal
@@ -9,41 +8,31 @@ pub returns-in_err-_fed-clause-only : goal.returns-in_err-_fed-clause-only
 returns-in_err-_fed-clause-only c =
     let p = err_from_is_err_and c.from_residual-in_err-_fed.result c.from_residual-in_err-_fed.ensures.1 in
     let t = c.in_err-_fed.ensures.fault [] c.in_ok-reader.ensures.nothing in
-    rw (p.1, p.2) (rw c.in_ok-reader.ensures.by at t).only
+    rw (p.1, p.2) t.only
 
 pub returns-in_err-_fed-clause-fault : goal.returns-in_err-_fed-clause-fault
 returns-in_err-_fed-clause-fault c =
     let p = err_from_is_err_and c.from_residual-in_err-_fed.result c.from_residual-in_err-_fed.ensures.1 in
     let t = c.in_err-_fed.ensures.fault [] c.in_ok-reader.ensures.nothing in
-    rw (p.1, p.2) (rw c.in_ok-reader.ensures.by at t).refusal
+    rw (p.1, p.2) t.refusal
 
 pub returns-clause-job : goal.returns-clause-job
 returns-clause-job c =
     let fed = c.in_ok-_fed._fed in
     let none = c.in_ok-reader.ensures.nothing in
-    let by = c.in_ok-reader.ensures.by in
     let h = c.in_ok-_fed.ensures.taken [] none in
-    let job = c.finish.ensures.job (used_of c.args.input.now fed) h in
-    let feeds = c.in_ok-_fed.ensures.fed [] none in
-    read_of_piece c.args.by c.args.input.now fed c.finish.result (rw by at feeds) (rw (c.in_ok-_fed.ensures.by, by) at job) (c.finish.ensures.whole (used_of c.args.input.now fed) h)
+    read_of_piece c.args.input.now fed c.finish.result (c.in_ok-_fed.ensures.fed [] none) (c.finish.ensures.job (used_of c.args.input.now fed) h) (c.finish.ensures.whole (used_of c.args.input.now fed) h)
 
 pub returns-clause-only : goal.returns-clause-only
 returns-clause-only c =
     let fed = c.in_ok-_fed._fed in
     let none = c.in_ok-reader.ensures.nothing in
-    let by = c.in_ok-reader.ensures.by in
     let h = c.in_ok-_fed.ensures.taken [] none in
-    let only = c.finish.ensures.only (used_of c.args.input.now fed) h in
-    let feeds = c.in_ok-_fed.ensures.fed [] none in
-    only_of_piece (asked c.args.by) c.args.input.now fed c.finish.result (rw by at feeds) (rw (c.in_ok-_fed.ensures.by, by) at only)
+    only_of_piece c.args.input.now fed c.finish.result (c.in_ok-_fed.ensures.fed [] none) (c.finish.ensures.only (used_of c.args.input.now fed) h)
 
 pub returns-clause-fault : goal.returns-clause-fault
 returns-clause-fault c =
     let fed = c.in_ok-_fed._fed in
     let none = c.in_ok-reader.ensures.nothing in
-    let by = c.in_ok-reader.ensures.by in
     let h = c.in_ok-_fed.ensures.taken [] none in
-    let only = c.finish.ensures.only (used_of c.args.input.now fed) h in
-    let fault = c.finish.ensures.fault (used_of c.args.input.now fed) h in
-    let feeds = c.in_ok-_fed.ensures.fed [] none in
-    fault_of_piece (asked c.args.by) c.args.input.now fed c.finish.result (rw by at feeds) (rw (c.in_ok-_fed.ensures.by, by) at only) (rw (c.in_ok-_fed.ensures.by, by) at fault)
+    fault_of_piece c.args.input.now fed c.finish.result (c.in_ok-_fed.ensures.fed [] none) (c.finish.ensures.only (used_of c.args.input.now fed) h) (c.finish.ensures.fault (used_of c.args.input.now fed) h)

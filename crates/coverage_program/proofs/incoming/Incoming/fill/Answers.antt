@@ -13,5 +13,4 @@ loop-turn-preserved g c =
           (c.in_ok-take.ensures.come h.bytes h.come) c.take.ensures.size;
       faults = read.no_fault ∙ c.loop-turn.invariant.faults;
       more = c.take.ensures.more ∙ c.loop-turn.invariant.more;
-      by = c.take.ensures.by ∙ c.loop-turn.invariant.by;
     }

@@ -9,5 +9,4 @@ invariant-loop-turn g l = record {
   reached : HasReached (g.S.Source.left l.initial.source) (g.S.Source.left l.source) l._turn l.room l.self;
   faults : g.S.Source.faults l.source ≡ g.S.Source.faults l.initial.source;
   more : l.self.more ≡ l.initial.self.more;
-  by : l.self.reader.by ≡ l.initial.self.reader.by;
 }

@@ -1,7 +1,6 @@
 use Rattle.std.proofs.Common.{Bool, List, ◌++◌, take, refl, sym, ap, ◌∙◌, subst}
-use Rattle.job_text.specs.Drafts.{asked}
 use Rattle.job_text.specs.Pieces.{IsEnded}
-use Rattle.job_text.specs.Taken.{Reader, IsFed, has_ended}
+use Rattle.job_text.specs.Taken.{IsFed, has_ended}
 use Rattle.coverage_program.proofs.IncomingLemmas.{told_reading, come_more, keep_on, end_on}
 use Rattle.coverage_program.proofs.incoming.Incoming.take.Goals as goal
 
@@ -16,10 +15,9 @@ returns-in-Ok-Ended-clause-come c = λ bytes h.
     let used = c.in-Ok-Ended.used in
     let fed = rw c.in-Ok-Ended.field-0-is at (c.in-Ok-Ended.ensures.taken h.fed h.is_fed) in
     let ended = rw c.in-Ok-Ended.field-0-is at c.in-Ok-Ended.ensures.ended in
-    let feeds : IsEnded (asked c.args.self.now.reader.by) h.fed c.args.piece.now used = rw c.in-Ok-Ended.field-0-is at (c.in-Ok-Ended.ensures.fed h.fed h.is_fed) in
-    let same = ap (λ (r : Reader). r.by) k.reader ∙ c.feed.ensures.by in
+    let feeds : IsEnded h.fed c.args.piece.now used = rw c.in-Ok-Ended.field-0-is at (c.in-Ok-Ended.ensures.fed h.fed h.is_fed) in
     end_on bytes c.args.piece.now used c.args.self.now c.keep-in-Ok-Ended.new.self c.keep-in-Ok-Ended.result h (sym c.has_ended.ensures ∙ c.if-has_ended.false)
-    (rw k.reader fed) (rw k.reader ended) (subst (λ (b : Bool). IsEnded (asked b) h.fed c.args.piece.now used) (sym same) feeds) k.more k.some k.none k.rest
+    (rw k.reader fed) (rw k.reader ended) feeds k.more k.some k.none k.rest
 
 pub returns-in-Ok-More-clause-come : goal.returns-in-Ok-More-clause-come
 returns-in-Ok-More-clause-come c = λ bytes h.

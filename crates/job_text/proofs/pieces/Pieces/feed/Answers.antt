@@ -4,7 +4,7 @@ use Rattle.job_text.specs.Steps.{is_done, step}
 use Rattle.job_text.specs.Pieces.{IsTold}
 use Rattle.job_text.specs.Taken.{IsNext, IsFaultOf, HasTaken}
 use Rattle.job_text.specs.declared.jobs.JobFault.{JobFault}
-use Rattle.job_text.specs.Drafts.{Controllers, asked}
+use Rattle.job_text.specs.Drafts.{Present}
 use Rattle.job_text.specs.declared.pieces.Pieces.{Pieces}
 use Rattle.job_text.proofs.EndedLines.{LfNext, lf_next, lf_none, used_all}
 use Rattle.job_text.proofs.LineLemmas.{ended_line}
@@ -14,14 +14,14 @@ use Rattle.job_text.proofs.pieces.Pieces.feed.Goals as goal
 pub ended_line-requires-clause-few : goal.ended_line-requires-clause-few
 ended_line-requires-clause-few c =
     let t = c.loop-size.invariant.taken c.requires.taken.0 c.requires.taken.1 in
-    let few = taken_few (asked c.args.controlled) _ c.loop-size.pieces t in
-    let on = taken_on (asked c.args.controlled) c.requires.taken.0 (take c.loop-size.used c.args.piece.now) c.args.self c.loop-size.pieces c.requires.taken.1 t in
+    let few = taken_few _ c.loop-size.pieces t in
+    let on = taken_on c.requires.taken.0 (take c.loop-size.used c.args.piece.now) c.args.self c.loop-size.pieces c.requires.taken.1 t in
     omega (arith, few, on, length-take c.loop-size.used c.args.piece.now, c.requires.room)
 
 pub ended_line-requires-clause-room : goal.ended_line-requires-clause-room
 ended_line-requires-clause-room c =
     let t = c.loop-size.invariant.taken c.requires.taken.0 c.requires.taken.1 in
-    let on = taken_on (asked c.args.controlled) c.requires.taken.0 (take c.loop-size.used c.args.piece.now) c.args.self c.loop-size.pieces c.requires.taken.1 t in
+    let on = taken_on c.requires.taken.0 (take c.loop-size.used c.args.piece.now) c.args.self c.loop-size.pieces c.requires.taken.1 t in
     omega (
       arith,
       on,
@@ -32,44 +32,44 @@ ended_line-requires-clause-room c =
       length-drop c.loop-size.used c.args.piece.now,
     )
 
-told_at : (ask : Controllers) (before piece : List ℕ) (used size : ℕ) (p : Pieces) (e : JobFault) → LfNext piece used size → HasTaken ask (before ++ take used piece) p → is_done p.taken.reader.part ≡ false →
-    IsFaultOf (step ask p.taken.reader (ended_line (p.cut.items ++ take (used + size - used) (drop used piece)))) (p.taken.lines + 1) e → IsTold ask (before ++ piece) e
-told_at ask before piece used size p e n t reading f =
+told_at : (before piece : List ℕ) (used size : ℕ) (p : Pieces) (e : JobFault) → LfNext piece used size → HasTaken (before ++ take used piece) p → is_done p.taken.reader.part ≡ false →
+    IsFaultOf (step Present p.taken.reader (ended_line (p.cut.items ++ take (used + size - used) (drop used piece)))) (p.taken.lines + 1) e → IsTold (before ++ piece) e
+told_at before piece used size p e n t reading f =
     let same : used + size - used ≡ size = omega arith in
     let line : List ℕ = take size (drop used piece) in
     let rest : List ℕ = drop (suc size) (drop used piece) in
     let whole : (before ++ take used piece) ++ (line ++ 10 ∷ rest) ≡ before ++ piece = append_assoc before (take used piece) (line ++ 10 ∷ rest) ∙ ap (λ (x : List ℕ). before ++ x) (sym n.whole) in
-    subst (λ (x : List ℕ). IsTold ask x e) whole (line_told ask (before ++ take used piece) line rest p e n.partial t reading (rw same at f))
+    subst (λ (x : List ℕ). IsTold x e) whole (line_told (before ++ take used piece) line rest p e n.partial t reading (rw same at f))
 
 pub returns-in_err-pieces-clause-fault : goal.returns-in_err-pieces-clause-fault
 returns-in_err-pieces-clause-fault c = λ before h.
     let p = err_from_is_err_and c.from_residual.result c.from_residual.ensures.1 in
     let n = lf_next c.args.piece.now c.loop-size.used c.in-Some.size c.loop-size.invariant.inside (sym c.in-Some.ensures) in
-    rw (p.1, p.2) (told_at (asked c.args.controlled) before c.args.piece.now c.loop-size.used c.in-Some.size c.loop-size.pieces _ n (c.loop-size.invariant.taken before h) c.loop-size.invariant.reading c.in_err-pieces.ensures.fault)
+    rw (p.1, p.2) (told_at before c.args.piece.now c.loop-size.used c.in-Some.size c.loop-size.pieces _ n (c.loop-size.invariant.taken before h) c.loop-size.invariant.reading c.in_err-pieces.ensures.fault)
 
 pub overflow_add-used-in-Some-2 : goal.overflow_add-used-in-Some-2
 overflow_add-used-in-Some-2 c =
     let n = lf_next c.args.piece.now c.loop-size.used c.in-Some.size c.loop-size.invariant.inside (sym c.in-Some.ensures) in
     omega (arith, n.inside, c.requires.room)
 
-taken_at : (ask : Controllers) (before piece : List ℕ) (used size : ℕ) (p q : Pieces) → LfNext piece used size → HasTaken ask (before ++ take used piece) p →
-    IsNext ask p.taken q.taken (ended_line (p.cut.items ++ take (used + size - used) (drop used piece))) → q.cut.items ≡ [] → HasTaken ask (before ++ take (used + (size + 1)) piece) q
-taken_at ask before piece used size p q n t next none =
+taken_at : (before piece : List ℕ) (used size : ℕ) (p q : Pieces) → LfNext piece used size → HasTaken (before ++ take used piece) p →
+    IsNext p.taken q.taken (ended_line (p.cut.items ++ take (used + size - used) (drop used piece))) → q.cut.items ≡ [] → HasTaken (before ++ take (used + (size + 1)) piece) q
+taken_at before piece used size p q n t next none =
     let same : used + size - used ≡ size = omega arith in
     let line : List ℕ = take size (drop used piece) in
     let whole : (before ++ take used piece) ++ (line ++ 10 ∷ []) ≡ before ++ take (used + (size + 1)) piece = append_assoc before (take used piece) (line ++ 10 ∷ []) ∙ ap (λ (x : List ℕ). before ++ x) (sym n.taken) in
-    subst (λ (x : List ℕ). HasTaken ask x q) whole (line_taken ask (before ++ take used piece) line p q n.partial t (rw same at next) none)
+    subst (λ (x : List ℕ). HasTaken x q) whole (line_taken (before ++ take used piece) line p q n.partial t (rw same at next) none)
 
 pub returns-then-is_done-clause-taken : goal.returns-then-is_done-clause-taken
 returns-then-is_done-clause-taken c = λ before h.
     let n = lf_next c.args.piece.now c.loop-size.used c.in-Some.size c.loop-size.invariant.inside (sym c.in-Some.ensures) in
-    taken_at (asked c.args.controlled) before c.args.piece.now c.loop-size.used c.in-Some.size c.loop-size.pieces c.in_ok-pieces.pieces n (c.loop-size.invariant.taken before h) c.in_ok-pieces.ensures.next c.in_ok-pieces.ensures.none
+    taken_at before c.args.piece.now c.loop-size.used c.in-Some.size c.loop-size.pieces c.in_ok-pieces.pieces n (c.loop-size.invariant.taken before h) c.in_ok-pieces.ensures.next c.in_ok-pieces.ensures.none
 
 pub returns-then-is_done-clause-fed : goal.returns-then-is_done-clause-fed
 returns-then-is_done-clause-fed c = λ before h.
     let n = lf_next c.args.piece.now c.loop-size.used c.in-Some.size c.loop-size.invariant.inside (sym c.in-Some.ensures) in
-    let t = taken_at (asked c.args.controlled) before c.args.piece.now c.loop-size.used c.in-Some.size c.loop-size.pieces c.in_ok-pieces.pieces n (c.loop-size.invariant.taken before h) c.in_ok-pieces.ensures.next c.in_ok-pieces.ensures.none in
-    is_ended (asked c.args.controlled) before c.args.piece.now (c.loop-size.used + (c.in-Some.size + 1)) c.in_ok-pieces.pieces (omega arith) (omega (arith, n.inside)) t (sym c.is_done.ensures ∙ c.if-is_done.true)
+    let t = taken_at before c.args.piece.now c.loop-size.used c.in-Some.size c.loop-size.pieces c.in_ok-pieces.pieces n (c.loop-size.invariant.taken before h) c.in_ok-pieces.ensures.next c.in_ok-pieces.ensures.none in
+    is_ended before c.args.piece.now (c.loop-size.used + (c.in-Some.size + 1)) c.in_ok-pieces.pieces (omega arith) (omega (arith, n.inside)) t (sym c.is_done.ensures ∙ c.if-is_done.true)
 
 pub returns-then-is_done-clause-used : goal.returns-then-is_done-clause-used
 returns-then-is_done-clause-used c =
@@ -81,23 +81,23 @@ loop-size-preserved c =
     let n = lf_next c.args.piece.now c.loop-size.used c.in-Some.size c.loop-size.invariant.inside (sym c.in-Some.ensures) in
     record {
       inside = omega (arith, n.inside);
-      taken = λ before h. taken_at (asked c.args.controlled) before c.args.piece.now c.loop-size.used c.in-Some.size c.loop-size.pieces c.in_ok-pieces.pieces n (c.loop-size.invariant.taken before h) c.in_ok-pieces.ensures.next c.in_ok-pieces.ensures.none;
+      taken = λ before h. taken_at before c.args.piece.now c.loop-size.used c.in-Some.size c.loop-size.pieces c.in_ok-pieces.pieces n (c.loop-size.invariant.taken before h) c.in_ok-pieces.ensures.next c.in_ok-pieces.ensures.none;
       reading = sym c.is_done.ensures ∙ c.if-is_done.false;
     }
 
 -- no LF is left
 
-rest_at : (ask : Controllers) (before piece : List ℕ) (used : ℕ) (p q : Pieces) → position (λ b. nat_eq b 10) (take (length piece - used) (drop used piece)) ≡ None → HasTaken ask (before ++ take used piece) p → is_done p.taken.reader.part ≡ false →
-    q.taken ≡ p.taken → q.cut.items ≡ p.cut.items ++ take (length piece - used) (drop used piece) → HasTaken ask (before ++ piece) q
-rest_at ask before piece used p q none t reading same cut =
+rest_at : (before piece : List ℕ) (used : ℕ) (p q : Pieces) → position (λ b. nat_eq b 10) (take (length piece - used) (drop used piece)) ≡ None → HasTaken (before ++ take used piece) p → is_done p.taken.reader.part ≡ false →
+    q.taken ≡ p.taken → q.cut.items ≡ p.cut.items ++ take (length piece - used) (drop used piece) → HasTaken (before ++ piece) q
+rest_at before piece used p q none t reading same cut =
     let still : is_done q.taken.reader.part ≡ false = rw same reading in
-    subst (λ (x : List ℕ). HasTaken ask x q) (used_all before piece used) (rest_taken ask (before ++ take used piece) (take (length piece - used) (drop used piece)) p q (lf_none piece used none) t same cut still)
+    subst (λ (x : List ℕ). HasTaken x q) (used_all before piece used) (rest_taken (before ++ take used piece) (take (length piece - used) (drop used piece)) p q (lf_none piece used none) t same cut still)
 
 pub returns-clause-taken : goal.returns-clause-taken
-returns-clause-taken c = λ before h. rest_at (asked c.args.controlled) before c.args.piece.now c.loop-size.used c.loop-size.pieces (record { taken = c.loop-size.pieces.taken; cut = c.extend_from_slice.new.self }) (sym c.in_default.ensures) (c.loop-size.invariant.taken before h) c.loop-size.invariant.reading refl c.in_ok-extend_from_slice.ensures.items
+returns-clause-taken c = λ before h. rest_at before c.args.piece.now c.loop-size.used c.loop-size.pieces (record { taken = c.loop-size.pieces.taken; cut = c.extend_from_slice.new.self }) (sym c.in_default.ensures) (c.loop-size.invariant.taken before h) c.loop-size.invariant.reading refl c.in_ok-extend_from_slice.ensures.items
 
 pub returns-clause-fed : goal.returns-clause-fed
 returns-clause-fed c = λ before h.
-    is_open (asked c.args.controlled) (before ++ c.args.piece.now) (record { taken = c.loop-size.pieces.taken; cut = c.extend_from_slice.new.self })
-    (rest_at (asked c.args.controlled) before c.args.piece.now c.loop-size.used c.loop-size.pieces (record { taken = c.loop-size.pieces.taken; cut = c.extend_from_slice.new.self }) (sym c.in_default.ensures) (c.loop-size.invariant.taken before h) c.loop-size.invariant.reading refl c.in_ok-extend_from_slice.ensures.items)
+    is_open (before ++ c.args.piece.now) (record { taken = c.loop-size.pieces.taken; cut = c.extend_from_slice.new.self })
+    (rest_at before c.args.piece.now c.loop-size.used c.loop-size.pieces (record { taken = c.loop-size.pieces.taken; cut = c.extend_from_slice.new.self }) (sym c.in_default.ensures) (c.loop-size.invariant.taken before h) c.loop-size.invariant.reading refl c.in_ok-extend_from_slice.ensures.items)
     c.loop-size.invariant.reading

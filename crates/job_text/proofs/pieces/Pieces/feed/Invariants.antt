@@ -1,5 +1,4 @@
 use Rattle.std.proofs.Common.{◌≡◌, ◌≤◌, ◌-◌, ◌++◌, ℕ, List, length, take, false}
-use Rattle.job_text.specs.Drafts.{asked}
 use Rattle.job_text.specs.Steps.{is_done}
 use Rattle.job_text.specs.Taken.{HasTaken}
 use Rattle.job_text.proofs.pieces.Pieces.feed.Given as goal
@@ -7,7 +6,7 @@ use Rattle.job_text.proofs.pieces.Pieces.feed.Given as goal
 abbrev pub invariant-loop-size : goal.invariant-loop-size
 invariant-loop-size l = record {
   inside : l.used ≤ length l.piece;
-  taken : (before : List ℕ) → HasTaken (asked l.controlled) before l.fn.self → HasTaken (asked l.controlled) (before ++ take l.used l.piece) l.pieces;
+  taken : (before : List ℕ) → HasTaken before l.fn.self → HasTaken (before ++ take l.used l.piece) l.pieces;
   reading : is_done l.pieces.taken.reader.part ≡ false;
 }
 

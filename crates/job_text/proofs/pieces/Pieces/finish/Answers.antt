@@ -6,7 +6,7 @@ use Rattle.job_text.specs.Steps.{is_done, step}
 use Rattle.job_text.specs.Taken.{IsFaultOf, HasTaken}
 use Rattle.job_text.specs.Lines.{lines_of}
 use Rattle.job_text.specs.declared.jobs.JobFault.{JobFault}
-use Rattle.job_text.specs.Drafts.{Controllers, asked}
+use Rattle.job_text.specs.Drafts.{Present}
 use Rattle.job_text.specs.declared.pieces.Pieces.{Pieces}
 use Rattle.job_text.proofs.LineLemmas.{open_line}
 use Rattle.job_text.proofs.Readings.{taken_few, nothing_left, last_taken, Refuted, last_refuted}
@@ -15,14 +15,14 @@ use Rattle.job_text.proofs.pieces.Pieces.finish.Goals as goal
 pub returns-then-is_empty-clause-only : goal.returns-then-is_empty-clause-only
 returns-then-is_empty-clause-only c =
     let none : c.args.self.cut.items ≡ [] = nil_from_length c.args.self.cut.items (grind (arith, nat_tests, c.args.self.cut.ok, c.is_empty.ensures, c.if-is_empty.true)) in
-    λ bytes h. c.finish.ensures.only c.args.controlled bytes (nothing_left (asked c.args.controlled) bytes c.args.self none h)
+    λ bytes h. c.finish.ensures.only bytes (nothing_left bytes c.args.self none h)
 
 pub line-requires-clause-few : goal.line-requires-clause-few
-line-requires-clause-few c = omega (arith, taken_few (asked c.args.controlled) c.requires.taken.0 c.args.self c.requires.taken.1, c.requires.room)
+line-requires-clause-few c = omega (arith, taken_few c.requires.taken.0 c.args.self c.requires.taken.1, c.requires.room)
 
 -- a line that has begun is none behind the job
-reading : (ask : Controllers) (bytes : List ℕ) (p : Pieces) → 0 < length p.cut.items → HasTaken ask bytes p → is_done p.taken.reader.part ≡ false
-reading ask bytes p some h = not_true (is_done p.taken.reader.part) (λ done. some_cut p.cut.items some (h.end done))
+reading : (bytes : List ℕ) (p : Pieces) → 0 < length p.cut.items → HasTaken bytes p → is_done p.taken.reader.part ≡ false
+reading bytes p some h = not_true (is_done p.taken.reader.part) (λ done. some_cut p.cut.items some (h.end done))
   where
     not_true : (b : Bool) → (b ≡ true → ⊥) → b ≡ false
     not_true true h = absurd (h refl)
@@ -32,42 +32,42 @@ reading ask bytes p some h = not_true (is_done p.taken.reader.part) (λ done. so
     some_cut [] h e = omega arith
     some_cut (x ∷ xs) h e = absurd cc
 
-refuted : (ask : Controllers) (bytes : List ℕ) (p : Pieces) (e : JobFault) → 0 < length p.cut.items → HasTaken ask bytes p → IsFaultOf (step ask p.taken.reader (open_line p.cut.items)) (p.taken.lines + 1) e → Refuted ask (lines_of bytes) e (length (lines_of bytes))
-refuted ask bytes p e some h f = last_refuted ask bytes p e some h (reading ask bytes p some h) f
+refuted : (bytes : List ℕ) (p : Pieces) (e : JobFault) → 0 < length p.cut.items → HasTaken bytes p → IsFaultOf (step Present p.taken.reader (open_line p.cut.items)) (p.taken.lines + 1) e → Refuted (lines_of bytes) e (length (lines_of bytes))
+refuted bytes p e some h f = last_refuted bytes p e some h (reading bytes p some h) f
 
 pub returns-in_err-line-clause-only : goal.returns-in_err-line-clause-only
 returns-in_err-line-clause-only c =
     let p = err_from_is_err_and c.from_residual.result c.from_residual.ensures.1 in
     let some : 0 < length c.args.self.cut.items = grind (arith, nat_tests, c.args.self.cut.ok, c.is_empty.ensures, c.if-is_empty.false) in
-    λ bytes h. rw (p.1, p.2) (refuted (asked c.args.controlled) bytes c.args.self _ some h (rw c.deref.ensures.value at c.in_err-line.ensures.fault)).only
+    λ bytes h. rw (p.1, p.2) (refuted bytes c.args.self _ some h (rw c.deref.ensures.value at c.in_err-line.ensures.fault)).only
 
 pub returns-in_err-line-clause-fault : goal.returns-in_err-line-clause-fault
 returns-in_err-line-clause-fault c =
     let p = err_from_is_err_and c.from_residual.result c.from_residual.ensures.1 in
     let some : 0 < length c.args.self.cut.items = grind (arith, nat_tests, c.args.self.cut.ok, c.is_empty.ensures, c.if-is_empty.false) in
-    λ bytes h. rw (p.1, p.2) (refuted (asked c.args.controlled) bytes c.args.self _ some h (rw c.deref.ensures.value at c.in_err-line.ensures.fault)).refusal
+    λ bytes h. rw (p.1, p.2) (refuted bytes c.args.self _ some h (rw c.deref.ensures.value at c.in_err-line.ensures.fault)).refusal
 
 pub finish-requires-2-clause-ran : goal.finish-requires-2-clause-ran
 finish-requires-2-clause-ran c =
     let some : 0 < length c.args.self.cut.items = grind (arith, nat_tests, c.args.self.cut.ok, c.is_empty.ensures, c.if-is_empty.false) in
-    (c.args.controlled, c.requires.taken.0, last_taken (asked c.args.controlled) c.requires.taken.0 c.args.self c.in_ok-line.field-0 some c.requires.taken.1 (rw c.deref.ensures.value at c.in_ok-line.ensures.next))
+    (c.requires.taken.0, last_taken c.requires.taken.0 c.args.self c.in_ok-line.field-0 some c.requires.taken.1 (rw c.deref.ensures.value at c.in_ok-line.ensures.next))
 
 pub returns-clause-job : goal.returns-clause-job
 returns-clause-job c =
     let some : 0 < length c.args.self.cut.items = grind (arith, nat_tests, c.args.self.cut.ok, c.is_empty.ensures, c.if-is_empty.false) in
-    λ bytes h. c.finish-2.ensures.job c.args.controlled bytes (last_taken (asked c.args.controlled) bytes c.args.self c.in_ok-line.field-0 some h (rw c.deref.ensures.value at c.in_ok-line.ensures.next))
+    λ bytes h. c.finish-2.ensures.job bytes (last_taken bytes c.args.self c.in_ok-line.field-0 some h (rw c.deref.ensures.value at c.in_ok-line.ensures.next))
 
 pub returns-clause-whole : goal.returns-clause-whole
 returns-clause-whole c =
     let some : 0 < length c.args.self.cut.items = grind (arith, nat_tests, c.args.self.cut.ok, c.is_empty.ensures, c.if-is_empty.false) in
-    λ bytes h. c.finish-2.ensures.whole c.args.controlled bytes (last_taken (asked c.args.controlled) bytes c.args.self c.in_ok-line.field-0 some h (rw c.deref.ensures.value at c.in_ok-line.ensures.next))
+    λ bytes h. c.finish-2.ensures.whole bytes (last_taken bytes c.args.self c.in_ok-line.field-0 some h (rw c.deref.ensures.value at c.in_ok-line.ensures.next))
 
 pub returns-clause-only : goal.returns-clause-only
 returns-clause-only c =
     let some : 0 < length c.args.self.cut.items = grind (arith, nat_tests, c.args.self.cut.ok, c.is_empty.ensures, c.if-is_empty.false) in
-    λ bytes h. c.finish-2.ensures.only c.args.controlled bytes (last_taken (asked c.args.controlled) bytes c.args.self c.in_ok-line.field-0 some h (rw c.deref.ensures.value at c.in_ok-line.ensures.next))
+    λ bytes h. c.finish-2.ensures.only bytes (last_taken bytes c.args.self c.in_ok-line.field-0 some h (rw c.deref.ensures.value at c.in_ok-line.ensures.next))
 
 pub returns-clause-fault : goal.returns-clause-fault
 returns-clause-fault c =
     let some : 0 < length c.args.self.cut.items = grind (arith, nat_tests, c.args.self.cut.ok, c.is_empty.ensures, c.if-is_empty.false) in
-    λ bytes h. c.finish-2.ensures.fault c.args.controlled bytes (last_taken (asked c.args.controlled) bytes c.args.self c.in_ok-line.field-0 some h (rw c.deref.ensures.value at c.in_ok-line.ensures.next))
+    λ bytes h. c.finish-2.ensures.fault bytes (last_taken bytes c.args.self c.in_ok-line.field-0 some h (rw c.deref.ensures.value at c.in_ok-line.ensures.next))

@@ -1,5 +1,4 @@
 use Rattle.std.proofs.Common.{sym, ◌∙◌, refl, arith}
-use Rattle.job_text.specs.Drafts.{asked}
 use Rattle.job_text.specs.Lines.{lines_of}
 use Rattle.job_text.specs.Steps.{plain}
 use Rattle.job_text.proofs.Readings.{within_of, few_lines, early_refuted, taken_job, taken_only}
@@ -8,24 +7,23 @@ use Rattle.job_text.proofs.taken.Taken.finish.Goals as goal
 
 pub finish-requires : goal.finish-requires
 finish-requires c =
-    let by = c.requires.ran.0 in
-    let bytes = c.requires.ran.1 in
-    let h = c.requires.ran.2 in
-    read_keeps by (lines_of bytes) (plain c.args.self.reader) h.runs (sym c.is_done.ensures ∙ c.if-is_done.true) (within_of (asked by) (lines_of bytes) (plain c.args.self.reader) h.runs h.goes_on)
+    let bytes = c.requires.ran.0 in
+    let h = c.requires.ran.1 in
+    read_keeps (lines_of bytes) (plain c.args.self.reader) h.runs (sym c.is_done.ensures ∙ c.if-is_done.true) (within_of (lines_of bytes) (plain c.args.self.reader) h.runs h.goes_on)
 
 pub returns-then-is_done-clause-job : goal.returns-then-is_done-clause-job
-returns-then-is_done-clause-job c = λ by bytes h. taken_job by bytes c.args.self _ h (sym c.is_done.ensures ∙ c.if-is_done.true) c.in_ok-finish.ensures refl refl
+returns-then-is_done-clause-job c = λ bytes h. taken_job bytes c.args.self _ h (sym c.is_done.ensures ∙ c.if-is_done.true) c.in_ok-finish.ensures refl refl
 
 pub returns-then-is_done-clause-only : goal.returns-then-is_done-clause-only
-returns-then-is_done-clause-only c = λ by bytes h n job i p w.
-    let a = taken_only (asked by) bytes c.args.self h (sym c.is_done.ensures ∙ c.if-is_done.true) n job i p in
+returns-then-is_done-clause-only c = λ bytes h n job i p w.
+    let a = taken_only bytes c.args.self h (sym c.is_done.ensures ∙ c.if-is_done.true) n job i p in
     (c.in_ok-finish.ensures ∙ a.0, a.1)
 
 pub overflow_add-result : goal.overflow_add-result
-overflow_add-result c = omega (arith, few_lines (asked c.requires.ran.0) c.requires.ran.1 c.args.self c.requires.ran.2, c.requires.room)
+overflow_add-result c = omega (arith, few_lines c.requires.ran.0 c.args.self c.requires.ran.1, c.requires.room)
 
 pub returns-clause-only : goal.returns-clause-only
-returns-clause-only c = λ by bytes h. (early_refuted (asked by) bytes c.args.self _ h (sym c.is_done.ensures ∙ c.if-is_done.false) refl).1
+returns-clause-only c = λ bytes h. (early_refuted bytes c.args.self _ h (sym c.is_done.ensures ∙ c.if-is_done.false) refl).1
 
 pub returns-clause-fault : goal.returns-clause-fault
-returns-clause-fault c = λ by bytes h. (early_refuted (asked by) bytes c.args.self _ h (sym c.is_done.ensures ∙ c.if-is_done.false) refl).0
+returns-clause-fault c = λ bytes h. (early_refuted bytes c.args.self _ h (sym c.is_done.ensures ∙ c.if-is_done.false) refl).0

@@ -1,0 +1,363 @@
+//! Sessions that tasks open and close under `run` and `marks`, and what `combine` and `show` make of their files.
+
+use super::marked::Row;
+use super::marks::check_row;
+use super::notation::Part;
+use super::notation::Part::{Bytes, Marked, Text};
+use super::run;
+use crate::status::Status;
+use module_area::Tally;
+use std::test::Fail;
+
+/// Load address, add and branch.
+const CODE: &str = "000000 4110 0005 LA, 000004 1A11 AR, 000006 07FE BR";
+
+/// Task C opens session S, goes through module M, and closes the session.
+pub const THROUGH: &str = "\
+COVERJOB 1\n\
+MODULE M 100000 8\n\
+TEXT 411000051A1107FE\n\
+LISTING 4\n\
+\x20 Loc  Object Code    Addr1 Addr2  Stmt   Source Statement\n\
+000000 4110 0005                      1          LA\n\
+000004 1A11                           2          AR\n\
+000006 07FE                           3          BR\n\
+PHASE P\n\
+SESSION S BY C M\n\
+TASK C 000000 32 100 0\n\
+REG 1 00100000\n\
+REG 13 00FFFFFE\n\
+DATA 0 0A0445E010000A0507FD\n\
+ENDJOB\n";
+
+/// It opens the session and goes past the module.
+const PAST: &str = "\
+COVERJOB 1\n\
+MODULE M 100000 8\n\
+TEXT 411000051A1107FE\n\
+LISTING 4\n\
+\x20 Loc  Object Code    Addr1 Addr2  Stmt   Source Statement\n\
+000000 4110 0005                      1          LA\n\
+000004 1A11                           2          AR\n\
+000006 07FE                           3          BR\n\
+PHASE P\n\
+SESSION S BY C M\n\
+TASK C 000000 32 100 0\n\
+REG 1 00100000\n\
+REG 13 00FFFFFE\n\
+DATA 0 0A0445E010080A0507FD\n\
+ENDJOB\n";
+
+/// It goes through the module and leaves the session open.
+const LEFT_OPEN: &str = "\
+COVERJOB 1\n\
+MODULE M 100000 8\n\
+TEXT 411000051A1107FE\n\
+LISTING 4\n\
+\x20 Loc  Object Code    Addr1 Addr2  Stmt   Source Statement\n\
+000000 4110 0005                      1          LA\n\
+000004 1A11                           2          AR\n\
+000006 07FE                           3          BR\n\
+PHASE P\n\
+SESSION S BY C M\n\
+TASK C 000000 32 100 0\n\
+REG 1 00100000\n\
+REG 13 00FFFFFE\n\
+DATA 0 0A0445E0100007FD\n\
+ENDJOB\n";
+
+/// Task A goes through the module, and task C never opens the session.
+const NEVER: &str = "\
+COVERJOB 1\n\
+MODULE M 100000 8\n\
+TEXT 411000051A1107FE\n\
+LISTING 4\n\
+\x20 Loc  Object Code    Addr1 Addr2  Stmt   Source Statement\n\
+000000 4110 0005                      1          LA\n\
+000004 1A11                           2          AR\n\
+000006 07FE                           3          BR\n\
+PHASE P\n\
+SESSION S BY C M\n\
+TASK A 100000 16 100 0\n\
+TASK C 000000 16 100 0\n\
+DATA 0 07FE\n\
+ENDJOB\n";
+
+/// Task C opens and closes two sessions, one after the other, while task A goes through the module.
+const TWO: &str = "\
+COVERJOB 1\n\
+MODULE M 100000 8\n\
+TEXT 411000051A1107FE\n\
+LISTING 4\n\
+\x20 Loc  Object Code    Addr1 Addr2  Stmt   Source Statement\n\
+000000 4110 0005                      1          LA\n\
+000004 1A11                           2          AR\n\
+000006 07FE                           3          BR\n\
+PHASE P\n\
+SESSION S1 BY C M\n\
+SESSION S2 BY C M\n\
+TASK A 100000 16 100 0\n\
+TASK C 000000 16 100 0\n\
+DATA 0 0A040A050A040A0507FE\n\
+ENDJOB\n";
+
+/// Files of session S: of one run that has gone through the module, of one that hasn't, and of their union.
+const ALL: Part = Bytes(
+    "53333730434F5632 5320202020202020 00000001 0001 4D20202020202020 00100000 00000008 00000003 00000000 04 00 4110 01 00000004 02 00 1A11 01 00000006 02 00 07FE 01",
+);
+
+const NONE: Part = Bytes(
+    "53333730434F5632 5320202020202020 00000001 0001 4D20202020202020 00100000 00000008 00000003 00000000 04 00 4110 00 00000004 02 00 1A11 00 00000006 02 00 07FE 00",
+);
+
+const UNION: Part = Bytes(
+    "53333730434F5632 5320202020202020 00000002 0001 4D20202020202020 00100000 00000008 00000003 00000000 04 00 4110 01 00000004 02 00 1A11 01 00000006 02 00 07FE 01",
+);
+
+const REPORT_C: Part = Text(
+    "\
+COVERAGE REPORT\n\
+TASK C RETURNED COUNT 7 CC 2\n\
+R0 00000000 0000000A 00000000 00000000 00000000 00000000 00000000 00000000\n\
+R8 00000000 00000000 00000000 00000000 00000000 00FFFFFE 80000006 00000000\n\
+OUT 0\n",
+);
+
+const SESSION: Part = Text("SESSION S PHASE P\n");
+
+const MARKED: Part = Marked(CODE, "::: EXECUTED 3 FACTS 3 OF 3");
+
+const UNMARKED: Part = Marked(CODE, "^^^ EXECUTED 0 FACTS 0 OF 3");
+
+const NOT_EXECUTED: Part = Text("NOT EXECUTED 000000-000007\n");
+
+const END: Part = Text("END\n");
+
+static ROWS: [Row; 11] = [
+    Row {
+        name: "run: through the module while the session is open",
+        words: &["run"],
+        input: &[Text(THROUGH)],
+        status: 0,
+        output: &[REPORT_C, SESSION, MARKED, END],
+    },
+    Row {
+        name: "run: past the module",
+        words: &["run"],
+        input: &[Text(PAST)],
+        status: 0,
+        output: &[
+            Text(
+                "\
+COVERAGE REPORT\n\
+TASK C ABEND 5 COUNT 3 CC 0\n\
+R0 00000000 00100000 00000000 00000000 00000000 00000000 00000000 00000000\n\
+R8 00000000 00000000 00000000 00000000 00000000 00FFFFFE 80000006 00000000\n\
+OUT 0\n",
+            ),
+            SESSION,
+            UNMARKED,
+            NOT_EXECUTED,
+            END,
+        ],
+    },
+    Row {
+        name: "run: a session that is left open",
+        words: &["run"],
+        input: &[Text(LEFT_OPEN)],
+        status: 0,
+        output: &[
+            Text(
+                "\
+COVERAGE REPORT\n\
+TASK C RETURNED COUNT 6 CC 2\n\
+R0 00000000 0000000A 00000000 00000000 00000000 00000000 00000000 00000000\n\
+R8 00000000 00000000 00000000 00000000 00000000 00FFFFFE 80000006 00000000\n\
+OUT 0\n",
+            ),
+            SESSION,
+            MARKED,
+            END,
+        ],
+    },
+    Row {
+        name: "run: a session that is never opened",
+        words: &["run"],
+        input: &[Text(NEVER)],
+        status: 0,
+        output: &[
+            Text(
+                "\
+COVERAGE REPORT\n\
+TASK A RETURNED COUNT 3 CC 2\n\
+R0 00000000 0000000A 00000000 00000000 00000000 00000000 00000000 00000000\n\
+R8 00000000 00000000 00000000 00000000 00000000 00000000 00FFFFFE 00100000\n\
+OUT 0\n\
+TASK C RETURNED COUNT 1 CC 0\n\
+R0 00000000 00000000 00000000 00000000 00000000 00000000 00000000 00000000\n\
+R8 00000000 00000000 00000000 00000000 00000000 00000000 00FFFFFE 00000000\n\
+OUT 0\n",
+            ),
+            SESSION,
+            UNMARKED,
+            NOT_EXECUTED,
+            END,
+        ],
+    },
+    Row {
+        name: "marks: through the module while the session is open",
+        words: &["marks", "S"],
+        input: &[Text(THROUGH)],
+        status: 0,
+        output: &[ALL],
+    },
+    Row {
+        name: "marks: past the module",
+        words: &["marks", "S"],
+        input: &[Text(PAST)],
+        status: 0,
+        output: &[NONE],
+    },
+    Row {
+        name: "marks: a session that is never opened",
+        words: &["marks", "S"],
+        input: &[Text(NEVER)],
+        status: 0,
+        output: &[NONE],
+    },
+    Row {
+        name: "combine: both files",
+        words: &["combine"],
+        input: &[NONE, ALL],
+        status: 0,
+        output: &[UNION],
+    },
+    Row {
+        name: "show: the file of a run",
+        words: &["show", "S"],
+        input: &[Text(THROUGH), ALL],
+        status: 0,
+        output: &[Text("COVERAGE SHOW\n"), SESSION, MARKED, END],
+    },
+    Row {
+        name: "show: the union behind a job that never opens the session",
+        words: &["show", "S"],
+        input: &[Text(NEVER), UNION],
+        status: 0,
+        output: &[Text("COVERAGE SHOW\n"), SESSION, MARKED, END],
+    },
+    Row {
+        name: "show: the file of a run past the module",
+        words: &["show", "S"],
+        input: &[Text(THROUGH), NONE],
+        status: 0,
+        output: &[Text("COVERAGE SHOW\n"), SESSION, UNMARKED, NOT_EXECUTED, END],
+    },
+];
+
+#[test]
+fn gives_what_comes_of_calls(rt: HostRuntime) -> Result<(), Fail> {
+    for row in &ROWS {
+        check_row(&rt, rt.alloc(), row)?;
+    }
+    Ok(())
+}
+
+/// Plants, fetches, marks, lifts and closes of each job's area.
+const TALLIES: [(&str, Tally); 4] = [
+    (
+        THROUGH,
+        Tally {
+            plants: 3,
+            fetches: 3,
+            marks: 3,
+            lifts: 3,
+            closes: 3,
+        },
+    ),
+    (
+        PAST,
+        Tally {
+            plants: 3,
+            fetches: 0,
+            marks: 0,
+            lifts: 0,
+            closes: 0,
+        },
+    ),
+    (
+        LEFT_OPEN,
+        Tally {
+            plants: 3,
+            fetches: 3,
+            marks: 3,
+            lifts: 3,
+            closes: 0,
+        },
+    ),
+    (
+        NEVER,
+        Tally {
+            plants: 0,
+            fetches: 3,
+            marks: 0,
+            lifts: 0,
+            closes: 0,
+        },
+    ),
+];
+
+#[test]
+fn tallies_plants_and_closes(rt: HostRuntime) -> Result<(), Fail> {
+    let alloc = rt.alloc();
+    for (job, tally) in &TALLIES {
+        let came = run(&rt, alloc, job.as_bytes().to_vec(alloc)?, 64)?;
+        assert_eq!(rt; came.status, Status(0));
+        assert_eq!(rt; came.tallies.as_slice(), [*tally].as_slice());
+    }
+    Ok(())
+}
+
+/// The report of the job with two sessions, up to the first.
+const FRONT: &str = "\
+COVERAGE REPORT\n\
+TASK A RETURNED COUNT 3 CC 2\n\
+R0 00000000 0000000A 00000000 00000000 00000000 00000000 00000000 00000000\n\
+R8 00000000 00000000 00000000 00000000 00000000 00000000 00FFFFFE 00100000\n\
+OUT 0\n\
+TASK C RETURNED COUNT 5 CC 0\n\
+R0 00000000 00000000 00000000 00000000 00000000 00000000 00000000 00000000\n\
+R8 00000000 00000000 00000000 00000000 00000000 00000000 00FFFFFE 00000000\n\
+OUT 0\n\
+SESSION S1 PHASE P\n";
+
+/// How many lines of a text begin with this byte.
+fn lines_with(text: &[u8], first: u8) -> u64 {
+    let mut count = 0u64;
+    let mut before = b'\n';
+    for byte in text {
+        if before == b'\n' && *byte == first {
+            count = count.wrapping_add(1);
+        }
+        before = *byte;
+    }
+    count
+}
+
+#[test]
+fn finds_in_two_sessions_what_was_met_while_each_was_open(rt: HostRuntime) -> Result<(), Fail> {
+    let alloc = rt.alloc();
+    for _ in 0..50 {
+        let came = run(&rt, alloc, TWO.as_bytes().to_vec(alloc)?, 64)?;
+        assert_eq!(rt; came.status, Status(0));
+        assert!(rt; came.text.starts_with(FRONT.as_bytes()));
+        let shown = lines_with(&came.text, b':');
+        assert_eq!(rt; shown.wrapping_add(lines_with(&came.text, b'^')), 6);
+        assert_eq!(rt; came.tallies.len(), 1);
+        let tally = &came.tallies[0];
+        assert_eq!(rt; (tally.plants, tally.fetches, tally.closes), (6, 3, 6));
+        assert!(rt; shown <= tally.marks && tally.marks <= 3);
+        assert!(rt; tally.lifts <= shown);
+    }
+    Ok(())
+}
