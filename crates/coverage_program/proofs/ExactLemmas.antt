@@ -95,7 +95,7 @@ true_verdict : (name b : List ℕ) (h : HoldsTrue name b) → IsVerdict h.job h.
 true_verdict name b h =
     let there = h.stands.has in
     let v = h.has in
-    let is : IsJob h.job = job_keeps true (take there.count (lines_of b)) h.job there.spells there.within in
+    let is : IsJob h.job = job_keeps (take there.count (lines_of b)) h.job there.spells there.within in
     let bytes : List ℕ = drop v.end h.rest in
     let passes : Passes h.job h.tables h.number v.marks.modules bytes = verified_passes h.job h.tables h.number v.marks.modules bytes is v.verified in
     OfFile v.marks v.end v.rules v.file (judged_verified h.job h.tables h.number v.marks.modules bytes (facts_of_modules v.marks.modules) (own_of h.job h.tables h.number v.marks.modules bytes v.verified) passes refl)
