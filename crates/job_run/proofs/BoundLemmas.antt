@@ -33,7 +33,7 @@ use Rattle.task_run.specs.Windows.{is_opened, visits_under, last_control, opened
 use Rattle.task_run.proofs.CloseLemmas.{closes_closed}
 use Rattle.task_run.proofs.SetLemmas.{facts_at-kind, has_fact-full_of, has_fact-union}
 use Rattle.job_run.specs.Areas.{IsBounded}
-use Rattle.job_run.specs.Bounds.{IsOwn, Leaves, JoinsTasks, never_opens, no_controlled}
+use Rattle.job_run.specs.Bounds.{IsOwn, Leaves, JoinsTasks, NeverOpens, no_controlled}
 
 -- facts of visits while a session is open, and of pairs under its odd tag
 
@@ -270,7 +270,7 @@ joins_one plan walks tasks t old mid other is bears j l =
         | inl its ↦
             let its' : is_controller plan t p ≡ true = ap (λ (k : ℕ). is_controller plan k p) (sym bears) ∙ its in
             let same : u ≡ t = one_controller plan u t p is (own_controller plan u s p own) its' in
-            rw its (l.last s p (subst (λ (k : ℕ). IsOwn plan k s p) same own) (subst (λ (k : ℕ). never_opens plan walks k s) same never))
+            rw its (l.last s p (subst (λ (k : ℕ). IsOwn plan k s p) same own) (subst (λ (k : ℕ). NeverOpens plan walks k s) same never))
         | inr not_its ↦ rw not_its (elim (one_of tasks t u has) [
           | inl before ↦ j.last u s p before own never
           | inr same ↦

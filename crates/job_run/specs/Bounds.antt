@@ -30,16 +30,17 @@ pub record IsOf (plan : PlanView) (walks : ℕ → Walk) (t s p : ℕ) (f : Fact
   pub own : IsOwn plan t s p → has_fact (least_set plan walks t s (place_of plan.places p)) f ≡ true
 
 -- the run never opens the session
-abbrev pub never_opens : PlanView → (ℕ → Walk) → ℕ → ℕ → Type 0
-never_opens plan walks t s = has_session (opened_by (last_control plan walks t)) s ≡ false
+abbrev pub NeverOpens : PlanView → (ℕ → Walk) → ℕ → ℕ → Type 0
+NeverOpens plan walks t s = has_session (opened_by (last_control plan walks t)) s ≡ false
 
 -- What the pass of a task has after its run: of each of its own sessions the facts of the run while it is open, and no
--- fact that the run doesn't show; no tag of a session that it never opened; one plant for each place of each session
--- that it opened, and one close for each of those that it closed.
+-- fact that the run doesn't show; no tag as high as that of an own session that it never opened; one plant for each place
+-- of each session that it opened, and one close for each of those that it closed; and so few calls that those of 64 tasks
+-- are no more than a pass may make.
 pub record Leaves (plan : PlanView) (walks : ℕ → Walk) (t : ℕ) (n : Notes) : Type 0 where
   pub least : (s p : ℕ) (f : Fact) → IsOwn plan t s p → has_fact (least_set plan walks t s (place_of plan.places p)) f ≡ true → IsShown n s p f
   pub most : (s p : ℕ) (f : Fact) → n.marked s p f ≡ true → IsOf plan walks t s p f
-  pub last : (s p : ℕ) → IsOwn plan t s p → never_opens plan walks t s → n.last p + 1 < 2 * s
+  pub last : (s p : ℕ) → IsOwn plan t s p → NeverOpens plan walks t s → n.last p + 1 < 2 * s
   pub plants : n.tally.plants ≡ places_in_all plan (opened_by (last_control plan walks t))
   pub closes : n.tally.closes ≡ places_in_all plan (closed_by (last_control plan walks t))
   pub few : calls n < 2 ^ 42
@@ -54,6 +55,6 @@ pub record IsOfOne (plan : PlanView) (walks : ℕ → Walk) (tasks : List TaskNo
 pub record JoinsTasks (plan : PlanView) (walks : ℕ → Walk) (tasks : List TaskNo) (old new : Notes) : Type 0 where
   pub least : (t s p : ℕ) (f : Fact) → has_task tasks t ≡ true → IsOwn plan t s p → has_fact (least_set plan walks t s (place_of plan.places p)) f ≡ true → IsShown new s p f
   pub most : (s p : ℕ) (f : Fact) → new.marked s p f ≡ true → IsOfOne plan walks tasks s p f
-  pub last : (t s p : ℕ) → has_task tasks t ≡ true → IsOwn plan t s p → never_opens plan walks t s → new.last p + 1 < 2 * s
+  pub last : (t s p : ℕ) → has_task tasks t ≡ true → IsOwn plan t s p → NeverOpens plan walks t s → new.last p + 1 < 2 * s
   pub plants : new.tally.plants ≡ old.tally.plants + sum_by (λ (t : TaskNo). places_in_all plan (opened_by (last_control plan walks t.0))) tasks
   pub closes : new.tally.closes ≡ old.tally.closes + sum_by (λ (t : TaskNo). places_in_all plan (closed_by (last_control plan walks t.0))) tasks
