@@ -445,18 +445,22 @@ def evidence_of_two() -> None:
     with open(f"{TOP}/examples/orders.job", "rb") as job, open(f"{TOP}/examples/short.tasks", "rb") as tasks:
         first, short = job.read(), tasks.read()
     second = first[: first.index(b"PHASE ")] + short + b"ENDJOB\n"
-    for it, facts in ((first, 75), (second, 60)):
+    for it, facts in ((first, 75), (second, 36)):
         file, proof = (well(run([PROGRAM, word, "ORDERS"], it)).output for word in ("marks", "prove"))
         said = well(run([PROGRAM, "verify", "ORDERS"], it + file + proof)).output
         equal((said, len(proof)), (b"VERIFIED ORDERS FACTS %d\n" % facts, 8 + 7 * facts))
     files = [well(run([PROGRAM, "marks", "ORDERS"], it)).output for it in (first, second)]
     union = well(run([PROGRAM, "combine"], files[0] + files[1])).output
-    proof = well(run([PROGRAM, "prove", "ORDERS"], first)).output
-    # The union has five facts more than the evidence of the first run has entries; with entries for them the first is refuted.
+    proof, other = (well(run([PROGRAM, "prove", "ORDERS"], it)).output for it in (first, second))
+    # The short run doesn't branch at 00002E, row 14, where the first does too.
+    ran = run([PROGRAM, "verify", "ORDERS"], first + files[1] + other)
+    equal((ran.status, ran.output), (16, b"REFUTED ROW 14 FACT W\n"))
+    # The union has five facts more than the evidence of the first run has entries. With entries for them the first is refuted, that the
+    # branch at 000036, row 16, was taken.
     ran = run([PROGRAM, "verify", "ORDERS"], first + union + proof)
     equal((ran.status, ran.output), (15, b"BAD EVIDENCE OFFSET %d\n" % len(proof)))
     ran = run([PROGRAM, "verify", "ORDERS"], first + union + proof + proof[-7:] * 5)
-    equal((ran.status, ran.output), (16, b"REFUTED ROW 14 FACT W\n"))
+    equal((ran.status, ran.output), (16, b"REFUTED ROW 16 FACT W\n"))
 
 
 CHECKS = [broken_pipe, two_runs, evidence_of_two]
