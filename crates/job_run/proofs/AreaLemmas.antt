@@ -1,5 +1,5 @@
 -- An area that was planted, run over and finished.
-use Rattle.std.proofs.Common.{◌≡◌, ℕ, ◌+◌, ◌-◌, ◌*◌, ◌<◌, Bool, not, ◌&&◌, nat_eq, nat_lt, if◌then◌else◌, List, [], ◌∷◌, ◌++◌, length, IfOk, refl, ◌∙◌, ap, subst, arith, zero-add}
+use Rattle.std.proofs.Common.{◌≡◌, ℕ, zero, suc, ◌+◌, ◌-◌, ◌*◌, ◌<◌, Bool, true, false, inl, inr, not, ◌&&◌, nat_eq, nat_lt, if◌then◌else◌, List, [], ◌∷◌, ◌++◌, length, IfOk, refl, ◌∙◌, ap, subst, arith, zero-add}
 use Rattle.std.specs.List.{count_by}
 use Rattle.std.specs.declared.result.Result.{Result}
 use Rattle.std.specs.declared.result.Result.TheVariants.{Ok, Err}
@@ -10,12 +10,17 @@ use Rattle.cov_base.specs.States.{Visit}
 use Rattle.module_area.specs.Ended.{HasSets, HasTally}
 use Rattle.module_area.specs.FinalsView.{FinalsView}
 use Rattle.module_area.specs.Notes.{Notes, root_notes}
-use Rattle.module_area.specs.PlanView.{PlanView, IsPlan, window_at}
+use Rattle.module_area.specs.PlanView.{PlanView, IsPlan, window_at, is_controller}
+use Rattle.module_area.proofs.PlanLemmas.{no_controller}
 use Rattle.module_area.specs.declared.tallies.Tally.{Tally}
 use Rattle.planter.specs.Planted.{planted_notes}
 use Rattle.task_run.proofs.SetLemmas.{IsReady, exact_set, exact_lifts}
+use Rattle.task_run.specs.Courses.{Walk}
+use Rattle.task_run.specs.Windows.{opened_places}
 use Rattle.job_run.specs.Areas.{EndsArea, GrowsBy}
+use Rattle.job_run.specs.Bounds.{JoinsTasks}
 use Rattle.job_run.specs.Slots.{JoinsAll}
+use Rattle.job_run.proofs.BoundLemmas.{bounded}
 
 -- what the root knows once every place with a window is planted
 abbrev pub after_planting : PlanView → Notes
@@ -32,45 +37,64 @@ ready plan given out is = record {
   planted = λ p h k. record { some = k; whole = refl; seen = seen_planted (window_at plan p) p (length plan.windows) (omega (arith, is.windows)) k };
 }
 
-pub ends_area : (plan : PlanView) (ended : Notes) (trace : List Visit) (f : FinalsView) → IsPlan plan → plan.controlled ≡ [] → JoinsAll plan (after_planting plan) ended trace →
-    HasSets plan ended f → HasTally plan ended f → EndsArea plan trace f ended.tally
-ends_area plan ended trace f is whole observes sets tally = record {
-  places = sets.places;
-  size = sets.size;
-  sets = λ p h k. exact_set plan (record (after_planting plan) { given = ended.given; out = ended.out }) ended trace f is (ready plan ended.given ended.out is) observes sets p h k;
-  within = sets.within;
-  plants = observes.plants ∙ (zero-add _ ∙ ap (count_by (λ w. not (nat_eq w 0))) (take_all (length plan.windows) plan.windows (omega arith)));
-  fetches = observes.fetches ∙ zero-add _;
-  facts = tally.marks;
-  marks = omega (arith, observes.marks, observes.fetches);
-  lifts = exact_lifts plan (record (after_planting plan) { given = ended.given; out = ended.out }) ended trace f whole (ready plan ended.given ended.out is) observes sets tally;
-  closes = observes.closes;
-}
+-- the root has planted nothing where a task plants
+pub planted_last : (plan : PlanView) (t p : ℕ) → IsPlan plan → is_controller plan t p ≡ true → (after_planting plan).last p ≡ 0
+planted_last plan t p is own = no_tag (nat_lt p (length plan.windows)) (window_at plan p) (λ some. no_controller plan t p is some own)
+  where
+    no_tag : (q : Bool) (w : ℕ) → (0 < w → ⊥) → (if q && not (nat_eq w 0) then 2 * w - 1 else 0) ≡ 0
+    no_tag true zero none = refl
+    no_tag true (suc w) none = absurd (none (omega arith))
+    no_tag false w none = refl
 
-pub grows_by : (plan of_cells : PlanView) (made planted ended : Notes) (trace : List Visit) (f : FinalsView) (ledger ledger1 ledger2 : List Tally) (finals finals1 finals2 : List FinalsView) →
-    IsPlan plan → plan.controlled ≡ [] → of_cells ≡ plan → made ≡ root_notes → planted ≡ planted_notes plan made (length plan.windows) →
-    JoinsAll of_cells planted ended trace → HasSets of_cells ended f → HasTally of_cells ended f →
+pub ends_area : (plan : PlanView) (walks : ℕ → Walk) (ended : Notes) (trace : List Visit) (f : FinalsView) → IsPlan plan → JoinsAll plan (after_planting plan) ended trace →
+    JoinsTasks plan walks plan.tasks (after_planting plan) ended → HasSets plan ended f → HasTally plan ended f → EndsArea plan walks trace f ended.tally
+ends_area plan walks ended trace f is observes joins sets tally =
+    let start : Notes = record (after_planting plan) { given = ended.given; out = ended.out } in
+    let planted : (after_planting plan).tally.plants ≡ count_by (λ w. not (nat_eq w 0)) plan.windows =
+    zero-add _ ∙ ap (count_by (λ w. not (nat_eq w 0))) (take_all (length plan.windows) plan.windows (omega arith)) in
+    record {
+      places = sets.places;
+      size = sets.size;
+      sets = λ p h k. exact_set plan start ended trace f is (ready plan ended.given ended.out is) observes sets p h k;
+      bounded = bounded plan walks (after_planting plan) ended f is joins sets;
+      within = sets.within;
+      plants = joins.plants ∙ ap (λ (n : ℕ). n + opened_places plan walks) planted;
+      fetches = observes.fetches ∙ zero-add _;
+      facts = tally.marks;
+      marks = omega (arith, observes.marks, observes.fetches);
+      lifts_least = tally.lifts_least (λ s p full. elim (observes.grows.met s p full) [ inl before ↦ absurd (never before) | inr free ↦ free ]);
+      lifts_most = tally.lifts_most;
+      lifts_whole = λ whole. exact_lifts plan start ended trace f whole (ready plan ended.given ended.out is) observes sets tally;
+      closes = joins.closes ∙ zero-add _;
+    }
+  where
+    never : false ≡ true → ⊥
+    never e = cc
+
+pub grows_by : (plan of_cells : PlanView) (walks : ℕ → Walk) (made planted ended : Notes) (trace : List Visit) (f : FinalsView) (ledger ledger1 ledger2 : List Tally) (finals finals1 finals2 : List FinalsView) →
+    IsPlan plan → of_cells ≡ plan → made ≡ root_notes → planted ≡ planted_notes plan made (length plan.windows) →
+    JoinsAll plan planted ended trace → JoinsTasks plan walks plan.tasks planted ended → HasSets of_cells ended f → HasTally of_cells ended f →
     ledger1 ≡ ledger → finals1 ≡ finals → ledger2 ≡ ledger1 ++ ended.tally ∷ [] → finals2 ≡ finals1 ++ f ∷ [] →
-    GrowsBy plan trace ledger ledger2 finals finals2 f
-grows_by plan of_cells made planted ended trace f ledger ledger1 ledger2 finals finals1 finals2 is whole same root notes observes sets tally l1 f1 l2 f2 =
+    GrowsBy plan walks trace ledger ledger2 finals finals2 f
+grows_by plan of_cells walks made planted ended trace f ledger ledger1 ledger2 finals finals1 finals2 is same root notes observes joins sets tally l1 f1 l2 f2 =
     let start : planted ≡ after_planting plan = notes ∙ ap (λ n. planted_notes plan n (length plan.windows)) root in
-    let observed : JoinsAll plan planted ended trace = subst (λ (q : PlanView). JoinsAll q planted ended trace) same observes in
-    let seen : JoinsAll plan (after_planting plan) ended trace = subst (λ (n : Notes). JoinsAll plan n ended trace) start observed in
+    let seen : JoinsAll plan (after_planting plan) ended trace = subst (λ (n : Notes). JoinsAll plan n ended trace) start observes in
+    let of_tasks : JoinsTasks plan walks plan.tasks (after_planting plan) ended = subst (λ (n : Notes). JoinsTasks plan walks plan.tasks n ended) start joins in
     let of_sets : HasSets plan ended f = subst (λ (q : PlanView). HasSets q ended f) same sets in
     let of_tally : HasTally plan ended f = subst (λ (q : PlanView). HasTally q ended f) same tally in
     record {
       tally = ended.tally;
-      ends = ends_area plan ended trace f is whole seen of_sets of_tally;
+      ends = ends_area plan walks ended trace f is seen of_tasks of_sets of_tally;
       in_ledger = l2 ∙ ap (λ l. l ++ ended.tally ∷ []) l1;
       in_finals = f2 ∙ ap (λ l. l ++ f ∷ []) f1;
     }
 
 -- where the area was finished
-pub grows_if : (plan of_cells : PlanView) (made planted ended : Notes) (trace : List Visit) (r : Result FinalsView NoMemory) (ledger ledger1 ledger2 : List Tally) (finals finals1 finals2 : List FinalsView) →
-    IsPlan plan → plan.controlled ≡ [] → of_cells ≡ plan → made ≡ root_notes → planted ≡ planted_notes plan made (length plan.windows) →
-    JoinsAll of_cells planted ended trace → IfOk r (HasSets of_cells ended) → IfOk r (HasTally of_cells ended) →
+pub grows_if : (plan of_cells : PlanView) (walks : ℕ → Walk) (made planted ended : Notes) (trace : List Visit) (r : Result FinalsView NoMemory) (ledger ledger1 ledger2 : List Tally) (finals finals1 finals2 : List FinalsView) →
+    IsPlan plan → of_cells ≡ plan → made ≡ root_notes → planted ≡ planted_notes plan made (length plan.windows) →
+    JoinsAll plan planted ended trace → JoinsTasks plan walks plan.tasks planted ended → IfOk r (HasSets of_cells ended) → IfOk r (HasTally of_cells ended) →
     ledger1 ≡ ledger → finals1 ≡ finals → IfOk r (λ _. ledger2 ≡ ledger1 ++ ended.tally ∷ []) → IfOk r (λ f. finals2 ≡ finals1 ++ f ∷ []) →
-    IfOk r (λ f. GrowsBy plan trace ledger ledger2 finals finals2 f)
-grows_if plan of_cells made planted ended trace (Ok f) ledger ledger1 ledger2 finals finals1 finals2 is whole same root notes observes sets tally l1 f1 l2 f2 =
-    grows_by plan of_cells made planted ended trace f ledger ledger1 ledger2 finals finals1 finals2 is whole same root notes observes sets tally l1 f1 l2 f2
-grows_if plan of_cells made planted ended trace (Err e) ledger ledger1 ledger2 finals finals1 finals2 is whole same root notes observes sets tally l1 f1 l2 f2 = tt
+    IfOk r (λ f. GrowsBy plan walks trace ledger ledger2 finals finals2 f)
+grows_if plan of_cells walks made planted ended trace (Ok f) ledger ledger1 ledger2 finals finals1 finals2 is same root notes observes joins sets tally l1 f1 l2 f2 =
+    grows_by plan of_cells walks made planted ended trace f ledger ledger1 ledger2 finals finals1 finals2 is same root notes observes joins sets tally l1 f1 l2 f2
+grows_if plan of_cells walks made planted ended trace (Err e) ledger ledger1 ledger2 finals finals1 finals2 is same root notes observes joins sets tally l1 f1 l2 f2 = tt

@@ -1,5 +1,5 @@
 -- A root that has observed some visits, and a pass joined to it that has observed others.
-use Rattle.std.proofs.Common.{◌≡◌, ℕ, ◌+◌, ◌*◌, ◌≤◌, true, false, max, List, ◌++◌, inl, inr, refl, arith}
+use Rattle.std.proofs.Common.{◌≡◌, ℕ, ◌+◌, ◌*◌, true, false, max, List, ◌++◌, inl, inr, refl, arith}
 use Rattle.std.proofs.lemmas.Bool.{or_cases, or_left, or_right}
 use Rattle.cov_base.specs.States.{Visit}
 use Rattle.module_area.specs.Notes.{Notes, split_notes, after_join}
@@ -7,9 +7,6 @@ use Rattle.module_area.specs.PlanView.{PlanView}
 use Rattle.svc_monitor.specs.Observed.{Observes, Stays}
 use Rattle.svc_monitor.proofs.ObservedLemmas.{shows_before, shows_behind, shows_either, visits_at_places-append}
 use Rattle.job_run.specs.Slots.{JoinsAll}
-
-max_over : (a b c : ℕ) → a ≤ b → a ≤ max b c
-max_over a b c h = grind arith
 
 max_same : (a b n : ℕ) → a + 1 ≡ n → b + 1 ≡ n → max a b + 1 ≡ n
 max_same a b n h k = grind arith
@@ -27,7 +24,6 @@ joins-more plan old mid other t xs ys r h =
           | inl first ↦ elim (r.grows.met s p first) [ inl before ↦ inl before | inr free ↦ inr (or_left (mid.free s p) (other.free s p) free) ]
           | inr second ↦ elim (h.grows.met s p second) [ inl never ↦ absurd (no never) | inr free ↦ inr (or_right (mid.free s p) (other.free s p) free) ]
         ];
-        seen = λ p. max_over (old.seen p) (mid.seen p) (other.seen p) (r.grows.seen p);
         bears = r.grows.bears;
         given = refl;
         out = refl;
@@ -45,11 +41,9 @@ joins-more plan old mid other t xs ys r h =
         whole = stays.whole;
         seen = max_same (mid.seen p) (other.seen p) (2 * s) (r.stays s p (same_stays stays)).seen (h.stays s p (split_stays stays)).seen;
       };
-      plants = omega (arith, r.plants, h.plants);
       fetches = omega (arith, count, r.fetches, h.fetches);
       marks = omega (arith, count, r.marks, h.marks);
       lifts = omega (arith, count, r.lifts, h.lifts);
-      closes = omega (arith, r.closes, h.closes);
     }
   where
     no : false ≡ true → ⊥

@@ -1,4 +1,5 @@
 pub mod AreaLemmas
+pub mod BoundLemmas
 pub mod JoinLemmas
 pub mod PhaseLemmas
 pub mod RangeLemmas

@@ -1,23 +1,25 @@
 -- Phases one after the other, and the passes of a phase joined one after the other.
-use Rattle.std.proofs.Common.{◌≡◌, ℕ, ◌+◌, ◌*◌, ◌<◌, ◌≤◌, zero, suc, true, false, nat_eq, List, [], ◌∷◌, ◌++◌, length, get_or, drop, take, refl, sym, ◌∙◌, ap, subst, arith}
+use Rattle.std.proofs.Common.{◌≡◌, ℕ, ◌+◌, ◌*◌, ◌<◌, ◌≤◌, ◌^◌, zero, suc, true, false, nat_eq, Option, unwrap_or, List, [], ◌∷◌, ◌++◌, length, get_or, drop, take, refl, sym, ◌∙◌, ap, subst, arith}
 use Rattle.std.proofs.lemmas.List.{append_assoc, append-nil, drop_more, drop_all, take_more, take_all, length-take-le}
 use Rattle.cov_base.specs.States.{Visit}
+use Rattle.cov_base.specs.declared.facts.Fact.{Fact}
+use Rattle.cov_base.specs.declared.numbers.TaskNo.{TaskNo}
 use Rattle.module_area.specs.FinalsView.{FinalsView}
 use Rattle.module_area.specs.Notes.{Notes, calls, split_notes, after_join}
-use Rattle.module_area.specs.PlanView.{PlanView}
+use Rattle.module_area.specs.PlanView.{PlanView, IsPlan}
 use Rattle.module_area.specs.declared.places.Place.{Place}
 use Rattle.module_area.specs.declared.tallies.Tally.{Tally}
 use Rattle.svc_monitor.specs.Observed.{Observes}
 use Rattle.svc_monitor.proofs.ObservedLemmas.{Observes-none}
 use Rattle.task_run.specs.Courses.{Course}
-use Rattle.task_run.proofs.CourseLemmas.{IsCourse}
-use Rattle.session_book.specs.JobView.{JobView, TaskView, IsTask}
-use Rattle.session_book.specs.Sessions.{task_of, no_task, plan_view, traces_from}
+use Rattle.session_book.specs.JobView.{JobView, TaskView}
+use Rattle.session_book.specs.Sessions.{task_of, no_task, plan_view, traces_from, tasks_from}
 use Rattle.job_run.specs.Areas.{EndsArea, GrowsBy}
-use Rattle.job_run.specs.Runs.{Account, AreEnded, HasLeftBy, joined, phase_trace, trace_by}
+use Rattle.job_run.specs.Bounds.{JoinsTasks, Leaves}
+use Rattle.job_run.specs.Runs.{Account, AreEnded, HasLeftBy, joined, phase_trace, trace_by, walk_by}
 use Rattle.job_run.specs.Slots.{HasSplit, JoinsAll}
+use Rattle.job_run.proofs.BoundLemmas.{joins_none, joins_one}
 use Rattle.job_run.proofs.JoinLemmas.{joins-more}
-use Rattle.job_run.proofs.TaskLemmas.{run_calls}
 
 -- the visits of the phase's tasks from this one on
 abbrev pub rest_of : Course → JobView → List Place → ℕ → ℕ → List Visit
@@ -35,37 +37,52 @@ next_of : (run : Course) (j : JobView) (places : List Place) (phase i : ℕ) →
     rest_of run j places phase i ≡ joined (traces_from i (task_of j i ∷ drop (i + 1) j.tasks) phase (trace_by run j places))
 next_of run j places phase i l = ap (λ (ts : List TaskView). joined (traces_from i ts phase (trace_by run j places))) (drop_more j.tasks i no_task l)
 
--- the root has observed the phase's tasks before the next one
+-- the tasks of the phase from this one on
+abbrev pub tasks_on : JobView → ℕ → ℕ → List TaskNo
+tasks_on j phase i = tasks_from i (drop i j.tasks) phase
+
+on_one : (j : JobView) (phase i : ℕ) → i < length j.tasks → nat_eq (task_of j i).phase phase ≡ true → tasks_on j phase i ≡ record { 0 = i } ∷ tasks_on j phase (i + 1)
+on_one j phase i l h = ap (λ (ts : List TaskView). tasks_from i ts phase) (drop_more j.tasks i no_task l) ∙ rw h refl
+
+on_none : (j : JobView) (phase i : ℕ) → i < length j.tasks → nat_eq (task_of j i).phase phase ≡ false → tasks_on j phase i ≡ tasks_on j phase (i + 1)
+on_none j phase i l h = ap (λ (ts : List TaskView). tasks_from i ts phase) (drop_more j.tasks i no_task l) ∙ rw h refl
+
+-- the root has observed the phase's tasks before the next one, whose passes are joined to it
 pub record HasObserved (run : Course) (plan : PlanView) (old new : Notes) (j : JobView) (places : List Place) (phase next : ℕ) : Type 0 where
   pub trace : List Visit
   pub observes : JoinsAll plan old new trace
   pub rest : trace ++ rest_of run j places phase next ≡ phase_trace run j places phase
-  pub few : calls new ≤ calls old + next * 300000000
+  pub tasks : List TaskNo
+  pub joins : JoinsTasks plan (walk_by run j places) tasks old new
+  pub more : tasks ++ tasks_on j phase next ≡ plan.tasks
+  pub few : calls new ≤ calls old + next * 2 ^ 42
 
-pub HasObserved-start : (run : Course) (plan : PlanView) (old new : Notes) (j : JobView) (places : List Place) (phase next : ℕ) → HasSplit j phase next old new → HasObserved run plan old new j places phase 0
-HasObserved-start run plan old new j places phase next split = record {
+pub HasObserved-start : (run : Course) (plan : PlanView) (old new : Notes) (j : JobView) (places : List Place) (phase next : ℕ) → plan ≡ plan_view j places phase → ((s p : ℕ) (f : Fact) → old.marked s p f ≡ false) →
+    HasSplit j phase next old new → HasObserved run plan old new j places phase 0
+HasObserved-start run plan old new j places phase next of unmarked split = record {
   trace = [];
   observes = subst (λ (n : Notes). Observes plan n new []) split.same (Observes-none plan new);
   rest = refl;
+  tasks = [];
+  joins = joins_none plan (walk_by run j places) old new (λ s p f. ap (λ (n : Notes). n.marked s p f) split.same ∙ unmarked s p f) (ap (λ (n : Notes). n.tally) split.same);
+  more = sym (ap (λ (p : PlanView). p.tasks) of);
   few = omega (arith, ap (λ (n : Notes). calls n) split.same);
 }
 
--- a pass has done no more than this since it was split off
-pub pass_calls : (run : Course) (plan : PlanView) (root other : Notes) (j : JobView) (places : List Place) (t : ℕ) → IsCourse run → IsTask (length j.phases) (task_of j t) →
-    Observes plan (split_notes plan root t) other (trace_by run j places t) → calls other ≤ 300000000
-pass_calls run plan root other j places t course is o = run_calls run plan (split_notes plan root t) other j places t course is o
-
-pub HasObserved-one : (run : Course) (plan : PlanView) (old mid other : Notes) (j : JobView) (places : List Place) (phase next : ℕ) → IsCourse run → next < length j.tasks → nat_eq (task_of j next).phase phase ≡ true →
-    IsTask (length j.phases) (task_of j next) → HasObserved run plan old mid j places phase next → Observes plan (split_notes plan old next) other (trace_by run j places next) →
+pub HasObserved-one : (run : Course) (plan : PlanView) (old mid other : Notes) (j : JobView) (places : List Place) (phase next : ℕ) → IsPlan plan → next < length j.tasks → nat_eq (task_of j next).phase phase ≡ true →
+    HasObserved run plan old mid j places phase next → Observes plan (split_notes plan old next) other (trace_by run j places next) → Leaves plan (walk_by run j places) next other →
     HasObserved run plan old (after_join plan mid other) j places phase (next + 1)
-HasObserved-one run plan old mid other j places phase next course l h is o more =
+HasObserved-one run plan old mid other j places phase next is l h o more left =
     let after : rest_of run j places phase next ≡ trace_by run j places next ++ rest_of run j places phase (next + 1) =
     next_of run j places phase next l ∙ one_of run j places phase next (drop (next + 1) j.tasks) h in
     record {
       trace = o.trace ++ trace_by run j places next;
       observes = joins-more plan old mid other next o.trace (trace_by run j places next) o.observes more;
       rest = append_assoc o.trace (trace_by run j places next) (rest_of run j places phase (next + 1)) ∙ (ap (λ (vs : List Visit). o.trace ++ vs) (sym after) ∙ o.rest);
-      few = omega (arith, o.few, pass_calls run plan old other j places next course is more);
+      tasks = o.tasks ++ record { 0 = next } ∷ [];
+      joins = joins_one plan (walk_by run j places) o.tasks next old mid other is (ap (λ (b : Option ℕ). unwrap_or b 0) more.grows.bears) o.joins left;
+      more = append_assoc o.tasks (record { 0 = next } ∷ []) (tasks_on j phase (next + 1)) ∙ (ap (λ (ts : List TaskNo). o.tasks ++ ts) (sym (on_one j phase next l h)) ∙ o.more);
+      few = omega (arith, o.few, left.few);
     }
 
 pub HasObserved-other : (run : Course) (plan : PlanView) (old new : Notes) (j : JobView) (places : List Place) (phase next : ℕ) → next < length j.tasks → nat_eq (task_of j next).phase phase ≡ false →
@@ -76,6 +93,9 @@ HasObserved-other run plan old new j places phase next l h o =
       trace = o.trace;
       observes = o.observes;
       rest = ap (λ (vs : List Visit). o.trace ++ vs) (sym after) ∙ o.rest;
+      tasks = o.tasks;
+      joins = o.joins;
+      more = ap (λ (ts : List TaskNo). o.tasks ++ ts) (sym (on_none j phase next l h)) ∙ o.more;
       few = omega (arith, o.few);
     }
 
@@ -86,16 +106,23 @@ HasObserved-all run plan old new j places phase n all o =
     let whole : o.trace ≡ phase_trace run j places phase = sym (append-nil o.trace) ∙ (ap (λ (vs : List Visit). o.trace ++ vs) (sym none) ∙ o.rest) in
     subst (λ (vs : List Visit). JoinsAll plan old new vs) whole o.observes
 
+pub HasJoined-all : (run : Course) (plan : PlanView) (old new : Notes) (j : JobView) (places : List Place) (phase n : ℕ) → length j.tasks ≤ n → HasObserved run plan old new j places phase n →
+    JoinsTasks plan (walk_by run j places) plan.tasks old new
+HasJoined-all run plan old new j places phase n all o =
+    let none : tasks_on j phase n ≡ [] = ap (λ (ts : List TaskView). tasks_from n ts phase) (drop_all n j.tasks all) in
+    let whole : o.tasks ≡ plan.tasks = sym (append-nil o.tasks) ∙ (ap (λ (ts : List TaskNo). o.tasks ++ ts) (sym none) ∙ o.more) in
+    subst (λ (ts : List TaskNo). JoinsTasks plan (walk_by run j places) ts old new) whole o.joins
+
 -- one area more
 pub AreEnded-more : (run : Course) (j : JobView) (places : List Place) (phase : ℕ) (ns : List (List ℕ)) (n : List ℕ) (fs : List FinalsView) (f : FinalsView) (ts : List Tally) (t : Tally) →
-    AreEnded run j places phase ns fs ts → EndsArea (plan_view j places (phase + length ns)) (phase_trace run j places (phase + length ns)) f t →
+    AreEnded run j places phase ns fs ts → EndsArea (plan_view j places (phase + length ns)) (walk_by run j places) (phase_trace run j places (phase + length ns)) f t →
     AreEnded run j places phase (ns ++ n ∷ []) (fs ++ f ∷ []) (ts ++ t ∷ [])
 AreEnded-more run j places phase [] n [] f [] t a e =
     let here : phase + 0 ≡ phase = omega arith in
-    (subst (λ (k : ℕ). EndsArea (plan_view j places k) (phase_trace run j places k) f t) here e, tt)
+    (subst (λ (k : ℕ). EndsArea (plan_view j places k) (walk_by run j places) (phase_trace run j places k) f t) here e, tt)
 AreEnded-more run j places phase (m ∷ ns) n (g ∷ fs) f (u ∷ ts) t a e =
     let there : phase + length (m ∷ ns) ≡ phase + 1 + length ns = omega arith in
-    (a.0, AreEnded-more run j places (phase + 1) ns n fs f ts t a.1 (subst (λ (k : ℕ). EndsArea (plan_view j places k) (phase_trace run j places k) f t) there e))
+    (a.0, AreEnded-more run j places (phase + 1) ns n fs f ts t a.1 (subst (λ (k : ℕ). EndsArea (plan_view j places k) (walk_by run j places) (phase_trace run j places k) f t) there e))
 AreEnded-more run j places phase [] n (g ∷ fs) f ts t a e = absurd a
 AreEnded-more run j places phase [] n [] f (u ∷ ts) t a e = absurd a
 AreEnded-more run j places phase (m ∷ ns) n [] f ts t a e = absurd a
@@ -104,7 +131,7 @@ AreEnded-more run j places phase (m ∷ ns) n (g ∷ fs) f [] t a e = absurd a
 -- how an area was left
 pub record AreaOf (run : Course) (j : JobView) (places : List Place) (phase : ℕ) (f : FinalsView) : Type 0 where
   pub tally : Tally
-  pub ends : EndsArea (plan_view j places phase) (phase_trace run j places phase) f tally
+  pub ends : EndsArea (plan_view j places phase) (walk_by run j places) (phase_trace run j places phase) f tally
 
 pub ended_at : (run : Course) (j : JobView) (places : List Place) (phase : ℕ) (ns : List (List ℕ)) (fs : List FinalsView) (ts : List Tally) (k : ℕ) (d : FinalsView) →
     AreEnded run j places phase ns fs ts → k < length ns → AreaOf run j places (phase + k) (get_or fs k d)
@@ -138,12 +165,12 @@ HasRunTo-start run j places ledger finals = record { tallies = []; ended = tt; i
 
 pub HasRunTo-next : (run : Course) (j : JobView) (places : List Place) (phase : ℕ) (sets : List FinalsView) (f : FinalsView) (ledger ledger1 ledger2 : List Tally) (finals finals1 finals2 : List FinalsView) →
     phase < length j.phases → HasRunTo run j places phase sets ledger ledger1 finals finals1 →
-    GrowsBy (plan_view j places phase) (phase_trace run j places phase) ledger1 ledger2 finals1 finals2 f →
+    GrowsBy (plan_view j places phase) (walk_by run j places) (phase_trace run j places phase) ledger1 ledger2 finals1 finals2 f →
     HasRunTo run j places (phase + 1) (sets ++ f ∷ []) ledger ledger2 finals finals2
 HasRunTo-next run j places phase sets f ledger ledger1 ledger2 finals finals1 finals2 l r g =
     let count : 0 + length (take phase j.phases) ≡ phase = omega (arith, length-take-le phase j.phases (omega arith)) in
-    let ends : EndsArea (plan_view j places (0 + length (take phase j.phases))) (phase_trace run j places (0 + length (take phase j.phases))) f g.tally =
-    subst (λ (k : ℕ). EndsArea (plan_view j places k) (phase_trace run j places k) f g.tally) (sym count) g.ends in
+    let ends : EndsArea (plan_view j places (0 + length (take phase j.phases))) (walk_by run j places) (phase_trace run j places (0 + length (take phase j.phases))) f g.tally =
+    subst (λ (k : ℕ). EndsArea (plan_view j places k) (walk_by run j places) (phase_trace run j places k) f g.tally) (sym count) g.ends in
     let more : AreEnded run j places 0 (take phase j.phases ++ get_or j.phases phase [] ∷ []) (sets ++ f ∷ []) (r.tallies ++ g.tally ∷ []) =
     AreEnded-more run j places 0 (take phase j.phases) (get_or j.phases phase []) sets f r.tallies g.tally r.ended ends in
     record {

@@ -9,6 +9,7 @@ use Rattle.module_area.specs.declared.places.Place.{Place}
 use Rattle.task_run.specs.Courses.{Course}
 use Rattle.session_book.specs.JobView.{JobView}
 use Rattle.job_run.specs.Slots.{in_phase, IsRange, CanRun, RunsSlot}
+use Rattle.job_run.specs.Tasks.{Begins, Ends}
 use Rattle.job_run.specs.declared.slots.Slot.{Slot}
 
 same_or : (t n : ℕ) → (t ≡ n) ⊎ (t ≢ n)
@@ -105,11 +106,11 @@ behind_part xs ys a n t d h size from =
 
 -- the slots of the phase's tasks, where no other has a pass
 
-pub part_ready : {P : Type 0} (is_pass : P → Type 0) (notes : P → Notes) (plan : PlanView) (places : List Place) (slots : List (Slot P)) (a e : ℕ) → a ≤ e → e ≤ length slots →
-    All (CanRun is_pass notes plan places) slots → All (CanRun is_pass notes plan places) (take (e - a) (drop a slots))
-part_ready is_pass notes plan places slots a e order exists all k d l =
+pub part_ready : {P E : Type 0} (is_pass : P → Type 0) (notes : P → Notes) (begins : Begins E) (plan : PlanView) (places : List Place) (slots : List (Slot P E)) (a e : ℕ) → a ≤ e → e ≤ length slots →
+    All (CanRun is_pass notes begins plan places) slots → All (CanRun is_pass notes begins plan places) (take (e - a) (drop a slots))
+part_ready is_pass notes begins plan places slots a e order exists all k d l =
     let here : k < e - a = omega (arith, l, part_size slots a e order exists) in
-    subst (λ (s : Slot _). CanRun is_pass notes plan places s) (sym (part_at slots a (e - a) k d here)) (all (a + k) d (omega (arith, here, exists)))
+    subst (λ (s : Slot _ _). CanRun is_pass notes begins plan places s) (sym (part_at slots a (e - a) k d here)) (all (a + k) d (omega (arith, here, exists)))
 
 not_there : (j : JobView) (phase a e t : ℕ) → IsRange j phase (length j.tasks) a e → t < length j.tasks → ((a ≤ t) → (t < e) → t < t) → in_phase j phase t ≡ false
 not_there j phase a e t r l out = by_phase (in_phase j phase t) refl
@@ -118,31 +119,31 @@ not_there j phase a e t r l out = by_phase (in_phase j phase t) refl
     by_phase true h = let i = r.all t l h in absurd (omega (arith, out i.0 i.1))
     by_phase false h = h
 
-stands_still : {P : Type 0} (run : Course) (is_pass : P → Type 0) (notes : P → Notes) (plan : PlanView) (old new : Slot P) → old.pass ≡ None → new ≡ old → RunsSlot run is_pass notes plan old new old.pass
-stands_still run is_pass notes plan old new none same = subst (λ (p : Option _). RunsSlot run is_pass notes plan old new p) (sym none) same
+stands_still : {P E : Type 0} (run : Course) (is_pass : P → Type 0) (notes : P → Notes) (ends : Ends E) (plan : PlanView) (old new : Slot P E) → old.pass ≡ None → new ≡ old → RunsSlot run is_pass notes ends plan old new old.pass
+stands_still run is_pass notes ends plan old new none same = subst (λ (p : Option _). RunsSlot run is_pass notes ends plan old new p) (sym none) same
 
-has_run_there : {P : Type 0} (run : Course) (is_pass : P → Type 0) (notes : P → Notes) (plan : PlanView) (old old' new new' : Slot P) → old' ≡ old → new' ≡ new → RunsSlot run is_pass notes plan old' new' old'.pass → RunsSlot run is_pass notes plan old new old.pass
-has_run_there run is_pass notes plan old old' new new' p q r =
-    subst (λ (s : Slot _). RunsSlot run is_pass notes plan s new s.pass) p (subst (λ (s : Slot _). RunsSlot run is_pass notes plan old' s old'.pass) q r)
+has_run_there : {P E : Type 0} (run : Course) (is_pass : P → Type 0) (notes : P → Notes) (ends : Ends E) (plan : PlanView) (old old' new new' : Slot P E) → old' ≡ old → new' ≡ new → RunsSlot run is_pass notes ends plan old' new' old'.pass → RunsSlot run is_pass notes ends plan old new old.pass
+has_run_there run is_pass notes ends plan old old' new new' p q r =
+    subst (λ (s : Slot _ _). RunsSlot run is_pass notes ends plan s new s.pass) p (subst (λ (s : Slot _ _). RunsSlot run is_pass notes ends plan old' s old'.pass) q r)
 
-pub runs_all : {P : Type 0} (run : Course) (is_pass : P → Type 0) (notes : P → Notes) (plan : PlanView) (j : JobView) (phase : ℕ) (old part : List (Slot P)) (a e : ℕ) →
+pub runs_all : {P E : Type 0} (run : Course) (is_pass : P → Type 0) (notes : P → Notes) (ends : Ends E) (plan : PlanView) (j : JobView) (phase : ℕ) (old part : List (Slot P E)) (a e : ℕ) →
     IsRange j phase (length j.tasks) a e → length old ≡ length j.tasks →
-    ((t : ℕ) (d : Slot P) → t < length old → in_phase j phase t ≡ false → (get_or old t d).pass ≡ None) →
+    ((t : ℕ) (d : Slot P E) → t < length old → in_phase j phase t ≡ false → (get_or old t d).pass ≡ None) →
     length part ≡ length (take (e - a) (drop a old)) →
-    ((t : ℕ) (d : Slot P) → t < length (take (e - a) (drop a old)) → RunsSlot run is_pass notes plan (get_or (take (e - a) (drop a old)) t d) (get_or part t d) (get_or (take (e - a) (drop a old)) t d).pass) →
-    (t : ℕ) (d : Slot P) → t < length old → RunsSlot run is_pass notes plan (get_or old t d) (get_or (pasted old part a (e - a)) t d) (get_or old t d).pass
-runs_all run is_pass notes plan j phase old part a e r count others same runs t d l = elim (below_or t a) [
-  | inl before ↦ stands_still run is_pass notes plan (get_or old t d) (get_or (pasted old part a (e - a)) t d) (others t d l (not_there j phase a e t r (omega (arith, l, count)) (λ x y. absurd (omega (arith, x, before)))))
+    ((t : ℕ) (d : Slot P E) → t < length (take (e - a) (drop a old)) → RunsSlot run is_pass notes ends plan (get_or (take (e - a) (drop a old)) t d) (get_or part t d) (get_or (take (e - a) (drop a old)) t d).pass) →
+    (t : ℕ) (d : Slot P E) → t < length old → RunsSlot run is_pass notes ends plan (get_or old t d) (get_or (pasted old part a (e - a)) t d) (get_or old t d).pass
+runs_all run is_pass notes ends plan j phase old part a e r count others same runs t d l = elim (below_or t a) [
+  | inl before ↦ stands_still run is_pass notes ends plan (get_or old t d) (get_or (pasted old part a (e - a)) t d) (others t d l (not_there j phase a e t r (omega (arith, l, count)) (λ x y. absurd (omega (arith, x, before)))))
       (before_part old (part ++ drop (e - a) (drop a old)) a t d most before)
   | inr from ↦ elim (below_or t e) [
     | inl here ↦
         let i : t - a < e - a = omega (arith, from, here) in
         let there : a + (t - a) ≡ t = omega (arith, from) in
-        has_run_there run is_pass notes plan (get_or old t d) (get_or (take (e - a) (drop a old)) (t - a) d) (get_or (pasted old part a (e - a)) t d) (get_or part (t - a) d)
+        has_run_there run is_pass notes ends plan (get_or old t d) (get_or (take (e - a) (drop a old)) (t - a) d) (get_or (pasted old part a (e - a)) t d) (get_or part (t - a) d)
         (part_at old a (e - a) (t - a) d i ∙ ap (λ k. get_or old k d) there)
         (sym (in_part old part (drop (e - a) (drop a old)) a t d most from (omega (arith, i, same, size))))
         (runs (t - a) d (omega (arith, i, size)))
-    | inr behind ↦ stands_still run is_pass notes plan (get_or old t d) (get_or (pasted old part a (e - a)) t d) (others t d l (not_there j phase a e t r (omega (arith, l, count)) (λ x y. absurd (omega (arith, y, behind)))))
+    | inr behind ↦ stands_still run is_pass notes ends plan (get_or old t d) (get_or (pasted old part a (e - a)) t d) (others t d l (not_there j phase a e t r (omega (arith, l, count)) (λ x y. absurd (omega (arith, y, behind)))))
         (behind_part old part a (e - a) t d most (same ∙ size) (omega (arith, behind, r.order)))
   ]
 ]

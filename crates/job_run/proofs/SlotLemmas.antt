@@ -1,28 +1,34 @@
 -- Passes split off, run with and taken back.
-use Rattle.std.proofs.Common.{◌≡◌, ◌≢◌, ◌⊎◌, inl, inr, ℕ, zero, suc, ◌+◌, ◌<◌, ◌≤◌, ◌^◌, Bool, true, false, not, ◌&&◌, ◌||◌, nat_eq, nat_lt, Some, None, unwrap_or, List, [], ◌∷◌, ◌++◌, length, get_or, set, All, refl, sym, ◌∙◌, ap, subst, arith, zero-add}
+use Rattle.std.proofs.Common.{◌≡◌, ◌≢◌, ◌⊎◌, inl, inr, ℕ, zero, suc, ◌+◌, ◌<◌, ◌≤◌, ◌^◌, Bool, true, false, not, ◌&&◌, ◌||◌, nat_eq, nat_lt, Option, Some, None, IfSome, unwrap_or, List, [], ◌∷◌, ◌++◌, length, get_or, set, All, refl, sym, ◌∙◌, ap, subst, arith, zero-add}
 use Rattle.std.proofs.lemmas.Bool.{or_left, or_right, eq-eqb, eqb-true}
 use Rattle.std.proofs.lemmas.Bool.Decides.{nat_tests}
 use Rattle.std.proofs.lemmas.Grind.{get_or-set_at}
 use Rattle.std.proofs.lemmas.List.{get_or_default, get_or_append_left, get_or-set_other, length-append, length-set}
 use Rattle.std.proofs.Math.Seq.{get_or-append_seam}
 use Rattle.cov_base.specs.Memory.{Memory}
-use Rattle.s370_exec.specs.Solo.{Run}
-use Rattle.module_area.specs.Notes.{Notes, calls, split_notes, after_split}
-use Rattle.module_area.specs.PlanView.{PlanView, has_task}
+use Rattle.module_area.specs.Control.{ControlView, first_control}
+use Rattle.module_area.specs.Notes.{Notes, bearer, calls, is_working, split_notes, after_split}
+use Rattle.module_area.specs.PlanView.{PlanView, IsPlan, has_task, is_controller}
+use Rattle.module_area.specs.Tied.{IsTied}
 use Rattle.module_area.specs.declared.places.Place.{Place}
+use Rattle.module_area.proofs.TiedLemmas.{first_tied}
 use Rattle.brk_table.specs.Places.{AreSeen}
 use Rattle.space_map.specs.Space.{memory_of_space}
 use Rattle.svc_monitor.specs.First.{IsOver}
 use Rattle.svc_monitor.specs.Observed.{Observes}
-use Rattle.task_run.specs.Courses.{Course}
-use Rattle.session_book.specs.JobView.{JobView, TaskView}
+use Rattle.task_run.specs.Called.{Follows, HasWindows, HasPlanted}
+use Rattle.task_run.specs.Courses.{Course, Walk}
+use Rattle.task_run.specs.Ran.{walk_from}
+use Rattle.session_book.specs.JobView.{JobView, TaskView, IsJob, IsTask}
 use Rattle.session_book.specs.Sessions.{task_of, no_task, tasks_from, plan_view}
-use Rattle.job_run.specs.Runs.{trace_by}
-use Rattle.job_run.specs.Slots.{in_phase, is_before, HasSplit, HasPass, IsFresh, AreSplit, AreEmpty, CanRun, RunsWith, RunsSlot, HasSeen, AreOver}
-use Rattle.job_run.specs.Tasks.{AreRun, HasNotRun, IsEnded, own_run}
+use Rattle.job_run.specs.Bounds.{Leaves}
+use Rattle.job_run.specs.Runs.{walk_by}
+use Rattle.job_run.specs.Slots.{in_phase, is_before, HasSplit, HasPass, HasStart, AreEquipped, IsFresh, AreSplit, AreEmpty, MayBegin, CanRun, Runs, RunsWith, RunsSlot, HasSeen, AreOver}
+use Rattle.job_run.specs.Tasks.{Begins, Ends, AreRun, HasNotRun, HasExtra, IsEquipped, IsEnded, has_run}
 use Rattle.job_run.specs.declared.outcome.Done.{Done}
 use Rattle.job_run.specs.declared.slots.Slot.{Slot}
-use Rattle.job_run.proofs.TaskLemmas.{AreRun-next, begun_run, has_ended}
+use Rattle.job_run.proofs.BoundLemmas.{leaves}
+use Rattle.job_run.proofs.TaskLemmas.{AreRun-next, begun_walk, has_ended, is_task, run_few}
 
 same_or : (t n : ℕ) → (t ≡ n) ⊎ (t ≢ n)
 same_or t n = grind arith
@@ -99,22 +105,27 @@ HasSplit-other j phase next before mid h s = record {
 
 -- the passes while they are split off
 
-pub AreSplit-start : {P : Type 0} (is_pass : P → Type 0) (notes : P → Notes) (plan : PlanView) (root : Notes) (j : JobView) (phase : ℕ) (slots : List (Slot P)) → AreEmpty slots → AreSplit is_pass notes plan root j phase 0 slots slots
+pub AreSplit-start : {P E : Type 0} (is_pass : P → Type 0) (notes : P → Notes) (plan : PlanView) (root : Notes) (j : JobView) (phase : ℕ) (slots : List (Slot P E)) → AreEmpty slots → AreSplit is_pass notes plan root j phase 0 slots slots
 AreSplit-start is_pass notes plan root j phase slots empty = record {
   count = refl;
   done = λ t d l. refl;
+  extra = λ t d l. refl;
   some = λ t d l never h. absurd (omega (arith, never));
   none = λ t d l h. empty t d l;
 }
 
-pub AreSplit-one : {P : Type 0} (is_pass : P → Type 0) (notes : P → Notes) (plan : PlanView) (root : Notes) (j : JobView) (phase next : ℕ) (old mid : List (Slot P)) (e none : Slot P) (p : P) →
+pub AreSplit-one : {P E : Type 0} (is_pass : P → Type 0) (notes : P → Notes) (plan : PlanView) (root : Notes) (j : JobView) (phase next : ℕ) (old mid : List (Slot P E)) (e none : Slot P E) (p : P) →
     next < length old → in_phase j phase next ≡ true → AreSplit is_pass notes plan root j phase next old mid →
-    e.pass ≡ Some p → is_pass p → notes p ≡ split_notes plan root next → e.done ≡ (get_or mid next none).done → AreSplit is_pass notes plan root j phase (next + 1) old (set mid next e)
-AreSplit-one is_pass notes plan root j phase next old mid e none p here of a has area fresh done = record {
+    e.pass ≡ Some p → is_pass p → notes p ≡ split_notes plan root next → e.done ≡ (get_or mid next none).done → e.extra ≡ (get_or mid next none).extra → AreSplit is_pass notes plan root j phase (next + 1) old (set mid next e)
+AreSplit-one is_pass notes plan root j phase next old mid e none p here of a has area fresh done extra = record {
   count = length-set mid next e ∙ a.count;
   done = λ t d l. elim (same_or t next) [
     | inl same ↦ ap (λ s. s.done) (get_or-set_at mid next t e d same there) ∙ (done ∙ (a.done next none here ∙ ap (λ s. s.done) (get_or_default old next none d here ∙ ap (λ k. get_or old k d) (sym same))))
     | inr other ↦ ap (λ s. s.done) (get_or-set_other mid next t e d other) ∙ a.done t d l
+  ];
+  extra = λ t d l. elim (same_or t next) [
+    | inl same ↦ ap (λ s. s.extra) (get_or-set_at mid next t e d same there) ∙ (extra ∙ (a.extra next none here ∙ ap (λ s. s.extra) (get_or_default old next none d here ∙ ap (λ k. get_or old k d) (sym same))))
+    | inr other ↦ ap (λ s. s.extra) (get_or-set_other mid next t e d other) ∙ a.extra t d l
   ];
   some = λ t d l below h. elim (same_or t next) [
     | inl same ↦ record {
@@ -133,11 +144,12 @@ AreSplit-one is_pass notes plan root j phase next old mid e none p here of a has
     there : next < length mid
     there = omega (arith, here, a.count)
 
-pub AreSplit-other : {P : Type 0} (is_pass : P → Type 0) (notes : P → Notes) (plan : PlanView) (root : Notes) (j : JobView) (phase next : ℕ) (old mid : List (Slot P)) → in_phase j phase next ≡ false →
+pub AreSplit-other : {P E : Type 0} (is_pass : P → Type 0) (notes : P → Notes) (plan : PlanView) (root : Notes) (j : JobView) (phase next : ℕ) (old mid : List (Slot P E)) → in_phase j phase next ≡ false →
     AreSplit is_pass notes plan root j phase next old mid → AreSplit is_pass notes plan root j phase (next + 1) old mid
 AreSplit-other is_pass notes plan root j phase next old mid h a = record {
   count = a.count;
   done = a.done;
+  extra = a.extra;
   some = λ t d l below of. elim (same_or t next) [
     | inl same ↦ absurd (both (in_phase j phase t) of (here_too j phase next false h t same))
     | inr other ↦ a.some t d l (omega (arith, below, other)) of
@@ -147,119 +159,192 @@ AreSplit-other is_pass notes plan root j phase next old mid h a = record {
 
 -- all can run
 
-can_run : {P : Type 0} (is_pass : P → Type 0) (notes : P → Notes) (root : Notes) (t : ℕ) (plan : PlanView) (places : List Place) (s : Slot P) → HasPass (IsFresh is_pass notes plan root t) s →
-    IsOver plan (memory_of_space s.done.task.space) places → s.done.task.done ≡ 0 → CanRun is_pass notes plan places s
-can_run is_pass notes root t plan places s h over fresh = record {
+can_run : {P E : Type 0} (is_pass : P → Type 0) (notes : P → Notes) (begins : Begins E) (root : Notes) (t : ℕ) (plan : PlanView) (j : JobView) (places : List Place) (s : Slot P E) →
+    IsPlan plan → plan ≡ plan_view j places (task_of j t).phase → ((p : ℕ) → is_controller plan t p ≡ true → root.last p ≡ 0) →
+    HasPass (IsFresh is_pass notes plan root t) s → HasStart begins plan j places t s → IsOver plan (memory_of_space s.done.task.space) places → CanRun is_pass notes begins plan places s
+can_run is_pass notes begins root t plan j places s is of none h start over = record {
   area = rw h.has h.holds.area;
   room = rw h.has few;
+  working = rw h.has working;
   over = rw h.has over;
-  fresh = rw h.has fresh;
+  fresh = rw h.has start.task.begun.done;
+  tied = rw h.has tied;
+  first = rw h.has (ap (λ (c : ControlView). c.next) first, ap (λ (c : ControlView). c.opened) first);
+  extra = subst (λ (o : Option _). IfSome o (λ p. MayBegin begins plan (notes p) s)) (sym h.has) may;
 }
   where
+    fresh : notes h.pass ≡ split_notes plan root t
+    fresh = h.holds.fresh
+
     few : calls (notes h.pass) < 2 ^ 60
-    few = omega (arith, ap (λ (n : Notes). calls n) h.holds.fresh)
+    few = omega (arith, ap (λ (n : Notes). calls n) fresh)
 
-need_not : {P : Type 0} (is_pass : P → Type 0) (notes : P → Notes) (plan : PlanView) (places : List Place) (s : Slot P) → s.pass ≡ None → CanRun is_pass notes plan places s
-need_not is_pass notes plan places s h = record { area = rw h tt; room = rw h tt; over = rw h tt; fresh = rw h tt }
+    working : is_working (notes h.pass) ≡ true
+    working = ap is_working fresh
 
-not_run : (p phase : ℕ) → nat_eq p phase ≡ true → nat_lt p phase ≡ false
-not_run p phase h = grind (arith, nat_tests)
+    first : s.done.task.control ≡ first_control plan t
+    first = start.task.control ∙ ap (λ (q : PlanView). first_control q t) (sym of)
 
--- a task of the phase is as it begins
-begun_at : {P : Type 0} (run : Course) (is_pass : P → Type 0) (notes : P → Notes) (plan : PlanView) (root : Notes) (j : JobView) (places : List Place) (phase : ℕ) (old slots : List (Slot P)) (t : ℕ) (d : Slot P) →
-    AreSplit is_pass notes plan root j phase (length j.tasks) old slots → AreRun run j places phase old → t < length old → in_phase j phase t ≡ true → HasNotRun j places t (get_or slots t d).done
-begun_at run is_pass notes plan root j places phase old slots t d a r l h =
-    subst (λ (x : Done). HasNotRun j places t x) (sym (a.done t d l)) (r.begun t d l (not_run (task_of j t).phase phase h))
+    tied : IsTied plan (notes h.pass) s.done.task.control
+    tied = subst (λ (c : ControlView). IsTied plan (notes h.pass) c) (sym first) (subst (λ (n : Notes). IsTied plan n (first_control plan t)) (sym fresh) (first_tied plan root t is none))
+
+    may : MayBegin begins plan (notes h.pass) s
+    may = record {
+      extra = start.extra;
+      has = start.has;
+      may = subst (λ (n : Notes). begins plan (bearer n) start.extra n) (sym fresh) (start.starts root);
+    }
+
+need_not : {P E : Type 0} (is_pass : P → Type 0) (notes : P → Notes) (begins : Begins E) (plan : PlanView) (places : List Place) (s : Slot P E) → s.pass ≡ None → CanRun is_pass notes begins plan places s
+need_not is_pass notes begins plan places s h = record { area = rw h tt; room = rw h tt; working = rw h tt; over = rw h tt; fresh = rw h tt; tied = rw h tt; first = rw h tt; extra = rw h tt }
 
 is_over_begun : (plan : PlanView) (j : JobView) (places : List Place) (t : ℕ) (d : Done) → plan.places ≡ places → HasNotRun j places t d → IsOver plan (memory_of_space d.task.space) places
 is_over_begun plan j places t d of b = record { same = of; seen = subst (λ (m : Memory). AreSeen m places) (sym b.begun.memory) b.begun.seen }
 
-pub all_ready : {P : Type 0} (run : Course) (is_pass : P → Type 0) (notes : P → Notes) (root : Notes) (plan : PlanView) (j : JobView) (places : List Place) (phase : ℕ) (old slots : List (Slot P)) → plan.places ≡ places →
-    AreSplit is_pass notes plan root j phase (length j.tasks) old slots → AreRun run j places phase old → All (CanRun is_pass notes plan places) slots
-all_ready run is_pass notes root plan j places phase old slots of a r k d l = by_phase (in_phase j phase k) refl
+-- a task of the phase is as it begins
+start_at : {P E : Type 0} (is_pass : P → Type 0) (notes : P → Notes) (begins : Begins E) (plan : PlanView) (root : Notes) (j : JobView) (places : List Place) (phase : ℕ) (old slots : List (Slot P E)) (t : ℕ) (d : Slot P E) →
+    AreSplit is_pass notes plan root j phase (length j.tasks) old slots → AreEquipped begins plan j places phase (length j.tasks) old → t < length old → t < length j.tasks → in_phase j phase t ≡ true →
+    HasStart begins plan j places t (get_or slots t d)
+start_at is_pass notes begins plan root j places phase old slots t d a q l here h =
+    let start : HasStart begins plan j places t (get_or old t d) = q.each t d l here h in
+    record {
+      task = subst (λ (x : Done). IsEquipped j places t x) (sym (a.done t d l)) start.task;
+      extra = start.extra;
+      has = a.extra t d l ∙ start.has;
+      starts = start.starts;
+    }
+
+-- the area is over the plan of the task's phase
+pub plan_here : (plan : PlanView) (j : JobView) (places : List Place) (phase t : ℕ) → plan ≡ plan_view j places phase → in_phase j phase t ≡ true → plan ≡ plan_view j places (task_of j t).phase
+plan_here plan j places phase t of h = of ∙ ap (plan_view j places) (sym (eqb-true (task_of j t).phase phase h))
+
+pub all_ready : {P E : Type 0} (is_pass : P → Type 0) (notes : P → Notes) (begins : Begins E) (root : Notes) (plan : PlanView) (j : JobView) (places : List Place) (phase : ℕ) (old slots : List (Slot P E)) →
+    IsPlan plan → plan ≡ plan_view j places phase → ((t p : ℕ) → is_controller plan t p ≡ true → root.last p ≡ 0) → length old ≡ length j.tasks →
+    AreSplit is_pass notes plan root j phase (length j.tasks) old slots → AreEquipped begins plan j places phase (length j.tasks) old → All (CanRun is_pass notes begins plan places) slots
+all_ready is_pass notes begins root plan j places phase old slots is of none all a q k d l = by_phase (in_phase j phase k) refl
   where
     here : k < length old
     here = omega (arith, l, a.count)
 
-    by_phase : (b : Bool) → in_phase j phase k ≡ b → CanRun is_pass notes plan places (get_or slots k d)
+    by_phase : (b : Bool) → in_phase j phase k ≡ b → CanRun is_pass notes begins plan places (get_or slots k d)
     by_phase true e =
-        let begun : HasNotRun j places k (get_or slots k d).done = begun_at run is_pass notes plan root j places phase old slots k d a r here e in
-        can_run is_pass notes root k plan places (get_or slots k d) (a.some k d here (omega (arith, here, r.count)) e) (is_over_begun plan j places k (get_or slots k d).done of begun) begun.done
-    by_phase false e = need_not is_pass notes plan places (get_or slots k d) (a.none k d here (not_before (in_phase j phase k) k (length j.tasks) e))
+        let start = start_at is_pass notes begins plan root j places phase old slots k d a q here (omega (arith, here, all)) e in
+        can_run is_pass notes begins root k plan j places (get_or slots k d) is (plan_here plan j places phase k of e) (none k) (a.some k d here (omega (arith, here, all)) e) start
+        (is_over_begun plan j places k (get_or slots k d).done (ap (λ (p : PlanView). p.places) of) start.task.begun)
+    by_phase false e = need_not is_pass notes begins plan places (get_or slots k d) (a.none k d here (not_before (in_phase j phase k) k (length j.tasks) e))
 
 -- no other slot has a pass
-pub none_other : {P : Type 0} (is_pass : P → Type 0) (notes : P → Notes) (plan : PlanView) (root : Notes) (j : JobView) (phase : ℕ) (old slots : List (Slot P)) → AreSplit is_pass notes plan root j phase (length j.tasks) old slots →
-    (t : ℕ) (d : Slot P) → t < length slots → in_phase j phase t ≡ false → (get_or slots t d).pass ≡ None
+pub none_other : {P E : Type 0} (is_pass : P → Type 0) (notes : P → Notes) (plan : PlanView) (root : Notes) (j : JobView) (phase : ℕ) (old slots : List (Slot P E)) → AreSplit is_pass notes plan root j phase (length j.tasks) old slots →
+    (t : ℕ) (d : Slot P E) → t < length slots → in_phase j phase t ≡ false → (get_or slots t d).pass ≡ None
 none_other is_pass notes plan root j phase old slots a t d l h = a.none t d (omega (arith, l, a.count)) (not_before (in_phase j phase t) t (length j.tasks) h)
 
 -- all have run
 
-ran_with : {P : Type 0} (run : Course) (is_pass : P → Type 0) (notes : P → Notes) (plan : PlanView) (old new : Slot P) (p : P) → old.pass ≡ Some p → RunsSlot run is_pass notes plan old new old.pass → RunsWith run is_pass notes plan old new p
-ran_with run is_pass notes plan old new p e r = subst (RunsSlot run is_pass notes plan old new) e r
+ran_with : {P E : Type 0} (course : Course) (is_pass : P → Type 0) (notes : P → Notes) (ends : Ends E) (plan : PlanView) (old new : Slot P E) (p : P) → old.pass ≡ Some p → RunsSlot course is_pass notes ends plan old new old.pass → RunsWith course is_pass notes ends plan old new p
+ran_with course is_pass notes ends plan old new p e r = subst (RunsSlot course is_pass notes ends plan old new) e r
 
-ran_not : {P : Type 0} (run : Course) (is_pass : P → Type 0) (notes : P → Notes) (plan : PlanView) (old new : Slot P) → old.pass ≡ None → RunsSlot run is_pass notes plan old new old.pass → new ≡ old
-ran_not run is_pass notes plan old new e r = subst (RunsSlot run is_pass notes plan old new) e r
+ran_not : {P E : Type 0} (course : Course) (is_pass : P → Type 0) (notes : P → Notes) (ends : Ends E) (plan : PlanView) (old new : Slot P E) → old.pass ≡ None → RunsSlot course is_pass notes ends plan old new old.pass → new ≡ old
+ran_not course is_pass notes ends plan old new e r = subst (RunsSlot course is_pass notes ends plan old new) e r
 
-has_seen : {P : Type 0} (run : Course) (is_pass : P → Type 0) (notes : P → Notes) (root : Notes) (plan : PlanView) (j : JobView) (places : List Place) (t : ℕ) (old new : Slot P) → plan ≡ plan_view j places (task_of j t).phase →
-    HasPass (IsFresh is_pass notes plan root t) old → HasNotRun j places t old.done → RunsSlot run is_pass notes plan old new old.pass → HasPass (HasSeen is_pass notes plan root (trace_by run j places t) t) new
-has_seen run is_pass notes root plan j places t old new of h begun r =
-    let w : RunsWith run is_pass notes plan old new h.pass = ran_with run is_pass notes plan old new h.pass h.has r in
-    let seen : Observes plan (split_notes plan root t) (notes w.pass) (own_run run plan old.done).trace = subst (λ (n : Notes). Observes plan n (notes w.pass) (own_run run plan old.done).trace) h.holds.fresh w.observes in
+-- a pass that has run what a task's card says
+seen_by : {P : Type 0} (course : Course) (is_pass : P → Type 0) (notes : P → Notes) (root : Notes) (plan : PlanView) (j : JobView) (places : List Place) (t : ℕ) (before after : Notes) (p : P) (d e : Done) → IsPlan plan →
+    plan ≡ plan_view j places (task_of j t).phase → ((q : ℕ) → is_controller plan t q ≡ true → root.last q ≡ 0) → IsTask (length j.phases) (task_of j t) →
+    is_pass p → before ≡ split_notes plan root t → notes p ≡ after → IsEquipped j places t d → Runs course plan before after d e → HasSeen is_pass notes plan root (walk_by course j places) t p
+seen_by course is_pass notes root plan j places t before after p d e is of none task area fresh at start r =
+    let split : Notes = split_notes plan root t in
+    let walks : ℕ → Walk = walk_by course j places in
+    let walked : walk_from course plan d.task ≡ walks t = begun_walk course plan j places t d of start.begun in
+    let first : d.task.control ≡ first_control plan t = start.control ∙ ap (λ (q : PlanView). first_control q t) (sym of) in
+    let follows : Follows plan split after (walks t).trace (walks t).calls (first_control plan t) e.task.control =
+    subst (λ (n : Notes). Follows plan n after (walks t).trace (walks t).calls (first_control plan t) e.task.control) fresh
+    (subst (λ (w : Walk). Follows plan before after w.trace w.calls (first_control plan t) e.task.control) walked
+    (subst (λ (c : ControlView). Follows plan before after (walk_from course plan d.task).trace (walk_from course plan d.task).calls c e.task.control) first r.ran.follows)) in
+    let windows : HasWindows plan split (first_control plan t) (walks t).calls =
+    subst (λ (n : Notes). HasWindows plan n (first_control plan t) (walks t).calls) fresh
+    (subst (λ (w : Walk). HasWindows plan before (first_control plan t) w.calls) walked
+    (subst (λ (c : ControlView). HasWindows plan before c (walk_from course plan d.task).calls) first r.ran.windows)) in
+    let planted : HasPlanted plan split after e.task.control = subst (λ (n : Notes). HasPlanted plan n after e.task.control) fresh r.ran.planted in
+    let few : calls after < 2 ^ 42 = run_few course plan before after j places t d e task start.begun r (ap (λ (n : Notes). calls n) fresh) in
+    record {
+      area = area;
+      observes = subst (λ (n : Notes). Observes plan split n (walks t).trace) (sym at) follows.observes;
+      leaves = subst (λ (n : Notes). Leaves plan walks t n) (sym at) (leaves plan walks t root after e.task.control is (first_tied plan root t is none) follows windows planted r.ran.tied few);
+    }
+
+has_seen : {P E : Type 0} (course : Course) (is_pass : P → Type 0) (notes : P → Notes) (begins : Begins E) (ends : Ends E) (root : Notes) (plan : PlanView) (j : JobView) (places : List Place) (t : ℕ) (old new : Slot P E) → IsPlan plan →
+    plan ≡ plan_view j places (task_of j t).phase → ((q : ℕ) → is_controller plan t q ≡ true → root.last q ≡ 0) → IsTask (length j.phases) (task_of j t) →
+    HasPass (IsFresh is_pass notes plan root t) old → HasStart begins plan j places t old → RunsSlot course is_pass notes ends plan old new old.pass → HasPass (HasSeen is_pass notes plan root (walk_by course j places) t) new
+has_seen course is_pass notes begins ends root plan j places t old new is of none task h start r =
+    let w : RunsWith course is_pass notes ends plan old new h.pass = ran_with course is_pass notes ends plan old new h.pass h.has r in
     record {
       pass = w.pass;
       has = w.has;
-      holds = record { area = w.area; observes = subst (λ (x : Run). Observes plan (split_notes plan root t) (notes w.pass) x.trace) (begun_run run plan j places t old.done of begun) seen };
+      holds = seen_by course is_pass notes root plan j places t (notes h.pass) (notes w.pass) w.pass old.done new.done is of none task w.area h.holds.fresh refl start.task w.runs;
     }
 
-run_ended : {P : Type 0} (run : Course) (is_pass : P → Type 0) (notes : P → Notes) (root : Notes) (plan : PlanView) (j : JobView) (places : List Place) (t : ℕ) (old new : Slot P) → plan ≡ plan_view j places (task_of j t).phase →
-    HasPass (IsFresh is_pass notes plan root t) old → HasNotRun j places t old.done → RunsSlot run is_pass notes plan old new old.pass → IsEnded run j places t new.done
-run_ended run is_pass notes root plan j places t old new of h begun r =
-    let w : RunsWith run is_pass notes plan old new h.pass = ran_with run is_pass notes plan old new h.pass h.has r in
-    has_ended run plan j places t old.done new.done of begun w.result w.filled
-
--- the area is over the plan of the task's phase
-plan_here : (plan : PlanView) (j : JobView) (places : List Place) (phase t : ℕ) → plan ≡ plan_view j places phase → in_phase j phase t ≡ true → plan ≡ plan_view j places (task_of j t).phase
-plan_here plan j places phase t of h = of ∙ ap (plan_view j places) (sym (eqb-true (task_of j t).phase phase h))
+run_ended : {P E : Type 0} (course : Course) (is_pass : P → Type 0) (notes : P → Notes) (begins : Begins E) (ends : Ends E) (root : Notes) (plan : PlanView) (j : JobView) (places : List Place) (t : ℕ) (old new : Slot P E) →
+    plan ≡ plan_view j places (task_of j t).phase →
+    HasPass (IsFresh is_pass notes plan root t) old → HasStart begins plan j places t old → RunsSlot course is_pass notes ends plan old new old.pass → IsEnded course j places t new.done × HasExtra ends j places t new
+run_ended course is_pass notes begins ends root plan j places t old new of h start r =
+    let w : RunsWith course is_pass notes ends plan old new h.pass = ran_with course is_pass notes ends plan old new h.pass h.has r in (
+      has_ended course plan (notes h.pass) (notes w.pass) j places t old.done new.done of start.task.begun w.runs,
+      record {
+        extra = w.extra;
+        has = w.left;
+        first = old.done;
+        begun = start.task;
+        tells = λ sets. subst (λ (p : PlanView). ends p old.done.task new.done.task w.extra sets) of (w.tells sets);
+      },
+    )
 
 no_longer : (a : Bool) (t : ℕ) → (not (nat_lt t 0) && a) ≡ false → a ≡ false
 no_longer a t h = grind (arith, nat_tests)
 
-pub AreOver-start : {P : Type 0} (run : Course) (is_pass : P → Type 0) (notes : P → Notes) (root : Notes) (plan : PlanView) (j : JobView) (places : List Place) (phase : ℕ) (old mid new : List (Slot P)) →
-    plan ≡ plan_view j places phase → AreSplit is_pass notes plan root j phase (length j.tasks) old mid → AreRun run j places phase old → length new ≡ length mid →
-    ((t : ℕ) (d : Slot P) → t < length mid → RunsSlot run is_pass notes plan (get_or mid t d) (get_or new t d) (get_or mid t d).pass) →
-    AreOver run is_pass notes plan root j places phase 0 new
-AreOver-start run is_pass notes root plan j places phase old mid new of a r same runs = record {
+pub AreOver-start : {P E : Type 0} (course : Course) (is_pass : P → Type 0) (notes : P → Notes) (begins : Begins E) (ends : Ends E) (root : Notes) (plan : PlanView) (j : JobView) (places : List Place) (phase : ℕ) (old mid new : List (Slot P E)) →
+    IsPlan plan → IsJob j → plan ≡ plan_view j places phase → ((t p : ℕ) → is_controller plan t p ≡ true → root.last p ≡ 0) → length old ≡ length j.tasks →
+    AreSplit is_pass notes plan root j phase (length j.tasks) old mid → AreEquipped begins plan j places phase (length j.tasks) old → length new ≡ length mid →
+    ((t : ℕ) (d : Slot P E) → t < length mid → RunsSlot course is_pass notes ends plan (get_or mid t d) (get_or new t d) (get_or mid t d).pass) →
+    AreOver course is_pass notes plan root j places phase 0 new
+AreOver-start course is_pass notes begins ends root plan j places phase old mid new is job of none all a q same runs = record {
   some = λ t d from l h.
       let here : t < length old = omega (arith, l, same, a.count) in
-      has_seen run is_pass notes root plan j places t (get_or mid t d) (get_or new t d) (plan_here plan j places phase t of h) (a.some t d here (omega (arith, here, r.count)) h)
-      (begun_at run is_pass notes plan root j places phase old mid t d a r here h) (runs t d (omega (arith, l, same)));
+      let there : t < length j.tasks = omega (arith, here, all) in
+      has_seen course is_pass notes begins ends root plan j places t (get_or mid t d) (get_or new t d) is (plan_here plan j places phase t of h) (none t) (is_task j t job there) (a.some t d here there h)
+      (start_at is_pass notes begins plan root j places phase old mid t d a q here there h) (runs t d (omega (arith, l, same)));
   none = λ t d l h.
       let here : t < length old = omega (arith, l, same, a.count) in
       let empty : (get_or mid t d).pass ≡ None = a.none t d here (not_before (in_phase j phase t) t (length j.tasks) (no_longer (in_phase j phase t) t h)) in
-      ap (λ s. s.pass) (ran_not run is_pass notes plan (get_or mid t d) (get_or new t d) empty (runs t d (omega (arith, l, same)))) ∙ empty;
+      ap (λ s. s.pass) (ran_not course is_pass notes ends plan (get_or mid t d) (get_or new t d) empty (runs t d (omega (arith, l, same)))) ∙ empty;
 }
 
-pub AreRun-after : {P : Type 0} (run : Course) (is_pass : P → Type 0) (notes : P → Notes) (root : Notes) (plan : PlanView) (j : JobView) (places : List Place) (phase : ℕ) (old mid new : List (Slot P)) →
-    plan ≡ plan_view j places phase → AreSplit is_pass notes plan root j phase (length j.tasks) old mid → AreRun run j places phase old → length new ≡ length mid →
-    ((t : ℕ) (d : Slot P) → t < length mid → RunsSlot run is_pass notes plan (get_or mid t d) (get_or new t d) (get_or mid t d).pass) →
-    AreRun run j places (phase + 1) new
-AreRun-after run is_pass notes root plan j places phase old mid new of a r same runs = AreRun-next run j places phase old new r (same ∙ a.count)
-    (λ t d l h. run_ended run is_pass notes root plan j places t (get_or mid t d) (get_or new t d) (plan_here plan j places phase t of h) (a.some t d l (omega (arith, l, r.count)) h)
-    (begun_at run is_pass notes plan root j places phase old mid t d a r l h) (runs t d (omega (arith, l, a.count))))
-    (λ t d l h.
-    let empty : (get_or mid t d).pass ≡ None = a.none t d l (not_before (in_phase j phase t) t (length j.tasks) h) in
-    ap (λ s. s.done) (ran_not run is_pass notes plan (get_or mid t d) (get_or new t d) empty (runs t d (omega (arith, l, a.count)))) ∙ a.done t d l)
+pub AreRun-after : {P E : Type 0} (course : Course) (is_pass : P → Type 0) (notes : P → Notes) (begins : Begins E) (ends : Ends E) (root : Notes) (plan : PlanView) (j : JobView) (places : List Place) (phase : ℕ) (old mid new : List (Slot P E)) →
+    plan ≡ plan_view j places phase → AreSplit is_pass notes plan root j phase (length j.tasks) old mid → AreRun course ends j places phase old → AreEquipped begins plan j places phase (length j.tasks) old →
+    length new ≡ length mid → ((t : ℕ) (d : Slot P E) → t < length mid → RunsSlot course is_pass notes ends plan (get_or mid t d) (get_or new t d) (get_or mid t d).pass) →
+    AreRun course ends j places (phase + 1) new
+AreRun-after course is_pass notes begins ends root plan j places phase old mid new of a r q same runs = AreRun-next course ends j places phase old new r (same ∙ a.count)
+    (λ t d l h. (both_of t d l h).0) (λ t d l h. (both_of t d l h).1)
+    (λ t d l h. ap (λ s. s.done) (unchanged t d l h) ∙ a.done t d l) (λ t d l h. ap (λ s. s.extra) (unchanged t d l h) ∙ a.extra t d l)
+  where
+    both_of : (t : ℕ) (d : Slot _ _) → t < length old → in_phase j phase t ≡ true → IsEnded course j places t (get_or new t d).done × HasExtra ends j places t (get_or new t d)
+    both_of t d l h =
+        run_ended course is_pass notes begins ends root plan j places t (get_or mid t d) (get_or new t d) (plan_here plan j places phase t of h) (a.some t d l (omega (arith, l, r.count)) h)
+        (start_at is_pass notes begins plan root j places phase old mid t d a q l (omega (arith, l, r.count)) h) (runs t d (omega (arith, l, a.count)))
+
+    unchanged : (t : ℕ) (d : Slot _ _) → t < length old → in_phase j phase t ≡ false → get_or new t d ≡ get_or mid t d
+    unchanged t d l h =
+        let empty : (get_or mid t d).pass ≡ None = a.none t d l (not_before (in_phase j phase t) t (length j.tasks) h) in
+        ran_not course is_pass notes ends plan (get_or mid t d) (get_or new t d) empty (runs t d (omega (arith, l, a.count)))
 
 -- the passes are taken back one after the other
 
 not_last : (a : Bool) (t next : ℕ) → t ≢ next → (not (nat_lt t next) && a) ≡ (not (nat_lt t (next + 1)) && a)
 not_last a t next h = grind (arith, nat_tests)
 
-pub AreOver-next : {P : Type 0} (run : Course) (is_pass : P → Type 0) (notes : P → Notes) (root : Notes) (plan : PlanView) (j : JobView) (places : List Place) (phase next : ℕ) (slots : List (Slot P)) (e : Slot P) →
+pub AreOver-next : {P E : Type 0} (run : Course) (is_pass : P → Type 0) (notes : P → Notes) (root : Notes) (plan : PlanView) (j : JobView) (places : List Place) (phase next : ℕ) (slots : List (Slot P E)) (e : Slot P E) →
     next < length slots → e.pass ≡ None → AreOver run is_pass notes plan root j places phase next slots → AreOver run is_pass notes plan root j places phase (next + 1) (set slots next e)
 AreOver-next run is_pass notes root plan j places phase next slots e here none a = record {
   some = λ t d from l h.
-      subst (HasPass (HasSeen is_pass notes plan root (trace_by run j places t) t)) (sym (get_or-set_other slots next t e d (λ same. absurd (omega (arith, same, from)))))
+      subst (HasPass (HasSeen is_pass notes plan root (walk_by run j places) t)) (sym (get_or-set_other slots next t e d (λ same. absurd (omega (arith, same, from)))))
       (a.some t d (omega (arith, from)) (omega (arith, l, length-set slots next e)) h);
   none = λ t d l h. elim (same_or t next) [
     | inl same ↦ ap (λ s. s.pass) (get_or-set_at slots next t e d same here) ∙ none
@@ -270,19 +355,19 @@ AreOver-next run is_pass notes root plan j places phase next slots e here none a
 past : (a : Bool) (t n : ℕ) → t < n → (not (nat_lt t n) && a) ≡ false
 past a t n h = grind (arith, nat_tests)
 
-pub AreOver-all : {P : Type 0} (run : Course) (is_pass : P → Type 0) (notes : P → Notes) (root : Notes) (plan : PlanView) (j : JobView) (places : List Place) (phase n : ℕ) (slots : List (Slot P)) → length slots ≤ n →
+pub AreOver-all : {P E : Type 0} (run : Course) (is_pass : P → Type 0) (notes : P → Notes) (root : Notes) (plan : PlanView) (j : JobView) (places : List Place) (phase n : ℕ) (slots : List (Slot P E)) → length slots ≤ n →
     AreOver run is_pass notes plan root j places phase n slots → AreEmpty slots
 AreOver-all run is_pass notes root plan j places phase n slots all a k d l = a.none k d l (past (in_phase j phase k) k n (omega (arith, l, all)))
 
 -- the next task's pass, where it is one of the phase
-pub seen_next : {P : Type 0} (run : Course) (is_pass : P → Type 0) (notes : P → Notes) (root : Notes) (plan : PlanView) (j : JobView) (places : List Place) (phase next : ℕ) (slots : List (Slot P)) (d : Slot P) →
-    next < length slots → AreOver run is_pass notes plan root j places phase next slots → in_phase j phase next ≡ true → HasPass (HasSeen is_pass notes plan root (trace_by run j places next) next) (get_or slots next d)
+pub seen_next : {P E : Type 0} (run : Course) (is_pass : P → Type 0) (notes : P → Notes) (root : Notes) (plan : PlanView) (j : JobView) (places : List Place) (phase next : ℕ) (slots : List (Slot P E)) (d : Slot P E) →
+    next < length slots → AreOver run is_pass notes plan root j places phase next slots → in_phase j phase next ≡ true → HasPass (HasSeen is_pass notes plan root (walk_by run j places) next) (get_or slots next d)
 seen_next run is_pass notes root plan j places phase next slots d l a h = a.some next d (omega arith) l h
 
 still : (t : ℕ) → not (nat_lt t t) ≡ true
 still t = grind (arith, nat_tests)
 
-pub empty_next : {P : Type 0} (run : Course) (is_pass : P → Type 0) (notes : P → Notes) (root : Notes) (plan : PlanView) (j : JobView) (places : List Place) (phase next : ℕ) (slots : List (Slot P)) (d : Slot P) →
+pub empty_next : {P E : Type 0} (run : Course) (is_pass : P → Type 0) (notes : P → Notes) (root : Notes) (plan : PlanView) (j : JobView) (places : List Place) (phase next : ℕ) (slots : List (Slot P E)) (d : Slot P E) →
     next < length slots → AreOver run is_pass notes plan root j places phase next slots → in_phase j phase next ≡ false → (get_or slots next d).pass ≡ None
 empty_next run is_pass notes root plan j places phase next slots d l a h = a.none next d l (let s = still next in rw (s, h) refl)
 
@@ -327,18 +412,18 @@ none_left j phase n t l = all_gone (in_phase j phase t) t (length j.tasks) n l
 the_pass : {P : Type 0} (p : P) (q : P) → Some p ≡ Some q → p ≡ q
 the_pass p q e = ap (λ o. unwrap_or o p) e
 
-pub pass_of : {P : Type 0} (run : Course) (is_pass : P → Type 0) (notes : P → Notes) (root : Notes) (plan : PlanView) (j : JobView) (places : List Place) (phase next : ℕ) (slots : List (Slot P)) (d : Slot P) (p : P) →
+pub pass_of : {P E : Type 0} (run : Course) (is_pass : P → Type 0) (notes : P → Notes) (root : Notes) (plan : PlanView) (j : JobView) (places : List Place) (phase next : ℕ) (slots : List (Slot P E)) (d : Slot P E) (p : P) →
     next < length slots → AreOver run is_pass notes plan root j places phase next slots → (get_or slots next d).pass ≡ Some p →
-    (in_phase j phase next ≡ true) × HasSeen is_pass notes plan root (trace_by run j places next) next p
+    (in_phase j phase next ≡ true) × HasSeen is_pass notes plan root (walk_by run j places) next p
 pass_of run is_pass notes root plan j places phase next slots d p l a h = by_phase (in_phase j phase next) refl
   where
-    by_phase : (b : Bool) → in_phase j phase next ≡ b → (in_phase j phase next ≡ true) × HasSeen is_pass notes plan root (trace_by run j places next) next p
+    by_phase : (b : Bool) → in_phase j phase next ≡ b → (in_phase j phase next ≡ true) × HasSeen is_pass notes plan root (walk_by run j places) next p
     by_phase true e =
         let s = seen_next run is_pass notes root plan j places phase next slots d l a e in
-        (e, subst (HasSeen is_pass notes plan root (trace_by run j places next) next) (the_pass s.pass p (sym s.has ∙ h)) s.holds)
+        (e, subst (HasSeen is_pass notes plan root (walk_by run j places) next) (the_pass s.pass p (sym s.has ∙ h)) s.holds)
     by_phase false e = let never : None ≡ Some p = sym (empty_next run is_pass notes root plan j places phase next slots d l a e) ∙ h in absurd cc
 
-pub not_of : {P : Type 0} (run : Course) (is_pass : P → Type 0) (notes : P → Notes) (root : Notes) (plan : PlanView) (j : JobView) (places : List Place) (phase next : ℕ) (slots : List (Slot P)) (d : Slot P) →
+pub not_of : {P E : Type 0} (run : Course) (is_pass : P → Type 0) (notes : P → Notes) (root : Notes) (plan : PlanView) (j : JobView) (places : List Place) (phase next : ℕ) (slots : List (Slot P E)) (d : Slot P E) →
     next < length slots → AreOver run is_pass notes plan root j places phase next slots → (get_or slots next d).pass ≡ None → in_phase j phase next ≡ false
 not_of run is_pass notes root plan j places phase next slots d l a h = by_phase (in_phase j phase next) refl
   where
@@ -347,27 +432,86 @@ not_of run is_pass notes root plan j places phase next slots d l a h = by_phase 
     by_phase false e = e
 
 -- a slot in which only the pass has changed
-pub set_done : {P : Type 0} (slots : List (Slot P)) (next : ℕ) (e none : Slot P) → next < length slots → e.done ≡ (get_or slots next none).done →
-    (t : ℕ) (d : Slot P) → t < length slots → (get_or (set slots next e) t d).done ≡ (get_or slots t d).done
+pub set_done : {P E : Type 0} (slots : List (Slot P E)) (next : ℕ) (e none : Slot P E) → next < length slots → e.done ≡ (get_or slots next none).done →
+    (t : ℕ) (d : Slot P E) → t < length slots → (get_or (set slots next e) t d).done ≡ (get_or slots t d).done
 set_done slots next e none here same t d l = elim (same_or t next) [
   | inl at ↦ ap (λ s. s.done) (get_or-set_at slots next t e d at here) ∙ (same ∙ ap (λ s. s.done) (get_or_default slots next none d here ∙ ap (λ k. get_or slots k d) (sym at)))
   | inr other ↦ ap (λ s. s.done) (get_or-set_other slots next t e d other)
 ]
 
+pub set_extra : {P E : Type 0} (slots : List (Slot P E)) (next : ℕ) (e none : Slot P E) → next < length slots → e.extra ≡ (get_or slots next none).extra →
+    (t : ℕ) (d : Slot P E) → t < length slots → (get_or (set slots next e) t d).extra ≡ (get_or slots t d).extra
+set_extra slots next e none here same t d l = elim (same_or t next) [
+  | inl at ↦ ap (λ s. s.extra) (get_or-set_at slots next t e d at here) ∙ (same ∙ ap (λ s. s.extra) (get_or_default slots next none d here ∙ ap (λ k. get_or slots k d) (sym at)))
+  | inr other ↦ ap (λ s. s.extra) (get_or-set_other slots next t e d other)
+]
+
+-- the slots while tasks get their sessions and extras
+
+pub AreEquipped-start : {P E : Type 0} (begins : Begins E) (plan : PlanView) (j : JobView) (places : List Place) (phase : ℕ) (slots : List (Slot P E)) → AreEquipped begins plan j places phase 0 slots
+AreEquipped-start begins plan j places phase slots = record { each = λ t d l never h. absurd (omega (arith, never)) }
+
+pub AreEquipped-one : {P E : Type 0} (begins : Begins E) (plan : PlanView) (j : JobView) (places : List Place) (phase next : ℕ) (slots : List (Slot P E)) (e : Slot P E) → next < length slots →
+    AreEquipped begins plan j places phase next slots → HasStart begins plan j places next e → AreEquipped begins plan j places phase (next + 1) (set slots next e)
+AreEquipped-one begins plan j places phase next slots e here q start = record {
+  each = λ t d l below h. elim (same_or t next) [
+    | inl same ↦ subst (λ (s : Slot _ _). HasStart begins plan j places t s) (sym (get_or-set_at slots next t e d same here)) (subst (λ (k : ℕ). HasStart begins plan j places k e) (sym same) start)
+    | inr other ↦ subst (λ (s : Slot _ _). HasStart begins plan j places t s) (sym (get_or-set_other slots next t e d other)) (q.each t d (omega (arith, l, length-set slots next e)) (omega (arith, below, other)) h)
+  ];
+}
+
+pub AreEquipped-other : {P E : Type 0} (begins : Begins E) (plan : PlanView) (j : JobView) (places : List Place) (phase next : ℕ) (slots : List (Slot P E)) → in_phase j phase next ≡ false →
+    AreEquipped begins plan j places phase next slots → AreEquipped begins plan j places phase (next + 1) slots
+AreEquipped-other begins plan j places phase next slots other q = record {
+  each = λ t d l below h. elim (same_or t next) [
+    | inl same ↦ absurd (both (in_phase j phase t) h (here_too j phase next false other t same))
+    | inr before ↦ q.each t d l (omega (arith, below, before)) h
+  ];
+}
+
+not_run : (p phase : ℕ) → nat_eq p phase ≡ true → nat_lt p phase ≡ false
+not_run p phase h = grind (arith, nat_tests)
+
+pub begun_in : {P E : Type 0} (course : Course) (ends : Ends E) (j : JobView) (places : List Place) (phase t : ℕ) (slots : List (Slot P E)) (d : Slot P E) → AreRun course ends j places phase slots → t < length slots →
+    in_phase j phase t ≡ true → HasNotRun j places t (get_or slots t d).done
+begun_in course ends j places phase t slots d a l h = a.begun t d l (not_run (task_of j t).phase phase h)
+
+-- a slot whose task is about to run has changed, and no other
+pub AreRun-equipped : {P E : Type 0} (course : Course) (ends : Ends E) (j : JobView) (places : List Place) (phase next : ℕ) (slots : List (Slot P E)) (e : Slot P E) → next < length slots → in_phase j phase next ≡ true →
+    AreRun course ends j places phase slots → HasNotRun j places next e.done → AreRun course ends j places phase (set slots next e)
+AreRun-equipped course ends j places phase next slots e here of a begun = record {
+  count = length-set slots next e ∙ a.count;
+  ended = λ t d l h. subst (λ (s : Slot _ _). IsEnded course j places t s.done) (sym (get_or-set_other slots next t e d (apart t h))) (a.ended t d (omega (arith, l, length-set slots next e)) h);
+  extras = λ t d l h. subst (λ (s : Slot _ _). HasExtra ends j places t s) (sym (get_or-set_other slots next t e d (apart t h))) (a.extras t d (omega (arith, l, length-set slots next e)) h);
+  begun = λ t d l h. elim (same_or t next) [
+    | inl same ↦ subst (λ (s : Slot _ _). HasNotRun j places t s.done) (sym (get_or-set_at slots next t e d same here)) (subst (λ (k : ℕ). HasNotRun j places k e.done) (sym same) begun)
+    | inr other ↦ subst (λ (s : Slot _ _). HasNotRun j places t s.done) (sym (get_or-set_other slots next t e d other)) (a.begun t d (omega (arith, l, length-set slots next e)) h)
+  ];
+}
+  where
+    apart : (t : ℕ) → has_run j phase t ≡ true → t ≢ next
+    apart t h same = both (has_run j phase t) h (not_run (task_of j t).phase phase (here_too j phase next true of t same))
+
+pub empty_set : {P E : Type 0} (slots : List (Slot P E)) (next : ℕ) (e none : Slot P E) → next < length slots → AreEmpty slots → e.pass ≡ (get_or slots next none).pass → AreEmpty (set slots next e)
+empty_set slots next e none here empty same t d l = elim (same_or t next) [
+  | inl at ↦ ap (λ s. s.pass) (get_or-set_at slots next t e d at here) ∙ (same ∙ empty next none here)
+  | inr other ↦ ap (λ s. s.pass) (get_or-set_other slots next t e d other) ∙ empty t d (omega (arith, l, length-set slots next e))
+]
+
 -- one task more, as it begins
-pub begun_more : {P : Type 0} (j : JobView) (places : List Place) (slots : List (Slot P)) (e : Slot P) →
-    ((k : ℕ) (d : Slot P) → k < length slots → HasNotRun j places k (get_or slots k d).done) → HasNotRun j places (length slots) e.done →
-    (k : ℕ) (d : Slot P) → k < length (slots ++ e ∷ []) → HasNotRun j places k (get_or (slots ++ e ∷ []) k d).done
+pub begun_more : {P E : Type 0} (j : JobView) (places : List Place) (slots : List (Slot P E)) (e : Slot P E) →
+    ((k : ℕ) (d : Slot P E) → k < length slots → HasNotRun j places k (get_or slots k d).done) → HasNotRun j places (length slots) e.done →
+    (k : ℕ) (d : Slot P E) → k < length (slots ++ e ∷ []) → HasNotRun j places k (get_or (slots ++ e ∷ []) k d).done
 begun_more j places slots e begun last k d l = elim (same_or k (length slots)) [
   | inl at ↦
       let found : get_or (slots ++ e ∷ []) k d ≡ e = ap (λ n. get_or (slots ++ e ∷ []) n d) at ∙ get_or-append_seam slots e [] d in
-      subst (λ (s : Slot _). HasNotRun j places k s.done) (sym found) (subst (λ (n : ℕ). HasNotRun j places n e.done) (sym at) last)
+      subst (λ (s : Slot _ _). HasNotRun j places k s.done) (sym found) (subst (λ (n : ℕ). HasNotRun j places n e.done) (sym at) last)
   | inr other ↦
       let before : k < length slots = omega (arith, l, other, length-append slots (e ∷ [])) in
-      subst (λ (s : Slot _). HasNotRun j places k s.done) (sym (get_or_append_left slots (e ∷ []) d k before)) (begun k d before)
+      subst (λ (s : Slot _ _). HasNotRun j places k s.done) (sym (get_or_append_left slots (e ∷ []) d k before)) (begun k d before)
 ]
 
-pub empty_more : {P : Type 0} (slots : List (Slot P)) (e : Slot P) → AreEmpty slots → e.pass ≡ None → AreEmpty (slots ++ e ∷ [])
+pub empty_more : {P E : Type 0} (slots : List (Slot P E)) (e : Slot P E) → AreEmpty slots → e.pass ≡ None → AreEmpty (slots ++ e ∷ [])
 empty_more slots e empty none k d l = elim (same_or k (length slots)) [
   | inl at ↦ ap (λ s. s.pass) (ap (λ n. get_or (slots ++ e ∷ []) n d) at ∙ get_or-append_seam slots e [] d) ∙ none
   | inr other ↦

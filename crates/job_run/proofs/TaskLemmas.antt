@@ -1,86 +1,90 @@
 -- Tasks before and after their runs.
-use Rattle.std.proofs.Common.{◌≡◌, ◌⊎◌, inl, inr, ℕ, ◌+◌, ◌*◌, ◌<◌, ◌≤◌, Bool, true, false, nat_eq, nat_lt, Some, None, List, [], length, get_or, take, drop, min, slice_range, ◌-◌, refl, sym, ◌∙◌, ap, subst, arith}
+use Rattle.std.proofs.Common.{◌≡◌, ◌⊎◌, inl, inr, ℕ, ◌+◌, ◌*◌, ◌<◌, ◌≤◌, ◌^◌, Bool, true, false, nat_eq, nat_lt, Option, Some, None, List, [], length, get_or, take, drop, min, slice_range, ◌-◌, refl, sym, ◌∙◌, ap, subst, arith}
 use Rattle.std.proofs.lemmas.Bool.Decides.{nat_tests}
 use Rattle.std.proofs.lemmas.Bool.{ltb-true}
 use Rattle.std.proofs.lemmas.List.{get_or-map, length-map, length-drop, take_all}
 use Rattle.std.proofs.lemmas.List.Elements.{All-get_or}
 use Rattle.cov_base.specs.Memory.{Memory, ImageView}
 use Rattle.cov_base.specs.States.{State}
+use Rattle.cov_base.specs.declared.limits.TheConstants.{PLACE_LIMIT, BUDGET_LIMIT}
 use Rattle.s370_state.specs.declared.endings.Ending.{Ending}
 use Rattle.s370_exec.specs.Solo.{Run}
 use Rattle.module_area.specs.Notes.{Notes, calls}
 use Rattle.module_area.specs.PlanView.{PlanView}
 use Rattle.module_area.specs.declared.places.Place.{Place}
 use Rattle.brk_table.specs.Places.{memory_of}
-use Rattle.svc_monitor.specs.Observed.{Observes}
-use Rattle.task_run.specs.Courses.{Course}
+use Rattle.task_run.specs.Courses.{Course, walk}
+use Rattle.task_run.specs.Ran.{run_from, walk_from, stands}
 use Rattle.session_book.specs.JobView.{JobView, IsJob, IsTask}
 use Rattle.session_book.specs.Results.{ResultView}
-use Rattle.session_book.specs.Sessions.{task_of, no_task, first_state, plan_view}
+use Rattle.session_book.specs.Sessions.{task_of, no_task, plan_view}
 use Rattle.space_map.specs.Space.{SpaceView, memory_of_space, row_of}
-use Rattle.task_run.proofs.CourseLemmas.{IsCourse}
-use Rattle.task_run.proofs.RunLemmas.{visits-most}
-use Rattle.job_run.specs.Runs.{run_by, trace_by, result_by, result_of_run}
-use Rattle.job_run.specs.Slots.{dones, in_phase}
-use Rattle.job_run.specs.Tasks.{HasNotRun, IsEnded, AreRun, has_run, done_result, no_result, results_of, own_run}
+use Rattle.job_run.specs.Runs.{run_by, walk_by, result_by, result_of_run}
+use Rattle.job_run.specs.Slots.{dones, in_phase, Runs}
+use Rattle.job_run.specs.Tasks.{Ends, HasNotRun, HasExtra, IsEnded, AreNew, AreRun, has_run, done_result, no_result, results_of}
 use Rattle.job_run.specs.declared.outcome.Done.{Done}
 use Rattle.job_run.specs.declared.slots.Slot.{Slot}
 
-same_run : (run : Course) (p p' : PlanView) (m m' : Memory) (b b' : ℕ) (s s' : State) → p ≡ p' → m ≡ m' → b ≡ b' → s ≡ s' → run p m b s ≡ run p' m' b' s'
-same_run run p p' m m' b b' s s' plan memory budget state =
-    ap (λ (x : PlanView). run x m b s) plan ∙ (ap (λ (n : Memory). run p' n b s) memory ∙ (ap (λ (n : ℕ). run p' m' n s) budget ∙ ap (λ (n : State). run p' m' b' n) state))
+same_run : (course : Course) (p p' : PlanView) (m m' : Memory) (b b' : ℕ) (s s' : State) → p ≡ p' → m ≡ m' → b ≡ b' → s ≡ s' → course.run p m b s ≡ course.run p' m' b' s'
+same_run course p p' m m' b b' s s' plan memory budget state =
+    ap (λ (x : PlanView). course.run x m b s) plan ∙ (ap (λ (n : Memory). course.run p' n b s) memory ∙ (ap (λ (n : ℕ). course.run p' m' n s) budget ∙ ap (λ (n : State). course.run p' m' b' n) state))
+
+same_walk : (course : Course) (p p' : PlanView) (m m' : Memory) (b b' : ℕ) (s s' : State) → p ≡ p' → m ≡ m' → b ≡ b' → s ≡ s' → walk course p m b s ≡ walk course p' m' b' s'
+same_walk course p p' m m' b b' s s' plan memory budget state =
+    ap (λ (x : PlanView). walk course x m b s) plan ∙ (ap (λ (n : Memory). walk course p' n b s) memory ∙ (ap (λ (n : ℕ). walk course p' m' n s) budget ∙ ap (λ (n : State). walk course p' m' b' n) state))
 
 -- a task that has not run yet runs as its card says
-pub begun_run : (run : Course) (plan : PlanView) (j : JobView) (places : List Place) (t : ℕ) (d : Done) → plan ≡ plan_view j places (task_of j t).phase → HasNotRun j places t d →
-    own_run run plan d ≡ run_by run j places t
-begun_run run plan j places t d of b = same_run run _ _ _ _ _ _ _ _ of b.begun.memory b.budget b.begun.state
+begun_run : (course : Course) (plan : PlanView) (j : JobView) (places : List Place) (t : ℕ) (d : Done) → plan ≡ plan_view j places (task_of j t).phase → HasNotRun j places t d →
+    run_from course plan d.task ≡ run_by course j places t
+begun_run course plan j places t d of b = same_run course _ _ _ _ _ _ _ _ of b.begun.memory b.budget b.begun.state
 
-result_at : State → Ending → ResultView
-result_at s e = record { ending = Some e; done = s.done; cpu = s.machine.cpu; output = s.io.output; bytes = s.machine.bytes }
+pub begun_walk : (course : Course) (plan : PlanView) (j : JobView) (places : List Place) (t : ℕ) (d : Done) → plan ≡ plan_view j places (task_of j t).phase → HasNotRun j places t d →
+    walk_from course plan d.task ≡ walk_by course j places t
+begun_walk course plan j places t d of b = same_walk course _ _ _ _ _ _ _ _ of b.begun.memory b.budget b.begun.state
+
+result_at : State → Option Ending → ResultView
+result_at s e = record { ending = e; done = s.done; cpu = s.machine.cpu; output = s.io.output; bytes = s.machine.bytes }
 
 -- a state and an ending are a result
-pub same_result : (run : Run) (s : State) (e : Ending) → s ≡ run.state → e ≡ run.ending →
-    record { ending = Some e; done = s.done; cpu = s.machine.cpu; output = s.io.output; bytes = s.machine.bytes } ≡ result_of_run run
+same_result : (run : Run) (s : State) (o : Option Ending) (e : Ending) → o ≡ Some e → s ≡ run.state → e ≡ run.ending →
+    record { ending = o; done = s.done; cpu = s.machine.cpu; output = s.io.output; bytes = s.machine.bytes } ≡ result_of_run run
 unfolding result_at
-same_result run s e p q = ap (λ (t : State). result_at t e) p ∙ ap (λ (d : Ending). result_at run.state d) q
+same_result run s o e is p q = ap (λ (t : State). result_at t o) p ∙ (ap (λ (x : Option Ending). result_at run.state x) is ∙ ap (λ (x : Ending). result_at run.state (Some x)) q)
 
 private_of : (size : ℕ) (images : List ImageView) (places : List Place) → (memory_of size images places).private ≡ size
 unfolding memory_of
 private_of size images places = refl
 
 -- private storage keeps its size
-pub still_filled : (s s' : SpaceView) → memory_of_space s ≡ memory_of_space s' → length s.bytes ≡ (memory_of_space s').private
+still_filled : (s s' : SpaceView) → memory_of_space s ≡ memory_of_space s' → length s.bytes ≡ (memory_of_space s').private
 still_filled s s' e = sym (private_of (length s.bytes) s.images s.places) ∙ ap (λ (m : Memory). m.private) e
 
 -- what a task has come to
-pub has_ended : (run : Course) (plan : PlanView) (j : JobView) (places : List Place) (t : ℕ) (d e : Done) → plan ≡ plan_view j places (task_of j t).phase → HasNotRun j places t d →
-    done_result e ≡ result_of_run (own_run run plan d) → length e.task.space.bytes ≡ (memory_of_space d.task.space).private → IsEnded run j places t e
-has_ended run plan j places t d e of b result filled = record {
-  result = result ∙ ap result_of_run (begun_run run plan j places t d of b);
-  filled = filled ∙ (ap (λ (m : Memory). m.private) b.begun.memory ∙ private_of (task_of j t).private j.images places);
+pub has_ended : (course : Course) (plan : PlanView) (before after : Notes) (j : JobView) (places : List Place) (t : ℕ) (d e : Done) → plan ≡ plan_view j places (task_of j t).phase → HasNotRun j places t d →
+    Runs course plan before after d e → IsEnded course j places t e
+has_ended course plan before after j places t d e of b r = record {
+  result = same_result (run_from course plan d.task) (stands e.task e.task.done) e.ending r.ending r.is r.ran.state r.ran.ending ∙ ap result_of_run (begun_run course plan j places t d of b);
+  filled = still_filled e.task.space d.task.space r.ran.memory ∙ (ap (λ (m : Memory). m.private) b.begun.memory ∙ private_of (task_of j t).private j.images places);
 }
 
--- at most six calls for each instruction of the budget
-pub run_calls : (run : Course) (plan : PlanView) (old new : Notes) (j : JobView) (places : List Place) (t : ℕ) → IsCourse run → IsTask (length j.phases) (task_of j t) →
-    Observes plan old new (trace_by run j places t) → calls new ≤ calls old + 300000000
-run_calls run plan old new j places t course is o =
-    let of : PlanView = plan_view j places (task_of j t).phase in
-    let m : Memory = memory_of (task_of j t).private j.images places in
-    let most = visits-most plan.places (trace_by run j places t) in
-    let visits = course.visits of m (task_of j t).budget (first_state (task_of j t)) refl in
-    let done = course.done of m (task_of j t).budget (first_state (task_of j t)) refl in
-    omega (arith, most, visits, done, is.budget, o.fetches, o.marks, o.lifts, o.plants, o.closes)
+-- its calls of the area are few
+pub run_few : (course : Course) (plan : PlanView) (before after : Notes) (j : JobView) (places : List Place) (t : ℕ) (d e : Done) → IsTask (length j.phases) (task_of j t) → HasNotRun j places t d →
+    Runs course plan before after d e → calls before ≡ 0 → calls after < 2 ^ 42
+run_few course plan before after j places t d e is b r none = few_calls (calls after) d.task.budget (omega (arith, r.ran.few, none)) (omega (arith, b.budget, is.budget))
+  where
+    few_calls : (n budget : ℕ) → n ≤ (6 + PLACE_LIMIT) * budget → budget ≤ BUDGET_LIMIT → n < 2 ^ 42
+    few_calls n budget h k = omega arith
 
 -- no task has run before the first phase
 none_earlier : (p : ℕ) → nat_lt p 0 ≡ true → ⊥
 none_earlier p h = absurd (omega (arith, ltb-true p 0 h))
 
-pub AreRun-start : {P : Type 0} (run : Course) (j : JobView) (places : List Place) (slots : List (Slot P)) → length slots ≡ length j.tasks →
-    ((t : ℕ) (d : Slot P) → t < length slots → HasNotRun j places t (get_or slots t d).done) → AreRun run j places 0 slots
-AreRun-start run j places slots count begun = record {
-  count = count;
+pub AreRun-start : {P E : Type 0} (course : Course) (ends : Ends E) (j : JobView) (places : List Place) (slots : List (Slot P E)) → AreNew j places slots → AreRun course ends j places 0 slots
+AreRun-start course ends j places slots new = record {
+  count = new.count;
   ended = λ t d l h. absurd (none_earlier (task_of j t).phase h);
-  begun = λ t d l h. begun t d l;
+  extras = λ t d l h. absurd (none_earlier (task_of j t).phase h);
+  begun = λ t d l h. new.begun t d l;
 }
 
 -- a task that has run by the next phase is of this one, or had run before
@@ -90,30 +94,49 @@ earlier_or p phase h = grind (arith, nat_tests)
 not_next : (p phase : ℕ) → nat_eq p phase ≡ true → nat_lt p (phase + 1) ≡ false → ⊥
 not_next p phase h k = let e : nat_lt p (phase + 1) ≡ true = grind (arith, nat_tests) in let never : true ≡ false = sym e ∙ k in absurd cc
 
+-- an extra tells the same of a slot that has changed elsewhere
+extra_same : {P E : Type 0} (ends : Ends E) (j : JobView) (places : List Place) (t : ℕ) (s s' : Slot P E) → s'.done ≡ s.done → s'.extra ≡ s.extra → HasExtra ends j places t s → HasExtra ends j places t s'
+extra_same ends j places t s s' done extra h = record {
+  extra = h.extra;
+  has = extra ∙ h.has;
+  first = h.first;
+  begun = h.begun;
+  tells = λ sets. subst (λ (d : Done). ends (plan_view j places (task_of j t).phase) h.first.task d.task h.extra sets) (sym done) (h.tells sets);
+}
+
 -- the tasks of this phase have run, and no other has changed
-pub AreRun-next : {P : Type 0} (run : Course) (j : JobView) (places : List Place) (phase : ℕ) (old new : List (Slot P)) → AreRun run j places phase old → length new ≡ length old →
-    ((t : ℕ) (d : Slot P) → t < length old → in_phase j phase t ≡ true → IsEnded run j places t (get_or new t d).done) →
-    ((t : ℕ) (d : Slot P) → t < length old → in_phase j phase t ≡ false → (get_or new t d).done ≡ (get_or old t d).done) → AreRun run j places (phase + 1) new
-AreRun-next run j places phase old new a same ended kept = record {
+pub AreRun-next : {P E : Type 0} (course : Course) (ends : Ends E) (j : JobView) (places : List Place) (phase : ℕ) (old new : List (Slot P E)) → AreRun course ends j places phase old → length new ≡ length old →
+    ((t : ℕ) (d : Slot P E) → t < length old → in_phase j phase t ≡ true → IsEnded course j places t (get_or new t d).done) →
+    ((t : ℕ) (d : Slot P E) → t < length old → in_phase j phase t ≡ true → HasExtra ends j places t (get_or new t d)) →
+    ((t : ℕ) (d : Slot P E) → t < length old → in_phase j phase t ≡ false → (get_or new t d).done ≡ (get_or old t d).done) →
+    ((t : ℕ) (d : Slot P E) → t < length old → in_phase j phase t ≡ false → (get_or new t d).extra ≡ (get_or old t d).extra) → AreRun course ends j places (phase + 1) new
+AreRun-next course ends j places phase old new a same ended extra kept left = record {
   count = same ∙ a.count;
   ended = λ t d l h. is_ended t d (omega (arith, l, same)) h (in_phase j phase t) refl;
+  extras = λ t d l h. has_extra t d (omega (arith, l, same)) h (in_phase j phase t) refl;
   begun = λ t d l h. is_begun t d (omega (arith, l, same)) h (in_phase j phase t) refl;
 }
   where
-    is_ended : (t : ℕ) (d : Slot _) → t < length old → has_run j (phase + 1) t ≡ true → (b : Bool) → in_phase j phase t ≡ b → IsEnded run j places t (get_or new t d).done
+    is_ended : (t : ℕ) (d : Slot _ _) → t < length old → has_run j (phase + 1) t ≡ true → (b : Bool) → in_phase j phase t ≡ b → IsEnded course j places t (get_or new t d).done
     is_ended t d l h true e = ended t d l e
-    is_ended t d l h false e = subst (λ (x : Done). IsEnded run j places t x) (sym (kept t d l e)) (a.ended t d l (earlier_or (task_of j t).phase phase e ∙ h))
+    is_ended t d l h false e = subst (λ (x : Done). IsEnded course j places t x) (sym (kept t d l e)) (a.ended t d l (earlier_or (task_of j t).phase phase e ∙ h))
 
-    is_begun : (t : ℕ) (d : Slot _) → t < length old → has_run j (phase + 1) t ≡ false → (b : Bool) → in_phase j phase t ≡ b → HasNotRun j places t (get_or new t d).done
+    has_extra : (t : ℕ) (d : Slot _ _) → t < length old → has_run j (phase + 1) t ≡ true → (b : Bool) → in_phase j phase t ≡ b → HasExtra ends j places t (get_or new t d)
+    has_extra t d l h true e = extra t d l e
+    has_extra t d l h false e = extra_same ends j places t (get_or old t d) (get_or new t d) (kept t d l e) (left t d l e) (a.extras t d l (earlier_or (task_of j t).phase phase e ∙ h))
+
+    is_begun : (t : ℕ) (d : Slot _ _) → t < length old → has_run j (phase + 1) t ≡ false → (b : Bool) → in_phase j phase t ≡ b → HasNotRun j places t (get_or new t d).done
     is_begun t d l h true e = absurd (not_next (task_of j t).phase phase e h)
     is_begun t d l h false e = subst (λ (x : Done). HasNotRun j places t x) (sym (kept t d l e)) (a.begun t d l (earlier_or (task_of j t).phase phase e ∙ h))
 
 -- only passes were given or taken
-pub AreRun-same : {P : Type 0} (run : Course) (j : JobView) (places : List Place) (phase : ℕ) (old new : List (Slot P)) → AreRun run j places phase old → length new ≡ length old →
-    ((t : ℕ) (d : Slot P) → t < length old → (get_or new t d).done ≡ (get_or old t d).done) → AreRun run j places phase new
-AreRun-same run j places phase old new a same kept = record {
+pub AreRun-same : {P E : Type 0} (course : Course) (ends : Ends E) (j : JobView) (places : List Place) (phase : ℕ) (old new : List (Slot P E)) → AreRun course ends j places phase old → length new ≡ length old →
+    ((t : ℕ) (d : Slot P E) → t < length old → (get_or new t d).done ≡ (get_or old t d).done) → ((t : ℕ) (d : Slot P E) → t < length old → (get_or new t d).extra ≡ (get_or old t d).extra) →
+    AreRun course ends j places phase new
+AreRun-same course ends j places phase old new a same kept left = record {
   count = same ∙ a.count;
-  ended = λ t d l h. subst (λ (x : Done). IsEnded run j places t x) (sym (kept t d (omega (arith, l, same)))) (a.ended t d (omega (arith, l, same)) h);
+  ended = λ t d l h. subst (λ (x : Done). IsEnded course j places t x) (sym (kept t d (omega (arith, l, same)))) (a.ended t d (omega (arith, l, same)) h);
+  extras = λ t d l h. extra_same ends j places t (get_or old t d) (get_or new t d) (kept t d (omega (arith, l, same))) (left t d (omega (arith, l, same))) (a.extras t d (omega (arith, l, same)) h);
   begun = λ t d l h. subst (λ (x : Done). HasNotRun j places t x) (sym (kept t d (omega (arith, l, same)))) (a.begun t d (omega (arith, l, same)) h);
 }
 
@@ -129,25 +152,31 @@ no_done = record {
     io = record { input = []; taken = 0; output = []; room = 0 };
     done = 0;
     budget = 0;
+    control = record { sessions = []; next = 0; opened = None };
   };
 }
 
-pub no_slot : {P : Type 0} → Slot P
-no_slot = record { done = no_done; pass = None; apart = [] }
+pub no_slot : {P E : Type 0} → Slot P E
+no_slot = record { done = no_done; pass = None; extra = None; apart = [] }
 
 earlier : (p n : ℕ) → p < n → nat_lt p n ≡ true
 earlier p n l = grind (arith, nat_tests)
 
 -- after the last phase
-pub all_ended : {P : Type 0} (run : Course) (j : JobView) (places : List Place) (slots : List (Slot P)) (t : ℕ) → IsJob j → AreRun run j places (length j.phases) slots → t < length j.tasks →
-    (results_of (dones slots) t ≡ result_by run j places t) × (length (results_of (dones slots) t).bytes ≡ (task_of j t).private)
-all_ended run j places slots t job a l =
+pub all_ended : {P E : Type 0} (course : Course) (ends : Ends E) (j : JobView) (places : List Place) (slots : List (Slot P E)) (t : ℕ) → IsJob j → AreRun course ends j places (length j.phases) slots → t < length j.tasks →
+    (results_of (dones slots) t ≡ result_by course j places t) × (length (results_of (dones slots) t).bytes ≡ (task_of j t).private)
+all_ended course ends j places slots t job a l =
     let here : t < length slots = omega (arith, l, a.count) in
     let there : t < length (dones slots) = omega (arith, here, length-map slots (λ s. s.done)) in
-    let ended : IsEnded run j places t (get_or slots t no_slot).done = a.ended t no_slot here (earlier (task_of j t).phase (length j.phases) (is_task j t job l).phase) in
+    let ended : IsEnded course j places t (get_or slots t no_slot).done = a.ended t no_slot here (earlier (task_of j t).phase (length j.phases) (is_task j t job l).phase) in
     let found : results_of (dones slots) t ≡ done_result (get_or slots t no_slot).done =
     get_or-map done_result (dones slots) t no_done no_result there ∙ ap done_result (get_or-map (λ s. s.done) slots t no_slot no_done here) in
     (found ∙ ended.result, ap (λ (r : ResultView). length r.bytes) found ∙ ended.filled)
+
+-- and its extra tells of it, whatever the sets are
+pub all_extras : {P E : Type 0} (course : Course) (ends : Ends E) (j : JobView) (places : List Place) (slots : List (Slot P E)) (t : ℕ) (d : Slot P E) → IsJob j → AreRun course ends j places (length j.phases) slots → t < length j.tasks →
+    HasExtra ends j places t (get_or slots t d)
+all_extras course ends j places slots t d job a l = a.extras t d (omega (arith, l, a.count)) (earlier (task_of j t).phase (length j.phases) (is_task j t job l).phase)
 
 -- a row of private storage, by its bounds
 row_at : (bytes : List ℕ) (from n : ℕ) → from ≤ length bytes → (from + 16 ≤ length bytes) ⊎ (length bytes ≤ from + 16) → n ≡ min (from + 16) (length bytes) - from →

@@ -1,24 +1,28 @@
 -- What the passes of a phase's tasks leave of the sessions that the tasks control.
-use Rattle.std.specs.Prelude.{◌≡◌, ℕ, ◌+◌, ◌*◌, ◌<◌, ◌^◌, true, false, List, length}
+use Rattle.std.specs.Prelude.{◌≡◌, ℕ, ◌+◌, ◌*◌, ◌<◌, ◌^◌, true, false, List, [], length, get_or}
 use Rattle.std.specs.List.{sum_by}
 use Rattle.cov_base.specs.declared.facts.Fact.{Fact}
 use Rattle.cov_base.specs.declared.numbers.TaskNo.{TaskNo}
 use Rattle.cov_base.specs.Facts.{has_fact}
-use Rattle.module_area.specs.Control.{places_under, sessions_of}
 use Rattle.module_area.specs.Executions.{facts_at}
 use Rattle.module_area.specs.Notes.{Notes, calls}
-use Rattle.module_area.specs.PlanView.{PlanView, place_of, has_place, has_task}
+use Rattle.module_area.specs.PlanView.{PlanView, ControlledView, place_of, has_place, has_task}
 use Rattle.module_area.specs.Tied.{has_session}
 use Rattle.svc_monitor.specs.Observed.{IsShown}
 use Rattle.task_run.specs.Called.{places_in_all}
 use Rattle.task_run.specs.Courses.{Walk}
 use Rattle.task_run.specs.Windows.{least_set, last_control, opened_by, closed_by}
 
+abbrev pub no_controlled : ControlledView
+no_controlled = record { session = 0; by = 0; places = [] }
+
 -- the task controls the session, and this is one of its places
 pub record IsOwn (plan : PlanView) (t s p : ℕ) : Type 0 where
-  pub session : has_session (sessions_of plan t) s ≡ true
-  pub place : has_place (places_under plan s) p ≡ true
-  pub exists : p < length plan.places
+  pub at : ℕ
+  pub exists : at < length plan.controlled
+  pub session : (get_or plan.controlled at no_controlled).session ≡ s
+  pub by : (get_or plan.controlled at no_controlled).by ≡ t
+  pub place : has_place (get_or plan.controlled at no_controlled).places p ≡ true
 
 -- the task's run shows the fact at the place, and where the session is the task's own, while it is open
 pub record IsOf (plan : PlanView) (walks : ℕ → Walk) (t s p : ℕ) (f : Fact) : Type 0 where

@@ -35,7 +35,7 @@ IsOutcome j places tasks sets = IsOutcomeBy solo j places tasks sets
 pub record HasEnded {E : Type 0} (ends : Ends E) (j : JobView) (places : List Place) (sets : SetsView) (t : ℕ) (d : Done) (extra : E) : Type 0 where
   pub first : Done
   pub begun : IsEquipped j places t first
-  pub ends : ends (plan_view j places (task_of j t).phase) first.task d.task extra (λ s p. set_at (get_or sets.finals (task_of j t).phase no_finals) s p)
+  pub tells : ends (plan_view j places (task_of j t).phase) first.task d.task extra (λ s p. set_at (get_or sets.finals (task_of j t).phase no_finals) s p)
 
 -- one for each task of the job, in order
 pub record AreExtras {E : Type 0} (ends : Ends E) (j : JobView) (places : List Place) (tasks : List Done) (sets : SetsView) (extras : List E) : Type 0 where

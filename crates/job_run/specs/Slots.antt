@@ -1,5 +1,5 @@
 -- The tasks of a phase with the passes that their threads work with.
-use Rattle.std.specs.Prelude.{◌≡◌, ◌×◌, ℕ, ◌-◌, ◌<◌, ◌≤◌, ◌^◌, Bool, true, false, not, ◌&&◌, nat_eq, nat_lt, Option, Some, None, List, length, get_or, map, All, IfSome}
+use Rattle.std.specs.Prelude.{◌≡◌, ℕ, ◌-◌, ◌<◌, ◌≤◌, ◌^◌, Bool, true, false, not, ◌&&◌, nat_eq, nat_lt, Option, Some, None, List, length, get_or, map, All, IfSome}
 use Rattle.cov_base.specs.FactSet.{FactSet}
 use Rattle.cov_base.specs.States.{Visit}
 use Rattle.s370_state.specs.declared.endings.Ending.{Ending}
@@ -23,8 +23,8 @@ use Rattle.job_run.specs.declared.slots.Slot.{Slot}
 abbrev pub dones : {P E : Type 0} → List (Slot P E) → List Done
 dones slots = map (λ s. s.done) slots
 
-abbrev pub extras : {P E : Type 0} → List (Slot P E) → List (Option E)
-extras slots = map (λ s. s.extra) slots
+abbrev pub extras_of : {P E : Type 0} → List (Slot P E) → List (Option E)
+extras_of slots = map (λ s. s.extra) slots
 
 abbrev pub AreEmpty : {P E : Type 0} → List (Slot P E) → Type 0
 AreEmpty slots = All (λ s. s.pass ≡ None) slots
@@ -50,7 +50,7 @@ pub record HasStart {P E : Type 0} (begins : Begins E) (plan : PlanView) (j : Jo
   pub task : IsEquipped j places t s.done
   pub extra : E
   pub has : s.extra ≡ Some extra
-  pub begins : (root : Notes) → begins plan t extra (split_notes plan root t)
+  pub starts : (root : Notes) → begins plan t extra (split_notes plan root t)
 
 -- so each of the phase's tasks before the next
 pub record AreEquipped {P E : Type 0} (begins : Begins E) (plan : PlanView) (j : JobView) (places : List Place) (phase next : ℕ) (slots : List (Slot P E)) : Type 0 where
@@ -85,7 +85,7 @@ pub record AreSplit {P E : Type 0} (is_pass : P → Type 0) (notes : P → Notes
 pub record MayBegin {P E : Type 0} (begins : Begins E) (plan : PlanView) (n : Notes) (s : Slot P E) : Type 0 where
   pub extra : E
   pub has : s.extra ≡ Some extra
-  pub begins : begins plan (bearer n) extra n
+  pub may : begins plan (bearer n) extra n
 
 -- the slot's task can run with its pass, if it has one
 pub record CanRun {P E : Type 0} (is_pass : P → Type 0) (notes : P → Notes) (begins : Begins E) (plan : PlanView) (places : List Place) (s : Slot P E) : Type 0 where
@@ -112,7 +112,7 @@ pub record RunsWith {P E : Type 0} (course : Course) (is_pass : P → Type 0) (n
   pub runs : Runs course plan (notes p) (notes pass) old.done new.done
   pub extra : E
   pub left : new.extra ≡ Some extra
-  pub ends : (sets : ℕ → ℕ → FactSet) → ends plan old.done.task new.done.task extra sets
+  pub tells : (sets : ℕ → ℕ → FactSet) → ends plan old.done.task new.done.task extra sets
 
 -- the slot after its run: as before where it has no pass
 abbrev pub RunsSlot : {P E : Type 0} → Course → (P → Type 0) → (P → Notes) → Ends E → PlanView → Slot P E → Slot P E → Option P → Type 0

@@ -2,10 +2,9 @@
 use Rattle.std.specs.Prelude.{◌≡◌, ℕ, ◌<◌, Bool, true, false, nat_lt, Some, None, List, [], length, get_or, map}
 use Rattle.cov_base.specs.FactSet.{FactSet}
 use Rattle.module_area.specs.Notes.{Notes}
-use Rattle.s370_exec.specs.Solo.{Run, state_of}
+use Rattle.s370_exec.specs.Solo.{Run}
 use Rattle.module_area.specs.PlanView.{PlanView}
 use Rattle.module_area.specs.declared.places.Place.{Place}
-use Rattle.space_map.specs.Space.{memory_of_space}
 use Rattle.module_area.specs.Control.{first_control}
 use Rattle.task_run.specs.Courses.{Course}
 use Rattle.task_run.specs.Ran.{run_from}
@@ -68,7 +67,7 @@ pub record HasExtra {P E : Type 0} (ends : Ends E) (j : JobView) (places : List 
   pub has : s.extra ≡ Some extra
   pub first : Done
   pub begun : IsEquipped j places t first
-  pub ends : (sets : ℕ → ℕ → FactSet) → ends (plan_view j places (task_of j t).phase) first.task s.done.task extra sets
+  pub tells : (sets : ℕ → ℕ → FactSet) → ends (plan_view j places (task_of j t).phase) first.task s.done.task extra sets
 
 -- it is a task of an earlier phase
 abbrev pub has_run : JobView → ℕ → ℕ → Bool

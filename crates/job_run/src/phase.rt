@@ -53,7 +53,9 @@ fn run_phase<'a, T: Threads + Sync, A: Areas, G: Gate + Sync, R: Runner<A::C> + 
     equip_all::<A::C, R>(alloc, runner, job, tables, &plan, phase, slots)?;
     let (cells, mut root) = areas.make(alloc, &plan)?;
     plant_all(&cells, &mut root, &plan);
-    run_tasks(rt, &cells, &mut root, gate, runner, job, tables, &plan, phase, slots);
+    run_tasks(
+        rt, &cells, &mut root, gate, runner, job, tables, &plan, phase, slots,
+    );
     areas.finish(alloc, cells, root)
 }
 

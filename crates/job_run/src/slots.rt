@@ -1,9 +1,9 @@
 //! The tasks of a job with the passes that their threads work with.
-ghost use Rattle.std.specs.Prelude.{◌≡◌, ◌<◌, ◌≤◌, nat_eq, [], length, map, All, IsSome, IfOk, vec_capacity};
+ghost use Rattle.std.specs.Prelude.{◌≡◌, ◌<◌, ◌≤◌, nat_eq, [], length, map, All, IsSome, IfOk, slice_index_or, slice_set, vec_capacity};
 ghost use Rattle.std.specs.declared.option.Option.TheVariants.{Some, None};
 ghost use Rattle.brk_table.specs.Places.{IsIn};
 ghost use Rattle.session_book.specs.Sessions.{task_of};
-ghost use Rattle.job_run.specs.Slots.{AreEmpty, dones, extras};
+ghost use Rattle.job_run.specs.Slots.{AreEmpty, dones, extras_of};
 ghost use Rattle.job_run.specs.Tasks.{HasNotRun, AreNew};
 
 use crate::outcome::Done;
@@ -104,13 +104,36 @@ pub fn give<'a, P: Drop, E: Drop>(slot: &mut Slot<'a, P, E>, pass: P)
 }
 
 /// Takes the pass out of the slot.
-pub fn take<'a, P: Drop, E: Drop>(slot: &mut Slot<'a, P, E>) -> Option<P>
+fn take<'a, P: Drop, E: Drop>(slot: &mut Slot<'a, P, E>) -> Option<P>
     ensures pass { result ≡ slot.old.pass }
-    ensures none { slot.new.pass ≡ None }
-    ensures done { slot.new.done ≡ slot.old.done }
-    ensures extra { slot.new.extra ≡ slot.old.extra }
+    ensures rest { slot.new ≡ record slot.old { pass = None } }
 {
     slot.pass.take()
+}
+
+/// Takes the pass out of the slot of this task.
+pub fn take_at<'a, P: Drop, E: Drop>(slots: &mut [Slot<'a, P, E>], t: usize) -> Option<P>
+    requires { t < length slots.old }
+    ensures pass { (d : _) → result ≡ (slice_index_or slots.old t d).pass }
+    ensures rest { (d : _) → slots.new ≡ slice_set slots.old t (record (slice_index_or slots.old t d) { pass = None }) }
+{
+    take(&mut slots[t])
+}
+
+/// The slot's task and its extra.
+fn taken_apart<'a, P: Drop, E: Drop>(slot: Slot<'a, P, E>) -> (Done<'a>, E)
+    requires { IsSome slot.extra }
+    ensures done { result.0 ≡ slot.entry.done }
+    ensures extra { Some result.1 ≡ slot.entry.extra }
+{
+    let Slot {
+        done,
+        pass: _,
+        extra,
+        apart: _,
+    } = slot;
+    let Some(extra) = extra else { unreachable!() };
+    (done, extra)
 }
 
 /// The tasks of the slots and their extras, moved into lists that have room for them.
@@ -124,16 +147,10 @@ pub fn parts_of<'a, P: Drop, E: Drop>(
     requires extras_room { length slots.items ≤ vec_capacity extras }
     requires some { All (λ s. IsSome s.extra) slots.items }
     ensures tasks { result.0.items ≡ dones slots.entry.items }
-    ensures extras { map Some result.1.items ≡ extras slots.entry.items }
+    ensures extras { map Some result.1.items ≡ extras_of slots.entry.items }
 {
     for slot in slots {
-        let Slot {
-            done,
-            pass: _,
-            extra,
-            apart: _,
-        } = slot;
-        let Some(extra) = extra else { unreachable!() };
+        let (done, extra) = taken_apart(slot);
         let Ok(()) = tasks.push(done) else {
             unreachable!()
         };

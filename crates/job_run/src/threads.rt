@@ -1,5 +1,5 @@
 //! The tasks of a phase, each on a thread of its own.
-ghost use Rattle.std.specs.Prelude.{◌≡◌, ℕ, ◌×◌, ◌+◌, ◌*◌, ◌<◌, ◌≤◌, ◌^◌, true, false, nat_eq, if◌then◌else◌, All, IfOk, length, slice_index_or};
+ghost use Rattle.std.specs.Prelude.{◌≡◌, ℕ, ◌+◌, ◌*◌, ◌<◌, ◌≤◌, ◌^◌, true, false, nat_eq, if◌then◌else◌, All, IfOk, length, slice_index_or};
 ghost use Rattle.std.specs.declared.option.Option.TheVariants.{None};
 ghost use Rattle.cov_base.specs.declared.limits.TheConstants.{PLACE_LIMIT, TASK_LIMIT};
 ghost use Rattle.module_area.specs.Notes.{bearer, calls, is_working};
@@ -15,7 +15,7 @@ ghost use Rattle.job_run.specs.Slots.{AreEmpty, AreEquipped, AreSplit, CanRun, H
 ghost use Rattle.job_run.specs.Tasks.{AreRun};
 
 use crate::outcome::Done;
-use crate::slots::{Slot, equip, give, is_of, take};
+use crate::slots::{Slot, equip, give, is_of, take_at};
 use brk_table::Tables;
 use cov_base::{NoMemory, TaskNo};
 use cov_outside::Gate;
@@ -39,15 +39,15 @@ fn run_one<'a, C: Cells, R: Runner<C>>(
 )
     requires area { C.is_pass cells.now pass.old }
     requires plan { C.plan cells.now ≡ plan.now }
-    requires over { IsOver (C.plan cells.now) (memory_of_space done.old.task.space) tables.now.places }
+    requires over { IsOver plan.now (memory_of_space done.old.task.space) tables.now.places }
     requires room { calls (C.notes pass.old) < 2 ^ 60 }
     requires working { is_working (C.notes pass.old) ≡ true }
     requires fresh { done.old.task.done ≡ 0 }
-    requires tied { IsTied (C.plan cells.now) (C.notes pass.old) done.old.task.control }
+    requires tied { IsTied plan.now (C.notes pass.old) done.old.task.control }
     requires first { (done.old.task.control.next ≡ 0) × (done.old.task.control.opened ≡ None) }
     requires begins { R.begins plan.now (bearer (C.notes pass.old)) extra.old (C.notes pass.old) }
     ensures area { C.is_pass cells.now pass.new }
-    ensures runs { Runs R.course (C.plan cells.now) (C.notes pass.old) (C.notes pass.new) done.old done.new }
+    ensures runs { Runs R.course plan.now (C.notes pass.old) (C.notes pass.new) done.old done.new }
     ensures ends { (sets : _) → R.ends plan.now done.old.task done.new.task extra.new sets }
 {
     let ending = runner.run(cells, pass, tables, plan, extra, &mut done.task);
@@ -79,7 +79,13 @@ fn run_slot<'a, C: Cells, G: Gate, R: Runner<C>>(
 
 /// Runs the tasks of all slots that have a pass, with a thread for each slot. The first of them is the task of this
 /// number.
-fn run_slots<'a, T: Threads + Sync, C: Cells + Sync, G: Gate + Sync, R: Runner<C> + Sync>(
+fn run_slots<
+    'a,
+    T: Threads + Sync,
+    C: Cells<Pass: Send> + Sync,
+    G: Gate + Sync,
+    R: Runner<C> + Sync,
+>(
     rt: &T,
     cells: &C,
     gate: &G,
@@ -100,7 +106,7 @@ fn run_slots<'a, T: Threads + Sync, C: Cells + Sync, G: Gate + Sync, R: Runner<C
     }
     let count = slots.len();
     let work = |t: usize, slot: &mut Slot<'_, C::Pass, R::Extra>|
-        requires { (first + t < TASK_LIMIT) × CanRun (C.is_pass cells.now) C.notes R.begins plan.now tables.now.places slot.now }
+        requires { (C.plan cells.now ≡ plan.now) × (first + t < TASK_LIMIT) × CanRun (C.is_pass cells.now) C.notes R.begins plan.now tables.now.places slot.now }
         ensures { RunsSlot R.course (C.is_pass cells.entry.now) C.notes R.ends plan.entry.now slot.entry.now slot.exit.now slot.entry.now.pass }
     { run_slot(cells, gate, runner, tables, plan, first + t, slot) };
     thread::for_each_mut(rt, slots, count, &work);
@@ -136,7 +142,13 @@ fn range_of(job: &Job, phase: u32) -> Range<usize>
 }
 
 /// Runs the phase's tasks, whose slots alone have passes, each on a thread of its own.
-fn run_those<'a, T: Threads + Sync, C: Cells + Sync, G: Gate + Sync, R: Runner<C> + Sync>(
+fn run_those<
+    'a,
+    T: Threads + Sync,
+    C: Cells<Pass: Send> + Sync,
+    G: Gate + Sync,
+    R: Runner<C> + Sync,
+>(
     rt: &T,
     cells: &C,
     gate: &G,
@@ -157,7 +169,16 @@ fn run_those<'a, T: Threads + Sync, C: Cells + Sync, G: Gate + Sync, R: Runner<C
 {
     let range = range_of(job, phase);
     let first = range.start;
-    run_slots(rt, cells, gate, runner, tables, plan, first, &mut slots[range]);
+    run_slots(
+        rt,
+        cells,
+        gate,
+        runner,
+        tables,
+        plan,
+        first,
+        &mut slots[range],
+    );
 }
 
 /// Splits off a pass for each task of the phase, in job order.
@@ -165,11 +186,13 @@ fn split_all<'a, C: Forks, E: Drop>(
     cells: &C,
     root: &mut C::Pass,
     job: &Job,
+    plan: &Plan,
     phase: u32,
     slots: &mut [Slot<'a, C::Pass, E>],
 )
     requires area { C.is_pass cells.now root.old }
-    requires plan { (C.plan cells.now).tasks ≡ tasks_from 0 job.now.tasks phase }
+    requires cells { C.plan cells.now ≡ plan.now }
+    requires plan { plan.now.tasks ≡ tasks_from 0 job.now.tasks phase }
     requires root { (C.notes root.old).bears ≡ None }
     requires given { (t : ℕ) → (C.notes root.old).given t ≡ false }
     requires out { (t : ℕ) → (C.notes root.old).out t ≡ false }
@@ -178,7 +201,7 @@ fn split_all<'a, C: Forks, E: Drop>(
     ensures job { IsJob job.now }
     ensures area { C.is_pass cells.now root.new }
     ensures notes { HasSplit job.now phase (length job.now.tasks) (C.notes root.old) (C.notes root.new) }
-    ensures passes { AreSplit (C.is_pass cells.now) C.notes (C.plan cells.now) (C.notes root.old) job.now phase (length job.now.tasks) slots.old slots.new }
+    ensures passes { AreSplit (C.is_pass cells.now) C.notes plan.now (C.notes root.old) job.now phase (length job.now.tasks) slots.old slots.new }
 {
     let count = job.task_count();
     for t in 0..count {
@@ -209,16 +232,23 @@ pub fn equip_all<'a, C: Cells, R: Runner<C>>(
     let count = job.task_count();
     for t in 0..count {
         if is_of(job, t, phase) {
+            let slot = &mut slots[t];
             let control = plan.control_of(alloc, TaskNo(t as u32))?;
             let extra = runner.extra(alloc, plan, TaskNo(t as u32))?;
-            equip(&mut slots[t], control, extra);
+            equip(slot, control, extra);
         }
     }
     Ok(())
 }
 
 /// Runs the phase's tasks: splits off a pass for each, runs all at once, and joins the passes.
-pub fn run_tasks<'a, T: Threads + Sync, C: Forks + Sync, G: Gate + Sync, R: Runner<C> + Sync>(
+pub fn run_tasks<
+    'a,
+    T: Threads + Sync,
+    C: Forks<Pass: Send> + Sync,
+    G: Gate + Sync,
+    R: Runner<C> + Sync,
+>(
     rt: &T,
     cells: &C,
     root: &mut C::Pass,
@@ -252,11 +282,11 @@ pub fn run_tasks<'a, T: Threads + Sync, C: Forks + Sync, G: Gate + Sync, R: Runn
 {
     // Read for what every plan keeps.
     let _ = plan.places_len();
-    split_all(cells, root, job, phase, slots);
+    split_all(cells, root, job, plan, phase, slots);
     run_those(rt, cells, gate, runner, job, tables, plan, phase, slots);
     let count = job.task_count();
     for t in 0..count {
-        if let Some(pass) = take(&mut slots[t]) {
+        if let Some(pass) = take_at(slots, t) {
             cells.join(root, pass);
         }
     }

@@ -15,8 +15,8 @@ use std::alloc::Global;
 
 /// Makes areas and finishes them, and keeps what each finished one tells.
 pub trait Areas {
-    /// The cells of an area, which threads share.
-    type C: Forks + Sync + Drop;
+    /// The cells of an area, which threads share, each with a pass that was sent to it.
+    type C: Forks<Pass: Send> + Sync + Drop;
 
     /// The tallies of the areas that were finished, in order.
     ghost ledger: { Self → List Tally };

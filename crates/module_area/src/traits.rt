@@ -12,7 +12,7 @@ use cov_base::{Bits, Fact, PlaceNo, SessNo, TaskNo};
 /// less than 2^62; it raises the count of its own kind by one, `lift` only where it answers true.
 pub trait Cells {
     /// In which a task's thread carries what it has done and knows.
-    type Pass: Send + Drop;
+    type Pass: Drop;
 
     /// The plan that the area was made for.
     ghost plan: { Self → PlanView };

@@ -50,7 +50,7 @@ pub record Answered (plan : PlanView) (old new : Notes) (last : ℕ → ℕ → 
   pub shown : (s p : ℕ) (f : Fact) → has_fact (facts_under plan s p pairs (at_places plan.places visits)) f ≡ true → IsShown new s p f
   pub nothing_else : (s p : ℕ) (f : Fact) → new.marked s p f ≡ true → old.marked s p f ≡ true ⊎ has_fact (facts_under plan s p pairs (at_places plan.places visits)) f ≡ true
 
--- it has planted and closed nothing
+-- it has planted and closed nothing, and knows of no lower tag
 pub record LeavesSessions (old new : Notes) : Type 0 where
   pub seen : (p : ℕ) → old.seen p ≤ new.seen p
   pub last : new.last ≡ old.last
@@ -63,7 +63,8 @@ pub record Makes (plan : PlanView) (old new : Notes) (visits : List Visit) : Typ
   pub answered : Answered plan old new (λ before. old.last) visits
   pub still : LeavesSessions old new
 
--- It has made the visits of an instruction, and then changed its task's sessions as the call asks, if there is one.
+-- It has made the visits of an instruction, and behind all of them has changed its task's sessions as the call that the
+-- instruction executes asks, if it is one.
 pub record Turns (plan : PlanView) (old new : Notes) (visits : List Visit) (c : ControlView) (call : Option ℕ) : Type 0 where
   pub mid : Notes
   pub makes : Makes plan old mid visits

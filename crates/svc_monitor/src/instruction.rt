@@ -45,7 +45,7 @@ fn show<C: Cells>(cells: &C, pass: &mut C::Pass, tables: &Tables, met: Met, cpu:
 
 /// Executes the subject of an EX that was begun, and makes its visit. Code 6 exactly at an odd address, else code 5
 /// exactly where its first halfword is inaccessible, else code 3 exactly where it is itself EX, of which no fact is
-/// marked.
+/// marked. Before what it does a session is opened or closed where it is SVC 4 or 5, by its number after the OR.
 fn step_subject<C: Cells, P: Space>(
     cells: &C,
     pass: &mut C::Pass,
@@ -89,7 +89,8 @@ fn step_subject<C: Cells, P: Space>(
 /// One instruction of the task, of which neither budget nor return address is tested: it ends or goes on as over
 /// modules that were never planted, and the pass makes its visits: each fetch's answer is kept, and what a
 /// visit shows under a session's odd tag is marked for that session alone. Then, and before what the instruction does,
-/// SVC 4 opens the next session of the control and SVC 5 closes the open one.
+/// SVC 4, itself or as the subject of EX, opens the next session of the control where none is open, and SVC 5 closes the
+/// open one. The pass is a task's, tied to the control.
 pub fn step<C: Cells, P: Space>(
     cells: &C,
     pass: &mut C::Pass,

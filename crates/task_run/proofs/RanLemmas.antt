@@ -1,5 +1,5 @@
 -- What a task's own run has come to, in one record.
-use Rattle.std.proofs.Common.{◌≡◌, ◌≤◌, ℕ, None}
+use Rattle.std.proofs.Common.{◌≡◌, ◌≤◌, None}
 use Rattle.s370_state.specs.declared.endings.Ending.{Ending}
 use Rattle.module_area.specs.Notes.{Notes}
 use Rattle.module_area.specs.PlanView.{PlanView, IsPlan}

@@ -1,6 +1,5 @@
 -- One instruction more of a run.
 use Rattle.std.proofs.Common.{◌≡◌, ℕ, ◌+◌, ◌-◌, ◌*◌, ◌<◌, ◌≤◌, zero, suc, true, false, Option, List, [], ◌∷◌, ◌++◌, length, inl, inr, refl, sym, ◌∙◌, ap, arith, length-append}
-use Rattle.std.proofs.lemmas.Bool.{cond_both}
 use Rattle.std.proofs.lemmas.List.{append_assoc, append-nil}
 use Rattle.cov_base.specs.declared.limits.TheConstants.{PLACE_LIMIT}
 use Rattle.cov_base.specs.Memory.{Memory}
@@ -12,22 +11,18 @@ use Rattle.s370_exec.specs.Calls.{call_of}
 use Rattle.s370_exec.specs.Solo.{Run, solo_step, run_on, run_ended, solo_run, has_returned}
 use Rattle.module_area.specs.PlanView.{PlanView, IsPlan}
 use Rattle.module_area.specs.Notes.{Notes, calls}
-use Rattle.module_area.specs.Executions.{is_place, visits_at_places}
-use Rattle.module_area.specs.declared.places.Place.{Place}
 use Rattle.module_area.specs.Control.{ControlView, control_after}
 use Rattle.module_area.specs.Parties.{Has}
 use Rattle.svc_monitor.specs.Answered.{Turns}
 use Rattle.task_run.specs.Called.{calls_on, Follows}
 use Rattle.task_run.proofs.VisitLemmas.{step_visits}
 use Rattle.task_run.proofs.FollowsLemmas.{Follows-none, Follows-more}
-use Rattle.s370_exec.proofs.TraceLemmas.{solo_step-visits}
 
 -- i instructions of the run have led to this state, which the pass has made, and to this control
 pub record LedTo (m : Memory) (plan : PlanView) (old new : Notes) (c d : ControlView) (budget : ℕ) (first : State) (i : ℕ) (now : State) : Type 0 where
   pub trace : List Visit
   pub called : List (Option ℕ)
   pub follows : Follows plan old new trace called c d
-  pub size : length trace ≤ 2 * i
   pub count : length called ≡ i
   pub before : (v : Visit) → Has v trace → v.before < i
   pub run : solo_run m budget first ≡ run_on m (budget - i) now trace
@@ -39,7 +34,6 @@ LedTo-start m plan n c budget s = let all : budget - 0 ≡ budget = omega arith 
   trace = [];
   called = [];
   follows = Follows-none plan n c;
-  size = omega arith;
   count = refl;
   before = λ v there. absurd there;
   run = rw all refl;
@@ -114,7 +108,6 @@ LedTo-more m plan old mid new c d e budget first i s t is done r lt here next st
   trace = r.trace ++ (solo_step m s).visits;
   called = r.called ++ call_of m s ∷ [];
   follows = follows_one m plan old mid new c d e budget first i s is done r a;
-  size = omega (arith, r.size, solo_step-visits m s, length-append r.trace (solo_step m s).visits);
   count = omega (arith, r.count, length-append r.called (call_of m s ∷ []));
   before = λ v there. in_both v r.trace (solo_step m s).visits i r.before (λ w h. step_visits m s w h ∙ done) there;
   run = r.run ∙ ap (λ k. run_on m k s r.trace) (left budget i lt) ∙ run_on-more m (budget - (i + 1)) s t r.trace here next state;
@@ -157,8 +150,3 @@ IsRun-spent m plan old new c d budget first i s r all here =
     let run : solo_run m budget first ≡ run_ended Spent s r.trace = r.run ∙ ap (λ k. run_on m k s r.trace) none ∙ run_on-spent m s r.trace here in
     let rest : calls_on m budget first ≡ r.called = r.rest ∙ (ap (λ k. r.called ++ calls_on m k s) none ∙ (ap (λ ks. r.called ++ ks) (calls_on-spent m s) ∙ append-nil r.called)) in
     rw (run, rest) (record { ending = refl; state = refl; follows = r.follows; few = omega (arith, r.few, all) })
-
-pub visits-most : (places : List Place) (trace : List Visit) → visits_at_places places trace ≤ length trace
-visits-most places [] = omega arith
-visits-most places (v ∷ vs) =
-    cond_both (is_place places v.at) 1 0 (λ n. n + visits_at_places places vs ≤ length (v ∷ vs)) (λ e. omega (arith, visits-most places vs)) (λ e. omega (arith, visits-most places vs))

@@ -33,7 +33,7 @@ same_sets a b h =
     let stayed : a.stayed ≡ b.stayed = h Stayed in
     λ i. record { ran = ran i; went = went i; stayed = stayed i }
 
-has_fact-full_of : (k : Kind) (f : Fact) → is_of_kind k f ≡ true → has_fact (full_of k) f ≡ true
+pub has_fact-full_of : (k : Kind) (f : Fact) → is_of_kind k f ≡ true → has_fact (full_of k) f ≡ true
 has_fact-full_of Straight Ran h = refl
 has_fact-full_of Straight Went h = h
 has_fact-full_of Straight Stayed h = h
@@ -59,7 +59,7 @@ facts_at-kind place (v ∷ vs) f h =
 
 -- several traces are as one
 
-has_fact-union : (a b : FactSet) (f : Fact) → has_fact (union a b) f ≡ (has_fact a f || has_fact b f)
+pub has_fact-union : (a b : FactSet) (f : Fact) → has_fact (union a b) f ≡ (has_fact a f || has_fact b f)
 has_fact-union a b Ran = refl
 has_fact-union a b Went = refl
 has_fact-union a b Stayed = refl

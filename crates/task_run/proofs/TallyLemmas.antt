@@ -1,5 +1,5 @@
 -- How many places the calls of a task plant and close.
-use Rattle.std.proofs.Common.{◌≡◌, ℕ, ◌+◌, Bool, true, false, ◌==◌, if◌then◌else◌, Option, Some, None, List, [], ◌∷◌, take, get_or, refl, sym, ◌∙◌, ap, arith}
+use Rattle.std.proofs.Common.{◌≡◌, ℕ, ◌+◌, Bool, true, false, ◌==◌, if◌then◌else◌, Option, Some, None, List, [], ◌∷◌, take, get_or, refl, ap, arith}
 use Rattle.std.proofs.lemmas.List.Sums.{sum_by_more}
 use Rattle.cov_base.specs.declared.numbers.SessNo.{SessNo}
 use Rattle.module_area.specs.PlanView.{PlanView, IsPlan}
@@ -7,7 +7,7 @@ use Rattle.module_area.specs.Notes.{Notes}
 use Rattle.module_area.specs.Tied.{IsTied}
 use Rattle.module_area.specs.Control.{ControlView, to_open, opening, closing, after_open, after_end, after_call, control_after}
 use Rattle.planter.proofs.TieLemmas.{next_at}
-use Rattle.task_run.specs.Called.{control_by, notes_by, places_of, places_in_all, Follows, HasPlanted}
+use Rattle.task_run.specs.Called.{control_by, notes_by, places_of, places_in_all, HasPlanted}
 use Rattle.task_run.proofs.WindowLemmas.{IsBound, bound_call}
 
 abbrev so_far : PlanView → ControlView → ℕ

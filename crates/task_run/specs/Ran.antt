@@ -23,8 +23,8 @@ run_from course plan t = course.run plan (memory_of_space t.space) t.budget (sta
 abbrev pub walk_from : Course → PlanView → Task → Walk
 walk_from course plan t = walk course plan (memory_of_space t.space) t.budget (stands t 0)
 
--- Ending, state and count are those of the course. The pass has made its visits, has opened and closed the task's sessions
--- by its calls, and has made at most so many calls of the area.
+-- Ending, state and count are those of the course. The pass has made its visits, and has opened and closed the task's
+-- sessions by its supervisor calls; the calls of the area that this took are at most so many for each instruction.
 pub record RanAs (course : Course) (plan : PlanView) (before after : Notes) (old new : Task) (result : Ending) : Type 0 where
   pub memory : memory_of_space new.space ≡ memory_of_space old.space
   pub budget : new.budget ≡ old.budget

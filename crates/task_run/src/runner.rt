@@ -68,6 +68,7 @@ pub trait Runner<C: Cells> {
 pub struct NoExtra;
 
 /// Runs a task as it runs alone.
+#[derive(Drop)]
 pub struct PlainRunner;
 
 impl<C: Cells> Runner<C> for PlainRunner {

@@ -1,5 +1,4 @@
 use Rattle.std.proofs.Common.{◌≡◌, ◌+◌}
-use Rattle.task_run.specs.Courses.{solo}
 use Rattle.job_run.specs.Slots.{AreEmpty}
 use Rattle.job_run.specs.Tasks.{AreRun}
 use Rattle.job_run.proofs.PhaseLemmas.{HasRunTo}
@@ -7,8 +6,8 @@ use Rattle.job_run.proofs.phase.run_phases.Given as goal
 
 abbrev pub invariant-loop-phase : goal.invariant-loop-phase
 invariant-loop-phase g l = record {
-  tasks : AreRun solo l.job l.tables.places l.phase l.slots;
+  tasks : AreRun g.R.Runner.course g.R.Runner.ends l.job l.tables.places l.phase l.slots;
   empty : AreEmpty l.slots;
   made : g.A.Areas.made l.areas ≡ g.A.Areas.made l.initial.areas + l.phase;
-  areas : HasRunTo solo l.job l.tables.places l.phase l.finals.items (g.A.Areas.ledger l.initial.areas) (g.A.Areas.ledger l.areas) (g.A.Areas.finals l.initial.areas) (g.A.Areas.finals l.areas);
+  areas : HasRunTo g.R.Runner.course l.job l.tables.places l.phase l.finals.items (g.A.Areas.ledger l.initial.areas) (g.A.Areas.ledger l.areas) (g.A.Areas.finals l.initial.areas) (g.A.Areas.finals l.areas);
 }

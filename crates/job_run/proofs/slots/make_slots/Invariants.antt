@@ -7,6 +7,6 @@ use Rattle.job_run.proofs.slots.make_slots.Given as goal
 abbrev pub invariant-loop-t : goal.invariant-loop-t
 invariant-loop-t g l = record {
   count : length l.slots.items ≡ l.t;
-  begun : (k : ℕ) (d : Slot _) → k < length l.slots.items → HasNotRun l.job l.tables.places k (get_or l.slots.items k d).done;
+  begun : (k : ℕ) (d : Slot _ _) → k < length l.slots.items → HasNotRun l.job l.tables.places k (get_or l.slots.items k d).done;
   empty : AreEmpty l.slots.items;
 }

@@ -1,15 +1,14 @@
-use Rattle.std.proofs.Common.{◌≡◌, ℕ, ◌+◌, ◌<◌, Bool, true, not, ◌&&◌, nat_eq, Option, unwrap_or, length, set, refl, sym, ◌∙◌, ap, subst, arith}
+use Rattle.std.proofs.Common.{◌≡◌, ℕ, ◌+◌, ◌<◌, Bool, true, not, ◌&&◌, nat_eq, Option, None, unwrap_or, List, get_or, length, set, refl, sym, ◌∙◌, ap, subst, arith}
 use Rattle.std.proofs.lemmas.List.{length-set}
 use Rattle.module_area.specs.Notes.{Notes, bearer, after_join}
-use Rattle.session_book.specs.JobView.{IsTask}
-use Rattle.session_book.specs.Sessions.{task_of}
-use Rattle.task_run.specs.Courses.{solo}
-use Rattle.task_run.proofs.CourseLemmas.{solo_is}
-use Rattle.job_run.specs.Runs.{trace_by}
-use Rattle.job_run.specs.Slots.{HasSeen, in_phase}
-use Rattle.job_run.proofs.PhaseLemmas.{HasObserved, HasObserved-start, HasObserved-one, HasObserved-other, pass_calls}
-use Rattle.job_run.proofs.SlotLemmas.{none_other, AreOver-start, AreOver-next, AreOver-all, AreRun-after, pass_of, not_of, set_done, left_out, left_start, left_here, left_next, left_other, none_left}
-use Rattle.job_run.proofs.TaskLemmas.{AreRun-same, is_task}
+use Rattle.module_area.specs.PlanView.{PlanView}
+use Rattle.job_run.specs.Runs.{walk_by}
+use Rattle.job_run.specs.Slots.{AreOver, HasSeen, in_phase}
+use Rattle.job_run.specs.Tasks.{AreRun}
+use Rattle.job_run.specs.declared.slots.Slot.{Slot}
+use Rattle.job_run.proofs.PhaseLemmas.{HasObserved, HasObserved-start, HasObserved-one, HasObserved-other, HasObserved-all, HasJoined-all}
+use Rattle.job_run.proofs.SlotLemmas.{all_ready, none_other, AreOver-start, AreOver-next, AreOver-all, AreRun-after, pass_of, not_of, set_done, set_extra, left_out, left_start, left_here, left_next, left_other, none_left}
+use Rattle.job_run.proofs.TaskLemmas.{AreRun-same, no_slot}
 use Rattle.job_run.proofs.threads.run_tasks.Given as given
 use Rattle.job_run.proofs.threads.run_tasks.Goals as goal
 use Rattle.job_run.proofs.threads.run_tasks.Goals.{in-Some, in_default}
@@ -22,23 +21,29 @@ loop-t-init g c =
       area = s.area;
       root = ap (λ (n : Notes). n.bears) s.notes.same ∙ c.requires.root;
       out = λ t. s.notes.out t ∙ left_start c.args.job.now c.args.phase t;
-      observed = HasObserved-start solo (g.C.Cells.plan c.args.cells.now) before (g.C.Cells.notes c.split_all.new.root) c.args.job.now c.args.tables.now.places c.args.phase (length c.args.job.now.tasks) s.notes;
-      over = AreOver-start solo (g.C.Cells.is_pass c.args.cells.now) g.C.Cells.notes before (g.C.Cells.plan c.args.cells.now) c.args.job.now c.args.tables.now.places c.args.phase
-          c.args.slots.now c.split_all.new.slots c.run_those.new.slots c.requires.plan s.passes c.requires.tasks c.run_those.ensures.count c.run_those.ensures.runs;
-      tasks = AreRun-after solo (g.C.Cells.is_pass c.args.cells.now) g.C.Cells.notes before (g.C.Cells.plan c.args.cells.now) c.args.job.now c.args.tables.now.places c.args.phase
-          c.args.slots.now c.split_all.new.slots c.run_those.new.slots c.requires.plan s.passes c.requires.tasks c.run_those.ensures.count c.run_those.ensures.runs;
+      observed = HasObserved-start g.R.Runner.course c.args.plan.now before (g.C.Cells.notes c.split_all.new.root) c.args.job.now c.args.tables.now.places c.args.phase (length c.args.job.now.tasks)
+          c.requires.plan c.requires.unmarked s.notes;
+      over = AreOver-start g.R.Runner.course (g.C.Cells.is_pass c.args.cells.now) g.C.Cells.notes g.R.Runner.begins g.R.Runner.ends before c.args.plan.now c.args.job.now c.args.tables.now.places c.args.phase
+          c.args.slots.now c.split_all.new.slots c.run_those.new.slots c.places_len.ensures.plan s.job c.requires.plan c.requires.last c.requires.tasks.count s.passes c.requires.equipped c.run_those.ensures.count c.run_those.ensures.runs;
+      tasks = AreRun-after g.R.Runner.course (g.C.Cells.is_pass c.args.cells.now) g.C.Cells.notes g.R.Runner.begins g.R.Runner.ends before c.args.plan.now c.args.job.now c.args.tables.now.places c.args.phase
+          c.args.slots.now c.split_all.new.slots c.run_those.new.slots c.requires.plan s.passes c.requires.tasks c.requires.equipped c.run_those.ensures.count c.run_those.ensures.runs;
     }
+
+pub run_those-requires-clause-ready : goal.run_those-requires-clause-ready
+run_those-requires-clause-ready g c κs within =
+    all_ready (g.C.Cells.is_pass c.args.cells.now) g.C.Cells.notes g.R.Runner.begins (g.C.Cells.notes c.args.root.now) c.args.plan.now c.args.job.now c.args.tables.now.places c.args.phase c.args.slots.now c.split_all.new.slots
+    c.places_len.ensures.plan c.requires.plan c.requires.last c.requires.tasks.count c.split_all.ensures.passes c.requires.equipped
 
 pub run_those-requires-clause-others : goal.run_those-requires-clause-others
 run_those-requires-clause-others g c κs within =
-    none_other (g.C.Cells.is_pass c.args.cells.now) g.C.Cells.notes (g.C.Cells.plan c.args.cells.now) (g.C.Cells.notes c.args.root.now) c.args.job.now c.args.phase c.args.slots.now c.split_all.new.slots c.split_all.ensures.passes
+    none_other (g.C.Cells.is_pass c.args.cells.now) g.C.Cells.notes c.args.plan.now (g.C.Cells.notes c.args.root.now) c.args.job.now c.args.phase c.args.slots.now c.split_all.new.slots c.split_all.ensures.passes
 
 -- what the pass that is joined has seen
 seen_of : (g : given.Over) (c : goal.After-join-arg-1 g) → (in_phase c.args.job.now c.args.phase c.loop-t.t ≡ true) ×
-    HasSeen (g.C.Cells.is_pass c.args.cells.now) g.C.Cells.notes (g.C.Cells.plan c.args.cells.now) (g.C.Cells.notes c.args.root.now) (trace_by solo c.args.job.now c.args.tables.now.places c.loop-t.t) c.loop-t.t c.in-Some.pass
+    HasSeen (g.C.Cells.is_pass c.args.cells.now) g.C.Cells.notes c.args.plan.now (g.C.Cells.notes c.args.root.now) (walk_by g.R.Runner.course c.args.job.now c.args.tables.now.places) c.loop-t.t c.in-Some.pass
 seen_of g c =
-    pass_of solo (g.C.Cells.is_pass c.args.cells.now) g.C.Cells.notes (g.C.Cells.notes c.args.root.now) (g.C.Cells.plan c.args.cells.now) c.args.job.now c.args.tables.now.places c.args.phase c.loop-t.t c.loop-t.slots
-    c.index-slots-t.result c.in-Some.pass (omega (arith, c.loop-t-test.true, c.task_count-count.ensures.value, c.loop-t.invariant.tasks.count)) c.loop-t.invariant.over (sym c.take.ensures.pass ∙ c.in-Some.is)
+    pass_of g.R.Runner.course (g.C.Cells.is_pass c.args.cells.now) g.C.Cells.notes (g.C.Cells.notes c.args.root.now) c.args.plan.now c.args.job.now c.args.tables.now.places c.args.phase c.loop-t.t c.loop-t.slots
+    no_slot c.in-Some.pass (omega (arith, c.loop-t-test.true, c.task_count-count.ensures.value, c.loop-t.invariant.tasks.count)) c.loop-t.invariant.over (sym (c.take_at.ensures.pass no_slot) ∙ c.in-Some.is)
 
 pub join-requires-clause-other : goal.join-requires-clause-other
 join-requires-clause-other g c = (seen_of g c).1.area
@@ -55,9 +60,7 @@ join-requires-clause-out g c =
 pub join-requires-clause-room : goal.join-requires-clause-room
 join-requires-clause-room g c =
     let here : c.loop-t.t < length c.args.job.now.tasks = omega (arith, c.loop-t-test.true, c.task_count-count.ensures.value) in
-    let task : IsTask (length c.args.job.now.phases) (task_of c.args.job.now c.loop-t.t) = is_task c.args.job.now c.loop-t.t c.task_count-count.ensures.job here in
-    let calls = pass_calls solo (g.C.Cells.plan c.args.cells.now) (g.C.Cells.notes c.args.root.now) (g.C.Cells.notes c.in-Some.pass) c.args.job.now c.args.tables.now.places c.loop-t.t solo_is task (seen_of g c).1.observes in
-    omega (arith, here, calls, c.task_count-count.ensures.job.tasks, c.loop-t.invariant.observed.few, c.requires.room)
+    omega (arith, here, (seen_of g c).1.leaves.few, c.task_count-count.ensures.job.tasks, c.loop-t.invariant.observed.few, c.requires.room)
 
 pub loop-t-preserved : goal.loop-t-preserved
 loop-t-preserved g c =
@@ -67,16 +70,20 @@ loop-t-preserved g c =
     let mid : Notes = g.C.Cells.notes c.loop-t.root in
     let here : t < length c.args.job.now.tasks = omega (arith, c.loop-t-test.true, c.task_count-count.ensures.value) in
     let there : t < length c.loop-t.slots = omega (arith, here, i.tasks.count) in
-    let taken = AreOver-next solo (g.C.Cells.is_pass c.args.cells.now) g.C.Cells.notes before (g.C.Cells.plan c.args.cells.now) c.args.job.now c.args.tables.now.places c.args.phase t
-    c.loop-t.slots c.take.new.slot there c.take.ensures.none i.over in
-    let tasks = AreRun-same solo c.args.job.now c.args.tables.now.places (c.args.phase + 1) c.loop-t.slots (set c.loop-t.slots t c.take.new.slot) i.tasks (length-set c.loop-t.slots t c.take.new.slot)
-    (set_done c.loop-t.slots t c.take.new.slot c.index-slots-t.result there c.take.ensures.done) in
-    elim c.match-take.branch [
+    let e : Slot _ _ = record (get_or c.loop-t.slots t no_slot) { pass = None } in
+    let rest : c.take_at.new.slots ≡ set c.loop-t.slots t e = c.take_at.ensures.rest no_slot in
+    let taken = subst (λ (ss : List (Slot _ _)). AreOver g.R.Runner.course (g.C.Cells.is_pass c.args.cells.now) g.C.Cells.notes c.args.plan.now before c.args.job.now c.args.tables.now.places c.args.phase (t + 1) ss) (sym rest)
+    (AreOver-next g.R.Runner.course (g.C.Cells.is_pass c.args.cells.now) g.C.Cells.notes before c.args.plan.now c.args.job.now c.args.tables.now.places c.args.phase t c.loop-t.slots e there refl i.over) in
+    let tasks = subst (λ (ss : List (Slot _ _)). AreRun g.R.Runner.course g.R.Runner.ends c.args.job.now c.args.tables.now.places (c.args.phase + 1) ss) (sym rest)
+    (AreRun-same g.R.Runner.course g.R.Runner.ends c.args.job.now c.args.tables.now.places (c.args.phase + 1) c.loop-t.slots (set c.loop-t.slots t e) i.tasks (length-set c.loop-t.slots t e)
+    (set_done c.loop-t.slots t e no_slot there refl) (set_extra c.loop-t.slots t e no_slot there refl)) in
+    elim c.match-take_at.branch [
       | in-Some w ↦
-          let s = pass_of solo (g.C.Cells.is_pass c.args.cells.now) g.C.Cells.notes before (g.C.Cells.plan c.args.cells.now) c.args.job.now c.args.tables.now.places c.args.phase t c.loop-t.slots
-          c.index-slots-t.result w.in-Some.pass there i.over (sym c.take.ensures.pass ∙ w.in-Some.is) in
+          let s = pass_of g.R.Runner.course (g.C.Cells.is_pass c.args.cells.now) g.C.Cells.notes before c.args.plan.now c.args.job.now c.args.tables.now.places c.args.phase t c.loop-t.slots
+          no_slot w.in-Some.pass there i.over (sym (c.take_at.ensures.pass no_slot) ∙ w.in-Some.is) in
           let other : Notes = g.C.Cells.notes w.in-Some.pass in
-          let new : g.C.Cells.notes c.match-take.root ≡ after_join (g.C.Cells.plan c.args.cells.now) mid other = ap g.C.Cells.notes w.root-is ∙ w.join.ensures.notes in
+          let new : g.C.Cells.notes c.match-take_at.root ≡ after_join c.args.plan.now mid other =
+          ap g.C.Cells.notes w.root-is ∙ (w.join.ensures.notes ∙ ap (λ (p : PlanView). after_join p mid other) c.requires.cells) in
           let bears : bearer other ≡ t = ap (λ (o : Option ℕ). unwrap_or o 0) s.1.observes.grows.bears in
           record {
             area = rw (w.root-is) w.join.ensures.area;
@@ -84,19 +91,19 @@ loop-t-preserved g c =
             out = λ u. ap (λ (n : Notes). n.out u) new
                 ∙ (ap (λ (b : Bool). b && not (nat_eq u (bearer other))) (i.out u)
                 ∙ (ap (λ (k : ℕ). left_out c.args.job.now c.args.phase t u && not (nat_eq u k)) bears ∙ left_next c.args.job.now c.args.phase t u));
-            observed = subst (λ (n : Notes). HasObserved solo (g.C.Cells.plan c.args.cells.now) before n c.args.job.now c.args.tables.now.places c.args.phase (t + 1)) (sym new)
-                (HasObserved-one solo (g.C.Cells.plan c.args.cells.now) before mid other c.args.job.now c.args.tables.now.places c.args.phase t solo_is here s.0 (is_task c.args.job.now t c.task_count-count.ensures.job here) i.observed s.1.observes);
+            observed = subst (λ (n : Notes). HasObserved g.R.Runner.course c.args.plan.now before n c.args.job.now c.args.tables.now.places c.args.phase (t + 1)) (sym new)
+                (HasObserved-one g.R.Runner.course c.args.plan.now before mid other c.args.job.now c.args.tables.now.places c.args.phase t c.places_len.ensures.plan here s.0 i.observed s.1.observes s.1.leaves);
             over = taken;
             tasks = tasks;
           }
       | in_default w ↦
-          let not_here = not_of solo (g.C.Cells.is_pass c.args.cells.now) g.C.Cells.notes before (g.C.Cells.plan c.args.cells.now) c.args.job.now c.args.tables.now.places c.args.phase t c.loop-t.slots
-          c.index-slots-t.result there i.over (sym c.take.ensures.pass ∙ w.in_default.is) in
+          let not_here = not_of g.R.Runner.course (g.C.Cells.is_pass c.args.cells.now) g.C.Cells.notes before c.args.plan.now c.args.job.now c.args.tables.now.places c.args.phase t c.loop-t.slots
+          no_slot there i.over (sym (c.take_at.ensures.pass no_slot) ∙ w.in_default.is) in
           record {
             area = rw (w.root-is) i.area;
             root = rw (w.root-is) i.root;
             out = λ u. ap (λ (n : Notes). n.out u) (ap g.C.Cells.notes w.root-is) ∙ (i.out u ∙ left_other c.args.job.now c.args.phase t u not_here);
-            observed = rw (w.root-is) (HasObserved-other solo (g.C.Cells.plan c.args.cells.now) before mid c.args.job.now c.args.tables.now.places c.args.phase t here not_here i.observed);
+            observed = rw (w.root-is) (HasObserved-other g.R.Runner.course c.args.plan.now before mid c.args.job.now c.args.tables.now.places c.args.phase t here not_here i.observed);
             over = taken;
             tasks = tasks;
           }
@@ -105,7 +112,17 @@ loop-t-preserved g c =
 pub returns-clause-joined : goal.returns-clause-joined
 returns-clause-joined g c t = c.loop-t.invariant.out t ∙ none_left c.args.job.now c.args.phase c.loop-t.t t (omega (arith, c.loop-t-test.false, c.task_count-count.ensures.value))
 
+pub returns-clause-observes : goal.returns-clause-observes
+returns-clause-observes g c =
+    HasObserved-all g.R.Runner.course c.args.plan.now (g.C.Cells.notes c.args.root.now) (g.C.Cells.notes c.loop-t.root) c.args.job.now c.args.tables.now.places c.args.phase c.loop-t.t
+    (omega (arith, c.loop-t-test.false, c.task_count-count.ensures.value)) c.loop-t.invariant.observed
+
+pub returns-clause-joins : goal.returns-clause-joins
+returns-clause-joins g c =
+    HasJoined-all g.R.Runner.course c.args.plan.now (g.C.Cells.notes c.args.root.now) (g.C.Cells.notes c.loop-t.root) c.args.job.now c.args.tables.now.places c.args.phase c.loop-t.t
+    (omega (arith, c.loop-t-test.false, c.task_count-count.ensures.value)) c.loop-t.invariant.observed
+
 pub returns-clause-empty : goal.returns-clause-empty
 returns-clause-empty g c =
-    AreOver-all solo (g.C.Cells.is_pass c.args.cells.now) g.C.Cells.notes (g.C.Cells.notes c.args.root.now) (g.C.Cells.plan c.args.cells.now) c.args.job.now c.args.tables.now.places c.args.phase c.loop-t.t c.loop-t.slots
+    AreOver-all g.R.Runner.course (g.C.Cells.is_pass c.args.cells.now) g.C.Cells.notes (g.C.Cells.notes c.args.root.now) c.args.plan.now c.args.job.now c.args.tables.now.places c.args.phase c.loop-t.t c.loop-t.slots
     (omega (arith, c.loop-t-test.false, c.task_count-count.ensures.value, c.loop-t.invariant.tasks.count)) c.loop-t.invariant.over

@@ -7,5 +7,5 @@ invariant-loop-t g l = record {
   area : g.C.Cells.is_pass l.cells l.root;
   root : (g.C.Cells.notes l.root).bears ≡ None;
   split : HasSplit l.job l.phase l.t (g.C.Cells.notes l.initial.root) (g.C.Cells.notes l.root);
-  passes : AreSplit (g.C.Cells.is_pass l.cells) g.C.Cells.notes (g.C.Cells.plan l.cells) (g.C.Cells.notes l.initial.root) l.job l.phase l.t l.initial.slots l.slots;
+  passes : AreSplit (g.C.Cells.is_pass l.cells) g.C.Cells.notes l.plan (g.C.Cells.notes l.initial.root) l.job l.phase l.t l.initial.slots l.slots;
 }

@@ -7,7 +7,7 @@ use Rattle.planter.proofs.TieLemmas.{open_kept, from_one, few_places, may_close,
 use Rattle.planter.proofs.control.close_open.Goals as goal
 
 pub close_places-requires-clause-room : goal.close_places-requires-clause-room
-close_places-requires-clause-room g c κs within =
+close_places-requires-clause-room g c =
     let n = g.C.Cells.notes c.args.pass.now in
     let is : c.args.control.now.opened ≡ Some c.in-Some.s = sym (ap (λ (d : ControlView). d.opened) c.control.view_is) ∙ c.in-Some.is in
     let kept = open_kept c.args.plan.now n c.args.control.now c.in-Some.s c.requires.tied is in
@@ -17,12 +17,12 @@ close_places-requires-clause-room g c κs within =
     omega (arith, few, size, room)
 
 pub close_places-requires-clause-session : goal.close_places-requires-clause-session
-close_places-requires-clause-session g c κs within =
+close_places-requires-clause-session g c =
     let is : c.args.control.now.opened ≡ Some c.in-Some.s = sym (ap (λ (d : ControlView). d.opened) c.control.view_is) ∙ c.in-Some.is in
     from_one c.args.plan.now (g.C.Cells.notes c.args.pass.now) c.places_under.ensures.plan c.in-Some.s.0 (open_kept c.args.plan.now (g.C.Cells.notes c.args.pass.now) c.args.control.now c.in-Some.s c.requires.tied is)
 
 pub close_places-requires-clause-each : goal.close_places-requires-clause-each
-close_places-requires-clause-each g c κs within =
+close_places-requires-clause-each g c =
     let is : c.args.control.now.opened ≡ Some c.in-Some.s = sym (ap (λ (d : ControlView). d.opened) c.control.view_is) ∙ c.in-Some.is in
     let n = g.C.Cells.notes c.args.pass.now in
     rw (c.requires.plan, c.places_under.ensures.value) (may_close c.args.plan.now n c.places_under.ensures.plan c.in-Some.s.0 (open_kept c.args.plan.now n c.args.control.now c.in-Some.s c.requires.tied is) (c.requires.tied.planted c.in-Some.s is))

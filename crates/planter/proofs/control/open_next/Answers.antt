@@ -7,7 +7,7 @@ use Rattle.planter.proofs.TieLemmas.{next_kept, next_later, next_small, from_one
 use Rattle.planter.proofs.control.open_next.Goals as goal
 
 pub plant_places-requires-clause-room : goal.plant_places-requires-clause-room
-plant_places-requires-clause-room g c κs within =
+plant_places-requires-clause-room g c =
     let n = g.C.Cells.notes c.args.pass.now in
     let is : to_open c.args.control.now ≡ Some c.in-Some.s = sym c.to_open.ensures ∙ c.in-Some.is in
     let kept = next_kept c.args.plan.now n c.args.control.now c.requires.tied c.in-Some.s is in
@@ -17,13 +17,13 @@ plant_places-requires-clause-room g c κs within =
     omega (arith, few, size, room)
 
 pub plant_places-requires-clause-session : goal.plant_places-requires-clause-session
-plant_places-requires-clause-session g c κs within =
+plant_places-requires-clause-session g c =
     let n = g.C.Cells.notes c.args.pass.now in
     let is : to_open c.args.control.now ≡ Some c.in-Some.s = sym c.to_open.ensures ∙ c.in-Some.is in
     from_one c.args.plan.now n c.places_under.ensures.plan c.in-Some.s.0 (next_kept c.args.plan.now n c.args.control.now c.requires.tied c.in-Some.s is)
 
 pub plant_places-requires-clause-each : goal.plant_places-requires-clause-each
-plant_places-requires-clause-each g c κs within =
+plant_places-requires-clause-each g c =
     let n = g.C.Cells.notes c.args.pass.now in
     let is : to_open c.args.control.now ≡ Some c.in-Some.s = sym c.to_open.ensures ∙ c.in-Some.is in
     let kept = next_kept c.args.plan.now n c.args.control.now c.requires.tied c.in-Some.s is in

@@ -68,13 +68,13 @@ returns-in-Err-fetched-clause-turns g c = λ d. rw (rest_refused g c d, called_r
     c.requires.over.same c.in-Ok.ensures.placed c.in-Ok.ensures.met))
 
 pub show-requires-clause-working : goal.show-requires-clause-working
-show-requires-clause-working g c κs within = working_later 1 _ _ (IsLater-met _ _ _ c.in-Ok.met c.in-Ok.ensures.met) c.requires.working
+show-requires-clause-working g c = working_later 1 _ _ (IsLater-met _ _ _ c.in-Ok.met c.in-Ok.ensures.met) c.requires.working
 
 pub step_subject-requires-clause-working : goal.step_subject-requires-clause-working
-step_subject-requires-clause-working g c κs within = working_later 3 _ _ (IsLater-settled _ _ _ _ c.in-Ok.met _ c.in-Ok.ensures.met c.show.ensures.shows) c.requires.working
+step_subject-requires-clause-working g c = working_later 3 _ _ (IsLater-settled _ _ _ _ c.in-Ok.met _ c.in-Ok.ensures.met c.show.ensures.shows) c.requires.working
 
 pub step_subject-requires-clause-tied : goal.step_subject-requires-clause-tied
-step_subject-requires-clause-tied g c κs within = tied_later _ 3 _ _ _ (IsLater-settled _ _ _ _ c.in-Ok.met _ c.in-Ok.ensures.met c.show.ensures.shows) c.requires.tied
+step_subject-requires-clause-tied g c = tied_later _ 3 _ _ _ (IsLater-settled _ _ _ _ c.in-Ok.met _ c.in-Ok.ensures.met c.show.ensures.shows) c.requires.tied
 
 -- an EX: its own visit, and those of its subject
 executes : (g : given.Over) (c : goal.After-step_subject g) (d : ℕ) →
@@ -144,11 +144,11 @@ called g c d =
     (sym c.is_execute.ensures ∙ c.if-is_execute.false)
 
 pub answer-requires-clause-tied : goal.answer-requires-clause-tied
-answer-requires-clause-tied g c κs within =
+answer-requires-clause-tied g c =
     subst (λ (p : PlanView). IsTied p (g.C.Cells.notes c.show.new.pass) c.args.control.now) c.requires.plan (tied_later _ 3 _ _ _ (IsLater-settled _ _ _ _ c.in-Ok.met _ c.in-Ok.ensures.met c.show.ensures.shows) c.requires.tied)
 
 pub answer-requires-clause-room : goal.answer-requires-clause-room
-answer-requires-clause-room g c κs within = let l = (IsLater-settled _ _ _ _ c.in-Ok.met _ c.in-Ok.ensures.met c.show.ensures.shows) in omega (arith, l.few, c.requires.room)
+answer-requires-clause-room g c = let l = (IsLater-settled _ _ _ _ c.in-Ok.met _ c.in-Ok.ensures.met c.show.ensures.shows) in omega (arith, l.few, c.requires.room)
 
 pub returns-clause-tied : goal.returns-clause-tied
 returns-clause-tied g c = subst (λ (p : PlanView). IsTied p (g.C.Cells.notes c.answer.new.pass) c.answer.new.control) (sym c.requires.plan) c.answer.ensures.tied

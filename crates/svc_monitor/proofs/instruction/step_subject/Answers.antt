@@ -68,14 +68,14 @@ returns-in-Err-fetch_subject-clause-turns g c = λ d. rw (unread g c d, called_u
     c.requires.over.same c.in-Ok.ensures.placed c.in-Ok.ensures.met))
 
 pub show-requires-clause-working : goal.show-requires-clause-working
-show-requires-clause-working g c κs within = working_later 1 _ _ (IsLater-met _ _ _ c.in-Ok.met c.in-Ok.ensures.met) c.requires.working
+show-requires-clause-working g c = working_later 1 _ _ (IsLater-met _ _ _ c.in-Ok.met c.in-Ok.ensures.met) c.requires.working
 
 pub answer-requires-clause-tied : goal.answer-requires-clause-tied
-answer-requires-clause-tied g c κs within =
+answer-requires-clause-tied g c =
     subst (λ (p : PlanView). IsTied p (g.C.Cells.notes c.show.new.pass) c.args.control.now) c.requires.plan (tied_later _ 3 _ _ _ (IsLater-settled _ _ _ _ c.in-Ok.met _ c.in-Ok.ensures.met c.show.ensures.shows) c.requires.tied)
 
 pub answer-requires-clause-room : goal.answer-requires-clause-room
-answer-requires-clause-room g c κs within = let l = (IsLater-settled _ _ _ _ c.in-Ok.met _ c.in-Ok.ensures.met c.show.ensures.shows) in omega (arith, l.few, c.requires.room)
+answer-requires-clause-room g c = let l = (IsLater-settled _ _ _ _ c.in-Ok.met _ c.in-Ok.ensures.met c.show.ensures.shows) in omega (arith, l.few, c.requires.room)
 
 begun : (g : given.Over) (c : goal.After-execute g) (d : ℕ) →
     let s = state_of c.args.cpu.now (g.P.Space.bytes c.args.space.now) c.args.io.now d in

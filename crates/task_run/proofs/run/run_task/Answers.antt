@@ -20,11 +20,11 @@ loop-done-init g c = record {
 }
 
 pub step-requires-clause-room : goal.step-requires-clause-room
-step-requires-clause-room g c κs within =
+step-requires-clause-room g c =
     omega (arith, c.loop-done.invariant.run.few, c.requires.room)
 
 pub step-requires-clause-working : goal.step-requires-clause-working
-step-requires-clause-working g c κs within = ap (λ (o : Option ℕ). is_some o) c.loop-done.invariant.run.follows.observes.grows.bears ∙ c.requires.working
+step-requires-clause-working g c = ap (λ (o : Option ℕ). is_some o) c.loop-done.invariant.run.follows.observes.grows.bears ∙ c.requires.working
 
 pub loop-done-preserved : goal.loop-done-preserved
 loop-done-preserved g c =
