@@ -1,5 +1,5 @@
 -- What has come of an input, piece by piece.
-use Rattle.std.proofs.Common.{◌≡◌, ℕ, ◌+◌, ◌-◌, ◌<◌, ◌≤◌, Bool, true, false, Option, Some, None, Result, Ok, Err, IfErr, OnOk, List, [], ◌∷◌, ◌++◌, length, take, drop, refl, ap, subst, sym, ◌∙◌, arith, append_assoc, append-nil, length-append, take-append-drop}
+use Rattle.std.proofs.Common.{◌≡◌, ℕ, ◌+◌, ◌-◌, ◌<◌, ◌≤◌, Bool, true, false, Option, Some, None, Result, Ok, Err, IfErr, OnOk, List, [], ◌∷◌, ◌++◌, length, take, drop, refl, ap, subst, sym, ◌∙◌, arith, append_assoc, append-nil, length-append}
 use Rattle.std.proofs.Math.Seq.{drop-append_seam}
 use Rattle.std.specs.Io.KnownBytes.{Consumes}
 use Rattle.cov_outside.specs.Whole.{HasMoreThan}
@@ -11,7 +11,7 @@ use Rattle.job_text.specs.Lines.{lines_of}
 use Rattle.job_text.specs.Pieces.{IsEnded}
 use Rattle.job_text.specs.Refusals.{IsRead, IsOnly, IsBadAt, IsRefusal}
 use Rattle.job_text.specs.Spells.{Spells}
-use Rattle.job_text.specs.Taken.{Reader, IsFed, told_at, told, has_ended_at, has_ended, fed_size}
+use Rattle.job_text.specs.Taken.{IsFed, told, has_ended, fed_size}
 use Rattle.job_text.specs.declared.jobs.JobFault.{JobFault}
 use Rattle.job_text.specs.declared.jobs.ReadJob.{ReadJob}
 use Rattle.job_text.specs.declared.reader.Stage.{Stage}
@@ -38,12 +38,9 @@ come_nothing i fed reading over none = record {
   kept = λ m. none;
 }
 
-told_at_reading : (s : Stage) (e : JobFault) → told_at s ≡ Some e → has_ended_at s ≡ false
-told_at_reading (stage.Reading p) e h = absurd cc
-told_at_reading (stage.Failed f) e h = refl
-
-pub told_reading : (r : Reader) (e : JobFault) → told r ≡ Some e → has_ended r ≡ false
-told_reading r e h = told_at_reading r.stage e h
+pub told_reading : (s : Stage) (e : JobFault) → told s ≡ Some e → has_ended s ≡ false
+told_reading (stage.Reading p) e h = absurd cc
+told_reading (stage.Failed f) e h = refl
 
 -- the job goes on, or is refused
 pub come_more : (bytes piece : List ℕ) (i j : Incoming) (h : HasCome bytes i) → has_ended i.reader ≡ false → IsFed (h.fed ++ piece) j.reader → has_ended j.reader ≡ false → j.more ≡ i.more → j.over ≡ i.over → j.rest.items ≡ i.rest.items → HasCome (bytes ++ piece) j

@@ -1,5 +1,5 @@
 -- What a whole input's size says of its lines.
-use Rattle.std.proofs.Common.{◌≡◌, ◌≤◌, ℕ, Bool, ◌+◌, ◌-◌, Option, Some, None, List, length, length-append, length-drop, take, drop, get_or, ap, ◌∙◌, arith, All}
+use Rattle.std.proofs.Common.{◌≡◌, ◌≤◌, ℕ, ◌+◌, ◌-◌, Option, Some, None, List, length, length-append, length-drop, take, drop, get_or, ap, ◌∙◌, arith, All}
 use Rattle.std.proofs.lemmas.List.{length-take-le}
 use Rattle.session_book.specs.JobView.{JobView}
 use Rattle.job_text.specs.Drafts.{Present}

@@ -57,11 +57,7 @@ pub fn read_input<S: Source>(alloc: Global, source: &mut S) -> Result<Vec<u8>, R
 }
 
 /// Reads the source to its end, and the job of its lines meanwhile.
-fn read_incoming<S: Source>(
-    alloc: Global,
-    source: &mut S,
-    more: bool,
-) -> Result<Incoming, Refusal>
+fn read_incoming<S: Source>(alloc: Global, source: &mut S, more: bool) -> Result<Incoming, Refusal>
     ensures come { IfOk result (λ i. (bytes : List ℕ) × CameWhole (source_change S.left S.faults source.old source.new) bytes × HasCome bytes i) }
     ensures more { IfOk result (λ i. i.more ≡ more) }
     ensures stopped { (job : Bool) (how : Reading) (name : Option Wanted) → IfErr result (λ r. IsStopped job how name (source_change S.left S.faults source.old source.new) r.status r.line) }
@@ -147,11 +143,7 @@ fn read_tables(alloc: Global, job: &Job) -> Result<Tables, Refusal>
 
 /// Reads the source to its end, the job of its lines, and the tables of the job's listings; or the first refusal of
 /// these, in this order. What stands behind the job is the caller's where more may stand there; else nothing does.
-pub fn make_ready<S: Source>(
-    alloc: Global,
-    source: &mut S,
-    more: bool,
-) -> Result<Ready, Refusal>
+pub fn make_ready<S: Source>(alloc: Global, source: &mut S, more: bool) -> Result<Ready, Refusal>
     ensures few_lines { more ≡ true → IfOk result (λ r. r.lines + length r.rest.items ≤ 16777216) }
     ensures came { IfOk result (λ r. CameWith (record { more = more }) (source_change S.left S.faults source.old source.new) r.job r.lines r.rest.items) }
     ensures job { IfOk result (λ r. CameJob (record { more = more }) (source_change S.left S.faults source.old source.new) r.job) }

@@ -251,7 +251,13 @@ OUT 0\n",
         words: &["show", "S"],
         input: &[Text(THROUGH), NONE],
         status: 0,
-        output: &[Text("COVERAGE SHOW\n"), SESSION, UNMARKED, NOT_EXECUTED, END],
+        output: &[
+            Text("COVERAGE SHOW\n"),
+            SESSION,
+            UNMARKED,
+            NOT_EXECUTED,
+            END,
+        ],
     },
 ];
 

@@ -1,4 +1,5 @@
-use Rattle.std.proofs.Common.{◌≡◌, length, ap, subst, sym, ◌∙◌, arith}
+use Rattle.std.proofs.Common.{◌≡◌, length, ap, ◌∙◌, arith}
+use Rattle.session_book.specs.JobView.{JobView}
 use Rattle.coverage_program.specs.Changes.{areas_change}
 use Rattle.coverage_program.proofs.AnswerLemmas.{written_as}
 use Rattle.coverage_program.proofs.TrialLemmas.{trial_tasks, trial_sessions, tried}

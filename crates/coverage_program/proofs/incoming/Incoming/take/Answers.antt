@@ -1,6 +1,5 @@
-use Rattle.std.proofs.Common.{Bool, List, ◌++◌, take, refl, sym, ap, ◌∙◌, subst}
+use Rattle.std.proofs.Common.{refl, sym, ◌∙◌}
 use Rattle.job_text.specs.Pieces.{IsEnded}
-use Rattle.job_text.specs.Taken.{IsFed, has_ended}
 use Rattle.coverage_program.proofs.IncomingLemmas.{told_reading, come_more, keep_on, end_on}
 use Rattle.coverage_program.proofs.incoming.Incoming.take.Goals as goal
 
