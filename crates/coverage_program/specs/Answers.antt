@@ -1,5 +1,5 @@
 -- What the program answers: its status and text, by the words and the bytes that came.
-use Rattle.std.specs.Prelude.{◌≡◌, ◌⊎◌, ℕ, ◌≤◌, Bool, true, false, Option, Some, None, IsSome, List, drop}
+use Rattle.std.specs.Prelude.{◌≡◌, ◌⊎◌, ℕ, ◌≤◌, Bool, true, Option, Some, None, IsSome, List, drop}
 use Rattle.std.specs.Io.KnownBytes.{Appends}
 use Rattle.cov_outside.specs.Causes.{Rose}
 use Rattle.cov_outside.specs.Whole.{HasMoreThan, AppendsSome}

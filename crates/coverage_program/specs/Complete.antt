@@ -1,5 +1,5 @@
 -- The answer that the words and bytes have, and that the call gives it.
-use Rattle.std.specs.Prelude.{◌≡◌, ◌<◌, ◌⊎◌, ℕ, ◌≤◌, true, false, Some, None, IsSome, if◌then◌else◌, List, [], ◌∷◌, ◌++◌, length, drop}
+use Rattle.std.specs.Prelude.{◌≡◌, ◌<◌, ◌⊎◌, ℕ, ◌≤◌, true, Some, None, IsSome, if◌then◌else◌, List, [], ◌∷◌, ◌++◌, length, drop}
 use Rattle.cov_outside.specs.Causes.{Rose}
 use Rattle.brk_table.specs.Places.{TablesView, all_places}
 use Rattle.session_book.specs.JobView.{JobView}

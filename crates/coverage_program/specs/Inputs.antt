@@ -1,5 +1,5 @@
 -- What came from the source: bytes, and the job that stands in their first lines.
-use Rattle.std.specs.Prelude.{◌≡◌, ℕ, ◌≤◌, Bool, false, List, length, take, drop}
+use Rattle.std.specs.Prelude.{◌≡◌, ℕ, ◌≤◌, false, List, length, take, drop}
 use Rattle.cov_outside.specs.Whole.{IsWhole}
 use Rattle.brk_table.specs.Places.{TablesView, all_places}
 use Rattle.session_book.specs.JobView.{JobView}

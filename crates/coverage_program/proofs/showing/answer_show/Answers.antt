@@ -1,4 +1,4 @@
-use Rattle.std.proofs.Common.{List, ℕ, true, subst, sym}
+use Rattle.std.proofs.Common.{List, ℕ, subst, sym}
 use Rattle.coverage_program.specs.Incoming.{CameWith}
 use Rattle.coverage_program.specs.Words.{to_go_on}
 use Rattle.coverage_program.specs.Changes.{SourceChange, source_change}

@@ -1,4 +1,4 @@
-use Rattle.std.proofs.Common.{◌≡◌, ◌≤◌, true, Some, inl, length, subst, rules, arith}
+use Rattle.std.proofs.Common.{◌≡◌, true, Some, inl, subst, rules, arith}
 use Rattle.marks_file.specs.Marks.{MarksView, keeps_rules}
 use Rattle.marks_file.specs.Reading.{first_bad, file_fields}
 use Rattle.coverage_program.specs.Files.{Bad}

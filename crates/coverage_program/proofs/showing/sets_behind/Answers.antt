@@ -1,8 +1,7 @@
-use Rattle.std.proofs.Common.{IfErr, ap, rules}
+use Rattle.std.proofs.Common.{IfErr, rules}
 use Rattle.std.proofs.lemmas.Result.{IfErr-weaker}
 use Rattle.table_combine.specs.Combine.{difference_of}
 use Rattle.coverage_program.specs.Files.{IsFileRefusal, NoFile, Other}
-use Rattle.coverage_program.specs.Refusals.{refusal}
 use Rattle.coverage_program.proofs.showing.sets_behind.Goals as goal
 
 pub returns-in_err-marks-clause-refused : goal.returns-in_err-marks-clause-refused

@@ -1,4 +1,4 @@
-use Rattle.std.proofs.Common.{◌∙◌, take, arith}
+use Rattle.std.proofs.Common.{◌∙◌, arith}
 use Rattle.std.proofs.lemmas.List.{length-take-le}
 use Rattle.coverage_program.proofs.IncomingLemmas.{reached_more}
 use Rattle.coverage_program.proofs.incoming.Incoming.fill.Goals as goal

@@ -1,6 +1,4 @@
-use Rattle.std.proofs.Common.{◌≡◌, ◌≤◌, ◌+◌, length}
-use Rattle.cov_base.specs.declared.constants.TheConstants.{INPUT_LIMIT}
-use Rattle.job_text.specs.Taken.{fed_size}
+use Rattle.std.proofs.Common.{◌≡◌}
 use Rattle.coverage_program.proofs.IncomingLemmas.{HasReached}
 use Rattle.coverage_program.proofs.incoming.Incoming.fill.Given as goal
 

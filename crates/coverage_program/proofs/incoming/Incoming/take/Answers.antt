@@ -1,7 +1,7 @@
-use Rattle.std.proofs.Common.{Bool, List, ◌++◌, take, refl, sym, ap, ◌∙◌, subst}
+use Rattle.std.proofs.Common.{Bool, refl, sym, ap, ◌∙◌, subst}
 use Rattle.job_text.specs.Drafts.{asked}
 use Rattle.job_text.specs.Pieces.{IsEnded}
-use Rattle.job_text.specs.Taken.{Reader, IsFed, has_ended}
+use Rattle.job_text.specs.Taken.{Reader}
 use Rattle.coverage_program.proofs.IncomingLemmas.{told_reading, come_more, keep_on, end_on}
 use Rattle.coverage_program.proofs.incoming.Incoming.take.Goals as goal
 
