@@ -28,7 +28,6 @@ use Rattle.coverage_program.proofs.TrialLemmas.{made_areas, made_jobless, never_
 use Rattle.coverage_program.specs.Trial.{IsUnread}
 use Rattle.coverage_program.proofs.StopLemmas.{same_job, any_named, not_both, never_came, never_large, too_many, not_named, not_whole, matched_stop}
 use Rattle.coverage_program.specs.Named.{HasNamed}
-use Rattle.std.specs.Prelude.{IsSome}
 
 -- ---- a refusal is no report
 

@@ -1,5 +1,5 @@
 -- What `verify` answers is what the bytes are.
-use Rattle.std.proofs.Common.{◌≡◌, ◌⊎◌, inl, inr, ℕ, ◌+◌, Bool, true, false, Option, Some, None, List, [], ◌∷◌, ◌++◌, length, take, drop, refl, sym, ◌∙◌, ap, subst}
+use Rattle.std.proofs.Common.{◌≡◌, ◌⊎◌, inl, inr, ℕ, ◌+◌, true, Option, Some, None, List, [], ◌∷◌, ◌++◌, length, drop, refl, sym, ◌∙◌, ap, subst}
 use Rattle.cov_base.specs.Facts.{no_facts}
 use Rattle.cov_base.specs.declared.facts.Fact.{Fact}
 use Rattle.cov_outside.specs.Causes.{Rose}
@@ -7,31 +7,25 @@ use Rattle.brk_table.specs.Places.{TablesView, first_place}
 use Rattle.evidence_check.specs.Claims.{facts_of_modules, places_claims, modules_claims, past_places, evidence_claims, first_refuted}
 use Rattle.evidence_check.specs.Fields.{evidence_fields}
 use Rattle.evidence_check.specs.Firsts.{session_first}
-use Rattle.evidence_check.specs.Verified.{Passes}
 use Rattle.evidence_check.specs.declared.firsts.First.{First}
-use Rattle.evidence_check.proofs.VerifiedLemmas.{verified_passes}
-use Rattle.job_text.specs.Lines.{lines_of}
-use Rattle.job_text.proofs.WholeJob.{job_keeps}
 use Rattle.marks_file.specs.Marks.{MarkedView, MarksView}
 use Rattle.marks_file.specs.MarksFile.{HasFile, rows}
 use Rattle.marks_file.specs.Reading.{first_bad, file_fields}
 use Rattle.marks_file.proofs.FileLemmas.{marks_found, one_end, file_found}
-use Rattle.session_book.specs.JobView.{JobView, IsJob}
+use Rattle.session_book.specs.JobView.{JobView}
 use Rattle.session_book.specs.Sessions.{session_of}
 use Rattle.session_marks.specs.Marked.{session_rows}
 use Rattle.table_combine.specs.Combine.{first_difference}
-use Rattle.coverage_program.specs.Answers.{IsStopped, BadJob, LargeJob, NoSession, Controlled, BadListing, LargeInput, ReadFault, WantOfMemory, IsCause, Report, Recorded, Places, Replayed, BadSchedule, United, BadFile, OtherFile, Shown, BadShown, OtherShown, Proved, Checked, Usage, Stopped, NoMemoryToRun, Tried, NoMemoryToTry}
+use Rattle.coverage_program.specs.Answers.{IsStopped, IsCause, Report, Recorded, Places, Replayed, BadSchedule, United, BadFile, OtherFile, Shown, BadShown, OtherShown, Proved, Checked, Usage, Stopped, NoMemoryToRun, Tried, NoMemoryToTry}
 use Rattle.coverage_program.specs.Changes.{SourceChange, AreasChange}
-use Rattle.coverage_program.specs.Checked.{Verdict, OtherTable, BadEvidence, Refuted, Verified, IsVerdict, OfFile, judged, judged_by, verdict_status, HasVerified}
+use Rattle.coverage_program.specs.Checked.{Verdict, IsVerdict, OfFile, judged, judged_by, verdict_status}
 use Rattle.coverage_program.specs.Checked.{BadFile as BadMarks, NoFile as NoStart}
-use Rattle.coverage_program.specs.Complete.{StandsBehind, HoldsTrue, bytes_of}
-use Rattle.coverage_program.specs.Files.{HasRest}
-use Rattle.coverage_program.specs.Named.{session_number}
-use Rattle.coverage_program.specs.Words.{reads_job, Reading, Wanted, to_go_on, reading_of, session_named, makes_areas, makes_job}
+use Rattle.coverage_program.specs.Complete.{StandsBehind}
+use Rattle.coverage_program.specs.Words.{reads_job, to_go_on, reading_of, session_named, makes_areas, makes_job}
 use Rattle.coverage_program.specs.declared.words.Command.{Command}
 use Rattle.coverage_program.specs.declared.words.Command.TheVariants.{Run, Marks, Table, Replay, Combine, Show, Prove, Verify, Unknown}
 use Rattle.coverage_program.proofs.BehindLemmas.{IsSame, one_rest}
-use Rattle.coverage_program.proofs.StopLemmas.{came_is, whole_named, not_both, matched_stop}
+use Rattle.coverage_program.proofs.StopLemmas.{whole_named, not_both, matched_stop}
 
 same_claims : (a b : TablesView) (firsts : ℕ → Fact → Option First) (row : ℕ) (ms : List MarkedView) (ns bs : List ℕ) → ((n : ℕ) → first_place a.tables n ≡ first_place b.tables n) → modules_claims a firsts row ms ns bs ≡ modules_claims b firsts row ms ns bs
 same_claims a b firsts row [] ns bs h = refl

@@ -1,5 +1,5 @@
 -- The session of a name.
-use Rattle.std.specs.Prelude.{◌≡◌, ℕ, ◌+◌, Bool, true, if◌then◌else◌, Option, Some, None, List, [], ◌∷◌, bytes_eq}
+use Rattle.std.specs.Prelude.{◌≡◌, ℕ, ◌+◌, true, if◌then◌else◌, Option, Some, None, List, [], ◌∷◌, bytes_eq}
 use Rattle.session_book.specs.JobView.{JobView, SessionView}
 use Rattle.session_book.specs.Sessions.{session_of}
 use Rattle.coverage_program.specs.Words.{Wanted}

@@ -1,4 +1,4 @@
-use Rattle.std.proofs.Common.{◌≡◌, refl, subst, sym, rules}
+use Rattle.std.proofs.Common.{◌≡◌, refl, subst, rules}
 use Rattle.coverage_program.specs.Answers.{IsWritten}
 use Rattle.coverage_program.specs.Changes.{sink_change}
 use Rattle.coverage_program.specs.Checked.{Verified}
