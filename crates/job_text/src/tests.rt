@@ -27,12 +27,13 @@ const LINES: [&[u8]; 16] = [
     b"ENDJOB",
 ];
 
-/// The bad line; 0 where the input is a job, and 10,000 more where the line passes a limit.
+/// The bad line; 0 where the input is a job and nothing stands behind it, and 10,000 more where the line passes a limit.
 fn bad_line(alloc: Global, input: &[u8]) -> u32 {
     if input.len() > 16_777_216 {
         return 99_999;
     }
     match read_job(alloc, input) {
+        Ok(read) if read.end < input.len() => read.lines.wrapping_add(1),
         Ok(_) => 0,
         Err(JobFault::BadJob { line }) => line,
         Err(JobFault::TooLarge { what: _, line }) => 10_000 + line % 10_000,
@@ -176,7 +177,7 @@ fn refuses_lines_that_are_missing_or_doubled(rt: HostRuntime) -> Result<(), Fail
 }
 
 /// Line, what stands in its place, and the first bad line.
-const CASES: [(usize, &[u8], u32); 63] = [
+const CASES: [(usize, &[u8], u32); 64] = [
     (1, b"COVERJOB 2\n", 1),
     (2, b"MODULE M 100000 8\r\n", 2),
     (2, b"MODULE m 100000 8\n", 2),
@@ -240,6 +241,7 @@ const CASES: [(usize, &[u8], u32); 63] = [
     (16, b"TASK B 100000 16 100 0\nENDJOB\n", 0),
     (16, b"PHASE Q\nENDJOB\n", 0),
     (16, b"MODULE N 200000 8\nENDJOB\n", 16),
+    (16, b"ENDJOB\n\n", 17),
 ];
 
 #[test]
