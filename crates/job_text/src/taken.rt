@@ -38,33 +38,30 @@ impl Taken {
 
     /// Takes the next line; `ended` where an LF ended it. `controlled` says that sessions may have controllers.
     pub(crate) fn line(
-        self,
+        &mut self,
         alloc: Global,
         controlled: bool,
         bytes: &[u8],
         ended: bool,
-    ) -> Result<Taken, JobFault>
-        requires few { self.lines + 1 < 2 ^ 32 }
-        requires room { self.bytes + length bytes.now + 1 < 2 ^ 32 }
-        ensures next { IfOk result (λ t. IsNext (asked controlled) self t (record { bytes = bytes.now; ended = ended })) }
-        ensures fault { IfErr result (IsFaultOf (step (asked controlled) self.reader (record { bytes = bytes.now; ended = ended })) (self.lines + 1)) }
+    ) -> Result<(), JobFault>
+        requires few { self.old.lines + 1 < 2 ^ 32 }
+        requires room { self.old.bytes + length bytes.now + 1 < 2 ^ 32 }
+        ensures next { IfOk result (λ _. IsNext (asked controlled) self.old self.new (record { bytes = bytes.now; ended = ended })) }
+        ensures fault { IfErr result (IsFaultOf (step (asked controlled) self.old.reader (record { bytes = bytes.now; ended = ended })) (self.old.lines + 1)) }
     {
-        let Taken {
-            reader,
-            lines,
-            bytes: before,
-        } = self;
         let size = if ended { bytes.len() + 1 } else { bytes.len() };
-        match reader.line(alloc, controlled, bytes, ended) {
-            Ok(reader) => Ok(Taken {
-                reader,
-                lines: lines + 1,
-                bytes: before + size,
+        match self.reader.line(alloc, controlled, bytes, ended) {
+            Ok(()) => {
+                self.lines += 1;
+                self.bytes += size;
+                Ok(())
+            }
+            Err(LineRefused::Bad) => Err(JobFault::BadJob {
+                line: self.lines + 1,
             }),
-            Err(LineRefused::Bad) => Err(JobFault::BadJob { line: lines + 1 }),
             Err(LineRefused::TooLarge(what)) => Err(JobFault::TooLarge {
                 what,
-                line: lines + 1,
+                line: self.lines + 1,
             }),
             Err(LineRefused::NoMemory) => Err(JobFault::NoMemory),
         }
