@@ -34,22 +34,20 @@ pub(crate) struct Pieces {
 
 impl Pieces {
     /// Takes a line whose LF has come; the bytes that were kept are its first.
-    fn ended_line(self, alloc: Global, line: &[u8]) -> Result<Pieces, JobFault>
-        requires few { self.taken.lines + 1 < 2 ^ 32 }
-        requires room { size_of self + length line.now + 1 < 2 ^ 32 }
-        ensures next { IfOk result (λ p. IsNext self.taken p.taken (record { bytes = self.cut.items ++ line.now; ended = true })) }
-        ensures none { IfOk result (λ p. p.cut.items ≡ []) }
-        ensures fault { IfErr result (IsFaultOf (step Present self.taken.reader (record { bytes = self.cut.items ++ line.now; ended = true })) (self.taken.lines + 1)) }
+    fn ended_line(&mut self, alloc: Global, line: &[u8]) -> Result<(), JobFault>
+        requires few { self.old.taken.lines + 1 < 2 ^ 32 }
+        requires room { size_of self.old + length line.now + 1 < 2 ^ 32 }
+        ensures next { IfOk result (λ _. IsNext self.old.taken self.new.taken (record { bytes = self.old.cut.items ++ line.now; ended = true })) }
+        ensures none { IfOk result (λ _. self.new.cut.items ≡ []) }
+        ensures fault { IfErr result (IsFaultOf (step Present self.old.taken.reader (record { bytes = self.old.cut.items ++ line.now; ended = true })) (self.old.taken.lines + 1)) }
     {
-        let Pieces { taken, mut cut } = self;
-        if cut.is_empty() {
-            let taken = taken.line(alloc, line, true)?;
-            return Ok(Pieces { taken, cut });
+        if self.cut.is_empty() {
+            return self.taken.line(alloc, line, true);
         }
-        cut.extend_from_slice(line)?;
-        let taken = taken.line(alloc, &cut, true)?;
-        cut.clear();
-        Ok(Pieces { taken, cut })
+        self.cut.extend_from_slice(line)?;
+        self.taken.line(alloc, &self.cut, true)?;
+        self.cut.clear();
+        Ok(())
     }
 
     /// Takes the lines that end in the piece, up to ENDJOB's, and keeps the bytes behind the last LF.
@@ -66,7 +64,7 @@ impl Pieces {
         let mut pieces = self;
         let mut used = 0;
         while let Some(size) = first_end(&piece[used..]) {
-            pieces = pieces.ended_line(alloc, &piece[used..used + size])?;
+            pieces.ended_line(alloc, &piece[used..used + size])?;
             used += size + 1;
             if pieces.taken.reader.is_done() {
                 return Ok((pieces, Fed::Ended { used }));
@@ -85,10 +83,11 @@ impl Pieces {
         ensures only { (bytes : List ℕ) → HasTaken bytes self → (n : ℕ) (job : JobView) → n ≤ length (lines_of bytes) → Spells Present (take n (lines_of bytes)) job → IsWithin job → IsOnly n job result }
         ensures fault { (bytes : List ℕ) → HasTaken bytes self → IfErr result (IsRefusal (lines_of bytes)) }
     {
-        let Pieces { taken, cut } = self;
+        let Pieces { mut taken, cut } = self;
         if cut.is_empty() {
             return taken.finish(alloc);
         }
-        taken.line(alloc, &cut, false)?.finish(alloc)
+        taken.line(alloc, &cut, false)?;
+        taken.finish(alloc)
     }
 }

@@ -27,6 +27,7 @@ use module_area::{Image, Images};
 use session_book::Job;
 use std::alloc::Global;
 use std::marker::Model;
+use std::mem;
 
 /// What of a job was read.
 #[derive(Drop)]
@@ -245,51 +246,49 @@ impl LineReader {
         }
     }
 
-    fn listing_line(self, alloc: Global, text: &[u8]) -> Result<LineReader, LineRefused>
-        requires { machine.takes_raw self.part ≡ true }
-        ensures ok { IfOk result (λ r. machine.take_raw self.part self.job text.now ≡ Some (machine.plain r)) }
-        ensures err { IfErr result (machine.Refuses (machine.take_raw self.part self.job text.now)) }
+    fn listing_line(&mut self, text: &[u8]) -> Result<(), LineRefused>
+        requires { machine.takes_raw self.old.part ≡ true }
+        ensures ok { IfOk result (λ _. machine.take_raw self.old.part self.old.job text.now ≡ Some (machine.plain self.new)) }
+        ensures err { IfErr result (machine.Refuses (machine.take_raw self.old.part self.old.job text.now)) }
     {
-        let LineReader { part, job } = self;
-        match part {
+        match &mut self.part {
             Part::Listed {
-                image,
+                image: _,
                 left,
-                mut lines,
+                lines,
             } => {
                 if text.len() > LINE_LIMIT {
                     return Err(LineRefused::TooLarge(Limit::Line));
                 }
                 lines.push(text)?;
-                Ok(LineReader {
-                    part: Part::Listed {
-                        image,
-                        left: left - 1,
-                        lines,
-                    },
-                    job,
-                })
+                *left -= 1;
+                Ok(())
             }
             _ => Err(LineRefused::Bad),
         }
     }
 
-    /// Takes the next line; `ended` where an LF ended it.
+    /// Takes the next line; `ended` where an LF ended it.  After a
+    /// refusal there is nothing more to take. A listing's line moves nothing but its own bytes.
     pub(crate) fn line(
-        self,
+        &mut self,
         alloc: Global,
         bytes: &[u8],
         ended: bool,
-    ) -> Result<LineReader, LineRefused>
-        ensures ok { IfOk result (λ r. machine.step Present self (record { bytes = bytes.now; ended = ended }) ≡ Some (machine.plain r)) }
-        ensures err { IfErr result (machine.Refuses (machine.step Present self (record { bytes = bytes.now; ended = ended }))) }
+    ) -> Result<(), LineRefused>
+        ensures ok { IfOk result (λ _. machine.step Present self.old (record { bytes = bytes.now; ended = ended }) ≡ Some (machine.plain self.new)) }
+        ensures err { IfErr result (machine.Refuses (machine.step Present self.old (record { bytes = bytes.now; ended = ended }))) }
     {
         if self.takes_raw() {
-            return self.listing_line(alloc, listing_text(bytes, ended));
+            return self.listing_line(listing_text(bytes, ended));
         }
         match read_card(alloc, bytes)? {
             None => Err(LineRefused::Bad),
-            Some(card) => self.card(alloc, card),
+            Some(card) => {
+                let before = mem::replace(self, LineReader::new(alloc));
+                *self = before.card(alloc, card)?;
+                Ok(())
+            }
         }
     }
 

@@ -37,28 +37,25 @@ impl Taken {
     }
 
     /// Takes the next line; `ended` where an LF ended it.
-    pub(crate) fn line(self, alloc: Global, bytes: &[u8], ended: bool) -> Result<Taken, JobFault>
-        requires few { self.lines + 1 < 2 ^ 32 }
-        requires room { self.bytes + length bytes.now + 1 < 2 ^ 32 }
-        ensures next { IfOk result (λ t. IsNext self t (record { bytes = bytes.now; ended = ended })) }
-        ensures fault { IfErr result (IsFaultOf (step Present self.reader (record { bytes = bytes.now; ended = ended })) (self.lines + 1)) }
+    pub(crate) fn line(&mut self, alloc: Global, bytes: &[u8], ended: bool) -> Result<(), JobFault>
+        requires few { self.old.lines + 1 < 2 ^ 32 }
+        requires room { self.old.bytes + length bytes.now + 1 < 2 ^ 32 }
+        ensures next { IfOk result (λ _. IsNext self.old self.new (record { bytes = bytes.now; ended = ended })) }
+        ensures fault { IfErr result (IsFaultOf (step Present self.old.reader (record { bytes = bytes.now; ended = ended })) (self.old.lines + 1)) }
     {
-        let Taken {
-            reader,
-            lines,
-            bytes: before,
-        } = self;
         let size = if ended { bytes.len() + 1 } else { bytes.len() };
-        match reader.line(alloc, bytes, ended) {
-            Ok(reader) => Ok(Taken {
-                reader,
-                lines: lines + 1,
-                bytes: before + size,
+        match self.reader.line(alloc, bytes, ended) {
+            Ok(()) => {
+                self.lines += 1;
+                self.bytes += size;
+                Ok(())
+            }
+            Err(LineRefused::Bad) => Err(JobFault::BadJob {
+                line: self.lines + 1,
             }),
-            Err(LineRefused::Bad) => Err(JobFault::BadJob { line: lines + 1 }),
             Err(LineRefused::TooLarge(what)) => Err(JobFault::TooLarge {
                 what,
-                line: lines + 1,
+                line: self.lines + 1,
             }),
             Err(LineRefused::NoMemory) => Err(JobFault::NoMemory),
         }

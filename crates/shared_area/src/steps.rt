@@ -34,6 +34,9 @@ impl Cells for SharedCells {
         found
     }
 
+    // As `add`.
+    #[cold]
+    #[inline(never)]
     fn lift(&self, pass: &mut SharedPass, s: SessNo, place: PlaceNo) -> bool {
         let old = window_word(s.0, BREAKPOINT);
         let new = window_word(s.0, self.plan.original(place));

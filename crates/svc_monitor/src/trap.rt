@@ -12,6 +12,7 @@ use module_area::{Cell, Cells};
 
 /// Marks the fact for the session whose breakpoint the cell is, and lifts it exactly where the set with the fact is
 /// full.
+#[inline(always)]
 pub fn settle<C: Cells>(
     cells: &C,
     pass: &mut C::Pass,

@@ -41,11 +41,11 @@ told_at before piece used size p e n t reading f =
     let whole : (before ++ take used piece) ++ (line ++ 10 ∷ rest) ≡ before ++ piece = append_assoc before (take used piece) (line ++ 10 ∷ rest) ∙ ap (λ (x : List ℕ). before ++ x) (sym n.whole) in
     subst (λ (x : List ℕ). IsTold x e) whole (line_told (before ++ take used piece) line rest p e n.partial t reading (rw same at f))
 
-pub returns-in_err-pieces-clause-fault : goal.returns-in_err-pieces-clause-fault
-returns-in_err-pieces-clause-fault c = λ before h.
+pub returns-in_err-ended_line-clause-fault : goal.returns-in_err-ended_line-clause-fault
+returns-in_err-ended_line-clause-fault c = λ before h.
     let p = err_from_is_err_and c.from_residual.result c.from_residual.ensures.1 in
     let n = lf_next c.args.piece.now c.loop-size.used c.in-Some.size c.loop-size.invariant.inside (sym c.in-Some.ensures) in
-    rw (p.1, p.2) (told_at before c.args.piece.now c.loop-size.used c.in-Some.size c.loop-size.pieces _ n (c.loop-size.invariant.taken before h) c.loop-size.invariant.reading c.in_err-pieces.ensures.fault)
+    rw (p.1, p.2) (told_at before c.args.piece.now c.loop-size.used c.in-Some.size c.loop-size.pieces _ n (c.loop-size.invariant.taken before h) c.loop-size.invariant.reading c.in_err-ended_line.ensures.fault)
 
 pub overflow_add-used-in-Some-2 : goal.overflow_add-used-in-Some-2
 overflow_add-used-in-Some-2 c =
@@ -63,13 +63,13 @@ taken_at before piece used size p q n t next none =
 pub returns-then-is_done-clause-taken : goal.returns-then-is_done-clause-taken
 returns-then-is_done-clause-taken c = λ before h.
     let n = lf_next c.args.piece.now c.loop-size.used c.in-Some.size c.loop-size.invariant.inside (sym c.in-Some.ensures) in
-    taken_at before c.args.piece.now c.loop-size.used c.in-Some.size c.loop-size.pieces c.in_ok-pieces.pieces n (c.loop-size.invariant.taken before h) c.in_ok-pieces.ensures.next c.in_ok-pieces.ensures.none
+    taken_at before c.args.piece.now c.loop-size.used c.in-Some.size c.loop-size.pieces c.ended_line.new.self n (c.loop-size.invariant.taken before h) c.in_ok-ended_line.ensures.next c.in_ok-ended_line.ensures.none
 
 pub returns-then-is_done-clause-fed : goal.returns-then-is_done-clause-fed
 returns-then-is_done-clause-fed c = λ before h.
     let n = lf_next c.args.piece.now c.loop-size.used c.in-Some.size c.loop-size.invariant.inside (sym c.in-Some.ensures) in
-    let t = taken_at before c.args.piece.now c.loop-size.used c.in-Some.size c.loop-size.pieces c.in_ok-pieces.pieces n (c.loop-size.invariant.taken before h) c.in_ok-pieces.ensures.next c.in_ok-pieces.ensures.none in
-    is_ended before c.args.piece.now (c.loop-size.used + (c.in-Some.size + 1)) c.in_ok-pieces.pieces (omega arith) (omega (arith, n.inside)) t (sym c.is_done.ensures ∙ c.if-is_done.true)
+    let t = taken_at before c.args.piece.now c.loop-size.used c.in-Some.size c.loop-size.pieces c.ended_line.new.self n (c.loop-size.invariant.taken before h) c.in_ok-ended_line.ensures.next c.in_ok-ended_line.ensures.none in
+    is_ended before c.args.piece.now (c.loop-size.used + (c.in-Some.size + 1)) c.ended_line.new.self (omega arith) (omega (arith, n.inside)) t (sym c.is_done.ensures ∙ c.if-is_done.true)
 
 pub returns-then-is_done-clause-used : goal.returns-then-is_done-clause-used
 returns-then-is_done-clause-used c =
@@ -81,7 +81,7 @@ loop-size-preserved c =
     let n = lf_next c.args.piece.now c.loop-size.used c.in-Some.size c.loop-size.invariant.inside (sym c.in-Some.ensures) in
     record {
       inside = omega (arith, n.inside);
-      taken = λ before h. taken_at before c.args.piece.now c.loop-size.used c.in-Some.size c.loop-size.pieces c.in_ok-pieces.pieces n (c.loop-size.invariant.taken before h) c.in_ok-pieces.ensures.next c.in_ok-pieces.ensures.none;
+      taken = λ before h. taken_at before c.args.piece.now c.loop-size.used c.in-Some.size c.loop-size.pieces c.ended_line.new.self n (c.loop-size.invariant.taken before h) c.in_ok-ended_line.ensures.next c.in_ok-ended_line.ensures.none;
       reading = sym c.is_done.ensures ∙ c.if-is_done.false;
     }
 

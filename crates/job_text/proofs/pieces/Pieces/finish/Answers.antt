@@ -50,24 +50,24 @@ returns-in_err-line-clause-fault c =
 pub finish-requires-2-clause-ran : goal.finish-requires-2-clause-ran
 finish-requires-2-clause-ran c =
     let some : 0 < length c.args.self.cut.items = grind (arith, nat_tests, c.args.self.cut.ok, c.is_empty.ensures, c.if-is_empty.false) in
-    (c.requires.taken.0, last_taken c.requires.taken.0 c.args.self c.in_ok-line.field-0 some c.requires.taken.1 (rw c.deref.ensures.value at c.in_ok-line.ensures.next))
+    (c.requires.taken.0, last_taken c.requires.taken.0 c.args.self c.line.new.self some c.requires.taken.1 (rw c.deref.ensures.value at c.in_ok-line.ensures.next))
 
 pub returns-clause-job : goal.returns-clause-job
 returns-clause-job c =
     let some : 0 < length c.args.self.cut.items = grind (arith, nat_tests, c.args.self.cut.ok, c.is_empty.ensures, c.if-is_empty.false) in
-    λ bytes h. c.finish-2.ensures.job bytes (last_taken bytes c.args.self c.in_ok-line.field-0 some h (rw c.deref.ensures.value at c.in_ok-line.ensures.next))
+    λ bytes h. c.finish-2.ensures.job bytes (last_taken bytes c.args.self c.line.new.self some h (rw c.deref.ensures.value at c.in_ok-line.ensures.next))
 
 pub returns-clause-whole : goal.returns-clause-whole
 returns-clause-whole c =
     let some : 0 < length c.args.self.cut.items = grind (arith, nat_tests, c.args.self.cut.ok, c.is_empty.ensures, c.if-is_empty.false) in
-    λ bytes h. c.finish-2.ensures.whole bytes (last_taken bytes c.args.self c.in_ok-line.field-0 some h (rw c.deref.ensures.value at c.in_ok-line.ensures.next))
+    λ bytes h. c.finish-2.ensures.whole bytes (last_taken bytes c.args.self c.line.new.self some h (rw c.deref.ensures.value at c.in_ok-line.ensures.next))
 
 pub returns-clause-only : goal.returns-clause-only
 returns-clause-only c =
     let some : 0 < length c.args.self.cut.items = grind (arith, nat_tests, c.args.self.cut.ok, c.is_empty.ensures, c.if-is_empty.false) in
-    λ bytes h. c.finish-2.ensures.only bytes (last_taken bytes c.args.self c.in_ok-line.field-0 some h (rw c.deref.ensures.value at c.in_ok-line.ensures.next))
+    λ bytes h. c.finish-2.ensures.only bytes (last_taken bytes c.args.self c.line.new.self some h (rw c.deref.ensures.value at c.in_ok-line.ensures.next))
 
 pub returns-clause-fault : goal.returns-clause-fault
 returns-clause-fault c =
     let some : 0 < length c.args.self.cut.items = grind (arith, nat_tests, c.args.self.cut.ok, c.is_empty.ensures, c.if-is_empty.false) in
-    λ bytes h. c.finish-2.ensures.fault bytes (last_taken bytes c.args.self c.in_ok-line.field-0 some h (rw c.deref.ensures.value at c.in_ok-line.ensures.next))
+    λ bytes h. c.finish-2.ensures.fault bytes (last_taken bytes c.args.self c.line.new.self some h (rw c.deref.ensures.value at c.in_ok-line.ensures.next))
