@@ -1,6 +1,5 @@
 -- A run instruction by instruction, and what its pass has made.
 use Rattle.std.proofs.Common.{◌≡◌, ℕ, ◌+◌, ◌-◌, ◌*◌, ◌<◌, ◌≤◌, zero, suc, true, false, Option, List, [], ◌∷◌, ◌++◌, length, inl, inr, refl, sym, ◌∙◌, ap, arith, length-append}
-use Rattle.std.proofs.lemmas.Bool.{cond_both}
 use Rattle.std.proofs.lemmas.List.{append_assoc, append-nil}
 use Rattle.cov_base.specs.declared.limits.TheConstants.{PLACE_LIMIT}
 use Rattle.cov_base.specs.Memory.{Memory}
@@ -12,8 +11,6 @@ use Rattle.s370_exec.specs.Calls.{call_of}
 use Rattle.s370_exec.specs.Solo.{Run, solo_step, run_on, run_ended, solo_run, has_returned}
 use Rattle.module_area.specs.PlanView.{PlanView, IsPlan}
 use Rattle.module_area.specs.Notes.{Notes, calls}
-use Rattle.module_area.specs.Executions.{is_place, visits_at_places}
-use Rattle.module_area.specs.declared.places.Place.{Place}
 use Rattle.module_area.specs.Control.{ControlView, control_after}
 use Rattle.module_area.specs.Parties.{Has}
 use Rattle.svc_monitor.specs.Answered.{Turns}
@@ -167,8 +164,3 @@ IsRun-spent m plan old new c d budget first i s r all here =
     IsRun-made plan old new c d i budget r.trace r.called (calls_on m budget first) (solo_run m budget first) Spent s r.made (omega (arith, all))
     (r.run ∙ ap (λ k. run_on m k s r.trace) none ∙ run_on-spent m s r.trace here)
     (r.rest ∙ (ap (λ k. r.called ++ calls_on m k s) none ∙ (ap (λ ks. r.called ++ ks) (calls_on-spent m s) ∙ append-nil r.called)))
-
-pub visits-most : (places : List Place) (trace : List Visit) → visits_at_places places trace ≤ length trace
-visits-most places [] = omega arith
-visits-most places (v ∷ vs) =
-    cond_both (is_place places v.at) 1 0 (λ n. n + visits_at_places places vs ≤ length (v ∷ vs)) (λ e. omega (arith, visits-most places vs)) (λ e. omega (arith, visits-most places vs))
