@@ -33,6 +33,7 @@ fn pass_call<P: Space>(cpu: &mut Cpu, space: &P)
     ensures { machine_of cpu.new (P.bytes space.now) ≡ at_address (machine_of cpu.old (P.bytes space.now)) (behind_call (P.memory space.now) (machine_of cpu.old (P.bytes space.now))) }
 {
     let at = cpu.at();
+    // There is a halfword: it was read as the call or as the EX.
     let size = match space.first(at) {
         Ok(half) if is_execute(half) => 4,
         _ => 2,

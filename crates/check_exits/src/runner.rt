@@ -13,6 +13,7 @@ use std::alloc::Global;
 use task_run::{Runner, Task};
 
 /// Runs a task with an exit for its program interruptions, of which there is none as it begins.
+#[derive(Drop)]
 pub struct ExitRunner;
 
 impl<C: Cells> Runner<C> for ExitRunner {
