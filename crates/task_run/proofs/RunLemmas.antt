@@ -1,4 +1,4 @@
--- One instruction more of a run.
+-- A run instruction by instruction, and what its pass has made.
 use Rattle.std.proofs.Common.{◌≡◌, ℕ, ◌+◌, ◌-◌, ◌*◌, ◌<◌, ◌≤◌, zero, suc, true, false, Option, List, [], ◌∷◌, ◌++◌, length, inl, inr, refl, sym, ◌∙◌, ap, arith, length-append}
 use Rattle.std.proofs.lemmas.List.{append_assoc, append-nil}
 use Rattle.cov_base.specs.declared.limits.TheConstants.{PLACE_LIMIT}
@@ -18,27 +18,76 @@ use Rattle.task_run.specs.Called.{calls_on, Follows}
 use Rattle.task_run.proofs.VisitLemmas.{step_visits}
 use Rattle.task_run.proofs.FollowsLemmas.{Follows-none, Follows-more}
 
--- i instructions of the run have led to this state, which the pass has made, and to this control
-pub record LedTo (m : Memory) (plan : PlanView) (old new : Notes) (c d : ControlView) (budget : ℕ) (first : State) (i : ℕ) (now : State) : Type 0 where
-  pub trace : List Visit
-  pub called : List (Option ℕ)
+-- the pass has made the visits and the calls of a run's first i instructions
+pub record Made (plan : PlanView) (old new : Notes) (c d : ControlView) (i : ℕ) (trace : List Visit) (called : List (Option ℕ)) : Type 0 where
   pub follows : Follows plan old new trace called c d
   pub count : length called ≡ i
   pub before : (v : Visit) → Has v trace → v.before < i
+  pub few : calls new ≤ calls old + (6 + PLACE_LIMIT) * i
+
+pub Made-none : (plan : PlanView) (n : Notes) (c : ControlView) → Made plan n n c c 0 [] []
+Made-none plan n c = record {
+  follows = Follows-none plan n c;
+  count = refl;
+  before = λ v there. absurd there;
+  few = omega arith;
+}
+
+in_both : (v : Visit) (xs ys : List Visit) (i : ℕ) → ((v : Visit) → Has v xs → v.before < i) → ((v : Visit) → Has v ys → v.before ≡ i) → Has v (xs ++ ys) → v.before < i + 1
+in_both v [] ys i before here there = let e = here v there in omega arith
+in_both v (x ∷ xs) ys i before here there = elim there [
+  | inl first ↦ let b = before v (inl first) in omega arith
+  | inr rest ↦ in_both v xs ys i (λ w h. before w (inr h)) here rest
+]
+
+-- what one instruction adds
+pub record Adds (m : Memory) (plan : PlanView) (mid new : Notes) (d e : ControlView) (s : State) : Type 0 where
+  pub turns : Turns plan mid new (solo_step m s).visits d (call_of m s)
+  pub control : e ≡ control_after d (call_of m s)
+  pub few : calls new ≤ calls mid + 6 + PLACE_LIMIT
+
+pub Made-more : (m : Memory) (plan : PlanView) (old mid new : Notes) (c d e : ControlView) (i : ℕ) (s : State) (trace : List Visit) (called : List (Option ℕ)) → IsPlan plan → s.done ≡ i →
+    Made plan old mid c d i trace called → Adds m plan mid new d e s → Made plan old new c e (i + 1) (trace ++ (solo_step m s).visits) (called ++ call_of m s ∷ [])
+Made-more m plan old mid new c d e i s trace called is done r a = record {
+  follows = Follows-more plan old mid new trace (solo_step m s).visits called (call_of m s) c d e is
+      (λ v there. let b = r.before v there in omega (arith, b, r.count))
+      (λ v there. let b = step_visits m s v there in omega (arith, b, done, r.count))
+      r.follows a.turns a.control;
+  count = omega (arith, r.count, length-append called (call_of m s ∷ []));
+  before = λ v there. in_both v trace (solo_step m s).visits i r.before (λ w h. step_visits m s w h ∙ done) there;
+  few = omega (arith, r.few, a.few);
+}
+
+-- where the run ends
+pub record IsRun (plan : PlanView) (old new : Notes) (c d : ControlView) (run : Run) (called : List (Option ℕ)) (e : Ending) (s : State) (budget : ℕ) : Type 0 where
+  pub ending : e ≡ run.ending
+  pub state : s ≡ run.state
+  pub follows : Follows plan old new run.trace called c d
+  pub few : calls new ≤ calls old + (6 + PLACE_LIMIT) * budget
+
+pub IsRun-made : (plan : PlanView) (old new : Notes) (c d : ControlView) (i budget : ℕ) (trace : List Visit) (called all : List (Option ℕ)) (run : Run) (e : Ending) (s : State) →
+    Made plan old new c d i trace called → i ≤ budget → run ≡ run_ended e s trace → all ≡ called → IsRun plan old new c d run all e s budget
+IsRun-made plan old new c d i budget trace called all run e s r within ends whole =
+    rw (ends, whole) (record { ending = refl; state = refl; follows = r.follows; few = most i budget r.few within })
+  where
+    most : (i budget : ℕ) → calls new ≤ calls old + (6 + PLACE_LIMIT) * i → i ≤ budget → calls new ≤ calls old + (6 + PLACE_LIMIT) * budget
+    most i budget h le = omega arith
+
+-- i instructions of the run alone have led to this state, which the pass has made, and to this control
+pub record LedTo (m : Memory) (plan : PlanView) (old new : Notes) (c d : ControlView) (budget : ℕ) (first : State) (i : ℕ) (now : State) : Type 0 where
+  pub trace : List Visit
+  pub called : List (Option ℕ)
+  pub made : Made plan old new c d i trace called
   pub run : solo_run m budget first ≡ run_on m (budget - i) now trace
   pub rest : calls_on m budget first ≡ called ++ calls_on m (budget - i) now
-  pub few : calls new ≤ calls old + (6 + PLACE_LIMIT) * i
 
 pub LedTo-start : (m : Memory) (plan : PlanView) (n : Notes) (c : ControlView) (budget : ℕ) (s : State) → LedTo m plan n n c c budget s 0 s
 LedTo-start m plan n c budget s = let all : budget - 0 ≡ budget = omega arith in record {
   trace = [];
   called = [];
-  follows = Follows-none plan n c;
-  count = refl;
-  before = λ v there. absurd there;
+  made = Made-none plan n c;
   run = rw all refl;
   rest = rw all refl;
-  few = omega arith;
 }
 
 run_on-more : (m : Memory) (n : ℕ) (s t : State) (trace : List Visit) → has_returned s ≡ false → (solo_step m s).next ≡ On → (solo_step m s).state ≡ t →
@@ -77,29 +126,8 @@ calls_on-spent : (m : Memory) (s : State) → calls_on m 0 s ≡ []
 unfolding calls_on
 calls_on-spent m s = refl
 
-left : (budget i : ℕ) → i < budget → budget - i ≡ suc (budget - (i + 1))
+pub left : (budget i : ℕ) → i < budget → budget - i ≡ suc (budget - (i + 1))
 left budget i lt = omega arith
-
-in_both : (v : Visit) (xs ys : List Visit) (i : ℕ) → ((v : Visit) → Has v xs → v.before < i) → ((v : Visit) → Has v ys → v.before ≡ i) → Has v (xs ++ ys) → v.before < i + 1
-in_both v [] ys i before here there = let e = here v there in omega arith
-in_both v (x ∷ xs) ys i before here there = elim there [
-  | inl first ↦ let b = before v (inl first) in omega arith
-  | inr rest ↦ in_both v xs ys i (λ w h. before w (inr h)) here rest
-]
-
--- what one instruction adds
-pub record Adds (m : Memory) (plan : PlanView) (mid new : Notes) (d e : ControlView) (s : State) : Type 0 where
-  pub turns : Turns plan mid new (solo_step m s).visits d (call_of m s)
-  pub control : e ≡ control_after d (call_of m s)
-  pub few : calls new ≤ calls mid + 6 + PLACE_LIMIT
-
-follows_one : (m : Memory) (plan : PlanView) (old mid new : Notes) (c d e : ControlView) (budget : ℕ) (first : State) (i : ℕ) (s : State) → IsPlan plan → s.done ≡ i →
-    (r : LedTo m plan old mid c d budget first i s) → Adds m plan mid new d e s → Follows plan old new (r.trace ++ (solo_step m s).visits) (r.called ++ call_of m s ∷ []) c e
-follows_one m plan old mid new c d e budget first i s is done r a =
-    Follows-more plan old mid new r.trace (solo_step m s).visits r.called (call_of m s) c d e is
-    (λ v there. let b = r.before v there in omega (arith, b, r.count))
-    (λ v there. let b = step_visits m s v there in omega (arith, b, done, r.count))
-    r.follows a.turns a.control
 
 pub LedTo-more : (m : Memory) (plan : PlanView) (old mid new : Notes) (c d e : ControlView) (budget : ℕ) (first : State) (i : ℕ) (s t : State) → IsPlan plan → s.done ≡ i →
     LedTo m plan old mid c d budget first i s → i < budget → has_returned s ≡ false → (solo_step m s).next ≡ On → (solo_step m s).state ≡ t →
@@ -107,46 +135,32 @@ pub LedTo-more : (m : Memory) (plan : PlanView) (old mid new : Notes) (c d e : C
 LedTo-more m plan old mid new c d e budget first i s t is done r lt here next state a = record {
   trace = r.trace ++ (solo_step m s).visits;
   called = r.called ++ call_of m s ∷ [];
-  follows = follows_one m plan old mid new c d e budget first i s is done r a;
-  count = omega (arith, r.count, length-append r.called (call_of m s ∷ []));
-  before = λ v there. in_both v r.trace (solo_step m s).visits i r.before (λ w h. step_visits m s w h ∙ done) there;
+  made = Made-more m plan old mid new c d e i s r.trace r.called is done r.made a;
   run = r.run ∙ ap (λ k. run_on m k s r.trace) (left budget i lt) ∙ run_on-more m (budget - (i + 1)) s t r.trace here next state;
   rest = r.rest ∙ (ap (λ k. r.called ++ calls_on m k s) (left budget i lt) ∙ (ap (λ ks. r.called ++ ks) (calls_on-more m (budget - (i + 1)) s t here next state)
       ∙ sym (append_assoc r.called (call_of m s ∷ []) (calls_on m (budget - (i + 1)) t))));
-  few = omega (arith, r.few, a.few);
 }
-
--- where the run ends
-pub record IsRun (plan : PlanView) (old new : Notes) (c d : ControlView) (run : Run) (called : List (Option ℕ)) (e : Ending) (s : State) (budget : ℕ) : Type 0 where
-  pub ending : e ≡ run.ending
-  pub state : s ≡ run.state
-  pub follows : Follows plan old new run.trace called c d
-  pub few : calls new ≤ calls old + (6 + PLACE_LIMIT) * budget
 
 pub IsRun-ended : (m : Memory) (plan : PlanView) (old mid new : Notes) (c d e : ControlView) (budget : ℕ) (first : State) (i : ℕ) (s t : State) (ending : Ending) → IsPlan plan → s.done ≡ i →
     LedTo m plan old mid c d budget first i s → i < budget → has_returned s ≡ false → (solo_step m s).next ≡ Ended ending → (solo_step m s).state ≡ t →
     Adds m plan mid new d e s → IsRun plan old new c e (solo_run m budget first) (calls_on m budget first) ending t budget
 IsRun-ended m plan old mid new c d e budget first i s t ending is done r lt here next state a =
-    let run : solo_run m budget first ≡ run_ended ending t (r.trace ++ (solo_step m s).visits) =
-    r.run ∙ ap (λ k. run_on m k s r.trace) (left budget i lt) ∙ run_on-ended m (budget - (i + 1)) s t r.trace ending here next state in
-    let rest : calls_on m budget first ≡ r.called ++ call_of m s ∷ [] =
-    r.rest ∙ (ap (λ k. r.called ++ calls_on m k s) (left budget i lt) ∙ ap (λ ks. r.called ++ ks) (calls_on-ended m (budget - (i + 1)) s ending here next)) in
-    rw (run, rest) (record { ending = refl; state = refl; follows = follows_one m plan old mid new c d e budget first i s is done r a; few = within i budget r.few a.few lt })
-  where
-    within : (i budget : ℕ) → calls mid ≤ calls old + (6 + PLACE_LIMIT) * i → calls new ≤ calls mid + 6 + PLACE_LIMIT → i < budget → calls new ≤ calls old + (6 + PLACE_LIMIT) * budget
-    within i budget h k lt = omega arith
+    IsRun-made plan old new c e (i + 1) budget (r.trace ++ (solo_step m s).visits) (r.called ++ call_of m s ∷ []) (calls_on m budget first) (solo_run m budget first) ending t
+    (Made-more m plan old mid new c d e i s r.trace r.called is done r.made a) (omega arith)
+    (r.run ∙ ap (λ k. run_on m k s r.trace) (left budget i lt) ∙ run_on-ended m (budget - (i + 1)) s t r.trace ending here next state)
+    (r.rest ∙ (ap (λ k. r.called ++ calls_on m k s) (left budget i lt) ∙ ap (λ ks. r.called ++ ks) (calls_on-ended m (budget - (i + 1)) s ending here next)))
 
 pub IsRun-returned : (m : Memory) (plan : PlanView) (old new : Notes) (c d : ControlView) (budget : ℕ) (first : State) (i : ℕ) (s : State) →
     LedTo m plan old new c d budget first i s → i ≤ budget → has_returned s ≡ true → IsRun plan old new c d (solo_run m budget first) (calls_on m budget first) Returned s budget
 IsRun-returned m plan old new c d budget first i s r within here =
-    let run : solo_run m budget first ≡ run_ended Returned s r.trace = r.run ∙ run_on-returned m (budget - i) s r.trace here in
-    let rest : calls_on m budget first ≡ r.called = r.rest ∙ (ap (λ ks. r.called ++ ks) (calls_on-returned m (budget - i) s here) ∙ append-nil r.called) in
-    rw (run, rest) (record { ending = refl; state = refl; follows = r.follows; few = omega (arith, r.few, within) })
+    IsRun-made plan old new c d i budget r.trace r.called (calls_on m budget first) (solo_run m budget first) Returned s r.made within
+    (r.run ∙ run_on-returned m (budget - i) s r.trace here)
+    (r.rest ∙ (ap (λ ks. r.called ++ ks) (calls_on-returned m (budget - i) s here) ∙ append-nil r.called))
 
 pub IsRun-spent : (m : Memory) (plan : PlanView) (old new : Notes) (c d : ControlView) (budget : ℕ) (first : State) (i : ℕ) (s : State) →
     LedTo m plan old new c d budget first i s → budget ≡ i → has_returned s ≡ false → IsRun plan old new c d (solo_run m budget first) (calls_on m budget first) Spent s budget
 IsRun-spent m plan old new c d budget first i s r all here =
     let none : budget - i ≡ 0 = omega arith in
-    let run : solo_run m budget first ≡ run_ended Spent s r.trace = r.run ∙ ap (λ k. run_on m k s r.trace) none ∙ run_on-spent m s r.trace here in
-    let rest : calls_on m budget first ≡ r.called = r.rest ∙ (ap (λ k. r.called ++ calls_on m k s) none ∙ (ap (λ ks. r.called ++ ks) (calls_on-spent m s) ∙ append-nil r.called)) in
-    rw (run, rest) (record { ending = refl; state = refl; follows = r.follows; few = omega (arith, r.few, all) })
+    IsRun-made plan old new c d i budget r.trace r.called (calls_on m budget first) (solo_run m budget first) Spent s r.made (omega (arith, all))
+    (r.run ∙ ap (λ k. run_on m k s r.trace) none ∙ run_on-spent m s r.trace here)
+    (r.rest ∙ (ap (λ k. r.called ++ calls_on m k s) none ∙ (ap (λ ks. r.called ++ ks) (calls_on-spent m s) ∙ append-nil r.called)))

@@ -3,8 +3,9 @@ use Rattle.s370_state.specs.declared.endings.Ending.TheVariants.{Returned, Spent
 use Rattle.s370_exec.specs.Solo.{state_of, solo_run}
 use Rattle.space_map.specs.Space.{memory_of_space}
 use Rattle.task_run.specs.Called.{calls_on}
+use Rattle.task_run.specs.Courses.{solo}
 use Rattle.task_run.proofs.RunLemmas.{IsRun, LedTo-start, LedTo-more, IsRun-ended, IsRun-returned, IsRun-spent}
-use Rattle.task_run.proofs.RanLemmas.{ran_alone}
+use Rattle.task_run.proofs.RanLemmas.{ran_along}
 use Rattle.task_run.proofs.run.run_task.Given as given
 use Rattle.task_run.proofs.run.run_task.Goals as goal
 
@@ -21,10 +22,10 @@ loop-done-init g c = record {
 
 pub step-requires-clause-room : goal.step-requires-clause-room
 step-requires-clause-room g c =
-    omega (arith, c.loop-done.invariant.run.few, c.requires.room)
+    omega (arith, c.loop-done.invariant.run.made.few, c.requires.room)
 
 pub step-requires-clause-working : goal.step-requires-clause-working
-step-requires-clause-working g c = ap (λ (o : Option ℕ). is_some o) c.loop-done.invariant.run.follows.observes.grows.bears ∙ c.requires.working
+step-requires-clause-working g c = ap (λ (o : Option ℕ). is_some o) c.loop-done.invariant.run.made.follows.observes.grows.bears ∙ c.requires.working
 
 pub loop-done-preserved : goal.loop-done-preserved
 loop-done-preserved g c =
@@ -77,7 +78,7 @@ spent : (g : given.Over) (c : goal.Else-has_returned-2 g) →
 spent g c = IsRun-spent _ _ _ _ _ _ _ _ _ _ c.loop-done.invariant.run (let all = c.loop-done-test.false in omega (arith, all, c.loop-done.invariant.within)) (sym c.if-has_returned-2.ensures)
 
 pub returns-in-Ended-clause-ran : goal.returns-in-Ended-clause-ran
-returns-in-Ended-clause-ran g c = ran_alone _ _ _ _ _ _ (rw c.requires.plan c.places_len.ensures.plan) c.requires.tied c.requires.first (record {
+returns-in-Ended-clause-ran g c = ran_along solo _ _ _ _ _ _ (rw c.requires.plan c.places_len.ensures.plan) c.requires.tied c.requires.first (record {
   memory = c.step.ensures.memory ∙ c.loop-done.invariant.memory;
   budget = c.loop-done.invariant.budget;
   done = let lt = c.loop-done-test.true in omega (arith, lt);
@@ -85,7 +86,7 @@ returns-in-Ended-clause-ran g c = ran_alone _ _ _ _ _ _ (rw c.requires.plan c.pl
 }) (ended g c)
 
 pub returns-then-has_returned-clause-ran : goal.returns-then-has_returned-clause-ran
-returns-then-has_returned-clause-ran g c = ran_alone _ _ _ _ _ _ (rw c.requires.plan c.places_len.ensures.plan) c.requires.tied c.requires.first (record {
+returns-then-has_returned-clause-ran g c = ran_along solo _ _ _ _ _ _ (rw c.requires.plan c.places_len.ensures.plan) c.requires.tied c.requires.first (record {
   memory = c.loop-done.invariant.memory;
   budget = c.loop-done.invariant.budget;
   done = omega (arith, c.loop-done.invariant.done, c.loop-done.invariant.within);
@@ -93,7 +94,7 @@ returns-then-has_returned-clause-ran g c = ran_alone _ _ _ _ _ _ (rw c.requires.
 }) (rw c.loop-done.invariant.done (returned g c))
 
 pub returns-then-has_returned-2-clause-ran : goal.returns-then-has_returned-2-clause-ran
-returns-then-has_returned-2-clause-ran g c = ran_alone _ _ _ _ _ _ (rw c.requires.plan c.places_len.ensures.plan) c.requires.tied c.requires.first (record {
+returns-then-has_returned-2-clause-ran g c = ran_along solo _ _ _ _ _ _ (rw c.requires.plan c.places_len.ensures.plan) c.requires.tied c.requires.first (record {
   memory = c.loop-done.invariant.memory;
   budget = c.loop-done.invariant.budget;
   done = omega (arith, c.loop-done.invariant.done, c.loop-done.invariant.within);
@@ -101,7 +102,7 @@ returns-then-has_returned-2-clause-ran g c = ran_alone _ _ _ _ _ _ (rw c.require
 }) (rw c.loop-done.invariant.done (returned_last g c))
 
 pub returns-else-has_returned-2-clause-ran : goal.returns-else-has_returned-2-clause-ran
-returns-else-has_returned-2-clause-ran g c = ran_alone _ _ _ _ _ _ (rw c.requires.plan c.places_len.ensures.plan) c.requires.tied c.requires.first (record {
+returns-else-has_returned-2-clause-ran g c = ran_along solo _ _ _ _ _ _ (rw c.requires.plan c.places_len.ensures.plan) c.requires.tied c.requires.first (record {
   memory = c.loop-done.invariant.memory;
   budget = c.loop-done.invariant.budget;
   done = omega (arith, c.loop-done.invariant.done, c.loop-done.invariant.within);

@@ -1,0 +1,2 @@
+pub mod SvcLemmas
+pub mod ExitLemmas
