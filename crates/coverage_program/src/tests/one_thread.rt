@@ -1,4 +1,4 @@
-//! A task over a pass that was split for it, on one thread: how it ends, and what the root meets at its places then.
+//! A task over a pass that was split for it, on one thread: how it ends, and what the pass meets at its places then.
 ghost use Rattle.std.specs.Prelude.{◌≡◌, ◌<◌, ◌≤◌, ◌^◌, true, [], length, All};
 ghost use Rattle.std.specs.declared.option.Option.TheVariants.{None};
 ghost use Rattle.brk_table.specs.Places.{IsIn};
@@ -16,6 +16,7 @@ use s370_state::Ending;
 use session_book::{Begun, Job, begin, plan_of};
 use shared_area::SharedAreas;
 use std::alloc::Global;
+use std::cmp::min;
 use std::test::Fail;
 use task_run::{Task, run_task};
 
@@ -54,6 +55,9 @@ fn run_first<C: Cells>(
     requires places { (C.plan cells.now).places ≡ tables.now.places }
     requires task { 0 < length job.now.tasks }
     requires tables { All (IsIn job.now.images) tables.now.places }
+    ensures area { C.is_pass cells.now pass.new }
+    ensures working { is_working (C.notes pass.new) ≡ true }
+    ensures room { calls (C.notes pass.new) < 2 ^ 61 }
 {
     let Begun { cpu, space, io } = begin(alloc, job, tables, 0)?;
     let mut task = Task {
@@ -61,7 +65,7 @@ fn run_first<C: Cells>(
         space,
         io,
         done: 0,
-        budget: job.card(0).budget,
+        budget: min(job.card(0).budget, 100),
         control,
     };
     Ok(run_task(cells, pass, tables, plan, &mut task))
@@ -93,8 +97,8 @@ where
     let mut pass = cells.split(&mut root, TaskNo(0));
     let ending = run_first(alloc, &cells, &mut pass, job, tables, &plan, control)?;
     let met = [
-        cells.fetch(&mut root, PlaceNo(0)),
-        cells.fetch(&mut root, PlaceNo(1)),
+        cells.fetch(&mut pass, PlaceNo(0)),
+        cells.fetch(&mut pass, PlaceNo(1)),
     ];
     Ok(Some((ending, met)))
 }
