@@ -163,8 +163,8 @@ static PROVED: [Row; 12] = [
     },
 ];
 
-/// What is refused.
-static UNPROVED: [Row; 31] = [
+/// What is refused for the job, its session or the marks file.
+static UNPROVED: [Row; 11] = [
     Row {
         name: "prove: no such session",
         words: &["prove", "X"],
@@ -242,6 +242,10 @@ static UNPROVED: [Row; 31] = [
         status: 11,
         output: &[Text("OTHER TABLE ROW 1 LEFT 0000000004014610 RIGHT 0000000004014620\n")],
     },
+];
+
+/// Evidence whose fields are bad, or at their bounds.
+static FIELDS: [Row; 11] = [
     Row {
         name: "verify: no evidence",
         words: &["verify", "S"],
@@ -369,6 +373,10 @@ static UNPROVED: [Row; 31] = [
         status: 15,
         output: &[Text("BAD EVIDENCE OFFSET 28\n")],
     },
+];
+
+/// Evidence or marks that the executions refute.
+static REFUTED: [Row; 9] = [
     Row {
         name: "verify: a fact is left out",
         words: &["verify", "S"],
@@ -484,7 +492,17 @@ pub fn proved() -> &'static [Row] {
     &PROVED
 }
 
-/// What is refused: a job or its session, a marks file, evidence.
+/// What is refused for the job, its session or the marks file.
 pub fn unproved() -> &'static [Row] {
     &UNPROVED
+}
+
+/// Evidence whose fields are bad, or at their bounds.
+pub fn fields() -> &'static [Row] {
+    &FIELDS
+}
+
+/// Evidence or marks that the executions refute.
+pub fn refuted() -> &'static [Row] {
+    &REFUTED
 }

@@ -1,7 +1,7 @@
 //! Faults of source and sink at each call in turn, of every command; and tasks that begin where nothing can be fetched, or
 //! change their own code.
 
-use super::evidence::{proved, unproved};
+use super::evidence::{fields, proved, refuted, unproved};
 use super::marked::{PHASES, Row, bad_files, bad_jobs, bad_shown, good};
 use super::notation::Part::{Code, Marked, Text};
 use super::notation::{Case, bytes_of};
@@ -344,7 +344,9 @@ fn tells_a_fault_at_each_read_and_write(rt: HostRuntime) -> Result<(), Fail> {
     check_faults(&rt, rt.alloc(), bad_shown())?;
     check_faults(&rt, rt.alloc(), bad_files())?;
     check_faults(&rt, rt.alloc(), proved())?;
-    check_faults(&rt, rt.alloc(), unproved())
+    check_faults(&rt, rt.alloc(), unproved())?;
+    check_faults(&rt, rt.alloc(), fields())?;
+    check_faults(&rt, rt.alloc(), refuted())
 }
 
 #[test]

@@ -1,6 +1,6 @@
 //! The commands `marks`, `combine`, `show`, `prove` and `verify`: what they write, and the first cause of what they refuse.
 
-use super::evidence::{proved, unproved};
+use super::evidence::{fields, proved, refuted, unproved};
 use super::faults::serve_faulty;
 use super::marked::{
     RUNS, Row, SHOWN_UNION, UNION, UNION_AGAIN, bad_files, bad_jobs, bad_shown, good, no_commands,
@@ -85,7 +85,9 @@ fn tells_the_first_cause(rt: HostRuntime) -> Result<(), Fail> {
     check_refused(&rt, rt.alloc(), bad_jobs())?;
     check_refused(&rt, rt.alloc(), bad_shown())?;
     check_refused(&rt, rt.alloc(), bad_files())?;
-    check_refused(&rt, rt.alloc(), unproved())
+    check_refused(&rt, rt.alloc(), unproved())?;
+    check_refused(&rt, rt.alloc(), fields())?;
+    check_refused(&rt, rt.alloc(), refuted())
 }
 
 #[test]
