@@ -1,5 +1,5 @@
 -- What the program answers with, cause by cause.
-use Rattle.std.proofs.Common.{inl, inr, OnOk, OnErr, ◌≡◌, ℕ, ◌≤◌, true, false, Option, Result, Ok, Err, List, length, take, drop, refl, sym, ap, ◌∙◌, arith}
+use Rattle.std.proofs.Common.{inl, inr, OnOk, OnErr, ◌≡◌, ℕ, ◌≤◌, true, false, Option, None, Result, Ok, Err, List, length, take, drop, refl, sym, ap, ◌∙◌, arith}
 use Rattle.std.proofs.lemmas.List.{length-append, take_all, take_at, drop_at}
 use Rattle.cov_outside.specs.Writes.{Writes}
 use Rattle.module_area.specs.declared.places.Place.{Place}
