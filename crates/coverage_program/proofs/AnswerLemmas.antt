@@ -41,7 +41,7 @@ use Rattle.job_run.proofs.SessionLemmas.{set_is_left}
 use Rattle.job_run.specs.Tasks.{results_of}
 use Rattle.coverage_program.specs.Replay.{Bad, Whole, replay_text}
 use Rattle.coverage_program.proofs.RunLemmas.{play_is_run}
-use Rattle.coverage_program.proofs.WordLemmas.{by_report, job_read, read_alone, ready_to_run}
+use Rattle.coverage_program.proofs.WordLemmas.{by_report, ready_to_run}
 use Rattle.coverage_program.specs.Words.{reads_input, reads_job, Reading, Wanted, to_end, reading_of, makes_areas, reports_run, course_of, session_named, without_areas, no_memory_line, bad_schedule_line}
 
 pub are_sets : (course : Course) (j : JobView) (tables : TablesView) (tasks : List Done) (sets : SetsView) → IsOutcomeBy course j tables.places tasks sets →

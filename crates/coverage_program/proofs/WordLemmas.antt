@@ -1,5 +1,5 @@
 -- What is so of the commands that report on a run.
-use Rattle.std.proofs.Common.{◌≡◌, true, List, ℕ, refl, sym, subst}
+use Rattle.std.proofs.Common.{◌≡◌, true, refl, sym, subst}
 use Rattle.brk_table.specs.Places.{TablesView}
 use Rattle.session_book.specs.JobView.{JobView}
 use Rattle.coverage_program.specs.Answers.{IsReady}

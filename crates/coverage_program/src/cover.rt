@@ -41,7 +41,13 @@ use std::thread::Threads;
 use task_run::{PlainRunner, Runner};
 
 /// Runs a job whose listings match, each task along the runner's course, and writes its report.
-fn answer_tables<T: Threads + Wait + Sync, K: Sink, A: Areas, G: Gate + Sync, R: Runner<A::C> + Sync>(
+fn answer_tables<
+    T: Threads + Wait + Sync,
+    K: Sink,
+    A: Areas,
+    G: Gate + Sync,
+    R: Runner<A::C> + Sync,
+>(
     rt: &T,
     alloc: Global,
     runner: &R,
@@ -67,7 +73,14 @@ fn answer_tables<T: Threads + Wait + Sync, K: Sink, A: Areas, G: Gate + Sync, R:
 }
 
 /// Reads a job, runs it, each task along the runner's course, and writes its report.
-fn answer_run<T: Threads + Wait + Sync, S: Source, K: Sink, A: Areas, G: Gate + Sync, R: Runner<A::C> + Sync>(
+fn answer_run<
+    T: Threads + Wait + Sync,
+    S: Source,
+    K: Sink,
+    A: Areas,
+    G: Gate + Sync,
+    R: Runner<A::C> + Sync,
+>(
     rt: &T,
     alloc: Global,
     runner: &R,
@@ -80,7 +93,16 @@ fn answer_run<T: Threads + Wait + Sync, S: Source, K: Sink, A: Areas, G: Gate + 
     ensures { (c : Command) → reports_run c ≡ true → course_of c ≡ R.course → Answers c (source_change S.left S.faults source.old source.new) (areas_change A.ledger A.finals A.made areas.old areas.new) (sink_change K.written K.faults sink.old sink.new) result.0 }
 {
     match make_ready(alloc, source, false) {
-        Ok(read) => answer_tables(rt, alloc, runner, &read.job, &read.tables, sink, areas, gate),
+        Ok(read) => answer_tables(
+            rt,
+            alloc,
+            runner,
+            &read.job,
+            &read.tables,
+            sink,
+            areas,
+            gate,
+        ),
         Err(refusal) => told(sink, &refusal.line, refusal.status),
     }
 }
@@ -216,9 +238,11 @@ fn answer_one<S: Source, K: Sink>(
         Command::Show(name) => answer_show(alloc, &name, source, sink),
         Command::Prove(name) => answer_prove(alloc, &name, source, sink),
         Command::Verify(name) => answer_verify(alloc, &name, source, sink),
-        Command::Run | Command::Exits | Command::Marks(_) | Command::Trial { .. } | Command::Unknown => told(
-            sink, USAGE, 1,
-        ),
+        Command::Run
+        | Command::Exits
+        | Command::Marks(_)
+        | Command::Trial { .. }
+        | Command::Unknown => told(sink, USAGE, 1),
     }
 }
 

@@ -1,4 +1,4 @@
-use Rattle.std.proofs.Common.{rules, ◌≡◌, List, ℕ, subst}
+use Rattle.std.proofs.Common.{rules}
 use Rattle.coverage_program.specs.Answers.{IsWritten}
 use Rattle.coverage_program.specs.Changes.{source_change, sink_change, areas_change}
 use Rattle.coverage_program.proofs.AnswerLemmas.{stopped_run}
