@@ -4,6 +4,7 @@ mod cases;
 mod controllers;
 mod controls;
 mod evidence;
+mod exits;
 mod faults;
 mod gates;
 mod jobs;
