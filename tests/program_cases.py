@@ -9,7 +9,7 @@ from harness import COVERAGE, PROGRAM, TOP, Case, equal, run, well
 from jobs import COUNTED, FIRST, FIRST_REPORT, FIRST_RESULT, HEADING, TASK, WIDE_HEADING, Program, Result
 from trial import summary
 
-USAGE = b"USAGE: run | marks NAME | trial NUMBER TASKS | table | replay | combine | show NAME | prove NAME | verify NAME\n"
+USAGE = b"USAGE: run | marks NAME | trial NUMBER TASKS | table | replay | combine | show NAME | exits | prove NAME | verify NAME\n"
 PRIVATE_END = 0xFFFFFC
 OTHER_COUNT = Program.of("0 4620F000 BCT, 4 07FE BR")
 # Of the program that counts: what it shows where its count ends at once, where it is spent as it goes on, and the two runs together.
@@ -172,6 +172,25 @@ def controlled() -> list[Case]:
         Case("show of these", ["show", "S"], never + FIRST.marks_file(1, 1, 1, runs=2), FIRST.shown(":::", 3)),
         Case("a controller that is missing", ["run"], through.replace(b"BY C", b"BY D"), b"BAD JOB LINE 15\n", 2),
         Case("two controllers of one module", ["marks", "S"], through.replace(b"TASK C", b"SESSION T BY D M\nTASK C"), b"BAD JOB LINE 11\n", 2),
+    ]
+
+
+def exits() -> list[Case]:
+    """exits: tasks that name an exit, and one that doesn't; and what is refused as of `run`."""
+    divide = Program.of("0 4110F00A LA, 4 0A06 SVC, 6 1D24 DR, 8 07FE BR, A 1850 LR, C 07FE BR")
+    add = Program.of("0 4110F00C LA, 4 0A06 SVC, 6 0420 SPM, 8 1A34 AR, A 1822 LR, C 07FE BR")
+    cards = task("REG 2 08000000 / REG 3 7FFFFFFF / REG 4 00000001")
+    divided = Result("RETURNED", 5, 0, {0: 9, 1: 0x100006, 5: 9})
+    added = Result("RETURNED", 5, 3, {0: 8, 1: 0x10000A, 2: 0x08000000, 3: 0x80000000, 4: 1})
+    report = divide.report([divided], ":::^::", 6, "000008-000009")
+    return [
+        Case("an exit for a division that doesn't fit", ["exits"], divide.job(), report),
+        Case("an exit for an overflow", ["exits"], add.job(cards), add.report([added], "::::^:", 6, "00000A-00000B")),
+        runs("no exit under run", divide, TASK, Result("BADSVC 6", 2, 0, {1: 0x10000A}), "::^^^^", 6, "000006-00000D"),
+        Case("exits of a task that has none", ["exits"], FIRST.job(), FIRST_REPORT),
+        Case("exits by the script", ["exits"], divide.job(), report, command=COVERAGE),
+        Case("exits with a name", ["exits", "S"], divide.job(), USAGE, 1),
+        Case("a job's end that is missing, under exits", ["exits"], FIRST.job().removesuffix(b"ENDJOB\n"), b"BAD JOB LINE 12\n", 2),
     ]
 
 
@@ -468,4 +487,4 @@ CHECKS = [broken_pipe, two_runs, evidence_of_two]
 
 def cases() -> list[Case]:
     """All of the program's."""
-    return [*instructions(), *wide_listings(), *endings(), *controlled(), *commands(), *marks_files(), *evidence(), *trials(), *refusals(), *streams()]
+    return [*instructions(), *wide_listings(), *endings(), *controlled(), *exits(), *commands(), *marks_files(), *evidence(), *trials(), *refusals(), *streams()]

@@ -1,5 +1,5 @@
 -- What the program answers with, cause by cause.
-use Rattle.std.proofs.Common.{inl, inr, OnOk, OnErr, ◌≡◌, ℕ, ◌≤◌, true, false, Option, Result, Ok, Err, List, length, take, drop, refl, sym, ap, ◌∙◌, arith}
+use Rattle.std.proofs.Common.{inl, inr, OnOk, OnErr, ◌≡◌, ℕ, ◌≤◌, true, false, Option, None, Result, Ok, Err, List, length, take, drop, refl, sym, ap, ◌∙◌, arith}
 use Rattle.std.proofs.lemmas.List.{length-append, take_all, take_at, drop_at}
 use Rattle.cov_outside.specs.Writes.{Writes}
 use Rattle.module_area.specs.declared.places.Place.{Place}
@@ -28,41 +28,42 @@ use Rattle.job_run.specs.declared.outcome.Done.{Done}
 use Rattle.coverage_program.specs.declared.tables.Refused.{Refused}
 use Rattle.coverage_program.specs.declared.tables.Refused.TheVariants.{Told, NoMemory}
 use Rattle.coverage_program.specs.declared.words.Command.{Command}
-use Rattle.coverage_program.specs.declared.words.Command.TheVariants.{Run, Marks, Trial, Table, Replay, Combine, Show, Prove, Verify, Unknown}
-use Rattle.job_run.specs.Outcomes.{IsOutcome}
+use Rattle.coverage_program.specs.declared.words.Command.TheVariants.{Run, Exits, Marks, Trial, Table, Replay, Combine, Show, Prove, Verify, Unknown}
+use Rattle.job_run.specs.Outcomes.{IsOutcomeBy}
 use Rattle.coverage_program.specs.Named.{HasNamed}
 use Rattle.coverage_program.specs.Refusals.{RefusalView, job_refusal, Match}
 use Rattle.coverage_program.specs.Refused.{IsRefused, refused_refusal}
-use Rattle.task_run.specs.Courses.{solo}
-use Rattle.job_run.specs.Runs.{Account, HasRun, HasLeft}
+use Rattle.task_run.specs.Courses.{Course}
+use Rattle.job_run.specs.Runs.{Account, HasRunBy, HasLeftBy}
 use Rattle.coverage_program.specs.Reports.{Reports}
 use Rattle.job_run.specs.Sets.{SetsView, set_in}
 use Rattle.job_run.proofs.SessionLemmas.{set_is_left}
 use Rattle.job_run.specs.Tasks.{results_of}
 use Rattle.coverage_program.specs.Replay.{Bad, Whole, replay_text}
 use Rattle.coverage_program.proofs.RunLemmas.{play_is_run}
-use Rattle.coverage_program.specs.Words.{reads_input, reads_job, Reading, Wanted, to_end, reading_of, makes_areas, session_named, without_areas, no_memory_line, bad_schedule_line}
+use Rattle.coverage_program.proofs.WordLemmas.{by_report, ready_to_run}
+use Rattle.coverage_program.specs.Words.{reads_input, reads_job, Reading, Wanted, to_end, reading_of, makes_areas, reports_run, course_of, session_named, without_areas, no_memory_line, bad_schedule_line}
 
-pub are_sets : (j : JobView) (tables : TablesView) (tasks : List Done) (sets : SetsView) → IsOutcome j tables.places tasks sets →
+pub are_sets : (course : Course) (j : JobView) (tables : TablesView) (tasks : List Done) (sets : SetsView) → IsOutcomeBy course j tables.places tasks sets →
     AreSetsOf j tables (length sets.job.sessions) sets.places (λ s p. set_in sets s p)
-are_sets j tables tasks sets o = record {
+are_sets course j tables tasks sets o = record {
   count = ap (λ (k : JobView). length k.sessions) o.job;
   size = o.size;
   within = λ s some most k d l p from to. o.within s p some most;
 }
 
-pub are_results : (j : JobView) (places : List Place) (tasks : List Done) (sets : SetsView) → IsOutcome j places tasks sets → AreResultsOf j (length tasks) (λ t. results_of tasks t)
-are_results j places tasks sets o = record { count = o.count; sizes = o.filled }
+pub are_results : (course : Course) (j : JobView) (places : List Place) (tasks : List Done) (sets : SetsView) → IsOutcomeBy course j places tasks sets → AreResultsOf j (length tasks) (λ t. results_of tasks t)
+are_results course j places tasks sets o = record { count = o.count; sizes = o.filled }
 
-pub reports : (j : JobView) (tables : TablesView) (before after : Account) (tasks : List Done) (sets : SetsView) (form : (ℕ → ResultView) → (ℕ → ℕ → FactSet) → List ℕ) (l : HasLeft j tables.places before after sets.finals) → IsOutcome j tables.places tasks sets →
-    Reports j tables l.ran.sets form (form (λ t. results_of tasks t) (λ s p. set_in sets s p))
-reports j tables before after tasks sets form l o = record {
+pub reports : (course : Course) (j : JobView) (tables : TablesView) (before after : Account) (tasks : List Done) (sets : SetsView) (form : (ℕ → ResultView) → (ℕ → ℕ → FactSet) → List ℕ) (l : HasLeftBy course j tables.places before after sets.finals) → IsOutcomeBy course j tables.places tasks sets →
+    Reports course j tables l.ran.sets form (form (λ t. results_of tasks t) (λ s p. set_in sets s p))
+reports course j tables before after tasks sets form l o = record {
   results = λ t. results_of tasks t;
   sets = λ s p. set_in sets s p;
   are_results = o.are_results;
   are_sets = o.are_sets;
   are_bounded = o.are_bounded;
-  are_final = λ s p some most here. set_is_left solo j tables.places before after sets s p l o.job o.size here;
+  are_final = λ s p some most here. set_is_left course j tables.places before after sets s p l o.job o.size here;
   is_text = refl;
 }
 
@@ -72,22 +73,22 @@ pub written_as : {K T E : Type 0} {written : K → Option (List ℕ)} {faults : 
 written_as text (Ok v) answer w good bad = inl (good, w.whole, w.cause.later)
 written_as text (Err e) answer w good bad = inr (bad, w.some, w.cause.failed)
 
-pub reported : (s : SourceChange) (j : JobView) (tables : TablesView) (a : AreasChange) (k : SinkChange) (answer : ℕ) (text : List ℕ) →
-    CameJob to_end s j → Match j tables.tables → tables.places ≡ all_places tables.tables → (run : HasRun j tables.places a.before a.after) → Reports j tables run.sets (report_of j tables) text → IsWritten 0 text k answer →
-    Answers Run s a k answer
-reported s j tables a k answer text came match' numbered ran reps told = record {
+pub reported : (c : Command) (s : SourceChange) (j : JobView) (tables : TablesView) (a : AreasChange) (k : SinkChange) (answer : ℕ) (text : List ℕ) → reports_run c ≡ true →
+    CameJob to_end s j → Match j tables.tables → tables.places ≡ all_places tables.tables → (run : HasRunBy (course_of c) j tables.places a.before a.after) → Reports (course_of c) j tables run.sets (report_of j tables) text → IsWritten 0 text k answer →
+    Answers c s a k answer
+reported c s j tables a k answer text reporting came match' numbered ran reps told = record {
   status = 0;
   text = text;
-  cause = Report (refl, refl) (record { job = j; tables = tables; came = record { came = came; match = match'; numbered = numbered }; ran = ran; reports = reps });
+  cause = Report (refl, reporting) (record { job = j; tables = tables; came = record { came = came; match = match'; numbered = numbered }; ran = ran; reports = reps });
   told = told;
 }
 
-pub wanting_to_run : (s : SourceChange) (j : JobView) (tables : TablesView) (a : AreasChange) (k : SinkChange) (answer : ℕ) →
-    CameJob to_end s j → Match j tables.tables → tables.places ≡ all_places tables.tables → IsWritten 7 no_memory_line k answer → Answers Run s a k answer
-wanting_to_run s j tables a k answer came match' numbered told = record {
+pub wanting_to_run : (c : Command) (s : SourceChange) (j : JobView) (tables : TablesView) (a : AreasChange) (k : SinkChange) (answer : ℕ) → reports_run c ≡ true →
+    CameJob to_end s j → Match j tables.tables → tables.places ≡ all_places tables.tables → IsWritten 7 no_memory_line k answer → Answers c s a k answer
+wanting_to_run c s j tables a k answer reporting came match' numbered told = record {
   status = 7;
   text = no_memory_line;
-  cause = NoMemoryToRun (refl, refl, refl) (record { job = j; tables = tables; reads = refl; came = record { came = came; match = match'; numbered = numbered }; named = tt });
+  cause = NoMemoryToRun (refl, by_report (λ d. makes_areas d ≡ true) c reporting refl refl, refl) (ready_to_run c s j tables reporting (record { came = came; match = match'; numbered = numbered }));
   told = told;
 }
 
@@ -104,6 +105,12 @@ listed_places s j tables a k answer came match' numbered told = record {
 pub stopped : (c : Command) (s : SourceChange) (a : Account) (k : SinkChange) (answer : ℕ) (r : RefusalView) →
     reads_input c ≡ true → IsStopped (reads_job c) (reading_of c) (session_named c) s r.status r.line → IsWritten r.status r.line k answer → Answers c s (no_change a) k answer
 stopped c s a k answer r reads stop told = record { status = r.status; text = r.line; cause = Stopped reads stop refl; told = told }
+
+-- of a command that reports on a run
+pub stopped_run : (c : Command) (s : SourceChange) (a : Account) (k : SinkChange) (answer : ℕ) (r : RefusalView) →
+    reports_run c ≡ true → IsStopped true to_end None s r.status r.line → IsWritten r.status r.line k answer → Answers c s (no_change a) k answer
+stopped_run c s a k answer r reporting stop told =
+    by_report (λ d. Answers d s (no_change a) k answer) c reporting (stopped Run s a k answer r refl stop told) (stopped Exits s a k answer r refl stop told)
 
 -- all lines spell the job
 all_spell : (how : Reading) (ls : List LineView) (j : JobView) → how.more ≡ false → HasJob how ls j → Spells Present ls j
@@ -177,6 +184,7 @@ unplayed_wanting s a k answer told = record { status = 7; text = no_memory_line;
 -- the words that need no areas are answered alike
 pub alike : (c : Command) → makes_areas c ≡ false → without_areas c ≡ c
 alike Run h = absurd cc
+alike Exits h = absurd cc
 alike (Marks name) h = absurd cc
 alike (Trial number tasks) h = absurd cc
 alike Table h = refl

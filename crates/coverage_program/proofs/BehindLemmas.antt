@@ -30,9 +30,9 @@ use Rattle.coverage_program.specs.Files.{HasRest, IsFile, IsNoFile}
 use Rattle.coverage_program.specs.Inputs.{input_limit}
 use Rattle.coverage_program.specs.Named.{session_number}
 use Rattle.coverage_program.specs.Refusals.{AreTablesFrom, Match}
-use Rattle.coverage_program.specs.Words.{reads_job, Reading, Wanted, to_go_on, reading_of, session_named, makes_areas, makes_job}
+use Rattle.coverage_program.specs.Words.{reads_job, Reading, Wanted, to_go_on, reading_of, session_named, makes_areas, reports_run, makes_job}
 use Rattle.coverage_program.specs.declared.words.Command.{Command}
-use Rattle.coverage_program.specs.declared.words.Command.TheVariants.{Run, Marks, Table, Replay, Combine, Show, Prove, Verify, Unknown}
+use Rattle.coverage_program.specs.declared.words.Command.TheVariants.{Marks, Table, Replay, Combine, Show, Prove, Verify, Unknown}
 use Rattle.coverage_program.proofs.OneTables.{one_of, one_places}
 use Rattle.coverage_program.proofs.StopLemmas.{came_is, any_named, not_both, not_more, too_many, large_stop, matched_stop}
 
@@ -55,7 +55,7 @@ files_stop more name s status text b (ReadFault p) e l quiet = absurd (quiet p.2
 files_stop more name s status text b (WantOfMemory p) e l quiet = p.0
 
 pub files_outcome : (c : Command) (s : SourceChange) (a : AreasChange) (status : ℕ) (text b : List ℕ) → IsCause c s a status text → c ≡ Combine → s.left ≡ Some b → length b ≤ input_limit → (Rose s.faults s.later → ⊥) → IsCombining b status
-files_outcome c s a status text b (Report p q) same e l quiet = let x : Run ≡ Combine = sym p.1 ∙ same in absurd cc
+files_outcome c s a status text b (Report p q) same e l quiet = absurd (not_both (reports_run c) p.1 (ap reports_run same))
 files_outcome c s a status text b (Recorded name p q) same e l quiet = let x : Marks name ≡ Combine = sym p.1 ∙ same in absurd cc
 files_outcome c s a status text b (Places p q k) same e l quiet = let x : Table ≡ Combine = sym p.1 ∙ same in absurd cc
 files_outcome c s a status text b (Replayed p q k) same e l quiet = let x : Replay ≡ Combine = sym p.1 ∙ same in absurd cc
@@ -94,7 +94,7 @@ other_files_case b status d (Strange p i z) is = inl z
 other_files_case b status d (Lacking z) is = inr z
 
 pub large_files : (c : Command) (s : SourceChange) (a : AreasChange) (status : ℕ) (text b : List ℕ) → IsCause c s a status text → c ≡ Combine → s.left ≡ Some b → input_limit < length b → (Rose s.faults s.later → ⊥) → (status ≡ 4) ⊎ (status ≡ 7)
-large_files c s a status text b (Report p q) same e l quiet = let x : Run ≡ Combine = sym p.1 ∙ same in absurd cc
+large_files c s a status text b (Report p q) same e l quiet = absurd (not_both (reports_run c) p.1 (ap reports_run same))
 large_files c s a status text b (Recorded name p q) same e l quiet = let x : Marks name ≡ Combine = sym p.1 ∙ same in absurd cc
 large_files c s a status text b (Places p q k) same e l quiet = let x : Table ≡ Combine = sym p.1 ∙ same in absurd cc
 large_files c s a status text b (Replayed p q k) same e l quiet = let x : Replay ≡ Combine = sym p.1 ∙ same in absurd cc
@@ -199,7 +199,7 @@ one_name c n name p q = let x : Show n ≡ Show name = sym p ∙ q in cc
 
 pub show_outcome : (c : Command) (name : List ℕ) (s : SourceChange) (a : AreasChange) (status : ℕ) (text b : List ℕ) (j : JobView) (tables : TablesView) (number : ℕ) (rest : List ℕ) → IsCause c s a status text → c ≡ Show name → StandsBehind name b j tables number rest → s.left ≡ Some b → (Rose s.faults s.later → ⊥) →
     IsShowing j tables number rest status
-show_outcome c name s a status text b j tables number rest (Report p q) same h e quiet = let x : Run ≡ Show name = sym p.1 ∙ same in absurd cc
+show_outcome c name s a status text b j tables number rest (Report p q) same h e quiet = absurd (not_both (reports_run c) p.1 (ap reports_run same))
 show_outcome c name s a status text b j tables number rest (Recorded n p q) same h e quiet = let x : Marks n ≡ Show name = sym p.1 ∙ same in absurd cc
 show_outcome c name s a status text b j tables number rest (Places p q k) same h e quiet = let x : Table ≡ Show name = sym p.1 ∙ same in absurd cc
 show_outcome c name s a status text b j tables number rest (Replayed p q k) same h e quiet = let x : Replay ≡ Show name = sym p.1 ∙ same in absurd cc

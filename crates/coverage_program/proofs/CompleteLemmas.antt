@@ -16,7 +16,7 @@ use Rattle.coverage_program.specs.Changes.{SourceChange, SinkChange, AreasChange
 use Rattle.coverage_program.specs.Complete.{IsAnswer, IsComplete}
 use Rattle.coverage_program.specs.Complete as wanted
 use Rattle.coverage_program.specs.declared.words.Command.{Command}
-use Rattle.coverage_program.specs.declared.words.Command.TheVariants.{Run, Marks, Trial, Table, Replay, Combine, Show, Prove, Verify, Unknown}
+use Rattle.coverage_program.specs.declared.words.Command.TheVariants.{Run, Exits, Marks, Trial, Table, Replay, Combine, Show, Prove, Verify, Unknown}
 use Rattle.module_area.specs.declared.places.Place.{Place}
 use Rattle.brk_table.specs.Places.{TablesView, all_places}
 use Rattle.coverage_program.specs.Named.{HasNamed, session_number}
@@ -24,9 +24,10 @@ use Rattle.coverage_program.specs.Refusals.{RefusalView, job_refusal, Match}
 use Rattle.coverage_program.specs.Replay.{Play, Bad, Whole, play_of, play_status}
 use Rattle.coverage_program.proofs.OneTables.{one_places}
 use Rattle.job_run.specs.Runs.{Account}
-use Rattle.coverage_program.specs.Words.{reads_input, reads_job, Reading, Wanted, to_end, to_go_on, reading_of, makes_areas, makes_job, session_named}
+use Rattle.coverage_program.specs.Words.{reads_input, reads_job, Reading, Wanted, to_end, to_go_on, reading_of, makes_areas, reports_run, makes_job, session_named}
 use Rattle.coverage_program.proofs.StopLemmas.{came_is, same_job, any_named, whole_named, not_both, not_named, not_whole, controlled_stop, matched_stop, refused_stop, never_came, bad_stop, never_large, over_stop, too_many, large_stop, missing_stop, HasNone}
 use Rattle.coverage_program.proofs.BehindLemmas.{large_files, files_outcome, united_case, bad_files_case, other_files_case, show_outcome, shown_case, bad_shown_case, other_shown_case}
+use Rattle.coverage_program.proofs.WordLemmas.{job_read, read_alone, unnamed}
 use Rattle.coverage_program.proofs.VerdictLemmas.{check_outcome, checked_case}
 use Rattle.coverage_program.specs.Files.{HasRest}
 use Rattle.coverage_program.specs.Checked.{verdict_status}
@@ -58,7 +59,7 @@ checked_done c name s status text j tables n rest e h free =
     Done j (inr (ap (λ (d : Command). (reading_of d).more) e)) (came_by c to_go_on s j (ap reading_of e) (record { bytes = h.bytes; came = h.came.came; has = h.came.has })) (named_by c (Verify name) j e (whole_named j name n h.is_number free)) h.match.faultless
 
 outcome : (c : Command) (s : SourceChange) (a : AreasChange) (status : ℕ) (text : List ℕ) → IsCause c s a status text → reads_job c ≡ true → IsOutcome (reading_of c) (session_named c) s status text
-outcome c s a status text (Report p q) r = Done q.job (inl p.0) (came_by c to_end s q.job (ap reading_of p.1) q.came.came) (named_by c Run q.job p.1 tt) q.came.match.faultless
+outcome c s a status text (Report p q) r = Done q.job (inl p.0) (came_by c to_end s q.job (read_alone c p.1) q.came.came) (unnamed c q.job p.1) q.came.match.faultless
 outcome c s a status text (Recorded name p q) r = Done q.job (inl p.0) (came_by c to_end s q.job (ap reading_of p.1) q.came.came) (named_by c (Marks name) q.job p.1 (any_named q.job name q.number q.is_number)) q.came.match.faultless
 outcome c s a status text (Places p q k) r = Done q.job (inl p.0) (came_by c to_end s q.job (ap reading_of p.1) q.came.came) (named_by c Table q.job p.1 tt) q.came.match.faultless
 outcome c s a status text (Replayed p q k) r = Done q.job (inl p.0) (first_by c s q.job q.tables (Whole q.core q.played) p.1 q.has) (named_by c Replay q.job p.1 tt) q.has.match.faultless
@@ -102,7 +103,7 @@ Replays c s b j tables = (c ≡ Replay) × (s.left ≡ Some b) × (length b ≤ 
 
 replayed_case : (c : Command) (s : SourceChange) (a : AreasChange) (status : ℕ) (text b : List ℕ) (j : JobView) (tables : TablesView) (has : HasJob to_go_on (lines_of b) j) → IsCause c s a status text → Replays c s b j tables →
     (status ≡ play_status (play_of j tables.places has.count (drop has.count (lines_of b)))) ⊎ (status ≡ 7)
-replayed_case c s a status text b j tables has (Report p q) r = let x : Run ≡ Replay = sym p.1 ∙ r.0 in absurd cc
+replayed_case c s a status text b j tables has (Report p q) r = absurd (not_both (reports_run c) p.1 (ap reports_run r.0))
 replayed_case c s a status text b j tables has (Recorded name p q) r = let x : Marks name ≡ Replay = sym p.1 ∙ r.0 in absurd cc
 replayed_case c s a status text b j tables has (Places p q k) r = let x : Table ≡ Replay = sym p.1 ∙ r.0 in absurd cc
 replayed_case c s a status text b j tables has (Replayed p q k) r =
@@ -162,7 +163,7 @@ large_case how name s status text b (None' q) e l quiet = large_stop true how na
 large_case how name s status text b (Wanting p) e l quiet = inr p
 
 usage_case : (c : Command) (s : SourceChange) (a : AreasChange) (status : ℕ) (text : List ℕ) → IsCause c s a status text → c ≡ Unknown → status ≡ 1
-usage_case c s a status text (Report p q) u = let e : Run ≡ Unknown = sym p.1 ∙ u in absurd cc
+usage_case c s a status text (Report p q) u = absurd (not_both (reports_run c) p.1 (ap reports_run u))
 usage_case c s a status text (Recorded name p q) u = let e : Marks name ≡ Unknown = sym p.1 ∙ u in absurd cc
 usage_case c s a status text (Places p q k) u = let e : Table ≡ Unknown = sym p.1 ∙ u in absurd cc
 usage_case c s a status text (Replayed p q k) u = let e : Replay ≡ Unknown = sym p.1 ∙ u in absurd cc
@@ -184,6 +185,7 @@ usage_case c s a status text (NoMemoryToTry p q) u = absurd (not_both (makes_job
 -- a command that reads its input reads a job, or files alone
 reads_all : (c : Command) → reads_input c ≡ true → (reads_job c ≡ true) ⊎ (c ≡ Combine)
 reads_all Run t = inl refl
+reads_all Exits t = inl refl
 reads_all (Marks name) t = inl refl
 reads_all (Trial number tasks) t = absurd cc
 reads_all Table t = inl refl
@@ -203,8 +205,8 @@ plain_case c d s a status text b j cause same reads alone named e l has none qui
     let o : IsOutcome (reading_of d) (session_named d) s status text = as_read c d s status text same (outcome c s a status text cause (ap reads_job same ∙ reads)) in
     matched_case (reading_of d) (session_named d) s status text b j alone o e l has named none quiet
 
-run_or_table : (c : Command) (s : SourceChange) (a : AreasChange) (status : ℕ) (text b : List ℕ) (j : JobView) → IsCause c s a status text → (c ≡ Run) ⊎ (c ≡ Table) → s.left ≡ Some b → length b ≤ input_limit → HasJob (reading_of c) (lines_of b) j → job_refusal j ≡ None → (Rose s.faults s.later → ⊥) → (status ≡ 0) ⊎ (status ≡ 7)
-run_or_table c s a status text b j cause (inl same) e l has none quiet = plain_case c Run s a status text b j cause same refl refl tt e l (subst (λ (d : Command). HasJob (reading_of d) (lines_of b) j) same has) none quiet
+run_or_table : (c : Command) (s : SourceChange) (a : AreasChange) (status : ℕ) (text b : List ℕ) (j : JobView) → IsCause c s a status text → (reports_run c ≡ true) ⊎ (c ≡ Table) → s.left ≡ Some b → length b ≤ input_limit → HasJob (reading_of c) (lines_of b) j → job_refusal j ≡ None → (Rose s.faults s.later → ⊥) → (status ≡ 0) ⊎ (status ≡ 7)
+run_or_table c s a status text b j cause (inl h) e l has none quiet = plain_case c c s a status text b j cause refl (job_read c h) (ap (λ (how : Reading). how.more) (read_alone c h)) (unnamed c j h) e l has none quiet
 run_or_table c s a status text b j cause (inr same) e l has none quiet = plain_case c Table s a status text b j cause same refl refl tt e l (subst (λ (d : Command). HasJob (reading_of d) (lines_of b) j) same has) none quiet
 
 large_any : (c : Command) (s : SourceChange) (a : AreasChange) (status : ℕ) (text b : List ℕ) → IsCause c s a status text → (reads_job c ≡ true) ⊎ (c ≡ Combine) → s.left ≡ Some b → input_limit < length b → (Rose s.faults s.later → ⊥) → (status ≡ 4) ⊎ (status ≡ 7)

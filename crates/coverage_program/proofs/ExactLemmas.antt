@@ -13,9 +13,9 @@ use Rattle.coverage_program.specs.Checked.{Verdict, OtherTable, BadEvidence, Ref
 use Rattle.coverage_program.specs.Checked.{BadFile as BadMarks}
 use Rattle.coverage_program.specs.Complete.{StandsBehind, HoldsTrue, bytes_of}
 use Rattle.coverage_program.specs.Files.{HasRest}
-use Rattle.coverage_program.specs.Words.{reads_job, Reading, Wanted, reading_of, session_named, makes_areas, makes_job}
+use Rattle.coverage_program.specs.Words.{reads_job, Reading, Wanted, reading_of, session_named, makes_areas, reports_run, makes_job}
 use Rattle.coverage_program.specs.declared.words.Command.{Command}
-use Rattle.coverage_program.specs.declared.words.Command.TheVariants.{Run, Marks, Table, Replay, Combine, Show, Prove, Verify, Unknown}
+use Rattle.coverage_program.specs.declared.words.Command.TheVariants.{Marks, Table, Replay, Combine, Show, Prove, Verify, Unknown}
 use Rattle.coverage_program.proofs.BehindLemmas.{joined}
 use Rattle.coverage_program.proofs.CompleteLemmas.{complete}
 use Rattle.coverage_program.proofs.UntouchedLemmas.{never_zero}
@@ -54,7 +54,7 @@ stopped_told job how name s status text (ReadFault p) z = let x : 5 ≡ 0 = sym 
 stopped_told job how name s status text (WantOfMemory p) z = let x : 7 ≡ 0 = sym p.0 ∙ z in absurd cc
 
 exact_case : (c : Command) (name : List ℕ) (s : SourceChange) (a : AreasChange) (status : ℕ) (text b : List ℕ) → IsCause c s a status text → c ≡ Verify name → s.left ≡ Some b → status ≡ 0 → HoldsTrue name b
-exact_case c name s a status text b (Report p q) same e z = let x : Run ≡ Verify name = sym p.1 ∙ same in absurd cc
+exact_case c name s a status text b (Report p q) same e z = absurd (not_both (reports_run c) p.1 (ap reports_run same))
 exact_case c name s a status text b (Recorded n p q) same e z = let x : Marks n ≡ Verify name = sym p.1 ∙ same in absurd cc
 exact_case c name s a status text b (Places p q k) same e z = let x : Table ≡ Verify name = sym p.1 ∙ same in absurd cc
 exact_case c name s a status text b (Replayed p q k) same e z = let x : Replay ≡ Verify name = sym p.1 ∙ same in absurd cc

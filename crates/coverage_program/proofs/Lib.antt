@@ -15,3 +15,4 @@ pub mod StopLemmas
 pub mod BehindLemmas
 pub mod TrialLemmas
 pub mod NumberLemmas
+pub mod WordLemmas

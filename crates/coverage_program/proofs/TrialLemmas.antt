@@ -19,19 +19,22 @@ use Rattle.coverage_program.specs.Changes.{SourceChange, SinkChange, AreasChange
 use Rattle.coverage_program.specs.Complete.{IsAnswer}
 use Rattle.coverage_program.specs.Complete as wanted
 use Rattle.coverage_program.specs.declared.words.Command.{Command}
-use Rattle.coverage_program.specs.declared.words.Command.TheVariants.{Run, Marks, Trial, Table, Replay, Combine, Show, Prove, Verify, Unknown}
+use Rattle.coverage_program.specs.declared.words.Command.TheVariants.{Run, Exits, Marks, Trial, Table, Replay, Combine, Show, Prove, Verify, Unknown}
 use Rattle.coverage_program.specs.Refusals.{job_refusal, Match}
 use Rattle.coverage_program.specs.Trial.{IsUnread}
 use Rattle.coverage_program.specs.Untouched.{IsRunText}
 use Rattle.coverage_program.specs.Words.{reads_input, reads_job, makes_areas, makes_job, no_memory_line}
 use Rattle.coverage_program.proofs.AnswerLemmas.{reports}
+use Rattle.task_run.specs.Courses.{solo}
 use Rattle.coverage_program.proofs.StopLemmas.{not_both}
+use Rattle.coverage_program.proofs.WordLemmas.{job_read}
 use Rattle.coverage_program.proofs.TableLemmas.{unrefused}
 
 -- ---- the command
 
 pub made_areas : (c : Command) → makes_job c ≡ true → makes_areas c ≡ true
 made_areas Run m = absurd cc
+made_areas Exits m = absurd cc
 made_areas (Marks name) m = absurd cc
 made_areas (Trial number tasks) m = refl
 made_areas Table m = absurd cc
@@ -44,6 +47,7 @@ made_areas Unknown m = absurd cc
 
 pub made_jobless : (c : Command) → makes_job c ≡ true → reads_job c ≡ false
 made_jobless Run m = absurd cc
+made_jobless Exits m = absurd cc
 made_jobless (Marks name) m = absurd cc
 made_jobless (Trial number tasks) m = refl
 made_jobless Table m = absurd cc
@@ -56,6 +60,7 @@ made_jobless Unknown m = absurd cc
 
 pub made_silent : (c : Command) → makes_job c ≡ true → reads_input c ≡ false
 made_silent Run m = absurd cc
+made_silent Exits m = absurd cc
 made_silent (Marks name) m = absurd cc
 made_silent (Trial number tasks) m = refl
 made_silent Table m = absurd cc
@@ -75,7 +80,7 @@ never_answered c b n m (wanted.LargeJob what k t l over i) = not_both (reads_job
 never_answered c b n m (wanted.NoSession j name t l has named none i) = not_both (reads_job c) t (made_jobless c m)
 never_answered c b n m (wanted.Controlled j name number t l has named whole is by i) = not_both (reads_job c) t (made_jobless c m)
 never_answered c b n m (wanted.BadListing j r t l has named some i) = not_both (reads_job c) t (made_jobless c m)
-never_answered c b n m (wanted.Matched j t l has none i) = elim t [ inl u ↦ not_both (makes_job c) m (ap makes_job u) | inr u ↦ not_both (makes_job c) m (ap makes_job u) ]
+never_answered c b n m (wanted.Matched j t l has none i) = elim t [ inl u ↦ not_both (reads_job c) (job_read c u) (made_jobless c m) | inr u ↦ not_both (makes_job c) m (ap makes_job u) ]
 never_answered c b n m (wanted.Recorded j name u l has some none i) = not_both (makes_job c) m (ap makes_job u)
 never_answered c b n m (wanted.Proved j name u l has named none i) = not_both (makes_job c) m (ap makes_job u)
 never_answered c b n m (wanted.United marks u l is i) = not_both (makes_job c) m (ap makes_job u)
@@ -93,7 +98,7 @@ pub data IsMade (c : Command) (s : SourceChange) (a : AreasChange) (status : ℕ
   Lacking : status ≡ 7 → text ≡ no_memory_line → IsMade c s a status text
 
 pub made : (c : Command) (s : SourceChange) (a : AreasChange) (status : ℕ) (text : List ℕ) → IsCause c s a status text → makes_job c ≡ true → IsMade c s a status text
-made c s a status text (Report p q) m = absurd (not_both (makes_job c) m (ap makes_job p.1))
+made c s a status text (Report p q) m = absurd (not_both (reads_job c) (job_read c p.1) (made_jobless c m))
 made c s a status text (Recorded name p q) m = absurd (not_both (makes_job c) m (ap makes_job p.1))
 made c s a status text (Places p q k) m = absurd (not_both (makes_job c) m (ap makes_job p.1))
 made c s a status text (Replayed p q k) m = absurd (not_both (makes_job c) m (ap makes_job p.1))
@@ -142,7 +147,7 @@ tried_own : (number tasks : ℕ) (s : SourceChange) (tables : TablesView) (a : A
 tried_own number tasks s tables a done sets k answer unread numbered told match' left outcome = record {
   status = 0;
   text = trial_text number tasks tables.places (λ t. results_of done t) (λ s p. set_in sets s p);
-  cause = Tried number tasks (refl, refl) (record { tables = tables; match = match'; numbered = numbered; unread = unread; ran = left.ran; reports = reports (trial_job number tasks) tables a.before a.after done sets (trial_text number tasks tables.places) left outcome });
+  cause = Tried number tasks (refl, refl) (record { tables = tables; match = match'; numbered = numbered; unread = unread; ran = left.ran; reports = reports solo (trial_job number tasks) tables a.before a.after done sets (trial_text number tasks tables.places) left outcome });
   told = told;
 }
 

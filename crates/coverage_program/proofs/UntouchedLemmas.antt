@@ -13,18 +13,19 @@ use Rattle.brk_table.specs.declared.faults.BuildFault.TheVariants as fault
 use Rattle.brk_table.specs.Places.{TablesView}
 use Rattle.session_book.specs.JobView.{JobView}
 use Rattle.job_text.specs.Lines.{lines_of}
-use Rattle.coverage_program.specs.Answers.{IsStopped, IsReady, IsCause, Report, Recorded, Places, Replayed, BadSchedule, United, BadFile, OtherFile, Shown, BadShown, OtherShown, Proved, Checked, Usage, Stopped, NoMemoryToRun, Tried, NoMemoryToTry, Answers}
+use Rattle.coverage_program.specs.Answers.{IsReport, IsStopped, IsReady, IsCause, Report, Recorded, Places, Replayed, BadSchedule, United, BadFile, OtherFile, Shown, BadShown, OtherShown, Proved, Checked, Usage, Stopped, NoMemoryToRun, Tried, NoMemoryToTry, Answers}
 use Rattle.coverage_program.specs.Inputs.{CameJob, HasJob, CameMatched, input_limit}
 use Rattle.coverage_program.specs.Changes.{SourceChange, SinkChange, AreasChange}
 use Rattle.coverage_program.specs.Complete.{IsAnswer}
 use Rattle.coverage_program.specs.Complete as wanted
 use Rattle.coverage_program.specs.Untouched.{IsUntouched, IsRunText, HasReport, HasText, Read, Made, IsCut, IsReportCut}
 use Rattle.coverage_program.specs.declared.words.Command.{Command}
-use Rattle.coverage_program.specs.declared.words.Command.TheVariants.{Run, Marks, Trial, Table, Replay, Combine, Show, Prove, Verify, Unknown}
+use Rattle.coverage_program.specs.declared.words.Command.TheVariants.{Run, Exits, Marks, Trial, Table, Replay, Combine, Show, Prove, Verify, Unknown}
 use Rattle.coverage_program.specs.Refusals.{RefusalView, list_refusal, build_refusal, refusal_by, refusal_from, or_refusal, places_in, job_refusal}
-use Rattle.coverage_program.specs.Words.{reads_job, reading_of, makes_areas, makes_job, session_named, no_memory_line}
+use Rattle.coverage_program.specs.Words.{reads_job, reading_of, makes_areas, reports_run, course_of, makes_job, session_named, no_memory_line}
 use Rattle.coverage_program.proofs.CompleteLemmas.{status_of, session_there, made_status}
 use Rattle.coverage_program.proofs.TrialLemmas.{made_areas, made_jobless, never_answered, IsMade, Summed, Lacking, made}
+use Rattle.coverage_program.proofs.WordLemmas.{by_report, ready_to_run, unnamed}
 use Rattle.coverage_program.specs.Trial.{IsUnread}
 use Rattle.coverage_program.proofs.StopLemmas.{same_job, any_named, not_both, never_came, never_large, too_many, not_named, not_whole, matched_stop}
 use Rattle.coverage_program.specs.Named.{HasNamed}
@@ -94,7 +95,7 @@ abbrev Touched : Command → SourceChange → AreasChange → ℕ → Type 0
 Touched c s a status = (a.after ≡ a.before) ⊎ (HasTasks c s × ((status ≡ 0) ⊎ (status ≡ 7)))
 
 touched : (c : Command) (s : SourceChange) (a : AreasChange) (status : ℕ) (text : List ℕ) → IsCause c s a status text → Touched c s a status
-touched c s a status text (Report p q) = inr (Came (ap makes_areas p.1) (ready_run c Run s q.job q.tables p.1 refl tt q.came), inl p.0)
+touched c s a status text (Report p q) = inr (Came (by_report (λ d. makes_areas d ≡ true) c p.1 refl refl) (ready_to_run c s q.job q.tables p.1 q.came), inl p.0)
 touched c s a status text (Recorded name p q) = inr (Came (ap makes_areas p.1) (ready_run c (Marks name) s q.job q.tables p.1 refl (any_named q.job name q.number q.is_number) q.came), inl p.0)
 touched c s a status text (Places p q k) = inl k
 touched c s a status text (Replayed p q k) = inl k
@@ -183,6 +184,7 @@ untouched c s a k answer x =
 -- a command that runs the tasks of a job that comes takes one job and no more
 runs_alone : (c : Command) → makes_areas c ≡ true → makes_job c ≡ false → (reads_job c ≡ true) × ((reading_of c).more ≡ false)
 runs_alone Run m n = (refl, refl)
+runs_alone Exits m n = (refl, refl)
 runs_alone (Marks name) m n = (refl, refl)
 runs_alone (Trial number tasks) m n = absurd cc
 runs_alone Table m n = absurd cc
@@ -201,8 +203,8 @@ record HasJobToRun (c : Command) (b : List ℕ) : Type 0 where
   named : HasNamed (session_named c) job
   faultless : job_refusal job ≡ None
 
-run_named : (c : Command) (j : JobView) → makes_areas c ≡ true → (c ≡ Run) ⊎ (c ≡ Table) → HasNamed (session_named c) j
-run_named c j m (inl e) = subst (λ (x : Command). HasNamed (session_named x) j) (sym e) tt
+run_named : (c : Command) (j : JobView) → makes_areas c ≡ true → (reports_run c ≡ true) ⊎ (c ≡ Table) → HasNamed (session_named c) j
+run_named c j m (inl h) = unnamed c j h
 run_named c j m (inr e) = absurd (not_both (makes_areas c) m (ap makes_areas e))
 
 -- what is answered of bytes isn't `trial`
@@ -240,7 +242,7 @@ text_by c d s a text e h = subst (λ (x : Command). IsRunText x s a text) (sym e
 
 -- what a run answers with where it has a report
 cut_text : (c : Command) (s : SourceChange) (a : AreasChange) (status : ℕ) (text b : List ℕ) → makes_areas c ≡ true → IsCause c s a status text → s.left ≡ Some b → IsAnswer c b 0 → (Rose s.faults s.later → ⊥) → IsRunText c s a text ⊎ (text ≡ no_memory_line)
-cut_text c s a status text b m (Report p q) e w quiet = inl (text_by c Run s a text p.1 q)
+cut_text c s a status text b m (Report p q) e w quiet = inl (by_report (λ d. IsReport (course_of d) s a text → IsRunText d s a text) c p.1 (λ r. r) (λ r. r) q)
 cut_text c s a status text b m (Recorded name p q) e w quiet = inl (text_by c (Marks name) s a text p.1 q)
 cut_text c s a status text b m (Places p q k) e w quiet = absurd (not_both (makes_areas c) m (ap makes_areas p.1))
 cut_text c s a status text b m (Replayed p q k) e w quiet = absurd (not_both (makes_areas c) m (ap makes_areas p.1))

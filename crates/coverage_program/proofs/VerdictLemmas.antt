@@ -21,9 +21,9 @@ use Rattle.coverage_program.specs.Changes.{SourceChange, AreasChange}
 use Rattle.coverage_program.specs.Checked.{Verdict, IsVerdict, OfFile, judged, judged_by, verdict_status}
 use Rattle.coverage_program.specs.Checked.{BadFile as BadMarks, NoFile as NoStart}
 use Rattle.coverage_program.specs.Complete.{StandsBehind}
-use Rattle.coverage_program.specs.Words.{reads_job, to_go_on, reading_of, session_named, makes_areas, makes_job}
+use Rattle.coverage_program.specs.Words.{reads_job, to_go_on, reading_of, session_named, makes_areas, reports_run, makes_job}
 use Rattle.coverage_program.specs.declared.words.Command.{Command}
-use Rattle.coverage_program.specs.declared.words.Command.TheVariants.{Run, Marks, Table, Replay, Combine, Show, Prove, Verify, Unknown}
+use Rattle.coverage_program.specs.declared.words.Command.TheVariants.{Marks, Table, Replay, Combine, Show, Prove, Verify, Unknown}
 use Rattle.coverage_program.proofs.BehindLemmas.{IsSame, one_rest}
 use Rattle.coverage_program.proofs.StopLemmas.{whole_named, not_both, matched_stop}
 
@@ -74,7 +74,7 @@ one_check c n name p q = let x : Verify n ≡ Verify name = sym p ∙ q in cc
 
 pub check_outcome : (c : Command) (name : List ℕ) (s : SourceChange) (a : AreasChange) (status : ℕ) (text b : List ℕ) (j : JobView) (tables : TablesView) (number : ℕ) (rest : List ℕ) → IsCause c s a status text → c ≡ Verify name → StandsBehind name b j tables number rest → (session_of j number).by ≡ None → s.left ≡ Some b →
     (Rose s.faults s.later → ⊥) → IsChecking j tables number rest status
-check_outcome c name s a status text b j tables number rest (Report p q) same h free e quiet = let x : Run ≡ Verify name = sym p.1 ∙ same in absurd cc
+check_outcome c name s a status text b j tables number rest (Report p q) same h free e quiet = absurd (not_both (reports_run c) p.1 (ap reports_run same))
 check_outcome c name s a status text b j tables number rest (Recorded n p q) same h free e quiet = let x : Marks n ≡ Verify name = sym p.1 ∙ same in absurd cc
 check_outcome c name s a status text b j tables number rest (Places p q k) same h free e quiet = let x : Table ≡ Verify name = sym p.1 ∙ same in absurd cc
 check_outcome c name s a status text b j tables number rest (Replayed p q k) same h free e quiet = let x : Replay ≡ Verify name = sym p.1 ∙ same in absurd cc

@@ -18,18 +18,19 @@ use Rattle.report_text.specs.Report.{report_of}
 use Rattle.report_text.specs.Table.{table_text}
 use Rattle.coverage_program.specs.declared.words.Command.{Command}
 use Rattle.coverage_program.specs.declared.schedule.Played.{Played}
-use Rattle.coverage_program.specs.declared.words.Command.TheVariants.{Run, Marks, Trial, Table, Replay, Combine, Show, Prove, Verify, Unknown}
+use Rattle.coverage_program.specs.declared.words.Command.TheVariants.{Marks, Trial, Table, Replay, Combine, Show, Prove, Verify, Unknown}
 use Rattle.coverage_program.specs.Checked.{IsProof, IsCheck}
 use Rattle.coverage_program.specs.Files.{IsUnion, IsBadFile, IsOtherFile, IsShown, IsBadShown, IsOtherShown}
 use Rattle.coverage_program.specs.Inputs.{CameWhole, CameJob, CameFirst, CameMatched, HasJob, input_limit}
 use Rattle.coverage_program.specs.Named.{HasNamed, session_number}
 use Rattle.coverage_program.specs.Refusals.{RefusalView, refusal, job_refusal, Match}
-use Rattle.job_run.specs.Runs.{HasRun}
+use Rattle.job_run.specs.Runs.{HasRun, HasRunBy}
+use Rattle.task_run.specs.Courses.{Course}
 use Rattle.coverage_program.specs.Changes.{SourceChange, SinkChange, AreasChange}
 use Rattle.coverage_program.specs.Reports.{Reports, Records}
 use Rattle.coverage_program.specs.Replay.{Play, Bad, Whole, IsRun, play_of, replay_text}
 use Rattle.coverage_program.specs.Trial.{IsUnread, IsTried}
-use Rattle.coverage_program.specs.Words.{reads_input, reads_job, Reading, to_end, to_go_on, reading_of, makes_areas, makes_job, session_named, Wanted, usage_line, too_large_input_line, read_fault_line, no_memory_line, bad_job_line, large_job_line, bad_schedule_line, no_session_line, controlled_line}
+use Rattle.coverage_program.specs.Words.{reads_input, reads_job, Reading, to_end, to_go_on, reading_of, makes_areas, makes_job, reports_run, course_of, session_named, Wanted, usage_line, too_large_input_line, read_fault_line, no_memory_line, bad_job_line, large_job_line, bad_schedule_line, no_session_line, controlled_line}
 
 -- how a job that wasn't read is told
 abbrev pub fault_refusal : JobFault → RefusalView
@@ -43,13 +44,13 @@ read_refusal read.Failed = refusal 5 read_fault_line
 read_refusal read.TooLarge = refusal 4 too_large_input_line
 read_refusal read.NoMemory = refusal 7 no_memory_line
 
--- the report of a job whose listings match
-pub record IsReport (s : SourceChange) (a : AreasChange) (text : List ℕ) : Type 0 where
+-- the report of a job whose listings match, whose tasks took this course
+pub record IsReport (course : Course) (s : SourceChange) (a : AreasChange) (text : List ℕ) : Type 0 where
   pub job : JobView
   pub tables : TablesView
   pub came : CameMatched to_end s job tables
-  pub ran : HasRun job tables.places a.before a.after
-  pub reports : Reports job tables ran.sets (report_of job tables) text
+  pub ran : HasRunBy course job tables.places a.before a.after
+  pub reports : Reports course job tables ran.sets (report_of job tables) text
 
 -- the marks file of the session of this name, of a job whose listings match
 pub record IsRecord (name : List ℕ) (s : SourceChange) (a : AreasChange) (text : List ℕ) : Type 0 where
@@ -165,7 +166,7 @@ pub record IsReady (c : Command) (s : SourceChange) : Type 0 where
 -- Why the call answers with this status and text, leaving out whether the text could be written. Nothing but a report,
 -- marks file or summary of a run, and want of memory in the run of a job whose listings match, has made an area.
 pub data IsCause (c : Command) (s : SourceChange) (a : AreasChange) (status : ℕ) (text : List ℕ) : Type 0 where
-  Report : (status ≡ 0) × (c ≡ Run) → IsReport s a text → IsCause c s a status text
+  Report : (status ≡ 0) × (reports_run c ≡ true) → IsReport (course_of c) s a text → IsCause c s a status text
   Recorded : (name : List ℕ) → (status ≡ 0) × (c ≡ Marks name) → IsRecord name s a text → IsCause c s a status text
   Places : (status ≡ 0) × (c ≡ Table) → IsPlacesText s text → a.after ≡ a.before → IsCause c s a status text
   Replayed : (status ≡ 0) × (c ≡ Replay) → IsReplayed s text → a.after ≡ a.before → IsCause c s a status text

@@ -14,7 +14,7 @@ use Rattle.table_combine.specs.Combine.{Difference, first_difference}
 use Rattle.table_combine.specs.Files.{IsCombined, IsBad, IsOtherTable}
 use Rattle.job_text.specs.Refusals.{IsBadAt, IsOverAt}
 use Rattle.coverage_program.specs.declared.words.Command.{Command}
-use Rattle.coverage_program.specs.declared.words.Command.TheVariants.{Run, Marks, Table, Replay, Combine, Show, Prove, Verify, Unknown}
+use Rattle.coverage_program.specs.declared.words.Command.TheVariants.{Marks, Table, Replay, Combine, Show, Prove, Verify, Unknown}
 use Rattle.coverage_program.specs.Checked.{Verdict, IsVerdict, verdict_status, HasVerified}
 use Rattle.coverage_program.specs.Files.{IsFile, IsNoFile}
 use Rattle.coverage_program.specs.Inputs.{HasJob, input_limit}
@@ -22,7 +22,7 @@ use Rattle.coverage_program.specs.Named.{HasNamed, session_number}
 use Rattle.coverage_program.specs.Changes.{SourceChange, SinkChange}
 use Rattle.coverage_program.specs.Refusals.{RefusalView, job_refusal, Match}
 use Rattle.coverage_program.specs.Replay.{play_of, play_status}
-use Rattle.coverage_program.specs.Words.{reads_input, reads_job, makes_job, to_end, to_go_on, Wanted, reading_of, session_named}
+use Rattle.coverage_program.specs.Words.{reads_input, reads_job, makes_job, reports_run, to_end, to_go_on, Wanted, reading_of, session_named}
 
 -- the bytes of lines
 abbrev pub bytes_of : List LineView → List ℕ
@@ -49,7 +49,7 @@ pub data IsAnswer (c : Command) (bytes : List ℕ) (status : ℕ) : Type 0 where
   Controlled : (j : JobView) (wanted : Wanted) (number : ℕ) → reads_job c ≡ true → length bytes ≤ input_limit → HasJob (reading_of c) (lines_of bytes) j → session_named c ≡ Some wanted → wanted.whole ≡ true → session_number j wanted.name ≡ Some number →
       IsSome (session_of j number).by → status ≡ 14 → IsAnswer c bytes status
   BadListing : (j : JobView) (r : RefusalView) → reads_job c ≡ true → length bytes ≤ input_limit → HasJob (reading_of c) (lines_of bytes) j → HasNamed (session_named c) j → job_refusal j ≡ Some r → status ≡ r.status → IsAnswer c bytes status
-  Matched : (j : JobView) → (c ≡ Run) ⊎ (c ≡ Table) → length bytes ≤ input_limit → HasJob (reading_of c) (lines_of bytes) j → job_refusal j ≡ None → status ≡ 0 → IsAnswer c bytes status
+  Matched : (j : JobView) → (reports_run c ≡ true) ⊎ (c ≡ Table) → length bytes ≤ input_limit → HasJob (reading_of c) (lines_of bytes) j → job_refusal j ≡ None → status ≡ 0 → IsAnswer c bytes status
   Recorded : (j : JobView) (name : List ℕ) → c ≡ Marks name → length bytes ≤ input_limit → HasJob to_end (lines_of bytes) j → IsSome (session_number j name) → job_refusal j ≡ None → status ≡ 0 → IsAnswer c bytes status
   Proved : (j : JobView) (name : List ℕ) → c ≡ Prove name → length bytes ≤ input_limit → HasJob (reading_of c) (lines_of bytes) j → HasNamed (session_named c) j → job_refusal j ≡ None → status ≡ 0 → IsAnswer c bytes status
   United : (marks : MarksView) → c ≡ Combine → length bytes ≤ input_limit → IsCombined bytes marks → status ≡ 0 → IsAnswer c bytes status

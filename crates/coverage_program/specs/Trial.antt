@@ -3,6 +3,7 @@ use Rattle.std.specs.Prelude.{◌≡◌, ℕ, List}
 use Rattle.brk_table.specs.Places.{TablesView, all_places}
 use Rattle.job_gen.specs.Trial.{trial_job}
 use Rattle.job_run.specs.Runs.{HasRun}
+use Rattle.task_run.specs.Courses.{solo}
 use Rattle.report_text.specs.Trial.{trial_text}
 use Rattle.coverage_program.specs.Changes.{SourceChange, AreasChange}
 use Rattle.coverage_program.specs.Refusals.{Match}
@@ -19,4 +20,4 @@ pub record IsTried (number tasks : ℕ) (s : SourceChange) (a : AreasChange) (te
   pub numbered : tables.places ≡ all_places tables.tables
   pub unread : IsUnread s
   pub ran : HasRun (trial_job number tasks) tables.places a.before a.after
-  pub reports : Reports (trial_job number tasks) tables ran.sets (trial_text number tasks tables.places) text
+  pub reports : Reports solo (trial_job number tasks) tables ran.sets (trial_text number tasks tables.places) text

@@ -3,8 +3,10 @@ use Rattle.std.specs.Prelude.{◌≡◌, ◌≢◌, ◌⊎◌, ℕ, true, false,
 use Rattle.cov_outside.specs.Causes.{Rose}
 use Rattle.cov_outside.specs.Whole.{AppendsSome}
 use Rattle.session_book.specs.JobView.{JobView}
+use Rattle.check_exits.specs.Exits.{with_exits}
+use Rattle.task_run.specs.Courses.{solo}
 use Rattle.coverage_program.specs.declared.words.Command.{Command}
-use Rattle.coverage_program.specs.declared.words.Command.TheVariants.{Run, Marks, Trial}
+use Rattle.coverage_program.specs.declared.words.Command.TheVariants.{Run, Exits, Marks, Trial}
 use Rattle.coverage_program.specs.Answers.{IsReport, IsRecord}
 use Rattle.coverage_program.specs.Changes.{SourceChange, SinkChange, AreasChange}
 use Rattle.coverage_program.specs.Complete.{IsAnswer}
@@ -26,7 +28,8 @@ pub record IsUntouched (c : Command) (s : SourceChange) (a : AreasChange) (answe
 
 -- what a command that runs tasks writes: the report, a session's marks file, or the summary of a generated job
 abbrev pub IsRunText : Command → SourceChange → AreasChange → List ℕ → Type 0
-IsRunText Run s a text = IsReport s a text
+IsRunText Run s a text = IsReport solo s a text
+IsRunText Exits s a text = IsReport with_exits s a text
 IsRunText (Marks name) s a text = IsRecord name s a text
 IsRunText (Trial number tasks) s a text = IsTried number tasks s a text
 IsRunText c s a text = ⊥

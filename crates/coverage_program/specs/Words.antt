@@ -7,13 +7,15 @@ use Rattle.cov_base.specs.declared.facts.Fact.TheVariants.{Ran, Went, Stayed}
 use Rattle.job_text.specs.declared.limit.Limit.{Limit}
 use Rattle.job_text.specs.declared.limit.Limit.TheVariants as limit
 use Rattle.coverage_program.specs.declared.words.Command.{Command}
-use Rattle.coverage_program.specs.declared.words.Command.TheVariants.{Run, Marks, Trial, Table, Replay, Combine, Show, Prove, Verify, Unknown}
+use Rattle.coverage_program.specs.declared.words.Command.TheVariants.{Run, Exits, Marks, Trial, Table, Replay, Combine, Show, Prove, Verify, Unknown}
 use Rattle.report_text.specs.Text.{hex_bytes}
+use Rattle.check_exits.specs.Exits.{with_exits}
+use Rattle.task_run.specs.Courses.{Course, solo}
 use Rattle.table_combine.specs.Combine.{Difference}
 
 -- the command of one word
 abbrev pub command_alone : List ℕ → Command
-command_alone w = if bytes_eq w (codes "run") then Run else (if bytes_eq w (codes "table") then Table else (if bytes_eq w (codes "replay") then Replay else (if bytes_eq w (codes "combine") then Combine else Unknown)))
+command_alone w = if bytes_eq w (codes "run") then Run else (if bytes_eq w (codes "table") then Table else (if bytes_eq w (codes "replay") then Replay else (if bytes_eq w (codes "combine") then Combine else (if bytes_eq w (codes "exits") then Exits else Unknown))))
 
 -- the command of a word and a session's name, where the second word is a name
 abbrev pub command_named : List ℕ → Option (List ℕ) → Command
@@ -40,9 +42,21 @@ command_of words = Unknown
 -- it runs tasks
 abbrev pub makes_areas : Command → Bool
 makes_areas Run = true
+makes_areas Exits = true
 makes_areas (Marks name) = true
 makes_areas (Trial number tasks) = true
 makes_areas c = false
+
+-- it reports on the run of a job that it reads
+abbrev pub reports_run : Command → Bool
+reports_run Run = true
+reports_run Exits = true
+reports_run c = false
+
+-- the course that the tasks take which it runs
+abbrev pub course_of : Command → Course
+course_of Exits = with_exits
+course_of c = solo
 
 -- it makes its job in place of reading
 abbrev pub makes_job : Command → Bool
@@ -105,7 +119,7 @@ session_named (Verify name) = Some (record { name = name; whole = true })
 session_named c = None
 
 abbrev pub usage_line : List ℕ
-usage_line = codes "USAGE: run | marks NAME | trial NUMBER TASKS | table | replay | combine | show NAME | prove NAME | verify NAME\n"
+usage_line = codes "USAGE: run | marks NAME | trial NUMBER TASKS | table | replay | combine | show NAME | exits | prove NAME | verify NAME\n"
 
 abbrev pub too_large_input_line : List ℕ
 too_large_input_line = codes "TOO LARGE INPUT\n"

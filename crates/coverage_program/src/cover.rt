@@ -12,7 +12,7 @@ ghost use Rattle.coverage_program.specs.Refusals.{Match};
 ghost use Rattle.coverage_program.specs.Untouched.{IsUntouched, IsReportCut};
 ghost use Rattle.job_run.specs.Runs.{Account};
 ghost use Rattle.report_text.specs.Conditions.{HasFewLines};
-ghost use Rattle.coverage_program.specs.Words.{command_of, without_areas, to_end, to_go_on, HasFewTasks};
+ghost use Rattle.coverage_program.specs.Words.{command_of, course_of, reports_run, without_areas, to_end, to_go_on, HasFewTasks};
 
 use crate::combining::answer_combine;
 use crate::lines::{NO_MEMORY, USAGE, bad_schedule_line};
@@ -26,9 +26,10 @@ use crate::trial::answer_trial;
 use crate::verifying::answer_verify;
 use crate::words::{Command, command_of};
 use brk_table::Tables;
+use check_exits::ExitRunner;
 use cov_base::{Name, SessNo};
 use cov_outside::{Gate, Sink, Source};
-use job_run::run_job;
+use job_run::{run_job, run_job_with};
 use marks_file::write;
 use module_area::Areas;
 use report_text::{report, table};
@@ -37,11 +38,19 @@ use session_marks::{NoSets, fill_marks, marks_of};
 use std::alloc::Global;
 use std::sync::Wait;
 use std::thread::Threads;
+use task_run::{PlainRunner, Runner};
 
-/// Runs a job whose listings match, and writes its report.
-fn answer_tables<T: Threads + Wait + Sync, K: Sink, A: Areas, G: Gate + Sync>(
+/// Runs a job whose listings match, each task along the runner's course, and writes its report.
+fn answer_tables<
+    T: Threads + Wait + Sync,
+    K: Sink,
+    A: Areas,
+    G: Gate + Sync,
+    R: Runner<A::C> + Sync,
+>(
     rt: &T,
     alloc: Global,
+    runner: &R,
     job: &Job,
     tables: &Tables,
     sink: &mut K,
@@ -53,30 +62,47 @@ fn answer_tables<T: Threads + Wait + Sync, K: Sink, A: Areas, G: Gate + Sync>(
     requires numbered { tables.now.places ≡ all_places tables.now.tables }
     requires places { All (IsIn job.now.images) tables.now.places }
     requires room { A.made areas.old < 2 ^ 61 }
-    ensures { (s : SourceChange) → CameJob to_end s job.now →
-        Answers Command.Run s (areas_change A.ledger A.finals A.made areas.old areas.new) (sink_change K.written K.faults sink.old sink.new) result.0 }
+    ensures { (c : Command) (s : SourceChange) → reports_run c ≡ true → course_of c ≡ R.course → CameJob to_end s job.now →
+        Answers c s (areas_change A.ledger A.finals A.made areas.old areas.new) (sink_change K.written K.faults sink.old sink.new) result.0 }
 {
-    let outcome = match run_job(rt, alloc, areas, gate, job, tables) {
-        Ok(outcome) => outcome,
+    let (outcome, _) = match run_job_with(rt, alloc, areas, gate, runner, job, tables) {
+        Ok(ran) => ran,
         Err(_) => return told(sink, NO_MEMORY, 7),
     };
     status_of(report(sink, job, tables, &outcome))
 }
 
-/// Reads a job, runs it and writes its report.
-fn answer_run<T: Threads + Wait + Sync, S: Source, K: Sink, A: Areas, G: Gate + Sync>(
+/// Reads a job, runs it, each task along the runner's course, and writes its report.
+fn answer_run<
+    T: Threads + Wait + Sync,
+    S: Source,
+    K: Sink,
+    A: Areas,
+    G: Gate + Sync,
+    R: Runner<A::C> + Sync,
+>(
     rt: &T,
     alloc: Global,
+    runner: &R,
     source: &mut S,
     sink: &mut K,
     areas: &mut A,
     gate: &G,
 ) -> Status
     requires { A.made areas.old < 2 ^ 61 }
-    ensures { Answers Command.Run (source_change S.left S.faults source.old source.new) (areas_change A.ledger A.finals A.made areas.old areas.new) (sink_change K.written K.faults sink.old sink.new) result.0 }
+    ensures { (c : Command) → reports_run c ≡ true → course_of c ≡ R.course → Answers c (source_change S.left S.faults source.old source.new) (areas_change A.ledger A.finals A.made areas.old areas.new) (sink_change K.written K.faults sink.old sink.new) result.0 }
 {
     match make_ready(alloc, source, false) {
-        Ok(read) => answer_tables(rt, alloc, &read.job, &read.tables, sink, areas, gate),
+        Ok(read) => answer_tables(
+            rt,
+            alloc,
+            runner,
+            &read.job,
+            &read.tables,
+            sink,
+            areas,
+            gate,
+        ),
         Err(refusal) => told(sink, &refusal.line, refusal.status),
     }
 }
@@ -212,9 +238,11 @@ fn answer_one<S: Source, K: Sink>(
         Command::Show(name) => answer_show(alloc, &name, source, sink),
         Command::Prove(name) => answer_prove(alloc, &name, source, sink),
         Command::Verify(name) => answer_verify(alloc, &name, source, sink),
-        Command::Run | Command::Marks(_) | Command::Trial { .. } | Command::Unknown => told(
-            sink, USAGE, 1,
-        ),
+        Command::Run
+        | Command::Exits
+        | Command::Marks(_)
+        | Command::Trial { .. }
+        | Command::Unknown => told(sink, USAGE, 1),
     }
 }
 
@@ -233,7 +261,8 @@ fn answer<T: Threads + Wait + Sync, S: Source, K: Sink, A: Areas, G: Gate + Sync
     ensures { Answers command (source_change S.left S.faults source.old source.new) (areas_change A.ledger A.finals A.made areas.old areas.new) (sink_change K.written K.faults sink.old sink.new) result.0 }
 {
     match command {
-        Command::Run => answer_run(rt, alloc, source, sink, areas, gate),
+        Command::Run => answer_run(rt, alloc, &PlainRunner, source, sink, areas, gate),
+        Command::Exits => answer_run(rt, alloc, &ExitRunner, source, sink, areas, gate),
         Command::Marks(name) => answer_marks(rt, alloc, &name, source, sink, areas, gate),
         Command::Trial { number, tasks } => answer_trial(
             rt, alloc, number, tasks, sink, areas, gate,
@@ -249,12 +278,12 @@ fn answer<T: Threads + Wait + Sync, S: Source, K: Sink, A: Areas, G: Gate + Sync
 }
 
 /// Serves the command that the words are: `run` reads a job from the source, runs its tasks on threads, each past the
-/// gate, and writes its report to the sink; `marks NAME` does the same but writes the marks file of the session of the name;
+/// gate, and writes its report to the sink; `exits` does the same but lets each task go on at the exit that it has named; `marks NAME` runs as `run` but writes the marks file of the session of the name;
 /// `trial NUMBER TASKS` reads nothing, runs the generated job of that number and so many tasks, 1 to 64, and writes its
 /// summary; all other words are answered as `cover_one` answers them. Each refusal has its status and its line; the answer is 6 where
 /// the sink fails. Where no fault of source or sink was counted, it is that of the words and bytes, or 7. The areas are as
 /// they were but for a run of a job whose listings match. It waits for the threads of the tasks; for all words but `run`,
-/// `marks` and `trial` it waits for nothing.
+/// `exits`, `marks` and `trial` it waits for nothing.
 pub fn cover<T: Threads + Wait + Sync, S: Source, K: Sink, A: Areas, G: Gate + Sync>(
     rt: &T,
     alloc: Global,
@@ -281,7 +310,7 @@ pub fn cover<T: Threads + Wait + Sync, S: Source, K: Sink, A: Areas, G: Gate + S
 /// with the file's marks; `prove NAME` reads a job and writes the evidence of the session of the name, which has no
 /// controller; `verify NAME` reads a job, one marks file behind it and evidence behind that, and says whether both are
 /// true of that session, or of which fact they are not. Both run each task of the session's phase once, alone. For all
-/// other words, `run`, `marks` and `trial` too, it is status 1. It always returns.
+/// other words, `run`, `exits`, `marks` and `trial` too, it is status 1. It always returns.
 pub fn cover_one<S: Source, K: Sink>(
     alloc: Global,
     words: &[String],

@@ -5,6 +5,7 @@ mod controllers;
 mod controls;
 mod evidence;
 mod extras;
+mod exits;
 mod faults;
 mod gates;
 mod jobs;

@@ -12,6 +12,8 @@ use cov_base::Name;
 pub enum Command {
     /// `run`: the report of a job.
     Run,
+    /// `exits`: the report of a job whose tasks may name exits.
+    Exits,
     /// `marks NAME`: the marks file of a session of a job that is run.
     Marks(Name),
     /// `trial NUMBER TASKS`: the summary of a generated job that is run.
@@ -44,6 +46,8 @@ fn command_alone(word: &str) -> Command
         Command::Replay
     } else if word == "combine" {
         Command::Combine
+    } else if word == "exits" {
+        Command::Exits
     } else {
         Command::Unknown
     }

@@ -53,7 +53,15 @@ fn makes_extras_before_it_plants(rt: HostRuntime) -> Result<(), Fail> {
         return Err("ready".into());
     };
     let mut areas = SharedAreas::new(a, 1).map_err(|_| "memory")?;
-    let ran = run_job_with(&rt, a, &mut areas, &OpenGate, &Wanting, &read.job, &read.tables);
+    let ran = run_job_with(
+        &rt,
+        a,
+        &mut areas,
+        &OpenGate,
+        &Wanting,
+        &read.job,
+        &read.tables,
+    );
     assert_eq!(rt; ran.is_err(), true);
     assert_eq!(rt; areas.made(), 0);
     Ok(())

@@ -27,8 +27,11 @@ const LOAD: &str = "000000 4110 0005 LA, 000004 1A11 AR, 000006 07FE BR";
 
 const COUNT: &str = "000000 4610 F000 BCT, 000004 07FE BR";
 
+const DIVIDED: &str =
+    "000000 4110 F00A LA, 000004 0A06 SVC, 000006 1D24 DR, 000008 07FE BR, 00000A 07FE BR";
+
 /// The commands that take no marks file, on what they serve and on what they refuse.
-static SERVED: [Row; 7] = [
+static SERVED: [Row; 9] = [
     Row {
         name: "run",
         words: &["run"],
@@ -77,6 +80,32 @@ SESSION S PHASE P\n",
         ],
         status: 3,
         output: &[Text("MISMATCH M LINE 2 LOC 000000 LISTING 41100006 MODULE 41100005\n")],
+    },
+    Row {
+        name: "exits",
+        words: &["exits"],
+        input: &[Code(DIVIDED), Text("TASK A 100000 16 100 0\nENDJOB\n")],
+        status: 0,
+        output: &[
+            Text(
+                "\
+COVERAGE REPORT\n\
+TASK A RETURNED COUNT 4 CC 0\n\
+R0 00000009 00100006 00000000 00000000 00000000 00000000 00000000 00000000\n\
+R8 00000000 00000000 00000000 00000000 00000000 00000000 00FFFFFE 00100000\n\
+OUT 0\n\
+SESSION S PHASE P\n",
+            ),
+            Marked(DIVIDED, ":::^: EXECUTED 4 FACTS 4 OF 5"),
+            Text("NOT EXECUTED 000008-000009\nEND\n"),
+        ],
+    },
+    Row {
+        name: "exits: no last card",
+        words: &["exits"],
+        input: &[Code(LOAD), Text("TASK A 100000 16 100 0\n")],
+        status: 2,
+        output: &[Text("BAD JOB LINE 12\n")],
     },
     Row {
         name: "table",
@@ -193,8 +222,9 @@ END\n",
 ];
 
 /// Words of each command, and words that are none.
-static WORDS: [&[&str]; 9] = [
+static WORDS: [&[&str]; 10] = [
     &["run"],
+    &["exits"],
     &["marks", "S"],
     &["table"],
     &["replay"],

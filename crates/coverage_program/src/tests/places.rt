@@ -29,7 +29,7 @@ END\n",
 };
 
 pub const USAGE: &[u8] =
-    b"USAGE: run | marks NAME | trial NUMBER TASKS | table | replay | combine | show NAME | prove NAME | verify NAME\n";
+    b"USAGE: run | marks NAME | trial NUMBER TASKS | table | replay | combine | show NAME | exits | prove NAME | verify NAME\n";
 
 /// Jobs with what `table` writes for them.
 const CASES: [Case; 4] = [
