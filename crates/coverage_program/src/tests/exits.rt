@@ -1,15 +1,13 @@
 //! Tasks under exits for their program interruptions: each code, what an exit doesn't take, where it is, how it is set and used.
 
 use super::notation::{Case, job_of, text_of};
-use super::places::{USAGE, serve};
+use super::places::{Came, USAGE, serve};
 use crate::status::Status;
 use std::alloc::Global;
 use std::process::Abort;
-use std::sync::Wait;
 use std::test::Fail;
-use std::thread::Threads;
 
-static EXITS: [Case; 31] = [
+static EXITS: [Case; 32] = [
     Case {
         name: "an exit for a division that doesn't fit",
         code: "000000 4110 F00A LA, 000004 0A06 SVC, 000006 1D24 DR, 000008 07FE BR, 00000A 1850 LR, 00000C 07FE BR",
@@ -583,6 +581,49 @@ marks ::^^^ EXECUTED 2 FACTS 2 OF 5\n\
 NOT EXECUTED 000006-00000B\n\
 END\n",
     },
+    // A task opens a session, is interrupted in it, and closes it at its exit.
+    Case {
+        name: "a session that is closed at an exit",
+        code: "",
+        job: "\
+COVERJOB 1\n\
+MODULE M 100000 16\n\
+TEXT 0A044110F00C0A061D2407FE0A0507FE\n\
+LISTING 8\n\
+\x20 Loc  Object Code    Addr1 Addr2  Stmt   Source Statement\n\
+000000 0A04                           1          SVC\n\
+000002 4110 F00C                      2          LA\n\
+000006 0A06                           3          SVC\n\
+000008 1D24                           4          DR\n\
+00000A 07FE                           5          BR\n\
+00000C 0A05                           6          SVC\n\
+00000E 07FE                           7          BR\n\
+PHASE P\n\
+SESSION S BY A M\n\
+TASK A 100000 16 100 0\n\
+ENDJOB\n",
+        status: 0,
+        tallies: None,
+        text: "\
+COVERAGE REPORT\n\
+TASK A RETURNED COUNT 6 CC 0\n\
+regs 0=00000009 1=00100008\n\
+OUT 0\n\
+SESSION S PHASE P\n\
+MODULE M PLACES 7 EXECUTED 4 FACTS 4 OF 7\n\
+\x20   Loc  Object Code    Addr1 Addr2  Stmt   Source Statement\n\
+^ 000000 0A04                           1          SVC\n\
+: 000002 4110 F00C                      2          LA\n\
+: 000006 0A06                           3          SVC\n\
+: 000008 1D24                           4          DR\n\
+^ 00000A 07FE                           5          BR\n\
+: 00000C 0A05                           6          SVC\n\
+^ 00000E 07FE                           7          BR\n\
+NOT EXECUTED 000000-000001\n\
+NOT EXECUTED 00000A-00000B\n\
+NOT EXECUTED 00000E-00000F\n\
+END\n",
+    },
 ];
 
 /// The first of them under `run`, where SVC 6 is no task call.
@@ -605,60 +646,10 @@ NOT EXECUTED 000006-00000D\n\
 END\n",
 };
 
-/// A task opens a session, is interrupted in it, and closes it at its exit.
-static CLOSED: Case = Case {
-    name: "a session that is closed at an exit",
-    code: "",
-    job: "\
-COVERJOB 1\n\
-MODULE M 100000 16\n\
-TEXT 0A044110F00C0A061D2407FE0A0507FE\n\
-LISTING 8\n\
-\x20 Loc  Object Code    Addr1 Addr2  Stmt   Source Statement\n\
-000000 0A04                           1          SVC\n\
-000002 4110 F00C                      2          LA\n\
-000006 0A06                           3          SVC\n\
-000008 1D24                           4          DR\n\
-00000A 07FE                           5          BR\n\
-00000C 0A05                           6          SVC\n\
-00000E 07FE                           7          BR\n\
-PHASE P\n\
-SESSION S BY A M\n\
-TASK A 100000 16 100 0\n\
-ENDJOB\n",
-    status: 0,
-    tallies: None,
-    text: "\
-COVERAGE REPORT\n\
-TASK A RETURNED COUNT 6 CC 0\n\
-regs 0=00000009 1=00100008\n\
-OUT 0\n\
-SESSION S PHASE P\n\
-MODULE M PLACES 7 EXECUTED 4 FACTS 4 OF 7\n\
-\x20   Loc  Object Code    Addr1 Addr2  Stmt   Source Statement\n\
-^ 000000 0A04                           1          SVC\n\
-: 000002 4110 F00C                      2          LA\n\
-: 000006 0A06                           3          SVC\n\
-: 000008 1D24                           4          DR\n\
-^ 00000A 07FE                           5          BR\n\
-: 00000C 0A05                           6          SVC\n\
-^ 00000E 07FE                           7          BR\n\
-NOT EXECUTED 000000-000001\n\
-NOT EXECUTED 00000A-00000B\n\
-NOT EXECUTED 00000E-00000F\n\
-END\n",
-};
-
-/// Serves the word on the case's job: over areas it has the case's text, and without them it is no word.
-fn check_served<T: Abort + Threads + Wait + Sync>(
-    rt: &T,
-    alloc: Global,
-    word: &str,
-    case: &Case,
-) -> Result<(), Fail> {
+/// What came over areas is the case's text, and without them its word is none.
+fn check_came<T: Abort>(rt: &T, alloc: Global, case: &Case, came: &Came) -> Result<(), Fail> {
     let name = case.name;
     let text = text_of(alloc, case)?;
-    let came = serve(rt, alloc, &[word], &job_of(alloc, case)?)?;
     assert_eq!(rt; came.text.as_slice(), text.as_slice(), "{name}");
     assert_eq!(rt; came.status, Status(case.status), "{name}");
     assert_eq!(rt; came.made, 1, "{name}");
@@ -669,18 +660,17 @@ fn check_served<T: Abort + Threads + Wait + Sync>(
 
 #[test]
 fn takes_exits(rt: HostRuntime) -> Result<(), Fail> {
+    let alloc = rt.alloc();
     for case in &EXITS {
-        check_served(&rt, rt.alloc(), "exits", case)?;
+        let came = serve(&rt, alloc, &["exits"], &job_of(alloc, case)?)?;
+        check_came(&rt, alloc, case, &came)?;
     }
     Ok(())
 }
 
 #[test]
 fn runs_without_exits(rt: HostRuntime) -> Result<(), Fail> {
-    check_served(&rt, rt.alloc(), "run", &NO_EXIT)
-}
-
-#[test]
-fn closes_a_session_at_an_exit(rt: HostRuntime) -> Result<(), Fail> {
-    check_served(&rt, rt.alloc(), "exits", &CLOSED)
+    let alloc = rt.alloc();
+    let came = serve(&rt, alloc, &["run"], &job_of(alloc, &NO_EXIT)?)?;
+    check_came(&rt, alloc, &NO_EXIT, &came)
 }
