@@ -118,6 +118,45 @@ const THROUGH_CALLS: [Call; 16] = [
     Call::Close(2),
 ];
 
+/// SVC 4 and 5 in a module that a whole session observes, of a task that controls a session of another module.
+const OBSERVED: &[u8] = b"\
+COVERJOB 1\n\
+MODULE M 100000 6\n\
+TEXT 0A040A0507FE\n\
+LISTING 4\n\
+\x20 Loc  Object Code    Addr1 Addr2  Stmt   Source Statement\n\
+000000 0A04                           1          SVC\n\
+000002 0A05                           2          SVC\n\
+000004 07FE                           3          BR\n\
+MODULE N 200000 2\n\
+TEXT 07FE\n\
+LISTING 2\n\
+\x20 Loc  Object Code    Addr1 Addr2  Stmt   Source Statement\n\
+000000 07FE                           1          BR\n\
+PHASE P\n\
+SESSION S M\n\
+SESSION T BY A N\n\
+TASK A 100000 16 100 0\n\
+ENDJOB\n";
+
+const OBSERVED_CALLS: [Call; 15] = [
+    Call::Plant(0),
+    Call::Plant(1),
+    Call::Plant(2),
+    Call::Arrive(1),
+    Call::Fetch(0),
+    Call::Mark(0, Fact::Ran),
+    Call::Lift(0),
+    Call::Plant(3),
+    Call::Fetch(1),
+    Call::Mark(1, Fact::Ran),
+    Call::Lift(1),
+    Call::Close(3),
+    Call::Fetch(2),
+    Call::Mark(2, Fact::Ran),
+    Call::Lift(2),
+];
+
 /// Runs a job of so many tasks over areas that keep their calls: its status, the calls on its last area, and how often
 /// each task has arrived at the gate.
 fn run_noted<T: Threads + Wait + Sync>(
@@ -159,6 +198,10 @@ fn plants_and_closes_where_its_calls_stand(rt: HostRuntime) -> Result<(), Fail> 
     let (status, calls, arrivals) = run_noted(&rt, rt.alloc(), THROUGH.as_bytes(), 1)?;
     assert_eq!(rt; status, Status(0));
     assert_eq!(rt; calls.as_slice(), THROUGH_CALLS.as_slice());
+    assert_eq!(rt; arrivals.as_slice(), [1u64].as_slice());
+    let (status, calls, arrivals) = run_noted(&rt, rt.alloc(), OBSERVED, 1)?;
+    assert_eq!(rt; status, Status(0));
+    assert_eq!(rt; calls.as_slice(), OBSERVED_CALLS.as_slice());
     assert_eq!(rt; arrivals.as_slice(), [1u64].as_slice());
     Ok(())
 }
