@@ -13,9 +13,12 @@ from report import Line, Module, Report, Session, Task, read_report, text_of
 USAGE = """\
 usage: coverage page < REPORT > PAGE
 
-Makes a report (of run, replay or show) one HTML page, which stands alone: a table of the sessions' modules with their
-places and facts, each listing with its marks, in colour and in print, links to what wasn't executed, and the tasks'
+Makes a report (of run, early, exits, replay or show) one HTML page, which stands alone: a table of the sessions' modules with
+their places and facts, each listing with its marks, in colour and in print, links to what wasn't executed, and the tasks'
 results, folded, which show has none of. It has no script, follows the browser's light or dark, and its wide listings scroll.
+
+Where the counts of the same job (of count) stand behind a report of run, each line has behind its mark how often it ran,
+or how often it branched and fell through. Counts alone make a page too, with locations in place of listings.
 
 What is no report is refused by its line on standard error; then the status is 2, and nothing is written. This script
 is not proved.
@@ -34,6 +37,7 @@ HEADINGS = {
     "COVERAGE REPORT": "Coverage report",
     "COVERAGE REPLAY": "Coverage of a schedule",
     "COVERAGE SHOW": "Coverage by a marks file",
+    "COVERAGE COUNT": "Coverage by counts",
 }
 
 
@@ -109,35 +113,57 @@ def legend(module: Module) -> str:
     return f'<ul class="marks">{"".join(items)}</ul>'
 
 
-def listing_line(name: str, line: Line) -> str:
-    """A line of a listing, behind its mark."""
+def counts_text(line: Line) -> str:
+    """How often a place ran, or how often it branched and fell through."""
+    return " ".join(map(str, line.counts or ()))
+
+
+def listing_line(name: str, line: Line, width: int) -> str:
+    """A line of a listing, behind its mark and, where places were counted, its counts in so many columns."""
+    text = safe(text_of(line.text))
+    counts = f"{counts_text(line):>{width}} " if width else ""
     if line.mark == " ":
-        return f'<span class="l">  {safe(text_of(line.text))}</span>'
+        return f'<span class="l">  {counts}{text}</span>'
     kind, words = MARKS[line.mark]
     return (
         f'<span class="l {kind}" id="{name}.{line.location:06X}">'
-        f'<span class="m" role="img" aria-label="{words}">{safe(line.mark)}</span> {safe(text_of(line.text))}</span>'
+        f'<span class="m" role="img" aria-label="{words}">{safe(line.mark)}</span> {counts}{text}</span>'
     )
 
 
 def ranges(name: str, module: Module) -> str:
-    """Links to the first line of each range that was not executed."""
+    """Links to the first line of each range that was not executed. Counts alone tell of no ranges."""
+    if not module.places:
+        return "<p>The listing has no instruction line.</p>"
+    if module.executed == module.places:
+        return "<p>Every place was executed.</p>"
     if not module.ranges:
-        return "<p>Every place was executed.</p>" if module.places else "<p>The listing has no instruction line.</p>"
+        return ""
     items = [f'<li><a href="#{name}.{first:06X}">{first:06X}-{last:06X}</a></li>' for first, last in module.ranges]
     return f'<p>{count_of(len(items), "range")} not executed:</p>\n<ul class="ranges">{"".join(items)}</ul>'
+
+
+def drained(session: Session) -> str:
+    """Whether and when a session's sets were final while its controller ran, where the report tells."""
+    if session.is_drained is None:
+        return ""
+    if session.drained_at is None:
+        return "<p>Not known to be final while its controller ran.</p>\n"
+    return f"<p>Final when its controller had done {count_of(session.drained_at, 'instruction')}.</p>\n"
 
 
 def module_part(session: Session, module: Module) -> str:
     """A module's listing with its marks."""
     name, title = anchor(session, module), f"{safe(module.name)} in session {safe(session.name)}"
-    lines = "\n".join(listing_line(name, it) for it in module.lines)
+    width = max(len(counts_text(it)) for it in module.lines)
+    lines = "\n".join(listing_line(name, it, width) for it in module.lines)
+    counted = "<p>Behind each mark: how often it ran, or how often it branched and fell through.</p>\n" if width else ""
     return f"""<section id="{name}" aria-labelledby="{name}.title">
 <h2 id="{name}.title">{title}</h2>
 <p>{counts_of(module.executed, module.places, module.facts, module.possible)}</p>
-{ranges(name, module)}
+{drained(session)}{ranges(name, module)}
 {legend(module)}
-<div class="wide listing" tabindex="0" role="region" aria-label="Listing of {title}"><pre>{lines}</pre></div>
+{counted}<div class="wide listing" tabindex="0" role="region" aria-label="Listing of {title}"><pre>{lines}</pre></div>
 </section>"""
 
 

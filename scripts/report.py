@@ -1,4 +1,4 @@
-"""Reports, as docs/REPORT.md has them: read line by line, and refused at the first line that is none of a report."""
+"""Reports and counts, as docs/REPORT.md has them: read line by line, and refused at the first line that is none of theirs."""
 from __future__ import annotations
 
 import re
@@ -8,7 +8,7 @@ from typing import NoReturn, Optional
 from command import Fault
 from listing import heading_of, object_code
 
-TITLES = (b"COVERAGE REPORT", b"COVERAGE REPLAY", b"COVERAGE SHOW")
+TITLES = (b"COVERAGE REPORT", b"COVERAGE REPLAY", b"COVERAGE SHOW", b"COVERAGE COUNT")
 NAME = rb"([A-Z@#$][A-Z@#$0-9]{0,7})"
 ENDING = rb"(RETURNED|EXIT|ABEND [0-9A-F]|BADSVC [0-9]{1,3}|TOUCHED [0-9A-F]{6}|OUTFULL|SPENT|RUNNING)"
 EVENT = re.compile(rb"EVENT [0-9]{1,9} (?:FETCH|MARK|LIFT|DO|GO) .+")
@@ -19,7 +19,10 @@ BYTES = re.compile(rb"(?:[0-9A-F]{2}){1,32}")
 ROW = re.compile(rb"STOR ([0-9A-F]{6}) ((?:[0-9A-F]{2}){1,16})")
 SESSION = re.compile(rb"SESSION " + NAME + b" PHASE " + NAME)
 MODULE = re.compile(rb"MODULE " + NAME + rb" PLACES ([0-9]{1,9}) EXECUTED ([0-9]{1,9}) FACTS ([0-9]{1,9}) OF ([0-9]{1,9})")
+COUNTED = re.compile(rb"MODULE " + NAME + rb" PLACES ([0-9]{1,9})")
+COUNT = re.compile(rb"COUNT ([0-9A-F]{6}) ([0-9]{1,20})(?: ([0-9]{1,20}))?")
 RANGE = re.compile(rb"NOT EXECUTED ([0-9A-F]{6})-([0-9A-F]{6})")
+DRAINED = re.compile(rb"DRAINED COUNT ([0-9]{1,9})|NOT DRAINED")
 MARKED = re.compile(rb"[\^:>V& ] ")
 # How many facts a mark stands for.
 FACTS = {"^": 0, ":": 1, ">": 1, "V": 1, "&": 2}
@@ -27,12 +30,14 @@ FACTS = {"^": 0, ":": 1, ">": 1, "V": 1, "&": 2}
 
 @dataclass
 class Line:
-    """A line of a listing; at a place its location, and whether it branches on a condition."""
+    """A line of a listing; at a place its location, whether it branches on a condition, and where it was counted how often it
+    ran, or how often it branched and how often it fell through."""
 
     mark: str
     text: bytes
     location: Optional[int] = None
     is_conditional: bool = False
+    counts: Optional[tuple[int, ...]] = None
 
 
 @dataclass
@@ -50,11 +55,13 @@ class Module:
 
 @dataclass
 class Session:
-    """A session and its modules."""
+    """A session and its modules, and under `early` whether it was drained, and at which count of its controller."""
 
     name: str
     phase: str
     modules: list[Module] = field(default_factory=list)
+    is_drained: Optional[bool] = None
+    drained_at: Optional[int] = None
 
 
 @dataclass
@@ -78,6 +85,12 @@ class Report:
     events: list[str] = field(default_factory=list)
     tasks: list[Task] = field(default_factory=list)
     sessions: list[Session] = field(default_factory=list)
+
+
+def mark_of(counts: tuple[int, ...]) -> str:
+    """The mark of a place that was counted."""
+    shown = sum((it > 0) << at for at, it in enumerate(counts))
+    return "^>V&"[shown] if len(counts) == 2 else "^:"[shown]
 
 
 def kind_is_conditional(code: bytes) -> bool:
@@ -120,22 +133,42 @@ class Reader:
         return found
 
     def report(self) -> Report:
+        """The whole input: a report, maybe with the counts of its job behind it, or counts."""
         if not self.lines or self.lines[0] not in TITLES:
             has = shown(self.lines[0]) if self.lines else "nothing"
-            self.refuse(f"no report, which begins COVERAGE REPORT, COVERAGE REPLAY or COVERAGE SHOW: {has}")
-        report = Report(self.lines[0].decode())
-        self.at = 1
-        while self.lines[0] == TITLES[1] and (event := self.next_if(EVENT)):
+            self.refuse(f"no report, which begins COVERAGE REPORT, COVERAGE REPLAY, COVERAGE SHOW or COVERAGE COUNT: {has}")
+        report = self.part()
+        if report.title == "COVERAGE REPORT" and self.at < len(self.lines) and self.look() == TITLES[3]:
+            self.add_counts(report)
+        if self.at < len(self.lines):
+            self.refuse("a line behind END")
+        return report
+
+    def part(self) -> Report:
+        """A report or counts, from the first line to END."""
+        title = self.look()
+        report = Report(title.decode())
+        self.at += 1
+        while title == TITLES[1] and (event := self.next_if(EVENT)):
             report.events.append(event[0].decode("ascii", "replace"))
-        while self.lines[0] != TITLES[2] and self.look().startswith(b"TASK "):
+        while title != TITLES[2] and self.look().startswith(b"TASK "):
             report.tasks.append(self.task())
         while self.look() != b"END":
-            report.sessions.append(self.session())
-        if self.lines[0] == TITLES[2] and len(report.sessions) != 1:
+            report.sessions.append(self.session(title))
+        if title == TITLES[2] and len(report.sessions) != 1:
             self.refuse("not one session, which COVERAGE SHOW has")
-        if self.at + 1 < len(self.lines):
-            self.refuse("a line behind END", self.at + 1)
+        self.at += 1
         return report
+
+    def add_counts(self, report: Report) -> None:
+        """Gives the places of a report the counts behind it, which are of the same job where all else that they tell is."""
+        start = self.at
+        counts = self.part()
+        if (counts.tasks, outline(counts)) != (report.tasks, outline(report)):
+            self.refuse("these counts are not of the report's job", start)
+        for module, counted in zip(modules_of(report), modules_of(counts)):
+            for place, line in zip(places_of(module), counted.lines):
+                place.counts = line.counts
 
     def task(self) -> Task:
         head = self.next(TASK, "line of a task")
@@ -151,12 +184,28 @@ class Reader:
             rows.append((int(row[1], 16), bytes.fromhex(row[2].decode())))
         return Task(head[1].decode(), head[2].decode(), int(head[3]), int(head[4]), sum(registers, []), output, rows)
 
-    def session(self) -> Session:
+    def session(self, title: bytes) -> Session:
+        module = self.counted if title == TITLES[3] else self.module
         head = self.next(SESSION, "line")
         session = Session(head[1].decode(), head[2].decode())
         while self.look().startswith(b"MODULE "):
-            session.modules.append(self.module())
+            session.modules.append(module())
+        if title == TITLES[0] and (found := self.next_if(DRAINED)) is not None:
+            session.is_drained = found[1] is not None
+            session.drained_at = int(found[1]) if found[1] else None
         return session
+
+    def counted(self) -> Module:
+        """A module's counts. In place of its listing it has a line for each place, with the location."""
+        head, at = self.next(COUNTED, "line of a module's counts"), self.at - 1
+        lines = []
+        while (found := self.next_if(COUNT)) is not None:
+            counts = tuple(int(it) for it in found.groups()[1:] if it is not None)
+            lines.append(Line(mark_of(counts), found[1], int(found[1], 16), len(counts) == 2, counts))
+        module = Module(head[1].decode(), *counts_of(lines), lines)
+        if module.places != int(head[2]):
+            self.refuse("the count of places is not that of the lines below", at)
+        return module
 
     def module(self) -> Module:
         head, at = self.next(MODULE, "line of a module"), self.at - 1
@@ -168,7 +217,7 @@ class Reader:
             module.lines.append(Line(chr(line[0]), line[2:]))
             self.at += 1
         self.find_places(module, first)
-        if counts_of(module) != (module.places, module.executed, module.facts, module.possible):
+        if counts_of(module.lines) != (module.places, module.executed, module.facts, module.possible):
             self.refuse("the counts of places and facts are not those of the marks below", at)
         while (found := self.next_if(RANGE)) is not None:
             module.ranges.append((int(found[1], 16), int(found[2], 16)))
@@ -189,9 +238,25 @@ class Reader:
                 self.refuse(f"the mark {line.mark} is none of this instruction", first + at)
 
 
-def counts_of(module: Module) -> tuple[int, int, int, int]:
+def modules_of(report: Report) -> list[Module]:
+    """The modules of all sessions."""
+    return [module for session in report.sessions for module in session.modules]
+
+
+def places_of(module: Module) -> list[Line]:
+    """The lines of a module's places, by location."""
+    return sorted((it for it in module.lines if it.mark != " "), key=lambda it: it.location or 0)
+
+
+def outline(report: Report) -> list[object]:
+    """Sessions, modules and marks, without listings."""
+    places = [[(it.location, it.is_conditional, it.mark) for it in places_of(module)] for module in modules_of(report)]
+    return [[(session.name, session.phase, [it.name for it in session.modules]) for session in report.sessions], places]
+
+
+def counts_of(lines: list[Line]) -> tuple[int, int, int, int]:
     """Places, places with a fact, facts, and facts that there can be, by the lines."""
-    places = [it for it in module.lines if it.mark != " "]
+    places = [it for it in lines if it.mark != " "]
     facts = [FACTS[it.mark] for it in places]
     return len(places), sum(it > 0 for it in facts), sum(facts), sum(1 + it.is_conditional for it in places)
 

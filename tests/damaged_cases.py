@@ -28,6 +28,8 @@ FIRSTS: model.Firsts = {0: {2: (0, 0, 0), 4: (0, 1, 0)}, 4: {1: (0, 2, 0)}}
 # The same of a count that begins with 3.
 FROM_3 = "TASK A 100000 16 100 0\nREG 1 00000003\n"
 FIRSTS_FROM_3: model.Firsts = {0: {2: (0, 0, 0), 4: (0, 2, 0)}, 4: {1: (0, 3, 0)}}
+# How often each fact of it is met.
+COUNTS = {0: (1, 1), 4: (1,)}
 # Each item with the line that tells of it.
 ITEMS = [
     (b"FETCH A", b"FETCH A TAG 1 HALF 0AFF"), (b"MARK A", b"MARK A OLD -"), (b"DO A", b"DO A"),
@@ -87,6 +89,11 @@ def marks(data: bytes) -> bytes:
     return model.session_file(name, modules, FACTS).data()
 
 
+def count(data: bytes) -> bytes:
+    (session,) = listed(data, True).sessions
+    return b"COVERAGE COUNT\n" + done(Result("RETURNED", 3)) + model.counts_part(*session, COUNTS) + b"END\n"
+
+
 def table(data: bytes) -> bytes:
     return model.table_text(listed(data, True))
 
@@ -137,10 +144,13 @@ def verify(data: bytes, firsts: model.Firsts = FIRSTS) -> bytes:
 
 
 def commands() -> list[Command]:
-    """The eight."""
+    """All that read their input."""
     items = b"".join(it + b"\n" for it, _ in ITEMS) + END + b"\n"
     return [
         Command(["run"], FIRST.job(), run),
+        Command(["exits"], FIRST.job(), run),
+        Command(["early"], FIRST.job(), run),
+        Command(["count"], job(), count),
         Command(["marks", "S"], job(), marks),
         Command(["table"], three_modules(), table),
         Command(["replay"], job() + items, replay),

@@ -103,6 +103,12 @@ class Program:
         """What `show` writes of session S."""
         return "\n".join(["COVERAGE SHOW", *self.session(marks, possible, ranges), "END", ""]).encode()
 
+    def counted(self, results: list[Result], *counts: tuple[int, ...]) -> bytes:
+        """What `count` writes of session S: of each instruction how often it ran, or how often it branched and fell through."""
+        places = [f"COUNT {at:06X} {' '.join(map(str, it))}" for (at, _, _), it in zip(self.code, counts)]
+        head = [*(line for it in results for line in it.lines()), "SESSION S PHASE P", f"MODULE M PLACES {len(self.code)}"]
+        return "\n".join(["COVERAGE COUNT", *head, *places, "END", ""]).encode()
+
     def marks_file(self, *sets: int, name: str = "S", runs: int = 1, version: int = 2) -> bytes:
         """The marks file of a session over module M: a set for each instruction."""
         head = b"S370COV1" if version == 1 else b"S370COV2" + name.ljust(8).encode() + runs.to_bytes(4, "big")

@@ -446,6 +446,17 @@ def session_part(name: bytes, phase: bytes, modules: list[Module], facts: dict[i
     return b"".join(it + b"\n" for it in lines)
 
 
+def counts_part(name: bytes, phase: bytes, modules: list[Module], counts: dict[int, tuple[int, ...]]) -> bytes:
+    """A session's part of counts."""
+    lines = [b"SESSION %s PHASE %s" % (name, phase)]
+    for it in modules:
+        lines.append(b"MODULE %s PLACES %d" % (it.name, len(it.table())))
+        for place in it.table():
+            met = counts.get(place.location, (0,) * (1 + place.kind()))
+            lines.append(b"COUNT %06X %s" % (place.location, b" ".join(b"%d" % it for it in met)))
+    return b"".join(it + b"\n" for it in lines)
+
+
 def not_executed(table: list[Place], sets: list[int]) -> list[bytes]:
     """The line of each longest run of places without a fact."""
     lines, begun = [], None

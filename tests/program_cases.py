@@ -2,6 +2,7 @@
 from __future__ import annotations
 
 import os
+import re
 import subprocess
 from dataclasses import replace
 
@@ -9,7 +10,7 @@ from harness import COVERAGE, PROGRAM, TOP, Case, equal, run, well
 from jobs import COUNTED, FIRST, FIRST_REPORT, FIRST_RESULT, HEADING, TASK, WIDE_HEADING, Program, Result
 from trial import summary
 
-USAGE = b"USAGE: run | marks NAME | trial NUMBER TASKS | table | replay | combine | show NAME | exits | prove NAME | verify NAME\n"
+USAGE = b"USAGE: run | marks NAME | trial NUMBER TASKS | table | replay | combine | show NAME | early | count | exits | prove NAME | verify NAME\n"
 PRIVATE_END = 0xFFFFFC
 OTHER_COUNT = Program.of("0 4620F000 BCT, 4 07FE BR")
 # Of the program that counts: what it shows where its count ends at once, where it is spent as it goes on, and the two runs together.
@@ -191,6 +192,63 @@ def exits() -> list[Case]:
         Case("exits by the script", ["exits"], divide.job(), report, command=COVERAGE),
         Case("exits with a name", ["exits", "S"], divide.job(), USAGE, 1),
         Case("a job's end that is missing, under exits", ["exits"], FIRST.job().removesuffix(b"ENDJOB\n"), b"BAD JOB LINE 12\n", 2),
+    ]
+
+
+def early() -> list[Case]:
+    """early: sessions that their task closes, alone in its phase, and that it doesn't; and what is refused as of `run`."""
+    def job(private: str, tasks: str = "", budget: int = 100) -> bytes:
+        text = FIRST.job(tasks + task(f"DATA 0 {private}", f"TASK C 000000 16 {budget} 0\n"))
+        return text.replace(b"SESSION S M\n", b"SESSION S BY C M\n")
+
+    def report(results: list[Result], line: str) -> bytes:
+        return FIRST.report(results, "^^^", 3, "000000-000007").replace(b"END\n", f"{line}\nEND\n".encode())
+
+    def result(ending: str, count: int) -> Result:
+        return Result(ending, count, name="C", entry=0)
+
+    closed, opened, never = job("0A040A0507FE"), job("0A0407FE"), job("07FE", TASK)
+    drained = report([result("RETURNED", 3)], "DRAINED COUNT 2")
+    return [
+        Case("early", ["early"], closed, drained),
+        Case("early of a session that stays open", ["early"], opened, report([result("RETURNED", 2)], "NOT DRAINED")),
+        Case("early of a session that is never opened", ["early"], never, report([FIRST_RESULT, result("RETURNED", 1)], "NOT DRAINED")),
+        Case("early of a budget that ends with the session", ["early"], job("0A040A0507FE", budget=2), report([result("SPENT", 2)], "DRAINED COUNT 2")),
+        Case("early of a session without a controller", ["early"], FIRST.job(), FIRST_REPORT),
+        Case("early by the script", ["early"], closed, drained, command=COVERAGE),
+        Case("early with a name", ["early", "S"], closed, USAGE, 1),
+        Case("a job's end that is missing, under early", ["early"], closed.removesuffix(b"ENDJOB\n"), b"BAD JOB LINE 13\n", 2),
+        Case("a line behind the job of early", ["early"], closed + b"\n", b"BAD JOB LINE 14\n", 2),
+        Case("a full output, of early", ["early"], closed, b"", 6, redirect=">/dev/full"),
+        Case("no memory, of early", ["early"], large_job(), b"NO MEMORY\n", 7, before="ulimit -v 40000"),
+    ]
+
+
+def counts() -> list[Case]:
+    """count: how often each fact was met, by one task and by two, and as the subject of EX; and what is refused."""
+    branch = Program.of("0 1211 LTR, 2 4780F008 BE, 6 1822 LR, 8 07FE BR")
+    made = Program.of("0 4700F00A BC, 4 4410F000 EX, 8 1822 LR, A 07FE BR")
+    both = TASK + task("REG 1 00000001", "TASK B 100000 16 100 0\n")
+    results = [Result("RETURNED", 3, 0), Result("RETURNED", 4, 2, {1: 1}, name="B")]
+    count, counted = COUNTED.job(task("REG 1 00000003")), COUNTED.counted([Result("RETURNED", 4, 0)], (2, 1), (1,))
+    controlled = FIRST.job(TASK + task("DATA 0 0A040A050A040A0507FE", "TASK C 000000 16 100 0\n"))
+    controlled = controlled.replace(b"SESSION S M\n", b"SESSION S1 BY C M\nSESSION S2 BY C M\n")
+    mismatch = controlled.replace(b"000000 4110 0005", b"000000 4110 0006")
+    return [
+        Case("count", ["count"], count, counted),
+        Case("count of two tasks", ["count"], branch.job(both), branch.counted(results, (2,), (1, 1), (1,), (2,))),
+        Case("count of a subject of EX", ["count"], made.job(task("REG 1 000000F0")),
+             made.counted([Result("RETURNED", 3, 0, {1: 0xF0})], (2,), (1,), (0,), (1,))),
+        Case("count of no task", ["count"], COUNTED.job(""), COUNTED.counted([], (0, 0), (0,))),
+        Case("count by the script", ["count"], count, counted, command=COVERAGE),
+        Case("count with a name", ["count", "S"], count, USAGE, 1),
+        Case("count of sessions with a controller", ["count"], controlled, b"CONTROLLED S1\n", 14),
+        Case("count of these, of a listing that doesn't match", ["count"], mismatch, b"CONTROLLED S1\n", 14),
+        Case("a line behind the job of count", ["count"], count + b"\n", b"BAD JOB LINE 13\n", 2),
+        Case("INPUT, of count", ["count"], count + bytes(16_777_216), b"TOO LARGE INPUT\n", 4),
+        Case("a folder as input, of count", ["count"], b"", b"READ FAULT\n", 5, redirect="</"),
+        Case("a full output, of count", ["count"], count, b"", 6, redirect=">/dev/full"),
+        Case("no memory, of count", ["count"], large_job(), b"NO MEMORY\n", 7, before="ulimit -v 40000"),
     ]
 
 
@@ -482,9 +540,24 @@ def evidence_of_two() -> None:
     equal((ran.status, ran.output), (16, b"REFUTED ROW 16 FACT W\n"))
 
 
-CHECKS = [broken_pipe, two_runs, evidence_of_two]
+def counts_of_orders() -> None:
+    """examples: the counts of the orders' loop, and a page of them behind the report"""
+    with open(f"{TOP}/examples/orders.job", "rb") as file:
+        job = file.read()
+    counts = well(run([PROGRAM, "count"], job)).output
+    lines = counts.decode().splitlines()
+    # Two tasks with two records each, of which one has a bad number and one no name: the loop's end, the test of a length, that of a name
+    # and the move under EX for the other two, and what only a short record reaches.
+    for line in ("COUNT 00002E 2 4", "COUNT 000036 0 4", "COUNT 00005A 1 2", "COUNT 000106 2", "COUNT 0000E2 0"):
+        assert line in lines, line
+    report = well(run([PROGRAM, "run"], job)).output
+    page = well(run([COVERAGE, "page"], report + counts)).output.decode()
+    assert re.search(r">&amp;</span> +2 4 +00002E ", page) and re.search(r">V</span> +0 4 +000036 ", page), page[:500]
+
+
+CHECKS = [broken_pipe, two_runs, evidence_of_two, counts_of_orders]
 
 
 def cases() -> list[Case]:
     """All of the program's."""
-    return [*instructions(), *wide_listings(), *endings(), *controlled(), *exits(), *commands(), *marks_files(), *evidence(), *trials(), *refusals(), *streams()]
+    return [*instructions(), *wide_listings(), *endings(), *controlled(), *exits(), *early(), *counts(), *commands(), *marks_files(), *evidence(), *trials(), *refusals(), *streams()]

@@ -63,11 +63,13 @@ def core_of(draw: random.Random) -> Core:
 
 @dataclass
 class Shown:
-    """What a task's run alone shows at each place, and of this what while a session of its own is open; and which it opens."""
+    """What a task's run alone shows at each place, and of this what while a session of its own is open; which it opens, and at
+    which count it closes each."""
 
     all: dict[int, set[str]] = field(default_factory=dict)
     under: dict[tuple[str, int], set[str]] = field(default_factory=dict)
     opened: set[str] = field(default_factory=set)
+    closed: dict[str, int] = field(default_factory=dict)
 
     def add(self, at: int, fact: str, session: Session | None) -> None:
         self.all.setdefault(at, set()).add(fact)
@@ -101,7 +103,8 @@ def run_alone(core: Core, task: Task) -> Shown:
             task.open = own[task.opened]
             task.opened += 1
             shown.opened.add(task.open.name)
-        elif step.call == 5:
+        elif step.call == 5 and task.open:
+            shown.closed[task.open.name] = task.count + 1
             task.open = None
         task.registers, task.at, task.ending = step.registers, step.at, step.ending
         task.count += 1

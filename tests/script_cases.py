@@ -13,7 +13,7 @@ from typing import Callable
 
 from decks import END, ebcdic, esd, item, record, rld, txt
 from harness import COVERAGE, TOP, Ran, Tally, equal, folder, run, run_checks, well
-from jobs import COUNTED, FIRST, FIRST_REPORT, FIRST_RESULT, HEADING, WIDE_HEADING, Result
+from jobs import COUNTED, FIRST, FIRST_REPORT, FIRST_RESULT, HEADING, WIDE_HEADING, Program, Result
 
 SD, LD, ER, WX = 0, 1, 2, 10
 EXAMPLES = f"{TOP}/examples"
@@ -243,16 +243,36 @@ def bad_jobs() -> None:
 
 # page and lcov
 
-MARKED = COUNTED.report([Result("RETURNED", 2)], "V:", 3)
+RETURNED = [Result("RETURNED", 2)]
+MARKED = COUNTED.report(RETURNED, "V:", 3)
+# Counts that are those of this report, and some that are not.
+COUNTS = COUNTED.counted(RETURNED, (0, 1), (1,))
 NOT_RUN = COUNTED.report([], "^^", 3, "000000-000005")
 WIDE_REPORT = FIRST.wide().report([FIRST_RESULT], ":::", 3)
+# What early writes behind a session's part.
+DRAINED, NOT_DRAINED = (FIRST_REPORT.replace(b"END\n", line + b"\nEND\n") for line in (b"DRAINED COUNT 1234", b"NOT DRAINED"))
 BAD_REPORTS = [
     (b"", "line 1", "nothing"),
+    (DRAINED.replace(b"DRAINED COUNT 1234\n", b"DRAINED COUNT 1234\nNOT DRAINED\n"), "line 13", "NOT DRAINED"),
+    (DRAINED.replace(b"1234", b"-"), "line 12", "DRAINED COUNT -"),
+    (COUNTED.shown("V:", 3).replace(b"END\n", b"NOT DRAINED\nEND\n"), "line 7", "NOT DRAINED"),
     (FIRST_REPORT.replace(b"REPORT", b"SHOW"), "line 2", "TASK A"),
     (b"COVERAGE SHOW\nEND\n", "line 2", "not one session"),
     (b"BAD JOB LINE 3\n", "line 1", "BAD JOB LINE 3"),
     (FIRST_REPORT[:-4], "line 12", "ends early"),
     (FIRST_REPORT + b"more\n", "line 13", "behind END"),
+    (MARKED + COUNTED.counted(RETURNED, (1, 1), (1,)), "line 12", "not of the report's job"),
+    (MARKED + COUNTED.counted(RETURNED, (0, 1), (0,)), "line 12", "not of the report's job"),
+    (MARKED + COUNTED.counted([Result("RETURNED", 3)], (0, 1), (1,)), "line 12", "not of the report's job"),
+    (MARKED + COUNTS.replace(b"SESSION S", b"SESSION T"), "line 12", "not of the report's job"),
+    (MARKED + COUNTS.replace(b"COUNT 000004", b"COUNT 000006"), "line 12", "not of the report's job"),
+    (MARKED + COUNTS.replace(b" 0 1\n", b" 1\n"), "line 12", "not of the report's job"),
+    (MARKED + COUNTS.replace(b"PLACES 2", b"PLACES 3"), "line 18", "count of places"),
+    (MARKED + COUNTS + b"more\n", "line 22", "behind END"),
+    (MARKED + COUNTS[:-4], "line 21", "ends early"),
+    (COUNTS + MARKED, "line 11", "behind END"),
+    (COUNTS.replace(b" 0 1\n", b" 0 1 2\n"), "line 7", "count of places"),
+    (COUNTED.shown("V:", 3) + COUNTS, "line 8", "behind END"),
     (FIRST_REPORT.replace(b"CC 2", b"CC 4"), "line 2", "a task"),
     (FIRST_REPORT.replace(b"0000000A", b"000000A"), "line 3", "registers"),
     (FIRST_REPORT.replace(b"OUT 0", b"OUT 1"), "line 6", "output"),
@@ -344,6 +364,45 @@ def show_page() -> None:
     assert "Coverage by a marks file" in text and "Tasks" not in text and "1 session: " in text
 
 
+def counted_pages() -> None:
+    """page: counts behind a report stand behind its marks; counts alone have locations for a listing"""
+    for program, marks, counts, columns in (
+        (COUNTED, "&:", ((2, 1), (1,)), ("2 1", "  1")),
+        (COUNTED.wide(), "V:", ((0, 12), (12,)), ("0 12", "  12")),
+        (COUNTED, "^^", ((0, 0), (0,)), ("0 0", "  0")),
+    ):
+        ranges = ("000000-000005",) if marks == "^^" else ()
+        report, counted = program.report(RETURNED, marks, 3, *ranges), program.counted(RETURNED, *counts)
+        both, alone = (Page(well(coverage("page", data=it)).output.decode()) for it in (report + counted, counted))
+        for mark, column, line, (at, _, _) in zip(marks, columns, program.listing()[1:], program.code):
+            assert f"{mark} {column} {line}" in both.text, both.text
+            assert f"{mark} {column} {at:06X}" in alone.text, alone.text
+        for page, title in ((both, "Coverage report"), (alone, "Coverage by counts")):
+            assert title in page.text and "1 session, 1 task: " in page.text and "Behind each mark: how often" in page.text
+    # Lines of a listing may stand in another order than places.
+    heading, first, second = COUNTED.listing()
+    turned = Program(COUNTED.code, [heading, second, first])
+    report = turned.report(RETURNED, ":&", 3) + turned.counted(RETURNED, (2, 1), (1,))
+    text = Page(well(coverage("page", data=report)).output.decode()).text
+    assert f":   1 {second}\n& 2 1 {first}" in text, text
+
+
+def early_pages() -> None:
+    """page and lcov: a report of early says when a session was drained, and is else one of run"""
+    for report, words in ((DRAINED, "Final when its controller had done 1,234 instructions."), (NOT_DRAINED, "Not known to be final while its controller ran.")):
+        text = well(coverage("page", data=report)).output.decode()
+        equal(text.replace(f"<p>{words}</p>\n", ""), well(coverage("page", data=FIRST_REPORT)).output.decode())
+        assert words in Page(text).text
+    with folder() as at:
+        for name, report in (("early", DRAINED), ("run", FIRST_REPORT)):
+            equal(well(coverage("lcov", f"{at}/{name}", data=report)).output, b"")
+        files = []
+        for name in ("early", "run"):
+            with open(f"{at}/{name}/coverage.info", encoding="ascii") as file:
+                files.append(file.read().replace(f"{at}/{name}/", ""))
+        equal(*files)
+
+
 def bad_reports() -> None:
     """page and lcov: what is no report is refused by its line, and nothing is written"""
     with folder() as at:
@@ -370,7 +429,30 @@ def lcov_files() -> None:
                 equal(file.read(), wanted.format(*counts))
     with folder() as at:
         refused(coverage("lcov", f"{at}/out", data=b"COVERAGE REPORT\nEND\n"), 2, "standard input", "no listing")
+        refused(coverage("lcov", f"{at}/out", data=b"COVERAGE COUNT\nEND\n"), 2, "standard input", "no listing")
         equal(os.path.lexists(f"{at}/out"), False)
+
+
+def lcov_counts() -> None:
+    """lcov: how often each line and each branch was hit, by counts behind a report; counts alone have locations for a listing"""
+    totals = "BRF:2\nBRH:{}\nDA:{},{}\nDA:{},{}\nLF:2\nLH:{}\nend_of_record\n"
+    for marks, counts, branches, hits in (
+        ("&:", ((7, 64), (64,)), (7, 64, 2), (71, 64, 2)),
+        ("V:", ((0, 12), (12,)), (0, 12, 1), (12, 12, 2)),
+        (">^", ((9, 0), (0,)), (9, 0, 1), (9, 0, 1)),
+        ("^^", ((0, 0), (0,)), ("-", "-", 0), (0, 0, 0)),
+    ):
+        ranges = ("000000-000005",) if marks == "^^" else ("000004-000005",) if marks == ">^" else ()
+        report, counted = COUNTED.report(RETURNED, marks, 3, *ranges), COUNTED.counted(RETURNED, *counts)
+        for data, first, listing in ((report + counted, 2, COUNTED.listing()), (counted, 1, ["000000", "000004"])):
+            head = f"TN:S\nSF:out/M.lst\nBRDA:{first},0,0,{branches[0]}\nBRDA:{first},0,1,{branches[1]}\n"
+            wanted = head + totals.format(branches[2], first, hits[0], first + 1, hits[1], hits[2])
+            with folder() as at:
+                equal(well(coverage("lcov", "out", data=data, cwd=at)).output, b"")
+                with open(f"{at}/out/coverage.info", encoding="ascii") as file:
+                    equal(file.read(), wanted)
+                with open(f"{at}/out/M.lst", encoding="ascii") as file:
+                    equal(file.read().splitlines(), listing)
 
 
 def words_and_streams() -> None:
@@ -529,6 +611,6 @@ def in_browser(browser: str) -> None:
 
 CHECKS = [
     raw_bytes, no_listing, listings, brackets, long_lines, bad_headings, sections, constants, labels, bad_decks, bad_modules, jobs,
-    bad_jobs, pages, page_escapes, replay_page, show_page, bad_reports, lcov_files, words_and_streams, examples_are_made, orders,
+    bad_jobs, pages, page_escapes, replay_page, show_page, counted_pages, early_pages, bad_reports, lcov_files, lcov_counts, words_and_streams, examples_are_made, orders,
     palindromes, tariff,
 ]

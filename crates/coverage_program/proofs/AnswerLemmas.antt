@@ -28,9 +28,9 @@ use Rattle.job_run.specs.declared.outcome.Done.{Done}
 use Rattle.coverage_program.specs.declared.tables.Refused.{Refused}
 use Rattle.coverage_program.specs.declared.tables.Refused.TheVariants.{Told, NoMemory}
 use Rattle.coverage_program.specs.declared.words.Command.{Command}
-use Rattle.coverage_program.specs.declared.words.Command.TheVariants.{Run, Exits, Marks, Trial, Table, Replay, Combine, Show, Prove, Verify, Unknown}
+use Rattle.coverage_program.specs.declared.words.Command.TheVariants.{Run, Exits, Early, Count, Marks, Trial, Table, Replay, Combine, Show, Prove, Verify, Unknown}
 use Rattle.job_run.specs.Outcomes.{IsOutcomeBy}
-use Rattle.coverage_program.specs.Named.{HasNamed}
+use Rattle.coverage_program.specs.Named.{HasAsked}
 use Rattle.coverage_program.specs.Refusals.{RefusalView, job_refusal, Match}
 use Rattle.coverage_program.specs.Refused.{IsRefused, refused_refusal}
 use Rattle.task_run.specs.Courses.{Course}
@@ -42,7 +42,7 @@ use Rattle.job_run.specs.Tasks.{results_of}
 use Rattle.coverage_program.specs.Replay.{Bad, Whole, replay_text}
 use Rattle.coverage_program.proofs.RunLemmas.{play_is_run}
 use Rattle.coverage_program.proofs.WordLemmas.{by_report, ready_to_run}
-use Rattle.coverage_program.specs.Words.{reads_input, reads_job, Reading, Wanted, to_end, reading_of, makes_areas, reports_run, course_of, session_named, without_areas, no_memory_line, bad_schedule_line}
+use Rattle.coverage_program.specs.Words.{reads_input, reads_job, Reading, Asked, AnyJob, to_end, reading_of, makes_areas, runs_threads, reports_run, course_of, asked_of, without_threads, no_memory_line, bad_schedule_line}
 
 pub are_sets : (course : Course) (j : JobView) (tables : TablesView) (tasks : List Done) (sets : SetsView) → IsOutcomeBy course j tables.places tasks sets →
     AreSetsOf j tables (length sets.job.sessions) sets.places (λ s p. set_in sets s p)
@@ -103,12 +103,12 @@ listed_places s j tables a k answer came match' numbered told = record {
 }
 
 pub stopped : (c : Command) (s : SourceChange) (a : Account) (k : SinkChange) (answer : ℕ) (r : RefusalView) →
-    reads_input c ≡ true → IsStopped (reads_job c) (reading_of c) (session_named c) s r.status r.line → IsWritten r.status r.line k answer → Answers c s (no_change a) k answer
+    reads_input c ≡ true → IsStopped (reads_job c) (reading_of c) (asked_of c) s r.status r.line → IsWritten r.status r.line k answer → Answers c s (no_change a) k answer
 stopped c s a k answer r reads stop told = record { status = r.status; text = r.line; cause = Stopped reads stop refl; told = told }
 
 -- of a command that reports on a run
 pub stopped_run : (c : Command) (s : SourceChange) (a : Account) (k : SinkChange) (answer : ℕ) (r : RefusalView) →
-    reports_run c ≡ true → IsStopped true to_end None s r.status r.line → IsWritten r.status r.line k answer → Answers c s (no_change a) k answer
+    reports_run c ≡ true → IsStopped true to_end AnyJob s r.status r.line → IsWritten r.status r.line k answer → Answers c s (no_change a) k answer
 stopped_run c s a k answer r reporting stop told =
     by_report (λ d. Answers d s (no_change a) k answer) c reporting (stopped Run s a k answer r refl stop told) (stopped Exits s a k answer r refl stop told)
 
@@ -133,11 +133,11 @@ pub first_none : (how : Reading) (bytes : List ℕ) (e : JobFault) → ReadsOnly
 first_none how bytes e only n q j has = let wanting : e ≡ fault.NoMemory = only has.count j has.inside has.spells has.within in absurd cc
 
 -- by the reader's fault
-pub unread : (how : Reading) (name : Option Wanted) (s : SourceChange) (bytes : List ℕ) (e : JobFault) → CameWhole s bytes → IsRefusal (lines_of bytes) e → ((n : ℕ) → e ≡ fault.BadJob n → (j : JobView) → HasJob how (lines_of bytes) j → ⊥) →
-    IsStopped true how name s (fault_refusal e).status (fault_refusal e).line
-unread how name s bytes (fault.BadJob n) came first none = BadJob refl refl (record { bytes = bytes; line = n; came = came; first_bad = first; jobless = none n refl; told = refl })
-unread how name s bytes (fault.TooLarge what n) came first none = LargeJob refl refl (record { bytes = bytes; what = what; line = n; came = came; first_over = first; told = refl })
-unread how name s bytes fault.NoMemory came first none = WantOfMemory (refl, refl)
+pub unread : (how : Reading) (asked : Asked) (s : SourceChange) (bytes : List ℕ) (e : JobFault) → CameWhole s bytes → IsRefusal (lines_of bytes) e → ((n : ℕ) → e ≡ fault.BadJob n → (j : JobView) → HasJob how (lines_of bytes) j → ⊥) →
+    IsStopped true how asked s (fault_refusal e).status (fault_refusal e).line
+unread how asked s bytes (fault.BadJob n) came first none = BadJob refl refl (record { bytes = bytes; line = n; came = came; first_bad = first; jobless = none n refl; told = refl })
+unread how asked s bytes (fault.TooLarge what n) came first none = LargeJob refl refl (record { bytes = bytes; what = what; line = n; came = came; first_over = first; told = refl })
+unread how asked s bytes fault.NoMemory came first none = WantOfMemory (refl, refl)
 
 -- the job that the first lines spell, and where they end
 pub read_is : (how : Reading) (s : SourceChange) (bytes : List ℕ) (r : ReadJob) → CameWhole s bytes → IsRead bytes r → (how.more ≡ false → r.end ≡ length bytes) → CameFirst how s r.job bytes r.lines r.end
@@ -155,9 +155,9 @@ read_is how s bytes r came read whole =
     }
 
 -- by the first fault of the job's listings
-pub unmatched : (how : Reading) (name : Option Wanted) (s : SourceChange) (j : JobView) (r : Refused) → CameJob how s j → HasNamed name j → IsRefused (job_refusal j) r → IsStopped true how name s (refused_refusal r).status (refused_refusal r).line
-unmatched how name s j (Told r) came named first = BadListing refl (record { job = j; came = came; named = named; first = first })
-unmatched how name s j NoMemory came named first = WantOfMemory (refl, refl)
+pub unmatched : (how : Reading) (asked : Asked) (s : SourceChange) (j : JobView) (r : Refused) → CameJob how s j → HasAsked asked j → IsRefused (job_refusal j) r → IsStopped true how asked s (refused_refusal r).status (refused_refusal r).line
+unmatched how asked s j (Told r) came has first = BadListing refl (record { job = j; came = came; has = has; first = first })
+unmatched how asked s j NoMemory came has first = WantOfMemory (refl, refl)
 
 -- a schedule that was played, and one that wasn't
 pub replayed : (s : SourceChange) (j : JobView) (tables : TablesView) (core : Parts) (played : List Played) (a : Account) (k : SinkChange) (answer : ℕ) →
@@ -181,10 +181,12 @@ unplayed s j tables n a k answer has told = record {
 pub unplayed_wanting : (s : SourceChange) (a : Account) (k : SinkChange) (answer : ℕ) → IsWritten 7 no_memory_line k answer → Answers Replay s (no_change a) k answer
 unplayed_wanting s a k answer told = record { status = 7; text = no_memory_line; cause = Stopped refl (WantOfMemory (refl, refl)) refl; told = told }
 
--- the words that need no areas are answered alike
-pub alike : (c : Command) → makes_areas c ≡ false → without_areas c ≡ c
+-- the words that need no threads are answered alike
+pub alike : (c : Command) → runs_threads c ≡ false → without_threads c ≡ c
 alike Run h = absurd cc
 alike Exits h = absurd cc
+alike Early h = absurd cc
+alike Count h = absurd cc
 alike (Marks name) h = absurd cc
 alike (Trial number tasks) h = absurd cc
 alike Table h = refl

@@ -23,16 +23,16 @@ use Rattle.session_marks.proofs.SessionLemmas.{own_same}
 use Rattle.table_combine.specs.Combine.{Difference, first_difference}
 use Rattle.table_combine.specs.Files.{IsCombined, IsBad, IsOtherTable}
 use Rattle.table_combine.proofs.AnswerLemmas.{one_answer}
-use Rattle.coverage_program.specs.Answers.{IsStopped, BadJob, LargeJob, NoSession, Controlled, BadListing, LargeInput, ReadFault, WantOfMemory, IsCause, Report, Recorded, Places, Replayed, BadSchedule, United, BadFile, OtherFile, Shown, BadShown, OtherShown, Proved, Checked, Usage, Stopped, NoMemoryToRun, Tried, NoMemoryToTry}
+use Rattle.coverage_program.specs.Answers.{IsStopped, BadJob, LargeJob, NoSession, Controlled, BadListing, LargeInput, ReadFault, WantOfMemory, IsCause, Report, ReportedEarly, Recorded, Places, Replayed, BadSchedule, United, BadFile, OtherFile, Shown, BadShown, OtherShown, Proved, Counted, Checked, Usage, Stopped, NoMemoryToRun, Tried, NoMemoryToTry}
 use Rattle.coverage_program.specs.Changes.{SourceChange, AreasChange}
 use Rattle.coverage_program.specs.Complete.{StandsBehind, bytes_of}
 use Rattle.coverage_program.specs.Files.{HasRest, IsFile, IsNoFile}
 use Rattle.coverage_program.specs.Inputs.{input_limit}
 use Rattle.coverage_program.specs.Named.{session_number}
 use Rattle.coverage_program.specs.Refusals.{AreTablesFrom, Match}
-use Rattle.coverage_program.specs.Words.{reads_job, Reading, Wanted, to_go_on, reading_of, session_named, makes_areas, reports_run, makes_job}
+use Rattle.coverage_program.specs.Words.{reads_job, Reading, Asked, WithSession, to_go_on, reading_of, asked_of, makes_areas, reports_run, makes_job}
 use Rattle.coverage_program.specs.declared.words.Command.{Command}
-use Rattle.coverage_program.specs.declared.words.Command.TheVariants.{Marks, Table, Replay, Combine, Show, Prove, Verify, Unknown}
+use Rattle.coverage_program.specs.declared.words.Command.TheVariants.{Early, Count, Marks, Table, Replay, Combine, Show, Prove, Verify, Unknown}
 use Rattle.coverage_program.proofs.OneTables.{one_of, one_places}
 use Rattle.coverage_program.proofs.StopLemmas.{came_is, any_named, not_both, not_more, too_many, large_stop, matched_stop}
 
@@ -44,18 +44,19 @@ pub data IsCombining (b : List ℕ) (status : ℕ) : Type 0 where
   Strange : (d : Difference) → IsOtherTable b d → status ≡ 11 → IsCombining b status
   Lacking : status ≡ 7 → IsCombining b status
 
-files_stop : (more : Reading) (name : Option Wanted) (s : SourceChange) (status : ℕ) (text b : List ℕ) → IsStopped false more name s status text → s.left ≡ Some b → length b ≤ input_limit → (Rose s.faults s.later → ⊥) → status ≡ 7
-files_stop more name s status text b (BadJob t p q) e l quiet = absurd (not_both false t refl)
-files_stop more name s status text b (LargeJob t p q) e l quiet = absurd (not_both false t refl)
-files_stop more name s status text b (NoSession t p q) e l quiet = absurd (not_both false t refl)
-files_stop more name s status text b (Controlled t p q) e l quiet = absurd (not_both false t refl)
-files_stop more name s status text b (BadListing t q) e l quiet = absurd (not_both false t refl)
-files_stop more name s status text b (LargeInput p) e l quiet = absurd (not_more s b e l p.2)
-files_stop more name s status text b (ReadFault p) e l quiet = absurd (quiet p.2)
-files_stop more name s status text b (WantOfMemory p) e l quiet = p.0
+files_stop : (more : Reading) (asked : Asked) (s : SourceChange) (status : ℕ) (text b : List ℕ) → IsStopped false more asked s status text → s.left ≡ Some b → length b ≤ input_limit → (Rose s.faults s.later → ⊥) → status ≡ 7
+files_stop more asked s status text b (BadJob t p q) e l quiet = absurd (not_both false t refl)
+files_stop more asked s status text b (LargeJob t p q) e l quiet = absurd (not_both false t refl)
+files_stop more asked s status text b (NoSession t p q) e l quiet = absurd (not_both false t refl)
+files_stop more asked s status text b (Controlled t p q) e l quiet = absurd (not_both false t refl)
+files_stop more asked s status text b (BadListing t q) e l quiet = absurd (not_both false t refl)
+files_stop more asked s status text b (LargeInput p) e l quiet = absurd (not_more s b e l p.2)
+files_stop more asked s status text b (ReadFault p) e l quiet = absurd (quiet p.2)
+files_stop more asked s status text b (WantOfMemory p) e l quiet = p.0
 
 pub files_outcome : (c : Command) (s : SourceChange) (a : AreasChange) (status : ℕ) (text b : List ℕ) → IsCause c s a status text → c ≡ Combine → s.left ≡ Some b → length b ≤ input_limit → (Rose s.faults s.later → ⊥) → IsCombining b status
 files_outcome c s a status text b (Report p q) same e l quiet = absurd (not_both (reports_run c) p.1 (ap reports_run same))
+files_outcome c s a status text b (ReportedEarly p q) same e l quiet = let x : Early ≡ Combine = sym p.1 ∙ same in absurd cc
 files_outcome c s a status text b (Recorded name p q) same e l quiet = let x : Marks name ≡ Combine = sym p.1 ∙ same in absurd cc
 files_outcome c s a status text b (Places p q k) same e l quiet = let x : Table ≡ Combine = sym p.1 ∙ same in absurd cc
 files_outcome c s a status text b (Replayed p q k) same e l quiet = let x : Replay ≡ Combine = sym p.1 ∙ same in absurd cc
@@ -67,10 +68,11 @@ files_outcome c s a status text b (Shown name p q k) same e l quiet = let x : Sh
 files_outcome c s a status text b (BadShown name p q k) same e l quiet = let x : Show name ≡ Combine = sym p.1 ∙ same in absurd cc
 files_outcome c s a status text b (OtherShown name p q k) same e l quiet = let x : Show name ≡ Combine = sym p.1 ∙ same in absurd cc
 files_outcome c s a status text b (Proved name p q k) same e l quiet = let x : Prove name ≡ Combine = sym p.1 ∙ same in absurd cc
+files_outcome c s a status text b (Counted p q k) same e l quiet = let x : Count ≡ Combine = sym p.1 ∙ same in absurd cc
 files_outcome c s a status text b (Checked name p q k) same e l quiet = let x : Verify name ≡ Combine = sym p ∙ same in absurd cc
 files_outcome c s a status text b (Usage p k) same e l quiet = let x : Unknown ≡ Combine = sym p.1 ∙ same in absurd cc
 files_outcome c s a status text b (Stopped p q k) same e l quiet =
-    Lacking (files_stop (reading_of c) (session_named c) s status text b (subst (λ (d : Command). IsStopped (reads_job d) (reading_of c) (session_named c) s status text) same q) e l quiet)
+    Lacking (files_stop (reading_of c) (asked_of c) s status text b (subst (λ (d : Command). IsStopped (reads_job d) (reading_of c) (asked_of c) s status text) same q) e l quiet)
 files_outcome c s a status text b (NoMemoryToRun p q) same e l quiet = absurd (not_both (makes_areas c) p.1 (ap makes_areas same))
 files_outcome c s a status text b (Tried number tasks p q) same e l quiet = absurd (not_both (makes_job c) (ap makes_job p.1) (ap makes_job same))
 files_outcome c s a status text b (NoMemoryToTry p q) same e l quiet = absurd (not_both (makes_job c) p.1 (ap makes_job same))
@@ -95,6 +97,7 @@ other_files_case b status d (Lacking z) is = inr z
 
 pub large_files : (c : Command) (s : SourceChange) (a : AreasChange) (status : ℕ) (text b : List ℕ) → IsCause c s a status text → c ≡ Combine → s.left ≡ Some b → input_limit < length b → (Rose s.faults s.later → ⊥) → (status ≡ 4) ⊎ (status ≡ 7)
 large_files c s a status text b (Report p q) same e l quiet = absurd (not_both (reports_run c) p.1 (ap reports_run same))
+large_files c s a status text b (ReportedEarly p q) same e l quiet = let x : Early ≡ Combine = sym p.1 ∙ same in absurd cc
 large_files c s a status text b (Recorded name p q) same e l quiet = let x : Marks name ≡ Combine = sym p.1 ∙ same in absurd cc
 large_files c s a status text b (Places p q k) same e l quiet = let x : Table ≡ Combine = sym p.1 ∙ same in absurd cc
 large_files c s a status text b (Replayed p q k) same e l quiet = let x : Replay ≡ Combine = sym p.1 ∙ same in absurd cc
@@ -106,9 +109,10 @@ large_files c s a status text b (Shown name p q k) same e l quiet = let x : Show
 large_files c s a status text b (BadShown name p q k) same e l quiet = let x : Show name ≡ Combine = sym p.1 ∙ same in absurd cc
 large_files c s a status text b (OtherShown name p q k) same e l quiet = let x : Show name ≡ Combine = sym p.1 ∙ same in absurd cc
 large_files c s a status text b (Proved name p q k) same e l quiet = let x : Prove name ≡ Combine = sym p.1 ∙ same in absurd cc
+large_files c s a status text b (Counted p q k) same e l quiet = let x : Count ≡ Combine = sym p.1 ∙ same in absurd cc
 large_files c s a status text b (Checked name p q k) same e l quiet = let x : Verify name ≡ Combine = sym p ∙ same in absurd cc
 large_files c s a status text b (Usage p k) same e l quiet = let x : Unknown ≡ Combine = sym p.1 ∙ same in absurd cc
-large_files c s a status text b (Stopped p q k) same e l quiet = large_stop (reads_job c) (reading_of c) (session_named c) s status text b q e l quiet
+large_files c s a status text b (Stopped p q k) same e l quiet = large_stop (reads_job c) (reading_of c) (asked_of c) s status text b q e l quiet
 large_files c s a status text b (NoMemoryToRun p q) same e l quiet = absurd (not_both (makes_areas c) p.1 (ap makes_areas same))
 large_files c s a status text b (Tried number tasks p q) same e l quiet = absurd (not_both (makes_job c) (ap makes_job p.1) (ap makes_job same))
 large_files c s a status text b (NoMemoryToTry p q) same e l quiet = absurd (not_both (makes_job c) p.1 (ap makes_job same))
@@ -200,6 +204,7 @@ one_name c n name p q = let x : Show n ≡ Show name = sym p ∙ q in cc
 pub show_outcome : (c : Command) (name : List ℕ) (s : SourceChange) (a : AreasChange) (status : ℕ) (text b : List ℕ) (j : JobView) (tables : TablesView) (number : ℕ) (rest : List ℕ) → IsCause c s a status text → c ≡ Show name → StandsBehind name b j tables number rest → s.left ≡ Some b → (Rose s.faults s.later → ⊥) →
     IsShowing j tables number rest status
 show_outcome c name s a status text b j tables number rest (Report p q) same h e quiet = absurd (not_both (reports_run c) p.1 (ap reports_run same))
+show_outcome c name s a status text b j tables number rest (ReportedEarly p q) same h e quiet = let x : Early ≡ Show name = sym p.1 ∙ same in absurd cc
 show_outcome c name s a status text b j tables number rest (Recorded n p q) same h e quiet = let x : Marks n ≡ Show name = sym p.1 ∙ same in absurd cc
 show_outcome c name s a status text b j tables number rest (Places p q k) same h e quiet = let x : Table ≡ Show name = sym p.1 ∙ same in absurd cc
 show_outcome c name s a status text b j tables number rest (Replayed p q k) same h e quiet = let x : Replay ≡ Show name = sym p.1 ∙ same in absurd cc
@@ -218,11 +223,12 @@ show_outcome c name s a status text b j tables number rest (OtherShown n p q k) 
     let table : session_rows q.job q.tables q.number ≡ session_rows j tables number = ap rows (i.marks (λ x. no_facts)) in
     OfOther q.modules q.difference (subst (λ (r : List ℕ). IsFile r q.modules) i.rests q.file) (subst (λ (t : List (List ℕ)). first_difference 0 t (rows q.modules) ≡ Some q.difference) table q.differs) p.0
 show_outcome c name s a status text b j tables number rest (Proved n p q k) same h e quiet = let x : Prove n ≡ Show name = sym p.1 ∙ same in absurd cc
+show_outcome c name s a status text b j tables number rest (Counted p q k) same h e quiet = let x : Count ≡ Show name = sym p.1 ∙ same in absurd cc
 show_outcome c name s a status text b j tables number rest (Checked n p q k) same h e quiet = let x : Verify n ≡ Show name = sym p ∙ same in absurd cc
 show_outcome c name s a status text b j tables number rest (Usage p k) same h e quiet = let x : Unknown ≡ Show name = sym p.1 ∙ same in absurd cc
 show_outcome c name s a status text b j tables number rest (Stopped p q k) same h e quiet =
-    let stop : IsStopped true to_go_on (session_named (Show name)) s status text = subst (λ (d : Command). IsStopped (reads_job d) (reading_of d) (session_named d) s status text) same q in
-    Wanting (matched_stop to_go_on (session_named (Show name)) s status text b j stop e h.few h.has (any_named j name number h.is_number) h.match.faultless quiet).0
+    let stop : IsStopped true to_go_on (asked_of (Show name)) s status text = subst (λ (d : Command). IsStopped (reads_job d) (reading_of d) (asked_of d) s status text) same q in
+    Wanting (matched_stop to_go_on (asked_of (Show name)) s status text b j stop e h.few h.has (any_named j name number h.is_number) h.match.faultless quiet).0
 show_outcome c name s a status text b j tables number rest (NoMemoryToRun p q) same h e quiet = absurd (not_both (makes_areas c) p.1 (ap makes_areas same))
 show_outcome c name s a status text b j tables number rest (Tried n tasks p q) same h e quiet = absurd (not_both (makes_job c) (ap makes_job p.1) (ap makes_job same))
 show_outcome c name s a status text b j tables number rest (NoMemoryToTry p q) same h e quiet = absurd (not_both (makes_job c) p.1 (ap makes_job same))

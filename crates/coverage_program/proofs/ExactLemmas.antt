@@ -7,15 +7,15 @@ use Rattle.evidence_check.proofs.VerifiedLemmas.{verified_passes}
 use Rattle.job_text.specs.Lines.{lines_of}
 use Rattle.job_text.proofs.WholeJob.{job_keeps}
 use Rattle.session_book.specs.JobView.{JobView, IsJob}
-use Rattle.coverage_program.specs.Answers.{IsStopped, BadJob, LargeJob, NoSession, Controlled, BadListing, LargeInput, ReadFault, WantOfMemory, IsCause, Report, Recorded, Places, Replayed, BadSchedule, United, BadFile, OtherFile, Shown, BadShown, OtherShown, Proved, Checked, Usage, Stopped, NoMemoryToRun, Tried, NoMemoryToTry, Answers}
+use Rattle.coverage_program.specs.Answers.{IsStopped, BadJob, LargeJob, NoSession, Controlled, BadListing, LargeInput, ReadFault, WantOfMemory, IsCause, Report, ReportedEarly, Recorded, Places, Replayed, BadSchedule, United, BadFile, OtherFile, Shown, BadShown, OtherShown, Proved, Counted, Checked, Usage, Stopped, NoMemoryToRun, Tried, NoMemoryToTry, Answers}
 use Rattle.coverage_program.specs.Changes.{SourceChange, SinkChange, AreasChange}
 use Rattle.coverage_program.specs.Checked.{Verdict, OtherTable, BadEvidence, Refuted, Verified, IsVerdict, OfFile, verdict_status, HasVerified}
 use Rattle.coverage_program.specs.Checked.{BadFile as BadMarks}
 use Rattle.coverage_program.specs.Complete.{StandsBehind, HoldsTrue, bytes_of}
 use Rattle.coverage_program.specs.Files.{HasRest}
-use Rattle.coverage_program.specs.Words.{reads_job, Reading, Wanted, reading_of, session_named, makes_areas, reports_run, makes_job}
+use Rattle.coverage_program.specs.Words.{reads_job, Reading, Asked, reading_of, asked_of, makes_areas, reports_run, makes_job}
 use Rattle.coverage_program.specs.declared.words.Command.{Command}
-use Rattle.coverage_program.specs.declared.words.Command.TheVariants.{Marks, Table, Replay, Combine, Show, Prove, Verify, Unknown}
+use Rattle.coverage_program.specs.declared.words.Command.TheVariants.{Early, Count, Marks, Table, Replay, Combine, Show, Prove, Verify, Unknown}
 use Rattle.coverage_program.proofs.BehindLemmas.{joined}
 use Rattle.coverage_program.proofs.CompleteLemmas.{complete}
 use Rattle.coverage_program.proofs.UntouchedLemmas.{never_zero}
@@ -43,18 +43,19 @@ zero_verified j tables s rest (BadEvidence o) z sure = absurd cc
 zero_verified j tables s rest (Refuted row f) z sure = absurd cc
 zero_verified j tables s rest (Verified n) z sure = sure n refl
 
-stopped_told : (job : Bool) (how : Reading) (name : Option Wanted) (s : SourceChange) (status : ℕ) (text : List ℕ) → IsStopped job how name s status text → status ≡ 0 → ⊥
-stopped_told job how name s status text (BadJob t p q) z = let x : 2 ≡ 0 = sym p ∙ z in absurd cc
-stopped_told job how name s status text (LargeJob t p q) z = let x : 4 ≡ 0 = sym p ∙ z in absurd cc
-stopped_told job how name s status text (NoSession t p q) z = let x : 13 ≡ 0 = sym p ∙ z in absurd cc
-stopped_told job how name s status text (Controlled t p q) z = let x : 14 ≡ 0 = sym p ∙ z in absurd cc
-stopped_told job how name s status text (BadListing t q) z = never_zero q.job (refusal status text) q.first z
-stopped_told job how name s status text (LargeInput p) z = let x : 4 ≡ 0 = sym p.0 ∙ z in absurd cc
-stopped_told job how name s status text (ReadFault p) z = let x : 5 ≡ 0 = sym p.0 ∙ z in absurd cc
-stopped_told job how name s status text (WantOfMemory p) z = let x : 7 ≡ 0 = sym p.0 ∙ z in absurd cc
+stopped_told : (job : Bool) (how : Reading) (asked : Asked) (s : SourceChange) (status : ℕ) (text : List ℕ) → IsStopped job how asked s status text → status ≡ 0 → ⊥
+stopped_told job how asked s status text (BadJob t p q) z = let x : 2 ≡ 0 = sym p ∙ z in absurd cc
+stopped_told job how asked s status text (LargeJob t p q) z = let x : 4 ≡ 0 = sym p ∙ z in absurd cc
+stopped_told job how asked s status text (NoSession t p q) z = let x : 13 ≡ 0 = sym p ∙ z in absurd cc
+stopped_told job how asked s status text (Controlled t p q) z = let x : 14 ≡ 0 = sym p ∙ z in absurd cc
+stopped_told job how asked s status text (BadListing t q) z = never_zero q.job (refusal status text) q.first z
+stopped_told job how asked s status text (LargeInput p) z = let x : 4 ≡ 0 = sym p.0 ∙ z in absurd cc
+stopped_told job how asked s status text (ReadFault p) z = let x : 5 ≡ 0 = sym p.0 ∙ z in absurd cc
+stopped_told job how asked s status text (WantOfMemory p) z = let x : 7 ≡ 0 = sym p.0 ∙ z in absurd cc
 
 exact_case : (c : Command) (name : List ℕ) (s : SourceChange) (a : AreasChange) (status : ℕ) (text b : List ℕ) → IsCause c s a status text → c ≡ Verify name → s.left ≡ Some b → status ≡ 0 → HoldsTrue name b
 exact_case c name s a status text b (Report p q) same e z = absurd (not_both (reports_run c) p.1 (ap reports_run same))
+exact_case c name s a status text b (ReportedEarly p q) same e z = let x : Early ≡ Verify name = sym p.1 ∙ same in absurd cc
 exact_case c name s a status text b (Recorded n p q) same e z = let x : Marks n ≡ Verify name = sym p.1 ∙ same in absurd cc
 exact_case c name s a status text b (Places p q k) same e z = let x : Table ≡ Verify name = sym p.1 ∙ same in absurd cc
 exact_case c name s a status text b (Replayed p q k) same e z = let x : Replay ≡ Verify name = sym p.1 ∙ same in absurd cc
@@ -66,12 +67,13 @@ exact_case c name s a status text b (Shown n p q k) same e z = let x : Show n �
 exact_case c name s a status text b (BadShown n p q k) same e z = let x : Show n ≡ Verify name = sym p.1 ∙ same in absurd cc
 exact_case c name s a status text b (OtherShown n p q k) same e z = let x : Show n ≡ Verify name = sym p.1 ∙ same in absurd cc
 exact_case c name s a status text b (Proved n p q k) same e z = let x : Prove n ≡ Verify name = sym p.1 ∙ same in absurd cc
+exact_case c name s a status text b (Counted p q k) same e z = let x : Count ≡ Verify name = sym p.1 ∙ same in absurd cc
 exact_case c name s a status text b (Checked n p q k) same e z =
     let has : HasVerified q.job q.tables q.number q.rest = zero_verified q.job q.tables q.number q.rest q.verdict (sym q.is_status ∙ z) q.sure in
     subst (λ (x : List ℕ). HoldsTrue x b) (one_check c n name p same)
     (record { job = q.job; tables = q.tables; number = q.number; rest = q.rest; stands = stands_of n s b q.job q.tables q.number q.rest e q.has; whole = q.whole; has = has })
 exact_case c name s a status text b (Usage p k) same e z = let x : Unknown ≡ Verify name = sym p.1 ∙ same in absurd cc
-exact_case c name s a status text b (Stopped p q k) same e z = absurd (stopped_told (reads_job c) (reading_of c) (session_named c) s status text q z)
+exact_case c name s a status text b (Stopped p q k) same e z = absurd (stopped_told (reads_job c) (reading_of c) (asked_of c) s status text q z)
 exact_case c name s a status text b (NoMemoryToRun p q) same e z = absurd (not_both (makes_areas c) p.1 (ap makes_areas same))
 exact_case c name s a status text b (Tried n tasks p q) same e z = absurd (not_both (makes_job c) (ap makes_job p.1) (ap makes_job same))
 exact_case c name s a status text b (NoMemoryToTry p q) same e z = absurd (not_both (makes_job c) p.1 (ap makes_job same))

@@ -1,4 +1,6 @@
 pub mod AnswerLemmas
+pub mod CountLemmas
+pub mod DrainedLemmas
 pub mod CheckedLemmas
 pub mod CompleteLemmas
 pub mod ExactLemmas

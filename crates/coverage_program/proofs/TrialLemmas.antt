@@ -14,12 +14,12 @@ use Rattle.job_run.specs.declared.outcome.Done.{Done}
 use Rattle.session_book.specs.JobView.{JobView}
 use Rattle.report_text.specs.Conditions.{HasFewLines}
 use Rattle.report_text.specs.Trial.{trial_text}
-use Rattle.coverage_program.specs.Answers.{IsCause, Report, Recorded, Places, Replayed, BadSchedule, United, BadFile, OtherFile, Shown, BadShown, OtherShown, Proved, Checked, Usage, Stopped, NoMemoryToRun, Tried, NoMemoryToTry, IsWritten, Answers}
+use Rattle.coverage_program.specs.Answers.{IsCause, Report, ReportedEarly, Recorded, Places, Replayed, BadSchedule, United, BadFile, OtherFile, Shown, BadShown, OtherShown, Proved, Counted, Checked, Usage, Stopped, NoMemoryToRun, Tried, NoMemoryToTry, IsWritten, Answers}
 use Rattle.coverage_program.specs.Changes.{SourceChange, SinkChange, AreasChange}
 use Rattle.coverage_program.specs.Complete.{IsAnswer}
 use Rattle.coverage_program.specs.Complete as wanted
 use Rattle.coverage_program.specs.declared.words.Command.{Command}
-use Rattle.coverage_program.specs.declared.words.Command.TheVariants.{Run, Exits, Marks, Trial, Table, Replay, Combine, Show, Prove, Verify, Unknown}
+use Rattle.coverage_program.specs.declared.words.Command.TheVariants.{Run, Exits, Early, Count, Marks, Trial, Table, Replay, Combine, Show, Prove, Verify, Unknown}
 use Rattle.coverage_program.specs.Refusals.{job_refusal, Match}
 use Rattle.coverage_program.specs.Trial.{IsUnread}
 use Rattle.coverage_program.specs.Untouched.{IsRunText}
@@ -35,6 +35,8 @@ use Rattle.coverage_program.proofs.TableLemmas.{unrefused}
 pub made_areas : (c : Command) → makes_job c ≡ true → makes_areas c ≡ true
 made_areas Run m = absurd cc
 made_areas Exits m = absurd cc
+made_areas Early m = absurd cc
+made_areas Count m = absurd cc
 made_areas (Marks name) m = absurd cc
 made_areas (Trial number tasks) m = refl
 made_areas Table m = absurd cc
@@ -48,6 +50,8 @@ made_areas Unknown m = absurd cc
 pub made_jobless : (c : Command) → makes_job c ≡ true → reads_job c ≡ false
 made_jobless Run m = absurd cc
 made_jobless Exits m = absurd cc
+made_jobless Early m = absurd cc
+made_jobless Count m = absurd cc
 made_jobless (Marks name) m = absurd cc
 made_jobless (Trial number tasks) m = refl
 made_jobless Table m = absurd cc
@@ -61,6 +65,8 @@ made_jobless Unknown m = absurd cc
 pub made_silent : (c : Command) → makes_job c ≡ true → reads_input c ≡ false
 made_silent Run m = absurd cc
 made_silent Exits m = absurd cc
+made_silent Early m = absurd cc
+made_silent Count m = absurd cc
 made_silent (Marks name) m = absurd cc
 made_silent (Trial number tasks) m = refl
 made_silent Table m = absurd cc
@@ -78,11 +84,9 @@ never_answered c b n m (wanted.LargeInput t l i) = not_both (reads_input c) t (m
 never_answered c b n m (wanted.BadJob k t l bad none i) = not_both (reads_job c) t (made_jobless c m)
 never_answered c b n m (wanted.LargeJob what k t l over i) = not_both (reads_job c) t (made_jobless c m)
 never_answered c b n m (wanted.NoSession j name t l has named none i) = not_both (reads_job c) t (made_jobless c m)
-never_answered c b n m (wanted.Controlled j name number t l has named whole is by i) = not_both (reads_job c) t (made_jobless c m)
+never_answered c b n m (wanted.Controlled j number t l has controlled i) = not_both (reads_job c) t (made_jobless c m)
 never_answered c b n m (wanted.BadListing j r t l has named some i) = not_both (reads_job c) t (made_jobless c m)
-never_answered c b n m (wanted.Matched j t l has none i) = elim t [ inl u ↦ not_both (reads_job c) (job_read c u) (made_jobless c m) | inr u ↦ not_both (makes_job c) m (ap makes_job u) ]
-never_answered c b n m (wanted.Recorded j name u l has some none i) = not_both (makes_job c) m (ap makes_job u)
-never_answered c b n m (wanted.Proved j name u l has named none i) = not_both (makes_job c) m (ap makes_job u)
+never_answered c b n m (wanted.Matched j t alone l has asked none i) = not_both (reads_job c) t (made_jobless c m)
 never_answered c b n m (wanted.United marks u l is i) = not_both (makes_job c) m (ap makes_job u)
 never_answered c b n m (wanted.BadFile offset u l is i) = not_both (makes_job c) m (ap makes_job u)
 never_answered c b n m (wanted.OtherFile d u l is i) = not_both (makes_job c) m (ap makes_job u)
@@ -99,6 +103,7 @@ pub data IsMade (c : Command) (s : SourceChange) (a : AreasChange) (status : ℕ
 
 pub made : (c : Command) (s : SourceChange) (a : AreasChange) (status : ℕ) (text : List ℕ) → IsCause c s a status text → makes_job c ≡ true → IsMade c s a status text
 made c s a status text (Report p q) m = absurd (not_both (reads_job c) (job_read c p.1) (made_jobless c m))
+made c s a status text (ReportedEarly p q) m = absurd (not_both (makes_job c) m (ap makes_job p.1))
 made c s a status text (Recorded name p q) m = absurd (not_both (makes_job c) m (ap makes_job p.1))
 made c s a status text (Places p q k) m = absurd (not_both (makes_job c) m (ap makes_job p.1))
 made c s a status text (Replayed p q k) m = absurd (not_both (makes_job c) m (ap makes_job p.1))
@@ -110,6 +115,7 @@ made c s a status text (Shown name p q k) m = absurd (not_both (makes_job c) m (
 made c s a status text (BadShown name p q k) m = absurd (not_both (makes_job c) m (ap makes_job p.1))
 made c s a status text (OtherShown name p q k) m = absurd (not_both (makes_job c) m (ap makes_job p.1))
 made c s a status text (Proved name p q k) m = absurd (not_both (makes_job c) m (ap makes_job p.1))
+made c s a status text (Counted p q k) m = absurd (not_both (makes_job c) m (ap makes_job p.1))
 made c s a status text (Checked name p q k) m = absurd (not_both (makes_job c) m (ap makes_job p))
 made c s a status text (Usage p k) m = absurd (not_both (makes_job c) m (ap makes_job p.1))
 made c s a status text (Stopped p q k) m = absurd (not_both (reads_input c) p (made_silent c m))

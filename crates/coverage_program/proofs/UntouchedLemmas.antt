@@ -13,22 +13,22 @@ use Rattle.brk_table.specs.declared.faults.BuildFault.TheVariants as fault
 use Rattle.brk_table.specs.Places.{TablesView}
 use Rattle.session_book.specs.JobView.{JobView}
 use Rattle.job_text.specs.Lines.{lines_of}
-use Rattle.coverage_program.specs.Answers.{IsReport, IsStopped, IsReady, IsCause, Report, Recorded, Places, Replayed, BadSchedule, United, BadFile, OtherFile, Shown, BadShown, OtherShown, Proved, Checked, Usage, Stopped, NoMemoryToRun, Tried, NoMemoryToTry, Answers}
+use Rattle.coverage_program.specs.Answers.{IsReport, IsStopped, IsReady, IsCause, Report, ReportedEarly, Recorded, Places, Replayed, BadSchedule, United, BadFile, OtherFile, Shown, BadShown, OtherShown, Proved, Counted, Checked, Usage, Stopped, NoMemoryToRun, Tried, NoMemoryToTry, Answers}
 use Rattle.coverage_program.specs.Inputs.{CameJob, HasJob, CameMatched, input_limit}
 use Rattle.coverage_program.specs.Changes.{SourceChange, SinkChange, AreasChange}
 use Rattle.coverage_program.specs.Complete.{IsAnswer}
 use Rattle.coverage_program.specs.Complete as wanted
 use Rattle.coverage_program.specs.Untouched.{IsUntouched, IsRunText, HasReport, HasText, Read, Made, IsCut, IsReportCut}
 use Rattle.coverage_program.specs.declared.words.Command.{Command}
-use Rattle.coverage_program.specs.declared.words.Command.TheVariants.{Run, Exits, Marks, Trial, Table, Replay, Combine, Show, Prove, Verify, Unknown}
+use Rattle.coverage_program.specs.declared.words.Command.TheVariants.{Run, Exits, Early, Count, Marks, Trial, Table, Replay, Combine, Show, Prove, Verify, Unknown}
 use Rattle.coverage_program.specs.Refusals.{RefusalView, list_refusal, build_refusal, refusal_by, refusal_from, or_refusal, places_in, job_refusal}
-use Rattle.coverage_program.specs.Words.{reads_job, reading_of, makes_areas, reports_run, course_of, makes_job, session_named, no_memory_line}
-use Rattle.coverage_program.proofs.CompleteLemmas.{status_of, session_there, made_status}
+use Rattle.coverage_program.specs.Words.{reads_job, reading_of, makes_areas, reports_run, course_of, makes_job, asked_of, no_memory_line}
+use Rattle.coverage_program.proofs.CompleteLemmas.{status_of, made_status}
 use Rattle.coverage_program.proofs.TrialLemmas.{made_areas, made_jobless, never_answered, IsMade, Summed, Lacking, made}
-use Rattle.coverage_program.proofs.WordLemmas.{by_report, ready_to_run, unnamed}
+use Rattle.coverage_program.proofs.WordLemmas.{any_job, by_report, ready_to_run}
 use Rattle.coverage_program.specs.Trial.{IsUnread}
-use Rattle.coverage_program.proofs.StopLemmas.{same_job, any_named, not_both, never_came, never_large, too_many, not_named, not_whole, matched_stop}
-use Rattle.coverage_program.specs.Named.{HasNamed}
+use Rattle.coverage_program.proofs.StopLemmas.{same_job, any_named, not_both, never_came, never_large, too_many, not_named, not_free, matched_stop}
+use Rattle.coverage_program.specs.Named.{HasAsked}
 
 -- ---- a refusal is no report
 
@@ -76,13 +76,13 @@ never_zero j r e = subst IsTold e (told_from 65536 j.images j.listings)
 
 -- ---- the areas
 
-ready_run : (c d : Command) (s : SourceChange) (j : JobView) (tables : TablesView) → c ≡ d → reads_job d ≡ true → HasNamed (session_named d) j → CameMatched (reading_of d) s j tables → IsReady c s
-ready_run c d s j tables e reads named came = record {
+ready_run : (c d : Command) (s : SourceChange) (j : JobView) (tables : TablesView) → c ≡ d → reads_job d ≡ true → HasAsked (asked_of d) j → CameMatched (reading_of d) s j tables → IsReady c s
+ready_run c d s j tables e reads asked came = record {
   job = j;
   tables = tables;
   reads = ap reads_job e ∙ reads;
   came = subst (λ (x : Command). CameMatched (reading_of x) s j tables) (sym e) came;
-  named = subst (λ (x : Command). HasNamed (session_named x) j) (sym e) named;
+  has = subst (λ (x : Command). HasAsked (asked_of x) j) (sym e) asked;
 }
 
 -- a job whose listings match has been run or was to be: one that came, or a generated one
@@ -96,6 +96,7 @@ Touched c s a status = (a.after ≡ a.before) ⊎ (HasTasks c s × ((status ≡ 
 
 touched : (c : Command) (s : SourceChange) (a : AreasChange) (status : ℕ) (text : List ℕ) → IsCause c s a status text → Touched c s a status
 touched c s a status text (Report p q) = inr (Came (by_report (λ d. makes_areas d ≡ true) c p.1 refl refl) (ready_to_run c s q.job q.tables p.1 q.came), inl p.0)
+touched c s a status text (ReportedEarly p q) = inr (Came (ap makes_areas p.1) (ready_run c Early s q.job q.tables p.1 refl (any_job q.job) q.came), inl p.0)
 touched c s a status text (Recorded name p q) = inr (Came (ap makes_areas p.1) (ready_run c (Marks name) s q.job q.tables p.1 refl (any_named q.job name q.number q.is_number) q.came), inl p.0)
 touched c s a status text (Places p q k) = inl k
 touched c s a status text (Replayed p q k) = inl k
@@ -107,6 +108,7 @@ touched c s a status text (Shown name p q k) = inl k
 touched c s a status text (BadShown name p q k) = inl k
 touched c s a status text (OtherShown name p q k) = inl k
 touched c s a status text (Proved name p q k) = inl k
+touched c s a status text (Counted p q k) = inl k
 touched c s a status text (Checked name p q k) = inl k
 touched c s a status text (Usage p k) = inl k
 touched c s a status text (Stopped p q k) = inl k
@@ -121,14 +123,12 @@ reported c s b n m r e (wanted.LargeInput t l i) = absurd (too_many s b r.came.c
 reported c s b n m r e (wanted.BadJob k t l bad none i) = absurd (never_came (reading_of c) s b r.job e none r.came.came)
 reported c s b n m r e (wanted.LargeJob what k t l over i) = absurd (never_large (reading_of c) s b r.job what k e over r.came.came)
 reported c s b n m r e (wanted.NoSession j name t l has named none i) =
-    absurd (not_named (session_named c) j name named none (subst (λ (k : JobView). HasNamed (session_named c) k) (sym (same_job (reading_of c) s b j r.job e has r.came.came)) r.named))
-reported c s b n m r e (wanted.Controlled j name number t l has named whole is by i) =
-    absurd (not_whole (session_named c) j name number named whole is by (subst (λ (k : JobView). HasNamed (session_named c) k) (sym (same_job (reading_of c) s b j r.job e has r.came.came)) r.named))
+    absurd (not_named (asked_of c) j name named none (subst (λ (k : JobView). HasAsked (asked_of c) k) (sym (same_job (reading_of c) s b j r.job e has r.came.came)) r.has))
+reported c s b n m r e (wanted.Controlled j number t l has controlled i) =
+    absurd (not_free (asked_of c) j number controlled (subst (λ (k : JobView). HasAsked (asked_of c) k) (sym (same_job (reading_of c) s b j r.job e has r.came.came)) r.has))
 reported c s b n m r e (wanted.BadListing j x t l has named some i) =
     let q : Some x ≡ None = sym some ∙ (ap job_refusal (same_job (reading_of c) s b j r.job e has r.came.came) ∙ r.came.match.faultless) in absurd cc
-reported c s b n m r e (wanted.Matched j t l has none i) = i
-reported c s b n m r e (wanted.Recorded j name x l has some none i) = i
-reported c s b n m r e (wanted.Proved j name x l has named none i) = i
+reported c s b n m r e (wanted.Matched j t alone l has asked none i) = i
 reported c s b n m r e (wanted.United marks x l is i) = absurd (not_both (makes_areas c) m (ap makes_areas x))
 reported c s b n m r e (wanted.BadFile offset x l is i) = absurd (not_both (makes_areas c) m (ap makes_areas x))
 reported c s b n m r e (wanted.OtherFile d x l is i) = absurd (not_both (makes_areas c) m (ap makes_areas x))
@@ -160,8 +160,8 @@ no_source_fault : (c : Command) (s : SourceChange) → HasTasks c s → s.later 
 no_source_fault c s (Came m r) d = d r.came.came.came.no_fault
 no_source_fault c s (Generated m u) d = d u.1
 
-no_match : (c : Command) (s : SourceChange) → HasTasks c s → reads_job c ≡ true → ((j : JobView) → CameJob (reading_of c) s j → HasNamed (session_named c) j → job_refusal j ≡ None → ⊥) → ⊥
-no_match c s (Came m r) reads none = none r.job r.came.came r.named r.came.match.faultless
+no_match : (c : Command) (s : SourceChange) → HasTasks c s → reads_job c ≡ true → ((j : JobView) → CameJob (reading_of c) s j → HasAsked (asked_of c) j → job_refusal j ≡ None → ⊥) → ⊥
+no_match c s (Came m r) reads none = none r.job r.came.came r.has r.came.match.faultless
 no_match c s (Generated m u) reads none = not_both (reads_job c) reads (made_jobless c m)
 
 no_report : (c : Command) (s : SourceChange) (b : List ℕ) (n : ℕ) → HasTasks c s → s.left ≡ Some b → IsAnswer c b n → n ≢ 0 → ⊥
@@ -185,6 +185,8 @@ untouched c s a k answer x =
 runs_alone : (c : Command) → makes_areas c ≡ true → makes_job c ≡ false → (reads_job c ≡ true) × ((reading_of c).more ≡ false)
 runs_alone Run m n = (refl, refl)
 runs_alone Exits m n = (refl, refl)
+runs_alone Early m n = (refl, refl)
+runs_alone Count m n = absurd cc
 runs_alone (Marks name) m n = (refl, refl)
 runs_alone (Trial number tasks) m n = absurd cc
 runs_alone Table m n = absurd cc
@@ -200,12 +202,8 @@ record HasJobToRun (c : Command) (b : List ℕ) : Type 0 where
   job : JobView
   few : length b ≤ input_limit
   has : HasJob (reading_of c) (lines_of b) job
-  named : HasNamed (session_named c) job
+  asked : HasAsked (asked_of c) job
   faultless : job_refusal job ≡ None
-
-run_named : (c : Command) (j : JobView) → makes_areas c ≡ true → (reports_run c ≡ true) ⊎ (c ≡ Table) → HasNamed (session_named c) j
-run_named c j m (inl h) = unnamed c j h
-run_named c j m (inr e) = absurd (not_both (makes_areas c) m (ap makes_areas e))
 
 -- what is answered of bytes isn't `trial`
 not_made : (c : Command) (b : List ℕ) (n : ℕ) → IsAnswer c b n → makes_job c ≡ false
@@ -221,13 +219,9 @@ has_job c b m g (wanted.LargeInput t l i) = absurd cc
 has_job c b m g (wanted.BadJob n t l bad none i) = absurd cc
 has_job c b m g (wanted.LargeJob what n t l over i) = absurd cc
 has_job c b m g (wanted.NoSession j name t l has named none i) = absurd cc
-has_job c b m g (wanted.Controlled j name number t l has named whole is by i) = absurd cc
+has_job c b m g (wanted.Controlled j number t l has controlled i) = absurd cc
 has_job c b m g (wanted.BadListing j r t l has named some i) = absurd (never_zero j r some (sym i))
-has_job c b m g (wanted.Matched j t l has none i) =
-    record { job = j; few = l; has = has; named = run_named c j m t; faultless = none }
-has_job c b m g (wanted.Recorded j name e l has some none i) =
-    record { job = j; few = l; has = subst (λ (x : Command). HasJob (reading_of x) (lines_of b) j) (sym e) has; named = subst (λ (x : Command). HasNamed (session_named x) j) (sym e) (session_there j name some); faultless = none }
-has_job c b m g (wanted.Proved j name x l has named none i) = absurd (not_both (makes_areas c) m (ap makes_areas x))
+has_job c b m g (wanted.Matched j t alone l has asked none i) = record { job = j; few = l; has = has; asked = asked; faultless = none }
 has_job c b m g (wanted.United marks x l is i) = absurd (not_both (makes_areas c) m (ap makes_areas x))
 has_job c b m g (wanted.BadFile offset x l is i) = absurd cc
 has_job c b m g (wanted.OtherFile d x l is i) = absurd cc
@@ -243,6 +237,7 @@ text_by c d s a text e h = subst (λ (x : Command). IsRunText x s a text) (sym e
 -- what a run answers with where it has a report
 cut_text : (c : Command) (s : SourceChange) (a : AreasChange) (status : ℕ) (text b : List ℕ) → makes_areas c ≡ true → IsCause c s a status text → s.left ≡ Some b → IsAnswer c b 0 → (Rose s.faults s.later → ⊥) → IsRunText c s a text ⊎ (text ≡ no_memory_line)
 cut_text c s a status text b m (Report p q) e w quiet = inl (by_report (λ d. IsReport (course_of d) s a text → IsRunText d s a text) c p.1 (λ r. r) (λ r. r) q)
+cut_text c s a status text b m (ReportedEarly p q) e w quiet = inl (text_by c Early s a text p.1 q)
 cut_text c s a status text b m (Recorded name p q) e w quiet = inl (text_by c (Marks name) s a text p.1 q)
 cut_text c s a status text b m (Places p q k) e w quiet = absurd (not_both (makes_areas c) m (ap makes_areas p.1))
 cut_text c s a status text b m (Replayed p q k) e w quiet = absurd (not_both (makes_areas c) m (ap makes_areas p.1))
@@ -254,12 +249,13 @@ cut_text c s a status text b m (Shown name p q k) e w quiet = absurd (not_both (
 cut_text c s a status text b m (BadShown name p q k) e w quiet = absurd (not_both (makes_areas c) m (ap makes_areas p.1))
 cut_text c s a status text b m (OtherShown name p q k) e w quiet = absurd (not_both (makes_areas c) m (ap makes_areas p.1))
 cut_text c s a status text b m (Proved name p q k) e w quiet = absurd (not_both (makes_areas c) m (ap makes_areas p.1))
+cut_text c s a status text b m (Counted p q k) e w quiet = absurd (not_both (makes_areas c) m (ap makes_areas p.1))
 cut_text c s a status text b m (Checked name p q k) e w quiet = absurd (not_both (makes_areas c) m (ap makes_areas p))
 cut_text c s a status text b m (Usage p k) e w quiet = absurd (not_both (makes_areas c) m (ap makes_areas p.1))
 cut_text c s a status text b m (Stopped p q k) e w quiet =
     let h : HasJobToRun c b = has_job c b m (not_made c b 0 w) w in
-    let stop : IsStopped true (reading_of c) (session_named c) s status text = subst (λ (x : Bool). IsStopped x (reading_of c) (session_named c) s status text) (runs_alone c m (not_made c b 0 w)).0 q in
-    inr (matched_stop (reading_of c) (session_named c) s status text b h.job stop e h.few h.has h.named h.faultless quiet).1
+    let stop : IsStopped true (reading_of c) (asked_of c) s status text = subst (λ (x : Bool). IsStopped x (reading_of c) (asked_of c) s status text) (runs_alone c m (not_made c b 0 w)).0 q in
+    inr (matched_stop (reading_of c) (asked_of c) s status text b h.job stop e h.few h.has h.asked h.faultless quiet).1
 cut_text c s a status text b m (NoMemoryToRun p q) e w quiet = inr p.2
 cut_text c s a status text b m (Tried number tasks p q) e w quiet = inl (text_by c (Trial number tasks) s a text p.1 q)
 cut_text c s a status text b m (NoMemoryToTry p q) e w quiet = inr p.2

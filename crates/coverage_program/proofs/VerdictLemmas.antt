@@ -16,14 +16,14 @@ use Rattle.session_book.specs.JobView.{JobView}
 use Rattle.session_book.specs.Sessions.{session_of}
 use Rattle.session_marks.specs.Marked.{session_rows}
 use Rattle.table_combine.specs.Combine.{first_difference}
-use Rattle.coverage_program.specs.Answers.{IsStopped, IsCause, Report, Recorded, Places, Replayed, BadSchedule, United, BadFile, OtherFile, Shown, BadShown, OtherShown, Proved, Checked, Usage, Stopped, NoMemoryToRun, Tried, NoMemoryToTry}
+use Rattle.coverage_program.specs.Answers.{IsStopped, IsCause, Report, ReportedEarly, Recorded, Places, Replayed, BadSchedule, United, BadFile, OtherFile, Shown, BadShown, OtherShown, Proved, Counted, Checked, Usage, Stopped, NoMemoryToRun, Tried, NoMemoryToTry}
 use Rattle.coverage_program.specs.Changes.{SourceChange, AreasChange}
 use Rattle.coverage_program.specs.Checked.{Verdict, IsVerdict, OfFile, judged, judged_by, verdict_status}
 use Rattle.coverage_program.specs.Checked.{BadFile as BadMarks, NoFile as NoStart}
 use Rattle.coverage_program.specs.Complete.{StandsBehind}
-use Rattle.coverage_program.specs.Words.{reads_job, to_go_on, reading_of, session_named, makes_areas, reports_run, makes_job}
+use Rattle.coverage_program.specs.Words.{reads_job, to_go_on, reading_of, asked_of, makes_areas, reports_run, makes_job}
 use Rattle.coverage_program.specs.declared.words.Command.{Command}
-use Rattle.coverage_program.specs.declared.words.Command.TheVariants.{Marks, Table, Replay, Combine, Show, Prove, Verify, Unknown}
+use Rattle.coverage_program.specs.declared.words.Command.TheVariants.{Early, Count, Marks, Table, Replay, Combine, Show, Prove, Verify, Unknown}
 use Rattle.coverage_program.proofs.BehindLemmas.{IsSame, one_rest}
 use Rattle.coverage_program.proofs.StopLemmas.{whole_named, not_both, matched_stop}
 
@@ -75,6 +75,7 @@ one_check c n name p q = let x : Verify n ≡ Verify name = sym p ∙ q in cc
 pub check_outcome : (c : Command) (name : List ℕ) (s : SourceChange) (a : AreasChange) (status : ℕ) (text b : List ℕ) (j : JobView) (tables : TablesView) (number : ℕ) (rest : List ℕ) → IsCause c s a status text → c ≡ Verify name → StandsBehind name b j tables number rest → (session_of j number).by ≡ None → s.left ≡ Some b →
     (Rose s.faults s.later → ⊥) → IsChecking j tables number rest status
 check_outcome c name s a status text b j tables number rest (Report p q) same h free e quiet = absurd (not_both (reports_run c) p.1 (ap reports_run same))
+check_outcome c name s a status text b j tables number rest (ReportedEarly p q) same h free e quiet = let x : Early ≡ Verify name = sym p.1 ∙ same in absurd cc
 check_outcome c name s a status text b j tables number rest (Recorded n p q) same h free e quiet = let x : Marks n ≡ Verify name = sym p.1 ∙ same in absurd cc
 check_outcome c name s a status text b j tables number rest (Places p q k) same h free e quiet = let x : Table ≡ Verify name = sym p.1 ∙ same in absurd cc
 check_outcome c name s a status text b j tables number rest (Replayed p q k) same h free e quiet = let x : Replay ≡ Verify name = sym p.1 ∙ same in absurd cc
@@ -86,13 +87,14 @@ check_outcome c name s a status text b j tables number rest (Shown n p q k) same
 check_outcome c name s a status text b j tables number rest (BadShown n p q k) same h free e quiet = let x : Show n ≡ Verify name = sym p.1 ∙ same in absurd cc
 check_outcome c name s a status text b j tables number rest (OtherShown n p q k) same h free e quiet = let x : Show n ≡ Verify name = sym p.1 ∙ same in absurd cc
 check_outcome c name s a status text b j tables number rest (Proved n p q k) same h free e quiet = let x : Prove n ≡ Verify name = sym p.1 ∙ same in absurd cc
+check_outcome c name s a status text b j tables number rest (Counted p q k) same h free e quiet = let x : Count ≡ Verify name = sym p.1 ∙ same in absurd cc
 check_outcome c name s a status text b j tables number rest (Checked n p q k) same h free e quiet =
     let i = one_rest name n s b j q.job tables q.tables number q.number rest q.rest (one_check c n name p same) e q.has h in
     Judged q.verdict (same_verdict j q.job tables q.tables number q.number rest q.rest q.verdict i q.is) q.is_status
 check_outcome c name s a status text b j tables number rest (Usage p k) same h free e quiet = let x : Unknown ≡ Verify name = sym p.1 ∙ same in absurd cc
 check_outcome c name s a status text b j tables number rest (Stopped p q k) same h free e quiet =
-    let stop : IsStopped true to_go_on (session_named (Verify name)) s status text = subst (λ (d : Command). IsStopped (reads_job d) (reading_of d) (session_named d) s status text) same q in
-    Unjudged (matched_stop to_go_on (session_named (Verify name)) s status text b j stop e h.few h.has (whole_named j name number h.is_number free) h.match.faultless quiet).0
+    let stop : IsStopped true to_go_on (asked_of (Verify name)) s status text = subst (λ (d : Command). IsStopped (reads_job d) (reading_of d) (asked_of d) s status text) same q in
+    Unjudged (matched_stop to_go_on (asked_of (Verify name)) s status text b j stop e h.few h.has (whole_named j name number h.is_number free) h.match.faultless quiet).0
 check_outcome c name s a status text b j tables number rest (NoMemoryToRun p q) same h free e quiet = absurd (not_both (makes_areas c) p.1 (ap makes_areas same))
 check_outcome c name s a status text b j tables number rest (Tried n tasks p q) same h free e quiet = absurd (not_both (makes_job c) (ap makes_job p.1) (ap makes_job same))
 check_outcome c name s a status text b j tables number rest (NoMemoryToTry p q) same h free e quiet = absurd (not_both (makes_job c) p.1 (ap makes_job same))

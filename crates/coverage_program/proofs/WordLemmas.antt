@@ -5,15 +5,17 @@ use Rattle.session_book.specs.JobView.{JobView}
 use Rattle.coverage_program.specs.Answers.{IsReady}
 use Rattle.coverage_program.specs.Changes.{SourceChange}
 use Rattle.coverage_program.specs.Inputs.{CameMatched}
-use Rattle.coverage_program.specs.Named.{HasNamed}
-use Rattle.coverage_program.specs.Words.{reads_job, Reading, to_end, reading_of, reports_run, session_named}
+use Rattle.coverage_program.specs.Named.{HasAsked}
+use Rattle.coverage_program.specs.Words.{reads_job, Reading, to_end, AnyJob, reading_of, reports_run, asked_of}
 use Rattle.coverage_program.specs.declared.words.Command.{Command}
-use Rattle.coverage_program.specs.declared.words.Command.TheVariants.{Run, Exits, Marks, Trial, Table, Replay, Combine, Show, Prove, Verify, Unknown}
+use Rattle.coverage_program.specs.declared.words.Command.TheVariants.{Run, Exits, Early, Count, Marks, Trial, Table, Replay, Combine, Show, Prove, Verify, Unknown}
 
 -- there are two of them
 pub by_report : (is : Command → Type 0) (c : Command) → reports_run c ≡ true → is Run → is Exits → is c
 by_report is Run h r e = r
 by_report is Exits h r e = e
+by_report is Early h r e = absurd cc
+by_report is Count h r e = absurd cc
 by_report is (Marks name) h r e = absurd cc
 by_report is (Trial number tasks) h r e = absurd cc
 by_report is Table h r e = absurd cc
@@ -24,9 +26,13 @@ by_report is (Prove name) h r e = absurd cc
 by_report is (Verify name) h r e = absurd cc
 by_report is Unknown h r e = absurd cc
 
+-- every job does where nothing is asked
+pub any_job : (j : JobView) → HasAsked AnyJob j
+any_job j = record { named = tt; free = refl }
+
 -- they ask for no session
-pub unnamed : (c : Command) (j : JobView) → reports_run c ≡ true → HasNamed (session_named c) j
-unnamed c j h = by_report (λ d. HasNamed (session_named d) j) c h tt tt
+pub unnamed : (c : Command) (j : JobView) → reports_run c ≡ true → HasAsked (asked_of c) j
+unnamed c j h = by_report (λ d. HasAsked (asked_of d) j) c h (any_job j) (any_job j)
 
 -- and read a job and no more
 pub read_alone : (c : Command) → reports_run c ≡ true → reading_of c ≡ to_end
@@ -41,5 +47,5 @@ ready_to_run c s j tables h came = record {
   tables = tables;
   reads = job_read c h;
   came = subst (λ (how : Reading). CameMatched how s j tables) (sym (read_alone c h)) came;
-  named = unnamed c j h;
+  has = unnamed c j h;
 }

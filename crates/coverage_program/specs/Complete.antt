@@ -1,5 +1,5 @@
 -- The answer that the words and bytes have, and that the call gives it.
-use Rattle.std.specs.Prelude.{◌≡◌, ◌<◌, ◌⊎◌, ℕ, ◌≤◌, true, Some, None, IsSome, if◌then◌else◌, List, [], ◌∷◌, ◌++◌, length, drop}
+use Rattle.std.specs.Prelude.{◌≡◌, ◌<◌, ◌⊎◌, ℕ, ◌≤◌, true, false, Some, None, if◌then◌else◌, List, [], ◌∷◌, ◌++◌, length, drop}
 use Rattle.cov_outside.specs.Causes.{Rose}
 use Rattle.brk_table.specs.Places.{TablesView, all_places}
 use Rattle.session_book.specs.JobView.{JobView}
@@ -14,15 +14,15 @@ use Rattle.table_combine.specs.Combine.{Difference, first_difference}
 use Rattle.table_combine.specs.Files.{IsCombined, IsBad, IsOtherTable}
 use Rattle.job_text.specs.Refusals.{IsBadAt, IsOverAt}
 use Rattle.coverage_program.specs.declared.words.Command.{Command}
-use Rattle.coverage_program.specs.declared.words.Command.TheVariants.{Marks, Table, Replay, Combine, Show, Prove, Verify, Unknown}
+use Rattle.coverage_program.specs.declared.words.Command.TheVariants.{Replay, Combine, Show, Verify, Unknown}
 use Rattle.coverage_program.specs.Checked.{Verdict, IsVerdict, verdict_status, HasVerified}
 use Rattle.coverage_program.specs.Files.{IsFile, IsNoFile}
 use Rattle.coverage_program.specs.Inputs.{HasJob, input_limit}
-use Rattle.coverage_program.specs.Named.{HasNamed, session_number}
+use Rattle.coverage_program.specs.Named.{HasAsked, controlled_asked, session_number}
 use Rattle.coverage_program.specs.Changes.{SourceChange, SinkChange}
 use Rattle.coverage_program.specs.Refusals.{RefusalView, job_refusal, Match}
 use Rattle.coverage_program.specs.Replay.{play_of, play_status}
-use Rattle.coverage_program.specs.Words.{reads_input, reads_job, makes_job, reports_run, to_end, to_go_on, Wanted, reading_of, session_named}
+use Rattle.coverage_program.specs.Words.{reads_input, reads_job, makes_job, to_go_on, WithSession, Wanted, reading_of, asked_of}
 
 -- the bytes of lines
 abbrev pub bytes_of : List LineView → List ℕ
@@ -45,13 +45,10 @@ pub data IsAnswer (c : Command) (bytes : List ℕ) (status : ℕ) : Type 0 where
   LargeInput : reads_input c ≡ true → input_limit < length bytes → status ≡ 4 → IsAnswer c bytes status
   BadJob : (n : ℕ) → reads_job c ≡ true → length bytes ≤ input_limit → IsBadAt (lines_of bytes) n → ((j : JobView) → HasJob (reading_of c) (lines_of bytes) j → ⊥) → status ≡ 2 → IsAnswer c bytes status
   LargeJob : (what : Limit) (n : ℕ) → reads_job c ≡ true → length bytes ≤ input_limit → IsOverAt (lines_of bytes) what n → status ≡ 4 → IsAnswer c bytes status
-  NoSession : (j : JobView) (wanted : Wanted) → reads_job c ≡ true → length bytes ≤ input_limit → HasJob (reading_of c) (lines_of bytes) j → session_named c ≡ Some wanted → session_number j wanted.name ≡ None → status ≡ 13 → IsAnswer c bytes status
-  Controlled : (j : JobView) (wanted : Wanted) (number : ℕ) → reads_job c ≡ true → length bytes ≤ input_limit → HasJob (reading_of c) (lines_of bytes) j → session_named c ≡ Some wanted → wanted.whole ≡ true → session_number j wanted.name ≡ Some number →
-      IsSome (session_of j number).by → status ≡ 14 → IsAnswer c bytes status
-  BadListing : (j : JobView) (r : RefusalView) → reads_job c ≡ true → length bytes ≤ input_limit → HasJob (reading_of c) (lines_of bytes) j → HasNamed (session_named c) j → job_refusal j ≡ Some r → status ≡ r.status → IsAnswer c bytes status
-  Matched : (j : JobView) → (reports_run c ≡ true) ⊎ (c ≡ Table) → length bytes ≤ input_limit → HasJob (reading_of c) (lines_of bytes) j → job_refusal j ≡ None → status ≡ 0 → IsAnswer c bytes status
-  Recorded : (j : JobView) (name : List ℕ) → c ≡ Marks name → length bytes ≤ input_limit → HasJob to_end (lines_of bytes) j → IsSome (session_number j name) → job_refusal j ≡ None → status ≡ 0 → IsAnswer c bytes status
-  Proved : (j : JobView) (name : List ℕ) → c ≡ Prove name → length bytes ≤ input_limit → HasJob (reading_of c) (lines_of bytes) j → HasNamed (session_named c) j → job_refusal j ≡ None → status ≡ 0 → IsAnswer c bytes status
+  NoSession : (j : JobView) (wanted : Wanted) → reads_job c ≡ true → length bytes ≤ input_limit → HasJob (reading_of c) (lines_of bytes) j → asked_of c ≡ WithSession wanted → session_number j wanted.name ≡ None → status ≡ 13 → IsAnswer c bytes status
+  Controlled : (j : JobView) (number : ℕ) → reads_job c ≡ true → length bytes ≤ input_limit → HasJob (reading_of c) (lines_of bytes) j → controlled_asked (asked_of c) j ≡ Some number → status ≡ 14 → IsAnswer c bytes status
+  BadListing : (j : JobView) (r : RefusalView) → reads_job c ≡ true → length bytes ≤ input_limit → HasJob (reading_of c) (lines_of bytes) j → HasAsked (asked_of c) j → job_refusal j ≡ Some r → status ≡ r.status → IsAnswer c bytes status
+  Matched : (j : JobView) → reads_job c ≡ true → (reading_of c).more ≡ false → length bytes ≤ input_limit → HasJob (reading_of c) (lines_of bytes) j → HasAsked (asked_of c) j → job_refusal j ≡ None → status ≡ 0 → IsAnswer c bytes status
   United : (marks : MarksView) → c ≡ Combine → length bytes ≤ input_limit → IsCombined bytes marks → status ≡ 0 → IsAnswer c bytes status
   BadFile : (offset : ℕ) → c ≡ Combine → length bytes ≤ input_limit → IsBad bytes offset → status ≡ 10 → IsAnswer c bytes status
   OtherFile : (d : Difference) → c ≡ Combine → length bytes ≤ input_limit → IsOtherTable bytes d → status ≡ 11 → IsAnswer c bytes status

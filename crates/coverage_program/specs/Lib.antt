@@ -9,6 +9,7 @@ pub mod Words
 pub mod Incoming
 pub mod Inputs
 pub mod Named
+pub mod Drained
 pub mod Files
 pub mod Replay
 pub mod Untouched

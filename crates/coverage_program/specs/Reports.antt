@@ -1,6 +1,8 @@
 -- What the report of a run tells.
 use Rattle.std.specs.Prelude.{◌≡◌, ℕ, ◌≤◌, ◌<◌, true, Some, List, length}
+use Rattle.count_session.specs.Phases.{session_count}
 use Rattle.cov_base.specs.FactSet.{FactSet}
+use Rattle.cov_base.specs.declared.facts.Fact.{Fact}
 use Rattle.module_area.specs.FinalsView.{FinalsView}
 use Rattle.module_area.specs.PlanView.{place_of}
 use Rattle.brk_table.specs.Places.{TablesView}
@@ -9,8 +11,9 @@ use Rattle.session_book.specs.Results.{ResultView}
 use Rattle.session_book.specs.Sessions.{session_of, observes, is_whole}
 use Rattle.task_run.specs.Windows.{IsBetween}
 use Rattle.task_run.specs.Courses.{Course}
-use Rattle.job_run.specs.Runs.{result_by, set_by, least_by, most_by, solo_set, solo_least, solo_most}
+use Rattle.job_run.specs.Runs.{result_by, set_by, least_by, most_by, solo_result, solo_set, solo_least, solo_most}
 use Rattle.job_run.specs.Sets.{set_left}
+use Rattle.report_text.specs.Counts.{count_text}
 use Rattle.marks_file.specs.MarksFile.{file_bytes}
 use Rattle.marks_file.specs.declared.version.Version.TheVariants.{Second}
 use Rattle.session_marks.specs.Marked.{session_file}
@@ -29,6 +32,15 @@ pub record Reports (course : Course) (j : JobView) (tables : TablesView) (areas 
       IsBetween (least_by course j tables.places by s p) (most_by course j tables.places by s p) (sets s p)
   pub are_final : (s p : ℕ) → 0 < s → s ≤ length j.sessions → p < length tables.places → sets s p ≡ set_left j areas s p
   pub is_text : text ≡ text_by results sets
+
+-- The text tells of these results and counts. The results are those of each task's run alone, and the count of a fact at a
+-- place of a session is how many begun visits of its executions there give it.
+pub record Counts (j : JobView) (tables : TablesView) (text : List ℕ) : Type 0 where
+  pub results : ℕ → ResultView
+  pub counts : ℕ → ℕ → Fact → ℕ
+  pub are_results : (t : ℕ) → t < length j.tasks → results t ≡ solo_result j tables.places t
+  pub are_counts : (s p : ℕ) (f : Fact) → 0 < s → s ≤ length j.sessions → p < length tables.places → counts s p f ≡ session_count j tables.places s p f
+  pub is_text : text ≡ count_text j tables results counts
 
 -- The text is the marks file of session s, of its name and one run. At each place that it observes the set is that of its
 -- executions where it is whole, and lies between its bounds where a task controls it; at every place it is that of the area

@@ -6,30 +6,31 @@ use Rattle.session_book.specs.JobView.{JobView}
 use Rattle.check_exits.specs.Exits.{with_exits}
 use Rattle.task_run.specs.Courses.{solo}
 use Rattle.coverage_program.specs.declared.words.Command.{Command}
-use Rattle.coverage_program.specs.declared.words.Command.TheVariants.{Run, Exits, Marks, Trial}
-use Rattle.coverage_program.specs.Answers.{IsReport, IsRecord}
+use Rattle.coverage_program.specs.declared.words.Command.TheVariants.{Run, Exits, Early, Marks, Trial}
+use Rattle.coverage_program.specs.Answers.{IsReport, IsEarlyReport, IsRecord}
 use Rattle.coverage_program.specs.Changes.{SourceChange, SinkChange, AreasChange}
 use Rattle.coverage_program.specs.Complete.{IsAnswer}
 use Rattle.coverage_program.specs.Inputs.{CameJob}
 use Rattle.coverage_program.specs.Refusals.{job_refusal}
-use Rattle.coverage_program.specs.Named.{HasNamed}
+use Rattle.coverage_program.specs.Named.{HasAsked}
 use Rattle.coverage_program.specs.Trial.{IsTried}
-use Rattle.coverage_program.specs.Words.{reads_job, makes_areas, makes_job, reading_of, session_named, no_memory_line}
+use Rattle.coverage_program.specs.Words.{reads_job, makes_areas, makes_job, reading_of, asked_of, no_memory_line}
 
--- Ledger, sets and number of the areas are as they were for every command that runs no tasks, after every refusal that was
--- told, where the source has failed, and, of a command that reads a job, where none came whose listings match and which has
--- the session that was named, be it told or not.
+-- Ledger, sets and number of the areas are as they were for every command that runs no tasks over areas, after every refusal
+-- that was told, where the source has failed, and, of a command that reads a job, where none came whose listings match and
+-- whose sessions are as was asked, be it told or not.
 pub record IsUntouched (c : Command) (s : SourceChange) (a : AreasChange) (answer : ℕ) : Type 0 where
   pub others : makes_areas c ≡ false → a.after ≡ a.before
   pub refused : answer ≢ 0 → answer ≢ 6 → answer ≢ 7 → a.after ≡ a.before
   pub failed : s.later ≢ s.faults → a.after ≡ a.before
-  pub unmatched : reads_job c ≡ true → ((j : JobView) → CameJob (reading_of c) s j → HasNamed (session_named c) j → job_refusal j ≡ None → ⊥) → a.after ≡ a.before
+  pub unmatched : reads_job c ≡ true → ((j : JobView) → CameJob (reading_of c) s j → HasAsked (asked_of c) j → job_refusal j ≡ None → ⊥) → a.after ≡ a.before
   pub unreported : (bytes : List ℕ) (status : ℕ) → s.left ≡ Some bytes → IsAnswer c bytes status → status ≢ 0 → a.after ≡ a.before
 
 -- what a command that runs tasks writes: the report, a session's marks file, or the summary of a generated job
 abbrev pub IsRunText : Command → SourceChange → AreasChange → List ℕ → Type 0
 IsRunText Run s a text = IsReport solo s a text
 IsRunText Exits s a text = IsReport with_exits s a text
+IsRunText Early s a text = IsEarlyReport s a text
 IsRunText (Marks name) s a text = IsRecord name s a text
 IsRunText (Trial number tasks) s a text = IsTried number tasks s a text
 IsRunText c s a text = ⊥

@@ -1,4 +1,4 @@
--- The words of a command, and the lines that a refusal is told by.
+-- The words of a command, what it asks of its input, and the lines that a refusal is told by.
 use Rattle.std.specs.Prelude.{ℕ, ◌≤◌, Bool, true, false, ◌&&◌, nat_le, nat_lt, if◌then◌else◌, Option, Some, None, List, [], ◌∷◌, ◌++◌, bytes_eq, codes, decimal}
 use Rattle.std.specs.Str.Parse.{digits_value}
 use Rattle.cov_base.specs.Names.{name_at, unpadded}
@@ -7,7 +7,7 @@ use Rattle.cov_base.specs.declared.facts.Fact.TheVariants.{Ran, Went, Stayed}
 use Rattle.job_text.specs.declared.limit.Limit.{Limit}
 use Rattle.job_text.specs.declared.limit.Limit.TheVariants as limit
 use Rattle.coverage_program.specs.declared.words.Command.{Command}
-use Rattle.coverage_program.specs.declared.words.Command.TheVariants.{Run, Exits, Marks, Trial, Table, Replay, Combine, Show, Prove, Verify, Unknown}
+use Rattle.coverage_program.specs.declared.words.Command.TheVariants.{Run, Exits, Early, Count, Marks, Trial, Table, Replay, Combine, Show, Prove, Verify, Unknown}
 use Rattle.report_text.specs.Text.{hex_bytes}
 use Rattle.check_exits.specs.Exits.{with_exits}
 use Rattle.task_run.specs.Courses.{Course, solo}
@@ -15,7 +15,7 @@ use Rattle.table_combine.specs.Combine.{Difference}
 
 -- the command of one word
 abbrev pub command_alone : List ℕ → Command
-command_alone w = if bytes_eq w (codes "run") then Run else (if bytes_eq w (codes "table") then Table else (if bytes_eq w (codes "replay") then Replay else (if bytes_eq w (codes "combine") then Combine else (if bytes_eq w (codes "exits") then Exits else Unknown))))
+command_alone w = if bytes_eq w (codes "run") then Run else (if bytes_eq w (codes "table") then Table else (if bytes_eq w (codes "replay") then Replay else (if bytes_eq w (codes "combine") then Combine else (if bytes_eq w (codes "exits") then Exits else (if bytes_eq w (codes "count") then Count else (if bytes_eq w (codes "early") then Early else Unknown))))))
 
 -- the command of a word and a session's name, where the second word is a name
 abbrev pub command_named : List ℕ → Option (List ℕ) → Command
@@ -39,15 +39,16 @@ command_of (w ∷ n ∷ []) = command_named w (name_at n)
 command_of (w ∷ n ∷ t ∷ []) = command_numbered w (number_at n) (number_at t)
 command_of words = Unknown
 
--- it runs tasks
+-- it runs tasks over areas
 abbrev pub makes_areas : Command → Bool
 makes_areas Run = true
 makes_areas Exits = true
+makes_areas Early = true
 makes_areas (Marks name) = true
 makes_areas (Trial number tasks) = true
 makes_areas c = false
 
--- it reports on the run of a job that it reads
+-- its text is the report of the run of a job that it reads
 abbrev pub reports_run : Command → Bool
 reports_run Run = true
 reports_run Exits = true
@@ -68,9 +69,14 @@ abbrev pub HasFewTasks : Command → Type 0
 HasFewTasks (Trial number tasks) = (1 ≤ tasks) × (tasks ≤ 64)
 HasFewTasks c = Unit {0}
 
--- as it is served without areas
-abbrev pub without_areas : Command → Command
-without_areas c = if makes_areas c then Unknown else c
+-- it runs tasks on threads
+abbrev pub runs_threads : Command → Bool
+runs_threads Count = true
+runs_threads c = makes_areas c
+
+-- as it is served without threads
+abbrev pub without_threads : Command → Command
+without_threads c = if runs_threads c then Unknown else c
 
 -- it reads the source to its end
 abbrev pub reads_input : Command → Bool
@@ -110,16 +116,25 @@ pub record Wanted : Type 0 where
   -- it must have no controller
   pub whole : Bool
 
--- the session that its second word names
-abbrev pub session_named : Command → Option Wanted
-session_named (Marks name) = Some (record { name = name; whole = false })
-session_named (Show name) = Some (record { name = name; whole = false })
-session_named (Prove name) = Some (record { name = name; whole = true })
-session_named (Verify name) = Some (record { name = name; whole = true })
-session_named c = None
+-- what a command asks of a job's sessions
+pub data Asked : Type 0 where
+  AnyJob : Asked
+  -- one of them has the name
+  WithSession : Wanted → Asked
+  -- none of them has a controller
+  AllWhole : Asked
+
+-- of the session that its second word names, or of all
+abbrev pub asked_of : Command → Asked
+asked_of (Marks name) = WithSession (record { name = name; whole = false })
+asked_of (Show name) = WithSession (record { name = name; whole = false })
+asked_of (Prove name) = WithSession (record { name = name; whole = true })
+asked_of (Verify name) = WithSession (record { name = name; whole = true })
+asked_of Count = AllWhole
+asked_of c = AnyJob
 
 abbrev pub usage_line : List ℕ
-usage_line = codes "USAGE: run | marks NAME | trial NUMBER TASKS | table | replay | combine | show NAME | exits | prove NAME | verify NAME\n"
+usage_line = codes "USAGE: run | marks NAME | trial NUMBER TASKS | table | replay | combine | show NAME | early | count | exits | prove NAME | verify NAME\n"
 
 abbrev pub too_large_input_line : List ℕ
 too_large_input_line = codes "TOO LARGE INPUT\n"

@@ -12,9 +12,11 @@ ghost use Rattle.coverage_program.specs.Refusals.{Match};
 ghost use Rattle.coverage_program.specs.Untouched.{IsUntouched, IsReportCut};
 ghost use Rattle.job_run.specs.Runs.{Account};
 ghost use Rattle.report_text.specs.Conditions.{HasFewLines};
-ghost use Rattle.coverage_program.specs.Words.{command_of, course_of, reports_run, without_areas, to_end, to_go_on, HasFewTasks};
+ghost use Rattle.coverage_program.specs.Words.{command_of, course_of, reports_run, without_threads, to_end, to_go_on, HasFewTasks};
 
 use crate::combining::answer_combine;
+use crate::counting::answer_count;
+use crate::early::answer_early;
 use crate::lines::{NO_MEMORY, USAGE, bad_schedule_line};
 use crate::proving::answer_prove;
 use crate::ready::{make_named, make_ready};
@@ -222,14 +224,14 @@ fn answer_replay<S: Source, K: Sink>(alloc: Global, source: &mut S, sink: &mut K
     answer_schedule(alloc, &read.job, &read.tables, read.lines, &read.rest, sink)
 }
 
-/// Answers the commands that need no areas; all others are usage.
+/// Answers the commands that need no threads; all others are usage.
 fn answer_one<S: Source, K: Sink>(
     alloc: Global,
     command: Command,
     source: &mut S,
     sink: &mut K,
 ) -> Status
-    ensures { (a : Account) → Answers (without_areas command) (source_change S.left S.faults source.old source.new) (no_change a) (sink_change K.written K.faults sink.old sink.new) result.0 }
+    ensures { (a : Account) → Answers (without_threads command) (source_change S.left S.faults source.old source.new) (no_change a) (sink_change K.written K.faults sink.old sink.new) result.0 }
 {
     match command {
         Command::Table => answer_table(alloc, source, sink),
@@ -240,6 +242,8 @@ fn answer_one<S: Source, K: Sink>(
         Command::Verify(name) => answer_verify(alloc, &name, source, sink),
         Command::Run
         | Command::Exits
+        | Command::Early
+        | Command::Count
         | Command::Marks(_)
         | Command::Trial { .. }
         | Command::Unknown => told(sink, USAGE, 1),
@@ -263,6 +267,8 @@ fn answer<T: Threads + Wait + Sync, S: Source, K: Sink, A: Areas, G: Gate + Sync
     match command {
         Command::Run => answer_run(rt, alloc, &PlainRunner, source, sink, areas, gate),
         Command::Exits => answer_run(rt, alloc, &ExitRunner, source, sink, areas, gate),
+        Command::Early => answer_early(rt, alloc, source, sink, areas, gate),
+        Command::Count => answer_count(rt, alloc, source, sink),
         Command::Marks(name) => answer_marks(rt, alloc, &name, source, sink, areas, gate),
         Command::Trial { number, tasks } => answer_trial(
             rt, alloc, number, tasks, sink, areas, gate,
@@ -278,12 +284,15 @@ fn answer<T: Threads + Wait + Sync, S: Source, K: Sink, A: Areas, G: Gate + Sync
 }
 
 /// Serves the command that the words are: `run` reads a job from the source, runs its tasks on threads, each past the
-/// gate, and writes its report to the sink; `exits` does the same but lets each task go on at the exit that it has named; `marks NAME` runs as `run` but writes the marks file of the session of the name;
+/// gate, and writes its report to the sink; `exits` does the same but lets each task go on at the exit that it has named;
+/// `early` does as `run`, and tells behind the part of each session with a controller whether and when the session's sets
+/// were final while its controller ran; `count` reads a job whose
+/// sessions have no controllers, runs its tasks on threads over cells of its own, past no gate, and writes how often each fact was met; `marks NAME` runs as `run` but writes the marks file of the session of the name;
 /// `trial NUMBER TASKS` reads nothing, runs the generated job of that number and so many tasks, 1 to 64, and writes its
 /// summary; all other words are answered as `cover_one` answers them. Each refusal has its status and its line; the answer is 6 where
 /// the sink fails. Where no fault of source or sink was counted, it is that of the words and bytes, or 7. The areas are as
-/// they were but for a run of a job whose listings match. It waits for the threads of the tasks; for all words but `run`,
-/// `exits`, `marks` and `trial` it waits for nothing.
+/// they were but for a run of a job whose listings match, other than that of `count`. It waits for the threads of the tasks;
+/// for all words but `run`, `exits`, `early`, `count`, `marks` and `trial` it waits for nothing.
 pub fn cover<T: Threads + Wait + Sync, S: Source, K: Sink, A: Areas, G: Gate + Sync>(
     rt: &T,
     alloc: Global,
@@ -303,23 +312,23 @@ pub fn cover<T: Threads + Wait + Sync, S: Source, K: Sink, A: Areas, G: Gate + S
     answer(rt, alloc, command_of(words), source, sink, areas, gate)
 }
 
-/// Serves the commands that need no areas: `table` reads a job from the source and writes the places of its modules to
+/// Serves the commands that need no threads: `table` reads a job from the source and writes the places of its modules to
 /// the sink; `replay` reads a job of one phase and a schedule, plays the schedule on the core, and writes what its
 /// items have shown and the report of what they come to; `combine` reads marks files in succession and writes the file of
 /// their union; `show NAME` reads a job and one marks file behind it, and writes the listings of the session of the name
 /// with the file's marks; `prove NAME` reads a job and writes the evidence of the session of the name, which has no
 /// controller; `verify NAME` reads a job, one marks file behind it and evidence behind that, and says whether both are
 /// true of that session, or of which fact they are not. Both run each task of the session's phase once, alone. For all
-/// other words, `run`, `exits`, `marks` and `trial` too, it is status 1. It always returns.
+/// other words, `run`, `exits`, `early`, `count`, `marks` and `trial` too, it is status 1. It always returns.
 pub fn cover_one<S: Source, K: Sink>(
     alloc: Global,
     words: &[String],
     source: &mut S,
     sink: &mut K,
 ) -> Status
-    ensures answers { (a : Account) → Answers (without_areas (command_of (map string_bytes words.now))) (source_change S.left S.faults source.old source.new) (no_change a) (sink_change K.written K.faults sink.old sink.new) result.0 }
-    ensures complete { IsComplete (without_areas (command_of (map string_bytes words.now))) (source_change S.left S.faults source.old source.new) (sink_change K.written K.faults sink.old sink.new) result.0 }
-    ensures exact { IsExact (without_areas (command_of (map string_bytes words.now))) (source_change S.left S.faults source.old source.new) (sink_change K.written K.faults sink.old sink.new) result.0 }
+    ensures answers { (a : Account) → Answers (without_threads (command_of (map string_bytes words.now))) (source_change S.left S.faults source.old source.new) (no_change a) (sink_change K.written K.faults sink.old sink.new) result.0 }
+    ensures complete { IsComplete (without_threads (command_of (map string_bytes words.now))) (source_change S.left S.faults source.old source.new) (sink_change K.written K.faults sink.old sink.new) result.0 }
+    ensures exact { IsExact (without_threads (command_of (map string_bytes words.now))) (source_change S.left S.faults source.old source.new) (sink_change K.written K.faults sink.old sink.new) result.0 }
 {
     answer_one(alloc, command_of(words), source, sink)
 }

@@ -2,7 +2,9 @@
 #![tactic(auto)]
 
 mod combining;
+mod counting;
 mod cover;
+mod early;
 mod incoming;
 mod lines;
 mod named;

@@ -1,5 +1,5 @@
 //! The job that a source gives, and the tables of its listings.
-ghost use Rattle.std.specs.Prelude.{◌≡◌, ◌≤◌, ◌<◌, ◌+◌, ℕ, Bool, true, false, Option, Some, None, List, length, IfOk, IfErr, All};
+ghost use Rattle.std.specs.Prelude.{◌≡◌, ◌≤◌, ◌<◌, ◌+◌, ℕ, Bool, true, false, Some, None, List, length, IfOk, IfErr, All};
 ghost use Rattle.brk_table.specs.Places.{IsIn, all_places};
 ghost use Rattle.brk_table.specs.Together.{AreTables};
 ghost use Rattle.report_text.specs.Conditions.{HasFewLines};
@@ -8,14 +8,14 @@ ghost use Rattle.coverage_program.specs.Answers.{IsStopped, fault_refusal, read_
 ghost use Rattle.coverage_program.specs.Incoming.{HasCome, CameWith};
 ghost use Rattle.coverage_program.specs.Inputs.{CameWhole, CameJob};
 ghost use Rattle.coverage_program.specs.Changes.{SourceChange, source_change};
-ghost use Rattle.coverage_program.specs.Named.{HasNamed, session_number};
+ghost use Rattle.coverage_program.specs.Named.{HasAsked, first_controlled, session_number};
 ghost use Rattle.coverage_program.specs.Refusals.{job_refusal, Match};
 ghost use Rattle.coverage_program.specs.Refused.{IsRefused, refused_refusal};
-ghost use Rattle.coverage_program.specs.Words.{Reading, Wanted};
+ghost use Rattle.coverage_program.specs.Words.{Reading, Asked, AnyJob, WithSession, AllWhole, to_end};
 
 use crate::incoming::Incoming;
 use crate::lines::{NO_MEMORY, READ_FAULT, TOO_LARGE_INPUT, bad_job_line, large_job_line};
-use crate::named::named_session;
+use crate::named::{named_session, whole_sessions};
 use crate::refusals::{Refusal, plain_refusal};
 use crate::tables::{Refused, tables_of};
 use brk_table::Tables;
@@ -48,7 +48,7 @@ fn read_refusal(fault: ReadFault) -> Refusal
 /// Reads the source to its end.
 pub fn read_input<S: Source>(alloc: Global, source: &mut S) -> Result<Vec<u8>, Refusal>
     ensures bytes { IfOk result (λ v. CameWhole (source_change S.left S.faults source.old source.new) v.items) }
-    ensures stopped { (job : Bool) (how : Reading) (name : Option Wanted) → IfErr result (λ r. IsStopped job how name (source_change S.left S.faults source.old source.new) r.status r.line) }
+    ensures stopped { (job : Bool) (how : Reading) (asked : Asked) → IfErr result (λ r. IsStopped job how asked (source_change S.left S.faults source.old source.new) r.status r.line) }
 {
     match read_all(alloc, source, INPUT_LIMIT) {
         Ok(bytes) => Ok(bytes),
@@ -60,7 +60,7 @@ pub fn read_input<S: Source>(alloc: Global, source: &mut S) -> Result<Vec<u8>, R
 fn read_incoming<S: Source>(alloc: Global, source: &mut S, more: bool) -> Result<Incoming, Refusal>
     ensures come { IfOk result (λ i. (bytes : List ℕ) × CameWhole (source_change S.left S.faults source.old source.new) bytes × HasCome bytes i) }
     ensures more { IfOk result (λ i. i.more ≡ more) }
-    ensures stopped { (job : Bool) (how : Reading) (name : Option Wanted) → IfErr result (λ r. IsStopped job how name (source_change S.left S.faults source.old source.new) r.status r.line) }
+    ensures stopped { (job : Bool) (how : Reading) (asked : Asked) → IfErr result (λ r. IsStopped job how asked (source_change S.left S.faults source.old source.new) r.status r.line) }
 {
     let Ok(mut incoming) = Incoming::new(alloc, more) else {
         return Err(plain_refusal(7, NO_MEMORY));
@@ -93,7 +93,7 @@ fn read_lines(alloc: Global, incoming: Incoming) -> Result<(ReadJob, Vec<u8>), R
     ensures few_lines { incoming.more ≡ true → IfOk result (λ r. r.0.lines + length r.1.items ≤ 16777216) }
     ensures came { (s : SourceChange) (bytes : List ℕ) → CameWhole s bytes → HasCome bytes incoming → IfOk result (λ r. CameWith (record { more = incoming.more }) s r.0.job r.0.lines r.1.items) }
     ensures few { IfOk result (λ r. HasFewLines r.0.job) }
-    ensures stopped { (name : Option Wanted) (s : SourceChange) (bytes : List ℕ) → CameWhole s bytes → HasCome bytes incoming → IfErr result (λ r. IsStopped true (record { more = incoming.more }) name s r.status r.line) }
+    ensures stopped { (asked : Asked) (s : SourceChange) (bytes : List ℕ) → CameWhole s bytes → HasCome bytes incoming → IfErr result (λ r. IsStopped true (record { more = incoming.more }) asked s r.status r.line) }
 {
     match incoming.finish(alloc) {
         Ok(read) => Ok(read),
@@ -111,7 +111,7 @@ fn job_of_source<S: Source>(
     ensures came { IfOk result (λ r. CameWith (record { more = more }) (source_change S.left S.faults source.old source.new) r.0.job r.0.lines r.1.items) }
     ensures job { IfOk result (λ r. CameJob (record { more = more }) (source_change S.left S.faults source.old source.new) r.0.job) }
     ensures few { IfOk result (λ r. HasFewLines r.0.job) }
-    ensures stopped { (name : Option Wanted) → IfErr result (λ r. IsStopped true (record { more = more }) name (source_change S.left S.faults source.old source.new) r.status r.line) }
+    ensures stopped { (asked : Asked) → IfErr result (λ r. IsStopped true (record { more = more }) asked (source_change S.left S.faults source.old source.new) r.status r.line) }
 {
     let incoming = read_incoming(alloc, source, more)?;
     read_lines(alloc, incoming)
@@ -133,7 +133,7 @@ fn read_tables(alloc: Global, job: &Job) -> Result<Tables, Refusal>
     ensures numbered { IfOk result (λ t. t.places ≡ all_places t.tables) }
     ensures places { IfOk result (λ t. All (IsIn job.now.images) t.places) }
     ensures own { IfOk result (λ t. AreTables job.now.images t.tables) }
-    ensures stopped { (how : Reading) (name : Option Wanted) (s : SourceChange) → CameJob how s job.now → HasNamed name job.now → IfErr result (λ r. IsStopped true how name s r.status r.line) }
+    ensures stopped { (how : Reading) (asked : Asked) (s : SourceChange) → CameJob how s job.now → HasAsked asked job.now → IfErr result (λ r. IsStopped true how asked s r.status r.line) }
 {
     match tables_of(alloc, job) {
         Ok(tables) => Ok(tables),
@@ -151,7 +151,7 @@ pub fn make_ready<S: Source>(alloc: Global, source: &mut S, more: bool) -> Resul
     ensures matching { IfOk result (λ r. Match r.job r.tables.tables) }
     ensures numbered { IfOk result (λ r. r.tables.places ≡ all_places r.tables.tables) }
     ensures places { IfOk result (λ r. All (IsIn r.job.images) r.tables.places) }
-    ensures stopped { IfErr result (λ r. IsStopped true (record { more = more }) None (source_change S.left S.faults source.old source.new) r.status r.line) }
+    ensures stopped { IfErr result (λ r. IsStopped true (record { more = more }) AnyJob (source_change S.left S.faults source.old source.new) r.status r.line) }
 {
     let (read, rest) = job_of_source(alloc, source, more)?;
     let tables = read_tables(alloc, &read.job)?;
@@ -184,7 +184,7 @@ pub fn make_named<S: Source>(
     ensures from { IfOk result (λ r. 0 < r.1.0) }
     ensures to { IfOk result (λ r. r.1.0 ≤ length r.0.job.sessions) }
     ensures uncontrolled { whole ≡ true → IfOk result (λ r. (session_of r.0.job r.1.0).by ≡ None) }
-    ensures stopped { IfErr result (λ r. IsStopped true (record { more = more }) (Some (record { name = name.now; whole = whole })) (source_change S.left S.faults source.old source.new) r.status r.line) }
+    ensures stopped { IfErr result (λ r. IsStopped true (record { more = more }) (WithSession (record { name = name.now; whole = whole })) (source_change S.left S.faults source.old source.new) r.status r.line) }
 {
     let (read, rest) = job_of_source(alloc, source, more)?;
     let session = named_session(&read.job, name, whole)?;
@@ -196,4 +196,26 @@ pub fn make_named<S: Source>(
         rest,
     };
     Ok((ready, session))
+}
+
+/// Reads the source to its end, the job of its lines, which has no session with a controller and nothing behind it, and the
+/// tables of the job's listings; or the first refusal of these, in this order.
+pub fn make_whole<S: Source>(alloc: Global, source: &mut S) -> Result<Ready, Refusal>
+    ensures job { IfOk result (λ r. CameJob to_end (source_change S.left S.faults source.old source.new) r.job) }
+    ensures few { IfOk result (λ r. HasFewLines r.job) }
+    ensures free { IfOk result (λ r. first_controlled r.job ≡ None) }
+    ensures matching { IfOk result (λ r. Match r.job r.tables.tables) }
+    ensures numbered { IfOk result (λ r. r.tables.places ≡ all_places r.tables.tables) }
+    ensures places { IfOk result (λ r. All (IsIn r.job.images) r.tables.places) }
+    ensures stopped { IfErr result (λ r. IsStopped true to_end AllWhole (source_change S.left S.faults source.old source.new) r.status r.line) }
+{
+    let (read, rest) = job_of_source(alloc, source, false)?;
+    whole_sessions(&read.job)?;
+    let tables = read_tables(alloc, &read.job)?;
+    Ok(Ready {
+        job: read.job,
+        tables,
+        lines: read.lines,
+        rest,
+    })
 }

@@ -3,11 +3,15 @@ mod called;
 mod cases;
 mod controllers;
 mod controls;
+mod counts;
+mod drains;
+mod early;
 mod evidence;
 mod exits;
 mod extras;
 mod faults;
 mod gates;
+mod held;
 mod jobs;
 mod marked;
 mod marks;
@@ -149,7 +153,7 @@ fn answers_over_devices_that_never_fail(rt: HostRuntime) -> Result<(), Fail> {
     );
     assert_eq!(rt; status, Status(0));
     assert_eq!(rt; areas.ledger().len(), 1);
-    assert_eq!(rt; counts(&areas.ledger()[0]), (3, 3, 3, 3));
+    assert_eq!(rt; counts_of(&areas.ledger()[0]), (3, 3, 3, 3));
     let none = Vec::new(alloc);
     let mut others = SharedAreas::new(alloc, 16).map_err(|_| "memory")?;
     let refused = cover(
@@ -166,7 +170,7 @@ fn answers_over_devices_that_never_fail(rt: HostRuntime) -> Result<(), Fail> {
 }
 
 /// The counts of a tally but for those of closes, which are 0.
-fn counts(t: &Tally) -> (u64, u64, u64, u64) {
+fn counts_of(t: &Tally) -> (u64, u64, u64, u64) {
     (t.plants, t.fetches, t.marks, t.lifts)
 }
 
@@ -202,7 +206,7 @@ fn check_pieces<T: Abort + Threads + Wait + Sync>(
     if let Some(expected) = case.tallies {
         assert_eq!(rt; came.tallies.len(), expected.len(), "{name}");
         for (t, e) in came.tallies.iter().zip(expected.iter()) {
-            assert_eq!(rt; counts(t), *e, "{name}");
+            assert_eq!(rt; counts_of(t), *e, "{name}");
         }
     }
     Ok(came)

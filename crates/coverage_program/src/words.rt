@@ -14,6 +14,10 @@ pub enum Command {
     Run,
     /// `exits`: the report of a job whose tasks may name exits.
     Exits,
+    /// `early`: the report of a job, with when the sets of its controlled sessions were taken.
+    Early,
+    /// `count`: how often each fact of a job's sessions was met.
+    Count,
     /// `marks NAME`: the marks file of a session of a job that is run.
     Marks(Name),
     /// `trial NUMBER TASKS`: the summary of a generated job that is run.
@@ -48,6 +52,10 @@ fn command_alone(word: &str) -> Command
         Command::Combine
     } else if word == "exits" {
         Command::Exits
+    } else if word == "count" {
+        Command::Count
+    } else if word == "early" {
+        Command::Early
     } else {
         Command::Unknown
     }

@@ -172,7 +172,7 @@ is_breakpoint half b h = by (nat_eq half breakpoint) refl h
     by false e k = absurd (k refl)
 
 -- a cell with the breakpoint is one of a session that is over the place
-planted_form : (w : World) (p : ℕ) (c : Cell) → IsPlan (plan_in w) → p < length w.places → IsForm (plan_in w) p c → c.half ≡ breakpoint →
+pub planted_form : (w : World) (p : ℕ) (c : Cell) → IsPlan (plan_in w) → p < length w.places → IsForm (plan_in w) p c → c.half ≡ breakpoint →
     (s : ℕ) × (0 < s) × (is_over (plan_in w) s p ≡ true) × (c ≡ planted s)
 planted_form w p c is lt form half = elim form [
   | inl fresh ↦ absurd (is.no_breakpoint p lt (sym (ap (λ (x : Cell). x.half) fresh) ∙ half))

@@ -11,11 +11,14 @@ pub mod Given
 pub mod Rule
 pub mod Ruled
 pub mod Exact
+pub mod Drained
 pub mod Whole
 pub mod Nexts
 pub mod Placing
+pub mod Quiet
 pub mod RunningLemmas
 pub mod Runs
+pub mod SampleLemmas
 pub mod Starts
 pub mod Changes
 pub mod Tied

@@ -117,7 +117,7 @@ held_hand w t u log stage due h is e =
     let at = in_hand-stage due stage h e in
     subst (λ (d : Due). InHand w t u log h d) (due_same h.due due at.1) (subst (λ (s : Stage). InStage w t u log s) at.0 is)
 
-of_window : (s : ℕ) → 0 < s → tag_session (window_tag s) ≡ s
+pub of_window : (s : ℕ) → 0 < s → tag_session (window_tag s) ≡ s
 of_window s h = omega arith
 
 pub hand_of : (w : World) (h : Hand) (b : HasBreakpoint w h) → tag_session h.cell.tag ≡ b.session

@@ -54,10 +54,10 @@ use Rattle.interleave_core.proofs.Given.{rule_plant, rule_plants, rule_closes}
 
 -- ---- Fetch
 
-place_inside : (w : World) (a p : ℕ) → place_at w a ≡ Some p → p < length w.places
+pub place_inside : (w : World) (a p : ℕ) → place_at w a ≡ Some p → p < length w.places
 place_inside w a p h = let k = found_at 0 a p w.places h in omega (arith, k.1, k.3)
 
-subject_inside : (w : World) (visits : List Visit) (p : ℕ) → subject_place w visits ≡ Some p → p < length w.places
+pub subject_inside : (w : World) (visits : List Visit) (p : ℕ) → subject_place w visits ≡ Some p → p < length w.places
 subject_inside w [] p h = let n : None ≡ Some p = h in absurd cc
 subject_inside w (v ∷ []) p h = let n : None ≡ Some p = h in absurd cc
 subject_inside w (v ∷ (s ∷ vs)) p h = place_inside w s.at p h

@@ -1,5 +1,5 @@
 -- A core before its first event, and what each core fits.
-use Rattle.std.proofs.Common.{◌≡◌, ◌⊎◌, inl, inr, ℕ, zero, suc, All, ◌+◌, ◌-◌, ◌*◌, ◌<◌, ◌≤◌, true, List, [], ◌∷◌, ◌++◌, length, get_or, map, replicate, take, drop, min, slice_range, nat_lt, refl, sym, ◌∙◌, ap, subst, arith}
+use Rattle.std.proofs.Common.{◌≡◌, ◌⊎◌, inl, inr, ℕ, zero, suc, All, ◌+◌, ◌-◌, ◌*◌, ◌<◌, ◌≤◌, true, Some, List, [], ◌∷◌, ◌++◌, length, get_or, map, replicate, take, drop, min, slice_range, nat_lt, refl, sym, ◌∙◌, ap, subst, arith}
 use Rattle.std.proofs.lemmas.List.{get_or-map, length-map, length-replicate, length-append, ext_get_or, get_or_push, get_or_append_left, length-drop, take_all}
 use Rattle.std.proofs.lemmas.Bool.Decides.{nat_tests}
 use Rattle.cov_base.specs.FactSet.{FactSet}
@@ -17,7 +17,12 @@ use Rattle.space_map.specs.Space.{row_of}
 use Rattle.space_map.proofs.SpaceLemmas.{private_filled-as}
 use Rattle.interleave_core.specs.World.{World, IsWorld, TaskPart, Parts, no_part, first_part, first_parts, plan_in}
 use Rattle.interleave_core.specs.Results.{Fits, results_of, part_result}
-use Rattle.interleave_core.specs.Views.{RunningView, IsRunning, IsStage, IsCore, AreReady, AreTied, parts_of}
+use Rattle.interleave_core.specs.Steps.{in_hand}
+use Rattle.interleave_core.specs.Views.{RunningView, IsRunning, IsStage, IsHand, IsCore, AreReady, AreSteady, AreTied, parts_of}
+use Rattle.interleave_core.specs.declared.stage.Due.TheVariants.{Marking}
+use Rattle.interleave_core.specs.declared.stage.Hand.{Hand}
+use Rattle.interleave_core.specs.declared.stage.Stage.{Stage}
+use Rattle.interleave_core.proofs.Runs.{in_hand-stage}
 use Rattle.interleave_core.proofs.Tied.{tied_first}
 
 pub part_read : (tasks : List RunningView) (t : ℕ) (r : RunningView) → t < length tasks → r ≡ get_or tasks t r → get_or (parts_of tasks) t no_part ≡ r.part
@@ -55,6 +60,22 @@ Fits-core w cells sets plan tasks is = record {
       let lt : t < length tasks = subst (λ (n : ℕ). t < n) (length-map tasks (λ (r : RunningView). r.part)) l in
       ap (λ (u : TaskPart). length u.state.machine.bytes) (get_or-map (λ (x : RunningView). x.part) tasks t no_running no_part lt) ∙ bytes_fit w t (get_or tasks t no_running) (is.running t no_running lt);
   within = is.within;
+}
+
+hand_held : (w : World) (t : ℕ) (u : TaskPart) (stage : Stage) (h : Hand) → IsStage w t u stage → in_hand Marking stage ≡ Some h → IsHand w h
+hand_held w t u stage h is due = (subst (IsStage w t u) (in_hand-stage Marking stage h due).0 is).1
+
+pub steady_core : (w : World) (cells : List Cell) (sets : List FactSet) (plan : PlanView) (tasks : List RunningView) → IsCore w cells sets plan tasks →
+    AreSteady w (record { cells = cells; sets = sets; tasks = parts_of tasks })
+steady_core w cells sets plan tasks is = record {
+  is_plan = is.is_plan;
+  cell_count = is.cell_count;
+  words = is.words;
+  hands = λ t h l due.
+      let lt : t < length tasks = subst (λ (n : ℕ). t < n) (length-map tasks (λ (r : RunningView). r.part)) l in
+      let part : get_or (parts_of tasks) t no_part ≡ (get_or tasks t no_running).part = get_or-map (λ (x : RunningView). x.part) tasks t no_running no_part lt in
+      hand_held w t (get_or (parts_of tasks) t no_part) (get_or (parts_of tasks) t no_part).stage h (subst (λ (u : TaskPart). IsStage w t u u.stage) (sym part) (is.stages t no_running lt)) due;
+  tied = is.tied;
 }
 
 pub IsWorld-core : (w : World) (cells : List Cell) (sets : List FactSet) (plan : PlanView) (tasks : List RunningView) → IsCore w cells sets plan tasks → IsWorld w

@@ -223,7 +223,7 @@ all_but w c d t u e lt one all s l =
     ]
 
 -- a change by the controller
-changed_tag : (w : World) (x : PlaceChange) (b : Bool) (s : ℕ) → x.closes ≡ b → x.session ≡ s → 0 < s → (changed_cell w x).tag + 1 ≡ (if b then 2 * s + 1 else 2 * s)
+pub changed_tag : (w : World) (x : PlaceChange) (b : Bool) (s : ℕ) → x.closes ≡ b → x.session ≡ s → 0 < s → (changed_cell w x).tag + 1 ≡ (if b then 2 * s + 1 else 2 * s)
 changed_tag w x b s e same pos = ap (λ (y : Bool). (if y then closed_of w x.session x.place.0 else breakpoint_of x.session).tag + 1) e ∙ by b
   where
     by : (y : Bool) → (if y then closed_of w x.session x.place.0 else breakpoint_of x.session).tag + 1 ≡ (if y then 2 * s + 1 else 2 * s)
@@ -241,7 +241,7 @@ tied_changed w c t x plan size lt due all =
     (λ s l apart. tied_other w c.cells t s x.place.0 (changed_cell w x) (part_of c s) plan is.own.controller apart (all s l))
 
 -- a lift keeps the tags
-lift_tag : (w : World) (c : Parts) (h : Hand) (taken : Bool) → same_cell (word_at c.cells h.place.0) h.cell ≡ taken → (p : ℕ) → p < length c.cells →
+pub lift_tag : (w : World) (c : Parts) (h : Hand) (taken : Bool) → same_cell (word_at c.cells h.place.0) h.cell ≡ taken → (p : ℕ) → p < length c.cells →
     (word_at (if taken then with_cell c h.place.0 (original_under w h.place.0 h.cell) else c).cells p).tag ≡ (word_at c.cells p).tag
 lift_tag w c h false e p lt = refl
 lift_tag w c h true e p lt = elim (same_or p h.place.0) [

@@ -76,7 +76,7 @@ listed w t n i lt = elim (below_or n (length (sessions_by w t))) [
       absurd (omega (arith, lt, size))
 ]
 
-has_at : (places : List PlaceNo) (i : ℕ) → i < length places → has_place places (number_at places i) ≡ true
+pub has_at : (places : List PlaceNo) (i : ℕ) → i < length places → has_place places (number_at places i) ≡ true
 has_at places i lt = any_shown (λ (q : PlaceNo). nat_eq q.0 (number_at places i)) places (record { 0 = 0 }) i lt (eq-eqb (number_at places i) (number_at places i) refl)
 
 both : (a b : Bool) → a ≡ true → b ≡ true → (a && b) ≡ true

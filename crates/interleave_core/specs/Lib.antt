@@ -8,6 +8,8 @@ pub mod Exact
 pub mod Going
 pub mod Logs
 pub mod Parties
+pub mod Quiet
 pub mod Results
+pub mod Sample
 pub mod Views
 pub mod Whole

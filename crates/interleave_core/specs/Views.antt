@@ -1,5 +1,5 @@
 -- What a task of a core keeps besides what the core stores of it, and what holds of a core at every moment.
-use Rattle.std.specs.Prelude.{◌≡◌, ◌≢◌, ℕ, ◌+◌, ◌-◌, ◌*◌, ◌<◌, ◌≤◌, Bool, true, false, nat_le, nat_lt, if◌then◌else◌, None, List, [], length, get_or, map, All}
+use Rattle.std.specs.Prelude.{◌≡◌, ◌≢◌, ℕ, ◌+◌, ◌-◌, ◌*◌, ◌<◌, ◌≤◌, Bool, true, false, nat_le, nat_lt, if◌then◌else◌, Some, None, List, [], length, get_or, map, All}
 use Rattle.cov_base.specs.Facts.{is_within}
 use Rattle.cov_base.specs.FactSet.{FactSet}
 use Rattle.cov_base.specs.declared.numbers.PlaceNo.{PlaceNo}
@@ -17,8 +17,8 @@ use Rattle.interleave_core.specs.World.{World, TaskPart, Parts, part_of, first_p
 use Rattle.interleave_core.specs.Control.{Change, PlaceChange, sessions_by}
 use Rattle.interleave_core.specs.declared.control.Change.{Change as Found}
 use Rattle.interleave_core.specs.declared.control.PlaceChange.{PlaceChange as PlaceFound}
-use Rattle.interleave_core.specs.Steps.{step_of, subject_place, is_spent}
-use Rattle.interleave_core.specs.declared.stage.Due.TheVariants.{Nothing}
+use Rattle.interleave_core.specs.Steps.{step_of, subject_place, is_spent, in_hand}
+use Rattle.interleave_core.specs.declared.stage.Due.TheVariants.{Marking, Nothing}
 use Rattle.interleave_core.specs.declared.stage.Hand.{Hand}
 use Rattle.interleave_core.specs.declared.stage.Stage.{Stage}
 use Rattle.interleave_core.specs.declared.stage.Stage.TheVariants.{Awaiting, Holding}
@@ -87,6 +87,14 @@ pub record IsTied (w : World) (cells : List Cell) (t : ℕ) (u : TaskPart) : Typ
 -- all tasks and their sessions
 abbrev pub AreTied : World → Parts → Type 0
 AreTied w c = (t : ℕ) → t < length c.tasks → IsTied w c.cells t (part_of c t)
+
+-- what bounds at every moment which cells, sets and hands of a core an event can change
+pub record AreSteady (w : World) (c : Parts) : Type 0 where
+  pub is_plan : IsPlan (plan_in w)
+  pub cell_count : length c.cells ≡ length w.places
+  pub words : (p : ℕ) → p < length w.places → IsForm (plan_in w) p (word_at c.cells p)
+  pub hands : (t : ℕ) (h : Hand) → t < length c.tasks → in_hand Marking (part_of c t).stage ≡ Some h → IsHand w h
+  pub tied : AreTied w c
 
 -- what a change that was found does
 abbrev pub seen_change : Found → Change

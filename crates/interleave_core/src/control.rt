@@ -1,11 +1,14 @@
 //! The sessions that tasks open and close.
-ghost use Rattle.std.specs.Prelude.{◌≡◌, ◌<◌, option_map, slice_get, IsSome};
+ghost use Rattle.std.specs.Prelude.{◌≡◌, ◌*◌, ◌<◌, not, ◌||◌, nat_eq, nat_le, option_map, slice_get, IsSome};
+ghost use Rattle.std.specs.List.{list_all};
+ghost use Rattle.module_area.specs.CellWords.{word_at};
 ghost use Rattle.cov_base.specs.declared.limits.TheConstants.{SESSION_LIMIT};
 ghost use Rattle.interleave_core.specs.Control.{controlled_by, controller_from, next_place};
 ghost use Rattle.interleave_core.specs.Views.{seen_change, seen_place};
 
+use crate::hands::tag_at;
 use cov_base::{PlaceNo, SessNo, TaskNo};
-use module_area::{Controlled, Plan};
+use module_area::{Cell, Controlled, Plan};
 
 /// The opening or the closing of a session.
 #[derive(Clone, Copy)]
@@ -71,4 +74,26 @@ pub(crate) fn controller_of(controlled: &[Controlled], s: SessNo) -> Option<Task
         }
     }
     None
+}
+
+/// Whether each of the places has the tag of the session's closing or a higher one.
+fn are_closed(cells: &[Cell], s: SessNo, places: &[PlaceNo]) -> bool
+    ensures { result ≡ list_all (λ q. nat_le (2 * s.0) (word_at cells.now q.0).tag) places.now }
+{
+    places
+        .iter()
+        .all(|q| 2 * u64::from(s.0) <= u64::from(tag_at(cells, *q)))
+}
+
+fn is_another_or_closed(c: &Controlled, cells: &[Cell], s: SessNo) -> bool
+    ensures { result ≡ (not (nat_eq c.now.session s.0) || list_all (λ q. nat_le (2 * s.0) (word_at cells.now q.0).tag) c.now.places) }
+{
+    c.session.0 != s.0 || are_closed(cells, s, &c.places)
+}
+
+/// Whether each place of the session has such a tag; so it is where there is no such session.
+pub(crate) fn is_closed(controlled: &[Controlled], cells: &[Cell], s: SessNo) -> bool
+    ensures { result ≡ list_all (λ c. not (nat_eq c.session s.0) || list_all (λ q. nat_le (2 * s.0) (word_at cells.now q.0).tag) c.places) controlled.now }
+{
+    controlled.iter().all(|c| is_another_or_closed(c, cells, s))
 }

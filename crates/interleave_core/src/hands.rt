@@ -5,7 +5,9 @@ ghost use Rattle.cov_base.specs.declared.limits.TheConstants.{SESSION_LIMIT};
 ghost use Rattle.module_area.specs.CellWords.{word_at};
 ghost use Rattle.interleave_core.specs.declared.events.Shown.TheVariants.{Planted, Closed};
 ghost use Rattle.interleave_core.specs.declared.stage.Due.TheVariants.{Lifting, Nothing};
+ghost use Rattle.interleave_core.specs.declared.stage.Stage.TheVariants.{Holding};
 ghost use Rattle.interleave_core.specs.World.{World};
+ghost use Rattle.interleave_core.specs.Quiet.{has_unmarked};
 ghost use Rattle.interleave_core.specs.Steps.{due_after_fetch, same_cell, breakpoint_of};
 
 use crate::events::Shown;
@@ -76,6 +78,13 @@ pub(crate) fn due_after_mark(kind: Kind, facts: Bits) -> Due
     }
 }
 
+/// Whether the cell is a breakpoint of the session that is to be marked.
+pub(crate) fn is_unmarked(hand: Hand, s: SessNo) -> bool
+    ensures { result ≡ has_unmarked s.0 (Holding hand) }
+{
+    hand.due == Due::Marking && u64::from(hand.cell.tag) + 1 == 2 * u64::from(s.0)
+}
+
 pub(crate) fn with_due(hand: Hand, due: Due) -> Hand
     ensures { result ≡ record hand { due = due } }
 {
@@ -94,5 +103,15 @@ pub(crate) fn shown_of(closes: bool) -> Shown
         Shown::Closed
     } else {
         Shown::Planted
+    }
+}
+
+/// The cell's tag; 0 behind the last cell.
+pub(crate) fn tag_at(cells: &[Cell], p: PlaceNo) -> u32
+    ensures { result ≡ (word_at cells.now p.0).tag }
+{
+    match cells.get(p.0 as usize) {
+        Some(cell) => cell.tag,
+        None => 0,
     }
 }

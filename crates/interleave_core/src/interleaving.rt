@@ -2,22 +2,24 @@
 ghost use Rattle.std.specs.Prelude.{◌≡◌, ℕ, ◌+◌, ◌*◌, ◌<◌, ◌≤◌, nat_lt, true, false, [], length, map, replicate, All, IfOk, OnErr, IfSome, is_some, IsTrue, IsNone, IsSome, ◌↔◌};
 ghost use Rattle.std.specs.declared.option.Option.TheVariants.{Some, None};
 ghost use Rattle.module_area.specs.CellWords.{word_at, fresh_word};
+ghost use Rattle.module_area.specs.Notes.{is_closed};
 ghost use Rattle.brk_table.specs.Places.{IsIn};
 ghost use Rattle.cov_base.specs.Facts.{no_facts};
 ghost use Rattle.cov_base.specs.declared.limits.TheConstants.{SESSION_LIMIT};
-ghost use Rattle.interleave_core.specs.World.{IsWorld, first_parts};
+ghost use Rattle.interleave_core.specs.World.{IsWorld, first_parts, plan_in};
 ghost use Rattle.interleave_core.specs.Control.{controller_of};
 ghost use Rattle.interleave_core.specs.Steps.{of_task, fetch_step, mark_step, lift_step, do_step, plant_step, close_step, whole_step, change_step, changed_cell, parts_step, set_of};
 ghost use Rattle.interleave_core.specs.Core.{core_start, Stands, FollowsAll, FollowsNone};
 ghost use Rattle.interleave_core.specs.declared.events.Event.{Event};
 ghost use Rattle.interleave_core.specs.Going.{HasGone, go, left};
 ghost use Rattle.interleave_core.specs.Results.{next_of, IsDue, results_of, Fits};
-ghost use Rattle.interleave_core.specs.Views.{AreReady, IsPlaced};
+ghost use Rattle.interleave_core.specs.Quiet.{any_unmarked, is_quiet, StayQuiet, DrainedStay, QuietAsDrained};
+ghost use Rattle.interleave_core.specs.Views.{AreReady, AreSteady, IsPlaced};
 
-use crate::control::controller_of;
+use crate::control::{controller_of, is_closed};
 use crate::events::{Event, NotPossible, Shown};
 use crate::hands::{breakpoint_of, due_after_fetch, due_after_mark, exchange, shown_of, with_due};
-use crate::running::Running;
+use crate::running::{Running, any_unmarked};
 use crate::stage::{Due, Hand};
 use brk_table::Tables;
 use cov_base::{Bits, NoMemory, PlaceNo, SessNo, TaskNo};
@@ -262,6 +264,7 @@ impl<'a> Core<'a> {
     fn fits(&self)
         ensures fits { Fits self.now.world self.now.parts }
         ensures world { IsWorld self.now.world }
+        ensures steady { AreSteady self.now.world self.now.parts }
     {
         // the proof reads it off the core's invariant
         let _ = &self.cells;
@@ -279,7 +282,12 @@ impl<'a> Core<'a> {
         // after each list of events that leaves what the core stored
         ensures follows { IfOk result (FollowsAll self.old.world self.old.parts e self.new.parts) }
         ensures never { OnErr result (FollowsNone self.old.world self.old.parts e) }
+
+        // possible or not, it leaves a quiet session quiet and its sets as they were, and so those of a drained one
+        ensures quiet { StayQuiet self.old.world self.old.parts self.new.parts }
+        ensures drained { DrainedStay self.old.world self.old.parts self.new.parts }
     {
+        self.fits();
         let answer = self.step(e);
         self.fits();
         answer
@@ -330,6 +338,36 @@ impl<'a> Core<'a> {
         }
         self.go_on(t);
         Ok(())
+    }
+
+    fn is_controlled(&self, s: SessNo) -> bool
+        ensures { result ≡ is_some (controller_of self.now.world s.0) }
+    {
+        controller_of(&self.plan.controlled, s).is_some()
+    }
+
+    fn is_closed(&self, s: SessNo) -> bool
+        ensures { result ≡ is_closed (plan_in self.now.world) (λ p. (word_at self.now.parts.cells p).tag) s.0 }
+    {
+        is_closed(&self.plan.controlled, &self.cells, s)
+    }
+
+    fn any_unmarked(&self, s: SessNo) -> bool
+        ensures { result ≡ any_unmarked s.0 self.now.parts.tasks }
+    {
+        any_unmarked(&self.tasks, s)
+    }
+
+    /// Whether the session is a controlled one that is closed at each of its places, or a later one was planted there,
+    /// and no task has a breakpoint of it in hand that is to be marked. No event then changes a set of it any more. It is
+    /// so once the session was closed at all its places and each task had ended its run by then, or has ended an
+    /// instruction or its run since. False for a whole session, and for a number of none.
+    pub fn quiet(&self, s: SessNo) -> bool
+        ensures value { result ≡ is_quiet self.now.world self.now.parts s.0 }
+        ensures drained { QuietAsDrained self.now.world self.now.parts s.0 }
+    {
+        self.fits();
+        self.is_controlled(s) && self.is_closed(s) && !self.any_unmarked(s)
     }
 
     /// How the task of the job has ended; none exactly where it hasn't.

@@ -11,3 +11,6 @@ mod stage;
 pub use events::{Event, NotPossible, Shown};
 pub use interleaving::{Core, start};
 pub use stage::{Due, Hand, Stage};
+
+#[cfg(test)]
+mod tests;

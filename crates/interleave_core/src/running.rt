@@ -1,5 +1,6 @@
 //! A task of a core.
 ghost use Rattle.std.specs.Prelude.{◌≡◌, ℕ, ◌+◌, ◌<◌, false, true, if◌then◌else◌, option_map, option_and_then, length, IsSome, IfSome, nat_le, All, IfOk, OnErr};
+ghost use Rattle.std.specs.List.{list_any};
 ghost use Rattle.std.specs.declared.option.Option.{Option};
 ghost use Rattle.std.specs.declared.option.Option.TheVariants.{Some, None};
 ghost use Rattle.brk_table.specs.Places.{IsIn};
@@ -11,14 +12,16 @@ ghost use Rattle.cov_base.specs.declared.numbers.PlaceNo.{PlaceNo as Number};
 ghost use Rattle.interleave_core.specs.World.{World, plan_in, place_from, first_part};
 ghost use Rattle.interleave_core.specs.Control.{Change as Told, change, next_session, open_session, change_of, next_place, after_change};
 ghost use Rattle.interleave_core.specs.Steps.{place_due, subject_place, step_of, stage_after, is_awaiting, with_stage, in_hand, executed, instruction_executed, ready_done, task_goes_on, task_done, executes, change_due};
+ghost use Rattle.interleave_core.specs.Quiet.{has_unmarked};
 ghost use Rattle.interleave_core.specs.Results.{stage_event, change_or_do, ending_of};
 ghost use Rattle.interleave_core.specs.Views.{IsRunning, seen_change, seen_place};
 
 use crate::control::{Change, PlaceChange, next_place, nth_session};
 use crate::events::{Event, NotPossible};
+use crate::hands::is_unmarked;
 use crate::stage::{Due, Hand, Stage};
 use brk_table::Tables;
-use cov_base::{Addr, NoMemory, PlaceNo, TaskNo};
+use cov_base::{Addr, NoMemory, PlaceNo, SessNo, TaskNo};
 use module_area::Plan;
 use s370_exec::{has_returned, instruction_went, step, subject_seen, supervisor_call};
 use s370_state::{Cpu, Ending, Next, TaskIo};
@@ -173,6 +176,16 @@ impl<'a> Running<'a> {
         match self.stage {
             Stage::Holding(hand) => if hand.due == due { Some(hand) } else { None },
             _ => None,
+        }
+    }
+
+    /// Whether it has a breakpoint of the session in hand that is to be marked.
+    pub(crate) fn has_unmarked(&self, s: SessNo) -> bool
+        ensures { result ≡ has_unmarked s.0 self.now.part.stage }
+    {
+        match self.stage {
+            Stage::Holding(hand) => is_unmarked(hand, s),
+            _ => false,
         }
     }
 
@@ -463,4 +476,11 @@ impl<'a> Running<'a> {
             changed: 0,
         })
     }
+}
+
+/// Whether one of the tasks has a breakpoint of the session in hand that is to be marked.
+pub(crate) fn any_unmarked(tasks: &[Running], s: SessNo) -> bool
+    ensures { result ≡ list_any (λ r. has_unmarked s.0 r.part.stage) tasks.now }
+{
+    tasks.iter().any(|task| task.has_unmarked(s))
 }

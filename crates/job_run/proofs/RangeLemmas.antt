@@ -5,11 +5,10 @@ use Rattle.std.proofs.lemmas.Bool.Decides.{nat_tests}
 use Rattle.std.proofs.lemmas.List.{get_or-drop, get_or-take, get_or_append_left, get_or-append_right, length-drop, length-take-le}
 use Rattle.module_area.specs.Notes.{Notes}
 use Rattle.module_area.specs.PlanView.{PlanView}
-use Rattle.module_area.specs.declared.places.Place.{Place}
 use Rattle.task_run.specs.Courses.{Course}
 use Rattle.session_book.specs.JobView.{JobView}
-use Rattle.job_run.specs.Slots.{in_phase, IsRange, CanRun, RunsSlot}
-use Rattle.job_run.specs.Tasks.{Begins, Ends}
+use Rattle.job_run.specs.Slots.{in_phase, IsRange, RunsSlot}
+use Rattle.job_run.specs.Tasks.{Ends}
 use Rattle.job_run.specs.declared.slots.Slot.{Slot}
 
 same_or : (t n : ℕ) → (t ≡ n) ⊎ (t ≢ n)
@@ -104,13 +103,11 @@ behind_part xs ys a n t d h size from =
     ∙ (get_or-append_right ys (drop n (drop a xs)) n (t - a) d size (omega (arith, from))
     ∙ (get_or-drop n (drop a xs) (t - a - n) d ∙ (get_or-drop a xs (n + (t - a - n)) d ∙ ap (λ k. get_or xs k d) there)))
 
--- the slots of the phase's tasks, where no other has a pass
-
-pub part_ready : {P E : Type 0} (is_pass : P → Type 0) (notes : P → Notes) (begins : Begins E) (plan : PlanView) (places : List Place) (slots : List (Slot P E)) (a e : ℕ) → a ≤ e → e ≤ length slots →
-    All (CanRun is_pass notes begins plan places) slots → All (CanRun is_pass notes begins plan places) (take (e - a) (drop a slots))
-part_ready is_pass notes begins plan places slots a e order exists all k d l =
-    let here : k < e - a = omega (arith, l, part_size slots a e order exists) in
-    subst (λ (s : Slot _ _). CanRun is_pass notes begins plan places s) (sym (part_at slots a (e - a) k d here)) (all (a + k) d (omega (arith, here, exists)))
+-- what holds of all holds of a part
+pub all_in_part : {X : Type 0} (good : X → Type 0) (xs : List X) (a e : ℕ) → a ≤ e → e ≤ length xs → All good xs → All good (take (e - a) (drop a xs))
+all_in_part good xs a e order exists all k d l =
+    let here : k < e - a = omega (arith, l, part_size xs a e order exists) in
+    subst good (sym (part_at xs a (e - a) k d here)) (all (a + k) d (omega (arith, here, exists)))
 
 not_there : (j : JobView) (phase a e t : ℕ) → IsRange j phase (length j.tasks) a e → t < length j.tasks → ((a ≤ t) → (t < e) → t < t) → in_phase j phase t ≡ false
 not_there j phase a e t r l out = by_phase (in_phase j phase t) refl
@@ -119,32 +116,25 @@ not_there j phase a e t r l out = by_phase (in_phase j phase t) refl
     by_phase true h = let i = r.all t l h in absurd (omega (arith, out i.0 i.1))
     by_phase false h = h
 
-stands_still : {P E : Type 0} (run : Course) (is_pass : P → Type 0) (notes : P → Notes) (ends : Ends E) (plan : PlanView) (old new : Slot P E) → old.pass ≡ None → new ≡ old → RunsSlot run is_pass notes ends plan old new old.pass
-stands_still run is_pass notes ends plan old new none same = subst (λ (p : Option _). RunsSlot run is_pass notes ends plan old new p) (sym none) same
-
-has_run_there : {P E : Type 0} (run : Course) (is_pass : P → Type 0) (notes : P → Notes) (ends : Ends E) (plan : PlanView) (old old' new new' : Slot P E) → old' ≡ old → new' ≡ new → RunsSlot run is_pass notes ends plan old' new' old'.pass → RunsSlot run is_pass notes ends plan old new old.pass
-has_run_there run is_pass notes ends plan old old' new new' p q r =
-    subst (λ (s : Slot _ _). RunsSlot run is_pass notes ends plan s new s.pass) p (subst (λ (s : Slot _ _). RunsSlot run is_pass notes ends plan old' s old'.pass) q r)
-
-pub runs_all : {P E : Type 0} (run : Course) (is_pass : P → Type 0) (notes : P → Notes) (ends : Ends E) (plan : PlanView) (j : JobView) (phase : ℕ) (old part : List (Slot P E)) (a e : ℕ) →
-    IsRange j phase (length j.tasks) a e → length old ≡ length j.tasks →
-    ((t : ℕ) (d : Slot P E) → t < length old → in_phase j phase t ≡ false → (get_or old t d).pass ≡ None) →
+-- a step that was made of the phase's part was made of all, where those of no other task need one
+pub all_after : {X : Type 0} (step : X → X → Type 0) (j : JobView) (phase : ℕ) (old part : List X) (a e : ℕ) → IsRange j phase (length j.tasks) a e → length old ≡ length j.tasks →
+    ((t : ℕ) (d : X) → t < length old → in_phase j phase t ≡ false → step (get_or old t d) (get_or old t d)) →
     length part ≡ length (take (e - a) (drop a old)) →
-    ((t : ℕ) (d : Slot P E) → t < length (take (e - a) (drop a old)) → RunsSlot run is_pass notes ends plan (get_or (take (e - a) (drop a old)) t d) (get_or part t d) (get_or (take (e - a) (drop a old)) t d).pass) →
-    (t : ℕ) (d : Slot P E) → t < length old → RunsSlot run is_pass notes ends plan (get_or old t d) (get_or (pasted old part a (e - a)) t d) (get_or old t d).pass
-runs_all run is_pass notes ends plan j phase old part a e r count others same runs t d l = elim (below_or t a) [
-  | inl before ↦ stands_still run is_pass notes ends plan (get_or old t d) (get_or (pasted old part a (e - a)) t d) (others t d l (not_there j phase a e t r (omega (arith, l, count)) (λ x y. absurd (omega (arith, x, before)))))
-      (before_part old (part ++ drop (e - a) (drop a old)) a t d most before)
+    ((t : ℕ) (d : X) → t < length (take (e - a) (drop a old)) → step (get_or (take (e - a) (drop a old)) t d) (get_or part t d)) →
+    (t : ℕ) (d : X) → t < length old → step (get_or old t d) (get_or (pasted old part a (e - a)) t d)
+all_after step j phase old part a e r count idle same made t d l = elim (below_or t a) [
+  | inl before ↦ subst (step (get_or old t d)) (sym (before_part old (part ++ drop (e - a) (drop a old)) a t d most before))
+      (idle t d l (not_there j phase a e t r (omega (arith, l, count)) (λ x y. absurd (omega (arith, x, before)))))
   | inr from ↦ elim (below_or t e) [
     | inl here ↦
         let i : t - a < e - a = omega (arith, from, here) in
         let there : a + (t - a) ≡ t = omega (arith, from) in
-        has_run_there run is_pass notes ends plan (get_or old t d) (get_or (take (e - a) (drop a old)) (t - a) d) (get_or (pasted old part a (e - a)) t d) (get_or part (t - a) d)
+        made_there step (get_or (take (e - a) (drop a old)) (t - a) d) (get_or old t d) (get_or part (t - a) d) (get_or (pasted old part a (e - a)) t d)
         (part_at old a (e - a) (t - a) d i ∙ ap (λ k. get_or old k d) there)
         (sym (in_part old part (drop (e - a) (drop a old)) a t d most from (omega (arith, i, same, size))))
-        (runs (t - a) d (omega (arith, i, size)))
-    | inr behind ↦ stands_still run is_pass notes ends plan (get_or old t d) (get_or (pasted old part a (e - a)) t d) (others t d l (not_there j phase a e t r (omega (arith, l, count)) (λ x y. absurd (omega (arith, y, behind)))))
-        (behind_part old part a (e - a) t d most (same ∙ size) (omega (arith, behind, r.order)))
+        (made (t - a) d (omega (arith, i, size)))
+    | inr behind ↦ subst (step (get_or old t d)) (sym (behind_part old part a (e - a) t d most (same ∙ size) (omega (arith, behind, r.order))))
+        (idle t d l (not_there j phase a e t r (omega (arith, l, count)) (λ x y. absurd (omega (arith, y, behind)))))
   ]
 ]
   where
@@ -153,3 +143,10 @@ runs_all run is_pass notes ends plan j phase old part a e r count others same ru
 
     size : length (take (e - a) (drop a old)) ≡ e - a
     size = part_size old a e r.order (omega (arith, r.exists, count))
+
+    made_there : {X : Type 0} (step : X → X → Type 0) (x x' y y' : X) → x ≡ x' → y ≡ y' → step x y → step x' y'
+    made_there step x x' y y' p q s = subst (λ z. step z y') p (subst (step x) q s)
+
+-- a slot that has no pass may stand still
+pub stands_still : {P E : Type 0} (course : Course) (is_pass : P → Type 0) (notes : P → Notes) (ends : Ends E) (plan : PlanView) (s : Slot P E) → s.pass ≡ None → RunsSlot course is_pass notes ends plan s s s.pass
+stands_still course is_pass notes ends plan s none = subst (λ (p : Option _). RunsSlot course is_pass notes ends plan s s p) (sym none) refl

@@ -25,8 +25,8 @@ use Rattle.job_run.specs.Areas.{IsBounded}
 use Rattle.job_run.specs.Runs.{Account, HasLeftBy, joined, phase_trace, set_by, least_by, most_by, trace_by, walk_by}
 use Rattle.job_run.specs.Sets.{SetsView, IsSized, no_finals, set_left, set_in}
 use Rattle.job_run.specs.Outcomes.{AreExtras, HasEnded, IsOutcomeBy}
-use Rattle.job_run.specs.Slots.{dones, extras_of}
-use Rattle.job_run.specs.Tasks.{Ends, HasExtra, AreRun}
+use Rattle.job_run.specs.Slots.{dones, extras_of, HaveAllExtras}
+use Rattle.job_run.specs.Tasks.{Ends, AreRun}
 use Rattle.job_run.specs.declared.slots.Slot.{Slot}
 use Rattle.job_run.specs.declared.outcome.Done.{Done}
 use Rattle.job_run.proofs.PhaseLemmas.{AreaOf, left_at, left_count}
@@ -204,12 +204,12 @@ set_within run j places v s p of size a some most = by_place (nat_lt p v.places)
 pub all_sized : (run : Course) (j : JobView) (places : List Place) (before after : Account) (sets : List FinalsView) → HasLeftBy run j places before after sets → All (IsSized j (length places)) sets
 all_sized run j places before after sets l k d h = sized run j places k (get_or sets k d) (left_at run j places before after sets k d l (omega (arith, h, left_count run j places before after sets l)))
 
-is_outcome : {P E : Type 0} (course : Course) (ends : Ends E) (j : JobView) (places : List Place) (before after : Account) (slots : List (Slot P E)) (sets : SetsView) → IsJob j → HasLeftBy course j places before after sets.finals →
-    AreRun course ends j places (length j.phases) slots → sets.job ≡ j → sets.places ≡ length places → IsOutcomeBy course j places (dones slots) sets
-is_outcome course ends j places before after slots sets job left ended of size = record {
+is_outcome : {P E : Type 0} (course : Course) (j : JobView) (places : List Place) (before after : Account) (slots : List (Slot P E)) (sets : SetsView) → IsJob j → HasLeftBy course j places before after sets.finals →
+    AreRun course j places (length j.phases) slots → sets.job ≡ j → sets.places ≡ length places → IsOutcomeBy course j places (dones slots) sets
+is_outcome course j places before after slots sets job left ended of size = record {
   count = length-map slots (λ s. s.done) ∙ ended.count;
-  are_results = λ t l. (all_ended course ends j places slots t job ended l).0;
-  filled = λ t l. (all_ended course ends j places slots t job ended l).1;
+  are_results = λ t l. (all_ended course j places slots t job ended l).0;
+  filled = λ t l. (all_ended course j places slots t job ended l).1;
   job = of;
   size = size;
   are_sets = λ s p some most l whole h. set_is course j places sets s p job whole of size (area s some most) some most l h;
@@ -220,27 +220,28 @@ is_outcome course ends j places before after slots sets job left ended of size =
     area : (s : ℕ) → 0 < s → s ≤ length j.sessions → AreaOf course j places (session_of j s).phase (get_or sets.finals (session_of j s).phase no_finals)
     area s some most = left_at course j places before after sets.finals (session_of j s).phase no_finals left (phase_in j s job some most)
 
-pub outcome : {P E : Type 0} (course : Course) (ends : Ends E) (j : JobView) (places : List Place) (before after : Account) (slots : List (Slot P E)) (tasks : List Done) (finals : List FinalsView) (sets : SetsView) → IsJob j →
-    HasLeftBy course j places before after finals → AreRun course ends j places (length j.phases) slots → tasks ≡ dones slots → sets ≡ record { job = j; places = length places; finals = finals } →
+pub outcome : {P E : Type 0} (course : Course) (j : JobView) (places : List Place) (before after : Account) (slots : List (Slot P E)) (tasks : List Done) (finals : List FinalsView) (sets : SetsView) → IsJob j →
+    HasLeftBy course j places before after finals → AreRun course j places (length j.phases) slots → tasks ≡ dones slots → sets ≡ record { job = j; places = length places; finals = finals } →
     IsOutcomeBy course j places tasks sets
-outcome course ends j places before after slots tasks finals sets job left ended moved same =
+outcome course j places before after slots tasks finals sets job left ended moved same =
     let whole : IsOutcomeBy course j places (dones slots) (record { job = j; places = length places; finals = finals }) =
-    is_outcome course ends j places before after slots (record { job = j; places = length places; finals = finals }) job left ended refl refl in
+    is_outcome course j places before after slots (record { job = j; places = length places; finals = finals }) job left ended refl refl in
     subst (λ (v : SetsView). IsOutcomeBy course j places tasks v) (sym same)
     (subst (λ (ds : List Done). IsOutcomeBy course j places ds (record { job = j; places = length places; finals = finals })) (sym moved) whole)
 
 -- the extras that were moved out of the slots
 
-pub has_some : {P E : Type 0} (course : Course) (ends : Ends E) (j : JobView) (places : List Place) (slots : List (Slot P E)) → IsJob j → AreRun course ends j places (length j.phases) slots → All (λ s. IsSome s.extra) slots
-has_some course ends j places slots job a t d l = let x = all_extras course ends j places slots t d job a (omega (arith, l, a.count)) in rw x.has refl
+pub has_some : {P E : Type 0} (course : Course) (ends : Ends E) (j : JobView) (places : List Place) (finals : List FinalsView) (slots : List (Slot P E)) → IsJob j → AreRun course j places (length j.phases) slots →
+    HaveAllExtras ends j places (length j.phases) finals slots → All (λ s. IsSome s.extra) slots
+has_some course ends j places finals slots job a h t d l = let x = all_extras ends j places finals slots t d job h a.count (omega (arith, l, a.count)) in rw x.has refl
 
 the_extra : {E : Type 0} (e : E) (x : E) → Some e ≡ Some x → e ≡ x
 the_extra e x same = ap (λ o. unwrap_or o e) same
 
 pub are_extras : {P E : Type 0} (course : Course) (ends : Ends E) (j : JobView) (places : List Place) (slots : List (Slot P E)) (tasks : List Done) (extras : List E) (finals : List FinalsView) (sets : SetsView) → IsJob j →
-    AreRun course ends j places (length j.phases) slots → tasks ≡ dones slots → map Some extras ≡ extras_of slots → sets ≡ record { job = j; places = length places; finals = finals } →
+    AreRun course j places (length j.phases) slots → HaveAllExtras ends j places (length j.phases) finals slots → tasks ≡ dones slots → map Some extras ≡ extras_of slots → sets ≡ record { job = j; places = length places; finals = finals } →
     AreExtras ends j places tasks sets extras
-are_extras course ends j places slots tasks extras finals sets job a moved taken same = record {
+are_extras course ends j places slots tasks extras finals sets job a h moved taken same = record {
   count = count;
   each = λ t d e l. has_ended t d e l;
 }
@@ -252,7 +253,7 @@ are_extras course ends j places slots tasks extras finals sets job a moved taken
     has_ended t d e l =
         let here : t < length slots = omega (arith, l, a.count) in
         let slot : Slot _ _ = get_or slots t no_slot in
-        let x : HasExtra ends j places t slot = all_extras course ends j places slots t no_slot job a l in
+        let x = all_extras ends j places finals slots t no_slot job h a.count l in
         let done : get_or tasks t d ≡ slot.done = ap (λ (ds : List Done). get_or ds t d) moved ∙ get_or-map (λ s. s.done) slots t no_slot d here in
         let extra : Some (get_or extras t e) ≡ Some x.extra =
         sym (get_or-map Some extras t e (Some e) (omega (arith, l, count))) ∙ (ap (λ (es : List (Option _)). get_or es t (Some e)) taken ∙ (get_or-map (λ s. s.extra) slots t no_slot (Some e) here ∙ x.has)) in
@@ -260,5 +261,5 @@ are_extras course ends j places slots tasks extras finals sets job a moved taken
         record {
           first = x.first;
           begun = x.begun;
-          tells = rw (done, its) (x.tells _);
+          tells = rw (done, its, same) x.tells;
         }

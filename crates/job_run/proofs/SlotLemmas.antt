@@ -1,13 +1,15 @@
 -- Passes split off, run with and taken back.
-use Rattle.std.proofs.Common.{◌≡◌, ◌≢◌, ◌⊎◌, inl, inr, ℕ, zero, suc, ◌+◌, ◌<◌, ◌≤◌, ◌^◌, Bool, true, false, not, ◌&&◌, ◌||◌, nat_eq, nat_lt, Option, Some, None, IfSome, unwrap_or, List, [], ◌∷◌, ◌++◌, length, get_or, set, All, refl, sym, ◌∙◌, ap, subst, arith, zero-add}
+use Rattle.std.proofs.Common.{◌≡◌, ◌≢◌, inl, inr, ℕ, zero, suc, ◌+◌, ◌<◌, ◌≤◌, ◌^◌, Bool, true, false, not, ◌&&◌, ◌||◌, nat_eq, nat_lt, Option, Some, None, IfSome, unwrap_or, List, [], ◌∷◌, ◌++◌, length, get_or, set, All, refl, sym, ◌∙◌, ap, subst, arith, zero-add}
 use Rattle.std.proofs.lemmas.Bool.{or_left, or_right, eq-eqb, eqb-true}
 use Rattle.std.proofs.lemmas.Bool.Decides.{nat_tests}
 use Rattle.std.proofs.lemmas.Grind.{get_or-set_at}
 use Rattle.std.proofs.lemmas.List.{get_or_default, get_or_append_left, get_or-set_other, length-append, length-set}
 use Rattle.std.proofs.Math.Seq.{get_or-append_seam}
+use Rattle.cov_base.specs.FactSet.{FactSet}
 use Rattle.cov_base.specs.Memory.{Memory}
 use Rattle.module_area.specs.Control.{ControlView, first_control}
-use Rattle.module_area.specs.Notes.{Notes, bearer, calls, is_working, split_notes, after_split}
+use Rattle.module_area.specs.Ended.{AreSettled}
+use Rattle.module_area.specs.Notes.{Notes, bearer, calls, is_working, split_notes, after_split, after_join}
 use Rattle.module_area.specs.PlanView.{PlanView, IsPlan, has_task, is_controller}
 use Rattle.module_area.specs.Tied.{IsTied}
 use Rattle.module_area.specs.declared.places.Place.{Place}
@@ -23,15 +25,12 @@ use Rattle.session_book.specs.JobView.{JobView, TaskView, IsJob, IsTask}
 use Rattle.session_book.specs.Sessions.{task_of, no_task, tasks_from, plan_view}
 use Rattle.job_run.specs.Bounds.{Leaves}
 use Rattle.job_run.specs.Runs.{walk_by}
-use Rattle.job_run.specs.Slots.{in_phase, is_before, HasSplit, HasPass, HasStart, AreEquipped, IsFresh, AreSplit, AreEmpty, MayBegin, CanRun, Runs, RunsWith, RunsSlot, HasSeen, AreOver}
-use Rattle.job_run.specs.Tasks.{Begins, Ends, AreRun, HasNotRun, HasExtra, IsEquipped, IsEnded, has_run}
+use Rattle.job_run.specs.Slots.{in_phase, is_before, HasSplit, HasPass, HasStart, AreEquipped, IsFresh, AreSplit, AreEmpty, MayBegin, CanRun, Runs, RunsWith, RunsSlot, HasSeen, AreOver, HaveExtras, KeepsOthers}
+use Rattle.job_run.specs.Tasks.{Begins, Ends, AreRun, HasNotRun, IsEquipped, IsEnded, has_run}
 use Rattle.job_run.specs.declared.outcome.Done.{Done}
 use Rattle.job_run.specs.declared.slots.Slot.{Slot}
 use Rattle.job_run.proofs.BoundLemmas.{leaves}
-use Rattle.job_run.proofs.TaskLemmas.{AreRun-next, begun_walk, has_ended, is_task, run_few}
-
-same_or : (t n : ℕ) → (t ≡ n) ⊎ (t ≢ n)
-same_or t n = grind arith
+use Rattle.job_run.proofs.TaskLemmas.{AreRun-next, KeepsOthers-trans, begun_walk, has_ended, is_task, run_few, same_or}
 
 both : (b : Bool) → b ≡ true → b ≡ false → ⊥
 both true h k = cc
@@ -284,18 +283,10 @@ has_seen course is_pass notes begins ends root plan j places t old new is of non
 
 run_ended : {P E : Type 0} (course : Course) (is_pass : P → Type 0) (notes : P → Notes) (begins : Begins E) (ends : Ends E) (root : Notes) (plan : PlanView) (j : JobView) (places : List Place) (t : ℕ) (old new : Slot P E) →
     plan ≡ plan_view j places (task_of j t).phase →
-    HasPass (IsFresh is_pass notes plan root t) old → HasStart begins plan j places t old → RunsSlot course is_pass notes ends plan old new old.pass → IsEnded course j places t new.done × HasExtra ends j places t new
+    HasPass (IsFresh is_pass notes plan root t) old → HasStart begins plan j places t old → RunsSlot course is_pass notes ends plan old new old.pass → IsEnded course j places t new.done
 run_ended course is_pass notes begins ends root plan j places t old new of h start r =
-    let w : RunsWith course is_pass notes ends plan old new h.pass = ran_with course is_pass notes ends plan old new h.pass h.has r in (
-      has_ended course plan (notes h.pass) (notes w.pass) j places t old.done new.done of start.task.begun w.runs,
-      record {
-        extra = w.extra;
-        has = w.left;
-        first = old.done;
-        begun = start.task;
-        tells = λ sets. subst (λ (p : PlanView). ends p old.done.task new.done.task w.extra sets) of (w.tells sets);
-      },
-    )
+    let w : RunsWith course is_pass notes ends plan old new h.pass = ran_with course is_pass notes ends plan old new h.pass h.has r in
+    has_ended course plan (notes h.pass) (notes w.pass) j places t old.done new.done of start.task.begun w.runs
 
 no_longer : (a : Bool) (t : ℕ) → (not (nat_lt t 0) && a) ≡ false → a ≡ false
 no_longer a t h = grind (arith, nat_tests)
@@ -317,23 +308,29 @@ AreOver-start course is_pass notes begins ends root plan j places phase old mid 
       ap (λ s. s.pass) (ran_not course is_pass notes ends plan (get_or mid t d) (get_or new t d) empty (runs t d (omega (arith, l, same)))) ∙ empty;
 }
 
-pub AreRun-after : {P E : Type 0} (course : Course) (is_pass : P → Type 0) (notes : P → Notes) (begins : Begins E) (ends : Ends E) (root : Notes) (plan : PlanView) (j : JobView) (places : List Place) (phase : ℕ) (old mid new : List (Slot P E)) →
-    plan ≡ plan_view j places phase → AreSplit is_pass notes plan root j phase (length j.tasks) old mid → AreRun course ends j places phase old → AreEquipped begins plan j places phase (length j.tasks) old →
-    length new ≡ length mid → ((t : ℕ) (d : Slot P E) → t < length mid → RunsSlot course is_pass notes ends plan (get_or mid t d) (get_or new t d) (get_or mid t d).pass) →
-    AreRun course ends j places (phase + 1) new
-AreRun-after course is_pass notes begins ends root plan j places phase old mid new of a r q same runs = AreRun-next course ends j places phase old new r (same ∙ a.count)
-    (λ t d l h. (both_of t d l h).0) (λ t d l h. (both_of t d l h).1)
-    (λ t d l h. ap (λ s. s.done) (unchanged t d l h) ∙ a.done t d l) (λ t d l h. ap (λ s. s.extra) (unchanged t d l h) ∙ a.extra t d l)
+-- the tasks of other phases have no passes
+others_stand : {P E : Type 0} (course : Course) (is_pass : P → Type 0) (notes : P → Notes) (ends : Ends E) (root : Notes) (plan : PlanView) (j : JobView) (phase : ℕ) (old mid new : List (Slot P E)) →
+    AreSplit is_pass notes plan root j phase (length j.tasks) old mid → length new ≡ length mid →
+    ((t : ℕ) (d : Slot P E) → t < length mid → RunsSlot course is_pass notes ends plan (get_or mid t d) (get_or new t d) (get_or mid t d).pass) → KeepsOthers j phase old new
+others_stand course is_pass notes ends root plan j phase old mid new a same runs = record {
+  count = same ∙ a.count;
+  done = λ t d l h. ap (λ s. s.done) (unchanged t d l h) ∙ a.done t d l;
+  extra = λ t d l h. ap (λ s. s.extra) (unchanged t d l h) ∙ a.extra t d l;
+}
   where
-    both_of : (t : ℕ) (d : Slot _ _) → t < length old → in_phase j phase t ≡ true → IsEnded course j places t (get_or new t d).done × HasExtra ends j places t (get_or new t d)
-    both_of t d l h =
-        run_ended course is_pass notes begins ends root plan j places t (get_or mid t d) (get_or new t d) (plan_here plan j places phase t of h) (a.some t d l (omega (arith, l, r.count)) h)
-        (start_at is_pass notes begins plan root j places phase old mid t d a q l (omega (arith, l, r.count)) h) (runs t d (omega (arith, l, a.count)))
-
     unchanged : (t : ℕ) (d : Slot _ _) → t < length old → in_phase j phase t ≡ false → get_or new t d ≡ get_or mid t d
     unchanged t d l h =
         let empty : (get_or mid t d).pass ≡ None = a.none t d l (not_before (in_phase j phase t) t (length j.tasks) h) in
         ran_not course is_pass notes ends plan (get_or mid t d) (get_or new t d) empty (runs t d (omega (arith, l, a.count)))
+
+pub AreRun-after : {P E : Type 0} (course : Course) (is_pass : P → Type 0) (notes : P → Notes) (begins : Begins E) (ends : Ends E) (root : Notes) (plan : PlanView) (j : JobView) (places : List Place) (phase : ℕ) (old mid new : List (Slot P E)) →
+    plan ≡ plan_view j places phase → AreSplit is_pass notes plan root j phase (length j.tasks) old mid → AreRun course j places phase old → AreEquipped begins plan j places phase (length j.tasks) old →
+    length new ≡ length mid → ((t : ℕ) (d : Slot P E) → t < length mid → RunsSlot course is_pass notes ends plan (get_or mid t d) (get_or new t d) (get_or mid t d).pass) →
+    AreRun course j places (phase + 1) new
+AreRun-after course is_pass notes begins ends root plan j places phase old mid new of a r q same runs = AreRun-next course j places phase old new r
+    (λ t d l h. run_ended course is_pass notes begins ends root plan j places t (get_or mid t d) (get_or new t d) (plan_here plan j places phase t of h) (a.some t d l (omega (arith, l, r.count)) h)
+    (start_at is_pass notes begins plan root j places phase old mid t d a q l (omega (arith, l, r.count)) h) (runs t d (omega (arith, l, a.count))))
+    (others_stand course is_pass notes ends root plan j phase old mid new a same runs)
 
 -- the passes are taken back one after the other
 
@@ -446,6 +443,87 @@ set_extra slots next e none here same t d l = elim (same_or t next) [
   | inr other ↦ ap (λ s. s.extra) (get_or-set_other slots next t e d other)
 ]
 
+-- only passes were taken, from the slots before the next
+pub record AreTaken {P E : Type 0} (next : ℕ) (old new : List (Slot P E)) : Type 0 where
+  pub count : length new ≡ length old
+  pub done : (t : ℕ) (d : Slot P E) → t < length old → (get_or new t d).done ≡ (get_or old t d).done
+  pub extra : (t : ℕ) (d : Slot P E) → t < length old → (get_or new t d).extra ≡ (get_or old t d).extra
+  pub pass : (t : ℕ) (d : Slot P E) → next ≤ t → t < length old → (get_or new t d).pass ≡ (get_or old t d).pass
+
+pub AreTaken-start : {P E : Type 0} (slots : List (Slot P E)) → AreTaken 0 slots slots
+AreTaken-start slots = record { count = refl; done = λ t d l. refl; extra = λ t d l. refl; pass = λ t d from l. refl }
+
+pub AreTaken-next : {P E : Type 0} (next : ℕ) (old mid : List (Slot P E)) (e none : Slot P E) → next < length mid → e.done ≡ (get_or mid next none).done → e.extra ≡ (get_or mid next none).extra →
+    AreTaken next old mid → AreTaken (next + 1) old (set mid next e)
+AreTaken-next next old mid e none here done extra a = record {
+  count = length-set mid next e ∙ a.count;
+  done = λ t d l. set_done mid next e none here done t d (omega (arith, l, a.count)) ∙ a.done t d l;
+  extra = λ t d l. set_extra mid next e none here extra t d (omega (arith, l, a.count)) ∙ a.extra t d l;
+  pass = λ t d from l. ap (λ s. s.pass) (get_or-set_other mid next t e d (λ same. absurd (omega (arith, same, from)))) ∙ a.pass t d (omega (arith, from)) l;
+}
+
+-- the root knows as final what the passes of the slots before the next do
+pub record KnowsAll {P E : Type 0} (notes : P → Notes) (next : ℕ) (slots : List (Slot P E)) (root : Notes) : Type 0 where
+  pub each : (t : ℕ) (d : Slot P E) (p : P) → t < next → t < length slots → (get_or slots t d).pass ≡ Some p → (s q : ℕ) (x : FactSet) → (notes p).settled s q x ≡ true → root.settled s q x ≡ true
+
+pub KnowsAll-start : {P E : Type 0} (notes : P → Notes) (slots : List (Slot P E)) (root : Notes) → KnowsAll notes 0 slots root
+KnowsAll-start notes slots root = record { each = λ t d p never. absurd (omega (arith, never)) }
+
+pub KnowsAll-one : {P E : Type 0} (notes : P → Notes) (plan : PlanView) (next : ℕ) (slots : List (Slot P E)) (none : Slot P E) (mid : Notes) (other : P) → next < length slots → (get_or slots next none).pass ≡ Some other →
+    KnowsAll notes next slots mid → KnowsAll notes (next + 1) slots (after_join plan mid (notes other))
+KnowsAll-one notes plan next slots none mid other here has k = record {
+  each = λ t d p below l its s q x settled. elim (same_or t next) [
+    | inl same ↦
+        let found : (get_or slots t d).pass ≡ Some other = ap (λ i. (get_or slots i d).pass) same ∙ (ap (λ s. s.pass) (get_or_default slots next d none here) ∙ has) in
+        let is : p ≡ other = the_pass p other (sym its ∙ found) in
+        or_right (mid.settled s q x) ((notes other).settled s q x) (subst (λ (r : _). (notes r).settled s q x ≡ true) is settled)
+    | inr before ↦ or_left (mid.settled s q x) ((notes other).settled s q x) (k.each t d p (omega (arith, below, before)) l its s q x settled)
+  ];
+}
+
+pub KnowsAll-other : {P E : Type 0} (notes : P → Notes) (next : ℕ) (slots : List (Slot P E)) (none : Slot P E) (root : Notes) → next < length slots → (get_or slots next none).pass ≡ None →
+    KnowsAll notes next slots root → KnowsAll notes (next + 1) slots root
+KnowsAll-other notes next slots none root here empty k = record {
+  each = λ t d p below l its s q x settled. elim (same_or t next) [
+    | inl same ↦
+        let found : (get_or slots t d).pass ≡ None = ap (λ i. (get_or slots i d).pass) same ∙ (ap (λ s. s.pass) (get_or_default slots next d none here) ∙ empty) in
+        let never : Some p ≡ None = sym its ∙ found in absurd cc
+    | inr before ↦ k.each t d p (omega (arith, below, before)) l its s q x settled
+  ];
+}
+
+-- what the extras of the phase's tasks tell, by sets that are as the root knows them final
+pub have_extras : {P E : Type 0} (course : Course) (is_pass : P → Type 0) (notes : P → Notes) (begins : Begins E) (ends : Ends E) (root end : Notes) (plan : PlanView) (j : JobView) (places : List Place) (phase n : ℕ) (old mid new last : List (Slot P E)) →
+    plan ≡ plan_view j places phase → length old ≡ length j.tasks → length j.tasks ≤ n → AreSplit is_pass notes plan root j phase (length j.tasks) old mid → AreEquipped begins plan j places phase (length j.tasks) old → length new ≡ length mid →
+    ((t : ℕ) (d : Slot P E) → t < length mid → RunsSlot course is_pass notes ends plan (get_or mid t d) (get_or new t d) (get_or mid t d).pass) →
+    AreTaken n new last → KnowsAll notes n new end → (sets : ℕ → ℕ → FactSet) → AreSettled plan end sets → HaveExtras ends j places phase sets last
+have_extras course is_pass notes begins ends root end plan j places phase n old mid new last of all most a q same runs taken k sets agree = record {
+  each = λ t d l h.
+      let ran : t < length new = omega (arith, l, taken.count) in
+      let split : t < length mid = omega (arith, ran, same) in
+      let here : t < length old = omega (arith, split, a.count) in
+      let there : t < length j.tasks = omega (arith, here, all) in
+      let its = a.some t d here there h in
+      let w : RunsWith course is_pass notes ends plan (get_or mid t d) (get_or new t d) its.pass = ran_with course is_pass notes ends plan (get_or mid t d) (get_or new t d) its.pass its.has (runs t d split) in
+      let start = start_at is_pass notes begins plan root j places phase old mid t d a q here there h in
+      let known : AreSettled plan (notes w.pass) sets = λ s p x some within exists settled. agree s p x some within exists (k.each t d w.pass (omega (arith, there, most)) ran w.has s p x settled) in
+      record {
+        extra = w.extra;
+        has = ◌∙◌ {c = Some w.extra} (taken.extra t d ran) w.left;
+        first = (get_or mid t d).done;
+        begun = start.task;
+        tells = subst (λ (x : Done). ends (plan_view j places (task_of j t).phase) (get_or mid t d).done.task x.task w.extra sets) (sym (taken.done t d ran))
+            (subst (λ (p : PlanView). ends p (get_or mid t d).done.task (get_or new t d).done.task w.extra sets) (plan_here plan j places phase t of h) (w.tells sets known));
+      };
+}
+
+pub keeps_others : {P E : Type 0} (course : Course) (is_pass : P → Type 0) (notes : P → Notes) (ends : Ends E) (root : Notes) (plan : PlanView) (j : JobView) (phase n : ℕ) (old mid new last : List (Slot P E)) →
+    AreSplit is_pass notes plan root j phase (length j.tasks) old mid → length new ≡ length mid →
+    ((t : ℕ) (d : Slot P E) → t < length mid → RunsSlot course is_pass notes ends plan (get_or mid t d) (get_or new t d) (get_or mid t d).pass) → AreTaken n new last → KeepsOthers j phase old last
+keeps_others course is_pass notes ends root plan j phase n old mid new last a same runs taken =
+    KeepsOthers-trans j phase old new last (others_stand course is_pass notes ends root plan j phase old mid new a same runs)
+    (record { count = taken.count; done = λ t d l h. taken.done t d l; extra = λ t d l h. taken.extra t d l })
+
 -- the slots while tasks get their sessions and extras
 
 pub AreEquipped-start : {P E : Type 0} (begins : Begins E) (plan : PlanView) (j : JobView) (places : List Place) (phase : ℕ) (slots : List (Slot P E)) → AreEquipped begins plan j places phase 0 slots
@@ -472,17 +550,16 @@ AreEquipped-other begins plan j places phase next slots other q = record {
 not_run : (p phase : ℕ) → nat_eq p phase ≡ true → nat_lt p phase ≡ false
 not_run p phase h = grind (arith, nat_tests)
 
-pub begun_in : {P E : Type 0} (course : Course) (ends : Ends E) (j : JobView) (places : List Place) (phase t : ℕ) (slots : List (Slot P E)) (d : Slot P E) → AreRun course ends j places phase slots → t < length slots →
+pub begun_in : {P E : Type 0} (course : Course) (j : JobView) (places : List Place) (phase t : ℕ) (slots : List (Slot P E)) (d : Slot P E) → AreRun course j places phase slots → t < length slots →
     in_phase j phase t ≡ true → HasNotRun j places t (get_or slots t d).done
-begun_in course ends j places phase t slots d a l h = a.begun t d l (not_run (task_of j t).phase phase h)
+begun_in course j places phase t slots d a l h = a.begun t d l (not_run (task_of j t).phase phase h)
 
 -- a slot whose task is about to run has changed, and no other
-pub AreRun-equipped : {P E : Type 0} (course : Course) (ends : Ends E) (j : JobView) (places : List Place) (phase next : ℕ) (slots : List (Slot P E)) (e : Slot P E) → next < length slots → in_phase j phase next ≡ true →
-    AreRun course ends j places phase slots → HasNotRun j places next e.done → AreRun course ends j places phase (set slots next e)
-AreRun-equipped course ends j places phase next slots e here of a begun = record {
+pub AreRun-equipped : {P E : Type 0} (course : Course) (j : JobView) (places : List Place) (phase next : ℕ) (slots : List (Slot P E)) (e : Slot P E) → next < length slots → in_phase j phase next ≡ true →
+    AreRun course j places phase slots → HasNotRun j places next e.done → AreRun course j places phase (set slots next e)
+AreRun-equipped course j places phase next slots e here of a begun = record {
   count = length-set slots next e ∙ a.count;
   ended = λ t d l h. subst (λ (s : Slot _ _). IsEnded course j places t s.done) (sym (get_or-set_other slots next t e d (apart t h))) (a.ended t d (omega (arith, l, length-set slots next e)) h);
-  extras = λ t d l h. subst (λ (s : Slot _ _). HasExtra ends j places t s) (sym (get_or-set_other slots next t e d (apart t h))) (a.extras t d (omega (arith, l, length-set slots next e)) h);
   begun = λ t d l h. elim (same_or t next) [
     | inl same ↦ subst (λ (s : Slot _ _). HasNotRun j places t s.done) (sym (get_or-set_at slots next t e d same here)) (subst (λ (k : ℕ). HasNotRun j places k e.done) (sym same) begun)
     | inr other ↦ subst (λ (s : Slot _ _). HasNotRun j places t s.done) (sym (get_or-set_other slots next t e d other)) (a.begun t d (omega (arith, l, length-set slots next e)) h)

@@ -3,6 +3,8 @@ use Rattle.std.specs.Prelude.{◌≡◌, ℕ, ◌-◌, ◌<◌, ◌≤◌, ◌^�
 use Rattle.cov_base.specs.FactSet.{FactSet}
 use Rattle.cov_base.specs.States.{Visit}
 use Rattle.s370_state.specs.declared.endings.Ending.{Ending}
+use Rattle.module_area.specs.Ended.{AreSettled}
+use Rattle.module_area.specs.FinalsView.{FinalsView, set_at}
 use Rattle.module_area.specs.Notes.{Notes, bearer, calls, is_working, split_notes}
 use Rattle.module_area.specs.PlanView.{PlanView}
 use Rattle.module_area.specs.Tied.{IsTied}
@@ -16,7 +18,8 @@ use Rattle.session_book.specs.JobView.{JobView}
 use Rattle.session_book.specs.Sessions.{task_of}
 use Rattle.job_run.specs.Bounds.{Leaves}
 use Rattle.job_run.specs.Runs.{walk_by}
-use Rattle.job_run.specs.Tasks.{Begins, Ends, IsEquipped}
+use Rattle.job_run.specs.Sets.{no_finals}
+use Rattle.job_run.specs.Tasks.{Begins, Ends, HasExtra, IsEquipped}
 use Rattle.job_run.specs.declared.outcome.Done.{Done}
 use Rattle.job_run.specs.declared.slots.Slot.{Slot}
 
@@ -104,7 +107,7 @@ pub record Runs (course : Course) (plan : PlanView) (before after : Notes) (old 
   pub is : new.ending ≡ Some ending
   pub ran : RanAs course plan before after old.task new.task ending
 
--- the slot's task has run with the pass, and its extra tells this of it
+-- the slot's task has run with the pass, and its extra tells this of it, where the sets are as the pass knows them final
 pub record RunsWith {P E : Type 0} (course : Course) (is_pass : P → Type 0) (notes : P → Notes) (ends : Ends E) (plan : PlanView) (old new : Slot P E) (p : P) : Type 0 where
   pub pass : P
   pub has : new.pass ≡ Some pass
@@ -112,7 +115,7 @@ pub record RunsWith {P E : Type 0} (course : Course) (is_pass : P → Type 0) (n
   pub runs : Runs course plan (notes p) (notes pass) old.done new.done
   pub extra : E
   pub left : new.extra ≡ Some extra
-  pub tells : (sets : ℕ → ℕ → FactSet) → ends plan old.done.task new.done.task extra sets
+  pub tells : (sets : ℕ → ℕ → FactSet) → AreSettled plan (notes pass) sets → ends plan old.done.task new.done.task extra sets
 
 -- the slot after its run: as before where it has no pass
 abbrev pub RunsSlot : {P E : Type 0} → Course → (P → Type 0) → (P → Notes) → Ends E → PlanView → Slot P E → Slot P E → Option P → Type 0
@@ -129,6 +132,20 @@ pub record HasSeen {P : Type 0} (is_pass : P → Type 0) (notes : P → Notes) (
 pub record AreOver {P E : Type 0} (course : Course) (is_pass : P → Type 0) (notes : P → Notes) (plan : PlanView) (root : Notes) (j : JobView) (places : List Place) (phase next : ℕ) (slots : List (Slot P E)) : Type 0 where
   pub some : (t : ℕ) (d : Slot P E) → next ≤ t → t < length slots → in_phase j phase t ≡ true → HasPass (HasSeen is_pass notes plan root (walk_by course j places) t) (get_or slots t d)
   pub none : (t : ℕ) (d : Slot P E) → t < length slots → (not (nat_lt t next) && in_phase j phase t) ≡ false → (get_or slots t d).pass ≡ None
+
+-- the extras of the phase's tasks tell this of them, where these are the phase's sets
+pub record HaveExtras {P E : Type 0} (ends : Ends E) (j : JobView) (places : List Place) (phase : ℕ) (sets : ℕ → ℕ → FactSet) (slots : List (Slot P E)) : Type 0 where
+  pub each : (t : ℕ) (d : Slot P E) → t < length slots → in_phase j phase t ≡ true → HasExtra ends j places sets t (get_or slots t d)
+
+-- and those of the tasks of each phase before the next, where these are the sets that the phases' areas have ended with
+pub record HaveAllExtras {P E : Type 0} (ends : Ends E) (j : JobView) (places : List Place) (next : ℕ) (finals : List FinalsView) (slots : List (Slot P E)) : Type 0 where
+  pub each : (phase : ℕ) → phase < next → HaveExtras ends j places phase (set_at (get_or finals phase no_finals)) slots
+
+-- the tasks of other phases, and their extras, are as before
+pub record KeepsOthers {P E : Type 0} (j : JobView) (phase : ℕ) (old new : List (Slot P E)) : Type 0 where
+  pub count : length new ≡ length old
+  pub done : (t : ℕ) (d : Slot P E) → t < length old → in_phase j phase t ≡ false → (get_or new t d).done ≡ (get_or old t d).done
+  pub extra : (t : ℕ) (d : Slot P E) → t < length old → in_phase j phase t ≡ false → (get_or new t d).extra ≡ (get_or old t d).extra
 
 -- the root has observed these visits, by passes that were split off from it and joined to it
 abbrev pub JoinsAll : PlanView → Notes → Notes → List Visit → Type 0

@@ -8,3 +8,5 @@ mod threads;
 
 pub use outcome::{Done, Outcome, Sets};
 pub use phase::{run_job, run_job_with};
+pub use slots::{is_of, new_task};
+pub use threads::range_of;

@@ -1,12 +1,13 @@
 //! The phases of a job, one after the other.
 ghost use Rattle.std.specs.Prelude.{◌≡◌, ◌+◌, ◌<◌, ◌≤◌, ◌^◌, length, All, IfOk, OnErr};
 ghost use Rattle.brk_table.specs.Places.{IsIn};
+ghost use Rattle.module_area.specs.FinalsView.{set_at};
 ghost use Rattle.session_book.specs.JobView.{IsJob};
 ghost use Rattle.session_book.specs.Sessions.{plan_view};
 ghost use Rattle.job_run.specs.Areas.{GrowsBy};
 ghost use Rattle.job_run.specs.Outcomes.{AreExtras, IsOutcome, IsOutcomeBy};
 ghost use Rattle.job_run.specs.Runs.{Account, HasLeft, HasLeftBy, phase_trace, walk_by};
-ghost use Rattle.job_run.specs.Slots.{AreEmpty};
+ghost use Rattle.job_run.specs.Slots.{AreEmpty, HaveAllExtras, HaveExtras, KeepsOthers};
 ghost use Rattle.job_run.specs.Tasks.{AreRun};
 
 use crate::outcome::{Outcome, Sets};
@@ -38,11 +39,13 @@ fn run_phase<'a, T: Threads + Sync, A: Areas, G: Gate + Sync, R: Runner<A::C> + 
 ) -> Result<Finals, NoMemory>
     requires room { A.made areas.old < 2 ^ 62 }
     requires phase { phase < length job.now.phases }
-    requires tasks { AreRun R.course R.ends job.now tables.now.places phase slots.old }
+    requires tasks { AreRun R.course job.now tables.now.places phase slots.old }
     requires empty { AreEmpty slots.old }
     ensures made { IfOk result (λ _. A.made areas.new ≡ A.made areas.old + 1) }
     ensures grown { IfOk result (λ f. GrowsBy (plan_view job.now tables.now.places phase) (walk_by R.course job.now tables.now.places) (phase_trace R.course job.now tables.now.places phase) (A.ledger areas.old) (A.ledger areas.new) (A.finals areas.old) (A.finals areas.new) f) }
-    ensures tasks { IfOk result (λ _. AreRun R.course R.ends job.now tables.now.places (phase + 1) slots.new) }
+    ensures tasks { IfOk result (λ _. AreRun R.course job.now tables.now.places (phase + 1) slots.new) }
+    ensures extras { IfOk result (λ f. HaveExtras R.ends job.now tables.now.places phase (set_at f) slots.new) }
+    ensures others { IfOk result (λ _. KeepsOthers job.now phase slots.old slots.new) }
     ensures empty { IfOk result (λ _. AreEmpty slots.new) }
     ensures ledger_kept { OnErr result (A.ledger areas.new ≡ A.ledger areas.old) }
     ensures finals_kept { OnErr result (A.finals areas.new ≡ A.finals areas.old) }
@@ -71,11 +74,12 @@ fn run_phases<'a, T: Threads + Sync, A: Areas, G: Gate + Sync, R: Runner<A::C> +
     slots: &mut [Slot<'a, <A::C as Cells>::Pass, R::Extra>],
 ) -> Result<Vec<Finals>, NoMemory>
     requires room { A.made areas.old < 2 ^ 61 }
-    requires tasks { AreRun R.course R.ends job.now tables.now.places 0 slots.old }
+    requires tasks { AreRun R.course job.now tables.now.places 0 slots.old }
     requires empty { AreEmpty slots.old }
     ensures job { IsJob job.now }
     ensures left { IfOk result (λ v. HasLeftBy R.course job.now tables.now.places (record { ledger = A.ledger areas.old; finals = A.finals areas.old; made = A.made areas.old }) (record { ledger = A.ledger areas.new; finals = A.finals areas.new; made = A.made areas.new }) v.items) }
-    ensures tasks { IfOk result (λ _. AreRun R.course R.ends job.now tables.now.places (length job.now.phases) slots.new) }
+    ensures tasks { IfOk result (λ _. AreRun R.course job.now tables.now.places (length job.now.phases) slots.new) }
+    ensures extras { IfOk result (λ v. HaveAllExtras R.ends job.now tables.now.places (length job.now.phases) v.items slots.new) }
 {
     let count = job.phase_count();
     let mut finals = Vec::with_capacity(alloc, count as usize)?;

@@ -32,8 +32,8 @@ pub fn is_of(job: &Job, t: usize, phase: u32) -> bool
     job.card(t).phase == phase
 }
 
-/// A task as its card says, over the modules and tables.
-fn new_task<'a>(
+/// A task as its card says, over the modules and tables, which has not run and has no sessions.
+pub fn new_task<'a>(
     alloc: Global,
     job: &'a Job,
     tables: &'a Tables,

@@ -2,6 +2,7 @@
 ghost use Rattle.std.specs.Prelude.{◌≡◌, ℕ, ◌+◌, ◌*◌, ◌<◌, ◌≤◌, ◌^◌, true, false, nat_eq, if◌then◌else◌, All, IfOk, length, slice_index_or};
 ghost use Rattle.std.specs.declared.option.Option.TheVariants.{None};
 ghost use Rattle.cov_base.specs.declared.limits.TheConstants.{PLACE_LIMIT, TASK_LIMIT};
+ghost use Rattle.module_area.specs.Ended.{AreSettled};
 ghost use Rattle.module_area.specs.Notes.{bearer, calls, is_working};
 ghost use Rattle.module_area.specs.PlanView.{IsPlan, is_controller};
 ghost use Rattle.module_area.specs.Tied.{IsTied};
@@ -11,7 +12,7 @@ ghost use Rattle.session_book.specs.JobView.{IsJob};
 ghost use Rattle.session_book.specs.Sessions.{plan_view, tasks_from};
 ghost use Rattle.job_run.specs.Bounds.{JoinsTasks};
 ghost use Rattle.job_run.specs.Runs.{phase_trace, walk_by};
-ghost use Rattle.job_run.specs.Slots.{AreEmpty, AreEquipped, AreSplit, CanRun, HasSplit, IsRange, in_phase, JoinsAll, Runs, RunsSlot};
+ghost use Rattle.job_run.specs.Slots.{AreEmpty, AreEquipped, AreSplit, CanRun, HasSplit, HaveExtras, IsRange, in_phase, JoinsAll, KeepsOthers, Runs, RunsSlot};
 ghost use Rattle.job_run.specs.Tasks.{AreRun};
 
 use crate::outcome::Done;
@@ -48,7 +49,7 @@ fn run_one<'a, C: Cells, R: Runner<C>>(
     requires begins { R.begins plan.now (bearer (C.notes pass.old)) extra.old (C.notes pass.old) }
     ensures area { C.is_pass cells.now pass.new }
     ensures runs { Runs R.course plan.now (C.notes pass.old) (C.notes pass.new) done.old done.new }
-    ensures ends { (sets : _) → R.ends plan.now done.old.task done.new.task extra.new sets }
+    ensures ends { (sets : _) → AreSettled plan.now (C.notes pass.new) sets → R.ends plan.now done.old.task done.new.task extra.new sets }
 {
     let ending = runner.run(cells, pass, tables, plan, extra, &mut done.task);
     done.ending = Some(ending);
@@ -128,7 +129,7 @@ fn up_to(range: Range<usize>, t: usize) -> Range<usize>
 
 /// Where the tasks of the phase stand among those of the job: from the first of them to the last. In a job whose tasks
 /// stand in the order of their phases no other is among them.
-fn range_of(job: &Job, phase: u32) -> Range<usize>
+pub fn range_of(job: &Job, phase: u32) -> Range<usize>
     ensures { IsRange job.now phase (length job.now.tasks) result.start result.end }
 {
     let count = job.task_count();
@@ -223,11 +224,12 @@ pub fn equip_all<'a, C: Cells, R: Runner<C>>(
     slots: &mut [Slot<'a, C::Pass, R::Extra>],
 ) -> Result<(), NoMemory>
     requires plan { plan.now ≡ plan_view job.now tables.now.places phase }
-    requires tasks { AreRun R.course R.ends job.now tables.now.places phase slots.old }
+    requires tasks { AreRun R.course job.now tables.now.places phase slots.old }
     requires empty { AreEmpty slots.old }
-    ensures tasks { IfOk result (λ _. AreRun R.course R.ends job.now tables.now.places phase slots.new) }
+    ensures tasks { IfOk result (λ _. AreRun R.course job.now tables.now.places phase slots.new) }
     ensures empty { IfOk result (λ _. AreEmpty slots.new) }
     ensures equipped { IfOk result (λ _. AreEquipped R.begins plan.now job.now tables.now.places phase (length job.now.tasks) slots.new) }
+    ensures others { IfOk result (λ _. KeepsOthers job.now phase slots.old slots.new) }
 {
     let count = job.task_count();
     for t in 0..count {
@@ -269,7 +271,7 @@ pub fn run_tasks<
     requires room { calls (C.notes root.old) ≤ PLACE_LIMIT }
     requires last { (t p : ℕ) → is_controller plan.now t p ≡ true → (C.notes root.old).last p ≡ 0 }
     requires unmarked { (s p : ℕ) (f : _) → (C.notes root.old).marked s p f ≡ false }
-    requires tasks { AreRun R.course R.ends job.now tables.now.places phase slots.old }
+    requires tasks { AreRun R.course job.now tables.now.places phase slots.old }
     requires equipped { AreEquipped R.begins plan.now job.now tables.now.places phase (length job.now.tasks) slots.old }
     requires empty { AreEmpty slots.old }
     ensures area { C.is_pass cells.now root.new }
@@ -277,7 +279,9 @@ pub fn run_tasks<
     ensures joined { (t : ℕ) → (C.notes root.new).out t ≡ false }
     ensures observes { JoinsAll plan.now (C.notes root.old) (C.notes root.new) (phase_trace R.course job.now tables.now.places phase) }
     ensures joins { JoinsTasks plan.now (walk_by R.course job.now tables.now.places) plan.now.tasks (C.notes root.old) (C.notes root.new) }
-    ensures tasks { AreRun R.course R.ends job.now tables.now.places (phase + 1) slots.new }
+    ensures tasks { AreRun R.course job.now tables.now.places (phase + 1) slots.new }
+    ensures extras { (sets : _) → AreSettled plan.now (C.notes root.new) sets → HaveExtras R.ends job.now tables.now.places phase sets slots.new }
+    ensures others { KeepsOthers job.now phase slots.old slots.new }
     ensures empty { AreEmpty slots.new }
 {
     // Read for what every plan keeps.

@@ -1,5 +1,5 @@
 -- A new area keeps the rule: originals under tag 0, empty sets, and the root alone.
-use Rattle.std.proofs.Common.{◌≡◌, ℕ, zero, suc, ◌<◌, true, [], ◌∷◌, length, sym, refl, ap, ◌∙◌, subst, inl, arith}
+use Rattle.std.proofs.Common.{◌≡◌, ℕ, zero, suc, ◌<◌, ◌≤◌, true, None, [], ◌∷◌, length, sym, refl, ap, ◌∙◌, subst, inl, arith}
 use mathlib.Core.Option.{some, some-injective, some-ne-none}
 use lib.ListN.{get_elem?}
 use Rattle.cov_base.specs.declared.facts.Fact.{Fact}
@@ -7,11 +7,12 @@ use Rattle.cov_base.specs.FactSet.{FactSet}
 use Rattle.cov_base.specs.Facts.{has_fact}
 use Rattle.module_area.specs.declared.cells.Cell.{Cell}
 use Rattle.module_area.specs.declared.parties.View.{View}
-use Rattle.module_area.specs.declared.parties.Role.TheVariants.{Root, Spent}
-use Rattle.module_area.specs.PlanView.{PlanView, IsPlan, original_at, kind_at}
-use Rattle.module_area.specs.Parties.{last_tag, window_tag, blank}
+use Rattle.module_area.specs.declared.parties.Role.TheVariants.{Root, Task, Spent}
+use Rattle.module_area.specs.Drained.{IsNumber, IsSettled, Drained}
+use Rattle.module_area.specs.PlanView.{PlanView, IsPlan, original_at, kind_at, has_task}
+use Rattle.module_area.specs.Parties.{Has, last_tag, window_tag, blank}
 use Rattle.module_area.specs.Held.{untouched, lifted, Keeps, IsRole, Kept, Held}
-use Rattle.module_area.proofs.StepLemmas.{spent_not_root, full_some}
+use Rattle.module_area.proofs.StepLemmas.{task_not_root, spent_not_root, full_some}
 
 only_one : (x v : View) (j : ℕ) → get_elem? (x ∷ []) j ≡ some v → (j ≡ 0) × (x ≡ v)
 only_one x v zero e = (refl, some-injective x v e)
@@ -60,3 +61,16 @@ module _ (plan : PlanView) (cell : ℕ → Cell) (sets : ℕ → ℕ → FactSet
     spent = alone (λ _ v. v.role ≡ Spent → v ≡ blank Spent) (λ e. absurd (spent_not_root (sym e)));
     apart = λ i j u v t hi hj _ _. (only_one (blank Root) u i hi).0 ∙ sym (only_one (blank Root) v j hj).0;
   }
+
+-- and its part on task words
+pub begins_drained : (plan : PlanView) (cell : ℕ → Cell) (sets : ℕ → ℕ → FactSet) (word : ℕ → ℕ) → ((t : ℕ) → word t ≡ 0) → Drained plan cell sets word (blank Root ∷ [])
+begins_drained plan cell sets word zero_word = record {
+  idle = alone (λ _ v. v.role ≡ Root → v.pending ≡ None) (λ _. refl);
+  tasks = λ j v t at e. alone (λ _ v. (t : ℕ) → v.role ≡ Task t → has_task plan.tasks t ≡ true) (λ t e. absurd (task_not_root t (sym e))) j v at t e;
+  number = λ j v t at _. alone (λ _ v. IsNumber v t (word t) v.role) (λ _. zero_word t, λ none. absurd none) j v at;
+  noted = λ j v e at has. alone (λ _ v. Has e v.noted → e.1 ≤ word e.0) (λ none. absurd none) j v at has;
+  noted_seen = λ j v e p x at has there. alone (λ _ v. Has e v.noted → (p < length plan.places) × (x ≤ (cell p).tag)) (λ none. absurd none) j v at has;
+  ended = λ j v t at e odd. alone (λ _ v. v.role ≡ Task t → v.pending ≡ None) (λ _. refl) j v at e;
+  late = λ j v e i u s p at has pos over there bears pend. alone (λ _ v. Has e v.noted → word e.0 ≤ e.1) (λ none. absurd none) j v at has;
+  settled = λ j v s p x at has. alone (λ _ v. Has (s, p, x) v.settled → (p < length plan.places) × (0 < s) × IsSettled cell sets (blank Root ∷ []) s p x) (λ none. absurd none) j v at has;
+}

@@ -25,16 +25,16 @@ any_shown f (x ∷ xs) d (suc k) l h = any_more (f x) (any_shown f xs d k (omega
     any_more true e = refl
     any_more false e = e
 
-abbrev number : ℕ → PlaceNo
+abbrev pub number : ℕ → PlaceNo
 number p = record { 0 = p }
 
 place_in : (places : List PlaceNo) (p : ℕ) → has_place places p ≡ true → Contains places (number p)
 place_in places p h = let a = any_at (λ (q : PlaceNo). nat_eq q.0 p) places (number p) h in (a.0, a.1, ap number (eqb-true _ _ a.2))
 
-abbrev no_session : ControlledView
+abbrev pub no_session : ControlledView
 no_session = record { session = 0; by = 0; places = [] }
 
-abbrev session_at : PlanView → ℕ → ControlledView
+abbrev pub session_at : PlanView → ℕ → ControlledView
 session_at plan i = get_or plan.controlled i no_session
 
 controller_at : (plan : PlanView) (t p : ℕ) → is_controller plan t p ≡ true → (i : ℕ) × (i < length plan.controlled) × ((session_at plan i).by ≡ t) × Contains (session_at plan i).places (number p)
@@ -55,7 +55,7 @@ no_controller plan t p ok pos h = let a = controller_at plan t p h in let c = a.
     let z : window_at plan (get_or (session_at plan a.0).places c.0 (number p)).0 ≡ 0 = (ok.controlled a.0 no_session a.1).free c.0 (number p) c.1 in
     let e : window_at plan p ≡ 0 = sym (ap (λ (q : PlaceNo). window_at plan q.0) c.2) ∙ z in absurd (omega arith)
 
-controlled_at : (plan : PlanView) (s p : ℕ) → is_controlled plan s p ≡ true → (i : ℕ) × (i < length plan.controlled) × ((session_at plan i).session ≡ s) × Contains (session_at plan i).places (number p)
+pub controlled_at : (plan : PlanView) (s p : ℕ) → is_controlled plan s p ≡ true → (i : ℕ) × (i < length plan.controlled) × ((session_at plan i).session ≡ s) × Contains (session_at plan i).places (number p)
 controlled_at plan s p h = let a = any_at (λ (c : ControlledView). nat_eq c.session s && has_place c.places p) plan.controlled no_session h in
     (a.0, a.1, eqb-true _ _ (and_left _ _ a.2), place_in (session_at plan a.0).places p (and_right (nat_eq (session_at plan a.0).session s) _ a.2))
 

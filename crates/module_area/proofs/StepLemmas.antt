@@ -231,6 +231,44 @@ module _ (plan : PlanView) where
     pub same : Grows cell sets cell sets
     same = record { tags = λ p _. omega arith; more = λ s p f _ _ h. h; full = λ s p _ _ h. h; stay = λ s p _ _ _ n. n }
 
+    -- ---- Boundary, Note, Read: cells, sets and what the rule reads of the notes stay, or the answer is gone
+    pub quiet : v.role ≢ Spent → (w : View) → w.role ≡ v.role → w.marked ≡ v.marked → w.full ≡ v.full → w.free ≡ v.free → w.lifted ≡ v.lifted → w.seen ≡ v.seen → w.planted ≡ v.planted → w.given ≡ v.given → w.joined ≡ v.joined
+        → ((p t : ℕ) → w.pending ≡ Some (p, t) → v.pending ≡ Some (p, t)) → Held plan cell sets (set views id w)
+    quiet live w role marked full free lifted seen planted given joined waits = let k = r.kept id v at in moved cell sets w record {
+      grows = same;
+      site = r.site;
+      mine = record {
+        seen = λ p t h. k.seen p t (subst (Has (p, t)) seen h);
+        pending = λ p t e. let a = k.pending p t (waits p t e) in (a.0, a.1, a.2, a.3, subst (Has (p, t)) (sym seen) a.4);
+        marked = λ s p f h. k.marked s p f (subst (Has (s, p, f)) marked h);
+        full = λ s p h. let a = k.full s p (subst (Has (s, p)) full h) in (a.0, subst (Has (p, window_tag s)) (sym seen) a.1, a.2);
+        free = λ s p h. let a = k.free s p (subst (Has (s, p)) free h) in (subst (Has (s, p)) (sym full) a.0, a.1);
+        lifted = λ s p h. let a = k.lifted s p (subst (Has (s, p)) lifted h) in (a.0, a.1, a.2, subst (Has (s, p)) (sym free) a.3);
+        planted = λ p t h. subst (Has (p, t)) (sym seen) (k.planted p t (subst (Has (p, t)) planted h));
+        joined = λ t h. subst (Has t) (sym given) (k.joined t (subst (Has t) joined h));
+      };
+      more = λ s p f h. subst (Has (s, p, f)) (sym marked) h;
+      news = λ s p f _ _ h. inl h;
+      tie = λ p l kp. r.ties id v at p l (keeps_same w p role given joined kp) ∙ ap (last_tag p) (sym planted);
+      ties = λ j u _ there. r.ties j u there;
+      live = live;
+      owed = λ s p _ _ f e. inr (f, e, λ h. (subst (Has (s, p)) (sym full) h.0, λ x. h.1 (subst (Has (s, p)) free x)));
+      once = λ s p _ _ n n' e. once_same s (original_at plan p) (cell p) n n' (times s p v.lifted) (e ∙ ap (λ l. n + times s p l) lifted);
+      role = role;
+      given = λ t h. subst (Has t) (sym given) h;
+      joined = λ t h. subst (Has t) joined h;
+    }
+      where
+        by_role : (w : View) (p : ℕ) (q : Role) → w.given ≡ v.given → w.joined ≡ v.joined → KeepsAs plan w p q → KeepsAs plan v p q
+        by_role w p Root given joined (inl pos) = inl pos
+        by_role w p Root given joined (inr (t, own, inl new)) = inr (t, own, inl (λ h. new (subst (Has t) (sym given) h)))
+        by_role w p Root given joined (inr (t, own, inr back)) = inr (t, own, inr (subst (Has t) joined back))
+        by_role w p (Task t) given joined k = k
+        by_role w p Spent given joined k = k
+
+        keeps_same : (w : View) (p : ℕ) → w.role ≡ v.role → w.given ≡ v.given → w.joined ≡ v.joined → Keeps plan w p → Keeps plan v p
+        keeps_same w p role given joined k = by_role w p v.role given joined (subst (KeepsAs plan w p) role k)
+
     -- ---- Fetch: the cell of place p as it stands
     module _ (live : v.role ≢ Spent) (p : ℕ) (l : p < length plan.places) where
       was_planted : (cell p).half ≡ breakpoint → (s : ℕ) × (0 < s) × (is_over plan s p ≡ true) × ((cell p).tag ≡ window_tag s)

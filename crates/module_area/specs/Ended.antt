@@ -1,11 +1,16 @@
 -- The sets that an area ends with are those that its passes marked.
 use Rattle.std.specs.Prelude.{◌≡◌, ℕ, ◌+◌, ◌*◌, ◌<◌, ◌≤◌, true, ◌&&◌, nat_lt, length, sum_by}
+use Rattle.cov_base.specs.FactSet.{FactSet}
 use Rattle.cov_base.specs.declared.facts.Fact.{Fact}
 use Rattle.cov_base.specs.Facts.{has_fact, full_of, is_full, is_within}
 use Rattle.module_area.specs.PlanView.{PlanView, kind_at, window_at, is_over}
 use Rattle.module_area.specs.FinalsView.{FinalsView, set_at}
 use Rattle.module_area.specs.Counts.{count_below, count_pairs, fact_count}
 use Rattle.module_area.specs.Notes.{Notes}
+
+-- what the notes know as final stands so
+abbrev pub AreSettled : PlanView → Notes → (ℕ → ℕ → FactSet) → Type 0
+AreSettled plan notes sets = (s p : ℕ) (x : FactSet) → 0 < s → s ≤ plan.sessions → p < length plan.places → notes.settled s p x ≡ true → sets s p ≡ x
 
 pub record HasSets (plan : PlanView) (notes : Notes) (finals : FinalsView) : Type 0 where
   pub places : finals.places ≡ length plan.places

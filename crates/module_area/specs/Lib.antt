@@ -2,6 +2,7 @@ pub mod AreasView
 pub mod CellWords
 pub mod Control
 pub mod Counts
+pub mod Drained
 pub mod Ended
 pub mod Executions
 pub mod FinalsView

@@ -1,13 +1,21 @@
 -- What a pass has done and knows, and how each call changes it.
-use Rattle.std.specs.Prelude.{◌≡◌, ◌≢◌, ℕ, ◌+◌, ◌-◌, ◌*◌, ◌/◌, ◌%◌, ◌<◌, ◌≤◌, Bool, true, false, not, ◌&&◌, ◌||◌, if◌then◌else◌, nat_eq, nat_lt, Option, Some, None, is_some, List, [], ◌∷◌, ◌++◌, unwrap_or, max}
-use Rattle.std.specs.List.{list_any}
+use Rattle.std.specs.Prelude.{◌≡◌, ◌≢◌, ℕ, ◌+◌, ◌-◌, ◌*◌, ◌/◌, ◌%◌, ◌<◌, ◌≤◌, Bool, true, false, not, ◌&&◌, ◌||◌, if◌then◌else◌, nat_eq, nat_lt, nat_le, Option, Some, None, is_some, List, [], ◌∷◌, ◌++◌, All, unwrap_or, max}
+use Rattle.std.specs.List.{list_any, list_all}
+use Rattle.cov_base.specs.declared.numbers.PlaceNo.{PlaceNo}
+use Rattle.cov_base.specs.declared.numbers.TaskNo.{TaskNo}
 use Rattle.cov_base.specs.declared.facts.Fact.{Fact}
 use Rattle.cov_base.specs.FactSet.{FactSet}
 use Rattle.cov_base.specs.Facts.{with_fact, has_fact, is_full, is_within, full_of, same_fact}
 use Rattle.module_area.specs.declared.cells.Cell.{Cell}
 use Rattle.module_area.specs.declared.tallies.Tally.{Tally}
 use Rattle.cov_base.specs.Codes.{breakpoint}
-use Rattle.module_area.specs.PlanView.{PlanView, ControlledView, original_at, kind_at, window_at, has_place, is_over, is_controller}
+use Rattle.module_area.specs.PlanView.{PlanView, ControlledView, original_at, kind_at, window_at, has_place, is_over, is_controlled, is_controller}
+
+-- a look at a task's word: its number then, and the highest tags that the pass knew of the places
+pub record NotedView : Type 0 where
+  pub task : ℕ
+  pub number : ℕ
+  pub seen : ℕ → ℕ
 
 pub record Notes : Type 0 where
   -- it marked the fact at the place for the session: session, place, fact
@@ -24,6 +32,12 @@ pub record Notes : Type 0 where
   pub last : ℕ → ℕ
   -- place and cell of each of its own fetches, in order
   pub answered : List (ℕ × Cell)
+  -- the number of the task that it bears; for the root those of the tasks whose passes have come back; else 0
+  pub numbers : ℕ → ℕ
+  -- its looks at tasks' words, the last first
+  pub noted : List NotedView
+  -- it knows that the set is the final one: session, place, set
+  pub settled : ℕ → ℕ → FactSet → Bool
   pub tally : Tally
   -- the task that it bears, or none for the root
   pub bears : Option ℕ
@@ -43,6 +57,9 @@ root_notes = record {
   pending = None;
   last = λ p. 0;
   answered = [];
+  numbers = λ t. 0;
+  noted = [];
+  settled = λ s p x. false;
   tally = no_tally;
   bears = None;
   given = λ t. false;
@@ -52,9 +69,17 @@ root_notes = record {
 abbrev pub calls : Notes → ℕ
 calls n = n.tally.plants + n.tally.fetches + n.tally.marks + n.tally.lifts + n.tally.closes
 
--- the pass of a task, which alone fetches and marks
+-- the task that the pass bears
+abbrev pub bearer : Notes → ℕ
+bearer n = unwrap_or n.bears 0
+
+-- the number of its task
+abbrev pub own_number : Notes → ℕ
+own_number n = n.numbers (bearer n)
+
+-- The pass of a task that has not ended, which alone fetches and marks. The number of an ended task is odd.
 abbrev pub is_working : Notes → Bool
-is_working n = is_some n.bears
+is_working n = is_some n.bears && nat_eq (own_number n % 2) 0
 
 -- The sessions over the place are its own to plant and close. A task's pass works those that its task controls; the
 -- root those of windows, and those of the tasks whose passes aren't out.
@@ -122,9 +147,61 @@ split_notes plan n t = record root_notes {
   bears = Some t;
 }
 
--- the task that the pass bears
-abbrev pub bearer : Notes → ℕ
-bearer n = unwrap_or n.bears 0
+-- by these tags the controlled session s is over at all its places
+abbrev pub is_closed : PlanView → (ℕ → ℕ) → ℕ → Bool
+is_closed plan seen s = list_all (λ (c : ControlledView). not (nat_eq c.session s) || list_all (λ (q : PlaceNo). nat_le (2 * s) (seen q.0)) c.places) plan.controlled
+
+-- By these looks task t is past session s: one at which s was known as over found an odd number of t, or a number of t
+-- that another look found passed.
+abbrev pub is_past : PlanView → List NotedView → ℕ → ℕ → Bool
+is_past plan noted s t = list_any (λ (e : NotedView). nat_eq e.task t && (is_closed plan e.seen s
+    && (nat_eq (e.number % 2) 1 || list_any (λ (d : NotedView). nat_eq d.task t && nat_lt e.number d.number) noted))) noted
+
+abbrev pub is_own : Option ℕ → ℕ → Bool
+is_own None t = false
+is_own (Some u) t = nat_eq u t
+
+-- it knows each other task of the plan past session s
+abbrev pub is_drained : PlanView → Notes → ℕ → Bool
+is_drained plan n s = list_all (λ (u : TaskNo). is_own n.bears u.0 || is_past plan n.noted s u.0) plan.tasks
+
+abbrev pub is_at : Option (ℕ × ℕ) → ℕ → ℕ → Bool
+is_at None p t = false
+is_at (Some x) p t = nat_eq x.0 p && nat_eq x.1 t
+
+-- What it reads of session s at place p is final: it knows s over there, and nobody can have an answer of s there.
+abbrev pub is_final : PlanView → Notes → ℕ → ℕ → Bool
+is_final plan n s p = is_controlled plan s p && (nat_le (2 * s) (n.seen p) && (is_drained plan n s && not (is_at n.pending p (2 * s - 1))))
+
+abbrev pub same_bit : Bool → Bool → Bool
+same_bit true b = b
+same_bit false b = not b
+
+-- whether two sets have the same facts
+abbrev pub same_set : FactSet → FactSet → Bool
+same_set a b = same_bit a.ran b.ran && (same_bit a.went b.went && same_bit a.stayed b.stayed)
+
+-- the pass after a boundary, at which its task has ended or not
+abbrev pub after_boundary : Notes → Bool → Notes
+after_boundary n ended = record n {
+  pending = None;
+  numbers = λ t. if nat_eq t (bearer n) then own_number n + (if ended then 1 else 2) else n.numbers t;
+}
+
+-- after it looked at the word of task t
+abbrev pub after_note : Notes → ℕ → ℕ → Notes
+after_note n t found = record n { noted = record { task = t; number = found; seen = n.seen } ∷ n.noted }
+
+-- after it looked at the set of session s at place p
+abbrev pub after_read : PlanView → Notes → ℕ → ℕ → FactSet → Notes
+after_read plan n s p found = record n {
+  settled = λ t q x. n.settled t q x || (is_final plan n s p && (nat_eq t s && nat_eq q p && same_set found x));
+}
+
+-- What a look at a task's word may find: no number below one that it noted; its own number.
+pub record IsWord (n : Notes) (t found : ℕ) : Type 0 where
+  pub noted : All (λ (e : NotedView). e.task ≡ t → e.number ≤ found) n.noted
+  pub own : n.bears ≡ Some t → found ≡ own_number n
 
 -- the root after another pass was joined to it: it takes over the places that the pass's task controls, and drops
 -- the pass's answered pairs
@@ -143,6 +220,9 @@ after_join plan n other = record n {
     closes = n.tally.closes + other.tally.closes;
   };
   out = λ u. n.out u && not (nat_eq u (bearer other));
+  numbers = λ u. if nat_eq u (bearer other) then other.numbers u else n.numbers u;
+  noted = other.noted ++ n.noted;
+  settled = λ s p x. n.settled s p x || other.settled s p x;
 }
 
 -- What a fetch may answer: the original, or a breakpoint under an odd tag; a tag that is not 0 is of a session over

@@ -54,7 +54,7 @@ is_lifted plan p c = nat_eq c.half (original_at plan p) && nat_eq (c.tag % 2) 1
 
 -- a party that has done and knows nothing
 abbrev pub blank : Role → View
-blank r = record { role = r; marked = []; full = []; free = []; lifted = []; seen = []; pending = None; answered = []; planted = []; given = []; joined = [] }
+blank r = record { role = r; marked = []; full = []; free = []; lifted = []; seen = []; pending = None; answered = []; planted = []; given = []; joined = []; numbers = []; noted = []; settled = [] }
 
 -- A fetch at place p found the cell.
 abbrev pub fetching : PlanView → ℕ → Cell → View → View
@@ -109,4 +109,19 @@ joining plan v o = let t : ℕ = role_task o.role in record v {
   seen = o.seen ++ v.seen;
   planted = chosen (is_controller plan t) o.planted ++ chosen (λ p. not (is_controller plan t p)) v.planted;
   joined = t ∷ v.joined;
+  numbers = chosen (λ u. nat_eq u t) o.numbers ++ chosen (λ u. not (nat_eq u t)) v.numbers;
+  noted = o.noted ++ v.noted;
+  settled = o.settled ++ v.settled;
 }
+
+-- A boundary of task t gave its word the number.
+abbrev pub bounding : ℕ → ℕ → View → View
+bounding t n v = record v { pending = None; numbers = (t, n) ∷ v.numbers }
+
+-- A look at the word of task t found the number.
+abbrev pub noting : ℕ → ℕ → View → View
+noting t n v = record v { noted = (t, n, v.seen) ∷ v.noted }
+
+-- A look at the set of session s at place p found the set, and it is final, or that isn't known.
+abbrev pub reading : ℕ → ℕ → Bool → FactSet → View → View
+reading s p final found v = record v { settled = add_if final (s, p, found) v.settled }

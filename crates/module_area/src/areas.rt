@@ -2,21 +2,21 @@
 ghost use Rattle.std.specs.Prelude.{◌≡◌, ℕ, ◌+◌, ◌<◌, ◌^◌, List, [], false, ◌∷◌, ◌++◌, length, IfOk, OnErr};
 ghost use Rattle.std.specs.declared.option.Option.TheVariants.{Some, None};
 ghost use Rattle.module_area.specs.declared.tallies.Tally.{Tally};
-ghost use Rattle.module_area.specs.FinalsView.{FinalsView};
+ghost use Rattle.module_area.specs.FinalsView.{FinalsView, set_at};
 ghost use Rattle.module_area.specs.Notes.{Notes, root_notes};
-ghost use Rattle.module_area.specs.Ended.{HasSets, HasTally};
+ghost use Rattle.module_area.specs.Ended.{AreSettled, HasSets, HasTally};
 
 use crate::finals::Finals;
 use crate::plan::Plan;
 use crate::tallies::Tally;
-use crate::traits::{Cells, Forks};
+use crate::traits::{Cells, Drains};
 use cov_base::NoMemory;
 use std::alloc::Global;
 
 /// Makes areas and finishes them, and keeps what each finished one tells.
 pub trait Areas {
     /// The cells of an area, which threads share, each with a pass that was sent to it.
-    type C: Forks<Pass: Send> + Sync + Drop;
+    type C: Drains<Pass: Send> + Sync + Drop;
 
     /// The tallies of the areas that were finished, in order.
     ghost ledger: { Self → List Tally };
@@ -42,8 +42,8 @@ pub trait Areas {
         ensures plan { IfOk result (λ a. Self.C.plan a.0 ≡ plan.now) }
         ensures root { IfOk result (λ a. Self.C.notes a.1 ≡ root_notes) };
 
-    /// Ends the area: the sets that the root and the passes that were joined to it have marked. Where memory is
-    /// wanting the area is gone and both lists are as before.
+    /// Ends the area: the sets that the root and the passes that were joined to it have marked; those that they knew as
+    /// final are as they knew them. Where memory is wanting the area is gone and both lists are as before.
     fn finish(
         &mut self,
         alloc: Global,
@@ -55,6 +55,7 @@ pub trait Areas {
         requires joined { (t : ℕ) → (Self.C.notes pass).out t ≡ false }
         ensures made { made self.new ≡ made self.old }
         ensures sets { IfOk result (HasSets (Self.C.plan cells) (Self.C.notes pass)) }
+        ensures settled { IfOk result (λ f. AreSettled (Self.C.plan cells) (Self.C.notes pass) (set_at f)) }
         ensures tally { IfOk result (HasTally (Self.C.plan cells) (Self.C.notes pass)) }
         ensures ledger { IfOk result (λ _. ledger self.new ≡ ledger self.old ++ (Self.C.notes pass).tally ∷ []) }
         ensures finals { IfOk result (λ f. finals self.new ≡ finals self.old ++ f ∷ []) }

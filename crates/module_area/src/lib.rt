@@ -22,4 +22,4 @@ pub use parties::{Role, View};
 pub use places::Place;
 pub use plan::{Controlled, Plan};
 pub use tallies::Tally;
-pub use traits::{Cells, Forks};
+pub use traits::{Cells, Drains, Forks};

@@ -1,7 +1,7 @@
 //! What a party has done and knows, as the rule of an area tells it. It exists in proofs alone.
 
 use crate::cells::Cell;
-use cov_base::Fact;
+use cov_base::{Bits, Fact};
 use std::collections::LinkedList;
 
 /// The root, which is the planter of a core; the pass of a task, or the task of a core; or a pass that was joined.
@@ -33,4 +33,10 @@ pub struct View {
     /// For the root: the tasks that were given out, and those of them that have come back.
     pub given: LinkedList<u64>,
     pub joined: LinkedList<u64>,
+    /// Task and number of each boundary, the last first; for the root those of the tasks that have come back.
+    pub numbers: LinkedList<(u64, u64)>,
+    /// Task and number of each look at a task's word, with what it had seen then, the last first.
+    pub noted: LinkedList<(u64, u64, LinkedList<(u64, u64)>)>,
+    /// Session, place and set, where it knows the set as final.
+    pub settled: LinkedList<(u64, u64, Bits)>,
 }

@@ -1,9 +1,10 @@
 //! The cells of an area: each call is one step on one word.
 ghost use Rattle.std.specs.Prelude.{◌≡◌, ℕ, ◌+◌, ◌-◌, ◌*◌, ◌<◌, ◌≤◌, ◌^◌, length, true, false, IsSome};
 ghost use Rattle.std.specs.declared.option.Option.TheVariants.{Some, None};
+ghost use Rattle.cov_base.specs.FactSet.{FactSet};
 ghost use Rattle.cov_base.specs.Facts.{is_of_kind};
 ghost use Rattle.module_area.specs.PlanView.{PlanView, kind_at, has_task, is_over, is_controlled};
-ghost use Rattle.module_area.specs.Notes.{Notes, calls, after_fetch, after_mark, after_lift, after_plant, after_close, after_split, split_notes, after_join, bearer, is_working, keeps, IsAnswer, IsFound};
+ghost use Rattle.module_area.specs.Notes.{Notes, calls, after_fetch, after_mark, after_lift, after_plant, after_close, after_split, split_notes, after_join, bearer, own_number, is_working, keeps, after_boundary, after_note, after_read, IsAnswer, IsFound, IsWord};
 
 use crate::cells::Cell;
 use cov_base::{Bits, Fact, PlaceNo, SessNo, TaskNo};
@@ -113,4 +114,37 @@ pub trait Forks: Cells {
         requires room { calls (Self.notes root.old) + calls (Self.notes other) ≤ 2 ^ 62 }
         ensures area { Self.is_pass self.now root.new }
         ensures notes { Self.notes root.new ≡ after_join (Self.plan self.now) (Self.notes root.old) (Self.notes other) };
+}
+
+/// Cells with a number for each task, by which a pass learns that no other task can still mark for a session that it has
+/// closed. The number is 0 before the task runs, rises by 2 at each boundary, and is odd once the task has ended.
+pub trait Drains: Forks {
+    /// The pass's task has ended an instruction, or its run: its number rises by 2, or by 1, and what the pass fetched
+    /// last can no longer be marked. After its run's end the pass doesn't fetch.
+    fn boundary(&self, pass: &mut Self::Pass, ended: bool)
+        requires area { Self.is_pass self.now pass.old }
+        requires working { is_working (Self.notes pass.old) ≡ true }
+        requires room { own_number (Self.notes pass.old) < 2 ^ 62 }
+        ensures area { Self.is_pass self.now pass.new }
+        ensures notes { Self.notes pass.new ≡ after_boundary (Self.notes pass.old) ended };
+
+    /// The number of a task of the plan as it stands: no lower than the pass has noted it, and for its own task its own.
+    fn note(&self, pass: &mut Self::Pass, task: TaskNo) -> u64
+        requires area { Self.is_pass self.now pass.old }
+        requires task { has_task (Self.plan self.now).tasks task.0 ≡ true }
+        ensures area { Self.is_pass self.now pass.new }
+        ensures word { IsWord (Self.notes pass.old) task.0 result }
+        ensures notes { Self.notes pass.new ≡ after_note (Self.notes pass.old) task.0 result };
+
+    /// The set of the session at the place as it stands. It is the session's final one where the pass knows the session
+    /// over there, and knows each other task of the plan past it.
+    fn read_set(&self, pass: &mut Self::Pass, s: SessNo, place: PlaceNo) -> Bits
+        requires area { Self.is_pass self.now pass.old }
+        requires place { place.0 < length (Self.plan self.now).places }
+        requires session { 0 < s.0 }
+        requires of_plan { s.0 ≤ (Self.plan self.now).sessions }
+        ensures area { Self.is_pass self.now pass.new }
+        ensures found { IsFound (Self.plan self.now) (Self.notes pass.old) s.0 place.0 result }
+        ensures settled { (x : FactSet) → (Self.notes pass.old).settled s.0 place.0 x ≡ true → result ≡ x }
+        ensures notes { Self.notes pass.new ≡ after_read (Self.plan self.now) (Self.notes pass.old) s.0 place.0 result };
 }

@@ -1,4 +1,5 @@
 pub mod Conditions
+pub mod Counts
 pub mod FirstRows
 pub mod Report
 pub mod Sessions

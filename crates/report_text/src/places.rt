@@ -53,7 +53,7 @@ fn place_line(location: u32, place: &Place) -> ArrayVec<u8, 160>
 
 /// A module's name and the number of its places.
 #[tactic(auto, unfolding(crate::specs::Table::module_line))]
-fn module_line(name: &Name, count: u32) -> ArrayVec<u8, 160>
+pub(crate) fn module_line(name: &Name, count: u32) -> ArrayVec<u8, 160>
     ensures { result.items ≡ module_line name.now count ++ 10 ∷ [] }
 {
     let mut line = ArrayVec::new();

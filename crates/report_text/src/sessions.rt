@@ -29,7 +29,7 @@ use session_book::{FactSets, Job};
 
 /// The names of a session and of its phase.
 #[tactic(auto, unfolding(crate::specs::Sessions::session_line))]
-fn session_line(name: &Name, phase: &Name) -> ArrayVec<u8, 160>
+pub(crate) fn session_line(name: &Name, phase: &Name) -> ArrayVec<u8, 160>
     ensures { result.items ≡ session_line name.now phase.now ++ 10 ∷ [] }
 {
     let mut line = ArrayVec::new();
@@ -366,7 +366,7 @@ fn modules_text<K: Sink, R: FactSets>(
 }
 
 /// A phase's name.
-fn phase_name(job: &Job, n: u32) -> &Name
+pub(crate) fn phase_name(job: &Job, n: u32) -> &Name
     requires { n < length job.now.phases }
     ensures { result.now ≡ get_or job.now.phases n [] }
 {

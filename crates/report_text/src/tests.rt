@@ -1,13 +1,16 @@
-//! Private storage of more than one block.
-ghost use Rattle.std.specs.Prelude.{◌≡◌, ℕ, ◌+◌, ◌≤◌, None, [], length, All, IfOk};
+//! Private storage of more than one block, and lines of counts.
+ghost use Rattle.std.specs.Prelude.{◌≡◌, ℕ, ◌+◌, ◌≤◌, if◌then◌else◌, None, [], length, All, IfOk};
+ghost use Rattle.cov_base.specs.Facts.{same_fact};
+ghost use Rattle.cov_base.specs.declared.facts.Fact.TheVariants.{Stayed};
 ghost use Rattle.report_text.specs.FirstRows.{FitsIn};
 
+use super::counts::count_line;
 use super::storage::storage_part;
-use cov_base::{Addr, Name, TaskNo};
+use cov_base::{Addr, Fact, Kind, Name, PlaceNo, SessNo, TaskNo};
 use cov_outside::MemSink;
 use module_area::DataCard;
 use s370_state::{Cpu, Ending};
-use session_book::{Results, TaskCard};
+use session_book::{FactCounts, Results, TaskCard};
 use std::alloc::Global;
 use std::test::Fail;
 
@@ -152,5 +155,55 @@ fn a_byte_that_a_later_card_set_back(rt: HostRuntime) -> Result<(), Fail> {
     let want =
         b"STOR 00FFF0 000000000000000000000102030405A2\nSTOR 010000 07A4090A0B0C00000000000000000000\n";
     assert_eq!(rt; lines(alloc, bytes)?.as_slice(), want.as_slice());
+    Ok(())
+}
+
+/// The same counts in each session and at each place: of Ran and Went, and of Stayed.
+#[derive(Drop)]
+struct SameCounts {
+    first: u64,
+    stayed: u64,
+}
+
+impl FactCounts for SameCounts {
+    ghost sessions = { λ _. 1 };
+
+    ghost places = { λ _. 1 };
+
+    ghost count_of = { λ c _ _ f. if same_fact f Stayed then c.stayed else c.first };
+
+    fn count(&self, _s: SessNo, _p: PlaceNo, fact: Fact) -> u64 {
+        match fact {
+            Fact::Ran | Fact::Went => self.first,
+            Fact::Stayed => self.stayed,
+        }
+    }
+}
+
+/// Location and kind of a place, how often it ran or branched and how often it fell through, and its line.
+static COUNTS: [(u32, Kind, u64, u64, &str); 8] = [
+    (0, Kind::Conditional, 2, 1, "COUNT 000000 2 1\n"),
+    (4, Kind::Straight, 1, 7, "COUNT 000004 1\n"),
+    (0, Kind::Straight, 2, 7, "COUNT 000000 2\n"),
+    (2, Kind::Conditional, 1, 1, "COUNT 000002 1 1\n"),
+    (6, Kind::Straight, 1, 7, "COUNT 000006 1\n"),
+    (8, Kind::Straight, 2, 7, "COUNT 000008 2\n"),
+    (0xABCDE, Kind::Straight, 0, 7, "COUNT 0ABCDE 0\n"),
+    (
+        0xFFFFFE,
+        Kind::Conditional,
+        18_446_744_073_709_551_615,
+        18_446_744_073_709_551_614,
+        "COUNT FFFFFE 18446744073709551615 18446744073709551614\n",
+    ),
+];
+
+#[test]
+fn lines_of_counts(rt: HostRuntime) -> Result<(), Fail> {
+    for (location, kind, first, stayed, text) in COUNTS {
+        let counts = SameCounts { first, stayed };
+        let line = count_line(location % 0x100_0000, kind, &counts, SessNo(1), PlaceNo(0));
+        assert_eq!(rt; line.as_slice(), text.as_bytes());
+    }
     Ok(())
 }

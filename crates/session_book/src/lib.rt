@@ -9,4 +9,4 @@ mod results;
 pub use beginning::{Begun, begin};
 pub use job::{Job, Session, TaskCard};
 pub use plans::plan_of;
-pub use results::{FactSets, Results};
+pub use results::{FactCounts, FactSets, Results};

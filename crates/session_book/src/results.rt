@@ -1,9 +1,10 @@
 //! What a report is made of: the tasks' results, and the sessions' sets.
 ghost use Rattle.std.specs.Prelude.{◌≡◌, ℕ, ◌+◌, ◌*◌, ◌<◌, length, slice_range, min};
 ghost use Rattle.cov_base.specs.FactSet.{FactSet};
+ghost use Rattle.cov_base.specs.declared.facts.Fact.{Fact};
 ghost use Rattle.session_book.specs.Results.{ResultView};
 
-use cov_base::{Bits, PlaceNo, SessNo, TaskNo};
+use cov_base::{Bits, Fact, PlaceNo, SessNo, TaskNo};
 use s370_state::{Cpu, Ending};
 
 /// The results of a job's tasks. Each call needs the number of a task of the job.
@@ -57,4 +58,23 @@ pub trait FactSets {
         requires session { s.0 < sessions self.now + 1 }
         requires place { p.0 < places self.now }
         ensures { result ≡ set_of self.now s.0 p.0 };
+}
+
+/// How often the executions of a job's sessions gave each fact at the places of its tables. The call needs existing
+/// numbers.
+pub trait FactCounts {
+    /// How many sessions there are, and how many places.
+    ghost sessions: { Self → ℕ };
+
+    ghost places: { Self → ℕ };
+
+    /// The count of each session of each fact at each place.
+    ghost count_of: { Self → ℕ → ℕ → Fact → ℕ };
+
+    /// How often the session's executions gave the fact at the place.
+    fn count(&self, s: SessNo, p: PlaceNo, fact: Fact) -> u64
+        requires some { 0 < s.0 }
+        requires session { s.0 < sessions self.now + 1 }
+        requires place { p.0 < places self.now }
+        ensures { result ≡ count_of self.now s.0 p.0 fact };
 }

@@ -1,5 +1,5 @@
 -- What the calls of an area ask of its table, and what the steps' tellings come to.
-use Rattle.std.proofs.Common.{◌≡◌, ◌≢◌, ℕ, ◌+◌, ◌*◌, ◌^◌, ◌<◌, ◌≤◌, Bool, true, false, eqb, List, length, sym, refl, ap, ◌∙◌, subst, arith, bit_or, if◌then◌else◌, IsSome}
+use Rattle.std.proofs.Common.{◌≡◌, ◌≢◌, ℕ, ◌+◌, ◌*◌, ◌%◌, ◌^◌, ◌<◌, ◌≤◌, Bool, true, false, ◌&&◌, nat_eq, is_some, unwrap_or, eqb, eqb-true, List, length, sym, refl, ap, ◌∙◌, subst, arith, bit_or, if◌then◌else◌, IsSome}
 use prog.Atomic.{either}
 use Rattle.atomic_table.specs.Table.{Allows}
 use Rattle.atomic_table.specs.declared.shared.Seat.{Seat}
@@ -9,17 +9,20 @@ use Rattle.cov_base.specs.Codes.{breakpoint}
 use Rattle.module_area.specs.declared.parties.View.{View}
 use Rattle.module_area.specs.declared.parties.Role.{Role}
 use Rattle.module_area.specs.declared.parties.Role.TheVariants.{Root, Task, Spent}
-use Rattle.module_area.specs.PlanView.{PlanView, original_at, kind_at, is_over, is_controlled}
+use Rattle.module_area.specs.declared.tallies.Tally.{Tally}
+use Rattle.module_area.specs.PlanView.{PlanView, original_at, kind_at, has_task, is_over, is_controlled}
+use Rattle.module_area.specs.Notes.{own_number, is_working}
 use Rattle.module_area.specs.Parties.{Has, add_if, last_tag, window_tag, fetching, marking, lifting, tagging, giving, role_task}
 use Rattle.module_area.specs.Held.{Keeps}
 use Rattle.shared_area.specs.declared.rule.NoSlot.{NoSlot}
 use Rattle.shared_area.specs.declared.cells.SharedCells.{SharedCells}
-use Rattle.shared_area.specs.Words.{cell_of, word_of, closed_word_of, tag_in, session_in, bit_of, facts_of, set_word}
-use Rattle.shared_area.specs.Told.{is_given, bears_as}
-use Rattle.shared_area.specs.Rule.{IsArea, Fetched, MayMark, Marked, Looked, Lifted, Tagged}
-use Rattle.shared_area.proofs.WordLemmas.{session_in-word_of, tag_in-word_of, tag_in-closed_word_of, words_enough, words_some, set_word_within}
+use Rattle.shared_area.specs.Words.{cell_of, word_of, closed_word_of, tag_in, session_in, bit_of, facts_of, set_word, task_word, task_at}
+use Rattle.shared_area.specs.Told.{is_given, bears_as, notes_in}
+use Rattle.shared_area.specs.Rule.{IsArea, Fetched, MayMark, Marked, Looked, Lifted, Tagged, Bounded, WordNoted, SetRead}
+use Rattle.shared_area.proofs.WordLemmas.{session_in-word_of, tag_in-word_of, tag_in-closed_word_of, words_enough, words_some, cell_front, set_front, task_there, task_at-task_word}
 use Rattle.shared_area.proofs.NoteLemmas.{more_given}
-use Rattle.shared_area.proofs.TableLemmas.{fetch_allowed, mark_allowed, look_allowed, lift_allowed, plant_allowed, close_allowed}
+use Rattle.shared_area.proofs.FrontLemmas.{fetch_stands, mark_stands, look_stands, lift_stands, plant_stands, close_stands}
+use Rattle.shared_area.proofs.TaskLemmas.{note_stands, bound_stands, read_stands}
 
 -- ---- what a pass keeps
 pub record IsLive (marks lifts : ℕ) (v : View) : Type 0 where
@@ -54,23 +57,36 @@ is_task (Task t) h = refl
 is_task Root h = absurd cc
 is_task Spent h = absurd cc
 
+working_as : (v : View) (q : Role) → (is_some (bears_as q) && nat_eq (last_tag (unwrap_or (bears_as q) 0) v.numbers % 2) 0) ≡ true → (t : ℕ) × (q ≡ Task t) × (last_tag t v.numbers % 2 ≢ 1)
+working_as v (Task t) h = (t, refl, λ odd. let z = eqb-true (last_tag t v.numbers % 2) 0 h in absurd (omega (arith, z, odd)))
+working_as v Root h = absurd cc
+working_as v Spent h = absurd cc
+
+-- a working pass is a task's that has not ended
+pub working_task : (v : View) (tally : Tally) → is_working (notes_in v tally) ≡ true → (t : ℕ) × (v.role ≡ Task t) × (last_tag t v.numbers % 2 ≢ 1)
+working_task v tally h = working_as v v.role h
+
+-- its own number is that of its last boundary
+pub own_is : (v : View) (tally : Tally) (t : ℕ) → v.role ≡ Task t → own_number (notes_in v tally) ≡ last_tag t v.numbers
+own_is v tally t bears = ap (λ r. last_tag (unwrap_or (bears_as r) 0) v.numbers) bears
+
 module _ (me : SharedCells) where
   abbrev Key : PlanView
   Key = me.table.shared.key.value
 
   pub some_word : 0 < me.table.shared.table_id.words
-  some_word = let a = words_some (length me.plan.places) me.plan.sessions in let w = me.wide in omega arith
+  some_word = let a = words_some me.plan in let w = me.wide in omega arith
 
   pub cell_there : (p : ℕ) → p < length me.plan.places → p < me.table.shared.table_id.words
-  cell_there p l = let a = words_enough (length me.plan.places) me.plan.sessions in let w = me.wide in omega arith
+  cell_there p l = let a = words_enough me.plan in let b = cell_front me.plan p l in let w = me.wide in omega (arith, a, b, w)
 
   set_there : (s p i : ℕ) → 0 < s → s ≤ me.plan.sessions → p < length me.plan.places → i ≡ set_word (length me.plan.places) s p → i < me.table.shared.table_id.words
-  set_there s p i pos ls l e = let a = set_word_within (length me.plan.places) me.plan.sessions s p pos ls l in let w = me.wide in omega arith
+  set_there s p i pos ls l e = let a = set_front me.plan s p pos ls l in let b = words_enough me.plan in let w = me.wide in omega (arith, a, b, w, e)
 
-  pub fetch_at : (seat : Seat NoSlot View) (p : ℕ) → seat.me.0.role ≢ Spent → p < length me.plan.places
+  pub fetch_at : (seat : Seat NoSlot View) (p t : ℕ) → seat.me.0.role ≡ Task t → last_tag t seat.me.0.numbers % 2 ≢ 1 → seat.me.0.role ≢ Spent → p < length me.plan.places
       → Allows (IsArea me.table.shared.key.value) me.table.shared.table_id.slots seat.id seat.me p (λ w. w) (λ w m. Fetched me.table.shared.key.value p seat.me.0 w m.0 × (m.1 ≡ seat.me.1))
-  fetch_at seat p live l = subst (λ (q : PlanView). Allows (IsArea q) me.table.shared.table_id.slots seat.id seat.me p (λ w. w) (λ w m. Fetched q p seat.me.0 w m.0 × (m.1 ≡ seat.me.1))) (sym me.keyed)
-      (fetch_allowed me.plan me.table.shared.table_id.slots seat.id p seat.me live l)
+  fetch_at seat p t bears even live l = subst (λ (q : PlanView). Allows (IsArea q) me.table.shared.table_id.slots seat.id seat.me p (λ w. w) (λ w m. Fetched q p seat.me.0 w m.0 × (m.1 ≡ seat.me.1))) (sym me.keyed)
+      (fetch_stands me.plan me.table.shared.table_id.slots seat.id p t seat.me bears even live l)
 
   pub fetched_is : (v v' : View) (p w : ℕ) → Fetched me.table.shared.key.value p v w v' → Fetched me.plan p v w v'
   fetched_is v v' p w h = subst (λ (q : PlanView). Fetched q p v w v') me.keyed h
@@ -83,12 +99,12 @@ module _ (me : SharedCells) where
 
     pub look_at : Allows (IsArea me.table.shared.key.value) me.table.shared.table_id.slots seat.id seat.me i (λ x. x) (λ w m. Looked plan t q g seat.me.0 (facts_of (kind_at plan q) q w) m.0 × (m.1 ≡ seat.me.1))
     look_at = subst (λ (z : PlanView × ℕ × PlanView × ℕ × ℕ × Fact). Allows (IsArea z.0) me.table.shared.table_id.slots seat.id seat.me z.1 (λ x. x) (λ w m. Looked z.2 z.3 z.4 z.5 seat.me.0 (facts_of (kind_at z.2 z.4) z.4 w) m.0 × (m.1 ≡ seat.me.1)))
-        (λ j. (sym me.keyed j, sym at j, sym picked.0 j, sym picked.1 j, sym picked.2 j, sym picked.3 j)) (look_allowed me.plan me.table.shared.table_id.slots seat.id s p f seat.me may)
+        (λ j. (sym me.keyed j, sym at j, sym picked.0 j, sym picked.1 j, sym picked.2 j, sym picked.3 j)) (look_stands me.plan me.table.shared.table_id.slots seat.id s p f seat.me may)
 
     pub mark_at : (k : ℕ) → k ≡ 2 ^ bit_of p f
         → Allows (IsArea me.table.shared.key.value) me.table.shared.table_id.slots seat.id seat.me i (λ x. bit_or x k) (λ w m. Marked plan t q g seat.me.0 (facts_of (kind_at plan q) q w) m.0 × (m.1 ≡ seat.me.1))
     mark_at k bit = subst (λ (z : PlanView × ℕ × ℕ × PlanView × ℕ × ℕ × Fact). Allows (IsArea z.0) me.table.shared.table_id.slots seat.id seat.me z.1 (λ x. bit_or x z.2) (λ w m. Marked z.3 z.4 z.5 z.6 seat.me.0 (facts_of (kind_at z.3 z.5) z.5 w) m.0 × (m.1 ≡ seat.me.1)))
-        (λ j. (sym me.keyed j, sym at j, sym bit j, sym picked.0 j, sym picked.1 j, sym picked.2 j, sym picked.3 j)) (mark_allowed me.plan me.table.shared.table_id.slots seat.id s p f seat.me may)
+        (λ j. (sym me.keyed j, sym at j, sym bit j, sym picked.0 j, sym picked.1 j, sym picked.2 j, sym picked.3 j)) (mark_stands me.plan me.table.shared.table_id.slots seat.id s p f seat.me may)
 
   pub lift_at : (seat : Seat NoSlot View) (s p old new : ℕ) → original_at me.plan p < 65536 → seat.me.0.role ≢ Spent → p < length me.plan.places → 0 < s → Has (s, p) seat.me.0.full → old ≡ word_of s breakpoint → new ≡ word_of s (original_at me.plan p)
       → Allows (IsArea me.table.shared.key.value) me.table.shared.table_id.slots seat.id seat.me p (λ x. either (eqb x old) new x) (λ w m. Lifted (session_in old) p old seat.me.0 w m.0 × (m.1 ≡ seat.me.1))
@@ -96,7 +112,7 @@ module _ (me : SharedCells) where
       let F : PlanView → Type 0 = λ q. Allows (IsArea q) me.table.shared.table_id.slots seat.id seat.me p (λ x. either (eqb x old) new x) (λ w m. Lifted (session_in old) p old seat.me.0 w m.0 × (m.1 ≡ seat.me.1)) in
       let G : ℕ × ℕ × ℕ → Type 0 = λ z. Allows (IsArea me.plan) me.table.shared.table_id.slots seat.id seat.me p (λ x. either (eqb x z.0) z.1 x) (λ w m. Lifted z.2 p z.0 seat.me.0 w m.0 × (m.1 ≡ seat.me.1)) in
       let is_s : session_in old ≡ s = ap session_in eo ∙ session_in-word_of s breakpoint pos (omega arith) in
-      subst F (sym me.keyed) (subst G (λ j. (sym eo j, sym en j, sym is_s j)) (lift_allowed me.plan me.table.shared.table_id.slots seat.id s p seat.me small live l pos met))
+      subst F (sym me.keyed) (subst G (λ j. (sym eo j, sym en j, sym is_s j)) (lift_stands me.plan me.table.shared.table_id.slots seat.id s p seat.me small live l pos met))
 
   pub plant_at : (seat : Seat NoSlot View) (s p new : ℕ) → seat.me.0.role ≢ Spent → p < length me.plan.places → Keeps me.plan seat.me.0 p → 0 < s → is_over me.plan s p ≡ true → last_tag p seat.me.0.planted < window_tag s → new ≡ word_of s breakpoint
       → Allows (IsArea me.table.shared.key.value) me.table.shared.table_id.slots seat.id seat.me p (λ _. new) (λ w m. Tagged p (tag_in new) seat.me.0 m.0 × (m.1 ≡ seat.me.1))
@@ -104,7 +120,7 @@ module _ (me : SharedCells) where
       let F : PlanView → Type 0 = λ q. Allows (IsArea q) me.table.shared.table_id.slots seat.id seat.me p (λ _. new) (λ w m. Tagged p (tag_in new) seat.me.0 m.0 × (m.1 ≡ seat.me.1)) in
       let G : ℕ × ℕ → Type 0 = λ z. Allows (IsArea me.plan) me.table.shared.table_id.slots seat.id seat.me p (λ _. z.0) (λ w m. Tagged p z.1 seat.me.0 m.0 × (m.1 ≡ seat.me.1)) in
       let is_t : tag_in new ≡ window_tag s = ap tag_in en ∙ tag_in-word_of s breakpoint (omega arith) in
-      subst F (sym me.keyed) (subst G (λ j. (sym en j, sym is_t j)) (plant_allowed me.plan me.table.shared.table_id.slots seat.id s p seat.me live l keep pos over later))
+      subst F (sym me.keyed) (subst G (λ j. (sym en j, sym is_t j)) (plant_stands me.plan me.table.shared.table_id.slots seat.id s p seat.me live l keep pos over later))
 
   pub close_at : (seat : Seat NoSlot View) (s p new : ℕ) → original_at me.plan p < 65536 → seat.me.0.role ≢ Spent → p < length me.plan.places → Keeps me.plan seat.me.0 p → 0 < s → is_controlled me.plan s p ≡ true → last_tag p seat.me.0.planted ≡ window_tag s → new ≡ closed_word_of s (original_at me.plan p)
       → Allows (IsArea me.table.shared.key.value) me.table.shared.table_id.slots seat.id seat.me p (λ _. new) (λ w m. Tagged p (tag_in new) seat.me.0 m.0 × (m.1 ≡ seat.me.1))
@@ -112,7 +128,38 @@ module _ (me : SharedCells) where
       let F : PlanView → Type 0 = λ q. Allows (IsArea q) me.table.shared.table_id.slots seat.id seat.me p (λ _. new) (λ w m. Tagged p (tag_in new) seat.me.0 m.0 × (m.1 ≡ seat.me.1)) in
       let G : ℕ × ℕ → Type 0 = λ z. Allows (IsArea me.plan) me.table.shared.table_id.slots seat.id seat.me p (λ _. z.0) (λ w m. Tagged p z.1 seat.me.0 m.0 × (m.1 ≡ seat.me.1)) in
       let is_t : tag_in new ≡ 2 * s = ap tag_in en ∙ tag_in-closed_word_of s (original_at me.plan p) small in
-      subst F (sym me.keyed) (subst G (λ j. (sym en j, sym is_t j)) (close_allowed me.plan me.table.shared.table_id.slots seat.id s p seat.me small live l keep pos its is_open))
+      subst F (sym me.keyed) (subst G (λ j. (sym en j, sym is_t j)) (close_stands me.plan me.table.shared.table_id.slots seat.id s p seat.me small live l keep pos its is_open))
+
+  -- the step of a look at a set, by what the call picked: its plan, session and place
+  pub set_at : (seat : Seat NoSlot View) (s p i : ℕ) → seat.me.0.role ≢ Spent → p < length me.plan.places → 0 < s → s ≤ me.plan.sessions → i ≡ set_word (length me.plan.places) s p → (plan : PlanView) (t q : ℕ) → (plan ≡ me.plan) × (t ≡ s) × (q ≡ p)
+      → (i < me.table.shared.table_id.words) × Allows (IsArea me.table.shared.key.value) me.table.shared.table_id.slots seat.id seat.me i (λ x. x) (λ w m. SetRead plan t q seat.me.0 (facts_of (kind_at plan q) q w) m.0 × (m.1 ≡ seat.me.1))
+  set_at seat s p i live l pos ls at plan t q picked = (
+    set_there s p i pos ls l at,
+    subst (λ (z : PlanView × ℕ × PlanView × ℕ × ℕ). Allows (IsArea z.0) me.table.shared.table_id.slots seat.id seat.me z.1 (λ x. x) (λ w m. SetRead z.2 z.3 z.4 seat.me.0 (facts_of (kind_at z.2 z.4) z.4 w) m.0 × (m.1 ≡ seat.me.1)))
+        (λ j. (sym me.keyed j, sym at j, sym picked.0 j, sym picked.1 j, sym picked.2 j)) (read_stands me.plan me.table.shared.table_id.slots seat.id s p seat.me live l pos ls),
+  )
+
+  task_in : (t i : ℕ) → has_task me.plan.tasks t ≡ true → i ≡ task_word me.plan t → i < me.table.shared.table_id.words
+  task_in t i task e = let a = task_there me.plan t task in let b = words_enough me.plan in let w = me.wide in omega (arith, a, b, w, e)
+
+  pub note_at : (seat : Seat NoSlot View) (t i : ℕ) → seat.me.0.role ≢ Spent → has_task me.plan.tasks t ≡ true → i ≡ task_word me.plan t
+      → (i < me.table.shared.table_id.words) × Allows (IsArea me.table.shared.key.value) me.table.shared.table_id.slots seat.id seat.me i (λ x. x) (λ w m. WordNoted (task_at me.table.shared.key.value i) seat.me.0 w m.0 × (m.1 ≡ seat.me.1))
+  note_at seat t i live task at = let is_t : task_at me.plan i ≡ t = ap (task_at me.plan) at ∙ task_at-task_word me.plan t task in (
+    task_in t i task at,
+    subst (λ (q : PlanView). Allows (IsArea q) me.table.shared.table_id.slots seat.id seat.me i (λ x. x) (λ w m. WordNoted (task_at q i) seat.me.0 w m.0 × (m.1 ≡ seat.me.1))) (sym me.keyed)
+        (subst (λ (z : ℕ × ℕ). Allows (IsArea me.plan) me.table.shared.table_id.slots seat.id seat.me z.0 (λ x. x) (λ w m. WordNoted z.1 seat.me.0 w m.0 × (m.1 ≡ seat.me.1))) (λ j. (sym at j, sym is_t j)) (note_stands me.plan me.table.shared.table_id.slots seat.id t seat.me live task)),
+  )
+
+  pub noted_is : (v v' : View) (t i w : ℕ) → has_task me.plan.tasks t ≡ true → i ≡ task_word me.plan t → WordNoted (task_at me.table.shared.key.value i) v w v' → WordNoted t v w v'
+  noted_is v v' t i w task at h = subst (λ z. WordNoted z v w v') (ap (λ (q : PlanView). task_at q i) me.keyed ∙ (ap (task_at me.plan) at ∙ task_at-task_word me.plan t task)) h
+
+  pub bound_at : (seat : Seat NoSlot View) (t k i : ℕ) → seat.me.0.role ≡ Task t → seat.me.0.role ≢ Spent → has_task me.plan.tasks t ≡ true → i ≡ task_word me.plan t → last_tag t seat.me.0.numbers + k < 18446744073709551616
+      → (i < me.table.shared.table_id.words) × Allows (IsArea me.table.shared.key.value) me.table.shared.table_id.slots seat.id seat.me i (λ w. (w + k) % 18446744073709551616) (λ w m. Bounded k seat.me.0 w m.0 × (m.1 ≡ seat.me.1))
+  bound_at seat t k i bears live task at small = (
+    task_in t i task at,
+    subst (λ (z : PlanView × ℕ). Allows (IsArea z.0) me.table.shared.table_id.slots seat.id seat.me z.1 (λ w. (w + k) % 18446744073709551616) (λ w m. Bounded k seat.me.0 w m.0 × (m.1 ≡ seat.me.1)))
+        (λ j. (sym me.keyed j, sym at j)) (bound_stands me.plan me.table.shared.table_id.slots seat.id t k seat.me bears live task small),
+  )
 
 pub lifted_is : (v v' : View) (s p old w : ℕ) → 0 < s → old ≡ word_of s breakpoint → Lifted (session_in old) p old v w v' → Lifted s p old v w v'
 lifted_is v v' s p old w pos eo h = subst (λ z. Lifted z p old v w v') (ap session_in eo ∙ session_in-word_of s breakpoint pos (omega arith)) h

@@ -1,13 +1,15 @@
 -- What the words of a closed area say.
-use Rattle.std.proofs.Common.{◌≡◌, ℕ, zero, suc, ◌+◌, ◌-◌, ◌*◌, ◌/◌, ◌%◌, ◌<◌, ◌≤◌, Bool, true, false, not, ◌&&◌, nat_lt, List, [], ◌∷◌, map, length, get_or, sym, refl, ap, ◌∙◌, subst, inl, inr, arith, mod-lt}
+use Rattle.std.proofs.Common.{◌≡◌, ℕ, zero, suc, ◌+◌, ◌-◌, ◌*◌, ◌/◌, ◌%◌, ◌<◌, ◌≤◌, Bool, true, false, not, ◌&&◌, nat_lt, List, [], ◌∷◌, map, length, get_or, sym, refl, ap, ◌∙◌, subst, inl, inr, arith, mod-lt, lt_of_not-le}
 use mathlib.Core.Logic.{dite}
-use native.Mathlib.Decide.{ℕ_discrete}
+use native.Mathlib.Decide.{ℕ_discrete, dec_le}
 use mathlib.Core.Option.{some}
 use lib.ListN.{get_elem?}
-use Rattle.std.proofs.lemmas.List.{length-map}
+use Rattle.std.proofs.Math.Nat.{mul-le-mul_right}
+use Rattle.std.proofs.lemmas.List.{get_or-take, length-map}
 use Rattle.std.proofs.lemmas.Nat.{div-add-mod', div-mul-add, mod-mul-add}
 use Rattle.atomic_table.specs.Table.{State, Final, Seen}
 use Rattle.cov_base.specs.declared.facts.Fact.{Fact}
+use Rattle.cov_base.specs.FactSet.{FactSet}
 use Rattle.cov_base.specs.Facts.{has_fact, is_full, is_within, no_facts}
 use Rattle.module_area.specs.declared.parties.View.{View}
 use Rattle.module_area.specs.declared.parties.Role.TheVariants.{Root}
@@ -16,15 +18,17 @@ use Rattle.module_area.specs.PlanView.{PlanView, kind_at, window_at}
 use Rattle.module_area.specs.Parties.{Has}
 use Rattle.module_area.specs.FinalsView.{FinalsView, set_at}
 use Rattle.module_area.specs.Held.{Held}
-use Rattle.module_area.specs.Ended.{HasSets, HasTally}
+use Rattle.module_area.specs.Drained.{Drained}
+use Rattle.module_area.specs.Ended.{AreSettled, HasSets, HasTally}
 use Rattle.module_area.proofs.Indices.{index_below, same_tests}
 use Rattle.module_area.proofs.CountLemmas.{count_same}
 use Rattle.shared_area.specs.declared.rule.NoSlot.{NoSlot}
-use Rattle.shared_area.specs.Words.{cells_in, sets_in}
+use Rattle.shared_area.specs.Words.{facts_of, set_word, base_of, front, cells_in, sets_in, numbers_in}
 use Rattle.shared_area.specs.Begin.{AreSets}
 use Rattle.shared_area.specs.Told.{has_mark, has_number, notes_in}
 use Rattle.shared_area.specs.Rule.{IsArea}
-use Rattle.shared_area.proofs.NoteLemmas.{mark_there, mark_shown, pair_there, pair_shown, number_there, number_shown}
+use Rattle.shared_area.proofs.NoteLemmas.{settled_there, mark_there, mark_shown, pair_there, pair_shown, number_there, number_shown}
+use Rattle.shared_area.proofs.WordLemmas.{set_front}
 use Rattle.shared_area.proofs.AnswerLemmas.{set_within, founds}
 use Rattle.shared_area.proofs.SumLemmas.{facts_by_marks, pairs_same}
 use Rattle.shared_area.proofs.EndLemmas.{end_marks, end_over, end_planted, lifts_least, lifts_most}
@@ -46,6 +50,14 @@ has_map n x (y ∷ ys) (inr h) = inr (has_map n x ys h)
 decoded : (n i : ℕ) → (i / n + 1 - 1) * n + i % n ≡ i
 decoded n i = let d = div-add-mod' i n in let z : (i / n + 1 - 1) * n ≡ i / n * n = ap (λ k. k * n) (let q : i / n + 1 - 1 ≡ i / n = omega arith in q) in omega (arith, d, z)
 
+positive : (n m i : ℕ) → i < m * n → 0 < n
+positive zero m i h = absurd (omega arith)
+positive (suc n) m i h = omega arith
+
+session_below : (n m i : ℕ) → i < m * n → i / n + 1 ≤ m
+session_below n m i h = dite (dec_le (i / n + 1) m) (λ y. y)
+    (λ no. let high = lt_of_not-le no in let d = div-add-mod' i n in let most : m * n ≤ i / n * n = mul-le-mul_right n (omega (arith, high)) in absurd (omega (arith, d, most, h)))
+
 -- the sets that an area ends with, as they were read off its words
 module _ (plan : PlanView) (words : List ℕ) (finals : FinalsView) (places : finals.places ≡ length plan.places) (size : length finals.sets ≡ plan.sessions * length plan.places) (read : AreSets plan words finals.sets) where
   set_is : (s p : ℕ) → 0 < s → s ≤ plan.sessions → p < length plan.places → set_at finals s p ≡ sets_in plan words s p
@@ -53,7 +65,13 @@ module _ (plan : PlanView) (words : List ℕ) (finals : FinalsView) (places : fi
       let is_s : i / n + 1 ≡ s = omega arith in
       ap (λ k. get_or finals.sets ((s - 1) * k + p) no_facts) places ∙ (read i (omega arith) ∙ (λ j. sets_in plan words (is_s j) (mod-mul-add (s - 1) n p l j)))
 
-module _ (plan : PlanView) (id : ℕ) (v : View) (tally : Tally) (words : List ℕ) (slots : List NoSlot) (finals : FinalsView) (root : v.role ≡ Root) (out : (t : ℕ) → (notes_in v tally).out t ≡ false)
+-- they stand before the tasks' words
+front_sets : (plan : PlanView) (words : List ℕ) (sets : List FactSet) → length sets ≡ plan.sessions * length plan.places → AreSets plan words sets → AreSets plan (front plan words) sets
+front_sets plan words sets size read i l = let n : ℕ = length plan.places in let some_place = positive n plan.sessions i (omega (arith, size, l)) in
+    let inside = set_front plan (i / n + 1) (i % n) (omega arith) (session_below n plan.sessions i (omega (arith, size, l))) (mod-lt i some_place) in
+    read i l ∙ ap (facts_of (kind_at plan (i % n)) (i % n)) (sym (get_or-take (base_of plan) words (set_word n (i / n + 1) (i % n)) 0 inside))
+
+module _ (plan : PlanView) (id : ℕ) (v : View) (tally : Tally) (words : List ℕ) (finals : FinalsView) (root : v.role ≡ Root) (out : (t : ℕ) → (notes_in v tally).out t ≡ false)
     (counted : (tally.marks ≡ length v.marked) × (tally.lifts ≡ length v.lifted)) (places : finals.places ≡ length plan.places) (size : length finals.sets ≡ plan.sessions * length plan.places) (read : AreSets plan words finals.sets) where
   all : (t : ℕ) → Has t v.given → Has t v.joined
   all t h = number_there t v.joined (no_more_out (has_number t v.given) (has_number t v.joined) (out t) (number_shown t v.given h))
@@ -82,15 +100,8 @@ module _ (plan : PlanView) (id : ℕ) (v : View) (tally : Tally) (words : List �
     -- the mark that made a fact of the sets
     its_mark : (i : ℕ) (f : Fact) → i < length finals.sets → has_fact (get_or finals.sets i no_facts) f ≡ true → Has (i, f) (map (at_index (length plan.places)) v.marked)
     its_mark i f l h = let n : ℕ = length plan.places in let some_place : 0 < n = positive n plan.sessions i (omega arith) in
-        let mark = end_marks plan (cells_in words) (sets_in plan words) views r id v at root all (i / n + 1) (i % n) f (mod_below i n some_place) (omega arith) (subst (λ x. has_fact x f ≡ true) (read i l) h) in
+        let mark = end_marks plan (cells_in words) (sets_in plan words) views r id v at root all (i / n + 1) (i % n) f (mod-lt i some_place) (omega arith) (subst (λ x. has_fact x f ≡ true) (read i l) h) in
         subst (λ k. Has (k, f) (map (at_index n) v.marked)) (decoded n i) (has_map n (i / n + 1, i % n, f) v.marked mark)
-      where
-        positive : (n m i : ℕ) → i < m * n → 0 < n
-        positive zero m i h = absurd (omega arith)
-        positive (suc n) m i h = omega arith
-
-        mod_below : (i n : ℕ) → 0 < n → i % n < n
-        mod_below i n pos = mod-lt i pos
 
     ended_tally : HasTally plan (notes_in v tally) finals
     ended_tally = record {
@@ -110,7 +121,18 @@ module _ (plan : PlanView) (id : ℕ) (v : View) (tally : Tally) (words : List �
         no_window : {w : ℕ} → w ≡ 0 → nat_lt 0 w ≡ false
         no_window e = ap (λ k. nat_lt 0 k) e
 
-  pub ended : Final (Seen (IsArea plan) id v) words slots → HasSets plan (notes_in v tally) finals × HasTally plan (notes_in v tally) finals
-  ended h = let s : State NoSlot View = h.0 in let r : IsArea plan s = h.1.0 in
-      let held : Held plan (cells_in words) (sets_in plan words) s.views = subst (λ ws. Held plan (cells_in ws) (sets_in plan ws) s.views) h.2 r.held in
-      (ended_sets s.views held h.1.1, ended_tally s.views held h.1.1)
+    -- what the root knew as final stands so
+    ended_settled : (number : ℕ → ℕ) → Drained plan (cells_in words) (sets_in plan words) number views → AreSettled plan (notes_in v tally) (set_at finals)
+    ended_settled number drained t p x pos lt l known = set_of t p pos lt l ∙ (drained.settled id v t p x at (settled_there t p x v.settled known)).2.set
+
+-- the same, by the words that the area had
+module _ (plan : PlanView) (id : ℕ) (v : View) (tally : Tally) (words : List ℕ) (slots : List NoSlot) (finals : FinalsView) (root : v.role ≡ Root) (out : (t : ℕ) → (notes_in v tally).out t ≡ false)
+    (counted : (tally.marks ≡ length v.marked) × (tally.lifts ≡ length v.lifted)) (places : finals.places ≡ length plan.places) (size : length finals.sets ≡ plan.sessions * length plan.places) (read : AreSets plan words finals.sets) where
+  pub ended : Final (Seen (IsArea plan) id v) words slots → HasSets plan (notes_in v tally) finals × HasTally plan (notes_in v tally) finals × AreSettled plan (notes_in v tally) (set_at finals)
+  ended h = let s : State NoSlot View = h.0 in let r : IsArea plan s = h.1.0 in let F : List ℕ = front plan words in let shown = front_sets plan words finals.sets size read in
+      let held : Held plan (cells_in F) (sets_in plan F) s.views = subst (λ ws. Held plan (cells_in (front plan ws)) (sets_in plan (front plan ws)) s.views) h.2 r.held in
+      let drained : Drained plan (cells_in F) (sets_in plan F) (numbers_in plan words) s.views = subst (λ ws. Drained plan (cells_in (front plan ws)) (sets_in plan (front plan ws)) (numbers_in plan ws) s.views) h.2 r.drained in (
+        ended_sets plan id v tally F finals root out counted places size shown s.views held h.1.1,
+        ended_tally plan id v tally F finals root out counted places size shown s.views held h.1.1,
+        ended_settled plan id v tally F finals root out counted places size shown s.views held h.1.1 (numbers_in plan words) drained,
+      )

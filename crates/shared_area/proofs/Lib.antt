@@ -3,8 +3,11 @@ pub mod BeginLemmas
 pub mod CallLemmas
 pub mod CloseLemmas
 pub mod EndLemmas
+pub mod FrontLemmas
 pub mod NoteLemmas
+pub mod PastLemmas
 pub mod StayLemmas
 pub mod SumLemmas
 pub mod TableLemmas
+pub mod TaskLemmas
 pub mod WordLemmas

@@ -1,6 +1,7 @@
 -- The notes that a contract sees after each step.
 use Rattle.std.proofs.Common.{◌≡◌, ◌⊎◌, ℕ, ◌+◌, ◌*◌, ◌%◌, ◌≤◌, Bool, true, false, not, ◌&&◌, ◌||◌, nat_eq, if◌then◌else◌, List, [], ◌∷◌, ◌++◌, max, unwrap_or, sym, refl, ap, ◌∙◌, subst, inl, inr, ⊎_elim, arith, eqb-true, eq-eqb}
 use mathlib.Core.Path.{fun_ext}
+use Rattle.std.proofs.lemmas.List.{map-append}
 use Rattle.cov_base.specs.declared.facts.Fact.{Fact}
 use Rattle.cov_base.specs.FactSet.{FactSet}
 use Rattle.cov_base.specs.Facts.{same_fact, is_full, with_fact}
@@ -9,13 +10,26 @@ use Rattle.module_area.specs.declared.parties.View.{View}
 use Rattle.module_area.specs.declared.parties.Role.TheVariants.{Task}
 use Rattle.module_area.specs.declared.tallies.Tally.{Tally}
 use Rattle.module_area.specs.PlanView.{PlanView, original_at, kind_at, is_controller}
-use Rattle.module_area.specs.Parties.{Has, add_if, is_lifted, tag_session, window_tag, last_tag, chosen, fetching, marking, planting, closing, giving, newcomer, joining, role_task}
-use Rattle.module_area.specs.Notes.{no_tally, is_free_under, after_fetch, after_mark, after_plant, after_close, after_split, split_notes, after_join, bearer}
+use Rattle.module_area.specs.Parties.{Has, add_if, is_lifted, tag_session, window_tag, last_tag, chosen, fetching, marking, planting, closing, giving, newcomer, joining, bounding, reading, role_task}
+use Rattle.module_area.specs.Notes.{no_tally, is_free_under, after_fetch, after_mark, after_plant, after_close, after_split, split_notes, after_boundary, after_read, after_join, bearer, is_final, same_bit, same_set}
 use Rattle.module_area.proofs.Indices.{and_left, and_right, and_both, same_tests}
 use Rattle.module_area.proofs.FactLemmas.{same_fact-true}
 use Rattle.module_area.proofs.PartyLemmas.{kept_tag, dropped_tag, no_tag, first_tag}
 use Rattle.module_area.proofs.StepLemmas.{or_cases, or_left, or_right, same_fact-same}
-use Rattle.shared_area.specs.Told.{has_mark, has_pair, has_number, seen_at, bears_as, notes_in, is_given}
+use Rattle.shared_area.specs.Told.{has_mark, has_pair, has_settled, has_number, seen_at, told_note, bears_as, notes_in, is_given}
+
+same_bit-true : (a b : Bool) → same_bit a b ≡ true → a ≡ b
+same_bit-true true true h = refl
+same_bit-true true false h = absurd cc
+same_bit-true false true h = absurd cc
+same_bit-true false false h = refl
+
+same_set-true : (a b : FactSet) → same_set a b ≡ true → a ≡ b
+same_set-true a b h = let rest = and_right (same_bit a.ran b.ran) _ h in λ i. record {
+  ran = same_bit-true a.ran b.ran (and_left (same_bit a.ran b.ran) _ h) i;
+  went = same_bit-true a.went b.went (and_left (same_bit a.went b.went) _ rest) i;
+  stayed = same_bit-true a.stayed b.stayed (and_right (same_bit a.went b.went) _ rest) i;
+}
 
 -- ---- the tests are membership
 pub pair_there : (s p : ℕ) (xs : List (ℕ × ℕ)) → has_pair s p xs ≡ true → Has (s, p) xs
@@ -44,6 +58,13 @@ mark_shown s p f (x ∷ xs) (inl e) = or_right (has_mark s p f xs) (nat_eq s x.0
     (and_both (nat_eq s x.0 && nat_eq p x.1) (same_fact f x.2)
     (and_both (nat_eq s x.0) (nat_eq p x.1) (eq-eqb s x.0 (sym (ap (λ (z : ℕ × ℕ × Fact). z.0) e))) (eq-eqb p x.1 (sym (ap (λ (z : ℕ × ℕ × Fact). z.1) e))))
     (subst (λ z. same_fact f z ≡ true) (sym (ap (λ (z : ℕ × ℕ × Fact). z.2) e)) (same_fact-same f)))
+
+pub settled_there : (s p : ℕ) (x : FactSet) (ys : List (ℕ × ℕ × FactSet)) → has_settled s p x ys ≡ true → Has (s, p, x) ys
+settled_there s p x [] h = absurd cc
+settled_there s p x (y ∷ ys) h = ⊎_elim (λ a. inr (settled_there s p x ys a))
+    (λ b. let first = and_left (nat_eq s y.0 && nat_eq p y.1) (same_set y.2 x) b in
+    inl (λ i. (sym (eqb-true s y.0 (and_left (nat_eq s y.0) (nat_eq p y.1) first)) i, sym (eqb-true p y.1 (and_right (nat_eq s y.0) (nat_eq p y.1) first)) i, same_set-true y.2 x (and_right (nat_eq s y.0 && nat_eq p y.1) (same_set y.2 x) b) i)))
+    (or_cases (has_settled s p x ys) (nat_eq s y.0 && nat_eq p y.1 && same_set y.2 x) h)
 
 pub number_there : (t : ℕ) (us : List ℕ) → has_number t us ≡ true → Has t us
 number_there t [] h = absurd cc
@@ -165,6 +186,26 @@ plant_notes s p v tally h = let seen = seen_now p (window_tag s) v.seen h in let
 pub close_notes : (s p : ℕ) (v : View) (tally : Tally) → seen_at p v.seen ≤ 2 * s → notes_in (closing s p v) (record tally { closes = tally.closes + 1 }) ≡ after_close (notes_in v tally) s p
 close_notes s p v tally h = let seen = seen_now p (2 * s) v.seen h in let last = last_now p (2 * s) v.planted in λ i. record (after_close (notes_in v tally) s p) { seen = seen i; last = last i }
 
+-- ---- Boundary, Read
+pub bound_notes : (t w : ℕ) (ended : Bool) (v : View) (tally : Tally) → v.role ≡ Task t → w ≡ last_tag t v.numbers → notes_in (bounding t (w + (if ended then 1 else 2)) v) tally ≡ after_boundary (notes_in v tally) ended
+bound_notes t w ended v tally bears own = let k : ℕ = if ended then 1 else 2 in
+    let number : t ≡ bearer (notes_in v tally) = sym (ap (λ r. unwrap_or (bears_as r) 0) bears) in
+    let numbers : (λ u. last_tag u ((t, w + k) ∷ v.numbers)) ≡ (λ u. if nat_eq u (bearer (notes_in v tally)) then last_tag (bearer (notes_in v tally)) v.numbers + k else last_tag u v.numbers) =
+    last_now t (w + k) v.numbers ∙ ap (λ n. λ u. if nat_eq u t then n + k else last_tag u v.numbers) own ∙ ap (λ z. λ u. if nat_eq u z then last_tag z v.numbers + k else last_tag u v.numbers) number in
+    λ i. record (after_boundary (notes_in v tally) ended) { numbers = numbers i }
+
+settled_if : (final : Bool) (s p : ℕ) (found : FactSet) (t q : ℕ) (x : FactSet) (ys : List (ℕ × ℕ × FactSet)) → has_settled t q x (add_if final (s, p, found) ys) ≡ (has_settled t q x ys || (final && (nat_eq t s && nat_eq q p && same_set found x)))
+settled_if true s p found t q x ys = refl
+settled_if false s p found t q x ys = or_false (has_settled t q x ys)
+  where
+    or_false : (b : Bool) → b ≡ (b || false)
+    or_false true = refl
+    or_false false = refl
+
+pub read_notes : (plan : PlanView) (s p : ℕ) (found : FactSet) (v : View) (tally : Tally) → notes_in (reading s p (is_final plan (notes_in v no_tally) s p) found v) tally ≡ after_read plan (notes_in v tally) s p found
+read_notes plan s p found v tally = let settled = fun_ext (λ t. fun_ext (λ q. fun_ext (λ x. settled_if (is_final plan (notes_in v no_tally) s p) s p found t q x v.settled))) in
+    λ i. record (after_read plan (notes_in v tally) s p found) { settled = settled i }
+
 -- ---- Split and Join
 out_after : (g j e : Bool) → (e ≡ true → j ≡ false) → ((g || e) && not j) ≡ ((g && not j) || e)
 out_after true true true h = let x : true ≡ false = h refl in absurd cc
@@ -225,6 +266,10 @@ mark-append : (s p : ℕ) (f : Fact) (xs ys : List (ℕ × ℕ × Fact)) → has
 mark-append s p f [] ys = or_swap false (has_mark s p f ys)
 mark-append s p f (x ∷ xs) ys = ap (λ b. b || (nat_eq s x.0 && nat_eq p x.1 && same_fact f x.2)) (mark-append s p f xs ys) ∙ or_again (has_mark s p f ys) (has_mark s p f xs) (nat_eq s x.0 && nat_eq p x.1 && same_fact f x.2)
 
+settled-append : (s p : ℕ) (x : FactSet) (ys zs : List (ℕ × ℕ × FactSet)) → has_settled s p x (ys ++ zs) ≡ (has_settled s p x zs || has_settled s p x ys)
+settled-append s p x [] zs = or_swap false (has_settled s p x zs)
+settled-append s p x (y ∷ ys) zs = ap (λ b. b || (nat_eq s y.0 && nat_eq p y.1 && same_set y.2 x)) (settled-append s p x ys zs) ∙ or_again (has_settled s p x zs) (has_settled s p x ys) (nat_eq s y.0 && nat_eq p y.1 && same_set y.2 x)
+
 and_nor : (g j e : Bool) → (g && not (j || e)) ≡ ((g && not j) && not e)
 and_nor true true e = refl
 and_nor true false e = refl
@@ -244,4 +289,8 @@ join_notes plan v o t a b bears =
     fun_ext (λ u. and_nor (has_number u v.given) (has_number u v.joined) (nat_eq u (role_task o.role)) ∙ ap (λ k. (has_number u v.given && not (has_number u v.joined)) && not (nat_eq u k)) number) in
     let last : (λ p. last_tag p (chosen (is_controller plan (role_task o.role)) o.planted ++ chosen (λ q. not (is_controller plan (role_task o.role) q)) v.planted)) ≡ (λ p. if is_controller plan (bearer (notes_in o b)) p then last_tag p o.planted else last_tag p v.planted) =
     fun_ext (λ p. taken_by (is_controller plan (role_task o.role)) p o.planted v.planted (is_controller plan (role_task o.role) p) refl ∙ ap (λ k. if is_controller plan k p then last_tag p o.planted else last_tag p v.planted) number) in
-    λ i. record (after_join plan (notes_in v a) (notes_in o b)) { marked = marked i; full = full i; free = free i; seen = seen i; last = last i; out = out i }
+    let numbers : (λ u. last_tag u (chosen (λ q. nat_eq q (role_task o.role)) o.numbers ++ chosen (λ q. not (nat_eq q (role_task o.role))) v.numbers)) ≡ (λ u. if nat_eq u (bearer (notes_in o b)) then last_tag u o.numbers else last_tag u v.numbers) =
+    fun_ext (λ u. taken_by (λ q. nat_eq q (role_task o.role)) u o.numbers v.numbers (nat_eq u (role_task o.role)) refl ∙ ap (λ k. if nat_eq u k then last_tag u o.numbers else last_tag u v.numbers) number) in
+    let settled : (λ s p x. has_settled s p x (o.settled ++ v.settled)) ≡ (λ s p x. has_settled s p x v.settled || has_settled s p x o.settled) = fun_ext (λ s. fun_ext (λ p. fun_ext (λ x. settled-append s p x o.settled v.settled))) in
+    let noted = map-append told_note o.noted v.noted in
+    λ i. record (after_join plan (notes_in v a) (notes_in o b)) { marked = marked i; full = full i; free = free i; seen = seen i; last = last i; out = out i; numbers = numbers i; noted = noted i; settled = settled i }

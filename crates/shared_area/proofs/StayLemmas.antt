@@ -1,10 +1,10 @@
--- What waits for a pass is of a session of the plan.
+-- What waits for a pass is of a session of the plan, and its word is its task's.
 use Rattle.std.proofs.Common.{◌≡◌, ℕ, ◌-◌, ◌*◌, ◌≤◌, Bool, true, false, if◌then◌else◌, Some, None, sym, ap, subst, arith}
 use Rattle.module_area.specs.declared.parties.View.{View}
 use Rattle.module_area.specs.PlanView.{PlanView}
 use Rattle.module_area.specs.Parties.{is_breakpoint}
 use Rattle.shared_area.specs.Words.{cell_of}
-use Rattle.shared_area.specs.Passes.{IsWithin}
+use Rattle.shared_area.specs.Passes.{IsWithin, HasWord}
 use Rattle.shared_area.specs.Rule.{Fetched}
 
 waits : (b : Bool) (x y : ℕ × ℕ) → (if b then Some x else None) ≡ Some y → x ≡ y
@@ -17,6 +17,9 @@ fetch_within plan p w v v' h = subst (IsWithin plan) (sym (ap (λ (z : View). z.
 
 pub same_within : (plan : PlanView) (v v' u : View) → v' ≡ u → u.pending ≡ v.pending → IsWithin plan v.pending → IsWithin plan v'.pending
 same_within plan v v' u e same h = subst (λ (z : View). IsWithin plan z.pending) (sym e) (subst (IsWithin plan) (sym same) h)
+
+pub same_task : (plan : PlanView) (word : ℕ) (v v' u : View) → v' ≡ u → u.role ≡ v.role → HasWord plan word v.role → HasWord plan word v'.role
+same_task plan word v v' u e same h = subst (λ (z : View). HasWord plan word z.role) (sym e) (subst (HasWord plan word) (sym same) h)
 
 -- so is the session that it may mark for
 pub session_within : (plan : PlanView) (s p : ℕ) (v : View) → IsWithin plan v.pending → v.pending ≡ Some (p, 2 * s - 1) → s ≤ plan.sessions

@@ -1,5 +1,5 @@
 -- Cells and sets of facts in words.
-use Rattle.std.proofs.Common.{◌≡◌, ◌≢◌, ℕ, zero, suc, ◌+◌, ◌-◌, ◌*◌, ◌/◌, ◌%◌, ◌^◌, ◌<◌, ◌≤◌, Bool, true, false, nat_eq, if◌then◌else◌, sym, refl, ap, ◌∙◌, arith, bit_or, eq-eqb, eqb-true, mul-le-mul_right, suc-mul}
+use Rattle.std.proofs.Common.{◌≡◌, ◌≢◌, ℕ, zero, suc, ◌+◌, ◌-◌, ◌*◌, ◌/◌, ◌%◌, ◌^◌, ◌<◌, ◌≤◌, Bool, true, false, ◌||◌, nat_eq, if◌then◌else◌, List, [], ◌∷◌, length, get_or, sym, refl, ap, ◌∙◌, arith, bit_or, eq-eqb, eqb-true, mul-le-mul_right, suc-mul}
 use Rattle.std.specs.Int.{bit_at}
 use Rattle.std.proofs.lemmas.Nat.{div-mul-add, mod-mul-add}
 use Rattle.std.proofs.lemmas.Nat.Bits.{bit_at_or, bit_at-lt, bit_at-pow_same, bit_at-pow_other}
@@ -8,11 +8,13 @@ use Rattle.cov_base.specs.declared.facts.Fact.TheVariants.{Ran, Went, Stayed}
 use Rattle.cov_base.specs.declared.facts.Kind.{Kind}
 use Rattle.cov_base.specs.declared.facts.Kind.TheVariants.{Straight, Conditional}
 use Rattle.cov_base.specs.FactSet.{FactSet}
+use Rattle.cov_base.specs.declared.numbers.TaskNo.{TaskNo}
 use Rattle.cov_base.specs.Facts.{has_fact, with_fact, is_of_kind}
 use Rattle.module_area.specs.declared.cells.Cell.{Cell}
 use Rattle.module_area.specs.Held.{lifted, closed}
+use Rattle.module_area.specs.PlanView.{PlanView, has_task}
 use Rattle.module_area.specs.Parties.{tag_session, window_tag}
-use Rattle.shared_area.specs.Words.{cell_of, word_of, closed_word_of, tag_in, session_in, bit_of, has_bit, facts_of, session_words, set_word, words_of}
+use Rattle.shared_area.specs.Words.{cell_of, word_of, closed_word_of, tag_in, session_in, bit_of, has_bit, facts_of, session_words, set_word, base_of, word_count, position, task_word, no_task, task_at}
 
 pub same_cell : (c d : Cell) → c.tag ≡ d.tag → c.half ≡ d.half → c ≡ d
 same_cell c d e f = λ i. record { tag = e i; half = f i }
@@ -93,12 +95,33 @@ by_total total true e = (let z = eqb-true total 0 e in omega arith, omega arith)
 by_total zero false e = absurd cc
 by_total (suc total) false e = (omega arith, omega arith)
 
-pub words_enough : (n sessions : ℕ) → n + sessions * session_words n ≤ words_of n sessions
-words_enough n sessions = (by_total (n + sessions * session_words n) (nat_eq (n + sessions * session_words n) 0) refl).0
+pub words_enough : (plan : PlanView) → base_of plan + length plan.tasks ≤ word_count plan
+words_enough plan = (by_total (base_of plan + length plan.tasks) (nat_eq (base_of plan + length plan.tasks) 0) refl).0
 
-pub words_some : (n sessions : ℕ) → 0 < words_of n sessions
-words_some n sessions = (by_total (n + sessions * session_words n) (nat_eq (n + sessions * session_words n) 0) refl).1
+pub words_some : (plan : PlanView) → 0 < word_count plan
+words_some plan = (by_total (base_of plan + length plan.tasks) (nat_eq (base_of plan + length plan.tasks) 0) refl).1
 
-pub set_word_within : (n sessions s p : ℕ) → 0 < s → s ≤ sessions → p < n → set_word n s p < words_of n sessions
-set_word_within n sessions s p pos ls l = let w : ℕ = session_words n in let m : suc (s - 1) * w ≤ sessions * w = mul-le-mul_right w (omega arith) in let e : suc (s - 1) * w ≡ (s - 1) * w + w = suc-mul (s - 1) w in
-    let a = in_session n p l in let b = words_enough n sessions in omega arith
+-- cells and sets come before the tasks
+pub cell_front : (plan : PlanView) (p : ℕ) → p < length plan.places → p < base_of plan
+cell_front plan p l = omega arith
+
+pub set_front : (plan : PlanView) (s p : ℕ) → 0 < s → s ≤ plan.sessions → p < length plan.places → set_word (length plan.places) s p < base_of plan
+set_front plan s p pos ls l = let n : ℕ = length plan.places in let w : ℕ = session_words n in let m : suc (s - 1) * w ≤ plan.sessions * w = mul-le-mul_right w (omega arith) in let e : suc (s - 1) * w ≡ (s - 1) * w + w = suc-mul (s - 1) w in
+    let a = in_session n p l in omega (arith, m, e, a)
+
+-- ---- the index of a task
+at_step : (u : TaskNo) (us : List TaskNo) (t : ℕ) (b : Bool) → nat_eq u.0 t ≡ b → (has_task us t ≡ true → (position us t < length us) × ((get_or us (position us t) no_task).0 ≡ t))
+    → (b || has_task us t) ≡ true → ((if b then 0 else 1 + position us t) < length (u ∷ us)) × ((get_or (u ∷ us) (if b then 0 else 1 + position us t) no_task).0 ≡ t)
+at_step u us t true e rest h = (omega arith, eqb-true u.0 t e)
+at_step u us t false e rest h = let r = rest h in let a = r.0 in let up : 1 + position us t ≡ suc (position us t) = omega arith in (omega (arith, a), ap (λ k. (get_or (u ∷ us) k no_task).0) up ∙ r.1)
+
+pub position_at : (tasks : List TaskNo) (t : ℕ) → has_task tasks t ≡ true → (position tasks t < length tasks) × ((get_or tasks (position tasks t) no_task).0 ≡ t)
+position_at [] t h = absurd cc
+position_at (u ∷ us) t h = at_step u us t (nat_eq u.0 t) refl (position_at us t) h
+
+pub task_there : (plan : PlanView) (t : ℕ) → has_task plan.tasks t ≡ true → task_word plan t < base_of plan + length plan.tasks
+task_there plan t task = let a = (position_at plan.tasks t task).0 in omega (arith, a)
+
+-- the word is that task's alone
+pub task_at-task_word : (plan : PlanView) (t : ℕ) → has_task plan.tasks t ≡ true → task_at plan (task_word plan t) ≡ t
+task_at-task_word plan t task = let e : task_word plan t - base_of plan ≡ position plan.tasks t = omega arith in ap (λ k. (get_or plan.tasks k no_task).0) e ∙ (position_at plan.tasks t task).1

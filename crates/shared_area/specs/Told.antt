@@ -1,13 +1,14 @@
 -- What a contract sees of a party.
-use Rattle.std.specs.Prelude.{ℕ, Bool, true, false, not, ◌&&◌, ◌||◌, nat_eq, if◌then◌else◌, Option, Some, None, List, [], ◌∷◌, max}
+use Rattle.std.specs.Prelude.{ℕ, Bool, true, false, not, ◌&&◌, ◌||◌, nat_eq, if◌then◌else◌, Option, Some, None, List, [], ◌∷◌, map, max}
 use Rattle.cov_base.specs.declared.facts.Fact.{Fact}
+use Rattle.cov_base.specs.FactSet.{FactSet}
 use Rattle.cov_base.specs.Facts.{same_fact}
 use Rattle.module_area.specs.declared.parties.Role.{Role}
 use Rattle.module_area.specs.declared.parties.Role.TheVariants.{Task}
 use Rattle.module_area.specs.declared.parties.View.{View}
 use Rattle.module_area.specs.Parties.{last_tag}
 use Rattle.module_area.specs.declared.tallies.Tally.{Tally}
-use Rattle.module_area.specs.Notes.{Notes}
+use Rattle.module_area.specs.Notes.{Notes, NotedView, same_set}
 
 abbrev pub has_mark : ℕ → ℕ → Fact → List (ℕ × ℕ × Fact) → Bool
 has_mark s p f [] = false
@@ -17,6 +18,10 @@ abbrev pub has_pair : ℕ → ℕ → List (ℕ × ℕ) → Bool
 has_pair s p [] = false
 has_pair s p (x ∷ xs) = has_pair s p xs || (nat_eq s x.0 && nat_eq p x.1)
 
+abbrev pub has_settled : ℕ → ℕ → FactSet → List (ℕ × ℕ × FactSet) → Bool
+has_settled s p x [] = false
+has_settled s p x (y ∷ ys) = has_settled s p x ys || (nat_eq s y.0 && nat_eq p y.1 && same_set y.2 x)
+
 abbrev pub has_number : ℕ → List ℕ → Bool
 has_number t [] = false
 has_number t (u ∷ us) = has_number t us || nat_eq t u
@@ -25,6 +30,10 @@ has_number t (u ∷ us) = has_number t us || nat_eq t u
 abbrev pub seen_at : ℕ → List (ℕ × ℕ) → ℕ
 seen_at p [] = 0
 seen_at p (x ∷ xs) = if nat_eq p x.0 then max x.1 (seen_at p xs) else seen_at p xs
+
+-- a look at a task's word, with the highest tags that were seen then
+abbrev pub told_note : ℕ × ℕ × List (ℕ × ℕ) → NotedView
+told_note e = record { task = e.0; number = e.1; seen = λ p. seen_at p e.2 }
 
 abbrev pub bears_as : Role → Option ℕ
 bears_as (Task t) = Some t
@@ -39,6 +48,9 @@ notes_in v tally = record {
   pending = v.pending;
   last = λ p. last_tag p v.planted;
   answered = v.answered;
+  numbers = λ t. last_tag t v.numbers;
+  noted = map told_note v.noted;
+  settled = λ s p x. has_settled s p x v.settled;
   tally = tally;
   bears = bears_as v.role;
   given = λ t. has_number t v.given;

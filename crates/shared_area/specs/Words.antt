@@ -1,14 +1,15 @@
--- How a cell and the sets of facts lie in words, and where the words lie.
-use Rattle.std.specs.Prelude.{ℕ, ◌+◌, ◌-◌, ◌*◌, ◌/◌, ◌%◌, Bool, false, nat_eq, if◌then◌else◌, List, length, get_or}
+-- How a cell, the sets of facts and a task's number lie in words, and where the words lie.
+use Rattle.std.specs.Prelude.{ℕ, ◌+◌, ◌-◌, ◌*◌, ◌/◌, ◌%◌, Bool, false, nat_eq, if◌then◌else◌, List, [], ◌∷◌, length, get_or, take}
 use Rattle.std.specs.Int.{bit_at}
 use Rattle.cov_base.specs.declared.facts.Fact.{Fact}
 use Rattle.cov_base.specs.declared.facts.Fact.TheVariants.{Ran, Went, Stayed}
 use Rattle.cov_base.specs.declared.facts.Kind.{Kind}
 use Rattle.cov_base.specs.declared.facts.Kind.TheVariants.{Straight, Conditional}
 use Rattle.cov_base.specs.FactSet.{FactSet}
+use Rattle.cov_base.specs.declared.numbers.TaskNo.{TaskNo}
 use Rattle.module_area.specs.declared.cells.Cell.{Cell}
 use Rattle.module_area.specs.Parties.{tag_session}
-use Rattle.module_area.specs.PlanView.{PlanView, kind_at}
+use Rattle.module_area.specs.PlanView.{PlanView, kind_at, has_task}
 
 -- the tag above the halfword
 abbrev pub cell_of : ℕ → Cell
@@ -52,12 +53,37 @@ session_words n = (n + 31) / 32
 abbrev pub set_word : ℕ → ℕ → ℕ → ℕ
 set_word n s p = n + ((s - 1) * session_words n + p / 32)
 
--- the words of n places and so many sessions, or an idle one
-abbrev pub words_of : ℕ → ℕ → ℕ
-words_of n sessions = if nat_eq (n + sessions * session_words n) 0 then 1 else n + sessions * session_words n
+-- how many words the cells and sets take; behind them lie those of the tasks, in the plan's order
+abbrev pub base_of : PlanView → ℕ
+base_of plan = length plan.places + plan.sessions * session_words (length plan.places)
 
+-- the words of cells, sets and tasks, or an idle one
 abbrev pub word_count : PlanView → ℕ
-word_count plan = words_of (length plan.places) plan.sessions
+word_count plan = if nat_eq (base_of plan + length plan.tasks) 0 then 1 else base_of plan + length plan.tasks
+
+-- the words of cells and sets
+abbrev pub front : PlanView → List ℕ → List ℕ
+front plan words = take (base_of plan) words
+
+-- the index of the task among these
+abbrev pub position : List TaskNo → ℕ → ℕ
+position [] t = 0
+position (u ∷ us) t = if nat_eq u.0 t then 0 else 1 + position us t
+
+-- the word of a task of the plan
+abbrev pub task_word : PlanView → ℕ → ℕ
+task_word plan t = base_of plan + position plan.tasks t
+
+abbrev pub no_task : TaskNo
+no_task = record { 0 = 0 }
+
+-- the task whose word this is
+abbrev pub task_at : PlanView → ℕ → ℕ
+task_at plan i = (get_or plan.tasks (i - base_of plan) no_task).0
+
+-- each task's number; 0 for what is none of the plan's
+abbrev pub numbers_in : PlanView → List ℕ → ℕ → ℕ
+numbers_in plan words t = if has_task plan.tasks t then get_or words (task_word plan t) 0 else 0
 
 abbrev pub cells_in : List ℕ → ℕ → Cell
 cells_in words p = cell_of (get_or words p 0)

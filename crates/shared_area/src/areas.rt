@@ -2,7 +2,8 @@
 ghost use Rattle.std.specs.Prelude.{◌≡◌, ℕ, false, [], IfOk};
 ghost use Rattle.std.specs.declared.option.Option.TheVariants.{None};
 ghost use Rattle.module_area.specs.Notes.{root_notes};
-ghost use Rattle.module_area.specs.Ended.{HasSets, HasTally};
+ghost use Rattle.module_area.specs.FinalsView.{set_at};
+ghost use Rattle.module_area.specs.Ended.{AreSettled, HasSets, HasTally};
 ghost use Rattle.shared_area.specs.Passes.{notes_of, IsPassOf};
 
 use crate::begin::{first_words, last_sets};
@@ -65,6 +66,7 @@ fn new_area(alloc: Global, plan: &Plan) -> Result<(SharedCells, SharedPass), NoM
     let root = SharedPass {
         seat,
         tally: NO_TALLY,
+        word: 0,
     };
     Ok((SharedCells { table, plan }, root))
 }
@@ -75,10 +77,15 @@ fn end_area(alloc: Global, cells: SharedCells, root: SharedPass) -> Result<Final
     requires root { (notes_of root).bears ≡ None }
     requires joined { (t : ℕ) → (notes_of root).out t ≡ false }
     ensures sets { IfOk result (HasSets cells.plan (notes_of root)) }
+    ensures settled { IfOk result (λ f. AreSettled cells.plan (notes_of root) (set_at f)) }
     ensures tally { IfOk result (HasTally cells.plan (notes_of root)) }
 {
     let SharedCells { table, plan } = cells;
-    let SharedPass { seat, tally: _ } = root;
+    let SharedPass {
+        seat,
+        tally: _,
+        word: _,
+    } = root;
     let closed = table.close_with(seat);
     let sets = last_sets(alloc, &closed, &plan);
     closed.free();

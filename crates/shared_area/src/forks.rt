@@ -1,11 +1,13 @@
 //! Passes split off for tasks and joined again, each by one load.
-ghost use Rattle.std.specs.Prelude.{◌≡◌, []};
+ghost use Rattle.std.specs.Prelude.{◌≡◌, true, []};
 ghost use Rattle.module_area.specs.declared.parties.Role.TheVariants.{Root, Task};
+ghost use Rattle.module_area.specs.PlanView.{has_task};
 ghost use Rattle.module_area.specs.Parties.{Has, giving, newcomer, joining, role_task};
 
 use crate::cells::SharedCells;
 use crate::pass::SharedPass;
 use crate::rule::{Fork, Forking, NoSlot};
+use crate::words::task_word;
 use atomic_table::Seat;
 use cov_base::TaskNo;
 use module_area::{Forks, Tally, View};
@@ -23,6 +25,7 @@ impl SharedCells {
     fn cut<K: Forking>(&self, seat: &mut Seat<NoSlot, View>, task: TaskNo) -> Seat<NoSlot, View>
         requires area { seat.old.table_id ≡ self.now.table.shared.table_id }
         requires root { seat.old.me.0.role ≡ Root }
+        requires task { has_task self.now.plan.tasks task.0 ≡ true }
         requires first { Has task.0 seat.old.me.0.given → ⊥ }
         requires picked { (K.plan ≡ self.now.plan) × (K.task ≡ task.0) }
         ensures area { (seat.new.table_id ≡ seat.old.table_id) × (result.table_id ≡ seat.old.table_id) }
@@ -48,15 +51,21 @@ impl SharedCells {
 
 impl Forks for SharedCells {
     fn split(&self, root: &mut SharedPass, task: TaskNo) -> SharedPass {
+        let word = task_word(&self.plan, task);
         let seat = self.cut::<Brand>(&mut root.seat, task);
         SharedPass {
             seat,
             tally: NO_TALLY,
+            word,
         }
     }
 
     fn join(&self, root: &mut SharedPass, other: SharedPass) {
-        let SharedPass { seat, tally } = other;
+        let SharedPass {
+            seat,
+            tally,
+            word: _,
+        } = other;
         self.merge::<Brand>(&mut root.seat, seat);
         root.tally.plants += tally.plants;
         root.tally.fetches += tally.fetches;

@@ -64,6 +64,8 @@ pub(crate) fn traps<C: Cells>(cells: &C, pass: &mut C::Pass, place: PlaceNo, tag
     requires place { place.0 < length (C.plan cells.now).places }
     ensures area { C.is_pass cells.now pass.new }
     ensures pending { result ≡ true → (C.notes pass.new).pending ≡ Some (place.0, tag) }
+    ensures numbers { (C.notes pass.new).numbers ≡ (C.notes pass.old).numbers }
+    ensures working { is_working (C.notes pass.new) ≡ true }
     ensures room { calls (C.notes pass.new) ≤ calls (C.notes pass.old) + 1 }
     ensures bears { (C.notes pass.new).bears ≡ (C.notes pass.old).bears }
 {
@@ -86,6 +88,8 @@ pub(crate) fn marks<C: Cells>(
     requires pending { (C.notes pass.old).pending ≡ Some (place.0, 2 * s.0 - 1) }
     ensures area { C.is_pass cells.now pass.new }
     ensures full { IfSome result (λ _. (C.notes pass.new).full s.0 place.0 ≡ true) }
+    ensures numbers { (C.notes pass.new).numbers ≡ (C.notes pass.old).numbers }
+    ensures working { is_working (C.notes pass.new) ≡ true }
     ensures room { calls (C.notes pass.new) ≤ calls (C.notes pass.old) + 1 }
     ensures bears { (C.notes pass.new).bears ≡ (C.notes pass.old).bears }
 {

@@ -1,9 +1,13 @@
-//! The area that threads share: a word for each place, and one for the sets of each session at 32 places.
+//! The area that threads share: a word for each place, one for the sets of each session at 32 places, and one for each
+//! task.
 #![tactic(auto)]
 
 mod areas;
 mod begin;
 mod cells;
+#[cfg(test)]
+mod drained;
+mod drains;
 mod forks;
 #[cfg(test)]
 mod late;

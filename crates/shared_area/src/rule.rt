@@ -24,7 +24,7 @@ impl TableRule<NoSlot, View, Snapshot<Plan>> for AreaRule {
     ghost first = { λ _. blank Root };
 }
 
-/// Which fact a step marks: at which place, for which session, under which plan.
+/// The set that a step is on: under which plan, of which session, at which place; and the fact that it marks.
 pub(crate) trait Marking {
     ghost plan: { PlanView };
 
@@ -48,7 +48,17 @@ impl Marking for Brand {
     ghost fact = { Ran };
 }
 
-/// A load of the word that has the set.
+/// A load of the word that has the set, for the set itself.
+pub(crate) struct Read<K: Marking>(PhantomData<K>);
+
+impl<K: Marking> Play<NoSlot, View> for Read<K> {
+    ghost use Rattle.shared_area.specs.Words.{facts_of};
+    ghost use Rattle.shared_area.specs.Rule.{SetRead};
+
+    ghost then = { λ _ me w me'. SetRead K.plan K.session K.place me.0 (facts_of (kind_at K.plan K.place) K.place w) me'.0 × (me'.1 ≡ me.1) };
+}
+
+/// A load of the word that has the set, for a mark.
 pub(crate) struct Look<K: Marking>(PhantomData<K>);
 
 impl<K: Marking> Play<NoSlot, View> for Look<K> {

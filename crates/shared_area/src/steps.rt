@@ -68,8 +68,8 @@ impl Cells for SharedCells {
 }
 
 impl SharedCells {
-    /// The number of words that the area has: one for each place, and for each session one for 32 places, the last of
-    /// which may have fewer; or 1 where there is neither.
+    /// The number of words that the area has: one for each place, for each session one for 32 places, the last of which
+    /// may have fewer, and one for each task; or 1 where there is none of these.
     pub fn words(&self) -> u64
         ensures { result ≡ word_count (⟦<SharedCells as Cells>⟧.plan self.now) }
     {

@@ -9,6 +9,7 @@ ghost use Rattle.module_area.specs.PlanView.{kind_at, window_at, has_task};
 ghost use Rattle.module_area.specs.Notes.{calls, is_working};
 ghost use Rattle.shared_area.specs.Passes.{notes_of, IsPassOf};
 
+use crate::late::traps;
 use crate::{SharedAreas, SharedCells, SharedPass};
 use cov_base::{Addr, Bits, Fact, Kind, NoMemory, PlaceNo, SessNo, TaskNo};
 use module_area::{Areas, Cells, Forks, Place, Plan, Tally};
@@ -34,6 +35,7 @@ fn visit<C: Cells>(
     requires kind { is_of_kind (kind_at plan.now place.0) fact ≡ true }
     ensures area { C.is_pass cells.now pass.new }
     ensures room { calls (C.notes pass.new) ≤ calls (C.notes pass.old) + 3 }
+    ensures working { is_working (C.notes pass.new) ≡ true }
     ensures bears { (C.notes pass.new).bears ≡ (C.notes pass.old).bears }
     ensures out { (C.notes pass.new).out ≡ (C.notes pass.old).out }
 {
@@ -147,21 +149,6 @@ fn shown(set: Bits) -> Shown {
     (set.has(Fact::Went), set.has(Fact::Stayed))
 }
 
-/// Whether the pass meets the breakpoint of session 1 at the branch.
-fn is_trapped(cells: &SharedCells, pass: &mut SharedPass) -> bool
-    requires area { IsPassOf cells.now pass.old }
-    requires room { calls (notes_of pass.old) < 2 ^ 60 }
-    requires working { is_working (notes_of pass.old) ≡ true }
-    requires place { 0 < length cells.now.plan.places }
-    ensures area { IsPassOf cells.now pass.new }
-    ensures pending { result ≡ true → (notes_of pass.new).pending ≡ Some (0, 1) }
-    ensures room { calls (notes_of pass.new) ≤ calls (notes_of pass.old) + 1 }
-    ensures bears { (notes_of pass.new).bears ≡ (notes_of pass.old).bears }
-{
-    let cell = cells.fetch(pass, PlaceNo(0));
-    cell.tag == 1 && cell.half == 0x0AFF
-}
-
 /// The two steps of a mark of Went, with a mark of Stayed by the other pass between them: the sets that these three
 /// find, or none where the look has found the fact.
 fn raced(cells: &SharedCells, pass: SharedPass, other: &mut SharedPass) -> Option<[Shown; 3]>
@@ -172,7 +159,11 @@ fn raced(cells: &SharedCells, pass: SharedPass, other: &mut SharedPass) -> Optio
     requires branch { (0 < length cells.now.plan.places) × (kind_at cells.now.plan 0 ≡ Conditional) × (1 ≤ cells.now.plan.sessions) }
     requires pending { ((notes_of pass).pending ≡ Some (0, 1)) × ((notes_of other.old).pending ≡ Some (0, 1)) }
 {
-    let SharedPass { mut seat, tally: _ } = pass;
+    let SharedPass {
+        mut seat,
+        tally: _,
+        word: _,
+    } = pass;
     let looked = cells.look::<Brand>(&mut seat, SessNo(1), PlaceNo(0), Fact::Went);
     if looked.has(Fact::Went) {
         return None;
@@ -188,7 +179,11 @@ fn looked(cells: &SharedCells, pass: SharedPass) -> Shown
     requires branch { (0 < length cells.now.plan.places) × (kind_at cells.now.plan 0 ≡ Conditional) × (1 ≤ cells.now.plan.sessions) }
     requires pending { (notes_of pass).pending ≡ Some (0, 1) }
 {
-    let SharedPass { mut seat, tally: _ } = pass;
+    let SharedPass {
+        mut seat,
+        tally: _,
+        word: _,
+    } = pass;
     shown(cells.look::<Brand>(&mut seat, SessNo(1), PlaceNo(0), Fact::Went))
 }
 
@@ -230,9 +225,9 @@ fn step_by_step(alloc: Global, plan: &Plan) -> Result<Option<([Shown; 3], Shown)
 {
     let mut areas = SharedAreas::new(alloc, 1)?;
     let (cells, mut first, mut second, mut third) = three_passes(alloc, &mut areas, plan)?;
-    if !is_trapped(&cells, &mut first)
-        || !is_trapped(&cells, &mut second)
-        || !is_trapped(&cells, &mut third)
+    if !traps(&cells, &mut first, PlaceNo(0), 1)
+        || !traps(&cells, &mut second, PlaceNo(0), 1)
+        || !traps(&cells, &mut third, PlaceNo(0), 1)
     {
         return Ok(None);
     }
@@ -344,8 +339,8 @@ fn a_mark_between_look_and_addition(rt: HostRuntime) -> Result<(), Fail> {
     Ok(())
 }
 
-/// So many places of one instruction each, and as many sessions, which observe none.
-fn straight(alloc: Global, places: u32, sessions: u32) -> Result<Plan, Fail> {
+/// So many places of one instruction each, sessions, which observe none, and tasks.
+fn straight(alloc: Global, places: u32, sessions: u32, tasks: u32) -> Result<Plan, Fail> {
     let mut list = Vec::new(alloc);
     let mut windows = Vec::new(alloc);
     for i in 0..places.min(100) {
@@ -358,33 +353,40 @@ fn straight(alloc: Global, places: u32, sessions: u32) -> Result<Plan, Fail> {
         })?;
         windows.push(0)?;
     }
-    let plan = Plan::checked(alloc, list, windows, Vec::new(alloc), sessions).ok_or("no plan")?;
+    let mut numbers = Vec::new(alloc);
+    for t in 0..tasks {
+        numbers.push(TaskNo(t))?;
+    }
+    let plan = Plan::checked(alloc, list, windows, numbers, sessions).ok_or("no plan")?;
     Ok(plan)
 }
 
-/// Places, sessions, and the words of their area.
-static WORDS: [(u32, u32, u64); 8] = [
-    (3, 1, 4),
-    (32, 1, 33),
-    (33, 1, 35),
-    (33, 2, 37),
-    (65, 16, 113),
-    (3, 0, 3),
-    (0, 16, 1),
-    (0, 0, 1),
+/// Places, sessions, tasks, and the words of their area.
+static WORDS: [(u32, u32, u32, u64); 11] = [
+    (3, 1, 0, 4),
+    (32, 1, 0, 33),
+    (33, 1, 0, 35),
+    (33, 2, 0, 37),
+    (65, 16, 0, 113),
+    (3, 0, 0, 3),
+    (0, 16, 0, 1),
+    (0, 0, 0, 1),
+    (3, 1, 2, 6),
+    (33, 2, 64, 101),
+    (0, 16, 1, 1),
 ];
 
 #[test]
 fn words_of_an_area(rt: HostRuntime) -> Result<(), Fail> {
     let alloc = rt.alloc();
-    for (places, sessions, words) in WORDS {
-        let plan = straight(alloc, places, sessions)?;
+    for (places, sessions, tasks, words) in WORDS {
+        let plan = straight(alloc, places, sessions, tasks)?;
         let mut areas = SharedAreas::new(alloc, 1)?;
         let (cells, _root) = areas.make(alloc, &plan)?;
         assert_eq!(rt;
             cells.words(),
             words,
-            "{places} places, {sessions} sessions"
+            "{places} places, {sessions} sessions, {tasks} tasks"
         );
     }
     Ok(())

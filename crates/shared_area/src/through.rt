@@ -14,7 +14,7 @@ use std::alloc::Global;
 use std::test::Fail;
 
 /// Plants the three places for a session.
-fn plants_all<C: Cells>(cells: &C, control: &mut C::Pass, s: SessNo)
+pub(crate) fn plants_all<C: Cells>(cells: &C, control: &mut C::Pass, s: SessNo)
     requires area { C.is_pass cells.now control.old }
     requires room { calls (C.notes control.old) < 2 ^ 60 }
     requires places { 2 < length (C.plan cells.now).places }
@@ -25,6 +25,7 @@ fn plants_all<C: Cells>(cells: &C, control: &mut C::Pass, s: SessNo)
     ensures area { C.is_pass cells.now control.new }
     ensures room { calls (C.notes control.new) ≡ calls (C.notes control.old) + 3 }
     ensures bears { (C.notes control.new).bears ≡ (C.notes control.old).bears }
+    ensures numbers { (C.notes control.new).numbers ≡ (C.notes control.old).numbers }
     ensures last { ((C.notes control.new).last 0 + 1 ≡ 2 * s.0) × ((C.notes control.new).last 1 + 1 ≡ 2 * s.0) × ((C.notes control.new).last 2 + 1 ≡ 2 * s.0) }
 {
     cells.plant(control, s, PlaceNo(0));
@@ -33,7 +34,7 @@ fn plants_all<C: Cells>(cells: &C, control: &mut C::Pass, s: SessNo)
 }
 
 /// Closes a session at the three places.
-fn closes_all<C: Cells>(cells: &C, control: &mut C::Pass, s: SessNo)
+pub(crate) fn closes_all<C: Cells>(cells: &C, control: &mut C::Pass, s: SessNo)
     requires area { C.is_pass cells.now control.old }
     requires room { calls (C.notes control.old) < 2 ^ 60 }
     requires places { 2 < length (C.plan cells.now).places }
@@ -44,6 +45,7 @@ fn closes_all<C: Cells>(cells: &C, control: &mut C::Pass, s: SessNo)
     ensures area { C.is_pass cells.now control.new }
     ensures room { calls (C.notes control.new) ≡ calls (C.notes control.old) + 3 }
     ensures bears { (C.notes control.new).bears ≡ (C.notes control.old).bears }
+    ensures numbers { (C.notes control.new).numbers ≡ (C.notes control.old).numbers }
     ensures last { ((C.notes control.new).last 0 ≡ 2 * s.0) × ((C.notes control.new).last 1 ≡ 2 * s.0) × ((C.notes control.new).last 2 ≡ 2 * s.0) }
 {
     cells.close(control, s, PlaceNo(0));
@@ -68,6 +70,7 @@ fn through_two_sessions<C: Cells>(
     ensures area { C.is_pass cells.now control.new × C.is_pass cells.now pass.new }
     ensures room { (calls (C.notes control.new) < 2 ^ 9) × (calls (C.notes pass.new) < 2 ^ 9) }
     ensures bears { ((C.notes control.new).bears ≡ Some 1) × ((C.notes pass.new).bears ≡ (C.notes pass.old).bears) }
+    ensures working { is_working (C.notes pass.new) ≡ true }
     ensures open { IfSome result (λ _. ((C.notes control.new).last 0 ≡ 3) × ((C.notes control.new).last 1 ≡ 3) × ((C.notes control.new).last 2 ≡ 3)) }
 {
     plants_all(cells, control, SessNo(1));
@@ -88,6 +91,7 @@ fn visits<C: Cells>(cells: &C, pass: &mut C::Pass, place: PlaceNo) -> Option<(bo
     requires working { is_working (C.notes pass.old) ≡ true }
     requires place { (place.0 < length (C.plan cells.now).places) × (kind_at (C.plan cells.now) place.0 ≡ Straight) }
     ensures area { C.is_pass cells.now pass.new }
+    ensures working { is_working (C.notes pass.new) ≡ true }
     ensures room { calls (C.notes pass.new) ≤ calls (C.notes pass.old) + 3 }
     ensures bears { (C.notes pass.new).bears ≡ (C.notes pass.old).bears }
 {
@@ -123,7 +127,7 @@ fn to_the_end<C: Cells>(cells: &C, control: &mut C::Pass, pass: &mut C::Pass) ->
 }
 
 /// Whether the session has the run of each of the three places.
-fn runs(finals: &Finals, s: SessNo) -> [bool; 3]
+pub(crate) fn runs(finals: &Finals, s: SessNo) -> [bool; 3]
     requires session { 0 < s.0 }
     requires places { 2 < finals.now.places }
     requires within { s.0 * finals.now.places ≤ length finals.now.sets }

@@ -1,9 +1,9 @@
-//! How a cell and the sets of facts lie in words, and where the words lie.
-ghost use Rattle.std.specs.Prelude.{◌≡◌, ◌*◌, ◌/◌, ◌^◌, ◌<◌, ◌≤◌, length};
-ghost use Rattle.module_area.specs.PlanView.{IsPlan};
-ghost use Rattle.shared_area.specs.Words.{cell_of, has_bit, facts_of, bit_of, word_of, closed_word_of, session_words, set_word, word_count};
+//! How a cell, the sets of facts and a task's number lie in words, and where the words lie.
+ghost use Rattle.std.specs.Prelude.{◌≡◌, ◌*◌, ◌/◌, ◌^◌, ◌<◌, ◌≤◌, true, length};
+ghost use Rattle.module_area.specs.PlanView.{IsPlan, has_task};
+ghost use Rattle.shared_area.specs.Words.{cell_of, has_bit, facts_of, bit_of, word_of, closed_word_of, session_words, set_word, base_of, word_count, position, task_word};
 
-use cov_base::{Bits, Fact, Kind, PlaceNo, SessNo};
+use cov_base::{Bits, Fact, Kind, PlaceNo, SessNo, TaskNo};
 use module_area::{Cell, Plan};
 
 /// The cell of a place's word.
@@ -90,12 +90,43 @@ pub(crate) fn word_at(plan: &Plan, s: SessNo, place: PlaceNo) -> usize
     plan.places_len() as usize + ((s.0 as usize - 1) * session_words(plan) + place.0 as usize / 32)
 }
 
+/// How many words the cells and sets take.
+fn base(plan: &Plan) -> usize
+    ensures value { result ≡ base_of plan.now }
+    ensures few { result ≤ 98304 }
+    ensures cells { length plan.now.places ≤ result }
+    ensures plan { IsPlan plan.now }
+{
+    plan.places_len() as usize + plan.sessions as usize * session_words(plan)
+}
+
 /// How many words the plan takes.
 pub(crate) fn count(plan: &Plan) -> usize
     ensures value { result ≡ word_count plan.now }
     ensures cells { length plan.now.places ≤ result }
     ensures plan { IsPlan plan.now }
 {
-    let count = plan.places_len() as usize + plan.sessions as usize * session_words(plan);
+    let count = base(plan) + plan.tasks.len();
     if count == 0 { 1 } else { count }
+}
+
+/// The index of the task among these.
+fn index_of(tasks: &[TaskNo], task: TaskNo) -> usize
+    requires { has_task tasks.now task.0 ≡ true }
+    ensures value { result ≡ position tasks.now task.0 }
+    ensures within { result < length tasks.now }
+{
+    let mut i = 0;
+    while tasks[i].0 != task.0 {
+        i += 1;
+    }
+    i
+}
+
+/// The number of the word of a task of the plan.
+pub(crate) fn task_word(plan: &Plan, task: TaskNo) -> usize
+    requires { has_task plan.now.tasks task.0 ≡ true }
+    ensures { result ≡ task_word plan.now task.0 }
+{
+    base(plan) + index_of(&plan.tasks, task)
 }

@@ -25,16 +25,32 @@ use Rattle.svc_monitor.proofs.ObservedLemmas.{has_fact-more, has_fact-none, or_a
 -- what is planted and closed stays
 
 LeavesSessions-same : (n : Notes) → LeavesSessions n n
-LeavesSessions-same n = record { seen = λ p. omega arith; last = refl; plants = refl; closes = refl }
+LeavesSessions-same n = record { seen = λ p. omega arith; last = refl; plants = refl; closes = refl; numbers = refl; noted = refl; settled = refl }
 
 LeavesSessions-trans : (a b c : Notes) → LeavesSessions a b → LeavesSessions b c → LeavesSessions a c
-LeavesSessions-trans a b c g h = record { seen = λ p. omega (arith, g.seen p, h.seen p); last = h.last ∙ g.last; plants = h.plants ∙ g.plants; closes = h.closes ∙ g.closes }
+LeavesSessions-trans a b c g h = record {
+  seen = λ p. omega (arith, g.seen p, h.seen p);
+  last = h.last ∙ g.last;
+  plants = h.plants ∙ g.plants;
+  closes = h.closes ∙ g.closes;
+  numbers = h.numbers ∙ g.numbers;
+  noted = h.noted ∙ g.noted;
+  settled = h.settled ∙ g.settled;
+}
 
 LeavesSessions-fetched : (plan : PlanView) (n : Notes) (q : ℕ) (cell : Cell) → n.seen q ≤ cell.tag → LeavesSessions n (after_fetch plan n q cell)
-LeavesSessions-fetched plan n q cell h = record { seen = λ p. seen_fetched n.seen q p cell.tag h; last = refl; plants = refl; closes = refl }
+LeavesSessions-fetched plan n q cell h = record { seen = λ p. seen_fetched n.seen q p cell.tag h; last = refl; plants = refl; closes = refl; numbers = refl; noted = refl; settled = refl }
 
 LeavesSessions-added : (old new : Notes) (s p : ℕ) (f : Fact) → Adds old new s p f → LeavesSessions old new
-LeavesSessions-added old new s p f adds = record { seen = λ q. omega (arith, adds.seen q); last = adds.last; plants = adds.plants; closes = adds.closes }
+LeavesSessions-added old new s p f adds = record {
+  seen = λ q. omega (arith, adds.seen q);
+  last = adds.last;
+  plants = adds.plants;
+  closes = adds.closes;
+  numbers = adds.numbers;
+  noted = adds.noted;
+  settled = adds.settled;
+}
 
 one_more : (l m n : List Visit) (b : Bool) (v : Visit) → l ≡ m ++ n → (if b then v ∷ l else l) ≡ (if b then v ∷ m else m) ++ n
 one_more l m n true v e = ap (λ (k : List Visit). v ∷ k) e

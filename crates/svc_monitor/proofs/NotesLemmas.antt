@@ -40,6 +40,9 @@ pub record Adds (old new : Notes) (s p : ℕ) (f : Fact) : Type 0 where
   pub lifts : new.tally.lifts ≤ old.tally.lifts + 1
   pub plants : new.tally.plants ≡ old.tally.plants
   pub closes : new.tally.closes ≡ old.tally.closes
+  pub numbers : new.numbers ≡ old.numbers
+  pub noted : new.noted ≡ old.noted
+  pub settled : new.settled ≡ old.settled
 
 pub all_three : (x y z : Bool) → (x && y && z) ≡ true → (x ≡ true) × (y ≡ true) × (z ≡ true)
 all_three true true true h = (refl, refl, refl)
@@ -78,6 +81,9 @@ marked_alone plan n s p f found part = record {
   lifts = omega arith;
   plants = refl;
   closes = refl;
+  numbers = refl;
+  noted = refl;
+  settled = refl;
 }
 
 marked_lifted : (plan : PlanView) (n : Notes) (s p : ℕ) (f : Fact) (found : FactSet) (exchanged : Bool) →
@@ -106,6 +112,9 @@ marked_lifted plan n s p f found exchanged = record {
   lifts = omega (arith, one_at_most exchanged);
   plants = refl;
   closes = refl;
+  numbers = refl;
+  noted = refl;
+  settled = refl;
 }
 
 pub Adds-settled : (plan : PlanView) (old new : Notes) (s p : ℕ) (f : Fact) → Settles plan old new s p f → Adds old new s p f

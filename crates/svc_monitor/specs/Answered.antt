@@ -50,12 +50,15 @@ pub record Answered (plan : PlanView) (old new : Notes) (last : ℕ → ℕ → 
   pub shown : (s p : ℕ) (f : Fact) → has_fact (facts_under plan s p pairs (at_places plan.places visits)) f ≡ true → IsShown new s p f
   pub nothing_else : (s p : ℕ) (f : Fact) → new.marked s p f ≡ true → old.marked s p f ≡ true ⊎ has_fact (facts_under plan s p pairs (at_places plan.places visits)) f ≡ true
 
--- it has planted and closed nothing, and knows of no lower tag
+-- it has planted and closed nothing, knows of no lower tag, has made no boundary, and has looked at no task and no set
 pub record LeavesSessions (old new : Notes) : Type 0 where
   pub seen : (p : ℕ) → old.seen p ≤ new.seen p
   pub last : new.last ≡ old.last
   pub plants : new.tally.plants ≡ old.tally.plants
   pub closes : new.tally.closes ≡ old.tally.closes
+  pub numbers : new.numbers ≡ old.numbers
+  pub noted : new.noted ≡ old.noted
+  pub settled : new.settled ≡ old.settled
 
 -- the pass has made these visits itself, and nothing else
 pub record Makes (plan : PlanView) (old new : Notes) (visits : List Visit) : Type 0 where

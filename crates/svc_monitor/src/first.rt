@@ -67,6 +67,7 @@ fn at_place<C: Cells>(cells: &C, pass: &mut C::Pass, tables: &Tables, place: Pla
 /// The original first halfword of the instruction at the address. Code 6 exactly at an odd address, else code 5
 /// exactly where the halfword is inaccessible; neither takes a step on the area. Where a place begins there its cell
 /// is fetched, which is the only step.
+#[inline(always)]
 pub fn first_half<C: Cells, P: Space>(
     cells: &C,
     pass: &mut C::Pass,

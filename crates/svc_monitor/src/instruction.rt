@@ -91,6 +91,7 @@ fn step_subject<C: Cells, P: Space>(
 /// visit shows under a session's odd tag is marked for that session alone. Then, and before what the instruction does,
 /// SVC 4, itself or as the subject of EX, opens the next session of the control where none is open, and SVC 5 closes the
 /// open one. The pass is a task's, tied to the control.
+#[inline(always)]
 pub fn step<C: Cells, P: Space>(
     cells: &C,
     pass: &mut C::Pass,

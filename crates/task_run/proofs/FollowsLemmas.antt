@@ -93,7 +93,7 @@ shown_changed plan b c s p f ch shown = elim shown [
   | inr m ↦ inr (ap (λ (g : ℕ → ℕ → Bool). g s p) ch.full ∙ m)
 ]
 
-Observes-changed : (plan : PlanView) (a b c : Notes) (visits : List Visit) → Observes plan a b visits → Changes plan b c → Observes plan a c visits
+pub Observes-changed : (plan : PlanView) (a b c : Notes) (visits : List Visit) → Observes plan a b visits → Changes plan b c → Observes plan a c visits
 Observes-changed plan a b c visits o ch = record {
   grows = record {
     marked = λ s p f m. ap (λ (g : ℕ → ℕ → Fact → Bool). g s p f) ch.marked ∙ o.grows.marked s p f m;
@@ -116,7 +116,7 @@ Observes-changed plan a b c visits o ch = record {
   lifts = omega (arith, ch.lifts, o.lifts);
 }
 
-Answered-changed : (plan : PlanView) (a b c : Notes) (last : ℕ → ℕ → ℕ) (visits : List Visit) → Answered plan a b last visits → Changes plan b c → Answered plan a c last visits
+pub Answered-changed : (plan : PlanView) (a b c : Notes) (last : ℕ → ℕ → ℕ) (visits : List Visit) → Answered plan a b last visits → Changes plan b c → Answered plan a c last visits
 Answered-changed plan a b c last visits x ch = record {
   pairs = x.pairs;
   appended = ch.answered ∙ x.appended;

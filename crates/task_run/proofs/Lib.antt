@@ -1,3 +1,4 @@
+pub mod AsideLemmas
 pub mod CloseLemmas
 pub mod CountLemmas
 pub mod FollowsLemmas

@@ -90,39 +90,39 @@ LedTo-start m plan n c budget s = let all : budget - 0 ≡ budget = omega arith 
   rest = rw all refl;
 }
 
-run_on-more : (m : Memory) (n : ℕ) (s t : State) (trace : List Visit) → has_returned s ≡ false → (solo_step m s).next ≡ On → (solo_step m s).state ≡ t →
+pub run_on-more : (m : Memory) (n : ℕ) (s t : State) (trace : List Visit) → has_returned s ≡ false → (solo_step m s).next ≡ On → (solo_step m s).state ≡ t →
     run_on m (suc n) s trace ≡ run_on m n t (trace ++ (solo_step m s).visits)
 unfolding run_on
 run_on-more m n s t trace here next state = rw (here, next, state) refl
 
-run_on-ended : (m : Memory) (n : ℕ) (s t : State) (trace : List Visit) (e : Ending) → has_returned s ≡ false → (solo_step m s).next ≡ Ended e → (solo_step m s).state ≡ t →
+pub run_on-ended : (m : Memory) (n : ℕ) (s t : State) (trace : List Visit) (e : Ending) → has_returned s ≡ false → (solo_step m s).next ≡ Ended e → (solo_step m s).state ≡ t →
     run_on m (suc n) s trace ≡ run_ended e t (trace ++ (solo_step m s).visits)
 unfolding run_on
 run_on-ended m n s t trace e here next state = rw (here, next, state) refl
 
-run_on-returned : (m : Memory) (n : ℕ) (s : State) (trace : List Visit) → has_returned s ≡ true → run_on m n s trace ≡ run_ended Returned s trace
+pub run_on-returned : (m : Memory) (n : ℕ) (s : State) (trace : List Visit) → has_returned s ≡ true → run_on m n s trace ≡ run_ended Returned s trace
 unfolding run_on
 run_on-returned m zero s trace here = rw here refl
 run_on-returned m (suc n) s trace here = rw here refl
 
-run_on-spent : (m : Memory) (s : State) (trace : List Visit) → has_returned s ≡ false → run_on m 0 s trace ≡ run_ended Spent s trace
+pub run_on-spent : (m : Memory) (s : State) (trace : List Visit) → has_returned s ≡ false → run_on m 0 s trace ≡ run_ended Spent s trace
 unfolding run_on
 run_on-spent m s trace here = rw here refl
 
-calls_on-more : (m : Memory) (n : ℕ) (s t : State) → has_returned s ≡ false → (solo_step m s).next ≡ On → (solo_step m s).state ≡ t → calls_on m (suc n) s ≡ call_of m s ∷ calls_on m n t
+pub calls_on-more : (m : Memory) (n : ℕ) (s t : State) → has_returned s ≡ false → (solo_step m s).next ≡ On → (solo_step m s).state ≡ t → calls_on m (suc n) s ≡ call_of m s ∷ calls_on m n t
 unfolding calls_on
 calls_on-more m n s t here next state = rw (here, next, state) refl
 
-calls_on-ended : (m : Memory) (n : ℕ) (s : State) (e : Ending) → has_returned s ≡ false → (solo_step m s).next ≡ Ended e → calls_on m (suc n) s ≡ call_of m s ∷ []
+pub calls_on-ended : (m : Memory) (n : ℕ) (s : State) (e : Ending) → has_returned s ≡ false → (solo_step m s).next ≡ Ended e → calls_on m (suc n) s ≡ call_of m s ∷ []
 unfolding calls_on
 calls_on-ended m n s e here next = rw (here, next) refl
 
-calls_on-returned : (m : Memory) (n : ℕ) (s : State) → has_returned s ≡ true → calls_on m n s ≡ []
+pub calls_on-returned : (m : Memory) (n : ℕ) (s : State) → has_returned s ≡ true → calls_on m n s ≡ []
 unfolding calls_on
 calls_on-returned m zero s here = refl
 calls_on-returned m (suc n) s here = rw here refl
 
-calls_on-spent : (m : Memory) (s : State) → calls_on m 0 s ≡ []
+pub calls_on-spent : (m : Memory) (s : State) → calls_on m 0 s ≡ []
 unfolding calls_on
 calls_on-spent m s = refl
 

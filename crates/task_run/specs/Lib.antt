@@ -1,3 +1,4 @@
+pub mod Aside
 pub mod Called
 pub mod Courses
 pub mod Ran

@@ -2,6 +2,7 @@
 ghost use Rattle.std.specs.Prelude.{◌≡◌, ℕ, ◌+◌, ◌*◌, ◌<◌, ◌≤◌, ◌^◌, true, IfOk};
 ghost use Rattle.std.specs.declared.option.Option.TheVariants.{None};
 ghost use Rattle.cov_base.specs.FactSet.{FactSet};
+ghost use Rattle.module_area.specs.Ended.{AreSettled};
 ghost use Rattle.module_area.specs.Notes.{Notes, bearer, calls, is_working, split_notes};
 ghost use Rattle.module_area.specs.PlanView.{PlanView};
 ghost use Rattle.module_area.specs.Tied.{IsTied};
@@ -38,8 +39,8 @@ pub trait Runner<C: Cells> {
     fn extra(&self, alloc: Global, plan: &Plan, task: TaskNo) -> Result<Self::Extra, NoMemory>
         ensures { IfOk result (λ extra. (root : Notes) → begins plan.now task.0 extra (split_notes plan.now root task.0)) };
 
-    /// Runs the task until it ends: ending, state, count and what the pass has done are those of its course. The pass's
-    /// tally sums to less than 2^60 before.
+    /// Runs the task until it ends: ending, state, count and what the pass has done are those of its course, and what the
+    /// extra tells holds of all sets that are as the pass knows them final. The pass's tally sums to less than 2^60 before.
     fn run(
         &self,
         cells: &C,
@@ -60,7 +61,7 @@ pub trait Runner<C: Cells> {
         requires begins { begins plan.now (bearer (C.notes pass.old)) extra.old (C.notes pass.old) }
         ensures area { C.is_pass cells.now pass.new }
         ensures ran { RanAs course (C.plan cells.now) (C.notes pass.old) (C.notes pass.new) task.old task.new result }
-        ensures ends { (sets : ℕ → ℕ → FactSet) → ends plan.now task.old task.new extra.new sets };
+        ensures ends { (sets : ℕ → ℕ → FactSet) → AreSettled (C.plan cells.now) (C.notes pass.new) sets → ends plan.now task.old task.new extra.new sets };
 }
 
 /// Of a task's plain run nothing is kept.

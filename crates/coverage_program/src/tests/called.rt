@@ -49,7 +49,7 @@ DATA 0 0A0445E010080A0507FD\n\
 ENDJOB\n";
 
 /// It goes through the module and leaves the session open.
-const LEFT_OPEN: &str = "\
+pub const LEFT_OPEN: &str = "\
 COVERJOB 1\n\
 MODULE M 100000 8\n\
 TEXT 411000051A1107FE\n\
@@ -67,7 +67,7 @@ DATA 0 0A0445E0100007FD\n\
 ENDJOB\n";
 
 /// Task A goes through the module, and task C never opens the session.
-const NEVER: &str = "\
+pub const NEVER: &str = "\
 COVERJOB 1\n\
 MODULE M 100000 8\n\
 TEXT 411000051A1107FE\n\
@@ -84,7 +84,7 @@ DATA 0 07FE\n\
 ENDJOB\n";
 
 /// Task C opens and closes two sessions, one after the other, while task A goes through the module.
-const TWO: &str = "\
+pub const TWO: &str = "\
 COVERJOB 1\n\
 MODULE M 100000 8\n\
 TEXT 411000051A1107FE\n\

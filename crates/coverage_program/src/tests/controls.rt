@@ -125,8 +125,9 @@ fn with_sessions(alloc: Global, plan: Plan) -> Result<Plan, NoMemory>
 }
 
 /// Load address, add and branch, and tasks 0 and 1.
-fn two_sessions(alloc: Global) -> Result<Plan, Fail>
-    ensures { IfOk result (λ p. has_task p.tasks 1 ≡ true) }
+pub fn two_sessions(alloc: Global) -> Result<Plan, Fail>
+    ensures first { IfOk result (λ p. has_task p.tasks 0 ≡ true) }
+    ensures second { IfOk result (λ p. has_task p.tasks 1 ≡ true) }
 {
     let load = Place {
         module: 0,

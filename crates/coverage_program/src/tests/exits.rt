@@ -646,13 +646,19 @@ NOT EXECUTED 000006-00000D\n\
 END\n",
 };
 
-/// What came over areas is the case's text, and without them its word is none.
-fn check_came<T: Abort>(rt: &T, alloc: Global, case: &Case, came: &Came) -> Result<(), Fail> {
+/// What came over areas, which are so many, is the case's text, and without them its word is none.
+pub fn check_came<T: Abort>(
+    rt: &T,
+    alloc: Global,
+    case: &Case,
+    came: &Came,
+    made: u64,
+) -> Result<(), Fail> {
     let name = case.name;
     let text = text_of(alloc, case)?;
     assert_eq!(rt; came.text.as_slice(), text.as_slice(), "{name}");
     assert_eq!(rt; came.status, Status(case.status), "{name}");
-    assert_eq!(rt; came.made, 1, "{name}");
+    assert_eq!(rt; came.made, made, "{name}");
     assert_eq!(rt; came.text_alone.as_slice(), USAGE, "{name}");
     assert_eq!(rt; came.alone, Status(1), "{name}");
     Ok(())
@@ -663,7 +669,7 @@ fn takes_exits(rt: HostRuntime) -> Result<(), Fail> {
     let alloc = rt.alloc();
     for case in &EXITS {
         let came = serve(&rt, alloc, &["exits"], &job_of(alloc, case)?)?;
-        check_came(&rt, alloc, case, &came)?;
+        check_came(&rt, alloc, case, &came, 1)?;
     }
     Ok(())
 }
@@ -672,5 +678,5 @@ fn takes_exits(rt: HostRuntime) -> Result<(), Fail> {
 fn runs_without_exits(rt: HostRuntime) -> Result<(), Fail> {
     let alloc = rt.alloc();
     let came = serve(&rt, alloc, &["run"], &job_of(alloc, &NO_EXIT)?)?;
-    check_came(&rt, alloc, &NO_EXIT, &came)
+    check_came(&rt, alloc, &NO_EXIT, &came, 1)
 }

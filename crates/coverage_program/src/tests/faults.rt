@@ -1,6 +1,7 @@
 //! Faults of source and sink at each call in turn, of every command; and tasks that begin where nothing can be fetched, or
 //! change their own code.
 
+use super::called::THROUGH;
 use super::evidence::{fields, proved, refuted, unproved};
 use super::marked::{PHASES, Row, bad_files, bad_jobs, bad_shown, good};
 use super::notation::Part::{Code, Marked, Text};
@@ -31,7 +32,7 @@ const DIVIDED: &str =
     "000000 4110 F00A LA, 000004 0A06 SVC, 000006 1D24 DR, 000008 07FE BR, 00000A 07FE BR";
 
 /// The commands that take no marks file, on what they serve and on what they refuse.
-static SERVED: [Row; 9] = [
+static SERVED: [Row; 12] = [
     Row {
         name: "run",
         words: &["run"],
@@ -106,6 +107,57 @@ SESSION S PHASE P\n",
         input: &[Code(LOAD), Text("TASK A 100000 16 100 0\n")],
         status: 2,
         output: &[Text("BAD JOB LINE 12\n")],
+    },
+    Row {
+        name: "early",
+        words: &["early"],
+        input: &[Text(THROUGH)],
+        status: 0,
+        output: &[
+            Text(
+                "\
+COVERAGE REPORT\n\
+TASK C RETURNED COUNT 7 CC 2\n\
+R0 00000000 0000000A 00000000 00000000 00000000 00000000 00000000 00000000\n\
+R8 00000000 00000000 00000000 00000000 00000000 00FFFFFE 80000006 00000000\n\
+OUT 0\n\
+SESSION S PHASE P\n",
+            ),
+            Marked(LOAD, "::: EXECUTED 3 FACTS 3 OF 3"),
+            Text("DRAINED COUNT 6\nEND\n"),
+        ],
+    },
+    Row {
+        name: "count",
+        words: &["count"],
+        input: &[
+            Code(COUNT),
+            Text("TASK A 100000 16 100 0\nREG 1 00000003\nENDJOB\n"),
+        ],
+        status: 0,
+        output: &[Text(
+            "\
+COVERAGE COUNT\n\
+TASK A RETURNED COUNT 4 CC 0\n\
+R0 00000000 00000000 00000000 00000000 00000000 00000000 00000000 00000000\n\
+R8 00000000 00000000 00000000 00000000 00000000 00000000 00FFFFFE 00100000\n\
+OUT 0\n\
+SESSION S PHASE P\n\
+MODULE M PLACES 2\n\
+COUNT 000000 2 1\n\
+COUNT 000004 1\n\
+END\n",
+        )],
+    },
+    Row {
+        name: "count: a controller",
+        words: &["count"],
+        input: &[
+            Code(COUNT),
+            Text("PHASE Q\nSESSION T BY A M\nTASK A 100000 16 100 0\nENDJOB\n"),
+        ],
+        status: 14,
+        output: &[Text("CONTROLLED T\n")],
     },
     Row {
         name: "table",
@@ -222,9 +274,11 @@ END\n",
 ];
 
 /// Words of each command, and words that are none.
-static WORDS: [&[&str]; 10] = [
+static WORDS: [&[&str]; 12] = [
     &["run"],
+    &["early"],
     &["exits"],
+    &["count"],
     &["marks", "S"],
     &["table"],
     &["replay"],

@@ -18,7 +18,7 @@ use std::thread::Threads;
 /// Whether the words run the job's tasks.
 fn runs(words: &[&str]) -> bool {
     match words.first() {
-        Some(word) => *word == "marks" || *word == "run",
+        Some(word) => *word == "marks" || *word == "run" || *word == "early",
         None => false,
     }
 }

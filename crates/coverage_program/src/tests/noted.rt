@@ -5,7 +5,7 @@ ghost use Rattle.std.specs.Prelude.{◌≡◌};
 use arrayvec::ArrayVec;
 use cov_base::{Bits, Fact, NoMemory, PlaceNo, SessNo, TaskNo};
 use cov_outside::Gate;
-use module_area::{Areas, Cell, Cells, Finals, Forks, Plan, Tally};
+use module_area::{Areas, Cell, Cells, Drains, Finals, Forks, Plan, Tally};
 use std::alloc::{AllocError, Global};
 use std::sync::atomic::{AtomicU64, Ordering};
 
@@ -162,6 +162,20 @@ impl<'a, C: Forks> Forks for NotedCells<'a, C> {
         let NotedPass { pass, kept } = other;
         keep_all(&mut root.kept.calls, &kept.calls);
         self.cells.join(&mut root.pass, pass)
+    }
+}
+
+impl<'a, C: Drains> Drains for NotedCells<'a, C> {
+    fn boundary(&self, pass: &mut NotedPass<C::Pass>, ended: bool) {
+        self.cells.boundary(&mut pass.pass, ended)
+    }
+
+    fn note(&self, pass: &mut NotedPass<C::Pass>, task: TaskNo) -> u64 {
+        self.cells.note(&mut pass.pass, task)
+    }
+
+    fn read_set(&self, pass: &mut NotedPass<C::Pass>, s: SessNo, place: PlaceNo) -> Bits {
+        self.cells.read_set(&mut pass.pass, s, place)
     }
 }
 

@@ -1,4 +1,4 @@
-//! A task over a pass that was split for it, on one thread: how it ends, and what the pass meets at its places then.
+//! A task over a pass that was split for it, on one thread: how it ends, and what another task's pass meets at its places then.
 ghost use Rattle.std.specs.Prelude.{◌≡◌, ◌<◌, ◌≤◌, ◌^◌, true, [], length, All};
 ghost use Rattle.std.specs.declared.option.Option.TheVariants.{None};
 ghost use Rattle.brk_table.specs.Places.{IsIn};
@@ -20,11 +20,12 @@ use std::cmp::min;
 use std::test::Fail;
 use task_run::{Task, run_task};
 
-/// Whether session 1 observes the first two places, the first task is one of the phase, and no task controls a session.
+/// Whether session 1 observes the first two places, the first two tasks are of the phase, and no task controls a session.
 fn may_run(plan: &Plan) -> bool
     ensures places { result ≡ true → 2 ≤ length plan.now.places }
     ensures windows { result ≡ true → (window_at plan.now 0 ≡ 1) × (window_at plan.now 1 ≡ 1) }
     ensures task { result ≡ true → has_task plan.now.tasks 0 ≡ true }
+    ensures other { result ≡ true → has_task plan.now.tasks 1 ≡ true }
     ensures whole { result ≡ true → plan.now.controlled ≡ [] }
 {
     if !plan.controlled.is_empty() {
@@ -33,7 +34,7 @@ fn may_run(plan: &Plan) -> bool
     if plan.places_len() < 2 || plan.window(PlaceNo(0)) != 1 || plan.window(PlaceNo(1)) != 1 {
         return false;
     }
-    plan.tasks.iter().any(|t| t.0 == 0)
+    plan.tasks.iter().any(|t| t.0 == 0) && plan.tasks.iter().any(|t| t.0 == 1)
 }
 
 /// Runs the first task with the pass.
@@ -55,9 +56,6 @@ fn run_first<C: Cells>(
     requires places { (C.plan cells.now).places ≡ tables.now.places }
     requires task { 0 < length job.now.tasks }
     requires tables { All (IsIn job.now.images) tables.now.places }
-    ensures area { C.is_pass cells.now pass.new }
-    ensures working { is_working (C.notes pass.new) ≡ true }
-    ensures room { calls (C.notes pass.new) < 2 ^ 61 }
 {
     let Begun { cpu, space, io } = begin(alloc, job, tables, 0)?;
     let mut task = Task {
@@ -71,7 +69,7 @@ fn run_first<C: Cells>(
     Ok(run_task(cells, pass, tables, plan, &mut task))
 }
 
-/// The first phase's first task, with two places planted.
+/// The first phase's first task, with two places planted, and the cells that the second task meets there behind its run.
 fn alone<A: Areas>(
     alloc: Global,
     areas: &mut A,
@@ -95,17 +93,21 @@ where
     cells.plant(&mut root, SessNo(1), PlaceNo(0));
     cells.plant(&mut root, SessNo(1), PlaceNo(1));
     let mut pass = cells.split(&mut root, TaskNo(0));
+    let mut other = cells.split(&mut root, TaskNo(1));
     let ending = run_first(alloc, &cells, &mut pass, job, tables, &plan, control)?;
     let met = [
-        cells.fetch(&mut pass, PlaceNo(0)),
-        cells.fetch(&mut pass, PlaceNo(1)),
+        cells.fetch(&mut other, PlaceNo(0)),
+        cells.fetch(&mut other, PlaceNo(1)),
     ];
     Ok(Some((ending, met)))
 }
 
-/// What comes of the first task of a job, alone in its area; none where no job is read.
+/// What comes of the first task of a job, alone in its area; none where no job is read. The job gets a second task.
 fn came(alloc: Global, job: &[u8]) -> Result<Option<(Ending, [Cell; 2])>, Fail> {
-    let mut source = MemSource::new(job.to_vec(alloc)?, 64, Vec::new(alloc));
+    // The last card is ENDJOB.
+    let mut bytes = job[..job.len().saturating_sub(7)].to_vec(alloc)?;
+    bytes.extend_from_slice(b"TASK Z 100000 16 100 0\nENDJOB\n")?;
+    let mut source = MemSource::new(bytes, 64, Vec::new(alloc));
     let Ok(ready) = make_ready(alloc, &mut source, false) else {
         return Ok(None);
     };

@@ -29,7 +29,7 @@ END\n",
 };
 
 pub const USAGE: &[u8] =
-    b"USAGE: run | marks NAME | trial NUMBER TASKS | table | replay | combine | show NAME | exits | prove NAME | verify NAME\n";
+    b"USAGE: run | marks NAME | trial NUMBER TASKS | table | replay | combine | show NAME | early | count | exits | prove NAME | verify NAME\n";
 
 /// Jobs with what `table` writes for them.
 const CASES: [Case; 4] = [
@@ -137,7 +137,15 @@ fn lists_the_places_of_each_job(rt: HostRuntime) -> Result<(), Fail> {
 #[test]
 fn other_words_are_usage(rt: HostRuntime) -> Result<(), Fail> {
     let alloc = rt.alloc();
-    let lists: [&[&str]; 4] = [&[], &["tables"], &["Table"], &["table", "run"]];
+    let lists: [&[&str]; 7] = [
+        &[],
+        &["tables"],
+        &["Table"],
+        &["table", "run"],
+        &["count", "S"],
+        &["Count"],
+        &["early", "S"],
+    ];
     for words in &lists {
         let came = serve(&rt, alloc, *words, &job_of(alloc, &LOOP)?)?;
         assert_eq!(rt; came.status, Status(1));

@@ -1,7 +1,8 @@
-use Rattle.std.proofs.Common.{ℕ, ◌+◌, Option, None, [], is_some, arith, refl, sym, ap, ◌∙◌}
+use Rattle.std.proofs.Common.{ℕ, ◌+◌, None, [], arith, refl, sym, ◌∙◌}
 use Rattle.s370_state.specs.declared.endings.Ending.TheVariants.{Returned, Spent}
 use Rattle.s370_exec.specs.Solo.{state_of}
 use Rattle.space_map.specs.Space.{memory_of_space}
+use Rattle.task_run.proofs.AsideLemmas.{step_working}
 use Rattle.task_run.proofs.RanLemmas.{ran_along}
 use Rattle.task_run.proofs.RunLemmas.{IsRun}
 use Rattle.check_exits.specs.Exits.{exit_on, exit_calls, with_exits}
@@ -12,6 +13,7 @@ use Rattle.check_exits.proofs.run.run_under.Goals as goal
 pub loop-done-init : goal.loop-done-init
 loop-done-init g c = record {
   area = c.requires.area;
+  working = c.requires.working;
   memory = refl;
   budget = refl;
   done = c.requires.fresh;
@@ -25,7 +27,7 @@ step_under-requires-clause-room g c =
     omega (arith, c.loop-done.invariant.run.made.few, c.requires.room)
 
 pub step_under-requires-clause-working : goal.step_under-requires-clause-working
-step_under-requires-clause-working g c = ap (λ (o : Option ℕ). is_some o) c.loop-done.invariant.run.made.follows.observes.grows.bears ∙ c.requires.working
+step_under-requires-clause-working g c = c.loop-done.invariant.working
 
 pub loop-done-preserved : goal.loop-done-preserved
 loop-done-preserved g c =
@@ -33,6 +35,7 @@ loop-done-preserved g c =
     let same = c.loop-done.invariant.memory in
     record {
       area = c.step_under.ensures.area;
+      working = step_working _ _ _ _ _ _ (c.step_under.ensures.turns i) c.loop-done.invariant.working;
       memory = c.step_under.ensures.memory ∙ same;
       budget = c.step_under.ensures.budget ∙ c.loop-done.invariant.budget;
       done = c.step_under.ensures.done;

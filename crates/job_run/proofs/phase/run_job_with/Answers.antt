@@ -9,7 +9,7 @@ use Rattle.job_run.proofs.phase.run_job_with.Goals as goal
 
 pub run_phases-requires-clause-tasks : goal.run_phases-requires-clause-tasks
 run_phases-requires-clause-tasks g c κs within =
-    AreRun-start g.R.Runner.course g.R.Runner.ends c.args.job.now c.args.tables.now.places c.deref_mut.result.now
+    AreRun-start g.R.Runner.course c.args.job.now c.args.tables.now.places c.deref_mut.result.now
     (subst (λ (ss : List (Slot _ _)). AreNew c.args.job.now c.args.tables.now.places ss) (sym c.deref_mut.ensures.value) c.in_ok-slots.ensures.tasks)
 
 pub parts_of-tasks-requires-clause-some : goal.parts_of-tasks-requires-clause-some
@@ -19,7 +19,7 @@ parts_of-tasks-requires-clause-some g c =
     let whole : take c.in_ok-slots.slots.len (new ++ drop (length new) old) ≡ new =
     written old new c.in_ok-slots.slots.len (c.run_phases.auto.slots ∙ ap (λ (ss : List (Slot _ _)). length ss) c.deref_mut.ensures.value) (sym c.in_ok-slots.slots.ok.0) in
     subst (λ (ss : List (Slot _ _)). All (λ s. IsSome s.extra) ss) (sym whole)
-    (has_some g.R.Runner.course g.R.Runner.ends c.args.job.now c.args.tables.now.places new c.run_phases.ensures.job c.in_ok-finals.ensures.tasks)
+    (has_some g.R.Runner.course g.R.Runner.ends c.args.job.now c.args.tables.now.places c.in_ok-finals.finals.items new c.run_phases.ensures.job c.in_ok-finals.ensures.tasks c.in_ok-finals.ensures.extras)
 
 pub new-sets-requires-clause-count : goal.new-sets-requires-clause-count
 new-sets-requires-clause-count g c = left_count g.R.Runner.course c.args.job.now c.args.tables.now.places _ _ c.in_ok-finals.finals.items c.in_ok-finals.ensures.left
@@ -37,7 +37,7 @@ returns-clause-outcome g c =
     let new : List (Slot _ _) = c.run_phases.new.slots in
     let whole : take c.in_ok-slots.slots.len (new ++ drop (length new) old) ≡ new =
     written old new c.in_ok-slots.slots.len (c.run_phases.auto.slots ∙ ap (λ (ss : List (Slot _ _)). length ss) c.deref_mut.ensures.value) (sym c.in_ok-slots.slots.ok.0) in
-    outcome g.R.Runner.course g.R.Runner.ends c.args.job.now c.args.tables.now.places _ _ new c.parts_of-tasks.result.0.items c.in_ok-finals.finals.items c.new-sets.result c.run_phases.ensures.job c.in_ok-finals.ensures.left
+    outcome g.R.Runner.course c.args.job.now c.args.tables.now.places _ _ new c.parts_of-tasks.result.0.items c.in_ok-finals.finals.items c.new-sets.result c.run_phases.ensures.job c.in_ok-finals.ensures.left
     c.in_ok-finals.ensures.tasks (c.parts_of-tasks.ensures.tasks ∙ ap (λ (ss : List (Slot _ _)). dones ss) whole) c.new-sets.ensures
 
 pub returns-clause-extras : goal.returns-clause-extras
@@ -47,4 +47,4 @@ returns-clause-extras g c =
     let whole : take c.in_ok-slots.slots.len (new ++ drop (length new) old) ≡ new =
     written old new c.in_ok-slots.slots.len (c.run_phases.auto.slots ∙ ap (λ (ss : List (Slot _ _)). length ss) c.deref_mut.ensures.value) (sym c.in_ok-slots.slots.ok.0) in
     are_extras g.R.Runner.course g.R.Runner.ends c.args.job.now c.args.tables.now.places new c.parts_of-tasks.result.0.items c.parts_of-tasks.result.1.items c.in_ok-finals.finals.items c.new-sets.result c.run_phases.ensures.job
-    c.in_ok-finals.ensures.tasks (c.parts_of-tasks.ensures.tasks ∙ ap (λ (ss : List (Slot _ _)). dones ss) whole) (c.parts_of-tasks.ensures.extras ∙ ap (λ (ss : List (Slot _ _)). extras_of ss) whole) c.new-sets.ensures
+    c.in_ok-finals.ensures.tasks c.in_ok-finals.ensures.extras (c.parts_of-tasks.ensures.tasks ∙ ap (λ (ss : List (Slot _ _)). dones ss) whole) (c.parts_of-tasks.ensures.extras ∙ ap (λ (ss : List (Slot _ _)). extras_of ss) whole) c.new-sets.ensures

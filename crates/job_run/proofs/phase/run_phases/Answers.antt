@@ -1,7 +1,9 @@
-use Rattle.std.proofs.Common.{◌≡◌, ℕ, ◌+◌, ◌<◌, List, length, subst, sym, arith}
+use Rattle.std.proofs.Common.{◌≡◌, ℕ, ◌+◌, ◌<◌, List, [], ◌∷◌, length, ap, ◌∙◌, subst, sym, arith, length-append}
 use Rattle.module_area.specs.FinalsView.{FinalsView}
+use Rattle.job_run.specs.Slots.{HaveAllExtras}
 use Rattle.job_run.specs.Tasks.{AreRun}
 use Rattle.job_run.proofs.PhaseLemmas.{HasRunTo, HasRunTo-start, HasRunTo-next, HasRunTo-all}
+use Rattle.job_run.proofs.TaskLemmas.{HaveAllExtras-start, HaveAllExtras-next}
 use Rattle.job_run.proofs.phase.run_phases.Goals as goal
 
 pub loop-phase-preserved : goal.loop-phase-preserved
@@ -12,6 +14,10 @@ loop-phase-preserved g c =
     _ (g.A.Areas.finals c.loop-phase.areas) (g.A.Areas.finals c.run_phase.new.areas) here c.loop-phase.invariant.areas c.in_ok-ended.ensures.grown in
     record {
       tasks = c.in_ok-ended.ensures.tasks;
+      extras = subst (λ (fs : List FinalsView). HaveAllExtras g.R.Runner.ends c.args.job.now c.args.tables.now.places (phase + 1) fs c.run_phase.new.slots) (sym c.in_ok-push.ensures.items)
+          (HaveAllExtras-next g.R.Runner.ends c.args.job.now c.args.tables.now.places phase c.loop-phase.finals.items c.in_ok-ended.ended c.loop-phase.slots c.run_phase.new.slots c.loop-phase.invariant.count
+          c.loop-phase.invariant.extras c.in_ok-ended.ensures.others c.in_ok-ended.ensures.extras);
+      count = ap (λ (fs : List FinalsView). length fs) c.in_ok-push.ensures.items ∙ (length-append c.loop-phase.finals.items (c.in_ok-ended.ended ∷ []) ∙ ap (λ (n : ℕ). n + 1) c.loop-phase.invariant.count);
       empty = c.in_ok-ended.ensures.empty;
       made = omega (arith, c.in_ok-ended.ensures.made, c.loop-phase.invariant.made);
       areas = subst (λ (fs : List FinalsView). HasRunTo g.R.Runner.course c.args.job.now c.args.tables.now.places (phase + 1) fs (g.A.Areas.ledger c.args.areas.now) (g.A.Areas.ledger c.run_phase.new.areas)
@@ -26,11 +32,18 @@ returns-clause-left g c =
 pub returns-clause-tasks : goal.returns-clause-tasks
 returns-clause-tasks g c =
     let all : length c.args.job.now.phases ≡ c.loop-phase.phase = omega (arith, c.loop-phase-test.false, c.loop-phase.auto.phase-end, c.phase_count-count.ensures.value) in
-    subst (λ (n : ℕ). AreRun g.R.Runner.course g.R.Runner.ends c.args.job.now c.args.tables.now.places n c.loop-phase.slots) (sym all) c.loop-phase.invariant.tasks
+    subst (λ (n : ℕ). AreRun g.R.Runner.course c.args.job.now c.args.tables.now.places n c.loop-phase.slots) (sym all) c.loop-phase.invariant.tasks
+
+pub returns-clause-extras : goal.returns-clause-extras
+returns-clause-extras g c =
+    let all : length c.args.job.now.phases ≡ c.loop-phase.phase = omega (arith, c.loop-phase-test.false, c.loop-phase.auto.phase-end, c.phase_count-count.ensures.value) in
+    subst (λ (n : ℕ). HaveAllExtras g.R.Runner.ends c.args.job.now c.args.tables.now.places n c.loop-phase.finals.items c.loop-phase.slots) (sym all) c.loop-phase.invariant.extras
 
 pub loop-phase-init : goal.loop-phase-init
 loop-phase-init g c = record {
   tasks = c.requires.tasks;
+  extras = HaveAllExtras-start g.R.Runner.ends c.args.job.now c.args.tables.now.places c.in_ok-finals.finals.items c.args.slots.now;
+  count = ap (λ (fs : List FinalsView). length fs) c.in_ok-finals.ensures.items;
   empty = c.requires.empty;
   made = omega arith;
   areas = rw c.in_ok-finals.ensures.items (HasRunTo-start g.R.Runner.course c.args.job.now c.args.tables.now.places (g.A.Areas.ledger c.args.areas.now) (g.A.Areas.finals c.args.areas.now));

@@ -4,6 +4,7 @@ use Rattle.module_area.specs.PlanView.{PlanView}
 use Rattle.session_book.specs.Sessions.{task_of}
 use Rattle.job_run.specs.Slots.{AreEquipped, HasStart}
 use Rattle.job_run.proofs.SlotLemmas.{AreEquipped-start, AreEquipped-one, AreEquipped-other, AreRun-equipped, begun_in, empty_set, plan_here}
+use Rattle.job_run.proofs.TaskLemmas.{KeepsOthers-none, KeepsOthers-set}
 use Rattle.job_run.proofs.threads.equip_all.Goals as goal
 use Rattle.job_run.proofs.threads.equip_all.Goals.{then-is_of+in_ok-control+in_ok-extra, else-is_of}
 
@@ -11,6 +12,7 @@ pub loop-t-init : goal.loop-t-init
 loop-t-init g c = record {
   tasks = c.requires.tasks;
   empty = c.requires.empty;
+  others = KeepsOthers-none c.args.job.now c.args.phase c.args.slots.now;
   equipped = AreEquipped-start g.R.Runner.begins c.args.plan.now c.args.job.now c.args.tables.now.places c.args.phase c.args.slots.now;
 }
 
@@ -22,7 +24,7 @@ loop-t-preserved g c =
     elim c.if-is_of.branch [
       | then-is_of+in_ok-control+in_ok-extra w ↦
           let of : nat_eq (task_of c.args.job.now t).phase c.args.phase ≡ true = sym c.is_of.ensures ∙ w.if-is_of.true in
-          let begun = w.equip.ensures.begun c.args.job.now c.args.tables.now.places t (begun_in g.R.Runner.course g.R.Runner.ends c.args.job.now c.args.tables.now.places c.args.phase t c.loop-t.slots w.index-slots-t.result i.tasks there of) in
+          let begun = w.equip.ensures.begun c.args.job.now c.args.tables.now.places t (begun_in g.R.Runner.course c.args.job.now c.args.tables.now.places c.args.phase t c.loop-t.slots w.index-slots-t.result i.tasks there of) in
           let start : HasStart g.R.Runner.begins c.args.plan.now c.args.job.now c.args.tables.now.places t w.equip.new.slot = record {
             task = record {
               begun = begun;
@@ -33,8 +35,9 @@ loop-t-preserved g c =
             starts = w.in_ok-extra.ensures;
           } in
           record {
-            tasks = rw (w.slots-is) (AreRun-equipped g.R.Runner.course g.R.Runner.ends c.args.job.now c.args.tables.now.places c.args.phase t c.loop-t.slots w.equip.new.slot there of i.tasks begun);
+            tasks = rw (w.slots-is) (AreRun-equipped g.R.Runner.course c.args.job.now c.args.tables.now.places c.args.phase t c.loop-t.slots w.equip.new.slot there of i.tasks begun);
             empty = rw (w.slots-is) (empty_set c.loop-t.slots t w.equip.new.slot w.index-slots-t.result there i.empty w.equip.ensures.pass);
+            others = rw (w.slots-is) (KeepsOthers-set c.args.job.now c.args.phase t c.args.slots.now c.loop-t.slots w.equip.new.slot of i.others);
             equipped = rw (w.slots-is) (AreEquipped-one g.R.Runner.begins c.args.plan.now c.args.job.now c.args.tables.now.places c.args.phase t c.loop-t.slots w.equip.new.slot there i.equipped start);
           }
       | else-is_of w ↦
@@ -42,6 +45,7 @@ loop-t-preserved g c =
           record {
             tasks = rw (w.slots-is) i.tasks;
             empty = rw (w.slots-is) i.empty;
+            others = rw (w.slots-is) i.others;
             equipped = rw (w.slots-is) (AreEquipped-other g.R.Runner.begins c.args.plan.now c.args.job.now c.args.tables.now.places c.args.phase t c.loop-t.slots other i.equipped);
           }
     ]

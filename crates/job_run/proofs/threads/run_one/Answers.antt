@@ -1,4 +1,5 @@
 use Rattle.std.proofs.Common.{refl, subst, sym}
+use Rattle.module_area.specs.Ended.{AreSettled}
 use Rattle.module_area.specs.PlanView.{PlanView}
 use Rattle.module_area.specs.Tied.{IsTied}
 use Rattle.space_map.specs.Space.{memory_of_space}
@@ -20,4 +21,4 @@ returns-clause-runs g c = record {
 }
 
 pub returns-clause-ends : goal.returns-clause-ends
-returns-clause-ends g c sets = c.run-ending.ensures.ends sets
+returns-clause-ends g c sets agree = c.run-ending.ensures.ends sets (subst (λ (p : PlanView). AreSettled p (g.C.Cells.notes c.run-ending.new.pass) sets) (sym c.requires.plan) agree)

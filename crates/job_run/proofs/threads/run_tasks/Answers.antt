@@ -7,7 +7,7 @@ use Rattle.job_run.specs.Slots.{AreOver, HasSeen, in_phase}
 use Rattle.job_run.specs.Tasks.{AreRun}
 use Rattle.job_run.specs.declared.slots.Slot.{Slot}
 use Rattle.job_run.proofs.PhaseLemmas.{HasObserved, HasObserved-start, HasObserved-one, HasObserved-other, HasObserved-all, HasJoined-all}
-use Rattle.job_run.proofs.SlotLemmas.{all_ready, none_other, AreOver-start, AreOver-next, AreOver-all, AreRun-after, pass_of, not_of, set_done, set_extra, left_out, left_start, left_here, left_next, left_other, none_left}
+use Rattle.job_run.proofs.SlotLemmas.{all_ready, none_other, AreOver-start, AreOver-next, AreOver-all, AreRun-after, pass_of, not_of, set_done, AreTaken, AreTaken-start, AreTaken-next, KnowsAll, KnowsAll-start, KnowsAll-one, KnowsAll-other, have_extras, keeps_others, left_out, left_start, left_here, left_next, left_other, none_left}
 use Rattle.job_run.proofs.TaskLemmas.{AreRun-same, no_slot}
 use Rattle.job_run.proofs.threads.run_tasks.Given as given
 use Rattle.job_run.proofs.threads.run_tasks.Goals as goal
@@ -25,6 +25,8 @@ loop-t-init g c =
           c.requires.plan c.requires.unmarked s.notes;
       over = AreOver-start g.R.Runner.course (g.C.Cells.is_pass c.args.cells.now) g.C.Cells.notes g.R.Runner.begins g.R.Runner.ends before c.args.plan.now c.args.job.now c.args.tables.now.places c.args.phase
           c.args.slots.now c.split_all.new.slots c.run_those.new.slots c.places_len.ensures.plan s.job c.requires.plan c.requires.last c.requires.tasks.count s.passes c.requires.equipped c.run_those.ensures.count c.run_those.ensures.runs;
+      taken = AreTaken-start c.run_those.new.slots;
+      known = KnowsAll-start g.C.Cells.notes c.run_those.new.slots (g.C.Cells.notes c.split_all.new.root);
       tasks = AreRun-after g.R.Runner.course (g.C.Cells.is_pass c.args.cells.now) g.C.Cells.notes g.R.Runner.begins g.R.Runner.ends before c.args.plan.now c.args.job.now c.args.tables.now.places c.args.phase
           c.args.slots.now c.split_all.new.slots c.run_those.new.slots c.requires.plan s.passes c.requires.tasks c.requires.equipped c.run_those.ensures.count c.run_those.ensures.runs;
     }
@@ -74,9 +76,12 @@ loop-t-preserved g c =
     let rest : c.take_at.new.slots ≡ set c.loop-t.slots t e = c.take_at.ensures.rest no_slot in
     let taken = subst (λ (ss : List (Slot _ _)). AreOver g.R.Runner.course (g.C.Cells.is_pass c.args.cells.now) g.C.Cells.notes c.args.plan.now before c.args.job.now c.args.tables.now.places c.args.phase (t + 1) ss) (sym rest)
     (AreOver-next g.R.Runner.course (g.C.Cells.is_pass c.args.cells.now) g.C.Cells.notes before c.args.plan.now c.args.job.now c.args.tables.now.places c.args.phase t c.loop-t.slots e there refl i.over) in
-    let tasks = subst (λ (ss : List (Slot _ _)). AreRun g.R.Runner.course g.R.Runner.ends c.args.job.now c.args.tables.now.places (c.args.phase + 1) ss) (sym rest)
-    (AreRun-same g.R.Runner.course g.R.Runner.ends c.args.job.now c.args.tables.now.places (c.args.phase + 1) c.loop-t.slots (set c.loop-t.slots t e) i.tasks (length-set c.loop-t.slots t e)
-    (set_done c.loop-t.slots t e no_slot there refl) (set_extra c.loop-t.slots t e no_slot there refl)) in
+    let tasks = subst (λ (ss : List (Slot _ _)). AreRun g.R.Runner.course c.args.job.now c.args.tables.now.places (c.args.phase + 1) ss) (sym rest)
+    (AreRun-same g.R.Runner.course c.args.job.now c.args.tables.now.places (c.args.phase + 1) c.loop-t.slots (set c.loop-t.slots t e) i.tasks (length-set c.loop-t.slots t e)
+    (set_done c.loop-t.slots t e no_slot there refl)) in
+    let gone = subst (λ (ss : List (Slot _ _)). AreTaken (t + 1) c.run_those.new.slots ss) (sym rest) (AreTaken-next t c.run_those.new.slots c.loop-t.slots e no_slot there refl refl i.taken) in
+    let first : t < length c.run_those.new.slots = omega (arith, there, i.taken.count) in
+    let same : c.take_at.result ≡ (get_or c.run_those.new.slots t no_slot).pass = c.take_at.ensures.pass no_slot ∙ i.taken.pass t no_slot (omega arith) first in
     elim c.match-take_at.branch [
       | in-Some w ↦
           let s = pass_of g.R.Runner.course (g.C.Cells.is_pass c.args.cells.now) g.C.Cells.notes before c.args.plan.now c.args.job.now c.args.tables.now.places c.args.phase t c.loop-t.slots
@@ -94,6 +99,9 @@ loop-t-preserved g c =
             observed = subst (λ (n : Notes). HasObserved g.R.Runner.course c.args.plan.now before n c.args.job.now c.args.tables.now.places c.args.phase (t + 1)) (sym new)
                 (HasObserved-one g.R.Runner.course c.args.plan.now before mid other c.args.job.now c.args.tables.now.places c.args.phase t c.places_len.ensures.plan here s.0 i.observed s.1.observes s.1.leaves);
             over = taken;
+            taken = gone;
+            known = subst (λ (n : Notes). KnowsAll g.C.Cells.notes (t + 1) c.run_those.new.slots n) (sym new)
+                (KnowsAll-one g.C.Cells.notes c.args.plan.now t c.run_those.new.slots no_slot mid w.in-Some.pass first (sym same ∙ w.in-Some.is) i.known);
             tasks = tasks;
           }
       | in_default w ↦
@@ -105,9 +113,23 @@ loop-t-preserved g c =
             out = λ u. ap (λ (n : Notes). n.out u) (ap g.C.Cells.notes w.root-is) ∙ (i.out u ∙ left_other c.args.job.now c.args.phase t u not_here);
             observed = rw (w.root-is) (HasObserved-other g.R.Runner.course c.args.plan.now before mid c.args.job.now c.args.tables.now.places c.args.phase t here not_here i.observed);
             over = taken;
+            taken = gone;
+            known = rw (w.root-is) (KnowsAll-other g.C.Cells.notes t c.run_those.new.slots no_slot mid first (sym same ∙ w.in_default.is) i.known);
             tasks = tasks;
           }
     ]
+
+pub returns-clause-extras : goal.returns-clause-extras
+returns-clause-extras g c sets agree =
+    let s = c.split_all.ensures in
+    have_extras g.R.Runner.course (g.C.Cells.is_pass c.args.cells.now) g.C.Cells.notes g.R.Runner.begins g.R.Runner.ends (g.C.Cells.notes c.args.root.now) (g.C.Cells.notes c.loop-t.root) c.args.plan.now c.args.job.now c.args.tables.now.places
+    c.args.phase c.loop-t.t c.args.slots.now c.split_all.new.slots c.run_those.new.slots c.loop-t.slots c.requires.plan c.requires.tasks.count (omega (arith, c.loop-t-test.false, c.task_count-count.ensures.value))
+    s.passes c.requires.equipped c.run_those.ensures.count c.run_those.ensures.runs c.loop-t.invariant.taken c.loop-t.invariant.known sets agree
+
+pub returns-clause-others : goal.returns-clause-others
+returns-clause-others g c =
+    keeps_others g.R.Runner.course (g.C.Cells.is_pass c.args.cells.now) g.C.Cells.notes g.R.Runner.ends (g.C.Cells.notes c.args.root.now) c.args.plan.now c.args.job.now c.args.phase c.loop-t.t
+    c.args.slots.now c.split_all.new.slots c.run_those.new.slots c.loop-t.slots c.split_all.ensures.passes c.run_those.ensures.count c.run_those.ensures.runs c.loop-t.invariant.taken
 
 pub returns-clause-joined : goal.returns-clause-joined
 returns-clause-joined g c t = c.loop-t.invariant.out t ∙ none_left c.args.job.now c.args.phase c.loop-t.t t (omega (arith, c.loop-t-test.false, c.task_count-count.ensures.value))

@@ -1,4 +1,4 @@
-use Rattle.std.proofs.Common.{◌≡◌, ℕ, ◌+◌, ◌<◌, ◌≤◌, ◌++◌, ◌∷◌, [], ap, length, get_or, arith}
+use Rattle.std.proofs.Common.{◌≡◌, ℕ, ◌+◌, ◌<◌, ◌≤◌, ◌++◌, ◌∷◌, [], length, arith}
 use Rattle.annotator.specs.Annotated.{annotated}
 use Rattle.cov_base.specs.declared.marks.Mark.{Mark}
 use Rattle.brk_table.specs.Places.{place_at_line}

@@ -1,4 +1,5 @@
-use Rattle.std.proofs.Common.{◌≡◌, ◌≤◌}
+use Rattle.std.proofs.Common.{◌≡◌, ◌≤◌, true}
+use Rattle.module_area.specs.Notes.{is_working}
 use Rattle.module_area.specs.Tied.{IsTied}
 use Rattle.s370_exec.specs.Solo.{state_of}
 use Rattle.space_map.specs.Space.{memory_of_space}
@@ -8,6 +9,7 @@ use Rattle.task_run.proofs.run.run_task.Given as goal
 abbrev pub invariant-loop-done : goal.invariant-loop-done
 invariant-loop-done g l = record {
   area : g.C.Cells.is_pass l.cells l.pass;
+  working : is_working (g.C.Cells.notes l.pass) ≡ true;
   memory : memory_of_space l.task.space ≡ memory_of_space l.initial.task.space;
   budget : l.task.budget ≡ l.initial.task.budget;
   done : l.task.done ≡ l.done;

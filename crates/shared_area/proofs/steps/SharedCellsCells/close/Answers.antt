@@ -5,7 +5,7 @@ use Rattle.shared_area.specs.Words.{closed_word_of}
 use Rattle.shared_area.proofs.AnswerLemmas.{keeps_there}
 use Rattle.shared_area.proofs.CallLemmas.{cell_there, close_at, closed_is, tag_live}
 use Rattle.shared_area.proofs.NoteLemmas.{close_notes}
-use Rattle.shared_area.proofs.StayLemmas.{same_within}
+use Rattle.shared_area.proofs.StayLemmas.{same_within, same_task}
 use Rattle.shared_area.proofs.steps.SharedCellsCells.close.Goals as goal
 
 pub swap-requires : goal.swap-requires
@@ -23,7 +23,7 @@ invariant_of-pass c = let pass = c.args.pass.now in let b = c.original.type_inv 
 
 pub returns-clause-area : goal.returns-clause-area
 returns-clause-area c = let v = c.args.pass.now.seat.me.0 in let b = c.original.type_inv in let told = closed_is v _ c.args.s.0 c.args.place.0 c.closed_word-over.result c.original.result (omega arith) c.closed_word-over.ensures c.swap.ensures.2.0 in
-    (c.swap.ensures.0 ∙ c.requires.area.0, c.swap.ensures.2.1 ∙ c.requires.area.1, same_within c.args.self.now.plan v _ (closing c.args.s.0 c.args.place.0 v) told.after refl c.requires.area.2)
+    (c.swap.ensures.0 ∙ c.requires.area.0, c.swap.ensures.2.1 ∙ c.requires.area.1, same_within c.args.self.now.plan v _ (closing c.args.s.0 c.args.place.0 v) told.after refl c.requires.area.2, same_task c.args.self.now.plan c.args.pass.now.word v _ (closing c.args.s.0 c.args.place.0 v) told.after refl c.requires.area.3)
 
 pub returns-clause-notes : goal.returns-clause-notes
 returns-clause-notes c = let pass = c.args.pass.now in let b = c.original.type_inv in let told = closed_is pass.seat.me.0 _ c.args.s.0 c.args.place.0 c.closed_word-over.result c.original.result (omega arith) c.closed_word-over.ensures c.swap.ensures.2.0 in

@@ -5,7 +5,7 @@ use Rattle.shared_area.specs.Told.{notes_in}
 use Rattle.shared_area.specs.Words.{word_of}
 use Rattle.shared_area.proofs.CallLemmas.{one_of, cell_there, lift_at, lifted_is, lift_live}
 use Rattle.shared_area.proofs.NoteLemmas.{pair_there}
-use Rattle.shared_area.proofs.StayLemmas.{same_within}
+use Rattle.shared_area.proofs.StayLemmas.{same_within, same_task}
 use Rattle.shared_area.proofs.steps.SharedCellsCells.lift.Goals as goal
 
 byte-is : (b : Bool) → bool_byte b ≡ one_of b
@@ -29,11 +29,13 @@ pub returns-clause-again : goal.returns-clause-again
 returns-clause-again c = (lifted_is c.args.pass.now.seat.me.0 _ c.args.s.0 c.args.place.0 c.window_word-old.result c.compare_exchange-found.result c.requires.session c.window_word-old.ensures c.compare_exchange-found.ensures.2.0).again
 
 pub returns-clause-area : goal.returns-clause-area
-returns-clause-area c = let v = c.args.pass.now.seat.me.0 in (
-  c.compare_exchange-found.ensures.0 ∙ c.requires.area.0,
-  c.compare_exchange-found.ensures.2.1 ∙ c.requires.area.1,
-  same_within c.args.self.now.plan v _ (lifting c.args.s.0 c.args.place.0 (nat_eq c.compare_exchange-found.result c.window_word-old.result) v) (lifted_is c.args.pass.now.seat.me.0 _ c.args.s.0 c.args.place.0 c.window_word-old.result c.compare_exchange-found.result c.requires.session c.window_word-old.ensures c.compare_exchange-found.ensures.2.0).after refl c.requires.area.2,
-)
+returns-clause-area c = let v = c.args.pass.now.seat.me.0 in let told = lifted_is v _ c.args.s.0 c.args.place.0 c.window_word-old.result c.compare_exchange-found.result c.requires.session c.window_word-old.ensures c.compare_exchange-found.ensures.2.0 in
+    let after = lifting c.args.s.0 c.args.place.0 (nat_eq c.compare_exchange-found.result c.window_word-old.result) v in (
+      c.compare_exchange-found.ensures.0 ∙ c.requires.area.0,
+      c.compare_exchange-found.ensures.2.1 ∙ c.requires.area.1,
+      same_within c.args.self.now.plan v _ after told.after refl c.requires.area.2,
+      same_task c.args.self.now.plan c.args.pass.now.word v _ after told.after refl c.requires.area.3,
+    )
 
 pub returns-clause-notes : goal.returns-clause-notes
 returns-clause-notes c = let pass = c.args.pass.now in let did : Bool = nat_eq c.compare_exchange-found.result c.window_word-old.result in

@@ -3,7 +3,7 @@ use Rattle.module_area.specs.Parties.{marking}
 use Rattle.shared_area.specs.Told.{notes_in}
 use Rattle.shared_area.proofs.CallLemmas.{mark_live}
 use Rattle.shared_area.proofs.NoteLemmas.{mark_notes}
-use Rattle.shared_area.proofs.StayLemmas.{same_within, session_within}
+use Rattle.shared_area.proofs.StayLemmas.{same_within, same_task, session_within}
 use Rattle.shared_area.proofs.steps.SharedCellsCells.mark.Goals as goal
 
 pub mark_set-found-requires-clause-may : goal.mark_set-found-requires-clause-may
@@ -26,6 +26,7 @@ returns-clause-area c = let v = c.args.pass.now.seat.me.0 in let plan = c.args.s
   c.mark_set-found.ensures.area ∙ c.requires.area.0,
   c.mark_set-found.ensures.slots ∙ c.requires.area.1,
   same_within plan v _ (marking plan c.args.s.0 c.args.place.0 c.args.fact c.mark_set-found.result v) c.mark_set-found.ensures.told.after refl c.requires.area.2,
+  same_task plan c.args.pass.now.word v _ (marking plan c.args.s.0 c.args.place.0 c.args.fact c.mark_set-found.result v) c.mark_set-found.ensures.told.after refl c.requires.area.3,
 )
 
 pub returns-clause-found : goal.returns-clause-found

@@ -1,0 +1,53 @@
+-- What a job's phases come to.
+use Rattle.std.proofs.Common.{◌≡◌, ℕ, ◌-◌, ◌<◌, ◌≤◌, Bool, true, false, ◌&&◌, nat_eq, if◌then◌else◌, List, [], length, get_or, refl, sym, ◌∙◌, ap, subst, arith, eq-eqb}
+use Rattle.std.specs.List.{list_any}
+use Rattle.std.proofs.lemmas.List.{length-map}
+use Rattle.cov_base.specs.declared.facts.Fact.{Fact}
+use Rattle.module_area.specs.PlanView.{place_of, window_at}
+use Rattle.module_area.specs.declared.places.Place.{Place}
+use Rattle.task_run.specs.Courses.{solo}
+use Rattle.session_book.specs.JobView.{JobView, IsJob}
+use Rattle.session_book.specs.Sessions.{session_of, no_session, AreWhole, observes, traces_from, plan_view}
+use Rattle.job_run.specs.Runs.{trace_by}
+use Rattle.job_run.specs.declared.outcome.Done.{Done}
+use Rattle.job_run.proofs.SessionLemmas.{window_at-session, phase_in}
+use Rattle.count_session.specs.Counting.{count_of_all}
+use Rattle.count_session.specs.Job.{AreSized, IsCountedJob, count_of}
+use Rattle.count_session.specs.Phases.{AreCounted, session_count}
+use Rattle.count_session.specs.Slots.{HaveRun, dones}
+use Rattle.count_session.specs.Tallied.{count_in}
+use Rattle.count_session.specs.declared.counts.PlaceCount.{PlaceCount}
+use Rattle.count_session.specs.declared.slots.Slot.{Slot}
+use Rattle.count_session.proofs.SlotLemmas.{all_ended}
+
+pub are_sized : (j : JobView) (places : List Place) (counts : List (List PlaceCount)) → AreCounted j places (length j.phases) counts → AreSized (record { job = j; places = places; phases = counts })
+are_sized j places counts a = record { count = a.0; sizes = λ k d l. (a.1 k d (let n = a.0 in omega (arith, l, n))).size }
+
+is_count : (j : JobView) (places : List Place) (counts : List (List PlaceCount)) → IsJob j → AreWhole j → AreCounted j places (length j.phases) counts → (s p : ℕ) (f : Fact) → 0 < s → s ≤ length j.sessions → p < length places →
+    count_of (record { job = j; places = places; phases = counts }) s p f ≡ session_count j places s p f
+is_count j places counts job whole a s p f some most l = by_module (list_any (nat_eq (place_of places p).«module») (session_of j s).modules) refl
+  where
+    by_module : (b : Bool) → list_any (nat_eq (place_of places p).«module») (session_of j s).modules ≡ b → count_of (record { job = j; places = places; phases = counts }) s p f ≡ session_count j places s p f
+    by_module b e =
+        let phase : ℕ = (session_of j s).phase in
+        let seen : observes phase (place_of places p).«module» (session_of j s) ≡ b = ap (λ (q : Bool). q && list_any (nat_eq (place_of places p).«module») (session_of j s).modules) (eq-eqb phase phase refl) ∙ e in
+        ap (λ (q : Bool). if q then count_in (get_or counts phase []) p f else 0) e
+        ∙ (same_if b (count_in (get_or counts phase []) p f) (count_of_all (place_of places p) f (traces_from 0 j.tasks phase (trace_by solo j places)))
+        (λ yes_b. let w : window_at (plan_view j places phase) p ≡ s = window_at-session j places s p job (whole (s - 1) no_session (omega (arith, some, most))) some most l (seen ∙ yes_b) in
+        (a.1 phase [] (phase_in j s job some most)).each p f l (omega (arith, w, some)))
+        ∙ sym (ap (λ (q : Bool). if q then count_of_all (place_of places p) f (traces_from 0 j.tasks phase (trace_by solo j places)) else 0) seen))
+      where
+        same_if : (b : Bool) (x y : ℕ) → (b ≡ true → x ≡ y) → (if b then x else 0) ≡ (if b then y else 0)
+        same_if true x y h = h refl
+        same_if false x y h = refl
+
+pub counted_job : (j : JobView) (places : List Place) (slots : List Slot) (tasks : List Done) (counts : List (List PlaceCount)) → IsJob j → AreWhole j → AreCounted j places (length j.phases) counts → HaveRun j places (length j.phases) slots → tasks ≡ dones slots →
+    IsCountedJob j places tasks (record { job = j; places = places; phases = counts })
+counted_job j places slots tasks counts job whole a ended moved = subst (λ (ds : List Done). IsCountedJob j places ds (record { job = j; places = places; phases = counts })) (sym moved) record {
+  count = length-map slots (λ (s : Slot). s.done) ∙ ended.count;
+  are_results = λ t l. (all_ended j places slots t job ended l).0;
+  filled = λ t l. (all_ended j places slots t job ended l).1;
+  job = refl;
+  size = refl;
+  are_counts = λ s p f some most l. is_count j places counts job whole a s p f some most l;
+}

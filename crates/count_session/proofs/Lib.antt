@@ -1,0 +1,12 @@
+pub mod AddLemmas
+pub mod BeginLemmas
+pub mod EndLemmas
+pub mod JobLemmas
+pub mod NoteLemmas
+pub mod PassLemmas
+pub mod PlantLemmas
+pub mod RunLemmas
+pub mod SlotLemmas
+pub mod StepLemmas
+pub mod ViewLemmas
+pub mod WordLemmas

@@ -1,0 +1,15 @@
+use Rattle.std.proofs.Common.{◌≡◌, ◌++◌, List, length, take, drop, sym, ◌∙◌, ap}
+use Rattle.job_run.proofs.PhaseLemmas.{written}
+use Rattle.count_session.specs.Slots.{dones}
+use Rattle.count_session.specs.declared.slots.Slot.{Slot}
+use Rattle.count_session.proofs.JobLemmas.{counted_job}
+use Rattle.count_session.proofs.job.count_job.Goals as goal
+
+pub returns : goal.returns
+returns g c =
+    let old : List Slot = c.in_ok-slots.slots.items in
+    let new : List Slot = c.count_phases.new.slots in
+    let whole : take c.in_ok-slots.slots.len (new ++ drop (length new) old) ≡ new =
+    written old new c.in_ok-slots.slots.len (c.count_phases.auto.slots ∙ ap (λ (ss : List Slot). length ss) c.deref_mut.ensures.value) (sym c.in_ok-slots.slots.ok.0) in
+    counted_job c.args.job.now c.args.tables.now.places new c.tasks_of.result.items c.in_ok-phases.phases.items c.count_phases.ensures.job c.requires.whole c.in_ok-phases.ensures.counts c.in_ok-phases.ensures.tasks
+    (c.tasks_of.ensures ∙ ap (λ (ss : List Slot). dones ss) whole)

@@ -1,0 +1,10 @@
+use Rattle.count_session.specs.Phases.{AreCounted}
+use Rattle.count_session.specs.Slots.{AreEmpty, HaveRun}
+use Rattle.count_session.proofs.job.count_phases.Given as goal
+
+abbrev pub invariant-loop-phase : goal.invariant-loop-phase
+invariant-loop-phase g l = record {
+  tasks : HaveRun l.job l.tables.places l.phase l.slots;
+  empty : AreEmpty l.slots;
+  counts : AreCounted l.job l.tables.places l.phase l.phases.items;
+}

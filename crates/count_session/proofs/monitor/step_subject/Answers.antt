@@ -1,0 +1,66 @@
+use Rattle.std.proofs.Common.{◌≡◌, ℕ, true, false, [], ◌∷◌, ap, ◌∙◌}
+use Rattle.s370_decode.specs.Fields.{first_half}
+use Rattle.s370_decode.specs.Table.{op_of}
+use Rattle.s370_branch.specs.Branch.{goes}
+use Rattle.s370_exec.specs.Effects.{effect_of}
+use Rattle.s370_exec.specs.Solo.{state_of, subject_step, ended, stepped, visit}
+use Rattle.s370_exec.proofs.StepLemmas.{subject_step-refused, subject_step-unread, subject_step-begun}
+use Rattle.count_session.proofs.AddLemmas.{Adds-none, Adds-not_begun, Adds-begun}
+use Rattle.count_session.proofs.monitor.step_subject.Given as given
+use Rattle.count_session.proofs.monitor.step_subject.Goals as goal
+
+refused : (g : given.Over) (c : goal.In-Err g) (d : ℕ) →
+    let s = state_of c.args.cpu.now (g.P.Space.bytes c.args.space.now) c.args.io.now d in
+    subject_step (g.P.Space.memory c.args.space.now) s c.args.ex.now ≡ ended s c.in-Err.e []
+refused g c d = subject_step-refused _ (state_of c.args.cpu.now (g.P.Space.bytes c.args.space.now) c.args.io.now d) c.args.ex.now c.subject_address-at.result c.in-Err.e
+    c.subject_address-at.ensures c.in-Err.ensures.refused
+
+pub returns-in-Err-clause-state : goal.returns-in-Err-clause-state
+returns-in-Err-clause-state g c = λ d. ap (λ r. r.state) (refused g c d)
+
+pub returns-in-Err-clause-next : goal.returns-in-Err-clause-next
+returns-in-Err-clause-next g c = λ d. ap (λ r. r.next) (refused g c d)
+
+pub returns-in-Err-clause-adds : goal.returns-in-Err-clause-adds
+returns-in-Err-clause-adds g c = λ d. rw (refused g c d, c.in-Err.ensures.kept) (Adds-none _ _)
+
+unread : (g : given.Over) (c : goal.In-Err-fetch_subject g) (d : ℕ) →
+    let s = state_of c.args.cpu.now (g.P.Space.bytes c.args.space.now) c.args.io.now d in
+    subject_step (g.P.Space.memory c.args.space.now) s c.args.ex.now ≡ ended s c.in-Err-fetch_subject.e (visit s c.subject_address-at.result false false true ∷ [])
+unread g c d =
+    subject_step-unread _ (state_of c.args.cpu.now (g.P.Space.bytes c.args.space.now) c.args.io.now d) c.args.ex.now c.subject_address-at.result c.original.result c.in-Err-fetch_subject.e
+    c.subject_address-at.ensures c.in-Ok.ensures.passed (c.original.ensures ∙ c.in-Ok.ensures.half) c.in-Err-fetch_subject.ensures.refused
+
+pub returns-in-Err-fetch_subject-clause-state : goal.returns-in-Err-fetch_subject-clause-state
+returns-in-Err-fetch_subject-clause-state g c = λ d. ap (λ r. r.state) (unread g c d)
+
+pub returns-in-Err-fetch_subject-clause-next : goal.returns-in-Err-fetch_subject-clause-next
+returns-in-Err-fetch_subject-clause-next g c = λ d. ap (λ r. r.next) (unread g c d)
+
+pub returns-in-Err-fetch_subject-clause-adds : goal.returns-in-Err-fetch_subject-clause-adds
+returns-in-Err-fetch_subject-clause-adds g c = λ d. rw (unread g c d)
+    (Adds-not_begun _ _ _ c.in-Ok.met (state_of c.args.cpu.now (g.P.Space.bytes c.args.space.now) c.args.io.now d) c.subject_address-at.result true
+    c.in-Ok.ensures.met)
+
+begun : (g : given.Over) (c : goal.After-execute g) (d : ℕ) →
+    let s = state_of c.args.cpu.now (g.P.Space.bytes c.args.space.now) c.args.io.now d in
+    let x = c.in-Ok-fetch_subject.code in
+    subject_step (g.P.Space.memory c.args.space.now) s c.args.ex.now
+    ≡ stepped s (effect_of c.execute.new.cpu (g.P.Space.bytes c.execute.new.space) c.execute.new.io c.execute.result)
+    (visit s c.subject_address-at.result true (goes (op_of (first_half x)) c.args.cpu.now x) true ∷ [])
+begun g c d =
+    subject_step-begun _ (state_of c.args.cpu.now (g.P.Space.bytes c.args.space.now) c.args.io.now d) c.args.ex.now c.subject_address-at.result c.original.result
+    c.in-Ok-fetch_subject.code (effect_of c.execute.new.cpu (g.P.Space.bytes c.execute.new.space) c.execute.new.io c.execute.result)
+    c.subject_address-at.ensures c.in-Ok.ensures.passed (c.original.ensures ∙ c.in-Ok.ensures.half) c.in-Ok-fetch_subject.ensures.passed c.in-Ok-fetch_subject.ensures.code
+    c.execute.ensures.effect
+
+pub returns-clause-state : goal.returns-clause-state
+returns-clause-state g c = λ d. ap (λ r. r.state) (begun g c d)
+
+pub returns-clause-next : goal.returns-clause-next
+returns-clause-next g c = λ d. ap (λ r. r.next) (begun g c d)
+
+pub returns-clause-adds : goal.returns-clause-adds
+returns-clause-adds g c = λ d. let x = c.in-Ok-fetch_subject.code in rw (begun g c d)
+    (Adds-begun _ _ _ _ c.in-Ok.met (state_of c.args.cpu.now (g.P.Space.bytes c.args.space.now) c.args.io.now d) c.subject_address-at.result
+    (goes (op_of (first_half x)) c.args.cpu.now x) true c.in-Ok.ensures.met c.show.ensures.shows)

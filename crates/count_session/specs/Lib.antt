@@ -1,0 +1,9 @@
+pub mod Counting
+pub mod Job
+pub mod Notes
+pub mod Passes
+pub mod Phases
+pub mod Rule
+pub mod Slots
+pub mod Tallied
+pub mod Words

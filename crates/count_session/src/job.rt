@@ -1,0 +1,176 @@
+//! A whole job counted, and what it comes to.
+ghost use Rattle.std.specs.Prelude.{◌≡◌, ◌+◌, ◌<◌, ◌≤◌, nat_eq, length, All, IfOk};
+ghost use Rattle.std.specs.List.{list_any};
+ghost use Rattle.brk_table.specs.Places.{IsIn};
+ghost use Rattle.session_book.specs.JobView.{IsJob};
+ghost use Rattle.session_book.specs.Sessions.{AreWhole, observes, session_of};
+ghost use Rattle.count_session.specs.Job.{CountsView, IsCountedJob, count_of};
+ghost use Rattle.count_session.specs.Phases.{AreCounted};
+ghost use Rattle.count_session.specs.Slots.{AreEmpty, HaveRun};
+
+use crate::counts::Counts;
+use crate::phase::count_phase;
+use crate::slots::{Slot, make_slots, tasks_of};
+use brk_table::Tables;
+use cov_base::{Fact, NoMemory, PlaceNo, SessNo, TaskNo};
+use job_run::Done;
+use s370_state::{Cpu, Ending};
+use session_book::{FactCounts, Job, Results, Session};
+use std::alloc::Global;
+use std::marker::Model;
+use std::sync::Wait;
+use std::thread::Threads;
+
+/// The counts of a job's sessions: for each phase those that its area ended with.
+#[derive(Drop)]
+pub struct JobCounts<'a> {
+    job: &'a Job,
+    tables: &'a Tables,
+    phases: Vec<Counts>,
+}
+
+impl<'a> Model for JobCounts<'a> {
+    ghost use Rattle.count_session.specs.Job.{CountsView, AreSized};
+
+    ghost Value = { CountsView };
+
+    ghost view = { λ c. record { job = c.job.now; places = c.tables.now.places; phases = c.phases.items } };
+
+    ghost invariant = { λ c. AreSized (record { job = c.job.now; places = c.tables.now.places; phases = c.phases.items }) };
+}
+
+fn has_module(session: &Session, m: u32) -> bool
+    ensures { result ≡ list_any (nat_eq m) session.now.modules }
+{
+    session.modules.iter().any(|n| m == *n)
+}
+
+impl<'a> JobCounts<'a> {
+    /// How often the executions of the session, which is one of the job, gave the fact at the place, which is one of the
+    /// tables.
+    pub fn get(&self, s: SessNo, place: PlaceNo, fact: Fact) -> u64
+        requires some { 0 < s.0 }
+        requires session { s.0 ≤ length self.now.job.sessions }
+        requires place { place.0 < length self.now.places }
+        ensures { result ≡ count_of self.now s.0 place.0 fact }
+    {
+        let session = self.job.session(s);
+        if !has_module(session, self.tables.place(place).module) {
+            return 0;
+        }
+        self.phases[session.phase as usize].get(place, fact)
+    }
+}
+
+/// What a counted job has come to: its tasks, and its sessions' counts.
+#[derive(Drop)]
+pub struct Counted<'a> {
+    pub tasks: Vec<Done<'a>>,
+    pub counts: JobCounts<'a>,
+}
+
+impl<'a> Counted<'a> {
+    /// How often the session's executions gave the fact at the place; the numbers exist.
+    pub fn get(&self, s: SessNo, place: PlaceNo, fact: Fact) -> u64
+        requires some { 0 < s.0 }
+        requires session { s.0 ≤ length self.now.counts.job.sessions }
+        requires place { place.0 < length self.now.counts.places }
+        ensures { result ≡ count_of self.now.counts s.0 place.0 fact }
+    {
+        self.counts.get(s, place, fact)
+    }
+}
+
+impl<'a> FactCounts for Counted<'a> {
+    ghost use Rattle.count_session.specs.Job.{count_of};
+
+    ghost sessions = { λ o. length o.counts.job.sessions };
+
+    ghost places = { λ o. length o.counts.places };
+
+    ghost count_of = { λ o s p f. count_of o.counts s p f };
+
+    fn count(&self, s: SessNo, p: PlaceNo, fact: Fact) -> u64 {
+        self.get(s, p, fact)
+    }
+}
+
+impl<'a> Results for Counted<'a> {
+    ghost use Rattle.job_run.specs.Tasks.{results_of};
+
+    ghost tasks = { λ o. length o.tasks.items };
+
+    ghost result_of = { λ o t. results_of o.tasks.items t };
+
+    fn ending(&self, t: TaskNo) -> Option<Ending> {
+        self.tasks[t.0 as usize].ending
+    }
+
+    fn done(&self, t: TaskNo) -> u32 {
+        self.tasks[t.0 as usize].task.done
+    }
+
+    fn cpu(&self, t: TaskNo) -> &Cpu {
+        &self.tasks[t.0 as usize].task.cpu
+    }
+
+    fn output(&self, t: TaskNo) -> &[u8] {
+        self.tasks[t.0 as usize].task.io.output()
+    }
+
+    fn row(&self, t: TaskNo, n: u32) -> &[u8] {
+        let space = &self.tasks[t.0 as usize].task.space;
+        let _ = space.size();
+        space.row(n)
+    }
+}
+
+/// Counts the job's phases one after the other.
+fn count_phases<'a, T: Threads + Sync>(
+    rt: &T,
+    alloc: Global,
+    job: &Job,
+    tables: &Tables,
+    slots: &mut [Slot<'a>],
+) -> Result<Vec<Counts>, NoMemory>
+    requires tasks { HaveRun job.now tables.now.places 0 slots.old }
+    requires empty { AreEmpty slots.old }
+    ensures job { IsJob job.now }
+    ensures counts { IfOk result (λ v. AreCounted job.now tables.now.places (length job.now.phases) v.items) }
+    ensures tasks { IfOk result (λ _. HaveRun job.now tables.now.places (length job.now.phases) slots.new) }
+{
+    let count = job.phase_count();
+    let mut phases = Vec::with_capacity(alloc, count as usize)?;
+    for phase in 0..count {
+        let counts = count_phase(rt, alloc, job, tables, phase, slots)?;
+        phases.push(counts)?;
+    }
+    Ok(phases)
+}
+
+/// Runs the job with breakpoints that stay, phase after phase, the tasks of a phase at once: each task ends as it does
+/// alone, and the counts of each session at its modules' places are those of its executions. No session of the job has a
+/// controller. All tasks take their memory before the first phase runs, and a phase takes all but its area's end before it
+/// plants.
+pub fn count_job<'a, T: Threads + Wait + Sync>(
+    rt: &T,
+    alloc: Global,
+    job: &'a Job,
+    tables: &'a Tables,
+) -> Result<Counted<'a>, NoMemory>
+    requires tables { All (IsIn job.now.images) tables.now.places }
+    requires whole { AreWhole job.now }
+    ensures { IfOk result (λ c. IsCountedJob job.now tables.now.places c.tasks.items c.counts) }
+{
+    let tasks = Vec::with_capacity(alloc, job.task_count())?;
+    let mut slots = make_slots(alloc, job, tables)?;
+    let phases = count_phases(rt, alloc, job, tables, &mut slots)?;
+    Ok(Counted {
+        tasks: tasks_of(slots, tasks),
+        counts: JobCounts {
+            job,
+            tables,
+            phases,
+        },
+    })
+}

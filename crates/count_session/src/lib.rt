@@ -1,0 +1,24 @@
+//! Counting sessions: breakpoints that stay, and how often each fact was met.
+#![tactic(auto)]
+
+mod begin;
+mod cells;
+mod counts;
+mod forks;
+mod job;
+mod monitor;
+mod pass;
+mod phase;
+mod rule;
+mod run;
+mod slots;
+mod steps;
+#[cfg(test)]
+mod tests;
+mod words;
+
+pub use cells::CountCells;
+pub use counts::{Counts, PlaceCount};
+pub use job::{Counted, JobCounts, count_job};
+pub use pass::CountPass;
+pub use run::run_counted;

@@ -1,0 +1,221 @@
+-- A controller's run instruction by instruction, with its drains.
+use Rattle.std.proofs.Common.{◌≡◌, ℕ, zero, suc, ◌+◌, ◌-◌, ◌%◌, ◌<◌, ◌≤◌, Bool, true, false, if◌then◌else◌, ◌&&◌, nat_eq, is_some, unwrap_or, Option, Some, None, List, [], ◌∷◌, ◌++◌, length, get_or, map, take, All, AllPairs, refl, sym, ◌∙◌, ap, subst, arith, eqb-true, eq-eqb, ne_eqb}
+use Rattle.std.specs.List.{filter, list_any}
+use Rattle.std.proofs.lemmas.List.{append_assoc, append-nil, same_lists, length-append, take-append-le, get_or-map, get_or_default, length-map, take_all}
+use Rattle.std.proofs.lemmas.List.Folds.{list_any_none}
+use Rattle.cov_base.specs.declared.limits.TheConstants.{PLACE_LIMIT}
+use Rattle.cov_base.specs.FactSet.{FactSet}
+use Rattle.cov_base.specs.Memory.{Memory}
+use Rattle.cov_base.specs.States.{State, Visit}
+use Rattle.cov_base.specs.declared.numbers.SessNo.{SessNo}
+use Rattle.s370_state.specs.declared.endings.Ending.{Ending}
+use Rattle.s370_state.specs.declared.endings.Next.TheVariants.{On, Ended}
+use Rattle.s370_exec.specs.Calls.{call_of}
+use Rattle.s370_exec.specs.Solo.{solo_run, solo_step, has_returned}
+use Rattle.module_area.specs.PlanView.{PlanView, ControlledView, IsPlan, AreApart}
+use Rattle.module_area.specs.Control.{ControlView, number_of, sessions_of, control_after}
+use Rattle.module_area.specs.Notes.{Notes, after_boundary, bearer, calls, is_working, own_number}
+use Rattle.module_area.proofs.Indices.{and_left}
+use Rattle.module_area.proofs.PlanLemmas.{any_shown}
+use Rattle.svc_monitor.specs.Answered.{Turns}
+use Rattle.task_run.specs.Aside.{IsAside}
+use Rattle.task_run.specs.Called.{calls_on, control_by}
+use Rattle.task_run.specs.Windows.{is_opened}
+use Rattle.task_run.proofs.AsideLemmas.{step_known, step_working, same_number, aside_more, aside_boundary, aside_calls, boundary_number, boundary_working, LedTo-aside, IsRun-aside}
+use Rattle.task_run.proofs.RunLemmas.{Adds, LedTo, LedTo-more, IsRun, IsRun-ended, calls_on-more, calls_on-ended, calls_on-returned, calls_on-spent, left}
+use Rattle.early_report.specs.DrainView.{DrainView}
+use Rattle.early_report.specs.Drains.{unused, has_controlled, controller_in, controller_of, IsLooking}
+use Rattle.early_report.specs.Followed.{IsReady, HaveGone, StepsOn, Stands, closed_since, first_drains, is_begun}
+use Rattle.early_report.specs.Told.{closes, closing_count}
+use Rattle.early_report.specs.declared.drains.Stage.TheVariants.{Unused}
+use Rattle.early_report.proofs.LookLemmas.{All-cons, All-tail}
+use Rattle.early_report.proofs.ReadLemmas.{no_session}
+use Rattle.early_report.proofs.StandLemmas.{stands_on, stands_ready, closing_count-more, count_after}
+use Rattle.early_report.proofs.StepLemmas.{closed_is}
+
+-- looks are aside of the run
+
+pub aside_looking : (a b : Notes) → IsLooking a b → IsAside a b
+aside_looking a b r = subst (IsAside a) (sym r.same) (record { same = refl })
+
+pub aside_step : (plan : PlanView) (old new : Notes) (visits : List Visit) (c : ControlView) (call : Option ℕ) (r : StepsOn plan old new visits c call) → IsAside r.mid new
+aside_step plan old new visits c call r = aside_more r.mid (after_boundary r.mid false) new (aside_boundary r.mid false) (aside_looking (after_boundary r.mid false) new r.looking)
+
+module _ (plan : PlanView) (old new : Notes) (visits : List Visit) (c : ControlView) (call : Option ℕ) (r : StepsOn plan old new visits c call) where
+  pub bears_on : new.bears ≡ old.bears
+  bears_on = ap (λ (n : Notes). n.bears) r.looking.same ∙ (step_known plan old r.mid visits c call r.turns).bears
+
+  pub known_on : (s p : ℕ) (x : FactSet) → old.settled s p x ≡ true → new.settled s p x ≡ true
+  known_on s p x h = r.looking.known s p x (ap (λ (g : ℕ → ℕ → FactSet → Bool). g s p x) (step_known plan old r.mid visits c call r.turns).settled ∙ h)
+
+  pub working_on : is_working old ≡ true → is_working new ≡ true
+  working_on w = ap is_working r.looking.same ∙ boundary_working r.mid (step_working plan old r.mid visits c call r.turns w)
+
+  pub number_on : own_number new ≡ own_number old + 2
+  number_on = ap own_number r.looking.same ∙ (boundary_number r.mid false ∙ ap (λ k. k + 2) (same_number old r.mid (step_known plan old r.mid visits c call r.turns)))
+
+  -- what the instruction adds to the run that is followed
+  pub adds_on : (m : Memory) (e : ControlView) (s : State) → visits ≡ (solo_step m s).visits → call ≡ call_of m s → e ≡ control_after c call → calls new ≤ calls old + 6 + PLACE_LIMIT → Adds m plan old r.mid c e s
+  adds_on m e s v k control few = record {
+    turns = subst (λ (x : List Visit × Option ℕ). Turns plan old r.mid x.0 c x.1) (λ i. (v i, k i)) r.turns;
+    control = control ∙ ap (control_after c) k;
+    few = let same = aside_calls r.mid new (aside_step plan old new visits c call r) in omega (arith, same, few);
+  }
+
+-- the calls so far
+
+take_front : (xs ys : List (Option ℕ)) (i : ℕ) → length xs ≡ i → take i (xs ++ ys) ≡ xs
+take_front xs ys i e = take-append-le i xs ys (omega (arith, e)) ∙ take_all i xs (omega (arith, e))
+
+module _ (m : Memory) (plan : PlanView) (old new : Notes) (c d : ControlView) (budget : ℕ) (first : State) (i : ℕ) (now : State) (r : LedTo m plan old new c d budget first i now) where
+  pub led_calls : take i (calls_on m budget first) ≡ r.called
+  led_calls = ap (take i) r.rest ∙ take_front r.called (calls_on m (budget - i) now) i r.made.count
+
+  pub led_control : d ≡ control_by c (take i (calls_on m budget first))
+  led_control = r.made.follows.control ∙ ap (control_by c) (sym led_calls)
+
+  pub led_count : length (take i (calls_on m budget first)) ≡ i
+  led_count = ap (λ (ks : List (Option ℕ)). length ks) led_calls ∙ r.made.count
+
+  -- the instruction goes on, or ends the run
+  pub led_on : (t : State) → i < budget → has_returned now ≡ false → (solo_step m now).next ≡ On → (solo_step m now).state ≡ t → take (i + 1) (calls_on m budget first) ≡ take i (calls_on m budget first) ++ call_of m now ∷ []
+  led_on t lt here next state =
+      let whole : calls_on m budget first ≡ (r.called ++ call_of m now ∷ []) ++ calls_on m (budget - (i + 1)) t =
+      r.rest ∙ (ap (λ k. r.called ++ calls_on m k now) (left budget i lt) ∙ (ap (λ ks. r.called ++ ks) (calls_on-more m (budget - (i + 1)) now t here next state) ∙ sym (append_assoc r.called (call_of m now ∷ []) (calls_on m (budget - (i + 1)) t)))) in
+      ap (take (i + 1)) whole ∙ (take_front (r.called ++ call_of m now ∷ []) (calls_on m (budget - (i + 1)) t) (i + 1) (let size = length-append r.called (call_of m now ∷ []) in omega (arith, size, r.made.count)) ∙ ap (λ ks. ks ++ call_of m now ∷ []) (sym led_calls))
+
+  pub led_ended : (e : Ending) → i < budget → has_returned now ≡ false → (solo_step m now).next ≡ Ended e → calls_on m budget first ≡ take i (calls_on m budget first) ++ call_of m now ∷ []
+  led_ended e lt here next = r.rest ∙ (ap (λ k. r.called ++ calls_on m k now) (left budget i lt) ∙ (ap (λ ks. r.called ++ ks) (calls_on-ended m (budget - (i + 1)) now e here next) ∙ ap (λ ks. ks ++ call_of m now ∷ []) (sym led_calls)))
+
+  pub led_returned : has_returned now ≡ true → calls_on m budget first ≡ take i (calls_on m budget first)
+  led_returned here = r.rest ∙ (ap (λ ks. r.called ++ ks) (calls_on-returned m (budget - i) now here) ∙ (append-nil r.called ∙ sym led_calls))
+
+  pub led_spent : budget ≡ i → calls_on m budget first ≡ take i (calls_on m budget first)
+  led_spent all = let none : budget - i ≡ 0 = omega arith in r.rest ∙ (ap (λ k. r.called ++ calls_on m k now) none ∙ (ap (λ ks. r.called ++ ks) (calls_on-spent m now) ∙ (append-nil r.called ∙ sym led_calls)))
+
+-- the drains behind one instruction more
+
+abbrev pub StandAll : PlanView → Notes → ControlView → List (Option ℕ) → ℕ → List DrainView → Type 0
+StandAll plan n c called done ds = All (λ (d : DrainView). Stands plan n (closing_count c called d.session) done d) ds
+
+no_drain : DrainView
+no_drain = record { session = 0; stage = Unused; noted = []; last = None; polls = 0; at = 0; sets = [] }
+
+sessions_same : (ds es : List DrainView) → length es ≡ length ds → ((i : ℕ) (d : DrainView) → i < length ds → (get_or es i d).session ≡ (get_or ds i d).session) → map (λ (d : DrainView). d.session) es ≡ map (λ (d : DrainView). d.session) ds
+sessions_same ds es size same = same_lists (map (λ (d : DrainView). d.session) es) (map (λ (d : DrainView). d.session) ds)
+    (length-map es (λ (d : DrainView). d.session) ∙ (size ∙ sym (length-map ds (λ (d : DrainView). d.session))))
+    (λ k x l. let l' : k < length es = (let a = length-map es (λ (d : DrainView). d.session) in omega (arith, a, l)) in
+    let none : DrainView = no_drain in
+    get_or-map (λ (d : DrainView). d.session) es k none x l' ∙ (same k none (omega (arith, l', size)) ∙ sym (get_or-map (λ (d : DrainView). d.session) ds k none x (omega (arith, l', size)))))
+
+module _ (plan : PlanView) (old new : Notes) (c d : ControlView) (called : List (Option ℕ)) (call : Option ℕ) (i : ℕ) (ds es : List DrainView) (bears : new.bears ≡ old.bears)
+    (known : (s p : ℕ) (x : FactSet) → old.settled s p x ≡ true → new.settled s p x ≡ true) (control : d ≡ control_by c called) (count : length called ≡ i)
+    (stand : StandAll plan old c called i ds) (gone : HaveGone plan new (closed_since d.opened (control_after d call).opened) (i + 1) ds es) where
+  one_on : (k : ℕ) (x : DrainView) → k < length ds → Stands plan new (closing_count c (called ++ call ∷ []) (get_or ds k x).session) (i + 1) (get_or es k x) × ((get_or es k x).session ≡ (get_or ds k x).session)
+  one_on k x l =
+      let a : DrainView = get_or ds k x in
+      let s = stands_on plan old new known (closed_since d.opened (control_after d call).opened) i (closing_count c called a.session) a (get_or es k x) bears (stand k x l) (gone.each k x l) in
+      let more : count_after (closing_count c called a.session) (is_opened a.session (closed_since d.opened (control_after d call).opened)) (i + 1) ≡ closing_count c (called ++ call ∷ []) a.session =
+      (λ j. count_after (closing_count c called a.session) ((closed_is d call a.session ∙ ap (λ (z : ControlView). closes z call a.session) control) j) (sym count j + 1)) ∙ sym (closing_count-more c called call a.session) in
+      (subst (λ o. Stands plan new o (i + 1) (get_or es k x)) more s.0, s.1)
+
+  pub stand_next : StandAll plan new c (called ++ call ∷ []) (i + 1) es
+  stand_next k x l = let o = one_on k x (let size = gone.count in omega (arith, size, l)) in subst (λ s. Stands plan new (closing_count c (called ++ call ∷ []) s) (i + 1) (get_or es k x)) (sym o.1) o.0
+
+  pub sessions_next : map (λ (d : DrainView). d.session) es ≡ map (λ (d : DrainView). d.session) ds
+  sessions_next = sessions_same ds es gone.count (λ k x l. (one_on k x l).1)
+
+pub all_ready : (plan : PlanView) (n : Notes) (c : ControlView) (called : List (Option ℕ)) (done : ℕ) (ds : List DrainView) → done < 4294967295 → StandAll plan n c called done ds → All (IsReady plan n None) ds
+all_ready plan n c called done ds low stand k x l = stands_ready plan n _ done (get_or ds k x) low (stand k x l)
+
+-- the first drains
+
+by_its : (cs : List ControlledView) (i : ℕ) → AllPairs AreApart cs → i < length cs → controller_in cs (get_or cs i no_session).session ≡ (get_or cs i no_session).by
+by_its [] i apart l = absurd (omega arith)
+by_its (c ∷ cs) zero apart l = ap (λ b. if b then c.by else controller_in cs c.session) (eq-eqb c.session c.session refl)
+by_its (c ∷ cs) (suc i) apart l =
+    let up : c.session < (get_or cs i no_session).session = (apart 0 (suc i) no_session (omega arith) l).rising in
+    ap (λ b. if b then c.by else controller_in cs (get_or cs i no_session).session) (ne_eqb c.session (get_or cs i no_session).session (λ e. absurd (omega (arith, up, e))))
+    ∙ by_its cs i (λ a b d lt lb. apart (suc a) (suc b) d (omega arith) (omega arith)) (omega arith)
+
+pub record IsOf (plan : PlanView) (t s : ℕ) : Type 0 where
+  pub controlled : has_controlled plan s ≡ true
+  pub by : controller_of plan s ≡ t
+
+own_rows : (plan : PlanView) (t : ℕ) (cs : List ControlledView) → All (λ (c : ControlledView). (has_controlled plan c.session ≡ true) × (controller_of plan c.session ≡ c.by)) cs →
+    All (λ (s : SessNo). IsOf plan t s.0) (map number_of (filter (λ (c : ControlledView). nat_eq c.by t) cs))
+own_rows plan t [] all = λ i d l. absurd (omega arith)
+own_rows plan t (c ∷ cs) all = by_test (nat_eq c.by t) refl (own_rows plan t cs (All-tail (λ (c : ControlledView). (has_controlled plan c.session ≡ true) × (controller_of plan c.session ≡ c.by)) c cs all))
+  where
+    by_test : (b : Bool) → nat_eq c.by t ≡ b → All (λ (s : SessNo). IsOf plan t s.0) (map number_of (filter (λ (c : ControlledView). nat_eq c.by t) cs)) →
+        All (λ (s : SessNo). IsOf plan t s.0) (map number_of (if b then c ∷ filter (λ (c : ControlledView). nat_eq c.by t) cs else filter (λ (c : ControlledView). nat_eq c.by t) cs))
+    by_test true e rest = let h = all 0 c (omega arith) in
+        All-cons (λ (s : SessNo). IsOf plan t s.0) (number_of c) (map number_of (filter (λ (c : ControlledView). nat_eq c.by t) cs)) (record { controlled = h.0; by = h.1 ∙ eqb-true c.by t e }) rest
+    by_test false e rest = rest
+
+pub own_sessions : (plan : PlanView) (t : ℕ) → IsPlan plan → All (λ (s : SessNo). IsOf plan t s.0) (sessions_of plan t)
+own_sessions plan t ok = own_rows plan t plan.controlled (λ i d l. subst (λ (c : ControlledView). (has_controlled plan c.session ≡ true) × (controller_of plan c.session ≡ c.by)) (get_or_default plan.controlled i no_session d l)
+    (any_shown (λ (c : ControlledView). nat_eq c.session (get_or plan.controlled i no_session).session) plan.controlled no_session i l (eq-eqb _ _ refl), by_its plan.controlled i ok.apart l))
+
+bears_by : (o : Option ℕ) → is_some o ≡ true → o ≡ Some (unwrap_or o 0)
+bears_by None h = absurd cc
+bears_by (Some t) h = refl
+
+pub bears_of : (n : Notes) → is_working n ≡ true → n.bears ≡ Some (bearer n)
+bears_of n w = bears_by n.bears (and_left (is_some n.bears) _ w)
+
+pub stand_first : (plan : PlanView) (n : Notes) (c : ControlView) (ds : List DrainView) → IsPlan plan → is_working n ≡ true → ds ≡ first_drains plan (bearer n) → StandAll plan n c [] 0 ds
+stand_first plan n c ds ok working is = subst (StandAll plan n c [] 0) (sym is) (λ k x l.
+    let t : ℕ = bearer n in
+    let l' : k < length (sessions_of plan t) = (let size = length-map (sessions_of plan t) (λ (s : SessNo). unused plan s.0) in omega (arith, size, l)) in
+    let none : SessNo = record { 0 = 0 } in
+    let s : SessNo = get_or (sessions_of plan t) k none in
+    let of = own_sessions plan t ok k none l' in
+    subst (Stands plan n None 0) (sym (get_or-map (λ (s : SessNo). unused plan s.0) (sessions_of plan t) k none x l'))
+    (record { own = record { controlled = of.controlled; own = bears_of n working ∙ ap Some (sym of.by) }; by = refl }))
+
+-- no drain waits before the first instruction
+pub none_begun : (plan : PlanView) (n : Notes) (c : ControlView) (ds : List DrainView) → StandAll plan n c [] 0 ds → false ≡ list_any (λ (d : DrainView). is_begun d.stage) ds
+none_begun plan n c ds stand = sym (list_any_none (λ (d : DrainView). is_begun d.stage) ds (λ i d l. ap (λ (d : DrainView). is_begun d.stage) (stand i d l).by))
+
+-- one instruction more
+module _ (m : Memory) (plan : PlanView) (old mid new : Notes) (c d e : ControlView) (budget : ℕ) (first : State) (i : ℕ) (s t : State) (ds es : List DrainView)
+    (ok : IsPlan plan) (done : s.done ≡ i) (r : LedTo m plan old mid c d budget first i s) (lt : i < budget) (here : has_returned s ≡ false) (state : (solo_step m s).state ≡ t)
+    (steps : StepsOn plan mid new (solo_step m s).visits d (call_of m s)) (control : e ≡ control_after d (call_of m s)) (few : calls new ≤ calls mid + 6 + PLACE_LIMIT)
+    (stand : StandAll plan mid c (take i (calls_on m budget first)) i ds) (gone : HaveGone plan new (closed_since d.opened e.opened) (i + 1) ds es) where
+  its_adds : Adds m plan mid steps.mid d e s
+  its_adds = adds_on plan mid new (solo_step m s).visits d (call_of m s) steps m e s refl refl control few
+
+  its_aside : IsAside steps.mid new
+  its_aside = aside_step plan mid new (solo_step m s).visits d (call_of m s) steps
+
+  its_gone : HaveGone plan new (closed_since d.opened (control_after d (call_of m s)).opened) (i + 1) ds es
+  its_gone = subst (λ (x : ControlView). HaveGone plan new (closed_since d.opened x.opened) (i + 1) ds es) control gone
+
+  pub led_more : (solo_step m s).next ≡ On → LedTo m plan old new c e budget first (i + 1) t
+  led_more next = LedTo-aside m plan old steps.mid new c e budget first (i + 1) t its_aside (LedTo-more m plan old mid steps.mid c d e budget first i s t ok done r lt here next state its_adds)
+
+  pub run_ended : (ending : Ending) → (solo_step m s).next ≡ Ended ending → IsRun plan old new c e (solo_run m budget first) (calls_on m budget first) ending t budget
+  run_ended ending next = IsRun-aside plan old steps.mid new c e (solo_run m budget first) (calls_on m budget first) ending t budget its_aside (IsRun-ended m plan old mid steps.mid c d e budget first i s t ending ok done r lt here next state its_adds)
+
+  next_stand : StandAll plan new c (take i (calls_on m budget first) ++ call_of m s ∷ []) (i + 1) es
+  next_stand = stand_next plan mid new c d (take i (calls_on m budget first)) (call_of m s) i ds es (bears_on plan mid new (solo_step m s).visits d (call_of m s) steps) (known_on plan mid new (solo_step m s).visits d (call_of m s) steps)
+      (led_control m plan old mid c d budget first i s r) (led_count m plan old mid c d budget first i s r) stand its_gone
+
+  pub stand_more : (solo_step m s).next ≡ On → StandAll plan new c (take (i + 1) (calls_on m budget first)) (i + 1) es
+  stand_more next = subst (λ ks. StandAll plan new c ks (i + 1) es) (sym (led_on m plan old mid c d budget first i s r t lt here next state)) next_stand
+
+  pub stand_ended : (ending : Ending) → (solo_step m s).next ≡ Ended ending → StandAll plan new c (calls_on m budget first) (i + 1) es
+  stand_ended ending next = subst (λ ks. StandAll plan new c ks (i + 1) es) (sym (led_ended m plan old mid c d budget first i s r ending lt here next)) next_stand
+
+  pub sessions_more : map (λ (d : DrainView). d.session) es ≡ map (λ (d : DrainView). d.session) ds
+  sessions_more = sessions_next plan mid new c d (take i (calls_on m budget first)) (call_of m s) i ds es (bears_on plan mid new (solo_step m s).visits d (call_of m s) steps) (known_on plan mid new (solo_step m s).visits d (call_of m s) steps)
+      (led_control m plan old mid c d budget first i s r) (led_count m plan old mid c d budget first i s r) stand its_gone
+
+-- behind its last boundary a pass works no more
+ended_by : (b : Bool) (k : ℕ) → (b && nat_eq (k % 2) 0) ≡ true → (b && nat_eq ((k + 1) % 2) 0) ≡ false
+ended_by false k h = refl
+ended_by true k h = let even : k % 2 ≡ 0 = eqb-true (k % 2) 0 h in ne_eqb ((k + 1) % 2) 0 (λ e. absurd (omega (arith, even, e)))
+
+pub ended : (n : Notes) → is_working n ≡ true → is_working (after_boundary n true) ≡ false
+ended n working = ap (λ k. is_some n.bears && nat_eq (k % 2) 0) (boundary_number n true) ∙ ended_by (is_some n.bears) (own_number n) working

@@ -1,0 +1,9 @@
+pub mod ActLemmas
+pub mod EarlyLemmas
+pub mod FollowLemmas
+pub mod LookLemmas
+pub mod ReadLemmas
+pub mod StandLemmas
+pub mod StepLemmas
+pub mod TieLemmas
+pub mod ToldLemmas

@@ -1,0 +1,30 @@
+use Rattle.std.proofs.Common.{◌≡◌, [], ◌∷◌, ◌++◌, codes, rules}
+use Rattle.report_text.proofs.WriteLemmas.{progress_start, progress_more, progress_exit, progress_last}
+use Rattle.early_report.proofs.text.early_lines.Goals as goal
+
+pub returns-in_err-put : goal.returns-in_err-put
+returns-in_err-put g c =
+    let head : c.words_line.result.items ≡ codes "COVERAGE REPORT" ++ 10 ∷ [] = search rules in
+    progress_exit _ c.from_residual.ensures.0 (c.in_err-put.ensures _ head) progress_start
+
+pub returns-in_err-tasks_text : goal.returns-in_err-tasks_text
+returns-in_err-tasks_text g c =
+    let head : c.words_line.result.items ≡ codes "COVERAGE REPORT" ++ 10 ∷ [] = search rules in
+    let first = progress_more (c.in_ok-put.ensures _ head) progress_start in
+    progress_exit _ c.from_residual-in_err-tasks_text.ensures.0 c.in_err-tasks_text.ensures first
+
+pub returns-in_err-early_parts : goal.returns-in_err-early_parts
+returns-in_err-early_parts g c =
+    let head : c.words_line.result.items ≡ codes "COVERAGE REPORT" ++ 10 ∷ [] = search rules in
+    let first = progress_more (c.in_ok-put.ensures _ head) progress_start in
+    let second = progress_more c.in_ok-tasks_text.ensures first in
+    progress_exit _ c.from_residual-in_err-early_parts.ensures.0 c.in_err-early_parts.ensures second
+
+pub returns : goal.returns
+returns g c =
+    let head : c.words_line.result.items ≡ codes "COVERAGE REPORT" ++ 10 ∷ [] = search rules in
+    let end : c.words_line-2.result.items ≡ codes "END" ++ 10 ∷ [] = search rules in
+    let first = progress_more (c.in_ok-put.ensures _ head) progress_start in
+    let second = progress_more c.in_ok-tasks_text.ensures first in
+    let third = progress_more c.in_ok-early_parts.ensures second in
+    progress_last (c.put-2.ensures _ end) third

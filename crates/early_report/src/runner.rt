@@ -1,0 +1,337 @@
+//! A controller's run, in which the sets of the sessions that it has closed are taken as soon as they are final.
+ghost use Rattle.std.specs.Prelude.{◌≡◌, ℕ, ◌+◌, ◌<◌, ◌≤◌, ◌^◌, ◌*◌, true, false, map, All, IfOk};
+ghost use Rattle.std.specs.List.{list_any};
+ghost use Rattle.std.specs.declared.option.Option.TheVariants.{None};
+ghost use Rattle.cov_base.specs.declared.limits.TheConstants.{PLACE_LIMIT};
+ghost use Rattle.cov_base.specs.FactSet.{FactSet};
+ghost use Rattle.module_area.specs.Control.{control_after};
+ghost use Rattle.module_area.specs.Ended.{AreSettled};
+ghost use Rattle.module_area.specs.Notes.{Notes, bearer, calls, is_working, own_number};
+ghost use Rattle.module_area.specs.PlanView.{IsPlan};
+ghost use Rattle.module_area.specs.Tied.{IsTied};
+ghost use Rattle.s370_exec.specs.Calls.{call_of};
+ghost use Rattle.s370_exec.specs.Solo.{solo_step};
+ghost use Rattle.space_map.specs.Space.{memory_of_space};
+ghost use Rattle.svc_monitor.specs.First.{IsOver};
+ghost use Rattle.task_run.specs.Courses.{solo};
+ghost use Rattle.task_run.specs.Ran.{RanAs, stands, walk_from};
+ghost use Rattle.task_run.specs.Windows.{is_opened};
+ghost use Rattle.early_report.specs.DrainView.{DrainView};
+ghost use Rattle.early_report.specs.Drains.{IsDrainOf, IsLooking};
+ghost use Rattle.early_report.specs.Followed.{IsReady, IsAsked, Went, HaveGone, StepsOn, Stands, first_drains, is_begun, closed_since};
+ghost use Rattle.early_report.specs.Told.{HasTold, closing_count};
+ghost use Rattle.early_report.specs.declared.drains.Stage.TheVariants.{Begun};
+
+use crate::drains::{Drain, Poll, Stage, drain_begin, drain_poll, drain_take, room};
+use brk_table::Tables;
+use cov_base::{NoMemory, SessNo, TaskNo};
+use module_area::{Control, Drains, Plan};
+use s370_exec::has_returned;
+use s370_state::{Ending, Next};
+use std::alloc::Global;
+use svc_monitor::step;
+use task_run::{Runner, Task};
+
+/// Polls a begun drain; where it is drained then, takes its sets at this count. Says whether it waits for a task.
+fn ask<C: Drains>(cells: &C, pass: &mut C::Pass, plan: &Plan, drain: &mut Drain, done: u32) -> bool
+    requires area { C.is_pass cells.now pass.old }
+    requires plan { C.plan cells.now ≡ plan.now }
+    requires begun { drain.old.stage ≡ Begun }
+    requires tied { IsDrainOf plan.now (C.notes pass.old) drain.old }
+    requires count { drain.old.polls < 4294967295 }
+    ensures area { C.is_pass cells.now pass.new }
+    ensures looking { IsLooking (C.notes pass.old) (C.notes pass.new) }
+    ensures asked { IsAsked plan.now (C.notes pass.new) drain.old.session drain.old.polls done drain.new }
+    ensures waits { result ≡ is_begun drain.new.stage }
+{
+    if let Poll::Pending { .. } = drain_poll(cells, pass, drain) {
+        return true;
+    }
+    drain_take(cells, pass, plan, drain);
+    drain.at = done;
+    false
+}
+
+/// The session that is open.
+fn open_session(control: &Control) -> Option<SessNo>
+    ensures { result ≡ control.now.opened }
+{
+    control.opened
+}
+
+/// The session that was open before an instruction and isn't behind it.
+fn closed_since(before: Option<SessNo>, after: Option<SessNo>) -> Option<SessNo>
+    ensures { result ≡ closed_since before after }
+{
+    match after {
+        None => before,
+        Some(_) => None,
+    }
+}
+
+/// Whether the session is that one.
+fn is_session(s: SessNo, closed: Option<SessNo>) -> bool
+    ensures { result ≡ is_opened s.0 closed }
+{
+    match closed {
+        None => false,
+        Some(t) => t.0 == s.0,
+    }
+}
+
+/// Has a drain follow an instruction that has closed this session, or none: where it is the drain's, the drain is begun, and a
+/// begun drain is polled. Says whether it then waits for a task.
+fn follow<C: Drains>(
+    cells: &C,
+    pass: &mut C::Pass,
+    plan: &Plan,
+    drain: &mut Drain,
+    closed: Option<SessNo>,
+    done: u32,
+) -> bool
+    requires area { C.is_pass cells.now pass.old }
+    requires plan { C.plan cells.now ≡ plan.now }
+    requires ready { IsReady plan.now (C.notes pass.old) closed drain.old }
+    ensures area { C.is_pass cells.now pass.new }
+    ensures looking { IsLooking (C.notes pass.old) (C.notes pass.new) }
+    ensures went { Went plan.now (C.notes pass.new) closed done drain.old drain.new }
+    ensures waits { result ≡ is_begun drain.new.stage }
+{
+    match drain.stage {
+        Stage::Unused => {
+            if !is_session(drain.session, closed) {
+                return false;
+            }
+            drain_begin(cells, pass, plan, drain);
+            ask(cells, pass, plan, drain, done)
+        }
+        Stage::Begun => ask(cells, pass, plan, drain, done),
+        _ => false,
+    }
+}
+
+/// Has all drains follow the instruction. Says whether one then waits for a task.
+fn follow_all<C: Drains>(
+    cells: &C,
+    pass: &mut C::Pass,
+    plan: &Plan,
+    drains: &mut Vec<Drain>,
+    closed: Option<SessNo>,
+    done: u32,
+) -> bool
+    requires area { C.is_pass cells.now pass.old }
+    requires plan { C.plan cells.now ≡ plan.now }
+    requires ready { All (IsReady plan.now (C.notes pass.old) closed) drains.old.items }
+    ensures area { C.is_pass cells.now pass.new }
+    ensures looking { IsLooking (C.notes pass.old) (C.notes pass.new) }
+    ensures gone { HaveGone plan.now (C.notes pass.new) closed done drains.old.items drains.new.items }
+    ensures waits { result ≡ list_any (λ (d : DrainView). is_begun d.stage) drains.new.items }
+{
+    let mut waits = false;
+    for i in 0..drains.len() {
+        if follow(cells, pass, plan, &mut drains[i], closed, done) {
+            waits = true;
+        }
+    }
+    waits
+}
+
+/// Has the drains follow the instruction, where one of them waits or a session was closed; else none has to.
+fn follow_some<C: Drains>(
+    cells: &C,
+    pass: &mut C::Pass,
+    plan: &Plan,
+    drains: &mut Vec<Drain>,
+    waits: bool,
+    closed: Option<SessNo>,
+    done: u32,
+) -> bool
+    requires area { C.is_pass cells.now pass.old }
+    requires plan { C.plan cells.now ≡ plan.now }
+    requires ready { All (IsReady plan.now (C.notes pass.old) closed) drains.old.items }
+    requires waits { waits ≡ list_any (λ (d : DrainView). is_begun d.stage) drains.old.items }
+    ensures area { C.is_pass cells.now pass.new }
+    ensures looking { IsLooking (C.notes pass.old) (C.notes pass.new) }
+    ensures gone { HaveGone plan.now (C.notes pass.new) closed done drains.old.items drains.new.items }
+    ensures waits { result ≡ list_any (λ (d : DrainView). is_begun d.stage) drains.new.items }
+{
+    if waits || closed.is_some() {
+        follow_all(cells, pass, plan, drains, closed, done)
+    } else {
+        false
+    }
+}
+
+/// One instruction of the task, of which neither budget nor return address is tested, then a boundary, and what the drains of
+/// its sessions have to do behind it.
+fn step_on<C: Drains>(
+    cells: &C,
+    pass: &mut C::Pass,
+    tables: &Tables,
+    plan: &Plan,
+    drains: &mut Vec<Drain>,
+    waits: &mut bool,
+    task: &mut Task<'_>,
+) -> Next
+    requires area { C.is_pass cells.now pass.old }
+    requires plan { C.plan cells.now ≡ plan.now }
+    requires is_plan { IsPlan plan.now }
+    requires over { IsOver (C.plan cells.now) (memory_of_space task.old.space) tables.now.places }
+    requires room { calls (C.notes pass.old) < 2 ^ 61 }
+    requires working { is_working (C.notes pass.old) ≡ true }
+    requires number { own_number (C.notes pass.old) < 2 ^ 62 }
+    requires tied { IsTied (C.plan cells.now) (C.notes pass.old) task.old.control }
+    requires ready { All (IsReady plan.now (C.notes pass.old) None) drains.old.items }
+    requires waits { waits.old ≡ list_any (λ (d : DrainView). is_begun d.stage) drains.old.items }
+    ensures area { C.is_pass cells.now pass.new }
+    ensures tied { IsTied (C.plan cells.now) (C.notes pass.new) task.new.control }
+    ensures calls { calls (C.notes pass.new) ≤ calls (C.notes pass.old) + 6 + PLACE_LIMIT }
+    ensures control { (d : ℕ) → task.new.control ≡ control_after task.old.control (call_of (memory_of_space task.old.space) (stands task.old d)) }
+    ensures memory { memory_of_space task.new.space ≡ memory_of_space task.old.space }
+    ensures budget { task.new.budget ≡ task.old.budget }
+    ensures done { task.new.done ≡ task.old.done }
+    ensures state { (d : ℕ) → (solo_step (memory_of_space task.old.space) (stands task.old d)).state ≡ stands task.new (d + 1) }
+    ensures next { (d : ℕ) → (solo_step (memory_of_space task.old.space) (stands task.old d)).next ≡ result }
+    ensures steps { (d : ℕ) → StepsOn (C.plan cells.now) (C.notes pass.old) (C.notes pass.new) (solo_step (memory_of_space task.old.space) (stands task.old d)).visits task.old.control (call_of (memory_of_space task.old.space) (stands task.old d)) }
+    ensures gone { HaveGone plan.now (C.notes pass.new) (closed_since task.old.control.opened task.new.control.opened) task.old.done drains.old.items drains.new.items }
+    ensures waits { waits.new ≡ list_any (λ (d : DrainView). is_begun d.stage) drains.new.items }
+{
+    let opened = open_session(&task.control);
+    let next = step(
+        cells,
+        pass,
+        tables,
+        &mut task.cpu,
+        &mut task.space,
+        &mut task.io,
+        plan,
+        &mut task.control,
+    );
+    cells.boundary(pass, false);
+    let closed = closed_since(opened, open_session(&task.control));
+    *waits = follow_some(cells, pass, plan, drains, *waits, closed, task.done);
+    next
+}
+
+/// Runs the task until it ends, as `run_task` does, with a boundary behind each instruction, and with its drains, which are
+/// unused before.
+fn run_steps<C: Drains>(
+    cells: &C,
+    pass: &mut C::Pass,
+    tables: &Tables,
+    plan: &Plan,
+    drains: &mut Vec<Drain>,
+    task: &mut Task<'_>,
+) -> Ending
+    requires area { C.is_pass cells.now pass.old }
+    requires plan { C.plan cells.now ≡ plan.now }
+    requires over { IsOver (C.plan cells.now) (memory_of_space task.old.space) tables.now.places }
+    requires room { calls (C.notes pass.old) < 2 ^ 60 }
+    requires working { is_working (C.notes pass.old) ≡ true }
+    requires fresh { task.old.done ≡ 0 }
+    requires tied { IsTied (C.plan cells.now) (C.notes pass.old) task.old.control }
+    requires first { (task.old.control.next ≡ 0) × (task.old.control.opened ≡ None) }
+    requires number { own_number (C.notes pass.old) ≡ 0 }
+    requires unused { drains.old.items ≡ first_drains plan.now (bearer (C.notes pass.old)) }
+    ensures area { C.is_pass cells.now pass.new }
+    ensures is_plan { IsPlan plan.now }
+    ensures ran { RanAs solo (C.plan cells.now) (C.notes pass.old) (C.notes pass.new) task.old task.new result }
+    ensures working { is_working (C.notes pass.new) ≡ true }
+    ensures number { own_number (C.notes pass.new) < 2 ^ 62 }
+    ensures sessions { map (λ (d : DrainView). d.session) drains.new.items ≡ map (λ (d : DrainView). d.session) drains.old.items }
+    ensures stand { All (λ (d : DrainView). Stands plan.now (C.notes pass.new) (closing_count task.old.control (walk_from solo plan.now task.old).calls d.session) task.new.done d) drains.new.items }
+{
+    // Read for what every plan keeps.
+    let _ = plan.places_len();
+    let budget = task.budget;
+    let mut waits = false;
+    for done in 0..budget {
+        if has_returned(&task.cpu) {
+            return Ending::Returned;
+        }
+        task.done = done + 1;
+        if let Next::Ended(e) = step_on(cells, pass, tables, plan, drains, &mut waits, task) {
+            return e;
+        }
+    }
+    if has_returned(&task.cpu) {
+        Ending::Returned
+    } else {
+        Ending::Spent
+    }
+}
+
+/// Runs the task until it ends, as `run_task` does, with its drains; then a last boundary tells that the task has ended.
+fn run_early<C: Drains>(
+    cells: &C,
+    pass: &mut C::Pass,
+    tables: &Tables,
+    plan: &Plan,
+    drains: &mut Vec<Drain>,
+    task: &mut Task<'_>,
+) -> Ending
+    requires area { C.is_pass cells.now pass.old }
+    requires plan { C.plan cells.now ≡ plan.now }
+    requires over { IsOver (C.plan cells.now) (memory_of_space task.old.space) tables.now.places }
+    requires room { calls (C.notes pass.old) < 2 ^ 60 }
+    requires working { is_working (C.notes pass.old) ≡ true }
+    requires fresh { task.old.done ≡ 0 }
+    requires tied { IsTied (C.plan cells.now) (C.notes pass.old) task.old.control }
+    requires first { (task.old.control.next ≡ 0) × (task.old.control.opened ≡ None) }
+    requires number { own_number (C.notes pass.old) ≡ 0 }
+    requires unused { drains.old.items ≡ first_drains plan.now (bearer (C.notes pass.old)) }
+    ensures area { C.is_pass cells.now pass.new }
+    ensures ran { RanAs solo (C.plan cells.now) (C.notes pass.old) (C.notes pass.new) task.old task.new result }
+    ensures told { (sets : ℕ → ℕ → FactSet) → AreSettled (C.plan cells.now) (C.notes pass.new) sets → HasTold plan.now task.old task.new drains.new.items sets }
+    ensures ended { is_working (C.notes pass.new) ≡ false }
+{
+    let ending = run_steps(cells, pass, tables, plan, drains, task);
+    cells.boundary(pass, true);
+    ending
+}
+
+/// The drains of the sessions that the task controls, in order, all unused.
+fn make_drains(alloc: Global, plan: &Plan, task: TaskNo) -> Result<Vec<Drain>, NoMemory>
+    ensures { IfOk result (λ v. v.items ≡ first_drains plan.now task.0) }
+{
+    let mut drains = Vec::new(alloc);
+    for c in &plan.controlled {
+        if c.by.0 == task.0 {
+            drains.push(room(alloc, plan, c.session)?)?;
+        }
+    }
+    Ok(drains)
+}
+
+/// Runs a controller's task so that the sets of its sessions are taken while other tasks still run: behind an SVC 5 that closes a
+/// session its drain is begun, polled at once and behind each further instruction of the task, and where it is drained its sets
+/// are taken, at the task's count.
+#[derive(Drop)]
+pub struct EarlyRunner;
+
+impl<C: Drains> Runner<C> for EarlyRunner {
+    /// A drain for each session that the task controls, in order.
+    type Extra = Vec<Drain>;
+
+    ghost course = { solo };
+
+    ghost begins = { λ plan t extra notes. (extra.items ≡ first_drains plan t) × (own_number notes ≡ 0) };
+
+    ghost ends = { λ plan old new extra sets. HasTold plan old new extra.items sets };
+
+    fn extra(&self, alloc: Global, plan: &Plan, task: TaskNo) -> Result<Vec<Drain>, NoMemory> {
+        make_drains(alloc, plan, task)
+    }
+
+    fn run(
+        &self,
+        cells: &C,
+        pass: &mut C::Pass,
+        tables: &Tables,
+        plan: &Plan,
+        extra: &mut Vec<Drain>,
+        task: &mut Task<'_>,
+    ) -> Ending {
+        run_early(cells, pass, tables, plan, extra, task)
+    }
+}

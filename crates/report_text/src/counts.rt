@@ -1,0 +1,228 @@
+//! The text of a count: what each task has come to, and how often each session's executions gave each fact.
+ghost use Rattle.std.specs.Prelude.{◌≡◌, ℕ, ◌+◌, ◌-◌, ◌<◌, ◌≤◌, ◌++◌, ◌∷◌, [], length, codes, decimal, All};
+ghost use Rattle.std.specs.List.{flat_map};
+ghost use Rattle.arrayvec.specs.ArrayVec.{array_vec_len};
+ghost use Rattle.brk_table.specs.Places.{first_place, place_count};
+ghost use Rattle.cov_outside.specs.Writes.{Writes};
+ghost use Rattle.report_text.specs.Conditions.{AreTablesOf, AreResultsOf};
+ghost use Rattle.report_text.specs.Counts.{fact_counts, count_line, count_part, counts_of_module, counts_of_session, count_lines, count_text};
+ghost use Rattle.report_text.specs.Text.{lines_from};
+ghost use Rattle.report_text.specs.Writes.{WritesLines};
+
+use crate::places::module_line;
+use crate::sessions::{location, module_name, phase_name, session_line};
+use crate::whole::{tasks_text, words_line};
+use crate::writing::put;
+use annotator::text::{add_hex, add_number, add_text};
+use arrayvec::ArrayVec;
+use brk_table::Tables;
+use cov_base::{Fact, Kind, PlaceNo, SessNo};
+use cov_outside::{Failed, Sink};
+use session_book::{FactCounts, Job, Results};
+
+/// Adds a blank and a number.
+fn add_count(line: &mut ArrayVec<u8, 160>, count: u64)
+    requires { array_vec_len line.old ≤ 80 }
+    ensures items { line.new.items ≡ line.old.items ++ (codes " " ++ decimal count) }
+    ensures short { array_vec_len line.new ≤ array_vec_len line.old + 21 }
+{
+    add_text(line, b" ");
+    add_number(line, count);
+}
+
+/// Adds the counts of the facts of the place's kind.
+#[tactic(auto, unfolding(crate::specs::Counts::fact_counts))]
+fn add_facts<R: FactCounts>(
+    line: &mut ArrayVec<u8, 160>,
+    kind: Kind,
+    results: &R,
+    s: SessNo,
+    n: PlaceNo,
+)
+    requires line { array_vec_len line.old ≤ 40 }
+    requires from { 0 < s.0 }
+    requires to { s.0 < R.sessions results.now + 1 }
+    requires place { n.0 < R.places results.now }
+    ensures items { line.new.items ≡ line.old.items ++ fact_counts kind (R.count_of results.now s.0 n.0) }
+    ensures short { array_vec_len line.new ≤ array_vec_len line.old + 42 }
+{
+    match kind {
+        Kind::Straight => add_count(line, results.count(s, n, Fact::Ran)),
+        Kind::Conditional => {
+            add_count(line, results.count(s, n, Fact::Went));
+            add_count(line, results.count(s, n, Fact::Stayed));
+        }
+    }
+}
+
+/// A place by its location, with its counts.
+#[tactic(auto, unfolding(crate::specs::Counts::count_line))]
+pub(crate) fn count_line<R: FactCounts>(
+    location: u32,
+    kind: Kind,
+    results: &R,
+    s: SessNo,
+    n: PlaceNo,
+) -> ArrayVec<u8, 160>
+    requires location { location < 16777216 }
+    requires from { 0 < s.0 }
+    requires to { s.0 < R.sessions results.now + 1 }
+    requires place { n.0 < R.places results.now }
+    ensures { result.items ≡ count_line location kind (R.count_of results.now s.0 n.0) ++ 10 ∷ [] }
+{
+    let mut line = ArrayVec::new();
+    add_text(&mut line, b"COUNT ");
+    add_hex(&mut line, location, 6);
+    add_facts(&mut line, kind, results, s, n);
+    line.push(b'\n');
+    line
+}
+
+/// The places from `first` on, below `past`, with their counts.
+fn count_lines<K: Sink, R: FactCounts>(
+    sink: &mut K,
+    job: &Job,
+    tables: &Tables,
+    results: &R,
+    s: SessNo,
+    first: u32,
+    past: u32,
+) -> Result<(), Failed>
+    requires tables { AreTablesOf job.now tables.now }
+    requires from { 0 < s.0 }
+    requires to { s.0 < R.sessions results.now + 1 }
+    requires size { R.places results.now ≡ length tables.now.places }
+    requires range { first ≤ past }
+    requires exist { past ≤ length tables.now.places }
+    ensures { WritesLines K.written K.faults sink.old sink.new result (lines_from (count_part job.now tables.now.places (R.count_of results.now s.0)) first (past - first)) }
+{
+    for n in first..past {
+        let place = tables.place(PlaceNo(n));
+        put(
+            sink,
+            count_line(location(job, place), place.kind, results, s, PlaceNo(n)),
+        )?;
+    }
+    Ok(())
+}
+
+/// A module's name and places, with their counts.
+fn module_counts<K: Sink, R: FactCounts>(
+    sink: &mut K,
+    job: &Job,
+    tables: &Tables,
+    results: &R,
+    s: SessNo,
+    m: u32,
+) -> Result<(), Failed>
+    requires module { m < length job.now.images }
+    requires tables { AreTablesOf job.now tables.now }
+    requires from { 0 < s.0 }
+    requires to { s.0 < R.sessions results.now + 1 }
+    requires size { R.places results.now ≡ length tables.now.places }
+    ensures { WritesLines K.written K.faults sink.old sink.new result (counts_of_module job.now tables.now (R.count_of results.now s.0) m) }
+{
+    let (first, past) = tables.range(m);
+    put(sink, module_line(module_name(job, m), past - first))?;
+    count_lines(sink, job, tables, results, s, first, past)
+}
+
+/// The modules' counts, in the order of the session's card.
+fn modules_counts<K: Sink, R: FactCounts>(
+    sink: &mut K,
+    job: &Job,
+    tables: &Tables,
+    results: &R,
+    s: SessNo,
+    modules: &[u32],
+) -> Result<(), Failed>
+    requires modules { All (λ m. m < length job.now.images) modules.now }
+    requires tables { AreTablesOf job.now tables.now }
+    requires from { 0 < s.0 }
+    requires to { s.0 < R.sessions results.now + 1 }
+    requires size { R.places results.now ≡ length tables.now.places }
+    ensures { WritesLines K.written K.faults sink.old sink.new result (flat_map (counts_of_module job.now tables.now (R.count_of results.now s.0)) modules.now) }
+{
+    for m in modules {
+        module_counts(sink, job, tables, results, s, *m)?;
+    }
+    Ok(())
+}
+
+/// A session's counts.
+fn session_counts<K: Sink, R: FactCounts>(
+    sink: &mut K,
+    job: &Job,
+    tables: &Tables,
+    results: &R,
+    s: SessNo,
+) -> Result<(), Failed>
+    requires from { 0 < s.0 }
+    requires to { s.0 ≤ length job.now.sessions }
+    requires tables { AreTablesOf job.now tables.now }
+    requires count { R.sessions results.now ≡ length job.now.sessions }
+    requires size { R.places results.now ≡ length tables.now.places }
+    ensures { WritesLines K.written K.faults sink.old sink.new result (counts_of_session job.now tables.now (R.count_of results.now) s.0) }
+{
+    let session = job.session(s);
+    put(
+        sink,
+        session_line(&session.name, phase_name(job, session.phase)),
+    )?;
+    modules_counts(sink, job, tables, results, s, &session.modules)
+}
+
+/// The sessions' counts.
+fn sessions_counts<K: Sink, R: FactCounts>(
+    sink: &mut K,
+    job: &Job,
+    tables: &Tables,
+    results: &R,
+) -> Result<(), Failed>
+    requires tables { AreTablesOf job.now tables.now }
+    requires count { R.sessions results.now ≡ length job.now.sessions }
+    requires size { R.places results.now ≡ length tables.now.places }
+    ensures { WritesLines K.written K.faults sink.old sink.new result (lines_from (counts_of_session job.now tables.now (R.count_of results.now)) 1 (length job.now.sessions)) }
+{
+    for i in 0..job.sessions.len() {
+        session_counts(sink, job, tables, results, SessNo(i as u32 + 1))?;
+    }
+    Ok(())
+}
+
+/// The whole text, line by line.
+fn count_part<K: Sink, R: Results + FactCounts>(
+    sink: &mut K,
+    job: &Job,
+    tables: &Tables,
+    results: &R,
+) -> Result<(), Failed>
+    requires tables { AreTablesOf job.now tables.now }
+    requires results { AreResultsOf job.now (R.tasks results.now) (R.result_of results.now) }
+    requires count { R.sessions results.now ≡ length job.now.sessions }
+    requires size { R.places results.now ≡ length tables.now.places }
+    ensures { WritesLines K.written K.faults sink.old sink.new result (count_lines job.now tables.now (R.result_of results.now) (R.count_of results.now)) }
+{
+    put(sink, words_line(b"COVERAGE COUNT"))?;
+    tasks_text(sink, job, results)?;
+    sessions_counts(sink, job, tables, results)?;
+    put(sink, words_line(b"END"))
+}
+
+/// The counts of a job's sessions behind its tasks: for each place of a session's modules how often it ran, or how often
+/// it branched and how often it fell through. Failed only where the sink's count of faults rose; the sink has then taken
+/// a first part of the text. Takes no memory.
+pub fn count_text<K: Sink, R: Results + FactCounts>(
+    sink: &mut K,
+    job: &Job,
+    tables: &Tables,
+    results: &R,
+) -> Result<(), Failed>
+    requires tables { AreTablesOf job.now tables.now }
+    requires results { AreResultsOf job.now (R.tasks results.now) (R.result_of results.now) }
+    requires count { R.sessions results.now ≡ length job.now.sessions }
+    requires size { R.places results.now ≡ length tables.now.places }
+    ensures { Writes K.written K.faults sink.old sink.new result (count_text job.now tables.now (R.result_of results.now) (R.count_of results.now)) }
+{
+    count_part(sink, job, tables, results)
+}

@@ -1,0 +1,7 @@
+use Rattle.std.proofs.Common.{◌≡◌}
+use Rattle.shared_area.specs.Words.{task_at}
+use Rattle.shared_area.specs.Rule.{WordNoted}
+use Rattle.shared_area.proofs.drains.SharedCellsDrains.note.Given as goal
+
+abbrev pub ghosts-load : goal.ghosts-load
+ghosts-load a = record { then = λ st me w me'. WordNoted (task_at a.self.now.key.value a.word) me.0 w me'.0 × (me'.1 ≡ me.1) }

@@ -1,0 +1,109 @@
+//! A session that is closed while another task holds a trap of it: the numbers of tasks and the sets that the controller
+//! reads before and behind that task's boundary.
+ghost use Rattle.std.specs.Prelude.{◌≡◌, ◌<◌, ◌^◌, ◌≤◌, true, length};
+ghost use Rattle.std.specs.declared.option.Option.TheVariants.{Some};
+ghost use Rattle.cov_base.specs.declared.facts.Kind.TheVariants.{Straight};
+ghost use Rattle.module_area.specs.PlanView.{kind_at, has_task};
+ghost use Rattle.shared_area.specs.Late.{IsTwice};
+ghost use Rattle.module_area.specs.Notes.{calls, own_number};
+
+use crate::SharedAreas;
+use crate::late::{marks, three_instructions, traps};
+use crate::through::{closes_all, plants_all, runs};
+use cov_base::{Fact, NoMemory, PlaceNo, SessNo, TaskNo};
+use module_area::{Areas, Drains, Forks, Plan};
+use std::alloc::Global;
+use std::test::Fail;
+
+/// The numbers that the controller notes, and whether the sets that it reads have the run.
+type Seen = ([u64; 5], [bool; 3]);
+
+/// Session 1 is closed while task 0 has its breakpoint in hand. Of the numbers the first is that of task 2, which ends at
+/// once; the next three are task 0's before its boundary, behind it and behind its end; the last is the own one. The
+/// sets are the first place's before task 0 marks and behind its boundary, and the second place's.
+fn behind_the_close<C: Drains>(
+    cells: &C,
+    control: &mut C::Pass,
+    pass: &mut C::Pass,
+    other: &mut C::Pass,
+) -> Option<Seen>
+    requires area { C.is_pass cells.now control.old × C.is_pass cells.now pass.old × C.is_pass cells.now other.old }
+    requires room { (calls (C.notes control.old) < 2 ^ 8) × (calls (C.notes pass.old) < 2 ^ 8) × (calls (C.notes other.old) < 2 ^ 8) }
+    requires places { 2 < length (C.plan cells.now).places }
+    requires kinds { kind_at (C.plan cells.now) 0 ≡ Straight }
+    requires over { IsTwice (C.plan cells.now) 0 × IsTwice (C.plan cells.now) 1 × IsTwice (C.plan cells.now) 2 }
+    requires tasks { (has_task (C.plan cells.now).tasks 0 ≡ true) × (has_task (C.plan cells.now).tasks 1 ≡ true) × (has_task (C.plan cells.now).tasks 2 ≡ true) }
+    requires sessions { 1 ≤ (C.plan cells.now).sessions }
+    requires bears { ((C.notes control.old).bears ≡ Some 1) × ((C.notes pass.old).bears ≡ Some 0) × ((C.notes other.old).bears ≡ Some 2) }
+    requires begins { (own_number (C.notes control.old) ≡ 0) × (own_number (C.notes pass.old) ≡ 0) × (own_number (C.notes other.old) ≡ 0) }
+    requires first { ((C.notes control.old).last 0 ≡ 0) × ((C.notes control.old).last 1 ≡ 0) × ((C.notes control.old).last 2 ≡ 0) }
+    ensures area { C.is_pass cells.now control.new × C.is_pass cells.now pass.new × C.is_pass cells.now other.new }
+    ensures room { (calls (C.notes control.new) < 2 ^ 9) × (calls (C.notes pass.new) < 2 ^ 9) × (calls (C.notes other.new) < 2 ^ 9) }
+    ensures bears { ((C.notes control.new).bears ≡ Some 1) × ((C.notes pass.new).bears ≡ Some 0) × ((C.notes other.new).bears ≡ Some 2) }
+{
+    plants_all(cells, control, SessNo(1));
+    if !traps(cells, pass, PlaceNo(0), 1) {
+        return None;
+    }
+    closes_all(cells, control, SessNo(1));
+    cells.boundary(control, false);
+    cells.boundary(other, true);
+    let ended = cells.note(control, TaskNo(2));
+    let waiting = cells.note(control, TaskNo(0));
+    let before = cells.read_set(control, SessNo(1), PlaceNo(0));
+    marks(cells, pass, SessNo(1), PlaceNo(0))?;
+    cells.boundary(pass, false);
+    let moved = cells.note(control, TaskNo(0));
+    let behind = cells.read_set(control, SessNo(1), PlaceNo(0));
+    let second = cells.read_set(control, SessNo(1), PlaceNo(1));
+    cells.boundary(pass, true);
+    let done = cells.note(control, TaskNo(0));
+    let own = cells.note(control, TaskNo(1));
+    Some((
+        [ended, waiting, moved, done, own],
+        [
+            before.has(Fact::Ran),
+            behind.has(Fact::Ran),
+            second.has(Fact::Ran),
+        ],
+    ))
+}
+
+/// The same by passes split for tasks 0, 1 and 2, and the runs of the session in the end.
+#[tactic(auto, using(module_area::proofs::EndedLemmas::session_has_sets))]
+fn closed_in_area<A: Areas>(
+    alloc: Global,
+    areas: &mut A,
+    plan: &Plan,
+) -> Result<(Option<Seen>, [bool; 3]), NoMemory>
+    requires room { A.made areas.old < 2 ^ 62 }
+    requires places { 2 < length plan.now.places }
+    requires kinds { kind_at plan.now 0 ≡ Straight }
+    requires over { IsTwice plan.now 0 × IsTwice plan.now 1 × IsTwice plan.now 2 }
+    requires tasks { (has_task plan.now.tasks 0 ≡ true) × (has_task plan.now.tasks 1 ≡ true) × (has_task plan.now.tasks 2 ≡ true) }
+    requires sessions { 1 ≤ plan.now.sessions }
+{
+    let (cells, mut root) = areas.make(alloc, plan)?;
+    let mut pass = cells.split(&mut root, TaskNo(0));
+    let mut control = cells.split(&mut root, TaskNo(1));
+    let mut other = cells.split(&mut root, TaskNo(2));
+    let seen = behind_the_close(&cells, &mut control, &mut pass, &mut other);
+    cells.join(&mut root, pass);
+    cells.join(&mut root, control);
+    cells.join(&mut root, other);
+    let finals = areas.finish(alloc, cells, root)?;
+    Ok((seen, runs(&finals, SessNo(1))))
+}
+
+#[test]
+fn a_boundary_behind_a_closed_session(rt: HostRuntime) -> Result<(), Fail> {
+    let alloc = rt.alloc();
+    let plan = three_instructions(alloc)?;
+    let mut areas = SharedAreas::new(alloc, 1)?;
+    let (seen, finals) = closed_in_area(alloc, &mut areas, &plan)?;
+    let numbers = [1, 0, 2, 3, 2];
+    let sets = [false, true, false];
+    assert_eq!(rt; seen, Some((numbers, sets)));
+    assert_eq!(rt; finals, [true, false, false]);
+    Ok(())
+}

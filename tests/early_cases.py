@@ -1,0 +1,104 @@
+"""early: the reports of controllers that drain their sessions while other tasks run, on threads: each is one that there can be.
+
+A session that its task's run alone closes was drained at a count from the closing instruction's to the task's last, or it wasn't
+drained, as the phase has other tasks. One that isn't closed wasn't drained. All else is a report of `run`.
+"""
+from __future__ import annotations
+
+import itertools
+import random
+import re
+
+from harness import PROGRAM, run, well
+from jobs import FIRST, FIRST_RESULT, Result
+from race_cases import FIRST as FIRST_JOB
+from race_cases import JOBS, Core, Shown, bounds, core_of, fault_of, run_alone
+
+# How often the first module's job is run, and each drawn one.
+RUNS, FEW = 500, 10
+# A task that opens and closes two sessions, one after the other: their closing instructions are its second and fourth of five.
+CALLS = "TASK A 100000 16 100 0\nTASK C 000000 16 100 0\nDATA 0 0A040A050A040A0507FE\n"
+DRAINED = re.compile(r"DRAINED COUNT ([0-9]+)|NOT DRAINED")
+LOCATIONS = (0, 4, 6, 8)
+
+
+def part(name: str, marks: str, count: int | None) -> list[str]:
+    """The part of a session over the first module, which was drained at this count, or wasn't."""
+    runs = [(it.start(), it.end()) for it in re.finditer(r"\^+", marks)]
+    ranges = tuple(f"{LOCATIONS[first]:06X}-{LOCATIONS[end] - 1:06X}" for first, end in runs)
+    _, *lines = FIRST.session(marks, 3, ranges)
+    return [f"SESSION {name} PHASE P", *lines, "NOT DRAINED" if count is None else f"DRAINED COUNT {count}"]
+
+
+def texts() -> set[bytes]:
+    """All reports of the two sessions: what task A shows at a place shows in one of them at most."""
+    results = [FIRST_RESULT, Result("RETURNED", 5, 0, name="C", entry=0)]
+    front = ["COVERAGE REPORT", *(line for it in results for line in it.lines())]
+    found = set()
+    for where in itertools.product((1, 2, None), repeat=3):
+        first, second = ("".join(":" if it == number else "^" for it in where) for number in (1, 2))
+        for one, two in itertools.product((2, 3, 4, 5, None), (4, 5, None)):
+            lines = [*front, *part("S1", first, one), *part("S2", second, two), "END", ""]
+            found.add("\n".join(lines).encode())
+    return found
+
+
+def two_sessions() -> None:
+    """early: a task's two sessions, one after the other, while another task goes through their module, 500 times"""
+    job = FIRST.job(CALLS).replace(b"SESSION S M\n", b"SESSION S1 BY C M\nSESSION S2 BY C M\n")
+    allowed, seen = texts(), set()
+    for _ in range(RUNS):
+        output = well(run([PROGRAM, "early"], job)).output
+        assert output in allowed, f"no report of the job: {output!r}"
+        seen.add(output)
+    print(f"tests/command_line: {RUNS} runs of early on one job: {len(seen)} different reports", flush=True)
+
+
+def drains_of(core: Core, text: str) -> tuple[dict[str, int | None], str]:
+    """Each controlled session's count, none where it wasn't drained, and the report without these lines."""
+    found: dict[str, int | None] = {}
+    lines, rest, name = text.split("\n"), [], ""
+    for line, after in zip(lines, [*lines[1:], ""]):
+        if line.startswith("SESSION "):
+            name = line.split()[1]
+        drained = DRAINED.fullmatch(line)
+        if drained is None:
+            rest.append(line)
+            continue
+        assert name not in found and (after == "END" or after.startswith("SESSION ")), f"{line} isn't the last line of {name}"
+        found[name] = int(drained[1]) if drained[1] else None
+    assert set(found) == {it.name for it in core.sessions if it.by}, f"the lines are those of {sorted(found)}"
+    return found, "\n".join(rest)
+
+
+def fault_in_drains(core: Core, shown: dict[str, Shown], drains: dict[str, int | None]) -> str | None:
+    """What is wrong with the counts."""
+    for session in core.sessions:
+        if session.by is None:
+            continue
+        closing, count = shown[session.by].closed.get(session.name), drains[session.name]
+        if closing is None and count is not None:
+            return f"{session.name} is never closed, and was drained at {count}"
+        if closing is not None and count is not None and not closing <= count <= core.tasks[session.by].count:
+            return f"{session.name} is closed at {closing} of {core.tasks[session.by].count}, and was drained at {count}"
+    return None
+
+
+def drawn() -> None:
+    """early: sessions of two controllers while four other tasks run"""
+    drained = 0
+    for number in range(FIRST_JOB, FIRST_JOB + JOBS):
+        core = core_of(random.Random(number))
+        job = core.job().encode()
+        shown = {it.name: run_alone(core, it) for it in core.tasks.values()}
+        within = bounds(core, shown)
+        for _ in range(FEW):
+            drains, rest = drains_of(core, well(run([PROGRAM, "early"], job)).output.decode())
+            fault = fault_in_drains(core, shown, drains) or fault_of(core, within, rest.encode())
+            assert fault is None, f"job {number}: {fault}"
+            drained += sum(it is not None for it in drains.values())
+    assert drained, "no session was drained"
+    print(f"tests/command_line: {JOBS * FEW} runs of early on {JOBS} jobs: {drained} sessions drained", flush=True)
+
+
+CHECKS = [two_sessions, drawn]
