@@ -29,11 +29,7 @@ pub fn words_line(words: &[u8]) -> ArrayVec<u8, 160>
 
 /// The tasks' parts, in job order. Failed only where the sink's count of faults rose; the sink has then taken a first part
 /// of them. Takes no memory.
-pub fn tasks_text<K: Sink, R: Results>(
-    sink: &mut K,
-    job: &Job,
-    results: &R,
-) -> Result<(), Failed>
+pub fn tasks_text<K: Sink, R: Results>(sink: &mut K, job: &Job, results: &R) -> Result<(), Failed>
     requires { AreResultsOf job.now (R.tasks results.now) (R.result_of results.now) }
     ensures { WritesLines K.written K.faults sink.old sink.new result (lines_from (task_part job.now (R.result_of results.now)) 0 (length job.now.tasks)) }
 {
