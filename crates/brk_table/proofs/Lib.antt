@@ -1,4 +1,5 @@
 pub mod PlaceLemmas
+pub mod TouchLemmas
 pub mod MapLemmas
 pub mod RangeLemmas
 pub mod CoverLemmas
@@ -10,4 +11,6 @@ pub mod OwnPlaces
 pub mod Together
 pub mod OneTable
 pub mod FarPlaces
+pub mod OneModule
 pub mod NumberLemmas
+pub mod CodeLemmas

@@ -32,7 +32,7 @@ is_place-nowhere (p ∷ ps) a h = rw (differ a p.at (λ e. h 0 (omega arith) (sy
 
 -- no two places begin at one address
 
-length_of-least : (h : ℕ) → 2 ≤ length_of h
+pub length_of-least : (h : ℕ) → 2 ≤ length_of h
 unfolding length_of
 length_of-least h = grind (arith, nat_tests)
 

@@ -5,6 +5,7 @@ use Rattle.cov_base.specs.Codes.{breakpoint, kind_of, length_of}
 use Rattle.cov_base.specs.Memory.{Memory, ImageView, can_reach, half_at}
 use Rattle.module_area.specs.PlanView.{place_of}
 use Rattle.module_area.specs.declared.places.Place.{Place}
+use Rattle.s370_decode.specs.declared.code.Code.{Code}
 
 -- a module's places in order of address, and for each line of its listing the index of its place
 pub record TableView : Type 0 where
@@ -12,10 +13,11 @@ pub record TableView : Type 0 where
   pub places : List Place
   pub lines : List (Option ℕ)
 
--- the tables of the monitored modules, and all their places one table after the other
+-- the tables of the monitored modules, all their places one table after the other, and the instructions that are kept of these
 pub record TablesView : Type 0 where
   pub tables : List TableView
   pub places : List Place
+  pub codes : List Code
 
 abbrev pub all_places : List TableView → List Place
 all_places [] = []

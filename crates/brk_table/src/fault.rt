@@ -19,7 +19,7 @@ fn module_byte(bytes: &[u8], loc: usize, len: u8, i: u8) -> u8
 }
 
 /// So many bytes of the module.
-fn module_code(bytes: &[u8], loc: usize, len: u8) -> Code
+pub fn module_code(bytes: &[u8], loc: usize, len: u8) -> Code
     requires { loc + len ≤ length bytes.now }
     ensures { result ≡ module_code bytes.now loc len }
 {

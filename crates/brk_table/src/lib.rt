@@ -2,6 +2,7 @@
 #![tactic(auto)]
 
 mod builder;
+mod codes;
 mod cover;
 mod fault;
 mod faults;

@@ -1,15 +1,19 @@
 //! The places of a module, and of all monitored modules.
-ghost use Rattle.std.specs.Prelude.{◌≡◌, ◌↔◌, ℕ, ◌<◌, ◌≤◌, true, false, length, IfSome, IfOk, IsNone, All, AllPairs};
+ghost use Rattle.std.specs.Prelude.{◌≡◌, ◌↔◌, ℕ, ◌<◌, ◌≤◌, true, false, length, get_or, IfSome, IfOk, IsNone, All, AllPairs};
 ghost use Rattle.module_area.specs.PlanView.{place_of};
 ghost use Rattle.module_area.specs.Executions.{is_place};
 ghost use Rattle.std.specs.Prelude.{◌+◌, nat_eq, option_map};
-ghost use Rattle.brk_table.specs.Places.{HasItsPlaces, HasRisingPlaces, first_place, place_count, entry_of_line, place_at_line};
+ghost use Rattle.brk_table.specs.Kept.{AreCodes};
+ghost use Rattle.s370_decode.specs.declared.code.Code.{Code as Instruction};
+ghost use Rattle.brk_table.specs.Places.{IsIn, HasItsPlaces, HasRisingPlaces, first_place, place_count, entry_of_line, place_at_line};
 ghost use Rattle.cov_base.specs.declared.numbers.PlaceNo.{PlaceNo as Number};
 
+use crate::codes::codes_of;
 use crate::line_places::LinePlaces;
 use crate::map::{enter_all, entry_at};
 use cov_base::{Addr, NoMemory, PlaceNo};
-use module_area::Place;
+use module_area::{Images, Place};
+use s370_decode::Code;
 use std::alloc::Global;
 use std::marker::Model;
 
@@ -35,6 +39,8 @@ impl Model for Table {
 pub struct Tables {
     tables: Vec<Table>,
     places: Vec<Place>,
+    // of each place its whole instruction, where the modules were given
+    codes: Vec<Code>,
     // for each page of 4 KB the number of its 2,048 entries, one for each halfword: its place's number and 1, or 0
     pages: Vec<u32>,
     entries: Vec<u32>,
@@ -49,7 +55,7 @@ impl Model for Tables {
 
     ghost Value = { TablesView };
 
-    ghost view = { λ t. record { tables = t.tables.items; places = t.places.items } };
+    ghost view = { λ t. record { tables = t.tables.items; places = t.places.items; codes = t.codes.items } };
 
     ghost invariant = { λ t. (t.places.items ≡ all_places t.tables.items) × ArePlaces t.places.items × All HasItsPlaces t.tables.items × All HasRisingPlaces t.tables.items × IsMap t.pages.items t.entries.items t.places.items (length t.places.items) };
 }
@@ -114,9 +120,25 @@ impl Tables {
         Ok(Tables {
             tables,
             places,
+            codes: Vec::new(alloc),
             pages,
             entries,
         })
+    }
+
+    /// The same of tables of these modules, with the instruction of each place beside it.
+    pub fn over(alloc: Global, tables: Vec<Table>, images: &Images) -> Result<Tables, NoMemory>
+        requires places { ArePlaces (all_places tables.items) }
+        requires inside { All (IsIn images.now) (all_places tables.items) }
+        requires lines { All HasItsPlaces tables.items }
+        requires rising { All HasRisingPlaces tables.items }
+        ensures tables { IfOk result (λ t. t.tables ≡ tables.items) }
+        ensures places { IfOk result (λ t. t.places ≡ all_places tables.items) }
+        ensures codes { IfOk result (AreCodes images.now) }
+    {
+        let numbered = Tables::of(alloc, tables)?;
+        let codes = codes_of(alloc, images, &numbered.places)?;
+        Ok(Tables { codes, ..numbered })
     }
 
     /// The place that begins at the address; none exactly where no place begins there.
@@ -142,6 +164,15 @@ impl Tables {
         ensures places { ArePlaces self.now.places }
     {
         &self.places[n.0 as usize]
+    }
+
+    /// The whole instruction of a place, as it is kept.
+    pub fn code(&self, n: PlaceNo) -> &Code
+        requires { n.0 < length self.now.codes }
+        ensures value { (d : Instruction) → result.now ≡ get_or self.now.codes n.0 d }
+        ensures places { ArePlaces self.now.places }
+    {
+        &self.codes[n.0 as usize]
     }
 
     /// The number of places.

@@ -1,5 +1,6 @@
-//! A small module's listing, with one line changed at a time, and the map of many places beside a search.
-ghost use Rattle.std.specs.Prelude.{◌≡◌, ◌≢◌, ◌+◌, ◌*◌, ◌/◌, ◌%◌, ◌<◌};
+//! A small module's listing, with one line changed at a time, the instructions kept of another, and the map of many places
+//! beside a search.
+ghost use Rattle.std.specs.Prelude.{◌≡◌, ◌≢◌, ◌+◌, ◌*◌, ◌/◌, ◌%◌, ◌<◌, length, IfOk, IfSome};
 ghost use Rattle.cov_base.specs.Codes.{breakpoint};
 ghost use Rattle.brk_table.specs.Places.{IsPlace};
 
@@ -7,7 +8,7 @@ use crate::{BuildFault, LinePlaces, Table, Tables, build};
 use cov_base::{Addr, Kind, LINE_LIMIT, Name, NoMemory, PlaceNo};
 use listing_lines::ListingLines;
 use listing_reader::read_listing;
-use module_area::{Image, Place};
+use module_area::{Image, Images, Place};
 use s370_decode::{kind, length};
 use std::alloc::Global;
 use std::test::Fail;
@@ -151,6 +152,73 @@ fn puts_the_places_in_order_of_address(rt: HostRuntime) -> Result<(), Fail> {
         if lines.len() == 5 {
             for (i, place) in [None, Some(2), None, Some(0), Some(1)].iter().enumerate() {
                 assert_eq!(rt; lines.get(i), *place);
+            }
+        }
+        return Ok(());
+    }
+    assert!(rt; false);
+    Ok(())
+}
+
+/// The tables of a module and its listing, with the instructions of the places.
+fn kept_of(alloc: Global, texts: &[&[u8]], code: &[u8]) -> Result<Option<Tables>, NoMemory>
+    ensures { IfOk result (λ tables. IfSome tables (λ t. length t.codes ≡ length t.places)) }
+{
+    let mut lines = ListingLines::new(alloc);
+    for text in texts {
+        if text.len() <= LINE_LIMIT {
+            lines.push(text)?;
+        }
+    }
+    let bytes = code.to_vec(alloc)?;
+    if lines.len() > 100 || bytes.len() != 14 {
+        return Ok(None);
+    }
+    match (Name::read(b"M"), read_listing(alloc, &lines)) {
+        (Some(name), Ok(read)) => {
+            let image = Image {
+                name,
+                base: Addr::of(0x100000),
+                bytes,
+            };
+            match build(alloc, 0, &read, &image, 100) {
+                Ok(table) => {
+                    let images = Images(vec![in alloc; image]?);
+                    Ok(Some(Tables::over(alloc, vec![in alloc; table]?, &images)?))
+                }
+                Err(_) => Ok(None),
+            }
+        }
+        _ => Ok(None),
+    }
+}
+
+#[test]
+fn keeps_the_instruction_of_each_place(rt: HostRuntime) -> Result<(), Fail> {
+    let page: [&[u8]; 5] = [
+        HEADING,
+        LOAD,
+        b"000004 1A11                           2          AR",
+        b"000006 D203 1000 2004                 3          MVC",
+        b"00000C 07FE                           4          BR",
+    ];
+    let bytes = [
+        0x41, 0x10, 0x00, 0x05, 0x1A, 0x11, 0xD2, 0x03, 0x10, 0x00, 0x20, 0x04, 0x07, 0xFE,
+    ];
+    if let Some(tables) = kept_of(rt.alloc(), &page, &bytes)? {
+        let codes = [
+            (0x100000, [0x41, 0x10, 0x00, 0x05, 0, 0], 4),
+            (0x100004, [0x1A, 0x11, 0, 0, 0, 0], 2),
+            (0x100006, [0xD2, 0x03, 0x10, 0x00, 0x20, 0x04], 6),
+            (0x10000C, [0x07, 0xFE, 0, 0, 0, 0], 2),
+        ];
+        assert_eq!(rt; tables.len(), 4);
+        for (n, (at, bytes, len)) in codes.iter().enumerate() {
+            if n < tables.len() as usize {
+                let code = tables.code(PlaceNo(n as u32));
+                assert_eq!(rt; code.at.get(), *at);
+                assert_eq!(rt; code.bytes, *bytes);
+                assert_eq!(rt; code.len, *len);
             }
         }
         return Ok(());

@@ -32,7 +32,7 @@ fn step_under<C: Cells>(
 ) -> Next
     requires area { C.is_pass cells.now pass.old }
     requires plan { C.plan cells.now ≡ plan.now }
-    requires over { IsOver (C.plan cells.now) (memory_of_space task.old.space) tables.now.places }
+    requires over { IsOver (C.plan cells.now) (memory_of_space task.old.space) tables.now }
     requires room { calls (C.notes pass.old) < 2 ^ 61 }
     requires working { is_working (C.notes pass.old) ≡ true }
     requires tied { IsTied (C.plan cells.now) (C.notes pass.old) task.old.control }
@@ -72,7 +72,7 @@ pub fn run_under<C: Cells>(
 ) -> Ending
     requires area { C.is_pass cells.now pass.old }
     requires plan { C.plan cells.now ≡ plan.now }
-    requires over { IsOver (C.plan cells.now) (memory_of_space task.old.space) tables.now.places }
+    requires over { IsOver (C.plan cells.now) (memory_of_space task.old.space) tables.now }
     requires room { calls (C.notes pass.old) < 2 ^ 60 }
     requires working { is_working (C.notes pass.old) ≡ true }
     requires fresh { task.old.done ≡ 0 }

@@ -4,21 +4,22 @@ use Rattle.std.proofs.lemmas.Bool.Decides.{nat_tests}
 use Rattle.std.proofs.lemmas.Bool.{eqb-true}
 use Rattle.std.proofs.lemmas.Grind.{get_or-set_at}
 use Rattle.std.proofs.lemmas.List.{get_or_default, get_or-set_other, length-set}
-use Rattle.cov_base.specs.Memory.{Memory}
 use Rattle.cov_base.specs.declared.facts.Fact.{Fact}
 use Rattle.s370_exec.specs.Solo.{Run}
 use Rattle.module_area.specs.PlanView.{PlanView, place_of, window_at}
 use Rattle.module_area.specs.declared.places.Place.{Place}
-use Rattle.brk_table.specs.Places.{AreSeen}
+use Rattle.brk_table.specs.Kept.{AreCodes}
+use Rattle.brk_table.specs.Places.{TablesView}
 use Rattle.space_map.specs.Space.{memory_of_space}
 use Rattle.svc_monitor.specs.First.{IsOver}
 use Rattle.task_run.specs.Courses.{solo}
-use Rattle.session_book.specs.JobView.{JobView, TaskView}
+use Rattle.session_book.specs.JobView.{JobView, TaskView, IsJob}
 use Rattle.session_book.specs.Sessions.{task_of, no_task, traces_from, plan_view}
 use Rattle.job_run.specs.Runs.{trace_by}
 use Rattle.job_run.specs.Slots.{in_phase, is_before}
 use Rattle.job_run.specs.Tasks.{HasNotRun, IsEnded, own_run}
 use Rattle.job_run.specs.declared.outcome.Done.{Done}
+use Rattle.job_run.proofs.SlotLemmas.{is_over_begun}
 use Rattle.job_run.proofs.TaskLemmas.{begun_run}
 use Rattle.count_session.specs.Counting.{Adds, count_at, count_of_all}
 use Rattle.count_session.specs.Notes.{CountNotes, root_notes, split_notes, after_split, after_join}
@@ -161,11 +162,8 @@ module _ (cells : CountCells) (root : CountNotes) (j : JobView) where
       HasNotRun j places t (get_or slots t d).done
   begun_at places phase old slots t d a r l h = subst (λ (x : Done). HasNotRun j places t x) (sym (a.done t d l)) (r.begun t d l (not_run (task_of j t).phase phase h))
 
-  is_over_begun : (places : List Place) (t : ℕ) (d : Done) → (plan_in cells).places ≡ places → HasNotRun j places t d → IsOver (plan_in cells) (memory_of_space d.task.space) places
-  is_over_begun places t d of b = record { same = of; seen = subst (λ (m : Memory). AreSeen m places) (sym b.begun.memory) b.begun.seen }
-
-  can_count : (places : List Place) (s : Slot) → HasPass (IsFresh cells root) s → IsOver (plan_in cells) (memory_of_space s.done.task.space) places → s.done.task.done ≡ 0 → IsReady cells places s
-  can_count places s h over fresh = rw h.has record {
+  can_count : (tables : TablesView) (s : Slot) → HasPass (IsFresh cells root) s → IsOver (plan_in cells) (memory_of_space s.done.task.space) tables → s.done.task.done ≡ 0 → IsReady cells tables s
+  can_count tables s h over fresh = rw h.has record {
     area = h.holds.area;
     task = ap (λ (n : CountNotes). n.root) h.holds.fresh;
     nothing = ap (λ (n : CountNotes). n.adds) h.holds.fresh;
@@ -173,20 +171,20 @@ module _ (cells : CountCells) (root : CountNotes) (j : JobView) where
     fresh = fresh;
   }
 
-  need_not : (places : List Place) (s : Slot) → s.pass ≡ None → IsReady cells places s
-  need_not places s h = rw h tt
+  need_not : (tables : TablesView) (s : Slot) → s.pass ≡ None → IsReady cells tables s
+  need_not tables s h = rw h tt
 
-  pub all_ready : (places : List Place) (phase : ℕ) (old slots : List Slot) → (plan_in cells).places ≡ places → AreSplit cells root j phase (length j.tasks) old slots → HaveRun j places phase old → All (IsReady cells places) slots
-  all_ready places phase old slots of a r k d l = by_phase (in_phase j phase k) refl
+  pub all_ready : (tables : TablesView) (phase : ℕ) (old slots : List Slot) → (plan_in cells).places ≡ tables.places → IsJob j → AreCodes j.images tables → AreSplit cells root j phase (length j.tasks) old slots → HaveRun j tables.places phase old → All (IsReady cells tables) slots
+  all_ready tables phase old slots of job are a r k d l = by_phase (in_phase j phase k) refl
     where
       here : k < length old
       here = omega (arith, l, a.count)
 
-      by_phase : (b : Bool) → in_phase j phase k ≡ b → IsReady cells places (get_or slots k d)
+      by_phase : (b : Bool) → in_phase j phase k ≡ b → IsReady cells tables (get_or slots k d)
       by_phase true e =
-          let begun : HasNotRun j places k (get_or slots k d).done = begun_at places phase old slots k d a r here e in
-          can_count places (get_or slots k d) (a.some k d here (omega (arith, here, r.count)) e) (is_over_begun places k (get_or slots k d).done of begun) begun.done
-      by_phase false e = need_not places (get_or slots k d) (a.none k d here (not_before (in_phase j phase k) k (length j.tasks) e))
+          let begun : HasNotRun j tables.places k (get_or slots k d).done = begun_at tables.places phase old slots k d a r here e in
+          can_count tables (get_or slots k d) (a.some k d here (omega (arith, here, r.count)) e) (is_over_begun (plan_in cells) j tables k (get_or slots k d).done of job are (omega (arith, here, r.count)) begun) begun.done
+      by_phase false e = need_not tables (get_or slots k d) (a.none k d here (not_before (in_phase j phase k) k (length j.tasks) e))
 
   -- no other slot has a pass, and so none needs to run
   pub none_other : (phase : ℕ) (old slots : List Slot) → AreSplit cells root j phase (length j.tasks) old slots → (t : ℕ) (d : Slot) → t < length slots → in_phase j phase t ≡ false → (get_or slots t d).pass ≡ None

@@ -4,6 +4,7 @@ use Rattle.cov_base.specs.States.{Visit}
 use Rattle.cov_base.specs.declared.facts.Fact.{Fact}
 use Rattle.module_area.specs.PlanView.{place_of, window_at}
 use Rattle.module_area.specs.declared.places.Place.{Place}
+use Rattle.brk_table.specs.Places.{TablesView}
 use Rattle.space_map.specs.Space.{memory_of_space}
 use Rattle.svc_monitor.specs.First.{IsOver}
 use Rattle.task_run.specs.Courses.{solo}
@@ -50,15 +51,15 @@ pub record HasSplit (j : JobView) (phase next : ℕ) (before now : CountNotes) :
   pub given : now.given ≡ in_count j phase next
 
 -- a pass that hasn't counted, with which a task can run
-pub record CanCount (cells : CountCells) (places : List Place) (s : Slot) (p : CountPass) : Type 0 where
+pub record CanCount (cells : CountCells) (tables : TablesView) (s : Slot) (p : CountPass) : Type 0 where
   pub area : IsPassOf cells p
   pub task : (notes_of cells p).root ≡ false
   pub nothing : (notes_of cells p).adds ≡ 0
-  pub over : IsOver (plan_in cells) (memory_of_space s.done.task.space) places
+  pub over : IsOver (plan_in cells) (memory_of_space s.done.task.space) tables
   pub fresh : s.done.task.done ≡ 0
 
-abbrev pub IsReady : CountCells → List Place → Slot → Type 0
-IsReady cells places s = IfSome s.pass (CanCount cells places s)
+abbrev pub IsReady : CountCells → TablesView → Slot → Type 0
+IsReady cells tables s = IfSome s.pass (CanCount cells tables s)
 
 -- the task has run with the pass
 pub record RunsWith (cells : CountCells) (old new : Slot) (p : CountPass) : Type 0 where

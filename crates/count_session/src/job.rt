@@ -1,7 +1,7 @@
 //! A whole job counted, and what it comes to.
-ghost use Rattle.std.specs.Prelude.{◌≡◌, ◌+◌, ◌<◌, ◌≤◌, nat_eq, length, All, IfOk};
+ghost use Rattle.std.specs.Prelude.{◌≡◌, ◌+◌, ◌<◌, ◌≤◌, nat_eq, length, IfOk};
 ghost use Rattle.std.specs.List.{list_any};
-ghost use Rattle.brk_table.specs.Places.{IsIn};
+ghost use Rattle.brk_table.specs.Kept.{AreCodes};
 ghost use Rattle.session_book.specs.JobView.{IsJob};
 ghost use Rattle.session_book.specs.Sessions.{AreWhole, observes, session_of};
 ghost use Rattle.count_session.specs.Job.{CountsView, IsCountedJob, count_of};
@@ -133,6 +133,7 @@ fn count_phases<'a, T: Threads + Sync>(
     tables: &Tables,
     slots: &mut [Slot<'a>],
 ) -> Result<Vec<Counts>, NoMemory>
+    requires codes { AreCodes job.now.images tables.now }
     requires tasks { HaveRun job.now tables.now.places 0 slots.old }
     requires empty { AreEmpty slots.old }
     ensures job { IsJob job.now }
@@ -158,7 +159,7 @@ pub fn count_job<'a, T: Threads + Wait + Sync>(
     job: &'a Job,
     tables: &'a Tables,
 ) -> Result<Counted<'a>, NoMemory>
-    requires tables { All (IsIn job.now.images) tables.now.places }
+    requires tables { AreCodes job.now.images tables.now }
     requires whole { AreWhole job.now }
     ensures { IfOk result (λ c. IsCountedJob job.now tables.now.places c.tasks.items c.counts) }
 {

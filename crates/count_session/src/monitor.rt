@@ -80,7 +80,7 @@ fn met_first<P: Space>(
     at: Addr,
 ) -> Result<Met, Ending>
     requires area { IsPassOf cells.now pass.old }
-    requires over { IsOver (plan_in cells.now) (P.memory space.now) tables.now.places }
+    requires over { IsOver (plan_in cells.now) (P.memory space.now) tables.now }
     ensures area { IsPassOf cells.now pass.new }
     ensures refused { IfErr result (λ e. first_tests (P.memory space.now) at ≡ Some e) }
     ensures passed { IfOk result (λ _. first_tests (P.memory space.now) at ≡ None) }
@@ -136,7 +136,7 @@ fn step_subject<P: Space>(
     ex: &Code,
 ) -> Next
     requires area { IsPassOf cells.now pass.old }
-    requires over { IsOver (plan_in cells.now) (P.memory space.old) tables.now.places }
+    requires over { IsOver (plan_in cells.now) (P.memory space.old) tables.now }
     requires task { (notes_of cells.now pass.old).root ≡ false }
     requires room { (notes_of cells.now pass.old).adds < 2 ^ 40 }
     ensures area { IsPassOf cells.now pass.new }
@@ -169,7 +169,7 @@ pub(crate) fn step<P: Space>(
     io: &mut TaskIo,
 ) -> Next
     requires area { IsPassOf cells.now pass.old }
-    requires over { IsOver (plan_in cells.now) (P.memory space.old) tables.now.places }
+    requires over { IsOver (plan_in cells.now) (P.memory space.old) tables.now }
     requires task { (notes_of cells.now pass.old).root ≡ false }
     requires room { (notes_of cells.now pass.old).adds + 2 ≤ 2 ^ 40 }
     ensures area { IsPassOf cells.now pass.new }

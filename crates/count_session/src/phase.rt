@@ -3,6 +3,7 @@ ghost use Rattle.std.specs.Prelude.{◌≡◌, ℕ, ◌+◌, ◌<◌, ◌≤◌,
 ghost use Rattle.std.specs.declared.option.Option.TheVariants.{None};
 ghost use Rattle.cov_base.specs.declared.limits.TheConstants.{TASK_LIMIT};
 ghost use Rattle.module_area.specs.PlanView.{window_at};
+ghost use Rattle.brk_table.specs.Kept.{AreCodes};
 ghost use Rattle.session_book.specs.JobView.{IsJob};
 ghost use Rattle.session_book.specs.Sessions.{plan_view};
 ghost use Rattle.space_map.specs.Space.{memory_of_space};
@@ -67,7 +68,7 @@ fn plant_all(cells: &CountCells, root: &mut CountPass, plan: &Plan)
 /// Runs the task, with its pass.
 fn run_one<'a>(cells: &CountCells, pass: &mut CountPass, tables: &Tables, done: &mut Done<'a>)
     requires area { IsPassOf cells.now pass.old }
-    requires over { IsOver (plan_in cells.now) (memory_of_space done.old.task.space) tables.now.places }
+    requires over { IsOver (plan_in cells.now) (memory_of_space done.old.task.space) tables.now }
     requires task { (notes_of cells.now pass.old).root ≡ false }
     requires nothing { (notes_of cells.now pass.old).adds ≡ 0 }
     requires fresh { done.old.task.done ≡ 0 }
@@ -82,7 +83,7 @@ fn run_one<'a>(cells: &CountCells, pass: &mut CountPass, tables: &Tables, done: 
 
 /// Runs the slot's task where it has a pass.
 fn run_slot<'a>(cells: &CountCells, tables: &Tables, slot: &mut Slot<'a>)
-    requires ready { IsReady cells.now tables.now.places slot.old }
+    requires ready { IsReady cells.now tables.now slot.old }
     ensures { RunsSlot cells.now slot.old slot.new slot.old.pass }
 {
     if let Some(pass) = &mut slot.pass {
@@ -97,7 +98,7 @@ fn run_slots<'a, T: Threads + Sync>(
     tables: &Tables,
     slots: &mut [Slot<'a>],
 )
-    requires ready { All (IsReady cells.now tables.now.places) slots.old }
+    requires ready { All (IsReady cells.now tables.now) slots.old }
     ensures count { length slots.new ≡ length slots.old }
     ensures runs { (t : ℕ) (d : _) → t < length slots.old → RunsSlot cells.now (slice_index_or slots.old t d) (slice_index_or slots.new t d) (slice_index_or slots.old t d).pass }
 {
@@ -106,7 +107,7 @@ fn run_slots<'a, T: Threads + Sync>(
     }
     let count = slots.len();
     let work = |_: usize, slot: &mut Slot<'_>|
-        requires { IsReady cells.now tables.now.places slot.now }
+        requires { IsReady cells.now tables.now slot.now }
         ensures { RunsSlot cells.entry.now slot.entry.now slot.exit.now slot.entry.now.pass }
     { run_slot(cells, tables, slot) };
     thread::for_each_mut(rt, slots, count, &work);
@@ -122,7 +123,7 @@ fn run_those<'a, T: Threads + Sync>(
     slots: &mut [Slot<'a>],
 )
     requires count { length slots.old ≡ length job.now.tasks }
-    requires ready { All (IsReady cells.now tables.now.places) slots.old }
+    requires ready { All (IsReady cells.now tables.now) slots.old }
     requires others { (t : ℕ) (d : _) → t < length slots.old → in_phase job.now phase t ≡ false → (slice_index_or slots.old t d).pass ≡ None }
     ensures count { length slots.new ≡ length slots.old }
     ensures runs { (t : ℕ) (d : _) → t < length slots.old → RunsSlot cells.now (slice_index_or slots.old t d) (slice_index_or slots.new t d) (slice_index_or slots.old t d).pass }
@@ -171,6 +172,7 @@ fn run_tasks<'a, T: Threads + Sync>(
     requires area { IsPassOf cells.now root.old }
     requires plan { plan_in cells.now ≡ plan_view job.now tables.now.places phase }
     requires root { notes_of cells.now root.old ≡ record root_notes { planted = (notes_of cells.now root.old).planted } }
+    requires codes { AreCodes job.now.images tables.now }
     requires tasks { HaveRun job.now tables.now.places phase slots.old }
     requires empty { AreEmpty slots.old }
     ensures area { IsPassOf cells.now root.new }
@@ -198,6 +200,7 @@ pub(crate) fn count_phase<'a, T: Threads + Sync>(
     slots: &mut [Slot<'a>],
 ) -> Result<Counts, NoMemory>
     requires phase { phase < length job.now.phases }
+    requires codes { AreCodes job.now.images tables.now }
     requires tasks { HaveRun job.now tables.now.places phase slots.old }
     requires empty { AreEmpty slots.old }
     ensures counts { IfOk result (IsCounted job.now tables.now.places phase) }

@@ -24,7 +24,7 @@ pub fn run_counted(
     task: &mut Task<'_>,
 ) -> Ending
     requires area { IsPassOf cells.now pass.old }
-    requires over { IsOver (plan_in cells.now) (memory_of_space task.old.space) tables.now.places }
+    requires over { IsOver (plan_in cells.now) (memory_of_space task.old.space) tables.now }
     requires task { (notes_of cells.now pass.old).root ≡ false }
     requires nothing { (notes_of cells.now pass.old).adds ≡ 0 }
     requires fresh { task.old.done ≡ 0 }

@@ -1,6 +1,7 @@
 //! The counts of a job's sessions.
-ghost use Rattle.std.specs.Prelude.{◌≡◌, None, All};
-ghost use Rattle.brk_table.specs.Places.{IsIn, all_places};
+ghost use Rattle.std.specs.Prelude.{◌≡◌, None};
+ghost use Rattle.brk_table.specs.Kept.{AreCodes};
+ghost use Rattle.brk_table.specs.Places.{all_places};
 ghost use Rattle.coverage_program.specs.Answers.{Answers};
 ghost use Rattle.coverage_program.specs.Changes.{SourceChange, source_change, sink_change, no_change};
 ghost use Rattle.coverage_program.specs.Inputs.{CameJob};
@@ -24,6 +25,7 @@ use std::sync::Wait;
 use std::thread::Threads;
 
 /// Counts a job whose listings match and whose sessions have no controller, and writes its counts.
+#[tactic(auto, using(brk_table::proofs::CodeLemmas::are_in))]
 fn answer_counts<T: Threads + Wait + Sync, K: Sink>(
     rt: &T,
     alloc: Global,
@@ -35,7 +37,7 @@ fn answer_counts<T: Threads + Wait + Sync, K: Sink>(
     requires free { first_controlled job.now ≡ None }
     requires matching { Match job.now tables.now.tables }
     requires numbered { tables.now.places ≡ all_places tables.now.tables }
-    requires places { All (IsIn job.now.images) tables.now.places }
+    requires tables { AreCodes job.now.images tables.now }
     ensures { (s : SourceChange) (a : Account) → CameJob to_end s job.now →
         Answers Command.Count s (no_change a) (sink_change K.written K.faults sink.old sink.new) result.0 }
 {

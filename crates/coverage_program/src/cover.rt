@@ -1,5 +1,6 @@
 //! The program over any source, sink and areas.
 ghost use Rattle.std.specs.Prelude.{◌≡◌, ◌+◌, ◌<◌, ◌^◌, ℕ, List, ◌≤◌, false, true, Some, All, map, length, string_bytes};
+ghost use Rattle.brk_table.specs.Kept.{AreCodes};
 ghost use Rattle.brk_table.specs.Places.{IsIn, all_places};
 ghost use Rattle.coverage_program.specs.Answers.{Answers};
 ghost use Rattle.coverage_program.specs.Incoming.{CameWith};
@@ -43,6 +44,7 @@ use std::thread::Threads;
 use task_run::{PlainRunner, Runner};
 
 /// Runs a job whose listings match, each task along the runner's course, and writes its report.
+#[tactic(auto, using(brk_table::proofs::CodeLemmas::are_in))]
 fn answer_tables<
     T: Threads + Wait + Sync,
     K: Sink,
@@ -62,7 +64,7 @@ fn answer_tables<
     requires few { HasFewLines job.now }
     requires matching { Match job.now tables.now.tables }
     requires numbered { tables.now.places ≡ all_places tables.now.tables }
-    requires places { All (IsIn job.now.images) tables.now.places }
+    requires tables { AreCodes job.now.images tables.now }
     requires room { A.made areas.old < 2 ^ 61 }
     ensures { (c : Command) (s : SourceChange) → reports_run c ≡ true → course_of c ≡ R.course → CameJob to_end s job.now →
         Answers c s (areas_change A.ledger A.finals A.made areas.old areas.new) (sink_change K.written K.faults sink.old sink.new) result.0 }
@@ -110,6 +112,7 @@ fn answer_run<
 }
 
 /// Runs a job whose listings match, and writes the marks file of session s, of that name.
+#[tactic(auto, using(brk_table::proofs::CodeLemmas::are_in))]
 fn answer_session<T: Threads + Wait + Sync, K: Sink, A: Areas, G: Gate + Sync>(
     rt: &T,
     alloc: Global,
@@ -126,7 +129,7 @@ fn answer_session<T: Threads + Wait + Sync, K: Sink, A: Areas, G: Gate + Sync>(
     requires own { AreTables job.now.images tables.now.tables }
     requires matching { Match job.now tables.now.tables }
     requires numbered { tables.now.places ≡ all_places tables.now.tables }
-    requires places { All (IsIn job.now.images) tables.now.places }
+    requires tables { AreCodes job.now.images tables.now }
     requires number { session_number job.now name.now ≡ Some s.0 }
     requires room { A.made areas.old < 2 ^ 61 }
     ensures { (c : SourceChange) → CameJob to_end c job.now →

@@ -1,6 +1,7 @@
 //! The report of a job whose controllers drain the sessions that they have closed.
-ghost use Rattle.std.specs.Prelude.{◌≡◌, ◌<◌, ◌^◌, All};
-ghost use Rattle.brk_table.specs.Places.{IsIn, all_places};
+ghost use Rattle.std.specs.Prelude.{◌≡◌, ◌<◌, ◌^◌};
+ghost use Rattle.brk_table.specs.Kept.{AreCodes};
+ghost use Rattle.brk_table.specs.Places.{all_places};
 ghost use Rattle.coverage_program.specs.Answers.{Answers};
 ghost use Rattle.coverage_program.specs.Changes.{SourceChange, source_change, sink_change, areas_change};
 ghost use Rattle.coverage_program.specs.Inputs.{CameJob};
@@ -23,6 +24,7 @@ use std::sync::Wait;
 use std::thread::Threads;
 
 /// Runs a job whose listings match, each controller with the drains of its sessions, and writes its report.
+#[tactic(auto, using(brk_table::proofs::CodeLemmas::are_in))]
 fn answer_drained<T: Threads + Wait + Sync, K: Sink, A: Areas, G: Gate + Sync>(
     rt: &T,
     alloc: Global,
@@ -35,7 +37,7 @@ fn answer_drained<T: Threads + Wait + Sync, K: Sink, A: Areas, G: Gate + Sync>(
     requires few { HasFewLines job.now }
     requires matching { Match job.now tables.now.tables }
     requires numbered { tables.now.places ≡ all_places tables.now.tables }
-    requires places { All (IsIn job.now.images) tables.now.places }
+    requires tables { AreCodes job.now.images tables.now }
     requires room { A.made areas.old < 2 ^ 61 }
     ensures { (s : SourceChange) → CameJob to_end s job.now →
         Answers Command.Early s (areas_change A.ledger A.finals A.made areas.old areas.new) (sink_change K.written K.faults sink.old sink.new) result.0 }

@@ -1,5 +1,6 @@
 //! The job that a source gives, and the tables of its listings.
 ghost use Rattle.std.specs.Prelude.{◌≡◌, ◌≤◌, ◌<◌, ◌+◌, ℕ, Bool, true, false, Some, None, List, length, IfOk, IfErr, All};
+ghost use Rattle.brk_table.specs.Kept.{AreCodes};
 ghost use Rattle.brk_table.specs.Places.{IsIn, all_places};
 ghost use Rattle.brk_table.specs.Together.{AreTables};
 ghost use Rattle.report_text.specs.Conditions.{HasFewLines};
@@ -132,6 +133,7 @@ fn read_tables(alloc: Global, job: &Job) -> Result<Tables, Refusal>
     ensures matching { IfOk result (λ t. Match job.now t.tables) }
     ensures numbered { IfOk result (λ t. t.places ≡ all_places t.tables) }
     ensures places { IfOk result (λ t. All (IsIn job.now.images) t.places) }
+    ensures codes { IfOk result (AreCodes job.now.images) }
     ensures own { IfOk result (λ t. AreTables job.now.images t.tables) }
     ensures stopped { (how : Reading) (asked : Asked) (s : SourceChange) → CameJob how s job.now → HasAsked asked job.now → IfErr result (λ r. IsStopped true how asked s r.status r.line) }
 {
@@ -151,6 +153,7 @@ pub fn make_ready<S: Source>(alloc: Global, source: &mut S, more: bool) -> Resul
     ensures matching { IfOk result (λ r. Match r.job r.tables.tables) }
     ensures numbered { IfOk result (λ r. r.tables.places ≡ all_places r.tables.tables) }
     ensures places { IfOk result (λ r. All (IsIn r.job.images) r.tables.places) }
+    ensures codes { IfOk result (λ r. AreCodes r.job.images r.tables) }
     ensures stopped { IfErr result (λ r. IsStopped true (record { more = more }) AnyJob (source_change S.left S.faults source.old source.new) r.status r.line) }
 {
     let (read, rest) = job_of_source(alloc, source, more)?;
@@ -179,6 +182,7 @@ pub fn make_named<S: Source>(
     ensures matching { IfOk result (λ r. Match r.0.job r.0.tables.tables) }
     ensures numbered { IfOk result (λ r. r.0.tables.places ≡ all_places r.0.tables.tables) }
     ensures places { IfOk result (λ r. All (IsIn r.0.job.images) r.0.tables.places) }
+    ensures codes { IfOk result (λ r. AreCodes r.0.job.images r.0.tables) }
     ensures own { IfOk result (λ r. AreTables r.0.job.images r.0.tables.tables) }
     ensures number { IfOk result (λ r. session_number r.0.job name.now ≡ Some r.1.0) }
     ensures from { IfOk result (λ r. 0 < r.1.0) }
@@ -207,6 +211,7 @@ pub fn make_whole<S: Source>(alloc: Global, source: &mut S) -> Result<Ready, Ref
     ensures matching { IfOk result (λ r. Match r.job r.tables.tables) }
     ensures numbered { IfOk result (λ r. r.tables.places ≡ all_places r.tables.tables) }
     ensures places { IfOk result (λ r. All (IsIn r.job.images) r.tables.places) }
+    ensures codes { IfOk result (λ r. AreCodes r.job.images r.tables) }
     ensures stopped { IfErr result (λ r. IsStopped true to_end AllWhole (source_change S.left S.faults source.old source.new) r.status r.line) }
 {
     let (read, rest) = job_of_source(alloc, source, false)?;

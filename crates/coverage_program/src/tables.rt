@@ -3,6 +3,7 @@ ghost use Rattle.std.specs.Prelude.{◌≡◌, ◌≢◌, ℕ, ◌+◌, ◌≤�
 ghost use Rattle.module_area.specs.Images.{IsImage, AreImages};
 ghost use Rattle.listing_reader.specs.Listing.{listing_of};
 ghost use Rattle.brk_table.specs.Build.{HasOwnPlaces};
+ghost use Rattle.brk_table.specs.Kept.{AreCodes};
 ghost use Rattle.brk_table.specs.Places.{IsIn, all_places};
 ghost use Rattle.brk_table.specs.Together.{AreTables};
 ghost use Rattle.report_text.specs.Conditions.{HasFewLines};
@@ -150,8 +151,9 @@ pub fn tables_of(alloc: Global, job: &Job) -> Result<Tables, Refused>
     ensures matching { IfOk result (λ t. Match job.now t.tables) }
     ensures numbered { IfOk result (λ t. t.places ≡ all_places t.tables) }
     ensures places { IfOk result (λ t. All (IsIn job.now.images) t.places) }
+    ensures codes { IfOk result (AreCodes job.now.images) }
     ensures own { IfOk result (λ t. AreTables job.now.images t.tables) }
 {
     let tables = tables_in_order(alloc, job)?;
-    Ok(Tables::of(alloc, tables)?)
+    Ok(Tables::over(alloc, tables, &job.images)?)
 }

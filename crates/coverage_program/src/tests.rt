@@ -13,6 +13,7 @@ mod faults;
 mod gates;
 mod held;
 mod jobs;
+mod kept;
 mod marked;
 mod marks;
 mod modules;

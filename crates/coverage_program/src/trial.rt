@@ -1,6 +1,7 @@
 //! The run of a generated job.
-ghost use Rattle.std.specs.Prelude.{◌≡◌, ◌<◌, ◌≤◌, ◌^◌, None, All, IfOk};
-ghost use Rattle.brk_table.specs.Places.{IsIn, all_places};
+ghost use Rattle.std.specs.Prelude.{◌≡◌, ◌<◌, ◌≤◌, ◌^◌, None, IfOk};
+ghost use Rattle.brk_table.specs.Kept.{AreCodes};
+ghost use Rattle.brk_table.specs.Places.{all_places};
 ghost use Rattle.coverage_program.specs.Answers.{Answers};
 ghost use Rattle.coverage_program.specs.Changes.{SourceChange, sink_change, areas_change};
 ghost use Rattle.coverage_program.specs.Refusals.{job_refusal, Match};
@@ -25,12 +26,12 @@ use std::sync::Wait;
 use std::thread::Threads;
 
 /// The tables of a job whose listings have no fault.
-fn faultless_tables(alloc: Global, job: &Job) -> Result<Tables, NoMemory>
+pub fn faultless_tables(alloc: Global, job: &Job) -> Result<Tables, NoMemory>
     requires few { HasFewLines job.now }
     requires faultless { job_refusal job.now ≡ None }
     ensures matching { IfOk result (λ t. Match job.now t.tables) }
     ensures numbered { IfOk result (λ t. t.places ≡ all_places t.tables) }
-    ensures places { IfOk result (λ t. All (IsIn job.now.images) t.places) }
+    ensures codes { IfOk result (AreCodes job.now.images) }
 {
     match tables_of(alloc, job) {
         Ok(tables) => Ok(tables),
@@ -40,6 +41,7 @@ fn faultless_tables(alloc: Global, job: &Job) -> Result<Tables, NoMemory>
 }
 
 /// Runs a generated job, and writes its summary.
+#[tactic(auto, using(brk_table::proofs::CodeLemmas::are_in))]
 fn answer_job<T: Threads + Wait + Sync, K: Sink, A: Areas, G: Gate + Sync>(
     rt: &T,
     alloc: Global,
@@ -54,7 +56,7 @@ fn answer_job<T: Threads + Wait + Sync, K: Sink, A: Areas, G: Gate + Sync>(
     requires job { job.now ≡ trial_job number tasks }
     requires matching { Match job.now tables.now.tables }
     requires numbered { tables.now.places ≡ all_places tables.now.tables }
-    requires places { All (IsIn job.now.images) tables.now.places }
+    requires tables { AreCodes job.now.images tables.now }
     requires room { A.made areas.old < 2 ^ 61 }
     ensures { (s : SourceChange) → IsUnread s →
         Answers (Command.Trial number tasks) s (areas_change A.ledger A.finals A.made areas.old areas.new) (sink_change K.written K.faults sink.old sink.new) result.0 }

@@ -176,7 +176,7 @@ fn step_on<C: Drains>(
     requires area { C.is_pass cells.now pass.old }
     requires plan { C.plan cells.now ≡ plan.now }
     requires is_plan { IsPlan plan.now }
-    requires over { IsOver (C.plan cells.now) (memory_of_space task.old.space) tables.now.places }
+    requires over { IsOver (C.plan cells.now) (memory_of_space task.old.space) tables.now }
     requires room { calls (C.notes pass.old) < 2 ^ 61 }
     requires working { is_working (C.notes pass.old) ≡ true }
     requires number { own_number (C.notes pass.old) < 2 ^ 62 }
@@ -225,7 +225,7 @@ fn run_steps<C: Drains>(
 ) -> Ending
     requires area { C.is_pass cells.now pass.old }
     requires plan { C.plan cells.now ≡ plan.now }
-    requires over { IsOver (C.plan cells.now) (memory_of_space task.old.space) tables.now.places }
+    requires over { IsOver (C.plan cells.now) (memory_of_space task.old.space) tables.now }
     requires room { calls (C.notes pass.old) < 2 ^ 60 }
     requires working { is_working (C.notes pass.old) ≡ true }
     requires fresh { task.old.done ≡ 0 }
@@ -272,7 +272,7 @@ fn run_early<C: Drains>(
 ) -> Ending
     requires area { C.is_pass cells.now pass.old }
     requires plan { C.plan cells.now ≡ plan.now }
-    requires over { IsOver (C.plan cells.now) (memory_of_space task.old.space) tables.now.places }
+    requires over { IsOver (C.plan cells.now) (memory_of_space task.old.space) tables.now }
     requires room { calls (C.notes pass.old) < 2 ^ 60 }
     requires working { is_working (C.notes pass.old) ≡ true }
     requires fresh { task.old.done ≡ 0 }

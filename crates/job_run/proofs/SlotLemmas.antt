@@ -14,7 +14,9 @@ use Rattle.module_area.specs.PlanView.{PlanView, IsPlan, has_task, is_controller
 use Rattle.module_area.specs.Tied.{IsTied}
 use Rattle.module_area.specs.declared.places.Place.{Place}
 use Rattle.module_area.proofs.TiedLemmas.{first_tied}
-use Rattle.brk_table.specs.Places.{AreSeen}
+use Rattle.brk_table.specs.Kept.{AreCodes, AreKept}
+use Rattle.brk_table.specs.Places.{TablesView, AreSeen}
+use Rattle.space_map.proofs.Kept.{are_kept}
 use Rattle.space_map.specs.Space.{memory_of_space}
 use Rattle.svc_monitor.specs.First.{IsOver}
 use Rattle.svc_monitor.specs.Observed.{Observes}
@@ -158,10 +160,10 @@ AreSplit-other is_pass notes plan root j phase next old mid h a = record {
 
 -- all can run
 
-can_run : {P E : Type 0} (is_pass : P → Type 0) (notes : P → Notes) (begins : Begins E) (root : Notes) (t : ℕ) (plan : PlanView) (j : JobView) (places : List Place) (s : Slot P E) →
-    IsPlan plan → plan ≡ plan_view j places (task_of j t).phase → ((p : ℕ) → is_controller plan t p ≡ true → root.last p ≡ 0) →
-    HasPass (IsFresh is_pass notes plan root t) s → HasStart begins plan j places t s → IsOver plan (memory_of_space s.done.task.space) places → CanRun is_pass notes begins plan places s
-can_run is_pass notes begins root t plan j places s is of none h start over = record {
+can_run : {P E : Type 0} (is_pass : P → Type 0) (notes : P → Notes) (begins : Begins E) (root : Notes) (t : ℕ) (plan : PlanView) (j : JobView) (tables : TablesView) (s : Slot P E) →
+    IsPlan plan → plan ≡ plan_view j tables.places (task_of j t).phase → ((p : ℕ) → is_controller plan t p ≡ true → root.last p ≡ 0) →
+    HasPass (IsFresh is_pass notes plan root t) s → HasStart begins plan j tables.places t s → IsOver plan (memory_of_space s.done.task.space) tables → CanRun is_pass notes begins plan tables s
+can_run is_pass notes begins root t plan j tables s is of none h start over = record {
   area = rw h.has h.holds.area;
   room = rw h.has few;
   working = rw h.has working;
@@ -194,11 +196,17 @@ can_run is_pass notes begins root t plan j places s is of none h start over = re
       may = subst (λ (n : Notes). begins plan (bearer n) start.extra n) (sym fresh) (start.starts root);
     }
 
-need_not : {P E : Type 0} (is_pass : P → Type 0) (notes : P → Notes) (begins : Begins E) (plan : PlanView) (places : List Place) (s : Slot P E) → s.pass ≡ None → CanRun is_pass notes begins plan places s
-need_not is_pass notes begins plan places s h = record { area = rw h tt; room = rw h tt; working = rw h tt; over = rw h tt; fresh = rw h tt; tied = rw h tt; first = rw h tt; extra = rw h tt }
+need_not : {P E : Type 0} (is_pass : P → Type 0) (notes : P → Notes) (begins : Begins E) (plan : PlanView) (tables : TablesView) (s : Slot P E) → s.pass ≡ None → CanRun is_pass notes begins plan tables s
+need_not is_pass notes begins plan tables s h = record { area = rw h tt; room = rw h tt; working = rw h tt; over = rw h tt; fresh = rw h tt; tied = rw h tt; first = rw h tt; extra = rw h tt }
 
-is_over_begun : (plan : PlanView) (j : JobView) (places : List Place) (t : ℕ) (d : Done) → plan.places ≡ places → HasNotRun j places t d → IsOver plan (memory_of_space d.task.space) places
-is_over_begun plan j places t d of b = record { same = of; seen = subst (λ (m : Memory). AreSeen m places) (sym b.begun.memory) b.begun.seen }
+-- a task that has not run is over the plan of the tables, which have the instructions of the job's modules
+pub is_over_begun : (plan : PlanView) (j : JobView) (tables : TablesView) (t : ℕ) (d : Done) → plan.places ≡ tables.places → IsJob j → AreCodes j.images tables → t < length j.tasks → HasNotRun j tables.places t d →
+    IsOver plan (memory_of_space d.task.space) tables
+is_over_begun plan j tables t d of job are l b = record {
+  same = of;
+  seen = subst (λ (m : Memory). AreSeen m tables.places) (sym b.begun.memory) b.begun.seen;
+  kept = subst (λ (m : Memory). AreKept m tables) (sym b.begun.memory) (are_kept (task_of j t).private j.images tables (is_task j t job l).private job.images are);
+}
 
 -- a task of the phase is as it begins
 start_at : {P E : Type 0} (is_pass : P → Type 0) (notes : P → Notes) (begins : Begins E) (plan : PlanView) (root : Notes) (j : JobView) (places : List Place) (phase : ℕ) (old slots : List (Slot P E)) (t : ℕ) (d : Slot P E) →
@@ -217,20 +225,20 @@ start_at is_pass notes begins plan root j places phase old slots t d a q l here 
 pub plan_here : (plan : PlanView) (j : JobView) (places : List Place) (phase t : ℕ) → plan ≡ plan_view j places phase → in_phase j phase t ≡ true → plan ≡ plan_view j places (task_of j t).phase
 plan_here plan j places phase t of h = of ∙ ap (plan_view j places) (sym (eqb-true (task_of j t).phase phase h))
 
-pub all_ready : {P E : Type 0} (is_pass : P → Type 0) (notes : P → Notes) (begins : Begins E) (root : Notes) (plan : PlanView) (j : JobView) (places : List Place) (phase : ℕ) (old slots : List (Slot P E)) →
-    IsPlan plan → plan ≡ plan_view j places phase → ((t p : ℕ) → is_controller plan t p ≡ true → root.last p ≡ 0) → length old ≡ length j.tasks →
-    AreSplit is_pass notes plan root j phase (length j.tasks) old slots → AreEquipped begins plan j places phase (length j.tasks) old → All (CanRun is_pass notes begins plan places) slots
-all_ready is_pass notes begins root plan j places phase old slots is of none all a q k d l = by_phase (in_phase j phase k) refl
+pub all_ready : {P E : Type 0} (is_pass : P → Type 0) (notes : P → Notes) (begins : Begins E) (root : Notes) (plan : PlanView) (j : JobView) (tables : TablesView) (phase : ℕ) (old slots : List (Slot P E)) →
+    IsPlan plan → IsJob j → AreCodes j.images tables → plan ≡ plan_view j tables.places phase → ((t p : ℕ) → is_controller plan t p ≡ true → root.last p ≡ 0) → length old ≡ length j.tasks →
+    AreSplit is_pass notes plan root j phase (length j.tasks) old slots → AreEquipped begins plan j tables.places phase (length j.tasks) old → All (CanRun is_pass notes begins plan tables) slots
+all_ready is_pass notes begins root plan j tables phase old slots is job are of none all a q k d l = by_phase (in_phase j phase k) refl
   where
     here : k < length old
     here = omega (arith, l, a.count)
 
-    by_phase : (b : Bool) → in_phase j phase k ≡ b → CanRun is_pass notes begins plan places (get_or slots k d)
+    by_phase : (b : Bool) → in_phase j phase k ≡ b → CanRun is_pass notes begins plan tables (get_or slots k d)
     by_phase true e =
-        let start = start_at is_pass notes begins plan root j places phase old slots k d a q here (omega (arith, here, all)) e in
-        can_run is_pass notes begins root k plan j places (get_or slots k d) is (plan_here plan j places phase k of e) (none k) (a.some k d here (omega (arith, here, all)) e) start
-        (is_over_begun plan j places k (get_or slots k d).done (ap (λ (p : PlanView). p.places) of) start.task.begun)
-    by_phase false e = need_not is_pass notes begins plan places (get_or slots k d) (a.none k d here (not_before (in_phase j phase k) k (length j.tasks) e))
+        let start = start_at is_pass notes begins plan root j tables.places phase old slots k d a q here (omega (arith, here, all)) e in
+        can_run is_pass notes begins root k plan j tables (get_or slots k d) is (plan_here plan j tables.places phase k of e) (none k) (a.some k d here (omega (arith, here, all)) e) start
+        (is_over_begun plan j tables k (get_or slots k d).done (ap (λ (p : PlanView). p.places) of) job are (omega (arith, here, all)) start.task.begun)
+    by_phase false e = need_not is_pass notes begins plan tables (get_or slots k d) (a.none k d here (not_before (in_phase j phase k) k (length j.tasks) e))
 
 -- no other slot has a pass
 pub none_other : {P E : Type 0} (is_pass : P → Type 0) (notes : P → Notes) (plan : PlanView) (root : Notes) (j : JobView) (phase : ℕ) (old slots : List (Slot P E)) → AreSplit is_pass notes plan root j phase (length j.tasks) old slots →

@@ -9,6 +9,7 @@ use Rattle.module_area.specs.Notes.{Notes, bearer, calls, is_working, split_note
 use Rattle.module_area.specs.PlanView.{PlanView}
 use Rattle.module_area.specs.Tied.{IsTied}
 use Rattle.module_area.specs.declared.places.Place.{Place}
+use Rattle.brk_table.specs.Places.{TablesView}
 use Rattle.space_map.specs.Space.{memory_of_space}
 use Rattle.svc_monitor.specs.First.{IsOver}
 use Rattle.svc_monitor.specs.Observed.{Observes}
@@ -91,11 +92,11 @@ pub record MayBegin {P E : Type 0} (begins : Begins E) (plan : PlanView) (n : No
   pub may : begins plan (bearer n) extra n
 
 -- the slot's task can run with its pass, if it has one
-pub record CanRun {P E : Type 0} (is_pass : P → Type 0) (notes : P → Notes) (begins : Begins E) (plan : PlanView) (places : List Place) (s : Slot P E) : Type 0 where
+pub record CanRun {P E : Type 0} (is_pass : P → Type 0) (notes : P → Notes) (begins : Begins E) (plan : PlanView) (tables : TablesView) (s : Slot P E) : Type 0 where
   pub area : IfSome s.pass is_pass
   pub room : IfSome s.pass (λ p. calls (notes p) < 2 ^ 60)
   pub working : IfSome s.pass (λ p. is_working (notes p) ≡ true)
-  pub over : IfSome s.pass (λ _. IsOver plan (memory_of_space s.done.task.space) places)
+  pub over : IfSome s.pass (λ _. IsOver plan (memory_of_space s.done.task.space) tables)
   pub fresh : IfSome s.pass (λ _. s.done.task.done ≡ 0)
   pub tied : IfSome s.pass (λ p. IsTied plan (notes p) s.done.task.control)
   pub first : IfSome s.pass (λ _. (s.done.task.control.next ≡ 0) × (s.done.task.control.opened ≡ None))

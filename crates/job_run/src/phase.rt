@@ -1,6 +1,6 @@
 //! The phases of a job, one after the other.
-ghost use Rattle.std.specs.Prelude.{◌≡◌, ◌+◌, ◌<◌, ◌≤◌, ◌^◌, length, All, IfOk, OnErr};
-ghost use Rattle.brk_table.specs.Places.{IsIn};
+ghost use Rattle.std.specs.Prelude.{◌≡◌, ◌+◌, ◌<◌, ◌≤◌, ◌^◌, length, IfOk, OnErr};
+ghost use Rattle.brk_table.specs.Kept.{AreCodes};
 ghost use Rattle.module_area.specs.FinalsView.{set_at};
 ghost use Rattle.session_book.specs.JobView.{IsJob};
 ghost use Rattle.session_book.specs.Sessions.{plan_view};
@@ -40,6 +40,7 @@ fn run_phase<'a, T: Threads + Sync, A: Areas, G: Gate + Sync, R: Runner<A::C> + 
     requires room { A.made areas.old < 2 ^ 62 }
     requires phase { phase < length job.now.phases }
     requires tasks { AreRun R.course job.now tables.now.places phase slots.old }
+    requires codes { AreCodes job.now.images tables.now }
     requires empty { AreEmpty slots.old }
     ensures made { IfOk result (λ _. A.made areas.new ≡ A.made areas.old + 1) }
     ensures grown { IfOk result (λ f. GrowsBy (plan_view job.now tables.now.places phase) (walk_by R.course job.now tables.now.places) (phase_trace R.course job.now tables.now.places phase) (A.ledger areas.old) (A.ledger areas.new) (A.finals areas.old) (A.finals areas.new) f) }
@@ -75,6 +76,7 @@ fn run_phases<'a, T: Threads + Sync, A: Areas, G: Gate + Sync, R: Runner<A::C> +
 ) -> Result<Vec<Finals>, NoMemory>
     requires room { A.made areas.old < 2 ^ 61 }
     requires tasks { AreRun R.course job.now tables.now.places 0 slots.old }
+    requires codes { AreCodes job.now.images tables.now }
     requires empty { AreEmpty slots.old }
     ensures job { IsJob job.now }
     ensures left { IfOk result (λ v. HasLeftBy R.course job.now tables.now.places (record { ledger = A.ledger areas.old; finals = A.finals areas.old; made = A.made areas.old }) (record { ledger = A.ledger areas.new; finals = A.finals areas.new; made = A.made areas.new }) v.items) }
@@ -104,7 +106,7 @@ pub fn run_job_with<'a, T: Threads + Wait + Sync, A: Areas, G: Gate + Sync, R: R
     job: &'a Job,
     tables: &'a Tables,
 ) -> Result<(Outcome<'a>, Vec<R::Extra>), NoMemory>
-    requires tables { All (IsIn job.now.images) tables.now.places }
+    requires tables { AreCodes job.now.images tables.now }
     requires room { A.made areas.old < 2 ^ 61 }
     ensures left { IfOk result (λ r. HasLeftBy R.course job.now tables.now.places (record { ledger = A.ledger areas.old; finals = A.finals areas.old; made = A.made areas.old }) (record { ledger = A.ledger areas.new; finals = A.finals areas.new; made = A.made areas.new }) r.0.sets.finals) }
     ensures outcome { IfOk result (λ r. IsOutcomeBy R.course job.now tables.now.places r.0.tasks.items r.0.sets) }
@@ -128,7 +130,7 @@ pub fn run_job<'a, T: Threads + Wait + Sync, A: Areas, G: Gate + Sync>(
     job: &'a Job,
     tables: &'a Tables,
 ) -> Result<Outcome<'a>, NoMemory>
-    requires tables { All (IsIn job.now.images) tables.now.places }
+    requires tables { AreCodes job.now.images tables.now }
     requires room { A.made areas.old < 2 ^ 61 }
     ensures left { IfOk result (λ o. HasLeft job.now tables.now.places (record { ledger = A.ledger areas.old; finals = A.finals areas.old; made = A.made areas.old }) (record { ledger = A.ledger areas.new; finals = A.finals areas.new; made = A.made areas.new }) o.sets.finals) }
     ensures outcome { IfOk result (λ o. IsOutcome job.now tables.now.places o.tasks.items o.sets) }

@@ -7,6 +7,7 @@ ghost use Rattle.module_area.specs.Notes.{bearer, calls, is_working};
 ghost use Rattle.module_area.specs.PlanView.{IsPlan, is_controller};
 ghost use Rattle.module_area.specs.Tied.{IsTied};
 ghost use Rattle.space_map.specs.Space.{memory_of_space};
+ghost use Rattle.brk_table.specs.Kept.{AreCodes};
 ghost use Rattle.svc_monitor.specs.First.{IsOver};
 ghost use Rattle.session_book.specs.JobView.{IsJob};
 ghost use Rattle.session_book.specs.Sessions.{plan_view, tasks_from};
@@ -40,7 +41,7 @@ fn run_one<'a, C: Cells, R: Runner<C>>(
 )
     requires area { C.is_pass cells.now pass.old }
     requires plan { C.plan cells.now ≡ plan.now }
-    requires over { IsOver plan.now (memory_of_space done.old.task.space) tables.now.places }
+    requires over { IsOver plan.now (memory_of_space done.old.task.space) tables.now }
     requires room { calls (C.notes pass.old) < 2 ^ 60 }
     requires working { is_working (C.notes pass.old) ≡ true }
     requires fresh { done.old.task.done ≡ 0 }
@@ -67,7 +68,7 @@ fn run_slot<'a, C: Cells, G: Gate, R: Runner<C>>(
 )
     requires plan { C.plan cells.now ≡ plan.now }
     requires number { t < TASK_LIMIT }
-    requires ready { CanRun (C.is_pass cells.now) C.notes R.begins plan.now tables.now.places slot.old }
+    requires ready { CanRun (C.is_pass cells.now) C.notes R.begins plan.now tables.now slot.old }
     ensures { RunsSlot R.course (C.is_pass cells.now) C.notes R.ends plan.now slot.old slot.new slot.old.pass }
 {
     if let Some(pass) = &mut slot.pass {
@@ -98,7 +99,7 @@ fn run_slots<
 )
     requires plan { C.plan cells.now ≡ plan.now }
     requires number { first + length slots.old ≤ TASK_LIMIT }
-    requires ready { All (CanRun (C.is_pass cells.now) C.notes R.begins plan.now tables.now.places) slots.old }
+    requires ready { All (CanRun (C.is_pass cells.now) C.notes R.begins plan.now tables.now) slots.old }
     ensures count { length slots.new ≡ length slots.old }
     ensures runs { (t : ℕ) (d : _) → t < length slots.old → RunsSlot R.course (C.is_pass cells.now) C.notes R.ends plan.now (slice_index_or slots.old t d) (slice_index_or slots.new t d) (slice_index_or slots.old t d).pass }
 {
@@ -107,7 +108,7 @@ fn run_slots<
     }
     let count = slots.len();
     let work = |t: usize, slot: &mut Slot<'_, C::Pass, R::Extra>|
-        requires { (C.plan cells.now ≡ plan.now) × (first + t < TASK_LIMIT) × CanRun (C.is_pass cells.now) C.notes R.begins plan.now tables.now.places slot.now }
+        requires { (C.plan cells.now ≡ plan.now) × (first + t < TASK_LIMIT) × CanRun (C.is_pass cells.now) C.notes R.begins plan.now tables.now slot.now }
         ensures { RunsSlot R.course (C.is_pass cells.entry.now) C.notes R.ends plan.entry.now slot.entry.now slot.exit.now slot.entry.now.pass }
     { run_slot(cells, gate, runner, tables, plan, first + t, slot) };
     thread::for_each_mut(rt, slots, count, &work);
@@ -163,7 +164,7 @@ fn run_those<
     requires plan { C.plan cells.now ≡ plan.now }
     requires number { length slots.old ≤ TASK_LIMIT }
     requires count { length slots.old ≡ length job.now.tasks }
-    requires ready { All (CanRun (C.is_pass cells.now) C.notes R.begins plan.now tables.now.places) slots.old }
+    requires ready { All (CanRun (C.is_pass cells.now) C.notes R.begins plan.now tables.now) slots.old }
     requires others { (t : ℕ) (d : _) → t < length slots.old → in_phase job.now phase t ≡ false → (slice_index_or slots.old t d).pass ≡ None }
     ensures count { length slots.new ≡ length slots.old }
     ensures runs { (t : ℕ) (d : _) → t < length slots.old → RunsSlot R.course (C.is_pass cells.now) C.notes R.ends plan.now (slice_index_or slots.old t d) (slice_index_or slots.new t d) (slice_index_or slots.old t d).pass }
@@ -271,6 +272,7 @@ pub fn run_tasks<
     requires room { calls (C.notes root.old) ≤ PLACE_LIMIT }
     requires last { (t p : ℕ) → is_controller plan.now t p ≡ true → (C.notes root.old).last p ≡ 0 }
     requires unmarked { (s p : ℕ) (f : _) → (C.notes root.old).marked s p f ≡ false }
+    requires codes { AreCodes job.now.images tables.now }
     requires tasks { AreRun R.course job.now tables.now.places phase slots.old }
     requires equipped { AreEquipped R.begins plan.now job.now tables.now.places phase (length job.now.tasks) slots.old }
     requires empty { AreEmpty slots.old }

@@ -32,6 +32,7 @@ abbrev tables : TablesView
 tables = record {
   tables = record { «module» = 0; places = place 1048576 4 16656 ∷ place 1048580 2 6673 ∷ place 1048582 2 2046 ∷ []; lines = None ∷ Some 0 ∷ Some 1 ∷ Some 2 ∷ [] } ∷ [];
   places = place 1048576 4 16656 ∷ place 1048580 2 6673 ∷ place 1048582 2 2046 ∷ [];
+  codes = [];
 }
 
 abbrev result : ℕ → ResultView
@@ -119,6 +120,7 @@ tables_of_three = record {
   tables = record { «module» = 0; places = record (place 1048576 4 17936) { kind = Conditional } ∷ place 1048580 2 2046 ∷ []; lines = None ∷ Some 0 ∷ Some 1 ∷ [] }
       ∷ record { «module» = 2; places = []; lines = None ∷ [] } ∷ [];
   places = record (place 1048576 4 17936) { kind = Conditional } ∷ place 1048580 2 2046 ∷ [];
+  codes = [];
 }
 
 sample-table : table_lines three tables_of_three ≡ (

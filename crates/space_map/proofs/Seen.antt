@@ -61,7 +61,7 @@ pub byte_at-image : (size : ℕ) (images : List ImageView) (places : List Place)
 unfolding byte_at memory_of
 byte_at-image size images places bytes a h = rw (let e : nat_lt a size ≡ false = grind (arith, nat_tests) in e) refl
 
-image_byte-of : (images : List ImageView) (p : Place) (q : IsIn images p) (a : ℕ) → AreImages images → q.image.base ≤ a → a < q.image.base + length q.image.bytes → image_byte images a ≡ slice_index q.image.bytes (a - q.image.base)
+pub image_byte-of : (images : List ImageView) (p : Place) (q : IsIn images p) (a : ℕ) → AreImages images → q.image.base ≤ a → a < q.image.base + length q.image.bytes → image_byte images a ≡ slice_index q.image.bytes (a - q.image.base)
 image_byte-of images p q a f from to =
     rw (← q.is) (image_byte-there images q.image p.module a q.exists f.apart (rw q.is (in_image-inside q.image a from to)))
 

@@ -4,6 +4,7 @@ ghost use Rattle.cov_base.specs.Memory.{wrap, byte_at, half_at, is_accessible, c
 ghost use Rattle.cov_base.specs.declared.limits.TheConstants.{PRIVATE_LIMIT};
 ghost use Rattle.s370_state.specs.Answers.{reach_answer, store_answer};
 ghost use Rattle.module_area.specs.Images.{AreImages};
+ghost use Rattle.brk_table.specs.Kept.{AreCodes, AreKept};
 ghost use Rattle.brk_table.specs.Places.{memory_of, IsIn, AreSeen, touches};
 ghost use Rattle.module_area.specs.Views.{first_bytes};
 ghost use Rattle.space_map.specs.Space.{row_of, memory_of_space};
@@ -58,8 +59,9 @@ impl<'a> TaskSpace<'a> {
         ensures memory { IfOk result (λ s. memory_of_space s ≡ memory_of size images.now tables.now.places) }
         ensures bytes { IfOk result (λ s. s.bytes ≡ first_bytes size cards.now) }
 
-        // Each place is reached, and shows its original.
+        // Each place is reached, and shows its original; and the instruction that is kept for it, where the tables have these.
         ensures seen { AreSeen (memory_of size images.now tables.now.places) tables.now.places }
+        ensures kept { AreCodes images.now tables.now → AreKept (memory_of size images.now tables.now.places) tables.now }
     {
         let monitored = tables.len() > 0;
         let bytes = first_bytes(alloc, size, cards)?;

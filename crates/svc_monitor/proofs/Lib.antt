@@ -1,5 +1,6 @@
 pub mod AnsweredLemmas
 pub mod CallLemmas
+pub mod KeptCode
 pub mod NotesLemmas
 pub mod ObservedLemmas
 pub mod PlaceLemmas

@@ -1,20 +1,27 @@
 -- How the first halfword of an instruction is met.
-use Rattle.std.specs.Prelude.{◌≡◌, ◌≢◌, ℕ, ◌%◌, ◌<◌, false, Some, List, length}
-use Rattle.cov_base.specs.Codes.{breakpoint}
+use Rattle.std.specs.Prelude.{◌≡◌, ◌≢◌, ℕ, ◌%◌, ◌<◌, false, Some, None, List, length}
+use Rattle.cov_base.specs.Codes.{breakpoint, length_of}
 use Rattle.cov_base.specs.Memory.{Memory}
 use Rattle.module_area.specs.declared.cells.Cell.{Cell}
 use Rattle.module_area.specs.declared.places.Place.{Place}
 use Rattle.module_area.specs.PlanView.{PlanView, place_of}
 use Rattle.module_area.specs.Notes.{Notes, after_fetch, IsAnswer}
 use Rattle.module_area.specs.Executions.{is_place}
-use Rattle.brk_table.specs.Places.{AreSeen}
+use Rattle.brk_table.specs.Kept.{AreKept}
+use Rattle.brk_table.specs.Places.{TablesView, AreSeen}
+use Rattle.s370_decode.specs.declared.code.Code.{Code}
+use Rattle.s370_state.specs.declared.endings.Ending.{Ending}
+use Rattle.s370_exec.specs.Fetch.{rest_tests, code_at}
 use Rattle.svc_monitor.specs.declared.first.Met.{Met}
+use Rattle.svc_monitor.specs.declared.instruction.Behind.{Behind}
+use Rattle.svc_monitor.specs.declared.instruction.Behind.TheVariants.{Kept, Fetched, Refused}
 use Rattle.svc_monitor.specs.declared.first.Met.TheVariants.{Plain, Free, Trap}
 
--- the area is over these places, and the memory shows them
-pub record IsOver (plan : PlanView) (m : Memory) (places : List Place) : Type 0 where
-  pub same : plan.places ≡ places
-  pub seen : AreSeen m places
+-- the area is over the places of these tables, and the memory shows them as the tables keep them
+pub record IsOver (plan : PlanView) (m : Memory) (tables : TablesView) : Type 0 where
+  pub same : plan.places ≡ tables.places
+  pub seen : AreSeen m tables.places
+  pub kept : AreKept m tables
 
 -- it is the place that begins there, and the only one
 pub record BeginsAt (places : List Place) (a p : ℕ) : Type 0 where
@@ -27,6 +34,18 @@ abbrev pub half_of : Met → ℕ
 half_of (Plain h) = h
 half_of (Free p h) = h
 half_of (Trap p cell h) = h
+
+-- the whole instruction at the address, none of whose later halfwords is refused
+abbrev pub IsWhole : Memory → List ℕ → ℕ → ℕ → Code → Type 0
+IsWhole m bytes a h c = (rest_tests m a (length_of h) ≡ None) × (c ≡ code_at m bytes a h)
+
+-- what was fetched behind a first halfword: nothing where a place begins, else the instruction or the first refusal
+abbrev pub IsBehind : Memory → List ℕ → ℕ → Met → Behind → Type 0
+IsBehind m bytes a (Plain h) Kept = ⊥
+IsBehind m bytes a (Plain h) (Fetched c) = IsWhole m bytes a h c
+IsBehind m bytes a (Plain h) (Refused e) = rest_tests m a (length_of h) ≡ Some e
+IsBehind m bytes a (Free p h) b = b ≡ Kept
+IsBehind m bytes a (Trap p cell h) b = b ≡ Kept
 
 -- no place begins at the address, or the one that was met
 abbrev pub IsPlaced : List Place → ℕ → Met → Type 0

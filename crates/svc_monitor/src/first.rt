@@ -76,7 +76,7 @@ pub fn first_half<C: Cells, P: Space>(
     at: Addr,
 ) -> Result<Met, Ending>
     requires area { C.is_pass cells.now pass.old }
-    requires over { IsOver (C.plan cells.now) (P.memory space.now) tables.now.places }
+    requires over { IsOver (C.plan cells.now) (P.memory space.now) tables.now }
     requires room { calls (C.notes pass.old) < 2 ^ 61 + 2 ^ 16 }
     requires working { is_working (C.notes pass.old) ≡ true }
     ensures area { C.is_pass cells.now pass.new }

@@ -1,5 +1,7 @@
 //! One instruction over the cells.
-ghost use Rattle.std.specs.Prelude.{◌≡◌, ℕ, ◌+◌, ◌%◌, ◌<◌, ◌≤◌, ◌^◌, length, true};
+ghost use Rattle.std.specs.Prelude.{◌≡◌, ℕ, ◌+◌, ◌%◌, ◌<◌, ◌≤◌, ◌^◌, Some, IfOk, IfErr, length, true};
+ghost use Rattle.cov_base.specs.Codes.{length_of};
+ghost use Rattle.cov_base.specs.Memory.{half_at};
 ghost use Rattle.cov_base.specs.declared.limits.TheConstants.{PLACE_LIMIT};
 ghost use Rattle.module_area.specs.Notes.{calls, is_working};
 ghost use Rattle.module_area.specs.Control.{control_after};
@@ -7,10 +9,12 @@ ghost use Rattle.module_area.specs.Tied.{IsTied};
 ghost use Rattle.s370_decode.specs.Fields.{first_half};
 ghost use Rattle.s370_decode.specs.Table.{op_of};
 ghost use Rattle.s370_branch.specs.Branch.{goes};
-ghost use Rattle.s370_exec.specs.Fetch.{is_execute};
+ghost use Rattle.s370_exec.specs.Fetch.{is_execute, rest_tests};
+ghost use Rattle.brk_table.specs.Kept.{AreKept};
+ghost use Rattle.brk_table.specs.Places.{AreSeen};
 ghost use Rattle.s370_exec.specs.Calls.{call_of, subject_call};
 ghost use Rattle.s370_exec.specs.Solo.{state_of, solo_step, subject_step};
-ghost use Rattle.svc_monitor.specs.First.{IsOver, IsPending};
+ghost use Rattle.svc_monitor.specs.First.{IsOver, IsPending, IsPlaced, IsBehind, IsWhole, half_of};
 ghost use Rattle.svc_monitor.specs.Settled.{Shows};
 ghost use Rattle.svc_monitor.specs.Answered.{Turns};
 ghost use Rattle.svc_monitor.specs.Called.{call_at};
@@ -19,11 +23,12 @@ use crate::calls::answer;
 use crate::first::{Met, first_half};
 use crate::trap::settle;
 use brk_table::Tables;
+use cov_base::Addr;
 use module_area::{Cells, Control, Plan};
 use s370_branch::outcome;
 use s370_decode::Code;
 use s370_exec::{execute, fetch_rest, fetch_subject, is_execute, subject_address};
-use s370_state::{Cpu, Next, Space, TaskIo};
+use s370_state::{Cpu, Ending, Next, Space, TaskIo};
 
 /// Settles a trap whose instruction was begun, by what it does as it is executed.
 #[inline(always)]
@@ -43,6 +48,69 @@ fn show<C: Cells>(cells: &C, pass: &mut C::Pass, tables: &Tables, met: Met, cpu:
     }
 }
 
+/// What was fetched behind a first halfword.
+#[derive(Drop)]
+enum Behind {
+    /// Nothing, since a place begins there.
+    Kept,
+    /// The instruction.
+    Fetched(Code),
+    /// A later halfword was refused.
+    Refused(Ending),
+}
+
+/// The instruction behind its first halfword. Code 5 or Touched exactly by the first later halfword that is refused.
+/// Out of line, so that the loop over places stays short.
+#[inline(never)]
+fn fetch_far<P: Space>(space: &P, at: Addr, half: u16) -> Behind
+    ensures { IsBehind (P.memory space.now) (P.bytes space.now) at (Met.Plain half) result }
+{
+    match fetch_rest(space, at, half) {
+        Ok(code) => Behind::Fetched(code),
+        Err(e) => Behind::Refused(e),
+    }
+}
+
+/// Fetches what stands behind the first halfword, where no place begins.
+#[inline(always)]
+fn fetch_behind<P: Space>(space: &P, at: Addr, met: Met) -> Behind
+    ensures { IsBehind (P.memory space.now) (P.bytes space.now) at met result }
+{
+    match met {
+        Met::Plain(half) => fetch_far(space, at, half),
+        Met::Free(_, _) => Behind::Kept,
+        Met::Trap(_, _, _) => Behind::Kept,
+    }
+}
+
+/// The whole instruction, as the tables keep it where a place begins, and else as it was fetched.
+#[inline(always)]
+fn whole_code<'a, P: Space>(
+    space: &P,
+    at: Addr,
+    tables: &'a Tables,
+    met: Met,
+    behind: &'a Behind,
+) -> Result<&'a Code, Ending>
+    requires seen { AreSeen (P.memory space.now) tables.now.places }
+    requires kept { AreKept (P.memory space.now) tables.now }
+    requires placed { IsPlaced tables.now.places at met }
+    requires half { half_of met ≡ half_at (P.memory space.now) (P.bytes space.now) at }
+    requires behind { IsBehind (P.memory space.now) (P.bytes space.now) at met behind.now }
+    ensures refused { IfErr result (λ e. rest_tests (P.memory space.now) at (length_of (half_of met)) ≡ Some e) }
+    ensures whole { IfOk result (λ c. IsWhole (P.memory space.now) (P.bytes space.now) at (half_of met) c.now) }
+{
+    match met {
+        Met::Free(place, _) => Ok(tables.code(place)),
+        Met::Trap(place, _, _) => Ok(tables.code(place)),
+        Met::Plain(_) => match behind {
+            Behind::Fetched(code) => Ok(code),
+            Behind::Refused(e) => Err(*e),
+            Behind::Kept => unreachable!(),
+        },
+    }
+}
+
 /// Executes the subject of an EX that was begun, and makes its visit. Code 6 exactly at an odd address, else code 5
 /// exactly where its first halfword is inaccessible, else code 3 exactly where it is itself EX, of which no fact is
 /// marked. Before what it does a session is opened or closed where it is SVC 4 or 5, by its number after the OR.
@@ -59,7 +127,7 @@ fn step_subject<C: Cells, P: Space>(
 ) -> Next
     requires area { C.is_pass cells.now pass.old }
     requires plan { C.plan cells.now ≡ plan.now }
-    requires over { IsOver (C.plan cells.now) (P.memory space.old) tables.now.places }
+    requires over { IsOver (C.plan cells.now) (P.memory space.old) tables.now }
     requires room { calls (C.notes pass.old) < 2 ^ 61 + 2 ^ 8 }
     requires working { is_working (C.notes pass.old) ≡ true }
     requires tied { IsTied (C.plan cells.now) (C.notes pass.old) control.old }
@@ -104,7 +172,7 @@ pub fn step<C: Cells, P: Space>(
 ) -> Next
     requires area { C.is_pass cells.now pass.old }
     requires plan { C.plan cells.now ≡ plan.now }
-    requires over { IsOver (C.plan cells.now) (P.memory space.old) tables.now.places }
+    requires over { IsOver (C.plan cells.now) (P.memory space.old) tables.now }
     requires room { calls (C.notes pass.old) < 2 ^ 61 }
     requires working { is_working (C.notes pass.old) ≡ true }
     requires tied { IsTied (C.plan cells.now) (C.notes pass.old) control.old }
@@ -123,11 +191,11 @@ pub fn step<C: Cells, P: Space>(
         Err(e) => return Next::Ended(e),
     };
     let original = met.original();
-    // Read where it was made: a copy would wait for the parts that were just written.
-    let fetched = fetch_rest(space, at, original);
-    let code = match &fetched {
+    // Read where it stands: a copy would wait for the parts that were just written.
+    let behind = fetch_behind(space, at, met);
+    let code = match whole_code(space, at, tables, met, &behind) {
         Ok(code) => code,
-        Err(e) => return Next::Ended(*e),
+        Err(e) => return Next::Ended(e),
     };
     show(cells, pass, tables, met, cpu, code);
     if is_execute(original) {

@@ -52,7 +52,7 @@ pub trait Runner<C: Cells> {
     ) -> Ending
         requires area { C.is_pass cells.now pass.old }
         requires plan { C.plan cells.now ≡ plan.now }
-        requires over { IsOver (C.plan cells.now) (memory_of_space task.old.space) tables.now.places }
+        requires over { IsOver (C.plan cells.now) (memory_of_space task.old.space) tables.now }
         requires room { calls (C.notes pass.old) < 2 ^ 60 }
         requires working { is_working (C.notes pass.old) ≡ true }
         requires fresh { task.old.done ≡ 0 }

@@ -1,10 +1,11 @@
 //! A task over a pass that was split for it, on one thread: how it ends, and what another task's pass meets at its places then.
-ghost use Rattle.std.specs.Prelude.{◌≡◌, ◌<◌, ◌≤◌, ◌^◌, true, [], length, All};
+ghost use Rattle.std.specs.Prelude.{◌≡◌, ◌<◌, ◌≤◌, ◌^◌, true, [], length};
 ghost use Rattle.std.specs.declared.option.Option.TheVariants.{None};
-ghost use Rattle.brk_table.specs.Places.{IsIn};
+ghost use Rattle.brk_table.specs.Kept.{AreCodes};
 ghost use Rattle.module_area.specs.Notes.{calls, is_working};
 ghost use Rattle.module_area.specs.PlanView.{window_at, has_task};
 ghost use Rattle.module_area.specs.Tied.{IsTied};
+ghost use Rattle.session_book.specs.JobView.{IsJob};
 
 use super::order::{COUNT_DOWN, EXECUTED};
 use crate::ready::make_ready;
@@ -38,6 +39,7 @@ fn may_run(plan: &Plan) -> bool
 }
 
 /// Runs the first task with the pass.
+#[tactic(auto, using(brk_table::proofs::CodeLemmas::are_in))]
 fn run_first<C: Cells>(
     alloc: Global,
     cells: &C,
@@ -55,7 +57,8 @@ fn run_first<C: Cells>(
     requires first { (control.next ≡ 0) × (control.opened ≡ None) }
     requires places { (C.plan cells.now).places ≡ tables.now.places }
     requires task { 0 < length job.now.tasks }
-    requires tables { All (IsIn job.now.images) tables.now.places }
+    requires job { IsJob job.now }
+    requires tables { AreCodes job.now.images tables.now }
 {
     let Begun { cpu, space, io } = begin(alloc, job, tables, 0)?;
     let mut task = Task {
@@ -79,7 +82,7 @@ fn alone<A: Areas>(
 where
     A::C: Forks + Sync,
     requires room { A.made areas.old < 2 ^ 62 }
-    requires tables { All (IsIn job.now.images) tables.now.places }
+    requires tables { AreCodes job.now.images tables.now }
 {
     if job.phase_count() == 0 || job.task_count() == 0 {
         return Ok(None);

@@ -1,9 +1,13 @@
 use Rattle.std.proofs.Common.{◌≡◌, ◌++◌, List, length, take, drop, sym, ◌∙◌, ap}
+use Rattle.brk_table.proofs.CodeLemmas.{are_in}
 use Rattle.job_run.proofs.PhaseLemmas.{written}
 use Rattle.count_session.specs.Slots.{dones}
 use Rattle.count_session.specs.declared.slots.Slot.{Slot}
 use Rattle.count_session.proofs.JobLemmas.{counted_job}
 use Rattle.count_session.proofs.job.count_job.Goals as goal
+
+pub make_slots-slots-requires : goal.make_slots-slots-requires
+make_slots-slots-requires g c = are_in c.args.job.now.images c.args.tables.now c.requires.tables
 
 pub returns : goal.returns
 returns g c =

@@ -15,8 +15,8 @@ use Rattle.count_session.proofs.phase.run_tasks.Goals.{in-Some, in_default}
 
 pub run_those-requires-clause-ready : goal.run_those-requires-clause-ready
 run_those-requires-clause-ready g c κs within =
-    all_ready c.args.cells.now (notes_of c.args.cells.now c.args.root.now) c.args.job.now c.args.tables.now.places c.args.phase c.args.slots.now c.split_all.new.slots
-    (ap (λ (q : PlanView). q.places) c.requires.plan) c.split_all.ensures.passes c.requires.tasks
+    all_ready c.args.cells.now (notes_of c.args.cells.now c.args.root.now) c.args.job.now c.args.tables.now c.args.phase c.args.slots.now c.split_all.new.slots
+    (ap (λ (q : PlanView). q.places) c.requires.plan) c.split_all.ensures.job c.requires.codes c.split_all.ensures.passes c.requires.tasks
 
 pub run_those-requires-clause-others : goal.run_those-requires-clause-others
 run_those-requires-clause-others g c κs within =

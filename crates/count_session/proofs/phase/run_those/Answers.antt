@@ -7,7 +7,7 @@ use Rattle.count_session.proofs.phase.run_those.Goals as goal
 
 pub run_slots-requires-clause-ready : goal.run_slots-requires-clause-ready
 run_slots-requires-clause-ready g c κs within =
-    all_in_part (IsReady c.args.cells.now c.args.tables.now.places) c.args.slots.now c.range_of-range.result.start c.range_of-range.result.end c.range_of-range.ensures.order
+    all_in_part (IsReady c.args.cells.now c.args.tables.now) c.args.slots.now c.range_of-range.result.start c.range_of-range.result.end c.range_of-range.ensures.order
     (omega (arith, c.range_of-range.ensures.exists, c.requires.count)) c.requires.ready
 
 pub returns-clause-runs : goal.returns-clause-runs

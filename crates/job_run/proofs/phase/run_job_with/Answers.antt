@@ -1,4 +1,5 @@
 use Rattle.std.proofs.Common.{◌≡◌, ◌++◌, All, IsSome, List, length, take, drop, sym, ◌∙◌, ap, subst}
+use Rattle.brk_table.proofs.CodeLemmas.{are_in}
 use Rattle.job_run.specs.Slots.{dones, extras_of}
 use Rattle.job_run.specs.Tasks.{AreNew}
 use Rattle.job_run.specs.declared.slots.Slot.{Slot}
@@ -6,6 +7,9 @@ use Rattle.job_run.proofs.PhaseLemmas.{left_count, written}
 use Rattle.job_run.proofs.SessionLemmas.{all_sized, are_extras, has_some, left_of, outcome}
 use Rattle.job_run.proofs.TaskLemmas.{AreRun-start}
 use Rattle.job_run.proofs.phase.run_job_with.Goals as goal
+
+pub make_slots-slots-requires : goal.make_slots-slots-requires
+make_slots-slots-requires g c = are_in c.args.job.now.images c.args.tables.now c.requires.tables
 
 pub run_phases-requires-clause-tasks : goal.run_phases-requires-clause-tasks
 run_phases-requires-clause-tasks g c κs within =

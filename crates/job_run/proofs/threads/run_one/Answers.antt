@@ -8,7 +8,7 @@ use Rattle.task_run.specs.Ran.{RanAs}
 use Rattle.job_run.proofs.threads.run_one.Goals as goal
 
 pub run-ending-requires-clause-over : goal.run-ending-requires-clause-over
-run-ending-requires-clause-over g c = subst (λ (p : PlanView). IsOver p (memory_of_space c.args.done.now.task.space) c.args.tables.now.places) (sym c.requires.plan) c.requires.over
+run-ending-requires-clause-over g c = subst (λ (p : PlanView). IsOver p (memory_of_space c.args.done.now.task.space) c.args.tables.now) (sym c.requires.plan) c.requires.over
 
 pub run-ending-requires-clause-tied : goal.run-ending-requires-clause-tied
 run-ending-requires-clause-tied g c = subst (λ (p : PlanView). IsTied p (g.C.Cells.notes c.args.pass.now) c.args.done.now.task.control) (sym c.requires.plan) c.requires.tied

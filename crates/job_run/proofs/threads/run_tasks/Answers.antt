@@ -33,8 +33,8 @@ loop-t-init g c =
 
 pub run_those-requires-clause-ready : goal.run_those-requires-clause-ready
 run_those-requires-clause-ready g c κs within =
-    all_ready (g.C.Cells.is_pass c.args.cells.now) g.C.Cells.notes g.R.Runner.begins (g.C.Cells.notes c.args.root.now) c.args.plan.now c.args.job.now c.args.tables.now.places c.args.phase c.args.slots.now c.split_all.new.slots
-    c.places_len.ensures.plan c.requires.plan c.requires.last c.requires.tasks.count c.split_all.ensures.passes c.requires.equipped
+    all_ready (g.C.Cells.is_pass c.args.cells.now) g.C.Cells.notes g.R.Runner.begins (g.C.Cells.notes c.args.root.now) c.args.plan.now c.args.job.now c.args.tables.now c.args.phase c.args.slots.now c.split_all.new.slots
+    c.places_len.ensures.plan c.split_all.ensures.job c.requires.codes c.requires.plan c.requires.last c.requires.tasks.count c.split_all.ensures.passes c.requires.equipped
 
 pub run_those-requires-clause-others : goal.run_those-requires-clause-others
 run_those-requires-clause-others g c κs within =

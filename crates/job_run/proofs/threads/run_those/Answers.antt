@@ -12,7 +12,7 @@ run_slots-requires-clause-number g c κs within =
 
 pub run_slots-requires-clause-ready : goal.run_slots-requires-clause-ready
 run_slots-requires-clause-ready g c κs within =
-    all_in_part (λ (s : Slot _ _). CanRun (g.C.Cells.is_pass c.args.cells.now) g.C.Cells.notes g.R.Runner.begins c.args.plan.now c.args.tables.now.places s) c.args.slots.now
+    all_in_part (λ (s : Slot _ _). CanRun (g.C.Cells.is_pass c.args.cells.now) g.C.Cells.notes g.R.Runner.begins c.args.plan.now c.args.tables.now s) c.args.slots.now
     c.range_of-range.result.start c.range_of-range.result.end c.range_of-range.ensures.order (omega (arith, c.range_of-range.ensures.exists, c.requires.count)) c.requires.ready
 
 pub returns-clause-runs : goal.returns-clause-runs

@@ -1,0 +1,85 @@
+//! The instruction that the tables keep for a place, beside the one that is fetched there.
+ghost use Rattle.std.specs.Prelude.{◌≤◌};
+ghost use Rattle.brk_table.specs.Kept.{AreCodes};
+
+use super::cases::CASES;
+use super::jobs::JOBS;
+use super::notation::{Case, job_of};
+use super::programs::PROGRAMS;
+use crate::ready::make_ready;
+use crate::trial::faultless_tables;
+use brk_table::Tables;
+use cov_base::PlaceNo;
+use cov_outside::MemSource;
+use job_gen::trial;
+use s370_decode::Code;
+use s370_exec::fetch_rest;
+use session_book::{Job, begin};
+use std::alloc::Global;
+use std::test::Fail;
+
+fn is_same(a: &Code, b: &Code) -> bool {
+    a.at == b.at && a.bytes == b.bytes && a.len == b.len
+}
+
+/// Whether the two are the same at each place, as each task of the job sees it; and which of the lengths 2, 4 and 6
+/// were seen.
+#[tactic(auto, using(brk_table::proofs::CodeLemmas::are_in))]
+fn compare(alloc: Global, job: &Job, tables: &Tables, seen: &mut [bool; 3]) -> Result<bool, Fail>
+    requires { AreCodes job.now.images tables.now }
+{
+    for t in 0..job.task_count() {
+        let begun = begin(alloc, job, tables, t)?;
+        for n in 0..tables.len() {
+            let place = tables.place(PlaceNo(n));
+            match fetch_rest(&begun.space, place.at, place.original) {
+                Ok(code) => if !is_same(&code, tables.code(PlaceNo(n))) {
+                    return Ok(false);
+                },
+                Err(_) => return Ok(false),
+            }
+            match place.len {
+                2 => seen[0] = true,
+                4 => seen[1] = true,
+                _ => seen[2] = true,
+            }
+        }
+    }
+    Ok(true)
+}
+
+/// So for the case's job, where it is one.
+fn compare_case(alloc: Global, case: &Case, seen: &mut [bool; 3]) -> Result<bool, Fail> {
+    let mut source = MemSource::new(job_of(alloc, case)?, 64, Vec::new(alloc));
+    match make_ready(alloc, &mut source, true) {
+        Ok(ready) => compare(alloc, &ready.job, &ready.tables, seen),
+        Err(_) => Ok(true),
+    }
+}
+
+/// So for the generated job of the number.
+fn compare_trial(alloc: Global, number: u32, seen: &mut [bool; 3]) -> Result<bool, Fail> {
+    let job = trial(alloc, number, 1)?;
+    let tables = faultless_tables(alloc, &job)?;
+    compare(alloc, &job, &tables, seen)
+}
+
+#[test]
+fn each_place_keeps_what_is_fetched(rt: HostRuntime) -> Result<(), Fail> {
+    let alloc = rt.alloc();
+    let mut seen = [false; 3];
+    for case in &CASES {
+        assert!(rt; compare_case(alloc, case, &mut seen)?, "{}", case.name);
+    }
+    for case in &JOBS {
+        assert!(rt; compare_case(alloc, case, &mut seen)?, "{}", case.name);
+    }
+    for case in &PROGRAMS {
+        assert!(rt; compare_case(alloc, case, &mut seen)?, "{}", case.name);
+    }
+    for number in 0..3 {
+        assert!(rt; compare_trial(alloc, number, &mut seen)?, "{number}");
+    }
+    assert_eq!(rt; seen, [true; 3]);
+    Ok(())
+}
