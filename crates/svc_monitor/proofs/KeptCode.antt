@@ -1,5 +1,5 @@
 -- The instruction that the tables have for a place is the one that is fetched there.
-use Rattle.std.proofs.Common.{◌≡◌, ℕ, ◌<◌, None, Some, IsSome, List, length, get_or, refl, sym, ap, ◌∙◌}
+use Rattle.std.proofs.Common.{◌≡◌, ℕ, None, List, get_or, refl, sym, ap, ◌∙◌}
 use Rattle.cov_base.specs.Codes.{length_of}
 use Rattle.cov_base.specs.Memory.{Memory, half_at}
 use Rattle.module_area.specs.PlanView.{no_place, place_of}

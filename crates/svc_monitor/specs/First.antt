@@ -10,7 +10,6 @@ use Rattle.module_area.specs.Executions.{is_place}
 use Rattle.brk_table.specs.Kept.{AreKept}
 use Rattle.brk_table.specs.Places.{TablesView, AreSeen}
 use Rattle.s370_decode.specs.declared.code.Code.{Code}
-use Rattle.s370_state.specs.declared.endings.Ending.{Ending}
 use Rattle.s370_exec.specs.Fetch.{rest_tests, code_at}
 use Rattle.svc_monitor.specs.declared.first.Met.{Met}
 use Rattle.svc_monitor.specs.declared.instruction.Behind.{Behind}

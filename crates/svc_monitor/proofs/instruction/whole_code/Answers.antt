@@ -1,4 +1,4 @@
-use Rattle.std.proofs.Common.{◌≡◌, subst}
+use Rattle.std.proofs.Common.{subst}
 use Rattle.svc_monitor.specs.First.{BeginsAt, IsPlaced, half_of}
 use Rattle.svc_monitor.proofs.KeptCode.{at_kept}
 use Rattle.svc_monitor.proofs.instruction.whole_code.Goals as goal
