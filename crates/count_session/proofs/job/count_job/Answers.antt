@@ -6,8 +6,8 @@ use Rattle.count_session.specs.declared.slots.Slot.{Slot}
 use Rattle.count_session.proofs.JobLemmas.{counted_job}
 use Rattle.count_session.proofs.job.count_job.Goals as goal
 
-pub make_slots-slots-requires : goal.make_slots-slots-requires
-make_slots-slots-requires g c = are_in c.args.job.now.images c.args.tables.now c.requires.tables
+pub make_slots-requires : goal.make_slots-requires
+make_slots-requires g c = are_in c.args.job.now.images c.args.tables.now c.requires.tables
 
 pub returns : goal.returns
 returns g c =

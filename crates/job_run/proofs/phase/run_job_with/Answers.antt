@@ -8,8 +8,8 @@ use Rattle.job_run.proofs.SessionLemmas.{all_sized, are_extras, has_some, left_o
 use Rattle.job_run.proofs.TaskLemmas.{AreRun-start}
 use Rattle.job_run.proofs.phase.run_job_with.Goals as goal
 
-pub make_slots-slots-requires : goal.make_slots-slots-requires
-make_slots-slots-requires g c = are_in c.args.job.now.images c.args.tables.now c.requires.tables
+pub make_slots-requires : goal.make_slots-requires
+make_slots-requires g c = are_in c.args.job.now.images c.args.tables.now c.requires.tables
 
 pub run_phases-requires-clause-tasks : goal.run_phases-requires-clause-tasks
 run_phases-requires-clause-tasks g c κs within =
