@@ -118,6 +118,20 @@ def well(ran: Ran) -> Ran:
     return ran
 
 
+def coverage(*words: str, data: bytes = b"", redirect: str = "", cwd: str = TOP) -> Ran:
+    """Runs the script `coverage`."""
+    return run([COVERAGE, *words], data, cwd, redirect)
+
+
+def refused(ran: Ran, status: int, *texts: str) -> None:
+    """Fails unless a command wrote nothing and said these texts with this status."""
+    assert ran.status == status, f"status {ran.status}, and not {status}: {ran.error[:300]}"
+    equal(ran.output, b"")
+    for text in texts:
+        assert text in ran.error, f"{ran.error[:300]!r} has not {text!r}"
+    assert "Traceback" not in ran.error, ran.error
+
+
 def folder() -> tempfile.TemporaryDirectory[str]:
     """A folder that is removed in the end."""
     return tempfile.TemporaryDirectory(prefix="coverage-test-")

@@ -8,6 +8,7 @@ WIDE_HEADING = "  Loc    Object Code      Address1 Address2  Stmt   Source State
 FACTS = {"^": 0, ":": 1, ">": 1, "V": 1, "&": 2}
 CONDITIONAL = ("BCT", "BE")
 TASK = "TASK A 100000 16 100 0\n"
+USAGE = b"USAGE: run | marks NAME | trial NUMBER TASKS | table | replay | combine | show NAME | early | count | exits | prove NAME | verify NAME\n"
 
 
 @dataclass
@@ -35,6 +36,11 @@ class Result:
             *output,
             *(f"STOR {it}" for it in self.rows),
         ]
+
+
+def task(cards: str = "", head: str = TASK) -> str:
+    """A task's card with its REG and DATA cards, which are given in one line, parted by ' / '."""
+    return head + "".join(f"{it}\n" for it in cards.split(" / ") if it)
 
 
 def code_of(text: str) -> list[tuple[int, str, str]]:

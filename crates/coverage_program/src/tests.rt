@@ -7,23 +7,29 @@ mod counts;
 mod drains;
 mod early;
 mod evidence;
+mod evidence_faults;
 mod exits;
 mod extras;
 mod faults;
 mod gates;
 mod held;
+mod interruptions;
 mod jobs;
 mod kept;
+mod listings;
 mod marked;
 mod marks;
+mod marks_faults;
 mod modules;
 mod notation;
 mod noted;
 mod one_thread;
 mod opened;
+mod operands;
 mod order;
 mod places;
 mod programs;
+mod samples;
 mod schedules;
 mod trials;
 
@@ -34,8 +40,10 @@ use crate::status::Status;
 use cases::CASES;
 use cov_outside::{MemSink, MemSource, OpenGate, SureSink, SureSource};
 use jobs::JOBS;
+use listings::LISTINGS;
 use module_area::{Areas, Tally};
 use notation::{Case, job_of, text_of};
+use operands::OPERANDS;
 use programs::PROGRAMS;
 use shared_area::SharedAreas;
 use std::alloc::Global;
@@ -213,14 +221,24 @@ fn check_pieces<T: Abort + Threads + Wait + Sync>(
     Ok(came)
 }
 
-#[test]
-fn answers_each_job(rt: HostRuntime) -> Result<(), Fail> {
-    for case in &CASES {
-        let came = check(&rt, rt.alloc(), case)?;
+/// Checks jobs that make an area exactly where their status is 0.
+fn check_areas<T: Abort + Threads + Wait + Sync>(
+    rt: &T,
+    alloc: Global,
+    cases: &[Case],
+) -> Result<(), Fail> {
+    for case in cases {
+        let came = check(rt, alloc, case)?;
         let name = case.name;
         assert_eq!(rt; came.made, u64::from(case.status == 0), "{name}");
     }
     Ok(())
+}
+
+#[test]
+fn answers_each_job(rt: HostRuntime) -> Result<(), Fail> {
+    check_areas(&rt, rt.alloc(), &CASES)?;
+    check_areas(&rt, rt.alloc(), &LISTINGS)
 }
 
 #[test]
@@ -229,17 +247,16 @@ fn answers_each_job_byte_by_byte(rt: HostRuntime) -> Result<(), Fail> {
     for case in &CASES {
         check_pieces(&rt, rt.alloc(), case, 1)?;
     }
+    for case in &LISTINGS {
+        check_pieces(&rt, rt.alloc(), case, 1)?;
+    }
     Ok(())
 }
 
 #[test]
 fn runs_each_program(rt: HostRuntime) -> Result<(), Fail> {
-    for case in &PROGRAMS {
-        let came = check(&rt, rt.alloc(), case)?;
-        let name = case.name;
-        assert_eq!(rt; came.made, 1, "{name}");
-    }
-    Ok(())
+    check_areas(&rt, rt.alloc(), &PROGRAMS)?;
+    check_areas(&rt, rt.alloc(), &OPERANDS)
 }
 
 #[test]

@@ -17,7 +17,8 @@ use Rattle.module_area.specs.declared.parties.Role.{Role}
 use Rattle.module_area.specs.declared.parties.Role.TheVariants.{Spent}
 use Rattle.module_area.specs.declared.parties.View.{View}
 use Rattle.module_area.proofs.Indices.{and_both}
-use Rattle.module_area.proofs.StepLemmas.{or_left, or_right, plants, closes as closes_step, spent_not_root, spent_not_task}
+use Rattle.module_area.proofs.CellLemmas.{plants, closes as closes_step}
+use Rattle.module_area.proofs.StepLemmas.{or_left, or_right, spent_not_root, spent_not_task}
 use Rattle.interleave_core.specs.World.{World, TaskPart, part_of, plan_in}
 use Rattle.interleave_core.specs.Control.{PlaceChange, change_of, next_place}
 use Rattle.interleave_core.specs.Steps.{closed_of, change_due, Stepped, may_plant, breakpoint_of, with_cell, same_due, subject_place, step_of, set_of}

@@ -28,7 +28,8 @@ use Rattle.module_area.proofs.ForkLemmas.{splits}
 use Rattle.module_area.proofs.Indices.{index_below, same_index}
 use Rattle.module_area.proofs.PlanLemmas.{over_small}
 use Rattle.module_area.proofs.PartyLemmas.{here-add_if}
-use Rattle.module_area.proofs.StepLemmas.{breakpoint_form, fetches, marks, lifts, spent_not_task}
+use Rattle.module_area.proofs.CellLemmas.{lifts}
+use Rattle.module_area.proofs.StepLemmas.{breakpoint_form, fetches, marks, spent_not_task}
 use Rattle.session_book.specs.Sessions.{no_task}
 use Rattle.interleave_core.specs.World.{World, IsWorld, TaskPart, Parts, part_of, plan_in, place_at, first_parts, first_part, no_part}
 use Rattle.interleave_core.specs.Steps.{task_goes_on, Stepped, parts_step, fetch_step, fetched, mark_step, marked, lift_step, lifted, do_step, done_by, with_cell, with_due, with_stage, original_under, same_cell, same_due, in_hand, hand_at, subject_place, step_of, place_due, is_awaiting, is_spent, executed, stage_after, awaits_or, unless_at, instruction_executed, task_done, set_of, fact_in}

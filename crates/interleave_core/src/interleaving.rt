@@ -1,10 +1,9 @@
 //! The core.
-ghost use Rattle.std.specs.Prelude.{◌≡◌, ℕ, ◌+◌, ◌*◌, ◌<◌, ◌≤◌, nat_lt, true, false, [], length, map, replicate, All, IfOk, OnErr, IfSome, is_some, IsTrue, IsNone, IsSome, ◌↔◌};
+ghost use Rattle.std.specs.Prelude.{◌≡◌, ℕ, ◌+◌, ◌*◌, ◌<◌, ◌≤◌, nat_lt, true, false, [], length, All, IfOk, OnErr, IfSome, is_some, IsTrue, IsNone, IsSome, ◌↔◌};
 ghost use Rattle.std.specs.declared.option.Option.TheVariants.{Some, None};
-ghost use Rattle.module_area.specs.CellWords.{word_at, fresh_word};
+ghost use Rattle.module_area.specs.CellWords.{word_at};
 ghost use Rattle.module_area.specs.Notes.{is_closed};
 ghost use Rattle.brk_table.specs.Places.{IsIn};
-ghost use Rattle.cov_base.specs.Facts.{no_facts};
 ghost use Rattle.cov_base.specs.declared.limits.TheConstants.{SESSION_LIMIT};
 ghost use Rattle.interleave_core.specs.World.{IsWorld, first_parts, plan_in};
 ghost use Rattle.interleave_core.specs.Control.{controller_of};
@@ -14,19 +13,20 @@ ghost use Rattle.interleave_core.specs.declared.events.Event.{Event};
 ghost use Rattle.interleave_core.specs.Going.{HasGone, go, left};
 ghost use Rattle.interleave_core.specs.Results.{next_of, IsDue, results_of, Fits};
 ghost use Rattle.interleave_core.specs.Quiet.{any_unmarked, is_quiet, StayQuiet, DrainedStay, QuietAsDrained};
-ghost use Rattle.interleave_core.specs.Views.{AreReady, AreSteady, IsPlaced};
+ghost use Rattle.interleave_core.specs.Views.{AreSteady, IsPlaced};
 
 use crate::control::{controller_of, is_closed};
 use crate::events::{Event, NotPossible, Shown};
+use crate::fresh::{fresh_cells, fresh_sets, make_tasks};
 use crate::hands::{breakpoint_of, due_after_fetch, due_after_mark, exchange, shown_of, with_due};
 use crate::running::{Running, any_unmarked};
 use crate::stage::{Due, Hand};
 use brk_table::Tables;
 use cov_base::{Bits, NoMemory, PlaceNo, SessNo, TaskNo};
-use module_area::{Cell, Place, Plan};
+use module_area::{Cell, Plan};
 use s370_state::{Cpu, Ending};
 use session_book::{FactSets, Job, Results, plan_of};
-use std::alloc::{AllocError, Global};
+use std::alloc::Global;
 use std::marker::Model;
 
 /// The phase of a job that has one: a cell for each place, a set for each session and place, and for each task its
@@ -388,41 +388,6 @@ impl<'a> Core<'a> {
         let at = (s.0 as usize - 1) * self.cells.len() + p.0 as usize;
         self.sets[at]
     }
-}
-
-/// The job's tasks, in job order.
-fn make_tasks<'a>(
-    alloc: Global,
-    job: &'a Job,
-    tables: &'a Tables,
-) -> Result<Vec<Running<'a>>, NoMemory>
-    requires { All (IsIn job.now.images) tables.now.places }
-    ensures { IfOk result (λ v. AreReady (record { job = job.now; places = tables.now.places }) (length job.now.tasks) v.items) }
-{
-    let count = job.task_count();
-    let mut tasks = Vec::with_capacity(alloc, count)?;
-    for t in 0..count {
-        tasks.push(Running::new(alloc, job, tables, t)?)?;
-    }
-    Ok(tasks)
-}
-
-fn fresh_cells(alloc: Global, places: &[Place]) -> Result<Vec<Cell>, AllocError>
-    ensures { IfOk result (λ v. v.items ≡ map fresh_word places.now) }
-{
-    places
-        .iter()
-        .map(|p| Cell {
-            tag: 0,
-            half: p.original,
-        })
-        .collect(alloc)
-}
-
-fn fresh_sets(alloc: Global, count: usize) -> Result<Vec<Bits>, AllocError>
-    ensures { IfOk result (λ v. v.items ≡ replicate count no_facts) }
-{
-    vec![in alloc; Bits::empty(); count]
 }
 
 /// The core of a job of exactly one phase before any event: nothing is planted, no set has a fact, and each task is as

@@ -3,6 +3,7 @@
 
 mod control;
 mod events;
+mod fresh;
 mod hands;
 mod interleaving;
 mod running;

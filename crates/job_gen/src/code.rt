@@ -1,6 +1,6 @@
 //! The code of a generated module, drawn block by block.
-ghost use Rattle.std.specs.Prelude.{◌≡◌, ◌+◌, ◌*◌, ◌≤◌, ◌<◌, ◌++◌, length, IfOk};
-ghost use Rattle.job_gen.specs.Code.{next, drawn, block, after_block, bytes_of, code_from};
+ghost use Rattle.std.specs.Prelude.{◌≡◌, ◌+◌, ◌*◌, ◌≤◌, ◌<◌, ◌++◌, ◌∷◌, [], length, IfOk};
+ghost use Rattle.job_gen.specs.Code.{next, drawn, ltr, bc, lcr, block, after_block, bytes_of, code_from};
 
 use crate::instruction::{Instruction, Operation};
 use cov_base::NoMemory;
@@ -24,6 +24,30 @@ impl Draws {
         self.state = (product % 4_294_967_296) as u32;
         (self.state / 65_536) as u16 % n
     }
+}
+
+/// Puts LTR, BC under the mask to the location behind, and LCR behind the code.
+fn put_test(code: &mut Vec<Instruction>, mask: u16, behind: u16) -> Result<(), NoMemory>
+    requires mask { mask ≤ 15 }
+    requires behind { behind ≤ 4008 }
+    ensures { IfOk result (λ _. code.new.items ≡ code.old.items ++ ltr ∷ bc mask behind ∷ lcr ∷ []) }
+{
+    code.push(Instruction {
+        operation: Operation::Ltr,
+        first: 0x1222,
+        second: None,
+    })?;
+    code.push(Instruction {
+        operation: Operation::Bc,
+        first: 0x4700 + 16 * mask,
+        second: Some(0xF000 + behind),
+    })?;
+    code.push(Instruction {
+        operation: Operation::Lcr,
+        first: 0x1322,
+        second: None,
+    })?;
+    Ok(())
 }
 
 /// Puts the next block, which begins at this location, behind the code: the location behind it.
@@ -53,23 +77,8 @@ fn put_block(code: &mut Vec<Instruction>, draws: &mut Draws, at: u16) -> Result<
         }
         2 => {
             let mask = 1 + draws.draw(14);
-            let behind = at + 8;
-            code.push(Instruction {
-                operation: Operation::Ltr,
-                first: 0x1222,
-                second: None,
-            })?;
-            code.push(Instruction {
-                operation: Operation::Bc,
-                first: 0x4700 + 16 * mask,
-                second: Some(0xF000 + behind),
-            })?;
-            code.push(Instruction {
-                operation: Operation::Lcr,
-                first: 0x1322,
-                second: None,
-            })?;
-            Ok(behind)
+            put_test(code, mask, at + 8)?;
+            Ok(at + 8)
         }
         _ => {
             let word = draws.draw(64);

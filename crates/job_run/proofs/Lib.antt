@@ -1,8 +1,10 @@
 pub mod AreaLemmas
 pub mod BoundLemmas
+pub mod EquipLemmas
 pub mod JoinLemmas
 pub mod PhaseLemmas
 pub mod RangeLemmas
 pub mod SessionLemmas
 pub mod SlotLemmas
+pub mod TakenLemmas
 pub mod TaskLemmas

@@ -2,6 +2,7 @@
 mod controlled;
 mod items;
 mod jobs;
+mod limits;
 mod pieces;
 
 use crate::{JobFault, ReadJob, read_job};

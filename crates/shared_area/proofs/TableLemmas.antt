@@ -16,7 +16,8 @@ use Rattle.module_area.specs.declared.parties.Role.TheVariants.{Spent}
 use Rattle.module_area.specs.PlanView.{PlanView, original_at, kind_at, is_over, is_controlled}
 use Rattle.module_area.specs.Parties.{Has, last_tag, window_tag, fetching, marking, lifting, planting, closing}
 use Rattle.module_area.specs.Held.{planted, lifted, Keeps}
-use Rattle.module_area.proofs.StepLemmas.{fetches, marks, lifts, plants, closes}
+use Rattle.module_area.proofs.CellLemmas.{lifts, plants, closes}
+use Rattle.module_area.proofs.StepLemmas.{fetches, marks}
 use Rattle.shared_area.specs.declared.rule.NoSlot.{NoSlot}
 use Rattle.shared_area.specs.Words.{cell_of, word_of, closed_word_of, bit_of, facts_of, set_word, base_of, cells_in, sets_in}
 use Rattle.shared_area.specs.Rule.{IsFront, Fetched, MayMark, Marked, Looked, Lifted, Tagged}

@@ -2,11 +2,14 @@
 //! change their own code.
 
 use super::called::THROUGH;
-use super::evidence::{fields, proved, refuted, unproved};
-use super::marked::{PHASES, Row, bad_files, bad_jobs, bad_shown, good};
+use super::evidence::{proved, unproved};
+use super::evidence_faults::{fields, refuted};
+use super::marked::{Row, good};
+use super::marks_faults::{bad_files, bad_jobs, bad_shown};
 use super::notation::Part::{Code, Marked, Text};
 use super::notation::{Case, bytes_of};
 use super::places::{USAGE, words_of};
+use super::samples::PHASES;
 use super::{FIRST_JOB, FIRST_TEXT, check};
 use crate::cover::cover;
 use crate::status::Status;

@@ -1,11 +1,10 @@
 //! The commands `marks`, `combine`, `show`, `prove` and `verify`: what they write, and the first cause of what they refuse.
 
-use super::evidence::{fields, proved, refuted, unproved};
+use super::evidence::{proved, unproved};
+use super::evidence_faults::{fields, refuted};
 use super::faults::serve_faulty;
-use super::marked::{
-    RUNS, Row, SHOWN_UNION, UNION, UNION_AGAIN, bad_files, bad_jobs, bad_shown, good, no_commands,
-    old,
-};
+use super::marked::{RUNS, Row, SHOWN_UNION, UNION, UNION_AGAIN, good, no_commands, old};
+use super::marks_faults::{bad_files, bad_jobs, bad_shown};
 use super::notation::bytes_of;
 use super::places::{USAGE, serve};
 use crate::status::Status;

@@ -1,4 +1,4 @@
-use Rattle.std.proofs.Common.{◌≡◌, refl, sym, ◌∙◌, arith, append_assoc}
+use Rattle.std.proofs.Common.{◌≡◌, refl, sym, ◌∙◌, arith}
 use Rattle.job_gen.proofs.CodeLemmas.{block_la, block_ar, block_test, block_st, after_one, after_two}
 use Rattle.job_gen.proofs.code.put_block.Goals as goal
 
@@ -30,18 +30,18 @@ pub returns-in_ok-push-in-1-clause-state : goal.returns-in_ok-push-in-1-clause-s
 returns-in_ok-push-in-1-clause-state c =
     sym (after_one _ _ c.draw.ensures.state (sym c.in-1.is ∙ c.draw.ensures.value))
 
-pub returns-in_ok-push-in-2-3-clause-code : goal.returns-in_ok-push-in-2-3-clause-code
-returns-in_ok-push-in-2-3-clause-code c =
+pub returns-in_ok-put_test-in-2-clause-code : goal.returns-in_ok-put_test-in-2-clause-code
+returns-in_ok-put_test-in-2-clause-code c =
     let b = block_test c.args.draws.now.state c.args.at _ _ _ c.draw.ensures.state c.draw-mask.ensures.state (sym c.in-2.is ∙ c.draw.ensures.value) c.draw-mask.ensures.value in
-    rw (b, c.in_ok-push-in-2-3.ensures.items, c.in_ok-push-in-2-2.ensures.items, c.in_ok-push-in-2.ensures.items) (simp append_assoc)
+    rw b c.in_ok-put_test-in-2.ensures
 
-pub returns-in_ok-push-in-2-3-clause-at : goal.returns-in_ok-push-in-2-3-clause-at
-returns-in_ok-push-in-2-3-clause-at c =
+pub returns-in_ok-put_test-in-2-clause-at : goal.returns-in_ok-put_test-in-2-clause-at
+returns-in_ok-put_test-in-2-clause-at c =
     let b = block_test c.args.draws.now.state c.args.at _ _ _ c.draw.ensures.state c.draw-mask.ensures.state (sym c.in-2.is ∙ c.draw.ensures.value) c.draw-mask.ensures.value in
     rw b refl
 
-pub returns-in_ok-push-in-2-3-clause-state : goal.returns-in_ok-push-in-2-3-clause-state
-returns-in_ok-push-in-2-3-clause-state c =
+pub returns-in_ok-put_test-in-2-clause-state : goal.returns-in_ok-put_test-in-2-clause-state
+returns-in_ok-put_test-in-2-clause-state c =
     sym (after_two _ _ _ 2 c.draw.ensures.state c.draw-mask.ensures.state (sym c.in-2.is ∙ c.draw.ensures.value) refl)
 
 pub returns-in_ok-push-in_default-clause-code : goal.returns-in_ok-push-in_default-clause-code

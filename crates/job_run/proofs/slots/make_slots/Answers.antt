@@ -3,7 +3,7 @@ use Rattle.std.proofs.lemmas.List.{length-append}
 use Rattle.job_run.specs.Slots.{AreEmpty}
 use Rattle.job_run.specs.Tasks.{HasNotRun}
 use Rattle.job_run.specs.declared.slots.Slot.{Slot}
-use Rattle.job_run.proofs.SlotLemmas.{begun_more, empty_more}
+use Rattle.job_run.proofs.EquipLemmas.{begun_more, empty_more}
 use Rattle.job_run.proofs.slots.make_slots.Goals as goal
 
 pub returns-clause-tasks : goal.returns-clause-tasks

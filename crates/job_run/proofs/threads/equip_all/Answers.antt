@@ -3,7 +3,8 @@ use Rattle.module_area.specs.Control.{first_control}
 use Rattle.module_area.specs.PlanView.{PlanView}
 use Rattle.session_book.specs.Sessions.{task_of}
 use Rattle.job_run.specs.Slots.{AreEquipped, HasStart}
-use Rattle.job_run.proofs.SlotLemmas.{AreEquipped-start, AreEquipped-one, AreEquipped-other, AreRun-equipped, begun_in, empty_set, plan_here}
+use Rattle.job_run.proofs.EquipLemmas.{AreEquipped-start, AreEquipped-one, AreEquipped-other, AreRun-equipped, begun_in, empty_set}
+use Rattle.job_run.proofs.SlotLemmas.{plan_here}
 use Rattle.job_run.proofs.TaskLemmas.{KeepsOthers-none, KeepsOthers-set}
 use Rattle.job_run.proofs.threads.equip_all.Goals as goal
 use Rattle.job_run.proofs.threads.equip_all.Goals.{then-is_of+in_ok-control+in_ok-extra, else-is_of}

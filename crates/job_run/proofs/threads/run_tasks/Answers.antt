@@ -7,7 +7,8 @@ use Rattle.job_run.specs.Slots.{AreOver, HasSeen, in_phase}
 use Rattle.job_run.specs.Tasks.{AreRun}
 use Rattle.job_run.specs.declared.slots.Slot.{Slot}
 use Rattle.job_run.proofs.PhaseLemmas.{HasObserved, HasObserved-start, HasObserved-one, HasObserved-other, HasObserved-all, HasJoined-all}
-use Rattle.job_run.proofs.SlotLemmas.{all_ready, none_other, AreOver-start, AreOver-next, AreOver-all, AreRun-after, pass_of, not_of, set_done, AreTaken, AreTaken-start, AreTaken-next, KnowsAll, KnowsAll-start, KnowsAll-one, KnowsAll-other, have_extras, keeps_others, left_out, left_start, left_here, left_next, left_other, none_left}
+use Rattle.job_run.proofs.SlotLemmas.{all_ready, none_other, AreOver-start, AreRun-after}
+use Rattle.job_run.proofs.TakenLemmas.{AreOver-next, AreOver-all, pass_of, not_of, set_done, AreTaken, AreTaken-start, AreTaken-next, KnowsAll, KnowsAll-start, KnowsAll-one, KnowsAll-other, have_extras, keeps_others, left_out, left_start, left_here, left_next, left_other, none_left}
 use Rattle.job_run.proofs.TaskLemmas.{AreRun-same, no_slot}
 use Rattle.job_run.proofs.threads.run_tasks.Given as given
 use Rattle.job_run.proofs.threads.run_tasks.Goals as goal

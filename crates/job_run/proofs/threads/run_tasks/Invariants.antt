@@ -2,7 +2,7 @@ use Rattle.std.proofs.Common.{◌≡◌, ℕ, ◌+◌, None}
 use Rattle.job_run.specs.Slots.{AreOver}
 use Rattle.job_run.specs.Tasks.{AreRun}
 use Rattle.job_run.proofs.PhaseLemmas.{HasObserved}
-use Rattle.job_run.proofs.SlotLemmas.{left_out, AreTaken, KnowsAll}
+use Rattle.job_run.proofs.TakenLemmas.{left_out, AreTaken, KnowsAll}
 use Rattle.job_run.proofs.threads.run_tasks.Given as goal
 
 abbrev pub invariant-loop-t : goal.invariant-loop-t

@@ -1,6 +1,6 @@
 use Rattle.std.proofs.Common.{◌≡◌, length}
 use Rattle.interleave_core.specs.Views.{AreReady}
-use Rattle.interleave_core.proofs.interleaving.make_tasks.Given as goal
+use Rattle.interleave_core.proofs.fresh.make_tasks.Given as goal
 
 abbrev pub invariant-loop-t : goal.invariant-loop-t
 invariant-loop-t l = record {

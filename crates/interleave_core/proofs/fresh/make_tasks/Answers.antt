@@ -1,7 +1,7 @@
 use Rattle.std.proofs.Common.{rules, ◌≡◌, ◌++◌, [], ◌∷◌}
 use Rattle.interleave_core.specs.World.{World}
 use Rattle.interleave_core.proofs.Starts.{AreReady-push}
-use Rattle.interleave_core.proofs.interleaving.make_tasks.Goals as goal
+use Rattle.interleave_core.proofs.fresh.make_tasks.Goals as goal
 
 pub loop-t-preserved : goal.loop-t-preserved
 loop-t-preserved c =

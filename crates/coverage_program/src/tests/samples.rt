@@ -1,0 +1,232 @@
+//! Jobs and marks files that rows are made of, and what `show` writes of them.
+
+use super::notation::Part;
+use super::notation::Part::{Bytes, Marked, Text};
+
+/// A count down from register 1, and a return.
+pub const COUNT: &str = "000000 4610 F000 BCT, 000004 07FE BR";
+
+/// The same, of a listing that has another address in its first instruction.
+pub const MISMATCH: &str = "4610F00007FE: 000000 4610 F004 BCT, 000004 07FE BR";
+
+/// A count that ends at once.
+pub const ENDS: Part = Text("TASK A 100000 16 100 0\nREG 1 00000001\nENDJOB\n");
+
+/// A count that goes on, until its budget is spent.
+pub const GOES_ON: Part = Text("TASK A 100000 16 1 0\nREG 1 00000002\nENDJOB\n");
+
+/// Three modules, of which N has no listing, and a session whose card has them in another order.
+pub const THREE: Part = Text(
+    "\
+COVERJOB 1\n\
+MODULE M 100000 6\n\
+TEXT 4610F00007FE\n\
+LISTING 3\n\
+\x20 Loc  Object Code    Addr1 Addr2  Stmt   Source Statement\n\
+000000 4610 F000                      1          BCT\n\
+000004 07FE                           2          BR\n\
+MODULE N 100008 2\n\
+TEXT 07FE\n\
+MODULE O 100010 6\n\
+TEXT 4110000507FE\n\
+LISTING 3\n\
+\x20 Loc  Object Code    Addr1 Addr2  Stmt   Source Statement\n\
+000000 4110 0005                      1          LA\n\
+000004 07FE                           2          BR\n\
+PHASE P\n\
+SESSION S O N M\n\
+TASK A 100000 16 100 0\n\
+REG 1 00000002\n\
+TASK B 100010 16 1 0\n\
+ENDJOB\n",
+);
+
+/// Module M and module N, which has no listing, and a session of both.
+pub const TWO: Part = Text(
+    "\
+COVERJOB 1\n\
+MODULE M 100000 6\n\
+TEXT 4610F00007FE\n\
+LISTING 3\n\
+\x20 Loc  Object Code    Addr1 Addr2  Stmt   Source Statement\n\
+000000 4610 F000                      1          BCT\n\
+000004 07FE                           2          BR\n\
+MODULE N 100008 2\n\
+TEXT 07FE\n\
+PHASE P\n\
+SESSION S M N\n\
+ENDJOB\n",
+);
+
+/// Two phases over one module, with a session each.
+pub const PHASES: Part = Text(
+    "\
+TASK A 100000 16 100 0\n\
+REG 1 00000001\n\
+PHASE Q\n\
+SESSION T M\n\
+TASK B 100000 16 1 0\n\
+REG 1 00000002\n\
+ENDJOB\n",
+);
+
+/// A job with two sessions that its task C controls.
+pub const CONTROLLED: Part = Text(
+    "COVERJOB 1\nMODULE M 100000 8\nTEXT 411000051A1107FE\nLISTING 4\n  Loc  Object Code    Addr1 Addr2  Stmt   Source Statement\n000000 4110 0005                      1          LA\n000004 1A11                           2          AR\n000006 07FE                           3          BR\nPHASE P\nSESSION S1 BY C M\nSESSION S2 BY C M\nTASK A 100000 16 100 0\nTASK C 000000 16 100 0\nDATA 0 0A040A050A040A0507FE\nENDJOB\n",
+);
+
+/// Files of module M. The count fell through, and the return was executed.
+pub const FELL: Part = Bytes(
+    "53333730434F5632 5320202020202020 00000001 0001 4D20202020202020 00100000 00000006 00000002 00000000 04 01 4610 04 00000004 02 00 07FE 01",
+);
+
+/// The count branched.
+pub const WENT: Part = Bytes(
+    "53333730434F5632 5320202020202020 00000001 0001 4D20202020202020 00100000 00000006 00000002 00000000 04 01 4610 02 00000004 02 00 07FE 00",
+);
+
+/// The count branched and fell through, and the return was executed.
+pub const BOTH: Part = Bytes(
+    "53333730434F5632 5320202020202020 00000001 0001 4D20202020202020 00100000 00000006 00000002 00000000 04 01 4610 06 00000004 02 00 07FE 01",
+);
+
+/// Nothing was executed.
+pub const NONE: Part = Bytes(
+    "53333730434F5632 5320202020202020 00000001 0001 4D20202020202020 00100000 00000006 00000002 00000000 04 01 4610 00 00000004 02 00 07FE 00",
+);
+
+/// The file of the count that fell through, without its last byte.
+pub const CUT: Part = Bytes(
+    "53333730434F5632 5320202020202020 00000001 0001 4D20202020202020 00100000 00000006 00000002 00000000 04 01 4610 04 00000004 02 00 07FE",
+);
+
+/// The count is in register 2.
+pub const OTHER: Part = Bytes(
+    "53333730434F5632 5320202020202020 00000001 0001 4D20202020202020 00100000 00000006 00000002 00000000 04 01 4620 04 00000004 02 00 07FE 01",
+);
+
+/// That file without its last byte.
+pub const OTHER_CUT: Part = Bytes(
+    "53333730434F5632 5320202020202020 00000001 0001 4D20202020202020 00100000 00000006 00000002 00000000 04 01 4620 04 00000004 02 00 07FE",
+);
+
+/// Module M at another base.
+pub const MOVED: Part = Bytes(
+    "53333730434F5632 5320202020202020 00000001 0001 4D20202020202020 00100008 00000006 00000002 00000000 04 01 4610 04 00000004 02 00 07FE 01",
+);
+
+/// Modules M and N, where nothing was executed.
+pub const M_AND_N: Part = Bytes(
+    "53333730434F5632 5320202020202020 00000001 0002 4D20202020202020 00100000 00000006 00000002 00000000 04 01 4610 00 00000004 02 00 07FE 00 4E20202020202020 00100008 00000002 00000000",
+);
+
+/// Modules O, N and M, in this order.
+pub const O_N_M: Part = Bytes(
+    "53333730434F5632 5320202020202020 00000001 0003 4F20202020202020 00100010 00000006 00000002 00000000 04 00 4110 01 00000004 02 00 07FE 00 4E20202020202020 00100008 00000002 00000000 4D20202020202020 00100000 00000006 00000002 00000000 04 01 4610 06 00000004 02 00 07FE 01",
+);
+
+/// The count of M is in register 2.
+pub const O_N_OTHER: Part = Bytes(
+    "53333730434F5632 5320202020202020 00000001 0003 4F20202020202020 00100010 00000006 00000002 00000000 04 00 4110 01 00000004 02 00 07FE 00 4E20202020202020 00100008 00000002 00000000 4D20202020202020 00100000 00000006 00000002 00000000 04 01 4620 06 00000004 02 00 07FE 01",
+);
+
+/// The same modules and sets in the order of the job.
+pub const M_N_O: Part = Bytes(
+    "53333730434F5632 5320202020202020 00000001 0003 4D20202020202020 00100000 00000006 00000002 00000000 04 01 4610 06 00000004 02 00 07FE 01 4E20202020202020 00100008 00000002 00000000 4F20202020202020 00100010 00000006 00000002 00000000 04 00 4110 01 00000004 02 00 07FE 00",
+);
+
+/// No module.
+pub const NO_MODULES: Part = Bytes("53333730434F5632 5320202020202020 00000001 0000");
+
+/// A kind that there isn't, and behind it facts that the place can't have.
+pub const TWO_BAD_FIELDS: Part = Bytes(
+    "53333730434F5632 5320202020202020 00000001 0001 4D20202020202020 00100000 00000006 00000002 00000000 04 02 4610 01 00000004 02 00 07FE 01",
+);
+
+/// A set that a conditional place can't have.
+pub const BAD_SET: Part = Bytes(
+    "53333730434F5632 5320202020202020 00000001 0001 4D20202020202020 00100000 00000006 00000002 00000000 04 01 4610 01 00000004 02 00 07FE 01",
+);
+
+/// That the count branched, of session T.
+pub const WENT_OF_T: Part = Bytes(
+    "53333730434F5632 5420202020202020 00000001 0001 4D20202020202020 00100000 00000006 00000002 00000000 04 01 4610 02 00000004 02 00 07FE 00",
+);
+
+/// That it fell through, of two runs.
+pub const FELL_TWICE: Part = Bytes(
+    "53333730434F5632 5320202020202020 00000002 0001 4D20202020202020 00100000 00000006 00000002 00000000 04 01 4610 04 00000004 02 00 07FE 01",
+);
+
+/// That it branched and fell through, of two runs.
+pub const BOTH_TWICE: Part = Bytes(
+    "53333730434F5632 5320202020202020 00000002 0001 4D20202020202020 00100000 00000006 00000002 00000000 04 01 4610 06 00000004 02 00 07FE 01",
+);
+
+/// Of three runs.
+pub const BOTH_THRICE: Part = Bytes(
+    "53333730434F5632 5320202020202020 00000003 0001 4D20202020202020 00100000 00000006 00000002 00000000 04 01 4610 06 00000004 02 00 07FE 01",
+);
+
+/// What two runs have shown, where neither has executed the return.
+pub const RETURN_LEFT: Part = Bytes(
+    "53333730434F5632 5320202020202020 00000002 0001 4D20202020202020 00100000 00000006 00000002 00000000 04 01 4610 06 00000004 02 00 07FE 00",
+);
+
+/// And what four have.
+pub const RETURN_LEFT_BY_FOUR: Part = Bytes(
+    "53333730434F5632 5320202020202020 00000004 0001 4D20202020202020 00100000 00000006 00000002 00000000 04 01 4610 06 00000004 02 00 07FE 00",
+);
+
+/// Modules O, N and M, of three runs.
+pub const O_N_M_THRICE: Part = Bytes(
+    "53333730434F5632 5320202020202020 00000003 0003 4F20202020202020 00100010 00000006 00000002 00000000 04 00 4110 01 00000004 02 00 07FE 00 4E20202020202020 00100008 00000002 00000000 4D20202020202020 00100000 00000006 00000002 00000000 04 01 4610 06 00000004 02 00 07FE 01",
+);
+
+/// That the count fell through, in version 1.
+pub const OLD_FELL: Part = Bytes(
+    "53333730434F5631 0001 4D20202020202020 00100000 00000006 00000002 00000000 04 01 4610 04 00000004 02 00 07FE 01",
+);
+
+/// The same, of no session that is known.
+pub const UNNAMED_FELL: Part = Bytes(
+    "53333730434F5632 2020202020202020 00000001 0001 4D20202020202020 00100000 00000006 00000002 00000000 04 01 4610 04 00000004 02 00 07FE 01",
+);
+
+/// Of two runs.
+pub const UNNAMED_FELL_TWICE: Part = Bytes(
+    "53333730434F5632 2020202020202020 00000002 0001 4D20202020202020 00100000 00000006 00000002 00000000 04 01 4610 04 00000004 02 00 07FE 01",
+);
+
+/// The magic of a version that there isn't.
+pub const LATER_VERSION: Part = Bytes("53333730434F5633");
+
+/// What `show` writes before the session's listings.
+pub const SHOW: Part = Text("COVERAGE SHOW\nSESSION S PHASE P\n");
+
+/// What `show` writes last.
+pub const END: Part = Text("END\n");
+
+/// What it writes of the count that fell through.
+pub const SHOWN_FELL: [Part; 3] = [SHOW, Marked(COUNT, "V: EXECUTED 2 FACTS 2 OF 3"), END];
+
+/// Of the count that branched.
+pub const SHOWN_WENT: [Part; 4] = [
+    SHOW,
+    Marked(COUNT, ">^ EXECUTED 1 FACTS 1 OF 3"),
+    Text("NOT EXECUTED 000004-000005\n"),
+    END,
+];
+
+/// Of the count that did both.
+pub const SHOWN_BOTH: [Part; 3] = [SHOW, Marked(COUNT, "&: EXECUTED 2 FACTS 3 OF 3"), END];
+
+/// That the count is in another register.
+pub const OTHER_COUNT: Part = Text(
+    "OTHER TABLE ROW 1 LEFT 0000000004014610 RIGHT 0000000004014620\n",
+);
+
+/// The same of the third module.
+pub const OTHER_THIRD: Part = Text(
+    "OTHER TABLE ROW 5 LEFT 0000000004014610 RIGHT 0000000004014620\n",
+);

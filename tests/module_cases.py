@@ -1,0 +1,221 @@
+"""The scripts that make a job: module and job."""
+from __future__ import annotations
+
+from decks import END, ebcdic, esd, item, record, rld, txt
+from harness import TOP, Ran, coverage, equal, folder, refused, well
+from jobs import FIRST
+
+SD, LD, ER, WX = 0, 1, 2, 10
+EXAMPLES = f"{TOP}/examples"
+
+
+def module_of(data: bytes, base: str = "100000", listing: bytes | None = None) -> Ran:
+    """What `module` makes of an object and a listing."""
+    with folder() as at:
+        words = ["module", "M", base, "object"]
+        with open(f"{at}/object", "wb") as file:
+            file.write(data)
+        if listing is not None:
+            with open(f"{at}/listing", "wb") as file:
+                file.write(listing)
+            words.append("listing")
+        return coverage(*words, cwd=at)
+
+
+def text_of(ran: Ran) -> str:
+    """The bytes of the TEXT cards, as hexadecimal digits."""
+    return "".join(it[5:] for it in well(ran).output.decode().splitlines() if it.startswith("TEXT "))
+
+
+def listing_text(listing: list[str]) -> bytes:
+    return "".join(f"{it}\n" for it in listing).encode()
+
+
+# module
+
+
+def raw_bytes() -> None:
+    """module: raw bytes and a listing in ASCII, narrow or wide, as the cards of docs/JOB.md"""
+    for program in (FIRST, FIRST.wide()):
+        for before in ("", " "):
+            listing = [before + it for it in program.listing()]
+            ran = well(module_of(FIRST.text(), listing=listing_text(listing)))
+            equal(ran.output, FIRST.job(listing=listing).split(b"\n", 1)[1].split(b"PHASE")[0])
+
+
+def no_listing() -> None:
+    """module: without a listing there is no LISTING card, and 100 bytes have four TEXT cards"""
+    lines = well(module_of(bytes(100))).output.decode().splitlines()
+    equal([lines[0], len(lines), lines[4]], ["MODULE M 100000 100", 5, "TEXT 00000000"])
+
+
+def listings() -> None:
+    """module: the same listing in ASCII with CR, in EBCDIC of both pages, and as records of 121 and 133 bytes"""
+    for program in (FIRST, FIRST.wide()):
+        same_listings(program.listing())
+
+
+def same_listings(lines: list[str]) -> None:
+    wanted = well(module_of(FIRST.text(), listing=listing_text(lines))).output
+    ends = "\r\n", b"\x15", b"\x25", b"\x0d\x25"
+    texts = ["".join(it + ends[0] for it in lines).encode()]
+    texts += [b"".join(ebcdic(it) + end for it in lines) for end in ends[1:]]
+    texts += [b"".join(ebcdic(it.ljust(width)) for it in lines) for width in (121, 133)]
+    for text in texts:
+        equal(well(module_of(FIRST.text(), listing=text)).output, wanted)
+
+
+def brackets() -> None:
+    """module: brackets of code pages 037 and 1047, and what ASCII lacks"""
+    line = ebcdic("* ") + b"\xba\xbb\xad\xbd\x4a"
+    text = b"".join(it + b"\x15" for it in [*map(ebcdic, FIRST.listing()), line])
+    equal(well(module_of(FIRST.text(), listing=text)).output.splitlines()[-1], b"* [][]?")
+
+
+def long_lines() -> None:
+    """module: lines are cut to 150 bytes, and refused where the operation would be cut"""
+    for program, source in ((FIRST, 40), (FIRST.wide(), 50)):
+        heading, first, *rest = program.listing()
+        long = f"{first}  {'remark ' * 30}"
+        lines = well(module_of(FIRST.text(), listing=listing_text([heading, long, *rest]))).output.decode().splitlines()
+        equal(lines[4], long[:150])
+        front, gap = first[:source], " " * 120
+        refused(module_of(FIRST.text(), listing=listing_text([heading, f"{front}{gap}LA 1,5"])), 2, "listing: line 2", "150")
+        # A blank, a comment, and what has no location are no instruction lines; nor is one of the other width.
+        for line in (f"{front}{gap}", f"{front}*{gap}LA", f"_{front[1:]}{gap}LA", f"{front.replace('000000 ', '000000_', 1)}{gap}LA"):
+            ran = well(module_of(FIRST.text(), listing=listing_text([heading, line])))
+            equal(ran.output.splitlines()[4], line.rstrip()[:150].encode())
+
+
+def bad_headings() -> None:
+    """module: a heading of either width a byte off is none"""
+    for program in (FIRST, FIRST.wide()):
+        heading, *rest = program.listing()
+        for off in (heading[1:], f"  {heading}", heading.replace("  Stmt", " Stmt"), heading[:-1], heading.replace("Code ", "Code  ")):
+            refused(module_of(FIRST.text(), listing=listing_text([off, *rest])), 2, "listing", "heading")
+        for good in (heading, f"1{heading}", heading.upper(), heading.lower(), f"{heading}  more"):
+            well(module_of(FIRST.text(), listing=listing_text([good, *rest])))
+
+
+def sections() -> None:
+    """module: sections in their order, each from a doubleword on, with zeros between, and an odd size filled"""
+    deck = esd(1, item("A", SD, 0, 5), item("B", SD, 8, 3)) + txt(2, 8, "AABBCC") + txt(1, 1, "0102") + END
+    equal(text_of(module_of(deck)), "0001020000000000AABBCC00")
+    apart = esd(1, item("A", SD, 0, 5), item("B", SD, 0, 3)) + txt(2, 0, "AABBCC") + txt(1, 1, "0102") + END
+    equal(text_of(module_of(apart)), "0001020000000000AABBCC00")
+
+
+def constants() -> None:
+    """module: address constants of 4 and 3 bytes, added and subtracted, chained, and by name"""
+    # A at 0, B from 10 on. A has B+4 (4 bytes), A+2 (3 bytes, chained with a second), less A (4 bytes), B by name.
+    names = esd(1, item("A", SD, 0, 24), item("B", SD, 0x18, 8), item("B", ER, 0x404040, 0x404040))
+    text = txt(1, 0, "0000001C" "000002" "00" "000003" "00" "00200000" "00000000" "00000001")
+    chained = "00010001" "09" "000004" "08" "000008"
+    items = rld("00020001" "0C" "000000" + chained + "00010001" "0E" "00000C" "00030001" "1C" "000010")
+    wanted = "0020001C" "200002" "00" "200003" "00" "00000000" "00200018" "00000001" + "0" * 16
+    equal(text_of(module_of(names + text + items + END, "200000")), wanted)
+    # A V constant of a section that was assembled from 8 on.
+    own = esd(1, item("A", SD, 0, 8), item("B", SD, 8, 8)) + rld("00020001" "1C" "000000") + END
+    equal(text_of(module_of(own, "200000")), "00200008" + "0" * 24)
+
+
+def labels() -> None:
+    """module: a label of a section that was assembled elsewhere, and a weak reference that nothing defines"""
+    names = esd(1, item("A", SD, 0, 8)) + esd(2, item("B", SD, 0x100, 8)) + esd(None, item("L", LD, 0x104, 2))
+    names += esd(3, item("L", ER, 0, 0), item("NONE", WX, 0, 0))
+    items = rld("00030001" "0C" "000000" "00040001" "0C" "000004")
+    deck = names + txt(1, 0, "0000000100000007") + items + END
+    equal(text_of(module_of(deck)), "0010000D00000007" + "0" * 16)
+
+
+DECK = esd(1, item("A", SD, 0, 8))
+
+
+def bad_decks() -> None:
+    """module: each bad deck is refused by its record"""
+    text = txt(1, 0, "0102030400000000")
+    reference = esd(2, item("OUT", ER, 0, 0))
+    table = [
+        ((DECK + text + END)[:-1], "object", "no multiple of 80"),
+        (DECK + record("XYZ", {}) + END, "record 2", "unknown record"),
+        (DECK + b"\x01" + text[1:] + END, "record 2", "unknown record"),
+        (DECK + txt(1, 4, "0102030405") + END, "record 2", "text past the section"),
+        (DECK + text + txt(1, 2, "0102") + END, "record 3", "overlapping text: 000002"),
+        (DECK + txt(7, 0, "01") + END, "record 2", "no section with the number 7"),
+        (DECK + reference + text + END, "record 2", "nothing defines the external reference OUT"),
+        (DECK + text, "record 3", "END record is missing"),
+        (DECK + text + END + text, "record 4", "behind the END record"),
+        (esd(1, item("A", 3, 0, 8)) + END, "record 1", "type 03"),
+        (esd(1, item("A", 6, 0, 8)) + END, "record 1", "type 06"),
+        (DECK + esd(1, item("B", SD, 0, 8)) + END, "record 2", "B has no number"),
+        (DECK + esd(2, item("A", SD, 0, 8)) + END, "record 2", "A is defined twice"),
+        (record("ESD", {11: b"\x00\x0f", 15: b"\x00\x01"}) + END, "record 1", "15 bytes"),
+        (DECK + record("TXT", {6: b"\0\0\0", 11: b"\x00\x39", 15: b"\x00\x01"}) + END, "record 2", "count of 57 bytes"),
+        (DECK + text + rld("00010001" "04" "000000") + END, "record 3", "2 bytes"),
+        (DECK + text + rld("00010001" "2C" "000000") + END, "record 3", "flags 2C"),
+        (DECK + text + rld("00010001" "0C" "000006") + END, "record 3", "an address constant past the section"),
+        (DECK + text + rld("00010001" "0C" "0000") + END, "record 3", "cut short"),
+        (DECK + text + rld("00010001" "0D" "000000") + END, "record 3", "says that another follows"),
+        (DECK + text + rld("00090001" "0C" "000000") + END, "record 3", "symbol 9"),
+        (record("TXT", {6: b"\0\0\0", 11: b"\0\0"}) + END, "object", "without a section"),
+        (esd(1, item("A", SD, 0, 262_146)) + END, "object", "SIZE"),
+        (esd(1, item("A", SD, 0, 0)) + END, "object", "0 bytes"),
+        (b"\x03\xf0" + bytes(78), "object", "generalized object file"),
+        ((b"\x02ESD" + b" " * 76) * 2, "object", "translated to ASCII"),
+    ]
+    for data, place, what in table:
+        refused(module_of(data), 2, place, what)
+
+
+def bad_modules() -> None:
+    """module: a name, a base, a size, a file and a listing that no card can have"""
+    for base in ("0FFFF8", "100001", "100", "10000G", "1000000", ""):
+        refused(module_of(bytes(8), base), 2, "BASE")
+    for size, what in ((0, "0 bytes"), (7, "odd"), (262_146, "SIZE")):
+        refused(module_of(bytes(size)), 2, what)
+    refused(module_of(bytes(0x1000), "FFE008"), 2, "FFF000")
+    text_of(module_of(bytes(0xFF8), "FFE008"))
+    for name in ("m", "1M", "", "ABCDEFGHI", "A B"):
+        refused(coverage("module", name, "100000", f"{EXAMPLES}/first.job"), 2, "NAME")
+    refused(coverage("module", "M", "100000", "/no/such/file"), 2, "/no/such/file")
+    refused(coverage("module", "M", "100000", "/"), 2, "/: ")
+    refused(module_of(bytes(8), listing=b"no heading\n"), 2, "listing", "heading")
+    refused(module_of(bytes(8), listing=ebcdic("no heading at all")), 2, "listing", "heading")
+    for words in ([], ["M"], ["M", "100000"], ["M", "100000", "a", "b", "c"]):
+        refused(coverage("module", *words), 1, "usage: coverage module")
+
+
+# job
+
+
+def jobs() -> None:
+    """job: the pieces between COVERJOB and ENDJOB, a last line without its end, standard input"""
+    head, _, rest = FIRST.job().partition(b"\n")
+    module, phase, tasks = rest.partition(b"PHASE P\n")
+    with folder() as at:
+        for name, data in (("module", module), ("phase", (phase + tasks)[: -len(b"\nENDJOB\n")])):
+            with open(f"{at}/{name}", "wb") as file:
+                file.write(data)
+        equal(well(coverage("job", "module", "phase", cwd=at)).output, FIRST.job())
+        equal(well(coverage("job", "module", "-", data=phase + tasks[: -len(b"ENDJOB\n")], cwd=at)).output, FIRST.job())
+
+
+def bad_jobs() -> None:
+    """job: pieces that make no job are refused by their line"""
+    for data, place, what in (
+        (b"", "-", "empty"),
+        (b"PHASE P\nENDJOB\n", "-: line 2", "ENDJOB"),
+        (b"COVERJOB 1\n", "-: line 1", "COVERJOB"),
+        (b"MODULE M 100000 2\nTEXT 07FE\nLISTING 2\nENDJOB\n", "-: line 3", "2 lines"),
+        (b"PHASE P\nMODULE M 100000 2\n", "-: line 2", "behind the phase"),
+    ):
+        refused(coverage("job", "-", data=data), 2, place, what)
+    refused(coverage("job", "/no/such/file"), 2, "/no/such/file")
+    refused(coverage("job"), 1, "usage: coverage job")
+    refused(coverage("job", "-", redirect="</"), 5, "standard input")
+    refused(coverage("job", "-", redirect="<&-"), 5, "standard input")
+
+
+CHECKS = [
+    raw_bytes, no_listing, listings, brackets, long_lines, bad_headings, sections, constants, labels, bad_decks, bad_modules, jobs, bad_jobs,
+]
