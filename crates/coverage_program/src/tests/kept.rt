@@ -16,6 +16,7 @@ use s370_decode::Code;
 use s370_exec::fetch_rest;
 use session_book::{Job, begin};
 use std::alloc::Global;
+use std::process::Abort;
 use std::test::Fail;
 
 fn is_same(a: &Code, b: &Code) -> bool {
@@ -64,22 +65,36 @@ fn compare_trial(alloc: Global, number: u32, seen: &mut [bool; 3]) -> Result<boo
     compare(alloc, &job, &tables, seen)
 }
 
+/// Sees to it for the job of each case.
+fn compare_cases<T: Abort>(
+    rt: &T,
+    alloc: Global,
+    cases: &[Case],
+    seen: &mut [bool; 3],
+) -> Result<(), Fail> {
+    for case in cases {
+        let name = case.name;
+        assert!(rt; compare_case(alloc, case, seen)?, "{name}");
+    }
+    Ok(())
+}
+
+/// Sees to it for some generated jobs.
+fn compare_trials<T: Abort>(rt: &T, alloc: Global, seen: &mut [bool; 3]) -> Result<(), Fail> {
+    for number in 0..3 {
+        assert!(rt; compare_trial(alloc, number, seen)?, "{number}");
+    }
+    Ok(())
+}
+
 #[test]
 fn each_place_keeps_what_is_fetched(rt: HostRuntime) -> Result<(), Fail> {
     let alloc = rt.alloc();
     let mut seen = [false; 3];
-    for case in &CASES {
-        assert!(rt; compare_case(alloc, case, &mut seen)?, "{}", case.name);
-    }
-    for case in &JOBS {
-        assert!(rt; compare_case(alloc, case, &mut seen)?, "{}", case.name);
-    }
-    for case in &PROGRAMS {
-        assert!(rt; compare_case(alloc, case, &mut seen)?, "{}", case.name);
-    }
-    for number in 0..3 {
-        assert!(rt; compare_trial(alloc, number, &mut seen)?, "{number}");
-    }
+    compare_cases(&rt, alloc, &CASES, &mut seen)?;
+    compare_cases(&rt, alloc, &JOBS, &mut seen)?;
+    compare_cases(&rt, alloc, &PROGRAMS, &mut seen)?;
+    compare_trials(&rt, alloc, &mut seen)?;
     assert_eq!(rt; seen, [true; 3]);
     Ok(())
 }
