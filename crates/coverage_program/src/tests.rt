@@ -31,11 +31,12 @@ ghost use Rattle.std.specs.Prelude.{◌<◌};
 use crate::cover::cover;
 use crate::status::Status;
 use cases::CASES;
-use cov_outside::{MemSink, MemSource, OpenGate, SureSink, SureSource};
-use jobs::JOBS;
+use cov_outside::{OpenGate, SureSink, SureSource};
+use jobs::{JOBS, TALLIED_JOBS};
 use module_area::{Areas, Tally};
-use notation::{Case, job_of, text_of};
-use programs::PROGRAMS;
+use notation::{Case, Tallied, job_of, text_of};
+use places::{serve_over, words_of};
+use programs::{PROGRAMS, TALLIED_PROGRAMS};
 use shared_area::SharedAreas;
 use std::alloc::Global;
 use std::process::Abort;
@@ -78,16 +79,8 @@ const FIRST: Case = Case {
     code: "",
     job: FIRST_JOB,
     status: 0,
-    tallies: Some(&[(3, 3, 3, 3)]),
     text: FIRST_TEXT,
 };
-
-/// The words `run`.
-fn run_words(alloc: Global) -> Result<Vec<String>, Fail> {
-    let mut words = Vec::new(alloc);
-    words.push(String::from_str(alloc, "run")?)?;
-    Ok(words)
-}
 
 /// What came of a job: the status, the bytes written, the ledger's one tally, and the areas made.
 #[derive(Drop)]
@@ -102,27 +95,16 @@ struct Came {
 fn run<T: Threads + Wait + Sync>(
     rt: &T,
     alloc: Global,
-    job: Vec<u8>,
+    job: &[u8],
     piece: usize,
 ) -> Result<Came, Fail>
     requires { 0 < piece }
 {
-    let words = run_words(alloc)?;
-    let mut source = MemSource::new(job, piece, Vec::new(alloc));
-    let mut sink = MemSink::new(alloc, 4096, 4096, Vec::new(alloc)).map_err(|_| "memory")?;
     let mut areas = SharedAreas::new(alloc, 16).map_err(|_| "memory")?;
-    let status = cover(
-        rt,
-        alloc,
-        &words,
-        &mut source,
-        &mut sink,
-        &mut areas,
-        &OpenGate,
-    );
+    let (status, text) = serve_over(rt, alloc, &["run"], job, piece, &mut areas, &OpenGate)?;
     Ok(Came {
         status,
-        text: sink.bytes().to_vec(alloc)?,
+        text,
         tallies: areas.ledger().to_vec(alloc)?,
         made: areas.made(),
     })
@@ -131,14 +113,13 @@ fn run<T: Threads + Wait + Sync>(
 #[test]
 fn runs_the_first_job(rt: HostRuntime) -> Result<(), Fail> {
     let came = check(&rt, rt.alloc(), &FIRST)?;
-    assert_eq!(rt; came.made, 1);
-    Ok(())
+    check_tallies(&rt, &came, FIRST.name, &[(3, 3, 3, 3)])
 }
 
 #[test]
 fn answers_over_devices_that_never_fail(rt: HostRuntime) -> Result<(), Fail> {
     let alloc = rt.alloc();
-    let words = run_words(alloc)?;
+    let words = words_of(alloc, &["run"])?;
     let mut source = SureSource::new(job_of(alloc, &FIRST)?, 64);
     let mut sink = SureSink::new();
     let mut areas = SharedAreas::new(alloc, 16).map_err(|_| "memory")?;
@@ -183,8 +164,7 @@ fn check<T: Abort + Threads + Wait + Sync>(
     check_pieces(rt, alloc, case, 64)
 }
 
-/// Runs the case's job in pieces of so many bytes: status and text are the case's, and so are the tallies of its areas, where
-/// the case has them.
+/// Runs the case's job in pieces of so many bytes: status and text are the case's.
 fn check_pieces<T: Abort + Threads + Wait + Sync>(
     rt: &T,
     alloc: Global,
@@ -194,7 +174,7 @@ fn check_pieces<T: Abort + Threads + Wait + Sync>(
     requires { 0 < piece }
 {
     let name = case.name;
-    let came = run(rt, alloc, job_of(alloc, case)?, piece)?;
+    let came = run(rt, alloc, &job_of(alloc, case)?, piece)?;
     assert_eq!(rt; came.status, Status(case.status), "{name}");
     assert_eq!(rt;
         came.text.as_slice(),
@@ -203,13 +183,34 @@ fn check_pieces<T: Abort + Threads + Wait + Sync>(
     );
     assert_eq!(rt; came.made, came.tallies.len() as u64, "{name}");
     assert!(rt; came.tallies.iter().all(|t| t.closes == 0), "{name}");
-    if let Some(expected) = case.tallies {
-        assert_eq!(rt; came.tallies.len(), expected.len(), "{name}");
-        for (t, e) in came.tallies.iter().zip(expected.iter()) {
-            assert_eq!(rt; counts_of(t), *e, "{name}");
-        }
-    }
     Ok(came)
+}
+
+/// The areas of what came have these tallies.
+fn check_tallies<T: Abort>(
+    rt: &T,
+    came: &Came,
+    name: &str,
+    expected: &[(u64, u64, u64, u64)],
+) -> Result<(), Fail> {
+    assert_eq!(rt; came.tallies.len(), expected.len(), "{name}");
+    for (t, e) in came.tallies.iter().zip(expected.iter()) {
+        assert_eq!(rt; counts_of(t), *e, "{name}");
+    }
+    Ok(())
+}
+
+/// Runs each case's job.
+fn check_tallied<T: Abort + Threads + Wait + Sync>(
+    rt: &T,
+    alloc: Global,
+    cases: &[Tallied],
+) -> Result<(), Fail> {
+    for tallied in cases {
+        let came = check(rt, alloc, &tallied.case)?;
+        check_tallies(rt, &came, tallied.case.name, tallied.tallies)?;
+    }
+    Ok(())
 }
 
 #[test]
@@ -238,7 +239,7 @@ fn runs_each_program(rt: HostRuntime) -> Result<(), Fail> {
         let name = case.name;
         assert_eq!(rt; came.made, 1, "{name}");
     }
-    Ok(())
+    check_tallied(&rt, rt.alloc(), &TALLIED_PROGRAMS)
 }
 
 #[test]
@@ -246,5 +247,5 @@ fn runs_each_whole_job(rt: HostRuntime) -> Result<(), Fail> {
     for case in &JOBS {
         check(&rt, rt.alloc(), case)?;
     }
-    Ok(())
+    check_tallied(&rt, rt.alloc(), &TALLIED_JOBS)
 }

@@ -1,23 +1,14 @@
 //! The commands `prove` and `verify`: what goes in, and the status and text that come out.
 
-use super::marked::{BOTH, ENDS, NONE, OTHER, PHASES, RETURN_LEFT, Row, WENT};
-use super::notation::Part;
+use super::marked::{BOTH, ENDS, FROM_3, MISMATCH, NONE, OTHER, PHASES, RETURN_LEFT, Row, WENT};
 use super::notation::Part::{Bytes, Code, Text};
-
-/// A count down from register 1, and a return.
-const COUNT: &str = "000000 4610 F000 BCT, 000004 07FE BR";
-
-/// The same, of a listing that has another address in its first instruction.
-const MISMATCH: &str = "4610F00007FE: 000000 4610 F004 BCT, 000004 07FE BR";
+use super::notation::{COUNT, Part};
 
 /// A move that EX makes longer, and that is never reached by itself.
 const EXECUTE: &str = "000000 4410 F006 EX, 000004 07FE BR, 000006 D200 0000 0008 MVC";
 
 /// A branch that depends on register 1.
-const BRANCH: &str = "000000 1211 LTR, 000002 4780 F008 BE, 000006 1822 LR, 000008 07FE BR";
-
-/// A count down from 3.
-const FROM_3: Part = Text("TASK A 100000 16 100 0\nREG 1 00000003\nENDJOB\n");
+pub const BRANCH: &str = "000000 1211 LTR, 000002 4780 F008 BE, 000006 1822 LR, 000008 07FE BR";
 
 const MOVES: Part = Text("TASK A 100000 16 100 0\nREG 1 00000002\nDATA 8 010203\nENDJOB\n");
 

@@ -1,7 +1,8 @@
 //! The commands that give and take marks files: what goes in, and the status and bytes that come out.
 
-use super::notation::Part;
-use super::notation::Part::{Bytes, Code, Marked, Text};
+use super::called::TWO as CALLED_TWO;
+use super::notation::Part::{Bytes, Code, Marked, Phase, Text};
+use super::notation::{COUNT, END, LOAD, Part};
 
 /// The words, what goes in behind them, and what comes.
 pub struct Row {
@@ -12,11 +13,11 @@ pub struct Row {
     pub output: &'static [Part],
 }
 
-/// A count down from register 1, and a return.
-const COUNT: &str = "000000 4610 F000 BCT, 000004 07FE BR";
+/// A count down, of a listing that has another address in its first instruction.
+pub const MISMATCH: &str = "4610F00007FE: 000000 4610 F004 BCT, 000004 07FE BR";
 
-/// The same, of a listing that has another address in its first instruction.
-const MISMATCH: &str = "4610F00007FE: 000000 4610 F004 BCT, 000004 07FE BR";
+/// A count down from 3.
+pub const FROM_3: Part = Text("TASK A 100000 16 100 0\nREG 1 00000003\nENDJOB\n");
 
 /// A count that ends at once.
 pub const ENDS: Part = Text("TASK A 100000 16 100 0\nREG 1 00000001\nENDJOB\n");
@@ -77,11 +78,6 @@ SESSION T M\n\
 TASK B 100000 16 1 0\n\
 REG 1 00000002\n\
 ENDJOB\n",
-);
-
-/// A job with two sessions that its task C controls.
-const CONTROLLED: Part = Text(
-    "COVERJOB 1\nMODULE M 100000 8\nTEXT 411000051A1107FE\nLISTING 4\n  Loc  Object Code    Addr1 Addr2  Stmt   Source Statement\n000000 4110 0005                      1          LA\n000004 1A11                           2          AR\n000006 07FE                           3          BR\nPHASE P\nSESSION S1 BY C M\nSESSION S2 BY C M\nTASK A 100000 16 100 0\nTASK C 000000 16 100 0\nDATA 0 0A040A050A040A0507FE\nENDJOB\n",
 );
 
 /// Files of module M. The count fell through, and the return was executed.
@@ -212,8 +208,6 @@ const LATER_VERSION: Part = Bytes("53333730434F5633");
 /// What `show` writes before and behind the session's listings.
 const SHOW: Part = Text("COVERAGE SHOW\nSESSION S PHASE P\n");
 
-const END: Part = Text("END\n");
-
 const SHOWN_FELL: [Part; 3] = [SHOW, Marked(COUNT, "V: EXECUTED 2 FACTS 2 OF 3"), END];
 
 const SHOWN_WENT: [Part; 4] = [
@@ -248,10 +242,7 @@ static GOOD: [Row; 22] = [
     Row {
         name: "the file of a run that does both",
         words: &["marks", "S"],
-        input: &[
-            Code(COUNT),
-            Text("TASK A 100000 16 100 0\nREG 1 00000003\nENDJOB\n"),
-        ],
+        input: &[Code(COUNT), FROM_3],
         status: 0,
         output: &[BOTH],
     },
@@ -601,14 +592,14 @@ static BAD_JOBS: [Row; 18] = [
     Row {
         name: "marks: a controlled session, and no session",
         words: &["marks", "X"],
-        input: &[CONTROLLED],
+        input: &[Phase(LOAD), Text(CALLED_TWO)],
         status: 13,
         output: &[Text("NO SESSION X\n")],
     },
     Row {
         name: "show: a controlled session, and no session",
         words: &["show", "X"],
-        input: &[CONTROLLED],
+        input: &[Phase(LOAD), Text(CALLED_TWO)],
         status: 13,
         output: &[Text("NO SESSION X\n")],
     },
