@@ -2,6 +2,15 @@
 
 use super::notation::{ALONE, Case, LOAD};
 
+/// A job whose listing has another address than its module.
+pub const OTHER_BYTES: Case = Case {
+    name: "other bytes than the module's",
+    code: "411000051A1107FE: 000000 4110 0006 LA, 000004 1A11 AR, 000006 07FE BR",
+    job: ALONE,
+    status: 3,
+    text: "MISMATCH M LINE 2 LOC 000000 LISTING 41100006 MODULE 41100005\n",
+};
+
 pub const CASES: [Case; 32] = [
     Case {
         name: "a sum past the word",
@@ -400,13 +409,7 @@ ENDJOB\n",
         status: 3,
         text: "MISMATCH M LINE 2 LOC 000000 LISTING 4110F005 MODULE 41100005\n",
     },
-    Case {
-        name: "other bytes than the module's",
-        code: "411000051A1107FE: 000000 4110 0006 LA, 000004 1A11 AR, 000006 07FE BR",
-        job: ALONE,
-        status: 3,
-        text: "MISMATCH M LINE 2 LOC 000000 LISTING 41100006 MODULE 41100005\n",
-    },
+    OTHER_BYTES,
     Case {
         name: "no last card",
         code: LOAD,

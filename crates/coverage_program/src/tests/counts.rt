@@ -1,6 +1,7 @@
 //! The command `count`: how often each fact of whole sessions was met, and the jobs that it refuses.
 
 use super::called::TWO;
+use super::cases::OTHER_BYTES;
 use super::notation::{ALONE, COUNT, Case, LOAD, job_of, text_of};
 use super::places::{USAGE, serve};
 use crate::status::Status;
@@ -254,13 +255,7 @@ ENDJOB\n",
         status: 4,
         text: "TOO LARGE BUDGET LINE 9\n",
     },
-    Case {
-        name: "other bytes than the module's",
-        code: "411000051A1107FE: 000000 4110 0006 LA, 000004 1A11 AR, 000006 07FE BR",
-        job: ALONE,
-        status: 3,
-        text: "MISMATCH M LINE 2 LOC 000000 LISTING 41100006 MODULE 41100005\n",
-    },
+    OTHER_BYTES,
 ];
 
 /// What is counted.

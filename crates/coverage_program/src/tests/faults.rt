@@ -1,13 +1,12 @@
-//! Faults of source and sink at each call in turn, of every command; and tasks that begin where nothing can be fetched, or
-//! change their own code.
+//! Faults of source and sink at each call in turn, of every command.
 
 use super::called::THROUGH;
 use super::evidence::{fields, proved, refuted, unproved};
 use super::marked::{FROM_3, PHASES, Row, bad_files, bad_jobs, bad_shown, good};
 use super::notation::Part::{Code, Marked, Phase, Task, Text};
-use super::notation::{ALONE, COUNT, Case, END, LOAD, REPORT, SESSION, bytes_of};
+use super::notation::{ALONE, COUNT, END, LOAD, REPORT, SESSION, bytes_of};
 use super::places::{USAGE, words_of};
-use super::{FIRST_JOB, FIRST_TEXT, check, check_tallies};
+use super::{FIRST_JOB, FIRST_TEXT};
 use crate::cover::cover;
 use crate::status::Status;
 use cov_outside::{MemSink, MemSource, OpenGate};
@@ -164,59 +163,6 @@ END\n",
         ],
         status: 9,
         output: &[Text("BAD SCHEDULE LINE 15\n")],
-    },
-];
-
-/// Tasks over the first job's module, none of which reaches it: what they fetch, mark and lift there is nothing.
-static ASTRAY: [Case; 4] = [
-    Case {
-        name: "an odd entry",
-        code: LOAD,
-        job: "TASK A 100001 16 100 0\nENDJOB\n",
-        status: 0,
-        text: "\
-COVERAGE REPORT\n\
-task A ABEND 6 COUNT 1 CC 0 regs F=00100001\n\
-session S PHASE P marks ^^^ EXECUTED 0 FACTS 0 OF 3\n\
-NOT EXECUTED 000000-000007\n\
-END\n",
-    },
-    Case {
-        name: "the return address as entry",
-        code: LOAD,
-        job: "TASK A FFFFFE 16 100 0\nENDJOB\n",
-        status: 0,
-        text: "\
-COVERAGE REPORT\n\
-task A RETURNED COUNT 0 CC 0 regs F=00FFFFFE\n\
-session S PHASE P marks ^^^ EXECUTED 0 FACTS 0 OF 3\n\
-NOT EXECUTED 000000-000007\n\
-END\n",
-    },
-    Case {
-        name: "output of more bytes than there are",
-        code: LOAD,
-        job: "TASK A 000000 16 100 0\nREG 0 FFFFFFFF\nDATA 0 0A0107FE\nENDJOB\n",
-        status: 0,
-        text: "\
-COVERAGE REPORT\n\
-task A ABEND 5 COUNT 1 CC 0 regs 0=FFFFFFFF F=00000000\n\
-session S PHASE P marks ^^^ EXECUTED 0 FACTS 0 OF 3\n\
-NOT EXECUTED 000000-000007\n\
-END\n",
-    },
-    Case {
-        name: "code that changes itself",
-        code: LOAD,
-        job: "TASK A 000000 16 100 0\nDATA 0 92FE00050700\nENDJOB\n",
-        status: 0,
-        text: "\
-COVERAGE REPORT\n\
-task A RETURNED COUNT 2 CC 0 regs F=00000000\n\
-STOR 000000 92FE000507FE00000000000000000000\n\
-session S PHASE P marks ^^^ EXECUTED 0 FACTS 0 OF 3\n\
-NOT EXECUTED 000000-000007\n\
-END\n",
     },
 ];
 
@@ -396,14 +342,5 @@ fn writes_nothing_where_it_can_neither_read_nor_write(rt: HostRuntime) -> Result
     let came = serve_faulty(&rt, alloc, &[], &input, once, Vec::new(alloc))?;
     assert_eq!(rt; came.status, Status(1));
     assert_eq!(rt; came.bytes.as_slice(), USAGE);
-    Ok(())
-}
-
-#[test]
-fn runs_tasks_that_go_astray(rt: HostRuntime) -> Result<(), Fail> {
-    for case in &ASTRAY {
-        let came = check(&rt, rt.alloc(), case)?;
-        check_tallies(&rt, &came, case.name, &[(3, 0, 0, 0)])?;
-    }
     Ok(())
 }

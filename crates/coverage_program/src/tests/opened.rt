@@ -1,9 +1,8 @@
 //! Sessions that tasks open and close under `replay`: a late trap, calls that open and close nothing, calls under EX, and
 //! plants and closes that are not due.
 
-use super::notation::{Case, LOAD, job_of, text_of};
-use super::places::serve;
-use crate::status::Status;
+use super::notation::{Case, LOAD};
+use super::schedules::check_schedules;
 use std::test::Fail;
 
 const SCHEDULES: [Case; 10] = [
@@ -303,16 +302,5 @@ ENDSCHED\n",
 
 #[test]
 fn plays_each_schedule_of_controllers(rt: HostRuntime) -> Result<(), Fail> {
-    for case in &SCHEDULES {
-        let name = case.name;
-        let text = text_of(rt.alloc(), case)?;
-        let job = job_of(rt.alloc(), case)?;
-        let came = serve(&rt, rt.alloc(), &["replay"], &job)?;
-        assert_eq!(rt; came.text.as_slice(), text.as_slice(), "{name}");
-        assert_eq!(rt; came.status, Status(case.status), "{name}");
-        assert_eq!(rt; came.text_alone.as_slice(), text.as_slice(), "{name}");
-        assert_eq!(rt; came.alone, Status(case.status), "{name}");
-        assert_eq!(rt; came.made, 0, "{name}");
-    }
-    Ok(())
+    check_schedules(&rt, rt.alloc(), &SCHEDULES)
 }

@@ -1,5 +1,6 @@
 //! The command `table`: its text, its refusals, and the words that are none of the commands.
 
+use super::cases::OTHER_BYTES;
 use super::notation::{ALONE, COUNT, Case, job_of, text_of};
 use crate::cover::{cover, cover_one};
 use crate::status::Status;
@@ -37,13 +38,7 @@ const CASES: [Case; 4] = [
         status: 0,
         text: "COVERAGE TABLE\nMODULE M PLACES 0\nEND\n",
     },
-    Case {
-        name: "other bytes than the module's",
-        code: "411000051A1107FE: 000000 4110 0006 LA, 000004 1A11 AR, 000006 07FE BR",
-        job: ALONE,
-        status: 3,
-        text: "MISMATCH M LINE 2 LOC 000000 LISTING 41100006 MODULE 41100005\n",
-    },
+    OTHER_BYTES,
     Case {
         name: "no card",
         code: "",

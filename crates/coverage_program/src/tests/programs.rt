@@ -2,7 +2,7 @@
 
 use super::notation::{ALONE, COUNT, Case, LOAD, Tallied};
 
-pub const PROGRAMS: [Case; 21] = [
+pub const PROGRAMS: [Case; 18] = [
     Case {
         name: "a count that is zero at once",
         code: COUNT,
@@ -215,43 +215,6 @@ session S PHASE P marks :: EXECUTED 2 FACTS 2 OF 2\n\
 END\n",
     },
     Case {
-        name: "an entry that is the return address",
-        code: LOAD,
-        job: "TASK A FFFFFE 16 100 0\nENDJOB\n",
-        status: 0,
-        text: "\
-COVERAGE REPORT\n\
-task A RETURNED COUNT 0 CC 0 regs F=00FFFFFE\n\
-session S PHASE P marks ^^^ EXECUTED 0 FACTS 0 OF 3\n\
-NOT EXECUTED 000000-000007\n\
-END\n",
-    },
-    Case {
-        name: "output longer than storage",
-        code: LOAD,
-        job: "TASK A 000000 16 100 0\nREG 0 FFFFFFFF\nDATA 0 0A0107FE\nENDJOB\n",
-        status: 0,
-        text: "\
-COVERAGE REPORT\n\
-task A ABEND 5 COUNT 1 CC 0 regs 0=FFFFFFFF F=00000000\n\
-session S PHASE P marks ^^^ EXECUTED 0 FACTS 0 OF 3\n\
-NOT EXECUTED 000000-000007\n\
-END\n",
-    },
-    Case {
-        name: "an instruction that makes the next",
-        code: LOAD,
-        job: "TASK A 000000 16 100 0\nDATA 0 92FE00050700\nENDJOB\n",
-        status: 0,
-        text: "\
-COVERAGE REPORT\n\
-task A RETURNED COUNT 2 CC 0 regs F=00000000\n\
-STOR 000000 92FE000507FE00000000000000000000\n\
-session S PHASE P marks ^^^ EXECUTED 0 FACTS 0 OF 3\n\
-NOT EXECUTED 000000-000007\n\
-END\n",
-    },
-    Case {
         name: "the breakpoint in private storage",
         code: LOAD,
         job: "TASK A 000000 16 100 0\nDATA 0 0AFF\nENDJOB\n",
@@ -266,7 +229,7 @@ END\n",
 ];
 
 /// Those whose tallies are compared too.
-pub const TALLIED_PROGRAMS: [Tallied; 6] = [
+pub const TALLIED_PROGRAMS: [Tallied; 9] = [
     Tallied {
         case: Case {
             name: "a count down to zero",
@@ -354,5 +317,51 @@ NOT EXECUTED 000006-000007\n\
 END\n",
         },
         tallies: &[(3, 2, 2, 2)],
+    },
+    Tallied {
+        case: Case {
+            name: "an entry that is the return address",
+            code: LOAD,
+            job: "TASK A FFFFFE 16 100 0\nENDJOB\n",
+            status: 0,
+            text: "\
+COVERAGE REPORT\n\
+task A RETURNED COUNT 0 CC 0 regs F=00FFFFFE\n\
+session S PHASE P marks ^^^ EXECUTED 0 FACTS 0 OF 3\n\
+NOT EXECUTED 000000-000007\n\
+END\n",
+        },
+        tallies: &[(3, 0, 0, 0)],
+    },
+    Tallied {
+        case: Case {
+            name: "output longer than storage",
+            code: LOAD,
+            job: "TASK A 000000 16 100 0\nREG 0 FFFFFFFF\nDATA 0 0A0107FE\nENDJOB\n",
+            status: 0,
+            text: "\
+COVERAGE REPORT\n\
+task A ABEND 5 COUNT 1 CC 0 regs 0=FFFFFFFF F=00000000\n\
+session S PHASE P marks ^^^ EXECUTED 0 FACTS 0 OF 3\n\
+NOT EXECUTED 000000-000007\n\
+END\n",
+        },
+        tallies: &[(3, 0, 0, 0)],
+    },
+    Tallied {
+        case: Case {
+            name: "an instruction that makes the next",
+            code: LOAD,
+            job: "TASK A 000000 16 100 0\nDATA 0 92FE00050700\nENDJOB\n",
+            status: 0,
+            text: "\
+COVERAGE REPORT\n\
+task A RETURNED COUNT 2 CC 0 regs F=00000000\n\
+STOR 000000 92FE000507FE00000000000000000000\n\
+session S PHASE P marks ^^^ EXECUTED 0 FACTS 0 OF 3\n\
+NOT EXECUTED 000000-000007\n\
+END\n",
+        },
+        tallies: &[(3, 0, 0, 0)],
     },
 ];

@@ -3,7 +3,11 @@
 use super::notation::{Case, LOAD, job_of, text_of};
 use super::places::serve;
 use crate::status::Status;
+use std::alloc::Global;
+use std::process::Abort;
+use std::sync::Wait;
 use std::test::Fail;
+use std::thread::Threads;
 
 const SCHEDULES: [Case; 13] = [
     Case {
@@ -186,13 +190,16 @@ ENDSCHED\n",
     },
 ];
 
-#[test]
-fn plays_each_schedule(rt: HostRuntime) -> Result<(), Fail> {
-    for case in &SCHEDULES {
+/// Plays each case's schedule, with areas and without.
+pub fn check_schedules<T: Abort + Threads + Wait + Sync>(
+    rt: &T,
+    alloc: Global,
+    cases: &[Case],
+) -> Result<(), Fail> {
+    for case in cases {
         let name = case.name;
-        let text = text_of(rt.alloc(), case)?;
-        let job = job_of(rt.alloc(), case)?;
-        let came = serve(&rt, rt.alloc(), &["replay"], &job)?;
+        let text = text_of(alloc, case)?;
+        let came = serve(rt, alloc, &["replay"], &job_of(alloc, case)?)?;
         assert_eq!(rt; came.text.as_slice(), text.as_slice(), "{name}");
         assert_eq!(rt; came.status, Status(case.status), "{name}");
         assert_eq!(rt; came.text_alone.as_slice(), text.as_slice(), "{name}");
@@ -200,4 +207,9 @@ fn plays_each_schedule(rt: HostRuntime) -> Result<(), Fail> {
         assert_eq!(rt; came.made, 0, "{name}");
     }
     Ok(())
+}
+
+#[test]
+fn plays_each_schedule(rt: HostRuntime) -> Result<(), Fail> {
+    check_schedules(&rt, rt.alloc(), &SCHEDULES)
 }
