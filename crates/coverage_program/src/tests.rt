@@ -74,7 +74,7 @@ MODULE M PLACES 3 EXECUTED 3 FACTS 3 OF 3\n\
 : 000006 07FE                           3          BR\n\
 END\n";
 
-const FIRST: Case = Case {
+static FIRST: Case = Case {
     name: "the first job",
     code: "",
     job: FIRST_JOB,
