@@ -1,11 +1,11 @@
 -- A schedule's items one by one, and a task's events up to its end.
-use Rattle.std.proofs.Common.{◌≡◌, ℕ, suc, ◌+◌, ◌<◌, ◌≤◌, Bool, true, false, nat_eq, ◌==◌, if◌then◌else◌, Option, Some, None, Result, codes, List, [], ◌∷◌, ◌++◌, ◌-◌, length, length-append, get_or, subst, refl, sym, ap, ◌∙◌, arith, append-nil}
+use Rattle.std.proofs.Common.{◌≡◌, ℕ, suc, ◌+◌, ◌<◌, ◌≤◌, Bool, true, false, nat_eq, ◌==◌, if◌then◌else◌, Option, Some, None, Result, codes, List, [], ◌∷◌, ◌++◌, ◌-◌, length, get_or, subst, refl, sym, ap, ◌∙◌, arith, append-nil}
 use Rattle.std.proofs.lemmas.List.{get_or_default}
 use Rattle.interleave_core.specs.World.{World, Parts}
 use Rattle.cov_base.specs.Facts.{is_within}
 use Rattle.module_area.specs.PlanView.{kind_at}
 use Rattle.module_area.specs.declared.places.Place.{Place}
-use Rattle.brk_table.specs.Places.{TableView, TablesView, all_places, first_place, place_count}
+use Rattle.brk_table.specs.Places.{TablesView, all_places}
 use Rattle.interleave_core.specs.Results.{Fits, results_of}
 use Rattle.interleave_core.specs.Steps.{set_of}
 use Rattle.interleave_core.specs.World.{plan_in}

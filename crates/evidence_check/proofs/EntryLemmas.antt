@@ -1,9 +1,9 @@
 -- The entries of places one after another.
-use Rattle.std.proofs.Common.{◌≡◌, ℕ, zero, suc, ◌+◌, ◌-◌, ◌<◌, ◌≤◌, Bool, true, false, nat_eq, if◌then◌else◌, Option, List, [], ◌∷◌, ◌++◌, length, refl, ◌∙◌, ap, arith, length-append}
+use Rattle.std.proofs.Common.{◌≡◌, ℕ, zero, suc, ◌+◌, ◌-◌, ◌<◌, ◌≤◌, Option, List, [], ◌∷◌, ◌++◌, length, refl, ◌∙◌, ap, arith}
 use Rattle.std.specs.List.{flat_map}
 use Rattle.cov_base.specs.declared.facts.Fact.{Fact}
 use Rattle.cov_base.specs.declared.facts.Fact.TheVariants.{Ran, Went, Stayed}
-use Rattle.brk_table.specs.Places.{TableView, TablesView, all_places, first_place, place_count}
+use Rattle.brk_table.specs.Places.{TablesView, all_places, first_place, place_count}
 use Rattle.session_book.specs.JobView.{JobView}
 use Rattle.session_book.specs.Sessions.{session_of}
 use Rattle.session_marks.proofs.FillLemmas.{range_most}
