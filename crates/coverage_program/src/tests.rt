@@ -213,10 +213,16 @@ fn check_tallied<T: Abort + Threads + Wait + Sync>(
     Ok(())
 }
 
-#[test]
-fn answers_each_job(rt: HostRuntime) -> Result<(), Fail> {
+/// Each case's job in pieces of so many bytes: an area is made where it isn't refused.
+fn check_cases<T: Abort + Threads + Wait + Sync>(
+    rt: &T,
+    alloc: Global,
+    piece: usize,
+) -> Result<(), Fail>
+    requires { 0 < piece }
+{
     for case in &CASES {
-        let came = check(&rt, rt.alloc(), case)?;
+        let came = check_pieces(rt, alloc, case, piece)?;
         let name = case.name;
         assert_eq!(rt; came.made, u64::from(case.status == 0), "{name}");
     }
@@ -224,12 +230,15 @@ fn answers_each_job(rt: HostRuntime) -> Result<(), Fail> {
 }
 
 #[test]
+fn answers_each_job(rt: HostRuntime) -> Result<(), Fail> {
+    check_cases(&rt, rt.alloc(), 64)
+}
+
+#[test]
 fn answers_each_job_byte_by_byte(rt: HostRuntime) -> Result<(), Fail> {
-    check_pieces(&rt, rt.alloc(), &FIRST, 1)?;
-    for case in &CASES {
-        check_pieces(&rt, rt.alloc(), case, 1)?;
-    }
-    Ok(())
+    let came = check_pieces(&rt, rt.alloc(), &FIRST, 1)?;
+    check_tallies(&rt, &came, FIRST.name, &[(3, 3, 3, 3)])?;
+    check_cases(&rt, rt.alloc(), 1)
 }
 
 #[test]
