@@ -60,6 +60,16 @@ class Copy:
         command = [f"{self.at}/coverage", *words]
         return subprocess.Popen(command, stdin=pipe, stdout=pipe, stderr=pipe, text=True, env=self.env, start_new_session=True)
 
+    def hold(self) -> subprocess.Popen[str]:
+        """A build that waits with its first call."""
+        self.write("hold", "")
+        started = self.start("run")
+        wait_for(self.calls)
+        return started
+
+    def let_go(self) -> None:
+        os.remove(f"{self.at}/hold")
+
     def run(self, *words: str) -> tuple[int, str, str]:
         return ended(self.start(*words))
 
@@ -146,14 +156,12 @@ def is_interrupted() -> None:
     """build: one that is cut off, by a signal or killed, leaves nothing that is taken for a program"""
     for number, status in ((signal.SIGINT, 130), (signal.SIGTERM, None), (signal.SIGKILL, None)):
         with copy() as it:
-            it.write("hold", "")
-            started = it.start("run")
-            wait_for(it.calls)
+            started = it.hold()
             os.killpg(started.pid, number)
             had, output, _ = ended(started)
             assert had != 0 and (status is None or had in (status, -number)), had
             equal((output, it.is_built()), ("", False))
-            os.remove(f"{it.at}/hold")
+            it.let_go()
             equal(it.run("run")[:2], (7, "one: run\ninput\n"))
 
 
@@ -171,13 +179,11 @@ def half_a_program() -> None:
 def waits() -> None:
     """build: a second one waits, says so, and takes what the first has built"""
     with copy() as it:
-        it.write("hold", "")
-        first = it.start("run")
-        wait_for(it.calls)
+        first = it.hold()
         second = it.start("table")
         seen = second.stderr.readline() if second.stderr else ""
         assert "another build runs in this copy" in seen, seen
-        os.remove(f"{it.at}/hold")
+        it.let_go()
         equal(ended(first)[:2], (7, "one: run\ninput\n"))
         equal(ended(second), (7, "one: table\ninput\n", ""))
         equal(len(it.calls()), 2)
@@ -186,11 +192,9 @@ def waits() -> None:
 def changes_meanwhile() -> None:
     """build: sources that change while they are built make no program"""
     with copy() as it:
-        it.write("hold", "")
-        started = it.start("run")
-        wait_for(it.calls)
+        started = it.hold()
         it.write("crates/low/src/lib.rt", "two")
-        os.remove(f"{it.at}/hold")
+        it.let_go()
         status, _, error = ended(started)
         equal((status, it.is_built()), (70, False))
         assert "changed" in error, error

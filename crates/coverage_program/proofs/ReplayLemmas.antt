@@ -1,17 +1,18 @@
 -- A schedule's items one by one, and a task's events up to its end.
-use Rattle.std.proofs.Common.{◌≡◌, ℕ, suc, ◌+◌, ◌<◌, ◌≤◌, Bool, true, false, nat_eq, ◌==◌, if◌then◌else◌, Option, Some, None, Result, codes, List, [], ◌∷◌, ◌++◌, ◌-◌, length, length-append, get_or, subst, refl, sym, ap, ◌∙◌, arith, append-nil}
+use Rattle.std.proofs.Common.{◌≡◌, ℕ, suc, ◌+◌, ◌<◌, ◌≤◌, Bool, true, false, nat_eq, ◌==◌, if◌then◌else◌, Option, Some, None, Result, codes, List, [], ◌∷◌, ◌++◌, ◌-◌, length, get_or, subst, refl, sym, ap, ◌∙◌, arith, append-nil}
 use Rattle.std.proofs.lemmas.List.{get_or_default}
 use Rattle.interleave_core.specs.World.{World, Parts}
 use Rattle.cov_base.specs.Facts.{is_within}
 use Rattle.module_area.specs.PlanView.{kind_at}
 use Rattle.module_area.specs.declared.places.Place.{Place}
-use Rattle.brk_table.specs.Places.{TableView, TablesView, all_places, first_place, place_count}
+use Rattle.brk_table.specs.Places.{TablesView, all_places}
 use Rattle.interleave_core.specs.Results.{Fits, results_of}
 use Rattle.interleave_core.specs.Steps.{set_of}
 use Rattle.interleave_core.specs.World.{plan_in}
 use Rattle.report_text.specs.Conditions.{AreResultsOf, AreSetsOf}
 use Rattle.session_book.specs.JobView.{JobView}
 use Rattle.session_book.specs.Sessions.{task_of, session_of}
+use Rattle.session_marks.proofs.FillLemmas.{range_most}
 use Rattle.report_text.specs.Report.{result_lines}
 use Rattle.report_text.specs.Writes.{WritesLines}
 use Rattle.coverage_program.specs.Replay.{Play, Bad, Whole, with_item, event_line, event_lines, no_item, replay_lines, plant_at, planted_from, play, play_line, play_end, IsLine, IsUnplayed}
@@ -48,15 +49,6 @@ item_here played i p lt is = let same : i + 1 - 1 ≡ i = omega arith in rw same
 pub told_line : (j : JobView) (places : List Place) (played : List Played) (i : ℕ) (p : Played) (items : List ℕ) → i < length played → p ≡ get_or played i p → items ≡ event_line j places (i + 1) p ++ 10 ∷ [] →
     items ≡ event_line j places (i + 1) (get_or played (i + 1 - 1) no_item) ++ 10 ∷ []
 told_line j places played i p items lt is e = rw (item_here played i p lt is) e
-
--- a module's places are among those of all tables
-range_most : (ts : List TableView) (m : ℕ) → first_place ts m + place_count ts m ≤ length (all_places ts)
-range_most [] m = omega arith
-range_most (t ∷ ts) m = by_module (nat_eq t.«module» m) (range_most ts m)
-  where
-    by_module : (b : Bool) → first_place ts m + place_count ts m ≤ length (all_places ts) → (if b then 0 else length t.places + first_place ts m) + (if b then length t.places else place_count ts m) ≤ length (t.places ++ all_places ts)
-    by_module true h = omega (arith, length-append t.places (all_places ts))
-    by_module false h = omega (arith, length-append t.places (all_places ts), h)
 
 pub core_results : (j : JobView) (tables : TablesView) (w : World) (c : Parts) → w ≡ record { job = j; places = tables.places } → Fits w c → AreResultsOf j (length w.job.tasks) (λ t. results_of c t)
 core_results j tables w c is fits = record {

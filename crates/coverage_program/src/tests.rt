@@ -7,16 +7,13 @@ mod counts;
 mod drains;
 mod early;
 mod evidence;
-mod evidence_faults;
 mod exits;
 mod extras;
 mod faults;
 mod gates;
 mod held;
-mod interruptions;
 mod jobs;
 mod kept;
-mod listings;
 mod marked;
 mod marks;
 mod marks_faults;
@@ -25,7 +22,6 @@ mod notation;
 mod noted;
 mod one_thread;
 mod opened;
-mod operands;
 mod order;
 mod places;
 mod programs;
@@ -38,13 +34,12 @@ ghost use Rattle.std.specs.Prelude.{◌<◌};
 use crate::cover::cover;
 use crate::status::Status;
 use cases::CASES;
-use cov_outside::{MemSink, MemSource, OpenGate, SureSink, SureSource};
-use jobs::JOBS;
-use listings::LISTINGS;
+use cov_outside::{OpenGate, SureSink, SureSource};
+use jobs::{JOBS, TALLIED_JOBS};
 use module_area::{Areas, Tally};
-use notation::{Case, job_of, text_of};
-use operands::OPERANDS;
-use programs::PROGRAMS;
+use notation::{Case, Tallied, job_of, text_of};
+use places::{serve_over, words_of};
+use programs::{PROGRAMS, TALLIED_PROGRAMS};
 use shared_area::SharedAreas;
 use std::alloc::Global;
 use std::process::Abort;
@@ -82,21 +77,13 @@ MODULE M PLACES 3 EXECUTED 3 FACTS 3 OF 3\n\
 : 000006 07FE                           3          BR\n\
 END\n";
 
-const FIRST: Case = Case {
+static FIRST: Case = Case {
     name: "the first job",
     code: "",
     job: FIRST_JOB,
     status: 0,
-    tallies: Some(&[(3, 3, 3, 3)]),
     text: FIRST_TEXT,
 };
-
-/// The words `run`.
-fn run_words(alloc: Global) -> Result<Vec<String>, Fail> {
-    let mut words = Vec::new(alloc);
-    words.push(String::from_str(alloc, "run")?)?;
-    Ok(words)
-}
 
 /// What came of a job: the status, the bytes written, the ledger's one tally, and the areas made.
 #[derive(Drop)]
@@ -111,27 +98,16 @@ struct Came {
 fn run<T: Threads + Wait + Sync>(
     rt: &T,
     alloc: Global,
-    job: Vec<u8>,
+    job: &[u8],
     piece: usize,
 ) -> Result<Came, Fail>
     requires { 0 < piece }
 {
-    let words = run_words(alloc)?;
-    let mut source = MemSource::new(job, piece, Vec::new(alloc));
-    let mut sink = MemSink::new(alloc, 4096, 4096, Vec::new(alloc)).map_err(|_| "memory")?;
     let mut areas = SharedAreas::new(alloc, 16).map_err(|_| "memory")?;
-    let status = cover(
-        rt,
-        alloc,
-        &words,
-        &mut source,
-        &mut sink,
-        &mut areas,
-        &OpenGate,
-    );
+    let (status, text) = serve_over(rt, alloc, &["run"], job, piece, &mut areas, &OpenGate)?;
     Ok(Came {
         status,
-        text: sink.bytes().to_vec(alloc)?,
+        text,
         tallies: areas.ledger().to_vec(alloc)?,
         made: areas.made(),
     })
@@ -140,14 +116,13 @@ fn run<T: Threads + Wait + Sync>(
 #[test]
 fn runs_the_first_job(rt: HostRuntime) -> Result<(), Fail> {
     let came = check(&rt, rt.alloc(), &FIRST)?;
-    assert_eq!(rt; came.made, 1);
-    Ok(())
+    check_tallies(&rt, &came, FIRST.name, &[(3, 3, 3, 3)])
 }
 
 #[test]
 fn answers_over_devices_that_never_fail(rt: HostRuntime) -> Result<(), Fail> {
     let alloc = rt.alloc();
-    let words = run_words(alloc)?;
+    let words = words_of(alloc, &["run"])?;
     let mut source = SureSource::new(job_of(alloc, &FIRST)?, 64);
     let mut sink = SureSink::new();
     let mut areas = SharedAreas::new(alloc, 16).map_err(|_| "memory")?;
@@ -192,8 +167,7 @@ fn check<T: Abort + Threads + Wait + Sync>(
     check_pieces(rt, alloc, case, 64)
 }
 
-/// Runs the case's job in pieces of so many bytes: status and text are the case's, and so are the tallies of its areas, where
-/// the case has them.
+/// Runs the case's job in pieces of so many bytes: status and text are the case's.
 fn check_pieces<T: Abort + Threads + Wait + Sync>(
     rt: &T,
     alloc: Global,
@@ -203,7 +177,7 @@ fn check_pieces<T: Abort + Threads + Wait + Sync>(
     requires { 0 < piece }
 {
     let name = case.name;
-    let came = run(rt, alloc, job_of(alloc, case)?, piece)?;
+    let came = run(rt, alloc, &job_of(alloc, case)?, piece)?;
     assert_eq!(rt; came.status, Status(case.status), "{name}");
     assert_eq!(rt;
         came.text.as_slice(),
@@ -212,23 +186,46 @@ fn check_pieces<T: Abort + Threads + Wait + Sync>(
     );
     assert_eq!(rt; came.made, came.tallies.len() as u64, "{name}");
     assert!(rt; came.tallies.iter().all(|t| t.closes == 0), "{name}");
-    if let Some(expected) = case.tallies {
-        assert_eq!(rt; came.tallies.len(), expected.len(), "{name}");
-        for (t, e) in came.tallies.iter().zip(expected.iter()) {
-            assert_eq!(rt; counts_of(t), *e, "{name}");
-        }
-    }
     Ok(came)
 }
 
-/// Checks jobs that make an area exactly where their status is 0.
-fn check_areas<T: Abort + Threads + Wait + Sync>(
+/// The areas of what came have these tallies.
+fn check_tallies<T: Abort>(
+    rt: &T,
+    came: &Came,
+    name: &str,
+    expected: &[(u64, u64, u64, u64)],
+) -> Result<(), Fail> {
+    assert_eq!(rt; came.tallies.len(), expected.len(), "{name}");
+    for (t, e) in came.tallies.iter().zip(expected.iter()) {
+        assert_eq!(rt; counts_of(t), *e, "{name}");
+    }
+    Ok(())
+}
+
+/// Runs each case's job.
+fn check_tallied<T: Abort + Threads + Wait + Sync>(
     rt: &T,
     alloc: Global,
-    cases: &[Case],
+    cases: &[Tallied],
 ) -> Result<(), Fail> {
-    for case in cases {
-        let came = check(rt, alloc, case)?;
+    for tallied in cases {
+        let came = check(rt, alloc, &tallied.case)?;
+        check_tallies(rt, &came, tallied.case.name, tallied.tallies)?;
+    }
+    Ok(())
+}
+
+/// Each case's job in pieces of so many bytes: an area is made where it isn't refused.
+fn check_cases<T: Abort + Threads + Wait + Sync>(
+    rt: &T,
+    alloc: Global,
+    piece: usize,
+) -> Result<(), Fail>
+    requires { 0 < piece }
+{
+    for case in &CASES {
+        let came = check_pieces(rt, alloc, case, piece)?;
         let name = case.name;
         assert_eq!(rt; came.made, u64::from(case.status == 0), "{name}");
     }
@@ -237,26 +234,24 @@ fn check_areas<T: Abort + Threads + Wait + Sync>(
 
 #[test]
 fn answers_each_job(rt: HostRuntime) -> Result<(), Fail> {
-    check_areas(&rt, rt.alloc(), &CASES)?;
-    check_areas(&rt, rt.alloc(), &LISTINGS)
+    check_cases(&rt, rt.alloc(), 64)
 }
 
 #[test]
 fn answers_each_job_byte_by_byte(rt: HostRuntime) -> Result<(), Fail> {
-    check_pieces(&rt, rt.alloc(), &FIRST, 1)?;
-    for case in &CASES {
-        check_pieces(&rt, rt.alloc(), case, 1)?;
-    }
-    for case in &LISTINGS {
-        check_pieces(&rt, rt.alloc(), case, 1)?;
-    }
-    Ok(())
+    let came = check_pieces(&rt, rt.alloc(), &FIRST, 1)?;
+    check_tallies(&rt, &came, FIRST.name, &[(3, 3, 3, 3)])?;
+    check_cases(&rt, rt.alloc(), 1)
 }
 
 #[test]
 fn runs_each_program(rt: HostRuntime) -> Result<(), Fail> {
-    check_areas(&rt, rt.alloc(), &PROGRAMS)?;
-    check_areas(&rt, rt.alloc(), &OPERANDS)
+    for case in &PROGRAMS {
+        let came = check(&rt, rt.alloc(), case)?;
+        let name = case.name;
+        assert_eq!(rt; came.made, 1, "{name}");
+    }
+    check_tallied(&rt, rt.alloc(), &TALLIED_PROGRAMS)
 }
 
 #[test]
@@ -264,5 +259,5 @@ fn runs_each_whole_job(rt: HostRuntime) -> Result<(), Fail> {
     for case in &JOBS {
         check(&rt, rt.alloc(), case)?;
     }
-    Ok(())
+    check_tallied(&rt, rt.alloc(), &TALLIED_JOBS)
 }

@@ -1,11 +1,12 @@
 -- The entries of places one after another.
-use Rattle.std.proofs.Common.{◌≡◌, ℕ, zero, suc, ◌+◌, ◌-◌, ◌<◌, ◌≤◌, Bool, true, false, nat_eq, if◌then◌else◌, Option, List, [], ◌∷◌, ◌++◌, length, refl, ◌∙◌, ap, arith, length-append}
+use Rattle.std.proofs.Common.{◌≡◌, ℕ, zero, suc, ◌+◌, ◌-◌, ◌<◌, ◌≤◌, Option, List, [], ◌∷◌, ◌++◌, length, refl, ◌∙◌, ap, arith}
 use Rattle.std.specs.List.{flat_map}
 use Rattle.cov_base.specs.declared.facts.Fact.{Fact}
 use Rattle.cov_base.specs.declared.facts.Fact.TheVariants.{Ran, Went, Stayed}
-use Rattle.brk_table.specs.Places.{TableView, TablesView, all_places, first_place, place_count}
+use Rattle.brk_table.specs.Places.{TablesView, all_places, first_place, place_count}
 use Rattle.session_book.specs.JobView.{JobView}
 use Rattle.session_book.specs.Sessions.{session_of}
+use Rattle.session_marks.proofs.FillLemmas.{range_most}
 use Rattle.evidence_check.specs.Evidence.{magic, place_entries, places_entries, module_entries, evidence}
 use Rattle.evidence_check.specs.Firsts.{phase_first, session_first}
 use Rattle.evidence_check.specs.Found.{found_at, AreFirsts}
@@ -26,15 +27,6 @@ same_places : (firsts others : ℕ → Fact → Option First) (n count most : �
 same_places firsts others n zero most le same = refl
 same_places firsts others n (suc count) most le same =
     rw (same_place (firsts n) (others n) (same n (omega arith)), same_places firsts others (n + 1) count most (omega arith) same) refl
-
--- the numbers of a module's places are numbers of places
-pub range_most : (ts : List TableView) (m : ℕ) → first_place ts m + place_count ts m ≤ length (all_places ts)
-range_most [] m = omega arith
-range_most (t ∷ ts) m = by_module (nat_eq t.«module» m) (range_most ts m)
-  where
-    by_module : (b : Bool) → first_place ts m + place_count ts m ≤ length (all_places ts) → (if b then 0 else length t.places + first_place ts m) + (if b then length t.places else place_count ts m) ≤ length (t.places ++ all_places ts)
-    by_module true below = omega (arith, length-append t.places (all_places ts))
-    by_module false below = omega (arith, below, length-append t.places (all_places ts))
 
 pub same_modules : (tables : TablesView) (firsts others : ℕ → Fact → Option First) (modules : List ℕ) → tables.places ≡ all_places tables.tables →
     ((n : ℕ) → n < length tables.places → (f : Fact) → firsts n f ≡ others n f) → flat_map (module_entries tables firsts) modules ≡ flat_map (module_entries tables others) modules

@@ -35,123 +35,38 @@ const EVIDENCE: [u8; 29] = [
     0x00, 0x00, 0x00, 0x00, 0x02, 0x00, 0x00, 0x00, 0x00, 0x00, 0x00, 0x03, 0x00,
 ];
 
-/// From which byte on up to which one, and the answers where the lowest bit of one of them is turned, and where all its
-/// bits are. A number stays below 50,000,000 unless its first byte is turned as a whole.
-static TURNED: [(usize, usize, VerifyFault, VerifyFault); 13] = [
-    (
-        0,
-        8,
-        VerifyFault::BadEvidence { offset: 0 },
-        VerifyFault::BadEvidence { offset: 0 },
-    ),
-    (
-        8,
-        10,
-        VerifyFault::BadEvidence { offset: 8 },
-        VerifyFault::BadEvidence { offset: 8 },
-    ),
-    (
-        10,
-        11,
-        VerifyFault::Refuted {
-            row: 1,
-            fact: Fact::Went,
-        },
-        VerifyFault::BadEvidence { offset: 10 },
-    ),
-    (
-        11,
-        14,
-        VerifyFault::Refuted {
-            row: 1,
-            fact: Fact::Went,
-        },
-        VerifyFault::Refuted {
-            row: 1,
-            fact: Fact::Went,
-        },
-    ),
-    (
-        14,
-        15,
-        VerifyFault::Refuted {
-            row: 1,
-            fact: Fact::Went,
-        },
-        VerifyFault::BadEvidence { offset: 14 },
-    ),
-    (
-        15,
-        17,
-        VerifyFault::BadEvidence { offset: 15 },
-        VerifyFault::BadEvidence { offset: 15 },
-    ),
-    (
-        17,
-        18,
-        VerifyFault::Refuted {
-            row: 1,
-            fact: Fact::Stayed,
-        },
-        VerifyFault::BadEvidence { offset: 17 },
-    ),
-    (
-        18,
-        21,
-        VerifyFault::Refuted {
-            row: 1,
-            fact: Fact::Stayed,
-        },
-        VerifyFault::Refuted {
-            row: 1,
-            fact: Fact::Stayed,
-        },
-    ),
-    (
-        21,
-        22,
-        VerifyFault::Refuted {
-            row: 1,
-            fact: Fact::Stayed,
-        },
-        VerifyFault::BadEvidence { offset: 21 },
-    ),
-    (
-        22,
-        24,
-        VerifyFault::BadEvidence { offset: 22 },
-        VerifyFault::BadEvidence { offset: 22 },
-    ),
-    (
-        24,
-        25,
-        VerifyFault::Refuted {
-            row: 2,
-            fact: Fact::Ran,
-        },
-        VerifyFault::BadEvidence { offset: 24 },
-    ),
-    (
-        25,
-        28,
-        VerifyFault::Refuted {
-            row: 2,
-            fact: Fact::Ran,
-        },
-        VerifyFault::Refuted {
-            row: 2,
-            fact: Fact::Ran,
-        },
-    ),
-    (
-        28,
-        29,
-        VerifyFault::Refuted {
-            row: 2,
-            fact: Fact::Ran,
-        },
-        VerifyFault::BadEvidence { offset: 28 },
-    ),
+const WENT: VerifyFault = VerifyFault::Refuted {
+    row: 1,
+    fact: Fact::Went,
+};
+
+const STAYED: VerifyFault = VerifyFault::Refuted {
+    row: 1,
+    fact: Fact::Stayed,
+};
+
+const RAN: VerifyFault = VerifyFault::Refuted {
+    row: 2,
+    fact: Fact::Ran,
+};
+
+/// From which byte on up to which one, and what is refuted where the lowest bit of one of them is turned, and where all its
+/// bits are; nothing where that is bad evidence at the first of them. A number stays below 50,000,000 unless its first byte is
+/// turned as a whole.
+static TURNED: [(usize, usize, Option<VerifyFault>, Option<VerifyFault>); 13] = [
+    (0, 8, None, None),
+    (8, 10, None, None),
+    (10, 11, Some(WENT), None),
+    (11, 14, Some(WENT), Some(WENT)),
+    (14, 15, Some(WENT), None),
+    (15, 17, None, None),
+    (17, 18, Some(STAYED), None),
+    (18, 21, Some(STAYED), Some(STAYED)),
+    (21, 22, Some(STAYED), None),
+    (22, 24, None, None),
+    (24, 25, Some(RAN), None),
+    (25, 28, Some(RAN), Some(RAN)),
+    (28, 29, Some(RAN), None),
 ];
 
 /// From which length on up to which one evidence is cut, and the offset of the field that is cut short.
@@ -170,10 +85,6 @@ static CUT: [(usize, usize, usize); 10] = [
 
 fn bad(offset: usize) -> VerifyFault {
     VerifyFault::BadEvidence { offset }
-}
-
-fn refuted(row: u32, fact: Fact) -> VerifyFault {
-    VerifyFault::Refuted { row, fact }
 }
 
 fn image(alloc: Global, name: &[u8], base: u32, bytes: &[u8]) -> Result<Image, Fail>
@@ -389,8 +300,10 @@ fn each_byte_is_turned(rt: HostRuntime) -> Result<(), Fail> {
     for i in 0..TURNED.len() {
         let (from, to, low, all) = TURNED[i];
         for at in from..to {
-            assert!(rt; verified(rt.alloc(), &MARKS, &turned(at, 0x01))? == Err(low));
-            assert!(rt; verified(rt.alloc(), &MARKS, &turned(at, 0xFF))? == Err(all));
+            for (mask, fault) in [(0x01, low), (0xFF, all)] {
+                let fault = fault.unwrap_or(bad(from));
+                assert!(rt; verified(rt.alloc(), &MARKS, &turned(at, mask))? == Err(fault));
+            }
         }
     }
     Ok(())
@@ -419,11 +332,11 @@ fn entries_stand_twice_or_exchanged(rt: HostRuntime) -> Result<(), Fail> {
     first.extend_from_slice(&EVIDENCE[15..22])?;
     first.extend_from_slice(&EVIDENCE[8..15])?;
     first.extend_from_slice(&EVIDENCE[22..])?;
-    assert!(rt; verified(alloc, &MARKS, &first)? == Err(refuted(1, Fact::Went)));
+    assert!(rt; verified(alloc, &MARKS, &first)? == Err(WENT));
     let mut last = Vec::from_slice(alloc, &EVIDENCE[..15])?;
     last.extend_from_slice(&EVIDENCE[22..])?;
     last.extend_from_slice(&EVIDENCE[15..22])?;
-    assert!(rt; verified(alloc, &MARKS, &last)? == Err(refuted(1, Fact::Stayed)));
+    assert!(rt; verified(alloc, &MARKS, &last)? == Err(STAYED));
     Ok(())
 }
 
@@ -435,12 +348,12 @@ fn marks_have_other_facts(rt: HostRuntime) -> Result<(), Fail> {
     fewer[BRANCH_SET] = 0x02;
     let mut entries = Vec::from_slice(alloc, &EVIDENCE[..15])?;
     entries.extend_from_slice(&EVIDENCE[22..])?;
-    assert!(rt; verified(alloc, &fewer, &entries)? == Err(refuted(1, Fact::Stayed)));
+    assert!(rt; verified(alloc, &fewer, &entries)? == Err(STAYED));
     // so many entries are not expected
     assert!(rt; verified(alloc, &fewer, &EVIDENCE)? == Err(bad(22)));
     let mut none = MARKS;
     none[BRANCH_SET] = 0x00;
     none[RETURN_SET] = 0x00;
-    assert!(rt; verified(alloc, &none, &EVIDENCE[..8])? == Err(refuted(1, Fact::Went)));
+    assert!(rt; verified(alloc, &none, &EVIDENCE[..8])? == Err(WENT));
     Ok(())
 }

@@ -104,149 +104,80 @@ fn reads_a_page_in_either_case(rt: HostRuntime) -> Result<(), Fail> {
     Ok(())
 }
 
+const BAR: Says = Says::Code(0xA0, 4, [0x47, 0xF0, 0xF0, 0x0C, 0, 0]);
+
+const MOVE: Says = Says::Code(6, 6, [0xD2, 0, 0, 0, 0, 8]);
+
+/// A line behind the heading, and what it says.
+static LINES: [(&[u8], Says); 13] = [
+    (
+        b"0000a0 47F0 F00C            0000C     2 HERE     B     12(,15)",
+        BAR,
+    ),
+    (
+        b"0000A0 47F0 F00C            0000C     2*         B     12(,15)",
+        BAR,
+    ),
+    (
+        b"0000A0 47F0 F00C            0000C     2 *        B     12(,15)",
+        Says::Text,
+    ),
+    (b"0000A0 47F0 F00C                     12          nop", BAR),
+    (
+        b"0000A0 47F0 F00C                     12          JUMP  12(,15)",
+        Says::Text,
+    ),
+    (
+        b"0000A0 47F0 F00C                     12          B12",
+        Says::Text,
+    ),
+    (b"0000A0 47F0 F00C                     12", Says::Text),
+    (b"0000A0", Says::Text),
+    (b"", Says::Text),
+    (
+        b"0000A  47F0 F00C            0000C     2          B     12(,15)",
+        Says::Text,
+    ),
+    (
+        b"0000A0047F0 F00C            0000C     2          B     12(,15)",
+        Says::Text,
+    ),
+    (
+        b"0000A0                      0000C     2          B     12(,15)",
+        Says::Text,
+    ),
+    (
+        b"000006 D200 0000 0008 XXXXXXXXXXXX    2          MVC   0(1),8",
+        MOVE,
+    ),
+];
+
 #[test]
 fn reads_lines_by_their_columns(rt: HostRuntime) -> Result<(), Fail> {
-    let alloc = rt.alloc();
-    let bar = Says::Code(0xA0, 4, [0x47, 0xF0, 0xF0, 0x0C, 0, 0]);
-    let move_ = Says::Code(6, 6, [0xD2, 0, 0, 0, 0, 8]);
-    assert_eq!(rt;
-        plain(
-            alloc,
-            b"0000a0 47F0 F00C            0000C     2 HERE     B     12(,15)"
-        )?,
-        bar
-    );
-    assert_eq!(rt;
-        plain(
-            alloc,
-            b"0000A0 47F0 F00C            0000C     2*         B     12(,15)"
-        )?,
-        bar
-    );
-    assert_eq!(rt;
-        plain(
-            alloc,
-            b"0000A0 47F0 F00C            0000C     2 *        B     12(,15)"
-        )?,
-        Says::Text
-    );
-    assert_eq!(rt;
-        plain(
-            alloc,
-            b"0000A0 47F0 F00C                     12          nop"
-        )?,
-        bar
-    );
-    assert_eq!(rt;
-        plain(
-            alloc,
-            b"0000A0 47F0 F00C                     12          JUMP  12(,15)"
-        )?,
-        Says::Text
-    );
-    assert_eq!(rt;
-        plain(
-            alloc,
-            b"0000A0 47F0 F00C                     12          B12"
-        )?,
-        Says::Text
-    );
-    assert_eq!(rt;
-        plain(alloc, b"0000A0 47F0 F00C                     12")?,
-        Says::Text
-    );
-    assert_eq!(rt; plain(alloc, b"0000A0")?, Says::Text);
-    assert_eq!(rt; plain(alloc, b"")?, Says::Text);
-    assert_eq!(rt;
-        plain(
-            alloc,
-            b"0000A  47F0 F00C            0000C     2          B     12(,15)"
-        )?,
-        Says::Text
-    );
-    assert_eq!(rt;
-        plain(
-            alloc,
-            b"0000A0047F0 F00C            0000C     2          B     12(,15)"
-        )?,
-        Says::Text
-    );
-    assert_eq!(rt;
-        plain(
-            alloc,
-            b"0000A0                      0000C     2          B     12(,15)"
-        )?,
-        Says::Text
-    );
-    assert_eq!(rt;
-        plain(
-            alloc,
-            b"000006 D200 0000 0008 XXXXXXXXXXXX    2          MVC   0(1),8"
-        )?,
-        move_
-    );
+    for (line, expected) in &LINES {
+        assert_eq!(rt; plain(rt.alloc(), line)?, *expected);
+    }
     Ok(())
 }
+
+/// Lines whose object code has another form.
+static REFUSED: [&[u8]; 8] = [
+    b"000006 D20000000008                   2          MVC   0(1),8",
+    b"000006 D200 0000  0008                2          MVC   0(1),8",
+    b"000006 D200  0000 008                 2          MVC   0(1),8",
+    b"000006  D200 0000 0008                2          MVC   0(1),8",
+    b"000006 D200 0000                      2          MVC   0(1),8",
+    b"000006 4110                           2          LA    1,5",
+    b"000006 07FE X                         2          BR    14",
+    b"000006 0XFE                           2          BR    14",
+];
 
 #[test]
 fn refuses_object_code_of_another_form(rt: HostRuntime) -> Result<(), Fail> {
     let alloc = rt.alloc();
-    assert_eq!(rt;
-        plain(
-            alloc,
-            b"000006 D20000000008                   2          MVC   0(1),8"
-        )?,
-        Says::Bad(2)
-    );
-    assert_eq!(rt;
-        plain(
-            alloc,
-            b"000006 D200 0000  0008                2          MVC   0(1),8"
-        )?,
-        Says::Bad(2)
-    );
-    assert_eq!(rt;
-        plain(
-            alloc,
-            b"000006 D200  0000 008                 2          MVC   0(1),8"
-        )?,
-        Says::Bad(2)
-    );
-    assert_eq!(rt;
-        plain(
-            alloc,
-            b"000006  D200 0000 0008                2          MVC   0(1),8"
-        )?,
-        Says::Bad(2)
-    );
-    assert_eq!(rt;
-        plain(
-            alloc,
-            b"000006 D200 0000                      2          MVC   0(1),8"
-        )?,
-        Says::Bad(2)
-    );
-    assert_eq!(rt;
-        plain(
-            alloc,
-            b"000006 4110                           2          LA    1,5"
-        )?,
-        Says::Bad(2)
-    );
-    assert_eq!(rt;
-        plain(
-            alloc,
-            b"000006 07FE X                         2          BR    14"
-        )?,
-        Says::Bad(2)
-    );
-    assert_eq!(rt;
-        plain(
-            alloc,
-            b"000006 0XFE                           2          BR    14"
-        )?,
-        Says::Bad(2)
-    );
+    for line in &REFUSED {
+        assert_eq!(rt; plain(alloc, line)?, Says::Bad(2));
+    }
     let none: [&[u8]; 1] = [b"000006 07FE                           2          BR    14"];
     assert_eq!(rt; read(alloc, &none, 0, false)?, Says::Unheaded);
     let page: [&[u8]; 4] = [

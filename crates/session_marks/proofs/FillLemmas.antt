@@ -43,9 +43,9 @@ modules_are_filled j tables old new (m ∷ ms) =
     ap (λ (x : MarkedView). x ∷ filled tables new (map (marked_module j tables old) ms) ms) one ∙ ap (λ (xs : List MarkedView). marked_module j tables new m ∷ xs) (modules_are_filled j tables old new ms)
 
 -- a module's places are some of all
-in_all : (ts : List TableView) (m : ℕ) → first_place ts m + place_count ts m ≤ length (all_places ts)
-in_all [] m = omega arith
-in_all (t ∷ ts) m = by_module (nat_eq t.«module» m) refl (in_all ts m)
+pub range_most : (ts : List TableView) (m : ℕ) → first_place ts m + place_count ts m ≤ length (all_places ts)
+range_most [] m = omega arith
+range_most (t ∷ ts) m = by_module (nat_eq t.«module» m) refl (range_most ts m)
   where
     by_module : (q : Bool) → nat_eq t.«module» m ≡ q → first_place ts m + place_count ts m ≤ length (all_places ts) → first_place (t ∷ ts) m + place_count (t ∷ ts) m ≤ length (all_places (t ∷ ts))
     by_module true e more = let size = length-append t.places (all_places ts) in rw e (omega (arith, size))
@@ -55,7 +55,7 @@ pub are_there : (j : JobView) (tables : TablesView) (sets : ℕ → FactSet) (ms
 are_there j tables sets [] e = tt
 are_there j tables sets (m ∷ ms) e =
     let size = length-marked_places (marked_module j tables sets m).base tables.places sets (first_place tables.tables m) (place_count tables.tables m) in
-    let all = in_all tables.tables m in
+    let all = range_most tables.tables m in
     (omega (arith, size, all, ap length e), are_there j tables sets ms e)
 
 -- ---- the filled marks keep the rules of a file

@@ -1,5 +1,5 @@
 -- The places of a module keep the rules of a marks file.
-use Rattle.std.proofs.Common.{◌≡◌, ◌≢◌, ◌⊎◌, inl, inr, ℕ, ◌+◌, ◌-◌, ◌%◌, ◌<◌, ◌≤◌, zero, suc, Bool, true, false, ◌||◌, not, nat_eq, nat_lt, nat_le, List, length, refl, sym, ap, ◌∙◌, arith}
+use Rattle.std.proofs.Common.{◌≡◌, ◌≢◌, ◌⊎◌, inl, inr, ℕ, ◌+◌, ◌-◌, ◌%◌, ◌<◌, ◌≤◌, zero, suc, true, ◌||◌, not, nat_eq, nat_lt, nat_le, List, length, refl, sym, ap, ◌∙◌, arith}
 use Rattle.std.proofs.lemmas.Bool.Decides.{nat_tests}
 use Rattle.std.proofs.lemmas.List.Elements.{All-tail}
 use Rattle.cov_base.specs.Codes.{length_of}
@@ -15,6 +15,7 @@ use Rattle.marks_file.specs.Marks.{kind_number, is_location, is_length, is_origi
 use Rattle.marks_file.specs.declared.marks.MarkedPlace.{MarkedPlace}
 use Rattle.marks_file.proofs.MarksLemmas.{both}
 use Rattle.marks_file.proofs.SpellLemmas.{set_read}
+use Rattle.table_combine.proofs.UnionLemmas.{small_number}
 use Rattle.session_marks.specs.Fields.{AreHalfwords}
 use Rattle.session_marks.specs.Marked.{marked_place, marked_places}
 
@@ -70,16 +71,6 @@ original_kept : (p : Place) → IsPlace p → p.original < 65536 → is_original
 unfolding is_original
 original_kept p is half =
     both _ _ (below _ _ half) (both _ _ (equal _ _ (sym is.size)) (both _ _ (equal _ _ (ap kind_number (sym is.kind))) (differ _ _ is.no_breakpoint)))
-
-small_number : (a b c : Bool) → nat_lt (number_of_facts (record { ran = a; went = b; stayed = c })) 8 ≡ true
-small_number false false false = refl
-small_number true false false = refl
-small_number false true false = refl
-small_number true true false = refl
-small_number false false true = refl
-small_number true false true = refl
-small_number false true true = refl
-small_number true true true = refl
 
 set_kept : (k : Kind) (s : FactSet) → is_within k s ≡ true → is_set k (number_of_facts s) ≡ true
 unfolding is_set

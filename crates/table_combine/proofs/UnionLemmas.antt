@@ -59,7 +59,7 @@ within_both : (k : Kind) (s t : FactSet) → is_within k s ≡ true → is_withi
 within_both Straight s t h g = no_more s.went s.stayed t.went t.stayed h g
 within_both Conditional s t h g = not_either s.ran t.ran h g
 
-small_number : (a b c : Bool) → nat_lt (number_of_facts (record { ran = a; went = b; stayed = c })) 8 ≡ true
+pub small_number : (a b c : Bool) → nat_lt (number_of_facts (record { ran = a; went = b; stayed = c })) 8 ≡ true
 small_number false false false = refl
 small_number true false false = refl
 small_number false true false = refl

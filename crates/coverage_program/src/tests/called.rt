@@ -2,27 +2,15 @@
 
 use super::marked::Row;
 use super::marks::check_row;
-use super::notation::Part;
-use super::notation::Part::{Bytes, Marked, Text};
+use super::notation::Part::{Bytes, Marked, Phase, Task, Text};
+use super::notation::{END, LOAD, Part, REPORT, SESSION, bytes_of};
 use super::run;
 use crate::status::Status;
 use module_area::Tally;
 use std::test::Fail;
 
-/// Load address, add and branch.
-const CODE: &str = "000000 4110 0005 LA, 000004 1A11 AR, 000006 07FE BR";
-
 /// Task C opens session S, goes through module M, and closes the session.
 pub const THROUGH: &str = "\
-COVERJOB 1\n\
-MODULE M 100000 8\n\
-TEXT 411000051A1107FE\n\
-LISTING 4\n\
-\x20 Loc  Object Code    Addr1 Addr2  Stmt   Source Statement\n\
-000000 4110 0005                      1          LA\n\
-000004 1A11                           2          AR\n\
-000006 07FE                           3          BR\n\
-PHASE P\n\
 SESSION S BY C M\n\
 TASK C 000000 32 100 0\n\
 REG 1 00100000\n\
@@ -32,15 +20,6 @@ ENDJOB\n";
 
 /// It opens the session and goes past the module.
 const PAST: &str = "\
-COVERJOB 1\n\
-MODULE M 100000 8\n\
-TEXT 411000051A1107FE\n\
-LISTING 4\n\
-\x20 Loc  Object Code    Addr1 Addr2  Stmt   Source Statement\n\
-000000 4110 0005                      1          LA\n\
-000004 1A11                           2          AR\n\
-000006 07FE                           3          BR\n\
-PHASE P\n\
 SESSION S BY C M\n\
 TASK C 000000 32 100 0\n\
 REG 1 00100000\n\
@@ -50,15 +29,6 @@ ENDJOB\n";
 
 /// It goes through the module and leaves the session open.
 pub const LEFT_OPEN: &str = "\
-COVERJOB 1\n\
-MODULE M 100000 8\n\
-TEXT 411000051A1107FE\n\
-LISTING 4\n\
-\x20 Loc  Object Code    Addr1 Addr2  Stmt   Source Statement\n\
-000000 4110 0005                      1          LA\n\
-000004 1A11                           2          AR\n\
-000006 07FE                           3          BR\n\
-PHASE P\n\
 SESSION S BY C M\n\
 TASK C 000000 32 100 0\n\
 REG 1 00100000\n\
@@ -68,15 +38,6 @@ ENDJOB\n";
 
 /// Task A goes through the module, and task C never opens the session.
 pub const NEVER: &str = "\
-COVERJOB 1\n\
-MODULE M 100000 8\n\
-TEXT 411000051A1107FE\n\
-LISTING 4\n\
-\x20 Loc  Object Code    Addr1 Addr2  Stmt   Source Statement\n\
-000000 4110 0005                      1          LA\n\
-000004 1A11                           2          AR\n\
-000006 07FE                           3          BR\n\
-PHASE P\n\
 SESSION S BY C M\n\
 TASK A 100000 16 100 0\n\
 TASK C 000000 16 100 0\n\
@@ -85,15 +46,6 @@ ENDJOB\n";
 
 /// Task C opens and closes two sessions, one after the other, while task A goes through the module.
 pub const TWO: &str = "\
-COVERJOB 1\n\
-MODULE M 100000 8\n\
-TEXT 411000051A1107FE\n\
-LISTING 4\n\
-\x20 Loc  Object Code    Addr1 Addr2  Stmt   Source Statement\n\
-000000 4110 0005                      1          LA\n\
-000004 1A11                           2          AR\n\
-000006 07FE                           3          BR\n\
-PHASE P\n\
 SESSION S1 BY C M\n\
 SESSION S2 BY C M\n\
 TASK A 100000 16 100 0\n\
@@ -114,47 +66,32 @@ const UNION: Part = Bytes(
     "53333730434F5632 5320202020202020 00000002 0001 4D20202020202020 00100000 00000008 00000003 00000000 04 00 4110 01 00000004 02 00 1A11 01 00000006 02 00 07FE 01",
 );
 
-const REPORT_C: Part = Text(
-    "\
-COVERAGE REPORT\n\
-TASK C RETURNED COUNT 7 CC 2\n\
-R0 00000000 0000000A 00000000 00000000 00000000 00000000 00000000 00000000\n\
-R8 00000000 00000000 00000000 00000000 00000000 00FFFFFE 80000006 00000000\n\
-OUT 0\n",
+const TASK_C: Part = Task(
+    "C RETURNED COUNT 7 CC 2 regs 1=0000000A D=00FFFFFE E=80000006 F=00000000",
 );
 
-const SESSION: Part = Text("SESSION S PHASE P\n");
+const MARKED: Part = Marked(LOAD, "::: EXECUTED 3 FACTS 3 OF 3");
 
-const MARKED: Part = Marked(CODE, "::: EXECUTED 3 FACTS 3 OF 3");
-
-const UNMARKED: Part = Marked(CODE, "^^^ EXECUTED 0 FACTS 0 OF 3");
+const UNMARKED: Part = Marked(LOAD, "^^^ EXECUTED 0 FACTS 0 OF 3");
 
 const NOT_EXECUTED: Part = Text("NOT EXECUTED 000000-000007\n");
-
-const END: Part = Text("END\n");
 
 static ROWS: [Row; 11] = [
     Row {
         name: "run: through the module while the session is open",
         words: &["run"],
-        input: &[Text(THROUGH)],
+        input: &[Phase(LOAD), Text(THROUGH)],
         status: 0,
-        output: &[REPORT_C, SESSION, MARKED, END],
+        output: &[REPORT, TASK_C, SESSION, MARKED, END],
     },
     Row {
         name: "run: past the module",
         words: &["run"],
-        input: &[Text(PAST)],
+        input: &[Phase(LOAD), Text(PAST)],
         status: 0,
         output: &[
-            Text(
-                "\
-COVERAGE REPORT\n\
-TASK C ABEND 5 COUNT 3 CC 0\n\
-R0 00000000 00100000 00000000 00000000 00000000 00000000 00000000 00000000\n\
-R8 00000000 00000000 00000000 00000000 00000000 00FFFFFE 80000006 00000000\n\
-OUT 0\n",
-            ),
+            REPORT,
+            Task("C ABEND 5 COUNT 3 CC 0 regs 1=00100000 D=00FFFFFE E=80000006 F=00000000"),
             SESSION,
             UNMARKED,
             NOT_EXECUTED,
@@ -164,17 +101,11 @@ OUT 0\n",
     Row {
         name: "run: a session that is left open",
         words: &["run"],
-        input: &[Text(LEFT_OPEN)],
+        input: &[Phase(LOAD), Text(LEFT_OPEN)],
         status: 0,
         output: &[
-            Text(
-                "\
-COVERAGE REPORT\n\
-TASK C RETURNED COUNT 6 CC 2\n\
-R0 00000000 0000000A 00000000 00000000 00000000 00000000 00000000 00000000\n\
-R8 00000000 00000000 00000000 00000000 00000000 00FFFFFE 80000006 00000000\n\
-OUT 0\n",
-            ),
+            REPORT,
+            Task("C RETURNED COUNT 6 CC 2 regs 1=0000000A D=00FFFFFE E=80000006 F=00000000"),
             SESSION,
             MARKED,
             END,
@@ -183,21 +114,12 @@ OUT 0\n",
     Row {
         name: "run: a session that is never opened",
         words: &["run"],
-        input: &[Text(NEVER)],
+        input: &[Phase(LOAD), Text(NEVER)],
         status: 0,
         output: &[
-            Text(
-                "\
-COVERAGE REPORT\n\
-TASK A RETURNED COUNT 3 CC 2\n\
-R0 00000000 0000000A 00000000 00000000 00000000 00000000 00000000 00000000\n\
-R8 00000000 00000000 00000000 00000000 00000000 00000000 00FFFFFE 00100000\n\
-OUT 0\n\
-TASK C RETURNED COUNT 1 CC 0\n\
-R0 00000000 00000000 00000000 00000000 00000000 00000000 00000000 00000000\n\
-R8 00000000 00000000 00000000 00000000 00000000 00000000 00FFFFFE 00000000\n\
-OUT 0\n",
-            ),
+            REPORT,
+            Task("A RETURNED COUNT 3 CC 2 regs 1=0000000A"),
+            Task("C RETURNED COUNT 1 CC 0 regs F=00000000"),
             SESSION,
             UNMARKED,
             NOT_EXECUTED,
@@ -207,21 +129,21 @@ OUT 0\n",
     Row {
         name: "marks: through the module while the session is open",
         words: &["marks", "S"],
-        input: &[Text(THROUGH)],
+        input: &[Phase(LOAD), Text(THROUGH)],
         status: 0,
         output: &[ALL],
     },
     Row {
         name: "marks: past the module",
         words: &["marks", "S"],
-        input: &[Text(PAST)],
+        input: &[Phase(LOAD), Text(PAST)],
         status: 0,
         output: &[NONE],
     },
     Row {
         name: "marks: a session that is never opened",
         words: &["marks", "S"],
-        input: &[Text(NEVER)],
+        input: &[Phase(LOAD), Text(NEVER)],
         status: 0,
         output: &[NONE],
     },
@@ -235,21 +157,21 @@ OUT 0\n",
     Row {
         name: "show: the file of a run",
         words: &["show", "S"],
-        input: &[Text(THROUGH), ALL],
+        input: &[Phase(LOAD), Text(THROUGH), ALL],
         status: 0,
         output: &[Text("COVERAGE SHOW\n"), SESSION, MARKED, END],
     },
     Row {
         name: "show: the union behind a job that never opens the session",
         words: &["show", "S"],
-        input: &[Text(NEVER), UNION],
+        input: &[Phase(LOAD), Text(NEVER), UNION],
         status: 0,
         output: &[Text("COVERAGE SHOW\n"), SESSION, MARKED, END],
     },
     Row {
         name: "show: the file of a run past the module",
         words: &["show", "S"],
-        input: &[Text(THROUGH), NONE],
+        input: &[Phase(LOAD), Text(THROUGH), NONE],
         status: 0,
         output: &[
             Text("COVERAGE SHOW\n"),
@@ -317,7 +239,7 @@ const TALLIES: [(&str, Tally); 4] = [
 fn tallies_plants_and_closes(rt: HostRuntime) -> Result<(), Fail> {
     let alloc = rt.alloc();
     for (job, tally) in &TALLIES {
-        let came = run(&rt, alloc, job.as_bytes().to_vec(alloc)?, 64)?;
+        let came = run(&rt, alloc, &bytes_of(alloc, &[Phase(LOAD), Text(job)])?, 64)?;
         assert_eq!(rt; came.status, Status(0));
         assert_eq!(rt; came.tallies.as_slice(), [*tally].as_slice());
     }
@@ -325,17 +247,12 @@ fn tallies_plants_and_closes(rt: HostRuntime) -> Result<(), Fail> {
 }
 
 /// The report of the job with two sessions, up to the first.
-const FRONT: &str = "\
-COVERAGE REPORT\n\
-TASK A RETURNED COUNT 3 CC 2\n\
-R0 00000000 0000000A 00000000 00000000 00000000 00000000 00000000 00000000\n\
-R8 00000000 00000000 00000000 00000000 00000000 00000000 00FFFFFE 00100000\n\
-OUT 0\n\
-TASK C RETURNED COUNT 5 CC 0\n\
-R0 00000000 00000000 00000000 00000000 00000000 00000000 00000000 00000000\n\
-R8 00000000 00000000 00000000 00000000 00000000 00000000 00FFFFFE 00000000\n\
-OUT 0\n\
-SESSION S1 PHASE P\n";
+const FRONT: [Part; 4] = [
+    REPORT,
+    Task("A RETURNED COUNT 3 CC 2 regs 1=0000000A"),
+    Task("C RETURNED COUNT 5 CC 0 regs F=00000000"),
+    Text("SESSION S1 PHASE P\n"),
+];
 
 /// How many lines of a text begin with this byte.
 fn lines_with(text: &[u8], first: u8) -> u64 {
@@ -353,10 +270,12 @@ fn lines_with(text: &[u8], first: u8) -> u64 {
 #[test]
 fn finds_in_two_sessions_what_was_met_while_each_was_open(rt: HostRuntime) -> Result<(), Fail> {
     let alloc = rt.alloc();
+    let job = bytes_of(alloc, &[Phase(LOAD), Text(TWO)])?;
+    let front = bytes_of(alloc, &FRONT)?;
     for _ in 0..50 {
-        let came = run(&rt, alloc, TWO.as_bytes().to_vec(alloc)?, 64)?;
+        let came = run(&rt, alloc, &job, 64)?;
         assert_eq!(rt; came.status, Status(0));
-        assert!(rt; came.text.starts_with(FRONT.as_bytes()));
+        assert!(rt; came.text.starts_with(&front));
         let shown = lines_with(&came.text, b':');
         assert_eq!(rt; shown.wrapping_add(lines_with(&came.text, b'^')), 6);
         assert_eq!(rt; came.tallies.len(), 1);

@@ -15,7 +15,14 @@ use std::test::Fail;
 /// How many of a control's sessions were opened, and the open one.
 type Stand = (u32, Option<SessNo>);
 
-fn opens<C: Cells>(cells: &C, pass: &mut C::Pass, plan: &Plan, control: &mut Control) -> Stand
+/// Opens the next session, or closes the open one.
+fn calls_for<C: Cells>(
+    cells: &C,
+    pass: &mut C::Pass,
+    plan: &Plan,
+    control: &mut Control,
+    opening: bool,
+) -> Stand
     requires area { C.is_pass cells.now pass.old }
     requires plan { C.plan cells.now ≡ plan.now }
     requires room { calls (C.notes pass.old) < 2 ^ 61 }
@@ -25,21 +32,11 @@ fn opens<C: Cells>(cells: &C, pass: &mut C::Pass, plan: &Plan, control: &mut Con
     ensures bears { (C.notes pass.new).bears ≡ (C.notes pass.old).bears }
     ensures room { calls (C.notes pass.new) < calls (C.notes pass.old) + 2 ^ 17 }
 {
-    open_next(cells, pass, plan, control);
-    (control.next, control.opened)
-}
-
-fn closes<C: Cells>(cells: &C, pass: &mut C::Pass, plan: &Plan, control: &mut Control) -> Stand
-    requires area { C.is_pass cells.now pass.old }
-    requires plan { C.plan cells.now ≡ plan.now }
-    requires room { calls (C.notes pass.old) < 2 ^ 61 }
-    requires tied { IsTied plan.now (C.notes pass.old) control.old }
-    ensures area { C.is_pass cells.now pass.new }
-    ensures tied { IsTied plan.now (C.notes pass.new) control.new }
-    ensures bears { (C.notes pass.new).bears ≡ (C.notes pass.old).bears }
-    ensures room { calls (C.notes pass.new) < calls (C.notes pass.old) + 2 ^ 17 }
-{
-    close_open(cells, pass, plan, control);
+    if opening {
+        open_next(cells, pass, plan, control);
+    } else {
+        close_open(cells, pass, plan, control);
+    }
     (control.next, control.opened)
 }
 
@@ -54,13 +51,13 @@ fn course<C: Cells>(cells: &C, pass: &mut C::Pass, plan: &Plan, control: &mut Co
     ensures room { calls (C.notes pass.new) < calls (C.notes pass.old) + 2 ^ 20 }
 {
     [
-        closes(cells, pass, plan, control),
-        opens(cells, pass, plan, control),
-        opens(cells, pass, plan, control),
-        closes(cells, pass, plan, control),
-        opens(cells, pass, plan, control),
-        closes(cells, pass, plan, control),
-        opens(cells, pass, plan, control),
+        calls_for(cells, pass, plan, control, false),
+        calls_for(cells, pass, plan, control, true),
+        calls_for(cells, pass, plan, control, true),
+        calls_for(cells, pass, plan, control, false),
+        calls_for(cells, pass, plan, control, true),
+        calls_for(cells, pass, plan, control, false),
+        calls_for(cells, pass, plan, control, true),
     ]
 }
 

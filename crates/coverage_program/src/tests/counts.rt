@@ -1,6 +1,8 @@
 //! The command `count`: how often each fact of whole sessions was met, and the jobs that it refuses.
 
-use super::notation::{Case, job_of, text_of};
+use super::called::TWO;
+use super::cases::OTHER_BYTES;
+use super::notation::{ALONE, COUNT, Case, LOAD, job_of, text_of};
 use super::places::{USAGE, serve};
 use crate::status::Status;
 use std::test::Fail;
@@ -9,18 +11,12 @@ use std::test::Fail;
 static COUNTED: [Case; 10] = [
     Case {
         name: "a count down from 3",
-        code: "000000 4610 F000 BCT, 000004 07FE BR",
-        job: "\
-TASK A 100000 16 100 0\n\
-REG 1 00000003\n\
-ENDJOB\n",
+        code: COUNT,
+        job: "TASK A 100000 16 100 0\nREG 1 00000003\nENDJOB\n",
         status: 0,
-        tallies: None,
         text: "\
 COVERAGE COUNT\n\
-TASK A RETURNED COUNT 4 CC 0\n\
-regs\n\
-OUT 0\n\
+task A RETURNED COUNT 4 CC 0 regs\n\
 SESSION S PHASE P\n\
 MODULE M PLACES 2\n\
 COUNT 000000 2 1\n\
@@ -30,21 +26,12 @@ END\n",
     Case {
         name: "two tasks, of which one branches",
         code: "000000 1211 LTR, 000002 4780 F008 BE, 000006 1822 LR, 000008 07FE BR",
-        job: "\
-TASK A 100000 16 100 0\n\
-TASK B 100000 16 100 0\n\
-REG 1 00000001\n\
-ENDJOB\n",
+        job: "TASK A 100000 16 100 0\nTASK B 100000 16 100 0\nREG 1 00000001\nENDJOB\n",
         status: 0,
-        tallies: None,
         text: "\
 COVERAGE COUNT\n\
-TASK A RETURNED COUNT 3 CC 0\n\
-regs\n\
-OUT 0\n\
-TASK B RETURNED COUNT 4 CC 2\n\
-regs 1=00000001\n\
-OUT 0\n\
+task A RETURNED COUNT 3 CC 0 regs\n\
+task B RETURNED COUNT 4 CC 2 regs 1=00000001\n\
 SESSION S PHASE P\n\
 MODULE M PLACES 4\n\
 COUNT 000000 2\n\
@@ -57,17 +44,11 @@ END\n",
     Case {
         name: "an instruction that ran by itself, and as the subject of EX",
         code: "000000 4700 F00A BC, 000004 4410 F000 EX, 000008 1822 LR, 00000A 07FE BR",
-        job: "\
-TASK A 100000 16 100 0\n\
-REG 1 000000F0\n\
-ENDJOB\n",
+        job: "TASK A 100000 16 100 0\nREG 1 000000F0\nENDJOB\n",
         status: 0,
-        tallies: None,
         text: "\
 COVERAGE COUNT\n\
-TASK A RETURNED COUNT 3 CC 0\n\
-regs 1=000000F0\n\
-OUT 0\n\
+task A RETURNED COUNT 3 CC 0 regs 1=000000F0\n\
 SESSION S PHASE P\n\
 MODULE M PLACES 4\n\
 COUNT 000000 2\n\
@@ -79,16 +60,11 @@ END\n",
     Case {
         name: "a subject of EX that is EX, which isn't begun",
         code: "000000 4400 F004 EX, 000004 4400 F000 EX, 000008 07FE BR",
-        job: "\
-TASK A 100000 16 100 0\n\
-ENDJOB\n",
+        job: ALONE,
         status: 0,
-        tallies: None,
         text: "\
 COVERAGE COUNT\n\
-TASK A ABEND 3 COUNT 1 CC 0\n\
-regs\n\
-OUT 0\n\
+task A ABEND 3 COUNT 1 CC 0 regs\n\
 SESSION S PHASE P\n\
 MODULE M PLACES 3\n\
 COUNT 000000 1\n\
@@ -98,7 +74,7 @@ END\n",
     },
     Case {
         name: "two phases",
-        code: "000000 4610 F000 BCT, 000004 07FE BR",
+        code: COUNT,
         job: "\
 TASK A 100000 16 100 0\n\
 REG 1 00000001\n\
@@ -108,15 +84,10 @@ TASK B 100000 16 2 0\n\
 REG 1 00000009\n\
 ENDJOB\n",
         status: 0,
-        tallies: None,
         text: "\
 COVERAGE COUNT\n\
-TASK A RETURNED COUNT 2 CC 0\n\
-regs\n\
-OUT 0\n\
-TASK B SPENT COUNT 2 CC 0\n\
-regs 1=00000007\n\
-OUT 0\n\
+task A RETURNED COUNT 2 CC 0 regs\n\
+task B SPENT COUNT 2 CC 0 regs 1=00000007\n\
 SESSION S PHASE P\n\
 MODULE M PLACES 2\n\
 COUNT 000000 0 1\n\
@@ -129,10 +100,9 @@ END\n",
     },
     Case {
         name: "no task",
-        code: "000000 4610 F000 BCT, 000004 07FE BR",
+        code: COUNT,
         job: "ENDJOB\n",
         status: 0,
-        tallies: None,
         text: "\
 COVERAGE COUNT\n\
 SESSION S PHASE P\n\
@@ -168,15 +138,10 @@ PHASE Q\n\
 TASK B 100000 16 100 0\n\
 ENDJOB\n",
         status: 0,
-        tallies: None,
         text: "\
 COVERAGE COUNT\n\
-TASK A RETURNED COUNT 2 CC 0\n\
-regs\n\
-OUT 0\n\
-TASK B RETURNED COUNT 2 CC 0\n\
-regs\n\
-OUT 0\n\
+task A RETURNED COUNT 2 CC 0 regs\n\
+task B RETURNED COUNT 2 CC 0 regs\n\
 SESSION S PHASE P\n\
 MODULE N PLACES 1\n\
 COUNT 000000 1\n\
@@ -190,16 +155,11 @@ END\n",
     Case {
         name: "a return address as entry",
         code: "000000 07FE BR",
-        job: "\
-TASK A FFFFFE 16 100 0\n\
-ENDJOB\n",
+        job: "TASK A FFFFFE 16 100 0\nENDJOB\n",
         status: 0,
-        tallies: None,
         text: "\
 COVERAGE COUNT\n\
-TASK A RETURNED COUNT 0 CC 0\n\
-regs F=00FFFFFE\n\
-OUT 0\n\
+task A RETURNED COUNT 0 CC 0 regs F=00FFFFFE\n\
 SESSION S PHASE P\n\
 MODULE M PLACES 1\n\
 COUNT 000000 0\n\
@@ -208,16 +168,11 @@ END\n",
     Case {
         name: "task calls of sessions, which no task has",
         code: "000000 0A04 SVC, 000002 0A05 SVC, 000004 0A03 SVC",
-        job: "\
-TASK A 100000 16 100 0\n\
-ENDJOB\n",
+        job: ALONE,
         status: 0,
-        tallies: None,
         text: "\
 COVERAGE COUNT\n\
-TASK A EXIT COUNT 3 CC 0\n\
-regs\n\
-OUT 0\n\
+task A EXIT COUNT 3 CC 0 regs\n\
 SESSION S PHASE P\n\
 MODULE M PLACES 3\n\
 COUNT 000000 1\n\
@@ -230,7 +185,6 @@ END\n",
         code: "",
         job: "COVERJOB 1\nENDJOB\n",
         status: 0,
-        tallies: None,
         text: "COVERAGE COUNT\nEND\n",
     },
 ];
@@ -239,25 +193,9 @@ END\n",
 static UNCOUNTED: [Case; 7] = [
     Case {
         name: "two sessions of one controller",
-        code: "",
-        job: "\
-COVERJOB 1\n\
-MODULE M 100000 8\n\
-TEXT 411000051A1107FE\n\
-LISTING 4\n\
-\x20 Loc  Object Code    Addr1 Addr2  Stmt   Source Statement\n\
-000000 4110 0005                      1          LA\n\
-000004 1A11                           2          AR\n\
-000006 07FE                           3          BR\n\
-PHASE P\n\
-SESSION S1 BY C M\n\
-SESSION S2 BY C M\n\
-TASK A 100000 16 100 0\n\
-TASK C 000000 16 100 0\n\
-DATA 0 0A040A050A040A0507FE\n\
-ENDJOB\n",
+        code: LOAD,
+        job: TWO,
         status: 14,
-        tallies: None,
         text: "CONTROLLED S1\n",
     },
     Case {
@@ -272,7 +210,6 @@ SESSION U BY C M\n\
 TASK C 100000 16 100 0\n\
 ENDJOB\n",
         status: 14,
-        tallies: None,
         text: "CONTROLLED U\n",
     },
     Case {
@@ -289,7 +226,6 @@ SESSION S BY A M\n\
 TASK A 100000 16 100 0\n\
 ENDJOB\n",
         status: 14,
-        tallies: None,
         text: "CONTROLLED S\n",
     },
     Case {
@@ -303,7 +239,6 @@ TASK C 100000 16 100 0\n\
 ENDJOB\n\
 ENDJOB\n",
         status: 2,
-        tallies: None,
         text: "BAD JOB LINE 14\n",
     },
     Case {
@@ -311,7 +246,6 @@ ENDJOB\n",
         code: "000000 07FE BR",
         job: "TASK A 100000 16 100 0\n",
         status: 2,
-        tallies: None,
         text: "BAD JOB LINE 10\n",
     },
     Case {
@@ -319,19 +253,9 @@ ENDJOB\n",
         code: "000000 07FE BR",
         job: "TASK A 100000 16 50000001 0\nENDJOB\n",
         status: 4,
-        tallies: None,
         text: "TOO LARGE BUDGET LINE 9\n",
     },
-    Case {
-        name: "other bytes than the module's",
-        code: "411000051A1107FE: 000000 4110 0006 LA, 000004 1A11 AR, 000006 07FE BR",
-        job: "\
-TASK A 100000 16 100 0\n\
-ENDJOB\n",
-        status: 3,
-        tallies: None,
-        text: "MISMATCH M LINE 2 LOC 000000 LISTING 41100006 MODULE 41100005\n",
-    },
+    OTHER_BYTES,
 ];
 
 /// What is counted.

@@ -10,6 +10,7 @@ ghost use Rattle.early_report.specs.declared.drains.Stage.TheVariants.{Begun as 
 
 use super::called::TWO;
 use super::controls::two_sessions;
+use super::notation::{LOAD, Part, bytes_of};
 use crate::ready::make_ready;
 use brk_table::Tables;
 use cov_base::{NoMemory, TaskNo};
@@ -207,7 +208,8 @@ fn a_poll_waits_for_the_other_tasks_boundary(rt: HostRuntime) -> Result<(), Fail
 #[test]
 fn a_task_that_has_ended_is_not_waited_for(rt: HostRuntime) -> Result<(), Fail> {
     let alloc = rt.alloc();
-    let mut source = MemSource::new(TWO.as_bytes().to_vec(alloc)?, 64, Vec::new(alloc));
+    let job = bytes_of(alloc, &[Part::Phase(LOAD), Part::Text(TWO)])?;
+    let mut source = MemSource::new(job, 64, Vec::new(alloc));
     let Ok(ready) = make_ready(alloc, &mut source, false) else {
         return Err("no job".into());
     };

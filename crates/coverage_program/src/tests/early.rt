@@ -2,7 +2,7 @@
 
 use super::called::{LEFT_OPEN, NEVER, THROUGH, TWO};
 use super::exits::check_came;
-use super::notation::{Case, job_of};
+use super::notation::{Case, LOAD, Part, bytes_of, job_of};
 use super::places::serve;
 use super::{FIRST_JOB, FIRST_TEXT};
 use crate::status::Status;
@@ -15,181 +15,89 @@ static CASES: [Case; 7] = [
         code: "",
         job: FIRST_JOB,
         status: 0,
-        tallies: None,
         text: FIRST_TEXT,
     },
     Case {
         name: "closed at once",
-        code: "",
-        job: "\
-COVERJOB 1\n\
-MODULE M 100000 8\n\
-TEXT 411000051A1107FE\n\
-LISTING 4\n\
-\x20 Loc  Object Code    Addr1 Addr2  Stmt   Source Statement\n\
-000000 4110 0005                      1          LA\n\
-000004 1A11                           2          AR\n\
-000006 07FE                           3          BR\n\
-PHASE P\n\
-SESSION S BY C M\n\
-TASK C 000000 16 100 0\n\
-DATA 0 0A040A0507FE\n\
-ENDJOB\n",
+        code: LOAD,
+        job: "SESSION S BY C M\nTASK C 000000 16 100 0\nDATA 0 0A040A0507FE\nENDJOB\n",
         status: 0,
-        tallies: None,
         text: "\
 COVERAGE REPORT\n\
-TASK C RETURNED COUNT 3 CC 0\n\
-R0 00000000 00000000 00000000 00000000 00000000 00000000 00000000 00000000\n\
-R8 00000000 00000000 00000000 00000000 00000000 00000000 00FFFFFE 00000000\n\
-OUT 0\n\
-SESSION S PHASE P\n\
-MODULE M PLACES 3 EXECUTED 0 FACTS 0 OF 3\n\
-\x20   Loc  Object Code    Addr1 Addr2  Stmt   Source Statement\n\
-^ 000000 4110 0005                      1          LA\n\
-^ 000004 1A11                           2          AR\n\
-^ 000006 07FE                           3          BR\n\
+task C RETURNED COUNT 3 CC 0 regs F=00000000\n\
+session S PHASE P marks ^^^ EXECUTED 0 FACTS 0 OF 3\n\
 NOT EXECUTED 000000-000007\n\
 DRAINED COUNT 2\n\
 END\n",
     },
     Case {
         name: "closed by the last instruction of the budget",
-        code: "",
-        job: "\
-COVERJOB 1\n\
-MODULE M 100000 8\n\
-TEXT 411000051A1107FE\n\
-LISTING 4\n\
-\x20 Loc  Object Code    Addr1 Addr2  Stmt   Source Statement\n\
-000000 4110 0005                      1          LA\n\
-000004 1A11                           2          AR\n\
-000006 07FE                           3          BR\n\
-PHASE P\n\
-SESSION S BY C M\n\
-TASK C 000000 16 2 0\n\
-DATA 0 0A040A0507FE\n\
-ENDJOB\n",
+        code: LOAD,
+        job: "SESSION S BY C M\nTASK C 000000 16 2 0\nDATA 0 0A040A0507FE\nENDJOB\n",
         status: 0,
-        tallies: None,
         text: "\
 COVERAGE REPORT\n\
-TASK C SPENT COUNT 2 CC 0\n\
-R0 00000000 00000000 00000000 00000000 00000000 00000000 00000000 00000000\n\
-R8 00000000 00000000 00000000 00000000 00000000 00000000 00FFFFFE 00000000\n\
-OUT 0\n\
-SESSION S PHASE P\n\
-MODULE M PLACES 3 EXECUTED 0 FACTS 0 OF 3\n\
-\x20   Loc  Object Code    Addr1 Addr2  Stmt   Source Statement\n\
-^ 000000 4110 0005                      1          LA\n\
-^ 000004 1A11                           2          AR\n\
-^ 000006 07FE                           3          BR\n\
+task C SPENT COUNT 2 CC 0 regs F=00000000\n\
+session S PHASE P marks ^^^ EXECUTED 0 FACTS 0 OF 3\n\
 NOT EXECUTED 000000-000007\n\
 DRAINED COUNT 2\n\
 END\n",
     },
     Case {
         name: "through the module while the session is open",
-        code: "",
+        code: LOAD,
         job: THROUGH,
         status: 0,
-        tallies: None,
         text: "\
 COVERAGE REPORT\n\
-TASK C RETURNED COUNT 7 CC 2\n\
-R0 00000000 0000000A 00000000 00000000 00000000 00000000 00000000 00000000\n\
-R8 00000000 00000000 00000000 00000000 00000000 00FFFFFE 80000006 00000000\n\
-OUT 0\n\
-SESSION S PHASE P\n\
-MODULE M PLACES 3 EXECUTED 3 FACTS 3 OF 3\n\
-\x20   Loc  Object Code    Addr1 Addr2  Stmt   Source Statement\n\
-: 000000 4110 0005                      1          LA\n\
-: 000004 1A11                           2          AR\n\
-: 000006 07FE                           3          BR\n\
+task C RETURNED COUNT 7 CC 2 regs 1=0000000A D=00FFFFFE E=80000006 F=00000000\n\
+session S PHASE P marks ::: EXECUTED 3 FACTS 3 OF 3\n\
 DRAINED COUNT 6\n\
 END\n",
     },
     Case {
         name: "left open",
-        code: "",
+        code: LOAD,
         job: LEFT_OPEN,
         status: 0,
-        tallies: None,
         text: "\
 COVERAGE REPORT\n\
-TASK C RETURNED COUNT 6 CC 2\n\
-R0 00000000 0000000A 00000000 00000000 00000000 00000000 00000000 00000000\n\
-R8 00000000 00000000 00000000 00000000 00000000 00FFFFFE 80000006 00000000\n\
-OUT 0\n\
-SESSION S PHASE P\n\
-MODULE M PLACES 3 EXECUTED 3 FACTS 3 OF 3\n\
-\x20   Loc  Object Code    Addr1 Addr2  Stmt   Source Statement\n\
-: 000000 4110 0005                      1          LA\n\
-: 000004 1A11                           2          AR\n\
-: 000006 07FE                           3          BR\n\
+task C RETURNED COUNT 6 CC 2 regs 1=0000000A D=00FFFFFE E=80000006 F=00000000\n\
+session S PHASE P marks ::: EXECUTED 3 FACTS 3 OF 3\n\
 NOT DRAINED\n\
 END\n",
     },
     Case {
         name: "never opened",
-        code: "",
+        code: LOAD,
         job: NEVER,
         status: 0,
-        tallies: None,
         text: "\
 COVERAGE REPORT\n\
-TASK A RETURNED COUNT 3 CC 2\n\
-R0 00000000 0000000A 00000000 00000000 00000000 00000000 00000000 00000000\n\
-R8 00000000 00000000 00000000 00000000 00000000 00000000 00FFFFFE 00100000\n\
-OUT 0\n\
-TASK C RETURNED COUNT 1 CC 0\n\
-R0 00000000 00000000 00000000 00000000 00000000 00000000 00000000 00000000\n\
-R8 00000000 00000000 00000000 00000000 00000000 00000000 00FFFFFE 00000000\n\
-OUT 0\n\
-SESSION S PHASE P\n\
-MODULE M PLACES 3 EXECUTED 0 FACTS 0 OF 3\n\
-\x20   Loc  Object Code    Addr1 Addr2  Stmt   Source Statement\n\
-^ 000000 4110 0005                      1          LA\n\
-^ 000004 1A11                           2          AR\n\
-^ 000006 07FE                           3          BR\n\
+task A RETURNED COUNT 3 CC 2 regs 1=0000000A\n\
+task C RETURNED COUNT 1 CC 0 regs F=00000000\n\
+session S PHASE P marks ^^^ EXECUTED 0 FACTS 0 OF 3\n\
 NOT EXECUTED 000000-000007\n\
 NOT DRAINED\n\
 END\n",
     },
     Case {
         name: "two sessions of one task",
-        code: "",
+        code: "000000 07FE BR",
         job: "\
-COVERJOB 1\n\
-MODULE M 100000 2\n\
-TEXT 07FE\n\
-LISTING 2\n\
-\x20 Loc  Object Code    Addr1 Addr2  Stmt   Source Statement\n\
-000000 07FE                           1          BR\n\
-PHASE P\n\
 SESSION S1 BY C M\n\
 SESSION S2 BY C M\n\
 TASK C 000000 16 100 0\n\
 DATA 0 0A040A050A040A0507FE\n\
 ENDJOB\n",
         status: 0,
-        tallies: None,
         text: "\
 COVERAGE REPORT\n\
-TASK C RETURNED COUNT 5 CC 0\n\
-R0 00000000 00000000 00000000 00000000 00000000 00000000 00000000 00000000\n\
-R8 00000000 00000000 00000000 00000000 00000000 00000000 00FFFFFE 00000000\n\
-OUT 0\n\
-SESSION S1 PHASE P\n\
-MODULE M PLACES 1 EXECUTED 0 FACTS 0 OF 1\n\
-\x20   Loc  Object Code    Addr1 Addr2  Stmt   Source Statement\n\
-^ 000000 07FE                           1          BR\n\
+task C RETURNED COUNT 5 CC 0 regs F=00000000\n\
+session S1 PHASE P marks ^ EXECUTED 0 FACTS 0 OF 1\n\
 NOT EXECUTED 000000-000001\n\
 DRAINED COUNT 2\n\
-SESSION S2 PHASE P\n\
-MODULE M PLACES 1 EXECUTED 0 FACTS 0 OF 1\n\
-\x20   Loc  Object Code    Addr1 Addr2  Stmt   Source Statement\n\
-^ 000000 07FE                           1          BR\n\
+session S2 PHASE P marks ^ EXECUTED 0 FACTS 0 OF 1\n\
 NOT EXECUTED 000000-000001\n\
 DRAINED COUNT 4\n\
 END\n",
@@ -199,15 +107,8 @@ END\n",
 /// A session of each of two phases, which differ in when they are closed.
 static TWO_PHASES: Case = Case {
     name: "a task of each of two phases",
-    code: "",
+    code: "000000 07FE BR",
     job: "\
-COVERJOB 1\n\
-MODULE M 100000 2\n\
-TEXT 07FE\n\
-LISTING 2\n\
-\x20 Loc  Object Code    Addr1 Addr2  Stmt   Source Statement\n\
-000000 07FE                           1          BR\n\
-PHASE P\n\
 SESSION S BY C M\n\
 TASK C 000000 16 100 0\n\
 DATA 0 0A040A0507FE\n\
@@ -217,27 +118,14 @@ TASK D 000000 16 100 0\n\
 DATA 0 0A0418000A0507FE\n\
 ENDJOB\n",
     status: 0,
-    tallies: None,
     text: "\
 COVERAGE REPORT\n\
-TASK C RETURNED COUNT 3 CC 0\n\
-R0 00000000 00000000 00000000 00000000 00000000 00000000 00000000 00000000\n\
-R8 00000000 00000000 00000000 00000000 00000000 00000000 00FFFFFE 00000000\n\
-OUT 0\n\
-TASK D RETURNED COUNT 4 CC 0\n\
-R0 00000000 00000000 00000000 00000000 00000000 00000000 00000000 00000000\n\
-R8 00000000 00000000 00000000 00000000 00000000 00000000 00FFFFFE 00000000\n\
-OUT 0\n\
-SESSION S PHASE P\n\
-MODULE M PLACES 1 EXECUTED 0 FACTS 0 OF 1\n\
-\x20   Loc  Object Code    Addr1 Addr2  Stmt   Source Statement\n\
-^ 000000 07FE                           1          BR\n\
+task C RETURNED COUNT 3 CC 0 regs F=00000000\n\
+task D RETURNED COUNT 4 CC 0 regs F=00000000\n\
+session S PHASE P marks ^ EXECUTED 0 FACTS 0 OF 1\n\
 NOT EXECUTED 000000-000001\n\
 DRAINED COUNT 2\n\
-SESSION T PHASE Q\n\
-MODULE M PLACES 1 EXECUTED 0 FACTS 0 OF 1\n\
-\x20   Loc  Object Code    Addr1 Addr2  Stmt   Source Statement\n\
-^ 000000 07FE                           1          BR\n\
+session T PHASE Q marks ^ EXECUTED 0 FACTS 0 OF 1\n\
 NOT EXECUTED 000000-000001\n\
 DRAINED COUNT 3\n\
 END\n",
@@ -286,8 +174,9 @@ fn drained_at(text: &[u8], counts: &[u8]) -> u8 {
 #[test]
 fn drains_while_another_task_runs(rt: HostRuntime) -> Result<(), Fail> {
     let alloc = rt.alloc();
+    let job = bytes_of(alloc, &[Part::Phase(LOAD), Part::Text(TWO)])?;
     for _ in 0..50 {
-        let came = serve(&rt, alloc, &["early"], TWO.as_bytes())?;
+        let came = serve(&rt, alloc, &["early"], &job)?;
         assert_eq!(rt; came.status, Status(0));
         let second = from_words(&came.text, b"SESSION S2 ");
         assert!(rt; drained_at(&came.text, b"2345") < 255);

@@ -1,20 +1,17 @@
 //! The commands `prove` and `verify`: what goes in, and the status and text that come out.
 
 use super::marked::Row;
-use super::notation::Part;
 use super::notation::Part::{Bytes, Code, Text};
-use super::samples::{BOTH, CONTROLLED, COUNT, MISMATCH, NONE, OTHER, PHASES, WENT};
+use super::notation::{COUNT, Part};
+use super::samples::{BOTH, ENDS, FROM_3, MISMATCH, NONE, OTHER, PHASES, RETURN_LEFT, WENT};
 
 /// A move that EX makes longer, and that is never reached by itself.
-pub const EXECUTE: &str = "000000 4410 F006 EX, 000004 07FE BR, 000006 D200 0000 0008 MVC";
+const EXECUTE: &str = "000000 4410 F006 EX, 000004 07FE BR, 000006 D200 0000 0008 MVC";
 
 /// A branch that depends on register 1.
-const BRANCH: &str = "000000 1211 LTR, 000002 4780 F008 BE, 000006 1822 LR, 000008 07FE BR";
+pub const BRANCH: &str = "000000 1211 LTR, 000002 4780 F008 BE, 000006 1822 LR, 000008 07FE BR";
 
-/// A count down from 3.
-pub const FROM_3: Part = Text("TASK A 100000 16 100 0\nREG 1 00000003\nENDJOB\n");
-
-pub const MOVES: Part = Text("TASK A 100000 16 100 0\nREG 1 00000002\nDATA 8 010203\nENDJOB\n");
+const MOVES: Part = Text("TASK A 100000 16 100 0\nREG 1 00000002\nDATA 8 010203\nENDJOB\n");
 
 /// A job with a session that its task C controls, and one of another module that no task does.
 const WITH_CONTROLLER: Part = Text(
@@ -27,7 +24,7 @@ const BOTH_FAULTS: Part = Text(
 );
 
 /// What shows that the count from 3 branched before any other instruction, fell through after two, and returned after three.
-pub const EVIDENCE: Part = Bytes("5333373045564431 00000000000000 00000000000200 00000000000300");
+const EVIDENCE: Part = Bytes("5333373045564431 00000000000000 00000000000200 00000000000300");
 
 /// Evidence of no fact.
 const NOTHING: Part = Bytes("5333373045564431");
@@ -36,7 +33,7 @@ const NOTHING: Part = Bytes("5333373045564431");
 const OF_MOVE: Part = Bytes("5333373045564431 00000000000000 00000000000100 00000000000001");
 
 /// That all three were executed.
-pub const MOVED_SETS: Part = Bytes(
+const MOVED_SETS: Part = Bytes(
     "53333730434F5632 5320202020202020 00000001 0001 4D20202020202020 00100000 0000000C 00000003 00000000 04 00 4410 01 00000004 02 00 07FE 01 00000006 06 00 D200 01",
 );
 
@@ -51,12 +48,12 @@ const OF_OTHER: Part = Bytes(
 );
 
 /// The same without the count's falling through.
-pub const WENT_ALONE: Part = Bytes(
+const WENT_ALONE: Part = Bytes(
     "53333730434F5632 5320202020202020 00000001 0001 4D20202020202020 00100000 00000006 00000002 00000000 04 01 4610 02 00000004 02 00 07FE 01",
 );
 
 /// The same without the return.
-pub const NO_RETURN: Part = Bytes(
+const NO_RETURN: Part = Bytes(
     "53333730434F5632 5320202020202020 00000001 0001 4D20202020202020 00100000 00000006 00000002 00000000 04 01 4610 06 00000004 02 00 07FE 00",
 );
 
@@ -239,6 +236,249 @@ static UNPROVED: [Row; 11] = [
     },
 ];
 
+/// Evidence whose fields are bad, or at their bounds.
+static FIELDS: [Row; 11] = [
+    Row {
+        name: "verify: no evidence",
+        words: &["verify", "S"],
+        input: &[Code(COUNT), FROM_3, BOTH],
+        status: 15,
+        output: &[Text("BAD EVIDENCE OFFSET 0\n")],
+    },
+    Row {
+        name: "verify: another magic",
+        words: &["verify", "S"],
+        input: &[
+            Code(COUNT),
+            FROM_3,
+            BOTH,
+            Bytes("5333373045564432 00000000000000 00000000000200 00000000000300"),
+        ],
+        status: 15,
+        output: &[Text("BAD EVIDENCE OFFSET 0\n")],
+    },
+    Row {
+        name: "verify: a task that the job hasn't",
+        words: &["verify", "S"],
+        input: &[
+            Code(COUNT),
+            FROM_3,
+            BOTH,
+            Bytes("5333373045564431 00010000000000 00000000000200 00000000000300"),
+        ],
+        status: 15,
+        output: &[Text("BAD EVIDENCE OFFSET 8\n")],
+    },
+    Row {
+        name: "verify: a number that no budget has",
+        words: &["verify", "S"],
+        input: &[
+            Code(COUNT),
+            FROM_3,
+            BOTH,
+            Bytes("5333373045564431 000002FAF08000 00000000000200 00000000000300"),
+        ],
+        status: 15,
+        output: &[Text("BAD EVIDENCE OFFSET 10\n")],
+    },
+    Row {
+        name: "verify: the largest number",
+        words: &["verify", "S"],
+        input: &[
+            Code(COUNT),
+            FROM_3,
+            BOTH,
+            Bytes("5333373045564431 000002FAF07F00 00000000000200 00000000000300"),
+        ],
+        status: 16,
+        output: &[Text("REFUTED ROW 1 FACT W\n")],
+    },
+    Row {
+        name: "verify: neither an instruction nor a subject",
+        words: &["verify", "S"],
+        input: &[
+            Code(COUNT),
+            FROM_3,
+            BOTH,
+            Bytes("5333373045564431 00000000000000 00000000000202 00000000000300"),
+        ],
+        status: 15,
+        output: &[Text("BAD EVIDENCE OFFSET 21\n")],
+    },
+    Row {
+        name: "verify: no last byte",
+        words: &["verify", "S"],
+        input: &[
+            Code(COUNT),
+            FROM_3,
+            BOTH,
+            Bytes("5333373045564431 00000000000000 00000000000200 000000000003"),
+        ],
+        status: 15,
+        output: &[Text("BAD EVIDENCE OFFSET 28\n")],
+    },
+    Row {
+        name: "verify: a byte past the last entry",
+        words: &["verify", "S"],
+        input: &[
+            Code(COUNT),
+            FROM_3,
+            BOTH,
+            Bytes("5333373045564431 00000000000000 00000000000200 00000000000300 00"),
+        ],
+        status: 15,
+        output: &[Text("BAD EVIDENCE OFFSET 29\n")],
+    },
+    Row {
+        name: "verify: an entry too few",
+        words: &["verify", "S"],
+        input: &[
+            Code(COUNT),
+            FROM_3,
+            BOTH,
+            Bytes("5333373045564431 00000000000000 00000000000200"),
+        ],
+        status: 15,
+        output: &[Text("BAD EVIDENCE OFFSET 22\n")],
+    },
+    Row {
+        name: "verify: an entry twice",
+        words: &["verify", "S"],
+        input: &[
+            Code(COUNT),
+            FROM_3,
+            BOTH,
+            Bytes("5333373045564431 00000000000000 00000000000200 00000000000300 00000000000300"),
+        ],
+        status: 15,
+        output: &[Text("BAD EVIDENCE OFFSET 29\n")],
+    },
+    Row {
+        name: "verify: a bad last field, before a fact that wasn't shown",
+        words: &["verify", "S"],
+        input: &[
+            Code(COUNT),
+            ENDS,
+            BOTH,
+            Bytes("5333373045564431 00000000000000 00000000000200 00000000000303"),
+        ],
+        status: 15,
+        output: &[Text("BAD EVIDENCE OFFSET 28\n")],
+    },
+];
+
+/// Evidence or marks that the executions refute.
+static REFUTED: [Row; 9] = [
+    Row {
+        name: "verify: a fact is left out",
+        words: &["verify", "S"],
+        input: &[
+            Code(COUNT),
+            FROM_3,
+            WENT_ALONE,
+            Bytes("5333373045564431 00000000000000 00000000000300"),
+        ],
+        status: 16,
+        output: &[Text("REFUTED ROW 1 FACT S\n")],
+    },
+    Row {
+        name: "verify: the last fact is left out",
+        words: &["verify", "S"],
+        input: &[
+            Code(COUNT),
+            FROM_3,
+            NO_RETURN,
+            Bytes("5333373045564431 00000000000000 00000000000200"),
+        ],
+        status: 16,
+        output: &[Text("REFUTED ROW 2 FACT R\n")],
+    },
+    Row {
+        name: "verify: a fact that wasn't shown",
+        words: &["verify", "S"],
+        input: &[
+            Code(COUNT),
+            ENDS,
+            BOTH,
+            Bytes("5333373045564431 00000000000000 00000000000000 00000000000100"),
+        ],
+        status: 16,
+        output: &[Text("REFUTED ROW 1 FACT W\n")],
+    },
+    Row {
+        name: "verify: the union of two jobs' files",
+        words: &["verify", "S"],
+        input: &[
+            Code(COUNT),
+            Text("TASK A 100000 16 2 0\nREG 1 00000003\nENDJOB\n"),
+            RETURN_LEFT,
+            Bytes("5333373045564431 00000000000000 00000000000200"),
+        ],
+        status: 16,
+        output: &[Text("REFUTED ROW 1 FACT S\n")],
+    },
+    Row {
+        name: "verify: a later visit",
+        words: &["verify", "S"],
+        input: &[
+            Code(COUNT),
+            FROM_3,
+            BOTH,
+            Bytes("5333373045564431 00000000000100 00000000000200 00000000000300"),
+        ],
+        status: 16,
+        output: &[Text("REFUTED ROW 1 FACT W\n")],
+    },
+    Row {
+        name: "verify: two entries for each other",
+        words: &["verify", "S"],
+        input: &[
+            Code(COUNT),
+            FROM_3,
+            BOTH,
+            Bytes("5333373045564431 00000000000000 00000000000300 00000000000200"),
+        ],
+        status: 16,
+        output: &[Text("REFUTED ROW 1 FACT S\n")],
+    },
+    Row {
+        name: "verify: an instruction as a subject",
+        words: &["verify", "S"],
+        input: &[
+            Code(COUNT),
+            FROM_3,
+            BOTH,
+            Bytes("5333373045564431 00000000000000 00000000000200 00000000000301"),
+        ],
+        status: 16,
+        output: &[Text("REFUTED ROW 2 FACT R\n")],
+    },
+    Row {
+        name: "verify: a subject as an instruction",
+        words: &["verify", "S"],
+        input: &[
+            Code(EXECUTE),
+            MOVES,
+            MOVED_SETS,
+            Bytes("5333373045564431 00000000000000 00000000000100 00000000000000"),
+        ],
+        status: 16,
+        output: &[Text("REFUTED ROW 3 FACT R\n")],
+    },
+    Row {
+        name: "verify: a task of another phase",
+        words: &["verify", "T"],
+        input: &[
+            Code(COUNT),
+            PHASES,
+            WENT,
+            Bytes("5333373045564431 00000000000000"),
+        ],
+        status: 16,
+        output: &[Text("REFUTED ROW 1 FACT W\n")],
+    },
+];
+
 /// What is not refused.
 pub fn proved() -> &'static [Row] {
     &PROVED
@@ -247,4 +487,14 @@ pub fn proved() -> &'static [Row] {
 /// What is refused for the job, its session or the marks file.
 pub fn unproved() -> &'static [Row] {
     &UNPROVED
+}
+
+/// Evidence whose fields are bad, or at their bounds.
+pub fn fields() -> &'static [Row] {
+    &FIELDS
+}
+
+/// Evidence or marks that the executions refute.
+pub fn refuted() -> &'static [Row] {
+    &REFUTED
 }

@@ -1,216 +1,340 @@
-//! Tasks under exits for their program interruptions: where an exit is, how it is set and used; and that each case runs so.
+//! Tasks under exits for their program interruptions: each code, what an exit doesn't take, where it is, how it is set and used.
 
-use super::interruptions::INTERRUPTIONS;
-use super::notation::{Case, job_of, text_of};
+use super::notation::{ALONE, Case, job_of, text_of};
 use super::places::{Came, USAGE, serve};
 use crate::status::Status;
 use std::alloc::Global;
 use std::process::Abort;
-use std::sync::Wait;
 use std::test::Fail;
-use std::thread::Threads;
 
-/// Where an exit is, how it is set and how it is used.
-static EXITS: [Case; 16] = [
+static EXITS: [Case; 32] = [
+    Case {
+        name: "an exit for a division that doesn't fit",
+        code: "000000 4110 F00A LA, 000004 0A06 SVC, 000006 1D24 DR, 000008 07FE BR, 00000A 1850 LR, 00000C 07FE BR",
+        job: ALONE,
+        status: 0,
+        text: "\
+COVERAGE REPORT\n\
+task A RETURNED COUNT 5 CC 0 regs 0=00000009 1=00100006 5=00000009\n\
+session S PHASE P marks :::^:: EXECUTED 5 FACTS 5 OF 6\n\
+NOT EXECUTED 000008-000009\n\
+END\n",
+    },
+    Case {
+        name: "an exit for an overflow, whose sum stands",
+        code: "000000 4110 F00C LA, 000004 0A06 SVC, 000006 0420 SPM, 000008 1A34 AR, 00000A 1822 LR, 00000C 07FE BR",
+        job: "\
+TASK A 100000 16 100 0\n\
+REG 2 08000000\n\
+REG 3 7FFFFFFF\n\
+REG 4 00000001\n\
+ENDJOB\n",
+        status: 0,
+        text: "\
+COVERAGE REPORT\n\
+task A RETURNED COUNT 5 CC 3 regs 0=00000008 1=0010000A 2=08000000 3=80000000 4=00000001\n\
+session S PHASE P marks ::::^: EXECUTED 5 FACTS 5 OF 6\n\
+NOT EXECUTED 00000A-00000B\n\
+END\n",
+    },
+    Case {
+        name: "code 1, at bytes that are no instruction line",
+        code: "4110F00A0A06000007FE07FE: 000000 4110 F00A LA, 000004 0A06 SVC, 000008 07FE BR, 00000A 07FE BR",
+        job: ALONE,
+        status: 0,
+        text: "\
+COVERAGE REPORT\n\
+task A RETURNED COUNT 4 CC 0 regs 0=00000001 1=00100006\n\
+session S PHASE P marks ::^: EXECUTED 3 FACTS 3 OF 4\n\
+NOT EXECUTED 000008-000009\n\
+END\n",
+    },
+    Case {
+        name: "code 2",
+        code: "4110F00C0A068000000007FE07FE: 000000 4110 F00C LA, 000004 0A06 SVC, 00000A 07FE BR, 00000C 07FE BR",
+        job: ALONE,
+        status: 0,
+        text: "\
+COVERAGE REPORT\n\
+task A RETURNED COUNT 4 CC 0 regs 0=00000002 1=00100006\n\
+session S PHASE P marks ::^: EXECUTED 3 FACTS 3 OF 4\n\
+NOT EXECUTED 00000A-00000B\n\
+END\n",
+    },
+    Case {
+        name: "code 3",
+        code: "000000 4110 F00C LA, 000004 0A06 SVC, 000006 4400 F006 EX, 00000A 07FE BR, 00000C 07FE BR",
+        job: ALONE,
+        status: 0,
+        text: "\
+COVERAGE REPORT\n\
+task A RETURNED COUNT 4 CC 0 regs 0=00000003 1=00100006\n\
+session S PHASE P marks :::^: EXECUTED 4 FACTS 4 OF 5\n\
+NOT EXECUTED 00000A-00000B\n\
+END\n",
+    },
+    Case {
+        name: "code 4",
+        code: "000000 4110 F00C LA, 000004 0A06 SVC, 000006 5000 F000 ST, 00000A 07FE BR, 00000C 07FE BR",
+        job: ALONE,
+        status: 0,
+        text: "\
+COVERAGE REPORT\n\
+task A RETURNED COUNT 4 CC 0 regs 0=00000004 1=00100006\n\
+session S PHASE P marks :::^: EXECUTED 4 FACTS 4 OF 5\n\
+NOT EXECUTED 00000A-00000B\n\
+END\n",
+    },
+    Case {
+        name: "code 5, of an operand",
+        code: "000000 4110 F00C LA, 000004 0A06 SVC, 000006 5820 0100 L, 00000A 07FE BR, 00000C 07FE BR",
+        job: ALONE,
+        status: 0,
+        text: "\
+COVERAGE REPORT\n\
+task A RETURNED COUNT 4 CC 0 regs 0=00000005 1=00100006\n\
+session S PHASE P marks :::^: EXECUTED 4 FACTS 4 OF 5\n\
+NOT EXECUTED 00000A-00000B\n\
+END\n",
+    },
+    Case {
+        name: "code 5, where the instruction can't be fetched",
+        code: "000000 4110 F00A LA, 000004 0A06 SVC, 000006 07F2 BR, 000008 07FE BR, 00000A 07FE BR",
+        job: "TASK A 100000 16 100 0\nREG 2 00000100\nENDJOB\n",
+        status: 0,
+        text: "\
+COVERAGE REPORT\n\
+task A RETURNED COUNT 5 CC 0 regs 0=00000005 1=00000100 2=00000100\n\
+session S PHASE P marks :::^: EXECUTED 4 FACTS 4 OF 5\n\
+NOT EXECUTED 000008-000009\n\
+END\n",
+    },
+    Case {
+        name: "code 6, of registers",
+        code: "000000 4110 F00A LA, 000004 0A06 SVC, 000006 1C34 MR, 000008 07FE BR, 00000A 07FE BR",
+        job: ALONE,
+        status: 0,
+        text: "\
+COVERAGE REPORT\n\
+task A RETURNED COUNT 4 CC 0 regs 0=00000006 1=00100006\n\
+session S PHASE P marks :::^: EXECUTED 4 FACTS 4 OF 5\n\
+NOT EXECUTED 000008-000009\n\
+END\n",
+    },
+    Case {
+        name: "code 6, at an odd address",
+        code: "000000 4110 F00A LA, 000004 0A06 SVC, 000006 07F2 BR, 000008 07FE BR, 00000A 07FE BR",
+        job: "TASK A 100000 16 100 0\nREG 2 00100001\nENDJOB\n",
+        status: 0,
+        text: "\
+COVERAGE REPORT\n\
+task A RETURNED COUNT 5 CC 0 regs 0=00000006 1=00100001 2=00100001\n\
+session S PHASE P marks :::^: EXECUTED 4 FACTS 4 OF 5\n\
+NOT EXECUTED 000008-000009\n\
+END\n",
+    },
+    Case {
+        name: "code 7",
+        code: "000000 4110 F00E LA, 000004 0A06 SVC, 000006 FA00 0000 0001 AP, 00000C 07FE BR, 00000E 07FE BR",
+        job: ALONE,
+        status: 0,
+        text: "\
+COVERAGE REPORT\n\
+task A RETURNED COUNT 4 CC 0 regs 0=00000007 1=00100006\n\
+session S PHASE P marks :::^: EXECUTED 4 FACTS 4 OF 5\n\
+NOT EXECUTED 00000C-00000D\n\
+END\n",
+    },
+    Case {
+        name: "code A, whose sum stands",
+        code: "000000 4110 F010 LA, 000004 0A06 SVC, 000006 0420 SPM, 000008 FA00 0000 0001 AP, 00000E 07FE BR, 000010 07FE BR",
+        job: "TASK A 100000 16 100 0\nREG 2 04000000\nDATA 0 9C1C\nENDJOB\n",
+        status: 0,
+        text: "\
+COVERAGE REPORT\n\
+task A RETURNED COUNT 5 CC 3 regs 0=0000000A 1=0010000E 2=04000000\n\
+STOR 000000 0C1C0000000000000000000000000000\n\
+session S PHASE P marks ::::^: EXECUTED 5 FACTS 5 OF 6\n\
+NOT EXECUTED 00000E-00000F\n\
+END\n",
+    },
+    Case {
+        name: "code B",
+        code: "000000 4110 F00E LA, 000004 0A06 SVC, 000006 FD10 0000 0002 DP, 00000C 07FE BR, 00000E 07FE BR",
+        job: "TASK A 100000 16 100 0\nDATA 0 001C0C\nENDJOB\n",
+        status: 0,
+        text: "\
+COVERAGE REPORT\n\
+task A RETURNED COUNT 4 CC 0 regs 0=0000000B 1=00100006\n\
+session S PHASE P marks :::^: EXECUTED 4 FACTS 4 OF 5\n\
+NOT EXECUTED 00000C-00000D\n\
+END\n",
+    },
+    Case {
+        name: "a touch byte is no interruption",
+        code: "000000 4110 F00C LA, 000004 0A06 SVC, 000006 5820 F000 L, 00000A 07FE BR, 00000C 07FE BR",
+        job: ALONE,
+        status: 0,
+        text: "\
+COVERAGE REPORT\n\
+task A TOUCHED 100000 COUNT 3 CC 0 regs 1=0010000C\n\
+session S PHASE P marks :::^^ EXECUTED 3 FACTS 3 OF 5\n\
+NOT EXECUTED 00000A-00000D\n\
+END\n",
+    },
+    Case {
+        name: "another SVC that is no task call",
+        code: "000000 4110 F00A LA, 000004 0A06 SVC, 000006 0A07 SVC, 000008 07FE BR, 00000A 07FE BR",
+        job: ALONE,
+        status: 0,
+        text: "\
+COVERAGE REPORT\n\
+task A BADSVC 7 COUNT 3 CC 0 regs 1=0010000A\n\
+session S PHASE P marks :::^^ EXECUTED 3 FACTS 3 OF 5\n\
+NOT EXECUTED 000008-00000B\n\
+END\n",
+    },
+    Case {
+        name: "output that is full",
+        code: "000000 4110 F010 LA, 000004 0A06 SVC, 000006 4110 0000 LA, 00000A 4100 0001 LA, 00000E 0A01 SVC, 000010 07FE BR",
+        job: ALONE,
+        status: 0,
+        text: "\
+COVERAGE REPORT\n\
+task A OUTFULL COUNT 5 CC 0 regs 0=00000001\n\
+session S PHASE P marks :::::^ EXECUTED 5 FACTS 5 OF 6\n\
+NOT EXECUTED 000010-000011\n\
+END\n",
+    },
     Case {
         name: "an odd exit",
         code: "000000 4110 F00B LA, 000004 0A06 SVC, 000006 1D24 DR, 000008 07FE BR, 00000A 07FE BR",
-        job: "\
-TASK A 100000 16 100 0\n\
-ENDJOB\n",
+        job: ALONE,
         status: 0,
-        tallies: None,
         text: "\
 COVERAGE REPORT\n\
-TASK A ABEND 6 COUNT 4 CC 0\n\
-regs 0=00000009 1=00100006\n\
-OUT 0\n\
-SESSION S PHASE P\n\
-marks :::^^ EXECUTED 3 FACTS 3 OF 5\n\
+task A ABEND 6 COUNT 4 CC 0 regs 0=00000009 1=00100006\n\
+session S PHASE P marks :::^^ EXECUTED 3 FACTS 3 OF 5\n\
 NOT EXECUTED 000008-00000B\n\
 END\n",
     },
     Case {
         name: "an exit where nothing is accessible",
         code: "000000 4110 0100 LA, 000004 0A06 SVC, 000006 1D24 DR, 000008 07FE BR",
-        job: "\
-TASK A 100000 16 100 0\n\
-ENDJOB\n",
+        job: ALONE,
         status: 0,
-        tallies: None,
         text: "\
 COVERAGE REPORT\n\
-TASK A ABEND 5 COUNT 4 CC 0\n\
-regs 0=00000009 1=00100006\n\
-OUT 0\n\
-SESSION S PHASE P\n\
-marks :::^ EXECUTED 3 FACTS 3 OF 4\n\
+task A ABEND 5 COUNT 4 CC 0 regs 0=00000009 1=00100006\n\
+session S PHASE P marks :::^ EXECUTED 3 FACTS 3 OF 4\n\
 NOT EXECUTED 000008-000009\n\
 END\n",
     },
     Case {
         name: "an exit in private storage",
         code: "000000 4110 0004 LA, 000004 0A06 SVC, 000006 1D24 DR, 000008 07FE BR",
-        job: "\
-TASK A 100000 16 100 0\n\
-DATA 4 07FE\n\
-ENDJOB\n",
+        job: "TASK A 100000 16 100 0\nDATA 4 07FE\nENDJOB\n",
         status: 0,
-        tallies: None,
         text: "\
 COVERAGE REPORT\n\
-TASK A RETURNED COUNT 4 CC 0\n\
-regs 0=00000009 1=00100006\n\
-OUT 0\n\
-SESSION S PHASE P\n\
-marks :::^ EXECUTED 3 FACTS 3 OF 4\n\
+task A RETURNED COUNT 4 CC 0 regs 0=00000009 1=00100006\n\
+session S PHASE P marks :::^ EXECUTED 3 FACTS 3 OF 4\n\
 NOT EXECUTED 000008-000009\n\
 END\n",
     },
     Case {
         name: "an exit at the return address, with no budget left",
         code: "000000 181E LR, 000002 0A06 SVC, 000004 1D24 DR, 000006 07FE BR",
-        job: "\
-TASK A 100000 16 3 0\n\
-ENDJOB\n",
+        job: "TASK A 100000 16 3 0\nENDJOB\n",
         status: 0,
-        tallies: None,
         text: "\
 COVERAGE REPORT\n\
-TASK A RETURNED COUNT 3 CC 0\n\
-regs 0=00000009 1=00100004\n\
-OUT 0\n\
-SESSION S PHASE P\n\
-marks :::^ EXECUTED 3 FACTS 3 OF 4\n\
+task A RETURNED COUNT 3 CC 0 regs 0=00000009 1=00100004\n\
+session S PHASE P marks :::^ EXECUTED 3 FACTS 3 OF 4\n\
 NOT EXECUTED 000006-000007\n\
 END\n",
     },
     Case {
         name: "set under EX",
         code: "000000 4110 F00E LA, 000004 4400 F00C EX, 000008 1D24 DR, 00000A 07FE BR, 00000C 0A06 SVC, 00000E 07FE BR",
-        job: "\
-TASK A 100000 16 100 0\n\
-ENDJOB\n",
+        job: ALONE,
         status: 0,
-        tallies: None,
         text: "\
 COVERAGE REPORT\n\
-TASK A RETURNED COUNT 4 CC 0\n\
-regs 0=00000009 1=00100008\n\
-OUT 0\n\
-SESSION S PHASE P\n\
-marks :::^:: EXECUTED 5 FACTS 5 OF 6\n\
+task A RETURNED COUNT 4 CC 0 regs 0=00000009 1=00100008\n\
+session S PHASE P marks :::^:: EXECUTED 5 FACTS 5 OF 6\n\
 NOT EXECUTED 00000A-00000B\n\
 END\n",
     },
     Case {
         name: "set by a number that EX has made",
         code: "000000 4110 F00E LA, 000004 4430 F00C EX, 000008 1D24 DR, 00000A 07FE BR, 00000C 0A02 SVC, 00000E 07FE BR",
-        job: "\
-TASK A 100000 16 100 0\n\
-REG 3 00000004\n\
-ENDJOB\n",
+        job: "TASK A 100000 16 100 0\nREG 3 00000004\nENDJOB\n",
         status: 0,
-        tallies: None,
         text: "\
 COVERAGE REPORT\n\
-TASK A RETURNED COUNT 4 CC 0\n\
-regs 0=00000009 1=00100008 3=00000004\n\
-OUT 0\n\
-SESSION S PHASE P\n\
-marks :::^:: EXECUTED 5 FACTS 5 OF 6\n\
+task A RETURNED COUNT 4 CC 0 regs 0=00000009 1=00100008 3=00000004\n\
+session S PHASE P marks :::^:: EXECUTED 5 FACTS 5 OF 6\n\
 NOT EXECUTED 00000A-00000B\n\
 END\n",
     },
     Case {
         name: "set twice",
         code: "000000 4110 F010 LA, 000004 0A06 SVC, 000006 4110 F012 LA, 00000A 0A06 SVC, 00000C 1D24 DR, 00000E 07FE BR, 000010 07FE BR, 000012 07FE BR",
-        job: "\
-TASK A 100000 16 100 0\n\
-ENDJOB\n",
+        job: ALONE,
         status: 0,
-        tallies: None,
         text: "\
 COVERAGE REPORT\n\
-TASK A RETURNED COUNT 6 CC 0\n\
-regs 0=00000009 1=0010000C\n\
-OUT 0\n\
-SESSION S PHASE P\n\
-marks :::::^^: EXECUTED 6 FACTS 6 OF 8\n\
+task A RETURNED COUNT 6 CC 0 regs 0=00000009 1=0010000C\n\
+session S PHASE P marks :::::^^: EXECUTED 6 FACTS 6 OF 8\n\
 NOT EXECUTED 00000E-000011\n\
 END\n",
     },
     Case {
         name: "set, and then none",
         code: "000000 4110 F010 LA, 000004 0A06 SVC, 000006 4110 0000 LA, 00000A 0A06 SVC, 00000C 1D24 DR, 00000E 07FE BR, 000010 07FE BR",
-        job: "\
-TASK A 100000 16 100 0\n\
-ENDJOB\n",
+        job: ALONE,
         status: 0,
-        tallies: None,
         text: "\
 COVERAGE REPORT\n\
-TASK A ABEND 9 COUNT 5 CC 0\n\
-regs\n\
-OUT 0\n\
-SESSION S PHASE P\n\
-marks :::::^^ EXECUTED 5 FACTS 5 OF 7\n\
+task A ABEND 9 COUNT 5 CC 0 regs\n\
+session S PHASE P marks :::::^^ EXECUTED 5 FACTS 5 OF 7\n\
 NOT EXECUTED 00000E-000011\n\
 END\n",
     },
     Case {
         name: "zeros in bits 8-31 name none",
         code: "000000 0A06 SVC, 000002 1D24 DR, 000004 07FE BR",
-        job: "\
-TASK A 100000 16 100 0\n\
-REG 1 FF000000\n\
-ENDJOB\n",
+        job: "TASK A 100000 16 100 0\nREG 1 FF000000\nENDJOB\n",
         status: 0,
-        tallies: None,
         text: "\
 COVERAGE REPORT\n\
-TASK A ABEND 9 COUNT 2 CC 0\n\
-regs 1=FF000000\n\
-OUT 0\n\
-SESSION S PHASE P\n\
-marks ::^ EXECUTED 2 FACTS 2 OF 3\n\
+task A ABEND 9 COUNT 2 CC 0 regs 1=FF000000\n\
+session S PHASE P marks ::^ EXECUTED 2 FACTS 2 OF 3\n\
 NOT EXECUTED 000004-000005\n\
 END\n",
     },
     Case {
         name: "bits 0-7 are no part of it",
         code: "000000 0A06 SVC, 000002 1D24 DR, 000004 07FE BR, 000006 07FE BR",
-        job: "\
-TASK A 100000 16 100 0\n\
-REG 1 FF100006\n\
-ENDJOB\n",
+        job: "TASK A 100000 16 100 0\nREG 1 FF100006\nENDJOB\n",
         status: 0,
-        tallies: None,
         text: "\
 COVERAGE REPORT\n\
-TASK A RETURNED COUNT 3 CC 0\n\
-regs 0=00000009 1=00100002\n\
-OUT 0\n\
-SESSION S PHASE P\n\
-marks ::^: EXECUTED 3 FACTS 3 OF 4\n\
+task A RETURNED COUNT 3 CC 0 regs 0=00000009 1=00100002\n\
+session S PHASE P marks ::^: EXECUTED 3 FACTS 3 OF 4\n\
 NOT EXECUTED 000004-000005\n\
 END\n",
     },
     Case {
         name: "used and not set again",
         code: "000000 4110 F00A LA, 000004 0A06 SVC, 000006 1D24 DR, 000008 07FE BR, 00000A 1850 LR, 00000C 1D24 DR, 00000E 07FE BR",
-        job: "\
-TASK A 100000 16 100 0\n\
-ENDJOB\n",
+        job: ALONE,
         status: 0,
-        tallies: None,
         text: "\
 COVERAGE REPORT\n\
-TASK A ABEND 9 COUNT 5 CC 0\n\
-regs 0=00000009 1=00100006 5=00000009\n\
-OUT 0\n\
-SESSION S PHASE P\n\
-marks :::^::^ EXECUTED 5 FACTS 5 OF 7\n\
+task A ABEND 9 COUNT 5 CC 0 regs 0=00000009 1=00100006 5=00000009\n\
+session S PHASE P marks :::^::^ EXECUTED 5 FACTS 5 OF 7\n\
 NOT EXECUTED 000008-000009\n\
 NOT EXECUTED 00000E-00000F\n\
 END\n",
@@ -218,18 +342,12 @@ END\n",
     Case {
         name: "used and set again",
         code: "000000 4110 F00C LA, 000004 0A06 SVC, 000006 1C34 MR, 000008 07FE BR, 00000A 07FE BR, 00000C 1861 LR, 00000E 4110 F00A LA, 000012 0A06 SVC, 000014 1D24 DR, 000016 07FE BR",
-        job: "\
-TASK A 100000 16 100 0\n\
-ENDJOB\n",
+        job: ALONE,
         status: 0,
-        tallies: None,
         text: "\
 COVERAGE REPORT\n\
-TASK A RETURNED COUNT 8 CC 0\n\
-regs 0=00000009 1=00100014 6=00100006\n\
-OUT 0\n\
-SESSION S PHASE P\n\
-marks :::^:::::^ EXECUTED 8 FACTS 8 OF 10\n\
+task A RETURNED COUNT 8 CC 0 regs 0=00000009 1=00100014 6=00100006\n\
+session S PHASE P marks :::^:::::^ EXECUTED 8 FACTS 8 OF 10\n\
 NOT EXECUTED 000008-000009\n\
 NOT EXECUTED 000016-000017\n\
 END\n",
@@ -237,95 +355,49 @@ END\n",
     Case {
         name: "an abend at the exit itself",
         code: "000000 4110 F006 LA, 000004 0A06 SVC, 000006 1D24 DR, 000008 07FE BR",
-        job: "\
-TASK A 100000 16 100 0\n\
-ENDJOB\n",
+        job: ALONE,
         status: 0,
-        tallies: None,
         text: "\
 COVERAGE REPORT\n\
-TASK A ABEND 9 COUNT 4 CC 0\n\
-regs 0=00000009 1=00100006\n\
-OUT 0\n\
-SESSION S PHASE P\n\
-marks :::^ EXECUTED 3 FACTS 3 OF 4\n\
+task A ABEND 9 COUNT 4 CC 0 regs 0=00000009 1=00100006\n\
+session S PHASE P marks :::^ EXECUTED 3 FACTS 3 OF 4\n\
 NOT EXECUTED 000008-000009\n\
 END\n",
     },
     Case {
         name: "a budget that ends at the exit",
         code: "000000 4110 F00A LA, 000004 0A06 SVC, 000006 1D24 DR, 000008 07FE BR, 00000A 07FE BR",
-        job: "\
-TASK A 100000 16 3 0\n\
-ENDJOB\n",
+        job: "TASK A 100000 16 3 0\nENDJOB\n",
         status: 0,
-        tallies: None,
         text: "\
 COVERAGE REPORT\n\
-TASK A SPENT COUNT 3 CC 0\n\
-regs 0=00000009 1=00100006\n\
-OUT 0\n\
-SESSION S PHASE P\n\
-marks :::^^ EXECUTED 3 FACTS 3 OF 5\n\
+task A SPENT COUNT 3 CC 0 regs 0=00000009 1=00100006\n\
+session S PHASE P marks :::^^ EXECUTED 3 FACTS 3 OF 5\n\
 NOT EXECUTED 000008-00000B\n\
 END\n",
     },
     Case {
         name: "a budget that ends at the SVC",
         code: "000000 4110 F00A LA, 000004 0A06 SVC, 000006 1D24 DR, 000008 07FE BR, 00000A 07FE BR",
-        job: "\
-TASK A 100000 16 2 0\n\
-ENDJOB\n",
+        job: "TASK A 100000 16 2 0\nENDJOB\n",
         status: 0,
-        tallies: None,
         text: "\
 COVERAGE REPORT\n\
-TASK A SPENT COUNT 2 CC 0\n\
-regs 1=0010000A\n\
-OUT 0\n\
-SESSION S PHASE P\n\
-marks ::^^^ EXECUTED 2 FACTS 2 OF 5\n\
+task A SPENT COUNT 2 CC 0 regs 1=0010000A\n\
+session S PHASE P marks ::^^^ EXECUTED 2 FACTS 2 OF 5\n\
 NOT EXECUTED 000006-00000B\n\
 END\n",
     },
     // A task opens a session, is interrupted in it, and closes it at its exit.
     Case {
         name: "a session that is closed at an exit",
-        code: "",
-        job: "\
-COVERJOB 1\n\
-MODULE M 100000 16\n\
-TEXT 0A044110F00C0A061D2407FE0A0507FE\n\
-LISTING 8\n\
-\x20 Loc  Object Code    Addr1 Addr2  Stmt   Source Statement\n\
-000000 0A04                           1          SVC\n\
-000002 4110 F00C                      2          LA\n\
-000006 0A06                           3          SVC\n\
-000008 1D24                           4          DR\n\
-00000A 07FE                           5          BR\n\
-00000C 0A05                           6          SVC\n\
-00000E 07FE                           7          BR\n\
-PHASE P\n\
-SESSION S BY A M\n\
-TASK A 100000 16 100 0\n\
-ENDJOB\n",
+        code: "000000 0A04 SVC, 000002 4110 F00C LA, 000006 0A06 SVC, 000008 1D24 DR, 00000A 07FE BR, 00000C 0A05 SVC, 00000E 07FE BR",
+        job: "SESSION S BY A M\nTASK A 100000 16 100 0\nENDJOB\n",
         status: 0,
-        tallies: None,
         text: "\
 COVERAGE REPORT\n\
-TASK A RETURNED COUNT 6 CC 0\n\
-regs 0=00000009 1=00100008\n\
-OUT 0\n\
-SESSION S PHASE P\n\
-MODULE M PLACES 7 EXECUTED 4 FACTS 4 OF 7\n\
-\x20   Loc  Object Code    Addr1 Addr2  Stmt   Source Statement\n\
-^ 000000 0A04                           1          SVC\n\
-: 000002 4110 F00C                      2          LA\n\
-: 000006 0A06                           3          SVC\n\
-: 000008 1D24                           4          DR\n\
-^ 00000A 07FE                           5          BR\n\
-: 00000C 0A05                           6          SVC\n\
-^ 00000E 07FE                           7          BR\n\
+task A RETURNED COUNT 6 CC 0 regs 0=00000009 1=00100008\n\
+session S PHASE P marks ^:::^:^ EXECUTED 4 FACTS 4 OF 7\n\
 NOT EXECUTED 000000-000001\n\
 NOT EXECUTED 00000A-00000B\n\
 NOT EXECUTED 00000E-00000F\n\
@@ -333,22 +405,16 @@ END\n",
     },
 ];
 
-/// The first of `INTERRUPTIONS` under `run`, where SVC 6 is no task call.
+/// The first of them under `run`, where SVC 6 is no task call.
 static NO_EXIT: Case = Case {
     name: "no exit under run",
     code: "000000 4110 F00A LA, 000004 0A06 SVC, 000006 1D24 DR, 000008 07FE BR, 00000A 1850 LR, 00000C 07FE BR",
-    job: "\
-TASK A 100000 16 100 0\n\
-ENDJOB\n",
+    job: ALONE,
     status: 0,
-    tallies: None,
     text: "\
 COVERAGE REPORT\n\
-TASK A BADSVC 6 COUNT 2 CC 0\n\
-regs 1=0010000A\n\
-OUT 0\n\
-SESSION S PHASE P\n\
-marks ::^^^^ EXECUTED 2 FACTS 2 OF 6\n\
+task A BADSVC 6 COUNT 2 CC 0 regs 1=0010000A\n\
+session S PHASE P marks ::^^^^ EXECUTED 2 FACTS 2 OF 6\n\
 NOT EXECUTED 000006-00000D\n\
 END\n",
 };
@@ -371,24 +437,14 @@ pub fn check_came<T: Abort>(
     Ok(())
 }
 
-/// Runs each case's job under `exits`.
-fn check_each<T: Abort + Threads + Wait + Sync>(
-    rt: &T,
-    alloc: Global,
-    cases: &[Case],
-) -> Result<(), Fail> {
-    for case in cases {
-        let came = serve(rt, alloc, &["exits"], &job_of(alloc, case)?)?;
-        check_came(rt, alloc, case, &came, 1)?;
-    }
-    Ok(())
-}
-
 #[test]
 fn takes_exits(rt: HostRuntime) -> Result<(), Fail> {
     let alloc = rt.alloc();
-    check_each(&rt, alloc, &INTERRUPTIONS)?;
-    check_each(&rt, alloc, &EXITS)
+    for case in &EXITS {
+        let came = serve(&rt, alloc, &["exits"], &job_of(alloc, case)?)?;
+        check_came(&rt, alloc, case, &came, 1)?;
+    }
+    Ok(())
 }
 
 #[test]

@@ -1,16 +1,14 @@
-//! Faults of source and sink at each call in turn, of every command; and tasks that begin where nothing can be fetched, or
-//! change their own code.
+//! Faults of source and sink at each call in turn, of every command.
 
 use super::called::THROUGH;
-use super::evidence::{proved, unproved};
-use super::evidence_faults::{fields, refuted};
+use super::evidence::{fields, proved, refuted, unproved};
 use super::marked::{Row, good};
 use super::marks_faults::{bad_files, bad_jobs, bad_shown};
-use super::notation::Part::{Code, Marked, Text};
-use super::notation::{Case, bytes_of};
+use super::notation::Part::{Code, Marked, Phase, Task, Text};
+use super::notation::{ALONE, COUNT, END, LOAD, REPORT, SESSION, bytes_of};
 use super::places::{USAGE, words_of};
-use super::samples::PHASES;
-use super::{FIRST_JOB, FIRST_TEXT, check};
+use super::samples::{FROM_3, PHASES};
+use super::{FIRST_JOB, FIRST_TEXT};
 use crate::cover::cover;
 use crate::status::Status;
 use cov_outside::{MemSink, MemSource, OpenGate};
@@ -26,10 +24,6 @@ use std::thread::Threads;
 const READ: usize = 64;
 
 const WRITE: usize = 16;
-
-const LOAD: &str = "000000 4110 0005 LA, 000004 1A11 AR, 000006 07FE BR";
-
-const COUNT: &str = "000000 4610 F000 BCT, 000004 07FE BR";
 
 const DIVIDED: &str =
     "000000 4110 F00A LA, 000004 0A06 SVC, 000006 1D24 DR, 000008 07FE BR, 00000A 07FE BR";
@@ -49,19 +43,10 @@ static SERVED: [Row; 12] = [
         input: &[Code(COUNT), PHASES],
         status: 0,
         output: &[
-            Text(
-                "\
-COVERAGE REPORT\n\
-TASK A RETURNED COUNT 2 CC 0\n\
-R0 00000000 00000000 00000000 00000000 00000000 00000000 00000000 00000000\n\
-R8 00000000 00000000 00000000 00000000 00000000 00000000 00FFFFFE 00100000\n\
-OUT 0\n\
-TASK B SPENT COUNT 1 CC 0\n\
-R0 00000000 00000001 00000000 00000000 00000000 00000000 00000000 00000000\n\
-R8 00000000 00000000 00000000 00000000 00000000 00000000 00FFFFFE 00100000\n\
-OUT 0\n\
-SESSION S PHASE P\n",
-            ),
+            REPORT,
+            Task("A RETURNED COUNT 2 CC 0 regs"),
+            Task("B SPENT COUNT 1 CC 0 regs 1=00000001"),
+            SESSION,
             Marked(COUNT, "V: EXECUTED 2 FACTS 2 OF 3"),
             Text("SESSION T PHASE Q\n"),
             Marked(COUNT, ">^ EXECUTED 1 FACTS 1 OF 3"),
@@ -88,18 +73,12 @@ SESSION S PHASE P\n",
     Row {
         name: "exits",
         words: &["exits"],
-        input: &[Code(DIVIDED), Text("TASK A 100000 16 100 0\nENDJOB\n")],
+        input: &[Code(DIVIDED), Text(ALONE)],
         status: 0,
         output: &[
-            Text(
-                "\
-COVERAGE REPORT\n\
-TASK A RETURNED COUNT 4 CC 0\n\
-R0 00000009 00100006 00000000 00000000 00000000 00000000 00000000 00000000\n\
-R8 00000000 00000000 00000000 00000000 00000000 00000000 00FFFFFE 00100000\n\
-OUT 0\n\
-SESSION S PHASE P\n",
-            ),
+            REPORT,
+            Task("A RETURNED COUNT 4 CC 0 regs 0=00000009 1=00100006"),
+            SESSION,
             Marked(DIVIDED, ":::^: EXECUTED 4 FACTS 4 OF 5"),
             Text("NOT EXECUTED 000008-000009\nEND\n"),
         ],
@@ -114,18 +93,12 @@ SESSION S PHASE P\n",
     Row {
         name: "early",
         words: &["early"],
-        input: &[Text(THROUGH)],
+        input: &[Phase(LOAD), Text(THROUGH)],
         status: 0,
         output: &[
-            Text(
-                "\
-COVERAGE REPORT\n\
-TASK C RETURNED COUNT 7 CC 2\n\
-R0 00000000 0000000A 00000000 00000000 00000000 00000000 00000000 00000000\n\
-R8 00000000 00000000 00000000 00000000 00000000 00FFFFFE 80000006 00000000\n\
-OUT 0\n\
-SESSION S PHASE P\n",
-            ),
+            REPORT,
+            Task("C RETURNED COUNT 7 CC 2 regs 1=0000000A D=00FFFFFE E=80000006 F=00000000"),
+            SESSION,
             Marked(LOAD, "::: EXECUTED 3 FACTS 3 OF 3"),
             Text("DRAINED COUNT 6\nEND\n"),
         ],
@@ -133,24 +106,20 @@ SESSION S PHASE P\n",
     Row {
         name: "count",
         words: &["count"],
-        input: &[
-            Code(COUNT),
-            Text("TASK A 100000 16 100 0\nREG 1 00000003\nENDJOB\n"),
-        ],
+        input: &[Code(COUNT), FROM_3],
         status: 0,
-        output: &[Text(
-            "\
-COVERAGE COUNT\n\
-TASK A RETURNED COUNT 4 CC 0\n\
-R0 00000000 00000000 00000000 00000000 00000000 00000000 00000000 00000000\n\
-R8 00000000 00000000 00000000 00000000 00000000 00000000 00FFFFFE 00100000\n\
-OUT 0\n\
+        output: &[
+            Text("COVERAGE COUNT\n"),
+            Task("A RETURNED COUNT 4 CC 0 regs"),
+            Text(
+                "\
 SESSION S PHASE P\n\
 MODULE M PLACES 2\n\
 COUNT 000000 2 1\n\
 COUNT 000004 1\n\
 END\n",
-        )],
+            ),
+        ],
     },
     Row {
         name: "count: a controller",
@@ -180,19 +149,11 @@ END\n",
         ],
         status: 0,
         output: &[
-            Text(
-                "\
-COVERAGE REPLAY\n\
-EVENT 1 FETCH A TAG 1 HALF 0AFF\n\
-EVENT 2 GO A\n\
-TASK A RETURNED COUNT 3 CC 2\n\
-R0 00000000 0000000A 00000000 00000000 00000000 00000000 00000000 00000000\n\
-R8 00000000 00000000 00000000 00000000 00000000 00000000 00FFFFFE 00100000\n\
-OUT 0\n\
-SESSION S PHASE P\n",
-            ),
+            Text("COVERAGE REPLAY\nEVENT 1 FETCH A TAG 1 HALF 0AFF\nEVENT 2 GO A\n"),
+            Task("A RETURNED COUNT 3 CC 2 regs 1=0000000A"),
+            SESSION,
             Marked(LOAD, "::: EXECUTED 3 FACTS 3 OF 3"),
-            Text("END\n"),
+            END,
         ],
     },
     Row {
@@ -204,75 +165,6 @@ SESSION S PHASE P\n",
         ],
         status: 9,
         output: &[Text("BAD SCHEDULE LINE 15\n")],
-    },
-];
-
-/// Tasks over the first job's module, none of which reaches it: what they fetch, mark and lift there is nothing.
-static ASTRAY: [Case; 4] = [
-    Case {
-        name: "an odd entry",
-        code: LOAD,
-        job: "TASK A 100001 16 100 0\nENDJOB\n",
-        status: 0,
-        tallies: Some(&[(3, 0, 0, 0)]),
-        text: "\
-COVERAGE REPORT\n\
-TASK A ABEND 6 COUNT 1 CC 0\n\
-regs F=00100001\n\
-OUT 0\n\
-SESSION S PHASE P\n\
-marks ^^^ EXECUTED 0 FACTS 0 OF 3\n\
-NOT EXECUTED 000000-000007\n\
-END\n",
-    },
-    Case {
-        name: "the return address as entry",
-        code: LOAD,
-        job: "TASK A FFFFFE 16 100 0\nENDJOB\n",
-        status: 0,
-        tallies: Some(&[(3, 0, 0, 0)]),
-        text: "\
-COVERAGE REPORT\n\
-TASK A RETURNED COUNT 0 CC 0\n\
-regs F=00FFFFFE\n\
-OUT 0\n\
-SESSION S PHASE P\n\
-marks ^^^ EXECUTED 0 FACTS 0 OF 3\n\
-NOT EXECUTED 000000-000007\n\
-END\n",
-    },
-    Case {
-        name: "output of more bytes than there are",
-        code: LOAD,
-        job: "TASK A 000000 16 100 0\nREG 0 FFFFFFFF\nDATA 0 0A0107FE\nENDJOB\n",
-        status: 0,
-        tallies: Some(&[(3, 0, 0, 0)]),
-        text: "\
-COVERAGE REPORT\n\
-TASK A ABEND 5 COUNT 1 CC 0\n\
-regs 0=FFFFFFFF F=00000000\n\
-OUT 0\n\
-SESSION S PHASE P\n\
-marks ^^^ EXECUTED 0 FACTS 0 OF 3\n\
-NOT EXECUTED 000000-000007\n\
-END\n",
-    },
-    Case {
-        name: "code that changes itself",
-        code: LOAD,
-        job: "TASK A 000000 16 100 0\nDATA 0 92FE00050700\nENDJOB\n",
-        status: 0,
-        tallies: Some(&[(3, 0, 0, 0)]),
-        text: "\
-COVERAGE REPORT\n\
-TASK A RETURNED COUNT 2 CC 0\n\
-regs F=00000000\n\
-OUT 0\n\
-STOR 000000 92FE000507FE00000000000000000000\n\
-SESSION S PHASE P\n\
-marks ^^^ EXECUTED 0 FACTS 0 OF 3\n\
-NOT EXECUTED 000000-000007\n\
-END\n",
     },
 ];
 
@@ -452,13 +344,5 @@ fn writes_nothing_where_it_can_neither_read_nor_write(rt: HostRuntime) -> Result
     let came = serve_faulty(&rt, alloc, &[], &input, once, Vec::new(alloc))?;
     assert_eq!(rt; came.status, Status(1));
     assert_eq!(rt; came.bytes.as_slice(), USAGE);
-    Ok(())
-}
-
-#[test]
-fn runs_tasks_that_go_astray(rt: HostRuntime) -> Result<(), Fail> {
-    for case in &ASTRAY {
-        check(&rt, rt.alloc(), case)?;
-    }
     Ok(())
 }

@@ -1,9 +1,11 @@
 //! Tasks of one phase run at once: a gate holds one of two until the other has arrived.
 
-use crate::cover::cover;
+use super::evidence::BRANCH;
+use super::notation::{Part, bytes_of};
+use super::places::serve_over;
 use crate::status::Status;
 use cov_base::TaskNo;
-use cov_outside::{Gate, MemSink, MemSource};
+use cov_outside::Gate;
 use module_area::{Areas, Tally};
 use shared_area::SharedAreas;
 use std::alloc::Global;
@@ -12,22 +14,10 @@ use std::sync::atomic::{AtomicU64, Ordering};
 use std::test::Fail;
 use std::thread::Threads;
 
-const JOB: &[u8] = b"\
-COVERJOB 1\n\
-MODULE M 100000 10\n\
-TEXT 12114780F008182207FE\n\
-LISTING 5\n\
-\x20 Loc  Object Code    Addr1 Addr2  Stmt   Source Statement\n\
-000000 1211                           1          LTR\n\
-000002 4780 F008                      2          BE\n\
-000006 1822                           3          LR\n\
-000008 07FE                           4          BR\n\
-PHASE P\n\
-SESSION S M\n\
-TASK A 100000 16 100 0\n\
-TASK B 100000 16 100 0\n\
-REG 1 00000001\n\
-ENDJOB\n";
+const JOB: [Part; 2] = [
+    Part::Code(BRANCH),
+    Part::Text("TASK A 100000 16 100 0\nTASK B 100000 16 100 0\nREG 1 00000001\nENDJOB\n"),
+];
 
 /// At most so many looks at the other task's word.
 const TURNS: u64 = 1_000_000_000;
@@ -72,17 +62,15 @@ fn run_held<T: Threads + Wait + Sync>(
     held: u32,
     awaited: u32,
 ) -> Result<(Status, Vec<Tally>, u64), Fail> {
-    let words = [String::from_str(alloc, "run")?];
+    let job = bytes_of(alloc, &JOB)?;
     let gate = Holding {
         held,
         awaited,
         arrived: AtomicU64::new(0),
         released: AtomicU64::new(0),
     };
-    let mut source = MemSource::new(JOB.to_vec(alloc)?, 64, Vec::new(alloc));
-    let mut sink = MemSink::new(alloc, 4096, 4096, Vec::new(alloc)).map_err(|_| "memory")?;
     let mut areas = SharedAreas::new(alloc, 1).map_err(|_| "memory")?;
-    let status = cover(rt, alloc, &words, &mut source, &mut sink, &mut areas, &gate);
+    let (status, _) = serve_over(rt, alloc, &["run"], &job, 64, &mut areas, &gate)?;
     let released = gate.released.load(Ordering::SeqCst);
     Ok((status, areas.ledger().to_vec(alloc)?, released))
 }

@@ -2,12 +2,11 @@
 //! that hand each call on to others: the task goes on at a look of the controller, which then waits for its boundary.
 ghost use Rattle.std.specs.Prelude.{◌≡◌};
 
-use super::notation::{Case, text_of};
-use super::places::words_of;
-use crate::cover::cover;
+use super::notation::{Case, LOAD, job_of, text_of};
+use super::places::serve_over;
 use crate::status::Status;
 use cov_base::{Bits, Fact, NoMemory, PlaceNo, SessNo, TaskNo};
-use cov_outside::{Gate, MemSink, MemSource};
+use cov_outside::Gate;
 use module_area::{Areas, Cell, Cells, Drains, Finals, Forks, Plan, Tally};
 use shared_area::SharedAreas;
 use std::alloc::Global;
@@ -178,17 +177,8 @@ impl<'a, A: Areas> Areas for HeldAreas<'a, A> {
 /// Task C goes through the module while session S is open, closes it, and counts down from 30 while task A waits to go through.
 static HELD_JOB: Case = Case {
     name: "a task is held",
-    code: "",
+    code: LOAD,
     job: "\
-COVERJOB 1\n\
-MODULE M 100000 8\n\
-TEXT 411000051A1107FE\n\
-LISTING 4\n\
-\x20 Loc  Object Code    Addr1 Addr2  Stmt   Source Statement\n\
-000000 4110 0005                      1          LA\n\
-000004 1A11                           2          AR\n\
-000006 07FE                           3          BR\n\
-PHASE P\n\
 SESSION S BY C M\n\
 TASK A 100000 16 100 0\n\
 TASK C 000000 32 100 0\n\
@@ -196,23 +186,11 @@ REG 2 0000001E\n\
 DATA 0 0A040A054620000407FE\n\
 ENDJOB\n",
     status: 0,
-    tallies: None,
     text: "\
 COVERAGE REPORT\n\
-TASK A RETURNED COUNT 3 CC 2\n\
-R0 00000000 0000000A 00000000 00000000 00000000 00000000 00000000 00000000\n\
-R8 00000000 00000000 00000000 00000000 00000000 00000000 00FFFFFE 00100000\n\
-OUT 0\n\
-TASK C RETURNED COUNT 33 CC 0\n\
-R0 00000000 00000000 00000000 00000000 00000000 00000000 00000000 00000000\n\
-R8 00000000 00000000 00000000 00000000 00000000 00000000 00FFFFFE 00000000\n\
-OUT 0\n\
-SESSION S PHASE P\n\
-MODULE M PLACES 3 EXECUTED 0 FACTS 0 OF 3\n\
-\x20   Loc  Object Code    Addr1 Addr2  Stmt   Source Statement\n\
-^ 000000 4110 0005                      1          LA\n\
-^ 000004 1A11                           2          AR\n\
-^ 000006 07FE                           3          BR\n\
+task A RETURNED COUNT 3 CC 2 regs 1=0000000A\n\
+task C RETURNED COUNT 33 CC 0 regs F=00000000\n\
+session S PHASE P marks ^^^ EXECUTED 0 FACTS 0 OF 3\n\
 NOT EXECUTED 000000-000007\n\
 DRAINED COUNT 11\n\
 END\n",
@@ -225,21 +203,11 @@ fn drains_once_a_held_task_goes_on(rt: HostRuntime) -> Result<(), Fail> {
         looks: AtomicU64::new(0),
         went_on: AtomicU64::new(0),
     };
-    let words = words_of(alloc, &["early"])?;
-    let mut source = MemSource::new(HELD_JOB.job.as_bytes().to_vec(alloc)?, 64, Vec::new(alloc));
-    let mut sink = MemSink::new(alloc, 4096, 4096, Vec::new(alloc)).map_err(|_| "memory")?;
+    let job = job_of(alloc, &HELD_JOB)?;
     let areas = SharedAreas::new(alloc, 1).map_err(|_| "memory")?;
     let mut areas = HeldAreas { areas, held: &held };
-    let status = cover(
-        &rt,
-        alloc,
-        &words,
-        &mut source,
-        &mut sink,
-        &mut areas,
-        &held,
-    );
+    let (status, text) = serve_over(&rt, alloc, &["early"], &job, 64, &mut areas, &held)?;
     assert_eq!(rt; status, Status(0));
-    assert_eq!(rt; sink.bytes(), text_of(alloc, &HELD_JOB)?.as_slice());
+    assert_eq!(rt; text.as_slice(), text_of(alloc, &HELD_JOB)?.as_slice());
     Ok(())
 }

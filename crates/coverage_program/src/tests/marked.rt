@@ -1,12 +1,11 @@
 //! The commands that give and take marks files: what goes in, and the status and bytes that come out.
 
-use super::notation::Part;
 use super::notation::Part::{Bytes, Code, Marked, Text};
+use super::notation::{COUNT, END, Part};
 use super::samples::{
-    BOTH, BOTH_THRICE, BOTH_TWICE, COUNT, END, ENDS, FELL, FELL_TWICE, GOES_ON, M_AND_N, NONE,
-    O_N_M, O_N_M_THRICE, OLD_FELL, OTHER, PHASES, RETURN_LEFT, RETURN_LEFT_BY_FOUR, SHOW,
-    SHOWN_BOTH, SHOWN_FELL, SHOWN_WENT, THREE, TWO, UNNAMED_FELL, UNNAMED_FELL_TWICE, WENT,
-    WENT_OF_T,
+    BOTH, BOTH_THRICE, BOTH_TWICE, ENDS, FELL, FELL_TWICE, FROM_3, GOES_ON, M_AND_N, NONE, O_N_M,
+    O_N_M_THRICE, OLD_FELL, OTHER, PHASES, RETURN_LEFT, RETURN_LEFT_BY_FOUR, SHOW, SHOWN_BOTH,
+    SHOWN_FELL, SHOWN_WENT, THREE, TWO, UNNAMED_FELL, UNNAMED_FELL_TWICE, WENT, WENT_OF_T,
 };
 
 /// The words, what goes in behind them, and what comes.
@@ -37,10 +36,7 @@ static GOOD: [Row; 22] = [
     Row {
         name: "the file of a run that does both",
         words: &["marks", "S"],
-        input: &[
-            Code(COUNT),
-            Text("TASK A 100000 16 100 0\nREG 1 00000003\nENDJOB\n"),
-        ],
+        input: &[Code(COUNT), FROM_3],
         status: 0,
         output: &[BOTH],
     },

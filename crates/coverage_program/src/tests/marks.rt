@@ -1,7 +1,6 @@
 //! The commands `marks`, `combine`, `show`, `prove` and `verify`: what they write, and the first cause of what they refuse.
 
-use super::evidence::{proved, unproved};
-use super::evidence_faults::{fields, refuted};
+use super::evidence::{fields, proved, refuted, unproved};
 use super::faults::serve_faulty;
 use super::marked::{RUNS, Row, SHOWN_UNION, UNION, UNION_AGAIN, good, no_commands, old};
 use super::marks_faults::{bad_files, bad_jobs, bad_shown};

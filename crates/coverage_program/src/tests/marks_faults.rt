@@ -1,11 +1,13 @@
-//! What the commands of marks files refuse: a job or its session, a file behind a job, files in succession.
+//! Jobs, marks files behind a job and marks files in succession that are refused, and why.
 
+use super::called::TWO as CALLED_TWO;
 use super::marked::Row;
-use super::notation::Part::{Code, Text};
+use super::notation::Part::{Code, Phase, Text};
+use super::notation::{COUNT, LOAD};
 use super::samples::{
-    BAD_SET, CONTROLLED, COUNT, CUT, ENDS, FELL, LATER_VERSION, M_AND_N, M_N_O, MISMATCH, MOVED,
-    NO_MODULES, O_N_M, O_N_OTHER, OTHER, OTHER_COUNT, OTHER_CUT, OTHER_THIRD, PHASES, THREE, TWO,
-    TWO_BAD_FIELDS, WENT,
+    BAD_SET, CUT, ENDS, FELL, LATER_VERSION, M_AND_N, M_N_O, MISMATCH, MOVED, NO_MODULES, O_N_M,
+    O_N_OTHER, OTHER, OTHER_COUNT, OTHER_CUT, OTHER_THIRD, PHASES, THREE, TWO, TWO_BAD_FIELDS,
+    WENT,
 };
 
 /// A job that is refused, or its session, and why: where there are several causes the one that is told comes first, here and in
@@ -147,14 +149,14 @@ static BAD_JOBS: [Row; 18] = [
     Row {
         name: "marks: a controlled session, and no session",
         words: &["marks", "X"],
-        input: &[CONTROLLED],
+        input: &[Phase(LOAD), Text(CALLED_TWO)],
         status: 13,
         output: &[Text("NO SESSION X\n")],
     },
     Row {
         name: "show: a controlled session, and no session",
         words: &["show", "X"],
-        input: &[CONTROLLED],
+        input: &[Phase(LOAD), Text(CALLED_TWO)],
         status: 13,
         output: &[Text("NO SESSION X\n")],
     },

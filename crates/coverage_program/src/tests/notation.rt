@@ -6,34 +6,62 @@ use std::test::Fail;
 /// A case.
 ///
 /// Module M stands at X'100000'. Its instructions are a location, object code and an operation, parted by commas. They make
-/// its listing, and its bytes too, where no other bytes stand before a colon. Phase P follows, and session S over M, and
-/// behind these the job's own lines. Without instructions the job's own lines are all that it has.
+/// its listing, and its bytes too, where no other bytes stand before a colon. Phase P follows, and behind it the job's own
+/// lines, before which session S over M stands where they begin with no other session. Without instructions the job's own
+/// lines are all that it has.
 ///
-/// In the text `regs` and words as `1=0000000A` are the two lines of a task's registers, of which those that aren't named
-/// are as those of a task that begins at X'100000'. `marks`, a mark for each instruction and how the module's line ends are
-/// that line and the annotated listing. Every other line stands for itself.
+/// In the text a line as `task A RETURNED COUNT 3 CC 2 regs 1=0000000A` is the lines of a task without output, of whose
+/// registers those that aren't named are as those of a task that begins at X'100000'. One as
+/// `session S PHASE P marks :^ EXECUTED 1 FACTS 1 OF 2`, with a mark for each instruction, is the session's line, the module's
+/// and the annotated listing. Every other line stands for itself.
 pub struct Case {
     pub name: &'static str,
     pub code: &'static str,
     pub job: &'static str,
     pub status: u8,
-    /// The plants, fetches, marks and lifts of each phase, where they are compared.
-    pub tallies: Option<&'static [(u64, u64, u64, u64)]>,
     pub text: &'static str,
 }
+
+/// A case, and the plants, fetches, marks and lifts of each of its phases.
+pub struct Tallied {
+    pub case: Case,
+    pub tallies: &'static [(u64, u64, u64, u64)],
+}
+
+/// Load address, add and branch.
+pub const LOAD: &str = "000000 4110 0005 LA, 000004 1A11 AR, 000006 07FE BR";
+
+/// A count down from register 1, and a return.
+pub const COUNT: &str = "000000 4610 F000 BCT, 000004 07FE BR";
+
+/// The own lines of a job of one task that begins at X'100000'.
+pub const ALONE: &str = "TASK A 100000 16 100 0\nENDJOB\n";
 
 /// A part of an input or of what is written for it.
 #[derive(Clone, Copy)]
 pub enum Part {
     /// Stands for itself.
     Text(&'static str),
-    /// The lines of a job up to session S, over module M of these instructions.
+    /// The lines of a job up to phase P, with module M of these instructions.
+    Phase(&'static str),
+    /// These, and session S over M.
     Code(&'static str),
+    /// The lines of a task without output, as in a case's text.
+    Task(&'static str),
     /// Module M's part of a listing, by its instructions, and a mark for each and how the module's line ends.
     Marked(&'static str, &'static str),
     /// Bytes, by hexadecimal digits in upper case with blanks between them.
     Bytes(&'static str),
 }
+
+/// A report's first line.
+pub const REPORT: Part = Part::Text("COVERAGE REPORT\n");
+
+/// The first line of session S.
+pub const SESSION: Part = Part::Text("SESSION S PHASE P\n");
+
+/// A text's last line.
+pub const END: Part = Part::Text("END\n");
 
 const HEADING: &str = "  Loc  Object Code    Addr1 Addr2  Stmt   Source Statement\n";
 
@@ -122,17 +150,25 @@ fn add_module(text: &mut Vec<u8>, alloc: Global, code: &str) -> Result<(), Fail>
     Ok(())
 }
 
-/// The lines of a job up to its session.
-fn add_code(text: &mut Vec<u8>, alloc: Global, code: &str) -> Result<(), Fail> {
+/// The lines of a job up to its phase.
+fn add_phase(text: &mut Vec<u8>, alloc: Global, code: &str) -> Result<(), Fail> {
     add(text, "COVERJOB 1\n")?;
     add_module(text, alloc, code)?;
-    add(text, "PHASE P\nSESSION S M\n")
+    add(text, "PHASE P\n")
+}
+
+/// The lines of a job up to its session.
+fn add_code(text: &mut Vec<u8>, alloc: Global, code: &str) -> Result<(), Fail> {
+    add_phase(text, alloc, code)?;
+    add(text, "SESSION S M\n")
 }
 
 /// The bytes of the case's job.
 pub fn job_of(alloc: Global, case: &Case) -> Result<Vec<u8>, Fail> {
     let mut text = Vec::new(alloc);
-    if !case.code.is_empty() {
+    if case.job.starts_with("SESSION") {
+        add_phase(&mut text, alloc, case.code)?;
+    } else if !case.code.is_empty() {
         add_code(&mut text, alloc, case.code)?;
     }
     add(&mut text, case.job)?;
@@ -159,6 +195,16 @@ fn add_registers(text: &mut Vec<u8>, words: &str) -> Result<(), Fail> {
     add(text, "\n")
 }
 
+/// A task's lines, where it has no output.
+fn add_task(text: &mut Vec<u8>, words: &str) -> Result<(), Fail> {
+    let (ending, registers) = words.split_once(" regs").unwrap_or((words, ""));
+    add(text, "TASK ")?;
+    add(text, ending)?;
+    add(text, "\n")?;
+    add_registers(text, registers)?;
+    add(text, "OUT 0\n")
+}
+
 fn add_marked(text: &mut Vec<u8>, alloc: Global, code: &str, words: &str) -> Result<(), Fail> {
     let (marks, counts) = words.split_once(' ').unwrap_or(("", ""));
     let instructions = instructions_of(alloc, code)?;
@@ -180,10 +226,14 @@ fn add_marked(text: &mut Vec<u8>, alloc: Global, code: &str, words: &str) -> Res
 pub fn text_of(alloc: Global, case: &Case) -> Result<Vec<u8>, Fail> {
     let mut text = Vec::new(alloc);
     for line in case.text.lines() {
-        if let Some(words) = line.strip_prefix("regs") {
-            add_registers(&mut text, words)?;
-        } else if let Some(words) = line.strip_prefix("marks ") {
-            add_marked(&mut text, alloc, case.code, words)?;
+        if let Some(words) = line.strip_prefix("task ") {
+            add_task(&mut text, words)?;
+        } else if let Some(words) = line.strip_prefix("session ") {
+            let (session, marks) = words.split_once(" marks ").unwrap_or((words, ""));
+            add(&mut text, "SESSION ")?;
+            add(&mut text, session)?;
+            add(&mut text, "\n")?;
+            add_marked(&mut text, alloc, case.code, marks)?;
         } else {
             add(&mut text, line)?;
             add(&mut text, "\n")?;
@@ -224,7 +274,9 @@ pub fn bytes_of(alloc: Global, parts: &[Part]) -> Result<Vec<u8>, Fail> {
     for part in parts {
         match part {
             Part::Text(words) => add(&mut text, words)?,
+            Part::Phase(code) => add_phase(&mut text, alloc, code)?,
             Part::Code(code) => add_code(&mut text, alloc, code)?,
+            Part::Task(words) => add_task(&mut text, words)?,
             Part::Marked(code, words) => add_marked(&mut text, alloc, code, words)?,
             Part::Bytes(digits) => add_bytes(&mut text, digits)?,
         }

@@ -7,6 +7,7 @@ ghost use Rattle.module_area.specs.PlanView.{window_at, has_task};
 ghost use Rattle.module_area.specs.Tied.{IsTied};
 ghost use Rattle.session_book.specs.JobView.{IsJob};
 
+use super::notation::{Part, bytes_of};
 use super::order::{COUNT_DOWN, EXECUTED};
 use crate::ready::make_ready;
 use brk_table::Tables;
@@ -106,7 +107,8 @@ where
 }
 
 /// What comes of the first task of a job, alone in its area; none where no job is read. The job gets a second task.
-fn came(alloc: Global, job: &[u8]) -> Result<Option<(Ending, [Cell; 2])>, Fail> {
+fn came(alloc: Global, job: &[Part]) -> Result<Option<(Ending, [Cell; 2])>, Fail> {
+    let job = bytes_of(alloc, job)?;
     // The last card is ENDJOB.
     let mut bytes = job[..job.len().saturating_sub(7)].to_vec(alloc)?;
     bytes.extend_from_slice(b"TASK Z 100000 16 100 0\nENDJOB\n")?;
@@ -124,10 +126,10 @@ fn cell(half: u16) -> Cell {
 
 #[test]
 fn a_split_pass_lifts_what_is_full(rt: HostRuntime) -> Result<(), Fail> {
-    let counted = came(rt.alloc(), COUNT_DOWN)?;
+    let counted = came(rt.alloc(), &COUNT_DOWN)?;
     let both_gone = [cell(0x4610), cell(0x07FE)];
     assert!(rt; counted == Some((Ending::Returned, both_gone)));
-    let executed = came(rt.alloc(), EXECUTED)?;
+    let executed = came(rt.alloc(), &EXECUTED)?;
     let subject_stays = [cell(0x4400), cell(0x0AFF)];
     assert!(rt; executed == Some((Ending::Abend(3), subject_stays)));
     Ok(())

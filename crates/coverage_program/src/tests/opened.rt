@@ -1,25 +1,15 @@
 //! Sessions that tasks open and close under `replay`: a late trap, calls that open and close nothing, calls under EX, and
 //! plants and closes that are not due.
 
-use super::notation::{Case, job_of, text_of};
-use super::places::serve;
-use crate::status::Status;
+use super::notation::{Case, LOAD};
+use super::schedules::check_schedules;
 use std::test::Fail;
 
 const SCHEDULES: [Case; 10] = [
     Case {
         name: "a late trap marks in the session that it was planted for",
-        code: "",
+        code: LOAD,
         job: "\
-COVERJOB 1\n\
-MODULE M 100000 8\n\
-TEXT 411000051A1107FE\n\
-LISTING 4\n\
-\x20 Loc  Object Code    Addr1 Addr2  Stmt   Source Statement\n\
-000000 4110 0005                      1          LA\n\
-000004 1A11                           2          AR\n\
-000006 07FE                           3          BR\n\
-PHASE P\n\
 SESSION S1 BY C M\n\
 SESSION S2 BY C M\n\
 TASK A 100000 16 100 0\n\
@@ -46,7 +36,6 @@ GO A\n\
 GO C\n\
 ENDSCHED\n",
         status: 0,
-        tallies: None,
         text: "\
 COVERAGE REPLAY\n\
 EVENT 1 PLANT C S1 100000\n\
@@ -67,40 +56,18 @@ EVENT 15 LIFT A NOT TAKEN\n\
 EVENT 16 DO A\n\
 EVENT 17 GO A\n\
 EVENT 18 GO C\n\
-TASK A RETURNED COUNT 3 CC 2\n\
-regs 1=0000000A\n\
-OUT 0\n\
-TASK C RETURNED COUNT 5 CC 0\n\
-R0 00000000 00000000 00000000 00000000 00000000 00000000 00000000 00000000\n\
-R8 00000000 00000000 00000000 00000000 00000000 00000000 00FFFFFE 00000000\n\
-OUT 0\n\
-SESSION S1 PHASE P\n\
-MODULE M PLACES 3 EXECUTED 1 FACTS 1 OF 3\n\
-\x20   Loc  Object Code    Addr1 Addr2  Stmt   Source Statement\n\
-: 000000 4110 0005                      1          LA\n\
-^ 000004 1A11                           2          AR\n\
-^ 000006 07FE                           3          BR\n\
+task A RETURNED COUNT 3 CC 2 regs 1=0000000A\n\
+task C RETURNED COUNT 5 CC 0 regs F=00000000\n\
+session S1 PHASE P marks :^^ EXECUTED 1 FACTS 1 OF 3\n\
 NOT EXECUTED 000004-000007\n\
-SESSION S2 PHASE P\n\
-MODULE M PLACES 3 EXECUTED 2 FACTS 2 OF 3\n\
-\x20   Loc  Object Code    Addr1 Addr2  Stmt   Source Statement\n\
-^ 000000 4110 0005                      1          LA\n\
-: 000004 1A11                           2          AR\n\
-: 000006 07FE                           3          BR\n\
+session S2 PHASE P marks ^:: EXECUTED 2 FACTS 2 OF 3\n\
 NOT EXECUTED 000000-000003\n\
 END\n",
     },
     Case {
         name: "calls with nothing to open or close",
-        code: "",
+        code: "000000 07FE BCR",
         job: "\
-COVERJOB 1\n\
-MODULE M 100000 2\n\
-TEXT 07FE\n\
-LISTING 2\n\
-\x20 Loc  Object Code    Addr1 Addr2  Stmt   Source Statement\n\
-000000 07FE                           1          BCR\n\
-PHASE P\n\
 SESSION S BY C M\n\
 TASK C 000000 12 100 0\n\
 DATA 0 0A050A040A040A050A0407FE\n\
@@ -115,7 +82,6 @@ DO C\n\
 GO C\n\
 ENDSCHED\n",
         status: 0,
-        tallies: None,
         text: "\
 COVERAGE REPLAY\n\
 EVENT 1 DO C\n\
@@ -126,29 +92,15 @@ EVENT 5 CLOSE C S 100000\n\
 EVENT 6 DO C\n\
 EVENT 7 DO C\n\
 EVENT 8 GO C\n\
-TASK C RETURNED COUNT 6 CC 0\n\
-R0 00000000 00000000 00000000 00000000 00000000 00000000 00000000 00000000\n\
-R8 00000000 00000000 00000000 00000000 00000000 00000000 00FFFFFE 00000000\n\
-OUT 0\n\
-SESSION S PHASE P\n\
-MODULE M PLACES 1 EXECUTED 0 FACTS 0 OF 1\n\
-\x20   Loc  Object Code    Addr1 Addr2  Stmt   Source Statement\n\
-^ 000000 07FE                           1          BCR\n\
+task C RETURNED COUNT 6 CC 0 regs F=00000000\n\
+session S PHASE P marks ^ EXECUTED 0 FACTS 0 OF 1\n\
 NOT EXECUTED 000000-000001\n\
 END\n",
     },
     Case {
         name: "calls under EX, at a place and at none",
-        code: "",
+        code: "000000 0A00 SVC, 000002 07FE BCR",
         job: "\
-COVERJOB 1\n\
-MODULE M 100000 4\n\
-TEXT 0A0007FE\n\
-LISTING 3\n\
-\x20 Loc  Object Code    Addr1 Addr2  Stmt   Source Statement\n\
-000000 0A00                           1          SVC\n\
-000002 07FE                           2          BCR\n\
-PHASE P\n\
 SESSION S BY C M\n\
 TASK C 000000 18 100 0\n\
 REG 4 00000004\n\
@@ -167,7 +119,6 @@ DO C\n\
 GO C\n\
 ENDSCHED\n",
         status: 0,
-        tallies: None,
         text: "\
 COVERAGE REPLAY\n\
 EVENT 1 DO C\n\
@@ -179,15 +130,8 @@ EVENT 6 CLOSE C S 100000\n\
 EVENT 7 CLOSE C S 100002\n\
 EVENT 8 DO C\n\
 EVENT 9 GO C\n\
-TASK C RETURNED COUNT 4 CC 0\n\
-R0 00000000 00000000 00000000 00000000 00000004 00000005 00000000 00000000\n\
-R8 00000000 00000000 00000000 00000000 00100000 00000000 00FFFFFE 00000000\n\
-OUT 0\n\
-SESSION S PHASE P\n\
-MODULE M PLACES 2 EXECUTED 0 FACTS 0 OF 2\n\
-\x20   Loc  Object Code    Addr1 Addr2  Stmt   Source Statement\n\
-^ 000000 0A00                           1          SVC\n\
-^ 000002 07FE                           2          BCR\n\
+task C RETURNED COUNT 4 CC 0 regs 4=00000004 5=00000005 C=00100000 F=00000000\n\
+session S PHASE P marks ^^ EXECUTED 0 FACTS 0 OF 2\n\
 NOT EXECUTED 000000-000003\n\
 END\n",
     },
@@ -216,7 +160,6 @@ DO C\n\
 GO C\n\
 ENDSCHED\n",
         status: 0,
-        tallies: None,
         text: "\
 COVERAGE REPLAY\n\
 EVENT 1 DO C\n\
@@ -224,10 +167,7 @@ EVENT 2 DO C\n\
 EVENT 3 PLANT C T 100000\n\
 EVENT 4 DO C\n\
 EVENT 5 GO C\n\
-TASK C RETURNED COUNT 4 CC 0\n\
-R0 00000000 00000000 00000000 00000000 00000000 00000000 00000000 00000000\n\
-R8 00000000 00000000 00000000 00000000 00000000 00000000 00FFFFFE 00000000\n\
-OUT 0\n\
+task C RETURNED COUNT 4 CC 0 regs F=00000000\n\
 SESSION S PHASE P\n\
 MODULE U PLACES 0 EXECUTED 0 FACTS 0 OF 0\n\
 SESSION T PHASE P\n\
@@ -240,17 +180,8 @@ END\n",
     },
     Case {
         name: "a call at a place of its own session",
-        code: "",
+        code: "000000 0A04 SVC, 000002 0A05 SVC, 000004 07FE BCR",
         job: "\
-COVERJOB 1\n\
-MODULE M 100000 6\n\
-TEXT 0A040A0507FE\n\
-LISTING 4\n\
-\x20 Loc  Object Code    Addr1 Addr2  Stmt   Source Statement\n\
-000000 0A04                           1          SVC\n\
-000002 0A05                           2          SVC\n\
-000004 07FE                           3          BCR\n\
-PHASE P\n\
 SESSION S BY C M\n\
 TASK C 000000 4 100 0\n\
 REG 12 00100000\n\
@@ -274,7 +205,6 @@ DO C\n\
 DO C\n\
 ENDSCHED\n",
         status: 0,
-        tallies: None,
         text: "\
 COVERAGE REPLAY\n\
 EVENT 1 DO C\n\
@@ -293,31 +223,16 @@ EVENT 13 DO C\n\
 EVENT 14 FETCH C TAG 2 HALF 07FE\n\
 EVENT 15 DO C\n\
 EVENT 16 DO C\n\
-TASK C RETURNED COUNT 4 CC 0\n\
-R0 00000000 00000000 00000000 00000000 00000000 00000000 00000000 00000000\n\
-R8 00000000 00000000 00000000 00000000 00100000 00000000 00FFFFFE 00000000\n\
-OUT 0\n\
-SESSION S PHASE P\n\
-MODULE M PLACES 3 EXECUTED 1 FACTS 1 OF 3\n\
-\x20   Loc  Object Code    Addr1 Addr2  Stmt   Source Statement\n\
-^ 000000 0A04                           1          SVC\n\
-: 000002 0A05                           2          SVC\n\
-^ 000004 07FE                           3          BCR\n\
+task C RETURNED COUNT 4 CC 0 regs C=00100000 F=00000000\n\
+session S PHASE P marks ^:^ EXECUTED 1 FACTS 1 OF 3\n\
 NOT EXECUTED 000000-000001\n\
 NOT EXECUTED 000004-000005\n\
 END\n",
     },
     Case {
         name: "a plant that no call asks for",
-        code: "",
+        code: "000000 07FE BCR",
         job: "\
-COVERJOB 1\n\
-MODULE M 100000 2\n\
-TEXT 07FE\n\
-LISTING 2\n\
-\x20 Loc  Object Code    Addr1 Addr2  Stmt   Source Statement\n\
-000000 07FE                           1          BCR\n\
-PHASE P\n\
 SESSION S BY C M\n\
 TASK C 000000 12 100 0\n\
 DATA 0 0A050A040A040A050A0407FE\n\
@@ -325,22 +240,12 @@ ENDJOB\n\
 PLANT C\n\
 ENDSCHED\n",
         status: 9,
-        tallies: None,
-        text: "\
-BAD SCHEDULE LINE 12\n",
+        text: "BAD SCHEDULE LINE 12\n",
     },
     Case {
         name: "a Do before the last place is planted",
-        code: "",
+        code: "000000 07FE BCR, 000002 07FE BCR",
         job: "\
-COVERJOB 1\n\
-MODULE M 100000 4\n\
-TEXT 07FE07FE\n\
-LISTING 3\n\
-\x20 Loc  Object Code    Addr1 Addr2  Stmt   Source Statement\n\
-000000 07FE                           1          BCR\n\
-000002 07FE                           2          BCR\n\
-PHASE P\n\
 SESSION S BY C M\n\
 TASK C 000000 4 100 0\n\
 DATA 0 0A0407FE\n\
@@ -349,21 +254,12 @@ PLANT C\n\
 DO C\n\
 ENDSCHED\n",
         status: 9,
-        tallies: None,
-        text: "\
-BAD SCHEDULE LINE 14\n",
+        text: "BAD SCHEDULE LINE 14\n",
     },
     Case {
         name: "a close while the session is opened",
-        code: "",
+        code: "000000 07FE BCR",
         job: "\
-COVERJOB 1\n\
-MODULE M 100000 2\n\
-TEXT 07FE\n\
-LISTING 2\n\
-\x20 Loc  Object Code    Addr1 Addr2  Stmt   Source Statement\n\
-000000 07FE                           1          BCR\n\
-PHASE P\n\
 SESSION S BY C M\n\
 TASK C 000000 4 100 0\n\
 DATA 0 0A0407FE\n\
@@ -371,22 +267,12 @@ ENDJOB\n\
 CLOSE C\n\
 ENDSCHED\n",
         status: 9,
-        tallies: None,
-        text: "\
-BAD SCHEDULE LINE 12\n",
+        text: "BAD SCHEDULE LINE 12\n",
     },
     Case {
         name: "a third plant of two places",
-        code: "",
+        code: "000000 07FE BCR, 000002 07FE BCR",
         job: "\
-COVERJOB 1\n\
-MODULE M 100000 4\n\
-TEXT 07FE07FE\n\
-LISTING 3\n\
-\x20 Loc  Object Code    Addr1 Addr2  Stmt   Source Statement\n\
-000000 07FE                           1          BCR\n\
-000002 07FE                           2          BCR\n\
-PHASE P\n\
 SESSION S BY C M\n\
 TASK C 000000 4 100 0\n\
 DATA 0 0A0407FE\n\
@@ -396,21 +282,12 @@ PLANT C\n\
 PLANT C\n\
 ENDSCHED\n",
         status: 9,
-        tallies: None,
-        text: "\
-BAD SCHEDULE LINE 15\n",
+        text: "BAD SCHEDULE LINE 15\n",
     },
     Case {
         name: "a plant at a spent budget",
-        code: "",
+        code: "000000 07FE BCR",
         job: "\
-COVERJOB 1\n\
-MODULE M 100000 2\n\
-TEXT 07FE\n\
-LISTING 2\n\
-\x20 Loc  Object Code    Addr1 Addr2  Stmt   Source Statement\n\
-000000 07FE                           1          BCR\n\
-PHASE P\n\
 SESSION S BY C M\n\
 TASK C 000000 4 1 0\n\
 DATA 0 0A050A04\n\
@@ -419,24 +296,11 @@ DO C\n\
 PLANT C\n\
 ENDSCHED\n",
         status: 9,
-        tallies: None,
-        text: "\
-BAD SCHEDULE LINE 13\n",
+        text: "BAD SCHEDULE LINE 13\n",
     },
 ];
 
 #[test]
 fn plays_each_schedule_of_controllers(rt: HostRuntime) -> Result<(), Fail> {
-    for case in &SCHEDULES {
-        let name = case.name;
-        let text = text_of(rt.alloc(), case)?;
-        let job = job_of(rt.alloc(), case)?;
-        let came = serve(&rt, rt.alloc(), &["replay"], &job)?;
-        assert_eq!(rt; came.text.as_slice(), text.as_slice(), "{name}");
-        assert_eq!(rt; came.status, Status(case.status), "{name}");
-        assert_eq!(rt; came.text_alone.as_slice(), text.as_slice(), "{name}");
-        assert_eq!(rt; came.alone, Status(case.status), "{name}");
-        assert_eq!(rt; came.made, 0, "{name}");
-    }
-    Ok(())
+    check_schedules(&rt, rt.alloc(), &SCHEDULES)
 }

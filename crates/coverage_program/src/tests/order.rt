@@ -4,30 +4,20 @@
 ghost use Rattle.std.specs.Prelude.{◌≡◌};
 
 use super::called::THROUGH;
+use super::notation::Part::{Code, Phase, Text};
+use super::notation::{ALONE, COUNT, LOAD, Part, bytes_of};
 use super::noted::{Arrivals, Call, NotedAreas};
-use crate::cover::cover;
+use super::places::serve_over;
+use super::samples::FROM_3;
 use crate::status::Status;
 use cov_base::Fact;
-use cov_outside::{MemSink, MemSource};
 use shared_area::SharedAreas;
 use std::alloc::Global;
 use std::sync::Wait;
 use std::test::Fail;
 use std::thread::Threads;
 
-pub const COUNT_DOWN: &[u8] = b"\
-COVERJOB 1\n\
-MODULE M 100000 6\n\
-TEXT 4610F00007FE\n\
-LISTING 3\n\
-\x20 Loc  Object Code    Addr1 Addr2  Stmt   Source Statement\n\
-000000 4610 F000                      1          BCT\n\
-000004 07FE                           2          BR\n\
-PHASE P\n\
-SESSION S M\n\
-TASK A 100000 16 100 0\n\
-REG 1 00000003\n\
-ENDJOB\n";
+pub const COUNT_DOWN: [Part; 2] = [Code(COUNT), FROM_3];
 
 const COUNT_DOWN_CALLS: [Call; 13] = [
     Call::Plant(0),
@@ -45,19 +35,10 @@ const COUNT_DOWN_CALLS: [Call; 13] = [
     Call::Lift(1),
 ];
 
-pub const EXECUTED: &[u8] = b"\
-COVERJOB 1\n\
-MODULE M 100000 10\n\
-TEXT 4400F0044400F00007FE\n\
-LISTING 4\n\
-\x20 Loc  Object Code    Addr1 Addr2  Stmt   Source Statement\n\
-000000 4400 F004                      1          EX\n\
-000004 4400 F000                      2          EX\n\
-000008 07FE                           3          BR\n\
-PHASE P\n\
-SESSION S M\n\
-TASK A 100000 16 100 0\n\
-ENDJOB\n";
+pub const EXECUTED: [Part; 2] = [
+    Code("000000 4400 F004 EX, 000004 4400 F000 EX, 000008 07FE BR"),
+    Text(ALONE),
+];
 
 const EXECUTED_CALLS: [Call; 8] = [
     Call::Plant(0),
@@ -72,7 +53,7 @@ const EXECUTED_CALLS: [Call; 8] = [
 
 /// Tasks of two phases: one in code that is listed, one in code that isn't, which makes no call, and one that is spent
 /// at its second instruction.
-const THREE: &[u8] = b"\
+const THREE: &str = "\
 COVERJOB 1\n\
 MODULE M 100000 4\n\
 TEXT 182207FE\n\
@@ -119,7 +100,7 @@ const THROUGH_CALLS: [Call; 16] = [
 ];
 
 /// SVC 4 and 5 in a module that a whole session observes, of a task that controls a session of another module.
-const OBSERVED: &[u8] = b"\
+const OBSERVED: &str = "\
 COVERJOB 1\n\
 MODULE M 100000 6\n\
 TEXT 0A040A0507FE\n\
@@ -162,16 +143,14 @@ const OBSERVED_CALLS: [Call; 15] = [
 fn run_noted<T: Threads + Wait + Sync>(
     rt: &T,
     alloc: Global,
-    job: &[u8],
+    job: &[Part],
     tasks: u32,
 ) -> Result<(Status, Vec<Call>, Vec<u64>), Fail> {
-    let words = [String::from_str(alloc, "run")?];
-    let mut source = MemSource::new(job.to_vec(alloc)?, 64, Vec::new(alloc));
-    let mut sink = MemSink::new(alloc, 4096, 4096, Vec::new(alloc)).map_err(|_| "memory")?;
+    let job = bytes_of(alloc, job)?;
     let shared = SharedAreas::new(alloc, 2).map_err(|_| "memory")?;
     let gate = Arrivals::new(alloc, tasks as usize)?;
     let mut areas = NotedAreas::new(shared, &gate);
-    let status = cover(rt, alloc, &words, &mut source, &mut sink, &mut areas, &gate);
+    let (status, _) = serve_over(rt, alloc, &["run"], &job, 64, &mut areas, &gate)?;
     let calls = areas.calls.as_slice().to_vec(alloc)?;
     let mut arrivals = Vec::new(alloc);
     for task in 0..tasks {
@@ -182,11 +161,11 @@ fn run_noted<T: Threads + Wait + Sync>(
 
 #[test]
 fn plants_first_and_marks_before_it_lifts(rt: HostRuntime) -> Result<(), Fail> {
-    let (status, calls, arrivals) = run_noted(&rt, rt.alloc(), COUNT_DOWN, 1)?;
+    let (status, calls, arrivals) = run_noted(&rt, rt.alloc(), &COUNT_DOWN, 1)?;
     assert_eq!(rt; status, Status(0));
     assert_eq!(rt; calls.as_slice(), COUNT_DOWN_CALLS.as_slice());
     assert_eq!(rt; arrivals.as_slice(), [1u64].as_slice());
-    let (status, calls, arrivals) = run_noted(&rt, rt.alloc(), EXECUTED, 1)?;
+    let (status, calls, arrivals) = run_noted(&rt, rt.alloc(), &EXECUTED, 1)?;
     assert_eq!(rt; status, Status(0));
     assert_eq!(rt; calls.as_slice(), EXECUTED_CALLS.as_slice());
     assert_eq!(rt; arrivals.as_slice(), [1u64].as_slice());
@@ -195,11 +174,11 @@ fn plants_first_and_marks_before_it_lifts(rt: HostRuntime) -> Result<(), Fail> {
 
 #[test]
 fn plants_and_closes_where_its_calls_stand(rt: HostRuntime) -> Result<(), Fail> {
-    let (status, calls, arrivals) = run_noted(&rt, rt.alloc(), THROUGH.as_bytes(), 1)?;
+    let (status, calls, arrivals) = run_noted(&rt, rt.alloc(), &[Phase(LOAD), Text(THROUGH)], 1)?;
     assert_eq!(rt; status, Status(0));
     assert_eq!(rt; calls.as_slice(), THROUGH_CALLS.as_slice());
     assert_eq!(rt; arrivals.as_slice(), [1u64].as_slice());
-    let (status, calls, arrivals) = run_noted(&rt, rt.alloc(), OBSERVED, 1)?;
+    let (status, calls, arrivals) = run_noted(&rt, rt.alloc(), &[Text(OBSERVED)], 1)?;
     assert_eq!(rt; status, Status(0));
     assert_eq!(rt; calls.as_slice(), OBSERVED_CALLS.as_slice());
     assert_eq!(rt; arrivals.as_slice(), [1u64].as_slice());
@@ -208,7 +187,7 @@ fn plants_and_closes_where_its_calls_stand(rt: HostRuntime) -> Result<(), Fail> 
 
 #[test]
 fn each_task_arrives_once_before_its_first_call(rt: HostRuntime) -> Result<(), Fail> {
-    let (status, calls, arrivals) = run_noted(&rt, rt.alloc(), THREE, 3)?;
+    let (status, calls, arrivals) = run_noted(&rt, rt.alloc(), &[Text(THREE)], 3)?;
     assert_eq!(rt; status, Status(0));
     assert_eq!(rt; calls.as_slice(), THREE_CALLS.as_slice());
     assert_eq!(rt; arrivals.as_slice(), [1u64, 1, 1].as_slice());

@@ -1,9 +1,10 @@
 //! The command `table`: its text, its refusals, and the words that are none of the commands.
 
-use super::notation::{Case, job_of, text_of};
+use super::cases::OTHER_BYTES;
+use super::notation::{ALONE, COUNT, Case, job_of, text_of};
 use crate::cover::{cover, cover_one};
 use crate::status::Status;
-use cov_outside::{MemSink, MemSource, OpenGate};
+use cov_outside::{Gate, MemSink, MemSource, OpenGate};
 use module_area::Areas;
 use shared_area::SharedAreas;
 use std::alloc::Global;
@@ -13,13 +14,9 @@ use std::thread::Threads;
 
 const LOOP: Case = Case {
     name: "a loop",
-    code: "000000 4610 F000 BCT, 000004 07FE BR",
-    job: "\
-TASK A 100000 16 100 0\n\
-REG 1 00000003\n\
-ENDJOB\n",
+    code: COUNT,
+    job: "TASK A 100000 16 100 0\nREG 1 00000003\nENDJOB\n",
     status: 0,
-    tallies: None,
     text: "\
 COVERAGE TABLE\n\
 MODULE M PLACES 2\n\
@@ -37,32 +34,16 @@ const CASES: [Case; 4] = [
     Case {
         name: "a heading alone",
         code: "07FE: ",
-        job: "\
-TASK A 100000 16 100 0\n\
-ENDJOB\n",
+        job: ALONE,
         status: 0,
-        tallies: None,
-        text: "\
-COVERAGE TABLE\n\
-MODULE M PLACES 0\n\
-END\n",
+        text: "COVERAGE TABLE\nMODULE M PLACES 0\nEND\n",
     },
-    Case {
-        name: "other bytes than the module's",
-        code: "411000051A1107FE: 000000 4110 0006 LA, 000004 1A11 AR, 000006 07FE BR",
-        job: "\
-TASK A 100000 16 100 0\n\
-ENDJOB\n",
-        status: 3,
-        tallies: None,
-        text: "MISMATCH M LINE 2 LOC 000000 LISTING 41100006 MODULE 41100005\n",
-    },
+    OTHER_BYTES,
     Case {
         name: "no card",
         code: "",
         job: "",
         status: 2,
-        tallies: None,
         text: "BAD JOB LINE 1\n",
     },
 ];
@@ -86,6 +67,26 @@ pub fn words_of(alloc: Global, words: &[&str]) -> Result<Vec<String>, Fail> {
     Ok(all)
 }
 
+/// Serves the words over these areas and this gate, where a read gives so many bytes: the status and the text.
+pub fn serve_over<T: Threads + Wait + Sync, A: Areas, G: Gate + Sync>(
+    rt: &T,
+    alloc: Global,
+    words: &[&str],
+    input: &[u8],
+    piece: usize,
+    areas: &mut A,
+    gate: &G,
+) -> Result<(Status, Vec<u8>), Fail>
+    requires room { A.made areas.old < 2 ^ 61 }
+    requires piece { 0 < piece }
+{
+    let all = words_of(alloc, words)?;
+    let mut source = MemSource::new(input.to_vec(alloc)?, piece, Vec::new(alloc));
+    let mut sink = MemSink::new(alloc, 4096, 4096, Vec::new(alloc)).map_err(|_| "memory")?;
+    let status = cover(rt, alloc, &all, &mut source, &mut sink, areas, gate);
+    Ok((status, sink.bytes().to_vec(alloc)?))
+}
+
 /// Serves the words over areas that threads share, and once more without areas.
 pub fn serve<T: Threads + Wait + Sync>(
     rt: &T,
@@ -93,25 +94,15 @@ pub fn serve<T: Threads + Wait + Sync>(
     words: &[&str],
     job: &[u8],
 ) -> Result<Came, Fail> {
-    let all = words_of(alloc, words)?;
     let mut areas = SharedAreas::new(alloc, 1).map_err(|_| "memory")?;
-    let mut source = MemSource::new(job.to_vec(alloc)?, 64, Vec::new(alloc));
-    let mut sink = MemSink::new(alloc, 4096, 4096, Vec::new(alloc)).map_err(|_| "memory")?;
-    let status = cover(
-        rt,
-        alloc,
-        &all,
-        &mut source,
-        &mut sink,
-        &mut areas,
-        &OpenGate,
-    );
+    let (status, text) = serve_over(rt, alloc, words, job, 64, &mut areas, &OpenGate)?;
+    let all = words_of(alloc, words)?;
     let mut again = MemSource::new(job.to_vec(alloc)?, 64, Vec::new(alloc));
     let mut other = MemSink::new(alloc, 4096, 4096, Vec::new(alloc)).map_err(|_| "memory")?;
     let alone = cover_one(alloc, &all, &mut again, &mut other);
     Ok(Came {
         status,
-        text: sink.bytes().to_vec(alloc)?,
+        text,
         alone,
         text_alone: other.bytes().to_vec(alloc)?,
         made: areas.made(),

@@ -1,13 +1,13 @@
-//! Jobs and marks files that rows are made of, and what `show` writes of them.
+//! Tasks, jobs of several modules, and marks files that the tests of marks and of evidence share.
 
-use super::notation::Part;
-use super::notation::Part::{Bytes, Marked, Text};
+use super::notation::Part::{Bytes, Code, Marked, Text};
+use super::notation::{COUNT, END, Part};
 
-/// A count down from register 1, and a return.
-pub const COUNT: &str = "000000 4610 F000 BCT, 000004 07FE BR";
-
-/// The same, of a listing that has another address in its first instruction.
+/// A count down, of a listing that has another address in its first instruction.
 pub const MISMATCH: &str = "4610F00007FE: 000000 4610 F004 BCT, 000004 07FE BR";
+
+/// A count down from 3.
+pub const FROM_3: Part = Text("TASK A 100000 16 100 0\nREG 1 00000003\nENDJOB\n");
 
 /// A count that ends at once.
 pub const ENDS: Part = Text("TASK A 100000 16 100 0\nREG 1 00000001\nENDJOB\n");
@@ -68,11 +68,6 @@ SESSION T M\n\
 TASK B 100000 16 1 0\n\
 REG 1 00000002\n\
 ENDJOB\n",
-);
-
-/// A job with two sessions that its task C controls.
-pub const CONTROLLED: Part = Text(
-    "COVERJOB 1\nMODULE M 100000 8\nTEXT 411000051A1107FE\nLISTING 4\n  Loc  Object Code    Addr1 Addr2  Stmt   Source Statement\n000000 4110 0005                      1          LA\n000004 1A11                           2          AR\n000006 07FE                           3          BR\nPHASE P\nSESSION S1 BY C M\nSESSION S2 BY C M\nTASK A 100000 16 100 0\nTASK C 000000 16 100 0\nDATA 0 0A040A050A040A0507FE\nENDJOB\n",
 );
 
 /// Files of module M. The count fell through, and the return was executed.
@@ -198,19 +193,13 @@ pub const UNNAMED_FELL_TWICE: Part = Bytes(
     "53333730434F5632 2020202020202020 00000002 0001 4D20202020202020 00100000 00000006 00000002 00000000 04 01 4610 04 00000004 02 00 07FE 01",
 );
 
-/// The magic of a version that there isn't.
 pub const LATER_VERSION: Part = Bytes("53333730434F5633");
 
-/// What `show` writes before the session's listings.
+/// What `show` writes before and behind the session's listings.
 pub const SHOW: Part = Text("COVERAGE SHOW\nSESSION S PHASE P\n");
 
-/// What `show` writes last.
-pub const END: Part = Text("END\n");
-
-/// What it writes of the count that fell through.
 pub const SHOWN_FELL: [Part; 3] = [SHOW, Marked(COUNT, "V: EXECUTED 2 FACTS 2 OF 3"), END];
 
-/// Of the count that branched.
 pub const SHOWN_WENT: [Part; 4] = [
     SHOW,
     Marked(COUNT, ">^ EXECUTED 1 FACTS 1 OF 3"),
@@ -218,15 +207,12 @@ pub const SHOWN_WENT: [Part; 4] = [
     END,
 ];
 
-/// Of the count that did both.
 pub const SHOWN_BOTH: [Part; 3] = [SHOW, Marked(COUNT, "&: EXECUTED 2 FACTS 3 OF 3"), END];
 
-/// That the count is in another register.
 pub const OTHER_COUNT: Part = Text(
     "OTHER TABLE ROW 1 LEFT 0000000004014610 RIGHT 0000000004014620\n",
 );
 
-/// The same of the third module.
 pub const OTHER_THIRD: Part = Text(
     "OTHER TABLE ROW 5 LEFT 0000000004014610 RIGHT 0000000004014620\n",
 );
