@@ -65,21 +65,34 @@ fn compare_trial(alloc: Global, number: u32, seen: &mut [bool; 3]) -> Result<boo
     compare(alloc, &job, &tables, seen)
 }
 
-/// Sees to it for the job of each case.
-fn compare_cases<T: Abort>(
-    rt: &T,
-    alloc: Global,
-    cases: &[Case],
-    seen: &mut [bool; 3],
-) -> Result<(), Fail> {
-    for case in cases {
+/// Sees to it for the job of each case, where it is one.
+fn compare_cases<T: Abort>(rt: &T, alloc: Global, seen: &mut [bool; 3]) -> Result<(), Fail> {
+    for case in &CASES {
         let name = case.name;
         assert!(rt; compare_case(alloc, case, seen)?, "{name}");
     }
     Ok(())
 }
 
-/// Sees to it for some generated jobs.
+/// So for the whole jobs.
+fn compare_jobs<T: Abort>(rt: &T, alloc: Global, seen: &mut [bool; 3]) -> Result<(), Fail> {
+    for case in &JOBS {
+        let name = case.name;
+        assert!(rt; compare_case(alloc, case, seen)?, "{name}");
+    }
+    Ok(())
+}
+
+/// So for the programs.
+fn compare_programs<T: Abort>(rt: &T, alloc: Global, seen: &mut [bool; 3]) -> Result<(), Fail> {
+    for case in &PROGRAMS {
+        let name = case.name;
+        assert!(rt; compare_case(alloc, case, seen)?, "{name}");
+    }
+    Ok(())
+}
+
+/// So for some generated jobs.
 fn compare_trials<T: Abort>(rt: &T, alloc: Global, seen: &mut [bool; 3]) -> Result<(), Fail> {
     for number in 0..3 {
         assert!(rt; compare_trial(alloc, number, seen)?, "{number}");
@@ -91,9 +104,9 @@ fn compare_trials<T: Abort>(rt: &T, alloc: Global, seen: &mut [bool; 3]) -> Resu
 fn each_place_keeps_what_is_fetched(rt: HostRuntime) -> Result<(), Fail> {
     let alloc = rt.alloc();
     let mut seen = [false; 3];
-    compare_cases(&rt, alloc, &CASES, &mut seen)?;
-    compare_cases(&rt, alloc, &JOBS, &mut seen)?;
-    compare_cases(&rt, alloc, &PROGRAMS, &mut seen)?;
+    compare_cases(&rt, alloc, &mut seen)?;
+    compare_jobs(&rt, alloc, &mut seen)?;
+    compare_programs(&rt, alloc, &mut seen)?;
     compare_trials(&rt, alloc, &mut seen)?;
     assert_eq!(rt; seen, [true; 3]);
     Ok(())
