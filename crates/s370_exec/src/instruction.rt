@@ -372,6 +372,15 @@ fn carry_out_subject<P: Space>(
     }
 }
 
+/// A call of its own, so that where a task goes on one test tells it.
+#[cold]
+#[inline(never)]
+fn ended(end: Ending) -> Next
+    ensures { result ≡ Next.Ended end }
+{
+    Next::Ended(end)
+}
+
 /// Executes an instruction that is no EX and whose length is that of its first halfword, under the order of tests
 /// from the operation on; `ex` is the address of the EX that executes it.
 #[inline(always)]
@@ -394,6 +403,6 @@ pub fn execute<P: Space>(
     };
     match told {
         Told::GoesOn => Next::On,
-        Told::HasEnded => Next::Ended(end),
+        Told::HasEnded => ended(end),
     }
 }
