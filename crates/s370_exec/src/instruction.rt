@@ -11,16 +11,20 @@ ghost use Rattle.s370_exec.specs.Fetch.{is_execute};
 ghost use Rattle.s370_exec.specs.Effects.{effect, effect_of, next_of, is_completed, onward_by, updated, link_code};
 
 use crate::calls::task_call;
+use crate::stored::{
+    add_half_apart, add_logical_word_apart, add_word_apart, compare_half_apart, compare_word_apart,
+    load_half_apart, load_word_apart, store_half_apart, store_word_apart, subtract_half_apart,
+    subtract_logical_word_apart, subtract_word_apart,
+};
 use cov_base::Addr;
 use s370_branch::branch;
 use s370_decimal::decimal;
 use s370_decode::{Code, Group, Op, group_of, op_of};
 use s370_edit::edit;
 use s370_fixed::{
-    add_half, add_logical_register, add_logical_word, add_register, add_word, compare_half,
-    compare_register, compare_word, fixed, load_address, load_and_test, load_complement, load_half,
-    load_negative, load_positive, load_register, load_word, store_half, store_word, subtract_half,
-    subtract_logical_register, subtract_logical_word, subtract_register, subtract_word,
+    add_logical_register, add_register, compare_register, fixed, load_address, load_and_test,
+    load_complement, load_negative, load_positive, load_register, subtract_logical_register,
+    subtract_register,
 };
 use s370_logic::logic;
 use s370_state::{Cpu, Ending, Next, Space, TaskIo};
@@ -44,7 +48,7 @@ fn is_completed(e: &Ending) -> bool
 }
 
 /// Goes on at the updated address, unless the task has ended: then `end` tells how.
-fn onward(cpu: &mut Cpu, to: Addr, next: Next, end: &mut Ending) -> Told
+pub(crate) fn onward(cpu: &mut Cpu, to: Addr, next: Next, end: &mut Ending) -> Told
     ensures { (bytes : List ℕ) (io : IoView) → effect_of cpu.new bytes io (next_of result end.new) ≡ onward_by to io (machine_of cpu.old bytes) next }
 {
     match next {
@@ -110,7 +114,87 @@ fn branch_here(cpu: &mut Cpu, code: &Code, op: Op, next: Addr, link: u8) -> Told
     Told::GoesOn
 }
 
-/// Carries out any operation that is no branch.
+/// The group's operations, in a frame of their own.
+#[inline(never)]
+#[tactic(auto, unfolding(crate::specs::Effects::effect))]
+fn fixed_apart<P: Space>(
+    cpu: &mut Cpu,
+    space: &mut P,
+    code: &Code,
+    op: Op,
+    next: Addr,
+    end: &mut Ending,
+) -> Told
+    requires group { group_of op ≡ Group.Fixed }
+    ensures memory { P.memory space.new ≡ P.memory space.old }
+    ensures effect { (io : IoView) (link : ℕ) → effect_of cpu.new (P.bytes space.new) io (next_of result end.new) ≡
+        effect (P.memory space.old) (machine_of cpu.old (P.bytes space.old)) io code.now op next link }
+{
+    let n = fixed(cpu, space, code, op);
+    onward(cpu, next, n, end)
+}
+
+/// The group's operations, in a frame of their own.
+#[inline(never)]
+#[tactic(auto, unfolding(crate::specs::Effects::effect))]
+fn logic_apart<P: Space>(
+    cpu: &mut Cpu,
+    space: &mut P,
+    code: &Code,
+    op: Op,
+    next: Addr,
+    end: &mut Ending,
+) -> Told
+    requires group { group_of op ≡ Group.Logic }
+    ensures memory { P.memory space.new ≡ P.memory space.old }
+    ensures effect { (io : IoView) (link : ℕ) → effect_of cpu.new (P.bytes space.new) io (next_of result end.new) ≡
+        effect (P.memory space.old) (machine_of cpu.old (P.bytes space.old)) io code.now op next link }
+{
+    let n = logic(cpu, space, code, op);
+    onward(cpu, next, n, end)
+}
+
+/// The group's operations, in a frame of their own.
+#[inline(never)]
+#[tactic(auto, unfolding(crate::specs::Effects::effect))]
+fn storage_apart<P: Space>(
+    cpu: &mut Cpu,
+    space: &mut P,
+    code: &Code,
+    op: Op,
+    next: Addr,
+    end: &mut Ending,
+) -> Told
+    requires group { group_of op ≡ Group.Storage }
+    ensures memory { P.memory space.new ≡ P.memory space.old }
+    ensures effect { (io : IoView) (link : ℕ) → effect_of cpu.new (P.bytes space.new) io (next_of result end.new) ≡
+        effect (P.memory space.old) (machine_of cpu.old (P.bytes space.old)) io code.now op next link }
+{
+    let n = storage(cpu, space, code, op);
+    onward(cpu, next, n, end)
+}
+
+/// The group's operations, in a frame of their own.
+#[inline(never)]
+#[tactic(auto, unfolding(crate::specs::Effects::effect))]
+fn decimal_apart<P: Space>(
+    cpu: &mut Cpu,
+    space: &mut P,
+    code: &Code,
+    op: Op,
+    next: Addr,
+    end: &mut Ending,
+) -> Told
+    requires group { group_of op ≡ Group.Decimal }
+    ensures memory { P.memory space.new ≡ P.memory space.old }
+    ensures effect { (io : IoView) (link : ℕ) → effect_of cpu.new (P.bytes space.new) io (next_of result end.new) ≡
+        effect (P.memory space.old) (machine_of cpu.old (P.bytes space.old)) io code.now op next link }
+{
+    let n = decimal(cpu, space, code, op);
+    onward(cpu, next, n, end)
+}
+
+/// Carries out any operation that is no branch, also one that has a call of its own.
 #[inline(never)]
 #[tactic(auto, unfolding(crate::specs::Effects::effect))]
 fn carry_out_any<P: Space>(
@@ -128,22 +212,10 @@ fn carry_out_any<P: Space>(
 {
     let op = op_of(code.first_half());
     match group_of(op) {
-        Group::Fixed => {
-            let n = fixed(cpu, space, code, op);
-            onward(cpu, next, n, end)
-        }
-        Group::Logic => {
-            let n = logic(cpu, space, code, op);
-            onward(cpu, next, n, end)
-        }
-        Group::Storage => {
-            let n = storage(cpu, space, code, op);
-            onward(cpu, next, n, end)
-        }
-        Group::Decimal => {
-            let n = decimal(cpu, space, code, op);
-            onward(cpu, next, n, end)
-        }
+        Group::Fixed => fixed_apart(cpu, space, code, op, next, end),
+        Group::Logic => logic_apart(cpu, space, code, op, next, end),
+        Group::Storage => storage_apart(cpu, space, code, op, next, end),
+        Group::Decimal => decimal_apart(cpu, space, code, op, next, end),
         Group::Edit => {
             let n = edit(cpu, space, code, op);
             onward(cpu, next, n, end)
@@ -155,139 +227,9 @@ fn carry_out_any<P: Space>(
     }
 }
 
-/// The same: other operations that load, store or compute with a word or halfword in storage have their steps here.
+/// Carries out an instruction that no EX executes. Where the task has ended `end` tells how. One match finds the operation:
+/// those on registers alone and the branches have their steps here, every other is one call with a frame of its own.
 #[inline(never)]
-#[tactic(auto, unfolding(crate::specs::Effects::effect))]
-fn carry_out_stored<P: Space>(
-    cpu: &mut Cpu,
-    space: &mut P,
-    io: &mut TaskIo,
-    code: &Code,
-    next: Addr,
-    end: &mut Ending,
-) -> Told
-    requires group { group_of (op_of (first_half code.now)) ≢ Group.Branch }
-    ensures memory { P.memory space.new ≡ P.memory space.old }
-    ensures effect { (link : ℕ) → effect_of cpu.new (P.bytes space.new) io.new (next_of result end.new) ≡
-        effect (P.memory space.old) (machine_of cpu.old (P.bytes space.old)) io.old code.now (op_of (first_half code.now)) next link }
-{
-    match op_of(code.first_half()) {
-        Op::LH => {
-            let n = load_half(cpu, space, code);
-            onward(cpu, next, n, end)
-        }
-        Op::STH => {
-            let n = store_half(cpu, space, code);
-            onward(cpu, next, n, end)
-        }
-        Op::A => {
-            let n = add_word(cpu, space, code);
-            onward(cpu, next, n, end)
-        }
-        Op::AH => {
-            let n = add_half(cpu, space, code);
-            onward(cpu, next, n, end)
-        }
-        Op::S => {
-            let n = subtract_word(cpu, space, code);
-            onward(cpu, next, n, end)
-        }
-        Op::SH => {
-            let n = subtract_half(cpu, space, code);
-            onward(cpu, next, n, end)
-        }
-        Op::AL => {
-            let n = add_logical_word(cpu, space, code);
-            onward(cpu, next, n, end)
-        }
-        Op::SL => {
-            let n = subtract_logical_word(cpu, space, code);
-            onward(cpu, next, n, end)
-        }
-        Op::C => {
-            let n = compare_word(cpu, space, code);
-            onward(cpu, next, n, end)
-        }
-        Op::CH => {
-            let n = compare_half(cpu, space, code);
-            onward(cpu, next, n, end)
-        }
-        _ => carry_out_any(cpu, space, io, code, next, end),
-    }
-}
-
-/// L, which is frequent and has a frame of its own.
-#[inline(never)]
-#[tactic(auto, unfolding(crate::specs::Effects::effect))]
-fn load_word_apart<P: Space>(
-    cpu: &mut Cpu,
-    space: &mut P,
-    code: &Code,
-    next: Addr,
-    end: &mut Ending,
-) -> Told
-    ensures memory { P.memory space.new ≡ P.memory space.old }
-    ensures effect { (io : IoView) (link : ℕ) → effect_of cpu.new (P.bytes space.new) io (next_of result end.new) ≡
-        effect (P.memory space.old) (machine_of cpu.old (P.bytes space.old)) io code.now Op.L next link }
-{
-    let n = load_word(cpu, space, code);
-    onward(cpu, next, n, end)
-}
-
-/// ST, likewise.
-#[inline(never)]
-#[tactic(auto, unfolding(crate::specs::Effects::effect))]
-fn store_word_apart<P: Space>(
-    cpu: &mut Cpu,
-    space: &mut P,
-    code: &Code,
-    next: Addr,
-    end: &mut Ending,
-) -> Told
-    ensures memory { P.memory space.new ≡ P.memory space.old }
-    ensures effect { (io : IoView) (link : ℕ) → effect_of cpu.new (P.bytes space.new) io (next_of result end.new) ≡
-        effect (P.memory space.old) (machine_of cpu.old (P.bytes space.old)) io code.now Op.ST next link }
-{
-    let n = store_word(cpu, space, code);
-    onward(cpu, next, n, end)
-}
-
-/// The same of an operation that has a branch or a word in storage, in the place where it is called.
-#[inline(always)]
-fn carry_out_other<P: Space>(
-    cpu: &mut Cpu,
-    space: &mut P,
-    io: &mut TaskIo,
-    code: &Code,
-    op: Op,
-    next: Addr,
-    end: &mut Ending,
-) -> Told
-    requires op { op_of (first_half code.now) ≡ op }
-    ensures memory { P.memory space.new ≡ P.memory space.old }
-    ensures effect { effect_of cpu.new (P.bytes space.new) io.new (next_of result end.new) ≡
-        effect (P.memory space.old) (machine_of cpu.old (P.bytes space.old)) io.old code.now op next (link_code code.now None) }
-{
-    match op {
-        Op::L => load_word_apart(cpu, space, code, next, end),
-        Op::ST => store_word_apart(cpu, space, code, next, end),
-        Op::BC => branch_here(cpu, code, Op::BC, next, link_code(code, &None)),
-        Op::BCR => branch_here(cpu, code, Op::BCR, next, link_code(code, &None)),
-        Op::BCT => branch_here(cpu, code, Op::BCT, next, link_code(code, &None)),
-        Op::BCTR => branch_here(cpu, code, Op::BCTR, next, link_code(code, &None)),
-        Op::BAL => branch_here(cpu, code, Op::BAL, next, link_code(code, &None)),
-        Op::BALR => branch_here(cpu, code, Op::BALR, next, link_code(code, &None)),
-        Op::BAS | Op::BASR | Op::BXH | Op::BXLE => {
-            branch_here(cpu, code, op, next, link_code(code, &None))
-        }
-        _ => carry_out_stored(cpu, space, io, code, next, end),
-    }
-}
-
-/// Carries out an instruction that no EX executes. Where the task has ended `end` tells how.
-/// The operations on registers alone and the branches have their steps here, of which none is a call.
-#[inline(never)]
-#[tactic(auto, unfolding(crate::specs::Effects::effect))]
 fn carry_out<P: Space>(
     cpu: &mut Cpu,
     space: &mut P,
@@ -346,7 +288,34 @@ fn carry_out<P: Space>(
             let n = compare_register(cpu, space, code);
             onward(cpu, next, n, end)
         }
-        _ => carry_out_other(cpu, space, io, code, op, next, end),
+        Op::L => load_word_apart(cpu, space, code, next, end),
+        Op::ST => store_word_apart(cpu, space, code, next, end),
+        Op::LH => load_half_apart(cpu, space, code, next, end),
+        Op::STH => store_half_apart(cpu, space, code, next, end),
+        Op::A => add_word_apart(cpu, space, code, next, end),
+        Op::AH => add_half_apart(cpu, space, code, next, end),
+        Op::S => subtract_word_apart(cpu, space, code, next, end),
+        Op::SH => subtract_half_apart(cpu, space, code, next, end),
+        Op::AL => add_logical_word_apart(cpu, space, code, next, end),
+        Op::SL => subtract_logical_word_apart(cpu, space, code, next, end),
+        Op::C => compare_word_apart(cpu, space, code, next, end),
+        Op::CH => compare_half_apart(cpu, space, code, next, end),
+        Op::BC => branch_here(cpu, code, Op::BC, next, link_code(code, &None)),
+        Op::BCR => branch_here(cpu, code, Op::BCR, next, link_code(code, &None)),
+        Op::BCT => branch_here(cpu, code, Op::BCT, next, link_code(code, &None)),
+        Op::BCTR => branch_here(cpu, code, Op::BCTR, next, link_code(code, &None)),
+        Op::BAL => branch_here(cpu, code, Op::BAL, next, link_code(code, &None)),
+        Op::BALR => branch_here(cpu, code, Op::BALR, next, link_code(code, &None)),
+        Op::BAS | Op::BASR | Op::BXH | Op::BXLE => {
+            branch_here(cpu, code, op, next, link_code(code, &None))
+        }
+        _ => match group_of(op) {
+            Group::Fixed => fixed_apart(cpu, space, code, op, next, end),
+            Group::Logic => logic_apart(cpu, space, code, op, next, end),
+            Group::Storage => storage_apart(cpu, space, code, op, next, end),
+            Group::Decimal => decimal_apart(cpu, space, code, op, next, end),
+            _ => carry_out_any(cpu, space, io, code, next, end),
+        },
     }
 }
 
@@ -368,8 +337,17 @@ fn carry_out_subject<P: Space>(
     let next = updated(code, &Some(ex));
     match group_of(op) {
         Group::Branch => branch_here(cpu, code, op, next, link_code(code, &Some(ex))),
-        _ => carry_out_stored(cpu, space, io, code, next, end),
+        _ => carry_out_any(cpu, space, io, code, next, end),
     }
+}
+
+/// A call of its own, so that where a task goes on one test tells it.
+#[cold]
+#[inline(never)]
+fn ended(end: Ending) -> Next
+    ensures { result ≡ Next.Ended end }
+{
+    Next::Ended(end)
 }
 
 /// Executes an instruction that is no EX and whose length is that of its first halfword, under the order of tests
@@ -394,6 +372,6 @@ pub fn execute<P: Space>(
     };
     match told {
         Told::GoesOn => Next::On,
-        Told::HasEnded => Next::Ended(end),
+        Told::HasEnded => ended(end),
     }
 }

@@ -6,6 +6,7 @@ mod calls;
 mod fetch;
 mod instruction;
 mod solo;
+mod stored;
 mod subject;
 
 pub use fetch::{fetch_first, fetch_rest};

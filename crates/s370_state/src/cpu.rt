@@ -124,7 +124,9 @@ impl Cpu {
         requires { r < 16 }
         ensures { result ≡ base self.now r }
     {
-        if r == 0 { 0 } else { self.reg(r) }
+        // The load comes before the choice, which then needs no branch.
+        let v = self.reg(r);
+        if r == 0 { 0 } else { v }
     }
 
     /// The effective address of base, index and displacement, modulo 2^24 (Principles of Operation,

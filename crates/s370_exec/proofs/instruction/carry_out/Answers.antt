@@ -1,0 +1,47 @@
+use Rattle.std.proofs.Common.{rules}
+use Rattle.s370_exec.specs.Effects.{effect}
+use Rattle.s370_exec.proofs.instruction.carry_out.Goals as goal
+
+pub returns-in-LR-clause-effect : goal.returns-in-LR-clause-effect
+unfolding effect
+returns-in-LR-clause-effect g c = search rules
+
+pub returns-in-LTR-clause-effect : goal.returns-in-LTR-clause-effect
+unfolding effect
+returns-in-LTR-clause-effect g c = search rules
+
+pub returns-in-LCR-clause-effect : goal.returns-in-LCR-clause-effect
+unfolding effect
+returns-in-LCR-clause-effect g c = search rules
+
+pub returns-in-LPR-clause-effect : goal.returns-in-LPR-clause-effect
+unfolding effect
+returns-in-LPR-clause-effect g c = search rules
+
+pub returns-in-LNR-clause-effect : goal.returns-in-LNR-clause-effect
+unfolding effect
+returns-in-LNR-clause-effect g c = search rules
+
+pub returns-in-LA-clause-effect : goal.returns-in-LA-clause-effect
+unfolding effect
+returns-in-LA-clause-effect g c = search rules
+
+pub returns-in-AR-clause-effect : goal.returns-in-AR-clause-effect
+unfolding effect
+returns-in-AR-clause-effect g c = search rules
+
+pub returns-in-SR-clause-effect : goal.returns-in-SR-clause-effect
+unfolding effect
+returns-in-SR-clause-effect g c = search rules
+
+pub returns-in-ALR-clause-effect : goal.returns-in-ALR-clause-effect
+unfolding effect
+returns-in-ALR-clause-effect g c = search rules
+
+pub returns-in-SLR-clause-effect : goal.returns-in-SLR-clause-effect
+unfolding effect
+returns-in-SLR-clause-effect g c = search rules
+
+pub returns-in-CR-clause-effect : goal.returns-in-CR-clause-effect
+unfolding effect
+returns-in-CR-clause-effect g c = search rules
