@@ -1,12 +1,13 @@
 //! Drains on one thread: a controller's pass asks after another task's pass, and a runner runs two tasks one after the other.
-ghost use Rattle.std.specs.Prelude.{◌≡◌, ◌<◌, ◌^◌, true, length, All, IfOk, IfSome};
-ghost use Rattle.brk_table.specs.Places.{IsIn};
+ghost use Rattle.std.specs.Prelude.{◌≡◌, ◌<◌, ◌^◌, true, length, IfOk, IfSome};
+ghost use Rattle.brk_table.specs.Kept.{AreCodes};
 ghost use Rattle.module_area.specs.Notes.{calls, is_working, own_number, root_notes, split_notes};
 ghost use Rattle.module_area.specs.PlanView.{has_task};
 ghost use Rattle.module_area.specs.Tied.{IsTied};
 ghost use Rattle.early_report.specs.DrainView.{DrainView};
 ghost use Rattle.early_report.specs.Drains.{IsDrainOf};
 ghost use Rattle.early_report.specs.declared.drains.Stage.TheVariants.{Begun as IsBegun};
+ghost use Rattle.session_book.specs.JobView.{IsJob};
 
 use super::called::TWO;
 use super::controls::two_sessions;
@@ -110,6 +111,7 @@ fn ask_in_area<A: Areas>(
 }
 
 /// Runs a task of the job by its pass, to its end.
+#[tactic(auto, using(brk_table::proofs::CodeLemmas::are_in))]
 fn run_one<C: Drains, R: Runner<C>>(
     alloc: Global,
     cells: &C,
@@ -127,7 +129,8 @@ fn run_one<C: Drains, R: Runner<C>>(
     requires begins { R.begins plan.now t extra.old (split_notes plan.now root_notes t) }
     requires places { plan.now.places ≡ tables.now.places }
     requires task { t < length job.now.tasks }
-    requires tables { All (IsIn job.now.images) tables.now.places }
+    requires job { IsJob job.now }
+    requires tables { AreCodes job.now.images tables.now }
 {
     let control = plan.control_of(alloc, TaskNo(t))?;
     let Begun { cpu, space, io } = begin(alloc, job, tables, t as usize)?;
@@ -160,7 +163,7 @@ fn run_both<A: Areas, R: Runner<A::C>>(
     tables: &Tables,
 ) -> Result<Option<(R::Extra, R::Extra)>, NoMemory>
     requires room { A.made areas.old < 2 ^ 62 }
-    requires tables { All (IsIn job.now.images) tables.now.places }
+    requires tables { AreCodes job.now.images tables.now }
 {
     if job.phase_count() == 0 || job.task_count() < 2 {
         return Ok(None);

@@ -1,4 +1,5 @@
 //! The command `table`: its text, its refusals, and the words that are none of the commands.
+ghost use Rattle.std.specs.Prelude.{◌<◌, ◌^◌};
 
 use super::cases::OTHER_BYTES;
 use super::notation::{ALONE, COUNT, Case, job_of, text_of};
