@@ -14,9 +14,9 @@ use module_area::Image;
 use std::alloc::Global;
 
 /// The table of the lines that `read_listing` gave, at most 16,777,216, over their module, whose base is even and
-/// whose bytes lie below 2^24, with room for so many places: a place for each instruction line, in order of address. Each fault comes
-/// exactly at the first line that has one; at one line the first of: an odd location; an instruction past the
-/// module; bytes shared with an earlier line; no room; the breakpoint as first halfword; bytes other than the
+/// whose bytes lie below 2^24, with room for so many places: a place for each instruction line, in order of address.
+/// Each fault comes exactly at the first line that has one; at one line the first of: an odd location; an instruction
+/// past the module; bytes shared with an earlier line; no room; the breakpoint as first halfword; bytes other than the
 /// module's, of which the whole instruction is compared. Time and memory are linear in lines and bytes.
 pub fn build(
     alloc: Global,

@@ -47,7 +47,7 @@ impl LinePlaces {
         if number == 0 { None } else { Some(number - 1) }
     }
 
-    /// Gives line i a place.
+    /// Gives line i, counted from 0, the place of this index, which is below 2^32 - 1.
     pub fn set(&mut self, i: usize, place: u32)
         requires line { i < length self.old }
         requires fits { place + 1 < 2 ^ 32 }

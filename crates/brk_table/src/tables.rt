@@ -166,7 +166,7 @@ impl Tables {
         &self.places[n.0 as usize]
     }
 
-    /// The whole instruction of a place, as it is kept.
+    /// The whole instruction of a place, as the tables keep it; those that `over` has made keep one for each place.
     pub fn code(&self, n: PlaceNo) -> &Code
         requires { n.0 < length self.now.codes }
         ensures value { (d : Instruction) → result.now ≡ get_or self.now.codes n.0 d }

@@ -8,7 +8,8 @@ use crate::pass::CountPass;
 use crate::rule::Fork;
 
 impl CountCells {
-    /// A pass for a task. The root has split off fewer than 65,535.
+    /// A pass for a task: it knows the places that the root has planted, and has added nothing. The root has split off
+    /// fewer than 65,535.
     pub fn split(&self, root: &mut CountPass) -> CountPass
         requires area { IsPassOf self.now root.old }
         requires root { (notes_of self.now root.old).root ≡ true }

@@ -151,8 +151,8 @@ fn count_phases<'a, T: Threads + Sync>(
 
 /// Runs the job with breakpoints that stay, phase after phase, the tasks of a phase at once: each task ends as it does
 /// alone, and the counts of each session at its modules' places are those of its executions. No session of the job has a
-/// controller. All tasks take their memory before the first phase runs, and a phase takes all but its area's end before it
-/// plants.
+/// controller; the tables are those of the job's listings, with the instructions of their modules. All tasks take their
+/// memory before the first phase runs, and a phase takes all but its area's end before it plants.
 pub fn count_job<'a, T: Threads + Wait + Sync>(
     rt: &T,
     alloc: Global,

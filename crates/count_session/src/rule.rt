@@ -28,6 +28,7 @@ pub struct CountView {
     pub passes: u64,
 }
 
+/// The rule that the words of a counting area and what its passes know keep.
 pub struct CountRule;
 
 impl TableRule<NoSlot, CountView, Snapshot<Plan>> for CountRule {

@@ -16,7 +16,8 @@ use task_run::Task;
 
 /// Runs the task until it ends: before each instruction it ends Returned at X'FFFFFE', else Spent where it has done as
 /// many instructions as its budget. Ending, state and count are those of its run alone over modules that were never
-/// planted, and the pass, which has added nothing before, counts each fact of that run's visits at planted places.
+/// planted, and the pass, which has added nothing before, counts each fact of that run's begun visits at planted places
+/// once for each visit.
 pub fn run_counted(
     cells: &CountCells,
     pass: &mut CountPass,

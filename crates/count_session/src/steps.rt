@@ -47,8 +47,8 @@ impl CountCells {
         cell(found)
     }
 
-    /// Counts a fact of the place's kind, by a pass that has just fetched the breakpoint there. A pass adds fewer than
-    /// 2^40 times before, and the root never does.
+    /// Counts a fact of the place's kind once, by a pass that has just fetched the breakpoint there. The pass has added
+    /// fewer than 2^40 times before, and the root never adds.
     pub fn add(&self, pass: &mut CountPass, place: PlaceNo, fact: Fact)
         requires area { IsPassOf self.now pass.old }
         requires task { (notes_of self.now pass.old).root ≡ false }

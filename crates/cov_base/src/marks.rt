@@ -23,7 +23,7 @@ pub enum Mark {
     Both,
 }
 
-/// The mark of an instruction of this kind whose executions showed these facts.
+/// The mark of an instruction of this kind whose executions showed these facts, all of them the kind's.
 pub fn mark_of(k: Kind, b: Bits) -> Mark
     requires { is_within k b ≡ true }
     ensures { result ≡ mark_of k b }

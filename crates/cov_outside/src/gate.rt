@@ -4,7 +4,7 @@ use cov_base::TaskNo;
 
 /// A gate that every task passes.
 pub trait Gate {
-    /// Called once by each task before its first test. It tells nothing.
+    /// Called once by each task, before its run and its first call on the area. It tells nothing.
     fn arrive(&self, task: TaskNo);
 }
 

@@ -41,8 +41,9 @@ impl From<AllocError> for ReadFault {
     }
 }
 
-/// Reads the next bytes of an input into the front of the buffer, and answers with how many; with 0 only at its end. TooLarge
-/// where more than `room` come; a fault that comes after the first byte past them is not met.
+/// Reads the next bytes of an input into the front of a buffer that isn't empty, and answers with how many; with 0 only
+/// at its end. TooLarge where more than `room` bytes come; a fault that comes after the first byte past them is not met.
+/// Failed where the source failed. NoMemory is never answered.
 pub fn read_piece<S: Source>(
     source: &mut S,
     buffer: &mut [u8],

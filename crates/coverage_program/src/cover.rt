@@ -286,15 +286,26 @@ fn answer<T: Threads + Wait + Sync, S: Source, K: Sink, A: Areas, G: Gate + Sync
     }
 }
 
-/// Serves the command that the words are: `run` reads a job from the source, runs its tasks on threads, each past the
-/// gate, and writes its report to the sink; `exits` does the same but lets each task go on at the exit that it has named;
-/// `early` does as `run`, and tells behind the part of each session with a controller whether and when the session's sets
-/// were final while its controller ran; `count` reads a job whose
-/// sessions have no controllers, runs its tasks on threads over cells of its own, past no gate, and writes how often each fact was met; `marks NAME` runs as `run` but writes the marks file of the session of the name;
-/// `trial NUMBER TASKS` reads nothing, runs the generated job of that number and so many tasks, 1 to 64, and writes its
-/// summary; all other words are answered as `cover_one` answers them. Each refusal has its status and its line; the answer is 6 where
-/// the sink fails. Where no fault of source or sink was counted, it is that of the words and bytes, or 7. The areas are as
-/// they were but for a run of a job whose listings match, other than that of `count`. It waits for the threads of the tasks;
+/// Serves the command that the words are:
+/// - `run` reads a job from the source, runs its tasks on threads, each past the gate, and writes its report to the sink;
+/// - `exits` does the same, but each task goes on at the exit that it has named at its next program interruption;
+/// - `early` does as `run`, and tells behind the part of each session with a controller at which count of the controller's
+///   instructions the session's sets were known as final, or that they weren't;
+/// - `count` reads a job whose sessions have no controllers, runs its tasks on threads over cells of its own, past no gate,
+///   and writes how often each fact was met;
+/// - `marks NAME` does as `run`, but writes the marks file of the session of the name;
+/// - `trial NUMBER TASKS` reads nothing, runs the generated job of that number and so many tasks, 1 to 64, and writes its
+///   summary;
+/// - all other words are answered as `cover_one` answers them.
+///
+/// Each refusal has its status and its line. Status 6 comes only where the sink's count of faults rose; the sink has then
+/// taken a first part of the text, or nothing. Where no fault of source or sink was counted, and the source tells its
+/// bytes, the status is that of the words and bytes, or 7; that of `trial` is 0 or 7, and that of words that are no
+/// command is 1. So `verify` has 0 where marks and evidence are true, but for want of memory; and else never.
+///
+/// Areas are made by `run`, `exits`, `early`, `marks` and `trial` alone. They are as they were for every status but 0, 6
+/// and 7; where the source's count of faults has changed; and, but for `trial`, where no job has come whose listings match
+/// and, of `marks`, which has the session. Fewer than 2^61 areas were made before. It waits for the threads of the tasks;
 /// for all words but `run`, `exits`, `early`, `count`, `marks` and `trial` it waits for nothing.
 pub fn cover<T: Threads + Wait + Sync, S: Source, K: Sink, A: Areas, G: Gate + Sync>(
     rt: &T,
@@ -315,14 +326,20 @@ pub fn cover<T: Threads + Wait + Sync, S: Source, K: Sink, A: Areas, G: Gate + S
     answer(rt, alloc, command_of(words), source, sink, areas, gate)
 }
 
-/// Serves the commands that need no threads: `table` reads a job from the source and writes the places of its modules to
-/// the sink; `replay` reads a job of one phase and a schedule, plays the schedule on the core, and writes what its
-/// items have shown and the report of what they come to; `combine` reads marks files in succession and writes the file of
-/// their union; `show NAME` reads a job and one marks file behind it, and writes the listings of the session of the name
-/// with the file's marks; `prove NAME` reads a job and writes the evidence of the session of the name, which has no
-/// controller; `verify NAME` reads a job, one marks file behind it and evidence behind that, and says whether both are
-/// true of that session, or of which fact they are not. Both run each task of the session's phase once, alone. For all
-/// other words, `run`, `exits`, `early`, `count`, `marks` and `trial` too, it is status 1. It always returns.
+/// Serves the commands that need no threads:
+/// - `table` reads a job from the source, and writes the places of its modules to the sink;
+/// - `replay` reads a job of one phase and a schedule, plays the schedule on the core, and writes what its items have shown
+///   and the report of what they come to;
+/// - `combine` reads marks files in succession, and writes the file of their union;
+/// - `show NAME` reads a job and one marks file behind it, and writes the listings of the session of the name with the
+///   file's marks;
+/// - `prove NAME` reads a job, and writes the evidence of the session of the name, which has no controller;
+/// - `verify NAME` reads a job, one marks file behind it and evidence behind that, and says how many facts these have where
+///   they are true of the session of the name, which has no controller, and else the first cause why they are not.
+///
+/// The last two run each task of the session's phase once, alone. All other words, `run`, `exits`, `early`, `count`,
+/// `marks` and `trial` too, are answered as words that are no command. What `cover` says of statuses is so here too. It
+/// always returns.
 pub fn cover_one<S: Source, K: Sink>(
     alloc: Global,
     words: &[String],

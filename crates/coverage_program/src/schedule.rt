@@ -35,7 +35,8 @@ pub struct Replayed<'a> {
 /// Why a schedule isn't played.
 #[derive(Clone, Copy, Debug, PartialEq, Eq)]
 pub enum ScheduleFault {
-    /// The first line of the input that is no item, or none that is possible there; 0 where the job hasn't one phase.
+    /// The first line of the input, counted from 1, that is no item, is not possible there or stands behind ENDSCHED; one
+    /// more than the number of lines where ENDSCHED is missing; 0 where the job hasn't one phase.
     Bad { line: u32 },
     NoMemory,
 }
@@ -258,7 +259,8 @@ fn play<'a>(
     Err(ScheduleFault::Bad { line: n })
 }
 
-/// Plays the schedule behind the first lines of an input, so many, which spell the job.
+/// Plays the schedule behind the first lines of an input, so many, which spell the job: all windows are planted first, and
+/// then each line is an item, up to ENDSCHED. Bad exactly where a line has that fault, or the job hasn't one phase.
 pub fn replay<'a>(
     alloc: Global,
     job: &'a Job,

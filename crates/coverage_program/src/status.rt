@@ -5,7 +5,7 @@ ghost use Rattle.coverage_program.specs.Changes.{sink_change};
 
 use cov_outside::{Failed, Sink, write_all};
 
-/// How the program ends: 0 for a report, else the number of the refusal.
+/// How the program ends: 0 where the command was served, else the number of the refusal, 1 to 16.
 #[derive(Clone, Copy, Debug, PartialEq, Eq)]
 pub struct Status(pub u8);
 

@@ -128,8 +128,8 @@ fn note_all<C: Drains>(cells: &C, pass: &mut C::Pass, entries: &mut [(TaskNo, u6
     }
 }
 
-/// Begins the drain of a session that the pass has closed: notes every other task of the phase. The drain is unused, and the
-/// pass has made a boundary since.
+/// Begins the drain of a session that the pass's own task controls and has closed at all its places: notes every other task
+/// of the phase. The drain is unused, and the pass has no breakpoint of the session in hand, as behind its next boundary.
 pub fn drain_begin<C: Drains>(cells: &C, pass: &mut C::Pass, plan: &Plan, drain: &mut Drain)
     requires area { C.is_pass cells.now pass.old }
     requires plan { C.plan cells.now ≡ plan.now }
@@ -188,7 +188,8 @@ fn first_standing<C: Drains>(
 
 /// Asks whether every other task has gone on since its number was noted, or had ended: looks at the words of those that aren't
 /// known so yet, up to the first that still has its noted number. Then it answers Pending, with that entry, from which the
-/// next poll goes on, and counts; else the drain is drained.
+/// next poll goes on, and counts; else the drain is drained. The drain is begun, and fewer than 4,294,967,295 polls have
+/// answered Pending.
 pub fn drain_poll<C: Drains>(cells: &C, pass: &mut C::Pass, drain: &mut Drain) -> Poll
     requires area { C.is_pass cells.now pass.old }
     requires begun { drain.old.stage ≡ Begun }

@@ -1,4 +1,4 @@
-//! Reports of sessions before the tasks of their phase have returned.
+//! Sets of sessions that are final before all tasks of their phase have returned, and the report that tells of it.
 #![tactic(auto)]
 
 mod drains;

@@ -303,9 +303,9 @@ fn make_drains(alloc: Global, plan: &Plan, task: TaskNo) -> Result<Vec<Drain>, N
     Ok(drains)
 }
 
-/// Runs a controller's task so that the sets of its sessions are taken while other tasks still run: behind an SVC 5 that closes a
-/// session its drain is begun, polled at once and behind each further instruction of the task, and where it is drained its sets
-/// are taken, at the task's count.
+/// Runs each task as it runs alone, and a controller's so that the sets of its sessions are taken while other tasks still
+/// run: behind an SVC 5 that closes a session its drain is begun, polled at once and behind each further instruction of the
+/// task, and where it is drained its sets are taken, at the task's count.
 #[derive(Drop)]
 pub struct EarlyRunner;
 

@@ -94,9 +94,11 @@ fn run_phases<'a, T: Threads + Sync, A: Areas, G: Gate + Sync, R: Runner<A::C> +
 
 /// Runs the job, phase after phase: the areas are left as the courses of the tasks give, and so is the outcome, whose
 /// sets are those of the areas that this call has finished, one for each phase; the set of a session that a task
-/// controls lies between its bounds. With it come the runner's extras, in task order. The tasks of a phase run at once,
-/// each on a thread of its own that has passed the gate. All tasks take their memory before the first phase runs, and a
-/// phase takes all but its area's end before it plants: its tasks' sessions and extras too.
+/// controls lies between its bounds. With it come the runner's extras, in task order. The tables are those of the job's
+/// listings, with the instructions of their modules, and fewer than 2^61 areas were made before. The tasks of a phase run
+/// at once, each on a thread of its own, where one can be started, once it has passed the gate. All tasks take their
+/// memory before the first phase runs, and a phase takes all but its area's end before it plants: its tasks' sessions and
+/// extras too. Where memory is wanting, areas may have been made and finished.
 pub fn run_job_with<'a, T: Threads + Wait + Sync, A: Areas, G: Gate + Sync, R: Runner<A::C> + Sync>(
     rt: &T,
     alloc: Global,

@@ -14,7 +14,8 @@ pub(crate) struct RegCard {
 
 /// What a card says. A module's size and a task's private storage and room are in bytes, its budget in
 /// instructions. The rules of one card alone hold: a module stands on a doubleword from X'100000' on, has an even
-/// size of at least 2 and ends by X'FFF000'; a budget is at least 1; TEXT, DATA and INPUT have 1 to 64 bytes; a register is one of 16. No limit is tested.
+/// size of at least 2 and ends by X'FFF000'; a budget is at least 1; TEXT, DATA and INPUT have 1 to 64 bytes; a register
+/// is one of 16. No limit is tested.
 #[derive(Drop)]
 pub(crate) enum Card {
     /// `COVERJOB 1`

@@ -79,8 +79,8 @@ fn task_item(job: &Job, key: &[u8], name: &[u8]) -> Option<Item>
     item_for(key, task)
 }
 
-/// The item that the line is; none exactly where it is no item, or names no task of the job. The line is given without
-/// its LF. Takes no memory.
+/// The item that the line is; none exactly where it is no item, or the name in it is that of no task of the job; ENDSCHED
+/// has no name. The line is given without its LF. Takes no memory.
 pub fn item_of(job: &Job, line: &[u8]) -> Option<Item>
     ensures { result ≡ spell.item_at job.now line.now }
 {

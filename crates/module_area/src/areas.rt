@@ -42,8 +42,9 @@ pub trait Areas {
         ensures plan { IfOk result (λ a. Self.C.plan a.0 ≡ plan.now) }
         ensures root { IfOk result (λ a. Self.C.notes a.1 ≡ root_notes) };
 
-    /// Ends the area: the sets that the root and the passes that were joined to it have marked; those that they knew as
-    /// final are as they knew them. Where memory is wanting the area is gone and both lists are as before.
+    /// Ends the area, once each pass that was split off is joined: the sets that the root and these passes have marked;
+    /// those that they knew as final are as they knew them. Where memory is wanting the area is gone and both lists are as
+    /// before.
     fn finish(
         &mut self,
         alloc: Global,

@@ -24,8 +24,8 @@ pub trait Cells {
     /// What the pass has done and knows.
     ghost notes: { Self.Pass → Notes };
 
-    /// The cell as it stands, for the pass of a task: the original, or the breakpoint under an odd tag. Where the pass
-    /// keeps the place, under its last tag there.
+    /// The cell as it stands, for the pass of a task that has not ended: the original, or the breakpoint under an odd
+    /// tag. Where the pass keeps the place, under its last tag there.
     fn fetch(&self, pass: &mut Self::Pass, place: PlaceNo) -> Cell
         requires area { is_pass self.now pass.old }
         requires working { is_working (notes pass.old) ≡ true }
@@ -35,8 +35,8 @@ pub trait Cells {
         ensures answer { IsAnswer (plan self.now) (notes pass.old) place.0 result }
         ensures notes { notes pass.new ≡ after_fetch (plan self.now) (notes pass.old) place.0 result };
 
-    /// Adds the fact to the session's set at the place, where the pass has just fetched the session's breakpoint,
-    /// and answers the set as it was.
+    /// Adds the fact, one of the place's kind, to the session's set at the place, where the pass has just fetched the
+    /// session's breakpoint, and answers the set as it was.
     fn mark(&self, pass: &mut Self::Pass, s: SessNo, place: PlaceNo, fact: Fact) -> Bits
         requires area { is_pass self.now pass.old }
         requires working { is_working (notes pass.old) ≡ true }
@@ -117,7 +117,8 @@ pub trait Forks: Cells {
 }
 
 /// Cells with a number for each task, by which a pass learns that no other task can still mark for a session that it has
-/// closed. The number is 0 before the task runs, rises by 2 at each boundary, and is odd once the task has ended.
+/// closed. The number is 0 before the task runs, rises by 2 at each boundary and by 1 at the last, and so is odd once the
+/// task has ended.
 pub trait Drains: Forks {
     /// The pass's task has ended an instruction, or its run: its number rises by 2, or by 1, and what the pass fetched
     /// last can no longer be marked. After its run's end the pass doesn't fetch.
@@ -136,8 +137,8 @@ pub trait Drains: Forks {
         ensures word { IsWord (Self.notes pass.old) task.0 result }
         ensures notes { Self.notes pass.new ≡ after_note (Self.notes pass.old) task.0 result };
 
-    /// The set of the session at the place as it stands. It is the session's final one where the pass knows the session
-    /// over there, and knows each other task of the plan past it.
+    /// The set of the session at the place as it stands. It is the session's final one where that is a controlled one, and
+    /// the pass knows it over there, has no breakpoint of it in hand there, and knows each other task of the plan past it.
     fn read_set(&self, pass: &mut Self::Pass, s: SessNo, place: PlaceNo) -> Bits
         requires area { Self.is_pass self.now pass.old }
         requires place { place.0 < length (Self.plan self.now).places }

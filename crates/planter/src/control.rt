@@ -48,7 +48,8 @@ fn to_open(control: &Control) -> Option<SessNo>
 }
 
 /// Opens the next session of the control where none is open and one is left: plants each of its places, in order of
-/// number. Else it does nothing. The pass is tied to the control, before and after.
+/// number. Else it does nothing. The pass is tied to the control, before and after; its tally sums to less than
+/// 2^61 + 2^16 before.
 pub fn open_next<C: Cells>(cells: &C, pass: &mut C::Pass, plan: &Plan, control: &mut Control)
     requires area { C.is_pass cells.now pass.old }
     requires plan { C.plan cells.now ≡ plan.now }
@@ -69,7 +70,7 @@ pub fn open_next<C: Cells>(cells: &C, pass: &mut C::Pass, plan: &Plan, control: 
 }
 
 /// Closes the open session of the control, if there is one: closes it at each of its places, in order of number. The
-/// pass is tied to the control, before and after.
+/// pass is tied to the control, before and after; its tally sums to less than 2^61 + 2^16 before.
 pub fn close_open<C: Cells>(cells: &C, pass: &mut C::Pass, plan: &Plan, control: &mut Control)
     requires area { C.is_pass cells.now pass.old }
     requires plan { C.plan cells.now ≡ plan.now }

@@ -1,4 +1,5 @@
-//! Planting: before a phase's first task runs, each place of a whole session gets its breakpoint.
+//! Planting: before a phase's first task runs, each place of a whole session gets its breakpoint; those of a session that
+//! a task opens get theirs by its pass, which closes them too.
 #![tactic(auto)]
 
 ghost use Rattle.std.specs.Prelude.{◌≡◌, ℕ, ◌+◌, ◌<◌, ◌≤◌, ◌^◌, length};

@@ -395,9 +395,9 @@ pub fn session_text<K: Sink, R: FactSets>(
     modules_text(sink, job, tables, results, s, &session.modules)
 }
 
-/// A session's part of the report: its names, and for each of its modules the counts, the listing with marks and the
-/// runs of places without facts. Needs the sets of this session alone. Failed only where the sink's count of faults
-/// rose; the sink has then taken a part. Takes no memory.
+/// A session's part of the report: its name and its phase's, and for each of its modules the counts, the listing with
+/// marks and the runs of places without facts. Needs the sets of this session alone. Failed only where the sink's count
+/// of faults rose; the sink has then taken a first part of it. Takes no memory.
 pub fn session_part<K: Sink, R: FactSets>(
     sink: &mut K,
     job: &Job,

@@ -149,8 +149,8 @@ pub fn task_text<K: Sink, R: Results>(
 }
 
 /// What has become of a task of the job: its ending, the instructions done, its condition code and registers, its
-/// output, and the rows of its private storage that have changed. Needs the result of this task alone. Failed only where the
-/// sink's count of faults rose; the sink has then taken a part. Takes no memory.
+/// output, and the rows of its private storage that have changed. Needs the result of this task alone. Failed only where
+/// the sink's count of faults rose; the sink has then taken a first part of it. Takes no memory.
 pub fn task_part<K: Sink, R: Results>(
     sink: &mut K,
     job: &Job,

@@ -16,7 +16,7 @@ use cov_base::{SessNo, TaskNo};
 use cov_outside::{Failed, Sink};
 use session_book::{FactSets, Job, Results};
 
-/// A line of these words.
+/// A line of these words, at most 100 bytes, and its LF.
 pub fn words_line(words: &[u8]) -> ArrayVec<u8, 160>
     requires { length words.now ≤ 100 }
     ensures { result.items ≡ words.now ++ 10 ∷ [] }

@@ -19,7 +19,7 @@ pub fn add_name(line: &mut ArrayVec<u8, 160>, name: &Name)
     add_text(line, name.bytes());
 }
 
-/// Adds each byte in two hexadecimal digits.
+/// Adds each byte in two hexadecimal digits, for which the line has room.
 pub fn add_bytes(line: &mut ArrayVec<u8, 160>, bytes: &[u8])
     requires { array_vec_len line.old + 2 * length bytes.now ≤ 160 }
     ensures items { line.new.items ≡ line.old.items ++ hex_bytes bytes.now }

@@ -68,7 +68,7 @@ fn put_quotient<P: Space>(cpu: &Cpu, space: &mut P, code: &Code, o: Operands) ->
     Next::On
 }
 
-/// MP.
+/// MP: multiplies the first field by the second.
 pub fn multiply<P: Space>(cpu: &mut Cpu, space: &mut P, code: &Code) -> Next
     ensures memory { P.memory space.new ≡ P.memory space.old }
     ensures row { Performs (P.memory space.old) cpu.old (P.bytes space.old) (λ m s. row_mp m s code.now) cpu.new (P.bytes space.new) result }
@@ -85,7 +85,7 @@ pub fn multiply<P: Space>(cpu: &mut Cpu, space: &mut P, code: &Code) -> Next
     }
 }
 
-/// DP.
+/// DP: divides the first field by the second, and leaves quotient and remainder in it.
 pub fn divide<P: Space>(cpu: &mut Cpu, space: &mut P, code: &Code) -> Next
     ensures memory { P.memory space.new ≡ P.memory space.old }
     ensures row { Performs (P.memory space.old) cpu.old (P.bytes space.old) (λ m s. row_dp m s code.now) cpu.new (P.bytes space.new) result }

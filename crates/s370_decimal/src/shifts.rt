@@ -76,7 +76,7 @@ fn rounded_field<P: Space>(space: &P, at: Addr, l: u8, i: u8) -> Option<Field>
     if i <= 9 { field_at(space, at, l) } else { None }
 }
 
-/// SRP.
+/// SRP: shifts the digits of the first field, and rounds where they go to the right.
 pub fn shift_and_round<P: Space>(cpu: &mut Cpu, space: &mut P, code: &Code) -> Next
     ensures memory { P.memory space.new ≡ P.memory space.old }
     ensures row { Performs (P.memory space.old) cpu.old (P.bytes space.old) (λ m s. row_srp m s code.now) cpu.new (P.bytes space.new) result }

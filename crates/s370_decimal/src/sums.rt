@@ -46,7 +46,7 @@ fn keep_difference(l: u8, o: Operands) -> Kept
     keep_number(l, difference)
 }
 
-/// AP.
+/// AP: adds the second field to the first.
 pub fn add<P: Space>(cpu: &mut Cpu, space: &mut P, code: &Code) -> Next
     ensures memory { P.memory space.new ≡ P.memory space.old }
     ensures row { Performs (P.memory space.old) cpu.old (P.bytes space.old) (λ m s. row_ap m s code.now) cpu.new (P.bytes space.new) result }
@@ -63,7 +63,7 @@ pub fn add<P: Space>(cpu: &mut Cpu, space: &mut P, code: &Code) -> Next
     }
 }
 
-/// SP.
+/// SP: subtracts the second field from the first.
 pub fn subtract<P: Space>(cpu: &mut Cpu, space: &mut P, code: &Code) -> Next
     ensures memory { P.memory space.new ≡ P.memory space.old }
     ensures row { Performs (P.memory space.old) cpu.old (P.bytes space.old) (λ m s. row_sp m s code.now) cpu.new (P.bytes space.new) result }
@@ -80,7 +80,7 @@ pub fn subtract<P: Space>(cpu: &mut Cpu, space: &mut P, code: &Code) -> Next
     }
 }
 
-/// ZAP.
+/// ZAP: puts the second field in place of the first.
 pub fn zero_and_add<P: Space>(cpu: &mut Cpu, space: &mut P, code: &Code) -> Next
     ensures memory { P.memory space.new ≡ P.memory space.old }
     ensures row { Performs (P.memory space.old) cpu.old (P.bytes space.old) (λ m s. row_zap m s code.now) cpu.new (P.bytes space.new) result }
@@ -113,7 +113,7 @@ fn comparison(o: Operands) -> u8
     order_code(number(o.first).cmp(&number(o.second)))
 }
 
-/// CP.
+/// CP: compares the fields.
 pub fn compare<P: Space>(cpu: &mut Cpu, space: &mut P, code: &Code) -> Next
     ensures memory { P.memory space.new ≡ P.memory space.old }
     ensures row { Performs (P.memory space.old) cpu.old (P.bytes space.old) (λ m s. row_cp m s code.now) cpu.new (P.bytes space.new) result }

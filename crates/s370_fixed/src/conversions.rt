@@ -31,7 +31,7 @@ fn convert(cpu: &mut Cpu, r: u8, f: Field) -> Next
     }
 }
 
-/// CVB.
+/// CVB: loads R1 with the number of a packed doubleword.
 pub fn convert_to_binary<P: Space>(cpu: &mut Cpu, space: &mut P, code: &Code) -> Next
     ensures memory { P.memory space.new ≡ P.memory space.old }
     ensures row { Performs (P.memory space.old) cpu.old (P.bytes space.old) (λ m s. row_cvb m s code.now) cpu.new (P.bytes space.new) result }
@@ -46,7 +46,7 @@ pub fn convert_to_binary<P: Space>(cpu: &mut Cpu, space: &mut P, code: &Code) ->
     }
 }
 
-/// CVD.
+/// CVD: stores R1's number in a packed doubleword.
 pub fn convert_to_decimal<P: Space>(cpu: &mut Cpu, space: &mut P, code: &Code) -> Next
     ensures memory { P.memory space.new ≡ P.memory space.old }
     ensures row { Performs (P.memory space.old) cpu.old (P.bytes space.old) (λ m s. row_cvd m s code.now) cpu.new (P.bytes space.new) result }

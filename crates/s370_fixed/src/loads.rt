@@ -1,4 +1,4 @@
-//! Loads and stores of one register, and complements.
+//! Loads and stores of one register, and complements. Each call does what `fixed` does for its operation, refusals too.
 #![tactic(auto, using(s370_state::proofs::Performs::at_once, s370_state::proofs::Performs::passes, s370_state::proofs::Performs::refuses))]
 
 ghost use Rattle.std.specs.Prelude.{◌≡◌, ℕ, ◌<◌, ◌≤◌, ℤ, pos, neg_ℤ, ◌≤ℤ◌, ◌<ℤ◌, true, if◌then◌else◌, slice_set};
@@ -21,7 +21,7 @@ fn magnitude(z: i64) -> i64
     if z < 0 { -z } else { z }
 }
 
-/// LR.
+/// LR: loads R1 from R2.
 #[inline(always)]
 pub fn load_register<P: Space>(cpu: &mut Cpu, space: &mut P, code: &Code) -> Next
     ensures memory { P.memory space.new ≡ P.memory space.old }
@@ -30,7 +30,7 @@ pub fn load_register<P: Space>(cpu: &mut Cpu, space: &mut P, code: &Code) -> Nex
     load(cpu, code.r1(), cpu.reg(code.r2()))
 }
 
-/// L.
+/// L: loads R1 from a word.
 #[inline(always)]
 pub fn load_word<P: Space>(cpu: &mut Cpu, space: &mut P, code: &Code) -> Next
     ensures memory { P.memory space.new ≡ P.memory space.old }
@@ -42,7 +42,7 @@ pub fn load_word<P: Space>(cpu: &mut Cpu, space: &mut P, code: &Code) -> Next
     }
 }
 
-/// LH.
+/// LH: loads R1 from a halfword, extended by its sign.
 #[inline(always)]
 pub fn load_half<P: Space>(cpu: &mut Cpu, space: &mut P, code: &Code) -> Next
     ensures memory { P.memory space.new ≡ P.memory space.old }
@@ -54,7 +54,7 @@ pub fn load_half<P: Space>(cpu: &mut Cpu, space: &mut P, code: &Code) -> Next
     }
 }
 
-/// LTR.
+/// LTR: loads R1 from R2, and tells its sign by the condition code.
 #[inline(always)]
 pub fn load_and_test<P: Space>(cpu: &mut Cpu, space: &mut P, code: &Code) -> Next
     ensures memory { P.memory space.new ≡ P.memory space.old }
@@ -66,7 +66,7 @@ pub fn load_and_test<P: Space>(cpu: &mut Cpu, space: &mut P, code: &Code) -> Nex
     Next::On
 }
 
-/// LCR.
+/// LCR: loads R1 with the complement of R2; that of -2^31 overflows.
 #[inline(always)]
 pub fn load_complement<P: Space>(cpu: &mut Cpu, space: &mut P, code: &Code) -> Next
     ensures memory { P.memory space.new ≡ P.memory space.old }
@@ -75,7 +75,7 @@ pub fn load_complement<P: Space>(cpu: &mut Cpu, space: &mut P, code: &Code) -> N
     set_result(cpu, code.r1(), -signed(cpu.reg(code.r2())))
 }
 
-/// LPR.
+/// LPR: loads R1 with the magnitude of R2; that of -2^31 overflows.
 #[inline(always)]
 pub fn load_positive<P: Space>(cpu: &mut Cpu, space: &mut P, code: &Code) -> Next
     ensures memory { P.memory space.new ≡ P.memory space.old }
@@ -84,7 +84,7 @@ pub fn load_positive<P: Space>(cpu: &mut Cpu, space: &mut P, code: &Code) -> Nex
     set_result(cpu, code.r1(), magnitude(signed(cpu.reg(code.r2()))))
 }
 
-/// LNR.
+/// LNR: loads R1 with the magnitude of R2 made negative.
 #[inline(always)]
 pub fn load_negative<P: Space>(cpu: &mut Cpu, space: &mut P, code: &Code) -> Next
     ensures memory { P.memory space.new ≡ P.memory space.old }
@@ -93,7 +93,7 @@ pub fn load_negative<P: Space>(cpu: &mut Cpu, space: &mut P, code: &Code) -> Nex
     set_result(cpu, code.r1(), -magnitude(signed(cpu.reg(code.r2()))))
 }
 
-/// LA.
+/// LA: loads R1 with the second operand's address, and zeros in bits 0-7; no operand is tested.
 #[inline(always)]
 pub fn load_address<P: Space>(cpu: &mut Cpu, space: &mut P, code: &Code) -> Next
     ensures memory { P.memory space.new ≡ P.memory space.old }
@@ -102,7 +102,7 @@ pub fn load_address<P: Space>(cpu: &mut Cpu, space: &mut P, code: &Code) -> Next
     load(cpu, code.r1(), address(cpu, code).get())
 }
 
-/// ST.
+/// ST: stores R1 in a word.
 #[inline(always)]
 pub fn store_word<P: Space>(cpu: &mut Cpu, space: &mut P, code: &Code) -> Next
     ensures memory { P.memory space.new ≡ P.memory space.old }
@@ -116,7 +116,7 @@ pub fn store_word<P: Space>(cpu: &mut Cpu, space: &mut P, code: &Code) -> Next
     Next::On
 }
 
-/// STH.
+/// STH: stores bits 16-31 of R1 in a halfword.
 #[inline(always)]
 pub fn store_half<P: Space>(cpu: &mut Cpu, space: &mut P, code: &Code) -> Next
     ensures memory { P.memory space.new ≡ P.memory space.old }

@@ -54,7 +54,7 @@ fn store_words<P: Space>(cpu: &Cpu, space: &mut P, r: u8, at: Addr, n: u8)
     }
 }
 
-/// LM.
+/// LM: loads the registers from R1 to R3 from as many words.
 pub fn load_multiple<P: Space>(cpu: &mut Cpu, space: &mut P, code: &Code) -> Next
     ensures memory { P.memory space.new ≡ P.memory space.old }
     ensures row { Performs (P.memory space.old) cpu.old (P.bytes space.old) (λ m s. row_lm m s code.now) cpu.new (P.bytes space.new) result }
@@ -68,7 +68,7 @@ pub fn load_multiple<P: Space>(cpu: &mut Cpu, space: &mut P, code: &Code) -> Nex
     Next::On
 }
 
-/// STM.
+/// STM: stores the registers from R1 to R3 in as many words.
 pub fn store_multiple<P: Space>(cpu: &mut Cpu, space: &mut P, code: &Code) -> Next
     ensures memory { P.memory space.new ≡ P.memory space.old }
     ensures row { Performs (P.memory space.old) cpu.old (P.bytes space.old) (λ m s. row_stm m s code.now) cpu.new (P.bytes space.new) result }

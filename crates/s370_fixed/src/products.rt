@@ -78,7 +78,7 @@ fn quotient(p: i64, d: i64) -> Option<(i64, i64)>
     }
 }
 
-/// MR.
+/// MR: multiplies the second register of the pair R1 by R2; the pair has the product.
 pub fn multiply_register<P: Space>(cpu: &mut Cpu, space: &mut P, code: &Code) -> Next
     ensures memory { P.memory space.new ≡ P.memory space.old }
     ensures row { Performs (P.memory space.old) cpu.old (P.bytes space.old) (λ m s. row_mr m s code.now) cpu.new (P.bytes space.new) result }
@@ -90,7 +90,7 @@ pub fn multiply_register<P: Space>(cpu: &mut Cpu, space: &mut P, code: &Code) ->
     multiply(cpu, r, signed(cpu.reg(code.r2())))
 }
 
-/// M.
+/// M: multiplies the second register of the pair R1 by a word; the pair has the product.
 pub fn multiply_word<P: Space>(cpu: &mut Cpu, space: &mut P, code: &Code) -> Next
     ensures memory { P.memory space.new ≡ P.memory space.old }
     ensures row { Performs (P.memory space.old) cpu.old (P.bytes space.old) (λ m s. row_m m s code.now) cpu.new (P.bytes space.new) result }
@@ -105,7 +105,7 @@ pub fn multiply_word<P: Space>(cpu: &mut Cpu, space: &mut P, code: &Code) -> Nex
     }
 }
 
-/// MH.
+/// MH: multiplies R1 by a halfword, extended by its sign; R1 keeps the low word of the product.
 pub fn multiply_half<P: Space>(cpu: &mut Cpu, space: &mut P, code: &Code) -> Next
     ensures memory { P.memory space.new ≡ P.memory space.old }
     ensures row { Performs (P.memory space.old) cpu.old (P.bytes space.old) (λ m s. row_mh m s code.now) cpu.new (P.bytes space.new) result }
@@ -116,7 +116,7 @@ pub fn multiply_half<P: Space>(cpu: &mut Cpu, space: &mut P, code: &Code) -> Nex
     }
 }
 
-/// DR.
+/// DR: divides the pair R1 by R2, and leaves remainder and quotient in it.
 pub fn divide_register<P: Space>(cpu: &mut Cpu, space: &mut P, code: &Code) -> Next
     ensures memory { P.memory space.new ≡ P.memory space.old }
     ensures row { Performs (P.memory space.old) cpu.old (P.bytes space.old) (λ m s. row_dr m s code.now) cpu.new (P.bytes space.new) result }
@@ -128,7 +128,7 @@ pub fn divide_register<P: Space>(cpu: &mut Cpu, space: &mut P, code: &Code) -> N
     divide(cpu, space, r, signed(cpu.reg(code.r2())))
 }
 
-/// D.
+/// D: divides the pair R1 by a word, and leaves remainder and quotient in it.
 pub fn divide_word<P: Space>(cpu: &mut Cpu, space: &mut P, code: &Code) -> Next
     ensures memory { P.memory space.new ≡ P.memory space.old }
     ensures row { Performs (P.memory space.old) cpu.old (P.bytes space.old) (λ m s. row_d m s code.now) cpu.new (P.bytes space.new) result }

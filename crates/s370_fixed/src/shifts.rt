@@ -85,7 +85,7 @@ fn set_code(cpu: &mut Cpu, kept: bool, code: u8) -> Next
     }
 }
 
-/// SLL.
+/// SLL: shifts R1 to the left, without a sign.
 pub fn shift_left_logical<P: Space>(cpu: &mut Cpu, space: &mut P, code: &Code) -> Next
     ensures memory { P.memory space.new ≡ P.memory space.old }
     ensures row { Performs (P.memory space.old) cpu.old (P.bytes space.old) (λ m s. row_sll m s code.now) cpu.new (P.bytes space.new) result }
@@ -95,7 +95,7 @@ pub fn shift_left_logical<P: Space>(cpu: &mut Cpu, space: &mut P, code: &Code) -
     load(cpu, code.r1(), (v % 4_294_967_296) as u32)
 }
 
-/// SRL.
+/// SRL: shifts R1 to the right, without a sign.
 pub fn shift_right_logical<P: Space>(cpu: &mut Cpu, space: &mut P, code: &Code) -> Next
     ensures memory { P.memory space.new ≡ P.memory space.old }
     ensures row { Performs (P.memory space.old) cpu.old (P.bytes space.old) (λ m s. row_srl m s code.now) cpu.new (P.bytes space.new) result }
@@ -105,7 +105,7 @@ pub fn shift_right_logical<P: Space>(cpu: &mut Cpu, space: &mut P, code: &Code) 
     load(cpu, code.r1(), v as u32)
 }
 
-/// SLA.
+/// SLA: shifts R1 to the left behind its sign; lost digits overflow.
 pub fn shift_left<P: Space>(cpu: &mut Cpu, space: &mut P, code: &Code) -> Next
     ensures memory { P.memory space.new ≡ P.memory space.old }
     ensures row { Performs (P.memory space.old) cpu.old (P.bytes space.old) (λ m s. row_sla m s code.now) cpu.new (P.bytes space.new) result }
@@ -117,7 +117,7 @@ pub fn shift_left<P: Space>(cpu: &mut Cpu, space: &mut P, code: &Code) -> Next
     set_code(cpu, is_word(z), sign_code(z))
 }
 
-/// SRA.
+/// SRA: shifts R1 to the right, filled with its sign.
 pub fn shift_right<P: Space>(cpu: &mut Cpu, space: &mut P, code: &Code) -> Next
     ensures memory { P.memory space.new ≡ P.memory space.old }
     ensures row { Performs (P.memory space.old) cpu.old (P.bytes space.old) (λ m s. row_sra m s code.now) cpu.new (P.bytes space.new) result }
@@ -129,7 +129,7 @@ pub fn shift_right<P: Space>(cpu: &mut Cpu, space: &mut P, code: &Code) -> Next
     Next::On
 }
 
-/// SLDL.
+/// SLDL: shifts the pair R1 to the left, without a sign.
 pub fn shift_left_double_logical<P: Space>(cpu: &mut Cpu, space: &mut P, code: &Code) -> Next
     ensures memory { P.memory space.new ≡ P.memory space.old }
     ensures row { Performs (P.memory space.old) cpu.old (P.bytes space.old) (λ m s. row_sldl m s code.now) cpu.new (P.bytes space.new) result }
@@ -143,7 +143,7 @@ pub fn shift_left_double_logical<P: Space>(cpu: &mut Cpu, space: &mut P, code: &
     Next::On
 }
 
-/// SRDL.
+/// SRDL: shifts the pair R1 to the right, without a sign.
 pub fn shift_right_double_logical<P: Space>(cpu: &mut Cpu, space: &mut P, code: &Code) -> Next
     ensures memory { P.memory space.new ≡ P.memory space.old }
     ensures row { Performs (P.memory space.old) cpu.old (P.bytes space.old) (λ m s. row_srdl m s code.now) cpu.new (P.bytes space.new) result }
@@ -157,7 +157,7 @@ pub fn shift_right_double_logical<P: Space>(cpu: &mut Cpu, space: &mut P, code: 
     Next::On
 }
 
-/// SLDA.
+/// SLDA: shifts the pair R1 to the left behind its sign; lost digits overflow.
 pub fn shift_left_double<P: Space>(cpu: &mut Cpu, space: &mut P, code: &Code) -> Next
     ensures memory { P.memory space.new ≡ P.memory space.old }
     ensures row { Performs (P.memory space.old) cpu.old (P.bytes space.old) (λ m s. row_slda m s code.now) cpu.new (P.bytes space.new) result }
@@ -173,7 +173,7 @@ pub fn shift_left_double<P: Space>(cpu: &mut Cpu, space: &mut P, code: &Code) ->
     set_code(cpu, is_doubleword(z), sign_code(z))
 }
 
-/// SRDA.
+/// SRDA: shifts the pair R1 to the right, filled with its sign.
 pub fn shift_right_double<P: Space>(cpu: &mut Cpu, space: &mut P, code: &Code) -> Next
     ensures memory { P.memory space.new ≡ P.memory space.old }
     ensures row { Performs (P.memory space.old) cpu.old (P.bytes space.old) (λ m s. row_srda m s code.now) cpu.new (P.bytes space.new) result }

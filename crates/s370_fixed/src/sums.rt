@@ -1,4 +1,4 @@
-//! Sums, differences and comparisons.
+//! Sums, differences and comparisons. Each call does what `fixed` does for its operation, refusals too.
 #![tactic(auto, using(s370_state::proofs::Performs::at_once, s370_state::proofs::Performs::passes, s370_state::proofs::Performs::refuses))]
 
 ghost use Rattle.std.specs.Prelude.{◌≡◌, ℕ, ◌+◌, ◌-◌, ◌%◌, ◌<◌, ◌≤◌, ◌^◌, ℤ, pos, neg_ℤ, ◌+ℤ◌, ◌-ℤ◌, ◌≤ℤ◌, ◌<ℤ◌, true, if◌then◌else◌, slice_set, slice_index};
@@ -90,7 +90,7 @@ fn compare(cpu: &mut Cpu, r: u8, z: i64) -> Next
     Next::On
 }
 
-/// AR.
+/// AR: adds R2 to R1.
 #[inline(always)]
 pub fn add_register<P: Space>(cpu: &mut Cpu, space: &mut P, code: &Code) -> Next
     ensures memory { P.memory space.new ≡ P.memory space.old }
@@ -99,7 +99,7 @@ pub fn add_register<P: Space>(cpu: &mut Cpu, space: &mut P, code: &Code) -> Next
     add(cpu, code.r1(), signed(cpu.reg(code.r2())))
 }
 
-/// A.
+/// A: adds a word to R1.
 #[inline(always)]
 pub fn add_word<P: Space>(cpu: &mut Cpu, space: &mut P, code: &Code) -> Next
     ensures memory { P.memory space.new ≡ P.memory space.old }
@@ -111,7 +111,7 @@ pub fn add_word<P: Space>(cpu: &mut Cpu, space: &mut P, code: &Code) -> Next
     }
 }
 
-/// AH.
+/// AH: adds a halfword, extended by its sign, to R1.
 #[inline(always)]
 pub fn add_half<P: Space>(cpu: &mut Cpu, space: &mut P, code: &Code) -> Next
     ensures memory { P.memory space.new ≡ P.memory space.old }
@@ -123,7 +123,7 @@ pub fn add_half<P: Space>(cpu: &mut Cpu, space: &mut P, code: &Code) -> Next
     }
 }
 
-/// SR.
+/// SR: subtracts R2 from R1.
 #[inline(always)]
 pub fn subtract_register<P: Space>(cpu: &mut Cpu, space: &mut P, code: &Code) -> Next
     ensures memory { P.memory space.new ≡ P.memory space.old }
@@ -132,7 +132,7 @@ pub fn subtract_register<P: Space>(cpu: &mut Cpu, space: &mut P, code: &Code) ->
     subtract(cpu, code.r1(), signed(cpu.reg(code.r2())))
 }
 
-/// S.
+/// S: subtracts a word from R1.
 #[inline(always)]
 pub fn subtract_word<P: Space>(cpu: &mut Cpu, space: &mut P, code: &Code) -> Next
     ensures memory { P.memory space.new ≡ P.memory space.old }
@@ -144,7 +144,7 @@ pub fn subtract_word<P: Space>(cpu: &mut Cpu, space: &mut P, code: &Code) -> Nex
     }
 }
 
-/// SH.
+/// SH: subtracts a halfword, extended by its sign, from R1.
 #[inline(always)]
 pub fn subtract_half<P: Space>(cpu: &mut Cpu, space: &mut P, code: &Code) -> Next
     ensures memory { P.memory space.new ≡ P.memory space.old }
@@ -156,7 +156,7 @@ pub fn subtract_half<P: Space>(cpu: &mut Cpu, space: &mut P, code: &Code) -> Nex
     }
 }
 
-/// ALR.
+/// ALR: adds R2 to R1 without signs.
 #[inline(always)]
 pub fn add_logical_register<P: Space>(cpu: &mut Cpu, space: &mut P, code: &Code) -> Next
     ensures memory { P.memory space.new ≡ P.memory space.old }
@@ -165,7 +165,7 @@ pub fn add_logical_register<P: Space>(cpu: &mut Cpu, space: &mut P, code: &Code)
     add_unsigned(cpu, code.r1(), cpu.reg(code.r2()))
 }
 
-/// AL.
+/// AL: adds a word to R1 without signs.
 #[inline(always)]
 pub fn add_logical_word<P: Space>(cpu: &mut Cpu, space: &mut P, code: &Code) -> Next
     ensures memory { P.memory space.new ≡ P.memory space.old }
@@ -177,7 +177,7 @@ pub fn add_logical_word<P: Space>(cpu: &mut Cpu, space: &mut P, code: &Code) -> 
     }
 }
 
-/// SLR.
+/// SLR: subtracts R2 from R1 without signs.
 #[inline(always)]
 pub fn subtract_logical_register<P: Space>(cpu: &mut Cpu, space: &mut P, code: &Code) -> Next
     ensures memory { P.memory space.new ≡ P.memory space.old }
@@ -186,7 +186,7 @@ pub fn subtract_logical_register<P: Space>(cpu: &mut Cpu, space: &mut P, code: &
     subtract_unsigned(cpu, code.r1(), cpu.reg(code.r2()))
 }
 
-/// SL.
+/// SL: subtracts a word from R1 without signs.
 #[inline(always)]
 pub fn subtract_logical_word<P: Space>(cpu: &mut Cpu, space: &mut P, code: &Code) -> Next
     ensures memory { P.memory space.new ≡ P.memory space.old }
@@ -198,7 +198,7 @@ pub fn subtract_logical_word<P: Space>(cpu: &mut Cpu, space: &mut P, code: &Code
     }
 }
 
-/// CR.
+/// CR: compares R1 with R2.
 #[inline(always)]
 pub fn compare_register<P: Space>(cpu: &mut Cpu, space: &mut P, code: &Code) -> Next
     ensures memory { P.memory space.new ≡ P.memory space.old }
@@ -207,7 +207,7 @@ pub fn compare_register<P: Space>(cpu: &mut Cpu, space: &mut P, code: &Code) -> 
     compare(cpu, code.r1(), signed(cpu.reg(code.r2())))
 }
 
-/// C.
+/// C: compares R1 with a word.
 #[inline(always)]
 pub fn compare_word<P: Space>(cpu: &mut Cpu, space: &mut P, code: &Code) -> Next
     ensures memory { P.memory space.new ≡ P.memory space.old }
@@ -219,7 +219,7 @@ pub fn compare_word<P: Space>(cpu: &mut Cpu, space: &mut P, code: &Code) -> Next
     }
 }
 
-/// CH.
+/// CH: compares R1 with a halfword, extended by its sign.
 #[inline(always)]
 pub fn compare_half<P: Space>(cpu: &mut Cpu, space: &mut P, code: &Code) -> Next
     ensures memory { P.memory space.new ≡ P.memory space.old }

@@ -28,6 +28,7 @@ pub enum Ending {
 pub enum Next {
     /// At its instruction address.
     On,
+    /// Not at all: it has ended so.
     Ended(Ending),
 }
 

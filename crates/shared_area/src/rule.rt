@@ -12,6 +12,7 @@ use std::snapshot::Snapshot;
 #[derive(Drop)]
 pub struct NoSlot;
 
+/// The rule that the words of an area and the notes of its passes keep.
 pub struct AreaRule;
 
 impl TableRule<NoSlot, View, Snapshot<Plan>> for AreaRule {

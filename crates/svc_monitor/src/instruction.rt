@@ -158,7 +158,7 @@ fn step_subject<C: Cells, P: Space>(
 /// modules that were never planted, and the pass makes its visits: each fetch's answer is kept, and what a
 /// visit shows under a session's odd tag is marked for that session alone. Then, and before what the instruction does,
 /// SVC 4, itself or as the subject of EX, opens the next session of the control where none is open, and SVC 5 closes the
-/// open one. The pass is a task's, tied to the control.
+/// open one. The pass is that of a task that has not ended, tied to the control; its tally sums to less than 2^61 before.
 #[inline(always)]
 pub fn step<C: Cells, P: Space>(
     cells: &C,

@@ -10,8 +10,8 @@ use brk_table::Tables;
 use cov_base::{Fact, PlaceNo, SessNo};
 use module_area::{Cell, Cells};
 
-/// Marks the fact for the session whose breakpoint the cell is, and lifts it exactly where the set with the fact is
-/// full.
+/// Marks the fact for the session whose breakpoint the cell is, and tries once to lift that exactly where the set with
+/// the fact is full: another pass may have lifted it before.
 #[inline(always)]
 pub fn settle<C: Cells>(
     cells: &C,
