@@ -10,21 +10,14 @@ use cov_base::Addr;
 use s370_decode::{Code, Group, Op, op_of};
 use s370_state::{Cpu, signed};
 
-/// Whether the mask selects the condition code.
-#[tactic(auto, unfolding(crate::specs::Branch::is_selected))]
+/// Whether the mask selects the condition code: its bits 8, 4, 2 and 1 are for the codes 0 to 3. Without a branch, which the
+/// processor would foresee ill.
 fn is_selected(mask: u8, code: u8) -> bool
-    requires { mask < 16 }
+    requires mask { mask < 16 }
+    requires code { code ≤ 3 }
     ensures { result ≡ is_selected mask code }
 {
-    if code == 0 {
-        mask >= 8
-    } else if code == 1 {
-        mask % 8 >= 4
-    } else if code == 2 {
-        mask % 4 >= 2
-    } else {
-        mask % 2 == 1
-    }
+    mask % (16 >> code) >= 8 >> code
 }
 
 /// R1 less 1.
@@ -80,11 +73,28 @@ fn goes(cpu: &Cpu, code: &Code, op: Op) -> bool
     }
 }
 
+/// Whether it branches, in a frame of its own.
+#[inline(never)]
+fn goes_apart(cpu: &Cpu, code: &Code, op: Op) -> bool
+    ensures { result ≡ goes op cpu.now code.now }
+{
+    goes(cpu, code, op)
+}
+
 /// Whether the instruction as given branches; false for an operation that is no branch. Changes nothing.
+#[inline(always)]
 pub fn outcome(cpu: &Cpu, code: &Code) -> bool
     ensures { result ≡ goes (op_of (first_half code.now)) cpu.now code.now }
 {
-    goes(cpu, code, op_of(code.first_half()))
+    let op = op_of(code.first_half());
+    // The frequent ones are found by tests: a jump by a table would be foreseen worse.
+    if op == Op::BC {
+        goes(cpu, code, Op::BC)
+    } else if op == Op::BCT {
+        goes(cpu, code, Op::BCT)
+    } else {
+        goes_apart(cpu, code, op)
+    }
 }
 
 /// The second operand's address in the RX format, of which each instruction has four bytes.

@@ -13,8 +13,8 @@ ghost use Rattle.s370_exec.specs.Effects.{effect, effect_of, next_of, is_complet
 use crate::calls::task_call;
 use crate::stored::{
     add_half_apart, add_logical_word_apart, add_word_apart, compare_half_apart, compare_word_apart,
-    load_half_apart, load_word_apart, store_half_apart, store_word_apart, subtract_half_apart,
-    subtract_logical_word_apart, subtract_word_apart,
+    load_half_apart, store_half_apart, subtract_half_apart, subtract_logical_word_apart,
+    subtract_word_apart,
 };
 use cov_base::Addr;
 use s370_branch::branch;
@@ -23,8 +23,8 @@ use s370_decode::{Code, Group, Op, group_of, op_of};
 use s370_edit::edit;
 use s370_fixed::{
     add_logical_register, add_register, compare_register, fixed, load_address, load_and_test,
-    load_complement, load_negative, load_positive, load_register, subtract_logical_register,
-    subtract_register,
+    load_complement, load_negative, load_positive, load_register, load_word, store_word,
+    subtract_logical_register, subtract_register,
 };
 use s370_logic::logic;
 use s370_state::{Cpu, Ending, Next, Space, TaskIo};
@@ -194,23 +194,23 @@ fn decimal_apart<P: Space>(
     onward(cpu, next, n, end)
 }
 
-/// Carries out any operation that is no branch, also one that has a call of its own.
+/// Carries out an instruction whatever its operation, also the subject of an EX at an address.
 #[inline(never)]
 #[tactic(auto, unfolding(crate::specs::Effects::effect))]
-fn carry_out_any<P: Space>(
+fn carry_out_apart<P: Space>(
     cpu: &mut Cpu,
     space: &mut P,
     io: &mut TaskIo,
     code: &Code,
-    next: Addr,
+    ex: Option<Addr>,
     end: &mut Ending,
 ) -> Told
-    requires group { group_of (op_of (first_half code.now)) ≢ Group.Branch }
     ensures memory { P.memory space.new ≡ P.memory space.old }
-    ensures effect { (link : ℕ) → effect_of cpu.new (P.bytes space.new) io.new (next_of result end.new) ≡
-        effect (P.memory space.old) (machine_of cpu.old (P.bytes space.old)) io.old code.now (op_of (first_half code.now)) next link }
+    ensures effect { effect_of cpu.new (P.bytes space.new) io.new (next_of result end.new) ≡
+        effect (P.memory space.old) (machine_of cpu.old (P.bytes space.old)) io.old code.now (op_of (first_half code.now)) (updated code.now ex) (link_code code.now ex) }
 {
     let op = op_of(code.first_half());
+    let next = updated(code, &ex);
     match group_of(op) {
         Group::Fixed => fixed_apart(cpu, space, code, op, next, end),
         Group::Logic => logic_apart(cpu, space, code, op, next, end),
@@ -220,30 +220,29 @@ fn carry_out_any<P: Space>(
             let n = edit(cpu, space, code, op);
             onward(cpu, next, n, end)
         }
+        Group::Branch => branch_here(cpu, code, op, next, link_code(code, &ex)),
         Group::Call => tell(task_call(cpu, space, io, code.i2(), next), end),
         Group::Supervisor => tell(Next::Ended(Ending::Abend(2)), end),
         Group::Missing => tell(Next::Ended(Ending::Abend(1)), end),
-        Group::Branch => unreachable!(),
     }
 }
 
-/// Carries out an instruction that no EX executes. Where the task has ended `end` tells how. One match finds the operation:
-/// those on registers alone and the branches have their steps here, every other is one call with a frame of its own.
-#[inline(never)]
-fn carry_out<P: Space>(
+/// Carries out an instruction of two bytes, of which the frequent ones have their steps here.
+#[inline(always)]
+fn carry_out_short<P: Space>(
     cpu: &mut Cpu,
     space: &mut P,
     io: &mut TaskIo,
     code: &Code,
+    next: Addr,
     end: &mut Ending,
 ) -> Told
+    requires next { next ≡ updated code.now None }
     ensures memory { P.memory space.new ≡ P.memory space.old }
     ensures effect { effect_of cpu.new (P.bytes space.new) io.new (next_of result end.new) ≡
-        effect (P.memory space.old) (machine_of cpu.old (P.bytes space.old)) io.old code.now (op_of (first_half code.now)) (updated code.now None) (link_code code.now None) }
+        effect (P.memory space.old) (machine_of cpu.old (P.bytes space.old)) io.old code.now (op_of (first_half code.now)) next (link_code code.now None) }
 {
-    let op = op_of(code.first_half());
-    let next = updated(code, &None);
-    match op {
+    match op_of(code.first_half()) {
         Op::LR => {
             let n = load_register(cpu, space, code);
             onward(cpu, next, n, end)
@@ -262,10 +261,6 @@ fn carry_out<P: Space>(
         }
         Op::LNR => {
             let n = load_negative(cpu, space, code);
-            onward(cpu, next, n, end)
-        }
-        Op::LA => {
-            let n = load_address(cpu, space, code);
             onward(cpu, next, n, end)
         }
         Op::AR => {
@@ -288,8 +283,41 @@ fn carry_out<P: Space>(
             let n = compare_register(cpu, space, code);
             onward(cpu, next, n, end)
         }
-        Op::L => load_word_apart(cpu, space, code, next, end),
-        Op::ST => store_word_apart(cpu, space, code, next, end),
+        Op::BCR => branch_here(cpu, code, Op::BCR, next, link_code(code, &None)),
+        Op::BCTR => branch_here(cpu, code, Op::BCTR, next, link_code(code, &None)),
+        Op::BALR => branch_here(cpu, code, Op::BALR, next, link_code(code, &None)),
+        _ => carry_out_apart(cpu, space, io, code, None, end),
+    }
+}
+
+/// Carries out an instruction of four bytes; the frequent ones have their steps here or in a call of their own.
+#[inline(always)]
+fn carry_out_long<P: Space>(
+    cpu: &mut Cpu,
+    space: &mut P,
+    io: &mut TaskIo,
+    code: &Code,
+    next: Addr,
+    end: &mut Ending,
+) -> Told
+    requires next { next ≡ updated code.now None }
+    ensures memory { P.memory space.new ≡ P.memory space.old }
+    ensures effect { effect_of cpu.new (P.bytes space.new) io.new (next_of result end.new) ≡
+        effect (P.memory space.old) (machine_of cpu.old (P.bytes space.old)) io.old code.now (op_of (first_half code.now)) next (link_code code.now None) }
+{
+    match op_of(code.first_half()) {
+        Op::LA => {
+            let n = load_address(cpu, space, code);
+            onward(cpu, next, n, end)
+        }
+        Op::L => {
+            let n = load_word(cpu, space, code);
+            onward(cpu, next, n, end)
+        }
+        Op::ST => {
+            let n = store_word(cpu, space, code);
+            onward(cpu, next, n, end)
+        }
         Op::LH => load_half_apart(cpu, space, code, next, end),
         Op::STH => store_half_apart(cpu, space, code, next, end),
         Op::A => add_word_apart(cpu, space, code, next, end),
@@ -301,43 +329,35 @@ fn carry_out<P: Space>(
         Op::C => compare_word_apart(cpu, space, code, next, end),
         Op::CH => compare_half_apart(cpu, space, code, next, end),
         Op::BC => branch_here(cpu, code, Op::BC, next, link_code(code, &None)),
-        Op::BCR => branch_here(cpu, code, Op::BCR, next, link_code(code, &None)),
         Op::BCT => branch_here(cpu, code, Op::BCT, next, link_code(code, &None)),
-        Op::BCTR => branch_here(cpu, code, Op::BCTR, next, link_code(code, &None)),
         Op::BAL => branch_here(cpu, code, Op::BAL, next, link_code(code, &None)),
-        Op::BALR => branch_here(cpu, code, Op::BALR, next, link_code(code, &None)),
-        Op::BAS | Op::BASR | Op::BXH | Op::BXLE => {
-            branch_here(cpu, code, op, next, link_code(code, &None))
-        }
-        _ => match group_of(op) {
-            Group::Fixed => fixed_apart(cpu, space, code, op, next, end),
-            Group::Logic => logic_apart(cpu, space, code, op, next, end),
-            Group::Storage => storage_apart(cpu, space, code, op, next, end),
-            Group::Decimal => decimal_apart(cpu, space, code, op, next, end),
-            _ => carry_out_any(cpu, space, io, code, next, end),
-        },
+        _ => carry_out_apart(cpu, space, io, code, None, end),
     }
 }
 
-/// The same for the subject of the EX at the address.
-#[inline(never)]
-fn carry_out_subject<P: Space>(
+/// Carries out an instruction that no EX executes. Where the task has ended `end` tells how. The updated address is found from
+/// the address and a number that is known here, so that it needn't wait for the instruction to be loaded.
+#[inline(always)]
+fn carry_out<P: Space>(
     cpu: &mut Cpu,
     space: &mut P,
     io: &mut TaskIo,
     code: &Code,
-    ex: Addr,
     end: &mut Ending,
 ) -> Told
     ensures memory { P.memory space.new ≡ P.memory space.old }
     ensures effect { effect_of cpu.new (P.bytes space.new) io.new (next_of result end.new) ≡
-        effect (P.memory space.old) (machine_of cpu.old (P.bytes space.old)) io.old code.now (op_of (first_half code.now)) (updated code.now (Some ex)) (link_code code.now (Some ex)) }
+        effect (P.memory space.old) (machine_of cpu.old (P.bytes space.old)) io.old code.now (op_of (first_half code.now)) (updated code.now None) (link_code code.now None) }
 {
-    let op = op_of(code.first_half());
-    let next = updated(code, &Some(ex));
-    match group_of(op) {
-        Group::Branch => branch_here(cpu, code, op, next, link_code(code, &Some(ex))),
-        _ => carry_out_any(cpu, space, io, code, next, end),
+    let at = cpu.at();
+    if code.at != at {
+        carry_out_apart(cpu, space, io, code, None, end)
+    } else if code.len == 2 {
+        carry_out_short(cpu, space, io, code, at.plus(2), end)
+    } else if code.len == 4 {
+        carry_out_long(cpu, space, io, code, at.plus(4), end)
+    } else {
+        carry_out_apart(cpu, space, io, code, None, end)
     }
 }
 
@@ -368,7 +388,7 @@ pub fn execute<P: Space>(
     let mut end = Ending::Spent;
     let told = match ex {
         None => carry_out(cpu, space, io, code, &mut end),
-        Some(at) => carry_out_subject(cpu, space, io, code, at, &mut end),
+        Some(_) => carry_out_apart(cpu, space, io, code, ex, &mut end),
     };
     match told {
         Told::GoesOn => Next::On,

@@ -48,13 +48,10 @@ pub fn sign_code(z: i128) -> u8
     ensures value { result ≡ sign_code z }
     ensures below { result ≤ 2 }
 {
-    if z == 0 {
-        0
-    } else if z < 0 {
-        1
-    } else {
-        2
-    }
+    // By the outcomes of two comparisons, so that it takes no branch.
+    let low = if z < 0 { 1 } else { 0 };
+    let high = if z > 0 { 2 } else { 0 };
+    low + high
 }
 
 /// The halfword at a distance into an operand that was tested, unsigned.

@@ -1,5 +1,5 @@
 -- What fetches, marks and lifts leave of the tie of pass and control.
-use Rattle.std.proofs.Common.{◌≡◌, ℕ, ◌+◌, ◌%◌, ◌≤◌, Bool, true, ◌&&◌, nat_eq, is_some, unwrap_or, refl, ◌∙◌, arith}
+use Rattle.std.proofs.Common.{◌≡◌, ℕ, ◌+◌, ◌%◌, ◌≤◌, Bool, true, ◌&&◌, nat_eq, is_some, unwrap_or, List, refl, ◌∙◌, arith}
 use Rattle.cov_base.specs.declared.facts.Fact.{Fact}
 use Rattle.module_area.specs.PlanView.{PlanView}
 use Rattle.module_area.specs.Notes.{Notes, calls, is_working}
@@ -9,7 +9,8 @@ use Rattle.module_area.proofs.TiedLemmas.{tied_same}
 use Rattle.svc_monitor.specs.declared.first.Met.{Met}
 use Rattle.svc_monitor.specs.declared.first.Met.TheVariants.{Plain, Free, Trap}
 use Rattle.svc_monitor.specs.First.{IsMet}
-use Rattle.svc_monitor.specs.Settled.{Settles, Shows}
+use Rattle.svc_monitor.specs.Settled.{Settles, Shows, Sees}
+use Rattle.module_area.specs.declared.places.Place.{Place}
 use Rattle.svc_monitor.proofs.NotesLemmas.{Adds, Adds-settled}
 
 -- the pass is the same task's with the same numbers, has the same last tags, and has made at most so many calls more
@@ -40,6 +41,9 @@ IsLater-trans j k a b c x y = record { last = y.last ∙ x.last; bears = y.bears
 -- an instruction's first halfword was met, and what it shows settled
 pub IsLater-settled : (plan : PlanView) (old mid new : Notes) (met : Met) (went : Bool) → IsMet plan old mid met → Shows plan mid new met went → IsLater 3 old new
 IsLater-settled plan old mid new met went m h = IsLater-trans 1 2 old mid new (IsLater-met plan old mid met m) (IsLater-shows plan mid new met went h)
+
+pub IsLater-sees : (plan : PlanView) (places : List Place) (old new : Notes) (a : ℕ) (went : Bool) → Sees plan places old new a went → IsLater 3 old new
+IsLater-sees plan places old new a went h = IsLater-settled plan old h.mid new h.met went h.is_met h.shows
 
 -- the pass of the same task with the same numbers works likewise
 pub same_working : (old new : Notes) → new.bears ≡ old.bears → new.numbers ≡ old.numbers → is_working new ≡ is_working old

@@ -12,8 +12,6 @@ use Rattle.brk_table.specs.Places.{TablesView, AreSeen}
 use Rattle.s370_decode.specs.declared.code.Code.{Code}
 use Rattle.s370_exec.specs.Fetch.{rest_tests, code_at}
 use Rattle.svc_monitor.specs.declared.first.Met.{Met}
-use Rattle.svc_monitor.specs.declared.instruction.Behind.{Behind}
-use Rattle.svc_monitor.specs.declared.instruction.Behind.TheVariants.{Kept, Fetched, Refused}
 use Rattle.svc_monitor.specs.declared.first.Met.TheVariants.{Plain, Free, Trap}
 
 -- the area is over the places of these tables, and the memory shows them as the tables keep them
@@ -37,14 +35,6 @@ half_of (Trap p cell h) = h
 -- the whole instruction at the address, none of whose later halfwords is refused
 abbrev pub IsWhole : Memory → List ℕ → ℕ → ℕ → Code → Type 0
 IsWhole m bytes a h c = (rest_tests m a (length_of h) ≡ None) × (c ≡ code_at m bytes a h)
-
--- what was fetched behind a first halfword: nothing where a place begins, else the instruction or the first refusal
-abbrev pub IsBehind : Memory → List ℕ → ℕ → Met → Behind → Type 0
-IsBehind m bytes a (Plain h) Kept = ⊥
-IsBehind m bytes a (Plain h) (Fetched c) = IsWhole m bytes a h c
-IsBehind m bytes a (Plain h) (Refused e) = rest_tests m a (length_of h) ≡ Some e
-IsBehind m bytes a (Free p h) b = b ≡ Kept
-IsBehind m bytes a (Trap p cell h) b = b ≡ Kept
 
 -- no place begins at the address, or the one that was met
 abbrev pub IsPlaced : List Place → ℕ → Met → Type 0

@@ -37,7 +37,8 @@ impl Met {
     }
 }
 
-fn is_breakpoint(cell: Cell) -> bool
+/// Whether the cell's halfword is the breakpoint.
+pub(crate) fn is_breakpoint(cell: Cell) -> bool
     ensures { result ≡ nat_eq cell.half breakpoint }
 {
     cell.half == BREAKPOINT

@@ -1,6 +1,6 @@
 use Rattle.std.proofs.Common.{rules}
 use Rattle.s370_exec.specs.Effects.{effect}
-use Rattle.s370_exec.proofs.instruction.carry_out.Goals as goal
+use Rattle.s370_exec.proofs.instruction.carry_out_short.Goals as goal
 
 pub returns-in-LR-clause-effect : goal.returns-in-LR-clause-effect
 unfolding effect
@@ -21,10 +21,6 @@ returns-in-LPR-clause-effect g c = search rules
 pub returns-in-LNR-clause-effect : goal.returns-in-LNR-clause-effect
 unfolding effect
 returns-in-LNR-clause-effect g c = search rules
-
-pub returns-in-LA-clause-effect : goal.returns-in-LA-clause-effect
-unfolding effect
-returns-in-LA-clause-effect g c = search rules
 
 pub returns-in-AR-clause-effect : goal.returns-in-AR-clause-effect
 unfolding effect
