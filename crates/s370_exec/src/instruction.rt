@@ -13,8 +13,8 @@ ghost use Rattle.s370_exec.specs.Effects.{effect, effect_of, next_of, is_complet
 use crate::calls::task_call;
 use crate::stored::{
     add_half_apart, add_logical_word_apart, add_word_apart, compare_half_apart, compare_word_apart,
-    load_half_apart, store_half_apart, subtract_half_apart, subtract_logical_word_apart,
-    subtract_word_apart,
+    load_half_apart, load_word_apart, store_half_apart, store_word_apart, subtract_half_apart,
+    subtract_logical_word_apart, subtract_word_apart,
 };
 use cov_base::Addr;
 use s370_branch::branch;
@@ -23,7 +23,7 @@ use s370_decode::{Code, Group, Op, group_of, op_of};
 use s370_edit::edit;
 use s370_fixed::{
     add_logical_register, add_register, compare_register, fixed, load_address, load_and_test,
-    load_complement, load_negative, load_positive, load_register, load_word, store_word,
+    load_complement, load_negative, load_positive, load_register,
     subtract_logical_register, subtract_register,
 };
 use s370_logic::logic;
@@ -310,14 +310,8 @@ fn carry_out_long<P: Space>(
             let n = load_address(cpu, space, code);
             onward(cpu, next, n, end)
         }
-        Op::L => {
-            let n = load_word(cpu, space, code);
-            onward(cpu, next, n, end)
-        }
-        Op::ST => {
-            let n = store_word(cpu, space, code);
-            onward(cpu, next, n, end)
-        }
+        Op::L => load_word_apart(cpu, space, code, next, end),
+        Op::ST => store_word_apart(cpu, space, code, next, end),
         Op::LH => load_half_apart(cpu, space, code, next, end),
         Op::STH => store_half_apart(cpu, space, code, next, end),
         Op::A => add_word_apart(cpu, space, code, next, end),
@@ -370,6 +364,14 @@ fn ended(end: Ending) -> Next
     Next::Ended(end)
 }
 
+/// The same in the place where it is called, so that its room is not cleared where a task goes on.
+#[inline(always)]
+fn how_ended(end: &Ending) -> Next
+    ensures { result ≡ Next.Ended end.now }
+{
+    ended(*end)
+}
+
 /// Executes an instruction that is no EX and whose length is that of its first halfword, under the order of tests
 /// from the operation on; `ex` is the address of the EX that executes it.
 #[inline(always)]
@@ -392,6 +394,6 @@ pub fn execute<P: Space>(
     };
     match told {
         Told::GoesOn => Next::On,
-        Told::HasEnded => ended(end),
+        Told::HasEnded => how_ended(&end),
     }
 }

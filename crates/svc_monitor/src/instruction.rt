@@ -52,6 +52,7 @@ fn show<C: Cells>(cells: &C, pass: &mut C::Pass, tables: &Tables, met: Met, cpu:
 /// Executes the subject of an EX that was begun, and makes its visit. Code 6 exactly at an odd address, else code 5
 /// exactly where its first halfword is inaccessible, else code 3 exactly where it is itself EX, of which no fact is
 /// marked. Before what it does a session is opened or closed where it is SVC 4 or 5, by its number after the OR.
+#[inline(never)]
 fn step_subject<C: Cells, P: Space>(
     cells: &C,
     pass: &mut C::Pass,
@@ -90,6 +91,37 @@ fn step_subject<C: Cells, P: Space>(
     show(cells, pass, tables, met, cpu, &subject);
     answer(cells, pass, plan, control, subject.first_half());
     execute(cpu, space, io, &subject, Some(ex.at))
+}
+
+/// The same in the place where it is called, so that the room of its answer is not cleared where there is no EX.
+#[inline(always)]
+fn step_subject_here<C: Cells, P: Space>(
+    cells: &C,
+    pass: &mut C::Pass,
+    tables: &Tables,
+    cpu: &mut Cpu,
+    space: &mut P,
+    io: &mut TaskIo,
+    ex: &Code,
+    plan: &Plan,
+    control: &mut Control,
+) -> Next
+    requires area { C.is_pass cells.now pass.old }
+    requires plan { C.plan cells.now ≡ plan.now }
+    requires over { IsOver (C.plan cells.now) (P.memory space.old) tables.now }
+    requires room { calls (C.notes pass.old) < 2 ^ 61 + 2 ^ 8 }
+    requires working { is_working (C.notes pass.old) ≡ true }
+    requires tied { IsTied (C.plan cells.now) (C.notes pass.old) control.old }
+    ensures area { C.is_pass cells.now pass.new }
+    ensures tied { IsTied (C.plan cells.now) (C.notes pass.new) control.new }
+    ensures calls { calls (C.notes pass.new) ≤ calls (C.notes pass.old) + 3 + PLACE_LIMIT }
+    ensures control { (d : ℕ) → control.new ≡ control_after control.old (subject_call (P.memory space.old) (state_of cpu.old (P.bytes space.old) io.old d) ex.now) }
+    ensures memory { P.memory space.new ≡ P.memory space.old }
+    ensures state { (d : ℕ) → (subject_step (P.memory space.old) (state_of cpu.old (P.bytes space.old) io.old d) ex.now).state ≡ state_of cpu.new (P.bytes space.new) io.new (d + 1) }
+    ensures next { (d : ℕ) → (subject_step (P.memory space.old) (state_of cpu.old (P.bytes space.old) io.old d) ex.now).next ≡ result }
+    ensures turns { (d : ℕ) → Turns (C.plan cells.now) (C.notes pass.old) (C.notes pass.new) (subject_step (P.memory space.old) (state_of cpu.old (P.bytes space.old) io.old d) ex.now).visits control.old (subject_call (P.memory space.old) (state_of cpu.old (P.bytes space.old) io.old d) ex.now) }
+{
+    step_subject(cells, pass, tables, cpu, space, io, ex, plan, control)
 }
 
 /// Fetches the place's cell, and settles a trap by what the instruction does as it is executed.
@@ -149,7 +181,7 @@ fn carry_on<C: Cells, P: Space>(
 {
     let half = code.first_half();
     if is_execute(half) {
-        return step_subject(cells, pass, tables, cpu, space, io, code, plan, control);
+        return step_subject_here(cells, pass, tables, cpu, space, io, code, plan, control);
     }
     answer(cells, pass, plan, control, half);
     execute(cpu, space, io, code, None)
@@ -193,6 +225,37 @@ fn step_far<C: Cells, P: Space>(
         Err(e) => return Next::Ended(e),
     };
     carry_on(cells, pass, tables, cpu, space, io, plan, control, &code)
+}
+
+/// The same in the place where it is called, so that the room of its answer is not cleared at places.
+#[inline(always)]
+fn step_far_here<C: Cells, P: Space>(
+    cells: &C,
+    pass: &mut C::Pass,
+    tables: &Tables,
+    cpu: &mut Cpu,
+    space: &mut P,
+    io: &mut TaskIo,
+    plan: &Plan,
+    control: &mut Control,
+) -> Next
+    requires area { C.is_pass cells.now pass.old }
+    requires plan { C.plan cells.now ≡ plan.now }
+    requires over { IsOver (C.plan cells.now) (P.memory space.old) tables.now }
+    requires room { calls (C.notes pass.old) < 2 ^ 61 }
+    requires working { is_working (C.notes pass.old) ≡ true }
+    requires tied { IsTied (C.plan cells.now) (C.notes pass.old) control.old }
+    requires no_place { is_place tables.now.places cpu.old.ia ≡ false }
+    ensures area { C.is_pass cells.now pass.new }
+    ensures tied { IsTied (C.plan cells.now) (C.notes pass.new) control.new }
+    ensures calls { calls (C.notes pass.new) ≤ calls (C.notes pass.old) + 6 + PLACE_LIMIT }
+    ensures control { (d : ℕ) → control.new ≡ control_after control.old (call_of (P.memory space.old) (state_of cpu.old (P.bytes space.old) io.old d)) }
+    ensures memory { P.memory space.new ≡ P.memory space.old }
+    ensures state { (d : ℕ) → (solo_step (P.memory space.old) (state_of cpu.old (P.bytes space.old) io.old d)).state ≡ state_of cpu.new (P.bytes space.new) io.new (d + 1) }
+    ensures next { (d : ℕ) → (solo_step (P.memory space.old) (state_of cpu.old (P.bytes space.old) io.old d)).next ≡ result }
+    ensures turns { (d : ℕ) → Turns (C.plan cells.now) (C.notes pass.old) (C.notes pass.new) (solo_step (P.memory space.old) (state_of cpu.old (P.bytes space.old) io.old d)).visits control.old (call_of (P.memory space.old) (state_of cpu.old (P.bytes space.old) io.old d)) }
+{
+    step_far(cells, pass, tables, cpu, space, io, plan, control)
 }
 
 /// One instruction where the place begins. The instruction is read where it is kept: a copy would wait for the parts that were
@@ -266,6 +329,6 @@ pub fn step<C: Cells, P: Space>(
         Some(place) => {
             step_placed(cells, pass, tables, cpu, space, io, plan, control, place)
         }
-        None => step_far(cells, pass, tables, cpu, space, io, plan, control),
+        None => step_far_here(cells, pass, tables, cpu, space, io, plan, control),
     }
 }

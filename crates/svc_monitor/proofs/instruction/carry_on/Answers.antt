@@ -19,7 +19,7 @@ use Rattle.svc_monitor.proofs.instruction.carry_on.Given as given
 use Rattle.svc_monitor.proofs.instruction.carry_on.Goals as goal
 
 -- an EX: its own visit, and those of its subject
-executes : (g : given.Over) (c : goal.After-step_subject g) (d : ℕ) →
+executes : (g : given.Over) (c : goal.After-step_subject_here g) (d : ℕ) →
     let s = state_of c.args.cpu.now (g.P.Space.bytes c.args.space.now) c.args.io.now d in
     solo_step (g.P.Space.memory c.args.space.now) s
     ≡ behind (visit s c.args.cpu.now.ia true (goes (op_of (first_half c.args.code.now)) c.args.cpu.now c.args.code.now) false)
@@ -30,12 +30,12 @@ executes g c d =
     (is_execute_same _ _ _ (half_at (g.P.Space.memory c.args.space.now) (g.P.Space.bytes c.args.space.now) c.args.cpu.now.ia) _ _ _ c.requires.whole c.first_half-half.ensures (sym c.is_execute.ensures ∙ c.if-is_execute.true))
 
 pub returns-then-is_execute-clause-state : goal.returns-then-is_execute-clause-state
-returns-then-is_execute-clause-state g c = λ d. ap (λ r. r.state) (executes g c d) ∙ c.step_subject.ensures.state d
+returns-then-is_execute-clause-state g c = λ d. ap (λ r. r.state) (executes g c d) ∙ c.step_subject_here.ensures.state d
 
 pub returns-then-is_execute-clause-next : goal.returns-then-is_execute-clause-next
-returns-then-is_execute-clause-next g c = λ d. ap (λ r. r.next) (executes g c d) ∙ c.step_subject.ensures.next d
+returns-then-is_execute-clause-next g c = λ d. ap (λ r. r.next) (executes g c d) ∙ c.step_subject_here.ensures.next d
 
-called_subject : (g : given.Over) (c : goal.After-step_subject g) (d : ℕ) →
+called_subject : (g : given.Over) (c : goal.After-step_subject_here g) (d : ℕ) →
     let s = state_of c.args.cpu.now (g.P.Space.bytes c.args.space.now) c.args.io.now d in
     call_of (g.P.Space.memory c.args.space.now) s ≡ subject_call (g.P.Space.memory c.args.space.now) s c.args.code.now
 called_subject g c d =
@@ -44,14 +44,14 @@ called_subject g c d =
     (is_execute_same _ _ _ (half_at (g.P.Space.memory c.args.space.now) (g.P.Space.bytes c.args.space.now) c.args.cpu.now.ia) _ _ _ c.requires.whole c.first_half-half.ensures (sym c.is_execute.ensures ∙ c.if-is_execute.true))
 
 pub returns-then-is_execute-clause-control : goal.returns-then-is_execute-clause-control
-returns-then-is_execute-clause-control g c = λ d. rw (called_subject g c d) (c.step_subject.ensures.control d)
+returns-then-is_execute-clause-control g c = λ d. rw (called_subject g c d) (c.step_subject_here.ensures.control d)
 
 pub returns-then-is_execute-clause-turns : goal.returns-then-is_execute-clause-turns
 returns-then-is_execute-clause-turns g c = λ before d sees.
     let s = state_of c.args.cpu.now (g.P.Space.bytes c.args.space.now) c.args.io.now d in
     let went = goes (op_of (first_half c.args.code.now)) c.args.cpu.now c.args.code.now in
     let own = Makes-begun _ c.args.tables.now.places _ sees.mid _ sees.met s c.args.cpu.now.ia went false c.requires.over.same sees.placed sees.is_met sees.shows in
-    rw (executes g c d, called_subject g c d) (Turns-behind _ _ _ _ (visit s c.args.cpu.now.ia true went false ∷ []) _ _ _ own (c.step_subject.ensures.turns d))
+    rw (executes g c d, called_subject g c d) (Turns-behind _ _ _ _ (visit s c.args.cpu.now.ia true went false ∷ []) _ _ _ own (c.step_subject_here.ensures.turns d))
 
 pub execute-requires : goal.execute-requires
 execute-requires g c = record { subject = subst (λ x. is_execute x ≡ false) c.first_half-half.ensures (sym c.is_execute.ensures ∙ c.if-is_execute.false) }
