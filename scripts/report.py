@@ -11,7 +11,15 @@ from listing import heading_of, object_code
 TITLES = (b"COVERAGE REPORT", b"COVERAGE REPLAY", b"COVERAGE SHOW", b"COVERAGE COUNT")
 NAME = rb"([A-Z@#$][A-Z@#$0-9]{0,7})"
 ENDING = rb"(RETURNED|EXIT|ABEND [0-9A-F]|BADSVC [0-9]{1,3}|TOUCHED [0-9A-F]{6}|OUTFULL|SPENT|RUNNING)"
-EVENT = re.compile(rb"EVENT [0-9]{1,9} (?:FETCH|MARK|LIFT|DO|GO) .+")
+# What the line of an event tells behind its number.
+EVENTS = (
+    rb"FETCH NAME TAG [0-9]{1,9} HALF [0-9A-F]{4}",
+    rb"MARK NAME OLD (?:-|R|W|S|WS)",
+    rb"LIFT NAME (?:NOT )?TAKEN",
+    rb"(?:PLANT|CLOSE) NAME NAME [0-9A-F]{6}",
+    rb"(?:DO|GO) NAME",
+)
+EVENT = re.compile(rb"EVENT ([0-9]{1,9}) (?:" + b"|".join(EVENTS).replace(b"NAME", NAME) + b")")
 TASK = re.compile(rb"TASK " + NAME + b" " + ENDING + rb" COUNT ([0-9]{1,9}) CC ([0-3])")
 REGISTERS = re.compile(rb"R[08]((?: [0-9A-F]{8}){8})")
 OUTPUT = re.compile(rb"OUT ([0-9]{1,9})")
@@ -149,8 +157,8 @@ class Reader:
         title = self.look()
         report = Report(title.decode())
         self.at += 1
-        while title == TITLES[1] and (event := self.next_if(EVENT)):
-            report.events.append(event[0].decode("ascii", "replace"))
+        while title == TITLES[1] and self.look().startswith(b"EVENT "):
+            report.events.append(self.event(len(report.events) + 1))
         while title != TITLES[2] and self.look().startswith(b"TASK "):
             report.tasks.append(self.task())
         while self.look() != b"END":
@@ -169,6 +177,12 @@ class Reader:
         for module, counted in zip(modules_of(report), modules_of(counts)):
             for place, line in zip(places_of(module), counted.lines):
                 place.counts = line.counts
+
+    def event(self, number: int) -> str:
+        found = self.next(EVENT, "line of an event")
+        if int(found[1]) != number:
+            self.refuse(f"no event of the number {number}: {shown(found[0])}", self.at - 1)
+        return found[0].decode()
 
     def task(self) -> Task:
         head = self.next(TASK, "line of a task")
