@@ -1,4 +1,4 @@
-"""The scripts that read a report, page and lcov; the words and streams of all scripts; and the examples."""
+"""The scripts that read a report, page and lcov; the words and streams of all scripts; what the help says; and the examples."""
 from __future__ import annotations
 
 import functools
@@ -13,7 +13,7 @@ from typing import Callable
 
 from harness import TOP, Tally, coverage, equal, folder, refused, run, run_checks, well
 from jobs import (
-    COUNTED, FIRST, FIRST_REPORT, FIRST_RESULT, HEADING, OPENED_JOB, OPENED_LINES, OPENED_REPLAY, OPENED_REPORT, WIDE_HEADING, Program,
+    COUNTED, FIRST, FIRST_REPORT, FIRST_RESULT, HEADING, OPENED_JOB, OPENED_LINES, OPENED_REPLAY, OPENED_REPORT, USAGE, WIDE_HEADING, Program,
     Result,
 )
 
@@ -289,6 +289,45 @@ def words_and_streams() -> None:
     refused(coverage("lcov", "/dev/null/x", data=FIRST_REPORT), 6, "/dev/null/x")
 
 
+# the help
+
+
+def section(path: str, title: str) -> str:
+    """A section of a document, up to the next title."""
+    with open(f"{TOP}/{path}", encoding="utf-8") as file:
+        return file.read().partition(f"## {title}\n")[2].partition("\n## ")[0]
+
+
+def usages_of_scripts() -> list[str]:
+    """What the first line of each script's own help says behind `coverage`."""
+    found = []
+    for name in sorted(os.listdir(f"{TOP}/scripts")):
+        if name.endswith(".py"):
+            with open(f"{TOP}/scripts/{name}", encoding="utf-8") as file:
+                found += re.findall(r"^usage: coverage (.*)$", file.read(), re.M)
+    return found
+
+
+def commands_in_help() -> None:
+    """coverage: the help and docs/REPORT.md have the commands of the program's usage line, and the help those of the scripts"""
+    own, scripts = USAGE.decode().strip().removeprefix("USAGE: ").split(" | "), usages_of_scripts()
+    names = [it.split()[0] for it in scripts]
+    text = well(coverage("--help")).output.decode()
+    usages = re.findall(r"^(?:usage:|      ) coverage (.*)$", text, re.M)
+    equal(sorted(it for it in usages if it.split()[0] in names), sorted(scripts))
+    equal(sorted(re.sub(r" [<>].*", "", it) for it in usages if it.split()[0] not in names), sorted(own))
+    words = [it.split()[0] for it in usages]
+    equal(re.findall(r"^  ([a-z]+) +[a-z]", text, re.M), words)
+    for name, usage in zip(names, scripts):
+        equal(well(coverage(name, "--help")).output.decode().splitlines()[0], f"usage: coverage {usage}")
+    equal(sorted(re.findall(r"^\| `([a-z]+[A-Z ]*)` \|", section("docs/REPORT.md", "Words"), re.M)), sorted(own))
+    assert f"`{USAGE.decode().strip()}`" in section("docs/REPORT.md", "Exit status").replace("\n", " "), "docs/REPORT.md has another usage line"
+    with open(f"{TOP}/README.md", encoding="utf-8") as file:
+        readme = file.read()
+    for word in words:
+        assert re.search(rf"`{word}[` ]|\./coverage {word} ", readme), f"README.md lacks {word}"
+
+
 # the examples
 
 
@@ -426,5 +465,5 @@ def in_browser(browser: str) -> None:
 
 CHECKS = [
     pages, page_escapes, replays, show_page, counted_pages, early_pages, bad_reports, lcov_files, lcov_counts, words_and_streams,
-    examples_are_made, orders, palindromes, tariff,
+    commands_in_help, examples_are_made, orders, palindromes, tariff,
 ]
