@@ -1,4 +1,4 @@
-"""The scripts that read a report, page and lcov; the words and streams of all scripts; what the help says; and the examples."""
+"""The scripts that read a report, page and lcov; the words and streams of all scripts; and the examples."""
 from __future__ import annotations
 
 import functools
@@ -6,15 +6,16 @@ import itertools
 import os
 import re
 import shutil
+import signal
 import struct
+import subprocess
 import zlib
 from html.parser import HTMLParser
 from typing import Callable
 
-from harness import TOP, Tally, coverage, equal, folder, refused, run, run_checks, well
+from harness import COVERAGE, SECONDS, TOP, Tally, coverage, equal, folder, refused, run, run_checks, well
 from jobs import (
-    COUNTED, FIRST, FIRST_REPORT, FIRST_RESULT, HEADING, OPENED_JOB, OPENED_LINES, OPENED_REPLAY, OPENED_REPORT, USAGE, WIDE_HEADING, Program,
-    Result,
+    COUNTED, FIRST, FIRST_REPORT, FIRST_RESULT, HEADING, OPENED_LINES, OPENED_REPLAY, OPENED_REPORT, WIDE_HEADING, Program, Result,
 )
 
 EXAMPLES = f"{TOP}/examples"
@@ -177,7 +178,6 @@ def replays() -> None:
         text = Page(well(coverage("page", data=report)).output.decode()).text
         assert "\n".join(told) in text and f"{len(told)} events of the schedule" in text, text
     equal(traced(OPENED_REPLAY), traced(OPENED_REPORT))
-    equal(well(coverage("replay", data=OPENED_JOB)).output, OPENED_REPLAY)
 
 
 def show_page() -> None:
@@ -289,43 +289,17 @@ def words_and_streams() -> None:
     refused(coverage("lcov", "/dev/null/x", data=FIRST_REPORT), 6, "/dev/null/x")
 
 
-# the help
-
-
-def section(path: str, title: str) -> str:
-    """A section of a document, up to the next title."""
-    with open(f"{TOP}/{path}", encoding="utf-8") as file:
-        return file.read().partition(f"## {title}\n")[2].partition("\n## ")[0]
-
-
-def usages_of_scripts() -> list[str]:
-    """What the first line of each script's own help says behind `coverage`."""
-    found = []
-    for name in sorted(os.listdir(f"{TOP}/scripts")):
-        if name.endswith(".py"):
-            with open(f"{TOP}/scripts/{name}", encoding="utf-8") as file:
-                found += re.findall(r"^usage: coverage (.*)$", file.read(), re.M)
-    return found
-
-
-def commands_in_help() -> None:
-    """coverage: the help and docs/REPORT.md have the commands of the program's usage line, and the help those of the scripts"""
-    own, scripts = USAGE.decode().strip().removeprefix("USAGE: ").split(" | "), usages_of_scripts()
-    names = [it.split()[0] for it in scripts]
-    text = well(coverage("--help")).output.decode()
-    usages = re.findall(r"^(?:usage:|      ) coverage (.*)$", text, re.M)
-    equal(sorted(it for it in usages if it.split()[0] in names), sorted(scripts))
-    equal(sorted(re.sub(r" [<>].*", "", it) for it in usages if it.split()[0] not in names), sorted(own))
-    words = [it.split()[0] for it in usages]
-    equal(re.findall(r"^  ([a-z]+) +[a-z]", text, re.M), words)
-    for name, usage in zip(names, scripts):
-        equal(well(coverage(name, "--help")).output.decode().splitlines()[0], f"usage: coverage {usage}")
-    equal(sorted(re.findall(r"^\| `([a-z]+[A-Z ]*)` \|", section("docs/REPORT.md", "Words"), re.M)), sorted(own))
-    assert f"`{USAGE.decode().strip()}`" in section("docs/REPORT.md", "Exit status").replace("\n", " "), "docs/REPORT.md has another usage line"
-    with open(f"{TOP}/README.md", encoding="utf-8") as file:
-        readme = file.read()
-    for word in words:
-        assert re.search(rf"`{word}[` ]|\./coverage {word} ", readme), f"README.md lacks {word}"
+def interrupted() -> None:
+    """page: an interrupt ends it with 130, while it reads"""
+    before = signal.signal(signal.SIGINT, signal.default_int_handler)
+    pipe = subprocess.PIPE
+    with subprocess.Popen([COVERAGE, "page"], stdin=pipe, stdout=pipe, stderr=pipe, start_new_session=True) as started:
+        # More than a pipe holds, so that it is read from by then.
+        os.write(started.stdin.fileno() if started.stdin else -1, FIRST_REPORT * 500)
+        started.send_signal(signal.SIGINT)
+        output, error = started.communicate(timeout=SECONDS)
+    signal.signal(signal.SIGINT, before)
+    equal((started.returncode, output, error), (130, b"", b""))
 
 
 # the examples
@@ -347,6 +321,17 @@ def examples_are_made() -> None:
                 file.write(well(coverage("module", module, base, f"{at}/object", f"{at}/listing")).output)
             with open(f"{EXAMPLES}/{name}.job", "rb") as file:
                 equal(well(coverage("job", f"{at}/cards", f"{EXAMPLES}/{name}.tasks")).output == file.read(), True)
+
+
+def example_jobs() -> None:
+    """examples: each job runs, each schedule is played, and page takes what comes"""
+    commands = {".job": "run", ".replay": "replay"}
+    found = [it for it in os.listdir(EXAMPLES) if os.path.splitext(it)[1] in commands]
+    equal(sorted({os.path.splitext(it)[1] for it in found}), sorted(commands))
+    for name in found:
+        with open(f"{EXAMPLES}/{name}", "rb") as file:
+            ran = well(coverage(commands[os.path.splitext(name)[1]], data=file.read()))
+        well(coverage("page", data=ran.output))
 
 
 def outputs_of(report: bytes) -> list[str]:
@@ -465,5 +450,5 @@ def in_browser(browser: str) -> None:
 
 CHECKS = [
     pages, page_escapes, replays, show_page, counted_pages, early_pages, bad_reports, lcov_files, lcov_counts, words_and_streams,
-    commands_in_help, examples_are_made, orders, palindromes, tariff,
+    interrupted, examples_are_made, example_jobs, orders, palindromes, tariff,
 ]
