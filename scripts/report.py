@@ -160,7 +160,7 @@ class Reader:
         while title == TITLES[1] and self.look().startswith(b"EVENT "):
             report.events.append(self.event(len(report.events) + 1))
         while title != TITLES[2] and self.look().startswith(b"TASK "):
-            report.tasks.append(self.task())
+            report.tasks.append(self.task(title))
         while self.look() != b"END":
             report.sessions.append(self.session(title))
         if title == TITLES[2] and len(report.sessions) != 1:
@@ -184,8 +184,10 @@ class Reader:
             self.refuse(f"no event of the number {number}: {shown(found[0])}", self.at - 1)
         return found[0].decode()
 
-    def task(self) -> Task:
+    def task(self, title: bytes) -> Task:
         head = self.next(TASK, "line of a task")
+        if head[2] == b"RUNNING" and title != TITLES[1]:
+            self.refuse(f"a task that hasn't ended: {shown(head[0])}", self.at - 1)
         registers = [self.next(REGISTERS, "line of registers")[1].decode().split() for _ in range(2)]
         count = int(self.next(OUTPUT, "line of an output")[1])
         output = b""

@@ -50,6 +50,7 @@ def replayed(*lines: str) -> bytes:
     return FIRST_REPORT.replace(b"COVERAGE REPORT", "\n".join(["COVERAGE REPLAY", *lines]).encode())
 
 
+RUNNING = replayed().replace(b"RETURNED", b"RUNNING")
 BAD_REPORTS = [
     (b"", "line 1", "nothing"),
     # What other commands write.
@@ -61,6 +62,8 @@ BAD_REPORTS = [
     *[(replayed(f"EVENT {it}"), "line 2", "event") for it in NO_EVENTS],
     (replayed("EVENT 1 GO A", "EVENT 3 GO B"), "line 3", "event"),
     (replayed("EVENT 1 GO A").replace(b"REPLAY", b"REPORT"), "line 2", "EVENT 1 GO A"),
+    (RUNNING.replace(b"REPLAY", b"REPORT"), "line 2", "RUNNING"),
+    (COUNTS.replace(b"RETURNED", b"RUNNING"), "line 2", "RUNNING"),
     (DRAINED.replace(b"DRAINED COUNT 1234\n", b"DRAINED COUNT 1234\nNOT DRAINED\n"), "line 13", "NOT DRAINED"),
     (DRAINED.replace(b"1234", b"-"), "line 12", "DRAINED COUNT -"),
     (COUNTED.shown("V:", 3).replace(b"END\n", b"NOT DRAINED\nEND\n"), "line 7", "NOT DRAINED"),
@@ -174,6 +177,7 @@ def replays() -> None:
         keys = re.findall(r"`EVENT n ([A-Z]+) ", file.read())
     equal(sorted(set(keys)), sorted({it.split()[0] for it in EVENTS}))
     lines = [f"EVENT {number} {it}" for number, it in enumerate(EVENTS, 1)]
+    assert "A RUNNING, 3 instructions" in Page(well(coverage("page", data=RUNNING)).output.decode()).text
     for report, told in ((OPENED_REPLAY, OPENED_LINES), (replayed(*lines), lines)):
         text = Page(well(coverage("page", data=report)).output.decode()).text
         assert "\n".join(told) in text and f"{len(told)} events of the schedule" in text, text
