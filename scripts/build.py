@@ -219,7 +219,7 @@ def make_built() -> None:
             return
         if os.path.lexists(STAMP):
             os.remove(STAMP)
-        say("building: proving the program and the crates below it, which takes minutes the first time")
+        say("building: proving the program and the crates below it, which takes some half an hour on four processors the first time")
         with open(LOG, "wb") as log:
             build(log)
 

@@ -17,15 +17,14 @@ class Columns:
     location: slice
     object_code: slice
     statement: slice
-    plus: int
     source: int
 
 
 NARROW = Columns(
-    b"Loc  Object Code    Addr1 Addr2  Stmt   Source Statement", slice(0, 6), slice(7, 21), slice(34, 39), 39, 40
+    b"Loc  Object Code    Addr1 Addr2  Stmt   Source Statement", slice(0, 6), slice(7, 21), slice(34, 39), 40
 )
 WIDE = Columns(
-    b"Loc    Object Code      Address1 Address2  Stmt   Source Statement", slice(0, 8), slice(9, 25), slice(44, 49), 49, 50
+    b"Loc    Object Code      Address1 Address2  Stmt   Source Statement", slice(0, 8), slice(9, 25), slice(44, 49), 50
 )
 HEADING_COLUMNS, LONGEST = (2, 3), 150
 NEW_LINES = re.compile(b"\x0d?[\x15\x25]")

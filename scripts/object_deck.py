@@ -12,7 +12,7 @@ from command import Fault
 from ebcdic import shown
 
 RECORD = 80
-KINDS = {0x00: "SD", 0x01: "LD", 0x02: "ER", 0x04: "PC", 0x05: "CM", 0x06: "XD", 0x0A: "WX"}
+KINDS = {0x00: "SD", 0x01: "LD", 0x02: "ER", 0x04: "PC", 0x05: "CM", 0x0A: "WX"}
 SECTIONS = ("SD", "PC", "CM")
 ITEM, ITEMS, MOST_DATA = 16, (16, 32, 48), 56
 NO_ITEM, LETTERS = (b"\x40\x40", b"\x00\x00"), (*range(0xC1, 0xCA), *range(0xD1, 0xDA), *range(0xE2, 0xEA))
@@ -122,7 +122,7 @@ def read_symbols(deck: Deck, place: str, record: bytes) -> None:
 def symbol_of(place: str, item: bytes) -> Symbol:
     """The symbol that an item of 16 bytes states."""
     name, kind = shown(item[:8]), KINDS.get(item[8])
-    if kind is None or kind == "XD":
+    if kind is None:
         raise Fault(place, f"the symbol {name or '(blank)'} is of type {item[8]:02X}, which is none of SD, LD, ER, PC, CM and WX")
     address = number(item[9:12])
     if kind in SECTIONS:
@@ -167,7 +167,7 @@ def text_of(path: str, deck: Deck, base: int) -> bytes:
     """The module of the deck at this base: its sections' text, each constant with the addresses that it stands for."""
     size = lay_out(path, deck)
     check_size(path, base, size)
-    addresses = addresses_of(path, deck, base)
+    addresses = addresses_of(deck, base)
     text, is_set = bytearray(size), bytearray(size)
     for piece in deck.texts:
         put(deck, piece, text, is_set)
@@ -218,7 +218,7 @@ def offset_in(piece: Piece, section: Symbol, length: int, what: str) -> int:
     return section.at + offset
 
 
-def addresses_of(path: str, deck: Deck, base: int) -> dict[int, int]:
+def addresses_of(deck: Deck, base: int) -> dict[int, int]:
     """What is added for each symbol: how far its section has moved, or where what it refers to stands."""
     defined: dict[str, int] = {}
     for symbol in deck.symbols.values():

@@ -56,7 +56,7 @@ def count_of(count: int, what: str) -> str:
     return f"{count:,} {what}{'' if count == 1 else 's'}"
 
 
-def counts_of(executed: int, places: int, facts: int, possible: int) -> str:
+def counts_in_words(executed: int, places: int, facts: int, possible: int) -> str:
     """The counts of a module, or of all, in words."""
     return f"{executed:,} of {count_of(places, 'place')} executed, {facts:,} of {count_of(possible, 'fact')} shown."
 
@@ -160,7 +160,7 @@ def module_part(session: Session, module: Module) -> str:
     counted = "<p>Behind each mark: how often it ran, or how often it branched and fell through.</p>\n" if width else ""
     return f"""<section id="{name}" aria-labelledby="{name}.title">
 <h2 id="{name}.title">{title}</h2>
-<p>{counts_of(module.executed, module.places, module.facts, module.possible)}</p>
+<p>{counts_in_words(module.executed, module.places, module.facts, module.possible)}</p>
 {drained(session)}{ranges(name, module)}
 {legend(module)}
 {counted}<div class="wide listing" tabindex="0" role="region" aria-label="Listing of {title}"><pre>{lines}</pre></div>
@@ -217,7 +217,7 @@ def whole(report: Report) -> str:
     whose = [count_of(len(report.sessions), "session")]
     if report.title != "COVERAGE SHOW":
         whose.append(count_of(len(report.tasks), "task"))
-    return f"{', '.join(whose)}: {counts_of(executed, places, facts, possible)}"
+    return f"{', '.join(whose)}: {counts_in_words(executed, places, facts, possible)}"
 
 
 def style() -> str:

@@ -11,7 +11,15 @@ from listing import heading_of, object_code
 TITLES = (b"COVERAGE REPORT", b"COVERAGE REPLAY", b"COVERAGE SHOW", b"COVERAGE COUNT")
 NAME = rb"([A-Z@#$][A-Z@#$0-9]{0,7})"
 ENDING = rb"(RETURNED|EXIT|ABEND [0-9A-F]|BADSVC [0-9]{1,3}|TOUCHED [0-9A-F]{6}|OUTFULL|SPENT|RUNNING)"
-EVENT = re.compile(rb"EVENT [0-9]{1,9} (?:FETCH|MARK|LIFT|DO|GO) .+")
+# What the line of an event tells behind its number.
+EVENTS = (
+    rb"FETCH NAME TAG [0-9]{1,9} HALF [0-9A-F]{4}",
+    rb"MARK NAME OLD (?:-|R|W|S|WS)",
+    rb"LIFT NAME (?:NOT )?TAKEN",
+    rb"(?:PLANT|CLOSE) NAME NAME [0-9A-F]{6}",
+    rb"(?:DO|GO) NAME",
+)
+EVENT = re.compile(rb"EVENT ([0-9]{1,9}) (?:" + b"|".join(EVENTS).replace(b"NAME", NAME) + b")")
 TASK = re.compile(rb"TASK " + NAME + b" " + ENDING + rb" COUNT ([0-9]{1,9}) CC ([0-3])")
 REGISTERS = re.compile(rb"R[08]((?: [0-9A-F]{8}){8})")
 OUTPUT = re.compile(rb"OUT ([0-9]{1,9})")
@@ -149,10 +157,10 @@ class Reader:
         title = self.look()
         report = Report(title.decode())
         self.at += 1
-        while title == TITLES[1] and (event := self.next_if(EVENT)):
-            report.events.append(event[0].decode("ascii", "replace"))
+        while title == TITLES[1] and self.look().startswith(b"EVENT "):
+            report.events.append(self.event(len(report.events) + 1))
         while title != TITLES[2] and self.look().startswith(b"TASK "):
-            report.tasks.append(self.task())
+            report.tasks.append(self.task(title))
         while self.look() != b"END":
             report.sessions.append(self.session(title))
         if title == TITLES[2] and len(report.sessions) != 1:
@@ -170,8 +178,16 @@ class Reader:
             for place, line in zip(places_of(module), counted.lines):
                 place.counts = line.counts
 
-    def task(self) -> Task:
+    def event(self, number: int) -> str:
+        found = self.next(EVENT, "line of an event")
+        if int(found[1]) != number:
+            self.refuse(f"no event of the number {number}: {shown(found[0])}", self.at - 1)
+        return found[0].decode()
+
+    def task(self, title: bytes) -> Task:
         head = self.next(TASK, "line of a task")
+        if head[2] == b"RUNNING" and title != TITLES[1]:
+            self.refuse(f"a task that hasn't ended: {shown(head[0])}", self.at - 1)
         registers = [self.next(REGISTERS, "line of registers")[1].decode().split() for _ in range(2)]
         count = int(self.next(OUTPUT, "line of an output")[1])
         output = b""

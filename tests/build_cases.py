@@ -25,6 +25,8 @@ chmod +x out/coverage_program
 exit 1
 """
 LIBRARY, PROGRAM = "proving low, crate 1 of 2", "proving coverage_program, crate 2 of 2"
+# How long the first build takes, wherever it is said.
+HOW_LONG = "some half an hour on four processors"
 
 
 class Copy:
@@ -111,6 +113,16 @@ def builds_once() -> None:
         os.remove(f"{it.at}/crates/low/src/lib.rt")
         it.run("run")
         equal(len(it.calls()), 6)
+
+
+def how_long() -> None:
+    """build: standard error, the help and the documents say the same of how long the first one takes"""
+    with copy() as it:
+        said = [it.run("run")[2], it.run("--help")[1]]
+    for name in ("README.md", "docs/CHANGING.md"):
+        with open(f"{TOP}/{name}", encoding="utf-8") as file:
+            said.append(file.read())
+    equal([HOW_LONG in it.replace("\n", " ") for it in said], [True] * len(said))
 
 
 def needs_no_build() -> None:
@@ -236,6 +248,6 @@ def is_kept() -> None:
 
 
 CHECKS = [
-    builds_once, needs_no_build, fails, no_toolchain, is_interrupted, half_a_program, waits, changes_meanwhile,
+    builds_once, how_long, needs_no_build, fails, no_toolchain, is_interrupted, half_a_program, waits, changes_meanwhile,
     on_terminal, is_kept,
 ]

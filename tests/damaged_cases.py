@@ -30,6 +30,11 @@ FROM_3 = "TASK A 100000 16 100 0\nREG 1 00000003\n"
 FIRSTS_FROM_3: model.Firsts = {0: {2: (0, 0, 0), 4: (0, 2, 0)}, 4: {1: (0, 3, 0)}}
 # How often each fact of it is met.
 COUNTS = {0: (1, 1), 4: (1,)}
+# SVC 4, BAL to the first job's instructions, SVC 5, SVC 4, SVC 5, and BR: the sixth and the eighth instruction close a session.
+OPENING = "TASK C 000000 16 100 0\nREG 1 00100000\nREG 13 00FFFFFE\nDATA 0 0A0445E010000A050A040A0507FD\n"
+OPENING_RESULT = Result("RETURNED", 9, 2, {1: 10, 13: 0xFFFFFE, 14: 0x80000006}, name="C", entry=0)
+# Of each session what its places have shown, and the instruction at which it was drained.
+SHOWN: list[tuple[dict[int, int], int]] = [(FIRST_FACTS, 6), ({}, 8)]
 # Each item with the line that tells of it.
 ITEMS = [
     (b"FETCH A", b"FETCH A TAG 1 HALF 0AFF"), (b"MARK A", b"MARK A OLD -"), (b"DO A", b"DO A"),
@@ -58,6 +63,11 @@ def job() -> bytes:
     return COUNTED.job(TASK).replace(b"BCT\n", b"BCT\r\n")
 
 
+def two_sessions() -> bytes:
+    """A job of a task that opens and closes a session around the module's instructions, and then another around nothing."""
+    return FIRST.job(OPENING).replace(b"SESSION S M\n", b"SESSION S1 BY C M\nSESSION S2 BY C M\n")
+
+
 def three_modules() -> bytes:
     """A job of a module whose listing has print control characters, of one whose listing is wide too, and of one that has none."""
     cards = ["COVERJOB 1"]
@@ -82,6 +92,12 @@ def done(result: Result) -> bytes:
 def run(data: bytes) -> bytes:
     (session,) = listed(data, True).sessions
     return b"COVERAGE REPORT\n" + done(FIRST_RESULT) + model.session_part(*session, FIRST_FACTS) + b"END\n"
+
+
+def early(data: bytes) -> bytes:
+    told = zip(listed(data, True).sessions, SHOWN)
+    parts = [model.session_part(*session, facts) + b"DRAINED COUNT %d\n" % count for session, (facts, count) in told]
+    return b"COVERAGE REPORT\n" + done(OPENING_RESULT) + b"".join(parts) + b"END\n"
 
 
 def marks(data: bytes) -> bytes:
@@ -149,7 +165,7 @@ def commands() -> list[Command]:
     return [
         Command(["run"], FIRST.job(), run),
         Command(["exits"], FIRST.job(), run),
-        Command(["early"], FIRST.job(), run),
+        Command(["early"], two_sessions(), early),
         Command(["count"], job(), count),
         Command(["marks", "S"], job(), marks),
         Command(["table"], three_modules(), table),

@@ -9,10 +9,9 @@ import itertools
 import random
 import re
 
-from harness import PROGRAM, run, well
+from harness import PROGRAM, coverage, run, well
 from jobs import FIRST, FIRST_RESULT, Result
-from race_cases import FIRST as FIRST_JOB
-from race_cases import JOBS, Core, Shown, bounds, core_of, fault_of, run_alone
+from race_cases import FIRST_JOB, JOBS, Core, Shown, bounds, core_of, fault_of, run_alone
 
 # How often the first module's job is run, and each drawn one.
 RUNS, FEW = 500, 10
@@ -93,10 +92,12 @@ def drawn() -> None:
         shown = {it.name: run_alone(core, it) for it in core.tasks.values()}
         within = bounds(core, shown)
         for _ in range(FEW):
-            drains, rest = drains_of(core, well(run([PROGRAM, "early"], job)).output.decode())
+            output = well(run([PROGRAM, "early"], job)).output
+            drains, rest = drains_of(core, output.decode())
             fault = fault_in_drains(core, shown, drains) or fault_of(core, within, rest.encode())
             assert fault is None, f"job {number}: {fault}"
             drained += sum(it is not None for it in drains.values())
+        well(coverage("page", data=output))
     assert drained, "no session was drained"
     print(f"tests/command_line: {JOBS * FEW} runs of early on {JOBS} jobs: {drained} sessions drained", flush=True)
 

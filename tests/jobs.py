@@ -130,3 +130,19 @@ FIRST = Program.of("0 41100005 LA, 4 1A11 AR, 6 07FE BR")
 FIRST_RESULT = Result("RETURNED", 3, 2, {1: 10})
 FIRST_REPORT = FIRST.report([FIRST_RESULT], ":::", 3)
 COUNTED = Program.of("0 4610F000 BCT, 4 07FE BR")
+
+# Task C opens and closes session S while task A goes through the first program: the events, each as its line tells it.
+OPENED_EVENTS = [
+    "PLANT C S 100000", "PLANT C S 100004", "PLANT C S 100006", "DO C",
+    "FETCH A TAG 1 HALF 0AFF", "MARK A OLD -", "LIFT A TAKEN", "DO A", "FETCH A TAG 1 HALF 0AFF",
+    "CLOSE C S 100000", "CLOSE C S 100004", "CLOSE C S 100006",
+    # The trap that A has fetched was S's, whose mark it makes; what stands there now isn't its to lift.
+    "MARK A OLD -", "LIFT A NOT TAKEN", "DO A", "DO C", "FETCH A TAG 2 HALF 07FE", "DO A", "GO A", "GO C",
+]
+OPENED_JOB = FIRST.job(
+    TASK + task("DATA 0 0A040A0507FE", "TASK C 000000 16 100 0\n"),
+    more="".join(f"{' '.join(it.split()[:2])}\n" for it in [*OPENED_EVENTS, "ENDSCHED"]),
+).replace(b"SESSION S M\n", b"SESSION S BY C M\n")
+OPENED_LINES = [f"EVENT {number} {it}" for number, it in enumerate(OPENED_EVENTS, 1)]
+OPENED_REPORT = FIRST.report([FIRST_RESULT, Result("RETURNED", 3, name="C", entry=0)], "::^", 3, "000006-000007")
+OPENED_REPLAY = OPENED_REPORT.replace(b"COVERAGE REPORT", "\n".join(["COVERAGE REPLAY", *OPENED_LINES]).encode())

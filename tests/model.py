@@ -187,20 +187,27 @@ class Reader:
         """A phase with its sessions and tasks; answers the card behind it."""
         self.need(name not in self.job.phases)
         self.job.phases.append(name)
-        named: list[bytes] = []
+        observed: dict[bytes, bytes] = {}
         kind, fields = self.card(b"SESSION", b"TASK", b"PHASE", b"ENDJOB")
         while kind == b"SESSION":
-            modules = fields[1].split()
-            self.need(all(fields[0] != it for it, _, _ in self.job.sessions))
-            self.need(len(set(named + modules)) == len(named + modules))
-            named += modules
-            known = {it.name: it for it in self.job.modules}
-            self.need(all(it in known for it in modules))
-            self.job.sessions.append((fields[0], name, [known[it] for it in modules]))
+            self.session(fields[0], name, fields[1].split(), observed)
             kind, fields = self.card(b"SESSION", b"TASK", b"PHASE", b"ENDJOB")
         while kind == b"TASK":
             kind, fields = self.task(fields)
+        self.need(all(it in self.job.tasks for it in observed.values() if it))
         return kind, fields
+
+    def session(self, name: bytes, phase: bytes, words: list[bytes], observed: dict[bytes, bytes]) -> None:
+        """A session with these words behind its name. Of the phase's modules that sessions observe the controller is noted, which is
+        empty where there is none."""
+        self.need(all(name != it for it, _, _ in self.job.sessions))
+        by, modules = (b"", words) if words[0] != b"BY" else (b"".join(words[1:2]), words[2:])
+        self.need(words[0] != b"BY" or (len(modules) > 0 and by not in self.job.tasks))
+        known = {it.name: it for it in self.job.modules}
+        self.need(len(set(modules)) == len(modules) and all(it in known for it in modules))
+        self.need(all(it not in observed or by == observed[it] != b"" for it in modules))
+        observed.update(dict.fromkeys(modules, by))
+        self.job.sessions.append((name, phase, [known[it] for it in modules]))
 
     def task(self, fields: list[bytes]) -> tuple[bytes, list[bytes]]:
         """A task with its cards; answers the card behind it."""

@@ -190,8 +190,7 @@ def bad_modules() -> None:
 
 def jobs() -> None:
     """job: the pieces between COVERJOB and ENDJOB, a last line without its end, standard input"""
-    head, _, rest = FIRST.job().partition(b"\n")
-    module, phase, tasks = rest.partition(b"PHASE P\n")
+    module, phase, tasks = FIRST.job().partition(b"\n")[2].partition(b"PHASE P\n")
     with folder() as at:
         for name, data in (("module", module), ("phase", (phase + tasks)[: -len(b"\nENDJOB\n")])):
             with open(f"{at}/{name}", "wb") as file:

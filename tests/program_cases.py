@@ -7,7 +7,7 @@ import subprocess
 from dataclasses import replace
 
 from harness import COVERAGE, PROGRAM, TOP, Case, equal, run, well
-from jobs import COUNTED, FIRST, FIRST_REPORT, FIRST_RESULT, HEADING, TASK, USAGE, WIDE_HEADING, Program, Result, task
+from jobs import COUNTED, FIRST, FIRST_REPORT, FIRST_RESULT, HEADING, OPENED_JOB, OPENED_REPLAY, TASK, USAGE, WIDE_HEADING, Program, Result, task
 from marks_cases import BOTH, FELL
 from trial import summary
 
@@ -183,6 +183,7 @@ def exits() -> list[Case]:
         Case("exits of a task that has none", ["exits"], FIRST.job(), FIRST_REPORT),
         Case("exits by the script", ["exits"], divide.job(), report, command=COVERAGE),
         Case("exits with a name", ["exits", "S"], divide.job(), USAGE, 1),
+        Case("a line behind the job of exits", ["exits"], FIRST.job() + b"\n", b"BAD JOB LINE 13\n", 2),
         Case("a job's end that is missing, under exits", ["exits"], FIRST.job().removesuffix(b"ENDJOB\n"), b"BAD JOB LINE 12\n", 2),
     ]
 
@@ -259,6 +260,7 @@ def commands() -> list[Case]:
     return [
         Case("table", ["table"], COUNTED.job(), table),
         Case("replay", ["replay"], FIRST.job(both, more=items), replayed),
+        Case("replay of a session that its task opens and closes", ["replay"], OPENED_JOB, OPENED_REPLAY),
         Case("run by the script", ["run"], job, FIRST_REPORT, command=COVERAGE),
         Case("table by the script", ["table"], COUNTED.job(), table, command=COVERAGE),
         Case("replay by the script", ["replay"], FIRST.job(both, more=items), replayed, command=COVERAGE),
@@ -318,6 +320,7 @@ def refusals() -> list[Case]:
         Case("a job without an end", ["run"], without_end, b"BAD JOB LINE 12\n", 2),
         Case("a job without an end, of table", ["table"], without_end, b"BAD JOB LINE 12\n", 2),
         Case("a line behind the job", ["run"], job + b"GO A\n", b"BAD JOB LINE 13\n", 2),
+        Case("a line behind the job of table", ["table"], job + b"GO A\n", b"BAD JOB LINE 13\n", 2),
         Case("a card in small letters", ["run"], job.replace(b"PHASE", b"phase"), b"BAD JOB LINE 9\n", 2),
         Case("two blanks", ["run"], job.replace(b"PHASE P", b"PHASE  P"), b"BAD JOB LINE 9\n", 2),
         of_listing("other bytes", mismatch, 3, lines=changed(2, "0005", "0006")),
@@ -355,6 +358,8 @@ def streams() -> list[Case]:
     job = FIRST.job()
     return [
         Case("a folder as input", ["run"], b"", b"READ FAULT\n", 5, redirect="</"),
+        Case("a folder as input, of exits", ["exits"], b"", b"READ FAULT\n", 5, redirect="</"),
+        Case("a folder as input, of early", ["early"], b"", b"READ FAULT\n", 5, redirect="</"),
         Case("a folder as input, of table", ["table"], b"", b"READ FAULT\n", 5, redirect="</"),
         Case("a folder as input, of replay", ["replay"], b"", b"READ FAULT\n", 5, redirect="</"),
         Case("a folder as input, of marks", ["marks", "S"], b"", b"READ FAULT\n", 5, redirect="</"),
@@ -363,6 +368,7 @@ def streams() -> list[Case]:
         Case("a folder as input, of prove", ["prove", "S"], b"", b"READ FAULT\n", 5, redirect="</"),
         Case("a folder as input, of verify", ["verify", "S"], b"", b"READ FAULT\n", 5, redirect="</"),
         Case("a full output", ["run"], job, b"", 6, redirect=">/dev/full"),
+        Case("a full output, of exits", ["exits"], job, b"", 6, redirect=">/dev/full"),
         Case("a full output, of table", ["table"], job, b"", 6, redirect=">/dev/full"),
         Case("a full output, of replay", ["replay"], FIRST.job(more="GO A\nENDSCHED\n"), b"", 6, redirect=">/dev/full"),
         Case("a full output, of marks", ["marks", "S"], job, b"", 6, redirect=">/dev/full"),

@@ -13,7 +13,7 @@ from harness import PROGRAM, difference, run
 from replay_cases import SAFE, code_of
 
 # How many jobs are drawn, from which number on, and how often each is run.
-JOBS, FIRST, RUNS = 20, 1, 25
+JOBS, FIRST_JOB, RUNS = 20, 1, 25
 # Where a controller's private storage has the calls that it executes by EX.
 CALLS = 0x180
 FACTS = {mark: set(facts) for facts, mark in MARKS.items()}
@@ -151,7 +151,7 @@ def fault_of(core: Core, within: dict[tuple[str, int], tuple[set[str], set[str]]
 def races() -> None:
     """sessions that tasks open and close while others run on threads"""
     texts: set[tuple[int, bytes]] = set()
-    for number in range(FIRST, FIRST + JOBS):
+    for number in range(FIRST_JOB, FIRST_JOB + JOBS):
         core = core_of(random.Random(number))
         job = core.job().encode()
         within = bounds(core, {it.name: run_alone(core, it) for it in core.tasks.values()})

@@ -4,13 +4,13 @@ from __future__ import annotations
 import random
 
 from core_model import EVENTS, Core, Module, Session, Task
-from harness import PROGRAM, difference, run
+from harness import PROGRAM, coverage, difference, run, well
 
 # Operations whose second byte can be ORed with 4 or 5 without another place to go to.
 SAFE = ("LA", "LR", "SVC", "BCR")
 KEYS = (*EVENTS, "GO")
-# How many schedules a run of the tests plays, and from which number on they are drawn.
-COUNT, FIRST = 2000, 1
+# How many schedules a run of the tests plays, from which number on they are drawn, and of how many one is made a page.
+COUNT, FIRST_NUMBER, A_PAGE = 2000, 1, 50
 
 
 def code_of(draw: random.Random, base: int, size: int) -> list[str]:
@@ -100,11 +100,13 @@ def schedule(number: int) -> tuple[bytes, bytes, int]:
 
 def plays() -> None:
     """schedules over sessions that tasks open and close"""
-    for number in range(FIRST, FIRST + COUNT):
+    for number in range(FIRST_NUMBER, FIRST_NUMBER + COUNT):
         data, output, status = schedule(number)
         ran = run([PROGRAM, "replay"], data)
         assert ran.status == status, f"schedule {number}: status {ran.status}, and not {status}"
         assert ran.output == output, f"schedule {number}: {difference(output, ran.output)}"
+        if status == 0 and number % A_PAGE == 0:
+            well(coverage("page", data=output))
 
 
 CHECKS = [plays]

@@ -6,13 +6,17 @@ import itertools
 import os
 import re
 import shutil
+import signal
 import struct
+import subprocess
 import zlib
 from html.parser import HTMLParser
 from typing import Callable
 
-from harness import TOP, Tally, coverage, equal, folder, refused, run, run_checks, well
-from jobs import COUNTED, FIRST, FIRST_REPORT, FIRST_RESULT, HEADING, WIDE_HEADING, Program, Result
+from harness import COVERAGE, SECONDS, TOP, Tally, coverage, equal, folder, refused, run, run_checks, well
+from jobs import (
+    COUNTED, FIRST, FIRST_REPORT, FIRST_RESULT, HEADING, OPENED_LINES, OPENED_REPLAY, OPENED_REPORT, WIDE_HEADING, Program, Result,
+)
 
 EXAMPLES = f"{TOP}/examples"
 BROWSERS = ("chromium", "chromium-browser", "google-chrome")
@@ -29,8 +33,37 @@ NOT_RUN = COUNTED.report([], "^^", 3, "000000-000005")
 WIDE_REPORT = FIRST.wide().report([FIRST_RESULT], ":::", 3)
 # What early writes behind a session's part.
 DRAINED, NOT_DRAINED = (FIRST_REPORT.replace(b"END\n", line + b"\nEND\n") for line in (b"DRAINED COUNT 1234", b"NOT DRAINED"))
+# What a line of an event can tell, in no order that a schedule has.
+EVENTS = [
+    "FETCH A TAG 0 HALF 4110", "FETCH A TAG 32 HALF 0AFF", *(f"MARK A OLD {it}" for it in ("-", "R", "W", "S", "WS")),
+    "LIFT A TAKEN", "LIFT A NOT TAKEN", "PLANT A S 100000", "CLOSE A S 100000", "DO A", "GO A",
+]
+# What is none, the last two by their number.
+NO_EVENTS = [
+    "1 STEP A", "1 GO", "1 GO a", "1 DO A S", "1 FETCH A TAG 1", "1 FETCH A TAG 1 HALF 0aff", "1 MARK A OLD RW", "1 LIFT A",
+    "1 PLANT A S 10000", "1 CLOSE A 100000", "0 GO A", "2 GO A",
+]
+
+
+def replayed(*lines: str) -> bytes:
+    """The report of a schedule with these lines of events."""
+    return FIRST_REPORT.replace(b"COVERAGE REPORT", "\n".join(["COVERAGE REPLAY", *lines]).encode())
+
+
+RUNNING = replayed().replace(b"RETURNED", b"RUNNING")
 BAD_REPORTS = [
     (b"", "line 1", "nothing"),
+    # What other commands write.
+    (b"COVERAGE TABLE\nMODULE M PLACES 0\nEND\n", "line 1", "no report"),
+    (b"COVERAGE TRIAL 7 TASKS 8\n", "line 1", "no report"),
+    (b"VERIFIED S FACTS 3\n", "line 1", "no report"),
+    (FIRST.marks_file(1, 1, 1), "line 1", "no report"),
+    (bytes.fromhex("5333373045564431 00000000000000"), "line 1", "no report"),
+    *[(replayed(f"EVENT {it}"), "line 2", "event") for it in NO_EVENTS],
+    (replayed("EVENT 1 GO A", "EVENT 3 GO B"), "line 3", "event"),
+    (replayed("EVENT 1 GO A").replace(b"REPLAY", b"REPORT"), "line 2", "EVENT 1 GO A"),
+    (RUNNING.replace(b"REPLAY", b"REPORT"), "line 2", "RUNNING"),
+    (COUNTS.replace(b"RETURNED", b"RUNNING"), "line 2", "RUNNING"),
     (DRAINED.replace(b"DRAINED COUNT 1234\n", b"DRAINED COUNT 1234\nNOT DRAINED\n"), "line 13", "NOT DRAINED"),
     (DRAINED.replace(b"1234", b"-"), "line 12", "DRAINED COUNT -"),
     (COUNTED.shown("V:", 3).replace(b"END\n", b"NOT DRAINED\nEND\n"), "line 7", "NOT DRAINED"),
@@ -130,10 +163,25 @@ def page_escapes() -> None:
     assert "<b>&amp;\ufffd\xff AR" in Page(coverage("page", data=report).output.decode()).text
 
 
-def replay_page() -> None:
-    """page: the events of a schedule"""
-    data = well(coverage("replay", data=FIRST.job(more="GO A\nENDSCHED\n"))).output
-    assert "EVENT 1 GO A" in Page(well(coverage("page", data=data)).output.decode()).text
+def traced(report: bytes) -> str:
+    """The tracefile that lcov makes of a report."""
+    with folder() as at:
+        equal(well(coverage("lcov", "out", data=report, cwd=at)).output, b"")
+        with open(f"{at}/out/coverage.info", encoding="ascii") as file:
+            return file.read()
+
+
+def replays() -> None:
+    """page and lcov: the events of a schedule, each that docs/REPORT.md has; and what is else a report of run"""
+    with open(f"{TOP}/docs/REPORT.md", encoding="utf-8") as file:
+        keys = re.findall(r"`EVENT n ([A-Z]+) ", file.read())
+    equal(sorted(set(keys)), sorted({it.split()[0] for it in EVENTS}))
+    lines = [f"EVENT {number} {it}" for number, it in enumerate(EVENTS, 1)]
+    assert "A RUNNING, 3 instructions" in Page(well(coverage("page", data=RUNNING)).output.decode()).text
+    for report, told in ((OPENED_REPLAY, OPENED_LINES), (replayed(*lines), lines)):
+        text = Page(well(coverage("page", data=report)).output.decode()).text
+        assert "\n".join(told) in text and f"{len(told)} events of the schedule" in text, text
+    equal(traced(OPENED_REPLAY), traced(OPENED_REPORT))
 
 
 def show_page() -> None:
@@ -171,14 +219,7 @@ def early_pages() -> None:
         text = well(coverage("page", data=report)).output.decode()
         equal(text.replace(f"<p>{words}</p>\n", ""), well(coverage("page", data=FIRST_REPORT)).output.decode())
         assert words in Page(text).text
-    with folder() as at:
-        for name, report in (("early", DRAINED), ("run", FIRST_REPORT)):
-            equal(well(coverage("lcov", f"{at}/{name}", data=report)).output, b"")
-        files = []
-        for name in ("early", "run"):
-            with open(f"{at}/{name}/coverage.info", encoding="ascii") as file:
-                files.append(file.read().replace(f"{at}/{name}/", ""))
-        equal(*files)
+    equal(traced(DRAINED), traced(FIRST_REPORT))
 
 
 def bad_reports() -> None:
@@ -252,6 +293,19 @@ def words_and_streams() -> None:
     refused(coverage("lcov", "/dev/null/x", data=FIRST_REPORT), 6, "/dev/null/x")
 
 
+def interrupted() -> None:
+    """page: an interrupt ends it with 130, while it reads"""
+    before = signal.signal(signal.SIGINT, signal.default_int_handler)
+    pipe = subprocess.PIPE
+    with subprocess.Popen([COVERAGE, "page"], stdin=pipe, stdout=pipe, stderr=pipe, start_new_session=True) as started:
+        # More than a pipe holds, so that it is read from by then.
+        os.write(started.stdin.fileno() if started.stdin else -1, FIRST_REPORT * 500)
+        started.send_signal(signal.SIGINT)
+        output, error = started.communicate(timeout=SECONDS)
+    signal.signal(signal.SIGINT, before)
+    equal((started.returncode, output, error), (130, b"", b""))
+
+
 # the examples
 
 
@@ -271,6 +325,17 @@ def examples_are_made() -> None:
                 file.write(well(coverage("module", module, base, f"{at}/object", f"{at}/listing")).output)
             with open(f"{EXAMPLES}/{name}.job", "rb") as file:
                 equal(well(coverage("job", f"{at}/cards", f"{EXAMPLES}/{name}.tasks")).output == file.read(), True)
+
+
+def example_jobs() -> None:
+    """examples: each job runs, each schedule is played, and page takes what comes"""
+    commands = {".job": "run", ".replay": "replay"}
+    found = [it for it in os.listdir(EXAMPLES) if os.path.splitext(it)[1] in commands]
+    equal(sorted({os.path.splitext(it)[1] for it in found}), sorted(commands))
+    for name in found:
+        with open(f"{EXAMPLES}/{name}", "rb") as file:
+            ran = well(coverage(commands[os.path.splitext(name)[1]], data=file.read()))
+        well(coverage("page", data=ran.output))
 
 
 def outputs_of(report: bytes) -> list[str]:
@@ -388,6 +453,6 @@ def in_browser(browser: str) -> None:
 
 
 CHECKS = [
-    pages, page_escapes, replay_page, show_page, counted_pages, early_pages, bad_reports, lcov_files, lcov_counts, words_and_streams,
-    examples_are_made, orders, palindromes, tariff,
+    pages, page_escapes, replays, show_page, counted_pages, early_pages, bad_reports, lcov_files, lcov_counts, words_and_streams,
+    interrupted, examples_are_made, example_jobs, orders, palindromes, tariff,
 ]

@@ -1,7 +1,7 @@
 """The operations by mnemonic: their codes and the forms of their operands."""
 from __future__ import annotations
 
-# Form, and each mnemonic with its code: 'R' a register, 'M' a mask or a number of four bits.
+# Of each form the mnemonics, each with its code.
 FORMS = {
     "RR": "LR 18 LTR 12 LCR 13 LPR 10 LNR 11 AR 1A SR 1B ALR 1E SLR 1F CR 19 MR 1C DR 1D NR 14 OR 16 XR 17 CLR 15"
     " MVCL 0E CLCL 0F BALR 05 BASR 0D BCTR 06 BCR 07",
