@@ -23,8 +23,8 @@ use s370_decode::{Code, Group, Op, group_of, op_of};
 use s370_edit::edit;
 use s370_fixed::{
     add_logical_register, add_register, compare_register, fixed, load_address, load_and_test,
-    load_complement, load_negative, load_positive, load_register,
-    subtract_logical_register, subtract_register,
+    load_complement, load_negative, load_positive, load_register, subtract_logical_register,
+    subtract_register,
 };
 use s370_logic::logic;
 use s370_state::{Cpu, Ending, Next, Space, TaskIo};

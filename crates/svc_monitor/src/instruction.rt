@@ -26,9 +26,7 @@ use cov_base::PlaceNo;
 use module_area::{Cells, Control, Plan};
 use s370_branch::outcome;
 use s370_decode::Code;
-use s370_exec::{
-    execute, fetch_first, fetch_rest, fetch_subject, is_execute, subject_address,
-};
+use s370_exec::{execute, fetch_first, fetch_rest, fetch_subject, is_execute, subject_address};
 use s370_state::{Cpu, Next, Space, TaskIo};
 
 /// Settles a trap whose instruction was begun, by what it does as it is executed.
@@ -144,7 +142,14 @@ fn observe<C: Cells>(
 {
     let cell = cells.fetch(pass, place);
     if is_breakpoint(cell) {
-        show(cells, pass, tables, Met::Trap(place, cell, cell.half), cpu, code);
+        show(
+            cells,
+            pass,
+            tables,
+            Met::Trap(place, cell, cell.half),
+            cpu,
+            code,
+        );
     }
 }
 
@@ -326,9 +331,7 @@ pub fn step<C: Cells, P: Space>(
     ensures turns { (d : ℕ) → Turns (C.plan cells.now) (C.notes pass.old) (C.notes pass.new) (solo_step (P.memory space.old) (state_of cpu.old (P.bytes space.old) io.old d)).visits control.old (call_of (P.memory space.old) (state_of cpu.old (P.bytes space.old) io.old d)) }
 {
     match tables.at(cpu.at()) {
-        Some(place) => {
-            step_placed(cells, pass, tables, cpu, space, io, plan, control, place)
-        }
+        Some(place) => { step_placed(cells, pass, tables, cpu, space, io, plan, control, place) }
         None => step_far_here(cells, pass, tables, cpu, space, io, plan, control),
     }
 }
