@@ -32,7 +32,6 @@ use s370_state::{Cpu, Next, Space};
 /// a bad digit or sign of CVB, and 9 by a divide or CVB whose result doesn't fit, all without a change; and with
 /// code 8, under the mask's first bit, after an overflow has completed. The instruction address is left as it is.
 /// Takes no memory.
-#[inline(never)]
 pub fn fixed<P: Space>(cpu: &mut Cpu, space: &mut P, code: &Code, op: Op) -> Next
     requires { group_of op ≡ Group.Fixed }
     ensures memory { P.memory space.new ≡ P.memory space.old }

@@ -1,10 +1,10 @@
-use Rattle.std.proofs.Common.{◌≡◌, ℕ, true, false, None, [], ◌∷◌, refl, ap, sym, subst, ◌∙◌, arith}
+use Rattle.std.proofs.Common.{◌≡◌, ℕ, true, false, [], ◌∷◌, refl, ap, sym, subst, ◌∙◌}
 use Rattle.s370_decode.specs.Fields.{first_half}
 use Rattle.s370_decode.specs.Table.{op_of}
 use Rattle.s370_branch.specs.Branch.{goes}
 use Rattle.s370_exec.specs.Calls.{call_of, subject_call}
 use Rattle.s370_exec.specs.Effects.{effect_of}
-use Rattle.s370_exec.specs.Solo.{state_of, solo_step, subject_step, ended, stepped, behind, visit}
+use Rattle.s370_exec.specs.Solo.{state_of, solo_step, subject_step, stepped, behind, visit}
 use Rattle.s370_exec.specs.Fetch.{is_execute}
 use Rattle.s370_exec.proofs.StepLemmas.{solo_step-begun, solo_step-execute}
 use Rattle.svc_monitor.proofs.StepLemmas.{Makes-begun}

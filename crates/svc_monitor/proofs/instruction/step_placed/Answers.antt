@@ -1,5 +1,4 @@
-use Rattle.std.proofs.Common.{◌≡◌, ℕ, refl, arith}
-use Rattle.svc_monitor.specs.Settled.{Sees}
+use Rattle.std.proofs.Common.{refl, arith}
 use Rattle.svc_monitor.proofs.PlaceLemmas.{begins_at}
 use Rattle.svc_monitor.proofs.KeptCode.{at_kept}
 use Rattle.svc_monitor.proofs.TieLemmas.{IsLater-sees, working_later, tied_later}
