@@ -10,7 +10,7 @@ import subprocess
 import time
 from typing import Callable, Iterator
 
-from harness import SECONDS, TOP, equal, folder
+from harness import SECONDS, TOP, equal, folder, interruptible
 
 # It notes each call, waits for as long as a file `hold` lies at the top, and makes a program that tells its words.
 RT = """#!/usr/bin/env bash
@@ -167,7 +167,7 @@ def no_toolchain() -> None:
 def is_interrupted() -> None:
     """build: one that is cut off, by a signal or killed, leaves nothing that is taken for a program"""
     for number, status in ((signal.SIGINT, 130), (signal.SIGTERM, None), (signal.SIGKILL, None)):
-        with copy() as it:
+        with copy() as it, interruptible():
             started = it.hold()
             os.killpg(started.pid, number)
             had, output, _ = ended(started)

@@ -1,17 +1,29 @@
 """How the tests run commands and say what they found."""
 from __future__ import annotations
 
+import contextlib
 import os
+import signal
 import subprocess
 import sys
 import tempfile
 import traceback
 from dataclasses import dataclass, field
-from typing import Callable, Optional
+from typing import Callable, Iterator, Optional
 
 TOP = os.path.dirname(os.path.dirname(os.path.realpath(__file__)))
 COVERAGE, PROGRAM = f"{TOP}/coverage", f"{TOP}/out/coverage_program"
 SECONDS = 120
+
+
+@contextlib.contextmanager
+def interruptible() -> Iterator[None]:
+    """What is started meanwhile takes an interrupt, also where these tests run in the background of a shell that ignores it."""
+    before = signal.signal(signal.SIGINT, signal.default_int_handler)
+    try:
+        yield
+    finally:
+        signal.signal(signal.SIGINT, before)
 
 
 @dataclass

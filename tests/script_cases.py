@@ -13,7 +13,7 @@ import zlib
 from html.parser import HTMLParser
 from typing import Callable
 
-from harness import COVERAGE, SECONDS, TOP, Tally, coverage, equal, folder, refused, run, run_checks, well
+from harness import COVERAGE, SECONDS, TOP, Tally, coverage, equal, folder, interruptible, refused, run, run_checks, well
 from jobs import (
     COUNTED, FIRST, FIRST_REPORT, FIRST_RESULT, HEADING, OPENED_LINES, OPENED_REPLAY, OPENED_REPORT, WIDE_HEADING, Program, Result,
 )
@@ -295,14 +295,13 @@ def words_and_streams() -> None:
 
 def interrupted() -> None:
     """page: an interrupt ends it with 130, while it reads"""
-    before = signal.signal(signal.SIGINT, signal.default_int_handler)
     pipe = subprocess.PIPE
-    with subprocess.Popen([COVERAGE, "page"], stdin=pipe, stdout=pipe, stderr=pipe, start_new_session=True) as started:
+    command = [COVERAGE, "page"]
+    with interruptible(), subprocess.Popen(command, stdin=pipe, stdout=pipe, stderr=pipe, start_new_session=True) as started:
         # More than a pipe holds, so that it is read from by then.
         os.write(started.stdin.fileno() if started.stdin else -1, FIRST_REPORT * 500)
         started.send_signal(signal.SIGINT)
         output, error = started.communicate(timeout=SECONDS)
-    signal.signal(signal.SIGINT, before)
     equal((started.returncode, output, error), (130, b"", b""))
 
 
