@@ -152,6 +152,14 @@ def drained(session: Session) -> str:
     return f"<p>Final when its controller had done {count_of(session.drained_at, 'instruction')}.</p>\n"
 
 
+def unlisted_part(session: Session) -> str:
+    """What is told of a session that has no listing, under its name."""
+    name = safe(session.name)
+    if session.is_drained is None or any(it.lines for it in session.modules):
+        return ""
+    return f'<section id="{name}" aria-labelledby="{name}.title">\n<h2 id="{name}.title">Session {name}</h2>\n{drained(session)}</section>\n'
+
+
 def module_part(session: Session, module: Module) -> str:
     """A module's listing with its marks."""
     name, title = anchor(session, module), f"{safe(module.name)} in session {safe(session.name)}"
@@ -230,6 +238,7 @@ def page(report: Report) -> str:
     """The whole page."""
     title = HEADINGS[report.title]
     modules = "\n".join(module_part(session, it) for session in report.sessions for it in session.modules if it.lines)
+    unlisted = "".join(map(unlisted_part, report.sessions))
     return f"""<!DOCTYPE html>
 <html lang="en">
 <head>
@@ -246,7 +255,7 @@ def page(report: Report) -> str:
 <main>
 {summary(report)}
 {modules}
-{tasks_part(report)}
+{unlisted}{tasks_part(report)}
 </main>
 </body>
 </html>

@@ -220,6 +220,10 @@ def early_pages() -> None:
         equal(text.replace(f"<p>{words}</p>\n", ""), well(coverage("page", data=FIRST_REPORT)).output.decode())
         assert words in Page(text).text
     equal(traced(DRAINED), traced(FIRST_REPORT))
+    # That of a session without a listing stands by itself.
+    bare = FIRST_REPORT[: FIRST_REPORT.index(b"MODULE ")] + b"DRAINED COUNT 1\nEND\n"
+    text = Page(well(coverage("page", data=bare)).output.decode()).text
+    assert "Session S\nFinal when its controller had done 1 instruction." in text, text
 
 
 def bad_reports() -> None:

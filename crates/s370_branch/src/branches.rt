@@ -1,10 +1,10 @@
 //! Branches (Principles of Operation, "General Instructions", "Branching").
-ghost use Rattle.std.specs.Prelude.{◌≡◌, ℕ, ◌+◌, ◌*◌, ◌%◌, ◌<◌, ◌≤◌, ◌^◌, true, not, ◌&&◌, ◌==◌, int_lt, if◌then◌else◌, slice_index, slice_set};
+ghost use Rattle.std.specs.Prelude.{◌≡◌, ◌⊎◌, ℕ, ◌+◌, ◌*◌, ◌%◌, ◌<◌, ◌≤◌, ◌^◌, true, not, ◌&&◌, ◌==◌, int_lt, if◌then◌else◌, slice_index, slice_set};
 ghost use Rattle.s370_state.specs.Words.{signed};
 ghost use Rattle.s370_decode.specs.Fields.{first_half, ex};
 ghost use Rattle.s370_decode.specs.Groups.{group_of};
 ghost use Rattle.s370_decode.specs.Table.{op_of};
-ghost use Rattle.s370_branch.specs.Branch.{is_selected, less_one, index_sum, comparand, is_high, goes, branch_target, link_word, branch_regs, branched};
+ghost use Rattle.s370_branch.specs.Branch.{is_selected, less_one, index_sum, comparand, is_high, goes, branch_target, by_register, with_first, link_word, branch_regs, branched};
 
 use cov_base::Addr;
 use s370_decode::{Code, Group, Op, op_of};
@@ -110,16 +110,11 @@ fn indexed(cpu: &Cpu, code: &Code) -> Addr
     }
 }
 
-#[inline(always)]
-#[tactic(auto, unfolding(crate::specs::Branch::branch_target))]
-fn branch_target(cpu: &Cpu, code: &Code, op: Op) -> Addr
-    ensures { result ≡ branch_target op cpu.now code.now }
+/// Bits 8-31 of R2.
+fn by_register(cpu: &Cpu, code: &Code) -> Addr
+    ensures { result ≡ by_register cpu.now code.now }
 {
-    match op {
-        Op::BCR | Op::BCTR | Op::BALR | Op::BASR => Addr::of(cpu.reg(code.r2())),
-        Op::BXH | Op::BXLE => cpu.based(code.b2(), code.d2()),
-        _ => indexed(cpu, code),
-    }
+    Addr::of(cpu.reg(code.r2()))
 }
 
 /// The word that BAL and BALR leave: length code, condition code, program mask and updated address.
@@ -133,20 +128,151 @@ fn link_word(cpu: &Cpu, next: Addr, link: u8) -> u32
     length + condition + mask + next.get()
 }
 
-/// Leaves in R1 what the operation says.
+/// BC: branches where the mask selects the condition code.
 #[inline(always)]
-#[tactic(auto, unfolding(crate::specs::Branch::branch_regs))]
-fn set_registers(cpu: &mut Cpu, code: &Code, op: Op, next: Addr, link: u8)
-    requires { link ≤ 2 }
-    ensures { cpu.new ≡ record cpu.old { regs = branch_regs op cpu.old code.now next link } }
+#[tactic(auto, unfolding(crate::specs::Branch::goes, crate::specs::Branch::branch_target, crate::specs::Branch::branch_regs))]
+pub fn branch_on_condition(cpu: &mut Cpu, code: &Code, next: Addr)
+    ensures { (link : ℕ) → cpu.new ≡ branched Op.BC cpu.old code.now next link }
 {
-    match op {
-        Op::BCT | Op::BCTR => cpu.set_reg(code.r1(), less_one(cpu, code)),
-        Op::BAL | Op::BALR => cpu.set_reg(code.r1(), link_word(cpu, next, link)),
-        Op::BAS | Op::BASR => cpu.set_reg(code.r1(), next.get()),
-        Op::BXH | Op::BXLE => cpu.set_reg(code.r1(), index_sum(cpu, code)),
-        _ => {}
-    }
+    let to = if is_selected(code.r1(), cpu.condition()) {
+        indexed(cpu, code)
+    } else {
+        next
+    };
+    cpu.go(to);
+}
+
+/// BCR: branches to R2 where the mask selects the condition code and R2 is not 0.
+#[inline(always)]
+#[tactic(auto, unfolding(crate::specs::Branch::goes, crate::specs::Branch::branch_target, crate::specs::Branch::branch_regs))]
+pub fn branch_on_condition_register(cpu: &mut Cpu, code: &Code, next: Addr)
+    ensures { (link : ℕ) → cpu.new ≡ branched Op.BCR cpu.old code.now next link }
+{
+    let to = if code.r2() != 0 && is_selected(code.r1(), cpu.condition()) {
+        by_register(cpu, code)
+    } else {
+        next
+    };
+    cpu.go(to);
+}
+
+/// Leaves R1 less 1 in R1 and goes to the address.
+fn count_and_go(cpu: &mut Cpu, code: &Code, to: Addr)
+    ensures { cpu.new ≡ record cpu.old { regs = with_first cpu.old code.now (less_one cpu.old code.now); ia = to } }
+{
+    cpu.set_reg(code.r1(), less_one(cpu, code));
+    cpu.go(to);
+}
+
+/// BCT: takes 1 from R1 and branches unless 0 is left.
+#[inline(always)]
+#[tactic(auto, unfolding(crate::specs::Branch::goes, crate::specs::Branch::branch_target, crate::specs::Branch::branch_regs))]
+pub fn branch_on_count(cpu: &mut Cpu, code: &Code, next: Addr)
+    ensures { (link : ℕ) → cpu.new ≡ branched Op.BCT cpu.old code.now next link }
+{
+    let to = if less_one(cpu, code) != 0 {
+        indexed(cpu, code)
+    } else {
+        next
+    };
+    count_and_go(cpu, code, to);
+}
+
+/// BCTR: takes 1 from R1 and branches to R2, as it was, unless 0 is left or R2 is 0.
+#[inline(always)]
+#[tactic(auto, unfolding(crate::specs::Branch::goes, crate::specs::Branch::branch_target, crate::specs::Branch::branch_regs))]
+pub fn branch_on_count_register(cpu: &mut Cpu, code: &Code, next: Addr)
+    ensures { (link : ℕ) → cpu.new ≡ branched Op.BCTR cpu.old code.now next link }
+{
+    let to = if code.r2() != 0 && less_one(cpu, code) != 0 {
+        by_register(cpu, code)
+    } else {
+        next
+    };
+    count_and_go(cpu, code, to);
+}
+
+/// Leaves the link word in R1 and goes to the address.
+fn link_to(cpu: &mut Cpu, code: &Code, to: Addr, next: Addr, link: u8)
+    requires { link ≤ 2 }
+    ensures { cpu.new ≡ record cpu.old { regs = with_first cpu.old code.now (link_word cpu.old next link); ia = to } }
+{
+    cpu.set_reg(code.r1(), link_word(cpu, next, link));
+    cpu.go(to);
+}
+
+/// BAL: leaves the link word in R1 and branches.
+#[inline(always)]
+#[tactic(auto, unfolding(crate::specs::Branch::goes, crate::specs::Branch::branch_target, crate::specs::Branch::branch_regs))]
+pub fn branch_and_link(cpu: &mut Cpu, code: &Code, next: Addr, link: u8)
+    requires { link ≤ 2 }
+    ensures { cpu.new ≡ branched Op.BAL cpu.old code.now next link }
+{
+    let to = indexed(cpu, code);
+    link_to(cpu, code, to, next, link);
+}
+
+/// BALR: leaves the link word in R1 and branches to R2, as it was, unless R2 is 0.
+#[inline(always)]
+#[tactic(auto, unfolding(crate::specs::Branch::goes, crate::specs::Branch::branch_target, crate::specs::Branch::branch_regs))]
+pub fn branch_and_link_register(cpu: &mut Cpu, code: &Code, next: Addr, link: u8)
+    requires { link ≤ 2 }
+    ensures { cpu.new ≡ branched Op.BALR cpu.old code.now next link }
+{
+    let to = if code.r2() != 0 {
+        by_register(cpu, code)
+    } else {
+        next
+    };
+    link_to(cpu, code, to, next, link);
+}
+
+/// Leaves the updated address in R1 and goes to the address.
+fn save_and_go(cpu: &mut Cpu, code: &Code, to: Addr, next: Addr)
+    ensures { cpu.new ≡ record cpu.old { regs = with_first cpu.old code.now next; ia = to } }
+{
+    cpu.set_reg(code.r1(), next.get());
+    cpu.go(to);
+}
+
+/// BAS: leaves the updated address in R1 and branches.
+#[inline(always)]
+#[tactic(auto, unfolding(crate::specs::Branch::goes, crate::specs::Branch::branch_target, crate::specs::Branch::branch_regs))]
+fn branch_and_save(cpu: &mut Cpu, code: &Code, next: Addr)
+    ensures { (link : ℕ) → cpu.new ≡ branched Op.BAS cpu.old code.now next link }
+{
+    let to = indexed(cpu, code);
+    save_and_go(cpu, code, to, next);
+}
+
+/// BASR: leaves the updated address in R1 and branches to R2, as it was, unless R2 is 0.
+#[inline(always)]
+#[tactic(auto, unfolding(crate::specs::Branch::goes, crate::specs::Branch::branch_target, crate::specs::Branch::branch_regs))]
+fn branch_and_save_register(cpu: &mut Cpu, code: &Code, next: Addr)
+    ensures { (link : ℕ) → cpu.new ≡ branched Op.BASR cpu.old code.now next link }
+{
+    let to = if code.r2() != 0 {
+        by_register(cpu, code)
+    } else {
+        next
+    };
+    save_and_go(cpu, code, to, next);
+}
+
+/// BXH and BXLE: adds the increment to R1, and branches as the comparison with the sum says.
+#[inline(always)]
+#[tactic(auto, unfolding(crate::specs::Branch::goes, crate::specs::Branch::branch_target, crate::specs::Branch::branch_regs))]
+fn branch_on_index(cpu: &mut Cpu, code: &Code, op: Op, next: Addr)
+    requires { (op ≡ Op.BXH) ⊎ (op ≡ Op.BXLE) }
+    ensures { (link : ℕ) → cpu.new ≡ branched op cpu.old code.now next link }
+{
+    let to = if goes(cpu, code, op) {
+        cpu.based(code.b2(), code.d2())
+    } else {
+        next
+    };
+    cpu.set_reg(code.r1(), index_sum(cpu, code));
+    cpu.go(to);
 }
 
 /// Performs a branch: BC BCR BCT BCTR BAL BALR BAS BASR BXH BXLE (Principles of Operation, "General Instructions").
@@ -160,11 +286,15 @@ pub fn branch(cpu: &mut Cpu, code: &Code, op: Op, next: Addr, link: u8)
     requires link { link ≤ 2 }
     ensures { cpu.new ≡ branched op cpu.old code.now next link }
 {
-    let to = if goes(cpu, code, op) {
-        branch_target(cpu, code, op)
-    } else {
-        next
-    };
-    set_registers(cpu, code, op, next, link);
-    cpu.go(to);
+    match op {
+        Op::BC => branch_on_condition(cpu, code, next),
+        Op::BCR => branch_on_condition_register(cpu, code, next),
+        Op::BCT => branch_on_count(cpu, code, next),
+        Op::BCTR => branch_on_count_register(cpu, code, next),
+        Op::BAL => branch_and_link(cpu, code, next, link),
+        Op::BALR => branch_and_link_register(cpu, code, next, link),
+        Op::BAS => branch_and_save(cpu, code, next),
+        Op::BASR => branch_and_save_register(cpu, code, next),
+        _ => branch_on_index(cpu, code, op, next),
+    }
 }

@@ -3,4 +3,7 @@
 
 mod branches;
 
-pub use branches::{branch, outcome};
+pub use branches::{
+    branch, branch_and_link, branch_and_link_register, branch_on_condition,
+    branch_on_condition_register, branch_on_count, branch_on_count_register, outcome,
+};

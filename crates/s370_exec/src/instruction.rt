@@ -11,20 +11,27 @@ ghost use Rattle.s370_exec.specs.Fetch.{is_execute};
 ghost use Rattle.s370_exec.specs.Effects.{effect, effect_of, next_of, is_completed, onward_by, updated, link_code};
 
 use crate::calls::task_call;
+use crate::fields::{
+    compare_fields_apart, compare_immediate_apart, insert_character_apart, load_multiple_apart,
+    move_characters_apart, move_immediate_apart, store_character_apart, store_multiple_apart,
+    test_under_mask_apart,
+};
 use crate::stored::{
     add_half_apart, add_logical_word_apart, add_word_apart, compare_half_apart, compare_word_apart,
-    load_half_apart, load_word_apart, store_half_apart, store_word_apart, subtract_half_apart,
-    subtract_logical_word_apart, subtract_word_apart,
+    load_half_apart, store_half_apart, subtract_half_apart, subtract_logical_word_apart,
+    subtract_word_apart,
 };
 use cov_base::Addr;
-use s370_branch::branch;
+use s370_branch::{
+    branch, branch_and_link, branch_and_link_register, branch_on_condition,
+    branch_on_condition_register, branch_on_count, branch_on_count_register,
+};
 use s370_decimal::decimal;
 use s370_decode::{Code, Group, Op, group_of, op_of};
 use s370_edit::edit;
 use s370_fixed::{
-    add_logical_register, add_register, compare_register, fixed, load_address, load_and_test,
-    load_complement, load_negative, load_positive, load_register, subtract_logical_register,
-    subtract_register,
+    add_register, compare_register, fixed, load_address, load_and_test, load_complement,
+    load_register, load_word, store_word, subtract_register,
 };
 use s370_logic::logic;
 use s370_state::{Cpu, Ending, Next, Space, TaskIo};
@@ -47,7 +54,20 @@ fn is_completed(e: &Ending) -> bool
     }
 }
 
+/// The task has ended, where need be at the updated address: `end` tells how. Out of line, so that the loop stays short.
+#[cold]
+#[inline(never)]
+fn stop(cpu: &mut Cpu, to: Addr, e: Ending, end: &mut Ending)
+    ensures { (bytes : List ℕ) (io : IoView) → effect_of cpu.new bytes io (Next.Ended end.new) ≡ onward_by to io (machine_of cpu.old bytes) (Next.Ended e) }
+{
+    *end = e;
+    if is_completed(&e) {
+        cpu.go(to);
+    }
+}
+
 /// Goes on at the updated address, unless the task has ended: then `end` tells how.
+#[inline(always)]
 pub(crate) fn onward(cpu: &mut Cpu, to: Addr, next: Next, end: &mut Ending) -> Told
     ensures { (bytes : List ℕ) (io : IoView) → effect_of cpu.new bytes io (next_of result end.new) ≡ onward_by to io (machine_of cpu.old bytes) next }
 {
@@ -57,11 +77,7 @@ pub(crate) fn onward(cpu: &mut Cpu, to: Addr, next: Next, end: &mut Ending) -> T
             Told::GoesOn
         }
         Next::Ended(e) => {
-            *end = e;
-            if is_completed(&e) {
-                cpu.go(to);
-                return Told::HasEnded;
-            }
+            stop(cpu, to, e, end);
             Told::HasEnded
         }
     }
@@ -101,10 +117,10 @@ fn tell(next: Next, end: &mut Ending) -> Told
     }
 }
 
-/// A branch in the place where it is called.
-#[inline(always)]
+/// A branch in a frame of its own.
+#[inline(never)]
 #[tactic(auto, unfolding(crate::specs::Effects::effect))]
-fn branch_here(cpu: &mut Cpu, code: &Code, op: Op, next: Addr, link: u8) -> Told
+fn branch_apart(cpu: &mut Cpu, code: &Code, op: Op, next: Addr, link: u8) -> Told
     requires group { group_of op ≡ Group.Branch }
     requires link { link ≤ 2 }
     ensures { (m : Memory) (bytes : List ℕ) (io : IoView) (e : Ending) → effect_of cpu.new bytes io (next_of result e) ≡
@@ -220,7 +236,7 @@ fn carry_out_apart<P: Space>(
             let n = edit(cpu, space, code, op);
             onward(cpu, next, n, end)
         }
-        Group::Branch => branch_here(cpu, code, op, next, link_code(code, &ex)),
+        Group::Branch => branch_apart(cpu, code, op, next, link_code(code, &ex)),
         Group::Call => tell(task_call(cpu, space, io, code.i2(), next), end),
         Group::Supervisor => tell(Next::Ended(Ending::Abend(2)), end),
         Group::Missing => tell(Next::Ended(Ending::Abend(1)), end),
@@ -255,14 +271,6 @@ fn carry_out_short<P: Space>(
             let n = load_complement(cpu, space, code);
             onward(cpu, next, n, end)
         }
-        Op::LPR => {
-            let n = load_positive(cpu, space, code);
-            onward(cpu, next, n, end)
-        }
-        Op::LNR => {
-            let n = load_negative(cpu, space, code);
-            onward(cpu, next, n, end)
-        }
         Op::AR => {
             let n = add_register(cpu, space, code);
             onward(cpu, next, n, end)
@@ -271,21 +279,22 @@ fn carry_out_short<P: Space>(
             let n = subtract_register(cpu, space, code);
             onward(cpu, next, n, end)
         }
-        Op::ALR => {
-            let n = add_logical_register(cpu, space, code);
-            onward(cpu, next, n, end)
-        }
-        Op::SLR => {
-            let n = subtract_logical_register(cpu, space, code);
-            onward(cpu, next, n, end)
-        }
         Op::CR => {
             let n = compare_register(cpu, space, code);
             onward(cpu, next, n, end)
         }
-        Op::BCR => branch_here(cpu, code, Op::BCR, next, link_code(code, &None)),
-        Op::BCTR => branch_here(cpu, code, Op::BCTR, next, link_code(code, &None)),
-        Op::BALR => branch_here(cpu, code, Op::BALR, next, link_code(code, &None)),
+        Op::BCR => {
+            branch_on_condition_register(cpu, code, next);
+            Told::GoesOn
+        }
+        Op::BCTR => {
+            branch_on_count_register(cpu, code, next);
+            Told::GoesOn
+        }
+        Op::BALR => {
+            branch_and_link_register(cpu, code, next, link_code(code, &None));
+            Told::GoesOn
+        }
         _ => carry_out_apart(cpu, space, io, code, None, end),
     }
 }
@@ -310,8 +319,14 @@ fn carry_out_long<P: Space>(
             let n = load_address(cpu, space, code);
             onward(cpu, next, n, end)
         }
-        Op::L => load_word_apart(cpu, space, code, next, end),
-        Op::ST => store_word_apart(cpu, space, code, next, end),
+        Op::L => {
+            let n = load_word(cpu, space, code);
+            onward(cpu, next, n, end)
+        }
+        Op::ST => {
+            let n = store_word(cpu, space, code);
+            onward(cpu, next, n, end)
+        }
         Op::LH => load_half_apart(cpu, space, code, next, end),
         Op::STH => store_half_apart(cpu, space, code, next, end),
         Op::A => add_word_apart(cpu, space, code, next, end),
@@ -322,9 +337,47 @@ fn carry_out_long<P: Space>(
         Op::SL => subtract_logical_word_apart(cpu, space, code, next, end),
         Op::C => compare_word_apart(cpu, space, code, next, end),
         Op::CH => compare_half_apart(cpu, space, code, next, end),
-        Op::BC => branch_here(cpu, code, Op::BC, next, link_code(code, &None)),
-        Op::BCT => branch_here(cpu, code, Op::BCT, next, link_code(code, &None)),
-        Op::BAL => branch_here(cpu, code, Op::BAL, next, link_code(code, &None)),
+        Op::LM => load_multiple_apart(cpu, space, code, next, end),
+        Op::STM => store_multiple_apart(cpu, space, code, next, end),
+        Op::IC => insert_character_apart(cpu, space, code, next, end),
+        Op::STC => store_character_apart(cpu, space, code, next, end),
+        Op::MVI => move_immediate_apart(cpu, space, code, next, end),
+        Op::CLI => compare_immediate_apart(cpu, space, code, next, end),
+        Op::TM => test_under_mask_apart(cpu, space, code, next, end),
+        Op::BC => {
+            branch_on_condition(cpu, code, next);
+            Told::GoesOn
+        }
+        Op::BCT => {
+            branch_on_count(cpu, code, next);
+            Told::GoesOn
+        }
+        Op::BAL => {
+            branch_and_link(cpu, code, next, link_code(code, &None));
+            Told::GoesOn
+        }
+        _ => carry_out_apart(cpu, space, io, code, None, end),
+    }
+}
+
+/// Carries out an instruction of six bytes; the frequent ones have a call of their own.
+#[inline(always)]
+fn carry_out_longest<P: Space>(
+    cpu: &mut Cpu,
+    space: &mut P,
+    io: &mut TaskIo,
+    code: &Code,
+    next: Addr,
+    end: &mut Ending,
+) -> Told
+    requires next { next ≡ updated code.now None }
+    ensures memory { P.memory space.new ≡ P.memory space.old }
+    ensures effect { effect_of cpu.new (P.bytes space.new) io.new (next_of result end.new) ≡
+        effect (P.memory space.old) (machine_of cpu.old (P.bytes space.old)) io.old code.now (op_of (first_half code.now)) next (link_code code.now None) }
+{
+    match op_of(code.first_half()) {
+        Op::MVC => move_characters_apart(cpu, space, code, next, end),
+        Op::CLC => compare_fields_apart(cpu, space, code, next, end),
         _ => carry_out_apart(cpu, space, io, code, None, end),
     }
 }
@@ -350,6 +403,8 @@ fn carry_out<P: Space>(
         carry_out_short(cpu, space, io, code, at.plus(2), end)
     } else if code.len == 4 {
         carry_out_long(cpu, space, io, code, at.plus(4), end)
+    } else if code.len == 6 {
+        carry_out_longest(cpu, space, io, code, at.plus(6), end)
     } else {
         carry_out_apart(cpu, space, io, code, None, end)
     }

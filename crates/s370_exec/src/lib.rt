@@ -4,6 +4,7 @@
 
 mod calls;
 mod fetch;
+mod fields;
 mod instruction;
 mod solo;
 mod stored;

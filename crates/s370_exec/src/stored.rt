@@ -8,46 +8,10 @@ use crate::instruction::{Told, onward};
 use cov_base::Addr;
 use s370_decode::{Code, Op};
 use s370_fixed::{
-    add_half, add_logical_word, add_word, compare_half, compare_word, load_half, load_word,
-    store_half, store_word, subtract_half, subtract_logical_word, subtract_word,
+    add_half, add_logical_word, add_word, compare_half, compare_word, load_half, store_half,
+    subtract_half, subtract_logical_word, subtract_word,
 };
 use s370_state::{Cpu, Ending, Space};
-
-/// L.
-#[inline(never)]
-#[tactic(auto, unfolding(crate::specs::Effects::effect))]
-pub(crate) fn load_word_apart<P: Space>(
-    cpu: &mut Cpu,
-    space: &mut P,
-    code: &Code,
-    next: Addr,
-    end: &mut Ending,
-) -> Told
-    ensures memory { P.memory space.new ≡ P.memory space.old }
-    ensures effect { (io : IoView) (link : ℕ) → effect_of cpu.new (P.bytes space.new) io (next_of result end.new) ≡
-        effect (P.memory space.old) (machine_of cpu.old (P.bytes space.old)) io code.now Op.L next link }
-{
-    let n = load_word(cpu, space, code);
-    onward(cpu, next, n, end)
-}
-
-/// ST.
-#[inline(never)]
-#[tactic(auto, unfolding(crate::specs::Effects::effect))]
-pub(crate) fn store_word_apart<P: Space>(
-    cpu: &mut Cpu,
-    space: &mut P,
-    code: &Code,
-    next: Addr,
-    end: &mut Ending,
-) -> Told
-    ensures memory { P.memory space.new ≡ P.memory space.old }
-    ensures effect { (io : IoView) (link : ℕ) → effect_of cpu.new (P.bytes space.new) io (next_of result end.new) ≡
-        effect (P.memory space.old) (machine_of cpu.old (P.bytes space.old)) io code.now Op.ST next link }
-{
-    let n = store_word(cpu, space, code);
-    onward(cpu, next, n, end)
-}
 
 /// LH.
 #[inline(never)]

@@ -7,4 +7,5 @@ mod packing;
 mod table;
 mod translate;
 
+pub use moves::move_characters;
 pub use table::storage;

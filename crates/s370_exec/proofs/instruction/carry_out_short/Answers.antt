@@ -14,14 +14,6 @@ pub returns-in-LCR-clause-effect : goal.returns-in-LCR-clause-effect
 unfolding effect
 returns-in-LCR-clause-effect g c = search rules
 
-pub returns-in-LPR-clause-effect : goal.returns-in-LPR-clause-effect
-unfolding effect
-returns-in-LPR-clause-effect g c = search rules
-
-pub returns-in-LNR-clause-effect : goal.returns-in-LNR-clause-effect
-unfolding effect
-returns-in-LNR-clause-effect g c = search rules
-
 pub returns-in-AR-clause-effect : goal.returns-in-AR-clause-effect
 unfolding effect
 returns-in-AR-clause-effect g c = search rules
@@ -30,14 +22,18 @@ pub returns-in-SR-clause-effect : goal.returns-in-SR-clause-effect
 unfolding effect
 returns-in-SR-clause-effect g c = search rules
 
-pub returns-in-ALR-clause-effect : goal.returns-in-ALR-clause-effect
-unfolding effect
-returns-in-ALR-clause-effect g c = search rules
-
-pub returns-in-SLR-clause-effect : goal.returns-in-SLR-clause-effect
-unfolding effect
-returns-in-SLR-clause-effect g c = search rules
-
 pub returns-in-CR-clause-effect : goal.returns-in-CR-clause-effect
 unfolding effect
 returns-in-CR-clause-effect g c = search rules
+
+pub returns-in-BCR-clause-effect : goal.returns-in-BCR-clause-effect
+unfolding effect
+returns-in-BCR-clause-effect g c = search rules
+
+pub returns-in-BCTR-clause-effect : goal.returns-in-BCTR-clause-effect
+unfolding effect
+returns-in-BCTR-clause-effect g c = search rules
+
+pub returns-in-BALR-clause-effect : goal.returns-in-BALR-clause-effect
+unfolding effect
+returns-in-BALR-clause-effect g c = search rules
