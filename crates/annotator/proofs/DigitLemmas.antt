@@ -1,13 +1,9 @@
 -- How many digits a number has, and one digit more.
-use Rattle.std.proofs.Common.{◌≡◌, ℕ, zero, suc, ◌+◌, ◌-◌, ◌/◌, ◌%◌, ◌^◌, ◌<◌, ◌≤◌, true, List, [], ◌∷◌, ◌++◌, length, drop, sym, ap, ◌∙◌, refl, arith, append_assoc, length-append, decimal, slice_set}
+use Rattle.std.proofs.Common.{◌≡◌, ℕ, zero, suc, ◌+◌, ◌-◌, ◌/◌, ◌%◌, ◌^◌, ◌<◌, ◌≤◌, true, List, [], ◌∷◌, ◌++◌, length, drop, sym, ap, ◌∙◌, arith, append_assoc, decimal, slice_set}
 use Rattle.std.specs.Fmt.{digit_glyph}
 use Rattle.std.proofs.lemmas.Fmt.{length-decimal-le}
 use Rattle.std.proofs.lemmas.List.{drop-set}
 use Rattle.annotator.specs.Digits.{hex_digits}
-
-pub length-hex_digits : (k n : ℕ) → length (hex_digits k n) ≡ k
-length-hex_digits zero n = refl
-length-hex_digits (suc k) n = length-append (hex_digits k (n / 16)) (digit_glyph true (n % 16) ∷ []) ∙ (ap (λ m. m + 1) (length-hex_digits k (n / 16)) ∙ omega arith)
 
 -- a number of 32 bits
 pub decimal_of_word : (n : ℕ) → n < 2 ^ 32 → length (decimal n) ≤ 10

@@ -1,21 +1,18 @@
 -- The instructions of the first places, and of one more.
-use Rattle.std.proofs.Common.{◌≡◌, inl, inr, ℕ, ◌+◌, ◌<◌, List, [], ◌∷◌, ◌++◌, length, get_or, refl, subst, sym, ◌∙◌, arith, length-append, All}
+use Rattle.std.proofs.Common.{◌≡◌, inl, inr, ℕ, ◌+◌, ◌<◌, List, [], ◌∷◌, ◌++◌, length, get_or, subst, sym, arith, length-append, All}
 use Rattle.std.proofs.lemmas.Bool.{cases_lt}
 use Rattle.std.proofs.lemmas.List.{get_or_append_left, get_or_default, get_or_push}
 use Rattle.cov_base.specs.Memory.{ImageView}
 use Rattle.module_area.specs.PlanView.{no_place, place_of}
 use Rattle.module_area.specs.declared.places.Place.{Place}
 use Rattle.s370_decode.specs.declared.code.Code.{Code}
-use Rattle.brk_table.specs.Kept.{IsCodeOf, AreCodes, AreCodesOf}
+use Rattle.brk_table.specs.Kept.{IsCodeOf, AreCodes}
 use Rattle.brk_table.specs.Places.{TablesView, IsIn}
 
 -- those of the first n places
 pub record AreFirst (images : List ImageView) (places : List Place) (codes : List Code) (n : ℕ) : Type 0 where
   pub count : length codes ≡ n
   pub each : (k : ℕ) (d : Code) → k < n → IsCodeOf images (place_of places k) (get_or codes k d)
-
-pub first_none : (images : List ImageView) (places : List Place) → AreFirst images places [] 0
-first_none images places = record { count = refl; each = λ k d l. absurd (omega arith) }
 
 pub first_more : (images : List ImageView) (places : List Place) (codes : List Code) (n : ℕ) (c : Code) → AreFirst images places codes n → IsCodeOf images (place_of places n) c → AreFirst images places (codes ++ c ∷ []) (n + 1)
 first_more images places codes n c are is = record {
@@ -26,9 +23,6 @@ first_more images places codes n c are is = record {
         subst (λ (x : Code). IsCodeOf images (place_of places k) x) (sym (get_or_push codes c d k (sym e))) (subst (λ (i : ℕ). IsCodeOf images (place_of places i) c) (sym f) is))
   ];
 }
-
-pub first_all : (images : List ImageView) (places : List Place) (codes : List Code) (n : ℕ) → n ≡ length places → AreFirst images places codes n → AreCodesOf images places codes
-first_all images places codes n e are = record { count = are.count ∙ e; each = λ k d l. are.each k d (omega (arith, e)) }
 
 -- places that have their instructions lie in the modules
 pub are_in : (images : List ImageView) (tables : TablesView) → AreCodes images tables → All (IsIn images) tables.places

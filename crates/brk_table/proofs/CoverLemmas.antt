@@ -1,10 +1,7 @@
 -- Which bytes of a module have a line.
 use Rattle.std.proofs.Common.{◌≡◌, ◌⊎◌, inl, inr, ℕ, ◌+◌, ◌<◌, zero, suc, Bool, true, false, ◌||◌, Option, Some, None, is_some, List, get_or, refl, sym, ◌∙◌, add-one, arith}
+use Rattle.std.proofs.lemmas.Bool.{or_parts}
 use Rattle.brk_table.specs.Cover.{is_covered}
-
-or_false : (a b : Bool) → (a || b) ≡ false → (a ≡ false) × (b ≡ false)
-or_false true b h = absurd cc
-or_false false b h = (refl, h)
 
 or_true : (a : Bool) → (a || true) ≡ true
 or_true true = refl
@@ -33,7 +30,7 @@ pub not_covered : (cover : List (Option ℕ)) (from len : ℕ) → is_covered co
 unfolding is_covered
 not_covered cover from zero h k l = absurd (omega arith)
 not_covered cover from (suc n) h k l =
-    let both = or_false (is_covered cover from n) (is_some (get_or cover (from + n) None)) h in
+    let both = or_parts (is_covered cover from n) (is_some (get_or cover (from + n) None)) h in
     elim (at_or_below k n l) [
       | inl q ↦ rw q (none (get_or cover (from + n) None) both.1)
       | inr b ↦ not_covered cover from n both.0 k b

@@ -1,5 +1,5 @@
 -- The places of a test: sixteen stretches of 200, far apart.
-use Rattle.std.proofs.Common.{◌≡◌, inl, inr, ℕ, zero, suc, ◌+◌, ◌*◌, ◌/◌, ◌%◌, ◌<◌, ◌≤◌, List, [], ◌∷◌, ◌++◌, length, All, AllPairs, refl, ap, ◌∙◌, arith, length-append}
+use Rattle.std.proofs.Common.{◌≡◌, inl, inr, ℕ, zero, suc, ◌+◌, ◌*◌, ◌/◌, ◌%◌, ◌<◌, ◌≤◌, List, [], ◌∷◌, ◌++◌, length, All, AllPairs, ap, ◌∙◌, arith, length-append}
 use Rattle.std.proofs.lemmas.Bool.{cases_lt}
 use Rattle.std.proofs.lemmas.List.{append-nil, get_or_default, get_or_append_left, get_or-append-add}
 use Rattle.std.proofs.lemmas.List.Elements.{All-append}
@@ -12,9 +12,6 @@ pub record AreFar (places : List Place) (n : ℕ) : Type 0 where
   pub count : length places ≡ n
   pub each : All IsPlace places
   pub at : (k : ℕ) → k < n → (place_of places k).at ≡ 1052416 + k / 200 * 950272 + k % 200 * 6
-
-pub far_start : AreFar [] 0
-far_start = record { count = refl; each = λ k d l. absurd (omega arith); at = λ k l. absurd (omega arith) }
 
 pub just_one : {X : Type 0} (P : X → Type 0) (x : X) → P x → All P (x ∷ [])
 just_one P x is zero d l = is

@@ -1,8 +1,8 @@
 -- A line's fault by the bytes that have a line, and the cover with one instruction more.
-use Rattle.std.proofs.Common.{◌≡◌, ◌⊎◌, inl, inr, ℕ, ◌+◌, ◌-◌, ◌%◌, ◌<◌, ◌≤◌, Bool, true, false, cond, ◌&&◌, nat_le, nat_lt, ◌==◌, Option, Some, None, List, [], ◌∷◌, ◌++◌, length, get_or, refl, sym, ◌∙◌, arith}
+use Rattle.std.proofs.Common.{◌≡◌, ◌⊎◌, inl, inr, ℕ, ◌+◌, ◌-◌, ◌%◌, ◌<◌, ◌≤◌, Bool, true, false, cond, nat_le, nat_lt, ◌==◌, Option, Some, None, List, [], ◌∷◌, ◌++◌, length, get_or, refl, sym, ◌∙◌, arith}
 use Rattle.std.specs.List.{list_any, AllPass}
 use Rattle.std.specs.Str.{bytes_eq}
-use Rattle.std.proofs.lemmas.Bool.{cases_lt}
+use Rattle.std.proofs.lemmas.Bool.{cases_lt, and_from, lt-ltb, and_parts, le-leb, leb-true, ltb-true, false_from_ne_true, leb-false, ltb-false}
 use Rattle.std.proofs.lemmas.Bool.Decides.{nat_tests}
 use Rattle.std.proofs.lemmas.List.{get_or_append_left, get_or_push, get_or_default, length_push}
 use Rattle.std.proofs.lemmas.List.Folds.{list_any_none, list_any_at}
@@ -37,12 +37,6 @@ pub record IsFaultless (bytes : List ℕ) (room : ℕ) (shared : Bool) (before l
 even_of : (n : ℕ) → (n % 2 == 1) ≡ false → n % 2 ≡ 0
 even_of n h = grind (arith, nat_tests)
 
-not_below : (a b : ℕ) → nat_lt a b ≡ false → b ≤ a
-not_below a b h = grind (arith, nat_tests)
-
-below_of : (a b : ℕ) → nat_le a b ≡ false → b < a
-below_of a b h = grind (arith, nat_tests)
-
 pub faultless : (bytes : List ℕ) (room : ℕ) (shared : Bool) (before n loc : ℕ) (code : Code) → fault_by bytes room shared before n loc code ≡ None → IsFaultless bytes room shared before loc code
 unfolding fault_by
 faultless bytes room shared before n loc code h =
@@ -53,43 +47,24 @@ faultless bytes room shared before n loc code h =
     let e = no_first (first_half code == breakpoint) _ _ d.1 in
     record {
       even = even_of loc a.0;
-      inside = not_below (length bytes) (loc + code.len) b.0;
+      inside = ltb-false (length bytes) (loc + code.len) b.0;
       apart = c.0;
-      fits = below_of room before d.0;
+      fits = leb-false room before d.0;
       free = e.0;
       same = no_last (bytes_eq code.bytes (module_code bytes loc code.len).bytes) _ e.1;
     }
 
-both_true : (a b : Bool) → a ≡ true → b ≡ true → (a && b) ≡ true
-both_true a b h k = rw (h, k) refl
-
-true_both : (a b : Bool) → (a && b) ≡ true → (a ≡ true) × (b ≡ true)
-true_both true b h = (refl, h)
-true_both false b h = absurd cc
-
-pub lt_true : (a b : ℕ) → a < b → nat_lt a b ≡ true
-lt_true a b h = grind (arith, nat_tests)
-
-pub true_lt : (a b : ℕ) → nat_lt a b ≡ true → a < b
-true_lt a b h = grind (arith, nat_tests)
-
-pub le_true : (a b : ℕ) → a ≤ b → nat_le a b ≡ true
-le_true a b h = grind (arith, nat_tests)
-
-pub true_le : (a b : ℕ) → nat_le a b ≡ true → a ≤ b
-true_le a b h = grind (arith, nat_tests)
-
 pub covers_code : (k loc : ℕ) (code : Code) → loc ≤ k → k < loc + code.len → covers k (says.Code loc code) ≡ true
-covers_code k loc code h l = both_true (nat_le loc k) (nat_lt k (loc + code.len)) (le_true loc k h) (lt_true k (loc + code.len) l)
+covers_code k loc code h l = and_from (nat_le loc k) (nat_lt k (loc + code.len)) (le-leb loc k h) (lt-ltb k (loc + code.len) l)
 
 -- the byte at k in both
 shares_there : (k loc : ℕ) (code : Code) (line : Line) → loc ≤ k → k < loc + code.len → covers k line ≡ true → shares loc code line ≡ true
 shares_there k loc code Text h l e = absurd cc
 shares_there k loc code (says.Code other d) h l e =
-    let t = true_both (nat_le other k) (nat_lt k (other + d.len)) e in
-    let p = true_le other k t.0 in
-    let q = true_lt k (other + d.len) t.1 in
-    both_true (nat_lt loc (other + d.len)) (nat_lt other (loc + code.len)) (lt_true loc (other + d.len) (omega arith)) (lt_true other (loc + code.len) (omega arith))
+    let t = and_parts (nat_le other k) (nat_lt k (other + d.len)) e in
+    let p = leb-true other k t.0 in
+    let q = ltb-true k (other + d.len) t.1 in
+    and_from (nat_lt loc (other + d.len)) (nat_lt other (loc + code.len)) (lt-ltb loc (other + d.len) (omega arith)) (lt-ltb other (loc + code.len) (omega arith))
 
 length_two : (h : ℕ) → 2 ≤ length_of h
 unfolding length_of
@@ -115,18 +90,14 @@ pub record Common (loc : ℕ) (code : Code) (line : Line) : Type 0 where
 common : (loc : ℕ) (code : Code) (line : Line) → 2 ≤ code.len → is_sound line ≡ true → shares loc code line ≡ true → Common loc code line
 common loc code Text long s h = absurd cc
 common loc code (says.Code other d) long s h =
-    let t = true_both (nat_lt loc (other + d.len)) (nat_lt other (loc + code.len)) h in
-    let p = true_lt loc (other + d.len) t.0 in
-    let q = true_lt other (loc + code.len) t.1 in
+    let t = and_parts (nat_lt loc (other + d.len)) (nat_lt other (loc + code.len)) h in
+    let p = ltb-true loc (other + d.len) t.0 in
+    let q = ltb-true other (loc + code.len) t.1 in
     let two = sound_length other d s in
     elim (cases_lt loc other) [
       | inl l ↦ record { k = other; from = omega arith; to = omega arith; covered = covers_code other other d (omega arith) (omega arith) }
       | inr g ↦ record { k = loc; from = omega arith; to = omega arith; covered = covers_code loc other d g p }
     ]
-
-not_true : (b : Bool) → (b ≡ true → ⊥) → b ≡ false
-not_true true h = absurd (h refl)
-not_true false h = refl
 
 pub covered_shared : (earlier : List Line) (cover : List (Option ℕ)) (loc : ℕ) (code : Code) → IsCover earlier cover → loc + code.len ≤ length cover → 2 ≤ code.len → AllPass is_sound earlier
     → is_covered cover loc code.len ≡ list_any (shares loc code) earlier
@@ -147,13 +118,13 @@ covered_shared earlier cover loc code is inside long sound = by_test (is_covered
         let c = covered cover loc code.len e in
         let of = is.of_line (loc + c.k) c.i (omega (arith, c.below)) c.is in
         e ∙ sym (list_any_at (shares loc code) earlier c.i Text of.0 (shares_there (loc + c.k) loc code (get_or earlier c.i Text) (omega arith) (omega (arith, c.below)) of.1))
-    by_test false e = e ∙ sym (list_any_none (shares loc code) earlier (λ k d l. not_true (shares loc code (get_or earlier k d)) (none e k d l)))
+    by_test false e = e ∙ sym (list_any_none (shares loc code) earlier (λ k d l. false_from_ne_true (shares loc code (get_or earlier k d)) (none e k d l)))
 
 pub same_fault : (bytes : List ℕ) (room before n : ℕ) (earlier : List Line) (cover : List (Option ℕ)) (loc : ℕ) (code : Code) → IsCover earlier cover → length cover ≡ length bytes → 2 ≤ code.len → AllPass is_sound earlier
     → fault_by bytes room (is_covered cover loc code.len) before n loc code ≡ fault_by bytes room (list_any (shares loc code) earlier) before n loc code
 unfolding fault_by
 same_fault bytes room before n earlier cover loc code is size long sound = elim (cases_lt (length bytes) (loc + code.len)) [
-  | inl past ↦ rw (lt_true (length bytes) (loc + code.len) past) refl
+  | inl past ↦ rw (lt-ltb (length bytes) (loc + code.len) past) refl
   | inr inside ↦ rw (covered_shared earlier cover loc code is (rw size inside) long sound) refl
 ]
 
@@ -220,6 +191,6 @@ cover_more earlier old new loc code is size free marked kept = record { of_line 
       | inr above ↦ (
           let at : length earlier ≡ i = omega (arith, length_push earlier (says.Code loc code)) in
           let c : covers k (says.Code loc code) ≡ true = rw (← at, own) at e in
-          let t = true_both (nat_le loc k) (nat_lt k (loc + code.len)) c in
-          rw (← at) (marked k (true_le loc k t.0) (true_lt k (loc + code.len) t.1)))
+          let t = and_parts (nat_le loc k) (nat_lt k (loc + code.len)) c in
+          rw (← at) (marked k (leb-true loc k t.0) (ltb-true k (loc + code.len) t.1)))
     ]

@@ -3,7 +3,7 @@ use Rattle.std.proofs.Common.{◌≡◌, ◌≢◌, ◌⊎◌, inl, inr, ℕ, �
 use Rattle.std.specs.Prelude.{slice_index, IfSome, count_by}
 use Rattle.std.specs.List.{list_any, AllPass}
 use Rattle.std.specs.Str.{bytes_eq}
-use Rattle.std.proofs.lemmas.Bool.{cases_lt}
+use Rattle.std.proofs.lemmas.Bool.{cases_lt, lt-ltb}
 use Rattle.std.proofs.lemmas.Bool.Decides.{nat_tests}
 use Rattle.std.proofs.lemmas.List.{get_or_default, get_or-take, length-take-le}
 use Rattle.std.proofs.lemmas.List.Folds.{list_any_at}
@@ -21,7 +21,7 @@ use Rattle.listing_reader.specs.declared.lines.Line.TheVariants as says
 use Rattle.brk_table.specs.Places.{TableView, IsPlace, AreApart}
 use Rattle.brk_table.specs.Build.{shares, is_code, module_code, fault_at, first_fault, or_fault, place_from, IsEntry, IsTable, IsOwn, HasOwnPlaces}
 use Rattle.brk_table.specs.declared.faults.BuildFault.{BuildFault}
-use Rattle.brk_table.proofs.FaultLemmas.{IsFaultless, faultless, sound_length, lt_true}
+use Rattle.brk_table.proofs.FaultLemmas.{IsFaultless, faultless, sound_length}
 use Rattle.brk_table.proofs.Passes.{next_fault}
 
 neither : (a b : Option BuildFault) → or_fault a b ≡ None → (a ≡ None) × (b ≡ None)
@@ -89,8 +89,8 @@ own_half : (bytes : List ℕ) (loc : ℕ) (code : Code) → 2 ≤ code.len → b
 unfolding module_code
 own_half bytes loc code long e =
     let same = (bytes_eq-Decides code.bytes (module_code bytes loc code.len).bytes).0 e in
-    let zero_in : nat_lt 0 code.len ≡ true = lt_true 0 code.len (omega arith) in
-    let one_in : nat_lt 1 code.len ≡ true = lt_true 1 code.len (omega arith) in
+    let zero_in : nat_lt 0 code.len ≡ true = lt-ltb 0 code.len (omega arith) in
+    let one_in : nat_lt 1 code.len ≡ true = lt-ltb 1 code.len (omega arith) in
     let at : loc + 0 ≡ loc = omega arith in
     let first : slice_index code.bytes 0 ≡ slice_index bytes loc = ap (λ x. slice_index x 0) same ∙ rw (zero_in, at) refl in
     let second : slice_index code.bytes 1 ≡ slice_index bytes (loc + 1) = ap (λ x. slice_index x 1) same ∙ rw one_in refl in
@@ -122,7 +122,7 @@ apart_bytes m base a b c d h = elim (cases_lt a (b + d.len)) [
   | inr over ↦ inr (omega arith)
   | inl under ↦ elim (cases_lt b (a + c.len)) [
     | inr past ↦ inl (omega arith)
-    | inl meets ↦ absurd (let t : shares a c (says.Code b d) ≡ true = rw (lt_true a (b + d.len) under, lt_true b (a + c.len) meets) refl in cc)
+    | inl meets ↦ absurd (let t : shares a c (says.Code b d) ≡ true = rw (lt-ltb a (b + d.len) under, lt-ltb b (a + c.len) meets) refl in cc)
   ]
 ]
 

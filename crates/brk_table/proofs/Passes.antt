@@ -5,6 +5,7 @@ use Rattle.std.specs.List.{list_any, AllPass}
 use Rattle.std.proofs.lemmas.List.{take_more, drop_more, length-take-le, get_or-take, take_all, drop_all}
 use Rattle.std.proofs.lemmas.List.Sums.{count_by_more_yes, count_by_more_no}
 use Rattle.std.proofs.lemmas.List.Elements.{All-push}
+use Rattle.std.proofs.lemmas.Bool.{le-leb}
 use Rattle.s370_decode.specs.declared.code.Code.{Code}
 use Rattle.listing_reader.specs.Listing.{is_sound}
 use Rattle.listing_reader.specs.declared.lines.Line.{Line}
@@ -13,7 +14,7 @@ use Rattle.listing_reader.specs.declared.lines.Line.TheVariants as says
 use Rattle.brk_table.specs.Build.{shares, is_code, fault_by, fault_at, first_fault, or_fault}
 use Rattle.brk_table.specs.Cover.{is_covered, is_inside, IsCover}
 use Rattle.brk_table.specs.declared.faults.BuildFault.{BuildFault}
-use Rattle.brk_table.proofs.FaultLemmas.{IsFaultless, faultless, same_fault, sound_length, cover_text, cover_more, le_true}
+use Rattle.brk_table.proofs.FaultLemmas.{IsFaultless, faultless, same_fault, sound_length, cover_text, cover_more}
 
 -- what is known before line i
 pub record AtLine (bytes : List ℕ) (room : ℕ) (lines : List Line) (i : ℕ) (cover : List (Option ℕ)) (before : ℕ) : Type 0 where
@@ -73,7 +74,7 @@ code_passed bytes room lines i old new before loc code at l sound is e size mark
       cover_is = rw more (cover_more (take i lines) old new loc code at.cover_is size none.apart (λ k a b. rw n (marked k a b)) kept);
       count = sym (count_by_more_yes is_code lines i Text l its ∙ ap (λ x. x + 1) (sym at.count));
       rest = sym (next_fault bytes room lines i l ∙ rw (code_fault bytes room lines i old before loc code at l sound is, e) refl) ∙ at.rest;
-      inside = rw more (All-push (λ x. is_inside (length bytes) x ≡ true) (take i lines) (says.Code loc code) at.inside (le_true (loc + code.len) (length bytes) none.inside));
+      inside = rw more (All-push (λ x. is_inside (length bytes) x ≡ true) (take i lines) (says.Code loc code) at.inside (le-leb (loc + code.len) (length bytes) none.inside));
       fits = omega (arith, none.fits);
     }
 

@@ -14,9 +14,6 @@ same a b h = grind (arith, nat_tests)
 differ : (a b : ℕ) → a ≢ b → (a == b) ≡ false
 differ a b h = grind (arith, nat_tests)
 
-true_or : (b : Bool) → (true || b) ≡ true
-true_or b = refl
-
 or_true : (b : Bool) → (b || true) ≡ true
 or_true true = refl
 or_true false = refl

@@ -1,36 +1,30 @@
 -- The numbers of a module's places.
 use Rattle.std.proofs.Common.{◌≡◌, ℕ, ◌+◌, ◌-◌, ◌<◌, ◌≤◌, inl, inr, Bool, true, false, Option, Some, None, option_map, IfSome, List, [], ◌∷◌, length, get_or, drop, nat_eq, if◌then◌else◌, refl, sym, ap, ◌∙◌, arith, length-append}
-use Rattle.std.proofs.lemmas.Bool.{cases_lt}
+use Rattle.std.proofs.lemmas.Bool.{cases_lt, ne_eqb, eq-eqb}
 use Rattle.cov_base.specs.declared.numbers.PlaceNo.{PlaceNo}
 use Rattle.std.proofs.lemmas.Bool.Decides.{nat_tests}
 use Rattle.std.proofs.lemmas.List.{drop_more, drop_all, get_or_past}
 use Rattle.brk_table.specs.Places.{TableView, HasItsPlaces, all_places, first_place, place_count, entry_of_line, place_at_line}
 
-same : (a b : ℕ) → a ≡ b → nat_eq a b ≡ true
-same a b h = grind (arith, nat_tests)
-
-other : (a b : ℕ) → (a ≡ b → ⊥) → nat_eq a b ≡ false
-other a b h = grind (arith, nat_tests)
-
 -- the module's table is met
 pub first-here : (t : TableView) (ts : List TableView) (m : ℕ) → t.«module» ≡ m → first_place (t ∷ ts) m ≡ 0
-first-here t ts m h = rw (same t.«module» m h) refl
+first-here t ts m h = rw (eq-eqb t.«module» m h) refl
 
 pub count-here : (t : TableView) (ts : List TableView) (m : ℕ) → t.«module» ≡ m → place_count (t ∷ ts) m ≡ length t.places
-count-here t ts m h = rw (same t.«module» m h) refl
+count-here t ts m h = rw (eq-eqb t.«module» m h) refl
 
 pub line-here : (t : TableView) (ts : List TableView) (m k : ℕ) → t.«module» ≡ m → place_at_line (t ∷ ts) m k ≡ entry_of_line t.lines k
-line-here t ts m k h = rw (same t.«module» m h) refl
+line-here t ts m k h = rw (eq-eqb t.«module» m h) refl
 
 -- another one is passed
 pub first-past : (t : TableView) (ts : List TableView) (m : ℕ) → (t.«module» ≡ m → ⊥) → first_place (t ∷ ts) m ≡ length t.places + first_place ts m
-first-past t ts m h = rw (other t.«module» m h) refl
+first-past t ts m h = rw (ne_eqb t.«module» m h) refl
 
 pub count-past : (t : TableView) (ts : List TableView) (m : ℕ) → (t.«module» ≡ m → ⊥) → place_count (t ∷ ts) m ≡ place_count ts m
-count-past t ts m h = rw (other t.«module» m h) refl
+count-past t ts m h = rw (ne_eqb t.«module» m h) refl
 
 pub line-past : (t : TableView) (ts : List TableView) (m k : ℕ) → (t.«module» ≡ m → ⊥) → place_at_line (t ∷ ts) m k ≡ option_map (λ n. length t.places + n) (place_at_line ts m k)
-line-past t ts m k h = rw (other t.«module» m h) refl
+line-past t ts m k h = rw (ne_eqb t.«module» m h) refl
 
 shifted : (a b : ℕ) (o : Option ℕ) → option_map (λ n. a + b + n) o ≡ option_map (λ n. a + n) (option_map (λ n. b + n) o)
 shifted a b None = refl

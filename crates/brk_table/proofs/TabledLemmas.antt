@@ -1,9 +1,9 @@
 -- The places of the instructions, location by location.
-use Rattle.std.proofs.Common.{◌≡◌, ◌≢◌, inl, inr, ℕ, ◌+◌, ◌<◌, ◌≤◌, zero, suc, Bool, true, cond, Option, Some, None, is_some, List, [], ◌∷◌, ◌++◌, length, get_or, set, replicate, refl, sym, ap, ◌∙◌, arith}
+use Rattle.std.proofs.Common.{◌≡◌, ◌≢◌, inl, inr, ℕ, ◌+◌, ◌<◌, ◌≤◌, suc, Bool, true, cond, Option, Some, None, is_some, List, [], ◌∷◌, ◌++◌, length, get_or, set, refl, sym, ap, ◌∙◌, arith}
 use Rattle.std.specs.Prelude.{count_by, Contains, AllPairs}
 use Rattle.std.specs.List.{AllPass}
-use Rattle.std.proofs.lemmas.Bool.{cases_lt, cases_eq}
-use Rattle.std.proofs.lemmas.List.{get_or_append_left, get_or_push, get_or_default, length_push, length-set, get_or-set_same, get_or-set_other, get_or-replicate, length-replicate}
+use Rattle.std.proofs.lemmas.Bool.{cases_lt, cases_eq, leb-true}
+use Rattle.std.proofs.lemmas.List.{get_or_append_left, get_or_push, get_or_default, length_push, length-set, get_or-set_same, get_or-set_other}
 use Rattle.std.proofs.lemmas.List.Sums.{sum_by-set, sum_by-cons}
 use Rattle.s370_decode.specs.declared.code.Code.{Code}
 use Rattle.module_area.specs.PlanView.{no_place, place_of}
@@ -14,7 +14,7 @@ use Rattle.listing_reader.specs.declared.lines.Line.TheVariants.{Text}
 use Rattle.listing_reader.specs.declared.lines.Line.TheVariants as says
 use Rattle.brk_table.specs.Build.{is_code, place_from, IsEntry, IsTable}
 use Rattle.brk_table.specs.Cover.{covers, is_inside, IsCover, IsEntryBelow, IsTabled, OnlyAt}
-use Rattle.brk_table.proofs.FaultLemmas.{sound_length, covers_code, true_le}
+use Rattle.brk_table.proofs.FaultLemmas.{sound_length, covers_code}
 
 -- no line begins at a location
 abbrev pub NoneAt : List Line → ℕ → Type 0
@@ -143,30 +143,11 @@ tabled_more m base lines at places entries i code t l own only = record {
           rw (get_or_push places (place_from m base at code) d k at_end, get_or_append_left places (place_from m base at code ∷ []) d j before, get_or_default places j d no_place before) (t.low j before))
     ]
 
-pub tabled_start : (m base : ℕ) (lines : List Line) (n : ℕ) → n ≡ length lines → IsTabled m base lines 0 [] (replicate n None)
-tabled_start m base lines n e = record {
-  count = length-replicate n None ∙ e;
-  entered = λ i l. first (get_or lines i Text) (get_or (replicate n None) i None) (get_or-replicate n i None None (omega arith));
-  of_lines = λ k l. absurd (omega arith);
-  low = λ k l. absurd (omega arith);
-  rising = λ j k d a b. absurd (omega arith);
-  few = omega arith;
-  filled = empty n;
-}
-  where
-    first : (line : Line) (entry : Option ℕ) → entry ≡ None → IsEntryBelow m base 0 [] line entry
-    first Text entry q = q
-    first (says.Code loc code) entry q = (λ l. absurd (omega arith), λ l. q)
-
-    empty : (n : ℕ) → count_by is_some (replicate {A = Option ℕ} n None) ≡ 0
-    empty zero = refl
-    empty (suc n) = empty n
-
 at_all : (m base size : ℕ) (places : List Place) (line : Line) (entry : Option ℕ) → is_inside size line ≡ true → is_sound line ≡ true → IsEntryBelow m base size places line entry → IsEntry m base places line entry
 at_all m base size places Text entry inside sound h = h
 at_all m base size places (says.Code loc code) entry inside sound h =
     let long = sound_length loc code sound in
-    h.0 (omega (arith, true_le (loc + code.len) size inside))
+    h.0 (omega (arith, leb-true (loc + code.len) size inside))
 
 counted : (m base : ℕ) (places : List Place) (line : Line) (entry : Option ℕ) → IsEntry m base places line entry → is_some entry ≡ is_code line
 counted m base places Text entry h = rw h refl

@@ -3,15 +3,12 @@ use Rattle.std.proofs.Common.{◌≡◌, inl, inr, ℕ, ◌-◌, ◌<◌, suc, L
 use Rattle.std.specs.Prelude.{AllPairs}
 use Rattle.std.proofs.lemmas.Bool.{cases_lt}
 use Rattle.std.proofs.lemmas.List.{get_or_default, get_or_append_left, get_or-append_right}
-use Rattle.std.proofs.lemmas.List.Elements.{All-append}
+use Rattle.std.proofs.lemmas.List.Elements.{All-append, All-tail}
 use Rattle.cov_base.specs.Memory.{ImageView}
 use Rattle.module_area.specs.Images.{AreClear, AreImages}
 use Rattle.module_area.specs.declared.places.Place.{Place}
 use Rattle.brk_table.specs.Places.{TableView, IsPlace, IsIn, AreApart, ArePlaces, HasItsPlaces, HasRisingPlaces, all_places}
 use Rattle.brk_table.specs.Together.{IsTableOf, AreTables}
-
-tail_all : {X : Type 0} (P : X → Type 0) (x : X) (xs : List X) → All P (x ∷ xs) → All P xs
-tail_all P x xs h k d l = h (suc k) d (omega arith)
 
 tail_pairs : {X : Type 0} (R : X → X → Type 0) (x : X) (xs : List X) → AllPairs R (x ∷ xs) → AllPairs R xs
 tail_pairs R x xs h j k d l b = h (suc j) (suc k) d (omega arith) (omega arith)
@@ -42,18 +39,18 @@ in_of images t is k d l =
 
 pub all_in : (images : List ImageView) (tables : List TableView) → All (IsTableOf images) tables → All (IsIn images) (all_places tables)
 all_in images [] h = λ k d l. absurd (omega arith)
-all_in images (t ∷ ts) h = All-append (IsIn images) t.places (all_places ts) (in_of images t (h 0 t (omega arith))) (all_in images ts (tail_all (IsTableOf images) t ts h))
+all_in images (t ∷ ts) h = All-append (IsIn images) t.places (all_places ts) (in_of images t (h 0 t (omega arith))) (all_in images ts (All-tail (IsTableOf images) t ts h))
 
 each_of : (images : List ImageView) (tables : List TableView) → All (IsTableOf images) tables → All IsPlace (all_places tables)
 each_of images [] h = λ k d l. absurd (omega arith)
-each_of images (t ∷ ts) h = All-append IsPlace t.places (all_places ts) (h 0 t (omega arith)).own.each (each_of images ts (tail_all (IsTableOf images) t ts h))
+each_of images (t ∷ ts) h = All-append IsPlace t.places (all_places ts) (h 0 t (omega arith)).own.each (each_of images ts (All-tail (IsTableOf images) t ts h))
 
 later_modules : (images : List ImageView) (m : ℕ) (tables : List TableView) → All (IsTableOf images) tables → All (λ (u : TableView). m < u.«module») tables → All (λ (q : Place). m < q.«module») (all_places tables)
 later_modules images m [] h r = λ k d l. absurd (omega arith)
 later_modules images m (t ∷ ts) h r =
     let own = h 0 t (omega arith) in
     let less : m < t.«module» = r 0 t (omega arith) in
-    All-append (λ (q : Place). m < q.«module») t.places (all_places ts) (λ k d l. rw (own.own.own k d l).of less) (later_modules images m ts (tail_all (IsTableOf images) t ts h) (tail_all (λ (u : TableView). m < u.«module») t ts r))
+    All-append (λ (q : Place). m < q.«module») t.places (all_places ts) (λ k d l. rw (own.own.own k d l).of less) (later_modules images m ts (All-tail (IsTableOf images) t ts h) (All-tail (λ (u : TableView). m < u.«module») t ts r))
 
 clear_apart : (images : List ImageView) (p q : Place) → AllPairs AreClear images → IsIn images p → IsIn images q → p.«module» < q.«module» → AreApart p q
 clear_apart images p q clear a b less =
@@ -69,7 +66,7 @@ apart_all : (images : List ImageView) (tables : List TableView) → AllPairs Are
 apart_all images [] clear h r = λ j k d l b. absurd (omega arith)
 apart_all images (t ∷ ts) clear h r =
     let own = h 0 t (omega arith) in
-    let rest = tail_all (IsTableOf images) t ts h in
+    let rest = All-tail (IsTableOf images) t ts h in
     let later = later_modules images t.«module» ts rest (first_pairs (λ (t u : TableView). t.«module» < u.«module») t ts r) in
     pairs_append AreApart t.places (all_places ts) own.own.apart (apart_all images ts clear rest (tail_pairs (λ (t u : TableView). t.«module» < u.«module») t ts r))
     (λ j k d l b. (let less = later k d b in

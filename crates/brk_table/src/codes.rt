@@ -1,5 +1,5 @@
 //! The instructions of the places.
-ghost use Rattle.std.specs.Prelude.{◌≡◌, ℕ, ◌+◌, ◌<◌, ◌≤◌, length, get_or, All, IfOk};
+ghost use Rattle.std.specs.Prelude.{◌≡◌, ◌+◌, ◌<◌, ◌≤◌, length, All, IfOk};
 ghost use Rattle.brk_table.specs.Kept.{code_in, AreCodesOf};
 ghost use Rattle.brk_table.specs.Places.{IsIn};
 

@@ -1,5 +1,5 @@
 //! The place at each address, found by two loads.
-ghost use Rattle.std.specs.Prelude.{◌≡◌, ℕ, ◌+◌, ◌*◌, ◌/◌, ◌%◌, ◌<◌, ◌≤◌, length, get_or, All, AllPairs, OnOk, IfOk};
+ghost use Rattle.std.specs.Prelude.{◌≡◌, ◌+◌, ◌*◌, ◌/◌, ◌%◌, ◌<◌, ◌≤◌, length, get_or, OnOk};
 ghost use Rattle.brk_table.specs.Places.{ArePlaces};
 ghost use Rattle.brk_table.specs.Map.{slot_of, entry_at, ArePages, IsMap, AreKept, AreSame};
 

@@ -1,5 +1,5 @@
 //! The places of a listing's instructions, in order of address.
-ghost use Rattle.std.specs.Prelude.{◌≡◌, ℕ, ◌+◌, ◌<◌, ◌≤◌, length, get_or, count_by, IfOk, IfErr, OnOk, IfSome, IsNone};
+ghost use Rattle.std.specs.Prelude.{◌≡◌, ◌+◌, ◌<◌, ◌≤◌, length, count_by, IfOk, IfErr, OnOk, IfSome, IsNone};
 ghost use Rattle.std.specs.List.{AllPass};
 ghost use Rattle.s370_decode.specs.declared.code.Code.{Code as Instruction};
 ghost use Rattle.listing_reader.specs.Listing.{is_sound};

@@ -1,13 +1,13 @@
 -- A step that ends a task BadSvc has read its first halfword, and leaves all but the count.
-use Rattle.std.proofs.Common.{◌≡◌, ℕ, ◌+◌, ◌%◌, Bool, true, false, if◌then◌else◌, ◌==◌, nat_le, Option, Some, None, List, [], ◌∷◌, ◌++◌, refl, sym, ap, subst}
+use Rattle.std.proofs.Common.{◌≡◌, ℕ, ◌%◌, Bool, true, false, if◌then◌else◌, ◌==◌, nat_le, Option, Some, None, List, [], ◌∷◌, ◌++◌, refl, sym, ap, subst}
 use Rattle.std.proofs.lemmas.Bool.{cond_both, both_ways}
 use Rattle.cov_base.specs.Codes.{length_of}
-use Rattle.cov_base.specs.Memory.{Memory, can_reach, half_at, wrap}
+use Rattle.cov_base.specs.Memory.{Memory, can_reach, half_at}
 use Rattle.cov_base.specs.States.{IoView, Machine, State}
 use Rattle.s370_state.specs.Row.{Outcome, Completes, Overflows, Program, Row, Use, after_tests, all_reached, all_stored, finish, is_enabled, next_after, operate, perform, reg, stores, reads, tests, touch_ending, touched, use_tests}
 use Rattle.s370_state.specs.Io.{bytes_free}
 use Rattle.s370_state.specs.declared.endings.Ending.{Ending}
-use Rattle.s370_state.specs.declared.endings.Ending.TheVariants.{Exit, Abend, BadSvc, OutFull, Touched}
+use Rattle.s370_state.specs.declared.endings.Ending.TheVariants.{Exit, Abend, BadSvc, OutFull}
 use Rattle.s370_state.specs.declared.endings.Next.{Next}
 use Rattle.s370_state.specs.declared.endings.Next.TheVariants.{On, Ended}
 use Rattle.s370_decode.specs.Fields.{ex, first_half, i2}
@@ -18,9 +18,8 @@ use Rattle.s370_decode.specs.declared.group.Group.{Group}
 use Rattle.s370_decode.specs.declared.group.Group.TheVariants.{Fixed, Logic, Storage, Decimal, Edit, Branch, Call, Supervisor, Missing}
 use Rattle.s370_decode.specs.declared.op.Op.{Op}
 use Rattle.s370_exec.specs.Effects.{Effect, at_address, call, call_address, effect, effect_in, ended_by, get_call, get_size, get_tested, is_completed, link_code, onward, onward_by, operand, put_call, put_tested, unchanged, updated}
-use Rattle.s370_exec.specs.Fetch.{code_at, first_tests, is_execute, later, merged, rest_tests, subject_tests}
+use Rattle.s370_exec.specs.Fetch.{code_at, first_tests, is_execute, merged, rest_tests, subject_tests}
 use Rattle.s370_exec.specs.Solo.{Step, begun_step, behind, fetched, from_first, solo_step, stepped, subject_fetched, subject_step, visit}
-use Rattle.std.specs.Option.{option_or}
 
 abbrev is_bad : Ending → Bool
 is_bad (BadSvc number) = true
@@ -38,24 +37,6 @@ tests_bad (Some e) = is_bad e
 first_good : (m : Memory) (a : ℕ) → tests_bad (first_tests m a) ≡ false
 first_good m a = cond_both (a % 2 == 1) (Some (Abend 6)) (if can_reach m a 2 then None else Some (Abend 5)) (λ (o : Option Ending). tests_bad o ≡ false)
     (λ e. refl) (λ e. cond_both (can_reach m a 2) None (Some (Abend 5)) (λ (o : Option Ending). tests_bad o ≡ false) (λ f. refl) (λ f. refl))
-
-later_good : (m : Memory) (a : ℕ) → tests_bad (later m a) ≡ false
-later_good m a = cond_both (can_reach m a 2) (if m.is_touch a then Some (Touched a) else None) (Some (Abend 5)) (λ (o : Option Ending). tests_bad o ≡ false)
-    (λ e. cond_both (m.is_touch a) (Some (Touched a)) None (λ (o : Option Ending). tests_bad o ≡ false) (λ f. refl) (λ f. refl)) (λ e. refl)
-
-or_good : (a b : Option Ending) → tests_bad a ≡ false → tests_bad b ≡ false → tests_bad (option_or a b) ≡ false
-or_good None b f g = g
-or_good (Some e) b f g = f
-
-rest_good : (m : Memory) (a size : ℕ) → tests_bad (rest_tests m a size) ≡ false
-unfolding rest_tests
-rest_good m a size =
-    cond_both (size == 2) None (option_or (later m (wrap (a + 2))) (if size == 4 then None else later m (wrap (a + 4)))) (λ (o : Option Ending). tests_bad o ≡ false) (λ e. refl)
-    (λ e. or_good (later m (wrap (a + 2))) (if size == 4 then None else later m (wrap (a + 4))) (later_good m (wrap (a + 2)))
-    (cond_both (size == 4) None (later m (wrap (a + 4))) (λ (o : Option Ending). tests_bad o ≡ false) (λ f. refl) (λ f. later_good m (wrap (a + 4)))))
-
-subject_good : (m : Memory) (a h : ℕ) → tests_bad (subject_tests m a h) ≡ false
-subject_good m a h = cond_both (is_execute h) (Some (Abend 3)) (rest_tests m a (length_of h)) (λ (o : Option Ending). tests_bad o ≡ false) (λ e. refl) (λ e. rest_good m a (length_of h))
 
 touch_good : (o : Option ℕ) → tests_bad (touch_ending o) ≡ false
 touch_good None = refl

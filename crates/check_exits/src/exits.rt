@@ -1,5 +1,5 @@
 //! The exit of a task, and what becomes of an ending under it.
-ghost use Rattle.std.specs.Prelude.{◌≡◌, ℕ, ◌+◌, Some, None, List, []};
+ghost use Rattle.std.specs.Prelude.{◌≡◌, ℕ, Some, None, List, []};
 ghost use Rattle.cov_base.specs.States.{IoView};
 ghost use Rattle.s370_state.specs.declared.endings.Next.TheVariants.{Ended};
 ghost use Rattle.s370_state.specs.declared.endings.Ending.TheVariants.{BadSvc};

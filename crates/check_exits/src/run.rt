@@ -1,5 +1,5 @@
 //! A task's run under an exit.
-ghost use Rattle.std.specs.Prelude.{◌≡◌, ℕ, ◌+◌, ◌*◌, ◌<◌, ◌≤◌, ◌^◌, true};
+ghost use Rattle.std.specs.Prelude.{◌≡◌, ℕ, ◌+◌, ◌<◌, ◌≤◌, ◌^◌, true};
 ghost use Rattle.std.specs.declared.option.Option.TheVariants.{None};
 ghost use Rattle.cov_base.specs.declared.limits.TheConstants.{PLACE_LIMIT};
 ghost use Rattle.module_area.specs.Control.{control_after};

@@ -1,5 +1,5 @@
 //! The runner of tasks under exits.
-ghost use Rattle.std.specs.Prelude.{◌≡◌, ℕ};
+ghost use Rattle.std.specs.Prelude.{◌≡◌};
 ghost use Rattle.std.specs.declared.option.Option.TheVariants.{None};
 ghost use Rattle.check_exits.specs.Exits.{with_exits};
 

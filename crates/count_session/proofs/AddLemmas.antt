@@ -1,12 +1,10 @@
 -- What a pass adds of one visit, and of visits one after the other.
 use Rattle.std.proofs.Common.{◌≡◌, ◌≢◌, ℕ, ◌+◌, ◌<◌, Bool, true, false, ◌&&◌, ◌-◌, ◌*◌, Option, Some, None, ◌==◌, nat_eq, if◌then◌else◌, List, [], ◌∷◌, ◌++◌, length, refl, sym, ◌∙◌, ap, subst, arith, eq-eqb, ne_eqb, length-append, eqb-true}
 use native.Mathlib.Decide.{ℕ_discrete}
-use Rattle.cov_base.specs.Facts.{same_fact, is_of_kind, fact_of}
+use Rattle.cov_base.specs.Facts.{same_fact, fact_of}
 use Rattle.cov_base.specs.States.{State, Visit}
 use Rattle.cov_base.specs.declared.facts.Fact.{Fact}
 use Rattle.cov_base.specs.declared.facts.Fact.TheVariants.{Ran, Went, Stayed}
-use Rattle.cov_base.specs.declared.facts.Kind.{Kind}
-use Rattle.cov_base.specs.declared.facts.Kind.TheVariants.{Straight, Conditional}
 use Rattle.s370_exec.specs.Solo.{visit}
 use Rattle.module_area.specs.Executions.{executes}
 use Rattle.cov_base.specs.Codes.{breakpoint}
@@ -35,11 +33,6 @@ turned Went Stayed = refl
 turned Stayed Ran = refl
 turned Stayed Went = refl
 turned Stayed Stayed = refl
-
-pub of_its_kind : (k : Kind) (went : Bool) → is_of_kind k (fact_of k went) ≡ true
-of_its_kind Straight went = refl
-of_its_kind Conditional true = refl
-of_its_kind Conditional false = refl
 
 pub count_at-append : (place : Place) (f : Fact) (vs ws : List Visit) → count_at place f (vs ++ ws) ≡ count_at place f vs + count_at place f ws
 count_at-append place f [] ws = omega arith

@@ -12,16 +12,13 @@ use Rattle.job_run.specs.Runs.{trace_by}
 use Rattle.job_run.specs.declared.outcome.Done.{Done}
 use Rattle.job_run.proofs.SessionLemmas.{window_at-session, phase_in}
 use Rattle.count_session.specs.Counting.{count_of_all}
-use Rattle.count_session.specs.Job.{AreSized, IsCountedJob, count_of}
+use Rattle.count_session.specs.Job.{IsCountedJob, count_of}
 use Rattle.count_session.specs.Phases.{AreCounted, session_count}
 use Rattle.count_session.specs.Slots.{HaveRun, dones}
 use Rattle.count_session.specs.Tallied.{count_in}
 use Rattle.count_session.specs.declared.counts.PlaceCount.{PlaceCount}
 use Rattle.count_session.specs.declared.slots.Slot.{Slot}
 use Rattle.count_session.proofs.SlotLemmas.{all_ended}
-
-pub are_sized : (j : JobView) (places : List Place) (counts : List (List PlaceCount)) → AreCounted j places (length j.phases) counts → AreSized (record { job = j; places = places; phases = counts })
-are_sized j places counts a = record { count = a.0; sizes = λ k d l. (a.1 k d (let n = a.0 in omega (arith, l, n))).size }
 
 is_count : (j : JobView) (places : List Place) (counts : List (List PlaceCount)) → IsJob j → AreWhole j → AreCounted j places (length j.phases) counts → (s p : ℕ) (f : Fact) → 0 < s → s ≤ length j.sessions → p < length places →
     count_of (record { job = j; places = places; phases = counts }) s p f ≡ session_count j places s p f

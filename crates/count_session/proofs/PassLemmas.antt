@@ -1,5 +1,5 @@
 -- Passes split off, counted with and taken back.
-use Rattle.std.proofs.Common.{◌≡◌, ◌≢◌, ◌⊎◌, inl, inr, ℕ, zero, suc, ◌+◌, ◌<◌, ◌≤◌, Bool, true, false, not, ◌&&◌, nat_eq, nat_lt, if◌then◌else◌, Option, Some, None, unwrap_or, List, [], ◌∷◌, ◌++◌, length, get_or, set, All, IfOk, refl, sym, ◌∙◌, ap, subst, arith}
+use Rattle.std.proofs.Common.{◌≡◌, ◌≢◌, ◌⊎◌, inl, inr, ℕ, zero, suc, ◌+◌, ◌<◌, ◌≤◌, Bool, true, false, not, ◌&&◌, nat_eq, nat_lt, if◌then◌else◌, Option, Some, None, List, [], ◌∷◌, ◌++◌, length, get_or, set, All, IfOk, refl, sym, ◌∙◌, ap, subst, arith}
 use Rattle.std.proofs.lemmas.Bool.Decides.{nat_tests}
 use Rattle.std.proofs.lemmas.Bool.{eqb-true}
 use Rattle.std.proofs.lemmas.Grind.{get_or-set_at}
@@ -28,6 +28,7 @@ use Rattle.std.proofs.Math.Seq.{get_or-append_seam}
 use Rattle.std.proofs.lemmas.List.{get_or_append_left, length-append}
 use Rattle.std.specs.declared.result.Result.{Result}
 use Rattle.std.specs.declared.result.Result.TheVariants.{Ok, Err}
+use Rattle.std.proofs.lemmas.Option.{same_Some}
 use Rattle.cov_base.specs.declared.shortage.NoMemory.{NoMemory}
 use Rattle.count_session.specs.Tallied.{HasCounts}
 use Rattle.count_session.specs.declared.counts.PlaceCount.{PlaceCount}
@@ -255,9 +256,6 @@ module _ (cells : CountCells) (root : CountNotes) (j : JobView) where
   pub AreOver-all : (places : List Place) (phase n : ℕ) (slots : List Slot) → length slots ≤ n → AreOver cells root j places phase n slots → AreEmpty slots
   AreOver-all places phase n slots all a k d l = a.none k d l (past (in_phase j phase k) k n (omega (arith, l, all)))
 
-  the_pass : (p q : CountPass) → Some p ≡ Some q → p ≡ q
-  the_pass p q e = ap (λ o. unwrap_or o p) e
-
   empty_next : (places : List Place) (phase next : ℕ) (slots : List Slot) (d : Slot) → next < length slots → AreOver cells root j places phase next slots → in_phase j phase next ≡ false → (get_or slots next d).pass ≡ None
   empty_next places phase next slots d l a h = a.none next d l (let s = still next in rw (s, h) refl)
 
@@ -266,7 +264,7 @@ module _ (cells : CountCells) (root : CountNotes) (j : JobView) where
   pass_of places phase next slots d p l a h = by_phase (in_phase j phase next) refl
     where
       by_phase : (b : Bool) → in_phase j phase next ≡ b → (in_phase j phase next ≡ true) × HasCounted cells root (trace_by solo j places next) p
-      by_phase true e = let s = a.some next d (omega arith) l e in (e, subst (HasCounted cells root (trace_by solo j places next)) (the_pass s.pass p (sym s.has ∙ h)) s.holds)
+      by_phase true e = let s = a.some next d (omega arith) l e in (e, subst (HasCounted cells root (trace_by solo j places next)) (same_Some s.pass p (sym s.has ∙ h)) s.holds)
       by_phase false e = let never : None ≡ Some p = sym (empty_next places phase next slots d l a e) ∙ h in absurd cc
 
   pub not_of : (places : List Place) (phase next : ℕ) (slots : List Slot) (d : Slot) → next < length slots → AreOver cells root j places phase next slots → (get_or slots next d).pass ≡ None → in_phase j phase next ≡ false

@@ -3,6 +3,7 @@ use Rattle.std.proofs.Common.{◌≡◌, ◌≢◌, ◌⊎◌, inl, inr, ℕ, �
 use Rattle.std.proofs.Math.Seq.{get_or-append_seam}
 use Rattle.std.proofs.lemmas.Grind.{get_or-set_at}
 use Rattle.std.proofs.lemmas.List.{get_or_append_left, get_or_default, get_or-map, get_or-set_other, length-append, length-map}
+use Rattle.std.proofs.lemmas.Bool.{lt-ltb}
 use Rattle.cov_base.specs.Memory.{Memory}
 use Rattle.module_area.specs.PlanView.{PlanView}
 use Rattle.module_area.specs.declared.places.Place.{Place}
@@ -15,7 +16,7 @@ use Rattle.job_run.specs.Runs.{result_by, result_of_run}
 use Rattle.job_run.specs.Slots.{in_phase}
 use Rattle.job_run.specs.Tasks.{HasNotRun, IsEnded, has_run, done_result, no_result, results_of, own_run}
 use Rattle.job_run.specs.declared.outcome.Done.{Done}
-use Rattle.job_run.proofs.TaskLemmas.{begun_run, earlier, earlier_or, is_task, no_done, none_earlier, not_next, private_of}
+use Rattle.job_run.proofs.TaskLemmas.{begun_run, earlier_or, is_task, no_done, none_earlier, not_next, private_of}
 use Rattle.count_session.specs.Slots.{AreEmpty, HaveRun, dones}
 use Rattle.count_session.specs.declared.slots.Slot.{Slot}
 
@@ -103,7 +104,7 @@ pub all_ended : (j : JobView) (places : List Place) (slots : List Slot) (t : ℕ
 all_ended j places slots t job a l =
     let here : t < length slots = omega (arith, l, a.count) in
     let there : t < length (dones slots) = omega (arith, here, length-map slots (λ (s : Slot). s.done)) in
-    let ended : IsEnded solo j places t (get_or slots t no_slot).done = a.ended t no_slot here (earlier (task_of j t).phase (length j.phases) (is_task j t job l).phase) in
+    let ended : IsEnded solo j places t (get_or slots t no_slot).done = a.ended t no_slot here (lt-ltb (task_of j t).phase (length j.phases) (is_task j t job l).phase) in
     let found : results_of (dones slots) t ≡ done_result (get_or slots t no_slot).done =
     get_or-map done_result (dones slots) t no_done no_result there ∙ ap done_result (get_or-map (λ (s : Slot). s.done) slots t no_slot no_done here) in
     (found ∙ ended.result, ap (λ (r : ResultView). length r.bytes) found ∙ ended.filled)

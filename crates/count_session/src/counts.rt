@@ -1,7 +1,6 @@
 //! The counts that an area ends with.
 ghost use Rattle.std.specs.Prelude.{◌≡◌, ◌<◌, ◌≤◌, true, length, IfOk};
 ghost use Rattle.std.specs.Slots.{slots_items, slots_len, IsFull};
-ghost use Rattle.count_session.specs.Notes.{CountNotes};
 ghost use Rattle.count_session.specs.Passes.{IsPassOf, notes_of, plan_in};
 ghost use Rattle.count_session.specs.Tallied.{HasCounts, AreRead, count_in, fact_count};
 ghost use Rattle.count_session.specs.Words.{word_count};

@@ -3,7 +3,7 @@ ghost use Rattle.std.specs.Prelude.{◌≡◌, ◌+◌, ◌<◌, ◌≤◌, nat_
 ghost use Rattle.std.specs.List.{list_any};
 ghost use Rattle.brk_table.specs.Kept.{AreCodes};
 ghost use Rattle.session_book.specs.JobView.{IsJob};
-ghost use Rattle.session_book.specs.Sessions.{AreWhole, observes, session_of};
+ghost use Rattle.session_book.specs.Sessions.{AreWhole};
 ghost use Rattle.count_session.specs.Job.{CountsView, IsCountedJob, count_of};
 ghost use Rattle.count_session.specs.Phases.{AreCounted};
 ghost use Rattle.count_session.specs.Slots.{AreEmpty, HaveRun};

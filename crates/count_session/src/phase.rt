@@ -1,7 +1,6 @@
 //! The tasks of a phase, each on a thread of its own, over cells in which breakpoints stay.
-ghost use Rattle.std.specs.Prelude.{◌≡◌, ℕ, ◌+◌, ◌<◌, ◌≤◌, ◌||◌, ◌&&◌, nat_eq, nat_lt, true, false, length, slice_index_or, All, IfOk};
+ghost use Rattle.std.specs.Prelude.{◌≡◌, ℕ, ◌+◌, ◌<◌, ◌||◌, ◌&&◌, nat_eq, nat_lt, true, false, length, slice_index_or, All, IfOk};
 ghost use Rattle.std.specs.declared.option.Option.TheVariants.{None};
-ghost use Rattle.cov_base.specs.declared.limits.TheConstants.{TASK_LIMIT};
 ghost use Rattle.module_area.specs.PlanView.{window_at};
 ghost use Rattle.brk_table.specs.Kept.{AreCodes};
 ghost use Rattle.session_book.specs.JobView.{IsJob};

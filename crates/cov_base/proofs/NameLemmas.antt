@@ -1,7 +1,6 @@
 -- A name that is filled with blanks, and its bytes before them.
-use Rattle.std.proofs.Common.{◌≡◌, ◌≢◌, ℕ, ◌-◌, ◌<◌, zero, suc, Bool, true, false, ◌&&◌, nat_eq, List, [], ◌∷◌, ◌++◌, length, take, drop, replicate, slice_index, Some, refl, ap, arith}
+use Rattle.std.proofs.Common.{◌≡◌, ◌≢◌, ℕ, ◌-◌, ◌<◌, zero, suc, Bool, true, false, ◌&&◌, nat_eq, List, [], ◌∷◌, ◌++◌, length, take, replicate, slice_index, Some, refl, ap, arith}
 use Rattle.std.specs.List.{list_all}
-use Rattle.std.proofs.lemmas.List.{drop-replicate}
 use Rattle.std.proofs.lemmas.Bool.Decides.{nat_tests}
 use Rattle.cov_base.specs.Names.{is_name_byte, is_name, padded, unpadded, name_at}
 
@@ -45,10 +44,6 @@ pub unpadded_ends : (xs : List ℕ) → ((k : ℕ) → k < length xs → slice_i
 unpadded_ends [] n = refl
 unpadded_ends (b ∷ bs) n =
     rw (not_blank b (n 0 (omega arith))) (ap (λ x. b ∷ x) (unpadded_ends bs (λ k l. n (suc k) (omega arith))))
-
--- what copying a name over eight blanks gives
-pub padded_copy : (w got room : List ℕ) → room ≡ replicate 8 32 → got ≡ w → got ++ drop (length w) room ≡ padded w
-padded_copy w got room b e = rw (e, b, drop-replicate {X = ℕ} (length w) 8 32) refl
 
 pub padded_name : (w bytes : List ℕ) → is_name w ≡ true → bytes ≡ padded w → (is_name (unpadded bytes) ≡ true) × (padded (unpadded bytes) ≡ bytes)
 padded_name w bytes h e = rw (e, unpadded-padded w h) (h, refl)

@@ -1,5 +1,5 @@
 -- What the program answers with, cause by cause.
-use Rattle.std.proofs.Common.{inl, inr, OnOk, OnErr, ◌≡◌, ℕ, ◌≤◌, true, false, Option, None, Result, Ok, Err, List, length, take, drop, refl, sym, ap, ◌∙◌, arith}
+use Rattle.std.proofs.Common.{inl, inr, OnOk, OnErr, ◌≡◌, ℕ, ◌≤◌, true, false, Option, Result, Ok, Err, List, length, take, drop, refl, sym, ap, ◌∙◌, arith}
 use Rattle.std.proofs.lemmas.List.{length-append, take_all, take_at, drop_at}
 use Rattle.cov_outside.specs.Writes.{Writes}
 use Rattle.module_area.specs.declared.places.Place.{Place}
@@ -20,29 +20,26 @@ use Rattle.interleave_core.specs.World.{Parts}
 use Rattle.report_text.specs.Conditions.{AreResultsOf, AreSetsOf}
 use Rattle.report_text.specs.Report.{report_of}
 use Rattle.report_text.specs.Table.{table_text}
-use Rattle.coverage_program.specs.Answers.{HasPlay, IsStopped, BadJob, LargeJob, BadListing, WantOfMemory, Report, Places, Replayed, BadSchedule, Stopped, NoMemoryToRun, IsWritten, Answers, fault_refusal}
+use Rattle.coverage_program.specs.Answers.{HasPlay, IsStopped, BadJob, LargeJob, WantOfMemory, Report, Places, Replayed, Stopped, IsWritten, Answers, fault_refusal}
 use Rattle.coverage_program.specs.Inputs.{HasJob, CameWhole, CameJob, CameFirst}
 use Rattle.coverage_program.specs.Changes.{SourceChange, SinkChange, AreasChange, sink_change, no_change}
 use Rattle.coverage_program.specs.declared.schedule.Played.{Played}
 use Rattle.job_run.specs.declared.outcome.Done.{Done}
-use Rattle.coverage_program.specs.declared.tables.Refused.{Refused}
-use Rattle.coverage_program.specs.declared.tables.Refused.TheVariants.{Told, NoMemory}
+use Rattle.coverage_program.specs.declared.tables.Refused.TheVariants.{NoMemory}
 use Rattle.coverage_program.specs.declared.words.Command.{Command}
 use Rattle.coverage_program.specs.declared.words.Command.TheVariants.{Run, Exits, Early, Count, Marks, Trial, Table, Replay, Combine, Show, Prove, Verify, Unknown}
 use Rattle.job_run.specs.Outcomes.{IsOutcomeBy}
-use Rattle.coverage_program.specs.Named.{HasAsked}
-use Rattle.coverage_program.specs.Refusals.{RefusalView, job_refusal, Match}
-use Rattle.coverage_program.specs.Refused.{IsRefused, refused_refusal}
+use Rattle.coverage_program.specs.Refusals.{RefusalView, Match}
 use Rattle.task_run.specs.Courses.{Course}
 use Rattle.job_run.specs.Runs.{Account, HasRunBy, HasLeftBy}
 use Rattle.coverage_program.specs.Reports.{Reports}
 use Rattle.job_run.specs.Sets.{SetsView, set_in}
 use Rattle.job_run.proofs.SessionLemmas.{set_is_left}
 use Rattle.job_run.specs.Tasks.{results_of}
-use Rattle.coverage_program.specs.Replay.{Bad, Whole, replay_text}
+use Rattle.coverage_program.specs.Replay.{Whole, replay_text}
 use Rattle.coverage_program.proofs.RunLemmas.{play_is_run}
-use Rattle.coverage_program.proofs.WordLemmas.{by_report, ready_to_run}
-use Rattle.coverage_program.specs.Words.{reads_input, reads_job, Reading, Asked, AnyJob, to_end, reading_of, makes_areas, runs_threads, reports_run, course_of, asked_of, without_threads, no_memory_line, bad_schedule_line}
+use Rattle.coverage_program.proofs.WordLemmas.{by_report}
+use Rattle.coverage_program.specs.Words.{reads_input, reads_job, Reading, Asked, AnyJob, to_end, reading_of, runs_threads, reports_run, course_of, asked_of, without_threads}
 
 pub are_sets : (course : Course) (j : JobView) (tables : TablesView) (tasks : List Done) (sets : SetsView) → IsOutcomeBy course j tables.places tasks sets →
     AreSetsOf j tables (length sets.job.sessions) sets.places (λ s p. set_in sets s p)
@@ -80,15 +77,6 @@ reported c s j tables a k answer text reporting came match' numbered ran reps to
   status = 0;
   text = text;
   cause = Report (refl, reporting) (record { job = j; tables = tables; came = record { came = came; match = match'; numbered = numbered }; ran = ran; reports = reps });
-  told = told;
-}
-
-pub wanting_to_run : (c : Command) (s : SourceChange) (j : JobView) (tables : TablesView) (a : AreasChange) (k : SinkChange) (answer : ℕ) → reports_run c ≡ true →
-    CameJob to_end s j → Match j tables.tables → tables.places ≡ all_places tables.tables → IsWritten 7 no_memory_line k answer → Answers c s a k answer
-wanting_to_run c s j tables a k answer reporting came match' numbered told = record {
-  status = 7;
-  text = no_memory_line;
-  cause = NoMemoryToRun (refl, by_report (λ d. makes_areas d ≡ true) c reporting refl refl, refl) (ready_to_run c s j tables reporting (record { came = came; match = match'; numbered = numbered }));
   told = told;
 }
 
@@ -154,11 +142,6 @@ read_is how s bytes r came read whole =
       parted = record { inside = read.inside; before = sym first; behind = sym behind };
     }
 
--- by the first fault of the job's listings
-pub unmatched : (how : Reading) (asked : Asked) (s : SourceChange) (j : JobView) (r : Refused) → CameJob how s j → HasAsked asked j → IsRefused (job_refusal j) r → IsStopped true how asked s (refused_refusal r).status (refused_refusal r).line
-unmatched how asked s j (Told r) came has first = BadListing refl (record { job = j; came = came; has = has; first = first })
-unmatched how asked s j NoMemory came has first = WantOfMemory (refl, refl)
-
 -- a schedule that was played, and one that wasn't
 pub replayed : (s : SourceChange) (j : JobView) (tables : TablesView) (core : Parts) (played : List Played) (a : Account) (k : SinkChange) (answer : ℕ) →
     HasPlay s j tables (Whole core played) → IsWritten 0 (replay_text j tables core played) k answer → Answers Replay s (no_change a) k answer
@@ -168,18 +151,6 @@ replayed s j tables core played a k answer has told = record {
   cause = Replayed (refl, refl) (record { job = j; tables = tables; core = core; played = played; has = has; run = play_is_run j tables.places has.count core (lines_of (drop has.end has.bytes)) played has.plays; is_text = refl }) refl;
   told = told;
 }
-
-pub unplayed : (s : SourceChange) (j : JobView) (tables : TablesView) (n : ℕ) (a : Account) (k : SinkChange) (answer : ℕ) →
-    HasPlay s j tables (Bad n) → IsWritten 9 (bad_schedule_line n) k answer → Answers Replay s (no_change a) k answer
-unplayed s j tables n a k answer has told = record {
-  status = 9;
-  text = bad_schedule_line n;
-  cause = BadSchedule (refl, refl) (record { job = j; tables = tables; line = n; has = has; told = refl }) refl;
-  told = told;
-}
-
-pub unplayed_wanting : (s : SourceChange) (a : Account) (k : SinkChange) (answer : ℕ) → IsWritten 7 no_memory_line k answer → Answers Replay s (no_change a) k answer
-unplayed_wanting s a k answer told = record { status = 7; text = no_memory_line; cause = Stopped refl (WantOfMemory (refl, refl)) refl; told = told }
 
 -- the words that need no threads are answered alike
 pub alike : (c : Command) → runs_threads c ≡ false → without_threads c ≡ c

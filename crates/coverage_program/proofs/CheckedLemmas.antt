@@ -39,9 +39,6 @@ proved name s j tables number a k answer came match' numbered is free told = rec
   told = told;
 }
 
-pub unproved : (name : List ℕ) (s : SourceChange) (a : Account) (k : SinkChange) (answer : ℕ) → IsWritten 7 no_memory_line k answer → Answers (Prove name) s (no_change a) k answer
-unproved name s a k answer told = record { status = 7; text = no_memory_line; cause = Stopped refl (WantOfMemory (refl, refl)) refl; told = told }
-
 -- ---- the verdict on a file and evidence
 
 pub judged_verified : (j : JobView) (tables : TablesView) (s : ℕ) (ms : List MarkedView) (bs : List ℕ) (n : ℕ) → IsOwn j tables s ms → Passes j tables s ms bs → n ≡ facts_of_modules ms → Verified n ≡ judged j tables s ms bs

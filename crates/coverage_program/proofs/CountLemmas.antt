@@ -1,5 +1,5 @@
 -- What the program answers of counts.
-use Rattle.std.proofs.Common.{◌≡◌, ℕ, Bool, true, false, not, if◌then◌else◌, Option, None, Some, List, [], ◌∷◌, ◌+◌, refl, sym, ap, ◌∙◌, All}
+use Rattle.std.proofs.Common.{◌≡◌, ℕ, Bool, true, false, if◌then◌else◌, None, Some, List, [], ◌∷◌, ◌+◌, refl, All}
 use Rattle.std.proofs.lemmas.List.Elements.{All-cons, All-nil}
 use Rattle.brk_table.specs.Places.{TablesView, all_places}
 use Rattle.count_session.specs.Job.{CountsView, IsCountedJob, count_of}
@@ -9,13 +9,12 @@ use Rattle.job_run.specs.declared.outcome.Done.{Done}
 use Rattle.report_text.specs.Counts.{count_text}
 use Rattle.session_book.specs.JobView.{JobView, SessionView}
 use Rattle.session_book.specs.Sessions.{AreWhole, is_whole}
-use Rattle.coverage_program.specs.Answers.{Counted, Stopped, WantOfMemory, IsWritten, Answers}
+use Rattle.coverage_program.specs.Answers.{Counted, IsWritten, Answers}
 use Rattle.coverage_program.specs.Changes.{SourceChange, SinkChange, no_change}
 use Rattle.coverage_program.specs.Inputs.{CameJob}
 use Rattle.coverage_program.specs.Named.{controlled_from, first_controlled}
 use Rattle.coverage_program.specs.Refusals.{Match}
-use Rattle.coverage_program.specs.Reports.{Counts}
-use Rattle.coverage_program.specs.Words.{to_end, no_memory_line}
+use Rattle.coverage_program.specs.Words.{to_end}
 use Rattle.coverage_program.specs.declared.words.Command.TheVariants.{Count}
 
 -- no session has a controller where none is found
@@ -44,6 +43,3 @@ counted s j tables a tasks counts k answer came free match' numbered is told = r
   }) refl;
   told = told;
 }
-
-pub uncounted : (s : SourceChange) (a : Account) (k : SinkChange) (answer : ℕ) → IsWritten 7 no_memory_line k answer → Answers Count s (no_change a) k answer
-uncounted s a k answer told = record { status = 7; text = no_memory_line; cause = Stopped refl (WantOfMemory (refl, refl)) refl; told = told }

@@ -19,29 +19,28 @@ use Rattle.task_run.specs.Ran.{walk_from}
 use Rattle.job_run.specs.Outcomes.{AreExtras, HasEnded, IsOutcomeBy}
 use Rattle.job_run.specs.Runs.{solo_result, walk_by}
 use Rattle.job_run.specs.Sets.{SetsView, no_finals}
-use Rattle.job_run.specs.Tasks.{done_result, no_result, results_of}
+use Rattle.job_run.specs.Tasks.{done_result, no_result}
 use Rattle.job_run.specs.declared.outcome.Done.{Done}
 use Rattle.job_run.proofs.TaskLemmas.{begun_walk}
 use Rattle.session_book.specs.Results.{ResultView}
 use Rattle.early_report.specs.DrainView.{DrainView}
 use Rattle.early_report.specs.Drains.{controller_in, controller_of, others}
-use Rattle.early_report.specs.Text.{drained_in, drained_by, drained_of, taken_at}
-use Rattle.early_report.specs.Told.{IsTold, IsTaken, IsPending, HasTold, closing_count}
+use Rattle.early_report.specs.Text.{drained_in, drained_of, taken_at}
+use Rattle.early_report.specs.Told.{IsTold, HasTold, closing_count}
 use Rattle.early_report.specs.declared.drains.Stage.{Stage}
 use Rattle.early_report.specs.Text.{early_of}
 use Rattle.brk_table.specs.Places.{TablesView, all_places}
 use Rattle.job_run.specs.Runs.{HasRun}
 use Rattle.job_text.specs.Lines.{lines_of}
 use Rattle.job_text.proofs.WholeJob.{job_keeps}
-use Rattle.coverage_program.specs.Answers.{IsWritten, Answers, ReportedEarly, NoMemoryToRun}
+use Rattle.coverage_program.specs.Answers.{IsWritten, Answers, ReportedEarly}
 use Rattle.coverage_program.specs.Changes.{SourceChange, SinkChange, AreasChange}
 use Rattle.coverage_program.specs.Drained.{AreDrained, IsDrained, closing_of, other_tasks}
 use Rattle.coverage_program.specs.Inputs.{CameJob}
 use Rattle.coverage_program.specs.Refusals.{Match}
 use Rattle.coverage_program.specs.Reports.{Reports}
-use Rattle.coverage_program.specs.Words.{to_end, no_memory_line}
+use Rattle.coverage_program.specs.Words.{to_end}
 use Rattle.coverage_program.specs.declared.words.Command.TheVariants.{Early}
-use Rattle.coverage_program.proofs.WordLemmas.{any_job}
 
 -- ---- a session and its drain
 
@@ -225,15 +224,6 @@ reported_early s j tables a k answer drained text came match' numbered ran are r
   status = 0;
   text = text;
   cause = ReportedEarly (refl, refl) (record { job = j; tables = tables; drained = drained; came = record { came = came; match = match'; numbered = numbered }; ran = ran; are_drained = are; reports = reps });
-  told = told;
-}
-
-pub wanting_early : (s : SourceChange) (j : JobView) (tables : TablesView) (a : AreasChange) (k : SinkChange) (answer : ℕ) → CameJob to_end s j → Match j tables.tables → tables.places ≡ all_places tables.tables → IsWritten 7 no_memory_line k answer →
-    Answers Early s a k answer
-wanting_early s j tables a k answer came match' numbered told = record {
-  status = 7;
-  text = no_memory_line;
-  cause = NoMemoryToRun (refl, refl, refl) (record { job = j; tables = tables; reads = refl; came = record { came = came; match = match'; numbered = numbered }; has = any_job j });
   told = told;
 }
 

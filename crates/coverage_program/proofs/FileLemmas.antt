@@ -6,9 +6,8 @@ use Rattle.cov_base.specs.FactSet.{FactSet}
 use Rattle.marks_file.specs.Marks.{MarkedView, MarksView, keeps_rules}
 use Rattle.marks_file.specs.MarksFile.{file_bytes, HasFile, rows}
 use Rattle.marks_file.specs.declared.version.Version.TheVariants.{Second}
-use Rattle.table_combine.specs.Combine.{Difference, first_difference, difference_of}
-use Rattle.table_combine.specs.Files.{IsCombined, IsOtherTable, IsCombineFault}
-use Rattle.table_combine.specs.declared.files.CombineFault.{CombineFault}
+use Rattle.table_combine.specs.Combine.{Difference, first_difference}
+use Rattle.table_combine.specs.Files.{IsCombined}
 use Rattle.table_combine.specs.declared.files.CombineFault.TheVariants as fault
 use Rattle.session_book.specs.JobView.{JobView}
 use Rattle.task_run.specs.Courses.{solo}
@@ -19,9 +18,9 @@ use Rattle.job_run.specs.declared.outcome.Done.{Done}
 use Rattle.job_run.proofs.SessionLemmas.{set_is_left}
 use Rattle.session_marks.specs.Marked.{session_marks, session_file, session_rows}
 use Rattle.coverage_program.specs.declared.words.Command.TheVariants.{Marks, Combine, Show}
-use Rattle.coverage_program.specs.Answers.{WantOfMemory, Recorded, United, BadFile, OtherFile, Shown, BadShown, OtherShown, Stopped, IsWritten, Answers}
+use Rattle.coverage_program.specs.Answers.{WantOfMemory, Recorded, United, Shown, BadShown, OtherShown, Stopped, IsWritten, Answers}
 use Rattle.coverage_program.specs.Changes.{SourceChange, SinkChange, AreasChange, no_change}
-use Rattle.coverage_program.specs.Files.{combine_refusal, HasRest, IsFile, IsNoFile, IsShowRefusal, Bad, Wanting, NoFile, Other, show_text}
+use Rattle.coverage_program.specs.Files.{HasRest, IsFile, IsNoFile, IsShowRefusal, Bad, Wanting, NoFile, Other, show_text}
 use Rattle.coverage_program.specs.Inputs.{CameWhole, CameJob, CameFirst}
 use Rattle.coverage_program.specs.Named.{session_number}
 use Rattle.coverage_program.specs.Refusals.{RefusalView, refusal, Match}
@@ -37,33 +36,6 @@ united s bytes marks a k answer came combined told = record {
   cause = United (refl, refl) (record { bytes = bytes; marks = marks; came = came; combined = combined; is_text = refl }) refl;
   told = told;
 }
-
-united_bad : (s : SourceChange) (bytes : List ℕ) (offset : ℕ) (a : Account) (k : SinkChange) (answer : ℕ) →
-    CameWhole s bytes → IsCombineFault bytes (fault.BadMarks offset) → IsWritten 10 (bad_marks_line offset) k answer → Answers Combine s (no_change a) k answer
-united_bad s bytes offset a k answer came bad told = record {
-  status = 10;
-  text = bad_marks_line offset;
-  cause = BadFile (refl, refl) (record { bytes = bytes; offset = offset; came = came; bad = bad; told = refl }) refl;
-  told = told;
-}
-
-united_other : (s : SourceChange) (bytes : List ℕ) (d : Difference) (a : Account) (k : SinkChange) (answer : ℕ) →
-    CameWhole s bytes → IsOtherTable bytes d → IsWritten 11 (other_table_line d) k answer → Answers Combine s (no_change a) k answer
-united_other s bytes d a k answer came other told = record {
-  status = 11;
-  text = other_table_line d;
-  cause = OtherFile (refl, refl) (record { bytes = bytes; difference = d; came = came; other = other; told = refl }) refl;
-  told = told;
-}
-
-united_wanting : (s : SourceChange) (a : Account) (k : SinkChange) (answer : ℕ) → IsWritten 7 no_memory_line k answer → Answers Combine s (no_change a) k answer
-united_wanting s a k answer told = record { status = 7; text = no_memory_line; cause = Stopped refl (WantOfMemory (refl, refl)) refl; told = told }
-
-pub ununited : (s : SourceChange) (bytes : List ℕ) (e : CombineFault) (a : Account) (k : SinkChange) (answer : ℕ) →
-    CameWhole s bytes → IsCombineFault bytes e → IsWritten (combine_refusal e).status (combine_refusal e).line k answer → Answers Combine s (no_change a) k answer
-ununited s bytes (fault.BadMarks offset) a k answer came bad told = united_bad s bytes offset a k answer came bad told
-ununited s bytes (fault.Other e) a k answer came other told = united_other s bytes (difference_of e) a k answer came other told
-ununited s bytes fault.NoMemory a k answer came none told = united_wanting s a k answer told
 
 -- the refusal's own line was told
 pub told_as : (status : ℕ) (line bytes : List ℕ) (r : RefusalView) (k : SinkChange) (answer : ℕ) → refusal status line ≡ r → bytes ≡ line → IsWritten status bytes k answer → IsWritten r.status r.line k answer

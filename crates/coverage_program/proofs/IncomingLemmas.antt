@@ -1,8 +1,7 @@
 -- What has come of an input, piece by piece.
-use Rattle.std.proofs.Common.{◌≡◌, ℕ, ◌+◌, ◌-◌, ◌<◌, ◌≤◌, Bool, true, false, Option, Some, None, Result, Ok, Err, IfErr, OnOk, List, [], ◌∷◌, ◌++◌, length, take, drop, refl, ap, subst, sym, ◌∙◌, arith, append_assoc, append-nil, length-append}
+use Rattle.std.proofs.Common.{◌≡◌, ℕ, ◌+◌, ◌-◌, ◌<◌, ◌≤◌, Bool, true, false, Option, Some, Result, Ok, Err, IfErr, OnOk, List, [], ◌∷◌, ◌++◌, length, take, drop, refl, ap, subst, sym, ◌∙◌, arith, append_assoc, append-nil, length-append}
 use Rattle.std.proofs.Math.Seq.{drop-append_seam}
 use Rattle.std.specs.Io.KnownBytes.{Consumes}
-use Rattle.cov_outside.specs.Whole.{HasMoreThan}
 use Rattle.cov_outside.proofs.Pieces.{consumes-trans}
 use Rattle.session_book.specs.JobView.{JobView}
 use Rattle.job_text.specs.Drafts.{Present}
@@ -121,13 +120,6 @@ pub record HasReached (left rest : Option (List ℕ)) (turns room : ℕ) (i : In
   pub turned : turns ≤ length bytes
   pub fed : fed_size i.reader ≤ length bytes
 
-pub reached_nothing : (left : Option (List ℕ)) (i : Incoming) → HasCome [] i → fed_size i.reader ≡ 0 → HasReached left left 0 16777216 i
-reached_nothing left i come size = record { bytes = []; taken = taken_none left; come = come; size = omega arith; turned = omega arith; fed = omega (arith, size) }
-  where
-    taken_none : (o : Option (List ℕ)) → Consumes o o []
-    taken_none None = tt
-    taken_none (Some xs) = refl
-
 pub reached_more : (left mid rest : Option (List ℕ)) (turns room count : ℕ) (i j : Incoming) (piece : List ℕ) (h : HasReached left mid turns room i) → Consumes mid rest piece → length piece ≡ count → 1 ≤ count → count ≤ room →
     HasCome (h.bytes ++ piece) j → fed_size j.reader ≤ fed_size i.reader + length piece → HasReached left rest (turns + 1) (room - count) j
 reached_more left mid rest turns room count i j piece h taken count_is some fits come size =
@@ -140,12 +132,6 @@ reached_more left mid rest turns room count i j piece h taken count_is some fits
       turned = omega (arith, both, h.turned, count_is, some);
       fed = omega (arith, both, h.fed, size, count_is);
     }
-
--- more bytes are left than there is room for
-pub reached_over : (left mid : Option (List ℕ)) (turns room : ℕ) (i : Incoming) → HasReached left mid turns room i → HasMoreThan mid room → HasMoreThan left 16777216
-reached_over None mid turns room i h over = tt
-reached_over (Some xs) None turns room i h over = absurd h.taken
-reached_over (Some xs) (Some ys) turns room i h over = omega (arith, over, h.size, ap (λ (x : List ℕ). length x) h.taken, length-append h.bytes ys)
 
 -- the job was read
 

@@ -1,5 +1,6 @@
 -- Why no job was come to, or that bytes came which have one: each contradicts the others.
-use Rattle.std.proofs.Common.{◌≡◌, ◌⊎◌, inl, inr, ℕ, ◌<◌, ◌≤◌, Bool, true, false, not, if◌then◌else◌, is_some, Option, Some, None, List, [], ◌∷◌, ◌++◌, length, refl, sym, ◌∙◌, ap, subst, arith}
+use Rattle.std.proofs.Common.{◌≡◌, ◌⊎◌, inl, inr, ℕ, ◌<◌, ◌≤◌, Bool, true, false, not, if◌then◌else◌, is_some, Option, Some, None, List, ◌++◌, length, refl, sym, ◌∙◌, ap, subst, arith}
+use Rattle.std.proofs.lemmas.List.{append-nil}
 use Rattle.cov_outside.specs.Causes.{Rose}
 use Rattle.cov_outside.specs.Whole.{IsWhole, HasMoreThan}
 use Rattle.session_book.specs.JobView.{JobView}
@@ -18,13 +19,9 @@ use Rattle.coverage_program.specs.Named.{HasAsked, HasNamed, controlled_asked, f
 use Rattle.coverage_program.specs.Refusals.{RefusalView, refusal, job_refusal}
 use Rattle.coverage_program.specs.Words.{Reading, Asked, WithSession, AllWhole, Wanted, no_memory_line, controlled_line}
 
-pub append_none : (xs : List ℕ) → xs ++ [] ≡ xs
-append_none [] = refl
-append_none (x ∷ xs) = ap (λ (t : List ℕ). x ∷ t) (append_none xs)
-
 pub all_of : (b bytes : List ℕ) (rest : Option (List ℕ)) → IsWhole (Some b) rest bytes → b ≡ bytes
 all_of b bytes None w = absurd w.taken
-all_of b bytes (Some ys) w = w.taken ∙ (ap (λ (t : List ℕ). bytes ++ t) w.end ∙ append_none bytes)
+all_of b bytes (Some ys) w = w.taken ∙ (ap (λ (t : List ℕ). bytes ++ t) w.end ∙ append-nil bytes)
 
 -- the bytes that came are those that were left
 pub came_is : (s : SourceChange) (b bytes : List ℕ) → s.left ≡ Some b → CameWhole s bytes → b ≡ bytes

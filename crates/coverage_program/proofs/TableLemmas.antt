@@ -13,16 +13,15 @@ use Rattle.listing_reader.proofs.Laws.{listing_or_fault}
 use Rattle.module_area.specs.declared.places.Place.{Place}
 use Rattle.brk_table.specs.Build.{first_fault, HasOwnPlaces}
 use Rattle.brk_table.specs.Places.{TableView, all_places}
-use Rattle.brk_table.specs.Together.{IsTableOf, AreTables}
+use Rattle.brk_table.specs.Together.{IsTableOf}
 use Rattle.brk_table.specs.declared.faults.BuildFault.{BuildFault}
 use Rattle.brk_table.specs.declared.faults.BuildFault.TheVariants as fault
 use Rattle.session_book.specs.JobView.{JobView}
 use Rattle.session_book.specs.Sessions.{no_module}
-use Rattle.coverage_program.specs.Refused.{IsRefused, list_refused, build_refused}
-use Rattle.coverage_program.specs.Refusals.{listing_refusal, build_refusal, list_refusal, refusal_from, job_refusal, places_in, AreTablesFrom, Match}
+use Rattle.coverage_program.specs.Refused.{IsRefused, build_refused}
+use Rattle.coverage_program.specs.Refusals.{listing_refusal, build_refusal, refusal_from, job_refusal, places_in, AreTablesFrom, Match}
 use Rattle.coverage_program.specs.Refusals.{IsTableOf as IsModuleTable}
-use Rattle.coverage_program.specs.declared.tables.Refused.{Refused}
-use Rattle.coverage_program.specs.declared.tables.Refused.TheVariants.{Told, NoMemory}
+use Rattle.coverage_program.specs.declared.tables.Refused.TheVariants.{NoMemory}
 
 -- the tables of the modules before module m; the first fault is that of the listings from m on
 pub record TablesBefore (j : JobView) (m room : ℕ) (tables : List TableView) : Type 0 where
@@ -32,16 +31,6 @@ pub record TablesBefore (j : JobView) (m room : ℕ) (tables : List TableView) :
   pub rising : AllPairs (λ (t u : TableView). t.«module» < u.«module») tables
   pub below : All (λ (t : TableView). t.«module» < m) tables
   pub fits : room + length (all_places tables) ≡ 65536
-
-pub tables_start : (j : JobView) → TablesBefore j 0 65536 []
-tables_start j = record {
-  refusal = refl;
-  rest = λ later h. h;
-  of = λ k d l. absurd (omega arith);
-  rising = λ j k d l b. absurd (omega arith);
-  below = λ k d l. absurd (omega arith);
-  fits = refl;
-}
 
 -- module m has no listing
 pub tables_skip : (j : JobView) (m room : ℕ) (tables : List TableView) → m < length j.images → drop m j.listings ≡ None ∷ drop (m + 1) j.listings →
@@ -84,21 +73,12 @@ tables_more j m room tables image texts t e l here none is own count fits p =
       fits = omega (arith, p.fits, fits, length-places_push tables t);
     }
 
--- the fault of module m's listing is the first
-pub table_refused : (j : JobView) (m room : ℕ) (tables : List TableView) (image : ImageView) (texts : List (List ℕ)) (refused : Refused) → drop m j.images ≡ image ∷ drop (m + 1) j.images → drop m j.listings ≡ Some texts ∷ drop (m + 1) j.listings →
-    TablesBefore j m room tables → IsRefused (listing_refusal image room texts) refused → IsRefused (job_refusal j) refused
-table_refused j m room tables image texts NoMemory e l p h = tt
-table_refused j m room tables image texts (Told r) e l p h = p.refusal ∙ rw (e, l, h) refl
-
 pub tables_match : (j : JobView) (m room : ℕ) (tables : List TableView) → length j.images ≤ m → length j.listings ≡ length j.images → TablesBefore j m room tables → Match j tables
 tables_match j m room tables past same p =
     let images : drop m j.images ≡ [] = drop_all m j.images past in
     let listings : drop m j.listings ≡ [] = drop_all m j.listings (omega arith) in
     let all : AreTablesFrom 0 j.images j.listings (tables ++ []) = p.rest [] (rw (images, listings) tt) in
     record { faultless = p.refusal ∙ rw images refl; tables_of = rw (append-nil tables) at all }
-
-pub tables_together : (j : JobView) (m room : ℕ) (tables : List TableView) → TablesBefore j m room tables → AreTables j.images tables
-tables_together j m room tables p = record { of = p.of; rising = p.rising; most = omega (arith, p.fits) }
 
 -- a listing that is read has no fault
 none_some : (a : Option (List Line)) (b : Option ListFault) (v : List Line) → is_none a ≡ is_some b → a ≡ Some v → b ≡ None
@@ -115,18 +95,6 @@ unrefused image room texts lines l h = rw (no_fault texts lines l, l, h) refl
 built : (image : ImageView) (room : ℕ) (texts : List (List ℕ)) (lines : List Line) (e : BuildFault) → listing_of texts ≡ Some lines →
     first_fault image.bytes room [] lines ≡ Some e → listing_refusal image room texts ≡ Some (build_refusal image.name lines e)
 built image room texts lines e l h = rw (no_fault texts lines l, l, h) refl
-
-listed : (image : ImageView) (room : ℕ) (texts : List (List ℕ)) (e : ListFault) → fault_of texts ≡ Some e → listing_refusal image room texts ≡ Some (list_refusal image.name e)
-listed image room texts e h = rw h refl
-
--- the reader's fault is the listing's refusal
-pub list_told : (image : ImageView) (room : ℕ) (texts : List (List ℕ)) (e : ListFault) → (e ≡ list.NoMemory) ⊎ (fault_of texts ≡ Some e) →
-    IsRefused (listing_refusal image room texts) (list_refused image.name e)
-list_told image room texts list.NoMemory h = tt
-list_told image room texts list.NoHeading (inl q) = absurd cc
-list_told image room texts list.NoHeading (inr h) = listed image room texts list.NoHeading h
-list_told image room texts (list.BadObject n) (inl q) = absurd cc
-list_told image room texts (list.BadObject n) (inr h) = listed image room texts (list.BadObject n) h
 
 -- and so is the table's
 pub build_told : (image : ImageView) (room : ℕ) (texts : List (List ℕ)) (lines : List Line) (e : BuildFault) → listing_of texts ≡ Some lines →

@@ -1,5 +1,5 @@
 -- What is so of the command that makes its job, and what a generated job comes to.
-use Rattle.std.proofs.Common.{◌≡◌, inl, inr, ℕ, ◌≤◌, true, false, Option, Some, None, List, [], refl, sym, ap, subst, arith, IfSome, length}
+use Rattle.std.proofs.Common.{◌≡◌, ℕ, ◌≤◌, true, false, Option, Some, None, List, [], refl, sym, ap, subst, arith, IfSome, length}
 use Rattle.std.proofs.lemmas.List.Elements.{All-cons, All-nil}
 use Rattle.std.proofs.lemmas.List.FromFn.{length-map-range_with_len}
 use Rattle.brk_table.specs.Places.{TablesView, all_places}
@@ -164,6 +164,3 @@ pub tried : (number tasks : ℕ) (j : JobView) (s : SourceChange) (tables : Tabl
 tried number tasks j s tables a done sets k answer e unread numbered told =
     subst (λ (i : JobView). Match i tables.tables → HasLeft i tables.places a.before a.after sets.finals → IsOutcome i tables.places done sets → Answers (Trial number tasks) s a k answer)
     (sym e) (tried_own number tasks s tables a done sets k answer unread numbered told)
-
-pub wanting_to_try : (number tasks : ℕ) (s : SourceChange) (a : AreasChange) (k : SinkChange) (answer : ℕ) → IsUnread s → IsWritten 7 no_memory_line k answer → Answers (Trial number tasks) s a k answer
-wanting_to_try number tasks s a k answer unread told = record { status = 7; text = no_memory_line; cause = NoMemoryToTry (refl, refl, refl) unread; told = told }

@@ -1,5 +1,5 @@
 //! The union of marks files.
-ghost use Rattle.std.specs.Prelude.{◌≡◌, List, ℕ};
+ghost use Rattle.std.specs.Prelude.{◌≡◌};
 ghost use Rattle.coverage_program.specs.Answers.{Answers};
 ghost use Rattle.coverage_program.specs.Changes.{SourceChange, source_change, sink_change, no_change};
 ghost use Rattle.coverage_program.specs.Files.{combine_refusal};

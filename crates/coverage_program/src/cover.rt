@@ -1,5 +1,5 @@
 //! The program over any source, sink and areas.
-ghost use Rattle.std.specs.Prelude.{◌≡◌, ◌+◌, ◌<◌, ◌^◌, ℕ, List, ◌≤◌, false, true, Some, All, map, length, string_bytes};
+ghost use Rattle.std.specs.Prelude.{◌≡◌, ◌+◌, ◌<◌, ◌^◌, ◌≤◌, false, true, Some, All, map, length, string_bytes};
 ghost use Rattle.brk_table.specs.Kept.{AreCodes};
 ghost use Rattle.brk_table.specs.Places.{IsIn, all_places};
 ghost use Rattle.coverage_program.specs.Answers.{Answers};

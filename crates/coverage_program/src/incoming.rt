@@ -1,5 +1,5 @@
 //! The input of a command that reads a job: the job is read while the input comes.
-ghost use Rattle.std.specs.Prelude.{◌≡◌, ◌≤◌, ◌<◌, ◌+◌, ◌++◌, [], ℕ, List, true, false, length, drop, IfOk, IfErr, OnOk, OnErr, IsErrOf};
+ghost use Rattle.std.specs.Prelude.{◌≡◌, ◌≤◌, ◌<◌, ◌+◌, ◌++◌, [], ℕ, List, true, false, length, drop, IfOk, IfErr, OnOk, IsErrOf};
 ghost use Rattle.cov_outside.specs.Causes.{Rose};
 ghost use Rattle.cov_outside.specs.Whole.{IsWhole, HasMoreThan};
 ghost use Rattle.session_book.specs.JobView.{JobView};

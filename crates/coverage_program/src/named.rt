@@ -1,5 +1,5 @@
 //! The session that a command names, and those that may have no controller.
-ghost use Rattle.std.specs.Prelude.{◌≡◌, ◌<◌, ◌≤◌, ◌+◌, true, Some, None, IsSome, length, option_map, IfSome, IfOk, IfErr};
+ghost use Rattle.std.specs.Prelude.{◌≡◌, ◌<◌, ◌≤◌, ◌+◌, true, Some, None, length, option_map, IfSome, IfOk, IfErr};
 ghost use Rattle.cov_base.specs.declared.numbers.SessNo.{SessNo as Number};
 ghost use Rattle.coverage_program.specs.Answers.{IsStopped};
 ghost use Rattle.coverage_program.specs.Changes.{SourceChange};

@@ -4,14 +4,14 @@ ghost use Rattle.brk_table.specs.Kept.{AreCodes};
 ghost use Rattle.brk_table.specs.Places.{IsIn, all_places};
 ghost use Rattle.brk_table.specs.Together.{AreTables};
 ghost use Rattle.report_text.specs.Conditions.{HasFewLines};
-ghost use Rattle.session_book.specs.Sessions.{AreWhole, session_of};
+ghost use Rattle.session_book.specs.Sessions.{session_of};
 ghost use Rattle.coverage_program.specs.Answers.{IsStopped, fault_refusal, read_refusal};
 ghost use Rattle.coverage_program.specs.Incoming.{HasCome, CameWith};
 ghost use Rattle.coverage_program.specs.Inputs.{CameWhole, CameJob};
 ghost use Rattle.coverage_program.specs.Changes.{SourceChange, source_change};
 ghost use Rattle.coverage_program.specs.Named.{HasAsked, first_controlled, session_number};
-ghost use Rattle.coverage_program.specs.Refusals.{job_refusal, Match};
-ghost use Rattle.coverage_program.specs.Refused.{IsRefused, refused_refusal};
+ghost use Rattle.coverage_program.specs.Refusals.{Match};
+ghost use Rattle.coverage_program.specs.Refused.{refused_refusal};
 ghost use Rattle.coverage_program.specs.Words.{Reading, Asked, AnyJob, WithSession, AllWhole, to_end};
 
 use crate::incoming::Incoming;

@@ -1,5 +1,5 @@
 //! The refusals of listings and of marks files.
-ghost use Rattle.std.specs.Prelude.{◌≡◌, ◌≢◌, ℕ, ◌+◌, ◌-◌, ◌<◌, ◌≤◌, ◌^◌, ◌++◌, [], length, codes, decimal, get_or, take};
+ghost use Rattle.std.specs.Prelude.{◌≡◌, ◌≢◌, ◌-◌, ◌<◌, ◌≤◌, ◌^◌, length, get_or, take};
 ghost use Rattle.arrayvec.specs.ArrayVec.{array_vec_len};
 ghost use Rattle.coverage_program.specs.Refusals.{refusal, line_text, bad_listing, list_refusal, build_refusal, code_text, mismatch_text, location_of};
 ghost use Rattle.coverage_program.specs.Words.{bad_marks_line, other_table_line};

@@ -1,5 +1,5 @@
 //! The text of a schedule that was played.
-ghost use Rattle.std.specs.Prelude.{◌≡◌, ℕ, ◌+◌, ◌-◌, ◌<◌, ◌≤◌, ◌^◌, ◌++◌, ◌∷◌, [], length, get_or, codes, All};
+ghost use Rattle.std.specs.Prelude.{◌≡◌, ◌+◌, ◌-◌, ◌<◌, ◌≤◌, ◌^◌, ◌++◌, ◌∷◌, [], length, All};
 ghost use Rattle.arrayvec.specs.ArrayVec.{array_vec_len};
 ghost use Rattle.brk_table.specs.Places.{IsIn, all_places};
 ghost use Rattle.cov_base.specs.Names.{unpadded};
@@ -7,7 +7,7 @@ ghost use Rattle.interleave_core.specs.Results.{Fits};
 ghost use Rattle.report_text.specs.Conditions.{HasFewLines};
 ghost use Rattle.report_text.specs.Writes.{WritesLines};
 ghost use Rattle.session_book.specs.Sessions.{task_of};
-ghost use Rattle.coverage_program.specs.Replay.{letters, or_dash, shown_words, item_words, place_words, event_line, event_lines, no_item, replay_lines};
+ghost use Rattle.coverage_program.specs.Replay.{letters, or_dash, shown_words, item_words, place_words, event_line, event_lines, replay_lines};
 
 use crate::schedule::Played;
 use annotator::text::{add_hex, add_number, add_text};

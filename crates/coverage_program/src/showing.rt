@@ -1,5 +1,5 @@
 //! A session's listings, marked by a marks file.
-ghost use Rattle.std.specs.Prelude.{◌≡◌, ◌<◌, ◌≤◌, ℕ, true, Some, List, length, IfOk, IfErr};
+ghost use Rattle.std.specs.Prelude.{◌≡◌, ◌<◌, ◌≤◌, ℕ, true, Some, length, IfOk, IfErr};
 ghost use Rattle.brk_table.specs.Places.{all_places};
 ghost use Rattle.brk_table.specs.Together.{AreTables};
 ghost use Rattle.cov_outside.specs.Writes.{Writes};
@@ -9,7 +9,7 @@ ghost use Rattle.coverage_program.specs.Files.{IsFile, IsFileRefusal, IsShowRefu
 ghost use Rattle.coverage_program.specs.Incoming.{CameWith};
 ghost use Rattle.coverage_program.specs.Named.{session_number};
 ghost use Rattle.coverage_program.specs.Refusals.{Match, refusal};
-ghost use Rattle.coverage_program.specs.Words.{to_go_on, bad_marks_line, no_memory_line};
+ghost use Rattle.coverage_program.specs.Words.{to_go_on};
 ghost use Rattle.job_run.specs.Runs.{Account};
 ghost use Rattle.report_text.specs.Conditions.{AreTablesOf};
 ghost use Rattle.session_book.specs.Sets.{HasSetsOf};

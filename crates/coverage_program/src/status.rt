@@ -1,5 +1,5 @@
 //! The exit status, and the lines that go with it.
-ghost use Rattle.std.specs.Prelude.{◌≡◌, length, OnOk, OnErr};
+ghost use Rattle.std.specs.Prelude.{◌≡◌, OnOk, OnErr};
 ghost use Rattle.coverage_program.specs.Answers.{IsWritten};
 ghost use Rattle.coverage_program.specs.Changes.{sink_change};
 

@@ -1,5 +1,5 @@
 //! Marks and evidence of a session, checked by another run of its tasks.
-ghost use Rattle.std.specs.Prelude.{◌≡◌, ◌<◌, ◌≤◌, ℕ, true, Some, None, All, List, length, OnOk, IfOk, IfErr};
+ghost use Rattle.std.specs.Prelude.{◌≡◌, ◌<◌, ◌≤◌, ℕ, true, Some, None, All, length, OnOk, IfOk, IfErr};
 ghost use Rattle.brk_table.specs.Places.{IsIn, all_places};
 ghost use Rattle.brk_table.specs.Together.{AreTables};
 ghost use Rattle.coverage_program.specs.Answers.{Answers};

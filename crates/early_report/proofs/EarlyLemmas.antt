@@ -1,8 +1,9 @@
 -- A controller's run instruction by instruction, with its drains.
 use Rattle.std.proofs.Common.{◌≡◌, ℕ, zero, suc, ◌+◌, ◌-◌, ◌%◌, ◌<◌, ◌≤◌, Bool, true, false, if◌then◌else◌, ◌&&◌, nat_eq, is_some, unwrap_or, Option, Some, None, List, [], ◌∷◌, ◌++◌, length, get_or, map, take, All, AllPairs, refl, sym, ◌∙◌, ap, subst, arith, eqb-true, eq-eqb, ne_eqb}
 use Rattle.std.specs.List.{filter, list_any}
-use Rattle.std.proofs.lemmas.List.{append_assoc, append-nil, same_lists, length-append, take-append-le, get_or-map, get_or_default, length-map, take_all}
+use Rattle.std.proofs.lemmas.List.{append_assoc, append-nil, same_lists, length-append, get_or-map, get_or_default, length-map, take_at}
 use Rattle.std.proofs.lemmas.List.Folds.{list_any_none}
+use Rattle.std.proofs.lemmas.List.Elements.{All-tail, All-cons}
 use Rattle.cov_base.specs.declared.limits.TheConstants.{PLACE_LIMIT}
 use Rattle.cov_base.specs.FactSet.{FactSet}
 use Rattle.cov_base.specs.Memory.{Memory}
@@ -25,12 +26,11 @@ use Rattle.task_run.proofs.AsideLemmas.{step_known, step_working, same_number, a
 use Rattle.task_run.proofs.RunLemmas.{Adds, LedTo, LedTo-more, IsRun, IsRun-ended, calls_on-more, calls_on-ended, calls_on-returned, calls_on-spent, left}
 use Rattle.early_report.specs.DrainView.{DrainView}
 use Rattle.early_report.specs.Drains.{unused, has_controlled, controller_in, controller_of, IsLooking}
-use Rattle.early_report.specs.Followed.{IsReady, HaveGone, StepsOn, Stands, closed_since, first_drains, is_begun}
+use Rattle.early_report.specs.Followed.{HaveGone, StepsOn, Stands, closed_since, first_drains, is_begun}
 use Rattle.early_report.specs.Told.{closes, closing_count}
 use Rattle.early_report.specs.declared.drains.Stage.TheVariants.{Unused}
-use Rattle.early_report.proofs.LookLemmas.{All-cons, All-tail}
 use Rattle.early_report.proofs.ReadLemmas.{no_session}
-use Rattle.early_report.proofs.StandLemmas.{stands_on, stands_ready, closing_count-more, count_after}
+use Rattle.early_report.proofs.StandLemmas.{stands_on, closing_count-more, count_after}
 use Rattle.early_report.proofs.StepLemmas.{closed_is}
 
 -- looks are aside of the run
@@ -64,12 +64,9 @@ module _ (plan : PlanView) (old new : Notes) (visits : List Visit) (c : ControlV
 
 -- the calls so far
 
-take_front : (xs ys : List (Option ℕ)) (i : ℕ) → length xs ≡ i → take i (xs ++ ys) ≡ xs
-take_front xs ys i e = take-append-le i xs ys (omega (arith, e)) ∙ take_all i xs (omega (arith, e))
-
 module _ (m : Memory) (plan : PlanView) (old new : Notes) (c d : ControlView) (budget : ℕ) (first : State) (i : ℕ) (now : State) (r : LedTo m plan old new c d budget first i now) where
   pub led_calls : take i (calls_on m budget first) ≡ r.called
-  led_calls = ap (take i) r.rest ∙ take_front r.called (calls_on m (budget - i) now) i r.made.count
+  led_calls = ap (take i) r.rest ∙ take_at r.called (calls_on m (budget - i) now) i r.made.count
 
   pub led_control : d ≡ control_by c (take i (calls_on m budget first))
   led_control = r.made.follows.control ∙ ap (control_by c) (sym led_calls)
@@ -82,7 +79,7 @@ module _ (m : Memory) (plan : PlanView) (old new : Notes) (c d : ControlView) (b
   led_on t lt here next state =
       let whole : calls_on m budget first ≡ (r.called ++ call_of m now ∷ []) ++ calls_on m (budget - (i + 1)) t =
       r.rest ∙ (ap (λ k. r.called ++ calls_on m k now) (left budget i lt) ∙ (ap (λ ks. r.called ++ ks) (calls_on-more m (budget - (i + 1)) now t here next state) ∙ sym (append_assoc r.called (call_of m now ∷ []) (calls_on m (budget - (i + 1)) t)))) in
-      ap (take (i + 1)) whole ∙ (take_front (r.called ++ call_of m now ∷ []) (calls_on m (budget - (i + 1)) t) (i + 1) (let size = length-append r.called (call_of m now ∷ []) in omega (arith, size, r.made.count)) ∙ ap (λ ks. ks ++ call_of m now ∷ []) (sym led_calls))
+      ap (take (i + 1)) whole ∙ (take_at (r.called ++ call_of m now ∷ []) (calls_on m (budget - (i + 1)) t) (i + 1) (let size = length-append r.called (call_of m now ∷ []) in omega (arith, size, r.made.count)) ∙ ap (λ ks. ks ++ call_of m now ∷ []) (sym led_calls))
 
   pub led_ended : (e : Ending) → i < budget → has_returned now ≡ false → (solo_step m now).next ≡ Ended e → calls_on m budget first ≡ take i (calls_on m budget first) ++ call_of m now ∷ []
   led_ended e lt here next = r.rest ∙ (ap (λ k. r.called ++ calls_on m k now) (left budget i lt) ∙ (ap (λ ks. r.called ++ ks) (calls_on-ended m (budget - (i + 1)) now e here next) ∙ ap (λ ks. ks ++ call_of m now ∷ []) (sym led_calls)))
@@ -124,9 +121,6 @@ module _ (plan : PlanView) (old new : Notes) (c d : ControlView) (called : List 
 
   pub sessions_next : map (λ (d : DrainView). d.session) es ≡ map (λ (d : DrainView). d.session) ds
   sessions_next = sessions_same ds es gone.count (λ k x l. (one_on k x l).1)
-
-pub all_ready : (plan : PlanView) (n : Notes) (c : ControlView) (called : List (Option ℕ)) (done : ℕ) (ds : List DrainView) → done < 4294967295 → StandAll plan n c called done ds → All (IsReady plan n None) ds
-all_ready plan n c called done ds low stand k x l = stands_ready plan n _ done (get_or ds k x) low (stand k x l)
 
 -- the first drains
 

@@ -1,13 +1,11 @@
 -- What stands of a drain that follows an instruction while other drains follow it.
-use Rattle.std.proofs.Common.{◌≡◌, ℕ, ◌+◌, ◌<◌, Bool, true, false, ◌||◌, Option, None, All, List, [], ◌∷◌, length, get_or, take, inl, inr, refl, sym, ◌∙◌, ap, subst, arith}
+use Rattle.std.proofs.Common.{◌≡◌, ℕ, ◌+◌, ◌<◌, Bool, true, false, ◌||◌, Option, List, [], ◌∷◌, length, get_or, take, inl, inr, refl, sym, ◌∙◌, ap, subst, arith}
 use Rattle.std.specs.List.{list_any}
 use Rattle.std.proofs.Math.ListN.{set}
 use mathlib.Core.Logic.{dite}
 use native.Mathlib.Decide.{dec_le}
 use Rattle.std.proofs.lemmas.List.{get_or-set_other, get_or-set_same, get_or_default, take_more_set}
-use Rattle.std.proofs.lemmas.Bool.{both_ways}
 use Rattle.std.proofs.lemmas.List.Folds.{list_any-append}
-use Rattle.module_area.proofs.PlanLemmas.{any_shown}
 use Rattle.cov_base.specs.FactSet.{FactSet}
 use Rattle.cov_base.specs.declared.numbers.PlaceNo.{PlaceNo}
 use Rattle.cov_base.specs.declared.numbers.SessNo.{SessNo}
@@ -15,7 +13,7 @@ use Rattle.module_area.specs.PlanView.{PlanView}
 use Rattle.module_area.specs.Notes.{Notes}
 use Rattle.early_report.specs.DrainView.{DrainView}
 use Rattle.early_report.specs.Drains.{IsLooking, AreKnown}
-use Rattle.early_report.specs.Followed.{IsOwn, IsReadyAt, IsReady, IsAsked, WentAt, Went, HaveGone, is_begun}
+use Rattle.early_report.specs.Followed.{IsOwn, IsReadyAt, IsReady, IsAsked, WentAt, Went}
 use Rattle.early_report.specs.declared.drains.Stage.{Stage}
 use Rattle.early_report.specs.declared.drains.Stage.TheVariants.{Unused, Begun, Drained, Taken}
 use Rattle.early_report.proofs.TieLemmas.{closed_looks, tied_looks}
@@ -68,24 +66,3 @@ or_false false = refl
 -- whether one of the first drains waits, with one more
 pub any_set : {X : Type 0} (f : X → Bool) (xs : List X) (i : ℕ) (y : X) → i < length xs → list_any f (take (i + 1) (set xs i y)) ≡ (list_any f (take i xs) || f y)
 any_set f xs i y l = ap (list_any f) (take_more_set xs i y l) ∙ (list_any-append f (take i xs) (y ∷ []) ∙ ap (λ b. list_any f (take i xs) || b) (or_false (f y)))
-
--- where no drain waits and no session was closed, none has to follow
-any_none : {X : Type 0} (f : X → Bool) (xs : List X) (i : ℕ) (d : X) → i < length xs → list_any f xs ≡ false → f (get_or xs i d) ≡ false
-any_none f xs i d l none = by_test (f (get_or xs i d)) refl
-  where
-    by_test : (b : Bool) → f (get_or xs i d) ≡ b → b ≡ false
-    by_test true e = absurd (both_ways (list_any f xs) none (any_shown f xs d i l e))
-    by_test false e = refl
-
-still_at : (t : Stage) (plan : PlanView) (n : Notes) (done : ℕ) (d : DrainView) → is_begun t ≡ false → IsReadyAt t plan n None d → WentAt t plan n None done d d
-still_at Unused plan n done d none r = inl (refl, refl)
-still_at Begun plan n done d none r = absurd cc
-still_at Drained plan n done d none r = r
-still_at Taken plan n done d none r = refl
-
-pub none_gone : (plan : PlanView) (n : Notes) (closed : Option SessNo) (done : ℕ) (ds : List DrainView) → closed ≡ None → All (IsReady plan n closed) ds → list_any (λ (d : DrainView). is_begun d.stage) ds ≡ false → HaveGone plan n closed done ds ds
-none_gone plan n closed done ds is ready none = record {
-  count = refl;
-  each = λ i d l. subst (λ (o : Option SessNo). Went plan n o done (get_or ds i d) (get_or ds i d)) (sym is)
-      (still_at (get_or ds i d).stage plan n done (get_or ds i d) (any_none (λ (d : DrainView). is_begun d.stage) ds i d l none) (subst (λ (o : Option SessNo). IsReadyAt (get_or ds i d).stage plan n o (get_or ds i d)) is (ready i d l).stands));
-}

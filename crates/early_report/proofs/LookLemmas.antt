@@ -4,6 +4,7 @@ use Rattle.std.specs.List.{list_any, list_all}
 use Rattle.std.proofs.Math.ListN.{set}
 use Rattle.std.proofs.lemmas.List.{drop_more, get_or-map}
 use Rattle.std.proofs.lemmas.List.Folds.{list_any-append}
+use Rattle.std.proofs.lemmas.List.Elements.{All-tail, All-cons}
 use Rattle.cov_base.specs.declared.numbers.TaskNo.{TaskNo}
 use Rattle.module_area.specs.PlanView.{PlanView}
 use Rattle.module_area.specs.Notes.{Notes, NotedView, IsWord, after_note, is_closed, is_own, is_past, is_drained}
@@ -114,13 +115,6 @@ Begins-tasks old new [] (e ∷ es) b = absurd b
 Begins-tasks old new (t ∷ ts) [] b = absurd b
 Begins-tasks old new (t ∷ ts) (e ∷ es) b = rw (b.0, Begins-tasks (after_note old t.0 e.1) new ts es b.2) refl
 
-pub All-cons : {X : Type 0} (P : X → Type 0) (x : X) (xs : List X) → P x → All P xs → All P (x ∷ xs)
-All-cons P x xs first rest zero d l = first
-All-cons P x xs first rest (suc i) d l = rest i d (omega arith)
-
-pub All-tail : {X : Type 0} (P : X → Type 0) (x : X) (xs : List X) → All P (x ∷ xs) → All P xs
-All-tail P x xs all i d l = all (suc i) d (omega arith)
-
 pub Begins-noted : (plan : PlanView) (s : ℕ) (old new : Notes) (ts : List TaskNo) (es : List (TaskNo × ℕ)) → is_closed plan old.seen s ≡ true → Begins old new ts es →
     All (λ (e : TaskNo × ℕ). is_noted plan new s e.0.0 e.1 ≡ true) es
 Begins-noted plan s old new [] [] closed b = λ i d l. absurd (omega arith)
@@ -180,19 +174,6 @@ Polls-past plan s old new (e ∷ es) answer noted (inr p) = elim p.3 [
       let past : is_past plan new.noted s e.0.0 ≡ true = rw (noted_by mid new r) (past_more plan r.more mid.noted s e.0.0 (gone_past plan old s e.0.0 e.1 p.1 (noted 0 e (omega arith)) p.2 q.0)) in
       Stops-later plan s new e es answer past (Polls-past plan s mid new es answer (λ i d l. noted_more plan old mid (record { task = e.0.0; number = p.1; seen = old.seen } ∷ []) s _ _ refl (noted (suc i) d (omega arith))) q.1)
 ]
-
--- one entry more at the front
-pub Polls-over : (old new : Notes) (es : List (TaskNo × ℕ)) (answer : Option (TaskNo × ℕ)) (i : ℕ) (e : TaskNo × ℕ) → i < length es → get_or es i e ≡ e → is_odd e.1 ≡ true →
-    Polls old new (drop (i + 1) es) answer → Polls old new (drop i es) answer
-Polls-over old new es answer i e l at odd rest = rw (drop_more es i e l, at) (inl (odd, rest))
-
-pub Polls-on : (old new : Notes) (es : List (TaskNo × ℕ)) (answer : Option (TaskNo × ℕ)) (i found : ℕ) (e : TaskNo × ℕ) → i < length es → get_or es i e ≡ e → is_odd e.1 ≡ false → IsWord old e.0.0 found → found ≢ e.1 →
-    Polls (after_note old e.0.0 found) new (drop (i + 1) es) answer → Polls old new (drop i es) answer
-Polls-on old new es answer i found e l at even word other rest = rw (drop_more es i e l, at) (inr (even, found, word, inr (other, rest)))
-
-pub Polls-stop : (old new : Notes) (es : List (TaskNo × ℕ)) (i found : ℕ) (e : TaskNo × ℕ) → i < length es → get_or es i e ≡ e → is_odd e.1 ≡ false → IsWord old e.0.0 found → found ≡ e.1 →
-    new ≡ after_note old e.0.0 found → Polls old new (drop i es) (Some e)
-Polls-stop old new es i found e l at even word same notes = rw (drop_more es i e l, at) (inr (even, found, word, inl (same, notes, refl)))
 
 -- where all tasks but its own are past, the pass has drained the session
 all_others : (o : Option ℕ) (t : ℕ) (f : ℕ → Bool) (tasks : List TaskNo) → o ≡ Some t → All (λ (u : TaskNo). f u.0 ≡ true) (others tasks t) → list_all (λ (u : TaskNo). is_own o u.0 || f u.0) tasks ≡ true

@@ -2,7 +2,7 @@
 use Rattle.std.proofs.Common.{◌≡◌, ℕ, zero, suc, ◌+◌, ◌*◌, ◌<◌, ◌≤◌, Bool, true, false, not, ◌&&◌, ◌||◌, nat_eq, nat_le, List, [], ◌∷◌, length, get_or, drop, All, refl, sym, ◌∙◌, ap, subst, arith, eqb-true, eq-eqb, le-leb}
 use Rattle.std.specs.List.{list_all, list_any}
 use Rattle.std.proofs.lemmas.List.{drop_more}
-use Rattle.std.proofs.lemmas.Bool.{leb-true}
+use Rattle.std.proofs.lemmas.Bool.{leb-true, not_from_false}
 use Rattle.cov_base.specs.FactSet.{FactSet}
 use Rattle.cov_base.specs.declared.numbers.PlaceNo.{PlaceNo}
 use Rattle.module_area.specs.PlanView.{PlanView, ControlledView, IsPlan, has_place, is_controlled}
@@ -70,16 +70,12 @@ module _ (plan : PlanView) (s : ℕ) (ok : IsPlan plan) (there : has_controlled 
   pub places_of_plan : All (λ (p : PlaceNo). p.0 < length plan.places) (places_under plan s)
   places_of_plan = let r = session_of plan s there in subst (All (λ (p : PlaceNo). p.0 < length plan.places)) (sym r.places) (ok.controlled r.index no_session r.within).of_plan
 
-not_true : (b : Bool) → b ≡ false → not b ≡ true
-not_true true e = absurd cc
-not_true false e = refl
-
 -- what the pass of a drained drain reads is final
 pub final_there : (plan : PlanView) (n : Notes) (d : DrainView) → IsDrainOf plan n d → is_over d.stage ≡ true → All (λ (p : PlaceNo). is_final plan n d.session p.0 ≡ true) (places_under plan d.session)
 final_there plan n d tie over i p l =
     and_both _ _ (controlled_at plan d.session tie.closed.controlled i p l)
     (and_both _ _ (le-leb (2 * d.session) _ (closed_at plan n.seen d.session tie.closed.controlled tie.closed.seen i p l))
-    (and_both _ _ (tie.drained over) (not_true _ (tie.closed.idle _))))
+    (and_both _ _ (tie.drained over) (not_from_false _ (tie.closed.idle _))))
 
 same_bit-same : (b : Bool) → same_bit b b ≡ true
 same_bit-same true = refl

@@ -11,19 +11,10 @@ use Rattle.task_run.specs.Called.{control_by}
 use Rattle.task_run.specs.Windows.{is_opened}
 use Rattle.early_report.specs.DrainView.{DrainView}
 use Rattle.early_report.specs.Drains.{unused, controller_of, others, IsDrainOf, AreKnown}
-use Rattle.early_report.specs.Followed.{IsOwn, IsReadyAt, IsReady, IsAsked, WentAt, Went, StandsBy, Stands}
+use Rattle.early_report.specs.Followed.{IsOwn, IsAsked, WentAt, Went, StandsBy, Stands}
 use Rattle.early_report.specs.Told.{closes, one_more, closing_count}
 use Rattle.early_report.specs.declared.drains.Stage.{Stage}
 use Rattle.early_report.proofs.FollowLemmas.{own_later, known_later}
-
--- a drain stands ready for the next instruction
-ready_by : (plan : PlanView) (n : Notes) (closing : Option ℕ) (done : ℕ) (d : DrainView) → done < 4294967295 → StandsBy plan n closing done d → IsReadyAt d.stage plan n None d
-ready_by plan n None done d low is = subst (λ (t : Stage). IsReadyAt t plan n None d) (sym (ap (λ (d : DrainView). d.stage) is)) (is, λ e. absurd cc)
-ready_by plan n (Some k) done d low (inl t) = subst (λ (t : Stage). IsReadyAt t plan n None d) (sym t.stage) tt
-ready_by plan n (Some k) done d low (inr w) = subst (λ (t : Stage). IsReadyAt t plan n None d) (sym w.stage) (w.tie, (let a = w.polls in let b = w.some in omega (arith, a, b, low)))
-
-pub stands_ready : (plan : PlanView) (n : Notes) (closing : Option ℕ) (done : ℕ) (d : DrainView) → done < 4294967295 → Stands plan n closing done d → IsReady plan n None d
-stands_ready plan n closing done d low r = record { own = r.own; stands = ready_by plan n closing done d low r.by }
 
 -- the count at which a session was closed, after one instruction more
 abbrev pub count_after : Option ℕ → Bool → ℕ → Option ℕ

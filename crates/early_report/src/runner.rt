@@ -6,7 +6,7 @@ ghost use Rattle.cov_base.specs.declared.limits.TheConstants.{PLACE_LIMIT};
 ghost use Rattle.cov_base.specs.FactSet.{FactSet};
 ghost use Rattle.module_area.specs.Control.{control_after};
 ghost use Rattle.module_area.specs.Ended.{AreSettled};
-ghost use Rattle.module_area.specs.Notes.{Notes, bearer, calls, is_working, own_number};
+ghost use Rattle.module_area.specs.Notes.{bearer, calls, is_working, own_number};
 ghost use Rattle.module_area.specs.PlanView.{IsPlan};
 ghost use Rattle.module_area.specs.Tied.{IsTied};
 ghost use Rattle.s370_exec.specs.Calls.{call_of};

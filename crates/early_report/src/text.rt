@@ -1,8 +1,6 @@
 //! The text of an early report: behind each controlled session's part, whether and when its sets were taken.
-ghost use Rattle.std.specs.Prelude.{◌≡◌, ℕ, ◌+◌, ◌-◌, ◌<◌, ◌≤◌, ◌++◌, ◌∷◌, [], length, map, codes, decimal};
-ghost use Rattle.arrayvec.specs.ArrayVec.{array_vec_len};
+ghost use Rattle.std.specs.Prelude.{◌≡◌, ◌+◌, ◌-◌, ◌<◌, ◌≤◌, ◌++◌, ◌∷◌, [], length, map};
 ghost use Rattle.cov_outside.specs.Writes.{Writes};
-ghost use Rattle.session_book.specs.Sessions.{session_of};
 ghost use Rattle.session_book.specs.Sets.{HasSetsOf};
 ghost use Rattle.report_text.specs.Conditions.{AreTablesOf, AreResultsOf, AreSetsOf};
 ghost use Rattle.report_text.specs.Text.{lines_from};

@@ -3,7 +3,7 @@ use Rattle.std.proofs.Common.{◌≡◌, ◌≢◌, ℕ, ◌+◌, ◌-◌, ◌<�
 use Rattle.std.specs.Str.{bytes_eq}
 use Rattle.std.proofs.Math.ListN.{drop_of_length-le}
 use Rattle.std.proofs.lemmas.Bool.{cases_lt}
-use Rattle.std.proofs.lemmas.List.{drop-drop, at_drop_more, at_drop_all}
+use Rattle.std.proofs.lemmas.List.{drop-drop, at_drop_more}
 use Rattle.std.proofs.lemmas.Slice.Eq.{bytes_eq-Decides}
 use Rattle.cov_base.specs.declared.facts.Fact.{Fact}
 use Rattle.cov_base.specs.declared.facts.Fact.TheVariants.{Ran, Went, Stayed}
@@ -43,16 +43,6 @@ pub record PlacesSoFar (bs : List ℕ) (firsts : ℕ → Fact → Option First) 
   pub rest : past_places (drop i ps) (drop at bs) ≡ past_places ps (drop from bs)
   pub claims : first_refuted (places_claims firsts row first ps (drop from bs)) ≡ first_refuted (places_claims firsts (row + i) (first + i) (drop i ps) (drop at bs))
 
-pub places_start : (bs : List ℕ) (firsts : ℕ → Fact → Option First) (from row first : ℕ) (ps : List MarkedPlace) → from ≤ length bs → PlacesSoFar bs firsts from row first ps from 0
-places_start bs firsts from row first ps inside =
-    let r : row ≡ row + 0 = omega arith in
-    let n : first ≡ first + 0 = omega arith in
-    record {
-      inside = inside;
-      rest = refl;
-      claims = ap (λ k. first_refuted (places_claims firsts k first ps (drop from bs))) r ∙ ap (λ k. first_refuted (places_claims firsts (row + 0) k ps (drop from bs))) n;
-    }
-
 -- the claims from place i on
 from_here : (bs : List ℕ) (firsts : ℕ → Fact → Option First) (row first : ℕ) (ps : List MarkedPlace) (at i : ℕ) (p : MarkedPlace) → i < length ps → p ≡ get_or ps i p →
     first_refuted (places_claims firsts (row + i) (first + i) (drop i ps) (drop at bs))
@@ -83,22 +73,12 @@ places_stop bs firsts from row first ps at i p e s lt is some =
     s.claims ∙ (from_here bs firsts row first ps at i p lt is
     ∙ refuted_some (place_claims (row + i) p.set (firsts (first + i)) (drop at bs)) (places_claims firsts (row + i + 1) (first + i + 1) (drop (i + 1) ps) (past_place p.set (drop at bs))) e some)
 
-pub places_rest : (bs : List ℕ) (firsts : ℕ → Fact → Option First) (from row first : ℕ) (ps : List MarkedPlace) (at i : ℕ) → PlacesSoFar bs firsts from row first ps at i → length ps ≤ i → drop at bs ≡ past_places ps (drop from bs)
-places_rest bs firsts from row first ps at i s all = sym (at_drop_all (λ qs. past_places qs (drop at bs)) ps i all) ∙ s.rest
-
-pub places_hold : (bs : List ℕ) (firsts : ℕ → Fact → Option First) (from row first : ℕ) (ps : List MarkedPlace) (at i : ℕ) → PlacesSoFar bs firsts from row first ps at i → length ps ≤ i →
-    first_refuted (places_claims firsts row first ps (drop from bs)) ≡ None
-places_hold bs firsts from row first ps at i s all = s.claims ∙ at_drop_all (λ qs. first_refuted (places_claims firsts (row + i) (first + i) qs (drop at bs))) ps i all
-
 -- i modules were checked, and the entries of the others begin at `at`
 pub record ModulesSoFar (bs : List ℕ) (tables : TablesView) (firsts : ℕ → Fact → Option First) (ms : List MarkedView) (ns : List ℕ) (at row i : ℕ) : Type 0 where
   pub inside : at ≤ length bs
   pub there : AreThere tables (drop i ms) (drop i ns)
   pub rows : row + (length (drop i ms) + place_count (drop i ms)) ≡ length ms + place_count ms
   pub claims : first_refuted (modules_claims tables firsts 0 ms ns (drop 8 bs)) ≡ first_refuted (modules_claims tables firsts row (drop i ms) (drop i ns) (drop at bs))
-
-pub modules_start : (bs : List ℕ) (tables : TablesView) (firsts : ℕ → Fact → Option First) (ms : List MarkedView) (ns : List ℕ) → 8 ≤ length bs → AreThere tables ms ns → ModulesSoFar bs tables firsts ms ns 8 0 0
-modules_start bs tables firsts ms ns inside there = record { inside = inside; there = there; rows = omega arith; claims = refl }
 
 -- the next module and its number
 next_module : {Y : Type 0} (f : List MarkedView → List ℕ → Y) (ms : List MarkedView) (ns : List ℕ) (i : ℕ) (m : MarkedView) → i < length ms → i < length ns → m ≡ get_or ms i m →
@@ -113,18 +93,9 @@ both_there tables ms ns i m lm ln is there =
     (at_drop_more (λ xs. xs) ms i m lm ∙ ap (λ (x : MarkedView). x ∷ drop (i + 1) ms) (sym is), at_drop_more (λ ys. ys) ns i 0 ln) in
     subst (λ ys. AreThere tables (m ∷ drop (i + 1) ms) ys) drops.1 (subst (λ xs. AreThere tables xs (drop i ns)) drops.0 there)
 
-pub module_there : (bs : List ℕ) (tables : TablesView) (firsts : ℕ → Fact → Option First) (ms : List MarkedView) (ns : List ℕ) (at row i : ℕ) (m : MarkedView) → ModulesSoFar bs tables firsts ms ns at row i → i < length ms → i < length ns → m ≡ get_or ms i m →
-    first_place tables.tables (get_or ns i 0) + length m.places ≤ length tables.places
-module_there bs tables firsts ms ns at row i m s lm ln is = (both_there tables ms ns i m lm ln is s.there).0
-
 row_count : (ms : List MarkedView) (i : ℕ) (m : MarkedView) → i < length ms → m ≡ get_or ms i m → length (drop i ms) + place_count (drop i ms) ≡ 1 + length m.places + (length (drop (i + 1) ms) + place_count (drop (i + 1) ms))
 row_count ms i m lt is =
     at_drop_more (λ xs. length xs + place_count xs) ms i m lt ∙ (ap (λ (x : MarkedView). length (x ∷ drop (i + 1) ms) + place_count (x ∷ drop (i + 1) ms)) (sym is) ∙ omega arith)
-
--- the rows that a module takes are some of all
-pub rows_within : (bs : List ℕ) (tables : TablesView) (firsts : ℕ → Fact → Option First) (ms : List MarkedView) (ns : List ℕ) (at row i : ℕ) (m : MarkedView) → ModulesSoFar bs tables firsts ms ns at row i → i < length ms → m ≡ get_or ms i m →
-    row + 1 + length m.places ≤ length ms + place_count ms
-rows_within bs tables firsts ms ns at row i m s lt is = omega (arith, s.rows, row_count ms i m lt is)
 
 pub modules_step : (bs : List ℕ) (tables : TablesView) (firsts : ℕ → Fact → Option First) (ms : List MarkedView) (ns : List ℕ) (at to row i : ℕ) (m : MarkedView) → ModulesSoFar bs tables firsts ms ns at row i → i < length ms → i < length ns → m ≡ get_or ms i m →
     first_refuted (places_claims firsts (row + 1) (first_place tables.tables (get_or ns i 0)) m.places (drop at bs)) ≡ None → to ≤ length bs → drop to bs ≡ past_places m.places (drop at bs) →

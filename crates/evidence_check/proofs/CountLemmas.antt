@@ -1,6 +1,6 @@
 -- How many facts the sets of a marks file have.
 use Rattle.std.proofs.Common.{◌≡◌, ℕ, ◌+◌, ◌*◌, ◌<◌, ◌≤◌, zero, suc, Bool, true, false, if◌then◌else◌, List, [], ◌∷◌, ◌++◌, length, get_or, drop, arith}
-use Rattle.std.proofs.lemmas.List.{at_drop_more, at_drop_all}
+use Rattle.std.proofs.lemmas.List.{at_drop_more}
 use Rattle.cov_base.specs.FactSet.{FactSet}
 use Rattle.module_area.specs.Counts.{fact_count}
 use Rattle.marks_file.specs.Marks.{MarkedView, MarksView, is_new_name, is_base, is_size, is_count, is_module, are_modules, is_module_count, keeps_rules, place_count}
@@ -57,9 +57,3 @@ count_place ps i n more d lt so_far is = omega (arith, so_far, is, at_drop_more 
 pub count_module : (ms : List MarkedView) (i n more : ℕ) (d : MarkedView) → i < length ms → n + facts_of_modules (drop i ms) ≡ facts_of_modules ms → more ≡ facts_of_places (get_or ms i d).places →
     n + more + facts_of_modules (drop (i + 1) ms) ≡ facts_of_modules ms
 count_module ms i n more d lt so_far is = omega (arith, so_far, is, at_drop_more facts_of_modules ms i d lt)
-
-pub places_counted : (ps : List MarkedPlace) (i n : ℕ) → length ps ≤ i → n + facts_of_places (drop i ps) ≡ facts_of_places ps → n ≡ facts_of_places ps
-places_counted ps i n all so_far = omega (arith, so_far, at_drop_all facts_of_places ps i all)
-
-pub modules_counted : (ms : List MarkedView) (i n : ℕ) → length ms ≤ i → n + facts_of_modules (drop i ms) ≡ facts_of_modules ms → n ≡ facts_of_modules ms
-modules_counted ms i n all so_far = omega (arith, so_far, at_drop_all facts_of_modules ms i all)

@@ -2,13 +2,13 @@
 use Rattle.std.proofs.Common.{◌≡◌, ℕ, ◌+◌, ◌-◌, ◌<◌, ◌≤◌, zero, suc, Bool, true, false, ◌&&◌, nat_eq, nat_le, nat_lt, if◌then◌else◌, slice_index, Some, None, List, ◌∷◌, ◌++◌, length, drop, refl, sym, ◌∙◌, ap, arith, length-drop}
 use Rattle.std.proofs.lemmas.Bool.Decides.{nat_tests}
 use Rattle.std.proofs.lemmas.List.{drop-drop}
+use Rattle.std.proofs.lemmas.Bool.{lt-ltb, le-leb, ltb-true}
 use Rattle.byteorder.specs.Endian.{big_bytes, big_number}
 use Rattle.byteorder.specs.Numbers.{big_number-reads_back}
 use Rattle.cov_base.specs.declared.limits.TheConstants.{BUDGET_LIMIT}
 use Rattle.marks_file.specs.Reading.{first_bad}
-use Rattle.marks_file.proofs.FieldLemmas.{first_none, first_some, none_left, none_right, all_good, test_of_le}
+use Rattle.marks_file.proofs.FieldLemmas.{first_none, first_some, none_left, none_right, all_good}
 use Rattle.marks_file.proofs.MarksLemmas.{both-left, both-right, le_of_test}
-use Rattle.marks_file.proofs.SpellLemmas.{lt_of_test}
 use Rattle.evidence_check.specs.Evidence.{entry_bytes}
 use Rattle.evidence_check.specs.Fields.{entry_fields, entries_fields}
 use Rattle.evidence_check.specs.declared.firsts.First.{First}
@@ -30,21 +30,18 @@ entry_read tasks at bs h =
     let h3 = both-left t3 true (both-right t2 (t3 && true) h2) in
     record {
       room = le_of_test 7 (length bs) (both-left (nat_le 7 (length bs)) _ h3);
-      task = lt_of_test (big_number 2 bs) tasks (both-right (nat_le 2 (length bs)) _ (both-left t1 (t2 && (t3 && true)) h1));
-      number = lt_of_test (big_number 4 (drop 2 bs)) BUDGET_LIMIT (both-right (nat_le 6 (length bs)) _ (both-left t2 (t3 && true) h2));
+      task = ltb-true (big_number 2 bs) tasks (both-right (nat_le 2 (length bs)) _ (both-left t1 (t2 && (t3 && true)) h1));
+      number = ltb-true (big_number 4 (drop 2 bs)) BUDGET_LIMIT (both-right (nat_le 6 (length bs)) _ (both-left t2 (t3 && true) h2));
       last = le_of_test (slice_index bs 6) 1 (both-right (nat_le 7 (length bs)) _ h3);
     }
 
-test_of_lt : (a b : ℕ) → a < b → nat_lt a b ≡ true
-test_of_lt a b h = grind (arith, nat_tests)
-
 pub whole : (k n : ℕ) (b : Bool) → k ≤ n → b ≡ true → (nat_le k n && b) ≡ true
-whole k n b h e = rw (test_of_le k n h, e) refl
+whole k n b h e = rw (le-leb k n h, e) refl
 
 entry_none : (tasks at : ℕ) (bs : List ℕ) → IsEntry tasks bs → first_bad (entry_fields tasks at bs) ≡ None
 entry_none tasks at bs r =
     let room = r.room in
-    rw (whole 2 (length bs) _ (omega arith) (test_of_lt (big_number 2 bs) tasks r.task), whole 6 (length bs) _ (omega arith) (test_of_lt (big_number 4 (drop 2 bs)) BUDGET_LIMIT r.number), whole 7 (length bs) _ room (test_of_le (slice_index bs 6) 1 r.last)) refl
+    rw (whole 2 (length bs) _ (omega arith) (lt-ltb (big_number 2 bs) tasks r.task), whole 6 (length bs) _ (omega arith) (lt-ltb (big_number 4 (drop 2 bs)) BUDGET_LIMIT r.number), whole 7 (length bs) _ room (le-leb (slice_index bs 6) 1 r.last)) refl
 
 -- so many entries, and nothing behind them
 abbrev pub AreEntries : ℕ → ℕ → List ℕ → Type 0
@@ -56,9 +53,6 @@ is_zero n h = grind (arith, nat_tests)
 
 test_of_zero : (n : ℕ) → n ≡ 0 → nat_eq n 0 ≡ true
 test_of_zero n h = grind (arith, nat_tests)
-
-test_of_more : (n : ℕ) → 0 < n → nat_eq n 0 ≡ false
-test_of_more n h = grind (arith, nat_tests)
 
 passed : (b : Bool) (at : ℕ) → (if b then None else Some at) ≡ None → b ≡ true
 passed true at h = refl
@@ -93,11 +87,6 @@ pub record EntriesSoFar (input : List ℕ) (tasks from count at i : ℕ) : Type 
   pub inside : at ≤ length input
   pub fields : first_bad (entries_fields tasks from count (drop from input)) ≡ first_bad (entries_fields tasks at (count - i) (drop at input))
 
-pub entries_start : (input : List ℕ) (tasks from count : ℕ) → from ≤ length input → EntriesSoFar input tasks from count from 0
-entries_start input tasks from count h =
-    let n : count ≡ count - 0 = omega arith in
-    record { inside = h; fields = ap (λ k. first_bad (entries_fields tasks from k (drop from input))) n }
-
 next_entries : (tasks at k n : ℕ) (bs : List ℕ) → n ≡ suc k → first_bad (entries_fields tasks at n bs) ≡ first_bad (entry_fields tasks at bs ++ entries_fields tasks (at + 7) k (drop 7 bs))
 next_entries tasks at k n bs e = ap (λ m. first_bad (entries_fields tasks at m bs)) e
 
@@ -120,21 +109,3 @@ entries_stop input tasks from count at i o s lt bad =
     let bs = drop at input in
     let k = count - (i + 1) in
     sym (s.fields ∙ (next_entries tasks at k (count - i) bs (omega arith) ∙ first_some (entry_fields tasks at bs) (entries_fields tasks (at + 7) k (drop 7 bs)) o bad))
-
-behind : (input : List ℕ) (tasks from count at i : ℕ) → EntriesSoFar input tasks from count at i → count ≤ i →
-    first_bad (entries_fields tasks from count (drop from input)) ≡ (if nat_eq (length (drop at input)) 0 then None else Some at)
-behind input tasks from count at i s all =
-    let none : count - i ≡ 0 = omega arith in
-    s.fields ∙ ap (λ k. first_bad (entries_fields tasks at k (drop at input))) none
-
-pub entries_end : (input : List ℕ) (tasks from count at i : ℕ) → EntriesSoFar input tasks from count at i → count ≤ i → length input ≤ at →
-    None ≡ first_bad (entries_fields tasks from count (drop from input))
-entries_end input tasks from count at i s all past =
-    let none : length (drop at input) ≡ 0 = omega (arith, length-drop at input) in
-    sym (behind input tasks from count at i s all ∙ rw (test_of_zero (length (drop at input)) none) refl)
-
-pub entries_more : (input : List ℕ) (tasks from count at i : ℕ) → EntriesSoFar input tasks from count at i → count ≤ i → at < length input →
-    Some at ≡ first_bad (entries_fields tasks from count (drop from input))
-entries_more input tasks from count at i s all past =
-    let some : 0 < length (drop at input) = omega (arith, length-drop at input) in
-    sym (behind input tasks from count at i s all ∙ rw (test_of_more (length (drop at input)) some) refl)

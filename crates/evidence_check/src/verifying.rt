@@ -1,5 +1,5 @@
 //! Marks and evidence checked by another run of each task.
-ghost use Rattle.std.specs.Prelude.{◌≡◌, ℕ, ◌<◌, ◌≤◌, length, All, OnOk, IfOk, IfErr, None};
+ghost use Rattle.std.specs.Prelude.{◌≡◌, ◌<◌, ◌≤◌, length, All, OnOk, IfOk, IfErr, None};
 ghost use Rattle.brk_table.specs.Places.{IsIn};
 ghost use Rattle.session_book.specs.Sessions.{session_of};
 ghost use Rattle.session_marks.specs.FromFile.{IsOwn};

@@ -1,5 +1,5 @@
 //! Writes evidence.
-ghost use Rattle.std.specs.Prelude.{◌≡◌, ℕ, ◌-◌, ◌≤◌, ◌++◌, length};
+ghost use Rattle.std.specs.Prelude.{◌≡◌, ◌-◌, ◌≤◌, ◌++◌, length};
 ghost use Rattle.std.specs.List.{flat_map};
 ghost use Rattle.cov_outside.specs.Puts.{Puts};
 ghost use Rattle.cov_outside.specs.Writes.{Writes};

@@ -1,8 +1,9 @@
 -- Each event keeps each task where its run alone is.
 use Rattle.std.proofs.Common.{◌≡◌, inl, inr, ℕ, zero, suc, ◌+◌, ◌-◌, ◌<◌, ◌≤◌, Bool, true, false, nat_le, nat_lt, if◌then◌else◌, Option, Some, None, option_map, List, [], ◌∷◌, ◌++◌, length, get_or, set, refl, sym, ◌∙◌, ap, subst, arith}
-use Rattle.std.proofs.lemmas.Bool.Decides.{nat_tests}
 use Rattle.std.proofs.lemmas.Grind.{get_or-set_at}
 use Rattle.std.proofs.lemmas.List.{get_or-map, get_or-set_other, length-set, length-map}
+use Rattle.std.proofs.lemmas.Option.{same_Some}
+use Rattle.std.proofs.lemmas.Bool.{leb-true, ltb-true, leb-false}
 use Rattle.cov_base.specs.Memory.{Memory}
 use Rattle.cov_base.specs.States.{State, Visit}
 use Rattle.s370_state.specs.declared.endings.Ending.{Ending}
@@ -18,7 +19,7 @@ use Rattle.interleave_core.specs.Steps.{Stepped, parts_step, fetch_step, fetched
 use Rattle.module_area.specs.CellWords.{word_at}
 use Rattle.interleave_core.specs.Core.{CoreState, CoreStepped, core_start, core_step, core_after, core_from, core_run}
 use Rattle.interleave_core.proofs.Changes.{goes_on, Changed, plant_cases, close_by}
-use Rattle.interleave_core.proofs.Runs.{same_or, lt_of, some_part, got, lifted_tasks, exists_by, in_hand-stage, some_core, through}
+use Rattle.interleave_core.proofs.Runs.{same_or, got, lifted_tasks, exists_by, in_hand-stage, through}
 use Rattle.interleave_core.specs.declared.events.Event.{Event}
 use Rattle.interleave_core.specs.declared.events.Event.TheVariants.{Fetch, Mark, Lift, Do, Plant, Close}
 use Rattle.interleave_core.specs.Alone.{IsAlone, AreAlone}
@@ -65,9 +66,6 @@ ended_same e x h = cc
 ready_not : (e : Ending) → Ready ≡ Ended e → ⊥
 ready_not e h = let f : false ≡ true = ap has_ended h in absurd cc
 
-le_of : (a b : ℕ) → nat_le a b ≡ true → a ≤ b
-le_of a b h = grind (arith, nat_tests)
-
 -- another stage in the same instruction
 goes_stage : (m : Memory) (budget : ℕ) (first : State) (u : TaskPart) (stage : Stage) → has_ended stage ≡ false → has_ended u.stage ≡ false → (has_returned u.state ≡ false) × (u.state.done < budget) →
     Goes m budget first u → Goes m budget first (with_stage u stage)
@@ -85,12 +83,9 @@ due_in true spent at p h = let n : None ≡ Some p = h in absurd cc
 due_in false true at p h = let n : None ≡ Some p = h in absurd cc
 due_in false false at p h = (refl, refl)
 
-pub unspent_below : (budget n : ℕ) → nat_le budget n ≡ false → n < budget
-unspent_below budget n h = grind (arith, nat_tests)
-
 fetch_in : (w : World) (t : ℕ) (u : TaskPart) (stage : Stage) (p : ℕ) → u.stage ≡ stage → place_due w t u stage ≡ Some p → Goes (memory_in w t) (budget_in w t) (first_state (task_of w.job t)) u →
     (has_ended u.stage ≡ false) × (has_returned u.state ≡ false) × (u.state.done < budget_in w t)
-fetch_in w t u Ready p at h g = let d = due_in (has_returned u.state) (is_spent w t u.state) (place_at w u.state.machine.cpu.ia) p h in (ap has_ended at, d.0, unspent_below (budget_in w t) u.state.done d.1)
+fetch_in w t u Ready p at h g = let d = due_in (has_returned u.state) (is_spent w t u.state) (place_at w u.state.machine.cpu.ia) p h in (ap has_ended at, d.0, leb-false (budget_in w t) u.state.done d.1)
 fetch_in w t u Awaiting p at h g = let now = g.inside (ap is_inside at) in (ap has_ended at, now.0, now.1)
 fetch_in w t u (Holding x) p at h g = let n : None ≡ Some p = h in absurd cc
 fetch_in w t u (Ended e) p at h g = let n : None ≡ Some p = h in absurd cc
@@ -123,7 +118,7 @@ goes_returned m budget first u was returned g =
 goes_spent : (m : Memory) (budget : ℕ) (first : State) (u : TaskPart) → has_ended u.stage ≡ false → has_returned u.state ≡ false → nat_le budget u.state.done ≡ true → Goes m budget first u →
     Goes m budget first (with_stage u (Ended Spent))
 goes_spent m budget first u was on spent g =
-    let most : budget ≤ u.state.done = le_of budget u.state.done spent in
+    let most : budget ≤ u.state.done = leb-true budget u.state.done spent in
     let left : u.state.done + 0 ≡ budget = omega (arith, g.within, most) in
     goes_over m budget first u Spent g (ap (λ (n : ℕ). solo_run m n first) (sym left) ∙ (g.going was 0 ∙ (run_zero m u.state g.trace ∙ ap (λ (b : Bool). run_ended (if b then Returned else Spent) u.state g.trace) on)))
 
@@ -197,9 +192,9 @@ awaits_by w t u (Some p) was on below g = goes_stage (memory_in w t) (budget_in 
 ready_goes : (m : Memory) (budget : ℕ) (first : State) (u v whole : TaskPart) (returned spent : Bool) (at : Option ℕ) → has_ended u.stage ≡ false → has_returned u.state ≡ returned → nat_le budget u.state.done ≡ spent →
     (has_returned u.state ≡ false → u.state.done < budget → Goes m budget first whole) → Goes m budget first u →
     (if returned then Some (with_stage u (Ended Returned)) else (if spent then Some (with_stage u (Ended Spent)) else unless_at whole at)) ≡ Some v → Goes m budget first v
-ready_goes m budget first u v whole true spent at was r s go g h = subst (λ (x : TaskPart). Goes m budget first x) (some_part _ v h) (goes_returned m budget first u was r g)
-ready_goes m budget first u v whole false true at was r s go g h = subst (λ (x : TaskPart). Goes m budget first x) (some_part _ v h) (goes_spent m budget first u was r s g)
-ready_goes m budget first u v whole false false None was r s go g h = subst (λ (x : TaskPart). Goes m budget first x) (some_part _ v h) (go r (unspent_below budget u.state.done s))
+ready_goes m budget first u v whole true spent at was r s go g h = subst (λ (x : TaskPart). Goes m budget first x) (same_Some _ v h) (goes_returned m budget first u was r g)
+ready_goes m budget first u v whole false true at was r s go g h = subst (λ (x : TaskPart). Goes m budget first x) (same_Some _ v h) (goes_spent m budget first u was r s g)
+ready_goes m budget first u v whole false false None was r s go g h = subst (λ (x : TaskPart). Goes m budget first x) (same_Some _ v h) (go r (leb-false budget u.state.done s))
 ready_goes m budget first u v whole false false (Some p) was r s go g h = let n : None ≡ Some v = h in absurd cc
 
 -- a Do
@@ -213,8 +208,8 @@ goes_going w t u v (Holding x) at h g = by (same_due x.due Nothing) x.subject h
   where
     by : (nothing subject : Bool) → (if nothing then Some (if subject then executed w t u else instruction_executed w t u) else None) ≡ Some v → GoesAt w t v
     by false subject k = let n : None ≡ Some v = k in absurd cc
-    by true true k = subst (λ (y : TaskPart). GoesAt w t y) (some_part _ v k) (goes_executed w t u (ap has_ended at) (g.inside (ap is_inside at)).0 (g.inside (ap is_inside at)).1 g)
-    by true false k = subst (λ (y : TaskPart). GoesAt w t y) (some_part _ v k)
+    by true true k = subst (λ (y : TaskPart). GoesAt w t y) (same_Some _ v k) (goes_executed w t u (ap has_ended at) (g.inside (ap is_inside at)).0 (g.inside (ap is_inside at)).1 g)
+    by true false k = subst (λ (y : TaskPart). GoesAt w t y) (same_Some _ v k)
         (awaits_by w t u (subject_place w (step_of w t u).visits) (ap has_ended at) (g.inside (ap is_inside at)).0 (g.inside (ap is_inside at)).1 g)
 
 pub goes_done : (w : World) (t : ℕ) (u v : TaskPart) (stage : Stage) → u.stage ≡ stage → task_done w t u stage ≡ Some v → GoesAt w t u → GoesAt w t v
@@ -266,23 +261,23 @@ all_changed w c t y x lt made all =
 pub all_step : (w : World) (c : Parts) (e : Event) (x : Stepped) → parts_step w c e ≡ Some x → AllGo w c → AllGo w x.parts
 all_step w c (Fetch t) x h all =
     let at = exists_by (nat_lt t.0 (length c.tasks)) (fetch_step w c t.0 (part_of c t.0)) x h in
-    let lt : t.0 < length c.tasks = lt_of t.0 (length c.tasks) at.0 in
+    let lt : t.0 < length c.tasks = ltb-true t.0 (length c.tasks) at.0 in
     let p = got ℕ (fetched w c t.0 (part_of c t.0)) (place_due w t.0 (part_of c t.0) (part_of c t.0).stage) x at.1 in
     all_but w c x.parts t.0 _ (ap (λ (y : Stepped). y.parts.tasks) p.2) lt (goes_fetch w t.0 (part_of c t.0) p.0 _ p.1 (all t.0 lt)) all
 all_step w c (Mark t) x h all =
     let at = exists_by (nat_lt t.0 (length c.tasks)) (mark_step w c t.0 (part_of c t.0)) x h in
-    let lt : t.0 < length c.tasks = lt_of t.0 (length c.tasks) at.0 in
+    let lt : t.0 < length c.tasks = ltb-true t.0 (length c.tasks) at.0 in
     let p = got Hand (marked w c t.0 (part_of c t.0)) (in_hand Marking (part_of c t.0).stage) x at.1 in
     all_but w c x.parts t.0 _ (ap (λ (y : Stepped). y.parts.tasks) p.2) lt (goes_held w t.0 (part_of c t.0) p.0 _ (in_hand-stage Marking (part_of c t.0).stage p.0 p.1).0 (all t.0 lt)) all
 all_step w c (Lift t) x h all =
     let at = exists_by (nat_lt t.0 (length c.tasks)) (lift_step w c t.0 (part_of c t.0)) x h in
-    let lt : t.0 < length c.tasks = lt_of t.0 (length c.tasks) at.0 in
+    let lt : t.0 < length c.tasks = ltb-true t.0 (length c.tasks) at.0 in
     let p = got Hand (lifted w c t.0 (part_of c t.0)) (in_hand Lifting (part_of c t.0).stage) x at.1 in
     let tasks = ap (λ (y : Stepped). y.parts.tasks) p.2 ∙ ap (λ (ts : List TaskPart). set ts t.0 (with_due (part_of c t.0) p.0 Nothing)) (lifted_tasks (same_cell (word_at c.cells p.0.place.0) p.0.cell) c p.0.place.0 (original_under w p.0.place.0 p.0.cell)) in
     all_but w c x.parts t.0 (with_due (part_of c t.0) p.0 Nothing) tasks lt (goes_held w t.0 (part_of c t.0) p.0 _ (in_hand-stage Lifting (part_of c t.0).stage p.0 p.1).0 (all t.0 lt)) all
 all_step w c (Do t) x h all =
     let at = exists_by (nat_lt t.0 (length c.tasks)) (do_step w c t.0 (part_of c t.0)) x h in
-    let lt : t.0 < length c.tasks = lt_of t.0 (length c.tasks) at.0 in
+    let lt : t.0 < length c.tasks = ltb-true t.0 (length c.tasks) at.0 in
     let v = got TaskPart (done_by c t.0) (task_done w t.0 (part_of c t.0) (part_of c t.0).stage) x at.1 in
     all_but w c x.parts t.0 v.0 (ap (λ (y : Stepped). y.parts.tasks) v.2) lt (goes_done w t.0 (part_of c t.0) v.0 (part_of c t.0).stage refl v.1 (all t.0 lt)) all
 all_step w c (Plant s p) x h all = elim (plant_cases w c s.0 p.0 x h) [
@@ -296,15 +291,12 @@ all_first w t l =
     let lt : t < length w.job.tasks = subst (λ (n : ℕ). t < n) (length-map w.job.tasks first_part) l in
     subst (λ (u : TaskPart). GoesAt w t u) (sym (get_or-map first_part w.job.tasks t no_task no_part lt)) (goes_first w t)
 
-pub some_core_stepped : (a b : CoreStepped) → Some a ≡ Some b → a ≡ b
-some_core_stepped a b h = cc
-
 pub got_core : (w : World) (d : CoreState) (e : Event) (o : Option Stepped) (y : CoreStepped) → option_map (core_after w d e) o ≡ Some y → (x : Stepped) × (o ≡ Some x) × (x.parts ≡ y.core.parts)
 got_core w d e None y h = let n : None ≡ Some y = h in absurd cc
-got_core w d e (Some x) y h = (x, refl, ap (λ (z : CoreStepped). z.core.parts) (some_core_stepped (core_after w d e x) y h))
+got_core w d e (Some x) y h = (x, refl, ap (λ (z : CoreStepped). z.core.parts) (same_Some (core_after w d e x) y h))
 
 all_from : (w : World) (d c : CoreState) (events : List Event) → AllGo w d.parts → core_from w d events ≡ Some c → AllGo w c.parts
-all_from w d c [] all h = subst (λ (x : CoreState). AllGo w x.parts) (some_core d c h) all
+all_from w d c [] all h = subst (λ (x : CoreState). AllGo w x.parts) (same_Some d c h) all
 all_from w d c (e ∷ events) all h =
     let at = through (λ b. core_from w b events) (core_step w d e) c h in
     let made = got_core w d e (parts_step w d.parts e) at.0 at.1 in

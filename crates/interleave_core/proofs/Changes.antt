@@ -1,6 +1,8 @@
 -- What a Do, a Plant or a Close that was possible did.
 use Rattle.std.proofs.Common.{◌≡◌, ◌⊎◌, inl, inr, ℕ, ◌+◌, ◌*◌, ◌<◌, Bool, true, false, not, ◌&&◌, ◌||◌, nat_eq, nat_lt, if◌then◌else◌, Option, Some, None, is_none, List, ◌∷◌, length, refl, sym, ◌∙◌, ap, eqb-true}
 use Rattle.std.specs.Option.{option_and_then}
+use Rattle.std.proofs.lemmas.Option.{same_Some}
+use Rattle.std.proofs.lemmas.Bool.{ltb-true}
 use Rattle.s370_exec.specs.Solo.{has_returned}
 use Rattle.s370_state.specs.declared.endings.Ending.TheVariants.{Returned, Spent}
 use Rattle.module_area.specs.CellWords.{word_at}
@@ -18,7 +20,7 @@ use Rattle.interleave_core.specs.declared.events.Shown.TheVariants.{Planted, Clo
 use Rattle.interleave_core.specs.declared.stage.Due.TheVariants.{Nothing}
 use Rattle.interleave_core.specs.declared.stage.Stage.{Stage}
 use Rattle.interleave_core.specs.declared.stage.Stage.TheVariants.{Ready, Awaiting, Holding, Ended}
-use Rattle.interleave_core.proofs.Runs.{lt_of, exists_by, some_part, some_stepped}
+use Rattle.interleave_core.proofs.Runs.{exists_by}
 
 -- ---- Do
 
@@ -42,11 +44,11 @@ is_done w t u v Ready h = by (has_returned u.state) (is_spent w t u.state) (plac
   where
     by : (returned spent : Bool) (at subject : Option ℕ) → (if not returned && (not spent && (is_none at && is_none subject)) then option_and_then (next_place u.changed) (change_of w t u) else None) ≡ None →
         (if returned then Some (with_stage u (Ended Returned)) else (if spent then Some (with_stage u (Ended Spent)) else unless_at (awaits_or u (executed w t u) subject) at)) ≡ Some v → IsDone w t u v
-    by true spent at subject d k = inl (Ended Returned, sym (some_part _ v k))
-    by false true at subject d k = inl (Ended Spent, sym (some_part _ v k))
+    by true spent at subject d k = inl (Ended Returned, sym (same_Some _ v k))
+    by false true at subject d k = inl (Ended Spent, sym (same_Some _ v k))
     by false false (Some p) subject d k = let n : None ≡ Some v = k in absurd cc
-    by false false None (Some p) d k = inl (Awaiting, sym (some_part _ v k))
-    by false false None None d k = inr (d, sym (some_part _ v k))
+    by false false None (Some p) d k = inl (Awaiting, sym (same_Some _ v k))
+    by false false None None d k = inr (d, sym (same_Some _ v k))
 is_done w t u v Awaiting h = let n : None ≡ Some v = goes_on w t u v Awaiting h in absurd cc
 is_done w t u v (Ended e) h = let n : None ≡ Some v = goes_on w t u v (Ended e) h in absurd cc
 is_done w t u v (Holding g) h = by (same_due g.due Nothing) g.subject (subject_place w (step_of w t u).visits) (done_due w t u v (Holding g) h) (goes_on w t u v (Holding g) h)
@@ -54,9 +56,9 @@ is_done w t u v (Holding g) h = by (same_due g.due Nothing) g.subject (subject_p
     by : (nothing subject : Bool) (at : Option ℕ) → (if nothing && (subject || is_none at) then option_and_then (next_place u.changed) (change_of w t u) else None) ≡ None →
         (if nothing then Some (if subject then executed w t u else awaits_or u (executed w t u) at) else None) ≡ Some v → IsDone w t u v
     by false subject at d k = let n : None ≡ Some v = k in absurd cc
-    by true true at d k = inr (d, sym (some_part _ v k))
-    by true false (Some p) d k = inl (Awaiting, sym (some_part _ v k))
-    by true false None d k = inr (d, sym (some_part _ v k))
+    by true true at d k = inr (d, sym (same_Some _ v k))
+    by true false (Some p) d k = inl (Awaiting, sym (same_Some _ v k))
+    by true false None d k = inr (d, sym (same_Some _ v k))
 
 -- ---- Plant and Close
 
@@ -100,13 +102,13 @@ due_by w c closes s p t (Some y) x by there due h =
       closes_is = same_way closes y.closes at.0;
       session = eqb-true y.session s at.1;
       place = eqb-true y.place.0 p at.2;
-      made = sym (some_stepped _ x made.1);
+      made = sym (same_Some _ x made.1);
     }
 
 by_task : (w : World) (c : Parts) (closes : Bool) (s p t : ℕ) (x : Stepped) → controller_of w s ≡ Some t → of_task c t (change_step w c closes s p t) ≡ Some x → Changed w c closes s p x
 by_task w c closes s p t x by h =
     let at = exists_by (nat_lt t (length c.tasks)) (change_step w c closes s p t (part_of c t)) x h in
-    due_by w c closes s p t (change_due w t (part_of c t) (part_of c t).stage) x by (lt_of t (length c.tasks) at.0) refl at.1
+    due_by w c closes s p t (change_due w t (part_of c t) (part_of c t).stage) x by (ltb-true t (length c.tasks) at.0) refl at.1
 
 -- the planter planted its whole session at place p
 pub record IsWholePlant (w : World) (c : Parts) (s p : ℕ) (x : Stepped) : Type 0 where
@@ -120,7 +122,7 @@ plant_cases w c s p x h = by (controller_of w s) refl h
     by : (o : Option ℕ) → controller_of w s ≡ o → by_controller w c false s p (whole_step w c s p) o ≡ Some x → IsWholePlant w c s p x ⊎ Changed w c false s p x
     by None e k =
         let made = exists_by (may_plant w c s p) (Some (record { parts = with_cell c p (breakpoint_of s); shown = Planted })) x k in
-        inl (record { by_none = e; may = made.0; made = sym (some_stepped _ x made.1) })
+        inl (record { by_none = e; may = made.0; made = sym (same_Some _ x made.1) })
     by (Some t) e k = inr (by_task w c false s p t x e k)
 
 pub close_by : (w : World) (c : Parts) (s p : ℕ) (x : Stepped) → close_step w c s p ≡ Some x → Changed w c true s p x

@@ -4,6 +4,7 @@ use Rattle.std.specs.List.{list_any}
 use Rattle.std.specs.declared.result.Result.{Result}
 use Rattle.std.specs.declared.result.Result.TheVariants.{Ok, Err}
 use Rattle.std.proofs.lemmas.Grind.{get_or-set_at}
+use Rattle.std.proofs.lemmas.Option.{same_Some}
 use Rattle.module_area.specs.CellWords.{word_at, no_cell}
 use Rattle.module_area.specs.declared.cells.Cell.{Cell}
 use Rattle.module_area.specs.declared.parties.View.{View}
@@ -30,7 +31,7 @@ use Rattle.interleave_core.proofs.GoneLemmas.{core_from-append}
 use Rattle.interleave_core.proofs.Logs.{got_step}
 use Rattle.interleave_core.proofs.Quiet.{rises, AreOver, over_rises, IsLocal, is_local, Clear, clear_step, is_quiet_by, quiet_step}
 use Rattle.interleave_core.proofs.Rule.{held_hand}
-use Rattle.interleave_core.proofs.Runs.{some_core, through}
+use Rattle.interleave_core.proofs.Runs.{through}
 use Rattle.interleave_core.proofs.Tied.{changed_tag}
 use Rattle.interleave_core.proofs.Turns.{IsChange, due_is}
 
@@ -67,7 +68,7 @@ close_tag w s p c (Close n q) x is this h =
     subst (λ (z : Stepped). 2 * s ≤ (word_at z.parts.cells p).tag) (sym by.made) (subst (λ (z : Cell). 2 * s ≤ z.tag) (sym here) (omega (arith, tag, session)))
 
 rises_from : (w : World) (d c : CoreState) (v : View) (events : List Event) → IsWorld w → Sound w d v → core_from w d events ≡ Some c → (p : ℕ) → p < length w.places → (word_at d.parts.cells p).tag ≤ (word_at c.parts.cells p).tag
-rises_from w d c v [] world is h p lt = subst (λ (x : CoreState). (word_at d.parts.cells p).tag ≤ (word_at x.parts.cells p).tag) (some_core d c h) (omega arith)
+rises_from w d c v [] world is h p lt = subst (λ (x : CoreState). (word_at d.parts.cells p).tag ≤ (word_at x.parts.cells p).tag) (same_Some d c h) (omega arith)
 rises_from w d c v (e ∷ events) world is h p lt =
     let at = through (λ b. core_from w b events) (core_step w d e) c h in
     let made = got_step w d e (parts_step w d.parts e) at.0 at.1 in
@@ -118,7 +119,7 @@ pub record Draining (w : World) (s : ℕ) (d c : CoreState) (since : List Event)
   pub clear : (t : ℕ) → (Clear s (part_of d.parts t).stage) ⊎ (ends_in w t since d ≡ true) → Clear s (part_of c.parts t).stage
 
 drained_from : (w : World) (s : ℕ) (d c : CoreState) (v : View) (since : List Event) → IsWorld w → Sound w d v → IsLocal w s → AreOver w s d.parts → core_from w d since ≡ Some c → Draining w s d c since
-drained_from w s d c v [] world is local over h = subst (λ (x : CoreState). Draining w s d x []) (some_core d c h) (record {
+drained_from w s d c v [] world is local over h = subst (λ (x : CoreState). Draining w s d x []) (same_Some d c h) (record {
   over = over;
   clear = λ t which. elim which [ inl clear ↦ clear | inr none ↦ let f : false ≡ true = none in absurd cc ];
 })

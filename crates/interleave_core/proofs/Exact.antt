@@ -1,5 +1,7 @@
 -- The sets are exact once all tasks have ended.
-use Rattle.std.proofs.Common.{◌≡◌, ◌⊎◌, inl, inr, ℕ, zero, suc, ◌+◌, ◌*◌, ◌%◌, ◌<◌, Bool, true, false, ◌&&◌, nat_lt, if◌then◌else◌, Option, Some, None, is_none, List, [], ◌∷◌, length, set, refl, sym, ◌∙◌, ap, subst, arith, eq-eqb}
+use Rattle.std.proofs.Common.{◌≡◌, ◌⊎◌, inl, inr, ℕ, zero, suc, ◌+◌, ◌*◌, ◌%◌, ◌<◌, Bool, true, false, nat_lt, if◌then◌else◌, Option, Some, None, is_none, List, [], ◌∷◌, length, set, refl, sym, ◌∙◌, ap, subst, arith, eq-eqb}
+use Rattle.std.proofs.lemmas.Option.{same_Some}
+use Rattle.std.proofs.lemmas.Bool.{and_from, ltb-true}
 use mathlib.Core.Option.{some, some-injective, some-ne-none}
 use lib.ListN.{get_elem?}
 use Rattle.cov_base.specs.FactSet.{FactSet}
@@ -34,7 +36,7 @@ use Rattle.interleave_core.specs.declared.stage.Stage.TheVariants.{Holding, Ende
 use Rattle.interleave_core.specs.Control.{controller_of}
 use Rattle.interleave_core.specs.Views.{AreTied}
 use Rattle.interleave_core.proofs.Changes.{Changed, plant_cases, close_by, logs_whole, logs_plant, logs_close}
-use Rattle.interleave_core.proofs.Runs.{lt_of, got, lifted_tasks, exists_by, some_core, through}
+use Rattle.interleave_core.proofs.Runs.{got, lifted_tasks, exists_by, through}
 use Rattle.interleave_core.proofs.Logs.{one_log, changed_log, got_step}
 use Rattle.interleave_core.proofs.Tied.{tied_step, tied_first}
 use Rattle.interleave_core.proofs.Rule.{Ruled, HasBreakpoint, IsMarked, AreMarked, entry_in, InStage, held_hand, view_at}
@@ -53,14 +55,11 @@ AreSettled w [] = Unit {0}
 AreSettled w (Met e ∷ log) = IsSettled w e × AreSettled w log
 AreSettled w (Gave p tag ∷ log) = AreSettled w log
 
-some_fact : (f g : Fact) → Some f ≡ Some g → f ≡ g
-some_fact f g h = cc
-
 no_set : (A : Type 0) (found : FactSet) → None ≡ Some found → A
 no_set A found h = absurd cc
 
 shown_kind : (b : Bool) (k : Kind) (went : Bool) (f : Fact) → (if b then Some (fact_of k went) else None) ≡ Some f → is_of_kind k f ≡ true
-shown_kind true k went f h = subst (λ (g : Fact). is_of_kind k g ≡ true) (some_fact (fact_of k went) f h) (kind_fact k went)
+shown_kind true k went f h = subst (λ (g : Fact). is_of_kind k g ≡ true) (same_Some (fact_of k went) f h) (kind_fact k went)
 shown_kind false k went f h = let n : None ≡ Some f = h in absurd cc
 
 fetch_settled : (w : World) (t : ℕ) (u : TaskPart) (h : Hand) → h.place.0 < length w.places → IsForm (plan_in w) h.place.0 h.cell → IsSettled w (entry_of w t u h)
@@ -102,7 +101,7 @@ settled_step : (w : World) (c : CoreState) (v : View) (e : Event) (x : Stepped) 
 settled_step w c v (Fetch t) x world h is =
     let u : TaskPart = part_of c.parts t.0 in
     let at = exists_by (nat_lt t.0 (length c.parts.tasks)) (fetch_step w c.parts t.0 u) x h in
-    let lt : t.0 < length c.parts.tasks = lt_of t.0 (length c.parts.tasks) at.0 in
+    let lt : t.0 < length c.parts.tasks = ltb-true t.0 (length c.parts.tasks) at.0 in
     let p = got ℕ (fetched w c.parts t.0 u) (place_due w t.0 u u.stage) x at.1 in
     let there : t.0 < length w.job.tasks = subst (λ (n : ℕ). t.0 < n) is.ruled.count lt in
     let due = fetch_due w t.0 u (c.logs t.0) u.stage p.0 world there (is.ruled.hands t.0 lt) p.1 in
@@ -113,7 +112,7 @@ settled_step w c v (Fetch t) x world h is =
 settled_step w c v (Mark t) x world h is =
     let u : TaskPart = part_of c.parts t.0 in
     let at = exists_by (nat_lt t.0 (length c.parts.tasks)) (mark_step w c.parts t.0 u) x h in
-    let lt : t.0 < length c.parts.tasks = lt_of t.0 (length c.parts.tasks) at.0 in
+    let lt : t.0 < length c.parts.tasks = ltb-true t.0 (length c.parts.tasks) at.0 in
     let p = got Hand (marked w c.parts t.0 u) (in_hand Marking u.stage) x at.1 in
     let hand = held_hand w t.0 u (c.logs t.0) u.stage Marking p.0 (is.ruled.hands t.0 lt) p.1 in
     let b : HasBreakpoint w p.0 = hand.3 in
@@ -125,7 +124,7 @@ settled_step w c v (Mark t) x world h is =
 settled_step w c v (Lift t) x world h is =
     let u : TaskPart = part_of c.parts t.0 in
     let at = exists_by (nat_lt t.0 (length c.parts.tasks)) (lift_step w c.parts t.0 u) x h in
-    let lt : t.0 < length c.parts.tasks = lt_of t.0 (length c.parts.tasks) at.0 in
+    let lt : t.0 < length c.parts.tasks = ltb-true t.0 (length c.parts.tasks) at.0 in
     let p = got Hand (lifted w c.parts t.0 u) (in_hand Lifting u.stage) x at.1 in
     let taken : Bool = same_cell (word_at c.parts.cells p.0.place.0) p.0.cell in
     let tasks : (lifted w c.parts t.0 u p.0).parts.tasks ≡ set c.parts.tasks t.0 (with_due u p.0 Nothing) = ap (λ (ts : List TaskPart). set ts t.0 (with_due u p.0 Nothing)) (lifted_tasks taken c.parts p.0.place.0 (original_under w p.0.place.0 p.0.cell)) in
@@ -134,7 +133,7 @@ settled_step w c v (Lift t) x world h is =
 settled_step w c v (Do t) x world h is =
     let u : TaskPart = part_of c.parts t.0 in
     let at = exists_by (nat_lt t.0 (length c.parts.tasks)) (do_step w c.parts t.0 u) x h in
-    let lt : t.0 < length c.parts.tasks = lt_of t.0 (length c.parts.tasks) at.0 in
+    let lt : t.0 < length c.parts.tasks = ltb-true t.0 (length c.parts.tasks) at.0 in
     let n = got TaskPart (done_by c.parts t.0) (task_done w t.0 u u.stage) x at.1 in
     subst (λ (y : Stepped). Settle w (core_after w c (Do t) y).core) (sym n.2)
     (one_log w (λ m y log. AreSettled w log) c (done_by c.parts t.0 n.0).parts t.0 n.0 Done refl lt (is.settled t.0 lt) is.settled)
@@ -169,7 +168,7 @@ sound_step w c v e x world h is = record {
 }
 
 sound_from : (w : World) (d c : CoreState) (v : View) (events : List Event) → IsWorld w → Sound w d v → core_from w d events ≡ Some c → Sound w c (planter_from w v events)
-sound_from w d c v [] world is h = subst (λ (x : CoreState). Sound w x v) (some_core d c h) is
+sound_from w d c v [] world is h = subst (λ (x : CoreState). Sound w x v) (same_Some d c h) is
 sound_from w d c v (e ∷ events) world is h =
     let at = through (λ b. core_from w b events) (core_step w d e) c h in
     let made = got_step w d e (parts_step w d.parts e) at.0 at.1 in
@@ -247,9 +246,6 @@ not_zero A s pos h = absurd (omega arith)
 even_not : (A : Type 0) (n s : ℕ) → 0 < s → 2 * n ≡ window_tag s → A
 even_not A n s pos h = absurd (omega arith)
 
-both_true : (a b : Bool) → a ≡ true → b ≡ true → (a && b) ≡ true
-both_true a b h k = rw (h, k) refl
-
 entry_tells : (w : World) (e : Entry) (v : View) (s : ℕ) (f : Fact) → IsSettled w e → IsMarked e → 0 < s → e.cell.tag ≡ window_tag s → e.fact ≡ Some f → Tells (plan_in w) (with_notes (plan_in w) e v) s e.place f
 entry_tells w e v s f is marks pos tag fact = by is.form
   where
@@ -272,7 +268,7 @@ entry_tells w e v s f is marks pos tag fact = by is.form
         (subst (λ (k : Option Fact). Has (s, e.place, f) (with_lift e e.lifted (with_mark (plan_in w) e (Some found.0) k (fetching (plan_in w) e.place e.cell v))).marked) (sym fact)
         (subst (λ (m : ℕ). Has (m, e.place, f) (with_lift e e.lifted (with_mark (plan_in w) e (Some found.0) (Some f) (fetching (plan_in w) e.place e.cell v))).marked) same
         (marked_here (plan_in w) e e.lifted found.0 f (fetching (plan_in w) e.place e.cell v)))))
-    by (inr (n, some_n, over, inr (inl cell))) = met (both_true _ _ (eq-eqb e.cell.half (original_at (plan_in w) e.place) (ap (λ (c : Cell). c.half) cell)) (eq-eqb (e.cell.tag % 2) 1 (odd_tag e.cell.tag s pos tag)))
+    by (inr (n, some_n, over, inr (inl cell))) = met (and_from _ _ (eq-eqb e.cell.half (original_at (plan_in w) e.place) (ap (λ (c : Cell). c.half) cell)) (eq-eqb (e.cell.tag % 2) 1 (odd_tag e.cell.tag s pos tag)))
     by (inr (n, some_n, over, inr (inr over_now))) = even_not _ n s pos (sym (ap (λ (c : Cell). c.tag) over_now.0) ∙ tag)
 
 log_tells : (w : World) (t : ℕ) (log : List Item) (s p : ℕ) (f : Fact) → AreSettled w log → AreMarked log → 0 < s → HasShown s p f log → Tells (plan_in w) (task_view w t log) s p f

@@ -5,6 +5,7 @@ use lib.ListN.{get_elem?}
 use Rattle.std.specs.Option.{option_and_then}
 use Rattle.std.proofs.lemmas.Grind.{get_or-set_at}
 use Rattle.std.proofs.lemmas.List.{get_or-set_other, length-set}
+use Rattle.std.proofs.lemmas.Bool.{ltb-true}
 use Rattle.cov_base.specs.FactSet.{FactSet}
 use Rattle.cov_base.specs.Facts.{no_facts}
 use Rattle.module_area.specs.CellWords.{word_at, no_cell}
@@ -31,7 +32,6 @@ use Rattle.interleave_core.specs.declared.stage.Stage.{Stage}
 use Rattle.interleave_core.specs.declared.stage.Stage.TheVariants.{Ready, Awaiting, Holding, Ended}
 use Rattle.interleave_core.specs.Views.{AreTied}
 use Rattle.interleave_core.proofs.Changes.{may_by, Changed, logs_given}
-use Rattle.interleave_core.proofs.Runs.{lt_of}
 use Rattle.interleave_core.proofs.Logs.{itself, apart, changed_log}
 use Rattle.interleave_core.proofs.Turns.{IsOwn, IsChange, due_is}
 use Rattle.interleave_core.proofs.Rule.{task_role, view_at, views_same, views_set, InHand, InStage, Ruled}
@@ -41,8 +41,8 @@ pub rule_plant : (w : World) (c : CoreState) (v : View) (s p : ℕ) (logs : ℕ 
     Ruled w (record { parts = with_cell c.parts p (breakpoint_of s); logs = logs }) (planting s p v)
 rule_plant w c v s p logs is may same =
     let at = may_by (nat_lt p (length w.places)) (nat_lt 0 s) (nat_eq (window_at (plan_in w) p) s) (nat_eq (word_at c.parts.cells p).tag 0) may in
-    let lt : p < length w.places = lt_of p (length w.places) at.0 in
-    let pos : 0 < s = lt_of 0 s at.1 in
+    let lt : p < length w.places = ltb-true p (length w.places) at.0 in
+    let pos : 0 < s = ltb-true 0 s at.1 in
     let window : window_at (plan_in w) p ≡ s = eqb-true (window_at (plan_in w) p) s at.2 in
     let zero_tag : (word_at c.parts.cells p).tag ≡ 0 = eqb-true (word_at c.parts.cells p).tag 0 at.3 in
     let live : v.role ≢ Spent = λ e. spent_not_root (sym e ∙ is.role) in

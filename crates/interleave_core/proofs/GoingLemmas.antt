@@ -1,9 +1,9 @@
 -- A task's events have an end: each leaves less.
 use Rattle.std.specs.Option.{option_and_then}
 use Rattle.cov_base.specs.States.{State}
-use Rattle.std.proofs.Common.{◌≡◌, inl, inr, not, ◌&&◌, is_none, eqb-true, ℕ, zero, suc, ◌+◌, ◌-◌, ◌*◌, ◌<◌, ◌≤◌, Bool, true, false, nat_lt, nat_le, if◌then◌else◌, Option, Some, None, option_map, length, refl, sym, ap, ◌∙◌, subst, arith}
-use Rattle.std.proofs.lemmas.Bool.Decides.{nat_tests}
+use Rattle.std.proofs.Common.{◌≡◌, inl, inr, not, ◌&&◌, is_none, eqb-true, ℕ, zero, suc, ◌+◌, ◌-◌, ◌*◌, ◌<◌, ◌≤◌, Bool, true, false, nat_lt, if◌then◌else◌, Option, Some, None, option_map, length, refl, sym, ap, ◌∙◌, subst, arith}
 use Rattle.std.proofs.lemmas.Grind.{get_or-set_at}
+use Rattle.std.proofs.lemmas.Bool.{ltb-true, leb-false}
 use Rattle.cov_base.specs.declared.numbers.TaskNo.{TaskNo}
 use Rattle.cov_base.specs.Facts.{is_full, with_fact}
 use Rattle.module_area.specs.Parties.{tag_session}
@@ -31,12 +31,6 @@ use Rattle.interleave_core.proofs.Nexts.{next_by}
 use Rattle.interleave_core.proofs.Runs.{in_hand-stage}
 use Rattle.interleave_core.proofs.Turns.{due_below}
 use Rattle.interleave_core.specs.Going.{left_each, left_later, due_left, left_of, left, go, go_by, after}
-
-not_spent : (a b : ℕ) → nat_le a b ≡ false → b < a
-not_spent a b e = grind (arith, nat_tests)
-
-is_below : (a b : ℕ) → nat_lt a b ≡ true → a < b
-is_below a b e = grind (arith, nat_tests)
 
 -- what is left of a task that was put in the place of task t
 put_left : (w : World) (c : Parts) (t : ℕ) (u : TaskPart) → t < length c.tasks → left w (with_task c t u) t ≡ left_of w t u u.stage
@@ -85,7 +79,7 @@ step_left w t u v On same = go_on_by (is_spent w t v.state) refl
     go_on_by true e = omega arith
     go_on_by false e =
         let more : v.state.done ≡ u.state.done + 1 = ap (λ (s : State). s.done) same ∙ solo_step-done (memory_in w t) u.state in
-        let left : v.state.done < budget_in w t = not_spent (budget_in w t) v.state.done e in
+        let left : v.state.done < budget_in w t = leb-false (budget_in w t) v.state.done e in
         let one : budget_in w t - u.state.done ≡ (budget_in w t - v.state.done) + 1 = omega (arith, more, left) in
         let all : later w t u ≡ later w t v + left_each w = one_more (left_each w) (budget_in w t - v.state.done) (budget_in w t - u.state.done) one in
         omega (arith, all)
@@ -184,7 +178,7 @@ if_some true o x e = (refl, e)
 if_some false o x e = absurd cc
 
 exists : (c : Parts) (t : ℕ) (b : Bool) → nat_lt t (length c.tasks) ≡ b → b ≡ true → t < length c.tasks
-exists c t b e q = is_below t (length c.tasks) (e ∙ q)
+exists c t b e q = ltb-true t (length c.tasks) (e ∙ q)
 
 fetched_less : (w : World) (c : Parts) (t : ℕ) (x : Stepped) → of_task c t (fetch_step w c t) ≡ Some x → left w x.parts t < left w c t
 fetched_less w c t x e =
@@ -320,7 +314,3 @@ go_next w c d t e x plan q step same =
     let more : go w n c t ≡ go w (suc n) c t = go_enough w n c t plan (omega arith) (suc n) (omega arith) in
     let rest : go w n x.parts t ≡ go w (left w x.parts t.0) x.parts t = go_enough w n x.parts t plan (omega (arith, less)) (left w x.parts t.0) (omega arith) in
     more ∙ (go_one w n c t e (Some x) q step ∙ (rest ∙ ap (λ (p : Parts). go w (left w p t.0) p t) same))
-
--- a task without a next event goes nowhere
-pub go_nowhere : (w : World) (n : ℕ) (c : Parts) (t : TaskNo) → next_of w c t ≡ None → go w n c t ≡ c
-go_nowhere w n c t q = go_none w n c t q

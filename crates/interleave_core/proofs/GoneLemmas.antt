@@ -2,6 +2,7 @@
 use Rattle.std.proofs.Common.{◌≡◌, inl, inr, ℕ, zero, suc, ◌<◌, true, false, Option, Some, None, option_map, is_none, IsSome, IsNone, ◌↔◌, List, [], ◌∷◌, ◌++◌, All, refl, sym, ap, ◌∙◌, subst, arith}
 use Rattle.std.proofs.lemmas.Bool.{cases_lt}
 use Rattle.std.proofs.lemmas.List.Elements.{All-cons}
+use Rattle.std.proofs.lemmas.Option.{same_Some}
 use Rattle.cov_base.specs.declared.numbers.TaskNo.{TaskNo}
 use Rattle.module_area.specs.PlanView.{IsPlan}
 use Rattle.interleave_core.specs.World.{World, Parts, plan_in}
@@ -11,10 +12,10 @@ use Rattle.interleave_core.specs.Results.{next_of, results_of}
 use Rattle.interleave_core.specs.Going.{Leads, HasGone, after, where_possible, next_events, left, go, go_by, go_events}
 use Rattle.interleave_core.specs.declared.events.Event.{Event}
 use Rattle.interleave_core.proofs.Nexts.{next_by}
-use Rattle.interleave_core.proofs.Runs.{some_core, through}
+use Rattle.interleave_core.proofs.Runs.{through}
 
 pub core_from-append : (w : World) (c d : CoreState) (xs ys : List Event) → core_from w c xs ≡ Some d → core_from w c (xs ++ ys) ≡ core_from w d ys
-core_from-append w c d [] ys h = ap (λ (b : CoreState). core_from w b ys) (some_core c d h)
+core_from-append w c d [] ys h = ap (λ (b : CoreState). core_from w b ys) (same_Some c d h)
 core_from-append w c d (e ∷ xs) ys h =
     let at = through (λ b. core_from w b xs) (core_step w c e) d h in
     ap (go_on (λ b. core_from w b (xs ++ ys))) at.1 ∙ core_from-append w at.0.core d xs ys at.2

@@ -3,6 +3,8 @@ use Rattle.std.proofs.Common.{◌≡◌, ◌≢◌, inl, inr, ℕ, ◌+◌, ◌-
 use Rattle.std.proofs.lemmas.Bool.Decides.{nat_tests}
 use Rattle.std.proofs.lemmas.Grind.{get_or-set_at}
 use Rattle.std.proofs.lemmas.List.{get_or-map, get_or-set_other, length-set, length-map, map-set, get_or_default}
+use Rattle.std.proofs.lemmas.Option.{same_Some}
+use Rattle.std.proofs.lemmas.Bool.{lt-ltb}
 use Rattle.cov_base.specs.Codes.{breakpoint}
 use Rattle.cov_base.specs.FactSet.{FactSet}
 use Rattle.cov_base.specs.declared.numbers.PlaceNo.{PlaceNo as Number}
@@ -142,14 +144,11 @@ parts_with cells sets tasks t r u e =
     ap (λ (ts : List TaskPart). record { cells = cells; sets = sets; tasks = ts })
     (ap (λ (v : TaskPart). set (parts_of tasks) t v) (sym e) ∙ sym (map-set (λ (x : RunningView). x.part) tasks t r))
 
-lt_true : (t n : ℕ) → t < n → nat_lt t n ≡ true
-lt_true t n h = grind (arith, nat_tests)
-
 -- an event that is possible of a task that exists
 pub of_task-read : (cells : List Cell) (sets : List FactSet) (tasks : List RunningView) (t : ℕ) (m : RunningView) (step : TaskPart → Option Stepped) (x : Option Stepped) →
     t < length tasks → m ≡ get_or tasks t m → step m.part ≡ x → of_task (record { cells = cells; sets = sets; tasks = parts_of tasks }) t step ≡ x
 of_task-read cells sets tasks t m step x lt read e =
-    let there : nat_lt t (length (parts_of tasks)) ≡ true = lt_true t (length (parts_of tasks)) (subst (λ n. t < n) (sym (length-map tasks (λ (r : RunningView). r.part))) lt) in
+    let there : nat_lt t (length (parts_of tasks)) ≡ true = lt-ltb t (length (parts_of tasks)) (subst (λ n. t < n) (sym (length-map tasks (λ (r : RunningView). r.part))) lt) in
     let part : get_or (parts_of tasks) t no_part ≡ m.part = get_or-map (λ (r : RunningView). r.part) tasks t m no_part lt ∙ ap (λ (r : RunningView). r.part) (sym read) in
     rw (there, part) e
 
@@ -401,9 +400,6 @@ executed_stage : (w : World) (t : ℕ) (u : TaskPart) (next : Next) → IsStage 
 executed_stage w t u On = tt
 executed_stage w t u (NextEnded e) = tt
 
-some_of : (u v : TaskPart) → Some u ≡ Some v → u ≡ v
-some_of u v h = cc
-
 instruction_stage : (w : World) (t : ℕ) (u : TaskPart) → is_spent w t u.state ≡ false → IsStage w t (instruction_executed w t u) (instruction_executed w t u).stage
 instruction_stage w t u unspent = by (subject_place w (step_of w t u).visits) refl
   where
@@ -417,9 +413,9 @@ goes_stage w t u v Ready is h = ready (has_returned u.state) (is_spent w t u.sta
   where
     ready : (returned spent : Bool) → is_spent w t u.state ≡ spent → (at : Option ℕ) →
         (if returned then Some (with_stage u (Ended Returned)) else (if spent then Some (with_stage u (Ended Spent)) else unless_at (instruction_executed w t u) at)) ≡ Some v → IsStage w t v v.stage
-    ready true spent s at k = subst (λ (x : TaskPart). IsStage w t x x.stage) (some_of _ v k) tt
-    ready false true s at k = subst (λ (x : TaskPart). IsStage w t x x.stage) (some_of _ v k) tt
-    ready false false s None k = subst (λ (x : TaskPart). IsStage w t x x.stage) (some_of _ v k) (instruction_stage w t u s)
+    ready true spent s at k = subst (λ (x : TaskPart). IsStage w t x x.stage) (same_Some _ v k) tt
+    ready false true s at k = subst (λ (x : TaskPart). IsStage w t x x.stage) (same_Some _ v k) tt
+    ready false false s None k = subst (λ (x : TaskPart). IsStage w t x x.stage) (same_Some _ v k) (instruction_stage w t u s)
     ready false false s (Some p) k = let n : None ≡ Some v = k in absurd cc
 goes_stage w t u v Awaiting is h = let n : None ≡ Some v = h in absurd cc
 goes_stage w t u v (Ended e) is h = let n : None ≡ Some v = h in absurd cc
@@ -427,8 +423,8 @@ goes_stage w t u v (Holding g) is h = by (same_due g.due Nothing) g.subject h
   where
     by : (nothing subject : Bool) → (if nothing then Some (if subject then executed w t u else instruction_executed w t u) else None) ≡ Some v → IsStage w t v v.stage
     by false subject k = let n : None ≡ Some v = k in absurd cc
-    by true true k = subst (λ (x : TaskPart). IsStage w t x x.stage) (some_of _ v k) (executed_stage w t (executed w t u) (step_of w t u).next)
-    by true false k = subst (λ (x : TaskPart). IsStage w t x x.stage) (some_of _ v k) (instruction_stage w t u is.0)
+    by true true k = subst (λ (x : TaskPart). IsStage w t x x.stage) (same_Some _ v k) (executed_stage w t (executed w t u) (step_of w t u).next)
+    by true false k = subst (λ (x : TaskPart). IsStage w t x x.stage) (same_Some _ v k) (instruction_stage w t u is.0)
 
 pub ran_core : (w : World) (cells : List Cell) (sets : List FactSet) (plan : PlanView) (tasks : List RunningView) (t : ℕ) (m n : RunningView) →
     IsCore w cells sets plan tasks → t < length tasks → m ≡ get_or tasks t m → task_done w t m.part m.part.stage ≡ Some n.part → IsRunning w t n →

@@ -16,7 +16,6 @@ pub mod Whole
 pub mod Nexts
 pub mod Placing
 pub mod Quiet
-pub mod RunningLemmas
 pub mod Runs
 pub mod SampleLemmas
 pub mod Starts

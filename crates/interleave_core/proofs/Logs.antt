@@ -33,8 +33,8 @@ use Rattle.interleave_core.specs.declared.events.Event.TheVariants.{Fetch, Mark,
 use Rattle.interleave_core.specs.declared.stage.Hand.{Hand}
 use Rattle.interleave_core.specs.declared.stage.Due.TheVariants.{Marking, Lifting, Nothing}
 use Rattle.interleave_core.proofs.Changes.{goes_on, Changed, plant_cases, close_by, logs_given, logs_whole, logs_plant, logs_close}
-use Rattle.interleave_core.proofs.Runs.{same_or, lt_of, some_part, got, lifted_tasks, exists_by, in_hand-stage, some_core, through}
-use Rattle.interleave_core.proofs.Alone.{GoesAt, AllGo, has_ended, is_inside, executed_trace, all_step, all_first, some_core_stepped, run_zero}
+use Rattle.interleave_core.proofs.Runs.{same_or, got, lifted_tasks, exists_by, in_hand-stage, through}
+use Rattle.interleave_core.proofs.Alone.{GoesAt, AllGo, has_ended, is_inside, executed_trace, all_step, all_first, run_zero}
 use Rattle.s370_state.specs.declared.endings.Ending.TheVariants.{Returned, Spent}
 use Rattle.s370_state.specs.declared.endings.Next.{Next}
 use Rattle.s370_state.specs.declared.endings.Next.TheVariants.{On, Ended as NextEnded}
@@ -42,6 +42,8 @@ use Rattle.session_book.specs.Sessions.{task_of, no_task, first_state}
 use Rattle.module_area.specs.Parties.{tag_session, window_tag}
 use Rattle.module_area.specs.CellWords.{word_at}
 use Rattle.std.proofs.lemmas.Grind.{get_or-set_at}
+use Rattle.std.proofs.lemmas.Option.{same_Some}
+use Rattle.std.proofs.lemmas.Bool.{ltb-true}
 use Rattle.interleave_core.specs.declared.stage.Due.{Due}
 use Rattle.interleave_core.specs.declared.stage.Stage.{Stage}
 use Rattle.interleave_core.specs.declared.stage.Stage.TheVariants.{Ready, Awaiting, Holding, Ended}
@@ -54,9 +56,6 @@ noted-append w (v ∷ a) b = ap (λ (n : List Noted). note w v (place_at w v.at)
 same : (a b : ℕ) → (a == b) ≡ true → a ≡ b
 same a b h = grind (arith, nat_tests)
 
-some_number : (a b : ℕ) → Some a ≡ Some b → a ≡ b
-some_number a b h = cc
-
 -- a place that was found begins there
 pub found_at : (n a p : ℕ) (places : List Place) → place_from n places a ≡ Some p → (k : ℕ) × (k < length places) × ((place_of places k).at ≡ a) × (n + k ≡ p)
 found_at n a p [] h = let f : None ≡ Some p = h in absurd cc
@@ -64,7 +63,7 @@ found_at n a p (x ∷ xs) h = by (a == x.at) refl h (λ g. found_at (n + 1) a p 
   where
     by : (b : Bool) → (a == x.at) ≡ b → (if b then Some n else place_from (n + 1) xs a) ≡ Some p → (place_from (n + 1) xs a ≡ Some p → (k : ℕ) × (k < length xs) × ((place_of xs k).at ≡ a) × (n + 1 + k ≡ p)) →
         (k : ℕ) × (k < length (x ∷ xs)) × ((place_of (x ∷ xs) k).at ≡ a) × (n + k ≡ p)
-    by true e g more = let is : n ≡ p = some_number n p g in (zero, omega arith, sym (same a x.at e), omega (arith, is))
+    by true e g more = let is : n ≡ p = same_Some n p g in (zero, omega arith, sym (same a x.at e), omega (arith, is))
     by false e g more = let r = more g in (suc r.0, omega (arith, r.1), r.2, omega (arith, r.3))
 
 tests_pass : (odd reached : Bool) (x y : Option Ending) → odd ≡ false → reached ≡ true → (if odd then x else (if reached then None else y)) ≡ None
@@ -198,13 +197,13 @@ log_whole w t u log (Some p) at was on g h = h
 log_ready : (w : World) (t : ℕ) (u v : TaskPart) (log : List Item) (returned spent : Bool) (at : Option ℕ) → has_returned u.state ≡ returned → place_at w u.state.machine.cpu.ia ≡ at → has_ended u.stage ≡ false → GoesAt w t u →
     (if returned then Some (with_stage u (Ended Returned)) else (if spent then Some (with_stage u (Ended Spent)) else unless_at (instruction_executed w t u) at)) ≡ Some v →
     logged log ≡ noted w (trace_of w t u ++ []) → HasLog w t v log
-log_ready w t u v log true spent at r p was g h e = subst (λ (x : TaskPart). HasLog w t x log) (some_part _ v h) e
-log_ready w t u v log false true at r p was g h e = subst (λ (x : TaskPart). HasLog w t x log) (some_part _ v h) e
+log_ready w t u v log true spent at r p was g h e = subst (λ (x : TaskPart). HasLog w t x log) (same_Some _ v h) e
+log_ready w t u v log false true at r p was g h e = subst (λ (x : TaskPart). HasLog w t x log) (same_Some _ v h) e
 log_ready w t u v log false false (Some x) r p was g h e = let n : None ≡ Some v = h in absurd cc
 log_ready w t u v log false false None r p was g h e =
     let first : logged log ≡ noted w (trace_of w t u ++ first_visit (visits_of w t u)) =
     e ∙ (noted-append w (trace_of w t u) [] ∙ (ap (λ (n : List Noted). noted w (trace_of w t u) ++ n) (sym (no_place w (memory_in w t) u.state p)) ∙ sym (noted-append w (trace_of w t u) (first_visit (visits_of w t u))))) in
-    subst (λ (x : TaskPart). HasLog w t x log) (some_part _ v h) (log_whole w t u log (subject_place w (visits_of w t u)) refl was r g first)
+    subst (λ (x : TaskPart). HasLog w t x log) (same_Some _ v h) (log_whole w t u log (subject_place w (visits_of w t u)) refl was r g first)
 
 log_going : (w : World) (t : ℕ) (u v : TaskPart) (stage : Stage) (log : List Item) → u.stage ≡ stage → task_goes_on w t u stage ≡ Some v → GoesAt w t u →
     logged log ≡ noted w (trace_of w t u ++ visits_in_hand stage (visits_of w t u)) → HasLog w t v log
@@ -216,9 +215,9 @@ log_going w t u v (Holding x) log at h g e = by (same_due x.due Nothing) x.subje
     by : (nothing subject : Bool) → (if nothing then Some (if subject then executed w t u else instruction_executed w t u) else None) ≡ Some v →
         logged log ≡ noted w (trace_of w t u ++ (if subject then visits_of w t u else first_visit (visits_of w t u))) → HasLog w t v log
     by false subject k f = let n : None ≡ Some v = k in absurd cc
-    by true true k f = subst (λ (y : TaskPart). HasLog w t y log) (some_part _ v k)
+    by true true k f = subst (λ (y : TaskPart). HasLog w t y log) (same_Some _ v k)
         (log_executed w t u log (ap has_ended at) (g.inside (ap is_inside at)).0 g (f ∙ noted-append w (trace_of w t u) (visits_of w t u)))
-    by true false k f = subst (λ (y : TaskPart). HasLog w t y log) (some_part _ v k)
+    by true false k f = subst (λ (y : TaskPart). HasLog w t y log) (same_Some _ v k)
         (log_whole w t u log (subject_place w (visits_of w t u)) refl (ap has_ended at) (g.inside (ap is_inside at)).0 g f)
 
 log_done : (w : World) (t : ℕ) (u v : TaskPart) (stage : Stage) (log : List Item) → u.stage ≡ stage → task_done w t u stage ≡ Some v → GoesAt w t u →
@@ -277,7 +276,7 @@ log_step : (w : World) (c : CoreState) (e : Event) (x : Stepped) → IsWorld w �
 log_step w c (Fetch t) x world h is =
     let u : TaskPart = part_of c.parts t.0 in
     let at = exists_by (nat_lt t.0 (length c.parts.tasks)) (fetch_step w c.parts t.0 u) x h in
-    let lt : t.0 < length c.parts.tasks = lt_of t.0 (length c.parts.tasks) at.0 in
+    let lt : t.0 < length c.parts.tasks = ltb-true t.0 (length c.parts.tasks) at.0 in
     let p = got ℕ (fetched w c.parts t.0 u) (place_due w t.0 u u.stage) x at.1 in
     let seen = world.seen t.0 (subst (λ (n : ℕ). t.0 < n) is.count lt) in
     let own = log_fetch w t.0 u u.stage p.0 (word_at c.parts.cells p.0) Nothing (c.logs t.0) seen world.places refl p.1 (is.logs t.0 lt) in
@@ -286,7 +285,7 @@ log_step w c (Fetch t) x world h is =
 log_step w c (Mark t) x world h is =
     let u : TaskPart = part_of c.parts t.0 in
     let at = exists_by (nat_lt t.0 (length c.parts.tasks)) (mark_step w c.parts t.0 u) x h in
-    let lt : t.0 < length c.parts.tasks = lt_of t.0 (length c.parts.tasks) at.0 in
+    let lt : t.0 < length c.parts.tasks = ltb-true t.0 (length c.parts.tasks) at.0 in
     let p = got Hand (marked w c.parts t.0 u) (in_hand Marking u.stage) x at.1 in
     let found : FactSet = set_of w c.parts (tag_session p.0.cell.tag) p.0.place.0 in
     let stage = (in_hand-stage Marking u.stage p.0 p.1).0 in
@@ -296,7 +295,7 @@ log_step w c (Mark t) x world h is =
 log_step w c (Lift t) x world h is =
     let u : TaskPart = part_of c.parts t.0 in
     let at = exists_by (nat_lt t.0 (length c.parts.tasks)) (lift_step w c.parts t.0 u) x h in
-    let lt : t.0 < length c.parts.tasks = lt_of t.0 (length c.parts.tasks) at.0 in
+    let lt : t.0 < length c.parts.tasks = ltb-true t.0 (length c.parts.tasks) at.0 in
     let p = got Hand (lifted w c.parts t.0 u) (in_hand Lifting u.stage) x at.1 in
     let taken : Bool = same_cell (word_at c.parts.cells p.0.place.0) p.0.cell in
     let stage = (in_hand-stage Lifting u.stage p.0 p.1).0 in
@@ -307,7 +306,7 @@ log_step w c (Lift t) x world h is =
 log_step w c (Do t) x world h is =
     let u : TaskPart = part_of c.parts t.0 in
     let at = exists_by (nat_lt t.0 (length c.parts.tasks)) (do_step w c.parts t.0 u) x h in
-    let lt : t.0 < length c.parts.tasks = lt_of t.0 (length c.parts.tasks) at.0 in
+    let lt : t.0 < length c.parts.tasks = ltb-true t.0 (length c.parts.tasks) at.0 in
     let v = got TaskPart (done_by c.parts t.0) (task_done w t.0 u u.stage) x at.1 in
     subst (λ (y : Stepped). (length y.parts.tasks ≡ length w.job.tasks) × HaveLogs w y.parts (core_after w c (Do t) y).core.logs) (sym v.2)
     (length-set c.parts.tasks t.0 v.0 ∙ is.count, one_log w (λ n y log. HasLog w n y log) c (done_by c.parts t.0 v.0).parts t.0 v.0 Done refl lt (log_done w t.0 u v.0 u.stage (c.logs t.0) refl v.1 (is.go t.0 lt) (is.logs t.0 lt)) is.logs)
@@ -340,10 +339,10 @@ log_first w = record {
 
 pub got_step : (w : World) (d : CoreState) (e : Event) (o : Option Stepped) (y : CoreStepped) → option_map (core_after w d e) o ≡ Some y → (x : Stepped) × (o ≡ Some x) × ((core_after w d e x).core ≡ y.core)
 got_step w d e None y h = let n : None ≡ Some y = h in absurd cc
-got_step w d e (Some x) y h = (x, refl, ap (λ (z : CoreStepped). z.core) (some_core_stepped (core_after w d e x) y h))
+got_step w d e (Some x) y h = (x, refl, ap (λ (z : CoreStepped). z.core) (same_Some (core_after w d e x) y h))
 
 log_from : (w : World) (d c : CoreState) (events : List Event) → IsWorld w → Logged w d → core_from w d events ≡ Some c → Logged w c
-log_from w d c [] world is h = subst (λ (x : CoreState). Logged w x) (some_core d c h) is
+log_from w d c [] world is h = subst (λ (x : CoreState). Logged w x) (same_Some d c h) is
 log_from w d c (e ∷ events) world is h =
     let at = through (λ b. core_from w b events) (core_step w d e) c h in
     let made = got_step w d e (parts_step w d.parts e) at.0 at.1 in

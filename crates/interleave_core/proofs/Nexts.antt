@@ -1,7 +1,8 @@
 -- The event that is possible of a task.
 use Rattle.std.specs.Option.{option_and_then}
-use Rattle.std.proofs.Common.{◌≡◌, inl, inr, ℕ, ◌+◌, ◌*◌, ◌<◌, Bool, true, false, not, ◌&&◌, ◌||◌, nat_eq, nat_lt, if◌then◌else◌, Option, Some, None, is_none, option_map, IfSome, length, refl, sym, ◌∙◌, ap, subst, arith}
+use Rattle.std.proofs.Common.{◌≡◌, inl, inr, ℕ, ◌+◌, ◌*◌, Bool, true, false, not, ◌&&◌, ◌||◌, nat_eq, nat_lt, if◌then◌else◌, Option, Some, None, is_none, option_map, IfSome, length, refl, sym, ◌∙◌, ap, subst, arith}
 use Rattle.std.proofs.lemmas.Bool.Decides.{nat_tests}
+use Rattle.std.proofs.lemmas.Bool.{lt-ltb}
 use Rattle.cov_base.specs.declared.numbers.TaskNo.{TaskNo}
 use Rattle.s370_state.specs.declared.endings.Ending.TheVariants.{Returned, Spent}
 use Rattle.s370_exec.specs.Solo.{has_returned}
@@ -28,9 +29,6 @@ use Rattle.interleave_core.specs.declared.stage.Stage.TheVariants.{Ready, Awaiti
 
 itself : (t : ℕ) → nat_eq t t ≡ true
 itself t = grind (arith, nat_tests)
-
-lt_true : (t n : ℕ) → t < n → nat_lt t n ≡ true
-lt_true t n h = grind (arith, nat_tests)
 
 -- a change of this session at this place, under a tag that it may give
 may_from : (closes way same at low : Bool) → way ≡ closes → same ≡ true → at ≡ true → (closes ≡ false → low ≡ true) → ((if closes then way else not way) && (same && (at && (closes || low)))) ≡ true
@@ -74,7 +72,7 @@ change_by : (w : World) (c : Parts) (t : ℕ) (closes : Bool) (whole : Option St
 change_by w c t closes whole x plan tied there due way =
     let is : IsChange w c.cells t (part_of c t) x = due_is w c.cells t (part_of c t) (part_of c t).stage x plan tied due in
     let by : controller_of w x.session ≡ Some t = due_controller w t (part_of c t) (part_of c t).stage x plan due in
-    let below : closes ≡ false → nat_lt ((word_at c.cells x.place.0).tag + 1) (2 * x.session) ≡ true = λ e. lt_true ((word_at c.cells x.place.0).tag + 1) (2 * x.session) (is.lower (way ∙ e)) in
+    let below : closes ≡ false → nat_lt ((word_at c.cells x.place.0).tag + 1) (2 * x.session) ≡ true = λ e. lt-ltb ((word_at c.cells x.place.0).tag + 1) (2 * x.session) (is.lower (way ∙ e)) in
     let may : may_change c closes x.session x.place.0 x ≡ true = may_from closes x.closes _ _ _ way (itself x.session) (itself x.place.0) below in
     let step : change_step w c closes x.session x.place.0 t (part_of c t) ≡ Some (changed w c t (part_of c t) x) =
     ap (option_and_then (change_where w c closes x.session x.place.0 t (part_of c t))) due ∙ ap (λ (b : Bool). if b then Some (changed w c t (part_of c t) x) else None) may in
@@ -236,7 +234,7 @@ changed_only w c u closes s p x by same =
     ap (λ (n : SessNo). if by.change.closes then Close n by.change.place else Plant n by.change.place) (session_is s by.change.session by.session)
     ∙ (ap (λ (q : Number). if by.change.closes then Close s q else Plant s q) (place_is p by.change.place by.place)
     ∙ ap (λ (b : Bool). if b then Close s p else Plant s p) by.closes_is) in
-    only_of w c t u (if closes then Close s p else Plant s p) (same_task t u same) (lt_true by.task (length c.tasks) by.there) (change_only w t (part_of c by.task) (part_of c by.task).stage by.change by.due ∙ ap Some event)
+    only_of w c t u (if closes then Close s p else Plant s p) (same_task t u same) (lt-ltb by.task (length c.tasks) by.there) (change_only w t (part_of c by.task) (part_of c by.task).stage by.change by.due ∙ ap Some event)
 
 -- what is possible is next
 pub next_only : (w : World) (c : Parts) (u : TaskNo) (e : Event) → IsDue w c u.0 e → next_of w c u ≡ Some e

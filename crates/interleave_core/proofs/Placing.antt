@@ -3,6 +3,7 @@ use Rattle.std.proofs.Common.{◌≡◌, inl, inr, ℕ, ◌+◌, ◌*◌, ◌<�
 use Rattle.std.specs.Option.{option_and_then}
 use Rattle.std.proofs.lemmas.Bool.Decides.{nat_tests}
 use Rattle.std.proofs.lemmas.List.{get_or-map, length-set, length-map}
+use Rattle.std.proofs.lemmas.Bool.{ltb-true, or_right}
 use Rattle.cov_base.specs.FactSet.{FactSet}
 use Rattle.cov_base.specs.declared.limits.TheConstants.{SESSION_LIMIT, PLACE_LIMIT}
 use Rattle.cov_base.specs.declared.numbers.PlaceNo.{PlaceNo}
@@ -24,18 +25,10 @@ use Rattle.interleave_core.specs.declared.stage.Stage.TheVariants.{Ready, Awaiti
 use Rattle.interleave_core.proofs.Changes.{may_by}
 use Rattle.interleave_core.proofs.ControlLemmas.{few_places}
 use Rattle.interleave_core.proofs.Kept.{moved_core, running_with, stages_with, words_with, read_running, read_stage, parts_with, tied_by}
-use Rattle.interleave_core.proofs.Runs.{lt_of}
 use Rattle.interleave_core.proofs.Tied.{tied_window}
 use Rattle.interleave_core.proofs.Turns.{IsListed, by_at, listed, IsChange, due_is}
 
 -- ---- a whole session
-
-or_left : (a b : Bool) → a ≡ true → (a || b) ≡ true
-or_left a b h = rw h refl
-
-or_right : (a b : Bool) → b ≡ true → (a || b) ≡ true
-or_right true b h = refl
-or_right false b h = h
 
 window_over : (plan : PlanView) (s p : ℕ) → nat_lt 0 s ≡ true → nat_eq (window_at plan p) s ≡ true → is_over plan s p ≡ true
 window_over plan s p some same = rw (some, same) refl
@@ -86,7 +79,7 @@ due_of w c closes s p t (Some y) there due h = by (may_change c closes s p.0 y) 
         ∙ (ap (λ (n : ℕ). record { closes = closes; session = n; place = y.place }) (eqb-true y.session s at.1)
         ∙ ap (λ (q : PlaceNo). record { closes = closes; session = s; place = q }) (same_place y.place p (eqb-true y.place.0 p.0 at.2))) in
         record {
-          there = lt_of t (length c.tasks) there;
+          there = ltb-true t (length c.tasks) there;
           due = due ∙ ap Some same;
           step = rw (there, due, e) (ap (λ (z : PlaceChange). Some (changed w c t (part_of c t) z)) same);
         }

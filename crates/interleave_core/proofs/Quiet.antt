@@ -1,11 +1,12 @@
 -- What is quiet stays so, and its sets with it; what is drained is quiet.
 use Rattle.std.proofs.Common.{◌≡◌, inl, inr, ℕ, zero, suc, ◌+◌, ◌*◌, ◌<◌, ◌≤◌, Bool, true, false, not, ◌&&◌, ◌||◌, nat_eq, nat_lt, nat_le, if◌then◌else◌, Option, Some, None, is_some, List, [], ◌∷◌, length, get_or, set, refl, sym, ◌∙◌, ap, subst, arith, eqb-true, eq-eqb}
 use Rattle.std.specs.List.{list_any, list_all}
-use Rattle.std.proofs.lemmas.Bool.Decides.{nat_tests}
 use Rattle.std.proofs.lemmas.Grind.{get_or-set_at}
 use Rattle.std.proofs.lemmas.List.{get_or-set_other, length-set, get_or_default}
 use Rattle.std.proofs.lemmas.List.Folds.{list_any_none}
 use Rattle.std.proofs.lemmas.List.Sums.{AllPass-from_list_all, list_all-from_AllPass}
+use Rattle.std.proofs.lemmas.Option.{same_Some}
+use Rattle.std.proofs.lemmas.Bool.{le-leb, leb-true, ltb-true, not-true}
 use Rattle.cov_base.specs.Codes.{breakpoint}
 use Rattle.cov_base.specs.FactSet.{FactSet}
 use Rattle.cov_base.specs.Facts.{no_facts, with_fact, is_full}
@@ -39,7 +40,7 @@ use Rattle.interleave_core.proofs.Kept.{planted_form}
 use Rattle.interleave_core.proofs.Logs.{due_at}
 use Rattle.interleave_core.proofs.Rule.{due_same, of_window}
 use Rattle.interleave_core.proofs.Ruled.{place_inside, subject_inside}
-use Rattle.interleave_core.proofs.Runs.{same_or, lt_of, got, exists_by, lifted_tasks, some_part, in_hand-stage}
+use Rattle.interleave_core.proofs.Runs.{same_or, got, exists_by, lifted_tasks, in_hand-stage}
 use Rattle.interleave_core.proofs.Tied.{lift_tag, changed_tag}
 use Rattle.interleave_core.proofs.Turns.{IsChange, has_at, due_is}
 
@@ -95,7 +96,7 @@ rises w c (Plant s p) x is h = elim (plant_cases w c s.0 p.0 x h) [
   | inl whole ↦
       let at = may_by (nat_lt p.0 (length w.places)) (nat_lt 0 s.0) (nat_eq (window_at (plan_in w) p.0) s.0) (nat_eq (word_at c.cells p.0).tag 0) whole.may in
       let zero_tag : (word_at c.cells p.0).tag ≡ 0 = eqb-true (word_at c.cells p.0).tag 0 at.3 in
-      let inside : p.0 < length c.cells = subst (λ (n : ℕ). p.0 < n) (sym is.cell_count) (lt_of p.0 (length w.places) at.0) in
+      let inside : p.0 < length c.cells = subst (λ (n : ℕ). p.0 < n) (sym is.cell_count) (ltb-true p.0 (length w.places) at.0) in
       subst (λ (y : Stepped). Rises c y.parts) (sym whole.made) (λ q l. tag_set c.cells p.0 (breakpoint_of s.0) q inside (omega (arith, zero_tag)))
   | inr by ↦ subst (λ (y : Stepped). Rises c y.parts) (sym by.made) (changed_rises w c by.task by.change is by.there by.due)
 ]
@@ -107,12 +108,6 @@ rises w c (Close s p) x is h =
 
 abbrev pub AreOver : World → ℕ → Parts → Type 0
 AreOver w s c = (p : ℕ) → is_controlled (plan_in w) s p ≡ true → 2 * s ≤ (word_at c.cells p).tag
-
-le_of : (a b : ℕ) → nat_le a b ≡ true → a ≤ b
-le_of a b h = grind (arith, nat_tests)
-
-le_true : (a b : ℕ) → a ≤ b → nat_le a b ≡ true
-le_true a b h = grind (arith, nat_tests)
 
 abbrev is_past : (ℕ → ℕ) → ℕ → PlaceNo → Bool
 is_past seen s q = nat_le (2 * s) (seen q.0)
@@ -132,7 +127,7 @@ closed_place plan seen s p h there =
     let places : list_all (is_past seen s) c.places ≡ true = all_places (nat_eq c.session s) _ (and_left (nat_eq c.session s) (has_place c.places p) k.2) shut in
     let j = any_at (λ (q : PlaceNo). nat_eq q.0 p) c.places (record { 0 = 0 }) (and_right (nat_eq c.session s) (has_place c.places p) k.2) in
     let past : nat_le (2 * s) (seen (number_at c.places j.0)) ≡ true = AllPass-from_list_all (is_past seen s) c.places places j.0 (record { 0 = 0 }) j.1 in
-    subst (λ (n : ℕ). 2 * s ≤ seen n) (eqb-true (number_at c.places j.0) p j.2) (le_of (2 * s) (seen (number_at c.places j.0)) past)
+    subst (λ (n : ℕ). 2 * s ≤ seen n) (eqb-true (number_at c.places j.0) p j.2) (leb-true (2 * s) (seen (number_at c.places j.0)) past)
 
 closed_of_places : (plan : PlanView) (seen : ℕ → ℕ) (s : ℕ) → ((p : ℕ) → is_controlled plan s p ≡ true → 2 * s ≤ seen p) → is_closed plan seen s ≡ true
 closed_of_places plan seen s h = list_all-from_AllPass (is_shut seen s) plan.controlled (λ k d lt.
@@ -145,7 +140,7 @@ closed_of_places plan seen s h = list_all-from_AllPass (is_shut seen s) plan.con
         ap (λ (b : Bool). not b || list_all (is_past seen s) c.places) e
         ∙ list_all-from_AllPass (is_past seen s) c.places (λ j d l.
         subst (λ (q : PlaceNo). is_past seen s q ≡ true) (get_or_default c.places j (record { 0 = 0 }) d l)
-        (le_true (2 * s) (seen (number_at c.places j))
+        (le-leb (2 * s) (seen (number_at c.places j))
         (h (number_at c.places j) (any_shown (λ (d : ControlledView). nat_eq d.session s && has_place d.places (number_at c.places j)) plan.controlled no_controlled k lt (and_both (nat_eq c.session s) _ e (has_at c.places j l))))))
 
 session_there : (s : ℕ) (cs : List ControlledView) → is_some (controller_from s cs) ≡ true → (k : ℕ) × (k < length cs) × ((get_or cs k no_controlled).session ≡ s)
@@ -251,9 +246,9 @@ goes_clear : (s : ℕ) (w : World) (t : ℕ) (u v : TaskPart) (stage : Stage) �
 goes_clear s w t u v Ready h = ready (has_returned u.state) (is_spent w t u.state) (place_at w u.state.machine.cpu.ia) h
   where
     ready : (returned spent : Bool) (at : Option ℕ) → (if returned then Some (with_stage u (Ended Returned)) else (if spent then Some (with_stage u (Ended Spent)) else unless_at (instruction_executed w t u) at)) ≡ Some v → Clear s v.stage
-    ready true spent at k = subst (λ (x : TaskPart). Clear s x.stage) (some_part _ v k) refl
-    ready false true at k = subst (λ (x : TaskPart). Clear s x.stage) (some_part _ v k) refl
-    ready false false None k = subst (λ (x : TaskPart). Clear s x.stage) (some_part _ v k) (whole_clear s w t u (subject_place w (step_of w t u).visits))
+    ready true spent at k = subst (λ (x : TaskPart). Clear s x.stage) (same_Some _ v k) refl
+    ready false true at k = subst (λ (x : TaskPart). Clear s x.stage) (same_Some _ v k) refl
+    ready false false None k = subst (λ (x : TaskPart). Clear s x.stage) (same_Some _ v k) (whole_clear s w t u (subject_place w (step_of w t u).visits))
     ready false false (Some p) k = let n : None ≡ Some v = k in absurd cc
 goes_clear s w t u v Awaiting h = let n : None ≡ Some v = h in absurd cc
 goes_clear s w t u v (Ended e) h = let n : None ≡ Some v = h in absurd cc
@@ -261,8 +256,8 @@ goes_clear s w t u v (Holding g) h = by (same_due g.due Nothing) g.subject h
   where
     by : (nothing subject : Bool) → (if nothing then Some (if subject then executed w t u else instruction_executed w t u) else None) ≡ Some v → Clear s v.stage
     by false subject k = let n : None ≡ Some v = k in absurd cc
-    by true true k = subst (λ (x : TaskPart). Clear s x.stage) (some_part _ v k) (after_clear s (step_of w t u).next)
-    by true false k = subst (λ (x : TaskPart). Clear s x.stage) (some_part _ v k) (whole_clear s w t u (subject_place w (step_of w t u).visits))
+    by true true k = subst (λ (x : TaskPart). Clear s x.stage) (same_Some _ v k) (after_clear s (step_of w t u).next)
+    by true false k = subst (λ (x : TaskPart). Clear s x.stage) (same_Some _ v k) (whole_clear s w t u (subject_place w (step_of w t u).visits))
 
 -- and so no task comes to one
 pub clear_step : (w : World) (s : ℕ) (c : Parts) (e : Event) (x : Stepped) → AreSteady w c → IsLocal w s → AreOver w s c → parts_step w c e ≡ Some x → (r : ℕ) → Clear s (part_of c r).stage → Clear s (part_of x.parts r).stage
@@ -272,7 +267,7 @@ clear_step w s c (Fetch t) x is local over h r clear =
     let p = got ℕ (fetched w c t.0 u) (place_due w t.0 u u.stage) x at.1 in
     let lt : p.0 < length w.places = due_inside w t.0 u u.stage p.0 p.1 in
     subst (λ (y : Stepped). Clear s (part_of y.parts r).stage) (sym p.2)
-    (one_clear s c (fetched w c t.0 u p.0).parts t.0 _ refl (lt_of t.0 (length c.tasks) at.0) (λ _. fetch_clear w s c (is_awaiting u.stage) p.0 is local over lt) r clear)
+    (one_clear s c (fetched w c t.0 u p.0).parts t.0 _ refl (ltb-true t.0 (length c.tasks) at.0) (λ _. fetch_clear w s c (is_awaiting u.stage) p.0 is local over lt) r clear)
 clear_step w s c (Mark t) x is local over h r clear =
     let u : TaskPart = part_of c t.0 in
     let at = exists_by (nat_lt t.0 (length c.tasks)) (mark_step w c t.0 u) x h in
@@ -280,7 +275,7 @@ clear_step w s c (Mark t) x is local over h r clear =
     let found : FactSet = set_of w c (tag_session g.0.cell.tag) g.0.place.0 in
     let full : Bool = is_full (kind_at (plan_in w) g.0.place.0) (with_fact found (fact_in w t.0 u g.0)) in
     subst (λ (y : Stepped). Clear s (part_of y.parts r).stage) (sym g.2)
-    (one_clear s c (marked w c t.0 u g.0).parts t.0 (with_due u g.0 (if full then Lifting else Nothing)) refl (lt_of t.0 (length c.tasks) at.0) (λ _. mark_clear s u g.0 full) r clear)
+    (one_clear s c (marked w c t.0 u g.0).parts t.0 (with_due u g.0 (if full then Lifting else Nothing)) refl (ltb-true t.0 (length c.tasks) at.0) (λ _. mark_clear s u g.0 full) r clear)
 clear_step w s c (Lift t) x is local over h r clear =
     let u : TaskPart = part_of c t.0 in
     let at = exists_by (nat_lt t.0 (length c.tasks)) (lift_step w c t.0 u) x h in
@@ -288,13 +283,13 @@ clear_step w s c (Lift t) x is local over h r clear =
     let taken : Bool = same_cell (word_at c.cells g.0.place.0) g.0.cell in
     let tasks : (lifted w c t.0 u g.0).parts.tasks ≡ set c.tasks t.0 (with_due u g.0 Nothing) = ap (λ (ts : List TaskPart). set ts t.0 (with_due u g.0 Nothing)) (lifted_tasks taken c g.0.place.0 (original_under w g.0.place.0 g.0.cell)) in
     subst (λ (y : Stepped). Clear s (part_of y.parts r).stage) (sym g.2)
-    (one_clear s c (lifted w c t.0 u g.0).parts t.0 (with_due u g.0 Nothing) tasks (lt_of t.0 (length c.tasks) at.0) (λ _. refl) r clear)
+    (one_clear s c (lifted w c t.0 u g.0).parts t.0 (with_due u g.0 Nothing) tasks (ltb-true t.0 (length c.tasks) at.0) (λ _. refl) r clear)
 clear_step w s c (Do t) x is local over h r clear =
     let u : TaskPart = part_of c t.0 in
     let at = exists_by (nat_lt t.0 (length c.tasks)) (do_step w c t.0 u) x h in
     let v = got TaskPart (done_by c t.0) (task_done w t.0 u u.stage) x at.1 in
     subst (λ (y : Stepped). Clear s (part_of y.parts r).stage) (sym v.2)
-    (one_clear s c (done_by c t.0 v.0).parts t.0 v.0 refl (lt_of t.0 (length c.tasks) at.0) (λ _. goes_clear s w t.0 u v.0 u.stage (goes_on w t.0 u v.0 u.stage v.1)) r clear)
+    (one_clear s c (done_by c t.0 v.0).parts t.0 v.0 refl (ltb-true t.0 (length c.tasks) at.0) (λ _. goes_clear s w t.0 u v.0 u.stage (goes_on w t.0 u v.0 u.stage v.1)) r clear)
 clear_step w s c (Plant n p) x is local over h r clear = elim (plant_cases w c n.0 p.0 x h) [
   | inl whole ↦ subst (λ (y : Stepped). Clear s (part_of y.parts r).stage) (sym whole.made) clear
   | inr by ↦ subst (λ (y : Stepped). Clear s (part_of y.parts r).stage) (sym by.made)
@@ -367,7 +362,7 @@ sets_step w s c (Fetch t) x is pos h clear =
 sets_step w s c (Mark t) x is pos h clear =
     let u : TaskPart = part_of c t.0 in
     let at = exists_by (nat_lt t.0 (length c.tasks)) (mark_step w c t.0 u) x h in
-    let lt : t.0 < length c.tasks = lt_of t.0 (length c.tasks) at.0 in
+    let lt : t.0 < length c.tasks = ltb-true t.0 (length c.tasks) at.0 in
     let g = got Hand (marked w c t.0 u) (in_hand Marking u.stage) x at.1 in
     subst (λ (y : Stepped). SetsStay w s c y.parts) (sym g.2)
     (mark_stays w s c t.0 g.0 (with_fact (set_of w c (tag_session g.0.cell.tag) g.0.place.0) (fact_in w t.0 u g.0)) is pos lt g.1 (clear t.0 lt))
@@ -401,10 +396,6 @@ pub record Quiet (w : World) (c : Parts) (s : ℕ) : Type 0 where
   pub over : AreOver w s c
   pub clear : (t : ℕ) → t < length c.tasks → Clear s (part_of c t).stage
 
-not_true : (b : Bool) → not b ≡ true → b ≡ false
-not_true true h = let f : false ≡ true = h in absurd cc
-not_true false h = refl
-
 none_of : (s : ℕ) (tasks : List TaskPart) (t : ℕ) → any_unmarked s tasks ≡ false → t < length tasks → Clear s (get_or tasks t no_part).stage
 none_of s tasks t h lt = by (has_unmarked s (get_or tasks t no_part).stage) refl
   where
@@ -418,7 +409,7 @@ quiet_is w c s h =
     record {
       controlled = and_left (is_some (controller_of w s)) _ h;
       over = λ p. closed_place (plan_in w) (λ q. (word_at c.cells q).tag) s p (and_left (is_closed (plan_in w) (λ q. (word_at c.cells q).tag) s) _ rest);
-      clear = λ t lt. none_of s c.tasks t (not_true (any_unmarked s c.tasks) (and_right (is_closed (plan_in w) (λ p. (word_at c.cells p).tag) s) _ rest)) lt;
+      clear = λ t lt. none_of s c.tasks t (not-true (any_unmarked s c.tasks) (and_right (is_closed (plan_in w) (λ p. (word_at c.cells p).tag) s) _ rest)) lt;
     }
 
 pub is_quiet_by : (w : World) (c : Parts) (s : ℕ) → Quiet w c s → is_quiet w c s ≡ true

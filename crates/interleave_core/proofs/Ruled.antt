@@ -2,6 +2,8 @@
 use Rattle.std.proofs.Common.{◌≡◌, ◌≢◌, ◌⊎◌, inl, inr, ℕ, zero, suc, ◌+◌, ◌*◌, ◌<◌, ◌≤◌, Bool, true, false, not, ◌&&◌, nat_lt, nat_eq, if◌then◌else◌, Option, Some, None, is_none, List, [], ◌∷◌, ◌++◌, length, get_or, set, replicate, refl, sym, ◌∙◌, ap, subst, arith, eqb-true}
 use Rattle.std.proofs.lemmas.Grind.{get_or-set_at}
 use Rattle.std.proofs.lemmas.List.{get_or-map, get_or-set_other, get_or-replicate, length-set, length-map, length-replicate}
+use Rattle.std.proofs.lemmas.Option.{same_Some}
+use Rattle.std.proofs.lemmas.Bool.{and_parts, ltb-true, cases_lt}
 use Rattle.cov_base.specs.Codes.{breakpoint}
 use Rattle.cov_base.specs.FactSet.{FactSet}
 use Rattle.cov_base.specs.Facts.{no_facts, has_fact, with_fact, is_full, is_of_kind, fact_of}
@@ -46,7 +48,7 @@ use Rattle.interleave_core.specs.declared.stage.Stage.{Stage}
 use Rattle.interleave_core.specs.declared.stage.Stage.TheVariants.{Ready, Awaiting, Holding, Ended}
 use Rattle.interleave_core.specs.Views.{AreTied}
 use Rattle.interleave_core.proofs.Changes.{goes_on, Changed, plant_cases, close_by, logs_whole, logs_plant, logs_close}
-use Rattle.interleave_core.proofs.Runs.{lt_of, got, some_part, lifted_tasks, exists_by, some_core, through}
+use Rattle.interleave_core.proofs.Runs.{got, lifted_tasks, exists_by, through}
 use Rattle.interleave_core.proofs.Logs.{found_at, due_at, itself, got_step}
 use Rattle.interleave_core.proofs.Tied.{tied_step, tied_first}
 use Rattle.interleave_core.proofs.Begun.{begun_instruction, begun_subject}
@@ -189,16 +191,11 @@ rule_mark w c v t h is lt due =
 
 -- ---- Lift
 
-and_true : (a b : Bool) → (a && b) ≡ true → (a ≡ true) × (b ≡ true)
-and_true true true h = (refl, refl)
-and_true true false h = let f : false ≡ true = h in absurd cc
-and_true false b h = let f : false ≡ true = h in absurd cc
-
 cell_is : (a b : Cell) → a.tag ≡ b.tag → a.half ≡ b.half → a ≡ b
 cell_is a b h k = ap (λ (n : ℕ). record { tag = n; half = a.half }) h ∙ ap (λ (n : ℕ). record { tag = b.tag; half = n }) k
 
 pub same_cells : (a b : Cell) → same_cell a b ≡ true → a ≡ b
-same_cells a b h = let at = and_true (nat_eq a.tag b.tag) (nat_eq a.half b.half) h in cell_is a b (eqb-true a.tag b.tag at.0) (eqb-true a.half b.half at.1)
+same_cells a b h = let at = and_parts (nat_eq a.tag b.tag) (nat_eq a.half b.half) h in cell_is a b (eqb-true a.tag b.tag at.0) (eqb-true a.half b.half at.1)
 
 cell_itself : (a : Cell) → same_cell a a ≡ true
 cell_itself a = rw (itself a.tag, itself a.half) refl
@@ -284,9 +281,9 @@ going_hand : (w : World) (t : ℕ) (u v : TaskPart) (log : List Item) (stage : S
 going_hand w t u v log Ready is h = ready (has_returned u.state) (is_spent w t u.state) (place_at w u.state.machine.cpu.ia) h
   where
     ready : (returned spent : Bool) (at : Option ℕ) → (if returned then Some (with_stage u (Ended Returned)) else (if spent then Some (with_stage u (Ended SpentEnding)) else unless_at (instruction_executed w t u) at)) ≡ Some v → InStage w t v log v.stage
-    ready true spent at k = subst (λ (x : TaskPart). InStage w t x log x.stage) (some_part _ v k) is
-    ready false true at k = subst (λ (x : TaskPart). InStage w t x log x.stage) (some_part _ v k) is
-    ready false false None k = subst (λ (x : TaskPart). InStage w t x log x.stage) (some_part _ v k) (awaits_hand w t u log (subject_place w (step_of w t u).visits) is)
+    ready true spent at k = subst (λ (x : TaskPart). InStage w t x log x.stage) (same_Some _ v k) is
+    ready false true at k = subst (λ (x : TaskPart). InStage w t x log x.stage) (same_Some _ v k) is
+    ready false false None k = subst (λ (x : TaskPart). InStage w t x log x.stage) (same_Some _ v k) (awaits_hand w t u log (subject_place w (step_of w t u).visits) is)
     ready false false (Some p) k = let n : None ≡ Some v = k in absurd cc
 going_hand w t u v log Awaiting is h = let n : None ≡ Some v = h in absurd cc
 going_hand w t u v log (Ended e) is h = let n : None ≡ Some v = h in absurd cc
@@ -294,8 +291,8 @@ going_hand w t u v log (Holding g) is h = by (same_due g.due Nothing) refl g.sub
   where
     by : (nothing : Bool) → same_due g.due Nothing ≡ nothing → (subject : Bool) → (if nothing then Some (if subject then executed w t u else instruction_executed w t u) else None) ≡ Some v → InStage w t v log v.stage
     by false e subject k = let n : None ≡ Some v = k in absurd cc
-    by true e true k = subst (λ (x : TaskPart). InStage w t x log x.stage) (some_part _ v k) (executed_hand w t (executed w t u) log (step_of w t u).next (subst (λ (d : Due). InHand w t u log g d) (due_same g.due Nothing e) is))
-    by true e false k = subst (λ (x : TaskPart). InStage w t x log x.stage) (some_part _ v k) (awaits_hand w t u log (subject_place w (step_of w t u).visits) (subst (λ (d : Due). InHand w t u log g d) (due_same g.due Nothing e) is))
+    by true e true k = subst (λ (x : TaskPart). InStage w t x log x.stage) (same_Some _ v k) (executed_hand w t (executed w t u) log (step_of w t u).next (subst (λ (d : Due). InHand w t u log g d) (due_same g.due Nothing e) is))
+    by true e false k = subst (λ (x : TaskPart). InStage w t x log x.stage) (same_Some _ v k) (awaits_hand w t u log (subject_place w (step_of w t u).visits) (subst (λ (d : Due). InHand w t u log g d) (due_same g.due Nothing e) is))
 
 done_hand : (w : World) (t : ℕ) (u v : TaskPart) (log : List Item) (stage : Stage) → InStage w t u log stage → task_done w t u stage ≡ Some v → InStage w t v log v.stage
 done_hand w t u v log stage is h = going_hand w t u v log stage is (goes_on w t u v stage h)
@@ -350,9 +347,6 @@ empty_by n i (inr le) = past n i le
     past (suc k) zero l = absurd (omega arith)
     past (suc k) (suc j) l = past k j (omega (arith, l))
 
-inside_or : (n i : ℕ) → (i < n) ⊎ (n ≤ i)
-inside_or n i = grind arith
-
 pub ruled_first : (w : World) → IsWorld w → Ruled w (core_start w) (first_planter (length w.job.tasks))
 ruled_first w world = record {
   count = length-map w.job.tasks first_part;
@@ -362,7 +356,7 @@ ruled_first w world = record {
   held = gave (plan_in w) w (λ p. word_at (first_parts w).cells p) (λ s p. set_of w (first_parts w) s p) (length w.job.tasks)
       (begins (plan_in w) (λ p. word_at (first_parts w).cells p) (λ s p. set_of w (first_parts w) s p) world.is_plan
       (λ p l. get_or-map fresh_word w.places p no_place no_cell l)
-      (λ s p f l pos h. no_fact f (subst (λ (x : FactSet). has_fact x f ≡ true) (empty_by (length w.job.sessions * length w.places) (index_of (length w.places) s p) (inside_or _ _)) h)));
+      (λ s p f l pos h. no_fact f (subst (λ (x : FactSet). has_fact x f ≡ true) (empty_by (length w.job.sessions * length w.places) (index_of (length w.places) s p) (cases_lt _ _)) h)));
   hands = λ t l.
       let lt : t < length w.job.tasks = subst (λ (n : ℕ). t < n) (length-map w.job.tasks first_part) l in
       subst (λ (u : TaskPart). InStage w t u [] u.stage) (sym (get_or-map first_part w.job.tasks t no_task no_part lt)) tt;
@@ -375,22 +369,22 @@ ruled_step w c v (Fetch t) x world h tied is =
     let u : TaskPart = part_of c.parts t.0 in
     let at = exists_by (nat_lt t.0 (length c.parts.tasks)) (fetch_step w c.parts t.0 u) x h in
     let p = got ℕ (fetched w c.parts t.0 u) (place_due w t.0 u u.stage) x at.1 in
-    subst (λ (y : Stepped). Ruled w (core_after w c (Fetch t) y).core v) (sym p.2) (rule_fetch w c v t.0 p.0 world is (lt_of t.0 (length c.parts.tasks) at.0) p.1)
+    subst (λ (y : Stepped). Ruled w (core_after w c (Fetch t) y).core v) (sym p.2) (rule_fetch w c v t.0 p.0 world is (ltb-true t.0 (length c.parts.tasks) at.0) p.1)
 ruled_step w c v (Mark t) x world h tied is =
     let u : TaskPart = part_of c.parts t.0 in
     let at = exists_by (nat_lt t.0 (length c.parts.tasks)) (mark_step w c.parts t.0 u) x h in
     let p = got Hand (marked w c.parts t.0 u) (in_hand Marking u.stage) x at.1 in
-    subst (λ (y : Stepped). Ruled w (core_after w c (Mark t) y).core v) (sym p.2) (rule_mark w c v t.0 p.0 is (lt_of t.0 (length c.parts.tasks) at.0) p.1)
+    subst (λ (y : Stepped). Ruled w (core_after w c (Mark t) y).core v) (sym p.2) (rule_mark w c v t.0 p.0 is (ltb-true t.0 (length c.parts.tasks) at.0) p.1)
 ruled_step w c v (Lift t) x world h tied is =
     let u : TaskPart = part_of c.parts t.0 in
     let at = exists_by (nat_lt t.0 (length c.parts.tasks)) (lift_step w c.parts t.0 u) x h in
     let p = got Hand (lifted w c.parts t.0 u) (in_hand Lifting u.stage) x at.1 in
-    subst (λ (y : Stepped). Ruled w (core_after w c (Lift t) y).core v) (sym p.2) (rule_lift w c v t.0 p.0 is (lt_of t.0 (length c.parts.tasks) at.0) p.1)
+    subst (λ (y : Stepped). Ruled w (core_after w c (Lift t) y).core v) (sym p.2) (rule_lift w c v t.0 p.0 is (ltb-true t.0 (length c.parts.tasks) at.0) p.1)
 ruled_step w c v (Do t) x world h tied is =
     let u : TaskPart = part_of c.parts t.0 in
     let at = exists_by (nat_lt t.0 (length c.parts.tasks)) (do_step w c.parts t.0 u) x h in
     let n = got TaskPart (done_by c.parts t.0) (task_done w t.0 u u.stage) x at.1 in
-    subst (λ (y : Stepped). Ruled w (core_after w c (Do t) y).core v) (sym n.2) (rule_do w c v t.0 n.0 is (lt_of t.0 (length c.parts.tasks) at.0) n.1)
+    subst (λ (y : Stepped). Ruled w (core_after w c (Do t) y).core v) (sym n.2) (rule_do w c v t.0 n.0 is (ltb-true t.0 (length c.parts.tasks) at.0) n.1)
 ruled_step w c v (Plant s p) x world h tied is = elim (plant_cases w c.parts s.0 p.0 x h) [
   | inl whole ↦
       let after : Ruled w (core_after w c (Plant s p) x).core (planting s.0 p.0 v) =
@@ -405,7 +399,7 @@ ruled_step w c v (Close s p) x world h tied is =
     rule_closes w c v true s.0 p.0 x (core_after w c (Close s p) x).core.logs is tied by refl (logs_close w c s p x by)
 
 ruled_from : (w : World) (d c : CoreState) (v : View) (events : List Event) → IsWorld w → AreTied w d.parts → Ruled w d v → core_from w d events ≡ Some c → Ruled w c (planter_from w v events)
-ruled_from w d c v [] world tied is h = subst (λ (x : CoreState). Ruled w x v) (some_core d c h) is
+ruled_from w d c v [] world tied is h = subst (λ (x : CoreState). Ruled w x v) (same_Some d c h) is
 ruled_from w d c v (e ∷ events) world tied is h =
     let at = through (λ b. core_from w b events) (core_step w d e) c h in
     let made = got_step w d e (parts_step w d.parts e) at.0 at.1 in

@@ -1,8 +1,8 @@
 -- Runs of the core, event by event, and what a possible event was made of.
-use Rattle.std.proofs.Common.{◌≡◌, ◌≢◌, ◌⊎◌, ℕ, ◌<◌, Bool, true, false, nat_lt, if◌then◌else◌, Option, Some, None, option_map, List, [], ◌∷◌, ◌++◌, refl, sym, ◌∙◌, ap, subst, arith}
-use Rattle.std.proofs.lemmas.Bool.Decides.{nat_tests}
+use Rattle.std.proofs.Common.{◌≡◌, ◌≢◌, ◌⊎◌, ℕ, Bool, true, false, if◌then◌else◌, Option, Some, None, option_map, List, [], ◌∷◌, ◌++◌, refl, sym, ◌∙◌, ap, subst, arith}
+use Rattle.std.proofs.lemmas.Option.{same_Some}
 use Rattle.module_area.specs.declared.cells.Cell.{Cell}
-use Rattle.interleave_core.specs.World.{World, TaskPart, Parts}
+use Rattle.interleave_core.specs.World.{World, Parts}
 use Rattle.interleave_core.specs.Steps.{Stepped, in_hand, same_due, with_cell}
 use Rattle.interleave_core.specs.Core.{CoreState, CoreStepped, core_step, core_from, go_on}
 use Rattle.interleave_core.specs.declared.events.Event.{Event}
@@ -14,18 +14,9 @@ use Rattle.interleave_core.specs.declared.stage.Stage.TheVariants.{Ready, Awaiti
 pub same_or : (t n : ℕ) → (t ≡ n) ⊎ (t ≢ n)
 same_or t n = grind arith
 
-pub lt_of : (t n : ℕ) → nat_lt t n ≡ true → t < n
-lt_of t n h = grind (arith, nat_tests)
-
-pub some_part : (u v : TaskPart) → Some u ≡ Some v → u ≡ v
-some_part u v h = cc
-
-pub some_stepped : (a b : Stepped) → Some a ≡ Some b → a ≡ b
-some_stepped a b h = cc
-
 pub got : (A : Type 0) (f : A → Stepped) (o : Option A) (x : Stepped) → option_map f o ≡ Some x → (a : A) × (o ≡ Some a) × (x ≡ f a)
 got A f None x h = let n : None ≡ Some x = h in absurd cc
-got A f (Some a) x h = (a, refl, sym (some_stepped (f a) x h))
+got A f (Some a) x h = (a, refl, sym (same_Some (f a) x h))
 
 pub lifted_tasks : (b : Bool) (P : Parts) (p : ℕ) (x : Cell) → (if b then with_cell P p x else P).tasks ≡ P.tasks
 lifted_tasks true P p x = refl
@@ -46,9 +37,6 @@ in_hand-stage due (Holding g) h e = by (same_due g.due due) refl e
     by true s k = let f : Some g ≡ Some h = k in let same : g ≡ h = cc in (ap Holding same, subst (λ (x : Hand). same_due x.due due ≡ true) same s)
     by false s k = let n : None ≡ Some h = k in absurd cc
 
-pub some_core : (a b : CoreState) → Some a ≡ Some b → a ≡ b
-some_core a b h = cc
-
 pub through : (more : CoreState → Option CoreState) (x : Option CoreStepped) (c : CoreState) → go_on more x ≡ Some c → (y : CoreStepped) × (x ≡ Some y) × (more y.core ≡ Some c)
 through more None c h = let n : None ≡ Some c = h in absurd cc
 through more (Some y) c h = (y, refl, h)
@@ -57,7 +45,7 @@ through more (Some y) c h = (y, refl, h)
 pub core_from-push : (w : World) (d c : CoreState) (events : List Event) (e : Event) (x : CoreStepped) → core_from w d events ≡ Some c → core_step w c e ≡ Some x →
     core_from w d (events ++ e ∷ []) ≡ Some x.core
 core_from-push w d c [] e x h step =
-    let same : d ≡ c = some_core d c h in
+    let same : d ≡ c = same_Some d c h in
     ap (go_on (λ b. core_from w b [])) (ap (λ (b : CoreState). core_step w b e) same ∙ step)
 core_from-push w d c (f ∷ events) e x h step =
     let at = through (λ b. core_from w b events) (core_step w d f) c h in

@@ -1,7 +1,7 @@
 -- A core before its first event, and what each core fits.
 use Rattle.std.proofs.Common.{◌≡◌, ◌⊎◌, inl, inr, ℕ, zero, suc, All, ◌+◌, ◌-◌, ◌*◌, ◌<◌, ◌≤◌, true, Some, List, [], ◌∷◌, ◌++◌, length, get_or, map, replicate, take, drop, min, slice_range, nat_lt, refl, sym, ◌∙◌, ap, subst, arith}
 use Rattle.std.proofs.lemmas.List.{get_or-map, length-map, length-replicate, length-append, ext_get_or, get_or_push, get_or_append_left, length-drop, take_all}
-use Rattle.std.proofs.lemmas.Bool.Decides.{nat_tests}
+use Rattle.std.proofs.lemmas.Bool.{lt-ltb}
 use Rattle.cov_base.specs.FactSet.{FactSet}
 use Rattle.cov_base.specs.Facts.{no_facts, is_within}
 use Rattle.cov_base.specs.declared.facts.Kind.{Kind}
@@ -38,11 +38,8 @@ pub stage_read : (w : World) (cells : List Cell) (sets : List FactSet) (plan : P
 stage_read w cells sets plan tasks t r is lt read =
     subst (λ (u : TaskPart). IsStage w t u u.stage) (sym (part_read tasks t r lt read)) (subst (λ (x : RunningView). IsStage w t x.part x.part.stage) (sym read) (is.stages t r lt))
 
-lt_true : (t n : ℕ) → t < n → nat_lt t n ≡ true
-lt_true t n h = grind (arith, nat_tests)
-
 pub exists_read : (tasks : List RunningView) (t : ℕ) → t < length tasks → nat_lt t (length (parts_of tasks)) ≡ true
-exists_read tasks t lt = lt_true t (length (parts_of tasks)) (subst (λ n. t < n) (sym (length-map tasks (λ (r : RunningView). r.part))) lt)
+exists_read tasks t lt = lt-ltb t (length (parts_of tasks)) (subst (λ n. t < n) (sym (length-map tasks (λ (r : RunningView). r.part))) lt)
 
 no_running : RunningView
 no_running = record { part = no_part; space = record { bytes = []; images = []; places = [] }; budget = 0 }

@@ -1,9 +1,9 @@
 -- Each event keeps each task and its sessions tied to the cells.
 use Rattle.std.proofs.Common.{◌≡◌, ◌≢◌, inl, inr, ℕ, zero, suc, ◌+◌, ◌-◌, ◌*◌, ◌<◌, ◌≤◌, Bool, true, false, nat_eq, nat_lt, nat_le, if◌then◌else◌, Option, Some, None, option_map, List, [], ◌∷◌, length, get_or, set, map, slice_get, refl, sym, ◌∙◌, ap, subst, arith, eqb-true}
 use Rattle.std.specs.Option.{option_and_then}
-use Rattle.std.proofs.lemmas.Bool.Decides.{nat_tests}
 use Rattle.std.proofs.lemmas.Grind.{get_or-set_at}
 use Rattle.std.proofs.lemmas.List.{get_or-map, get_or-set_other, length-set, length-map}
+use Rattle.std.proofs.lemmas.Bool.{lt-ltb, le-leb, leb-true, ltb-true}
 use Rattle.cov_base.specs.declared.numbers.PlaceNo.{PlaceNo}
 use Rattle.module_area.specs.CellWords.{word_at, no_cell}
 use Rattle.module_area.specs.PlanView.{ControlledView, IsPlan, is_controller, window_at}
@@ -30,7 +30,7 @@ use Rattle.interleave_core.specs.declared.stage.Stage.{Stage}
 use Rattle.interleave_core.specs.declared.stage.Stage.TheVariants.{Holding}
 use Rattle.interleave_core.proofs.Changes.{is_done, may_by, Changed, plant_cases, close_by}
 use Rattle.interleave_core.specs.Views.{session_at, turn_number, turn_of, has_window, number_at, tag_at, IsTied, AreTied}
-use Rattle.interleave_core.proofs.Runs.{same_or, lt_of, exists_by, got, lifted_tasks}
+use Rattle.interleave_core.proofs.Runs.{same_or, exists_by, got, lifted_tasks}
 use Rattle.interleave_core.proofs.Turns.{own, places_differ, session_rises, IsAsked, IsChange, change_asked, due_is}
 
 -- ---- cells
@@ -68,15 +68,6 @@ tied_window w cells t p x part plan pos is = tied_same w cells (set cells p x) t
 
 -- ---- the next place of the turn
 
-le_of : (a b : ℕ) → nat_le a b ≡ true → a ≤ b
-le_of a b h = grind (arith, nat_tests)
-
-le_true : (a b : ℕ) → a ≤ b → nat_le a b ≡ true
-le_true a b h = grind (arith, nat_tests)
-
-lt_true : (a b : ℕ) → a < b → nat_lt a b ≡ true
-lt_true a b h = grind (arith, nat_tests)
-
 module _ (w : World) (cells : List Cell) (t p : ℕ) (x : Cell) (u : TaskPart) (plan : IsPlan (plan_in w)) (size : length cells ≡ length w.places) (is : IsTied w cells t u)
     (there : u.changed < length (turn_of w t u).places) (here : number_at (turn_of w t u).places u.changed ≡ p) (stands : Bool) (is_open : u.is_open ≡ stands)
     (tag : x.tag + 1 ≡ (if stands then 2 * (turn_of w t u).session + 1 else 2 * (turn_of w t u).session)) where
@@ -101,16 +92,16 @@ module _ (w : World) (cells : List Cell) (t p : ℕ) (x : Cell) (u : TaskPart) (
   window : (b : Bool) → u.is_open ≡ b → x.tag + 1 ≡ (if b then 2 * s + 1 else 2 * s) → (i : ℕ) → i < length (turn_of w t u).places → (if b then nat_le (u.changed + 1) i else nat_lt i (u.changed + 1)) ≡ true →
       tag_at new (turn_of w t u).places i + 1 ≡ 2 * s
   window true e k i lt h =
-      let from : u.changed + 1 ≤ i = le_of (u.changed + 1) i h in
-      let had : has_window u i ≡ true = ap (λ (b : Bool). if b then nat_le u.changed i else nat_lt i u.changed) e ∙ le_true u.changed i (omega (arith, from)) in
+      let from : u.changed + 1 ≤ i = leb-true (u.changed + 1) i h in
+      let had : has_window u i ≡ true = ap (λ (b : Bool). if b then nat_le u.changed i else nat_lt i u.changed) e ∙ le-leb u.changed i (omega (arith, from)) in
       ap (λ (n : ℕ). n + 1) (other i lt (λ same. omega (arith, same, from))) ∙ is.planted i lt had
   window false e k i lt h = elim (same_or i u.changed) [
     | inl same ↦
         let at : number_at (turn_of w t u).places i ≡ p = ap (number_at (turn_of w t u).places) same ∙ here in
         ap (λ (n : ℕ). n + 1) (tag_here cells p x (turn_of w t u).places i in_cells at) ∙ k
     | inr apart ↦
-        let to : i < u.changed + 1 = lt_of i (u.changed + 1) h in
-        let had : has_window u i ≡ true = ap (λ (b : Bool). if b then nat_le u.changed i else nat_lt i u.changed) e ∙ lt_true i u.changed (omega (arith, to, apart)) in
+        let to : i < u.changed + 1 = ltb-true i (u.changed + 1) h in
+        let had : has_window u i ≡ true = ap (λ (b : Bool). if b then nat_le u.changed i else nat_lt i u.changed) e ∙ lt-ltb i u.changed (omega (arith, to, apart)) in
         ap (λ (n : ℕ). n + 1) (other i lt apart) ∙ is.planted i lt had
   ]
 
@@ -176,7 +167,7 @@ tied_opened w cells t u shut lt whole is =
       some = λ e. omega arith;
       changed = omega arith;
       planted = subst (λ (n : ℕ). (i : ℕ) → i < length (session_at w t n).places → nat_le 0 i ≡ true → tag_at cells (session_at w t n).places i + 1 ≡ 2 * (session_at w t n).session) turn
-          (λ i l h. is.planted i l (ap (λ (b : Bool). if b then nat_le u.changed i else nat_lt i u.changed) shut ∙ lt_true i u.changed (omega (arith, l, whole))));
+          (λ i l h. is.planted i l (ap (λ (b : Bool). if b then nat_le u.changed i else nat_lt i u.changed) shut ∙ lt-ltb i u.changed (omega (arith, l, whole))));
       later = λ n i from l unless k. is.later n i (omega (arith, from)) l (λ same e. omega (arith, same, from)) k;
     }
 
@@ -186,7 +177,7 @@ tied_closed w cells t u is_open is = record {
   opened = is.opened;
   some = λ e. let f : false ≡ true = e in absurd cc;
   changed = omega arith;
-  planted = λ i l h. let none : i < 0 = lt_of i 0 h in absurd (omega arith);
+  planted = λ i l h. let none : i < 0 = ltb-true i 0 h in absurd (omega arith);
   later = λ n i from l unless k. is.later n i from l (λ same e. let f : true ≡ false = sym is_open ∙ e in absurd cc) k;
 }
 
@@ -268,21 +259,21 @@ tied_lifted w c t h plan size lt all =
 tied_whole : (w : World) (c : Parts) (s p : ℕ) → IsPlan (plan_in w) → may_plant w c s p ≡ true → AreTied w c → AreTied w (with_cell c p (breakpoint_of s))
 tied_whole w c s p plan may all t lt =
     let at = may_by (nat_lt p (length w.places)) (nat_lt 0 s) (nat_eq (window_at (plan_in w) p) s) (nat_eq (word_at c.cells p).tag 0) may in
-    let pos : 0 < window_at (plan_in w) p = subst (λ (n : ℕ). 0 < n) (sym (eqb-true (window_at (plan_in w) p) s at.2)) (lt_of 0 s at.1) in
+    let pos : 0 < window_at (plan_in w) p = subst (λ (n : ℕ). 0 < n) (sym (eqb-true (window_at (plan_in w) p) s at.2)) (ltb-true 0 s at.1) in
     tied_window w c.cells t p (breakpoint_of s) (part_of c t) plan pos (all t lt)
 
 pub tied_step : (w : World) (c : Parts) (e : Event) (x : Stepped) → IsPlan (plan_in w) → length c.cells ≡ length w.places → parts_step w c e ≡ Some x → AreTied w c → AreTied w x.parts
 tied_step w c (Fetch t) x plan size h all =
     let u : TaskPart = part_of c t.0 in
     let at = exists_by (nat_lt t.0 (length c.tasks)) (fetch_step w c t.0 u) x h in
-    let lt : t.0 < length c.tasks = lt_of t.0 (length c.tasks) at.0 in
+    let lt : t.0 < length c.tasks = ltb-true t.0 (length c.tasks) at.0 in
     let p = got ℕ (fetched w c t.0 u) (place_due w t.0 u u.stage) x at.1 in
     subst (λ (y : Stepped). AreTied w y.parts) (sym p.2)
     (all_but w c (fetched w c t.0 u p.0).parts t.0 _ refl lt (tied_stage w c.cells t.0 u u.state (Holding (hand_at w c (is_awaiting u.stage) p.0)) (all t.0 lt)) (λ s l apart. all s l))
 tied_step w c (Mark t) x plan size h all =
     let u : TaskPart = part_of c t.0 in
     let at = exists_by (nat_lt t.0 (length c.tasks)) (mark_step w c t.0 u) x h in
-    let lt : t.0 < length c.tasks = lt_of t.0 (length c.tasks) at.0 in
+    let lt : t.0 < length c.tasks = ltb-true t.0 (length c.tasks) at.0 in
     let g = got Hand (marked w c t.0 u) (in_hand Marking u.stage) x at.1 in
     let found : FactSet = set_of w c (tag_session g.0.cell.tag) g.0.place.0 in
     let due : Due = if is_full (kind_at (plan_in w) g.0.place.0) (with_fact found (fact_in w t.0 u g.0)) then Lifting else Nothing in
@@ -292,11 +283,11 @@ tied_step w c (Lift t) x plan size h all =
     let u : TaskPart = part_of c t.0 in
     let at = exists_by (nat_lt t.0 (length c.tasks)) (lift_step w c t.0 u) x h in
     let g = got Hand (lifted w c t.0 u) (in_hand Lifting u.stage) x at.1 in
-    subst (λ (y : Stepped). AreTied w y.parts) (sym g.2) (tied_lifted w c t.0 g.0 plan size (lt_of t.0 (length c.tasks) at.0) all)
+    subst (λ (y : Stepped). AreTied w y.parts) (sym g.2) (tied_lifted w c t.0 g.0 plan size (ltb-true t.0 (length c.tasks) at.0) all)
 tied_step w c (Do t) x plan size h all =
     let u : TaskPart = part_of c t.0 in
     let at = exists_by (nat_lt t.0 (length c.tasks)) (do_step w c t.0 u) x h in
-    let lt : t.0 < length c.tasks = lt_of t.0 (length c.tasks) at.0 in
+    let lt : t.0 < length c.tasks = ltb-true t.0 (length c.tasks) at.0 in
     let v = got TaskPart (done_by c t.0) (task_done w t.0 u u.stage) x at.1 in
     subst (λ (y : Stepped). AreTied w y.parts) (sym v.2) (all_but w c (done_by c t.0 v.0).parts t.0 v.0 refl lt (tied_done w c.cells t.0 u v.0 u.stage v.1 (all t.0 lt)) (λ s l apart. all s l))
 tied_step w c (Plant s p) x plan size h all = elim (plant_cases w c s.0 p.0 x h) [
@@ -321,7 +312,7 @@ tied_part w t u plan opened shut changed = record {
   changed = omega (arith, changed);
   planted = λ i l h.
       let at : nat_lt i u.changed ≡ true = sym (ap (λ (b : Bool). if b then nat_le u.changed i else nat_lt i u.changed) shut) ∙ h in
-      let none : i < u.changed = lt_of i u.changed at in
+      let none : i < u.changed = ltb-true i u.changed at in
       absurd (omega (arith, none, changed));
   later = λ n i from lt unless l. let pos = (own w t n i plan l).positive in omega (arith, tag_fresh w.places (number_at (session_at w t n).places i), pos);
 }

@@ -1,8 +1,10 @@
 -- The sessions that a task controls, and what an SVC in hand does to them.
-use Rattle.std.proofs.Common.{◌≡◌, ◌≢◌, ◌⊎◌, inl, inr, ℕ, zero, suc, ◌+◌, ◌-◌, ◌*◌, ◌<◌, ◌≤◌, Bool, true, false, ◌&&◌, nat_eq, nat_lt, nat_le, if◌then◌else◌, Option, Some, None, option_map, List, [], ◌∷◌, length, get_or, slice_get, AllPairs, refl, sym, ◌∙◌, ap, subst, arith, eqb-true, eq-eqb}
+use Rattle.std.proofs.Common.{◌≡◌, ◌≢◌, inl, inr, ℕ, zero, suc, ◌+◌, ◌-◌, ◌*◌, ◌<◌, ◌≤◌, Bool, true, false, ◌&&◌, nat_eq, nat_lt, nat_le, if◌then◌else◌, Option, Some, None, option_map, List, [], ◌∷◌, length, get_or, slice_get, AllPairs, refl, sym, ◌∙◌, ap, subst, arith, eqb-true, eq-eqb}
 use Rattle.std.specs.Option.{option_and_then}
 use Rattle.std.proofs.lemmas.Bool.Decides.{nat_tests}
 use Rattle.std.proofs.lemmas.List.{get_or_past}
+use Rattle.std.proofs.lemmas.Option.{same_Some}
+use Rattle.std.proofs.lemmas.Bool.{and_from, cases_lt, ne_eqb}
 use Rattle.cov_base.specs.declared.numbers.PlaceNo.{PlaceNo}
 use Rattle.module_area.specs.CellWords.{word_at}
 use Rattle.module_area.specs.PlanView.{ControlledView, IsPlan, IsControlled, AreApart, has_place, is_controlled, is_controller, window_at}
@@ -17,9 +19,6 @@ use Rattle.interleave_core.specs.declared.stage.Stage.{Stage}
 use Rattle.interleave_core.specs.Views.{no_controlled, session_at, turn_number, turn_of, has_window, number_at, tag_at, IsTied}
 
 -- ---- a task's sessions
-
-below_or : (n m : ℕ) → (n < m) ⊎ (m ≤ n)
-below_or n m = grind arith
 
 -- those of the task's are among the plan's, in their order
 pub record IsListed (t : ℕ) (cs : List ControlledView) (c : ControlledView) : Type 0 where
@@ -68,7 +67,7 @@ pub record IsOwn (w : World) (t s p : ℕ) : Type 0 where
   pub no_window : window_at (plan_in w) p ≡ 0
 
 pub listed : (w : World) (t n i : ℕ) → i < length (session_at w t n).places → n < length (sessions_by w t)
-listed w t n i lt = elim (below_or n (length (sessions_by w t))) [
+listed w t n i lt = elim (cases_lt n (length (sessions_by w t))) [
   | inl l ↦ l
   | inr le ↦
       let none : session_at w t n ≡ no_controlled = get_or_past (sessions_by w t) n no_controlled le in
@@ -79,9 +78,6 @@ listed w t n i lt = elim (below_or n (length (sessions_by w t))) [
 pub has_at : (places : List PlaceNo) (i : ℕ) → i < length places → has_place places (number_at places i) ≡ true
 has_at places i lt = any_shown (λ (q : PlaceNo). nat_eq q.0 (number_at places i)) places (record { 0 = 0 }) i lt (eq-eqb (number_at places i) (number_at places i) refl)
 
-both : (a b : Bool) → a ≡ true → b ≡ true → (a && b) ≡ true
-both a b h k = rw (h, k) refl
-
 own_at : (w : World) (t k i : ℕ) → IsPlan (plan_in w) → k < length (plan_in w).controlled → (get_or (plan_in w).controlled k no_controlled).by ≡ t → i < length (get_or (plan_in w).controlled k no_controlled).places →
     IsOwn w t (get_or (plan_in w).controlled k no_controlled).session (number_at (get_or (plan_in w).controlled k no_controlled).places i)
 own_at w t k i plan lt by l =
@@ -91,8 +87,8 @@ own_at w t k i plan lt by l =
     record {
       positive = is.from;
       inside = is.of_plan i (record { 0 = 0 }) l;
-      controlled = any_shown (λ (d : ControlledView). nat_eq d.session c.session && has_place d.places (number_at c.places i)) (plan_in w).controlled no_controlled k lt (both _ _ (eq-eqb c.session c.session refl) there);
-      controller = any_shown (λ (d : ControlledView). nat_eq d.by t && has_place d.places (number_at c.places i)) (plan_in w).controlled no_controlled k lt (both _ _ (eq-eqb c.by t by) there);
+      controlled = any_shown (λ (d : ControlledView). nat_eq d.session c.session && has_place d.places (number_at c.places i)) (plan_in w).controlled no_controlled k lt (and_from _ _ (eq-eqb c.session c.session refl) there);
+      controller = any_shown (λ (d : ControlledView). nat_eq d.by t && has_place d.places (number_at c.places i)) (plan_in w).controlled no_controlled k lt (and_from _ _ (eq-eqb c.by t by) there);
       no_window = is.free i (record { 0 = 0 }) l;
     }
 
@@ -102,16 +98,13 @@ own w t n i plan lt =
     subst (λ (c : ControlledView). IsOwn w t c.session (number_at c.places i)) (sym r.same)
     (own_at w t r.number i plan r.there r.by_task (subst (λ (c : ControlledView). i < length c.places) r.same lt))
 
-differ : (a b : ℕ) → a ≢ b → nat_eq a b ≡ false
-differ a b h = grind (arith, nat_tests)
-
 -- the task controls it
 controls : (cs : List ControlledView) (k : ℕ) → AllPairs AreApart cs → k < length cs → controller_from (get_or cs k no_controlled).session cs ≡ Some (get_or cs k no_controlled).by
 controls [] k all lt = absurd (omega arith)
 controls (c ∷ cs) zero all lt = ap (λ (b : Bool). if b then Some c.by else controller_from c.session cs) (eq-eqb c.session c.session refl)
 controls (c ∷ cs) (suc k) all lt =
     let up : c.session < (get_or cs k no_controlled).session = (all zero (suc k) no_controlled (omega arith) lt).rising in
-    let other : nat_eq c.session (get_or cs k no_controlled).session ≡ false = differ c.session (get_or cs k no_controlled).session (λ e. omega (arith, e, up)) in
+    let other : nat_eq c.session (get_or cs k no_controlled).session ≡ false = ne_eqb c.session (get_or cs k no_controlled).session (λ e. omega (arith, e, up)) in
     ap (λ (b : Bool). if b then Some c.by else controller_from (get_or cs k no_controlled).session cs) other ∙ controls cs k (tail_apart c cs all) (omega (arith, lt))
 
 pub controller : (w : World) (t n i : ℕ) → IsPlan (plan_in w) → i < length (session_at w t n).places → controller_of w (session_at w t n).session ≡ Some t
@@ -125,7 +118,7 @@ pub places_differ : (w : World) (t n i j : ℕ) → IsPlan (plan_in w) → i < l
 places_differ w t n i j plan li lj apart same =
     let r : IsListed t (plan_in w).controlled (session_at w t n) = by_at t (plan_in w).controlled n (listed w t n i li) in
     let is : IsControlled (plan_in w) (session_at w t n) = subst (IsControlled (plan_in w)) (sym r.same) (plan.controlled r.number no_controlled r.there) in
-    elim (below_or i j) [
+    elim (cases_lt i j) [
       | inl lt ↦ let up = is.rising i j (record { 0 = 0 }) lt lj in absurd (omega (arith, up, same))
       | inr le ↦ let up = is.rising j i (record { 0 = 0 }) (omega (arith, le, apart)) li in absurd (omega (arith, up, same))
     ]
@@ -164,12 +157,9 @@ le_same n = grind (arith, nat_tests)
 no_change : (A : Type 0) (ch : Change) → None ≡ Some ch → A
 no_change A ch h = absurd cc
 
-some_change : (a b : Change) → Some a ≡ Some b → a ≡ b
-some_change a b h = cc
-
 got_session : (xs : List ControlledView) (n : ℕ) (closes : Bool) (ch : Change) → option_map (change closes) (slice_get xs n) ≡ Some ch → (ch.closes ≡ closes) × (ch.session ≡ get_or xs n no_controlled) × (n < length xs)
 got_session [] n closes ch h = no_change _ ch h
-got_session (x ∷ xs) zero closes ch h = let same : change closes x ≡ ch = some_change _ _ h in (ap (λ (c : Change). c.closes) (sym same), ap (λ (c : Change). c.session) (sym same), omega arith)
+got_session (x ∷ xs) zero closes ch h = let same : change closes x ≡ ch = same_Some _ _ h in (ap (λ (c : Change). c.closes) (sym same), ap (λ (c : Change). c.session) (sym same), omega arith)
 got_session (x ∷ xs) (suc n) closes ch h = let r = got_session xs n closes ch h in (r.0, r.1, omega (arith, r.2))
 
 asked_is : (w : World) (t : ℕ) (u : TaskPart) (call : ℕ) (ch : Change) → asked w t u call ≡ Some ch → IsAsked w t u ch
@@ -201,12 +191,9 @@ if_some : {A : Type 0} (b : Bool) (o : Option A) (x : A) → (if b then o else N
 if_some true o x h = h
 if_some false o x h = absurd cc
 
-some_place : (a b : PlaceChange) → Some a ≡ Some b → a ≡ b
-some_place a b h = cc
-
 next_is : (places : List PlaceNo) (ch : Change) (done : ℕ) (x : PlaceChange) → option_map (place_change ch) (slice_get places done) ≡ Some x → (done < length places) × (x ≡ place_change ch (get_or places done (record { 0 = 0 })))
 next_is [] ch done x h = absurd cc
-next_is (p ∷ ps) ch zero x h = (omega arith, sym (some_place _ _ h))
+next_is (p ∷ ps) ch zero x h = (omega arith, sym (same_Some _ _ h))
 next_is (p ∷ ps) ch (suc done) x h = let r = next_is ps ch done x h in (omega (arith, r.0), r.1)
 
 -- what an instruction asks for

@@ -3,6 +3,8 @@ use Rattle.std.proofs.Common.{◌≡◌, ◌≢◌, ◌⊎◌, inl, inr, ℕ, ze
 use Rattle.std.proofs.lemmas.Bool.Decides.{nat_tests}
 use Rattle.std.proofs.lemmas.Grind.{get_or-set_at}
 use Rattle.std.proofs.lemmas.List.{get_or-set_other, get_or-map, append-nil}
+use Rattle.std.proofs.lemmas.Option.{same_Some}
+use Rattle.std.proofs.lemmas.Bool.{and_from, and_parts, ltb-true}
 use Rattle.cov_base.specs.FactSet.{FactSet}
 use Rattle.cov_base.specs.Facts.{no_facts, has_fact, with_fact, is_full, union, fact_of, same_fact}
 use Rattle.cov_base.specs.States.{Visit}
@@ -49,7 +51,7 @@ use Rattle.interleave_core.proofs.Finds.{there}
 use Rattle.interleave_core.proofs.Logs.{found_at, one_log, changed_log, got_step, run_logs}
 use Rattle.interleave_core.proofs.Given.{its, cell_other}
 use Rattle.interleave_core.proofs.Ruled.{fetch_due, same_cells}
-use Rattle.interleave_core.proofs.Runs.{same_or, lt_of, got, lifted_tasks, exists_by, some_core, through}
+use Rattle.interleave_core.proofs.Runs.{same_or, got, lifted_tasks, exists_by, through}
 
 -- ---- the tags
 
@@ -123,7 +125,7 @@ open_step : (w : World) (c : CoreState) (v : View) (e : Event) (x : Stepped) →
 open_step w c v (Fetch t) x world h is up all =
     let u : TaskPart = part_of c.parts t.0 in
     let at = exists_by (nat_lt t.0 (length c.parts.tasks)) (fetch_step w c.parts t.0 u) x h in
-    let lt : t.0 < length c.parts.tasks = lt_of t.0 (length c.parts.tasks) at.0 in
+    let lt : t.0 < length c.parts.tasks = ltb-true t.0 (length c.parts.tasks) at.0 in
     let p = got ℕ (fetched w c.parts t.0 u) (place_due w t.0 u u.stage) x at.1 in
     let in_job : t.0 < length w.job.tasks = subst (λ (n : ℕ). t.0 < n) is.ruled.count lt in
     let due = fetch_due w t.0 u (c.logs t.0) u.stage p.0 world in_job (is.ruled.hands t.0 lt) p.1 in
@@ -135,7 +137,7 @@ open_step w c v (Fetch t) x world h is up all =
 open_step w c v (Mark t) x world h is up all =
     let u : TaskPart = part_of c.parts t.0 in
     let at = exists_by (nat_lt t.0 (length c.parts.tasks)) (mark_step w c.parts t.0 u) x h in
-    let lt : t.0 < length c.parts.tasks = lt_of t.0 (length c.parts.tasks) at.0 in
+    let lt : t.0 < length c.parts.tasks = ltb-true t.0 (length c.parts.tasks) at.0 in
     let p = got Hand (marked w c.parts t.0 u) (in_hand Marking u.stage) x at.1 in
     let found : FactSet = set_of w c.parts (tag_session p.0.cell.tag) p.0.place.0 in
     let u2 : TaskPart = with_due u p.0 (if is_full (kind_at (plan_in w) p.0.place.0) (with_fact found (fact_in w t.0 u p.0)) then Lifting else Nothing) in
@@ -144,7 +146,7 @@ open_step w c v (Mark t) x world h is up all =
 open_step w c v (Lift t) x world h is up all =
     let u : TaskPart = part_of c.parts t.0 in
     let at = exists_by (nat_lt t.0 (length c.parts.tasks)) (lift_step w c.parts t.0 u) x h in
-    let lt : t.0 < length c.parts.tasks = lt_of t.0 (length c.parts.tasks) at.0 in
+    let lt : t.0 < length c.parts.tasks = ltb-true t.0 (length c.parts.tasks) at.0 in
     let p = got Hand (lifted w c.parts t.0 u) (in_hand Lifting u.stage) x at.1 in
     let taken : Bool = same_cell (word_at c.parts.cells p.0.place.0) p.0.cell in
     let tasks : (lifted w c.parts t.0 u p.0).parts.tasks ≡ set c.parts.tasks t.0 (with_due u p.0 Nothing) = ap (λ (ts : List TaskPart). set ts t.0 (with_due u p.0 Nothing)) (lifted_tasks taken c.parts p.0.place.0 (original_under w p.0.place.0 p.0.cell)) in
@@ -153,7 +155,7 @@ open_step w c v (Lift t) x world h is up all =
 open_step w c v (Do t) x world h is up all =
     let u : TaskPart = part_of c.parts t.0 in
     let at = exists_by (nat_lt t.0 (length c.parts.tasks)) (do_step w c.parts t.0 u) x h in
-    let lt : t.0 < length c.parts.tasks = lt_of t.0 (length c.parts.tasks) at.0 in
+    let lt : t.0 < length c.parts.tasks = ltb-true t.0 (length c.parts.tasks) at.0 in
     let n = got TaskPart (done_by c.parts t.0) (task_done w t.0 u u.stage) x at.1 in
     subst (λ (y : Stepped). Up w y.parts × AllEntered w (core_after w c (Do t) y).core) (sym n.2)
     (up, one_log w (λ m y log. Entered w log) c (done_by c.parts t.0 n.0).parts t.0 n.0 Done refl lt (all t.0 lt) all)
@@ -171,7 +173,7 @@ open_step w c v (Close s p) x world h is up all =
     )
 
 open_from : (w : World) (d c : CoreState) (v : View) (events : List Event) → IsWorld w → Sound w d v → Up w d.parts → AllEntered w d → core_from w d events ≡ Some c → AllEntered w c
-open_from w d c v [] world is up all h = subst (λ (x : CoreState). AllEntered w x) (some_core d c h) all
+open_from w d c v [] world is up all h = subst (λ (x : CoreState). AllEntered w x) (same_Some d c h) all
 open_from w d c v (e ∷ events) world is up all h =
     let at = through (λ b. core_from w b events) (core_step w d e) c h in
     let made = got_step w d e (parts_step w d.parts e) at.0 at.1 in
@@ -205,7 +207,7 @@ entered_plant w d s p x (inl whole) all = whole_entered w d s p x whole all
 entered_plant w d s p x (inr by) all = plant_entered w d s p x by all
 
 first_from : (w : World) (d c : CoreState) (v : View) (events : List Event) → IsWorld w → Sound w d v → AllEntered w d → Coming w d.parts events → core_from w d events ≡ Some c → AllEntered w c
-first_from w d c v [] world is all coming h = subst (λ (x : CoreState). AllEntered w x) (some_core d c h) all
+first_from w d c v [] world is all coming h = subst (λ (x : CoreState). AllEntered w x) (same_Some d c h) all
 first_from w d c v (Fetch t ∷ events) world is all coming h = open_from w d c v (Fetch t ∷ events) world is (ready w d.parts (Fetch t ∷ events) refl coming) all h
 first_from w d c v (Mark t ∷ events) world is all coming h = open_from w d c v (Mark t ∷ events) world is (ready w d.parts (Mark t ∷ events) refl coming) all h
 first_from w d c v (Lift t ∷ events) world is all coming h = open_from w d c v (Lift t ∷ events) world is (ready w d.parts (Lift t ∷ events) refl coming) all h
@@ -261,14 +263,6 @@ has_old x g f h = has_fact-with_fact x g f ∙ or_left (has_fact x f) (same_fact
 has_by : (x : FactSet) (g f : Fact) → has_fact (with_fact x g) f ≡ true → (has_fact x f ≡ true) ⊎ (f ≡ g)
 has_by x g f h = elim (or_cases (has_fact x f) (same_fact f g) (sym (has_fact-with_fact x g f) ∙ h)) [ inl old ↦ inl old | inr new ↦ inr (same_fact-true f g new) ]
 
-both_parts : (a b : Bool) → (a && b) ≡ true → (a ≡ true) × (b ≡ true)
-both_parts true true h = (refl, refl)
-both_parts true false h = let f : false ≡ true = h in absurd cc
-both_parts false b h = let f : false ≡ true = h in absurd cc
-
-both_from : (a b : Bool) → a ≡ true → b ≡ true → (a && b) ≡ true
-both_from a b h k = rw (h, k) refl
-
 -- one visit more
 more_facts : (b : Bool) (x : FactSet) (g f : Fact) → has_fact x f ≡ true → has_fact (if b then with_fact x g else x) f ≡ true
 more_facts true x g f h = has_old x g f h
@@ -308,7 +302,7 @@ noted_facts w p f (v ∷ vs) h = elim (has-append (noted_one p f) (note w v (pla
       let by = note_by w v (place_at w v.at) p f new in
       let fact = begun_by v.begun (fact_of (kind_at (plan_in w) p) v.went) f by.1 in
       this_fact (executes (place_of w.places p) v) (facts_at (place_of w.places p) vs) (fact_of (kind_at (plan_in w) p) v.went) f
-      (both_from v.begun (v.at == (place_of w.places p).at) fact.0 (equal_test v.at (place_of w.places p).at (sym (place_number w v.at p by.0)))) fact.1
+      (and_from v.begun (v.at == (place_of w.places p).at) fact.0 (equal_test v.at (place_of w.places p).at (sym (place_number w v.at p by.0)))) fact.1
   | inr old ↦ more_facts (executes (place_of w.places p) v) (facts_at (place_of w.places p) vs) (fact_of (kind_at (plan_in w) p) v.went) f (noted_facts w p f vs old)
 ]
 
@@ -322,7 +316,7 @@ facts_noted w p f [] world lt h = absurd (none_of f h)
 facts_noted w p f (v ∷ vs) world lt h = elim (which_fact (executes (place_of w.places p) v) (facts_at (place_of w.places p) vs) (fact_of (kind_at (plan_in w) p) v.went) f h) [
   | inl old ↦ right-append (noted_one p f) (note w v (place_at w v.at)) (noted w vs) (facts_noted w p f vs world lt old)
   | inr new ↦
-      let at = both_parts v.begun (v.at == (place_of w.places p).at) new.0 in
+      let at = and_parts v.begun (v.at == (place_of w.places p).at) new.0 in
       let number : place_at w v.at ≡ Some p = number_of_place w v.at p world lt (sym (equal_from v.at (place_of w.places p).at at.1)) in
       let fact : fact_at w p v ≡ Some f = ap (λ (b : Bool). if b then Some (fact_of (kind_at (plan_in w) p) v.went) else None) at.0 ∙ ap Some new.1 in
       left-append (noted_one p f) (note w v (place_at w v.at)) (noted w vs)

@@ -1,5 +1,5 @@
 //! What is due of a cell in hand, and what takes a cell's place.
-ghost use Rattle.std.specs.Prelude.{◌≡◌, ℕ, ◌<◌, ◌≤◌, length, set, if◌then◌else◌};
+ghost use Rattle.std.specs.Prelude.{◌≡◌, ◌<◌, ◌≤◌, length, set, if◌then◌else◌};
 ghost use Rattle.cov_base.specs.Facts.{is_full};
 ghost use Rattle.cov_base.specs.declared.limits.TheConstants.{SESSION_LIMIT};
 ghost use Rattle.module_area.specs.CellWords.{word_at};

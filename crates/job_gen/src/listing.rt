@@ -1,5 +1,5 @@
 //! The bytes and the listing of a generated module.
-ghost use Rattle.std.specs.Prelude.{◌≡◌, ◌+◌, ◌-◌, ◌≤◌, ◌<◌, [], ◌∷◌, ◌++◌, length, replicate, IfOk};
+ghost use Rattle.std.specs.Prelude.{◌≡◌, ◌+◌, ◌-◌, ◌≤◌, ◌<◌, ◌++◌, length, replicate, IfOk};
 ghost use Rattle.arrayvec.specs.ArrayVec.{array_vec_len};
 ghost use Rattle.job_gen.specs.Code.{bytes_of, object};
 ghost use Rattle.job_gen.specs.Listing.{name_of, object_text, number_text, plain_line, listing_of, heading};

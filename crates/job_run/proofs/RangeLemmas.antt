@@ -1,8 +1,7 @@
 -- Where the tasks of a phase stand among those of the job.
-use Rattle.std.proofs.Common.{◌≡◌, ◌≢◌, ◌⊎◌, inl, inr, ℕ, ◌+◌, ◌-◌, ◌<◌, ◌≤◌, Bool, true, false, nat_eq, if◌then◌else◌, Option, None, List, ◌++◌, length, get_or, take, drop, All, refl, sym, ◌∙◌, ap, subst, arith}
-use Rattle.std.proofs.lemmas.Bool.{eqb-true}
-use Rattle.std.proofs.lemmas.Bool.Decides.{nat_tests}
+use Rattle.std.proofs.Common.{◌≡◌, inl, inr, ℕ, ◌+◌, ◌-◌, ◌<◌, ◌≤◌, Bool, true, false, Option, None, List, ◌++◌, length, get_or, take, drop, All, refl, sym, ◌∙◌, ap, subst, arith}
 use Rattle.std.proofs.lemmas.List.{get_or-drop, get_or-take, get_or_append_left, get_or-append_right, length-drop, length-take-le}
+use Rattle.std.proofs.lemmas.Bool.{cases_lt}
 use Rattle.module_area.specs.Notes.{Notes}
 use Rattle.module_area.specs.PlanView.{PlanView}
 use Rattle.task_run.specs.Courses.{Course}
@@ -11,74 +10,7 @@ use Rattle.job_run.specs.Slots.{in_phase, IsRange, RunsSlot}
 use Rattle.job_run.specs.Tasks.{Ends}
 use Rattle.job_run.specs.declared.slots.Slot.{Slot}
 
-same_or : (t n : ℕ) → (t ≡ n) ⊎ (t ≢ n)
-same_or t n = grind arith
-
-unlike : (a b : ℕ) → nat_eq a b ≡ false → a ≢ b
-unlike a b h = grind (arith, nat_tests)
-
-pub IsRange-start : (j : JobView) (phase : ℕ) → IsRange j phase 0 0 0
-IsRange-start j phase = record {
-  order = omega arith;
-  exists = omega arith;
-  first = λ l. absurd (omega (arith, l));
-  last = λ l. absurd (omega (arith, l));
-  all = λ t l h. absurd (omega (arith, l));
-}
-
-last_is : (j : JobView) (phase next : ℕ) → in_phase j phase next ≡ true → in_phase j phase (next + 1 - 1) ≡ true
-last_is j phase next h = let same : next + 1 - 1 ≡ next = omega arith in rw same h
-
--- the next task is one of the phase, and the first
-range_first : (j : JobView) (phase next from end : ℕ) → in_phase j phase next ≡ true → from ≡ end → IsRange j phase next from end → IsRange j phase (next + 1) next (next + 1)
-range_first j phase next from end h none r = record {
-  order = omega arith;
-  exists = omega arith;
-  first = λ l. h;
-  last = λ l. last_is j phase next h;
-  all = λ t l of. elim (same_or t next) [
-    | inl same ↦ (omega (arith, same), omega (arith, same))
-    | inr other ↦ let i = r.all t (omega (arith, l, other)) of in absurd (omega (arith, i.0, i.1, none))
-  ];
-}
-
--- or stands behind others
-range_more : (j : JobView) (phase next from end : ℕ) → in_phase j phase next ≡ true → from ≢ end → IsRange j phase next from end → IsRange j phase (next + 1) from (next + 1)
-range_more j phase next from end h some r = record {
-  order = omega (arith, r.order, r.exists);
-  exists = omega arith;
-  first = λ l. r.first (omega (arith, r.order, some));
-  last = λ l. last_is j phase next h;
-  all = λ t l of. elim (same_or t next) [
-    | inl same ↦ (omega (arith, same, r.order, r.exists), omega (arith, same))
-    | inr other ↦ let i = r.all t (omega (arith, l, other)) of in (i.0, omega (arith, i.1, r.exists))
-  ];
-}
-
-pub IsRange-one : (j : JobView) (phase next from end : ℕ) → in_phase j phase next ≡ true → IsRange j phase next from end →
-    IsRange j phase (next + 1) (if nat_eq from end then next else from) (next + 1)
-IsRange-one j phase next from end h r = by_first (nat_eq from end) refl
-  where
-    by_first : (b : Bool) → nat_eq from end ≡ b → IsRange j phase (next + 1) (if nat_eq from end then next else from) (next + 1)
-    by_first true e = rw e (range_first j phase next from end h (eqb-true from end e) r)
-    by_first false e = rw e (range_more j phase next from end h (unlike from end e) r)
-
-pub IsRange-other : (j : JobView) (phase next from end : ℕ) → in_phase j phase next ≡ false → IsRange j phase next from end → IsRange j phase (next + 1) from end
-IsRange-other j phase next from end h r = record {
-  order = r.order;
-  exists = omega (arith, r.exists);
-  first = r.first;
-  last = r.last;
-  all = λ t l of. elim (same_or t next) [
-    | inl same ↦ let never : true ≡ false = sym of ∙ (ap (in_phase j phase) same ∙ h) in absurd cc
-    | inr other ↦ r.all t (omega (arith, l, other)) of
-  ];
-}
-
 -- a part of a list, and the list after the part was written
-
-below_or : (t n : ℕ) → (t < n) ⊎ (n ≤ t)
-below_or t n = grind arith
 
 pub part_size : {X : Type 0} (xs : List X) (a e : ℕ) → a ≤ e → e ≤ length xs → length (take (e - a) (drop a xs)) ≡ e - a
 part_size xs a e l h = length-take-le (e - a) (drop a xs) (omega (arith, l, h, length-drop a xs))
@@ -122,10 +54,10 @@ pub all_after : {X : Type 0} (step : X → X → Type 0) (j : JobView) (phase : 
     length part ≡ length (take (e - a) (drop a old)) →
     ((t : ℕ) (d : X) → t < length (take (e - a) (drop a old)) → step (get_or (take (e - a) (drop a old)) t d) (get_or part t d)) →
     (t : ℕ) (d : X) → t < length old → step (get_or old t d) (get_or (pasted old part a (e - a)) t d)
-all_after step j phase old part a e r count idle same made t d l = elim (below_or t a) [
+all_after step j phase old part a e r count idle same made t d l = elim (cases_lt t a) [
   | inl before ↦ subst (step (get_or old t d)) (sym (before_part old (part ++ drop (e - a) (drop a old)) a t d most before))
       (idle t d l (not_there j phase a e t r (omega (arith, l, count)) (λ x y. absurd (omega (arith, x, before)))))
-  | inr from ↦ elim (below_or t e) [
+  | inr from ↦ elim (cases_lt t e) [
     | inl here ↦
         let i : t - a < e - a = omega (arith, from, here) in
         let there : a + (t - a) ≡ t = omega (arith, from) in

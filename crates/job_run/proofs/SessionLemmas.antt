@@ -1,11 +1,12 @@
 -- The sets of a job's sessions.
-use Rattle.std.proofs.Common.{◌≡◌, ℕ, ◌+◌, ◌-◌, ◌<◌, ◌≤◌, zero, suc, Bool, true, false, not, ◌&&◌, nat_eq, nat_lt, Option, Some, None, is_some, IsSome, unwrap_or, List, [], ◌∷◌, ◌++◌, length, get_or, map, All, AllPairs, refl, sym, ◌∙◌, ap, subst, arith, zero-add}
+use Rattle.std.proofs.Common.{◌≡◌, ℕ, ◌+◌, ◌-◌, ◌<◌, ◌≤◌, zero, suc, Bool, true, false, not, ◌&&◌, nat_eq, nat_lt, Option, Some, None, is_some, IsSome, List, [], ◌∷◌, ◌++◌, length, get_or, map, All, AllPairs, refl, sym, ◌∙◌, ap, subst, arith, zero-add}
 use Rattle.std.specs.List.{list_any, flat_map}
 use Rattle.std.proofs.lemmas.Bool.{and_parts, both_ways, eqb-true, ltb-true}
 use Rattle.std.proofs.lemmas.Bool.Decides.{nat_tests}
 use Rattle.std.proofs.lemmas.List.{get_or-map, length-map}
 use Rattle.std.proofs.lemmas.List.Concat.{flat_map-cons}
 use Rattle.std.proofs.lemmas.List.Elements.{All-get_or}
+use Rattle.std.proofs.lemmas.Option.{same_Some}
 use Rattle.cov_base.specs.FactSet.{FactSet}
 use Rattle.cov_base.specs.Facts.{no_facts, is_within}
 use Rattle.cov_base.specs.declared.facts.Kind.{Kind}
@@ -235,9 +236,6 @@ pub has_some : {P E : Type 0} (course : Course) (ends : Ends E) (j : JobView) (p
     HaveAllExtras ends j places (length j.phases) finals slots → All (λ s. IsSome s.extra) slots
 has_some course ends j places finals slots job a h t d l = let x = all_extras ends j places finals slots t d job h a.count (omega (arith, l, a.count)) in rw x.has refl
 
-the_extra : {E : Type 0} (e : E) (x : E) → Some e ≡ Some x → e ≡ x
-the_extra e x same = ap (λ o. unwrap_or o e) same
-
 pub are_extras : {P E : Type 0} (course : Course) (ends : Ends E) (j : JobView) (places : List Place) (slots : List (Slot P E)) (tasks : List Done) (extras : List E) (finals : List FinalsView) (sets : SetsView) → IsJob j →
     AreRun course j places (length j.phases) slots → HaveAllExtras ends j places (length j.phases) finals slots → tasks ≡ dones slots → map Some extras ≡ extras_of slots → sets ≡ record { job = j; places = length places; finals = finals } →
     AreExtras ends j places tasks sets extras
@@ -257,7 +255,7 @@ are_extras course ends j places slots tasks extras finals sets job a h moved tak
         let done : get_or tasks t d ≡ slot.done = ap (λ (ds : List Done). get_or ds t d) moved ∙ get_or-map (λ s. s.done) slots t no_slot d here in
         let extra : Some (get_or extras t e) ≡ Some x.extra =
         sym (get_or-map Some extras t e (Some e) (omega (arith, l, count))) ∙ (ap (λ (es : List (Option _)). get_or es t (Some e)) taken ∙ (get_or-map (λ s. s.extra) slots t no_slot (Some e) here ∙ x.has)) in
-        let its : get_or extras t e ≡ x.extra = the_extra (get_or extras t e) x.extra extra in
+        let its : get_or extras t e ≡ x.extra = same_Some (get_or extras t e) x.extra extra in
         record {
           first = x.first;
           begun = x.begun;

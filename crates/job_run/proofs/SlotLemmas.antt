@@ -24,7 +24,7 @@ use Rattle.session_book.specs.JobView.{JobView, TaskView, IsJob, IsTask}
 use Rattle.session_book.specs.Sessions.{task_of, no_task, tasks_from, plan_view}
 use Rattle.job_run.specs.Bounds.{Leaves}
 use Rattle.job_run.specs.Runs.{walk_by}
-use Rattle.job_run.specs.Slots.{in_phase, is_before, HasSplit, HasPass, HasStart, AreEquipped, IsFresh, AreSplit, AreEmpty, MayBegin, CanRun, Runs, RunsWith, RunsSlot, HasSeen, AreOver, KeepsOthers}
+use Rattle.job_run.specs.Slots.{in_phase, is_before, HasSplit, HasPass, HasStart, AreEquipped, IsFresh, AreSplit, MayBegin, CanRun, Runs, RunsWith, RunsSlot, HasSeen, AreOver, KeepsOthers}
 use Rattle.job_run.specs.Tasks.{Begins, Ends, AreRun, HasNotRun, IsEquipped, IsEnded}
 use Rattle.job_run.specs.declared.outcome.Done.{Done}
 use Rattle.job_run.specs.declared.slots.Slot.{Slot}
@@ -37,9 +37,6 @@ both false h k = cc
 
 -- tests
 
-none_yet : (a : Bool) (t : ℕ) → (nat_lt t 0 && a) ≡ false
-none_yet a t = grind (arith, nat_tests)
-
 next_in : (a : Bool) (t next : ℕ) → (t ≡ next → a ≡ true) → ((nat_lt t next && a) || nat_eq t next) ≡ (nat_lt t (next + 1) && a)
 next_in a t next h = grind (arith, nat_tests)
 
@@ -51,9 +48,6 @@ unlike a t next h = grind (arith, nat_tests)
 
 pub is_here : (a : Bool) (t next : ℕ) → t < next → a ≡ true → (nat_lt t next && a) ≡ true
 is_here a t next h k = grind (arith, nat_tests)
-
-out_here : (a : Bool) (t next : ℕ) → (nat_lt t next && a) ≡ false → t < next → a ≡ false
-out_here a t next h l = grind (arith, nat_tests)
 
 pub not_before : (a : Bool) (t n : ℕ) → a ≡ false → (nat_lt t n && a) ≡ false
 not_before a t n h = grind (arith, nat_tests)
@@ -77,13 +71,6 @@ is_planned plan j phase t of l h = rw of (subst (λ (k : ℕ). has_task (tasks_f
 
 -- the root while passes are split off
 
-pub HasSplit-start : (j : JobView) (phase : ℕ) (before : Notes) → ((t : ℕ) → before.given t ≡ false) → ((t : ℕ) → before.out t ≡ false) → HasSplit j phase 0 before before
-HasSplit-start j phase before given out = record {
-  same = refl;
-  given = λ t. given t ∙ sym (none_yet (in_phase j phase t) t);
-  out = λ t. out t ∙ sym (none_yet (in_phase j phase t) t);
-}
-
 pub here_too : (j : JobView) (phase next : ℕ) (b : Bool) → in_phase j phase next ≡ b → (t : ℕ) → t ≡ next → in_phase j phase t ≡ b
 here_too j phase next b h t e = ap (in_phase j phase) e ∙ h
 
@@ -102,15 +89,6 @@ HasSplit-other j phase next before mid h s = record {
 }
 
 -- the passes while they are split off
-
-pub AreSplit-start : {P E : Type 0} (is_pass : P → Type 0) (notes : P → Notes) (plan : PlanView) (root : Notes) (j : JobView) (phase : ℕ) (slots : List (Slot P E)) → AreEmpty slots → AreSplit is_pass notes plan root j phase 0 slots slots
-AreSplit-start is_pass notes plan root j phase slots empty = record {
-  count = refl;
-  done = λ t d l. refl;
-  extra = λ t d l. refl;
-  some = λ t d l never h. absurd (omega (arith, never));
-  none = λ t d l h. empty t d l;
-}
 
 pub AreSplit-one : {P E : Type 0} (is_pass : P → Type 0) (notes : P → Notes) (plan : PlanView) (root : Notes) (j : JobView) (phase next : ℕ) (old mid : List (Slot P E)) (e none : Slot P E) (p : P) →
     next < length old → in_phase j phase next ≡ true → AreSplit is_pass notes plan root j phase next old mid →

@@ -1,9 +1,10 @@
 -- Passes taken back.
-use Rattle.std.proofs.Common.{◌≡◌, ◌≢◌, inl, inr, ℕ, ◌+◌, ◌<◌, ◌≤◌, Bool, true, false, not, ◌&&◌, nat_eq, nat_lt, Some, None, unwrap_or, List, length, get_or, set, refl, sym, ◌∙◌, ap, subst, arith}
+use Rattle.std.proofs.Common.{◌≡◌, ◌≢◌, inl, inr, ℕ, ◌+◌, ◌<◌, ◌≤◌, Bool, true, false, not, ◌&&◌, nat_eq, nat_lt, Some, None, List, length, get_or, set, refl, sym, ◌∙◌, ap, subst, arith}
 use Rattle.std.proofs.lemmas.Bool.{or_left, or_right}
 use Rattle.std.proofs.lemmas.Bool.Decides.{nat_tests}
 use Rattle.std.proofs.lemmas.Grind.{get_or-set_at}
 use Rattle.std.proofs.lemmas.List.{get_or_default, get_or-set_other, length-set}
+use Rattle.std.proofs.lemmas.Option.{same_Some}
 use Rattle.cov_base.specs.FactSet.{FactSet}
 use Rattle.module_area.specs.Ended.{AreSettled}
 use Rattle.module_area.specs.Notes.{Notes, after_join}
@@ -94,9 +95,6 @@ none_left j phase n t l = all_gone (in_phase j phase t) t (length j.tasks) n l
     all_gone a t m n h = grind (arith, nat_tests)
 
 -- a pass of its own has the next slot only where its task is one of the phase
-the_pass : {P : Type 0} (p : P) (q : P) → Some p ≡ Some q → p ≡ q
-the_pass p q e = ap (λ o. unwrap_or o p) e
-
 pub pass_of : {P E : Type 0} (run : Course) (is_pass : P → Type 0) (notes : P → Notes) (root : Notes) (plan : PlanView) (j : JobView) (places : List Place) (phase next : ℕ) (slots : List (Slot P E)) (d : Slot P E) (p : P) →
     next < length slots → AreOver run is_pass notes plan root j places phase next slots → (get_or slots next d).pass ≡ Some p →
     (in_phase j phase next ≡ true) × HasSeen is_pass notes plan root (walk_by run j places) next p
@@ -105,7 +103,7 @@ pass_of run is_pass notes root plan j places phase next slots d p l a h = by_pha
     by_phase : (b : Bool) → in_phase j phase next ≡ b → (in_phase j phase next ≡ true) × HasSeen is_pass notes plan root (walk_by run j places) next p
     by_phase true e =
         let s = seen_next run is_pass notes root plan j places phase next slots d l a e in
-        (e, subst (HasSeen is_pass notes plan root (walk_by run j places) next) (the_pass s.pass p (sym s.has ∙ h)) s.holds)
+        (e, subst (HasSeen is_pass notes plan root (walk_by run j places) next) (same_Some s.pass p (sym s.has ∙ h)) s.holds)
     by_phase false e = let never : None ≡ Some p = sym (empty_next run is_pass notes root plan j places phase next slots d l a e) ∙ h in absurd cc
 
 pub not_of : {P E : Type 0} (run : Course) (is_pass : P → Type 0) (notes : P → Notes) (root : Notes) (plan : PlanView) (j : JobView) (places : List Place) (phase next : ℕ) (slots : List (Slot P E)) (d : Slot P E) →
@@ -163,7 +161,7 @@ KnowsAll-one notes plan next slots none mid other here has k = record {
   each = λ t d p below l its s q x settled. elim (same_or t next) [
     | inl same ↦
         let found : (get_or slots t d).pass ≡ Some other = ap (λ i. (get_or slots i d).pass) same ∙ (ap (λ s. s.pass) (get_or_default slots next d none here) ∙ has) in
-        let is : p ≡ other = the_pass p other (sym its ∙ found) in
+        let is : p ≡ other = same_Some p other (sym its ∙ found) in
         or_right (mid.settled s q x) ((notes other).settled s q x) (subst (λ (r : _). (notes r).settled s q x ≡ true) is settled)
     | inr before ↦ or_left (mid.settled s q x) ((notes other).settled s q x) (k.each t d p (omega (arith, below, before)) l its s q x settled)
   ];

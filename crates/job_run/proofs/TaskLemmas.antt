@@ -1,7 +1,7 @@
 -- Tasks before and after their runs.
 use Rattle.std.proofs.Common.{◌≡◌, ◌≢◌, ◌⊎◌, inl, inr, ℕ, ◌+◌, ◌*◌, ◌<◌, ◌≤◌, ◌^◌, Bool, true, false, nat_eq, nat_lt, Option, Some, None, List, [], ◌∷◌, ◌++◌, length, get_or, set, take, drop, min, slice_range, ◌-◌, refl, sym, ◌∙◌, ap, subst, arith}
 use Rattle.std.proofs.lemmas.Bool.Decides.{nat_tests}
-use Rattle.std.proofs.lemmas.Bool.{both_ways, eq-eqb, ltb-true}
+use Rattle.std.proofs.lemmas.Bool.{both_ways, eq-eqb, ltb-true, lt-ltb}
 use Rattle.std.proofs.lemmas.List.{get_or-map, get_or_append_left, get_or-set_other, length-map, length-set, length-drop, take_all}
 use Rattle.std.proofs.Math.Seq.{get_or-append_seam}
 use Rattle.std.proofs.lemmas.List.Elements.{All-get_or}
@@ -155,16 +155,13 @@ no_done = record {
 pub no_slot : {P E : Type 0} → Slot P E
 no_slot = record { done = no_done; pass = None; extra = None; apart = [] }
 
-pub earlier : (p n : ℕ) → p < n → nat_lt p n ≡ true
-earlier p n l = grind (arith, nat_tests)
-
 -- after the last phase
 pub all_ended : {P E : Type 0} (course : Course) (j : JobView) (places : List Place) (slots : List (Slot P E)) (t : ℕ) → IsJob j → AreRun course j places (length j.phases) slots → t < length j.tasks →
     (results_of (dones slots) t ≡ result_by course j places t) × (length (results_of (dones slots) t).bytes ≡ (task_of j t).private)
 all_ended course j places slots t job a l =
     let here : t < length slots = omega (arith, l, a.count) in
     let there : t < length (dones slots) = omega (arith, here, length-map slots (λ s. s.done)) in
-    let ended : IsEnded course j places t (get_or slots t no_slot).done = a.ended t no_slot here (earlier (task_of j t).phase (length j.phases) (is_task j t job l).phase) in
+    let ended : IsEnded course j places t (get_or slots t no_slot).done = a.ended t no_slot here (lt-ltb (task_of j t).phase (length j.phases) (is_task j t job l).phase) in
     let found : results_of (dones slots) t ≡ done_result (get_or slots t no_slot).done =
     get_or-map done_result (dones slots) t no_done no_result there ∙ ap done_result (get_or-map (λ s. s.done) slots t no_slot no_done here) in
     (found ∙ ended.result, ap (λ (r : ResultView). length r.bytes) found ∙ ended.filled)

@@ -1,12 +1,12 @@
 //! The phases of a job, one after the other.
-ghost use Rattle.std.specs.Prelude.{◌≡◌, ◌+◌, ◌<◌, ◌≤◌, ◌^◌, length, IfOk, OnErr};
+ghost use Rattle.std.specs.Prelude.{◌≡◌, ◌+◌, ◌<◌, ◌^◌, length, IfOk, OnErr};
 ghost use Rattle.brk_table.specs.Kept.{AreCodes};
 ghost use Rattle.module_area.specs.FinalsView.{set_at};
 ghost use Rattle.session_book.specs.JobView.{IsJob};
 ghost use Rattle.session_book.specs.Sessions.{plan_view};
 ghost use Rattle.job_run.specs.Areas.{GrowsBy};
 ghost use Rattle.job_run.specs.Outcomes.{AreExtras, IsOutcome, IsOutcomeBy};
-ghost use Rattle.job_run.specs.Runs.{Account, HasLeft, HasLeftBy, phase_trace, walk_by};
+ghost use Rattle.job_run.specs.Runs.{HasLeft, HasLeftBy, phase_trace, walk_by};
 ghost use Rattle.job_run.specs.Slots.{AreEmpty, HaveAllExtras, HaveExtras, KeepsOthers};
 ghost use Rattle.job_run.specs.Tasks.{AreRun};
 

@@ -1,10 +1,10 @@
 //! The tasks of a phase, each on a thread of its own.
-ghost use Rattle.std.specs.Prelude.{◌≡◌, ℕ, ◌+◌, ◌*◌, ◌<◌, ◌≤◌, ◌^◌, true, false, nat_eq, if◌then◌else◌, All, IfOk, length, slice_index_or};
+ghost use Rattle.std.specs.Prelude.{◌≡◌, ℕ, ◌+◌, ◌<◌, ◌≤◌, ◌^◌, true, false, nat_eq, if◌then◌else◌, All, IfOk, length, slice_index_or};
 ghost use Rattle.std.specs.declared.option.Option.TheVariants.{None};
 ghost use Rattle.cov_base.specs.declared.limits.TheConstants.{PLACE_LIMIT, TASK_LIMIT};
 ghost use Rattle.module_area.specs.Ended.{AreSettled};
 ghost use Rattle.module_area.specs.Notes.{bearer, calls, is_working};
-ghost use Rattle.module_area.specs.PlanView.{IsPlan, is_controller};
+ghost use Rattle.module_area.specs.PlanView.{is_controller};
 ghost use Rattle.module_area.specs.Tied.{IsTied};
 ghost use Rattle.space_map.specs.Space.{memory_of_space};
 ghost use Rattle.brk_table.specs.Kept.{AreCodes};

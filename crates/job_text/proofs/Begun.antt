@@ -1,5 +1,5 @@
 -- Lines that run begin a job: for each controller that is missing a task can still come.
-use Rattle.std.proofs.Common.{◌≡◌, ◌⊎◌, ℕ, suc, Bool, true, false, not, ◌&&◌, ◌||◌, nat_eq, Option, Some, None, IfSome, List, [], ◌∷◌, ◌++◌, length, get_or, All, refl, ap, subst, sym, ◌∙◌, arith, codes, option_and_then, inl, inr, ⊎_elim}
+use Rattle.std.proofs.Common.{◌≡◌, ◌⊎◌, ℕ, suc, Bool, true, false, nat_eq, Option, Some, None, IfSome, List, [], ◌∷◌, ◌++◌, length, get_or, All, refl, ap, subst, sym, ◌∙◌, arith, codes, option_and_then, inl, inr, ⊎_elim}
 use Rattle.std.proofs.lemmas.Bool.Decides.{nat_tests}
 use Rattle.std.proofs.lemmas.List.Elements.{All-cons, All-nil, All-append}
 use Rattle.std.proofs.lemmas.List.Folds.{list_any-append}
@@ -7,6 +7,8 @@ use Rattle.std.proofs.lemmas.List.Sums.{AllPass-from_list_all}
 use Rattle.std.proofs.lemmas.Slice.Eq.{bytes_eq-Decides}
 use Rattle.std.specs.List.{list_any, list_all}
 use Rattle.std.specs.Str.{bytes_eq}
+use Rattle.std.proofs.lemmas.Option.{same_Some, cond_some}
+use Rattle.std.proofs.lemmas.Bool.{and_from, and_parts, not-true, or_right}
 use Rattle.hex.proofs.OnLiterals.{hex_on_literals}
 use Rattle.cov_base.specs.Names.{is_name_byte, name_at, unpadded}
 use Rattle.session_book.specs.JobView.{TaskView}
@@ -22,7 +24,7 @@ use Rattle.job_text.specs.declared.limit.Limit.{Limit}
 use Rattle.job_text.specs.declared.parts.Part.{Part}
 use Rattle.job_text.specs.declared.parts.Part.TheVariants as part
 use Rattle.job_text.specs.Steps.{State, state, start, is_start, is_sessions, is_done, closed_module, closed_task, closed, no_bytes, module_over, session_over, phase_over, task_over, open_module, open_task, open_phase, add_session, take_text, take_listing, take_more, end, takes_raw, take_raw, take_card, step, run}
-use Rattle.job_text.proofs.Guards.{some_same, guard_some, guard_more, guard_none, both, map_some, then_some, choose}
+use Rattle.job_text.proofs.Guards.{guard_more, guard_none, map_some, then_some, choose}
 use Rattle.job_text.proofs.CardFacts.{IsName, Good, card_good}
 use Rattle.job_text.proofs.Named.{session_added}
 use Rattle.job_text.proofs.Spelled.{run_append, card_step, task_raw, closed_of_task, closed_raw}
@@ -36,14 +38,6 @@ IsWanted j phase (Some n) = IsName n × ((list_any (is_controller phase n) j.tas
 
 abbrev Wants : DraftView → Type 0
 Wants j = All (λ (s : SessionDraft). IsWanted j s.phase s.by) j.sessions
-
-or_right : (a b : Bool) → b ≡ true → (a || b) ≡ true
-or_right true b e = refl
-or_right false b e = e
-
-not_false : (b : Bool) → not b ≡ true → b ≡ false
-not_false false e = refl
-not_false true e = absurd cc
 
 same_number : (a b : ℕ) → a ≡ b → nat_eq b a ≡ true
 same_number a b e = grind (arith, nat_tests)
@@ -85,7 +79,7 @@ wants_phase j k name met e w =
 
 wanted_new : (j k : DraftView) (by : Option (List ℕ)) → k.tasks ≡ j.tasks → k.phases ≡ j.phases → may_have j by ≡ true → IfSome by IsName → IsWanted k (this_phase j) by
 wanted_new j k None same here may good = tt
-wanted_new j k (Some n) same here may good = (good, inr ((rw same (not_false (has_task j n) may)), (rw here refl)))
+wanted_new j k (Some n) same here may good = (good, inr ((rw same (not-true (has_task j n) may)), (rw here refl)))
 
 wants_session : (j k : DraftView) (name : List ℕ) (by : Option (List ℕ)) (names : List (List ℕ)) → IfSome by IsName → with_session j name by names ≡ Some k → Wants j → Wants k
 wants_session j k name by names good e w =
@@ -121,35 +115,35 @@ sessions_of : (j k : DraftView) → j ≡ k → j.sessions ≡ [] → k.sessions
 sessions_of j k same e = ap (λ (x : DraftView). x.sessions) (sym same) ∙ e
 
 module_early : (p : Part) (j k : DraftView) → closed_module p j ≡ Some k → Early p j → k.sessions ≡ []
-module_early part.Modules j k e early = sessions_of j k (some_same j k e) early
-module_early (part.Texts i left) j k e early = sessions_of (with_module j i None) k (guard_some (nat_eq left 0) (with_module j i None) k e).1 early
-module_early (part.Listed i left texts) j k e early = sessions_of (with_module j i (Some texts)) k (guard_some (nat_eq left 0) (with_module j i (Some texts)) k e).1 early
+module_early part.Modules j k e early = sessions_of j k (same_Some j k e) early
+module_early (part.Texts i left) j k e early = sessions_of (with_module j i None) k (cond_some (nat_eq left 0) (with_module j i None) k e).1 early
+module_early (part.Listed i left texts) j k e early = sessions_of (with_module j i (Some texts)) k (cond_some (nat_eq left 0) (with_module j i (Some texts)) k e).1 early
 module_early p j k e early = absurd cc
 
 task_wants : (p : Part) (j k : DraftView) → closed_task p j ≡ Some k → Wants j → Wants k
-task_wants part.Sessions j k e w = subst Wants (some_same j k e) w
-task_wants (part.Task t) j k e w = subst Wants (some_same (with_task j t.task) k e) (wants_task j t.task w)
+task_wants part.Sessions j k e w = subst Wants (same_Some j k e) w
+task_wants (part.Task t) j k e w = subst Wants (same_Some (with_task j t.task) k e) (wants_task j t.task w)
 task_wants p j k e w = absurd cc
 
 closed_wants : (p : Part) (j k : DraftView) → closed Present p j ≡ Some k → Waits p j → Wants k × (are_met Present k ≡ true)
-closed_wants part.Sessions j k e w = let g = guard_some (are_met Present j) j k e in (subst Wants g.1 w.wants, subst (λ (x : DraftView). are_met Present x ≡ true) g.1 g.0)
+closed_wants part.Sessions j k e w = let g = cond_some (are_met Present j) j k e in (subst Wants g.1 w.wants, subst (λ (x : DraftView). are_met Present x ≡ true) g.1 g.0)
 closed_wants (part.Task t) j k e w =
-    let g = guard_some (are_met Present (with_task j t.task)) (with_task j t.task) k e in
+    let g = cond_some (are_met Present (with_task j t.task)) (with_task j t.task) k e in
     (subst Wants g.1 (wants_task j t.task w.wants), subst (λ (x : DraftView). are_met Present x ≡ true) g.1 g.0)
 closed_wants part.Start j k e w = absurd cc
 closed_wants part.Done j k e w = absurd cc
 closed_wants p j k e w = let none = module_early p j k e w.early in (none_wanted k none, none_met k none)
 
 raw_waits : (p : Part) (j : DraftView) (text : List ℕ) (s : State) → take_raw p j text ≡ Some s → Waits p j → WaitsAt s
-raw_waits (part.Listed i left texts) j text s e w = subst WaitsAt (some_same _ s e) (record { wants = w.wants; early = w.early })
+raw_waits (part.Listed i left texts) j text s e w = subst WaitsAt (same_Some _ s e) (record { wants = w.wants; early = w.early })
 raw_waits p j text s e w = absurd cc
 
 text_waits : (p : Part) (j : DraftView) (bytes : List ℕ) (s : State) → take_text p j bytes ≡ Some s → Waits p j → WaitsAt s
-text_waits (part.Texts i left) j bytes s e w = subst WaitsAt (guard_some _ _ s e).1 (record { wants = w.wants; early = w.early })
+text_waits (part.Texts i left) j bytes s e w = subst WaitsAt (cond_some _ _ s e).1 (record { wants = w.wants; early = w.early })
 text_waits p j bytes s e w = absurd cc
 
 listing_waits : (p : Part) (j : DraftView) (n : ℕ) (s : State) → take_listing p j n ≡ Some s → Waits p j → WaitsAt s
-listing_waits (part.Texts i left) j n s e w = subst WaitsAt (guard_some _ _ s e).1 (record { wants = w.wants; early = w.early })
+listing_waits (part.Texts i left) j n s e w = subst WaitsAt (cond_some _ _ s e).1 (record { wants = w.wants; early = w.early })
 listing_waits p j n s e w = absurd cc
 
 more_waits : (p : Part) (j : DraftView) (c : CardView) (s : State) → take_more p j c ≡ Some s → Waits p j → WaitsAt s
@@ -164,11 +158,11 @@ cover_waits p j e w = absurd cc
 
 card_waits : (c : CardView) (st s : State) → Good c → take_card Present st c ≡ Some s → WaitsAt st → WaitsAt s
 card_waits Cover st s good e w =
-    let g = guard_some (is_start st.part) (state part.Modules st.job None) s e in
+    let g = cond_some (is_start st.part) (state part.Modules st.job None) s e in
     subst WaitsAt g.1 (cover_waits st.part st.job g.0 w)
 card_waits (Module name base size) st s good e w =
     let t = then_some (open_module name base size) (closed_module st.part st.job) s e in
-    let g = guard_some _ (state (part.Texts (no_bytes name base) size) t.from (module_over t.from size)) s t.gives in
+    let g = cond_some _ (state (part.Texts (no_bytes name base) size) t.from (module_over t.from size)) s t.gives in
     let none = module_early st.part st.job t.from t.was w.early in
     subst WaitsAt g.1 (record { wants = none_wanted t.from none; early = none })
 card_waits (Text bytes) st s good e w = text_waits st.part st.job bytes s e w
@@ -200,7 +194,7 @@ step_waits st s l e w = elim (choose (takes_raw st.part) (take_raw st.part st.jo
 ]
 
 run_waits : (ls : List LineView) (st e : State) → run Present st ls ≡ Some e → WaitsAt st → WaitsAt e
-run_waits [] st e r w = subst WaitsAt (some_same st e r) w
+run_waits [] st e r w = subst WaitsAt (same_Some st e r) w
 run_waits (l ∷ ls) st e r w =
     let t = then_some (λ s. run Present s ls) (step Present st l) e r in
     run_waits ls t.from e t.gives (step_waits st t.from l t.was w)
@@ -217,7 +211,7 @@ no_blank b e = by_test (nat_eq b 32) refl
 word_first : (w rest : List ℕ) → list_all is_name_byte w ≡ true → words (w ++ 32 ∷ rest) ≡ w ∷ words rest
 word_first [] rest e = refl
 word_first (b ∷ bs) rest e =
-    let p = both (is_name_byte b) (list_all is_name_byte bs) e in
+    let p = and_parts (is_name_byte b) (list_all is_name_byte bs) e in
     rw (no_blank b p.0, word_first bs rest p.1) refl
 
 abbrev task_text : List ℕ → List ℕ
@@ -225,7 +219,7 @@ task_text n = codes "TASK " ++ (unpadded n ++ 32 ∷ codes "000000 0 1 0")
 
 task_words : (n : List ℕ) → IsName n → words (task_text n) ≡ codes "TASK" ∷ unpadded n ∷ codes "000000" ∷ codes "0" ∷ codes "1" ∷ codes "0" ∷ []
 task_words n is =
-    let all = both _ (list_all is_name_byte (unpadded n)) is.is in
+    let all = and_parts _ (list_all is_name_byte (unpadded n)) is.is in
     rw (word_first (unpadded n) (codes "000000 0 1 0") all.1) refl
 
 task_card_is : (w n : List ℕ) → name_at w ≡ Some n → card_of (codes "TASK" ∷ w ∷ codes "000000" ∷ codes "0" ∷ codes "1" ∷ codes "0" ∷ []) ≡ Some (Task n 0 0 1 0)
@@ -259,7 +253,7 @@ met_more j t phase (Some n) e = still_met j t phase n e
 all_more : (j : DraftView) (t : TaskView) (xs : List SessionDraft) → list_all (is_met j.tasks) xs ≡ true → list_all (is_met (with_task j t).tasks) xs ≡ true
 all_more j t [] e = refl
 all_more j t (x ∷ xs) e =
-    let p = both (is_met j.tasks x) (list_all (is_met j.tasks) xs) e in
+    let p = and_parts (is_met j.tasks x) (list_all (is_met j.tasks) xs) e in
     rw (met_more j t x.phase x.by p.0, all_more j t xs p.1) refl
 
 meet_named : (st : State) (k : DraftView) (x : SessionDraft) (xs : List SessionDraft) (n : List ℕ) (r : Meets st k xs) → x.by ≡ Some n → IsName n → has_task r.job n ≡ false → x.phase ≡ this_phase r.job → Meets st k (x ∷ xs)
@@ -281,17 +275,13 @@ meet_named st k x xs n r by is none here =
       all = rw (met, all_more r.job t xs r.all) refl;
     }
 
-both_true : (a b : Bool) → a ≡ true → b ≡ true → (a && b) ≡ true
-both_true true b e f = f
-both_true false b e f = e
-
 met_as : (tasks : List TaskView) (x : SessionDraft) (n : List ℕ) → x.by ≡ Some n → list_any (is_controller x.phase n) tasks ≡ true → is_met tasks x ≡ true
 met_as tasks x n by e = rw by e
 
 meet_one : (st : State) (k : DraftView) (x : SessionDraft) (xs : List SessionDraft) (r : Meets st k xs) (b : Option (List ℕ)) → x.by ≡ b → IsWanted r.job x.phase b → Meets st k (x ∷ xs)
 meet_one st k x xs r None by w = record { lines = r.lines; end = r.end; job = r.job; runs = r.runs; at = r.at; sessions = r.sessions; wanted = r.wanted; all = rw (by, r.all) refl }
 meet_one st k x xs r (Some n) by w = ⊎_elim
-    (λ e. record { lines = r.lines; end = r.end; job = r.job; runs = r.runs; at = r.at; sessions = r.sessions; wanted = r.wanted; all = both_true (is_met r.job.tasks x) (list_all (is_met r.job.tasks) xs) (met_as r.job.tasks x n by e) r.all })
+    (λ e. record { lines = r.lines; end = r.end; job = r.job; runs = r.runs; at = r.at; sessions = r.sessions; wanted = r.wanted; all = and_from (is_met r.job.tasks x) (list_all (is_met r.job.tasks) xs) (met_as r.job.tasks x n by e) r.all })
     (λ p. meet_named st k x xs n r by w.0 p.0 p.1) w.1
 
 meets : (st : State) (k : DraftView) (xs : List SessionDraft) → closed_task st.part st.job ≡ Some k → All (λ (s : SessionDraft). IsWanted k s.phase s.by) xs → Meets st k xs

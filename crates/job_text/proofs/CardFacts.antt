@@ -3,6 +3,7 @@ use Rattle.std.proofs.Common.{◌≡◌, ℕ, ◌+◌, ◌*◌, ◌<◌, ◌≤�
 use Rattle.std.proofs.lemmas.Bool.Decides.{nat_tests}
 use Rattle.std.proofs.lemmas.List.{length-append}
 use Rattle.std.specs.Str.{bytes_eq}
+use Rattle.std.proofs.lemmas.Option.{same_Some, cond_some}
 use Rattle.cov_base.specs.Names.{is_name, name_at, padded, unpadded}
 use Rattle.cov_base.proofs.NameLemmas.{unpadded-padded}
 use Rattle.hex.specs.Hex.{decode_sized}
@@ -11,7 +12,7 @@ use Rattle.hex.proofs.HexLemmas.{decode_sized-ok, decode_sized-twice, decode_of-
 use Rattle.job_text.specs.CardView.{CardView, Cover, Module, Text, Listing, Phase, Session, Task, Reg, Data, Input, End}
 use Rattle.job_text.specs.Words.{words, number_at, bytes_at, ok_of, address_in, address_at, word_at, put_name, names_on, names_at}
 use Rattle.job_text.specs.Cards.{may_stand, as_module, as_session, as_controlled, controlled_card, session_card, as_task, as_reg, as_data, short_card, pair_card, long_card, card_of, card_at}
-use Rattle.job_text.proofs.Guards.{some_same, guard_some, guard_more}
+use Rattle.job_text.proofs.Guards.{guard_more}
 
 -- a name filled with blanks
 pub record IsName (n : List ℕ) : Type 0 where
@@ -26,7 +27,7 @@ Good c = Unit {0}
 
 pub name_good : (w n : List ℕ) → name_at w ≡ Some n → IsName n
 name_good w n e =
-    let g = guard_some (is_name w) (padded w) n e in
+    let g = cond_some (is_name w) (padded w) n e in
     let back : unpadded (padded w) ≡ w = unpadded-padded w g.0 in
     subst IsName g.1 (record { is = rw back g.0; filled = rw back refl })
 
@@ -34,7 +35,7 @@ address_below : (w : List ℕ) (r : Result (List ℕ) FromHexError) (e : ℕ) �
 address_below w (Ok bytes) e is h =
     let size : length w ≡ 2 * 3 = decode_sized-ok w 3 bytes is in
     let few = (decode_of-ok w bytes (sym (decode_sized-twice w 3 size) ∙ is)).3 in
-    let same : address_in bytes ≡ e = some_same (address_in bytes) e h in
+    let same : address_in bytes ≡ e = same_Some (address_in bytes) e h in
     let a : slice_index bytes 0 < 256 = few 0 in
     let b : slice_index bytes 1 < 256 = few 1 in
     let c : slice_index bytes 2 < 256 = few 2 in
@@ -45,7 +46,7 @@ pub address_good : (w : List ℕ) (e : ℕ) → address_at w ≡ Some e → e < 
 address_good w e h = address_below w (decode_sized w 3) e refl h
 
 module_good : (n : Option (List ℕ)) (b s : Option ℕ) (c : CardView) → ((m : List ℕ) → n ≡ Some m → IsName m) → as_module n b s ≡ Some c → Good c
-module_good (Some n) (Some b) (Some s) c is e = let g = guard_some (may_stand b s) (Module n b s) c e in subst Good g.1 (is n refl, g.0)
+module_good (Some n) (Some b) (Some s) c is e = let g = cond_some (may_stand b s) (Module n b s) c e in subst Good g.1 (is n refl, g.0)
 module_good (Some n) (Some b) None c is e = absurd cc
 module_good (Some n) None s c is e = absurd cc
 module_good None b s c is e = absurd cc
@@ -88,7 +89,7 @@ some_budget : (b : ℕ) → nat_le 1 b ≡ true → 1 ≤ b
 some_budget b e = grind (arith, nat_tests)
 
 task_good : (n : Option (List ℕ)) (e p b r : Option ℕ) (c : CardView) → ((k : ℕ) → e ≡ Some k → k < 16777216) → as_task n e p b r ≡ Some c → Good c
-task_good (Some n) (Some e) (Some p) (Some b) (Some r) c is h = let g = guard_some (nat_le 1 b) (Task n e p b r) c h in subst Good g.1 (is e refl, some_budget b g.0)
+task_good (Some n) (Some e) (Some p) (Some b) (Some r) c is h = let g = cond_some (nat_le 1 b) (Task n e p b r) c h in subst Good g.1 (is e refl, some_budget b g.0)
 task_good (Some n) (Some e) (Some p) (Some b) None c is h = absurd cc
 task_good (Some n) (Some e) (Some p) None r c is h = absurd cc
 task_good (Some n) (Some e) None b r c is h = absurd cc
@@ -96,7 +97,7 @@ task_good (Some n) None p b r c is h = absurd cc
 task_good None e p b r c is h = absurd cc
 
 reg_good : (n v : Option ℕ) (c : CardView) → as_reg n v ≡ Some c → Good c
-reg_good (Some n) (Some v) c e = let g = guard_some (nat_le n 15) (Reg n v) c e in subst Good g.1 tt
+reg_good (Some n) (Some v) c e = let g = cond_some (nat_le n 15) (Reg n v) c e in subst Good g.1 tt
 reg_good (Some n) None c e = absurd cc
 reg_good None v c e = absurd cc
 

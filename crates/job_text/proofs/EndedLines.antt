@@ -1,14 +1,16 @@
 -- Lines whose LF has come, and the bytes behind the last of them.
-use Rattle.std.proofs.Common.{◌≡◌, ℕ, ◌+◌, ◌-◌, ◌<◌, ◌≤◌, Bool, true, false, not, ◌||◌, cond, nat_eq, nat_lt, Some, None, List, [], ◌∷◌, ◌++◌, length, take, drop, suc, refl, ap, subst, sym, ◌∙◌, arith, append_assoc, length-append, take-append-drop}
-use Rattle.std.proofs.Math.Seq.{take-add, take-length}
+use Rattle.std.proofs.Common.{◌≡◌, ℕ, ◌+◌, ◌-◌, ◌<◌, ◌≤◌, Bool, true, false, not, cond, nat_eq, nat_lt, Some, None, List, [], ◌∷◌, ◌++◌, length, take, drop, suc, refl, ap, subst, sym, ◌∙◌, arith, append_assoc, length-append, take-append-drop}
+use Rattle.std.proofs.Math.Seq.{take-add}
 use Rattle.std.proofs.lemmas.Bool.Decides.{nat_tests}
-use Rattle.std.proofs.lemmas.List.{take-append-le, length-drop}
+use Rattle.std.proofs.lemmas.List.{take-append-le, length-drop, take_rest}
 use Rattle.std.proofs.lemmas.List.Folds.{list_any-append}
 use Rattle.std.specs.List.{position}
+use Rattle.std.proofs.lemmas.Bool.{or_parts}
+use Rattle.std.proofs.lemmas.Option.{cond_some}
 use Rattle.job_text.specs.Lines.{LineView, put_on, lines_of, ended_lines, IsClosed}
 use Rattle.job_text.specs.Taken.{has_lf}
 use Rattle.job_text.proofs.LineLemmas.{end_of, ended_line, Whole, put_whole}
-use Rattle.job_text.proofs.WordLemmas.{some_is, none_is}
+use Rattle.job_text.proofs.WordLemmas.{none_is}
 
 closed_by : (q : Bool) (l : LineView) (a b : List LineView) → cond q (l ∷ a) [] ≡ l ∷ b → (q ≡ true) × (a ≡ b)
 closed_by true l a b e = (refl, cc)
@@ -42,18 +44,14 @@ ended_append (l ∷ ls) b e =
     let d = closed_by l.ended l (ended_lines ls) ls e in
     rw (d.0, ended_append ls b d.1) refl
 
-or_false : (a b : Bool) → (a || b) ≡ false → (a ≡ false) × (b ≡ false)
-or_false false b e = (refl, e)
-or_false true b e = absurd cc
-
 -- bytes without an LF are the first of a line
 pub line_ended : (s x : List ℕ) → has_lf s ≡ false → lines_of (s ++ 10 ∷ x) ≡ ended_line s ∷ lines_of x
 line_ended [] x e = refl
-line_ended (b ∷ bs) x e = let d = or_false (nat_eq b 10) (has_lf bs) e in rw (d.0, line_ended bs x d.1) refl
+line_ended (b ∷ bs) x e = let d = or_parts (nat_eq b 10) (has_lf bs) e in rw (d.0, line_ended bs x d.1) refl
 
 pub line_partial : (s : List ℕ) → has_lf s ≡ false → lines_of s ≡ Whole s
 line_partial [] e = refl
-line_partial (b ∷ bs) e = let d = or_false (nat_eq b 10) (has_lf bs) e in rw (d.0, line_partial bs d.1) (put_whole b bs)
+line_partial (b ∷ bs) e = let d = or_parts (nat_eq b 10) (has_lf bs) e in rw (d.0, line_partial bs d.1) (put_whole b bs)
 
 none_ended : (s : List ℕ) → ended_lines (Whole s) ≡ []
 none_ended [] = refl
@@ -98,16 +96,12 @@ pub record LfNext (piece : List ℕ) (used size : ℕ) : Type 0 where
   pub taken : take (used + (size + 1)) piece ≡ take used piece ++ (take size (drop used piece) ++ 10 ∷ [])
   pub whole : piece ≡ take used piece ++ (take size (drop used piece) ++ 10 ∷ drop (suc size) (drop used piece))
 
--- all behind those that were used
-tail : (piece : List ℕ) (used : ℕ) → take (length piece - used) (drop used piece) ≡ drop used piece
-tail piece used = rw (← length-drop used piece) (take-length (drop used piece))
-
 pub lf_next : (piece : List ℕ) (used size : ℕ) → used ≤ length piece → position (λ b. nat_eq b 10) (take (length piece - used) (drop used piece)) ≡ Some size → LfNext piece used size
 lf_next piece used size h was =
-    let e : position (λ b. nat_eq b 10) (drop used piece) ≡ Some size = sym (ap (λ (x : List ℕ). position (λ b. nat_eq b 10) x) (tail piece used)) ∙ was in
+    let e : position (λ b. nat_eq b 10) (drop used piece) ≡ Some size = sym (ap (λ (x : List ℕ). position (λ b. nat_eq b 10) x) (take_rest piece used)) ∙ was in
     let s : List ℕ = drop used piece in
     let count : length s ≡ length piece - used = length-drop used piece in
-    let found = some_is (nat_lt (end_of s) (length s)) (end_of s) size e in
+    let found = cond_some (nat_lt (end_of s) (length s)) (end_of s) size e in
     let inside : end_of s < length s = grind (arith, nat_tests, found.0) in
     let at : LfAt s size = subst (LfAt s) found.1 (lf_at s inside) in
     let last : take (size + 1) s ≡ take size s ++ 10 ∷ [] = take-add size 1 s ∙ (ap (λ (x : List ℕ). take size s ++ take 1 x) at.1) in
@@ -121,15 +115,15 @@ lf_next piece used size h was =
 
 pub lf_none : (piece : List ℕ) (used : ℕ) → position (λ b. nat_eq b 10) (take (length piece - used) (drop used piece)) ≡ None → has_lf (take (length piece - used) (drop used piece)) ≡ false
 lf_none piece used was =
-    let e : position (λ b. nat_eq b 10) (drop used piece) ≡ None = sym (ap (λ (x : List ℕ). position (λ b. nat_eq b 10) x) (tail piece used)) ∙ was in
+    let e : position (λ b. nat_eq b 10) (drop used piece) ≡ None = sym (ap (λ (x : List ℕ). position (λ b. nat_eq b 10) x) (take_rest piece used)) ∙ was in
     let s : List ℕ = drop used piece in
     let none = none_is (nat_lt (end_of s) (length s)) (end_of s) e in
-    ap has_lf (tail piece used) ∙ no_lf s (grind (arith, nat_tests, none))
+    ap has_lf (take_rest piece used) ∙ no_lf s (grind (arith, nat_tests, none))
 
 -- the bytes that were used, and all behind them
 pub used_all : (before piece : List ℕ) (used : ℕ) → (before ++ take used piece) ++ take (length piece - used) (drop used piece) ≡ before ++ piece
 used_all before piece used =
-    rw (tail piece used) (append_assoc before (take used piece) (drop used piece) ∙ ap (λ (x : List ℕ). before ++ x) (take-append-drop used piece))
+    rw (take_rest piece used) (append_assoc before (take used piece) (drop used piece) ∙ ap (λ (x : List ℕ). before ++ x) (take-append-drop used piece))
 
 -- the bytes up to the last LF
 

@@ -1,5 +1,5 @@
 -- What callers may conclude of lines: they spell a job within the limits, or one line of them is bad, or one passes a limit.
-use Rattle.std.proofs.Common.{◌≡◌, ℕ, ◌+◌, ◌-◌, ◌<◌, ◌≤◌, zero, suc, true, false, Option, Some, None, List, [], ◌∷◌, ◌++◌, length, take, drop, IfSome, All, refl, ap, subst, sym, ◌∙◌, arith, append_assoc, append-nil, inl, inr, take-append-drop}
+use Rattle.std.proofs.Common.{◌≡◌, ℕ, ◌+◌, ◌-◌, ◌<◌, ◌≤◌, zero, suc, true, false, Option, Some, None, List, [], ◌∷◌, ◌++◌, length, take, drop, IfSome, All, refl, ap, sym, ◌∙◌, arith, append_assoc, append-nil, inl, inr, take-append-drop}
 use Rattle.std.proofs.Math.Seq.{take-length}
 use Rattle.std.proofs.lemmas.Bool.{cases_order, cases_lt}
 use Rattle.std.proofs.lemmas.List.{length-map, length-append, length-take-le}
@@ -11,10 +11,9 @@ use Rattle.job_text.specs.Drafts.{DraftView, Present}
 use Rattle.job_text.specs.Lines.{LineView, listing_text}
 use Rattle.job_text.specs.Spells.{joined, IsListed, IsModule, AreModules, AreSessions, IsTaskBlock, AreTasks, IsPhase, ArePhases, Spells, JobBegins}
 use Rattle.job_text.specs.Adding.{no_job, with_phase, with_session}
-use Rattle.job_text.specs.Limits.{keeps, IsWithin, Passes, rank}
+use Rattle.job_text.specs.Limits.{keeps, IsWithin, Passes}
 use Rattle.job_text.specs.Refusals.{GoesOn, IsBadAt, IsOverAt}
 use Rattle.job_text.specs.declared.limit.Limit.{Limit}
-use Rattle.job_text.specs.declared.limit.Limit.TheVariants as limit
 use Rattle.job_text.proofs.Guards.{guard_none}
 use Rattle.job_text.proofs.Named.{named_spells, session_added}
 use Rattle.job_text.proofs.Spelled.{one_first}
@@ -55,13 +54,6 @@ never_bad ls job n s b = elim b.here [
   | inr w ↦ w.1 job s
 ]
 
--- and where the job is within the limits none that passes one
-pub never_over : (ls : List LineView) (job : JobView) (what : Limit) (n : ℕ) → Spells Present ls job → IsWithin job → IsOverAt ls what n → ⊥
-never_over ls job what n s within o =
-    let over : keeps what job ≡ false = o.passes (drop n ls) job (named_spells Present (take n ls ++ drop n ls) job (spelled_take ls job n s)) in
-    let no : true ≡ false = sym (within what) ∙ over in
-    absurd cc
-
 begins_whole : (ls : List LineView) (job : JobView) → Spells Present ls job → JobBegins ls
 begins_whole ls job s = record { rest = []; job = job; spells = rw (append-nil {A = LineView}) s }
 
@@ -100,19 +92,6 @@ never_over_first ls m job what n h s within o = elim (cases_lt m n) [
   | inr l ↦ over_later ls job what n m l s within o
 ]
 
-not_bad_before : (ls : List LineView) (m n : ℕ) → m < n → IsBadAt ls m → IsBadAt ls n → ⊥
-not_bad_before ls m n h p q = elim p.here [
-  | inl w ↦ w.1 (begins_less ls m (n - 1) (omega arith) q.before.begins)
-  | inr w ↦ (elim q.here [ inl v ↦ absurd (omega (arith, v.0, w.0)) | inr v ↦ absurd (omega (arith, v.0, w.0)) ])
-]
-
--- there is at most one bad line
-pub one_bad : (ls : List LineView) (m n : ℕ) → IsBadAt ls m → IsBadAt ls n → m ≡ n
-one_bad ls m n p q = elim (cases_order m n) [
-  | inl e ↦ e
-  | inr x ↦ (elim x [ inl h ↦ absurd (not_bad_before ls m n h p q) | inr h ↦ absurd (not_bad_before ls n m h q p) ])
-]
-
 over_before : (ls : List LineView) (what : Limit) (m n : ℕ) → m < n → Passes what (take m ls) → GoesOn (take (n - 1) ls) → ⊥
 over_before ls what m n h p g = g.within what (passes_later ls m (n - 1) what (omega arith) p)
 
@@ -127,48 +106,6 @@ pub not_both : (ls : List LineView) (what : Limit) (m n : ℕ) → IsBadAt ls m 
 not_both ls what m n p o = elim (cases_order m n) [
   | inl e ↦ bad_first ls what m n (omega (arith, e)) p o
   | inr x ↦ (elim x [ inl h ↦ bad_first ls what m n (omega (arith, h)) p o | inr h ↦ over_before ls what n m h o.passes p.before ])
-]
-
-abbrev limit_of : ℕ → Limit
-limit_of zero = limit.Input
-limit_of (suc zero) = limit.Modules
-limit_of (suc (suc zero)) = limit.Size
-limit_of (suc (suc (suc zero))) = limit.Line
-limit_of (suc (suc (suc (suc zero)))) = limit.Places
-limit_of (suc (suc (suc (suc (suc zero))))) = limit.Phases
-limit_of (suc (suc (suc (suc (suc (suc zero)))))) = limit.Sessions
-limit_of (suc (suc (suc (suc (suc (suc (suc zero))))))) = limit.Tasks
-limit_of (suc (suc (suc (suc (suc (suc (suc (suc zero)))))))) = limit.Private
-limit_of (suc (suc (suc (suc (suc (suc (suc (suc (suc zero))))))))) = limit.Budget
-limit_of n = limit.Room
-
-of_rank : (w : Limit) → limit_of (rank w) ≡ w
-of_rank limit.Input = refl
-of_rank limit.Modules = refl
-of_rank limit.Size = refl
-of_rank limit.Line = refl
-of_rank limit.Places = refl
-of_rank limit.Phases = refl
-of_rank limit.Sessions = refl
-of_rank limit.Tasks = refl
-of_rank limit.Private = refl
-of_rank limit.Budget = refl
-of_rank limit.Room = refl
-
-one_rank : (a b : Limit) → rank a ≡ rank b → a ≡ b
-one_rank a b e = sym (of_rank a) ∙ (ap limit_of e ∙ of_rank b)
-
-one_limit : (ls : List LineView) (a b : Limit) (n : ℕ) → IsOverAt ls a n → IsOverAt ls b n → a ≡ b
-one_limit ls a b n p q = elim (cases_order (rank a) (rank b)) [
-  | inl e ↦ one_rank a b e
-  | inr x ↦ (elim x [ inl h ↦ absurd (q.first a h p.passes) | inr h ↦ absurd (p.first b h q.passes) ])
-]
-
--- at most one limit is told, at one line
-pub one_over : (ls : List LineView) (a b : Limit) (m n : ℕ) → IsOverAt ls a m → IsOverAt ls b n → (a ≡ b) × (m ≡ n)
-one_over ls a b m n p q = elim (cases_order m n) [
-  | inl e ↦ (one_limit ls a b n (subst (IsOverAt ls a) e p) q, e)
-  | inr x ↦ (elim x [ inl h ↦ absurd (over_before ls a m n h p.passes q.before) | inr h ↦ absurd (over_before ls b n m h q.passes p.before) ])
 ]
 
 -- a listing has at most as many lines as the input

@@ -4,6 +4,8 @@ use Rattle.std.proofs.lemmas.Bool.Decides.{nat_tests}
 use Rattle.std.proofs.lemmas.List.{length-replicate, length-map}
 use Rattle.std.proofs.lemmas.List.Folds.{list_all-append}
 use Rattle.std.specs.List.{list_all}
+use Rattle.std.proofs.lemmas.Option.{same_Some, cond_some}
+use Rattle.std.proofs.lemmas.Bool.{and_from, and_parts, and_right}
 use Rattle.cov_base.specs.Memory.{ImageView}
 use Rattle.cov_base.specs.declared.limits.TheConstants.{MODULE_LIMIT, SIZE_LIMIT, LINE_LIMIT, PHASE_LIMIT, SESSION_LIMIT, TASK_LIMIT, PRIVATE_LIMIT, BUDGET_LIMIT, ROOM_LIMIT}
 use Rattle.session_book.specs.JobView.{JobView, TaskView}
@@ -21,7 +23,7 @@ use Rattle.job_text.specs.declared.limit.Limit.TheVariants as limit
 use Rattle.job_text.specs.declared.parts.Part.{Part}
 use Rattle.job_text.specs.declared.parts.Part.TheVariants as kind
 use Rattle.job_text.specs.Steps.{State, state, is_start, is_sessions, closed_module, closed_task, closed, no_bytes, with_bytes, module_over, line_over, phase_over, session_over, task_over, open_module, open_task, open_phase, add_session, take_text, take_listing, take_more, end, takes_raw, take_raw, take_card, step, run}
-use Rattle.job_text.proofs.Guards.{some_same, guard_some, guard_more, both, map_some, then_some, choose, guard_none}
+use Rattle.job_text.proofs.Guards.{guard_more, map_some, then_some, choose, guard_none}
 use Rattle.job_text.proofs.Named.{session_added}
 use Rattle.job_text.proofs.Spelled.{closed_of_module}
 use Rattle.job_text.proofs.Shortest.{sofar_at, draft_sofar, sofar, closed_sofar, task_sofar}
@@ -90,21 +92,14 @@ last_all : {X : Type 0} (p : X → Bool) (xs : List X) (x : X) → list_all p (x
 last_all p [] x = and_true (p x)
 last_all p (y ∷ ys) x = and_last (p y) (list_all p (ys ++ x ∷ [])) (list_all p ys) (p x) (last_all p ys x)
 
-both_true : (a b : Bool) → a ≡ true → b ≡ true → (a && b) ≡ true
-both_true a b p q = rw (p, q) refl
-
-last_false : (a b : Bool) → b ≡ false → (a && b) ≡ false
-last_false true b e = e
-last_false false b e = refl
-
 first_of : {X : Type 0} (p : X → Bool) (xs : List X) (x : X) → list_all p (xs ++ x ∷ []) ≡ true → list_all p xs ≡ true
-first_of p xs x e = (both (list_all p xs) (p x) (sym (last_all p xs x) ∙ e)).0
+first_of p xs x e = (and_parts (list_all p xs) (p x) (sym (last_all p xs x) ∙ e)).0
 
 all_last : {X : Type 0} (p : X → Bool) (xs : List X) (x : X) → list_all p xs ≡ true → p x ≡ true → list_all p (xs ++ x ∷ []) ≡ true
-all_last p xs x a b = last_all p xs x ∙ both_true (list_all p xs) (p x) a b
+all_last p xs x a b = last_all p xs x ∙ and_from (list_all p xs) (p x) a b
 
 all_not : {X : Type 0} (p : X → Bool) (xs : List X) (x : X) → p x ≡ false → list_all p (xs ++ x ∷ []) ≡ false
-all_not p xs x e = last_all p xs x ∙ last_false (list_all p xs) (p x) e
+all_not p xs x e = last_all p xs x ∙ and_right (list_all p xs) (p x) e
 
 all_same : {X : Type 0} (p : X → Bool) (xs : List X) (x y : X) → p x ≡ p y → list_all p (xs ++ x ∷ []) ≡ list_all p (xs ++ y ∷ [])
 all_same p xs x y e = last_all p xs x ∙ (ap (λ (b : Bool). list_all p xs && b) e ∙ sym (last_all p xs y))
@@ -195,7 +190,7 @@ listing_grown j i left n e =
 line_more : (j : DraftView) (i : ImageView) (a b : Option (List (List ℕ))) → (are_short b ≡ true → are_short a ≡ true) → (w : Limit) → holds w (with_module j i b) ≡ true → holds w (with_module j i a) ≡ true
 line_more j i a b f limit.Modules e = e
 line_more j i a b f limit.Line e =
-    let p = both (list_all are_short j.listings) (are_short b) (sym (last_all are_short j.listings b) ∙ e) in
+    let p = and_parts (list_all are_short j.listings) (are_short b) (sym (last_all are_short j.listings b) ∙ e) in
     all_last are_short j.listings a p.0 (f p.1)
 line_more j i a b f w e = e
 
@@ -214,7 +209,7 @@ line_judged : (j : DraftView) (i : ImageView) (texts : List (List ℕ)) (t : Lis
 line_judged j i texts t m n true e h =
     let a : Option (List (List ℕ)) = Some (texts ++ replicate m []) in
     let b : Option (List (List ℕ)) = Some ((texts ++ t ∷ []) ++ replicate n []) in
-    let p = both (list_all are_short j.listings) (are_short a) (sym (last_all are_short j.listings a) ∙ h limit.Line) in
+    let p = and_parts (list_all are_short j.listings) (are_short a) (sym (last_all are_short j.listings a) ∙ h limit.Line) in
     let old : list_all is_short texts ≡ true = sym (listed_short texts m) ∙ p.1 in
     let short : are_short b ≡ true = listed_short (texts ++ t ∷ []) n ∙ all_last is_short texts t old e in
     line_holds j i a b short h
@@ -358,9 +353,9 @@ same_sizes : (t : TaskView) (p q : TaskPart) → p ≡ q → SameSizes t p.task 
 same_sizes t p q e s = subst (λ (x : TaskPart). SameSizes t x.task) e s
 
 more_sizes : (c : CardView) (t u : TaskPart) → task_more t c ≡ Some u → SameSizes t.task u.task
-more_sizes (Reg k v) t u e = same_sizes t.task _ u (guard_some (takes_reg t.stage k) (part (with_reg t.task k v) (stage.Regs (k + 1))) u e).1 (record { private = refl; budget = refl; room = refl })
-more_sizes (Data c) t u e = same_sizes t.task _ u (guard_some (takes_data t.stage && is_inside t.task.private c) (part (with_data t.task c) stage.Data) u e).1 (record { private = refl; budget = refl; room = refl })
-more_sizes (Input bytes) t u e = same_sizes t.task _ u (some_same _ u e) (record { private = refl; budget = refl; room = refl })
+more_sizes (Reg k v) t u e = same_sizes t.task _ u (cond_some (takes_reg t.stage k) (part (with_reg t.task k v) (stage.Regs (k + 1))) u e).1 (record { private = refl; budget = refl; room = refl })
+more_sizes (Data c) t u e = same_sizes t.task _ u (cond_some (takes_data t.stage && is_inside t.task.private c) (part (with_data t.task c) stage.Data) u e).1 (record { private = refl; budget = refl; room = refl })
+more_sizes (Input bytes) t u e = same_sizes t.task _ u (same_Some _ u e) (record { private = refl; budget = refl; room = refl })
 more_sizes c t u e = absurd cc
 
 -- each line
@@ -370,13 +365,13 @@ grows_to st s t e g = subst (λ (x : State). More (draft_sofar st) (draft_sofar 
 
 raw_grows : (p : Part) (j : DraftView) (text : List ℕ) (s : State) → takes_raw p ≡ true → take_raw p j text ≡ Some s → More (sofar_at p j) (draft_sofar s) s.over
 raw_grows (kind.Listed i left texts) j text s raw e =
-    subst (λ (x : State). More (with_module j i (Some (texts ++ replicate left []))) (draft_sofar x) x.over) (some_same _ s e) (line_grown j i texts text left (left - 1))
+    subst (λ (x : State). More (with_module j i (Some (texts ++ replicate left []))) (draft_sofar x) x.over) (same_Some _ s e) (line_grown j i texts text left (left - 1))
 raw_grows p j text s raw e = absurd cc
 
 text_grows : (p : Part) (j : DraftView) (bytes : List ℕ) (s : State) → take_text p j bytes ≡ Some s → More (sofar_at p j) (draft_sofar s) s.over
 text_grows (kind.Texts i left) j bytes s e =
     let next : State = state (kind.Texts (with_bytes i bytes) (left - length bytes)) j None in
-    let g = guard_some (nat_le (length bytes) left) next s e in
+    let g = cond_some (nat_le (length bytes) left) next s e in
     let fit : length bytes ≤ left = grind (arith, nat_tests, g.0) in
     subst (λ (x : State). More (with_module j (with_bytes i (replicate left 0)) None) (draft_sofar x) x.over) g.1 (text_grown j i left bytes fit)
 text_grows p j bytes s e = absurd cc
@@ -384,7 +379,7 @@ text_grows p j bytes s e = absurd cc
 listing_grows : (p : Part) (j : DraftView) (n : ℕ) (s : State) → take_listing p j n ≡ Some s → More (sofar_at p j) (draft_sofar s) s.over
 listing_grows (kind.Texts i left) j n s e =
     let next : State = state (kind.Listed i n []) j None in
-    let g = guard_some (nat_eq left 0) next s e in
+    let g = cond_some (nat_eq left 0) next s e in
     let none : left ≡ 0 = grind (arith, nat_tests, g.0) in
     subst (λ (x : State). More (with_module j (with_bytes i (replicate left 0)) None) (draft_sofar x) x.over) g.1 (listing_grown j i left n none)
 listing_grows p j n s e = absurd cc
@@ -407,12 +402,12 @@ cover_grows p j e = absurd cc
 
 card_grows : (ask : Controllers) (c : CardView) (st s : State) → take_card ask st c ≡ Some s → More (draft_sofar st) (draft_sofar s) s.over
 card_grows ask Cover st s e =
-    let g = guard_some (is_start st.part) (state kind.Modules st.job None) s e in
+    let g = cond_some (is_start st.part) (state kind.Modules st.job None) s e in
     grows_to st s (state kind.Modules st.job None) g.1 (cover_grows st.part st.job g.0)
 card_grows ask (Module name base size) st s e =
     let t = then_some (open_module name base size) (closed_module st.part st.job) s e in
     let next : State = state (kind.Texts (no_bytes name base) size) t.from (module_over t.from size) in
-    let g = guard_some (fits t.from name base size) next s t.gives in
+    let g = cond_some (fits t.from name base size) next s t.gives in
     grows_to st s next g.1 (from_closed ask st.part st.job t.from (draft_sofar next) (module_over t.from size) (closed_of_module ask st.part st.job t.from t.was) (module_grown t.from name base size))
 card_grows ask (Text bytes) st s e = text_grows st.part st.job bytes s e
 card_grows ask (Listing n) st s e = listing_grows st.part st.job n s e
@@ -442,7 +437,7 @@ step_grows ask st s l e = elim (choose (takes_raw st.part) (take_raw st.part st.
 ]
 
 pub run_more : (ask : Controllers) (ls : List LineView) (st e : State) → run ask st ls ≡ Some e → (w : Limit) → keeps w (sofar e) ≡ true → keeps w (sofar st) ≡ true
-run_more ask [] st e r w k = let same : st ≡ e = some_same st e r in subst (λ (x : State). keeps w (sofar x) ≡ true) (sym same) k
+run_more ask [] st e r w k = let same : st ≡ e = same_Some st e r in subst (λ (x : State). keeps w (sofar x) ≡ true) (sym same) k
 run_more ask (l ∷ ls) st e r w k =
     let t = then_some (λ s. run ask s ls) (step ask st l) e r in
     (step_grows ask st t.from l t.was).more w (run_more ask ls t.from e t.gives w k)

@@ -1,12 +1,5 @@
 -- Tests and options.
-use Rattle.std.proofs.Common.{◌≡◌, Bool, true, false, ◌&&◌, cond, Option, Some, None, refl, option_map, option_and_then, ◌⊎◌, inl, inr}
-
-pub some_same : {A : Type 0} (x y : A) → Some x ≡ Some y → x ≡ y
-some_same x y e = cc
-
-pub guard_some : {A : Type 0} (b : Bool) (x y : A) → cond b (Some x) None ≡ Some y → (b ≡ true) × (x ≡ y)
-guard_some true x y e = (refl, cc)
-guard_some false x y e = absurd cc
+use Rattle.std.proofs.Common.{◌≡◌, Bool, true, false, cond, Option, Some, None, refl, option_map, option_and_then, ◌⊎◌, inl, inr}
 
 pub guard_more : {A : Type 0} (b : Bool) (o : Option A) (y : A) → cond b o None ≡ Some y → (b ≡ true) × (o ≡ Some y)
 guard_more true o y e = (refl, e)
@@ -19,10 +12,6 @@ guard_none true x y e = absurd cc
 pub guard_then : {A : Type 0} (b : Bool) (o : Option A) (y : A) → cond b None o ≡ Some y → (b ≡ false) × (o ≡ Some y)
 guard_then false o y e = (refl, e)
 guard_then true o y e = absurd cc
-
-pub both : (a b : Bool) → (a && b) ≡ true → (a ≡ true) × (b ≡ true)
-both true b e = (refl, e)
-both false b e = absurd cc
 
 pub record FromMap {A B : Type 0} (f : A → B) (o : Option A) (y : B) : Type 0 where
   pub from : A

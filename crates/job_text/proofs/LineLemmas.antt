@@ -2,8 +2,9 @@
 use Rattle.std.proofs.Common.{◌≡◌, ℕ, ◌+◌, ◌-◌, ◌<◌, ◌≤◌, Bool, true, false, not, cond, nat_eq, nat_lt, Some, None, List, [], ◌∷◌, length, take, drop, arith, suc, refl}
 use Rattle.std.proofs.lemmas.Bool.Decides.{nat_tests}
 use Rattle.std.specs.List.{position, position_or_len}
+use Rattle.std.proofs.lemmas.Option.{cond_some}
 use Rattle.job_text.specs.Lines.{LineView, lines_of, put_on}
-use Rattle.job_text.proofs.WordLemmas.{drop_one, some_is, none_is, tail_whole}
+use Rattle.job_text.proofs.WordLemmas.{drop_one, none_is, tail_whole}
 
 abbrev pub end_of : List ℕ → ℕ
 end_of s = position_or_len (λ b. nat_eq b 10) s
@@ -52,7 +53,7 @@ line_whole (b ∷ bs) h = whole_first b bs (nat_eq b 10) refl (line_whole bs) h
 pub first_ends : (s front back : List ℕ) (k : ℕ) → position (λ b. nat_eq b 10) s ≡ Some k → front ≡ take k s → back ≡ drop k s →
     lines_of s ≡ ended_line front ∷ lines_of (take (length back - 1) (drop 1 back))
 first_ends s front back k e f b =
-    let p = some_is (nat_lt (end_of s) (length s)) (end_of s) k e in
+    let p = cond_some (nat_lt (end_of s) (length s)) (end_of s) k e in
     let inside : end_of s < length s = grind (arith, nat_tests, p.0) in
     rw (tail_whole back, f, b, ← p.1, drop_one) (line_ends s inside)
 

@@ -2,6 +2,7 @@
 use Rattle.std.proofs.Common.{◌≡◌, ℕ, true, false, Option, Some, List, [], ◌∷◌, refl, ap, option_map, option_and_then, inl, inr}
 use Rattle.std.specs.List.{list_any}
 use Rattle.std.specs.Str.{bytes_eq}
+use Rattle.std.proofs.lemmas.Option.{cond_some}
 use Rattle.session_book.specs.JobView.{JobView}
 use Rattle.job_text.specs.Lines.{LineView, listing_text}
 use Rattle.job_text.specs.Drafts.{DraftView, Controllers, Named, are_met}
@@ -12,7 +13,7 @@ use Rattle.job_text.specs.Spells.{IsPhase, ArePhases, Spells}
 use Rattle.job_text.specs.declared.parts.Part.{Part}
 use Rattle.job_text.specs.declared.parts.Part.TheVariants as part
 use Rattle.job_text.specs.Steps.{State, closed, open_phase, end, takes_raw, take_raw, take_card, step, run}
-use Rattle.job_text.proofs.Guards.{guard_some, guard_more, guard_then, map_some, then_some, choose}
+use Rattle.job_text.proofs.Guards.{guard_more, guard_then, map_some, then_some, choose}
 
 -- a session that was added
 pub record Added (j after : DraftView) (name : List ℕ) (by : Option (List ℕ)) (names : List (List ℕ)) : Type 0 where
@@ -56,8 +57,8 @@ named_spells ask ls job s = record {
 }
 
 named_closed : (ask : Controllers) (p : Part) (j k : DraftView) → closed ask p j ≡ Some k → closed Named p j ≡ Some k
-named_closed ask part.Sessions j k e = ap (λ (x : DraftView). Some x) (guard_some (are_met ask j) j k e).1
-named_closed ask (part.Task t) j k e = ap (λ (x : DraftView). Some x) (guard_some (are_met ask (with_task j t.task)) (with_task j t.task) k e).1
+named_closed ask part.Sessions j k e = ap (λ (x : DraftView). Some x) (cond_some (are_met ask j) j k e).1
+named_closed ask (part.Task t) j k e = ap (λ (x : DraftView). Some x) (cond_some (are_met ask (with_task j t.task)) (with_task j t.task) k e).1
 named_closed ask p j k e = e
 
 named_card : (ask : Controllers) (x : CardView) (st s : State) → take_card ask st x ≡ Some s → take_card Named st x ≡ Some s

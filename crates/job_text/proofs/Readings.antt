@@ -1,8 +1,9 @@
 -- What the lines say that a reader has taken.
-use Rattle.std.proofs.Common.{◌≡◌, ℕ, ◌+◌, ◌-◌, ◌<◌, ◌≤◌, Bool, true, false, Some, List, [], ◌∷◌, ◌++◌, length, take, drop, refl, ap, subst, sym, ◌∙◌, arith, append_assoc, append-nil, length-append, length-take, inl, inr}
+use Rattle.std.proofs.Common.{◌≡◌, ℕ, ◌+◌, ◌-◌, ◌<◌, ◌≤◌, true, false, Some, List, [], ◌∷◌, ◌++◌, length, take, drop, refl, ap, subst, sym, ◌∙◌, arith, append_assoc, append-nil, length-append, length-take, inl, inr}
 use Rattle.std.proofs.Math.Seq.{take-length, drop-length}
-use Rattle.std.proofs.lemmas.Bool.{cases_lt}
+use Rattle.std.proofs.lemmas.Bool.{cases_lt, true_from_ne_false}
 use Rattle.std.proofs.lemmas.List.{take-take}
+use Rattle.std.proofs.lemmas.Option.{same_Some}
 use Rattle.session_book.specs.JobView.{JobView}
 use Rattle.job_text.specs.Drafts.{Present, bound}
 use Rattle.job_text.specs.Lines.{LineView, lines_of, ended_lines, span}
@@ -29,7 +30,6 @@ use Rattle.job_text.proofs.Rests.{run_spells}
 use Rattle.job_text.proofs.Shortest.{sofar}
 use Rattle.job_text.proofs.Spans.{lines_count}
 use Rattle.job_text.proofs.Spelled.{Reaches, Ends, run_append, run_spelled, alone}
-use Rattle.job_text.proofs.Guards.{some_same}
 use Rattle.job_text.proofs.Verdicts.{over_passes, goes_on, bad_here, over_here, ends_early, bad_none, job_within, take_front, drop_front}
 
 -- a fault stays the fault when more comes
@@ -90,12 +90,8 @@ told_more bytes more e t =
 
 -- one line more
 
-not_true : (b : Bool) → (b ≡ false → ⊥) → b ≡ true
-not_true true h = refl
-not_true false h = absurd (h refl)
-
 pub within_of : (ls : List LineView) (s : State) → run Present start ls ≡ Some s → GoesOn ls → IsWithin (sofar s)
-within_of ls s r g = λ w. not_true (keeps w (sofar s)) (λ over. g.within w (over_passes ls s w r over))
+within_of ls s r g = λ w. true_from_ne_false (keeps w (sofar s)) (λ over. g.within w (over_passes ls s w r over))
 
 run_next : (bytes more : List ℕ) (a b : Taken) (l : LineView) → lines_of (bytes ++ more) ≡ lines_of bytes ++ l ∷ [] → length more ≡ span l → HasRun bytes a → IsNext a b l → HasRun (bytes ++ more) b
 run_next bytes more a b l whole size h n =
@@ -307,7 +303,7 @@ is_open bytes p h reading =
       goes_on = rw ended h.ran.goes_on;
       no_job = λ job s.
           let x : Reaches Present start (lines_of h.front) (Ends job) = run_spelled Present (lines_of h.front) job (rw ended at s) in
-          let end : x.end ≡ plain p.taken.reader = some_same x.end (plain p.taken.reader) (sym x.runs ∙ h.ran.runs) in
+          let end : x.end ≡ plain p.taken.reader = same_Some x.end (plain p.taken.reader) (sym x.runs ∙ h.ran.runs) in
           let done : is_done x.end.part ≡ true = ap is_done x.holds.at in
           let still : is_done x.end.part ≡ false = ap (λ (t : State). is_done t.part) end ∙ reading in
           absurd cc;

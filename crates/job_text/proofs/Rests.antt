@@ -1,6 +1,7 @@
 -- Lines that run to the end spell the job that was read.
 use Rattle.std.proofs.Common.{◌≡◌, ℕ, ◌-◌, ◌<◌, ◌≤◌, true, false, nat_eq, nat_le, cond, Option, Some, None, List, [], ◌∷◌, ◌++◌, length, map, refl, ap, subst, option_and_then, sym, arith, append_assoc, append-nil, length-append, inl, inr}
 use Rattle.std.proofs.lemmas.Bool.Decides.{nat_tests}
+use Rattle.std.proofs.lemmas.Option.{same_Some, cond_some}
 use Rattle.cov_base.specs.Memory.{ImageView}
 use Rattle.session_book.specs.JobView.{TaskView, first_regs}
 use Rattle.job_text.specs.Drafts.{DraftView, Controllers, are_met, bound}
@@ -14,7 +15,7 @@ use Rattle.job_text.specs.TaskParts.{fresh_task, task_more}
 use Rattle.job_text.specs.declared.parts.Part.{Part}
 use Rattle.job_text.specs.declared.parts.Part.TheVariants as part
 use Rattle.job_text.specs.Steps.{State, state, start, is_start, is_sessions, is_done, closed_module, closed_task, met_of, closed, no_bytes, with_bytes, module_over, line_over, phase_over, session_over, task_over, open_module, open_task, open_phase, add_session, take_text, take_listing, take_more, end, takes_raw, take_raw, take_card, step, run}
-use Rattle.job_text.proofs.Guards.{some_same, guard_some, guard_more, map_some, then_some, choose, guard_none}
+use Rattle.job_text.proofs.Guards.{guard_more, map_some, then_some, choose, guard_none}
 use Rattle.job_text.proofs.TaskCards.{with_regs, with_cards, with_inputs, AtInputs, AtData, AtRegs, AtPart, stage_ends, more_back}
 
 -- what may still come, behind each line
@@ -111,11 +112,11 @@ no_modules ask j ls d r = record { blocks = []; rest = ls; mid = j; whole = refl
 -- what may come behind the closed job may come here
 
 same_job : (ask : Controllers) (j k : DraftView) (ls : List LineView) (d : DraftView) → Some j ≡ Some k → RestModules ask k ls d → RestModules ask j ls d
-same_job ask j k ls d e r = let same : j ≡ k = some_same j k e in rw same r
+same_job ask j k ls d e r = let same : j ≡ k = same_Some j k e in rw same r
 
 texts_whole : (ask : Controllers) (i : ImageView) (left : ℕ) (j k : DraftView) (ls : List LineView) (d : DraftView) → cond (nat_eq left 0) (Some (with_module j i None)) None ≡ Some k → RestModules ask k ls d → RestTexts ask i left j ls d
 texts_whole ask i left j k ls d e r =
-    let g = guard_some (nat_eq left 0) (with_module j i None) k e in
+    let g = cond_some (nat_eq left 0) (with_module j i None) k e in
     record {
       texts = [];
       listing = [];
@@ -132,7 +133,7 @@ texts_whole ask i left j k ls d e r =
 listed_whole : (ask : Controllers) (i : ImageView) (left : ℕ) (texts : List (List ℕ)) (j k : DraftView) (ls : List LineView) (d : DraftView) → cond (nat_eq left 0) (Some (with_module j i (Some texts))) None ≡ Some k →
     RestModules ask k ls d → RestListed ask i left texts j ls d
 listed_whole ask i left texts j k ls d e r =
-    let g = guard_some (nat_eq left 0) (with_module j i (Some texts)) k e in
+    let g = cond_some (nat_eq left 0) (with_module j i (Some texts)) k e in
     record { lines = []; rest = ls; whole = refl; size = zero_of left g.0; after = rw (append-nil {A = List ℕ}, g.1) r }
 
 module_closes : (ask : Controllers) (p : Part) (j k : DraftView) (ls : List LineView) (d : DraftView) → closed_module p j ≡ Some k → RestModules ask k ls d → Rest ask p j ls d
@@ -142,12 +143,12 @@ module_closes ask (part.Listed i left texts) j k ls d e r = listed_whole ask i l
 module_closes ask p j k ls d e r = absurd cc
 
 task_closes : (ask : Controllers) (p : Part) (j k : DraftView) (ls : List LineView) (d : DraftView) → closed_task p j ≡ Some k → RestTasks ask k ls d → Rest ask p j ls d
-task_closes ask part.Sessions j k ls d e r = let same : j ≡ k = some_same j k e in rw same (no_sessions ask k ls d r)
-task_closes ask (part.Task t) j k ls d e r = let same : with_task j t.task ≡ k = some_same _ k e in stage_ends t.stage t.task (Behind ask j d) ls (rw same r)
+task_closes ask part.Sessions j k ls d e r = let same : j ≡ k = same_Some j k e in rw same (no_sessions ask k ls d r)
+task_closes ask (part.Task t) j k ls d e r = let same : with_task j t.task ≡ k = same_Some _ k e in stage_ends t.stage t.task (Behind ask j d) ls (rw same r)
 task_closes ask p j k ls d e r = absurd cc
 
 met_closed : (ask : Controllers) (j k : DraftView) → met_of ask j ≡ Some k → (are_met ask k ≡ true) × (j ≡ k)
-met_closed ask j k e = let g = guard_some (are_met ask j) j k e in (subst (λ (x : DraftView). are_met ask x ≡ true) g.1 g.0, g.1)
+met_closed ask j k e = let g = cond_some (are_met ask j) j k e in (subst (λ (x : DraftView). are_met ask x ≡ true) g.1 g.0, g.1)
 
 closes : (ask : Controllers) (p : Part) (j k : DraftView) (ls : List LineView) (d : DraftView) → closed ask p j ≡ Some k → RestEnd ask k ls d → Rest ask p j ls d
 closes ask part.Sessions j k ls d e r = let g = met_closed ask j k e in task_closes ask part.Sessions j k ls d (ap (λ (x : DraftView). Some x) g.1) (no_tasks ask k ls d g.0 r)
@@ -160,7 +161,7 @@ raw_back : (ask : Controllers) (p : Part) (j : DraftView) (l : LineView) (ls : L
 raw_back ask (part.Listed i left texts) j l ls d s raw e r =
     let text : List ℕ = listing_text l in
     let some : 0 < left = grind (arith, nat_tests) in
-    let a : RestListed ask i (left - 1) (texts ++ text ∷ []) j ls d = was ask ls d (state (part.Listed i (left - 1) (texts ++ text ∷ [])) j (line_over text)) s (some_same _ s e) r in
+    let a : RestListed ask i (left - 1) (texts ++ text ∷ []) j ls d = was ask ls d (state (part.Listed i (left - 1) (texts ++ text ∷ [])) j (line_over text)) s (same_Some _ s e) r in
     record {
       lines = l ∷ a.lines;
       rest = a.rest;
@@ -173,7 +174,7 @@ raw_back ask p j l ls d s raw e r = absurd cc
 text_back : (ask : Controllers) (p : Part) (j : DraftView) (bytes : List ℕ) (l : LineView) (ls : List LineView) (d : DraftView) (s : State) → IsCard l (Text bytes) → take_text p j bytes ≡ Some s → RestOf ask s ls d → Rest ask p j (l ∷ ls) d
 text_back ask (part.Texts i left) j bytes l ls d s card e r =
     let next : State = state (part.Texts (with_bytes i bytes) (left - length bytes)) j None in
-    let g = guard_some (nat_le (length bytes) left) next s e in
+    let g = cond_some (nat_le (length bytes) left) next s e in
     let a : RestTexts ask (with_bytes i bytes) (left - length bytes) j ls d = was ask ls d next s g.1 r in
     let fit : length bytes ≤ left = grind (arith, nat_tests, g.0) in
     record {
@@ -193,7 +194,7 @@ text_back ask p j bytes l ls d s card e r = absurd cc
 listing_back : (ask : Controllers) (p : Part) (j : DraftView) (n : ℕ) (l : LineView) (ls : List LineView) (d : DraftView) (s : State) → IsCard l (Listing n) → take_listing p j n ≡ Some s → RestOf ask s ls d → Rest ask p j (l ∷ ls) d
 listing_back ask (part.Texts i left) j n l ls d s card e r =
     let next : State = state (part.Listed i n []) j None in
-    let g = guard_some (nat_eq left 0) next s e in
+    let g = cond_some (nat_eq left 0) next s e in
     let a : RestListed ask i n [] j ls d = was ask ls d next s g.1 r in
     record {
       texts = [];
@@ -240,7 +241,7 @@ module_back : (ask : Controllers) (st s : State) (name : List ℕ) (base size : 
 module_back ask st s name base size l ls d card e r =
     let t = then_some (open_module name base size) (closed_module st.part st.job) s e in
     let next : State = state (part.Texts (no_bytes name base) size) t.from (module_over t.from size) in
-    let g = guard_some (fits t.from name base size) next s t.gives in
+    let g = cond_some (fits t.from name base size) next s t.gives in
     module_closes ask st.part st.job t.from (l ∷ ls) d t.was (module_first ask t.from l ls d name base size card g.0 (was ask ls d next s g.1 r))
 
 phase_first : (ask : Controllers) (j named : DraftView) (l : LineView) (ls : List LineView) (d : DraftView) (name : List ℕ) → IsCard l (Phase name) → with_phase j name ≡ Some named → RestSessions ask named ls d → RestEnd ask j (l ∷ ls) d
@@ -361,7 +362,7 @@ end_back ask st s l ls d card e r =
 
 card_back : (ask : Controllers) (c : CardView) (st s : State) (l : LineView) (ls : List LineView) (d : DraftView) → IsCard l c → take_card ask st c ≡ Some s → RestOf ask s ls d → RestOf ask st (l ∷ ls) d
 card_back ask Cover st s l ls d card e r =
-    let g = guard_some (is_start st.part) (state part.Modules st.job None) s e in
+    let g = cond_some (is_start st.part) (state part.Modules st.job None) s e in
     cover_back ask st.part st.job l ls d g.0 card (was ask ls d (state part.Modules st.job None) s g.1 r)
 card_back ask (Module n b size) st s l ls d card e r = module_back ask st s n b size l ls d card e r
 card_back ask (Text bytes) st s l ls d card e r = text_back ask st.part st.job bytes l ls d s card e r
@@ -387,7 +388,7 @@ done_rest ask part.Done j e = (refl, refl)
 done_rest ask p j e = absurd cc
 
 rest_of : (ask : Controllers) (ls : List LineView) (st e : State) → run ask st ls ≡ Some e → is_done e.part ≡ true → RestOf ask st ls e.job
-rest_of ask [] st e r done = was ask [] e.job st e (some_same st e r) (done_rest ask e.part e.job done)
+rest_of ask [] st e r done = was ask [] e.job st e (same_Some st e r) (done_rest ask e.part e.job done)
 rest_of ask (l ∷ ls) st e r done =
     let t = then_some (λ s. run ask s ls) (step ask st l) e r in
     step_back ask st t.from l ls e.job t.was (rest_of ask ls t.from e t.gives done)

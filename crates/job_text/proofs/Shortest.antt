@@ -1,6 +1,7 @@
 -- Each state can be brought to the end, where controllers may be missing, by lines that add no more than what was announced.
 use Rattle.std.proofs.Common.{◌≡◌, ℕ, ◌-◌, zero, suc, true, false, nat_eq, nat_le, cond, Option, Some, None, List, [], ◌∷◌, ◌++◌, replicate, refl, ap, subst, sym, ◌∙◌, arith, append_assoc, append-nil, codes}
 use Rattle.std.proofs.lemmas.Bool.Decides.{nat_tests}
+use Rattle.std.proofs.lemmas.Option.{same_Some, cond_some}
 use Rattle.hex.proofs.OnLiterals.{hex_on_literals}
 use Rattle.cov_base.specs.Memory.{ImageView}
 use Rattle.session_book.specs.JobView.{JobView}
@@ -14,7 +15,6 @@ use Rattle.job_text.specs.declared.limit.Limit.{Limit}
 use Rattle.job_text.specs.declared.parts.Part.{Part}
 use Rattle.job_text.specs.declared.parts.Part.TheVariants as part
 use Rattle.job_text.specs.Steps.{State, state, start, is_done, closed_module, closed_task, closed, with_bytes, end, takes_raw, take_card, step, run}
-use Rattle.job_text.proofs.Guards.{some_same, guard_some}
 use Rattle.job_text.proofs.Named.{named_run}
 use Rattle.job_text.proofs.Spelled.{run_append, card_step, closed_raw}
 use Rattle.job_text.proofs.Rests.{run_spells}
@@ -38,30 +38,30 @@ zero_is n e = grind (arith, nat_tests)
 
 texts_sofar : (i : ImageView) (left : ℕ) (j k : DraftView) → cond (nat_eq left 0) (Some (with_module j i None)) None ≡ Some k → k ≡ with_module j (with_bytes i (replicate left 0)) None
 texts_sofar i left j k e =
-    let g = guard_some (nat_eq left 0) (with_module j i None) k e in
+    let g = cond_some (nat_eq left 0) (with_module j i None) k e in
     let none : left ≡ 0 = zero_is left g.0 in
     rw (none, append-nil {A = ℕ}) (sym g.1)
 
 listed_sofar : (i : ImageView) (left : ℕ) (texts : List (List ℕ)) (j k : DraftView) → cond (nat_eq left 0) (Some (with_module j i (Some texts))) None ≡ Some k → k ≡ with_module j i (Some (texts ++ replicate left []))
 listed_sofar i left texts j k e =
-    let g = guard_some (nat_eq left 0) (with_module j i (Some texts)) k e in
+    let g = cond_some (nat_eq left 0) (with_module j i (Some texts)) k e in
     let none : left ≡ 0 = zero_is left g.0 in
     rw (none, append-nil {A = List ℕ}) (sym g.1)
 
 module_sofar : (p : Part) (j k : DraftView) → closed_module p j ≡ Some k → k ≡ sofar_at p j
-module_sofar part.Modules j k e = sym (some_same j k e)
+module_sofar part.Modules j k e = sym (same_Some j k e)
 module_sofar (part.Texts i left) j k e = texts_sofar i left j k e
 module_sofar (part.Listed i left texts) j k e = listed_sofar i left texts j k e
 module_sofar p j k e = absurd cc
 
 pub closed_sofar : (ask : Controllers) (p : Part) (j k : DraftView) → closed ask p j ≡ Some k → k ≡ sofar_at p j
-closed_sofar ask part.Sessions j k e = sym (guard_some (are_met ask j) j k e).1
-closed_sofar ask (part.Task t) j k e = sym (guard_some (are_met ask (with_task j t.task)) (with_task j t.task) k e).1
+closed_sofar ask part.Sessions j k e = sym (cond_some (are_met ask j) j k e).1
+closed_sofar ask (part.Task t) j k e = sym (cond_some (are_met ask (with_task j t.task)) (with_task j t.task) k e).1
 closed_sofar ask p j k e = module_sofar p j k e
 
 pub task_sofar : (p : Part) (j k : DraftView) → closed_task p j ≡ Some k → k ≡ sofar_at p j
-task_sofar part.Sessions j k e = sym (some_same j k e)
-task_sofar (part.Task t) j k e = sym (some_same (with_task j t.task) k e)
+task_sofar part.Sessions j k e = sym (same_Some j k e)
+task_sofar (part.Task t) j k e = sym (same_Some (with_task j t.task) k e)
 task_sofar p j k e = absurd cc
 
 pub record Completes (ask : Controllers) (st : State) : Type 0 where

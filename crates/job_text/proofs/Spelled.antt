@@ -2,6 +2,7 @@
 use Rattle.std.proofs.Common.{◌≡◌, ℕ, ◌-◌, ◌<◌, ◌≤◌, zero, true, false, nat_eq, nat_le, Option, Some, None, List, [], ◌∷◌, ◌++◌, length, map, take, refl, ap, option_map, option_and_then, sym, ◌∙◌, arith, append_assoc, append-nil, length-append, suc, inl, inr}
 use Rattle.std.proofs.lemmas.Bool.{cases_order}
 use Rattle.std.proofs.lemmas.Bool.Decides.{nat_tests}
+use Rattle.std.proofs.lemmas.Option.{same_Some, cond_some}
 use Rattle.cov_base.specs.Memory.{ImageView}
 use Rattle.session_book.specs.JobView.{JobView}
 use Rattle.job_text.specs.Drafts.{DraftView, Controllers, are_met, bound, Present}
@@ -16,7 +17,7 @@ use Rattle.job_text.specs.declared.limit.Limit.{Limit}
 use Rattle.job_text.specs.declared.parts.Part.{Part}
 use Rattle.job_text.specs.declared.parts.Part.TheVariants as part
 use Rattle.job_text.specs.Steps.{State, state, start, is_done, closed_module, closed_task, closed, no_bytes, with_bytes, module_over, line_over, phase_over, session_over, task_over, end, takes_raw, take_card, step, run}
-use Rattle.job_text.proofs.Guards.{some_same, guard_some, then_some}
+use Rattle.job_text.proofs.Guards.{then_some}
 use Rattle.job_text.proofs.TaskCards.{more_step, more_run, cards_run}
 
 -- the state runs over the lines to one for which the fact holds
@@ -51,8 +52,8 @@ closed_of_module ask (part.Task t) j k e = absurd cc
 closed_of_module ask p j k e = e
 
 pub closed_of_task : (ask : Controllers) (p : Part) (j k : DraftView) → closed_task p j ≡ Some k → are_met ask k ≡ true → closed ask p j ≡ Some k
-closed_of_task ask part.Sessions j k e met = let same : j ≡ k = some_same j k e in rw (same, met) refl
-closed_of_task ask (part.Task t) j k e met = let same : with_task j t.task ≡ k = some_same (with_task j t.task) k e in rw (same, met) refl
+closed_of_task ask part.Sessions j k e met = let same : j ≡ k = same_Some j k e in rw (same, met) refl
+closed_of_task ask (part.Task t) j k e met = let same : with_task j t.task ≡ k = same_Some (with_task j t.task) k e in rw (same, met) refl
 closed_of_task ask p j k e met = absurd cc
 
 -- where a task may come, no line of a listing comes
@@ -62,7 +63,7 @@ task_raw p j k e = refl
 
 -- where something may end, no line of a listing comes
 pub closed_raw : (ask : Controllers) (p : Part) (j k : DraftView) → closed ask p j ≡ Some k → takes_raw p ≡ false
-closed_raw ask (part.Listed i left lines) j k e = let g = guard_some (nat_eq left 0) (with_module j i (Some lines)) k e in rw g.0 refl
+closed_raw ask (part.Listed i left lines) j k e = let g = cond_some (nat_eq left 0) (with_module j i (Some lines)) k e in rw g.0 refl
 closed_raw ask p j k e = refl
 
 -- the part and the job
@@ -146,7 +147,7 @@ run_sessions ask (l ∷ ls) j after st are a =
 
 -- further cards of a task
 run_more : (ask : Controllers) (ls : List LineView) (t u : TaskPart) (j : DraftView) (over : Option Limit) → more_run t ls ≡ Some u → Reaches ask (state (part.Task t) j over) ls (Is (part.Task u) j)
-run_more ask [] t u j over e = let same : t ≡ u = some_same t u e in rw (← same) (record { end = state (part.Task t) j over; runs = refl; holds = is_here (part.Task t) j over })
+run_more ask [] t u j over e = let same : t ≡ u = same_Some t u e in rw (← same) (record { end = state (part.Task t) j over; runs = refl; holds = is_here (part.Task t) j over })
 run_more ask (l ∷ ls) t u j over e =
     let f = then_some (λ q. more_run q ls) (more_step t l) u e in
     let g = then_some (task_more t) (card_at l.bytes) f.from f.was in
@@ -217,14 +218,6 @@ run_spelled ask lines job s =
     (λ t a. reach_on ask t (joined s.phases) (s.last ∷ []) _ _ (run_phases ask s.phases s.mid s.draft t s.are_phases (closed_of_module ask t.part t.job s.mid a))
     (λ u b. run_end ask s.last s.draft u s.ends b)))) in
     record { end = r.end; runs = r.runs; holds = record { at = r.holds.at; is = ap bound r.holds.is ∙ sym s.is } }
-
--- each list of lines spells at most one job
-pub one_job : (ask : Controllers) (lines : List LineView) (a b : JobView) → Spells ask lines a → Spells ask lines b → a ≡ b
-one_job ask lines a b p q =
-    let r = run_spelled ask lines a p in
-    let t = run_spelled ask lines b q in
-    let same : r.end ≡ t.end = some_same r.end t.end (sym r.runs ∙ t.runs) in
-    sym r.holds.is ∙ (ap (λ (s : State). bound s.job) same ∙ t.holds.is)
 
 -- lines that begin a job run
 pub run_begun : (lines : List LineView) → JobBegins lines → Reaches Present start lines (λ s. Unit {0})
@@ -297,7 +290,7 @@ alone ask ls k n s job within r d h p =
       | inr y ↦ (elim y [ inl l ↦ absurd (not_later ask ls k n s x.end l h r d x.runs) | inr l ↦ absurd (not_later ask ls n k x.end s l within x.runs done r) ])
     ] in
     let t : run ask start (take n ls) ≡ Some s = (rw same at r) in
-    let end : s ≡ x.end = some_same s x.end (sym t ∙ x.runs) in
+    let end : s ≡ x.end = same_Some s x.end (sym t ∙ x.runs) in
     (ap (λ (y : State). bound y.job) end ∙ x.holds.is, same)
 
 -- no lines that spell a job begin others that spell one

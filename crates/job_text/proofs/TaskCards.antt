@@ -1,7 +1,9 @@
 -- The cards of a task, read one after the other, are those that spell it.
-use Rattle.std.proofs.Common.{◌≡◌, ℕ, ◌+◌, ◌≤◌, true, ◌&&◌, nat_le, Option, Some, None, List, [], ◌∷◌, ◌++◌, length, refl, ap, subst, option_and_then, sym, ◌∙◌, arith, append_assoc, append-nil}
+use Rattle.std.proofs.Common.{◌≡◌, ℕ, ◌+◌, ◌≤◌, true, ◌&&◌, Option, Some, None, List, [], ◌∷◌, ◌++◌, length, refl, ap, subst, option_and_then, sym, ◌∙◌, arith, append_assoc, append-nil}
 use Rattle.std.proofs.lemmas.Bool.Decides.{nat_tests}
 use Rattle.std.specs.List.{concat}
+use Rattle.std.proofs.lemmas.Option.{same_Some, cond_some}
+use Rattle.std.proofs.lemmas.Bool.{and_parts, le-leb}
 use Rattle.module_area.specs.Views.{DataView}
 use Rattle.session_book.specs.JobView.{TaskView}
 use Rattle.job_text.specs.Lines.{LineView}
@@ -12,7 +14,6 @@ use Rattle.job_text.specs.declared.task.TaskPart.{TaskPart}
 use Rattle.job_text.specs.declared.task.TaskStage.{TaskStage}
 use Rattle.job_text.specs.declared.task.TaskStage.TheVariants as stage
 use Rattle.job_text.specs.TaskParts.{part, takes_reg, takes_data, is_inside, with_reg, with_data, with_input, task_more}
-use Rattle.job_text.proofs.Guards.{some_same, guard_some, both}
 
 abbrev pub with_regs : TaskView → List RegView → TaskView
 with_regs t rs = record t { regs = set_regs t.regs rs }
@@ -72,9 +73,6 @@ data_run (c ∷ cs) (l ∷ ls) t st takes are =
     let more : RunsTo next ls (with_cards (with_data t c) cs) = data_run cs ls (with_data t c) stage.Data refl are.1 in
     runs_first (part t st) next l ls (with_cards t (c ∷ cs)) e (rw (append_assoc t.cards (c ∷ []) cs) at more)
 
-at_least : (least n : ℕ) → least ≤ n → nat_le least n ≡ true
-at_least least n h = grind (arith, nat_tests)
-
 record RunsRegs (p : TaskPart) (ls : List LineView) (t : TaskView) : Type 0 where
   next : ℕ
   runs : more_run p ls ≡ Some (part t (stage.Regs next))
@@ -86,7 +84,7 @@ regs_run (r ∷ rs) [] t least are = absurd are
 regs_run (r ∷ rs) (l ∷ ls) t least are =
     let now : TaskPart = part t (stage.Regs least) in
     let next : TaskPart = part (with_reg t r.number r.value) (stage.Regs (r.number + 1)) in
-    let e : more_step now l ≡ Some next = rw (are.0.0, at_least least r.number are.0.1) refl in
+    let e : more_step now l ≡ Some next = rw (are.0.0, le-leb least r.number are.0.1) refl in
     let more : RunsRegs next ls (with_regs t (r ∷ rs)) = regs_run rs ls (with_reg t r.number r.value) (r.number + 1) are.1 in
     record { next = more.next; runs = rw e more.runs }
 
@@ -202,16 +200,16 @@ reg_back stage.Inputs k v t More l ls card takes a = absurd cc
 pub more_back : (c : CardView) (p q : TaskPart) (More : TaskView → List LineView → Type 0) (l : LineView) (ls : List LineView) → IsCard l c → task_more p c ≡ Some q → AtPart q More ls → AtPart p More (l ∷ ls)
 more_back (Reg k v) p q More l ls card e a =
     let next : TaskPart = part (with_reg p.task k v) (stage.Regs (k + 1)) in
-    let g = guard_some (takes_reg p.stage k) next q e in
+    let g = cond_some (takes_reg p.stage k) next q e in
     reg_back p.stage k v p.task More l ls card g.0 (subst (λ (x : TaskPart). AtPart x More ls) (sym g.1) a)
 more_back (Data c) p q More l ls card e a =
     let next : TaskPart = part (with_data p.task c) stage.Data in
-    let g = guard_some (takes_data p.stage && is_inside p.task.private c) next q e in
-    let tests = both (takes_data p.stage) (is_inside p.task.private c) g.0 in
+    let g = cond_some (takes_data p.stage && is_inside p.task.private c) next q e in
+    let tests = and_parts (takes_data p.stage) (is_inside p.task.private c) g.0 in
     let inside : c.offset + length c.bytes ≤ p.task.private = grind (arith, nat_tests, tests.1) in
     data_back p.stage c p.task More l ls card tests.0 inside (subst (λ (x : TaskPart). AtPart x More ls) (sym g.1) a)
 more_back (Input b) p q More l ls card e a =
     let next : TaskPart = part (with_input p.task b) stage.Inputs in
-    let same : next ≡ q = some_same next q e in
+    let same : next ≡ q = same_Some next q e in
     input_back p.stage b p.task More l ls card (subst (λ (x : TaskPart). AtPart x More ls) (sym same) a)
 more_back c p q More l ls card e a = absurd cc

@@ -1,7 +1,8 @@
 -- What the reader's runs say of the lines.
-use Rattle.std.proofs.Common.{◌≡◌, ℕ, ◌+◌, ◌-◌, ◌<◌, ◌≤◌, zero, suc, Bool, true, false, Option, Some, None, List, [], ◌∷◌, ◌++◌, length, take, drop, refl, ap, subst, sym, ◌∙◌, arith, append-nil, option_map, option_and_then, inl, inr, take-append-drop}
-use Rattle.std.proofs.lemmas.Bool.{cases_order, cases_lt}
+use Rattle.std.proofs.Common.{◌≡◌, ℕ, ◌+◌, ◌-◌, ◌<◌, ◌≤◌, zero, suc, true, false, Option, Some, None, List, [], ◌∷◌, ◌++◌, length, take, drop, refl, ap, subst, sym, ◌∙◌, arith, append-nil, option_map, option_and_then, inl, inr, take-append-drop}
+use Rattle.std.proofs.lemmas.Bool.{cases_order, cases_lt, false_from_ne_true}
 use Rattle.std.proofs.lemmas.List.{length-drop}
+use Rattle.std.proofs.lemmas.Option.{same_Some}
 use Rattle.session_book.specs.JobView.{JobView}
 use Rattle.job_text.specs.Drafts.{DraftView, Named, Present, bound}
 use Rattle.job_text.specs.Lines.{LineView, lines_of}
@@ -13,7 +14,7 @@ use Rattle.job_text.specs.declared.limit.Limit.{Limit}
 use Rattle.job_text.specs.declared.parts.Part.{Part}
 use Rattle.job_text.specs.declared.parts.Part.TheVariants as kind
 use Rattle.job_text.specs.Steps.{State, start, is_done, step, run}
-use Rattle.job_text.proofs.Guards.{some_same, FromMap, map_some}
+use Rattle.job_text.proofs.Guards.{FromMap, map_some}
 use Rattle.job_text.proofs.Spans.{no_lines}
 use Rattle.job_text.proofs.Spelled.{Reaches, Ends, run_append, run_spelled, run_begun, done_step, not_later}
 use Rattle.job_text.proofs.Named.{named_run}
@@ -53,17 +54,13 @@ run_last ls n l more s d e = rw ((at_line ls n l more d).taken, run_append Prese
 run_on : (ls : List LineView) (n : ℕ) (l : LineView) (more : List LineView) (s t : State) → drop n ls ≡ l ∷ more → run Present start (take n ls) ≡ Some s → step Present s l ≡ Some t → run Present start (take (n + 1) ls) ≡ Some t
 run_on ls n l more s t d e f = run_last ls n l more s d e ∙ (rw f refl)
 
-not_true : (b : Bool) → (b ≡ true → ⊥) → b ≡ false
-not_true true h = absurd (h refl)
-not_true false h = refl
-
 -- what is over a limit stays over it
 pub over_passes : (ls : List LineView) (s : State) (w : Limit) → run Present start ls ≡ Some s → keeps w (sofar s) ≡ false → Passes w ls
 over_passes ls s w r e rest job p =
     let x : Reaches Named start (ls ++ rest) (Ends job) = run_spelled Named (ls ++ rest) job p in
     let t : run Named s rest ≡ Some x.end = (rw (run_append Named start ls rest, named_run Present ls start s r) at x.runs) in
     let same : sofar x.end ≡ job = rw (x.holds.at, x.holds.is) refl in
-    not_true (keeps w job) (λ k. let m : keeps w (sofar s) ≡ true = run_more Named rest s x.end t w (rw same k) in let no : true ≡ false = sym m ∙ e in absurd cc)
+    false_from_ne_true (keeps w job) (λ k. let m : keeps w (sofar s) ≡ true = run_more Named rest s x.end t w (rw same k) in let no : true ≡ false = sym m ∙ e in absurd cc)
 
 pub kept_passes : (ls : List LineView) (s : State) (w : Limit) → run Present start ls ≡ Some s → keeps w (sofar s) ≡ true → Passes w ls → ⊥
 kept_passes ls s w r e p =
@@ -123,7 +120,7 @@ ends_early ls n s d h e within f =
         omega (arith, all),
         λ job p.
             let r : Reaches Present start ls (Ends job) = run_spelled Present ls job p in
-            let end : r.end ≡ s = some_same r.end s (sym r.runs ∙ (rw whole at e)) in
+            let end : r.end ≡ s = same_Some r.end s (sym r.runs ∙ (rw whole at e)) in
             let no : true ≡ false = sym (ap is_done r.holds.at) ∙ (ap (λ (t : State). is_done t.part) end ∙ f) in absurd cc,
       );
     }
@@ -137,7 +134,7 @@ none_yet ls k n s job inside r d h p =
     let done : is_done x.end.part ≡ true = ap is_done x.holds.at in
     elim (cases_order n k) [
       | inl e ↦ (let t : run Present start (take n ls) ≡ Some s = (rw (← e) at r) in
-          let end : s ≡ x.end = some_same s x.end (sym t ∙ x.runs) in
+          let end : s ≡ x.end = same_Some s x.end (sym t ∙ x.runs) in
           let no : true ≡ false = sym done ∙ (sym (ap (λ (y : State). is_done y.part) end) ∙ d) in
           absurd cc)
       | inr y ↦ (elim y [ inl l ↦ not_later Present ls n k x.end s l inside x.runs done r | inr l ↦ absurd (omega (arith, l, h)) ])

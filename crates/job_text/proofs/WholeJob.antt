@@ -1,14 +1,16 @@
 -- A job that lines spell within the limits keeps the rules of jobs.
-use Rattle.std.proofs.Common.{◌≡◌, ◌≢◌, ℕ, ◌+◌, ◌%◌, ◌<◌, ◌≤◌, Bool, true, false, not, ◌&&◌, ◌||◌, nat_eq, nat_le, Option, Some, None, List, [], ◌∷◌, ◌++◌, length, map, refl, ap, sym, ◌∙◌, arith, nat_lt, cond, All, AllPairs, inl, inr, ◌⊎◌, slice_set, get_or, option_and_then, subst, IfSome, suc, eqb-true, eq-eqb}
+use Rattle.std.proofs.Common.{◌≡◌, ◌≢◌, ℕ, ◌+◌, ◌%◌, ◌<◌, ◌≤◌, Bool, true, false, not, ◌&&◌, ◌||◌, nat_eq, nat_le, Option, Some, None, List, [], ◌∷◌, ◌++◌, length, map, refl, ap, sym, ◌∙◌, arith, nat_lt, cond, All, AllPairs, inl, inr, slice_set, get_or, option_and_then, subst, IfSome, suc, eqb-true, eq-eqb}
 use Rattle.std.proofs.lemmas.Bool.Decides.{nat_tests}
 use Rattle.std.specs.Str.{bytes_eq}
 use Rattle.std.specs.List.{list_any, concat, prefix_len}
 use Rattle.std.proofs.lemmas.Slice.Eq.{bytes_eq-Decides}
-use Rattle.std.proofs.lemmas.List.{length-set, length-append, length-map, get_or-map, map-append}
-use Rattle.std.proofs.lemmas.List.Elements.{All-append, All-cons, All-nil, All-map}
+use Rattle.std.proofs.lemmas.List.{length-set, length-map, get_or-map, map-append, length_push}
+use Rattle.std.proofs.lemmas.List.Elements.{All-cons, All-nil, All-map, All-push}
 use Rattle.std.proofs.lemmas.List.Folds.{list_any_none}
 use Rattle.std.proofs.lemmas.List.Quantifiers.{all_pairs_push, position-Some}
 use Rattle.std.proofs.lemmas.List.Sums.{AllPass-from_list_all}
+use Rattle.std.proofs.lemmas.Bool.{and_parts, leb-true, or_parts, not-true, or_cases}
+use Rattle.std.proofs.lemmas.Option.{cond_some}
 use Rattle.cov_base.specs.Memory.{ImageView}
 use Rattle.module_area.specs.Images.{IsImage, AreClear}
 use Rattle.module_area.specs.Views.{DataView}
@@ -25,7 +27,7 @@ use Rattle.job_text.specs.Spells.{AreModules, IsModule, AreSessions, IsTaskBlock
 use Rattle.job_text.specs.Limits.{are_short, IsWithin}
 use Rattle.job_text.specs.declared.limit.Limit.TheVariants as limit
 use Rattle.job_text.specs.Steps.{State, start, is_done, run}
-use Rattle.job_text.proofs.Guards.{guard_some, both, guard_none}
+use Rattle.job_text.proofs.Guards.{guard_none}
 use Rattle.job_text.proofs.Named.{session_added}
 use Rattle.job_text.proofs.CardFacts.{Good, card_good}
 use Rattle.job_text.proofs.Rests.{run_spells}
@@ -37,22 +39,12 @@ use Rattle.job_text.proofs.Verdicts.{job_within}
 pub one_all : {X : Type 0} (P : X → Type 0) (x : X) → P x → All P (x ∷ [])
 one_all P x p = All-cons P x [] p (All-nil P)
 
-all_push : {X : Type 0} (P : X → Type 0) (xs : List X) (x : X) → All P xs → P x → All P (xs ++ x ∷ [])
-all_push P xs x h p = All-append P xs (x ∷ []) h (one_all P x p)
-
 pairs_push : {X : Type 0} (R : X → X → Type 0) (xs : List X) (y : X) → AllPairs R xs → All (λ x. R x y) xs → AllPairs R (xs ++ y ∷ [])
 pairs_push R xs y h a = all_pairs_push R xs y h (λ k d l. a k d l)
 
-or_false : (a b : Bool) → (a || b) ≡ false → (a ≡ false) × (b ≡ false)
-or_false false b e = (refl, e)
-or_false true b e = absurd cc
-
 none_of : {X : Type 0} (p : X → Bool) (xs : List X) → list_any p xs ≡ false → All (λ x. p x ≡ false) xs
 none_of p [] e = All-nil (λ x. p x ≡ false)
-none_of p (x ∷ xs) e = let q = or_false (p x) (list_any p xs) e in All-cons (λ y. p y ≡ false) x xs q.0 (none_of p xs q.1)
-
-longer_by_one : {X : Type 0} (xs : List X) (x : X) → length (xs ++ x ∷ []) ≡ length xs + 1
-longer_by_one xs x = omega (arith, length-append xs (x ∷ []))
+none_of p (x ∷ xs) e = let q = or_parts (p x) (list_any p xs) e in All-cons (λ y. p y ≡ false) x xs q.0 (none_of p xs q.1)
 
 -- names that differ, with one more
 
@@ -122,10 +114,10 @@ more_task a b t p i = record { phase = omega (arith, i.phase); entry = i.entry; 
 pub stands : (i : ImageView) → may_stand i.base (length i.bytes) ≡ true → IsImage i
 stands i e =
     let size = length i.bytes in
-    let p = both (nat_eq (i.base % 8) 0 && nat_le 1048576 i.base && nat_eq (size % 2) 0 && nat_le 2 size) (nat_le (i.base + size) 16773120) e in
-    let q = both (nat_eq (i.base % 8) 0 && nat_le 1048576 i.base && nat_eq (size % 2) 0) (nat_le 2 size) p.0 in
-    let r = both (nat_eq (i.base % 8) 0 && nat_le 1048576 i.base) (nat_eq (size % 2) 0) q.0 in
-    let s = both (nat_eq (i.base % 8) 0) (nat_le 1048576 i.base) r.0 in
+    let p = and_parts (nat_eq (i.base % 8) 0 && nat_le 1048576 i.base && nat_eq (size % 2) 0 && nat_le 2 size) (nat_le (i.base + size) 16773120) e in
+    let q = and_parts (nat_eq (i.base % 8) 0 && nat_le 1048576 i.base && nat_eq (size % 2) 0) (nat_le 2 size) p.0 in
+    let r = and_parts (nat_eq (i.base % 8) 0 && nat_le 1048576 i.base) (nat_eq (size % 2) 0) q.0 in
+    let s = and_parts (nat_eq (i.base % 8) 0) (nat_le 1048576 i.base) r.0 in
     record {
       doubleword = grind (arith, nat_tests, s.0);
       from = grind (arith, nat_tests, s.1);
@@ -134,16 +126,8 @@ stands i e =
       to = grind (arith, nat_tests, p.1);
     }
 
-not_false : (b : Bool) → not b ≡ true → b ≡ false
-not_false false e = refl
-not_false true e = absurd cc
-
-or_by : (a b : Bool) → (a || b) ≡ true → (a ≡ true) ⊎ (b ≡ true)
-or_by true b e = inl refl
-or_by false b e = inr e
-
 clear_of : (i x : ImageView) → (nat_le (x.base + length x.bytes) i.base || nat_le (i.base + length i.bytes) x.base) ≡ true → AreClear x i
-clear_of i x e = elim (or_by (nat_le (x.base + length x.bytes) i.base) (nat_le (i.base + length i.bytes) x.base) e) [
+clear_of i x e = elim (or_cases (nat_le (x.base + length x.bytes) i.base) (nat_le (i.base + length i.bytes) x.base) e) [
   | inl a ↦ inl (grind (arith, nat_tests, a))
   | inr b ↦ inr (grind (arith, nat_tests, b))
 ]
@@ -153,16 +137,16 @@ module_so_far block j after m s =
     let i : ImageView = m.image in
     let card : Good (Module i.name i.base (length i.bytes)) = card_good m.head.bytes (Module i.name i.base (length i.bytes)) m.card in
     let clear : All (λ x. is_clear i.name i.base (length i.bytes) x ≡ true) j.images = AllPass-from_list_all (is_clear i.name i.base (length i.bytes)) j.images m.fit in
-    let one : length (j.images ++ i ∷ []) ≡ length j.images + 1 = longer_by_one j.images i in
-    let two : length (j.listings ++ m.listed ∷ []) ≡ length j.listings + 1 = longer_by_one j.listings m.listed in
+    let one : length (j.images ++ i ∷ []) ≡ length j.images + 1 = length_push j.images i in
+    let two : length (j.listings ++ m.listed ∷ []) ≡ length j.listings + 1 = length_push j.listings m.listed in
     rw m.is_after (record {
       listings = omega (arith, one, two, s.listings);
-      each = all_push IsImage j.images i s.each (stands i card.1);
-      apart = pairs_push AreClear j.images i s.apart (λ k d l. clear_of i (get_or j.images k d) (both _ _ (clear k d l)).1);
+      each = All-push IsImage j.images i s.each (stands i card.1);
+      apart = pairs_push AreClear j.images i s.apart (λ k d l. clear_of i (get_or j.images k d) (and_parts _ _ (clear k d l)).1);
       are_sessions = λ k d l. more_session (length j.images) (length j.phases) (length (j.images ++ i ∷ [])) (length j.phases) (get_or j.sessions k d) (omega (arith, one)) (omega arith) (s.are_sessions k d l);
       parted = s.parted;
       are_tasks = s.are_tasks;
-      module_names = names_differ (λ (x : ImageView). x.name) j.images i s.module_names (λ k d l. not_false _ (both _ _ (clear k d l)).0);
+      module_names = names_differ (λ (x : ImageView). x.name) j.images i s.module_names (λ k d l. not-true _ (and_parts _ _ (clear k d l)).0);
       phase_names = s.phase_names;
       session_names = s.session_names;
       task_names = s.task_names;
@@ -181,7 +165,7 @@ map_same (x ∷ xs) = ap (λ (y : List (List ℕ)). x ∷ y) (map_same xs)
 phase_so_far : (j after : DraftView) (name : List ℕ) → with_phase j name ≡ Some after → SoFar j → SoFar after
 phase_so_far j after name e s =
     let g = guard_none (list_any (λ p. bytes_eq p name) j.phases) (record j { phases = j.phases ++ name ∷ [] }) after e in
-    let one : length (j.phases ++ name ∷ []) ≡ length j.phases + 1 = longer_by_one j.phases name in
+    let one : length (j.phases ++ name ∷ []) ≡ length j.phases + 1 = length_push j.phases name in
     let names : Differ (map (λ x. x) (j.phases ++ name ∷ [])) = names_differ (λ x. x) j.phases name (rw (map_same j.phases) s.phase_names) (none_of (λ p. bytes_eq p name) j.phases g.0) in
     rw (← g.1) (record {
       listings = s.listings;
@@ -199,7 +183,7 @@ phase_so_far j after name e s =
 phase_is : (j after : DraftView) (name : List ℕ) → with_phase j name ≡ Some after → 1 ≤ length after.phases
 phase_is j after name e =
     let g = guard_none (list_any (λ p. bytes_eq p name) j.phases) (record j { phases = j.phases ++ name ∷ [] }) after e in
-    rw (← g.1) (omega (arith, longer_by_one j.phases name))
+    rw (← g.1) (omega (arith, length_push j.phases name))
 
 -- sessions
 
@@ -213,12 +197,12 @@ differ_of m n e same = let is : nat_eq m n ≡ true = grind (arith, nat_tests) i
 
 put_used : (j : DraftView) (by : Option (List ℕ)) (used : List ℕ) (m : ℕ) → m < length j.images → is_free j by used m ≡ true → AreUsed j by used → AreUsed j by (used ++ m ∷ [])
 put_used j by used m h e u =
-    let p = both (not (list_any (nat_eq m) used)) (not (list_any (bars (this_phase j) by m) j.sessions)) e in
-    let others : All (λ n. nat_eq m n ≡ false) used = none_of (nat_eq m) used (not_false _ p.0) in
+    let p = and_parts (not (list_any (nat_eq m) used)) (not (list_any (bars (this_phase j) by m) j.sessions)) e in
+    let others : All (λ n. nat_eq m n ≡ false) used = none_of (nat_eq m) used (not-true _ p.0) in
     record {
-      exist = all_push (λ n. n < length j.images) used m u.exist h;
+      exist = All-push (λ n. n < length j.images) used m u.exist h;
       differ = pairs_push (λ a b. a ≢ b) used m u.differ (λ k d l. differ_of m (get_or used k d) (others k d l));
-      free = all_push (λ n. list_any (bars (this_phase j) by n) j.sessions ≡ false) used m u.free (not_false _ p.1);
+      free = All-push (λ n. list_any (bars (this_phase j) by n) j.sessions ≡ false) used m u.free (not-true _ p.1);
     }
 
 record Indices (j : DraftView) (by : Option (List ℕ)) (used ms : List ℕ) (count : ℕ) : Type 0 where
@@ -227,9 +211,9 @@ record Indices (j : DraftView) (by : Option (List ℕ)) (used ms : List ℕ) (co
 
 index_put : (j : DraftView) (by : Option (List ℕ)) (used next : List ℕ) (o : Option ℕ) (n : List ℕ) → index_of j n ≡ o → put_index j by used o ≡ Some next → AreUsed j by used → Indices j by used next 1
 index_put j by used next (Some m) n is e u =
-    let g = guard_some (is_free j by used m) (used ++ m ∷ []) next e in
+    let g = cond_some (is_free j by used m) (used ++ m ∷ []) next e in
     let h : m < length j.images = (position-Some (λ (i : ImageView). bytes_eq i.name n) j.images m (record { name = []; base = 0; bytes = [] }) is).0 in
-    rw (← g.1) (record { are = put_used j by used m h g.0 u; length = longer_by_one used m })
+    rw (← g.1) (record { are = put_used j by used m h g.0 u; length = length_push used m })
 index_put j by used next None n is e u = absurd cc
 
 no_indices : (j : DraftView) (by : Option (List ℕ)) (ns : List (List ℕ)) (ms : List ℕ) → indices_on j by None ns ≡ Some ms → ⊥
@@ -272,7 +256,7 @@ session_so_far j after name by names e some phases s =
       listings = s.listings;
       each = s.each;
       apart = s.apart;
-      are_sessions = all_push (IsSessionSoFar (length j.images) (length j.phases)) j.sessions t s.are_sessions is;
+      are_sessions = All-push (IsSessionSoFar (length j.images) (length j.phases)) j.sessions t s.are_sessions is;
       parted = pairs_push ArePartedSoFar j.sessions t s.parted (λ k d l. parted_of (this_phase j) (get_or j.sessions k d) t refl (λ i f h. none_of (bars (this_phase j) by (get_or m.modules i f)) j.sessions (r.are.free i f h) k d l));
       are_tasks = s.are_tasks;
       module_names = s.module_names;
@@ -328,7 +312,7 @@ task_so_far block j after m s =
         apart = s.so_far.apart;
         are_sessions = s.so_far.are_sessions;
         parted = s.so_far.parted;
-        are_tasks = all_push (IsTaskSoFar (length j.phases)) j.tasks t s.so_far.are_tasks is;
+        are_tasks = All-push (IsTaskSoFar (length j.phases)) j.tasks t s.so_far.are_tasks is;
         module_names = s.so_far.module_names;
         phase_names = s.so_far.phase_names;
         session_names = s.so_far.session_names;
@@ -352,11 +336,8 @@ phases_so_far ask (block ∷ blocks) j after are s =
 
 -- the limits
 
-at_most : (n k : ℕ) → nat_le n k ≡ true → n ≤ k
-at_most n k e = grind (arith, nat_tests)
-
 short_listing : (o : Option (List (List ℕ))) → are_short o ≡ true → IsListing o
-short_listing (Some texts) e = λ k d l. at_most (length (get_or texts k d)) LINE_LIMIT (AllPass-from_list_all (λ (t : List ℕ). nat_le (length t) LINE_LIMIT) texts e k d l)
+short_listing (Some texts) e = λ k d l. leb-true (length (get_or texts k d)) LINE_LIMIT (AllPass-from_list_all (λ (t : List ℕ). nat_le (length t) LINE_LIMIT) texts e k d l)
 short_listing None e = tt
 
 -- the sessions as the job has them
@@ -372,7 +353,7 @@ found_controller : (tasks : List TaskView) (phase : ℕ) (n : List ℕ) (o : Opt
 found_controller tasks phase n None e = tt
 found_controller tasks phase n (Some t) e = λ d.
     let p = position-Some (is_controller phase n) tasks t d e in
-    (p.0, eqb-true _ _ (both (bytes_eq (get_or tasks t d).name n) (nat_eq (get_or tasks t d).phase phase) p.1).1)
+    (p.0, eqb-true _ _ (and_parts (bytes_eq (get_or tasks t d).name n) (nat_eq (get_or tasks t d).phase phase) p.1).1)
 
 has_controller : (tasks : List TaskView) (phase : ℕ) (by : Option (List ℕ)) → IfSome (option_and_then (controller_of tasks phase) by) (IsTaskOf tasks phase)
 has_controller tasks phase None = tt
@@ -448,12 +429,12 @@ job_keeps ls job p within =
     subst IsJob (sym p.is) (record {
       listings = s.listings;
       images = record { each = s.each; apart = s.apart };
-      sizes = λ k d l. at_most _ SIZE_LIMIT (AllPass-from_list_all _ j.images (kept limit.Size) k d l);
-      modules = at_most (length j.images) MODULE_LIMIT (kept limit.Modules);
+      sizes = λ k d l. leb-true _ SIZE_LIMIT (AllPass-from_list_all _ j.images (kept limit.Size) k d l);
+      modules = leb-true (length j.images) MODULE_LIMIT (kept limit.Modules);
       lines = λ k d l. short_listing (get_or j.listings k d) (AllPass-from_list_all are_short j.listings (kept limit.Line) k d l);
-      phases = at_most (length j.phases) PHASE_LIMIT (kept limit.Phases);
-      sessions = at_most (length (bound j).sessions) SESSION_LIMIT (kept limit.Sessions);
-      tasks = at_most (length j.tasks) TASK_LIMIT (kept limit.Tasks);
+      phases = leb-true (length j.phases) PHASE_LIMIT (kept limit.Phases);
+      sessions = leb-true (length (bound j).sessions) SESSION_LIMIT (kept limit.Sessions);
+      tasks = leb-true (length j.tasks) TASK_LIMIT (kept limit.Tasks);
       are_sessions = All-map (IsSession (length j.images) (length j.phases)) (bound_session j.tasks) j.sessions (λ k d l. is_session _ _ j.tasks (get_or j.sessions k d) (s.are_sessions k d l));
       parted = all_parted j.tasks j.sessions (all_met ls job p) s.parted;
       controllers = All-map (HasController j.tasks) (bound_session j.tasks) j.sessions (λ k d l. has_controller j.tasks (get_or j.sessions k d).phase (get_or j.sessions k d).by);
@@ -462,10 +443,10 @@ job_keeps ls job p within =
           record {
             phase = t.phase;
             entry = t.entry;
-            private = at_most _ PRIVATE_LIMIT (AllPass-from_list_all _ j.tasks (kept limit.Private) k d l);
+            private = leb-true _ PRIVATE_LIMIT (AllPass-from_list_all _ j.tasks (kept limit.Private) k d l);
             some = t.some;
-            budget = at_most _ BUDGET_LIMIT (AllPass-from_list_all _ j.tasks (kept limit.Budget) k d l);
-            room = at_most _ ROOM_LIMIT (AllPass-from_list_all _ j.tasks (kept limit.Room) k d l);
+            budget = leb-true _ BUDGET_LIMIT (AllPass-from_list_all _ j.tasks (kept limit.Budget) k d l);
+            room = leb-true _ ROOM_LIMIT (AllPass-from_list_all _ j.tasks (kept limit.Room) k d l);
             regs = t.regs;
             cards = t.cards;
           };

@@ -4,6 +4,7 @@ use Rattle.std.proofs.lemmas.List.{map-append}
 use Rattle.std.proofs.Math.Seq.{take-length}
 use Rattle.std.proofs.lemmas.Bool.Decides.{nat_tests}
 use Rattle.std.specs.List.{position, position_or_len}
+use Rattle.std.proofs.lemmas.Option.{cond_some}
 use Rattle.job_text.specs.Words.{words, names_at, names_on}
 use Rattle.cov_base.specs.Names.{name_at}
 use Rattle.job_text.specs.Cards.{as_controlled, controlled_card, long_card}
@@ -46,17 +47,13 @@ pub record Cut (s : List ℕ) (k : ℕ) : Type 0 where
   pub inside : k < length s
   pub is : words s ≡ take k s ∷ words (drop 1 (drop k s))
 
-pub some_is : (q : Bool) (m k : ℕ) → cond q (Some m) None ≡ Some k → (q ≡ true) × (m ≡ k)
-some_is true m k e = (refl, cc)
-some_is false m k e = absurd cc
-
 pub none_is : (q : Bool) (m : ℕ) → cond q (Some m) None ≡ None → q ≡ false
 none_is true m e = absurd cc
 none_is false m e = refl
 
 pub cut_at : (s : List ℕ) (k : ℕ) → position (λ b. nat_eq b 32) s ≡ Some k → Cut s k
 cut_at s k e =
-    let p = some_is (nat_lt (end_of s) (length s)) (end_of s) k e in
+    let p = cond_some (nat_lt (end_of s) (length s)) (end_of s) k e in
     let inside : end_of s < length s = grind (arith, nat_tests, p.0) in
     record { inside = rw (← p.1) inside; is = rw (← p.1, drop_one) (words_cut s inside) }
 

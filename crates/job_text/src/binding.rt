@@ -1,5 +1,5 @@
 //! The tasks that control sessions.
-ghost use Rattle.std.specs.Prelude.{◌≡◌, ℕ, ◌+◌, ◌<◌, ◌≤◌, IfOk, IfSome, length, map, option_and_then};
+ghost use Rattle.std.specs.Prelude.{◌≡◌, ◌<◌, ◌≤◌, IfOk, IfSome, length, map, option_and_then};
 ghost use Rattle.std.specs.List.{list_any, list_all};
 ghost use Rattle.cov_base.specs.declared.limits.TheConstants.{TASK_LIMIT};
 ghost use Rattle.job_text.specs.Drafts as drafts;

@@ -1,6 +1,6 @@
 //! Adds to a job what its cards say.
-ghost use Rattle.std.specs.Prelude.{◌≡◌, ℕ, ◌+◌, ◌≤◌, ◌<◌, ◌&&◌, [], Option, Some, None, IfOk, IfSome, IsErrOf, nat_eq, length, option_map};
-ghost use Rattle.std.specs.List.{list_any, list_all};
+ghost use Rattle.std.specs.Prelude.{◌≡◌, ◌+◌, ◌≤◌, ◌<◌, ◌&&◌, [], Option, Some, None, IfOk, IfSome, nat_eq, length, option_map};
+ghost use Rattle.std.specs.List.{list_any};
 ghost use Rattle.std.specs.Str.{bytes_eq};
 ghost use Rattle.cov_base.specs.declared.limits.TheConstants.{MODULE_LIMIT, PHASE_LIMIT};
 ghost use Rattle.job_text.specs.Drafts.{Present};

@@ -3,7 +3,7 @@ ghost use Rattle.std.specs.Prelude.{◌≡◌, ◌+◌, ◌<◌, ◌≤◌, ◌+
 ghost use Rattle.cov_base.specs.declared.constants.TheConstants.{INPUT_LIMIT};
 ghost use Rattle.session_book.specs.JobView.{JobView};
 ghost use Rattle.job_text.specs.Drafts.{Present};
-ghost use Rattle.job_text.specs.Lines.{LineView, lines_of};
+ghost use Rattle.job_text.specs.Lines.{lines_of};
 ghost use Rattle.job_text.specs.Limits.{IsWithin};
 ghost use Rattle.job_text.specs.Pieces.{IsTold, Feeds, used_of, used_count, is_end};
 ghost use Rattle.job_text.specs.Refusals.{IsRead, IsOnly, IsRefusal};

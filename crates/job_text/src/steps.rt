@@ -4,7 +4,6 @@ ghost use Rattle.cov_base.specs.declared.limits.TheConstants.{PHASE_LIMIT};
 ghost use Rattle.session_book.specs.JobView.{IsJob};
 ghost use Rattle.job_text.specs.CardView as says;
 ghost use Rattle.job_text.specs.Drafts.{Present, bound};
-ghost use Rattle.job_text.specs.Lines.{LineView};
 ghost use Rattle.job_text.specs.Steps as machine;
 ghost use Rattle.job_text.specs.declared.parts.Part.TheVariants as kind;
 ghost use Rattle.job_text.specs.Views.{view};

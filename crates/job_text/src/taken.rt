@@ -2,7 +2,7 @@
 ghost use Rattle.std.specs.Prelude.{◌≡◌, ◌+◌, ◌<◌, ◌≤◌, ◌^◌, ℕ, List, IfOk, IfErr, length, take};
 ghost use Rattle.session_book.specs.JobView.{JobView};
 ghost use Rattle.job_text.specs.Drafts.{Present};
-ghost use Rattle.job_text.specs.Lines.{LineView, lines_of, span};
+ghost use Rattle.job_text.specs.Lines.{lines_of};
 ghost use Rattle.job_text.specs.Limits.{IsWithin};
 ghost use Rattle.job_text.specs.Refusals.{IsRead, IsOnly, IsRefusal};
 ghost use Rattle.job_text.specs.Spells.{Spells};

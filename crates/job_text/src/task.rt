@@ -1,5 +1,5 @@
 //! Takes the cards of a task.
-ghost use Rattle.std.specs.Prelude.{◌≡◌, ℕ, Option, Some, None, IfOk, IfErr};
+ghost use Rattle.std.specs.Prelude.{◌≡◌, Some, IfOk, IfErr};
 ghost use Rattle.job_text.specs.TaskParts as parts;
 ghost use Rattle.job_text.specs.Views.{view};
 

@@ -1,5 +1,5 @@
 //! The words of a card, and the numbers, bytes and addresses that they spell.
-ghost use Rattle.std.specs.Prelude.{◌≡◌, ℕ, ◌+◌, ◌*◌, ◌<◌, ◌≤◌, ◌∷◌, length, map, IfOk, option_map, nat_eq, position};
+ghost use Rattle.std.specs.Prelude.{◌≡◌, ◌+◌, ◌*◌, ◌<◌, map, IfOk, option_map, nat_eq, position};
 ghost use Rattle.std.specs.Str.{bytes_eq};
 ghost use Rattle.std.specs.List.{list_all};
 ghost use Rattle.cov_base.specs.Names.{is_digit};

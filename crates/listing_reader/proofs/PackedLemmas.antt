@@ -28,16 +28,6 @@ code_there codes firsts ordinals i lt =
     let e : nat_eq (get_or ordinals i 0) 0 ≡ false = grind (arith, nat_tests) in
     rw e refl
 
-pub empty : IsPacked [] [] []
-empty =
-    record {
-      started = λ i lt. absurd (omega arith);
-      few = omega arith;
-      low = λ lt. absurd (omega arith);
-      near = λ lt. absurd (omega arith);
-      within = λ i lt some. absurd (omega arith);
-    }
-
 -- a line of lists that agree on what it reads
 same_line : (codes more : List Line) (firsts firsts2 ordinals ordinals2 : List ℕ) (i : ℕ) → get_or ordinals2 i 0 ≡ get_or ordinals i 0 → get_or firsts2 (i / 255) 0 ≡ get_or firsts (i / 255) 0
     → (0 < get_or ordinals i 0 → get_or firsts (i / 255) 0 + get_or ordinals i 0 ≤ length codes) → line_in (codes ++ more) firsts2 ordinals2 i ≡ line_in codes firsts ordinals i
@@ -88,39 +78,6 @@ module _ (codes more : List Line) (firsts ordinals : List ℕ) (ordinal : ℕ) (
   before : (i : ℕ) → i < length ordinals → get_or (ordinals ++ ordinal ∷ []) i 0 ≡ get_or ordinals i 0
   before i lt = get_or_append_left ordinals (ordinal ∷ []) 0 i lt
 
-  last : get_or (ordinals ++ ordinal ∷ []) (length ordinals) 0 ≡ ordinal
-  last = get_or-append_seam ordinals ordinal [] 0
-
-  pub added : IsPacked (codes ++ more) firsts (ordinals ++ ordinal ∷ [])
-  added =
-      let count : length (codes ++ more) ≡ length codes + length more = length-append codes more in
-      let block : length ordinals / 255 ≡ length (ordinals ++ ordinal ∷ []) / 255 → get_or firsts (length (ordinals ++ ordinal ∷ []) / 255) 0 ≡ get_or firsts (length ordinals / 255) 0 = λ e. ap (λ k. get_or firsts k 0) (sym e) in
-      record {
-        started = λ i lt. by_place i (nat_lt i (length ordinals)) refl lt;
-        few = omega (arith, size, p.few);
-        low = λ lt. omega (arith, count, block (omega (arith, size, p.few)), p.low is);
-        near = λ lt. (let same : length ordinals / 255 ≡ (length ordinals + 1) / 255 = omega (arith, size, p.few) in omega (arith, size, count, block (omega (arith, size, p.few)), p.near is));
-        within = λ i lt some. own i (nat_lt i (length ordinals)) refl lt some;
-      }
-    where
-      by_place : (i : ℕ) (t : Bool) → nat_lt i (length ordinals) ≡ t → i < length (ordinals ++ ordinal ∷ []) → i / 255 < length firsts
-      by_place i true e lt = p.started i (grind (arith, nat_tests))
-      by_place i false e lt =
-          let ge : length ordinals ≤ i = grind (arith, nat_tests) in
-          let same : i ≡ length ordinals = omega (arith, size) in
-          rw same is
-
-      own : (i : ℕ) (t : Bool) → nat_lt i (length ordinals) ≡ t → i < length (ordinals ++ ordinal ∷ []) → 0 < get_or (ordinals ++ ordinal ∷ []) i 0 → get_or firsts (i / 255) 0 + get_or (ordinals ++ ordinal ∷ []) i 0 ≤ length (codes ++ more)
-      own i true e lt some =
-          let front : i < length ordinals = grind (arith, nat_tests) in
-          omega (arith, before i front, length-append codes more, p.within i front (omega (arith, before i front)))
-      own i false e lt some =
-          let ge : length ordinals ≤ i = grind (arith, nat_tests) in
-          let same : i ≡ length ordinals = omega (arith, size) in
-          let there : get_or (ordinals ++ ordinal ∷ []) i 0 ≡ ordinal = rw same last in
-          let block : get_or firsts (i / 255) 0 ≡ get_or firsts (length ordinals / 255) 0 = ap (λ k. get_or firsts (k / 255) 0) same in
-          omega (arith, there, block, length-append codes more, number (omega (arith, there)))
-
   pub added_lines : (line : Line) → line_in (codes ++ more) firsts (ordinals ++ ordinal ∷ []) (length ordinals) ≡ line → lines_in (codes ++ more) firsts (ordinals ++ ordinal ∷ []) ≡ lines_in codes firsts ordinals ++ line ∷ []
   unfolding lines_in
   added_lines line says =
@@ -132,9 +89,6 @@ module _ (codes more : List Line) (firsts ordinals : List ℕ) (ordinal : ℕ) (
 
 -- a further text line
 module _ (codes : List Line) (firsts ordinals : List ℕ) (p : IsPacked codes firsts ordinals) (is : length ordinals / 255 < length firsts) where
-  pub text_added : IsPacked codes firsts (ordinals ++ 0 ∷ [])
-  text_added = rw (← append-nil codes) (added codes [] firsts ordinals 0 p is (omega arith) (λ some. absurd (omega arith)))
-
   pub text_added_lines : lines_in codes firsts (ordinals ++ 0 ∷ []) ≡ lines_in codes firsts ordinals ++ Text ∷ []
   text_added_lines =
       let more = added_lines codes [] firsts ordinals 0 p is (omega arith) (λ some. absurd (omega arith)) Text (text_there (codes ++ []) firsts (ordinals ++ 0 ∷ []) (length ordinals) (get_or-append_seam ordinals 0 [] 0)) in
@@ -142,9 +96,6 @@ module _ (codes : List Line) (firsts ordinals : List ℕ) (p : IsPacked codes fi
 
 -- a further instruction line
 module _ (codes : List Line) (firsts ordinals : List ℕ) (code : Line) (ordinal : ℕ) (p : IsPacked codes firsts ordinals) (is : length ordinals / 255 < length firsts) (at : ordinal ≡ length codes - get_or firsts (length ordinals / 255) 0 + 1) where
-  pub code_added : IsPacked (codes ++ code ∷ []) firsts (ordinals ++ ordinal ∷ [])
-  code_added = added codes (code ∷ []) firsts ordinals ordinal p is (omega arith) (λ some. omega (arith, p.low is))
-
   pub code_added_lines : lines_in (codes ++ code ∷ []) firsts (ordinals ++ ordinal ∷ []) ≡ lines_in codes firsts ordinals ++ code ∷ []
   code_added_lines =
       let there : get_or (ordinals ++ ordinal ∷ []) (length ordinals) 0 ≡ ordinal = get_or-append_seam ordinals ordinal [] 0 in

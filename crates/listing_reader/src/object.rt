@@ -2,7 +2,6 @@
 ghost use Rattle.std.specs.Prelude.{◌≡◌, ◌+◌, ◌*◌, ◌<◌, ◌≤◌, ◌^◌, ◌==◌, IfSome};
 ghost use Rattle.cov_base.specs.Codes.{length_of};
 ghost use Rattle.s370_decode.specs.Fields.{first_half};
-ghost use Rattle.hex.specs.Hex.{is_hex_digit};
 ghost use Rattle.listing_reader.specs.Fields.{fits_groups, are_groups, byte_in, byte_of, code_in, code_with, object_of};
 
 use crate::fields::{digit, is_blank_at};

@@ -1,7 +1,6 @@
 //! The operation of a source statement.
-ghost use Rattle.std.specs.Prelude.{◌≡◌, ◌≤◌, ◌<◌, map, length, position, not};
+ghost use Rattle.std.specs.Prelude.{◌≡◌, ◌≤◌, ◌<◌, map, position, not};
 ghost use Rattle.std.specs.Char.{to_ascii_uppercase};
-ghost use Rattle.std.specs.List.{position_or_len};
 ghost use Rattle.s370_decode.specs.Mnemonics.{is_mnemonic};
 ghost use Rattle.listing_reader.specs.Fields.{is_blank, skip_blanks, run_of, after_run, source_of, operation_of, has_mnemonic};
 

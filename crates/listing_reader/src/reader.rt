@@ -1,5 +1,5 @@
 //! Reads a whole listing.
-ghost use Rattle.std.specs.Prelude.{◌≡◌, ◌+◌, ◌≤◌, ◌<◌, ◌++◌, ◌⊎◌, length, Option, IfOk, IfErr, OnOk, OnErr, option_map, replicate, position, drop, IfSome, true};
+ghost use Rattle.std.specs.Prelude.{◌≡◌, ◌+◌, ◌≤◌, ◌<◌, ◌++◌, ◌⊎◌, length, Option, IfOk, IfErr, OnOk, option_map, replicate, position, drop, IfSome, true};
 ghost use Rattle.std.specs.declared.option.Option.TheVariants.{Some, None};
 ghost use Rattle.std.specs.List.{AllPass};
 ghost use Rattle.listing_lines.specs.Columns.{AreColumns};

@@ -1,7 +1,7 @@
 -- The first bad field of fields one after another, and the tests of one record's fields.
 use Rattle.std.proofs.Common.{◌≡◌, ℕ, ◌+◌, ◌≤◌, Bool, true, false, ◌&&◌, nat_le, if◌then◌else◌, Option, Some, None, List, [], ◌∷◌, ◌++◌, length, take, drop, slice_index, refl, sym, ◌∙◌, arith}
 use Rattle.std.specs.List.{list_all}
-use Rattle.std.proofs.lemmas.Bool.Decides.{nat_tests}
+use Rattle.std.proofs.lemmas.Bool.{le-leb}
 use Rattle.byteorder.specs.Endian.{big_number}
 use Rattle.marks_file.specs.Marks.{MarkedView, kind_of_number, is_location, is_length, is_original, is_set, is_new_name, is_base, is_size, is_count, place_count}
 use Rattle.marks_file.specs.Reading.{Field, first_bad, place_fields, header_fields, count_at}
@@ -45,12 +45,9 @@ pub all_good : (fs : List Field) → first_bad fs ≡ None → list_all (λ (f :
 all_good [] h = refl
 all_good (f ∷ fs) h = all_here f.good f.at (first_bad fs) (list_all (λ (g : Field). g.good) fs) (all_good fs) h
 
-pub test_of_le : (a b : ℕ) → a ≤ b → nat_le a b ≡ true
-test_of_le a b h = grind (arith, nat_tests)
-
 -- a field that is whole and keeps its rule
 whole : (k n : ℕ) (b : Bool) → k ≤ n → b ≡ true → (nat_le k n && b) ≡ true
-whole k n b h e = rw (test_of_le k n h, e) refl
+whole k n b h e = rw (le-leb k n h, e) refl
 
 -- the bytes begin with a place's record
 pub record IsPlaceRecord (size end : ℕ) (bs : List ℕ) : Type 0 where
@@ -87,7 +84,7 @@ pub place_none : (at size end : ℕ) (bs : List ℕ) → IsPlaceRecord size end 
 unfolding place_fields
 place_none at size end bs r =
     let room = r.room in
-    rw (whole 4 (length bs) _ (omega arith) r.location, whole 5 (length bs) _ (omega arith) r.long, whole 6 (length bs) _ (omega arith) (test_of_le (slice_index bs 5) 1 r.kind), whole 8 (length bs) _ (omega arith) r.original, whole 9 (length bs) _ room r.set) refl
+    rw (whole 4 (length bs) _ (omega arith) r.location, whole 5 (length bs) _ (omega arith) r.long, whole 6 (length bs) _ (omega arith) (le-leb (slice_index bs 5) 1 r.kind), whole 8 (length bs) _ (omega arith) r.original, whole 9 (length bs) _ room r.set) refl
 
 -- the bytes begin with a module's record, behind these modules
 pub record IsModuleRecord (earlier : List MarkedView) (bs : List ℕ) : Type 0 where

@@ -1,9 +1,10 @@
 -- Whole files: what was spelled is read back, and no spelling begins another.
-use Rattle.std.proofs.Common.{◌≡◌, ℕ, ◌+◌, ◌*◌, ◌≤◌, ◌<◌, ◌^◌, suc, Option, None, Some, Result, Ok, Err, IfOk, true, false, ◌&&◌, nat_le, List, [], ◌∷◌, ◌++◌, length, take, drop, slice_index, refl, ap, sym, ◌∙◌, subst, arith, append_assoc, length-append}
+use Rattle.std.proofs.Common.{◌≡◌, ℕ, ◌+◌, ◌*◌, ◌≤◌, ◌<◌, ◌^◌, suc, Option, None, Some, Result, Ok, Err, IfOk, true, ◌&&◌, nat_le, List, [], ◌∷◌, ◌++◌, length, take, drop, slice_index, refl, ap, sym, ◌∙◌, subst, arith, append_assoc, length-append}
 use Rattle.std.specs.List.{flat_map}
 use Rattle.std.specs.Io.{StartsWith}
 use Rattle.std.proofs.lemmas.List.{drop-drop, take-append-drop}
 use Rattle.std.proofs.Math.Seq.{drop-append_seam, take-append_seam, take-length}
+use Rattle.std.proofs.lemmas.Bool.{le-leb}
 use Rattle.byteorder.specs.Endian.{big_number, big_bytes}
 use Rattle.byteorder.specs.Numbers.{big_number-reads_back}
 use Rattle.cov_base.specs.Names.{is_filled}
@@ -16,7 +17,7 @@ use Rattle.marks_file.specs.declared.fault.MarksFault.TheVariants.{BadMarks, NoM
 use Rattle.marks_file.specs.declared.version.Version.{Version}
 use Rattle.marks_file.specs.declared.version.Version.TheVariants.{First, Second}
 use Rattle.marks_file.proofs.MarksLemmas.{both-left, both-right, both, le_of_test, marks_count}
-use Rattle.marks_file.proofs.FieldLemmas.{header_none, first_none, test_of_le}
+use Rattle.marks_file.proofs.FieldLemmas.{header_none, first_none}
 use Rattle.marks_file.proofs.SpellLemmas.{AreBytes, bytes_later, ArePlacesRead, places_read}
 use Rattle.marks_file.proofs.ModuleLemmas.{IsHeaderRead, header_read_back, length-filled, table_spelled}
 use Rattle.marks_file.proofs.HeadingLemmas.{IsHeading, heading_is, told, told_all, IsHeadingRead, heading_read}
@@ -115,10 +116,6 @@ modules_read at earlier (m ∷ ms) rest h =
           ∙ (ap (λ t. first_bad (modules_fields (at + size) (earlier ++ m ∷ []) n t)) one.rest_is ∙ more.good)));
     }
 
--- the fields from the number of modules on
-pub count_bad : (at : ℕ) (bs : List ℕ) → (nat_le 2 (length bs) && is_module_count (big_number 2 bs)) ≡ false → first_bad (table_fields at bs) ≡ Some at
-count_bad at bs h = let here : at + 0 ≡ at = omega arith in rw h (ap Some here)
-
 pub count_good : (at : ℕ) (bs : List ℕ) → (nat_le 2 (length bs) && is_module_count (big_number 2 bs)) ≡ true → first_bad (table_fields at bs) ≡ first_bad (modules_fields (at + 2) [] (big_number 2 bs) (drop 2 bs))
 count_good at bs h = rw h refl
 
@@ -128,7 +125,7 @@ pub record IsTableRead (at : ℕ) (ms : List MarkedView) (bs : List ℕ) : Type 
 
 table_found : (at : ℕ) (ms : List MarkedView) (bs after : List ℕ) → 2 ≤ length bs → big_number 2 bs ≡ length ms → drop 2 bs ≡ after → is_module_count (length ms) ≡ true → AreModulesRead (at + 2) [] ms after → IsTableRead at ms bs
 table_found at ms bs after room count rest few read =
-    let t : (nat_le 2 (length bs) && is_module_count (big_number 2 bs)) ≡ true = both (nat_le 2 (length bs)) (is_module_count (big_number 2 bs)) (test_of_le 2 (length bs) room) (ap is_module_count count ∙ few) in
+    let t : (nat_le 2 (length bs) && is_module_count (big_number 2 bs)) ≡ true = both (nat_le 2 (length bs)) (is_module_count (big_number 2 bs)) (le-leb 2 (length bs) room) (ap is_module_count count ∙ few) in
     record {
       value = ap (λ k. modules_at k (drop 2 bs)) count ∙ (ap (λ t. modules_at (length ms) t) rest ∙ read.value);
       good = count_good at bs t

@@ -2,6 +2,7 @@
 use Rattle.std.proofs.Common.{◌≡◌, ℕ, ◌≤◌, ◌<◌, ◌^◌, Bool, true, false, ◌&&◌, ◌||◌, nat_le, if◌then◌else◌, Option, Some, None, List, [], ◌∷◌, ◌++◌, length, take, drop, refl, ap, sym, ◌∙◌, arith, append_assoc, length-append}
 use Rattle.std.specs.Str.{bytes_eq}
 use Rattle.std.proofs.lemmas.List.{drop-drop, take-append-drop}
+use Rattle.std.proofs.lemmas.Bool.{le-leb}
 use Rattle.byteorder.specs.Endian.{big_number, big_bytes}
 use Rattle.byteorder.specs.Numbers.{big_number-reads_back, big_from-lt}
 use Rattle.cov_base.specs.Names.{is_filled}
@@ -11,7 +12,7 @@ use Rattle.marks_file.specs.Reading.{first_bad, field, is_magic, version_of, tab
 use Rattle.marks_file.specs.declared.version.Version.{Version}
 use Rattle.marks_file.specs.declared.version.Version.TheVariants.{First, Second}
 use Rattle.marks_file.proofs.MarksLemmas.{both-left, both-right, both, le_of_test, same_bytes}
-use Rattle.marks_file.proofs.FieldLemmas.{all_good, test_of_le}
+use Rattle.marks_file.proofs.FieldLemmas.{all_good}
 use Rattle.marks_file.proofs.SpellLemmas.{AreBytes, bytes_later}
 use Rattle.marks_file.proofs.ModuleLemmas.{word_at, length-filled}
 
@@ -71,7 +72,7 @@ begins v bs e = ap (λ t. t ++ drop 8 bs) (sym e) ∙ take-append-drop 8 bs
 
 runs_good : (bs : List ℕ) → AreBytes bs → nat_le 1 (big_number 4 bs) ≡ true → is_runs (big_number 4 bs) ≡ true
 unfolding is_runs
-runs_good bs u h = let small = big_from-lt 0 4 bs u in both (nat_le 1 (big_number 4 bs)) _ h (test_of_le (big_number 4 bs) most_runs (omega arith))
+runs_good bs u h = let small = big_from-lt 0 4 bs u in both (nat_le 1 (big_number 4 bs)) _ h (le-leb (big_number 4 bs) most_runs (omega arith))
 
 pub heading_is : (v : Version) (at : ℕ) (bs : List ℕ) → AreBytes bs → version_of bs ≡ v → first_bad (heading_fields at bs) ≡ None → IsHeading v bs
 unfolding is_runs named_if
@@ -171,13 +172,13 @@ session_good : (at : ℕ) (bs : List ℕ) → version_of bs ≡ Second → is_ma
 unfolding heading_fields
 session_good at bs e head name runs room =
     ap (λ w. first_bad (field at bs 0 8 (is_magic (take 8 bs)) ∷ session_fields w at bs)) e
-    ∙ rw (both _ _ (test_of_le 8 (length bs) (omega arith)) head, both _ _ (test_of_le 16 (length bs) (omega arith)) name, both _ _ (test_of_le 20 (length bs) room) runs) refl
+    ∙ rw (both _ _ (le-leb 8 (length bs) (omega arith)) head, both _ _ (le-leb 16 (length bs) (omega arith)) name, both _ _ (le-leb 20 (length bs) room) runs) refl
 
 first_good : (at : ℕ) (bs : List ℕ) → version_of bs ≡ First → is_magic (take 8 bs) ≡ true → 8 ≤ length bs → first_bad (heading_fields at bs) ≡ None
 unfolding heading_fields
 first_good at bs e head room =
     ap (λ w. first_bad (field at bs 0 8 (is_magic (take 8 bs)) ∷ session_fields w at bs)) e
-    ∙ rw (both _ _ (test_of_le 8 (length bs) room) head) refl
+    ∙ rw (both _ _ (le-leb 8 (length bs) room) head) refl
 
 pub heading_read : (v : Version) (at : ℕ) (m : MarksView) (rest : List ℕ) → is_session_name m.name ≡ true → is_runs m.runs ≡ true → IsHeadingRead v at m rest (magic v ++ (session_bytes v m ++ rest))
 heading_read First at m rest name runs = record {

@@ -1,5 +1,5 @@
 -- What the loop over modules keeps.
-use Rattle.std.proofs.Common.{◌≡◌, ℕ, ◌+◌, ◌-◌, ◌*◌, ◌≤◌, ◌<◌, suc, None, List, [], ◌∷◌, ◌++◌, length, drop, refl, ap, sym, ◌∙◌, arith, append_assoc, length-append, length-drop}
+use Rattle.std.proofs.Common.{◌≡◌, ℕ, ◌+◌, ◌-◌, ◌*◌, ◌≤◌, ◌<◌, suc, None, List, [], ◌∷◌, ◌++◌, length, drop, ap, sym, ◌∙◌, arith, append_assoc, length-append, length-drop}
 use Rattle.std.specs.List.{flat_map}
 use Rattle.std.proofs.lemmas.List.{drop-drop}
 use Rattle.std.proofs.lemmas.Grind.{flat_map-append}
@@ -20,18 +20,6 @@ pub record ModulesSoFar (input : List ℕ) (from count at i before : ℕ) (modul
   pub places : before ≡ place_count modules
   pub few : before ≤ 65536
   pub end : at ≡ from + length (flat_map module_bytes modules)
-
-pub modules_start : (input : List ℕ) (from count : ℕ) → from ≤ length input → ModulesSoFar input from count from 0 0 []
-modules_start input from count h =
-    let n : count ≡ count - 0 = omega arith in
-    record {
-      inside = h;
-      fields = ap (λ k. first_bad (modules_fields from [] k (drop from input))) n;
-      value = ap (λ k. modules_at k (drop from input)) n;
-      places = refl;
-      few = omega arith;
-      end = omega arith;
-    }
 
 place_count-append : (ms : List MarkedView) (m : MarkedView) → place_count (ms ++ m ∷ []) ≡ place_count ms + length m.places
 place_count-append [] m = omega arith

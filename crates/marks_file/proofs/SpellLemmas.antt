@@ -1,8 +1,8 @@
 -- Records that are read spell the bytes that they were read from, and what was spelled is read back.
 use Rattle.std.proofs.Common.{◌≡◌, ℕ, ◌+◌, ◌*◌, ◌/◌, ◌%◌, ◌≤◌, ◌<◌, ◌^◌, zero, suc, Bool, None, true, false, nat_lt, nat_le, List, [], ◌∷◌, ◌++◌, length, drop, slice_index, refl, ap, sym, ◌∙◌, arith, append_assoc, length-drop}
-use Rattle.std.proofs.lemmas.Bool.Decides.{nat_tests}
 use Rattle.std.proofs.lemmas.List.{drop-drop, get_or-drop}
 use Rattle.std.specs.List.{flat_map}
+use Rattle.std.proofs.lemmas.Bool.{ltb-true}
 use Rattle.byteorder.specs.Endian.{big_number, big_bytes}
 use Rattle.byteorder.specs.Numbers.{big_number-reads_back}
 use Rattle.cov_base.specs.FactSet.{FactSet, facts_of_number, number_of_facts, number_of_facts-facts_of_number}
@@ -21,9 +21,6 @@ AreBytes bs = (i : ℕ) → slice_index bs i < 256
 
 pub bytes_later : (n : ℕ) (bs : List ℕ) → AreBytes bs → AreBytes (drop n bs)
 bytes_later n bs u i = let e = get_or-drop n bs i 0 in let h = u (n + i) in omega (arith, e, h)
-
-pub lt_of_test : (a b : ℕ) → nat_lt a b ≡ true → a < b
-lt_of_test a b h = grind (arith, nat_tests)
 
 -- four bytes are those of the number that they are read as
 pub word_spelled : (a b c d : ℕ) (rest : List ℕ) → a < 256 → b < 256 → c < 256 → d < 256 → big_bytes 4 (big_number 4 (a ∷ b ∷ c ∷ d ∷ rest)) ≡ a ∷ b ∷ c ∷ d ∷ []
@@ -87,7 +84,7 @@ joined_place w h e k s a b c d f g i j rest ew ek eh es = rw (ew, ek, eh, es) re
 
 set_small : (k : Kind) (n : ℕ) → is_set k n ≡ true → n < 8
 unfolding is_set
-set_small k n h = lt_of_test n 8 (both-left (nat_lt n 8) _ h)
+set_small k n h = ltb-true n 8 (both-left (nat_lt n 8) _ h)
 
 pub place_spelled : (size end : ℕ) (bs : List ℕ) → AreBytes bs → IsPlaceRecord size end bs → place_bytes (place_at bs) ++ drop 9 bs ≡ bs
 unfolding place_at
@@ -121,7 +118,7 @@ location_small size end at len few h = let inside = le_of_test (at + len) size (
 
 half_small : (len : ℕ) (k : Kind) (half : ℕ) → is_original len k half ≡ true → half < 256 ^ 2
 unfolding is_original
-half_small len k half h = let small = lt_of_test half 65536 (both-left (nat_lt half 65536) _ h) in omega arith
+half_small len k half h = let small = ltb-true half 65536 (both-left (nat_lt half 65536) _ h) in omega arith
 
 same_place : (l o : ℕ) (k : Kind) (s : FactSet) (p : MarkedPlace) → l ≡ p.location → o ≡ p.original → k ≡ p.kind → s ≡ p.set → ◌≡◌ {A = MarkedPlace} (record { location = l; len = p.len; kind = k; original = o; set = s }) p
 same_place l o k s p e1 e2 e3 e4 = rw (e1, e2, e3, e4) refl

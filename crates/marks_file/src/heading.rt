@@ -1,8 +1,7 @@
 //! What stands before a file's modules: its magic, and in version 2 the session's name and the runs.
 ghost use Rattle.std.specs.Prelude.{◌≡◌, ◌+◌, ◌<◌, ◌≤◌, ◌^◌, ◌&&◌, length, true, false, take, drop, nat_le, None, Some, IfOk, OnOk, IfErr, IfSome, IsNone};
 ghost use Rattle.byteorder.specs.Endian.{big_number};
-ghost use Rattle.marks_file.specs.Marks.{is_session_name, is_runs};
-ghost use Rattle.marks_file.specs.Reading.{first_bad, is_magic, version_of, table_from, is_name_field, named, name_at, runs_at, session_fields, heading_fields};
+ghost use Rattle.marks_file.specs.Reading.{first_bad, is_magic, version_of, table_from, is_name_field, named, name_at, runs_at, heading_fields};
 
 use crate::fault::BadField;
 use crate::version::Version;

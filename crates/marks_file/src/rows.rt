@@ -1,5 +1,5 @@
 //! The rows of a marks file's table, and its records.
-ghost use Rattle.std.specs.Prelude.{◌≡◌, ◌≤◌, ◌<◌, ◌+◌, ◌^◌, length, true};
+ghost use Rattle.std.specs.Prelude.{◌≡◌, ◌^◌, length};
 ghost use Rattle.marks_file.specs.Marks.{HasRow};
 ghost use Rattle.marks_file.specs.MarksFile.{module_row, place_row, place_bytes};
 

@@ -1,8 +1,7 @@
 //! The rules of the fields.
-ghost use Rattle.std.specs.Prelude.{◌≡◌, ◌≤◌, ◌<◌, ◌+◌, length, true, nat_le};
-ghost use Rattle.std.specs.List.{list_all, list_any};
-ghost use Rattle.std.specs.Str.{bytes_eq};
-ghost use Rattle.marks_file.specs.Marks.{is_location, is_length, is_original, is_set, is_base, is_clear, is_size, is_count, is_module_count, place_count};
+ghost use Rattle.std.specs.Prelude.{◌≡◌, ◌≤◌, ◌<◌, ◌+◌, length, nat_le};
+ghost use Rattle.std.specs.List.{list_all};
+ghost use Rattle.marks_file.specs.Marks.{is_location, is_length, is_original, is_set, is_base, is_clear, is_size, is_count, is_module_count};
 
 use crate::marks::MarkedModule;
 use crate::numbers::{kind_number, set_of_number};

@@ -31,9 +31,6 @@ module _ (plan : PlanView) (cell : Cells) (sets : Sets) (views : List View) (r :
     fine : original_at plan p ≢ breakpoint
     fine = r.is_plan.no_breakpoint p l
 
-    o : ℕ
-    o = original_at plan p
-
     by_cell : (P : ℕ → Cell → Type 0) (q : ℕ) → q < length plan.places → (cell p ≡ planted s → P p (lifted s (original_at plan p))) → (cell p ≢ planted s → P p (cell p)) → (q ≢ p → P q (cell q)) → P q (cell' q)
     by_cell P q lq hit miss other = dite (ℕ_discrete q p)
         (λ e. subst (λ z. P z (cell' z)) (sym e) (⊎_elim

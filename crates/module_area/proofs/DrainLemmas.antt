@@ -1,5 +1,6 @@
 -- Each kind of step keeps the rule's part on task words.
 use Rattle.std.proofs.Common.{◌≡◌, ◌≢◌, ◌⊎◌, ℕ, ◌*◌, ◌%◌, ◌<◌, ◌≤◌, Bool, true, false, not, nat_eq, if◌then◌else◌, Some, None, List, [], ◌∷◌, ◌++◌, length, set, sym, refl, ap, ◌∙◌, subst, inl, inr, ⊎_elim, arith, eq-eqb, eqb-true}
+use Rattle.std.proofs.lemmas.Option.{none-some}
 use mathlib.Core.Option.{some, some-injective}
 use mathlib.Core.Logic.{dite}
 use native.Mathlib.Decide.{ℕ_discrete}
@@ -16,9 +17,6 @@ use Rattle.module_area.specs.Drained.{Noted, IsOverAt, IsPast, IsNumber, IsSettl
 use Rattle.module_area.proofs.PartyLemmas.{has-append, has-add_if, at_set, all_set, all_snoc, all_two, kept_tag, no_tag, first_tag, dropped_tag}
 use Rattle.module_area.proofs.StepLemmas.{task_not_root, spent_not_task}
 
-nothing_pends : {x : ℕ × ℕ} → (None ≡ Some x) → ⊥
-nothing_pends e = cc
-
 module _ (plan : PlanView) (cell : ℕ → Cell) (sets : ℕ → ℕ → FactSet) (word : ℕ → ℕ) (views : List View) (h : Held plan cell sets views) (r : Drained plan cell sets word views) (id : ℕ) (v : View) (at : get_elem? views id ≡ some v) where
   -- a task that is known past a session has no answer of it pending, and the session is closed
   pub past_idle : (s t p : ℕ) → 0 < s → IsPast plan v s t → is_controlled plan s p ≡ true → (i : ℕ) (u : View) → get_elem? views i ≡ some u → u.role ≡ Task t → u.pending ≢ Some (p, window_tag s)
@@ -26,12 +24,9 @@ module _ (plan : PlanView) (cell : ℕ → Cell) (sets : ℕ → ℕ → FactSet
       let low : word e.0 ≤ e.1 = r.late id v e i u s p at past.1 pos (past.3 p its) there bears pend in
       ⊎_elim
       (λ (odd : e.1 % 2 ≡ 1). let high : e.1 ≤ word e.0 = r.noted id v e at past.1 in let same : e.1 ≡ word e.0 = omega arith in
-      nothing_pends (sym (r.ended i u e.0 there bears (ap (λ k. k % 2) (sym same) ∙ odd)) ∙ pend))
+      none-some _ (sym (r.ended i u e.0 there bears (ap (λ k. k % 2) (sym same) ∙ odd)) ∙ pend))
       (λ (n, seen, has, more). let high : n ≤ word t = r.noted id v (t, n, seen) at has in let same : word e.0 ≡ word t = ap word past.2 in absurd (omega arith))
       past.4
-
-  pub past_tag : (s t p : ℕ) → IsPast plan v s t → is_controlled plan s p ≡ true → (p < length plan.places) × (2 * s ≤ (cell p).tag)
-  past_tag s t p past its = let o = past.3 p its in let x = r.noted_seen id v past.0 p o.0 at past.1 o.1 in let y = o.2 in let z = x.1 in (x.0, omega (arith, y, z))
 
   -- what is left to show of a step that takes the view v of the party id to w
   pub record Turns (cell' : ℕ → Cell) (sets' : ℕ → ℕ → FactSet) (word' : ℕ → ℕ) (w : View) : Type 0 where
@@ -178,7 +173,7 @@ module _ (plan : PlanView) (cell : ℕ → Cell) (sets : ℕ → ℕ → FactSet
     idle = λ _. refl;
     ended = λ _ _ _. refl;
     number = λ u task. subst (IsNumber (bounding t n v) u (word' u)) (sym bears) (λ e. ap word' (sym e) ∙ (here ∙ ap (λ b. if b then n else last_tag u v.numbers) (sym (eq-eqb t u e))));
-    fresh = λ s p pos e. absurd (nothing_pends e);
+    fresh = λ s p pos e. absurd (none-some _ e);
     noted = λ e has. inl has;
     stay = λ s p _ _ _. refl;
     settled = λ s p x has. inl has;
@@ -212,8 +207,8 @@ module _ (plan : PlanView) (cell : ℕ → Cell) (sets : ℕ → ℕ → FactSet
   all_past s p pos its mine others i u there = by_role u.role refl
     where
       by_role : (q : Role) → u.role ≡ q → u.pending ≢ Some (p, window_tag s)
-      by_role Root is e = nothing_pends (sym (r.idle i u there is) ∙ e)
-      by_role Spent is e = nothing_pends (ap (λ (z : View). z.pending) (sym (h.spent i u there is)) ∙ e)
+      by_role Root is e = none-some _ (sym (r.idle i u there is) ∙ e)
+      by_role Spent is e = none-some _ (ap (λ (z : View). z.pending) (sym (h.spent i u there is)) ∙ e)
       by_role (Task t) is e = dite (ℕ_discrete i id)
           (λ same. mine (ap (λ (z : View). z.pending) (some-injective v u (sym at ∙ (ap (get_elem? views) (sym same) ∙ there))) ∙ e))
           (λ other. past_idle s t p pos (others t (r.tasks i u t there is) (λ own. other (h.apart i id u v t there at is own))) its i u there is e)
@@ -270,10 +265,10 @@ module _ (plan : PlanView) (cell : ℕ → Cell) (sets : ℕ → ℕ → FactSet
           noted_seen = λ j u e p x now has there. all_snoc (λ _ u. Has e u.noted → (p < length plan.places) × (x ≤ (cell p).tag)) vs o (λ j u here has. g.noted_seen j u e p x here has there) (λ none. absurd none) j u now has;
           ended = λ j u q now bears odd. all_snoc (λ _ u. u.role ≡ Task q → u.pending ≡ None) vs o (λ j u there e. g.ended j u q there e odd) (λ _. refl) j u now bears;
           late = λ j z e i u s p now has pos over here bears pend. all_snoc (λ _ y. Has e y.noted → word e.0 ≤ e.1) vs o
-              (λ j y there had. all_snoc (λ _ y. y.role ≡ Task e.0 → y.pending ≡ Some (p, window_tag s) → word e.0 ≤ e.1) vs o (λ i u at_u. g.late j y e i u s p there had pos over at_u) (λ _ none. absurd (nothing_pends none)) i u here bears pend)
+              (λ j y there had. all_snoc (λ _ y. y.role ≡ Task e.0 → y.pending ≡ Some (p, window_tag s) → word e.0 ≤ e.1) vs o (λ i u at_u. g.late j y e i u s p there had pos over at_u) (λ _ none. absurd (none-some _ none)) i u here bears pend)
               (λ none. absurd none) j z now has;
           settled = λ j u s p x now has. all_snoc (λ _ u. Has (s, p, x) u.settled → (p < length plan.places) × (0 < s) × IsSettled cell sets (vs ++ o ∷ []) s p x) vs o
-              (λ j u there had. let y = g.settled j u s p x there had in (y.0, y.1, record { set = y.2.set; tag = y.2.tag; idle = all_snoc (λ _ z. z.pending ≢ Some (p, window_tag s)) vs o y.2.idle nothing_pends }))
+              (λ j u there had. let y = g.settled j u s p x there had in (y.0, y.1, record { set = y.2.set; tag = y.2.tag; idle = all_snoc (λ _ z. z.pending ≢ Some (p, window_tag s)) vs o y.2.idle (none-some _) }))
               (λ none. absurd none) j u now has;
         }
 
@@ -324,7 +319,7 @@ module _ (plan : PlanView) (cell : ℕ → Cell) (sets : ℕ → ℕ → FactSet
         record {
           set = y.2.set;
           tag = y.2.tag;
-          idle = all_two (λ _ z. z.pending ≢ Some (p, window_tag s)) views id k w (blank Spent) (y.2.idle id v at) nothing_pends (λ j z _ _ here. y.2.idle j z here);
+          idle = all_two (λ _ z. z.pending ≢ Some (p, window_tag s)) views id k w (blank Spent) (y.2.idle id v at) (none-some _) (λ j z _ _ here. y.2.idle j z here);
         },
       );
     }

@@ -1,5 +1,5 @@
 -- Sets stand at different indices, and tests on booleans.
-use Rattle.std.proofs.Common.{◌≡◌, ℕ, ◌+◌, ◌-◌, ◌*◌, ◌<◌, ◌≤◌, Bool, true, false, ◌&&◌, ◌||◌, refl, sym, arith}
+use Rattle.std.proofs.Common.{◌≡◌, ℕ, ◌+◌, ◌-◌, ◌*◌, ◌<◌, ◌≤◌, Bool, true, false, ◌&&◌, refl, sym, arith}
 use Rattle.module_area.specs.FinalsView.{index_of}
 
 pub row_below : (a b n : ℕ) → a < b → a * n + n ≤ b * n
@@ -8,16 +8,6 @@ row_below a b n h = grind arith
 pub index_below : (places sessions s p : ℕ) → 0 < s → s ≤ sessions → p < places → index_of places s p < sessions * places
 index_below places sessions s p pos within lt =
     let step : (s - 1) * places + places ≤ sessions * places = row_below (s - 1) sessions places (omega arith) in
-    omega arith
-
-row_le : (a b n : ℕ) → a ≤ b → a * n ≤ b * n
-row_le a b n h = grind arith
-
-pub session_within : (places sessions s p : ℕ) → 0 < s → p < places → index_of places s p < sessions * places → s ≤ sessions
-session_within places sessions s p pos lt h =
-    let never : sessions < s → ⊥ = λ above.
-    let step : sessions * places ≤ (s - 1) * places = row_le sessions (s - 1) places (omega arith) in
-    omega arith in
     omega arith
 
 not_lower : (places t q s p : ℕ) → 0 < t → q < places → index_of places t q ≡ index_of places s p → t < s → ⊥
@@ -36,14 +26,6 @@ same_index places t q s p t0 s0 q_in p_in e =
     let high = not_lower places s p t q s0 p_in (sym e) in
     let same : t ≡ s = omega arith in
     (same, same_place places t q s p same e)
-
-pub or_absorbed : (a b : Bool) → (b ≡ true → a ≡ true) → (a || b) ≡ a
-or_absorbed true b h = refl
-or_absorbed false true h = sym (h refl)
-or_absorbed false false h = refl
-
-pub absorbs : (a b : Bool) → (b ≡ true → a ≡ true) → a ≡ (a || b)
-absorbs a b h = sym (or_absorbed a b h)
 
 pub and_left : (a b : Bool) → (a && b) ≡ true → a ≡ true
 and_left true b h = refl

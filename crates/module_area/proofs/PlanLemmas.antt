@@ -1,6 +1,7 @@
 -- What the sessions of a plan say of a place.
-use Rattle.std.proofs.Common.{◌≡◌, ◌⊎◌, ℕ, zero, suc, ◌<◌, ◌≤◌, Bool, true, false, ◌&&◌, ◌||◌, nat_eq, nat_lt, List, [], ◌∷◌, length, get_or, Contains, sym, refl, ap, ◌∙◌, inl, inr, ⊎_elim, arith, eqb-true, eq-eqb, lt_of_not-le}
+use Rattle.std.proofs.Common.{◌≡◌, ◌⊎◌, ℕ, suc, ◌<◌, ◌≤◌, Bool, true, false, ◌&&◌, ◌||◌, nat_eq, nat_lt, List, [], ◌∷◌, length, get_or, Contains, sym, refl, ap, ◌∙◌, inl, inr, ⊎_elim, arith, eqb-true, eq-eqb, lt_of_not-le}
 use Rattle.std.specs.List.{list_any}
+use Rattle.std.proofs.lemmas.List.Folds.{list_any_at}
 use mathlib.Core.Logic.{dite}
 use native.Mathlib.Decide.{dec_le}
 use Rattle.cov_base.specs.declared.numbers.PlaceNo.{PlaceNo}
@@ -17,13 +18,7 @@ any_at f [] d h = absurd cc
 any_at f (x ∷ xs) d h = any_step f x xs d (f x) refl h (any_at f xs d)
 
 pub any_shown : {X : Type 0} (f : X → Bool) (xs : List X) (d : X) (k : ℕ) → k < length xs → f (get_or xs k d) ≡ true → list_any f xs ≡ true
-any_shown f [] d k l h = absurd (omega arith)
-any_shown f (x ∷ xs) d zero l h = ap (λ b. b || list_any f xs) h
-any_shown f (x ∷ xs) d (suc k) l h = any_more (f x) (any_shown f xs d k (omega arith) h)
-  where
-    any_more : {c : Bool} (b : Bool) → c ≡ true → (b || c) ≡ true
-    any_more true e = refl
-    any_more false e = e
+any_shown f xs d k l h = list_any_at f xs k d l h
 
 abbrev pub number : ℕ → PlaceNo
 number p = record { 0 = p }

@@ -1,5 +1,6 @@
 -- Each kind of step that leaves the cells keeps the rule.
 use Rattle.std.proofs.Common.{◌≡◌, ◌≢◌, ◌⊎◌, ℕ, ◌+◌, ◌%◌, ◌<◌, ◌≤◌, ◌&&◌, ◌||◌, Bool, true, false, nat_eq, if◌then◌else◌, Some, None, List, length, set, sym, refl, ap, ◌∙◌, subst, inl, inr, ⊎_elim, arith, eqb-true}
+use Rattle.std.proofs.lemmas.Bool.{and_parts}
 use mathlib.Core.Option.{some}
 use mathlib.Core.Logic.{dite}
 use native.Mathlib.Decide.{ℕ_discrete}
@@ -95,10 +96,6 @@ waits : (b : Bool) (x y : ℕ × ℕ) → (if b then Some x else None) ≡ Some 
 waits true x y e = (refl, cc)
 waits false x y e = absurd cc
 
-both : (a b : Bool) → (a && b) ≡ true → (a ≡ true) × (b ≡ true)
-both true b h = (refl, h)
-both false b h = absurd cc
-
 module _ (plan : PlanView) (p : ℕ) (c : Cell) (fine : original_at plan p ≢ breakpoint) where
   pub breakpoint_form : IsForm plan p c → c.half ≡ breakpoint → (s : ℕ) × (0 < s) × (is_over plan s p ≡ true) × (c ≡ planted s)
   breakpoint_form (inl e) b = absurd (fine (sym (ap (λ (z : Cell). z.half) e) ∙ b))
@@ -107,10 +104,10 @@ module _ (plan : PlanView) (p : ℕ) (c : Cell) (fine : original_at plan p ≢ b
   breakpoint_form (inr (s, pos, over, inr (inr e))) b = absurd (fine (sym (ap (λ (z : Cell). z.half) e.0) ∙ b))
 
   pub lifted_form : IsForm plan p c → is_lifted plan p c ≡ true → (s : ℕ) × (0 < s) × (is_over plan s p ≡ true) × (c ≡ lifted s (original_at plan p))
-  lifted_form (inl e) h = let tag = ap (λ (z : Cell). z.tag) e in let odd = eqb-true _ _ (both (nat_eq c.half (original_at plan p)) (nat_eq (c.tag % 2) 1) h).1 in absurd (omega arith)
-  lifted_form (inr (s, pos, over, inl e)) h = absurd (fine (sym (eqb-true _ _ (both (nat_eq c.half (original_at plan p)) (nat_eq (c.tag % 2) 1) h).0) ∙ ap (λ (z : Cell). z.half) e))
+  lifted_form (inl e) h = let tag = ap (λ (z : Cell). z.tag) e in let odd = eqb-true _ _ (and_parts (nat_eq c.half (original_at plan p)) (nat_eq (c.tag % 2) 1) h).1 in absurd (omega arith)
+  lifted_form (inr (s, pos, over, inl e)) h = absurd (fine (sym (eqb-true _ _ (and_parts (nat_eq c.half (original_at plan p)) (nat_eq (c.tag % 2) 1) h).0) ∙ ap (λ (z : Cell). z.half) e))
   lifted_form (inr (s, pos, over, inr (inl e))) h = (s, pos, over, e)
-  lifted_form (inr (s, pos, over, inr (inr e))) h = let tag = ap (λ (z : Cell). z.tag) e.0 in let odd = eqb-true _ _ (both (nat_eq c.half (original_at plan p)) (nat_eq (c.tag % 2) 1) h).1 in absurd (omega arith)
+  lifted_form (inr (s, pos, over, inr (inr e))) h = let tag = ap (λ (z : Cell). z.tag) e.0 in let odd = eqb-true _ _ (and_parts (nat_eq c.half (original_at plan p)) (nat_eq (c.tag % 2) 1) h).1 in absurd (omega arith)
 
 module _ (plan : PlanView) where
   abbrev Cells : Type 0

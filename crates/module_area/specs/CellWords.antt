@@ -1,9 +1,7 @@
 -- A list of cells, one for each place.
-use Rattle.std.specs.Prelude.{◌≡◌, ◌⊎◌, ℕ, ◌+◌, ◌*◌, ◌<◌, List, get_or}
+use Rattle.std.specs.Prelude.{ℕ, List, get_or}
 use Rattle.module_area.specs.declared.cells.Cell.{Cell}
 use Rattle.module_area.specs.declared.places.Place.{Place}
-use Rattle.cov_base.specs.Codes.{breakpoint}
-use Rattle.module_area.specs.PlanView.{PlanView, original_at, window_at}
 
 abbrev pub no_cell : Cell
 no_cell = record { tag = 0; half = 0 }
@@ -14,9 +12,3 @@ word_at words p = get_or words p no_cell
 -- the cell of a place where nothing was planted
 abbrev pub fresh_word : Place → Cell
 fresh_word p = record { tag = 0; half = p.original }
-
--- never planted, or in the window of its whole session
-abbrev pub IsWord : PlanView → ℕ → Cell → Type 0
-IsWord plan p cell =
-    ((cell.tag ≡ 0) × (cell.half ≡ original_at plan p))
-    ⊎ ((0 < window_at plan p) × (cell.tag + 1 ≡ 2 * window_at plan p) × ((cell.half ≡ breakpoint) ⊎ (cell.half ≡ original_at plan p)))

@@ -1,9 +1,9 @@
 //! Where areas come from and end, and the account that is kept of them.
 ghost use Rattle.std.specs.Prelude.{◌≡◌, ℕ, ◌+◌, ◌<◌, ◌^◌, List, [], false, ◌∷◌, ◌++◌, length, IfOk, OnErr};
-ghost use Rattle.std.specs.declared.option.Option.TheVariants.{Some, None};
+ghost use Rattle.std.specs.declared.option.Option.TheVariants.{None};
 ghost use Rattle.module_area.specs.declared.tallies.Tally.{Tally};
 ghost use Rattle.module_area.specs.FinalsView.{FinalsView, set_at};
-ghost use Rattle.module_area.specs.Notes.{Notes, root_notes};
+ghost use Rattle.module_area.specs.Notes.{root_notes};
 ghost use Rattle.module_area.specs.Ended.{AreSettled, HasSets, HasTally};
 
 use crate::finals::Finals;

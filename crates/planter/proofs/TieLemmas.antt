@@ -8,7 +8,7 @@ use Rattle.cov_base.specs.declared.numbers.SessNo.{SessNo}
 use Rattle.module_area.specs.PlanView.{PlanView, ControlledView, IsPlan, AreApart, has_place, is_controlled, window_at}
 use Rattle.module_area.specs.Notes.{Notes, keeps_as}
 use Rattle.std.specs.Prelude.{slice_get}
-use Rattle.std.proofs.lemmas.Option.{slice_get_within, get_or_from_slice_get}
+use Rattle.std.proofs.lemmas.Option.{slice_get_within, get_or_from_slice_get, same_Some}
 use Rattle.module_area.specs.Control.{ControlView, places_in, places_under, unless_open, to_open, opening, after_plants, after_closes}
 use Rattle.module_area.specs.Tied.{has_session, keeps_session_as, keeps_session, IsTied}
 use Rattle.planter.specs.Allowed.{MayPlant, MayClose}
@@ -26,11 +26,6 @@ places_at (c ∷ cs) s zero apart l e = ap (λ b. if b then c.places else places
 places_at (c ∷ cs) s (suc i) apart l e = let low = (apart 0 (suc i) no_session (omega arith) l).rising in let r : (get_or cs i no_session).session ≡ s = e in
     ap (λ b. if b then c.places else places_in cs s) (ne_eqb c.session s (λ z. let low' : c.session < (get_or cs i no_session).session = low in absurd (omega (arith, low', r, z))))
     ∙ places_at cs s i (λ a b d lt lb. apart (suc a) (suc b) d (omega arith) (omega arith)) (omega arith) e
-
--- whose sessions a pass has
-abbrev charge : Option ℕ → (ℕ → Bool) → ℕ → Bool
-charge (Some t) out by = nat_eq by t
-charge None out by = not (out by)
 
 kept_at : (plan : PlanView) (bears : Option ℕ) (out : ℕ → Bool) (s : ℕ) → keeps_session_as plan bears out s ≡ true
     → (i : ℕ) × (i < length plan.controlled) × ((get_or plan.controlled i no_session).session ≡ s) × ((p : ℕ) → has_place (get_or plan.controlled i no_session).places p ≡ true → keeps_as plan bears out p ≡ true)
@@ -92,9 +87,6 @@ module _ (plan : PlanView) (n : Notes) (ok : IsPlan plan) (s : ℕ) (kept : keep
   few_places = let a = kept_at plan n.bears n.out s kept in let c = ok.controlled a.0 no_session a.1 in let m = ok.places in
       let few = rising_short its.places (length plan.places) c.rising c.of_plan in let e = ap (λ (xs : List PlaceNo). length xs) under in omega arith
 
-some_same : {x y : SessNo} → Some x ≡ Some y → x ≡ y
-some_same e = cc
-
 later_by : (b : Bool) (s t k : ℕ) → s < t → k + 1 < 2 * t → (if b then 2 * s - 1 else k) + 1 < 2 * t
 later_by true s t k lt h = omega arith
 later_by false s t k lt h = h
@@ -110,9 +102,9 @@ tied_open_at plan n c d h none l pos = let s : SessNo = get_or c.sessions c.next
   keeps = h.keeps;
   rising = h.rising;
   next = omega arith;
-  opened = λ t e. ap (has_session (take (c.next + 1) c.sessions)) (sym (ap (λ (z : SessNo). z.0) (some_same e)))
+  opened = λ t e. ap (has_session (take (c.next + 1) c.sessions)) (sym (ap (λ (z : SessNo). z.0) (same_Some _ _ e)))
       ∙ (list_any_more (λ (t : SessNo). nat_eq t.0 s.0) c.sessions c.next d l ∙ or_right _ (nat_eq s.0 s.0) (eq-eqb s.0 s.0 refl));
-  planted = λ t e. subst (λ (z : SessNo). All (λ (p : PlaceNo). (after_plants n s.0 (places_under plan s.0)).last p.0 + 1 ≡ 2 * z.0) (places_under plan z.0)) (some_same e)
+  planted = λ t e. subst (λ (z : SessNo). All (λ (p : PlaceNo). (after_plants n s.0 (places_under plan s.0)).last p.0 + 1 ≡ 2 * z.0) (places_under plan z.0)) (same_Some _ _ e)
       (λ k p lk. let x : (after_plants n s.0 (places_under plan s.0)).last (get_or (places_under plan s.0) k p).0 ≡ 2 * s.0 - 1 = ap (λ b. if b then 2 * s.0 - 1 else n.last (get_or (places_under plan s.0) k p).0) (has_here (places_under plan s.0) k p lk) in omega (arith, x, pos));
   later = λ k t lk. let size = length-drop (c.next + 1) c.sessions in
       let at : get_or (drop (c.next + 1) c.sessions) k t ≡ get_or c.sessions (c.next + 1 + k) t = get_or-drop (c.next + 1) c.sessions k t in

@@ -4,4 +4,3 @@ pub mod FirstRowLemmas
 pub mod JobLemmas
 pub mod PlaceFacts
 pub mod RunLemmas
-pub mod Sample

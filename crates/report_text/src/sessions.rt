@@ -1,5 +1,5 @@
 //! What a report says of a session.
-ghost use Rattle.std.specs.Prelude.{◌≡◌, ℕ, ◌+◌, ◌-◌, ◌*◌, ◌<◌, ◌≤◌, ◌++◌, ◌∷◌, [], length, codes, decimal, All, IfSome, unwrap_or, option_map, if◌then◌else◌, get_or, None, false};
+ghost use Rattle.std.specs.Prelude.{◌≡◌, ◌+◌, ◌-◌, ◌*◌, ◌<◌, ◌≤◌, ◌++◌, ◌∷◌, [], length, All, IfSome, unwrap_or, option_map, if◌then◌else◌, get_or, None, false};
 ghost use Rattle.annotator.specs.Annotated.{annotated};
 ghost use Rattle.cov_outside.specs.Writes.{Writes};
 ghost use Rattle.cov_base.specs.Facts.{full_of};

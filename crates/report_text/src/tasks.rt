@@ -1,11 +1,9 @@
 //! What a report says of a task.
-ghost use Rattle.std.specs.Prelude.{◌≡◌, ℕ, ◌+◌, ◌*◌, ◌<◌, ◌≤◌, ◌++◌, ◌∷◌, [], length, codes, decimal, take, drop, map, bytes_eq, if◌then◌else◌};
+ghost use Rattle.std.specs.Prelude.{◌≡◌, ◌+◌, ◌*◌, ◌<◌, ◌≤◌, ◌++◌, ◌∷◌, [], length, codes, decimal, drop};
 ghost use Rattle.cov_outside.specs.Writes.{Writes};
-ghost use Rattle.module_area.specs.Views.{first_bytes};
-ghost use Rattle.session_book.specs.Sessions.{task_of};
 ghost use Rattle.report_text.specs.Conditions.{HasResultOf};
 ghost use Rattle.report_text.specs.Report.{task_part};
-ghost use Rattle.report_text.specs.Tasks.{task_line, register_line, output_row, output_lines, storage_line, row_lines, storage_lines, state_lines};
+ghost use Rattle.report_text.specs.Tasks.{task_line, register_line, output_row, output_lines, state_lines};
 ghost use Rattle.report_text.specs.Text.{hex_bytes, text_of, row_of, row_count, lines_from};
 ghost use Rattle.report_text.specs.Writes.{WritesLines};
 

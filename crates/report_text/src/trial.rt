@@ -1,5 +1,5 @@
 //! What is said of a generated job that was run.
-ghost use Rattle.std.specs.Prelude.{◌≡◌, ℕ, ◌+◌, ◌*◌, ◌<◌, ◌≤◌, ◌++◌, ◌∷◌, [], length, true, if◌then◌else◌};
+ghost use Rattle.std.specs.Prelude.{◌≡◌, ℕ, ◌+◌, ◌<◌, ◌≤◌, ◌++◌, ◌∷◌, [], length, true, if◌then◌else◌};
 ghost use Rattle.cov_base.specs.Facts.{is_within};
 ghost use Rattle.cov_base.specs.declared.marks.Mark.TheVariants.{Not, Done, Branched, Fell, Both};
 ghost use Rattle.cov_outside.specs.Writes.{Writes};

@@ -1,5 +1,5 @@
 //! The whole report.
-ghost use Rattle.std.specs.Prelude.{◌≡◌, ℕ, ◌+◌, ◌-◌, ◌<◌, ◌≤◌, ◌++◌, ◌∷◌, [], List, length, codes};
+ghost use Rattle.std.specs.Prelude.{◌≡◌, ◌+◌, ◌-◌, ◌<◌, ◌≤◌, ◌++◌, ◌∷◌, [], length};
 ghost use Rattle.cov_outside.specs.Writes.{Writes};
 ghost use Rattle.report_text.specs.Conditions.{AreTablesOf, AreResultsOf, AreSetsOf};
 ghost use Rattle.report_text.specs.Report.{task_part, session_part, result_lines, report_lines, report_of};

@@ -1,5 +1,5 @@
 //! Branches (Principles of Operation, "General Instructions", "Branching").
-ghost use Rattle.std.specs.Prelude.{◌≡◌, ◌⊎◌, ℕ, ◌+◌, ◌*◌, ◌%◌, ◌<◌, ◌≤◌, ◌^◌, true, not, ◌&&◌, ◌==◌, int_lt, if◌then◌else◌, slice_index, slice_set};
+ghost use Rattle.std.specs.Prelude.{◌≡◌, ◌⊎◌, ℕ, ◌+◌, ◌*◌, ◌%◌, ◌<◌, ◌≤◌, true, ◌&&◌, ◌==◌, if◌then◌else◌};
 ghost use Rattle.s370_state.specs.Words.{signed};
 ghost use Rattle.s370_decode.specs.Fields.{first_half, ex};
 ghost use Rattle.s370_decode.specs.Groups.{group_of};

@@ -1,7 +1,8 @@
 -- Numbers of so many digits or bytes, and what fits 128 bits.
-use Rattle.std.proofs.Common.{◌≡◌, ℕ, ◌+◌, ◌*◌, ◌^◌, ◌<◌, ◌≤◌, zero, suc, Bool, true, false, ◌&&◌, ◌⊎◌, inl, inr, refl, arith, lit<}
+use Rattle.std.proofs.Common.{◌≡◌, ℕ, ◌+◌, ◌*◌, ◌^◌, ◌<◌, ◌≤◌, zero, suc, true, ◌⊎◌, inl, inr, refl, arith, lit<}
 use Rattle.std.proofs.Math.Nat.{pow-le-pow_right, one-le-pow}
 use Rattle.std.proofs.lemmas.Nat.{pow-add, mul-lt}
+use Rattle.std.proofs.lemmas.Bool.{and_from, and_parts}
 use Rattle.cov_base.specs.Memory.{Memory, can_store, is_private, wrap}
 use Rattle.s370_state.proofs.Tested.{store_at}
 
@@ -20,13 +21,6 @@ pub product_fits : (i j v w : ℕ) → i + j ≤ 38 → v < 10 ^ i → w < 10 ^ 
 product_fits i j v w l h k =
     omega (arith, pow-add 10 i j, power_fits (i + j) l, mul-lt v w (10 ^ i) (10 ^ j) h k)
 
-both : (a b : Bool) → (a && b) ≡ true → (a ≡ true) × (b ≡ true)
-both true b e = (refl, e)
-both false b e = let x : false ≡ true = e in absurd cc
-
-and_true : (p q : Bool) → p ≡ true → q ≡ true → (p && q) ≡ true
-and_true p q u v = rw (u, v) refl
-
 last_or : (k n : ℕ) → k ≤ suc n → (k ≡ suc n) ⊎ (k ≤ n)
 last_or k n h = grind arith
 
@@ -38,7 +32,7 @@ store_left m a zero (suc k) h l = absurd (omega (arith, l))
 store_left m a (suc n) k h l =
     elim (last_or k n l) [
       | inl e ↦ rw e h
-      | inr z ↦ store_left m a n k (both (can_store m a n) (is_private m (wrap (a + n))) h).0 z
+      | inr z ↦ store_left m a n k (and_parts (can_store m a n) (is_private m (wrap (a + n))) h).0 z
     ]
 
 -- and those behind its first j
@@ -48,4 +42,4 @@ store_right m a n j zero b h l e = refl
 store_right m a n j (suc k) b h l e =
     let last : is_private m (wrap (a + (j + k))) ≡ true = store_at m a n (j + k) (wrap (a + (j + k))) h (omega (arith, l)) refl in
     let same : wrap (b + k) ≡ wrap (a + (j + k)) = omega (arith, e) in
-    and_true (can_store m b k) (is_private m (wrap (b + k))) (store_right m a n j k b h (omega (arith, l)) e) (rw same last)
+    and_from (can_store m b k) (is_private m (wrap (b + k))) (store_right m a n j k b h (omega (arith, l)) e) (rw same last)

@@ -1,5 +1,5 @@
 //! An instruction's bytes and its fields (Principles of Operation, "Instruction Formats").
-ghost use Rattle.std.specs.Prelude.{◌≡◌, ◌<◌, ◌≤◌};
+ghost use Rattle.std.specs.Prelude.{◌≡◌, ◌<◌};
 ghost use Rattle.s370_decode.specs.Fields.{first_half, r1, r2, i2, b1, d1, b2, d2};
 
 use cov_base::Addr;

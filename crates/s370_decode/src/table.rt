@@ -1,5 +1,5 @@
 //! The operation of each code.
-ghost use Rattle.std.specs.Prelude.{◌≡◌, ◌/◌, ◌%◌, ◌<◌};
+ghost use Rattle.std.specs.Prelude.{◌≡◌, ◌/◌};
 ghost use Rattle.s370_decode.specs.Table.{op_of};
 
 use crate::op::Op;

@@ -4,10 +4,6 @@ use Rattle.cov_base.specs.Memory.{Memory, can_reach}
 use Rattle.s370_state.specs.Row.{use_tests, all_reached, reads, stores}
 use Rattle.s370_state.specs.declared.endings.Ending.TheVariants.{Abend}
 
-false_and : (a b : Bool) → a ≡ false → (a && b) ≡ false
-false_and true b h = let e : true ≡ false = h in absurd cc
-false_and false b h = refl
-
 and_false : (a : Bool) → (a && false) ≡ false
 and_false true = refl
 and_false false = refl

@@ -1,5 +1,6 @@
 -- The working of one pattern byte more, and what it keeps.
-use Rattle.std.proofs.Common.{◌≡◌, ℕ, ◌+◌, ◌<◌, ◌≤◌, zero, suc, Bool, true, false, ◌&&◌, if◌then◌else◌, ◌==◌, Option, Some, None, List, [], ◌∷◌, ◌++◌, refl, add-one, arith, ◌⊎◌, inl, inr}
+use Rattle.std.proofs.Common.{◌≡◌, ℕ, ◌+◌, ◌<◌, ◌≤◌, zero, suc, Bool, true, false, if◌then◌else◌, ◌==◌, Option, Some, None, List, [], ◌∷◌, ◌++◌, refl, add-one, arith, ◌⊎◌, inl, inr}
+use Rattle.std.proofs.lemmas.Bool.{and_left}
 use Rattle.cov_base.specs.Memory.{Memory, can_reach}
 use Rattle.s370_edit.specs.Working.{fresh, digit_of, next_digit, selected, stepped, step_at, worked, formed}
 use Rattle.s370_edit.specs.declared.working.Working.{Working}
@@ -21,10 +22,6 @@ pub formed_more : (m : Memory) (bytes : List ℕ) (a b n : ℕ) → formed m byt
 unfolding formed
 formed_more m bytes a b n = rw add-one refl
 
-false_and : (a b : Bool) → a ≡ false → (a && b) ≡ false
-false_and true b h = let e : true ≡ false = h in absurd cc
-false_and false b h = refl
-
 le_or : (k n : ℕ) → k ≤ suc n → (k ≡ suc n) ⊎ (k ≤ n)
 le_or k n h = grind arith
 
@@ -32,7 +29,7 @@ le_or k n h = grind arith
 more_lost : (m : Memory) (b k n : ℕ) → k ≤ n → can_reach m b k ≡ false → can_reach m b n ≡ false
 unfolding can_reach
 more_lost m b k zero l h = let e : k ≡ 0 = omega arith in rw e at h
-more_lost m b k (suc n) l h = elim (le_or k n l) [ inl e ↦ rw e at h | inr z ↦ false_and _ _ (more_lost m b k n z h) ]
+more_lost m b k (suc n) l h = elim (le_or k n l) [ inl e ↦ rw e at h | inr z ↦ and_left _ _ (more_lost m b k n z h) ]
 
 either_grows : (k : ℕ) (c : Bool) (x y : Step) → k ≤ x.working.taken → k ≤ y.working.taken → k ≤ (if c then x else y).working.taken
 either_grows k true x y h l = h

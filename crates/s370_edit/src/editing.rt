@@ -1,7 +1,7 @@
 //! ED and EDMK (Principles of Operation, "Decimal Instructions", "Edit", "Edit and Mark").
-ghost use Rattle.std.specs.Prelude.{◌≡◌, ℕ, ◌+◌, ◌*◌, ◌/◌, ◌%◌, ◌<◌, ◌≤◌, ◌^◌, true, false, [], ◌∷◌, ◌++◌, length, IfOk, IfErr, IfSome, IfNone, OnSome, OnOk, Some, None, slice_set, slice_index, if◌then◌else◌};
+ghost use Rattle.std.specs.Prelude.{◌≡◌, ◌+◌, ◌/◌, ◌<◌, ◌≤◌, true, false, [], length, IfOk, IfErr, OnOk, Some, None, if◌then◌else◌};
 ghost use Rattle.arrayvec.specs.ArrayVec.{array_vec_len};
-ghost use Rattle.cov_base.specs.Memory.{Memory, byte_at, can_reach, can_store, wrap};
+ghost use Rattle.cov_base.specs.Memory.{can_reach, can_store};
 ghost use Rattle.s370_decode.specs.Fields.{i2, e1, e2};
 ghost use Rattle.s370_decode.specs.Groups.{group_of};
 ghost use Rattle.s370_state.specs.Digits.{store_bytes};

@@ -1,6 +1,6 @@
 //! The working of a pattern, a byte at a time from left to right.
-ghost use Rattle.std.specs.Prelude.{◌≡◌, ℕ, ◌+◌, ◌*◌, ◌/◌, ◌%◌, ◌<◌, ◌≤◌, ◌^◌, Bool, true, false, not, ◌&&◌, ◌||◌, ◌==◌, if◌then◌else◌, Some, None, IfSome, IfNone, List};
-ghost use Rattle.cov_base.specs.Memory.{Memory, byte_at, is_accessible, can_reach, wrap};
+ghost use Rattle.std.specs.Prelude.{◌≡◌, ◌+◌, ◌*◌, ◌/◌, ◌%◌, ◌<◌, ◌≤◌, true, false, not, ◌&&◌, ◌||◌, ◌==◌, if◌then◌else◌, Some, None, IfSome, IfNone};
+ghost use Rattle.cov_base.specs.Memory.{byte_at, is_accessible, can_reach, wrap};
 ghost use Rattle.s370_edit.specs.Working.{fresh, left_digit, next_digit, selected, separated, kept, stepped};
 
 use cov_base::Addr;

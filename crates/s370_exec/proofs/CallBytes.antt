@@ -1,6 +1,6 @@
 -- Bytes that the task calls move, one at a time.
-use Rattle.std.proofs.Common.{◌≡◌, ℕ, ◌+◌, zero, suc, List, [], ◌∷◌, ◌++◌, length, refl, sym, add-one, arith}
-use Rattle.std.proofs.lemmas.List.{append-nil, append_assoc, length-append}
+use Rattle.std.proofs.Common.{◌≡◌, ℕ, ◌+◌, List, [], ◌∷◌, ◌++◌, sym, add-one}
+use Rattle.std.proofs.lemmas.List.{append-nil, append_assoc}
 use Rattle.cov_base.specs.Memory.{Memory, byte_at, wrap}
 use Rattle.s370_exec.specs.Effects.{operand}
 
@@ -12,8 +12,3 @@ none_put out m b a = append-nil out
 pub one_put : (out : List ℕ) (m : Memory) (b : List ℕ) (a n : ℕ) → out ++ operand m b a (n + 1) ≡ (out ++ operand m b a n) ++ byte_at m b (wrap (a + n)) ∷ []
 unfolding operand
 one_put out m b a n = rw add-one (sym (append_assoc out (operand m b a n) (byte_at m b (wrap (a + n)) ∷ [])))
-
-pub operand-length : (m : Memory) (b : List ℕ) (a n : ℕ) → length (operand m b a n) ≡ n
-unfolding operand
-operand-length m b a zero = refl
-operand-length m b a (suc n) = omega (arith, length-append (operand m b a n) (byte_at m b (wrap (a + n)) ∷ []), operand-length m b a n)

@@ -1,20 +1,17 @@
 -- How long a trace is, and how many instructions a run does.
-use Rattle.std.proofs.Common.{◌≡◌, ℕ, ◌+◌, ◌*◌, ◌≤◌, zero, suc, true, false, Option, Some, None, List, [], ◌∷◌, ◌++◌, length, refl, arith, length-append}
+use Rattle.std.proofs.Common.{◌≡◌, ℕ, ◌+◌, ◌≤◌, true, false, Option, Some, None, [], ◌∷◌, length, refl, arith}
 use Rattle.std.proofs.lemmas.Bool.{cond_both}
 use Rattle.cov_base.specs.Codes.{length_of}
 use Rattle.cov_base.specs.Memory.{Memory, half_at}
-use Rattle.cov_base.specs.States.{State, Visit}
+use Rattle.cov_base.specs.States.{State}
 use Rattle.s370_state.specs.declared.endings.Ending.{Ending}
-use Rattle.s370_state.specs.declared.endings.Ending.TheVariants.{Returned}
-use Rattle.s370_state.specs.declared.endings.Next.{Next}
-use Rattle.s370_state.specs.declared.endings.Next.TheVariants.{On, Ended}
 use Rattle.s370_decode.specs.Fields.{ex}
 use Rattle.s370_decode.specs.Table.{op_of}
 use Rattle.s370_decode.specs.declared.code.Code.{Code}
 use Rattle.s370_branch.specs.Branch.{goes}
 use Rattle.s370_exec.specs.Effects.{effect, updated, link_code}
 use Rattle.s370_exec.specs.Fetch.{code_at, first_tests, rest_tests, subject_tests, is_execute}
-use Rattle.s370_exec.specs.Solo.{Step, Run, solo_step, from_first, fetched, begun_step, stepped, ended, visit, behind, subject_step, subject_fetched, run_on, run_after, run_ended, solo_run, has_returned}
+use Rattle.s370_exec.specs.Solo.{Step, solo_step, from_first, fetched, begun_step, stepped, ended, visit, behind, subject_step, subject_fetched}
 
 -- a step does one instruction, and visits so many at most
 record IsStepOf (most : ℕ) (s : State) (t : Step) : Type 0 where
@@ -64,31 +61,3 @@ solo_step-done m s = (one_step m s).done
 
 pub solo_step-visits : (m : Memory) (s : State) → length (solo_step m s).visits ≤ 2
 solo_step-visits m s = (one_step m s).visits
-
--- with so many instructions left of the budget
-record IsBounded (n : ℕ) (s : State) (trace : List Visit) (r : Run) : Type 0 where
-  pub visits : length r.trace + 2 * s.done ≤ length trace + 2 * r.state.done
-  pub done : r.state.done ≤ s.done + n
-
-bounded_after : (more : State → List Visit → Run) (n : ℕ) (s t : State) (trace visits : List Visit) (next : Next) → t.done ≡ s.done + 1 → length visits ≤ 2 →
-    ((u : State) (longer : List Visit) → IsBounded n u longer (more u longer)) → IsBounded (suc n) s trace (run_after more trace t visits next)
-bounded_after more n s t trace visits On done few rest =
-    let there : IsBounded n t (trace ++ visits) (more t (trace ++ visits)) = rest t (trace ++ visits) in
-    record { visits = omega (arith, there.visits, length-append trace visits); done = omega (arith, there.done) }
-bounded_after more n s t trace visits (Ended e) done few rest = record { visits = omega (arith, length-append trace visits); done = omega arith }
-
-bounded_run : (m : Memory) (n : ℕ) (s : State) (trace : List Visit) → IsBounded n s trace (run_on m n s trace)
-unfolding run_on
-bounded_run m zero s trace = record { visits = omega arith; done = omega arith }
-bounded_run m (suc n) s trace =
-    cond_both (has_returned s) (run_ended Returned s trace) (run_after (λ t more. run_on m n t more) trace (solo_step m s).state (solo_step m s).visits (solo_step m s).next)
-    (IsBounded (suc n) s trace)
-    (λ e. record { visits = omega arith; done = omega arith })
-    (λ e. bounded_after (λ t more. run_on m n t more) n s (solo_step m s).state trace (solo_step m s).visits (solo_step m s).next (solo_step-done m s) (solo_step-visits m s) (bounded_run m n))
-
--- a run from its start does at most as many instructions as its budget, and visits at most twice as many
-pub solo_run-done : (m : Memory) (budget : ℕ) (s : State) → (solo_run m budget s).state.done ≤ s.done + budget
-solo_run-done m budget s = (bounded_run m budget s []).done
-
-pub solo_run-visits : (m : Memory) (budget : ℕ) (s : State) → s.done ≡ 0 → length (solo_run m budget s).trace ≤ 2 * (solo_run m budget s).state.done
-solo_run-visits m budget s start = let bounds = (bounded_run m budget s []).visits in omega arith

@@ -1,10 +1,9 @@
 //! The task calls.
-ghost use Rattle.std.specs.Prelude.{◌≡◌, ℕ, ◌+◌, ◌-◌, ◌*◌, ◌/◌, ◌%◌, ◌<◌, ◌≤◌, ◌++◌, List, min, length, true, slice_index, slice_set, take, drop};
-ghost use Rattle.cov_base.specs.States.{CpuView, IoView, Machine};
-ghost use Rattle.cov_base.specs.Memory.{can_reach, can_store, wrap};
+ghost use Rattle.std.specs.Prelude.{◌≡◌, ◌+◌, ◌-◌, ◌/◌, ◌<◌, ◌≤◌, ◌++◌, min, true, slice_index, take, drop};
+ghost use Rattle.cov_base.specs.Memory.{can_reach, can_store};
 ghost use Rattle.s370_state.specs.Digits.{store_bytes};
 ghost use Rattle.s370_state.specs.Io.{bytes_left, bytes_free};
-ghost use Rattle.s370_state.specs.Row.{machine_of, reads, stores, use_tests};
+ghost use Rattle.s370_state.specs.Row.{machine_of};
 ghost use Rattle.s370_exec.specs.Effects.{effect_of, call, put_call, get_call, operand};
 
 use cov_base::Addr;

@@ -1,5 +1,5 @@
 //! The halfwords of an instruction.
-ghost use Rattle.std.specs.Prelude.{◌≡◌, ℕ, ◌+◌, ◌*◌, ◌/◌, ◌%◌, ◌<◌, ◌≤◌, IfOk, IfErr, Some, None, List};
+ghost use Rattle.std.specs.Prelude.{◌≡◌, ◌/◌, ◌%◌, ◌<◌, IfOk, IfErr, Some, None};
 ghost use Rattle.cov_base.specs.Memory.{half_at};
 ghost use Rattle.cov_base.specs.Codes.{length_of};
 ghost use Rattle.s370_exec.specs.Fetch.{first_tests, rest_tests, whole_tests, code_at, later};

@@ -1,7 +1,7 @@
 //! The effect of an instruction that was fetched whole.
-ghost use Rattle.std.specs.Prelude.{◌≡◌, ℕ, ◌≢◌, ◌+◌, ◌*◌, ◌/◌, ◌%◌, ◌<◌, ◌≤◌, List, false};
+ghost use Rattle.std.specs.Prelude.{◌≡◌, ℕ, ◌*◌, ◌/◌, ◌<◌, ◌≤◌, List, false};
 ghost use Rattle.std.specs.declared.option.Option.TheVariants.{Some, None};
-ghost use Rattle.cov_base.specs.States.{CpuView, IoView, Machine};
+ghost use Rattle.cov_base.specs.States.{IoView};
 ghost use Rattle.s370_state.specs.Row.{machine_of};
 ghost use Rattle.s370_decode.specs.Fields.{first_half, i2};
 ghost use Rattle.s370_decode.specs.Groups.{group_of};

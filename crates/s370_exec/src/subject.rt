@@ -1,5 +1,5 @@
 //! EX (Principles of Operation, "General Instructions", "Execute").
-ghost use Rattle.std.specs.Prelude.{◌≡◌, ℕ, ◌+◌, ◌*◌, ◌/◌, ◌%◌, ◌<◌, IfOk, IfErr, Some, None, false, bit_or, slice_set, slice_index};
+ghost use Rattle.std.specs.Prelude.{◌≡◌, ◌*◌, ◌/◌, ◌%◌, ◌<◌, IfOk, IfErr, Some, None, false};
 ghost use Rattle.s370_decode.specs.Fields as fields;
 ghost use Rattle.s370_exec.specs.Fetch.{is_execute, subject_tests, code_at, modifier, merged};
 

@@ -1,7 +1,7 @@
 //! Conversions between a register and a packed decimal doubleword.
 #![tactic(auto, using(s370_state::proofs::Performs::passes, s370_state::proofs::Performs::refuses, s370_state::proofs::Performs::good_data, s370_state::proofs::Performs::bad_data))]
 
-ghost use Rattle.std.specs.Prelude.{◌≡◌, ℕ, ◌+◌, ◌*◌, ◌^◌, ◌<◌, ◌≤◌, ℤ, pos, neg_ℤ, ◌≤ℤ◌, ◌<ℤ◌, List, true, if◌then◌else◌};
+ghost use Rattle.std.specs.Prelude.{◌≡◌, ℕ, ◌^◌, ◌<◌, List, if◌then◌else◌};
 ghost use Rattle.s370_state.specs.Row.{Performs, machine_of, after, finish};
 ghost use Rattle.s370_fixed.specs.Conversions.{converted, row_cvb, row_cvd};
 

@@ -1,7 +1,7 @@
 //! Loads and stores of one register, and complements. Each call does what `fixed` does for its operation, refusals too.
 #![tactic(auto, using(s370_state::proofs::Performs::at_once, s370_state::proofs::Performs::passes, s370_state::proofs::Performs::refuses))]
 
-ghost use Rattle.std.specs.Prelude.{◌≡◌, ℕ, ◌<◌, ◌≤◌, ℤ, pos, neg_ℤ, ◌≤ℤ◌, ◌<ℤ◌, true, if◌then◌else◌, slice_set};
+ghost use Rattle.std.specs.Prelude.{◌≡◌, ◌<◌, ◌≤◌, ℤ, pos, neg_ℤ, ◌≤ℤ◌, ◌<ℤ◌, if◌then◌else◌};
 ghost use Rattle.std.specs.Int.RustNames.{unsigned_abs};
 ghost use Rattle.s370_state.specs.Row.{Performs};
 ghost use Rattle.s370_fixed.specs.Loads.{row_lr, row_l, row_lh, row_ltr, row_lcr, row_lpr, row_lnr, row_la, row_st, row_sth};

@@ -1,5 +1,5 @@
 //! The second operand of an operation, tested and read, and what operations do with a result.
-ghost use Rattle.std.specs.Prelude.{◌≡◌, ℕ, ◌<◌, ◌≤◌, ◌^◌, List, [], ◌∷◌, ℤ, pos, neg_ℤ, ◌≤ℤ◌, ◌<ℤ◌, IfOk, IfErr, None, Some, if◌then◌else◌, slice_set};
+ghost use Rattle.std.specs.Prelude.{◌≡◌, ◌<◌, ◌≤◌, [], ◌∷◌, ℤ, pos, neg_ℤ, ◌≤ℤ◌, ◌<ℤ◌, IfOk, IfErr, None, Some, if◌then◌else◌, slice_set};
 ghost use Rattle.s370_state.specs.Row.{reads, use_tests, next_after};
 ghost use Rattle.s370_state.specs.Words.{number_at};
 ghost use Rattle.s370_fixed.specs.Words.{signed_half, low_word, is_word, sign_code};

@@ -1,7 +1,7 @@
 //! Shifts of a register or a pair.
 #![tactic(auto, using(s370_state::proofs::Performs::at_once, s370_state::proofs::Performs::passes, s370_state::proofs::Performs::refuses, s370_state::proofs::Performs::ill_formed, s370_state::proofs::Performs::well_at_once, s370_state::proofs::Performs::well_passes, s370_state::proofs::Performs::well_refuses))]
 
-ghost use Rattle.std.specs.Prelude.{◌≡◌, ℕ, ◌+◌, ◌-◌, ◌*◌, ◌/◌, ◌%◌, ◌^◌, ◌<◌, ◌≤◌, true, if◌then◌else◌, slice_set};
+ghost use Rattle.std.specs.Prelude.{◌≡◌, ◌+◌, ◌-◌, ◌*◌, ◌/◌, ◌%◌, ◌^◌, ◌<◌, ◌≤◌, if◌then◌else◌};
 ghost use Rattle.s370_state.specs.Row.{Performs, next_after};
 ghost use Rattle.s370_decode.specs.Fields.{e2};
 ghost use Rattle.s370_state.specs.Words.{signed};

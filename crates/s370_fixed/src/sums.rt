@@ -1,7 +1,7 @@
 //! Sums, differences and comparisons. Each call does what `fixed` does for its operation, refusals too.
 #![tactic(auto, using(s370_state::proofs::Performs::at_once, s370_state::proofs::Performs::passes, s370_state::proofs::Performs::refuses))]
 
-ghost use Rattle.std.specs.Prelude.{◌≡◌, ℕ, ◌+◌, ◌-◌, ◌%◌, ◌<◌, ◌≤◌, ◌^◌, ℤ, pos, neg_ℤ, ◌+ℤ◌, ◌-ℤ◌, ◌≤ℤ◌, ◌<ℤ◌, true, if◌then◌else◌, slice_set, slice_index};
+ghost use Rattle.std.specs.Prelude.{◌≡◌, ◌+◌, ◌-◌, ◌%◌, ◌<◌, ◌≤◌, ℤ, pos, neg_ℤ, ◌+ℤ◌, ◌-ℤ◌, ◌≤ℤ◌, ◌<ℤ◌, if◌then◌else◌, slice_set, slice_index};
 ghost use Rattle.std.specs.Ordering.{int_cmp};
 ghost use Rattle.s370_state.specs.Row.{Performs, next_after};
 ghost use Rattle.s370_state.specs.Words.{signed, order_code};

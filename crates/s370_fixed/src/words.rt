@@ -1,6 +1,6 @@
 //! Numbers of which a register keeps 32 bits (Principles of Operation, "Fixed-Point Arithmetic", "Number Representation"),
 //! and halfwords.
-ghost use Rattle.std.specs.Prelude.{◌≡◌, ℕ, ◌+◌, ◌%◌, ◌<◌, ◌≤◌, ◌^◌, true, ℤ, pos, neg_ℤ, ◌≤ℤ◌, ◌<ℤ◌};
+ghost use Rattle.std.specs.Prelude.{◌≡◌, ◌+◌, ◌%◌, ◌<◌, ◌≤◌, ◌^◌, true, ℤ, pos, neg_ℤ, ◌≤ℤ◌, ◌<ℤ◌};
 ghost use Rattle.cov_base.specs.Memory.{can_reach, can_store};
 ghost use Rattle.s370_state.specs.Words.{number_at, store_number};
 ghost use Rattle.s370_fixed.specs.Words.{signed_half, low_word, is_word, sign_code};

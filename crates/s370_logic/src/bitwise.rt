@@ -1,7 +1,7 @@
 //! And, or, and exclusive or.
 #![tactic(auto, using(s370_state::proofs::Performs::at_once, s370_state::proofs::Performs::passes, s370_state::proofs::Performs::refuses))]
 
-ghost use Rattle.std.specs.Prelude.{◌≡◌, ℕ, ◌+◌, ◌<◌, ◌≤◌, ◌^◌, Bool, true, ◌==◌, if◌then◌else◌, slice_set, slice_index};
+ghost use Rattle.std.specs.Prelude.{◌≡◌, ◌+◌, ◌<◌, ◌≤◌, ◌^◌, true, ◌==◌, if◌then◌else◌, slice_set, slice_index};
 ghost use Rattle.cov_base.specs.Memory.{can_reach, can_store};
 ghost use Rattle.s370_state.specs.Row.{Performs};
 ghost use Rattle.s370_logic.specs.Bitwise.{connected, zero_code, joined, are_zero, row_registers, row_word, row_immediate, row_fields};

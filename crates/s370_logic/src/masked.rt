@@ -1,7 +1,7 @@
 //! Bytes of a register under a mask.
 #![tactic(auto, using(s370_state::proofs::Performs::at_once, s370_state::proofs::Performs::passes, s370_state::proofs::Performs::refuses, crate::proofs::Masks::size_most))]
 
-ghost use Rattle.std.specs.Prelude.{◌≡◌, ℕ, ◌+◌, ◌-◌, ◌*◌, ◌/◌, ◌%◌, ◌<◌, ◌≤◌, ◌^◌, true, ◌==◌, if◌then◌else◌};
+ghost use Rattle.std.specs.Prelude.{◌≡◌, ◌+◌, ◌-◌, ◌*◌, ◌/◌, ◌%◌, ◌<◌, ◌≤◌, ◌^◌, true, ◌==◌, if◌then◌else◌};
 ghost use Rattle.cov_base.specs.Memory.{can_reach, can_store, byte_at};
 ghost use Rattle.s370_state.specs.Row.{Performs};
 ghost use Rattle.s370_state.specs.Words.{number_at, store_number};

@@ -1,7 +1,7 @@
 //! One byte in storage, and the program mask.
 #![tactic(auto, using(s370_state::proofs::Performs::at_once, s370_state::proofs::Performs::passes, s370_state::proofs::Performs::refuses))]
 
-ghost use Rattle.std.specs.Prelude.{◌≡◌, ℕ, ◌+◌, ◌*◌, ◌/◌, ◌%◌, ◌<◌, ◌≤◌, ◌^◌, true, ◌==◌, if◌then◌else◌};
+ghost use Rattle.std.specs.Prelude.{◌≡◌, ◌+◌, ◌*◌, ◌/◌, ◌%◌, ◌<◌, ◌≤◌, ◌==◌, if◌then◌else◌};
 ghost use Rattle.s370_state.specs.Row.{Performs};
 ghost use Rattle.s370_logic.specs.SingleBytes.{mask_code, row_ic, row_stc, row_mvi, row_tm, row_ts, row_spm, stores_byte};
 

@@ -5,6 +5,7 @@ use Rattle.std.proofs.lemmas.Nat.{pow-add, mul-pow}
 use Rattle.std.proofs.lemmas.Bool.Decides.{nat_tests}
 use Rattle.std.proofs.lemmas.List.Folds.{list_all-append}
 use Rattle.std.specs.List.{list_all}
+use Rattle.std.proofs.lemmas.Bool.{and_parts}
 use Rattle.cov_base.specs.Memory.{Memory, byte_at, wrap}
 use Rattle.s370_state.specs.declared.packed.Field.{Field}
 use Rattle.s370_state.specs.Digits.{is_sign, is_minus, sign_half, is_digit, halves_at, decimal, field_at, digits_of, bytes_of, store_bytes, store_field}
@@ -22,10 +23,6 @@ pub decimal_one : (v x : ℕ) → decimal v (x ∷ []) ≡ v * 10 + x
 unfolding decimal
 decimal_one v x = omega arith
 
-pub no_halves : (m : Memory) (bytes : List ℕ) (a : ℕ) → halves_at m bytes a 0 ≡ []
-unfolding halves_at
-no_halves m bytes a = refl
-
 pub more_halves : (m : Memory) (bytes : List ℕ) (a n b : ℕ) → b ≡ byte_at m bytes (wrap (a + n)) → halves_at m bytes a (n + 1) ≡ halves_at m bytes a n ++ b / 16 ∷ (b % 16 ∷ [])
 unfolding halves_at
 more_halves m bytes a n b e = rw (add-one, e) refl
@@ -34,9 +31,6 @@ two_true : (a b : Bool) → (a && (b && true)) ≡ (a && b)
 two_true true true = refl
 two_true true false = refl
 two_true false b = refl
-
-and_true : (a b : Bool) → a ≡ true → b ≡ true → (a && b) ≡ true
-and_true a b p q = rw (p, q) refl
 
 and_false : (a : Bool) → (a && false) ≡ false
 and_false true = refl
@@ -79,15 +73,11 @@ pub no_number : (m : Memory) (bytes : List ℕ) (a : ℕ) → 0 ≡ decimal 0 (h
 unfolding halves_at decimal
 no_number m bytes a = refl
 
-both : (a b : Bool) → (a && b) ≡ true → (a ≡ true) × (b ≡ true)
-both true b e = (refl, e)
-both false b e = let x : false ≡ true = e in absurd cc
-
 pub pair_below : (b : ℕ) → (is_digit (b / 16) && is_digit (b % 16)) ≡ true → (b / 16 < 10) × (b % 16 < 10)
-pair_below b e = let p = both (is_digit (b / 16)) (is_digit (b % 16)) e in (grind (arith, nat_tests, p.0), grind (arith, nat_tests, p.1))
+pair_below b e = let p = and_parts (is_digit (b / 16)) (is_digit (b % 16)) e in (grind (arith, nat_tests, p.0), grind (arith, nat_tests, p.1))
 
 pub last_digit : (b : ℕ) → (is_digit (b / 16) && is_sign (b % 16)) ≡ true → b / 16 < 10
-last_digit b e = let p = both (is_digit (b / 16)) (is_sign (b % 16)) e in grind (arith, nat_tests, p.0)
+last_digit b e = let p = and_parts (is_digit (b / 16)) (is_sign (b % 16)) e in grind (arith, nat_tests, p.0)
 
 pub pair_more : (n v b : ℕ) → v < 100 ^ n → b / 16 < 10 → b % 16 < 10 → v * 100 + (b / 16 * 10 + b % 16) < 100 ^ (n + 1)
 pair_more n v b h p q = rw (add-one, pow-suc 100 n) (omega arith)
@@ -111,7 +101,7 @@ pub field_good : (m : Memory) (bytes : List ℕ) (a l b v : ℕ) → b ≡ byte_
     Some (record { magnitude = v * 10 + b / 16; minus = is_minus (b % 16) }) ≡ field_at m bytes a l
 unfolding field_at
 field_good m bytes a l b v e h w q =
-    let p = both (is_digit (b / 16)) (is_sign (b % 16)) q in
+    let p = and_parts (is_digit (b / 16)) (is_sign (b % 16)) q in
     let d : is_digit (b / 16) ≡ true = p.0 in
     let s : is_sign (b % 16) ≡ true = p.1 in
     rw (← e, list_all-append is_digit (halves_at m bytes a l) (b / 16 ∷ []), h, d, s, decimal_append (halves_at m bytes a l) 0 (b / 16 ∷ []), ← w, decimal_one v (b / 16)) refl

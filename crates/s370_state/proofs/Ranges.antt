@@ -2,6 +2,7 @@
 use Rattle.std.proofs.Common.{◌≡◌, ℕ, ◌+◌, ◌<◌, zero, suc, Bool, true, false, ◌&&◌, Some, None, refl, add-one, arith, ◌⊎◌, inl, inr}
 use Rattle.s370_state.proofs.Tested.{reach_at}
 use Rattle.std.proofs.Common.{Ok, Err, if◌then◌else◌}
+use Rattle.std.proofs.lemmas.Bool.{and_left}
 use Rattle.cov_base.specs.Memory.{Memory, wrap, can_reach, can_store, first_touch, is_accessible, is_private}
 
 last_or : (i n : ℕ) → i < suc n → (i ≡ n) ⊎ (i < n)
@@ -10,10 +11,6 @@ last_or i n h = grind arith
 and_false : (a : Bool) → (a && false) ≡ false
 and_false true = refl
 and_false false = refl
-
-false_and : (a b : Bool) → a ≡ false → (a && b) ≡ false
-false_and true b h = let e : true ≡ false = h in absurd cc
-false_and false b h = refl
 
 pub reach_none : (m : Memory) (a : ℕ) → can_reach m a 0 ≡ true
 unfolding can_reach
@@ -26,7 +23,7 @@ reach_more m a n b e h k = rw (add-one, h, ← e) k
 pub reach_fails : (m : Memory) (a n i b : ℕ) → b ≡ wrap (a + i) → i < n → is_accessible m b ≡ false → can_reach m a n ≡ false
 unfolding can_reach
 reach_fails m a zero i b e l h = absurd (omega arith)
-reach_fails m a (suc n) i b e l h = elim (last_or i n l) [ inl q ↦ rw (← q, ← e, h) (and_false _) | inr z ↦ false_and _ _ (reach_fails m a n i b e z h) ]
+reach_fails m a (suc n) i b e l h = elim (last_or i n l) [ inl q ↦ rw (← q, ← e, h) (and_false _) | inr z ↦ and_left _ _ (reach_fails m a n i b e z h) ]
 
 pub store_none : (m : Memory) (a : ℕ) → can_store m a 0 ≡ true
 unfolding can_store
@@ -39,7 +36,7 @@ store_more m a n b e h k = rw (add-one, h, ← e) k
 pub store_fails : (m : Memory) (a n i b : ℕ) → b ≡ wrap (a + i) → i < n → is_private m b ≡ false → can_store m a n ≡ false
 unfolding can_store
 store_fails m a zero i b e l h = absurd (omega arith)
-store_fails m a (suc n) i b e l h = elim (last_or i n l) [ inl q ↦ rw (← q, ← e, h) (and_false _) | inr z ↦ false_and _ _ (store_fails m a n i b e z h) ]
+store_fails m a (suc n) i b e l h = elim (last_or i n l) [ inl q ↦ rw (← q, ← e, h) (and_false _) | inr z ↦ and_left _ _ (store_fails m a n i b e z h) ]
 
 pub touch_none : (m : Memory) (a : ℕ) → first_touch m a 0 ≡ None
 unfolding first_touch

@@ -1,5 +1,5 @@
 //! How a task ends, and how it goes on after an instruction.
-ghost use Rattle.std.specs.Prelude.{◌≡◌, ◌≤◌, ◌/◌, ◌%◌};
+ghost use Rattle.std.specs.Prelude.{◌≡◌, ◌/◌, ◌%◌};
 ghost use Rattle.s370_state.specs.Row.{next_after};
 
 use cov_base::Addr;

@@ -1,7 +1,7 @@
 //! The tests of operands in storage, made here once for all operations, and the numbers that operands hold.
-ghost use Rattle.std.specs.Prelude.{◌≡◌, ℕ, ◌+◌, ◌-◌, ◌*◌, ◌%◌, ◌/◌, ◌<◌, ◌≤◌, ◌^◌, List, [], ◌∷◌, true, IfOk, IfErr, slice_set, if◌then◌else◌, ◌&&◌};
-ghost use Rattle.cov_base.specs.Memory.{Memory, byte_at, is_accessible, is_private, can_reach, can_store, wrap};
-ghost use Rattle.s370_state.specs.Row.{Use, reads, stores, use_tests};
+ghost use Rattle.std.specs.Prelude.{◌≡◌, ◌+◌, ◌-◌, ◌%◌, ◌/◌, ◌<◌, ◌≤◌, [], ◌∷◌, true, IfOk, IfErr, slice_set, if◌then◌else◌, ◌&&◌};
+ghost use Rattle.cov_base.specs.Memory.{byte_at, can_reach, can_store, wrap};
+ghost use Rattle.s370_state.specs.Row.{reads, stores, use_tests};
 ghost use Rattle.s370_state.specs.Words.{number_at, store_number};
 ghost use Rattle.s370_state.specs.Answers.{ending_of};
 

@@ -1,6 +1,6 @@
 //! Packed decimal fields in storage (Principles of Operation, "Decimal Instructions", "Data Format"). A field of length code
 //! l has l + 1 bytes: 2l + 1 digits, then the sign in the last half byte.
-ghost use Rattle.std.specs.Prelude.{◌≡◌, ℕ, ◌+◌, ◌-◌, ◌*◌, ◌/◌, ◌%◌, ◌^◌, ◌<◌, ◌≤◌, ◌&&◌, true, false, IfSome, IfNone, ℤ, pos, neg_ℤ, ◌<ℤ◌};
+ghost use Rattle.std.specs.Prelude.{◌≡◌, ◌+◌, ◌-◌, ◌*◌, ◌/◌, ◌%◌, ◌^◌, ◌<◌, ◌≤◌, ◌&&◌, true, false, IfSome, IfNone, ℤ, pos, neg_ℤ, ◌<ℤ◌};
 ghost use Rattle.std.specs.List.{list_all};
 ghost use Rattle.cov_base.specs.Memory.{can_reach, can_store};
 ghost use Rattle.s370_state.specs.Digits.{is_sign, is_minus, sign_half, is_digit, halves_at, decimal, field_at, number, digits_of, bytes_of, store_bytes, store_field};

@@ -1,7 +1,6 @@
 //! A task's storage over vectors.
-ghost use Rattle.std.specs.Prelude.{◌≡◌, ℕ, ◌+◌, ◌*◌, ◌%◌, ◌<◌, ◌≤◌, ◌^◌, List, vec_len, length, true, nat_lt, nat_le, ◌&&◌, ◌==◌};
-ghost use Rattle.std.specs.List.{list_any};
-ghost use Rattle.cov_base.specs.Memory.{is_accessible, is_private, can_reach, can_store, first_touch, byte_at};
+ghost use Rattle.std.specs.Prelude.{◌≡◌, ◌+◌, ◌*◌, ◌<◌, ◌^◌, vec_len, length, nat_lt, nat_le, ◌&&◌, ◌==◌};
+ghost use Rattle.cov_base.specs.Memory.{is_accessible, is_private, can_reach, can_store, byte_at};
 ghost use Rattle.s370_state.specs.Plain.{memory_of};
 
 use crate::space::{Refused, Space};

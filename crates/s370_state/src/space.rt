@@ -1,6 +1,6 @@
 //! A task's storage: what it may reach, store and read.
-ghost use Rattle.std.specs.Prelude.{◌≡◌, ℕ, ◌+◌, ◌*◌, ◌%◌, ◌/◌, ◌<◌, ◌≤◌, ◌^◌, List, Ok, Err, true, length, slice_set, if◌then◌else◌};
-ghost use Rattle.cov_base.specs.Memory.{Memory, byte_at, is_accessible, is_private, can_reach, can_store, first_touch, wrap};
+ghost use Rattle.std.specs.Prelude.{◌≡◌, ℕ, ◌/◌, ◌<◌, ◌^◌, List, true, length, slice_set};
+ghost use Rattle.cov_base.specs.Memory.{Memory, byte_at, is_accessible, is_private, can_reach, can_store, wrap};
 ghost use Rattle.s370_state.specs.Answers.{reach_answer, store_answer, touch_answer, half_answer, first_answer};
 
 use cov_base::Addr;

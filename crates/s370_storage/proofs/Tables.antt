@@ -2,19 +2,12 @@
 use Rattle.std.proofs.Common.{◌≡◌, ◌≢◌, ℕ, ◌+◌, ◌<◌, ◌≤◌, zero, suc, Bool, true, false, ◌&&◌, Option, Some, None, List, [], ◌∷◌, ◌++◌, slice_set, refl, sym, ◌∙◌, add-one, arith, get_or-set_other, ◌⊎◌, inl, inr, not, ◌==◌}
 use Rattle.std.specs.Option.{option_or}
 use Rattle.std.proofs.lemmas.Bool.Decides.{nat_tests}
+use Rattle.std.proofs.lemmas.Bool.{and_from, and_left}
 use Rattle.cov_base.specs.Memory.{Memory, byte_at, wrap, can_reach, first_touch, is_accessible}
 use Rattle.s370_state.specs.Row.{Use, reads, all_reached, all_stored, touched, touch_ending}
 use Rattle.s370_state.proofs.Tested.{reach_at}
 use Rattle.s370_storage.proofs.Firsts.{first_none, first_more, first_here, first_past}
 use Rattle.s370_storage.specs.Translations.{function_at, functions, translated, function, selected, looked_up}
-
-pub functions_none : (m : Memory) (bytes : List ℕ) (a t : ℕ) → functions m bytes a t 0 ≡ []
-unfolding functions
-functions_none m bytes a t = refl
-
-pub functions_more : (m : Memory) (bytes : List ℕ) (a t n : ℕ) → functions m bytes a t (n + 1) ≡ functions m bytes a t n ++ (reads (function_at m bytes a t n) 1 ∷ [])
-unfolding functions
-functions_more m bytes a t n = rw add-one refl
 
 and_true : (a : Bool) → (a && true) ≡ a
 and_true true = refl
@@ -28,10 +21,6 @@ and_false : (a : Bool) → (a && false) ≡ false
 and_false true = refl
 and_false false = refl
 
-false_and : (a b : Bool) → a ≡ false → (a && b) ≡ false
-false_and true b h = let e : true ≡ false = h in absurd cc
-false_and false b h = refl
-
 both_left : (a b : Bool) → (a && b) ≡ true → a ≡ true
 both_left true b h = refl
 both_left false b h = h
@@ -39,10 +28,6 @@ both_left false b h = h
 both_right : (a b : Bool) → (a && b) ≡ true → b ≡ true
 both_right true b h = h
 both_right false b h = let e : false ≡ true = h in absurd cc
-
-and_both : (a b : Bool) → a ≡ true → b ≡ true → (a && b) ≡ true
-and_both true b p q = q
-and_both false b p q = p
 
 last_or : (i n : ℕ) → i < suc n → (i ≡ n) ⊎ (i < n)
 last_or i n h = grind arith
@@ -69,7 +54,7 @@ functions_refused m bytes a t zero i b l e k = absurd (omega arith)
 functions_refused m bytes a t (suc n) i b l e k =
     functions_reached m bytes a t n ∙ elim (last_or i n l) [
       | inl q ↦ rw (← q, ← e, k) (and_false _)
-      | inr z ↦ false_and _ _ (functions_refused m bytes a t n i b z e k)
+      | inr z ↦ and_left _ _ (functions_refused m bytes a t n i b z e k)
     ]
 
 -- each of them is reached where all are
@@ -91,7 +76,7 @@ one_accessible m b x h l e = reach_at m x 1 0 b h (omega arith) (omega arith)
 stored_last : (m : Memory) (us : List Use) (b : ℕ) → all_stored m us ≡ true → all_stored m (us ++ (reads b 1 ∷ [])) ≡ true
 unfolding all_stored
 stored_last m [] b h = refl
-stored_last m (u ∷ us) b h = and_both _ _ (both_left _ _ h) (stored_last m us b (both_right _ _ h))
+stored_last m (u ∷ us) b h = and_from _ _ (both_left _ _ h) (stored_last m us b (both_right _ _ h))
 
 -- none is stored
 pub functions_stored : (m : Memory) (bytes : List ℕ) (a t n : ℕ) → all_stored m (functions m bytes a t n) ≡ true

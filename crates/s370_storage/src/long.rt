@@ -1,10 +1,10 @@
 //! Moves and comparisons of long operands, whose addresses and lengths are in registers.
 #![tactic(auto, using(s370_state::proofs::Performs::ill_formed, s370_state::proofs::Performs::well_at_once, s370_state::proofs::Performs::well_passes, s370_state::proofs::Performs::well_refuses))]
 
-ghost use Rattle.std.specs.Prelude.{◌≡◌, ℕ, ◌+◌, ◌-◌, ◌*◌, ◌/◌, ◌%◌, ◌<◌, ◌≤◌, ◌^◌, ◌∷◌, Some, None, true, false, min, max, List, ◌&&◌, IfOk, IfErr, IfSome, nat_lt, if◌then◌else◌};
-ghost use Rattle.cov_base.specs.Memory.{can_reach, can_store, byte_at, wrap};
-ghost use Rattle.s370_state.specs.Row.{Performs, perform, machine_of, after, finish, is_even, use_tests, reads};
-ghost use Rattle.s370_storage.specs.Longs.{long, passed, lesser, overlaps, padded, long_moved, long_moves, row_mvcl, extended, first_byte, second_byte, unequal, compares, long_compares, row_clcl};
+ghost use Rattle.std.specs.Prelude.{◌≡◌, ◌+◌, ◌-◌, ◌*◌, ◌/◌, ◌%◌, ◌<◌, ◌≤◌, ◌^◌, Some, None, true, false, min, max, ◌&&◌, if◌then◌else◌};
+ghost use Rattle.cov_base.specs.Memory.{can_reach, can_store};
+ghost use Rattle.s370_state.specs.Row.{Performs, machine_of, after, finish, is_even};
+ghost use Rattle.s370_storage.specs.Longs.{long, passed, lesser, overlaps, padded, long_moved, long_moves, row_mvcl, extended, unequal, compares, long_compares, row_clcl};
 
 use crate::moves::{Part, move_bytes};
 use cov_base::Addr;

@@ -1,8 +1,8 @@
 //! Packing and unpacking of decimal digits, and moves with an offset of half a byte.
 #![tactic(auto, using(s370_state::proofs::Performs::passes, s370_state::proofs::Performs::refuses))]
 
-ghost use Rattle.std.specs.Prelude.{◌≡◌, ℕ, ◌+◌, ◌-◌, ◌*◌, ◌/◌, ◌%◌, ◌<◌, ◌≤◌, ◌^◌, ◌∷◌, [], Some, None, true, slice_set, IfOk, IfErr, if◌then◌else◌, nat_le, nat_lt, ◌==◌};
-ghost use Rattle.cov_base.specs.Memory.{can_reach, can_store, byte_at, wrap};
+ghost use Rattle.std.specs.Prelude.{◌≡◌, ◌+◌, ◌-◌, ◌*◌, ◌/◌, ◌%◌, ◌<◌, ◌≤◌, ◌∷◌, [], Some, None, true, slice_set, IfOk, IfErr, if◌then◌else◌, ◌==◌};
+ghost use Rattle.cov_base.specs.Memory.{can_reach, can_store};
 ghost use Rattle.s370_state.specs.Row.{Performs, use_tests, stores, reads};
 ghost use Rattle.s370_storage.specs.Packing.{fields, source, result_at, exchanged, packed_byte, packed, with_zoned, unpacked, shifted, packs, row_pack, row_unpk, row_mvo};
 

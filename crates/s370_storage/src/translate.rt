@@ -1,8 +1,8 @@
 //! Translation and search by a table of function bytes.
 #![tactic(auto, using(s370_state::proofs::Performs::passes, s370_state::proofs::Performs::refuses))]
 
-ghost use Rattle.std.specs.Prelude.{◌≡◌, ℕ, ◌+◌, ◌*◌, ◌/◌, ◌%◌, ◌<◌, ◌≤◌, ◌^◌, ◌∷◌, Some, None, true, false, IfOk, IfErr, IfSome, List, if◌then◌else◌, ◌==◌};
-ghost use Rattle.cov_base.specs.Memory.{can_reach, can_store, byte_at, wrap, first_touch};
+ghost use Rattle.std.specs.Prelude.{◌≡◌, ◌+◌, ◌*◌, ◌/◌, ◌<◌, ◌≤◌, ◌∷◌, Some, None, true, false, IfOk, IfErr, IfSome, if◌then◌else◌, ◌==◌};
+ghost use Rattle.cov_base.specs.Memory.{can_reach, can_store, wrap, first_touch};
 ghost use Rattle.s370_state.specs.Row.{Performs, use_tests, stores, reads, all_reached, touched, touch_ending, machine_of, after, finish};
 ghost use Rattle.s370_storage.specs.Translations.{function_at, functions, translated, row_tr, function, selected, looked_up, selecting, selects, searches, row_trt};
 

@@ -158,13 +158,3 @@ share_none s t m parted same other hs ht = let i = has_index s.modules m hs in
 pub by_none : (s : SessionView) (o : Option ℕ) → s.by ≡ o → is_whole s ≡ true → s.by ≡ None
 by_none s None e h = e
 by_none s (Some t) e h = let z : true ≡ false = sym h ∙ ap (λ x. not (is_some x)) e in absurd cc
-
-none_first : (n : ℕ) (s : SessionView) (ss : List SessionView) (places : List Place) (phase : ℕ) (q : Bool) → nat_eq s.phase phase ≡ q → s.by ≡ None → controlled_from (n + 1) ss places phase ≡ [] → controlled_from n (s ∷ ss) places phase ≡ []
-none_first n s ss places phase true e none h = rw (e, none) h
-none_first n s ss places phase false e none h = rw e h
-
--- whole sessions leave none
-pub none_controlled : (n : ℕ) (ss : List SessionView) (places : List Place) (phase : ℕ) → All (λ s. is_whole s ≡ true) ss → controlled_from n ss places phase ≡ []
-none_controlled n [] places phase whole = refl
-none_controlled n (s ∷ ss) places phase whole = none_first n s ss places phase (nat_eq s.phase phase) refl (by_none s s.by refl (whole 0 s (omega arith)))
-    (none_controlled (n + 1) ss places phase (λ k d l. whole (suc k) d (omega (arith, l))))

@@ -5,8 +5,8 @@ use Rattle.cov_base.specs.FactSet.{FactSet}
 use Rattle.brk_table.specs.Places.{TableView, TablesView, first_place, place_count, all_places}
 use Rattle.marks_file.specs.Marks.{MarkedView, is_location, is_length, is_original, is_place, are_places, end_of, is_new_name, is_base, is_size, is_count, is_module, are_modules, is_module_count, are_marks}
 use Rattle.marks_file.proofs.MarksLemmas.{both-left, both-right}
-use Rattle.marks_file.proofs.SpellLemmas.{lt_of_test}
 use Rattle.std.proofs.lemmas.List.Elements.{All-cons, All-nil}
+use Rattle.std.proofs.lemmas.Bool.{ltb-true}
 use Rattle.cov_base.specs.Names.{is_filled}
 use Rattle.cov_base.specs.declared.facts.Kind.{Kind}
 use Rattle.session_book.specs.Sessions.{module_of}
@@ -62,7 +62,7 @@ are_there j tables sets (m ∷ ms) e =
 
 half_of : (len : ℕ) (kind : Kind) (half : ℕ) → is_original len kind half ≡ true → half < 65536
 unfolding is_original
-half_of len kind half h = lt_of_test half 65536 (both-left (nat_lt half 65536) _ h)
+half_of len kind half h = ltb-true half 65536 (both-left (nat_lt half 65536) _ h)
 
 halfwords : (size end : ℕ) (ps : List MarkedPlace) → are_places size end ps ≡ true → AreHalfwords ps
 halfwords size end [] h = All-nil (λ (p : MarkedPlace). p.original < 65536)

@@ -1,10 +1,10 @@
 -- The modules of a session, with their places, keep the rules of a marks file.
-use Rattle.std.proofs.Common.{◌≡◌, ◌≢◌, inl, inr, ℕ, ◌+◌, ◌-◌, ◌%◌, ◌<◌, ◌≤◌, suc, Bool, true, false, ◌||◌, ◌==◌, not, nat_le, List, [], ◌∷◌, ◌++◌, length, map, get_or, take, All, refl, sym, ap, ◌∙◌, subst, arith}
+use Rattle.std.proofs.Common.{◌≡◌, ◌≢◌, inl, inr, ℕ, ◌+◌, ◌-◌, ◌%◌, ◌<◌, ◌≤◌, Bool, true, false, ◌||◌, ◌==◌, not, nat_le, List, [], ◌∷◌, ◌++◌, length, map, get_or, take, All, refl, sym, ap, ◌∙◌, subst, arith}
 use Rattle.std.specs.List.{list_any, list_all}
 use Rattle.std.specs.Str.{bytes_eq}
-use Rattle.std.proofs.lemmas.Bool.{cases_lt, false≢true}
+use Rattle.std.proofs.lemmas.Bool.{cases_lt, false≢true, le-leb, eq-eqb, or_right, or_left}
 use Rattle.std.proofs.lemmas.Bool.Decides.{nat_tests, Decides-eqb}
-use Rattle.std.proofs.lemmas.List.{get_or_default, get_or-map, map-append, map_more}
+use Rattle.std.proofs.lemmas.List.{get_or_default, get_or-map, map-append, map_more, length-map}
 use Rattle.std.proofs.lemmas.List.Elements.{All-tail, All-cons, All-push, All-nil}
 use Rattle.std.proofs.lemmas.List.Quantifiers.{all_pairs_push}
 use Rattle.std.proofs.lemmas.Map.Made.{IsDistinct-from_AllPairs}
@@ -28,7 +28,7 @@ use Rattle.session_book.specs.Sets.{AreWithin}
 use Rattle.session_marks.specs.Fields.{HasGoodFields, AreHalfwords}
 use Rattle.session_marks.specs.Marked.{marked_module, marked_places}
 use Rattle.session_marks.proofs.TableLemmas.{OwnTable, own_table, Differ, count_of, counts_fit, count_more, first_differs, rest_differs}
-use Rattle.session_marks.proofs.RuleLemmas.{AreMarkable, places_kept, some_bytes, at_most, equal, length-marked_places}
+use Rattle.session_marks.proofs.RuleLemmas.{AreMarkable, places_kept, some_bytes, length-marked_places}
 
 -- a job and the tables of its modules
 pub record AreTabled (j : JobView) (tables : TablesView) : Type 0 where
@@ -109,10 +109,6 @@ pub record IsMarked (j : JobView) (tables : TablesView) (sets : ℕ → FactSet)
   pub exists : m < length j.images
   pub fields : HasGoodFields (marked_module j tables sets m)
 
-pub length-mapped : {X Y : Type 0} (f : X → Y) (xs : List X) → length (map f xs) ≡ length xs
-length-mapped f [] = refl
-length-mapped f (x ∷ xs) = ap suc (length-mapped f xs)
-
 module_is : (j : JobView) (m : ℕ) → IsJob j → m < length j.images → IsImage (module_of j m)
 module_is j m is l = is.images.each m no_module l
 
@@ -121,7 +117,7 @@ other_names j m n is l h same =
     let name = λ (i : ImageView). i.name in
     let first = get_or-map name j.images m no_module [] (omega arith) in
     let second = get_or-map name j.images n no_module [] h in
-    let same_length = length-mapped name j.images in
+    let same_length = length-map j.images name in
     let long : n < length (map name j.images) = omega arith in
     is.module_names m n [] l long (first ∙ (same ∙ sym second))
 
@@ -138,13 +134,6 @@ no_bytes a b differ = by (bytes_eq a b) refl
     by true e = absurd (differ ((bytes_eq-Decides a b).0 e))
     by false e = e
 
-or_left : (a b : Bool) → a ≡ true → (a || b) ≡ true
-or_left a b h = rw h refl
-
-or_right : (a b : Bool) → b ≡ true → (a || b) ≡ true
-or_right true b h = refl
-or_right false b h = h
-
 clear_of : (j : JobView) (m n : ℕ) → IsJob j → m ≢ n → m < length j.images → n < length j.images
     → (nat_le ((module_of j m).base + length (module_of j m).bytes) (module_of j n).base || nat_le ((module_of j n).base + length (module_of j n).bytes) (module_of j m).base) ≡ true
 clear_of j m n is differ a b = elim (cases_lt m n) [
@@ -153,12 +142,12 @@ clear_of j m n is differ a b = elim (cases_lt m n) [
 ]
   where
     by : (x y : ImageView) → AreClear x y → (nat_le (x.base + length x.bytes) y.base || nat_le (y.base + length y.bytes) x.base) ≡ true
-    by x y (inl h) = or_left _ _ (at_most (x.base + length x.bytes) y.base h)
-    by x y (inr h) = or_right _ _ (at_most (y.base + length y.bytes) x.base h)
+    by x y (inl h) = or_left _ _ (le-leb (x.base + length x.bytes) y.base h)
+    by x y (inr h) = or_right _ _ (le-leb (y.base + length y.bytes) x.base h)
 
     turned : (x y : ImageView) → AreClear y x → (nat_le (x.base + length x.bytes) y.base || nat_le (y.base + length y.bytes) x.base) ≡ true
-    turned x y (inl h) = or_right _ _ (at_most (y.base + length y.bytes) x.base h)
-    turned x y (inr h) = or_left _ _ (at_most (x.base + length x.bytes) y.base h)
+    turned x y (inl h) = or_right _ _ (le-leb (y.base + length y.bytes) x.base h)
+    turned x y (inr h) = or_left _ _ (le-leb (x.base + length x.bytes) y.base h)
 
 no_earlier : (j : JobView) (tables : TablesView) (sets : ℕ → FactSet) (m : ℕ) (es : List ℕ) → IsJob j → m < length j.images → All (IsMarked j tables sets) es → All (λ e. e ≢ m) es
     → list_any (λ (v : MarkedView). bytes_eq v.name (module_of j m).name) (map (marked_module j tables sets) es) ≡ false
@@ -191,7 +180,7 @@ unfolding is_base
 base_kept i is =
     let to = is.to in
     let some = is.some in
-    both _ _ (equal _ 0 is.doubleword) (both _ _ (at_most 1048576 i.base is.from) (at_most i.base 16773112 (last_base i.base (length i.bytes) is.doubleword some to)))
+    both _ _ (eq-eqb _ 0 is.doubleword) (both _ _ (le-leb 1048576 i.base is.from) (le-leb i.base 16773112 (last_base i.base (length i.bytes) is.doubleword some to)))
   where
     last_base : (base size : ℕ) → base % 8 ≡ 0 → 2 ≤ size → base + size ≤ 16773120 → base ≤ 16773112
     last_base base size a b c = omega arith
@@ -203,7 +192,7 @@ size_kept j tables sets m es is one are differ =
     let i = module_is j m is one.exists in
     let few = is.sizes m no_module one.exists in
     let size = length (module_of j m).bytes in
-    both _ _ (equal _ 0 i.even) (both _ _ (at_most 2 size i.some) (both _ _ (at_most size 262144 few) (both _ _ (at_most _ _ i.to) (all_clear j tables sets m es is one.exists are differ))))
+    both _ _ (eq-eqb _ 0 i.even) (both _ _ (le-leb 2 size i.some) (both _ _ (le-leb size 262144 few) (both _ _ (le-leb _ _ i.to) (all_clear j tables sets m es is one.exists are differ))))
 
 count_kept : (j : JobView) (tables : TablesView) (sets : ℕ → FactSet) (m : ℕ) (es : List ℕ) → AreTables j.images tables.tables → Differ (es ++ m ∷ []) → is_count (map (marked_module j tables sets) es) (length (marked_module j tables sets m).places) ≡ true
 unfolding is_count
@@ -213,7 +202,7 @@ count_kept j tables sets m es are differ =
     let more = count_more tables.tables es m in
     let fit = counts_fit tables.tables (es ++ m ∷ []) differ in
     let most = are.most in
-    at_most (place_count (map (marked_module j tables sets) es) + length (marked_module j tables sets m).places) 65536 (omega (arith, one, before, more, fit, most))
+    le-leb (place_count (map (marked_module j tables sets) es) + length (marked_module j tables sets m).places) 65536 (omega (arith, one, before, more, fit, most))
 
 module_kept : (j : JobView) (tables : TablesView) (sets : ℕ → FactSet) (m : ℕ) (es : List ℕ) → IsJob j → AreTables j.images tables.tables → IsMarked j tables sets m → All (IsMarked j tables sets) es → All (λ e. e ≢ m) es → Differ (es ++ m ∷ [])
     → is_module (map (marked_module j tables sets) es) (marked_module j tables sets m) ≡ true
@@ -270,11 +259,11 @@ pub marks_kept : (j : JobView) (tables : TablesView) (sets : ℕ → FactSet) (m
     → are_marks (map (marked_module j tables sets) ms) ≡ true
 unfolding is_module_count
 marks_kept j tables sets ms is are some exist differ fields =
-    let long = length-mapped (marked_module j tables sets) ms in
+    let long = length-map ms (marked_module j tables sets) in
     let many = few (length j.images) ms exist differ in
     let most = is.modules in
     let size = length (map (marked_module j tables sets) ms) in
-    both _ _ (both _ _ (at_most 1 size (omega (arith, long, some))) (at_most size 16 (omega (arith, long, many, most))))
+    both _ _ (both _ _ (le-leb 1 size (omega (arith, long, some))) (le-leb size 16 (omega (arith, long, many, most))))
     (modules_from j tables sets [] ms is are (All-nil (IsMarked j tables sets)) (are_marked j tables sets ms exist fields) (λ a b d l h. absurd (omega arith)) differ (λ k d l. All-nil (λ e. e ≢ get_or ms k d)))
 
 -- what was made of a module with these fields

@@ -1,9 +1,9 @@
 -- A file in which no row differs is the session's marks with some sets.
 use Rattle.std.proofs.Common.{◌≡◌, ◌≢◌, ◌⊎◌, inl, inr, ℕ, ◌+◌, ◌<◌, ◌≤◌, zero, suc, Bool, true, false, if◌then◌else◌, nat_eq, Option, Some, None, List, [], ◌∷◌, ◌++◌, length, get_or, drop, map, All, AllPairs, refl, ap, sym, ◌∙◌, subst, arith}
 use Rattle.std.specs.Str.{bytes_eq}
-use Rattle.std.proofs.lemmas.Bool.Decides.{nat_tests}
 use Rattle.std.proofs.lemmas.List.{length-map, get_or_default}
 use Rattle.std.proofs.lemmas.List.Elements.{All-tail}
+use Rattle.std.proofs.lemmas.Bool.{ne_eqb, eq-eqb}
 use Rattle.cov_base.specs.FactSet.{FactSet}
 use Rattle.marks_file.specs.Marks.{MarkedView, HasRow, are_marks}
 use Rattle.marks_file.specs.MarksFile.{place_row, module_row, rows, modules_bytes}
@@ -67,19 +67,13 @@ put_sets : (ℕ → FactSet) → ℕ → List MarkedPlace → ℕ → FactSet
 put_sets before n [] k = before k
 put_sets before n (p ∷ ps) k = if nat_eq k n then p.set else put_sets before (n + 1) ps k
 
-other : (a b : ℕ) → a ≢ b → nat_eq a b ≡ false
-other a b h = grind (arith, nat_tests)
-
-same : (a b : ℕ) → a ≡ b → nat_eq a b ≡ true
-same a b h = grind (arith, nat_tests)
-
 put_here : (before : ℕ → FactSet) (n k : ℕ) (p : MarkedPlace) (ps : List MarkedPlace) → k ≡ n → put_sets before n (p ∷ ps) k ≡ p.set
 unfolding put_sets
-put_here before n k p ps e = rw (same k n e) refl
+put_here before n k p ps e = rw (eq-eqb k n e) refl
 
 put_past : (before : ℕ → FactSet) (n k : ℕ) (p : MarkedPlace) (ps : List MarkedPlace) → k ≢ n → put_sets before n (p ∷ ps) k ≡ put_sets before (n + 1) ps k
 unfolding put_sets
-put_past before n k p ps e = rw (other k n e) refl
+put_past before n k p ps e = rw (ne_eqb k n e) refl
 
 put_there : (before : ℕ → FactSet) (n : ℕ) (ps : List MarkedPlace) → HasSetsAt (put_sets before n ps) n ps
 put_there before n [] k d l = absurd (omega arith)

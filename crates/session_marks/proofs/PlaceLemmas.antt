@@ -19,9 +19,6 @@ places_more base places sets first n h =
     let at : first + (n - first) ≡ n = omega arith in
     ap (marked_places base places sets first) more ∙ (counted_on base places sets first (n - first) ∙ ap (λ k. marked_places base places sets first (n - first) ++ marked_place base places sets k ∷ []) at)
 
-pub no_places_yet : (base : ℕ) (places : List Place) (sets : ℕ → FactSet) (first : ℕ) → marked_places base places sets first (first - first) ≡ []
-no_places_yet base places sets first = let none : first - first ≡ zero = omega arith in ap (marked_places base places sets first) none
-
 -- a place pushed
 pub places_step : (base : ℕ) (places : List Place) (sets : ℕ → FactSet) (first n : ℕ) (was now : List MarkedPlace) (p : MarkedPlace) → first ≤ n → was ≡ marked_places base places sets first (n - first) → now ≡ was ++ p ∷ [] → p ≡ marked_place base places sets n → now ≡ marked_places base places sets first (n + 1 - first)
 places_step base places sets first n was now p h before push is =

@@ -1,7 +1,8 @@
 -- The places of a module keep the rules of a marks file.
-use Rattle.std.proofs.Common.{◌≡◌, ◌≢◌, ◌⊎◌, inl, inr, ℕ, ◌+◌, ◌-◌, ◌%◌, ◌<◌, ◌≤◌, zero, suc, true, ◌||◌, not, nat_eq, nat_lt, nat_le, List, length, refl, sym, ap, ◌∙◌, arith}
+use Rattle.std.proofs.Common.{◌≡◌, ◌≢◌, ◌⊎◌, inl, inr, ℕ, ◌+◌, ◌-◌, ◌%◌, ◌<◌, ◌≤◌, zero, suc, true, ◌||◌, not, nat_eq, nat_lt, List, length, refl, sym, ap, ◌∙◌, arith}
 use Rattle.std.proofs.lemmas.Bool.Decides.{nat_tests}
 use Rattle.std.proofs.lemmas.List.Elements.{All-tail}
+use Rattle.std.proofs.lemmas.Bool.{lt-ltb, le-leb, eq-eqb}
 use Rattle.cov_base.specs.Codes.{length_of}
 use Rattle.cov_base.specs.FactSet.{FactSet, number_of_facts}
 use Rattle.cov_base.specs.Facts.{is_within}
@@ -30,17 +31,8 @@ pub record IsMarkable (image : ImageView) (p : Place) (set : FactSet) : Type 0 w
   pub to : p.at + p.len ≤ image.base + length image.bytes
   pub within : is_within p.kind set ≡ true
 
-pub equal : (a b : ℕ) → a ≡ b → nat_eq a b ≡ true
-equal a b h = grind (arith, nat_tests)
-
 differ : (a b : ℕ) → a ≢ b → not (nat_eq a b) ≡ true
 differ a b h = grind (arith, nat_tests)
-
-below : (a b : ℕ) → a < b → nat_lt a b ≡ true
-below a b h = grind (arith, nat_tests)
-
-pub at_most : (a b : ℕ) → a ≤ b → nat_le a b ≡ true
-at_most a b h = grind (arith, nat_tests)
 
 pub length_cases : (h : ℕ) → (length_of h ≡ 2) ⊎ ((length_of h ≡ 4) ⊎ (length_of h ≡ 6))
 unfolding length_of
@@ -57,7 +49,7 @@ unfolding is_location
 location_kept image p set end i m h =
     let long = some_bytes p.original in
     let size = m.is.size in
-    both _ _ (equal _ 0 (even_location p.at image.base m.is.even i.doubleword m.from)) (both _ _ (below (p.at - image.base) (length image.bytes) (omega (arith, m.to, m.from, long, size))) (at_most end (p.at - image.base) (omega (arith, m.from))))
+    both _ _ (eq-eqb _ 0 (even_location p.at image.base m.is.even i.doubleword m.from)) (both _ _ (lt-ltb (p.at - image.base) (length image.bytes) (omega (arith, m.to, m.from, long, size))) (le-leb end (p.at - image.base) (omega (arith, m.from))))
 
 one_length : (n h : ℕ) → n ≡ length_of h → (nat_eq n 2 || (nat_eq n 4 || nat_eq n 6)) ≡ true
 one_length n h e = let c = length_cases h in grind (arith, nat_tests)
@@ -65,12 +57,12 @@ one_length n h e = let c = length_cases h in grind (arith, nat_tests)
 length_kept : (image : ImageView) (p : Place) (set : FactSet) → IsMarkable image p set → is_length (length image.bytes) (p.at - image.base) p.len ≡ true
 unfolding is_length
 length_kept image p set m =
-    both _ _ (one_length p.len p.original m.is.size) (at_most (p.at - image.base + p.len) (length image.bytes) (omega (arith, m.to, m.from)))
+    both _ _ (one_length p.len p.original m.is.size) (le-leb (p.at - image.base + p.len) (length image.bytes) (omega (arith, m.to, m.from)))
 
 original_kept : (p : Place) → IsPlace p → p.original < 65536 → is_original p.len p.kind p.original ≡ true
 unfolding is_original
 original_kept p is half =
-    both _ _ (below _ _ half) (both _ _ (equal _ _ (sym is.size)) (both _ _ (equal _ _ (ap kind_number (sym is.kind))) (differ _ _ is.no_breakpoint)))
+    both _ _ (lt-ltb _ _ half) (both _ _ (eq-eqb _ _ (sym is.size)) (both _ _ (eq-eqb _ _ (ap kind_number (sym is.kind))) (differ _ _ is.no_breakpoint)))
 
 set_kept : (k : Kind) (s : FactSet) → is_within k s ≡ true → is_set k (number_of_facts s) ≡ true
 unfolding is_set

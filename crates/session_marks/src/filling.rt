@@ -1,6 +1,5 @@
 //! The sets of a run, put where the marks of a session stand.
-ghost use Rattle.std.specs.Prelude.{◌≡◌, ℕ, ◌+◌, ◌<◌, ◌≤◌, length, All};
-ghost use Rattle.brk_table.specs.Places.{first_place};
+ghost use Rattle.std.specs.Prelude.{◌≡◌, ◌+◌, ◌<◌, ◌≤◌, length};
 ghost use Rattle.brk_table.specs.Together.{AreTables};
 ghost use Rattle.cov_base.specs.Facts.{no_facts};
 ghost use Rattle.session_book.specs.Sets.{HasSetsOf};

@@ -18,7 +18,7 @@ use Rattle.module_area.proofs.FactLemmas.{is_full-true, within_kind}
 use Rattle.module_area.proofs.PlanLemmas.{no_controlled, over_window, over_small, tested_controller}
 use Rattle.module_area.proofs.StepLemmas.{breakpoint_form, or_cases}
 use Rattle.shared_area.specs.Told.{bears_as, has_number, seen_at, notes_in}
-use Rattle.shared_area.proofs.NoteLemmas.{pair_there, mark_there, number_there, not_there, seen_has, seen_most, last_has}
+use Rattle.shared_area.proofs.NoteLemmas.{pair_there, mark_there, number_there, not_there, seen_most}
 use Rattle.shared_area.proofs.WordLemmas.{same_cell}
 
 pub is_root : (r : Role) → r ≢ Spent → bears_as r ≡ None → r ≡ Root
@@ -68,10 +68,6 @@ module _ (plan : PlanView) (p : ℕ) (c : Cell) (ok : IsPlan plan) (l : p < leng
   window_most (inr (s, pos, over, inr (inr e))) w = absurd (no_controlled plan s p ok w e.1)
 
 module _ (plan : PlanView) (cell : ℕ → Cell) (sets : ℕ → ℕ → FactSet) (views : List View) (r : Held plan cell sets views) (id : ℕ) (v : View) (at : get_elem? views id ≡ some v) where
-  -- what it planted it has seen
-  pub last_seen : (p : ℕ) → last_tag p v.planted ≤ seen_at p v.seen
-  last_seen p = ⊎_elim (λ z. omega arith) (λ h. seen_has p (last_tag p v.planted) v.seen ((r.kept id v at).planted p (last_tag p v.planted) h)) (last_has p v.planted)
-
   module _ (live : v.role ≢ Spent) (p : ℕ) (l : p < length plan.places) where
     later : seen_at p v.seen ≤ (cell p).tag
     later = seen_most p (cell p).tag v.seen (λ t h. ((r.kept id v at).seen p t h).1)

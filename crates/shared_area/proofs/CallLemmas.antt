@@ -71,9 +71,6 @@ pub own_is : (v : View) (tally : Tally) (t : ℕ) → v.role ≡ Task t → own_
 own_is v tally t bears = ap (λ r. last_tag (unwrap_or (bears_as r) 0) v.numbers) bears
 
 module _ (me : SharedCells) where
-  abbrev Key : PlanView
-  Key = me.table.shared.key.value
-
   pub some_word : 0 < me.table.shared.table_id.words
   some_word = let a = words_some me.plan in let w = me.wide in omega arith
 

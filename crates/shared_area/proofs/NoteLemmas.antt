@@ -10,8 +10,8 @@ use Rattle.module_area.specs.declared.parties.View.{View}
 use Rattle.module_area.specs.declared.parties.Role.TheVariants.{Task}
 use Rattle.module_area.specs.declared.tallies.Tally.{Tally}
 use Rattle.module_area.specs.PlanView.{PlanView, original_at, kind_at, is_controller}
-use Rattle.module_area.specs.Parties.{Has, add_if, is_lifted, tag_session, window_tag, last_tag, chosen, fetching, marking, planting, closing, giving, newcomer, joining, bounding, reading, role_task}
-use Rattle.module_area.specs.Notes.{no_tally, is_free_under, after_fetch, after_mark, after_plant, after_close, after_split, split_notes, after_boundary, after_read, after_join, bearer, is_final, same_bit, same_set}
+use Rattle.module_area.specs.Parties.{Has, add_if, is_lifted, tag_session, window_tag, last_tag, chosen, fetching, marking, planting, closing, giving, newcomer, joining, bounding, role_task}
+use Rattle.module_area.specs.Notes.{no_tally, is_free_under, after_fetch, after_mark, after_plant, after_close, after_split, split_notes, after_boundary, after_join, bearer, same_bit, same_set}
 use Rattle.module_area.proofs.Indices.{and_left, and_right, and_both, same_tests}
 use Rattle.module_area.proofs.FactLemmas.{same_fact-true}
 use Rattle.module_area.proofs.PartyLemmas.{kept_tag, dropped_tag, no_tag, first_tag}
@@ -77,20 +77,6 @@ number_shown t (u ∷ us) (inl e) = or_right (has_number t us) (nat_eq t u) (eq-
 
 pub not_there : (t : ℕ) (us : List ℕ) → has_number t us ≡ false → Has t us → ⊥
 not_there t us e h = let x = number_shown t us h in absurd cc
-
--- ---- the highest tag
-seen_step : (p : ℕ) (x : ℕ × ℕ) (xs : List (ℕ × ℕ)) (b : Bool) → nat_eq p x.0 ≡ b → (t : ℕ) → x ≡ (p, t) → t ≤ (if b then max x.1 (seen_at p xs) else seen_at p xs)
-seen_step p x xs true e t h = let y : x.1 ≡ t = ap (λ (z : ℕ × ℕ). z.1) h in omega arith
-seen_step p x xs false e t h = let y = eq-eqb p x.0 (sym (ap (λ (z : ℕ × ℕ). z.0) h)) in absurd cc
-
-seen_more : (p : ℕ) (x : ℕ × ℕ) (xs : List (ℕ × ℕ)) (b : Bool) (t : ℕ) → t ≤ seen_at p xs → t ≤ (if b then max x.1 (seen_at p xs) else seen_at p xs)
-seen_more p x xs true t h = omega arith
-seen_more p x xs false t h = h
-
-pub seen_has : (p t : ℕ) (xs : List (ℕ × ℕ)) → Has (p, t) xs → t ≤ seen_at p xs
-seen_has p t [] h = absurd h
-seen_has p t (x ∷ xs) (inl e) = seen_step p x xs (nat_eq p x.0) refl t e
-seen_has p t (x ∷ xs) (inr h) = seen_more p x xs (nat_eq p x.0) t (seen_has p t xs h)
 
 most_step : (p m : ℕ) (x : ℕ × ℕ) (xs : List (ℕ × ℕ)) (b : Bool) → nat_eq p x.0 ≡ b → ((t : ℕ) → (x ≡ (p, t)) → t ≤ m) → seen_at p xs ≤ m → (if b then max x.1 (seen_at p xs) else seen_at p xs) ≤ m
 most_step p m x xs true e h r = let y = h x.1 (λ i. (sym (eqb-true p x.0 e) i, x.1)) in omega arith
@@ -193,18 +179,6 @@ bound_notes t w ended v tally bears own = let k : ℕ = if ended then 1 else 2 i
     let numbers : (λ u. last_tag u ((t, w + k) ∷ v.numbers)) ≡ (λ u. if nat_eq u (bearer (notes_in v tally)) then last_tag (bearer (notes_in v tally)) v.numbers + k else last_tag u v.numbers) =
     last_now t (w + k) v.numbers ∙ ap (λ n. λ u. if nat_eq u t then n + k else last_tag u v.numbers) own ∙ ap (λ z. λ u. if nat_eq u z then last_tag z v.numbers + k else last_tag u v.numbers) number in
     λ i. record (after_boundary (notes_in v tally) ended) { numbers = numbers i }
-
-settled_if : (final : Bool) (s p : ℕ) (found : FactSet) (t q : ℕ) (x : FactSet) (ys : List (ℕ × ℕ × FactSet)) → has_settled t q x (add_if final (s, p, found) ys) ≡ (has_settled t q x ys || (final && (nat_eq t s && nat_eq q p && same_set found x)))
-settled_if true s p found t q x ys = refl
-settled_if false s p found t q x ys = or_false (has_settled t q x ys)
-  where
-    or_false : (b : Bool) → b ≡ (b || false)
-    or_false true = refl
-    or_false false = refl
-
-pub read_notes : (plan : PlanView) (s p : ℕ) (found : FactSet) (v : View) (tally : Tally) → notes_in (reading s p (is_final plan (notes_in v no_tally) s p) found v) tally ≡ after_read plan (notes_in v tally) s p found
-read_notes plan s p found v tally = let settled = fun_ext (λ t. fun_ext (λ q. fun_ext (λ x. settled_if (is_final plan (notes_in v no_tally) s p) s p found t q x v.settled))) in
-    λ i. record (after_read plan (notes_in v tally) s p found) { settled = settled i }
 
 -- ---- Split and Join
 out_after : (g j e : Bool) → (e ≡ true → j ≡ false) → ((g || e) && not j) ≡ ((g && not j) || e)

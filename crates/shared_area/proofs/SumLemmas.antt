@@ -113,11 +113,6 @@ times_none s p (x ∷ xs) h = let rest = times_none s p xs (λ y. h (inr y)) in 
     (λ x'. let a : ◌≡◌ {A = ℕ} (if nat_eq x.0 s && nat_eq x.1 p then 1 else 0) 0 = ap (λ b. one_if (b && nat_eq x.1 p)) (ne_eqb x.0 s x') in omega arith))
     (λ x'. let a = second_false (nat_eq x.0 s) x.1 p x' in omega arith)
 
-pub times_some : (s p : ℕ) (l : List (ℕ × ℕ)) → Has (s, p) l → 1 ≤ times s p l
-times_some s p [] h = absurd h
-times_some s p (x ∷ xs) (inl e) = let a = both_true x.0 s x.1 p (ap (λ (z : ℕ × ℕ). z.0) e) (ap (λ (z : ℕ × ℕ). z.1) e) in omega arith
-times_some s p (x ∷ xs) (inr h) = let a = times_some s p xs h in omega arith
-
 -- ---- facts
 abbrev without : FactSet → Fact → FactSet
 without s Ran = record s { ran = false }

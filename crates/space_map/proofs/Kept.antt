@@ -1,8 +1,7 @@
 -- The instructions that are kept are those that a task sees at their places.
 use Rattle.std.proofs.Common.{◌≡◌, ℕ, ◌+◌, ◌-◌, ◌*◌, ◌/◌, ◌%◌, ◌<◌, ◌≤◌, true, false, nat_lt, if◌then◌else◌, List, length, get_or, slice_index, refl, ap, ◌∙◌, arith, inl, inr, Bool}
 use Rattle.std.specs.List.{All}
-use Rattle.std.proofs.lemmas.Bool.{cases_lt}
-use Rattle.std.proofs.lemmas.Bool.Decides.{nat_tests}
+use Rattle.std.proofs.lemmas.Bool.{cases_lt, lt-ltb, le-ltb}
 use Rattle.cov_base.specs.Codes.{length_of}
 use Rattle.cov_base.specs.Memory.{Memory, ImageView, wrap, byte_at}
 use Rattle.s370_decode.specs.declared.code.Code.{Code}
@@ -27,12 +26,6 @@ even_length h = even (nat_lt h 16384) (nat_lt h 49152)
     even false true = refl
     even false false = refl
 
-is_below : (a b : ℕ) → a < b → nat_lt a b ≡ true
-is_below a b h = grind (arith, nat_tests)
-
-not_below : (a b : ℕ) → b ≤ a → nat_lt a b ≡ false
-not_below a b h = grind (arith, nat_tests)
-
 -- a byte of a place is that of its module
 byte_there : (size : ℕ) (images : List ImageView) (places : List Place) (p : Place) (q : IsIn images p) (bytes : List ℕ) (i : ℕ) → size ≤ 1048576 → AreImages images → i < p.len
     → byte_at (memory_of size images places) bytes (p.at + i) ≡ slice_index q.image.bytes (p.at - q.image.base + i)
@@ -48,8 +41,8 @@ later_there size images places p q bytes i h f g even = elim (cases_lt i p.len) 
       let next : i + 1 < p.len = omega (arith, even, g.size, even_length p.original) in
       let here : wrap (p.at + i) ≡ p.at + i = omega (arith, g.below) in
       let there : wrap (p.at + i + 1) ≡ p.at + (i + 1) = omega (arith, g.below) in
-      rw (is_below i p.len l, is_below (i + 1) p.len next, here, there, byte_there size images places p q bytes i h f l, byte_there size images places p q bytes (i + 1) h f next) refl)
-  | inr m ↦ rw (not_below i p.len m, not_below (i + 1) p.len (omega arith)) refl
+      rw (lt-ltb i p.len l, lt-ltb (i + 1) p.len next, here, there, byte_there size images places p q bytes i h f l, byte_there size images places p q bytes (i + 1) h f next) refl)
+  | inr m ↦ rw (le-ltb i p.len m, le-ltb (i + 1) p.len (omega arith)) refl
 ]
 
 untouched : (size : ℕ) (images : List ImageView) (places : List Place) (x : ℕ) → touches places x ≡ false → (memory_of size images places).is_touch x ≡ false
@@ -69,7 +62,7 @@ unfolding module_code
 code_in-halves i p long half small =
     let b : ℕ → ℕ = λ k. module_byte i.bytes (p.at - i.base) p.len k in
     let start : p.at - i.base + 0 ≡ p.at - i.base = omega arith in
-    let first : p.original ≡ b 0 * 256 + b 1 = half ∙ rw (is_below 0 p.len (omega arith), is_below 1 p.len (omega arith), start) refl in
+    let first : p.original ≡ b 0 * 256 + b 1 = half ∙ rw (lt-ltb 0 p.len (omega arith), lt-ltb 1 p.len (omega arith), start) refl in
     let one : b 1 < 256 = small 1 0 (omega arith) in
     let three : b 3 < 256 = small 3 0 (omega arith) in
     let five : b 5 < 256 = small 5 0 (omega arith) in

@@ -1,4 +1,3 @@
-pub mod CardLemmas
 pub mod ImageLemmas
 pub mod Ranges
 pub mod Touches

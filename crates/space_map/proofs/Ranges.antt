@@ -1,6 +1,6 @@
 -- Whole ranges of addresses in a memory.
-use Rattle.std.proofs.Common.{◌≡◌, ℕ, ◌+◌, ◌-◌, ◌<◌, ◌≤◌, zero, suc, Bool, true, false, ◌||◌, nat_lt, None, refl, arith, ◌⊎◌, inl, inr}
-use Rattle.std.proofs.lemmas.Bool.Decides.{nat_tests}
+use Rattle.std.proofs.Common.{◌≡◌, ℕ, ◌+◌, ◌-◌, ◌<◌, ◌≤◌, zero, suc, Bool, true, false, ◌||◌, None, refl, arith, ◌⊎◌, inl, inr}
+use Rattle.std.proofs.lemmas.Bool.{lt-ltb, le-ltb}
 use Rattle.cov_base.specs.Memory.{Memory, wrap, can_reach, can_store, first_touch, is_accessible, is_private}
 use Rattle.s370_state.proofs.Ranges.{store_fails}
 
@@ -8,19 +8,13 @@ or_true : (a : Bool) → (a || true) ≡ true
 or_true true = refl
 or_true false = refl
 
-below : (a b : ℕ) → a < b → nat_lt a b ≡ true
-below a b h = grind (arith, nat_tests)
-
-not_below : (a b : ℕ) → b ≤ a → nat_lt a b ≡ false
-not_below a b h = grind (arith, nat_tests)
-
 wrapped : (a : ℕ) → a < 16777216 → wrap a ≡ a
 wrapped a h = omega arith
 
 pub reach_private : (m : Memory) (a n : ℕ) → a + n ≤ m.private → m.private ≤ 16777216 → can_reach m a n ≡ true
 unfolding can_reach is_accessible
 reach_private m a zero h k = refl
-reach_private m a (suc n) h k = rw (reach_private m a n (omega arith) k, wrapped (a + n) (omega arith), below (a + n) m.private (omega arith)) refl
+reach_private m a (suc n) h k = rw (reach_private m a n (omega arith) k, wrapped (a + n) (omega arith), lt-ltb (a + n) m.private (omega arith)) refl
 
 pub reach_image : (m : Memory) (a n : ℕ) → ((b : ℕ) → a ≤ b → b < a + n → m.is_image b ≡ true) → a + n ≤ 16777216 → can_reach m a n ≡ true
 unfolding can_reach is_accessible
@@ -30,11 +24,11 @@ reach_image m a (suc n) h k = rw (reach_image m a n (λ b p q. h b p (omega arit
 pub store_private : (m : Memory) (a n : ℕ) → a + n ≤ m.private → m.private ≤ 16777216 → can_store m a n ≡ true
 unfolding can_store is_private
 store_private m a zero h k = refl
-store_private m a (suc n) h k = rw (store_private m a n (omega arith) k, wrapped (a + n) (omega arith), below (a + n) m.private (omega arith)) refl
+store_private m a (suc n) h k = rw (store_private m a n (omega arith) k, wrapped (a + n) (omega arith), lt-ltb (a + n) m.private (omega arith)) refl
 
 is_private-outside : (m : Memory) (b : ℕ) → m.private ≤ b → is_private m b ≡ false
 unfolding is_private
-is_private-outside m b h = not_below b m.private h
+is_private-outside m b h = le-ltb b m.private h
 
 ends : (a n : ℕ) → a + n ≤ 16777216 ⊎ 16777216 < a + n
 ends a n = grind arith

@@ -1,7 +1,8 @@
 -- What one test of a range tells in a task's space.
-use Rattle.std.proofs.Common.{◌≡◌, ℕ, ◌+◌, ◌*◌, ◌<◌, ◌≤◌, zero, suc, Bool, true, false, nat_eq, nat_le, IsTrue, None, Ok, List, length, refl, ap, arith, ◌⊎◌, inl, inr}
+use Rattle.std.proofs.Common.{◌≡◌, ℕ, ◌+◌, ◌*◌, ◌<◌, ◌≤◌, zero, suc, Bool, true, nat_eq, nat_le, IsTrue, None, Ok, List, length, refl, ap, arith, ◌⊎◌, inl, inr}
 use Rattle.std.specs.List.{list_any}
 use Rattle.std.proofs.lemmas.Bool.Decides.{nat_tests}
+use Rattle.std.proofs.lemmas.Bool.{le-leb, lt-leb}
 use Rattle.cov_base.specs.Memory.{Memory, ImageView, wrap, can_reach, can_store, first_touch}
 use Rattle.s370_state.specs.Answers.{first_answer}
 use Rattle.module_area.specs.declared.places.Place.{Place}
@@ -40,12 +41,6 @@ touch_empty m a (suc n) h = absurd (omega arith)
 ends : (a b : ℕ) → (a ≤ b) ⊎ (b < a)
 ends a b = grind arith
 
-le_is_true : (a b : ℕ) → a ≤ b → nat_le a b ≡ true
-le_is_true a b h = grind (arith, nat_tests)
-
-is_past : (a b : ℕ) → b < a → nat_le a b ≡ false
-is_past a b h = grind (arith, nat_tests)
-
 told_within : (a b : ℕ) → IsTrue (nat_le a b) → a ≤ b
 told_within a b h = grind (arith, nat_tests)
 
@@ -55,8 +50,8 @@ pub store_range : (s : SpaceView) (monitored : Bool) (a n x size : ℕ) → IsSp
 unfolding memory_of
 store_range s monitored a n x size k f l p e =
     elim (ends x size) [
-      | inl h ↦ rw (le_is_true x size h, store_private (memory_of_space s) a n (omega arith) (omega arith)) refl
-      | inr h ↦ rw (is_past x size h, store_outside (memory_of_space s) a n p (omega arith) l (omega arith)) refl
+      | inl h ↦ rw (le-leb x size h, store_private (memory_of_space s) a n (omega arith) (omega arith)) refl
+      | inr h ↦ rw (lt-leb x size h, store_outside (memory_of_space s) a n p (omega arith) l (omega arith)) refl
     ]
 
 pub reach_range : (s : SpaceView) (monitored : Bool) (a n x size : ℕ) → IsSpace s monitored → size ≡ length s.bytes → x ≡ a + n → IsTrue (nat_le x size) → can_reach (memory_of_space s) a n ≡ true

@@ -1,5 +1,5 @@
 //! The bytes that private storage begins with.
-ghost use Rattle.std.specs.Prelude.{◌≡◌, ◌+◌, ◌≤◌, ◌<◌, ◌^◌, length, All, IfOk};
+ghost use Rattle.std.specs.Prelude.{◌≡◌, ◌+◌, ◌≤◌, ◌<◌, length, All, IfOk};
 ghost use Rattle.module_area.specs.Views.{with_card, first_bytes};
 
 use module_area::DataCard;

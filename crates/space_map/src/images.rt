@@ -1,5 +1,5 @@
 //! Modules by address.
-ghost use Rattle.std.specs.Prelude.{◌≡◌, ℕ, ◌<◌, ◌≤◌, ◌-◌, ◌+◌, ◌*◌, true, false, length, IsTrue, IfSome, IsSome, IsNone, slice_index, Contains};
+ghost use Rattle.std.specs.Prelude.{◌≡◌, ℕ, ◌<◌, ◌≤◌, ◌-◌, ◌+◌, ◌*◌, true, false, IsTrue, IfSome, IsSome, IsNone, slice_index, Contains};
 ghost use Rattle.std.specs.List.{list_any};
 ghost use Rattle.module_area.specs.Images.{AreImages};
 ghost use Rattle.brk_table.specs.Places.{in_image, image_byte};

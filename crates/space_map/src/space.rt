@@ -1,11 +1,11 @@
 //! A task's space.
-ghost use Rattle.std.specs.Prelude.{◌≡◌, ℕ, ◌+◌, ◌*◌, Some, None, if◌then◌else◌, ◌<◌, ◌≤◌, length, All, IfOk, IsTrue, true, refl};
+ghost use Rattle.std.specs.Prelude.{◌≡◌, ◌+◌, ◌*◌, Some, None, if◌then◌else◌, ◌<◌, ◌≤◌, length, All, IfOk, IsTrue, true, refl};
 ghost use Rattle.cov_base.specs.Memory.{wrap, byte_at, half_at, is_accessible, can_reach, can_store, first_touch};
 ghost use Rattle.cov_base.specs.declared.limits.TheConstants.{PRIVATE_LIMIT};
-ghost use Rattle.s370_state.specs.Answers.{reach_answer, store_answer};
+ghost use Rattle.s370_state.specs.Answers.{reach_answer};
 ghost use Rattle.module_area.specs.Images.{AreImages};
 ghost use Rattle.brk_table.specs.Kept.{AreCodes, AreKept};
-ghost use Rattle.brk_table.specs.Places.{memory_of, IsIn, AreSeen, touches};
+ghost use Rattle.brk_table.specs.Places.{memory_of, IsIn, AreSeen};
 ghost use Rattle.module_area.specs.Views.{first_bytes};
 ghost use Rattle.space_map.specs.Space.{row_of, memory_of_space};
 

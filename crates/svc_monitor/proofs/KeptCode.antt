@@ -16,10 +16,6 @@ use Rattle.svc_monitor.specs.First.{BeginsAt, IsWhole}
 half_there : (m : Memory) (places : List Place) (bytes : List ℕ) (a p h : ℕ) → AreSeen m places → BeginsAt places a p → h ≡ half_at m bytes a → h ≡ (place_of places p).original
 half_there m places bytes a p h seen begins half = half ∙ (ap (λ x. half_at m bytes x) (sym begins.begins) ∙ (seen p begins.exists).original bytes)
 
--- the place's original stands there
-pub half_seen : (m : Memory) (places : List Place) (bytes : List ℕ) (a p : ℕ) → AreSeen m places → BeginsAt places a p → (place_of places p).original ≡ half_at m bytes a
-half_seen m places bytes a p seen begins = sym ((seen p begins.exists).original bytes) ∙ ap (λ x. half_at m bytes x) begins.begins
-
 kept_rest : (m : Memory) (tables : TablesView) (bytes : List ℕ) (a p h : ℕ) → ArePlaces tables.places → AreSeen m tables.places → AreKept m tables → BeginsAt tables.places a p → h ≡ half_at m bytes a → rest_tests m a (length_of h) ≡ None
 kept_rest m tables bytes a p h are seen kept begins half =
     let q : Place = place_of tables.places p in

@@ -1,5 +1,5 @@
 //! The first halfword of an instruction.
-ghost use Rattle.std.specs.Prelude.{◌≡◌, ◌≢◌, ℕ, ◌+◌, ◌<◌, ◌^◌, IfOk, IfErr, OnErr, length, nat_eq, true};
+ghost use Rattle.std.specs.Prelude.{◌≡◌, ℕ, ◌+◌, ◌<◌, ◌^◌, IfOk, IfErr, OnErr, length, nat_eq, true};
 ghost use Rattle.std.specs.declared.option.Option.TheVariants.{Some, None};
 ghost use Rattle.cov_base.specs.Codes.{breakpoint};
 ghost use Rattle.cov_base.specs.Memory.{half_at};

@@ -16,7 +16,6 @@ ghost use Rattle.s370_exec.specs.Solo.{state_of, solo_step, subject_step};
 ghost use Rattle.svc_monitor.specs.First.{IsOver, IsPending, IsWhole, BeginsAt};
 ghost use Rattle.svc_monitor.specs.Settled.{Shows, Sees};
 ghost use Rattle.svc_monitor.specs.Answered.{Turns};
-ghost use Rattle.svc_monitor.specs.Called.{call_at};
 
 use crate::calls::answer;
 use crate::first::{Met, first_half, is_breakpoint};

@@ -1,6 +1,7 @@
 -- No bytes have two answers.
-use Rattle.std.proofs.Common.{◌≡◌, inl, inr, ℕ, ◌+◌, suc, Some, None, List, [], ◌∷◌, ◌++◌, length, drop, All, refl, ap, sym, ◌∙◌, subst, arith, append_assoc, append-nil, length-append}
+use Rattle.std.proofs.Common.{◌≡◌, inl, inr, ℕ, ◌+◌, Some, None, List, [], ◌∷◌, ◌++◌, length, drop, All, refl, ap, sym, ◌∙◌, subst, arith, append_assoc, append-nil, length-append}
 use Rattle.std.proofs.Math.Seq.{drop-append_seam}
+use Rattle.std.proofs.lemmas.List.Elements.{All-tail, All-head}
 use Rattle.marks_file.specs.Marks.{MarkedView, MarksView}
 use Rattle.marks_file.specs.MarksFile.{rows}
 use Rattle.marks_file.specs.Reading.{first_bad, file_fields, version_of, marks_at}
@@ -67,12 +68,6 @@ other_stops first next rest d hn found x t h s e =
     let clash : None ≡ Some d = sym (none_differs 0 (rows (modules_of next))) ∙ (ap (λ r. first_difference 0 r (rows (modules_of next))) (sym same) ∙ found) in
     absurd cc
 
-tail : (P : File → Type 0) (x : File) (xs : List File) → All P (x ∷ xs) → All P xs
-tail P x xs h k d l = h (suc k) d (omega arith)
-
-head : (P : File → Type 0) (x : File) (xs : List File) → All P (x ∷ xs) → P x
-head P x xs h = h 0 x (omega arith)
-
 record AreSame (o p : List File) (r s : List ℕ) : Type 0 where
   pub files : o ≡ p
   pub rest : r ≡ s
@@ -85,13 +80,13 @@ parts_same : (first : File) (o p : List File) (r s : List ℕ) → All IsFile o 
 unfolding Stops
 parts_same first [] [] r s ao so ap_ sp hr hs e = record { files = refl; rest = e }
 parts_same first [] (y ∷ ys) r s ao so ap_ sp hr hs e =
-    absurd (hr y (spelling ys ++ s) (head IsFile y ys ap_) (head (λ m. rows (modules_of first) ≡ rows (modules_of m)) y ys sp) (e ∙ append_assoc (text_of y) (spelling ys) s))
+    absurd (hr y (spelling ys ++ s) (All-head IsFile y ys ap_) (All-head (λ m. rows (modules_of first) ≡ rows (modules_of m)) y ys sp) (e ∙ append_assoc (text_of y) (spelling ys) s))
 parts_same first (x ∷ xs) [] r s ao so ap_ sp hr hs e =
-    absurd (hs x (spelling xs ++ r) (head IsFile x xs ao) (head (λ m. rows (modules_of first) ≡ rows (modules_of m)) x xs so) (sym e ∙ append_assoc (text_of x) (spelling xs) r))
+    absurd (hs x (spelling xs ++ r) (All-head IsFile x xs ao) (All-head (λ m. rows (modules_of first) ≡ rows (modules_of m)) x xs so) (sym e ∙ append_assoc (text_of x) (spelling xs) r))
 parts_same first (x ∷ xs) (y ∷ ys) r s ao so ap_ sp hr hs e =
     let apart : text_of x ++ (spelling xs ++ r) ≡ text_of y ++ (spelling ys ++ s) = sym (append_assoc (text_of x) (spelling xs) r) ∙ (e ∙ append_assoc (text_of y) (spelling ys) s) in
-    let is : x ≡ y = one_file x y (spelling xs ++ r) (spelling ys ++ s) (head IsFile x xs ao) (head IsFile y ys ap_) apart in
-    let more = parts_same first xs ys r s (tail IsFile x xs ao) (tail (λ m. rows (modules_of first) ≡ rows (modules_of m)) x xs so) (tail IsFile y ys ap_) (tail (λ m. rows (modules_of first) ≡ rows (modules_of m)) y ys sp) hr hs (same_rest x y (spelling xs ++ r) (spelling ys ++ s) is apart) in
+    let is : x ≡ y = one_file x y (spelling xs ++ r) (spelling ys ++ s) (All-head IsFile x xs ao) (All-head IsFile y ys ap_) apart in
+    let more = parts_same first xs ys r s (All-tail IsFile x xs ao) (All-tail (λ m. rows (modules_of first) ≡ rows (modules_of m)) x xs so) (All-tail IsFile y ys ap_) (All-tail (λ m. rows (modules_of first) ≡ rows (modules_of m)) y ys sp) hr hs (same_rest x y (spelling xs ++ r) (spelling ys ++ s) is apart) in
     record { files = joined x y xs ys is more.files; rest = more.rest }
 
 record AreWholeSame (f g : File) (o p : List File) (r s : List ℕ) : Type 0 where

@@ -1,10 +1,9 @@
 -- The first row in which two tables differ, piece by piece.
-use Rattle.std.proofs.Common.{◌≡◌, ◌≢◌, ℕ, ◌+◌, ◌-◌, ◌≤◌, min, ◌<◌, Bool, true, false, if◌then◌else◌, Option, Some, List, [], ◌∷◌, ◌++◌, length, drop, map, get_or, refl, ap, sym, ◌∙◌, arith, length-append, length-drop}
+use Rattle.std.proofs.Common.{◌≡◌, ◌≢◌, ℕ, ◌+◌, ◌-◌, ◌≤◌, min, ◌<◌, Bool, true, if◌then◌else◌, Option, Some, List, [], ◌∷◌, ◌++◌, length, drop, map, get_or, refl, ap, sym, ◌∙◌, arith, length-append, length-drop}
 use Rattle.std.specs.Str.{bytes_eq}
 use Rattle.std.proofs.lemmas.List.{at_drop_more}
 use Rattle.std.proofs.lemmas.Slice.Eq.{bytes_eq-Decides}
 use Rattle.std.proofs.Math.Seq.{drop-append_seam}
-use Rattle.std.proofs.Math.ListN.{drop_of_length-le}
 use Rattle.byteorder.specs.Endian.{big_bytes, big_number}
 use Rattle.byteorder.specs.Numbers.{big_number-reads_back}
 use Rattle.marks_file.specs.Marks.{MarkedView, HasRow, place_count}
@@ -15,20 +14,11 @@ use Rattle.table_combine.specs.Combine.{Difference, first_difference, first_row,
 same_test : (x y : List ℕ) → x ≡ y → bytes_eq x y ≡ true
 same_test x y h = grind (arith, bytes_eq-Decides)
 
-other_test : (x y : List ℕ) → x ≢ y → bytes_eq x y ≡ false
-other_test x y h = grind (arith, bytes_eq-Decides)
-
 picks : (c : Bool) (x y : Option Difference) → c ≡ true → (if c then x else y) ≡ x
 picks c x y e = rw e refl
 
-leaves : (c : Bool) (x y : Option Difference) → c ≡ false → (if c then x else y) ≡ y
-leaves c x y e = rw e refl
-
 pub row_same : (n : ℕ) (x y : List ℕ) (xs ys : List (List ℕ)) → x ≡ y → first_difference n (x ∷ xs) (y ∷ ys) ≡ first_difference (n + 1) xs ys
 row_same n x y xs ys e = picks (bytes_eq x y) (first_difference (n + 1) xs ys) (Some (record { row = n; left = Some x; right = Some y })) (same_test x y e)
-
-pub row_differs : (n : ℕ) (x y : List ℕ) (xs ys : List (List ℕ)) → x ≢ y → first_difference n (x ∷ xs) (y ∷ ys) ≡ Some (record { row = n; left = Some x; right = Some y })
-row_differs n x y xs ys e = leaves (bytes_eq x y) (first_difference (n + 1) xs ys) (Some (record { row = n; left = Some x; right = Some y })) (other_test x y e)
 
 -- behind places of the same rows
 pub places_same : (n : ℕ) (ps qs : List MarkedPlace) (xs ys : List (List ℕ)) → SamePlaces ps qs → first_difference n (map place_row ps ++ xs) (map place_row qs ++ ys) ≡ first_difference (n + length ps) xs ys
@@ -66,41 +56,6 @@ pub record PlacesPassed (n : ℕ) (a b : List MarkedPlace) (i : ℕ) : Type 0 wh
   pub rows : (xs ys : List (List ℕ)) → first_difference n (map place_row a ++ xs) (map place_row b ++ ys) ≡ first_difference (n + i) (map place_row (drop i a) ++ xs) (map place_row (drop i b) ++ ys)
   pub same : SamePlaces (drop i a) (drop i b) → SamePlaces a b
 
-pub places_start : (n : ℕ) (a b : List MarkedPlace) → PlacesPassed n a b 0
-places_start n a b = record { rows = λ xs ys. ap (λ k. first_difference k (map place_row a ++ xs) (map place_row b ++ ys)) (omega arith); same = λ h. h }
-
-here_places : (a : List MarkedPlace) (i : ℕ) (p : MarkedPlace) → i < length a → p ≡ get_or a i p → drop i a ≡ p ∷ drop (i + 1) a
-here_places a i p h e = at_drop_more (λ x. x) a i p h ∙ ap (λ x. x ∷ drop (i + 1) a) (sym e)
-
-pub places_step : (n : ℕ) (a b : List MarkedPlace) (i : ℕ) (p q : MarkedPlace) → PlacesPassed n a b i → i < length a → i < length b → p ≡ get_or a i p → q ≡ get_or b i q → place_row p ≡ place_row q → PlacesPassed n a b (i + 1)
-places_step n a b i p q s la lb ep eq same =
-    let da = here_places a i p la ep in
-    let db = here_places b i q lb eq in
-    record {
-      rows = λ xs ys. s.rows xs ys
-          ∙ (ap (λ z. first_difference (n + i) (map place_row z ++ xs) (map place_row (drop i b) ++ ys)) da
-          ∙ (ap (λ z. first_difference (n + i) (map place_row (p ∷ drop (i + 1) a) ++ xs) (map place_row z ++ ys)) db
-          ∙ (row_same (n + i) (place_row p) (place_row q) (map place_row (drop (i + 1) a) ++ xs) (map place_row (drop (i + 1) b) ++ ys) same
-          ∙ ap (λ k. first_difference k (map place_row (drop (i + 1) a) ++ xs) (map place_row (drop (i + 1) b) ++ ys)) (omega arith))));
-      same = λ h. s.same (rw (da, db) (same, h));
-    }
-
-pub places_stop : (n : ℕ) (a b : List MarkedPlace) (i : ℕ) (p q : MarkedPlace) → PlacesPassed n a b i → i < length a → i < length b → p ≡ get_or a i p → q ≡ get_or b i q → place_row p ≢ place_row q
-    → (xs ys : List (List ℕ)) → first_difference n (map place_row a ++ xs) (map place_row b ++ ys) ≡ Some (record { row = n + i; left = Some (place_row p); right = Some (place_row q) })
-places_stop n a b i p q s la lb ep eq other xs ys =
-    let da = here_places a i p la ep in
-    let db = here_places b i q lb eq in
-    s.rows xs ys
-    ∙ (ap (λ z. first_difference (n + i) (map place_row z ++ xs) (map place_row (drop i b) ++ ys)) da
-    ∙ (ap (λ z. first_difference (n + i) (map place_row (p ∷ drop (i + 1) a) ++ xs) (map place_row z ++ ys)) db
-    ∙ row_differs (n + i) (place_row p) (place_row q) (map place_row (drop (i + 1) a) ++ xs) (map place_row (drop (i + 1) b) ++ ys) other))
-
-no_places : (a : List MarkedPlace) (i : ℕ) → length a ≤ i → drop i a ≡ []
-no_places a i h = drop_of_length-le a h
-
-pub places_end : (n : ℕ) (a b : List MarkedPlace) (i : ℕ) → PlacesPassed n a b i → length a ≤ i → length b ≤ i → SamePlaces a b
-places_end n a b i s la lb = s.same (rw (no_places a i la, no_places b i lb) tt)
-
 -- the rows that this many modules have
 abbrev pub row_total : List MarkedView → ℕ
 row_total ms = length ms + place_count ms
@@ -110,9 +65,6 @@ pub record ModulesPassed (a b : List MarkedView) (i n : ℕ) : Type 0 where
   pub total : n + row_total (drop i a) ≡ row_total a
   pub rows_are : first_difference 0 (rows a) (rows b) ≡ first_difference n (rows (drop i a)) (rows (drop i b))
   pub same : SameTables (drop i a) (drop i b) → SameTables a b
-
-pub modules_start : (a b : List MarkedView) → ModulesPassed a b 0 0
-modules_start a b = record { total = omega arith; rows_are = refl; same = λ h. h }
 
 here_modules : (a : List MarkedView) (i : ℕ) (m : MarkedView) → i < length a → m ≡ get_or a i m → drop i a ≡ m ∷ drop (i + 1) a
 here_modules a i m h e = at_drop_more (λ x. x) a i m h ∙ ap (λ x. x ∷ drop (i + 1) a) (sym e)
@@ -140,9 +92,6 @@ modules_stop a b i n m k d s la lb em ek found =
     ∙ (ap (λ z. first_difference n (rows z) (rows (drop i b))) da
     ∙ (ap (λ z. first_difference n (rows (m ∷ drop (i + 1) a)) (rows z)) db
     ∙ found (rows (drop (i + 1) a)) (rows (drop (i + 1) b))))
-
-no_modules : (a : List MarkedView) (i : ℕ) → length a ≤ i → drop i a ≡ []
-no_modules a i h = drop_of_length-le a h
 
 -- one table has a module more
 left_over : (n : ℕ) (xs ys : List MarkedView) → min (length xs) (length ys) ≡ 0 → length xs ≢ length ys → first_difference n (rows xs) (rows ys) ≡ Some (record { row = n; left = first_row xs; right = first_row ys })

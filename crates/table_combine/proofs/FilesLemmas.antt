@@ -1,25 +1,21 @@
 -- Files one after another: what the loop over them keeps.
-use Rattle.std.proofs.Common.{◌≡◌, ◌≢◌, inl, inr, ℕ, ◌+◌, ◌≤◌, ◌<◌, true, nat_le, Some, List, [], ◌∷◌, ◌++◌, length, drop, map, fold, refl, ap, sym, ◌∙◌, arith, append_assoc, append-nil, length-append, length-drop}
+use Rattle.std.proofs.Common.{◌≡◌, ℕ, ◌+◌, ◌≤◌, true, nat_le, Some, List, [], ◌∷◌, ◌++◌, length, drop, map, fold, refl, ap, sym, ◌∙◌, arith, append_assoc, append-nil, length-append, length-drop}
 use Rattle.std.specs.Io.{StartsWith}
 use Rattle.std.specs.List.{sum_by}
 use Rattle.std.proofs.lemmas.List.{take-append-drop, drop-drop, length-take, map-append}
 use Rattle.std.proofs.lemmas.List.Elements.{All-push}
 use Rattle.std.proofs.lemmas.List.Sums.{fold-append, sum_by-append}
 use Rattle.std.proofs.lemmas.Grind.{flat_map-append}
+use Rattle.std.proofs.lemmas.Bool.{le-leb}
 use Rattle.byteorder.specs.Endian.{big_bytes}
 use Rattle.marks_file.specs.Marks.{MarkedView, MarksView, is_session_name, most_runs, is_runs, keeps_rules}
 use Rattle.marks_file.specs.MarksFile.{place_row, module_row, module_rows, rows, HasFile}
-use Rattle.marks_file.specs.Reading.{IsFault, first_bad, file_fields}
 use Rattle.marks_file.specs.declared.marks.MarkedPlace.{MarkedPlace}
-use Rattle.marks_file.specs.declared.fault.MarksFault.{MarksFault}
-use Rattle.marks_file.specs.declared.fault.MarksFault.TheVariants.{BadMarks, NoMemory}
 use Rattle.marks_file.specs.declared.version.Version.{Version}
 use Rattle.marks_file.proofs.MarksLemmas.{both-left, both-right, both, le_of_test}
-use Rattle.marks_file.proofs.FieldLemmas.{test_of_le}
 use Rattle.marks_file.proofs.FileLemmas.{same_marks}
 use Rattle.table_combine.specs.Combine.{Difference, first_difference, unite, unite_places, unite_module}
-use Rattle.table_combine.specs.Files.{File, IsFile, text_of, modules_of, runs_of, held, united, AreOfOneTable, IsOtherTable, IsCombineFault, spelling}
-use Rattle.table_combine.specs.FaultView.{fault_of}
+use Rattle.table_combine.specs.Files.{File, IsFile, text_of, modules_of, runs_of, held, united, AreOfOneTable, IsOtherTable, spelling}
 use Rattle.table_combine.proofs.UnionLemmas.{length-unite_places, same_rows, joined_rows}
 
 -- the union has the rows of its first file
@@ -132,25 +128,6 @@ files_step bytes at end all next new s h f same name runs modules =
       rows_are = ap rows modules ∙ (rows_kept all.modules next.modules ∙ s.rows_are);
     }
 
-pub first_fault : (bytes : List ℕ) (fault : MarksFault) → IsFault (file_fields 0 bytes) fault → IsCombineFault bytes (fault_of fault)
-first_fault bytes NoMemory h = tt
-first_fault bytes (BadMarks o) h = inl h
-
-some_left : (bytes : List ℕ) (at : ℕ) → at < length bytes → drop at bytes ≢ []
-some_left bytes at h e = let l = length-drop at bytes in let z : length (drop at bytes) ≡ 0 = ap length e in omega arith
-
-pub later_fault : (bytes : List ℕ) (at : ℕ) (all : MarksView) (fault : MarksFault) → FilesSoFar bytes at all → at < length bytes → IsFault (file_fields at (drop at bytes)) fault → IsCombineFault bytes (fault_of fault)
-later_fault bytes at all NoMemory s l h = tt
-later_fault bytes at all (BadMarks o) s l h = inr (record {
-  first = s.first;
-  others = s.others;
-  rest = drop at bytes;
-  table = s.table;
-  spelled = s.spelled;
-  some = some_left bytes at l;
-  bad = ap (λ k. first_bad (file_fields k (drop at bytes))) (sym s.end) ∙ h;
-})
-
 pub other_fault : (bytes : List ℕ) (at end : ℕ) (all next : MarksView) (d : Difference) → FilesSoFar bytes at all → keeps_rules next ≡ true → HasFile at (drop at bytes) next end → first_difference 0 (rows all.modules) (rows next.modules) ≡ Some d → IsOtherTable bytes d
 unfolding file_of
 other_fault bytes at end all next d s h f found =
@@ -171,4 +148,4 @@ pub held_runs : (a b : ℕ) → is_runs a ≡ true → is_runs b ≡ true → is
 unfolding is_runs
 held_runs a b h g =
     let some = le_of_test 1 a (both-left (nat_le 1 a) _ h) in
-    both (nat_le 1 (held (a + b))) _ (test_of_le 1 (held (a + b)) (omega (arith, some))) (test_of_le (held (a + b)) most_runs (omega arith))
+    both (nat_le 1 (held (a + b))) _ (le-leb 1 (held (a + b)) (omega (arith, some))) (le-leb (held (a + b)) most_runs (omega arith))

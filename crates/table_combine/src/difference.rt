@@ -1,6 +1,6 @@
 //! The first row in which two tables differ.
-ghost use Rattle.std.specs.Prelude.{◌≡◌, ℕ, ◌+◌, ◌<◌, ◌≤◌, ◌^◌, ◌++◌, List, length, map, drop, option_map, Some, None, IfSome, IsNone, All, get_or};
-ghost use Rattle.marks_file.specs.Marks.{MarkedView, HasRow, place_count};
+ghost use Rattle.std.specs.Prelude.{◌≡◌, ℕ, ◌+◌, ◌<◌, ◌≤◌, ◌^◌, ◌++◌, List, length, map, drop, option_map, Some, None, IfSome, IsNone, All};
+ghost use Rattle.marks_file.specs.Marks.{HasRow, place_count};
 ghost use Rattle.marks_file.specs.MarksFile.{place_row, module_row, module_rows, rows};
 ghost use Rattle.table_combine.specs.Combine.{first_difference, difference_of, first_row, SamePlaces, SameTables};
 

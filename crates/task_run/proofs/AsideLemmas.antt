@@ -3,13 +3,12 @@ use Rattle.std.proofs.Common.{◌≡◌, ℕ, ◌+◌, ◌-◌, ◌*◌, ◌%◌
 use Rattle.std.proofs.lemmas.Bool.{cond_both, eq-eqb, eqb-true}
 use Rattle.cov_base.specs.Memory.{Memory}
 use Rattle.cov_base.specs.States.{State, Visit}
-use Rattle.cov_base.specs.FactSet.{FactSet}
 use Rattle.cov_base.specs.declared.numbers.PlaceNo.{PlaceNo}
 use Rattle.cov_base.specs.declared.numbers.SessNo.{SessNo}
 use Rattle.s370_state.specs.declared.endings.Ending.{Ending}
 use Rattle.s370_exec.specs.Solo.{Run}
 use Rattle.module_area.specs.PlanView.{PlanView, has_place}
-use Rattle.module_area.specs.Notes.{Notes, calls, bearer, own_number, is_working, after_boundary, after_note, after_read}
+use Rattle.module_area.specs.Notes.{Notes, calls, bearer, own_number, is_working, after_boundary}
 use Rattle.module_area.specs.Control.{ControlView, places_under, to_open, after_plants, after_closes, after_open, after_end, after_call}
 use Rattle.module_area.specs.Tied.{IsTied}
 use Rattle.module_area.proofs.PlanLemmas.{any_at}
@@ -59,9 +58,6 @@ step_known plan old new visits c call t =
       noted = k.noted ∙ still.noted;
       settled = k.settled ∙ still.settled;
     }
-
-pub same_bearer : (old new : Notes) → KnowsSame old new → bearer new ≡ bearer old
-same_bearer old new k = ap (λ (o : Option ℕ). unwrap_or o 0) k.bears
 
 pub same_number : (old new : Notes) → KnowsSame old new → own_number new ≡ own_number old
 same_number old new k = λ i. k.numbers i (unwrap_or (k.bears i) 0)
@@ -117,20 +113,11 @@ step_over plan old new visits c call tie t p x last seen =
 
 -- boundaries, and looks at tasks and sets
 
-pub aside_none : (n : Notes) → IsAside n n
-aside_none n = record { same = refl }
-
 pub aside_more : (a b c : Notes) → IsAside a b → IsAside b c → IsAside a c
 aside_more a b c x y = record { same = y.same ∙ ap (λ (n : Notes). record n { pending = c.pending; numbers = c.numbers; noted = c.noted; settled = c.settled }) x.same }
 
 pub aside_boundary : (n : Notes) (ended : Bool) → IsAside n (after_boundary n ended)
 aside_boundary n ended = record { same = refl }
-
-pub aside_noted : (n : Notes) (t found : ℕ) → IsAside n (after_note n t found)
-aside_noted n t found = record { same = refl }
-
-pub aside_read : (plan : PlanView) (n : Notes) (s p : ℕ) (found : FactSet) → IsAside n (after_read plan n s p found)
-aside_read plan n s p found = record { same = refl }
 
 pub boundary_number : (n : Notes) (ended : Bool) → own_number (after_boundary n ended) ≡ own_number n + (if ended then 1 else 2)
 boundary_number n ended = ap (λ (b : Bool). if b then own_number n + (if ended then 1 else 2) else own_number n) (eq-eqb (bearer n) (bearer n) refl)

@@ -1,17 +1,16 @@
 -- The closes of a task's run: those of the sessions that it has opened, but for the one that is still open.
-use Rattle.std.proofs.Common.{◌≡◌, ℕ, suc, ◌+◌, ◌<◌, true, false, not, nat_eq, Option, Some, None, List, [], ◌∷◌, take, get_or, All, AllPairs, inl, inr, refl, sym, ◌∙◌, ap, arith, eqb-true, eq-eqb, ne_eqb}
+use Rattle.std.proofs.Common.{◌≡◌, ℕ, suc, ◌+◌, ◌<◌, true, false, not, nat_eq, Option, Some, None, List, [], ◌∷◌, take, get_or, All, AllPairs, inl, inr, refl, sym, ap, arith, eqb-true, eq-eqb, ne_eqb}
 use Rattle.std.specs.List.{filter, sum_by}
 use Rattle.std.proofs.lemmas.Bool.{cases_Bool, both_ways, or_cases}
 use Rattle.std.proofs.lemmas.List.{get_or-take, length-take}
 use Rattle.std.proofs.lemmas.List.Sums.{sum_by-cons}
 use Rattle.cov_base.specs.declared.numbers.SessNo.{SessNo}
-use Rattle.module_area.specs.Control.{ControlView, first_control}
+use Rattle.module_area.specs.Control.{ControlView}
 use Rattle.module_area.specs.Notes.{Notes}
 use Rattle.module_area.specs.PlanView.{PlanView}
 use Rattle.module_area.specs.Tied.{has_session, IsTied}
-use Rattle.task_run.specs.Called.{control_by, places_of, places_in_all, Follows, HasPlanted}
-use Rattle.task_run.specs.Courses.{Walk}
-use Rattle.task_run.specs.Windows.{opened_by, closed_by, last_control}
+use Rattle.task_run.specs.Called.{places_of, places_in_all, HasPlanted}
+use Rattle.task_run.specs.Windows.{opened_by, closed_by}
 
 abbrev session : ℕ → SessNo
 session k = record { 0 = k }
@@ -66,8 +65,3 @@ but_open plan (Some s) d e rise has = rw e (sum_but (λ (t : SessNo). places_of 
 -- a run's closes are those of the sessions that it has closed
 pub closes_closed : (plan : PlanView) (old new : Notes) (d : ControlView) → HasPlanted plan old new d → IsTied plan new d → new.tally.closes ≡ old.tally.closes + places_in_all plan (closed_by d)
 closes_closed plan old new d planted tie = let all = but_open plan d.opened d refl tie.rising tie.opened in omega (arith, planted.closes, all)
-
--- the control that the run has come to is the last one by its calls
-pub last_of : (plan : PlanView) (walks : ℕ → Walk) (t : ℕ) (old new : Notes) (c d : ControlView) → c ≡ first_control plan t →
-    Follows plan old new (walks t).trace (walks t).calls c d → d ≡ last_control plan walks t
-last_of plan walks t old new c d first follows = follows.control ∙ ap (λ (x : ControlView). control_by x (walks t).calls) first

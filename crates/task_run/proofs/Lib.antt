@@ -1,6 +1,5 @@
 pub mod AsideLemmas
 pub mod CloseLemmas
-pub mod CountLemmas
 pub mod FollowsLemmas
 pub mod RanLemmas
 pub mod RunLemmas

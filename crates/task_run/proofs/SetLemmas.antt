@@ -1,10 +1,9 @@
 -- The sets that an area ends with are the facts of the visits that its passes observed.
-use Rattle.std.proofs.Common.{◌≡◌, ℕ, ◌+◌, ◌<◌, ◌≤◌, Bool, true, false, ◌&&◌, ◌||◌, nat_lt, List, [], ◌∷◌, ◌++◌, length, inl, inr, refl, sym, ◌∙◌, ap, subst, arith}
-use Rattle.std.specs.List.{flat_map, sum_by}
-use Rattle.std.proofs.lemmas.Bool.{or_cases, and_parts, both_ways, ltb-true}
-use Rattle.std.proofs.lemmas.List.Sums.{sum_by-cons}
+use Rattle.std.proofs.Common.{◌≡◌, ℕ, ◌<◌, ◌≤◌, Bool, true, false, ◌&&◌, ◌||◌, List, [], ◌∷◌, ◌++◌, length, inl, inr, refl, sym, ◌∙◌, ap, subst, arith}
+use Rattle.std.specs.List.{flat_map}
+use Rattle.std.proofs.lemmas.Bool.{or_cases, and_parts, both_ways}
 use Rattle.cov_base.specs.FactSet.{FactSet}
-use Rattle.cov_base.specs.Facts.{no_facts, has_fact, union, same_fact, fact_of, full_of, is_full, is_of_kind}
+use Rattle.cov_base.specs.Facts.{no_facts, has_fact, union, same_fact, fact_of, full_of, is_of_kind}
 use Rattle.cov_base.specs.States.{Visit}
 use Rattle.cov_base.specs.declared.facts.Fact.{Fact}
 use Rattle.cov_base.specs.declared.facts.Fact.TheVariants.{Ran, Went, Stayed}
@@ -13,16 +12,14 @@ use Rattle.cov_base.specs.declared.facts.Kind.TheVariants.{Straight, Conditional
 use Rattle.module_area.specs.declared.places.Place.{Place}
 use Rattle.module_area.specs.PlanView.{PlanView, IsPlan, place_of, kind_at, window_at}
 use Rattle.module_area.specs.Notes.{Notes}
-use Rattle.module_area.specs.Counts.{count_below}
-use Rattle.module_area.specs.Executions.{executes, facts_at, facts_of_all, visits_at_places}
+use Rattle.module_area.specs.Executions.{executes, facts_at, facts_of_all}
 use Rattle.module_area.specs.FinalsView.{FinalsView, set_at}
 use Rattle.module_area.specs.Ended.{HasSets, HasTally, full_places}
-use Rattle.module_area.proofs.CountLemmas.{count_same}
 use Rattle.module_area.proofs.FactLemmas.{same_fact-true}
 use Rattle.module_area.proofs.EndedLemmas.{pairs_are_places}
 use Rattle.module_area.proofs.Indices.{same_tests}
 use Rattle.svc_monitor.specs.Observed.{Observes, Stays, IsShown}
-use Rattle.svc_monitor.proofs.ObservedLemmas.{has_fact-none, facts_at-more, facts_at-append, visits_at_places-append}
+use Rattle.svc_monitor.proofs.ObservedLemmas.{has_fact-none, facts_at-more, facts_at-append}
 
 -- sets with the same facts
 
@@ -71,12 +68,6 @@ facts_of_all-one place (t ∷ ts) =
     ap (union (facts_at place t)) (facts_of_all-one place ts)
     ∙ same_sets (union (facts_at place t) (facts_at place rest)) (facts_at place (t ++ rest)) (λ f. has_fact-union (facts_at place t) (facts_at place rest) f ∙ sym (facts_at-append place t rest f))
 
-pub visits_at_places-one : (places : List Place) (traces : List (List Visit)) → visits_at_places places (flat_map (λ t. t) traces) ≡ sum_by (visits_at_places places) traces
-visits_at_places-one places [] = refl
-visits_at_places-one places (t ∷ ts) =
-    visits_at_places-append places t (flat_map (λ u. u) ts) ∙ ap (λ n. visits_at_places places t + n) (visits_at_places-one places ts)
-    ∙ sym (sum_by-cons (visits_at_places places) t ts)
-
 -- the set of a place's whole session: what the notes have marked lies within these facts, and these were shown
 pub set_at-facts : (plan : PlanView) (ended : Notes) (finals : FinalsView) (p : ℕ) (facts : FactSet) → IsPlan plan → HasSets plan ended finals →
     p < length plan.places → 0 < window_at plan p →
@@ -124,18 +115,3 @@ exact_lifts plan old ended trace finals whole ready observes sets tally =
     let most = tally.lifts_most in
     let same = pairs_are_places plan ended finals whole sets in
     omega (arith, least, most, same)
-
-shows_full : (plan : PlanView) (finals : FinalsView) (trace : List Visit) (p : ℕ) (b : Bool) → nat_lt 0 (window_at plan p) ≡ b →
-    (0 < window_at plan p → set_at finals (window_at plan p) p ≡ facts_at (place_of plan.places p) trace) →
-    (b && is_full (kind_at plan p) (set_at finals (window_at plan p) p)) ≡ (b && is_full (kind_at plan p) (facts_at (place_of plan.places p) trace))
-shows_full plan finals trace p true e same = ap (is_full (kind_at plan p)) (same (ltb-true 0 (window_at plan p) e))
-shows_full plan finals trace p false e same = refl
-
--- and those are the places whose facts in the trace are all of their kind
-pub exact_full_places : (plan : PlanView) (old ended : Notes) (trace : List Visit) (finals : FinalsView) → IsPlan plan → IsReady plan old → Observes plan old ended trace →
-    HasSets plan ended finals → full_places plan finals
-    ≡ count_below (λ p. nat_lt 0 (window_at plan p) && is_full (kind_at plan p) (facts_at (place_of plan.places p) trace)) (length plan.places)
-exact_full_places plan old ended trace finals is ready observes sets =
-    count_same (λ p. nat_lt 0 (window_at plan p) && is_full (kind_at plan p) (set_at finals (window_at plan p) p))
-    (λ p. nat_lt 0 (window_at plan p) && is_full (kind_at plan p) (facts_at (place_of plan.places p) trace)) (length plan.places)
-    (λ p lt. shows_full plan finals trace p (nat_lt 0 (window_at plan p)) refl (λ window. exact_set plan old ended trace finals is ready observes sets p lt window))

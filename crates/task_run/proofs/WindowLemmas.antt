@@ -1,7 +1,8 @@
 -- The tags of a task's sessions while its calls open and close them.
 use Rattle.std.proofs.Common.{◌≡◌, ◌≢◌, ◌⊎◌, ◌↔◌, ℕ, ◌+◌, ◌-◌, ◌*◌, ◌<◌, ◌≤◌, Bool, true, false, ◌==◌, if◌then◌else◌, nat_eq, Option, Some, None, List, [], ◌∷◌, take, drop, get_or, All, inl, inr, refl, sym, ◌∙◌, ap, subst, arith, eqb-true, eq-eqb}
-use Rattle.std.proofs.lemmas.Bool.{cases_Bool, both_ways}
+use Rattle.std.proofs.lemmas.Bool.{cases_Bool, both_ways, cases_lt}
 use Rattle.std.proofs.lemmas.List.{get_or-drop, length-drop, get_or_default}
+use Rattle.std.proofs.lemmas.Option.{same_Some}
 use Rattle.cov_base.specs.declared.numbers.PlaceNo.{PlaceNo}
 use Rattle.cov_base.specs.declared.numbers.SessNo.{SessNo}
 use Rattle.module_area.specs.PlanView.{PlanView, IsPlan, has_place}
@@ -24,9 +25,6 @@ pub record IsBound (plan : PlanView) (n : Notes) (c : ControlView) : Type 0 wher
 abbrev session : ℕ → SessNo
 session k = record { 0 = k }
 
-some_one : {x y : SessNo} → Some x ≡ Some y → x ≡ y
-some_one e = cc
-
 at_place : (places : List PlaceNo) (P : ℕ → Type 0) (p : ℕ) → All (λ (q : PlaceNo). P q.0) places → has_place places p ≡ true → P p
 at_place places P p all has = let d : PlaceNo = record { 0 = p } in let a = any_at (λ (q : PlaceNo). nat_eq q.0 p) places d has in
     subst P (eqb-true _ _ a.2) (all a.0 d a.1)
@@ -34,14 +32,11 @@ at_place places P p all has = let d : PlaceNo = record { 0 = p } in let a = any_
 low_or : (i n : ℕ) → i < n + 1 → (i < n) ⊎ (i ≡ n)
 low_or i n l = grind arith
 
-before_or : (i n : ℕ) → (i < n) ⊎ (n ≤ i)
-before_or i n = grind arith
-
 is_one : (o : Option SessNo) (s : SessNo) → (o ≡ Some s) ⊎ (o ≢ Some s)
 is_one None s = inr (λ e. absurd cc)
 is_one (Some t) s = elim (cases_Bool (nat_eq t.0 s.0)) [
   | inl e ↦ inl (ap (λ k. Some (session k)) (eqb-true t.0 s.0 e))
-  | inr e ↦ inr (λ z. both_ways (nat_eq t.0 s.0) e (eq-eqb t.0 s.0 (ap (λ (x : SessNo). x.0) (some_one z))))
+  | inr e ↦ inr (λ z. both_ways (nat_eq t.0 s.0) e (eq-eqb t.0 s.0 (ap (λ (x : SessNo). x.0) (same_Some _ _ z))))
 ]
 
 open_over : (b : Bool) (s t k : ℕ) → t < s → 2 * t ≤ k → 2 * t ≤ (if b then 2 * s - 1 else k)
@@ -84,7 +79,7 @@ bound_close plan n c s b is_open = record {
           (subst (λ z. has_place (places_under plan z) q ≡ true) (eqb-true t.0 s.0 e) (has_here (places_under plan t.0) k p l)) (eqb-true t.0 s.0 e)
       | inr e ↦ close_over (has_place (places_under plan s.0) q) s.0 t.0 (n.last q)
           (λ has. at_place (places_under plan s.0) (λ r. n.last r + 1 ≡ 2 * s.0) q (b.tied.planted s is_open) has)
-          (b.past.over i t lt at (λ z. both_ways (nat_eq t.0 s.0) e (eq-eqb t.0 s.0 (sym (ap (λ (x : SessNo). x.0) (some_one (sym is_open ∙ z)))))) k p l)
+          (b.past.over i t lt at (λ z. both_ways (nat_eq t.0 s.0) e (eq-eqb t.0 s.0 (sym (ap (λ (x : SessNo). x.0) (same_Some _ _ (sym is_open ∙ z)))))) k p l)
     ];
   };
 }
@@ -133,7 +128,7 @@ window_there : (plan : PlanView) (n : Notes) (c : ControlView) (s : SessNo) (p :
 window_there plan n c s p b own there =
     let a = any_at (λ (t : SessNo). nat_eq t.0 s.0) c.sessions s own in
     let at : get_or c.sessions a.0 s ≡ s = ap session (eqb-true (get_or c.sessions a.0 s).0 s.0 a.2) in (
-      λ tag. elim (before_or a.0 c.next) [
+      λ tag. elim (cases_lt a.0 c.next) [
         | inl low ↦ elim (is_one c.opened s) [
           | inl there_is ↦ there_is
           | inr other ↦ let over : 2 * s.0 ≤ n.last p = at_place (places_under plan s.0) (λ r. 2 * s.0 ≤ n.last r) p (b.past.over a.0 s low at other) there in absurd (omega (arith, over, tag))

@@ -1,4 +1,4 @@
-use Rattle.std.proofs.Common.{true, get_or, refl, sym, ◌∙◌, ap, subst}
+use Rattle.std.proofs.Common.{get_or, refl, sym, ◌∙◌, ap, subst}
 use Rattle.module_area.specs.Ended.{AreSettled}
 use Rattle.module_area.specs.Notes.{Notes, is_working}
 use Rattle.module_area.specs.PlanView.{PlanView}

@@ -1,5 +1,5 @@
-use Rattle.std.proofs.Common.{rules, ◌≡◌, suc, ◌++◌, Some, Option, [], ◌∷◌, All, IsSome, List, length, map, refl, sym, ◌∙◌, ap, subst, arith}
-use Rattle.std.proofs.lemmas.List.{append_assoc, append-nil, map-append}
+use Rattle.std.proofs.Common.{rules, ◌≡◌, suc, ◌++◌, Some, Option, [], ◌∷◌, All, IsSome, List, length, map, sym, ◌∙◌, ap, subst, arith}
+use Rattle.std.proofs.lemmas.List.{append_assoc, append-nil, map-append, nil_from_length}
 use Rattle.job_run.specs.declared.slots.Slot.{Slot}
 use Rattle.job_run.specs.declared.outcome.Done.{Done}
 use Rattle.job_run.specs.Slots.{dones, extras_of}
@@ -9,10 +9,6 @@ use Rattle.job_run.proofs.slots.parts_of.Goals as goal
 -- a list whose first element goes to the end of another
 moved_one : {X : Type 0} (xs ys zs all : List X) (x : X) → xs ++ ys ≡ all → ys ≡ x ∷ zs → (xs ++ x ∷ []) ++ zs ≡ all
 moved_one xs ys zs all x before first = append_assoc xs (x ∷ []) zs ∙ (ap (λ l. xs ++ l) (sym first) ∙ before)
-
-none_at : {X : Type 0} (xs : List X) → length xs ≡ 0 → xs ≡ []
-none_at [] e = refl
-none_at (x ∷ xs) e = absurd (omega (arith, e))
 
 pub taken_apart-done-requires : goal.taken_apart-done-requires
 taken_apart-done-requires g c =
@@ -43,7 +39,7 @@ loop-slot-preserved g c =
 
 -- none are left
 none_left : (g : given.Over) (c : goal.After-drop-slot-iterator g) → c.loop-slot.slot-iterator.rest.items ≡ []
-none_left g c = none_at c.loop-slot.slot-iterator.rest.items (sym c.loop-slot.slot-iterator.rest.ok.0 ∙ c.in-None.ensures.steps.0)
+none_left g c = nil_from_length c.loop-slot.slot-iterator.rest.items (sym c.loop-slot.slot-iterator.rest.ok.0 ∙ c.in-None.ensures.steps.0)
 
 pub returns-clause-tasks : goal.returns-clause-tasks
 returns-clause-tasks g c =

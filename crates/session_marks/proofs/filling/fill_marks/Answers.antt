@@ -1,6 +1,6 @@
 use Rattle.std.proofs.Common.{◌≡◌, true, ℕ, List, length, map, ap, sym, ◌∙◌}
 use Rattle.std.specs.Vec.{with_items}
-use Rattle.std.proofs.lemmas.List.{with_items_is}
+use Rattle.std.proofs.lemmas.List.{with_items_is, length-map}
 use Rattle.cov_base.specs.FactSet.{FactSet}
 use Rattle.cov_base.specs.Facts.{no_facts}
 use Rattle.brk_table.specs.Places.{TablesView}
@@ -11,7 +11,6 @@ use Rattle.session_book.specs.JobView.{JobView}
 use Rattle.session_book.specs.Sessions.{session_of}
 use Rattle.session_marks.specs.Filled.{filled}
 use Rattle.session_marks.specs.Marked.{marked_module, session_file}
-use Rattle.session_marks.proofs.ModuleLemmas.{length-mapped}
 use Rattle.session_marks.proofs.FillLemmas.{are_there, modules_are_filled, filled_are_marks}
 use Rattle.session_marks.proofs.filling.fill_marks.Goals as goal
 
@@ -31,7 +30,7 @@ invariant_of-marks g c =
     let old : c.marks.inside.modules.items ≡ map (marked_module j t (λ n. no_facts)) ms = ap (λ (x : MarksView). x.modules) (c.marks.view_is ∙ c.requires.empty) in
     let new : c.fill_modules.new.marked ≡ map (marked_module j t sets) ms =
     c.fill_modules.ensures ∙ (ap (λ (x : List MarkedView). filled t sets x c.modules_of.result.now) (c.deref_mut.ensures.value ∙ old) ∙ (ap (λ (y : List ℕ). filled t sets (map (marked_module j t (λ n. no_facts)) ms) y) c.modules_of.ensures.value ∙ modules_are_filled j t (λ n. no_facts) sets ms)) in
-    let size : length c.fill_modules.new.marked ≡ length c.marks.inside.modules.items = ap length new ∙ (length-mapped (marked_module j t sets) ms ∙ (sym (length-mapped (marked_module j t (λ n. no_facts)) ms) ∙ sym (ap length old))) in
+    let size : length c.fill_modules.new.marked ≡ length c.marks.inside.modules.items = ap length new ∙ (length-map ms (marked_module j t sets) ∙ (sym (length-map ms (marked_module j t (λ n. no_facts))) ∙ sym (ap length old))) in
     let kept : (with_items c.marks.inside.modules c.fill_modules.new.marked).items ≡ c.fill_modules.new.marked = with_items_is c.marks.inside.modules c.fill_modules.new.marked (size ∙ sym c.marks.inside.modules.ok.0) in
     let was : are_marks c.marks.inside.modules.items ≡ true = kept_modules (record { name = c.marks.inside.name; runs = c.marks.inside.runs; modules = c.marks.inside.modules.items }) c.marks.invariant in
     both (is_session_name c.marks.inside.name) _ (both-left (is_session_name c.marks.inside.name) _ c.marks.invariant)
@@ -47,7 +46,7 @@ returns g c =
     let old : c.marks.inside.modules.items ≡ map (marked_module j t (λ n. no_facts)) ms = ap (λ (x : MarksView). x.modules) (c.marks.view_is ∙ c.requires.empty) in
     let new : c.fill_modules.new.marked ≡ map (marked_module j t sets) ms =
     c.fill_modules.ensures ∙ (ap (λ (x : List MarkedView). filled t sets x c.modules_of.result.now) (c.deref_mut.ensures.value ∙ old) ∙ (ap (λ (y : List ℕ). filled t sets (map (marked_module j t (λ n. no_facts)) ms) y) c.modules_of.ensures.value ∙ modules_are_filled j t (λ n. no_facts) sets ms)) in
-    let size : length c.fill_modules.new.marked ≡ length c.marks.inside.modules.items = ap length new ∙ (length-mapped (marked_module j t sets) ms ∙ (sym (length-mapped (marked_module j t (λ n. no_facts)) ms) ∙ sym (ap length old))) in
+    let size : length c.fill_modules.new.marked ≡ length c.marks.inside.modules.items = ap length new ∙ (length-map ms (marked_module j t sets) ∙ (sym (length-map ms (marked_module j t (λ n. no_facts))) ∙ sym (ap length old))) in
     let kept : (with_items c.marks.inside.modules c.fill_modules.new.marked).items ≡ c.fill_modules.new.marked = with_items_is c.marks.inside.modules c.fill_modules.new.marked (size ∙ sym c.marks.inside.modules.ok.0) in
     let before : c.marks.inside.name ≡ (session_file j t (λ n. no_facts) c.args.s.0).name = ap (λ (x : MarksView). x.name) (c.marks.view_is ∙ c.requires.empty) in
     same_marks c.marks.inside.name c.marks.inside.runs (with_items c.marks.inside.modules c.fill_modules.new.marked).items (session_file j t sets c.args.s.0) before (ap (λ (x : MarksView). x.runs) (c.marks.view_is ∙ c.requires.empty)) (kept ∙ new)
