@@ -2,62 +2,84 @@
 use super::*;
 use std::test::*;
 
+static NAMES: [&str; 7] = ["A", "Z9", "@", "#1", "$A", "M@#$0123", "ABCDEFGH"];
+
+static OTHERS: [&str; 12] = [
+    "",
+    "1A",
+    "a",
+    "Ab",
+    "A B",
+    "A ",
+    " A",
+    "A-B",
+    "A_",
+    "ABCDEFGHI",
+    "[",
+    "\u{e9}",
+];
+
+/// Whether each of the names is read, as its own bytes.
+fn are_names() -> bool {
+    for n in 0..7 {
+        let text = NAMES[n].as_bytes();
+        match Name::read(text) {
+            Some(name) => {
+                if name.bytes() != text {
+                    return false;
+                }
+            }
+            None => return false,
+        }
+    }
+    true
+}
+
+/// The first of the others that is read as a name, and else how many they are.
+fn first_name() -> usize {
+    for n in 0..12 {
+        if Name::read(OTHERS[n].as_bytes()).is_some() {
+            return n;
+        }
+    }
+    12
+}
+
 #[test]
 fn names_are_spelled_so(rt: HostRuntime) {
-    for text in ["A", "Z9", "@", "#1", "$A", "M@#$0123", "ABCDEFGH"] {
-        let name = Name::read(text.as_bytes());
-        assert!(rt;
-            name.is_some_and(|n| n.bytes() == text.as_bytes()),
-            "{text}"
-        );
-    }
-    for text in [
-        "",
-        "1A",
-        "a",
-        "Ab",
-        "A B",
-        "A ",
-        " A",
-        "A-B",
-        "A_",
-        "ABCDEFGHI",
-        "[",
-        "\u{e9}",
-    ] {
-        assert!(rt; Name::read(text.as_bytes()).is_none(), "{text}");
-    }
+    assert!(rt; are_names());
+    assert!(rt; first_name() == 12);
+}
+
+fn have_marks() -> bool {
+    let none = Bits::empty();
+    mark_of(Kind::Straight, none) == Mark::Not
+        && mark_of(Kind::Straight, none.with(Fact::Ran)) == Mark::Done
+        && mark_of(Kind::Conditional, none) == Mark::Not
+        && mark_of(Kind::Conditional, none.with(Fact::Went)) == Mark::Branched
+        && mark_of(Kind::Conditional, none.with(Fact::Stayed)) == Mark::Fell
+        && mark_of(Kind::Conditional, none.with(Fact::Went).with(Fact::Stayed)) == Mark::Both
 }
 
 #[test]
 fn marks_by_facts(rt: HostRuntime) {
-    let none = Bits::empty();
-    assert_eq!(rt; mark_of(Kind::Straight, none), Mark::Not);
-    assert_eq!(rt; mark_of(Kind::Straight, none.with(Fact::Ran)), Mark::Done);
-    assert_eq!(rt; mark_of(Kind::Conditional, none), Mark::Not);
-    assert_eq!(rt;
-        mark_of(Kind::Conditional, none.with(Fact::Went)),
-        Mark::Branched
-    );
-    assert_eq!(rt;
-        mark_of(Kind::Conditional, none.with(Fact::Stayed)),
-        Mark::Fell
-    );
-    assert_eq!(rt;
-        mark_of(Kind::Conditional, none.with(Fact::Went).with(Fact::Stayed)),
-        Mark::Both
-    );
+    assert!(rt; have_marks());
+}
+
+fn are_full_so() -> bool {
+    let went = Bits::empty().with(Fact::Went);
+    let both = went.union(Bits::empty().with(Fact::Stayed));
+    !went.is_full(Kind::Conditional)
+        && both.is_full(Kind::Conditional)
+        && !both.is_full(Kind::Straight)
+        && Bits::empty().with(Fact::Ran).is_full(Kind::Straight)
+        && both.has(Fact::Stayed)
+        && !both.has(Fact::Ran)
 }
 
 #[test]
 fn sets_are_full_with_all_facts_of_their_kind(rt: HostRuntime) {
-    let went = Bits::empty().with(Fact::Went);
-    let both = went.union(Bits::empty().with(Fact::Stayed));
-    assert!(rt; !went.is_full(Kind::Conditional) && both.is_full(Kind::Conditional));
-    assert!(rt;
-        !both.is_full(Kind::Straight) && Bits::empty().with(Fact::Ran).is_full(Kind::Straight)
-    );
-    assert!(rt; both.has(Fact::Stayed) && !both.has(Fact::Ran));
+    assert!(rt; are_full_so());
 }
 
 #[test]

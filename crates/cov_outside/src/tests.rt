@@ -1,8 +1,11 @@
 //! Faults in mid-stream, at the call that is listed and at the next, and each call with ample memory.
+ghost use Rattle.std.specs.Prelude.{◌<◌, ◌≤◌};
+
 use crate::{
     Failed, MemSink, MemSource, ReadFault, Sink, Source, StdSink, StdSource, SureSink, SureSource,
     WriteBuffer, read_all, write_all,
 };
+use std::alloc::Global;
 use std::io::{Error, ErrorKind, Read, Result as IoResult, Write};
 use std::test::Fail;
 
@@ -54,110 +57,159 @@ impl Read for Halting {
     }
 }
 
-#[test]
-fn reads_pieces_to_the_end(rt: HostRuntime) -> Result<(), Fail> {
-    let alloc = rt.alloc();
+/// Whether 200 bytes come whole in pieces of 64, and no fault is counted.
+fn come_whole(alloc: Global) -> Result<bool, Fail> {
     let text = Vec::from_slice(alloc, &[b'T'; 200])?;
     let mut source = MemSource::new(text, 64, Vec::new(alloc));
     let read = read_all(alloc, &mut source, 200)?;
-    assert_eq!(rt; read.as_slice(), [b'T'; 200].as_slice());
-    assert_eq!(rt; source.faults(), 0);
+    Ok(read.as_slice() == [b'T'; 200].as_slice() && source.faults() == 0)
+}
+
+/// Reads three bytes in pieces of two, of which it takes so many at most.
+fn read_sure(alloc: Global, limit: usize) -> Result<Result<Vec<u8>, ReadFault>, Fail>
+    requires { limit ≤ 3 }
+{
     let mut sure = SureSource::new(Vec::from_slice(alloc, b"ABC")?, 2);
-    assert_eq!(rt;
-        read_all(alloc, &mut sure, 3)?.as_slice(),
-        b"ABC".as_slice()
-    );
-    let mut sure = SureSource::new(Vec::from_slice(alloc, b"ABC")?, 2);
-    assert!(rt; read_all(alloc, &mut sure, 2).err() == Some(ReadFault::TooLarge));
+    Ok(read_all(alloc, &mut sure, limit))
+}
+
+#[test]
+fn reads_pieces_to_the_end(rt: HostRuntime) -> Result<(), Fail> {
+    let alloc = rt.alloc();
+    assert!(rt; come_whole(alloc)?);
+    assert!(rt; read_sure(alloc, 3)??.as_slice() == b"ABC".as_slice());
+    assert!(rt; read_sure(alloc, 2)?.err() == Some(ReadFault::TooLarge));
     Ok(())
+}
+
+/// Whether the third read fails alone, and is counted.
+fn third_read_fails(alloc: Global) -> Result<bool, Fail> {
+    let text = Vec::from_slice(alloc, &[b'T'; 200])?;
+    let mut source = MemSource::new(text, 64, Vec::from_slice(alloc, &[3])?);
+    let first = read_all(alloc, &mut source, 200).err();
+    let faults = source.faults();
+    let rest = read_all(alloc, &mut source, 200)?;
+    Ok(first == Some(ReadFault::Failed) && faults == 1 && rest.len() == 72)
 }
 
 #[test]
 fn fails_at_the_third_read(rt: HostRuntime) -> Result<(), Fail> {
-    let alloc = rt.alloc();
-    let text = Vec::from_slice(alloc, &[b'T'; 200])?;
-    let mut source = MemSource::new(text, 64, Vec::from_slice(alloc, &[3])?);
-    assert!(rt; read_all(alloc, &mut source, 200).err() == Some(ReadFault::Failed));
-    assert_eq!(rt; source.faults(), 1);
-    assert_eq!(rt; read_all(alloc, &mut source, 200)?.len(), 72);
+    assert!(rt; third_read_fails(rt.alloc())?);
     Ok(())
+}
+
+/// Whether a sink of ten bytes, which takes four at a time, fails at its second write and where it is full.
+fn second_write_fails(sink: &mut MemSink) -> bool {
+    write_all(sink, b"ABCDEF") == Err(Failed)
+        && sink.bytes() == b"ABCD".as_slice()
+        && sink.faults() == 1
+        && write_all(sink, b"EF") == Ok(())
+        && write_all(sink, b"GHIJKL") == Err(Failed)
+        && sink.bytes() == b"ABCDEFGHIJ".as_slice()
+        && sink.faults() == 2
+}
+
+/// A sink of so many bytes, which takes so many at a time, and which fails at these writes.
+fn mem_sink(alloc: Global, room: usize, piece: usize, fail: &[u64]) -> Result<MemSink, Fail>
+    requires { 0 < piece }
+{
+    match MemSink::new(alloc, room, piece, Vec::from_slice(alloc, fail)?) {
+        Ok(sink) => Ok(sink),
+        Err(_) => Err(Fail::from("no memory")),
+    }
 }
 
 #[test]
 fn fails_at_the_second_write_and_where_it_is_full(rt: HostRuntime) -> Result<(), Fail> {
-    let alloc = rt.alloc();
-    let fail = Vec::from_slice(alloc, &[2])?;
-    let Ok(mut sink) = MemSink::new(alloc, 10, 4, fail) else {
-        return Err(Fail::from("no memory"));
-    };
-    assert!(rt; write_all(&mut sink, b"ABCDEF") == Err(Failed));
-    assert_eq!(rt; sink.bytes(), b"ABCD".as_slice());
-    assert_eq!(rt; sink.faults(), 1);
-    assert!(rt; write_all(&mut sink, b"EF") == Ok(()));
-    assert!(rt; write_all(&mut sink, b"GHIJKL") == Err(Failed));
-    assert_eq!(rt; sink.bytes(), b"ABCDEFGHIJ".as_slice());
-    assert_eq!(rt; sink.faults(), 2);
+    let mut sink = mem_sink(rt.alloc(), 10, 4, &[2])?;
+    assert!(rt; second_write_fails(&mut sink));
     assert!(rt; write_all(&mut SureSink::new(), b"ABC") == Ok(()));
     Ok(())
 }
 
-#[test]
-fn counts_the_faults_of_std(rt: HostRuntime) {
+/// Whether a source fails at its second call alone, and counts that.
+fn counts_a_read() -> bool {
     let mut source = StdSource::new(Halting { calls: 0 });
     let mut buf = [0; 8];
-    assert!(rt; source.read(&mut buf) == Ok(1));
-    assert_eq!(rt; source.faults(), 0);
-    assert!(rt; source.read(&mut buf) == Err(Failed));
-    assert_eq!(rt; source.faults(), 1);
-    assert!(rt; source.read(&mut buf) == Ok(1));
-    assert_eq!(rt; source.faults(), 1);
+    source.read(&mut buf) == Ok(1)
+        && source.faults() == 0
+        && source.read(&mut buf) == Err(Failed)
+        && source.faults() == 1
+        && source.read(&mut buf) == Ok(1)
+        && source.faults() == 1
+}
+
+/// Whether a sink that takes nothing fails at a write, and counts that.
+fn counts_a_write() -> bool {
     let mut sink = StdSink::new(Stuck);
-    assert!(rt; sink.write(b"A") == Err(Failed));
-    assert_eq!(rt; sink.faults(), 1);
-    assert!(rt; sink.flush() == Ok(()));
-    assert_eq!(rt; sink.faults(), 1);
+    sink.write(b"A") == Err(Failed)
+        && sink.faults() == 1
+        && sink.flush() == Ok(())
+        && sink.faults() == 1
+}
+
+/// Whether a sink that hands nothing on fails at a flush, and counts that.
+fn counts_a_flush() -> bool {
     let mut sink = StdSink::new(Holding);
-    assert!(rt; sink.write(b"A") == Ok(1));
-    assert!(rt; sink.flush() == Err(Failed));
-    assert_eq!(rt; sink.faults(), 1);
+    sink.write(b"A") == Ok(1) && sink.flush() == Err(Failed) && sink.faults() == 1
+}
+
+#[test]
+fn counts_the_faults_of_std(rt: HostRuntime) {
+    assert!(rt; counts_a_read());
+    assert!(rt; counts_a_write());
+    assert!(rt; counts_a_flush());
+}
+
+/// Whether a buffer takes 455 pieces of nine bytes, and the sink has then no call.
+fn takes_pieces(buffer: &mut WriteBuffer, sink: &mut MemSink) -> bool {
+    for _i in 0..455 {
+        if buffer.put(sink, b"ABCDEFGHI") != Ok(()) {
+            return false;
+        }
+    }
+    sink.calls() == 0
+}
+
+/// Whether the buffer gives its bytes with the next piece, and the rest at a flush.
+fn gives_pieces(buffer: &mut WriteBuffer, sink: &mut MemSink) -> bool {
+    buffer.put(sink, b"JKLMNOPQR") == Ok(())
+        && sink.calls() == 1
+        && sink.bytes().len() == 4096
+        && buffer.flush(sink) == Ok(())
+        && sink.calls() == 2
+        && sink.bytes().len() == 4104
+        && &sink.bytes()[4094..] == b"IJKLMNOPQR".as_slice()
+        && buffer.flush(sink) == Ok(())
+}
+
+/// Whether it gives a long piece at once.
+fn gives_a_long_piece(buffer: &mut WriteBuffer, sink: &mut MemSink) -> bool {
+    buffer.put(sink, &[b'T'; 9000]) == Ok(()) && sink.calls() == 4 && sink.bytes().len() == 13_104
 }
 
 #[test]
 fn a_buffer_gives_when_it_is_full(rt: HostRuntime) -> Result<(), Fail> {
-    let alloc = rt.alloc();
-    let Ok(mut sink) = MemSink::new(alloc, 20_000, 20_000, Vec::new(alloc)) else {
-        return Err(Fail::from("no memory"));
-    };
+    let mut sink = mem_sink(rt.alloc(), 20_000, 20_000, &[])?;
     let mut buffer = WriteBuffer::new();
-    for _i in 0..455 {
-        assert!(rt; buffer.put(&mut sink, b"ABCDEFGHI") == Ok(()));
-    }
-    assert_eq!(rt; sink.calls(), 0);
-    assert!(rt; buffer.put(&mut sink, b"JKLMNOPQR") == Ok(()));
-    assert_eq!(rt; sink.calls(), 1);
-    assert_eq!(rt; sink.bytes().len(), 4096);
-    assert!(rt; buffer.flush(&mut sink) == Ok(()));
-    assert_eq!(rt; sink.calls(), 2);
-    assert!(rt; &sink.bytes()[4094..] == b"IJKLMNOPQR".as_slice());
-    assert!(rt; buffer.flush(&mut sink) == Ok(()));
-    assert!(rt; buffer.put(&mut sink, &[b'T'; 9000]) == Ok(()));
-    assert_eq!(rt; sink.calls(), 4);
-    assert_eq!(rt; sink.bytes().len(), 13_104);
+    assert!(rt; takes_pieces(&mut buffer, &mut sink));
+    assert!(rt; gives_pieces(&mut buffer, &mut sink));
+    assert!(rt; gives_a_long_piece(&mut buffer, &mut sink));
     Ok(())
+}
+
+/// Whether a buffer whose bytes a sink has refused gives those that come later alone.
+fn gives_later_bytes(buffer: &mut WriteBuffer, sink: &mut MemSink) -> bool {
+    buffer.put(sink, b"ABC") == Ok(())
+        && buffer.flush(sink) == Err(Failed)
+        && buffer.put(sink, b"DE") == Ok(())
+        && buffer.flush(sink) == Ok(())
+        && sink.bytes() == b"DE".as_slice()
 }
 
 #[test]
 fn a_buffer_holds_nothing_after_a_fault(rt: HostRuntime) -> Result<(), Fail> {
-    let alloc = rt.alloc();
-    let fail = Vec::from_slice(alloc, &[1])?;
-    let Ok(mut sink) = MemSink::new(alloc, 20, 20, fail) else {
-        return Err(Fail::from("no memory"));
-    };
-    let mut buffer = WriteBuffer::new();
-    assert!(rt; buffer.put(&mut sink, b"ABC") == Ok(()));
-    assert!(rt; buffer.flush(&mut sink) == Err(Failed));
-    assert!(rt; buffer.put(&mut sink, b"DE") == Ok(()));
-    assert!(rt; buffer.flush(&mut sink) == Ok(()));
-    assert_eq!(rt; sink.bytes(), b"DE".as_slice());
+    let mut sink = mem_sink(rt.alloc(), 20, 20, &[1])?;
+    assert!(rt; gives_later_bytes(&mut WriteBuffer::new(), &mut sink));
     Ok(())
 }

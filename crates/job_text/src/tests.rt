@@ -5,11 +5,15 @@ mod jobs;
 mod limits;
 mod pieces;
 
-use crate::{JobFault, ReadJob, read_job};
+ghost use Rattle.std.specs.Prelude.{◌<◌};
+
+use crate::{JobFault, read_job};
+use session_book::{Job, TaskCard};
 use std::alloc::{AllocError, Global};
+use std::process::Abort;
 use std::test::Fail;
 
-const LINES: [&[u8]; 16] = [
+static LINES: [&[u8]; 16] = [
     b"COVERJOB 1",
     b"MODULE M 100000 8",
     b"TEXT 411000051A1107FE",
@@ -27,6 +31,11 @@ const LINES: [&[u8]; 16] = [
     b"INPUT D2",
     b"ENDJOB",
 ];
+
+/// Each test tells here the first case that is wrong, by its index.
+fn none_wrong<T: Abort>(rt: &T, wrong: Option<usize>) {
+    assert_eq!(rt; wrong, None);
+}
 
 /// The bad line; 0 where the input is a job and nothing stands behind it, and 10,000 more where the line passes a limit.
 fn bad_line(alloc: Global, input: &[u8]) -> u32 {
@@ -56,33 +65,41 @@ fn with_line(alloc: Global, at: usize, text: &[u8]) -> Result<Vec<u8>, AllocErro
     Ok(input)
 }
 
+/// The job that a short input is; none where it isn't one.
+fn job_of(alloc: Global, input: &[u8]) -> Option<Job> {
+    if input.len() > 1_000 {
+        return None;
+    }
+    match read_job(alloc, input) {
+        Ok(read) => Some(read.job),
+        Err(_) => None,
+    }
+}
+
+fn is_task_of_lines(task: &TaskCard) -> bool {
+    task.entry.get() == 0x100000
+        && task.regs[14] == 0xFFFFFE
+        && task.regs[15] == 0xFEDC_BA98
+        && task.regs[0] == 10
+        && task.regs[1] == 0
+        && task.private == 80
+        && task.budget == 100
+        && task.room == 0
+}
+
+fn is_of_lines(job: &Job) -> bool {
+    job.images.0.len() == 1
+        && job.images.0[0].bytes.as_slice() == [0x41, 0x10, 0, 5, 0x1A, 0x11, 7, 0xFE].as_slice()
+        && job.tasks.len() == 1
+        && is_task_of_lines(&job.tasks[0])
+}
+
 #[test]
 fn reads_the_job(rt: HostRuntime) -> Result<(), Fail> {
     let a = rt.alloc();
-    let input = with_line(a, 0, b"")?;
-    assert!(rt; input.len() <= 1_000);
-    match read_job(a, &input) {
-        Ok(ReadJob { job, .. }) => {
-            assert_eq!(rt; job.images.0.len(), 1);
-            assert_eq!(rt;
-                job.images.0[0].bytes.as_slice(),
-                &[0x41, 0x10, 0, 5, 0x1A, 0x11, 7, 0xFE][..]
-            );
-            assert_eq!(rt; job.tasks.len(), 1);
-            assert_eq!(rt; job.tasks[0].entry.get(), 0x100000);
-            assert_eq!(rt; job.tasks[0].regs[14], 0xFFFFFE);
-            assert_eq!(rt; job.tasks[0].regs[15], 0xFEDC_BA98);
-            assert_eq!(rt; job.tasks[0].regs[0], 10);
-            assert_eq!(rt; job.tasks[0].regs[1], 0);
-            assert_eq!(rt;
-                (job.tasks[0].private, job.tasks[0].budget, job.tasks[0].room),
-                (80, 100, 0)
-            );
-        }
-        Err(_) => assert!(rt; false),
-    }
-    assert_eq!(rt; bad_line(a, b""), 1);
-    assert_eq!(rt; bad_line(a, b"\n"), 1);
+    let job = job_of(a, &with_line(a, 0, b"")?);
+    assert!(rt; matches!(&job, Some(job) if is_of_lines(job)));
+    assert!(rt; bad_line(a, b"") == 1 && bad_line(a, b"\n") == 1);
     Ok(())
 }
 
@@ -91,94 +108,160 @@ fn is_listing(n: usize) -> bool {
     4 <= n && n < 8
 }
 
+/// The job with line n, counted from 0, behind the next.
+fn exchanged(alloc: Global, n: usize) -> Result<Vec<u8>, AllocError>
+    requires { n < 15 }
+{
+    let mut input = Vec::new(alloc);
+    for k in 0..16 {
+        let from = if k == n {
+            n + 1
+        } else if k == n + 1 {
+            n
+        } else {
+            k
+        };
+        input.extend_from_slice(LINES[from])?;
+        input.push(b'\n')?;
+    }
+    Ok(input)
+}
+
+/// Its bad line.
+fn bad_exchanged(n: usize) -> u32
+    requires { n < 15 }
+{
+    // the listing takes the card that comes into it, and its own lines in any order; of SESSION and TASK, and of the
+    // cards behind TASK, the earlier one is no longer taken
+    if n == 7 {
+        9
+    } else if is_listing(n) {
+        0
+    } else if n == 9 || n >= 11 {
+        n as u32 + 2
+    } else {
+        n as u32 + 1
+    }
+}
+
+/// The first line of which another bad line is told, where it stands behind the next.
+fn wrong_exchanged(alloc: Global) -> Result<Option<usize>, AllocError> {
+    for n in 0..15 {
+        let input = exchanged(alloc, n)?;
+        if bad_line(alloc, &input) != bad_exchanged(n) {
+            return Ok(Some(n));
+        }
+    }
+    Ok(None)
+}
+
 #[test]
 fn refuses_neighbours_exchanged(rt: HostRuntime) -> Result<(), Fail> {
-    let a = rt.alloc();
-    for n in 0..15 {
-        let mut input = Vec::new(a);
-        for k in 0..16 {
-            let from = if k == n {
-                n + 1
-            } else if k == n + 1 {
-                n
-            } else {
-                k
-            };
-            input.extend_from_slice(LINES[from])?;
-            input.push(b'\n')?;
-        }
-        // the listing takes the card that comes into it, and its own lines in any order; of SESSION and TASK, and of the
-        // cards behind TASK, the earlier one is no longer taken
-        let bad = if n == 7 {
-            9
-        } else if is_listing(n) {
-            0
-        } else if n == 9 || n >= 11 {
-            n as u32 + 2
-        } else {
-            n as u32 + 1
-        };
-        assert_eq!(rt; (n, bad_line(a, &input)), (n, bad));
-    }
+    none_wrong(&rt, wrong_exchanged(rt.alloc())?);
     Ok(())
+}
+
+/// The line with one blank more before its byte i, or at its end.
+fn with_blank(alloc: Global, line: &[u8], i: usize) -> Result<Vec<u8>, AllocError> {
+    let mut text = Vec::new(alloc);
+    for k in 0..line.len() {
+        if k == i {
+            text.push(b' ')?;
+        }
+        text.push(line[k])?;
+    }
+    if i == line.len() {
+        text.push(b' ')?;
+    }
+    text.push(b'\n')?;
+    Ok(text)
+}
+
+/// Whether a blank more tells the bad line, wherever it stands at an end of line n or beside a blank of it.
+fn refuses_blanks(alloc: Global, n: usize) -> Result<bool, AllocError>
+    requires { n < 16 }
+{
+    let line = LINES[n];
+    let bad = if is_listing(n) { 0 } else { n as u32 + 1 };
+    for i in 0..line.len() {
+        if i == 0 || line[i] == b' ' {
+            let input = with_line(alloc, n + 1, &with_blank(alloc, line, i)?)?;
+            if bad_line(alloc, &input) != bad {
+                return Ok(false);
+            }
+        }
+    }
+    let input = with_line(alloc, n + 1, &with_blank(alloc, line, line.len())?)?;
+    Ok(bad_line(alloc, &input) == bad)
 }
 
 #[test]
 fn refuses_a_blank_too_many(rt: HostRuntime) -> Result<(), Fail> {
-    let a = rt.alloc();
     for n in 0..16 {
-        let line = LINES[n];
-        for i in 0..line.len() + 1 {
-            if i == 0 || i == line.len() || line[i] == b' ' {
-                let mut text = line[..i].to_vec(a)?;
-                text.push(b' ')?;
-                text.extend_from_slice(&line[i..])?;
-                text.push(b'\n')?;
-                let input = with_line(a, n + 1, &text)?;
-                let bad = if is_listing(n) { 0 } else { n as u32 + 1 };
-                assert_eq!(rt; bad_line(a, &input), bad);
-            }
-        }
+        assert!(rt; refuses_blanks(rt.alloc(), n)?);
     }
     Ok(())
+}
+
+/// The bad line where line n is missing.
+fn bad_without(n: usize) -> u32
+    requires { n < 16 }
+{
+    // a listing without one of its lines takes the PHASE card; SESSION, REG, DATA and INPUT cards may be none
+    if is_listing(n) {
+        9
+    } else if n == 9 || (11 <= n && n < 15) {
+        0
+    } else {
+        n as u32 + 1
+    }
+}
+
+/// The bad line where line n stands there twice.
+fn bad_doubled(n: usize) -> u32
+    requires { n < 16 }
+{
+    // the listing's last line comes behind it, as where the LISTING card is one of its lines; DATA and INPUT cards
+    // may be the same
+    if n == 3 || is_listing(n) {
+        9
+    } else if n == 13 || n == 14 {
+        0
+    } else {
+        n as u32 + 2
+    }
+}
+
+fn doubled(alloc: Global, line: &[u8]) -> Result<Vec<u8>, AllocError> {
+    let mut twice = line.to_vec(alloc)?;
+    twice.push(b'\n')?;
+    twice.extend_from_slice(line)?;
+    twice.push(b'\n')?;
+    Ok(twice)
+}
+
+/// The first line of which another bad line is told where it is missing, or where it stands there twice.
+fn wrong_missing_or_doubled(alloc: Global) -> Result<Option<usize>, AllocError> {
+    for n in 0..16 {
+        let missing = with_line(alloc, n + 1, b"")?;
+        let twice = with_line(alloc, n + 1, &doubled(alloc, LINES[n])?)?;
+        if bad_line(alloc, &missing) != bad_without(n)
+            || bad_line(alloc, &twice) != bad_doubled(n)
+        {
+            return Ok(Some(n));
+        }
+    }
+    Ok(None)
 }
 
 #[test]
 fn refuses_lines_that_are_missing_or_doubled(rt: HostRuntime) -> Result<(), Fail> {
-    let a = rt.alloc();
-    for n in 0..16 {
-        let line = LINES[n];
-        let missing = with_line(a, n + 1, b"")?;
-        // a listing without one of its lines takes the PHASE card; SESSION, REG, DATA and INPUT cards may be none
-        let lacks = if is_listing(n) {
-            9
-        } else if n == 9 || (11 <= n && n < 15) {
-            0
-        } else {
-            n as u32 + 1
-        };
-        assert_eq!(rt; (n, bad_line(a, &missing)), (n, lacks));
-        let mut twice = line.to_vec(a)?;
-        twice.push(b'\n')?;
-        twice.extend_from_slice(line)?;
-        twice.push(b'\n')?;
-        let doubled = with_line(a, n + 1, &twice)?;
-        // the listing's last line comes behind it, as where the LISTING card is one of its lines; DATA and INPUT cards
-        // may be the same
-        let more = if n == 3 || is_listing(n) {
-            9
-        } else if n == 13 || n == 14 {
-            0
-        } else {
-            n as u32 + 2
-        };
-        assert_eq!(rt; (n, bad_line(a, &doubled)), (n, more));
-    }
+    none_wrong(&rt, wrong_missing_or_doubled(rt.alloc())?);
     Ok(())
 }
 
 /// Line, what stands in its place, and the first bad line.
-const CASES: [(usize, &[u8], u32); 64] = [
+static CASES: [(usize, &[u8], u32); 64] = [
     (1, b"COVERJOB 2\n", 1),
     (2, b"MODULE M 100000 8\r\n", 2),
     (2, b"MODULE m 100000 8\n", 2),
@@ -245,18 +328,26 @@ const CASES: [(usize, &[u8], u32); 64] = [
     (16, b"ENDJOB\n\n", 17),
 ];
 
+/// The first case of which another bad line is told.
+fn wrong_case(alloc: Global) -> Result<Option<usize>, AllocError> {
+    for n in 0..64 {
+        let (at, text, bad) = CASES[n];
+        let input = with_line(alloc, at, text)?;
+        if bad_line(alloc, &input) != bad {
+            return Ok(Some(n));
+        }
+    }
+    Ok(None)
+}
+
 #[test]
 fn names_the_first_bad_line(rt: HostRuntime) -> Result<(), Fail> {
-    let a = rt.alloc();
-    for (at, text, bad) in &CASES {
-        let input = with_line(a, *at, text)?;
-        assert_eq!(rt; (*at, bad_line(a, &input)), (*at, *bad));
-    }
+    none_wrong(&rt, wrong_case(rt.alloc())?);
     Ok(())
 }
 
 /// What stands in place of the lines from the DATA card on, and the first bad line.
-const DATA_AND_INPUT: [(&[u8], u32); 41] = [
+static DATA_AND_INPUT: [(&[u8], u32); 41] = [
     (b"ENDJOB\n", 0),
     (b"DATA 79 c1\nENDJOB\n", 0),
     (b"DATA 79 C1C2\nENDJOB\n", 14),
@@ -311,19 +402,26 @@ fn with_end(alloc: Global, end: &[u8]) -> Result<Vec<u8>, AllocError> {
     Ok(input)
 }
 
+/// The first end of which another bad line is told.
+fn wrong_end(alloc: Global) -> Result<Option<usize>, AllocError> {
+    for n in 0..41 {
+        let (end, bad) = DATA_AND_INPUT[n];
+        let input = with_end(alloc, end)?;
+        if bad_line(alloc, &input) != bad {
+            return Ok(Some(n));
+        }
+    }
+    Ok(None)
+}
+
 #[test]
 fn takes_data_inside_private_storage_and_then_input(rt: HostRuntime) -> Result<(), Fail> {
     let a = rt.alloc();
-    for n in 0..DATA_AND_INPUT.len() {
-        let (end, bad) = DATA_AND_INPUT[n];
-        let input = with_end(a, end)?;
-        assert_eq!(rt; (n, bad_line(a, &input)), (n, bad));
-    }
+    none_wrong(&rt, wrong_end(a)?);
     // private storage of no bytes holds no card
     let none = with_line(a, 11, b"TASK A 100000 0 100 0\n")?;
-    assert_eq!(rt; bad_line(a, &none), 14);
     let few = with_line(a, 11, b"TASK A 100000 79 100 0\n")?;
-    assert_eq!(rt; bad_line(a, &few), 14);
+    assert!(rt; bad_line(a, &none) == 14 && bad_line(a, &few) == 14);
     Ok(())
 }
 
@@ -337,15 +435,37 @@ fn card_of(alloc: Global, words: &[u8], count: usize) -> Result<Vec<u8>, AllocEr
     with_end(alloc, &end)
 }
 
+/// The bad line of the job with a card of so many bytes at its end.
+fn bad_card(alloc: Global, words: &[u8], count: usize) -> Result<u32, AllocError> {
+    let input = card_of(alloc, words, count)?;
+    Ok(bad_line(alloc, &input))
+}
+
+/// The card's words before its bytes, how many these are, and its bad line.
+static CARDS: [(&[u8], usize, u32); 5] = [
+    (b"DATA 16 ", 64, 0),
+    (b"DATA 17 ", 64, 14),
+    (b"DATA 0 ", 65, 14),
+    (b"INPUT ", 64, 0),
+    (b"INPUT ", 65, 14),
+];
+
 #[test]
 fn takes_cards_of_64_bytes(rt: HostRuntime) -> Result<(), Fail> {
-    let a = rt.alloc();
-    assert_eq!(rt; bad_line(a, &card_of(a, b"DATA 16 ", 64)?), 0);
-    assert_eq!(rt; bad_line(a, &card_of(a, b"DATA 17 ", 64)?), 14);
-    assert_eq!(rt; bad_line(a, &card_of(a, b"DATA 0 ", 65)?), 14);
-    assert_eq!(rt; bad_line(a, &card_of(a, b"INPUT ", 64)?), 0);
-    assert_eq!(rt; bad_line(a, &card_of(a, b"INPUT ", 65)?), 14);
+    for n in 0..5 {
+        let (words, count, bad) = CARDS[n];
+        assert!(rt; bad_card(rt.alloc(), words, count)? == bad);
+    }
     Ok(())
+}
+
+fn has_data_and_input(task: &TaskCard) -> bool {
+    task.cards.len() == 2
+        && task.cards[0].offset == 4
+        && task.cards[0].bytes.as_slice() == [1, 2].as_slice()
+        && task.cards[1].offset == 5
+        && task.cards[1].bytes.as_slice() == [0xFF].as_slice()
+        && task.input.as_slice() == [0xC1, 0xC2, 0, 0xC3].as_slice()
 }
 
 #[test]
@@ -355,50 +475,66 @@ fn keeps_data_and_input_in_their_order(rt: HostRuntime) -> Result<(), Fail> {
         a,
         b"DATA 4 0102\nDATA 5 FF\nINPUT C1C2\nINPUT 00\nINPUT c3\nENDJOB\n",
     )?;
-    assert!(rt; input.len() <= 1_000);
-    match read_job(a, &input) {
-        Ok(ReadJob { job, .. }) => {
-            assert_eq!(rt; job.tasks.len(), 1);
-            let task = &job.tasks[0];
-            assert_eq!(rt; task.cards.len(), 2);
-            assert_eq!(rt; task.cards[0].offset, 4);
-            assert_eq!(rt; task.cards[0].bytes.as_slice(), &[1, 2][..]);
-            assert_eq!(rt; task.cards[1].offset, 5);
-            assert_eq!(rt; task.cards[1].bytes.as_slice(), &[0xFF][..]);
-            assert_eq!(rt; task.input.as_slice(), &[0xC1, 0xC2, 0, 0xC3][..]);
-        }
-        Err(_) => assert!(rt; false),
-    }
+    let job = job_of(a, &input);
+    assert!(rt;
+        matches!(&job, Some(job) if job.tasks.len() == 1 && has_data_and_input(&job.tasks[0]))
+    );
     Ok(())
+}
+
+/// The first lines of the job, so many.
+fn first_lines(alloc: Global, count: usize) -> Result<Vec<u8>, AllocError>
+    requires { count < 17 }
+{
+    let mut input = Vec::new(alloc);
+    for n in 0..count {
+        input.extend_from_slice(LINES[n])?;
+        input.push(b'\n')?;
+    }
+    Ok(input)
+}
+
+/// Whether the job tells its bad line wherever it is cut short in line i.
+fn refuses_parts(alloc: Global, i: usize) -> Result<bool, AllocError>
+    requires { i < 16 }
+{
+    let n = i as u32;
+    let line = LINES[i];
+    let mut input = first_lines(alloc, i)?;
+    for k in 0..line.len() {
+        // a part of a listing line is one, and so many whole bytes are a TEXT card
+        let more = is_listing(i) || (i == 2 && k > 5 && k % 2 == 1);
+        if 0 < k && bad_line(alloc, &input) != (if more { n + 2 } else { n + 1 }) {
+            return Ok(false);
+        }
+        input.push(line[k])?;
+    }
+    Ok(true)
+}
+
+/// The bad line of the job's first lines, so many and one more, with this in place of the LF of the last.
+fn bad_ended(alloc: Global, i: usize, end: &[u8]) -> Result<u32, AllocError>
+    requires { i < 16 }
+{
+    let mut input = first_lines(alloc, i)?;
+    input.extend_from_slice(LINES[i])?;
+    input.extend_from_slice(end)?;
+    Ok(bad_line(alloc, &input))
 }
 
 #[test]
 fn takes_a_last_line_without_its_end(rt: HostRuntime) -> Result<(), Fail> {
     let a = rt.alloc();
     let whole = with_line(a, 16, b"ENDJOB")?;
-    assert_eq!(rt; bad_line(a, &whole), 0);
-    let mut input = Vec::new(a);
+    assert!(rt; bad_line(a, &whole) == 0);
     for i in 0..16 {
         let n = i as u32;
-        let line = LINES[i];
-        for k in 1..line.len() {
-            let mut cut = input.to_vec(a)?;
-            cut.extend_from_slice(&line[..k])?;
-            // a part of a listing line is one, and so many whole bytes are a TEXT card
-            let more = is_listing(i) || (i == 2 && k > 5 && k % 2 == 1);
-            assert_eq!(rt; bad_line(a, &cut), if more { n + 2 } else { n + 1 });
-        }
-        input.extend_from_slice(line)?;
-        assert_eq!(rt; bad_line(a, &input), if n == 15 { 0 } else { n + 2 });
+        let next = if i == 15 { 0 } else { n + 2 };
+        assert!(rt; refuses_parts(a, i)?);
+        assert!(rt; bad_ended(a, i, b"")? == next && bad_ended(a, i, b"\n")? == next);
         // a CR that no LF follows is part of the line
-        let mut odd = input.to_vec(a)?;
-        odd.push(b'\r')?;
-        assert_eq!(rt;
-            bad_line(a, &odd),
-            if is_listing(i) { n + 2 } else { n + 1 }
-        );
-        input.push(b'\n')?;
-        assert_eq!(rt; bad_line(a, &input), if n == 15 { 0 } else { n + 2 });
+        let odd = if is_listing(i) { n + 2 } else { n + 1 };
+        assert!(rt; bad_ended(a, i, b"\r")? == odd);
     }
     Ok(())
 }

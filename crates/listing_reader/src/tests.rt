@@ -3,12 +3,13 @@ use crate::{Line, ListFault, Listing, read_listing};
 use cov_base::{LINE_LIMIT, NoMemory};
 use listing_lines::ListingLines;
 use std::alloc::Global;
+use std::process::Abort;
 use std::test::Fail;
 
 const HEADING: &[u8] = b"  Loc  Object Code    Addr1 Addr2  Stmt   Source Statement";
 
 /// A page with print control characters.
-const PAGE: [&[u8]; 13] = [
+static PAGE: [&[u8]; 13] = [
     b"1                                 A SAMPLE",
     b"-  Loc  Object Code    Addr1 Addr2  Stmt   Source Statement",
     b" 000000                00000 0000E     1 MAIN     CSECT",
@@ -24,7 +25,7 @@ const PAGE: [&[u8]; 13] = [
     b" 000010 07FE                          11          BR    14",
 ];
 
-#[derive(Clone, Copy, Debug, PartialEq, Eq)]
+#[derive(Clone, Copy, PartialEq, Eq)]
 enum Says {
     Text,
     Code(u32, u8, [u8; 6]),
@@ -49,6 +50,11 @@ fn of_fault(fault: ListFault) -> Says {
         ListFault::NoHeading => Says::Unheaded,
         ListFault::NoMemory => Says::Nothing,
     }
+}
+
+/// Each test tells here the first case that is wrong, by its index.
+fn none_wrong<T: Abort>(rt: &T, wrong: Option<usize>) {
+    assert_eq!(rt; wrong, None);
 }
 
 /// What the line of that index says.
@@ -77,30 +83,38 @@ fn plain(alloc: Global, text: &[u8]) -> Result<Says, NoMemory> {
     read(alloc, &page, 1, false)
 }
 
+/// What each line of the page says, and a line behind it.
+static SAID: [Says; 14] = [
+    Says::Text,
+    Says::Text,
+    Says::Text,
+    Says::Code(0, 4, [0x41, 0x10, 0xF0, 0x0C, 0, 0]),
+    Says::Text,
+    Says::Code(4, 4, [0x50, 0x10, 0, 0x10, 0, 0]),
+    Says::Code(8, 2, [0x07, 0xFE, 0, 0, 0, 0]),
+    Says::Text,
+    Says::Text,
+    Says::Text,
+    Says::Text,
+    Says::Text,
+    Says::Code(16, 2, [0x07, 0xFE, 0, 0, 0, 0]),
+    Says::Nothing,
+];
+
+/// The first line of the page that says something else.
+fn wrong_on_page(alloc: Global, lower: bool) -> Result<Option<usize>, NoMemory> {
+    for at in 0..14 {
+        if read(alloc, &PAGE, at, lower)? != SAID[at] {
+            return Ok(Some(at));
+        }
+    }
+    Ok(None)
+}
+
 #[test]
 fn reads_a_page_in_either_case(rt: HostRuntime) -> Result<(), Fail> {
-    for lower in [false, true] {
-        for at in [0usize, 1, 2, 4, 7, 8, 9, 10, 11] {
-            assert_eq!(rt; read(rt.alloc(), &PAGE, at, lower)?, Says::Text);
-        }
-        assert_eq!(rt;
-            read(rt.alloc(), &PAGE, 3, lower)?,
-            Says::Code(0, 4, [0x41, 0x10, 0xF0, 0x0C, 0, 0])
-        );
-        assert_eq!(rt;
-            read(rt.alloc(), &PAGE, 5, lower)?,
-            Says::Code(4, 4, [0x50, 0x10, 0, 0x10, 0, 0])
-        );
-        assert_eq!(rt;
-            read(rt.alloc(), &PAGE, 6, lower)?,
-            Says::Code(8, 2, [0x07, 0xFE, 0, 0, 0, 0])
-        );
-        assert_eq!(rt;
-            read(rt.alloc(), &PAGE, 12, lower)?,
-            Says::Code(16, 2, [0x07, 0xFE, 0, 0, 0, 0])
-        );
-        assert_eq!(rt; read(rt.alloc(), &PAGE, 13, lower)?, Says::Nothing);
-    }
+    none_wrong(&rt, wrong_on_page(rt.alloc(), false)?);
+    none_wrong(&rt, wrong_on_page(rt.alloc(), true)?);
     Ok(())
 }
 
@@ -152,11 +166,20 @@ static LINES: [(&[u8], Says); 13] = [
     ),
 ];
 
+/// The first of the lines that says something else.
+fn wrong_line(alloc: Global) -> Result<Option<usize>, NoMemory> {
+    for n in 0..13 {
+        let (line, expected) = LINES[n];
+        if plain(alloc, line)? != expected {
+            return Ok(Some(n));
+        }
+    }
+    Ok(None)
+}
+
 #[test]
 fn reads_lines_by_their_columns(rt: HostRuntime) -> Result<(), Fail> {
-    for (line, expected) in &LINES {
-        assert_eq!(rt; plain(rt.alloc(), line)?, *expected);
-    }
+    none_wrong(&rt, wrong_line(rt.alloc())?);
     Ok(())
 }
 
@@ -172,21 +195,31 @@ static REFUSED: [&[u8]; 8] = [
     b"000006 0XFE                           2          BR    14",
 ];
 
+/// The first of the lines that is not refused.
+fn read_line(alloc: Global) -> Result<Option<usize>, NoMemory> {
+    for n in 0..8 {
+        if plain(alloc, REFUSED[n])? != Says::Bad(2) {
+            return Ok(Some(n));
+        }
+    }
+    Ok(None)
+}
+
+static UNHEADED: [&[u8]; 1] = [b"000006 07FE                           2          BR    14"];
+
+static BAD_AFTER: [&[u8]; 4] = [
+    b"000006 4110                           2          LA    1,5",
+    HEADING,
+    b"000006 07FE                           2          BR    14",
+    b"000006 4110                           2          LA    1,5",
+];
+
 #[test]
 fn refuses_object_code_of_another_form(rt: HostRuntime) -> Result<(), Fail> {
     let alloc = rt.alloc();
-    for line in &REFUSED {
-        assert_eq!(rt; plain(alloc, line)?, Says::Bad(2));
-    }
-    let none: [&[u8]; 1] = [b"000006 07FE                           2          BR    14"];
-    assert_eq!(rt; read(alloc, &none, 0, false)?, Says::Unheaded);
-    let page: [&[u8]; 4] = [
-        b"000006 4110                           2          LA    1,5",
-        HEADING,
-        b"000006 07FE                           2          BR    14",
-        b"000006 4110                           2          LA    1,5",
-    ];
-    assert_eq!(rt; read(alloc, &page, 0, false)?, Says::Bad(4));
+    none_wrong(&rt, read_line(alloc)?);
+    assert!(rt; read(alloc, &UNHEADED, 0, false)? == Says::Unheaded);
+    assert!(rt; read(alloc, &BAD_AFTER, 0, false)? == Says::Bad(4));
     Ok(())
 }
 
@@ -248,23 +281,50 @@ fn with_byte(
     read(alloc, &[heading, &changed], 1, false)
 }
 
-#[test]
-fn reads_each_column_of_either_width(rt: HostRuntime) -> Result<(), Fail> {
-    for (wide, from, to, byte, changed) in &CHANGED {
-        let expected = match changed {
-            Changed::Kept => Says::Code(10, 4, [0x41, 0x10, 0, 5, 0, 0]),
-            Changed::Text => Says::Text,
-            Changed::Bad => Says::Bad(2),
+/// Whether the line says that wherever this byte stands in one of the columns.
+fn says_so(
+    alloc: Global,
+    wide: bool,
+    from: usize,
+    to: usize,
+    byte: u8,
+    expected: Says,
+) -> Result<bool, NoMemory> {
+    for column in from..to {
+        let says = if wide {
+            with_byte(alloc, WIDE_HEADING, WIDE_LINE, column, byte)?
+        } else {
+            with_byte(alloc, HEADING, LINE, column, byte)?
         };
-        for column in *from..*to {
-            let says = if *wide {
-                with_byte(rt.alloc(), WIDE_HEADING, WIDE_LINE, column, *byte)?
-            } else {
-                with_byte(rt.alloc(), HEADING, LINE, column, *byte)?
-            };
-            assert_eq!(rt; says, expected);
+        if says != expected {
+            return Ok(false);
         }
     }
+    Ok(true)
+}
+
+fn says_of(changed: Changed) -> Says {
+    match changed {
+        Changed::Kept => Says::Code(10, 4, [0x41, 0x10, 0, 5, 0, 0]),
+        Changed::Text => Says::Text,
+        Changed::Bad => Says::Bad(2),
+    }
+}
+
+/// The first change after which the line says something else.
+fn wrong_change(alloc: Global) -> Result<Option<usize>, NoMemory> {
+    for n in 0..22 {
+        let (wide, from, to, byte, changed) = CHANGED[n];
+        if !says_so(alloc, wide, from, to, byte, says_of(changed))? {
+            return Ok(Some(n));
+        }
+    }
+    Ok(None)
+}
+
+#[test]
+fn reads_each_column_of_either_width(rt: HostRuntime) -> Result<(), Fail> {
+    none_wrong(&rt, wrong_change(rt.alloc())?);
     Ok(())
 }
 
@@ -326,13 +386,19 @@ static WIDE: [(&[u8], &[u8], &[u8], Says); 9] = [
     ),
 ];
 
+/// The first of the lines that says something else.
+fn wrong_wide(alloc: Global) -> Result<Option<usize>, NoMemory> {
+    for n in 0..9 {
+        let (first, second, line, expected) = WIDE[n];
+        if read(alloc, &[first, second, line], 2, false)? != expected {
+            return Ok(Some(n));
+        }
+    }
+    Ok(None)
+}
+
 #[test]
 fn reads_a_listing_by_its_first_heading(rt: HostRuntime) -> Result<(), Fail> {
-    for (first, second, line, expected) in &WIDE {
-        assert_eq!(rt;
-            read(rt.alloc(), &[*first, *second, *line], 2, false)?,
-            *expected
-        );
-    }
+    none_wrong(&rt, wrong_wide(rt.alloc())?);
     Ok(())
 }

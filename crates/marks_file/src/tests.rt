@@ -2,10 +2,11 @@
 //! broken.
 ghost use Rattle.std.specs.Prelude.{◌<◌};
 
-use crate::{MarksFault, place_row, read, write};
+use crate::{MarkedModule, MarkedPlace, Marks, MarksFault, place_row, read, write};
 use cov_base::{Fact, Kind};
 use cov_outside::MemSink;
 use std::alloc::Global;
+use std::process::Abort;
 use std::test::Fail;
 
 /// Of version 2: session S, one run.
@@ -22,6 +23,11 @@ const OLD: [u8; 48] = [
     0x20, 0x20, 0x00, 0x10, 0x00, 0x00, 0x00, 0x00, 0x00, 0x06, 0x00, 0x00, 0x00, 0x02, 0x00, 0x00,
     0x00, 0x00, 0x04, 0x01, 0x46, 0x10, 0x04, 0x00, 0x00, 0x00, 0x04, 0x02, 0x00, 0x07, 0xFE, 0x01,
 ];
+
+/// Each test tells here the first case that is wrong, by its index.
+fn none_wrong<T: Abort>(rt: &T, wrong: Option<usize>) {
+    assert_eq!(rt; wrong, None);
+}
 
 /// The offset of the first bad field; none where the bytes are read.
 fn bad(alloc: Global, bytes: &[u8]) -> Option<usize> {
@@ -47,30 +53,42 @@ fn old_changed(at: usize, value: u8) -> [u8; 48] {
     bytes
 }
 
+fn is_branch(place: &MarkedPlace) -> bool {
+    place.location == 0
+        && place.len == 4
+        && place.original == 0x4610
+        && place.kind == Kind::Conditional
+        && place.set.has(Fact::Stayed)
+        && !place.set.has(Fact::Went)
+        && place_row(place).as_slice() == &FILE[42..50]
+}
+
+fn is_module(marked: &MarkedModule) -> bool {
+    marked.name.bytes() == b"M".as_slice()
+        && marked.base == 0x10_0000
+        && marked.size == 6
+        && marked.places.len() == 2
+        && is_branch(&marked.places[0])
+        && marked.places[1].kind == Kind::Straight
+        && marked.places[1].set.has(Fact::Ran)
+}
+
+fn are_of_file(marks: &Marks) -> bool {
+    marks.runs == 1
+        && marks
+            .name
+            .is_some_and(|name| name.bytes() == b"S".as_slice())
+        && marks.modules.len() == 1
+        && is_module(&marks.modules[0])
+}
+
 #[test]
 fn reads_and_writes(rt: HostRuntime) -> Result<(), Fail> {
     let alloc = rt.alloc();
     let Ok((marks, end)) = read(alloc, &FILE, 0) else {
         return Err(Fail::from("not read"));
     };
-    assert_eq!(rt; end, 60);
-    assert!(rt;
-        marks
-            .name
-            .is_some_and(|name| name.bytes() == b"S".as_slice())
-    );
-    assert_eq!(rt; marks.runs, 1);
-    assert_eq!(rt; marks.modules.len(), 1);
-    let marked = &marks.modules[0];
-    assert!(rt; marked.name.bytes() == b"M".as_slice());
-    assert!(rt; marked.base == 0x10_0000 && marked.size == 6 && marked.places.len() == 2);
-    let place = &marked.places[0];
-    assert!(rt; place.location == 0 && place.len == 4 && place.original == 0x4610);
-    assert!(rt; place.kind == Kind::Conditional);
-    assert!(rt; place.set.has(Fact::Stayed) && !place.set.has(Fact::Went));
-    assert!(rt; place_row(place).as_slice() == &FILE[42..50]);
-    let place = &marked.places[1];
-    assert!(rt; place.kind == Kind::Straight && place.set.has(Fact::Ran));
+    assert!(rt; end == 60 && are_of_file(&marks));
     let Ok(mut sink) = MemSink::new(alloc, 60, 7, Vec::new(alloc)) else {
         return Err(Fail::from("no memory"));
     };
@@ -85,9 +103,9 @@ fn version_1_has_no_name_and_one_run(rt: HostRuntime) -> Result<(), Fail> {
     let Ok((marks, end)) = read(alloc, &OLD, 0) else {
         return Err(Fail::from("not read"));
     };
-    assert_eq!(rt; end, 48);
+    assert!(rt; end == 48);
     assert!(rt; marks.name.is_none());
-    assert_eq!(rt; marks.runs, 1);
+    assert!(rt; marks.runs == 1);
     let Ok(mut sink) = MemSink::new(alloc, 60, 64, Vec::new(alloc)) else {
         return Err(Fail::from("no memory"));
     };
@@ -107,7 +125,7 @@ fn a_failed_write_leaves_the_first_bytes(rt: HostRuntime) -> Result<(), Fail> {
     };
     assert!(rt; write(&mut sink, &marks).is_err());
     assert!(rt; sink.bytes() == &FILE[..40]);
-    assert_eq!(rt; sink.faults(), 1);
+    assert!(rt; sink.faults() == 1);
     Ok(())
 }
 
@@ -138,14 +156,14 @@ fn sink(alloc: Global, piece: usize, fail: Vec<u64>) -> Result<MemSink, Fail>
 fn a_file_is_written_in_pieces(rt: HostRuntime) -> Result<(), Fail> {
     let alloc = rt.alloc();
     let bytes = many_places(alloc, 2000)?;
-    assert_eq!(rt; bytes.len(), 18_042);
+    assert!(rt; bytes.len() == 18_042);
     let Ok((marks, _)) = read(alloc, &bytes, 0) else {
         return Err(Fail::from("not read"));
     };
     let mut whole = sink(alloc, 20_000, Vec::new(alloc))?;
     assert!(rt; write(&mut whole, &marks) == Ok(()));
     assert!(rt; whole.bytes() == bytes.as_slice());
-    assert_eq!(rt; whole.calls(), 5);
+    assert!(rt; whole.calls() == 5);
     let mut slow = sink(alloc, 7, Vec::new(alloc))?;
     assert!(rt; write(&mut slow, &marks) == Ok(()));
     assert!(rt; slow.bytes() == bytes.as_slice());
@@ -162,7 +180,7 @@ fn a_fault_at_each_piece_leaves_those_before(rt: HostRuntime) -> Result<(), Fail
     for piece in 0..5 {
         let mut failing = sink(alloc, 20_000, Vec::from_slice(alloc, &[piece + 1])?)?;
         assert!(rt; write(&mut failing, &marks).is_err());
-        assert_eq!(rt; failing.faults(), 1);
+        assert!(rt; failing.faults() == 1);
         let taken = 4096 * piece as usize;
         assert!(rt; bytes.get(..taken) == Some(failing.bytes()));
     }
@@ -181,8 +199,8 @@ fn a_file_may_stand_behind_other_bytes(rt: HostRuntime) -> Result<(), Fail> {
     let Ok((marks, end)) = read(alloc, &bytes, 7) else {
         return Err(Fail::from("not read"));
     };
-    assert_eq!(rt; end, 67);
-    assert_eq!(rt; marks.modules.len(), 1);
+    assert!(rt; end == 67);
+    assert!(rt; marks.modules.len() == 1);
     Ok(())
 }
 
@@ -195,34 +213,34 @@ static OLD_FIELDS: [usize; 17] = [
     0, 8, 10, 18, 22, 26, 30, 34, 35, 36, 38, 39, 43, 44, 45, 47, 48,
 ];
 
+/// The first length to which the file is cut short and another field is the bad one than the last that begins there or
+/// before. `fields` has the offset of each, and the length.
+fn wrong_cut(alloc: Global, file: &[u8], fields: &[usize]) -> Option<usize> {
+    let mut field: usize = 0;
+    for k in 0..file.len() {
+        let next = field.wrapping_add(1);
+        if next < fields.len() && fields[next] <= k {
+            field = next;
+        }
+        if bad(alloc, &file[..k]) != fields.get(field).copied() {
+            return Some(k);
+        }
+    }
+    None
+}
+
 #[test]
 fn the_field_that_is_cut_short_is_bad(rt: HostRuntime) {
     let alloc = rt.alloc();
-    let mut field = 0;
-    for k in 0..60 {
-        if field < 18 && FIELDS[field + 1] <= k {
-            field += 1;
-        }
-        assert_eq!(rt; bad(alloc, &FILE[..k]), FIELDS.get(field).copied(), "{k}");
-    }
-    assert_eq!(rt; bad(alloc, &FILE), None);
+    none_wrong(&rt, wrong_cut(alloc, &FILE, &FIELDS));
+    assert!(rt; bad(alloc, &FILE) == None);
 }
 
 #[test]
 fn of_version_1_too(rt: HostRuntime) {
     let alloc = rt.alloc();
-    let mut field = 0;
-    for k in 0..48 {
-        if field < 16 && OLD_FIELDS[field + 1] <= k {
-            field += 1;
-        }
-        assert_eq!(rt;
-            bad(alloc, &OLD[..k]),
-            OLD_FIELDS.get(field).copied(),
-            "{k}"
-        );
-    }
-    assert_eq!(rt; bad(alloc, &OLD), None);
+    none_wrong(&rt, wrong_cut(alloc, &OLD, &OLD_FIELDS));
+    assert!(rt; bad(alloc, &OLD) == None);
 }
 
 /// A byte of the file, another value there, and the field that is then the first bad one; 60 where none is.
@@ -278,34 +296,41 @@ static OLD_BROKEN: [(usize, u8, usize); 8] = [
     (47, 2, 47),
 ];
 
+/// The first change after which another field is the bad one.
+fn wrong_change(alloc: Global, changes: &[(usize, u8, usize)]) -> Option<usize> {
+    for n in 0..changes.len() {
+        let (at, value, offset) = changes[n];
+        let expected = if offset < 60 { Some(offset) } else { None };
+        if bad(alloc, &changed(at, value)) != expected {
+            return Some(n);
+        }
+    }
+    None
+}
+
 #[test]
 fn each_rule_has_its_field(rt: HostRuntime) {
-    let alloc = rt.alloc();
-    for (at, value, offset) in BROKEN_HEADS {
-        let expected = if offset < 60 { Some(offset) } else { None };
-        assert_eq!(rt; bad(alloc, &changed(at, value)), expected, "{at} {value}");
-    }
+    none_wrong(&rt, wrong_change(rt.alloc(), &BROKEN_HEADS));
 }
 
 #[test]
 fn each_rule_of_a_place_has_its_field(rt: HostRuntime) {
-    let alloc = rt.alloc();
-    for (at, value, offset) in BROKEN_PLACES {
-        let expected = if offset < 60 { Some(offset) } else { None };
-        assert_eq!(rt; bad(alloc, &changed(at, value)), expected, "{at} {value}");
+    none_wrong(&rt, wrong_change(rt.alloc(), &BROKEN_PLACES));
+}
+
+fn wrong_old_change(alloc: Global) -> Option<usize> {
+    for n in 0..8 {
+        let (at, value, offset) = OLD_BROKEN[n];
+        if bad(alloc, &old_changed(at, value)) != Some(offset) {
+            return Some(n);
+        }
     }
+    None
 }
 
 #[test]
 fn each_rule_of_version_1_has_its_field(rt: HostRuntime) {
-    let alloc = rt.alloc();
-    for (at, value, offset) in OLD_BROKEN {
-        assert_eq!(rt;
-            bad(alloc, &old_changed(at, value)),
-            Some(offset),
-            "{at} {value}"
-        );
-    }
+    none_wrong(&rt, wrong_old_change(rt.alloc()));
 }
 
 #[test]
@@ -313,9 +338,9 @@ fn a_breakpoint_is_no_original(rt: HostRuntime) {
     let alloc = rt.alloc();
     let mut bytes = changed(57, 0x0A);
     bytes[58] = 0xFF;
-    assert_eq!(rt; bad(alloc, &bytes), Some(57));
+    assert!(rt; bad(alloc, &bytes) == Some(57));
     bytes[58] = 0xFE;
-    assert_eq!(rt; bad(alloc, &bytes), None);
+    assert!(rt; bad(alloc, &bytes) == None);
 }
 
 #[test]
@@ -323,9 +348,9 @@ fn modules_differ_and_share_no_byte(rt: HostRuntime) -> Result<(), Fail> {
     let alloc = rt.alloc();
     let mut bytes = Vec::from_slice(alloc, &changed(21, 2))?;
     bytes.extend_from_slice(&FILE[22..])?;
-    assert_eq!(rt; bad(alloc, &bytes), Some(60));
+    assert!(rt; bad(alloc, &bytes) == Some(60));
     let mut bytes = Vec::from_slice(alloc, &changed(21, 2))?;
     bytes.extend_from_slice(&changed(22, b'N')[22..])?;
-    assert_eq!(rt; bad(alloc, &bytes), Some(72));
+    assert!(rt; bad(alloc, &bytes) == Some(72));
     Ok(())
 }

@@ -1,6 +1,8 @@
 //! Whole jobs, and each rule of the cards broken at its line.
+use super::none_wrong;
 use crate::jobs::{JobFault, ReadJob, read_job};
 use crate::limit::Limit;
+use session_book::Job;
 use std::alloc::{AllocError, Global};
 use std::test::Fail;
 
@@ -37,39 +39,86 @@ pub fn told(alloc: Global, input: &[u8]) -> (u32, Option<Limit>) {
     }
 }
 
+/// What a short input is read as; none where it is no job.
+fn read_of(alloc: Global, input: &[u8]) -> Option<ReadJob> {
+    if input.len() > 1_000 {
+        return None;
+    }
+    read_job(alloc, input).ok()
+}
+
+/// Whether the job has module M, of these bytes, alone.
+fn has_module(job: &Job, bytes: &[u8]) -> bool {
+    job.images.0.len() == 1 && job.images.0[0].bytes.as_slice() == bytes
+}
+
+/// Whether the job has the listing of four lines.
+fn has_listing(job: &Job) -> bool {
+    if job.listings.len() != 1 {
+        return false;
+    }
+    match &job.listings[0] {
+        Some(listing) => {
+            listing.len() == 4
+                && listing.line(3)
+                    == b"000006 07FE                           3          BR".as_slice()
+        }
+        None => false,
+    }
+}
+
+fn is_without_tasks(job: &Job) -> bool {
+    job.images.0.len() == 1
+        && has_module(job, &[0x41, 0x10, 0, 5, 0x1A, 0x11, 7, 0xFE])
+        && job.images.0[0].name.bytes() == b"M".as_slice()
+        && job.images.0[0].base.get() == 0x100000
+        && has_listing(job)
+        && job.phases.len() == 1
+        && job.sessions.len() == 1
+        && job.tasks.len() == 0
+}
+
 #[test]
 fn reads_a_job_without_tasks(rt: HostRuntime) -> Result<(), Fail> {
     let a = rt.alloc();
     let input = joined(a, &[HEAD, b"ENDJOB\n"])?;
-    assert!(rt; input.len() <= 1_000);
-    match read_job(a, &input) {
-        Ok(ReadJob { job, end, lines }) => {
-            assert_eq!(rt; (end, lines), (input.len(), 11));
-            assert_eq!(rt; job.images.0.len(), 1);
-            assert_eq!(rt; job.images.0[0].name.bytes(), &b"M"[..]);
-            assert_eq!(rt; job.images.0[0].base.get(), 0x100000);
-            assert_eq!(rt;
-                job.images.0[0].bytes.as_slice(),
-                &[0x41, 0x10, 0, 5, 0x1A, 0x11, 7, 0xFE][..]
-            );
-            assert_eq!(rt; job.listings.len(), 1);
-            match &job.listings[0] {
-                Some(listing) => {
-                    assert_eq!(rt; listing.len(), 4);
-                    assert_eq!(rt;
-                        listing.line(3),
-                        &b"000006 07FE                           3          BR"[..]
-                    );
-                }
-                None => assert!(rt; false),
-            }
-            assert_eq!(rt; job.phases.len(), 1);
-            assert_eq!(rt; job.sessions.len(), 1);
-            assert_eq!(rt; job.tasks.len(), 0);
-        }
-        Err(_) => assert!(rt; false),
-    }
+    let read = read_of(a, &input);
+    assert!(rt;
+        matches!(&read, Some(read) if read.end == input.len() && read.lines == 11 && is_without_tasks(&read.job))
+    );
     Ok(())
+}
+
+fn has_two_sessions(job: &Job) -> bool {
+    job.phases.len() == 2
+        && job.phases[1].bytes() == b"Q".as_slice()
+        && job.sessions.len() == 2
+        && job.sessions[0].phase == 0
+        && job.sessions[1].phase == 1
+        && job.sessions[0].modules.as_slice() == [0].as_slice()
+        && job.sessions[1].name.bytes() == b"T".as_slice()
+        && job.sessions[1].modules.as_slice() == [0].as_slice()
+}
+
+fn has_two_tasks(job: &Job) -> bool {
+    job.tasks.len() == 2
+        && job.tasks[0].phase == 0
+        && job.tasks[1].phase == 1
+        && job.tasks[0].name.bytes() == b"A".as_slice()
+        && job.tasks[0].budget == 100
+        && job.tasks[1].budget == 2
+}
+
+fn reads_two_phases(alloc: Global, input: &[u8]) -> bool {
+    match read_of(alloc, input) {
+        Some(read) => {
+            read.end == input.len()
+                && read.lines == 15
+                && has_two_sessions(&read.job)
+                && has_two_tasks(&read.job)
+        }
+        None => false,
+    }
 }
 
 #[test]
@@ -82,73 +131,51 @@ fn reads_a_job_of_two_phases(rt: HostRuntime) -> Result<(), Fail> {
             b"TASK A 100000 16 100 0\nPHASE Q\nSESSION T M\nTASK B 100000 16 2 0\nENDJOB\n",
         ],
     )?;
-    assert!(rt; input.len() <= 1_000);
-    match read_job(a, &input) {
-        Ok(ReadJob { job, end, lines }) => {
-            assert_eq!(rt; (end, lines), (input.len(), 15));
-            assert_eq!(rt; job.phases.len(), 2);
-            assert_eq!(rt; job.sessions.len(), 2);
-            assert_eq!(rt; job.tasks.len(), 2);
-            assert_eq!(rt; job.phases[1].bytes(), &b"Q"[..]);
-            assert_eq!(rt; (job.sessions[0].phase, job.sessions[1].phase), (0, 1));
-            assert_eq!(rt; job.sessions[0].modules.as_slice(), &[0][..]);
-            assert_eq!(rt; job.sessions[1].name.bytes(), &b"T"[..]);
-            assert_eq!(rt; job.sessions[1].modules.as_slice(), &[0][..]);
-            assert_eq!(rt; (job.tasks[0].phase, job.tasks[1].phase), (0, 1));
-            assert_eq!(rt; job.tasks[0].name.bytes(), &b"A"[..]);
-            assert_eq!(rt; (job.tasks[0].budget, job.tasks[1].budget), (100, 2));
-        }
-        Err(_) => assert!(rt; false),
-    }
+    assert!(rt; reads_two_phases(a, &input));
     Ok(())
+}
+
+fn has_registers(job: &Job) -> bool {
+    job.tasks.len() == 2
+        && job.tasks[0].regs[1] == 0
+        && job.tasks[1].regs[1] == 1
+        && job.tasks[1].regs[14] == 0xFFFFFE
+        && job.tasks[1].regs[15] == 0x100000
 }
 
 #[test]
 fn reads_tasks_with_registers(rt: HostRuntime) -> Result<(), Fail> {
-    let a = rt.alloc();
-    let input =
+    let input: &[u8] =
         b"COVERJOB 1\nMODULE M 100000 10\nTEXT 12114780F00818\nTEXT 2207FE\nLISTING 0\nPHASE P\nSESSION S M\nTASK A 100000 16 100 0\nTASK B 100000 16 100 0\nREG 1 00000001\nENDJOB\n";
-    match read_job(a, &input[..]) {
-        Ok(ReadJob { job, end: _, lines }) => {
-            assert_eq!(rt; lines, 11);
-            assert_eq!(rt; job.images.0.len(), 1);
-            assert_eq!(rt;
-                job.images.0[0].bytes.as_slice(),
-                &[0x12, 0x11, 0x47, 0x80, 0xF0, 8, 0x18, 0x22, 7, 0xFE][..]
-            );
-            assert_eq!(rt; job.tasks.len(), 2);
-            assert_eq!(rt; (job.tasks[0].regs[1], job.tasks[1].regs[1]), (0, 1));
-            assert_eq!(rt;
-                (job.tasks[1].regs[14], job.tasks[1].regs[15]),
-                (0xFFFFFE, 0x100000)
-            );
-        }
-        Err(_) => assert!(rt; false),
-    }
+    let bytes: &[u8] = &[0x12, 0x11, 0x47, 0x80, 0xF0, 8, 0x18, 0x22, 7, 0xFE];
+    let read = read_of(rt.alloc(), input);
+    assert!(rt;
+        matches!(&read, Some(read) if read.lines == 11 && has_module(&read.job, bytes) && has_registers(&read.job))
+    );
     Ok(())
 }
 
+/// An input, the end of its job, and how many lines the job has.
+static JOBS: [(&[u8], usize, u32); 5] = [
+    (b"COVERJOB 1\nENDJOB", 17, 2),
+    (b"COVERJOB 1\nENDJOB\n", 18, 2),
+    (b"COVERJOB 1\nENDJOB\n\n", 18, 2),
+    (b"COVERJOB 1\nENDJOB\nFETCH A\nENDSCHED\n", 18, 2),
+    (b"COVERJOB 1\nPHASE P\nENDJOB\n\xFF", 26, 3),
+];
+
 #[test]
 fn ends_behind_endjob(rt: HostRuntime) -> Result<(), Fail> {
-    let a = rt.alloc();
-    let ends: [(&[u8], usize, u32); 5] = [
-        (b"COVERJOB 1\nENDJOB", 17, 2),
-        (b"COVERJOB 1\nENDJOB\n", 18, 2),
-        (b"COVERJOB 1\nENDJOB\n\n", 18, 2),
-        (b"COVERJOB 1\nENDJOB\nFETCH A\nENDSCHED\n", 18, 2),
-        (b"COVERJOB 1\nPHASE P\nENDJOB\n\xFF", 26, 3),
-    ];
-    for (input, past, count) in &ends {
-        match read_job(a, *input) {
-            Ok(ReadJob { job: _, end, lines }) => assert_eq!(rt; (end, lines), (*past, *count)),
-            Err(_) => assert!(rt; false),
-        }
+    for n in 0..5 {
+        let (input, past, count) = JOBS[n];
+        let read = read_of(rt.alloc(), input);
+        assert!(rt; matches!(&read, Some(read) if read.end == past && read.lines == count));
     }
     Ok(())
 }
 
 /// The lines behind COVERJOB, and the first bad line, 0 where they are a job.
-const MODULES: [(&[u8], u32); 31] = [
+static MODULES: [(&[u8], u32); 31] = [
     (b"", 2),
     (b"COVERJOB 1\n", 2),
     (b"ENDJOB\r\n", 2),
@@ -200,7 +227,7 @@ const MODULES: [(&[u8], u32); 31] = [
     (b"PHASE A\r\n", 2),
 ];
 
-const PHASES: [(&[u8], u32); 29] = [
+static PHASES: [(&[u8], u32); 29] = [
     (b"PHASE P\nENDJOB\n", 0),
     (b"PHASE P\nPHASE Q\nENDJOB\n", 0),
     (b"PHASE P\nPHASE P\n", 3),
@@ -271,21 +298,29 @@ const PHASES: [(&[u8], u32); 29] = [
     (b"PHASE P\nTASK T 100000 1 1 0\nCOVERJOB 1\n", 4),
 ];
 
+/// The first case of which another bad line is told.
+fn wrong(alloc: Global, cases: &[(&[u8], u32)]) -> Result<Option<usize>, AllocError> {
+    for n in 0..cases.len() {
+        let (lines, bad) = cases[n];
+        let input = joined(alloc, &[b"COVERJOB 1\n", lines])?;
+        if told(alloc, &input) != (bad, None) {
+            return Ok(Some(n));
+        }
+    }
+    Ok(None)
+}
+
+fn refuses_other_beginnings(alloc: Global) -> bool {
+    told(alloc, b"") == (1, None)
+        && told(alloc, b"ENDJOB\n") == (1, None)
+        && told(alloc, b"COVERJOB 1\r\n") == (1, None)
+}
+
 #[test]
 fn names_the_first_bad_line_of_any_job(rt: HostRuntime) -> Result<(), Fail> {
     let a = rt.alloc();
-    for n in 0..MODULES.len() {
-        let (lines, bad) = MODULES[n];
-        let input = joined(a, &[b"COVERJOB 1\n", lines])?;
-        assert_eq!(rt; (n, told(a, &input)), (n, (bad, None)));
-    }
-    for n in 0..PHASES.len() {
-        let (lines, bad) = PHASES[n];
-        let input = joined(a, &[b"COVERJOB 1\n", lines])?;
-        assert_eq!(rt; (n, told(a, &input)), (n, (bad, None)));
-    }
-    assert_eq!(rt; told(a, b""), (1, None));
-    assert_eq!(rt; told(a, b"ENDJOB\n"), (1, None));
-    assert_eq!(rt; told(a, b"COVERJOB 1\r\n"), (1, None));
+    none_wrong(&rt, wrong(a, &MODULES)?);
+    none_wrong(&rt, wrong(a, &PHASES)?);
+    assert!(rt; refuses_other_beginnings(a));
     Ok(())
 }

@@ -46,8 +46,10 @@ fn in_pieces(
     Ok((at, reader.finish(alloc)))
 }
 
-/// The number of the job's lines and its end, or the line of its fault and the limit that it passes.
-fn told(answer: &Result<ReadJob, JobFault>) -> (bool, u32, usize, Option<Limit>) {
+/// Whether it is a job; the number of its lines and its end, or the line of its fault and the limit that it passes.
+type Told = (bool, u32, usize, Option<Limit>);
+
+fn told(answer: &Result<ReadJob, JobFault>) -> Told {
     match answer {
         Ok(read) => (true, read.lines, read.end, None),
         Err(JobFault::BadJob { line }) => (false, *line, 0, None),
@@ -71,34 +73,55 @@ fn are_same(one: &ReadJob, other: &ReadJob) -> bool {
 /// An input, how many bytes it has, and how many lines.
 static JOBS: [(&[u8], usize, u32); 2] = [(SAMPLE, 326, 12), (PROFILE, 931, 24)];
 
+/// Whether the input is read as the job where it comes in a first piece of `first` bytes, and then in pieces of `size`.
+fn is_same_in(
+    alloc: Global,
+    input: &[u8],
+    whole: &ReadJob,
+    first: usize,
+    size: usize,
+) -> Result<bool, AllocError>
+    requires some { 0 < first }
+    requires more { 0 < size }
+    requires small { length input.now ≤ 1000 }
+    requires first { first ≤ 1000 }
+    requires size { size ≤ 1000 }
+{
+    let (fed, answer) = in_pieces(alloc, input, first, size)?;
+    Ok(fed == input.len() && matches!(&answer, Ok(read) if are_same(read, whole)))
+}
+
+/// Whether the input is a job of so many bytes and lines, and is read so in pieces too.
+fn is_same(alloc: Global, input: &[u8], bytes: usize, lines: u32) -> Result<bool, AllocError> {
+    if input.len() > 1_000 || input.len() != bytes {
+        return Ok(false);
+    }
+    let Ok(whole) = read_job(alloc, input) else {
+        return Ok(false);
+    };
+    if whole.end != bytes || whole.lines != lines {
+        return Ok(false);
+    }
+    for first in 1..input.len() {
+        if !is_same_in(alloc, input, &whole, first, 1_000)? {
+            return Ok(false);
+        }
+    }
+    Ok(is_same_in(alloc, input, &whole, 1, 1)? && is_same_in(alloc, input, &whole, 64, 64)?)
+}
+
 #[test]
 fn takes_a_job_in_pieces(rt: HostRuntime) -> Result<(), Fail> {
-    let a = rt.alloc();
-    for (input, bytes, lines) in &JOBS {
-        assert_eq!(rt; input.len(), *bytes);
-        assert!(rt; input.len() <= 1_000);
-        let Ok(whole) = read_job(a, *input) else {
-            assert!(rt; false);
-            return Ok(());
-        };
-        assert_eq!(rt; (whole.end, whole.lines), (*bytes, *lines));
-        for first in 1..input.len() {
-            let (fed, answer) = in_pieces(a, *input, first, 1_000)?;
-            assert_eq!(rt; fed, *bytes);
-            assert!(rt; matches!(&answer, Ok(read) if are_same(read, &whole)));
-        }
-        for size in [1, 64] {
-            let (fed, answer) = in_pieces(a, *input, size, size)?;
-            assert_eq!(rt; fed, *bytes);
-            assert!(rt; matches!(&answer, Ok(read) if are_same(read, &whole)));
-        }
+    for n in 0..2 {
+        let (input, bytes, lines) = JOBS[n];
+        assert!(rt; is_same(rt.alloc(), input, bytes, lines)?);
     }
     Ok(())
 }
 
 /// An input, how many of its bytes were fed when it told, and what it told: a job's lines and its end, or the line of a
 /// fault and the limit that it passes.
-static ENDS: [(&[u8], usize, (bool, u32, usize, Option<Limit>)); 12] = [
+static ENDS: [(&[u8], usize, Told); 12] = [
     (b"", 0, (false, 1, 0, None)),
     (b"\n", 1, (false, 1, 0, None)),
     (b"COVERJOB 2\nENDJOB\n", 11, (false, 1, 0, None)),
@@ -125,19 +148,29 @@ static ENDS: [(&[u8], usize, (bool, u32, usize, Option<Limit>)); 12] = [
     ),
 ];
 
+/// Whether the input tells that once so many of its bytes were fed, in pieces and as a whole.
+fn tells(alloc: Global, input: &[u8], bytes: usize, wanted: Told) -> Result<bool, AllocError> {
+    if input.len() > 1_000 {
+        return Ok(false);
+    }
+    let (fed, answer) = in_pieces(alloc, input, 1, 1)?;
+    if fed != bytes || told(&answer) != wanted {
+        return Ok(false);
+    }
+    for first in 1..64 {
+        let (fed, answer) = in_pieces(alloc, input, first, 64)?;
+        if fed < bytes || told(&answer) != wanted {
+            return Ok(false);
+        }
+    }
+    Ok(told(&read_job(alloc, input)) == wanted)
+}
+
 #[test]
 fn tells_when_the_line_has_come(rt: HostRuntime) -> Result<(), Fail> {
-    let a = rt.alloc();
-    for (input, bytes, wanted) in &ENDS {
-        assert!(rt; input.len() <= 1_000);
-        let (fed, answer) = in_pieces(a, *input, 1, 1)?;
-        assert_eq!(rt; (fed, told(&answer)), (*bytes, *wanted));
-        for first in 1..64 {
-            let (fed, answer) = in_pieces(a, *input, first, 64)?;
-            assert!(rt; fed >= *bytes);
-            assert_eq!(rt; told(&answer), *wanted);
-        }
-        assert_eq!(rt; told(&read_job(a, *input)), *wanted);
+    for n in 0..12 {
+        let (input, bytes, wanted) = ENDS[n];
+        assert!(rt; tells(rt.alloc(), input, bytes, wanted)?);
     }
     Ok(())
 }
