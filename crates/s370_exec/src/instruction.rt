@@ -104,6 +104,13 @@ fn link_code(code: &Code, ex: &Option<Addr>) -> u8
     }
 }
 
+/// A privileged operation ends a task, which runs in the problem state, by code 2.
+fn privileged() -> Ending
+    ensures { result ≡ Ending.Abend 2 }
+{
+    Ending::Abend(2)
+}
+
 /// Where the task has ended `end` tells how.
 fn tell(next: Next, end: &mut Ending) -> Told
     ensures { next_of result end.new ≡ next }
@@ -238,7 +245,7 @@ fn carry_out_apart<P: Space>(
         }
         Group::Branch => branch_apart(cpu, code, op, next, link_code(code, &ex)),
         Group::Call => tell(task_call(cpu, space, io, code.i2(), next), end),
-        Group::Supervisor => tell(Next::Ended(Ending::Abend(2)), end),
+        Group::Supervisor => tell(Next::Ended(privileged()), end),
         Group::Missing => tell(Next::Ended(Ending::Abend(1)), end),
     }
 }
