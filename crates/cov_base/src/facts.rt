@@ -83,7 +83,7 @@ impl Bits {
         match f {
             Fact::Ran => self.0 % 2 == 1,
             Fact::Went => self.0 / 2 % 2 == 1,
-            Fact::Stayed => self.0 / 4 % 2 == 1,
+            Fact::Stayed => self.0 / 4 == 1,
         }
     }
 

@@ -40,10 +40,10 @@ pub fn run_task<C: Cells>(
     // Read for what every plan keeps.
     let _ = plan.places_len();
     let budget = task.budget;
-    if has_returned(&task.cpu) {
-        return Ending::Returned;
-    }
     for done in 0..budget {
+        if has_returned(&task.cpu) {
+            return Ending::Returned;
+        }
         task.done = done + 1;
         if let Next::Ended(e) = step(
             cells,
@@ -57,10 +57,10 @@ pub fn run_task<C: Cells>(
         ) {
             return e;
         }
-        // At the end of a turn, so that a task that goes on needs no test of what `step` answered.
-        if has_returned(&task.cpu) {
-            return Ending::Returned;
-        }
     }
-    Ending::Spent
+    if has_returned(&task.cpu) {
+        Ending::Returned
+    } else {
+        Ending::Spent
+    }
 }

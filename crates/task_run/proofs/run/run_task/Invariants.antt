@@ -1,7 +1,7 @@
-use Rattle.std.proofs.Common.{◌≡◌, ◌==◌, ◌≤◌, true, false}
+use Rattle.std.proofs.Common.{◌≡◌, ◌≤◌, true}
 use Rattle.module_area.specs.Notes.{is_working}
 use Rattle.module_area.specs.Tied.{IsTied}
-use Rattle.s370_exec.specs.Solo.{return_address, state_of}
+use Rattle.s370_exec.specs.Solo.{state_of}
 use Rattle.space_map.specs.Space.{memory_of_space}
 use Rattle.task_run.proofs.RunLemmas.{LedTo}
 use Rattle.task_run.proofs.run.run_task.Given as goal
@@ -13,7 +13,6 @@ invariant-loop-done g l = record {
   memory : memory_of_space l.task.space ≡ memory_of_space l.initial.task.space;
   budget : l.task.budget ≡ l.initial.task.budget;
   done : l.task.done ≡ l.done;
-  going : (l.task.cpu.ia == return_address) ≡ false;
   within : l.done ≤ l.initial.task.budget;
   tied : IsTied (g.C.Cells.plan l.cells) (g.C.Cells.notes l.pass) l.task.control;
   run : LedTo (memory_of_space l.initial.task.space) (g.C.Cells.plan l.cells) (g.C.Cells.notes l.initial.pass) (g.C.Cells.notes l.pass) l.initial.task.control l.task.control l.initial.task.budget
