@@ -14,6 +14,3 @@ mod writing;
 pub use firsts::First;
 pub use proving::{ProveFault, prove};
 pub use verifying::{VerifyFault, verify};
-
-#[cfg(test)]
-mod tests;

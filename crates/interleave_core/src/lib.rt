@@ -12,6 +12,3 @@ mod stage;
 pub use events::{Event, NotPossible, Shown};
 pub use interleaving::{Core, start};
 pub use stage::{Due, Hand, Stage};
-
-#[cfg(test)]
-mod tests;

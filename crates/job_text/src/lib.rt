@@ -24,6 +24,3 @@ pub use lines::{FirstLine, first_line};
 pub use pieces::Fed;
 pub use reader::JobReader;
 pub use schedule::{Item, item_of};
-
-#[cfg(test)]
-mod tests;

@@ -14,6 +14,3 @@ pub use fetch::{fetch_first, fetch_rest};
 pub use instruction::execute;
 pub use solo::{has_returned, instruction_went, step, subject_seen, supervisor_call};
 pub use subject::{fetch_subject, is_execute, merge, subject_address};
-
-#[cfg(test)]
-mod tests;

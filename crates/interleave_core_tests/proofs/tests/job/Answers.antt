@@ -1,0 +1,42 @@
+use Rattle.std.proofs.Common.{rules, [], ◌∷◌, length}
+use Rattle.std.proofs.lemmas.List.Elements.{All-cons, All-nil}
+use Rattle.session_book.specs.JobView.{IsTask}
+use Rattle.interleave_core_tests.proofs.tests.job.Goals as goal
+
+pub invariant_of-result : goal.invariant_of-result
+invariant_of-result c = record {
+  listings = search rules;
+  images = search rules;
+  sizes = search rules;
+  modules = search rules;
+  lines = search rules;
+  phases = search rules;
+  sessions = search rules;
+  tasks = search rules;
+  are_sessions = search rules;
+  parted = search rules;
+  controllers = search rules;
+  are_tasks = rw (c.in_ok-vec-4.ensures.items) (All-cons (IsTask (length c.in_ok-vec-2.field-0.items)) c.in_ok-a.a (c.in_ok-c.c ∷ []) (record {
+    phase = search rules;
+    entry = search rules;
+    private = search rules;
+    some = search rules;
+    budget = search rules;
+    room = search rules;
+    regs = search rules;
+    cards = search rules;
+  }) (All-cons (IsTask (length c.in_ok-vec-2.field-0.items)) c.in_ok-c.c [] (record {
+    phase = search rules;
+    entry = search rules;
+    private = search rules;
+    some = search rules;
+    budget = search rules;
+    room = search rules;
+    regs = search rules;
+    cards = search rules;
+  }) (All-nil _)));
+  module_names = search rules;
+  phase_names = search rules;
+  session_names = search rules;
+  task_names = search rules;
+}
