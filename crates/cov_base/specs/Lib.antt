@@ -5,4 +5,5 @@ pub mod Facts
 pub mod Marks
 pub mod Memory
 pub mod Names
+pub mod Published
 pub mod States

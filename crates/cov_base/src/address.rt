@@ -1,5 +1,5 @@
 //! Addresses of 24 bits (Principles of Operation, "Storage Addressing").
-ghost use Rattle.std.specs.Prelude.{◌≡◌, ℕ, ◌+◌, ◌%◌, ◌<◌, ◌^◌, Some, None, if◌then◌else◌, nat_lt};
+ghost use Rattle.std.specs.Prelude.{⊤, ◌≡◌, ℕ, ◌+◌, ◌%◌, ◌<◌, ◌^◌, Some, None, if◌then◌else◌, nat_lt};
 ghost use Rattle.cov_base.specs.Memory.{wrap};
 
 use std::alloc::AllocError;
@@ -20,6 +20,10 @@ impl Model for Addr {
 }
 
 impl Clone for Addr {
+    ghost is_clone = { λ x y. y ≡ x };
+
+    ghost is_infallible = { λ _. ⊤ };
+
     fn clone(&self) -> Result<Self, AllocError> {
         Ok(*self)
     }

@@ -1,5 +1,5 @@
 //! Names of modules, phases, sessions and tasks.
-ghost use Rattle.std.specs.Prelude.{◌≡◌, ◌≤◌, ◌<◌, length, true, false, take, IfSome, IsNone};
+ghost use Rattle.std.specs.Prelude.{⊤, ◌≡◌, ◌≤◌, ◌<◌, length, true, false, take, IfSome, IsNone};
 ghost use Rattle.std.specs.List.{list_all};
 ghost use Rattle.cov_base.specs.Names.{is_letter, is_digit, is_name_byte, is_name, is_filled, name_at, padded, unpadded};
 
@@ -25,6 +25,10 @@ impl Model for Name {
 }
 
 impl Clone for Name {
+    ghost is_clone = { λ x y. y ≡ x };
+
+    ghost is_infallible = { λ _. ⊤ };
+
     fn clone(&self) -> Result<Self, AllocError> {
         Ok(*self)
     }
