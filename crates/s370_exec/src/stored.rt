@@ -1,4 +1,5 @@
-//! The operations that load, store or compute with a word or halfword in storage, each a call in a frame of its own.
+//! The operations that load, store or compute with a word or halfword in storage, each a call in a frame of its own; but for
+//! L and ST, which stand in the match of all operations.
 ghost use Rattle.std.specs.Prelude.{◌≡◌, ℕ};
 ghost use Rattle.cov_base.specs.States.{IoView};
 ghost use Rattle.s370_state.specs.Row.{machine_of};

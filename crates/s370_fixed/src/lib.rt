@@ -12,13 +12,12 @@ mod table;
 mod words;
 
 pub use loads::{
-    load_address, load_and_test, load_complement, load_half, load_negative, load_positive,
-    load_register, load_word, store_half, store_word,
+    load_address, load_and_test, load_complement, load_half, load_register, load_word, store_half,
+    store_word,
 };
 pub use multiple::{load_multiple, store_multiple};
 pub use sums::{
-    add_half, add_logical_register, add_logical_word, add_register, add_word, compare_half,
-    compare_register, compare_word, subtract_half, subtract_logical_register,
-    subtract_logical_word, subtract_register, subtract_word,
+    add_half, add_logical_word, add_register, add_word, compare_half, compare_register,
+    compare_word, subtract_half, subtract_logical_word, subtract_register, subtract_word,
 };
 pub use table::fixed;

@@ -77,6 +77,3 @@ pub fn put_half<P: Space>(space: &mut P, at: Addr, i: u32, len: u32, value: u32)
     put_into(space, at, i + 1, len, (value % 256) as u8);
     put_into(space, at, i, len, (value / 256 % 256) as u8);
 }
-
-#[cfg(test)]
-mod tests;

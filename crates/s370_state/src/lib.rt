@@ -21,6 +21,3 @@ pub use packed::{Field, field_at, is_digit, is_minus, is_sign, number, put_field
 pub use plain_space::PlainSpace;
 pub use space::{Refused, Space};
 pub use words::{order_code, signed};
-
-#[cfg(test)]
-mod tests;
