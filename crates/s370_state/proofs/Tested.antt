@@ -1,5 +1,5 @@
 -- What an operand that passed its tests gives for each of its bytes.
-use Rattle.std.proofs.Common.{◌≡◌, ℕ, ◌+◌, ◌*◌, ◌/◌, ◌%◌, ◌<◌, zero, suc, Bool, true, false, ◌&&◌, List, slice_set, arith, zero-add, add-zero, refl, ◌⊎◌, inl, inr}
+use Rattle.std.proofs.Common.{◌≡◌, ℕ, ◌+◌, ◌*◌, ◌/◌, ◌%◌, ◌<◌, ◌≤◌, zero, suc, Bool, true, false, ◌&&◌, List, slice_set, arith, zero-add, add-zero, refl, ◌⊎◌, inl, inr}
 use Rattle.cov_base.specs.Memory.{Memory, can_reach, can_store, is_accessible, is_private, wrap, byte_at}
 use Rattle.s370_state.specs.Words.{number_at, store_number}
 
@@ -43,3 +43,33 @@ word_stored bytes a v h =
     let second : v / 256 / 256 % 256 ≡ v / 65536 % 256 = omega arith in
     let first : v / 256 / 256 / 256 % 256 ≡ v / 16777216 = omega arith in
     rw (add-zero, second, first) refl
+
+wrapped_once : (a i k : ℕ) → wrap (wrap (a + i) + k) ≡ wrap (a + (i + k))
+wrapped_once a i k = omega arith
+
+-- a part of an operand
+pub reach_part : (m : Memory) (a n i b k : ℕ) → can_reach m a n ≡ true → i + k ≤ n → b ≡ wrap (a + i) → can_reach m b k ≡ true
+unfolding can_reach
+reach_part m a n i b zero h l e = refl
+reach_part m a n i b (suc k) h l e =
+    rw (reach_part m a n i b k h (omega arith) e, e, wrapped_once a i k) (reach_at m a n (i + k) (wrap (a + (i + k))) h (omega arith) refl)
+
+pub store_part : (m : Memory) (a n i b k : ℕ) → can_store m a n ≡ true → i + k ≤ n → b ≡ wrap (a + i) → can_store m b k ≡ true
+unfolding can_store
+store_part m a n i b zero h l e = refl
+store_part m a n i b (suc k) h l e =
+    rw (store_part m a n i b k h (omega arith) e, e, wrapped_once a i k) (store_at m a n (i + k) (wrap (a + (i + k))) h (omega arith) refl)
+
+wrapped_in : (a k : ℕ) → wrap (wrap a + k) ≡ wrap (a + k)
+wrapped_in a k = omega arith
+
+-- a number at an address beyond the last is that at the address that it wraps to
+pub number_wrapped : (m : Memory) (bytes : List ℕ) (a n : ℕ) → number_at m bytes (wrap a) n ≡ number_at m bytes a n
+unfolding number_at
+number_wrapped m bytes a zero = refl
+number_wrapped m bytes a (suc n) = rw (number_wrapped m bytes a n, wrapped_in a n) refl
+
+pub store_wrapped : (bytes : List ℕ) (a n v : ℕ) → store_number bytes (wrap a) n v ≡ store_number bytes a n v
+unfolding store_number
+store_wrapped bytes a zero v = refl
+store_wrapped bytes a (suc n) v = rw (wrapped_in a n) (store_wrapped (slice_set bytes (wrap (a + n)) (v % 256)) a n (v / 256))

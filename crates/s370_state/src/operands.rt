@@ -131,19 +131,14 @@ pub fn put_into<P: Space>(space: &mut P, at: Addr, i: u32, len: u32, value: u8)
 }
 
 /// The word at a distance into an operand that was tested, unsigned.
-#[tactic(auto, using(crate::proofs::Tested::word_of_bytes))]
+#[tactic(auto, using(crate::proofs::Tested::reach_part, crate::proofs::Tested::number_wrapped))]
 #[inline(always)]
 pub fn word_of<P: Space>(space: &P, at: Addr, i: u32, len: u32) -> u32
     requires reach { can_reach (P.memory space.now) at len ≡ true }
     requires below { i + 4 ≤ len }
     ensures { result ≡ number_at (P.memory space.now) (P.bytes space.now) (at + i) 4 }
 {
-    u32::from_be_bytes([
-        byte_of(space, at, i, len),
-        byte_of(space, at, i + 1, len),
-        byte_of(space, at, i + 2, len),
-        byte_of(space, at, i + 3, len),
-    ])
+    space.word(at.plus(i))
 }
 
 /// The word at an address, tested as an operand that is read.
@@ -160,7 +155,7 @@ pub fn read_word<P: Space>(space: &P, at: Addr) -> Result<u32, Ending>
 }
 
 /// A word is stored at a distance into an operand that was tested.
-#[tactic(auto, using(crate::proofs::Tested::word_stored))]
+#[tactic(auto, using(crate::proofs::Tested::store_part, crate::proofs::Tested::store_wrapped))]
 #[inline(always)]
 pub fn put_word<P: Space>(space: &mut P, at: Addr, i: u32, len: u32, value: u32)
     requires store { can_store (P.memory space.old) at len ≡ true }
@@ -168,8 +163,5 @@ pub fn put_word<P: Space>(space: &mut P, at: Addr, i: u32, len: u32, value: u32)
     ensures memory { P.memory space.new ≡ P.memory space.old }
     ensures bytes { P.bytes space.new ≡ store_number (P.bytes space.old) (at + i) 4 value }
 {
-    put_into(space, at, i + 3, len, (value % 256) as u8);
-    put_into(space, at, i + 2, len, (value / 256 % 256) as u8);
-    put_into(space, at, i + 1, len, (value / 65_536 % 256) as u8);
-    put_into(space, at, i, len, (value / 16_777_216) as u8);
+    space.put_word(at.plus(i), value);
 }

@@ -115,9 +115,27 @@ impl Space for PlainSpace {
         }
     }
 
+    #[tactic(auto, using(crate::proofs::Tested::word_of_bytes, crate::proofs::Tested::reach_at))]
+    fn word(&self, at: Addr) -> u32 {
+        u32::from_be_bytes([
+            self.byte(at.plus(0)),
+            self.byte(at.plus(1)),
+            self.byte(at.plus(2)),
+            self.byte(at.plus(3)),
+        ])
+    }
+
     #[tactic(auto, unfolding(crate::specs::Plain::memory_of, cov_base::specs::Memory::byte_at, cov_base::specs::Memory::is_accessible, cov_base::specs::Memory::is_private))]
     fn put(&mut self, at: Addr, value: u8) {
         self.bytes[at.get() as usize] = value;
+    }
+
+    #[tactic(auto, using(crate::proofs::Tested::word_stored, crate::proofs::Tested::store_at))]
+    fn put_word(&mut self, at: Addr, value: u32) {
+        self.put(at.plus(3), (value % 256) as u8);
+        self.put(at.plus(2), (value / 256 % 256) as u8);
+        self.put(at.plus(1), (value / 65_536 % 256) as u8);
+        self.put(at.plus(0), (value / 16_777_216) as u8);
     }
 
     ghost filled = { λ s. unfold memory_of in s.in_size };

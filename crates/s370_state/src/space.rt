@@ -2,6 +2,7 @@
 ghost use Rattle.std.specs.Prelude.{◌≡◌, ℕ, ◌/◌, ◌<◌, ◌^◌, List, true, length, slice_set};
 ghost use Rattle.cov_base.specs.Memory.{Memory, byte_at, is_accessible, is_private, can_reach, can_store, wrap};
 ghost use Rattle.s370_state.specs.Answers.{reach_answer, store_answer, touch_answer, half_answer, first_answer};
+ghost use Rattle.s370_state.specs.Words.{number_at, store_number};
 
 use cov_base::Addr;
 
@@ -54,11 +55,22 @@ pub trait Space {
         requires { is_accessible (memory self.now) at ≡ true }
         ensures { result ≡ byte_at (memory self.now) (bytes self.now) at };
 
+    /// The word at an address whose four bytes are accessible.
+    fn word(&self, at: Addr) -> u32
+        requires { can_reach (memory self.now) at 4 ≡ true }
+        ensures { result ≡ number_at (memory self.now) (bytes self.now) at 4 };
+
     /// Changes the byte at a private address, and no other.
     fn put(&mut self, at: Addr, value: u8)
         requires { is_private (memory self.old) at ≡ true }
         ensures memory { memory self.new ≡ memory self.old }
         ensures bytes { bytes self.new ≡ slice_set (bytes self.old) at value };
+
+    /// Changes the four bytes at a private address, of which each is private, and no other.
+    fn put_word(&mut self, at: Addr, value: u32)
+        requires { can_store (memory self.old) at 4 ≡ true }
+        ensures memory { memory self.new ≡ memory self.old }
+        ensures bytes { bytes self.new ≡ store_number (bytes self.old) at 4 value };
 
     /// Private storage has all its bytes, so that what is put at a private address stands there.
     ghost filled: { (s : Self) → length (bytes s) ≡ (memory s).private };

@@ -2,7 +2,7 @@
 #![tactic(auto, using(s370_state::proofs::Performs::passes, s370_state::proofs::Performs::refuses))]
 
 ghost use Rattle.std.specs.Prelude.{◌≡◌, ◌+◌, ◌-◌, ◌*◌, ◌/◌, ◌%◌, ◌<◌, ◌≤◌, true};
-ghost use Rattle.cov_base.specs.Memory.{can_reach, can_store};
+ghost use Rattle.cov_base.specs.Memory.{byte_at, can_reach, can_store, wrap};
 ghost use Rattle.s370_state.specs.Row.{Performs};
 ghost use Rattle.s370_storage.specs.Moves.{with_part, moved, moves, row_mvc, row_mvn, row_mvz, left_of, inverted, row_mvcin};
 
@@ -31,7 +31,24 @@ fn with_part(part: Part, x: u8, y: u8) -> u8
     }
 }
 
+/// What byte i of the first operand becomes. The byte that stands there is read only where a part of it stays.
+#[inline(always)]
+fn next_byte<P: Space>(part: Part, space: &P, a: Addr, b: Addr, i: u32, n: u32) -> u8
+    requires reach { can_reach (P.memory space.now) a n ≡ true }
+    requires reach_second { can_reach (P.memory space.now) b n ≡ true }
+    requires below { i < n }
+    ensures { result ≡ with_part part (byte_at (P.memory space.now) (P.bytes space.now) (wrap (a + i))) (byte_at (P.memory space.now) (P.bytes space.now) (wrap (b + i))) }
+{
+    match part {
+        Part::Byte => byte_of(space, b, i, n),
+        Part::Numeric | Part::Zone => {
+            with_part(part, byte_of(space, a, i, n), byte_of(space, b, i, n))
+        }
+    }
+}
+
 /// Moves n bytes, one at a time, left to right, so that operands that overlap repeat what was moved before.
+#[inline(always)]
 #[tactic(auto, using(crate::proofs::Steps::moved_none, crate::proofs::Steps::moved_more))]
 pub fn move_bytes<P: Space>(part: Part, space: &mut P, a: Addr, b: Addr, n: u32)
     requires store { can_store (P.memory space.old) a n ≡ true }
@@ -41,12 +58,13 @@ pub fn move_bytes<P: Space>(part: Part, space: &mut P, a: Addr, b: Addr, n: u32)
     ensures bytes { P.bytes space.new ≡ moved part (P.memory space.old) (P.bytes space.old) a b n }
 {
     for i in 0..n {
-        let value = with_part(part, byte_of(space, a, i, n), byte_of(space, b, i, n));
+        let value = next_byte(part, space, a, b, i, n);
         put_into(space, a, i, n, value);
     }
 }
 
 /// Moves that part of L+1 bytes.
+#[inline(always)]
 fn move_parts<P: Space>(part: Part, cpu: &Cpu, space: &mut P, code: &Code) -> Next
     ensures memory { P.memory space.new ≡ P.memory space.old }
     ensures row { Performs (P.memory space.old) cpu.now (P.bytes space.old) (λ m s. moves part m s code.now) cpu.now (P.bytes space.new) result }

@@ -1,10 +1,12 @@
 -- What one test of a range tells in a task's space.
-use Rattle.std.proofs.Common.{◌≡◌, ℕ, ◌+◌, ◌*◌, ◌<◌, ◌≤◌, zero, suc, Bool, true, nat_eq, nat_le, IsTrue, None, Ok, List, length, refl, ap, arith, ◌⊎◌, inl, inr}
+use Rattle.std.proofs.Common.{◌≡◌, ℕ, ◌+◌, ◌*◌, ◌/◌, ◌%◌, ◌<◌, ◌≤◌, zero, suc, Bool, true, false, nat_eq, nat_le, IsTrue, None, Ok, List, length, slice_index, slice_set, refl, ap, sym, ◌∙◌, arith, ◌⊎◌, inl, inr}
 use Rattle.std.specs.List.{list_any}
 use Rattle.std.proofs.lemmas.Bool.Decides.{nat_tests}
-use Rattle.std.proofs.lemmas.Bool.{le-leb, lt-leb}
-use Rattle.cov_base.specs.Memory.{Memory, ImageView, wrap, can_reach, can_store, first_touch}
+use Rattle.std.proofs.lemmas.Bool.{le-leb, lt-leb, lt-ltb}
+use Rattle.cov_base.specs.Memory.{Memory, ImageView, wrap, byte_at, can_reach, can_store, first_touch}
 use Rattle.s370_state.specs.Answers.{first_answer}
+use Rattle.s370_state.specs.Words.{number_at, store_number}
+use Rattle.s370_state.proofs.Tested.{word_of_bytes, word_stored}
 use Rattle.module_area.specs.declared.places.Place.{Place}
 use Rattle.brk_table.specs.Places.{memory_of, in_image, image_byte}
 use Rattle.space_map.specs.Space.{SpaceView, memory_of_space}
@@ -77,3 +79,35 @@ two P a b l h p q = elim (which a b l h) [ inl e ↦ rw e p | inr e ↦ rw e q ]
 pub first_listed : (s : SpaceView) (monitored : Bool) (a h : ℕ) → IsSpace s monitored → 1048576 ≤ a → a + 2 ≤ 16777216 → list_any (λ i. in_image i a) s.images ≡ true → list_any (λ i. in_image i (a + 1)) s.images ≡ true → h ≡ image_byte s.images a * 256 + image_byte s.images (a + 1) → Ok h ≡ first_answer (memory_of_space s) s.bytes a
 first_listed s monitored a h k from to one next e =
     rw (reach_listed (length s.bytes) s.images s.places a 2 (λ b l m. two (λ b. list_any (λ i. in_image i b) s.images ≡ true) a b l m one next) to, let w : wrap (a + 1) ≡ a + 1 = omega arith in w, byte_at-image (length s.bytes) s.images s.places s.bytes a (omega arith), byte_at-image (length s.bytes) s.images s.places s.bytes (a + 1) (omega arith), e) refl
+
+at_private : (size : ℕ) (images : List ImageView) (places : List Place) (bytes : List ℕ) (a : ℕ) → a < size → size ≤ 1048576 → byte_at (memory_of size images places) bytes (wrap a) ≡ slice_index bytes a
+unfolding byte_at memory_of
+at_private size images places bytes a h l = let w : wrap a ≡ a = omega arith in rw (w, lt-ltb a size h) refl
+
+-- a word in private storage is that of its bytes
+pub word_in : (s : SpaceView) (monitored : Bool) (a : ℕ) → IsSpace s monitored → a + 4 ≤ length s.bytes → number_at (memory_of_space s) s.bytes a 4 ≡ ((slice_index s.bytes a * 256 + slice_index s.bytes (a + 1)) * 256 + slice_index s.bytes (a + 2)) * 256 + slice_index s.bytes (a + 3)
+word_in s monitored a k h =
+    let size = length s.bytes in
+    word_of_bytes (memory_of_space s) s.bytes a
+    ∙ rw (at_private size s.images s.places s.bytes a (omega arith) (omega arith), at_private size s.images s.places s.bytes (a + 1) (omega arith) (omega arith), at_private size s.images s.places s.bytes (a + 2) (omega arith) (omega arith), at_private size s.images s.places s.bytes (a + 3) (omega arith) (omega arith)) refl
+
+outside : (s : SpaceView) (monitored : Bool) (a n : ℕ) → IsSpace s monitored → a < 16777216 → 0 < n → length s.bytes < a + n → can_store (memory_of_space s) a n ≡ false
+unfolding memory_of
+outside s monitored a n k l p q = store_outside (memory_of_space s) a n p q l (omega arith)
+
+-- what may be stored lies in private storage
+pub within : (s : SpaceView) (monitored : Bool) (a n : ℕ) → IsSpace s monitored → a < 16777216 → 0 < n → can_store (memory_of_space s) a n ≡ true → a + n ≤ length s.bytes
+within s monitored a n k l p h = elim (ends (a + n) (length s.bytes)) [
+  | inl q ↦ q
+  | inr q ↦ (let no : true ≡ false = sym h ∙ outside s monitored a n k l p q in absurd cc)
+]
+
+-- a word that is stored in private storage
+pub word_put : (bytes : List ℕ) (a v : ℕ) → a + 4 ≤ 1048576 → v < 4294967296 →
+    store_number bytes a 4 v ≡ slice_set (slice_set (slice_set (slice_set bytes (a + 3) (v % 256)) (a + 2) (v / 256 % 256)) (a + 1) (v / 65536 % 256)) a (v / 16777216)
+word_put bytes a v h l =
+    let w : wrap a ≡ a = omega arith in
+    let x : wrap (a + 1) ≡ a + 1 = omega arith in
+    let y : wrap (a + 2) ≡ a + 2 = omega arith in
+    let z : wrap (a + 3) ≡ a + 3 = omega arith in
+    word_stored bytes a v l ∙ rw (w, x, y, z) refl

@@ -3,6 +3,7 @@ ghost use Rattle.std.specs.Prelude.{◌≡◌, ◌+◌, ◌*◌, Some, None, if�
 ghost use Rattle.cov_base.specs.Memory.{wrap, byte_at, half_at, is_accessible, can_reach, can_store, first_touch};
 ghost use Rattle.cov_base.specs.declared.limits.TheConstants.{PRIVATE_LIMIT};
 ghost use Rattle.s370_state.specs.Answers.{reach_answer};
+ghost use Rattle.s370_state.specs.Words.{number_at};
 ghost use Rattle.module_area.specs.Images.{AreImages};
 ghost use Rattle.brk_table.specs.Kept.{AreCodes, AreKept};
 ghost use Rattle.brk_table.specs.Places.{memory_of, IsIn, AreSeen};
@@ -129,6 +130,21 @@ impl<'a> TaskSpace<'a> {
             Ok(()) => true,
             Err(_) => false,
         }
+    }
+
+    // A word that doesn't lie in private storage, byte by byte.
+    #[inline(never)]
+    #[tactic(auto, using(s370_state::proofs::Tested::word_of_bytes, s370_state::proofs::Tested::reach_at))]
+    fn word_by_bytes(&self, at: Addr) -> u32
+        requires { can_reach (memory_of_space self.now) at 4 ≡ true }
+        ensures { result ≡ number_at (memory_of_space self.now) self.now.bytes at 4 }
+    {
+        u32::from_be_bytes([
+            self.byte(at.plus(0)),
+            self.byte(at.plus(1)),
+            self.byte(at.plus(2)),
+            self.byte(at.plus(3)),
+        ])
     }
 
     // A halfword byte by byte. It is rare, and kept out of the task's loop.
@@ -261,9 +277,35 @@ impl<'a> Space for TaskSpace<'a> {
         }
     }
 
+    #[inline(always)]
+    #[tactic(auto, using(crate::proofs::SpaceLemmas::word_in))]
+    fn word(&self, at: Addr) -> u32 {
+        if u64::from(at.get()) + 4 <= self.bytes.len() as u64 {
+            let a = at.get() as usize;
+            u32::from_be_bytes([
+                self.bytes[a],
+                self.bytes[a + 1],
+                self.bytes[a + 2],
+                self.bytes[a + 3],
+            ])
+        } else {
+            self.word_by_bytes(at)
+        }
+    }
+
     #[tactic(auto, unfolding(brk_table::specs::Places::memory_of, cov_base::specs::Memory::is_private))]
     fn put(&mut self, at: Addr, value: u8) {
         self.bytes[at.get() as usize] = value;
+    }
+
+    #[inline(always)]
+    #[tactic(auto, using(crate::proofs::SpaceLemmas::word_put, crate::proofs::SpaceLemmas::within))]
+    fn put_word(&mut self, at: Addr, value: u32) {
+        let a = at.get() as usize;
+        self.bytes[a + 3] = (value % 256) as u8;
+        self.bytes[a + 2] = (value / 256 % 256) as u8;
+        self.bytes[a + 1] = (value / 65_536 % 256) as u8;
+        self.bytes[a] = (value / 16_777_216) as u8;
     }
 
     ghost filled = { λ s. unfold memory_of in refl };
