@@ -1,7 +1,9 @@
 -- What one test of a range tells in a task's space.
-use Rattle.std.proofs.Common.{◌≡◌, ℕ, ◌+◌, ◌*◌, ◌/◌, ◌%◌, ◌<◌, ◌≤◌, zero, suc, Bool, true, false, nat_eq, nat_le, IsTrue, None, Ok, List, length, slice_index, slice_set, refl, ap, sym, ◌∙◌, arith, ◌⊎◌, inl, inr}
+use Rattle.std.proofs.Common.{◌≡◌, ℕ, ◌+◌, ◌*◌, ◌/◌, ◌%◌, ◌<◌, ◌≤◌, zero, suc, Bool, true, false, nat_eq, nat_le, IsTrue, None, Ok, List, length, take, drop, ◌++◌, slice_index, slice_set, refl, ap, sym, ◌∙◌, arith, ◌⊎◌, inl, inr}
 use Rattle.std.specs.List.{list_any}
 use Rattle.std.proofs.lemmas.Bool.Decides.{nat_tests}
+use Rattle.std.proofs.lemmas.List.{length-set}
+use Rattle.std.proofs.Math.Seq.{take-append_seam}
 use Rattle.std.proofs.lemmas.Bool.{le-leb, lt-leb, lt-ltb}
 use Rattle.cov_base.specs.Memory.{Memory, ImageView, wrap, byte_at, can_reach, can_store, first_touch}
 use Rattle.s370_state.specs.Answers.{first_answer}
@@ -102,6 +104,9 @@ within s monitored a n k l p h = elim (ends (a + n) (length s.bytes)) [
   | inr q ↦ (let no : true ≡ false = sym h ∙ outside s monitored a n k l p q in absurd cc)
 ]
 
+pub set_length : (bytes : List ℕ) (a v : ℕ) → length (slice_set bytes a v) ≡ length bytes
+set_length bytes a v = length-set bytes a v
+
 -- a word that is stored in private storage
 pub word_put : (bytes : List ℕ) (a v : ℕ) → a + 4 ≤ 1048576 → v < 4294967296 →
     store_number bytes a 4 v ≡ slice_set (slice_set (slice_set (slice_set bytes (a + 3) (v % 256)) (a + 2) (v / 256 % 256)) (a + 1) (v / 65536 % 256)) a (v / 16777216)
@@ -111,3 +116,7 @@ word_put bytes a v h l =
     let y : wrap (a + 2) ≡ a + 2 = omega arith in
     let z : wrap (a + 3) ≡ a + 3 = omega arith in
     word_stored bytes a v l ∙ rw (w, x, y, z) refl
+
+-- a vector whose bytes are all put anew
+pub whole_put : (n : ℕ) (new old : List ℕ) → n ≡ length new → take n (new ++ drop (length new) old) ≡ new
+whole_put n new old h = rw h (take-append_seam new (drop (length new) old))

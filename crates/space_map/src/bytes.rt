@@ -1,5 +1,5 @@
 //! The bytes that private storage begins with.
-ghost use Rattle.std.specs.Prelude.{◌≡◌, ◌+◌, ◌≤◌, ◌<◌, length, All, IfOk};
+ghost use Rattle.std.specs.Prelude.{◌≡◌, ◌+◌, ◌/◌, ◌%◌, ◌≤◌, ◌<◌, length, All, IfOk, slice_set};
 ghost use Rattle.module_area.specs.Views.{with_card, first_bytes};
 
 use module_area::DataCard;
@@ -26,4 +26,18 @@ pub fn first_bytes(alloc: Global, size: u32, cards: &[DataCard]) -> Result<Vec<u
         store_card(&mut bytes, card);
     }
     Ok(bytes)
+}
+
+/// Stores a word's four bytes. They are those of one slice, so that they are stored at once.
+#[inline(always)]
+#[tactic(auto, using(crate::proofs::SpaceLemmas::set_length))]
+pub fn put_bytes(bytes: &mut [u8], a: usize, value: u32)
+    requires { a + 4 ≤ length bytes.old }
+    ensures value { bytes.new ≡ slice_set (slice_set (slice_set (slice_set bytes.old (a + 3) (value % 256)) (a + 2) (value / 256 % 256)) (a + 1) (value / 65536 % 256)) a (value / 16777216) }
+    ensures filled { length bytes.new ≡ length bytes.old }
+{
+    bytes[a + 3] = (value % 256) as u8;
+    bytes[a + 2] = (value / 256 % 256) as u8;
+    bytes[a + 1] = (value / 65_536 % 256) as u8;
+    bytes[a] = (value / 16_777_216) as u8;
 }

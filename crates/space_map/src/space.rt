@@ -10,7 +10,7 @@ ghost use Rattle.brk_table.specs.Places.{memory_of, IsIn, AreSeen};
 ghost use Rattle.module_area.specs.Views.{first_bytes};
 ghost use Rattle.space_map.specs.Space.{row_of, memory_of_space};
 
-use crate::bytes::first_bytes;
+use crate::bytes::{first_bytes, put_bytes};
 use crate::images::{image_byte, image_half, is_image, is_in_one_image};
 use brk_table::Tables;
 use cov_base::{Addr, NoMemory};
@@ -301,11 +301,7 @@ impl<'a> Space for TaskSpace<'a> {
     #[inline(always)]
     #[tactic(auto, using(crate::proofs::SpaceLemmas::word_put, crate::proofs::SpaceLemmas::within))]
     fn put_word(&mut self, at: Addr, value: u32) {
-        let a = at.get() as usize;
-        self.bytes[a + 3] = (value % 256) as u8;
-        self.bytes[a + 2] = (value / 256 % 256) as u8;
-        self.bytes[a + 1] = (value / 65_536 % 256) as u8;
-        self.bytes[a] = (value / 16_777_216) as u8;
+        put_bytes(self.bytes.as_mut_slice(), at.get() as usize, value);
     }
 
     ghost filled = { λ s. unfold memory_of in refl };
