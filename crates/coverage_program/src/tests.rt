@@ -33,16 +33,15 @@ ghost use Rattle.std.specs.Prelude.{◌<◌};
 
 use crate::cover::cover;
 use crate::status::Status;
-use cases::CASES;
+use cases::cases;
 use cov_outside::{OpenGate, SureSink, SureSource};
-use jobs::{JOBS, TALLIED_JOBS};
+use jobs::{TALLIED_JOBS, jobs};
 use module_area::{Areas, Tally};
-use notation::{Case, Tallied, job_of, text_of};
+use notation::{Case, Tallied, case_of, job_of, text_of};
 use places::{serve_over, words_of};
-use programs::{PROGRAMS, TALLIED_PROGRAMS};
+use programs::{TALLIED_PROGRAMS, programs};
 use shared_area::SharedAreas;
 use std::alloc::Global;
-use std::process::Abort;
 use std::sync::Wait;
 use std::test::Fail;
 use std::thread::Threads;
@@ -77,13 +76,16 @@ MODULE M PLACES 3 EXECUTED 3 FACTS 3 OF 3\n\
 : 000006 07FE                           3          BR\n\
 END\n";
 
-static FIRST: Case = Case {
-    name: "the first job",
-    code: "",
-    job: FIRST_JOB,
-    status: 0,
-    text: FIRST_TEXT,
-};
+static FIRST: [Tallied; 1] = [Tallied {
+    case: Case {
+        name: "the first job",
+        code: "",
+        job: FIRST_JOB,
+        status: 0,
+        text: FIRST_TEXT,
+    },
+    tallies: &[(3, 3, 3, 3)],
+}];
 
 /// What came of a job: the status, the bytes written, the ledger's one tally, and the areas made.
 #[derive(Drop)]
@@ -113,151 +115,173 @@ fn run<T: Threads + Wait + Sync>(
     })
 }
 
-#[test]
-fn runs_the_first_job(rt: HostRuntime) -> Result<(), Fail> {
-    let came = check(&rt, rt.alloc(), &FIRST)?;
-    check_tallies(&rt, &came, FIRST.name, &[(3, 3, 3, 3)])
+/// Whether a tally has these counts, but for that of closes.
+fn is_tally(tally: &Tally, counts: &(u64, u64, u64, u64)) -> bool {
+    tally.plants == counts.0
+        && tally.fetches == counts.1
+        && tally.marks == counts.2
+        && tally.lifts == counts.3
 }
 
-#[test]
-fn answers_over_devices_that_never_fail(rt: HostRuntime) -> Result<(), Fail> {
-    let alloc = rt.alloc();
-    let words = words_of(alloc, &["run"])?;
-    let mut source = SureSource::new(job_of(alloc, &FIRST)?, 64);
-    let mut sink = SureSink::new();
-    let mut areas = SharedAreas::new(alloc, 16).map_err(|_| "memory")?;
-    let status = cover(
-        &rt,
-        alloc,
-        &words,
-        &mut source,
-        &mut sink,
-        &mut areas,
-        &OpenGate,
-    );
-    assert_eq!(rt; status, Status(0));
-    assert_eq!(rt; areas.ledger().len(), 1);
-    assert_eq!(rt; counts_of(&areas.ledger()[0]), (3, 3, 3, 3));
-    let none = Vec::new(alloc);
-    let mut others = SharedAreas::new(alloc, 16).map_err(|_| "memory")?;
-    let refused = cover(
-        &rt,
-        alloc,
-        &none,
-        &mut source,
-        &mut sink,
-        &mut others,
-        &OpenGate,
-    );
-    assert_eq!(rt; refused, Status(1));
-    Ok(())
+/// Whether these are the tallies.
+fn are_tallies(tallies: &[Tally], expected: &[(u64, u64, u64, u64)]) -> bool {
+    for (tally, counts) in tallies.iter().zip(expected.iter()) {
+        if !is_tally(tally, counts) {
+            return false;
+        }
+    }
+    tallies.len() == expected.len()
 }
 
-/// The counts of a tally but for those of closes, which are 0.
-fn counts_of(t: &Tally) -> (u64, u64, u64, u64) {
-    (t.plants, t.fetches, t.marks, t.lifts)
+/// Whether the status and the text came, over as many areas as there are tallies, none of which tells of a close.
+fn is_came(came: &Came, text: &[u8], status: u8) -> bool {
+    came.status.0 == status
+        && came.text.as_slice() == text
+        && came.made == came.tallies.len() as u64
+        && came.tallies.iter().all(|t| t.closes == 0)
 }
 
-/// Runs the case's job in pieces of 64 bytes.
-fn check<T: Abort + Threads + Wait + Sync>(
-    rt: &T,
-    alloc: Global,
-    case: &Case,
-) -> Result<Came, Fail> {
-    check_pieces(rt, alloc, case, 64)
-}
-
-/// Runs the case's job in pieces of so many bytes: status and text are the case's.
-fn check_pieces<T: Abort + Threads + Wait + Sync>(
+/// What comes of the case's job in pieces of so many bytes; none where it isn't the case's status and text.
+fn came_of<T: Threads + Wait + Sync>(
     rt: &T,
     alloc: Global,
     case: &Case,
     piece: usize,
-) -> Result<Came, Fail>
+) -> Result<Option<Came>, Fail>
     requires { 0 < piece }
 {
-    let name = case.name;
-    let came = run(rt, alloc, &job_of(alloc, case)?, piece)?;
-    assert_eq!(rt; came.status, Status(case.status), "{name}");
-    assert_eq!(rt;
-        came.text.as_slice(),
-        text_of(alloc, case)?.as_slice(),
-        "{name}"
-    );
-    assert_eq!(rt; came.made, came.tallies.len() as u64, "{name}");
-    assert!(rt; came.tallies.iter().all(|t| t.closes == 0), "{name}");
-    Ok(came)
-}
-
-/// The areas of what came have these tallies.
-fn check_tallies<T: Abort>(
-    rt: &T,
-    came: &Came,
-    name: &str,
-    expected: &[(u64, u64, u64, u64)],
-) -> Result<(), Fail> {
-    assert_eq!(rt; came.tallies.len(), expected.len(), "{name}");
-    for (t, e) in came.tallies.iter().zip(expected.iter()) {
-        assert_eq!(rt; counts_of(t), *e, "{name}");
+    let job = job_of(alloc, case)?;
+    let text = text_of(alloc, case)?;
+    let came = run(rt, alloc, &job, piece)?;
+    if is_came(&came, &text, case.status) {
+        return Ok(Some(came));
     }
-    Ok(())
+    Ok(None)
 }
 
-/// Runs each case's job.
-fn check_tallied<T: Abort + Threads + Wait + Sync>(
+/// Whether that comes, over one area where it isn't refused.
+fn is_case<T: Threads + Wait + Sync>(
     rt: &T,
     alloc: Global,
-    cases: &[Tallied],
-) -> Result<(), Fail> {
-    for tallied in cases {
-        let came = check(rt, alloc, &tallied.case)?;
-        check_tallies(rt, &came, tallied.case.name, tallied.tallies)?;
-    }
-    Ok(())
+    case: &Case,
+    piece: usize,
+) -> Result<bool, Fail>
+    requires { 0 < piece }
+{
+    Ok(match came_of(rt, alloc, case, piece)? {
+        Some(came) => came.made == u64::from(case.status == 0),
+        None => false,
+    })
 }
 
-/// Each case's job in pieces of so many bytes: an area is made where it isn't refused.
-fn check_cases<T: Abort + Threads + Wait + Sync>(
+/// Whether that comes, with these tallies.
+fn is_tallied<T: Threads + Wait + Sync>(
     rt: &T,
     alloc: Global,
+    tallied: &Tallied,
+    piece: usize,
+) -> Result<bool, Fail>
+    requires { 0 < piece }
+{
+    Ok(match came_of(rt, alloc, &tallied.case, piece)? {
+        Some(came) => are_tallies(&came.tallies, tallied.tallies),
+        None => false,
+    })
+}
+
+/// Runs each case's job in pieces of so many bytes; a failure names the first of which something else comes.
+fn check<T: Threads + Wait + Sync>(
+    rt: &T,
+    alloc: Global,
+    cases: &'static str,
     piece: usize,
 ) -> Result<(), Fail>
     requires { 0 < piece }
 {
-    for case in &CASES {
-        let came = check_pieces(rt, alloc, case, piece)?;
-        let name = case.name;
-        assert_eq!(rt; came.made, u64::from(case.status == 0), "{name}");
+    for entry in cases.split("@case ") {
+        let case = case_of(entry);
+        if !entry.is_empty() && !is_case(rt, alloc, &case, piece)? {
+            return Err(Fail::new(case.name));
+        }
     }
+    Ok(())
+}
+
+/// The same of cases with their tallies.
+fn check_tallied<T: Threads + Wait + Sync>(
+    rt: &T,
+    alloc: Global,
+    cases: &[Tallied],
+    piece: usize,
+) -> Result<(), Fail>
+    requires { 0 < piece }
+{
+    for tallied in cases {
+        if !is_tallied(rt, alloc, tallied, piece)? {
+            return Err(Fail::new(tallied.case.name));
+        }
+    }
+    Ok(())
+}
+
+#[test]
+fn runs_the_first_job(rt: HostRuntime) -> Result<(), Fail> {
+    check_tallied(&rt, rt.alloc(), &FIRST, 64)
+}
+
+/// What comes of the words and the first job over devices that never fail: the status, and the tallies.
+fn serve_surely<T: Threads + Wait + Sync>(
+    rt: &T,
+    alloc: Global,
+    words: &[&str],
+) -> Result<(Status, Vec<Tally>), Fail> {
+    let all = words_of(alloc, words)?;
+    let mut source = SureSource::new(FIRST_JOB.as_bytes().to_vec(alloc)?, 64);
+    let mut areas = SharedAreas::new(alloc, 16).map_err(|_| "memory")?;
+    let status = cover(
+        rt,
+        alloc,
+        &all,
+        &mut source,
+        &mut SureSink::new(),
+        &mut areas,
+        &OpenGate,
+    );
+    Ok((status, areas.ledger().to_vec(alloc)?))
+}
+
+/// Whether the first job is run and tallied so, and no words are refused.
+fn is_answered_surely<T: Threads + Wait + Sync>(rt: &T, alloc: Global) -> Result<bool, Fail> {
+    let (refused, _) = serve_surely(rt, alloc, &[])?;
+    let (status, tallies) = serve_surely(rt, alloc, &["run"])?;
+    Ok(refused.0 == 1 && status.0 == 0 && are_tallies(&tallies, &[(3, 3, 3, 3)]))
+}
+
+#[test]
+fn answers_over_devices_that_never_fail(rt: HostRuntime) -> Result<(), Fail> {
+    assert!(rt; is_answered_surely(&rt, rt.alloc())?);
     Ok(())
 }
 
 #[test]
 fn answers_each_job(rt: HostRuntime) -> Result<(), Fail> {
-    check_cases(&rt, rt.alloc(), 64)
+    check(&rt, rt.alloc(), cases(), 64)
 }
 
 #[test]
 fn answers_each_job_byte_by_byte(rt: HostRuntime) -> Result<(), Fail> {
-    let came = check_pieces(&rt, rt.alloc(), &FIRST, 1)?;
-    check_tallies(&rt, &came, FIRST.name, &[(3, 3, 3, 3)])?;
-    check_cases(&rt, rt.alloc(), 1)
+    check_tallied(&rt, rt.alloc(), &FIRST, 1)?;
+    check(&rt, rt.alloc(), cases(), 1)
 }
 
 #[test]
 fn runs_each_program(rt: HostRuntime) -> Result<(), Fail> {
-    for case in &PROGRAMS {
-        let came = check(&rt, rt.alloc(), case)?;
-        let name = case.name;
-        assert_eq!(rt; came.made, 1, "{name}");
-    }
-    check_tallied(&rt, rt.alloc(), &TALLIED_PROGRAMS)
+    check(&rt, rt.alloc(), programs(), 64)?;
+    check_tallied(&rt, rt.alloc(), &TALLIED_PROGRAMS, 64)
 }
 
 #[test]
 fn runs_each_whole_job(rt: HostRuntime) -> Result<(), Fail> {
-    for case in &JOBS {
-        check(&rt, rt.alloc(), case)?;
-    }
-    check_tallied(&rt, rt.alloc(), &TALLIED_JOBS)
+    check(&rt, rt.alloc(), jobs(), 64)?;
+    check_tallied(&rt, rt.alloc(), &TALLIED_JOBS, 64)
 }

@@ -1,156 +1,140 @@
 //! Jobs with their status and text: those of the rules' examples, and the faults of listings in their order.
 
-use super::notation::{ALONE, Case, LOAD};
-
-/// A job whose listing has another address than its module.
-pub const OTHER_BYTES: Case = Case {
-    name: "other bytes than the module's",
-    code: "411000051A1107FE: 000000 4110 0006 LA, 000004 1A11 AR, 000006 07FE BR",
-    job: ALONE,
-    status: 3,
-    text: "MISMATCH M LINE 2 LOC 000000 LISTING 41100006 MODULE 41100005\n",
-};
-
-pub const CASES: [Case; 32] = [
-    Case {
-        name: "a sum past the word",
-        code: "000000 1A12 AR, 000002 07FE BR",
-        job: "TASK A 100000 16 100 0\nREG 1 7FFFFFFF\nREG 2 00000001\nENDJOB\n",
-        status: 0,
-        text: "\
+static CASES: &str = "\
+@case a sum past the word\n\
+@code 000000 1A12 AR, 000002 07FE BR\n\
+@job\n\
+TASK A 100000 16 100 0\n\
+REG 1 7FFFFFFF\n\
+REG 2 00000001\n\
+ENDJOB\n\
+@text 0\n\
 COVERAGE REPORT\n\
 task A RETURNED COUNT 2 CC 3 regs 1=80000000 2=00000001\n\
 session S PHASE P marks :: EXECUTED 2 FACTS 2 OF 2\n\
-END\n",
-    },
-    Case {
-        name: "a shift of a negative number",
-        code: "000000 8B10 0001 SLA, 000004 07FE BR",
-        job: "TASK A 100000 16 100 0\nREG 1 C0000000\nENDJOB\n",
-        status: 0,
-        text: "\
+END\n\
+@case a shift of a negative number\n\
+@code 000000 8B10 0001 SLA, 000004 07FE BR\n\
+@job\n\
+TASK A 100000 16 100 0\n\
+REG 1 C0000000\n\
+ENDJOB\n\
+@text 0\n\
 COVERAGE REPORT\n\
 task A RETURNED COUNT 2 CC 1 regs 1=80000000\n\
 session S PHASE P marks :: EXECUTED 2 FACTS 2 OF 2\n\
-END\n",
-    },
-    Case {
-        name: "a shift that loses a bit",
-        code: "000000 8B10 0001 SLA, 000004 07FE BR",
-        job: "TASK A 100000 16 100 0\nREG 1 40000000\nENDJOB\n",
-        status: 0,
-        text: "\
+END\n\
+@case a shift that loses a bit\n\
+@code 000000 8B10 0001 SLA, 000004 07FE BR\n\
+@job\n\
+TASK A 100000 16 100 0\n\
+REG 1 40000000\n\
+ENDJOB\n\
+@text 0\n\
 COVERAGE REPORT\n\
 task A RETURNED COUNT 2 CC 3 regs\n\
 session S PHASE P marks :: EXECUTED 2 FACTS 2 OF 2\n\
-END\n",
-    },
-    Case {
-        name: "a zero divisor",
-        code: "000000 1D24 DR, 000002 07FE BR",
-        job: "\
+END\n\
+@case a zero divisor\n\
+@code 000000 1D24 DR, 000002 07FE BR\n\
+@job\n\
 TASK A 100000 16 100 0\n\
 REG 2 00000002\n\
 REG 3 00000008\n\
 REG 4 00000000\n\
 REG 5 00000008\n\
-ENDJOB\n",
-        status: 0,
-        text: "\
+ENDJOB\n\
+@text 0\n\
 COVERAGE REPORT\n\
 task A ABEND 9 COUNT 1 CC 0 regs 2=00000002 3=00000008 5=00000008\n\
 session S PHASE P marks :^ EXECUTED 1 FACTS 1 OF 2\n\
 NOT EXECUTED 000002-000003\n\
-END\n",
-    },
-    Case {
-        name: "a store into a module",
-        code: "000000 5010 F000 ST, 000004 07FE BR",
-        job: ALONE,
-        status: 0,
-        text: "\
+END\n\
+@case a store into a module\n\
+@code 000000 5010 F000 ST, 000004 07FE BR\n\
+@job\n\
+TASK A 100000 16 100 0\n\
+ENDJOB\n\
+@text 0\n\
 COVERAGE REPORT\n\
 task A ABEND 4 COUNT 1 CC 0 regs\n\
 session S PHASE P marks :^ EXECUTED 1 FACTS 1 OF 2\n\
 NOT EXECUTED 000004-000005\n\
-END\n",
-    },
-    Case {
-        name: "a load from a data card, past the highest address",
-        code: "000000 5820 1008 L, 000004 07FE BR",
-        job: "TASK A 100000 16 100 0\nREG 1 00FFFFFC\nDATA 4 11223344\nENDJOB\n",
-        status: 0,
-        text: "\
+END\n\
+@case a load from a data card, past the highest address\n\
+@code 000000 5820 1008 L, 000004 07FE BR\n\
+@job\n\
+TASK A 100000 16 100 0\n\
+REG 1 00FFFFFC\n\
+DATA 4 11223344\n\
+ENDJOB\n\
+@text 0\n\
 COVERAGE REPORT\n\
 task A RETURNED COUNT 2 CC 0 regs 1=00FFFFFC 2=11223344\n\
 session S PHASE P marks :: EXECUTED 2 FACTS 2 OF 2\n\
-END\n",
-    },
-    Case {
-        name: "data cards of which the later ones count",
-        code: "000000 9823 0000 LM, 000004 07FE BR",
-        job: "\
+END\n\
+@case data cards of which the later ones count\n\
+@code 000000 9823 0000 LM, 000004 07FE BR\n\
+@job\n\
 TASK A 100000 16 100 0\n\
 DATA 0 11223344\n\
 DATA 2 aabbcc\n\
 DATA 1 DD\n\
-ENDJOB\n",
-        status: 0,
-        text: "\
+ENDJOB\n\
+@text 0\n\
 COVERAGE REPORT\n\
 task A RETURNED COUNT 2 CC 0 regs 2=11DDAABB 3=CC000000\n\
 session S PHASE P marks :: EXECUTED 2 FACTS 2 OF 2\n\
-END\n",
-    },
-    Case {
-        name: "stores over data cards, of other bytes and of the same",
-        code: "000000 5020 0004 ST, 000004 5030 0010 ST, 000008 4040 0022 STH, 00000C 07FE BR",
-        job: "\
+END\n\
+@case stores over data cards, of other bytes and of the same\n\
+@code 000000 5020 0004 ST, 000004 5030 0010 ST, 000008 4040 0022 STH, 00000C 07FE BR\n\
+@job\n\
 TASK A 100000 40 100 0\n\
 REG 3 55667788\n\
 REG 4 0000ABCD\n\
 DATA 4 11223344\n\
 DATA 16 55667788\n\
 DATA 32 C1C2C3C4C5C6C7C8\n\
-ENDJOB\n",
-        status: 0,
-        text: "\
+ENDJOB\n\
+@text 0\n\
 COVERAGE REPORT\n\
 task A RETURNED COUNT 4 CC 0 regs 3=55667788 4=0000ABCD\n\
 STOR 000000 00000000000000000000000000000000\n\
 STOR 000020 C1C2ABCDC5C6C7C8\n\
 session S PHASE P marks :::: EXECUTED 4 FACTS 4 OF 4\n\
-END\n",
-    },
-    Case {
-        name: "a decimal number in a data card",
-        code: "000000 4F20 0000 CVB, 000004 07FE BR",
-        job: "TASK A 100000 8 100 0\nDATA 0 000000000000123D\nENDJOB\n",
-        status: 0,
-        text: "\
+END\n\
+@case a decimal number in a data card\n\
+@code 000000 4F20 0000 CVB, 000004 07FE BR\n\
+@job\n\
+TASK A 100000 8 100 0\n\
+DATA 0 000000000000123D\n\
+ENDJOB\n\
+@text 0\n\
 COVERAGE REPORT\n\
 task A RETURNED COUNT 2 CC 0 regs 2=FFFFFF85\n\
 session S PHASE P marks :: EXECUTED 2 FACTS 2 OF 2\n\
-END\n",
-    },
-    Case {
-        name: "a data card one byte past private storage",
-        code: "000000 07FE BR",
-        job: "TASK A 100000 16 100 0\nDATA 0 C1\nDATA 13 C1C2C3C4\nENDJOB\n",
-        status: 2,
-        text: "BAD JOB LINE 11\n",
-    },
-    Case {
-        name: "a data card behind an input card",
-        code: "000000 07FE BR",
-        job: "TASK A 100000 16 100 0\nINPUT C1\nDATA 0 C1\nENDJOB\n",
-        status: 2,
-        text: "BAD JOB LINE 11\n",
-    },
-    Case {
-        name: "a heading in capital letters",
-        code: "",
-        job: "\
+END\n\
+@case a data card one byte past private storage\n\
+@code 000000 07FE BR\n\
+@job\n\
+TASK A 100000 16 100 0\n\
+DATA 0 C1\n\
+DATA 13 C1C2C3C4\n\
+ENDJOB\n\
+@text 2\n\
+BAD JOB LINE 11\n\
+@case a data card behind an input card\n\
+@code 000000 07FE BR\n\
+@job\n\
+TASK A 100000 16 100 0\n\
+INPUT C1\n\
+DATA 0 C1\n\
+ENDJOB\n\
+@text 2\n\
+BAD JOB LINE 11\n\
+@case a heading in capital letters\n\
+@code \n\
+@job\n\
 COVERJOB 1\n\
 MODULE M 100000 8\n\
 TEXT 411000051A1107FE\n\
@@ -162,9 +146,8 @@ LISTING 4\n\
 PHASE P\n\
 SESSION S M\n\
 TASK A 100000 16 100 0\n\
-ENDJOB\n",
-        status: 0,
-        text: "\
+ENDJOB\n\
+@text 0\n\
 COVERAGE REPORT\n\
 task A RETURNED COUNT 3 CC 2 regs 1=0000000A\n\
 SESSION S PHASE P\n\
@@ -173,12 +156,10 @@ MODULE M PLACES 3 EXECUTED 3 FACTS 3 OF 3\n\
 : 000000 4110 0005                      1          LA\n\
 : 000004 1A11                           2          AR\n\
 : 000006 07FE                           3          BR\n\
-END\n",
-    },
-    Case {
-        name: "a listing with print control characters",
-        code: "",
-        job: "\
+END\n\
+@case a listing with print control characters\n\
+@code \n\
+@job\n\
 COVERJOB 1\n\
 MODULE MAIN 100000 18\n\
 TEXT 4110F00C5010001007FE0700C1C2000007FE\n\
@@ -199,9 +180,8 @@ LISTING 13\n\
 PHASE P\n\
 SESSION S MAIN\n\
 TASK A 100000 32 100 0\n\
-ENDJOB\n",
-        status: 0,
-        text: "\
+ENDJOB\n\
+@text 0\n\
 COVERAGE REPORT\n\
 task A RETURNED COUNT 3 CC 0 regs 1=0010000C\n\
 STOR 000010 0010000C000000000000000000000000\n\
@@ -221,23 +201,20 @@ MODULE MAIN PLACES 4 EXECUTED 3 FACTS 3 OF 4\n\
 \x20  000010                00010 00002    10 TAIL     CSECT\n\
 ^  000010 07FE                          11          BR    14\n\
 NOT EXECUTED 000010-000011\n\
-END\n",
-    },
-    Case {
-        name: "a listing without instruction lines",
-        code: "411000051A1107FE: ",
-        job: ALONE,
-        status: 0,
-        text: "\
+END\n\
+@case a listing without instruction lines\n\
+@code 411000051A1107FE: \n\
+@job\n\
+TASK A 100000 16 100 0\n\
+ENDJOB\n\
+@text 0\n\
 COVERAGE REPORT\n\
 task A RETURNED COUNT 3 CC 2 regs 1=0000000A\n\
 session S PHASE P marks  EXECUTED 0 FACTS 0 OF 0\n\
-END\n",
-    },
-    Case {
-        name: "a heading that is missing",
-        code: "",
-        job: "\
+END\n\
+@case a heading that is missing\n\
+@code \n\
+@job\n\
 COVERJOB 1\n\
 MODULE M 100000 8\n\
 TEXT 411000051A1107FE\n\
@@ -248,14 +225,12 @@ LISTING 3\n\
 PHASE P\n\
 SESSION S M\n\
 TASK A 100000 16 100 0\n\
-ENDJOB\n",
-        status: 12,
-        text: "BAD LISTING M LINE 0 HEADING\n",
-    },
-    Case {
-        name: "a listing of no lines",
-        code: "",
-        job: "\
+ENDJOB\n\
+@text 12\n\
+BAD LISTING M LINE 0 HEADING\n\
+@case a listing of no lines\n\
+@code \n\
+@job\n\
 COVERJOB 1\n\
 MODULE M 100000 8\n\
 TEXT 411000051A1107FE\n\
@@ -263,21 +238,19 @@ LISTING 0\n\
 PHASE P\n\
 SESSION S M\n\
 TASK A 100000 16 100 0\n\
-ENDJOB\n",
-        status: 12,
-        text: "BAD LISTING M LINE 0 HEADING\n",
-    },
-    Case {
-        name: "object code too short",
-        code: "411000051A1107FE: 000000 4110 LA, 000004 1A11 AR, 000006 07FE BR",
-        job: ALONE,
-        status: 12,
-        text: "BAD LISTING M LINE 2 OBJECT\n",
-    },
-    Case {
-        name: "a wide listing",
-        code: "",
-        job: "\
+ENDJOB\n\
+@text 12\n\
+BAD LISTING M LINE 0 HEADING\n\
+@case object code too short\n\
+@code 411000051A1107FE: 000000 4110 LA, 000004 1A11 AR, 000006 07FE BR\n\
+@job\n\
+TASK A 100000 16 100 0\n\
+ENDJOB\n\
+@text 12\n\
+BAD LISTING M LINE 2 OBJECT\n\
+@case a wide listing\n\
+@code \n\
+@job\n\
 COVERJOB 1\n\
 MODULE M 100000 8\n\
 TEXT 411000051A1107FE\n\
@@ -289,9 +262,8 @@ LISTING 4\n\
 PHASE P\n\
 SESSION S M\n\
 TASK A 100000 16 100 0\n\
-ENDJOB\n",
-        status: 0,
-        text: "\
+ENDJOB\n\
+@text 0\n\
 COVERAGE REPORT\n\
 task A RETURNED COUNT 3 CC 2 regs 1=0000000A\n\
 SESSION S PHASE P\n\
@@ -300,12 +272,10 @@ MODULE M PLACES 3 EXECUTED 3 FACTS 3 OF 3\n\
 : 00000000 4110 0005                              1          LA\n\
 : 00000004 1A11                                   2          AR\n\
 : 00000006 07FE                                   3          BR\n\
-END\n",
-    },
-    Case {
-        name: "a location past 24 bits",
-        code: "",
-        job: "\
+END\n\
+@case a location past 24 bits\n\
+@code \n\
+@job\n\
 COVERJOB 1\n\
 MODULE M 100000 8\n\
 TEXT 411000051A1107FE\n\
@@ -317,42 +287,40 @@ LISTING 4\n\
 PHASE P\n\
 SESSION S M\n\
 TASK A 100000 16 100 0\n\
-ENDJOB\n",
-        status: 12,
-        text: "BAD LISTING M LINE 2 OUTSIDE\n",
-    },
-    Case {
-        name: "an odd location",
-        code: "000000 4110 0005 LA, 000005 1A11 AR, 000006 07FE BR",
-        job: ALONE,
-        status: 12,
-        text: "BAD LISTING M LINE 3 ODD\n",
-    },
-    Case {
-        name: "a location past the module",
-        code: "000000 4110 0005 LA, 000008 1A11 AR, 000006 07FE BR",
-        job: ALONE,
-        status: 12,
-        text: "BAD LISTING M LINE 3 OUTSIDE\n",
-    },
-    Case {
-        name: "a location in the instruction before",
-        code: "000000 4110 0005 LA, 000002 1A11 AR, 000006 07FE BR",
-        job: ALONE,
-        status: 12,
-        text: "BAD LISTING M LINE 3 OVERLAP\n",
-    },
-    Case {
-        name: "an odd location, but object code too short below",
-        code: "411000051A1107FE: 000000 4110 0005 LA, 000005 1A11 AR, 000006 4110 LA",
-        job: ALONE,
-        status: 12,
-        text: "BAD LISTING M LINE 4 OBJECT\n",
-    },
-    Case {
-        name: "no heading before object code too short",
-        code: "",
-        job: "\
+ENDJOB\n\
+@text 12\n\
+BAD LISTING M LINE 2 OUTSIDE\n\
+@case an odd location\n\
+@code 000000 4110 0005 LA, 000005 1A11 AR, 000006 07FE BR\n\
+@job\n\
+TASK A 100000 16 100 0\n\
+ENDJOB\n\
+@text 12\n\
+BAD LISTING M LINE 3 ODD\n\
+@case a location past the module\n\
+@code 000000 4110 0005 LA, 000008 1A11 AR, 000006 07FE BR\n\
+@job\n\
+TASK A 100000 16 100 0\n\
+ENDJOB\n\
+@text 12\n\
+BAD LISTING M LINE 3 OUTSIDE\n\
+@case a location in the instruction before\n\
+@code 000000 4110 0005 LA, 000002 1A11 AR, 000006 07FE BR\n\
+@job\n\
+TASK A 100000 16 100 0\n\
+ENDJOB\n\
+@text 12\n\
+BAD LISTING M LINE 3 OVERLAP\n\
+@case an odd location, but object code too short below\n\
+@code 411000051A1107FE: 000000 4110 0005 LA, 000005 1A11 AR, 000006 4110 LA\n\
+@job\n\
+TASK A 100000 16 100 0\n\
+ENDJOB\n\
+@text 12\n\
+BAD LISTING M LINE 4 OBJECT\n\
+@case no heading before object code too short\n\
+@code \n\
+@job\n\
 COVERJOB 1\n\
 MODULE M 100000 8\n\
 TEXT 411000051A1107FE\n\
@@ -363,58 +331,66 @@ LISTING 3\n\
 PHASE P\n\
 SESSION S M\n\
 TASK A 100000 16 100 0\n\
-ENDJOB\n",
-        status: 12,
-        text: "BAD LISTING M LINE 0 HEADING\n",
-    },
-    Case {
-        name: "the breakpoint itself",
-        code: "000000 0AFF SVC, 000002 07FE BR",
-        job: ALONE,
-        status: 8,
-        text: "OWN SVC M LINE 2\n",
-    },
-    Case {
-        name: "the breakpoint where the module has another instruction",
-        code: "411000051A1107FE: 000000 4110 0005 LA, 000004 0AFF SVC, 000006 07FE BR",
-        job: ALONE,
-        status: 8,
-        text: "OWN SVC M LINE 3\n",
-    },
-    Case {
-        name: "other bytes before the breakpoint",
-        code: "411000051A1107FE: 000000 4110 0006 LA, 000004 0AFF SVC, 000006 07FE BR",
-        job: ALONE,
-        status: 3,
-        text: "MISMATCH M LINE 2 LOC 000000 LISTING 41100006 MODULE 41100005\n",
-    },
-    Case {
-        name: "the breakpoint before other bytes",
-        code: "411000051A1107FE: 000000 4110 0005 LA, 000004 0AFF SVC, 000006 07FF BR",
-        job: ALONE,
-        status: 8,
-        text: "OWN SVC M LINE 3\n",
-    },
-    Case {
-        name: "other bytes before an odd location",
-        code: "411000051A1107FE: 000000 4110 0006 LA, 000005 1A11 AR, 000006 07FE BR",
-        job: ALONE,
-        status: 3,
-        text: "MISMATCH M LINE 2 LOC 000000 LISTING 41100006 MODULE 41100005\n",
-    },
-    Case {
-        name: "other bytes behind the first halfword",
-        code: "411000051A1107FE: 000000 4110 F005 LA, 000004 1A11 AR, 000006 07FE BR",
-        job: ALONE,
-        status: 3,
-        text: "MISMATCH M LINE 2 LOC 000000 LISTING 4110F005 MODULE 41100005\n",
-    },
-    OTHER_BYTES,
-    Case {
-        name: "no last card",
-        code: LOAD,
-        job: "TASK A 100000 16 100 0\n",
-        status: 2,
-        text: "BAD JOB LINE 12\n",
-    },
-];
+ENDJOB\n\
+@text 12\n\
+BAD LISTING M LINE 0 HEADING\n\
+@case the breakpoint itself\n\
+@code 000000 0AFF SVC, 000002 07FE BR\n\
+@job\n\
+TASK A 100000 16 100 0\n\
+ENDJOB\n\
+@text 8\n\
+OWN SVC M LINE 2\n\
+@case the breakpoint where the module has another instruction\n\
+@code 411000051A1107FE: 000000 4110 0005 LA, 000004 0AFF SVC, 000006 07FE BR\n\
+@job\n\
+TASK A 100000 16 100 0\n\
+ENDJOB\n\
+@text 8\n\
+OWN SVC M LINE 3\n\
+@case other bytes before the breakpoint\n\
+@code 411000051A1107FE: 000000 4110 0006 LA, 000004 0AFF SVC, 000006 07FE BR\n\
+@job\n\
+TASK A 100000 16 100 0\n\
+ENDJOB\n\
+@text 3\n\
+MISMATCH M LINE 2 LOC 000000 LISTING 41100006 MODULE 41100005\n\
+@case the breakpoint before other bytes\n\
+@code 411000051A1107FE: 000000 4110 0005 LA, 000004 0AFF SVC, 000006 07FF BR\n\
+@job\n\
+TASK A 100000 16 100 0\n\
+ENDJOB\n\
+@text 8\n\
+OWN SVC M LINE 3\n\
+@case other bytes before an odd location\n\
+@code 411000051A1107FE: 000000 4110 0006 LA, 000005 1A11 AR, 000006 07FE BR\n\
+@job\n\
+TASK A 100000 16 100 0\n\
+ENDJOB\n\
+@text 3\n\
+MISMATCH M LINE 2 LOC 000000 LISTING 41100006 MODULE 41100005\n\
+@case other bytes behind the first halfword\n\
+@code 411000051A1107FE: 000000 4110 F005 LA, 000004 1A11 AR, 000006 07FE BR\n\
+@job\n\
+TASK A 100000 16 100 0\n\
+ENDJOB\n\
+@text 3\n\
+MISMATCH M LINE 2 LOC 000000 LISTING 4110F005 MODULE 41100005\n\
+@case other bytes than the module's\n\
+@code 411000051A1107FE: 000000 4110 0006 LA, 000004 1A11 AR, 000006 07FE BR\n\
+@job\n\
+TASK A 100000 16 100 0\n\
+ENDJOB\n\
+@text 3\n\
+MISMATCH M LINE 2 LOC 000000 LISTING 41100006 MODULE 41100005\n\
+@case no last card\n\
+@code 000000 4110 0005 LA, 000004 1A11 AR, 000006 07FE BR\n\
+@job\n\
+TASK A 100000 16 100 0\n\
+@text 2\n\
+BAD JOB LINE 12\n";
+
+/// The jobs, for `case_of`.
+pub fn cases() -> &'static str {
+    CASES
+}

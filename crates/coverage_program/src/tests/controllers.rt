@@ -4,7 +4,7 @@ use crate::ready::make_ready;
 use crate::schedule::replay;
 use cov_base::{PlaceNo, SessNo, TaskNo};
 use cov_outside::MemSource;
-use interleave_core::Event;
+use interleave_core::{Core, Event};
 use std::test::Fail;
 
 /// Task 1 controls sessions 1 and 2 over places 0 to 2, and task 2 session 3 over place 3.
@@ -34,31 +34,59 @@ DATA 0 0A040A0507FE\n\
 ENDJOB\n\
 ENDSCHED\n";
 
-/// Events one after the other, and whether each is possible.
-const EVENTS: [(Event, bool); 22] = [
-    (Event::Plant(SessNo(1), PlaceNo(1)), false),
-    (Event::Plant(SessNo(2), PlaceNo(0)), false),
-    (Event::Plant(SessNo(0), PlaceNo(0)), false),
-    (Event::Close(SessNo(1), PlaceNo(0)), false),
-    (Event::Plant(SessNo(1), PlaceNo(0)), true),
-    (Event::Plant(SessNo(1), PlaceNo(0)), false),
-    (Event::Do(TaskNo(1)), false),
-    (Event::Plant(SessNo(3), PlaceNo(3)), true),
-    (Event::Plant(SessNo(1), PlaceNo(1)), true),
-    (Event::Plant(SessNo(1), PlaceNo(2)), true),
-    (Event::Plant(SessNo(1), PlaceNo(3)), false),
-    (Event::Do(TaskNo(1)), true),
-    (Event::Close(SessNo(3), PlaceNo(3)), false),
-    (Event::Close(SessNo(2), PlaceNo(0)), false),
-    (Event::Close(SessNo(1), PlaceNo(1)), false),
-    (Event::Close(SessNo(1), PlaceNo(0)), true),
-    (Event::Close(SessNo(1), PlaceNo(1)), true),
-    (Event::Close(SessNo(1), PlaceNo(2)), true),
-    (Event::Do(TaskNo(1)), true),
-    (Event::Plant(SessNo(1), PlaceNo(0)), false),
-    (Event::Plant(SessNo(2), PlaceNo(0)), true),
-    (Event::Do(TaskNo(2)), true),
-];
+/// Events one after the other, each with whether it is possible.
+static EVENTS: &str = "\
+cannot: plant 1 at 1\n\
+cannot: plant 2 at 0\n\
+cannot: plant 0 at 0\n\
+cannot: close 1 at 0\n\
+can: plant 1 at 0\n\
+cannot: plant 1 at 0\n\
+cannot: do 1\n\
+can: plant 3 at 3\n\
+can: plant 1 at 1\n\
+can: plant 1 at 2\n\
+cannot: plant 1 at 3\n\
+can: do 1\n\
+cannot: close 3 at 3\n\
+cannot: close 2 at 0\n\
+cannot: close 1 at 1\n\
+can: close 1 at 0\n\
+can: close 1 at 1\n\
+can: close 1 at 2\n\
+can: do 1\n\
+cannot: plant 1 at 0\n\
+can: plant 2 at 0\n\
+can: do 2\n";
+
+fn number_in(digits: &str) -> u32 {
+    u32::from_str_radix(digits, 10).unwrap_or(u32::MAX)
+}
+
+fn event_of(words: &str) -> Event {
+    let (kind, rest) = words.split_once(' ').unwrap_or((words, ""));
+    let (number, place) = rest.split_once(" at ").unwrap_or((rest, ""));
+    let number = number_in(number);
+    let place = PlaceNo(number_in(place));
+    if kind == "plant" {
+        Event::Plant(SessNo(number), place)
+    } else if kind == "close" {
+        Event::Close(SessNo(number), place)
+    } else {
+        Event::Do(TaskNo(number))
+    }
+}
+
+/// Makes the events; a failure tells of the first that is possible where it is not to be, or the other way round.
+fn check_events(core: &mut Core<'_>, events: &'static str) -> Result<(), Fail> {
+    for line in events.lines() {
+        let (can, words) = line.split_once(": ").unwrap_or(("", ""));
+        if core.apply(event_of(words)).is_ok() != (can == "can") {
+            return Err(Fail::new(line));
+        }
+    }
+    Ok(())
+}
 
 #[test]
 fn controllers_alone_plant_and_close_in_order(rt: HostRuntime) -> Result<(), Fail> {
@@ -66,16 +94,11 @@ fn controllers_alone_plant_and_close_in_order(rt: HostRuntime) -> Result<(), Fai
     let bytes = TWO_CONTROLLERS.as_bytes().to_vec(alloc)?;
     let mut source = MemSource::new(bytes, 64, Vec::new(alloc));
     let Ok(ready) = make_ready(alloc, &mut source, true) else {
-        assert!(rt; false, "the job");
-        return Ok(());
+        return Err(Fail::new("the job"));
     };
     let Ok(replayed) = replay(alloc, &ready.job, &ready.tables, ready.lines, &ready.rest) else {
-        assert!(rt; false, "the schedule");
-        return Ok(());
+        return Err(Fail::new("the schedule"));
     };
     let mut core = replayed.core;
-    for (i, (event, possible)) in EVENTS.iter().enumerate() {
-        assert_eq!(rt; core.apply(*event).is_ok(), *possible, "{i}");
-    }
-    Ok(())
+    check_events(&mut core, EVENTS)
 }

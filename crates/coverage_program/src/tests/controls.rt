@@ -4,7 +4,7 @@ ghost use Rattle.module_area.specs.PlanView.{has_task};
 ghost use Rattle.module_area.specs.Notes.{calls};
 ghost use Rattle.module_area.specs.Tied.{IsTied};
 
-use super::noted::{Arrivals, Call, NotedAreas};
+use super::noted::{Arrivals, NotedAreas, are_calls};
 use cov_base::{Addr, Kind, NoMemory, PlaceNo, SessNo, TaskNo};
 use module_area::{Areas, Cells, Control, Controlled, Forks, Place, Plan, Tally};
 use planter::{close_open, open_next};
@@ -121,40 +121,50 @@ fn with_sessions(alloc: Global, plan: Plan) -> Result<Plan, NoMemory>
     })
 }
 
-/// Load address, add and branch, and tasks 0 and 1.
+fn straight(at: u32, len: u8, original: u16) -> Place {
+    Place {
+        module: 0,
+        at: Addr::of(at),
+        len,
+        original,
+        kind: Kind::Straight,
+    }
+}
+
+/// Load address, add and branch.
+fn three_places(alloc: Global) -> Result<Vec<Place>, NoMemory>
+    ensures { IfOk result (λ v. length v.items ≡ 3) }
+{
+    let load = straight(0x10_0000, 4, 0x4110);
+    let add = straight(0x10_0004, 2, 0x1A11);
+    let branch = straight(0x10_0006, 2, 0x07FE);
+    Ok(vec![in alloc; load, add, branch]?)
+}
+
+/// These, and tasks 0 and 1, without a controlled session.
+fn no_sessions(alloc: Global) -> Result<Plan, Fail>
+    ensures places { IfOk result (λ p. length p.places ≡ 3) }
+    ensures free { IfOk result (λ p. p.windows ≡ 0 ∷ 0 ∷ 0 ∷ []) }
+    ensures first { IfOk result (λ p. has_task p.tasks 0 ≡ true) }
+    ensures second { IfOk result (λ p. has_task p.tasks 1 ≡ true) }
+    ensures sessions { IfOk result (λ p. p.sessions ≡ 2) }
+{
+    let places = three_places(alloc)?;
+    let windows = vec![in alloc; 0, 0, 0]?;
+    let tasks = vec![in alloc; TaskNo(0), TaskNo(1)]?;
+    Ok(Plan::checked(alloc, places, windows, tasks, 2).ok_or("no plan")?)
+}
+
+/// The same with both sessions.
 pub fn two_sessions(alloc: Global) -> Result<Plan, Fail>
     ensures first { IfOk result (λ p. has_task p.tasks 0 ≡ true) }
     ensures second { IfOk result (λ p. has_task p.tasks 1 ≡ true) }
 {
-    let load = Place {
-        module: 0,
-        at: Addr::of(0x10_0000),
-        len: 4,
-        original: 0x4110,
-        kind: Kind::Straight,
-    };
-    let add = Place {
-        module: 0,
-        at: Addr::of(0x10_0004),
-        len: 2,
-        original: 0x1A11,
-        kind: Kind::Straight,
-    };
-    let branch = Place {
-        module: 0,
-        at: Addr::of(0x10_0006),
-        len: 2,
-        original: 0x07FE,
-        kind: Kind::Straight,
-    };
-    let places = vec![in alloc; load, add, branch]?;
-    let windows = vec![in alloc; 0, 0, 0]?;
-    let tasks = vec![in alloc; TaskNo(0), TaskNo(1)]?;
-    let plan = Plan::checked(alloc, places, windows, tasks, 2).ok_or("no plan")?;
+    let plan = no_sessions(alloc)?;
     Ok(with_sessions(alloc, plan)?)
 }
 
-const STANDS: [Stand; 7] = [
+static STANDS: [Stand; 7] = [
     (0, None),
     (1, Some(SessNo(1))),
     (1, Some(SessNo(1))),
@@ -164,20 +174,9 @@ const STANDS: [Stand; 7] = [
     (2, None),
 ];
 
-const CALLS: [Call; 12] = [
-    Call::Plant(0),
-    Call::Plant(1),
-    Call::Plant(2),
-    Call::Close(0),
-    Call::Close(1),
-    Call::Close(2),
-    Call::Plant(0),
-    Call::Plant(1),
-    Call::Plant(2),
-    Call::Close(0),
-    Call::Close(1),
-    Call::Close(2),
-];
+static CALLS: &str = "\
+plant 0, plant 1, plant 2, close 0, close 1, close 2, plant 0, plant 1, plant 2, close 0, close 1, \
+close 2";
 
 #[test]
 fn each_session_is_opened_and_closed_once(rt: HostRuntime) -> Result<(), Fail> {
@@ -187,8 +186,6 @@ fn each_session_is_opened_and_closed_once(rt: HostRuntime) -> Result<(), Fail> {
     let shared = SharedAreas::new(alloc, 1).map_err(|_| "memory")?;
     let mut areas = NotedAreas::new(shared, &gate);
     let stands = course_in_area(alloc, &mut areas, &plan)?;
-    assert_eq!(rt; stands, STANDS);
-    assert_eq!(rt; areas.calls.as_slice(), CALLS.as_slice());
     let tally = Tally {
         plants: 6,
         fetches: 0,
@@ -196,6 +193,8 @@ fn each_session_is_opened_and_closed_once(rt: HostRuntime) -> Result<(), Fail> {
         lifts: 0,
         closes: 6,
     };
-    assert_eq!(rt; areas.ledger(), [tally].as_slice());
+    assert!(rt; stands == STANDS);
+    assert!(rt; are_calls(&areas.calls, CALLS));
+    assert!(rt; areas.ledger() == [tally].as_slice());
     Ok(())
 }

@@ -147,7 +147,7 @@ fn run_one<C: Drains, R: Runner<C>>(
 }
 
 /// Whether tasks 0 and 1 are tasks of the phase.
-fn has_both(plan: &Plan) -> bool
+pub fn has_both(plan: &Plan) -> bool
     ensures first { result ≡ true → has_task plan.now.tasks 0 ≡ true }
     ensures second { result ≡ true → has_task plan.now.tasks 1 ≡ true }
 {
@@ -208,6 +208,11 @@ fn a_poll_waits_for_the_other_tasks_boundary(rt: HostRuntime) -> Result<(), Fail
     Ok(())
 }
 
+/// Whether the sets of a drain were taken, at this instruction.
+fn is_taken(drain: &Drain, at: u32) -> bool {
+    drain.stage == Stage::Taken && drain.at == at
+}
+
 #[test]
 fn a_task_that_has_ended_is_not_waited_for(rt: HostRuntime) -> Result<(), Fail> {
     let alloc = rt.alloc();
@@ -221,11 +226,7 @@ fn a_task_that_has_ended_is_not_waited_for(rt: HostRuntime) -> Result<(), Fail> 
     else {
         return Err("no plan".into());
     };
-    assert_eq!(rt; none.len(), 0);
-    assert_eq!(rt; drains.len(), 2);
-    assert_eq!(rt; drains[0].stage, Stage::Taken);
-    assert_eq!(rt; drains[0].at, 2);
-    assert_eq!(rt; drains[1].stage, Stage::Taken);
-    assert_eq!(rt; drains[1].at, 4);
+    assert!(rt; none.is_empty() && drains.len() == 2);
+    assert!(rt; is_taken(&drains[0], 2) && is_taken(&drains[1], 4));
     Ok(())
 }

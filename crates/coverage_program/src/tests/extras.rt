@@ -62,7 +62,6 @@ fn makes_extras_before_it_plants(rt: HostRuntime) -> Result<(), Fail> {
         &read.job,
         &read.tables,
     );
-    assert_eq!(rt; ran.is_err(), true);
-    assert_eq!(rt; areas.made(), 0);
+    assert!(rt; ran.is_err() && areas.made() == 0);
     Ok(())
 }

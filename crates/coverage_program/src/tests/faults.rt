@@ -1,21 +1,17 @@
 //! Faults of source and sink at each call in turn, of every command.
 
-use super::called::THROUGH;
+use super::FIRST_JOB;
 use super::evidence::{fields, proved, refuted, unproved};
-use super::marked::{Row, good};
+use super::marked::good;
 use super::marks_faults::{bad_files, bad_jobs, bad_shown};
-use super::notation::Part::{Code, Marked, Phase, Task, Text};
-use super::notation::{ALONE, COUNT, END, LOAD, REPORT, SESSION, bytes_of};
-use super::places::{USAGE, words_of};
-use super::samples::{FROM_3, PHASES};
-use super::{FIRST_JOB, FIRST_TEXT};
-use crate::cover::cover;
+use super::notation::Part::Text;
+use super::notation::{Row, bytes_of, row_of};
+use super::places::{USAGE, status_for};
 use crate::status::Status;
 use cov_outside::{MemSink, MemSource, OpenGate};
 use module_area::{Areas, Tally};
 use shared_area::SharedAreas;
 use std::alloc::Global;
-use std::process::Abort;
 use std::sync::Wait;
 use std::test::Fail;
 use std::thread::Threads;
@@ -25,148 +21,165 @@ const READ: usize = 64;
 
 const WRITE: usize = 16;
 
-const DIVIDED: &str =
-    "000000 4110 F00A LA, 000004 0A06 SVC, 000006 1D24 DR, 000008 07FE BR, 00000A 07FE BR";
-
 /// The commands that take no marks file, on what they serve and on what they refuse.
-static SERVED: [Row; 12] = [
-    Row {
-        name: "run",
-        words: &["run"],
-        input: &[Text(FIRST_JOB)],
-        status: 0,
-        output: &[Text(FIRST_TEXT)],
-    },
-    Row {
-        name: "run: two phases",
-        words: &["run"],
-        input: &[Code(COUNT), PHASES],
-        status: 0,
-        output: &[
-            REPORT,
-            Task("A RETURNED COUNT 2 CC 0 regs"),
-            Task("B SPENT COUNT 1 CC 0 regs 1=00000001"),
-            SESSION,
-            Marked(COUNT, "V: EXECUTED 2 FACTS 2 OF 3"),
-            Text("SESSION T PHASE Q\n"),
-            Marked(COUNT, ">^ EXECUTED 1 FACTS 1 OF 3"),
-            Text("NOT EXECUTED 000004-000005\nEND\n"),
-        ],
-    },
-    Row {
-        name: "run: no last card",
-        words: &["run"],
-        input: &[Code(LOAD), Text("TASK A 100000 16 100 0\n")],
-        status: 2,
-        output: &[Text("BAD JOB LINE 12\n")],
-    },
-    Row {
-        name: "run: other bytes than the module's",
-        words: &["run"],
-        input: &[
-            Code("411000051A1107FE: 000000 4110 0006 LA, 000004 1A11 AR, 000006 07FE BR"),
-            Text("ENDJOB\n"),
-        ],
-        status: 3,
-        output: &[Text("MISMATCH M LINE 2 LOC 000000 LISTING 41100006 MODULE 41100005\n")],
-    },
-    Row {
-        name: "exits",
-        words: &["exits"],
-        input: &[Code(DIVIDED), Text(ALONE)],
-        status: 0,
-        output: &[
-            REPORT,
-            Task("A RETURNED COUNT 4 CC 0 regs 0=00000009 1=00100006"),
-            SESSION,
-            Marked(DIVIDED, ":::^: EXECUTED 4 FACTS 4 OF 5"),
-            Text("NOT EXECUTED 000008-000009\nEND\n"),
-        ],
-    },
-    Row {
-        name: "exits: no last card",
-        words: &["exits"],
-        input: &[Code(LOAD), Text("TASK A 100000 16 100 0\n")],
-        status: 2,
-        output: &[Text("BAD JOB LINE 12\n")],
-    },
-    Row {
-        name: "early",
-        words: &["early"],
-        input: &[Phase(LOAD), Text(THROUGH)],
-        status: 0,
-        output: &[
-            REPORT,
-            Task("C RETURNED COUNT 7 CC 2 regs 1=0000000A D=00FFFFFE E=80000006 F=00000000"),
-            SESSION,
-            Marked(LOAD, "::: EXECUTED 3 FACTS 3 OF 3"),
-            Text("DRAINED COUNT 6\nEND\n"),
-        ],
-    },
-    Row {
-        name: "count",
-        words: &["count"],
-        input: &[Code(COUNT), FROM_3],
-        status: 0,
-        output: &[
-            Text("COVERAGE COUNT\n"),
-            Task("A RETURNED COUNT 4 CC 0 regs"),
-            Text(
-                "\
+static SERVED: &str = "\
+@row run\n\
+@words run\n\
+@input\n\
+COVERJOB 1\n\
+MODULE M 100000 8\n\
+TEXT 411000051A1107FE\n\
+LISTING 4\n\
+\x20 Loc  Object Code    Addr1 Addr2  Stmt   Source Statement\n\
+000000 4110 0005                      1          LA\n\
+000004 1A11                           2          AR\n\
+000006 07FE                           3          BR\n\
+PHASE P\n\
+SESSION S M\n\
+TASK A 100000 16 100 0\n\
+ENDJOB\n\
+@output 0\n\
+COVERAGE REPORT\n\
+TASK A RETURNED COUNT 3 CC 2\n\
+R0 00000000 0000000A 00000000 00000000 00000000 00000000 00000000 00000000\n\
+R8 00000000 00000000 00000000 00000000 00000000 00000000 00FFFFFE 00100000\n\
+OUT 0\n\
+SESSION S PHASE P\n\
+MODULE M PLACES 3 EXECUTED 3 FACTS 3 OF 3\n\
+\x20   Loc  Object Code    Addr1 Addr2  Stmt   Source Statement\n\
+: 000000 4110 0005                      1          LA\n\
+: 000004 1A11                           2          AR\n\
+: 000006 07FE                           3          BR\n\
+END\n\
+@row run: two phases\n\
+@words run\n\
+@input\n\
+%code 000000 4610 F000 BCT, 000004 07FE BR\n\
+%use PHASES\n\
+@output 0\n\
+COVERAGE REPORT\n\
+%task A RETURNED COUNT 2 CC 0 regs\n\
+%task B SPENT COUNT 1 CC 0 regs 1=00000001\n\
+SESSION S PHASE P\n\
+%marked 000000 4610 F000 BCT, 000004 07FE BR | V: EXECUTED 2 FACTS 2 OF 3\n\
+SESSION T PHASE Q\n\
+%marked 000000 4610 F000 BCT, 000004 07FE BR | >^ EXECUTED 1 FACTS 1 OF 3\n\
+NOT EXECUTED 000004-000005\n\
+END\n\
+@row run: no last card\n\
+@words run\n\
+@input\n\
+%code 000000 4110 0005 LA, 000004 1A11 AR, 000006 07FE BR\n\
+TASK A 100000 16 100 0\n\
+@output 2\n\
+BAD JOB LINE 12\n\
+@row run: other bytes than the module's\n\
+@words run\n\
+@input\n\
+%code 411000051A1107FE: 000000 4110 0006 LA, 000004 1A11 AR, 000006 07FE BR\n\
+ENDJOB\n\
+@output 3\n\
+MISMATCH M LINE 2 LOC 000000 LISTING 41100006 MODULE 41100005\n\
+@row exits\n\
+@words exits\n\
+@input\n\
+%code 000000 4110 F00A LA, 000004 0A06 SVC, 000006 1D24 DR, 000008 07FE BR, 00000A 07FE BR\n\
+TASK A 100000 16 100 0\n\
+ENDJOB\n\
+@output 0\n\
+COVERAGE REPORT\n\
+%task A RETURNED COUNT 4 CC 0 regs 0=00000009 1=00100006\n\
+SESSION S PHASE P\n\
+%marked 000000 4110 F00A LA, 000004 0A06 SVC, 000006 1D24 DR, 000008 07FE BR, 00000A 07FE BR | :::^: EXECUTED 4 FACTS 4 OF 5\n\
+NOT EXECUTED 000008-000009\n\
+END\n\
+@row exits: no last card\n\
+@words exits\n\
+@input\n\
+%code 000000 4110 0005 LA, 000004 1A11 AR, 000006 07FE BR\n\
+TASK A 100000 16 100 0\n\
+@output 2\n\
+BAD JOB LINE 12\n\
+@row early\n\
+@words early\n\
+@input\n\
+%phase 000000 4110 0005 LA, 000004 1A11 AR, 000006 07FE BR\n\
+SESSION S BY C M\n\
+TASK C 000000 32 100 0\n\
+REG 1 00100000\n\
+REG 13 00FFFFFE\n\
+DATA 0 0A0445E010000A0507FD\n\
+ENDJOB\n\
+@output 0\n\
+COVERAGE REPORT\n\
+%task C RETURNED COUNT 7 CC 2 regs 1=0000000A D=00FFFFFE E=80000006 F=00000000\n\
+SESSION S PHASE P\n\
+%marked 000000 4110 0005 LA, 000004 1A11 AR, 000006 07FE BR | ::: EXECUTED 3 FACTS 3 OF 3\n\
+DRAINED COUNT 6\n\
+END\n\
+@row count\n\
+@words count\n\
+@input\n\
+%code 000000 4610 F000 BCT, 000004 07FE BR\n\
+TASK A 100000 16 100 0\n\
+REG 1 00000003\n\
+ENDJOB\n\
+@output 0\n\
+COVERAGE COUNT\n\
+%task A RETURNED COUNT 4 CC 0 regs\n\
 SESSION S PHASE P\n\
 MODULE M PLACES 2\n\
 COUNT 000000 2 1\n\
 COUNT 000004 1\n\
-END\n",
-            ),
-        ],
-    },
-    Row {
-        name: "count: a controller",
-        words: &["count"],
-        input: &[
-            Code(COUNT),
-            Text("PHASE Q\nSESSION T BY A M\nTASK A 100000 16 100 0\nENDJOB\n"),
-        ],
-        status: 14,
-        output: &[Text("CONTROLLED T\n")],
-    },
-    Row {
-        name: "table",
-        words: &["table"],
-        input: &[Code(COUNT), Text("ENDJOB\n")],
-        status: 0,
-        output: &[Text(
-            "COVERAGE TABLE\nMODULE M PLACES 2\nPLACE 000000 4 C 4610\nPLACE 000004 2 S 07FE\nEND\n",
-        )],
-    },
-    Row {
-        name: "replay",
-        words: &["replay"],
-        input: &[
-            Code(LOAD),
-            Text("TASK A 100000 16 100 0\nENDJOB\nFETCH A\nGO A\nENDSCHED\n"),
-        ],
-        status: 0,
-        output: &[
-            Text("COVERAGE REPLAY\nEVENT 1 FETCH A TAG 1 HALF 0AFF\nEVENT 2 GO A\n"),
-            Task("A RETURNED COUNT 3 CC 2 regs 1=0000000A"),
-            SESSION,
-            Marked(LOAD, "::: EXECUTED 3 FACTS 3 OF 3"),
-            END,
-        ],
-    },
-    Row {
-        name: "replay: no end of the schedule",
-        words: &["replay"],
-        input: &[
-            Code(LOAD),
-            Text("TASK A 100000 16 100 0\nENDJOB\nFETCH A\nGO A\n"),
-        ],
-        status: 9,
-        output: &[Text("BAD SCHEDULE LINE 15\n")],
-    },
-];
+END\n\
+@row count: a controller\n\
+@words count\n\
+@input\n\
+%code 000000 4610 F000 BCT, 000004 07FE BR\n\
+PHASE Q\n\
+SESSION T BY A M\n\
+TASK A 100000 16 100 0\n\
+ENDJOB\n\
+@output 14\n\
+CONTROLLED T\n\
+@row table\n\
+@words table\n\
+@input\n\
+%code 000000 4610 F000 BCT, 000004 07FE BR\n\
+ENDJOB\n\
+@output 0\n\
+COVERAGE TABLE\n\
+MODULE M PLACES 2\n\
+PLACE 000000 4 C 4610\n\
+PLACE 000004 2 S 07FE\n\
+END\n\
+@row replay\n\
+@words replay\n\
+@input\n\
+%code 000000 4110 0005 LA, 000004 1A11 AR, 000006 07FE BR\n\
+TASK A 100000 16 100 0\n\
+ENDJOB\n\
+FETCH A\n\
+GO A\n\
+ENDSCHED\n\
+@output 0\n\
+COVERAGE REPLAY\n\
+EVENT 1 FETCH A TAG 1 HALF 0AFF\n\
+EVENT 2 GO A\n\
+%task A RETURNED COUNT 3 CC 2 regs 1=0000000A\n\
+SESSION S PHASE P\n\
+%marked 000000 4110 0005 LA, 000004 1A11 AR, 000006 07FE BR | ::: EXECUTED 3 FACTS 3 OF 3\n\
+END\n\
+@row replay: no end of the schedule\n\
+@words replay\n\
+@input\n\
+%code 000000 4110 0005 LA, 000004 1A11 AR, 000006 07FE BR\n\
+TASK A 100000 16 100 0\n\
+ENDJOB\n\
+FETCH A\n\
+GO A\n\
+@output 9\n\
+BAD SCHEDULE LINE 15\n";
 
 /// Words of each command, and words that are none.
 static WORDS: [&[&str]; 12] = [
@@ -202,19 +215,11 @@ pub fn serve_faulty<T: Threads + Wait + Sync>(
     bad_reads: Vec<u64>,
     bad_writes: Vec<u64>,
 ) -> Result<Faulty, Fail> {
-    let all = words_of(alloc, words)?;
     let mut areas = SharedAreas::new(alloc, 2).map_err(|_| "memory")?;
     let mut source = MemSource::new(input.to_vec(alloc)?, READ, bad_reads);
     let mut sink = MemSink::new(alloc, 4096, WRITE, bad_writes).map_err(|_| "memory")?;
-    let status = cover(
-        rt,
-        alloc,
-        &all,
-        &mut source,
-        &mut sink,
-        &mut areas,
-        &OpenGate,
-    );
+    let gate = &OpenGate;
+    let status = status_for(rt, alloc, words, &mut source, &mut sink, &mut areas, gate)?;
     Ok(Faulty {
         status,
         bytes: sink.bytes().to_vec(alloc)?,
@@ -223,126 +228,209 @@ pub fn serve_faulty<T: Threads + Wait + Sync>(
     })
 }
 
-/// Each read fails in turn, the one that finds the end too; the read behind that isn't made.
-fn check_reads<T: Abort + Threads + Wait + Sync>(
+/// What comes where one read fails.
+fn with_bad_read<T: Threads + Wait + Sync>(
     rt: &T,
     alloc: Global,
-    row: &Row,
-) -> Result<(), Fail> {
+    words: &[&str],
+    input: &[u8],
+    n: u64,
+) -> Result<Faulty, Fail> {
+    let bad_reads = [n].to_vec(alloc)?;
+    serve_faulty(rt, alloc, words, input, bad_reads, Vec::new(alloc))
+}
+
+/// What comes where one write fails.
+fn with_bad_write<T: Threads + Wait + Sync>(
+    rt: &T,
+    alloc: Global,
+    words: &[&str],
+    input: &[u8],
+    n: u64,
+) -> Result<Faulty, Fail> {
+    let bad_writes = [n].to_vec(alloc)?;
+    serve_faulty(rt, alloc, words, input, Vec::new(alloc), bad_writes)
+}
+
+/// A failure at a row's call of a number.
+fn fail_at(row: &Row, call: &str, n: u64) -> Fail {
     let name = row.name;
-    let input = bytes_of(alloc, row.input)?;
-    let reads = (input.len().div_ceil(READ) as u64).saturating_add(1);
+    Fail::new(format_args!("{name}: {call} {n}"))
+}
+
+/// Whether nothing came, over no area.
+fn is_nothing(came: &Faulty) -> bool {
+    came.made == 0 && came.ledger.is_empty() && came.bytes.is_empty()
+}
+
+/// Whether a fault of a read came, over no area.
+fn is_read_fault(came: &Faulty) -> bool {
+    came.status.0 == 5
+        && came.bytes.as_slice() == b"READ FAULT\n".as_slice()
+        && came.made == 0
+        && came.ledger.is_empty()
+}
+
+/// Each read fails in turn, the one that finds the end too; the read behind that isn't made.
+fn check_reads<T: Threads + Wait + Sync>(rt: &T, alloc: Global, row: &Row) -> Result<(), Fail> {
+    let reads = (row.input.len().div_ceil(READ) as u64).saturating_add(1);
     for n in 1..=reads {
-        let bad_reads = [n].to_vec(alloc)?;
-        let came = serve_faulty(rt, alloc, row.words, &input, bad_reads, Vec::new(alloc))?;
-        assert_eq!(rt; came.status, Status(5), "{name}: read {n}");
-        assert_eq!(rt;
-            came.bytes.as_slice(),
-            b"READ FAULT\n".as_slice(),
-            "{name}: read {n}"
-        );
-        assert_eq!(rt; (came.made, came.ledger.len()), (0, 0), "{name}: read {n}");
+        if !is_read_fault(&with_bad_read(rt, alloc, &row.words, &row.input, n)?) {
+            return Err(fail_at(row, "read", n));
+        }
     }
-    let bad_reads = [reads.saturating_add(1)].to_vec(alloc)?;
-    let came = serve_faulty(rt, alloc, row.words, &input, bad_reads, Vec::new(alloc))?;
-    assert_eq!(rt; came.status, Status(row.status), "{name}");
+    let behind = reads.saturating_add(1);
+    if with_bad_read(rt, alloc, &row.words, &row.input, behind)?
+        .status
+        .0
+        != row.status
+    {
+        return Err(fail_at(row, "read", behind));
+    }
     Ok(())
 }
 
-/// Lets one write fail, and answers how many bytes came: they are the first of the output, and the areas are those of the
-/// run without a fault.
-fn check_write<T: Abort + Threads + Wait + Sync>(
+/// Whether what came is the first of the output, over the areas of the run without a fault.
+fn is_cut(came: &Faulty, whole: &Faulty) -> bool {
+    let status = if came.bytes.len() == whole.bytes.len() {
+        whole.status.0
+    } else {
+        6
+    };
+    whole.bytes.starts_with(&came.bytes)
+        && came.made == whole.made
+        && came.ledger == whole.ledger
+        && came.status.0 == status
+}
+
+/// How many bytes come where one write fails; none where they aren't what comes then.
+fn length_at<T: Threads + Wait + Sync>(
     rt: &T,
     alloc: Global,
-    row: &Row,
+    words: &[&str],
     input: &[u8],
     whole: &Faulty,
     n: u64,
-) -> Result<usize, Fail> {
-    let name = row.name;
-    let bad_writes = [n].to_vec(alloc)?;
-    let came = serve_faulty(rt, alloc, row.words, input, Vec::new(alloc), bad_writes)?;
-    let length = came.bytes.len();
-    assert!(rt; whole.bytes.starts_with(&came.bytes), "{name}: write {n}");
-    assert_eq!(rt; came.made, whole.made, "{name}: write {n}");
-    assert!(rt; came.ledger == whole.ledger, "{name}: write {n}");
-    if length == whole.bytes.len() {
-        assert_eq!(rt; came.status, Status(row.status), "{name}: write {n}");
-    } else {
-        assert_eq!(rt; came.status, Status(6), "{name}: write {n}");
+) -> Result<Option<usize>, Fail> {
+    let came = with_bad_write(rt, alloc, words, input, n)?;
+    if is_cut(&came, whole) {
+        return Ok(Some(came.bytes.len()));
     }
-    Ok(length)
+    Ok(None)
 }
 
-/// Each write fails in turn: no byte comes where the first does, and at each further one more bytes, at most what one takes.
-fn check_writes<T: Abort + Threads + Wait + Sync>(
+/// Whether no byte has come before the first write, and more before each further one, at most what one takes.
+fn is_next(n: u64, had: usize, length: usize) -> bool {
+    if n == 1 {
+        return length == 0;
+    }
+    had < length && length <= had.saturating_add(WRITE)
+}
+
+/// The first write that fails otherwise than it is to: each does so in turn. 0 where too few do.
+fn wrong_write<T: Threads + Wait + Sync>(
     rt: &T,
     alloc: Global,
-    row: &Row,
-) -> Result<(), Fail> {
-    let name = row.name;
-    let input = bytes_of(alloc, row.input)?;
-    let output = bytes_of(alloc, row.output)?;
-    let none = Vec::new(alloc);
-    let whole = serve_faulty(rt, alloc, row.words, &input, none, Vec::new(alloc))?;
-    assert_eq!(rt; whole.status, Status(row.status), "{name}");
-    assert_eq!(rt; whole.bytes.as_slice(), output.as_slice(), "{name}");
-    let first = check_write(rt, alloc, row, &input, &whole, 1)?;
-    assert_eq!(rt; first, 0, "{name}");
+    words: &[&str],
+    input: &[u8],
+    whole: &Faulty,
+) -> Result<Option<u64>, Fail> {
+    let all = whole.bytes.len();
     let mut had = 0;
-    for n in 2..=(output.len() as u64).saturating_add(1) {
-        if had < output.len() {
-            let length = check_write(rt, alloc, row, &input, &whole, n)?;
-            assert!(rt; had < length, "{name}: write {n}");
-            assert!(rt; length <= had.saturating_add(WRITE), "{name}: write {n}");
-            had = length;
+    for n in 1..=(all as u64).saturating_add(1) {
+        match length_at(rt, alloc, words, input, whole, n)? {
+            Some(length) if is_next(n, had, length) => had = length,
+            _ => return Ok(Some(n)),
+        }
+        if had == all {
+            return Ok(None);
         }
     }
-    assert_eq!(rt; had, output.len(), "{name}");
-    Ok(())
+    Ok(Some(0))
+}
+
+/// Each write fails in turn, and none.
+fn check_writes<T: Threads + Wait + Sync>(rt: &T, alloc: Global, row: &Row) -> Result<(), Fail> {
+    let none = Vec::new(alloc);
+    let whole = serve_faulty(rt, alloc, &row.words, &row.input, none, Vec::new(alloc))?;
+    if whole.status.0 != row.status || whole.bytes != row.output {
+        return Err(fail_at(row, "no write", 0));
+    }
+    match wrong_write(rt, alloc, &row.words, &row.input, &whole)? {
+        Some(n) => Err(fail_at(row, "write", n)),
+        None => Ok(()),
+    }
 }
 
 /// Lets each read and each write of these rows fail.
-fn check_faults<T: Abort + Threads + Wait + Sync>(
+fn check_faults<T: Threads + Wait + Sync>(
     rt: &T,
     alloc: Global,
-    rows: &[Row],
+    rows: &'static str,
 ) -> Result<(), Fail> {
-    for row in rows {
-        check_reads(rt, alloc, row)?;
-        check_writes(rt, alloc, row)?;
+    for entry in rows.split("@row ") {
+        if !entry.is_empty() {
+            let row = row_of(alloc, entry)?;
+            check_reads(rt, alloc, &row)?;
+            check_writes(rt, alloc, &row)?;
+        }
     }
     Ok(())
 }
 
 #[test]
 fn tells_a_fault_at_each_read_and_write(rt: HostRuntime) -> Result<(), Fail> {
-    check_faults(&rt, rt.alloc(), &SERVED)?;
-    check_faults(&rt, rt.alloc(), good())?;
-    check_faults(&rt, rt.alloc(), bad_jobs())?;
-    check_faults(&rt, rt.alloc(), bad_shown())?;
-    check_faults(&rt, rt.alloc(), bad_files())?;
-    check_faults(&rt, rt.alloc(), proved())?;
-    check_faults(&rt, rt.alloc(), unproved())?;
-    check_faults(&rt, rt.alloc(), fields())?;
-    check_faults(&rt, rt.alloc(), refuted())
+    check_faults(&rt, rt.alloc(), SERVED)?;
+    for rows in [
+        good(),
+        bad_jobs(),
+        bad_shown(),
+        bad_files(),
+        proved(),
+        unproved(),
+        fields(),
+        refuted(),
+    ] {
+        check_faults(&rt, rt.alloc(), rows)?;
+    }
+    Ok(())
+}
+
+/// Whether nothing comes of the words where the first read and the first write fail.
+fn is_silent<T: Threads + Wait + Sync>(
+    rt: &T,
+    alloc: Global,
+    words: &[&str],
+    input: &[u8],
+) -> Result<bool, Fail> {
+    let bad_reads = [1u64].to_vec(alloc)?;
+    let bad_writes = [1u64].to_vec(alloc)?;
+    let came = serve_faulty(rt, alloc, words, input, bad_reads, bad_writes)?;
+    Ok(came.status.0 == 6 && is_nothing(&came))
+}
+
+/// So it is of each list of words; else a failure has its index.
+fn check_silent<T: Threads + Wait + Sync>(
+    rt: &T,
+    alloc: Global,
+    lists: &[&[&str]],
+    input: &[u8],
+) -> Result<(), Fail> {
+    for (i, words) in lists.iter().enumerate() {
+        if !is_silent(rt, alloc, *words, input)? {
+            return Err(Fail::new(i));
+        }
+    }
+    Ok(())
 }
 
 #[test]
 fn writes_nothing_where_it_can_neither_read_nor_write(rt: HostRuntime) -> Result<(), Fail> {
     let alloc = rt.alloc();
     let input = bytes_of(alloc, &[Text(FIRST_JOB)])?;
-    for words in &WORDS {
-        let once = [1u64].to_vec(alloc)?;
-        let came = serve_faulty(&rt, alloc, words, &input, once, [1u64].to_vec(alloc)?)?;
-        assert_eq!(rt; came.status, Status(6));
-        assert_eq!(rt; came.bytes.len(), 0);
-        assert_eq!(rt; (came.made, came.ledger.len()), (0, 0));
-    }
+    check_silent(&rt, alloc, &WORDS, &input)?;
     // Words that are none are refused before anything is read.
-    let once = [1u64].to_vec(alloc)?;
-    let came = serve_faulty(&rt, alloc, &[], &input, once, Vec::new(alloc))?;
-    assert_eq!(rt; came.status, Status(1));
-    assert_eq!(rt; came.bytes.as_slice(), USAGE);
+    let came = with_bad_read(&rt, alloc, &[], &input, 1)?;
+    assert!(rt; came.status.0 == 1 && came.bytes.as_slice() == USAGE);
     Ok(())
 }

@@ -2,33 +2,39 @@
 
 use super::notation::{Case, LOAD, Tallied};
 
-pub const JOBS: [Case; 2] = [
-    Case {
-        name: "both sides of a branch by two tasks",
-        code: "000000 1211 LTR, 000002 4780 F008 BE, 000006 1822 LR, 000008 07FE BR",
-        job: "TASK A 100000 16 100 0\nTASK B 100000 16 100 0\nREG 1 00000001\nENDJOB\n",
-        status: 0,
-        text: "\
+static JOBS: &str = "\
+@case both sides of a branch by two tasks\n\
+@code 000000 1211 LTR, 000002 4780 F008 BE, 000006 1822 LR, 000008 07FE BR\n\
+@job\n\
+TASK A 100000 16 100 0\n\
+TASK B 100000 16 100 0\n\
+REG 1 00000001\n\
+ENDJOB\n\
+@text 0\n\
 COVERAGE REPORT\n\
 task A RETURNED COUNT 3 CC 0 regs\n\
 task B RETURNED COUNT 4 CC 2 regs 1=00000001\n\
 session S PHASE P marks :&:: EXECUTED 4 FACTS 5 OF 5\n\
-END\n",
-    },
-    Case {
-        name: "two tasks read a planted halfword",
-        code: "000000 1822 LR, 000002 D500 F000 F000 CLC, 000008 07FE BR",
-        job: "TASK A 100000 16 100 0\nTASK B 100002 16 100 0\nREG 15 00100000\nENDJOB\n",
-        status: 0,
-        text: "\
+END\n\
+@case two tasks read a planted halfword\n\
+@code 000000 1822 LR, 000002 D500 F000 F000 CLC, 000008 07FE BR\n\
+@job\n\
+TASK A 100000 16 100 0\n\
+TASK B 100002 16 100 0\n\
+REG 15 00100000\n\
+ENDJOB\n\
+@text 0\n\
 COVERAGE REPORT\n\
 task A TOUCHED 100000 COUNT 2 CC 0 regs\n\
 task B TOUCHED 100000 COUNT 1 CC 0 regs\n\
 session S PHASE P marks ::^ EXECUTED 2 FACTS 2 OF 3\n\
 NOT EXECUTED 000008-000009\n\
-END\n",
-    },
-];
+END\n";
+
+/// The jobs, for `case_of`.
+pub fn jobs() -> &'static str {
+    JOBS
+}
 
 /// Those whose tallies are compared too.
 pub const TALLIED_JOBS: [Tallied; 4] = [

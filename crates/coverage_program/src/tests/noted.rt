@@ -2,6 +2,7 @@
 //! each task, which stand among the calls where the task's next call finds them.
 ghost use Rattle.std.specs.Prelude.{◌≡◌};
 
+use super::held::Held;
 use arrayvec::ArrayVec;
 use cov_base::{Bits, Fact, NoMemory, PlaceNo, SessNo, TaskNo};
 use cov_outside::Gate;
@@ -9,20 +10,47 @@ use module_area::{Areas, Cell, Cells, Drains, Finals, Forks, Plan, Tally};
 use std::alloc::{AllocError, Global};
 use std::sync::atomic::{AtomicU64, Ordering};
 
-/// A gate that holds no task and counts how often each has arrived.
+/// A gate that counts how often each task has arrived, and may hold one.
 #[derive(Drop)]
 pub struct Arrivals {
     counts: Vec<AtomicU64>,
+    held: Option<Held>,
+}
+
+fn zeros(alloc: Global, tasks: usize) -> Result<Vec<AtomicU64>, AllocError> {
+    let mut counts = Vec::new(alloc);
+    for _ in 0..tasks {
+        counts.push(AtomicU64::new(0))?;
+    }
+    Ok(counts)
 }
 
 impl Arrivals {
-    /// For the tasks of a job, so many, none of which has arrived.
+    /// For the tasks of a job, so many, none of which has arrived or is held.
     pub fn new(alloc: Global, tasks: usize) -> Result<Arrivals, AllocError> {
-        let mut counts = Vec::new(alloc);
-        for _ in 0..tasks {
-            counts.push(AtomicU64::new(0))?;
+        let counts = zeros(alloc, tasks)?;
+        Ok(Arrivals { counts, held: None })
+    }
+
+    /// The same where one is held.
+    pub fn of_held(alloc: Global, tasks: usize, held: Held) -> Result<Arrivals, AllocError> {
+        let counts = zeros(alloc, tasks)?;
+        Ok(Arrivals {
+            counts,
+            held: Some(held),
+        })
+    }
+
+    fn go_on(&self, task: Option<u32>) {
+        if let Some(held) = &self.held {
+            held.go_on(task);
         }
-        Ok(Arrivals { counts })
+    }
+
+    fn look(&self) {
+        if let Some(held) = &self.held {
+            held.look();
+        }
     }
 
     /// How often the task has arrived.
@@ -39,6 +67,9 @@ impl Gate for Arrivals {
         if let Some(count) = self.counts.get(task.0 as usize) {
             let before = count.load(Ordering::SeqCst);
             count.store(before.saturating_add(1), Ordering::SeqCst);
+        }
+        if let Some(held) = &self.held {
+            held.arrive(task);
         }
     }
 }
@@ -58,6 +89,34 @@ impl Default for Call {
     fn default() -> Call {
         Call::Fetch(0)
     }
+}
+
+/// Whether the words name the call.
+fn is_call(call: Call, words: &str) -> bool {
+    let (kind, digits) = words.split_once(' ').unwrap_or((words, ""));
+    let number = u32::from_str_radix(digits, 10).unwrap_or(u32::MAX);
+    match call {
+        Call::Arrive(times) => kind == "arrive" && times == u64::from(number),
+        Call::Plant(place) => kind == "plant" && place == number,
+        Call::Fetch(place) => kind == "fetch" && place == number,
+        Call::Mark(place, Fact::Ran) => kind == "ran" && place == number,
+        Call::Mark(place, Fact::Went) => kind == "went" && place == number,
+        Call::Mark(place, Fact::Stayed) => kind == "stayed" && place == number,
+        Call::Lift(place) => kind == "lift" && place == number,
+        Call::Close(place) => kind == "close" && place == number,
+    }
+}
+
+/// Whether these are the calls that the words name, parted by commas: a mark by its fact.
+pub fn are_calls(calls: &[Call], words: &str) -> bool {
+    let mut count = 0usize;
+    for expected in words.split(", ") {
+        match calls.get(count) {
+            Some(call) if is_call(*call, expected) => count = count.wrapping_add(1),
+            _ => return false,
+        }
+    }
+    count == calls.len()
 }
 
 type Calls = ArrayVec<Call, 64>;
@@ -167,11 +226,14 @@ impl<'a, C: Forks> Forks for NotedCells<'a, C> {
 
 impl<'a, C: Drains> Drains for NotedCells<'a, C> {
     fn boundary(&self, pass: &mut NotedPass<C::Pass>, ended: bool) {
-        self.cells.boundary(&mut pass.pass, ended)
+        self.cells.boundary(&mut pass.pass, ended);
+        self.arrivals.go_on(pass.kept.task);
     }
 
     fn note(&self, pass: &mut NotedPass<C::Pass>, task: TaskNo) -> u64 {
-        self.cells.note(&mut pass.pass, task)
+        let number = self.cells.note(&mut pass.pass, task);
+        self.arrivals.look();
+        number
     }
 
     fn read_set(&self, pass: &mut NotedPass<C::Pass>, s: SessNo, place: PlaceNo) -> Bits {

@@ -7,6 +7,7 @@ ghost use Rattle.module_area.specs.PlanView.{window_at, has_task};
 ghost use Rattle.module_area.specs.Tied.{IsTied};
 ghost use Rattle.session_book.specs.JobView.{IsJob};
 
+use super::drains::has_both;
 use super::notation::{Part, bytes_of};
 use super::order::{COUNT_DOWN, EXECUTED};
 use crate::ready::make_ready;
@@ -36,7 +37,7 @@ fn may_run(plan: &Plan) -> bool
     if plan.places_len() < 2 || plan.window(PlaceNo(0)) != 1 || plan.window(PlaceNo(1)) != 1 {
         return false;
     }
-    plan.tasks.iter().any(|t| t.0 == 0) && plan.tasks.iter().any(|t| t.0 == 1)
+    has_both(plan)
 }
 
 /// Runs the first task with the pass.

@@ -1,15 +1,13 @@
 //! Sessions that tasks open and close under `replay`: a late trap, calls that open and close nothing, calls under EX, and
 //! plants and closes that are not due.
 
-use super::notation::{Case, LOAD};
-use super::schedules::check_schedules;
+use super::places::check_cases;
 use std::test::Fail;
 
-const SCHEDULES: [Case; 10] = [
-    Case {
-        name: "a late trap marks in the session that it was planted for",
-        code: LOAD,
-        job: "\
+static SCHEDULES: &str = "\
+@case a late trap marks in the session that it was planted for\n\
+@code 000000 4110 0005 LA, 000004 1A11 AR, 000006 07FE BR\n\
+@job\n\
 SESSION S1 BY C M\n\
 SESSION S2 BY C M\n\
 TASK A 100000 16 100 0\n\
@@ -34,9 +32,8 @@ LIFT A\n\
 DO A\n\
 GO A\n\
 GO C\n\
-ENDSCHED\n",
-        status: 0,
-        text: "\
+ENDSCHED\n\
+@text 0\n\
 COVERAGE REPLAY\n\
 EVENT 1 PLANT C S1 100000\n\
 EVENT 2 PLANT C S1 100004\n\
@@ -62,12 +59,10 @@ session S1 PHASE P marks :^^ EXECUTED 1 FACTS 1 OF 3\n\
 NOT EXECUTED 000004-000007\n\
 session S2 PHASE P marks ^:: EXECUTED 2 FACTS 2 OF 3\n\
 NOT EXECUTED 000000-000003\n\
-END\n",
-    },
-    Case {
-        name: "calls with nothing to open or close",
-        code: "000000 07FE BCR",
-        job: "\
+END\n\
+@case calls with nothing to open or close\n\
+@code 000000 07FE BCR\n\
+@job\n\
 SESSION S BY C M\n\
 TASK C 000000 12 100 0\n\
 DATA 0 0A050A040A040A050A0407FE\n\
@@ -80,9 +75,8 @@ CLOSE C\n\
 DO C\n\
 DO C\n\
 GO C\n\
-ENDSCHED\n",
-        status: 0,
-        text: "\
+ENDSCHED\n\
+@text 0\n\
 COVERAGE REPLAY\n\
 EVENT 1 DO C\n\
 EVENT 2 PLANT C S 100000\n\
@@ -95,12 +89,10 @@ EVENT 8 GO C\n\
 task C RETURNED COUNT 6 CC 0 regs F=00000000\n\
 session S PHASE P marks ^ EXECUTED 0 FACTS 0 OF 1\n\
 NOT EXECUTED 000000-000001\n\
-END\n",
-    },
-    Case {
-        name: "calls under EX, at a place and at none",
-        code: "000000 0A00 SVC, 000002 07FE BCR",
-        job: "\
+END\n\
+@case calls under EX, at a place and at none\n\
+@code 000000 0A00 SVC, 000002 07FE BCR\n\
+@job\n\
 SESSION S BY C M\n\
 TASK C 000000 18 100 0\n\
 REG 4 00000004\n\
@@ -117,9 +109,8 @@ CLOSE C\n\
 CLOSE C\n\
 DO C\n\
 GO C\n\
-ENDSCHED\n",
-        status: 0,
-        text: "\
+ENDSCHED\n\
+@text 0\n\
 COVERAGE REPLAY\n\
 EVENT 1 DO C\n\
 EVENT 2 FETCH C TAG 0 HALF 0A00\n\
@@ -133,12 +124,10 @@ EVENT 9 GO C\n\
 task C RETURNED COUNT 4 CC 0 regs 4=00000004 5=00000005 C=00100000 F=00000000\n\
 session S PHASE P marks ^^ EXECUTED 0 FACTS 0 OF 2\n\
 NOT EXECUTED 000000-000003\n\
-END\n",
-    },
-    Case {
-        name: "a session over a module without a listing",
-        code: "",
-        job: "\
+END\n\
+@case a session over a module without a listing\n\
+@code \n\
+@job\n\
 COVERJOB 1\n\
 MODULE M 100000 2\n\
 TEXT 07FE\n\
@@ -158,9 +147,8 @@ DO C\n\
 PLANT C\n\
 DO C\n\
 GO C\n\
-ENDSCHED\n",
-        status: 0,
-        text: "\
+ENDSCHED\n\
+@text 0\n\
 COVERAGE REPLAY\n\
 EVENT 1 DO C\n\
 EVENT 2 DO C\n\
@@ -176,12 +164,10 @@ MODULE M PLACES 1 EXECUTED 0 FACTS 0 OF 1\n\
 ^ 000000 07FE                           1          BCR\n\
 NOT EXECUTED 000000-000001\n\
 MODULE U PLACES 0 EXECUTED 0 FACTS 0 OF 0\n\
-END\n",
-    },
-    Case {
-        name: "a call at a place of its own session",
-        code: "000000 0A04 SVC, 000002 0A05 SVC, 000004 07FE BCR",
-        job: "\
+END\n\
+@case a call at a place of its own session\n\
+@code 000000 0A04 SVC, 000002 0A05 SVC, 000004 07FE BCR\n\
+@job\n\
 SESSION S BY C M\n\
 TASK C 000000 4 100 0\n\
 REG 12 00100000\n\
@@ -203,9 +189,8 @@ DO C\n\
 FETCH C\n\
 DO C\n\
 DO C\n\
-ENDSCHED\n",
-        status: 0,
-        text: "\
+ENDSCHED\n\
+@text 0\n\
 COVERAGE REPLAY\n\
 EVENT 1 DO C\n\
 EVENT 2 FETCH C TAG 0 HALF 0A04\n\
@@ -227,52 +212,44 @@ task C RETURNED COUNT 4 CC 0 regs C=00100000 F=00000000\n\
 session S PHASE P marks ^:^ EXECUTED 1 FACTS 1 OF 3\n\
 NOT EXECUTED 000000-000001\n\
 NOT EXECUTED 000004-000005\n\
-END\n",
-    },
-    Case {
-        name: "a plant that no call asks for",
-        code: "000000 07FE BCR",
-        job: "\
+END\n\
+@case a plant that no call asks for\n\
+@code 000000 07FE BCR\n\
+@job\n\
 SESSION S BY C M\n\
 TASK C 000000 12 100 0\n\
 DATA 0 0A050A040A040A050A0407FE\n\
 ENDJOB\n\
 PLANT C\n\
-ENDSCHED\n",
-        status: 9,
-        text: "BAD SCHEDULE LINE 12\n",
-    },
-    Case {
-        name: "a Do before the last place is planted",
-        code: "000000 07FE BCR, 000002 07FE BCR",
-        job: "\
+ENDSCHED\n\
+@text 9\n\
+BAD SCHEDULE LINE 12\n\
+@case a Do before the last place is planted\n\
+@code 000000 07FE BCR, 000002 07FE BCR\n\
+@job\n\
 SESSION S BY C M\n\
 TASK C 000000 4 100 0\n\
 DATA 0 0A0407FE\n\
 ENDJOB\n\
 PLANT C\n\
 DO C\n\
-ENDSCHED\n",
-        status: 9,
-        text: "BAD SCHEDULE LINE 14\n",
-    },
-    Case {
-        name: "a close while the session is opened",
-        code: "000000 07FE BCR",
-        job: "\
+ENDSCHED\n\
+@text 9\n\
+BAD SCHEDULE LINE 14\n\
+@case a close while the session is opened\n\
+@code 000000 07FE BCR\n\
+@job\n\
 SESSION S BY C M\n\
 TASK C 000000 4 100 0\n\
 DATA 0 0A0407FE\n\
 ENDJOB\n\
 CLOSE C\n\
-ENDSCHED\n",
-        status: 9,
-        text: "BAD SCHEDULE LINE 12\n",
-    },
-    Case {
-        name: "a third plant of two places",
-        code: "000000 07FE BCR, 000002 07FE BCR",
-        job: "\
+ENDSCHED\n\
+@text 9\n\
+BAD SCHEDULE LINE 12\n\
+@case a third plant of two places\n\
+@code 000000 07FE BCR, 000002 07FE BCR\n\
+@job\n\
 SESSION S BY C M\n\
 TASK C 000000 4 100 0\n\
 DATA 0 0A0407FE\n\
@@ -280,27 +257,23 @@ ENDJOB\n\
 PLANT C\n\
 PLANT C\n\
 PLANT C\n\
-ENDSCHED\n",
-        status: 9,
-        text: "BAD SCHEDULE LINE 15\n",
-    },
-    Case {
-        name: "a plant at a spent budget",
-        code: "000000 07FE BCR",
-        job: "\
+ENDSCHED\n\
+@text 9\n\
+BAD SCHEDULE LINE 15\n\
+@case a plant at a spent budget\n\
+@code 000000 07FE BCR\n\
+@job\n\
 SESSION S BY C M\n\
 TASK C 000000 4 1 0\n\
 DATA 0 0A050A04\n\
 ENDJOB\n\
 DO C\n\
 PLANT C\n\
-ENDSCHED\n",
-        status: 9,
-        text: "BAD SCHEDULE LINE 13\n",
-    },
-];
+ENDSCHED\n\
+@text 9\n\
+BAD SCHEDULE LINE 13\n";
 
 #[test]
 fn plays_each_schedule_of_controllers(rt: HostRuntime) -> Result<(), Fail> {
-    check_schedules(&rt, rt.alloc(), &SCHEDULES)
+    check_cases(&rt, rt.alloc(), "replay", SCHEDULES, false, 0)
 }

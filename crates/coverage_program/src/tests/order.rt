@@ -6,11 +6,10 @@ ghost use Rattle.std.specs.Prelude.{◌≡◌};
 use super::called::THROUGH;
 use super::notation::Part::{Code, Phase, Text};
 use super::notation::{ALONE, COUNT, LOAD, Part, bytes_of};
-use super::noted::{Arrivals, Call, NotedAreas};
+use super::noted::{Arrivals, Call, NotedAreas, are_calls};
 use super::places::serve_over;
 use super::samples::FROM_3;
 use crate::status::Status;
-use cov_base::Fact;
 use shared_area::SharedAreas;
 use std::alloc::Global;
 use std::sync::Wait;
@@ -19,37 +18,17 @@ use std::thread::Threads;
 
 pub const COUNT_DOWN: [Part; 2] = [Code(COUNT), FROM_3];
 
-const COUNT_DOWN_CALLS: [Call; 13] = [
-    Call::Plant(0),
-    Call::Plant(1),
-    Call::Arrive(1),
-    Call::Fetch(0),
-    Call::Mark(0, Fact::Went),
-    Call::Fetch(0),
-    Call::Mark(0, Fact::Went),
-    Call::Fetch(0),
-    Call::Mark(0, Fact::Stayed),
-    Call::Lift(0),
-    Call::Fetch(1),
-    Call::Mark(1, Fact::Ran),
-    Call::Lift(1),
-];
+static COUNT_DOWN_CALLS: &str = "\
+plant 0, plant 1, arrive 1, fetch 0, went 0, fetch 0, went 0, fetch 0, stayed 0, lift 0, fetch 1, \
+ran 1, lift 1";
 
 pub const EXECUTED: [Part; 2] = [
     Code("000000 4400 F004 EX, 000004 4400 F000 EX, 000008 07FE BR"),
     Text(ALONE),
 ];
 
-const EXECUTED_CALLS: [Call; 8] = [
-    Call::Plant(0),
-    Call::Plant(1),
-    Call::Plant(2),
-    Call::Arrive(1),
-    Call::Fetch(0),
-    Call::Mark(0, Fact::Ran),
-    Call::Lift(0),
-    Call::Fetch(1),
-];
+static EXECUTED_CALLS: &str = "\
+plant 0, plant 1, plant 2, arrive 1, fetch 0, ran 0, lift 0, fetch 1";
 
 /// Tasks of two phases: one in code that is listed, one in code that isn't, which makes no call, and one that is spent
 /// at its second instruction.
@@ -71,33 +50,12 @@ TASK B 200000 16 100 0\n\
 TASK C 100000 16 1 0\n\
 ENDJOB\n";
 
-const THREE_CALLS: [Call; 6] = [
-    Call::Plant(0),
-    Call::Plant(1),
-    Call::Arrive(1),
-    Call::Fetch(0),
-    Call::Mark(0, Fact::Ran),
-    Call::Lift(0),
-];
+static THREE_CALLS: &str = "\
+plant 0, plant 1, arrive 1, fetch 0, ran 0, lift 0";
 
-const THROUGH_CALLS: [Call; 16] = [
-    Call::Arrive(1),
-    Call::Plant(0),
-    Call::Plant(1),
-    Call::Plant(2),
-    Call::Fetch(0),
-    Call::Mark(0, Fact::Ran),
-    Call::Lift(0),
-    Call::Fetch(1),
-    Call::Mark(1, Fact::Ran),
-    Call::Lift(1),
-    Call::Fetch(2),
-    Call::Mark(2, Fact::Ran),
-    Call::Lift(2),
-    Call::Close(0),
-    Call::Close(1),
-    Call::Close(2),
-];
+static THROUGH_CALLS: &str = "\
+arrive 1, plant 0, plant 1, plant 2, fetch 0, ran 0, lift 0, fetch 1, ran 1, lift 1, fetch 2, \
+ran 2, lift 2, close 0, close 1, close 2";
 
 /// SVC 4 and 5 in a module that a whole session observes, of a task that controls a session of another module.
 const OBSERVED: &str = "\
@@ -120,23 +78,9 @@ SESSION T BY A N\n\
 TASK A 100000 16 100 0\n\
 ENDJOB\n";
 
-const OBSERVED_CALLS: [Call; 15] = [
-    Call::Plant(0),
-    Call::Plant(1),
-    Call::Plant(2),
-    Call::Arrive(1),
-    Call::Fetch(0),
-    Call::Mark(0, Fact::Ran),
-    Call::Lift(0),
-    Call::Plant(3),
-    Call::Fetch(1),
-    Call::Mark(1, Fact::Ran),
-    Call::Lift(1),
-    Call::Close(3),
-    Call::Fetch(2),
-    Call::Mark(2, Fact::Ran),
-    Call::Lift(2),
-];
+static OBSERVED_CALLS: &str = "\
+plant 0, plant 1, plant 2, arrive 1, fetch 0, ran 0, lift 0, plant 3, fetch 1, ran 1, lift 1, \
+close 3, fetch 2, ran 2, lift 2";
 
 /// Runs a job of so many tasks over areas that keep their calls: its status, the calls on its last area, and how often
 /// each task has arrived at the gate.
@@ -159,37 +103,41 @@ fn run_noted<T: Threads + Wait + Sync>(
     Ok((status, calls, arrivals))
 }
 
+/// Whether a job of so many tasks makes these calls on its last area, and each task arrives once.
+fn makes<T: Threads + Wait + Sync>(
+    rt: &T,
+    alloc: Global,
+    job: &[Part],
+    tasks: u32,
+    expected: &str,
+) -> Result<bool, Fail> {
+    let (status, calls, arrivals) = run_noted(rt, alloc, job, tasks)?;
+    Ok(
+        status.0 == 0
+            && are_calls(&calls, expected)
+            && arrivals.len() == tasks as usize
+            && arrivals.iter().all(|n| *n == 1),
+    )
+}
+
 #[test]
 fn plants_first_and_marks_before_it_lifts(rt: HostRuntime) -> Result<(), Fail> {
-    let (status, calls, arrivals) = run_noted(&rt, rt.alloc(), &COUNT_DOWN, 1)?;
-    assert_eq!(rt; status, Status(0));
-    assert_eq!(rt; calls.as_slice(), COUNT_DOWN_CALLS.as_slice());
-    assert_eq!(rt; arrivals.as_slice(), [1u64].as_slice());
-    let (status, calls, arrivals) = run_noted(&rt, rt.alloc(), &EXECUTED, 1)?;
-    assert_eq!(rt; status, Status(0));
-    assert_eq!(rt; calls.as_slice(), EXECUTED_CALLS.as_slice());
-    assert_eq!(rt; arrivals.as_slice(), [1u64].as_slice());
+    let alloc = rt.alloc();
+    assert!(rt; makes(&rt, alloc, &COUNT_DOWN, 1, COUNT_DOWN_CALLS)?);
+    assert!(rt; makes(&rt, alloc, &EXECUTED, 1, EXECUTED_CALLS)?);
     Ok(())
 }
 
 #[test]
 fn plants_and_closes_where_its_calls_stand(rt: HostRuntime) -> Result<(), Fail> {
-    let (status, calls, arrivals) = run_noted(&rt, rt.alloc(), &[Phase(LOAD), Text(THROUGH)], 1)?;
-    assert_eq!(rt; status, Status(0));
-    assert_eq!(rt; calls.as_slice(), THROUGH_CALLS.as_slice());
-    assert_eq!(rt; arrivals.as_slice(), [1u64].as_slice());
-    let (status, calls, arrivals) = run_noted(&rt, rt.alloc(), &[Text(OBSERVED)], 1)?;
-    assert_eq!(rt; status, Status(0));
-    assert_eq!(rt; calls.as_slice(), OBSERVED_CALLS.as_slice());
-    assert_eq!(rt; arrivals.as_slice(), [1u64].as_slice());
+    let alloc = rt.alloc();
+    assert!(rt; makes(&rt, alloc, &[Phase(LOAD), Text(THROUGH)], 1, THROUGH_CALLS)?);
+    assert!(rt; makes(&rt, alloc, &[Text(OBSERVED)], 1, OBSERVED_CALLS)?);
     Ok(())
 }
 
 #[test]
 fn each_task_arrives_once_before_its_first_call(rt: HostRuntime) -> Result<(), Fail> {
-    let (status, calls, arrivals) = run_noted(&rt, rt.alloc(), &[Text(THREE)], 3)?;
-    assert_eq!(rt; status, Status(0));
-    assert_eq!(rt; calls.as_slice(), THREE_CALLS.as_slice());
-    assert_eq!(rt; arrivals.as_slice(), [1u64, 1, 1].as_slice());
+    assert!(rt; makes(&rt, rt.alloc(), &[Text(THREE)], 3, THREE_CALLS)?);
     Ok(())
 }

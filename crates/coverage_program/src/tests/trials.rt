@@ -1,8 +1,10 @@
 //! The command `trial`: lines that a model of the generated job has told (`tests/trial.py`), and the words that are none.
 
-use super::places::{USAGE, serve};
-use crate::status::Status;
+use super::places::{areas_for, check_usage};
+use std::alloc::Global;
+use std::sync::Wait;
 use std::test::Fail;
+use std::thread::Threads;
 
 /// A number, how many tasks, and the summary.
 static TRIALS: [(&str, &str, &str); 3] = [
@@ -29,20 +31,27 @@ MARKS NOT 44 EXECUTED 452 BRANCHED 44 FELL 43 BOTH 9\n",
     ),
 ];
 
-#[test]
-fn sums_up_generated_jobs(rt: HostRuntime) -> Result<(), Fail> {
-    for trial in &TRIALS {
-        let (number, tasks, text) = *trial;
+/// Each sums up its job, twice; else a failure has its number.
+fn check_trials<T: Threads + Wait + Sync>(
+    rt: &T,
+    alloc: Global,
+    trials: &[(&'static str, &'static str, &'static str)],
+) -> Result<(), Fail> {
+    for (number, tasks, text) in trials {
+        let words = ["trial", *number, *tasks];
         for _ in 0..2 {
-            let came = serve(&rt, rt.alloc(), &["trial", number, tasks], b"no job\n")?;
-            assert_eq!(rt; came.text.as_slice(), text.as_bytes(), "{number}");
-            assert_eq!(rt; came.status, Status(0), "{number}");
-            assert_eq!(rt; came.made, 1, "{number}");
-            assert_eq!(rt; came.alone, Status(1), "{number}");
-            assert_eq!(rt; came.text_alone.as_slice(), USAGE, "{number}");
+            let text = text.as_bytes();
+            if areas_for(rt, alloc, &words, b"no job\n", text, 0, true)? != Some(1) {
+                return Err(Fail::new(*number));
+            }
         }
     }
     Ok(())
+}
+
+#[test]
+fn sums_up_generated_jobs(rt: HostRuntime) -> Result<(), Fail> {
+    check_trials(&rt, rt.alloc(), &TRIALS)
 }
 
 /// Words that are none.
@@ -65,11 +74,5 @@ static OTHERS: [&[&str]; 14] = [
 
 #[test]
 fn refuses_other_words(rt: HostRuntime) -> Result<(), Fail> {
-    for words in &OTHERS {
-        let came = serve(&rt, rt.alloc(), *words, b"")?;
-        assert_eq!(rt; came.status, Status(1));
-        assert_eq!(rt; came.text.as_slice(), USAGE);
-        assert_eq!(rt; came.made, 0);
-    }
-    Ok(())
+    check_usage(&rt, rt.alloc(), &OTHERS, b"")
 }
