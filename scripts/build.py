@@ -249,6 +249,8 @@ def main(words: list[str]) -> int:
             print(sum_of_sources())
         elif words[:1] == ["keep"] and len(words) == 2:
             keep_proved(words[1])
+        elif words == ["is-built"]:
+            return 0 if is_built() else 1
         else:
             make_built()
         return 0

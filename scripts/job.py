@@ -12,9 +12,11 @@ usage: coverage job CARDS.. > JOB
 Writes COVERJOB 1, the cards of the files in their order, and ENDJOB. A file has cards of modules, as `coverage module`
 writes them, or of phases, sessions and tasks (docs/JOB.md); those of the modules stand first. - is standard input.
 
-A file that begins or ends a job of its own, ends within a listing, or has a module behind a phase is refused by its
-line, with the status 2, and nothing is written. All else is judged by the program. This script is not proved.
+A file is refused by its line, with the status 2, where it begins or ends a job of its own, ends within a listing, has a
+module behind a phase, or has a line that is no card: a card begins with its word, its words are parted by one blank each,
+and no blank, tab or CR ends it. Then nothing is written. All else is judged by the program. This script is not proved.
 """
+CARD = re.compile(rb"(?:COVERJOB|MODULE|TEXT|LISTING|PHASE|SESSION|TASK|REG|DATA|INPUT|ENDJOB)(?: [!-~]+)*")
 LISTING = re.compile(rb"LISTING ([0-9]{1,9})")
 
 
@@ -41,6 +43,8 @@ def piece(path: str, phase: str) -> tuple[bytes, str]:
         raise Fault(path, "is empty")
     for number, card in cards_of(path, data):
         place, word = f"{path}: line {number}", card.split(b" ")[0]
+        if not CARD.fullmatch(card):
+            raise Fault(place, f"no card: {card[:40]!r}")
         if word in (b"COVERJOB", b"ENDJOB"):
             raise Fault(place, f"a card {word.decode()}, which stands around all files")
         if word == b"MODULE" and phase:

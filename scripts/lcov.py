@@ -68,7 +68,8 @@ def record(folder: str, session: Session, module: Module) -> list[str]:
 
 
 def main(words: list[str]) -> None:
-    if len(words) != 1 or not words[0]:
+    # A record of a tracefile is a line, and genhtml would take a file of the other kind for an option.
+    if len(words) != 1 or not words[0] or words[0].startswith("-") or not words[0].isprintable():
         raise UsageError
     folder = words[0]
     report = read_report("standard input", read_input())

@@ -71,7 +71,25 @@ def read_listing(path: str, data: bytes) -> list[bytes]:
     heading = heading_of(lines)
     if heading is None:
         raise Fault(path, "no line has the heading of a source listing, at column 3 or 4")
+    check_columns(path, lines, heading)
     return [cut(f"{path}: line {at + 1}", it, heading, at > heading.at) for at, it in enumerate(lines)]
+
+
+def has_code(lines: list[bytes], heading: Heading) -> bool:
+    """Whether a line behind the heading has a location and object code in its columns."""
+    return any(object_code(it, heading) for it in lines[heading.at + 1 :])
+
+
+def check_columns(path: str, lines: list[bytes], heading: Heading) -> None:
+    """Refuses a listing whose lines stand in other columns than its heading says, all of them or those of a later page: the
+    program would take them for text, and report fewer places than there are."""
+    for at, line in enumerate(lines):
+        other = heading_of([line])
+        if other is not None and (other.shift, other.columns) != (heading.shift, heading.columns):
+            raise Fault(f"{path}: line {at + 1}", f"a heading of another column or width than that of line {heading.at + 1}")
+    if not has_code(lines, heading):
+        where = f"in the columns of its heading, line {heading.at + 1} (docs/LISTING.md)"
+        raise Fault(path, f"no line has a location and object code {where}; a module of which nothing is to be marked needs no listing")
 
 
 def ascii_lines(data: bytes) -> list[bytes]:
@@ -83,19 +101,32 @@ def ascii_lines(data: bytes) -> list[bytes]:
 
 
 def ebcdic_lines(path: str, data: bytes) -> list[bytes]:
-    """The lines of a text in EBCDIC: those that line ends part, or else records of one length."""
-    if NEW_LINES.search(data):
-        lines = NEW_LINES.split(data)
-        if not lines[-1]:
-            lines.pop()
-        return [to_ascii(it).rstrip(b" ") for it in lines]
-    for length in RECORDS:
-        if len(data) % length == 0:
-            records = [to_ascii(data[at : at + length]).rstrip(b" ") for at in range(0, len(data), length)]
-            if heading_of(records) is not None:
-                return records
+    """The lines of a text in EBCDIC: those that line ends part, or records of one length. A record may hold the byte of a line
+    end, so the first of these in which a line has object code is taken, else the first that has a heading."""
+    ways = [it for it in (ended_lines(data), *(records_of(data, length) for length in RECORDS)) if heading_of(it) is not None]
+    for lines in ways:
+        heading = heading_of(lines)
+        if heading is not None and has_code(lines, heading):
+            return lines
+    if ways:
+        return ways[0]
     lengths = " or ".join(map(str, RECORDS))
-    raise Fault(path, f"{len(data)} bytes in EBCDIC, with neither line ends nor records of {lengths} bytes and a heading")
+    raise Fault(path, f"{len(data)} bytes in EBCDIC: neither their lines nor records of {lengths} bytes have the heading of a source listing")
+
+
+def ended_lines(data: bytes) -> list[bytes]:
+    """The lines that line ends part."""
+    lines = NEW_LINES.split(data)
+    if not lines[-1]:
+        lines.pop()
+    return [to_ascii(it).rstrip(b" ") for it in lines]
+
+
+def records_of(data: bytes, length: int) -> list[bytes]:
+    """The records of this length, none where they are not whole."""
+    if len(data) % length:
+        return []
+    return [to_ascii(data[at : at + length]).rstrip(b" ") for at in range(0, len(data), length)]
 
 
 def cut(place: str, line: bytes, heading: Heading, may_be_read: bool) -> bytes:

@@ -1,5 +1,5 @@
 """Object decks as the assembler writes them (HLASM Programmer's Guide, "Object Deck Output"): the text of their control
-sections, laid out in their order from a doubleword on, and relocated.
+sections, laid out where the assembler's locations have them, and relocated.
 
 A record is a card image of 80 bytes: X'02', three letters in EBCDIC, and fields at fixed columns.
 """
@@ -13,8 +13,10 @@ from ebcdic import shown
 
 RECORD = 80
 KINDS = {0x00: "SD", 0x01: "LD", 0x02: "ER", 0x04: "PC", 0x05: "CM", 0x0A: "WX"}
-SECTIONS = ("SD", "PC", "CM")
+SECTIONS, REFERENCES = ("SD", "PC", "CM"), ("ER", "WX")
 ITEM, ITEMS, MOST_DATA = 16, (16, 32, 48), 56
+# How the first record begins, and how far behind it the next does: with four bytes more where a transfer has kept its length.
+FIRST_LETTERS, RECORD_STEPS = b"\x02\xc5\xe2\xc4", (RECORD, RECORD + 4)
 NO_ITEM, LETTERS = (b"\x40\x40", b"\x00\x00"), (*range(0xC1, 0xCA), *range(0xD1, 0xDA), *range(0xE2, 0xEA))
 
 
@@ -61,11 +63,14 @@ def is_deck(data: bytes) -> bool:
 
 
 def check_form(path: str, data: bytes) -> None:
-    """Refuses what is an object, but no deck that can be read. Neither X'02' nor X'03' begins an instruction."""
+    """Refuses what is an object, but no deck that can be read. None of its first bytes begins an instruction that is executed."""
     if data[:2] == b"\x03\xf0":
         raise Fault(path, "a generalized object file: assemble with the options OBJECT and NOGOFF")
-    if data[:1] == b"\x02" and data[1:4] in (b"ESD", b"SYM", b"TXT"):
+    if data[:1] in (b"\x02", b".", b"?") and data[1:4] in (b"ESD", b"SYM", b"TXT"):
         raise Fault(path, "an object deck that was translated to ASCII: transfer it as binary")
+    at = data.find(FIRST_LETTERS)
+    if at > 0 and not is_deck(data) and any(data[at + it : at + it + 1] == b"\x02" for it in RECORD_STEPS):
+        raise Fault(path, f"an object deck with {at} bytes before its first ESD record: transfer its card images of 80 bytes alone")
 
 
 def number(data: bytes) -> int:
@@ -163,28 +168,31 @@ def length_of(place: str, flags: int) -> int:
     return length
 
 
-def text_of(path: str, deck: Deck, base: int) -> bytes:
-    """The module of the deck at this base: its sections' text, each constant with the addresses that it stands for."""
+def text_of(path: str, deck: Deck, base: int, given: dict[str, int]) -> bytes:
+    """The module of the deck at this base: its sections' text, each constant with the addresses that it stands for. Names that
+    other modules define have the addresses that are given."""
     size = lay_out(path, deck)
     check_size(path, base, size)
-    addresses = addresses_of(deck, base)
-    text, is_set = bytearray(size), bytearray(size)
+    addresses = addresses_of(deck, base, given)
+    text = bytearray(size)
     for piece in deck.texts:
-        put(deck, piece, text, is_set)
+        put(deck, piece, text)
     for piece in deck.constants:
         relocate(deck, piece, text, addresses)
     return bytes(text)
 
 
 def lay_out(path: str, deck: Deck) -> int:
-    """Gives each section its place, a doubleword's, behind the one before, and answers the size of all, made even."""
-    end = 0
-    for _, symbol in sorted(deck.symbols.items()):
-        if symbol.kind in SECTIONS:
-            symbol.at = (end + 7) // 8 * 8
-            end = symbol.at + symbol.length
-    if not any(it.kind in SECTIONS for it in deck.symbols.values()):
+    """Gives each section its place, and answers the size of all, made even. A section stands at its origin, as the listing has
+    it, or, where another reaches past that, at the next doubleword behind. A common section, whose origin is 0, comes last."""
+    sections = [(it.kind == "CM", it.origin, number) for number, it in deck.symbols.items() if it.kind in SECTIONS]
+    if not sections:
         raise Fault(path, "an object deck without a section")
+    end = 0
+    for _, origin, number in sorted(sections):
+        symbol = deck.symbols[number]
+        symbol.at = max(origin, (end + 7) // 8 * 8)
+        end = symbol.at + symbol.length
     return end + end % 2
 
 
@@ -196,16 +204,10 @@ def section_of(deck: Deck, place: str, section: int) -> Symbol:
     return symbol
 
 
-def put(deck: Deck, piece: Piece, text: bytearray, is_set: bytearray) -> None:
-    """Puts a piece of text where its section stands; no byte is set twice."""
-    section = section_of(deck, piece.place, piece.section)
-    offset = offset_in(piece, section, len(piece.data), "text")
-    end = offset + len(piece.data)
-    if any(is_set[offset:end]):
-        at = piece.address + is_set[offset:end].index(1)
-        raise Fault(piece.place, f"overlapping text: {at:06X} of {section.name or 'the section'} was set before")
-    text[offset:end] = piece.data
-    is_set[offset:end] = b"\x01" * len(piece.data)
+def put(deck: Deck, piece: Piece, text: bytearray) -> None:
+    """Puts a piece of text where its section stands. Text behind an ORG back to bytes that have text takes their place."""
+    offset = offset_in(piece, section_of(deck, piece.place, piece.section), len(piece.data), "text")
+    text[offset : offset + len(piece.data)] = piece.data
 
 
 def offset_in(piece: Piece, section: Symbol, length: int, what: str) -> int:
@@ -218,9 +220,12 @@ def offset_in(piece: Piece, section: Symbol, length: int, what: str) -> int:
     return section.at + offset
 
 
-def addresses_of(deck: Deck, base: int) -> dict[int, int]:
+def addresses_of(deck: Deck, base: int, given: dict[str, int]) -> dict[int, int]:
     """What is added for each symbol: how far its section has moved, or where what it refers to stands."""
-    defined: dict[str, int] = {}
+    for name in given:
+        if name not in (it.name for it in deck.symbols.values() if it.kind in REFERENCES):
+            raise Fault(f"{name}={given[name]:06X}", f"the deck has no external reference {name}")
+    defined = dict(given)
     for symbol in deck.symbols.values():
         if symbol.kind in SECTIONS and symbol.name:
             define(defined, symbol, base + symbol.at)
@@ -242,7 +247,7 @@ def address_of(symbol: Symbol, defined: dict[str, int], base: int) -> int:
     if symbol.kind in SECTIONS:
         return base + symbol.at - symbol.origin
     if symbol.name not in defined and symbol.kind == "ER":
-        raise Fault(symbol.place, f"nothing defines the external reference {symbol.name}")
+        raise Fault(symbol.place, f"nothing defines the external reference {symbol.name}: give its address, as {symbol.name}=180000")
     return defined.get(symbol.name, 0)
 
 

@@ -107,6 +107,7 @@ def builds_once() -> None:
         assert error.index(LIBRARY) < error.index(PROGRAM) < error.index("built: 2 crates"), error
         equal(it.calls(), ["lib low", "run coverage_program"])
         equal(it.run("table"), (7, "one: table\ninput\n", ""))
+        equal(it.run("runs"), (7, "one: runs\ninput\n", ""))
         it.write("crates/coverage_program/src/main.rt", "two")
         equal(it.run("run")[:2], (7, "two: run\ninput\n"))
         equal(len(it.calls()), 4)
@@ -126,13 +127,15 @@ def how_long() -> None:
 
 
 def needs_no_build() -> None:
-    """build: help and the scripts need no program"""
+    """build: help, the scripts and what is no command need no program"""
     with copy() as it:
         status, output, error = it.run()
         equal((status, error), (1, ""))
         equal(it.run("--help"), (0, output, ""))
         assert output.startswith("usage: coverage run < JOB > REPORT\n"), output
         equal(it.run("page")[0], 2)
+        for word in ("runs", "help", "-h", "RUN"):
+            equal(it.run(word), (1, "", f"coverage: {word} is no command: ./coverage alone says which there are\n"))
         equal(it.calls(), [])
         assert not os.path.exists(f"{it.at}/out")
 

@@ -5,12 +5,12 @@ from decks import END, ebcdic, esd, item, record, rld, txt
 from harness import TOP, Ran, coverage, equal, folder, refused, well
 from jobs import FIRST
 
-SD, LD, ER, WX = 0, 1, 2, 10
+SD, LD, ER, CM, WX = 0, 1, 2, 5, 10
 EXAMPLES = f"{TOP}/examples"
 
 
-def module_of(data: bytes, base: str = "100000", listing: bytes | None = None) -> Ran:
-    """What `module` makes of an object and a listing."""
+def module_of(data: bytes, base: str = "100000", listing: bytes | None = None, given: tuple[str, ...] = ()) -> Ran:
+    """What `module` makes of an object and a listing, and of the addresses of external references."""
     with folder() as at:
         words = ["module", "M", base, "object"]
         with open(f"{at}/object", "wb") as file:
@@ -19,7 +19,7 @@ def module_of(data: bytes, base: str = "100000", listing: bytes | None = None) -
             with open(f"{at}/listing", "wb") as file:
                 file.write(listing)
             words.append("listing")
-        return coverage(*words, cwd=at)
+        return coverage(*words, *given, cwd=at)
 
 
 def text_of(ran: Ran) -> str:
@@ -83,7 +83,7 @@ def long_lines() -> None:
         refused(module_of(FIRST.text(), listing=listing_text([heading, f"{front}{gap}LA 1,5"])), 2, "listing: line 2", "150")
         # A blank, a comment, and what has no location are no instruction lines; nor is one of the other width.
         for line in (f"{front}{gap}", f"{front}*{gap}LA", f"_{front[1:]}{gap}LA", f"{front.replace('000000 ', '000000_', 1)}{gap}LA"):
-            ran = well(module_of(FIRST.text(), listing=listing_text([heading, line])))
+            ran = well(module_of(FIRST.text(), listing=listing_text([heading, line, *rest])))
             equal(ran.output.splitlines()[4], line.rstrip()[:150].encode())
 
 
@@ -93,16 +93,64 @@ def bad_headings() -> None:
         heading, *rest = program.listing()
         for off in (heading[1:], f"  {heading}", heading.replace("  Stmt", " Stmt"), heading[:-1], heading.replace("Code ", "Code  ")):
             refused(module_of(FIRST.text(), listing=listing_text([off, *rest])), 2, "listing", "heading")
-        for good in (heading, f"1{heading}", heading.upper(), heading.lower(), f"{heading}  more"):
+        well(module_of(FIRST.text(), listing=listing_text([f" {it}" for it in (heading, *rest)])))
+        for good in (heading, heading.upper(), heading.lower(), f"{heading}  more", f"D-{heading[2:]}"):
             well(module_of(FIRST.text(), listing=listing_text([good, *rest])))
 
 
+def other_columns() -> None:
+    """module: a listing with no object code in the columns of its heading, or with a later heading in others, is refused"""
+    for program, other in ((FIRST, FIRST.wide()), (FIRST.wide(), FIRST)):
+        heading, *rest = program.listing()
+        shifted, lines = [f" {it}" for it in rest], len(rest)
+        for listing in ([heading, *shifted], [f" {heading}", *rest], [heading, *other.listing()[1:]], [heading], [heading, "* text"]):
+            refused(module_of(FIRST.text(), listing=listing_text(listing)), 2, "listing", "object code", "line 1")
+        for again in (f"1{heading}", other.listing()[0], other.listing()[0].lower()):
+            refused(module_of(FIRST.text(), listing=listing_text([heading, *rest, again, *rest])), 2, f"listing: line {lines + 2}", "line 1")
+        well(module_of(FIRST.text(), listing=listing_text([heading, *rest, heading, "-".ljust(20)])))
+        # Records without line ends, in ASCII.
+        records = "".join(it.ljust(121) for it in (heading, *rest)).encode()
+        refused(module_of(FIRST.text(), listing=records), 2, "listing", "object code")
+
+
+def ends_within() -> None:
+    """module: a byte of a line end within records of 121 and 133 bytes in EBCDIC is one of their text"""
+    for width in (121, 133):
+        lines = [*map(ebcdic, FIRST.listing()), ebcdic("* A") + b"\x15" + ebcdic("B")]
+        ran = module_of(FIRST.text(), listing=b"".join(it.ljust(width, b"\x40") for it in lines))
+        equal(well(ran).output.splitlines()[2:], [b"LISTING 5", *(it.encode() for it in FIRST.listing()), b"* A?B"])
+
+
 def sections() -> None:
-    """module: sections in their order, each from a doubleword on, with zeros between, and an odd size filled"""
+    """module: sections at their origins, or from the next doubleword on, with zeros between, and an odd size filled"""
     deck = esd(1, item("A", SD, 0, 5), item("B", SD, 8, 3)) + txt(2, 8, "AABBCC") + txt(1, 1, "0102") + END
     equal(text_of(module_of(deck)), "0001020000000000AABBCC00")
     apart = esd(1, item("A", SD, 0, 5), item("B", SD, 0, 3)) + txt(2, 0, "AABBCC") + txt(1, 1, "0102") + END
     equal(text_of(module_of(apart)), "0001020000000000AABBCC00")
+    # By origins, as START and alignment make them; a common section, of origin 0, last, whatever its number.
+    begun = esd(1, item("A", SD, 0x10, 2), item("C", CM, 0, 3), item("B", SD, 0x20, 2)) + txt(1, 0x10, "0102") + txt(3, 0x20, "0304") + END
+    equal(text_of(module_of(begun)), "00" * 16 + "0102" + "00" * 14 + "0304" + "00" * 10)
+
+
+def texts_again() -> None:
+    """module: text behind an ORG back, which comes twice, as of a table for TR; the later one counts"""
+    deck = esd(1, item("A", SD, 0, 8)) + txt(1, 0, "0000000000000000") + txt(1, 2, "C1C2") + txt(1, 3, "C3") + END
+    equal(text_of(module_of(deck)), "0000C1C300000000")
+
+
+def given_addresses() -> None:
+    """module: external references by addresses that are given, weak ones too, of a deck that has them"""
+    names = esd(1, item("A", SD, 0, 12)) + esd(2, item("SUB", ER, 0, 0), item("#WEAK", WX, 0, 0))
+    items = rld("00020001" "1C" "000000" "00030001" "0C" "000004" "00030001" "08" "000009")
+    deck = names + txt(1, 0, "000000000000000400000008") + items + END
+    equal(text_of(module_of(deck, given=("SUB=18000a",))), "0018000A" "00000004" "00000008")
+    equal(text_of(module_of(deck, given=("SUB=18000A", "#WEAK=200000"))), "0018000A" "00200004" "00200008")
+    refused(module_of(deck, given=("#WEAK=200000",)), 2, "record 2", "SUB=")
+    refused(module_of(deck, given=("SUB=180000", "OTHER=180000")), 2, "OTHER=180000", "no external reference OTHER")
+    refused(module_of(deck, given=("SUB=180000", "A=180000")), 2, "A=180000", "no external reference A")
+    refused(module_of(bytes(8), given=("SUB=180000",)), 2, "object", "no object deck")
+    for bad in (("SUB=180000", "SUB=180000"), ("SUB=180000", "listing"), ("SUB=180000", "SUB2=18000"), ("listing", "SUB=1800000")):
+        refused(module_of(deck, given=bad), 1, "usage: coverage module")
 
 
 def constants() -> None:
@@ -125,7 +173,7 @@ def labels() -> None:
     names += esd(3, item("L", ER, 0, 0), item("NONE", WX, 0, 0))
     items = rld("00030001" "0C" "000000" "00040001" "0C" "000004")
     deck = names + txt(1, 0, "0000000100000007") + items + END
-    equal(text_of(module_of(deck)), "0010000D00000007" + "0" * 16)
+    equal(text_of(module_of(deck)), "0010010500000007" + "00" * 0x100)
 
 
 DECK = esd(1, item("A", SD, 0, 8))
@@ -140,7 +188,6 @@ def bad_decks() -> None:
         (DECK + record("XYZ", {}) + END, "record 2", "unknown record"),
         (DECK + b"\x01" + text[1:] + END, "record 2", "unknown record"),
         (DECK + txt(1, 4, "0102030405") + END, "record 2", "text past the section"),
-        (DECK + text + txt(1, 2, "0102") + END, "record 3", "overlapping text: 000002"),
         (DECK + txt(7, 0, "01") + END, "record 2", "no section with the number 7"),
         (DECK + reference + text + END, "record 2", "nothing defines the external reference OUT"),
         (DECK + text, "record 3", "END record is missing"),
@@ -161,7 +208,9 @@ def bad_decks() -> None:
         (esd(1, item("A", SD, 0, 262_146)) + END, "object", "SIZE"),
         (esd(1, item("A", SD, 0, 0)) + END, "object", "0 bytes"),
         (b"\x03\xf0" + bytes(78), "object", "generalized object file"),
-        ((b"\x02ESD" + b" " * 76) * 2, "object", "translated to ASCII"),
+        *[((first + b"ESD" + b" " * 76) * 2, "object", "translated to ASCII") for first in (b"\x02", b".", b"?")],
+        (b"\x00\x54\x00\x00" + DECK + b"\x00\x54\x00\x00" + text, "object", "4 bytes before its first ESD record"),
+        (b"\x40" * 80 + DECK + text + END, "object", "80 bytes before its first ESD record"),
     ]
     for data, place, what in table:
         refused(module_of(data), 2, place, what)
@@ -181,6 +230,8 @@ def bad_modules() -> None:
     refused(coverage("module", "M", "100000", "/"), 2, "/: ")
     refused(module_of(bytes(8), listing=b"no heading\n"), 2, "listing", "heading")
     refused(module_of(bytes(8), listing=ebcdic("no heading at all")), 2, "listing", "heading")
+    # Bytes that a program has, which looks for decks itself, are no deck.
+    text_of(module_of(b"\x18\x54\x58\x54\x00\x00" + DECK[:4] + bytes(100)))
     for words in ([], ["M"], ["M", "100000"], ["M", "100000", "a", "b", "c"]):
         refused(coverage("module", *words), 1, "usage: coverage module")
 
@@ -207,6 +258,11 @@ def bad_jobs() -> None:
         (b"COVERJOB 1\n", "-: line 1", "COVERJOB"),
         (b"MODULE M 100000 2\nTEXT 07FE\nLISTING 2\nENDJOB\n", "-: line 3", "2 lines"),
         (b"PHASE P\nMODULE M 100000 2\n", "-: line 2", "behind the phase"),
+        *[(b"PHASE P\n" + it + b"\n", "-: line 2", "no card") for it in (
+            b"TASK A 100000 16 100 0\r", b"TASK A  100000 16 100 0", b"TASK A 100000 16 100 0 ", b" REG 1 00000001", b"", b"TASK\tA", b"* text",
+            b"reg 1 00000001", b"TASKS A", "INPUT Ä".encode(),
+        )],
+        (b"\xef\xbb\xbfPHASE P\n", "-: line 1", "no card"),
     ):
         refused(coverage("job", "-", data=data), 2, place, what)
     refused(coverage("job", "/no/such/file"), 2, "/no/such/file")
@@ -216,5 +272,6 @@ def bad_jobs() -> None:
 
 
 CHECKS = [
-    raw_bytes, no_listing, listings, brackets, long_lines, bad_headings, sections, constants, labels, bad_decks, bad_modules, jobs, bad_jobs,
+    raw_bytes, no_listing, listings, brackets, long_lines, bad_headings, other_columns, ends_within, sections, texts_again, given_addresses,
+    constants, labels, bad_decks, bad_modules, jobs, bad_jobs,
 ]

@@ -62,6 +62,8 @@ def commands_in_help() -> None:
     equal(sorted(it for it in usages if it.split()[0] in names), sorted(scripts))
     equal(sorted(re.sub(r" [<>].*", "", it) for it in usages if it.split()[0] not in names), sorted(own))
     words = [it.split()[0] for it in usages]
+    # The words for which the script builds the program.
+    equal(sorted(re.findall(r"^(run(?: \| [a-z]+)+)\) ;;$", text_of("coverage"), re.M)[0].split(" | ")), sorted(it.split()[0] for it in own))
     equal(re.findall(r"^  ([a-z]+) +[a-z]", text, re.M), words)
     for name, usage in zip(names, scripts):
         equal(well(coverage(name, "--help")).output.decode().splitlines()[0], f"usage: coverage {usage}")

@@ -286,7 +286,8 @@ def words_and_streams() -> None:
         refused(coverage(command, "--help", redirect=">/dev/full"), 6, "standard output")
     refused(coverage("page", "x"), 1, "usage: coverage page")
     refused(coverage("lcov"), 1, "usage: coverage lcov")
-    refused(coverage("lcov", "a", "b"), 1, "usage: coverage lcov")
+    for words in (["a", "b"], [""], ["-h"], ["--output"], ["a\nb"], ["a\tb"]):
+        refused(coverage("lcov", *words, data=FIRST_REPORT), 1, "usage: coverage lcov")
     for words in (["page"], ["lcov", "/dev/null/x"]):
         refused(coverage(*words, redirect="</"), 5, "standard input")
         refused(coverage(*words, redirect="<&-"), 5, "standard input")
