@@ -182,9 +182,29 @@ def exits() -> list[Case]:
         runs("no exit under run", divide, TASK, Result("BADSVC 6", 2, 0, {1: 0x10000A}), "::^^^^", 6, "000006-00000D"),
         Case("exits of a task that has none", ["exits"], FIRST.job(), FIRST_REPORT),
         Case("exits by the script", ["exits"], divide.job(), report, command=COVERAGE),
+        *where_interrupted(),
         Case("exits with a name", ["exits", "S"], divide.job(), USAGE, 1),
         Case("a line behind the job of exits", ["exits"], FIRST.job() + b"\n", b"BAD JOB LINE 13\n", 2),
         Case("a job's end that is missing, under exits", ["exits"], FIRST.job().removesuffix(b"ENDJOB\n"), b"BAD JOB LINE 12\n", 2),
+    ]
+
+
+def where_interrupted() -> list[Case]:
+    """exits: docs/MACHINE.md's module in front of a program, which tells where that is interrupted"""
+    with open(f"{TOP}/docs/MACHINE.md", encoding="utf-8") as file:
+        cards = "".join(f"{it}\n" for it in re.findall(r"^    ((?:MODULE|TEXT) .*)$", file.read(), re.M))
+    program = Program.of("0 1823 LR, 2 58402000 L, 6 07FE BR")
+
+    def case(name: str, address: int, ending: str, count: int, registers: dict[int, int], marks: str, *ranges: str) -> Case:
+        own = {2: address, 3: address, 11: 0x40, 12: 0x100000, 15: 0x100000, **registers}
+        values = {3: address, 11: 0x40, 12: 0x100000}
+        tasks = task(" / ".join(f"REG {at} {value:08X}" for at, value in values.items()), "TASK A 180000 16 100 0\n")
+        job = program.job(tasks).replace(b"PHASE P\n", f"{cards}PHASE P\n".encode())
+        return Case(name, ["exits"], job, program.report([Result(ending, count, 0, own)], marks, 3, *ranges))
+
+    return [
+        case("an interruption behind the module that tells where", 0xF00000, "EXIT", 8, {0: 5, 1: 0x100002}, "::^", "000006-000007"),
+        case("none behind that module", 0, "RETURNED", 8, {1: 0x40}, ":::"),
     ]
 
 
