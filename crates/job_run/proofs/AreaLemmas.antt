@@ -58,6 +58,7 @@ ends_area plan walks ended trace f is observes joins sets tally =
       sets = λ p h k. exact_set plan start ended trace f is (ready plan ended.given ended.out is) observes sets p h k;
       bounded = bounded plan walks (after_planting plan) ended f is joins sets;
       within = sets.within;
+      over = sets.over;
       plants = joins.plants ∙ ap (λ (n : ℕ). n + opened_places plan walks) planted;
       fetches = observes.fetches ∙ zero-add _;
       facts = tally.marks;

@@ -5,8 +5,9 @@ ghost use Rattle.cov_base.specs.Codes.{breakpoint};
 ghost use Rattle.cov_base.specs.Memory.{half_at};
 ghost use Rattle.module_area.specs.PlanView.{original_at, place_of};
 ghost use Rattle.module_area.specs.Notes.{calls, is_working};
+ghost use Rattle.brk_table.specs.Places.{AreSeen};
 ghost use Rattle.s370_exec.specs.Fetch.{first_tests};
-ghost use Rattle.svc_monitor.specs.First.{IsOver, IsPlaced, IsMet, half_of};
+ghost use Rattle.svc_monitor.specs.First.{IsPlaced, IsMet, half_of};
 
 use brk_table::Tables;
 use cov_base::{Addr, BREAKPOINT, PlaceNo};
@@ -67,7 +68,7 @@ fn at_place<C: Cells>(cells: &C, pass: &mut C::Pass, tables: &Tables, place: Pla
 
 /// The original first halfword of the instruction at the address. Code 6 exactly at an odd address, else code 5
 /// exactly where the halfword is inaccessible; neither takes a step on the area. Where a place begins there its cell
-/// is fetched, which is the only step.
+/// is fetched, which is the only step. No kept instruction is read, so tables without them will do.
 #[inline(always)]
 pub fn first_half<C: Cells, P: Space>(
     cells: &C,
@@ -77,7 +78,8 @@ pub fn first_half<C: Cells, P: Space>(
     at: Addr,
 ) -> Result<Met, Ending>
     requires area { C.is_pass cells.now pass.old }
-    requires over { IsOver (C.plan cells.now) (P.memory space.now) tables.now }
+    requires plan { (C.plan cells.now).places ≡ tables.now.places }
+    requires seen { AreSeen (P.memory space.now) tables.now.places }
     requires room { calls (C.notes pass.old) < 2 ^ 61 + 2 ^ 16 }
     requires working { is_working (C.notes pass.old) ≡ true }
     ensures area { C.is_pass cells.now pass.new }
