@@ -38,6 +38,8 @@ pub record Notes : Type 0 where
   pub noted : List NotedView
   -- it knows that the set is the final one: session, place, set
   pub settled : ℕ → ℕ → FactSet → Bool
+  -- the set that its last mark or look at a set found
+  pub found : Option FactSet
   pub tally : Tally
   -- the task that it bears, or none for the root
   pub bears : Option ℕ
@@ -60,6 +62,7 @@ root_notes = record {
   numbers = λ t. 0;
   noted = [];
   settled = λ s p x. false;
+  found = None;
   tally = no_tally;
   bears = None;
   given = λ t. false;
@@ -109,6 +112,7 @@ abbrev pub after_mark : PlanView → Notes → ℕ → ℕ → Fact → FactSet 
 after_mark plan n s p f found = record n {
   marked = λ t q g. n.marked t q g || (nat_eq t s && nat_eq q p && same_fact g f);
   full = λ t q. n.full t q || (nat_eq t s && nat_eq q p && is_full (kind_at plan p) (with_fact found f));
+  found = Some found;
   tally = record n.tally { marks = n.tally.marks + 1 };
 }
 
@@ -196,6 +200,7 @@ after_note n t found = record n { noted = record { task = t; number = found; see
 abbrev pub after_read : PlanView → Notes → ℕ → ℕ → FactSet → Notes
 after_read plan n s p found = record n {
   settled = λ t q x. n.settled t q x || (is_final plan n s p && (nat_eq t s && nat_eq q p && same_set found x));
+  found = Some found;
 }
 
 -- What a look at a task's word may find: no number below one that it noted; its own number.
