@@ -21,7 +21,7 @@ looking_none n = record { more = []; same = refl; known = λ s p x h. h }
 pub looking_trans : (a b c : Notes) → IsLooking a b → IsLooking b c → IsLooking a c
 looking_trans a b c x y = record {
   more = y.more ++ x.more;
-  same = y.same ∙ (ap (λ (n : Notes). record n { noted = y.more ++ n.noted; settled = c.settled }) x.same ∙ ap (λ (es : List NotedView). record a { noted = es; settled = c.settled }) (sym (append_assoc y.more x.more a.noted)));
+  same = y.same ∙ (ap (λ (n : Notes). record n { noted = y.more ++ n.noted; settled = c.settled; found = c.found }) x.same ∙ ap (λ (es : List NotedView). record a { noted = es; settled = c.settled; found = c.found }) (sym (append_assoc y.more x.more a.noted)));
   known = λ s p s_x h. y.known s p s_x (x.known s p s_x h);
 }
 

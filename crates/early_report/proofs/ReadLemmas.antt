@@ -95,9 +95,9 @@ pub Reads-next : (plan : PlanView) (s : ℕ) (old new : Notes) (ps : List PlaceN
     Reads plan s (after_read plan old s p.0 x) new (drop (i + 1) ps) xs → Reads plan s old new (drop i ps) (x ∷ xs)
 Reads-next plan s old new ps xs i p x l at found rest = rw (drop_more ps i p l, at) (found, rest)
 
--- reads change nothing but what is known as final
-pub Reads-aside : (plan : PlanView) (s : ℕ) (old new : Notes) (ps : List PlaceNo) (xs : List FactSet) → Reads plan s old new ps xs → new ≡ record old { settled = new.settled }
-Reads-aside plan s old new [] [] r = r ∙ ap (λ (n : Notes). record old { settled = n.settled }) (sym r)
+-- reads change nothing but what is known as final and the sets that were found
+pub Reads-aside : (plan : PlanView) (s : ℕ) (old new : Notes) (ps : List PlaceNo) (xs : List FactSet) → Reads plan s old new ps xs → new ≡ record old { settled = new.settled; found = new.found }
+Reads-aside plan s old new [] [] r = r ∙ ap (λ (n : Notes). record old { settled = n.settled; found = n.found }) (sym r)
 Reads-aside plan s old new [] (x ∷ xs) r = absurd r
 Reads-aside plan s old new (p ∷ ps) [] r = absurd r
 Reads-aside plan s old new (p ∷ ps) (x ∷ xs) r = Reads-aside plan s (after_read plan old s p.0 x) new ps xs r.1

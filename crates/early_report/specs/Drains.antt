@@ -125,5 +125,5 @@ pub record AreKnown (n : Notes) (s : ℕ) (places : List PlaceNo) (sets : List F
 -- the pass has looked at tasks and sets, and has done nothing else
 pub record IsLooking (old new : Notes) : Type 0 where
   pub more : List NotedView
-  pub same : new ≡ record old { noted = more ++ old.noted; settled = new.settled }
+  pub same : new ≡ record old { noted = more ++ old.noted; settled = new.settled; found = new.found }
   pub known : (s p : ℕ) (x : FactSet) → old.settled s p x ≡ true → new.settled s p x ≡ true

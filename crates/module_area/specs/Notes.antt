@@ -38,6 +38,8 @@ pub record Notes : Type 0 where
   pub noted : List NotedView
   -- it knows that the set is the final one: session, place, set
   pub settled : ℕ → ℕ → FactSet → Bool
+  -- the sets that its own marks and looks at sets found, the last first
+  pub found : List FactSet
   pub tally : Tally
   -- the task that it bears, or none for the root
   pub bears : Option ℕ
@@ -60,6 +62,7 @@ root_notes = record {
   numbers = λ t. 0;
   noted = [];
   settled = λ s p x. false;
+  found = [];
   tally = no_tally;
   bears = None;
   given = λ t. false;
@@ -109,6 +112,7 @@ abbrev pub after_mark : PlanView → Notes → ℕ → ℕ → Fact → FactSet 
 after_mark plan n s p f found = record n {
   marked = λ t q g. n.marked t q g || (nat_eq t s && nat_eq q p && same_fact g f);
   full = λ t q. n.full t q || (nat_eq t s && nat_eq q p && is_full (kind_at plan p) (with_fact found f));
+  found = found ∷ n.found;
   tally = record n.tally { marks = n.tally.marks + 1 };
 }
 
@@ -196,6 +200,7 @@ after_note n t found = record n { noted = record { task = t; number = found; see
 abbrev pub after_read : PlanView → Notes → ℕ → ℕ → FactSet → Notes
 after_read plan n s p found = record n {
   settled = λ t q x. n.settled t q x || (is_final plan n s p && (nat_eq t s && nat_eq q p && same_set found x));
+  found = found ∷ n.found;
 }
 
 -- What a look at a task's word may find: no number below one that it noted; its own number.
@@ -204,7 +209,7 @@ pub record IsWord (n : Notes) (t found : ℕ) : Type 0 where
   pub own : n.bears ≡ Some t → found ≡ own_number n
 
 -- the root after another pass was joined to it: it takes over the places that the pass's task controls, and drops
--- the pass's answered pairs
+-- the pass's answered pairs and the sets that it found
 abbrev pub after_join : PlanView → Notes → Notes → Notes
 after_join plan n other = record n {
   marked = λ s p f. n.marked s p f || other.marked s p f;

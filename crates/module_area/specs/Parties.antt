@@ -54,7 +54,7 @@ is_lifted plan p c = nat_eq c.half (original_at plan p) && nat_eq (c.tag % 2) 1
 
 -- a party that has done and knows nothing
 abbrev pub blank : Role → View
-blank r = record { role = r; marked = []; full = []; free = []; lifted = []; seen = []; pending = None; answered = []; planted = []; given = []; joined = []; numbers = []; noted = []; settled = [] }
+blank r = record { role = r; marked = []; full = []; free = []; lifted = []; seen = []; pending = None; answered = []; planted = []; given = []; joined = []; numbers = []; noted = []; settled = []; found = [] }
 
 -- A fetch at place p found the cell.
 abbrev pub fetching : PlanView → ℕ → Cell → View → View
@@ -71,6 +71,7 @@ abbrev pub marking : PlanView → ℕ → ℕ → Fact → FactSet → View → 
 marking plan s p f found v = record v {
   marked = (s, p, f) ∷ v.marked;
   full = add_if (is_full (kind_at plan p) (with_fact found f)) (s, p) v.full;
+  found = found ∷ v.found;
 }
 
 -- A lift for session s at place p exchanged, or not.
@@ -124,4 +125,4 @@ noting t n v = record v { noted = (t, n, v.seen) ∷ v.noted }
 
 -- A look at the set of session s at place p found the set, and it is final, or that isn't known.
 abbrev pub reading : ℕ → ℕ → Bool → FactSet → View → View
-reading s p final found v = record v { settled = add_if final (s, p, found) v.settled }
+reading s p final found v = record v { settled = add_if final (s, p, found) v.settled; found = found ∷ v.found }

@@ -39,4 +39,6 @@ pub struct View {
     pub noted: LinkedList<(u64, u64, LinkedList<(u64, u64)>)>,
     /// Session, place and set, where it knows the set as final.
     pub settled: LinkedList<(u64, u64, Bits)>,
+    /// The set of each of its marks and looks at sets, the last first.
+    pub found: LinkedList<Bits>,
 }

@@ -36,7 +36,7 @@ pub trait Cells {
         ensures notes { notes pass.new ≡ after_fetch (plan self.now) (notes pass.old) place.0 result };
 
     /// Adds the fact, one of the place's kind, to the session's set at the place, where the pass has just fetched the
-    /// session's breakpoint, and answers the set as it was.
+    /// session's breakpoint, and answers the set as it was, which the notes have as the one that it found.
     fn mark(&self, pass: &mut Self::Pass, s: SessNo, place: PlaceNo, fact: Fact) -> Bits
         requires area { is_pass self.now pass.old }
         requires working { is_working (notes pass.old) ≡ true }
@@ -103,8 +103,8 @@ pub trait Forks: Cells {
         ensures notes { Self.notes root.new ≡ after_split (Self.notes root.old) task.0 }
         ensures fresh { Self.notes result ≡ split_notes (Self.plan self.now) (Self.notes root.old) task.0 };
 
-    /// Adds to the root what a pass that was split from it has done and knows, but for its answered pairs, and gives the
-    /// root the places that it kept, under its last tags. Both tallies together sum to at most 2^62.
+    /// Adds to the root what a pass that was split from it has done and knows, but for its answered pairs and the sets that
+    /// it found, and gives the root the places that it kept, under its last tags. Both tallies together sum to at most 2^62.
     fn join(&self, root: &mut Self::Pass, other: Self::Pass)
         requires area { Self.is_pass self.now root.old }
         requires other { Self.is_pass self.now other }
@@ -137,8 +137,9 @@ pub trait Drains: Forks {
         ensures word { IsWord (Self.notes pass.old) task.0 result }
         ensures notes { Self.notes pass.new ≡ after_note (Self.notes pass.old) task.0 result };
 
-    /// The set of the session at the place as it stands. It is the session's final one where that is a controlled one, and
-    /// the pass knows it over there, has no breakpoint of it in hand there, and knows each other task of the plan past it.
+    /// The set of the session at the place as it stands, which the notes have as the one that it found. It is the session's
+    /// final one where that is a controlled one, and the pass knows it over there, has no breakpoint of it in hand there,
+    /// and knows each other task of the plan past it.
     fn read_set(&self, pass: &mut Self::Pass, s: SessNo, place: PlaceNo) -> Bits
         requires area { Self.is_pass self.now pass.old }
         requires place { place.0 < length (Self.plan self.now).places }

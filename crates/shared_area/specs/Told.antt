@@ -51,6 +51,7 @@ notes_in v tally = record {
   numbers = λ t. last_tag t v.numbers;
   noted = map told_note v.noted;
   settled = λ s p x. has_settled s p x v.settled;
+  found = v.found;
   tally = tally;
   bears = bears_as v.role;
   given = λ t. has_number t v.given;

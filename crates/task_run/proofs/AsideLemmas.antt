@@ -114,7 +114,7 @@ step_over plan old new visits c call tie t p x last seen =
 -- boundaries, and looks at tasks and sets
 
 pub aside_more : (a b c : Notes) → IsAside a b → IsAside b c → IsAside a c
-aside_more a b c x y = record { same = y.same ∙ ap (λ (n : Notes). record n { pending = c.pending; numbers = c.numbers; noted = c.noted; settled = c.settled }) x.same }
+aside_more a b c x y = record { same = y.same ∙ ap (λ (n : Notes). record n { pending = c.pending; numbers = c.numbers; noted = c.noted; settled = c.settled; found = c.found }) x.same }
 
 pub aside_boundary : (n : Notes) (ended : Bool) → IsAside n (after_boundary n ended)
 aside_boundary n ended = record { same = refl }

@@ -31,7 +31,7 @@ loop-i-preserved g c =
     record {
       area = c.read_set.ensures.area;
       size = length-set xs i x ∙ c.loop-i.invariant.size;
-      same = notes ∙ ap (λ (k : Notes). record k { settled = (after_read plan n s p.0 x).settled }) c.loop-i.invariant.same ∙ ap (λ (k : Notes). record (g.C.Cells.notes c.args.pass.now) { settled = k.settled }) (sym notes);
+      same = notes ∙ ap (λ (k : Notes). record k { settled = (after_read plan n s p.0 x).settled; found = x ∷ n.found }) c.loop-i.invariant.same ∙ ap (λ (k : Notes). record (g.C.Cells.notes c.args.pass.now) { settled = k.settled; found = k.found }) (sym notes);
       reads = λ new rest h.
           let next = Reads-next plan s n new ps rest i p x l (get_or_default ps i p no_place l) c.read_set.ensures.found (subst (λ (k : Notes). Reads plan s k new (drop (i + 1) ps) rest) notes h) in
           subst (Reads plan s (g.C.Cells.notes c.args.pass.now) new ps)
