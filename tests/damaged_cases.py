@@ -114,6 +114,13 @@ def table(data: bytes) -> bytes:
     return model.table_text(listed(data, True))
 
 
+def ends(data: bytes) -> bytes:
+    """Each instruction of the first job runs once; those count that a damaged listing has no longer."""
+    ((_, _, modules),) = listed(data, True).sessions
+    lost = len(FIRST_FACTS) - len(modules[0].table())
+    return b"COVERAGE ENDS\nTASK A RETURNED COUNT 3 AT FFFFFE\nUNLISTED M %d\nEND\n" % lost
+
+
 def replay(data: bytes) -> bytes:
     """The items up to the first that differs, or that fetches at a place that a damaged listing has no longer."""
     it = listed(data, False)
@@ -169,6 +176,7 @@ def commands() -> list[Command]:
         Command(["count"], job(), count),
         Command(["marks", "S"], job(), marks),
         Command(["table"], three_modules(), table),
+        Command(["ends"], FIRST.job(), ends),
         Command(["replay"], job() + items, replay),
         Command(["combine"], FILE + COUNTED.marks_file(2, 0, version=1), model.combined),
         Command(["show", "S"], job() + BOTH, show),

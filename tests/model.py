@@ -92,13 +92,14 @@ class Module:
 
 @dataclass
 class Job:
-    """A job, and how many bytes and lines its cards are."""
+    """A job, its cards with their fields, and how many bytes and lines these are."""
 
     modules: list[Module] = field(default_factory=list)
     phases: list[bytes] = field(default_factory=list)
     # Of each session its name, its phase and its modules.
     sessions: list[tuple[bytes, bytes, list[Module]]] = field(default_factory=list)
     tasks: list[bytes] = field(default_factory=list)
+    cards: list[tuple[bytes, list[bytes]]] = field(default_factory=list)
     end: int = 0
     lines: int = 0
 
@@ -144,7 +145,8 @@ class Reader:
         for kind in kinds:
             found = re.fullmatch(CARDS[kind], text)
             if found:
-                return kind, list(found.groups())
+                self.job.cards.append((kind, list(found.groups())))
+                return self.job.cards[-1]
         self.bad()
 
     def read(self) -> Job:
@@ -177,8 +179,7 @@ class Reader:
 
     def listing_line(self) -> bytes:
         text, ended = self.line()
-        if ended and text.endswith(b"\r"):
-            text = text[:-1]
+        text = text[:-1] if ended and text.endswith(b"\r") else text
         if len(text) > 150:
             raise Refused(4, f"TOO LARGE LINE LINE {self.number}")
         return text
@@ -249,24 +250,35 @@ def read_listings(job: Job) -> None:
 
 
 def places_of(module: Module, listing: list[bytes]) -> list[Place | None]:
-    """The place of each line. The faults behind OBJECT can't come of a change to blank, 00 or FF, and mustn't."""
+    """The place of each line."""
     name = module.name.decode()
     heads = [(at, column - 3, *width) for at, it in enumerate(listing) for width in WIDTHS for column in (3, 4)
              if it[column - 1 :].lower().startswith(width[0])]
     if not heads:
         raise Refused(12, f"BAD LISTING {name} LINE 0 HEADING")
     first, shift, _, digits, end, source = heads[0]
-    places: list[Place | None] = [None] * (first + 1)
+    found: list[tuple[int, bytes] | None] = [None] * (first + 1)
     for number, line in enumerate(listing[first + 1 :], first + 2):
         code = object_code(line[shift:].ljust(150), digits, end, source)
         if code == b"":
             raise Refused(12, f"BAD LISTING {name} LINE {number} OBJECT")
-        place = None
-        if code:
-            place = Place(int(line[shift : shift + digits], 16), len(code), code[:2])
-            assert code == module.text[place.location : place.location + place.length], "a listing that doesn't match"
-        places.append(place)
-    return places
+        found.append((int(line[shift : shift + digits], 16), code) if code else None)
+    taken: set[int] = set()
+    return [it and place_of(module, number, *it, taken) for number, it in enumerate(found, 1)]
+
+
+def place_of(module: Module, number: int, location: int, code: bytes, taken: set[int]) -> Place:
+    """The place of a line, unless it has a fault; its bytes are taken then."""
+    name, own, text = module.name.decode(), range(location, location + len(code)), module.text[location : location + len(code)]
+    why = "ODD" if location % 2 else "OUTSIDE" if len(text) < len(code) else "" if taken.isdisjoint(own) else "OVERLAP"
+    if why:
+        raise Refused(12, f"BAD LISTING {name} LINE {number} {why}")
+    taken.update(own)
+    if code[:2] == b"\x0a\xff":
+        raise Refused(8, f"OWN SVC {name} LINE {number}")
+    if code != text:
+        raise Refused(3, f"MISMATCH {name} LINE {number} LOC {location:06X} LISTING {code.hex().upper()} MODULE {text.hex().upper()}")
+    return Place(location, len(code), code[:2])
 
 
 def object_code(line: bytes, digits: int, end: int, source: int) -> bytes | None:

@@ -291,7 +291,7 @@ def commands() -> list[Case]:
         Case("an empty word", [""], job, USAGE, 1),
         Case("a word that is no UTF-8", ["\udcff"], job, USAGE, 1),
         Case("--help is no word of the program", ["--help"], job, USAGE, 1),
-        Case("an unknown word by the script", ["runs"], job, USAGE, 1, command=COVERAGE),
+        Case("an unknown word by the script", ["runs"], job, USAGE, 1, "the words are none of its commands", command=COVERAGE),
         Case("an unknown word, nothing read", ["runs"], b"", USAGE, 1, redirect="</"),
     ]
 
@@ -398,11 +398,11 @@ def streams() -> list[Case]:
         Case("a full output, of verify", ["verify", "X"], job, b"", 6, redirect=">/dev/full"),
         Case("a full output for a refusal", ["run"], b"", b"", 6, redirect=">/dev/full"),
         Case("a full output for the usage", [], b"", b"", 6, redirect=">/dev/full"),
-        Case("a full output by the script", ["run"], job, b"", 6, redirect=">/dev/full", command=COVERAGE),
+        Case("a full output by the script", ["run"], job, b"", 6, "standard output could not be written", ">/dev/full", command=COVERAGE),
         Case("a closed input", ["run"], b"", b"READ FAULT\n", 5, redirect="<&-"),
         Case("a closed output", ["run"], job, b"", 6, redirect=">&-"),
         Case("no memory", ["run"], large_job(), b"NO MEMORY\n", 7, before="ulimit -v 40000"),
-        Case("a folder as input by the script", ["run"], b"", b"READ FAULT\n", 5, redirect="</", command=COVERAGE),
+        Case("a folder as input by the script", ["run"], b"", b"READ FAULT\n", 5, "standard input could not be read", "</", command=COVERAGE),
     ]
 
 
@@ -433,7 +433,7 @@ def counts_of_orders() -> None:
         assert line in lines, line
     report = well(run([PROGRAM, "run"], job)).output
     page = well(run([COVERAGE, "page"], report + counts)).output.decode()
-    assert re.search(r">&amp;</span> +2 4 +00002E ", page) and re.search(r">V</span> +0 4 +000036 ", page), page[:500]
+    assert re.search(r"\n&amp; 2 4 00002E 4780 C08C ", page) and re.search(r">V 0 4 000036 4740 C0E0 ", page), page[:500]
 
 
 CHECKS = [broken_pipe, counts_of_orders]

@@ -10,8 +10,6 @@ mod line_places;
 mod map;
 mod places;
 mod tables;
-#[cfg(test)]
-mod tests;
 
 pub use builder::build;
 pub use faults::BuildFault;

@@ -13,8 +13,6 @@ mod rule;
 mod run;
 mod slots;
 mod steps;
-#[cfg(test)]
-mod tests;
 mod words;
 
 pub use cells::CountCells;

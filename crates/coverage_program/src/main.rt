@@ -1,29 +1,8 @@
 //! The coverage utility.
 #![tactic(auto)]
 
-mod combining;
-mod counting;
-mod cover;
-mod early;
-mod incoming;
-mod lines;
-mod named;
-mod proving;
-mod ready;
-mod refusals;
-mod replay;
-mod schedule;
-mod showing;
-mod status;
-mod tables;
-#[cfg(test)]
-mod tests;
-mod trial;
-mod verifying;
-mod words;
-
 use cov_outside::{OpenGate, StdSink, StdSource};
-use cover::cover;
+use coverage_commands::cover;
 use shared_area::SharedAreas;
 use std::alloc::AllocError;
 use std::io::BufWriter;

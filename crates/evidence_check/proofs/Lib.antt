@@ -7,6 +7,5 @@ pub mod FactLemmas
 pub mod FieldLemmas
 pub mod NoteLemmas
 pub mod PhaseLemmas
-pub mod RunLemmas
 pub mod VerifiedLemmas
 pub mod VisitLemmas

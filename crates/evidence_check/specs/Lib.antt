@@ -3,6 +3,6 @@ pub mod Evidence
 pub mod Fields
 pub mod Firsts
 pub mod Found
+pub mod Noted
 pub mod Proved
-pub mod Seen
 pub mod Verified

@@ -5,11 +5,11 @@ ghost use Rattle.cov_base.specs.Facts.{same_fact, fact_of};
 ghost use Rattle.cov_base.specs.declared.facts.Fact.{Fact as AnyFact};
 ghost use Rattle.module_area.specs.PlanView.{place_of};
 ghost use Rattle.evidence_check.specs.Found.{found_of, found_at, none_found, Notes};
-ghost use Rattle.evidence_check.specs.Seen.{visit_of, visits_of};
+ghost use Rattle.task_alone.specs.Seen.{visit_of, visits_of};
 
-use crate::steps::{Seen, Visits};
 use brk_table::Tables;
 use cov_base::{Fact, PlaceNo};
+use task_alone::{Seen, Visits};
 
 /// A visit: the index of its task in the job, the instructions that the task had done before, and whether it is of the
 /// subject of an EX.

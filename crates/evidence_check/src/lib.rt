@@ -7,7 +7,6 @@ mod fields;
 mod firsts;
 mod proving;
 mod runs;
-mod steps;
 mod verifying;
 mod writing;
 

@@ -1,53 +1,59 @@
 //! The run of each task of a phase, alone over modules that were never planted.
 ghost use Rattle.std.specs.Prelude.{◌≡◌, ◌<◌, length, All, IfOk, OnOk};
-ghost use Rattle.s370_exec.specs.Solo.{state_of, solo_run};
-ghost use Rattle.space_map.specs.Space.{memory_of_space};
 ghost use Rattle.brk_table.specs.Places.{IsIn};
 ghost use Rattle.evidence_check.specs.Firsts.{trace_of};
 ghost use Rattle.evidence_check.specs.Found.{Notes, AreFirsts};
 
 use crate::firsts::{Found, note_visits};
-use crate::steps::step;
 use brk_table::Tables;
 use cov_base::NoMemory;
-use s370_exec::has_returned;
-use s370_state::Next;
 use session_book::{Begun, Job, begin};
 use std::alloc::Global;
+use task_alone::{Visits, Watcher, run_alone};
 
-/// Runs task t until it ends, or has done as many instructions as its budget, and notes its visits.
-fn run_task(tables: &Tables, found: &mut [Found], t: u16, budget: u32, task: &mut Begun<'_>)
-    requires size { length found.old ≡ length tables.now.places }
-    ensures { Notes tables.now.places t (solo_run (memory_of_space task.old.space) budget (state_of task.old.cpu task.old.space.bytes task.old.io 0)).trace found.old found.new }
-{
-    for done in 0..budget {
-        if has_returned(&task.cpu) {
-            return;
-        }
-        let stepped = step(&mut task.cpu, &mut task.space, &mut task.io);
-        note_visits(tables, found, t, done, stepped.visits);
-        if let Next::Ended(_) = stepped.next {
-            return;
-        }
+/// Notes a task's visits, among those of the tasks that ran before it.
+#[derive(Drop)]
+struct Notebook<'a> {
+    tables: &'a Tables,
+    // the task's index in the job
+    task: u16,
+    found: Vec<Found>,
+}
+
+impl<'a> Watcher for Notebook<'a> {
+    ghost use Rattle.std.specs.Prelude.{◌≡◌, length};
+    ghost use Rattle.evidence_check.specs.Noted.{HasNoted};
+
+    ghost IsReady = { λ notebook done. length notebook.found.items ≡ length notebook.tables.now.places };
+
+    ghost HasSeen = { λ first visits notebook. HasNoted first visits notebook };
+
+    fn see(&mut self, done: u32, visits: Visits) {
+        note_visits(self.tables, &mut self.found, self.task, done, visits);
     }
 }
 
 /// Runs task t of the job as its card says, and notes its visits.
-fn add_task(
+fn add_task<'a>(
     alloc: Global,
-    job: &Job,
-    tables: &Tables,
-    found: &mut [Found],
+    job: &'a Job,
+    notebook: &mut Notebook<'a>,
     t: u16,
 ) -> Result<(), NoMemory>
     requires task { t < length job.now.tasks }
-    requires tables { All (IsIn job.now.images) tables.now.places }
-    requires size { length found.old ≡ length tables.now.places }
-    ensures { OnOk result (Notes tables.now.places t (trace_of job.now tables.now.places t) found.old found.new) }
+    requires tables { All (IsIn job.now.images) notebook.old.tables.now.places }
+    requires size { length notebook.old.found.items ≡ length notebook.old.tables.now.places }
+    ensures tables { notebook.new.tables.now ≡ notebook.old.tables.now }
+    ensures noted { OnOk result (Notes notebook.old.tables.now.places t (trace_of job.now notebook.old.tables.now.places t) notebook.old.found.items notebook.new.found.items) }
 {
-    let budget = job.card(t as usize).budget;
-    let mut task = begin(alloc, job, tables, t as usize)?;
-    run_task(tables, found, t, budget, &mut task);
+    notebook.task = t;
+    let card = job.card(t as usize);
+    let Begun {
+        mut cpu,
+        mut space,
+        mut io,
+    } = begin(alloc, job, notebook.tables, t as usize)?;
+    run_alone(&mut cpu, &mut space, &mut io, card.budget, notebook);
     Ok(())
 }
 
@@ -62,11 +68,16 @@ pub(crate) fn find_firsts(
     requires tables { All (IsIn job.now.images) tables.now.places }
     ensures { IfOk result (λ v. AreFirsts job.now tables.now.places phase v.items) }
 {
-    let mut found = vec![in alloc; Found::none(); tables.len() as usize]?;
+    let found = vec![in alloc; Found::none(); tables.len() as usize]?;
+    let mut notebook = Notebook {
+        tables,
+        task: 0,
+        found,
+    };
     for t in 0..job.task_count() {
         if job.card(t).phase == phase {
-            add_task(alloc, job, tables, &mut found, t as u16)?;
+            add_task(alloc, job, &mut notebook, t as u16)?;
         }
     }
-    Ok(found)
+    Ok(notebook.found)
 }

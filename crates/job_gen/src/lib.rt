@@ -8,6 +8,3 @@ mod listing;
 mod tasks;
 
 pub use jobs::trial;
-
-#[cfg(test)]
-mod tests;

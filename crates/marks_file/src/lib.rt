@@ -18,6 +18,3 @@ pub use reading::read;
 pub use rows::{module_row, place_row};
 pub use version::Version;
 pub use writing::write;
-
-#[cfg(test)]
-mod tests;

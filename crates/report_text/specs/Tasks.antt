@@ -22,9 +22,13 @@ ending_words (Some (Touched at)) = codes "TOUCHED " ++ hex_digits 6 at
 ending_words (Some OutFull) = codes "OUTFULL"
 ending_words (Some Spent) = codes "SPENT"
 
--- its name, its ending, the instructions done, and the condition code
+-- its name, its ending and the instructions done
+unfoldable pub task_words : List ℕ → Option Ending → ℕ → List ℕ
+task_words name ending done = codes "TASK " ++ unpadded name ++ codes " " ++ ending_words ending ++ codes " COUNT " ++ decimal done
+
+-- and the condition code
 unfoldable pub task_line : List ℕ → Option Ending → ℕ → ℕ → List ℕ
-task_line name ending done condition = codes "TASK " ++ unpadded name ++ codes " " ++ ending_words ending ++ codes " COUNT " ++ decimal done ++ codes " CC " ++ decimal condition
+task_line name ending done condition = task_words name ending done ++ codes " CC " ++ decimal condition
 
 -- a label and registers, each after a blank
 unfoldable pub register_line : List ℕ → List ℕ → List ℕ

@@ -54,9 +54,10 @@ fn add_facts<R: FactCounts>(
     }
 }
 
-/// A place by its location, with its counts.
+/// A place's line by its location, below 2^24, with its counts in session s: how often it ran, or how often it branched and
+/// fell through.
 #[tactic(auto, unfolding(crate::specs::Counts::count_line))]
-pub(crate) fn count_line<R: FactCounts>(
+pub fn count_line<R: FactCounts>(
     location: u32,
     kind: Kind,
     results: &R,

@@ -11,14 +11,12 @@ mod whole;
 mod words;
 mod writing;
 
-pub use counts::count_text;
-pub use places::table;
-pub use sessions::session_part;
+pub use counts::{count_line, count_text};
+pub use places::{is_monitored, table};
+pub use sessions::{module_name, session_part};
+pub use storage::storage_part;
 pub use tasks::task_part;
 pub use trial::trial_text;
 pub use whole::{report, results_part, tasks_text, words_line};
-pub use words::add_bytes;
+pub use words::{add_bytes, add_name, task_words};
 pub use writing::put;
-
-#[cfg(test)]
-mod tests;

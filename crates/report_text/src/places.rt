@@ -85,8 +85,8 @@ fn place_lines<K: Sink>(
     Ok(())
 }
 
-/// Whether the module has a listing.
-fn is_monitored(job: &Job, m: u32) -> bool
+/// Whether the module of that number has a listing.
+pub fn is_monitored(job: &Job, m: u32) -> bool
     requires { m < length job.now.images }
     ensures { result ≡ is_monitored job.now m }
 {

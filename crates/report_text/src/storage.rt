@@ -113,7 +113,8 @@ fn block_part<K: Sink, R: Results>(
     Ok(())
 }
 
-/// The rows of a task's private storage that have changed.
+/// The rows of a task's private storage that have changed, each of at most 16 bytes, by rising offset. Failed only where the
+/// sink's count of faults rose; the sink has then taken a first part of them. Takes no memory.
 pub fn storage_part<K: Sink, R: Results>(
     sink: &mut K,
     task: &TaskCard,

@@ -8,7 +8,7 @@ ghost use Rattle.report_text.specs.Text.{hex_bytes, text_of, row_of, row_count, 
 ghost use Rattle.report_text.specs.Writes.{WritesLines};
 
 use crate::storage::storage_part;
-use crate::words::{add_bytes, add_ending, add_name, add_registers};
+use crate::words::{add_bytes, add_registers, task_words};
 use crate::writing::put;
 use annotator::text::{add_number, add_text};
 use arrayvec::ArrayVec;
@@ -22,13 +22,7 @@ use session_book::{Job, Results};
 fn task_line(name: &Name, ending: Option<Ending>, done: u32, condition: u8) -> ArrayVec<u8, 160>
     ensures { result.items ≡ task_line name.now ending done condition ++ 10 ∷ [] }
 {
-    let mut line = ArrayVec::new();
-    add_text(&mut line, b"TASK ");
-    add_name(&mut line, name);
-    add_text(&mut line, b" ");
-    add_ending(&mut line, ending);
-    add_text(&mut line, b" COUNT ");
-    add_number(&mut line, u64::from(done));
+    let mut line = task_words(name, ending, done);
     add_text(&mut line, b" CC ");
     add_number(&mut line, u64::from(condition));
     line.push(b'\n');

@@ -2,7 +2,7 @@
 ghost use Rattle.std.specs.Prelude.{◌≡◌, ◌+◌, ◌*◌, ◌≤◌, ◌<◌, ◌++◌, length};
 ghost use Rattle.arrayvec.specs.ArrayVec.{array_vec_len};
 ghost use Rattle.cov_base.specs.Names.{unpadded};
-ghost use Rattle.report_text.specs.Tasks.{ending_words, register_line};
+ghost use Rattle.report_text.specs.Tasks.{ending_words, register_line, task_words};
 ghost use Rattle.report_text.specs.Text.{hex_bytes};
 
 use annotator::text::{add_hex, add_number, add_text};
@@ -68,6 +68,22 @@ pub fn add_ending(line: &mut ArrayVec<u8, 160>, ending: Option<Ending>)
         Some(ending) => add_ended(line, ending),
         None => add_text(line, b"RUNNING"),
     }
+}
+
+/// The beginning of a task's line: its name, how it ended or that it is running, and the instructions that it has done.
+#[tactic(auto, unfolding(crate::specs::Tasks::task_words))]
+pub fn task_words(name: &Name, ending: Option<Ending>, done: u32) -> ArrayVec<u8, 160>
+    ensures words { result.items ≡ task_words name.now ending done }
+    ensures short { array_vec_len result ≤ 48 }
+{
+    let mut line = ArrayVec::new();
+    add_text(&mut line, b"TASK ");
+    add_name(&mut line, name);
+    add_text(&mut line, b" ");
+    add_ending(&mut line, ending);
+    add_text(&mut line, b" COUNT ");
+    add_number(&mut line, u64::from(done));
+    line
 }
 
 #[tactic(auto, unfolding(crate::specs::Tasks::register_line))]

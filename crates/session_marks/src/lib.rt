@@ -10,10 +10,3 @@ pub use filling::fill_marks;
 pub use from_file::{FileSets, SetsFault, file_sets};
 pub use marking::marks_of;
 pub use no_sets::NoSets;
-
-#[cfg(test)]
-mod file_tests;
-#[cfg(test)]
-mod sample;
-#[cfg(test)]
-mod tests;

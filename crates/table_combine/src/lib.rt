@@ -8,6 +8,3 @@ mod union;
 pub use difference::OtherTable;
 pub use files::{CombineFault, combine_files};
 pub use union::combine;
-
-#[cfg(test)]
-mod tests;

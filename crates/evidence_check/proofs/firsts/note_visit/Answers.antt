@@ -1,5 +1,5 @@
 use Rattle.std.proofs.Common.{rules}
-use Rattle.evidence_check.specs.Seen.{visit_of}
+use Rattle.task_alone.specs.Seen.{visit_of}
 use Rattle.evidence_check.proofs.NoteLemmas.{notes_one}
 use Rattle.evidence_check.proofs.firsts.note_visit.Goals as goal
 

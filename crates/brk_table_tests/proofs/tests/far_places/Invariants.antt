@@ -1,0 +1,5 @@
+use Rattle.brk_table.proofs.FarPlaces.{AreFar}
+use Rattle.brk_table_tests.proofs.tests.far_places.Given as goal
+
+abbrev pub invariant-loop-k : goal.invariant-loop-k
+invariant-loop-k l = AreFar l.places.items l.k

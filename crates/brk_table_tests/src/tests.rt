@@ -1,0 +1,307 @@
+//! A small module's listing, with one line changed at a time, the instructions kept of another, and the map of many places
+//! beside a search.
+ghost use Rattle.std.specs.Prelude.{◌≡◌, ◌≢◌, ◌+◌, ◌*◌, ◌/◌, ◌%◌, ◌<◌, length, IfOk, IfSome};
+ghost use Rattle.cov_base.specs.Codes.{breakpoint};
+ghost use Rattle.brk_table.specs.Places.{IsPlace};
+
+use brk_table::{BuildFault, LinePlaces, Table, Tables, build};
+use cov_base::{Addr, Kind, LINE_LIMIT, Name, NoMemory, PlaceNo};
+use listing_lines::ListingLines;
+use listing_reader::read_listing;
+use module_area::{Image, Images, Place};
+use s370_decode::{kind, length};
+use std::alloc::Global;
+use std::test::Fail;
+
+const HEADING: &[u8] = b"  Loc  Object Code    Addr1 Addr2  Stmt   Source Statement";
+
+const LOAD: &[u8] = b"000000 4110 0005                      1          LA";
+
+const RETURN: &[u8] = b"000006 07FE                           3          BR";
+
+const BYTES: [u8; 8] = [0x41, 0x10, 0x00, 0x05, 0x1A, 0x11, 0x07, 0xFE];
+
+/// What became of a listing: its table, a fault with its line, or what a test never meets.
+#[derive(Drop)]
+enum Built {
+    Table(Table),
+    Odd(u32),
+    Outside(u32),
+    Overlap(u32),
+    TooMany(u32),
+    OwnSvc(u32),
+    Mismatch(u32, [u8; 6], [u8; 6]),
+    Nothing,
+}
+
+fn of_fault(fault: BuildFault) -> Built {
+    match fault {
+        BuildFault::Odd { line } => Built::Odd(line),
+        BuildFault::Outside { line } => Built::Outside(line),
+        BuildFault::Overlap { line } => Built::Overlap(line),
+        BuildFault::TooMany { line } => Built::TooMany(line),
+        BuildFault::OwnSvc { line } => Built::OwnSvc(line),
+        BuildFault::Mismatch {
+            line,
+            listing,
+            module,
+        } => Built::Mismatch(line, listing.bytes, module.bytes),
+        BuildFault::NoMemory => Built::Nothing,
+    }
+}
+
+/// Builds the table of module 0, whose first byte is at 100000.
+fn build_over(alloc: Global, texts: &[&[u8]], code: &[u8], room: u32) -> Result<Built, NoMemory> {
+    let mut lines = ListingLines::new(alloc);
+    for text in texts {
+        if text.len() <= LINE_LIMIT {
+            lines.push(text)?;
+        }
+    }
+    let bytes = code.to_vec(alloc)?;
+    if lines.len() > 100 || bytes.len() > 100 {
+        return Ok(Built::Nothing);
+    }
+    match (Name::read(b"M"), read_listing(alloc, &lines)) {
+        (Some(name), Ok(read)) => {
+            let image = Image {
+                name,
+                base: Addr::of(0x100000),
+                bytes,
+            };
+            match build(alloc, 0, &read, &image, room) {
+                Ok(table) => Ok(Built::Table(table)),
+                Err(fault) => Ok(of_fault(fault)),
+            }
+        }
+        _ => Ok(Built::Nothing),
+    }
+}
+
+/// With this line between the first and the last.
+fn with_middle(alloc: Global, middle: &[u8]) -> Result<Built, NoMemory> {
+    let page: [&[u8]; 4] = [HEADING, LOAD, middle, RETURN];
+    build_over(alloc, &page, &BYTES, 100)
+}
+
+#[test]
+fn finds_each_fault_at_its_line(rt: HostRuntime) -> Result<(), Fail> {
+    let alloc = rt.alloc();
+    let odd = with_middle(
+        alloc,
+        b"000005 1A11                           2          AR",
+    )?;
+    assert!(rt; matches!(&odd, Built::Odd(3)));
+    let outside = with_middle(
+        alloc,
+        b"000008 1A11                           2          AR",
+    )?;
+    assert!(rt; matches!(&outside, Built::Outside(3)));
+    let overlap = with_middle(
+        alloc,
+        b"000002 1A11                           2          AR",
+    )?;
+    assert!(rt; matches!(&overlap, Built::Overlap(3)));
+    let own = with_middle(
+        alloc,
+        b"000004 0AFF                           2          SVC",
+    )?;
+    assert!(rt; matches!(&own, Built::OwnSvc(3)));
+    let page: [&[u8]; 4] = [
+        HEADING,
+        LOAD,
+        b"000004 1A11                           2          AR",
+        RETURN,
+    ];
+    let many = build_over(alloc, &page, &BYTES, 2)?;
+    assert!(rt; matches!(&many, Built::TooMany(4)));
+    let late: [&[u8]; 2] = [
+        HEADING,
+        b"000000 4110 0006                      1          LA",
+    ];
+    let other = build_over(alloc, &late, &BYTES, 2)?;
+    assert!(rt;
+        matches!(
+            &other,
+            Built::Mismatch(2, [0x41, 0x10, 0, 6, 0, 0], [0x41, 0x10, 0, 5, 0, 0])
+        )
+    );
+    Ok(())
+}
+
+#[test]
+fn puts_the_places_in_order_of_address(rt: HostRuntime) -> Result<(), Fail> {
+    let alloc = rt.alloc();
+    let page: [&[u8]; 5] = [
+        HEADING,
+        RETURN,
+        b"000002                                2 X        DS    F",
+        LOAD,
+        b"000004 1A11                           2          AR",
+    ];
+    if let Built::Table(table) = build_over(alloc, &page, &BYTES, 3)? {
+        assert_eq!(rt; table.places.len(), 3);
+        assert_eq!(rt; table.places[0].at.get(), 0x100000);
+        assert_eq!(rt; table.places[1].at.get(), 0x100004);
+        assert_eq!(rt; table.places[2].at.get(), 0x100006);
+        assert_eq!(rt; table.places[2].original, 0x07FE);
+        assert_eq!(rt; table.places[0].len, 4);
+        assert_eq!(rt; table.places[0].kind, Kind::Straight);
+        let lines = table.lines;
+        assert_eq!(rt; lines.len(), 5);
+        if lines.len() == 5 {
+            for (i, place) in [None, Some(2), None, Some(0), Some(1)].iter().enumerate() {
+                assert_eq!(rt; lines.get(i), *place);
+            }
+        }
+        return Ok(());
+    }
+    assert!(rt; false);
+    Ok(())
+}
+
+/// The tables of a module and its listing, with the instructions of the places.
+fn kept_of(alloc: Global, texts: &[&[u8]], code: &[u8]) -> Result<Option<Tables>, NoMemory>
+    ensures { IfOk result (λ tables. IfSome tables (λ t. length t.codes ≡ length t.places)) }
+{
+    let mut lines = ListingLines::new(alloc);
+    for text in texts {
+        if text.len() <= LINE_LIMIT {
+            lines.push(text)?;
+        }
+    }
+    let bytes = code.to_vec(alloc)?;
+    if lines.len() > 100 || bytes.len() != 14 {
+        return Ok(None);
+    }
+    match (Name::read(b"M"), read_listing(alloc, &lines)) {
+        (Some(name), Ok(read)) => {
+            let image = Image {
+                name,
+                base: Addr::of(0x100000),
+                bytes,
+            };
+            match build(alloc, 0, &read, &image, 100) {
+                Ok(table) => {
+                    let images = Images(vec![in alloc; image]?);
+                    Ok(Some(Tables::over(alloc, vec![in alloc; table]?, &images)?))
+                }
+                Err(_) => Ok(None),
+            }
+        }
+        _ => Ok(None),
+    }
+}
+
+#[test]
+fn keeps_the_instruction_of_each_place(rt: HostRuntime) -> Result<(), Fail> {
+    let page: [&[u8]; 5] = [
+        HEADING,
+        LOAD,
+        b"000004 1A11                           2          AR",
+        b"000006 D203 1000 2004                 3          MVC",
+        b"00000C 07FE                           4          BR",
+    ];
+    let bytes = [
+        0x41, 0x10, 0x00, 0x05, 0x1A, 0x11, 0xD2, 0x03, 0x10, 0x00, 0x20, 0x04, 0x07, 0xFE,
+    ];
+    if let Some(tables) = kept_of(rt.alloc(), &page, &bytes)? {
+        let codes = [
+            (0x100000, [0x41, 0x10, 0x00, 0x05, 0, 0], 4),
+            (0x100004, [0x1A, 0x11, 0, 0, 0, 0], 2),
+            (0x100006, [0xD2, 0x03, 0x10, 0x00, 0x20, 0x04], 6),
+            (0x10000C, [0x07, 0xFE, 0, 0, 0, 0], 2),
+        ];
+        assert_eq!(rt; tables.len(), 4);
+        for (n, (at, bytes, len)) in codes.iter().enumerate() {
+            if n < tables.len() as usize {
+                let code = tables.code(PlaceNo(n as u32));
+                assert_eq!(rt; code.at.get(), *at);
+                assert_eq!(rt; code.bytes, *bytes);
+                assert_eq!(rt; code.len, *len);
+            }
+        }
+        return Ok(());
+    }
+    assert!(rt; false);
+    Ok(())
+}
+
+/// The first halfwords of an AR, an LA and an MVC, whose lengths are 2, 4 and 6.
+fn first_half(k: u32) -> u16
+    ensures { result ≢ breakpoint }
+{
+    match k % 3 {
+        0 => 0x1A11,
+        1 => 0x4110,
+        _ => 0xD203,
+    }
+}
+
+/// Place k of sixteen stretches of 200, which stand far apart and go over the end of a page each.
+fn far_place(k: u32) -> Place
+    requires { k < 3200 }
+    ensures is { IsPlace result }
+    ensures at { result.at ≡ 1052416 + k / 200 * 950272 + k % 200 * 6 }
+{
+    let original = first_half(k);
+    Place {
+        module: 0,
+        at: Addr::of(0x100F00 + k / 200 * 0xE8000 + k % 200 * 6),
+        len: length(original),
+        original,
+        kind: kind(original),
+    }
+}
+
+fn far_places(alloc: Global) -> Result<Tables, NoMemory> {
+    let mut places = Vec::new(alloc);
+    for k in 0..3200 {
+        places.push(far_place(k))?;
+    }
+    let mut tables = Vec::new(alloc);
+    tables.push(Table {
+        module: 0,
+        places,
+        lines: LinePlaces::none(alloc, 0)?,
+    })?;
+    Ok(Tables::of(alloc, tables)?)
+}
+
+/// The place that begins at the address, by halves over places in order of address: the plain form of the map.
+fn search(tables: &Tables, a: Addr) -> Option<PlaceNo> {
+    let mut low = 0;
+    let mut high = tables.len();
+    while low < high {
+        let middle = low + (high - low) / 2;
+        let at = tables.place(PlaceNo(middle)).at.get();
+        if at == a.get() {
+            return Some(PlaceNo(middle));
+        }
+        if at < a.get() {
+            low = middle + 1;
+        } else {
+            high = middle;
+        }
+    }
+    None
+}
+
+#[test]
+fn the_map_finds_what_a_search_finds(rt: HostRuntime) -> Result<(), Fail> {
+    let tables = far_places(rt.alloc())?;
+    for k in 0..tables.len() {
+        let at = tables.place(PlaceNo(k)).at;
+        assert!(rt; tables.at(at) == Some(PlaceNo(k)));
+        for i in 0..9 {
+            let near = at.plus(16_777_212 + i);
+            assert!(rt; tables.at(near) == search(&tables, near));
+        }
+    }
+    let mut a = Addr::of(1);
+    for _ in 0..4000 {
+        a = Addr::of(((u64::from(a.get()) * 0xFD43FD + 0xC39EC3) % 0x100_0000) as u32);
+        assert!(rt; tables.at(a) == search(&tables, a));
+    }
+    Ok(())
+}

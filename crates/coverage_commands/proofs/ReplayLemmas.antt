@@ -1,0 +1,148 @@
+-- A schedule's items one by one, and a task's events up to its end.
+use Rattle.std.proofs.Common.{◌≡◌, ℕ, suc, ◌+◌, ◌<◌, ◌≤◌, Bool, true, false, nat_eq, ◌==◌, if◌then◌else◌, Option, Some, None, Result, codes, List, [], ◌∷◌, ◌++◌, ◌-◌, length, get_or, subst, refl, sym, ap, ◌∙◌, arith, append-nil}
+use Rattle.std.proofs.lemmas.List.{get_or_default}
+use Rattle.interleave_core.specs.World.{World, Parts}
+use Rattle.cov_base.specs.Facts.{is_within}
+use Rattle.module_area.specs.PlanView.{kind_at}
+use Rattle.module_area.specs.declared.places.Place.{Place}
+use Rattle.brk_table.specs.Places.{TablesView, all_places}
+use Rattle.interleave_core.specs.Results.{Fits, results_of}
+use Rattle.interleave_core.specs.Steps.{set_of}
+use Rattle.interleave_core.specs.World.{plan_in}
+use Rattle.report_text.specs.Conditions.{AreResultsOf, AreSetsOf}
+use Rattle.session_book.specs.JobView.{JobView}
+use Rattle.session_book.specs.Sessions.{task_of, session_of}
+use Rattle.session_marks.proofs.FillLemmas.{range_most}
+use Rattle.report_text.specs.Report.{result_lines}
+use Rattle.report_text.specs.Writes.{WritesLines}
+use Rattle.coverage_commands.specs.Replay.{Play, Bad, Whole, with_item, event_line, event_lines, no_item, replay_lines, plant_at, planted_from, play, play_line, play_end, IsLine, IsUnplayed}
+use Rattle.coverage_commands.specs.declared.schedule.ScheduleFault.{ScheduleFault}
+use Rattle.coverage_commands.specs.declared.schedule.ScheduleFault.TheVariants as fault
+use Rattle.job_text.specs.Lines.{LineView, put_on, lines_of}
+use Rattle.job_text.specs.Schedule.{item_at}
+use Rattle.coverage_commands.specs.declared.schedule.Played.{Played}
+
+-- the items that were played before
+abbrev pub with_items : List Played → Play → Play
+with_items [] x = x
+with_items (p ∷ ps) x = with_item p (with_items ps x)
+
+pub with_items-snoc : (ps : List Played) (p : Played) (x : Play) → with_items (ps ++ p ∷ []) x ≡ with_items ps (with_item p x)
+with_items-snoc [] p x = refl
+with_items-snoc (q ∷ ps) p x = ap (with_item q) (with_items-snoc ps p x)
+
+pub with_items-bad : (ps : List Played) (n : ℕ) → with_items ps (Bad n) ≡ Bad n
+with_items-bad [] n = refl
+with_items-bad (p ∷ ps) n = ap (with_item p) (with_items-bad ps n)
+
+pub with_items-whole : (ps : List Played) (c : Parts) (qs : List Played) → with_items ps (Whole c qs) ≡ Whole c (ps ++ qs)
+with_items-whole [] c qs = refl
+with_items-whole (p ∷ ps) c qs = ap (with_item p) (with_items-whole ps c qs)
+
+-- the line of item n, which numbers from 1
+abbrev pub line_of : JobView → List Place → List Played → ℕ → List (List ℕ)
+line_of j places played n = event_line j places n (get_or played (n - 1) no_item) ∷ []
+
+item_here : (played : List Played) (i : ℕ) (p : Played) → i < length played → p ≡ get_or played i p → get_or played (i + 1 - 1) no_item ≡ p
+item_here played i p lt is = let same : i + 1 - 1 ≡ i = omega arith in rw same (get_or_default played i no_item p lt ∙ sym is)
+
+pub told_line : (j : JobView) (places : List Place) (played : List Played) (i : ℕ) (p : Played) (items : List ℕ) → i < length played → p ≡ get_or played i p → items ≡ event_line j places (i + 1) p ++ 10 ∷ [] →
+    items ≡ event_line j places (i + 1) (get_or played (i + 1 - 1) no_item) ++ 10 ∷ []
+told_line j places played i p items lt is e = rw (item_here played i p lt is) e
+
+pub core_results : (j : JobView) (tables : TablesView) (w : World) (c : Parts) → w ≡ record { job = j; places = tables.places } → Fits w c → AreResultsOf j (length w.job.tasks) (λ t. results_of c t)
+core_results j tables w c is fits = record {
+  count = ap (λ (v : World). length v.job.tasks) is;
+  sizes = λ t lt. fits.bytes t (omega (arith, lt, fits.tasks, ap (λ (v : World). length v.job.tasks) is)) ∙ ap (λ (v : World). (task_of v.job t).private) is;
+}
+
+pub core_sets : (j : JobView) (tables : TablesView) (w : World) (c : Parts) → w ≡ record { job = j; places = tables.places } → tables.places ≡ all_places tables.tables → Fits w c →
+    AreSetsOf j tables (length w.job.sessions) (length w.places) (λ s p. set_of w c s p)
+core_sets j tables w c is numbered fits = record {
+  count = ap (λ (v : World). length v.job.sessions) is;
+  size = ap (λ (v : World). length v.places) is;
+  within = λ s some most k d l p from to.
+      let inside : p < length w.places = omega (arith, to, range_most tables.tables (get_or (session_of j s).modules k d), ap length numbered, ap (λ (v : World). length v.places) is) in
+      subst (λ (v : World). is_within (kind_at (plan_in v) p) (set_of w c s p) ≡ true) is (fits.within s p some inside);
+}
+
+-- the text of the core's sets is that of its world's
+pub told_core : {K T E : Type 0} {written : K → Option (List ℕ)} {faults : K → ℕ} {old new : K} {r : Result T E} (j : JobView) (tables : TablesView) (w : World) (c : Parts) (played : List Played) → w ≡ record { job = j; places = tables.places } →
+    WritesLines written faults old new r (codes "COVERAGE REPLAY" ∷ (event_lines j tables.places played ++ result_lines j tables (λ t. results_of c t) (λ s p. set_of w c s p))) → WritesLines written faults old new r (replay_lines j tables c played)
+told_core {written = written} {faults = faults} {old = old} {new = new} {r = r} j tables w c played is told =
+    subst (λ (v : World). WritesLines written faults old new r (codes "COVERAGE REPLAY" ∷ (event_lines j tables.places played ++ result_lines j tables (λ t. results_of c t) (λ s p. set_of v c s p)))) is told
+
+pub planted_next : (w : World) (p n : ℕ) (c : Parts) → p < n → planted_from w p (n - p) c ≡ planted_from w (p + 1) (n - (p + 1)) (plant_at w c p)
+planted_next w p n c lt = let more : n - p ≡ suc (n - (p + 1)) = omega arith in rw more refl
+
+pub planted_end : (w : World) (p n : ℕ) (c : Parts) → n ≤ p → planted_from w p (n - p) c ≡ c
+planted_end w p n c le = let none : n - p ≡ 0 = omega arith in rw none refl
+
+none_put : (b : ℕ) (ls : List LineView) → put_on b ls ≡ [] → ⊥
+none_put b [] e = absurd cc
+none_put b (l ∷ ls) e = absurd cc
+
+-- bytes have a line
+pub has_line : (bs : List ℕ) → false ≡ (length bs == 0) → lines_of bs ≡ [] → ⊥
+has_line [] q e = absurd cc
+has_line (b ∷ bs) q e = by_end (nat_eq b 10) e
+  where
+    by_end : (f : Bool) → (if f then record { bytes = []; ended = true } ∷ lines_of bs else put_on b (lines_of bs)) ≡ [] → ⊥
+    by_end true r = absurd cc
+    by_end false r = none_put b (lines_of bs) r
+
+pub no_line : (bs : List ℕ) → length bs ≡ 0 → lines_of bs ≡ []
+no_line [] q = refl
+no_line (b ∷ bs) q = absurd (omega (arith, q))
+
+-- by what a line came to
+pub line_none : (o : Option Played) (x y : Play) (f : Played → Play) → o ≡ None → IsLine o x f y → x ≡ y
+line_none None x y f e h = h
+line_none (Some p) x y f e h = absurd cc
+
+pub line_some : (o : Option Played) (p : Played) (x y : Play) (f : Played → Play) → o ≡ Some p → IsLine o x f y → x ≡ f p
+line_some None p x y f e h = absurd cc
+line_some (Some q) p x y f e h = let same : q ≡ p = cc in h ∙ ap f same
+
+pub unplayed : (p : Play) (n : ℕ) (e : ScheduleFault) → p ≡ Bad n → e ≡ fault.Bad n → IsUnplayed p e
+unplayed p n e bad is = subst (λ (f : ScheduleFault). IsUnplayed p f) (sym is) bad
+
+-- a play so far: these items were played, and the lines that are left follow
+abbrev pub IsSoFar : Play → List Played → World → ℕ → Parts → List LineView → Type 0
+IsSoFar all ps w n c rest = all ≡ with_items ps (play w n c rest)
+
+-- by what the next line comes to, whatever follows it
+next_line : (all : Play) (ps : List Played) (w : World) (n : ℕ) (c : Parts) (rest : List LineView) (l : LineView) (ls : List LineView) (j : JobView) (x : Play) → IsSoFar all ps w n c rest → rest ≡ l ∷ ls → w.job ≡ j →
+    play_line (λ d. play w (n + 1) d ls) w n c ls (item_at j l.bytes) ≡ x → all ≡ with_items ps x
+next_line all ps w n c rest l ls j x so is job next =
+    let first : play_line (λ d. play w (n + 1) d ls) w n c ls (item_at w.job l.bytes) ≡ x = subst (λ (k : JobView). play_line (λ d. play w (n + 1) d ls) w n c ls (item_at k l.bytes) ≡ x) (sym job) next in
+    let whole : play w n c rest ≡ x = ap (λ (r : List LineView). play w n c r) is ∙ first in
+    so ∙ ap (with_items ps) whole
+
+pub line_bad : (all : Play) (ps : List Played) (w : World) (n : ℕ) (c : Parts) (rest : List LineView) (l : LineView) (ls : List LineView) (j : JobView) → IsSoFar all ps w n c rest → rest ≡ l ∷ ls → w.job ≡ j →
+    ((more : Parts → Play) (m : ℕ) (r : List LineView) → play_line more w m c r (item_at j l.bytes) ≡ Bad m) → all ≡ Bad n
+line_bad all ps w n c rest l ls j so is job bad = next_line all ps w n c rest l ls j (Bad n) so is job (bad (λ d. play w (n + 1) d ls) n ls) ∙ with_items-bad ps n
+
+pub line_played : (all : Play) (ps : List Played) (w : World) (n : ℕ) (c d : Parts) (rest : List LineView) (l : LineView) (ls : List LineView) (j : JobView) (p : Played) → IsSoFar all ps w n c rest → rest ≡ l ∷ ls → w.job ≡ j →
+    ((more : Parts → Play) (m : ℕ) (r : List LineView) → play_line more w m c r (item_at j l.bytes) ≡ with_item p (more d)) → all ≡ with_items (ps ++ p ∷ []) (play w (n + 1) d ls)
+line_played all ps w n c d rest l ls j p so is job played =
+    next_line all ps w n c rest l ls j (with_item p (play w (n + 1) d ls)) so is job (played (λ e. play w (n + 1) e ls) n ls) ∙ sym (with_items-snoc ps p (play w (n + 1) d ls))
+
+pub line_ends : (all : Play) (ps : List Played) (w : World) (n : ℕ) (c d : Parts) (rest : List LineView) (l : LineView) (ls : List LineView) (j : JobView) → IsSoFar all ps w n c rest → rest ≡ l ∷ ls → w.job ≡ j →
+    ((more : Parts → Play) (m : ℕ) (r : List LineView) → play_line more w m c r (item_at j l.bytes) ≡ play_end m d r) → all ≡ with_items ps (play_end n d ls)
+line_ends all ps w n c d rest l ls j so is job ends = next_line all ps w n c rest l ls j (play_end n d ls) so is job (ends (λ e. play w (n + 1) e ls) n ls)
+
+pub ends_whole : (all : Play) (ps : List Played) (n : ℕ) (d : Parts) (ls : List LineView) → all ≡ with_items ps (play_end n d ls) → ls ≡ [] → all ≡ Whole d ps
+ends_whole all ps n d ls e none =
+    let here : play_end n d ls ≡ Whole d [] = ap (λ (r : List LineView). play_end n d r) none in
+    e ∙ (ap (with_items ps) here ∙ (with_items-whole ps d [] ∙ ap (Whole d) (append-nil ps)))
+
+some_end : (n : ℕ) (d : Parts) (ls : List LineView) → (ls ≡ [] → ⊥) → play_end n d ls ≡ Bad (n + 1)
+some_end n d [] some = absurd (some refl)
+some_end n d (l ∷ ls) some = refl
+
+pub ends_bad : (all : Play) (ps : List Played) (n : ℕ) (d : Parts) (ls : List LineView) → all ≡ with_items ps (play_end n d ls) → (ls ≡ [] → ⊥) → all ≡ Bad (n + 1)
+ends_bad all ps n d ls e some = e ∙ (ap (with_items ps) (some_end n d ls some) ∙ with_items-bad ps (n + 1))
+
+pub no_more : (all : Play) (ps : List Played) (w : World) (n : ℕ) (c : Parts) (rest : List LineView) → IsSoFar all ps w n c rest → rest ≡ [] → all ≡ Bad n
+no_more all ps w n c rest so none = so ∙ (ap (with_items ps) (ap (λ (r : List LineView). play w n c r) none) ∙ with_items-bad ps n)

@@ -1,0 +1,11 @@
+use Rattle.coverage_commands.proofs.AnswerLemmas.{written_as}
+use Rattle.coverage_commands.proofs.CountLemmas.{are_whole, counted}
+use Rattle.coverage_commands.proofs.counting.answer_counts.Goals as goal
+
+pub count_job-requires-clause-whole : goal.count_job-requires-clause-whole
+count_job-requires-clause-whole g c = λ lifetimes live. are_whole c.args.job.now c.requires.free
+
+pub returns : goal.returns
+returns g c s a came =
+    counted s c.args.job.now c.args.tables.now a c.in-Ok.counted.tasks.items c.in-Ok.counted.counts _ _ came c.requires.free c.requires.matching c.requires.numbered c.in-Ok.ensures
+    (written_as _ _ _ c.count_text.ensures c.status_of.ensures.whole c.status_of.ensures.failed)

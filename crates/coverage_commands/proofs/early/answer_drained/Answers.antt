@@ -1,0 +1,20 @@
+use Rattle.std.proofs.Common.{map}
+use Rattle.early_report.specs.Text.{drained_of, early_of}
+use Rattle.task_run.specs.Courses.{solo}
+use Rattle.coverage_commands.specs.Changes.{areas_change}
+use Rattle.coverage_commands.proofs.AnswerLemmas.{reports, written_as}
+use Rattle.coverage_commands.proofs.DrainedLemmas.{are_drained, job_came, reported_early}
+use Rattle.coverage_commands.proofs.early.answer_drained.Goals as goal
+
+pub returns : goal.returns
+returns g c s came =
+    let j = c.args.job.now in
+    let tables = c.args.tables.now in
+    let a = areas_change g.A.Areas.ledger g.A.Areas.finals g.A.Areas.made c.args.areas.now c.run_job_with.new.areas in
+    let o = c.in-Ok.ran.0 in
+    let lists = c.in-Ok.ran.1.items in
+    let drained = drained_of j (map (λ v. v.items) lists) in
+    reported_early s j tables a _ _ drained _ came c.requires.matching c.requires.numbered c.in-Ok.ensures.left.ran
+    (are_drained (λ v. v.items) j tables.places o.tasks.items o.sets lists (job_came s j came) c.in-Ok.ensures.outcome c.in-Ok.ensures.extras)
+    (reports solo j tables a.before a.after o.tasks.items o.sets (λ results sets. early_of j tables results sets drained) c.in-Ok.ensures.left c.in-Ok.ensures.outcome)
+    (written_as _ _ _ (rw c.deref.ensures.value at c.early.ensures) c.status_of.ensures.whole c.status_of.ensures.failed)

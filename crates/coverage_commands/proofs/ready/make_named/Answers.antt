@@ -1,0 +1,8 @@
+use Rattle.std.proofs.lemmas.Result.{err_from_is_err_and}
+use Rattle.coverage_commands.specs.Words.{WithSession}
+use Rattle.coverage_commands.proofs.ready.make_named.Goals as goal
+
+pub returns-in_err-tables-clause-stopped : goal.returns-in_err-tables-clause-stopped
+returns-in_err-tables-clause-stopped g c =
+    let p = err_from_is_err_and c.from_residual-in_err-tables.result c.from_residual-in_err-tables.ensures.1 in
+    rw (p.1, p.2) (c.in_err-tables.ensures.stopped (record { more = c.args.more }) (WithSession (record { name = c.args.name.now; whole = c.args.whole })) _ c.in_ok-read.ensures.job c.in_ok-session.ensures.asked)

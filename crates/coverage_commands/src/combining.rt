@@ -1,0 +1,52 @@
+//! The union of marks files.
+ghost use Rattle.std.specs.Prelude.{◌≡◌};
+ghost use Rattle.coverage_commands.specs.Answers.{Answers};
+ghost use Rattle.coverage_commands.specs.Changes.{SourceChange, source_change, sink_change, no_change};
+ghost use Rattle.coverage_commands.specs.Files.{combine_refusal};
+ghost use Rattle.coverage_commands.specs.Inputs.{CameWhole};
+ghost use Rattle.job_run.specs.Runs.{Account};
+
+use crate::lines::NO_MEMORY;
+use crate::ready::read_input;
+use crate::refusals::{Refusal, bad_marks, other_table, plain_refusal};
+use crate::status::{Status, status_of, told};
+use crate::words::Command;
+use cov_outside::{Sink, Source};
+use marks_file::write;
+use std::alloc::Global;
+use table_combine::{CombineFault, combine_files};
+
+/// Why files are not united.
+fn combine_refusal(fault: CombineFault) -> Refusal
+    ensures { result ≡ combine_refusal fault }
+{
+    match fault {
+        CombineFault::BadMarks { offset } => bad_marks(offset),
+        CombineFault::Other(other) => other_table(&other),
+        CombineFault::NoMemory => plain_refusal(7, NO_MEMORY),
+    }
+}
+
+/// Unites the files that the bytes are, and writes the file of their union.
+fn answer_files<K: Sink>(alloc: Global, bytes: &[u8], sink: &mut K) -> Status
+    ensures { (s : SourceChange) (a : Account) → CameWhole s bytes.now → Answers Command.Combine s (no_change a) (sink_change K.written K.faults sink.old sink.new) result.0 }
+{
+    let marks = match combine_files(alloc, bytes) {
+        Ok(marks) => marks,
+        Err(fault) => {
+            let refusal = combine_refusal(fault);
+            return told(sink, &refusal.line, refusal.status);
+        }
+    };
+    status_of(write(sink, &marks))
+}
+
+/// Reads marks files, and writes the file of their union.
+pub fn answer_combine<S: Source, K: Sink>(alloc: Global, source: &mut S, sink: &mut K) -> Status
+    ensures { (a : Account) → Answers Command.Combine (source_change S.left S.faults source.old source.new) (no_change a) (sink_change K.written K.faults sink.old sink.new) result.0 }
+{
+    match read_input(alloc, source) {
+        Ok(input) => answer_files(alloc, &input, sink),
+        Err(refusal) => told(sink, &refusal.line, refusal.status),
+    }
+}

@@ -1,0 +1,63 @@
+//! The counts of a job's sessions.
+ghost use Rattle.std.specs.Prelude.{◌≡◌, None};
+ghost use Rattle.brk_table.specs.Kept.{AreCodes};
+ghost use Rattle.brk_table.specs.Places.{all_places};
+ghost use Rattle.coverage_commands.specs.Answers.{Answers};
+ghost use Rattle.coverage_commands.specs.Changes.{SourceChange, source_change, sink_change, no_change};
+ghost use Rattle.coverage_commands.specs.Inputs.{CameJob};
+ghost use Rattle.coverage_commands.specs.Named.{first_controlled};
+ghost use Rattle.coverage_commands.specs.Refusals.{Match};
+ghost use Rattle.coverage_commands.specs.Words.{to_end};
+ghost use Rattle.job_run.specs.Runs.{Account};
+ghost use Rattle.report_text.specs.Conditions.{HasFewLines};
+
+use crate::lines::NO_MEMORY;
+use crate::ready::make_whole;
+use crate::status::{Status, status_of, told};
+use crate::words::Command;
+use brk_table::Tables;
+use count_session::count_job;
+use cov_outside::{Sink, Source};
+use report_text::count_text;
+use session_book::Job;
+use std::alloc::Global;
+use std::sync::Wait;
+use std::thread::Threads;
+
+/// Counts a job whose listings match and whose sessions have no controller, and writes its counts.
+#[tactic(auto, using(brk_table::proofs::CodeLemmas::are_in))]
+fn answer_counts<T: Threads + Wait + Sync, K: Sink>(
+    rt: &T,
+    alloc: Global,
+    job: &Job,
+    tables: &Tables,
+    sink: &mut K,
+) -> Status
+    requires few { HasFewLines job.now }
+    requires free { first_controlled job.now ≡ None }
+    requires matching { Match job.now tables.now.tables }
+    requires numbered { tables.now.places ≡ all_places tables.now.tables }
+    requires tables { AreCodes job.now.images tables.now }
+    ensures { (s : SourceChange) (a : Account) → CameJob to_end s job.now →
+        Answers Command.Count s (no_change a) (sink_change K.written K.faults sink.old sink.new) result.0 }
+{
+    let Ok(counted) = count_job(rt, alloc, job, tables) else {
+        return told(sink, NO_MEMORY, 7);
+    };
+    status_of(count_text(sink, job, tables, &counted))
+}
+
+/// Reads a job, counts it, and writes its counts.
+pub fn answer_count<T: Threads + Wait + Sync, S: Source, K: Sink>(
+    rt: &T,
+    alloc: Global,
+    source: &mut S,
+    sink: &mut K,
+) -> Status
+    ensures { (a : Account) → Answers Command.Count (source_change S.left S.faults source.old source.new) (no_change a) (sink_change K.written K.faults sink.old sink.new) result.0 }
+{
+    match make_whole(alloc, source) {
+        Ok(read) => answer_counts(rt, alloc, &read.job, &read.tables, sink),
+        Err(refusal) => told(sink, &refusal.line, refusal.status),
+    }
+}

@@ -1,0 +1,69 @@
+//! The report of a job whose controllers drain the sessions that they have closed.
+ghost use Rattle.std.specs.Prelude.{◌≡◌, ◌<◌, ◌^◌};
+ghost use Rattle.brk_table.specs.Kept.{AreCodes};
+ghost use Rattle.brk_table.specs.Places.{all_places};
+ghost use Rattle.coverage_commands.specs.Answers.{Answers};
+ghost use Rattle.coverage_commands.specs.Changes.{SourceChange, source_change, sink_change, areas_change};
+ghost use Rattle.coverage_commands.specs.Inputs.{CameJob};
+ghost use Rattle.coverage_commands.specs.Refusals.{Match};
+ghost use Rattle.coverage_commands.specs.Words.{to_end};
+ghost use Rattle.report_text.specs.Conditions.{HasFewLines};
+
+use crate::lines::NO_MEMORY;
+use crate::ready::make_ready;
+use crate::status::{Status, status_of, told};
+use crate::words::Command;
+use brk_table::Tables;
+use cov_outside::{Gate, Sink, Source};
+use early_report::{EarlyRunner, early};
+use job_run::run_job_with;
+use module_area::Areas;
+use session_book::Job;
+use std::alloc::Global;
+use std::sync::Wait;
+use std::thread::Threads;
+
+/// Runs a job whose listings match, each controller with the drains of its sessions, and writes its report.
+#[tactic(auto, using(brk_table::proofs::CodeLemmas::are_in))]
+fn answer_drained<T: Threads + Wait + Sync, K: Sink, A: Areas, G: Gate + Sync>(
+    rt: &T,
+    alloc: Global,
+    job: &Job,
+    tables: &Tables,
+    sink: &mut K,
+    areas: &mut A,
+    gate: &G,
+) -> Status
+    requires few { HasFewLines job.now }
+    requires matching { Match job.now tables.now.tables }
+    requires numbered { tables.now.places ≡ all_places tables.now.tables }
+    requires tables { AreCodes job.now.images tables.now }
+    requires room { A.made areas.old < 2 ^ 61 }
+    ensures { (s : SourceChange) → CameJob to_end s job.now →
+        Answers Command.Early s (areas_change A.ledger A.finals A.made areas.old areas.new) (sink_change K.written K.faults sink.old sink.new) result.0 }
+{
+    let runner = EarlyRunner;
+    let (outcome, drains) = match run_job_with(rt, alloc, areas, gate, &runner, job, tables) {
+        Ok(ran) => ran,
+        Err(_) => return told(sink, NO_MEMORY, 7),
+    };
+    status_of(early(sink, job, tables, &outcome, &drains))
+}
+
+/// Reads a job, runs it, each controller with the drains of its sessions, and writes its report.
+pub fn answer_early<T: Threads + Wait + Sync, S: Source, K: Sink, A: Areas, G: Gate + Sync>(
+    rt: &T,
+    alloc: Global,
+    source: &mut S,
+    sink: &mut K,
+    areas: &mut A,
+    gate: &G,
+) -> Status
+    requires { A.made areas.old < 2 ^ 61 }
+    ensures { Answers Command.Early (source_change S.left S.faults source.old source.new) (areas_change A.ledger A.finals A.made areas.old areas.new) (sink_change K.written K.faults sink.old sink.new) result.0 }
+{
+    match make_ready(alloc, source, false) {
+        Ok(read) => answer_drained(rt, alloc, &read.job, &read.tables, sink, areas, gate),
+        Err(refusal) => told(sink, &refusal.line, refusal.status),
+    }
+}

@@ -1,0 +1,87 @@
+//! The session that a command names, and those that may have no controller.
+ghost use Rattle.std.specs.Prelude.{◌≡◌, ◌<◌, ◌≤◌, ◌+◌, true, Some, None, length, option_map, IfSome, IfOk, IfErr};
+ghost use Rattle.cov_base.specs.declared.numbers.SessNo.{SessNo as Number};
+ghost use Rattle.coverage_commands.specs.Answers.{IsStopped};
+ghost use Rattle.coverage_commands.specs.Changes.{SourceChange};
+ghost use Rattle.coverage_commands.specs.Inputs.{CameJob};
+ghost use Rattle.coverage_commands.specs.Named.{HasAsked, first_controlled, session_number};
+ghost use Rattle.coverage_commands.specs.Refusals.{refusal};
+ghost use Rattle.coverage_commands.specs.Words.{Reading, WithSession, AllWhole, controlled_line};
+ghost use Rattle.session_book.specs.Sessions.{session_of};
+
+use crate::lines::{controlled_line, no_session_line};
+use crate::refusals::Refusal;
+use cov_base::{Name, SessNo};
+use session_book::Job;
+
+/// The number of the session of the name; none exactly where no session of the job has it.
+fn find_session(job: &Job, name: &Name) -> Option<SessNo>
+    ensures value { option_map (λ (s : Number). s.0) result ≡ session_number job.now name.now }
+    ensures from { IfSome result (λ s. 0 < s.0) }
+    ensures to { IfSome result (λ s. s.0 ≤ length job.now.sessions) }
+{
+    for i in 0..job.sessions.len() {
+        if job.sessions[i].name == *name {
+            return Some(SessNo(i as u32 + 1));
+        }
+    }
+    None
+}
+
+/// The number of the job's first session that has a controller; none exactly where none has one.
+fn first_controlled(job: &Job) -> Option<SessNo>
+    ensures value { option_map (λ (s : Number). s.0) result ≡ first_controlled job.now }
+    ensures from { IfSome result (λ s. 0 < s.0) }
+    ensures to { IfSome result (λ s. s.0 ≤ length job.now.sessions) }
+{
+    for i in 0..job.sessions.len() {
+        if job.sessions[i].by.is_some() {
+            return Some(SessNo(i as u32 + 1));
+        }
+    }
+    None
+}
+
+/// Session s of the job has a controller, where none may.
+fn controlled(job: &Job, s: SessNo) -> Refusal
+    requires from { 0 < s.0 }
+    requires to { s.0 ≤ length job.now.sessions }
+    ensures { result ≡ refusal 14 (controlled_line (session_of job.now s.0).name) }
+{
+    Refusal {
+        status: 14,
+        line: controlled_line(&job.session(s).name),
+    }
+}
+
+/// The number of the session of the name, or that the job has none; and where it must be whole, that it has a controller.
+pub fn named_session(job: &Job, name: &Name, whole: bool) -> Result<SessNo, Refusal>
+    ensures number { IfOk result (λ s. session_number job.now name.now ≡ Some s.0) }
+    ensures from { IfOk result (λ s. 0 < s.0) }
+    ensures to { IfOk result (λ s. s.0 ≤ length job.now.sessions) }
+    ensures whole { whole ≡ true → IfOk result (λ s. (session_of job.now s.0).by ≡ None) }
+    ensures asked { IfOk result (λ _. HasAsked (WithSession (record { name = name.now; whole = whole })) job.now) }
+    ensures stopped { (how : Reading) (s : SourceChange) → CameJob how s job.now → IfErr result (λ r. IsStopped true how (WithSession (record { name = name.now; whole = whole })) s r.status r.line) }
+{
+    let Some(session) = find_session(job, name) else {
+        return Err(Refusal {
+            status: 13,
+            line: no_session_line(name),
+        });
+    };
+    if whole && job.session(session).by.is_some() {
+        return Err(controlled(job, session));
+    }
+    Ok(session)
+}
+
+/// That no session of the job has a controller; or the refusal of the first that has one.
+pub fn whole_sessions(job: &Job) -> Result<(), Refusal>
+    ensures free { IfOk result (λ _. first_controlled job.now ≡ None) }
+    ensures stopped { (how : Reading) (s : SourceChange) → CameJob how s job.now → IfErr result (λ r. IsStopped true how AllWhole s r.status r.line) }
+{
+    match first_controlled(job) {
+        Some(session) => Err(controlled(job, session)),
+        None => Ok(()),
+    }
+}

@@ -1,0 +1,64 @@
+//! The evidence of a session's facts.
+ghost use Rattle.std.specs.Prelude.{◌≡◌, ◌<◌, ◌≤◌, Some, None, All, length};
+ghost use Rattle.brk_table.specs.Places.{IsIn, all_places};
+ghost use Rattle.coverage_commands.specs.Answers.{Answers};
+ghost use Rattle.coverage_commands.specs.Changes.{SourceChange, source_change, sink_change, no_change};
+ghost use Rattle.coverage_commands.specs.Inputs.{CameJob};
+ghost use Rattle.coverage_commands.specs.Named.{session_number};
+ghost use Rattle.coverage_commands.specs.Refusals.{Match};
+ghost use Rattle.coverage_commands.specs.Words.{to_end};
+ghost use Rattle.job_run.specs.Runs.{Account};
+ghost use Rattle.session_book.specs.Sessions.{session_of};
+
+use crate::lines::NO_MEMORY;
+use crate::ready::make_named;
+use crate::status::{Status, told};
+use crate::words::Command;
+use brk_table::Tables;
+use cov_base::{Name, SessNo};
+use cov_outside::{Sink, Source};
+use evidence_check::{ProveFault, prove};
+use session_book::Job;
+use std::alloc::Global;
+
+/// Writes the evidence of session s, of that name, of a job whose listings match.
+fn answer_evidence<K: Sink>(
+    alloc: Global,
+    name: &Name,
+    job: &Job,
+    tables: &Tables,
+    s: SessNo,
+    sink: &mut K,
+) -> Status
+    requires from { 0 < s.0 }
+    requires to { s.0 ≤ length job.now.sessions }
+    requires whole { (session_of job.now s.0).by ≡ None }
+    requires matching { Match job.now tables.now.tables }
+    requires numbered { tables.now.places ≡ all_places tables.now.tables }
+    requires places { All (IsIn job.now.images) tables.now.places }
+    requires number { session_number job.now name.now ≡ Some s.0 }
+    ensures { (c : SourceChange) (a : Account) → CameJob to_end c job.now →
+        Answers (Command.Prove name.now) c (no_change a) (sink_change K.written K.faults sink.old sink.new) result.0 }
+{
+    match prove(alloc, sink, job, tables, s) {
+        Ok(()) => Status(0),
+        Err(ProveFault::Failed) => Status(6),
+        Err(ProveFault::NoMemory) => told(sink, NO_MEMORY, 7),
+    }
+}
+
+/// Reads a job, and writes the evidence of the session of the name.
+pub fn answer_prove<S: Source, K: Sink>(
+    alloc: Global,
+    name: &Name,
+    source: &mut S,
+    sink: &mut K,
+) -> Status
+    ensures { (a : Account) → Answers (Command.Prove name.now) (source_change S.left S.faults source.old source.new) (no_change a) (sink_change K.written K.faults sink.old sink.new) result.0 }
+{
+    let (read, session) = match make_named(alloc, source, false, name, true) {
+        Ok(read) => read,
+        Err(refusal) => return told(sink, &refusal.line, refusal.status),
+    };
+    answer_evidence(alloc, name, &read.job, &read.tables, session, sink)
+}

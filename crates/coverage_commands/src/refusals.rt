@@ -1,0 +1,177 @@
+//! The refusals of listings and of marks files.
+ghost use Rattle.std.specs.Prelude.{◌≡◌, ◌≢◌, ◌-◌, ◌<◌, ◌≤◌, ◌^◌, length, get_or, take};
+ghost use Rattle.arrayvec.specs.ArrayVec.{array_vec_len};
+ghost use Rattle.coverage_commands.specs.Refusals.{refusal, line_text, bad_listing, list_refusal, build_refusal, code_text, mismatch_text, location_of};
+ghost use Rattle.coverage_commands.specs.Words.{bad_marks_line, other_table_line};
+ghost use Rattle.table_combine.specs.Combine.{difference_of};
+
+use crate::lines::{bad_marks_line, other_table_line};
+use annotator::text::{add_hex, add_number, add_text};
+use arrayvec::ArrayVec;
+use brk_table::BuildFault;
+use cov_base::Name;
+use listing_reader::{Line, ListFault, Listing};
+use report_text::add_bytes;
+use s370_decode::Code;
+use std::marker::Model;
+use table_combine::OtherTable;
+
+/// A refusal: its status, and the line that tells it.
+#[derive(Drop)]
+pub struct Refusal {
+    pub status: u8,
+    pub line: ArrayVec<u8, 160>,
+}
+
+impl Model for Refusal {
+    ghost use Rattle.coverage_commands.specs.Refusals.{RefusalView};
+
+    ghost Value = { RefusalView };
+
+    ghost view = { λ r. record { status = r.status; line = r.line.items } };
+}
+
+/// A refusal by its whole line, of at most 160 bytes.
+pub fn plain_refusal(status: u8, line: &[u8]) -> Refusal
+    requires { length line.now ≤ 160 }
+    ensures { result ≡ refusal status line.now }
+{
+    let mut text = ArrayVec::new();
+    add_text(&mut text, line);
+    Refusal { status, line: text }
+}
+
+/// The field at the offset is the first bad one.
+pub fn bad_marks(offset: usize) -> Refusal
+    ensures { result ≡ refusal 10 (bad_marks_line offset) }
+{
+    Refusal {
+        status: 10,
+        line: bad_marks_line(offset),
+    }
+}
+
+/// Two tables are not the same.
+pub fn other_table(other: &OtherTable) -> Refusal
+    ensures { result ≡ refusal 11 (other_table_line (difference_of other.now)) }
+{
+    Refusal {
+        status: 11,
+        line: other_table_line(other),
+    }
+}
+
+/// A line on line n of a module's listing; `why` has at most 80 bytes, `what` at most 20.
+#[tactic(auto, unfolding(crate::specs::Refusals::line_text))]
+fn line_text(what: &[u8], name: &Name, n: u32, why: &[u8]) -> ArrayVec<u8, 160>
+    requires what { length what.now ≤ 20 }
+    requires why { length why.now ≤ 80 }
+    ensures { result.items ≡ line_text what.now name.now n why.now }
+{
+    let mut line = ArrayVec::new();
+    add_text(&mut line, what);
+    add_text(&mut line, name.bytes());
+    add_text(&mut line, b" LINE ");
+    add_number(&mut line, u64::from(n));
+    add_text(&mut line, why);
+    add_text(&mut line, b"\n");
+    line
+}
+
+fn bad_listing(name: &Name, n: u32, why: &[u8]) -> Refusal
+    requires { length why.now ≤ 80 }
+    ensures { result ≡ bad_listing name.now n why.now }
+{
+    Refusal {
+        status: 12,
+        line: line_text(b"BAD LISTING ", name, n, why),
+    }
+}
+
+/// The bytes of an instruction.
+fn shown(code: &Code) -> &[u8]
+    ensures bytes { result.now ≡ take code.now.len code.now.bytes }
+    ensures few { length result.now ≤ 6 }
+{
+    if code.len < 6 {
+        &code.bytes[..code.len as usize]
+    } else {
+        &code.bytes
+    }
+}
+
+/// Where an instruction stands, and its bytes as the listing and the module have them.
+#[tactic(auto, unfolding(crate::specs::Refusals::mismatch_text, crate::specs::Refusals::code_text))]
+fn mismatch_text(loc: u32, listing: &Code, other: &Code) -> ArrayVec<u8, 160>
+    requires { loc < 16 ^ 6 }
+    ensures text { result.items ≡ mismatch_text loc listing.now other.now }
+    ensures short { array_vec_len result ≤ 60 }
+{
+    let mut text = ArrayVec::new();
+    add_text(&mut text, b" LOC ");
+    add_hex(&mut text, loc, 6);
+    add_text(&mut text, b" LISTING ");
+    add_bytes(&mut text, shown(listing));
+    add_text(&mut text, b" MODULE ");
+    add_bytes(&mut text, shown(other));
+    text
+}
+
+/// Why a listing is refused, for all but want of memory.
+pub fn list_refusal(name: &Name, fault: ListFault) -> Refusal
+    requires { fault ≢ ListFault.NoMemory }
+    ensures { result ≡ list_refusal name.now fault }
+{
+    match fault {
+        ListFault::NoHeading => bad_listing(name, 0, b" HEADING"),
+        ListFault::BadObject { line } => bad_listing(name, line, b" OBJECT"),
+        ListFault::NoMemory => unreachable!(),
+    }
+}
+
+/// Where the instruction of line n stands in its module.
+fn location_at(lines: &Listing, n: u32) -> u32
+    ensures value { result ≡ location_of (get_or lines.now (n - 1) Line.Text) }
+    ensures below { result < 16 ^ 6 }
+{
+    let at = (n as usize).saturating_sub(1);
+    if at >= lines.len() {
+        return 0;
+    }
+    match lines.line(at) {
+        Line::Text => 0,
+        Line::Code { loc, bytes: _ } => loc % 16_777_216,
+    }
+}
+
+/// Why a listing's lines make no table over their module, for all but want of memory.
+pub fn build_refusal(name: &Name, lines: &Listing, fault: BuildFault) -> Refusal
+    requires { fault ≢ BuildFault.NoMemory }
+    ensures { result ≡ build_refusal name.now lines.now fault }
+{
+    match fault {
+        BuildFault::Odd { line } => bad_listing(name, line, b" ODD"),
+        BuildFault::Outside { line } => bad_listing(name, line, b" OUTSIDE"),
+        BuildFault::Overlap { line } => bad_listing(name, line, b" OVERLAP"),
+        BuildFault::TooMany { line } => Refusal {
+            status: 4,
+            line: line_text(b"TOO LARGE PLACES ", name, line, b""),
+        },
+        BuildFault::OwnSvc { line } => Refusal {
+            status: 8,
+            line: line_text(b"OWN SVC ", name, line, b""),
+        },
+        BuildFault::Mismatch {
+            line,
+            listing,
+            module,
+        } => {
+            let why = mismatch_text(location_at(lines, line), &listing, &module);
+            Refusal {
+                status: 3,
+                line: line_text(b"MISMATCH ", name, line, &why),
+            }
+        }
+        BuildFault::NoMemory => unreachable!(),
+    }
+}

@@ -1,0 +1,142 @@
+//! A session's listings, marked by a marks file.
+ghost use Rattle.std.specs.Prelude.{◌≡◌, ◌<◌, ◌≤◌, ℕ, true, Some, length, IfOk, IfErr};
+ghost use Rattle.brk_table.specs.Places.{all_places};
+ghost use Rattle.brk_table.specs.Together.{AreTables};
+ghost use Rattle.cov_outside.specs.Writes.{Writes};
+ghost use Rattle.coverage_commands.specs.Answers.{Answers};
+ghost use Rattle.coverage_commands.specs.Changes.{SourceChange, source_change, sink_change, no_change};
+ghost use Rattle.coverage_commands.specs.Files.{IsFile, IsFileRefusal, IsShowRefusal, show_text};
+ghost use Rattle.coverage_commands.specs.Incoming.{CameWith};
+ghost use Rattle.coverage_commands.specs.Named.{session_number};
+ghost use Rattle.coverage_commands.specs.Refusals.{Match, refusal};
+ghost use Rattle.coverage_commands.specs.Words.{to_go_on};
+ghost use Rattle.job_run.specs.Runs.{Account};
+ghost use Rattle.report_text.specs.Conditions.{AreTablesOf};
+ghost use Rattle.session_book.specs.Sets.{HasSetsOf};
+ghost use Rattle.session_marks.specs.FromFile.{set_at, sets_of_one};
+ghost use Rattle.session_marks.specs.Marked.{session_marks};
+
+use crate::lines::NO_MEMORY;
+use crate::ready::make_named;
+use crate::refusals::{Refusal, bad_marks, other_table, plain_refusal};
+use crate::status::{Status, status_of, told};
+use crate::words::Command;
+use brk_table::Tables;
+use cov_base::{Name, SessNo};
+use cov_outside::{Failed, Sink, Source};
+use marks_file::{Marks, MarksFault, read};
+use report_text::{put, session_part, words_line};
+use session_book::{FactSets, Job};
+use session_marks::{FileSets, SetsFault, file_sets};
+use std::alloc::Global;
+
+/// The one marks file that the bytes are.
+fn one_file(alloc: Global, rest: &[u8]) -> Result<Marks, Refusal>
+    ensures file { IfOk result (λ m. IsFile rest.now m.modules) }
+    ensures refused { IfErr result (IsFileRefusal rest.now) }
+{
+    match read(alloc, rest, 0) {
+        Ok((marks, end)) => {
+            if end < rest.len() {
+                return Err(bad_marks(end));
+            }
+            // For the rules of a file, which its type keeps.
+            let _modules = &marks.modules;
+            Ok(marks)
+        }
+        Err(MarksFault::BadMarks { offset }) => Err(bad_marks(offset)),
+        Err(MarksFault::NoMemory) => Err(plain_refusal(7, NO_MEMORY)),
+    }
+}
+
+/// The sets that the bytes behind a job have for session s of it, or why they have none.
+fn sets_behind(
+    alloc: Global,
+    job: &Job,
+    tables: &Tables,
+    s: SessNo,
+    rest: &[u8],
+) -> Result<FileSets, Refusal>
+    requires from { 0 < s.0 }
+    requires to { s.0 ≤ length job.now.sessions }
+    requires tables { AreTables job.now.images tables.now.tables }
+    ensures file { IfOk result (λ f. IsFile rest.now (session_marks job.now tables.now (set_at f.sets) s.0)) }
+    ensures sets { IfOk result (λ f. HasSetsOf job.now tables.now f.session (length f.sets) (sets_of_one f) s.0) }
+    ensures refused { IfErr result (IsShowRefusal job.now tables.now s.0 rest.now) }
+{
+    let marks = one_file(alloc, rest)?;
+    match file_sets(alloc, job, tables, s, &marks) {
+        Ok(sets) => Ok(sets),
+        Err(SetsFault::Other(other)) => Err(other_table(&other)),
+        Err(SetsFault::NoMemory) => Err(plain_refusal(7, NO_MEMORY)),
+    }
+}
+
+/// Writes the listings of session s of the job by these sets.
+fn show_text<K: Sink, R: FactSets>(
+    sink: &mut K,
+    job: &Job,
+    tables: &Tables,
+    sets: &R,
+    s: SessNo,
+) -> Result<(), Failed>
+    requires from { 0 < s.0 }
+    requires to { s.0 ≤ length job.now.sessions }
+    requires tables { AreTablesOf job.now tables.now }
+    requires sets { HasSetsOf job.now tables.now (R.sessions sets.now) (R.places sets.now) (R.set_of sets.now) s.0 }
+    ensures { Writes K.written K.faults sink.old sink.new result (show_text job.now tables.now (R.set_of sets.now s.0) s.0) }
+{
+    put(sink, words_line(b"COVERAGE SHOW"))?;
+    session_part(sink, job, tables, sets, s)?;
+    put(sink, words_line(b"END"))
+}
+
+/// Marks the listings of session s of the job by the file that the bytes behind the job are.
+fn answer_file<K: Sink>(
+    alloc: Global,
+    name: &Name,
+    job: &Job,
+    tables: &Tables,
+    s: SessNo,
+    rest: &[u8],
+    sink: &mut K,
+) -> Status
+    requires from { 0 < s.0 }
+    requires to { s.0 ≤ length job.now.sessions }
+    requires tables { AreTablesOf job.now tables.now }
+    requires own { AreTables job.now.images tables.now.tables }
+    requires matching { Match job.now tables.now.tables }
+    requires numbered { tables.now.places ≡ all_places tables.now.tables }
+    requires number { session_number job.now name.now ≡ Some s.0 }
+    ensures { (c : SourceChange) (a : Account) (count : ℕ) → CameWith to_go_on c job.now count rest.now →
+        Answers (Command.Show name.now) c (no_change a) (sink_change K.written K.faults sink.old sink.new) result.0 }
+{
+    match sets_behind(alloc, job, tables, s, rest) {
+        Ok(sets) => status_of(show_text(sink, job, tables, &sets, s)),
+        Err(refusal) => told(sink, &refusal.line, refusal.status),
+    }
+}
+
+/// Reads a job and a marks file, and writes the listings of the session of the name with the file's marks.
+pub fn answer_show<S: Source, K: Sink>(
+    alloc: Global,
+    name: &Name,
+    source: &mut S,
+    sink: &mut K,
+) -> Status
+    ensures { (a : Account) → Answers (Command.Show name.now) (source_change S.left S.faults source.old source.new) (no_change a) (sink_change K.written K.faults sink.old sink.new) result.0 }
+{
+    let (read, session) = match make_named(alloc, source, true, name, false) {
+        Ok(read) => read,
+        Err(refusal) => return told(sink, &refusal.line, refusal.status),
+    };
+    answer_file(
+        alloc,
+        name,
+        &read.job,
+        &read.tables,
+        session,
+        &read.rest,
+        sink,
+    )
+}

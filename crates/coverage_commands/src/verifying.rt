@@ -1,0 +1,140 @@
+//! Marks and evidence of a session, checked by another run of its tasks.
+ghost use Rattle.std.specs.Prelude.{◌≡◌, ◌<◌, ◌≤◌, ℕ, true, Some, None, All, length, OnOk, IfOk, IfErr};
+ghost use Rattle.brk_table.specs.Places.{IsIn, all_places};
+ghost use Rattle.brk_table.specs.Together.{AreTables};
+ghost use Rattle.coverage_commands.specs.Answers.{Answers};
+ghost use Rattle.coverage_commands.specs.Changes.{SourceChange, source_change, sink_change, no_change};
+ghost use Rattle.coverage_commands.specs.Checked.{Verified, IsVerdict, HasVerified, verify_refusal, IsStartRefusal, IsCheckRefusal};
+ghost use Rattle.coverage_commands.specs.Incoming.{CameWith};
+ghost use Rattle.coverage_commands.specs.Named.{session_number};
+ghost use Rattle.coverage_commands.specs.Refusals.{Match};
+ghost use Rattle.coverage_commands.specs.Words.{to_go_on};
+ghost use Rattle.job_run.specs.Runs.{Account};
+ghost use Rattle.marks_file.specs.MarksFile.{HasFile};
+ghost use Rattle.session_book.specs.Sessions.{session_of};
+
+use crate::lines::{NO_MEMORY, bad_evidence_line, refuted_line, verified_line};
+use crate::ready::make_named;
+use crate::refusals::{Refusal, bad_marks, other_table, plain_refusal};
+use crate::status::{Status, told};
+use crate::words::Command;
+use brk_table::Tables;
+use cov_base::{Name, SessNo};
+use cov_outside::{Sink, Source};
+use evidence_check::{VerifyFault, verify};
+use marks_file::{Marks, MarksFault, read};
+use session_book::Job;
+use session_marks::{SetsFault, file_sets};
+use std::alloc::Global;
+
+/// How marks and evidence that are not verified are told.
+fn verify_refusal(fault: VerifyFault) -> Refusal
+    ensures { result ≡ verify_refusal fault }
+{
+    match fault {
+        VerifyFault::BadEvidence { offset } => Refusal {
+            status: 15,
+            line: bad_evidence_line(offset),
+        },
+        VerifyFault::Refuted { row, fact } => Refusal {
+            status: 16,
+            line: refuted_line(row, fact),
+        },
+        VerifyFault::NoMemory => plain_refusal(7, NO_MEMORY),
+    }
+}
+
+/// The marks file that the bytes begin with, and the offset past it.
+fn first_file(alloc: Global, rest: &[u8]) -> Result<(Marks, usize), Refusal>
+    ensures file { IfOk result (λ r. HasFile 0 rest.now r.0 r.1) }
+    ensures inside { IfOk result (λ r. r.1 ≤ length rest.now) }
+    ensures refused { IfErr result (IsStartRefusal rest.now) }
+{
+    match read(alloc, rest, 0) {
+        Ok(first) => Ok(first),
+        Err(MarksFault::BadMarks { offset }) => Err(bad_marks(offset)),
+        Err(MarksFault::NoMemory) => Err(plain_refusal(7, NO_MEMORY)),
+    }
+}
+
+/// The number of facts of which the marks and the evidence behind a job are true for session s of it, or why they are not.
+fn facts_behind(
+    alloc: Global,
+    job: &Job,
+    tables: &Tables,
+    s: SessNo,
+    rest: &[u8],
+) -> Result<u32, Refusal>
+    requires from { 0 < s.0 }
+    requires to { s.0 ≤ length job.now.sessions }
+    requires whole { (session_of job.now s.0).by ≡ None }
+    requires tables { AreTables job.now.images tables.now.tables }
+    requires places { All (IsIn job.now.images) tables.now.places }
+    ensures verdict { IfOk result (λ n. IsVerdict job.now tables.now s.0 rest.now (Verified n)) }
+    ensures verified { OnOk result (HasVerified job.now tables.now s.0 rest.now) }
+    ensures refused { IfErr result (IsCheckRefusal job.now tables.now s.0 rest.now) }
+{
+    let (marks, end) = first_file(alloc, rest)?;
+    // For the rules of a file, which its type keeps.
+    let _modules = &marks.modules;
+    match file_sets(alloc, job, tables, s, &marks) {
+        Ok(_) => (),
+        Err(SetsFault::Other(other)) => return Err(other_table(&other)),
+        Err(SetsFault::NoMemory) => return Err(plain_refusal(7, NO_MEMORY)),
+    }
+    match verify(alloc, job, tables, s, &marks, &rest[end..]) {
+        Ok(facts) => Ok(facts),
+        Err(fault) => Err(verify_refusal(fault)),
+    }
+}
+
+/// Says whether the marks and the evidence that stand behind a job are those of session s of it, of that name.
+fn answer_behind<K: Sink>(
+    alloc: Global,
+    name: &Name,
+    job: &Job,
+    tables: &Tables,
+    s: SessNo,
+    rest: &[u8],
+    sink: &mut K,
+) -> Status
+    requires from { 0 < s.0 }
+    requires to { s.0 ≤ length job.now.sessions }
+    requires whole { (session_of job.now s.0).by ≡ None }
+    requires own { AreTables job.now.images tables.now.tables }
+    requires matching { Match job.now tables.now.tables }
+    requires numbered { tables.now.places ≡ all_places tables.now.tables }
+    requires places { All (IsIn job.now.images) tables.now.places }
+    requires number { session_number job.now name.now ≡ Some s.0 }
+    ensures { (c : SourceChange) (a : Account) (count : ℕ) → CameWith to_go_on c job.now count rest.now →
+        Answers (Command.Verify name.now) c (no_change a) (sink_change K.written K.faults sink.old sink.new) result.0 }
+{
+    match facts_behind(alloc, job, tables, s, rest) {
+        Ok(facts) => told(sink, &verified_line(name, facts), 0),
+        Err(refusal) => told(sink, &refusal.line, refusal.status),
+    }
+}
+
+/// Reads a job, a marks file and evidence, and says whether they are those of the session of the name.
+pub fn answer_verify<S: Source, K: Sink>(
+    alloc: Global,
+    name: &Name,
+    source: &mut S,
+    sink: &mut K,
+) -> Status
+    ensures { (a : Account) → Answers (Command.Verify name.now) (source_change S.left S.faults source.old source.new) (no_change a) (sink_change K.written K.faults sink.old sink.new) result.0 }
+{
+    let (read, session) = match make_named(alloc, source, true, name, true) {
+        Ok(read) => read,
+        Err(refusal) => return told(sink, &refusal.line, refusal.status),
+    };
+    answer_behind(
+        alloc,
+        name,
+        &read.job,
+        &read.tables,
+        session,
+        &read.rest,
+        sink,
+    )
+}

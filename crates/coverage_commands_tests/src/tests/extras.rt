@@ -1,0 +1,67 @@
+//! A runner's extras are made before the area is, so before anything is planted.
+ghost use Rattle.std.specs.Prelude.{◌≡◌};
+ghost use Rattle.task_run.specs.Courses.{solo};
+
+use super::FIRST_JOB;
+use brk_table::Tables;
+use cov_base::{NoMemory, TaskNo};
+use cov_outside::{MemSource, OpenGate};
+use coverage_commands::make_ready;
+use job_run::run_job_with;
+use module_area::{Areas, Cells, Plan};
+use s370_state::Ending;
+use shared_area::SharedAreas;
+use std::alloc::Global;
+use std::test::Fail;
+use task_run::{NoExtra, Runner, Task, run_task};
+
+/// Runs a task as it runs alone, but has no memory for its extra.
+#[derive(Drop)]
+struct Wanting;
+
+impl<C: Cells> Runner<C> for Wanting {
+    type Extra = NoExtra;
+
+    ghost course = { solo };
+
+    ghost begins = { λ plan t extra notes. Unit {0} };
+
+    ghost ends = { λ plan old new extra sets. Unit {0} };
+
+    fn extra(&self, alloc: Global, plan: &Plan, task: TaskNo) -> Result<NoExtra, NoMemory> {
+        Err(NoMemory)
+    }
+
+    fn run(
+        &self,
+        cells: &C,
+        pass: &mut C::Pass,
+        tables: &Tables,
+        plan: &Plan,
+        extra: &mut NoExtra,
+        task: &mut Task<'_>,
+    ) -> Ending {
+        run_task(cells, pass, tables, plan, task)
+    }
+}
+
+#[test]
+fn makes_extras_before_it_plants(rt: HostRuntime) -> Result<(), Fail> {
+    let a = rt.alloc();
+    let mut source = MemSource::new(FIRST_JOB.as_bytes().to_vec(a)?, 64, Vec::new(a));
+    let Ok(read) = make_ready(a, &mut source, false) else {
+        return Err("ready".into());
+    };
+    let mut areas = SharedAreas::new(a, 1).map_err(|_| "memory")?;
+    let ran = run_job_with(
+        &rt,
+        a,
+        &mut areas,
+        &OpenGate,
+        &Wanting,
+        &read.job,
+        &read.tables,
+    );
+    assert!(rt; ran.is_err() && areas.made() == 0);
+    Ok(())
+}

@@ -1,9 +1,0 @@
-use Rattle.std.proofs.lemmas.Result.{err_from_is_err_and}
-use Rattle.coverage_program.specs.Words.{AnyJob}
-use Rattle.coverage_program.proofs.WordLemmas.{any_job}
-use Rattle.coverage_program.proofs.ready.make_ready.Goals as goal
-
-pub returns-in_err-tables-clause-stopped : goal.returns-in_err-tables-clause-stopped
-returns-in_err-tables-clause-stopped g c =
-    let p = err_from_is_err_and c.from_residual-in_err-tables.result c.from_residual-in_err-tables.ensures.1 in
-    rw (p.1, p.2) (c.in_err-tables.ensures.stopped (record { more = c.args.more }) AnyJob _ c.in_ok-read.ensures.job (any_job _))

@@ -1,0 +1,25 @@
+-- What was counted of the tasks of a job.
+use Rattle.std.proofs.Common.{◌≡◌, ℕ, ◌+◌, ◌-◌, ◌<◌, List, [], ◌∷◌, ◌++◌, length, get_or, slice_index, inl, inr, refl, ap, ◌∙◌, arith}
+use Rattle.std.proofs.lemmas.Bool.{cases_lt}
+use Rattle.std.proofs.lemmas.List.{get_or_append_left, get_or_push}
+use Rattle.module_area.specs.declared.places.Place.{Place}
+use Rattle.session_book.specs.JobView.{JobView}
+use Rattle.report_text.specs.Text.{sum_from}
+use Rattle.report_text.proofs.PlaceFacts.{sum_step}
+use Rattle.task_ends.specs.Ends.{run_of, end_of, unlisted_at, unlisted_of}
+use Rattle.task_alone.specs.declared.run.TaskEnd.{TaskEnd}
+use Rattle.task_ends.specs.Unlisted.{Adds}
+
+-- one task more was counted
+pub counted_more : (j : JobView) (places : List Place) (t : ℕ) (old new : List ℕ) (m : ℕ) → t < length j.tasks → m < length j.images → Adds places j.images (run_of j places t).trace old new →
+    slice_index old m + sum_from (unlisted_at j places m) t (length j.tasks - t) ≡ unlisted_of j places m → slice_index new m + sum_from (unlisted_at j places m) (t + 1) (length j.tasks - (t + 1)) ≡ unlisted_of j places m
+counted_more j places t old new m lt here adds so_far =
+    rw (adds.each m here) (sum_step (unlisted_at j places m) t (length j.tasks) (slice_index old m) (unlisted_at j places m t) (unlisted_of j places m) lt refl so_far)
+
+-- the end of one task more was added
+pub added_end : (j : JobView) (places : List Place) (ends : List TaskEnd) (t : ℕ) → length ends ≡ t → ((k : ℕ) (d : TaskEnd) → k < t → get_or ends k d ≡ end_of j places k) →
+    (k : ℕ) (d : TaskEnd) → k < t + 1 → get_or (ends ++ end_of j places t ∷ []) k d ≡ end_of j places k
+added_end j places ends t size before k d lt = elim (cases_lt k t) [
+  | inl earlier ↦ let inside : k < length ends = omega arith in get_or_append_left ends (end_of j places t ∷ []) d k inside ∙ before k d earlier
+  | inr last ↦ let same : length ends ≡ k = omega arith in let is : t ≡ k = omega arith in get_or_push ends (end_of j places t) d k same ∙ ap (end_of j places) is
+]

@@ -1,0 +1,25 @@
+use Rattle.std.proofs.Common.{◌≡◌, ◌<◌, length, ◌∙◌, arith}
+use Rattle.report_text.proofs.RowLemmas.{lines_from-next, lines_from-end}
+use Rattle.report_text.proofs.WriteLemmas.{progress_at, progress_more, progress_exit, progress_end}
+use Rattle.task_ends.specs.Text.{end_part}
+use Rattle.task_ends.proofs.text.tasks_text.Goals as goal
+
+pub returns-in_err-task_text : goal.returns-in_err-task_text
+returns-in_err-task_text g c = λ each unlisted is.
+    let lines = end_part c.args.job.now each in
+    let t = c.loop-t.t in
+    let here : t < length c.args.job.now.tasks = omega (arith, c.loop-t-test.true, c.task_count-t-end.ensures.value) in
+    let value : c.index.result.now ≡ each t = c.index.ensures ∙ is.each_task t c.index.result.now here in
+    progress_exit _ c.from_residual.ensures.0 (c.in_err-task_text.ensures each value) (progress_at (lines_from-next lines t t (length c.args.job.now.tasks) here) (c.loop-t.invariant each unlisted is))
+
+pub loop-t-preserved : goal.loop-t-preserved
+loop-t-preserved g c = λ each unlisted is.
+    let lines = end_part c.args.job.now each in
+    let t = c.loop-t.t in
+    let here : t < length c.args.job.now.tasks = omega (arith, c.loop-t-test.true, c.task_count-t-end.ensures.value) in
+    let value : c.index.result.now ≡ each t = c.index.ensures ∙ is.each_task t c.index.result.now here in
+    progress_more (c.in_ok-task_text.ensures each value) (progress_at (lines_from-next lines t t (length c.args.job.now.tasks) here) (c.loop-t.invariant each unlisted is))
+
+pub returns : goal.returns
+returns g c = λ each unlisted is.
+    progress_end (progress_at (lines_from-end (end_part c.args.job.now each) c.loop-t.t c.loop-t.t (length c.args.job.now.tasks) (omega (arith, c.loop-t-test.false, c.task_count-t-end.ensures.value))) (c.loop-t.invariant each unlisted is))
