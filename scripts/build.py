@@ -1,36 +1,35 @@
-"""Builds the program, crate by crate, where it isn't built of the sources as they stand.
+"""Builds the program where it isn't built of the sources as they stand, as many crates at once as the machine holds.
 
 The program is taken from the toolchain to out/coverage_program, and out/built, which is written last, holds the
-checksums of the sources and of the program. Whatever a build that was cut off leaves has no such file, and is built
-again. One build runs at a time: a second waits for it.
+checksums of the sources and of the program, and the toolchain's line. Whatever a build that was cut off leaves has no
+such file, and is built again. One build runs at a time: a second waits for it. What the toolchain says of a crate stands
+in out/logs.
+
+out/seen lists the sizes, times and numbers of the files as they stood when the checksums were last known to match.
+Where they still are so, `coverage` starts the program without this script.
 """
 from __future__ import annotations
 
 import fcntl
-import hashlib
 import os
 import shutil
 import signal
 import subprocess
 import sys
-import threading
-import time
 from typing import IO
 
-TOP = os.path.dirname(os.path.dirname(os.path.realpath(__file__)))
+from crate_sources import TOP, sum_of, sum_of_sources
+from proving import LINKED, CrateFailed, make_table, prove_all
+
 OUT = f"{TOP}/out"
-PROGRAM, STAMP, LOCK, LOG = (f"{OUT}/{it}" for it in ("coverage_program", "built", "lock", "build.log"))
-TOP_CRATE = "coverage_program"
-LINKED = f"{TOP}/crates/{TOP_CRATE}/out/{TOP_CRATE}"
+PROGRAM, STAMP, SEEN, LOCK = (f"{OUT}/{it}" for it in ("coverage_program", "built", "seen", "lock"))
+HOW_LONG = "some half an hour on four processors"
+MEANWHILE = "./coverage try COMMAND .. answers at once, without proof"
 FAILED = 70
 
 
 class BuildFailed(Exception):
-    """Why there is no program; `has_log` where the toolchain's own lines in out/build.log say more."""
-
-    def __init__(self, why: str, has_log: bool = False) -> None:
-        super().__init__(why)
-        self.has_log = has_log
+    """Why there is no program."""
 
 
 def say(text: str) -> None:
@@ -41,52 +40,14 @@ def say(text: str) -> None:
         pass
 
 
-def crates() -> list[str]:
-    """The crates below the program and the program, each behind those it stands on."""
-    below: dict[str, list[str]] = {}
-    with open(f"{TOP}/crates.txt", encoding="utf-8") as file:
-        for line in file:
-            name, colon, words = line.split("#")[0].partition(":")
-            if colon:
-                below[name.split()[0]] = words.split()
-    order: list[str] = []
-
-    def visit(name: str) -> None:
-        for it in below[name]:
-            if it in below and it not in order:
-                visit(it)
-        order.append(name)
-
-    visit(TOP_CRATE)
-    return order
-
-
-def sources() -> list[str]:
-    """Whatever a build reads: sources, definitions and proofs of the crates, and the lists at the top."""
-    found = [f"{TOP}/crates.txt", f"{TOP}/HANDLES"]
-    for crate in crates():
-        for part in ("src", "specs", "proofs"):
-            for folder, _, files in os.walk(f"{TOP}/crates/{crate}/{part}"):
-                found += [f"{folder}/{it}" for it in files if it.endswith((".rt", ".antt"))]
-    return sorted(found)
-
-
-def sum_of(path: str) -> str:
-    """The checksum of a file."""
-    with open(path, "rb") as file:
-        return hashlib.sha256(file.read()).hexdigest()
-
-
-def sum_of_sources() -> str:
-    """One checksum over the names and the texts of all sources."""
-    whole = hashlib.sha256()
-    for path in sources():
-        whole.update(f"{os.path.relpath(path, TOP)} {sum_of(path)}\n".encode())
-    return whole.hexdigest()
+def toolchain() -> str:
+    """The toolchain's own line: its name, and the logic in which it proves."""
+    ran = subprocess.run(["rt", "version"], stdin=subprocess.DEVNULL, stdout=subprocess.PIPE, check=False)
+    return ran.stdout.decode(errors="replace").strip()
 
 
 def stamp(of_sources: str) -> str:
-    """What out/built holds where the program that stands there was built of these sources."""
+    """What out/built begins with where the program that stands there was built of these sources."""
     return f"sources {of_sources}\nprogram {sum_of(PROGRAM)}\n"
 
 
@@ -95,9 +56,33 @@ def is_built() -> bool:
     try:
         with open(STAMP, encoding="utf-8") as file:
             said = file.read()
-        return os.access(PROGRAM, os.X_OK) and said == stamp(sum_of_sources())
+        return os.access(PROGRAM, os.X_OK) and said.startswith(stamp(sum_of_sources()))
     except OSError:
         return False
+
+
+def may_be_seen(taken: int, rows: list[bytes]) -> bool:
+    """Whether the program is among these files, and a change of any of them shows in its row.
+
+    A file's time has the steps of the kernel's clock, some milliseconds: two changes in one step have the same time. So
+    each must have been changed last a second before they were listed, or earlier.
+    """
+    has_program = all(any(row.startswith(f"{it} ".encode()) for row in rows) for it in (PROGRAM, STAMP))
+    return has_program and max(float(row.rsplit(b" ", 2)[1]) for row in rows) < taken - 1
+
+
+def note_seen(listed: bytes) -> None:
+    """Notes how the files stood before their checksums were found to match: the second, and a row for each file."""
+    taken, _, rows = listed.partition(b"\n")
+    room = f"{SEEN}.{os.getpid()}"
+    try:
+        if may_be_seen(int(taken), rows.splitlines()):
+            with open(room, "wb") as file:
+                file.write(rows)
+            os.replace(room, SEEN)
+    except (OSError, ValueError, IndexError):
+        # Without that note the next call costs the checksums.
+        pass
 
 
 def keep(of_sources: str) -> None:
@@ -106,80 +91,25 @@ def keep(of_sources: str) -> None:
     os.chmod(f"{PROGRAM}.new", 0o755)
     os.replace(f"{PROGRAM}.new", PROGRAM)
     with open(f"{STAMP}.new", "w", encoding="utf-8") as file:
-        file.write(stamp(of_sources))
+        file.write(f"{stamp(of_sources)}toolchain {toolchain()}\n")
     os.replace(f"{STAMP}.new", STAMP)
 
 
-class Progress:
-    """One line on a terminal that is written anew each second, and elsewhere one line a crate."""
-
-    def __init__(self, count: int) -> None:
-        self.count, self.began, self.text = count, time.monotonic(), ""
-        self.is_terminal = sys.stderr is not None and sys.stderr.isatty()
-        self.over = threading.Event()
-        self.writer = threading.Thread(target=self.write_on, daemon=True)
-        if self.is_terminal:
-            self.writer.start()
-
-    def spent(self) -> str:
-        minutes, seconds = divmod(int(time.monotonic() - self.began), 60)
-        return f"{minutes}:{seconds:02}"
-
-    def begin(self, crate: str, number: int) -> None:
-        self.text = f"proving {crate}, crate {number} of {self.count}"
-        if self.is_terminal:
-            self.write()
-        else:
-            say(f"{self.text}, {self.spent()} so far")
-
-    def write(self) -> None:
-        sys.stderr.write(f"\r\x1b[Kcoverage: {self.text}, {self.spent()} so far")
-        sys.stderr.flush()
-
-    def write_on(self) -> None:
-        while not self.over.wait(1):
-            self.write()
-
-    def end(self) -> None:
-        self.over.set()
-        if self.is_terminal:
-            self.writer.join()
-            sys.stderr.write("\r\x1b[K")
-            sys.stderr.flush()
-
-
-def call(words: list[str], crate: str, log: IO[bytes]) -> int:
-    """Runs the toolchain in a crate's folder, and ends it where this build is ended."""
-    folder = f"{TOP}/crates/{crate}"
-    with subprocess.Popen(words, cwd=folder, stdin=subprocess.DEVNULL, stdout=log, stderr=log) as ran:
-        try:
-            return ran.wait()
-        except BaseException:
-            ran.terminate()
-            raise
-
-
-def build(log: IO[bytes]) -> None:
-    """Proves and builds the crates one after the other, the program last."""
-    of_sources, order = sum_of_sources(), crates()
-    progress = Progress(len(order))
+def build() -> None:
+    """Proves and builds all crates, and keeps the program where the sources are still those that were proved."""
+    if os.path.lexists(STAMP):
+        os.remove(STAMP)
+    say(f"building: proving the program and the crates below it, which takes {HOW_LONG} the first time; {MEANWHILE}")
     try:
-        for number, crate in enumerate(order, 1):
-            progress.begin(crate, number)
-            # Without words the program answers 1, its usage line, once it is built.
-            words, well = (["rt", "run"], (0, 1)) if crate == TOP_CRATE else (["rt", "lib"], (0,))
-            if crate == TOP_CRATE and os.path.lexists(LINKED):
-                os.remove(LINKED)
-            if call(words, crate, log) not in well or crate == TOP_CRATE and not os.path.isfile(LINKED):
-                raise BuildFailed(f"the build of {crate} failed", has_log=True)
-    except FileNotFoundError:
+        of_sources, said = prove_all(say)
+    except FileNotFoundError as error:
+        if error.filename != "rt":
+            raise
         raise BuildFailed("there is no toolchain: the command rt isn't found") from None
-    finally:
-        progress.end()
     if sum_of_sources() != of_sources:
         raise BuildFailed("the sources changed while they were built: build again")
     keep(of_sources)
-    say(f"built: {len(order)} crates proved in {progress.spent()}")
+    say(f"built: {said}")
 
 
 def holder(lock: IO[str]) -> str:
@@ -217,11 +147,7 @@ def make_built() -> None:
     with take_lock():
         if is_built():
             return
-        if os.path.lexists(STAMP):
-            os.remove(STAMP)
-        say("building: proving the program and the crates below it, which takes some half an hour on four processors the first time")
-        with open(LOG, "wb") as log:
-            build(log)
+        build()
 
 
 def keep_proved(of_sources: str) -> None:
@@ -251,11 +177,20 @@ def main(words: list[str]) -> int:
             keep_proved(words[1])
         elif words == ["is-built"]:
             return 0 if is_built() else 1
+        elif words == ["weigh"]:
+            say(make_table())
+        elif words == ["seen"]:
+            listed = sys.stdin.buffer.read()
+            make_built()
+            note_seen(listed)
         else:
             make_built()
         return 0
+    except CrateFailed as failure:
+        say(f"{failure}; the last lines of {failure.log}:\n{tail(failure.log, 20)}")
+        return FAILED
     except BuildFailed as failure:
-        say(f"{failure}; the last lines of {LOG}:\n{tail(LOG, 20)}" if failure.has_log else str(failure))
+        say(str(failure))
         return FAILED
     except OSError as error:
         say(f"the build failed: {error}")

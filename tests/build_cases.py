@@ -8,59 +8,77 @@ import shutil
 import signal
 import subprocess
 import time
+from concurrent import futures
 from typing import Callable, Iterator
 
 from harness import SECONDS, TOP, equal, folder, interruptible
 
 # It notes each call, waits for as long as a file `hold` lies at the top, and makes a program that tells its words.
+# A crate that stands as it was proved isn't proved again.
 RT = """#!/usr/bin/env bash
-top=$PWD/../..
-echo "$1 ${PWD##*/}" >> "$top/calls"
-while [ -e "$top/hold" ]; do sleep 0.05; done
-[ -e "$top/fail" ] && { echo 'a goal is open'; exit 1; }
+[ "$1" = version ] && { echo 'pretended-kit logic 0123456789abcdef'; exit; }
+crate=${PWD##*/} text=$(cat src/*)
+echo "$1 $crate" >> "$TEST_TOP/calls"
+echo $$ >> "$TEST_TOP/processes"
+mkdir -p out/rlib/half out/incremental
+while [ -e "$TEST_TOP/hold" ] || [ -e "$TEST_TOP/hold-$crate" ]; do sleep 0.05; done
+{ [ -e "$TEST_TOP/fail" ] || [ -e "$TEST_TOP/fail-$crate" ]; } && { echo "a goal of $crate is open"; exit 1; }
+if [ "$(cat out/rlib/stamp 2>/dev/null)" != "$text" ]; then
+  echo "$crate $text" >> "$TEST_TOP/proofs"
+  echo "logic=proved"
+  printf '%s' "$text" > out/rlib/stamp
+fi
 [ "$1" = run ] || exit 0
-mkdir -p out
-printf '#!/bin/sh\\necho "%s: $*"\\ncat\\nexit 7\\n' "$(cat src/main.rt)" > out/coverage_program
+printf '#!/bin/sh\\necho "%s: $*"\\ncat\\nexit 77\\n' "$(cat src/main.rt)" > out/coverage_program
 chmod +x out/coverage_program
 exit 1
 """
-LIBRARY, PROGRAM = "proving low, crate 1 of 2", "proving coverage_program, crate 2 of 2"
+LIBRARY, PROGRAM = "proved low, 1 of 2", "proved coverage_program, 2 of 2"
 # How long the first build takes, wherever it is said.
 HOW_LONG = "some half an hour on four processors"
 
 
 class Copy:
-    """A copy of the scripts over two crates, with the pretended toolchain first on the path."""
+    """A copy of the scripts over some crates, with the pretended toolchain first on the path.
 
-    def __init__(self, at: str) -> None:
+    `listed` is the list of crates; all sources say "one". No crate has a row in the table of weights.
+    """
+
+    def __init__(self, at: str, listed: str = "coverage_program: low arrayvec\nlow:\n") -> None:
         self.at = at
         shutil.copy(f"{TOP}/coverage", at)
         shutil.copytree(f"{TOP}/scripts", f"{at}/scripts")
-        for crate, file in (("low", "lib"), ("coverage_program", "main")):
+        for crate in [line.partition(":")[0] for line in listed.splitlines()]:
             os.makedirs(f"{at}/crates/{crate}/src")
-            self.write(f"crates/{crate}/src/{file}.rt", "one")
-        self.write("crates.txt", "coverage_program: low arrayvec\nlow:\n")
+            self.write(f"crates/{crate}/src/{'main' if crate == 'coverage_program' else 'lib'}.rt", "one")
+        self.write("crates.txt", listed)
         self.write("HANDLES", "none\n")
+        # There the rooms lie, and so what a killed build leaves goes with the copy.
+        os.mkdir(f"{at}/.git")
         os.mkdir(f"{at}/bin")
         self.write("bin/rt", RT)
         os.chmod(f"{at}/bin/rt", 0o755)
-        self.env = {**os.environ, "PATH": f"{at}/bin:{os.environ['PATH']}"}
+        self.env = {**os.environ, "PATH": f"{at}/bin:{os.environ['PATH']}", "TEST_TOP": at}
 
     def write(self, name: str, text: str) -> None:
         with open(f"{self.at}/{name}", "w", encoding="utf-8") as file:
             file.write(text)
 
+    def lines(self, name: str) -> list[str]:
+        """The lines of a file; none where there is none."""
+        if not os.path.exists(f"{self.at}/{name}"):
+            return []
+        with open(f"{self.at}/{name}", encoding="utf-8") as file:
+            return file.read().splitlines()
+
     def calls(self) -> list[str]:
         """The calls of the toolchain so far."""
-        if not os.path.exists(f"{self.at}/calls"):
-            return []
-        with open(f"{self.at}/calls", encoding="utf-8") as file:
-            return file.read().splitlines()
+        return self.lines("calls")
 
     def start(self, *words: str) -> subprocess.Popen[str]:
         pipe = subprocess.PIPE
-        command = [f"{self.at}/coverage", *words]
-        return subprocess.Popen(command, stdin=pipe, stdout=pipe, stderr=pipe, text=True, env=self.env, start_new_session=True)
+        how = {"stdin": pipe, "stdout": pipe, "stderr": pipe, "text": True, "start_new_session": True}
+        return subprocess.Popen([f"{self.at}/coverage", *words], env=self.env, **how)
 
     def hold(self) -> subprocess.Popen[str]:
         """A build that waits with its first call."""
@@ -75,8 +93,30 @@ class Copy:
     def run(self, *words: str) -> tuple[int, str, str]:
         return ended(self.start(*words))
 
+    def call(self, *words: str) -> tuple[int, str]:
+        """Calls the script that builds, with words of its own."""
+        command = ["python3", "-B", f"{self.at}/scripts/build.py", *words]
+        how = {"stdin": subprocess.DEVNULL, "capture_output": True, "text": True, "check": False}
+        ran = subprocess.run(command, env=self.env, **how)
+        return ran.returncode, ran.stderr
+
     def is_built(self) -> bool:
         return os.path.exists(f"{self.at}/out/built")
+
+    def count_python(self) -> Callable[[], int]:
+        """Has a python3 first on the path that notes each start; what it returns tells how many began since last asked."""
+        real = shutil.which("python3")
+        self.write("bin/python3", f'#!/bin/sh\necho >> {self.at}/starts\nexec {real} "$@"\n')
+        os.chmod(f"{self.at}/bin/python3", 0o755)
+
+        def since() -> int:
+            with open(f"{self.at}/starts", "a+", encoding="utf-8") as file:
+                file.seek(0)
+                found = len(file.readlines())
+                file.truncate(0)
+            return found
+
+        return since
 
 
 def ended(started: subprocess.Popen[str]) -> tuple[int, str, str]:
@@ -94,22 +134,23 @@ def wait_for(what: Callable[[], object]) -> None:
 
 
 @contextlib.contextmanager
-def copy() -> Iterator[Copy]:
+def copy(*listed: str) -> Iterator[Copy]:
     with folder() as at:
-        yield Copy(at)
+        yield Copy(at, *listed)
 
 
 def builds_once() -> None:
     """build: each crate once, in order, told on standard error; then again only where a source has changed"""
     with copy() as it:
-        status, output, error = it.run("run", "x")
-        equal((status, output), (7, "one: run x\ninput\n"))
+        status, output, error = it.run("marks", "S")
+        equal((status, output), (77, "one: marks S\ninput\n"))
+        assert "./coverage try COMMAND .. answers at once, without proof" in error.splitlines()[0], error
         assert error.index(LIBRARY) < error.index(PROGRAM) < error.index("built: 2 crates"), error
         equal(it.calls(), ["lib low", "run coverage_program"])
-        equal(it.run("table"), (7, "one: table\ninput\n", ""))
-        equal(it.run("runs"), (7, "one: runs\ninput\n", ""))
+        equal(it.run("table"), (77, "one: table\ninput\n", ""))
+        equal(it.run("runs"), (77, "one: runs\ninput\n", ""))
         it.write("crates/coverage_program/src/main.rt", "two")
-        equal(it.run("run")[:2], (7, "two: run\ninput\n"))
+        equal(it.run("run")[:2], (77, "two: run\ninput\n"))
         equal(len(it.calls()), 4)
         os.remove(f"{it.at}/crates/low/src/lib.rt")
         it.run("run")
@@ -135,7 +176,8 @@ def needs_no_build() -> None:
         assert output.startswith("usage: coverage run < JOB > REPORT\n"), output
         equal(it.run("page")[0], 2)
         for word in ("runs", "help", "-h", "RUN"):
-            equal(it.run(word), (1, "", f"coverage: {word} is no command: ./coverage alone says which there are\n"))
+            status, output, error = it.run(word)
+            equal((status, output, error.splitlines()[0]), (1, "", f"coverage: {word} is no command: ./coverage alone says which there are"))
         equal(it.calls(), [])
         assert not os.path.exists(f"{it.at}/out")
 
@@ -148,10 +190,11 @@ def fails() -> None:
         it.write("fail", "")
         status, output, error = it.run("run")
         equal((status, output), (70, ""))
-        assert "the build of low failed" in error and "a goal is open" in error, error
+        assert "the build of low failed" in error and f"{it.at}/out/logs/low.log" in error, error
+        assert "a goal of low is open" in error, error
         assert not it.is_built()
         os.remove(f"{it.at}/fail")
-        equal(it.run("run")[0], 7)
+        equal(it.run("run")[0], 77)
 
 
 def no_toolchain() -> None:
@@ -177,7 +220,7 @@ def is_interrupted() -> None:
             assert had != 0 and (status is None or had in (status, -number)), had
             equal((output, it.is_built()), ("", False))
             it.let_go()
-            equal(it.run("run")[:2], (7, "one: run\ninput\n"))
+            equal(it.run("run")[:2], (77, "one: run\ninput\n"))
 
 
 def half_a_program() -> None:
@@ -185,9 +228,9 @@ def half_a_program() -> None:
     with copy() as it:
         it.run("run")
         it.write("out/coverage_program", "#!/bin/sh\necho wrong\n")
-        equal(it.run("run")[:2], (7, "one: run\ninput\n"))
+        equal(it.run("run")[:2], (77, "one: run\ninput\n"))
         os.remove(f"{it.at}/out/built")
-        equal(it.run("run")[:2], (7, "one: run\ninput\n"))
+        equal(it.run("run")[:2], (77, "one: run\ninput\n"))
         equal(len(it.calls()), 6)
 
 
@@ -199,8 +242,8 @@ def waits() -> None:
         seen = second.stderr.readline() if second.stderr else ""
         assert "another build runs in this copy" in seen, seen
         it.let_go()
-        equal(ended(first)[:2], (7, "one: run\ninput\n"))
-        equal(ended(second), (7, "one: table\ninput\n", ""))
+        equal(ended(first)[:2], (77, "one: run\ninput\n"))
+        equal(ended(second), (77, "one: table\ninput\n", ""))
         equal(len(it.calls()), 2)
 
 
@@ -229,9 +272,9 @@ def on_terminal() -> None:
                 seen += data
         os.close(master)
         lines = seen.decode().split("\n")
-        progress = [part for line in lines for part in line.split("\r") if "proving low" in part or "crate 2 of 2" in part]
+        progress = [part for line in lines for part in line.split("\r") if "at work: low" in part or "1 of 2 proved" in part]
         assert len(progress) >= 2 and all(part.startswith("\x1b[K") for part in progress), seen
-        equal(sum(LIBRARY in line or PROGRAM in line for line in lines), 1)
+        equal(sum("of 2 proved" in line for line in lines), 1)
 
 
 def is_kept() -> None:
@@ -250,7 +293,68 @@ def is_kept() -> None:
         equal(it.calls(), [])
 
 
+SOURCE, MADE = "crates/low/src/lib.rt", "out/coverage_program"
+
+
+def change_alike(it: Copy) -> None:
+    """Another text of the same size and time."""
+    was = os.stat(f"{it.at}/{SOURCE}")
+    it.write(SOURCE, "eno")
+    os.utime(f"{it.at}/{SOURCE}", ns=(was.st_atime_ns, was.st_mtime_ns))
+
+
+def remove(*names: str) -> Callable[[Copy], None]:
+    return lambda it: [os.remove(f"{it.at}/{name}") for name in names] and None
+
+
+# What is done to a copy that is built, and whether the crates are then built anew.
+CHANGES: list[tuple[str, Callable[[Copy], None], bool]] = [
+    ("nothing", lambda it: None, False),
+    ("the same size and time", change_alike, True),
+    ("a file more", lambda it: it.write("crates/low/src/more.rt", "more"), True),
+    ("a file less", remove(SOURCE), True),
+    ("the list of crates", lambda it: it.write("crates.txt", "coverage_program: low\nlow:\n"), True),
+    ("the handles", lambda it: it.write("HANDLES", "some\n"), True),
+    ("another program", lambda it: it.write(MADE, "#!/bin/sh\nexit 0\n"), True),
+    ("no program", remove(MADE), True),
+    ("no note", remove("out/built"), True),
+    ("neither", remove(MADE, "out/built"), True),
+    ("another time alone", lambda it: os.utime(f"{it.at}/{SOURCE}"), False),
+]
+
+
+def is_seen() -> None:
+    """build: where nothing has changed a call starts no Python; a change is seen, also one of the same size and time"""
+    well = (77, "one: run\ninput\n", "")
+
+    def one(row: tuple[str, Callable[[Copy], None], bool]) -> None:
+        name, change, is_anew = row
+        with copy() as it:
+            starts = it.count_python()
+            it.run("run")
+            # What it has seen is noted where all that was changed last more than a second before.
+            time.sleep(2.1)
+            equal((name, it.run("run"), starts()), (name, well, 2))
+            equal((name, it.run("run"), it.run("runs"), starts()), (name, well, (77, "one: runs\ninput\n", ""), 0))
+            change(it)
+            equal((name, it.run("run")[:2], len(it.calls())), (name, well[:2], 4 if is_anew else 2))
+            equal((name, starts()), (name, 0 if name == "nothing" else 1))
+
+    with futures.ThreadPoolExecutor(len(CHANGES)) as pool:
+        for _ in pool.map(one, CHANGES):
+            pass
+
+
+def is_seen_at_once() -> None:
+    """build: a source that is changed right behind a build, at the same size, is seen, however soon"""
+    with copy() as it:
+        it.run("run")
+        for number in range(10):
+            it.write("crates/coverage_program/src/main.rt", f"{number} x")
+            equal(it.run("run")[1], f"{number} x: run\ninput\n")
+
+
 CHECKS = [
-    builds_once, how_long, needs_no_build, fails, no_toolchain, is_interrupted, half_a_program, waits, changes_meanwhile,
-    on_terminal, is_kept,
+    is_seen, is_seen_at_once, builds_once, how_long, needs_no_build, fails, no_toolchain, is_interrupted, half_a_program,
+    waits, changes_meanwhile, on_terminal, is_kept,
 ]
