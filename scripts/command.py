@@ -3,7 +3,7 @@ from __future__ import annotations
 
 import os
 import sys
-from typing import Callable
+from typing import Callable, Optional
 
 USAGE, BAD_INPUT, READ_FAULT, WRITE_FAULT, INTERRUPTED = 1, 2, 5, 6, 130
 
@@ -27,12 +27,12 @@ def read_file(path: str) -> bytes:
         raise Fault(path, reason(error)) from None
 
 
-def read_input() -> bytes:
-    """The bytes of standard input."""
+def read_input(most: int = -1) -> bytes:
+    """The bytes of standard input, and at most so many where a number is given."""
     try:
         if sys.stdin is None:
             raise Fault("standard input", "is closed", READ_FAULT)
-        return sys.stdin.buffer.read()
+        return sys.stdin.buffer.read(most)
     except OSError as error:
         raise Fault("standard input", reason(error), READ_FAULT) from None
 
@@ -70,20 +70,19 @@ def reason(error: Exception) -> str:
     return getattr(error, "strerror", None) or str(error)
 
 
-def run(usage: str, main: Callable[[list[str]], None]) -> int:
-    """Runs a command on its words, and answers the exit status. `--help` prints the usage; main raises
-    `UsageError` where the words are no command's."""
+def run(usage: str, main: Callable[[list[str]], Optional[int]]) -> int:
+    """Runs a command on its words, and answers the exit status: 0, or main's where it answers one. `--help` prints the
+    usage; main raises `UsageError` where the words are no command's."""
     words = sys.argv[1:]
     try:
-        if words == ["--help"]:
-            write_output(usage.encode())
-        else:
-            main(words)
+        if words != ["--help"]:
+            return main(words) or 0
+        write_output(usage.encode())
         return 0
     except KeyboardInterrupt:
         return INTERRUPTED
     except UsageError:
-        complain(usage.rstrip("\n"))
+        complain(usage.rstrip("\n") + call_meant(usage, words))
         return USAGE
     except Fault as fault:
         complain(f"coverage: {fault}")
@@ -92,6 +91,15 @@ def run(usage: str, main: Callable[[list[str]], None]) -> int:
 
 class UsageError(Exception):
     """The words are not those of the command."""
+
+
+def call_meant(usage: str, words: list[str]) -> str:
+    """A line with the call that was meant, where the last word is a file and the command wants one on standard input."""
+    call, reads, _ = usage.partition("\n")[0].removeprefix("usage: coverage ").partition(" < ")
+    if not reads or not words or not os.path.isfile(words[-1]):
+        return ""
+    own = [call.split(" ")[0], *words[:-1]] if words[:-1] else [call]
+    return f"\n\ncoverage: did you mean ./coverage {' '.join(own)} < {words[-1]} ?"
 
 
 def complain(text: str) -> None:

@@ -23,3 +23,8 @@ def to_ascii(text: bytes, table: bytes = TEXT) -> bytes:
 def shown(text: bytes) -> str:
     """The text in ASCII, without the blanks at its end."""
     return to_ascii(text).decode("ascii").rstrip(" ")
+
+
+def to_ebcdic(text: str) -> bytes:
+    """Printed characters of ASCII in code page 037, a byte for each; 1047 differs in brackets and caret alone."""
+    return text.encode("cp037")

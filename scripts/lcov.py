@@ -5,21 +5,31 @@ import os
 import sys
 
 from command import Fault, UsageError, WRITE_FAULT, read_input, reason, run, write_file
+from labels import spots_of
 from report import Line, Module, Session, read_report
 
 USAGE = """\
 usage: coverage lcov FOLDER < REPORT
 
-Writes the listings of a report (of run, early, exits, replay or show) into FOLDER, each module's as NAME.lst, and beside them
-coverage.info, a tracefile that genhtml and others take:
+Writes the listings of a report (of run, early, exits, replay or show) into FOLDER, that of each session's module as
+SESSION/MODULE.lst, and coverage.info beside them, a tracefile that genhtml and others take. It names the listings from
+FOLDER on, so that genhtml runs there:
 
-  genhtml --branch-coverage --output-directory PAGES FOLDER/coverage.info
+  cd FOLDER && genhtml --branch-coverage --output-directory PAGES coverage.info
 
-Each session that has the module is a test of the tracefile. Each instruction line is a line of it, executed or not:
-a report counts no executions, so that counts are 0 and 1. Each line of a conditional branch has two branches, taken
-and not taken. Where the counts of the same job (of count) stand behind a report of run, the tracefile has these. Counts
-alone have no listings: then NAME.lst has a line for each place, with its location. The listings are named as FOLDER was
-given: run genhtml where you ran this.
+The names are the same for every run, whatever FOLDER is, so that tracefiles of several runs unite:
+
+  lcov --rc lcov_branch_coverage=1 -a ONE/coverage.info -a OTHER/coverage.info -o ALL.info
+
+genhtml takes ALL.info likewise, in either folder. In names of files the characters @, # and $ are a, n and d.
+
+Each session is a test of the tracefile. Each instruction line is a line of it, executed or not: a report counts no
+executions, so that counts are 0 and 1. Each line of a conditional branch has two branches, taken and not taken. Each
+label at an instruction is a function, as often called as that was executed; the instructions before the first label are
+one of the module's name. A label that comes again has its location behind it. Where the counts of the same job (of
+count) stand behind a report, the tracefile has these; the ends of its tasks (of ends), which may stand there too, leave
+nothing in it. Counts alone have no listings: then MODULE.lst has a line for each place, with its location, and one
+function.
 
 What is no report is refused by its line on standard error; then the status is 2, and nothing is written. This script
 is not proved.
@@ -28,9 +38,9 @@ is not proved.
 IN_FILES = str.maketrans({"@": "a", "#": "n", "$": "d"})
 
 
-def file_of(module: Module) -> str:
-    """The name of a listing's file."""
-    return f"{module.name.translate(IN_FILES)}.lst"
+def file_of(session: Session, module: Module) -> str:
+    """The name of a listing's file, from the folder of the tracefile on."""
+    return f"{session.name.translate(IN_FILES)}/{module.name.translate(IN_FILES)}.lst"
 
 
 def hits(line: Line) -> int:
@@ -49,14 +59,31 @@ def branches(number: int, line: Line) -> list[str]:
     return [f"BRDA:{number},0,{branch},{count}" for branch, count in enumerate(counts)]
 
 
-def record(folder: str, session: Session, module: Module) -> list[str]:
+def functions(module: Module) -> list[str]:
+    """The labels of a listing as functions: where each begins, and how often that place ran."""
+    spots = spots_of(module.lines)
+    found = {at: it.label for at, it in spots.items() if it.label}
+    for at in list(spots)[:1]:
+        is_taken = module.name in found.values() and at not in found
+        found.setdefault(at, f"{module.name}.{module.lines[at].location:06X}" if is_taken else module.name)
+    counts = {at: hits(module.lines[at]) for at in found}
+    return [
+        *(f"FN:{at + 1},{found[at]}" for at in sorted(found)),
+        *(f"FNDA:{counts[at]},{found[at]}" for at in sorted(found)),
+        f"FNF:{len(found)}",
+        f"FNH:{sum(it > 0 for it in counts.values())}",
+    ]
+
+
+def record(session: Session, module: Module) -> list[str]:
     """The record of a module's listing in one session."""
     lines = [(at, it) for at, it in enumerate(module.lines, 1) if it.mark != " "]
     conditional = [(at, it) for at, it in lines if it.is_conditional]
     hit = sum(count > 0 for _, it in conditional for count in branch_hits(it))
     return [
         f"TN:{session.name.translate(IN_FILES)}",
-        f"SF:{os.path.join(folder, file_of(module))}",
+        f"SF:{file_of(session, module)}",
+        *functions(module),
         *(text for at, it in conditional for text in branches(at, it)),
         f"BRF:{2 * len(conditional)}",
         f"BRH:{hit}",
@@ -67,23 +94,29 @@ def record(folder: str, session: Session, module: Module) -> list[str]:
     ]
 
 
+def make_folder(path: str) -> None:
+    """Makes a folder, where it isn't there."""
+    try:
+        os.makedirs(path, exist_ok=True)
+    except (OSError, ValueError) as error:
+        raise Fault(path, reason(error), WRITE_FAULT) from None
+
+
 def main(words: list[str]) -> None:
-    # A record of a tracefile is a line, and genhtml would take a file of the other kind for an option.
-    if len(words) != 1 or not words[0] or words[0].startswith("-") or not words[0].isprintable():
+    # A word like -h is meant for an option, which there is none of.
+    if len(words) != 1 or not words[0] or words[0].startswith("-"):
         raise UsageError
     folder = words[0]
     report = read_report("standard input", read_input())
     found = [(session, it) for session in report.sessions for it in session.modules if it.lines]
     if not found:
         raise Fault("standard input", "the report has no listing")
-    tracefile = [line for session, it in found for line in record(folder, session, it)]
-    try:
-        os.makedirs(folder, exist_ok=True)
-    except (OSError, ValueError) as error:
-        raise Fault(folder, reason(error), WRITE_FAULT) from None
-    for _, module in found:
-        write_file(os.path.join(folder, file_of(module)), b"".join(it.text + b"\n" for it in module.lines))
-    write_file(os.path.join(folder, "coverage.info"), "".join(f"{it}\n" for it in tracefile).encode("utf-8", "surrogateescape"))
+    tracefile = [line for session, it in found for line in record(session, it)]
+    for session, module in found:
+        path = os.path.join(folder, file_of(session, module))
+        make_folder(os.path.dirname(path))
+        write_file(path, b"".join(it.text + b"\n" for it in module.lines))
+    write_file(os.path.join(folder, "coverage.info"), "".join(f"{it}\n" for it in tracefile).encode("ascii"))
 
 
 if __name__ == "__main__":

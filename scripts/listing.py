@@ -75,6 +75,12 @@ def read_listing(path: str, data: bytes) -> list[bytes]:
     return [cut(f"{path}: line {at + 1}", it, heading, at > heading.at) for at, it in enumerate(lines)]
 
 
+def is_listing(data: bytes) -> bool:
+    """Whether the bytes are a listing: some of their lines, or of their records, have a heading, and one behind it object code."""
+    ways = [ascii_lines(data), ended_lines(data), *(records_of(data, length) for length in RECORDS)]
+    return any(heading is not None and has_code(lines, heading) for lines in ways for heading in [heading_of(lines)])
+
+
 def has_code(lines: list[bytes], heading: Heading) -> bool:
     """Whether a line behind the heading has a location and object code in its columns."""
     return any(object_code(it, heading) for it in lines[heading.at + 1 :])

@@ -3,14 +3,16 @@ from __future__ import annotations
 
 import re
 import sys
+from typing import Callable, Optional, TypeVar
 
-from cards import base_of, check_size, module_cards, name_of
-from command import Fault, UsageError, read_file, run, write_output
-from listing import read_listing
-from object_deck import check_form, is_deck, read_deck, text_of
+from cards import Broken, base_of, check_module, module_cards, name_of
+from command import BAD_INPUT, Fault, UsageError, complain, read_file, run, write_output
+from listing import is_listing, read_listing
+from listing_warnings import Ranges, warnings_of
+from object_deck import check_form, is_deck, ranges_of, read_deck, text_of
 
 USAGE = """\
-usage: coverage module NAME BASE OBJECT [LISTING] [SYMBOL=ADDRESS ..] > CARDS
+usage: coverage module [--strict] NAME BASE OBJECT [LISTING] [SYMBOL=ADDRESS ..] > CARDS
 
 Writes the cards MODULE, TEXT and LISTING of a module.
 
@@ -28,23 +30,50 @@ Writes the cards MODULE, TEXT and LISTING of a module.
            has what it names
 
 What is wrong is said on standard error, with its file and record or line; then the status is 2, and nothing is
-written. This script is not proved. The program that reads the cards compares each instruction line with the bytes.
+written. What the listing seems to lack is warned of there, and the cards are written all the same: pages whose numbers
+jump, a missing END, bytes of the object that stand on no line, with what PRINT NOGEN leaves out, lines that look like
+instructions but whose columns are off, a section that begins at 0 again (docs/LISTING.md, "What module warns of").
+Coverage of such a listing is better than that of the program.
+
+  --strict  refuses the listing where there is something to warn of, with the status 2
+
+The program that reads the cards compares each instruction line with the bytes. This script is not proved.
 """
 
-
 GIVEN = re.compile(r"([A-Z@#$_][A-Z@#$_0-9]{0,7})=([0-9A-Fa-f]{6})")
+WORDS = "the words are NAME BASE OBJECT LISTING"
+Value = TypeVar("Value")
 
 
-def text_from(path: str, base: int, given: dict[str, int]) -> bytes:
-    """The bytes of the module in a file: those of the file, or what its records say."""
-    data = read_file(path)
+def text_from(path: str, data: bytes, base: int, given: dict[str, int]) -> tuple[bytes, Ranges]:
+    """The bytes of the module that an object is, or that its records say, and which of them are text."""
     check_form(path, data)
     if is_deck(data):
-        return text_of(path, read_deck(path, data), base, given)
+        deck = read_deck(path, data)
+        text = text_of(path, deck, base, given)
+        return text, ranges_of(deck)
+    check_no_text(path, data)
     if given:
         raise Fault(path, "no object deck, which alone has external references")
-    check_size(path, base, len(data))
-    return data
+    check_module(path, base, len(data))
+    return data, [(0, len(data))]
+
+
+def check_no_text(path: str, data: bytes) -> None:
+    """Refuses a listing, cards and a text of other kinds in the place of an object; no program begins so, or is lines of ASCII."""
+    if data.startswith((b"MODULE ", b"COVERJOB ")):
+        raise Fault(path, f"cards of a job, and no object; {WORDS}")
+    if is_listing(data):
+        raise Fault(path, f"a listing, and no object; {WORDS}")
+    if data.endswith(b"\n") and re.fullmatch(rb"[\t\r\n -~]+", data):
+        raise Fault(path, f"lines of text, and no object: neither a module's bytes nor an object deck; {WORDS}")
+
+
+def listing_from(path: str, data: bytes) -> list[bytes]:
+    """The lines of a listing."""
+    if is_deck(data):
+        raise Fault(path, f"an object deck, and no listing; {WORDS}")
+    return read_listing(path, data)
 
 
 def addresses(words: list[str]) -> dict[str, int]:
@@ -56,14 +85,44 @@ def addresses(words: list[str]) -> dict[str, int]:
     return given
 
 
+def value_of(read: Callable[[str], Value], word: str, what: str, other: str) -> Value:
+    """What is read of a word; where it can't be, and could where another word stands, they were exchanged."""
+    try:
+        return read(word)
+    except Broken as broken:
+        raise Fault(what, f"{broken}{exchanged(read, other)}") from None
+
+
+def exchanged(read: Callable[[str], Value], other: str) -> str:
+    """Whether the other word would do."""
+    try:
+        read(other)
+    except Broken:
+        return ""
+    return f"; NAME and BASE seem to be exchanged: {WORDS}"
+
+
+def warn(path: str, warnings: list[str], is_strict: bool) -> None:
+    """Says what the listing seems to lack, and refuses it where that is asked for."""
+    for it in warnings:
+        complain(f"coverage: warning: {it}")
+    if warnings and is_strict:
+        raise Fault(path, "--strict refuses what is warned of", BAD_INPUT)
+
+
 def main(words: list[str]) -> None:
-    if len(words) < 3:
+    is_strict = words[:1] == ["--strict"]
+    words = words[is_strict:]
+    if len(words) < 3 or any(it.startswith("--") for it in words):
         raise UsageError
     has_listing = len(words) > 3 and not GIVEN.fullmatch(words[3])
     given = addresses(words[4:] if has_listing else words[3:])
-    name, base = name_of(words[0]), base_of(words[1])
-    text = text_from(words[2], base, given)
-    listing = read_listing(words[3], read_file(words[3])) if has_listing else None
+    name, base = value_of(name_of, words[0], "NAME", words[1]), value_of(base_of, words[1], "BASE", words[0])
+    text, ranges = text_from(words[2], read_file(words[2]), base, given)
+    listing: Optional[list[bytes]] = None
+    if has_listing:
+        listing = listing_from(words[3], read_file(words[3]))
+        warn(words[3], warnings_of(words[3], listing, text, ranges), is_strict)
     write_output(module_cards(name, base, text, listing))
 
 

@@ -5,9 +5,10 @@ A record is a card image of 80 bytes: X'02', three letters in EBCDIC, and fields
 """
 from __future__ import annotations
 
+import re
 from dataclasses import dataclass, field
 
-from cards import check_size
+from cards import check_module
 from command import Fault
 from ebcdic import shown
 
@@ -17,6 +18,10 @@ SECTIONS, REFERENCES = ("SD", "PC", "CM"), ("ER", "WX")
 ITEM, ITEMS, MOST_DATA = 16, (16, 32, 48), 56
 # How the first record begins, and how far behind it the next does: with four bytes more where a transfer has kept its length.
 FIRST_LETTERS, RECORD_STEPS = b"\x02\xc5\xe2\xc4", (RECORD, RECORD + 4)
+NAMES = ("ESD", "TXT", "RLD", "SYM", "END")
+BEGINS = b"(?=\x02(?:" + b"|".join(it.encode("cp037") for it in NAMES) + b"))"
+# What may part card images that went through a transfer of text.
+LINE_ENDS = (b"\x0d\x0a", b"\x0d\x25", b"\x0a", b"\x15", b"\x25")
 NO_ITEM, LETTERS = (b"\x40\x40", b"\x00\x00"), (*range(0xC1, 0xCA), *range(0xD1, 0xDA), *range(0xE2, 0xEA))
 
 
@@ -80,14 +85,13 @@ def number(data: bytes) -> int:
 
 def read_deck(path: str, data: bytes) -> Deck:
     """Reads the records of a deck up to its END record, which is the last."""
-    if len(data) % RECORD:
-        raise Fault(path, f"an object deck of {len(data)} bytes, which is no multiple of {RECORD}")
+    check_records(path, data)
     deck, readers = Deck(), {"ESD": read_symbols, "TXT": read_text, "RLD": read_constants}
     count = len(data) // RECORD
     for at in range(count):
         record, place = data[at * RECORD : (at + 1) * RECORD], f"{path}: record {at + 1}"
         name = shown(record[1:4])
-        if record[0] != 0x02 or name not in (*readers, "SYM", "END"):
+        if record[0] != 0x02 or name not in NAMES:
             begins = record[:4].hex().upper()
             raise Fault(place, f"an unknown record, which begins {begins}: it is none of ESD, TXT, RLD, SYM and END")
         if name == "END":
@@ -97,6 +101,26 @@ def read_deck(path: str, data: bytes) -> Deck:
         if name != "SYM":
             readers[name](deck, place, record)
     raise Fault(f"{path}: record {count + 1}", "the END record is missing")
+
+
+def check_records(path: str, data: bytes) -> None:
+    """Refuses what is not made of card images alone."""
+    rest = len(data) % RECORD
+    whole = f", which is no multiple of {RECORD}" if rest else ""
+    for end in LINE_ENDS:
+        images = re.split(re.escape(end) + BEGINS, data)
+        if len(images) > 1 and all(len(it) <= RECORD for it in [*images[:-1], images[-1].removesuffix(end)]):
+            ends, advice = f"its card images end with line ends, X'{end.hex().upper()}'", "transfer it as binary, without line ends"
+            raise Fault(path, f"an object deck of {len(data)} bytes{whole}: {ends}; {advice}")
+    if rest:
+        raise Fault(path, f"an object deck of {len(data)} bytes{whole}: its last record has {rest} bytes")
+
+
+def ranges_of(deck: Deck) -> list[tuple[int, int]]:
+    """Where the bytes of the module begin and end that the records have text for, once the sections have their places."""
+    pieces = [(section_of(deck, it.place, it.section), it) for it in deck.texts]
+    begins = [(section.at + it.address - section.origin, it) for section, it in pieces]
+    return [(at, at + len(it.data)) for at, it in begins]
 
 
 def data_of(place: str, record: bytes) -> bytes:
@@ -172,7 +196,7 @@ def text_of(path: str, deck: Deck, base: int, given: dict[str, int]) -> bytes:
     """The module of the deck at this base: its sections' text, each constant with the addresses that it stands for. Names that
     other modules define have the addresses that are given."""
     size = lay_out(path, deck)
-    check_size(path, base, size)
+    check_module(path, base, size)
     addresses = addresses_of(deck, base, given)
     text = bytearray(size)
     for piece in deck.texts:

@@ -1,6 +1,7 @@
-"""Reports and counts, as docs/REPORT.md has them: read line by line, and refused at the first line that is none of theirs."""
+"""Reports, counts and ends, as docs/REPORT.md has them: read line by line, and refused at the first line that is none."""
 from __future__ import annotations
 
+import itertools
 import re
 from dataclasses import dataclass, field
 from typing import NoReturn, Optional
@@ -8,7 +9,8 @@ from typing import NoReturn, Optional
 from command import Fault
 from listing import heading_of, object_code
 
-TITLES = (b"COVERAGE REPORT", b"COVERAGE REPLAY", b"COVERAGE SHOW", b"COVERAGE COUNT")
+REPORT, REPLAY, SHOW, COUNTS, ENDS = (b"COVERAGE " + it for it in (b"REPORT", b"REPLAY", b"SHOW", b"COUNT", b"ENDS"))
+TITLES = (REPORT, REPLAY, SHOW, COUNTS)
 NAME = rb"([A-Z@#$][A-Z@#$0-9]{0,7})"
 ENDING = rb"(RETURNED|EXIT|ABEND [0-9A-F]|BADSVC [0-9]{1,3}|TOUCHED [0-9A-F]{6}|OUTFULL|SPENT|RUNNING)"
 # What the line of an event tells behind its number.
@@ -30,6 +32,9 @@ MODULE = re.compile(rb"MODULE " + NAME + rb" PLACES ([0-9]{1,9}) EXECUTED ([0-9]
 COUNTED = re.compile(rb"MODULE " + NAME + rb" PLACES ([0-9]{1,9})")
 COUNT = re.compile(rb"COUNT ([0-9A-F]{6}) ([0-9]{1,20})(?: ([0-9]{1,20}))?")
 RANGE = re.compile(rb"NOT EXECUTED ([0-9A-F]{6})-([0-9A-F]{6})")
+WHERE = rb"([0-9A-F]{6})(?: PRIVATE()| " + NAME + rb" ([0-9A-F]{6}))?"
+ENDED = re.compile(rb"TASK " + NAME + b" " + ENDING + rb" COUNT ([0-9]{1,9}) AT " + WHERE)
+UNLISTED = re.compile(rb"UNLISTED " + NAME + rb" ([0-9]{1,10})")
 DRAINED = re.compile(rb"DRAINED COUNT ([0-9]{1,9})|NOT DRAINED")
 MARKED = re.compile(rb"[\^:>V& ] ")
 # How many facts a mark stands for.
@@ -86,13 +91,26 @@ class Task:
 
 
 @dataclass
+class End:
+    """Where a task ended: its address, and the module and the location there, or whether that is private storage."""
+
+    address: int
+    is_private: bool = False
+    module: Optional[str] = None
+    location: int = 0
+
+
+@dataclass
 class Report:
-    """All of a report."""
+    """All of a report. What `ends` tells of its job: where each task ended, by name, and for each module that has a listing
+    how often an instruction ran that has no line there; none where it wasn't asked."""
 
     title: str
     events: list[str] = field(default_factory=list)
     tasks: list[Task] = field(default_factory=list)
     sessions: list[Session] = field(default_factory=list)
+    ends: Optional[dict[str, End]] = None
+    unlisted: dict[str, int] = field(default_factory=dict)
 
 
 def mark_of(counts: tuple[int, ...]) -> str:
@@ -141,42 +159,92 @@ class Reader:
         return found
 
     def report(self) -> Report:
-        """The whole input: a report, maybe with the counts of its job behind it, or counts."""
+        """The whole input: a report, or counts; behind a report maybe the counts of its job, behind either the ends."""
+        self.check_title()
+        report = self.part()
+        may_follow = {"COVERAGE REPORT": {COUNTS, ENDS}, "COVERAGE COUNT": {ENDS}}.get(report.title, set())
+        while self.at < len(self.lines):
+            title = self.look()
+            if title not in may_follow:
+                self.refuse(f"a line behind END: {shown(title)}")
+            may_follow.remove(title)
+            if title == COUNTS:
+                self.add_counts(report)
+            else:
+                self.add_ends(report)
+        return report
+
+    def check_title(self) -> None:
+        """Refuses what doesn't begin as a report."""
+        if self.lines and self.lines[0] == ENDS:
+            self.refuse("COVERAGE ENDS stands behind the report of its job, and not alone")
         if not self.lines or self.lines[0] not in TITLES:
             has = shown(self.lines[0]) if self.lines else "nothing"
-            self.refuse(f"no report, which begins COVERAGE REPORT, COVERAGE REPLAY, COVERAGE SHOW or COVERAGE COUNT: {has}")
-        report = self.part()
-        if report.title == "COVERAGE REPORT" and self.at < len(self.lines) and self.look() == TITLES[3]:
-            self.add_counts(report)
-        if self.at < len(self.lines):
-            self.refuse("a line behind END")
-        return report
+            titles = "COVERAGE REPORT, COVERAGE REPLAY, COVERAGE SHOW or COVERAGE COUNT"
+            self.refuse(f"no report, which begins {titles}: {has}")
 
     def part(self) -> Report:
         """A report or counts, from the first line to END."""
         title = self.look()
         report = Report(title.decode())
         self.at += 1
-        while title == TITLES[1] and self.look().startswith(b"EVENT "):
+        while title == REPLAY and self.look().startswith(b"EVENT "):
             report.events.append(self.event(len(report.events) + 1))
-        while title != TITLES[2] and self.look().startswith(b"TASK "):
+        while title != SHOW and self.look().startswith(b"TASK "):
             report.tasks.append(self.task(title))
         while self.look() != b"END":
             report.sessions.append(self.session(title))
-        if title == TITLES[2] and len(report.sessions) != 1:
+        if title == SHOW and len(report.sessions) != 1:
             self.refuse("not one session, which COVERAGE SHOW has")
         self.at += 1
         return report
 
     def add_counts(self, report: Report) -> None:
-        """Gives the places of a report the counts behind it, which are of the same job where all else that they tell is."""
+        """Gives the places of a report the counts behind it, which are of the same job where all else in them is."""
         start = self.at
         counts = self.part()
-        if (counts.tasks, outline(counts)) != (report.tasks, outline(report)):
-            self.refuse("these counts are not of the report's job", start)
+        other = difference(outline(report), outline(counts))
+        if other:
+            self.refuse(f"these counts are not of the report's job: {other}", start)
         for module, counted in zip(modules_of(report), modules_of(counts)):
             for place, line in zip(places_of(module), counted.lines):
                 place.counts = line.counts
+
+    def add_ends(self, report: Report) -> None:
+        """Gives a report where its tasks ended, and how often instructions ran that its modules' listings don't have."""
+        self.at += 1
+        report.ends = {task.name: self.end_of(task) for task in report.tasks}
+        # Counts alone don't tell a module without a listing from one whose listing has no places.
+        bare = {it.name for it in modules_of(report) if not it.lines and report.title != "COVERAGE COUNT"}
+        while (found := self.next_if(UNLISTED)) is not None:
+            name = found[1].decode()
+            if name in report.unlisted:
+                self.refuse(f"module {name} a second time", self.at - 1)
+            if name in bare:
+                self.other_ends(f"a line of module {name}, which has no listing in the report", self.at - 1)
+            report.unlisted[name] = int(found[2])
+        if self.look().startswith(b"TASK "):
+            self.other_ends(f"{shown(self.look())}, and the report has no further task")
+        if self.look() != b"END":
+            self.refuse(f"no line of ends: {shown(self.look())}")
+        for module in modules_of(report):
+            if module.lines and module.name not in report.unlisted:
+                self.other_ends(f"no line of module {module.name}, which has a listing in the report")
+        self.at += 1
+
+    def end_of(self, task: Task) -> End:
+        """Where a task of the report ended, by the next line."""
+        found, has = self.next_if(ENDED), f"task {task.name} {task.ending} COUNT {task.count}"
+        if found is None:
+            self.other_ends(f"{shown(self.look())}, and the report has {has}")
+        told = f"task {found[1].decode()} {found[2].decode()} COUNT {int(found[3])}"
+        if told != has:
+            self.other_ends(f"{told}, and the report has {has}", self.at - 1)
+        module = found[6].decode() if found[6] else None
+        return End(int(found[4], 16), found[5] is not None, module, int(found[7] or b"0", 16))
+
+    def other_ends(self, what: str, at: Optional[int] = None) -> NoReturn:
+        self.refuse(f"these ends are not of the report's job: {what}", at)
 
     def event(self, number: int) -> str:
         found = self.next(EVENT, "line of an event")
@@ -186,7 +254,7 @@ class Reader:
 
     def task(self, title: bytes) -> Task:
         head = self.next(TASK, "line of a task")
-        if head[2] == b"RUNNING" and title != TITLES[1]:
+        if head[2] == b"RUNNING" and title != REPLAY:
             self.refuse(f"a task that hasn't ended: {shown(head[0])}", self.at - 1)
         registers = [self.next(REGISTERS, "line of registers")[1].decode().split() for _ in range(2)]
         count = int(self.next(OUTPUT, "line of an output")[1])
@@ -201,12 +269,12 @@ class Reader:
         return Task(head[1].decode(), head[2].decode(), int(head[3]), int(head[4]), sum(registers, []), output, rows)
 
     def session(self, title: bytes) -> Session:
-        module = self.counted if title == TITLES[3] else self.module
+        module = self.counted if title == COUNTS else self.module
         head = self.next(SESSION, "line")
         session = Session(head[1].decode(), head[2].decode())
         while self.look().startswith(b"MODULE "):
             session.modules.append(module())
-        if title == TITLES[0] and (found := self.next_if(DRAINED)) is not None:
+        if title == REPORT and (found := self.next_if(DRAINED)) is not None:
             session.is_drained = found[1] is not None
             session.drained_at = int(found[1]) if found[1] else None
         return session
@@ -264,10 +332,24 @@ def places_of(module: Module) -> list[Line]:
     return sorted((it for it in module.lines if it.mark != " "), key=lambda it: it.location or 0)
 
 
-def outline(report: Report) -> list[object]:
-    """Sessions, modules and marks, without listings."""
-    places = [[(it.location, it.is_conditional, it.mark) for it in places_of(module)] for module in modules_of(report)]
-    return [[(session.name, session.phase, [it.name for it in session.modules]) for session in report.sessions], places]
+def outline(report: Report) -> list[tuple[str, object]]:
+    """What a report and the counts of its job have alike, part by part: what each is called, and what is told of it."""
+    parts: list[tuple[str, object]] = [(f"task {it.name}", it) for it in report.tasks]
+    for session in report.sessions:
+        parts.append((f"session {session.name}", session.phase))
+        for module in session.modules:
+            parts.append((f"module {module.name} in session {session.name}", None))
+            places = [(it, it.location or 0) for it in places_of(module)]
+            parts += [(f"location {at:06X} of module {module.name}", (it.is_conditional, it.mark)) for it, at in places]
+    return parts
+
+
+def difference(parts: list[tuple[str, object]], others: list[tuple[str, object]]) -> str:
+    """The first part in which the others differ, in words; empty where none does."""
+    for one, other in itertools.zip_longest(parts, others, fillvalue=("nothing more", None)):
+        if one != other:
+            return f"{other[0]} is another there" if one[0] == other[0] else f"{other[0]}, and the report has {one[0]}"
+    return ""
 
 
 def counts_of(lines: list[Line]) -> tuple[int, int, int, int]:

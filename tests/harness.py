@@ -70,11 +70,13 @@ class Tally:
         print(f"FAILED {name}: {fault}", flush=True)
 
 
-def run(words: list[str], data: bytes = b"", cwd: str = TOP, redirect: str = "", before: str = ":") -> Ran:
-    """Runs a command, through the shell where its input or output is redirected."""
+def run(
+    words: list[str], data: bytes = b"", cwd: str = TOP, redirect: str = "", before: str = ":", env: Optional[dict[str, str]] = None,
+) -> Ran:
+    """Runs a command, through the shell where its input or output is redirected, and with an environment where one is given."""
     if redirect or before != ":":
         words = ["bash", "-c", f'{before}; exec "$0" "$@" {redirect}', *words]
-    ran = subprocess.run(words, input=data, capture_output=True, cwd=cwd, timeout=SECONDS, check=False)
+    ran = subprocess.run(words, input=data, capture_output=True, cwd=cwd, timeout=SECONDS, check=False, env=env)
     return Ran(ran.stdout, ran.stderr.decode(errors="replace"), ran.returncode)
 
 
@@ -133,6 +135,12 @@ def well(ran: Ran) -> Ran:
 def coverage(*words: str, data: bytes = b"", redirect: str = "", cwd: str = TOP) -> Ran:
     """Runs the script `coverage`."""
     return run([COVERAGE, *words], data, cwd, redirect)
+
+
+def example_report(name: str) -> bytes:
+    """The report of an example's job."""
+    with open(f"{TOP}/examples/{name}.job", "rb") as file:
+        return well(coverage("run", data=file.read())).output
 
 
 def refused(ran: Ran, status: int, *texts: str) -> None:

@@ -1,9 +1,9 @@
-"""The scripts that make a job: module and job."""
+"""module: from an object and a listing to cards."""
 from __future__ import annotations
 
 from decks import END, ebcdic, esd, item, record, rld, txt
 from harness import TOP, Ran, coverage, equal, folder, refused, well
-from jobs import FIRST
+from jobs import FIRST, WIDE_HEADING, Program
 
 SD, LD, ER, CM, WX = 0, 1, 2, 5, 10
 EXAMPLES = f"{TOP}/examples"
@@ -31,6 +31,20 @@ def listing_text(listing: list[str]) -> bytes:
     return "".join(f"{it}\n" for it in listing).encode()
 
 
+def whole(program: Program) -> list[str]:
+    """The listing of a program with its END statement, so that module has nothing to warn of."""
+    lines = program.listing()
+    return [*lines, f"{'':{44 if lines[0] == WIDE_HEADING else 34}}{len(lines):>5}{'':10}END"]
+
+
+def warned(ran: Ran, *texts: str) -> Ran:
+    """Fails unless a command ended with 0 and warned of exactly these, each in a line."""
+    equal((ran.status, ran.error.count("\n")), (0, len(texts)))
+    for line, text in zip(ran.error.splitlines(), texts):
+        assert line.startswith("coverage: warning: listing: ") and text in line, f"{line!r} has not {text!r}"
+    return ran
+
+
 # module
 
 
@@ -38,7 +52,7 @@ def raw_bytes() -> None:
     """module: raw bytes and a listing in ASCII, narrow or wide, as the cards of docs/JOB.md"""
     for program in (FIRST, FIRST.wide()):
         for before in ("", " "):
-            listing = [before + it for it in program.listing()]
+            listing = [before + it for it in whole(program)]
             ran = well(module_of(FIRST.text(), listing=listing_text(listing)))
             equal(ran.output, FIRST.job(listing=listing).split(b"\n", 1)[1].split(b"PHASE")[0])
 
@@ -52,7 +66,7 @@ def no_listing() -> None:
 def listings() -> None:
     """module: the same listing in ASCII with CR, in EBCDIC of both pages, and as records of 121 and 133 bytes"""
     for program in (FIRST, FIRST.wide()):
-        same_listings(program.listing())
+        same_listings(whole(program))
 
 
 def same_listings(lines: list[str]) -> None:
@@ -68,29 +82,33 @@ def same_listings(lines: list[str]) -> None:
 def brackets() -> None:
     """module: brackets of code pages 037 and 1047, and what ASCII lacks"""
     line = ebcdic("* ") + b"\xba\xbb\xad\xbd\x4a"
-    text = b"".join(it + b"\x15" for it in [*map(ebcdic, FIRST.listing()), line])
+    text = b"".join(it + b"\x15" for it in [*map(ebcdic, whole(FIRST)), line])
     equal(well(module_of(FIRST.text(), listing=text)).output.splitlines()[-1], b"* [][]?")
 
 
 def long_lines() -> None:
     """module: lines are cut to 150 bytes, and refused where the operation would be cut"""
     for program, source in ((FIRST, 40), (FIRST.wide(), 50)):
-        heading, first, *rest = program.listing()
+        heading, first, *rest = whole(program)
         long = f"{first}  {'remark ' * 30}"
         lines = well(module_of(FIRST.text(), listing=listing_text([heading, long, *rest]))).output.decode().splitlines()
         equal(lines[4], long[:150])
         front, gap = first[:source], " " * 120
         refused(module_of(FIRST.text(), listing=listing_text([heading, f"{front}{gap}LA 1,5"])), 2, "listing: line 2", "150")
         # A blank, a comment, and what has no location are no instruction lines; nor is one of the other width.
-        for line in (f"{front}{gap}", f"{front}*{gap}LA", f"_{front[1:]}{gap}LA", f"{front.replace('000000 ', '000000_', 1)}{gap}LA"):
-            ran = well(module_of(FIRST.text(), listing=listing_text([heading, line, *rest])))
+        bare = "000000-000003: 4 bytes of the object stand on no line"
+        for line, warning in (
+            (f"{front}{gap}", "line 2: no instruction line, so that it bears no mark: it ends before its operation"), (f"{front}*{gap}LA", bare),
+            (f"_{front[1:]}{gap}LA", bare), (f"{front.replace('000000 ', '000000_', 1)}{gap}LA", bare),
+        ):
+            ran = warned(module_of(FIRST.text(), listing=listing_text([heading, line, *rest])), warning)
             equal(ran.output.splitlines()[4], line.rstrip()[:150].encode())
 
 
 def bad_headings() -> None:
     """module: a heading of either width a byte off is none"""
     for program in (FIRST, FIRST.wide()):
-        heading, *rest = program.listing()
+        heading, *rest = whole(program)
         for off in (heading[1:], f"  {heading}", heading.replace("  Stmt", " Stmt"), heading[:-1], heading.replace("Code ", "Code  ")):
             refused(module_of(FIRST.text(), listing=listing_text([off, *rest])), 2, "listing", "heading")
         well(module_of(FIRST.text(), listing=listing_text([f" {it}" for it in (heading, *rest)])))
@@ -101,7 +119,7 @@ def bad_headings() -> None:
 def other_columns() -> None:
     """module: a listing with no object code in the columns of its heading, or with a later heading in others, is refused"""
     for program, other in ((FIRST, FIRST.wide()), (FIRST.wide(), FIRST)):
-        heading, *rest = program.listing()
+        heading, *rest = whole(program)
         shifted, lines = [f" {it}" for it in rest], len(rest)
         for listing in ([heading, *shifted], [f" {heading}", *rest], [heading, *other.listing()[1:]], [heading], [heading, "* text"]):
             refused(module_of(FIRST.text(), listing=listing_text(listing)), 2, "listing", "object code", "line 1")
@@ -116,9 +134,9 @@ def other_columns() -> None:
 def ends_within() -> None:
     """module: a byte of a line end within records of 121 and 133 bytes in EBCDIC is one of their text"""
     for width in (121, 133):
-        lines = [*map(ebcdic, FIRST.listing()), ebcdic("* A") + b"\x15" + ebcdic("B")]
+        lines = [*map(ebcdic, whole(FIRST)), ebcdic("* A") + b"\x15" + ebcdic("B")]
         ran = module_of(FIRST.text(), listing=b"".join(it.ljust(width, b"\x40") for it in lines))
-        equal(well(ran).output.splitlines()[2:], [b"LISTING 5", *(it.encode() for it in FIRST.listing()), b"* A?B"])
+        equal(well(ran).output.splitlines()[2:], [b"LISTING 6", *(it.encode() for it in whole(FIRST)), b"* A?B"])
 
 
 def sections() -> None:
@@ -236,42 +254,39 @@ def bad_modules() -> None:
         refused(coverage("module", *words), 1, "usage: coverage module")
 
 
-# job
-
-
-def jobs() -> None:
-    """job: the pieces between COVERJOB and ENDJOB, a last line without its end, standard input"""
-    module, phase, tasks = FIRST.job().partition(b"\n")[2].partition(b"PHASE P\n")
-    with folder() as at:
-        for name, data in (("module", module), ("phase", (phase + tasks)[: -len(b"\nENDJOB\n")])):
-            with open(f"{at}/{name}", "wb") as file:
-                file.write(data)
-        equal(well(coverage("job", "module", "phase", cwd=at)).output, FIRST.job())
-        equal(well(coverage("job", "module", "-", data=phase + tasks[: -len(b"ENDJOB\n")], cwd=at)).output, FIRST.job())
-
-
-def bad_jobs() -> None:
-    """job: pieces that make no job are refused by their line"""
-    for data, place, what in (
-        (b"", "-", "empty"),
-        (b"PHASE P\nENDJOB\n", "-: line 2", "ENDJOB"),
-        (b"COVERJOB 1\n", "-: line 1", "COVERJOB"),
-        (b"MODULE M 100000 2\nTEXT 07FE\nLISTING 2\nENDJOB\n", "-: line 3", "2 lines"),
-        (b"PHASE P\nMODULE M 100000 2\n", "-: line 2", "behind the phase"),
-        *[(b"PHASE P\n" + it + b"\n", "-: line 2", "no card") for it in (
-            b"TASK A 100000 16 100 0\r", b"TASK A  100000 16 100 0", b"TASK A 100000 16 100 0 ", b" REG 1 00000001", b"", b"TASK\tA", b"* text",
-            b"reg 1 00000001", b"TASKS A", "INPUT Ä".encode(),
-        )],
-        (b"\xef\xbb\xbfPHASE P\n", "-: line 1", "no card"),
+def exchanged() -> None:
+    """module: words in another order, other files and decks with line ends are told as such"""
+    order = "the words are NAME BASE OBJECT LISTING\n"
+    deck, listing = f"{EXAMPLES}/orders.object", f"{EXAMPLES}/orders.listing"
+    name = "a name is 1 to 8 characters, the first of A to Z, @, #, $, the others of these or digits"
+    for words, text in (
+        (("100000", "M", deck), f"NAME: the name 100000 begins with a digit; {name}; NAME and BASE seem to be exchanged: {order}"),
+        (("M", "N", deck), "BASE: the base N has 'N', which is no hexadecimal digit; an address is six hexadecimal digits\n"),
+        (("M", "100000", listing, deck), f"{listing}: a listing, and no object; {order}"),
+        (("M", "100000", f"{EXAMPLES}/tariff.listing", deck), f"{EXAMPLES}/tariff.listing: a listing, and no object; {order}"),
+        (("M", "100000", listing), f"{listing}: a listing, and no object; {order}"),
+        (("M", "100000", deck, deck), f"{deck}: an object deck, and no listing; {order}"),
+        (("M", "100000", f"{EXAMPLES}/first.job"), f"{EXAMPLES}/first.job: cards of a job, and no object; {order}"),
+        (("M", "100000", f"{EXAMPLES}/orders.asm"), f"{EXAMPLES}/orders.asm: lines of text, and no object: neither a module's bytes nor an object deck; {order}"),
     ):
-        refused(coverage("job", "-", data=data), 2, place, what)
-    refused(coverage("job", "/no/such/file"), 2, "/no/such/file")
-    refused(coverage("job"), 1, "usage: coverage job")
-    refused(coverage("job", "-", redirect="</"), 5, "standard input")
-    refused(coverage("job", "-", redirect="<&-"), 5, "standard input")
+        ran = coverage("module", *words)
+        refused(ran, 2)
+        equal(ran.error, f"coverage: {text}")
+    # SVC 2 before a record is no line end.
+    images = [DECK, txt(1, 0, "0A020A020A020A02"), END]
+    equal(text_of(module_of(b"".join(images))), "0A02" * 4)
+    for end in (b"\n", b"\r\n", b"\x15", b"\x25", b"\r\x25"):
+        ends = f"its card images end with line ends, X'{end.hex().upper()}'; transfer it as binary, without line ends\n"
+        for data in (b"".join(it + end for it in images), b"".join(it.rstrip(b"\x40") + end for it in images), end.join(images)):
+            ran = module_of(data)
+            equal((ran.status, ran.error), (2, f"coverage: object: an object deck of {len(data)} bytes, which is no multiple of 80: {ends}"))
+    # 80 records of 81 bytes are a multiple of 80.
+    refused(module_of(b"".join(it + b"\n" for it in [DECK, *[txt(1, 0, "00")] * 78, END])), 2, "object: an object deck of 6480 bytes: its card images")
+    refused(module_of((DECK + END)[:-7]), 2, "object: an object deck of 153 bytes, which is no multiple of 80: its last record has 73 bytes\n")
+    refused(module_of(b"\xff" * 7), 2, "object: a module of 7 bytes: the size is odd\n")
 
 
 CHECKS = [
     raw_bytes, no_listing, listings, brackets, long_lines, bad_headings, other_columns, ends_within, sections, texts_again, given_addresses,
-    constants, labels, bad_decks, bad_modules, jobs, bad_jobs,
+    constants, labels, bad_decks, bad_modules, exchanged,
 ]

@@ -9,7 +9,7 @@ import subprocess
 from harness import TOP, Tally, coverage, equal, folder, run, well
 from jobs import USAGE
 
-COMMAND = re.compile(r" {4,}(\./coverage .*|genhtml .*|cat .*)")
+COMMAND = re.compile(r" {4,}(\./coverage .*|(?:cd [a-z.]+ && )?genhtml .*|cat .*|lcov .*)")
 
 
 def text_of(path: str) -> str:
@@ -31,7 +31,7 @@ def run_all(tally: Tally) -> None:
         found = commands()
         tally.note("README has commands", None if found else "there are none")
         for command in found:
-            if command.startswith("genhtml") and not shutil.which("genhtml"):
+            if re.search(r"\b(genhtml|lcov) -", command) and not shutil.which("genhtml"):
                 tally.left_out.append(f"README's {command}")
                 continue
             try:
@@ -47,10 +47,15 @@ def section(path: str, title: str) -> str:
     return text_of(path).partition(f"## {title}\n")[2].partition("\n## ")[0]
 
 
+def usages_in(text: str) -> list[str]:
+    """What the first lines of a help say behind `coverage`."""
+    return re.findall(r"^(?:usage:|      ) coverage (.*)$", text, re.M)
+
+
 def usages_of_scripts() -> list[str]:
-    """What the first line of each script's own help says behind `coverage`."""
-    texts = [text_of(f"scripts/{it}") for it in sorted(os.listdir(f"{TOP}/scripts")) if it.endswith(".py")]
-    return [usage for it in texts for usage in re.findall(r"^usage: coverage (.*)$", it, re.M)]
+    """What each script's own help says so."""
+    names = [it for it in sorted(os.listdir(f"{TOP}/scripts")) if it.endswith(".py")]
+    return [usage for it in names for usage in usages_in(text_of(f"scripts/{it}"))]
 
 
 def commands_in_help() -> None:
@@ -58,19 +63,58 @@ def commands_in_help() -> None:
     own, scripts = USAGE.decode().strip().removeprefix("USAGE: ").split(" | "), usages_of_scripts()
     names = [it.split()[0] for it in scripts]
     text = well(coverage("--help")).output.decode()
-    usages = re.findall(r"^(?:usage:|      ) coverage (.*)$", text, re.M)
+    usages = usages_in(text)
     equal(sorted(it for it in usages if it.split()[0] in names), sorted(scripts))
     equal(sorted(re.sub(r" [<>].*", "", it) for it in usages if it.split()[0] not in names), sorted(own))
-    words = [it.split()[0] for it in usages]
+    words = list(dict.fromkeys(it.split()[0] for it in usages))
     # The words for which the script builds the program.
-    equal(sorted(re.findall(r"^(run(?: \| [a-z]+)+)\) ;;$", text_of("coverage"), re.M)[0].split(" | ")), sorted(it.split()[0] for it in own))
+    arms = re.findall(r"^  ([a-z]+(?: \| [a-z]+)*)\) \[", text_of("scripts/front.bash").partition("fits() {")[2].partition("\n}\n")[0], re.M)
+    equal(sorted(" | ".join(arms).split(" | ")), sorted(it.split()[0] for it in own))
     equal(re.findall(r"^  ([a-z]+) +[a-z]", text, re.M), words)
     for name, usage in zip(names, scripts):
-        equal(well(coverage(name, "--help")).output.decode().splitlines()[0], f"usage: coverage {usage}")
+        assert usage in usages_in(well(coverage(name, "--help")).output.decode()), usage
     equal(sorted(re.findall(r"^\| `([a-z]+[A-Z ]*)` \|", section("docs/REPORT.md", "Words"), re.M)), sorted(own))
     assert f"`{USAGE.decode().strip()}`" in section("docs/REPORT.md", "Exit status").replace("\n", " "), "docs/REPORT.md has another usage line"
     for word in words:
         assert re.search(rf"`{word}[` ]|\./coverage {word} ", text_of("README.md")), f"README.md lacks {word}"
 
 
-CHECKS = [commands_in_help]
+def first_cells(text: str) -> list[str]:
+    """What stands as code in the first column of a text's tables."""
+    rows = [it.split(" | ")[0] for it in text.splitlines() if it.startswith("| ") and not it.startswith("| -")]
+    return [code for row in rows for code in re.findall(r"`([^`]+)`", row)]
+
+
+def endings() -> list[str]:
+    """Each way that a task ends (docs/MACHINE.md), with each code of an interruption, and RUNNING (docs/REPORT.md)."""
+    table, _, codes = section("docs/MACHINE.md", "How a task ends").partition("The interruption codes")
+    found = [code for row in codes.splitlines() if row.startswith("| ") for code in re.findall(r"(?<=\| )([1-9A-F])(?= \|)", row)]
+    return [*(it for it in first_cells(table) if it != "ABEND c"), *(f"ABEND {it}" for it in found), "RUNNING"]
+
+
+def trouble() -> None:
+    """docs/TROUBLE.md: it has each line of the program and each ending, and no others; what the scripts say is what they say"""
+    table = section("docs/REPORT.md", "Exit status")
+    lines = [it[1] for it in re.finditer(r"^\| [0-9]+ \| `([^`]+)` \|", table, re.M)]
+    assert len(lines) == 17 and len(endings()) == 18, (lines, endings())
+    refused = [it for it in first_cells(section("docs/TROUBLE.md", "What the program refuses"))]
+    equal(sorted(refused), sorted(lines))
+    equal([it for it in re.findall(r"^\| [^|]+ \| ([0-9]+) \|", section("docs/TROUBLE.md", "What the program refuses"), re.M)],
+          [it for it in re.findall(r"^\| ([0-9]+) \|", table, re.M) if it != "0"])
+    equal(sorted(first_cells(section("docs/TROUBLE.md", "How a task ended"))), sorted(endings()))
+    names = sorted(os.listdir(f"{TOP}/scripts"))
+    said = "\n".join(map(text_of, ["coverage", *(f"scripts/{it}" for it in names if it.endswith((".py", ".bash")))]))
+    warned = first_cells(section("docs/TROUBLE.md", "What `module` warns of"))
+    assert len(warned) == 6, warned
+    for message in first_cells(section("docs/TROUBLE.md", "Before anything runs")) + warned:
+        for part in re.split(r"\b[A-Z]+\b", message):
+            assert part in said, f"no script says {part!r}"
+
+
+def length_of_readme() -> None:
+    """README.md: it has at most 1,100 words"""
+    words = len(text_of("README.md").split())
+    assert words <= 1100, f"{words} words"
+
+
+CHECKS = [commands_in_help, trouble, length_of_readme]
