@@ -23,7 +23,7 @@ from proving import LINKED, CrateFailed, make_table, prove_all
 
 OUT = f"{TOP}/out"
 PROGRAM, STAMP, SEEN, LOCK = (f"{OUT}/{it}" for it in ("coverage_program", "built", "seen", "lock"))
-HOW_LONG = "some half an hour on four processors"
+HOW_LONG = "some twenty minutes on four processors"
 MEANWHILE = "./coverage try COMMAND .. answers at once, without proof"
 FAILED = 70
 

@@ -35,7 +35,7 @@ exit 1
 """
 LIBRARY, PROGRAM = "proved low, 1 of 2", "proved coverage_program, 2 of 2"
 # How long the first build takes, wherever it is said.
-HOW_LONG = "some half an hour on four processors"
+HOW_LONG = "some twenty minutes on four processors"
 
 
 class Copy:
