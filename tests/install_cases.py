@@ -104,7 +104,7 @@ def of_scripts(command: str, env: dict[str, str], at: str) -> None:
     assert f"{at}/share/doc/coverage" in text and "checkout" not in text and "builds" not in text, text
     scripts = text.partition("The scripts around it")[2]
     names = re.findall(r"^  ([a-z]+) +[a-z]", scripts, re.M)
-    assert {"module", "job", "page", "lcov"} <= set(names), names
+    assert {"module", "job", "union", "page", "lcov"} <= set(names), names
     for name in names:
         said = well(run([command, name, "--help"], env=env)).output
         assert said.startswith(f"usage: coverage {name} ".encode()), said[:80]

@@ -12,8 +12,8 @@ from jobs import FIRST_REPORT
 EXAMPLES = f"{TOP}/examples"
 
 def words_and_streams() -> None:
-    """page, lcov, module, job: words that they don't have, and faults of input and output"""
-    for command in ("page", "lcov", "module", "job"):
+    """page, lcov, module, job, union: words that they don't have, and faults of input and output"""
+    for command in ("page", "lcov", "module", "job", "union"):
         ran = well(coverage(command, "--help"))
         assert f"usage: coverage {command}".encode() in ran.output and b"not proved" in ran.output
         refused(coverage(command, "--help", redirect=">/dev/full"), 6, "standard output")
