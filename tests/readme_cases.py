@@ -112,9 +112,9 @@ def trouble() -> None:
 
 
 def length_of_readme() -> None:
-    """README.md: it has at most 1,100 words"""
+    """README.md: it has fewer than 1,200 words"""
     words = len(text_of("README.md").split())
-    assert words <= 1100, f"{words} words"
+    assert words < 1200, f"{words} words"
 
 
 CHECKS = [commands_in_help, trouble, length_of_readme]
