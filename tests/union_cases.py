@@ -37,10 +37,12 @@ def union(at: str, *words: str, data: bytes = b"", redirect: str = "") -> Ran:
 
 
 def bad(at: str, name: str, offset: int, *words: str, why: str = "") -> None:
-    """Fails unless union tells a file as bad at an offset, and nothing else of others."""
-    ran = union(at, *words)
-    refused(ran, 10, f"coverage: {name}.marks: BAD MARKS OFFSET {offset}: {NO_MARKS}\n", why)
-    equal(re.findall(r"\w+\.marks", ran.error), [f"{name}.marks"])
+    """Fails unless union tells a file as bad at an offset, and nothing of others, on one processor and on several."""
+    files = [f"{it}.marks" for it in words]
+    for processes in ("1", "4"):
+        ran = coverage("union", "--processes", processes, *files, cwd=at)
+        refused(ran, 10, f"coverage: {name}.marks: BAD MARKS OFFSET {offset}: {NO_MARKS}\n", why)
+        equal(re.findall(r"\w+\.marks", ran.error), [f"{name}.marks"])
 
 
 def few() -> None:
@@ -124,13 +126,14 @@ def first_bad() -> None:
         bad(at, "cut", 59, "fell", "went", "cut", "other", "none", why="coverage: the input ends there: a file is cut short\n")
         bad(at, "behind", 60, "fell", "behind", "other")
         bad(at, "second", 90, "fell", "second", "cut")
-        bad(at, "none", 0, "fell", "none", "cut", why="coverage: the file is empty\n")
+        bad(at, "none", 0, "fell", "went", "none", "cut", why="coverage: the file is empty\n")
         bad(at, "job", 0, "job", "cut", why="coverage: what stands there is a job\n")
         bad(at, "none", 0, "none")
-        # Two halves that make a whole, which combine takes for one.
-        write(at, half=FELL[:30], rest=FELL[30:])
-        bad(at, "half", 30, "fell", "half", "rest", "went")
-        equal(well(coverage("combine", data=FELL[:30] + FELL[30:])).output, FELL)
+        # Two halves that make a whole, which combine takes for one: cut in the magic, the runs, the module and its places.
+        for cut, offset in ((5, 0), (18, 16), (30, 30), (45, 42)):
+            write(at, half=FELL[:cut], rest=FELL[cut:])
+            bad(at, "half", offset, "fell", "went", "half", "rest")
+            equal(well(coverage("combine", data=FELL + FELL[:cut] + FELL[cut:])).output, COUNTED.marks_file(4, 1, runs=2))
         for words in (["fell", "went", "other", "cut"], ["fell", "other", "other", "missing"]):
             ran = union(at, *words)
             refused(ran, 11, f"coverage: other.marks: {told}", rows)
@@ -181,6 +184,8 @@ def unreadable() -> None:
         write(at, fell=FELL)
         os.mkdir(f"{at}/folder.marks")
         refused(union(at, "fell", "folder", "missing"), 2, "coverage: folder.marks: Is a directory\n")
+        words = ["union", "--processes", "1", "fell.marks", "fell.marks", "missing.marks"]
+        refused(coverage(*words, cwd=at), 2, "coverage: missing.marks: No such file or directory\n")
         refused(union(at, "missing", "fell"), 2, "coverage: missing.marks: No such file or directory\n")
         refused(coverage("union", "/proc/self/mem"), 2, "coverage: /proc/self/mem: Input/output error\n")
         refused(coverage("union", f"{at}/fell.marks", "a\0b".replace("\0", "\udcff")), 2, "No such file or directory\n")
