@@ -2,6 +2,7 @@
 from __future__ import annotations
 
 import os
+import re
 import sys
 from typing import Callable, Optional
 
@@ -93,9 +94,23 @@ class UsageError(Exception):
     """The words are not those of the command."""
 
 
+def take_options(words: list[str], valued: tuple[str, ...], bare: tuple[str, ...] = ()) -> tuple[dict[str, str], list[str]]:
+    """The options among the words, each once at most and before all other words, those that have a value with the word
+    behind them; and the words that are left. A word that looks like an option is none of these."""
+    found: dict[str, str] = {}
+    left = list(words)
+    while left and left[0].startswith("--"):
+        option = left.pop(0)
+        if option in found or option not in valued + bare or option in valued and not left:
+            raise UsageError
+        found[option] = left.pop(0) if option in valued else ""
+    return found, left
+
+
 def call_meant(usage: str, words: list[str]) -> str:
     """A line with the call that was meant, where the last word is a file and the command wants one on standard input."""
-    call, reads, _ = usage.partition("\n")[0].removeprefix("usage: coverage ").partition(" < ")
+    first = re.sub(r" \[[^]]*\]", "", usage.partition("\n")[0])
+    call, reads, _ = first.removeprefix("usage: coverage ").partition(" < ")
     if not reads or not words or not os.path.isfile(words[-1]):
         return ""
     own = [call.split(" ")[0], *words[:-1]] if words[:-1] else [call]

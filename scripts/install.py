@@ -31,7 +31,7 @@ builds it.
 """
 LISTED, VERSION = "lib/coverage/files", "lib/coverage/version"
 # The scripts that an installed copy calls. They go with all that they import, and with the files that are no Python's.
-CALLED = ("job", "lcov", "module", "page", "union", "why")
+CALLED = ("cobertura", "diff", "job", "lcov", "module", "page", "summary", "union", "why")
 OTHERS = (".bash", ".css")
 # What is proved or installed stands in these.
 TAKEN = ("HANDLES", "README.md", "coverage", "coverage.1", "crates", "crates.txt", "docs", "examples", "scripts")

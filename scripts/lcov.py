@@ -4,12 +4,13 @@ from __future__ import annotations
 import os
 import sys
 
-from command import Fault, UsageError, WRITE_FAULT, read_input, reason, run, write_file
+from command import Fault, UsageError, WRITE_FAULT, read_input, reason, run, take_options, write_file
 from labels import spots_of
-from report import Line, Module, Session, read_report
+from leave_out import OPTION, leave_out, read_rules, tell_idle
+from report import Line, Module, Report, Session, read_report
 
 USAGE = """\
-usage: coverage lcov FOLDER < REPORT
+usage: coverage lcov [--leave-out FILE] FOLDER < REPORT
 
 Writes the listings of a report (of run, early, exits, replay or show) into FOLDER, that of each session's module as
 SESSION/MODULE.lst, and coverage.info beside them, a tracefile that genhtml and others take. It names the listings from
@@ -29,7 +30,7 @@ label at an instruction is a function, as often called as that was executed; the
 one of the module's name. A label that comes again has its location behind it. Where the counts of the same job (of
 count) stand behind a report, the tracefile has these; the ends of its tasks (of ends), which may stand there too, leave
 nothing in it. Counts alone have no listings: then MODULE.lst has a line for each place, with its location, and one
-function.
+function. The places that FILE names count nowhere (docs/SUMMARY.md): they are no lines of the tracefile.
 
 What is no report is refused by its line on standard error; then the status is 2, and nothing is written. This script
 is not proved.
@@ -59,13 +60,20 @@ def branches(number: int, line: Line) -> list[str]:
     return [f"BRDA:{number},0,{branch},{count}" for branch, count in enumerate(counts)]
 
 
-def functions(module: Module) -> list[str]:
-    """The labels of a listing as functions: where each begins, and how often that place ran."""
-    spots = spots_of(module.lines)
+def labels_of(module: Module) -> dict[int, str]:
+    """The labels at places, each by its line, counted from 0; the places before the first have the module's name for one.
+    That of a place which is left out is none."""
+    spots = {at: it for at, it in spots_of(module.lines).items() if module.lines[at].is_counted()}
     found = {at: it.label for at, it in spots.items() if it.label}
     for at in list(spots)[:1]:
         is_taken = module.name in found.values() and at not in found
         found.setdefault(at, f"{module.name}.{module.lines[at].location:06X}" if is_taken else module.name)
+    return found
+
+
+def functions(module: Module) -> list[str]:
+    """The labels of a listing as functions: where each begins, and how often that place ran."""
+    found = labels_of(module)
     counts = {at: hits(module.lines[at]) for at in found}
     return [
         *(f"FN:{at + 1},{found[at]}" for at in sorted(found)),
@@ -77,7 +85,7 @@ def functions(module: Module) -> list[str]:
 
 def record(session: Session, module: Module) -> list[str]:
     """The record of a module's listing in one session."""
-    lines = [(at, it) for at, it in enumerate(module.lines, 1) if it.mark != " "]
+    lines = [(at, it) for at, it in enumerate(module.lines, 1) if it.is_counted()]
     conditional = [(at, it) for at, it in lines if it.is_conditional]
     hit = sum(count > 0 for _, it in conditional for count in branch_hits(it))
     return [
@@ -94,6 +102,14 @@ def record(session: Session, module: Module) -> list[str]:
     ]
 
 
+def listings_of(report: Report) -> list[tuple[Session, Module]]:
+    """The modules of a report's sessions that have a listing, with their sessions; refused where there is none."""
+    found = [(session, it) for session in report.sessions for it in session.modules if it.lines]
+    if not found:
+        raise Fault("standard input", "the report has no listing")
+    return found
+
+
 def make_folder(path: str) -> None:
     """Makes a folder, where it isn't there."""
     try:
@@ -103,20 +119,21 @@ def make_folder(path: str) -> None:
 
 
 def main(words: list[str]) -> None:
+    options, folders = take_options(words, (OPTION,))
     # A word like -h is meant for an option, which there is none of.
-    if len(words) != 1 or not words[0] or words[0].startswith("-"):
+    if len(folders) != 1 or not folders[0] or folders[0].startswith("-"):
         raise UsageError
-    folder = words[0]
+    folder, rules = folders[0], read_rules(options.get(OPTION))
     report = read_report("standard input", read_input())
-    found = [(session, it) for session in report.sessions for it in session.modules if it.lines]
-    if not found:
-        raise Fault("standard input", "the report has no listing")
+    found = listings_of(report)
+    idle = leave_out(report, rules)
     tracefile = [line for session, it in found for line in record(session, it)]
     for session, module in found:
         path = os.path.join(folder, file_of(session, module))
         make_folder(os.path.dirname(path))
         write_file(path, b"".join(it.text + b"\n" for it in module.lines))
     write_file(os.path.join(folder, "coverage.info"), "".join(f"{it}\n" for it in tracefile).encode("ascii"))
+    tell_idle(idle)
 
 
 if __name__ == "__main__":

@@ -10,9 +10,14 @@ CONTROLS = re.compile("[\x00-\x1f\x7f-\x9f\ud800-\udfff]")
 OPEN = 12
 
 
+def printed(text: str) -> str:
+    """The text without control characters, of which each is the character that stands for such."""
+    return CONTROLS.sub("\ufffd", text)
+
+
 def safe(text: str) -> str:
     """The text for a page."""
-    return escape(CONTROLS.sub("\ufffd", text))
+    return escape(printed(text))
 
 
 def count_of(count: int, what: str, many: str = "") -> str:

@@ -5,20 +5,30 @@ import os
 import sys
 from typing import Optional
 
-from command import UsageError, read_input, run, write_output
-from markup import count_of, safe
-from page_listing import bare_part, counts_in_words, module_part, shown_modules, unlisted_words
+from command import UsageError, read_file, read_input, run, take_options, write_output
+from difference import differences
+from leave_out import OPTION, leave_out, read_rules, tell_idle
+from markup import count_of
+from page_against import Against
+from page_index import index
+from page_listing import LISTINGS_OPEN, Shown, bare_part, module_part, shown_modules, unlisted_alert
 from page_tasks import failures, note_ends, results_part, tasks_part
-from report import Module, Report, Session, read_report
+from report import Report, modules_of, read_report
+from totals import totals_of
 
 USAGE = """\
-usage: coverage page < REPORT > PAGE
+usage: coverage page [--against OLD] [--leave-out FILE] < REPORT > PAGE
 
 Makes a report (of run, early, exits, replay or show) one HTML page, which stands alone: the tasks, those first that did
-not return; a table of the sessions' modules with their places and facts; each listing with its marks, and links to what
-wasn't executed and to branches that went one way only, with the labels there; and the tasks' results, folded. Output
-and storage stand there as text too, EBCDIC or ASCII, whichever reads better. Marks files have no tasks. The page has no
-script, follows the browser's light or dark, and prints with all that it folds; its wide listings scroll.
+not return; an index of the sessions' modules with their places and facts, which its headings sort; each listing with its
+marks, which folds, and links to what wasn't executed and to branches that went one way only, with the labels there; and
+the tasks' results, folded. Output and storage stand there as text too, EBCDIC or ASCII, whichever reads better. Marks
+files have no tasks. The page has no script, follows the browser's light or dark, and prints with all that it folds; its
+wide listings scroll.
+
+  --against OLD     the page shows too what was lost and gained against the report in the file OLD, and which new places
+                    lack facts, as coverage diff tells it
+  --leave-out FILE  the places that FILE names count nowhere, and are told by their number (docs/SUMMARY.md)
 
 Behind a report of run, early or exits may stand, in any order and with nothing between, what else is known of its job:
   its counts (of count)  each line has behind its mark how often it ran, or how often it branched and fell through
@@ -29,6 +39,7 @@ What is of another job is refused. Counts, with ends or without, make a page too
 What is no report is refused by its line on standard error; then the status is 2, and nothing is written. This script
 is not proved.
 """
+AGAINST = "--against"
 HEADINGS = {
     "COVERAGE REPORT": "Coverage report",
     "COVERAGE REPLAY": "Coverage of a schedule",
@@ -37,73 +48,17 @@ HEADINGS = {
 }
 
 
-def percent(part: int, whole: int) -> int:
-    """Of a hundred, rounded down, so that 100 is all."""
-    return 100 * part // whole if whole else 100
-
-
-def bar(part: int, whole: int, what: str) -> str:
-    """The two cells of a part and its whole: the numbers, and a bar."""
-    if not whole:
-        return '<td class="number">none</td><td></td>'
-    share = percent(part, whole)
-    return (
-        f'<td class="number">{part:,} of {whole:,}</td>'
-        f'<td><span class="bar" role="img" aria-label="{share} % of {what}"><span style="width:{share}%"></span></span>'
-        f" {share} %</td>"
-    )
-
-
-def summary_row(session: Session, module: Module, unlisted: Optional[dict[str, int]]) -> str:
-    """A module of a session, as a row of the table, with how often instructions ran on no line, where that is given."""
-    name = safe(module.name)
-    if module.lines:
-        name = f'<a href="#{safe(session.name)}.{name}">{name}</a>'
-    cells = bar(module.executed, module.places, "places") + bar(module.facts, module.possible, "facts")
-    if unlisted is not None:
-        lost = unlisted.get(module.name, 0)
-        cells += f'<td class="number">{f"<strong>{lost:,}</strong>" if lost else 0}</td>'
-    return f'<tr><td>{safe(session.name)}</td><td>{safe(session.phase)}</td><th scope="row">{name}</th>{cells}</tr>'
-
-
-def summary_rows(report: Report) -> str:
-    """The table of all sessions and their modules; where instructions ran on no line, with how many."""
-    found = [(session, it) for session in report.sessions for it in session.modules]
-    if not found:
-        return "<p>The report has no session with a module.</p>"
-    is_whole = not any(report.unlisted.values())
-    rows = "\n".join(summary_row(*it, None if is_whole else report.unlisted) for it in found)
-    lost = "" if is_whole else '<th scope="col" class="number">On no line</th>'
-    return f"""<div class="wide summary" tabindex="0" role="region" aria-label="Sessions and modules"><table>
-<caption>Places are instruction lines. A place has one fact, that it ran; a conditional branch has two, that it branched
-and that it fell through.</caption>
-<thead><tr><th scope="col">Session</th><th scope="col">Phase</th><th scope="col">Module</th>
-<th scope="col" colspan="2">Places executed</th><th scope="col" colspan="2">Facts shown</th>{lost}</tr></thead>
-<tbody>
-{rows}
-</tbody></table></div>"""
-
-
-def summary(report: Report) -> str:
-    """The part of the sessions and their modules."""
-    title = '<h2 id="sessions">Sessions and modules</h2>'
-    return f'<section aria-labelledby="sessions">\n{title}\n{summary_rows(report)}\n</section>'
-
-
 def whole(report: Report) -> str:
     """The counts of the report in one sentence."""
-    modules = [it for session in report.sessions for it in session.modules]
-    places, facts = sum(it.places for it in modules), sum(it.facts for it in modules)
-    executed, possible = sum(it.executed for it in modules), sum(it.possible for it in modules)
     whose = [count_of(len(report.sessions), "session")]
     if report.title != "COVERAGE SHOW":
         whose.append(count_of(len(report.tasks), "task"))
-    return f"{', '.join(whose)}: {counts_in_words(executed, places, facts, possible)}"
+    return f"{', '.join(whose)}: {totals_of(modules_of(report)).words()}"
 
 
 def alerts(report: Report) -> str:
     """What is to be seen before all else: tasks that have not returned, and instructions that ran on no line."""
-    lost = [unlisted_words(name, count) for name, count in report.unlisted.items() if count]
+    lost = [unlisted_alert(name, count) for name, count in report.unlisted.items() if count]
     return failures(report) + "".join(lost)
 
 
@@ -113,12 +68,23 @@ def style() -> str:
         return file.read()
 
 
-def page(report: Report) -> str:
+def modules_part(report: Report, shown: list[Shown], against: Optional[Against]) -> str:
+    """All listings, folded where they are many."""
+    is_open = len(shown) <= LISTINGS_OPEN
+    found = []
+    for it in shown:
+        if against:
+            against.note(it)
+        changes = against.part(it) if against else ""
+        found.append(module_part(it, report.unlisted.get(it.module.name, 0), changes, is_open))
+    return "\n".join(found)
+
+
+def page(report: Report, against: Optional[Against]) -> str:
     """The whole page."""
     title, shown = HEADINGS[report.title], shown_modules(report)
     # First of all, since the listings show which tasks ended on their lines.
     ends = note_ends(report, shown)
-    modules = "\n".join(module_part(it, report.unlisted.get(it.module.name, 0)) for it in shown)
     return f"""<!DOCTYPE html>
 <html lang="en">
 <head>
@@ -132,10 +98,10 @@ def page(report: Report) -> str:
 <body>
 <header id="top"><h1>{title}</h1>
 <p class="dim">{whole(report)}</p>
-{alerts(report)}</header>
+{against.top() if against else ""}{alerts(report)}</header>
 <main>
-{tasks_part(report, ends)}{summary(report)}
-{modules}
+{tasks_part(report, ends)}{index(report, against)}
+{modules_part(report, shown, against)}
 {"".join(map(bare_part, report.sessions))}{results_part(report)}
 </main>
 </body>
@@ -144,9 +110,18 @@ def page(report: Report) -> str:
 
 
 def main(words: list[str]) -> None:
-    if words:
+    options, left = take_options(words, (AGAINST, OPTION))
+    if left:
         raise UsageError
-    write_output(page(read_report("standard input", read_input())).encode("utf-8"))
+    rules, old = read_rules(options.get(OPTION)), options.get(AGAINST)
+    report = read_report("standard input", read_input())
+    if old is None:
+        against, idle = None, leave_out(report, rules)
+    else:
+        found, idle = differences(read_report(old, read_file(old)), report, rules, old, "standard input")
+        against = Against(old, found)
+    write_output(page(report, against).encode("utf-8"))
+    tell_idle(idle)
 
 
 if __name__ == "__main__":

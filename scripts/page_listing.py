@@ -7,22 +7,22 @@ from typing import Optional
 from labels import Spot, spots_of
 from listing import Heading, heading_of, object_code
 from markup import count_of, headed, listed, safe
-from report import Line, Module, Report, Session, text_of
+from report import MARKS, Line, Module, Report, Session, text_of
+from totals import totals_of, unlisted_words
 
-MARKS = {
-    "^": ("not", "not executed"),
-    ":": ("", "executed"),
-    ">": ("half", "branched only"),
-    "V": ("half", "fell through only"),
-    "&": ("", "branched and fell through"),
-}
+# How lines of a mark are drawn, and whatever else a line is.
+KINDS = {"^": "not", ">": "half", "V": "half"}
+LEFT_OUT, ENDED = "out", "ended"
+# More listings than these are folded at first.
+LISTINGS_OPEN = 4
 # What a print control character asks for before its line: empty lines, or a new page.
 NEW_PAGE, FORM_FEED = '<span class="new"></span>', "\f"
 SKIPS = {"0": "\n", "-": "\n\n", "1": NEW_PAGE, FORM_FEED: NEW_PAGE}
 
 
 class Shown:
-    """A module of a session as the page shows it: its lines with their labels, and the tasks that ended on each."""
+    """A module of a session as the page shows it: its lines with their labels, the tasks that ended on each, and how lines
+    are drawn that have changed against another report, with what is told of them."""
 
     def __init__(self, session: Session, module: Module) -> None:
         self.session, self.module = session, module
@@ -33,6 +33,8 @@ class Shown:
         self.spots = spots_of(module.lines)
         self.places = {module.lines[at].location: at for at in self.spots}
         self.ended: dict[int, list[str]] = {}
+        self.changed: dict[int, str] = {}
+        self.told: dict[int, list[str]] = {}
         self.covered: Optional[dict[int, int]] = None
 
     def line_at(self, location: int) -> Optional[int]:
@@ -44,6 +46,11 @@ class Shown:
                     if line.mark != " " or it not in self.covered:
                         self.covered[it] = at
         return self.covered.get(location)
+
+    def kind_of(self, at: int) -> str:
+        """How a line is drawn; empty where it needs no colour."""
+        line = self.module.lines[at]
+        return LEFT_OUT if line.is_left_out else self.changed.get(at) or KINDS.get(line.mark, "")
 
     def link(self, at: int, text: str) -> str:
         """A link to a line."""
@@ -78,25 +85,21 @@ def shown_modules(report: Report) -> list[Shown]:
     return [Shown(session, it) for session in report.sessions for it in session.modules if it.lines]
 
 
-def counts_in_words(executed: int, places: int, facts: int, possible: int) -> str:
-    """The counts of a module, or of all, in words."""
-    return f"{executed:,} of {count_of(places, 'place')} executed, {facts:,} of {count_of(possible, 'fact')} shown."
-
-
-def unlisted_words(name: str, count: int) -> str:
+def unlisted_alert(name: str, count: int) -> str:
     """What is told of a module in which instructions ran that its listing doesn't have."""
-    told = f"{count_of(count, 'execution')} in {safe(name)} on no instruction line of its listing."
-    why = "Where lines are missing, its counts are better than the truth."
-    return f'<p class="alert"><strong>{told}</strong> {why}</p>\n'
+    told, why = unlisted_words(name, count)
+    return f'<p class="alert"><strong>{safe(told)}</strong> {why}</p>\n'
 
 
 def legend(module: Module) -> str:
-    """What the marks say, and how many lines have each."""
-    counts = {mark: sum(it.mark == mark for it in module.lines) for mark in MARKS}
+    """What the marks say, and how many lines that count have each; and how many are left out."""
+    marks = [it.mark for it in module.lines if it.is_counted()]
     items = [
-        f'<li><code class="{kind or "done"}">{safe(mark)}</code> {words}: {counts[mark]:,}</li>'
-        for mark, (kind, words) in MARKS.items()
+        f'<li><code class="{KINDS.get(mark, "done")}">{safe(mark)}</code> {words}: {marks.count(mark):,}</li>'
+        for mark, words in MARKS.items()
     ]
+    left_out = totals_of([module]).left_out
+    items += [f'<li><span class="{LEFT_OUT}">left out</span>: {left_out:,}</li>'] if left_out else []
     return f'<ul class="marks">{"".join(items)}</ul>'
 
 
@@ -120,32 +123,33 @@ def text_line(line: Line, heading: Optional[Heading], width: int) -> tuple[str, 
 
 def listing_text(it: Shown, anchors: set[int], width: int) -> str:
     """The lines of a listing. Those that need no colour and that nothing links to are text alone; lines that follow
-    each other and were not executed are one element."""
+    each other and are drawn alike are one element."""
     parts: list[str] = []
-    is_open = False
+    is_open = ""
     for at, line in enumerate(it.module.lines):
-        kind = MARKS[line.mark][0] if line.mark != " " else ""
+        kind = it.kind_of(at) or (ENDED if at in anchors else "")
         before, text = text_line(line, it.heading, width)
-        is_element = bool(kind) or at in anchors
-        if is_open and (not is_element or kind != "not" or at in anchors or before):
+        if is_open and (kind != is_open or at in anchors or before):
             parts.append("</span>")
-            is_open = False
+            is_open = ""
         parts.append(before if at else "")
-        if is_element and not is_open:
+        if kind and not is_open:
             name = f' id="{it.anchor(at)}"' if at in anchors else ""
-            parts.append(f'<span class="{kind or "ended"}"{name}>')
-            is_open = True
-        parts.append(ended_text(text, it.ended[at]) if at in it.ended else text)
-        if is_open and (kind != "not" or at in it.ended):
+            parts.append(f'<span class="{kind}"{name}>')
+            is_open = kind
+        parts.append(noted_text(text, it.ended.get(at, []), it.told.get(at, [])))
+        if is_open and at in it.ended:
             parts.append("</span>")
-            is_open = False
+            is_open = ""
     return "".join(parts) + ("</span>" if is_open else "")
 
 
-def ended_text(text: str, ended: list[str]) -> str:
-    """A line, and behind it the tasks that ended there, of many the first."""
+def noted_text(text: str, ended: list[str], told: list[str]) -> str:
+    """A line, and behind it what has changed there, and the tasks that ended there, of many the first."""
     more = f" and {len(ended) - 3:,} more" if len(ended) > 3 else ""
-    return f"{text.rstrip()}  <b>\u2190 {safe(', '.join(ended[:3]) + more)}</b>\n"
+    notes = [f"  <i>\u2190 {safe(', '.join(told))}</i>"] if told else []
+    notes += [f"  <b>\u2190 {safe(', '.join(ended[:3]) + more)}</b>"] if ended else []
+    return f"{text.rstrip()}{''.join(notes)}\n" if notes else text
 
 
 def place_words(spot: Spot, *words: str) -> str:
@@ -167,7 +171,7 @@ def ranges(it: Shown) -> str:
 
 def one_way(it: Shown) -> list[int]:
     """The branches that went one way only, in order of location."""
-    found = [at for at in it.spots if it.module.lines[at].mark in ">V"]
+    found = [at for at in it.spots if it.module.lines[at].is_counted() and it.module.lines[at].mark in ">V"]
     return sorted(found, key=lambda at: it.module.lines[at].location or 0)
 
 
@@ -176,7 +180,7 @@ def one_way_part(it: Shown) -> str:
     items = []
     for at in one_way(it):
         line = it.module.lines[at]
-        items.append(f"{it.link(at, f'{line.location:06X}')} {place_words(it.spots[at], MARKS[line.mark][1])}")
+        items.append(f"{it.link(at, f'{line.location:06X}')} {place_words(it.spots[at], MARKS[line.mark])}")
     return listed(f"{count_of(len(items), 'branch', 'branches')} went one way only", items)
 
 
@@ -198,19 +202,20 @@ def bare_part(session: Session) -> str:
     return f'<section id="{name}" aria-labelledby="{name}.title">\n{title}\n{drained(session)}</section>\n'
 
 
-def module_part(it: Shown, unlisted: int) -> str:
-    """A module's listing with its marks."""
+def module_part(it: Shown, unlisted: int, changes: str, is_open: bool) -> str:
+    """A module's listing with its marks, which folds, below what is told of it and of its changes."""
     module, name = it.module, it.name
     width = max(len(counts_text(line)) for line in module.lines)
     firsts = {it.places[first] for first, _ in module.ranges if first in it.places}
-    lines = listing_text(it, {*firsts, *one_way(it), *it.ended}, width)
+    lines = listing_text(it, {*firsts, *one_way(it), *it.ended, *it.told}, width)
     counted = "<p>Behind each mark: how often it ran, or how often it branched and fell through.</p>\n" if width else ""
-    lost = unlisted_words(module.name, unlisted) if unlisted else ""
+    lost = unlisted_alert(module.name, unlisted) if unlisted else ""
     region = f'tabindex="0" role="region" aria-label="Listing of {it.title}"'
     return f"""<section id="{name}" aria-labelledby="{name}.title">
 {headed("h2", f"{name}.title", it.title)}
-<p>{counts_in_words(module.executed, module.places, module.facts, module.possible)}</p>
-{lost}{drained(it.session)}{ranges(it)}{one_way_part(it)}{legend(module)}
-{counted}<div class="wide listing" style="--lines:{len(module.lines)}" {region}>
-<pre>{lines}</pre></div>
+<p>{totals_of([module]).words()}</p>
+{lost}{drained(it.session)}{changes}{ranges(it)}{one_way_part(it)}{legend(module)}
+{counted}<details class="fold"{' open' if is_open else ''}><summary>Listing, {count_of(len(module.lines), 'line')}</summary>
+<div class="wide listing" style="--lines:{len(module.lines)}" {region}>
+<pre>{lines}</pre></div></details>
 </section>"""

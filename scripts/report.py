@@ -37,20 +37,30 @@ ENDED = re.compile(rb"TASK " + NAME + b" " + ENDING + rb" COUNT ([0-9]{1,9}) AT 
 UNLISTED = re.compile(rb"UNLISTED " + NAME + rb" ([0-9]{1,10})")
 DRAINED = re.compile(rb"DRAINED COUNT ([0-9]{1,9})|NOT DRAINED")
 MARKED = re.compile(rb"[\^:>V& ] ")
-# How many facts a mark stands for.
+# How many facts a mark stands for, and in words.
 FACTS = {"^": 0, ":": 1, ">": 1, "V": 1, "&": 2}
+MARKS = {
+    "^": "not executed", ":": "executed", ">": "branched only", "V": "fell through only", "&": "branched and fell through",
+}
 
 
 @dataclass
 class Line:
     """A line of a listing; at a place its location, whether it branches on a condition, and where it was counted how often it
-    ran, or how often it branched and how often it fell through."""
+    ran, or how often it branched and how often it fell through; further its length in bytes, where a listing shows it, and
+    whether it is left out of what counts."""
 
     mark: str
     text: bytes
     location: Optional[int] = None
     is_conditional: bool = False
     counts: Optional[tuple[int, ...]] = None
+    length: int = 0
+    is_left_out: bool = False
+
+    def is_counted(self) -> bool:
+        """Whether it is a place, and not left out."""
+        return self.mark != " " and not self.is_left_out
 
 
 @dataclass
@@ -127,6 +137,11 @@ def kind_is_conditional(code: bytes) -> bool:
     if operation == 0x06:
         return second != 0
     return 1 <= mask <= 14 and (operation == 0x47 or operation == 0x07 and second != 0)
+
+
+def length_of(code: bytes) -> int:
+    """The length of an instruction in bytes, by its first one."""
+    return (2, 4, 4, 6)[code[0] >> 6]
 
 
 class Reader:
@@ -317,7 +332,8 @@ class Reader:
             code = found and re.match(rb"[0-9A-Fa-f]{4}", found[1])
             if not found or not code:
                 self.refuse("a mark on a line that is no instruction's", first + at)
-            line.location, line.is_conditional = found[0], kind_is_conditional(bytes.fromhex(code[0].decode()))
+            begin = bytes.fromhex(code[0].decode())
+            line.location, line.is_conditional, line.length = found[0], kind_is_conditional(begin), length_of(begin)
             if line.mark != "^" and line.is_conditional != (line.mark in ">V&"):
                 self.refuse(f"the mark {line.mark} is none of this instruction", first + at)
 
@@ -353,8 +369,8 @@ def difference(parts: list[tuple[str, object]], others: list[tuple[str, object]]
 
 
 def counts_of(lines: list[Line]) -> tuple[int, int, int, int]:
-    """Places, places with a fact, facts, and facts that there can be, by the lines."""
-    places = [it for it in lines if it.mark != " "]
+    """Places, places with a fact, facts, and facts that there can be, by the lines; without those that are left out."""
+    places = [it for it in lines if it.is_counted()]
     facts = [FACTS[it.mark] for it in places]
     return len(places), sum(it > 0 for it in facts), sum(facts), sum(1 + it.is_conditional for it in places)
 

@@ -285,11 +285,11 @@ def must_return_streams() -> None:
 
 
 def script_words() -> None:
-    """coverage: a report that is named where page and lcov want it on standard input"""
+    """coverage: a report that is named where the scripts want it on standard input"""
     with folder() as at:
         with open(f"{at}/orders.report", "wb"):
             pass
-        for words in (["page"], ["lcov", "f"]):
+        for words in (["page"], ["summary"], ["cobertura"], ["lcov", "f"], ["summary", "--json"]):
             ran = coverage(*words, "orders.report", cwd=at)
             equal((ran.status, ran.output), (1, b""))
             assert ran.error.endswith(f"\ncoverage: did you mean ./coverage {' '.join(words)} < orders.report ?\n"), ran.error

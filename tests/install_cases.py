@@ -104,7 +104,7 @@ def of_scripts(command: str, env: dict[str, str], at: str) -> None:
     assert f"{at}/share/doc/coverage" in text and "checkout" not in text and "builds" not in text, text
     scripts = text.partition("The scripts around it")[2]
     names = re.findall(r"^  ([a-z]+) +[a-z]", scripts, re.M)
-    assert {"module", "job", "union", "page", "lcov"} <= set(names), names
+    assert {"module", "job", "union", "page", "summary", "diff", "lcov", "cobertura"} <= set(names), names
     for name in names:
         said = well(run([command, name, "--help"], env=env)).output
         assert said.startswith(f"usage: coverage {name} ".encode()), said[:80]
@@ -253,7 +253,7 @@ def page_has_statuses() -> None:
         rows = re.findall(r"^\| ([0-9]+) \| (?:`([A-Z ]+)[^`]*`|)", file.read().partition("## Exit status\n")[2], re.M)
     items = [it.partition("\n") for it in re.split(r"^\.It Li ", section_of("EXIT STATUS"), flags=re.M)[1:]]
     told = {status: text.replace("\n", " ") for status, _, text in items}
-    equal(list(told), [*dict(rows), "80", "70", "71", "72", "130"])
+    equal(list(told), [*dict(rows), "80", "81", "70", "71", "72", "130"])
     for status, line in rows:
         # Its first words in capitals.
         begin = " ".join(it for it in line.split() if len(it) > 1)

@@ -3,11 +3,11 @@ from __future__ import annotations
 
 import functools
 import re
-import shutil
 import struct
 import zlib
 from html.parser import HTMLParser
 
+import browser
 from harness import TOP, Tally, coverage, equal, example_report, folder, run, run_checks, well
 from jobs import COUNTED, FIRST, FIRST_REPORT, OPENED_LINES, OPENED_REPLAY, Program, Result
 from report_cases import (
@@ -15,7 +15,6 @@ from report_cases import (
     replayed,
 )
 
-BROWSERS = ("chromium", "chromium-browser", "google-chrome")
 VOID = {"meta", "link", "br", "hr", "img", "input"}
 
 
@@ -135,12 +134,17 @@ def many(count: int) -> bytes:
     return Program(code).report(RETURNED, "V^" * count, 3 * count, *not_run)
 
 
+def folded(page: Page) -> int:
+    """How many parts of a page are folded."""
+    return sum(tag == "details" and "open" not in values for tag, values in page.tags)
+
+
 def folded_lists() -> None:
     """page: up to twelve ranges and branches stand open, and more are folded"""
     few, more = page_of(many(12)), page_of(many(230))
-    equal(sum(tag == "details" for tag, _ in few.tags), 1)
+    equal(folded(few), 1)
     assert "12 ranges not executed:" in few.text and "12 branches went one way only:" in few.text
-    equal(sum(tag == "details" for tag, _ in more.tags), 3)
+    equal(folded(more), 3)
     assert "230 ranges not executed" in more.text and "230 branches went one way only" in more.text
     equal(len(more.items), 2 * 230 + 5)
 
@@ -254,17 +258,22 @@ def large_pages() -> None:
     report = "\n".join(["COVERAGE REPORT", lines[0], *modules, "END", ""]).encode()
     text = well(coverage("page", data=report)).output
     assert len(text) < len(report) + 60_000, (len(text), len(report))
-    assert len(Page(text.decode()).tags) < 16 * 60 + 100
+    page = Page(text.decode())
+    assert len(page.tags) < 16 * 60 + 100
+    # All listings are folded.
+    equal(folded(page), 16)
 
 
 def contrast() -> None:
     """page: text stands out from its ground by 4.5 to 1 and more, in light and in dark"""
     with open(f"{TOP}/scripts/page.css", encoding="utf-8") as file:
         schemes = file.read().split("@media screen")[:2]
-    grounds = ("ground", "panel", "not-ground", "half-ground")
-    pairs = [(text, ground) for text in ("text", "dim", "link", "not") for ground in grounds]
+    grounds = ("ground", "panel", "not-ground", "half-ground", "lost-ground", "gained-ground", "fresh-ground")
+    # Lines that have changed have text alone on their grounds, and what ended there.
+    pairs = [(text, ground) for text in ("text", "not") for ground in grounds]
+    pairs += [(text, ground) for text in ("dim", "link") for ground in grounds[:4]]
     for scheme in (dict(re.findall(r"--([a-z-]+): (#[0-9a-f]{6});", it)) for it in schemes):
-        equal(len(scheme), 12)
+        equal(len(scheme), 18)
         for text, ground in [*pairs, ("half", "half-ground"), ("done", "ground")]:
             lighter, darker = sorted((luminance(scheme[it]) for it in (text, ground)), reverse=True)
             assert (lighter + 0.05) / (darker + 0.05) >= 4.5, (text, ground)
@@ -351,13 +360,13 @@ def size_of(png: bytes) -> tuple[int, int, bytes]:
     return width, height, zlib.decompress(data)
 
 
-def browse(browser: str, at: str, name: str, *words: str) -> None:
+def browse(path: str, at: str, name: str, *words: str) -> None:
     """Runs a browser over a page of the folder, which makes a file there."""
     fixed = ["--headless", "--no-sandbox", "--disable-gpu", "--disable-dev-shm-usage", f"--user-data-dir={at}/profile"]
-    equal(run([browser, *fixed, *words, f"file://{at}/{name}"], cwd=at).status, 0)
+    equal(run([path, *fixed, *words, f"file://{at}/{name}"], cwd=at).status, 0)
 
 
-def in_print(browser: str) -> None:
+def in_print(path: str) -> None:
     """page: a browser prints what is folded: as many sheets as of the page with nothing folded"""
     sheets = []
     page = well(coverage("page", data=many(230))).output
@@ -366,14 +375,14 @@ def in_print(browser: str) -> None:
         for text in (page, unfolded, re.sub(rb"<details>.*?</details>", b"", page, flags=re.S)):
             with open(f"{at}/page.html", "wb") as file:
                 file.write(text)
-            browse(browser, at, "page.html", f"--print-to-pdf={at}/page.pdf")
+            browse(path, at, "page.html", f"--print-to-pdf={at}/page.pdf")
             with open(f"{at}/page.pdf", "rb") as file:
                 sheets.append(len(re.findall(rb"/Type */Page\b", file.read())))
     equal(sheets[0], sheets[1])
     assert sheets[0] > sheets[2], sheets
 
 
-def in_browser(browser: str) -> None:
+def in_browser(path: str) -> None:
     """page: a browser draws it, in light and in dark"""
     pictures = []
     with folder() as at:
@@ -381,7 +390,7 @@ def in_browser(browser: str) -> None:
             file.write(well(coverage("page", data=MARKED)).output)
         for scheme in ("1", "0"):
             words = ["--window-size=900,600", f"--blink-settings=preferredColorScheme={scheme}"]
-            browse(browser, at, "page.html", f"--screenshot={at}/{scheme}.png", *words)
+            browse(path, at, "page.html", f"--screenshot={at}/{scheme}.png", *words)
             with open(f"{at}/{scheme}.png", "rb") as file:
                 pictures.append(size_of(file.read()))
     for width, height, pixels in pictures:
@@ -392,9 +401,9 @@ def in_browser(browser: str) -> None:
 
 def tools(tally: Tally) -> None:
     """Runs a browser over pages, where there is one."""
-    browser = next((it for name in BROWSERS if (it := shutil.which(name))), None)
-    if browser:
-        run_checks(tally, [functools.partial(it, browser) for it in (in_browser, in_print)])
+    path = browser.found()
+    if path:
+        run_checks(tally, [functools.partial(it, path) for it in (in_browser, in_print)])
     else:
         tally.left_out.append("the page in a browser, since there is no chromium")
 

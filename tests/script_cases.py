@@ -12,20 +12,26 @@ from jobs import FIRST_REPORT
 EXAMPLES = f"{TOP}/examples"
 
 def words_and_streams() -> None:
-    """page, lcov, module, job, union: words that they don't have, and faults of input and output"""
-    for command in ("page", "lcov", "module", "job", "union"):
+    """scripts: words that they don't have, and faults of input and output"""
+    for command in ("page", "summary", "diff", "lcov", "cobertura", "module", "job", "union"):
         ran = well(coverage(command, "--help"))
         assert f"usage: coverage {command}".encode() in ran.output and b"not proved" in ran.output
         refused(coverage(command, "--help", redirect=">/dev/full"), 6, "standard output")
-    refused(coverage("page", "x"), 1, "usage: coverage page")
+    for command in ("page", "summary", "cobertura"):
+        for words in (["x"], ["-h"], ["--leave-out"], ["--leave-out", "a", "--leave-out", "a"], ["--leave-out", "a", "b"]):
+            refused(coverage(command, *words), 1, f"usage: coverage {command}")
     refused(coverage("lcov"), 1, "usage: coverage lcov")
     for words in (["a", "b"], [""], ["-h"], ["--output"]):
         refused(coverage("lcov", *words, data=FIRST_REPORT), 1, "usage: coverage lcov")
-    for words in (["page"], ["lcov", "/dev/null/x"]):
+    for words in (["page"], ["summary"], ["cobertura"], ["diff", "-", "-"], ["lcov", "/dev/null/x"]):
         refused(coverage(*words, redirect="</"), 5, "standard input")
         refused(coverage(*words, redirect="<&-"), 5, "standard input")
-    refused(coverage("page", data=FIRST_REPORT, redirect=">/dev/full"), 6, "standard output")
-    refused(coverage("page", data=FIRST_REPORT, redirect=">&-"), 6, "standard output")
+    with folder() as at:
+        with open(f"{at}/report", "wb") as file:
+            file.write(FIRST_REPORT)
+        for words in (["page"], ["summary"], ["summary", "--json"], ["cobertura"], ["diff", "report", "report"]):
+            for redirect in (">/dev/full", ">&-"):
+                refused(coverage(*words, data=FIRST_REPORT, redirect=redirect, cwd=at), 6, "standard output")
     refused(coverage("module", "M", "100000", f"{EXAMPLES}/orders.object", redirect=">/dev/full"), 6, "standard output")
     refused(coverage("job", "-", data=b"PHASE P\n", redirect=">/dev/full"), 6, "standard output")
     refused(coverage("lcov", "/dev/null/x", data=FIRST_REPORT), 6, "/dev/null/x")

@@ -1,0 +1,281 @@
+"""Differences of two reports (docs/SUMMARY.md): of one listing, and of one that has changed."""
+from __future__ import annotations
+
+import itertools
+import random
+import shutil
+import sys
+
+from harness import TOP, Tally, coverage, equal, folder, refused, run, run_checks, well
+from jobs import FACTS, FIRST_REPORT, HEADING, WIDE_HEADING, Program
+from report_cases import COUNTS, ENDED, ENDS, MARKED, NO_LISTING, RETURNED, labelled
+
+sys.path.insert(0, f"{TOP}/scripts")
+
+import difference  # noqa: E402
+import in_common  # noqa: E402
+from report import Line, read_report  # noqa: E402
+
+# What a place shows and then shows, by its marks: what is told, lost facts and gained ones.
+STRAIGHT = {("^", ":"): ["gained executed now"], (":", "^"): ["lost no longer executed"]}
+BRANCHES = {
+    ("^", ">"): ["gained executed now"], ("^", "V"): ["gained executed now"], ("^", "&"): ["gained executed now"],
+    (">", "^"): ["lost no longer executed"], ("V", "^"): ["lost no longer executed"], ("&", "^"): ["lost no longer executed"],
+    (">", "&"): ["gained fell through now"], ("V", "&"): ["gained branched now"],
+    ("&", ">"): ["lost no longer fell through"], ("&", "V"): ["lost no longer branched"],
+    (">", "V"): ["lost no longer branched", "gained fell through now"],
+    ("V", ">"): ["lost no longer fell through", "gained branched now"],
+}
+# A source statement and its object code, and its marks before and now, where it is there. SPARE has moved, and what stands
+# before it has other locations and numbers; remarks, kinds and constants have changed.
+ROWS = """
+MAIN     LTR   1,1               |1211    |:|:
+         BE    LATER             |4780F010|&|V
+         LR    2,2    old remark |1822    |:|
+         LR    2,2    new remark |1822    | |^
+         LR    3,3               |1833    |:|^
+         LR    4,4               |1844    |:|^
+SPARE    LR    5,5               |1855    |^|
+DATA     DC    C'AB'             |C1C2    | |
+         BC    MASK,MAIN         |4780F000|V|
+         BC    MASK,MAIN         |47F0F000| |:
+LATER    BCT   6,MAIN            |4660F000|>|>
+FRESH    BE    MAIN              |4780F000| |>
+         LR    7,7               |1877    | |^
+         LR    8,8               |1888    | |^
+         BR    14                |07FE    |:|:
+SPARE    LR    5,5               |1855    | |:
+"""
+WANTED = """\
+M in session S: 9 of 12 facts, 75 %, before; 7 of 15 facts, 46 %, now; 3 places gone
+  lost  000002         no longer branched            behind MAIN, statement 2    BE    LATER
+  new   000006         not executed                  behind MAIN, statement 3    LR    2,2    new remark
+  lost  000008-00000B  no longer executed, 2 places  behind MAIN, statement 4    LR    3,3
+  new   000016         branched only                 FRESH, statement 9          FRESH    BE    MAIN
+  new   00001A-00001D  not executed, 2 places        behind FRESH, statement 10  LR    7,7
+3 facts lost, 0 gained; 4 facts of new places not shown; 3 places gone.
+"""
+
+
+def written(lines: list[tuple[str, str, str]], is_wide: bool = False, before: str = "", numbered: bool = False) -> bytes:
+    """The report over a listing of these statements, with their object codes and marks."""
+    texts, marks, code, at, ranges = [before + (WIDE_HEADING if is_wide else HEADING)], " ", [], 0, []
+    for number, (source, digits, mark) in enumerate(lines, 1):
+        groups = " ".join(digits[it : it + 4] for it in range(0, len(digits), 4))
+        front = f"{at:08X} {groups:<35}" if is_wide else f"{at:06X} {groups:<27}"
+        texts.append(f"{before}{front}{number:>5} {f'{source:<72}{number * 10:08}' if numbered else source}")
+        marks += mark
+        if mark != " ":
+            code.append((at, digits, "BE" if mark in ">V&" else "LR"))
+            ranges += [f"{at:06X}-{at + len(digits) // 2 - 1:06X}"] if mark == "^" else []
+        at += len(digits) // 2
+    # 47 with a mask of 1 to 14 and BCT are conditional, and so have two facts.
+    possible = sum(1 + (it.startswith("46") or it.startswith("478")) for it in (digits for _, digits, _ in code))
+    return Program(code, texts).report(RETURNED, marks, possible, *ranges)
+
+
+def of_rows(column: int, **form: object) -> bytes:
+    """The report before or now."""
+    rows = [[cell for cell in it.split("|")] for it in ROWS.strip("\n").split("\n")]
+    names = [(source.rstrip(), digits.strip(), marks[column]) for source, digits, *marks in rows]
+    # A constant stands there in both.
+    lines = [(source, digits, mark if mark.strip() else " ") for source, digits, mark in names if mark.strip() or "DC" in source]
+    return written(lines, **form)  # type: ignore[arg-type]
+
+
+def told(old: bytes, new: bytes, *words: str, rules: str = "") -> str:
+    """What diff says of two reports."""
+    with folder() as at:
+        for name, data in (("old", old), ("new", new), ("rules", rules.encode())):
+            with open(f"{at}/{name}", "wb") as file:
+                file.write(data)
+        return well(coverage("diff", *words, "old", "new", cwd=at)).output.decode()
+
+
+def each_change() -> None:
+    """diff: of each mark before and now it tells what was lost and gained"""
+    for code, marks, wanted in (("1A11", "^:", STRAIGHT), ("4780F000", "^>V&", BRANCHES)):
+        for before, now in itertools.product(marks, repeat=2):
+            program = Program([(0, code, "BE" if code[0] == "4" else "AR")])
+            last = f"00000{len(code) // 2 - 1}"
+            possible = len(code) // 4
+            ranges = {it: ((f"000000-{last}",) if it == "^" else ()) for it in marks}
+            old, new = (program.report([], it, possible, *ranges[it]) for it in (before, now))
+            lines = told(old, new).splitlines()
+            had = [" ".join(it.split()).replace(" 000000 ", " ").partition(" statement")[0] for it in lines[1:-1]]
+            equal((before, now, had), (before, now, wanted.get((before, now), [])))
+            known = wanted.get((before, now), [])
+            more = FACTS[now] - FACTS[before]
+            lost = max(-more, 0) or int(len(known) == 2)
+            gained = max(more, 0) or int(len(known) == 2)
+            noun = "fact" if lost == 1 else "facts"
+            equal(lines[-1], f"{lost} {noun} lost, {gained} gained; 0 facts of new places not shown.")
+
+
+def a_changed_listing() -> None:
+    """diff: lines are found by their statements, whatever their locations, numbers, widths and print control characters"""
+    forms: list[dict[str, object]] = [{}, {"is_wide": True}, {"before": " "}, {"numbered": True}, {"is_wide": True, "before": "0", "numbered": True}]
+    for one, other in itertools.product(forms, forms):
+        text = told(of_rows(0, **one), of_rows(1, **other))
+        # A sequence number stands behind the statement that is shown.
+        text = "".join(f"{it[:it.rindex('  ')].rstrip() if other.get('numbered') and it[0] == ' ' else it}\n" for it in text.splitlines())
+        equal([it.split() for it in text.splitlines()] if other.get("numbered") else text,
+              [it.split() for it in WANTED.splitlines()] if other.get("numbered") else WANTED)
+    same = of_rows(0)
+    equal(told(same, same), "0 facts lost, 0 gained; 0 facts of new places not shown.\n")
+
+
+def modules_of_one() -> None:
+    """diff: modules and sessions of one report alone are told, and all places of a new one are new"""
+    session = b"".join(FIRST_REPORT.partition(b"SESSION S")[1:])
+    not_run = Program.of("0 1A11 AR, 2 1A11 AR").report([], "^^", 2, "000000-000003").partition(b"SESSION S")[2]
+    two = FIRST_REPORT[:-4] + b"SESSION T" + not_run
+    more = FIRST_REPORT[:-4] + b"MODULE N" + not_run.partition(b"MODULE M")[2]
+    none = "0 facts lost, 0 gained; 0 facts of new places not shown"
+    equal(told(two, FIRST_REPORT), f"M in session T: not in the new report; 0 of 2 facts, 0 %, before\n{none}; 2 places gone.\n")
+    for report, name in ((two, "M in session T"), (more, "N in session S")):
+        equal(told(FIRST_REPORT, report), f"""\
+{name}: not in the old report; 0 of 2 facts, 0 %, now
+  new  000000-000003  not executed, 2 places  statement 1  AR
+0 facts lost, 0 gained; 2 facts of new places not shown.
+""")
+    # Counts and ends that stand behind, and tasks, change nothing; a schedule and a marks file are compared likewise.
+    for report in (ENDED + ENDS, b"COVERAGE SHOW\n" + session):
+        equal(told(FIRST_REPORT, report), f"{none}.\n")
+    equal(told(MARKED + COUNTS, MARKED), f"{none}.\n")
+
+
+def left_out() -> None:
+    """diff: what is left out is told in no change, and how many that is of; labels leave out what is gone too"""
+    text = told(of_rows(0), of_rows(1), "--leave-out", "rules", rules="M 000008-00000B\nM FRESH an exit\nM SPARE\n")
+    equal(text, """\
+M in session S: 5 of 6 facts, 83 %, before; 4 of 7 facts, 57 %, now; 1 place gone; 7 places left out, 3 of them executed
+  lost  000002  no longer branched  behind MAIN, statement 2  BE    LATER
+  new   000006  not executed        behind MAIN, statement 3  LR    2,2    new remark
+1 fact lost, 0 gained; 1 fact of new places not shown; 1 place gone.
+""")
+
+
+def refusals() -> None:
+    """diff: words that it hasn't, reports that have no module in common, counts alone, and what is no report"""
+    with folder() as at:
+        other = FIRST_REPORT.replace(b"SESSION S", b"SESSION T")
+        for name, data in (("a", FIRST_REPORT), ("b", b"BAD JOB LINE 1\n"), ("c", COUNTS), ("d", other), ("e", NO_LISTING)):
+            with open(f"{at}/{name}", "wb") as file:
+                file.write(data)
+        for words in ([], ["a"], ["a", "a", "a"], ["", "a"], ["--x", "a", "a"], ["a", "a", "--leave-out", "a"], ["--leave-out", "a"]):
+            refused(coverage("diff", *words, cwd=at), 1, "usage: coverage diff")
+        for words, text in (
+            (["a", "b"], "b: line 1: no report"), (["b", "a"], "b: line 1: no report"), (["none", "a"], "none: No such file"),
+            (["a", "c"], "c: counts alone"), (["c", "a"], "c: counts alone"),
+            (["a", "d"], "d: no listing is of a session and a module that a has too"), (["e", "a"], "a: no listing is of"),
+        ):
+            refused(coverage("diff", *words, cwd=at), 2, f"coverage: {text}")
+        equal(well(coverage("diff", "-", "a", data=FIRST_REPORT, cwd=at)).output.count(b"\n"), 1)
+        refused(coverage("diff", "a", "-", data=b"x", cwd=at), 2, "coverage: standard input: line 1: no report")
+
+
+def drawn(draw: random.Random, count: int) -> list[tuple[str, str, str]]:
+    """Statements of few kinds, many of them alike, with marks."""
+    kinds = [(f"         LR    {it},{it}", f"18{it}{it}", "^:") for it in range(4)] + [("         BE    X", "4780F000", "^>V&")]
+    return [(source, digits, draw.choice(marks)) for source, digits, marks in draw.choices(kinds, k=count)]
+
+
+def edited(draw: random.Random, lines: list[tuple[str, str, str]]) -> list[tuple[str, str, str]]:
+    """The same with lines taken out and put in, and other marks."""
+    found = []
+    for source, digits, mark in lines:
+        if draw.random() < 0.1:
+            continue
+        if draw.random() < 0.1:
+            found += drawn(draw, 1)
+        found.append((source, digits, draw.choice("^:" if digits[0] == "1" else "^>V&") if draw.random() < 0.3 else mark))
+    return found
+
+
+def sums_agree() -> None:
+    """diff: over random edits as many lines are found, in order, by their statements, as can be; the sums are those of the facts"""
+    draw = random.Random(4)
+    for _ in range(150):
+        lines = drawn(draw, draw.randrange(1, 60))
+        now = edited(draw, lines) or drawn(draw, 1)
+        old, new = (read_report("", written(it)) for it in (lines, now))
+        one, other = (it.sessions[0].modules[0] for it in (old, new))
+        pairs = difference.pairs_of(one.lines, other.lines)
+        places = sorted(pairs)
+        equal([pairs[it] for it in places], sorted(set(pairs.values())))
+        equal([source_of(other.lines[it]) for it in places], [source_of(one.lines[pairs[it]]) for it in places])
+        equal(len(pairs), longest([source_of(it) for it in one.lines], [source_of(it) for it in other.lines]))
+        found = difference.compare("S", "M", one, other)
+        lost, gained, fresh = (found.facts(it) for it in (difference.LOST, difference.GAINED, difference.FRESH))
+        kept, had = set(places), set(pairs.values())
+        new_shown = sum(FACTS[it.mark] for at, it in enumerate(other.lines) if it.mark != " " and at not in kept)
+        gone_shown = sum(FACTS[it.mark] for at, it in enumerate(one.lines) if it.mark != " " and at not in had)
+        equal(other.facts - one.facts, gained - lost + new_shown - gone_shown)
+        new_possible = sum(1 + it.is_conditional for at, it in enumerate(other.lines) if it.mark != " " and at not in kept)
+        equal(fresh, new_possible - new_shown)
+
+
+def rows_as_pairs() -> None:
+    """diff: lists with many items that are alike are compared by rows, whole and halved, and have as much in common"""
+    draw, kept = random.Random(5), in_common.MOST_BITS
+    for bits in (kept, 40, 1):
+        in_common.MOST_BITS = bits
+        for _ in range(400):
+            one, other = ([b"%d" % draw.randrange(4) for _ in range(draw.randrange(25))] for _ in range(2))
+            found = in_common.by_rows(one, other)
+            equal(len(found), longest(one, other))
+            equal([one[was] for was, _ in found], [other[at] for _, at in found])
+            assert all(it[0] < then[0] and it[1] < then[1] for it, then in zip(found, found[1:])), found
+    in_common.MOST_BITS = kept
+    # More pairs that are alike than are gone through one by one.
+    one, other = [b"A"] * 1500, [b"B", *[b"A"] * 1400]
+    equal(in_common.in_common(one, other), [(it, it + 1) for it in range(1400)])
+
+
+def longest(one: list[bytes], other: list[bytes]) -> int:
+    """How many items two lists have in common, in one order."""
+    row = [0] * (len(other) + 1)
+    for item in one:
+        before = row[:]
+        for at, it in enumerate(other):
+            row[at + 1] = before[at] + 1 if item == it else max(row[at], before[at + 1])
+    return row[-1]
+
+
+def source_of(line: Line) -> bytes:
+    """A narrow line's source statement; that of the heading is none."""
+    return line.text[40:].rstrip()
+
+
+def labels_stand() -> None:
+    """diff: the label at a change is that of the new report"""
+    text = told(labelled(), labelled().replace(b": 000008", b"^ 000008").replace(b"EXECUTED 7 FACTS 7", b"EXECUTED 6 FACTS 6"))
+    equal(text.splitlines()[1].split()[:6], ["lost", "000008", "no", "longer", "executed", "NEAR,"])
+
+
+def as_diff_finds() -> None:
+    """diff: as many lines are found again as the program diff finds by its smallest difference"""
+    draw = random.Random(9)
+    with folder() as at:
+        for _ in range(60):
+            lines = drawn(draw, draw.randrange(1, 80))
+            now = edited(draw, lines) or drawn(draw, 1)
+            one, other = (read_report("", written(it)).sessions[0].modules[0].lines for it in (lines, now))
+            for name, found in (("one", one), ("other", other)):
+                with open(f"{at}/{name}", "wb") as file:
+                    file.write(b"".join(source_of(it) + b"\n" for it in found))
+            ran = run(["diff", "--minimal", "one", "other"], cwd=at)
+            kept = len(one) - sum(it.startswith(b"<") for it in ran.output.splitlines())
+            equal(len(difference.pairs_of(one, other)), kept)
+
+
+def tools(tally: Tally) -> None:
+    """Runs the program diff over listings, where it is."""
+    if shutil.which("diff"):
+        run_checks(tally, [as_diff_finds])
+    else:
+        tally.left_out.append("the program diff over listings, since it isn't there")
+
+
+CHECKS = [each_change, a_changed_listing, modules_of_one, left_out, refusals, sums_agree, rows_as_pairs, labels_stand]
