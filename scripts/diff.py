@@ -2,11 +2,12 @@
 from __future__ import annotations
 
 import sys
+from typing import Optional
 
 from command import UsageError, read_file, run, take_options, write_output
-from difference import Change, Difference, differences, sums
+from difference import Change, Difference, differences, source_of, sums
 from leave_out import OPTION, read_rules, tell_idle
-from listing import heading_of
+from listing import Heading, heading_of
 from markup import count_of, printed
 from report import Module, read_report, text_of
 
@@ -33,25 +34,20 @@ def title(it: Difference) -> str:
     return f"{it.name} in session {it.session}: {it.words()}"
 
 
-def source_of(module: Module, at: int) -> str:
-    """The source statement on a line."""
-    heading = heading_of([it.text for it in module.lines])
-    text = module.lines[at].text
-    return printed(text_of(text[heading.shift + heading.columns.source :] if heading else text)).strip()
-
-
-def row(it: Difference, module: Module, change: Change) -> list[str]:
+def row(it: Difference, module: Module, change: Change, heading: Optional[Heading]) -> list[str]:
     """The columns of a change."""
     more = f", {count_of(len(change.lines), 'place')}" if len(change.lines) > 1 else ""
     first = change.lines[0]
-    return [change.kind, change.where(module), change.words + more, it.spots[first].words(), source_of(module, first)]
+    source = printed(text_of(source_of(module.lines[first], heading))).strip()
+    return [change.kind, change.where(module), change.words + more, it.spots[first].words(), source]
 
 
 def lines_of(it: Difference) -> list[str]:
     """The lines of a module that has changed: its title, and its changes in columns."""
     if it.new is None:
         return [title(it)]
-    rows = [row(it, it.new, change) for change in it.changes]
+    heading = heading_of([line.text for line in it.new.lines])
+    rows = [row(it, it.new, change, heading) for change in it.changes]
     widths = [max(map(len, column)) for column in zip(*rows)][:-1]
     texts = ["  ".join([*(f"{cell:{width}}" for cell, width in zip(cells, widths)), cells[-1]]) for cells in rows]
     return [title(it), *(f"  {text}".rstrip() for text in texts)]

@@ -84,12 +84,16 @@ def sums(found: list[Difference]) -> str:
     return f"{told}; {count_of(gone, 'place')} gone." if gone else f"{told}."
 
 
+def source_of(line: Line, heading: Optional[Heading]) -> bytes:
+    """The source statement on a line."""
+    if heading is None:
+        return line.text
+    return line.text[heading.shift + heading.columns.source :][:SOURCE].rstrip(b" ")
+
+
 def key_of(line: Line, heading: Optional[Heading]) -> tuple[Optional[bool], bytes]:
     """By what a line is found again: its source statement, and whether and how it is a place."""
-    text = line.text
-    if heading is not None:
-        text = text[heading.shift + heading.columns.source :][:SOURCE].rstrip(b" ")
-    return None if line.mark == " " else line.is_conditional, text
+    return None if line.mark == " " else line.is_conditional, source_of(line, heading)
 
 
 def keys_of(lines: list[Line]) -> list[tuple[int, tuple[Optional[bool], bytes]]]:

@@ -38,7 +38,8 @@ ELEMENTS = {
 def made(report: bytes, *words: str) -> Element:
     """What cobertura makes of a report, with the elements and the attributes that it may have."""
     text = well(coverage("cobertura", *words, data=report)).output
-    begin = b'<?xml version="1.0" encoding="UTF-8"?>\n<!DOCTYPE coverage SYSTEM "http://cobertura.sourceforge.net/xml/coverage-04.dtd">\n'
+    url = b"http://cobertura.sourceforge.net/xml/coverage-04.dtd"
+    begin = b'<?xml version="1.0" encoding="UTF-8"?>\n<!DOCTYPE coverage SYSTEM "%s">\n' % url
     assert text.startswith(begin), text[:200]
     root = ElementTree.fromstring(text)
     equal(root.tag, "coverage")
@@ -71,8 +72,10 @@ def rates(it: Element) -> tuple[str, ...]:
 def elements() -> None:
     """cobertura: lines with their hits, branches with their ways, rates and totals; counts behind a report are the hits"""
     for marks, counts, line, share, totals, branch in (
-        ("V:", ((0, 12), (12,)), ("1", "12", "12"), "50% (1/2)", "2 2 1 2", "0.5"), (">:", ((9, 0), (1,)), ("1", "9", "1"), "50% (1/2)", "2 2 1 2", "0.5"),
-        ("&:", ((7, 64), (64,)), ("1", "71", "64"), "100% (2/2)", "2 2 2 2", "1"), ("^^", ((0, 0), (0,)), ("0", "0", "0"), "0% (0/2)", "0 2 0 2", "0"),
+        ("V:", ((0, 12), (12,)), ("1", "12", "12"), "50% (1/2)", "2 2 1 2", "0.5"),
+        (">:", ((9, 0), (1,)), ("1", "9", "1"), "50% (1/2)", "2 2 1 2", "0.5"),
+        ("&:", ((7, 64), (64,)), ("1", "71", "64"), "100% (2/2)", "2 2 2 2", "1"),
+        ("^^", ((0, 0), (0,)), ("0", "0", "0"), "0% (0/2)", "0 2 0 2", "0"),
         (">^", ((9, 0), (0,)), ("1", "9", "0"), "50% (1/2)", "1 2 1 2", "0.5"),
     ):
         ranges = {"^^": ("000000-000005",), ">^": ("000004-000005",)}.get(marks, ())
@@ -85,8 +88,9 @@ def elements() -> None:
             of_lines = {"0": "0", "1": "0.5", "2": "1"}[totals[0]]
             one = root.findall("packages/package/classes/class")
             equal([(it.get("name"), it.get("filename"), lines_of(it)) for it in one], [("M", "S/M.lst", wanted)])
-            equal([(it.get("name"), it.get("signature"), lines_of(it)) for it in one[0].findall("methods/method")], [("M", "", wanted)])
-            for it in (root, one[0], one[0].findall("methods/method")[0], root.findall("packages/package")[0]):
+            methods_of = one[0].findall("methods/method")
+            equal([(it.get("name"), it.get("signature"), lines_of(it)) for it in methods_of], [("M", "", wanted)])
+            for it in (root, one[0], methods_of[0], root.findall("packages/package")[0]):
                 equal(rates(it), (of_lines, branch, "0"))
             names = ("lines-covered", "lines-valid", "branches-covered", "branches-valid")
             equal(" ".join(root.get(name, "-") for name in names), totals)
@@ -106,8 +110,8 @@ def methods() -> None:
     for report in (labelled(), labelled(True, " ")):
         found = made(report).findall("packages/package/classes/class/methods/method")
         equal([(it.get("name"), [line[0] for line in lines_of(it)]) for it in found], [
-            ("MAIN", ["3", "4", "5"]), ("NEAR", ["7", "8", "10"]), ("LATER", ["12"]), ("HERE", ["14"]), ("MAIN.000016", ["18", "21"]),
-            ("GEN", ["22"]),
+            ("MAIN", ["3", "4", "5"]), ("NEAR", ["7", "8", "10"]), ("LATER", ["12"]), ("HERE", ["14"]),
+            ("MAIN.000016", ["18", "21"]), ("GEN", ["22"]),
         ])
 
 
@@ -135,7 +139,8 @@ def same_reports() -> None:
     for data in (example_report("orders"), example_report("tariff"), OPENED_REPLAY, MARKED + COUNTS):
         root, info = made(data), traced(data)
         sums = {it: str(sum(map(int, re.findall(rf"^{it}:([0-9]+)$", info, re.M)))) for it in ("LH", "LF", "BRH", "BRF")}
-        equal([root.get(it) for it in ("lines-covered", "lines-valid", "branches-covered", "branches-valid")], list(sums.values()))
+        names = ("lines-covered", "lines-valid", "branches-covered", "branches-valid")
+        equal([root.get(it) for it in names], list(sums.values()))
         lines = [(it.get("number"), it.get("hits")) for one in root.iter("class") for it in one.findall("lines/line")]
         equal(lines, re.findall(r"^DA:([0-9]+),([0-9]+)$", info, re.M))
 

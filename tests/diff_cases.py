@@ -20,7 +20,8 @@ from report import Line, read_report  # noqa: E402
 STRAIGHT = {("^", ":"): ["gained executed now"], (":", "^"): ["lost no longer executed"]}
 BRANCHES = {
     ("^", ">"): ["gained executed now"], ("^", "V"): ["gained executed now"], ("^", "&"): ["gained executed now"],
-    (">", "^"): ["lost no longer executed"], ("V", "^"): ["lost no longer executed"], ("&", "^"): ["lost no longer executed"],
+    (">", "^"): ["lost no longer executed"], ("V", "^"): ["lost no longer executed"],
+    ("&", "^"): ["lost no longer executed"],
     (">", "&"): ["gained fell through now"], ("V", "&"): ["gained branched now"],
     ("&", ">"): ["lost no longer fell through"], ("&", "V"): ["lost no longer branched"],
     (">", "V"): ["lost no longer branched", "gained fell through now"],
@@ -76,10 +77,10 @@ def written(lines: list[tuple[str, str, str]], is_wide: bool = False, before: st
 
 def of_rows(column: int, **form: object) -> bytes:
     """The report before or now."""
-    rows = [[cell for cell in it.split("|")] for it in ROWS.strip("\n").split("\n")]
-    names = [(source.rstrip(), digits.strip(), marks[column]) for source, digits, *marks in rows]
+    rows = [it.split("|") for it in ROWS.strip("\n").split("\n")]
+    names = [(source.rstrip(), digits.strip(), marks[column] or " ") for source, digits, *marks in rows]
     # A constant stands there in both.
-    lines = [(source, digits, mark if mark.strip() else " ") for source, digits, mark in names if mark.strip() or "DC" in source]
+    lines = [(source, digits, mark) for source, digits, mark in names if mark != " " or "DC" in source]
     return written(lines, **form)  # type: ignore[arg-type]
 
 
@@ -114,13 +115,10 @@ def each_change() -> None:
 
 def a_changed_listing() -> None:
     """diff: lines are found by their statements, whatever their locations, numbers, widths and print control characters"""
-    forms: list[dict[str, object]] = [{}, {"is_wide": True}, {"before": " "}, {"numbered": True}, {"is_wide": True, "before": "0", "numbered": True}]
+    all_of_it: dict[str, object] = {"is_wide": True, "before": "0", "numbered": True}
+    forms: list[dict[str, object]] = [{}, {"is_wide": True}, {"before": " "}, {"numbered": True}, all_of_it]
     for one, other in itertools.product(forms, forms):
-        text = told(of_rows(0, **one), of_rows(1, **other))
-        # A sequence number stands behind the statement that is shown.
-        text = "".join(f"{it[:it.rindex('  ')].rstrip() if other.get('numbered') and it[0] == ' ' else it}\n" for it in text.splitlines())
-        equal([it.split() for it in text.splitlines()] if other.get("numbered") else text,
-              [it.split() for it in WANTED.splitlines()] if other.get("numbered") else WANTED)
+        equal(told(of_rows(0, **one), of_rows(1, **other)), WANTED)
     same = of_rows(0)
     equal(told(same, same), "0 facts lost, 0 gained; 0 facts of new places not shown.\n")
 
@@ -132,7 +130,8 @@ def modules_of_one() -> None:
     two = FIRST_REPORT[:-4] + b"SESSION T" + not_run
     more = FIRST_REPORT[:-4] + b"MODULE N" + not_run.partition(b"MODULE M")[2]
     none = "0 facts lost, 0 gained; 0 facts of new places not shown"
-    equal(told(two, FIRST_REPORT), f"M in session T: not in the new report; 0 of 2 facts, 0 %, before\n{none}; 2 places gone.\n")
+    gone = "M in session T: not in the new report; 0 of 2 facts, 0 %, before\n"
+    equal(told(two, FIRST_REPORT), f"{gone}{none}; 2 places gone.\n")
     for report, name in ((two, "M in session T"), (more, "N in session S")):
         equal(told(FIRST_REPORT, report), f"""\
 {name}: not in the old report; 0 of 2 facts, 0 %, now
@@ -163,10 +162,12 @@ def refusals() -> None:
         for name, data in (("a", FIRST_REPORT), ("b", b"BAD JOB LINE 1\n"), ("c", COUNTS), ("d", other), ("e", NO_LISTING)):
             with open(f"{at}/{name}", "wb") as file:
                 file.write(data)
-        for words in ([], ["a"], ["a", "a", "a"], ["", "a"], ["--x", "a", "a"], ["a", "a", "--leave-out", "a"], ["--leave-out", "a"]):
+        late = ["a", "a", "--leave-out", "a"]
+        for words in ([], ["a"], ["a", "a", "a"], ["", "a"], ["--x", "a", "a"], late, ["--leave-out", "a"]):
             refused(coverage("diff", *words, cwd=at), 1, "usage: coverage diff")
         for words, text in (
-            (["a", "b"], "b: line 1: no report"), (["b", "a"], "b: line 1: no report"), (["none", "a"], "none: No such file"),
+            (["a", "b"], "b: line 1: no report"), (["b", "a"], "b: line 1: no report"),
+            (["none", "a"], "none: No such file"),
             (["a", "c"], "c: counts alone"), (["c", "a"], "c: counts alone"),
             (["a", "d"], "d: no listing is of a session and a module that a has too"), (["e", "a"], "a: no listing is of"),
         ):
@@ -177,7 +178,8 @@ def refusals() -> None:
 
 def drawn(draw: random.Random, count: int) -> list[tuple[str, str, str]]:
     """Statements of few kinds, many of them alike, with marks."""
-    kinds = [(f"         LR    {it},{it}", f"18{it}{it}", "^:") for it in range(4)] + [("         BE    X", "4780F000", "^>V&")]
+    kinds = [(f"         LR    {it},{it}", f"18{it}{it}", "^:") for it in range(4)]
+    kinds.append(("         BE    X", "4780F000", "^>V&"))
     return [(source, digits, draw.choice(marks)) for source, digits, marks in draw.choices(kinds, k=count)]
 
 
@@ -194,7 +196,7 @@ def edited(draw: random.Random, lines: list[tuple[str, str, str]]) -> list[tuple
 
 
 def sums_agree() -> None:
-    """diff: over random edits as many lines are found, in order, by their statements, as can be; the sums are those of the facts"""
+    """diff: over random edits as many lines are found in order by their statements as can be; the sums are the facts'"""
     draw = random.Random(4)
     for _ in range(150):
         lines = drawn(draw, draw.randrange(1, 60))
@@ -250,7 +252,8 @@ def source_of(line: Line) -> bytes:
 
 def labels_stand() -> None:
     """diff: the label at a change is that of the new report"""
-    text = told(labelled(), labelled().replace(b": 000008", b"^ 000008").replace(b"EXECUTED 7 FACTS 7", b"EXECUTED 6 FACTS 6"))
+    now = labelled().replace(b": 000008", b"^ 000008").replace(b"EXECUTED 7 FACTS 7", b"EXECUTED 6 FACTS 6")
+    text = told(labelled(), now)
     equal(text.splitlines()[1].split()[:6], ["lost", "000008", "no", "longer", "executed", "NEAR,"])
 
 

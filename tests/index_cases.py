@@ -1,16 +1,17 @@
-"""The page of many sessions: its index, which headings sort; what has changed against an old report; and how fast it loads."""
+"""The page of many sessions: its index, which headings sort; changes against an old report; and how fast it loads."""
 from __future__ import annotations
 
 import base64
 import functools
 import random
+import re
 
 import browser
 from diff_cases import of_rows
 from harness import Tally, coverage, equal, folder, refused, run_checks, well
 from jobs import COUNTED, FIRST_REPORT, Program
-from page_cases import Page, folded, size_of
-from report_cases import ENDED, MARKED, RETURNED, ends, labelled
+from page_cases import Page, browse, folded, size_of
+from report_cases import COUNTS, ENDED, MARKED, RETURNED, ends, labelled
 
 SECOND = 1000
 
@@ -39,8 +40,9 @@ def sessions(*marks: str) -> bytes:
 
 def ranks(page: Page) -> list[dict[str, int]]:
     """The ranks of each row of the index."""
-    styles = [values.get("style") or "" for tag, values in page.tags if tag == "tr"]
-    return [{name.removeprefix("--by-"): int(rank) for name, rank in (it.split(":") for it in style.split(";"))} for style in styles if style]
+    styles = [style for tag, values in page.tags if tag == "tr" and (style := values.get("style"))]
+    pairs = [[it.removeprefix("--by-").split(":") for it in style.split(";")] for style in styles]
+    return [{name: int(rank) for name, rank in it} for it in pairs]
 
 
 def classes(page: Page) -> list[str]:
@@ -60,7 +62,8 @@ def sorted_columns() -> None:
     }
     equal(ranks(page), [{name: it[at] for name, it in wanted.items()} for at in range(5)])
     choices = [(values.get("type"), values.get("id"), "checked" in values) for tag, values in page.tags if tag == "input"]
-    equal(choices, [("radio", "by-report", True), ("checkbox", "turned", False)] + [("radio", f"by-{it}", False) for it in [*wanted][1:]])
+    others = [("radio", f"by-{it}", False) for it in [*wanted][1:]]
+    equal(choices, [("radio", "by-report", True), ("checkbox", "turned", False), *others])
     with open(f"{browser.__file__.rpartition('/tests/')[0]}/scripts/page.css", encoding="utf-8") as file:
         css = file.read()
     # Each column that there can be has its rule.
@@ -92,7 +95,8 @@ def against_old() -> None:
     assert told in page.text and page.text.index(told) < page.text.index("Tasks"), page.text
     assert "Against old: 9 of 12 facts, 75 %, before; 7 of 15 facts, 46 %, now; 3 places gone." in page.text, page.text
     equal(page.items[:5], [
-        "000002 no longer branched, behind MAIN, statement 2", "000008-00000B no longer executed, 2 places, behind MAIN, statement 4",
+        "000002 no longer branched, behind MAIN, statement 2",
+        "000008-00000B no longer executed, 2 places, behind MAIN, statement 4",
         "000006 not executed, behind MAIN, statement 3", "000016 branched only, FRESH, statement 9",
         "00001A-00001D not executed, 2 places, behind FRESH, statement 10",
     ])
@@ -100,7 +104,10 @@ def against_old() -> None:
         assert title in page.text, page.text
     assert "facts gained:" not in page.text
     equal(classes(page), ["lost", "fresh", "lost", "half", "fresh", "fresh"])
-    for line in ("BE    LATER  \u2190 no longer branched\n", "LR    3,3  \u2190 no longer executed\n", "LR    7,7  \u2190 new, not executed\n"):
+    for line in (
+        "BE    LATER  \u2190 no longer branched\n", "LR    3,3  \u2190 no longer executed\n",
+        "LR    7,7  \u2190 new, not executed\n",
+    ):
         assert line in page.text, page.text
     rows = [it for it in page.rows if it[:1] == ["S"]]
     equal([it[-3:] for it in rows], [["3", "0", "4"]])
@@ -123,11 +130,12 @@ def against_others() -> None:
     page = page_of(two, "--against", "old", old=FIRST_REPORT)
     assert "Against old: not in the old report; 3 of 3 facts, 100 %, now." in page.text, page.text
     with folder() as at:
-        for name, data in (("bad", b"x"), ("other", two.replace(b"MODULE M", b"MODULE N")), ("counts", COUNTED.counted(RETURNED, (0, 1), (1,)))):
+        for name, data in (("bad", b"x"), ("other", two.replace(b"MODULE M", b"MODULE N")), ("counts", COUNTS)):
             with open(f"{at}/{name}", "wb") as file:
                 file.write(data)
         for name, text in (
-            ("none", "coverage: none: No such file"), ("bad", "coverage: bad: line 1: no report"), ("counts", "coverage: counts: counts alone"),
+            ("none", "coverage: none: No such file"), ("bad", "coverage: bad: line 1: no report"),
+            ("counts", "coverage: counts: counts alone"),
             ("other", "coverage: standard input: no listing is of a session and a module that other has too"),
         ):
             refused(coverage("page", "--against", name, data=FIRST_REPORT, cwd=at), 2, text)
@@ -138,7 +146,7 @@ def against_others() -> None:
 def left_out() -> None:
     """page: what is left out stands with its mark and without its colour, and in no list"""
     page = page_of(labelled(), "--leave-out", "rules", rules=b"M HERE\nM LATER\n")
-    assert "1 range" not in page.text and "3 ranges not executed:" in page.text and "1 branch went one way only:" in page.text, page.text
+    assert "3 ranges not executed:" in page.text and "1 branch went one way only:" in page.text, page.text
     # The first is the legend's; a line stands between the two that are left out.
     equal(classes(page), ["out", "half", "not", "not", "out", "out", "not"])
     assert "left out: 2" in page.text, page.text
@@ -147,7 +155,9 @@ def left_out() -> None:
 # In a browser
 
 ROWS = """[...document.querySelectorAll('tbody tr')].filter(row => row.style.length)
-.sort((one, other) => one.getBoundingClientRect().top - other.getBoundingClientRect().top).map(row => row.cells[0].innerText)"""
+.sort((one, other) => one.getBoundingClientRect().top - other.getBoundingClientRect().top)
+.map(row => row.cells[0].innerText)"""
+COLOURS = "[...document.querySelectorAll('pre span')].map(line => getComputedStyle(line).backgroundColor)"
 LOADED = "performance.getEntriesByType('navigation')[0].loadEventEnd"
 
 
@@ -219,9 +229,25 @@ def in_colour(it: browser.Browser, at: str) -> None:
             picture = size_of(base64.b64decode(it.draw(scheme, 1000, 1200)))
             equal(picture[:2], (1000, 1200))
             pictures.append(picture[2])
-            colours = it.value("[...document.querySelectorAll('pre span')].map(line => getComputedStyle(line).backgroundColor)")
+            colours = it.value(COLOURS)
             assert len(set(colours)) == (3 if words else 2), colours
     equal(len(set(pictures)), 4)
+
+
+def prints(path: str) -> None:
+    """page: a browser prints listings that are folded: as many sheets as where they are open"""
+    page = well(coverage("page", data=sessions(*["&:"] * 60))).output
+    sheets = []
+    with folder() as at:
+        for text in (page, page.replace(b'<details class="fold">', b'<details class="fold" open>')):
+            with open(f"{at}/page.html", "wb") as file:
+                file.write(text)
+            browse(path, at, "page.html", f"--print-to-pdf={at}/page.pdf")
+            with open(f"{at}/page.pdf", "rb") as file:
+                sheets.append(len(re.findall(rb"/Type */Page\b", file.read())))
+    equal(page.count(b'<details class="fold">'), 60)
+    equal(*sheets)
+    assert sheets[0] > 4, sheets
 
 
 def tools(tally: Tally) -> None:
@@ -230,6 +256,7 @@ def tools(tally: Tally) -> None:
     if not path:
         tally.left_out.append("the index and the changes of a page in a browser, since there is no chromium")
         return
+    run_checks(tally, [functools.partial(prints, path)])
     with folder() as at, browser.browsing(path) as it:
         run_checks(tally, [functools.partial(check, it, at) for check in (is_sorted, opens_folds, loads, in_colour)])
 

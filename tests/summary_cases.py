@@ -28,11 +28,11 @@ RULES = [
     ("M HERE\nM HERE\nM 000014-000015", (10, 7, 7, 12, 1, 0), "06 0E 18"),
     ("N MAIN", (11, 7, 7, 13, 0, 0), "06 0E 14 18"),
 ]
-# Rules of the module that name no place: one within an instruction, a constant, a comment, labels that are others' beginnings.
+# Rules of the module that name no place: within an instruction, a constant, a comment, what labels begin with.
 IDLE = ["M 000003-000005", "M 00000C-00000D", "M DATA", "M FALSE", "M LATE", "* OTHER", "* X*"]
 BAD_RULES = [
-    "M", "MAIN", "M 000006", "M 00006-000007", "M 000006-0000007", "m MAIN", " M MAIN", "M  MAIN", "M MA*N", "M *", "M\tMAIN",
-    "LONGERNAME MAIN", "*", "* 1*", "M MAIN*x", "/ M MAIN", "M 000008-000006",
+    "M", "MAIN", "M 000006", "M 00006-000007", "M 000006-0000007", "m MAIN", " M MAIN", "M  MAIN", "M MA*N", "M *",
+    "M\tMAIN", "LONGERNAME MAIN", "*", "* 1*", "M MAIN*x", "/ M MAIN", "M 000008-000006",
 ]
 
 
@@ -49,9 +49,8 @@ def summed(*words: str, data: bytes, rules: Optional[str] = None) -> dict[str, A
 
 def totals(found: dict[str, Any]) -> tuple[int, ...]:
     """The numbers of a module, or of all."""
-    return tuple(found[one][it] for one, it in (
-        ("places", "of"), ("places", "executed"), ("facts", "shown"), ("facts", "of"), ("left_out", "places"), ("left_out", "executed"),
-    ))
+    names = "places of, places executed, facts shown, facts of, left_out places, left_out executed"
+    return tuple(found[one][it] for one, it in (pair.split() for pair in names.split(", ")))
 
 
 def tables() -> None:
@@ -75,9 +74,8 @@ LONGER      NONE       none                    none                0
     equal(len(text), 5)
     # Counts alone tell of no ranges.
     text = well(coverage("summary", data=COUNTS)).output.decode().splitlines()
-    equal([it.split() for it in text[:2]], [
-        ["Session", "Module", "Places", "executed", "Facts", "shown"], ["S", "M", "2", "of", "2", "100", "%", "2", "of", "3", "66", "%"],
-    ])
+    wanted_words = ["Session Module Places executed Facts shown", "S M 2 of 2 100 % 2 of 3 66 %"]
+    equal([" ".join(it.split()) for it in text[:2]], wanted_words)
     equal(well(coverage("summary", data=COUNTED.shown("V:", 3))).output, well(coverage("summary", data=MARKED)).output)
 
 
@@ -106,7 +104,9 @@ def in_json() -> None:
 def shares() -> None:
     """summary: the status is 81 where the share of all facts is below what is asked, and not where it is that"""
     # Two of three facts.
-    for asked, status in (("0", 0), ("66", 0), ("66%", 0), ("66.666666666", 0), ("66.666666667", 81), ("67%", 81), ("100", 81)):
+    for asked, status in (
+        ("0", 0), ("66", 0), ("66%", 0), ("66.666666666", 0), ("66.666666667", 81), ("67%", 81), ("100", 81),
+    ):
         for more in ((), ("--json",)):
             ran = coverage("summary", "--fail-under", asked, *more, data=MARKED)
             equal((asked, ran.status), (asked, status))
@@ -121,7 +121,8 @@ def shares() -> None:
     for asked in BAD_SHARES:
         refused(coverage("summary", "--fail-under", asked, data=MARKED), 1, "usage: coverage summary")
     for data in (NO_LISTING, b"COVERAGE REPORT\nEND\n"):
-        refused(coverage("summary", "--fail-under", "1", data=data), 2, "has no fact of which --fail-under could ask a share")
+        told = "has no fact of which --fail-under could ask a share"
+        refused(coverage("summary", "--fail-under", "1", data=data), 2, told)
     # Of seven modules below the share five are named.
     lines = Program([(0, "1A11", "AR")]).session("^", 1, ("000000-000001",))
     parts = [line for it in range(7) for line in [lines[1].replace("MODULE M", f"MODULE M{it}"), *lines[2:]]]
@@ -178,7 +179,8 @@ def idle_rules() -> None:
         for words in (["summary"], ["page"], ["cobertura"], ["lcov"]):
             behind = ["out"] if words == ["lcov"] else []
             ran = coverage(*words, "--leave-out", "rules", *behind, data=labelled(), cwd=at)
-            told = [f"coverage: rules: line {at}: no place of the report is there: {rule!r}" for at, rule in enumerate(IDLE, 2)]
+            said = "no place of the report is there"
+            told = [f"coverage: rules: line {number}: {said}: {rule!r}" for number, rule in enumerate(IDLE, 2)]
             equal((ran.status, ran.error.splitlines()), (0, told))
             if words == ["summary"]:
                 alone = well(coverage("summary", "--json", data=labelled())).output
@@ -193,7 +195,8 @@ def bad_rules() -> None:
                 file.write(f"M MAIN\n\n{rule}\n")
             for words in (["summary"], ["page"], ["cobertura"], ["lcov"], ["diff"]):
                 behind = {"lcov": ["out"], "diff": ["-", "-"]}.get(words[0], [])
-                refused(coverage(*words, "--leave-out", "rules", *behind, data=labelled(), cwd=at), 2, "coverage: rules: line 3: ", repr(rule))
+                ran = coverage(*words, "--leave-out", "rules", *behind, data=labelled(), cwd=at)
+                refused(ran, 2, "coverage: rules: line 3: ", repr(rule))
         refused(coverage("summary", "--leave-out", "none", data=labelled(), cwd=at), 2, "coverage: none: No such file")
         equal(os.listdir(at), ["rules"])
 
@@ -201,7 +204,8 @@ def bad_rules() -> None:
 def jq(path: str) -> None:
     """summary: jq takes what it writes"""
     data = well(coverage("summary", "--json", data=labelled())).output
-    ran = well(run([path, ".sessions[0].modules[0] | [.places.executed, .facts.of, (.not_executed | length)] | @csv", "-r"], data))
+    wanted = ".sessions[0].modules[0] | [.places.executed, .facts.of, (.not_executed | length)] | @csv"
+    ran = well(run([path, wanted, "-r"], data))
     equal(ran.output, b"7,13,4\n")
 
 
