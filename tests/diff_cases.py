@@ -153,6 +153,10 @@ M in session S: 5 of 6 facts, 83 %, before; 4 of 7 facts, 57 %, now; 1 place gon
   new   000006  not executed        behind MAIN, statement 3  LR    2,2    new remark
 1 fact lost, 0 gained; 1 fact of new places not shown; 1 place gone.
 """)
+    # A range is of the new report's locations: what was there before, and is gone, counts.
+    text = told(of_rows(0), of_rows(1), "--leave-out", "rules", rules="M 000006-000007\n")
+    before, now = "9 of 12 facts, 75 %, before", "7 of 14 facts, 50 %, now"
+    equal(text.splitlines()[0], f"M in session S: {before}; {now}; 3 places gone; 1 place left out")
 
 
 def refusals() -> None:

@@ -6,7 +6,7 @@ import os
 import shutil
 from typing import Any, Optional
 
-from harness import Tally, coverage, equal, folder, refused, run, run_checks, well
+from harness import TOP, Tally, coverage, equal, example_report, folder, refused, run, run_checks, well
 from jobs import COUNTED, FIRST_REPORT, Program
 from report_cases import COUNTS, ENDED, MARKED, NO_LISTING, RETURNED, ends, labelled
 
@@ -94,7 +94,7 @@ def in_json() -> None:
     equal(summed(data=report + ends("M 7", tasks=[(RETURNED[0], "AT FFFFFE")])), wanted)
     del module["not_executed"], module["on_no_line"]
     equal(summed(data=COUNTED.counted(RETURNED, (9, 0), (0,))), {**wanted, "of": "COVERAGE COUNT"})
-    with open(os.path.join(os.path.dirname(__file__), "..", "docs", "SUMMARY.md"), encoding="utf-8") as file:
+    with open(f"{TOP}/docs/SUMMARY.md", encoding="utf-8") as file:
         section = file.read().partition("## As JSON\n")[2].partition("\n## ")[0]
     names = [line.split("`")[1] for line in section.splitlines() if line.startswith("| `")]
     inner = {"form", "of", "sessions", "modules", "places", "facts", "left_out", "not_executed", "on_no_line", "fail_under"}
@@ -149,6 +149,14 @@ def leaves_out() -> None:
         ("000000", "000001"), ("000004", "000007"), ("00000A", "00000B"),
     ])
     equal(totals(found), (4, 0, 0, 4, 2, 1))
+
+
+def example() -> None:
+    """--leave-out: the example's file leaves out what is behind the label SHORT, four places without a fact"""
+    words = ["summary", "--leave-out", f"{TOP}/examples/orders.left", "--json"]
+    found = json.loads(well(coverage(*words, data=example_report("orders"))).output)
+    equal(totals(found), (72, 71, 75, 79, 4, 0))
+    equal(found["sessions"][0]["modules"][0]["not_executed"], [{"first": "0000E2", "last": "0000E5"}])
 
 
 def every_command() -> None:
@@ -220,4 +228,4 @@ def tools(tally: Tally) -> None:
         tally.left_out.append("jq over a summary, since it isn't there")
 
 
-CHECKS = [tables, in_json, shares, leaves_out, every_command, idle_rules, bad_rules]
+CHECKS = [tables, in_json, shares, leaves_out, example, every_command, idle_rules, bad_rules]
