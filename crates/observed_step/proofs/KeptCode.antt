@@ -1,0 +1,59 @@
+-- The instruction that the tables have for a place is the one that is fetched there.
+use Rattle.std.proofs.Common.{◌≡◌, ℕ, Bool, None, List, get_or, refl, sym, ap, ◌∙◌}
+use Rattle.cov_base.specs.Codes.{length_of}
+use Rattle.cov_base.specs.Memory.{Memory, half_at}
+use Rattle.module_area.specs.PlanView.{no_place, place_of}
+use Rattle.module_area.specs.declared.places.Place.{Place}
+use Rattle.s370_decode.specs.declared.code.Code.{Code}
+use Rattle.brk_table.specs.Kept.{IsKept, later_half}
+use Rattle.brk_table.specs.Places.{TablesView, IsPlace, ArePlaces, IsSeen, AreSeen}
+use Rattle.s370_decode.specs.Fields.{first_half}
+use Rattle.s370_exec.specs.Fetch.{is_execute, first_tests, rest_tests, code_at}
+use Rattle.s370_exec.proofs.Fetching.{rest_none, code_at-halves}
+use Rattle.s370_exec.proofs.Subjects.{first_half-code_at}
+use Rattle.observed_step.specs.declared.bench.Bench.{Bench}
+use Rattle.observed_step.specs.Sights.{BeginsAt}
+use Rattle.observed_step.specs.Steps.{IsShown, IsFetched, memory_at}
+
+half_there : (m : Memory) (places : List Place) (bytes : List ℕ) (a p h : ℕ) → AreSeen m places → BeginsAt places a p → h ≡ half_at m bytes a → h ≡ (place_of places p).original
+half_there m places bytes a p h seen begins half = half ∙ (ap (λ x. half_at m bytes x) (sym begins.begins) ∙ (seen p begins.exists).original bytes)
+
+kept_rest : (m : Memory) (tables : TablesView) (bytes : List ℕ) (a p h : ℕ) → ArePlaces tables.places → IsShown m tables → BeginsAt tables.places a p → h ≡ half_at m bytes a → rest_tests m a (length_of h) ≡ None
+kept_rest m tables bytes a p h are shown begins half =
+    let q : Place = place_of tables.places p in
+    let is : IsPlace q = are.each p no_place begins.exists in
+    let c : Code = record { at = 0; bytes = bytes; len = 0 } in
+    let there : IsKept m q (get_or tables.codes p c) = shown.kept.each p c begins.exists in
+    rw (half_there m tables.places bytes a p h shown.seen begins half, sym begins.begins) (rest_none m q.at q.original q.len is.size there.later_reached there.later_untouched)
+
+kept_code : (m : Memory) (tables : TablesView) (bytes : List ℕ) (a p h : ℕ) (c : Code) → ArePlaces tables.places → IsShown m tables → BeginsAt tables.places a p → h ≡ half_at m bytes a → c ≡ get_or tables.codes p c → c ≡ code_at m bytes a h
+kept_code m tables bytes a p h c are shown begins half e =
+    let q : Place = place_of tables.places p in
+    let is : IsPlace q = are.each p no_place begins.exists in
+    let there : IsKept m q (get_or tables.codes p c) = shown.kept.each p c begins.exists in
+    e ∙ (there.code bytes
+    ∙ rw (half_there m tables.places bytes a p h shown.seen begins half, sym begins.begins) (sym (code_at-halves m bytes q.at q.original q.len (later_half m bytes q 2) (later_half m bytes q 4) is.size refl refl)))
+
+-- its first halfword is accessible
+kept_first : (m : Memory) (places : List Place) (a p : ℕ) → ArePlaces places → AreSeen m places → BeginsAt places a p → first_tests m a ≡ None
+kept_first m places a p are seen begins =
+    let q : Place = place_of places p in
+    let is : IsPlace q = are.each p no_place begins.exists in
+    let there : IsSeen m q = seen p begins.exists in
+    let even = is.even in
+    rw (sym begins.begins, even, there.reached) refl
+
+pub fetched_kept : (b : Bench) (tables : TablesView) (p : ℕ) (c : Code) → ArePlaces tables.places → IsShown (memory_at b) tables → BeginsAt tables.places b.cpu.ia p → c ≡ get_or tables.codes p c → IsFetched b c
+fetched_kept b tables p c are shown begins e = record {
+  first = kept_first (memory_at b) tables.places b.cpu.ia p are shown.seen begins;
+  rest = kept_rest (memory_at b) tables b.space.bytes b.cpu.ia p (half_at (memory_at b) b.space.bytes b.cpu.ia) are shown begins refl;
+  is = kept_code (memory_at b) tables b.space.bytes b.cpu.ia p (half_at (memory_at b) b.space.bytes b.cpu.ia) c are shown begins refl e;
+}
+
+-- the first halfword of an instruction is the one that was fetched
+
+pub first_fetched : (b : Bench) (c : Code) → IsFetched b c → first_half c ≡ half_at (memory_at b) b.space.bytes b.cpu.ia
+first_fetched b c fetched = ap first_half fetched.is ∙ first_half-code_at (memory_at b) b.space.bytes b.cpu.ia (half_at (memory_at b) b.space.bytes b.cpu.ia)
+
+pub execute_fetched : (b : Bench) (c : Code) (x : ℕ) (is : Bool) → IsFetched b c → x ≡ first_half c → is_execute x ≡ is → is_execute (half_at (memory_at b) b.space.bytes b.cpu.ia) ≡ is
+execute_fetched b c x is fetched e h = rw (sym (first_fetched b c fetched), sym e) h

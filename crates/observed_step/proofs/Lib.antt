@@ -1,0 +1,9 @@
+pub mod CallLemmas
+pub mod CourseLemmas
+pub mod GoesLemmas
+pub mod HookLemmas
+pub mod InstanceLemmas
+pub mod KeptCode
+pub mod PlaceLemmas
+pub mod RunLemmas
+pub mod SoloLemmas

@@ -1,0 +1,39 @@
+-- Where nothing is done behind the instructions, the course is the run alone.
+use Rattle.std.proofs.Common.{◌≡◌, ℕ, [], refl, sym, ap}
+use Rattle.cov_base.specs.Memory.{Memory}
+use Rattle.cov_base.specs.States.{State}
+use Rattle.s370_exec.specs.Solo.{Run, solo_run, run_on}
+use Rattle.observed_step.specs.Called.{calls_on}
+use Rattle.observed_step.specs.Courses.{Tour, calls_of, course_on, nothing, visits_of}
+use Rattle.observed_step.proofs.InstanceLemmas.{TellsRun, TellsCalls, run_as, calls_as}
+
+tells_run : {K : Type 0} (m : Memory) → TellsRun {K = K} nothing m (λ n k s trace. run_on m n s trace)
+unfolding run_on
+tells_run m = record {
+  none = λ k s trace. refl;
+  returned = λ n k s trace here. rw here refl;
+  more = λ n k s trace here. rw here refl;
+}
+
+tells_calls : {K : Type 0} (m : Memory) → TellsCalls {K = K} nothing m (λ n k s. calls_on m n s)
+unfolding calls_on
+tells_calls m = record {
+  none = λ k s. refl;
+  returned = λ n k s here. rw here refl;
+  more = λ n k s here. rw here refl;
+}
+
+-- the tour is the run alone with this budget
+pub record IsSolo (m : Memory) (budget : ℕ) (s : State) (tour : Tour) : Type 0 where
+  pub ending : tour.ending ≡ (solo_run m budget s).ending
+  pub state : tour.state ≡ (solo_run m budget s).state
+  pub trace : visits_of tour.turns ≡ (solo_run m budget s).trace
+  pub calls : calls_of tour.turns ≡ calls_on m budget s
+
+pub course_solo : {K : Type 0} (m : Memory) (budget : ℕ) (k : K) (s : State) → IsSolo m budget s (course_on nothing m budget k s)
+course_solo {K} m budget k s = let same = run_as nothing m (λ n k s trace. run_on m n s trace) (tells_run {K = K} m) budget k s [] in record {
+  ending = sym (ap (λ (r : Run). r.ending) same);
+  state = sym (ap (λ (r : Run). r.state) same);
+  trace = sym (ap (λ (r : Run). r.trace) same);
+  calls = sym (calls_as nothing m (λ n k s. calls_on m n s) (tells_calls {K = K} m) budget k s);
+}

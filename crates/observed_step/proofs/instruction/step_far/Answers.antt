@@ -1,0 +1,49 @@
+use Rattle.std.proofs.Common.{◌≡◌, false, None, [], ◌∷◌, refl}
+use Rattle.s370_exec.specs.Calls.{call_of}
+use Rattle.s370_exec.specs.Solo.{solo_step, ended, visit}
+use Rattle.s370_exec.proofs.StepLemmas.{solo_step-refused, solo_step-rest_refused}
+use Rattle.observed_step.specs.Steps.{memory_at, stands}
+use Rattle.observed_step.proofs.CallLemmas.{call_of-refused, call_of-rest_refused}
+use Rattle.observed_step.proofs.instruction.step_far.Given as given
+use Rattle.observed_step.proofs.instruction.step_far.Goals as goal
+
+refused : (g : given.Over) (c : goal.In-Err g) → solo_step (memory_at c.args.bench.now) (stands c.args.bench.now c.args.done) ≡ ended (stands c.args.bench.now c.args.done) c.in-Err.e []
+refused g c = solo_step-refused _ (stands c.args.bench.now c.args.done) c.at-at.result c.in-Err.e c.at-at.ensures c.in-Err.ensures.refused
+
+called_refused : (g : given.Over) (c : goal.In-Err g) → call_of (memory_at c.args.bench.now) (stands c.args.bench.now c.args.done) ≡ None
+called_refused g c = call_of-refused _ (stands c.args.bench.now c.args.done) c.at-at.result c.in-Err.e c.at-at.ensures c.in-Err.ensures.refused
+
+pub returns-in-Err-clause-steps : goal.returns-in-Err-clause-steps
+returns-in-Err-clause-steps g c = record {
+  memory = refl;
+  does = rw (refused g c, called_refused g c) (record {
+    state = refl;
+    next = refl;
+    mid = c.args.pass.now;
+    made = g.met.O.Observer.none c.args.observer.now c.args.tables.now c.args.pass.now;
+    answered = g.met.O.Observer.no_call c.args.observer.now c.args.pass.now c.args.bench.now.control;
+  });
+}
+
+rest_refused : (g : given.Over) (c : goal.After-refused g) →
+    solo_step (memory_at c.args.bench.now) (stands c.args.bench.now c.args.done) ≡ ended (stands c.args.bench.now c.args.done) c.in-Err-fetch_rest.e (visit (stands c.args.bench.now c.args.done) c.at-at.result false false false ∷ [])
+rest_refused g c =
+    solo_step-rest_refused _ (stands c.args.bench.now c.args.done) c.at-at.result c.in-Ok.half c.in-Err-fetch_rest.e c.at-at.ensures
+    c.in-Ok.ensures.passed c.in-Ok.ensures.half c.in-Err-fetch_rest.ensures.refused
+
+called_rest_refused : (g : given.Over) (c : goal.After-refused g) → call_of (memory_at c.args.bench.now) (stands c.args.bench.now c.args.done) ≡ None
+called_rest_refused g c =
+    call_of-rest_refused _ (stands c.args.bench.now c.args.done) c.at-at.result c.in-Ok.half c.in-Err-fetch_rest.e c.at-at.ensures
+    c.in-Ok.ensures.passed c.in-Ok.ensures.half c.in-Err-fetch_rest.ensures.refused
+
+pub returns-in-Err-fetch_rest-clause-steps : goal.returns-in-Err-fetch_rest-clause-steps
+returns-in-Err-fetch_rest-clause-steps g c = record {
+  memory = refl;
+  does = rw (rest_refused g c, called_rest_refused g c) (record {
+    state = refl;
+    next = refl;
+    mid = c.refused.new.pass;
+    made = c.refused.ensures.makes;
+    answered = g.met.O.Observer.no_call c.args.observer.now c.refused.new.pass c.args.bench.now.control;
+  });
+}

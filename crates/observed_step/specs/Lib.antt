@@ -1,0 +1,6 @@
+pub mod Called
+pub mod Courses
+pub mod Hooks
+pub mod Runs
+pub mod Sights
+pub mod Steps

@@ -1,0 +1,76 @@
+-- What an instruction did, and what its observer has noted.
+use Rattle.std.specs.Prelude.{◌≡◌, ℕ, ◌+◌, true, false, Option, None, List, [], ◌∷◌}
+use Rattle.cov_base.specs.Codes.{length_of}
+use Rattle.cov_base.specs.Memory.{Memory, half_at}
+use Rattle.cov_base.specs.States.{State, Visit}
+use Rattle.brk_table.specs.Kept.{AreKept}
+use Rattle.brk_table.specs.Places.{TablesView, AreSeen}
+use Rattle.module_area.specs.Control.{ControlView}
+use Rattle.s370_branch.specs.Branch.{goes}
+use Rattle.s370_decode.specs.Fields.{first_half}
+use Rattle.s370_decode.specs.Table.{op_of}
+use Rattle.s370_decode.specs.declared.code.Code.{Code}
+use Rattle.s370_exec.specs.Calls.{call_of, subject_call}
+use Rattle.s370_exec.specs.Fetch.{first_tests, rest_tests, code_at}
+use Rattle.s370_exec.specs.Solo.{Step, state_of, solo_step, subject_step}
+use Rattle.s370_state.specs.declared.endings.Next.{Next}
+use Rattle.space_map.specs.Space.{memory_of_space}
+use Rattle.observed_step.specs.declared.bench.Bench.{Bench}
+
+-- the memory that the task sees, and its state with so many instructions done
+abbrev pub memory_at : Bench → Memory
+memory_at b = memory_of_space b.space
+
+abbrev pub stands : Bench → ℕ → State
+stands b done = state_of b.cpu b.space.bytes b.io done
+
+-- the task sees the places of the tables, and their instructions, as the tables have them
+pub record IsShown (m : Memory) (tables : TablesView) : Type 0 where
+  pub seen : AreSeen m tables.places
+  pub kept : AreKept m tables
+
+-- the visit of the instruction at the instruction address, which is begun
+abbrev pub own_visit : Bench → ℕ → Code → Visit
+own_visit b done code = record { at = b.cpu.ia; begun = true; went = goes (op_of (first_half code)) b.cpu code; before = done; subject = false }
+
+-- The pass has room for the rest of an instruction, of which so many visits were shown, and is tied to the task's control.
+pub record CanStep {O P : Type 0} (is_ready : O → TablesView → P → ℕ → ℕ → Type 0) (is_tied : O → P → ControlView → Type 0)
+    (o : O) (t : TablesView) (p : P) (b : Bench) (done shown : ℕ) : Type 0 where
+  pub places : IsShown (memory_at b) t
+  pub ready : is_ready o t p done shown
+  pub tied : is_tied o p b.control
+
+-- The task's state and how it goes on are those of this step; the pass has made the step's visits, and has then answered the
+-- call, if there was one.
+pub record Does {O P : Type 0} (makes : O → TablesView → P → List Visit → P → Type 0) (answers : O → P → ControlView → Option ℕ → P → ControlView → Type 0)
+    (o : O) (t : TablesView) (p : P) (c : ControlView) (step : Step) (call : Option ℕ) (q : P) (new : Bench) (done : ℕ) (result : Next) : Type 0 where
+  pub state : step.state ≡ stands new done
+  pub next : step.next ≡ result
+  pub mid : P
+  pub made : makes o t p step.visits mid
+  pub answered : answers o mid c call q new.control
+
+-- the memory is as it was, and so much was done of the step of a task alone
+pub record StepsAs {O P : Type 0} (makes : O → TablesView → P → List Visit → P → Type 0) (answers : O → P → ControlView → Option ℕ → P → ControlView → Type 0)
+    (o : O) (t : TablesView) (p : P) (old : Bench) (done : ℕ) (q : P) (new : Bench) (result : Next) : Type 0 where
+  pub memory : memory_at new ≡ memory_at old
+  pub does : Does makes answers o t p old.control (solo_step (memory_at old) (stands old done)) (call_of (memory_at old) (stands old done)) q new (done + 1) result
+
+-- and of the subject of an EX that was begun
+pub record SubjectStepsAs {O P : Type 0} (makes : O → TablesView → P → List Visit → P → Type 0) (answers : O → P → ControlView → Option ℕ → P → ControlView → Type 0)
+    (ex : Code) (o : O) (t : TablesView) (p : P) (old : Bench) (done : ℕ) (q : P) (new : Bench) (result : Next) : Type 0 where
+  pub memory : memory_at new ≡ memory_at old
+  pub does : Does makes answers o t p old.control (subject_step (memory_at old) (stands old done) ex) (subject_call (memory_at old) (stands old done) ex) q new (done + 1) result
+
+-- The instruction was fetched whole, and its visit was shown: what is done from before that visit on is the whole step.
+pub record CarriesOn {O P : Type 0} (makes : O → TablesView → P → List Visit → P → Type 0) (answers : O → P → ControlView → Option ℕ → P → ControlView → Type 0)
+    (code : Code) (o : O) (t : TablesView) (p : P) (old : Bench) (done : ℕ) (q : P) (new : Bench) (result : Next) : Type 0 where
+  pub memory : memory_at new ≡ memory_at old
+  pub does : (first : P) → makes o t first (own_visit old done code ∷ []) p →
+      Does makes answers o t first old.control (solo_step (memory_at old) (stands old done)) (call_of (memory_at old) (stands old done)) q new (done + 1) result
+
+-- the instruction at the instruction address, whose halfwords may all be fetched
+pub record IsFetched (b : Bench) (code : Code) : Type 0 where
+  pub first : first_tests (memory_at b) b.cpu.ia ≡ None
+  pub rest : rest_tests (memory_at b) b.cpu.ia (length_of (half_at (memory_at b) b.space.bytes b.cpu.ia)) ≡ None
+  pub is : code ≡ code_at (memory_at b) b.space.bytes b.cpu.ia (half_at (memory_at b) b.space.bytes b.cpu.ia)

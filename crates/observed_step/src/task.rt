@@ -1,0 +1,79 @@
+//! The run of a task.
+ghost use Rattle.std.specs.Prelude.{◌≡◌, ◌==◌, if◌then◌else◌};
+ghost use Rattle.s370_exec.specs.Solo.{return_address};
+ghost use Rattle.s370_state.specs.declared.endings.Ending.TheVariants.{Returned, Spent};
+ghost use Rattle.observed_step.specs.Runs.{EndsAs, GoesAs};
+ghost use Rattle.observed_step.specs.Steps.{CanStep, memory_at};
+
+use crate::bench::Bench;
+use crate::hook::Hook;
+use crate::instruction::step;
+use crate::observer::Observer;
+use brk_table::Tables;
+use cov_base::Addr;
+use s370_exec::has_returned;
+use s370_state::{Cpu, Ending, Next};
+
+/// How a task has ended, after how many instructions, and where: the instruction address before the step that ended it,
+/// or, where none did, as it stands.
+#[derive(Clone, Copy)]
+pub struct TaskEnd {
+    pub ending: Ending,
+    pub done: u32,
+    pub at: Addr,
+}
+
+/// How a task ends that has done as many instructions as its budget.
+fn spent(cpu: &Cpu) -> Ending
+    ensures { result ≡ (if cpu.now.ia == return_address then Returned else Spent) }
+{
+    if has_returned(cpu) {
+        Ending::Returned
+    } else {
+        Ending::Spent
+    }
+}
+
+/// Runs the task until it ends: before each instruction it ends Returned at X'FFFFFE', else Spent where it has done as
+/// many instructions as its budget. The observer is shown each instruction, and behind that the hook does what it does.
+/// Ending, state and count are those of the task's course over modules that were never planted.
+pub fn run<O: Observer, H: Hook<O>>(
+    observer: &O,
+    pass: &mut O::Pass,
+    tables: &Tables,
+    hook: &mut H,
+    bench: &mut Bench<'_>,
+    budget: u32,
+) -> TaskEnd
+    requires can { CanStep O.IsReady O.IsTied observer.now tables.now pass.old bench.old 0 0 }
+    requires set { H.way.IsSet hook.old observer.now pass.old bench.old.control 0 }
+    ensures can { CanStep O.IsReady O.IsTied observer.now tables.now pass.new bench.new result.done 0 }
+    ensures set { H.way.IsSet hook.new observer.now pass.new bench.new.control result.done }
+    ensures memory { memory_at bench.new ≡ memory_at bench.old }
+    ensures ends { EndsAs H.way hook.old budget bench.old bench.new result }
+    ensures goes { GoesAs O.Makes O.Answers H.way observer.now tables.now budget hook.old pass.old bench.old hook.new pass.new bench.new }
+{
+    for done in 0..budget {
+        let at = bench.cpu.at();
+        if has_returned(&bench.cpu) {
+            return TaskEnd {
+                ending: Ending::Returned,
+                done,
+                at,
+            };
+        }
+        let next = step(observer, pass, tables, bench, done);
+        if let Next::Ended(ending) = hook.behind(observer, pass, tables, bench, done + 1, next) {
+            return TaskEnd {
+                ending,
+                done: done + 1,
+                at,
+            };
+        }
+    }
+    TaskEnd {
+        ending: spent(&bench.cpu),
+        done: budget,
+        at: bench.cpu.at(),
+    }
+}
