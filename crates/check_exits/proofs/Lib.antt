@@ -1,2 +1,1 @@
 pub mod SvcLemmas
-pub mod ExitLemmas

@@ -188,8 +188,12 @@ step_read m s bad =
     let h : ℕ = half_at m s.machine.bytes a in
     read_by s (first_tests m a) (fetched m s a h (rest_tests m a (length_of h))) (first_good m a) bad
 
-pub bad_svc-read : (m : Memory) (s : State) (number : ℕ) → (solo_step m s).next ≡ Ended (BadSvc number) → first_tests m (solo_step m s).state.machine.cpu.ia ≡ None
+bad_svc-read : (m : Memory) (s : State) (number : ℕ) → (solo_step m s).next ≡ Ended (BadSvc number) → first_tests m (solo_step m s).state.machine.cpu.ia ≡ None
 bad_svc-read m s number e =
     let bad : ends_bad (solo_step m s).next ≡ true = ap ends_bad e in
     let same : s.machine.cpu.ia ≡ (solo_step m s).state.machine.cpu.ia = sym (ap (λ (x : Machine). x.cpu.ia) (step_left m s bad)) in
     subst (λ (a : ℕ). first_tests m a ≡ None) same (step_read m s bad)
+
+-- so by what the step leaves
+pub bad_svc-left : (m : Memory) (s t : State) (next : Next) (number : ℕ) → (solo_step m s).state ≡ t → (solo_step m s).next ≡ next → next ≡ Ended (BadSvc number) → first_tests m t.machine.cpu.ia ≡ None
+bad_svc-left m s t next number state ends bad = rw (sym state) (bad_svc-read m s number (rw ends bad))

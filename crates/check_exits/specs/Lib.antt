@@ -1,1 +1,2 @@
+pub mod ExitWay
 pub mod Exits

@@ -1,15 +1,14 @@
 //! The exit of a task, and what becomes of an ending under it.
-ghost use Rattle.std.specs.Prelude.{◌≡◌, ℕ, Some, None, List, []};
-ghost use Rattle.cov_base.specs.States.{IoView};
-ghost use Rattle.s370_state.specs.declared.endings.Next.TheVariants.{Ended};
-ghost use Rattle.s370_state.specs.declared.endings.Ending.TheVariants.{BadSvc};
+ghost use Rattle.std.specs.Prelude.{◌≡◌, None, []};
 ghost use Rattle.s370_state.specs.Row.{machine_of};
-ghost use Rattle.s370_exec.specs.Effects.{at_address, call_address};
+ghost use Rattle.s370_exec.specs.Effects.{call_address};
 ghost use Rattle.s370_exec.specs.Fetch.{first_tests};
-ghost use Rattle.s370_exec.specs.Solo.{state_of};
-ghost use Rattle.check_exits.specs.Exits.{at_exit, behind_call, by_ending, by_next, exit_named};
+ghost use Rattle.check_exits.specs.Exits.{at_exit, behind_call, exit_named};
+ghost use Rattle.check_exits.specs.ExitWay.{exit_way};
 
+use brk_table::Tables;
 use cov_base::Addr;
+use observed_step::{Bench, Hook, Observer};
 use s370_exec::is_execute;
 use s370_state::{Cpu, Ending, Next, Space};
 
@@ -30,7 +29,7 @@ fn exit_named(cpu: &Cpu) -> Option<Addr>
 /// Goes on behind the SVC at which the task stands, or the EX that has executed it.
 fn pass_call<P: Space>(cpu: &mut Cpu, space: &P)
     requires { first_tests (P.memory space.now) cpu.old.ia ≡ None }
-    ensures { machine_of cpu.new (P.bytes space.now) ≡ at_address (machine_of cpu.old (P.bytes space.now)) (behind_call (P.memory space.now) (machine_of cpu.old (P.bytes space.now))) }
+    ensures { cpu.new ≡ record cpu.old { ia = behind_call (P.memory space.now) (machine_of cpu.old (P.bytes space.now)) } }
 {
     let at = cpu.at();
     // There is a halfword: it was read as the call or as the EX.
@@ -43,7 +42,7 @@ fn pass_call<P: Space>(cpu: &mut Cpu, space: &P)
 
 /// Goes on at the exit, with the code in register 0 and in register 1 the address at which the task has ended.
 fn take_exit(cpu: &mut Cpu, code: u8, exit: Addr)
-    ensures { (bytes : List ℕ) → machine_of cpu.new bytes ≡ at_exit (machine_of cpu.old bytes) code exit }
+    ensures { cpu.new ≡ at_exit cpu.old code exit }
 {
     let at = cpu.at();
     cpu.set_reg(0, u32::from(code));
@@ -51,36 +50,38 @@ fn take_exit(cpu: &mut Cpu, code: u8, exit: Addr)
     cpu.go(exit);
 }
 
-/// How the task goes on under the exit, where a step that has left it so would end it.
-fn meet_ending<P: Space>(exit: &mut Exit, cpu: &mut Cpu, space: &P, ending: Ending) -> Next
-    requires { (number : ℕ) → ending ≡ BadSvc number → first_tests (P.memory space.now) cpu.old.ia ≡ None }
-    ensures { (io : IoView) (d : ℕ) → by_ending (P.memory space.now) exit.old.at (state_of cpu.old (P.bytes space.now) io d) ending ≡ record { state = state_of cpu.new (P.bytes space.now) io d; next = result; exit = exit.new.at } }
-{
-    match ending {
-        Ending::Abend(code) => match exit.at {
-            Some(at) => {
-                take_exit(cpu, code, at);
-                exit.at = None;
+/// SVC 6 sets the exit, and a program interruption takes it.
+impl<O: Observer> Hook<O> for Exit {
+    ghost way = { exit_way O O.Pass };
+
+    #[inline(always)]
+    fn behind(
+        &mut self,
+        observer: &O,
+        pass: &mut O::Pass,
+        tables: &Tables,
+        bench: &mut Bench<'_>,
+        done: u32,
+        next: Next,
+    ) -> Next {
+        let Next::Ended(ending) = next else {
+            return Next::On;
+        };
+        match ending {
+            Ending::Abend(code) => match self.at {
+                Some(at) => {
+                    take_exit(&mut bench.cpu, code, at);
+                    self.at = None;
+                    Next::On
+                }
+                None => Next::Ended(ending),
+            },
+            Ending::BadSvc(6) => {
+                self.at = exit_named(&bench.cpu);
+                pass_call(&mut bench.cpu, &bench.space);
                 Next::On
             }
-            None => Next::Ended(ending),
-        },
-        Ending::BadSvc(6) => {
-            exit.at = exit_named(cpu);
-            pass_call(cpu, space);
-            Next::On
+            _ => Next::Ended(ending),
         }
-        _ => Next::Ended(ending),
-    }
-}
-
-/// How the task goes on under the exit, after a step that has left it so.
-pub fn go_on<P: Space>(exit: &mut Exit, cpu: &mut Cpu, space: &P, next: Next) -> Next
-    requires { (number : ℕ) → next ≡ Ended (BadSvc number) → first_tests (P.memory space.now) cpu.old.ia ≡ None }
-    ensures { (io : IoView) (d : ℕ) → by_next (P.memory space.now) exit.old.at (state_of cpu.old (P.bytes space.now) io d) next ≡ record { state = state_of cpu.new (P.bytes space.now) io d; next = result; exit = exit.new.at } }
-{
-    match next {
-        Next::On => Next::On,
-        Next::Ended(ending) => meet_ending(exit, cpu, space, ending),
     }
 }

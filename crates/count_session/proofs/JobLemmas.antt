@@ -14,11 +14,12 @@ use Rattle.job_run.proofs.SessionLemmas.{window_at-session, phase_in}
 use Rattle.count_session.specs.Counting.{count_of_all}
 use Rattle.count_session.specs.Job.{IsCountedJob, count_of}
 use Rattle.count_session.specs.Phases.{AreCounted, session_count}
-use Rattle.count_session.specs.Slots.{HaveRun, dones}
+use Rattle.count_session.specs.Slots.{CountSlot}
+use Rattle.job_run.specs.Slots.{dones}
+use Rattle.job_run.specs.Tasks.{AreRun}
 use Rattle.count_session.specs.Tallied.{count_in}
 use Rattle.count_session.specs.declared.counts.PlaceCount.{PlaceCount}
-use Rattle.count_session.specs.declared.slots.Slot.{Slot}
-use Rattle.count_session.proofs.SlotLemmas.{all_ended}
+use Rattle.job_run.proofs.TaskLemmas.{all_ended}
 
 is_count : (j : JobView) (places : List Place) (counts : List (List PlaceCount)) → IsJob j → AreWhole j → AreCounted j places (length j.phases) counts → (s p : ℕ) (f : Fact) → 0 < s → s ≤ length j.sessions → p < length places →
     count_of (record { job = j; places = places; phases = counts }) s p f ≡ session_count j places s p f
@@ -38,12 +39,12 @@ is_count j places counts job whole a s p f some most l = by_module (list_any (na
         same_if true x y h = h refl
         same_if false x y h = refl
 
-pub counted_job : (j : JobView) (places : List Place) (slots : List Slot) (tasks : List Done) (counts : List (List PlaceCount)) → IsJob j → AreWhole j → AreCounted j places (length j.phases) counts → HaveRun j places (length j.phases) slots → tasks ≡ dones slots →
+pub counted_job : (j : JobView) (places : List Place) (slots : List CountSlot) (tasks : List Done) (counts : List (List PlaceCount)) → IsJob j → AreWhole j → AreCounted j places (length j.phases) counts → AreRun solo j places (length j.phases) slots → tasks ≡ dones slots →
     IsCountedJob j places tasks (record { job = j; places = places; phases = counts })
 counted_job j places slots tasks counts job whole a ended moved = subst (λ (ds : List Done). IsCountedJob j places ds (record { job = j; places = places; phases = counts })) (sym moved) record {
-  count = length-map slots (λ (s : Slot). s.done) ∙ ended.count;
-  are_results = λ t l. (all_ended j places slots t job ended l).0;
-  filled = λ t l. (all_ended j places slots t job ended l).1;
+  count = length-map slots (λ (s : CountSlot). s.done) ∙ ended.count;
+  are_results = λ t l. (all_ended solo j places slots t job ended l).0;
+  filled = λ t l. (all_ended solo j places slots t job ended l).1;
   job = refl;
   size = refl;
   are_counts = λ s p f some most l. is_count j places counts job whole a s p f some most l;

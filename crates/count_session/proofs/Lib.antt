@@ -6,7 +6,6 @@ pub mod NoteLemmas
 pub mod PassLemmas
 pub mod PlantLemmas
 pub mod RunLemmas
-pub mod SlotLemmas
 pub mod StepLemmas
 pub mod ViewLemmas
 pub mod WordLemmas

@@ -4,23 +4,24 @@ use Rattle.std.proofs.lemmas.Bool.Decides.{nat_tests}
 use Rattle.std.proofs.lemmas.Bool.{eqb-true}
 use Rattle.std.proofs.lemmas.Grind.{get_or-set_at}
 use Rattle.std.proofs.lemmas.List.{get_or_default, get_or-set_other, length-set}
+use Rattle.cov_base.specs.Memory.{Memory}
 use Rattle.cov_base.specs.declared.facts.Fact.{Fact}
 use Rattle.s370_exec.specs.Solo.{Run}
 use Rattle.module_area.specs.PlanView.{PlanView, place_of, window_at}
 use Rattle.module_area.specs.declared.places.Place.{Place}
 use Rattle.brk_table.specs.Kept.{AreCodes}
 use Rattle.brk_table.specs.Places.{TablesView}
-use Rattle.space_map.specs.Space.{memory_of_space}
+use Rattle.observed_step.specs.Steps.{memory_at}
 use Rattle.svc_monitor.specs.First.{IsOver}
 use Rattle.task_run.specs.Courses.{solo}
 use Rattle.session_book.specs.JobView.{JobView, TaskView, IsJob}
 use Rattle.session_book.specs.Sessions.{task_of, no_task, traces_from, plan_view}
-use Rattle.job_run.specs.Runs.{trace_by}
-use Rattle.job_run.specs.Slots.{in_phase, is_before}
-use Rattle.job_run.specs.Tasks.{HasNotRun, IsEnded, own_run}
+use Rattle.job_run.specs.Runs.{result_of_run, trace_by}
+use Rattle.job_run.specs.Slots.{AreEmpty, HasPass, in_phase, is_before}
+use Rattle.job_run.specs.Tasks.{AreRun, HasNotRun, IsEnded, done_result, own_run}
 use Rattle.job_run.specs.declared.outcome.Done.{Done}
 use Rattle.job_run.proofs.SlotLemmas.{is_over_begun}
-use Rattle.job_run.proofs.TaskLemmas.{begun_run}
+use Rattle.job_run.proofs.TaskLemmas.{AreRun-next, begun_run, private_of}
 use Rattle.count_session.specs.Counting.{Adds, count_at, count_of_all}
 use Rattle.count_session.specs.Notes.{CountNotes, root_notes, split_notes, after_split, after_join}
 use Rattle.count_session.specs.Passes.{IsPassOf, notes_of, plan_in}
@@ -34,13 +35,11 @@ use Rattle.count_session.specs.Tallied.{HasCounts}
 use Rattle.count_session.specs.declared.counts.PlaceCount.{PlaceCount}
 use Rattle.count_session.specs.Phases.{IsCounted, AreCounted, in_count, count_until, IsFresh, AreSplit, HasSplit, IsReady, RunsWith, RunsSlot, HasCounted, AreOver, HasJoined}
 use Rattle.count_session.specs.declared.cells.CountCells.{CountCells}
-use Rattle.count_session.specs.Slots.{AreEmpty, HasPass, HaveRun}
+use Rattle.count_session.specs.Slots.{CountSlot}
 use Rattle.count_session.specs.declared.pass.CountPass.{CountPass}
-use Rattle.count_session.specs.declared.slots.Slot.{Slot}
-use Rattle.count_session.proofs.SlotLemmas.{HaveRun-next, has_ended}
 
 -- a slot that has no pass may stand still
-pub stands_still : (cells : CountCells) (s : Slot) → s.pass ≡ None → RunsSlot cells s s s.pass
+pub stands_still : (cells : CountCells) (s : CountSlot) → s.pass ≡ None → RunsSlot cells s s s.pass
 stands_still cells s none = subst (λ (p : Option CountPass). RunsSlot cells s s p) (sym none) refl
 
 same_or : (t n : ℕ) → (t ≡ n) ⊎ (t ≢ n)
@@ -115,38 +114,46 @@ HasSplit-other j phase next before mid h s = record {
   given = (let a = next_number j phase next in let b = no_more (in_count j phase next) (in_phase j phase next) h in let c = s.given in omega arith);
 }
 
+-- what a task has come to
+has_ended : (plan : PlanView) (j : JobView) (places : List Place) (t : ℕ) (d e : Done) → plan ≡ plan_view j places (task_of j t).phase → HasNotRun j places t d → done_result e ≡ result_of_run (own_run solo plan d) →
+    length e.task.bench.space.bytes ≡ (memory_at d.task.bench).private → IsEnded solo j places t e
+has_ended plan j places t d e of b result filled = record {
+  result = result ∙ ap result_of_run (begun_run solo plan j places t d of b);
+  filled = filled ∙ (ap (λ (m : Memory). m.private) b.begun.memory ∙ private_of (task_of j t).private j.images places);
+}
+
 -- ---- the passes while they are split off
 
 module _ (cells : CountCells) (root : CountNotes) (j : JobView) where
-  pub AreSplit-start : (phase : ℕ) (slots : List Slot) → AreEmpty slots → AreSplit cells root j phase 0 slots slots
+  pub AreSplit-start : (phase : ℕ) (slots : List CountSlot) → AreEmpty slots → AreSplit cells root j phase 0 slots slots
   AreSplit-start phase slots empty = record { count = refl; done = λ t d l. refl; some = λ t d l never h. absurd (omega (arith, never)); none = λ t d l h. empty t d l }
 
-  pub AreSplit-one : (phase next : ℕ) (old mid : List Slot) (e none : Slot) (p : CountPass) → next < length old → in_phase j phase next ≡ true → AreSplit cells root j phase next old mid →
+  pub AreSplit-one : (phase next : ℕ) (old mid : List CountSlot) (e none : CountSlot) (p : CountPass) → next < length old → in_phase j phase next ≡ true → AreSplit cells root j phase next old mid →
       e.pass ≡ Some p → IsPassOf cells p → notes_of cells p ≡ split_notes root → e.done ≡ (get_or mid next none).done → AreSplit cells root j phase (next + 1) old (set mid next e)
   AreSplit-one phase next old mid e none p here of a has area fresh done = record {
     count = length-set mid next e ∙ a.count;
     done = λ t d l. elim (same_or t next) [
-      | inl same ↦ ap (λ (s : Slot). s.done) (get_or-set_at mid next t e d same there) ∙ (done ∙ (a.done next none here ∙ ap (λ (s : Slot). s.done) (get_or_default old next none d here ∙ ap (λ k. get_or old k d) (sym same))))
-      | inr other ↦ ap (λ (s : Slot). s.done) (get_or-set_other mid next t e d other) ∙ a.done t d l
+      | inl same ↦ ap (λ (s : CountSlot). s.done) (get_or-set_at mid next t e d same there) ∙ (done ∙ (a.done next none here ∙ ap (λ (s : CountSlot). s.done) (get_or_default old next none d here ∙ ap (λ k. get_or old k d) (sym same))))
+      | inr other ↦ ap (λ (s : CountSlot). s.done) (get_or-set_other mid next t e d other) ∙ a.done t d l
     ];
     some = λ t d l below h. elim (same_or t next) [
       | inl same ↦ record {
         pass = p;
-        has = ap (λ (s : Slot). s.pass) (get_or-set_at mid next t e d same there) ∙ has;
+        has = ap (λ (s : CountSlot). s.pass) (get_or-set_at mid next t e d same there) ∙ has;
         holds = record { area = area; fresh = fresh };
       }
       | inr other ↦ subst (HasPass (IsFresh cells root)) (sym (get_or-set_other mid next t e d other)) (a.some t d l (omega (arith, below, other)) h)
     ];
     none = λ t d l h. elim (same_or t next) [
       | inl same ↦ absurd (both (is_before j phase (next + 1) t) (is_here (in_phase j phase t) t (next + 1) (omega (arith, same)) (here_too j phase next true of t same)) h)
-      | inr other ↦ ap (λ (s : Slot). s.pass) (get_or-set_other mid next t e d other) ∙ a.none t d l (unlike (in_phase j phase t) t next other ∙ h)
+      | inr other ↦ ap (λ (s : CountSlot). s.pass) (get_or-set_other mid next t e d other) ∙ a.none t d l (unlike (in_phase j phase t) t next other ∙ h)
     ];
   }
     where
       there : next < length mid
       there = omega (arith, here, a.count)
 
-  pub AreSplit-other : (phase next : ℕ) (old mid : List Slot) → in_phase j phase next ≡ false → AreSplit cells root j phase next old mid → AreSplit cells root j phase (next + 1) old mid
+  pub AreSplit-other : (phase next : ℕ) (old mid : List CountSlot) → in_phase j phase next ≡ false → AreSplit cells root j phase next old mid → AreSplit cells root j phase (next + 1) old mid
   AreSplit-other phase next old mid h a = record {
     count = a.count;
     done = a.done;
@@ -159,23 +166,22 @@ module _ (cells : CountCells) (root : CountNotes) (j : JobView) where
 
   -- ---- all can run
 
-  begun_at : (places : List Place) (phase : ℕ) (old slots : List Slot) (t : ℕ) (d : Slot) → AreSplit cells root j phase (length j.tasks) old slots → HaveRun j places phase old → t < length old → in_phase j phase t ≡ true →
+  begun_at : (places : List Place) (phase : ℕ) (old slots : List CountSlot) (t : ℕ) (d : CountSlot) → AreSplit cells root j phase (length j.tasks) old slots → AreRun solo j places phase old → t < length old → in_phase j phase t ≡ true →
       HasNotRun j places t (get_or slots t d).done
   begun_at places phase old slots t d a r l h = subst (λ (x : Done). HasNotRun j places t x) (sym (a.done t d l)) (r.begun t d l (not_run (task_of j t).phase phase h))
 
-  can_count : (tables : TablesView) (s : Slot) → HasPass (IsFresh cells root) s → IsOver (plan_in cells) (memory_of_space s.done.task.space) tables → s.done.task.done ≡ 0 → IsReady cells tables s
-  can_count tables s h over fresh = rw h.has record {
+  can_count : (tables : TablesView) (s : CountSlot) → HasPass (IsFresh cells root) s → IsOver (plan_in cells) (memory_at s.done.task.bench) tables → IsReady cells tables s
+  can_count tables s h over = rw h.has record {
     area = h.holds.area;
     task = ap (λ (n : CountNotes). n.root) h.holds.fresh;
     nothing = ap (λ (n : CountNotes). n.adds) h.holds.fresh;
     over = over;
-    fresh = fresh;
   }
 
-  need_not : (tables : TablesView) (s : Slot) → s.pass ≡ None → IsReady cells tables s
+  need_not : (tables : TablesView) (s : CountSlot) → s.pass ≡ None → IsReady cells tables s
   need_not tables s h = rw h tt
 
-  pub all_ready : (tables : TablesView) (phase : ℕ) (old slots : List Slot) → (plan_in cells).places ≡ tables.places → IsJob j → AreCodes j.images tables → AreSplit cells root j phase (length j.tasks) old slots → HaveRun j tables.places phase old → All (IsReady cells tables) slots
+  pub all_ready : (tables : TablesView) (phase : ℕ) (old slots : List CountSlot) → (plan_in cells).places ≡ tables.places → IsJob j → AreCodes j.images tables → AreSplit cells root j phase (length j.tasks) old slots → AreRun solo j tables.places phase old → All (IsReady cells tables) slots
   all_ready tables phase old slots of job are a r k d l = by_phase (in_phase j phase k) refl
     where
       here : k < length old
@@ -184,22 +190,22 @@ module _ (cells : CountCells) (root : CountNotes) (j : JobView) where
       by_phase : (b : Bool) → in_phase j phase k ≡ b → IsReady cells tables (get_or slots k d)
       by_phase true e =
           let begun : HasNotRun j tables.places k (get_or slots k d).done = begun_at tables.places phase old slots k d a r here e in
-          can_count tables (get_or slots k d) (a.some k d here (omega (arith, here, r.count)) e) (is_over_begun (plan_in cells) j tables k (get_or slots k d).done of job are (omega (arith, here, r.count)) begun) begun.done
+          can_count tables (get_or slots k d) (a.some k d here (omega (arith, here, r.count)) e) (is_over_begun (plan_in cells) j tables k (get_or slots k d).done of job are (omega (arith, here, r.count)) begun)
       by_phase false e = need_not tables (get_or slots k d) (a.none k d here (not_before (in_phase j phase k) k (length j.tasks) e))
 
   -- no other slot has a pass, and so none needs to run
-  pub none_other : (phase : ℕ) (old slots : List Slot) → AreSplit cells root j phase (length j.tasks) old slots → (t : ℕ) (d : Slot) → t < length slots → in_phase j phase t ≡ false → (get_or slots t d).pass ≡ None
+  pub none_other : (phase : ℕ) (old slots : List CountSlot) → AreSplit cells root j phase (length j.tasks) old slots → (t : ℕ) (d : CountSlot) → t < length slots → in_phase j phase t ≡ false → (get_or slots t d).pass ≡ None
   none_other phase old slots a t d l h = a.none t d (omega (arith, l, a.count)) (not_before (in_phase j phase t) t (length j.tasks) h)
 
   -- ---- all have run
 
-  ran_with : (old new : Slot) (p : CountPass) → old.pass ≡ Some p → RunsSlot cells old new old.pass → RunsWith cells old new p
+  ran_with : (old new : CountSlot) (p : CountPass) → old.pass ≡ Some p → RunsSlot cells old new old.pass → RunsWith cells old new p
   ran_with old new p e r = subst (RunsSlot cells old new) e r
 
-  ran_not : (old new : Slot) → old.pass ≡ None → RunsSlot cells old new old.pass → new ≡ old
+  ran_not : (old new : CountSlot) → old.pass ≡ None → RunsSlot cells old new old.pass → new ≡ old
   ran_not old new e r = subst (RunsSlot cells old new) e r
 
-  has_counted : (places : List Place) (t : ℕ) (old new : Slot) → plan_in cells ≡ plan_view j places (task_of j t).phase → HasPass (IsFresh cells root) old → HasNotRun j places t old.done → RunsSlot cells old new old.pass →
+  has_counted : (places : List Place) (t : ℕ) (old new : CountSlot) → plan_in cells ≡ plan_view j places (task_of j t).phase → HasPass (IsFresh cells root) old → HasNotRun j places t old.done → RunsSlot cells old new old.pass →
       HasPass (HasCounted cells root (trace_by solo j places t)) new
   has_counted places t old new of h begun r =
       let w : RunsWith cells old new h.pass = ran_with old new h.pass h.has r in
@@ -210,7 +216,7 @@ module _ (cells : CountCells) (root : CountNotes) (j : JobView) where
         holds = record { area = w.area; adds = subst (λ (x : Run). Adds (plan_in cells) (split_notes root) (notes_of cells w.pass) x.trace) (begun_run solo (plan_in cells) j places t old.done of begun) adds };
       }
 
-  run_ended : (places : List Place) (t : ℕ) (old new : Slot) → plan_in cells ≡ plan_view j places (task_of j t).phase → HasPass (IsFresh cells root) old → HasNotRun j places t old.done → RunsSlot cells old new old.pass → IsEnded solo j places t new.done
+  run_ended : (places : List Place) (t : ℕ) (old new : CountSlot) → plan_in cells ≡ plan_view j places (task_of j t).phase → HasPass (IsFresh cells root) old → HasNotRun j places t old.done → RunsSlot cells old new old.pass → IsEnded solo j places t new.done
   run_ended places t old new of h begun r =
       let w : RunsWith cells old new h.pass = ran_with old new h.pass h.has r in
       has_ended (plan_in cells) j places t old.done new.done of begun w.result w.filled
@@ -218,8 +224,8 @@ module _ (cells : CountCells) (root : CountNotes) (j : JobView) where
   plan_here : (places : List Place) (phase t : ℕ) → plan_in cells ≡ plan_view j places phase → in_phase j phase t ≡ true → plan_in cells ≡ plan_view j places (task_of j t).phase
   plan_here places phase t of h = of ∙ ap (plan_view j places) (sym (eqb-true (task_of j t).phase phase h))
 
-  pub AreOver-start : (places : List Place) (phase : ℕ) (old mid new : List Slot) → plan_in cells ≡ plan_view j places phase → AreSplit cells root j phase (length j.tasks) old mid → HaveRun j places phase old → length new ≡ length mid →
-      ((t : ℕ) (d : Slot) → t < length mid → RunsSlot cells (get_or mid t d) (get_or new t d) (get_or mid t d).pass) → AreOver cells root j places phase 0 new
+  pub AreOver-start : (places : List Place) (phase : ℕ) (old mid new : List CountSlot) → plan_in cells ≡ plan_view j places phase → AreSplit cells root j phase (length j.tasks) old mid → AreRun solo j places phase old → length new ≡ length mid →
+      ((t : ℕ) (d : CountSlot) → t < length mid → RunsSlot cells (get_or mid t d) (get_or new t d) (get_or mid t d).pass) → AreOver cells root j places phase 0 new
   AreOver-start places phase old mid new of a r same runs = record {
     some = λ t d from l h.
         let here : t < length old = omega (arith, l, same, a.count) in
@@ -228,38 +234,38 @@ module _ (cells : CountCells) (root : CountNotes) (j : JobView) where
     none = λ t d l h.
         let here : t < length old = omega (arith, l, same, a.count) in
         let empty : (get_or mid t d).pass ≡ None = a.none t d here (not_before (in_phase j phase t) t (length j.tasks) (no_longer (in_phase j phase t) t h)) in
-        ap (λ (s : Slot). s.pass) (ran_not (get_or mid t d) (get_or new t d) empty (runs t d (omega (arith, l, same)))) ∙ empty;
+        ap (λ (s : CountSlot). s.pass) (ran_not (get_or mid t d) (get_or new t d) empty (runs t d (omega (arith, l, same)))) ∙ empty;
   }
 
-  pub HaveRun-after : (places : List Place) (phase : ℕ) (old mid new : List Slot) → plan_in cells ≡ plan_view j places phase → AreSplit cells root j phase (length j.tasks) old mid → HaveRun j places phase old → length new ≡ length mid →
-      ((t : ℕ) (d : Slot) → t < length mid → RunsSlot cells (get_or mid t d) (get_or new t d) (get_or mid t d).pass) → HaveRun j places (phase + 1) new
-  HaveRun-after places phase old mid new of a r same runs = HaveRun-next j places phase old new r (same ∙ a.count)
+  pub AreRun-after : (places : List Place) (phase : ℕ) (old mid new : List CountSlot) → plan_in cells ≡ plan_view j places phase → AreSplit cells root j phase (length j.tasks) old mid → AreRun solo j places phase old → length new ≡ length mid →
+      ((t : ℕ) (d : CountSlot) → t < length mid → RunsSlot cells (get_or mid t d) (get_or new t d) (get_or mid t d).pass) → AreRun solo j places (phase + 1) new
+  AreRun-after places phase old mid new of a r same runs = AreRun-next solo j places phase old new r (same ∙ a.count)
       (λ t d l h. run_ended places t (get_or mid t d) (get_or new t d) (plan_here places phase t of h) (a.some t d l (omega (arith, l, r.count)) h)
       (begun_at places phase old mid t d a r l h) (runs t d (omega (arith, l, a.count))))
       (λ t d l h.
       let empty : (get_or mid t d).pass ≡ None = a.none t d l (not_before (in_phase j phase t) t (length j.tasks) h) in
-      ap (λ (s : Slot). s.done) (ran_not (get_or mid t d) (get_or new t d) empty (runs t d (omega (arith, l, a.count)))) ∙ a.done t d l)
+      ap (λ (s : CountSlot). s.done) (ran_not (get_or mid t d) (get_or new t d) empty (runs t d (omega (arith, l, a.count)))) ∙ a.done t d l)
 
   -- ---- the passes are taken back one after the other
 
-  pub AreOver-next : (places : List Place) (phase next : ℕ) (slots : List Slot) (e : Slot) → next < length slots → e.pass ≡ None → AreOver cells root j places phase next slots → AreOver cells root j places phase (next + 1) (set slots next e)
+  pub AreOver-next : (places : List Place) (phase next : ℕ) (slots : List CountSlot) (e : CountSlot) → next < length slots → e.pass ≡ None → AreOver cells root j places phase next slots → AreOver cells root j places phase (next + 1) (set slots next e)
   AreOver-next places phase next slots e here none a = record {
     some = λ t d from l h.
         subst (HasPass (HasCounted cells root (trace_by solo j places t))) (sym (get_or-set_other slots next t e d (λ same. absurd (omega (arith, same, from)))))
         (a.some t d (omega (arith, from)) (omega (arith, l, length-set slots next e)) h);
     none = λ t d l h. elim (same_or t next) [
-      | inl same ↦ ap (λ (s : Slot). s.pass) (get_or-set_at slots next t e d same here) ∙ none
-      | inr other ↦ ap (λ (s : Slot). s.pass) (get_or-set_other slots next t e d other) ∙ a.none t d (omega (arith, l, length-set slots next e)) (not_last (in_phase j phase t) t next other ∙ h)
+      | inl same ↦ ap (λ (s : CountSlot). s.pass) (get_or-set_at slots next t e d same here) ∙ none
+      | inr other ↦ ap (λ (s : CountSlot). s.pass) (get_or-set_other slots next t e d other) ∙ a.none t d (omega (arith, l, length-set slots next e)) (not_last (in_phase j phase t) t next other ∙ h)
     ];
   }
 
-  pub AreOver-all : (places : List Place) (phase n : ℕ) (slots : List Slot) → length slots ≤ n → AreOver cells root j places phase n slots → AreEmpty slots
+  pub AreOver-all : (places : List Place) (phase n : ℕ) (slots : List CountSlot) → length slots ≤ n → AreOver cells root j places phase n slots → AreEmpty slots
   AreOver-all places phase n slots all a k d l = a.none k d l (past (in_phase j phase k) k n (omega (arith, l, all)))
 
-  empty_next : (places : List Place) (phase next : ℕ) (slots : List Slot) (d : Slot) → next < length slots → AreOver cells root j places phase next slots → in_phase j phase next ≡ false → (get_or slots next d).pass ≡ None
+  empty_next : (places : List Place) (phase next : ℕ) (slots : List CountSlot) (d : CountSlot) → next < length slots → AreOver cells root j places phase next slots → in_phase j phase next ≡ false → (get_or slots next d).pass ≡ None
   empty_next places phase next slots d l a h = a.none next d l (let s = still next in rw (s, h) refl)
 
-  pub pass_of : (places : List Place) (phase next : ℕ) (slots : List Slot) (d : Slot) (p : CountPass) → next < length slots → AreOver cells root j places phase next slots → (get_or slots next d).pass ≡ Some p →
+  pub pass_of : (places : List Place) (phase next : ℕ) (slots : List CountSlot) (d : CountSlot) (p : CountPass) → next < length slots → AreOver cells root j places phase next slots → (get_or slots next d).pass ≡ Some p →
       (in_phase j phase next ≡ true) × HasCounted cells root (trace_by solo j places next) p
   pass_of places phase next slots d p l a h = by_phase (in_phase j phase next) refl
     where
@@ -267,7 +273,7 @@ module _ (cells : CountCells) (root : CountNotes) (j : JobView) where
       by_phase true e = let s = a.some next d (omega arith) l e in (e, subst (HasCounted cells root (trace_by solo j places next)) (same_Some s.pass p (sym s.has ∙ h)) s.holds)
       by_phase false e = let never : None ≡ Some p = sym (empty_next places phase next slots d l a e) ∙ h in absurd cc
 
-  pub not_of : (places : List Place) (phase next : ℕ) (slots : List Slot) (d : Slot) → next < length slots → AreOver cells root j places phase next slots → (get_or slots next d).pass ≡ None → in_phase j phase next ≡ false
+  pub not_of : (places : List Place) (phase next : ℕ) (slots : List CountSlot) (d : CountSlot) → next < length slots → AreOver cells root j places phase next slots → (get_or slots next d).pass ≡ None → in_phase j phase next ≡ false
   not_of places phase next slots d l a h = by_phase (in_phase j phase next) refl
     where
       by_phase : (b : Bool) → in_phase j phase next ≡ b → in_phase j phase next ≡ false

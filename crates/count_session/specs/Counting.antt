@@ -1,15 +1,17 @@
 -- How often traces give a fact at a place, and what a pass has added of some visits.
-use Rattle.std.specs.Prelude.{◌≡◌, ℕ, ◌+◌, ◌<◌, ◌≤◌, Bool, true, false, ◌&&◌, if◌then◌else◌, Some, List, [], ◌∷◌, length}
+use Rattle.std.specs.Prelude.{◌≡◌, ℕ, ◌+◌, ◌*◌, ◌<◌, ◌≤◌, Bool, false, ◌&&◌, if◌then◌else◌, Option, List, [], ◌∷◌, length}
 use Rattle.cov_base.specs.Facts.{same_fact, fact_of}
 use Rattle.cov_base.specs.States.{Visit}
 use Rattle.cov_base.specs.declared.facts.Fact.{Fact}
 use Rattle.module_area.specs.declared.places.Place.{Place}
 use Rattle.module_area.specs.Executions.{executes}
-use Rattle.module_area.specs.PlanView.{PlanView, place_of, kind_at}
-use Rattle.svc_monitor.specs.First.{BeginsAt}
-use Rattle.count_session.specs.Notes.{CountNotes, after_add}
-use Rattle.count_session.specs.declared.monitor.Met.{Met}
-use Rattle.count_session.specs.declared.monitor.Met.TheVariants.{Quiet, Trap}
+use Rattle.module_area.specs.Control.{ControlView}
+use Rattle.module_area.specs.PlanView.{PlanView, place_of}
+use Rattle.brk_table.specs.Places.{TablesView}
+use Rattle.count_session.specs.Notes.{CountNotes}
+use Rattle.count_session.specs.Passes.{IsPassOf, notes_of, plan_in}
+use Rattle.count_session.specs.declared.cells.CountCells.{CountCells}
+use Rattle.count_session.specs.declared.pass.CountPass.{CountPass}
 
 -- a begun visit at the place that gives the fact
 abbrev pub gives : Place → Fact → Visit → Bool
@@ -35,33 +37,18 @@ pub record Adds (plan : PlanView) (old new : CountNotes) (visits : List Visit) :
   pub added : (p : ℕ) (f : Fact) → p < length plan.places → new.added p f ≡ old.added p f + planted_count plan old p f visits
   pub adds : new.adds ≤ old.adds + length visits
 
--- ---- how a first halfword was met
+-- The pass is a task's, of an area over these tables, with at most two adds for each instruction done and one for each visit
+-- of the next that was shown.
+pub record HasRoom (cells : CountCells) (tables : TablesView) (pass : CountPass) (done shown : ℕ) : Type 0 where
+  pub area : IsPassOf cells pass
+  pub places : (plan_in cells).places ≡ tables.places
+  pub task : (notes_of cells pass).root ≡ false
+  pub adds : (notes_of cells pass).adds ≤ 2 * done + shown
 
--- no place that begins at the address is planted
-pub record IsQuiet (plan : PlanView) (a : ℕ) (old new : CountNotes) : Type 0 where
-  pub none : (p : ℕ) → p < length plan.places → (place_of plan.places p).at ≡ a → old.planted p ≡ false
-  pub notes : new ≡ record old { pending = new.pending }
+-- From the one state to the other the pass has added what these visits give.
+abbrev pub HasAdded : CountCells → TablesView → CountPass → List Visit → CountPass → Type 0
+HasAdded cells tables old visits new = Adds (plan_in cells) (notes_of cells old) (notes_of cells new) visits
 
--- the place that begins there is, and the fetch has answered the breakpoint
-pub record IsTrap (plan : PlanView) (a : ℕ) (old new : CountNotes) (p : ℕ) : Type 0 where
-  pub begins : BeginsAt plan.places a p
-  pub planted : old.planted p ≡ true
-  pub notes : new ≡ record old { pending = Some p }
-
-abbrev pub IsMet : PlanView → ℕ → CountNotes → CountNotes → Met → Type 0
-IsMet plan a old new (Quiet h) = IsQuiet plan a old new
-IsMet plan a old new (Trap p h) = IsTrap plan a old new p.0
-
-abbrev pub half_of : Met → ℕ
-half_of (Quiet h) = h
-half_of (Trap p h) = h
-
--- a trap may be counted
-abbrev pub IsPending : PlanView → CountNotes → Met → Type 0
-IsPending plan n (Quiet h) = Unit {0}
-IsPending plan n (Trap p h) = (p.0 < length plan.places) × (n.pending ≡ Some p.0)
-
--- a trap is counted as what the execution shows
-abbrev pub Shows : PlanView → CountNotes → CountNotes → Met → Bool → Type 0
-Shows plan old new (Quiet h) went = new ≡ old
-Shows plan old new (Trap p h) went = new ≡ after_add old p.0 (fact_of (kind_at plan p.0) went)
+-- no call changes the pass or the control
+abbrev pub IsLeft : CountCells → CountPass → ControlView → Option ℕ → CountPass → ControlView → Type 0
+IsLeft cells old control call new after = (new ≡ old) × (after ≡ control)

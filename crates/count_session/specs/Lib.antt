@@ -1,5 +1,6 @@
 pub mod Counting
 pub mod Job
+pub mod Laws
 pub mod Notes
 pub mod Passes
 pub mod Phases

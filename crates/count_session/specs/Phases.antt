@@ -5,23 +5,22 @@ use Rattle.cov_base.specs.declared.facts.Fact.{Fact}
 use Rattle.module_area.specs.PlanView.{place_of, window_at}
 use Rattle.module_area.specs.declared.places.Place.{Place}
 use Rattle.brk_table.specs.Places.{TablesView}
-use Rattle.space_map.specs.Space.{memory_of_space}
+use Rattle.observed_step.specs.Steps.{memory_at}
 use Rattle.svc_monitor.specs.First.{IsOver}
 use Rattle.task_run.specs.Courses.{solo}
 use Rattle.session_book.specs.JobView.{JobView}
 use Rattle.session_book.specs.Sessions.{session_of, observes, plan_view, traces_from}
 use Rattle.job_run.specs.Runs.{result_of_run, trace_by}
-use Rattle.job_run.specs.Slots.{in_phase, is_before}
+use Rattle.job_run.specs.Slots.{HasPass, in_phase, is_before}
 use Rattle.job_run.specs.Tasks.{done_result, own_run}
 use Rattle.count_session.specs.Counting.{Adds, count_at, count_of_all}
 use Rattle.count_session.specs.Notes.{CountNotes, split_notes}
 use Rattle.count_session.specs.Passes.{IsPassOf, notes_of, plan_in}
-use Rattle.count_session.specs.Slots.{HasPass}
+use Rattle.count_session.specs.Slots.{CountSlot}
 use Rattle.count_session.specs.Tallied.{count_in}
 use Rattle.count_session.specs.declared.cells.CountCells.{CountCells}
 use Rattle.count_session.specs.declared.counts.PlaceCount.{PlaceCount}
 use Rattle.count_session.specs.declared.pass.CountPass.{CountPass}
-use Rattle.count_session.specs.declared.slots.Slot.{Slot}
 
 -- how many of the tasks before the next are of the phase
 abbrev pub in_count : JobView → ℕ → ℕ → ℕ
@@ -39,11 +38,11 @@ pub record IsFresh (cells : CountCells) (root : CountNotes) (p : CountPass) : Ty
   pub fresh : notes_of cells p ≡ split_notes root
 
 -- the slots with such a pass for each of the phase's tasks before the next
-pub record AreSplit (cells : CountCells) (root : CountNotes) (j : JobView) (phase next : ℕ) (old new : List Slot) : Type 0 where
+pub record AreSplit (cells : CountCells) (root : CountNotes) (j : JobView) (phase next : ℕ) (old new : List CountSlot) : Type 0 where
   pub count : length new ≡ length old
-  pub done : (t : ℕ) (d : Slot) → t < length old → (get_or new t d).done ≡ (get_or old t d).done
-  pub some : (t : ℕ) (d : Slot) → t < length old → t < next → in_phase j phase t ≡ true → HasPass (IsFresh cells root) (get_or new t d)
-  pub none : (t : ℕ) (d : Slot) → t < length old → is_before j phase next t ≡ false → (get_or new t d).pass ≡ None
+  pub done : (t : ℕ) (d : CountSlot) → t < length old → (get_or new t d).done ≡ (get_or old t d).done
+  pub some : (t : ℕ) (d : CountSlot) → t < length old → t < next → in_phase j phase t ≡ true → HasPass (IsFresh cells root) (get_or new t d)
+  pub none : (t : ℕ) (d : CountSlot) → t < length old → is_before j phase next t ≡ false → (get_or new t d).pass ≡ None
 
 -- the root after passes were split off
 pub record HasSplit (j : JobView) (phase next : ℕ) (before now : CountNotes) : Type 0 where
@@ -51,27 +50,26 @@ pub record HasSplit (j : JobView) (phase next : ℕ) (before now : CountNotes) :
   pub given : now.given ≡ in_count j phase next
 
 -- a pass that hasn't counted, with which a task can run
-pub record CanCount (cells : CountCells) (tables : TablesView) (s : Slot) (p : CountPass) : Type 0 where
+pub record CanCount (cells : CountCells) (tables : TablesView) (s : CountSlot) (p : CountPass) : Type 0 where
   pub area : IsPassOf cells p
   pub task : (notes_of cells p).root ≡ false
   pub nothing : (notes_of cells p).adds ≡ 0
-  pub over : IsOver (plan_in cells) (memory_of_space s.done.task.space) tables
-  pub fresh : s.done.task.done ≡ 0
+  pub over : IsOver (plan_in cells) (memory_at s.done.task.bench) tables
 
-abbrev pub IsReady : CountCells → TablesView → Slot → Type 0
+abbrev pub IsReady : CountCells → TablesView → CountSlot → Type 0
 IsReady cells tables s = IfSome s.pass (CanCount cells tables s)
 
 -- the task has run with the pass
-pub record RunsWith (cells : CountCells) (old new : Slot) (p : CountPass) : Type 0 where
+pub record RunsWith (cells : CountCells) (old new : CountSlot) (p : CountPass) : Type 0 where
   pub pass : CountPass
   pub has : new.pass ≡ Some pass
   pub area : IsPassOf cells pass
   pub result : done_result new.done ≡ result_of_run (own_run solo (plan_in cells) old.done)
-  pub filled : length new.done.task.space.bytes ≡ (memory_of_space old.done.task.space).private
+  pub filled : length new.done.task.bench.space.bytes ≡ (memory_at old.done.task.bench).private
   pub adds : Adds (plan_in cells) (notes_of cells p) (notes_of cells pass) (own_run solo (plan_in cells) old.done).trace
 
 -- the slot after its run: as before where it has no pass
-abbrev pub RunsSlot : CountCells → Slot → Slot → Option CountPass → Type 0
+abbrev pub RunsSlot : CountCells → CountSlot → CountSlot → Option CountPass → Type 0
 RunsSlot cells old new None = new ≡ old
 RunsSlot cells old new (Some p) = RunsWith cells old new p
 
@@ -81,9 +79,9 @@ pub record HasCounted (cells : CountCells) (root : CountNotes) (visits : List Vi
   pub adds : Adds (plan_in cells) (split_notes root) (notes_of cells p) visits
 
 -- each of the phase's tasks from the next on has such a pass, and no other slot has one
-pub record AreOver (cells : CountCells) (root : CountNotes) (j : JobView) (places : List Place) (phase next : ℕ) (slots : List Slot) : Type 0 where
-  pub some : (t : ℕ) (d : Slot) → next ≤ t → t < length slots → in_phase j phase t ≡ true → HasPass (HasCounted cells root (trace_by solo j places t)) (get_or slots t d)
-  pub none : (t : ℕ) (d : Slot) → t < length slots → (not (nat_lt t next) && in_phase j phase t) ≡ false → (get_or slots t d).pass ≡ None
+pub record AreOver (cells : CountCells) (root : CountNotes) (j : JobView) (places : List Place) (phase next : ℕ) (slots : List CountSlot) : Type 0 where
+  pub some : (t : ℕ) (d : CountSlot) → next ≤ t → t < length slots → in_phase j phase t ≡ true → HasPass (HasCounted cells root (trace_by solo j places t)) (get_or slots t d)
+  pub none : (t : ℕ) (d : CountSlot) → t < length slots → (not (nat_lt t next) && in_phase j phase t) ≡ false → (get_or slots t d).pass ≡ None
 
 -- the root after the passes of the tasks before the next were joined
 pub record HasJoined (j : JobView) (places : List Place) (phase next : ℕ) (before now : CountNotes) : Type 0 where

@@ -4,16 +4,18 @@ ghost use Rattle.std.specs.List.{list_any};
 ghost use Rattle.brk_table.specs.Kept.{AreCodes};
 ghost use Rattle.session_book.specs.JobView.{IsJob};
 ghost use Rattle.session_book.specs.Sessions.{AreWhole};
+ghost use Rattle.task_run.specs.Courses.{solo};
+ghost use Rattle.job_run.specs.Slots.{AreEmpty};
+ghost use Rattle.job_run.specs.Tasks.{AreRun};
 ghost use Rattle.count_session.specs.Job.{CountsView, IsCountedJob, count_of};
 ghost use Rattle.count_session.specs.Phases.{AreCounted};
-ghost use Rattle.count_session.specs.Slots.{AreEmpty, HaveRun};
 
 use crate::counts::Counts;
+use crate::pass::CountSlot;
 use crate::phase::count_phase;
-use crate::slots::{Slot, make_slots, tasks_of};
 use brk_table::Tables;
 use cov_base::{Fact, NoMemory, PlaceNo, SessNo, TaskNo};
-use job_run::Done;
+use job_run::{Done, make_slots, tasks_of};
 use s370_state::{Cpu, Ending};
 use session_book::{FactCounts, Job, Results, Session};
 use std::alloc::Global;
@@ -111,16 +113,15 @@ impl<'a> Results for Counted<'a> {
     }
 
     fn cpu(&self, t: TaskNo) -> &Cpu {
-        &self.tasks[t.0 as usize].task.cpu
+        &self.tasks[t.0 as usize].task.bench.cpu
     }
 
     fn output(&self, t: TaskNo) -> &[u8] {
-        self.tasks[t.0 as usize].task.io.output()
+        self.tasks[t.0 as usize].task.bench.io.output()
     }
 
     fn row(&self, t: TaskNo, n: u32) -> &[u8] {
-        let space = &self.tasks[t.0 as usize].task.space;
-        let _ = space.size();
+        let space = &self.tasks[t.0 as usize].task.bench.space;
         space.row(n)
     }
 }
@@ -131,14 +132,14 @@ fn count_phases<'a, T: Threads + Sync>(
     alloc: Global,
     job: &Job,
     tables: &Tables,
-    slots: &mut [Slot<'a>],
+    slots: &mut [CountSlot<'a>],
 ) -> Result<Vec<Counts>, NoMemory>
     requires codes { AreCodes job.now.images tables.now }
-    requires tasks { HaveRun job.now tables.now.places 0 slots.old }
+    requires tasks { AreRun solo job.now tables.now.places 0 slots.old }
     requires empty { AreEmpty slots.old }
     ensures job { IsJob job.now }
     ensures counts { IfOk result (λ v. AreCounted job.now tables.now.places (length job.now.phases) v.items) }
-    ensures tasks { IfOk result (λ _. HaveRun job.now tables.now.places (length job.now.phases) slots.new) }
+    ensures tasks { IfOk result (λ _. AreRun solo job.now tables.now.places (length job.now.phases) slots.new) }
 {
     let count = job.phase_count();
     let mut phases = Vec::with_capacity(alloc, count as usize)?;

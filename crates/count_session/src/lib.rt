@@ -3,15 +3,14 @@
 
 mod begin;
 mod cells;
+mod counting;
 mod counts;
 mod forks;
 mod job;
-mod monitor;
 mod pass;
 mod phase;
 mod rule;
 mod run;
-mod slots;
 mod steps;
 mod words;
 

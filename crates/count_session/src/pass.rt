@@ -3,6 +3,7 @@ ghost use Rattle.std.specs.Prelude.{◌≡◌, true};
 
 use crate::rule::{CountView, NoSlot};
 use atomic_table::Seat;
+use job_run::Slot;
 
 /// The root, or the pass of a task: a seat at the words.
 #[derive(Drop)]
@@ -10,3 +11,6 @@ pub struct CountPass {
     pub(crate) seat: Seat<NoSlot, CountView>,
     ghost live: { seat.me.0.live ≡ true },
 }
+
+/// A task's slot, which keeps nothing beside the task and its pass.
+pub(crate) type CountSlot<'a> = Slot<'a, CountPass, ()>;

@@ -5,26 +5,24 @@ ghost use Rattle.module_area.specs.PlanView.{window_at};
 ghost use Rattle.brk_table.specs.Kept.{AreCodes};
 ghost use Rattle.session_book.specs.JobView.{IsJob};
 ghost use Rattle.session_book.specs.Sessions.{plan_view};
-ghost use Rattle.space_map.specs.Space.{memory_of_space};
+ghost use Rattle.observed_step.specs.Steps.{memory_at};
 ghost use Rattle.svc_monitor.specs.First.{IsOver};
 ghost use Rattle.task_run.specs.Courses.{solo};
 ghost use Rattle.job_run.specs.Runs.{result_of_run};
-ghost use Rattle.job_run.specs.Slots.{in_phase};
-ghost use Rattle.job_run.specs.Tasks.{done_result, own_run};
+ghost use Rattle.job_run.specs.Slots.{AreEmpty, in_phase};
+ghost use Rattle.job_run.specs.Tasks.{AreRun, done_result, own_run};
 ghost use Rattle.count_session.specs.Counting.{Adds};
 ghost use Rattle.count_session.specs.Notes.{root_notes};
 ghost use Rattle.count_session.specs.Passes.{IsPassOf, notes_of, plan_in};
 ghost use Rattle.count_session.specs.Phases.{AreSplit, HasJoined, HasSplit, IsCounted, IsReady, RunsSlot};
-ghost use Rattle.count_session.specs.Slots.{AreEmpty, HaveRun};
 
 use crate::cells::CountCells;
 use crate::counts::Counts;
-use crate::pass::CountPass;
+use crate::pass::{CountPass, CountSlot};
 use crate::run::run_counted;
-use crate::slots::{Slot, give, take};
 use brk_table::Tables;
 use cov_base::{NoMemory, PlaceNo};
-use job_run::{Done, is_of, range_of};
+use job_run::{Done, give, is_of, range_of, take};
 use module_area::Plan;
 use session_book::{Job, plan_of};
 use std::alloc::Global;
@@ -67,13 +65,12 @@ fn plant_all(cells: &CountCells, root: &mut CountPass, plan: &Plan)
 /// Runs the task, with its pass.
 fn run_one<'a>(cells: &CountCells, pass: &mut CountPass, tables: &Tables, done: &mut Done<'a>)
     requires area { IsPassOf cells.now pass.old }
-    requires over { IsOver (plan_in cells.now) (memory_of_space done.old.task.space) tables.now }
+    requires over { IsOver (plan_in cells.now) (memory_at done.old.task.bench) tables.now }
     requires task { (notes_of cells.now pass.old).root ≡ false }
     requires nothing { (notes_of cells.now pass.old).adds ≡ 0 }
-    requires fresh { done.old.task.done ≡ 0 }
     ensures area { IsPassOf cells.now pass.new }
     ensures result { done_result done.new ≡ result_of_run (own_run solo (plan_in cells.now) done.old) }
-    ensures filled { length done.new.task.space.bytes ≡ (memory_of_space done.old.task.space).private }
+    ensures filled { length done.new.task.bench.space.bytes ≡ (memory_at done.old.task.bench).private }
     ensures adds { Adds (plan_in cells.now) (notes_of cells.now pass.old) (notes_of cells.now pass.new) (own_run solo (plan_in cells.now) done.old).trace }
 {
     let ending = run_counted(cells, pass, tables, &mut done.task);
@@ -81,7 +78,7 @@ fn run_one<'a>(cells: &CountCells, pass: &mut CountPass, tables: &Tables, done: 
 }
 
 /// Runs the slot's task where it has a pass.
-fn run_slot<'a>(cells: &CountCells, tables: &Tables, slot: &mut Slot<'a>)
+fn run_slot<'a>(cells: &CountCells, tables: &Tables, slot: &mut CountSlot<'a>)
     requires ready { IsReady cells.now tables.now slot.old }
     ensures { RunsSlot cells.now slot.old slot.new slot.old.pass }
 {
@@ -95,7 +92,7 @@ fn run_slots<'a, T: Threads + Sync>(
     rt: &T,
     cells: &CountCells,
     tables: &Tables,
-    slots: &mut [Slot<'a>],
+    slots: &mut [CountSlot<'a>],
 )
     requires ready { All (IsReady cells.now tables.now) slots.old }
     ensures count { length slots.new ≡ length slots.old }
@@ -105,7 +102,7 @@ fn run_slots<'a, T: Threads + Sync>(
         return;
     }
     let count = slots.len();
-    let work = |_: usize, slot: &mut Slot<'_>|
+    let work = |_: usize, slot: &mut CountSlot<'_>|
         requires { IsReady cells.now tables.now slot.now }
         ensures { RunsSlot cells.entry.now slot.entry.now slot.exit.now slot.entry.now.pass }
     { run_slot(cells, tables, slot) };
@@ -119,7 +116,7 @@ fn run_those<'a, T: Threads + Sync>(
     job: &Job,
     tables: &Tables,
     phase: u32,
-    slots: &mut [Slot<'a>],
+    slots: &mut [CountSlot<'a>],
 )
     requires count { length slots.old ≡ length job.now.tasks }
     requires ready { All (IsReady cells.now tables.now) slots.old }
@@ -137,7 +134,7 @@ fn split_all<'a>(
     root: &mut CountPass,
     job: &Job,
     phase: u32,
-    slots: &mut [Slot<'a>],
+    slots: &mut [CountSlot<'a>],
 )
     requires area { IsPassOf cells.now root.old }
     requires root { (notes_of cells.now root.old).root ≡ true }
@@ -166,17 +163,17 @@ fn run_tasks<'a, T: Threads + Sync>(
     job: &Job,
     tables: &Tables,
     phase: u32,
-    slots: &mut [Slot<'a>],
+    slots: &mut [CountSlot<'a>],
 )
     requires area { IsPassOf cells.now root.old }
     requires plan { plan_in cells.now ≡ plan_view job.now tables.now.places phase }
     requires root { notes_of cells.now root.old ≡ record root_notes { planted = (notes_of cells.now root.old).planted } }
     requires codes { AreCodes job.now.images tables.now }
-    requires tasks { HaveRun job.now tables.now.places phase slots.old }
+    requires tasks { AreRun solo job.now tables.now.places phase slots.old }
     requires empty { AreEmpty slots.old }
     ensures area { IsPassOf cells.now root.new }
     ensures joined { HasJoined job.now tables.now.places phase (length job.now.tasks) (notes_of cells.now root.old) (notes_of cells.now root.new) }
-    ensures tasks { HaveRun job.now tables.now.places (phase + 1) slots.new }
+    ensures tasks { AreRun solo job.now tables.now.places (phase + 1) slots.new }
     ensures empty { AreEmpty slots.new }
 {
     split_all(cells, root, job, phase, slots);
@@ -196,14 +193,14 @@ pub(crate) fn count_phase<'a, T: Threads + Sync>(
     job: &Job,
     tables: &Tables,
     phase: u32,
-    slots: &mut [Slot<'a>],
+    slots: &mut [CountSlot<'a>],
 ) -> Result<Counts, NoMemory>
     requires phase { phase < length job.now.phases }
     requires codes { AreCodes job.now.images tables.now }
-    requires tasks { HaveRun job.now tables.now.places phase slots.old }
+    requires tasks { AreRun solo job.now tables.now.places phase slots.old }
     requires empty { AreEmpty slots.old }
     ensures counts { IfOk result (IsCounted job.now tables.now.places phase) }
-    ensures tasks { IfOk result (λ _. HaveRun job.now tables.now.places (phase + 1) slots.new) }
+    ensures tasks { IfOk result (λ _. AreRun solo job.now tables.now.places (phase + 1) slots.new) }
     ensures empty { IfOk result (λ _. AreEmpty slots.new) }
 {
     let plan = plan_of(alloc, job, tables, phase)?;

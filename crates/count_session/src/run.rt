@@ -1,17 +1,17 @@
 //! A task from its first instruction to its end, over cells in which breakpoints stay.
 ghost use Rattle.std.specs.Prelude.{◌≡◌, ◌≤◌, false};
-ghost use Rattle.s370_exec.specs.Solo.{state_of, solo_run};
-ghost use Rattle.space_map.specs.Space.{memory_of_space};
+ghost use Rattle.observed_step.specs.Steps.{memory_at, stands};
 ghost use Rattle.svc_monitor.specs.First.{IsOver};
-ghost use Rattle.count_session.specs.Counting.{Adds};
+ghost use Rattle.task_run.specs.Courses.{solo};
+ghost use Rattle.task_run.specs.Ran.{run_from};
+ghost use Rattle.count_session.specs.Counting.{HasAdded};
 ghost use Rattle.count_session.specs.Passes.{IsPassOf, notes_of, plan_in};
 
 use crate::cells::CountCells;
-use crate::monitor::step;
 use crate::pass::CountPass;
 use brk_table::Tables;
-use s370_exec::has_returned;
-use s370_state::{Ending, Next};
+use observed_step::{NoHook, run};
+use s370_state::Ending;
 use task_run::Task;
 
 /// Runs the task until it ends: before each instruction it ends Returned at X'FFFFFE', else Spent where it has done as
@@ -25,38 +25,19 @@ pub fn run_counted(
     task: &mut Task<'_>,
 ) -> Ending
     requires area { IsPassOf cells.now pass.old }
-    requires over { IsOver (plan_in cells.now) (memory_of_space task.old.space) tables.now }
+    requires over { IsOver (plan_in cells.now) (memory_at task.old.bench) tables.now }
     requires task { (notes_of cells.now pass.old).root ≡ false }
     requires nothing { (notes_of cells.now pass.old).adds ≡ 0 }
-    requires fresh { task.old.done ≡ 0 }
     ensures area { IsPassOf cells.now pass.new }
-    ensures memory { memory_of_space task.new.space ≡ memory_of_space task.old.space }
+    ensures memory { memory_at task.new.bench ≡ memory_at task.old.bench }
     ensures budget { task.new.budget ≡ task.old.budget }
     ensures done { task.new.done ≤ task.old.budget }
-    ensures ending { result ≡ (solo_run (memory_of_space task.old.space) task.old.budget (state_of task.old.cpu task.old.space.bytes task.old.io 0)).ending }
-    ensures state { state_of task.new.cpu task.new.space.bytes task.new.io task.new.done ≡ (solo_run (memory_of_space task.old.space) task.old.budget (state_of task.old.cpu task.old.space.bytes task.old.io 0)).state }
-    ensures adds { Adds (plan_in cells.now) (notes_of cells.now pass.old) (notes_of cells.now pass.new) (solo_run (memory_of_space task.old.space) task.old.budget (state_of task.old.cpu task.old.space.bytes task.old.io 0)).trace }
+    ensures ending { result ≡ (run_from solo (plan_in cells.now) task.old).ending }
+    ensures state { stands task.new.bench task.new.done ≡ (run_from solo (plan_in cells.now) task.old).state }
+    ensures adds { HasAdded cells.now tables.now pass.old (run_from solo (plan_in cells.now) task.old).trace pass.new }
 {
     let budget = task.budget;
-    for done in 0..budget {
-        if has_returned(&task.cpu) {
-            return Ending::Returned;
-        }
-        task.done = done + 1;
-        if let Next::Ended(e) = step(
-            cells,
-            pass,
-            tables,
-            &mut task.cpu,
-            &mut task.space,
-            &mut task.io,
-        ) {
-            return e;
-        }
-    }
-    if has_returned(&task.cpu) {
-        Ending::Returned
-    } else {
-        Ending::Spent
-    }
+    let end = run(cells, pass, tables, &mut NoHook, &mut task.bench, budget);
+    task.done = end.done;
+    end.ending
 }

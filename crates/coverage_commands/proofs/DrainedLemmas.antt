@@ -141,7 +141,7 @@ said_so : (a b : Option ℕ) (plan : PlanView) (t u done : ℕ) (x y : Option �
 said_so a b plan t u done x y first second third h = rw (sym first, sym second, sym third) h
 
 -- the drain of a session tells so of it, among those of its controller, which ran over the plan of this phase
-drained_at : (j : JobView) (places : List Place) (phase s by : ℕ) (first last : Done) (drains : List DrainView) (sets : ℕ → ℕ → FactSet) → walk_from solo (plan_view j places phase) first.task ≡ walk_by solo j places by → first.task.control ≡ first_control (plan_view j places phase) by →
+drained_at : (j : JobView) (places : List Place) (phase s by : ℕ) (first last : Done) (drains : List DrainView) (sets : ℕ → ℕ → FactSet) → walk_from solo (plan_view j places phase) first.task ≡ walk_by solo j places by → first.task.bench.control ≡ first_control (plan_view j places phase) by →
     HasTold (plan_view j places phase) first.task last.task drains sets → Stands (plan_view j places phase).controlled by s →
     IsDrained (closing_count (first_control (plan_view j places phase) by) (walk_by solo j places by).calls s) (others (plan_view j places phase).tasks by) last.task.done (drained_in drains s)
 drained_at j places phase s by first last drains sets calls control told stands =
@@ -152,7 +152,7 @@ drained_at j places phase s by first last drains sets calls control told stands 
     plan = plan_view j places phase
 
     closing : ℕ → Option ℕ
-    closing n = closing_count first.task.control (walk_from solo plan first.task).calls n
+    closing n = closing_count first.task.bench.control (walk_from solo plan first.task).calls n
 
     has : list_any (λ (n : ℕ). nat_eq n s) (map (λ (x : DrainView). x.session) drains) ≡ true
     has = ap (list_any (λ (n : ℕ). nat_eq n s)) (told.sessions ∙ ap (λ (c : ControlView). map (λ (n : SessNo). n.0) c.sessions) control) ∙ (numbers (sessions_of plan by) s ∙ stands.its)

@@ -1,6 +1,7 @@
 //! The evidence of a session's facts.
-ghost use Rattle.std.specs.Prelude.{◌≡◌, ◌<◌, ◌≤◌, Some, None, All, length};
-ghost use Rattle.brk_table.specs.Places.{IsIn, all_places};
+ghost use Rattle.std.specs.Prelude.{◌≡◌, ◌<◌, ◌≤◌, Some, None, length};
+ghost use Rattle.brk_table.specs.Kept.{AreCodes};
+ghost use Rattle.brk_table.specs.Places.{all_places};
 ghost use Rattle.coverage_commands.specs.Answers.{Answers};
 ghost use Rattle.coverage_commands.specs.Changes.{SourceChange, source_change, sink_change, no_change};
 ghost use Rattle.coverage_commands.specs.Inputs.{CameJob};
@@ -35,7 +36,7 @@ fn answer_evidence<K: Sink>(
     requires whole { (session_of job.now s.0).by ≡ None }
     requires matching { Match job.now tables.now.tables }
     requires numbered { tables.now.places ≡ all_places tables.now.tables }
-    requires places { All (IsIn job.now.images) tables.now.places }
+    requires codes { AreCodes job.now.images tables.now }
     requires number { session_number job.now name.now ≡ Some s.0 }
     ensures { (c : SourceChange) (a : Account) → CameJob to_end c job.now →
         Answers (Command.Prove name.now) c (no_change a) (sink_change K.written K.faults sink.old sink.new) result.0 }

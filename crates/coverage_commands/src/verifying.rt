@@ -1,6 +1,7 @@
 //! Marks and evidence of a session, checked by another run of its tasks.
-ghost use Rattle.std.specs.Prelude.{◌≡◌, ◌<◌, ◌≤◌, ℕ, true, Some, None, All, length, OnOk, IfOk, IfErr};
-ghost use Rattle.brk_table.specs.Places.{IsIn, all_places};
+ghost use Rattle.std.specs.Prelude.{◌≡◌, ◌<◌, ◌≤◌, ℕ, true, Some, None, length, OnOk, IfOk, IfErr};
+ghost use Rattle.brk_table.specs.Kept.{AreCodes};
+ghost use Rattle.brk_table.specs.Places.{all_places};
 ghost use Rattle.brk_table.specs.Together.{AreTables};
 ghost use Rattle.coverage_commands.specs.Answers.{Answers};
 ghost use Rattle.coverage_commands.specs.Changes.{SourceChange, source_change, sink_change, no_change};
@@ -69,7 +70,7 @@ fn facts_behind(
     requires to { s.0 ≤ length job.now.sessions }
     requires whole { (session_of job.now s.0).by ≡ None }
     requires tables { AreTables job.now.images tables.now.tables }
-    requires places { All (IsIn job.now.images) tables.now.places }
+    requires codes { AreCodes job.now.images tables.now }
     ensures verdict { IfOk result (λ n. IsVerdict job.now tables.now s.0 rest.now (Verified n)) }
     ensures verified { OnOk result (HasVerified job.now tables.now s.0 rest.now) }
     ensures refused { IfErr result (IsCheckRefusal job.now tables.now s.0 rest.now) }
@@ -104,7 +105,7 @@ fn answer_behind<K: Sink>(
     requires own { AreTables job.now.images tables.now.tables }
     requires matching { Match job.now tables.now.tables }
     requires numbered { tables.now.places ≡ all_places tables.now.tables }
-    requires places { All (IsIn job.now.images) tables.now.places }
+    requires codes { AreCodes job.now.images tables.now }
     requires number { session_number job.now name.now ≡ Some s.0 }
     ensures { (c : SourceChange) (a : Account) (count : ℕ) → CameWith to_go_on c job.now count rest.now →
         Answers (Command.Verify name.now) c (no_change a) (sink_change K.written K.faults sink.old sink.new) result.0 }

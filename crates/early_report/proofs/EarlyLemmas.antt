@@ -1,32 +1,25 @@
 -- A controller's run instruction by instruction, with its drains.
-use Rattle.std.proofs.Common.{◌≡◌, ℕ, zero, suc, ◌+◌, ◌-◌, ◌%◌, ◌<◌, ◌≤◌, Bool, true, false, if◌then◌else◌, ◌&&◌, nat_eq, is_some, unwrap_or, Option, Some, None, List, [], ◌∷◌, ◌++◌, length, get_or, map, take, All, AllPairs, refl, sym, ◌∙◌, ap, subst, arith, eqb-true, eq-eqb, ne_eqb}
+use Rattle.std.proofs.Common.{◌≡◌, ℕ, zero, suc, ◌+◌, ◌%◌, ◌<◌, Bool, true, false, if◌then◌else◌, ◌&&◌, nat_eq, is_some, unwrap_or, Option, Some, None, List, [], ◌∷◌, ◌++◌, length, get_or, map, All, AllPairs, refl, sym, ◌∙◌, ap, subst, arith, eqb-true, eq-eqb, ne_eqb}
 use Rattle.std.specs.List.{filter, list_any}
-use Rattle.std.proofs.lemmas.List.{append_assoc, append-nil, same_lists, length-append, get_or-map, get_or_default, length-map, take_at}
+use Rattle.std.proofs.lemmas.List.{same_lists, get_or-map, get_or_default, length-map}
 use Rattle.std.proofs.lemmas.List.Folds.{list_any_none}
 use Rattle.std.proofs.lemmas.List.Elements.{All-tail, All-cons}
-use Rattle.cov_base.specs.declared.limits.TheConstants.{PLACE_LIMIT}
 use Rattle.cov_base.specs.FactSet.{FactSet}
-use Rattle.cov_base.specs.Memory.{Memory}
-use Rattle.cov_base.specs.States.{State, Visit}
+use Rattle.cov_base.specs.States.{Visit}
 use Rattle.cov_base.specs.declared.numbers.SessNo.{SessNo}
-use Rattle.s370_state.specs.declared.endings.Ending.{Ending}
-use Rattle.s370_state.specs.declared.endings.Next.TheVariants.{On, Ended}
-use Rattle.s370_exec.specs.Calls.{call_of}
-use Rattle.s370_exec.specs.Solo.{solo_run, solo_step, has_returned}
 use Rattle.module_area.specs.PlanView.{PlanView, ControlledView, IsPlan, AreApart}
 use Rattle.module_area.specs.Control.{ControlView, number_of, sessions_of, control_after}
-use Rattle.module_area.specs.Notes.{Notes, after_boundary, bearer, calls, is_working, own_number}
+use Rattle.module_area.specs.Notes.{Notes, after_boundary, bearer, is_working, own_number}
 use Rattle.module_area.proofs.Indices.{and_left}
 use Rattle.module_area.proofs.PlanLemmas.{any_shown}
 use Rattle.svc_monitor.specs.Answered.{Turns}
 use Rattle.task_run.specs.Aside.{IsAside}
-use Rattle.task_run.specs.Called.{calls_on, control_by}
+use Rattle.task_run.specs.Called.{control_by}
 use Rattle.task_run.specs.Windows.{is_opened}
-use Rattle.task_run.proofs.AsideLemmas.{step_known, step_working, same_number, aside_more, aside_boundary, aside_calls, boundary_number, boundary_working, LedTo-aside, IsRun-aside}
-use Rattle.task_run.proofs.RunLemmas.{Adds, LedTo, LedTo-more, IsRun, IsRun-ended, calls_on-more, calls_on-ended, calls_on-returned, calls_on-spent, left}
+use Rattle.task_run.proofs.AsideLemmas.{step_known, same_number, aside_more, aside_boundary, boundary_number}
 use Rattle.early_report.specs.DrainView.{DrainView}
 use Rattle.early_report.specs.Drains.{unused, has_controlled, controller_in, controller_of, IsLooking}
-use Rattle.early_report.specs.Followed.{HaveGone, StepsOn, Stands, closed_since, first_drains, is_begun}
+use Rattle.early_report.specs.Followed.{HaveGone, Stands, closed_since, first_drains, is_begun}
 use Rattle.early_report.specs.Told.{closes, closing_count}
 use Rattle.early_report.specs.declared.drains.Stage.TheVariants.{Unused}
 use Rattle.early_report.proofs.ReadLemmas.{no_session}
@@ -38,57 +31,19 @@ use Rattle.early_report.proofs.StepLemmas.{closed_is}
 pub aside_looking : (a b : Notes) → IsLooking a b → IsAside a b
 aside_looking a b r = subst (IsAside a) (sym r.same) (record { same = refl })
 
-pub aside_step : (plan : PlanView) (old new : Notes) (visits : List Visit) (c : ControlView) (call : Option ℕ) (r : StepsOn plan old new visits c call) → IsAside r.mid new
-aside_step plan old new visits c call r = aside_more r.mid (after_boundary r.mid false) new (aside_boundary r.mid false) (aside_looking (after_boundary r.mid false) new r.looking)
+pub aside_behind : (mid new : Notes) → IsLooking (after_boundary mid false) new → IsAside mid new
+aside_behind mid new looking = aside_more mid (after_boundary mid false) new (aside_boundary mid false) (aside_looking (after_boundary mid false) new looking)
 
-module _ (plan : PlanView) (old new : Notes) (visits : List Visit) (c : ControlView) (call : Option ℕ) (r : StepsOn plan old new visits c call) where
+-- behind an instruction, a boundary and looks
+module _ (plan : PlanView) (old mid new : Notes) (visits : List Visit) (c : ControlView) (call : Option ℕ) (turns : Turns plan old mid visits c call) (looking : IsLooking (after_boundary mid false) new) where
   pub bears_on : new.bears ≡ old.bears
-  bears_on = ap (λ (n : Notes). n.bears) r.looking.same ∙ (step_known plan old r.mid visits c call r.turns).bears
+  bears_on = ap (λ (n : Notes). n.bears) looking.same ∙ (step_known plan old mid visits c call turns).bears
 
   pub known_on : (s p : ℕ) (x : FactSet) → old.settled s p x ≡ true → new.settled s p x ≡ true
-  known_on s p x h = r.looking.known s p x (ap (λ (g : ℕ → ℕ → FactSet → Bool). g s p x) (step_known plan old r.mid visits c call r.turns).settled ∙ h)
-
-  pub working_on : is_working old ≡ true → is_working new ≡ true
-  working_on w = ap is_working r.looking.same ∙ boundary_working r.mid (step_working plan old r.mid visits c call r.turns w)
+  known_on s p x h = looking.known s p x (ap (λ (g : ℕ → ℕ → FactSet → Bool). g s p x) (step_known plan old mid visits c call turns).settled ∙ h)
 
   pub number_on : own_number new ≡ own_number old + 2
-  number_on = ap own_number r.looking.same ∙ (boundary_number r.mid false ∙ ap (λ k. k + 2) (same_number old r.mid (step_known plan old r.mid visits c call r.turns)))
-
-  -- what the instruction adds to the run that is followed
-  pub adds_on : (m : Memory) (e : ControlView) (s : State) → visits ≡ (solo_step m s).visits → call ≡ call_of m s → e ≡ control_after c call → calls new ≤ calls old + 6 + PLACE_LIMIT → Adds m plan old r.mid c e s
-  adds_on m e s v k control few = record {
-    turns = subst (λ (x : List Visit × Option ℕ). Turns plan old r.mid x.0 c x.1) (λ i. (v i, k i)) r.turns;
-    control = control ∙ ap (control_after c) k;
-    few = let same = aside_calls r.mid new (aside_step plan old new visits c call r) in omega (arith, same, few);
-  }
-
--- the calls so far
-
-module _ (m : Memory) (plan : PlanView) (old new : Notes) (c d : ControlView) (budget : ℕ) (first : State) (i : ℕ) (now : State) (r : LedTo m plan old new c d budget first i now) where
-  pub led_calls : take i (calls_on m budget first) ≡ r.called
-  led_calls = ap (take i) r.rest ∙ take_at r.called (calls_on m (budget - i) now) i r.made.count
-
-  pub led_control : d ≡ control_by c (take i (calls_on m budget first))
-  led_control = r.made.follows.control ∙ ap (control_by c) (sym led_calls)
-
-  pub led_count : length (take i (calls_on m budget first)) ≡ i
-  led_count = ap (λ (ks : List (Option ℕ)). length ks) led_calls ∙ r.made.count
-
-  -- the instruction goes on, or ends the run
-  pub led_on : (t : State) → i < budget → has_returned now ≡ false → (solo_step m now).next ≡ On → (solo_step m now).state ≡ t → take (i + 1) (calls_on m budget first) ≡ take i (calls_on m budget first) ++ call_of m now ∷ []
-  led_on t lt here next state =
-      let whole : calls_on m budget first ≡ (r.called ++ call_of m now ∷ []) ++ calls_on m (budget - (i + 1)) t =
-      r.rest ∙ (ap (λ k. r.called ++ calls_on m k now) (left budget i lt) ∙ (ap (λ ks. r.called ++ ks) (calls_on-more m (budget - (i + 1)) now t here next state) ∙ sym (append_assoc r.called (call_of m now ∷ []) (calls_on m (budget - (i + 1)) t)))) in
-      ap (take (i + 1)) whole ∙ (take_at (r.called ++ call_of m now ∷ []) (calls_on m (budget - (i + 1)) t) (i + 1) (let size = length-append r.called (call_of m now ∷ []) in omega (arith, size, r.made.count)) ∙ ap (λ ks. ks ++ call_of m now ∷ []) (sym led_calls))
-
-  pub led_ended : (e : Ending) → i < budget → has_returned now ≡ false → (solo_step m now).next ≡ Ended e → calls_on m budget first ≡ take i (calls_on m budget first) ++ call_of m now ∷ []
-  led_ended e lt here next = r.rest ∙ (ap (λ k. r.called ++ calls_on m k now) (left budget i lt) ∙ (ap (λ ks. r.called ++ ks) (calls_on-ended m (budget - (i + 1)) now e here next) ∙ ap (λ ks. ks ++ call_of m now ∷ []) (sym led_calls)))
-
-  pub led_returned : has_returned now ≡ true → calls_on m budget first ≡ take i (calls_on m budget first)
-  led_returned here = r.rest ∙ (ap (λ ks. r.called ++ ks) (calls_on-returned m (budget - i) now here) ∙ (append-nil r.called ∙ sym led_calls))
-
-  pub led_spent : budget ≡ i → calls_on m budget first ≡ take i (calls_on m budget first)
-  led_spent all = let none : budget - i ≡ 0 = omega arith in r.rest ∙ (ap (λ k. r.called ++ calls_on m k now) none ∙ (ap (λ ks. r.called ++ ks) (calls_on-spent m now) ∙ (append-nil r.called ∙ sym led_calls)))
+  number_on = ap own_number looking.same ∙ (boundary_number mid false ∙ ap (λ k. k + 2) (same_number old mid (step_known plan old mid visits c call turns)))
 
 -- the drains behind one instruction more
 
@@ -171,40 +126,6 @@ stand_first plan n c ds ok working is = subst (StandAll plan n c [] 0) (sym is) 
 -- no drain waits before the first instruction
 pub none_begun : (plan : PlanView) (n : Notes) (c : ControlView) (ds : List DrainView) → StandAll plan n c [] 0 ds → false ≡ list_any (λ (d : DrainView). is_begun d.stage) ds
 none_begun plan n c ds stand = sym (list_any_none (λ (d : DrainView). is_begun d.stage) ds (λ i d l. ap (λ (d : DrainView). is_begun d.stage) (stand i d l).by))
-
--- one instruction more
-module _ (m : Memory) (plan : PlanView) (old mid new : Notes) (c d e : ControlView) (budget : ℕ) (first : State) (i : ℕ) (s t : State) (ds es : List DrainView)
-    (ok : IsPlan plan) (done : s.done ≡ i) (r : LedTo m plan old mid c d budget first i s) (lt : i < budget) (here : has_returned s ≡ false) (state : (solo_step m s).state ≡ t)
-    (steps : StepsOn plan mid new (solo_step m s).visits d (call_of m s)) (control : e ≡ control_after d (call_of m s)) (few : calls new ≤ calls mid + 6 + PLACE_LIMIT)
-    (stand : StandAll plan mid c (take i (calls_on m budget first)) i ds) (gone : HaveGone plan new (closed_since d.opened e.opened) (i + 1) ds es) where
-  its_adds : Adds m plan mid steps.mid d e s
-  its_adds = adds_on plan mid new (solo_step m s).visits d (call_of m s) steps m e s refl refl control few
-
-  its_aside : IsAside steps.mid new
-  its_aside = aside_step plan mid new (solo_step m s).visits d (call_of m s) steps
-
-  its_gone : HaveGone plan new (closed_since d.opened (control_after d (call_of m s)).opened) (i + 1) ds es
-  its_gone = subst (λ (x : ControlView). HaveGone plan new (closed_since d.opened x.opened) (i + 1) ds es) control gone
-
-  pub led_more : (solo_step m s).next ≡ On → LedTo m plan old new c e budget first (i + 1) t
-  led_more next = LedTo-aside m plan old steps.mid new c e budget first (i + 1) t its_aside (LedTo-more m plan old mid steps.mid c d e budget first i s t ok done r lt here next state its_adds)
-
-  pub run_ended : (ending : Ending) → (solo_step m s).next ≡ Ended ending → IsRun plan old new c e (solo_run m budget first) (calls_on m budget first) ending t budget
-  run_ended ending next = IsRun-aside plan old steps.mid new c e (solo_run m budget first) (calls_on m budget first) ending t budget its_aside (IsRun-ended m plan old mid steps.mid c d e budget first i s t ending ok done r lt here next state its_adds)
-
-  next_stand : StandAll plan new c (take i (calls_on m budget first) ++ call_of m s ∷ []) (i + 1) es
-  next_stand = stand_next plan mid new c d (take i (calls_on m budget first)) (call_of m s) i ds es (bears_on plan mid new (solo_step m s).visits d (call_of m s) steps) (known_on plan mid new (solo_step m s).visits d (call_of m s) steps)
-      (led_control m plan old mid c d budget first i s r) (led_count m plan old mid c d budget first i s r) stand its_gone
-
-  pub stand_more : (solo_step m s).next ≡ On → StandAll plan new c (take (i + 1) (calls_on m budget first)) (i + 1) es
-  stand_more next = subst (λ ks. StandAll plan new c ks (i + 1) es) (sym (led_on m plan old mid c d budget first i s r t lt here next state)) next_stand
-
-  pub stand_ended : (ending : Ending) → (solo_step m s).next ≡ Ended ending → StandAll plan new c (calls_on m budget first) (i + 1) es
-  stand_ended ending next = subst (λ ks. StandAll plan new c ks (i + 1) es) (sym (led_ended m plan old mid c d budget first i s r ending lt here next)) next_stand
-
-  pub sessions_more : map (λ (d : DrainView). d.session) es ≡ map (λ (d : DrainView). d.session) ds
-  sessions_more = sessions_next plan mid new c d (take i (calls_on m budget first)) (call_of m s) i ds es (bears_on plan mid new (solo_step m s).visits d (call_of m s) steps) (known_on plan mid new (solo_step m s).visits d (call_of m s) steps)
-      (led_control m plan old mid c d budget first i s r) (led_count m plan old mid c d budget first i s r) stand its_gone
 
 -- behind its last boundary a pass works no more
 ended_by : (b : Bool) (k : ℕ) → (b && nat_eq (k % 2) 0) ≡ true → (b && nat_eq ((k + 1) % 2) 0) ≡ false

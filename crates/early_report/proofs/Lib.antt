@@ -1,6 +1,7 @@
 pub mod ActLemmas
 pub mod EarlyLemmas
 pub mod FollowLemmas
+pub mod FollowingLemmas
 pub mod LookLemmas
 pub mod ReadLemmas
 pub mod StandLemmas

@@ -36,13 +36,13 @@ ran_aside course plan before mid after old new e a r = record {
   done = r.done;
   ending = r.ending;
   state = r.state;
-  follows = Follows-aside plan before mid after (walk_from course plan old).trace (walk_from course plan old).calls old.control new.control a r.follows;
+  follows = Follows-aside plan before mid after (walk_from course plan old).trace (walk_from course plan old).calls old.bench.control new.bench.control a r.follows;
   windows = r.windows;
   planted = record {
     plants = ap (λ (n : Notes). n.tally.plants) a.same ∙ r.planted.plants;
     closes = let c = ap (λ (n : Notes). n.tally.closes) a.same in let p = r.planted.closes in omega (arith, c, p);
   };
-  tied = tied_aside plan mid after new.control a r.tied;
+  tied = tied_aside plan mid after new.bench.control a r.tied;
   few = let c = aside_calls mid after a in let f = r.few in omega (arith, c, f);
 }
 

@@ -1,15 +1,13 @@
 -- What the instructions of a controller's run make of its drains, one by one.
 use Rattle.std.specs.Prelude.{◌≡◌, ◌⊎◌, ℕ, ◌+◌, ◌<◌, ◌≤◌, Bool, true, false, Option, Some, None, List, [], length, map, get_or}
-use Rattle.cov_base.specs.States.{Visit}
 use Rattle.cov_base.specs.declared.numbers.SessNo.{SessNo}
 use Rattle.cov_base.specs.declared.numbers.TaskNo.{TaskNo}
 use Rattle.module_area.specs.PlanView.{PlanView}
-use Rattle.module_area.specs.Control.{ControlView, places_under, sessions_of}
-use Rattle.module_area.specs.Notes.{Notes, after_boundary}
-use Rattle.svc_monitor.specs.Answered.{Turns}
+use Rattle.module_area.specs.Control.{places_under, sessions_of}
+use Rattle.module_area.specs.Notes.{Notes}
 use Rattle.task_run.specs.Windows.{is_opened}
 use Rattle.early_report.specs.DrainView.{DrainView}
-use Rattle.early_report.specs.Drains.{unused, has_controlled, controller_of, others, HasClosed, IsDrainOf, IsLooking, AreKnown}
+use Rattle.early_report.specs.Drains.{unused, has_controlled, controller_of, others, HasClosed, IsDrainOf, AreKnown}
 use Rattle.early_report.specs.declared.drains.Stage.{Stage}
 use Rattle.early_report.specs.declared.drains.Stage.TheVariants.{Unused, Begun, Drained, Taken}
 
@@ -75,12 +73,6 @@ is_begun Unused = false
 is_begun Begun = true
 is_begun Drained = false
 is_begun Taken = false
-
--- From the old to the new notes the pass has made an instruction with these visits and this call, a boundary, and looks.
-pub record StepsOn (plan : PlanView) (old new : Notes) (visits : List Visit) (c : ControlView) (call : Option ℕ) : Type 0 where
-  pub mid : Notes
-  pub turns : Turns plan old mid visits c call
-  pub looking : IsLooking (after_boundary mid false) new
 
 -- A drain behind so many instructions of which one, at that count, has closed its session: its sets were taken since, or it
 -- has waited for a task at each of them from that one on.

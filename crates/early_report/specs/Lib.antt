@@ -2,5 +2,6 @@ pub mod Acts
 pub mod DrainView
 pub mod Drains
 pub mod Followed
+pub mod Following
 pub mod Text
 pub mod Told

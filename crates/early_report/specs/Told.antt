@@ -57,5 +57,5 @@ IsTold plan (Some closing) done sets d = IsTaken plan closing done sets d ⊎ Is
 
 -- One drain for each of the task's sessions, in order, where these are the phase's sets.
 pub record HasTold (plan : PlanView) (old new : Task) (drains : List DrainView) (sets : ℕ → ℕ → FactSet) : Type 0 where
-  pub sessions : map (λ (d : DrainView). d.session) drains ≡ map (λ (s : SessNo). s.0) old.control.sessions
-  pub each : All (λ (d : DrainView). IsTold plan (closing_count old.control (walk_from solo plan old).calls d.session) new.done sets d) drains
+  pub sessions : map (λ (d : DrainView). d.session) drains ≡ map (λ (s : SessNo). s.0) old.bench.control.sessions
+  pub each : All (λ (d : DrainView). IsTold plan (closing_count old.bench.control (walk_from solo plan old).calls d.session) new.done sets d) drains

@@ -2,9 +2,10 @@
 #![tactic(auto)]
 
 mod drains;
+pub mod laws;
 mod runner;
 mod text;
 
-pub use drains::{Drain, Poll, Stage, drain_begin, drain_poll, drain_take, drains_stay, room};
+pub use drains::{Drain, Poll, Stage, drain_begin, drain_poll, drain_take, room};
 pub use runner::EarlyRunner;
 pub use text::early;

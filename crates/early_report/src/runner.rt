@@ -2,23 +2,20 @@
 ghost use Rattle.std.specs.Prelude.{◌≡◌, ℕ, ◌+◌, ◌<◌, ◌≤◌, ◌^◌, ◌*◌, true, false, map, All, IfOk};
 ghost use Rattle.std.specs.List.{list_any};
 ghost use Rattle.std.specs.declared.option.Option.TheVariants.{None};
-ghost use Rattle.cov_base.specs.declared.limits.TheConstants.{PLACE_LIMIT};
 ghost use Rattle.cov_base.specs.FactSet.{FactSet};
-ghost use Rattle.module_area.specs.Control.{control_after};
 ghost use Rattle.module_area.specs.Ended.{AreSettled};
 ghost use Rattle.module_area.specs.Notes.{bearer, calls, is_working, own_number};
 ghost use Rattle.module_area.specs.PlanView.{IsPlan};
 ghost use Rattle.module_area.specs.Tied.{IsTied};
-ghost use Rattle.s370_exec.specs.Calls.{call_of};
-ghost use Rattle.s370_exec.specs.Solo.{solo_step};
-ghost use Rattle.space_map.specs.Space.{memory_of_space};
+ghost use Rattle.observed_step.specs.Steps.{memory_at};
 ghost use Rattle.svc_monitor.specs.First.{IsOver};
 ghost use Rattle.task_run.specs.Courses.{solo};
-ghost use Rattle.task_run.specs.Ran.{RanAs, stands, walk_from};
+ghost use Rattle.task_run.specs.Ran.{RanAs, walk_from};
 ghost use Rattle.task_run.specs.Windows.{is_opened};
 ghost use Rattle.early_report.specs.DrainView.{DrainView};
 ghost use Rattle.early_report.specs.Drains.{IsDrainOf, IsLooking};
-ghost use Rattle.early_report.specs.Followed.{IsReady, IsAsked, Went, HaveGone, StepsOn, Stands, first_drains, is_begun, closed_since};
+ghost use Rattle.early_report.specs.Followed.{IsReady, IsAsked, Went, HaveGone, Stands, first_drains, is_begun, closed_since};
+ghost use Rattle.early_report.specs.Following.{following};
 ghost use Rattle.early_report.specs.Told.{HasTold, closing_count};
 ghost use Rattle.early_report.specs.declared.drains.Stage.TheVariants.{Begun};
 
@@ -26,10 +23,11 @@ use crate::drains::{Drain, Poll, Stage, drain_begin, drain_poll, drain_take, roo
 use brk_table::Tables;
 use cov_base::{NoMemory, SessNo, TaskNo};
 use module_area::{Control, Drains, Plan};
-use s370_exec::has_returned;
+use observed_step::{Bench, Hook, run};
 use s370_state::{Ending, Next};
 use std::alloc::Global;
-use svc_monitor::step;
+use std::mem;
+use svc_monitor::Planted;
 use task_run::{Runner, Task};
 
 /// Polls a begun drain; where it is drained then, takes its sets at this count. Says whether it waits for a task.
@@ -162,55 +160,42 @@ fn follow_some<C: Drains>(
     }
 }
 
-/// One instruction of the task, of which neither budget nor return address is tested, then a boundary, and what the drains of
-/// its sessions have to do behind it.
-fn step_on<C: Drains>(
-    cells: &C,
-    pass: &mut C::Pass,
-    tables: &Tables,
-    plan: &Plan,
-    drains: &mut Vec<Drain>,
-    waits: &mut bool,
-    task: &mut Task<'_>,
-) -> Next
-    requires area { C.is_pass cells.now pass.old }
-    requires plan { C.plan cells.now ≡ plan.now }
-    requires is_plan { IsPlan plan.now }
-    requires over { IsOver (C.plan cells.now) (memory_of_space task.old.space) tables.now }
-    requires room { calls (C.notes pass.old) < 2 ^ 61 }
-    requires working { is_working (C.notes pass.old) ≡ true }
-    requires number { own_number (C.notes pass.old) < 2 ^ 62 }
-    requires tied { IsTied (C.plan cells.now) (C.notes pass.old) task.old.control }
-    requires ready { All (IsReady plan.now (C.notes pass.old) None) drains.old.items }
-    requires waits { waits.old ≡ list_any (λ (d : DrainView). is_begun d.stage) drains.old.items }
-    ensures area { C.is_pass cells.now pass.new }
-    ensures tied { IsTied (C.plan cells.now) (C.notes pass.new) task.new.control }
-    ensures calls { calls (C.notes pass.new) ≤ calls (C.notes pass.old) + 6 + PLACE_LIMIT }
-    ensures control { (d : ℕ) → task.new.control ≡ control_after task.old.control (call_of (memory_of_space task.old.space) (stands task.old d)) }
-    ensures memory { memory_of_space task.new.space ≡ memory_of_space task.old.space }
-    ensures budget { task.new.budget ≡ task.old.budget }
-    ensures done { task.new.done ≡ task.old.done }
-    ensures state { (d : ℕ) → (solo_step (memory_of_space task.old.space) (stands task.old d)).state ≡ stands task.new (d + 1) }
-    ensures next { (d : ℕ) → (solo_step (memory_of_space task.old.space) (stands task.old d)).next ≡ result }
-    ensures steps { (d : ℕ) → StepsOn (C.plan cells.now) (C.notes pass.old) (C.notes pass.new) (solo_step (memory_of_space task.old.space) (stands task.old d)).visits task.old.control (call_of (memory_of_space task.old.space) (stands task.old d)) }
-    ensures gone { HaveGone plan.now (C.notes pass.new) (closed_since task.old.control.opened task.new.control.opened) task.old.done drains.old.items drains.new.items }
-    ensures waits { waits.new ≡ list_any (λ (d : DrainView). is_begun d.stage) drains.new.items }
-{
-    let opened = open_session(&task.control);
-    let next = step(
-        cells,
-        pass,
-        tables,
-        &mut task.cpu,
-        &mut task.space,
-        &mut task.io,
-        plan,
-        &mut task.control,
-    );
-    cells.boundary(pass, false);
-    let closed = closed_since(opened, open_session(&task.control));
-    *waits = follow_some(cells, pass, plan, drains, *waits, closed, task.done);
-    next
+/// Makes a boundary behind each instruction, and has the drains of the task's sessions follow it. Knows whether one of them
+/// waits for a task, and the session that was open behind the last instruction.
+#[derive(Drop)]
+struct Following {
+    drains: Vec<Drain>,
+    waits: bool,
+    opened: Option<SessNo>,
+}
+
+impl<'a, C: Drains> Hook<Planted<'a, C>> for Following {
+    ghost way = { following (λ o. o.plan.now) C.notes };
+
+    fn behind(
+        &mut self,
+        observer: &Planted<'a, C>,
+        pass: &mut C::Pass,
+        tables: &Tables,
+        bench: &mut Bench<'_>,
+        done: u32,
+        next: Next,
+    ) -> Next {
+        observer.cells.boundary(pass, false);
+        let opened = open_session(&bench.control);
+        let closed = closed_since(self.opened, opened);
+        self.waits = follow_some(
+            observer.cells,
+            pass,
+            observer.plan,
+            &mut self.drains,
+            self.waits,
+            closed,
+            done,
+        );
+        self.opened = opened;
+        next
+    }
 }
 
 /// Runs the task until it ends, as `run_task` does, with a boundary behind each instruction, and with its drains, which are
@@ -225,12 +210,12 @@ fn run_steps<C: Drains>(
 ) -> Ending
     requires area { C.is_pass cells.now pass.old }
     requires plan { C.plan cells.now ≡ plan.now }
-    requires over { IsOver (C.plan cells.now) (memory_of_space task.old.space) tables.now }
+    requires over { IsOver (C.plan cells.now) (memory_at task.old.bench) tables.now }
     requires room { calls (C.notes pass.old) < 2 ^ 60 }
     requires working { is_working (C.notes pass.old) ≡ true }
     requires fresh { task.old.done ≡ 0 }
-    requires tied { IsTied (C.plan cells.now) (C.notes pass.old) task.old.control }
-    requires first { (task.old.control.next ≡ 0) × (task.old.control.opened ≡ None) }
+    requires tied { IsTied (C.plan cells.now) (C.notes pass.old) task.old.bench.control }
+    requires first { (task.old.bench.control.next ≡ 0) × (task.old.bench.control.opened ≡ None) }
     requires number { own_number (C.notes pass.old) ≡ 0 }
     requires unused { drains.old.items ≡ first_drains plan.now (bearer (C.notes pass.old)) }
     ensures area { C.is_pass cells.now pass.new }
@@ -239,26 +224,28 @@ fn run_steps<C: Drains>(
     ensures working { is_working (C.notes pass.new) ≡ true }
     ensures number { own_number (C.notes pass.new) < 2 ^ 62 }
     ensures sessions { map (λ (d : DrainView). d.session) drains.new.items ≡ map (λ (d : DrainView). d.session) drains.old.items }
-    ensures stand { All (λ (d : DrainView). Stands plan.now (C.notes pass.new) (closing_count task.old.control (walk_from solo plan.now task.old).calls d.session) task.new.done d) drains.new.items }
+    ensures stand { All (λ (d : DrainView). Stands plan.now (C.notes pass.new) (closing_count task.old.bench.control (walk_from solo plan.now task.old).calls d.session) task.new.done d) drains.new.items }
 {
     // Read for what every plan keeps.
     let _ = plan.places_len();
-    let budget = task.budget;
-    let mut waits = false;
-    for done in 0..budget {
-        if has_returned(&task.cpu) {
-            return Ending::Returned;
-        }
-        task.done = done + 1;
-        if let Next::Ended(e) = step_on(cells, pass, tables, plan, drains, &mut waits, task) {
-            return e;
-        }
-    }
-    if has_returned(&task.cpu) {
-        Ending::Returned
-    } else {
-        Ending::Spent
-    }
+    let marks = Planted { cells, plan };
+    let none = Vec::new(*drains.allocator());
+    let mut hook = Following {
+        drains: mem::replace(drains, none),
+        waits: false,
+        opened: open_session(&task.bench.control),
+    };
+    let end = run(
+        &marks,
+        pass,
+        tables,
+        &mut hook,
+        &mut task.bench,
+        task.budget,
+    );
+    *drains = hook.drains;
+    task.done = end.done;
+    end.ending
 }
 
 /// Runs the task until it ends, as `run_task` does, with its drains; then a last boundary tells that the task has ended.
@@ -272,12 +259,12 @@ fn run_early<C: Drains>(
 ) -> Ending
     requires area { C.is_pass cells.now pass.old }
     requires plan { C.plan cells.now ≡ plan.now }
-    requires over { IsOver (C.plan cells.now) (memory_of_space task.old.space) tables.now }
+    requires over { IsOver (C.plan cells.now) (memory_at task.old.bench) tables.now }
     requires room { calls (C.notes pass.old) < 2 ^ 60 }
     requires working { is_working (C.notes pass.old) ≡ true }
     requires fresh { task.old.done ≡ 0 }
-    requires tied { IsTied (C.plan cells.now) (C.notes pass.old) task.old.control }
-    requires first { (task.old.control.next ≡ 0) × (task.old.control.opened ≡ None) }
+    requires tied { IsTied (C.plan cells.now) (C.notes pass.old) task.old.bench.control }
+    requires first { (task.old.bench.control.next ≡ 0) × (task.old.bench.control.opened ≡ None) }
     requires number { own_number (C.notes pass.old) ≡ 0 }
     requires unused { drains.old.items ≡ first_drains plan.now (bearer (C.notes pass.old)) }
     ensures area { C.is_pass cells.now pass.new }

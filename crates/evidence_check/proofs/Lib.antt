@@ -5,7 +5,6 @@ pub mod CountLemmas
 pub mod EntryLemmas
 pub mod FactLemmas
 pub mod FieldLemmas
-pub mod NoteLemmas
 pub mod PhaseLemmas
 pub mod VerifiedLemmas
 pub mod VisitLemmas

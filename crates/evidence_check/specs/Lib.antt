@@ -3,6 +3,6 @@ pub mod Evidence
 pub mod Fields
 pub mod Firsts
 pub mod Found
-pub mod Noted
+pub mod Noting
 pub mod Proved
 pub mod Verified

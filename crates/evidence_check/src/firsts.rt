@@ -1,15 +1,18 @@
 //! The first visits that show the facts of each place.
-ghost use Rattle.std.specs.Prelude.{◌≡◌, ◌≢◌, ℕ, ◌<◌, ◌∷◌, [], if◌then◌else◌, length, Some, None};
+ghost use Rattle.std.specs.Prelude.{◌≡◌, ◌≢◌, ℕ, ◌<◌, if◌then◌else◌, length, Some, None};
 ghost use Rattle.std.specs.Option.{option_or};
 ghost use Rattle.cov_base.specs.Facts.{same_fact, fact_of};
 ghost use Rattle.cov_base.specs.declared.facts.Fact.{Fact as AnyFact};
 ghost use Rattle.module_area.specs.PlanView.{place_of};
-ghost use Rattle.evidence_check.specs.Found.{found_of, found_at, none_found, Notes};
-ghost use Rattle.task_alone.specs.Seen.{visit_of, visits_of};
+ghost use Rattle.evidence_check.specs.Found.{found_of, found_at, none_found};
 
 use brk_table::Tables;
 use cov_base::{Fact, PlaceNo};
-use task_alone::{Seen, Visits};
+use module_area::Control;
+use observed_step::{Observer, Sight};
+use s370_branch::outcome;
+use s370_decode::Code;
+use s370_state::Cpu;
 
 /// A visit: the index of its task in the job, the instructions that the task had done before, and whether it is of the
 /// subject of an EX.
@@ -75,40 +78,57 @@ fn note_at(tables: &Tables, found: &mut [Found], place: PlaceNo, went: bool, fir
     found[place.0 as usize] = here;
 }
 
-/// Notes a visit of task t after so many instructions.
-fn note_visit(tables: &Tables, found: &mut [Found], t: u16, done: u32, v: Seen, subject: bool)
-    requires size { length found.old ≡ length tables.now.places }
-    ensures { Notes tables.now.places t (visit_of done subject v ∷ []) found.old found.new }
-{
-    if !v.begun {
-        return;
-    }
-    match tables.at(v.at) {
-        Some(place) => {
-            // the proof reads off the number of places that they differ in address
-            let _ = tables.len();
-            let first = First {
-                task: t,
-                before: done,
-                subject,
-            };
-            note_at(tables, found, place, v.went, first);
-        }
-        None => {}
-    }
+/// Notes the first visits of one task: its pass has for each place those that were found so far, also of other tasks.
+#[derive(Clone, Copy)]
+pub(crate) struct FirstVisits {
+    // the task's index in the job
+    pub(crate) task: u16,
 }
 
-/// Notes what an instruction of task t has visited after so many.
-pub(crate) fn note_visits(tables: &Tables, found: &mut [Found], t: u16, done: u32, visits: Visits)
-    requires size { length found.old ≡ length tables.now.places }
-    ensures { Notes tables.now.places t (visits_of done visits) found.old found.new }
-{
-    match visits {
-        Visits::Nothing => {}
-        Visits::One(v) => note_visit(tables, found, t, done, v, false),
-        Visits::Two(v, w) => {
-            note_visit(tables, found, t, done, v, false);
-            note_visit(tables, found, t, done, w, true);
+impl Observer for FirstVisits {
+    type Pass = Vec<Found>;
+
+    ghost use Rattle.std.specs.Prelude.{◌≡◌, length, refl};
+    ghost use Rattle.evidence_check.specs.Found.{Notes};
+    ghost use Rattle.evidence_check.specs.Noting.{notes_none, notes_more};
+
+    ghost IsReady = { λ visits tables found done shown. length found.items ≡ length tables.places };
+
+    ghost IsTied = { λ visits found control. Unit {0} };
+
+    ghost Makes = { λ visits tables found vs new. Notes tables.places visits.task vs found.items new.items };
+
+    ghost Answers = { λ visits found control call new after. (new ≡ found) × (after ≡ control) };
+
+    fn begun(&self, found: &mut Vec<Found>, tables: &Tables, cpu: &Cpu, code: &Code, sight: Sight) {
+        if let Some(place) = sight.place {
+            let first = First {
+                task: self.task,
+                before: sight.done,
+                subject: sight.subject,
+            };
+            note_at(tables, found, place, outcome(cpu, code), first);
         }
     }
+
+    fn refused(&self, found: &mut Vec<Found>, tables: &Tables, sight: Sight) {}
+
+    fn called(
+        &self,
+        found: &mut Vec<Found>,
+        tables: &Tables,
+        control: &mut Control,
+        done: u32,
+        half: u16,
+    ) {}
+
+    ghost later = { λ visits tables found done shown ready. ready };
+
+    ghost next = { λ visits tables found done ready. ready };
+
+    ghost none = { λ visits tables found. notes_none tables.places visits.task found.items };
+
+    ghost no_call = { λ visits found control. (refl, refl) };
+
+    ghost both = { λ visits tables old mid new vs ws. notes_more tables.places visits.task vs ws old.items mid.items new.items };
 }

@@ -1,9 +1,9 @@
 //! Evidence from one run of each task.
-ghost use Rattle.std.specs.Prelude.{◌≡◌, ℕ, ◌<◌, ◌≤◌, length, is_some, All, OnOk, IfErr, None};
+ghost use Rattle.std.specs.Prelude.{◌≡◌, ℕ, ◌<◌, ◌≤◌, length, is_some, OnOk, IfErr, None};
 ghost use Rattle.std.specs.Io.KnownBytes.{Appends};
 ghost use Rattle.cov_base.specs.Facts.{has_fact};
 ghost use Rattle.cov_base.specs.declared.facts.Fact.{Fact as AnyFact};
-ghost use Rattle.brk_table.specs.Places.{IsIn};
+ghost use Rattle.brk_table.specs.Kept.{AreCodes};
 ghost use Rattle.session_book.specs.Sessions.{session_of};
 ghost use Rattle.evidence_check.specs.Evidence.{evidence};
 ghost use Rattle.evidence_check.specs.Firsts.{session_first, session_facts};
@@ -41,7 +41,7 @@ pub fn prove<K: Sink>(
     requires from { 0 < s.0 }
     requires to { s.0 ≤ length job.now.sessions }
     requires whole { (session_of job.now s.0).by ≡ None }
-    requires tables { All (IsIn job.now.images) tables.now.places }
+    requires tables { AreCodes job.now.images tables.now }
     ensures whole { OnOk result (Appends (K.written sink.old) (K.written sink.new) (evidence job.now tables.now s.0)) }
     ensures fault { IfErr result (IsProveFault K.written K.faults sink.old sink.new (evidence job.now tables.now s.0)) }
     ensures later { K.faults sink.old ≤ K.faults sink.new }

@@ -1,6 +1,6 @@
 //! Marks and evidence checked by another run of each task.
-ghost use Rattle.std.specs.Prelude.{◌≡◌, ◌<◌, ◌≤◌, length, All, OnOk, IfOk, IfErr, None};
-ghost use Rattle.brk_table.specs.Places.{IsIn};
+ghost use Rattle.std.specs.Prelude.{◌≡◌, ◌<◌, ◌≤◌, length, OnOk, IfOk, IfErr, None};
+ghost use Rattle.brk_table.specs.Kept.{AreCodes};
 ghost use Rattle.session_book.specs.Sessions.{session_of};
 ghost use Rattle.session_marks.specs.FromFile.{IsOwn};
 ghost use Rattle.evidence_check.specs.Claims.{facts_of_modules};
@@ -44,7 +44,7 @@ pub fn verify(
     requires from { 0 < s.0 }
     requires to { s.0 ≤ length job.now.sessions }
     requires whole { (session_of job.now s.0).by ≡ None }
-    requires tables { All (IsIn job.now.images) tables.now.places }
+    requires tables { AreCodes job.now.images tables.now }
     requires own { IsOwn job.now tables.now s.0 marks.now.modules }
     ensures facts { IfOk result (λ n. n ≡ facts_of_modules marks.now.modules) }
     ensures verified { OnOk result (IsVerified job.now tables.now s.0 marks.now.modules evidence.now) }

@@ -1,6 +1,6 @@
 //! A loop of two instructions, of which three visits give three facts: its evidence, other evidence, and other marks.
 ghost use Rattle.std.specs.Prelude.{◌≡◌, ◌+◌, ◌≤◌, ◌∷◌, [], None, Some, length, All, IfOk};
-ghost use Rattle.brk_table.specs.Places.{IsIn, all_places};
+ghost use Rattle.brk_table.specs.Kept.{AreCodes};
 ghost use Rattle.cov_base.specs.Names.{padded};
 ghost use Rattle.session_book.specs.Sessions.{session_of};
 ghost use Rattle.session_marks.specs.Sample.{sample_images, sample_tables};
@@ -193,9 +193,10 @@ fn two_lines(alloc: Global) -> Result<LinePlaces, Fail>
 }
 
 /// The tables of M and O.
-fn tables(alloc: Global) -> Result<Tables, Fail>
+fn tables(alloc: Global, images: &Images) -> Result<Tables, Fail>
+    requires { images.now ≡ sample_images }
     ensures tables { IfOk result (λ t. t.tables ≡ sample_tables) }
-    ensures places { IfOk result (λ t. t.places ≡ all_places sample_tables) }
+    ensures codes { IfOk result (AreCodes images.now) }
 {
     let loops = place(0, 0x100000, 4, Kind::Conditional, 0x4610);
     let returns = place(0, 0x100004, 2, Kind::Straight, 0x07FE);
@@ -211,7 +212,7 @@ fn tables(alloc: Global) -> Result<Tables, Fail>
         places: vec![in alloc; loads, ends]?,
         lines: two_lines(alloc)?,
     };
-    Ok(Tables::of(alloc, vec![in alloc; m, o]?)?)
+    Ok(Tables::over(alloc, vec![in alloc; m, o]?, images)?)
 }
 
 /// What `prove` answers over a sink that fails at these calls, and what that has taken.
@@ -221,7 +222,7 @@ fn proved(
     fail: Vec<u64>,
 ) -> Result<(Result<(), ProveFault>, Vec<u8>), Fail> {
     let job = job(alloc, executes)?;
-    let tables = tables(alloc)?;
+    let tables = tables(alloc, &job.images)?;
     let mut sink = MemSink::new(alloc, 64, 64, fail).map_err(|_| "memory")?;
     let answer = prove(alloc, &mut sink, &job, &tables, SessNo(1));
     Ok((answer, sink.bytes().to_vec(alloc)?))
@@ -234,7 +235,7 @@ fn checked(
     evidence: &[u8],
 ) -> Result<Result<u32, VerifyFault>, Fail> {
     let job = job(alloc, false)?;
-    let tables = tables(alloc)?;
+    let tables = tables(alloc, &job.images)?;
     match file_sets(alloc, &job, &tables, SessNo(1), marks) {
         Ok(_sets) => Ok(verify(alloc, &job, &tables, SessNo(1), marks, evidence)),
         Err(_) => Err("another table".into()),

@@ -14,7 +14,7 @@ use Rattle.module_area.proofs.TiedLemmas.{first_tied}
 use Rattle.brk_table.specs.Kept.{AreCodes, AreKept}
 use Rattle.brk_table.specs.Places.{TablesView, AreSeen}
 use Rattle.space_map.proofs.Kept.{are_kept}
-use Rattle.space_map.specs.Space.{memory_of_space}
+use Rattle.observed_step.specs.Steps.{memory_at}
 use Rattle.svc_monitor.specs.First.{IsOver}
 use Rattle.svc_monitor.specs.Observed.{Observes}
 use Rattle.task_run.specs.Called.{Follows, HasWindows, HasPlanted}
@@ -137,7 +137,7 @@ AreSplit-other is_pass notes plan root j phase next old mid h a = record {
 
 can_run : {P E : Type 0} (is_pass : P → Type 0) (notes : P → Notes) (begins : Begins E) (root : Notes) (t : ℕ) (plan : PlanView) (j : JobView) (tables : TablesView) (s : Slot P E) →
     IsPlan plan → plan ≡ plan_view j tables.places (task_of j t).phase → ((p : ℕ) → is_controller plan t p ≡ true → root.last p ≡ 0) →
-    HasPass (IsFresh is_pass notes plan root t) s → HasStart begins plan j tables.places t s → IsOver plan (memory_of_space s.done.task.space) tables → CanRun is_pass notes begins plan tables s
+    HasPass (IsFresh is_pass notes plan root t) s → HasStart begins plan j tables.places t s → IsOver plan (memory_at s.done.task.bench) tables → CanRun is_pass notes begins plan tables s
 can_run is_pass notes begins root t plan j tables s is of none h start over = record {
   area = rw h.has h.holds.area;
   room = rw h.has few;
@@ -158,10 +158,10 @@ can_run is_pass notes begins root t plan j tables s is of none h start over = re
     working : is_working (notes h.pass) ≡ true
     working = ap is_working fresh
 
-    first : s.done.task.control ≡ first_control plan t
+    first : s.done.task.bench.control ≡ first_control plan t
     first = start.task.control ∙ ap (λ (q : PlanView). first_control q t) (sym of)
 
-    tied : IsTied plan (notes h.pass) s.done.task.control
+    tied : IsTied plan (notes h.pass) s.done.task.bench.control
     tied = subst (λ (c : ControlView). IsTied plan (notes h.pass) c) (sym first) (subst (λ (n : Notes). IsTied plan n (first_control plan t)) (sym fresh) (first_tied plan root t is none))
 
     may : MayBegin begins plan (notes h.pass) s
@@ -176,7 +176,7 @@ need_not is_pass notes begins plan tables s h = record { area = rw h tt; room = 
 
 -- a task that has not run is over the plan of the tables, which have the instructions of the job's modules
 pub is_over_begun : (plan : PlanView) (j : JobView) (tables : TablesView) (t : ℕ) (d : Done) → plan.places ≡ tables.places → IsJob j → AreCodes j.images tables → t < length j.tasks → HasNotRun j tables.places t d →
-    IsOver plan (memory_of_space d.task.space) tables
+    IsOver plan (memory_at d.task.bench) tables
 is_over_begun plan j tables t d of job are l b = record {
   same = of;
   seen = subst (λ (m : Memory). AreSeen m tables.places) (sym b.begun.memory) b.begun.seen;
@@ -236,21 +236,21 @@ seen_by course is_pass notes root plan j places t before after p d e is of none 
     let split : Notes = split_notes plan root t in
     let walks : ℕ → Walk = walk_by course j places in
     let walked : walk_from course plan d.task ≡ walks t = begun_walk course plan j places t d of start.begun in
-    let first : d.task.control ≡ first_control plan t = start.control ∙ ap (λ (q : PlanView). first_control q t) (sym of) in
-    let follows : Follows plan split after (walks t).trace (walks t).calls (first_control plan t) e.task.control =
-    subst (λ (n : Notes). Follows plan n after (walks t).trace (walks t).calls (first_control plan t) e.task.control) fresh
-    (subst (λ (w : Walk). Follows plan before after w.trace w.calls (first_control plan t) e.task.control) walked
-    (subst (λ (c : ControlView). Follows plan before after (walk_from course plan d.task).trace (walk_from course plan d.task).calls c e.task.control) first r.ran.follows)) in
+    let first : d.task.bench.control ≡ first_control plan t = start.control ∙ ap (λ (q : PlanView). first_control q t) (sym of) in
+    let follows : Follows plan split after (walks t).trace (walks t).calls (first_control plan t) e.task.bench.control =
+    subst (λ (n : Notes). Follows plan n after (walks t).trace (walks t).calls (first_control plan t) e.task.bench.control) fresh
+    (subst (λ (w : Walk). Follows plan before after w.trace w.calls (first_control plan t) e.task.bench.control) walked
+    (subst (λ (c : ControlView). Follows plan before after (walk_from course plan d.task).trace (walk_from course plan d.task).calls c e.task.bench.control) first r.ran.follows)) in
     let windows : HasWindows plan split (first_control plan t) (walks t).calls =
     subst (λ (n : Notes). HasWindows plan n (first_control plan t) (walks t).calls) fresh
     (subst (λ (w : Walk). HasWindows plan before (first_control plan t) w.calls) walked
     (subst (λ (c : ControlView). HasWindows plan before c (walk_from course plan d.task).calls) first r.ran.windows)) in
-    let planted : HasPlanted plan split after e.task.control = subst (λ (n : Notes). HasPlanted plan n after e.task.control) fresh r.ran.planted in
+    let planted : HasPlanted plan split after e.task.bench.control = subst (λ (n : Notes). HasPlanted plan n after e.task.bench.control) fresh r.ran.planted in
     let few : calls after < 2 ^ 42 = run_few course plan before after j places t d e task start.begun r (ap (λ (n : Notes). calls n) fresh) in
     record {
       area = area;
       observes = subst (λ (n : Notes). Observes plan split n (walks t).trace) (sym at) follows.observes;
-      leaves = subst (λ (n : Notes). Leaves plan walks t n) (sym at) (leaves plan walks t root after e.task.control is (first_tied plan root t is none) follows windows planted r.ran.tied few);
+      leaves = subst (λ (n : Notes). Leaves plan walks t n) (sym at) (leaves plan walks t root after e.task.bench.control is (first_tied plan root t is none) follows windows planted r.ran.tied few);
     }
 
 has_seen : {P E : Type 0} (course : Course) (is_pass : P → Type 0) (notes : P → Notes) (begins : Begins E) (ends : Ends E) (root : Notes) (plan : PlanView) (j : JobView) (places : List Place) (t : ℕ) (old new : Slot P E) → IsPlan plan →
@@ -310,7 +310,9 @@ pub AreRun-after : {P E : Type 0} (course : Course) (is_pass : P → Type 0) (no
     plan ≡ plan_view j places phase → AreSplit is_pass notes plan root j phase (length j.tasks) old mid → AreRun course j places phase old → AreEquipped begins plan j places phase (length j.tasks) old →
     length new ≡ length mid → ((t : ℕ) (d : Slot P E) → t < length mid → RunsSlot course is_pass notes ends plan (get_or mid t d) (get_or new t d) (get_or mid t d).pass) →
     AreRun course j places (phase + 1) new
-AreRun-after course is_pass notes begins ends root plan j places phase old mid new of a r q same runs = AreRun-next course j places phase old new r
+AreRun-after course is_pass notes begins ends root plan j places phase old mid new of a r q same runs =
+    let keeps = others_stand course is_pass notes ends root plan j phase old mid new a same runs in
+    AreRun-next course j places phase old new r keeps.count
     (λ t d l h. run_ended course is_pass notes begins ends root plan j places t (get_or mid t d) (get_or new t d) (plan_here plan j places phase t of h) (a.some t d l (omega (arith, l, r.count)) h)
     (start_at is_pass notes begins plan root j places phase old mid t d a q l (omega (arith, l, r.count)) h) (runs t d (omega (arith, l, a.count))))
-    (others_stand course is_pass notes ends root plan j phase old mid new a same runs)
+    keeps.done

@@ -17,7 +17,8 @@ use Rattle.module_area.specs.PlanView.{PlanView}
 use Rattle.module_area.specs.declared.places.Place.{Place}
 use Rattle.brk_table.specs.Places.{memory_of}
 use Rattle.task_run.specs.Courses.{Course, walk}
-use Rattle.task_run.specs.Ran.{run_from, walk_from, stands}
+use Rattle.task_run.specs.Ran.{run_from, walk_from}
+use Rattle.observed_step.specs.Steps.{stands}
 use Rattle.session_book.specs.JobView.{JobView, IsJob, IsTask}
 use Rattle.session_book.specs.Results.{ResultView}
 use Rattle.session_book.specs.Sessions.{task_of, no_task, plan_view}
@@ -70,8 +71,8 @@ still_filled s s' e = sym (private_of (length s.bytes) s.images s.places) ∙ ap
 pub has_ended : (course : Course) (plan : PlanView) (before after : Notes) (j : JobView) (places : List Place) (t : ℕ) (d e : Done) → plan ≡ plan_view j places (task_of j t).phase → HasNotRun j places t d →
     Runs course plan before after d e → IsEnded course j places t e
 has_ended course plan before after j places t d e of b r = record {
-  result = same_result (run_from course plan d.task) (stands e.task e.task.done) e.ending r.ending r.is r.ran.state r.ran.ending ∙ ap result_of_run (begun_run course plan j places t d of b);
-  filled = still_filled e.task.space d.task.space r.ran.memory ∙ (ap (λ (m : Memory). m.private) b.begun.memory ∙ private_of (task_of j t).private j.images places);
+  result = same_result (run_from course plan d.task) (stands e.task.bench e.task.done) e.ending r.ending r.is r.ran.state r.ran.ending ∙ ap result_of_run (begun_run course plan j places t d of b);
+  filled = still_filled e.task.bench.space d.task.bench.space r.ran.memory ∙ (ap (λ (m : Memory). m.private) b.begun.memory ∙ private_of (task_of j t).private j.images places);
 }
 
 -- its calls of the area are few
@@ -112,20 +113,21 @@ extra_same ends j places sets t s s' done extra h = record {
 
 -- the tasks of this phase have run, and no other has changed
 pub AreRun-next : {P E : Type 0} (course : Course) (j : JobView) (places : List Place) (phase : ℕ) (old new : List (Slot P E)) → AreRun course j places phase old →
-    ((t : ℕ) (d : Slot P E) → t < length old → in_phase j phase t ≡ true → IsEnded course j places t (get_or new t d).done) → KeepsOthers j phase old new → AreRun course j places (phase + 1) new
-AreRun-next course j places phase old new a ended keeps = record {
-  count = keeps.count ∙ a.count;
-  ended = λ t d l h. is_ended t d (omega (arith, l, keeps.count)) h (in_phase j phase t) refl;
-  begun = λ t d l h. is_begun t d (omega (arith, l, keeps.count)) h (in_phase j phase t) refl;
+    length new ≡ length old → ((t : ℕ) (d : Slot P E) → t < length old → in_phase j phase t ≡ true → IsEnded course j places t (get_or new t d).done) →
+    ((t : ℕ) (d : Slot P E) → t < length old → in_phase j phase t ≡ false → (get_or new t d).done ≡ (get_or old t d).done) → AreRun course j places (phase + 1) new
+AreRun-next course j places phase old new a same ended kept = record {
+  count = same ∙ a.count;
+  ended = λ t d l h. is_ended t d (omega (arith, l, same)) h (in_phase j phase t) refl;
+  begun = λ t d l h. is_begun t d (omega (arith, l, same)) h (in_phase j phase t) refl;
 }
   where
     is_ended : (t : ℕ) (d : Slot _ _) → t < length old → has_run j (phase + 1) t ≡ true → (b : Bool) → in_phase j phase t ≡ b → IsEnded course j places t (get_or new t d).done
     is_ended t d l h true e = ended t d l e
-    is_ended t d l h false e = subst (λ (x : Done). IsEnded course j places t x) (sym (keeps.done t d l e)) (a.ended t d l (earlier_or (task_of j t).phase phase e ∙ h))
+    is_ended t d l h false e = subst (λ (x : Done). IsEnded course j places t x) (sym (kept t d l e)) (a.ended t d l (earlier_or (task_of j t).phase phase e ∙ h))
 
     is_begun : (t : ℕ) (d : Slot _ _) → t < length old → has_run j (phase + 1) t ≡ false → (b : Bool) → in_phase j phase t ≡ b → HasNotRun j places t (get_or new t d).done
     is_begun t d l h true e = absurd (not_next (task_of j t).phase phase e h)
-    is_begun t d l h false e = subst (λ (x : Done). HasNotRun j places t x) (sym (keeps.done t d l e)) (a.begun t d l (earlier_or (task_of j t).phase phase e ∙ h))
+    is_begun t d l h false e = subst (λ (x : Done). HasNotRun j places t x) (sym (kept t d l e)) (a.begun t d l (earlier_or (task_of j t).phase phase e ∙ h))
 
 -- only passes were given or taken
 pub AreRun-same : {P E : Type 0} (course : Course) (j : JobView) (places : List Place) (phase : ℕ) (old new : List (Slot P E)) → AreRun course j places phase old → length new ≡ length old →
@@ -143,12 +145,14 @@ pub no_done : Done
 no_done = record {
   ending = None;
   task = record {
-    cpu = record { regs = []; ia = 0; condition = 0; mask = 0 };
-    space = record { bytes = []; images = []; places = [] };
-    io = record { input = []; taken = 0; output = []; room = 0 };
+    bench = record {
+      cpu = record { regs = []; ia = 0; condition = 0; mask = 0 };
+      space = record { bytes = []; images = []; places = [] };
+      io = record { input = []; taken = 0; output = []; room = 0 };
+      control = record { sessions = []; next = 0; opened = None };
+    };
     done = 0;
     budget = 0;
-    control = record { sessions = []; next = 0; opened = None };
   };
 }
 

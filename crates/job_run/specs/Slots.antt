@@ -10,7 +10,7 @@ use Rattle.module_area.specs.PlanView.{PlanView}
 use Rattle.module_area.specs.Tied.{IsTied}
 use Rattle.module_area.specs.declared.places.Place.{Place}
 use Rattle.brk_table.specs.Places.{TablesView}
-use Rattle.space_map.specs.Space.{memory_of_space}
+use Rattle.observed_step.specs.Steps.{memory_at}
 use Rattle.svc_monitor.specs.First.{IsOver}
 use Rattle.svc_monitor.specs.Observed.{Observes}
 use Rattle.task_run.specs.Courses.{Course, Walk}
@@ -96,10 +96,10 @@ pub record CanRun {P E : Type 0} (is_pass : P → Type 0) (notes : P → Notes) 
   pub area : IfSome s.pass is_pass
   pub room : IfSome s.pass (λ p. calls (notes p) < 2 ^ 60)
   pub working : IfSome s.pass (λ p. is_working (notes p) ≡ true)
-  pub over : IfSome s.pass (λ _. IsOver plan (memory_of_space s.done.task.space) tables)
+  pub over : IfSome s.pass (λ _. IsOver plan (memory_at s.done.task.bench) tables)
   pub fresh : IfSome s.pass (λ _. s.done.task.done ≡ 0)
-  pub tied : IfSome s.pass (λ p. IsTied plan (notes p) s.done.task.control)
-  pub first : IfSome s.pass (λ _. (s.done.task.control.next ≡ 0) × (s.done.task.control.opened ≡ None))
+  pub tied : IfSome s.pass (λ p. IsTied plan (notes p) s.done.task.bench.control)
+  pub first : IfSome s.pass (λ _. (s.done.task.bench.control.next ≡ 0) × (s.done.task.bench.control.opened ≡ None))
   pub extra : IfSome s.pass (λ p. MayBegin begins plan (notes p) s)
 
 -- the task has run along the course to its ending

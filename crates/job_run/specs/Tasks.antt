@@ -22,9 +22,9 @@ abbrev pub done_result : Done → ResultView
 done_result d = record {
   ending = d.ending;
   done = d.task.done;
-  cpu = d.task.cpu;
-  output = d.task.io.output;
-  bytes = d.task.space.bytes;
+  cpu = d.task.bench.cpu;
+  output = d.task.bench.io.output;
+  bytes = d.task.bench.space.bytes;
 }
 
 abbrev pub no_result : ResultView
@@ -40,19 +40,19 @@ own_run course plan d = run_from course plan d.task
 -- task t as its card says, not run yet
 pub record HasNotRun (j : JobView) (places : List Place) (t : ℕ) (d : Done) : Type 0 where
   pub ending : d.ending ≡ None
-  pub begun : IsBegun j places t (record { cpu = d.task.cpu; space = d.task.space; io = d.task.io })
+  pub begun : IsBegun j places t (record { cpu = d.task.bench.cpu; space = d.task.bench.space; io = d.task.bench.io })
   pub budget : d.task.budget ≡ (task_of j t).budget
   pub done : d.task.done ≡ 0
 
 -- and it has the sessions of its phase that it controls, of which it has opened none
 pub record IsEquipped (j : JobView) (places : List Place) (t : ℕ) (d : Done) : Type 0 where
   pub begun : HasNotRun j places t d
-  pub control : d.task.control ≡ first_control (plan_view j places (task_of j t).phase) t
+  pub control : d.task.bench.control ≡ first_control (plan_view j places (task_of j t).phase) t
 
 -- task t after its run
 pub record IsEnded (course : Course) (j : JobView) (places : List Place) (t : ℕ) (d : Done) : Type 0 where
   pub result : done_result d ≡ result_by course j places t
-  pub filled : length d.task.space.bytes ≡ (task_of j t).private
+  pub filled : length d.task.bench.space.bytes ≡ (task_of j t).private
 
 -- what a runner's extra is to a task with which it may begin, and what it tells after the run, for which sets
 abbrev pub Begins : Type 0 → Type 1

@@ -8,5 +8,5 @@ mod threads;
 
 pub use outcome::{Done, Outcome, Sets};
 pub use phase::{run_job, run_job_with};
-pub use slots::{is_of, new_task};
+pub use slots::{Slot, give, is_of, make_slots, take, tasks_of};
 pub use threads::range_of;

@@ -109,16 +109,15 @@ impl<'a> Results for Outcome<'a> {
     }
 
     fn cpu(&self, t: TaskNo) -> &Cpu {
-        &self.tasks[t.0 as usize].task.cpu
+        &self.tasks[t.0 as usize].task.bench.cpu
     }
 
     fn output(&self, t: TaskNo) -> &[u8] {
-        self.tasks[t.0 as usize].task.io.output()
+        self.tasks[t.0 as usize].task.bench.io.output()
     }
 
     fn row(&self, t: TaskNo, n: u32) -> &[u8] {
-        let space = &self.tasks[t.0 as usize].task.space;
-        let _ = space.size();
+        let space = &self.tasks[t.0 as usize].task.bench.space;
         space.row(n)
     }
 }

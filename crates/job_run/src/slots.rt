@@ -10,6 +10,7 @@ use crate::outcome::Done;
 use brk_table::Tables;
 use cov_base::NoMemory;
 use module_area::Control;
+use observed_step::Bench;
 use session_book::{Begun, Job, begin};
 use std::alloc::Global;
 use task_run::Task;
@@ -45,16 +46,18 @@ pub fn new_task<'a>(
 {
     let Begun { cpu, space, io } = begin(alloc, job, tables, t)?;
     let task = Task {
-        cpu,
-        space,
-        io,
+        bench: Bench {
+            cpu,
+            space,
+            io,
+            control: Control {
+                sessions: Vec::new(alloc),
+                next: 0,
+                opened: None,
+            },
+        },
         done: 0,
         budget: job.card(t).budget,
-        control: Control {
-            sessions: Vec::new(alloc),
-            next: 0,
-            opened: None,
-        },
     };
     Ok(Done { ending: None, task })
 }
@@ -85,12 +88,12 @@ pub fn make_slots<'a, P: Drop, E: Drop>(
 
 /// Gives the slot's task its sessions, and the slot what its runner keeps of the task.
 pub fn equip<'a, P: Drop, E: Drop>(slot: &mut Slot<'a, P, E>, control: Control, extra: E)
-    ensures control { slot.new.done.task.control ≡ control }
+    ensures control { slot.new.done.task.bench.control ≡ control }
     ensures begun { (j : _) (places : _) (t : _) → HasNotRun j places t slot.old.done → HasNotRun j places t slot.new.done }
     ensures extra { slot.new.extra ≡ Some extra }
     ensures pass { slot.new.pass ≡ slot.old.pass }
 {
-    slot.done.task.control = control;
+    slot.done.task.bench.control = control;
     slot.extra = Some(extra);
 }
 
@@ -104,7 +107,7 @@ pub fn give<'a, P: Drop, E: Drop>(slot: &mut Slot<'a, P, E>, pass: P)
 }
 
 /// Takes the pass out of the slot.
-fn take<'a, P: Drop, E: Drop>(slot: &mut Slot<'a, P, E>) -> Option<P>
+pub fn take<'a, P: Drop, E: Drop>(slot: &mut Slot<'a, P, E>) -> Option<P>
     ensures pass { result ≡ slot.old.pass }
     ensures rest { slot.new ≡ record slot.old { pass = None } }
 {
@@ -134,6 +137,29 @@ fn taken_apart<'a, P: Drop, E: Drop>(slot: Slot<'a, P, E>) -> (Done<'a>, E)
     } = slot;
     let Some(extra) = extra else { unreachable!() };
     (done, extra)
+}
+
+/// The tasks of the slots, moved into a list that has room for them.
+pub fn tasks_of<'a, P: Drop, E: Drop>(
+    slots: Vec<Slot<'a, P, E>>,
+    mut ended: Vec<Done<'a>>,
+) -> Vec<Done<'a>>
+    requires empty { ended.items ≡ [] }
+    requires room { length slots.items ≤ vec_capacity ended }
+    ensures { result.items ≡ dones slots.entry.items }
+{
+    for slot in slots {
+        let Slot {
+            done,
+            pass: _,
+            extra: _,
+            apart: _,
+        } = slot;
+        let Ok(()) = ended.push(done) else {
+            unreachable!()
+        };
+    }
+    ended
 }
 
 /// The tasks of the slots and their extras, moved into lists that have room for them.

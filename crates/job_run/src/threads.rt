@@ -6,7 +6,7 @@ ghost use Rattle.module_area.specs.Ended.{AreSettled};
 ghost use Rattle.module_area.specs.Notes.{bearer, calls, is_working};
 ghost use Rattle.module_area.specs.PlanView.{is_controller};
 ghost use Rattle.module_area.specs.Tied.{IsTied};
-ghost use Rattle.space_map.specs.Space.{memory_of_space};
+ghost use Rattle.observed_step.specs.Steps.{memory_at};
 ghost use Rattle.brk_table.specs.Kept.{AreCodes};
 ghost use Rattle.svc_monitor.specs.First.{IsOver};
 ghost use Rattle.session_book.specs.JobView.{IsJob};
@@ -41,12 +41,12 @@ fn run_one<'a, C: Cells, R: Runner<C>>(
 )
     requires area { C.is_pass cells.now pass.old }
     requires plan { C.plan cells.now ≡ plan.now }
-    requires over { IsOver plan.now (memory_of_space done.old.task.space) tables.now }
+    requires over { IsOver plan.now (memory_at done.old.task.bench) tables.now }
     requires room { calls (C.notes pass.old) < 2 ^ 60 }
     requires working { is_working (C.notes pass.old) ≡ true }
     requires fresh { done.old.task.done ≡ 0 }
-    requires tied { IsTied plan.now (C.notes pass.old) done.old.task.control }
-    requires first { (done.old.task.control.next ≡ 0) × (done.old.task.control.opened ≡ None) }
+    requires tied { IsTied plan.now (C.notes pass.old) done.old.task.bench.control }
+    requires first { (done.old.task.bench.control.next ≡ 0) × (done.old.task.bench.control.opened ≡ None) }
     requires begins { R.begins plan.now (bearer (C.notes pass.old)) extra.old (C.notes pass.old) }
     ensures area { C.is_pass cells.now pass.new }
     ensures runs { Runs R.course plan.now (C.notes pass.old) (C.notes pass.new) done.old done.new }

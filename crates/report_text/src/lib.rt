@@ -15,7 +15,6 @@ pub use counts::{count_line, count_text};
 pub use places::{is_monitored, table};
 pub use sessions::{module_name, session_part};
 pub use storage::storage_part;
-pub use tasks::task_part;
 pub use trial::trial_text;
 pub use whole::{report, results_part, tasks_text, words_line};
 pub use words::{add_bytes, add_name, task_words};

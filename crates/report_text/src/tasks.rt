@@ -1,10 +1,9 @@
 //! What a report says of a task.
 ghost use Rattle.std.specs.Prelude.{◌≡◌, ◌+◌, ◌*◌, ◌<◌, ◌≤◌, ◌++◌, ◌∷◌, [], length, codes, decimal, drop};
-ghost use Rattle.cov_outside.specs.Writes.{Writes};
 ghost use Rattle.report_text.specs.Conditions.{HasResultOf};
 ghost use Rattle.report_text.specs.Report.{task_part};
 ghost use Rattle.report_text.specs.Tasks.{task_line, register_line, output_row, output_lines, state_lines};
-ghost use Rattle.report_text.specs.Text.{hex_bytes, text_of, row_of, row_count, lines_from};
+ghost use Rattle.report_text.specs.Text.{hex_bytes, row_of, row_count, lines_from};
 ghost use Rattle.report_text.specs.Writes.{WritesLines};
 
 use crate::storage::storage_part;
@@ -117,7 +116,9 @@ fn output_part<K: Sink>(sink: &mut K, output: &[u8]) -> Result<(), Failed>
     output_rows(sink, output)
 }
 
-/// A task's part.
+/// What has become of a task of the job: its ending, the instructions done, its condition code and registers, its
+/// output, and the rows of its private storage that have changed. Needs the result of this task alone. Failed only where
+/// the sink's count of faults rose; the sink has then taken a first part of it. Takes no memory.
 pub fn task_text<K: Sink, R: Results>(
     sink: &mut K,
     job: &Job,
@@ -138,20 +139,4 @@ pub fn task_text<K: Sink, R: Results>(
     )?;
     output_part(sink, results.output(t))?;
     storage_part(sink, task, results, t)
-}
-
-/// What has become of a task of the job: its ending, the instructions done, its condition code and registers, its
-/// output, and the rows of its private storage that have changed. Needs the result of this task alone. Failed only where
-/// the sink's count of faults rose; the sink has then taken a first part of it. Takes no memory.
-pub fn task_part<K: Sink, R: Results>(
-    sink: &mut K,
-    job: &Job,
-    results: &R,
-    t: TaskNo,
-) -> Result<(), Failed>
-    requires task { t.0 < length job.now.tasks }
-    requires result { HasResultOf job.now (R.tasks results.now) (R.result_of results.now) t.0 }
-    ensures { Writes K.written K.faults sink.old sink.new result (text_of (task_part job.now (R.result_of results.now) t.0)) }
-{
-    task_text(sink, job, results, t)
 }

@@ -1,5 +1,5 @@
 -- The pairs of one visit, and of visits one after the other.
-use Rattle.std.proofs.Common.{◌≡◌, ◌≢◌, ℕ, ◌+◌, ◌*◌, ◌/◌, ◌≤◌, Bool, true, false, ◌&&◌, ◌||◌, if◌then◌else◌, nat_eq, Option, None, List, [], ◌∷◌, ◌++◌, inl, inr, refl, sym, ◌∙◌, ap, subst, arith}
+use Rattle.std.proofs.Common.{◌≡◌, ◌≢◌, ℕ, ◌+◌, ◌*◌, ◌/◌, ◌≤◌, Bool, true, false, ◌&&◌, ◌||◌, if◌then◌else◌, nat_eq, List, [], ◌∷◌, ◌++◌, inl, inr, refl, sym, ◌∙◌, ap, subst, arith}
 use Rattle.std.proofs.lemmas.Bool.{or_cases, or_left, or_right, and_parts, and_from, eqb-true, eq-eqb, both_ways}
 use Rattle.std.proofs.lemmas.List.{append_assoc, append-nil}
 use Rattle.cov_base.specs.Codes.{breakpoint}
@@ -10,15 +10,14 @@ use Rattle.module_area.specs.declared.cells.Cell.{Cell}
 use Rattle.module_area.specs.declared.places.Place.{Place}
 use Rattle.module_area.specs.PlanView.{PlanView, kind_at, original_at}
 use Rattle.module_area.specs.Notes.{Notes, after_fetch, is_free_under, keeps_as, IsAnswer}
-use Rattle.module_area.specs.Control.{ControlView}
 use Rattle.module_area.specs.Parties.{Has}
 use Rattle.module_area.specs.Executions.{is_place}
 use Rattle.module_area.proofs.FactLemmas.{same_fact-true}
 use Rattle.brk_table.proofs.PlaceLemmas.{is_place-there}
-use Rattle.svc_monitor.specs.First.{BeginsAt}
+use Rattle.observed_step.specs.Sights.{BeginsAt}
 use Rattle.svc_monitor.specs.Settled.{Settles}
 use Rattle.svc_monitor.specs.Observed.{Grows}
-use Rattle.svc_monitor.specs.Answered.{at_places, ArePairs, is_under, facts_under, LeavesSessions, Answered, Makes, Turns}
+use Rattle.svc_monitor.specs.Answered.{at_places, ArePairs, is_under, facts_under, LeavesSessions, Answered, Makes}
 use Rattle.svc_monitor.proofs.NotesLemmas.{Adds, Adds-settled, seen_fetched, all_three, three_from}
 use Rattle.svc_monitor.proofs.ObservedLemmas.{has_fact-more, has_fact-none, or_apart, same_fact-self, shown_later, Observes-none, Observes-plain, Observes-kept, Observes-settled, Observes-append}
 
@@ -267,11 +266,3 @@ Makes-append plan a b c xs ys r h = record {
       (λ v there p. ap (λ (g : ℕ → ℕ). g p) r.still.last);
   still = LeavesSessions-trans a b c r.still h.still;
 }
-
--- the instruction is no call
-pub Turns-alone : (plan : PlanView) (old new : Notes) (visits : List Visit) (c : ControlView) → Makes plan old new visits → Turns plan old new visits c None
-Turns-alone plan old new visits c makes = record { mid = new; makes = makes; notes = refl }
-
--- an instruction behind visits of its own, as the subject of an EX
-pub Turns-behind : (plan : PlanView) (a b d : Notes) (xs ys : List Visit) (c : ControlView) (call : Option ℕ) → Makes plan a b xs → Turns plan b d ys c call → Turns plan a d (xs ++ ys) c call
-Turns-behind plan a b d xs ys c call first rest = record { mid = rest.mid; makes = Makes-append plan a b rest.mid xs ys first rest.makes; notes = rest.notes }

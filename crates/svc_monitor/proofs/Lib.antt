@@ -1,8 +1,7 @@
 pub mod AnsweredLemmas
-pub mod CallLemmas
-pub mod KeptCode
 pub mod NotesLemmas
 pub mod ObservedLemmas
 pub mod PlaceLemmas
-pub mod StepLemmas
 pub mod TieLemmas
+pub mod TurnLemmas
+pub mod VisitLemmas

@@ -14,7 +14,7 @@ use Rattle.module_area.specs.Notes.{Notes, after_fetch, is_free_under, IsAnswer}
 use Rattle.module_area.specs.Executions.{executes, facts_at, is_place, visits_at_places}
 use Rattle.module_area.proofs.FactLemmas.{has_fact-with_fact, same_fact-true}
 use Rattle.brk_table.proofs.PlaceLemmas.{is_place-there}
-use Rattle.svc_monitor.specs.First.{BeginsAt}
+use Rattle.observed_step.specs.Sights.{BeginsAt}
 use Rattle.svc_monitor.specs.Settled.{Settles}
 use Rattle.svc_monitor.specs.Observed.{Grows, Observes, Stays, ShowsAt, IsShown}
 use Rattle.svc_monitor.proofs.NotesLemmas.{Adds, Adds-settled, Grows-fetched, all_three, three_from}

@@ -1,19 +1,10 @@
 -- The place that begins at an address.
-use Rattle.std.proofs.Common.{◌≡◌, ◌≢◌, ℕ, ◌<◌, false, List, length, sym, ◌∙◌}
+use Rattle.std.proofs.Common.{◌≡◌, ◌≢◌, ℕ, ◌<◌, false, List, length}
 use Rattle.std.proofs.lemmas.Bool.{both_ways}
 use Rattle.module_area.specs.declared.places.Place.{Place}
 use Rattle.module_area.specs.PlanView.{place_of}
 use Rattle.module_area.specs.Executions.{is_place}
-use Rattle.brk_table.specs.Places.{ArePlaces}
-use Rattle.brk_table.proofs.PlaceLemmas.{is_place-there, one_begins}
-use Rattle.svc_monitor.specs.First.{BeginsAt}
-
-pub begins_at : (places : List Place) (a p : ℕ) → ArePlaces places → p < length places → (place_of places p).at ≡ a → BeginsAt places a p
-begins_at places a p are lt at = record {
-  exists = lt;
-  begins = at;
-  only = λ q within same. one_begins places p q are lt within (same ∙ sym at);
-}
+use Rattle.brk_table.proofs.PlaceLemmas.{is_place-there}
 
 -- no place begins at an address where none does
 pub none_begins : (places : List Place) (a p : ℕ) → is_place places a ≡ false → p < length places → (place_of places p).at ≢ a

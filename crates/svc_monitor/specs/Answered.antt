@@ -10,7 +10,7 @@ use Rattle.module_area.specs.PlanView.{PlanView, kind_at}
 use Rattle.module_area.specs.Notes.{Notes, keeps}
 use Rattle.module_area.specs.Control.{ControlView, after_call}
 use Rattle.module_area.specs.Executions.{is_place}
-use Rattle.svc_monitor.specs.First.{BeginsAt}
+use Rattle.observed_step.specs.Sights.{BeginsAt}
 use Rattle.svc_monitor.specs.Observed.{IsShown, Observes}
 
 -- the visits at places

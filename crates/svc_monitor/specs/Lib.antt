@@ -1,5 +1,6 @@
 pub mod Answered
-pub mod Called
 pub mod First
+pub mod Laws
+pub mod Noting
 pub mod Observed
 pub mod Settled

@@ -4,7 +4,7 @@ ghost use Rattle.cov_base.specs.declared.limits.TheConstants.{PLACE_LIMIT};
 ghost use Rattle.module_area.specs.Notes.{calls};
 ghost use Rattle.module_area.specs.Control.{after_call, control_after};
 ghost use Rattle.module_area.specs.Tied.{IsTied};
-ghost use Rattle.svc_monitor.specs.Called.{call_at};
+ghost use Rattle.observed_step.specs.Called.{call_at};
 
 use module_area::{Cells, Control, Plan};
 use planter::{close_open, open_next};

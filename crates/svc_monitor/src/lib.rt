@@ -1,11 +1,8 @@
-//! A task's instructions over cells in which breakpoints stand: SVC 255 traps, and the original is run.
+//! An observer that marks: breakpoints stand in cells that threads share, and a task's pass marks what its visits at them show.
 #![tactic(auto)]
 
 mod calls;
-mod first;
-mod instruction;
+mod planted;
 mod trap;
 
-pub use first::{Met, first_half};
-pub use instruction::step;
-pub use trap::settle;
+pub use planted::Planted;

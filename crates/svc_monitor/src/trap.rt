@@ -13,7 +13,7 @@ use module_area::{Cell, Cells};
 /// Marks the fact for the session whose breakpoint the cell is, and tries once to lift that exactly where the set with
 /// the fact is full: another pass may have lifted it before.
 #[inline(always)]
-pub fn settle<C: Cells>(
+pub(crate) fn settle<C: Cells>(
     cells: &C,
     pass: &mut C::Pass,
     tables: &Tables,

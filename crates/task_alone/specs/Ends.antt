@@ -5,8 +5,9 @@ use Rattle.cov_base.specs.States.{State, Visit}
 use Rattle.s370_state.specs.declared.endings.Next.{Next}
 use Rattle.s370_state.specs.declared.endings.Next.TheVariants.{On, Ended}
 use Rattle.s370_exec.specs.Solo.{solo_step, solo_run, has_returned}
-use Rattle.task_alone.specs.Watched.{Sees}
-use Rattle.task_alone.specs.declared.run.TaskEnd.{TaskEnd}
+use Rattle.observed_step.specs.Steps.{memory_at, stands}
+use Rattle.observed_step.specs.declared.bench.Bench.{Bench}
+use Rattle.observed_step.specs.declared.task.TaskEnd.{TaskEnd}
 
 -- behind a step that began at this address: there, where the step has ended the task, else wherever it comes to from the state
 abbrev pub address_behind : (State → ℕ) → ℕ → State → Next → ℕ
@@ -21,9 +22,10 @@ end_address m (suc n) s =
     if has_returned s then s.machine.cpu.ia
     else address_behind (λ t. end_address m n t) s.machine.cpu.ia (solo_step m s).state (solo_step m s).next
 
--- the run alone from the first state on has this end and last state, and between its states the watcher was shown its trace
-pub record HasRun {W : Type 0} (m : Memory) (has_seen : W → List Visit → W → Type 0) (old : W) (budget : ℕ) (first : State) (end : TaskEnd) (last : State) (new : W) : Type 0 where
-  pub ending : (solo_run m budget first).ending ≡ end.ending
-  pub state : (solo_run m budget first).state ≡ last
-  pub address : end_address m budget first ≡ end.at
-  pub seen : Sees has_seen old (solo_run m budget first).trace new
+-- The run alone from where the task stands, with nothing done yet, has this end and last state, and the pass has made its
+-- trace, and nothing else.
+pub record RanAlone {P : Type 0} (makes : P → List Visit → P → Type 0) (p : P) (budget : ℕ) (old : Bench) (end : TaskEnd) (new : Bench) (q : P) : Type 0 where
+  pub ending : (solo_run (memory_at old) budget (stands old 0)).ending ≡ end.ending
+  pub state : (solo_run (memory_at old) budget (stands old 0)).state ≡ stands new end.done
+  pub address : end_address (memory_at old) budget (stands old 0) ≡ end.at
+  pub made : makes p (solo_run (memory_at old) budget (stands old 0)).trace q

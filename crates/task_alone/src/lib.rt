@@ -1,11 +1,9 @@
-//! A task alone over modules that were never planted: one instruction with its visits, and the whole run, behind each of
-//! whose steps a watcher is shown what it has visited.
+//! A task alone over modules that were never planted: how it begins, and its whole run, of which an observer is shown what
+//! each step visits.
 #![tactic(auto)]
 
+mod begin;
 mod run;
-mod steps;
-mod watcher;
 
-pub use run::{TaskEnd, run_alone};
-pub use steps::{Seen, Visits};
-pub use watcher::Watcher;
+pub use begin::begin_alone;
+pub use run::run_alone;

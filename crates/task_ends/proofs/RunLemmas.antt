@@ -7,7 +7,7 @@ use Rattle.session_book.specs.JobView.{JobView}
 use Rattle.report_text.specs.Text.{sum_from}
 use Rattle.report_text.proofs.PlaceFacts.{sum_step}
 use Rattle.task_ends.specs.Ends.{run_of, end_of, unlisted_at, unlisted_of}
-use Rattle.task_alone.specs.declared.run.TaskEnd.{TaskEnd}
+use Rattle.observed_step.specs.declared.task.TaskEnd.{TaskEnd}
 use Rattle.task_ends.specs.Unlisted.{Adds}
 
 -- one task more was counted

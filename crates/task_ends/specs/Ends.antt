@@ -8,7 +8,7 @@ use Rattle.session_book.specs.JobView.{JobView}
 use Rattle.session_book.specs.Sessions.{task_of, module_of, first_state}
 use Rattle.report_text.specs.Text.{sum_from}
 use Rattle.task_alone.specs.Ends.{end_address}
-use Rattle.task_alone.specs.declared.run.TaskEnd.{TaskEnd}
+use Rattle.observed_step.specs.declared.task.TaskEnd.{TaskEnd}
 use Rattle.task_ends.specs.Unlisted.{unlisted_visits}
 
 -- what task t sees: modules that were never planted

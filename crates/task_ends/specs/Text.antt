@@ -9,7 +9,7 @@ use Rattle.session_book.specs.Sessions.{module_of, task_of}
 use Rattle.report_text.specs.Table.{is_monitored}
 use Rattle.report_text.specs.Tasks.{task_words}
 use Rattle.report_text.specs.Text.{text_of, lines_from}
-use Rattle.task_alone.specs.declared.run.TaskEnd.{TaskEnd}
+use Rattle.observed_step.specs.declared.task.TaskEnd.{TaskEnd}
 
 -- an address in a module, and one in none, of a task with so much private storage
 abbrev pub module_words : ImageView → ℕ → List ℕ

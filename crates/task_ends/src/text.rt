@@ -6,7 +6,7 @@ ghost use Rattle.cov_outside.specs.Writes.{Writes};
 ghost use Rattle.report_text.specs.Text.{lines_from};
 ghost use Rattle.report_text.specs.Writes.{WritesLines};
 ghost use Rattle.session_book.specs.Sessions.{task_of};
-ghost use Rattle.task_alone.specs.declared.run.TaskEnd.{TaskEnd as End};
+ghost use Rattle.observed_step.specs.declared.task.TaskEnd.{TaskEnd as End};
 ghost use Rattle.task_ends.specs.Ends.{AreEnds};
 ghost use Rattle.task_ends.specs.Text.{module_words, private_words, place_words, end_line, end_part, unlisted_line, unlisted_part, ends_lines, ends_text};
 
@@ -17,9 +17,9 @@ use arrayvec::ArrayVec;
 use cov_base::{Addr, Name};
 use cov_outside::{Failed, Sink};
 use module_area::{Image, Images};
+use observed_step::TaskEnd;
 use report_text::{add_name, is_monitored, module_name, put, task_words, words_line};
 use session_book::Job;
-use task_alone::TaskEnd;
 
 /// Adds the module that has the address, and the location in it.
 fn add_module(line: &mut ArrayVec<u8, 160>, image: &Image, at: Addr)

@@ -1,37 +1,14 @@
 //! How many visits are where no place begins.
-ghost use Rattle.std.specs.Prelude.{◌≡◌, ℕ, ◌+◌, ◌^◌, ◌<◌, ◌≤◌, ◌∷◌, [], Bool, if◌then◌else◌, length, get_or, slice_index};
+ghost use Rattle.std.specs.Prelude.{◌≡◌, ℕ, ◌+◌, ◌^◌, ◌<◌, if◌then◌else◌, length, get_or, slice_index};
 ghost use Rattle.session_book.specs.Sessions.{no_module};
 ghost use Rattle.brk_table.specs.Places.{in_image};
-ghost use Rattle.task_alone.specs.Seen.{visit_of, visits_of};
-ghost use Rattle.task_ends.specs.Unlisted.{Adds};
 
 use brk_table::Tables;
 use cov_base::Addr;
-use module_area::{Image, Images};
-use task_alone::{Seen, Visits, Watcher};
-
-/// Counts for each module the visits of a task, among those of the tasks that ran before it, that were begun there where
-/// no place begins.
-#[derive(Drop)]
-pub(crate) struct Unlisted<'a> {
-    pub(crate) tables: &'a Tables,
-    pub(crate) images: &'a Images,
-    // the tasks that ran before
-    pub(crate) tasks: u32,
-    pub(crate) counts: Vec<u64>,
-}
-
-impl<'a> Watcher for Unlisted<'a> {
-    ghost use Rattle.task_ends.specs.Held.{HasRoom, HasCounted};
-
-    ghost IsReady = { λ counter done. HasRoom counter done };
-
-    ghost HasSeen = { λ first visits counter. HasCounted first visits counter };
-
-    fn see(&mut self, done: u32, visits: Visits) {
-        count_visits(self.tables, self.images, &mut self.counts, visits);
-    }
-}
+use module_area::{Control, Image, Images};
+use observed_step::{Observer, Sight};
+use s370_decode::Code;
+use s370_state::Cpu;
 
 /// Whether the module has the address.
 pub(crate) fn is_in(image: &Image, at: Addr) -> bool
@@ -55,29 +32,55 @@ fn count_at(images: &Images, counts: &mut [u64], at: Addr)
     }
 }
 
-/// Counts a visit where it was begun and no place begins.
-fn count_visit(tables: &Tables, images: &Images, counts: &mut [u64], v: Seen)
-    requires size { length counts.old ≡ length images.now }
-    requires room { (m : ℕ) → m < length counts.old → slice_index counts.old m + 1 < 2 ^ 64 }
-    ensures { (done : ℕ) (subject : Bool) → Adds tables.now.places images.now (visit_of done subject v ∷ []) counts.old counts.new }
-{
-    if v.begun && tables.at(v.at).is_none() {
-        count_at(images, counts, v.at);
-    }
+/// Counts the visits of a task that were begun where no place begins: its pass has a count for each module, to which the
+/// tasks that ran before it have added theirs.
+#[derive(Drop)]
+pub(crate) struct Unlisted<'a> {
+    pub(crate) images: &'a Images,
+    // the tasks that ran before
+    pub(crate) tasks: u32,
 }
 
-/// Counts what an instruction has visited.
-fn count_visits(tables: &Tables, images: &Images, counts: &mut [u64], visits: Visits)
-    requires size { length counts.old ≡ length images.now }
-    requires room { (m : ℕ) → m < length counts.old → slice_index counts.old m + 2 < 2 ^ 64 }
-    ensures adds { (done : ℕ) → Adds tables.now.places images.now (visits_of done visits) counts.old counts.new }
-{
-    match visits {
-        Visits::Nothing => {}
-        Visits::One(v) => count_visit(tables, images, counts, v),
-        Visits::Two(v, w) => {
-            count_visit(tables, images, counts, v);
-            count_visit(tables, images, counts, w);
+impl<'a> Observer for Unlisted<'a> {
+    type Pass = Vec<u64>;
+
+    ghost use Rattle.std.specs.Prelude.{◌≡◌, length, refl};
+    ghost use Rattle.task_ends.specs.Counting.{adds_none, adds_more, room_later, room_next};
+    ghost use Rattle.task_ends.specs.Held.{HasRoom};
+    ghost use Rattle.task_ends.specs.Unlisted.{Adds};
+
+    ghost IsReady = { λ unlisted tables counts done shown. HasRoom (length unlisted.images.now) unlisted.tasks counts.items done shown };
+
+    ghost IsTied = { λ unlisted counts control. Unit {0} };
+
+    ghost Makes = { λ unlisted tables counts vs new. Adds tables.places unlisted.images.now vs counts.items new.items };
+
+    ghost Answers = { λ unlisted counts control call new after. (new ≡ counts) × (after ≡ control) };
+
+    fn begun(&self, counts: &mut Vec<u64>, tables: &Tables, cpu: &Cpu, code: &Code, sight: Sight) {
+        if sight.place.is_none() {
+            count_at(self.images, counts, sight.at);
         }
     }
+
+    fn refused(&self, counts: &mut Vec<u64>, tables: &Tables, sight: Sight) {}
+
+    fn called(
+        &self,
+        counts: &mut Vec<u64>,
+        tables: &Tables,
+        control: &mut Control,
+        done: u32,
+        half: u16,
+    ) {}
+
+    ghost later = { λ unlisted tables counts done shown. room_later (length unlisted.images.now) unlisted.tasks counts.items done shown };
+
+    ghost next = { λ unlisted tables counts done. room_next (length unlisted.images.now) unlisted.tasks counts.items done };
+
+    ghost none = { λ unlisted tables counts. adds_none tables.places unlisted.images.now counts.items };
+
+    ghost no_call = { λ unlisted counts control. (refl, refl) };
+
+    ghost both = { λ unlisted tables old mid new vs ws. adds_more tables.places unlisted.images.now vs ws old.items mid.items new.items };
 }

@@ -1,25 +1,21 @@
 -- What steps leave of a pass's boundaries and looks, and what these leave of a run.
-use Rattle.std.proofs.Common.{◌≡◌, ℕ, ◌+◌, ◌-◌, ◌*◌, ◌%◌, ◌<◌, ◌≤◌, Bool, true, false, ◌&&◌, if◌then◌else◌, ◌==◌, nat_eq, is_some, unwrap_or, Option, Some, None, List, All, refl, sym, ◌∙◌, ap, subst, arith}
+use Rattle.std.proofs.Common.{◌≡◌, ℕ, ◌+◌, ◌-◌, ◌*◌, ◌<◌, ◌≤◌, Bool, true, false, if◌then◌else◌, ◌==◌, nat_eq, unwrap_or, Option, Some, None, List, All, refl, sym, ◌∙◌, ap, subst, arith}
 use Rattle.std.proofs.lemmas.Bool.{cond_both, eq-eqb, eqb-true}
-use Rattle.cov_base.specs.Memory.{Memory}
-use Rattle.cov_base.specs.States.{State, Visit}
+use Rattle.cov_base.specs.States.{Visit}
 use Rattle.cov_base.specs.declared.numbers.PlaceNo.{PlaceNo}
 use Rattle.cov_base.specs.declared.numbers.SessNo.{SessNo}
-use Rattle.s370_state.specs.declared.endings.Ending.{Ending}
-use Rattle.s370_exec.specs.Solo.{Run}
 use Rattle.module_area.specs.PlanView.{PlanView, has_place}
-use Rattle.module_area.specs.Notes.{Notes, calls, bearer, own_number, is_working, after_boundary}
+use Rattle.module_area.specs.Notes.{Notes, calls, bearer, own_number, after_boundary}
 use Rattle.module_area.specs.Control.{ControlView, places_under, to_open, after_plants, after_closes, after_open, after_end, after_call}
 use Rattle.module_area.specs.Tied.{IsTied}
 use Rattle.module_area.proofs.PlanLemmas.{any_at}
 use Rattle.module_area.proofs.TiedLemmas.{tied_same}
 use Rattle.planter.proofs.TieLemmas.{next_later}
 use Rattle.svc_monitor.specs.Answered.{Turns}
-use Rattle.svc_monitor.proofs.TieLemmas.{same_working}
 use Rattle.task_run.specs.Aside.{IsAside}
 use Rattle.task_run.specs.Called.{Follows}
 use Rattle.task_run.proofs.FollowsLemmas.{Changes, Observes-changed, Answered-changed}
-use Rattle.task_run.proofs.RunLemmas.{Made, LedTo, IsRun}
+use Rattle.task_run.proofs.RunLemmas.{Made}
 
 -- an instruction makes no boundary, and looks at no task and no set
 
@@ -61,10 +57,6 @@ step_known plan old new visits c call t =
 
 pub same_number : (old new : Notes) → KnowsSame old new → own_number new ≡ own_number old
 same_number old new k = λ i. k.numbers i (unwrap_or (k.bears i) 0)
-
--- a pass that works still does after the instruction
-pub step_working : (plan : PlanView) (old new : Notes) (visits : List Visit) (c : ControlView) (call : Option ℕ) → Turns plan old new visits c call → is_working old ≡ true → is_working new ≡ true
-step_working plan old new visits c call t w = let k = step_known plan old new visits c call t in same_working old new k.bears k.numbers ∙ w
 
 -- no tag that the pass has seen at a place and gave it last falls by a call of its task
 
@@ -113,6 +105,9 @@ step_over plan old new visits c call tie t p x last seen =
 
 -- boundaries, and looks at tasks and sets
 
+pub aside_none : (n : Notes) → IsAside n n
+aside_none n = record { same = refl }
+
 pub aside_more : (a b c : Notes) → IsAside a b → IsAside b c → IsAside a c
 aside_more a b c x y = record { same = y.same ∙ ap (λ (n : Notes). record n { pending = c.pending; numbers = c.numbers; noted = c.noted; settled = c.settled; found = c.found }) x.same }
 
@@ -121,13 +116,6 @@ aside_boundary n ended = record { same = refl }
 
 pub boundary_number : (n : Notes) (ended : Bool) → own_number (after_boundary n ended) ≡ own_number n + (if ended then 1 else 2)
 boundary_number n ended = ap (λ (b : Bool). if b then own_number n + (if ended then 1 else 2) else own_number n) (eq-eqb (bearer n) (bearer n) refl)
-
--- a boundary that isn't the last leaves the pass working
-pub boundary_working : (n : Notes) → is_working n ≡ true → is_working (after_boundary n false) ≡ true
-boundary_working n w = ap (λ (k : ℕ). is_some n.bears && nat_eq (k % 2) 0) (boundary_number n false) ∙ (ap (λ (k : ℕ). is_some n.bears && nat_eq k 0) (two_more (own_number n)) ∙ w)
-  where
-    two_more : (k : ℕ) → (k + 2) % 2 ≡ k % 2
-    two_more k = omega arith
 
 -- what a run has made stands after them
 
@@ -167,22 +155,5 @@ Made-aside plan old mid new c d i trace called a r = record {
   follows = Follows-aside plan old mid new trace called c d a r.follows;
   count = r.count;
   before = r.before;
-  few = omega (arith, aside_calls mid new a, r.few);
-}
-
-pub LedTo-aside : (m : Memory) (plan : PlanView) (old mid new : Notes) (c d : ControlView) (budget : ℕ) (first : State) (i : ℕ) (now : State) → IsAside mid new → LedTo m plan old mid c d budget first i now → LedTo m plan old new c d budget first i now
-LedTo-aside m plan old mid new c d budget first i now a r = record {
-  trace = r.trace;
-  called = r.called;
-  made = Made-aside plan old mid new c d i r.trace r.called a r.made;
-  run = r.run;
-  rest = r.rest;
-}
-
-pub IsRun-aside : (plan : PlanView) (old mid new : Notes) (c d : ControlView) (run : Run) (called : List (Option ℕ)) (e : Ending) (s : State) (budget : ℕ) → IsAside mid new → IsRun plan old mid c d run called e s budget → IsRun plan old new c d run called e s budget
-IsRun-aside plan old mid new c d run called e s budget a r = record {
-  ending = r.ending;
-  state = r.state;
-  follows = Follows-aside plan old mid new run.trace called c d a r.follows;
   few = omega (arith, aside_calls mid new a, r.few);
 }

@@ -127,7 +127,7 @@ Answered-changed plan a b c last visits x ch = record {
 
 -- one call more
 
-control_more : (c : ControlView) (ks : List (Option ℕ)) (k : Option ℕ) → control_by c (ks ++ k ∷ []) ≡ control_after (control_by c ks) k
+pub control_more : (c : ControlView) (ks : List (Option ℕ)) (k : Option ℕ) → control_by c (ks ++ k ∷ []) ≡ control_after (control_by c ks) k
 control_more c [] k = refl
 control_more c (j ∷ ks) k = control_more (control_after c j) ks k
 

@@ -1,6 +1,7 @@
 pub mod AsideLemmas
 pub mod CloseLemmas
 pub mod FollowsLemmas
+pub mod GoneLemmas
 pub mod RanLemmas
 pub mod RunLemmas
 pub mod SetLemmas

@@ -1,12 +1,7 @@
 -- The supervisor calls of a run, and what they make of the sessions that the task controls.
-use Rattle.std.specs.Prelude.{◌≡◌, ◌↔◌, ℕ, ◌+◌, ◌*◌, true, zero, suc, if◌then◌else◌, Option, Some, None, List, [], ◌∷◌, length, take}
+use Rattle.std.specs.Prelude.{◌≡◌, ◌↔◌, ℕ, ◌+◌, ◌*◌, true, Option, Some, None, List, [], ◌∷◌, length, take}
 use Rattle.std.specs.List.{sum_by}
-use Rattle.cov_base.specs.Memory.{Memory}
-use Rattle.cov_base.specs.States.{State, Visit}
-use Rattle.s370_state.specs.declared.endings.Next.{Next}
-use Rattle.s370_state.specs.declared.endings.Next.TheVariants.{On, Ended}
-use Rattle.s370_exec.specs.Calls.{call_of}
-use Rattle.s370_exec.specs.Solo.{solo_step, has_returned}
+use Rattle.cov_base.specs.States.{Visit}
 use Rattle.module_area.specs.PlanView.{PlanView, has_place}
 use Rattle.cov_base.specs.declared.numbers.SessNo.{SessNo}
 use Rattle.module_area.specs.Tied.{has_session}
@@ -14,15 +9,6 @@ use Rattle.module_area.specs.Notes.{Notes}
 use Rattle.module_area.specs.Control.{ControlView, places_under, after_call, control_after}
 use Rattle.svc_monitor.specs.Observed.{Observes}
 use Rattle.svc_monitor.specs.Answered.{Answered}
-
-abbrev pub unless_over : Next → List (Option ℕ) → List (Option ℕ)
-unless_over On calls = calls
-unless_over (Ended e) calls = []
-
--- for each instruction of the run the call that it executes, if it is one; with so many instructions left of the budget
-unfoldable pub calls_on : Memory → ℕ → State → List (Option ℕ)
-calls_on m zero s = []
-calls_on m (suc n) s = if has_returned s then [] else call_of m s ∷ unless_over (solo_step m s).next (calls_on m n (solo_step m s).state)
 
 -- the control after these calls, and what the pass has planted and closed by them
 abbrev pub control_by : ControlView → List (Option ℕ) → ControlView

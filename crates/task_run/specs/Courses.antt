@@ -4,7 +4,7 @@ use Rattle.cov_base.specs.Memory.{Memory}
 use Rattle.cov_base.specs.States.{State, Visit}
 use Rattle.s370_exec.specs.Solo.{Run, solo_run}
 use Rattle.module_area.specs.PlanView.{PlanView}
-use Rattle.task_run.specs.Called.{calls_on}
+use Rattle.observed_step.specs.Called.{calls_on}
 
 -- Over its area's plan, from its memory, budget and first state: ending, last state and trace, and for each of its
 -- instructions the supervisor call that it executes, if it is one.

@@ -1,38 +1,33 @@
 -- A task that has run along its course, with a pass that has made the run's visits.
-use Rattle.std.specs.Prelude.{◌≡◌, ℕ, ◌+◌, ◌*◌, ◌≤◌}
-use Rattle.cov_base.specs.States.{State}
+use Rattle.std.specs.Prelude.{◌≡◌, ◌+◌, ◌*◌, ◌≤◌}
 use Rattle.cov_base.specs.declared.limits.TheConstants.{PLACE_LIMIT}
-use Rattle.s370_exec.specs.Solo.{Run, state_of}
+use Rattle.s370_exec.specs.Solo.{Run}
 use Rattle.s370_state.specs.declared.endings.Ending.{Ending}
 use Rattle.module_area.specs.Notes.{Notes, calls}
 use Rattle.module_area.specs.PlanView.{PlanView}
 use Rattle.module_area.specs.Tied.{IsTied}
-use Rattle.space_map.specs.Space.{memory_of_space}
+use Rattle.observed_step.specs.Steps.{memory_at, stands}
 use Rattle.task_run.specs.Called.{Follows, HasPlanted, HasWindows}
 use Rattle.task_run.specs.Courses.{Course, Walk, walk}
 use Rattle.task_run.specs.declared.tasks.Task.{Task}
 
--- the state of a task with so many instructions done
-abbrev pub stands : Task → ℕ → State
-stands t done = state_of t.cpu t.space.bytes t.io done
-
 -- its run from where it stands, with nothing done yet, and the visits and calls of it
 abbrev pub run_from : Course → PlanView → Task → Run
-run_from course plan t = course.run plan (memory_of_space t.space) t.budget (stands t 0)
+run_from course plan t = course.run plan (memory_at t.bench) t.budget (stands t.bench 0)
 
 abbrev pub walk_from : Course → PlanView → Task → Walk
-walk_from course plan t = walk course plan (memory_of_space t.space) t.budget (stands t 0)
+walk_from course plan t = walk course plan (memory_at t.bench) t.budget (stands t.bench 0)
 
 -- Ending, state and count are those of the course. The pass has made its visits, and has opened and closed the task's
 -- sessions by its supervisor calls; the calls of the area that this took are at most so many for each instruction.
 pub record RanAs (course : Course) (plan : PlanView) (before after : Notes) (old new : Task) (result : Ending) : Type 0 where
-  pub memory : memory_of_space new.space ≡ memory_of_space old.space
+  pub memory : memory_at new.bench ≡ memory_at old.bench
   pub budget : new.budget ≡ old.budget
   pub done : new.done ≤ old.budget
   pub ending : result ≡ (run_from course plan old).ending
-  pub state : stands new new.done ≡ (run_from course plan old).state
-  pub follows : Follows plan before after (walk_from course plan old).trace (walk_from course plan old).calls old.control new.control
-  pub windows : HasWindows plan before old.control (walk_from course plan old).calls
-  pub planted : HasPlanted plan before after new.control
-  pub tied : IsTied plan after new.control
+  pub state : stands new.bench new.done ≡ (run_from course plan old).state
+  pub follows : Follows plan before after (walk_from course plan old).trace (walk_from course plan old).calls old.bench.control new.bench.control
+  pub windows : HasWindows plan before old.bench.control (walk_from course plan old).calls
+  pub planted : HasPlanted plan before after new.bench.control
+  pub tied : IsTied plan after new.bench.control
   pub few : calls after ≤ calls before + (6 + PLACE_LIMIT) * old.budget

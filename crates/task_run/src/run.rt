@@ -3,7 +3,7 @@ ghost use Rattle.std.specs.Prelude.{◌≡◌, ◌+◌, ◌<◌, ◌^◌, true};
 ghost use Rattle.std.specs.declared.option.Option.TheVariants.{None};
 ghost use Rattle.module_area.specs.Notes.{calls, is_working};
 ghost use Rattle.module_area.specs.Tied.{IsTied};
-ghost use Rattle.space_map.specs.Space.{memory_of_space};
+ghost use Rattle.observed_step.specs.Steps.{memory_at};
 ghost use Rattle.svc_monitor.specs.First.{IsOver};
 ghost use Rattle.task_run.specs.Courses.{solo};
 ghost use Rattle.task_run.specs.Ran.{RanAs};
@@ -11,9 +11,9 @@ ghost use Rattle.task_run.specs.Ran.{RanAs};
 use crate::tasks::Task;
 use brk_table::Tables;
 use module_area::{Cells, Plan};
-use s370_exec::has_returned;
-use s370_state::{Ending, Next};
-use svc_monitor::step;
+use observed_step::{NoHook, run};
+use s370_state::Ending;
+use svc_monitor::Planted;
 
 /// Runs the task until it ends: before each instruction it ends Returned at X'FFFFFE', else Spent where it has done as
 /// many instructions as its budget. Ending, state and count are those of its run alone over modules that were never
@@ -28,39 +28,27 @@ pub fn run_task<C: Cells>(
 ) -> Ending
     requires area { C.is_pass cells.now pass.old }
     requires plan { C.plan cells.now ≡ plan.now }
-    requires over { IsOver (C.plan cells.now) (memory_of_space task.old.space) tables.now }
+    requires over { IsOver (C.plan cells.now) (memory_at task.old.bench) tables.now }
     requires room { calls (C.notes pass.old) < 2 ^ 60 }
     requires working { is_working (C.notes pass.old) ≡ true }
     requires fresh { task.old.done ≡ 0 }
-    requires tied { IsTied (C.plan cells.now) (C.notes pass.old) task.old.control }
-    requires first { (task.old.control.next ≡ 0) × (task.old.control.opened ≡ None) }
+    requires tied { IsTied (C.plan cells.now) (C.notes pass.old) task.old.bench.control }
+    requires first { (task.old.bench.control.next ≡ 0) × (task.old.bench.control.opened ≡ None) }
     ensures area { C.is_pass cells.now pass.new }
     ensures ran { RanAs solo (C.plan cells.now) (C.notes pass.old) (C.notes pass.new) task.old task.new result }
 {
     // Read for what every plan keeps.
     let _ = plan.places_len();
-    let budget = task.budget;
-    for done in 0..budget {
-        if has_returned(&task.cpu) {
-            return Ending::Returned;
-        }
-        task.done = done + 1;
-        if let Next::Ended(e) = step(
-            cells,
-            pass,
-            tables,
-            &mut task.cpu,
-            &mut task.space,
-            &mut task.io,
-            plan,
-            &mut task.control,
-        ) {
-            return e;
-        }
-    }
-    if has_returned(&task.cpu) {
-        Ending::Returned
-    } else {
-        Ending::Spent
-    }
+    let marks = Planted { cells, plan };
+    let mut hook = NoHook;
+    let end = run(
+        &marks,
+        pass,
+        tables,
+        &mut hook,
+        &mut task.bench,
+        task.budget,
+    );
+    task.done = end.done;
+    end.ending
 }

@@ -6,7 +6,7 @@ ghost use Rattle.module_area.specs.Ended.{AreSettled};
 ghost use Rattle.module_area.specs.Notes.{Notes, bearer, calls, is_working, split_notes};
 ghost use Rattle.module_area.specs.PlanView.{PlanView};
 ghost use Rattle.module_area.specs.Tied.{IsTied};
-ghost use Rattle.space_map.specs.Space.{memory_of_space};
+ghost use Rattle.observed_step.specs.Steps.{memory_at};
 ghost use Rattle.svc_monitor.specs.First.{IsOver};
 ghost use Rattle.task_run.specs.Courses.{Course, solo};
 ghost use Rattle.task_run.specs.Ran.{RanAs};
@@ -52,12 +52,12 @@ pub trait Runner<C: Cells> {
     ) -> Ending
         requires area { C.is_pass cells.now pass.old }
         requires plan { C.plan cells.now ≡ plan.now }
-        requires over { IsOver (C.plan cells.now) (memory_of_space task.old.space) tables.now }
+        requires over { IsOver (C.plan cells.now) (memory_at task.old.bench) tables.now }
         requires room { calls (C.notes pass.old) < 2 ^ 60 }
         requires working { is_working (C.notes pass.old) ≡ true }
         requires fresh { task.old.done ≡ 0 }
-        requires tied { IsTied (C.plan cells.now) (C.notes pass.old) task.old.control }
-        requires first { (task.old.control.next ≡ 0) × (task.old.control.opened ≡ None) }
+        requires tied { IsTied (C.plan cells.now) (C.notes pass.old) task.old.bench.control }
+        requires first { (task.old.bench.control.next ≡ 0) × (task.old.bench.control.opened ≡ None) }
         requires begins { begins plan.now (bearer (C.notes pass.old)) extra.old (C.notes pass.old) }
         ensures area { C.is_pass cells.now pass.new }
         ensures ran { RanAs course (C.plan cells.now) (C.notes pass.old) (C.notes pass.new) task.old task.new result }

@@ -18,6 +18,7 @@ use cov_outside::MemSource;
 use coverage_commands::make_ready;
 use early_report::{Drain, EarlyRunner, Poll, Stage, drain_begin, drain_poll, drain_take, room};
 use module_area::{Areas, Cells, Control, Drains, Forks, Plan};
+use observed_step::Bench;
 use planter::{close_open, open_next};
 use session_book::{Begun, Job, begin, plan_of};
 use shared_area::SharedAreas;
@@ -135,12 +136,14 @@ fn run_one<C: Drains, R: Runner<C>>(
     let control = plan.control_of(alloc, TaskNo(t))?;
     let Begun { cpu, space, io } = begin(alloc, job, tables, t as usize)?;
     let mut task = Task {
-        cpu,
-        space,
-        io,
+        bench: Bench {
+            cpu,
+            space,
+            io,
+            control,
+        },
         done: 0,
         budget: job.card(t as usize).budget,
-        control,
     };
     runner.run(cells, pass, tables, plan, extra, &mut task);
     Ok(())

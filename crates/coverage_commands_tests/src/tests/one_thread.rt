@@ -15,6 +15,7 @@ use cov_base::{NoMemory, PlaceNo, SessNo, TaskNo};
 use cov_outside::MemSource;
 use coverage_commands::make_ready;
 use module_area::{Areas, Cell, Cells, Control, Forks, Plan};
+use observed_step::Bench;
 use s370_state::Ending;
 use session_book::{Begun, Job, begin, plan_of};
 use shared_area::SharedAreas;
@@ -64,12 +65,14 @@ fn run_first<C: Cells>(
 {
     let Begun { cpu, space, io } = begin(alloc, job, tables, 0)?;
     let mut task = Task {
-        cpu,
-        space,
-        io,
+        bench: Bench {
+            cpu,
+            space,
+            io,
+            control,
+        },
         done: 0,
         budget: min(job.card(0).budget, 100),
-        control,
     };
     Ok(run_task(cells, pass, tables, plan, &mut task))
 }

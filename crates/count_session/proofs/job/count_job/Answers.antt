@@ -1,19 +1,24 @@
 use Rattle.std.proofs.Common.{◌≡◌, ◌++◌, List, length, take, drop, sym, ◌∙◌, ap}
 use Rattle.brk_table.proofs.CodeLemmas.{are_in}
 use Rattle.job_run.proofs.PhaseLemmas.{written}
-use Rattle.count_session.specs.Slots.{dones}
-use Rattle.count_session.specs.declared.slots.Slot.{Slot}
+use Rattle.task_run.specs.Courses.{solo}
+use Rattle.job_run.specs.Slots.{dones}
+use Rattle.job_run.proofs.TaskLemmas.{AreRun-start}
+use Rattle.count_session.specs.Slots.{CountSlot}
 use Rattle.count_session.proofs.JobLemmas.{counted_job}
 use Rattle.count_session.proofs.job.count_job.Goals as goal
 
 pub make_slots-requires : goal.make_slots-requires
 make_slots-requires g c = are_in c.args.job.now.images c.args.tables.now c.requires.tables
 
+pub count_phases-requires-clause-tasks : goal.count_phases-requires-clause-tasks
+count_phases-requires-clause-tasks g c κs within = rw c.deref_mut.ensures.value (AreRun-start solo c.args.job.now c.args.tables.now.places _ c.in_ok-slots.ensures.tasks)
+
 pub returns : goal.returns
 returns g c =
-    let old : List Slot = c.in_ok-slots.slots.items in
-    let new : List Slot = c.count_phases.new.slots in
+    let old : List CountSlot = c.in_ok-slots.slots.items in
+    let new : List CountSlot = c.count_phases.new.slots in
     let whole : take c.in_ok-slots.slots.len (new ++ drop (length new) old) ≡ new =
-    written old new c.in_ok-slots.slots.len (c.count_phases.auto.slots ∙ ap (λ (ss : List Slot). length ss) c.deref_mut.ensures.value) (sym c.in_ok-slots.slots.ok.0) in
+    written old new c.in_ok-slots.slots.len (c.count_phases.auto.slots ∙ ap (λ (ss : List CountSlot). length ss) c.deref_mut.ensures.value) (sym c.in_ok-slots.slots.ok.0) in
     counted_job c.args.job.now c.args.tables.now.places new c.tasks_of.result.items c.in_ok-phases.phases.items c.count_phases.ensures.job c.requires.whole c.in_ok-phases.ensures.counts c.in_ok-phases.ensures.tasks
-    (c.tasks_of.ensures ∙ ap (λ (ss : List Slot). dones ss) whole)
+    (c.tasks_of.ensures ∙ ap (λ (ss : List CountSlot). dones ss) whole)

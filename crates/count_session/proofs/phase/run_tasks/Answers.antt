@@ -7,8 +7,10 @@ use Rattle.job_run.specs.Slots.{in_phase}
 use Rattle.count_session.specs.Notes.{CountNotes, after_join}
 use Rattle.count_session.specs.Passes.{notes_of}
 use Rattle.count_session.specs.Phases.{HasCounted, HasJoined}
-use Rattle.count_session.proofs.PassLemmas.{all_ready, AreOver-start, AreOver-next, AreOver-all, HaveRun-after, none_other, pass_of, not_of, HasJoined-start, HasJoined-one, HasJoined-other}
-use Rattle.count_session.proofs.SlotLemmas.{HaveRun-same, set_done}
+use Rattle.count_session.proofs.PassLemmas.{all_ready, AreOver-start, AreOver-next, AreOver-all, AreRun-after, none_other, pass_of, not_of, HasJoined-start, HasJoined-one, HasJoined-other}
+use Rattle.job_run.proofs.TaskLemmas.{AreRun-same}
+use Rattle.job_run.proofs.TakenLemmas.{set_done}
+use Rattle.count_session.specs.Slots.{CountSlot}
 use Rattle.count_session.proofs.phase.run_tasks.Given as given
 use Rattle.count_session.proofs.phase.run_tasks.Goals as goal
 use Rattle.count_session.proofs.phase.run_tasks.Goals.{in-Some, in_default}
@@ -31,7 +33,7 @@ loop-t-init g c =
       joined = HasJoined-start c.args.job.now c.args.tables.now.places c.args.phase before (notes_of c.args.cells.now c.split_all.new.root) c.requires.root s.notes;
       over = AreOver-start c.args.cells.now before c.args.job.now c.args.tables.now.places c.args.phase
           c.args.slots.now c.split_all.new.slots c.run_those.new.slots c.requires.plan s.passes c.requires.tasks c.run_those.ensures.count c.run_those.ensures.runs;
-      tasks = HaveRun-after c.args.cells.now before c.args.job.now c.args.tables.now.places c.args.phase
+      tasks = AreRun-after c.args.cells.now before c.args.job.now c.args.tables.now.places c.args.phase
           c.args.slots.now c.split_all.new.slots c.run_those.new.slots c.requires.plan s.passes c.requires.tasks c.run_those.ensures.count c.run_those.ensures.runs;
     }
 
@@ -60,9 +62,9 @@ loop-t-preserved g c =
     let mid : CountNotes = notes_of cells c.loop-t.root in
     let here : t < length c.args.job.now.tasks = omega (arith, c.loop-t-test.true, c.task_count-count.ensures.value) in
     let there : t < length c.loop-t.slots = omega (arith, here, i.tasks.count) in
-    let taken = AreOver-next cells before c.args.job.now c.args.tables.now.places c.args.phase t c.loop-t.slots c.take.new.slot there c.take.ensures.none i.over in
-    let tasks = HaveRun-same c.args.job.now c.args.tables.now.places (c.args.phase + 1) c.loop-t.slots (set c.loop-t.slots t c.take.new.slot) i.tasks (length-set c.loop-t.slots t c.take.new.slot)
-    (set_done c.loop-t.slots t c.take.new.slot c.index-slots-t.result there c.take.ensures.done) in
+    let taken = AreOver-next cells before c.args.job.now c.args.tables.now.places c.args.phase t c.loop-t.slots c.take.new.slot there (ap (λ (s : CountSlot). s.pass) c.take.ensures.rest) i.over in
+    let tasks = AreRun-same solo c.args.job.now c.args.tables.now.places (c.args.phase + 1) c.loop-t.slots (set c.loop-t.slots t c.take.new.slot) i.tasks (length-set c.loop-t.slots t c.take.new.slot)
+    (set_done c.loop-t.slots t c.take.new.slot c.index-slots-t.result there (ap (λ (s : CountSlot). s.done) c.take.ensures.rest)) in
     elim c.match-take.branch [
       | in-Some w ↦
           let s = pass_of cells before c.args.job.now c.args.tables.now.places c.args.phase t c.loop-t.slots c.index-slots-t.result w.in-Some.pass there i.over (sym c.take.ensures.pass ∙ w.in-Some.is) in

@@ -1,7 +1,7 @@
 use Rattle.std.proofs.Common.{arith}
 use Rattle.job_run.proofs.RangeLemmas.{all_after, all_in_part}
 use Rattle.count_session.specs.Phases.{IsReady, RunsSlot}
-use Rattle.count_session.specs.declared.slots.Slot.{Slot}
+use Rattle.count_session.specs.Slots.{CountSlot}
 use Rattle.count_session.proofs.PassLemmas.{stands_still}
 use Rattle.count_session.proofs.phase.run_those.Goals as goal
 
@@ -12,5 +12,5 @@ run_slots-requires-clause-ready g c κs within =
 
 pub returns-clause-runs : goal.returns-clause-runs
 returns-clause-runs g c =
-    all_after (λ (old new : Slot). RunsSlot c.args.cells.now old new old.pass) c.args.job.now c.args.phase c.args.slots.now c.run_slots.new.slots c.range_of-range.result.start c.range_of-range.result.end
+    all_after (λ (old new : CountSlot). RunsSlot c.args.cells.now old new old.pass) c.args.job.now c.args.phase c.args.slots.now c.run_slots.new.slots c.range_of-range.result.start c.range_of-range.result.end
     c.range_of-range.ensures c.requires.count (λ t d l of. stands_still c.args.cells.now _ (c.requires.others t d l of)) c.run_slots.ensures.count c.run_slots.ensures.runs

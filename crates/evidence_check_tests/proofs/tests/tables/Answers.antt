@@ -1,10 +1,16 @@
-use Rattle.std.proofs.Common.{◌≡◌, List, sym, subst, rules}
-use Rattle.brk_table.specs.Places.{TableView, ArePlaces, all_places}
-use Rattle.session_marks.specs.Sample.{sample_tables}
-use Rattle.session_marks.proofs.SampleLemmas.{sample_are_places}
+use Rattle.std.proofs.Common.{◌≡◌, All, List, sym, subst, rules}
+use Rattle.brk_table.specs.Places.{TableView, ArePlaces, IsIn, all_places}
+use Rattle.brk_table.proofs.Together.{all_in}
+use Rattle.session_marks.specs.Sample.{sample_images, sample_tables}
+use Rattle.session_marks.proofs.SampleLemmas.{sample_are_tables, sample_are_places}
 use Rattle.evidence_check_tests.proofs.tests.tables.Goals as goal
 
-pub of-requires-clause-places : goal.of-requires-clause-places
-of-requires-clause-places c =
+pub over-requires-clause-places : goal.over-requires-clause-places
+over-requires-clause-places c =
     let is : c.in_ok-vec-3.field-0.items ≡ sample_tables = search rules in
     subst (λ (ts : List TableView). ArePlaces (all_places ts)) (sym is) sample_are_places
+
+pub over-requires-clause-inside : goal.over-requires-clause-inside
+over-requires-clause-inside c =
+    let is : c.in_ok-vec-3.field-0.items ≡ sample_tables = search rules in
+    rw c.requires (subst (λ (ts : List TableView). All (IsIn sample_images) (all_places ts)) (sym is) (all_in sample_images sample_tables sample_are_tables.of))

@@ -1,17 +1,14 @@
 use Rattle.std.proofs.Common.{◌≡◌, ℕ, ◌+◌, ◌-◌, ◌<◌, length, get_or, slice_index}
 use Rattle.report_text.specs.Text.{sum_from}
-use Rattle.task_alone.specs.declared.run.TaskEnd.{TaskEnd}
+use Rattle.observed_step.specs.declared.task.TaskEnd.{TaskEnd}
 use Rattle.task_ends.specs.Ends.{end_of, unlisted_at, unlisted_of}
 use Rattle.task_ends.specs.Held.{HasRoom}
 use Rattle.task_ends.proofs.running.find_ends.Given as goal
 
 abbrev pub invariant-loop-t : goal.invariant-loop-t
 invariant-loop-t l = record {
-  tables : l.counter.tables.now ≡ l.tables;
-  images : l.counter.images.now ≡ l.job.images;
-  number : l.counter.tasks ≡ l.t;
-  room : HasRoom l.counter 0;
+  room : HasRoom (length l.job.images) l.t l.counts.items 0 0;
   size : length l.ends.items ≡ l.t;
   ends : (k : ℕ) (d : TaskEnd) → k < l.t → get_or l.ends.items k d ≡ end_of l.job l.tables.places k;
-  counts : (m : ℕ) → m < length l.job.images → slice_index l.counter.counts.items m + sum_from (unlisted_at l.job l.tables.places m) l.t (length l.job.tasks - l.t) ≡ unlisted_of l.job l.tables.places m;
+  counts : (m : ℕ) → m < length l.job.images → slice_index l.counts.items m + sum_from (unlisted_at l.job l.tables.places m) l.t (length l.job.tasks - l.t) ≡ unlisted_of l.job l.tables.places m;
 }

@@ -16,7 +16,11 @@ run-requires-clause-over g c =
     let j : JobView = c.args.job.now in
     let first : Done = record {
       ending = None;
-      task = record { cpu = c.in_ok-cpu.field-0.cpu; space = c.in_ok-cpu.field-0.space; io = c.in_ok-cpu.field-0.io; done = 0; budget = (task_of j c.args.t).budget; control = c.in_ok-control.control };
+      task = record {
+        bench = record { cpu = c.in_ok-cpu.field-0.cpu; space = c.in_ok-cpu.field-0.space; io = c.in_ok-cpu.field-0.io; control = c.in_ok-control.control };
+        done = 0;
+        budget = (task_of j c.args.t).budget;
+      };
     } in
     rw c.requires.plan (is_over_begun c.args.plan.now j c.args.tables.now c.args.t first c.requires.places c.requires.job c.requires.tables c.requires.task
     (record { ending = refl; begun = c.in_ok-cpu.ensures; budget = refl; done = refl }))

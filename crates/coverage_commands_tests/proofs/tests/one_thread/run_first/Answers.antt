@@ -10,7 +10,11 @@ run_task-requires-clause-over g c =
     let j : JobView = c.args.job.now in
     let first : Done = record {
       ending = None;
-      task = record { cpu = c.in_ok-cpu.field-0.cpu; space = c.in_ok-cpu.field-0.space; io = c.in_ok-cpu.field-0.io; done = 0; budget = (task_of j 0).budget; control = c.args.control };
+      task = record {
+        bench = record { cpu = c.in_ok-cpu.field-0.cpu; space = c.in_ok-cpu.field-0.space; io = c.in_ok-cpu.field-0.io; control = c.args.control };
+        done = 0;
+        budget = (task_of j 0).budget;
+      };
     } in
     is_over_begun (g.C.Cells.plan c.args.cells.now) j c.args.tables.now 0 first c.requires.places c.requires.job c.requires.tables c.requires.task
     (record { ending = refl; begun = c.in_ok-cpu.ensures; budget = refl; done = refl })

@@ -1,0 +1,18 @@
+use Rattle.std.proofs.Common.{refl}
+use Rattle.svc_monitor.proofs.VisitLemmas.{makes_nothing, makes_kept, makes_settled}
+use Rattle.svc_monitor.proofs.planted.PlantedObserver.begun.Goals as goal
+
+pub returns-in_default-clause-makes : goal.returns-in_default-clause-makes
+returns-in_default-clause-makes g c = makes_nothing _ c.args.tables.now.places _ _ c.requires.ready.places (rw c.in_default.is at c.requires.placed)
+
+pub returns-then-cell-eq-BREAKPOINT-clause-makes :
+    goal.returns-then-cell-eq-BREAKPOINT-clause-makes
+returns-then-cell-eq-BREAKPOINT-clause-makes g c =
+    makes_settled (g.C.Cells.plan c.args.self.now.cells.now) _ c.args.tables.now.places c.requires.ready.plan c.requires.ready.places _ _ _ c.in-Some.place.0 c.fetch-cell.result _ c.fact-fact.result
+    (rw c.in-Some.is at c.requires.placed) c.fetch-cell.ensures.answer c.fetch-cell.ensures.notes c.if-cell-eq-BREAKPOINT.true refl (cc) c.settle.ensures.settles
+
+pub returns-else-cell-eq-BREAKPOINT-clause-makes :
+    goal.returns-else-cell-eq-BREAKPOINT-clause-makes
+returns-else-cell-eq-BREAKPOINT-clause-makes g c =
+    makes_kept (g.C.Cells.plan c.args.self.now.cells.now) _ c.args.tables.now.places c.requires.ready.plan c.requires.ready.places _ _ c.in-Some.place.0 c.fetch-cell.result _
+    (rw c.in-Some.is at c.requires.placed) c.fetch-cell.ensures.answer c.fetch-cell.ensures.notes (λ begun. c.if-cell-eq-BREAKPOINT.false)

@@ -1,0 +1,44 @@
+//! A task of a job that runs alone, before its first instruction.
+ghost use Rattle.std.specs.Prelude.{◌≡◌, ◌<◌, length, IfOk};
+ghost use Rattle.brk_table.specs.Kept.{AreCodes};
+ghost use Rattle.brk_table.specs.Places.{memory_of};
+ghost use Rattle.session_book.specs.Sessions.{task_of, first_state};
+ghost use Rattle.observed_step.specs.Steps.{IsShown, memory_at, stands};
+ghost use Rattle.task_alone.specs.Alone.{no_sessions};
+
+use brk_table::Tables;
+use cov_base::NoMemory;
+use module_area::Control;
+use observed_step::Bench;
+use session_book::{Begun, Job, begin};
+use std::alloc::Global;
+
+/// Task t of the job as its card says, over modules that were never planted, whatever sessions it controls: it opens and
+/// closes none. The tables are those of the job's listings.
+pub fn begin_alone<'a>(
+    alloc: Global,
+    job: &'a Job,
+    tables: &'a Tables,
+    t: usize,
+) -> Result<Bench<'a>, NoMemory>
+    requires task { t < length job.now.tasks }
+    requires tables { AreCodes job.now.images tables.now }
+    ensures memory { IfOk result (λ b. memory_at b ≡ memory_of (task_of job.now t).private job.now.images tables.now.places) }
+    ensures state { IfOk result (λ b. stands b 0 ≡ first_state (task_of job.now t)) }
+    ensures control { IfOk result (λ b. b.control ≡ no_sessions) }
+    ensures shown { IfOk result (λ b. IsShown (memory_at b) tables.now) }
+{
+    // the proof reads off the number of tasks what the job's rules say of its modules and tasks
+    let _ = job.task_count();
+    let Begun { cpu, space, io } = begin(alloc, job, tables, t)?;
+    Ok(Bench {
+        cpu,
+        space,
+        io,
+        control: Control {
+            sessions: Vec::new(alloc),
+            next: 0,
+            opened: None,
+        },
+    })
+}
