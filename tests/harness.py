@@ -19,11 +19,12 @@ SECONDS = 120
 @contextlib.contextmanager
 def interruptible() -> Iterator[None]:
     """What is started meanwhile takes an interrupt, also where these tests run in the background of a shell that ignores it."""
-    before = signal.signal(signal.SIGINT, signal.default_int_handler)
+    before = [signal.signal(signal.SIGINT, signal.default_int_handler), signal.signal(signal.SIGQUIT, signal.SIG_DFL)]
     try:
         yield
     finally:
-        signal.signal(signal.SIGINT, before)
+        for number, handler in zip((signal.SIGINT, signal.SIGQUIT), before):
+            signal.signal(number, handler)
 
 
 @dataclass
