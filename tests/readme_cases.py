@@ -117,4 +117,11 @@ def length_of_readme() -> None:
     assert words < 1200, f"{words} words"
 
 
-CHECKS = [commands_in_help, trouble, length_of_readme]
+def crates_of_readme() -> None:
+    """README.md: it names the crates of crates.txt, in their order"""
+    listed = [it.partition(":")[0] for it in text_of("crates.txt").splitlines() if ":" in it and not it.startswith("#")]
+    named = " ".join(text_of("README.md").split()).partition("Its crates, lowest first")[2].partition("): ")[2]
+    equal(named, ", ".join(listed) + ".")
+
+
+CHECKS = [commands_in_help, trouble, length_of_readme, crates_of_readme]
