@@ -190,20 +190,26 @@ def check_piece_card(place: Place, line: bytes) -> None:
         raise Refused(place, word, Broken(f"the form {name} is in lower case; it is {name.upper()}"))
 
 
+def single_lines(reader: Reader, lines: Lines) -> Iterator[tuple[int, Place, bytes]]:
+    """The lines that no run of like cards skips, each with its offset and place."""
+    one_by_one = 0
+    while lines.at < len(lines.data):
+        at = lines.at
+        if at >= one_by_one:
+            one_by_one = skip_run(reader, lines)
+        if lines.at == at:
+            place = lines.place()
+            yield at, place, lines.next()
+
+
 def piece(reader: Reader, path: str) -> Iterator[bytes]:
     """Reads the cards of a file, and answers them, whole lines, with the cards that forms of data make."""
     data = read_file(path)
     if not data:
         raise Fault(path, "is empty")
     lines = Lines(path, data if data.endswith(b"\n") else data + b"\n")
-    kept = one_by_one = 0
-    while lines.at < len(lines.data):
-        at = lines.at
-        if at >= one_by_one:
-            one_by_one = skip_run(reader, lines)
-        if lines.at > at:
-            continue
-        place, line = lines.place(), lines.next()
+    kept = 0
+    for at, place, line in single_lines(reader, lines):
         made = made_of(reader, place, line)
         if made is None:
             check_piece_card(place, line)
@@ -258,14 +264,8 @@ def check_input(path: str, data: bytes) -> None:
 def check(path: str, data: bytes) -> None:
     """Refuses the first line that breaks a rule, where there is one."""
     check_input(path, data)
-    reader, lines, one_by_one = Reader(), Lines(path, data), 0
-    while lines.at < len(data):
-        at = lines.at
-        if at >= one_by_one:
-            one_by_one = skip_run(reader, lines)
-        if lines.at > at:
-            continue
-        place, line = lines.place(), lines.next()
+    reader, lines = Reader(), Lines(path, data)
+    for _, place, line in single_lines(reader, lines):
         check_form(place, line)
         count = read_card(reader, place, line)
         found = pass_listing(lines, count)
