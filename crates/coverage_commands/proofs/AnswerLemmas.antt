@@ -25,7 +25,7 @@ use Rattle.task_ends.specs.Text.{ends_text}
 use Rattle.coverage_commands.specs.Answers.{HasPlay, IsStopped, BadJob, LargeJob, WantOfMemory, Report, Places, ToldEnds, Replayed, Stopped, IsWritten, Answers, fault_refusal}
 use Rattle.coverage_commands.specs.Inputs.{HasJob, CameWhole, CameJob, CameFirst}
 use Rattle.coverage_commands.specs.Changes.{SourceChange, SinkChange, AreasChange, sink_change, no_change}
-use Rattle.coverage_commands.specs.declared.schedule.Played.{Played}
+use Rattle.schedule_play.specs.declared.playing.Played.{Played}
 use Rattle.job_run.specs.declared.outcome.Done.{Done}
 use Rattle.coverage_commands.specs.declared.tables.Refused.TheVariants.{NoMemory}
 use Rattle.coverage_commands.specs.declared.words.Command.{Command}
@@ -38,8 +38,9 @@ use Rattle.coverage_commands.specs.Reports.{Reports}
 use Rattle.job_run.specs.Sets.{SetsView, set_in}
 use Rattle.job_run.proofs.SessionLemmas.{set_is_left}
 use Rattle.job_run.specs.Tasks.{results_of}
-use Rattle.coverage_commands.specs.Replay.{Whole, replay_text}
-use Rattle.coverage_commands.proofs.RunLemmas.{play_is_run}
+use Rattle.schedule_play.specs.Play.{Whole}
+use Rattle.schedule_play.specs.Text.{replay_text}
+use Rattle.schedule_play.proofs.RunLemmas.{play_is_run}
 use Rattle.coverage_commands.proofs.WordLemmas.{by_report}
 use Rattle.coverage_commands.specs.Words.{reads_input, reads_job, Reading, Asked, AnyJob, to_end, reading_of, runs_threads, reports_run, course_of, asked_of, without_threads}
 

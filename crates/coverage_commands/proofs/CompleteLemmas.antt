@@ -20,7 +20,7 @@ use Rattle.module_area.specs.declared.places.Place.{Place}
 use Rattle.brk_table.specs.Places.{TablesView, all_places}
 use Rattle.coverage_commands.specs.Named.{HasAsked, controlled_asked, session_number}
 use Rattle.coverage_commands.specs.Refusals.{RefusalView, job_refusal, Match}
-use Rattle.coverage_commands.specs.Replay.{Play, Bad, Whole, play_of, play_status}
+use Rattle.schedule_play.specs.Play.{Play, Bad, Whole, play_of, play_status}
 use Rattle.coverage_commands.proofs.OneTables.{one_places}
 use Rattle.job_run.specs.Runs.{Account}
 use Rattle.coverage_commands.specs.Words.{reads_input, reads_job, Reading, Asked, AnyJob, WithSession, Wanted, to_end, to_go_on, reading_of, makes_areas, reports_run, makes_job, asked_of}

@@ -9,10 +9,8 @@ pub mod FileLemmas
 pub mod IncomingLemmas
 pub mod InputLemmas
 pub mod OneTables
-pub mod ReplayLemmas
 pub mod TableLemmas
 pub mod UntouchedLemmas
-pub mod RunLemmas
 pub mod StopLemmas
 pub mod BehindLemmas
 pub mod TrialLemmas

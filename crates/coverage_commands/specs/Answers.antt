@@ -20,7 +20,7 @@ use Rattle.report_text.specs.Table.{table_text}
 use Rattle.task_ends.specs.Ends.{end_of, unlisted_of}
 use Rattle.task_ends.specs.Text.{ends_text}
 use Rattle.coverage_commands.specs.declared.words.Command.{Command}
-use Rattle.coverage_commands.specs.declared.schedule.Played.{Played}
+use Rattle.schedule_play.specs.declared.playing.Played.{Played}
 use Rattle.coverage_commands.specs.declared.words.Command.TheVariants.{Early, Count, Marks, Trial, Table, Ends, Replay, Combine, Show, Prove, Verify, Unknown}
 use Rattle.coverage_commands.specs.Checked.{IsProof, IsCheck}
 use Rattle.coverage_commands.specs.Files.{IsUnion, IsBadFile, IsOtherFile, IsShown, IsBadShown, IsOtherShown}
@@ -32,7 +32,9 @@ use Rattle.task_run.specs.Courses.{Course, solo}
 use Rattle.coverage_commands.specs.Changes.{SourceChange, SinkChange, AreasChange}
 use Rattle.coverage_commands.specs.Drained.{AreDrained}
 use Rattle.coverage_commands.specs.Reports.{Reports, Records, Counts}
-use Rattle.coverage_commands.specs.Replay.{Play, Bad, Whole, IsRun, play_of, replay_text}
+use Rattle.schedule_play.specs.Play.{Play, Bad, Whole, play_of}
+use Rattle.schedule_play.specs.Run.{IsRun}
+use Rattle.schedule_play.specs.Text.{replay_text}
 use Rattle.coverage_commands.specs.Trial.{IsUnread, IsTried}
 use Rattle.coverage_commands.specs.Words.{reads_input, reads_job, Reading, to_end, to_go_on, reading_of, makes_areas, makes_job, reports_run, course_of, Asked, WithSession, Wanted, asked_of, usage_line, too_large_input_line, read_fault_line, no_memory_line, bad_job_line, large_job_line, bad_schedule_line, no_session_line, controlled_line}
 

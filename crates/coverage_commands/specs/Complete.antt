@@ -21,7 +21,7 @@ use Rattle.coverage_commands.specs.Inputs.{HasJob, input_limit}
 use Rattle.coverage_commands.specs.Named.{HasAsked, controlled_asked, session_number}
 use Rattle.coverage_commands.specs.Changes.{SourceChange, SinkChange}
 use Rattle.coverage_commands.specs.Refusals.{RefusalView, job_refusal, Match}
-use Rattle.coverage_commands.specs.Replay.{play_of, play_status}
+use Rattle.schedule_play.specs.Play.{play_of, play_status}
 use Rattle.coverage_commands.specs.Words.{reads_input, reads_job, makes_job, to_go_on, WithSession, Wanted, reading_of, asked_of}
 
 -- the bytes of lines

@@ -11,6 +11,5 @@ pub mod Inputs
 pub mod Named
 pub mod Drained
 pub mod Files
-pub mod Replay
 pub mod Untouched
 pub mod Trial

@@ -12,8 +12,6 @@ mod named;
 mod proving;
 mod ready;
 mod refusals;
-mod replay;
-mod schedule;
 mod showing;
 mod status;
 mod tables;

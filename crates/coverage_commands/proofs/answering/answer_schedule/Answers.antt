@@ -1,6 +1,6 @@
 use Rattle.std.proofs.Common.{rules, ◌≡◌, refl, sym, ap, ◌∙◌, List, ℕ}
 use Rattle.job_text.specs.Lines.{lines_of}
-use Rattle.coverage_commands.specs.Replay.{Whole, play_of}
+use Rattle.schedule_play.specs.Play.{Whole, play_of}
 use Rattle.coverage_commands.proofs.AnswerLemmas.{replayed, written_as}
 use Rattle.coverage_commands.proofs.answering.answer_schedule.Goals as goal
 

@@ -1,8 +1,8 @@
 use Rattle.std.proofs.Common.{◌+◌, ◌<◌, length, rules}
 use Rattle.report_text.proofs.RowLemmas.{lines_from-next}
 use Rattle.report_text.proofs.WriteLemmas.{progress_at, progress_more, progress_exit}
-use Rattle.coverage_commands.proofs.ReplayLemmas.{line_of, told_line}
-use Rattle.coverage_commands.proofs.replay.events_text.Goals as goal
+use Rattle.schedule_play.proofs.TextLemmas.{line_of, told_line}
+use Rattle.schedule_play.proofs.text.events_text.Goals as goal
 
 pub returns-in_err-put : goal.returns-in_err-put
 returns-in_err-put g c =

@@ -1,7 +1,7 @@
 use Rattle.std.proofs.Common.{◌≡◌, ◌-◌, length}
 use Rattle.interleave_core.specs.Results.{Fits}
-use Rattle.coverage_commands.specs.Replay.{planted_from}
-use Rattle.coverage_commands.proofs.schedule.plant_all.Given as goal
+use Rattle.schedule_play.specs.Play.{planted_from}
+use Rattle.schedule_play.proofs.playing.plant_all.Given as goal
 
 abbrev pub invariant-loop-p : goal.invariant-loop-p
 invariant-loop-p l = record {

@@ -1,8 +1,8 @@
 use Rattle.std.proofs.Common.{length, get_or, sym, ap, ◌∙◌}
 use Rattle.module_area.specs.PlanView.{window_at}
 use Rattle.interleave_core.specs.World.{World, plan_in}
-use Rattle.coverage_commands.proofs.ReplayLemmas.{planted_next, planted_end}
-use Rattle.coverage_commands.proofs.schedule.plant_all.Goals as goal
+use Rattle.schedule_play.proofs.PlayLemmas.{planted_next, planted_end}
+use Rattle.schedule_play.proofs.playing.plant_all.Goals as goal
 
 pub plant-requires : goal.plant-requires
 plant-requires c = ap (λ ws. get_or ws c.loop-p.p 0) c.requires.windows ∙ ap (λ (w : World). window_at (plan_in w) c.loop-p.p) (sym c.loop-p.invariant.world)

@@ -7,9 +7,9 @@ ghost use Rattle.interleave_core.specs.Results.{Fits};
 ghost use Rattle.report_text.specs.Conditions.{HasFewLines};
 ghost use Rattle.report_text.specs.Writes.{WritesLines};
 ghost use Rattle.session_book.specs.Sessions.{task_of};
-ghost use Rattle.coverage_commands.specs.Replay.{letters, or_dash, shown_words, item_words, place_words, event_line, event_lines, replay_lines};
+ghost use Rattle.schedule_play.specs.Text.{letters, or_dash, shown_words, item_words, place_words, event_line, event_lines, replay_lines};
 
-use crate::schedule::Played;
+use crate::playing::Played;
 use annotator::text::{add_hex, add_number, add_text};
 use arrayvec::ArrayVec;
 use brk_table::Tables;

@@ -8,7 +8,7 @@ ghost use Rattle.module_area.specs.PlanView.{window_at};
 ghost use Rattle.interleave_core.specs.Results.{Fits, next_of};
 ghost use Rattle.interleave_core.specs.Steps.{parts_step};
 ghost use Rattle.job_text.specs.declared.schedule.Item.TheVariants as item;
-ghost use Rattle.coverage_commands.specs.Replay.{Play, plant_due, close_due, item_place, with_item, play, play_end, play_of, play_line, play_item, plant_at, planted, planted_from, IsLine, IsUnplayed};
+ghost use Rattle.schedule_play.specs.Play.{Play, plant_due, close_due, item_place, with_item, play, play_end, play_of, play_line, play_item, plant_at, planted, planted_from, IsLine, IsUnplayed};
 
 use brk_table::Tables;
 use cov_base::{NoMemory, PlaceNo, SessNo, TaskNo};
@@ -43,7 +43,7 @@ pub enum ScheduleFault {
 
 impl<T: Drop> From<AllocFailed<T>> for ScheduleFault {
     ghost use Rattle.std.specs.Prelude.{◌≡◌};
-    ghost use Rattle.coverage_commands.specs.declared.schedule.ScheduleFault.TheVariants.{NoMemory};
+    ghost use Rattle.schedule_play.specs.declared.playing.ScheduleFault.TheVariants.{NoMemory};
 
     ghost from_gives = { λ _ e. e ≡ NoMemory };
 
@@ -54,7 +54,7 @@ impl<T: Drop> From<AllocFailed<T>> for ScheduleFault {
 
 impl From<NoMemory> for ScheduleFault {
     ghost use Rattle.std.specs.Prelude.{◌≡◌};
-    ghost use Rattle.coverage_commands.specs.declared.schedule.ScheduleFault.TheVariants.{NoMemory as Wanting};
+    ghost use Rattle.schedule_play.specs.declared.playing.ScheduleFault.TheVariants.{NoMemory as Wanting};
 
     ghost from_gives = { λ _ e. e ≡ Wanting };
 

@@ -1,7 +1,7 @@
 use Rattle.std.proofs.Common.{◌≡◌, [], ◌∷◌, ◌++◌, codes, rules}
 use Rattle.report_text.proofs.WriteLemmas.{progress_start, progress_more, progress_exit, progress_last}
-use Rattle.coverage_commands.proofs.ReplayLemmas.{core_results, core_sets, told_core}
-use Rattle.coverage_commands.proofs.replay.replay_text.Goals as goal
+use Rattle.schedule_play.proofs.TextLemmas.{core_results, core_sets, told_core}
+use Rattle.schedule_play.proofs.text.replay_text.Goals as goal
 
 pub returns-in_err-put : goal.returns-in_err-put
 returns-in_err-put g c =

@@ -2,9 +2,9 @@ use Rattle.std.proofs.Common.{rules, ◌≡◌, ◌+◌, [], ◌∷◌, ◌++◌
 use Rattle.std.proofs.lemmas.Result.{IfOk-weaker, IfErr-weaker}
 use Rattle.job_text.specs.Lines.{lines_of}
 use Rattle.interleave_core.specs.World.{World}
-use Rattle.coverage_commands.specs.Replay.{play}
-use Rattle.coverage_commands.proofs.ReplayLemmas.{with_items, no_line, line_none, line_some, unplayed, line_bad, line_played, line_ends, ends_whole, ends_bad, no_more}
-use Rattle.coverage_commands.proofs.schedule.play.Goals as goal
+use Rattle.schedule_play.specs.Play.{play}
+use Rattle.schedule_play.proofs.PlayLemmas.{with_items, no_line, line_none, line_some, unplayed, line_bad, line_played, line_ends, ends_whole, ends_bad, no_more}
+use Rattle.schedule_play.proofs.playing.play.Goals as goal
 
 pub returns-in-Ok-None-clause-whole : goal.returns-in-Ok-None-clause-whole
 returns-in-Ok-None-clause-whole c =

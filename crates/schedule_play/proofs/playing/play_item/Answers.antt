@@ -1,5 +1,5 @@
-use Rattle.coverage_commands.proofs.RunLemmas.{goes, stays}
-use Rattle.coverage_commands.proofs.schedule.play_item.Goals as goal
+use Rattle.schedule_play.proofs.RunLemmas.{goes, stays}
+use Rattle.schedule_play.proofs.playing.play_item.Goals as goal
 
 pub returns-in-Ok-clause-possible : goal.returns-in-Ok-clause-possible
 returns-in-Ok-clause-possible c = let g = c.in-Ok.ensures.gone in rw c.in-Go.is (goes c.args.core.now.world c.args.core.now.parts c.go.new.self.parts c.in-Go.t g.begun g.parts g.ended)

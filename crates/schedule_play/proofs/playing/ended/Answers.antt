@@ -1,6 +1,6 @@
 use Rattle.std.proofs.Common.{refl}
-use Rattle.coverage_commands.proofs.ReplayLemmas.{has_line}
-use Rattle.coverage_commands.proofs.schedule.ended.Goals as goal
+use Rattle.schedule_play.proofs.PlayLemmas.{has_line}
+use Rattle.schedule_play.proofs.playing.ended.Goals as goal
 
 pub returns-else-is_empty-clause-bad : goal.returns-else-is_empty-clause-bad
 returns-else-is_empty-clause-bad c = (refl, has_line c.args.rest.now c.if-is_empty.ensures)

@@ -1,9 +1,9 @@
 use Rattle.std.proofs.Common.{◌≡◌, ◌+◌, ◌≤◌, length}
 use Rattle.job_text.specs.Lines.{lines_of}
 use Rattle.interleave_core.specs.Results.{Fits}
-use Rattle.coverage_commands.specs.Replay.{play}
-use Rattle.coverage_commands.proofs.ReplayLemmas.{with_items}
-use Rattle.coverage_commands.proofs.schedule.play.Given as goal
+use Rattle.schedule_play.specs.Play.{play}
+use Rattle.schedule_play.proofs.PlayLemmas.{with_items}
+use Rattle.schedule_play.proofs.playing.play.Given as goal
 
 abbrev pub invariant-loop-rest : goal.invariant-loop-rest
 invariant-loop-rest l = record {

@@ -1,8 +1,8 @@
 use Rattle.std.proofs.Common.{◌+◌, ◌-◌, length}
 use Rattle.report_text.specs.Text.{lines_from}
 use Rattle.report_text.proofs.WriteLemmas.{Progress}
-use Rattle.coverage_commands.proofs.ReplayLemmas.{line_of}
-use Rattle.coverage_commands.proofs.replay.events_text.Given as goal
+use Rattle.schedule_play.proofs.TextLemmas.{line_of}
+use Rattle.schedule_play.proofs.text.events_text.Given as goal
 
 abbrev pub invariant-loop-i : goal.invariant-loop-i
 invariant-loop-i g l = Progress g.K.Sink.written g.K.Sink.faults l.initial.sink l.sink (lines_from (line_of l.job l.tables.places l.played) (l.i + 1) (length l.played - l.i)) (lines_from (line_of l.job l.tables.places l.played) 1 (length l.played))

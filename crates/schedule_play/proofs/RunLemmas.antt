@@ -18,8 +18,9 @@ use Rattle.job_text.specs.Lines.{LineView}
 use Rattle.job_text.specs.Schedule.{item_at}
 use Rattle.job_text.specs.declared.schedule.Item.{Item}
 use Rattle.job_text.specs.declared.schedule.Item.TheVariants.{Fetch, Mark, Lift, Do, Go, Plant, Close, End}
-use Rattle.coverage_commands.specs.Replay.{Play, Bad, Whole, plant_of, plant_at, planted, planted_from, plants_from, gone, play, play_item, play_line, play_on, play_end, play_of, plant_due, close_due, plant_event, close_event, one_event, item_place, with_item, is_end, item_events, items_events, schedule_events, HasEnded, AreEnded, IsRun}
-use Rattle.coverage_commands.specs.declared.schedule.Played.{Played}
+use Rattle.schedule_play.specs.Play.{Play, Bad, Whole, plant_of, plant_at, planted, planted_from, gone, play, play_item, play_line, play_on, play_end, play_of, plant_due, close_due, plant_event, close_event, item_place, with_item, is_end}
+use Rattle.schedule_play.specs.Run.{plants_from, one_event, item_events, items_events, schedule_events, HasEnded, AreEnded, IsRun}
+use Rattle.schedule_play.specs.declared.playing.Played.{Played}
 
 plants_lead : (w : World) (k : CoreState) (p count : ℕ) (c : Parts) → k.parts ≡ c → Leads w k (plants_from w p count c) (planted_from w p count c)
 plants_lead w k p zero c same = nothing w k c same

@@ -1,0 +1,3 @@
+pub mod PlayLemmas
+pub mod RunLemmas
+pub mod TextLemmas
