@@ -1,0 +1,6 @@
+use Rattle.std.proofs.Common.{◌∙◌}
+use Rattle.names.proofs.ListLemmas.{has_is}
+use Rattle.names.proofs.list.NameList.has.Goals as goal
+
+pub returns : goal.returns
+returns c = rw (← c.self.view_is) (c.contains.ensures ∙ has_is c.self.inside.names.keys c.args.name.now)

@@ -1,0 +1,9 @@
+//! Names in order, each found by a map.
+#![tactic(auto)]
+
+mod list;
+
+pub use list::NameList;
+
+#[cfg(test)]
+mod tests;
