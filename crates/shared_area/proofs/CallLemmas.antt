@@ -16,9 +16,10 @@ use Rattle.module_area.specs.Parties.{Has, add_if, last_tag, window_tag, fetchin
 use Rattle.module_area.specs.Held.{Keeps}
 use Rattle.shared_area.specs.declared.rule.NoSlot.{NoSlot}
 use Rattle.shared_area.specs.declared.cells.SharedCells.{SharedCells}
-use Rattle.shared_area.specs.Words.{cell_of, word_of, closed_word_of, tag_in, session_in, bit_of, facts_of, set_word, task_word, task_at}
+use Rattle.shared_area.specs.Words.{cell_of, word_of, closed_word_of, bit_of, facts_of, set_word, task_word}
 use Rattle.shared_area.specs.Told.{is_given, bears_as, notes_in}
-use Rattle.shared_area.specs.Rule.{IsArea, Fetched, MayMark, Marked, Looked, Lifted, Tagged, Bounded, WordNoted, SetRead}
+use Rattle.shared_area.specs.Rule.{IsArea, Fetched, MayMark, Marked, Looked, Lifted, SetRead}
+use Rattle.shared_area.proofs.Picked.{Tagged, Bounded, WordNoted, tag_in, session_in, task_at}
 use Rattle.shared_area.proofs.WordLemmas.{session_in-word_of, tag_in-word_of, tag_in-closed_word_of, words_enough, words_some, cell_front, set_front, task_there, task_at-task_word}
 use Rattle.shared_area.proofs.NoteLemmas.{more_given}
 use Rattle.shared_area.proofs.FrontLemmas.{fetch_stands, mark_stands, look_stands, lift_stands, plant_stands, close_stands}

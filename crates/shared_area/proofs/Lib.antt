@@ -6,6 +6,7 @@ pub mod EndLemmas
 pub mod FrontLemmas
 pub mod NoteLemmas
 pub mod PastLemmas
+pub mod Picked
 pub mod StayLemmas
 pub mod SumLemmas
 pub mod TableLemmas

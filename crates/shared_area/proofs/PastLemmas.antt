@@ -23,8 +23,9 @@ use Rattle.module_area.proofs.Indices.{and_left, and_right, and_both}
 use Rattle.module_area.proofs.PlanLemmas.{any_at, no_session, number, controlled_at}
 use Rattle.module_area.proofs.StepLemmas.{or_cases}
 use Rattle.module_area.proofs.DrainLemmas.{all_past}
-use Rattle.shared_area.specs.Words.{position, no_task}
+use Rattle.shared_area.specs.Words.{position}
 use Rattle.shared_area.specs.Told.{seen_at, told_note, bears_as, notes_in}
+use Rattle.shared_area.proofs.Picked.{no_task}
 use Rattle.shared_area.proofs.NoteLemmas.{seen_most}
 use Rattle.shared_area.proofs.WordLemmas.{position_at}
 

@@ -20,7 +20,8 @@ use Rattle.module_area.proofs.CellLemmas.{lifts, plants, closes}
 use Rattle.module_area.proofs.StepLemmas.{fetches, marks}
 use Rattle.shared_area.specs.declared.rule.NoSlot.{NoSlot}
 use Rattle.shared_area.specs.Words.{cell_of, word_of, closed_word_of, bit_of, facts_of, set_word, base_of, cells_in, sets_in}
-use Rattle.shared_area.specs.Rule.{IsFront, Fetched, MayMark, Marked, Looked, Lifted, Tagged}
+use Rattle.shared_area.specs.Rule.{Fetched, MayMark, Marked, Looked, Lifted}
+use Rattle.shared_area.proofs.Picked.{IsFront, Tagged}
 use Rattle.shared_area.proofs.NoteLemmas.{pair_there}
 use Rattle.shared_area.proofs.WordLemmas.{cell_of-word_of, cell_of-closed_word_of, cell_word, facts_of-added, facts_of-other, with_fact-there, same_word, cell_front, set_front}
 use Rattle.shared_area.proofs.AnswerLemmas.{answers, founds, tag_small, keeper_seen}

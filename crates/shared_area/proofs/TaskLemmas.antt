@@ -15,9 +15,10 @@ use Rattle.module_area.specs.Notes.{NotedView, IsFound, is_final, no_tally}
 use Rattle.module_area.proofs.StepLemmas.{quiet}
 use Rattle.module_area.proofs.DrainLemmas.{bound_drained, note_drained, read_drained}
 use Rattle.shared_area.specs.declared.rule.NoSlot.{NoSlot}
-use Rattle.shared_area.specs.Words.{facts_of, set_word, cells_in, sets_in, base_of, front, position, task_word, no_task, numbers_in}
+use Rattle.shared_area.specs.Words.{facts_of, set_word, cells_in, sets_in, base_of, front, position, task_word, numbers_in}
 use Rattle.shared_area.specs.Told.{told_note, bears_as, notes_in}
-use Rattle.shared_area.specs.Rule.{IsArea, Bounded, WordNoted, SetRead}
+use Rattle.shared_area.specs.Rule.{IsArea, SetRead}
+use Rattle.shared_area.proofs.Picked.{Bounded, WordNoted, no_task}
 use Rattle.shared_area.proofs.WordLemmas.{set_front, position_at, task_there}
 use Rattle.shared_area.proofs.AnswerLemmas.{founds}
 use Rattle.shared_area.proofs.NoteLemmas.{settled_there}

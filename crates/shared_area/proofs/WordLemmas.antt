@@ -14,7 +14,8 @@ use Rattle.module_area.specs.declared.cells.Cell.{Cell}
 use Rattle.module_area.specs.Held.{lifted, closed}
 use Rattle.module_area.specs.PlanView.{PlanView, has_task}
 use Rattle.module_area.specs.Parties.{tag_session, window_tag}
-use Rattle.shared_area.specs.Words.{cell_of, word_of, closed_word_of, tag_in, session_in, bit_of, has_bit, facts_of, session_words, set_word, base_of, word_count, position, task_word, no_task, task_at}
+use Rattle.shared_area.specs.Words.{cell_of, word_of, closed_word_of, bit_of, has_bit, facts_of, session_words, set_word, base_of, word_count, position, task_word}
+use Rattle.shared_area.proofs.Picked.{tag_in, session_in, no_task, task_at}
 
 pub same_cell : (c d : Cell) → c.tag ≡ d.tag → c.half ≡ d.half → c ≡ d
 same_cell c d e f = λ i. record { tag = e i; half = f i }

@@ -7,18 +7,13 @@ use Rattle.cov_base.specs.Facts.{has_fact, is_of_kind}
 use Rattle.module_area.specs.declared.parties.Role.TheVariants.{Spent}
 use Rattle.module_area.specs.declared.parties.View.{View}
 use Rattle.module_area.specs.PlanView.{PlanView, kind_at}
-use Rattle.module_area.specs.Parties.{last_tag, window_tag, role_task, fetching, marking, lifting, tagging, bounding, noting, reading}
-use Rattle.module_area.specs.Notes.{IsAnswer, IsFound, IsWord, is_final, no_tally}
+use Rattle.module_area.specs.Parties.{window_tag, fetching, marking, lifting, reading}
+use Rattle.module_area.specs.Notes.{IsAnswer, IsFound, is_final, no_tally}
 use Rattle.module_area.specs.Held.{Held}
 use Rattle.module_area.specs.Drained.{Drained}
 use Rattle.shared_area.specs.declared.rule.NoSlot.{NoSlot}
 use Rattle.shared_area.specs.Words.{cell_of, cells_in, sets_in, base_of, front, numbers_in}
-use Rattle.shared_area.specs.Told.{has_pair, has_settled, notes_in, seen_at}
-
--- where the words are those of cells and sets alone
-pub record IsFront (plan : PlanView) (s : State NoSlot View) : Type 0 where
-  pub wide : base_of plan ≤ length s.words
-  pub held : Held plan (cells_in s.words) (sets_in plan s.words) s.views
+use Rattle.shared_area.specs.Told.{has_pair, has_settled, notes_in}
 
 -- the words are those of the cells, the sets, then the tasks
 pub record IsArea (plan : PlanView) (s : State NoSlot View) : Type 0 where
@@ -56,21 +51,6 @@ pub record Looked (plan : PlanView) (s p : ℕ) (f : Fact) (v : View) (found : F
 pub record Lifted (s p old : ℕ) (v : View) (w : ℕ) (v' : View) : Type 0 where
   pub after : v' ≡ lifting s p (nat_eq w old) v
   pub again : has_pair s p v.free ≡ true → nat_eq w old ≡ false
-
--- its keeper gave place p the tag, by a plant or a close
-pub record Tagged (p t : ℕ) (v v' : View) : Type 0 where
-  pub after : v' ≡ tagging p t v
-  pub higher : seen_at p v.seen ≤ t
-
--- a boundary added k to the word of its task
-pub record Bounded (k : ℕ) (v : View) (w : ℕ) (v' : View) : Type 0 where
-  pub after : v' ≡ bounding (role_task v.role) (w + k) v
-  pub own : w ≡ last_tag (role_task v.role) v.numbers
-
--- a look at the word of task t found the number
-pub record WordNoted (t : ℕ) (v : View) (w : ℕ) (v' : View) : Type 0 where
-  pub after : v' ≡ noting t w v
-  pub is_word : IsWord (notes_in v no_tally) t w
 
 -- a look at the set of session s at place p found the set
 pub record SetRead (plan : PlanView) (s p : ℕ) (v : View) (found : FactSet) (v' : View) : Type 0 where

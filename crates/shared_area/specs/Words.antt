@@ -8,7 +8,6 @@ use Rattle.cov_base.specs.declared.facts.Kind.TheVariants.{Straight, Conditional
 use Rattle.cov_base.specs.FactSet.{FactSet}
 use Rattle.cov_base.specs.declared.numbers.TaskNo.{TaskNo}
 use Rattle.module_area.specs.declared.cells.Cell.{Cell}
-use Rattle.module_area.specs.Parties.{tag_session}
 use Rattle.module_area.specs.PlanView.{PlanView, kind_at, has_task}
 
 -- the tag above the halfword
@@ -22,14 +21,6 @@ word_of s half = (2 * s - 1) * 65536 + half
 -- the word of a cell under the tag of session s that is over
 abbrev pub closed_word_of : ℕ → ℕ → ℕ
 closed_word_of s half = 2 * s * 65536 + half
-
--- the tag in a cell's word
-abbrev pub tag_in : ℕ → ℕ
-tag_in w = w / 65536
-
--- the session that a cell's word names
-abbrev pub session_in : ℕ → ℕ
-session_in w = tag_session (w / 65536)
 
 -- the bit of a fact at place p, in a word of the sets at 32 places: each has two, and Ran shares one with Went
 abbrev pub bit_of : ℕ → Fact → ℕ
@@ -73,13 +64,6 @@ position (u ∷ us) t = if nat_eq u.0 t then 0 else 1 + position us t
 -- the word of a task of the plan
 abbrev pub task_word : PlanView → ℕ → ℕ
 task_word plan t = base_of plan + position plan.tasks t
-
-abbrev pub no_task : TaskNo
-no_task = record { 0 = 0 }
-
--- the task whose word this is
-abbrev pub task_at : PlanView → ℕ → ℕ
-task_at plan i = (get_or plan.tasks (i - base_of plan) no_task).0
 
 -- each task's number; 0 for what is none of the plan's
 abbrev pub numbers_in : PlanView → List ℕ → ℕ → ℕ

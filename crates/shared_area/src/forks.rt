@@ -29,7 +29,8 @@ impl SharedCells {
         requires first { Has task.0 seat.old.me.0.given → ⊥ }
         requires picked { (K.plan ≡ self.now.plan) × (K.task ≡ task.0) }
         ensures area { (seat.new.table_id ≡ seat.old.table_id) × (result.table_id ≡ seat.old.table_id) }
-        ensures views { (seat.new.me.0 ≡ giving task.0 seat.old.me.0) × (result.me.0 ≡ newcomer self.now.plan task.0 seat.old.me.0) }
+        ensures root { seat.new.me.0 ≡ giving task.0 seat.old.me.0 }
+        ensures fresh { result.me.0 ≡ newcomer self.now.plan task.0 seat.old.me.0 }
         ensures slots { (seat.new.me.1 ≡ seat.old.me.1) × (result.me.1 ≡ []) }
     {
         self.table.shared.split_seat::<Fork<K>>(seat)

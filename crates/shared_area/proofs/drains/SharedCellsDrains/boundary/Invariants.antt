@@ -1,5 +1,5 @@
 use Rattle.std.proofs.Common.{◌≡◌}
-use Rattle.shared_area.specs.Rule.{Bounded}
+use Rattle.shared_area.proofs.Picked.{Bounded}
 use Rattle.shared_area.proofs.drains.SharedCellsDrains.boundary.Given as goal
 
 abbrev pub ghosts-fetch_add : goal.ghosts-fetch_add

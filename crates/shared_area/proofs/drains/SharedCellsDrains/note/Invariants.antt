@@ -1,6 +1,5 @@
 use Rattle.std.proofs.Common.{◌≡◌}
-use Rattle.shared_area.specs.Words.{task_at}
-use Rattle.shared_area.specs.Rule.{WordNoted}
+use Rattle.shared_area.proofs.Picked.{WordNoted, task_at}
 use Rattle.shared_area.proofs.drains.SharedCellsDrains.note.Given as goal
 
 abbrev pub ghosts-load : goal.ghosts-load

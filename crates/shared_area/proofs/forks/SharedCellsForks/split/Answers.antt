@@ -12,11 +12,11 @@ pub cut-seat-requires-clause-picked : goal.cut-seat-requires-clause-picked
 cut-seat-requires-clause-picked c = (refl, refl)
 
 pub invariant_of-root : goal.invariant_of-root
-invariant_of-root c = let pass = c.args.root.now in let h = split_live c.args.task.0 _ _ pass.seat.me.0 _ c.cut-seat.ensures.views.0 record { live = pass.live; counted = pass.counted; given = pass.given } in
+invariant_of-root c = let pass = c.args.root.now in let h = split_live c.args.task.0 _ _ pass.seat.me.0 _ c.cut-seat.ensures.root record { live = pass.live; counted = pass.counted; given = pass.given } in
     record { live = h.live; counted = h.counted; given = h.given }
 
 pub returns-clause-notes : goal.returns-clause-notes
-returns-clause-notes c = let pass = c.args.root.now in ap (λ v. notes_in v pass.tally) c.cut-seat.ensures.views.0 ∙ split_root c.args.task.0 pass.seat.me.0 pass.tally pass.given c.requires.first
+returns-clause-notes c = let pass = c.args.root.now in ap (λ v. notes_in v pass.tally) c.cut-seat.ensures.root ∙ split_root c.args.task.0 pass.seat.me.0 pass.tally pass.given c.requires.first
 
 pub returns-clause-fresh : goal.returns-clause-fresh
-returns-clause-fresh c = let pass = c.args.root.now in ap (λ v. notes_in v no_tally) c.cut-seat.ensures.views.1 ∙ split_pass c.args.self.now.plan c.args.task.0 pass.seat.me.0 pass.tally
+returns-clause-fresh c = let pass = c.args.root.now in ap (λ v. notes_in v no_tally) c.cut-seat.ensures.fresh ∙ split_pass c.args.self.now.plan c.args.task.0 pass.seat.me.0 pass.tally

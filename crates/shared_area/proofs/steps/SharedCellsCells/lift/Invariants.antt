@@ -1,6 +1,6 @@
 use Rattle.std.proofs.Common.{◌≡◌}
-use Rattle.shared_area.specs.Words.{session_in}
 use Rattle.shared_area.specs.Rule.{Lifted}
+use Rattle.shared_area.proofs.Picked.{session_in}
 use Rattle.shared_area.proofs.steps.SharedCellsCells.lift.Given as goal
 
 abbrev pub ghosts-compare_exchange : goal.ghosts-compare_exchange

@@ -1,6 +1,5 @@
 use Rattle.std.proofs.Common.{◌≡◌}
-use Rattle.shared_area.specs.Words.{tag_in}
-use Rattle.shared_area.specs.Rule.{Tagged}
+use Rattle.shared_area.proofs.Picked.{Tagged, tag_in}
 use Rattle.shared_area.proofs.steps.SharedCellsCells.plant.Given as goal
 
 abbrev pub ghosts-swap : goal.ghosts-swap
