@@ -35,8 +35,8 @@ module _ (plan : PlanView) (old new : Notes) (looking : IsLooking old new) where
   ready_looking closed d r = record { own = own_later plan old new d.session (ap (λ (n : Notes). n.bears) looking.same) r.own; stands = ready_at d.stage closed d r.stands }
 
   asked_looking : (s polls done : ℕ) (e : DrainView) → IsAsked plan old s polls done e → IsAsked plan new s polls done e
-  asked_looking s polls done e (inl w) = inl record { session = w.session; stage = w.stage; tie = tied_looks plan old new e looking w.tie; entry = w.entry; last = w.last; polled = w.polled }
-  asked_looking s polls done e (inr t) = inr record { session = t.session; stage = t.stage; known = known_later old new s _ e.sets looking.known t.known; at = t.at }
+  asked_looking s polls done e (inl w) = inl record { session = w.session; stage = w.stage; tie = tied_looks plan old new e looking w.tie; entry = w.entry; last = w.last; working = w.working; polled = w.polled }
+  asked_looking s polls done e (inr t) = inr record { session = t.session; stage = t.stage; known = known_later old new s _ e.sets looking.known t.known; polled = t.polled; at = t.at }
 
   went_at : (t : Stage) (closed : Option SessNo) (done : ℕ) (d e : DrainView) → WentAt t plan old closed done d e → WentAt t plan new closed done d e
   went_at Unused closed done d e (inl w) = inl w

@@ -175,6 +175,15 @@ Polls-past plan s old new (e ∷ es) answer noted (inr p) = elim p.3 [
       Stops-later plan s new e es answer past (Polls-past plan s mid new es answer (λ i d l. noted_more plan old mid (record { task = e.0.0; number = p.1; seen = old.seen } ∷ []) s _ _ refl (noted (suc i) d (omega arith))) q.1)
 ]
 
+-- a poll stops at an entry whose number is even
+pub Polls-working : (old new : Notes) (es : List (TaskNo × ℕ)) (answer : Option (TaskNo × ℕ)) → Polls old new es answer → (x : TaskNo × ℕ) → answer ≡ Some x → is_odd x.1 ≡ false
+Polls-working old new [] answer p x is = let z : None ≡ Some x = sym p.1 ∙ is in absurd cc
+Polls-working old new (e ∷ es) answer (inl p) x is = Polls-working old new es answer p.1 x is
+Polls-working old new (e ∷ es) answer (inr p) x is = elim p.3 [
+  | inl q ↦ let same : Some e ≡ Some x = sym q.2 ∙ is in let z : e ≡ x = cc in ap (λ (y : TaskNo × ℕ). is_odd y.1) (sym z) ∙ p.0
+  | inr q ↦ Polls-working (after_note old e.0.0 p.1) new es answer q.1 x is
+]
+
 -- where all tasks but its own are past, the pass has drained the session
 all_others : (o : Option ℕ) (t : ℕ) (f : ℕ → Bool) (tasks : List TaskNo) → o ≡ Some t → All (λ (u : TaskNo). f u.0 ≡ true) (others tasks t) → list_all (λ (u : TaskNo). is_own o u.0 || f u.0) tasks ≡ true
 all_others o t f [] own all = refl

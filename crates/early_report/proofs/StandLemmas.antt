@@ -1,5 +1,5 @@
 -- How a drain stands instruction by instruction.
-use Rattle.std.proofs.Common.{◌≡◌, ℕ, ◌+◌, ◌<◌, ◌≤◌, Bool, true, false, if◌then◌else◌, Option, Some, None, List, [], ◌∷◌, ◌++◌, length, map, inl, inr, refl, sym, ◌∙◌, ap, subst, arith}
+use Rattle.std.proofs.Common.{◌≡◌, ℕ, ◌+◌, ◌<◌, ◌≤◌, Bool, true, false, if◌then◌else◌, Option, Some, None, option_map, List, [], ◌∷◌, ◌++◌, length, map, inl, inr, refl, sym, ◌∙◌, ap, subst, arith}
 use Rattle.std.proofs.lemmas.List.{length-map}
 use Rattle.cov_base.specs.FactSet.{FactSet}
 use Rattle.cov_base.specs.declared.numbers.SessNo.{SessNo}
@@ -12,7 +12,7 @@ use Rattle.task_run.specs.Windows.{is_opened}
 use Rattle.early_report.specs.DrainView.{DrainView}
 use Rattle.early_report.specs.Drains.{unused, controller_of, others, IsDrainOf, AreKnown}
 use Rattle.early_report.specs.Followed.{IsOwn, IsAsked, WentAt, Went, StandsBy, Stands}
-use Rattle.early_report.specs.Told.{closes, one_more, closing_count}
+use Rattle.early_report.specs.Told.{closes, closing_count}
 use Rattle.early_report.specs.declared.drains.Stage.{Stage}
 use Rattle.early_report.proofs.FollowLemmas.{own_later, known_later}
 
@@ -36,6 +36,7 @@ module _ (plan : PlanView) (old new : Notes) (known : (s p : ℕ) (x : FactSet) 
     tie = w.tie;
     entry = w.entry;
     last = w.last;
+    working = w.working;
     polls = let a = w.polled in omega (arith, a, sum);
     some = some;
     within = within;
@@ -43,7 +44,7 @@ module _ (plan : PlanView) (old new : Notes) (known : (s p : ℕ) (x : FactSet) 
   asked_by d e polls closing (inr t) sum some within alone = inl record {
     stage = t.stage;
     known = subst (λ s. AreKnown new s (places_under plan s) e.sets) (sym t.session) t.known;
-    from = let a = t.at in omega (arith, a, within);
+    polls = let a = t.at in let p = t.polled in omega (arith, a, p, sum);
     to = let a = t.at in omega (arith, a);
     alone = λ none. t.at ∙ alone (ap (λ s. others plan.tasks (controller_of plan s)) (sym t.session) ∙ none);
   }
@@ -65,7 +66,7 @@ module _ (plan : PlanView) (old new : Notes) (known : (s p : ℕ) (x : FactSet) 
     subst (λ (d : DrainView). StandsBy plan new (Some k) (done + 1) d) (sym same) (inl record {
       stage = t.stage;
       known = known_later old new d.session (places_under plan d.session) d.sets known t.known;
-      from = t.from;
+      polls = t.polls;
       to = let a = t.to in omega (arith, a);
       alone = t.alone;
     }),
@@ -81,6 +82,9 @@ module _ (plan : PlanView) (old new : Notes) (known : (s p : ℕ) (x : FactSet) 
   stands_on closing d e bears r went = let g = gone_by closing d e r.by went in (record { own = subst (IsOwn plan new) (sym g.1) (own_later plan old new d.session bears r.own); by = g.0 }, g.1)
 
 -- the closing count with one call more
+
+abbrev one_more : Option ℕ → Option ℕ
+one_more o = option_map (λ n. n + 1) o
 
 more_first : (b : Bool) (r : Option ℕ) (x : Bool) (n : ℕ) → (if b then Some 1 else one_more (count_after r x n)) ≡ count_after (if b then Some 1 else one_more r) x (n + 1)
 more_first true r x n = refl

@@ -1,5 +1,5 @@
 -- How drains stand behind an instruction and a boundary.
-use Rattle.std.proofs.Common.{◌≡◌, ℕ, suc, ◌*◌, ◌<◌, ◌≤◌, Bool, true, false, not, if◌then◌else◌, ◌&&◌, ◌||◌, ◌==◌, nat_eq, nat_le, Option, Some, None, List, [], ◌∷◌, All, AllPairs, refl, sym, ◌∙◌, ap, subst, arith, eqb-true, ne_eqb, le-leb}
+use Rattle.std.proofs.Common.{◌≡◌, ℕ, suc, ◌*◌, ◌<◌, ◌≤◌, Bool, true, false, not, if◌then◌else◌, ◌&&◌, ◌||◌, ◌==◌, nat_eq, nat_le, Option, Some, None, option_map, unwrap_or, List, [], ◌∷◌, All, AllPairs, refl, sym, ◌∙◌, ap, subst, arith, eqb-true, ne_eqb, le-leb}
 use Rattle.std.specs.List.{list_all}
 use Rattle.cov_base.specs.States.{Visit}
 use Rattle.cov_base.specs.declared.numbers.PlaceNo.{PlaceNo}
@@ -17,7 +17,7 @@ use Rattle.task_run.proofs.AsideLemmas.{step_known, step_over}
 use Rattle.early_report.specs.DrainView.{DrainView}
 use Rattle.early_report.specs.Drains.{HasClosed}
 use Rattle.early_report.specs.Followed.{IsOwn, IsReadyAt, IsReady, closed_since}
-use Rattle.early_report.specs.Told.{is_five, closes}
+use Rattle.early_report.specs.Told.{closes}
 use Rattle.early_report.specs.declared.drains.Stage.{Stage}
 use Rattle.early_report.specs.declared.drains.Stage.TheVariants.{Unused, Begun, Drained, Taken}
 use Rattle.early_report.proofs.FollowLemmas.{own_later}
@@ -74,6 +74,10 @@ opened_stays c (Some u) next = refl
 
 not_both : (k : ℕ) → (k == 4) ≡ true → (k == 5) ≡ true → ⊥
 not_both k e f = let a = eqb-true k 4 e in let b = eqb-true k 5 f in absurd (omega (arith, a, b))
+
+-- the call is SVC 5
+abbrev is_five : Option ℕ → Bool
+is_five call = unwrap_or (option_map (λ k. k == 5) call) false
 
 closes_at : (c : ControlView) (o : Option SessNo) (call : Option ℕ) (s : ℕ) → is_opened s (closed_since o (control_after (record c { opened = o }) call).opened) ≡ (is_opened s o && is_five call)
 closes_at c o None s = ap (is_opened s) (closed_same o) ∙ sym (and_false (is_opened s o))

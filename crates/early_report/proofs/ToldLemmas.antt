@@ -72,14 +72,17 @@ told_by plan n sets ok settled None done d r is = ap (λ (d : DrainView). d.stag
 told_by plan n sets ok settled (Some closing) done d r (inl t) = inl record {
   stage = t.stage;
   are_sets = known_sets plan n d.session d.sets sets settled (from_one plan d.session ok r.own.controlled) (of_plan plan d.session ok r.own.controlled) (places_of_plan plan d.session ok r.own.controlled) t.known;
-  from = t.from;
+  from = let p = t.polls in omega (arith, p);
   to = t.to;
+  polls = t.polls;
   alone = t.alone;
 }
 told_by plan n sets ok settled (Some closing) done d r (inr w) = inr record {
   stage = w.stage;
   entry = w.entry;
   last = w.last;
+  noted = let r = w.tie.last w.entry w.last in (r.index, r.within, r.is_there);
+  working = w.working;
   other = other_task plan n closing done d w;
   polls = w.polls;
 }

@@ -122,6 +122,14 @@ pub record AreKnown (n : Notes) (s : ℕ) (places : List PlaceNo) (sets : List F
   pub size : length sets ≡ length places
   pub each : (i : ℕ) (p : PlaceNo) (x : FactSet) → i < length places → n.settled s (get_or places i p).0 (get_or sets i x) ≡ true
 
+-- each of them, at the session's places
+abbrev pub AreFinal : PlanView → Notes → ℕ → List FactSet → Type 0
+AreFinal plan n s sets = AreKnown n s (places_under plan s) sets
+
+-- from the old to the new notes what is known of sessions' sets stays known
+abbrev pub KeepsFinal : PlanView → Notes → Notes → Type 0
+KeepsFinal plan old new = (s : ℕ) (sets : List FactSet) → AreFinal plan old s sets → AreFinal plan new s sets
+
 -- the pass has looked at tasks and sets, and has done nothing else
 pub record IsLooking (old new : Notes) : Type 0 where
   pub more : List NotedView

@@ -3,11 +3,11 @@ use Rattle.std.specs.Prelude.{◌≡◌, ◌⊎◌, ℕ, ◌+◌, ◌<◌, ◌�
 use Rattle.cov_base.specs.declared.numbers.SessNo.{SessNo}
 use Rattle.cov_base.specs.declared.numbers.TaskNo.{TaskNo}
 use Rattle.module_area.specs.PlanView.{PlanView}
-use Rattle.module_area.specs.Control.{places_under, sessions_of}
+use Rattle.module_area.specs.Control.{sessions_of}
 use Rattle.module_area.specs.Notes.{Notes}
 use Rattle.task_run.specs.Windows.{is_opened}
 use Rattle.early_report.specs.DrainView.{DrainView}
-use Rattle.early_report.specs.Drains.{unused, has_controlled, controller_of, others, HasClosed, IsDrainOf, AreKnown}
+use Rattle.early_report.specs.Drains.{unused, has_controlled, controller_of, others, HasClosed, IsDrainOf, AreFinal, is_odd}
 use Rattle.early_report.specs.declared.drains.Stage.{Stage}
 use Rattle.early_report.specs.declared.drains.Stage.TheVariants.{Unused, Begun, Drained, Taken}
 
@@ -40,16 +40,18 @@ pub record Waits (plan : PlanView) (n : Notes) (s polls : ℕ) (d : DrainView) :
   pub tie : IsDrainOf plan n d
   pub entry : TaskNo × ℕ
   pub last : d.last ≡ Some entry
+  pub working : is_odd entry.1 ≡ false
   pub polled : d.polls ≡ polls + 1
 
-pub record IsTakenAt (plan : PlanView) (n : Notes) (s done : ℕ) (d : DrainView) : Type 0 where
+pub record IsTakenAt (plan : PlanView) (n : Notes) (s polls done : ℕ) (d : DrainView) : Type 0 where
   pub session : d.session ≡ s
   pub stage : d.stage ≡ Taken
-  pub known : AreKnown n s (places_under plan s) d.sets
+  pub known : AreFinal plan n s d.sets
+  pub polled : d.polls ≡ polls
   pub at : d.at ≡ done
 
 abbrev pub IsAsked : PlanView → Notes → ℕ → ℕ → ℕ → DrainView → Type 0
-IsAsked plan n s polls done d = Waits plan n s polls d ⊎ IsTakenAt plan n s done d
+IsAsked plan n s polls done d = Waits plan n s polls d ⊎ IsTakenAt plan n s polls done d
 
 -- The drain behind that instruction, at this count: one whose session was closed is begun and polled, one that was begun is
 -- polled, and any other is as it was.
@@ -78,8 +80,8 @@ is_begun Taken = false
 -- has waited for a task at each of them from that one on.
 pub record IsTakenSince (plan : PlanView) (n : Notes) (closing done : ℕ) (d : DrainView) : Type 0 where
   pub stage : d.stage ≡ Taken
-  pub known : AreKnown n d.session (places_under plan d.session) d.sets
-  pub from : closing ≤ d.at
+  pub known : AreFinal plan n d.session d.sets
+  pub polls : d.at ≡ d.polls + closing
   pub to : d.at ≤ done
   pub alone : others plan.tasks (controller_of plan d.session) ≡ [] → d.at ≡ closing
 
@@ -88,6 +90,7 @@ pub record WaitsSince (plan : PlanView) (n : Notes) (closing done : ℕ) (d : Dr
   pub tie : IsDrainOf plan n d
   pub entry : TaskNo × ℕ
   pub last : d.last ≡ Some entry
+  pub working : is_odd entry.1 ≡ false
   pub polls : d.polls + closing ≡ done + 1
   pub some : 0 < closing
   pub within : closing ≤ done

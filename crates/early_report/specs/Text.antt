@@ -1,12 +1,12 @@
 -- The text of an early report.
-use Rattle.std.specs.Prelude.{ℕ, nat_eq, if◌then◌else◌, Option, Some, None, List, [], ◌∷◌, ◌++◌, length, get_or, codes, decimal}
+use Rattle.std.specs.Prelude.{ℕ, nat_eq, if◌then◌else◌, Option, Some, None, List, [], ◌∷◌, ◌++◌, is_some, get_or, codes, decimal}
 use Rattle.cov_base.specs.FactSet.{FactSet}
 use Rattle.brk_table.specs.Places.{TablesView}
 use Rattle.session_book.specs.JobView.{JobView}
 use Rattle.session_book.specs.Results.{ResultView}
 use Rattle.session_book.specs.Sessions.{session_of}
-use Rattle.report_text.specs.Report.{task_part, session_part}
-use Rattle.report_text.specs.Text.{text_of, lines_from}
+use Rattle.report_text.specs.Report.{session_part, job_lines}
+use Rattle.report_text.specs.Text.{text_of}
 use Rattle.early_report.specs.DrainView.{DrainView}
 use Rattle.early_report.specs.declared.drains.Stage.{Stage}
 use Rattle.early_report.specs.declared.drains.Stage.TheVariants.{Unused, Begun, Drained, Taken}
@@ -36,22 +36,10 @@ unfoldable pub drain_line : Option ℕ → List ℕ
 drain_line None = codes "NOT DRAINED"
 drain_line (Some count) = codes "DRAINED COUNT " ++ decimal count
 
--- for a session with a controller
-abbrev pub drain_lines : Option ℕ → Option ℕ → List (List ℕ)
-drain_lines None drained = []
-drain_lines (Some by) drained = drain_line drained ∷ []
-
--- of session s, which numbers from 1, by when each session was drained
+-- of session s, which numbers from 1, by when each session was drained; one with a controller has that line
 abbrev pub early_part : JobView → TablesView → (ℕ → ℕ → FactSet) → (ℕ → Option ℕ) → ℕ → List (List ℕ)
-early_part job tables sets drained s = session_part job tables sets s ++ drain_lines (session_of job s).by (drained s)
-
--- the report's lines, with those of the drains behind each session's part
-abbrev pub early_lines : JobView → TablesView → (ℕ → ResultView) → (ℕ → ℕ → FactSet) → (ℕ → Option ℕ) → List (List ℕ)
-early_lines job tables results sets drained =
-    codes "COVERAGE REPORT"
-    ∷ (lines_from (task_part job results) 0 (length job.tasks)
-    ++ (lines_from (early_part job tables sets drained) 1 (length job.sessions)
-    ++ (codes "END" ∷ [])))
+early_part job tables sets drained s =
+    session_part job tables sets s ++ (if is_some (session_of job s).by then drain_line (drained s) ∷ [] else [])
 
 abbrev pub early_of : JobView → TablesView → (ℕ → ResultView) → (ℕ → ℕ → FactSet) → (ℕ → Option ℕ) → List ℕ
-early_of job tables results sets drained = text_of (early_lines job tables results sets drained)
+early_of job tables results sets drained = text_of (codes "COVERAGE REPORT" ∷ job_lines job results (early_part job tables sets drained))

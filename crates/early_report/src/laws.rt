@@ -9,18 +9,21 @@ ghost use Rattle.module_area.specs.Notes.{Notes, after_join, after_split};
 ghost use Rattle.module_area.specs.PlanView.{PlanView, IsPlan};
 ghost use Rattle.early_report.specs.Acts.{Acts};
 ghost use Rattle.early_report.specs.DrainView.{DrainView};
-ghost use Rattle.early_report.specs.Drains.{has_controlled, HasClosed, IsDrainOf, AreKnown};
+ghost use Rattle.early_report.specs.Drains.{has_controlled, HasClosed, IsDrainOf, AreFinal, KeepsFinal};
 
 /// What a drain tells of its pass stays, whatever calls of the area the pass makes next; sets that are known as final stay so,
 /// also behind the root's call that joins the pass and behind its further joins and splits, and are those with which the area
 /// ends.
 pub fn drains_stay_by_law()
-    ensures closed { (plan : PlanView) (old new : Notes) (s : ℕ) → IsPlan plan → Acts plan old new → HasClosed plan old s → HasClosed plan new s }
-    ensures tied { (plan : PlanView) (old new : Notes) (d : DrainView) → IsPlan plan → Acts plan old new → IsDrainOf plan old d → IsDrainOf plan new d }
-    ensures known { (plan : PlanView) (old new : Notes) (s : ℕ) (sets : List FactSet) → Acts plan old new → AreKnown old s (places_under plan s) sets → AreKnown new s (places_under plan s) sets }
-    ensures joined { (plan : PlanView) (root other : Notes) (s : ℕ) (sets : List FactSet) → AreKnown other s (places_under plan s) sets → AreKnown (after_join plan root other) s (places_under plan s) sets }
-    ensures kept_by_join { (plan : PlanView) (root other : Notes) (s : ℕ) (sets : List FactSet) → AreKnown root s (places_under plan s) sets → AreKnown (after_join plan root other) s (places_under plan s) sets }
-    ensures kept_by_split { (plan : PlanView) (root : Notes) (t s : ℕ) (sets : List FactSet) → AreKnown root s (places_under plan s) sets → AreKnown (after_split root t) s (places_under plan s) sets }
-    ensures finished { (plan : PlanView) (root : Notes) (s : ℕ) (sets : List FactSet) (finals : ℕ → ℕ → FactSet) → IsPlan plan → has_controlled plan s ≡ true →
-        AreKnown root s (places_under plan s) sets → AreSettled plan root finals → sets ≡ map (λ (p : PlaceNumber). finals s p.0) (places_under plan s) }
+    ensures closed { (plan : PlanView) (old new : Notes) (s : ℕ) → IsPlan plan → Acts plan old new →
+        HasClosed plan old s → HasClosed plan new s }
+    ensures tied { (plan : PlanView) (old new : Notes) (d : DrainView) → IsPlan plan → Acts plan old new →
+        IsDrainOf plan old d → IsDrainOf plan new d }
+    ensures known { (plan : PlanView) (old new : Notes) → Acts plan old new → KeepsFinal plan old new }
+    ensures joined { (plan : PlanView) (root other : Notes) → KeepsFinal plan other (after_join plan root other) }
+    ensures kept_by_join { (plan : PlanView) (root other : Notes) → KeepsFinal plan root (after_join plan root other) }
+    ensures kept_by_split { (plan : PlanView) (root : Notes) (t : ℕ) → KeepsFinal plan root (after_split root t) }
+    ensures finished { (plan : PlanView) (root : Notes) (s : ℕ) (sets : List FactSet) (finals : ℕ → ℕ → FactSet) →
+        IsPlan plan → has_controlled plan s ≡ true → AreFinal plan root s sets → AreSettled plan root finals →
+        sets ≡ map (λ (p : PlaceNumber). finals s p.0) (places_under plan s) }
 {}

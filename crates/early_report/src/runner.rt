@@ -10,13 +10,13 @@ ghost use Rattle.module_area.specs.Tied.{IsTied};
 ghost use Rattle.observed_step.specs.Steps.{memory_at};
 ghost use Rattle.svc_monitor.specs.First.{IsOver};
 ghost use Rattle.task_run.specs.Courses.{solo};
-ghost use Rattle.task_run.specs.Ran.{RanAs, walk_from};
+ghost use Rattle.task_run.specs.Ran.{RanAs};
 ghost use Rattle.task_run.specs.Windows.{is_opened};
 ghost use Rattle.early_report.specs.DrainView.{DrainView};
 ghost use Rattle.early_report.specs.Drains.{IsDrainOf, IsLooking};
 ghost use Rattle.early_report.specs.Followed.{IsReady, IsAsked, Went, HaveGone, Stands, first_drains, is_begun, closed_since};
 ghost use Rattle.early_report.specs.Following.{following};
-ghost use Rattle.early_report.specs.Told.{HasTold, closing_count};
+ghost use Rattle.early_report.specs.Told.{HasTold, closed_at};
 ghost use Rattle.early_report.specs.declared.drains.Stage.TheVariants.{Begun};
 
 use crate::drains::{Drain, Poll, Stage, drain_begin, drain_poll, drain_take, room};
@@ -224,7 +224,8 @@ fn run_steps<C: Drains>(
     ensures working { is_working (C.notes pass.new) ≡ true }
     ensures number { own_number (C.notes pass.new) < 2 ^ 62 }
     ensures sessions { map (λ (d : DrainView). d.session) drains.new.items ≡ map (λ (d : DrainView). d.session) drains.old.items }
-    ensures stand { All (λ (d : DrainView). Stands plan.now (C.notes pass.new) (closing_count task.old.bench.control (walk_from solo plan.now task.old).calls d.session) task.new.done d) drains.new.items }
+    ensures stand { All (λ (d : DrainView).
+        Stands plan.now (C.notes pass.new) (closed_at plan.now task.old d.session) task.new.done d) drains.new.items }
 {
     // Read for what every plan keeps.
     let _ = plan.places_len();
@@ -269,7 +270,8 @@ fn run_early<C: Drains>(
     requires unused { drains.old.items ≡ first_drains plan.now (bearer (C.notes pass.old)) }
     ensures area { C.is_pass cells.now pass.new }
     ensures ran { RanAs solo (C.plan cells.now) (C.notes pass.old) (C.notes pass.new) task.old task.new result }
-    ensures told { (sets : ℕ → ℕ → FactSet) → AreSettled (C.plan cells.now) (C.notes pass.new) sets → HasTold plan.now task.old task.new drains.new.items sets }
+    ensures told { (sets : ℕ → ℕ → FactSet) → AreSettled (C.plan cells.now) (C.notes pass.new) sets →
+        HasTold plan.now task.old task.new drains.new.items sets }
     ensures ended { is_working (C.notes pass.new) ≡ false }
 {
     let ending = run_steps(cells, pass, tables, plan, drains, task);

@@ -1,11 +1,11 @@
 //! The text of an early report: behind each controlled session's part, whether and when its sets were taken.
-ghost use Rattle.std.specs.Prelude.{◌≡◌, ◌+◌, ◌-◌, ◌<◌, ◌≤◌, ◌++◌, ◌∷◌, [], length, map};
+ghost use Rattle.std.specs.Prelude.{◌≡◌, ◌+◌, ◌-◌, ◌<◌, ◌≤◌, ◌++◌, ◌∷◌, [], length, map, is_some, if◌then◌else◌};
 ghost use Rattle.cov_outside.specs.Writes.{Writes};
 ghost use Rattle.session_book.specs.Sets.{HasSetsOf};
 ghost use Rattle.report_text.specs.Conditions.{AreTablesOf, AreResultsOf, AreSetsOf};
 ghost use Rattle.report_text.specs.Text.{lines_from};
 ghost use Rattle.report_text.specs.Writes.{WritesLines};
-ghost use Rattle.early_report.specs.Text.{taken_at, drained_in, drained_by, drained_of, drain_line, drain_lines, early_part, early_lines, early_of};
+ghost use Rattle.early_report.specs.Text.{taken_at, drained_in, drained_by, drained_of, drain_line, early_part, early_of};
 
 use crate::drains::{Drain, Stage};
 use annotator::text::{add_number, add_text};
@@ -70,7 +70,7 @@ fn drain_line(drained: Option<u32>) -> ArrayVec<u8, 160>
 
 /// That line, where the session has a controller.
 fn drain_text<K: Sink>(sink: &mut K, by: Option<u32>, drained: Option<u32>) -> Result<(), Failed>
-    ensures { WritesLines K.written K.faults sink.old sink.new result (drain_lines by drained) }
+    ensures { WritesLines K.written K.faults sink.old sink.new result (if is_some by then drain_line drained ∷ [] else []) }
 {
     match by {
         Some(_) => put(sink, drain_line(drained)),
@@ -90,8 +90,10 @@ fn early_part<K: Sink, R: FactSets>(
     requires from { 0 < s.0 }
     requires to { s.0 ≤ length job.now.sessions }
     requires tables { AreTablesOf job.now tables.now }
-    requires sets { HasSetsOf job.now tables.now (R.sessions results.now) (R.places results.now) (R.set_of results.now) s.0 }
-    ensures { WritesLines K.written K.faults sink.old sink.new result (early_part job.now tables.now (R.set_of results.now) (drained_of job.now (map (λ v. v.items) lists.now)) s.0) }
+    requires sets { HasSetsOf job.now tables.now
+        (R.sessions results.now) (R.places results.now) (R.set_of results.now) s.0 }
+    ensures { WritesLines K.written K.faults sink.old sink.new result
+        (early_part job.now tables.now (R.set_of results.now) (drained_of job.now (map (λ v. v.items) lists.now)) s.0) }
 {
     let session = job.session(s);
     session_part(sink, job, tables, results, s)?;
@@ -108,31 +110,14 @@ fn early_parts<K: Sink, R: FactSets>(
 ) -> Result<(), Failed>
     requires tables { AreTablesOf job.now tables.now }
     requires sets { AreSetsOf job.now tables.now (R.sessions results.now) (R.places results.now) (R.set_of results.now) }
-    ensures { WritesLines K.written K.faults sink.old sink.new result (lines_from (early_part job.now tables.now (R.set_of results.now) (drained_of job.now (map (λ v. v.items) lists.now))) 1 (length job.now.sessions)) }
+    ensures { WritesLines K.written K.faults sink.old sink.new result
+        (lines_from (early_part job.now tables.now (R.set_of results.now) (drained_of job.now (map (λ v. v.items) lists.now)))
+        1 (length job.now.sessions)) }
 {
     for i in 0..job.sessions.len() {
         early_part(sink, job, tables, results, lists, SessNo(i as u32 + 1))?;
     }
     Ok(())
-}
-
-/// All lines.
-fn early_lines<K: Sink, R: Results + FactSets>(
-    sink: &mut K,
-    job: &Job,
-    tables: &Tables,
-    results: &R,
-    lists: &[Vec<Drain>],
-) -> Result<(), Failed>
-    requires tables { AreTablesOf job.now tables.now }
-    requires results { AreResultsOf job.now (R.tasks results.now) (R.result_of results.now) }
-    requires sets { AreSetsOf job.now tables.now (R.sessions results.now) (R.places results.now) (R.set_of results.now) }
-    ensures { WritesLines K.written K.faults sink.old sink.new result (early_lines job.now tables.now (R.result_of results.now) (R.set_of results.now) (drained_of job.now (map (λ v. v.items) lists.now))) }
-{
-    put(sink, words_line(b"COVERAGE REPORT"))?;
-    tasks_text(sink, job, results)?;
-    early_parts(sink, job, tables, results, lists)?;
-    put(sink, words_line(b"END"))
 }
 
 /// The report of a job's tasks and sessions, line by line, and behind the part of each session with a controller the count
@@ -149,7 +134,12 @@ pub fn early<K: Sink, R: Results + FactSets>(
     requires tables { AreTablesOf job.now tables.now }
     requires results { AreResultsOf job.now (R.tasks results.now) (R.result_of results.now) }
     requires sets { AreSetsOf job.now tables.now (R.sessions results.now) (R.places results.now) (R.set_of results.now) }
-    ensures { Writes K.written K.faults sink.old sink.new result (early_of job.now tables.now (R.result_of results.now) (R.set_of results.now) (drained_of job.now (map (λ v. v.items) lists.now))) }
+    ensures { Writes K.written K.faults sink.old sink.new result
+        (early_of job.now tables.now (R.result_of results.now) (R.set_of results.now)
+        (drained_of job.now (map (λ v. v.items) lists.now))) }
 {
-    early_lines(sink, job, tables, results, lists)
+    put(sink, words_line(b"COVERAGE REPORT"))?;
+    tasks_text(sink, job, results)?;
+    early_parts(sink, job, tables, results, lists)?;
+    put(sink, words_line(b"END"))
 }

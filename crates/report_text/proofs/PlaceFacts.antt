@@ -1,11 +1,33 @@
--- Places, and counts over them.
-use Rattle.std.proofs.Common.{◌≡◌, ℕ, ◌+◌, ◌-◌, ◌<◌, ◌≤◌, suc, List, [], ◌∷◌, ◌++◌, length, get_or, drop, Bool, true, false, if◌then◌else◌, nat_lt, refl, sym, ap, ◌∙◌, arith}
-use Rattle.std.proofs.lemmas.List.{drop_more, drop_all}
-use Rattle.annotator.specs.Annotated.{annotated}
+-- Places, and sums over numbers.
+use Rattle.std.proofs.Common.{◌≡◌, ℕ, ◌+◌, ◌-◌, ◌<◌, ◌≤◌, suc, List, Bool, true, false, if◌then◌else◌, nat_eq, nat_lt, refl, arith}
+use Rattle.annotator.specs.Annotated.{mark_byte}
 use Rattle.cov_base.specs.Codes.{length_of}
+use Rattle.cov_base.specs.FactSet.{FactSet}
+use Rattle.cov_base.specs.Facts.{full_of}
+use Rattle.cov_base.specs.Marks.{mark_of}
 use Rattle.cov_base.specs.declared.marks.Mark.{Mark}
-use Rattle.report_text.specs.Sessions.{marked_lines}
+use Rattle.module_area.specs.Counts.{fact_count}
+use Rattle.module_area.specs.PlanView.{place_of}
+use Rattle.module_area.specs.declared.places.Place.{Place}
+use Rattle.session_book.specs.Results.{ResultView}
+use Rattle.report_text.specs.Sessions.{lacks}
 use Rattle.report_text.specs.Text.{sum_from}
+
+-- what a place adds to each sum of a report, and a task
+abbrev pub executed_at : (ℕ → FactSet) → ℕ → ℕ
+executed_at sets n = if lacks (sets n) then 0 else 1
+
+abbrev pub facts_at : (ℕ → FactSet) → ℕ → ℕ
+facts_at sets n = fact_count (sets n)
+
+abbrev pub possible_at : List Place → ℕ → ℕ
+possible_at places n = fact_count (full_of (place_of places n).kind)
+
+abbrev pub marked_at : Mark → List Place → (ℕ → FactSet) → ℕ → ℕ
+marked_at mark places sets n = if nat_eq (mark_byte mark) (mark_byte (mark_of (place_of places n).kind (sets n))) then 1 else 0
+
+abbrev pub done_at : (ℕ → ResultView) → ℕ → ℕ
+done_at results t = (results t).done
 
 one_of : (a b : Bool) → 2 ≤ (if a then 2 else (if b then 4 else 6))
 one_of true b = omega arith
@@ -25,12 +47,3 @@ sum_from-next amount n past h = rw (count_step n past h) refl
 
 pub sum_step : (amount : ℕ → ℕ) (n past so_far x total : ℕ) → n < past → x ≡ amount n → so_far + sum_from amount n (past - n) ≡ total → so_far + x + sum_from amount (n + 1) (past - (n + 1)) ≡ total
 sum_step amount n past so_far x total h is sum = omega (arith, sum, sum_from-next amount n past h, is)
-
--- the next line of a listing, and those after it
-pub marked_lines-next : (mark : ℕ → Mark) (lines : List (List ℕ)) (i : ℕ) (line : List ℕ) → i < length lines → line ≡ get_or lines i [] → marked_lines mark (i + 1) (drop i lines) ≡ (annotated (mark (i + 1)) line ∷ []) ++ marked_lines mark (i + 1 + 1) (drop (i + 1) lines)
-marked_lines-next mark lines i line h is =
-    let next : drop i lines ≡ line ∷ drop (i + 1) lines = drop_more lines i [] h ∙ ap (λ x. x ∷ drop (i + 1) lines) (sym is) in
-    rw next refl
-
-pub marked_lines-end : (mark : ℕ → Mark) (lines : List (List ℕ)) (i : ℕ) → length lines ≤ i → marked_lines mark (i + 1) (drop i lines) ≡ []
-marked_lines-end mark lines i h = rw (drop_all i lines h) refl

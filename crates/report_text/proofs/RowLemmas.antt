@@ -1,9 +1,10 @@
 -- Rows, one after another.
-use Rattle.std.proofs.Common.{◌≡◌, ℕ, ◌+◌, ◌-◌, ◌<◌, ◌≤◌, min, inl, inr, zero, suc, Bool, true, false, not, if◌then◌else◌, bytes_eq, List, [], ◌∷◌, ◌++◌, refl, sym, ap, ◌∙◌, arith, append_assoc, append-nil}
+use Rattle.std.proofs.Common.{◌≡◌, ℕ, ◌+◌, ◌-◌, ◌<◌, ◌≤◌, min, inl, inr, zero, suc, Bool, true, false, not, if◌then◌else◌, bytes_eq, codes, List, [], ◌∷◌, ◌++◌, refl, sym, ap, ◌∙◌, arith, append_assoc, append-nil}
 use Rattle.std.proofs.lemmas.Bool.{cases_lt}
 use Rattle.std.proofs.lemmas.Bool.{false≢true}
-use Rattle.report_text.specs.Tasks.{row_lines, storage_line}
-use Rattle.report_text.specs.Text.{lines_from}
+use Rattle.annotator.specs.Digits.{hex_digits}
+use Rattle.report_text.specs.Tasks.{row_lines}
+use Rattle.report_text.specs.Text.{hex_bytes, lines_from}
 
 count_step : (n count : ℕ) → n < count → count - n ≡ suc (count - (n + 1))
 count_step n count h = omega arith
@@ -45,10 +46,10 @@ where_same : (same : Bool) (lines : List (List ℕ)) → not same ≡ false → 
 where_same true lines h = refl
 where_same false lines h = absurd (false≢true (sym h))
 
-pub row_lines-changed : (at : ℕ) (first now : List ℕ) (changed : Bool) → changed ≡ not (bytes_eq first now) → changed ≡ true → row_lines at first now ≡ storage_line at now ∷ []
+pub row_lines-changed : (at : ℕ) (first now : List ℕ) (changed : Bool) → changed ≡ not (bytes_eq first now) → changed ≡ true → row_lines at first now ≡ (codes "STOR " ++ hex_digits 6 at ++ codes " " ++ hex_bytes now) ∷ []
 unfolding row_lines
-row_lines-changed at first now changed test holds = unless (bytes_eq first now) (storage_line at now ∷ []) (sym test ∙ holds)
+row_lines-changed at first now changed test holds = unless (bytes_eq first now) ((codes "STOR " ++ hex_digits 6 at ++ codes " " ++ hex_bytes now) ∷ []) (sym test ∙ holds)
 
 pub row_lines-same : (at : ℕ) (first now : List ℕ) (changed : Bool) → changed ≡ not (bytes_eq first now) → changed ≡ false → row_lines at first now ≡ []
 unfolding row_lines
-row_lines-same at first now changed test fails = where_same (bytes_eq first now) (storage_line at now ∷ []) (sym test ∙ fails)
+row_lines-same at first now changed test fails = where_same (bytes_eq first now) ((codes "STOR " ++ hex_digits 6 at ++ codes " " ++ hex_bytes now) ∷ []) (sym test ∙ fails)

@@ -1,5 +1,5 @@
 -- What a report needs of tables, results and sets.
-use Rattle.std.specs.Prelude.{◌≡◌, ℕ, ◌<◌, ◌≤◌, length, All, IfSome}
+use Rattle.std.specs.Prelude.{◌≡◌, ℕ, ◌+◌, ◌<◌, ◌≤◌, length, All, IfSome}
 use Rattle.cov_base.specs.declared.constants.TheConstants.{INPUT_LIMIT}
 use Rattle.cov_base.specs.FactSet.{FactSet}
 use Rattle.brk_table.specs.Places.{TablesView, IsIn}
@@ -26,6 +26,12 @@ pub record HasResultOf (job : JobView) (tasks : ℕ) (results : ℕ → ResultVi
 pub record AreResultsOf (job : JobView) (tasks : ℕ) (results : ℕ → ResultView) : Type 0 where
   pub count : tasks ≡ length job.tasks
   pub sizes : (t : ℕ) → t < length job.tasks → length (results t).bytes ≡ (task_of job t).private
+
+-- there is such a session, and a place for each of the tables'
+pub record HasSession (tables : TablesView) (sessions places s : ℕ) : Type 0 where
+  pub some : 0 < s
+  pub exists : s < sessions + 1
+  pub size : places ≡ length tables.places
 
 -- for each session of the job a set at each place, within its kind at those of the session's modules
 pub record AreSetsOf (job : JobView) (tables : TablesView) (sessions places : ℕ) (sets : ℕ → ℕ → FactSet) : Type 0 where

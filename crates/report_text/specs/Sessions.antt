@@ -1,5 +1,5 @@
 -- What a report says of a session.
-use Rattle.std.specs.Prelude.{ℕ, zero, suc, ◌+◌, ◌-◌, Bool, true, false, not, ◌&&◌, if◌then◌else◌, Option, Some, None, List, [], ◌∷◌, ◌++◌, get_or, codes, decimal}
+use Rattle.std.specs.Prelude.{ℕ, zero, suc, ◌+◌, ◌-◌, Bool, true, false, not, ◌&&◌, if◌then◌else◌, Option, Some, None, option_map, unwrap_or, List, [], ◌∷◌, ◌++◌, length, get_or, codes, decimal}
 use Rattle.std.specs.List.{flat_map}
 use Rattle.annotator.specs.Annotated.{annotated}
 use Rattle.annotator.specs.Digits.{hex_digits}
@@ -13,10 +13,10 @@ use Rattle.module_area.specs.Counts.{fact_count}
 use Rattle.module_area.specs.PlanView.{place_of}
 use Rattle.module_area.specs.declared.places.Place.{Place}
 use Rattle.brk_table.specs.Places.{TablesView, first_place, place_count, place_at_line}
-use Rattle.session_book.specs.JobView.{JobView, SessionView}
-use Rattle.session_book.specs.Sessions.{module_of}
+use Rattle.session_book.specs.JobView.{JobView}
+use Rattle.session_book.specs.Sessions.{module_of, session_of}
 use Rattle.report_text.specs.declared.sessions.Run.{Run}
-use Rattle.report_text.specs.Text.{sum_from}
+use Rattle.report_text.specs.Text.{lines_from, sum_from}
 
 -- none of the facts
 abbrev pub lacks : FactSet → Bool
@@ -29,20 +29,13 @@ location_of job p = p.at - (module_of job p.module).base
 abbrev pub last_byte_of : JobView → Place → ℕ
 last_byte_of job p = location_of job p + p.len - 1
 
--- a listing line's mark is that of its place; a text line has none
-abbrev pub line_mark : List Place → (ℕ → FactSet) → Option ℕ → Mark
-line_mark places sets None = Text
-line_mark places sets (Some n) = mark_of (place_of places n).kind (sets n)
+-- the mark of line k of module m's listing is that of its place; a text line has none
+abbrev pub line_mark : TablesView → (ℕ → FactSet) → ℕ → ℕ → Mark
+line_mark tables sets m k = unwrap_or (option_map (λ n. mark_of (place_of tables.places n).kind (sets n)) (place_at_line tables.tables m k)) Text
 
--- each line with its mark, the first of number k
-abbrev pub marked_lines : (ℕ → Mark) → ℕ → List (List ℕ) → List (List ℕ)
-marked_lines mark k [] = []
-marked_lines mark k (line ∷ lines) = annotated (mark k) line ∷ marked_lines mark (k + 1) lines
-
--- the listing of a module, where it has one; its lines number from 1
-abbrev pub listing_lines : (ℕ → Mark) → Option (List (List ℕ)) → List (List ℕ)
-listing_lines mark None = []
-listing_lines mark (Some lines) = marked_lines mark 1 lines
+-- each of these lines of its listing with its mark; they number from 1
+abbrev pub marked_lines : TablesView → (ℕ → FactSet) → ℕ → List (List ℕ) → List (List ℕ)
+marked_lines tables sets m lines = lines_from (λ i. annotated (line_mark tables sets m (i + 1)) (get_or lines i []) ∷ []) 0 (length lines)
 
 -- the last byte of a run that has come to the byte `last`, and goes on as long as places from n on lack facts
 abbrev pub run_end : JobView → List Place → (ℕ → FactSet) → ℕ → ℕ → ℕ → ℕ
@@ -66,34 +59,24 @@ run_lines job places sets before n (suc count) =
     run_line (location_of job (place_of places n)) (run_end job places sets (last_byte_of job (place_of places n)) (n + 1) count) ∷ run_lines job places sets true (n + 1) count)
     else run_lines job places sets false (n + 1) count
 
--- of a place: 1 where it has a fact, the facts that it has, and those that there can be
-abbrev pub executed_at : (ℕ → FactSet) → ℕ → ℕ
-executed_at sets n = if lacks (sets n) then 0 else 1
-
-abbrev pub facts_at : (ℕ → FactSet) → ℕ → ℕ
-facts_at sets n = fact_count (sets n)
-
-abbrev pub possible_at : List Place → ℕ → ℕ
-possible_at places n = fact_count (full_of (place_of places n).kind)
-
 -- places, places with a fact, facts, and facts that there can be
-unfoldable pub count_line : List ℕ → ℕ → ℕ → ℕ → ℕ → List ℕ
-count_line name count executed facts possible =
+unfoldable pub totals_line : List ℕ → ℕ → ℕ → ℕ → ℕ → List ℕ
+totals_line name count executed facts possible =
     codes "MODULE " ++ unpadded name ++ codes " PLACES " ++ decimal count ++ codes " EXECUTED " ++ decimal executed ++ codes " FACTS " ++ decimal facts ++ codes " OF " ++ decimal possible
 
--- of a module, by the session's sets at its places, which are so many from the first on
-unfoldable pub module_part : JobView → TablesView → (ℕ → FactSet) → ℕ → ℕ → ℕ → List (List ℕ)
-module_part job tables sets m first count =
-    count_line (module_of job m).name count (sum_from (executed_at sets) first count) (sum_from (facts_at sets) first count) (sum_from (possible_at tables.places) first count)
-    ∷ (listing_lines (λ k. line_mark tables.places sets (place_at_line tables.tables m k)) (get_or job.listings m None)
-    ++ run_lines job tables.places sets false first count)
-
-abbrev pub module_lines : JobView → TablesView → (ℕ → FactSet) → ℕ → List (List ℕ)
-module_lines job tables sets m = module_part job tables sets m (first_place tables.tables m) (place_count tables.tables m)
+-- of module m, by the session's sets at its places: their totals, its listing if it has one, and the runs without facts
+unfoldable pub module_lines : JobView → TablesView → (ℕ → FactSet) → ℕ → List (List ℕ)
+module_lines job tables sets m =
+    let first : ℕ = first_place tables.tables m in
+    let count : ℕ = place_count tables.tables m in
+    totals_line (module_of job m).name count (sum_from (λ n. if lacks (sets n) then 0 else 1) first count)
+    (sum_from (λ n. fact_count (sets n)) first count) (sum_from (λ n. fact_count (full_of (place_of tables.places n).kind)) first count)
+    ∷ (marked_lines tables sets m (unwrap_or (get_or job.listings m None) []) ++ run_lines job tables.places sets false first count)
 
 unfoldable pub session_line : List ℕ → List ℕ → List ℕ
 session_line name phase = codes "SESSION " ++ unpadded name ++ codes " PHASE " ++ unpadded phase
 
--- modules in the order of the card
-abbrev pub session_lines : JobView → TablesView → (ℕ → FactSet) → SessionView → List (List ℕ)
-session_lines job tables sets s = session_line s.name (get_or job.phases s.phase []) ∷ flat_map (module_lines job tables sets) s.modules
+-- of session s, which numbers from 1: its names, and these lines of each of its modules, in the order of its card
+abbrev pub session_lines : JobView → (ℕ → List (List ℕ)) → ℕ → List (List ℕ)
+session_lines job lines s =
+    session_line (session_of job s).name (get_or job.phases (session_of job s).phase []) ∷ flat_map lines (session_of job s).modules

@@ -20,26 +20,22 @@ kind_letter Conditional = codes "C"
 unfoldable pub place_line : ℕ → Place → List ℕ
 place_line location p = codes "PLACE " ++ hex_digits 6 location ++ codes " " ++ decimal p.len ++ codes " " ++ kind_letter p.kind ++ codes " " ++ hex_digits 4 p.original
 
-abbrev pub place_part : JobView → List Place → ℕ → List (List ℕ)
-place_part job places n = place_line (location_of job (place_of places n)) (place_of places n) ∷ []
-
 unfoldable pub module_line : List ℕ → ℕ → List ℕ
 module_line name count = codes "MODULE " ++ unpadded name ++ codes " PLACES " ++ decimal count
 
--- of a module whose places are so many from the first on
-abbrev pub places_part : JobView → TablesView → ℕ → ℕ → ℕ → List (List ℕ)
-places_part job tables m first count = module_line (module_of job m).name count ∷ lines_from (place_part job tables.places) first count
+-- of module m: its name, how many places it has, and this line of each place, in the order of their numbers
+abbrev pub module_places : JobView → TablesView → (ℕ → Place → List ℕ) → ℕ → List (List ℕ)
+module_places job tables line m =
+    module_line (module_of job m).name (place_count tables.tables m)
+    ∷ lines_from (λ n. line n (place_of tables.places n) ∷ []) (first_place tables.tables m) (place_count tables.tables m)
 
 -- a module is monitored where it has a listing
 abbrev pub is_monitored : JobView → ℕ → Bool
 is_monitored job m = is_some (get_or job.listings m None)
 
 abbrev pub table_part : JobView → TablesView → ℕ → List (List ℕ)
-table_part job tables m = if is_monitored job m then places_part job tables m (first_place tables.tables m) (place_count tables.tables m) else []
+table_part job tables m = if is_monitored job m then module_places job tables (λ n p. place_line (location_of job p) p) m else []
 
--- modules in the order of the job, places in that of their numbers
-abbrev pub table_lines : JobView → TablesView → List (List ℕ)
-table_lines job tables = codes "COVERAGE TABLE" ∷ (lines_from (table_part job tables) 0 (length job.images) ++ (codes "END" ∷ []))
-
+-- modules in the order of the job
 abbrev pub table_text : JobView → TablesView → List ℕ
-table_text job tables = text_of (table_lines job tables)
+table_text job tables = text_of (codes "COVERAGE TABLE" ∷ (lines_from (table_part job tables) 0 (length job.images) ++ (codes "END" ∷ [])))

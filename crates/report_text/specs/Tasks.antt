@@ -26,33 +26,23 @@ ending_words (Some Spent) = codes "SPENT"
 unfoldable pub task_words : List ℕ → Option Ending → ℕ → List ℕ
 task_words name ending done = codes "TASK " ++ unpadded name ++ codes " " ++ ending_words ending ++ codes " COUNT " ++ decimal done
 
--- and the condition code
-unfoldable pub task_line : List ℕ → Option Ending → ℕ → ℕ → List ℕ
-task_line name ending done condition = task_words name ending done ++ codes " CC " ++ decimal condition
-
 -- a label and registers, each after a blank
 unfoldable pub register_line : List ℕ → List ℕ → List ℕ
 register_line label regs = label ++ flat_map (λ r. codes " " ++ hex_digits 8 r) regs
 
--- and the registers, eight to a line
+-- that with the condition code, and the registers, eight to a line
 unfoldable pub state_lines : List ℕ → Option Ending → ℕ → CpuView → List (List ℕ)
-state_lines name ending done cpu = task_line name ending done cpu.condition ∷ register_line (codes "R0") (take 8 cpu.regs) ∷ register_line (codes "R8") (drop 8 cpu.regs) ∷ []
-
--- a row of output, in hexadecimal
-abbrev pub output_row : List ℕ → ℕ → List (List ℕ)
-output_row output n = hex_bytes (row_of 32 output n) ∷ []
+state_lines name ending done cpu =
+    (task_words name ending done ++ codes " CC " ++ decimal cpu.condition)
+    ∷ register_line (codes "R0") (take 8 cpu.regs) ∷ register_line (codes "R8") (drop 8 cpu.regs) ∷ []
 
 -- how many bytes of output there are, and the bytes, 32 to a line
 unfoldable pub output_lines : List ℕ → List (List ℕ)
-output_lines output = (codes "OUT " ++ decimal (length output)) ∷ lines_from (output_row output) 0 (row_count 32 output)
+output_lines output = (codes "OUT " ++ decimal (length output)) ∷ lines_from (λ n. hex_bytes (row_of 32 output n) ∷ []) 0 (row_count 32 output)
 
--- an address of private storage and the bytes there
-unfoldable pub storage_line : ℕ → List ℕ → List ℕ
-storage_line at row = codes "STOR " ++ hex_digits 6 at ++ codes " " ++ hex_bytes row
-
--- where they differ from the first ones
+-- an address of private storage and the bytes there, where they differ from the first ones
 unfoldable pub row_lines : ℕ → List ℕ → List ℕ → List (List ℕ)
-row_lines at first now = if bytes_eq first now then [] else storage_line at now ∷ []
+row_lines at first now = if bytes_eq first now then [] else (codes "STOR " ++ hex_digits 6 at ++ codes " " ++ hex_bytes now) ∷ []
 
 -- of row n, where it has changed
 abbrev pub changed_row : List ℕ → List ℕ → ℕ → List (List ℕ)

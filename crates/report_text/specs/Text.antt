@@ -1,12 +1,11 @@
 -- A text of lines, and bytes in rows.
 use Rattle.std.specs.Prelude.{ℕ, zero, suc, ◌+◌, ◌-◌, ◌*◌, ◌/◌, min, List, [], ◌∷◌, ◌++◌, length, slice_range}
-use Rattle.std.specs.List.{flat_map}
+use Rattle.std.specs.List.{flat_map, range_with_len}
 use Rattle.annotator.specs.Digits.{hex_digits}
 
 -- each line, and the byte LF after it
 abbrev pub text_of : List (List ℕ) → List ℕ
-text_of [] = []
-text_of (line ∷ lines) = (line ++ 10 ∷ []) ++ text_of lines
+text_of lines = flat_map (λ line. line ++ 10 ∷ []) lines
 
 -- each byte in two hexadecimal digits
 abbrev pub hex_bytes : List ℕ → List ℕ
@@ -21,8 +20,7 @@ row_count size bytes = (length bytes + (size - 1)) / size
 
 -- the lines of number n, of the next one, and so on, for so many numbers
 abbrev pub lines_from : (ℕ → List (List ℕ)) → ℕ → ℕ → List (List ℕ)
-lines_from lines n zero = []
-lines_from lines n (suc count) = lines n ++ lines_from lines (n + 1) count
+lines_from lines n count = flat_map lines (range_with_len n count)
 
 -- likewise the sum of what they have
 abbrev pub sum_from : (ℕ → ℕ) → ℕ → ℕ → ℕ

@@ -3,8 +3,8 @@ ghost use Rattle.std.specs.Prelude.{◌≡◌, ◌+◌, ◌-◌, ◌<◌, ◌≤
 ghost use Rattle.std.specs.List.{flat_map};
 ghost use Rattle.arrayvec.specs.ArrayVec.{array_vec_len};
 ghost use Rattle.cov_outside.specs.Writes.{Writes};
-ghost use Rattle.report_text.specs.Conditions.{AreTablesOf, AreResultsOf};
-ghost use Rattle.report_text.specs.Counts.{fact_counts, count_line, count_part, counts_of_module, counts_of_session, count_lines, count_text};
+ghost use Rattle.report_text.specs.Conditions.{AreTablesOf, AreResultsOf, HasSession};
+ghost use Rattle.report_text.specs.Counts.{fact_counts, count_line, module_counts, session_counts, count_text};
 ghost use Rattle.report_text.specs.Text.{lines_from};
 ghost use Rattle.report_text.specs.Writes.{WritesLines};
 
@@ -78,34 +78,6 @@ pub fn count_line<R: FactCounts>(
     line
 }
 
-/// The places from `first` on, below `past`, with their counts.
-fn count_lines<K: Sink, R: FactCounts>(
-    sink: &mut K,
-    job: &Job,
-    tables: &Tables,
-    results: &R,
-    s: SessNo,
-    first: u32,
-    past: u32,
-) -> Result<(), Failed>
-    requires tables { AreTablesOf job.now tables.now }
-    requires from { 0 < s.0 }
-    requires to { s.0 < R.sessions results.now + 1 }
-    requires size { R.places results.now ≡ length tables.now.places }
-    requires range { first ≤ past }
-    requires exist { past ≤ length tables.now.places }
-    ensures { WritesLines K.written K.faults sink.old sink.new result (lines_from (count_part job.now tables.now.places (R.count_of results.now s.0)) first (past - first)) }
-{
-    for n in first..past {
-        let place = tables.place(PlaceNo(n));
-        put(
-            sink,
-            count_line(location(job, place), place.kind, results, s, PlaceNo(n)),
-        )?;
-    }
-    Ok(())
-}
-
 /// A module's name and places, with their counts.
 fn module_counts<K: Sink, R: FactCounts>(
     sink: &mut K,
@@ -117,14 +89,20 @@ fn module_counts<K: Sink, R: FactCounts>(
 ) -> Result<(), Failed>
     requires module { m < length job.now.images }
     requires tables { AreTablesOf job.now tables.now }
-    requires from { 0 < s.0 }
-    requires to { s.0 < R.sessions results.now + 1 }
-    requires size { R.places results.now ≡ length tables.now.places }
-    ensures { WritesLines K.written K.faults sink.old sink.new result (counts_of_module job.now tables.now (R.count_of results.now s.0) m) }
+    requires session { HasSession tables.now (R.sessions results.now) (R.places results.now) s.0 }
+    ensures { WritesLines K.written K.faults sink.old sink.new result
+        (module_counts job.now tables.now (R.count_of results.now s.0) m) }
 {
     let (first, past) = tables.range(m);
     put(sink, module_line(module_name(job, m), past - first))?;
-    count_lines(sink, job, tables, results, s, first, past)
+    for n in first..past {
+        let place = tables.place(PlaceNo(n));
+        put(
+            sink,
+            count_line(location(job, place), place.kind, results, s, PlaceNo(n)),
+        )?;
+    }
+    Ok(())
 }
 
 /// The modules' counts, in the order of the session's card.
@@ -138,10 +116,9 @@ fn modules_counts<K: Sink, R: FactCounts>(
 ) -> Result<(), Failed>
     requires modules { All (λ m. m < length job.now.images) modules.now }
     requires tables { AreTablesOf job.now tables.now }
-    requires from { 0 < s.0 }
-    requires to { s.0 < R.sessions results.now + 1 }
-    requires size { R.places results.now ≡ length tables.now.places }
-    ensures { WritesLines K.written K.faults sink.old sink.new result (flat_map (counts_of_module job.now tables.now (R.count_of results.now s.0)) modules.now) }
+    requires session { HasSession tables.now (R.sessions results.now) (R.places results.now) s.0 }
+    ensures { WritesLines K.written K.faults sink.old sink.new result
+        (flat_map (module_counts job.now tables.now (R.count_of results.now s.0)) modules.now) }
 {
     for m in modules {
         module_counts(sink, job, tables, results, s, *m)?;
@@ -162,7 +139,8 @@ fn session_counts<K: Sink, R: FactCounts>(
     requires tables { AreTablesOf job.now tables.now }
     requires count { R.sessions results.now ≡ length job.now.sessions }
     requires size { R.places results.now ≡ length tables.now.places }
-    ensures { WritesLines K.written K.faults sink.old sink.new result (counts_of_session job.now tables.now (R.count_of results.now) s.0) }
+    ensures { WritesLines K.written K.faults sink.old sink.new result
+        (session_counts job.now tables.now (R.count_of results.now) s.0) }
 {
     let session = job.session(s);
     put(
@@ -182,31 +160,13 @@ fn sessions_counts<K: Sink, R: FactCounts>(
     requires tables { AreTablesOf job.now tables.now }
     requires count { R.sessions results.now ≡ length job.now.sessions }
     requires size { R.places results.now ≡ length tables.now.places }
-    ensures { WritesLines K.written K.faults sink.old sink.new result (lines_from (counts_of_session job.now tables.now (R.count_of results.now)) 1 (length job.now.sessions)) }
+    ensures { WritesLines K.written K.faults sink.old sink.new result
+        (lines_from (session_counts job.now tables.now (R.count_of results.now)) 1 (length job.now.sessions)) }
 {
     for i in 0..job.sessions.len() {
         session_counts(sink, job, tables, results, SessNo(i as u32 + 1))?;
     }
     Ok(())
-}
-
-/// The whole text, line by line.
-fn count_part<K: Sink, R: Results + FactCounts>(
-    sink: &mut K,
-    job: &Job,
-    tables: &Tables,
-    results: &R,
-) -> Result<(), Failed>
-    requires tables { AreTablesOf job.now tables.now }
-    requires results { AreResultsOf job.now (R.tasks results.now) (R.result_of results.now) }
-    requires count { R.sessions results.now ≡ length job.now.sessions }
-    requires size { R.places results.now ≡ length tables.now.places }
-    ensures { WritesLines K.written K.faults sink.old sink.new result (count_lines job.now tables.now (R.result_of results.now) (R.count_of results.now)) }
-{
-    put(sink, words_line(b"COVERAGE COUNT"))?;
-    tasks_text(sink, job, results)?;
-    sessions_counts(sink, job, tables, results)?;
-    put(sink, words_line(b"END"))
 }
 
 /// The counts of a job's sessions behind its tasks: for each place of a session's modules how often it ran, or how often
@@ -222,7 +182,11 @@ pub fn count_text<K: Sink, R: Results + FactCounts>(
     requires results { AreResultsOf job.now (R.tasks results.now) (R.result_of results.now) }
     requires count { R.sessions results.now ≡ length job.now.sessions }
     requires size { R.places results.now ≡ length tables.now.places }
-    ensures { Writes K.written K.faults sink.old sink.new result (count_text job.now tables.now (R.result_of results.now) (R.count_of results.now)) }
+    ensures { Writes K.written K.faults sink.old sink.new result
+        (count_text job.now tables.now (R.result_of results.now) (R.count_of results.now)) }
 {
-    count_part(sink, job, tables, results)
+    put(sink, words_line(b"COVERAGE COUNT"))?;
+    tasks_text(sink, job, results)?;
+    sessions_counts(sink, job, tables, results)?;
+    put(sink, words_line(b"END"))
 }

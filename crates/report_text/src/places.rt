@@ -1,10 +1,10 @@
 //! The places of the monitored modules as a text.
 ghost use Rattle.std.specs.Prelude.{◌≡◌, ◌+◌, ◌-◌, ◌<◌, ◌≤◌, ◌++◌, ◌∷◌, [], length};
 ghost use Rattle.arrayvec.specs.ArrayVec.{array_vec_len};
-ghost use Rattle.brk_table.specs.Places.{first_place, place_count};
 ghost use Rattle.cov_outside.specs.Writes.{Writes};
 ghost use Rattle.report_text.specs.Conditions.{AreTablesOf};
-ghost use Rattle.report_text.specs.Table.{kind_letter, place_line, place_part, module_line, places_part, is_monitored, table_part, table_lines, table_text};
+ghost use Rattle.report_text.specs.Table.{kind_letter, place_line, module_line, module_places, is_monitored, table_part, table_text};
+ghost use Rattle.report_text.specs.Sessions.{location_of};
 ghost use Rattle.report_text.specs.Text.{lines_from};
 ghost use Rattle.report_text.specs.Writes.{WritesLines};
 
@@ -65,26 +65,6 @@ pub(crate) fn module_line(name: &Name, count: u32) -> ArrayVec<u8, 160>
     line
 }
 
-/// The places from `first` on, below `past`.
-fn place_lines<K: Sink>(
-    sink: &mut K,
-    job: &Job,
-    tables: &Tables,
-    first: u32,
-    past: u32,
-) -> Result<(), Failed>
-    requires tables { AreTablesOf job.now tables.now }
-    requires range { first ≤ past }
-    requires exist { past ≤ length tables.now.places }
-    ensures { WritesLines K.written K.faults sink.old sink.new result (lines_from (place_part job.now tables.now.places) first (past - first)) }
-{
-    for n in first..past {
-        let place = tables.place(PlaceNo(n));
-        put(sink, place_line(location(job, place), place))?;
-    }
-    Ok(())
-}
-
 /// Whether the module of that number has a listing.
 pub fn is_monitored(job: &Job, m: u32) -> bool
     requires { m < length job.now.images }
@@ -97,11 +77,16 @@ pub fn is_monitored(job: &Job, m: u32) -> bool
 fn places_text<K: Sink>(sink: &mut K, job: &Job, tables: &Tables, m: u32) -> Result<(), Failed>
     requires module { m < length job.now.images }
     requires tables { AreTablesOf job.now tables.now }
-    ensures { WritesLines K.written K.faults sink.old sink.new result (places_part job.now tables.now m (first_place tables.now.tables m) (place_count tables.now.tables m)) }
+    ensures { WritesLines K.written K.faults sink.old sink.new result
+        (module_places job.now tables.now (λ n p. place_line (location_of job.now p) p) m) }
 {
     let (first, past) = tables.range(m);
     put(sink, module_line(module_name(job, m), past - first))?;
-    place_lines(sink, job, tables, first, past)
+    for n in first..past {
+        let place = tables.place(PlaceNo(n));
+        put(sink, place_line(location(job, place), place))?;
+    }
+    Ok(())
 }
 
 /// A module's part, where it is monitored.
@@ -120,22 +105,13 @@ fn module_text<K: Sink>(sink: &mut K, job: &Job, tables: &Tables, m: u32) -> Res
 /// The modules' parts.
 fn modules_text<K: Sink>(sink: &mut K, job: &Job, tables: &Tables) -> Result<(), Failed>
     requires { AreTablesOf job.now tables.now }
-    ensures { WritesLines K.written K.faults sink.old sink.new result (lines_from (table_part job.now tables.now) 0 (length job.now.images)) }
+    ensures { WritesLines K.written K.faults sink.old sink.new result
+        (lines_from (table_part job.now tables.now) 0 (length job.now.images)) }
 {
     for m in 0..job.module_count() {
         module_text(sink, job, tables, m)?;
     }
     Ok(())
-}
-
-/// The modules' parts, between the first line and the last one.
-fn whole_text<K: Sink>(sink: &mut K, job: &Job, tables: &Tables) -> Result<(), Failed>
-    requires { AreTablesOf job.now tables.now }
-    ensures { WritesLines K.written K.faults sink.old sink.new result (table_lines job.now tables.now) }
-{
-    put(sink, words_line(b"COVERAGE TABLE"))?;
-    modules_text(sink, job, tables)?;
-    put(sink, words_line(b"END"))
 }
 
 /// The places of each module that has a listing, line by line. Failed only where the sink's count of faults rose; the
@@ -144,5 +120,7 @@ pub fn table<K: Sink>(sink: &mut K, job: &Job, tables: &Tables) -> Result<(), Fa
     requires tables { AreTablesOf job.now tables.now }
     ensures { Writes K.written K.faults sink.old sink.new result (table_text job.now tables.now) }
 {
-    whole_text(sink, job, tables)
+    put(sink, words_line(b"COVERAGE TABLE"))?;
+    modules_text(sink, job, tables)?;
+    put(sink, words_line(b"END"))
 }

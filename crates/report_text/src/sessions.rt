@@ -4,9 +4,10 @@ ghost use Rattle.annotator.specs.Annotated.{annotated};
 ghost use Rattle.cov_outside.specs.Writes.{Writes};
 ghost use Rattle.cov_base.specs.Facts.{full_of};
 ghost use Rattle.module_area.specs.Counts.{fact_count};
-ghost use Rattle.brk_table.specs.Places.{IsIn, IsPlace, first_place, place_count, place_at_line};
-ghost use Rattle.report_text.specs.Conditions.{AreTablesOf};
-ghost use Rattle.report_text.specs.Sessions.{lacks, location_of, last_byte_of, line_mark, marked_lines, run_line, run_lines, executed_at, facts_at, possible_at, count_line, session_line, open_run, listing_lines, module_lines};
+ghost use Rattle.module_area.specs.PlanView.{place_of};
+ghost use Rattle.brk_table.specs.Places.{IsIn, IsPlace, first_place, place_count};
+ghost use Rattle.report_text.specs.Conditions.{AreTablesOf, HasSession};
+ghost use Rattle.report_text.specs.Sessions.{lacks, location_of, last_byte_of, line_mark, marked_lines, run_line, run_lines, totals_line, session_line, open_run, module_lines};
 ghost use Rattle.session_book.specs.Sessions.{module_of};
 ghost use Rattle.session_book.specs.Sets.{HasSetsOf, AreWithin};
 ghost use Rattle.report_text.specs.Report.{session_part};
@@ -58,9 +59,9 @@ fn run_line(run: Run) -> ArrayVec<u8, 160>
 }
 
 /// What the sets of a module's places come to.
-#[tactic(auto, unfolding(crate::specs::Sessions::count_line))]
-fn count_line(name: &Name, places: u32, counts: Counts) -> ArrayVec<u8, 160>
-    ensures { result.items ≡ count_line name.now places counts.executed counts.facts counts.possible ++ 10 ∷ [] }
+#[tactic(auto, unfolding(crate::specs::Sessions::totals_line))]
+fn totals_line(name: &Name, places: u32, counts: Counts) -> ArrayVec<u8, 160>
+    ensures { result.items ≡ totals_line name.now places counts.executed counts.facts counts.possible ++ 10 ∷ [] }
 {
     let mut line = ArrayVec::new();
     add_text(&mut line, b"MODULE ");
@@ -160,14 +161,14 @@ fn last_byte(job: &Job, place: &Place) -> u32
 
 /// What the sets of the session come to at the places from `first` on, below `past`.
 fn count<R: FactSets>(tables: &Tables, results: &R, s: SessNo, first: u32, past: u32) -> Counts
-    requires from { 0 < s.0 }
-    requires to { s.0 < R.sessions results.now + 1 }
-    requires size { R.places results.now ≡ length tables.now.places }
+    requires session { HasSession tables.now (R.sessions results.now) (R.places results.now) s.0 }
     requires range { first ≤ past }
     requires exist { past ≤ length tables.now.places }
-    ensures executed { result.executed ≡ sum_from (executed_at (R.set_of results.now s.0)) first (past - first) }
-    ensures facts { result.facts ≡ sum_from (facts_at (R.set_of results.now s.0)) first (past - first) }
-    ensures possible { result.possible ≡ sum_from (possible_at tables.now.places) first (past - first) }
+    ensures executed { result.executed ≡
+        sum_from (λ n. if lacks (R.set_of results.now s.0 n) then 0 else 1) first (past - first) }
+    ensures facts { result.facts ≡ sum_from (λ n. fact_count (R.set_of results.now s.0 n)) first (past - first) }
+    ensures possible { result.possible ≡
+        sum_from (λ n. fact_count (full_of (place_of tables.now.places n).kind)) first (past - first) }
 {
     let mut counts = Counts {
         executed: 0,
@@ -186,12 +187,10 @@ fn count<R: FactSets>(tables: &Tables, results: &R, s: SessNo, first: u32, past:
 
 /// The mark of line k of module m's listing.
 fn mark_at<R: FactSets>(tables: &Tables, results: &R, s: SessNo, m: u32, k: u32) -> Mark
-    requires from { 0 < s.0 }
-    requires to { s.0 < R.sessions results.now + 1 }
-    requires size { R.places results.now ≡ length tables.now.places }
+    requires session { HasSession tables.now (R.sessions results.now) (R.places results.now) s.0 }
     requires exist { first_place tables.now.tables m + place_count tables.now.tables m ≤ length tables.now.places }
     requires within { AreWithin tables.now (R.set_of results.now s.0) m }
-    ensures { result ≡ line_mark tables.now.places (R.set_of results.now s.0) (place_at_line tables.now.tables m k) }
+    ensures { result ≡ line_mark tables.now (R.set_of results.now s.0) m k }
 {
     match tables.line(m, k) {
         Some(n) => mark_of(tables.place(n).kind, results.set(s, n)),
@@ -210,12 +209,11 @@ fn listing_part<K: Sink, R: FactSets>(
 ) -> Result<(), Failed>
     requires lines { length lines.now ≤ INPUT_LIMIT }
     requires short { All (λ line. length line ≤ LINE_LIMIT) lines.now }
-    requires from { 0 < s.0 }
-    requires to { s.0 < R.sessions results.now + 1 }
-    requires size { R.places results.now ≡ length tables.now.places }
+    requires session { HasSession tables.now (R.sessions results.now) (R.places results.now) s.0 }
     requires exist { first_place tables.now.tables m + place_count tables.now.tables m ≤ length tables.now.places }
     requires within { AreWithin tables.now (R.set_of results.now s.0) m }
-    ensures { WritesLines K.written K.faults sink.old sink.new result (marked_lines (λ k. line_mark tables.now.places (R.set_of results.now s.0) (place_at_line tables.now.tables m k)) 1 lines.now) }
+    ensures { WritesLines K.written K.faults sink.old sink.new result
+        (marked_lines tables.now (R.set_of results.now s.0) m lines.now) }
 {
     for i in 0..lines.len() {
         let mark = mark_at(tables, results, s, m, i as u32 + 1);
@@ -267,12 +265,11 @@ fn runs_part<K: Sink, R: FactSets>(
     past: u32,
 ) -> Result<(), Failed>
     requires tables { AreTablesOf job.now tables.now }
-    requires from { 0 < s.0 }
-    requires to { s.0 < R.sessions results.now + 1 }
-    requires size { R.places results.now ≡ length tables.now.places }
+    requires session { HasSession tables.now (R.sessions results.now) (R.places results.now) s.0 }
     requires range { first ≤ past }
     requires exist { past ≤ length tables.now.places }
-    ensures { WritesLines K.written K.faults sink.old sink.new result (run_lines job.now tables.now.places (R.set_of results.now s.0) false first (past - first)) }
+    ensures { WritesLines K.written K.faults sink.old sink.new result
+        (run_lines job.now tables.now.places (R.set_of results.now s.0) false first (past - first)) }
 {
     let mut run = None;
     for n in first..past {
@@ -305,12 +302,11 @@ fn listing_text<K: Sink, R: FactSets>(
 ) -> Result<(), Failed>
     requires module { m < length job.now.images }
     requires tables { AreTablesOf job.now tables.now }
-    requires from { 0 < s.0 }
-    requires to { s.0 < R.sessions results.now + 1 }
-    requires size { R.places results.now ≡ length tables.now.places }
+    requires session { HasSession tables.now (R.sessions results.now) (R.places results.now) s.0 }
     requires exist { first_place tables.now.tables m + place_count tables.now.tables m ≤ length tables.now.places }
     requires within { AreWithin tables.now (R.set_of results.now s.0) m }
-    ensures { WritesLines K.written K.faults sink.old sink.new result (listing_lines (λ k. line_mark tables.now.places (R.set_of results.now s.0) (place_at_line tables.now.tables m k)) (get_or job.now.listings m None)) }
+    ensures { WritesLines K.written K.faults sink.old sink.new result
+        (marked_lines tables.now (R.set_of results.now s.0) m (unwrap_or (get_or job.now.listings m None) [])) }
 {
     match &job.listings[m as usize] {
         Some(lines) => listing_part(sink, lines, tables, results, s, m),
@@ -329,15 +325,14 @@ fn module_text<K: Sink, R: FactSets>(
 ) -> Result<(), Failed>
     requires module { m < length job.now.images }
     requires tables { AreTablesOf job.now tables.now }
-    requires from { 0 < s.0 }
-    requires to { s.0 < R.sessions results.now + 1 }
-    requires size { R.places results.now ≡ length tables.now.places }
+    requires session { HasSession tables.now (R.sessions results.now) (R.places results.now) s.0 }
     requires within { AreWithin tables.now (R.set_of results.now s.0) m }
-    ensures { WritesLines K.written K.faults sink.old sink.new result (module_lines job.now tables.now (R.set_of results.now s.0) m) }
+    ensures { WritesLines K.written K.faults sink.old sink.new result
+        (module_lines job.now tables.now (R.set_of results.now s.0) m) }
 {
     let (first, past) = tables.range(m);
     let counts = count(tables, results, s, first, past);
-    put(sink, count_line(module_name(job, m), past - first, counts))?;
+    put(sink, totals_line(module_name(job, m), past - first, counts))?;
     listing_text(sink, job, tables, results, s, m)?;
     runs_part(sink, job, tables, results, s, first, past)
 }
@@ -353,11 +348,10 @@ fn modules_text<K: Sink, R: FactSets>(
 ) -> Result<(), Failed>
     requires modules { All (λ m. m < length job.now.images) modules.now }
     requires tables { AreTablesOf job.now tables.now }
-    requires from { 0 < s.0 }
-    requires to { s.0 < R.sessions results.now + 1 }
-    requires size { R.places results.now ≡ length tables.now.places }
+    requires session { HasSession tables.now (R.sessions results.now) (R.places results.now) s.0 }
     requires within { All (AreWithin tables.now (R.set_of results.now s.0)) modules.now }
-    ensures { WritesLines K.written K.faults sink.old sink.new result (flat_map (module_lines job.now tables.now (R.set_of results.now s.0)) modules.now) }
+    ensures { WritesLines K.written K.faults sink.old sink.new result
+        (flat_map (module_lines job.now tables.now (R.set_of results.now s.0)) modules.now) }
 {
     for m in modules {
         module_text(sink, job, tables, results, s, *m)?;
@@ -373,28 +367,6 @@ pub(crate) fn phase_name(job: &Job, n: u32) -> &Name
     &job.phases[n as usize]
 }
 
-/// A session's part.
-pub fn session_text<K: Sink, R: FactSets>(
-    sink: &mut K,
-    job: &Job,
-    tables: &Tables,
-    results: &R,
-    s: SessNo,
-) -> Result<(), Failed>
-    requires from { 0 < s.0 }
-    requires to { s.0 ≤ length job.now.sessions }
-    requires tables { AreTablesOf job.now tables.now }
-    requires sets { HasSetsOf job.now tables.now (R.sessions results.now) (R.places results.now) (R.set_of results.now) s.0 }
-    ensures { WritesLines K.written K.faults sink.old sink.new result (session_part job.now tables.now (R.set_of results.now) s.0) }
-{
-    let session = job.session(s);
-    put(
-        sink,
-        session_line(&session.name, phase_name(job, session.phase)),
-    )?;
-    modules_text(sink, job, tables, results, s, &session.modules)
-}
-
 /// A session's part of the report: its name and its phase's, and for each of its modules the counts, the listing with
 /// marks and the runs of places without facts. Needs the sets of this session alone. Failed only where the sink's count
 /// of faults rose; the sink has then taken a first part of it. Takes no memory.
@@ -408,8 +380,15 @@ pub fn session_part<K: Sink, R: FactSets>(
     requires from { 0 < s.0 }
     requires to { s.0 ≤ length job.now.sessions }
     requires tables { AreTablesOf job.now tables.now }
-    requires sets { HasSetsOf job.now tables.now (R.sessions results.now) (R.places results.now) (R.set_of results.now) s.0 }
-    ensures { Writes K.written K.faults sink.old sink.new result (text_of (session_part job.now tables.now (R.set_of results.now) s.0)) }
+    requires sets { HasSetsOf job.now tables.now
+        (R.sessions results.now) (R.places results.now) (R.set_of results.now) s.0 }
+    ensures { Writes K.written K.faults sink.old sink.new result
+        (text_of (session_part job.now tables.now (R.set_of results.now) s.0)) }
 {
-    session_text(sink, job, tables, results, s)
+    let session = job.session(s);
+    put(
+        sink,
+        session_line(&session.name, phase_name(job, session.phase)),
+    )?;
+    modules_text(sink, job, tables, results, s, &session.modules)
 }

@@ -1,10 +1,11 @@
 //! Private storage, by blocks and in them row by row.
-ghost use Rattle.std.specs.Prelude.{◌≡◌, ℕ, ◌+◌, ◌-◌, ◌*◌, ◌<◌, ◌≤◌, ◌++◌, ◌∷◌, [], List, length, take, replicate, not, bytes_eq, All};
+ghost use Rattle.std.specs.Prelude.{◌≡◌, ℕ, ◌+◌, ◌-◌, ◌*◌, ◌<◌, ◌≤◌, ◌++◌, ◌∷◌, [], List, length, take, replicate, not, bytes_eq, codes, All};
+ghost use Rattle.annotator.specs.Digits.{hex_digits};
 ghost use Rattle.cov_base.specs.declared.limits.TheConstants.{PRIVATE_LIMIT};
 ghost use Rattle.module_area.specs.Views.{first_bytes, with_card};
 ghost use Rattle.report_text.specs.FirstRows.{IsPartOf, FitsIn};
-ghost use Rattle.report_text.specs.Tasks.{storage_line, row_lines, changed_row, storage_lines};
-ghost use Rattle.report_text.specs.Text.{row_count, lines_from};
+ghost use Rattle.report_text.specs.Tasks.{row_lines, changed_row, storage_lines};
+ghost use Rattle.report_text.specs.Text.{hex_bytes, row_count, lines_from};
 ghost use Rattle.report_text.specs.Writes.{WritesLines};
 
 use crate::words::add_bytes;
@@ -24,11 +25,10 @@ const BLOCK_ROWS: u32 = 4096;
 const BLOCK: usize = 65536;
 
 /// A row of private storage and its address.
-#[tactic(auto, unfolding(crate::specs::Tasks::storage_line))]
 fn storage_line(at: u32, row: &[u8]) -> ArrayVec<u8, 160>
     requires at { at < 16777216 }
     requires row { length row.now ≤ 16 }
-    ensures { result.items ≡ storage_line at row.now ++ 10 ∷ [] }
+    ensures { result.items ≡ (codes "STOR " ++ hex_digits 6 at ++ codes " " ++ hex_bytes row.now) ++ 10 ∷ [] }
 {
     let mut line = ArrayVec::new();
     add_text(&mut line, b"STOR ");
@@ -42,7 +42,8 @@ fn storage_line(at: u32, row: &[u8]) -> ArrayVec<u8, 160>
 /// Stores what a card has of the bytes from an address on.
 fn put_card(block: &mut [u8], from: usize, card: &DataCard)
     requires { from + length block.old ≤ 16777216 }
-    ensures { (bytes : List ℕ) → FitsIn (length bytes) card.now → IsPartOf block.old bytes from → IsPartOf block.new (with_card bytes card.now) from }
+    ensures { (bytes : List ℕ) → FitsIn (length bytes) card.now →
+        IsPartOf block.old bytes from → IsPartOf block.new (with_card bytes card.now) from }
 {
     let offset = card.offset as usize;
     let start = offset.max(from);
@@ -77,7 +78,8 @@ fn storage_row<K: Sink>(sink: &mut K, first: &[u8], now: &[u8], n: u32) -> Resul
     requires at { 16 * n < 16777216 }
     requires row { length now.now ≤ 16 }
     requires first { length now.now ≤ length first.now }
-    ensures { WritesLines K.written K.faults sink.old sink.new result (row_lines (16 * n) (take (length now.now) first.now) now.now) }
+    ensures { WritesLines K.written K.faults sink.old sink.new result
+        (row_lines (16 * n) (take (length now.now) first.now) now.now) }
 {
     if is_changed(first, now) {
         put(sink, storage_line(16 * n, now))
@@ -102,7 +104,9 @@ fn block_part<K: Sink, R: Results>(
     requires from { from ≤ past }
     requires past { past ≤ row_count 16 (R.result_of results.now t.0).bytes }
     requires block { past ≤ from + 4096 }
-    ensures { WritesLines K.written K.faults sink.old sink.new result (lines_from (changed_row (first_bytes task.now.private task.now.cards) (R.result_of results.now t.0).bytes) from (past - from)) }
+    ensures { WritesLines K.written K.faults sink.old sink.new result
+        (lines_from (changed_row (first_bytes task.now.private task.now.cards) (R.result_of results.now t.0).bytes)
+        from (past - from)) }
 {
     let mut first = [0u8; BLOCK];
     put_cards(&mut first, 16 * from as usize, task);
@@ -125,7 +129,8 @@ pub fn storage_part<K: Sink, R: Results>(
     requires most { task.now.private ≤ PRIVATE_LIMIT }
     requires cards { All (FitsIn task.now.private) task.now.cards }
     requires size { length (R.result_of results.now t.0).bytes ≡ task.now.private }
-    ensures { WritesLines K.written K.faults sink.old sink.new result (storage_lines (first_bytes task.now.private task.now.cards) (R.result_of results.now t.0).bytes) }
+    ensures { WritesLines K.written K.faults sink.old sink.new result
+        (storage_lines (first_bytes task.now.private task.now.cards) (R.result_of results.now t.0).bytes) }
 {
     let count = (task.private + 15) / 16;
     for b in 0..(count + BLOCK_ROWS - 1) / BLOCK_ROWS {

@@ -2,7 +2,7 @@
 ghost use Rattle.std.specs.Prelude.{◌≡◌, ◌+◌, ◌*◌, ◌<◌, ◌≤◌, ◌++◌, ◌∷◌, [], length, codes, decimal, drop};
 ghost use Rattle.report_text.specs.Conditions.{HasResultOf};
 ghost use Rattle.report_text.specs.Report.{task_part};
-ghost use Rattle.report_text.specs.Tasks.{task_line, register_line, output_row, output_lines, state_lines};
+ghost use Rattle.report_text.specs.Tasks.{task_words, register_line, output_lines, state_lines};
 ghost use Rattle.report_text.specs.Text.{hex_bytes, row_of, row_count, lines_from};
 ghost use Rattle.report_text.specs.Writes.{WritesLines};
 
@@ -17,9 +17,8 @@ use s370_state::{Cpu, Ending};
 use session_book::{Job, Results};
 
 /// The name, the ending, the number of instructions done and the condition code of a task.
-#[tactic(auto, unfolding(crate::specs::Tasks::task_line))]
 fn task_line(name: &Name, ending: Option<Ending>, done: u32, condition: u8) -> ArrayVec<u8, 160>
-    ensures { result.items ≡ task_line name.now ending done condition ++ 10 ∷ [] }
+    ensures { result.items ≡ (task_words name.now ending done ++ codes " CC " ++ decimal condition) ++ 10 ∷ [] }
 {
     let mut line = task_words(name, ending, done);
     add_text(&mut line, b" CC ");
@@ -100,7 +99,8 @@ fn output_row(output: &[u8], n: usize) -> &[u8]
 
 /// The output, 32 bytes to a line.
 fn output_rows<K: Sink>(sink: &mut K, output: &[u8]) -> Result<(), Failed>
-    ensures { WritesLines K.written K.faults sink.old sink.new result (lines_from (output_row output.now) 0 (row_count 32 output.now)) }
+    ensures { WritesLines K.written K.faults sink.old sink.new result
+        (lines_from (λ n. hex_bytes (row_of 32 output.now n) ∷ []) 0 (row_count 32 output.now)) }
 {
     for n in 0..(output.len() + 31) / 32 {
         put(sink, bytes_line(output_row(output, n)))?;

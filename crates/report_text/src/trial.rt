@@ -1,11 +1,12 @@
 //! What is said of a generated job that was run.
-ghost use Rattle.std.specs.Prelude.{◌≡◌, ℕ, ◌+◌, ◌<◌, ◌≤◌, ◌++◌, ◌∷◌, [], length, true, if◌then◌else◌};
+ghost use Rattle.std.specs.Prelude.{◌≡◌, ℕ, ◌+◌, ◌<◌, ◌≤◌, ◌++◌, ◌∷◌, [], length, nat_eq, true, if◌then◌else◌};
+ghost use Rattle.annotator.specs.Annotated.{mark_byte};
 ghost use Rattle.cov_base.specs.Facts.{is_within};
 ghost use Rattle.cov_base.specs.declared.marks.Mark.TheVariants.{Not, Done, Branched, Fell, Both};
 ghost use Rattle.cov_outside.specs.Writes.{Writes};
 ghost use Rattle.module_area.specs.PlanView.{place_of};
-ghost use Rattle.report_text.specs.Trial.{is_same_mark, mark_count, all_done, trial_line, amount_line, mark_line, trial_lines, trial_text};
-ghost use Rattle.report_text.specs.Writes.{WritesLines};
+ghost use Rattle.report_text.specs.Trial.{mark_count, trial_line, amount_line, mark_line, trial_text};
+ghost use Rattle.report_text.specs.Text.{sum_from};
 
 use crate::writing::put;
 use annotator::text::{add_number, add_text};
@@ -27,7 +28,7 @@ struct MarkCounts {
 
 /// 1 where these are the same.
 fn count_same(wanted: Mark, mark: Mark) -> u32
-    ensures value { result ≡ (if is_same_mark wanted mark then 1 else 0) }
+    ensures value { result ≡ (if nat_eq (mark_byte wanted) (mark_byte mark) then 1 else 0) }
     ensures most { result ≤ 1 }
 {
     if wanted == mark { 1 } else { 0 }
@@ -37,7 +38,8 @@ fn count_same(wanted: Mark, mark: Mark) -> u32
 fn count_marks<R: FactSets>(tables: &Tables, sets: &R) -> MarkCounts
     requires session { 0 < R.sessions sets.now }
     requires size { R.places sets.now ≡ length tables.now.places }
-    requires within { (n : ℕ) → n < length tables.now.places → is_within (place_of tables.now.places n).kind (R.set_of sets.now 1 n) ≡ true }
+    requires within { (n : ℕ) → n < length tables.now.places →
+        is_within (place_of tables.now.places n).kind (R.set_of sets.now 1 n) ≡ true }
     ensures not { result.not ≡ mark_count Not tables.now.places (R.set_of sets.now 1) }
     ensures executed { result.executed ≡ mark_count Done tables.now.places (R.set_of sets.now 1) }
     ensures branched { result.branched ≡ mark_count Branched tables.now.places (R.set_of sets.now 1) }
@@ -66,7 +68,7 @@ fn count_marks<R: FactSets>(tables: &Tables, sets: &R) -> MarkCounts
 /// The instructions that the first so many tasks have done together.
 fn count_done<R: Results>(results: &R, tasks: u32) -> u64
     requires { tasks ≤ R.tasks results.now }
-    ensures { result ≡ all_done (R.result_of results.now) tasks }
+    ensures { result ≡ sum_from (λ t. (R.result_of results.now t).done) 0 tasks }
 {
     let mut total: u64 = 0;
     for t in 0..tasks {
@@ -120,27 +122,6 @@ fn mark_line(counts: MarkCounts) -> ArrayVec<u8, 160>
     line
 }
 
-/// The three lines.
-fn lines_text<K: Sink, R: Results + FactSets>(
-    sink: &mut K,
-    number: u32,
-    tasks: u32,
-    tables: &Tables,
-    results: &R,
-) -> Result<(), Failed>
-    requires tasks { tasks ≤ R.tasks results.now }
-    requires session { 0 < R.sessions results.now }
-    requires size { R.places results.now ≡ length tables.now.places }
-    requires within { (n : ℕ) → n < length tables.now.places → is_within (place_of tables.now.places n).kind (R.set_of results.now 1 n) ≡ true }
-    ensures { WritesLines K.written K.faults sink.old sink.new result (trial_lines number tasks tables.now.places (R.result_of results.now) (R.set_of results.now)) }
-{
-    let done = count_done(results, tasks);
-    let counts = count_marks(tables, results);
-    put(sink, trial_line(number, tasks))?;
-    put(sink, amount_line(tables.len(), done))?;
-    put(sink, mark_line(counts))
-}
-
 /// What is said of the generated job of a number, of so many tasks, that was run: its number, its places and the
 /// instructions of all its tasks, and how many places bear each mark. Failed only where the sink's count of faults rose;
 /// the sink has then taken a first part of the lines. Takes no memory.
@@ -154,8 +135,14 @@ pub fn trial_text<K: Sink, R: Results + FactSets>(
     requires tasks { tasks ≤ R.tasks results.now }
     requires session { 0 < R.sessions results.now }
     requires size { R.places results.now ≡ length tables.now.places }
-    requires within { (n : ℕ) → n < length tables.now.places → is_within (place_of tables.now.places n).kind (R.set_of results.now 1 n) ≡ true }
-    ensures { Writes K.written K.faults sink.old sink.new result (trial_text number tasks tables.now.places (R.result_of results.now) (R.set_of results.now)) }
+    requires within { (n : ℕ) → n < length tables.now.places →
+        is_within (place_of tables.now.places n).kind (R.set_of results.now 1 n) ≡ true }
+    ensures { Writes K.written K.faults sink.old sink.new result
+        (trial_text number tasks tables.now.places (R.result_of results.now) (R.set_of results.now)) }
 {
-    lines_text(sink, number, tasks, tables, results)
+    let done = count_done(results, tasks);
+    let counts = count_marks(tables, results);
+    put(sink, trial_line(number, tasks))?;
+    put(sink, amount_line(tables.len(), done))?;
+    put(sink, mark_line(counts))
 }

@@ -2,11 +2,11 @@
 ghost use Rattle.std.specs.Prelude.{◌≡◌, ◌+◌, ◌-◌, ◌<◌, ◌≤◌, ◌++◌, ◌∷◌, [], length};
 ghost use Rattle.cov_outside.specs.Writes.{Writes};
 ghost use Rattle.report_text.specs.Conditions.{AreTablesOf, AreResultsOf, AreSetsOf};
-ghost use Rattle.report_text.specs.Report.{task_part, session_part, result_lines, report_lines, report_of};
+ghost use Rattle.report_text.specs.Report.{task_parts, session_part, result_lines, report_of};
 ghost use Rattle.report_text.specs.Text.{lines_from};
 ghost use Rattle.report_text.specs.Writes.{WritesLines};
 
-use crate::sessions::session_text;
+use crate::sessions::session_part;
 use crate::tasks::task_text;
 use crate::writing::put;
 use annotator::text::add_text;
@@ -31,7 +31,7 @@ pub fn words_line(words: &[u8]) -> ArrayVec<u8, 160>
 /// of them. Takes no memory.
 pub fn tasks_text<K: Sink, R: Results>(sink: &mut K, job: &Job, results: &R) -> Result<(), Failed>
     requires { AreResultsOf job.now (R.tasks results.now) (R.result_of results.now) }
-    ensures { WritesLines K.written K.faults sink.old sink.new result (lines_from (task_part job.now (R.result_of results.now)) 0 (length job.now.tasks)) }
+    ensures { WritesLines K.written K.faults sink.old sink.new result (task_parts job.now (R.result_of results.now)) }
 {
     for t in 0..job.tasks.len() {
         task_text(sink, job, results, TaskNo(t as u32))?;
@@ -48,10 +48,11 @@ fn sessions_text<K: Sink, R: FactSets>(
 ) -> Result<(), Failed>
     requires tables { AreTablesOf job.now tables.now }
     requires sets { AreSetsOf job.now tables.now (R.sessions results.now) (R.places results.now) (R.set_of results.now) }
-    ensures { WritesLines K.written K.faults sink.old sink.new result (lines_from (session_part job.now tables.now (R.set_of results.now)) 1 (length job.now.sessions)) }
+    ensures { WritesLines K.written K.faults sink.old sink.new result
+        (lines_from (session_part job.now tables.now (R.set_of results.now)) 1 (length job.now.sessions)) }
 {
     for i in 0..job.sessions.len() {
-        session_text(sink, job, tables, results, SessNo(i as u32 + 1))?;
+        session_part(sink, job, tables, results, SessNo(i as u32 + 1))?;
     }
     Ok(())
 }
@@ -67,27 +68,12 @@ pub fn results_part<K: Sink, R: Results + FactSets>(
     requires tables { AreTablesOf job.now tables.now }
     requires results { AreResultsOf job.now (R.tasks results.now) (R.result_of results.now) }
     requires sets { AreSetsOf job.now tables.now (R.sessions results.now) (R.places results.now) (R.set_of results.now) }
-    ensures { WritesLines K.written K.faults sink.old sink.new result (result_lines job.now tables.now (R.result_of results.now) (R.set_of results.now)) }
+    ensures { WritesLines K.written K.faults sink.old sink.new result
+        (result_lines job.now tables.now (R.result_of results.now) (R.set_of results.now)) }
 {
     tasks_text(sink, job, results)?;
     sessions_text(sink, job, tables, results)?;
     put(sink, words_line(b"END"))
-}
-
-/// The report's first line, and the rest.
-fn report_text<K: Sink, R: Results + FactSets>(
-    sink: &mut K,
-    job: &Job,
-    tables: &Tables,
-    results: &R,
-) -> Result<(), Failed>
-    requires tables { AreTablesOf job.now tables.now }
-    requires results { AreResultsOf job.now (R.tasks results.now) (R.result_of results.now) }
-    requires sets { AreSetsOf job.now tables.now (R.sessions results.now) (R.places results.now) (R.set_of results.now) }
-    ensures { WritesLines K.written K.faults sink.old sink.new result (report_lines job.now tables.now (R.result_of results.now) (R.set_of results.now)) }
-{
-    put(sink, words_line(b"COVERAGE REPORT"))?;
-    results_part(sink, job, tables, results)
 }
 
 /// The report of a job's tasks and sessions, line by line. Failed only where the sink's count of faults rose; the
@@ -101,7 +87,9 @@ pub fn report<K: Sink, R: Results + FactSets>(
     requires tables { AreTablesOf job.now tables.now }
     requires results { AreResultsOf job.now (R.tasks results.now) (R.result_of results.now) }
     requires sets { AreSetsOf job.now tables.now (R.sessions results.now) (R.places results.now) (R.set_of results.now) }
-    ensures { Writes K.written K.faults sink.old sink.new result (report_of job.now tables.now (R.result_of results.now) (R.set_of results.now)) }
+    ensures { Writes K.written K.faults sink.old sink.new result
+        (report_of job.now tables.now (R.result_of results.now) (R.set_of results.now)) }
 {
-    report_text(sink, job, tables, results)
+    put(sink, words_line(b"COVERAGE REPORT"))?;
+    results_part(sink, job, tables, results)
 }

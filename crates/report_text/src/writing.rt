@@ -8,7 +8,8 @@ use cov_outside::{Failed, Sink, write_all};
 /// Writes a line that ends with LF, whole or its first bytes where the sink's count of faults rose. Takes no memory.
 #[tactic(auto, using(crate::proofs::WriteLemmas::one_line))]
 pub fn put<K: Sink>(sink: &mut K, line: ArrayVec<u8, 160>) -> Result<(), Failed>
-    ensures { (text : List ℕ) → line.items ≡ text ++ 10 ∷ [] → WritesLines K.written K.faults sink.old sink.new result (text ∷ []) }
+    ensures { (text : List ℕ) → line.items ≡ text ++ 10 ∷ [] →
+        WritesLines K.written K.faults sink.old sink.new result (text ∷ []) }
 {
     write_all(sink, line.as_slice())
 }

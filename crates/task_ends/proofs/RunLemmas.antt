@@ -6,9 +6,14 @@ use Rattle.module_area.specs.declared.places.Place.{Place}
 use Rattle.session_book.specs.JobView.{JobView}
 use Rattle.report_text.specs.Text.{sum_from}
 use Rattle.report_text.proofs.PlaceFacts.{sum_step}
-use Rattle.task_ends.specs.Ends.{run_of, end_of, unlisted_at, unlisted_of}
+use Rattle.session_book.specs.Sessions.{module_of}
+use Rattle.task_ends.specs.Ends.{run_of, end_of, unlisted_of}
 use Rattle.observed_step.specs.declared.task.TaskEnd.{TaskEnd}
-use Rattle.task_ends.specs.Unlisted.{Adds}
+use Rattle.task_ends.specs.Unlisted.{unlisted_visits, Adds}
+
+-- of one task, in module m
+abbrev pub unlisted_at : JobView → List Place → ℕ → ℕ → ℕ
+unlisted_at j places m t = unlisted_visits places (module_of j m) (run_of j places t).trace
 
 -- one task more was counted
 pub counted_more : (j : JobView) (places : List Place) (t : ℕ) (old new : List ℕ) (m : ℕ) → t < length j.tasks → m < length j.images → Adds places j.images (run_of j places t).trace old new →

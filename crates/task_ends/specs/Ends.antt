@@ -10,6 +10,7 @@ use Rattle.report_text.specs.Text.{sum_from}
 use Rattle.task_alone.specs.Ends.{end_address}
 use Rattle.observed_step.specs.declared.task.TaskEnd.{TaskEnd}
 use Rattle.task_ends.specs.Unlisted.{unlisted_visits}
+use Rattle.task_ends.specs.declared.running.Ends.{Ends}
 
 -- what task t sees: modules that were never planted
 abbrev pub task_memory : JobView → List Place → ℕ → Memory
@@ -27,17 +28,13 @@ end_of j places t = record {
   at = end_address (task_memory j places t) (task_of j t).budget (first_state (task_of j t));
 }
 
--- of one task, in module m
-abbrev pub unlisted_at : JobView → List Place → ℕ → ℕ → ℕ
-unlisted_at j places m t = unlisted_visits places (module_of j m) (run_of j places t).trace
-
--- of all tasks of the job, whatever their phases
+-- in module m, of all tasks of the job, whatever their phases
 abbrev pub unlisted_of : JobView → List Place → ℕ → ℕ
-unlisted_of j places m = sum_from (unlisted_at j places m) 0 (length j.tasks)
+unlisted_of j places m = sum_from (λ t. unlisted_visits places (module_of j m) (run_of j places t).trace) 0 (length j.tasks)
 
 -- one end for each task of the job, and one count for each module
-pub record AreEnds (j : JobView) (ends : ℕ → TaskEnd) (unlisted : ℕ → ℕ) (found : List TaskEnd) (counts : List ℕ) : Type 0 where
-  pub tasks : length found ≡ length j.tasks
-  pub each_task : (t : ℕ) (d : TaskEnd) → t < length j.tasks → get_or found t d ≡ ends t
-  pub modules : length counts ≡ length j.images
-  pub each_module : (m : ℕ) → m < length j.images → slice_index counts m ≡ unlisted m
+pub record AreEnds (j : JobView) (ends : ℕ → TaskEnd) (unlisted : ℕ → ℕ) (found : Ends) : Type 0 where
+  pub tasks : length found.tasks.items ≡ length j.tasks
+  pub each_task : (t : ℕ) (d : TaskEnd) → t < length j.tasks → get_or found.tasks.items t d ≡ ends t
+  pub modules : length found.unlisted.items ≡ length j.images
+  pub each_module : (m : ℕ) → m < length j.images → slice_index found.unlisted.items m ≡ unlisted m

@@ -44,7 +44,8 @@ fn add_task(
     requires room { HasRoom (length job.now.images) t counts.old.items 0 0 }
     ensures end { OnOk result (ends.new.items ≡ ends.old.items ++ end_of job.now tables.now.places t ∷ []) }
     ensures room { OnOk result (HasRoom (length job.now.images) (t + 1) counts.new.items 0 0) }
-    ensures counts { OnOk result (Adds tables.now.places job.now.images (run_of job.now tables.now.places t).trace counts.old.items counts.new.items) }
+    ensures counts { OnOk result
+        (Adds tables.now.places job.now.images (run_of job.now tables.now.places t).trace counts.old.items counts.new.items) }
 {
     let unlisted = Unlisted {
         images: images_of(job),
@@ -68,7 +69,7 @@ fn add_task(
 /// tasks and modules, beside one task's storage at a time.
 pub fn find_ends(alloc: Global, job: &Job, tables: &Tables) -> Result<Ends, NoMemory>
     requires tables { AreCodes job.now.images tables.now }
-    ensures { IfOk result (λ e. AreEnds job.now (end_of job.now tables.now.places) (unlisted_of job.now tables.now.places) e.tasks.items e.unlisted.items) }
+    ensures { IfOk result (AreEnds job.now (end_of job.now tables.now.places) (unlisted_of job.now tables.now.places)) }
 {
     let mut counts = vec![in alloc; 0u64; job.module_count() as usize]?;
     let mut ends = Vec::with_capacity(alloc, job.task_count())?;

@@ -1,14 +1,15 @@
 //! The text of the ends of a job's tasks.
-ghost use Rattle.std.specs.Prelude.{◌≡◌, ℕ, ◌+◌, ◌<◌, ◌≤◌, ◌++◌, ◌∷◌, [], Some, true, length};
+ghost use Rattle.std.specs.Prelude.{◌≡◌, ℕ, ◌+◌, ◌<◌, ◌≤◌, ◌++◌, ◌∷◌, [], Some, true, length, nat_lt, if◌then◌else◌, codes, decimal};
 ghost use Rattle.arrayvec.specs.ArrayVec.{array_vec_len};
 ghost use Rattle.brk_table.specs.Places.{in_image};
+ghost use Rattle.cov_base.specs.Names.{unpadded};
 ghost use Rattle.cov_outside.specs.Writes.{Writes};
 ghost use Rattle.report_text.specs.Text.{lines_from};
 ghost use Rattle.report_text.specs.Writes.{WritesLines};
 ghost use Rattle.session_book.specs.Sessions.{task_of};
 ghost use Rattle.observed_step.specs.declared.task.TaskEnd.{TaskEnd as End};
 ghost use Rattle.task_ends.specs.Ends.{AreEnds};
-ghost use Rattle.task_ends.specs.Text.{module_words, private_words, place_words, end_line, end_part, unlisted_line, unlisted_part, ends_lines, ends_text};
+ghost use Rattle.task_ends.specs.Text.{module_words, place_words, end_line, end_part, unlisted_part, ends_text};
 
 use crate::running::Ends;
 use crate::unlisted::is_in;
@@ -37,7 +38,7 @@ fn add_module(line: &mut ArrayVec<u8, 160>, image: &Image, at: Addr)
 /// Adds that the address is in private storage of so many bytes, where it is.
 fn add_private(line: &mut ArrayVec<u8, 160>, private: u32, at: Addr)
     requires { array_vec_len line.old ≤ 60 }
-    ensures items { line.new.items ≡ line.old.items ++ private_words private at }
+    ensures items { line.new.items ≡ line.old.items ++ (if nat_lt at private then codes " PRIVATE" else []) }
     ensures short { array_vec_len line.new ≤ array_vec_len line.old + 16 }
 {
     if at.get() < private {
@@ -74,9 +75,8 @@ fn end_line(name: &Name, end: &TaskEnd, images: &Images, private: u32) -> ArrayV
 }
 
 /// How many visits were begun in a module where no place begins.
-#[tactic(auto, unfolding(crate::specs::Text::unlisted_line))]
 fn unlisted_line(name: &Name, count: u64) -> ArrayVec<u8, 160>
-    ensures { result.items ≡ unlisted_line name.now count ++ 10 ∷ [] }
+    ensures { result.items ≡ (codes "UNLISTED " ++ unpadded name.now ++ codes " " ++ decimal count) ++ 10 ∷ [] }
 {
     let mut line = ArrayVec::new();
     add_text(&mut line, b"UNLISTED ");
@@ -90,7 +90,8 @@ fn unlisted_line(name: &Name, count: u64) -> ArrayVec<u8, 160>
 /// The line of a task.
 fn task_text<K: Sink>(sink: &mut K, job: &Job, t: usize, end: &TaskEnd) -> Result<(), Failed>
     requires { t < length job.now.tasks }
-    ensures { (ends : ℕ → End) → end.now ≡ ends t → WritesLines K.written K.faults sink.old sink.new result (end_part job.now ends t) }
+    ensures { (ends : ℕ → End) → end.now ≡ ends t →
+        WritesLines K.written K.faults sink.old sink.new result (end_part job.now ends t) }
 {
     let card = job.card(t);
     put(sink, end_line(&card.name, end, &job.images, card.private))
@@ -99,8 +100,9 @@ fn task_text<K: Sink>(sink: &mut K, job: &Job, t: usize, end: &TaskEnd) -> Resul
 /// The lines of the tasks.
 fn tasks_text<K: Sink>(sink: &mut K, job: &Job, ends: &Ends) -> Result<(), Failed>
     requires { length ends.now.tasks.items ≡ length job.now.tasks }
-    ensures { (each : ℕ → End) (unlisted : ℕ → ℕ) → AreEnds job.now each unlisted ends.now.tasks.items ends.now.unlisted.items →
-        WritesLines K.written K.faults sink.old sink.new result (lines_from (end_part job.now each) 0 (length job.now.tasks)) }
+    ensures { (each : ℕ → End) (unlisted : ℕ → ℕ) → AreEnds job.now each unlisted ends.now →
+        WritesLines K.written K.faults sink.old sink.new result
+        (lines_from (end_part job.now each) 0 (length job.now.tasks)) }
 {
     for t in 0..job.task_count() {
         task_text(sink, job, t, &ends.tasks[t])?;
@@ -111,7 +113,8 @@ fn tasks_text<K: Sink>(sink: &mut K, job: &Job, ends: &Ends) -> Result<(), Faile
 /// The line of a module, where it has a listing.
 fn module_text<K: Sink>(sink: &mut K, job: &Job, m: u32, count: u64) -> Result<(), Failed>
     requires { m < length job.now.images }
-    ensures { (unlisted : ℕ → ℕ) → count ≡ unlisted m → WritesLines K.written K.faults sink.old sink.new result (unlisted_part job.now unlisted m) }
+    ensures { (unlisted : ℕ → ℕ) → count ≡ unlisted m →
+        WritesLines K.written K.faults sink.old sink.new result (unlisted_part job.now unlisted m) }
 {
     if is_monitored(job, m) {
         put(sink, unlisted_line(module_name(job, m), count))
@@ -123,26 +126,14 @@ fn module_text<K: Sink>(sink: &mut K, job: &Job, m: u32, count: u64) -> Result<(
 /// The lines of the modules.
 fn modules_text<K: Sink>(sink: &mut K, job: &Job, ends: &Ends) -> Result<(), Failed>
     requires { length ends.now.unlisted.items ≡ length job.now.images }
-    ensures { (each : ℕ → End) (unlisted : ℕ → ℕ) → AreEnds job.now each unlisted ends.now.tasks.items ends.now.unlisted.items →
-        WritesLines K.written K.faults sink.old sink.new result (lines_from (unlisted_part job.now unlisted) 0 (length job.now.images)) }
+    ensures { (each : ℕ → End) (unlisted : ℕ → ℕ) → AreEnds job.now each unlisted ends.now →
+        WritesLines K.written K.faults sink.old sink.new result
+        (lines_from (unlisted_part job.now unlisted) 0 (length job.now.images)) }
 {
     for m in 0..job.module_count() {
         module_text(sink, job, m, ends.unlisted[m as usize])?;
     }
     Ok(())
-}
-
-/// All lines.
-fn whole_text<K: Sink>(sink: &mut K, job: &Job, ends: &Ends) -> Result<(), Failed>
-    requires tasks { length ends.now.tasks.items ≡ length job.now.tasks }
-    requires modules { length ends.now.unlisted.items ≡ length job.now.images }
-    ensures { (each : ℕ → End) (unlisted : ℕ → ℕ) → AreEnds job.now each unlisted ends.now.tasks.items ends.now.unlisted.items →
-        WritesLines K.written K.faults sink.old sink.new result (ends_lines job.now each unlisted) }
-{
-    put(sink, words_line(b"COVERAGE ENDS"))?;
-    tasks_text(sink, job, ends)?;
-    modules_text(sink, job, ends)?;
-    put(sink, words_line(b"END"))
 }
 
 /// Writes a line for each task of the job, with its ending, the instructions done, the address and what is there, and one
@@ -151,8 +142,11 @@ fn whole_text<K: Sink>(sink: &mut K, job: &Job, ends: &Ends) -> Result<(), Faile
 pub fn write_ends<K: Sink>(sink: &mut K, job: &Job, ends: &Ends) -> Result<(), Failed>
     requires tasks { length ends.now.tasks.items ≡ length job.now.tasks }
     requires modules { length ends.now.unlisted.items ≡ length job.now.images }
-    ensures { (each : ℕ → End) (unlisted : ℕ → ℕ) → AreEnds job.now each unlisted ends.now.tasks.items ends.now.unlisted.items →
+    ensures { (each : ℕ → End) (unlisted : ℕ → ℕ) → AreEnds job.now each unlisted ends.now →
         Writes K.written K.faults sink.old sink.new result (ends_text job.now each unlisted) }
 {
-    whole_text(sink, job, ends)
+    put(sink, words_line(b"COVERAGE ENDS"))?;
+    tasks_text(sink, job, ends)?;
+    modules_text(sink, job, ends)?;
+    put(sink, words_line(b"END"))
 }

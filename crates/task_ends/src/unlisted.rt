@@ -23,7 +23,8 @@ fn count_at(images: &Images, counts: &mut [u64], at: Addr)
     requires size { length counts.old ≡ length images.now }
     requires room { (m : ℕ) → m < length counts.old → slice_index counts.old m + 1 < 2 ^ 64 }
     ensures size { length counts.new ≡ length counts.old }
-    ensures each { (m : ℕ) → m < length images.now → slice_index counts.new m ≡ slice_index counts.old m + (if in_image (get_or images.now m no_module) at then 1 else 0) }
+    ensures each { (m : ℕ) → m < length images.now →
+        slice_index counts.new m ≡ slice_index counts.old m + (if in_image (get_or images.now m no_module) at then 1 else 0) }
 {
     for m in 0..images.0.len() {
         if is_in(&images.0[m], at) {

@@ -14,7 +14,7 @@ pub returns-clause-tied : goal.returns-clause-tied
 returns-clause-tied c = tied_stays
 
 pub returns-clause-known : goal.returns-clause-known
-returns-clause-known c = known_stays
+returns-clause-known c = λ plan old new acts s sets known. known_stays plan old new s sets acts known
 
 pub returns-clause-joined : goal.returns-clause-joined
 returns-clause-joined c = λ plan root other s sets known. known_later other (after_join plan root other) s (places_under plan s) sets (λ t p x h. or_right (root.settled t p x) (other.settled t p x) h) known

@@ -4,7 +4,7 @@ use Rattle.module_area.specs.Control.{places_under}
 use Rattle.module_area.specs.Notes.{Notes}
 use Rattle.early_report.specs.DrainView.{DrainView}
 use Rattle.early_report.specs.Drains.{from_entry, entry_of, polled}
-use Rattle.early_report.proofs.LookLemmas.{Polls-looks, looking_trans}
+use Rattle.early_report.proofs.LookLemmas.{Polls-looks, Polls-working, looking_trans}
 use Rattle.early_report.proofs.ReadLemmas.{Reads-looks}
 use Rattle.early_report.proofs.runner.ask.Goals as goal
 
@@ -22,6 +22,7 @@ returns-in-Pending-clause-asked g c =
       tie = rw c.requires.plan at c.drain_poll.ensures.tied;
       entry = x;
       last = ap (λ (d : DrainView). d.last) new;
+      working = Polls-working _ _ _ _ c.drain_poll.ensures.polls x (ap entry_of c.in-Pending.is);
       polled = ap (λ (d : DrainView). d.polls) new;
     }
 

@@ -1,9 +1,12 @@
-use Rattle.std.proofs.Common.{◌+◌, ◌<◌, length, map, ap, arith}
+use Rattle.std.proofs.Common.{◌≡◌, ◌+◌, ◌-◌, ◌<◌, length, map, ap, arith}
 use Rattle.session_book.specs.JobView.{JobView}
 use Rattle.report_text.proofs.RowLemmas.{lines_from-next}
-use Rattle.report_text.proofs.WriteLemmas.{progress_at, progress_more, progress_exit}
+use Rattle.report_text.proofs.WriteLemmas.{progress_start, progress_at, progress_more, progress_exit}
 use Rattle.early_report.specs.Text.{drained_of, early_part}
 use Rattle.early_report.proofs.text.early_parts.Goals as goal
+
+pub loop-i-init : goal.loop-i-init
+loop-i-init g c = let whole : length c.args.job.now.sessions - 0 ≡ length c.args.job.now.sessions = omega arith in rw whole progress_start
 
 pub returns-in_err-early_part : goal.returns-in_err-early_part
 returns-in_err-early_part g c =

@@ -1,8 +1,8 @@
 use Rattle.std.proofs.Common.{◌+◌, ◌-◌, length}
-use Rattle.report_text.specs.Counts.{counts_of_session}
+use Rattle.report_text.specs.Counts.{session_counts}
 use Rattle.report_text.specs.Text.{lines_from}
 use Rattle.report_text.proofs.WriteLemmas.{Progress}
 use Rattle.report_text.proofs.counts.sessions_counts.Given as goal
 
 abbrev pub invariant-loop-i : goal.invariant-loop-i
-invariant-loop-i g l = Progress g.K.Sink.written g.K.Sink.faults l.initial.sink l.sink (lines_from (counts_of_session l.job l.tables (g.R.FactCounts.count_of l.results)) (l.i + 1) (length l.job.sessions - l.i)) (lines_from (counts_of_session l.job l.tables (g.R.FactCounts.count_of l.results)) 1 (length l.job.sessions))
+invariant-loop-i g l = Progress g.K.Sink.written g.K.Sink.faults l.initial.sink l.sink (lines_from (session_counts l.job l.tables (g.R.FactCounts.count_of l.results)) (l.i + 1) (length l.job.sessions - l.i)) (lines_from (session_counts l.job l.tables (g.R.FactCounts.count_of l.results)) 1 (length l.job.sessions))

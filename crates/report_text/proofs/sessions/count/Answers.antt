@@ -3,8 +3,8 @@ use Rattle.cov_base.specs.FactSet.{FactSet}
 use Rattle.cov_base.specs.Facts.{full_of}
 use Rattle.module_area.specs.Counts.{fact_count}
 use Rattle.module_area.specs.declared.places.Place.{Place}
-use Rattle.report_text.specs.Sessions.{lacks, executed_at, facts_at, possible_at}
-use Rattle.report_text.proofs.PlaceFacts.{sum_step}
+use Rattle.report_text.specs.Sessions.{lacks}
+use Rattle.report_text.proofs.PlaceFacts.{executed_at, facts_at, possible_at, sum_step}
 use Rattle.report_text.proofs.sessions.count.Goals as goal
 
 pub loop-n-preserved : goal.loop-n-preserved

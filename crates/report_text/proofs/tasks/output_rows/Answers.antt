@@ -1,5 +1,4 @@
 use Rattle.std.proofs.Common.{◌≡◌, ◌<◌, [], ◌∷◌, ◌++◌, rules}
-use Rattle.report_text.specs.Tasks.{output_row}
 use Rattle.report_text.specs.Text.{hex_bytes, row_of, row_count}
 use Rattle.report_text.proofs.RowLemmas.{lines_from-next}
 use Rattle.report_text.proofs.WriteLemmas.{progress_at, progress_more, progress_exit}
@@ -11,7 +10,7 @@ returns-in_err-put g c =
     let n = c.loop-n.n in
     let line : c.bytes_line.result.items ≡ hex_bytes (row_of 32 output n) ++ 10 ∷ [] = search rules in
     let here : n < row_count 32 output = search rules in
-    progress_exit _ c.from_residual.ensures.0 (c.in_err-put.ensures _ line) (progress_at (lines_from-next (output_row output) n n (row_count 32 output) here) c.loop-n.invariant)
+    progress_exit _ c.from_residual.ensures.0 (c.in_err-put.ensures _ line) (progress_at (lines_from-next (λ k. hex_bytes (row_of 32 output k) ∷ []) n n (row_count 32 output) here) c.loop-n.invariant)
 
 pub loop-n-preserved : goal.loop-n-preserved
 loop-n-preserved g c =
@@ -19,4 +18,4 @@ loop-n-preserved g c =
     let n = c.loop-n.n in
     let line : c.bytes_line.result.items ≡ hex_bytes (row_of 32 output n) ++ 10 ∷ [] = search rules in
     let here : n < row_count 32 output = search rules in
-    progress_more (c.in_ok-put.ensures _ line) (progress_at (lines_from-next (output_row output) n n (row_count 32 output) here) c.loop-n.invariant)
+    progress_more (c.in_ok-put.ensures _ line) (progress_at (lines_from-next (λ k. hex_bytes (row_of 32 output k) ∷ []) n n (row_count 32 output) here) c.loop-n.invariant)

@@ -1,18 +1,18 @@
-use Rattle.std.proofs.Common.{◌≡◌, [], ◌∷◌, ◌++◌, take, drop, codes, rules}
-use Rattle.report_text.specs.Tasks.{state_lines, task_line, register_line}
+use Rattle.std.proofs.Common.{◌≡◌, [], ◌∷◌, ◌++◌, take, drop, codes, decimal, rules}
+use Rattle.report_text.specs.Tasks.{state_lines, task_words, register_line}
 use Rattle.report_text.proofs.WriteLemmas.{progress_start, progress_more, progress_exit, progress_last}
 use Rattle.report_text.proofs.tasks.state_part.Goals as goal
 
 pub returns-in_err-put : goal.returns-in_err-put
 unfolding state_lines
 returns-in_err-put g c =
-    let one : c.task_line.result.items ≡ task_line c.args.name.now c.args.ending c.args.done c.args.cpu.now.condition ++ 10 ∷ [] = search rules in
+    let one : c.task_line.result.items ≡ (task_words c.args.name.now c.args.ending c.args.done ++ codes " CC " ++ decimal c.args.cpu.now.condition) ++ 10 ∷ [] = search rules in
     progress_exit _ c.from_residual.ensures.0 (c.in_err-put.ensures _ one) progress_start
 
 pub returns-in_err-put-2 : goal.returns-in_err-put-2
 unfolding state_lines
 returns-in_err-put-2 g c =
-    let one : c.task_line.result.items ≡ task_line c.args.name.now c.args.ending c.args.done c.args.cpu.now.condition ++ 10 ∷ [] = search rules in
+    let one : c.task_line.result.items ≡ (task_words c.args.name.now c.args.ending c.args.done ++ codes " CC " ++ decimal c.args.cpu.now.condition) ++ 10 ∷ [] = search rules in
     let low : c.register_line.result.items ≡ register_line (codes "R0") (take 8 c.args.cpu.now.regs) ++ 10 ∷ [] = search rules in
     let first = progress_more (c.in_ok-put.ensures _ one) progress_start in
     progress_exit _ c.from_residual-in_err-put-2.ensures.0 (c.in_err-put-2.ensures _ low) first
@@ -20,7 +20,7 @@ returns-in_err-put-2 g c =
 pub returns : goal.returns
 unfolding state_lines
 returns g c =
-    let one : c.task_line.result.items ≡ task_line c.args.name.now c.args.ending c.args.done c.args.cpu.now.condition ++ 10 ∷ [] = search rules in
+    let one : c.task_line.result.items ≡ (task_words c.args.name.now c.args.ending c.args.done ++ codes " CC " ++ decimal c.args.cpu.now.condition) ++ 10 ∷ [] = search rules in
     let low : c.register_line.result.items ≡ register_line (codes "R0") (take 8 c.args.cpu.now.regs) ++ 10 ∷ [] = search rules in
     let high : c.register_line-2.result.items ≡ register_line (codes "R8") (drop 8 c.args.cpu.now.regs) ++ 10 ∷ [] = search rules in
     let first = progress_more (c.in_ok-put.ensures _ one) progress_start in

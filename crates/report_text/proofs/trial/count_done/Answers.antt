@@ -1,6 +1,5 @@
 use Rattle.std.proofs.Common.{◌∙◌, arith}
-use Rattle.report_text.specs.Trial.{done_at}
-use Rattle.report_text.proofs.PlaceFacts.{sum_step}
+use Rattle.report_text.proofs.PlaceFacts.{done_at, sum_step}
 use Rattle.report_text.proofs.trial.count_done.Goals as goal
 
 pub loop-t-preserved : goal.loop-t-preserved

@@ -1,12 +1,12 @@
-use Rattle.std.proofs.Common.{◌≡◌, ℕ, ◌<◌, ◌∙◌, length, ap, if◌then◌else◌, arith}
+use Rattle.std.proofs.Common.{◌≡◌, ℕ, ◌<◌, ◌∙◌, length, nat_eq, ap, if◌then◌else◌, arith}
+use Rattle.annotator.specs.Annotated.{mark_byte}
 use Rattle.cov_base.specs.FactSet.{FactSet}
 use Rattle.cov_base.specs.Marks.{mark_of}
 use Rattle.cov_base.specs.declared.marks.Mark.{Mark}
 use Rattle.cov_base.specs.declared.marks.Mark.TheVariants.{Not, Done, Branched, Fell, Both}
 use Rattle.module_area.specs.PlanView.{place_of}
 use Rattle.module_area.specs.declared.places.Place.{Place}
-use Rattle.report_text.specs.Trial.{is_same_mark, marked_at}
-use Rattle.report_text.proofs.PlaceFacts.{sum_step}
+use Rattle.report_text.proofs.PlaceFacts.{marked_at, sum_step}
 use Rattle.report_text.proofs.trial.count_marks.Goals as goal
 
 pub loop-n-preserved : goal.loop-n-preserved
@@ -18,7 +18,7 @@ loop-n-preserved g c =
     let here : n < length places = omega (arith, c.loop-n-test.true, c.len-n-end.ensures.value) in
     let mark : c.mark_of-mark.result ≡ mark_of (place_of places n).kind (sets n) =
     c.mark_of-mark.ensures ∙ (ap (λ (p : Place). mark_of p.kind c.set-set.result) c.place.ensures.value ∙ ap (λ (s : FactSet). mark_of (place_of places n).kind s) c.set-set.ensures) in
-    let same = λ (wanted : Mark). ap {B = ℕ} (λ (m : Mark). if is_same_mark wanted m then 1 else 0) mark in
+    let same = λ (wanted : Mark). ap {B = ℕ} (λ (m : Mark). if nat_eq (mark_byte wanted) (mark_byte m) then 1 else 0) mark in
     record {
       not = sum_step (marked_at Not places sets) n (length places) _ _ _ here (c.count_same.ensures.value ∙ same Not) before.not;
       executed = sum_step (marked_at Done places sets) n (length places) _ _ _ here (c.count_same-in-loop-n.ensures.value ∙ same Done) before.executed;

@@ -7,5 +7,5 @@ use Rattle.task_ends.specs.Text.{unlisted_part}
 use Rattle.task_ends.proofs.text.modules_text.Given as goal
 
 abbrev pub invariant-loop-m : goal.invariant-loop-m
-invariant-loop-m g l = (each : ℕ → TaskEnd) (unlisted : ℕ → ℕ) → AreEnds l.job each unlisted l.ends.tasks.items l.ends.unlisted.items →
+invariant-loop-m g l = (each : ℕ → TaskEnd) (unlisted : ℕ → ℕ) → AreEnds l.job each unlisted l.ends →
     Progress g.K.Sink.written g.K.Sink.faults l.initial.sink l.sink (lines_from (unlisted_part l.job unlisted) l.m (length l.job.images - l.m)) (lines_from (unlisted_part l.job unlisted) 0 (length l.job.images))

@@ -2,9 +2,11 @@ use Rattle.std.proofs.Common.{◌≡◌, [], ◌∷◌, ◌++◌, ◌∙◌, All
 use Rattle.session_book.specs.JobView.{SessionView}
 use Rattle.session_book.specs.Sessions.{session_of}
 use Rattle.session_book.specs.Sets.{AreWithin}
+use Rattle.report_text.specs.Report.{session_part}
 use Rattle.report_text.specs.Sessions.{session_line}
+use Rattle.report_text.specs.Writes.{WritesLines}
 use Rattle.report_text.proofs.WriteLemmas.{progress_start, progress_more, progress_exit, progress_last}
-use Rattle.report_text.proofs.sessions.session_text.Goals as goal
+use Rattle.report_text.proofs.sessions.session_part.Goals as goal
 
 pub returns-in_err-put : goal.returns-in_err-put
 returns-in_err-put g c =
@@ -13,7 +15,9 @@ returns-in_err-put g c =
     let name : c.session.inside.name ≡ (session_of job c.args.s.0).name = ap (λ (s : SessionView). s.name) session in
     let phase : c.session.inside.phase ≡ (session_of job c.args.s.0).phase = ap (λ (s : SessionView). s.phase) session in
     let text : c.session_line.result.items ≡ session_line (session_of job c.args.s.0).name (get_or job.phases (session_of job c.args.s.0).phase []) ++ 10 ∷ [] = rw (name, c.phase_name.ensures, phase) at c.session_line.ensures in
-    progress_exit _ c.from_residual.ensures.0 (c.in_err-put.ensures _ text) progress_start
+    let w : WritesLines _ _ _ _ c.from_residual.result (session_part job c.args.tables.now (g.R.FactSets.set_of c.args.results.now) c.args.s.0) =
+    progress_exit _ c.from_residual.ensures.0 (c.in_err-put.ensures _ text) progress_start in
+    w.as_text
 
 pub modules_text-requires-clause-within : goal.modules_text-requires-clause-within
 modules_text-requires-clause-within g c =
@@ -30,4 +34,6 @@ returns g c =
     let modules : c.deref.result.now ≡ (session_of job c.args.s.0).modules = c.deref.ensures.value ∙ ap (λ (s : SessionView). s.modules) session in
     let text : c.session_line.result.items ≡ session_line (session_of job c.args.s.0).name (get_or job.phases (session_of job c.args.s.0).phase []) ++ 10 ∷ [] = rw (name, c.phase_name.ensures, phase) at c.session_line.ensures in
     let named = progress_more (c.in_ok-put.ensures _ text) progress_start in
-    progress_last (rw modules at c.modules_text.ensures) named
+    let w : WritesLines _ _ _ _ c.modules_text.result (session_part job c.args.tables.now (g.R.FactSets.set_of c.args.results.now) c.args.s.0) =
+    progress_last (rw modules at c.modules_text.ensures) named in
+    w.as_text
