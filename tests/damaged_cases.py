@@ -1,9 +1,8 @@
 """Damaged input: of each command a small input, cut after each byte, and each byte changed to 00, FF and a blank.
 
-What must come of it is told by tests/model.py: the first bad line, field, listing or row, or the whole output. No such change makes
-another job that runs in another way: the bytes of the module and the cards of tasks are hexadecimal digits and numbers, which are
-bad with any of them in their place. So what the tasks do is worked out once, by hand, and only the places that a changed listing
-line leaves differ.
+What must come of it is told by tests/answers.py: the first bad line, field, listing or row, or the whole output. Of `replay` it is
+worked out once, by hand: no such change makes another job that runs in another way, and only the places that a changed listing line
+leaves differ.
 """
 from __future__ import annotations
 
@@ -11,30 +10,23 @@ import os
 import subprocess
 from concurrent.futures import ThreadPoolExecutor
 from dataclasses import dataclass
-from typing import Callable, Iterator
+from typing import Iterator
 
+import answers
 import model
 from harness import PROGRAM, SECONDS, Tally, equal
 from harness import run as run_command
-from jobs import COUNTED, FIRST, FIRST_RESULT, Program, Result
+from jobs import COUNTED, FIRST, Program, Result
 from model import Refused
 
-# What a task shows that goes through the first job's three instructions.
-FIRST_FACTS = {0: 1, 4: 1, 6: 1}
 # The count begins with 2: it goes on once, and falls through; then the return is executed.
 TASK = "TASK A 100000 16 9 0\nREG 1 00000002\nDATA 0 C1\nINPUT C2\n"
-FACTS = {0: 6, 4: 1}
-FIRSTS: model.Firsts = {0: {2: (0, 0, 0), 4: (0, 1, 0)}, 4: {1: (0, 2, 0)}}
-# The same of a count that begins with 3.
+FACTS = {0x100000: 6, 0x100004: 1}
+# The same of a count that begins with 3, and the first visits that show its facts.
 FROM_3 = "TASK A 100000 16 100 0\nREG 1 00000003\n"
-FIRSTS_FROM_3: model.Firsts = {0: {2: (0, 0, 0), 4: (0, 2, 0)}, 4: {1: (0, 3, 0)}}
-# How often each fact of it is met.
-COUNTS = {0: (1, 1), 4: (1,)}
+FIRSTS_FROM_3: model.Firsts = {0x100000: {2: (0, 0, 0), 4: (0, 2, 0)}, 0x100004: {1: (0, 3, 0)}}
 # SVC 4, BAL to the first job's instructions, SVC 5, SVC 4, SVC 5, and BR: the sixth and the eighth instruction close a session.
 OPENING = "TASK C 000000 16 100 0\nREG 1 00100000\nREG 13 00FFFFFE\nDATA 0 0A0445E010000A050A040A0507FD\n"
-OPENING_RESULT = Result("RETURNED", 9, 2, {1: 10, 13: 0xFFFFFE, 14: 0x80000006}, name="C", entry=0)
-# Of each session what its places have shown, and the instruction at which it was drained.
-SHOWN: list[tuple[dict[int, int], int]] = [(FIRST_FACTS, 6), ({}, 8)]
 # Each item with the line that tells of it.
 ITEMS = [
     (b"FETCH A", b"FETCH A TAG 1 HALF 0AFF"), (b"MARK A", b"MARK A OLD -"), (b"DO A", b"DO A"),
@@ -51,11 +43,19 @@ FIELDS = (0, 8, 10, 18, 22, 26, 30, 34, 35, 36, 38, 39, 43, 44, 45, 47)
 
 @dataclass
 class Command:
-    """A command, its input, and what must come of an input."""
+    """A command and its input."""
 
     words: list[str]
     input: bytes
-    model: Callable[[bytes], bytes]
+
+    def answer(self, data: bytes) -> answers.Answer:
+        """What must come of an input."""
+        if self.words != ["replay"]:
+            return answers.answer(self.words, data)
+        try:
+            return answers.Answer(0, replay(data))
+        except Refused as refused:
+            return answers.Answer(*refused.answer)
 
 
 def job() -> bytes:
@@ -77,53 +77,9 @@ def three_modules() -> bytes:
     return "\n".join([*cards, "MODULE N 200008 2", "TEXT 07FE", "ENDJOB", ""]).encode()
 
 
-def listed(data: bytes, alone: bool) -> model.Job:
-    """The job of the bytes, its places found."""
-    it = model.job_of(data, alone)
-    model.read_listings(it)
-    return it
-
-
-def done(result: Result) -> bytes:
-    """A task's lines."""
-    return "\n".join(result.lines()).encode() + b"\n"
-
-
-def run(data: bytes) -> bytes:
-    (session,) = listed(data, True).sessions
-    return b"COVERAGE REPORT\n" + done(FIRST_RESULT) + model.session_part(*session, FIRST_FACTS) + b"END\n"
-
-
-def early(data: bytes) -> bytes:
-    told = zip(listed(data, True).sessions, SHOWN)
-    parts = [model.session_part(*session, facts) + b"DRAINED COUNT %d\n" % count for session, (facts, count) in told]
-    return b"COVERAGE REPORT\n" + done(OPENING_RESULT) + b"".join(parts) + b"END\n"
-
-
-def marks(data: bytes) -> bytes:
-    ((name, _, modules),) = listed(data, True).sessions
-    return model.session_file(name, modules, FACTS).data()
-
-
-def count(data: bytes) -> bytes:
-    (session,) = listed(data, True).sessions
-    return b"COVERAGE COUNT\n" + done(Result("RETURNED", 3)) + model.counts_part(*session, COUNTS) + b"END\n"
-
-
-def table(data: bytes) -> bytes:
-    return model.table_text(listed(data, True))
-
-
-def ends(data: bytes) -> bytes:
-    """Each instruction of the first job runs once; those count that a damaged listing has no longer."""
-    ((_, _, modules),) = listed(data, True).sessions
-    lost = len(FIRST_FACTS) - len(modules[0].table())
-    return b"COVERAGE ENDS\nTASK A RETURNED COUNT 3 AT FFFFFE\nUNLISTED M %d\nEND\n" % lost
-
-
 def replay(data: bytes) -> bytes:
     """The items up to the first that differs, or that fetches at a place that a damaged listing has no longer."""
-    it = listed(data, False)
+    it = answers.listed(data, False)
     lines = data[it.end :].split(b"\n")
     lines = lines[:-1] if lines[-1] == b"" else lines
     ((name, phase, modules),) = it.sessions
@@ -136,52 +92,27 @@ def replay(data: bytes) -> bytes:
     if len(lines) <= len(ITEMS):
         raise Refused(9, f"BAD SCHEDULE LINE {it.lines + len(lines) + 1}")
     events = b"".join(b"EVENT %d %s\n" % (at, event) for at, (_, event) in enumerate(ITEMS, 1))
+    done = b"".join(b"%s\n" % row.encode() for row in Result("RETURNED", 3).lines())
     part = model.session_part(name, phase, modules, FACTS)
-    return b"COVERAGE REPLAY\n" + events + done(Result("RETURNED", 3)) + part + b"END\n"
-
-
-def show(data: bytes) -> bytes:
-    it = listed(data, False)
-    ((name, phase, modules),) = it.sessions
-    rest = data[it.end :]
-    file = model.file_of(rest, 0)
-    if file.end < len(rest):
-        raise Refused(10, f"BAD MARKS OFFSET {file.end}")
-    model.compare(model.session_file(name, modules, {}), file)
-    places = [place for module in modules for place in module.table()]
-    facts = {place.location: bits for place, bits in zip(places, (it for it in file.sets if it is not None))}
-    return b"COVERAGE SHOW\n" + model.session_part(name, phase, modules, facts) + b"END\n"
-
-
-def prove(data: bytes) -> bytes:
-    ((_, _, modules),) = listed(data, True).sessions
-    return model.evidence_of(modules, FIRSTS)
-
-
-def verify(data: bytes, firsts: model.Firsts = FIRSTS) -> bytes:
-    it = listed(data, False)
-    ((name, _, modules),) = it.sessions
-    file = model.file_of(data[it.end :], 0)
-    model.compare(model.session_file(name, modules, {}), file)
-    return model.verified(name, len(it.tasks), file, data[it.end + file.end :], firsts)
+    return b"COVERAGE REPLAY\n" + events + done + part + b"END\n"
 
 
 def commands() -> list[Command]:
     """All that read their input."""
     items = b"".join(it + b"\n" for it, _ in ITEMS) + END + b"\n"
     return [
-        Command(["run"], FIRST.job(), run),
-        Command(["exits"], FIRST.job(), run),
-        Command(["early"], two_sessions(), early),
-        Command(["count"], job(), count),
-        Command(["marks", "S"], job(), marks),
-        Command(["table"], three_modules(), table),
-        Command(["ends"], FIRST.job(), ends),
-        Command(["replay"], job() + items, replay),
-        Command(["combine"], FILE + COUNTED.marks_file(2, 0, version=1), model.combined),
-        Command(["show", "S"], job() + BOTH, show),
-        Command(["prove", "S"], job(), prove),
-        Command(["verify", "S"], job() + BOTH + EVIDENCE, verify),
+        Command(["run"], FIRST.job()),
+        Command(["exits"], FIRST.job()),
+        Command(["early"], two_sessions()),
+        Command(["count"], job()),
+        Command(["marks", "S"], job()),
+        Command(["table"], three_modules()),
+        Command(["ends"], FIRST.job()),
+        Command(["replay"], job() + items),
+        Command(["combine"], FILE + COUNTED.marks_file(2, 0, version=1)),
+        Command(["show", "S"], job() + BOTH),
+        Command(["prove", "S"], job()),
+        Command(["verify", "S"], job() + BOTH + EVIDENCE),
     ]
 
 
@@ -197,14 +128,9 @@ def damaged(data: bytes) -> Iterator[tuple[str, bytes]]:
 
 def fault_of(command: Command, name: str, data: bytes) -> str | None:
     """What is wrong with what comes of an input."""
-    try:
-        status, output = 0, command.model(data)
-    except Refused as refused:
-        status, output = refused.answer
     ran = subprocess.run([PROGRAM, *command.words], input=data, capture_output=True, timeout=SECONDS, check=False)
-    if (ran.returncode, ran.stdout, ran.stderr) == (status, output, b""):
-        return None
-    return f"{name}: status {ran.returncode}, and not {status}; {ran.stdout[-200:]!r}, and not {output[-200:]!r}; {ran.stderr[:200]!r}"
+    what = command.answer(data).fault(ran.returncode, ran.stdout) or ran.stderr[:200]
+    return f"{name}: {what!r}" if what else None
 
 
 def offsets() -> None:
@@ -246,7 +172,7 @@ def damaged_evidence() -> None:
     """evidence that is damaged in each way, behind each file that the sets of a count can have"""
     front = COUNTED.job(FROM_3)
     inputs = [front + COUNTED.marks_file(*sets) + it for sets in ((6, 1), (2, 1), (4, 1), (6, 0), (0, 0)) for it in evidence()]
-    command = Command(["verify", "S"], front, lambda data: verify(data, FIRSTS_FROM_3))
+    command = Command(["verify", "S"], front)
     with ThreadPoolExecutor(os.cpu_count()) as pool:
         faults = [it for it in pool.map(lambda data: fault_of(command, data[len(front) :].hex(), data), inputs) if it]
     equal((len(faults), faults[:1]), (0, []))

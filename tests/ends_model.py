@@ -1,6 +1,6 @@
 """What `ends` writes of a job, and random jobs of many shapes.
 
-The cards and listings are read by tests/model.py, and each task runs once, alone, by tests/machine_operations.py.
+The cards and listings are read by tests/model.py, and each task runs once, alone, by tests/task_runs.py.
 """
 from __future__ import annotations
 
@@ -8,58 +8,35 @@ import collections
 import random
 from dataclasses import dataclass, field
 
-import machine_operations
-import machine_task
 import model
+import task_runs
 from jobs import listing_of
 
 Endings = collections.Counter[str]
 
 
-def tasks_of(job: model.Job) -> list[tuple[bytes, machine_task.Task, int]]:
-    """Each task's name, its first state and its budget."""
-    world = machine_task.World(
-        [(it.base, it.text) for it in job.modules],
-        {it.base + place.location + n for it in job.modules for place in it.table() for n in (0, 1)},
-    )
-    found: list[tuple[bytes, machine_task.Task, int]] = []
-    for kind, fields in job.cards:
-        if kind == b"TASK":
-            entry, private, budget, room = int(fields[1], 16), *map(int, fields[2:])
-            registers = [0] * 14 + [machine_task.RETURN, entry]
-            found.append((fields[0], machine_task.Task(world, registers, entry, bytearray(private), room=room), budget))
-        elif kind == b"REG":
-            found[-1][1].registers[int(fields[0])] = int(fields[1], 16)
-        elif kind == b"DATA":
-            found[-1][1].store(int(fields[0]), bytes.fromhex(fields[1].decode()))
-        elif kind == b"INPUT":
-            found[-1][1].source += bytes.fromhex(fields[0].decode())
-    return found
-
-
-def there(job: model.Job, task: machine_task.Task, at: int) -> str:
-    """What stands at an address, as it is told."""
-    if at < len(task.storage):
+def there(job: model.Job, run: task_runs.Run) -> str:
+    """What stands at the address where a run ended, as it is told."""
+    if run.at < run.private:
         return " PRIVATE"
-    inside = [it for it in job.modules if it.base <= at < it.base + it.size]
-    return f" {inside[0].name.decode()} {at - inside[0].base:06X}" if inside else ""
+    inside = [it for it in job.modules if it.base <= run.at < it.base + it.size]
+    return f" {inside[0].name.decode()} {run.at - inside[0].base:06X}" if inside else ""
 
 
 def text(data: bytes, endings: Endings | None = None) -> bytes:
     """What `ends` writes of a job; the first words of its tasks' endings are counted."""
     job = model.job_of(data, True)
     model.read_listings(job)
-    lines, visits = ["COVERAGE ENDS"], []
-    for name, task, budget in tasks_of(job):
-        ending, count, at, its = machine_operations.run(task, budget)
-        lines.append(f"TASK {name.decode()} {ending} COUNT {count} AT {at:06X}{there(job, task, at)}")
-        visits += its
+    lines = ["COVERAGE ENDS"]
+    runs = task_runs.Runner(job).all()
+    for run in runs:
+        ending = run.result.ending
+        lines.append(f"TASK {run.name.decode()} {ending} COUNT {run.count} AT {run.at:06X}{there(job, run)}")
         if endings is not None:
             endings[ending if ending.startswith("ABEND") else ending.split()[0]] += 1
     for it in job.modules:
         if it.listing is not None:
-            places = {it.base + place.location for place in it.table()}
-            missed = sum(it.base <= at < it.base + it.size and at not in places for at in visits)
+            missed = sum(count for run in runs for at, count in run.strays.items() if it.base <= at < it.base + it.size)
             lines.append(f"UNLISTED {it.name.decode()} {missed}")
     return "\n".join([*lines, "END", ""]).encode()
 

@@ -8,7 +8,7 @@ import resource
 import subprocess
 import sys
 from concurrent.futures import ThreadPoolExecutor
-from typing import Callable, Iterator, Optional
+from typing import Callable, Iterator
 
 import model
 from harness import PROGRAM, SECONDS, TOP, coverage, equal, folder, refused, well
@@ -251,13 +251,13 @@ def program_line(data: bytes) -> tuple[int, str]:
     return (int(bad), "") if bad else (int(line), limit.decode()) if limit else (0, "INPUT")
 
 
-def model_line(data: bytes) -> Optional[tuple[int, str]]:
-    """The same by tests/model.py; None where another limit than LINE may be passed first."""
+def model_line(data: bytes) -> tuple[int, str]:
+    """The same by tests/model.py."""
     try:
         model.job_of(data, True)
     except model.Refused as refusal:
         words = refusal.answer[1].split()
-        return int(words[-1]), "LINE" if words[0] == b"TOO" else ""
+        return int(words[-1]), words[2].decode() if words[0] == b"TOO" else ""
     return 0, ""
 
 
@@ -340,10 +340,7 @@ def checked_jobs() -> None:
     with ThreadPoolExecutor(os.cpu_count()) as pool:
         wanted = list(pool.map(program_line, data))
     for it, had, told in zip(data, own, wanted):
-        equal((it, had), (it, told))
-        plain = model_line(it)
-        if had[1] in ("", "LINE"):
-            equal((it, had), (it, plain))
+        equal((it, had, model_line(it)), (it, told, told))
     # Most are bad, in many ways, and many pass.
     assert 300 < own.count((0, "")) < 1500 and len({it[1] for it in own}) > 2, own[:20]
 
@@ -369,7 +366,7 @@ def limits() -> None:
     ):
         data = f"{head}{cards}ENDJOB\n".encode()
         equal((cards[:200], line_of(data)), (cards[:200], (line, limit)))
-        equal((cards[:200], program_line(data)), (cards[:200], (line, limit)))
+        equal((cards[:200], program_line(data), model_line(data)), (cards[:200], (line, limit), (line, limit)))
 
 
 def whole_jobs() -> None:

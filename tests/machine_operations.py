@@ -5,6 +5,8 @@ tests/machine_fields.py has the operations of longer fields.
 """
 from __future__ import annotations
 
+from typing import Callable
+
 from machine_task import RETURN, WORD, Ends, Operations, Task, compared, packed, sign_code, signed
 from machine_fields import FIELDS
 
@@ -31,14 +33,14 @@ def count(task: Task, code: bytes) -> None:
     target = task.registers[number] % 0x1000000 if is_register else task.second(code, True)
     task.put(code[1] >> 4, task.registers[code[1] >> 4] - 1)
     if task.registers[code[1] >> 4] and (number or not is_register):
-        task.target = target
+        task.go(target)
 
 
 def condition(task: Task, code: bytes) -> None:
     """BC, BCR."""
     is_register, number = code[0] < 0x40, code[1] & 15
     if code[1] >> 4 & 8 >> task.condition and (number or not is_register):
-        task.target = task.registers[number] % 0x1000000 if is_register else task.second(code, True)
+        task.go(task.registers[number] % 0x1000000 if is_register else task.second(code, True))
 
 
 def index(task: Task, code: bytes) -> None:
@@ -47,11 +49,12 @@ def index(task: Task, code: bytes) -> None:
     target, limit = task.second(code, False), signed(task.registers[three | 1])
     task.put(one, task.registers[one] + task.registers[three])
     if (signed(task.registers[one]) > limit) == (code[0] == 0x86):
-        task.target = target
+        task.go(target)
 
 
 def call(task: Task, code: bytes) -> str | None:
-    """SVC, without exits."""
+    """SVC."""
+    task.called = code[1]
     size, at = task.registers[0], task.registers[1] % 0x1000000
     if code[1] == 1:
         if size >= 1 << 24:
@@ -68,6 +71,8 @@ def call(task: Task, code: bytes) -> str | None:
         task.registers[15] = size
     elif code[1] == 3:
         raise Ends("EXIT")
+    elif code[1] == 6 and task.has_exits:
+        task.exit = at
     elif code[1] not in (4, 5):
         raise Ends(f"BADSVC {code[1]}")
     return None
@@ -288,16 +293,15 @@ OPERATIONS: Operations = {
 }
 
 
-def run(task: Task, budget: int) -> tuple[str, int, int, list[int]]:
-    """Runs a task to its end: the ending, the count, the address that `ends` tells, and all visits that were begun."""
-    visits: list[int] = []
+def run(task: Task, budget: int, behind: Callable[[int], None] = lambda _: None) -> tuple[str, int, int]:
+    """Runs a task to its end: the ending, the count, and the address that `ends` tells. Behind each step that many were done before."""
     for done in range(budget + 1):
         if task.at == RETURN:
-            return "RETURNED", done, task.at, visits
+            return "RETURNED", done, task.at
         if done == budget:
             break
         before, ending = task.at, task.step(OPERATIONS)
-        visits += task.visits
-        if ending:
-            return ending, done + 1, before, visits
-    return "SPENT", budget, task.at, visits
+        behind(done)
+        if ending and not task.leaves(ending):
+            return ending, done + 1, before
+    return "SPENT", budget, task.at

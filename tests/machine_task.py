@@ -87,7 +87,7 @@ def operation_of(operations: Operations, code: int) -> Callable[[Task, bytes], s
 
 @dataclass
 class Task:
-    """A task as it stands, and of its last step the visits that were begun."""
+    """A task as it stands, and of its last step the visits that were begun, whether it branched, and the call that it made."""
 
     world: World
     registers: list[int]
@@ -99,6 +99,11 @@ class Task:
     condition: int = 0
     mask: int = 0
     visits: list[int] = field(default_factory=list)
+    went: bool = False
+    called: int | None = None
+    # Whether it runs under exits, and its exit, 0 for none.
+    has_exits: bool = False
+    exit: int = 0
     # Of the instruction in hand: where it goes on, its updated address, and its length code.
     target: int = 0
     behind: int = 0
@@ -153,7 +158,7 @@ class Task:
 
     def step(self, operations: Operations) -> str | None:
         """Executes an instruction, an EX with its subject; how it ends the task, if it does."""
-        self.visits = []
+        self.visits, self.went, self.called = [], False, None
         try:
             code = self.begin(self.at)
             self.behind = self.target = (self.at + len(code)) % 0x1000000
@@ -186,6 +191,18 @@ class Task:
         return self.registers[number] if number else 0
 
     # ---- what operations share
+
+    def go(self, target: int) -> None:
+        """Branches on a condition."""
+        self.target, self.went = target, True
+
+    def leaves(self, ending: str) -> bool:
+        """Goes on at its exit, where it has one for this ending."""
+        if not self.exit or not ending.startswith("ABEND "):
+            return False
+        self.registers[0], self.registers[1] = int(ending[6:], 16), self.at
+        self.at, self.exit = self.exit, 0
+        return True
 
     def put(self, number: int, value: int) -> None:
         self.registers[number] = value % WORD

@@ -1,6 +1,6 @@
 """Which inputs the rules of docs/JOB.md, docs/LISTING.md, docs/MARKS.md and docs/EVIDENCE.md allow, read again from these pages alone.
 
-It is slow and plain, knows of limits only that of a listing line, and runs no task: what the places have shown, and when first, is given to it.
+It is slow and plain, and runs no task: what the places have shown, and when first, is given to it.
 """
 from __future__ import annotations
 
@@ -34,8 +34,36 @@ EXTENDED = "B BR NOP NOPR BH BL BE BNH BNL BNE BO BP BM BNP BNM BNZ BZ BNO".spli
 MARKS = {0: "^", 1: ":", 2: ">", 4: "V", 6: "&"}
 # The facts in their order, by their letters and their numbers in a set.
 FACTS = (("R", 1), ("W", 2), ("S", 4))
-# Of a location, for each of its facts the task, the instructions before and whether a subject, of the first visit.
+# The facts at an address, and how often each was met, one after the other.
+Facts = dict[int, int]
+Counts = dict[int, tuple[int, ...]]
+# Of an address, for each of its facts the task, the instructions before and whether a subject, of the first visit.
 Firsts = dict[int, dict[int, tuple[int, int, int]]]
+# docs/JOB.md, "Limits", in its order.
+LIMITS = {
+    "INPUT": 16_777_216, "MODULES": 16, "SIZE": 262_144, "LINE": 150, "PLACES": 65_536, "PHASES": 16, "SESSIONS": 16,
+    "TASKS": 64, "PRIVATE": 1_048_576, "BUDGET": 50_000_000, "ROOM": 65_536,
+}
+
+
+@dataclass
+class Shown:
+    """What visits show: the facts at each address, how often each was met, and the first visit of each."""
+
+    facts: Facts = field(default_factory=dict)
+    met: dict[int, dict[int, int]] = field(default_factory=dict)
+    firsts: Firsts = field(default_factory=dict)
+
+    def add(self, place: Place, went: bool, visit: tuple[int, int, int]) -> None:
+        bit = 1 if not place.kind() else 2 if went else 4
+        self.facts[place.address] = self.facts.get(place.address, 0) | bit
+        met = self.met.setdefault(place.address, {})
+        met[bit] = met.get(bit, 0) + 1
+        self.firsts.setdefault(place.address, {}).setdefault(bit, visit)
+
+    def counts(self) -> Counts:
+        """How often each fact was met, in their order."""
+        return {at: (met[1],) if 1 in met else (met.get(2, 0), met.get(4, 0)) for at, met in self.met.items()}
 
 
 class Refused(Exception):
@@ -63,6 +91,7 @@ MNEMONICS = mnemonics()
 class Place:
     """A place of a module."""
 
+    address: int
     location: int
     length: int
     half: bytes
@@ -98,6 +127,8 @@ class Job:
     phases: list[bytes] = field(default_factory=list)
     # Of each session its name, its phase and its modules.
     sessions: list[tuple[bytes, bytes, list[Module]]] = field(default_factory=list)
+    # Of the sessions that have one the controller.
+    controllers: dict[bytes, bytes] = field(default_factory=dict)
     tasks: list[bytes] = field(default_factory=list)
     cards: list[tuple[bytes, list[bytes]]] = field(default_factory=list)
     end: int = 0
@@ -139,6 +170,12 @@ class Reader:
         if not holds:
             self.bad()
 
+    def keep(self, **counts: int) -> None:
+        """Refuses the first of these that passes its limit."""
+        for what, count in counts.items():
+            if count > LIMITS[what]:
+                raise Refused(4, f"TOO LARGE {what} LINE {self.number}")
+
     def card(self, *kinds: bytes) -> tuple[bytes, list[bytes]]:
         """The next card, which must be of one of the kinds: its kind and its fields."""
         text, _ = self.line()
@@ -168,6 +205,7 @@ class Reader:
         for other in self.job.modules:
             self.need(it.name != other.name and not overlap(it.base, it.size, other.base, other.size))
         self.job.modules.append(it)
+        self.keep(MODULES=len(self.job.modules), SIZE=it.size)
         while len(it.text) < it.size:
             it.text += bytes.fromhex(self.card(b"TEXT")[1][0].decode())
             self.need(len(it.text) <= it.size)
@@ -180,14 +218,14 @@ class Reader:
     def listing_line(self) -> bytes:
         text, ended = self.line()
         text = text[:-1] if ended and text.endswith(b"\r") else text
-        if len(text) > 150:
-            raise Refused(4, f"TOO LARGE LINE LINE {self.number}")
+        self.keep(LINE=len(text))
         return text
 
     def phase(self, name: bytes) -> tuple[bytes, list[bytes]]:
         """A phase with its sessions and tasks; answers the card behind it."""
         self.need(name not in self.job.phases)
         self.job.phases.append(name)
+        self.keep(PHASES=len(self.job.phases))
         observed: dict[bytes, bytes] = {}
         kind, fields = self.card(b"SESSION", b"TASK", b"PHASE", b"ENDJOB")
         while kind == b"SESSION":
@@ -209,12 +247,15 @@ class Reader:
         self.need(all(it not in observed or by == observed[it] != b"" for it in modules))
         observed.update(dict.fromkeys(modules, by))
         self.job.sessions.append((name, phase, [known[it] for it in modules]))
+        self.job.controllers |= {name: by} if by else {}
+        self.keep(SESSIONS=len(self.job.sessions))
 
     def task(self, fields: list[bytes]) -> tuple[bytes, list[bytes]]:
         """A task with its cards; answers the card behind it."""
         private, budget = int(fields[2]), int(fields[3])
         self.need(fields[0] not in self.job.tasks and budget >= 1)
         self.job.tasks.append(fields[0])
+        self.keep(TASKS=len(self.job.tasks), PRIVATE=private, BUDGET=budget, ROOM=int(fields[4]))
         after, last = [b"REG", b"DATA", b"INPUT", b"TASK", b"PHASE", b"ENDJOB"], -1
         while True:
             kind, fields = self.card(*after)
@@ -244,13 +285,15 @@ def job_of(data: bytes, alone: bool) -> Job:
 
 def read_listings(job: Job) -> None:
     """Finds the places of all modules, or the first fault."""
+    room = LIMITS["PLACES"]
     for it in job.modules:
         if it.listing is not None:
-            it.places = places_of(it, it.listing)
+            it.places = places_of(it, it.listing, room)
+            room -= len(it.table())
 
 
-def places_of(module: Module, listing: list[bytes]) -> list[Place | None]:
-    """The place of each line."""
+def places_of(module: Module, listing: list[bytes], room: int) -> list[Place | None]:
+    """The place of each line, of which so many have room."""
     name = module.name.decode()
     heads = [(at, column - 3, *width) for at, it in enumerate(listing) for width in WIDTHS for column in (3, 4)
              if it[column - 1 :].lower().startswith(width[0])]
@@ -264,21 +307,27 @@ def places_of(module: Module, listing: list[bytes]) -> list[Place | None]:
             raise Refused(12, f"BAD LISTING {name} LINE {number} OBJECT")
         found.append((int(line[shift : shift + digits], 16), code) if code else None)
     taken: set[int] = set()
-    return [it and place_of(module, number, *it, taken) for number, it in enumerate(found, 1)]
+    places: list[Place | None] = []
+    for number, it in enumerate(found, 1):
+        places.append(it and place_of(module, number, *it, taken, room))
+        room -= it is not None
+    return places
 
 
-def place_of(module: Module, number: int, location: int, code: bytes, taken: set[int]) -> Place:
+def place_of(module: Module, number: int, location: int, code: bytes, taken: set[int], room: int) -> Place:
     """The place of a line, unless it has a fault; its bytes are taken then."""
     name, own, text = module.name.decode(), range(location, location + len(code)), module.text[location : location + len(code)]
     why = "ODD" if location % 2 else "OUTSIDE" if len(text) < len(code) else "" if taken.isdisjoint(own) else "OVERLAP"
     if why:
         raise Refused(12, f"BAD LISTING {name} LINE {number} {why}")
     taken.update(own)
+    if not room:
+        raise Refused(4, f"TOO LARGE PLACES {name} LINE {number}")
     if code[:2] == b"\x0a\xff":
         raise Refused(8, f"OWN SVC {name} LINE {number}")
     if code != text:
         raise Refused(3, f"MISMATCH {name} LINE {number} LOC {location:06X} LISTING {code.hex().upper()} MODULE {text.hex().upper()}")
-    return Place(location, len(code), code[:2])
+    return Place(module.base + location, location, len(code), code[:2])
 
 
 def object_code(line: bytes, digits: int, end: int, source: int) -> bytes | None:
@@ -399,15 +448,15 @@ def combined(data: bytes) -> bytes:
     return first.data()
 
 
-def session_file(name: bytes, modules: list[Module], facts: dict[int, int]) -> File:
-    """The marks of a session's modules, of which a place at a location has these facts, after one run."""
+def session_file(name: bytes, modules: list[Module], facts: Facts) -> File:
+    """The marks of a session's modules, whose places have these facts, after one run."""
     rows: list[bytes] = []
     sets: list[int | None] = []
     for it in modules:
         table = it.table()
         numbers = b"".join(n.to_bytes(4, "big") for n in (it.base, it.size, len(table)))
         rows += [it.name.ljust(8) + numbers, *(place.row() for place in table)]
-        sets += [None, *(facts.get(place.location, 0) for place in table)]
+        sets += [None, *(facts.get(place.address, 0) for place in table)]
     return File(rows, sets, session=name.ljust(8))
 
 
@@ -418,9 +467,8 @@ def entry(first: tuple[int, int, int]) -> bytes:
 
 
 def evidence_of(modules: list[Module], firsts: Firsts) -> bytes:
-    """The evidence of a session's modules, of which a place at a location has these first visits."""
-    places = [place for it in modules for place in it.table()]
-    shown = [firsts.get(place.location, {}) for place in places]
+    """The evidence of a session's modules, whose places have these first visits."""
+    shown = [firsts.get(place.address, {}) for it in modules for place in it.table()]
     return b"S370EVD1" + b"".join(entry(it[bit]) for it in shown for _, bit in FACTS if bit in it)
 
 
@@ -438,9 +486,10 @@ def verified(name: bytes, tasks: int, file: File, data: bytes, firsts: Firsts) -
         need(len(data) >= at + 6 and int.from_bytes(data[at + 2 : at + 6], "big") < 50_000_000, at + 2)
         need(len(data) >= at + 7 and data[at + 6] <= 1, at + 6)
     need(len(data) == 8 + 7 * facts, 8 + 7 * facts)
-    at = 8
+    at, base = 8, 0
     for number, (row, bits) in enumerate(zip(file.rows, file.sets)):
-        shown = {} if bits is None else firsts.get(int.from_bytes(row[:4], "big"), {})
+        base = int.from_bytes(row[8:12], "big") if bits is None else base
+        shown = {} if bits is None else firsts.get(base + int.from_bytes(row[:4], "big"), {})
         for letter, bit in FACTS if bits is not None else ():
             has = bool(bits & bit)
             if has != (bit in shown) or (has and data[at : at + 7] != entry(shown[bit])):
@@ -449,29 +498,29 @@ def verified(name: bytes, tasks: int, file: File, data: bytes, firsts: Firsts) -
     return b"VERIFIED %s FACTS %d\n" % (name, facts)
 
 
-def session_part(name: bytes, phase: bytes, modules: list[Module], facts: dict[int, int]) -> bytes:
+def session_part(name: bytes, phase: bytes, modules: list[Module], facts: Facts) -> bytes:
     """A session's part of a report."""
     lines = [b"SESSION %s PHASE %s" % (name, phase)]
     for it in modules:
         table = it.table()
-        sets = [facts.get(place.location, 0) for place in table]
+        sets = [facts.get(place.address, 0) for place in table]
         counts = (len(table), sum(bits > 0 for bits in sets), sum(bits.bit_count() for bits in sets))
         possible = sum(1 + place.kind() for place in table)
         lines.append(b"MODULE %s PLACES %d EXECUTED %d FACTS %d OF %d" % (it.name, *counts, possible))
         for line, place in zip(it.listing or [], it.places):
-            mark = MARKS[facts.get(place.location, 0)] if place else " "
+            mark = MARKS[facts.get(place.address, 0)] if place else " "
             lines.append(mark.encode() + b" " + line)
         lines += not_executed(table, sets)
     return b"".join(it + b"\n" for it in lines)
 
 
-def counts_part(name: bytes, phase: bytes, modules: list[Module], counts: dict[int, tuple[int, ...]]) -> bytes:
+def counts_part(name: bytes, phase: bytes, modules: list[Module], counts: Counts) -> bytes:
     """A session's part of counts."""
     lines = [b"SESSION %s PHASE %s" % (name, phase)]
     for it in modules:
         lines.append(b"MODULE %s PLACES %d" % (it.name, len(it.table())))
         for place in it.table():
-            met = counts.get(place.location, (0,) * (1 + place.kind()))
+            met = counts.get(place.address, (0,) * (1 + place.kind()))
             lines.append(b"COUNT %06X %s" % (place.location, b" ".join(b"%d" % it for it in met)))
     return b"".join(it + b"\n" for it in lines)
 

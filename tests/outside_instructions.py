@@ -199,7 +199,8 @@ def judged(it: Pair) -> tuple[str, str | None]:
         # Codes 8 and A come when the results are in place, and an SVC has changed nothing.
         is_done = it.had.code() in (0, 8, 10)
         difference = state_difference(it, it.other.state) or None if is_done else change(it)
-        return (IN_PLACE, None) if difference and is_edited_in_place(it) else ("", difference)
+        rule = next((sentence for sentence, holds in EDITS if difference and holds(it)), "")
+        return rule, None if rule else difference
     rule = next((sentence for sentence, holds in PROFILE if holds(it)), "")
     if rule:
         return rule, change(it) if it.had.code() not in (0, 8, 10) and it.had.count == it.other.steps else None
@@ -295,6 +296,15 @@ def is_edited_in_place(it: Pair) -> bool:
     return False
 
 
+def is_edited_over(it: Pair) -> bool:
+    """EDMK whose pattern lies over its own operation code: Hercules reads that again behind each byte that it has stored."""
+    for state in it.other.trace:
+        code = it.bytes_at(state.at, 6, state.private or it.task.private)
+        if code[:1] == b"\xdf" and len(code) == 6 and it.base(code[2:4], state) <= state.at <= it.base(code[2:4], state) + code[1]:
+            return True
+    return False
+
+
 def has_no_row(it: Pair) -> bool:
     return it.had.ending == "ABEND 1" and it.instruction()[0] not in CODES and it.instruction()[0] not in PRIVILEGED
 
@@ -313,13 +323,16 @@ def has_returned(it: Pair) -> bool:
 
 OVERLAPPING = "only condition code 3 is set: the registers stay, and access isn't tested"
 ONE_UNIT = "The operation is one unit"
-IN_PLACE = "Pattern and source are read as they were before"
+EDITS: list[tuple[str, Callable[[Pair], bool]]] = [
+    ("Pattern and source are read as they were before", is_edited_in_place),
+    ("An instruction is begun once all its halfwords are fetched", is_edited_over),
+]
 # Of each rule the sentence of docs/MACHINE.md, and whether it says why a pair differs.
 PROFILE: list[tuple[str, Callable[[Pair], bool]]] = [
     ("Tests 6 to 11 are one order for all operations, and each is made of all operands", is_earlier),
     ("access to every operand byte: code 5", is_tested_whole),
     ("under a zero mask it has no byte, and nothing is tested", is_under_no_mask),
-    (IN_PLACE, is_edited_in_place),
+    *EDITS,
     ("Some operations of the problem state have no row here, and so end with code 1", has_no_row),
     ("code 2 for the codes `08 09 80 82 83 84 85 9C 9D 9E 9F AC AD AE B1 B6 B7`", is_privileged),
     ("by an SVC whose number n is no task call", is_task_call),
@@ -363,7 +376,7 @@ def run_model(tasks: list[operands.Task]) -> list[Ended]:
     for it in tasks:
         world = machine_task.World([(operands.BASE, bytes(it.module))], set())
         task = machine_task.Task(world, list(it.registers), it.at, bytearray(it.private), room=65536)
-        ending, count, at, _ = machine_operations.run(task, it.limit)
+        ending, count, at = machine_operations.run(task, it.limit)
         found.append(Ended(ending, count, task.condition, task.registers, bytes(task.storage), at))
     return found
 

@@ -19,9 +19,11 @@ from outside_instructions import Ended, Pair, case_of, ended, job, judged, state
 
 # How many steps a task may do, and how many tasks a program has.
 STEPS, TASKS = 250, 2
+# The kind of a result that ends where the instruction's later halfword is a touch byte, whose address is its code.
+TOUCHED = 16
 # How many tasks a job may have.
 MOST = 64
-# The places by their locations.
+# The places by their addresses.
 Table = dict[int, model.Place]
 
 
@@ -52,40 +54,20 @@ def drawn(seed: int, number: int) -> Run:
 # ---- what the executed addresses say
 
 
-@dataclass
-class Shown:
-    """Of each location the facts, how often each was met, and the first visit of each."""
-
-    facts: dict[int, int] = field(default_factory=dict)
-    counts: dict[int, dict[int, int]] = field(default_factory=dict)
-    firsts: model.Firsts = field(default_factory=dict)
-
-    def add(self, place: model.Place, went: bool, visit: tuple[int, int, int]) -> None:
-        bit = 1 if not place.kind() else 2 if went else 4
-        self.facts[place.location] = self.facts.get(place.location, 0) | bit
-        met = self.counts.setdefault(place.location, {})
-        met[bit] = met.get(bit, 0) + 1
-        self.firsts.setdefault(place.location, {}).setdefault(bit, visit)
-
-    def met(self, place: model.Place) -> tuple[int, ...]:
-        found = self.counts.get(place.location, {})
-        return (found.get(2, 0), found.get(4, 0)) if place.kind() else (found.get(1, 0),)
-
-
-def shown_by(run: Run, table: Table) -> Shown:
+def shown_by(run: Run, table: Table) -> model.Shown:
     """What the addresses that Hercules has executed show at the places."""
-    shown = Shown()
+    shown = model.Shown()
     for number, (task, other) in enumerate(zip(run.tasks, run.others)):
-        after = [*other.trace[1:], other.state][: other.steps]
+        # What ends by a touch byte is not begun.
+        after = [*other.trace[1:], other.state][: other.steps - (other.kind == TOUCHED)]
         for step, (before, it) in enumerate(zip(other.trace, after)):
             visit(shown, run.program.text, table, before, it.went, (number, step))
     return shown
 
 
-def visit(shown: Shown, text: bytes, table: Table, state: hercules.State, went: bool, at: tuple[int, int]) -> None:
+def visit(shown: model.Shown, text: bytes, table: Table, state: hercules.State, went: bool, at: tuple[int, int]) -> None:
     """Adds what a step shows, which begins in this state: at its own place, and at that of the subject of an EX."""
-    location = state.at - operands.BASE
-    own = table.get(location)
+    location, own = state.at - operands.BASE, table.get(state.at)
     code = text[location : location + 4] if 0 <= location < len(text) else b""
     if code[:1] != b"\x44":
         if own:
@@ -95,7 +77,7 @@ def visit(shown: Shown, text: bytes, table: Table, state: hercules.State, went: 
         shown.add(own, False, (*at, 0))
     numbers = code[1] & 15, code[2] >> 4
     to = sum(state.registers[it] for it in numbers if it) + (code[2] & 15) * 256 + code[3]
-    subject = table.get(to % (1 << 24) - operands.BASE)
+    subject = table.get(to % (1 << 24))
     if subject and subject.half[0] != 0x44:
         shown.add(subject, went, (*at, 1))
 
@@ -109,12 +91,11 @@ def fault_in_marks(program: str, run: Run) -> str | None:
     read = model.job_of(data, True)
     model.read_listings(read)
     (module,) = read.modules
-    shown = shown_by(run, {it.location: it for it in module.table()})
+    shown = shown_by(run, {it.address: it for it in module.table()})
     texts = [written(program, words, data) for words in (["run"], ["count"], ["marks", "S"], ["prove", "S"])]
-    counts = {it.location: shown.met(it) for it in module.table()}
     wanted = (
         model.session_part(b"S", b"P", [module], shown.facts) + b"END\n",
-        model.counts_part(b"S", b"P", [module], counts) + b"END\n",
+        model.counts_part(b"S", b"P", [module], shown.counts()) + b"END\n",
         model.session_file(b"S", [module], shown.facts).data(),
         model.evidence_of([module], shown.firsts),
     )
@@ -147,6 +128,9 @@ def fault_in_steps(program: str, run: Run) -> str | None:
 
 def fault_at(task: operands.Task, other: hercules.Result, budget: int, had: Ended) -> str | None:
     """What is wrong with the state behind a step."""
+    if budget == other.steps and other.kind == TOUCHED:
+        is_told = (had.ending, had.count) == (f"TOUCHED {other.code:06X}", budget)
+        return state_difference(Pair(task, had, other), other.state) or None if is_told else f"{had.ending} COUNT {had.count}, and no touch"
     if budget == other.steps and other.kind != hercules.DONE:
         return judged(Pair(task, had, other))[1]
     state = other.trace[budget]
@@ -163,7 +147,7 @@ def compare(program: str, seed: int, count: int) -> tuple[list[Run], list[str]]:
         tasks = [it for run in runs for it in run.tasks]
         others = list(machine.run([case_of(it, True) for it in tasks]))
     for n, run in enumerate(runs):
-        run.others = [returned(it) for it in others[TASKS * n : TASKS * (n + 1)]]
+        run.others = [touched(run, returned(it)) for it in others[TASKS * n : TASKS * (n + 1)]]
     with ThreadPoolExecutor(os.cpu_count()) as pool:
         faults = pool.map(lambda it: fault_of(program, it), runs)
     return runs, [f"seed {seed}, {run.name}: {fault}" for run, fault in zip(runs, faults) if fault]
@@ -172,9 +156,21 @@ def compare(program: str, seed: int, count: int) -> tuple[list[Run], list[str]]:
 def told(runs: list[Run]) -> str:
     """How many programs, steps and endings there were."""
     others = [it for run in runs for it in run.others]
-    words = {hercules.DONE: "spent or returned", hercules.CALL: "by a call", hercules.PROGRAM: "interrupted"}
+    words = {hercules.DONE: "spent or returned", hercules.CALL: "by a call", hercules.PROGRAM: "interrupted", TOUCHED: "touched"}
     ends = ", ".join(f"{sum(it.kind == kind for it in others)} {word}" for kind, word in words.items())
     return f"{len(runs)} programs, {len(others)} tasks, {sum(it.steps for it in others)} steps: {ends}"
+
+
+def touched(run: Run, other: hercules.Result) -> hercules.Result:
+    """A result up to the first instruction of whose later halfwords one is a place's first: there docs/MACHINE.md ends the task."""
+    places = {operands.BASE + location for location, _, _ in run.program.code}
+    for step, state in enumerate(other.trace[: other.steps], 1):
+        code = run.program.text[max(state.at - operands.BASE, 0) :][:1] if state.at >= operands.BASE else b""
+        size = model.length_of(code[0]) if code else 2
+        for at in range(state.at + 2, state.at + size, 2):
+            if at in places:
+                return hercules.Result(TOUCHED, at, step, state, other.trace[:step])
+    return other
 
 
 def returned(other: hercules.Result) -> hercules.Result:

@@ -76,12 +76,9 @@ def core_of(draw: random.Random) -> Core:
     return Core(modules, sessions, tasks)
 
 
-def schedule(number: int) -> tuple[bytes, bytes, int]:
-    """A job with a schedule, what is written, and the status."""
-    draw = random.Random(number)
-    core = core_of(draw)
-    job = core.job()
-    lines, told = [], ["COVERAGE REPLAY"]
+def items_of(draw: random.Random, core: Core) -> list[str]:
+    """Items that are possible one behind the other, to ENDSCHED, or to one that isn't."""
+    lines: list[str] = []
     for _ in range(draw.randrange(1, 400)):
         left = [it.name for it in core.tasks.values() if not it.ending]
         if not left:
@@ -89,13 +86,34 @@ def schedule(number: int) -> tuple[bytes, bytes, int]:
         name = draw.choice(left)
         bad = [it for it in KEYS if not core.is_possible(it, name)]
         if bad and draw.randrange(150) == 0:
-            lines.append(f"{draw.choice(bad)} {name}")
-            return f"{job}{chr(10).join(lines)}\n".encode(), f"BAD SCHEDULE LINE {job.count(chr(10)) + len(lines)}\n".encode(), 9
+            return [*lines, f"{draw.choice(bad)} {name}"]
         key = "GO" if draw.randrange(40) == 0 else next(it for it in KEYS if core.is_possible(it, name))
         lines.append(f"{key} {name}")
-        told.append(f"EVENT {len(lines)} {key} {name}{core.play(key, name)}")
-    lines += ["ENDSCHED", ""]
-    return (job + "\n".join(lines)).encode(), "\n".join([*told, *core.report(), ""]).encode(), 0
+        core.play(key, name)
+    return [*lines, "ENDSCHED"]
+
+
+def played(core: Core, lines: list[str]) -> tuple[int, bytes]:
+    """The status and the text of a schedule."""
+    front, told = core.job().count("\n"), ["COVERAGE REPLAY"]
+    for number, line in enumerate(lines, 1):
+        key, _, name = line.partition(" ")
+        if line == "ENDSCHED" and number == len(lines):
+            return 0, "\n".join([*told, *core.report(), ""]).encode()
+        # Behind ENDSCHED the next line is bad.
+        if key not in KEYS or name not in core.tasks or not core.is_possible(key, name):
+            return 9, f"BAD SCHEDULE LINE {front + number + (line == 'ENDSCHED')}\n".encode()
+        told.append(f"EVENT {number} {key} {name}{core.play(key, name)}")
+    return 9, f"BAD SCHEDULE LINE {front + len(lines) + 1}\n".encode()
+
+
+def schedule(number: int) -> tuple[bytes, bytes, int]:
+    """A job with a schedule, what is written, and the status."""
+    draw, again = random.Random(number), random.Random(number)
+    core, fresh = core_of(draw), core_of(again)
+    lines = items_of(draw, core)
+    status, output = played(fresh, lines)
+    return (fresh.job() + "\n".join([*lines, ""])).encode(), output, status
 
 
 def plays() -> None:

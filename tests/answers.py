@@ -1,0 +1,258 @@
+"""What each command answers to any input, by docs/ alone: its status and its text, or between which bounds the text lies.
+
+The input is read by tests/model.py, and its tasks run by tests/task_runs.py. Only `replay` has a model of its own kind,
+tests/core_model.py, whose jobs are drawn together with what comes of them.
+"""
+from __future__ import annotations
+
+import os
+import re
+from dataclasses import dataclass, field
+from typing import Callable
+
+import ends_model
+import model
+import trial
+from harness import difference
+from jobs import USAGE
+from model import Refused
+from task_runs import Bounds, Run, Runner, bounds, union
+
+FACTS = {mark: bits for bits, mark in model.MARKS.items()}
+DRAINED = re.compile(rb"DRAINED COUNT ([0-9]+)|NOT DRAINED")
+
+
+@dataclass
+class Answer:
+    """A status and a text."""
+
+    status: int
+    output: bytes
+
+    def is_one(self) -> bool:
+        """Whether there is one text alone that can come."""
+        return True
+
+    def fault(self, status: int, output: bytes) -> str | None:
+        """What is wrong with what came."""
+        if status != self.status:
+            return f"status {status}, and not {self.status}; {output[:200]!r}, and not {self.output[:200]!r}"
+        return self.fault_in(output)
+
+    def fault_in(self, output: bytes) -> str | None:
+        return None if output == self.output else difference(self.output, output)
+
+
+@dataclass
+class Session:
+    """A session of a job with its bounds."""
+
+    name: bytes
+    phase: bytes
+    modules: list[model.Module]
+    has_controller: bool
+    within: Bounds
+
+    def check(self, facts: model.Facts) -> None:
+        """Fails where the facts of a place don't lie within the bounds."""
+        for place in (place for it in self.modules for place in it.table()):
+            had, least, most = (it.get(place.address, 0) for it in (facts, self.within.least, self.within.most))
+            assert least & ~had == 0 == had & ~most, f"{self.name!r} at {place.address:06X} has {had}, and not {least} to {most}"
+
+    def facts(self, lines: list[bytes]) -> model.Facts:
+        """The facts by the marks of the part that the lines begin with."""
+        found, at = {}, 1
+        for it in self.modules:
+            marks = lines[at + 1 : at + 1 + len(it.places)]
+            found.update({place.address: FACTS.get(line[:1].decode("latin-1"), 0) for line, place in zip(marks, it.places) if place})
+            # The lines of what was not executed come behind the listing.
+            at += 1 + len(it.places)
+            at += len(model.not_executed(it.table(), [found[place.address] for place in it.table()]))
+        return found
+
+
+@dataclass
+class Report(Answer):
+    """A report whose controlled sessions lie within bounds; in that of `early` each has a line on its drain."""
+
+    front: bytes = b""
+    sessions: list[Session] = field(default_factory=list)
+    is_early: bool = False
+
+    def is_one(self) -> bool:
+        return not any(it.has_controller for it in self.sessions)
+
+    def fault_in(self, output: bytes) -> str | None:
+        if not output.startswith(self.front):
+            return difference(self.front, output)
+        rest, whole = output[len(self.front) :].split(b"\n"), self.front
+        try:
+            for it in self.sessions:
+                facts = it.facts(rest) if it.has_controller else it.within.least
+                it.check(facts)
+                part = model.session_part(it.name, it.phase, it.modules, facts)
+                whole, rest = whole + part, rest[part.count(b"\n") :]
+                if it.has_controller and self.is_early:
+                    whole += drained(it, rest[0] if rest else b"")
+                    rest = rest[1:]
+        except AssertionError as error:
+            return str(error)
+        return None if output == whole + b"END\n" else difference(whole + b"END\n", output)
+
+
+def drained(session: Session, line: bytes) -> bytes:
+    """The line on a drain, where it is one that there can be."""
+    found = DRAINED.fullmatch(line)
+    assert found, f"{line!r} tells no drain of {session.name!r}"
+    holds = int(found[1]) in session.within.drained if found[1] else session.within.may_not
+    assert holds, f"{session.name!r} says {line!r}; it may be drained at {session.within.drained}, or not: {session.within.may_not}"
+    return line + b"\n"
+
+
+@dataclass
+class Marks(Answer):
+    """A marks file of a controlled session."""
+
+    session: Session | None = None
+
+    def is_one(self) -> bool:
+        return False
+
+    def fault_in(self, output: bytes) -> str | None:
+        it = self.session
+        assert it
+        try:
+            file = model.file_of(output, 0)
+            model.compare(model.session_file(it.name, it.modules, {}), file)
+            facts = facts_of(it.modules, file)
+            it.check(facts)
+        except (Refused, AssertionError) as fault:
+            return f"{fault}"
+        wanted = model.session_file(it.name, it.modules, facts).data()
+        return None if output == wanted else f"{output[:40].hex()}, and not {wanted[:40].hex()}"
+
+
+def facts_of(modules: list[model.Module], file: model.File) -> model.Facts:
+    """The facts of a file with the table of these modules."""
+    places = [place for module in modules for place in module.table()]
+    return {place.address: bits for place, bits in zip(places, (it for it in file.sets if it is not None))}
+
+
+# ---- the commands
+
+
+def listed(data: bytes, alone: bool, check: Callable[[model.Job], None] = lambda _: None) -> model.Job:
+    """The job of the bytes, whose sessions are checked before its places are found."""
+    it = model.job_of(data, alone)
+    check(it)
+    model.read_listings(it)
+    return it
+
+
+def named(name: bytes, is_whole: bool) -> Callable[[model.Job], None]:
+    """Refuses a job without the session, or one where that has a controller and may not."""
+
+    def check(job: model.Job) -> None:
+        if name not in [it for it, _, _ in job.sessions]:
+            raise Refused(13, f"NO SESSION {name.decode()}")
+        if is_whole and name in job.controllers:
+            raise Refused(14, f"CONTROLLED {name.decode()}")
+
+    return check
+
+
+def session_of(job: model.Job, name: bytes) -> tuple[bytes, bytes, list[model.Module]]:
+    return next(it for it in job.sessions if it[0] == name)
+
+
+def bounded(job: model.Job, runs: list[Run], session: tuple[bytes, bytes, list[model.Module]]) -> Session:
+    name, phase, modules = session
+    return Session(name, phase, modules, name in job.controllers, bounds(job, runs, name, phase))
+
+
+def report(word: bytes, data: bytes) -> Answer:
+    """What `run`, `exits` and `early` write."""
+    job = listed(data, True)
+    runs = Runner(job, word == b"exits").all()
+    front = b"COVERAGE REPORT\n" + b"".join(it.lines() for it in runs)
+    return Report(0, b"", front, [bounded(job, runs, it) for it in job.sessions], word == b"early")
+
+
+def count(data: bytes) -> Answer:
+    def check(job: model.Job) -> None:
+        for name in [it for it, _, _ in job.sessions if it in job.controllers][:1]:
+            raise Refused(14, f"CONTROLLED {name.decode()}")
+
+    job = listed(data, True, check)
+    runs = Runner(job).all()
+    parts = [b"COVERAGE COUNT\n", *(it.lines() for it in runs)]
+    for name, phase, modules in job.sessions:
+        met = union([it.shown for it in runs if it.phase == phase]).counts()
+        parts.append(model.counts_part(name, phase, modules, met))
+    return Answer(0, b"".join([*parts, b"END\n"]))
+
+
+def marks(name: bytes, data: bytes) -> Answer:
+    job = listed(data, True, named(name, False))
+    it = bounded(job, Runner(job).all(), session_of(job, name))
+    if it.has_controller:
+        return Marks(0, b"", it)
+    return Answer(0, model.session_file(name, it.modules, it.within.least).data())
+
+
+def firsts_of(job: model.Job, phase: bytes) -> model.Firsts:
+    return union([it.shown for it in Runner(job).all() if it.phase == phase]).firsts
+
+
+def prove(name: bytes, data: bytes) -> Answer:
+    job = listed(data, True, named(name, True))
+    _, phase, modules = session_of(job, name)
+    return Answer(0, model.evidence_of(modules, firsts_of(job, phase)))
+
+
+def show(name: bytes, data: bytes) -> Answer:
+    job = listed(data, False, named(name, False))
+    _, phase, modules = session_of(job, name)
+    file = model.file_of(data[job.end :], 0)
+    if job.end + file.end < len(data):
+        raise Refused(10, f"BAD MARKS OFFSET {file.end}")
+    model.compare(model.session_file(name, modules, {}), file)
+    return Answer(0, b"COVERAGE SHOW\n" + model.session_part(name, phase, modules, facts_of(modules, file)) + b"END\n")
+
+
+def verify(name: bytes, data: bytes) -> Answer:
+    job = listed(data, False, named(name, True))
+    _, phase, modules = session_of(job, name)
+    file = model.file_of(data[job.end :], 0)
+    model.compare(model.session_file(name, modules, {}), file)
+    return Answer(0, model.verified(name, len(job.tasks), file, data[job.end + file.end :], firsts_of(job, phase)))
+
+
+ALONE: dict[bytes, Callable[[bytes], Answer]] = {
+    b"run": lambda data: report(b"run", data), b"exits": lambda data: report(b"exits", data),
+    b"early": lambda data: report(b"early", data), b"count": count,
+    b"table": lambda data: Answer(0, model.table_text(listed(data, True))),
+    b"ends": lambda data: Answer(0, ends_model.text(data)), b"combine": lambda data: Answer(0, model.combined(data)),
+}
+NAMED = {b"marks": marks, b"show": show, b"prove": prove, b"verify": verify}
+
+
+def answer(words: list[str], data: bytes) -> Answer:
+    """What comes of words and an input; TooLong where that takes too long to tell."""
+    try:
+        return answer_of([os.fsencode(it) for it in words], data)
+    except Refused as refused:
+        return Answer(*refused.answer)
+
+
+def answer_of(words: list[bytes], data: bytes) -> Answer:
+    if len(words) == 3 and words[0] == b"trial":
+        numbers = [int(it) if re.fullmatch(rb"0|[1-9][0-9]{0,9}", it) else 1 << 32 for it in words[1:]]
+        if numbers[0] < 1 << 32 and 1 <= numbers[1] <= 64:
+            return Answer(0, trial.summary(*numbers))
+    is_named = len(words) == 2 and words[0] in NAMED and re.fullmatch(model.NAME, words[1])
+    if not is_named and not (len(words) == 1 and words[0] in ALONE):
+        return Answer(1, USAGE)
+    if len(data) > model.LIMITS["INPUT"]:
+        raise Refused(4, "TOO LARGE INPUT")
+    return NAMED[words[0]](words[1], data) if is_named else ALONE[words[0]](data)
