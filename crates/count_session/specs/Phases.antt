@@ -1,94 +1,50 @@
--- The tasks of a phase with the passes that their threads count with, and what the counts of a phase come to.
-use Rattle.std.specs.Prelude.{◌≡◌, ℕ, zero, suc, ◌+◌, ◌<◌, ◌≤◌, true, false, not, ◌&&◌, nat_lt, if◌then◌else◌, Option, Some, None, List, length, get_or, IfSome}
+-- The passes of a phase, and what the counts of a phase come to.
+use Rattle.std.specs.Prelude.{◌≡◌, ℕ, ◌<◌, true, false, nat_lt, if◌then◌else◌, List, length, get_or, map}
 use Rattle.cov_base.specs.States.{Visit}
 use Rattle.cov_base.specs.declared.facts.Fact.{Fact}
+use Rattle.cov_base.specs.declared.numbers.TaskNo.{TaskNo}
 use Rattle.module_area.specs.PlanView.{place_of, window_at}
 use Rattle.module_area.specs.declared.places.Place.{Place}
-use Rattle.brk_table.specs.Places.{TablesView}
-use Rattle.observed_step.specs.Steps.{memory_at}
-use Rattle.svc_monitor.specs.First.{IsOver}
 use Rattle.task_run.specs.Courses.{solo}
 use Rattle.session_book.specs.JobView.{JobView}
 use Rattle.session_book.specs.Sessions.{session_of, observes, plan_view, traces_from}
-use Rattle.job_run.specs.Runs.{result_of_run, trace_by}
-use Rattle.job_run.specs.Slots.{HasPass, in_phase, is_before}
-use Rattle.job_run.specs.Tasks.{done_result, own_run}
-use Rattle.count_session.specs.Counting.{Adds, count_at, count_of_all}
-use Rattle.count_session.specs.Notes.{CountNotes, split_notes}
+use Rattle.job_run.specs.Runs.{trace_by}
+use Rattle.count_session.specs.Counting.{count_at, count_of_all}
 use Rattle.count_session.specs.Passes.{IsPassOf, notes_of, plan_in}
-use Rattle.count_session.specs.Slots.{CountSlot}
 use Rattle.count_session.specs.Tallied.{count_in}
 use Rattle.count_session.specs.declared.cells.CountCells.{CountCells}
 use Rattle.count_session.specs.declared.counts.PlaceCount.{PlaceCount}
 use Rattle.count_session.specs.declared.pass.CountPass.{CountPass}
 
--- how many of the tasks before the next are of the phase
-abbrev pub in_count : JobView → ℕ → ℕ → ℕ
-in_count j phase zero = 0
-in_count j phase (suc t) = in_count j phase t + (if in_phase j phase t then 1 else 0)
+-- the traces of these tasks
+abbrev pub traces_of : JobView → List Place → List TaskNo → List (List Visit)
+traces_of j places tasks = map (λ (t : TaskNo). trace_by solo j places t.0) tasks
 
--- what these tasks add at a place
-abbrev pub count_until : JobView → List Place → ℕ → Place → Fact → ℕ → ℕ
-count_until j places phase place f zero = 0
-count_until j places phase place f (suc t) = count_until j places phase place f t + (if in_phase j phase t then count_at place f (trace_by solo j places t) else 0)
-
--- the pass was split off from the root
-pub record IsFresh (cells : CountCells) (root : CountNotes) (p : CountPass) : Type 0 where
-  pub area : IsPassOf cells p
-  pub fresh : notes_of cells p ≡ split_notes root
-
--- the slots with such a pass for each of the phase's tasks before the next
-pub record AreSplit (cells : CountCells) (root : CountNotes) (j : JobView) (phase next : ℕ) (old new : List CountSlot) : Type 0 where
-  pub count : length new ≡ length old
-  pub done : (t : ℕ) (d : CountSlot) → t < length old → (get_or new t d).done ≡ (get_or old t d).done
-  pub some : (t : ℕ) (d : CountSlot) → t < length old → t < next → in_phase j phase t ≡ true → HasPass (IsFresh cells root) (get_or new t d)
-  pub none : (t : ℕ) (d : CountSlot) → t < length old → is_before j phase next t ≡ false → (get_or new t d).pass ≡ None
-
--- the root after passes were split off
-pub record HasSplit (j : JobView) (phase next : ℕ) (before now : CountNotes) : Type 0 where
-  pub same : now ≡ record before { given = now.given }
-  pub given : now.given ≡ in_count j phase next
-
--- a pass that hasn't counted, with which a task can run
-pub record CanCount (cells : CountCells) (tables : TablesView) (s : CountSlot) (p : CountPass) : Type 0 where
+-- the pass was split off from a root that has planted every place with a window, and has counted nothing
+pub record IsFresh (cells : CountCells) (p : CountPass) : Type 0 where
   pub area : IsPassOf cells p
   pub task : (notes_of cells p).root ≡ false
+  pub one : (notes_of cells p).passes ≡ 1
+  pub planted : (q : ℕ) → q < length (plan_in cells).places → (notes_of cells p).planted q ≡ nat_lt 0 (window_at (plan_in cells) q)
   pub nothing : (notes_of cells p).adds ≡ 0
-  pub over : IsOver (plan_in cells) (memory_at s.done.task.bench) tables
-
-abbrev pub IsReady : CountCells → TablesView → CountSlot → Type 0
-IsReady cells tables s = IfSome s.pass (CanCount cells tables s)
-
--- the task has run with the pass
-pub record RunsWith (cells : CountCells) (old new : CountSlot) (p : CountPass) : Type 0 where
-  pub pass : CountPass
-  pub has : new.pass ≡ Some pass
-  pub area : IsPassOf cells pass
-  pub result : done_result new.done ≡ result_of_run (own_run solo (plan_in cells) old.done)
-  pub filled : length new.done.task.bench.space.bytes ≡ (memory_at old.done.task.bench).private
-  pub adds : Adds (plan_in cells) (notes_of cells p) (notes_of cells pass) (own_run solo (plan_in cells) old.done).trace
-
--- the slot after its run: as before where it has no pass
-abbrev pub RunsSlot : CountCells → CountSlot → CountSlot → Option CountPass → Type 0
-RunsSlot cells old new None = new ≡ old
-RunsSlot cells old new (Some p) = RunsWith cells old new p
+  pub added : (q : ℕ) (f : Fact) → (notes_of cells p).added q f ≡ 0
 
 -- the pass has counted these visits since it was split off
-pub record HasCounted (cells : CountCells) (root : CountNotes) (visits : List Visit) (p : CountPass) : Type 0 where
+pub record HasCounted (cells : CountCells) (visits : List Visit) (p : CountPass) : Type 0 where
   pub area : IsPassOf cells p
-  pub adds : Adds (plan_in cells) (split_notes root) (notes_of cells p) visits
+  pub task : (notes_of cells p).root ≡ false
+  pub one : (notes_of cells p).passes ≡ 1
+  pub added : (q : ℕ) (f : Fact) → q < length (plan_in cells).places → 0 < window_at (plan_in cells) q → (notes_of cells p).added q f ≡ count_at (place_of (plan_in cells).places q) f visits
 
--- each of the phase's tasks from the next on has such a pass, and no other slot has one
-pub record AreOver (cells : CountCells) (root : CountNotes) (j : JobView) (places : List Place) (phase next : ℕ) (slots : List CountSlot) : Type 0 where
-  pub some : (t : ℕ) (d : CountSlot) → next ≤ t → t < length slots → in_phase j phase t ≡ true → HasPass (HasCounted cells root (trace_by solo j places t)) (get_or slots t d)
-  pub none : (t : ℕ) (d : CountSlot) → t < length slots → (not (nat_lt t next) && in_phase j phase t) ≡ false → (get_or slots t d).pass ≡ None
-
--- the root after the passes of the tasks before the next were joined
-pub record HasJoined (j : JobView) (places : List Place) (phase next : ℕ) (before now : CountNotes) : Type 0 where
-  pub root : now.root ≡ before.root
-  pub given : now.given ≡ in_count j phase (length j.tasks)
-  pub passes : now.passes ≡ in_count j phase next
-  pub added : (p : ℕ) (f : Fact) → p < length places → now.added p f ≡ (if before.planted p then count_until j places phase (place_of places p) f next else 0)
+-- The root has planted every place with a window, and split off passes for the tasks that are given. It has what the passes
+-- of those that are back have counted.
+pub record HasJoined (cells : CountCells) (j : JobView) (places : List Place) (root : CountPass) (given_to back_of : List TaskNo) : Type 0 where
+  pub area : IsPassOf cells root
+  pub is : (notes_of cells root).root ≡ true
+  pub planted : (q : ℕ) → q < length (plan_in cells).places → (notes_of cells root).planted q ≡ nat_lt 0 (window_at (plan_in cells) q)
+  pub given : (notes_of cells root).given ≡ length given_to
+  pub passes : (notes_of cells root).passes ≡ length back_of
+  pub added : (q : ℕ) (f : Fact) → q < length (plan_in cells).places → 0 < window_at (plan_in cells) q → (notes_of cells root).added q f ≡ count_of_all (place_of (plan_in cells).places q) f (traces_of j places back_of)
 
 -- ---- what a job's counts are
 

@@ -19,12 +19,8 @@ use Rattle.task_run.specs.Courses.{Walk}
 use Rattle.task_run.specs.Windows.{opened_places}
 use Rattle.job_run.specs.Areas.{EndsArea, GrowsBy}
 use Rattle.job_run.specs.Bounds.{JoinsTasks}
-use Rattle.job_run.specs.Slots.{JoinsAll}
+use Rattle.job_run.specs.Passes.{JoinsAll, after_planting}
 use Rattle.job_run.proofs.BoundLemmas.{bounded}
-
--- what the root knows once every place with a window is planted
-abbrev pub after_planting : PlanView → Notes
-after_planting plan = planted_notes plan root_notes (length plan.windows)
 
 seen_planted : (w p n : ℕ) → p < n → 0 < w → (if nat_lt p n && not (nat_eq w 0) then 2 * w - 1 else 0) + 1 ≡ 2 * w
 seen_planted w p n h k = grind (arith, nat_tests)
@@ -72,30 +68,22 @@ ends_area plan walks ended trace f is observes joins sets tally =
     never : false ≡ true → ⊥
     never e = cc
 
-pub grows_by : (plan of_cells : PlanView) (walks : ℕ → Walk) (made planted ended : Notes) (trace : List Visit) (f : FinalsView) (ledger ledger1 ledger2 : List Tally) (finals finals1 finals2 : List FinalsView) →
-    IsPlan plan → of_cells ≡ plan → made ≡ root_notes → planted ≡ planted_notes plan made (length plan.windows) →
-    JoinsAll plan planted ended trace → JoinsTasks plan walks plan.tasks planted ended → HasSets of_cells ended f → HasTally of_cells ended f →
+pub grows_by : (plan of_cells : PlanView) (walks : ℕ → Walk) (ended : Notes) (trace : List Visit) (f : FinalsView) (ledger ledger1 ledger2 : List Tally) (finals finals1 finals2 : List FinalsView) →
+    IsPlan plan → of_cells ≡ plan → JoinsAll plan (after_planting plan) ended trace → JoinsTasks plan walks plan.tasks (after_planting plan) ended → HasSets of_cells ended f → HasTally of_cells ended f →
     ledger1 ≡ ledger → finals1 ≡ finals → ledger2 ≡ ledger1 ++ ended.tally ∷ [] → finals2 ≡ finals1 ++ f ∷ [] →
     GrowsBy plan walks trace ledger ledger2 finals finals2 f
-grows_by plan of_cells walks made planted ended trace f ledger ledger1 ledger2 finals finals1 finals2 is same root notes observes joins sets tally l1 f1 l2 f2 =
-    let start : planted ≡ after_planting plan = notes ∙ ap (λ n. planted_notes plan n (length plan.windows)) root in
-    let seen : JoinsAll plan (after_planting plan) ended trace = subst (λ (n : Notes). JoinsAll plan n ended trace) start observes in
-    let of_tasks : JoinsTasks plan walks plan.tasks (after_planting plan) ended = subst (λ (n : Notes). JoinsTasks plan walks plan.tasks n ended) start joins in
-    let of_sets : HasSets plan ended f = subst (λ (q : PlanView). HasSets q ended f) same sets in
-    let of_tally : HasTally plan ended f = subst (λ (q : PlanView). HasTally q ended f) same tally in
-    record {
-      tally = ended.tally;
-      ends = ends_area plan walks ended trace f is seen of_tasks of_sets of_tally;
-      in_ledger = l2 ∙ ap (λ l. l ++ ended.tally ∷ []) l1;
-      in_finals = f2 ∙ ap (λ l. l ++ f ∷ []) f1;
-    }
+grows_by plan of_cells walks ended trace f ledger ledger1 ledger2 finals finals1 finals2 is same observes joins sets tally l1 f1 l2 f2 = record {
+  tally = ended.tally;
+  ends = ends_area plan walks ended trace f is observes joins (subst (λ (q : PlanView). HasSets q ended f) same sets) (subst (λ (q : PlanView). HasTally q ended f) same tally);
+  in_ledger = l2 ∙ ap (λ l. l ++ ended.tally ∷ []) l1;
+  in_finals = f2 ∙ ap (λ l. l ++ f ∷ []) f1;
+}
 
 -- where the area was finished
-pub grows_if : (plan of_cells : PlanView) (walks : ℕ → Walk) (made planted ended : Notes) (trace : List Visit) (r : Result FinalsView NoMemory) (ledger ledger1 ledger2 : List Tally) (finals finals1 finals2 : List FinalsView) →
-    IsPlan plan → of_cells ≡ plan → made ≡ root_notes → planted ≡ planted_notes plan made (length plan.windows) →
-    JoinsAll plan planted ended trace → JoinsTasks plan walks plan.tasks planted ended → IfOk r (HasSets of_cells ended) → IfOk r (HasTally of_cells ended) →
+pub grows_if : (plan of_cells : PlanView) (walks : ℕ → Walk) (ended : Notes) (trace : List Visit) (r : Result FinalsView NoMemory) (ledger ledger1 ledger2 : List Tally) (finals finals1 finals2 : List FinalsView) →
+    IsPlan plan → of_cells ≡ plan → JoinsAll plan (after_planting plan) ended trace → JoinsTasks plan walks plan.tasks (after_planting plan) ended → IfOk r (HasSets of_cells ended) → IfOk r (HasTally of_cells ended) →
     ledger1 ≡ ledger → finals1 ≡ finals → IfOk r (λ _. ledger2 ≡ ledger1 ++ ended.tally ∷ []) → IfOk r (λ f. finals2 ≡ finals1 ++ f ∷ []) →
     IfOk r (λ f. GrowsBy plan walks trace ledger ledger2 finals finals2 f)
-grows_if plan of_cells walks made planted ended trace (Ok f) ledger ledger1 ledger2 finals finals1 finals2 is same root notes observes joins sets tally l1 f1 l2 f2 =
-    grows_by plan of_cells walks made planted ended trace f ledger ledger1 ledger2 finals finals1 finals2 is same root notes observes joins sets tally l1 f1 l2 f2
-grows_if plan of_cells walks made planted ended trace (Err e) ledger ledger1 ledger2 finals finals1 finals2 is same root notes observes joins sets tally l1 f1 l2 f2 = tt
+grows_if plan of_cells walks ended trace (Ok f) ledger ledger1 ledger2 finals finals1 finals2 is same observes joins sets tally l1 f1 l2 f2 =
+    grows_by plan of_cells walks ended trace f ledger ledger1 ledger2 finals finals1 finals2 is same observes joins sets tally l1 f1 l2 f2
+grows_if plan of_cells walks ended trace (Err e) ledger ledger1 ledger2 finals finals1 finals2 is same observes joins sets tally l1 f1 l2 f2 = tt

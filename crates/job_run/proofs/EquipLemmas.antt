@@ -1,42 +1,21 @@
 -- Tasks that get their sessions and extras.
-use Rattle.std.proofs.Common.{[], ◌≡◌, ◌≢◌, inl, inr, ℕ, ◌+◌, ◌<◌, true, false, nat_eq, nat_lt, None, List, ◌∷◌, ◌++◌, length, get_or, set, sym, ◌∙◌, ap, subst, arith}
+use Rattle.std.proofs.Common.{[], ◌≡◌, ◌≢◌, inl, inr, ℕ, ◌+◌, ◌<◌, ◌≤◌, true, false, nat_eq, nat_lt, None, List, ◌∷◌, ◌++◌, length, get_or, sym, ◌∙◌, ap, subst, arith}
+use Rattle.std.proofs.lemmas.Bool.{cases_Bool}
 use Rattle.std.proofs.lemmas.Bool.Decides.{nat_tests}
-use Rattle.std.proofs.lemmas.Grind.{get_or-set_at}
-use Rattle.std.proofs.lemmas.List.{get_or_append_left, get_or-set_other, length-append, length-set}
+use Rattle.std.proofs.lemmas.List.{get_or_append_left, length-append}
 use Rattle.std.proofs.Math.Seq.{get_or-append_seam}
 use Rattle.module_area.specs.PlanView.{PlanView}
 use Rattle.module_area.specs.declared.places.Place.{Place}
 use Rattle.task_run.specs.Courses.{Course}
 use Rattle.session_book.specs.JobView.{JobView}
 use Rattle.session_book.specs.Sessions.{task_of}
-use Rattle.job_run.specs.Slots.{in_phase, HasStart, AreEquipped, AreEmpty}
+use Rattle.job_run.specs.Crews.{Each, Own, phase_at}
+use Rattle.job_run.specs.Passes.{AreEquipped, HasStart}
+use Rattle.job_run.specs.Slots.{in_phase, AreEmpty, KeepsOthers}
 use Rattle.job_run.specs.Tasks.{Begins, AreRun, HasNotRun, IsEnded, has_run}
+use Rattle.job_run.specs.declared.outcome.Done.{Done}
 use Rattle.job_run.specs.declared.slots.Slot.{Slot}
-use Rattle.job_run.proofs.TaskLemmas.{same_or}
-use Rattle.job_run.proofs.SlotLemmas.{both, here_too}
-
--- the slots while tasks get their sessions and extras
-
-pub AreEquipped-start : {P E : Type 0} (begins : Begins E) (plan : PlanView) (j : JobView) (places : List Place) (phase : ℕ) (slots : List (Slot P E)) → AreEquipped begins plan j places phase 0 slots
-AreEquipped-start begins plan j places phase slots = record { each = λ t d l never h. absurd (omega (arith, never)) }
-
-pub AreEquipped-one : {P E : Type 0} (begins : Begins E) (plan : PlanView) (j : JobView) (places : List Place) (phase next : ℕ) (slots : List (Slot P E)) (e : Slot P E) → next < length slots →
-    AreEquipped begins plan j places phase next slots → HasStart begins plan j places next e → AreEquipped begins plan j places phase (next + 1) (set slots next e)
-AreEquipped-one begins plan j places phase next slots e here q start = record {
-  each = λ t d l below h. elim (same_or t next) [
-    | inl same ↦ subst (λ (s : Slot _ _). HasStart begins plan j places t s) (sym (get_or-set_at slots next t e d same here)) (subst (λ (k : ℕ). HasStart begins plan j places k e) (sym same) start)
-    | inr other ↦ subst (λ (s : Slot _ _). HasStart begins plan j places t s) (sym (get_or-set_other slots next t e d other)) (q.each t d (omega (arith, l, length-set slots next e)) (omega (arith, below, other)) h)
-  ];
-}
-
-pub AreEquipped-other : {P E : Type 0} (begins : Begins E) (plan : PlanView) (j : JobView) (places : List Place) (phase next : ℕ) (slots : List (Slot P E)) → in_phase j phase next ≡ false →
-    AreEquipped begins plan j places phase next slots → AreEquipped begins plan j places phase (next + 1) slots
-AreEquipped-other begins plan j places phase next slots other q = record {
-  each = λ t d l below h. elim (same_or t next) [
-    | inl same ↦ absurd (both (in_phase j phase t) h (here_too j phase next false other t same))
-    | inr before ↦ q.each t d l (omega (arith, below, before)) h
-  ];
-}
+use Rattle.job_run.proofs.EachLemmas.{Along, Along-all, same_or}
 
 not_run : (p phase : ℕ) → nat_eq p phase ≡ true → nat_lt p phase ≡ false
 not_run p phase h = grind (arith, nat_tests)
@@ -45,26 +24,41 @@ pub begun_in : {P E : Type 0} (course : Course) (j : JobView) (places : List Pla
     in_phase j phase t ≡ true → HasNotRun j places t (get_or slots t d).done
 begun_in course j places phase t slots d a l h = a.begun t d l (not_run (task_of j t).phase phase h)
 
--- a slot whose task is about to run has changed, and no other
-pub AreRun-equipped : {P E : Type 0} (course : Course) (j : JobView) (places : List Place) (phase next : ℕ) (slots : List (Slot P E)) (e : Slot P E) → next < length slots → in_phase j phase next ≡ true →
-    AreRun course j places phase slots → HasNotRun j places next e.done → AreRun course j places phase (set slots next e)
-AreRun-equipped course j places phase next slots e here of a begun = record {
-  count = length-set slots next e ∙ a.count;
-  ended = λ t d l h. subst (λ (s : Slot _ _). IsEnded course j places t s.done) (sym (get_or-set_other slots next t e d (apart t h))) (a.ended t d (omega (arith, l, length-set slots next e)) h);
-  begun = λ t d l h. elim (same_or t next) [
-    | inl same ↦ subst (λ (s : Slot _ _). HasNotRun j places t s.done) (sym (get_or-set_at slots next t e d same here)) (subst (λ (k : ℕ). HasNotRun j places k e.done) (sym same) begun)
-    | inr other ↦ subst (λ (s : Slot _ _). HasNotRun j places t s.done) (sym (get_or-set_other slots next t e d other)) (a.begun t d (omega (arith, l, length-set slots next e)) h)
-  ];
-}
-  where
-    apart : (t : ℕ) → has_run j phase t ≡ true → t ≢ next
-    apart t h same = both (has_run j phase t) h (not_run (task_of j t).phase phase (here_too j phase next true of t same))
+-- a slot that has got what its task begins with
+pub record IsEquippedSlot {P E : Type 0} (begins : Begins E) (plan : PlanView) (j : JobView) (places : List Place) (t : ℕ) (old new : Slot P E) : Type 0 where
+  pub start : HasStart begins plan j places t new.done new.extra
+  pub pass : new.pass ≡ old.pass
 
-pub empty_set : {P E : Type 0} (slots : List (Slot P E)) (next : ℕ) (e none : Slot P E) → next < length slots → AreEmpty slots → e.pass ≡ (get_or slots next none).pass → AreEmpty (set slots next e)
-empty_set slots next e none here empty same t d l = elim (same_or t next) [
-  | inl at ↦ ap (λ s. s.pass) (get_or-set_at slots next t e d at here) ∙ (same ∙ empty next none here)
-  | inr other ↦ ap (λ s. s.pass) (get_or-set_other slots next t e d other) ∙ empty t d (omega (arith, l, length-set slots next e))
-]
+module _ {P E : Type 0} (course : Course) (begins : Begins E) (plan : PlanView) (j : JobView) (places : List Place) (phase : ℕ) (old new : List (Slot P E)) (n : ℕ)
+    (past : length old ≤ n) (a : Along (λ t x y. y ≡ x) (Own (phase_at j phase) (IsEquippedSlot begins plan j places)) n old new) where
+  e : Each (Own (phase_at j phase) (IsEquippedSlot begins plan j places)) old new
+  e = Along-all (λ t x y. y ≡ x) (Own (phase_at j phase) (IsEquippedSlot begins plan j places)) n old new past a
+
+  pub others_kept : KeepsOthers j phase old new
+  others_kept = record { count = e.count; done = λ t d l h. ap (λ (s : Slot _ _). s.done) ((e.each t d l).other h); extra = λ t d l h. ap (λ (s : Slot _ _). s.extra) ((e.each t d l).other h) }
+
+  pub all_ready : length old ≡ length j.tasks → AreEmpty old → AreEquipped begins plan j places phase new
+  all_ready size empty = record {
+    count = e.count ∙ size;
+    empty = λ t d l. let here : t < length old = omega (arith, l, e.count) in elim (cases_Bool (in_phase j phase t)) [
+      | inl its ↦ ((e.each t d here).its its).pass ∙ empty t d here
+      | inr other ↦ ap (λ (s : Slot _ _). s.pass) ((e.each t d here).other other) ∙ empty t d here
+    ];
+    can = λ t d its. ((e.each t d (omega (arith, its.exists, size))).its its.its).start;
+  }
+
+  pub still_run : AreRun course j places phase old → AreRun course j places phase new
+  still_run r = record {
+    count = e.count ∙ r.count;
+    ended = λ t d l h. let here : t < length old = omega (arith, l, e.count) in elim (cases_Bool (in_phase j phase t)) [
+      | inl its ↦ let never : true ≡ false = sym h ∙ not_run (task_of j t).phase phase its in absurd cc
+      | inr other ↦ subst (λ (s : Slot _ _). IsEnded course j places t s.done) (sym ((e.each t d here).other other)) (r.ended t d here h)
+    ];
+    begun = λ t d l h. let here : t < length old = omega (arith, l, e.count) in elim (cases_Bool (in_phase j phase t)) [
+      | inl its ↦ ((e.each t d here).its its).start.task.begun
+      | inr other ↦ subst (λ (s : Slot _ _). HasNotRun j places t s.done) (sym ((e.each t d here).other other)) (r.begun t d here h)
+    ];
+  }
 
 -- one task more, as it begins
 pub begun_more : {P E : Type 0} (j : JobView) (places : List Place) (slots : List (Slot P E)) (e : Slot P E) →

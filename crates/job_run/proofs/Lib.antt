@@ -1,10 +1,13 @@
 pub mod AreaLemmas
+pub mod BackLemmas
+pub mod BeforeLemmas
 pub mod BoundLemmas
+pub mod CrewLemmas
+pub mod EachLemmas
 pub mod EquipLemmas
 pub mod JoinLemmas
 pub mod PhaseLemmas
 pub mod RangeLemmas
 pub mod SessionLemmas
 pub mod SlotLemmas
-pub mod TakenLemmas
 pub mod TaskLemmas

@@ -1,117 +1,14 @@
--- Phases one after the other, and the passes of a phase joined one after the other.
-use Rattle.std.proofs.Common.{◌≡◌, ℕ, ◌+◌, ◌*◌, ◌<◌, ◌≤◌, ◌^◌, zero, suc, true, false, nat_eq, Option, unwrap_or, List, [], ◌∷◌, ◌++◌, length, get_or, drop, take, refl, sym, ◌∙◌, ap, subst, arith}
-use Rattle.std.proofs.lemmas.List.{append_assoc, append-nil, drop_more, drop_all, take_more, take_all, length-take-le}
-use Rattle.cov_base.specs.States.{Visit}
-use Rattle.cov_base.specs.declared.facts.Fact.{Fact}
-use Rattle.cov_base.specs.declared.numbers.TaskNo.{TaskNo}
+-- Phases one after the other.
+use Rattle.std.proofs.Common.{◌≡◌, ℕ, ◌+◌, ◌<◌, zero, suc, List, [], ◌∷◌, ◌++◌, length, get_or, drop, take, refl, sym, ◌∙◌, ap, subst, arith}
+use Rattle.std.proofs.lemmas.List.{append_assoc, append-nil, drop_all, take_more, take_all, length-take-le}
 use Rattle.module_area.specs.FinalsView.{FinalsView}
-use Rattle.module_area.specs.Notes.{Notes, calls, split_notes, after_join}
-use Rattle.module_area.specs.PlanView.{PlanView, IsPlan}
 use Rattle.module_area.specs.declared.places.Place.{Place}
 use Rattle.module_area.specs.declared.tallies.Tally.{Tally}
-use Rattle.svc_monitor.specs.Observed.{Observes}
-use Rattle.svc_monitor.proofs.ObservedLemmas.{Observes-none}
 use Rattle.task_run.specs.Courses.{Course}
-use Rattle.session_book.specs.JobView.{JobView, TaskView}
-use Rattle.session_book.specs.Sessions.{task_of, no_task, plan_view, traces_from, tasks_from}
+use Rattle.session_book.specs.JobView.{JobView}
+use Rattle.session_book.specs.Sessions.{plan_view}
 use Rattle.job_run.specs.Areas.{EndsArea, GrowsBy}
-use Rattle.job_run.specs.Bounds.{JoinsTasks, Leaves}
-use Rattle.job_run.specs.Runs.{Account, AreEnded, HasLeftBy, joined, phase_trace, trace_by, walk_by}
-use Rattle.job_run.specs.Slots.{HasSplit, JoinsAll}
-use Rattle.job_run.proofs.BoundLemmas.{joins_none, joins_one}
-use Rattle.job_run.proofs.JoinLemmas.{joins-more}
-
--- the visits of the phase's tasks from this one on
-abbrev pub rest_of : Course → JobView → List Place → ℕ → ℕ → List Visit
-rest_of run j places phase i = joined (traces_from i (drop i j.tasks) phase (trace_by run j places))
-
-one_of : (run : Course) (j : JobView) (places : List Place) (phase i : ℕ) (ts : List TaskView) → nat_eq (task_of j i).phase phase ≡ true →
-    joined (traces_from i (task_of j i ∷ ts) phase (trace_by run j places)) ≡ trace_by run j places i ++ joined (traces_from (i + 1) ts phase (trace_by run j places))
-one_of run j places phase i ts h = rw h refl
-
-none_of : (run : Course) (j : JobView) (places : List Place) (phase i : ℕ) (ts : List TaskView) → nat_eq (task_of j i).phase phase ≡ false →
-    joined (traces_from i (task_of j i ∷ ts) phase (trace_by run j places)) ≡ joined (traces_from (i + 1) ts phase (trace_by run j places))
-none_of run j places phase i ts h = rw h refl
-
-next_of : (run : Course) (j : JobView) (places : List Place) (phase i : ℕ) → i < length j.tasks →
-    rest_of run j places phase i ≡ joined (traces_from i (task_of j i ∷ drop (i + 1) j.tasks) phase (trace_by run j places))
-next_of run j places phase i l = ap (λ (ts : List TaskView). joined (traces_from i ts phase (trace_by run j places))) (drop_more j.tasks i no_task l)
-
--- the tasks of the phase from this one on
-abbrev pub tasks_on : JobView → ℕ → ℕ → List TaskNo
-tasks_on j phase i = tasks_from i (drop i j.tasks) phase
-
-on_one : (j : JobView) (phase i : ℕ) → i < length j.tasks → nat_eq (task_of j i).phase phase ≡ true → tasks_on j phase i ≡ record { 0 = i } ∷ tasks_on j phase (i + 1)
-on_one j phase i l h = ap (λ (ts : List TaskView). tasks_from i ts phase) (drop_more j.tasks i no_task l) ∙ rw h refl
-
-on_none : (j : JobView) (phase i : ℕ) → i < length j.tasks → nat_eq (task_of j i).phase phase ≡ false → tasks_on j phase i ≡ tasks_on j phase (i + 1)
-on_none j phase i l h = ap (λ (ts : List TaskView). tasks_from i ts phase) (drop_more j.tasks i no_task l) ∙ rw h refl
-
--- the root has observed the phase's tasks before the next one, whose passes are joined to it
-pub record HasObserved (run : Course) (plan : PlanView) (old new : Notes) (j : JobView) (places : List Place) (phase next : ℕ) : Type 0 where
-  pub trace : List Visit
-  pub observes : JoinsAll plan old new trace
-  pub rest : trace ++ rest_of run j places phase next ≡ phase_trace run j places phase
-  pub tasks : List TaskNo
-  pub joins : JoinsTasks plan (walk_by run j places) tasks old new
-  pub more : tasks ++ tasks_on j phase next ≡ plan.tasks
-  pub few : calls new ≤ calls old + next * 2 ^ 42
-
-pub HasObserved-start : (run : Course) (plan : PlanView) (old new : Notes) (j : JobView) (places : List Place) (phase next : ℕ) → plan ≡ plan_view j places phase → ((s p : ℕ) (f : Fact) → old.marked s p f ≡ false) →
-    HasSplit j phase next old new → HasObserved run plan old new j places phase 0
-HasObserved-start run plan old new j places phase next of unmarked split = record {
-  trace = [];
-  observes = subst (λ (n : Notes). Observes plan n new []) split.same (Observes-none plan new);
-  rest = refl;
-  tasks = [];
-  joins = joins_none plan (walk_by run j places) old new (λ s p f. ap (λ (n : Notes). n.marked s p f) split.same ∙ unmarked s p f) (ap (λ (n : Notes). n.tally) split.same);
-  more = sym (ap (λ (p : PlanView). p.tasks) of);
-  few = omega (arith, ap (λ (n : Notes). calls n) split.same);
-}
-
-pub HasObserved-one : (run : Course) (plan : PlanView) (old mid other : Notes) (j : JobView) (places : List Place) (phase next : ℕ) → IsPlan plan → next < length j.tasks → nat_eq (task_of j next).phase phase ≡ true →
-    HasObserved run plan old mid j places phase next → Observes plan (split_notes plan old next) other (trace_by run j places next) → Leaves plan (walk_by run j places) next other →
-    HasObserved run plan old (after_join plan mid other) j places phase (next + 1)
-HasObserved-one run plan old mid other j places phase next is l h o more left =
-    let after : rest_of run j places phase next ≡ trace_by run j places next ++ rest_of run j places phase (next + 1) =
-    next_of run j places phase next l ∙ one_of run j places phase next (drop (next + 1) j.tasks) h in
-    record {
-      trace = o.trace ++ trace_by run j places next;
-      observes = joins-more plan old mid other next o.trace (trace_by run j places next) o.observes more;
-      rest = append_assoc o.trace (trace_by run j places next) (rest_of run j places phase (next + 1)) ∙ (ap (λ (vs : List Visit). o.trace ++ vs) (sym after) ∙ o.rest);
-      tasks = o.tasks ++ record { 0 = next } ∷ [];
-      joins = joins_one plan (walk_by run j places) o.tasks next old mid other is (ap (λ (b : Option ℕ). unwrap_or b 0) more.grows.bears) o.joins left;
-      more = append_assoc o.tasks (record { 0 = next } ∷ []) (tasks_on j phase (next + 1)) ∙ (ap (λ (ts : List TaskNo). o.tasks ++ ts) (sym (on_one j phase next l h)) ∙ o.more);
-      few = omega (arith, o.few, left.few);
-    }
-
-pub HasObserved-other : (run : Course) (plan : PlanView) (old new : Notes) (j : JobView) (places : List Place) (phase next : ℕ) → next < length j.tasks → nat_eq (task_of j next).phase phase ≡ false →
-    HasObserved run plan old new j places phase next → HasObserved run plan old new j places phase (next + 1)
-HasObserved-other run plan old new j places phase next l h o =
-    let after : rest_of run j places phase next ≡ rest_of run j places phase (next + 1) = next_of run j places phase next l ∙ none_of run j places phase next (drop (next + 1) j.tasks) h in
-    record {
-      trace = o.trace;
-      observes = o.observes;
-      rest = ap (λ (vs : List Visit). o.trace ++ vs) (sym after) ∙ o.rest;
-      tasks = o.tasks;
-      joins = o.joins;
-      more = ap (λ (ts : List TaskNo). o.tasks ++ ts) (sym (on_none j phase next l h)) ∙ o.more;
-      few = omega (arith, o.few);
-    }
-
-pub HasObserved-all : (run : Course) (plan : PlanView) (old new : Notes) (j : JobView) (places : List Place) (phase n : ℕ) → length j.tasks ≤ n → HasObserved run plan old new j places phase n →
-    JoinsAll plan old new (phase_trace run j places phase)
-HasObserved-all run plan old new j places phase n all o =
-    let none : rest_of run j places phase n ≡ [] = ap (λ (ts : List TaskView). joined (traces_from n ts phase (trace_by run j places))) (drop_all n j.tasks all) in
-    let whole : o.trace ≡ phase_trace run j places phase = sym (append-nil o.trace) ∙ (ap (λ (vs : List Visit). o.trace ++ vs) (sym none) ∙ o.rest) in
-    subst (λ (vs : List Visit). JoinsAll plan old new vs) whole o.observes
-
-pub HasJoined-all : (run : Course) (plan : PlanView) (old new : Notes) (j : JobView) (places : List Place) (phase n : ℕ) → length j.tasks ≤ n → HasObserved run plan old new j places phase n →
-    JoinsTasks plan (walk_by run j places) plan.tasks old new
-HasJoined-all run plan old new j places phase n all o =
-    let none : tasks_on j phase n ≡ [] = ap (λ (ts : List TaskView). tasks_from n ts phase) (drop_all n j.tasks all) in
-    let whole : o.tasks ≡ plan.tasks = sym (append-nil o.tasks) ∙ (ap (λ (ts : List TaskNo). o.tasks ++ ts) (sym none) ∙ o.more) in
-    subst (λ (ts : List TaskNo). JoinsTasks plan (walk_by run j places) ts old new) whole o.joins
+use Rattle.job_run.specs.Runs.{Account, AreEnded, HasLeftBy, phase_trace, walk_by}
 
 -- one area more
 pub AreEnded-more : (run : Course) (j : JobView) (places : List Place) (phase : ℕ) (ns : List (List ℕ)) (n : List ℕ) (fs : List FinalsView) (f : FinalsView) (ts : List Tally) (t : Tally) →

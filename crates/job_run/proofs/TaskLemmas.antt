@@ -25,7 +25,8 @@ use Rattle.session_book.specs.Sessions.{task_of, no_task, plan_view}
 use Rattle.space_map.specs.Space.{SpaceView, memory_of_space, row_of}
 use Rattle.job_run.specs.Runs.{run_by, walk_by, result_by, result_of_run}
 use Rattle.job_run.specs.Sets.{no_finals}
-use Rattle.job_run.specs.Slots.{dones, in_phase, Runs, HaveExtras, HaveAllExtras, KeepsOthers}
+use Rattle.job_run.specs.Passes.{Runs}
+use Rattle.job_run.specs.Slots.{dones, in_phase, HaveExtras, HaveAllExtras, KeepsOthers}
 use Rattle.job_run.specs.Tasks.{Ends, HasNotRun, HasExtra, IsEnded, AreNew, AreRun, has_run, done_result, no_result, results_of}
 use Rattle.job_run.specs.declared.outcome.Done.{Done}
 use Rattle.job_run.specs.declared.slots.Slot.{Slot}

@@ -1,6 +1,8 @@
 pub mod Areas
 pub mod Bounds
+pub mod Crews
 pub mod Outcomes
+pub mod Passes
 pub mod Runs
 pub mod Sets
 pub mod Slots

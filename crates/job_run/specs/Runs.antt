@@ -7,13 +7,13 @@ use Rattle.module_area.specs.FinalsView.{FinalsView}
 use Rattle.module_area.specs.PlanView.{place_of}
 use Rattle.module_area.specs.declared.places.Place.{Place}
 use Rattle.module_area.specs.declared.tallies.Tally.{Tally}
-use Rattle.brk_table.specs.Places.{memory_of}
+use Rattle.brk_table.specs.Places.{TablesView, memory_of}
 use Rattle.session_book.specs.JobView.{JobView}
 use Rattle.session_book.specs.Results.{ResultView}
 use Rattle.session_book.specs.Sessions.{task_of, session_of, first_state, session_set, traces_from, plan_view}
 use Rattle.task_run.specs.Courses.{Course, Walk, solo, walk}
 use Rattle.task_run.specs.Windows.{least_set, most_set}
-use Rattle.job_run.specs.Areas.{EndsArea}
+use Rattle.job_run.specs.Areas.{EndsArea, GrowsBy}
 
 -- a task's run, over its phase's plan and modules that were never planted
 abbrev pub run_by : Course → JobView → List Place → ℕ → Run
@@ -84,6 +84,16 @@ pub record HasRunBy (course : Course) (j : JobView) (places : List Place) (befor
 pub record HasLeftBy (course : Course) (j : JobView) (places : List Place) (before after : Account) (sets : List FinalsView) : Type 0 where
   pub ran : HasRunBy course j places before after
   pub are : sets ≡ ran.sets
+
+-- so a phase, from the one state of what keeps these lists to the other
+abbrev pub Grows : {S : Type 0} → Course → JobView → TablesView → ℕ → (S → List Tally) → (S → List FinalsView) → S → S → FinalsView → Type 0
+Grows course j tables phase ledger finals old new f =
+    GrowsBy (plan_view j tables.places phase) (walk_by course j tables.places) (phase_trace course j tables.places phase) (ledger old) (ledger new) (finals old) (finals new) f
+
+-- and so all phases, where it has made so many areas
+abbrev pub GrowsTo : {S : Type 0} → Course → JobView → TablesView → (S → List Tally) → (S → List FinalsView) → (S → ℕ) → S → S → List FinalsView → Type 0
+GrowsTo course j tables ledger finals made old new sets = HasLeftBy course j tables.places
+    (record { ledger = ledger old; finals = finals old; made = made old }) (record { ledger = ledger new; finals = finals new; made = made new }) sets
 
 -- the same where each task runs as it does alone
 

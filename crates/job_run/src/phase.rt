@@ -3,16 +3,16 @@ ghost use Rattle.std.specs.Prelude.{◌≡◌, ◌+◌, ◌<◌, ◌^◌, length
 ghost use Rattle.brk_table.specs.Kept.{AreCodes};
 ghost use Rattle.module_area.specs.FinalsView.{set_at};
 ghost use Rattle.session_book.specs.JobView.{IsJob};
-ghost use Rattle.session_book.specs.Sessions.{plan_view};
-ghost use Rattle.job_run.specs.Areas.{GrowsBy};
+ghost use Rattle.task_run.specs.Courses.{solo};
 ghost use Rattle.job_run.specs.Outcomes.{AreExtras, IsOutcome, IsOutcomeBy};
-ghost use Rattle.job_run.specs.Runs.{HasLeft, HasLeftBy, phase_trace, walk_by};
+ghost use Rattle.job_run.specs.Runs.{Grows, GrowsTo};
 ghost use Rattle.job_run.specs.Slots.{AreEmpty, HaveAllExtras, HaveExtras, KeepsOthers};
 ghost use Rattle.job_run.specs.Tasks.{AreRun};
 
+use crate::area::{AreaCrew, equip_all};
+use crate::crew::run_crew;
 use crate::outcome::{Outcome, Sets};
 use crate::slots::{Slot, make_slots, parts_of};
-use crate::threads::{equip_all, run_tasks};
 use brk_table::Tables;
 use cov_base::NoMemory;
 use cov_outside::Gate;
@@ -38,12 +38,13 @@ fn run_phase<'a, T: Threads + Sync, A: Areas, G: Gate + Sync, R: Runner<A::C> + 
     slots: &mut [Slot<'a, <A::C as Cells>::Pass, R::Extra>],
 ) -> Result<Finals, NoMemory>
     requires room { A.made areas.old < 2 ^ 62 }
+    requires job { IsJob job.now }
     requires phase { phase < length job.now.phases }
     requires tasks { AreRun R.course job.now tables.now.places phase slots.old }
     requires codes { AreCodes job.now.images tables.now }
     requires empty { AreEmpty slots.old }
     ensures made { IfOk result (λ _. A.made areas.new ≡ A.made areas.old + 1) }
-    ensures grown { IfOk result (λ f. GrowsBy (plan_view job.now tables.now.places phase) (walk_by R.course job.now tables.now.places) (phase_trace R.course job.now tables.now.places phase) (A.ledger areas.old) (A.ledger areas.new) (A.finals areas.old) (A.finals areas.new) f) }
+    ensures grown { IfOk result (λ f. Grows R.course job.now tables.now phase A.ledger A.finals areas.old areas.new f) }
     ensures tasks { IfOk result (λ _. AreRun R.course job.now tables.now.places (phase + 1) slots.new) }
     ensures extras { IfOk result (λ f. HaveExtras R.ends job.now tables.now.places phase (set_at f) slots.new) }
     ensures others { IfOk result (λ _. KeepsOthers job.now phase slots.old slots.new) }
@@ -57,9 +58,16 @@ fn run_phase<'a, T: Threads + Sync, A: Areas, G: Gate + Sync, R: Runner<A::C> + 
     equip_all::<A::C, R>(alloc, runner, job, tables, &plan, phase, slots)?;
     let (cells, mut root) = areas.make(alloc, &plan)?;
     plant_all(&cells, &mut root, &plan);
-    run_tasks(
-        rt, &cells, &mut root, gate, runner, job, tables, &plan, phase, slots,
-    );
+    let crew = AreaCrew {
+        cells: &cells,
+        gate,
+        runner,
+        job,
+        tables,
+        plan: &plan,
+        phase,
+    };
+    run_crew(rt, &crew, job, phase, &mut root, slots);
     areas.finish(alloc, cells, root)
 }
 
@@ -79,7 +87,7 @@ fn run_phases<'a, T: Threads + Sync, A: Areas, G: Gate + Sync, R: Runner<A::C> +
     requires codes { AreCodes job.now.images tables.now }
     requires empty { AreEmpty slots.old }
     ensures job { IsJob job.now }
-    ensures left { IfOk result (λ v. HasLeftBy R.course job.now tables.now.places (record { ledger = A.ledger areas.old; finals = A.finals areas.old; made = A.made areas.old }) (record { ledger = A.ledger areas.new; finals = A.finals areas.new; made = A.made areas.new }) v.items) }
+    ensures left { IfOk result (λ v. GrowsTo R.course job.now tables.now A.ledger A.finals A.made areas.old areas.new v.items) }
     ensures tasks { IfOk result (λ _. AreRun R.course job.now tables.now.places (length job.now.phases) slots.new) }
     ensures extras { IfOk result (λ v. HaveAllExtras R.ends job.now tables.now.places (length job.now.phases) v.items slots.new) }
 {
@@ -110,7 +118,7 @@ pub fn run_job_with<'a, T: Threads + Wait + Sync, A: Areas, G: Gate + Sync, R: R
 ) -> Result<(Outcome<'a>, Vec<R::Extra>), NoMemory>
     requires tables { AreCodes job.now.images tables.now }
     requires room { A.made areas.old < 2 ^ 61 }
-    ensures left { IfOk result (λ r. HasLeftBy R.course job.now tables.now.places (record { ledger = A.ledger areas.old; finals = A.finals areas.old; made = A.made areas.old }) (record { ledger = A.ledger areas.new; finals = A.finals areas.new; made = A.made areas.new }) r.0.sets.finals) }
+    ensures left { IfOk result (λ r. GrowsTo R.course job.now tables.now A.ledger A.finals A.made areas.old areas.new r.0.sets.finals) }
     ensures outcome { IfOk result (λ r. IsOutcomeBy R.course job.now tables.now.places r.0.tasks.items r.0.sets) }
     ensures extras { IfOk result (λ r. AreExtras R.ends job.now tables.now.places r.0.tasks.items r.0.sets r.1.items) }
 {
@@ -134,7 +142,7 @@ pub fn run_job<'a, T: Threads + Wait + Sync, A: Areas, G: Gate + Sync>(
 ) -> Result<Outcome<'a>, NoMemory>
     requires tables { AreCodes job.now.images tables.now }
     requires room { A.made areas.old < 2 ^ 61 }
-    ensures left { IfOk result (λ o. HasLeft job.now tables.now.places (record { ledger = A.ledger areas.old; finals = A.finals areas.old; made = A.made areas.old }) (record { ledger = A.ledger areas.new; finals = A.finals areas.new; made = A.made areas.new }) o.sets.finals) }
+    ensures left { IfOk result (λ o. GrowsTo solo job.now tables.now A.ledger A.finals A.made areas.old areas.new o.sets.finals) }
     ensures outcome { IfOk result (λ o. IsOutcome job.now tables.now.places o.tasks.items o.sets) }
 {
     let runner = PlainRunner;

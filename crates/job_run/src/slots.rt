@@ -1,9 +1,9 @@
 //! The tasks of a job with the passes that their threads work with.
-ghost use Rattle.std.specs.Prelude.{◌≡◌, ◌<◌, ◌≤◌, nat_eq, [], length, map, All, IsSome, IfOk, slice_index_or, slice_set, vec_capacity};
+ghost use Rattle.std.specs.Prelude.{◌≡◌, ◌+◌, ◌<◌, ◌≤◌, nat_eq, if◌then◌else◌, [], length, map, All, IsSome, IfOk, slice_index_or, slice_set, vec_capacity};
 ghost use Rattle.std.specs.declared.option.Option.TheVariants.{Some, None};
 ghost use Rattle.brk_table.specs.Places.{IsIn};
 ghost use Rattle.session_book.specs.Sessions.{task_of};
-ghost use Rattle.job_run.specs.Slots.{AreEmpty, dones, extras_of};
+ghost use Rattle.job_run.specs.Slots.{AreEmpty, IsRange, dones, extras_of};
 ghost use Rattle.job_run.specs.Tasks.{HasNotRun, AreNew};
 
 use crate::outcome::Done;
@@ -13,6 +13,7 @@ use module_area::Control;
 use observed_step::Bench;
 use session_book::{Begun, Job, begin};
 use std::alloc::Global;
+use std::ops::Range;
 use task_run::Task;
 
 /// A task, while its phase runs the pass that was split off for it, and from its phase on what its runner keeps of it. The
@@ -31,6 +32,35 @@ pub fn is_of(job: &Job, t: usize, phase: u32) -> bool
     ensures { result ≡ nat_eq (task_of job.now t).phase phase }
 {
     job.card(t).phase == phase
+}
+
+/// The range up to this index; it begins there where it was empty.
+fn up_to(range: Range<usize>, t: usize) -> Range<usize>
+    requires { t < usize.MAX }
+    ensures start { result.start ≡ (if nat_eq range.start range.end then t else range.start) }
+    ensures end { result.end ≡ t + 1 }
+{
+    let start = if range.start == range.end {
+        t
+    } else {
+        range.start
+    };
+    start..t + 1
+}
+
+/// Where the tasks of the phase stand among those of the job: from the first of them to the last. In a job whose tasks
+/// stand in the order of their phases no other is among them.
+pub fn range_of(job: &Job, phase: u32) -> Range<usize>
+    ensures { IsRange job.now phase (length job.now.tasks) result.start result.end }
+{
+    let count = job.task_count();
+    let mut range = 0..0;
+    for t in 0..count {
+        if is_of(job, t, phase) {
+            range = up_to(range, t);
+        }
+    }
+    range
 }
 
 /// A task as its card says, over the modules and tables, which has not run and has no sessions.
@@ -99,9 +129,7 @@ pub fn equip<'a, P: Drop, E: Drop>(slot: &mut Slot<'a, P, E>, control: Control, 
 
 /// Puts a pass into the slot.
 pub fn give<'a, P: Drop, E: Drop>(slot: &mut Slot<'a, P, E>, pass: P)
-    ensures pass { slot.new.pass ≡ Some pass }
-    ensures done { slot.new.done ≡ slot.old.done }
-    ensures extra { slot.new.extra ≡ slot.old.extra }
+    ensures { slot.new ≡ record slot.old { pass = Some pass } }
 {
     slot.pass = Some(pass);
 }

@@ -1,16 +1,37 @@
-use Rattle.std.proofs.Common.{ap, sym, ◌∙◌}
+use Rattle.std.proofs.Common.{◌≡◌, ℕ, ◌<◌, [], refl, ap, subst, sym, ◌∙◌}
+use Rattle.module_area.specs.PlanView.{PlanView}
+use Rattle.job_run.proofs.BackLemmas.{are_empty, have_run, whatever}
+use Rattle.job_run.proofs.EquipLemmas.{begun_in}
+use Rattle.task_run.specs.Courses.{solo}
 use Rattle.count_session.specs.Notes.{CountNotes}
 use Rattle.count_session.specs.Passes.{notes_of, plan_in}
-use Rattle.count_session.proofs.PassLemmas.{counted_if}
+use Rattle.count_session.proofs.PassLemmas.{counted_if, joins_start}
 use Rattle.count_session.proofs.phase.count_phase.Goals as goal
 
-pub finish-requires-clause-root : goal.finish-requires-clause-root
-finish-requires-clause-root g c = c.run_tasks.ensures.joined.root ∙ ap (λ (n : CountNotes). n.root) c.plant_all.ensures.same
+pub run_crew-requires-clause-fit : goal.run_crew-requires-clause-fit
+run_crew-requires-clause-fit g c κs within = record { plan = c.in_ok-cells.ensures.plan ∙ c.in_ok-plan.ensures; job = c.requires.job; codes = c.requires.codes }
+
+pub run_crew-requires-clause-root : goal.run_crew-requires-clause-root
+run_crew-requires-clause-root g c κs within =
+    joins_start c.in_ok-cells.cells c.args.job.now c.args.tables.now.places c.in_ok-plan.plan c.plant_all.new.root c.in_ok-cells.ensures.plan c.plant_all.ensures.area c.plant_all.ensures.same c.plant_all.ensures.planted
+
+pub run_crew-requires-clause-ready : goal.run_crew-requires-clause-ready
+run_crew-requires-clause-ready g c κs within = record {
+  count = c.requires.tasks.count;
+  empty = c.requires.empty;
+  can = λ t d its. begun_in solo c.args.job.now c.args.tables.now.places c.args.phase t c.args.slots.now d c.requires.tasks (subst (λ (n : ℕ). t < n) (sym c.requires.tasks.count) its.exists) its.its;
+}
 
 pub finish-requires-clause-joined : goal.finish-requires-clause-joined
-finish-requires-clause-joined g c = c.run_tasks.ensures.joined.passes ∙ sym c.run_tasks.ensures.joined.given
+finish-requires-clause-joined g c = c.run_crew.ensures.root.passes ∙ sym c.run_crew.ensures.root.given
 
 pub returns-clause-counts : goal.returns-clause-counts
 returns-clause-counts g c =
-    counted_if c.args.job.now c.args.tables.now.places c.args.phase c.in_ok-plan.plan (plan_in c.in_ok-cells.cells) (notes_of c.in_ok-cells.cells c.plant_all.new.root) (notes_of c.in_ok-cells.cells c.run_tasks.new.root) c.finish.result
-    c.in_ok-plan.ensures c.in_ok-cells.ensures.plan c.plant_all.ensures.planted c.run_tasks.ensures.joined c.finish.ensures
+    counted_if c.args.job.now c.args.tables.now.places c.args.phase c.in_ok-cells.cells c.run_crew.new.root c.finish.result (c.in_ok-cells.ensures.plan ∙ c.in_ok-plan.ensures) c.run_crew.ensures.root c.finish.ensures
+
+pub returns-clause-tasks : goal.returns-clause-tasks
+returns-clause-tasks g c =
+    whatever c.finish.result (have_run _ _ c.args.job.now c.args.phase c.args.slots.now c.run_crew.new.slots c.run_crew.ensures.back solo c.args.tables.now.places (λ t d e x p ends. ends) c.requires.tasks)
+
+pub returns-clause-empty : goal.returns-clause-empty
+returns-clause-empty g c = whatever c.finish.result (are_empty _ _ c.args.job.now c.args.phase c.args.slots.now c.run_crew.new.slots c.run_crew.ensures.back c.requires.empty)

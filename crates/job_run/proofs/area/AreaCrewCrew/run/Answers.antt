@@ -1,0 +1,76 @@
+use Rattle.std.proofs.Common.{◌≡◌, ℕ, Some, refl, sym, ◌∙◌, ap, subst, arith}
+use Rattle.std.proofs.lemmas.Option.{same_Some}
+use Rattle.module_area.specs.Control.{ControlView, first_control}
+use Rattle.module_area.specs.Ended.{AreSettled}
+use Rattle.module_area.specs.Notes.{Notes, bearer, calls, is_working}
+use Rattle.module_area.specs.PlanView.{PlanView}
+use Rattle.module_area.specs.Tied.{IsTied}
+use Rattle.observed_step.specs.Steps.{memory_at}
+use Rattle.svc_monitor.specs.First.{IsOver}
+use Rattle.task_run.specs.Ran.{RanAs}
+use Rattle.job_run.specs.Passes.{HasSeen, Runs, after_planting}
+use Rattle.job_run.specs.declared.outcome.Done.{Done}
+use Rattle.job_run.proofs.SlotLemmas.{first_of, is_over_begun, plan_here, seen_by, tied_of}
+use Rattle.job_run.proofs.TaskLemmas.{has_ended, is_task}
+use Rattle.job_run.proofs.area.AreaCrewCrew.run.Goals as goal
+
+pub run-ending-requires-clause-over : goal.run-ending-requires-clause-over
+run-ending-requires-clause-over g c =
+    let me = c.args.self.now in
+    let f = c.requires.fit in
+    subst (λ (p : PlanView). IsOver p (memory_at c.args.done.now.task.bench) me.tables.now) (sym f.cells)
+    (is_over_begun me.plan.now me.job.now me.tables.now c.args.task.0 c.args.done.now (ap (λ (p : PlanView). p.places) f.its.plan) f.its.job f.its.codes c.requires.task.exists c.requires.can.task.begun)
+
+pub run-ending-requires-clause-room : goal.run-ending-requires-clause-room
+run-ending-requires-clause-room g c = omega (arith, ap (λ (n : Notes). calls n) c.requires.fresh.fresh)
+
+pub run-ending-requires-clause-working : goal.run-ending-requires-clause-working
+run-ending-requires-clause-working g c = ap is_working c.requires.fresh.fresh
+
+pub run-ending-requires-clause-tied : goal.run-ending-requires-clause-tied
+run-ending-requires-clause-tied g c =
+    let me = c.args.self.now in
+    let f = c.requires.fit in
+    subst (λ (p : PlanView). IsTied p (g.C.Cells.notes c.args.pass.now) c.args.done.now.task.bench.control) (sym f.cells)
+    (tied_of me.plan.now me.job.now me.tables.now.places c.args.task.0 (g.C.Cells.notes c.args.pass.now) c.args.done.now f.is_plan (plan_here me.plan.now me.job.now me.tables.now.places me.phase c.args.task.0 f.its.plan c.requires.task.its)
+    c.requires.fresh.fresh c.requires.can.task)
+
+pub run-ending-requires-clause-first : goal.run-ending-requires-clause-first
+run-ending-requires-clause-first g c =
+    let me = c.args.self.now in
+    let first = first_of me.plan.now me.job.now me.tables.now.places c.args.task.0 c.args.done.now (plan_here me.plan.now me.job.now me.tables.now.places me.phase c.args.task.0 c.requires.fit.its.plan c.requires.task.its) c.requires.can.task in
+    (ap (λ (d : ControlView). d.next) first, ap (λ (d : ControlView). d.opened) first)
+
+pub run-ending-requires-clause-begins : goal.run-ending-requires-clause-begins
+run-ending-requires-clause-begins g c =
+    let me = c.args.self.now in
+    let start = c.requires.can in
+    let same : start.extra ≡ c.in-Some.extra = same_Some start.extra c.in-Some.extra (sym start.has ∙ c.in-Some.is) in
+    subst (λ (e : _). g.R.Runner.begins me.plan.now (bearer (g.C.Cells.notes c.args.pass.now)) e (g.C.Cells.notes c.args.pass.now)) same
+    (subst (λ (n : Notes). g.R.Runner.begins me.plan.now (bearer n) start.extra n) (sym c.requires.fresh.fresh) (start.starts (after_planting me.plan.now)))
+
+pub returns-clause-run : goal.returns-clause-run
+returns-clause-run g c =
+    let me = c.args.self.now in
+    let f = c.requires.fit in
+    let t : ℕ = c.args.task.0 in
+    let new : Done = record { ending = Some c.run-ending.result; task = c.run-ending.new.task } in
+    let ran = subst (λ (p : PlanView). RanAs g.R.Runner.course p (g.C.Cells.notes c.args.pass.now) (g.C.Cells.notes c.run-ending.new.pass) c.args.done.now.task c.run-ending.new.task c.run-ending.result) f.cells c.run-ending.ensures.ran in
+    seen_by g.R.Runner.course (g.C.Cells.is_pass me.cells.now) g.C.Cells.notes me.plan.now me.job.now me.tables.now.places t (g.C.Cells.notes c.args.pass.now) (g.C.Cells.notes c.run-ending.new.pass) c.run-ending.new.pass
+    c.args.done.now new f.is_plan (plan_here me.plan.now me.job.now me.tables.now.places me.phase t f.its.plan c.requires.task.its) (is_task me.job.now t f.its.job c.requires.task.exists) c.run-ending.ensures.area
+    c.requires.fresh.fresh refl c.requires.can.task (record { ending = c.run-ending.result; is = refl; ran = ran })
+
+pub returns-clause-ends : goal.returns-clause-ends
+returns-clause-ends g c =
+    let me = c.args.self.now in
+    let f = c.requires.fit in
+    let t : ℕ = c.args.task.0 in
+    let new : Done = record { ending = Some c.run-ending.result; task = c.run-ending.new.task } in
+    let ran = subst (λ (p : PlanView). RanAs g.R.Runner.course p (g.C.Cells.notes c.args.pass.now) (g.C.Cells.notes c.run-ending.new.pass) c.args.done.now.task c.run-ending.new.task c.run-ending.result) f.cells c.run-ending.ensures.ran in
+    record {
+      ended = has_ended g.R.Runner.course me.plan.now (g.C.Cells.notes c.args.pass.now) (g.C.Cells.notes c.run-ending.new.pass) me.job.now me.tables.now.places t c.args.done.now new
+          (plan_here me.plan.now me.job.now me.tables.now.places me.phase t f.its.plan c.requires.task.its) c.requires.can.task.begun (record { ending = c.run-ending.result; is = refl; ran = ran });
+      extra = c.run-ending.new.extra;
+      left = refl;
+      tells = λ sets agree. c.run-ending.ensures.ends sets (subst (λ (p : PlanView). AreSettled p (g.C.Cells.notes c.run-ending.new.pass) sets) (sym f.cells) agree);
+    }

@@ -1,5 +1,0 @@
-use Rattle.job_run.specs.Slots.{IsRange}
-use Rattle.job_run.proofs.threads.range_of.Given as goal
-
-abbrev pub invariant-loop-t : goal.invariant-loop-t
-invariant-loop-t l = IsRange l.job l.phase l.t l.range.start l.range.end
