@@ -27,11 +27,10 @@ use Rattle.interleave_core.specs.declared.stage.Stage.{Stage}
 use Rattle.interleave_core.specs.declared.stage.Stage.TheVariants.{Ready, Awaiting, Holding, Ended}
 use Rattle.interleave_core.proofs.Changes.{close_by}
 use Rattle.interleave_core.proofs.Exact.{Sound, sound_step, sound_first, run_sound}
-use Rattle.interleave_core.proofs.GoneLemmas.{core_from-append}
 use Rattle.interleave_core.proofs.Logs.{got_step}
 use Rattle.interleave_core.proofs.Quiet.{rises, AreOver, over_rises, IsLocal, is_local, Clear, clear_step, is_quiet_by, quiet_step}
 use Rattle.interleave_core.proofs.Rule.{held_hand}
-use Rattle.interleave_core.proofs.Runs.{through}
+use Rattle.interleave_core.proofs.Runs.{core_from-append, through}
 use Rattle.interleave_core.proofs.Tied.{changed_tag}
 use Rattle.interleave_core.proofs.Turns.{IsChange, due_is}
 

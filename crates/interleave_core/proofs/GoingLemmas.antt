@@ -1,7 +1,8 @@
 -- A task's events have an end: each leaves less.
 use Rattle.std.specs.Option.{option_and_then}
 use Rattle.cov_base.specs.States.{State}
-use Rattle.std.proofs.Common.{◌≡◌, inl, inr, not, ◌&&◌, is_none, eqb-true, ℕ, zero, suc, ◌+◌, ◌-◌, ◌*◌, ◌<◌, ◌≤◌, Bool, true, false, nat_lt, if◌then◌else◌, Option, Some, None, option_map, length, refl, sym, ap, ◌∙◌, subst, arith}
+use Rattle.std.proofs.Common.{◌≡◌, inl, inr, not, ◌&&◌, is_none, eqb-true, ℕ, zero, suc, ◌+◌, ◌-◌, ◌*◌, ◌<◌, ◌≤◌, Bool, true, false, nat_lt, if◌then◌else◌, Option, Some, None, option_map, ◌∷◌, length, refl, sym, ap, ◌∙◌, subst, arith}
+use Rattle.std.proofs.Math.Nat.{mul-le-mul_left}
 use Rattle.std.proofs.lemmas.Grind.{get_or-set_at}
 use Rattle.std.proofs.lemmas.Bool.{ltb-true, leb-false}
 use Rattle.cov_base.specs.declared.numbers.TaskNo.{TaskNo}
@@ -15,7 +16,7 @@ use Rattle.s370_state.specs.declared.endings.Next.TheVariants.{On, Ended as Next
 use Rattle.s370_exec.specs.Solo.{has_returned}
 use Rattle.s370_exec.proofs.TraceLemmas.{solo_step-done}
 use Rattle.interleave_core.specs.World.{World, TaskPart, Parts, part_of, no_part, plan_in, memory_in, budget_in, place_at}
-use Rattle.interleave_core.specs.Steps.{change_due, task_goes_on, Stepped, parts_step, of_task, with_task, with_stage, with_due, with_set, with_cell, place_due, is_spent, is_awaiting, due_after_fetch, hand_at, fetched, fetch_step, marked, mark_step, lifted, lift_step, in_hand, same_due, same_cell, original_under, step_of, subject_place, executed, stage_after, instruction_executed, awaits_or, unless_at, ready_done, task_done, done_by, do_step, set_of, fact_in}
+use Rattle.interleave_core.specs.Steps.{change_due, task_goes_on, Stepped, parts_step, run_on, of_task, with_task, with_stage, with_due, with_set, with_cell, place_due, is_spent, is_awaiting, due_after_fetch, hand_at, fetched, fetch_step, marked, mark_step, lifted, lift_step, in_hand, same_due, same_cell, original_under, step_of, subject_place, executed, stage_after, instruction_executed, awaits_or, unless_at, ready_done, task_done, done_by, do_step, set_of, fact_in}
 use Rattle.interleave_core.specs.Results.{next_of, stage_event}
 use Rattle.interleave_core.specs.Core.{is_by, is_task}
 use Rattle.interleave_core.specs.Control.{PlaceChange, change_of, next_place}
@@ -30,7 +31,29 @@ use Rattle.interleave_core.proofs.Changes.{goes_on, Changed, plant_cases, close_
 use Rattle.interleave_core.proofs.Nexts.{next_by}
 use Rattle.interleave_core.proofs.Runs.{in_hand-stage}
 use Rattle.interleave_core.proofs.Turns.{due_below}
-use Rattle.interleave_core.specs.Going.{left_each, left_later, due_left, left_of, left, go, go_by, after}
+use Rattle.interleave_core.specs.Going.{after, next_events, go_events, most_events}
+
+abbrev due_left : Due → ℕ
+due_left Marking = 3
+due_left Lifting = 2
+due_left Nothing = 1
+
+abbrev left_each : World → ℕ
+left_each w = 8 + length w.places
+
+-- the instructions that are left, and the places that are left to an SVC in hand
+abbrev left_later : World → ℕ → TaskPart → ℕ
+left_later w t u = left_each w * (budget_in w t - u.state.done) + (length w.places - u.changed)
+
+-- more than the events that are left to a task
+abbrev left_of : World → ℕ → TaskPart → Stage → ℕ
+left_of w t u Ready = if is_spent w t u.state then 1 else left_later w t u + 9
+left_of w t u Awaiting = left_later w t u + 5
+left_of w t u (Holding h) = left_later w t u + due_left h.due + (if h.subject then 1 else 5)
+left_of w t u (Ended e) = 0
+
+abbrev pub left : World → Parts → ℕ → ℕ
+left w c t = left_of w t (part_of c t) (part_of c t).stage
 
 -- what is left of a task that was put in the place of task t
 put_left : (w : World) (c : Parts) (t : ℕ) (u : TaskPart) → t < length c.tasks → left w (with_task c t u) t ≡ left_of w t u u.stage
@@ -278,39 +301,73 @@ no_next w c t e = by_number (nat_lt t.0 (length c.tasks))
     by_number true = by_stage (part_of c t.0).stage e
     by_number false = refl
 
+-- no more are left than a task makes
+later_most : (w : World) (t : ℕ) (u : TaskPart) → left_later w t u + 9 ≤ most_events w t
+later_most w t u =
+    let few : left_each w * (budget_in w t - u.state.done) ≤ left_each w * budget_in w t = mul-le-mul_left (left_each w) (omega arith) in
+    let all : left_each w * (budget_in w t + 1) ≡ left_each w * budget_in w t + left_each w = one_more (left_each w) (budget_in w t) (budget_in w t + 1) refl in
+    omega (arith, few, all)
+
+pub left_most : (w : World) (c : Parts) (t : ℕ) → left w c t ≤ most_events w t
+left_most w c t = by (part_of c t).stage
+  where
+    most : left_later w t (part_of c t) + 9 ≤ most_events w t
+    most = later_most w t (part_of c t)
+
+    by : (s : Stage) → left_of w t (part_of c t) s ≤ most_events w t
+    by Ready = by_budget (is_spent w t (part_of c t).state)
+      where
+        by_budget : (b : Bool) → (if b then 1 else left_later w t (part_of c t) + 9) ≤ most_events w t
+        by_budget true = omega (arith, most)
+        by_budget false = most
+    by Awaiting = omega (arith, most)
+    by (Holding h) = by_subject h.subject
+      where
+        by_subject : (b : Bool) → left_later w t (part_of c t) + due_left h.due + (if b then 1 else 5) ≤ most_events w t
+        by_subject true = omega (arith, most, due_few h.due)
+        by_subject false = omega (arith, most, due_few h.due)
+    by (Ended e) = omega arith
+
+-- the task's next events, at most so many, one after the other
+abbrev pub gone_by : World → ℕ → Parts → TaskNo → Option Parts
+gone_by w n c t = run_on w c (go_events w n c t)
+
 -- the task's next event, and those behind it
-go_one : (w : World) (n : ℕ) (c : Parts) (t : TaskNo) (e : Event) (o : Option Stepped) → next_of w c t ≡ Some e → parts_step w c e ≡ o → go w (suc n) c t ≡ go w n (after c o) t
-go_one w n c t e o q step = ap (go_by (λ d. go w n d t) w c) q ∙ ap (λ (x : Option Stepped). go w n (after c x) t) step
+go_one : (w : World) (n : ℕ) (c : Parts) (t : TaskNo) (e : Event) (x : Stepped) → next_of w c t ≡ Some e → parts_step w c e ≡ Some x → gone_by w (suc n) c t ≡ gone_by w n x.parts t
+go_one w n c t e x q step =
+    ap (λ (o : Option Event). run_on w c (next_events (λ d. go_events w n d t) w c o)) q
+    ∙ (ap (λ (o : Option Stepped). run_on w c (e ∷ go_events w n (after c o) t)) step
+    ∙ ap (option_and_then (λ (y : Stepped). run_on w y.parts (go_events w n x.parts t))) step)
 
-go_none : (w : World) (n : ℕ) (c : Parts) (t : TaskNo) → next_of w c t ≡ None → go w n c t ≡ c
+pub go_none : (w : World) (n : ℕ) (c : Parts) (t : TaskNo) → next_of w c t ≡ None → gone_by w n c t ≡ Some c
 go_none w zero c t q = refl
-go_none w (suc n) c t q = ap (go_by (λ d. go w n d t) w c) q
+go_none w (suc n) c t q = ap (λ (o : Option Event). run_on w c (next_events (λ d. go_events w n d t) w c o)) q
 
-go_stuck : (w : World) (n : ℕ) (c : Parts) (t : TaskNo) (e : Event) → next_of w c t ≡ Some e → parts_step w c e ≡ None → go w n c t ≡ c
-go_stuck w zero c t e q step = refl
-go_stuck w (suc n) c t e q step = go_one w n c t e None q step ∙ go_stuck w n c t e q step
+go_stuck : (w : World) (n : ℕ) (c : Parts) (t : TaskNo) (e : Event) → next_of w c t ≡ Some e → parts_step w c e ≡ None → gone_by w (suc n) c t ≡ None
+go_stuck w n c t e q step =
+    ap (λ (o : Option Event). run_on w c (next_events (λ d. go_events w n d t) w c o)) q
+    ∙ ap (option_and_then (λ (y : Stepped). run_on w y.parts (go_events w n (after c (parts_step w c e)) t))) step
 
 -- the number of events makes no difference once it is as many as are left
-pub go_enough : (w : World) (n : ℕ) (c : Parts) (t : TaskNo) → IsPlan (plan_in w) → left w c t.0 ≤ n → (m : ℕ) → left w c t.0 ≤ m → go w n c t ≡ go w m c t
+go_enough : (w : World) (n : ℕ) (c : Parts) (t : TaskNo) → IsPlan (plan_in w) → left w c t.0 ≤ n → (m : ℕ) → left w c t.0 ≤ m → gone_by w n c t ≡ gone_by w m c t
 go_enough w zero c t plan h m k = let none = no_next w c t (omega (arith, h)) in sym (go_none w m c t none)
 go_enough w (suc n) c t plan h zero k = let none = no_next w c t (omega (arith, k)) in go_none w (suc n) c t none
 go_enough w (suc n) c t plan h (suc m) k = by_next (λ d a b. go_enough w n d t plan a m b) (next_of w c t) refl
   where
-    by_step : ((d : Parts) → left w d t.0 ≤ n → left w d t.0 ≤ m → go w n d t ≡ go w m d t) → (e : Event) → next_of w c t ≡ Some e → (o : Option Stepped) → parts_step w c e ≡ o → go w (suc n) c t ≡ go w (suc m) c t
-    by_step more e q None step = go_stuck w (suc n) c t e q step ∙ sym (go_stuck w (suc m) c t e q step)
+    by_step : ((d : Parts) → left w d t.0 ≤ n → left w d t.0 ≤ m → gone_by w n d t ≡ gone_by w m d t) → (e : Event) → next_of w c t ≡ Some e → (o : Option Stepped) → parts_step w c e ≡ o → gone_by w (suc n) c t ≡ gone_by w (suc m) c t
+    by_step more e q None step = go_stuck w n c t e q step ∙ sym (go_stuck w m c t e q step)
     by_step more e q (Some x) step =
         let less = next_less w c t e x plan q step in
-        go_one w n c t e (Some x) q step ∙ (more x.parts (omega (arith, h, less)) (omega (arith, k, less)) ∙ sym (go_one w m c t e (Some x) q step))
+        go_one w n c t e x q step ∙ (more x.parts (omega (arith, h, less)) (omega (arith, k, less)) ∙ sym (go_one w m c t e x q step))
 
-    by_next : ((d : Parts) → left w d t.0 ≤ n → left w d t.0 ≤ m → go w n d t ≡ go w m d t) → (o : Option Event) → next_of w c t ≡ o → go w (suc n) c t ≡ go w (suc m) c t
+    by_next : ((d : Parts) → left w d t.0 ≤ n → left w d t.0 ≤ m → gone_by w n d t ≡ gone_by w m d t) → (o : Option Event) → next_of w c t ≡ o → gone_by w (suc n) c t ≡ gone_by w (suc m) c t
     by_next more None q = go_none w (suc n) c t q ∙ sym (go_none w (suc m) c t q)
     by_next more (Some e) q = by_step more e q (parts_step w c e) refl
 
--- with as many events as are left, the next one and then those that are left behind it
-pub go_next : (w : World) (c d : Parts) (t : TaskNo) (e : Event) (x : Stepped) → IsPlan (plan_in w) → next_of w c t ≡ Some e → parts_step w c e ≡ Some x → x.parts ≡ d → go w (left w c t.0) c t ≡ go w (left w d t.0) d t
+-- with as many events as a task makes, the next one and then those behind it
+pub go_next : (w : World) (c d : Parts) (t : TaskNo) (e : Event) (x : Stepped) → IsPlan (plan_in w) → next_of w c t ≡ Some e → parts_step w c e ≡ Some x → x.parts ≡ d →
+    gone_by w (most_events w t.0) c t ≡ gone_by w (most_events w t.0) d t
 go_next w c d t e x plan q step same =
-    let n = left w c t.0 in
-    let less = next_less w c t e x plan q step in
-    let more : go w n c t ≡ go w (suc n) c t = go_enough w n c t plan (omega arith) (suc n) (omega arith) in
-    let rest : go w n x.parts t ≡ go w (left w x.parts t.0) x.parts t = go_enough w n x.parts t plan (omega (arith, less)) (left w x.parts t.0) (omega arith) in
-    more ∙ (go_one w n c t e (Some x) q step ∙ (rest ∙ ap (λ (p : Parts). go w (left w p t.0) p t) same))
+    let n = most_events w t.0 in
+    go_enough w n c t plan (left_most w c t.0) (suc n) (omega (arith, left_most w c t.0))
+    ∙ (go_one w n c t e x q step ∙ ap (λ (p : Parts). gone_by w n p t) same)

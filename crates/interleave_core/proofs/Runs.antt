@@ -1,9 +1,10 @@
 -- Runs of the core, event by event, and what a possible event was made of.
 use Rattle.std.proofs.Common.{◌≡◌, ◌≢◌, ◌⊎◌, ℕ, Bool, true, false, if◌then◌else◌, Option, Some, None, option_map, List, [], ◌∷◌, ◌++◌, refl, sym, ◌∙◌, ap, subst, arith}
 use Rattle.std.proofs.lemmas.Option.{same_Some}
+use Rattle.std.specs.Option.{option_and_then}
 use Rattle.module_area.specs.declared.cells.Cell.{Cell}
 use Rattle.interleave_core.specs.World.{World, Parts}
-use Rattle.interleave_core.specs.Steps.{Stepped, in_hand, same_due, with_cell}
+use Rattle.interleave_core.specs.Steps.{Stepped, parts_step, run_on, in_hand, same_due, with_cell}
 use Rattle.interleave_core.specs.Core.{CoreState, CoreStepped, core_step, core_from, go_on}
 use Rattle.interleave_core.specs.declared.events.Event.{Event}
 use Rattle.interleave_core.specs.declared.stage.Due.{Due}
@@ -50,3 +51,19 @@ core_from-push w d c [] e x h step =
 core_from-push w d c (f ∷ events) e x h step =
     let at = through (λ b. core_from w b events) (core_step w d f) c h in
     ap (go_on (λ b. core_from w b (events ++ e ∷ []))) at.1 ∙ core_from-push w at.0.core c events e x at.2 step
+
+-- the events before a point, and those behind it
+pub core_from-append : (w : World) (c d : CoreState) (xs ys : List Event) → core_from w c xs ≡ Some d → core_from w c (xs ++ ys) ≡ core_from w d ys
+core_from-append w c d [] ys h = ap (λ (b : CoreState). core_from w b ys) (same_Some c d h)
+core_from-append w c d (e ∷ xs) ys h =
+    let at = through (λ b. core_from w b xs) (core_step w c e) d h in
+    ap (go_on (λ b. core_from w b (xs ++ ys))) at.1 ∙ core_from-append w at.0.core d xs ys at.2
+
+pub run_on-append : (w : World) (c d : Parts) (xs ys : List Event) → run_on w c xs ≡ Some d → run_on w c (xs ++ ys) ≡ run_on w d ys
+run_on-append w c d [] ys h = ap (λ (b : Parts). run_on w b ys) (same_Some c d h)
+run_on-append w c d (e ∷ xs) ys h = by (λ b q. run_on-append w b d xs ys q) (parts_step w c e) h
+  where
+    by : ((b : Parts) → run_on w b xs ≡ Some d → run_on w b (xs ++ ys) ≡ run_on w d ys) → (o : Option Stepped) →
+        option_and_then (λ (x : Stepped). run_on w x.parts xs) o ≡ Some d → option_and_then (λ (x : Stepped). run_on w x.parts (xs ++ ys)) o ≡ run_on w d ys
+    by more None q = let n : None ≡ Some d = q in absurd cc
+    by more (Some x) q = more x.parts q

@@ -1,5 +1,5 @@
 -- What a core tells of its tasks, and the event that is due of one.
-use Rattle.std.specs.Prelude.{◌≡◌, ℕ, ◌<◌, nat_lt, true, if◌then◌else◌, Option, Some, None, length}
+use Rattle.std.specs.Prelude.{◌≡◌, ℕ, ◌<◌, nat_lt, true, if◌then◌else◌, Option, Some, None, IsSome, length}
 use Rattle.cov_base.specs.Facts.{is_within}
 use Rattle.module_area.specs.PlanView.{kind_at}
 use Rattle.session_book.specs.Sessions.{task_of}
@@ -34,6 +34,9 @@ part_result u = record {
 
 abbrev pub results_of : Parts → ℕ → ResultView
 results_of c t = part_result (part_of c t)
+
+abbrev pub IsOver : Parts → ℕ → Type 0
+IsOver c t = IsSome (results_of c t).ending
 
 -- the planting or closing that is due, or else Do
 abbrev pub change_or_do : TaskNo → Option PlaceChange → Event

@@ -1,5 +1,5 @@
 -- The events of a core: where each is possible, and what it changes in what a core stores.
-use Rattle.std.specs.Prelude.{ℕ, ◌+◌, ◌-◌, ◌*◌, Bool, true, false, not, ◌&&◌, ◌||◌, nat_eq, nat_lt, nat_le, if◌then◌else◌, Option, Some, None, is_none, option_map, option_and_then, List, ◌∷◌, length, set}
+use Rattle.std.specs.Prelude.{ℕ, ◌+◌, ◌-◌, ◌*◌, Bool, true, false, not, ◌&&◌, ◌||◌, nat_eq, nat_lt, nat_le, if◌then◌else◌, Option, Some, None, is_none, option_map, option_and_then, List, [], ◌∷◌, length, set}
 use Rattle.cov_base.specs.Codes.{breakpoint}
 use Rattle.cov_base.specs.FactSet.{FactSet}
 use Rattle.cov_base.specs.Facts.{with_fact, is_full, fact_of}
@@ -16,7 +16,7 @@ use Rattle.module_area.specs.FinalsView.{index_of, set_in}
 use Rattle.module_area.specs.PlanView.{original_at, kind_at, window_at}
 use Rattle.module_area.specs.declared.cells.Cell.{Cell}
 use Rattle.interleave_core.specs.World.{World, TaskPart, Parts, plan_in, memory_in, budget_in, place_at, part_of}
-use Rattle.interleave_core.specs.Control.{PlaceChange, controller_of, change_of, next_place, after_change}
+use Rattle.interleave_core.specs.Control.{Change, PlaceChange, controller_of, change_of, next_place, after_change}
 use Rattle.interleave_core.specs.declared.events.Event.{Event}
 use Rattle.interleave_core.specs.declared.events.Event.TheVariants.{Fetch, Mark, Lift, Do, Plant, Close}
 use Rattle.interleave_core.specs.declared.events.Shown.{Shown}
@@ -177,9 +177,12 @@ executes w t u Ready =
 executes w t u (Holding h) = same_due h.due Nothing && (h.subject || is_none (subject_place w (step_of w t u).visits))
 executes w t u stage = false
 
--- the place at which a session is to be planted or closed before
+-- of this change the place at which a session is to be planted or closed before
+abbrev pub due_of : World → ℕ → TaskPart → Stage → Option Change → Option PlaceChange
+due_of w t u stage change = if executes w t u stage then option_and_then (next_place u.changed) change else None
+
 abbrev pub change_due : World → ℕ → TaskPart → Stage → Option PlaceChange
-change_due w t u stage = if executes w t u stage then option_and_then (next_place u.changed) (change_of w t u) else None
+change_due w t u stage = due_of w t u stage (change_of w t u)
 
 abbrev pub unless_due : Option PlaceChange → Option TaskPart → Option TaskPart
 unless_due None u = u
@@ -251,3 +254,8 @@ parts_step w c (Lift t) = of_task c t.0 (lift_step w c t.0)
 parts_step w c (Do t) = of_task c t.0 (do_step w c t.0)
 parts_step w c (Plant s p) = plant_step w c s.0 p.0
 parts_step w c (Close s p) = close_step w c s.0 p.0
+
+-- what is stored after the events, one after the other; none where one of them isn't possible
+abbrev pub run_on : World → Parts → List Event → Option Parts
+run_on w c [] = Some c
+run_on w c (e ∷ events) = option_and_then (λ (x : Stepped). run_on w x.parts events) (parts_step w c e)

@@ -1,5 +1,6 @@
 -- What a task of a core keeps besides what the core stores of it, and what holds of a core at every moment.
-use Rattle.std.specs.Prelude.{◌≡◌, ◌≢◌, ℕ, ◌+◌, ◌-◌, ◌*◌, ◌<◌, ◌≤◌, Bool, true, false, nat_le, nat_lt, if◌then◌else◌, Some, None, List, [], length, get_or, map, All}
+use Rattle.std.specs.Prelude.{◌≡◌, ◌≢◌, ℕ, ◌+◌, ◌-◌, ◌*◌, ◌<◌, ◌≤◌, Bool, true, false, nat_le, nat_lt, if◌then◌else◌, Option, Some, None, option_map, Result, IfOk, List, [], length, get_or, map, All}
+use Rattle.std.specs.List.{list_all}
 use Rattle.cov_base.specs.Facts.{is_within}
 use Rattle.cov_base.specs.FactSet.{FactSet}
 use Rattle.cov_base.specs.declared.numbers.PlaceNo.{PlaceNo}
@@ -9,15 +10,16 @@ use Rattle.module_area.specs.CellWords.{word_at}
 use Rattle.module_area.specs.Held.{planted, IsForm}
 use Rattle.module_area.specs.FinalsView.{set_in}
 use Rattle.module_area.specs.PlanView.{PlanView, ControlledView, IsPlan, kind_at, is_over}
-use Rattle.brk_table.specs.Places.{AreSeen, ArePlaces, IsIn}
+use Rattle.brk_table.specs.Places.{TablesView, AreSeen, ArePlaces, IsIn}
 use Rattle.space_map.specs.Space.{SpaceView, memory_of_space}
 use Rattle.session_book.specs.JobView.{IsJob}
 use Rattle.session_book.specs.Sessions.{task_of}
 use Rattle.interleave_core.specs.World.{World, TaskPart, Parts, part_of, first_part, plan_in, memory_in, budget_in}
-use Rattle.interleave_core.specs.Control.{Change, PlaceChange, sessions_by}
+use Rattle.interleave_core.specs.Control.{Change, PlaceChange, sessions_by, change_of, after_change}
 use Rattle.interleave_core.specs.declared.control.Change.{Change as Found}
 use Rattle.interleave_core.specs.declared.control.PlaceChange.{PlaceChange as PlaceFound}
-use Rattle.interleave_core.specs.Steps.{step_of, subject_place, is_spent, in_hand}
+use Rattle.interleave_core.specs.Steps.{Stepped, of_task, change_step, step_of, subject_place, is_spent, in_hand}
+use Rattle.interleave_core.specs.declared.events.Shown.{Shown}
 use Rattle.interleave_core.specs.declared.stage.Due.TheVariants.{Marking, Nothing}
 use Rattle.interleave_core.specs.declared.stage.Hand.{Hand}
 use Rattle.interleave_core.specs.declared.stage.Stage.{Stage}
@@ -35,6 +37,42 @@ pub record IsRunning (w : World) (t : ℕ) (r : RunningView) : Type 0 where
   pub bytes : r.space.bytes ≡ r.part.state.machine.bytes
   pub budget : r.budget ≡ budget_in w t
   pub seen : AreSeen (memory_in w t) w.places
+
+-- what holds of the task in each world in which it is one, in each of these places, and in one of this plan as task t
+abbrev pub InWorlds : RunningView → (World → ℕ → TaskPart → Type 0) → Type 0
+InWorlds r holds = (w : World) (t : ℕ) → IsRunning w t r → holds w t r.part
+
+abbrev pub InPlaces : TablesView → RunningView → (World → ℕ → TaskPart → Type 0) → Type 0
+InPlaces tables r holds = (w : World) (t : ℕ) → w.places ≡ tables.places → IsRunning w t r → holds w t r.part
+
+abbrev pub InPlan : PlanView → TablesView → ℕ → RunningView → (World → TaskPart → Type 0) → Type 0
+InPlan plan tables t r holds = (w : World) → plan ≡ plan_in w → w.places ≡ tables.places → IsRunning w t r → holds w r.part
+
+abbrev pub ByPlan : PlanView → RunningView → (World → TaskPart → Type 0) → Type 0
+ByPlan plan r holds = (w : World) → plan ≡ plan_in w → holds w r.part
+
+-- whether a change closes the session, where there is one
+abbrev pub closing : Option Change → Option Bool
+closing change = option_map (λ (c : Change). c.closes) change
+
+-- what holds in each world in which the task's instruction closes a session, opens one or does neither, as is said
+abbrev pub Doing : TablesView → RunningView → Option Bool → (World → ℕ → TaskPart → Type 0) → Type 0
+Doing tables r closes holds = (w : World) (t : ℕ) → w.places ≡ tables.places → IsRunning w t r → closing (change_of w t r.part) ≡ closes → holds w t r.part
+
+-- a task that goes on as this one
+abbrev pub Gives : {T E : Type 0} → Result T E → Option TaskPart → RunningView → Type 0
+Gives result next r = IfOk result (λ x. next ≡ Some r.part)
+
+abbrev pub with_part : RunningView → TaskPart → RunningView
+with_part r u = record r { part = u }
+
+-- the task once its instruction has changed its sessions so
+abbrev pub changed_by : Option Change → RunningView → RunningView
+changed_by change r = with_part r (after_change change r.part)
+
+-- two tasks that are alike but for their sessions
+abbrev pub DiffersInSessions : RunningView → RunningView → Type 0
+DiffersInSessions old new = new ≡ with_part old (record old.part { opened = new.part.opened; is_open = new.part.is_open; changed = new.part.changed })
 
 -- a cell in hand is of a place; where anything is due of it, it is the breakpoint of a session over the place
 pub record IsHand (w : World) (h : Hand) : Type 0 where
@@ -103,6 +141,22 @@ seen_change c = record { closes = c.closes; session = c.session.now }
 abbrev pub seen_place : PlaceFound → PlaceChange
 seen_place x = record { closes = x.closes; session = x.session.0; place = x.place }
 
+abbrev pub seen : Option Found → Option Change
+seen change = option_map seen_change change
+
+abbrev pub seen_at : Option PlaceFound → Option PlaceChange
+seen_at change = option_map seen_place change
+
+abbrev pub numbered : Option PlaceNo → Option ℕ
+numbered place = option_map (λ (p : PlaceNo). p.0) place
+
+abbrev pub tag_in : List Cell → ℕ → ℕ
+tag_in cells p = (word_at cells p).tag
+
+-- these places have the tag of the session's closing or a higher one
+abbrev pub are_closed : (ℕ → ℕ) → ℕ → List PlaceNo → Bool
+are_closed tags s places = list_all (λ (q : PlaceNo). nat_le (2 * s) (tags q.0)) places
+
 -- a session that a task opens or closes at a place: all are in range
 pub record IsPlaced (w : World) (c : Parts) (t s p : ℕ) : Type 0 where
   pub task : t < length c.tasks
@@ -115,6 +169,14 @@ pub record IsPlaced (w : World) (c : Parts) (t s p : ℕ) : Type 0 where
 pub record CoreView : Type 0 where
   pub world : World
   pub parts : Parts
+
+-- the event leaves these parts, and shows this
+abbrev pub Leaves : Option Stepped → Parts → Shown → Type 0
+Leaves step parts shown = step ≡ Some (record { parts = parts; shown = shown })
+
+-- the planting or closing of session s at place p by task t
+abbrev pub change_by : CoreView → Bool → ℕ → ℕ → ℕ → Option Stepped
+change_by c closes s p t = of_task c.parts t (change_step c.world c.parts closes s p t)
 
 pub record IsCore (w : World) (cells : List Cell) (sets : List FactSet) (plan : PlanView) (tasks : List RunningView) : Type 0 where
   pub job : IsJob w.job

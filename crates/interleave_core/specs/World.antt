@@ -8,7 +8,7 @@ use Rattle.module_area.specs.CellWords.{fresh_word}
 use Rattle.module_area.specs.PlanView.{PlanView, IsPlan}
 use Rattle.module_area.specs.declared.cells.Cell.{Cell}
 use Rattle.module_area.specs.declared.places.Place.{Place}
-use Rattle.brk_table.specs.Places.{ArePlaces, AreSeen, IsIn, memory_of}
+use Rattle.brk_table.specs.Places.{TablesView, ArePlaces, AreSeen, IsIn, memory_of}
 use Rattle.session_book.specs.JobView.{JobView, TaskView, IsJob}
 use Rattle.session_book.specs.Sessions.{task_of, no_task, first_state, plan_view}
 use Rattle.interleave_core.specs.declared.stage.Stage.{Stage}
@@ -18,6 +18,9 @@ use Rattle.interleave_core.specs.declared.stage.Stage.TheVariants.{Ready}
 pub record World : Type 0 where
   pub job : JobView
   pub places : List Place
+
+abbrev pub world_of : JobView → TablesView → World
+world_of job tables = record { job = job; places = tables.places }
 
 abbrev pub plan_in : World → PlanView
 plan_in w = plan_view w.job w.places 0

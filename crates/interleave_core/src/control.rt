@@ -1,10 +1,9 @@
 //! The sessions that tasks open and close.
-ghost use Rattle.std.specs.Prelude.{◌≡◌, ◌*◌, ◌<◌, not, ◌||◌, nat_eq, nat_le, option_map, slice_get, IsSome};
-ghost use Rattle.std.specs.List.{list_all};
-ghost use Rattle.module_area.specs.CellWords.{word_at};
+ghost use Rattle.std.specs.Prelude.{◌≡◌, ◌<◌, not, ◌||◌, nat_eq, option_map, slice_get, IsSome};
+ghost use Rattle.module_area.specs.Notes.{is_closed};
 ghost use Rattle.cov_base.specs.declared.limits.TheConstants.{SESSION_LIMIT};
 ghost use Rattle.interleave_core.specs.Control.{controlled_by, controller_from, next_place};
-ghost use Rattle.interleave_core.specs.Views.{seen_change, seen_place};
+ghost use Rattle.interleave_core.specs.Views.{seen_change, seen_at, tag_in, are_closed};
 
 use crate::hands::tag_at;
 use cov_base::{PlaceNo, SessNo, TaskNo};
@@ -51,7 +50,7 @@ pub(crate) fn nth_session(plan: &Plan, t: TaskNo, n: u32) -> Option<&Controlled>
 
 /// At the place that follows those that are done, in their order.
 pub(crate) fn next_place(change: &Change, done: u32) -> Option<PlaceChange>
-    ensures { option_map seen_place result ≡ next_place done (seen_change change.now) }
+    ensures { seen_at result ≡ next_place done (seen_change change.now) }
 {
     let session = change.session;
     match session.places.get(done as usize) {
@@ -78,7 +77,7 @@ pub(crate) fn controller_of(controlled: &[Controlled], s: SessNo) -> Option<Task
 
 /// Whether each of the places has the tag of the session's closing or a higher one.
 fn are_closed(cells: &[Cell], s: SessNo, places: &[PlaceNo]) -> bool
-    ensures { result ≡ list_all (λ q. nat_le (2 * s.0) (word_at cells.now q.0).tag) places.now }
+    ensures { result ≡ are_closed (tag_in cells.now) s.0 places.now }
 {
     places
         .iter()
@@ -86,14 +85,16 @@ fn are_closed(cells: &[Cell], s: SessNo, places: &[PlaceNo]) -> bool
 }
 
 fn is_another_or_closed(c: &Controlled, cells: &[Cell], s: SessNo) -> bool
-    ensures { result ≡ (not (nat_eq c.now.session s.0) || list_all (λ q. nat_le (2 * s.0) (word_at cells.now q.0).tag) c.now.places) }
+    ensures { result ≡ (not (nat_eq c.now.session s.0) || are_closed (tag_in cells.now) s.0 c.now.places) }
 {
     c.session.0 != s.0 || are_closed(cells, s, &c.places)
 }
 
 /// Whether each place of the session has such a tag; so it is where there is no such session.
-pub(crate) fn is_closed(controlled: &[Controlled], cells: &[Cell], s: SessNo) -> bool
-    ensures { result ≡ list_all (λ c. not (nat_eq c.session s.0) || list_all (λ q. nat_le (2 * s.0) (word_at cells.now q.0).tag) c.places) controlled.now }
+pub(crate) fn is_closed(plan: &Plan, cells: &[Cell], s: SessNo) -> bool
+    ensures { result ≡ is_closed plan.now (tag_in cells.now) s.0 }
 {
-    controlled.iter().all(|c| is_another_or_closed(c, cells, s))
+    plan.controlled
+        .iter()
+        .all(|c| is_another_or_closed(c, cells, s))
 }

@@ -3,6 +3,7 @@ ghost use Rattle.std.specs.Prelude.{◌≡◌, length, map, replicate, All, IfOk
 ghost use Rattle.module_area.specs.CellWords.{fresh_word};
 ghost use Rattle.brk_table.specs.Places.{IsIn};
 ghost use Rattle.cov_base.specs.Facts.{no_facts};
+ghost use Rattle.interleave_core.specs.World.{world_of};
 ghost use Rattle.interleave_core.specs.Views.{AreReady};
 
 use crate::running::Running;
@@ -19,7 +20,7 @@ pub(crate) fn make_tasks<'a>(
     tables: &'a Tables,
 ) -> Result<Vec<Running<'a>>, NoMemory>
     requires { All (IsIn job.now.images) tables.now.places }
-    ensures { IfOk result (λ v. AreReady (record { job = job.now; places = tables.now.places }) (length job.now.tasks) v.items) }
+    ensures { IfOk result (λ v. AreReady (world_of job.now tables.now) (length job.now.tasks) v.items) }
 {
     let count = job.task_count();
     let mut tasks = Vec::with_capacity(alloc, count)?;

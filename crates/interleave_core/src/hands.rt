@@ -51,17 +51,14 @@ pub(crate) fn breakpoint_of(s: SessNo) -> Cell
     }
 }
 
-/// Exchanges the cell for the original under its tag, where it still stands; whether it did.
-pub(crate) fn exchange(cells: &mut Vec<Cell>, p: usize, cell: Cell, original: u16) -> bool
+/// Exchanges the cell for another, where it still stands; whether it did.
+pub(crate) fn exchange(cells: &mut Vec<Cell>, p: usize, cell: Cell, other: Cell) -> bool
     requires { p < length cells.old.items }
     ensures taken { result ≡ same_cell (word_at cells.old.items p) cell }
-    ensures cells { cells.new.items ≡ (if result then set cells.old.items p (record { tag = cell.tag; half = original }) else cells.old.items) }
+    ensures cells { cells.new.items ≡ (if result then set cells.old.items p other else cells.old.items) }
 {
     if same_cell(cells[p], cell) {
-        cells[p] = Cell {
-            tag: cell.tag,
-            half: original,
-        };
+        cells[p] = other;
         true
     } else {
         false

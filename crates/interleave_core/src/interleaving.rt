@@ -1,19 +1,20 @@
 //! The core.
-ghost use Rattle.std.specs.Prelude.{◌≡◌, ℕ, ◌+◌, ◌*◌, ◌<◌, ◌≤◌, nat_lt, true, false, [], length, All, IfOk, OnErr, IfSome, is_some, IsTrue, IsNone, IsSome, ◌↔◌};
+ghost use Rattle.std.specs.Prelude.{◌≡◌, ℕ, ◌+◌, ◌*◌, ◌<◌, ◌≤◌, nat_lt, true, false, [], length, All, IfOk, OnErr, IfSome, is_some, IsTrue, IsNone, ◌↔◌};
 ghost use Rattle.std.specs.declared.option.Option.TheVariants.{Some, None};
 ghost use Rattle.module_area.specs.CellWords.{word_at};
 ghost use Rattle.module_area.specs.Notes.{is_closed};
 ghost use Rattle.brk_table.specs.Places.{IsIn};
 ghost use Rattle.cov_base.specs.declared.limits.TheConstants.{SESSION_LIMIT};
-ghost use Rattle.interleave_core.specs.World.{IsWorld, first_parts, plan_in};
+ghost use Rattle.interleave_core.specs.World.{IsWorld, first_parts, plan_in, world_of};
 ghost use Rattle.interleave_core.specs.Control.{controller_of};
-ghost use Rattle.interleave_core.specs.Steps.{of_task, fetch_step, mark_step, lift_step, do_step, plant_step, close_step, whole_step, change_step, changed_cell, parts_step, set_of};
+ghost use Rattle.interleave_core.specs.Steps.{whole_step, changed_cell, parts_step, run_on, set_of};
 ghost use Rattle.interleave_core.specs.Core.{core_start, Stands, FollowsAll, FollowsNone};
 ghost use Rattle.interleave_core.specs.declared.events.Event.{Event};
-ghost use Rattle.interleave_core.specs.Going.{HasGone, go, left};
-ghost use Rattle.interleave_core.specs.Results.{next_of, IsDue, results_of, Fits};
+ghost use Rattle.interleave_core.specs.declared.events.Event.TheVariants as event;
+ghost use Rattle.interleave_core.specs.Going.{HasGone, all_events};
+ghost use Rattle.interleave_core.specs.Results.{next_of, IsDue, IsOver, results_of, Fits};
 ghost use Rattle.interleave_core.specs.Quiet.{any_unmarked, is_quiet, StayQuiet, DrainedStay, QuietAsDrained};
-ghost use Rattle.interleave_core.specs.Views.{AreSteady, IsPlaced};
+ghost use Rattle.interleave_core.specs.Views.{AreSteady, IsPlaced, Leaves, change_by};
 
 use crate::control::{controller_of, is_closed};
 use crate::events::{Event, NotPossible, Shown};
@@ -42,19 +43,20 @@ pub struct Core<'a> {
 }
 
 impl<'a> Model for Core<'a> {
+    ghost use Rattle.interleave_core.specs.World.{world_of};
     ghost use Rattle.interleave_core.specs.Views.{CoreView, IsCore, parts_of};
 
     ghost Value = { CoreView };
 
-    ghost view = { λ c. record { world = record { job = c.job.now; places = c.tables.now.places }; parts = record { cells = c.cells.items; sets = c.sets.items; tasks = parts_of c.tasks.items } } };
+    ghost view = { λ c. record { world = world_of c.job.now c.tables.now; parts = record { cells = c.cells.items; sets = c.sets.items; tasks = parts_of c.tasks.items } } };
 
-    ghost invariant = { λ c. IsCore (record { job = c.job.now; places = c.tables.now.places }) c.cells.items c.sets.items c.plan c.tasks.items };
+    ghost invariant = { λ c. IsCore (world_of c.job.now c.tables.now) c.cells.items c.sets.items c.plan c.tasks.items };
 }
 
 impl<'a> Core<'a> {
     fn fetch(&mut self, t: TaskNo) -> Result<Shown, NotPossible>
-        ensures possible { IfOk result (λ shown. of_task self.old.parts t.0 (fetch_step self.old.world self.old.parts t.0) ≡ Some (record { parts = self.new.parts; shown = shown })) }
-        ensures refused { OnErr result (of_task self.old.parts t.0 (fetch_step self.old.world self.old.parts t.0) ≡ None) }
+        ensures possible { IfOk result (Leaves (parts_step self.old.world self.old.parts (event.Fetch t)) self.new.parts) }
+        ensures refused { OnErr result (parts_step self.old.world self.old.parts (event.Fetch t) ≡ None) }
         ensures kept { OnErr result (self.new ≡ self.old) }
         ensures world { self.new.world ≡ self.old.world }
     {
@@ -79,8 +81,8 @@ impl<'a> Core<'a> {
     }
 
     fn mark(&mut self, t: TaskNo) -> Result<Shown, NotPossible>
-        ensures possible { IfOk result (λ shown. of_task self.old.parts t.0 (mark_step self.old.world self.old.parts t.0) ≡ Some (record { parts = self.new.parts; shown = shown })) }
-        ensures refused { OnErr result (of_task self.old.parts t.0 (mark_step self.old.world self.old.parts t.0) ≡ None) }
+        ensures possible { IfOk result (Leaves (parts_step self.old.world self.old.parts (event.Mark t)) self.new.parts) }
+        ensures refused { OnErr result (parts_step self.old.world self.old.parts (event.Mark t) ≡ None) }
         ensures kept { OnErr result (self.new ≡ self.old) }
         ensures world { self.new.world ≡ self.old.world }
     {
@@ -102,8 +104,8 @@ impl<'a> Core<'a> {
     }
 
     fn lift(&mut self, t: TaskNo) -> Result<Shown, NotPossible>
-        ensures possible { IfOk result (λ shown. of_task self.old.parts t.0 (lift_step self.old.world self.old.parts t.0) ≡ Some (record { parts = self.new.parts; shown = shown })) }
-        ensures refused { OnErr result (of_task self.old.parts t.0 (lift_step self.old.world self.old.parts t.0) ≡ None) }
+        ensures possible { IfOk result (Leaves (parts_step self.old.world self.old.parts (event.Lift t)) self.new.parts) }
+        ensures refused { OnErr result (parts_step self.old.world self.old.parts (event.Lift t) ≡ None) }
         ensures kept { OnErr result (self.new ≡ self.old) }
         ensures world { self.new.world ≡ self.old.world }
     {
@@ -114,15 +116,18 @@ impl<'a> Core<'a> {
         let Some(hand) = self.tasks[n].in_hand(Due::Lifting) else {
             return Err(NotPossible);
         };
-        let original = self.tables.place(hand.place).original;
+        let original = Cell {
+            tag: hand.cell.tag,
+            half: self.tables.place(hand.place).original,
+        };
         let taken = exchange(&mut self.cells, hand.place.0 as usize, hand.cell, original);
         self.tasks[n].hold(with_due(hand, Due::Nothing));
         Ok(Shown::Lifted(taken))
     }
 
     fn run(&mut self, t: TaskNo) -> Result<Shown, NotPossible>
-        ensures possible { IfOk result (λ shown. of_task self.old.parts t.0 (do_step self.old.world self.old.parts t.0) ≡ Some (record { parts = self.new.parts; shown = shown })) }
-        ensures refused { OnErr result (of_task self.old.parts t.0 (do_step self.old.world self.old.parts t.0) ≡ None) }
+        ensures possible { IfOk result (Leaves (parts_step self.old.world self.old.parts (event.Do t)) self.new.parts) }
+        ensures refused { OnErr result (parts_step self.old.world self.old.parts (event.Do t) ≡ None) }
         ensures kept { OnErr result (self.new ≡ self.old) }
         ensures world { self.new.world ≡ self.old.world }
     {
@@ -137,7 +142,7 @@ impl<'a> Core<'a> {
     }
 
     fn plant_whole(&mut self, s: SessNo, p: PlaceNo) -> Result<Shown, NotPossible>
-        ensures possible { IfOk result (λ shown. whole_step self.old.world self.old.parts s.0 p.0 ≡ Some (record { parts = self.new.parts; shown = shown })) }
+        ensures possible { IfOk result (Leaves (whole_step self.old.world self.old.parts s.0 p.0) self.new.parts) }
         ensures refused { OnErr result (whole_step self.old.world self.old.parts s.0 p.0 ≡ None) }
         ensures kept { OnErr result (self.new ≡ self.old) }
         ensures world { self.new.world ≡ self.old.world }
@@ -166,7 +171,7 @@ impl<'a> Core<'a> {
 
     /// Whether this is the place at which task t is to plant or close this session.
     fn may_change(&self, closes: bool, s: SessNo, p: PlaceNo, t: TaskNo) -> bool
-        ensures value { result ≡ is_some (of_task self.now.parts t.0 (change_step self.now.world self.now.parts closes s.0 p.0 t.0)) }
+        ensures value { result ≡ is_some (change_by self.now closes s.0 p.0 t.0) }
         ensures placed { IsTrue result → IsPlaced self.now.world self.now.parts t.0 s.0 p.0 }
     {
         let n = t.0 as usize;
@@ -208,8 +213,8 @@ impl<'a> Core<'a> {
         t: TaskNo,
     ) -> Result<Shown, NotPossible>
         requires { controller_of self.old.world s.0 ≡ Some t.0 }
-        ensures possible { IfOk result (λ shown. of_task self.old.parts t.0 (change_step self.old.world self.old.parts closes s.0 p.0 t.0) ≡ Some (record { parts = self.new.parts; shown = shown })) }
-        ensures refused { OnErr result (of_task self.old.parts t.0 (change_step self.old.world self.old.parts closes s.0 p.0 t.0) ≡ None) }
+        ensures possible { IfOk result (Leaves (change_by self.old closes s.0 p.0 t.0) self.new.parts) }
+        ensures refused { OnErr result (change_by self.old closes s.0 p.0 t.0 ≡ None) }
         ensures kept { OnErr result (self.new ≡ self.old) }
         ensures world { self.new.world ≡ self.old.world }
     {
@@ -222,8 +227,8 @@ impl<'a> Core<'a> {
     }
 
     fn plant(&mut self, s: SessNo, p: PlaceNo) -> Result<Shown, NotPossible>
-        ensures possible { IfOk result (λ shown. plant_step self.old.world self.old.parts s.0 p.0 ≡ Some (record { parts = self.new.parts; shown = shown })) }
-        ensures refused { OnErr result (plant_step self.old.world self.old.parts s.0 p.0 ≡ None) }
+        ensures possible { IfOk result (Leaves (parts_step self.old.world self.old.parts (event.Plant s p)) self.new.parts) }
+        ensures refused { OnErr result (parts_step self.old.world self.old.parts (event.Plant s p) ≡ None) }
         ensures kept { OnErr result (self.new ≡ self.old) }
         ensures world { self.new.world ≡ self.old.world }
     {
@@ -234,8 +239,8 @@ impl<'a> Core<'a> {
     }
 
     fn close(&mut self, s: SessNo, p: PlaceNo) -> Result<Shown, NotPossible>
-        ensures possible { IfOk result (λ shown. close_step self.old.world self.old.parts s.0 p.0 ≡ Some (record { parts = self.new.parts; shown = shown })) }
-        ensures refused { OnErr result (close_step self.old.world self.old.parts s.0 p.0 ≡ None) }
+        ensures possible { IfOk result (Leaves (parts_step self.old.world self.old.parts (event.Close s p)) self.new.parts) }
+        ensures refused { OnErr result (parts_step self.old.world self.old.parts (event.Close s p) ≡ None) }
         ensures kept { OnErr result (self.new ≡ self.old) }
         ensures world { self.new.world ≡ self.old.world }
     {
@@ -246,7 +251,7 @@ impl<'a> Core<'a> {
     }
 
     fn step(&mut self, e: Event) -> Result<Shown, NotPossible>
-        ensures possible { IfOk result (λ shown. parts_step self.old.world self.old.parts e ≡ Some (record { parts = self.new.parts; shown = shown })) }
+        ensures possible { IfOk result (Leaves (parts_step self.old.world self.old.parts e) self.new.parts) }
         ensures refused { OnErr result (parts_step self.old.world self.old.parts e ≡ None) }
         ensures kept { OnErr result (self.new ≡ self.old) }
         ensures world { self.new.world ≡ self.old.world }
@@ -273,7 +278,7 @@ impl<'a> Core<'a> {
     /// Makes the event. It isn't possible exactly where the core's step has no case for it, and leaves the core as it
     /// was then.
     pub fn apply(&mut self, e: Event) -> Result<Shown, NotPossible>
-        ensures possible { IfOk result (λ shown. parts_step self.old.world self.old.parts e ≡ Some (record { parts = self.new.parts; shown = shown })) }
+        ensures possible { IfOk result (Leaves (parts_step self.old.world self.old.parts e) self.new.parts) }
         ensures refused { OnErr result (parts_step self.old.world self.old.parts e ≡ None) }
         ensures kept { OnErr result (self.new ≡ self.old) }
         ensures world { self.new.world ≡ self.old.world }
@@ -298,7 +303,7 @@ impl<'a> Core<'a> {
         ensures value { result ≡ next_of self.now.world self.now.parts t }
         ensures possible { IfSome result (IsDue self.now.world self.now.parts t.0) }
         ensures only { (e : Event) → IsDue self.now.world self.now.parts t.0 e → result ≡ Some e }
-        ensures none { IsNone result ↔ (t.0 < length self.now.world.job.tasks → IsSome (results_of self.now.parts t.0).ending) }
+        ensures none { IsNone result ↔ (t.0 < length self.now.world.job.tasks → IsOver self.now.parts t.0) }
     {
         let n = t.0 as usize;
         if n >= self.tasks.len() {
@@ -311,8 +316,8 @@ impl<'a> Core<'a> {
     fn go_on(&mut self, t: TaskNo)
         ensures world { self.new.world ≡ self.old.world }
         ensures fits { Fits self.new.world self.new.parts }
-        ensures parts { self.new.parts ≡ go self.old.world (left self.old.world self.old.parts t.0) self.old.parts t }
-        ensures ended { t.0 < length self.old.world.job.tasks → IsSome (results_of self.new.parts t.0).ending }
+        ensures run { run_on self.old.world self.old.parts (all_events self.old.world self.old.parts t) ≡ Some self.new.parts }
+        ensures ended { t.0 < length self.old.world.job.tasks → IsOver self.new.parts t.0 }
     {
         self.fits();
         while let Some(event) = self.next(t) {
@@ -349,7 +354,7 @@ impl<'a> Core<'a> {
     fn is_closed(&self, s: SessNo) -> bool
         ensures { result ≡ is_closed (plan_in self.now.world) (λ p. (word_at self.now.parts.cells p).tag) s.0 }
     {
-        is_closed(&self.plan.controlled, &self.cells, s)
+        is_closed(&self.plan, &self.cells, s)
     }
 
     fn any_unmarked(&self, s: SessNo) -> bool
@@ -395,9 +400,10 @@ impl<'a> Core<'a> {
 pub fn start<'a>(alloc: Global, job: &'a Job, tables: &'a Tables) -> Result<Core<'a>, NoMemory>
     requires phase { length job.now.phases ≡ 1 }
     requires tables { All (IsIn job.now.images) tables.now.places }
-    ensures world { IfOk result (λ c. c.world ≡ record { job = job.now; places = tables.now.places }) }
-    ensures parts { IfOk result (λ c. c.parts ≡ first_parts (record { job = job.now; places = tables.now.places })) }
+    ensures world { IfOk result (λ c. c.world ≡ world_of job.now tables.now) }
+    ensures parts { IfOk result (λ c. c.parts ≡ first_parts (world_of job.now tables.now)) }
     ensures fits { IfOk result (λ c. Fits c.world c.parts) }
+    ensures is_world { IfOk result (λ c. IsWorld c.world) }
     ensures stands { IfOk result (λ c. Stands c.world [] (core_start c.world)) }
 {
     let tasks = make_tasks(alloc, job, tables)?;

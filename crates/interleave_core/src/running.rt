@@ -1,5 +1,5 @@
 //! A task of a core.
-ghost use Rattle.std.specs.Prelude.{◌≡◌, ℕ, ◌+◌, ◌<◌, false, true, if◌then◌else◌, option_map, option_and_then, length, IsSome, IfSome, nat_le, All, IfOk, OnErr};
+ghost use Rattle.std.specs.Prelude.{◌≡◌, ℕ, ◌+◌, ◌<◌, false, true, option_map, length, IsSome, IfSome, nat_le, All, IfOk, OnErr};
 ghost use Rattle.std.specs.List.{list_any};
 ghost use Rattle.std.specs.declared.option.Option.{Option};
 ghost use Rattle.std.specs.declared.option.Option.TheVariants.{Some, None};
@@ -8,13 +8,12 @@ ghost use Rattle.session_book.specs.Sessions.{task_of};
 ghost use Rattle.s370_exec.specs.Solo.{has_returned, visit_of};
 ghost use Rattle.interleave_core.specs.declared.stage.Stage.TheVariants.{Ready, Holding};
 ghost use Rattle.cov_base.specs.declared.limits.TheConstants.{SESSION_LIMIT, PLACE_LIMIT};
-ghost use Rattle.cov_base.specs.declared.numbers.PlaceNo.{PlaceNo as Number};
-ghost use Rattle.interleave_core.specs.World.{World, plan_in, place_from, first_part};
-ghost use Rattle.interleave_core.specs.Control.{Change as Told, change, next_session, open_session, change_of, next_place, after_change};
-ghost use Rattle.interleave_core.specs.Steps.{place_due, subject_place, step_of, stage_after, is_awaiting, with_stage, in_hand, executed, instruction_executed, ready_done, task_goes_on, task_done, executes, change_due};
+ghost use Rattle.interleave_core.specs.World.{World, world_of, place_from, first_part};
+ghost use Rattle.interleave_core.specs.Control.{Change as Told, change, next_session, open_session, change_of};
+ghost use Rattle.interleave_core.specs.Steps.{place_due, subject_place, step_of, stage_after, is_awaiting, with_stage, in_hand, executed, instruction_executed, ready_done, task_goes_on, task_done, executes, due_of, change_due};
 ghost use Rattle.interleave_core.specs.Quiet.{has_unmarked};
 ghost use Rattle.interleave_core.specs.Results.{stage_event, change_or_do, ending_of};
-ghost use Rattle.interleave_core.specs.Views.{IsRunning, seen_change, seen_place};
+ghost use Rattle.interleave_core.specs.Views.{IsRunning, InWorlds, InPlaces, InPlan, ByPlan, Doing, Gives, DiffersInSessions, numbered, seen, seen_at, closing, with_part, changed_by};
 
 use crate::control::{Change, PlaceChange, next_place, nth_session};
 use crate::events::{Event, NotPossible};
@@ -62,7 +61,7 @@ impl<'a> Model for Running<'a> {
 
 /// The place that begins at the address.
 fn place_at(tables: &Tables, a: Addr) -> Option<PlaceNo>
-    ensures value { option_map (λ (p : Number). p.0) result ≡ place_from 0 tables.now.places a }
+    ensures value { numbered result ≡ place_from 0 tables.now.places a }
     ensures exists { IfSome result (λ p. p.0 < length tables.now.places) }
 {
     // the proof reads off the number of places that they differ in address
@@ -104,7 +103,7 @@ impl<'a> Running<'a> {
 
     /// The place at which the next instruction, an EX, visits its subject.
     fn subject_place(&self, tables: &Tables) -> Option<PlaceNo>
-        ensures value { (w : World) (t : ℕ) → w.places ≡ tables.now.places → IsRunning w t self.now → option_map (λ (p : Number). p.0) result ≡ subject_place w (step_of w t self.now.part).visits }
+        ensures value { InPlaces tables.now self.now (λ w t u. numbered result ≡ subject_place w (step_of w t u).visits) }
         ensures exists { IfSome result (λ p. p.0 < length tables.now.places) }
     {
         match subject_seen(&self.cpu, &self.space) {
@@ -114,7 +113,7 @@ impl<'a> Running<'a> {
     }
 
     fn instruction_due(&self, tables: &Tables) -> Option<PlaceNo>
-        ensures value { (w : World) (t : ℕ) → w.places ≡ tables.now.places → IsRunning w t self.now → option_map (λ (p : Number). p.0) result ≡ place_due w t self.now.part Ready }
+        ensures value { InPlaces tables.now self.now (λ w t u. numbered result ≡ place_due w t u Ready) }
         ensures exists { IfSome result (λ p. p.0 < length tables.now.places) }
     {
         if self.has_returned() {
@@ -128,7 +127,7 @@ impl<'a> Running<'a> {
 
     /// The place whose cell the task is to fetch.
     pub(crate) fn place_due(&self, tables: &Tables) -> Option<PlaceNo>
-        ensures value { (w : World) (t : ℕ) → w.places ≡ tables.now.places → IsRunning w t self.now → option_map (λ (p : Number). p.0) result ≡ place_due w t self.now.part self.now.part.stage }
+        ensures value { InPlaces tables.now self.now (λ w t u. numbered result ≡ place_due w t u u.stage) }
         ensures exists { IfSome result (λ p. p.0 < length tables.now.places) }
     {
         match self.stage {
@@ -150,7 +149,7 @@ impl<'a> Running<'a> {
 
     /// Whether the next instruction, or the subject that it visits, branches.
     pub(crate) fn went(&self, subject: bool) -> bool
-        ensures { (w : World) (t : ℕ) → IsRunning w t self.now → (visit_of (step_of w t self.now.part) subject).went ≡ result }
+        ensures { InWorlds self.now (λ w t u. (visit_of (step_of w t u) subject).went ≡ result) }
     {
         if subject {
             match subject_seen(&self.cpu, &self.space) {
@@ -164,7 +163,7 @@ impl<'a> Running<'a> {
 
     /// Holds the cell from here on.
     pub(crate) fn hold(&mut self, hand: Hand)
-        ensures { self.new ≡ record self.old { part = with_stage self.old.part (Holding hand) } }
+        ensures { self.new ≡ with_part self.old (with_stage self.old.part (Holding hand)) }
     {
         self.stage = Stage::Holding(hand);
     }
@@ -191,7 +190,7 @@ impl<'a> Running<'a> {
 
     /// The opening of the task's next session, where none is open.
     fn opening<'p>(&self, t: TaskNo, plan: &'p Plan) -> Option<Change<'p>>
-        ensures value { (w : World) → plan.now ≡ plan_in w → option_map seen_change result ≡ option_map (change false) (next_session w t.0 self.now.part) }
+        ensures value { ByPlan plan.now self.now (λ w u. seen result ≡ option_map (change false) (next_session w t.0 u)) }
         ensures room { IsSome result → self.now.part.opened < SESSION_LIMIT }
     {
         if self.is_open {
@@ -209,7 +208,7 @@ impl<'a> Running<'a> {
     /// The closing of its open session.
     fn closing<'p>(&self, t: TaskNo, plan: &'p Plan) -> Option<Change<'p>>
         ensures closes { IfSome result (λ ch. ch.closes ≡ true) }
-        ensures value { (w : World) → plan.now ≡ plan_in w → option_map seen_change result ≡ option_map (change true) (open_session w t.0 self.now.part) }
+        ensures value { ByPlan plan.now self.now (λ w u. seen result ≡ option_map (change true) (open_session w t.0 u)) }
     {
         if !self.is_open {
             return None;
@@ -225,7 +224,7 @@ impl<'a> Running<'a> {
 
     /// What the instruction that it is at does to its sessions.
     fn change<'p>(&self, t: TaskNo, plan: &'p Plan) -> Option<Change<'p>>
-        ensures value { (w : World) → plan.now ≡ plan_in w → IsRunning w t.0 self.now → option_map seen_change result ≡ change_of w t.0 self.now.part }
+        ensures value { ByPlan plan.now self.now (λ w u. IsRunning w t.0 self.now → seen result ≡ change_of w t.0 u) }
         ensures room { IfSome result (λ ch. ch.closes ≡ false → self.now.part.opened < SESSION_LIMIT) }
     {
         if plan.controlled.is_empty() {
@@ -240,7 +239,7 @@ impl<'a> Running<'a> {
 
     /// Whether a Do executes the instruction that it is at.
     fn executes(&self, tables: &Tables) -> bool
-        ensures { (w : World) (t : ℕ) → w.places ≡ tables.now.places → IsRunning w t self.now → result ≡ executes w t self.now.part self.now.part.stage }
+        ensures { InPlaces tables.now self.now (λ w t u. result ≡ executes w t u u.stage) }
     {
         match self.stage {
             Stage::Ready => !self.has_returned()
@@ -255,7 +254,7 @@ impl<'a> Running<'a> {
 
     /// Of this change the next place, where the instruction is what a Do executes.
     fn next_place(&self, tables: &Tables, change: &Option<Change>) -> Option<PlaceChange>
-        ensures { (w : World) (t : ℕ) → w.places ≡ tables.now.places → IsRunning w t self.now → option_map seen_place result ≡ (if executes w t self.now.part self.now.part.stage then option_and_then (next_place self.now.part.changed) (option_map seen_change change.now) else None) }
+        ensures { InPlaces tables.now self.now (λ w t u. seen_at result ≡ due_of w t u u.stage (seen change.now)) }
     {
         let Some(change) = change else {
             return None;
@@ -268,7 +267,7 @@ impl<'a> Running<'a> {
 
     /// The place at which a session is to be planted or closed before the instruction is executed.
     pub(crate) fn change_due(&self, t: TaskNo, plan: &Plan, tables: &Tables) -> Option<PlaceChange>
-        ensures { (w : World) → plan.now ≡ plan_in w → w.places ≡ tables.now.places → IsRunning w t.0 self.now → option_map seen_place result ≡ change_due w t.0 self.now.part self.now.part.stage }
+        ensures { InPlan plan.now tables.now t.0 self.now (λ w u. seen_at result ≡ change_due w t.0 u u.stage) }
     {
         self.next_place(tables, &self.change(t, plan))
     }
@@ -276,7 +275,7 @@ impl<'a> Running<'a> {
     /// One place more of that session is done.
     pub(crate) fn changed(&mut self)
         requires { self.old.part.changed < PLACE_LIMIT }
-        ensures { self.new ≡ record self.old { part = record self.old.part { changed = self.old.part.changed + 1 } } }
+        ensures { self.new ≡ with_part self.old (record self.old.part { changed = self.old.part.changed + 1 }) }
     {
         self.changed += 1;
     }
@@ -284,8 +283,8 @@ impl<'a> Running<'a> {
     /// Its sessions after the instruction: whether that closes one, or else opens one.
     fn after_change(&mut self, closes: Option<bool>)
         requires { closes ≡ Some false → self.old.part.opened < SESSION_LIMIT }
-        ensures rest { self.new ≡ record self.old { part = record self.old.part { opened = self.new.part.opened; is_open = self.new.part.is_open; changed = self.new.part.changed } } }
-        ensures after { (ch : Option Told) → option_map (λ c. c.closes) ch ≡ closes → self.new ≡ record self.old { part = after_change ch self.old.part } }
+        ensures rest { DiffersInSessions self.old self.new }
+        ensures after { (ch : Option Told) → closing ch ≡ closes → self.new ≡ changed_by ch self.old }
     {
         let Some(closes) = closes else {
             return;
@@ -301,7 +300,7 @@ impl<'a> Running<'a> {
     fn execute(&mut self, closes: Option<bool>)
         requires budget { self.old.part.state.done < self.old.budget }
         requires room { closes ≡ Some false → self.old.part.opened < SESSION_LIMIT }
-        ensures part { (w : World) (t : ℕ) → IsRunning w t self.old → option_map (λ c. c.closes) (change_of w t self.old.part) ≡ closes → self.new.part ≡ executed w t self.old.part }
+        ensures part { InWorlds self.old (λ w t u. closing (change_of w t u) ≡ closes → self.new.part ≡ executed w t u) }
         ensures running { (w : World) (t : ℕ) → IsRunning w t self.old → IsRunning w t self.new }
     {
         self.done += 1;
@@ -314,7 +313,7 @@ impl<'a> Running<'a> {
     fn execute_to_place(&mut self, tables: &Tables, closes: Option<bool>)
         requires budget { self.old.part.state.done < self.old.budget }
         requires room { closes ≡ Some false → self.old.part.opened < SESSION_LIMIT }
-        ensures part { (w : World) (t : ℕ) → w.places ≡ tables.now.places → IsRunning w t self.old → option_map (λ c. c.closes) (change_of w t self.old.part) ≡ closes → self.new.part ≡ instruction_executed w t self.old.part }
+        ensures part { Doing tables.now self.old closes (λ w t u. self.new.part ≡ instruction_executed w t u) }
         ensures running { (w : World) (t : ℕ) → IsRunning w t self.old → IsRunning w t self.new }
     {
         match self.subject_place(tables) {
@@ -326,8 +325,8 @@ impl<'a> Running<'a> {
     /// Ends the task before an instruction, or executes the instruction; refused where a place begins there.
     fn begin(&mut self, tables: &Tables, closes: Option<bool>) -> Result<(), NotPossible>
         requires room { closes ≡ Some false → self.old.part.opened < SESSION_LIMIT }
-        ensures done { (w : World) (t : ℕ) → w.places ≡ tables.now.places → IsRunning w t self.old → option_map (λ c. c.closes) (change_of w t self.old.part) ≡ closes → IfOk result (λ _. ready_done w t self.old.part ≡ Some self.new.part) }
-        ensures refused { (w : World) (t : ℕ) → w.places ≡ tables.now.places → IsRunning w t self.old → OnErr result (ready_done w t self.old.part ≡ None) }
+        ensures done { Doing tables.now self.old closes (λ w t u. Gives result (ready_done w t u) self.new) }
+        ensures refused { InPlaces tables.now self.old (λ w t u. OnErr result (ready_done w t u ≡ None)) }
         ensures kept { OnErr result (self.new ≡ self.old) }
         ensures running { (w : World) (t : ℕ) → IsRunning w t self.old → IsRunning w t self.new }
     {
@@ -357,7 +356,7 @@ impl<'a> Running<'a> {
     ) -> Result<(), NotPossible>
         requires budget { self.old.part.state.done < self.old.budget }
         requires room { closes ≡ Some false → self.old.part.opened < SESSION_LIMIT }
-        ensures done { (w : World) (t : ℕ) → w.places ≡ tables.now.places → IsRunning w t self.old → option_map (λ c. c.closes) (change_of w t self.old.part) ≡ closes → IfOk result (λ _. task_goes_on w t self.old.part (Holding hand) ≡ Some self.new.part) }
+        ensures done { Doing tables.now self.old closes (λ w t u. Gives result (task_goes_on w t u (Holding hand)) self.new) }
         ensures refused { (w : World) (t : ℕ) → OnErr result (task_goes_on w t self.old.part (Holding hand) ≡ None) }
         ensures kept { OnErr result (self.new ≡ self.old) }
         ensures running { (w : World) (t : ℕ) → IsRunning w t self.old → IsRunning w t self.new }
@@ -379,8 +378,8 @@ impl<'a> Running<'a> {
     fn proceed(&mut self, tables: &Tables, closes: Option<bool>) -> Result<(), NotPossible>
         requires budget { (h : Hand) → self.old.part.stage ≡ Holding h → self.old.part.state.done < self.old.budget }
         requires room { closes ≡ Some false → self.old.part.opened < SESSION_LIMIT }
-        ensures done { (w : World) (t : ℕ) → w.places ≡ tables.now.places → IsRunning w t self.old → option_map (λ c. c.closes) (change_of w t self.old.part) ≡ closes → IfOk result (λ _. task_goes_on w t self.old.part self.old.part.stage ≡ Some self.new.part) }
-        ensures refused { (w : World) (t : ℕ) → w.places ≡ tables.now.places → IsRunning w t self.old → OnErr result (task_goes_on w t self.old.part self.old.part.stage ≡ None) }
+        ensures done { Doing tables.now self.old closes (λ w t u. Gives result (task_goes_on w t u u.stage) self.new) }
+        ensures refused { InPlaces tables.now self.old (λ w t u. OnErr result (task_goes_on w t u u.stage ≡ None)) }
         ensures kept { OnErr result (self.new ≡ self.old) }
         ensures running { (w : World) (t : ℕ) → IsRunning w t self.old → IsRunning w t self.new }
     {
@@ -395,8 +394,8 @@ impl<'a> Running<'a> {
     /// is to be fetched, marked, lifted, planted or closed before, or the task has ended.
     pub(crate) fn run(&mut self, t: TaskNo, plan: &Plan, tables: &Tables) -> Result<(), NotPossible>
         requires { (h : Hand) → self.old.part.stage ≡ Holding h → self.old.part.state.done < self.old.budget }
-        ensures done { (w : World) → plan.now ≡ plan_in w → w.places ≡ tables.now.places → IsRunning w t.0 self.old → IfOk result (λ _. task_done w t.0 self.old.part self.old.part.stage ≡ Some self.new.part) }
-        ensures refused { (w : World) → plan.now ≡ plan_in w → w.places ≡ tables.now.places → IsRunning w t.0 self.old → OnErr result (task_done w t.0 self.old.part self.old.part.stage ≡ None) }
+        ensures done { InPlan plan.now tables.now t.0 self.old (λ w u. Gives result (task_done w t.0 u u.stage) self.new) }
+        ensures refused { InPlan plan.now tables.now t.0 self.old (λ w u. OnErr result (task_done w t.0 u u.stage ≡ None)) }
         ensures kept { OnErr result (self.new ≡ self.old) }
         ensures running { (w : World) → IsRunning w t.0 self.old → IsRunning w t.0 self.new }
     {
@@ -419,7 +418,7 @@ impl<'a> Running<'a> {
 
     /// Do, or the planting or closing that is due before.
     fn change_or_do(&self, t: TaskNo, plan: &Plan, tables: &Tables) -> Event
-        ensures { (w : World) → plan.now ≡ plan_in w → w.places ≡ tables.now.places → IsRunning w t.0 self.now → result ≡ change_or_do t (change_due w t.0 self.now.part self.now.part.stage) }
+        ensures { InPlan plan.now tables.now t.0 self.now (λ w u. result ≡ change_or_do t (change_due w t.0 u u.stage)) }
     {
         match self.change_due(t, plan, tables) {
             Some(x) => if x.closes {
@@ -433,7 +432,7 @@ impl<'a> Running<'a> {
 
     /// The event that is possible of it as task t; none where it has ended.
     pub(crate) fn next(&self, t: TaskNo, plan: &Plan, tables: &Tables) -> Option<Event>
-        ensures { (w : World) → plan.now ≡ plan_in w → w.places ≡ tables.now.places → IsRunning w t.0 self.now → result ≡ stage_event w t self.now.part self.now.part.stage }
+        ensures { InPlan plan.now tables.now t.0 self.now (λ w u. result ≡ stage_event w t u u.stage) }
     {
         match self.stage {
             Stage::Ready => match self.instruction_due(tables) {
@@ -459,7 +458,7 @@ impl<'a> Running<'a> {
     ) -> Result<Running<'a>, NoMemory>
         requires task { t < length job.now.tasks }
         requires tables { All (IsIn job.now.images) tables.now.places }
-        ensures running { IfOk result (IsRunning (record { job = job.now; places = tables.now.places }) t) }
+        ensures running { IfOk result (IsRunning (world_of job.now tables.now) t) }
         ensures part { IfOk result (λ r. r.part ≡ first_part (task_of job.now t)) }
     {
         let budget = job.card(t).budget;

@@ -1,3 +1,4 @@
 pub mod PlayLemmas
+pub mod PlantLemmas
 pub mod RunLemmas
 pub mod TextLemmas

@@ -1,10 +1,12 @@
 -- A schedule's items one by one.
-use Rattle.std.proofs.Common.{◌≡◌, ℕ, suc, ◌+◌, ◌-◌, ◌<◌, ◌≤◌, Bool, true, false, nat_eq, ◌==◌, if◌then◌else◌, Option, Some, None, List, [], ◌∷◌, ◌++◌, length, subst, refl, sym, ap, ◌∙◌, arith, append-nil}
-use Rattle.interleave_core.specs.World.{World, Parts}
+use Rattle.std.proofs.Common.{◌≡◌, ℕ, ◌+◌, Bool, true, false, nat_eq, ◌==◌, if◌then◌else◌, Option, Some, None, List, [], ◌∷◌, ◌++◌, length, subst, refl, sym, ap, ◌∙◌, arith, append-nil}
+use Rattle.module_area.specs.declared.places.Place.{Place}
+use Rattle.interleave_core.specs.World.{World, Parts, first_parts}
+use Rattle.interleave_core.specs.Steps.{run_on}
 use Rattle.session_book.specs.JobView.{JobView}
 use Rattle.job_text.specs.Lines.{LineView, put_on, lines_of}
 use Rattle.job_text.specs.Schedule.{item_at}
-use Rattle.schedule_play.specs.Play.{Play, Bad, Whole, with_item, plant_at, planted_from, play, play_line, play_end, IsLine, IsUnplayed}
+use Rattle.schedule_play.specs.Play.{Play, Bad, Whole, with_item, play, play_line, play_end, play_from, play_of, plants, IsLine, IsUnplayed}
 use Rattle.schedule_play.specs.declared.playing.Played.{Played}
 use Rattle.schedule_play.specs.declared.playing.ScheduleFault.{ScheduleFault}
 use Rattle.schedule_play.specs.declared.playing.ScheduleFault.TheVariants as fault
@@ -25,12 +27,6 @@ with_items-bad (p ∷ ps) n = ap (with_item p) (with_items-bad ps n)
 pub with_items-whole : (ps : List Played) (c : Parts) (qs : List Played) → with_items ps (Whole c qs) ≡ Whole c (ps ++ qs)
 with_items-whole [] c qs = refl
 with_items-whole (p ∷ ps) c qs = ap (with_item p) (with_items-whole ps c qs)
-
-pub planted_next : (w : World) (p n : ℕ) (c : Parts) → p < n → planted_from w p (n - p) c ≡ planted_from w (p + 1) (n - (p + 1)) (plant_at w c p)
-planted_next w p n c lt = let more : n - p ≡ suc (n - (p + 1)) = omega arith in rw more refl
-
-pub planted_end : (w : World) (p n : ℕ) (c : Parts) → n ≤ p → planted_from w p (n - p) c ≡ c
-planted_end w p n c le = let none : n - p ≡ 0 = omega arith in rw none refl
 
 none_put : (b : ℕ) (ls : List LineView) → put_on b ls ≡ [] → ⊥
 none_put b [] e = absurd cc
@@ -100,3 +96,10 @@ ends_bad all ps n d ls e some = e ∙ (ap (with_items ps) (some_end n d ls some)
 
 pub no_more : (all : Play) (ps : List Played) (w : World) (n : ℕ) (c : Parts) (rest : List LineView) → IsSoFar all ps w n c rest → rest ≡ [] → all ≡ Bad n
 no_more all ps w n c rest so none = so ∙ (ap (with_items ps) (ap (λ (r : List LineView). play w n c r) none) ∙ with_items-bad ps n)
+
+-- a schedule whose windows were planted
+pub begun : (j : JobView) (places : List Place) (w : World) (count : ℕ) (c : Parts) (lines : List LineView) → w ≡ record { job = j; places = places } → nat_eq (length j.phases) 1 ≡ true → run_on w (first_parts w) (plants w) ≡ Some c →
+    play_of j places count lines ≡ play w (count + 1) c lines
+begun j places w count c lines is one planted =
+    ap (λ (b : Bool). let v : World = record { job = j; places = places } in if b then play_from v (count + 1) lines (run_on v (first_parts v) (plants v)) else Bad 0) one
+    ∙ (ap (λ (v : World). play_from v (count + 1) lines (run_on v (first_parts v) (plants v))) (sym is) ∙ ap (play_from w (count + 1) lines) planted)

@@ -3,8 +3,6 @@ use Rattle.std.specs.Prelude.{ℕ, ◌-◌, true, false, if◌then◌else◌, Op
 use Rattle.annotator.specs.Digits.{hex_digits}
 use Rattle.cov_base.specs.FactSet.{FactSet}
 use Rattle.cov_base.specs.Names.{unpadded}
-use Rattle.cov_base.specs.declared.numbers.SessNo.{SessNo}
-use Rattle.cov_base.specs.declared.numbers.PlaceNo.{PlaceNo}
 use Rattle.module_area.specs.PlanView.{place_of}
 use Rattle.module_area.specs.declared.places.Place.{Place}
 use Rattle.brk_table.specs.Places.{TablesView}
@@ -13,6 +11,8 @@ use Rattle.session_book.specs.Sessions.{task_of, session_of}
 use Rattle.interleave_core.specs.World.{World, Parts}
 use Rattle.interleave_core.specs.Steps.{set_of}
 use Rattle.interleave_core.specs.Results.{results_of}
+use Rattle.interleave_core.specs.declared.events.Event.{Event}
+use Rattle.interleave_core.specs.declared.events.Event.TheVariants as event
 use Rattle.interleave_core.specs.declared.events.Shown.{Shown}
 use Rattle.interleave_core.specs.declared.events.Shown.TheVariants.{Fetched, Marked, Lifted, Done, Planted, Closed}
 use Rattle.job_text.specs.declared.schedule.Item.{Item}
@@ -48,17 +48,21 @@ item_words j (Close t) = codes "CLOSE " ++ unpadded (task_of j t.0).name
 item_words j (Go t) = codes "GO " ++ unpadded (task_of j t.0).name
 item_words j End = codes "ENDSCHED"
 
+abbrev pub at_words : JobView → List Place → ℕ → ℕ → List ℕ
+at_words j places s p = codes " " ++ unpadded (session_of j s).name ++ codes " " ++ hex_digits 6 (place_of places p).at
+
 -- a session that was planted or closed, and the address of the place
-abbrev pub place_words : JobView → List Place → Option (SessNo × PlaceNo) → List ℕ
-place_words j places None = []
-place_words j places (Some at) = codes " " ++ unpadded (session_of j at.0.0).name ++ codes " " ++ hex_digits 6 (place_of places at.1.0).at
+abbrev pub place_words : JobView → List Place → Option Event → List ℕ
+place_words j places (Some (event.Plant s p)) = at_words j places s.0 p.0
+place_words j places (Some (event.Close s p)) = at_words j places s.0 p.0
+place_words j places made = []
 
 -- of item n, which numbers from 1
 abbrev pub event_line : JobView → List Place → ℕ → Played → List ℕ
-event_line j places n p = codes "EVENT " ++ decimal n ++ codes " " ++ item_words j p.item ++ place_words j places p.at ++ shown_words p.shown
+event_line j places n p = codes "EVENT " ++ decimal n ++ codes " " ++ item_words j p.item ++ place_words j places p.event ++ shown_words p.shown
 
 abbrev pub no_item : Played
-no_item = record { item = End; shown = Done; at = None }
+no_item = record { item = End; event = None; shown = Done }
 
 abbrev pub event_lines : JobView → List Place → List Played → List (List ℕ)
 event_lines j places played = lines_from (λ n. event_line j places n (get_or played (n - 1) no_item) ∷ []) 1 (length played)

@@ -1,28 +1,28 @@
 //! A schedule behind a job, played on the core.
-ghost use Rattle.std.specs.Prelude.{◌≡◌, ◌≢◌, ℕ, List, [], ◌+◌, ◌<◌, ◌≤◌, ◌^◌, nat_eq, length, None, Some, IfOk, IfErr, OnErr, All};
+ghost use Rattle.std.specs.Prelude.{◌≡◌, ◌≢◌, ℕ, [], ◌+◌, ◌<◌, ◌^◌, nat_eq, length, None, Some, option_and_then, IfOk, IfErr, OnErr, All};
 ghost use Rattle.brk_table.specs.Places.{IsIn};
-ghost use Rattle.job_text.specs.Lines.{LineView, lines_of};
-ghost use Rattle.job_text.specs.Schedule.{item_at};
-ghost use Rattle.interleave_core.specs.World.{Parts, plan_in};
+ghost use Rattle.job_text.specs.Lines.{lines_of};
+ghost use Rattle.module_area.specs.CellWords.{word_at};
 ghost use Rattle.module_area.specs.PlanView.{window_at};
-ghost use Rattle.interleave_core.specs.Results.{Fits, next_of};
-ghost use Rattle.interleave_core.specs.Steps.{parts_step};
-ghost use Rattle.job_text.specs.declared.schedule.Item.TheVariants as item;
-ghost use Rattle.schedule_play.specs.Play.{Play, plant_due, close_due, item_place, with_item, play, play_end, play_of, play_line, play_item, plant_at, planted, planted_from, IsLine, IsUnplayed};
+ghost use Rattle.interleave_core.specs.World.{IsWorld, plan_in, world_of, first_parts};
+ghost use Rattle.interleave_core.specs.Results.{Fits};
+ghost use Rattle.interleave_core.specs.Steps.{parts_step, run_on};
+ghost use Rattle.interleave_core.specs.Views.{Leaves};
+ghost use Rattle.schedule_play.specs.Play.{Play, plant_at, plants, if_plants, if_closes, item_event, play, play_item, play_behind, IsLineOf, IsBadLine, IsUnplayed};
 
 use brk_table::Tables;
-use cov_base::{NoMemory, PlaceNo, SessNo, TaskNo};
+use cov_base::{NoMemory, PlaceNo, SessNo};
 use interleave_core::{Core, Event, NotPossible, Shown, start};
 use job_text::{Item, first_line, item_of};
 use session_book::{Job, plan_of};
 use std::alloc::{AllocFailed, Global};
 
-/// An item of a schedule, what it has shown, and the session that it planted or closed at a place.
+/// An item of a schedule, the event that it stood for, if it was one, and what it has shown.
 #[derive(Clone, Copy)]
 pub struct Played {
     pub item: Item,
+    pub event: Option<Event>,
     pub shown: Shown,
-    pub at: Option<(SessNo, PlaceNo)>,
 }
 
 /// A core that a schedule was played on, and the schedule's items.
@@ -63,117 +63,102 @@ impl From<NoMemory> for ScheduleFault {
     }
 }
 
-/// Plays an item that stands for this event.
-fn play_event<'a>(
+/// The event that is next of a task, where it plants a session at a place.
+fn if_plants(next: Option<Event>) -> Option<Event>
+    ensures { result ≡ if_plants next }
+{
+    match next {
+        Some(Event::Plant(s, p)) => Some(Event::Plant(s, p)),
+        _ => None,
+    }
+}
+
+/// The event that is next of a task, where it closes a session at a place.
+fn if_closes(next: Option<Event>) -> Option<Event>
+    ensures { result ≡ if_closes next }
+{
+    match next {
+        Some(Event::Close(s, p)) => Some(Event::Close(s, p)),
+        _ => None,
+    }
+}
+
+/// The event that an item stands for, if it is one.
+fn item_event<'a>(core: &Core<'a>, item: Item) -> Option<Event>
+    ensures { result ≡ item_event core.now.world core.now.parts item }
+{
+    match item {
+        Item::Fetch(t) => Some(Event::Fetch(t)),
+        Item::Mark(t) => Some(Event::Mark(t)),
+        Item::Lift(t) => Some(Event::Lift(t)),
+        Item::Do(t) => Some(Event::Do(t)),
+        Item::Plant(t) => if_plants(core.next(t)),
+        Item::Close(t) => if_closes(core.next(t)),
+        _ => None,
+    }
+}
+
+/// Makes the event, where there is one.
+fn play_event<'a>(core: &mut Core<'a>, event: Option<Event>) -> Result<Shown, NotPossible>
+    ensures possible { IfOk result (Leaves (option_and_then (parts_step core.old.world core.old.parts) event) core.new.parts) }
+    ensures refused { OnErr result (option_and_then (parts_step core.old.world core.old.parts) event ≡ None) }
+    ensures world { core.new.world ≡ core.old.world }
+    ensures fits { Fits core.old.world core.old.parts → Fits core.new.world core.new.parts }
+{
+    match event {
+        Some(event) => core.apply(event),
+        None => Err(NotPossible),
+    }
+}
+
+/// Makes the event of an item, or all of a task that hasn't ended.
+fn play_item<'a>(
     core: &mut Core<'a>,
     item: Item,
-    event: Event,
-    at: Option<(SessNo, PlaceNo)>,
-) -> Result<Played, NotPossible>
-    ensures possible { IfOk result (λ p. parts_step core.old.world core.old.parts event ≡ Some (record { parts = core.new.parts; shown = p.shown })) }
-    ensures item { IfOk result (λ p. (p.item ≡ item) × (p.at ≡ at)) }
-    ensures refused { OnErr result (parts_step core.old.world core.old.parts event ≡ None) }
-    ensures world { core.new.world ≡ core.old.world }
-    ensures fits { Fits core.old.world core.old.parts → Fits core.new.world core.new.parts }
-{
-    match core.apply(event) {
-        Ok(shown) => Ok(Played { item, shown, at }),
-        Err(NotPossible) => Err(NotPossible),
-    }
-}
-
-/// The session and the place that are to be planted of the task.
-fn plant_due<'a>(core: &Core<'a>, t: TaskNo) -> Option<(SessNo, PlaceNo)>
-    ensures { result ≡ plant_due (next_of core.now.world core.now.parts t) }
-{
-    match core.next(t) {
-        Some(Event::Plant(s, p)) => Some((s, p)),
-        _ => None,
-    }
-}
-
-/// The session and the place that are to be closed of the task.
-fn close_due<'a>(core: &Core<'a>, t: TaskNo) -> Option<(SessNo, PlaceNo)>
-    ensures { result ≡ close_due (next_of core.now.world core.now.parts t) }
-{
-    match core.next(t) {
-        Some(Event::Close(s, p)) => Some((s, p)),
-        _ => None,
-    }
-}
-
-/// Plays `PLANT task`: the planting that is due of the task.
-fn play_plant<'a>(core: &mut Core<'a>, t: TaskNo) -> Result<Played, NotPossible>
-    ensures possible { IfOk result (λ p. play_item core.old.world core.old.parts (item.Plant t) ≡ Some (record { parts = core.new.parts; shown = p.shown })) }
-    ensures item { IfOk result (λ p. (p.item ≡ item.Plant t) × (p.at ≡ item_place core.old.world core.old.parts (item.Plant t))) }
-    ensures refused { OnErr result (play_item core.old.world core.old.parts (item.Plant t) ≡ None) }
-    ensures world { core.new.world ≡ core.old.world }
-    ensures fits { Fits core.old.world core.old.parts → Fits core.new.world core.new.parts }
-{
-    match plant_due(core, t) {
-        Some((s, p)) => play_event(core, Item::Plant(t), Event::Plant(s, p), Some((s, p))),
-        None => Err(NotPossible),
-    }
-}
-
-/// Plays `CLOSE task`: the closing that is due of the task.
-fn play_close<'a>(core: &mut Core<'a>, t: TaskNo) -> Result<Played, NotPossible>
-    ensures possible { IfOk result (λ p. play_item core.old.world core.old.parts (item.Close t) ≡ Some (record { parts = core.new.parts; shown = p.shown })) }
-    ensures item { IfOk result (λ p. (p.item ≡ item.Close t) × (p.at ≡ item_place core.old.world core.old.parts (item.Close t))) }
-    ensures refused { OnErr result (play_item core.old.world core.old.parts (item.Close t) ≡ None) }
-    ensures world { core.new.world ≡ core.old.world }
-    ensures fits { Fits core.old.world core.old.parts → Fits core.new.world core.new.parts }
-{
-    match close_due(core, t) {
-        Some((s, p)) => play_event(core, Item::Close(t), Event::Close(s, p), Some((s, p))),
-        None => Err(NotPossible),
-    }
-}
-
-/// Plays one item: one event, or all of a task that hasn't ended.
-fn play_item<'a>(core: &mut Core<'a>, item: Item) -> Result<Played, NotPossible>
-    ensures possible { IfOk result (λ p. play_item core.old.world core.old.parts item ≡ Some (record { parts = core.new.parts; shown = p.shown })) }
-    ensures item { IfOk result (λ p. (p.item ≡ item) × (p.at ≡ item_place core.old.world core.old.parts item)) }
+    event: Option<Event>,
+) -> Result<Shown, NotPossible>
+    requires { event ≡ item_event core.old.world core.old.parts item }
+    ensures possible { IfOk result (Leaves (play_item core.old.world core.old.parts item) core.new.parts) }
     ensures refused { OnErr result (play_item core.old.world core.old.parts item ≡ None) }
     ensures world { core.new.world ≡ core.old.world }
     ensures fits { Fits core.old.world core.old.parts → Fits core.new.world core.new.parts }
 {
     match item {
-        Item::Fetch(t) => play_event(core, item, Event::Fetch(t), None),
-        Item::Mark(t) => play_event(core, item, Event::Mark(t), None),
-        Item::Lift(t) => play_event(core, item, Event::Lift(t), None),
-        Item::Do(t) => play_event(core, item, Event::Do(t), None),
-        Item::Plant(t) => play_plant(core, t),
-        Item::Close(t) => play_close(core, t),
         Item::Go(t) => match core.go(t) {
-            Ok(()) => Ok(Played {
-                item,
-                shown: Shown::Done,
-                at: None,
-            }),
+            Ok(()) => Ok(Shown::Done),
             Err(NotPossible) => Err(NotPossible),
         },
-        Item::End => Err(NotPossible),
+        _ => play_event(core, event),
     }
 }
 
-/// Plants the place for its session, where it has one.
+/// Plants the place for the session that observes it, where one does.
 fn plant<'a>(core: &mut Core<'a>, s: u32, p: u32)
-    requires { s ≡ window_at (plan_in core.old.world) p }
+    requires window { s ≡ window_at (plan_in core.old.world) p }
+    requires place { p < length core.old.world.places }
+    requires is_world { IsWorld core.old.world }
+    requires fresh { (word_at core.old.parts.cells p).tag ≡ 0 }
     ensures world { core.new.world ≡ core.old.world }
     ensures fits { Fits core.old.world core.old.parts → Fits core.new.world core.new.parts }
-    ensures parts { core.new.parts ≡ plant_at core.old.world core.old.parts p }
+    ensures planted { run_on core.old.world core.old.parts (plant_at core.old.world p) ≡ Some core.new.parts }
+    ensures others { (q : ℕ) → p < q → word_at core.new.parts.cells q ≡ word_at core.old.parts.cells q }
 {
-    let _ = core.apply(Event::Plant(SessNo(s), PlaceNo(p)));
+    if s == 0 {
+        return;
+    }
+    let Ok(_) = core.apply(Event::Plant(SessNo(s), PlaceNo(p))) else {
+        unreachable!()
+    };
 }
 
 /// Plants the places that a session observes, each for its session.
 fn plant_all<'a>(core: &mut Core<'a>, windows: &[u32])
     requires windows { windows.now ≡ (plan_in core.old.world).windows }
-    requires few { length windows.now ≤ 65536 }
+    requires is_world { IsWorld core.old.world }
+    requires fresh { (p : ℕ) → (word_at core.old.parts.cells p).tag ≡ 0 }
     ensures world { core.new.world ≡ core.old.world }
     ensures fits { Fits core.old.world core.old.parts → Fits core.new.world core.new.parts }
-    ensures parts { core.new.parts ≡ planted_from core.old.world 0 (length windows.now) core.old.parts }
+    ensures planted { run_on core.old.world core.old.parts (plants core.old.world) ≡ Some core.new.parts }
 {
     for p in 0..windows.len() {
         plant(core, windows[p], p as u32);
@@ -184,8 +169,8 @@ fn plant_all<'a>(core: &mut Core<'a>, windows: &[u32])
 fn begin<'a>(alloc: Global, job: &'a Job, tables: &'a Tables) -> Result<Core<'a>, NoMemory>
     requires phase { length job.now.phases ≡ 1 }
     requires places { All (IsIn job.now.images) tables.now.places }
-    ensures world { IfOk result (λ c. c.world ≡ record { job = job.now; places = tables.now.places }) }
-    ensures parts { IfOk result (λ c. c.parts ≡ planted c.world) }
+    ensures world { IfOk result (λ c. c.world ≡ world_of job.now tables.now) }
+    ensures planted { IfOk result (λ c. run_on c.world (first_parts c.world) (plants c.world) ≡ Some c.parts) }
     ensures fits { IfOk result (λ c. Fits c.world c.parts) }
 {
     let plan = plan_of(alloc, job, tables, 0)?;
@@ -203,8 +188,8 @@ fn has_one_phase(job: &Job) -> bool
 /// Plays one line; none where it ends the schedule.
 fn play_line<'a>(core: &mut Core<'a>, job: &Job, line: &[u8]) -> Result<Option<Played>, NotPossible>
     requires { core.old.world.job ≡ job.now }
-    ensures played { IfOk result (λ o. (more : Parts → Play) (n : ℕ) (rest : List LineView) → IsLine o (play_line more core.old.world n core.old.parts rest (item_at job.now line.now)) (λ p. with_item p (more core.new.parts)) (play_end n core.new.parts rest)) }
-    ensures refused { OnErr result ((more : Parts → Play) (n : ℕ) (rest : List LineView) → play_line more core.old.world n core.old.parts rest (item_at job.now line.now) ≡ Play.Bad n) }
+    ensures played { IfOk result (IsLineOf job.now line.now core.old core.new) }
+    ensures refused { OnErr result (IsBadLine job.now line.now core.old) }
     ensures world { core.new.world ≡ core.old.world }
     ensures fits { Fits core.old.world core.old.parts → Fits core.new.world core.new.parts }
 {
@@ -212,7 +197,9 @@ fn play_line<'a>(core: &mut Core<'a>, job: &Job, line: &[u8]) -> Result<Option<P
     if item == Item::End {
         return Ok(None);
     }
-    Ok(Some(play_item(core, item)?))
+    let event = item_event(core, item);
+    let shown = play_item(core, item, event)?;
+    Ok(Some(Played { item, event, shown }))
 }
 
 /// The items of a schedule that has ended, behind which nothing may stand.
@@ -270,11 +257,11 @@ pub fn replay<'a>(
 ) -> Result<Replayed<'a>, ScheduleFault>
     requires numbers { count + 1 + length schedule.now < 2 ^ 32 }
     requires places { All (IsIn job.now.images) tables.now.places }
-    ensures whole { IfOk result (λ r. play_of job.now tables.now.places count (lines_of schedule.now) ≡ Play.Whole r.core.parts r.played.items) }
+    ensures whole { IfOk result (λ r. play_behind job.now tables.now count schedule.now ≡ Play.Whole r.core.parts r.played.items) }
     ensures few { IfOk result (λ r. length r.played.items < 2 ^ 32) }
-    ensures world { IfOk result (λ r. r.core.world ≡ record { job = job.now; places = tables.now.places }) }
+    ensures world { IfOk result (λ r. r.core.world ≡ world_of job.now tables.now) }
     ensures fits { IfOk result (λ r. Fits r.core.world r.core.parts) }
-    ensures bad { IfErr result (IsUnplayed (play_of job.now tables.now.places count (lines_of schedule.now))) }
+    ensures bad { IfErr result (IsUnplayed (play_behind job.now tables.now count schedule.now)) }
 {
     if !has_one_phase(job) {
         return Err(ScheduleFault::Bad { line: 0 });

@@ -4,10 +4,11 @@ ghost use Rattle.arrayvec.specs.ArrayVec.{array_vec_len};
 ghost use Rattle.brk_table.specs.Places.{IsIn, all_places};
 ghost use Rattle.cov_base.specs.Names.{unpadded};
 ghost use Rattle.interleave_core.specs.Results.{Fits};
+ghost use Rattle.interleave_core.specs.World.{world_of};
 ghost use Rattle.report_text.specs.Conditions.{HasFewLines};
 ghost use Rattle.report_text.specs.Writes.{WritesLines};
 ghost use Rattle.session_book.specs.Sessions.{task_of};
-ghost use Rattle.schedule_play.specs.Text.{letters, or_dash, shown_words, item_words, place_words, event_line, event_lines, replay_lines};
+ghost use Rattle.schedule_play.specs.Text.{letters, or_dash, shown_words, item_words, at_words, place_words, event_line, event_lines, replay_lines};
 
 use crate::playing::Played;
 use annotator::text::{add_hex, add_number, add_text};
@@ -15,7 +16,7 @@ use arrayvec::ArrayVec;
 use brk_table::Tables;
 use cov_base::{Bits, Fact, PlaceNo, SessNo, TaskNo};
 use cov_outside::{Failed, Sink};
-use interleave_core::{Core, Shown};
+use interleave_core::{Core, Event, Shown};
 use job_text::Item;
 use report_text::{put, results_part, words_line};
 use session_book::Job;
@@ -82,20 +83,12 @@ fn add_task(line: &mut ArrayVec<u8, 160>, word: &[u8], job: &Job, t: TaskNo)
     }
 }
 
-/// Adds the name of a session and the address of a place, where there are.
-fn add_place(
-    line: &mut ArrayVec<u8, 160>,
-    job: &Job,
-    tables: &Tables,
-    at: Option<(SessNo, PlaceNo)>,
-)
+/// Adds the name of a session and the address of a place.
+fn add_at(line: &mut ArrayVec<u8, 160>, job: &Job, tables: &Tables, s: SessNo, p: PlaceNo)
     requires { array_vec_len line.old ≤ 80 }
-    ensures items { line.new.items ≡ line.old.items ++ place_words job.now tables.now.places at }
+    ensures items { line.new.items ≡ line.old.items ++ at_words job.now tables.now.places s.0 p.0 }
     ensures short { array_vec_len line.new ≤ array_vec_len line.old + 16 }
 {
-    let Some((s, p)) = at else {
-        return;
-    };
     add_text(line, b" ");
     let n = s.0.saturating_sub(1) as usize;
     if n < job.sessions.len() {
@@ -108,6 +101,19 @@ fn add_place(
         0
     };
     add_hex(line, address, 6);
+}
+
+/// Adds the session that was planted or closed and the place, where the event says them.
+fn add_place(line: &mut ArrayVec<u8, 160>, job: &Job, tables: &Tables, event: Option<Event>)
+    requires { array_vec_len line.old ≤ 80 }
+    ensures items { line.new.items ≡ line.old.items ++ place_words job.now tables.now.places event }
+    ensures short { array_vec_len line.new ≤ array_vec_len line.old + 16 }
+{
+    match event {
+        Some(Event::Plant(s, p)) => add_at(line, job, tables, s, p),
+        Some(Event::Close(s, p)) => add_at(line, job, tables, s, p),
+        _ => {}
+    }
 }
 
 /// Adds an item as it stands in a schedule.
@@ -137,7 +143,7 @@ fn event_line(job: &Job, tables: &Tables, n: u32, played: Played) -> ArrayVec<u8
     add_number(&mut line, u64::from(n));
     add_text(&mut line, b" ");
     add_item(&mut line, job, played.item);
-    add_place(&mut line, job, tables, played.at);
+    add_place(&mut line, job, tables, played.event);
     add_shown(&mut line, played.shown);
     add_text(&mut line, b"\n");
     line
@@ -171,7 +177,7 @@ pub fn replay_text<K: Sink>(
     requires few { HasFewLines job.now }
     requires places { All (IsIn job.now.images) tables.now.places }
     requires numbered { tables.now.places ≡ all_places tables.now.tables }
-    requires core { core.now.world ≡ record { job = job.now; places = tables.now.places } }
+    requires core { core.now.world ≡ world_of job.now tables.now }
     requires fits { Fits core.now.world core.now.parts }
     requires items { length played.now < 2 ^ 32 }
     ensures { WritesLines K.written K.faults sink.old sink.new result (replay_lines job.now tables.now core.now.parts played.now) }

@@ -1,8 +1,8 @@
 use Rattle.std.proofs.Common.{◌≡◌, ◌<◌, sym, ◌∙◌, refl, subst}
 use Rattle.module_area.specs.PlanView.{IsPlan}
 use Rattle.interleave_core.specs.World.{World, plan_in}
-use Rattle.interleave_core.specs.Going.{go, left}
-use Rattle.interleave_core.proofs.GoingLemmas.{next_less, go_next}
+use Rattle.interleave_core.specs.Going.{most_events}
+use Rattle.interleave_core.proofs.GoingLemmas.{left, gone_by, next_less, go_next}
 use Rattle.interleave_core.proofs.interleaving.Core.go_on.Goals as goal
 
 pub loop-event-smaller : goal.loop-event-smaller
@@ -19,5 +19,5 @@ loop-event-preserved c =
     let next = go_next w c.loop-event.self.parts c.apply.new.self.parts c.args.t c.in-Some.event _ plan (sym c.next.ensures.value ∙ c.in-Some.is) c.in-Ok.ensures.possible refl in
     record {
       world = c.in-Ok.ensures.world ∙ c.loop-event.invariant.world;
-      goes = subst (λ (v : World). go c.args.self.now.world (left c.args.self.now.world c.args.self.now.parts c.args.t.0) c.args.self.now.parts c.args.t ≡ go v (left v c.apply.new.self.parts c.args.t.0) c.apply.new.self.parts c.args.t) (sym c.in-Ok.ensures.world) (c.loop-event.invariant.goes ∙ next);
+      goes = subst (λ (v : World). gone_by c.args.self.now.world (most_events c.args.self.now.world c.args.t.0) c.args.self.now.parts c.args.t ≡ gone_by v (most_events v c.args.t.0) c.apply.new.self.parts c.args.t) (sym c.in-Ok.ensures.world) (c.loop-event.invariant.goes ∙ next);
     }

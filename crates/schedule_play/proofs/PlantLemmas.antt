@@ -1,0 +1,90 @@
+-- The places that are planted before the first item.
+use Rattle.std.proofs.Common.{◌≡◌, ◌≢◌, eqb-true, ℕ, zero, suc, ◌+◌, ◌-◌, ◌<◌, ◌≤◌, Bool, true, false, ◌&&◌, nat_eq, nat_lt, if◌then◌else◌, Some, None, List, [], ◌∷◌, length, map, All, refl, sym, ap, ◌∙◌, arith}
+use Rattle.std.specs.Option.{option_and_then}
+use Rattle.std.specs.List.{flat_map, range_with_len}
+use Rattle.std.proofs.lemmas.Bool.{lt-ltb}
+use Rattle.std.proofs.lemmas.Bool.Decides.{nat_tests}
+use Rattle.std.proofs.lemmas.List.{get_or-set_other}
+use Rattle.std.proofs.lemmas.List.Elements.{All-head, All-tail}
+use Rattle.module_area.specs.CellWords.{word_at, no_cell, fresh_word}
+use Rattle.module_area.specs.PlanView.{ControlledView, window_at}
+use Rattle.module_area.specs.declared.places.Place.{Place}
+use Rattle.interleave_core.specs.World.{World, IsWorld, Parts, plan_in}
+use Rattle.interleave_core.specs.Control.{controller_from, controller_of}
+use Rattle.interleave_core.specs.Steps.{Stepped, parts_step, run_on, by_controller, whole_step, with_cell, breakpoint_of}
+use Rattle.interleave_core.specs.declared.events.Event.{Event}
+use Rattle.interleave_core.specs.declared.events.Event.TheVariants as event
+use Rattle.interleave_core.specs.declared.events.Shown.{Shown}
+use Rattle.interleave_core.specs.declared.events.Shown.TheVariants.{Planted}
+use Rattle.interleave_core.proofs.Runs.{run_on-append}
+use Rattle.schedule_play.specs.Play.{plant_at}
+
+-- no task controls a session that observes a place whole
+controller_none : (cs : List ControlledView) (s : ℕ) → All (λ (c : ControlledView). s ≢ c.session) cs → controller_from s cs ≡ None
+controller_none [] s h = refl
+controller_none (c ∷ cs) s h = by (nat_eq c.session s) refl (controller_none cs s (All-tail (λ (x : ControlledView). s ≢ x.session) c cs h))
+  where
+    by : (b : Bool) → nat_eq c.session s ≡ b → controller_from s cs ≡ None → (if b then Some c.by else controller_from s cs) ≡ None
+    by true e more = absurd (All-head (λ (x : ControlledView). s ≢ x.session) c cs h (sym (eqb-true c.session s e)))
+    by false e more = more
+
+whole_window : (w : World) (s p : ℕ) → IsWorld w → p < length w.places → s ≡ window_at (plan_in w) p → controller_of w s ≡ None
+whole_window w s p is lt e = controller_none (plan_in w).controlled s (λ k d l same. is.is_plan.no_windows k d l p lt (sym e ∙ same))
+
+all_four : (a b c d : Bool) → a ≡ true → b ≡ true → c ≡ true → d ≡ true → (a && (b && (c && d))) ≡ true
+all_four a b c d p q r s = rw (p, q, r, s) refl
+
+same_number : (a b : ℕ) → a ≡ b → nat_eq a b ≡ true
+same_number a b h = grind (arith, nat_tests)
+
+abbrev plant_of : ℕ → ℕ → Event
+plant_of s p = event.Plant (record { 0 = s }) (record { 0 = p })
+
+abbrev planted : Parts → ℕ → ℕ → Stepped
+planted c s p = record { parts = with_cell c p (breakpoint_of s); shown = Planted }
+
+-- where nothing was planted yet, the plant of a window is possible
+pub plant_possible : (w : World) (c : Parts) (s p : ℕ) → IsWorld w → p < length w.places → s ≡ window_at (plan_in w) p → 0 < s → (word_at c.cells p).tag ≡ 0 → parts_step w c (plant_of s p) ≡ Some (planted c s p)
+plant_possible w c s p is lt e some fresh =
+    ap (by_controller w c false s p (whole_step w c s p)) (whole_window w s p is lt e)
+    ∙ ap (λ (b : Bool). if b then Some (planted c s p) else None)
+    (all_four (nat_lt p (length w.places)) (nat_lt 0 s) (nat_eq (window_at (plan_in w) p) s) (nat_eq (word_at c.cells p).tag 0) (lt-ltb p (length w.places) lt) (lt-ltb 0 s some) (same_number (window_at (plan_in w) p) s (sym e)) (same_number (word_at c.cells p).tag 0 fresh))
+
+pub never_refused : (w : World) (c : Parts) (s p : ℕ) → IsWorld w → p < length w.places → s ≡ window_at (plan_in w) p → 0 < s → (word_at c.cells p).tag ≡ 0 → parts_step w c (plant_of s p) ≡ None → ⊥
+never_refused w c s p is lt e some fresh none = let n : None ≡ Some (planted c s p) = sym none ∙ plant_possible w c s p is lt e some fresh in absurd cc
+
+pub no_plant : (w : World) (c : Parts) (p : ℕ) → window_at (plan_in w) p ≡ 0 → run_on w c (plant_at w p) ≡ Some c
+no_plant w c p e = by (nat_lt 0 (window_at (plan_in w) p)) refl
+  where
+    by : (b : Bool) → nat_lt 0 (window_at (plan_in w) p) ≡ b → run_on w c (if b then plant_of (window_at (plan_in w) p) p ∷ [] else []) ≡ Some c
+    by true q = let z : false ≡ true = ap (λ (n : ℕ). nat_lt 0 n) (sym e) ∙ q in absurd cc
+    by false q = refl
+
+pub one_plant : (w : World) (c d : Parts) (s p : ℕ) (shown : Shown) → s ≡ window_at (plan_in w) p → 0 < s → parts_step w c (plant_of s p) ≡ Some (record { parts = d; shown = shown }) → run_on w c (plant_at w p) ≡ Some d
+one_plant w c d s p shown e some step =
+    let there : nat_lt 0 (window_at (plan_in w) p) ≡ true = ap (λ (n : ℕ). nat_lt 0 n) (sym e) ∙ lt-ltb 0 s some in
+    ap (λ (b : Bool). run_on w c (if b then plant_of (window_at (plan_in w) p) p ∷ [] else [])) there
+    ∙ (ap (λ (n : ℕ). run_on w c (plant_of n p ∷ [])) (sym e) ∙ ap (option_and_then (λ (x : Stepped). Some x.parts)) step)
+
+-- and leaves all other cells
+pub others_stay : (w : World) (c d : Parts) (s p : ℕ) (shown : Shown) → IsWorld w → p < length w.places → s ≡ window_at (plan_in w) p → 0 < s → (word_at c.cells p).tag ≡ 0 → parts_step w c (plant_of s p) ≡ Some (record { parts = d; shown = shown }) →
+    (q : ℕ) → p < q → word_at d.cells q ≡ word_at c.cells q
+others_stay w c d s p shown is lt e some fresh step q less =
+    let same : Some (record { parts = d; shown = shown }) ≡ Some (planted c s p) = sym step ∙ plant_possible w c s p is lt e some fresh in
+    let parts : record { parts = d; shown = shown } ≡ planted c s p = cc in
+    ap (λ (x : Stepped). word_at x.parts.cells q) parts ∙ get_or-set_other c.cells p q (breakpoint_of s) no_cell (λ h. absurd (omega (arith, h, less)))
+
+pub fresh_tag : (places : List Place) (q : ℕ) → (word_at (map fresh_word places) q).tag ≡ 0
+fresh_tag [] q = refl
+fresh_tag (p ∷ places) zero = refl
+fresh_tag (p ∷ places) (suc q) = fresh_tag places q
+
+-- the places from number p on
+abbrev pub plants_from : World → ℕ → ℕ → List Event
+plants_from w p count = flat_map (plant_at w) (range_with_len p count)
+
+pub planted_next : (w : World) (p n : ℕ) (c d : Parts) → p < n → run_on w c (plant_at w p) ≡ Some d → run_on w c (plants_from w p (n - p)) ≡ run_on w d (plants_from w (p + 1) (n - (p + 1)))
+planted_next w p n c d lt h = let more : n - p ≡ suc (n - (p + 1)) = omega arith in rw more (run_on-append w c d (plant_at w p) (plants_from w (p + 1) (n - (p + 1))) h)
+
+pub planted_end : (w : World) (p n : ℕ) (c : Parts) → n ≤ p → run_on w c (plants_from w p (n - p)) ≡ Some c
+planted_end w p n c le = let none : n - p ≡ 0 = omega arith in rw none refl
