@@ -1,5 +1,5 @@
 -- A line's fault by the bytes that have a line, and the cover with one instruction more.
-use Rattle.std.proofs.Common.{◌≡◌, ◌⊎◌, inl, inr, ℕ, ◌+◌, ◌-◌, ◌%◌, ◌<◌, ◌≤◌, Bool, true, false, cond, nat_le, nat_lt, ◌==◌, Option, Some, None, List, [], ◌∷◌, ◌++◌, length, get_or, refl, sym, ◌∙◌, arith}
+use Rattle.std.proofs.Common.{◌≡◌, inl, inr, ℕ, ◌+◌, ◌-◌, ◌%◌, ◌<◌, ◌≤◌, Bool, true, false, cond, nat_le, nat_lt, ◌==◌, Option, Some, None, List, [], ◌∷◌, ◌++◌, length, get_or, refl, sym, ◌∙◌, arith}
 use Rattle.std.specs.List.{list_any, AllPass}
 use Rattle.std.specs.Str.{bytes_eq}
 use Rattle.std.proofs.lemmas.Bool.{cases_lt, and_from, lt-ltb, and_parts, le-leb, leb-true, ltb-true, false_from_ne_true, leb-false, ltb-false}
@@ -146,9 +146,10 @@ cover_text earlier cover is = record {
 -- an instruction more
 pub cover_more : (earlier : List Line) (old new : List (Option ℕ)) (loc : ℕ) (code : Code) → IsCover earlier old → length new ≡ length old → is_covered old loc code.len ≡ false
     → ((k : ℕ) → loc ≤ k → k < loc + code.len → get_or new k None ≡ Some (length earlier))
-    → ((k : ℕ) → (k < loc) ⊎ (loc + code.len ≤ k) → get_or new k None ≡ get_or old k None)
+    → ((k : ℕ) → k < loc → get_or new k None ≡ get_or old k None)
+    → ((k : ℕ) → loc + code.len ≤ k → get_or new k None ≡ get_or old k None)
     → IsCover (earlier ++ says.Code loc code ∷ []) new
-cover_more earlier old new loc code is size free marked kept = record { of_line = of; has_line = has }
+cover_more earlier old new loc code is size free marked before behind = record { of_line = of; has_line = has }
   where
     line : Line
     line = says.Code loc code
@@ -163,9 +164,9 @@ cover_more earlier old new loc code is size free marked kept = record { of_line 
 
     of : (k i : ℕ) → k < length new → get_or new k None ≡ Some i → (i < length (earlier ++ says.Code loc code ∷ [])) × (covers k (get_or (earlier ++ says.Code loc code ∷ []) i Text) ≡ true)
     of k i l e = elim (cases_lt k loc) [
-      | inl low ↦ old_of k i l (kept k (inl low)) e
+      | inl low ↦ old_of k i l (before k low) e
       | inr from ↦ elim (cases_lt k (loc + code.len)) [
-        | inr high ↦ old_of k i l (kept k (inr high)) e
+        | inr high ↦ old_of k i l (behind k high) e
         | inl to ↦ (
             let m : get_or new k None ≡ Some (length earlier) = marked k from to in
             let n : length earlier ≡ i = cc in
@@ -178,9 +179,9 @@ cover_more earlier old new loc code is size free marked kept = record { of_line 
       | inl below ↦ (
           let there : get_or old k None ≡ Some i = is.has_line k i (omega arith) below (rw (← get_or_append_left earlier (says.Code loc code ∷ []) Text i below) e) in
           elim (cases_lt k loc) [
-            | inl low ↦ kept k (inl low) ∙ there
+            | inl low ↦ before k low ∙ there
             | inr from ↦ elim (cases_lt k (loc + code.len)) [
-              | inr high ↦ kept k (inr high) ∙ there
+              | inr high ↦ behind k high ∙ there
               | inl to ↦ (
                   let at : loc + (k - loc) ≡ k = omega arith in
                   let empty : get_or old (loc + (k - loc)) None ≡ None = not_covered old loc code.len free (k - loc) (omega arith) in

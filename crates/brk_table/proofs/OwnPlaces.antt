@@ -2,6 +2,7 @@
 use Rattle.std.proofs.Common.{◌≡◌, ◌≢◌, ◌⊎◌, inl, inr, ℕ, ◌+◌, ◌-◌, ◌*◌, ◌%◌, ◌<◌, ◌≤◌, zero, suc, Bool, true, false, nat_lt, ◌==◌, Option, Some, None, List, [], length, get_or, take, drop, refl, sym, ap, ◌∙◌, subst, arith}
 use Rattle.std.specs.Prelude.{slice_index, IfSome, count_by}
 use Rattle.std.specs.List.{list_any, AllPass}
+use Rattle.std.specs.Option.{option_or}
 use Rattle.std.specs.Str.{bytes_eq}
 use Rattle.std.proofs.lemmas.Bool.{cases_lt, lt-ltb}
 use Rattle.std.proofs.lemmas.Bool.Decides.{nat_tests}
@@ -19,12 +20,12 @@ use Rattle.listing_reader.specs.declared.lines.Line.{Line}
 use Rattle.listing_reader.specs.declared.lines.Line.TheVariants.{Text}
 use Rattle.listing_reader.specs.declared.lines.Line.TheVariants as says
 use Rattle.brk_table.specs.Places.{TableView, IsPlace, AreApart}
-use Rattle.brk_table.specs.Build.{shares, is_code, module_code, fault_at, first_fault, or_fault, place_from, IsEntry, IsTable, IsOwn, HasOwnPlaces}
+use Rattle.brk_table.specs.Build.{shares, is_code, module_code, fault_at, first_fault, place_from, IsEntry, IsTable, IsOwn, HasOwnPlaces}
 use Rattle.brk_table.specs.declared.faults.BuildFault.{BuildFault}
 use Rattle.brk_table.proofs.FaultLemmas.{IsFaultless, faultless, sound_length}
 use Rattle.brk_table.proofs.Passes.{next_fault}
 
-neither : (a b : Option BuildFault) → or_fault a b ≡ None → (a ≡ None) × (b ≡ None)
+neither : (a b : Option BuildFault) → option_or a b ≡ None → (a ≡ None) × (b ≡ None)
 neither None b h = (refl, h)
 neither (Some e) b h = absurd cc
 

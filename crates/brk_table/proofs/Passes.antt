@@ -1,7 +1,8 @@
 -- The lines one after the other: their faults, and what the cover knows of them.
-use Rattle.std.proofs.Common.{◌≡◌, ◌⊎◌, ℕ, ◌+◌, ◌<◌, ◌≤◌, Bool, true, false, Option, Some, None, List, [], ◌∷◌, ◌++◌, length, get_or, take, drop, refl, sym, ap, ◌∙◌, arith}
+use Rattle.std.proofs.Common.{◌≡◌, ℕ, ◌+◌, ◌<◌, ◌≤◌, Bool, true, false, Option, Some, None, List, [], ◌∷◌, ◌++◌, length, get_or, take, drop, refl, sym, ap, ◌∙◌, arith}
 use Rattle.std.specs.Prelude.{count_by}
 use Rattle.std.specs.List.{list_any, AllPass}
+use Rattle.std.specs.Option.{option_or}
 use Rattle.std.proofs.lemmas.List.{take_more, drop_more, length-take-le, get_or-take, take_all, drop_all}
 use Rattle.std.proofs.lemmas.List.Sums.{count_by_more_yes, count_by_more_no}
 use Rattle.std.proofs.lemmas.List.Elements.{All-push}
@@ -11,7 +12,7 @@ use Rattle.listing_reader.specs.Listing.{is_sound}
 use Rattle.listing_reader.specs.declared.lines.Line.{Line}
 use Rattle.listing_reader.specs.declared.lines.Line.TheVariants.{Text}
 use Rattle.listing_reader.specs.declared.lines.Line.TheVariants as says
-use Rattle.brk_table.specs.Build.{shares, is_code, fault_by, fault_at, first_fault, or_fault}
+use Rattle.brk_table.specs.Build.{shares, is_code, fault_by, fault_at, first_fault}
 use Rattle.brk_table.specs.Cover.{is_covered, is_inside, IsCover}
 use Rattle.brk_table.specs.declared.faults.BuildFault.{BuildFault}
 use Rattle.brk_table.proofs.FaultLemmas.{IsFaultless, faultless, same_fault, sound_length, cover_text, cover_more}
@@ -31,7 +32,7 @@ sound_take lines i l h k d b =
     rw (get_or-take i lines k d (omega arith)) (h k d (omega arith))
 
 pub next_fault : (bytes : List ℕ) (room : ℕ) (lines : List Line) (i : ℕ) → i < length lines
-    → first_fault bytes room (take i lines) (drop i lines) ≡ or_fault (fault_at bytes room (take i lines) (get_or lines i Text)) (first_fault bytes room (take (i + 1) lines) (drop (i + 1) lines))
+    → first_fault bytes room (take i lines) (drop i lines) ≡ option_or (fault_at bytes room (take i lines) (get_or lines i Text)) (first_fault bytes room (take (i + 1) lines) (drop (i + 1) lines))
 next_fault bytes room lines i l = rw (drop_more lines i Text l, take_more lines i Text l) refl
 
 same_counts : (bytes : List ℕ) (room : ℕ) (shared : Bool) (a b m n loc : ℕ) (code : Code) → a ≡ b → m ≡ n → fault_by bytes room shared a m loc code ≡ fault_by bytes room shared b n loc code
@@ -62,16 +63,17 @@ pub code_passed : (bytes : List ℕ) (room : ℕ) (lines : List Line) (i : ℕ) 
     → AllPass is_sound lines → get_or lines i Text ≡ says.Code loc code → fault_by bytes room (is_covered old loc code.len) before (i + 1) loc code ≡ None
     → length new ≡ length old
     → ((k : ℕ) → loc ≤ k → k < loc + code.len → get_or new k None ≡ Some i)
-    → ((k : ℕ) → (k < loc) ⊎ (loc + code.len ≤ k) → get_or new k None ≡ get_or old k None)
+    → ((k : ℕ) → k < loc → get_or new k None ≡ get_or old k None)
+    → ((k : ℕ) → loc + code.len ≤ k → get_or new k None ≡ get_or old k None)
     → AtLine bytes room lines (i + 1) new (before + 1)
-code_passed bytes room lines i old new before loc code at l sound is e size marked kept =
+code_passed bytes room lines i old new before loc code at l sound is e size marked before_it behind_it =
     let none = no_fault bytes room lines i old before loc code at e in
     let n : length (take i lines) ≡ i = length-take-le i lines (omega arith) in
     let more : take (i + 1) lines ≡ take i lines ++ says.Code loc code ∷ [] = take_more lines i Text l ∙ ap (λ x. take i lines ++ x ∷ []) is in
     let its : is_code (get_or lines i Text) ≡ true = rw is refl in
     record {
       size = size ∙ at.size;
-      cover_is = rw more (cover_more (take i lines) old new loc code at.cover_is size none.apart (λ k a b. rw n (marked k a b)) kept);
+      cover_is = rw more (cover_more (take i lines) old new loc code at.cover_is size none.apart (λ k a b. rw n (marked k a b)) before_it behind_it);
       count = sym (count_by_more_yes is_code lines i Text l its ∙ ap (λ x. x + 1) (sym at.count));
       rest = sym (next_fault bytes room lines i l ∙ rw (code_fault bytes room lines i old before loc code at l sound is, e) refl) ∙ at.rest;
       inside = rw more (All-push (λ x. is_inside (length bytes) x ≡ true) (take i lines) (says.Code loc code) at.inside (le-leb (loc + code.len) (length bytes) none.inside));

@@ -1,6 +1,7 @@
 -- The table of a listing over its module, and the first fault of a listing that has none.
-use Rattle.std.specs.Prelude.{◌≡◌, ℕ, ◌+◌, ◌-◌, ◌*◌, ◌%◌, ◌<◌, ◌≤◌, Bool, true, false, ◌&&◌, nat_le, nat_lt, ◌==◌, if◌then◌else◌, Option, Some, None, List, [], ◌∷◌, ◌++◌, length, slice_index, get_or, count_by, Contains, All, AllPairs}
-use Rattle.std.specs.List.{list_any}
+use Rattle.std.specs.Prelude.{◌≡◌, ℕ, ◌+◌, ◌-◌, ◌*◌, ◌%◌, ◌<◌, ◌≤◌, Bool, true, false, ◌&&◌, nat_le, nat_lt, ◌==◌, if◌then◌else◌, Option, Some, None, List, [], ◌∷◌, ◌++◌, length, map, slice_index, get_or, count_by, Contains, All, AllPairs}
+use Rattle.std.specs.List.{list_any, range_with_len}
+use Rattle.std.specs.Option.{option_or}
 use Rattle.std.specs.Str.{bytes_eq}
 use Rattle.cov_base.specs.Codes.{breakpoint, kind_of}
 use Rattle.cov_base.specs.Memory.{ImageView}
@@ -29,12 +30,7 @@ module_byte bytes loc len i = if nat_lt i len then slice_index bytes (loc + i) e
 
 -- so many bytes of the module
 unfoldable pub module_code : List ℕ → ℕ → ℕ → Code
-module_code bytes loc len = record {
-  at = 0;
-  bytes = module_byte bytes loc len 0 ∷ module_byte bytes loc len 1 ∷ module_byte bytes loc len 2 ∷
-      module_byte bytes loc len 3 ∷ module_byte bytes loc len 4 ∷ module_byte bytes loc len 5 ∷ [];
-  len = len;
-}
+module_code bytes loc len = record { at = 0; bytes = map (module_byte bytes loc len) (range_with_len 0 6); len = len }
 
 -- The fault of line n at loc, where it shares a byte or not and so many instructions stand before it: an odd location,
 -- bytes past the module, shared bytes, no room, the breakpoint's own halfword, other bytes than the module's.
@@ -54,15 +50,11 @@ fault_at bytes room earlier Text = None
 fault_at bytes room earlier (says.Code loc code) =
     fault_by bytes room (list_any (shares loc code) earlier) (count_by is_code earlier) (length earlier + 1) loc code
 
-abbrev pub or_fault : Option BuildFault → Option BuildFault → Option BuildFault
-or_fault None q = q
-or_fault (Some e) q = Some e
-
 -- the first fault of the lines behind the earlier ones
 abbrev pub first_fault : List ℕ → ℕ → List Line → List Line → Option BuildFault
 first_fault bytes room earlier [] = None
 first_fault bytes room earlier (line ∷ lines) =
-    or_fault (fault_at bytes room earlier line) (first_fault bytes room (earlier ++ line ∷ []) lines)
+    option_or (fault_at bytes room earlier line) (first_fault bytes room (earlier ++ line ∷ []) lines)
 
 -- the place of an instruction of module m at loc
 abbrev pub place_from : ℕ → ℕ → ℕ → Code → Place

@@ -1,10 +1,10 @@
 -- The instructions that are kept beside the places.
-use Rattle.std.specs.Prelude.{◌≡◌, ℕ, ◌+◌, ◌-◌, ◌*◌, ◌/◌, ◌%◌, ◌<◌, ◌≤◌, true, false, nat_lt, if◌then◌else◌, List, [], ◌∷◌, length, get_or, All}
+use Rattle.std.specs.Prelude.{◌≡◌, ℕ, ◌+◌, ◌-◌, ◌/◌, ◌%◌, ◌<◌, ◌≤◌, true, false, nat_lt, if◌then◌else◌, List, [], ◌∷◌, length, get_or, All}
 use Rattle.cov_base.specs.Memory.{Memory, ImageView, wrap, can_reach, half_at}
 use Rattle.module_area.specs.PlanView.{place_of}
 use Rattle.module_area.specs.declared.places.Place.{Place}
 use Rattle.s370_decode.specs.declared.code.Code.{Code}
-use Rattle.brk_table.specs.Build.{module_byte, module_code}
+use Rattle.brk_table.specs.Build.{module_code}
 use Rattle.brk_table.specs.Places.{TablesView, ArePlaces, IsIn}
 
 -- the whole instruction of a place of the module
@@ -26,10 +26,6 @@ pub record AreCodesOf (images : List ImageView) (places : List Place) (codes : L
 pub record AreCodes (images : List ImageView) (tables : TablesView) : Type 0 where
   pub places : ArePlaces tables.places
   pub codes : AreCodesOf images tables.places tables.codes
-
--- the halfword from byte i on of so many bytes of the module, 0 past these
-abbrev pub module_half : List ℕ → ℕ → ℕ → ℕ → ℕ
-module_half bytes loc len i = module_byte bytes loc len i * 256 + module_byte bytes loc len (i + 1)
 
 -- the halfword from byte i of the place on, 0 past the place
 abbrev pub later_half : Memory → List ℕ → Place → ℕ → ℕ

@@ -3,6 +3,7 @@ use Rattle.std.specs.Prelude.{◌≡◌, ◌≢◌, ◌⊎◌, ℕ, zero, suc, �
 use Rattle.std.specs.List.{list_any}
 use Rattle.cov_base.specs.Codes.{breakpoint, kind_of, length_of}
 use Rattle.cov_base.specs.Memory.{Memory, ImageView, can_reach, half_at}
+use Rattle.cov_base.specs.declared.limits.TheConstants.{PLACE_LIMIT}
 use Rattle.module_area.specs.PlanView.{place_of}
 use Rattle.module_area.specs.declared.places.Place.{Place}
 use Rattle.s370_decode.specs.declared.code.Code.{Code}
@@ -69,7 +70,7 @@ AreApart p q = (p.at + p.len ≤ q.at) ⊎ (q.at + q.len ≤ p.at)
 pub record ArePlaces (places : List Place) : Type 0 where
   pub each : All IsPlace places
   pub apart : AllPairs AreApart places
-  pub most : length places ≤ 65536
+  pub most : length places ≤ PLACE_LIMIT
 
 -- the byte is one of the first two of a place
 abbrev pub touches : List Place → ℕ → Bool

@@ -1,6 +1,7 @@
 -- The tables of a job's modules.
 use Rattle.std.specs.Prelude.{◌≡◌, ◌<◌, ◌≤◌, List, length, get_or, All, AllPairs}
 use Rattle.cov_base.specs.Memory.{ImageView}
+use Rattle.cov_base.specs.declared.limits.TheConstants.{PLACE_LIMIT}
 use Rattle.brk_table.specs.Places.{TableView, all_places}
 use Rattle.brk_table.specs.Build.{HasOwnPlaces}
 
@@ -15,4 +16,4 @@ pub record IsTableOf (images : List ImageView) (t : TableView) : Type 0 where
 pub record AreTables (images : List ImageView) (tables : List TableView) : Type 0 where
   pub of : All (IsTableOf images) tables
   pub rising : AllPairs (λ t u. t.«module» < u.«module») tables
-  pub most : length (all_places tables) ≤ 65536
+  pub most : length (all_places tables) ≤ PLACE_LIMIT

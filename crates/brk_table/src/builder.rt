@@ -1,7 +1,7 @@
 //! Makes the breakpoint table of a module's listing.
-ghost use Rattle.std.specs.Prelude.{◌≡◌, ◌+◌, ◌%◌, ◌≤◌, ◌⊎◌, Some, None, [], length, count_by, IfOk, IfErr, IsOk};
+ghost use Rattle.std.specs.Prelude.{◌≡◌, ◌+◌, ◌%◌, ◌≤◌, None, [], length, count_by, IfOk, IfErr, IsOk};
 ghost use Rattle.std.specs.List.{AllPass};
-ghost use Rattle.listing_reader.specs.Listing.{is_sound};
+ghost use Rattle.listing_reader.specs.Listing.{is_sound, IsTold};
 ghost use Rattle.brk_table.specs.Build.{first_fault, is_code, IsTable, HasOwnPlaces};
 
 use crate::fault::first_fault;
@@ -34,7 +34,7 @@ pub fn build(
     ensures places { IfOk result (λ t. length t.places ≡ count_by is_code lines.now) }
     ensures room { IfOk result (λ t. length t.places ≤ room) }
     ensures own { IfOk result (λ t. HasOwnPlaces «module» image.now t) }
-    ensures fault { IfErr result (λ e. (e ≡ BuildFault.NoMemory) ⊎ (first_fault image.now.bytes room [] lines.now ≡ Some e)) }
+    ensures fault { IfErr result (IsTold BuildFault.NoMemory (first_fault image.now.bytes room [] lines.now)) }
 {
     let bytes: &[u8] = &image.bytes;
     let mut cover: Vec<Option<u32>> = vec![in alloc; None; bytes.len()]?;

@@ -1,5 +1,5 @@
 //! The line that each byte of a module belongs to.
-ghost use Rattle.std.specs.Prelude.{◌≡◌, ℕ, ◌+◌, ◌<◌, ◌≤◌, ◌⊎◌, Some, None, length, get_or};
+ghost use Rattle.std.specs.Prelude.{◌≡◌, ℕ, ◌+◌, ◌<◌, ◌≤◌, Some, None, length, get_or};
 ghost use Rattle.brk_table.specs.Cover.{is_covered};
 
 /// Whether one of the bytes from a place on has a line.
@@ -20,7 +20,8 @@ pub fn is_covered(cover: &[Option<u32>], from: usize, len: usize) -> bool
 pub fn mark(cover: &mut [Option<u32>], from: usize, len: usize, line: u32)
     requires { from + len ≤ length cover.old }
     ensures inside { (k : ℕ) → from ≤ k → k < from + len → get_or cover.new k None ≡ Some line }
-    ensures outside { (k : ℕ) → (k < from) ⊎ (from + len ≤ k) → get_or cover.new k None ≡ get_or cover.old k None }
+    ensures before { (k : ℕ) → k < from → get_or cover.new k None ≡ get_or cover.old k None }
+    ensures behind { (k : ℕ) → from + len ≤ k → get_or cover.new k None ≡ get_or cover.old k None }
 {
     for k in 0..len {
         cover[from + k] = Some(line);

@@ -11,7 +11,7 @@ ghost use Rattle.cov_base.specs.declared.numbers.PlaceNo.{PlaceNo as Number};
 use crate::codes::codes_of;
 use crate::line_places::LinePlaces;
 use crate::map::{enter_all, entry_at};
-use cov_base::{Addr, NoMemory, PlaceNo};
+use cov_base::{Addr, NoMemory, PLACE_LIMIT, PlaceNo};
 use module_area::{Images, Place};
 use s370_decode::Code;
 use std::alloc::Global;
@@ -85,7 +85,7 @@ impl Table {
     /// The place of a listing line, counted from 1, where the table's first place has that number.
     fn place_after(&self, first: usize, line: u32) -> Option<PlaceNo>
         requires places { HasItsPlaces self.now }
-        requires fits { first + length self.now.places ≤ 65536 }
+        requires fits { first + length self.now.places ≤ PLACE_LIMIT }
         ensures { option_map (λ (p : Number). p.0) result ≡ option_map (λ i. first + i) (entry_of_line self.now.lines line) }
     {
         if line == 0 || line as usize > self.lines.len() {

@@ -13,9 +13,10 @@ use Rattle.job_gen.specs.declared.instruction.Instruction.{Instruction}
 use Rattle.job_gen.specs.declared.instruction.Operation.{Operation}
 use Rattle.job_gen.specs.declared.instruction.Operation.TheVariants.{La, Ar, Ltr, Bc, Lcr, St, Bct, Br}
 use Rattle.job_gen.specs.Code.{object, code_from}
-use Rattle.job_gen.specs.Listing.{name_of, second_group, groups, object_text, number_text, plain_line, lines_from, heading, listing_of}
+use Rattle.job_gen.specs.Listing.{name_of, groups, object_text, number_text, plain_line, lines_from, heading, listing_of}
 use Rattle.job_gen.specs.Trial.{task_name, trial_task, trial_session, trial_code, trial_module, trial_job}
 use Rattle.job_gen.proofs.CodeLemmas.{code_size, code_some}
+use Rattle.job_gen.proofs.LineLemmas.{second_group}
 
 short_name : (o : Operation) → length (name_of o) ≤ 3
 short_name La = omega arith

@@ -2,6 +2,7 @@
 use Rattle.std.proofs.Common.{◌≡◌, ℕ, zero, suc, ◌+◌, ◌-◌, ◌*◌, ◌/◌, ◌%◌, ◌^◌, ◌<◌, ◌≤◌, true, false, Option, Some, None, List, [], ◌∷◌, ◌++◌, length, get_or, drop, replicate, map, decimal, refl, sym, ap, ◌∙◌, subst, arith, add-one, append_assoc, length-append}
 use Rattle.std.specs.Prelude.{IfSome}
 use Rattle.std.specs.Char.{to_ascii_uppercase}
+use Rattle.std.specs.Option.{option_map_or}
 use Rattle.std.specs.Fmt.{digit_glyph}
 use Rattle.std.proofs.Math.Seq.{get_or-append_seam, drop-append-add}
 use Rattle.std.proofs.lemmas.Bool.Decides.{nat_tests}
@@ -10,7 +11,9 @@ use Rattle.std.proofs.lemmas.List.{length-replicate, get_or-drop}
 use Rattle.hex.specs.Hex.{hex_digit_value, is_hex_digit}
 use Rattle.annotator.specs.Digits.{hex_digits}
 use Rattle.cov_base.specs.Codes.{length_of}
-use Rattle.listing_lines.specs.Columns.{narrow, column}
+use Rattle.listing_lines.specs.declared.columns.Columns.{Columns}
+use Rattle.listing_lines.specs.declared.columns.Width.TheVariants.{Narrow}
+use Rattle.listing_lines.specs.Columns.{columns_of, column}
 use Rattle.listing_reader.specs.Fields.{all_below, fits_groups, are_blank, is_blank, is_blank_at, number_in, location_of, byte_in, code_in, are_groups, object_of, skip_blanks, run_of, has_mnemonic, is_instruction}
 use Rattle.listing_reader.specs.Listing.{line_of}
 use Rattle.listing_reader.proofs.Digits.{all_below_false, number_in_more, byte_in_two}
@@ -21,7 +24,14 @@ use Rattle.job_gen.specs.Code.{object}
 use Rattle.job_gen.specs.declared.instruction.Instruction.{Instruction}
 use Rattle.job_gen.specs.declared.instruction.Operation.{Operation}
 use Rattle.job_gen.specs.declared.instruction.Operation.TheVariants.{La, Ar, Ltr, Bc, Lcr, St, Bct, Br}
-use Rattle.job_gen.specs.Listing.{name_of, second_group, groups, object_text, number_text, plain_line}
+use Rattle.job_gen.specs.Listing.{name_of, groups, object_text, number_text, plain_line}
+
+abbrev pub narrow : Columns
+narrow = columns_of Narrow
+
+-- a blank and the second halfword's digits
+abbrev pub second_group : Option ℕ → List ℕ
+second_group second = option_map_or (λ half. 32 ∷ hex_digits 4 half) second []
 
 -- ---- hexadecimal digits
 

@@ -1,5 +1,5 @@
 -- The generated listing matches its module: it has a heading, each of its lines is one of an instruction, and none has a fault.
-use Rattle.std.proofs.Common.{◌≡◌, ◌≢◌, ℕ, zero, suc, ◌+◌, ◌*◌, ◌%◌, ◌<◌, ◌≤◌, true, false, nat_eq, nat_le, nat_lt, ◌==◌, Option, Some, None, List, [], ◌∷◌, ◌++◌, length, refl, sym, ap, ◌∙◌, subst, arith, append_assoc, length-append}
+use Rattle.std.proofs.Common.{◌≡◌, ◌≢◌, ℕ, zero, suc, ◌+◌, ◌*◌, ◌%◌, ◌<◌, ◌≤◌, true, false, nat_eq, nat_le, nat_lt, ◌==◌, Option, Some, None, List, [], ◌∷◌, ◌++◌, length, refl, sym, ap, ◌∙◌, subst, arith, append_assoc, append-nil, length-append}
 use Rattle.std.specs.Prelude.{slice_index, count_by}
 use Rattle.std.specs.List.{list_any}
 use Rattle.std.specs.Str.{bytes_eq}
@@ -8,10 +8,9 @@ use Rattle.std.proofs.lemmas.Bool.Decides.{nat_tests}
 use Rattle.std.proofs.lemmas.List.{get_or-append-add}
 use Rattle.std.proofs.lemmas.List.Sums.{count_by-le-length}
 use Rattle.cov_base.specs.Codes.{breakpoint, length_of}
-use Rattle.listing_lines.specs.Columns.{narrow}
 use Rattle.listing_lines.specs.declared.columns.Width.TheVariants.{Narrow}
 use Rattle.listing_lines.specs.Heading.{narrow_text, is_text_after, heading_of}
-use Rattle.listing_reader.specs.Listing.{line_of, lines_of}
+use Rattle.listing_reader.specs.Listing.{line_of, lines_behind}
 use Rattle.listing_reader.specs.Listing as reader
 use Rattle.listing_reader.specs.declared.lines.Line.{Line}
 use Rattle.listing_reader.specs.declared.lines.Line.TheVariants.{Text}
@@ -19,12 +18,14 @@ use Rattle.listing_reader.specs.declared.lines.Line.TheVariants as says
 use Rattle.brk_table.specs.Build.{is_code, shares, module_code, fault_by, first_fault}
 use Rattle.s370_decode.specs.Fields.{first_half}
 use Rattle.s370_decode.specs.declared.code.Code.{Code}
-use Rattle.job_gen.specs.Code.{object, la, ar, ltr, bc, lcr, st, bct, br, drawn, next, kind, block_of, block, bytes_of, code_from}
+use Rattle.job_gen.specs.Code.{object, short, long, test_block, drawn, next, kind, block_of, block, bytes_of, code_from}
 use Rattle.job_gen.specs.declared.instruction.Instruction.{Instruction}
+use Rattle.job_gen.specs.declared.instruction.Operation.{Operation}
+use Rattle.job_gen.specs.declared.instruction.Operation.TheVariants.{La, Ar, Ltr, Bc, Lcr, St, Bct, Br}
 use Rattle.job_gen.specs.Listing.{lines_from, heading, listing_of}
 use Rattle.job_gen.specs.Trial.{trial_code, trial_module}
 use Rattle.job_gen.proofs.CodeLemmas.{code_more, code_end, code_size, block_size}
-use Rattle.job_gen.proofs.LineLemmas.{IsSound, code_of, plain, halves, line_is}
+use Rattle.job_gen.proofs.LineLemmas.{IsSound, code_of, narrow, plain, halves, line_is}
 
 -- ---- the instructions
 
@@ -49,51 +50,29 @@ size_two : (first : ℕ) → 16384 ≤ first → first < 49152 → length_of fir
 unfolding length_of
 size_two first h k = grind (arith, nat_tests)
 
--- one halfword, and two
-free_one : (i : Instruction) → i.second ≡ None → i.first < 16384 → i.first ≢ breakpoint → IsFree i
-free_one i e h other = record { sound = record { first = omega arith; second = rw e tt; size = rw (e, size_one i.first h) refl }; free = other }
+free_one : (o : Operation) (first : ℕ) → first < 16384 → first ≢ breakpoint → IsFree (short o first)
+free_one o first h other = record { sound = record { first = omega arith; second = tt; size = rw (size_one first h) refl }; free = other }
 
-free_two : (i : Instruction) (half : ℕ) → i.second ≡ Some half → half < 65536 → 16384 ≤ i.first → i.first < 49152 → IsFree i
-free_two i half e small from to =
-    record { sound = record { first = omega arith; second = rw e small; size = rw (e, size_two i.first from to) refl }; free = λ q. absurd (omega (arith, q)) }
+free_two : (o : Operation) (first half : ℕ) → half < 65536 → 16384 ≤ first → first < 49152 → IsFree (long o first half)
+free_two o first half small from to =
+    record { sound = record { first = omega arith; second = small; size = rw (size_two first from to) refl }; free = λ q. absurd (omega (arith, q)) }
 
-free_la : (d : ℕ) → d < 16 → IsFree (la d)
-free_la d h = free_two (la d) (4096 + d) refl (omega arith) (omega arith) (omega arith)
-
-free_bc : (m t : ℕ) → m ≤ 14 → t < 4096 → IsFree (bc m t)
-free_bc m t h k = free_two (bc m t) (61440 + t) refl (omega arith) (omega arith) (omega arith)
-
-free_st : (d : ℕ) → d < 256 → IsFree (st d)
-free_st d h = free_two (st d) d refl (omega arith) (omega arith) (omega arith)
-
-free_ar : IsFree ar
-free_ar = free_one ar refl (omega arith) (λ q. absurd (omega (arith, q)))
-
-free_ltr : IsFree ltr
-free_ltr = free_one ltr refl (omega arith) (λ q. absurd (omega (arith, q)))
-
-free_lcr : IsFree lcr
-free_lcr = free_one lcr refl (omega arith) (λ q. absurd (omega (arith, q)))
-
-free_br : IsFree br
-free_br = free_one br refl (omega arith) (λ q. absurd (omega (arith, q)))
-
-free_bct : IsFree bct
-free_bct = free_two bct 61440 refl (omega arith) (omega arith) (omega arith)
+free_test : (m t : ℕ) → m ≤ 14 → t < 4096 → AreFree (test_block m t)
+free_test m t h k = (free_one Ltr 4642 (omega arith) (λ q. absurd (omega (arith, q))), (free_two Bc (18176 + 16 * m) (61440 + t) (omega arith) (omega arith) (omega arith), (free_one Lcr 4898 (omega arith) (λ q. absurd (omega (arith, q))), tt)))
 
 free_block_of : (n x at : ℕ) → at ≤ 4000 → AreFree (block_of n x at)
 free_block_of n x at h =
-    cond_both (nat_eq n 0) _ _ AreFree (λ _. (free_la (drawn x 16) (omega arith), tt))
-    (λ _. cond_both (nat_eq n 1) _ _ AreFree (λ _. (free_ar, tt))
-    (λ _. cond_both (nat_eq n 2) _ _ AreFree (λ _. (free_ltr, (free_bc (1 + drawn x 14) (at + 8) (omega arith) (omega arith), (free_lcr, tt))))
-    (λ _. (free_st (4 * drawn x 64) (omega arith), tt))))
+    cond_both (nat_eq n 0) _ _ AreFree (λ _. (free_two La 16656 (4096 + drawn x 16) (omega arith) (omega arith) (omega arith), tt))
+    (λ _. cond_both (nat_eq n 1) _ _ AreFree (λ _. (free_one Ar 6689 (omega arith) (λ q. absurd (omega (arith, q))), tt))
+    (λ _. cond_both (nat_eq n 2) _ _ AreFree (λ _. free_test (1 + drawn x 14) (at + 8) (omega arith) (omega arith))
+    (λ _. (free_two St 20512 (4 * drawn x 64) (omega arith) (omega arith) (omega arith), tt))))
 
 free_block : (x at : ℕ) → at ≤ 4000 → AreFree (block x at)
 unfolding block
 free_block x at h = free_block_of (kind x) (next (next x)) at h
 
 free_code : (n x at : ℕ) → at + 8 * n ≤ 4000 → AreFree (code_from n x at)
-free_code zero x at h = rw (code_end zero x at refl) (free_bct, (free_br, tt))
+free_code zero x at h = rw (code_end zero x at refl) (free_two Bct 17968 61440 (omega arith) (omega arith) (omega arith), (free_one Br 2046 (omega arith) (λ q. absurd (omega (arith, q))), tt))
 free_code (suc n) x at h =
     let size = (block_size x at).fits in
     rw (code_more (suc n) n x at (omega arith)) (free_append (block x at) _ (free_block x at (omega arith)) (free_code n _ _ (omega arith)))
@@ -104,11 +83,13 @@ abbrev code_lines : ℕ → List Instruction → List Line
 code_lines at [] = []
 code_lines at (i ∷ is) = says.Code at (code_of i) ∷ code_lines (at + length (object i)) is
 
-lines_are : (is : List Instruction) (at n : ℕ) → at + length (bytes_of is) ≤ 16777215 → n + length is ≤ 100000 → AreFree is → lines_of narrow 0 (lines_from at n is) ≡ Some (code_lines at is)
-lines_are [] at n h k p = refl
-lines_are (i ∷ is) at n h k p =
+lines_are : (earlier : List Line) (is : List Instruction) (at n : ℕ) → at + length (bytes_of is) ≤ 16777215 → n + length is ≤ 100000 → AreFree is → lines_behind earlier narrow 0 (lines_from at n is) ≡ Some (earlier ++ code_lines at is)
+lines_are earlier [] at n h k p = ap (λ ls. Some ls) (sym (append-nil earlier))
+lines_are earlier (i ∷ is) at n h k p =
     let size : length (bytes_of (i ∷ is)) ≡ length (object i) + length (bytes_of is) = length-append (object i) (bytes_of is) in
-    rw (line_is at n i (omega arith) (omega arith) p.0.sound, lines_are is (at + length (object i)) (n + 1) (omega arith) (omega arith) p.1) refl
+    let line : Line = says.Code at (code_of i) in
+    let later = lines_are (earlier ++ line ∷ []) is (at + length (object i)) (n + 1) (omega arith) (omega arith) p.1 in
+    rw (line_is at n i (omega arith) (omega arith) p.0.sound) (later ∙ ap (λ ls. Some ls) (append_assoc earlier (line ∷ []) (code_lines (at + length (object i)) is)))
 
 heading_is : is_text_after narrow_text heading 2 ≡ true
 unfolding is_text_after
@@ -121,7 +102,7 @@ heading_first lines =
 
 listing_is : (code : List Instruction) → length (bytes_of code) ≤ 16777215 → length code ≤ 2000 → AreFree code → reader.listing_of (listing_of code) ≡ Some (Text ∷ code_lines 0 code)
 unfolding listing_of
-listing_is code h k p = rw (heading_first (lines_from 0 1 code), lines_are code 0 1 (omega arith) (omega arith) p) refl
+listing_is code h k p = rw (heading_first (lines_from 0 1 code)) (lines_are (Text ∷ []) code 0 1 (omega arith) (omega arith) p)
 
 -- ---- the module
 

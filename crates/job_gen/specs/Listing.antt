@@ -1,5 +1,6 @@
 -- The listing of a generated module: a heading, and a line for each instruction.
-use Rattle.std.specs.Prelude.{ℕ, ◌+◌, ◌-◌, Option, Some, None, List, [], ◌∷◌, ◌++◌, length, replicate, codes, decimal}
+use Rattle.std.specs.Prelude.{ℕ, ◌+◌, ◌-◌, List, [], ◌∷◌, ◌++◌, length, replicate, codes, decimal}
+use Rattle.std.specs.Option.{option_map_or}
 use Rattle.annotator.specs.Digits.{hex_digits}
 use Rattle.job_gen.specs.Code.{object}
 use Rattle.job_gen.specs.declared.instruction.Instruction.{Instruction}
@@ -16,13 +17,9 @@ name_of St = codes "ST"
 name_of Bct = codes "BCT"
 name_of Br = codes "BR"
 
-abbrev pub second_group : Option ℕ → List ℕ
-second_group None = []
-second_group (Some half) = 32 ∷ hex_digits 4 half
-
 -- halfwords in four hexadecimal digits, parted by a blank
 unfoldable pub groups : Instruction → List ℕ
-groups i = hex_digits 4 i.first ++ second_group i.second
+groups i = hex_digits 4 i.first ++ option_map_or (λ half. 32 ∷ hex_digits 4 half) i.second []
 
 -- filled with blanks to 27 columns
 unfoldable pub object_text : Instruction → List ℕ

@@ -1,6 +1,6 @@
 //! The code of a generated module, drawn block by block.
-ghost use Rattle.std.specs.Prelude.{◌≡◌, ◌+◌, ◌*◌, ◌≤◌, ◌<◌, ◌++◌, ◌∷◌, [], length, IfOk};
-ghost use Rattle.job_gen.specs.Code.{next, drawn, ltr, bc, lcr, block, after_block, bytes_of, code_from};
+ghost use Rattle.std.specs.Prelude.{◌≡◌, ◌+◌, ◌*◌, ◌≤◌, ◌<◌, ◌++◌, length, IfOk};
+ghost use Rattle.job_gen.specs.Code.{next, drawn, test_block, block, after_block, bytes_of, code_from};
 
 use crate::instruction::{Instruction, Operation};
 use cov_base::NoMemory;
@@ -30,7 +30,7 @@ impl Draws {
 fn put_test(code: &mut Vec<Instruction>, mask: u16, behind: u16) -> Result<(), NoMemory>
     requires mask { mask ≤ 15 }
     requires behind { behind ≤ 4008 }
-    ensures { IfOk result (λ _. code.new.items ≡ code.old.items ++ ltr ∷ bc mask behind ∷ lcr ∷ []) }
+    ensures { IfOk result (λ _. code.new.items ≡ code.old.items ++ test_block mask behind) }
 {
     code.push(Instruction {
         operation: Operation::Ltr,

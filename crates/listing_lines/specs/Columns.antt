@@ -4,17 +4,10 @@ use Rattle.listing_lines.specs.declared.columns.Columns.{Columns}
 use Rattle.listing_lines.specs.declared.columns.Width.{Width}
 use Rattle.listing_lines.specs.declared.columns.Width.TheVariants.{Narrow, Wide}
 
--- a listing of 121 columns
-abbrev pub narrow : Columns
-narrow = record { location = 1; digits = 6; object = 8; room = 14; source = 41 }
-
--- a listing whose locations have eight digits
-abbrev pub wide : Columns
-wide = record { location = 1; digits = 8; object = 10; room = 16; source = 51 }
-
+-- a listing of 121 columns, and one whose locations have eight digits
 abbrev pub columns_of : Width → Columns
-columns_of Narrow = narrow
-columns_of Wide = wide
+columns_of Narrow = record { location = 1; digits = 6; object = 8; room = 14; source = 41 }
+columns_of Wide = record { location = 1; digits = 8; object = 10; room = 16; source = 51 }
 
 -- columns count from 1, and a location fits 32 bits
 pub record AreColumns (c : Columns) : Type 0 where

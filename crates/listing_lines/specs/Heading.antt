@@ -1,5 +1,5 @@
 -- The heading line, and the shift and the width that it tells.
-use Rattle.std.specs.Prelude.{ℕ, ◌+◌, Bool, ◌&&◌, ◌||◌, nat_le, if◌then◌else◌, Option, Some, None, List, [], length, slice_range, slice_index_or, position, codes, map}
+use Rattle.std.specs.Prelude.{ℕ, ◌+◌, Bool, ◌&&◌, ◌||◌, nat_le, if◌then◌else◌, Option, option_map, List, [], length, slice_range, slice_index_or, position, codes, map}
 use Rattle.std.specs.Str.{bytes_eq}
 use Rattle.std.specs.Char.{to_ascii_lowercase}
 use Rattle.listing_lines.specs.declared.columns.Width.{Width}
@@ -32,10 +32,6 @@ shift_in line = if is_text_after narrow_text line 2 || is_text_after wide_text l
 abbrev pub width_in : List ℕ → Width
 width_in line = if has_heading narrow_text line then Narrow else Wide
 
-abbrev pub heading_at : List (List ℕ) → Option ℕ → Option (ℕ × ℕ × Width)
-heading_at lines None = None
-heading_at lines (Some i) = Some (i, shift_in (slice_index_or lines i []), width_in (slice_index_or lines i []))
-
 -- the index of the first heading line, its shift and its width
 abbrev pub heading_of : List (List ℕ) → Option (ℕ × ℕ × Width)
-heading_of lines = heading_at lines (position is_heading lines)
+heading_of lines = option_map (λ (i : ℕ). (i, shift_in (slice_index_or lines i []), width_in (slice_index_or lines i []))) (position is_heading lines)

@@ -1,10 +1,12 @@
 -- Tests and digits of several columns.
 use Rattle.std.proofs.Common.{◌≡◌, ℕ, ◌+◌, ◌*◌, ◌^◌, ◌/◌, ◌%◌, ◌⊎◌, inl, inr, unwrap_or, ◌<◌, ◌≤◌, zero, suc, Bool, true, false, ◌&&◌, Option, Some, None, List, refl, add-one, arith}
 use Rattle.std.proofs.Common.{add-zero}
+use Rattle.std.specs.Prelude.{option_map}
+use Rattle.std.specs.Option.{option_and_then}
 use Rattle.hex.specs.Hex.{hex_digit_value}
 use Rattle.listing_lines.specs.declared.columns.Columns.{Columns}
 use Rattle.listing_lines.specs.Columns.{column}
-use Rattle.listing_reader.specs.Fields.{all_below, with_digit, number_in, byte_in}
+use Rattle.listing_reader.specs.Fields.{all_below, number_in, byte_in}
 
 and_false : (b : Bool) → (b && false) ≡ false
 and_false true = refl
@@ -28,6 +30,10 @@ all_below_false test (suc m) k t h = elim (at_or_below k m h) [
   where
     at_or_below : (k m : ℕ) → k < suc m → (k ≡ m) ⊎ (k < m)
     at_or_below k m h = grind arith
+
+-- the number with a digit more
+abbrev pub with_digit : Option ℕ → Option ℕ → Option ℕ
+with_digit n d = option_and_then (λ v. option_map (λ k. 16 * v + k) d) n
 
 no_digit : (n : Option ℕ) → with_digit n None ≡ None
 no_digit None = refl

@@ -1,6 +1,7 @@
 -- The fields of a listing line by its columns (High Level Assembler, the source and object section).
-use Rattle.std.specs.Prelude.{ℕ, zero, suc, ◌+◌, ◌-◌, ◌*◌, ◌/◌, ◌%◌, ◌==◌, Bool, true, ◌&&◌, not, nat_lt, if◌then◌else◌, Option, Some, None, is_some, List, [], ◌∷◌, take, drop, map, unwrap_or}
-use Rattle.std.specs.List.{position_or_len}
+use Rattle.std.specs.Prelude.{ℕ, zero, suc, ◌+◌, ◌-◌, ◌*◌, ◌/◌, ◌%◌, ◌==◌, Bool, true, ◌&&◌, not, nat_lt, if◌then◌else◌, Option, Some, None, is_some, option_map, List, take, drop, map, unwrap_or}
+use Rattle.std.specs.List.{position_or_len, range_with_len}
+use Rattle.std.specs.Option.{option_and_then, option_or}
 use Rattle.std.specs.Char.{to_ascii_uppercase}
 use Rattle.hex.specs.Hex.{hex_digit_value, is_hex_digit}
 use Rattle.cov_base.specs.Codes.{length_of}
@@ -25,15 +26,10 @@ is_blank_at line shift n = is_blank (column line shift n)
 unfoldable pub are_blank : List ℕ → ℕ → ℕ → ℕ → Bool
 are_blank line shift from count = all_below (λ k. is_blank_at line shift (from + k)) count
 
-abbrev pub with_digit : Option ℕ → Option ℕ → Option ℕ
-with_digit None d = None
-with_digit (Some n) None = None
-with_digit (Some n) (Some d) = Some (16 * n + d)
-
 -- the number that so many hexadecimal digits spell from a column on
 unfoldable pub number_in : List ℕ → ℕ → ℕ → ℕ → Option ℕ
 number_in line shift from zero = Some 0
-number_in line shift from (suc n) = with_digit (number_in line shift from n) (hex_digit_value (column line shift (from + n)))
+number_in line shift from (suc n) = option_and_then (λ v. option_map (λ d. 16 * v + d) (hex_digit_value (column line shift (from + n)))) (number_in line shift from n)
 
 -- the k-th column of so many groups of four hexadecimal digits, which are parted by one blank and followed by blanks
 abbrev pub fits_groups : List ℕ → ℕ → ℕ → ℕ → ℕ → Bool
@@ -51,12 +47,7 @@ abbrev pub byte_of : Columns → List ℕ → ℕ → ℕ → ℕ → ℕ
 byte_of c line shift groups i = if nat_lt i (2 * groups) then byte_in c line shift i else 0
 
 unfoldable pub code_in : Columns → List ℕ → ℕ → ℕ → Code
-code_in c line shift groups = record {
-  at = 0;
-  bytes = byte_of c line shift groups 0 ∷ byte_of c line shift groups 1 ∷ byte_of c line shift groups 2 ∷
-      byte_of c line shift groups 3 ∷ byte_of c line shift groups 4 ∷ byte_of c line shift groups 5 ∷ [];
-  len = 2 * groups;
-}
+code_in c line shift groups = record { at = 0; bytes = map (byte_of c line shift groups) (range_with_len 0 6); len = 2 * groups }
 
 -- the object code, where it has so many groups and its first byte gives this length
 abbrev pub code_with : Columns → List ℕ → ℕ → ℕ → Option Code
@@ -64,13 +55,9 @@ code_with c line shift groups =
     if are_groups c line shift groups && length_of (first_half (code_in c line shift groups)) == 2 * groups
     then Some (code_in c line shift groups) else None
 
-abbrev pub or_code : Option Code → Option Code → Option Code
-or_code None q = q
-or_code (Some code) q = Some code
-
 -- the object code of one to three groups
 unfoldable pub object_of : Columns → List ℕ → ℕ → Option Code
-object_of c line shift = or_code (code_with c line shift 1) (or_code (code_with c line shift 2) (code_with c line shift 3))
+object_of c line shift = option_or (code_with c line shift 1) (option_or (code_with c line shift 2) (code_with c line shift 3))
 
 -- what follows the blanks in front, and the run of other bytes in front
 abbrev pub skip_blanks : List ℕ → List ℕ

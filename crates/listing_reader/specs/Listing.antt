@@ -1,5 +1,6 @@
 -- What a listing says, line by line, and its first fault.
-use Rattle.std.specs.Prelude.{ℕ, ◌+◌, ◌==◌, Bool, true, if◌then◌else◌, Option, Some, None, is_none, option_map, unwrap_or, List, [], ◌∷◌, ◌++◌, drop, replicate, position}
+use Rattle.std.specs.Option.{option_and_then, option_map_or}
+use Rattle.std.specs.Prelude.{◌≡◌, ◌⊎◌, ℕ, ◌+◌, ◌==◌, Bool, true, if◌then◌else◌, Option, Some, is_none, option_map, unwrap_or, List, [], ◌∷◌, ◌++◌, drop, replicate, position}
 use Rattle.cov_base.specs.Codes.{length_of}
 use Rattle.s370_decode.specs.Fields.{first_half}
 use Rattle.listing_lines.specs.declared.columns.Columns.{Columns}
@@ -24,31 +25,23 @@ line_of c shift line =
     if is_instruction c line shift then option_map (λ code. says.Code (unwrap_or (location_of c line shift) 0) code) (object_of c line shift)
     else Some Text
 
-abbrev pub add_line : Option Line → Option (List Line) → Option (List Line)
-add_line None rest = None
-add_line (Some line) None = None
-add_line (Some line) (Some rest) = Some (line ∷ rest)
-
--- the lines behind the heading
-abbrev pub lines_of : Columns → ℕ → List (List ℕ) → Option (List Line)
-lines_of c shift [] = Some []
-lines_of c shift (line ∷ lines) = add_line (line_of c shift line) (lines_of c shift lines)
-
-abbrev pub is_bad : Columns → ℕ → List ℕ → Bool
-is_bad c shift line = is_none (line_of c shift line)
-
-abbrev pub listing_by : List (List ℕ) → Option (ℕ × ℕ × Width) → Option (List Line)
-listing_by lines None = None
-listing_by lines (Some (i, shift, width)) = option_map (λ rest. replicate (i + 1) Text ++ rest) (lines_of (columns_of width) shift (drop (i + 1) lines))
+-- what the lines behind the heading say, behind what the earlier ones do; none where one is bad
+abbrev pub lines_behind : List Line → Columns → ℕ → List (List ℕ) → Option (List Line)
+lines_behind earlier c shift [] = Some earlier
+lines_behind earlier c shift (line ∷ lines) = option_and_then (λ (says : Line). lines_behind (earlier ++ says ∷ []) c shift lines) (line_of c shift line)
 
 -- The whole listing: the first heading line and all before it are text. None where there is no heading or a line is bad.
 abbrev pub listing_of : List (List ℕ) → Option (List Line)
-listing_of lines = listing_by lines (heading_of lines)
+listing_of lines = option_and_then (λ (h : ℕ × ℕ × Width). lines_behind (replicate (h.0 + 1) Text) (columns_of h.2) h.1 (drop (h.0 + 1) lines)) (heading_of lines)
 
-abbrev pub fault_by : List (List ℕ) → Option (ℕ × ℕ × Width) → Option ListFault
-fault_by lines None = Some NoHeading
-fault_by lines (Some (i, shift, width)) = option_map (λ k. BadObject (i + 2 + k)) (position (is_bad (columns_of width) shift) (drop (i + 1) lines))
+-- the first bad one of the lines, of which the first has the number n
+abbrev pub bad_from : Columns → ℕ → ℕ → List (List ℕ) → Option ListFault
+bad_from c shift n lines = option_map (λ k. BadObject (n + k)) (position (λ line. is_none (line_of c shift line)) lines)
 
 -- its first fault: no heading, or the first bad line, counted from 1
 abbrev pub fault_of : List (List ℕ) → Option ListFault
-fault_of lines = fault_by lines (heading_of lines)
+fault_of lines = option_map_or (λ (h : ℕ × ℕ × Width). bad_from (columns_of h.2) h.1 (h.0 + 2) (drop (h.0 + 1) lines)) (heading_of lines) (Some NoHeading)
+
+-- what is told of a fault: it, or want of memory
+abbrev pub IsTold : {E : Type 0} → E → Option E → E → Type 0
+IsTold shortage fault e = (e ≡ shortage) ⊎ (fault ≡ Some e)

@@ -1,10 +1,10 @@
 //! Reads a whole listing.
-ghost use Rattle.std.specs.Prelude.{◌≡◌, ◌+◌, ◌≤◌, ◌<◌, ◌++◌, ◌⊎◌, length, Option, IfOk, IfErr, OnOk, option_map, replicate, position, drop, IfSome, true};
+ghost use Rattle.std.specs.Prelude.{◌≡◌, ◌+◌, ◌≤◌, ◌<◌, length, Option, IfOk, IfErr, OnOk, replicate, drop, IfSome, true};
 ghost use Rattle.std.specs.declared.option.Option.TheVariants.{Some, None};
 ghost use Rattle.std.specs.List.{AllPass};
 ghost use Rattle.listing_lines.specs.Columns.{AreColumns};
 ghost use Rattle.listing_reader.specs.Fields.{location_of, is_instruction};
-ghost use Rattle.listing_reader.specs.Listing.{is_sound, line_of, is_bad, lines_of, listing_of, fault_of};
+ghost use Rattle.listing_reader.specs.Listing.{is_sound, line_of, lines_behind, bad_from, listing_of, fault_of, IsTold};
 
 use crate::fields::{are_blank, is_blank_at, number_in};
 use crate::lines::{Line, ListFault};
@@ -68,10 +68,10 @@ fn read_later(
     requires columns { AreColumns columns }
     requires count { length lines.now ≤ INPUT_LIMIT }
     requires within { from ≤ length lines.now }
-    ensures lines { OnOk result (option_map (λ rest. read.old ++ rest) (lines_of columns shift (drop from lines.now)) ≡ Some read.new) }
+    ensures lines { OnOk result (lines_behind read.old columns shift (drop from lines.now) ≡ Some read.new) }
     ensures count { OnOk result (length read.new + from ≡ length read.old + length lines.now) }
     ensures sound { AllPass is_sound read.old → AllPass is_sound read.new }
-    ensures fault { IfErr result (λ e. (e ≡ ListFault.NoMemory) ⊎ (option_map (λ k. ListFault.BadObject (from + 1 + k)) (position (is_bad columns shift) (drop from lines.now)) ≡ Some e)) }
+    ensures fault { IfErr result (IsTold ListFault.NoMemory (bad_from columns shift (from + 1) (drop from lines.now))) }
 {
     for i in from..lines.len() {
         match read_line(lines.line(i), shift, columns) {
@@ -105,7 +105,7 @@ pub fn read_listing(alloc: Global, lines: &ListingLines) -> Result<Listing, List
     ensures listing { IfOk result (λ v. listing_of lines.now ≡ Some v) }
     ensures count { IfOk result (λ v. length v ≡ length lines.now) }
     ensures sound { IfOk result (λ v. AllPass is_sound v) }
-    ensures fault { IfErr result (λ e. (e ≡ ListFault.NoMemory) ⊎ (fault_of lines.now ≡ Some e)) }
+    ensures fault { IfErr result (IsTold ListFault.NoMemory (fault_of lines.now)) }
 {
     match heading_of(lines) {
         None => Err(ListFault::NoHeading),

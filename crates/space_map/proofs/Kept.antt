@@ -10,12 +10,16 @@ use Rattle.module_area.specs.PlanView.{no_place, place_of}
 use Rattle.module_area.specs.Images.{AreImages}
 use Rattle.brk_table.specs.Places.{TablesView, IsPlace, ArePlaces, IsIn, touches, memory_of}
 use Rattle.brk_table.specs.Build.{module_byte, module_code}
-use Rattle.brk_table.specs.Kept.{code_in, code_by, module_half, later_half, IsCodeOf, AreCodes, IsKept, AreKept}
+use Rattle.brk_table.specs.Kept.{code_in, code_by, later_half, IsCodeOf, AreCodes, IsKept, AreKept}
 use Rattle.brk_table.proofs.PlaceLemmas.{length_of-least}
 use Rattle.brk_table.proofs.TouchLemmas.{not_touched}
 use Rattle.space_map.proofs.Ranges.{reach_image}
 use Rattle.space_map.proofs.Seen.{byte_at-image, image_byte-of, is_image-of}
 use Rattle.space_map.proofs.Touches.{base_from}
+
+-- the halfword from byte i on of so many bytes of the module, 0 past these
+abbrev module_half : List ℕ → ℕ → ℕ → ℕ → ℕ
+module_half bytes loc len i = module_byte bytes loc len i * 256 + module_byte bytes loc len (i + 1)
 
 even_length : (h : ℕ) → length_of h % 2 ≡ 0
 unfolding length_of

@@ -28,7 +28,7 @@ loop-i-preserved c = elim c.match-line.branch [
       let below : c.loop-i.i < length c.args.lines.now = omega (arith, c.len-i-end.ensures) in
       let is : get_or c.args.lines.now c.loop-i.i Text ≡ says.Code w.in-Code.loc w.in-Code.code = sym c.line.ensures ∙ w.in-Code.is in
       let passed = code_passed c.args.bytes.now c.args.room c.args.lines.now c.loop-i.i c.loop-i.cover w.mark.new.cover c.loop-i.before w.in-Code.loc w.in-Code.code c.loop-i.invariant.at below c.requires.sound is
-      (sym w.fault_by.ensures ∙ w.in_default-fault_by.is) w.mark.auto.cover w.mark.ensures.inside w.mark.ensures.outside in
+      (sym w.fault_by.ensures ∙ w.in_default-fault_by.is) w.mark.auto.cover w.mark.ensures.inside w.mark.ensures.before w.mark.ensures.behind in
       record { at = rw (w.cover-is, w.before-is) passed; low = omega arith })
   | in_default w ↦ (
       let below : c.loop-i.i < length c.args.lines.now = omega (arith, c.len-i-end.ensures) in
