@@ -1,7 +1,9 @@
 //! The bytes that private storage begins with.
-ghost use Rattle.std.specs.Prelude.{◌≡◌, ◌+◌, ◌/◌, ◌%◌, ◌≤◌, ◌<◌, length, All, IfOk, slice_set};
+ghost use Rattle.std.specs.Prelude.{◌≡◌, ◌+◌, ◌≤◌, length, All, IfOk};
+ghost use Rattle.s370_state.specs.Words.{store_number};
 ghost use Rattle.module_area.specs.Views.{with_card, first_bytes};
 
+use cov_base::PRIVATE_LIMIT;
 use module_area::DataCard;
 use std::alloc::{AllocError, Global};
 
@@ -32,8 +34,9 @@ pub fn first_bytes(alloc: Global, size: u32, cards: &[DataCard]) -> Result<Vec<u
 #[inline(always)]
 #[tactic(auto, using(crate::proofs::SpaceLemmas::set_length))]
 pub fn put_bytes(bytes: &mut [u8], a: usize, value: u32)
-    requires { a + 4 ≤ length bytes.old }
-    ensures value { bytes.new ≡ slice_set (slice_set (slice_set (slice_set bytes.old (a + 3) (value % 256)) (a + 2) (value / 256 % 256)) (a + 1) (value / 65536 % 256)) a (value / 16777216) }
+    requires inside { a + 4 ≤ length bytes.old }
+    requires most { length bytes.old ≤ PRIVATE_LIMIT }
+    ensures value { bytes.new ≡ store_number bytes.old a 4 value }
     ensures filled { length bytes.new ≡ length bytes.old }
 {
     bytes[a + 3] = (value % 256) as u8;

@@ -1,6 +1,6 @@
 //! A task's space.
 ghost use Rattle.std.specs.Prelude.{◌≡◌, ◌+◌, ◌*◌, Some, None, if◌then◌else◌, ◌<◌, ◌≤◌, length, All, IfOk, IsTrue, true, refl};
-ghost use Rattle.cov_base.specs.Memory.{wrap, byte_at, half_at, is_accessible, can_reach, can_store, first_touch};
+ghost use Rattle.cov_base.specs.Memory.{wrap, byte_at, is_accessible, can_reach, can_store, first_touch};
 ghost use Rattle.cov_base.specs.declared.limits.TheConstants.{PRIVATE_LIMIT};
 ghost use Rattle.s370_state.specs.Answers.{reach_answer};
 ghost use Rattle.s370_state.specs.Words.{number_at};
@@ -8,7 +8,7 @@ ghost use Rattle.module_area.specs.Images.{AreImages};
 ghost use Rattle.brk_table.specs.Kept.{AreCodes, AreKept};
 ghost use Rattle.brk_table.specs.Places.{memory_of, IsIn, AreSeen};
 ghost use Rattle.module_area.specs.Views.{first_bytes};
-ghost use Rattle.space_map.specs.Space.{row_of, memory_of_space};
+ghost use Rattle.space_map.specs.Space.{row_of, memory_of_space, half_in_space};
 
 use crate::bytes::{first_bytes, put_bytes};
 use crate::images::{image_byte, image_half, is_image, is_in_one_image};
@@ -152,7 +152,7 @@ impl<'a> TaskSpace<'a> {
     #[inline(never)]
     #[tactic(auto, using(s370_state::proofs::Ranges::reach_two, s370_state::proofs::Ranges::answer_ok))]
     fn half_by_bytes(&self, at: Addr) -> Option<u16>
-        ensures { result ≡ (if can_reach (memory_of_space self.now) at 2 then Some (half_at (memory_of_space self.now) self.now.bytes at) else None) }
+        ensures { result ≡ (if can_reach (memory_of_space self.now) at 2 then Some (half_in_space self.now at) else None) }
     {
         match self.can_reach(at, 2) {
             Ok(()) => Some(
