@@ -16,9 +16,11 @@ use Rattle.marks_file.specs.declared.marks.MarkedPlace.{MarkedPlace}
 use Rattle.marks_file.proofs.MarksLemmas.{same_bytes}
 use Rattle.session_book.specs.JobView.{JobView}
 use Rattle.session_book.specs.Sessions.{module_of}
-use Rattle.session_marks.specs.Marked.{marked_place, marked_places, marked_module}
+use Rattle.session_marks.specs.Marked.{marked_place, marked_module}
+use Rattle.session_marks.proofs.PlaceLemmas.{marked_places}
 use Rattle.evidence_check.specs.Claims.{facts_of_places, facts_of_modules, Claim, agrees, past, past_place, past_places, place_claims, places_claims, modules_claims, first_refuted}
-use Rattle.evidence_check.specs.Evidence.{entry_bytes, fact_bytes, place_entries, places_entries, module_entries}
+use Rattle.evidence_check.specs.Evidence.{entry_bytes, fact_bytes, place_entries, module_entries}
+use Rattle.evidence_check.proofs.EntryLemmas.{places_entries}
 use Rattle.evidence_check.specs.declared.firsts.First.{First}
 use Rattle.evidence_check.proofs.FieldLemmas.{AreEntries, entry_written}
 use Rattle.evidence_check.proofs.VisitLemmas.{IsFirst}

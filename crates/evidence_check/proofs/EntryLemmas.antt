@@ -1,17 +1,21 @@
 -- The entries of places one after another.
 use Rattle.std.proofs.Common.{◌≡◌, ℕ, zero, suc, ◌+◌, ◌-◌, ◌<◌, ◌≤◌, Option, List, [], ◌∷◌, ◌++◌, length, refl, ◌∙◌, ap, arith}
-use Rattle.std.specs.List.{flat_map}
+use Rattle.std.specs.List.{flat_map, range_with_len}
 use Rattle.cov_base.specs.declared.facts.Fact.{Fact}
 use Rattle.cov_base.specs.declared.facts.Fact.TheVariants.{Ran, Went, Stayed}
 use Rattle.brk_table.specs.Places.{TablesView, all_places, first_place, place_count}
 use Rattle.session_book.specs.JobView.{JobView}
 use Rattle.session_book.specs.Sessions.{session_of}
 use Rattle.session_marks.proofs.FillLemmas.{range_most}
-use Rattle.evidence_check.specs.Evidence.{magic, place_entries, places_entries, module_entries, evidence}
+use Rattle.evidence_check.specs.Evidence.{magic, place_entries, module_entries, evidence}
 use Rattle.evidence_check.specs.Firsts.{phase_first, session_first}
 use Rattle.evidence_check.specs.Found.{found_at, AreFirsts}
 use Rattle.evidence_check.specs.declared.firsts.First.{First}
 use Rattle.evidence_check.specs.declared.firsts.Found.{Found}
+
+-- of so many places, of which the first has number n
+abbrev pub places_entries : (ℕ → Fact → Option First) → ℕ → ℕ → List ℕ
+places_entries firsts n count = flat_map (λ k. place_entries (firsts k)) (range_with_len n count)
 
 left : (past n : ℕ) → n < past → past - n ≡ suc (past - (n + 1))
 left past n lt = omega arith

@@ -12,7 +12,8 @@ use Rattle.module_area.specs.PlanView.{place_of}
 use Rattle.module_area.specs.declared.places.Place.{Place}
 use Rattle.session_book.specs.JobView.{JobView, TaskView}
 use Rattle.session_book.specs.Sessions.{session_of, traces_from}
-use Rattle.evidence_check.specs.Firsts.{trace_of, shows, first_of, first_in, first_from, session_first, session_facts}
+use Rattle.evidence_check.specs.Firsts.{trace_of, shows, first_in, first_from, session_first, session_facts}
+use Rattle.evidence_check.specs.Noting.{first_of}
 use Rattle.evidence_check.specs.declared.firsts.First.{First}
 
 has_none : (f : Fact) → has_fact no_facts f ≡ false

@@ -25,7 +25,8 @@ use Rattle.module_area.specs.declared.places.Place.{Place}
 use Rattle.brk_table.specs.Places.{memory_of}
 use Rattle.session_book.specs.JobView.{JobView, TaskView, IsJob}
 use Rattle.session_book.specs.Sessions.{task_of, session_of, first_state, no_task}
-use Rattle.evidence_check.specs.Firsts.{trace_of, shows, first_of, first_in, first_from, session_first}
+use Rattle.evidence_check.specs.Firsts.{trace_of, shows, first_in, first_from, session_first}
+use Rattle.evidence_check.specs.Noting.{first_of}
 use Rattle.evidence_check.specs.declared.firsts.First.{First}
 use Rattle.std.proofs.lemmas.Bool.{cases_lt}
 use Rattle.std.proofs.Math.ListN.{get_or-eq_default}

@@ -47,14 +47,11 @@ abbrev pub past_places : List MarkedPlace → List ℕ → List ℕ
 past_places [] bs = bs
 past_places (p ∷ ps) bs = past_places ps (past_place p.set bs)
 
-abbrev pub claim : ℕ → Fact → Bool → Claim
-claim row f good = record { row = row; fact = f; good = good }
-
 abbrev pub place_claims : ℕ → FactSet → (Fact → Option First) → List ℕ → List Claim
 place_claims row set firsts bs =
-    claim row Ran (agrees set.ran (firsts Ran) bs)
-    ∷ claim row Went (agrees set.went (firsts Went) (past set.ran bs))
-    ∷ claim row Stayed (agrees set.stayed (firsts Stayed) (past set.went (past set.ran bs)))
+    record { row = row; fact = Ran; good = agrees set.ran (firsts Ran) bs }
+    ∷ record { row = row; fact = Went; good = agrees set.went (firsts Went) (past set.ran bs) }
+    ∷ record { row = row; fact = Stayed; good = agrees set.stayed (firsts Stayed) (past set.went (past set.ran bs)) }
     ∷ []
 
 -- of places, the first of which has this row and number n

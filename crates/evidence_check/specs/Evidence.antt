@@ -1,6 +1,6 @@
 -- The evidence of a session's facts, as bytes. All numbers are big-endian.
-use Rattle.std.specs.Prelude.{ℕ, zero, suc, ◌+◌, if◌then◌else◌, Option, Some, None, List, [], ◌∷◌, ◌++◌, codes}
-use Rattle.std.specs.List.{flat_map}
+use Rattle.std.specs.Prelude.{ℕ, if◌then◌else◌, Option, Some, None, List, [], ◌∷◌, ◌++◌, codes}
+use Rattle.std.specs.List.{flat_map, range_with_len}
 use Rattle.byteorder.specs.Endian.{big_bytes}
 use Rattle.cov_base.specs.declared.facts.Fact.{Fact}
 use Rattle.cov_base.specs.declared.facts.Fact.TheVariants.{Ran, Went, Stayed}
@@ -27,14 +27,9 @@ fact_bytes (Some v) = entry_bytes v
 abbrev pub place_entries : (Fact → Option First) → List ℕ
 place_entries firsts = fact_bytes (firsts Ran) ++ (fact_bytes (firsts Went) ++ fact_bytes (firsts Stayed))
 
--- of so many places, of which the first has number n
-abbrev pub places_entries : (ℕ → Fact → Option First) → ℕ → ℕ → List ℕ
-places_entries firsts n zero = []
-places_entries firsts n (suc count) = place_entries (firsts n) ++ places_entries firsts (n + 1) count
-
 -- of module m's places
 abbrev pub module_entries : TablesView → (ℕ → Fact → Option First) → ℕ → List ℕ
-module_entries tables firsts m = places_entries firsts (first_place tables.tables m) (place_count tables.tables m)
+module_entries tables firsts m = flat_map (λ n. place_entries (firsts n)) (range_with_len (first_place tables.tables m) (place_count tables.tables m))
 
 -- of all places of the session's marks, in the order of its marks files, the first visits that show their facts
 abbrev pub evidence : JobView → TablesView → ℕ → List ℕ

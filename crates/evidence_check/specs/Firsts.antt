@@ -23,12 +23,9 @@ trace_of j places t = (solo_run (memory_of (task_of j t).private j.images places
 abbrev pub shows : Place → Fact → Visit → Bool
 shows place f v = executes place v && same_fact (fact_of place.kind v.went) f
 
-abbrev pub first_of : ℕ → Visit → First
-first_of t v = record { task = t; before = v.before; subject = v.subject }
-
 -- the first of task t's visits that shows it
 abbrev pub first_in : Place → Fact → ℕ → List Visit → Option First
-first_in place f t visits = option_map (first_of t) (find (shows place f) visits)
+first_in place f t visits = option_map (λ v. record { task = t; before = v.before; subject = v.subject }) (find (shows place f) visits)
 
 -- of the phase's tasks, of which the first here has index n, the first that shows it
 abbrev pub first_from : ℕ → List TaskView → ℕ → (ℕ → List Visit) → Place → Fact → Option First

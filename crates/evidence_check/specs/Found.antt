@@ -1,6 +1,7 @@
 -- The first visits that were found so far.
-use Rattle.std.specs.Prelude.{◌≡◌, ℕ, ◌<◌, Option, None, List, length, get_or}
+use Rattle.std.specs.Prelude.{◌≡◌, ℕ, ◌<◌, if◌then◌else◌, Option, Some, None, List, length, get_or}
 use Rattle.std.specs.Option.{option_or}
+use Rattle.cov_base.specs.Facts.{same_fact}
 use Rattle.cov_base.specs.States.{Visit}
 use Rattle.cov_base.specs.declared.facts.Fact.{Fact}
 use Rattle.cov_base.specs.declared.facts.Fact.TheVariants.{Ran, Went, Stayed}
@@ -21,6 +22,10 @@ none_found = record { ran = None; went = None; stayed = None }
 
 abbrev pub found_at : List Found → ℕ → Fact → Option First
 found_at found n f = found_of (get_or found n none_found) f
+
+-- from old to new a visit that shows this fact was noted
+abbrev pub NotesOne : Fact → First → (Fact → Option First) → (Fact → Option First) → Type 0
+NotesOne f first old new = (g : Fact) → new g ≡ option_or (old g) (if same_fact f g then Some first else None)
 
 -- from old to new the visits of task t were noted
 pub record Notes (places : List Place) (t : ℕ) (visits : List Visit) (old new : List Found) : Type 0 where

@@ -8,10 +8,13 @@ use Rattle.cov_base.specs.States.{Visit}
 use Rattle.cov_base.specs.declared.facts.Fact.{Fact}
 use Rattle.module_area.specs.PlanView.{place_of}
 use Rattle.module_area.specs.declared.places.Place.{Place}
-use Rattle.evidence_check.specs.Firsts.{shows, first_of, first_in}
+use Rattle.evidence_check.specs.Firsts.{shows, first_in}
 use Rattle.evidence_check.specs.Found.{found_at, Notes}
 use Rattle.evidence_check.specs.declared.firsts.First.{First}
 use Rattle.evidence_check.specs.declared.firsts.Found.{Found}
+
+abbrev pub first_of : ℕ → Visit → First
+first_of t v = record { task = t; before = v.before; subject = v.subject }
 
 or_none : (x : Option First) → option_or x None ≡ x
 or_none None = refl

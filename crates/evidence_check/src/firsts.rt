@@ -1,10 +1,9 @@
 //! The first visits that show the facts of each place.
-ghost use Rattle.std.specs.Prelude.{◌≡◌, ◌≢◌, ℕ, ◌<◌, if◌then◌else◌, length, Some, None};
-ghost use Rattle.std.specs.Option.{option_or};
-ghost use Rattle.cov_base.specs.Facts.{same_fact, fact_of};
+ghost use Rattle.std.specs.Prelude.{◌≡◌, ◌≢◌, ℕ, ◌<◌, length};
+ghost use Rattle.cov_base.specs.Facts.{fact_of};
 ghost use Rattle.cov_base.specs.declared.facts.Fact.{Fact as AnyFact};
 ghost use Rattle.module_area.specs.PlanView.{place_of};
-ghost use Rattle.evidence_check.specs.Found.{found_of, found_at, none_found};
+ghost use Rattle.evidence_check.specs.Found.{found_of, found_at, none_found, NotesOne};
 
 use brk_table::Tables;
 use cov_base::{Fact, PlaceNo};
@@ -54,7 +53,7 @@ impl Found {
 
     /// Notes a visit that shows the fact; an earlier one stays.
     fn note(&mut self, f: Fact, first: First)
-        ensures { (g : AnyFact) → found_of self.new g ≡ option_or (found_of self.old g) (if same_fact f g then Some first else None) }
+        ensures { NotesOne f first (found_of self.old) (found_of self.new) }
     {
         match f {
             Fact::Ran => self.ran = self.ran.or(Some(first)),
@@ -69,7 +68,8 @@ fn note_at(tables: &Tables, found: &mut [Found], place: PlaceNo, went: bool, fir
     requires place { place.0 < length tables.now.places }
     requires size { length found.old ≡ length tables.now.places }
     ensures size { length found.new ≡ length found.old }
-    ensures here { (f : AnyFact) → found_at found.new place.0 f ≡ option_or (found_at found.old place.0 f) (if same_fact (fact_of (place_of tables.now.places place.0).kind went) f then Some first else None) }
+    ensures here { NotesOne (fact_of (place_of tables.now.places place.0).kind went) first
+        (found_at found.old place.0) (found_at found.new place.0) }
     ensures others { (n : ℕ) (f : AnyFact) → n ≢ place.0 → found_at found.new n f ≡ found_at found.old n f }
 {
     let fact = tables.place(place).kind.fact(went);

@@ -45,7 +45,8 @@ pub fn prove<K: Sink>(
     ensures whole { OnOk result (Appends (K.written sink.old) (K.written sink.new) (evidence job.now tables.now s.0)) }
     ensures fault { IfErr result (IsProveFault K.written K.faults sink.old sink.new (evidence job.now tables.now s.0)) }
     ensures later { K.faults sink.old ≤ K.faults sink.new }
-    ensures facts { (n : ℕ) (f : AnyFact) → is_some (session_first job.now tables.now.places s.0 n f) ≡ has_fact (session_facts job.now tables.now.places s.0 n) f }
+    ensures facts { (n : ℕ) (f : AnyFact) →
+        is_some (session_first job.now tables.now.places s.0 n f) ≡ has_fact (session_facts job.now tables.now.places s.0 n) f }
 {
     let session = job.session(s);
     // For what it says of the tables: their places are all places, one table after the other.

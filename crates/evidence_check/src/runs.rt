@@ -22,7 +22,8 @@ fn add_task(
     requires task { t < length job.now.tasks }
     requires tables { AreCodes job.now.images tables.now }
     requires size { length found.old.items ≡ length tables.now.places }
-    ensures noted { OnOk result (Notes tables.now.places t (trace_of job.now tables.now.places t) found.old.items found.new.items) }
+    ensures noted { OnOk result
+        (Notes tables.now.places t (trace_of job.now tables.now.places t) found.old.items found.new.items) }
 {
     let visits = FirstVisits { task: t };
     let card = job.card(t as usize);

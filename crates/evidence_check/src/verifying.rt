@@ -49,7 +49,8 @@ pub fn verify(
     ensures facts { IfOk result (λ n. n ≡ facts_of_modules marks.now.modules) }
     ensures verified { OnOk result (IsVerified job.now tables.now s.0 marks.now.modules evidence.now) }
     ensures fault { IfErr result (IsVerifyFault job.now tables.now s.0 marks.now.modules evidence.now) }
-    ensures passes { IsVerified job.now tables.now s.0 marks.now.modules evidence.now → Passes job.now tables.now s.0 marks.now.modules evidence.now }
+    ensures passes { IsVerified job.now tables.now s.0 marks.now.modules evidence.now →
+        Passes job.now tables.now s.0 marks.now.modules evidence.now }
 {
     let facts = facts_of_modules(&marks.modules);
     if let Some(offset) = bad_field(evidence, facts, job.task_count()) {

@@ -1,9 +1,9 @@
 //! Writes evidence.
 ghost use Rattle.std.specs.Prelude.{◌≡◌, ◌-◌, ◌≤◌, ◌++◌, length};
-ghost use Rattle.std.specs.List.{flat_map};
+ghost use Rattle.std.specs.List.{flat_map, range_with_len};
 ghost use Rattle.cov_outside.specs.Puts.{Puts};
 ghost use Rattle.cov_outside.specs.Writes.{Writes};
-ghost use Rattle.evidence_check.specs.Evidence.{magic, entry_bytes, fact_bytes, place_entries, places_entries, module_entries};
+ghost use Rattle.evidence_check.specs.Evidence.{magic, entry_bytes, fact_bytes, place_entries, module_entries};
 ghost use Rattle.evidence_check.specs.Found.{found_of, found_at};
 
 use crate::firsts::{First, Found};
@@ -44,7 +44,8 @@ fn put_fact<K: Sink>(
 }
 
 fn put_place<K: Sink>(buffer: &mut WriteBuffer, sink: &mut K, found: &Found) -> Result<(), Failed>
-    ensures { Puts K.written K.faults sink.old sink.new buffer.old buffer.new result (place_entries (found_of found.now)) }
+    ensures { Puts K.written K.faults sink.old sink.new buffer.old buffer.new result
+        (place_entries (found_of found.now)) }
 {
     put_fact(buffer, sink, found.get(Fact::Ran))?;
     put_fact(buffer, sink, found.get(Fact::Went))?;
@@ -61,7 +62,8 @@ fn put_places<K: Sink>(
 ) -> Result<(), Failed>
     requires range { first ≤ past }
     requires exist { past ≤ length found.now }
-    ensures { Puts K.written K.faults sink.old sink.new buffer.old buffer.new result (places_entries (found_at found.now) first (past - first)) }
+    ensures { Puts K.written K.faults sink.old sink.new buffer.old buffer.new result
+        (flat_map (λ n. place_entries (found_at found.now n)) (range_with_len first (past - first))) }
 {
     for n in first..past {
         put_place(buffer, sink, &found[n as usize])?;
@@ -78,7 +80,8 @@ fn put_modules<K: Sink>(
     modules: &[u32],
 ) -> Result<(), Failed>
     requires size { length found.now ≡ length tables.now.places }
-    ensures { Puts K.written K.faults sink.old sink.new buffer.old buffer.new result (flat_map (module_entries tables.now (found_at found.now)) modules.now) }
+    ensures { Puts K.written K.faults sink.old sink.new buffer.old buffer.new result
+        (flat_map (module_entries tables.now (found_at found.now)) modules.now) }
 {
     for i in 0..modules.len() {
         let (first, past) = tables.range(modules[i]);
@@ -95,7 +98,8 @@ fn put_evidence<K: Sink>(
     modules: &[u32],
 ) -> Result<(), Failed>
     requires size { length found.now ≡ length tables.now.places }
-    ensures { Puts K.written K.faults sink.old sink.new buffer.old buffer.new result (magic ++ flat_map (module_entries tables.now (found_at found.now)) modules.now) }
+    ensures { Puts K.written K.faults sink.old sink.new buffer.old buffer.new result
+        (magic ++ flat_map (module_entries tables.now (found_at found.now)) modules.now) }
 {
     buffer.put(sink, &magic())?;
     put_modules(buffer, sink, tables, found, modules)
@@ -109,7 +113,8 @@ pub(crate) fn write_evidence<K: Sink>(
     modules: &[u32],
 ) -> Result<(), Failed>
     requires size { length found.now ≡ length tables.now.places }
-    ensures { Writes K.written K.faults sink.old sink.new result (magic ++ flat_map (module_entries tables.now (found_at found.now)) modules.now) }
+    ensures { Writes K.written K.faults sink.old sink.new result
+        (magic ++ flat_map (module_entries tables.now (found_at found.now)) modules.now) }
 {
     let mut buffer = WriteBuffer::new();
     put_evidence(&mut buffer, sink, tables, found, modules)?;

@@ -1,3 +1,4 @@
+pub mod Parts
 pub mod MarksLemmas
 pub mod FieldLemmas
 pub mod SpellLemmas

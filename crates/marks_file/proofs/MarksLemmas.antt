@@ -4,7 +4,8 @@ use Rattle.std.specs.Str.{bytes_eq}
 use Rattle.std.proofs.lemmas.Bool.Decides.{nat_tests}
 use Rattle.std.proofs.lemmas.Slice.Eq.{bytes_eq-Decides}
 use Rattle.cov_base.specs.Names.{is_name, padded, unpadded, is_filled}
-use Rattle.marks_file.specs.Marks.{MarkedView, MarksView, HasRow, is_new_name, is_base, is_size, is_count, is_module, are_modules, is_module_count, are_marks, is_session_name, is_runs, keeps_rules, place_count}
+use Rattle.marks_file.specs.Marks.{MarkedView, MarksView, HasRow, is_new_name, is_base, is_size, is_count, are_modules, is_module_count, are_marks, is_runs, keeps_rules, place_count}
+use Rattle.marks_file.proofs.Parts.{is_module, is_session_name}
 
 pub both-left : (a b : Bool) → (a && b) ≡ true → a ≡ true
 both-left true b h = refl

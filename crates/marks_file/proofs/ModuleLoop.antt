@@ -5,9 +5,10 @@ use Rattle.std.proofs.lemmas.List.{drop-drop}
 use Rattle.std.proofs.lemmas.Grind.{flat_map-append}
 use Rattle.marks_file.specs.Marks.{MarkedView, place_count}
 use Rattle.marks_file.specs.MarksFile.{module_bytes}
-use Rattle.marks_file.specs.Reading.{IsFault, first_bad, module_fields, modules_at, modules_fields, count_at, module_at, module_size}
+use Rattle.marks_file.specs.Reading.{IsFault, first_bad, module_fields, modules_at, modules_fields, count_at, module_at}
 use Rattle.marks_file.specs.declared.fault.MarksFault.{MarksFault}
 use Rattle.marks_file.specs.declared.fault.MarksFault.TheVariants.{BadMarks, NoMemory}
+use Rattle.marks_file.proofs.Parts.{module_size}
 use Rattle.marks_file.proofs.FieldLemmas.{first_none, first_some}
 use Rattle.marks_file.proofs.SpellLemmas.{AreBytes, bytes_later, length-places_at}
 use Rattle.marks_file.proofs.ModuleLemmas.{module_spelled}

@@ -1,5 +1,5 @@
 -- The values of a marks file, and the rule of each of its fields.
-use Rattle.std.specs.Prelude.{◌≡◌, ℕ, ◌<◌, ◌^◌, ◌+◌, ◌%◌, Bool, true, ◌&&◌, ◌||◌, not, nat_eq, nat_lt, nat_le, if◌then◌else◌, Option, Some, None, List, [], ◌∷◌, ◌++◌, length}
+use Rattle.std.specs.Prelude.{◌≡◌, ℕ, ◌<◌, ◌^◌, ◌+◌, ◌%◌, Bool, true, ◌&&◌, ◌||◌, not, nat_eq, nat_lt, nat_le, if◌then◌else◌, Option, option_map, unwrap_or, List, [], ◌∷◌, ◌++◌, length}
 use Rattle.std.specs.List.{list_any, list_all}
 use Rattle.std.specs.Str.{bytes_eq}
 use Rattle.cov_base.specs.Codes.{length_of, kind_of, breakpoint}
@@ -46,16 +46,15 @@ is_original len kind half = nat_lt half 65536 && (nat_eq (length_of half) len &&
 unfoldable pub is_set : Kind → ℕ → Bool
 is_set kind set = nat_lt set 8 && is_within kind (facts_of_number set)
 
--- a place of a module of this size, behind one that ends there
-abbrev pub is_place : ℕ → ℕ → MarkedPlace → Bool
-is_place size end p = is_location size end p.location && (is_length size p.location p.len && (is_original p.len p.kind p.original && is_set p.kind (number_of_facts p.set)))
-
 abbrev pub end_of : MarkedPlace → ℕ
 end_of p = p.location + p.len
 
+-- the places of a module of this size, behind one that ends there
 abbrev pub are_places : ℕ → ℕ → List MarkedPlace → Bool
 are_places size end [] = true
-are_places size end (p ∷ ps) = is_place size end p && are_places size (end_of p) ps
+are_places size end (p ∷ ps) =
+    (is_location size end p.location && (is_length size p.location p.len && (is_original p.len p.kind p.original && is_set p.kind (number_of_facts p.set))))
+    && are_places size (end_of p) ps
 
 -- name: one filled with blanks, other than the earlier modules'
 unfoldable pub is_new_name : List MarkedView → List ℕ → Bool
@@ -81,12 +80,12 @@ place_count (m ∷ ms) = length m.places + place_count ms
 unfoldable pub is_count : List MarkedView → ℕ → Bool
 is_count earlier count = nat_le (place_count earlier + count) 65536
 
-abbrev pub is_module : List MarkedView → MarkedView → Bool
-is_module earlier m = is_new_name earlier m.name && (is_base m.base && (is_size earlier m.base m.size && (is_count earlier (length m.places) && are_places m.size 0 m.places)))
-
+-- the modules behind these
 abbrev pub are_modules : List MarkedView → List MarkedView → Bool
 are_modules earlier [] = true
-are_modules earlier (m ∷ ms) = is_module earlier m && are_modules (earlier ++ m ∷ []) ms
+are_modules earlier (m ∷ ms) =
+    (is_new_name earlier m.name && (is_base m.base && (is_size earlier m.base m.size && (is_count earlier (length m.places) && are_places m.size 0 m.places))))
+    && are_modules (earlier ++ m ∷ []) ms
 
 -- modules: 1 to 16
 unfoldable pub is_module_count : ℕ → Bool
@@ -94,11 +93,6 @@ is_module_count n = nat_le 1 n && nat_le n 16
 
 abbrev pub are_marks : List MarkedView → Bool
 are_marks ms = is_module_count (length ms) && are_modules [] ms
-
--- name: one filled with blanks, or none
-abbrev pub is_session_name : Option (List ℕ) → Bool
-is_session_name None = true
-is_session_name (Some name) = is_filled name
 
 -- the most runs that a file tells
 abbrev pub most_runs : ℕ
@@ -108,9 +102,9 @@ most_runs = 4294967295
 unfoldable pub is_runs : ℕ → Bool
 is_runs n = nat_le 1 n && nat_le n most_runs
 
--- the rules of all of them
+-- the rules of all of them; the name is one filled with blanks, or none
 abbrev pub keeps_rules : MarksView → Bool
-keeps_rules m = is_session_name m.name && (is_runs m.runs && are_marks m.modules)
+keeps_rules m = unwrap_or (option_map is_filled m.name) true && (is_runs m.runs && are_marks m.modules)
 
 -- what makes a module's row 20 bytes that can be read back
 pub record HasRow (m : MarkedView) : Type 0 where

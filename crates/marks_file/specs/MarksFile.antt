@@ -25,10 +25,6 @@ module_row m = m.name ++ (big_bytes 4 m.base ++ (big_bytes 4 m.size ++ big_bytes
 abbrev pub module_bytes : MarkedView → List ℕ
 module_bytes m = module_row m ++ flat_map place_bytes m.places
 
--- from the number of modules on
-abbrev pub modules_bytes : List MarkedView → List ℕ
-modules_bytes ms = big_bytes 2 (length ms) ++ flat_map module_bytes ms
-
 abbrev pub magic : Version → List ℕ
 magic First = codes "S370COV1"
 magic Second = codes "S370COV2"
@@ -45,7 +41,7 @@ session_bytes Second m = name_field m.name ++ big_bytes 4 m.runs
 
 -- the one spelling of these marks in a version
 abbrev pub file_bytes : Version → MarksView → List ℕ
-file_bytes v m = magic v ++ (session_bytes v m ++ modules_bytes m.modules)
+file_bytes v m = magic v ++ (session_bytes v m ++ (big_bytes 2 (length m.modules) ++ flat_map module_bytes m.modules))
 
 -- the version tells all of these marks: version 1 has no name, and stands for one run
 abbrev pub Tells : Version → MarksView → Type 0

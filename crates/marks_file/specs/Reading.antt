@@ -78,17 +78,14 @@ header_fields at earlier bs =
 abbrev pub module_fields : ℕ → List MarkedView → List ℕ → List Field
 module_fields at earlier bs = header_fields at earlier bs ++ places_fields (at + 20) (big_number 4 (drop 12 bs)) 0 (count_at bs) (drop 20 bs)
 
--- the bytes of a module with so many places
-abbrev pub module_size : ℕ → ℕ
-module_size count = 20 + 9 * count
-
 abbrev pub modules_at : ℕ → List ℕ → List MarkedView
 modules_at zero bs = []
-modules_at (suc n) bs = module_at bs ∷ modules_at n (drop (module_size (count_at bs)) bs)
+modules_at (suc n) bs = module_at bs ∷ modules_at n (drop (20 + 9 * count_at bs) bs)
 
 abbrev pub modules_fields : ℕ → List MarkedView → ℕ → List ℕ → List Field
 modules_fields at earlier zero bs = []
-modules_fields at earlier (suc n) bs = module_fields at earlier bs ++ modules_fields (at + module_size (count_at bs)) (earlier ++ module_at bs ∷ []) n (drop (module_size (count_at bs)) bs)
+modules_fields at earlier (suc n) bs =
+    module_fields at earlier bs ++ modules_fields (at + (20 + 9 * count_at bs)) (earlier ++ module_at bs ∷ []) n (drop (20 + 9 * count_at bs) bs)
 
 -- of the number of modules, and of the modules behind it
 abbrev pub table_fields : ℕ → List ℕ → List Field

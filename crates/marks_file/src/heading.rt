@@ -63,7 +63,8 @@ fn session_name(bytes: &[u8]) -> Option<Option<Name>>
 /// The runs in the 4 bytes behind the name; none where they are cut short or 0.
 fn session_runs(bytes: &[u8]) -> Option<u32>
     ensures runs { IfSome result (λ n. n ≡ big_number 4 (drop 16 bytes.now)) }
-    ensures good { IfSome result (λ _. (nat_le 20 (length bytes.now) && nat_le 1 (big_number 4 (drop 16 bytes.now))) ≡ true) }
+    ensures good { IfSome result (λ _.
+        (nat_le 20 (length bytes.now) && nat_le 1 (big_number 4 (drop 16 bytes.now))) ≡ true) }
     ensures bad { IsNone result → (nat_le 20 (length bytes.now) && nat_le 1 (big_number 4 (drop 16 bytes.now))) ≡ false }
 {
     if bytes.len() < 20 {

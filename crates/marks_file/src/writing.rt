@@ -20,7 +20,8 @@ fn put_places<K: Sink>(
     sink: &mut K,
     places: &[MarkedPlace],
 ) -> Result<(), Failed>
-    ensures { Puts K.written K.faults sink.old sink.new buffer.old buffer.new result (flat_map place_bytes places.now) }
+    ensures { Puts K.written K.faults sink.old sink.new buffer.old buffer.new result
+        (flat_map place_bytes places.now) }
 {
     for i in 0..places.len() {
         buffer.put(sink, &place_bytes(&places[i]))?;
@@ -48,7 +49,8 @@ fn put_modules<K: Sink>(
     modules: &[MarkedModule],
 ) -> Result<(), Failed>
     requires { All HasRow modules.now }
-    ensures { Puts K.written K.faults sink.old sink.new buffer.old buffer.new result (flat_map module_bytes modules.now) }
+    ensures { Puts K.written K.faults sink.old sink.new buffer.old buffer.new result
+        (flat_map module_bytes modules.now) }
 {
     for i in 0..modules.len() {
         put_module(buffer, sink, &modules[i])?;
@@ -87,7 +89,8 @@ fn put_file<K: Sink>(
 ) -> Result<(), Failed>
     requires rows { All HasRow modules.now }
     requires count { length modules.now < 2 ^ 16 }
-    ensures { Puts K.written K.faults sink.old sink.new buffer.old buffer.new result (file_bytes Version.Second (record { name = name; runs = runs; modules = modules.now })) }
+    ensures { Puts K.written K.faults sink.old sink.new buffer.old buffer.new result
+        (file_bytes Version.Second (record { name = name; runs = runs; modules = modules.now })) }
 {
     buffer.put(sink, &head(name, runs, modules.len() as u16))?;
     put_modules(buffer, sink, modules)

@@ -3,7 +3,7 @@ use Rattle.std.proofs.Common.{◌≡◌, ℕ, zero, suc, ◌+◌, ◌<◌, ◌�
 use Rattle.std.proofs.lemmas.List.{take-append-drop}
 use Rattle.cov_base.specs.FactSet.{FactSet}
 use Rattle.brk_table.specs.Places.{TableView, TablesView, first_place, place_count, all_places}
-use Rattle.marks_file.specs.Marks.{MarkedView, is_location, is_length, is_original, is_place, are_places, end_of, is_new_name, is_base, is_size, is_count, is_module, are_modules, is_module_count, are_marks}
+use Rattle.marks_file.specs.Marks.{MarkedView, is_location, is_length, is_original, are_places, end_of, is_new_name, is_base, is_size, is_count, are_modules, is_module_count, are_marks}
 use Rattle.marks_file.proofs.MarksLemmas.{both-left, both-right}
 use Rattle.std.proofs.lemmas.List.Elements.{All-cons, All-nil}
 use Rattle.std.proofs.lemmas.Bool.{ltb-true}
@@ -15,10 +15,12 @@ use Rattle.session_marks.specs.Fields.{HasGoodFields, AreHalfwords}
 use Rattle.session_marks.proofs.TableLemmas.{Differ}
 use Rattle.session_marks.proofs.ModuleLemmas.{AreTabled, own_places_kept, marks_kept}
 use Rattle.marks_file.specs.declared.marks.MarkedPlace.{MarkedPlace}
+use Rattle.marks_file.proofs.Parts.{is_place, is_module}
 use Rattle.module_area.specs.declared.places.Place.{Place}
 use Rattle.session_book.specs.JobView.{JobView}
 use Rattle.session_marks.specs.Filled.{with_sets, filled_module, filled, AreThere}
-use Rattle.session_marks.specs.Marked.{marked_place, marked_places, marked_module}
+use Rattle.session_marks.specs.Marked.{marked_place, marked_module}
+use Rattle.session_marks.proofs.PlaceLemmas.{marked_places}
 use Rattle.session_marks.proofs.RuleLemmas.{length-marked_places}
 
 none_filled : (tables : TablesView) (sets : ℕ → FactSet) (ms : List MarkedView) (ns : List ℕ) → min (length ms) (length ns) ≡ 0 → filled tables sets ms ns ≡ ms

@@ -6,8 +6,9 @@ use Rattle.std.proofs.lemmas.List.Elements.{All-tail}
 use Rattle.std.proofs.lemmas.Bool.{ne_eqb, eq-eqb}
 use Rattle.cov_base.specs.FactSet.{FactSet}
 use Rattle.marks_file.specs.Marks.{MarkedView, HasRow, are_marks}
-use Rattle.marks_file.specs.MarksFile.{place_row, module_row, rows, modules_bytes}
+use Rattle.marks_file.specs.MarksFile.{place_row, module_row, rows}
 use Rattle.marks_file.specs.declared.marks.MarkedPlace.{MarkedPlace}
+use Rattle.marks_file.proofs.Parts.{modules_bytes}
 use Rattle.marks_file.proofs.MarksLemmas.{same_bytes, marks_have_rows}
 use Rattle.table_combine.specs.Combine.{Difference, first_difference, SamePlaces, SameTables, unite}
 use Rattle.table_combine.proofs.DifferenceLemmas.{row_count}

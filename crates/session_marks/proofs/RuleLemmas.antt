@@ -12,13 +12,15 @@ use Rattle.module_area.specs.Images.{IsImage}
 use Rattle.module_area.specs.PlanView.{place_of}
 use Rattle.module_area.specs.declared.places.Place.{Place}
 use Rattle.brk_table.specs.Places.{IsPlace}
-use Rattle.marks_file.specs.Marks.{kind_number, is_location, is_length, is_original, is_set, is_place, are_places, end_of, is_runs}
+use Rattle.marks_file.specs.Marks.{kind_number, is_location, is_length, is_original, is_set, are_places, end_of, is_runs}
 use Rattle.marks_file.specs.declared.marks.MarkedPlace.{MarkedPlace}
+use Rattle.marks_file.proofs.Parts.{is_place}
 use Rattle.marks_file.proofs.MarksLemmas.{both}
 use Rattle.marks_file.proofs.SpellLemmas.{set_read}
 use Rattle.table_combine.proofs.UnionLemmas.{small_number}
 use Rattle.session_marks.specs.Fields.{AreHalfwords}
-use Rattle.session_marks.specs.Marked.{marked_place, marked_places}
+use Rattle.session_marks.specs.Marked.{marked_place}
+use Rattle.session_marks.proofs.PlaceLemmas.{marked_places}
 
 pub one_run : is_runs 1 ≡ true
 unfolding is_runs

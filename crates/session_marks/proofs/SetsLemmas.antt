@@ -12,7 +12,8 @@ use Rattle.brk_table.specs.Places.{TableView, TablesView, first_place, place_cou
 use Rattle.brk_table.proofs.RangeLemmas.{first-here, count-here, first-past, count-past}
 use Rattle.session_book.specs.JobView.{JobView}
 use Rattle.session_book.specs.Sessions.{module_of}
-use Rattle.session_marks.specs.Marked.{marked_place, marked_places, marked_module}
+use Rattle.session_marks.specs.Marked.{marked_place, marked_module}
+use Rattle.session_marks.proofs.PlaceLemmas.{marked_places}
 use Rattle.session_marks.specs.FromFile.{HasSetsAt, HaveSetsAt, IsOutside}
 
 abbrev pub empty : ℕ → FactSet

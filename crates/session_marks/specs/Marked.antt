@@ -1,5 +1,6 @@
 -- The marks of a session of a job: the table of its modules' places, and a set at each.
-use Rattle.std.specs.Prelude.{ℕ, zero, suc, ◌+◌, ◌-◌, Some, List, [], ◌∷◌, length, map}
+use Rattle.std.specs.Prelude.{ℕ, ◌-◌, Some, List, length, map}
+use Rattle.std.specs.List.{range_with_len}
 use Rattle.cov_base.specs.FactSet.{FactSet}
 use Rattle.cov_base.specs.Facts.{no_facts}
 use Rattle.marks_file.specs.Marks.{MarkedView, MarksView}
@@ -17,18 +18,13 @@ marked_place base places sets n =
     let p : Place = place_of places n in
     record { location = p.at - base; len = p.len; kind = p.kind; original = p.original; set = sets n }
 
--- so many places from n on
-abbrev pub marked_places : ℕ → List Place → (ℕ → FactSet) → ℕ → ℕ → List MarkedPlace
-marked_places base places sets n zero = []
-marked_places base places sets n (suc count) = marked_place base places sets n ∷ marked_places base places sets (n + 1) count
-
 -- module m; one that has no table has no places
 abbrev pub marked_module : JobView → TablesView → (ℕ → FactSet) → ℕ → MarkedView
 marked_module j tables sets m = record {
   name = (module_of j m).name;
   base = (module_of j m).base;
   size = length (module_of j m).bytes;
-  places = marked_places (module_of j m).base tables.places sets (first_place tables.tables m) (place_count tables.tables m);
+  places = map (marked_place (module_of j m).base tables.places sets) (range_with_len (first_place tables.tables m) (place_count tables.tables m));
 }
 
 -- the modules of session s in the order of its card; `sets` has the set of the place of each number

@@ -69,7 +69,8 @@ pub fn fill_marks<R: FactSets>(
     requires from { 0 < s.0 }
     requires to { s.0 ≤ length job.now.sessions }
     requires tables { AreTables job.now.images tables.now.tables }
-    requires sets { HasSetsOf job.now tables.now (R.sessions results.now) (R.places results.now) (R.set_of results.now) s.0 }
+    requires sets { HasSetsOf job.now tables.now
+        (R.sessions results.now) (R.places results.now) (R.set_of results.now) s.0 }
     requires empty { marks.old ≡ session_file job.now tables.now (λ n. no_facts) s.0 }
     ensures { marks.new ≡ session_file job.now tables.now (R.set_of results.now s.0) s.0 }
 {

@@ -86,9 +86,11 @@ fn sets_of(
 ) -> Result<Vec<Bits>, NoMemory>
     requires differ { AllPairs (λ m n. m ≢ n) modules.now }
     requires modules { length file.now ≡ length modules.now }
-    requires counts { (i m : ℕ) (d : MarkedView) → i < length modules.now → length (get_or file.now i d).places ≡ place_count tables.now.tables (get_or modules.now i m) }
+    requires counts { (i m : ℕ) (d : MarkedView) → i < length modules.now →
+        length (get_or file.now i d).places ≡ place_count tables.now.tables (get_or modules.now i m) }
     ensures size { IfOk result (λ v. length v.items ≡ length tables.now.places) }
-    ensures sets { IfOk result (λ v. HaveSetsAt tables.now.tables (set_at v.items) (length modules.now) modules.now file.now) }
+    ensures sets { IfOk result (λ v.
+        HaveSetsAt tables.now.tables (set_at v.items) (length modules.now) modules.now file.now) }
     ensures elsewhere { IfOk result (λ v. AreEmptyElsewhere tables.now.tables (set_at v.items) modules.now) }
 {
     let mut sets = empty_sets(alloc, tables.len() as usize)?;
@@ -116,7 +118,8 @@ fn session_sets(
     requires differ { AllPairs (λ m n. m ≢ n) modules.now }
     ensures same { IfOk result (λ f. file.now.modules ≡ session_marks job.now tables.now (set_at f.sets) s.0) }
     ensures sets { IfOk result (λ f. HasSetsOf job.now tables.now f.session (length f.sets) (sets_of_one f) s.0) }
-    ensures elsewhere { IfOk result (λ f. AreEmptyElsewhere tables.now.tables (set_at f.sets) (session_of job.now s.0).modules) }
+    ensures elsewhere { IfOk result (λ f.
+        AreEmptyElsewhere tables.now.tables (set_at f.sets) (session_of job.now s.0).modules) }
     ensures fault { IfErr result (λ e. IsSetsFault job.now tables.now s.0 file.now.modules e) }
 {
     let none = NoSets {
@@ -153,7 +156,8 @@ pub fn file_sets(
     requires tables { AreTables job.now.images tables.now.tables }
     ensures same { IfOk result (λ f. file.now.modules ≡ session_marks job.now tables.now (set_at f.sets) s.0) }
     ensures sets { IfOk result (λ f. HasSetsOf job.now tables.now f.session (length f.sets) (sets_of_one f) s.0) }
-    ensures elsewhere { IfOk result (λ f. AreEmptyElsewhere tables.now.tables (set_at f.sets) (session_of job.now s.0).modules) }
+    ensures elsewhere { IfOk result (λ f.
+        AreEmptyElsewhere tables.now.tables (set_at f.sets) (session_of job.now s.0).modules) }
     ensures decided { IsDecided job.now tables.now s.0 file.now.modules }
     ensures fault { IfErr result (λ e. IsSetsFault job.now tables.now s.0 file.now.modules e) }
 {

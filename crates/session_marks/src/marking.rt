@@ -1,11 +1,12 @@
 //! The marks that a session's sets come to.
 ghost use Rattle.std.specs.Prelude.{◌≡◌, ℕ, ◌+◌, ◌-◌, ◌<◌, ◌≤◌, length, map, All, IfOk};
+ghost use Rattle.std.specs.List.{range_with_len};
 ghost use Rattle.brk_table.specs.Together.{AreTables};
 ghost use Rattle.module_area.specs.PlanView.{place_of};
 ghost use Rattle.session_book.specs.JobView.{IsJob, IsSession};
 ghost use Rattle.session_book.specs.Sessions.{module_of, session_of};
 ghost use Rattle.session_book.specs.Sets.{HasSetsOf, AreWithin};
-ghost use Rattle.session_marks.specs.Marked.{marked_place, marked_places, marked_module, session_file};
+ghost use Rattle.session_marks.specs.Marked.{marked_place, marked_module, session_file};
 ghost use Rattle.session_marks.specs.Fields.{HasGoodFields, AreHalfwords};
 
 use brk_table::Tables;
@@ -64,7 +65,8 @@ fn marked_places<R: FactSets>(
     requires range { first ≤ past }
     requires exist { past ≤ length tables.now.places }
     requires from { (n : ℕ) → first ≤ n → n < past → base ≤ (place_of tables.now.places n).at }
-    ensures value { IfOk result (λ v. v.items ≡ marked_places base tables.now.places (R.set_of results.now s.0) first (past - first)) }
+    ensures value { IfOk result (λ v.
+        v.items ≡ map (marked_place base tables.now.places (R.set_of results.now s.0)) (range_with_len first (past - first))) }
     ensures halfwords { IfOk result (λ v. AreHalfwords v.items) }
 {
     let mut places = Vec::with_capacity(alloc, (past - first) as usize)?;
@@ -135,7 +137,8 @@ fn marked_modules<R: FactSets>(
     requires session { s.0 < R.sessions results.now + 1 }
     requires size { R.places results.now ≡ length tables.now.places }
     requires within { All (AreWithin tables.now (R.set_of results.now s.0)) modules.now }
-    ensures value { IfOk result (λ v. v.items ≡ map (marked_module job.now tables.now (R.set_of results.now s.0)) modules.now) }
+    ensures value { IfOk result (λ v.
+        v.items ≡ map (marked_module job.now tables.now (R.set_of results.now s.0)) modules.now) }
     ensures fields { IfOk result (λ v. All HasGoodFields v.items) }
 {
     let mut marked = Vec::with_capacity(alloc, modules.len())?;
@@ -179,7 +182,8 @@ pub fn marks_of<R: FactSets>(
     requires from { 0 < s.0 }
     requires to { s.0 ≤ length job.now.sessions }
     requires tables { AreTables job.now.images tables.now.tables }
-    requires sets { HasSetsOf job.now tables.now (R.sessions results.now) (R.places results.now) (R.set_of results.now) s.0 }
+    requires sets { HasSetsOf job.now tables.now
+        (R.sessions results.now) (R.places results.now) (R.set_of results.now) s.0 }
     ensures { IfOk result (λ m. m ≡ session_file job.now tables.now (R.set_of results.now s.0) s.0) }
 {
     let modules = marked_modules(alloc, job, tables, results, s, modules_of(job, s))?;

@@ -9,7 +9,7 @@ use Rattle.marks_file.specs.declared.version.Version.{Version}
 use Rattle.marks_file.proofs.FileLemmas.{file_read, file_long}
 use Rattle.marks_file.proofs.HeadingLemmas.{told_all}
 use Rattle.table_combine.specs.Combine.{Difference, first_difference}
-use Rattle.table_combine.specs.Files.{File, IsFile, text_of, modules_of, united, AreOfOneTable, IsCombined, IsBadFirst, IsBad, IsOtherTable, HasOneAnswer, spelling}
+use Rattle.table_combine.specs.Files.{File, IsFile, text_of, modules_of, united, AreOfOneTable, IsCombined, IsBad, IsOtherTable, HasOneAnswer, spelling}
 use Rattle.table_combine.proofs.DifferenceLemmas.{row_same}
 
 -- the same rows have no difference
@@ -108,7 +108,7 @@ combined_end : (bytes : List ℕ) (m : MarksView) (c : IsCombined bytes m) → b
 combined_end bytes m c = c.spelled ∙ sym (append-nil (spelling (c.first ∷ c.others)))
 
 -- where a file begins the bytes their first field isn't bad
-not_first : (bytes : List ℕ) (f : File) (o : List File) (r : List ℕ) (k : ℕ) → IsFile f → bytes ≡ spelling (f ∷ o) ++ r → IsBadFirst bytes k → ⊥
+not_first : (bytes : List ℕ) (f : File) (o : List File) (r : List ℕ) (k : ℕ) → IsFile f → bytes ≡ spelling (f ∷ o) ++ r → first_bad (file_fields 0 bytes) ≡ Some k → ⊥
 not_first bytes f o r k h e bad =
     let begins : bytes ≡ text_of f ++ (spelling o ++ r) = e ∙ append_assoc (text_of f) (spelling o) r in
     let none : first_bad (file_fields 0 bytes) ≡ None = ap (λ z. first_bad (file_fields 0 z)) begins ∙ (file_read f.version 0 f.marks (spelling o ++ r) h.rules).good in

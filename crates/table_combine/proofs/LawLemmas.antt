@@ -5,8 +5,9 @@ use Rattle.byteorder.specs.Endian.{big_bytes}
 use Rattle.cov_base.specs.Facts.{union}
 use Rattle.cov_base.specs.FactSet.{FactSet, number_of_facts}
 use Rattle.marks_file.specs.Marks.{MarkedView}
-use Rattle.marks_file.specs.MarksFile.{place_row, place_bytes, module_row, module_bytes, modules_bytes}
+use Rattle.marks_file.specs.MarksFile.{place_row, place_bytes, module_row, module_bytes}
 use Rattle.marks_file.specs.declared.marks.MarkedPlace.{MarkedPlace}
+use Rattle.marks_file.proofs.Parts.{modules_bytes}
 use Rattle.table_combine.specs.Combine.{unite_place, unite_places, unite_module, unite, SamePlaces, SameTables}
 use Rattle.table_combine.proofs.UnionLemmas.{length-unite}
 use Rattle.table_combine.proofs.FilesLemmas.{row_kept}

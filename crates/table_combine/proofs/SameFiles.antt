@@ -15,8 +15,8 @@ use Rattle.table_combine.specs.Combine.{unite_place, unite_places, unite_module,
 use Rattle.table_combine.proofs.UnionLemmas.{union_is_marks}
 use Rattle.table_combine.proofs.DifferenceLemmas.{row_count}
 use Rattle.table_combine.proofs.LawLemmas.{files_turned, file_itself}
-use Rattle.table_combine.proofs.FilesLemmas.{rows_kept}
-use Rattle.table_combine.specs.Files.{File, IsFile, modules_of, runs_of, spelling, AreOfOneTable, held, first_name, united, IsCombined, HaveSameSets, IsUnionAnyhow}
+use Rattle.table_combine.proofs.FilesLemmas.{runs_of, rows_kept}
+use Rattle.table_combine.specs.Files.{File, IsFile, modules_of, spelling, AreOfOneTable, held, first_name, united, IsCombined, HaveSameSets, IsUnionAnyhow}
 use Rattle.table_combine.proofs.AnswerLemmas.{one_file, same_rest, no_text}
 
 -- tables of the same rows are the same

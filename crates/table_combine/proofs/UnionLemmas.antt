@@ -9,9 +9,10 @@ use Rattle.cov_base.specs.FactSet.{FactSet, facts_of_number, number_of_facts}
 use Rattle.cov_base.specs.declared.facts.Kind.{Kind}
 use Rattle.cov_base.specs.declared.facts.Kind.TheVariants.{Straight, Conditional}
 use Rattle.cov_base.specs.Names.{is_filled}
-use Rattle.marks_file.specs.Marks.{MarkedView, kind_number, is_location, is_length, is_original, is_set, is_place, are_places, end_of, is_new_name, is_base, is_clear, is_size, is_count, place_count, is_module, are_modules, is_module_count, are_marks}
+use Rattle.marks_file.specs.Marks.{MarkedView, kind_number, is_location, is_length, is_original, is_set, are_places, end_of, is_new_name, is_base, is_clear, is_size, is_count, place_count, are_modules, is_module_count, are_marks}
 use Rattle.marks_file.specs.MarksFile.{place_row, module_row, module_rows, rows}
 use Rattle.marks_file.specs.declared.marks.MarkedPlace.{MarkedPlace}
+use Rattle.marks_file.proofs.Parts.{is_place, is_module}
 use Rattle.marks_file.proofs.MarksLemmas.{both-left, both-right, both, le_of_test}
 use Rattle.marks_file.proofs.SpellLemmas.{set_read}
 use Rattle.table_combine.specs.Combine.{unite_place, unite_places, unite_module, unite, SamePlaces, SameTables}

@@ -26,9 +26,6 @@ text_of f = file_bytes f.version f.marks
 abbrev pub modules_of : File → List MarkedView
 modules_of f = f.marks.modules
 
-abbrev pub runs_of : File → ℕ
-runs_of f = f.marks.runs
-
 -- the bytes of these files, in succession
 abbrev pub spelling : List File → List ℕ
 spelling files = flat_map text_of files
@@ -43,15 +40,11 @@ pub record AreOfOneTable (first : File) (others : List File) : Type 0 where
 abbrev pub held : ℕ → ℕ
 held n = min n most_runs
 
-abbrev pub first_name : List File → Option (List ℕ)
-first_name [] = None
-first_name (f ∷ fs) = f.marks.name
-
 -- Of several files: each set is the union of their sets, the name is the first file's, and the runs are the sum.
 abbrev pub united : File → List File → MarksView
 united first others = record {
-  name = first_name (first ∷ others);
-  runs = held (sum_by runs_of (first ∷ others));
+  name = first.marks.name;
+  runs = held (sum_by (λ f. f.marks.runs) (first ∷ others));
   modules = fold unite (modules_of first) (map modules_of others);
 }
 
@@ -62,10 +55,6 @@ pub record IsCombined (bytes : List ℕ) (m : MarksView) : Type 0 where
   pub table : AreOfOneTable first others
   pub spelled : bytes ≡ spelling (first ∷ others)
   pub is : m ≡ united first others
-
--- no file begins the bytes, and this is the offset of the first bad field
-abbrev pub IsBadFirst : List ℕ → ℕ → Type 0
-IsBadFirst bytes offset = first_bad (file_fields 0 bytes) ≡ Some offset
 
 -- files of one table are followed by bytes that no file begins
 pub record IsBadLater (bytes : List ℕ) (offset : ℕ) : Type 0 where
@@ -90,7 +79,7 @@ pub record IsOtherTable (bytes : List ℕ) (d : Difference) : Type 0 where
 
 -- no file begins the bytes that are left, and this is the offset of their first bad field
 abbrev pub IsBad : List ℕ → ℕ → Type 0
-IsBad bytes offset = IsBadFirst bytes offset ⊎ IsBadLater bytes offset
+IsBad bytes offset = (first_bad (file_fields 0 bytes) ≡ Some offset) ⊎ IsBadLater bytes offset
 
 -- why files are not combined
 abbrev pub IsCombineFault : List ℕ → CombineFault → Type 0
@@ -117,8 +106,12 @@ pub record HaveSameSets (files others : List File) : Type 0 where
   pub there : (ms : List MarkedView) → Contains (map modules_of files) ms → Contains (map modules_of others) ms
   pub back : (ms : List MarkedView) → Contains (map modules_of others) ms → Contains (map modules_of files) ms
 
+abbrev pub first_name : List File → Option (List ℕ)
+first_name [] = None
+first_name (f ∷ fs) = f.marks.name
+
 -- The union of the files of these bytes has the sets that the same files have anyhow: of others with the same tables and
 -- sets the name is that of the first of them, and the runs are their sum.
 abbrev pub IsUnionAnyhow : List ℕ → MarksView → Type 0
 IsUnionAnyhow bytes m = (files others : List File) → AreFilesOf bytes files → All IsFile others → HaveSameSets files others
-    → IsCombined (spelling others) (record { name = first_name others; runs = held (sum_by runs_of others); modules = m.modules })
+    → IsCombined (spelling others) (record { name = first_name others; runs = held (sum_by (λ f. f.marks.runs) others); modules = m.modules })

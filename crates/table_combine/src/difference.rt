@@ -33,7 +33,8 @@ fn places_difference(row: u32, a: &[MarkedPlace], b: &[MarkedPlace]) -> Option<O
     requires same { length a.now ≡ length b.now }
     requires fits { row + length a.now < 2 ^ 32 }
     ensures none { IsNone result → SamePlaces a.now b.now }
-    ensures some { IfSome result (λ e. (xs ys : List (List ℕ)) → first_difference row (map place_row a.now ++ xs) (map place_row b.now ++ ys) ≡ Some (difference_of e)) }
+    ensures some { IfSome result (λ e. (xs ys : List (List ℕ)) →
+        first_difference row (map place_row a.now ++ xs) (map place_row b.now ++ ys) ≡ Some (difference_of e)) }
 {
     for i in 0..a.len() {
         let left = place_row(&a[i]);
@@ -55,7 +56,8 @@ fn module_difference(row: u32, a: &MarkedModule, b: &MarkedModule) -> Option<Oth
     requires right { HasRow b.now }
     requires fits { row + 1 + length a.now.places < 2 ^ 32 }
     ensures none { IsNone result → (module_row a.now ≡ module_row b.now) × SamePlaces a.now.places b.now.places }
-    ensures some { IfSome result (λ e. (xs ys : List (List ℕ)) → first_difference row (module_rows a.now ++ xs) (module_rows b.now ++ ys) ≡ Some (difference_of e)) }
+    ensures some { IfSome result (λ e. (xs ys : List (List ℕ)) →
+        first_difference row (module_rows a.now ++ xs) (module_rows b.now ++ ys) ≡ Some (difference_of e)) }
 {
     let left = module_row(a);
     let right = module_row(b);

@@ -50,7 +50,8 @@ pub fn combine(a: &mut Marks, b: &Marks) -> Result<(), OtherTable>
     ensures itself { unite a.old.modules a.old.modules ≡ a.old.modules }
     ensures same_file { b.now.modules ≡ a.old.modules → a.new.modules ≡ a.old.modules }
     ensures same_file_ok { b.now.modules ≡ a.old.modules → IsOk result }
-    ensures other { IfErr result (λ e. first_difference 0 (rows a.old.modules) (rows b.now.modules) ≡ Some (difference_of e)) }
+    ensures other { IfErr result (λ e.
+        first_difference 0 (rows a.old.modules) (rows b.now.modules) ≡ Some (difference_of e)) }
     ensures kept { OnErr result (a.new ≡ a.old) }
 {
     match first_difference(&a.modules, &b.modules) {

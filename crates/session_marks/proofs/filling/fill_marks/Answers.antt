@@ -4,7 +4,8 @@ use Rattle.std.proofs.lemmas.List.{with_items_is, length-map}
 use Rattle.cov_base.specs.FactSet.{FactSet}
 use Rattle.cov_base.specs.Facts.{no_facts}
 use Rattle.brk_table.specs.Places.{TablesView}
-use Rattle.marks_file.specs.Marks.{MarkedView, MarksView, is_session_name, is_runs, are_marks}
+use Rattle.marks_file.specs.Marks.{MarkedView, MarksView, is_runs, are_marks}
+use Rattle.marks_file.proofs.Parts.{is_session_name}
 use Rattle.marks_file.proofs.MarksLemmas.{both-left, both-right, both, kept_modules}
 use Rattle.marks_file.proofs.FileLemmas.{same_marks}
 use Rattle.session_book.specs.JobView.{JobView}

@@ -1,6 +1,6 @@
 use Rattle.std.proofs.Common.{◌≡◌, ◌-◌}
 use Rattle.session_marks.specs.Fields.{AreHalfwords}
-use Rattle.session_marks.specs.Marked.{marked_places}
+use Rattle.session_marks.proofs.PlaceLemmas.{marked_places}
 use Rattle.session_marks.proofs.marking.marked_places.Given as goal
 
 abbrev pub invariant-loop-n : goal.invariant-loop-n

@@ -1,8 +1,9 @@
 use Rattle.std.proofs.Common.{◌≡◌, true, refl, length, All, ap, subst, sym, ◌∙◌, arith}
 use Rattle.std.specs.Vec.{with_items}
 use Rattle.std.proofs.lemmas.List.{with_items_is}
-use Rattle.marks_file.specs.Marks.{MarksView, HasRow, is_session_name, is_runs, are_marks, place_count}
+use Rattle.marks_file.specs.Marks.{MarksView, HasRow, is_runs, are_marks, place_count}
 use Rattle.marks_file.specs.MarksFile.{rows}
+use Rattle.marks_file.proofs.Parts.{is_session_name}
 use Rattle.marks_file.proofs.MarksLemmas.{both-left, both-right, both, marks_have_rows, marks_count, kept_modules}
 use Rattle.table_combine.specs.Combine.{SameTables, unite}
 use Rattle.table_combine.proofs.UnionLemmas.{union_is_marks, length-unite, tables_rows, marks_places}
