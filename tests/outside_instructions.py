@@ -189,8 +189,9 @@ def judged(it: Pair) -> tuple[str, str | None]:
         return "Hercules has failed", None
     parts = partial(it)
     if parts:
+        loses = any(loses_subject(it, it.other.trace[n]) for n in parts.values())
         it = Pair(it.task, it.had, without(it.other, parts))
-        if it.other.kind == hercules.DONE:
+        if loses or it.other.kind == hercules.DONE:
             return ONE_UNIT, None
     at = it.before().at if it.had.ending != "SPENT" else it.other.state.at
     if it.had.at not in (None, at) and it.had.count == it.other.steps:
@@ -207,15 +208,25 @@ def judged(it: Pair) -> tuple[str, str | None]:
     return "", f"{it.had.ending} COUNT {it.had.count}, and not {it.other_ending()} COUNT {it.other.steps}"
 
 
-def partial(it: Pair) -> set[int]:
-    """The states of Hercules' trace in which it is within MVCL or CLCL, which it does in parts."""
+def partial(it: Pair) -> dict[int, int]:
+    """The states of Hercules' trace in which it is within MVCL or CLCL, which it does in parts, each with that where it began it."""
     # The step that an interruption ends may stay where it was, too.
     trace = it.other.trace[: it.other.steps if it.other.kind == hercules.PROGRAM else None]
-    repeated = [n for n in range(1, len(trace)) if trace[n].at == trace[n - 1].at]
-    return {n for n in repeated if it.instruction(trace[n])[:1] in (b"\x0e", b"\x0f")}
+    begun: dict[int, int] = {}
+    for n in range(1, len(trace)):
+        if trace[n].at == trace[n - 1].at:
+            begun[n] = begun.get(n - 1, n - 1)
+    return {n: first for n, first in begun.items() if it.instruction(trace[first])[:1] in (b"\x0e", b"\x0f")}
 
 
-def without(other: hercules.Result, parts: set[int]) -> hercules.Result:
+def loses_subject(it: Pair, state: hercules.State) -> bool:
+    """Whether an EX of MVCL or CLCL addresses its subject by a register that these change: behind a part Hercules takes another one."""
+    own, subject = it.bytes_at(state.at, 4, state.private or it.task.private), it.instruction(state)
+    pairs = {number + more for number in (subject[1] >> 4, subject[1] & 15) for more in (0, 1)}
+    return own[:1] == b"\x44" and bool(pairs & {own[1] & 15, own[2] >> 4} - {0})
+
+
+def without(other: hercules.Result, parts: dict[int, int]) -> hercules.Result:
     """A result without some of its steps."""
     trace = [it for n, it in enumerate(other.trace) if n not in parts]
     return replace(other, steps=other.steps - len(parts), trace=trace)
