@@ -1,7 +1,6 @@
 """What each command answers to any input, by docs/ alone: its status and its text, or between which bounds the text lies.
 
-The input is read by tests/model.py, and its tasks run by tests/task_runs.py. Only `replay` has a model of its own kind,
-tests/core_model.py, whose jobs are drawn together with what comes of them.
+The input is read by tests/model.py, its tasks run by tests/task_runs.py, and schedules are played by tests/core_model.py.
 """
 from __future__ import annotations
 
@@ -10,6 +9,7 @@ import re
 from dataclasses import dataclass, field
 from typing import Callable
 
+import core_model
 import ends_model
 import model
 import trial
@@ -228,11 +228,30 @@ def verify(name: bytes, data: bytes) -> Answer:
     return Answer(0, model.verified(name, len(job.tasks), file, data[job.end + file.end :], firsts_of(job, phase)))
 
 
+def replay(data: bytes) -> Answer:
+    job = listed(data, False)
+    if len(job.phases) != 1:
+        raise Refused(9, "BAD SCHEDULE LINE 0")
+    lines = data[job.end :].split(b"\n")
+    lines = lines[:-1] if lines[-1] == b"" else lines
+    core, told = core_model.Core(job), [b"COVERAGE REPLAY\n"]
+    for number, line in enumerate(lines, 1):
+        key, _, name = line.decode("latin-1").partition(" ")
+        if line == b"ENDSCHED" and number == len(lines):
+            return Answer(0, b"".join([*told, core.report()]))
+        # Behind ENDSCHED the next line is bad.
+        if key not in core_model.KEYS or name not in core.tasks or not core.is_possible(key, name):
+            raise Refused(9, f"BAD SCHEDULE LINE {job.lines + number + (line == b'ENDSCHED')}")
+        told.append(f"EVENT {number} {key} {name}{core.play(key, name)}\n".encode())
+    raise Refused(9, f"BAD SCHEDULE LINE {job.lines + len(lines) + 1}")
+
+
 ALONE: dict[bytes, Callable[[bytes], Answer]] = {
     b"run": lambda data: report(b"run", data), b"exits": lambda data: report(b"exits", data),
     b"early": lambda data: report(b"early", data), b"count": count,
     b"table": lambda data: Answer(0, model.table_text(listed(data, True))),
     b"ends": lambda data: Answer(0, ends_model.text(data)), b"combine": lambda data: Answer(0, model.combined(data)),
+    b"replay": replay,
 }
 NAMED = {b"marks": marks, b"show": show, b"prove": prove, b"verify": verify}
 

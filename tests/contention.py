@@ -55,6 +55,6 @@ def job(draw: random.Random) -> bytes:
     cards = "".join(CARD.format(name=f"T{n}", entry=0x100000, private=16) + draw.choice(kinds) for n in range(tasks))
     sessions = draw.choice((0, 0, 1, 3, 8))
     if not sessions:
-        return program(draw).job(cards)
+        return program(draw).job(CARD.format(name="L", entry=0x100000, private=16) + kinds[0] + cards)
     names = "".join(f"SESSION S{n} BY C M\n" for n in range(sessions))
     return program(draw).job(controller(draw, sessions) + cards).replace(b"SESSION S M\n", names.encode())

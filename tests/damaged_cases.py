@@ -1,8 +1,6 @@
 """Damaged input: of each command a small input, cut after each byte, and each byte changed to 00, FF and a blank.
 
-What must come of it is told by tests/answers.py: the first bad line, field, listing or row, or the whole output. Of `replay` it is
-worked out once, by hand: no such change makes another job that runs in another way, and only the places that a changed listing line
-leaves differ.
+What must come of it is told by tests/answers.py: the first bad line, field, listing or row, or the whole output.
 """
 from __future__ import annotations
 
@@ -16,23 +14,16 @@ import answers
 import model
 from harness import PROGRAM, SECONDS, Tally, equal
 from harness import run as run_command
-from jobs import COUNTED, FIRST, Program, Result
-from model import Refused
+from jobs import COUNTED, FIRST, Program
 
 # The count begins with 2: it goes on once, and falls through; then the return is executed.
 TASK = "TASK A 100000 16 9 0\nREG 1 00000002\nDATA 0 C1\nINPUT C2\n"
-FACTS = {0x100000: 6, 0x100004: 1}
 # The same of a count that begins with 3, and the first visits that show its facts.
 FROM_3 = "TASK A 100000 16 100 0\nREG 1 00000003\n"
 FIRSTS_FROM_3: model.Firsts = {0x100000: {2: (0, 0, 0), 4: (0, 2, 0)}, 0x100004: {1: (0, 3, 0)}}
 # SVC 4, BAL to the first job's instructions, SVC 5, SVC 4, SVC 5, and BR: the sixth and the eighth instruction close a session.
 OPENING = "TASK C 000000 16 100 0\nREG 1 00100000\nREG 13 00FFFFFE\nDATA 0 0A0445E010000A050A040A0507FD\n"
-# Each item with the line that tells of it.
-ITEMS = [
-    (b"FETCH A", b"FETCH A TAG 1 HALF 0AFF"), (b"MARK A", b"MARK A OLD -"), (b"DO A", b"DO A"),
-    (b"FETCH A", b"FETCH A TAG 1 HALF 0AFF"), (b"MARK A", b"MARK A OLD W"), (b"LIFT A", b"LIFT A TAKEN"), (b"GO A", b"GO A"),
-]
-END = b"ENDSCHED"
+ITEMS = b"FETCH A\nMARK A\nDO A\nFETCH A\nMARK A\nLIFT A\nGO A\nENDSCHED\n"
 OTHER = Program.of("0 1A11 AR, 2 07FE BR")
 FILE = COUNTED.marks_file(4, 1)
 BOTH = COUNTED.marks_file(6, 1)
@@ -47,15 +38,6 @@ class Command:
 
     words: list[str]
     input: bytes
-
-    def answer(self, data: bytes) -> answers.Answer:
-        """What must come of an input."""
-        if self.words != ["replay"]:
-            return answers.answer(self.words, data)
-        try:
-            return answers.Answer(0, replay(data))
-        except Refused as refused:
-            return answers.Answer(*refused.answer)
 
 
 def job() -> bytes:
@@ -77,29 +59,8 @@ def three_modules() -> bytes:
     return "\n".join([*cards, "MODULE N 200008 2", "TEXT 07FE", "ENDJOB", ""]).encode()
 
 
-def replay(data: bytes) -> bytes:
-    """The items up to the first that differs, or that fetches at a place that a damaged listing has no longer."""
-    it = answers.listed(data, False)
-    lines = data[it.end :].split(b"\n")
-    lines = lines[:-1] if lines[-1] == b"" else lines
-    ((name, phase, modules),) = it.sessions
-    places = {place.location for place in modules[0].table()}
-    for number, line in enumerate(lines, it.lines + 1):
-        at = number - it.lines - 1
-        wanted = ITEMS[at][0] if at < len(ITEMS) else END
-        if at > len(ITEMS) or line != wanted or (line == b"FETCH A" and 0 not in places):
-            raise Refused(9, f"BAD SCHEDULE LINE {number}")
-    if len(lines) <= len(ITEMS):
-        raise Refused(9, f"BAD SCHEDULE LINE {it.lines + len(lines) + 1}")
-    events = b"".join(b"EVENT %d %s\n" % (at, event) for at, (_, event) in enumerate(ITEMS, 1))
-    done = b"".join(b"%s\n" % row.encode() for row in Result("RETURNED", 3).lines())
-    part = model.session_part(name, phase, modules, FACTS)
-    return b"COVERAGE REPLAY\n" + events + done + part + b"END\n"
-
-
 def commands() -> list[Command]:
     """All that read their input."""
-    items = b"".join(it + b"\n" for it, _ in ITEMS) + END + b"\n"
     return [
         Command(["run"], FIRST.job()),
         Command(["exits"], FIRST.job()),
@@ -108,7 +69,7 @@ def commands() -> list[Command]:
         Command(["marks", "S"], job()),
         Command(["table"], three_modules()),
         Command(["ends"], FIRST.job()),
-        Command(["replay"], job() + items),
+        Command(["replay"], job() + ITEMS),
         Command(["combine"], FILE + COUNTED.marks_file(2, 0, version=1)),
         Command(["show", "S"], job() + BOTH),
         Command(["prove", "S"], job()),
@@ -129,7 +90,7 @@ def damaged(data: bytes) -> Iterator[tuple[str, bytes]]:
 def fault_of(command: Command, name: str, data: bytes) -> str | None:
     """What is wrong with what comes of an input."""
     ran = subprocess.run([PROGRAM, *command.words], input=data, capture_output=True, timeout=SECONDS, check=False)
-    what = command.answer(data).fault(ran.returncode, ran.stdout) or ran.stderr[:200]
+    what = answers.answer(command.words, data).fault(ran.returncode, ran.stdout) or ran.stderr[:200]
     return f"{name}: {what!r}" if what else None
 
 

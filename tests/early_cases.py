@@ -9,15 +9,15 @@ import itertools
 import random
 import re
 
+import answers
 from harness import PROGRAM, coverage, run, well
 from jobs import FIRST, FIRST_RESULT, Result
-from race_cases import FIRST_JOB, JOBS, Core, Shown, bounds, core_of, fault_of, run_alone
+from race_cases import FIRST_JOB, JOBS, job_of
 
 # How often the first module's job is run, and each drawn one.
 RUNS, FEW = 500, 10
 # A task that opens and closes two sessions, one after the other: their closing instructions are its second and fourth of five.
 CALLS = "TASK A 100000 16 100 0\nTASK C 000000 16 100 0\nDATA 0 0A040A050A040A0507FE\n"
-DRAINED = re.compile(r"DRAINED COUNT ([0-9]+)|NOT DRAINED")
 LOCATIONS = (0, 4, 6, 8)
 
 
@@ -53,50 +53,17 @@ def two_sessions() -> None:
     print(f"tests/command_line: {RUNS} runs of early on one job: {len(seen)} different reports", flush=True)
 
 
-def drains_of(core: Core, text: str) -> tuple[dict[str, int | None], str]:
-    """Each controlled session's count, none where it wasn't drained, and the report without these lines."""
-    found: dict[str, int | None] = {}
-    lines, rest, name = text.split("\n"), [], ""
-    for line, after in zip(lines, [*lines[1:], ""]):
-        if line.startswith("SESSION "):
-            name = line.split()[1]
-        drained = DRAINED.fullmatch(line)
-        if drained is None:
-            rest.append(line)
-            continue
-        assert name not in found and (after == "END" or after.startswith("SESSION ")), f"{line} isn't the last line of {name}"
-        found[name] = int(drained[1]) if drained[1] else None
-    assert set(found) == {it.name for it in core.sessions if it.by}, f"the lines are those of {sorted(found)}"
-    return found, "\n".join(rest)
-
-
-def fault_in_drains(core: Core, shown: dict[str, Shown], drains: dict[str, int | None]) -> str | None:
-    """What is wrong with the counts."""
-    for session in core.sessions:
-        if session.by is None:
-            continue
-        closing, count = shown[session.by].closed.get(session.name), drains[session.name]
-        if closing is None and count is not None:
-            return f"{session.name} is never closed, and was drained at {count}"
-        if closing is not None and count is not None and not closing <= count <= core.tasks[session.by].count:
-            return f"{session.name} is closed at {closing} of {core.tasks[session.by].count}, and was drained at {count}"
-    return None
-
-
 def drawn() -> None:
     """early: sessions of two controllers while four other tasks run"""
     drained = 0
     for number in range(FIRST_JOB, FIRST_JOB + JOBS):
-        core = core_of(random.Random(number))
-        job = core.job().encode()
-        shown = {it.name: run_alone(core, it) for it in core.tasks.values()}
-        within = bounds(core, shown)
+        job = job_of(random.Random(number))
+        answer = answers.answer(["early"], job)
         for _ in range(FEW):
             output = well(run([PROGRAM, "early"], job)).output
-            drains, rest = drains_of(core, output.decode())
-            fault = fault_in_drains(core, shown, drains) or fault_of(core, within, rest.encode())
+            fault = answer.fault(0, output)
             assert fault is None, f"job {number}: {fault}"
-            drained += sum(it is not None for it in drains.values())
+            drained += output.count(b"\nDRAINED COUNT ")
         well(coverage("page", data=output))
     assert drained, "no session was drained"
     print(f"tests/command_line: {JOBS * FEW} runs of early on {JOBS} jobs: {drained} sessions drained", flush=True)

@@ -32,7 +32,7 @@ exit "${{PIPESTATUS[0]}}"
 def worked() -> list[Case]:
     """The worked rows of the program whose input is a text."""
     tables = (row_cases, hostile_cases, marks_cases, ends_cases, program_cases)
-    found = [it for table in tables for it in table.cases() if it.command == PROGRAM and it.words[:1] != ["replay"]]
+    found = [it for table in tables for it in table.cases() if it.command == PROGRAM]
     return [it for it in found if not it.redirect and it.before == ":"]
 
 
@@ -80,7 +80,7 @@ def each_refused() -> None:
         trials = Trials(PROGRAM, SEED, place)
         asked: list[tuple[endurance_inputs.Input, refusals.Seen, str, int]] = []
         for it in damaged_cases.commands():
-            known = endurance_inputs.Input(it.words, it.input, it.answer(it.input))
+            known = endurance_inputs.Input(it.words, it.input, answers.answer(it.words, it.input))
             whole = trials.watch.run(it.words, it.input)
             calls = [("read", n) for n in range(1, whole.reads + 1)] + [("write", n) for n in range(1, whole.writes + 1)]
             asked += [(known, whole, f"{how}{kind}", n) for how in ("", "short ") for kind, n in calls]

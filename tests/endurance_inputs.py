@@ -1,7 +1,7 @@
 """Random inputs of the program's commands, good, damaged and hostile, each with what must come of it.
 
 Jobs are drawn by tests/ends_model.py, tests/operands.py, tests/programs.py, tests/race_cases.py and tests/contention.py, or are
-those of the worked rows; damage falls on any of them, and tests/answers.py tells what comes. `replay` has its own draws, in
+those of the worked rows; damage falls on any of them, and tests/answers.py tells what comes. Schedules are drawn by
 tests/replay_cases.py.
 """
 from __future__ import annotations
@@ -13,6 +13,7 @@ from dataclasses import dataclass
 
 import answers
 import contention
+import core_model
 import damaged_cases
 import ends_model
 import hostile_cases
@@ -108,7 +109,7 @@ def job(draw: random.Random) -> bytes:
     if kind < 0.75:
         return written(draw)
     if kind < 0.8:
-        return race_cases.core_of(draw).job().encode()
+        return race_cases.job_of(draw)
     return draw.choice(rows())
 
 
@@ -247,28 +248,19 @@ def trial_of(draw: random.Random) -> Input:
 
 
 def replay_of(draw: random.Random) -> Input:
-    """A schedule, at times with other items, or behind a job that is damaged."""
-    number, kind = draw.randrange(1 << 32), draw.random()
-    core, fresh = (replay_cases.core_of(random.Random(number)) for _ in range(2))
-    front, lines = core.job(), replay_cases.items_of(draw, core)
-    for _ in range(draw.choice((0, 0, 0, 1, 2))):
-        at, other = draw.randrange(len(lines)), f"{draw.choice(replay_cases.KEYS)} {draw.choice('ABCD')}"
-        lines[at : at + draw.randrange(2)] = [draw.choice((other, other, other, "ENDSCHED", "GO E", "GO  A", "go A", "", "GO A "))]
-    if not lines:
+    """A schedule behind a job, at times with other items, or damaged."""
+    data = replay_cases.job_of(draw) if draw.random() < 0.6 else job(draw)
+    try:
+        lines = replay_cases.items_of(draw, core_model.Core(answers.listed(data, True)))
+    except model.Refused:
         lines = ["ENDSCHED"]
-    status, output = replay_cases.played(fresh, lines)
-    data = (front + "\n".join([*lines, ""])).encode()
-    if kind > 0.2:
-        return Input(["replay"], data, answers.Answer(status, output))
-    # Of a damaged job what comes is known where it is refused, or has more phases than one.
-    while True:
-        other_data = damaged(draw, front.encode()) + data[len(front) :]
-        try:
-            it = answers.listed(other_data, False)
-        except model.Refused as refused:
-            return Input(["replay"], other_data, answers.Answer(*refused.answer))
-        if len(it.phases) != 1:
-            return Input(["replay"], other_data, answers.Answer(9, b"BAD SCHEDULE LINE 0\n"))
+    for _ in range(draw.choice((0, 0, 0, 1, 2)) if lines else 0):
+        at, other = draw.randrange(len(lines)), f"{draw.choice(core_model.KEYS)} {draw.choice(('A', 'B', 'C', 'D', 'T0', 'T1'))}"
+        items = (other, other, other, "ENDSCHED", "GO E", "GO  A", "go A", "", "GO A ")
+        lines[at : at + draw.randrange(2)] = [draw.choice(items)]
+    data += "\n".join([*lines, ""]).encode()
+    data = damaged(draw, data) if draw.random() < 0.2 else data
+    return Input(["replay"], data, answers.answer(["replay"], data))
 
 
 def race_of(draw: random.Random) -> Input:
@@ -276,7 +268,7 @@ def race_of(draw: random.Random) -> Input:
     if draw.random() < 0.5:
         data = contention.job(draw)
     else:
-        data = race_cases.core_of(draw).job().encode()
+        data = race_cases.job_of(draw)
     words = draw.choice((["run"], ["run"], ["early"], ["count"], ["exits"], ["marks", name_of(draw, data)]))
     return Input(words, data, answers.answer(words, data), 10)
 

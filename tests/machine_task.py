@@ -39,7 +39,10 @@ class World:
     touched: set[int]
 
     def byte(self, at: int) -> int | None:
-        return next((text[at - base] for base, text in self.modules if base <= at < base + len(text)), None)
+        for base, text in self.modules:
+            if base <= at < base + len(text):
+                return text[at - base]
+        return None
 
 
 def spread(at: int, size: int) -> Iterator[int]:

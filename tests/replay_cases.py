@@ -1,14 +1,16 @@
-"""Schedules over sessions that tasks open and close, drawn at random and played by a model of their own."""
+"""Schedules over sessions that tasks open and close, drawn at random and played by tests/core_model.py."""
 from __future__ import annotations
 
 import random
 
-from core_model import EVENTS, Core, Module, Session, Task
-from harness import PROGRAM, coverage, difference, run, well
+import answers
+import phase_jobs
+from core_model import EVENTS, KEYS, Core
+from harness import PROGRAM, coverage, run, well
+from phase_jobs import Module, Session, Task
 
 # Operations whose second byte can be ORed with 4 or 5 without another place to go to.
 SAFE = ("LA", "LR", "SVC", "BCR")
-KEYS = (*EVENTS, "GO")
 # How many schedules a run of the tests plays, from which number on they are drawn, and of how many one is made a page.
 COUNT, FIRST_NUMBER, A_PAGE = 2000, 1, 50
 
@@ -50,7 +52,7 @@ def private_of(draw: random.Random, modules: list[Module]) -> str:
     return "".join(rows).ljust(0x80, "0") + tail
 
 
-def core_of(draw: random.Random) -> Core:
+def job_of(draw: random.Random) -> bytes:
     """Two or three modules, three or four sessions, two controllers and two further tasks."""
     first = Module("M", 0x100000, code_of(draw, 0x100000, draw.randrange(2, 7)))
     second = Module("N", 0x100080, code_of(draw, 0x100080, draw.randrange(1, 5)))
@@ -73,7 +75,7 @@ def core_of(draw: random.Random) -> Core:
         inside = name in "AB" or draw.randrange(3) == 0
         entry = draw.choice([it.base + at for it in modules[:2] for at, _, _ in it.located()]) if inside else 0
         tasks.append(Task(name, entry, draw.randrange(1, 30), registers, private_of(draw, modules[:2])))
-    return Core(modules, sessions, tasks)
+    return phase_jobs.job(modules, sessions, tasks)
 
 
 def items_of(draw: random.Random, core: Core) -> list[str]:
@@ -87,44 +89,29 @@ def items_of(draw: random.Random, core: Core) -> list[str]:
         bad = [it for it in KEYS if not core.is_possible(it, name)]
         if bad and draw.randrange(150) == 0:
             return [*lines, f"{draw.choice(bad)} {name}"]
-        key = "GO" if draw.randrange(40) == 0 else next(it for it in KEYS if core.is_possible(it, name))
+        key = "GO" if draw.randrange(40) == 0 else next(it for it in EVENTS if core.is_possible(it, name))
         lines.append(f"{key} {name}")
         core.play(key, name)
     return [*lines, "ENDSCHED"]
 
 
-def played(core: Core, lines: list[str]) -> tuple[int, bytes]:
-    """The status and the text of a schedule."""
-    front, told = core.job().count("\n"), ["COVERAGE REPLAY"]
-    for number, line in enumerate(lines, 1):
-        key, _, name = line.partition(" ")
-        if line == "ENDSCHED" and number == len(lines):
-            return 0, "\n".join([*told, *core.report(), ""]).encode()
-        # Behind ENDSCHED the next line is bad.
-        if key not in KEYS or name not in core.tasks or not core.is_possible(key, name):
-            return 9, f"BAD SCHEDULE LINE {front + number + (line == 'ENDSCHED')}\n".encode()
-        told.append(f"EVENT {number} {key} {name}{core.play(key, name)}")
-    return 9, f"BAD SCHEDULE LINE {front + len(lines) + 1}\n".encode()
-
-
-def schedule(number: int) -> tuple[bytes, bytes, int]:
-    """A job with a schedule, what is written, and the status."""
-    draw, again = random.Random(number), random.Random(number)
-    core, fresh = core_of(draw), core_of(again)
-    lines = items_of(draw, core)
-    status, output = played(fresh, lines)
-    return (fresh.job() + "\n".join([*lines, ""])).encode(), output, status
+def schedule(number: int) -> bytes:
+    """A job with a schedule."""
+    draw = random.Random(number)
+    data = job_of(draw)
+    lines = items_of(draw, Core(answers.listed(data, True)))
+    return data + "\n".join([*lines, ""]).encode()
 
 
 def plays() -> None:
     """schedules over sessions that tasks open and close"""
     for number in range(FIRST_NUMBER, FIRST_NUMBER + COUNT):
-        data, output, status = schedule(number)
-        ran = run([PROGRAM, "replay"], data)
-        assert ran.status == status, f"schedule {number}: status {ran.status}, and not {status}"
-        assert ran.output == output, f"schedule {number}: {difference(output, ran.output)}"
-        if status == 0 and number % A_PAGE == 0:
-            well(coverage("page", data=output))
+        data = schedule(number)
+        answer, ran = answers.answer(["replay"], data), run([PROGRAM, "replay"], data)
+        fault = answer.fault(ran.status, ran.output)
+        assert fault is None, f"schedule {number}: {fault}"
+        if ran.status == 0 and number % A_PAGE == 0:
+            well(coverage("page", data=ran.output))
 
 
 CHECKS = [plays]
