@@ -84,7 +84,8 @@ class Program:
         """The job, with other tasks, another listing, or lines behind its end."""
         lines = self.listing() if listing is None else listing
         text = self.text()
-        cards = ["COVERJOB 1", f"MODULE M 100000 {len(text)}", f"TEXT {text.hex().upper()}", f"LISTING {len(lines)}"]
+        cards = ["COVERJOB 1", f"MODULE M 100000 {len(text)}"]
+        cards += [*(f"TEXT {text[at : at + 64].hex().upper()}" for at in range(0, len(text), 64)), f"LISTING {len(lines)}"]
         return ("\n".join([*cards, *lines, "PHASE P", "SESSION S M"]) + f"\n{tasks}ENDJOB\n{more}").encode()
 
     def session(self, marks: str, possible: int, ranges: tuple[str, ...] = ()) -> list[str]:
