@@ -11,6 +11,7 @@ from typing import Callable
 
 import core_model
 import ends_model
+import marks_model
 import model
 import trial
 from harness import difference
@@ -18,7 +19,7 @@ from jobs import USAGE
 from model import Refused
 from task_runs import Bounds, Run, Runner, bounds, union
 
-FACTS = {mark: bits for bits, mark in model.MARKS.items()}
+FACTS = {mark: bits for bits, mark in marks_model.MARKS.items()}
 DRAINED = re.compile(rb"DRAINED COUNT ([0-9]+)|NOT DRAINED")
 
 
@@ -53,13 +54,13 @@ class Session:
     has_controller: bool
     within: Bounds
 
-    def check(self, facts: model.Facts) -> None:
+    def check(self, facts: marks_model.Facts) -> None:
         """Fails where the facts of a place don't lie within the bounds."""
         for place in (place for it in self.modules for place in it.table()):
             had, least, most = (it.get(place.address, 0) for it in (facts, self.within.least, self.within.most))
             assert least & ~had == 0 == had & ~most, f"{self.name!r} at {place.address:06X} has {had}, and not {least} to {most}"
 
-    def facts(self, lines: list[bytes]) -> model.Facts:
+    def facts(self, lines: list[bytes]) -> marks_model.Facts:
         """The facts by the marks of the part that the lines begin with."""
         found, at = {}, 1
         for it in self.modules:
@@ -67,7 +68,7 @@ class Session:
             found.update({place.address: FACTS.get(line[:1].decode("latin-1"), 0) for line, place in zip(marks, it.places) if place})
             # The lines of what was not executed come behind the listing.
             at += 1 + len(it.places)
-            at += len(model.not_executed(it.table(), [found[place.address] for place in it.table()]))
+            at += len(marks_model.not_executed(it.table(), [found[place.address] for place in it.table()]))
         return found
 
 
@@ -90,7 +91,7 @@ class Report(Answer):
             for it in self.sessions:
                 facts = it.facts(rest) if it.has_controller else it.within.least
                 it.check(facts)
-                part = model.session_part(it.name, it.phase, it.modules, facts)
+                part = marks_model.session_part(it.name, it.phase, it.modules, facts)
                 whole, rest = whole + part, rest[part.count(b"\n") :]
                 if it.has_controller and self.is_early:
                     whole += drained(it, rest[0] if rest else b"")
@@ -122,17 +123,17 @@ class Marks(Answer):
         it = self.session
         assert it
         try:
-            file = model.file_of(output, 0)
-            model.compare(model.session_file(it.name, it.modules, {}), file)
+            file = marks_model.file_of(output, 0)
+            marks_model.compare(marks_model.session_file(it.name, it.modules, {}), file)
             facts = facts_of(it.modules, file)
             it.check(facts)
         except (Refused, AssertionError) as fault:
             return f"{fault}"
-        wanted = model.session_file(it.name, it.modules, facts).data()
+        wanted = marks_model.session_file(it.name, it.modules, facts).data()
         return None if output == wanted else f"{output[:40].hex()}, and not {wanted[:40].hex()}"
 
 
-def facts_of(modules: list[model.Module], file: model.File) -> model.Facts:
+def facts_of(modules: list[model.Module], file: marks_model.File) -> marks_model.Facts:
     """The facts of a file with the table of these modules."""
     places = [place for module in modules for place in module.table()]
     return {place.address: bits for place, bits in zip(places, (it for it in file.sets if it is not None))}
@@ -188,7 +189,7 @@ def count(data: bytes) -> Answer:
     parts = [b"COVERAGE COUNT\n", *(it.lines() for it in runs)]
     for name, phase, modules in job.sessions:
         met = union([it.shown for it in runs if it.phase == phase]).counts()
-        parts.append(model.counts_part(name, phase, modules, met))
+        parts.append(marks_model.counts_part(name, phase, modules, met))
     return Answer(0, b"".join([*parts, b"END\n"]))
 
 
@@ -197,35 +198,35 @@ def marks(name: bytes, data: bytes) -> Answer:
     it = bounded(job, Runner(job).all(), session_of(job, name))
     if it.has_controller:
         return Marks(0, b"", it)
-    return Answer(0, model.session_file(name, it.modules, it.within.least).data())
+    return Answer(0, marks_model.session_file(name, it.modules, it.within.least).data())
 
 
-def firsts_of(job: model.Job, phase: bytes) -> model.Firsts:
+def firsts_of(job: model.Job, phase: bytes) -> marks_model.Firsts:
     return union([it.shown for it in Runner(job).all() if it.phase == phase]).firsts
 
 
 def prove(name: bytes, data: bytes) -> Answer:
     job = listed(data, True, named(name, True))
     _, phase, modules = session_of(job, name)
-    return Answer(0, model.evidence_of(modules, firsts_of(job, phase)))
+    return Answer(0, marks_model.evidence_of(modules, firsts_of(job, phase)))
 
 
 def show(name: bytes, data: bytes) -> Answer:
     job = listed(data, False, named(name, False))
     _, phase, modules = session_of(job, name)
-    file = model.file_of(data[job.end :], 0)
+    file = marks_model.file_of(data[job.end :], 0)
     if job.end + file.end < len(data):
         raise Refused(10, f"BAD MARKS OFFSET {file.end}")
-    model.compare(model.session_file(name, modules, {}), file)
-    return Answer(0, b"COVERAGE SHOW\n" + model.session_part(name, phase, modules, facts_of(modules, file)) + b"END\n")
+    marks_model.compare(marks_model.session_file(name, modules, {}), file)
+    return Answer(0, b"COVERAGE SHOW\n" + marks_model.session_part(name, phase, modules, facts_of(modules, file)) + b"END\n")
 
 
 def verify(name: bytes, data: bytes) -> Answer:
     job = listed(data, False, named(name, True))
     _, phase, modules = session_of(job, name)
-    file = model.file_of(data[job.end :], 0)
-    model.compare(model.session_file(name, modules, {}), file)
-    return Answer(0, model.verified(name, len(job.tasks), file, data[job.end + file.end :], firsts_of(job, phase)))
+    file = marks_model.file_of(data[job.end :], 0)
+    marks_model.compare(marks_model.session_file(name, modules, {}), file)
+    return Answer(0, marks_model.verified(name, len(job.tasks), file, data[job.end + file.end :], firsts_of(job, phase)))
 
 
 def replay(data: bytes) -> Answer:
@@ -249,8 +250,8 @@ def replay(data: bytes) -> Answer:
 ALONE: dict[bytes, Callable[[bytes], Answer]] = {
     b"run": lambda data: report(b"run", data), b"exits": lambda data: report(b"exits", data),
     b"early": lambda data: report(b"early", data), b"count": count,
-    b"table": lambda data: Answer(0, model.table_text(listed(data, True))),
-    b"ends": lambda data: Answer(0, ends_model.text(data)), b"combine": lambda data: Answer(0, model.combined(data)),
+    b"table": lambda data: Answer(0, marks_model.table_text(listed(data, True))),
+    b"ends": lambda data: Answer(0, ends_model.text(data)), b"combine": lambda data: Answer(0, marks_model.combined(data)),
     b"replay": replay,
 }
 NAMED = {b"marks": marks, b"show": show, b"prove": prove, b"verify": verify}

@@ -9,6 +9,7 @@ from dataclasses import dataclass, replace
 
 import machine_operations
 import machine_task
+import marks_model
 import model
 import task_runs
 from jobs import Result
@@ -238,7 +239,7 @@ class Core:
             parts.append("\n".join([*lines, ""]).encode())
         for number, session in enumerate(self.job.sessions):
             facts = {at: bits for (own, at), bits in self.sets.items() if own == number}
-            parts.append(model.session_part(*session, facts))
+            parts.append(marks_model.session_part(*session, facts))
         return b"".join([*parts, b"END\n"])
 
 

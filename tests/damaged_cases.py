@@ -11,7 +11,7 @@ from dataclasses import dataclass
 from typing import Iterator
 
 import answers
-import model
+import marks_model
 from harness import PROGRAM, SECONDS, Tally, equal
 from harness import run as run_command
 from jobs import COUNTED, FIRST, Program
@@ -20,7 +20,7 @@ from jobs import COUNTED, FIRST, Program
 TASK = "TASK A 100000 16 9 0\nREG 1 00000002\nDATA 0 C1\nINPUT C2\n"
 # The same of a count that begins with 3, and the first visits that show its facts.
 FROM_3 = "TASK A 100000 16 100 0\nREG 1 00000003\n"
-FIRSTS_FROM_3: model.Firsts = {0x100000: {2: (0, 0, 0), 4: (0, 2, 0)}, 0x100004: {1: (0, 3, 0)}}
+FIRSTS_FROM_3: marks_model.Firsts = {0x100000: {2: (0, 0, 0), 4: (0, 2, 0)}, 0x100004: {1: (0, 3, 0)}}
 # SVC 4, BAL to the first job's instructions, SVC 5, SVC 4, SVC 5, and BR: the sixth and the eighth instruction close a session.
 OPENING = "TASK C 000000 16 100 0\nREG 1 00100000\nREG 13 00FFFFFE\nDATA 0 0A0445E010000A050A040A0507FD\n"
 ITEMS = b"FETCH A\nMARK A\nDO A\nFETCH A\nMARK A\nLIFT A\nGO A\nENDSCHED\n"
@@ -112,7 +112,7 @@ def offsets() -> None:
 def evidence() -> Iterator[bytes]:
     """The evidence of a count from 3 with each bit of each byte changed, cut after each byte, with other bytes behind it, with an
     entry doubled, left out or put in another's place, and with entries exchanged."""
-    whole = b"S370EVD1" + b"".join(model.entry(it) for facts in FIRSTS_FROM_3.values() for it in facts.values())
+    whole = b"S370EVD1" + b"".join(marks_model.entry(it) for facts in FIRSTS_FROM_3.values() for it in facts.values())
     yield whole
     for at in range(len(whole)):
         yield whole[:at]

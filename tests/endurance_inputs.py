@@ -18,6 +18,7 @@ import damaged_cases
 import ends_model
 import hostile_cases
 import marks_cases
+import marks_model
 import model
 import operands
 import outside_instructions
@@ -122,7 +123,7 @@ def name_of(draw: random.Random, data: bytes) -> str:
 # ---- marks files and evidence
 
 
-def file_like(draw: random.Random, file: model.File, share: float) -> bytes:
+def file_like(draw: random.Random, file: marks_model.File, share: float) -> bytes:
     """The file with other facts at a share of its places, of either version, any name and any runs."""
     for at, (row, bits) in enumerate(zip(file.rows, file.sets)):
         if bits is not None and draw.random() < share:
@@ -133,12 +134,12 @@ def file_like(draw: random.Random, file: model.File, share: float) -> bytes:
     return b"S370COV1" + data[20:] if draw.random() < 0.2 else data
 
 
-def table_of(data: bytes, name: str) -> model.File | None:
+def table_of(data: bytes, name: str) -> marks_model.File | None:
     """The file of a job's session without a fact, where the job is good and has the session."""
     try:
         it = answers.listed(data, False)
         _, _, modules = answers.session_of(it, name.encode())
-        return model.session_file(name.encode(), modules, {})
+        return marks_model.session_file(name.encode(), modules, {})
     except (model.Refused, StopIteration):
         return None
 
@@ -146,7 +147,7 @@ def table_of(data: bytes, name: str) -> model.File | None:
 def files(draw: random.Random) -> bytes:
     """Marks files one behind the other, mostly of one table."""
     found = b""
-    table: model.File | None = None
+    table: marks_model.File | None = None
     for _ in range(draw.choice((1, 1, 2, 3, 8, 30))):
         if table is None or draw.random() < 0.04:
             data = job(draw)
@@ -162,7 +163,7 @@ def behind(draw: random.Random, word: str, name: str, data: bytes) -> bytes:
         return draw.choice((b"", damaged_cases.FILE + damaged_cases.EVIDENCE))
     true = [answers.answer([it, name], data) for it in ("marks", "prove")]
     facts = true[0].output if true[0].status == 0 and true[0].output else table.data()
-    file = file_like(draw, model.file_of(facts, 0), 0.0 if draw.random() < 0.6 else 0.3)
+    file = file_like(draw, marks_model.file_of(facts, 0), 0.0 if draw.random() < 0.6 else 0.3)
     if draw.random() < 0.04:
         file = damaged_cases.FILE
     entries = true[1].output

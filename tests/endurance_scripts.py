@@ -16,6 +16,7 @@ from typing import Callable
 
 import decks
 import endurance_inputs
+import marks_model
 import model
 from harness import PROGRAM, TOP, Ran, folder, run
 from jobs import HEADING, listing_of
@@ -157,17 +158,17 @@ def check_call(draw: random.Random) -> Call:
 
 def united(files: dict[str, bytes]) -> tuple[int, str, bytes]:
     """The status of `union`, what standard error has, and the union."""
-    first: model.File | None = None
+    first: marks_model.File | None = None
     for name, data in files.items():
         at = 0
         try:
             while at < len(data) or not at:
-                file = model.file_of(data, at)
-                model.compare(first or file, file)
+                file = marks_model.file_of(data, at)
+                marks_model.compare(first or file, file)
                 first, at = first or file, file.end
         except model.Refused as refused:
             return refused.answer[0], f"{name}: {refused}", b""
-    return 0, "", model.combined(b"".join(files.values()))
+    return 0, "", marks_model.combined(b"".join(files.values()))
 
 
 def union_call(draw: random.Random) -> Call:
@@ -175,7 +176,7 @@ def union_call(draw: random.Random) -> Call:
     whole = endurance_inputs.files(draw)
     files, at = {}, 0
     while at < len(whole):
-        end = model.file_of(whole, at).end
+        end = marks_model.file_of(whole, at).end
         files[f"f{len(files):02}.marks"], at = whole[at:end], end
     if not files or draw.random() < 0.3:
         files["last.marks"] = endurance_inputs.damaged(draw, whole)

@@ -10,6 +10,7 @@ from concurrent.futures import ThreadPoolExecutor
 from dataclasses import dataclass, field
 
 import hercules
+import marks_model
 import model
 import operands
 import programs
@@ -54,9 +55,9 @@ def drawn(seed: int, number: int) -> Run:
 # ---- what the executed addresses say
 
 
-def shown_by(run: Run, table: Table) -> model.Shown:
+def shown_by(run: Run, table: Table) -> marks_model.Shown:
     """What the addresses that Hercules has executed show at the places."""
-    shown = model.Shown()
+    shown = marks_model.Shown()
     for number, (task, other) in enumerate(zip(run.tasks, run.others)):
         # What ends by a touch byte is not begun.
         after = [*other.trace[1:], other.state][: other.steps - (other.kind == TOUCHED)]
@@ -65,7 +66,7 @@ def shown_by(run: Run, table: Table) -> model.Shown:
     return shown
 
 
-def visit(shown: model.Shown, text: bytes, table: Table, state: hercules.State, went: bool, at: tuple[int, int]) -> None:
+def visit(shown: marks_model.Shown, text: bytes, table: Table, state: hercules.State, went: bool, at: tuple[int, int]) -> None:
     """Adds what a step shows, which begins in this state: at its own place, and at that of the subject of an EX."""
     location, own = state.at - operands.BASE, table.get(state.at)
     code = text[location : location + 4] if 0 <= location < len(text) else b""
@@ -94,10 +95,10 @@ def fault_in_marks(program: str, run: Run) -> str | None:
     shown = shown_by(run, {it.address: it for it in module.table()})
     texts = [written(program, words, data) for words in (["run"], ["count"], ["marks", "S"], ["prove", "S"])]
     wanted = (
-        model.session_part(b"S", b"P", [module], shown.facts) + b"END\n",
-        model.counts_part(b"S", b"P", [module], shown.counts()) + b"END\n",
-        model.session_file(b"S", [module], shown.facts).data(),
-        model.evidence_of([module], shown.firsts),
+        marks_model.session_part(b"S", b"P", [module], shown.facts) + b"END\n",
+        marks_model.counts_part(b"S", b"P", [module], shown.counts()) + b"END\n",
+        marks_model.session_file(b"S", [module], shown.facts).data(),
+        marks_model.evidence_of([module], shown.firsts),
     )
     for word, text, whole in zip(("run", "count", "marks", "prove"), texts, wanted):
         part = text[text.index(b"SESSION S ") :] if word in ("run", "count") else text

@@ -9,6 +9,7 @@ import collections
 from dataclasses import dataclass, field, replace
 
 import machine_operations
+import marks_model
 import model
 from jobs import Result
 from machine_task import RETURN, Task, World
@@ -33,8 +34,8 @@ class Run:
     count: int = 0
     at: int = 0
     strays: collections.Counter[int] = field(default_factory=collections.Counter)
-    shown: model.Shown = field(default_factory=model.Shown)
-    under: dict[bytes, model.Shown] = field(default_factory=dict)
+    shown: marks_model.Shown = field(default_factory=marks_model.Shown)
+    under: dict[bytes, marks_model.Shown] = field(default_factory=dict)
     closed: dict[bytes, int] = field(default_factory=dict)
 
     def lines(self) -> bytes:
@@ -125,7 +126,7 @@ class Runner:
             if task.called == 4 and not open_ and opened < len(own):
                 session, _, modules = own[opened]
                 open_, opened = (session, {place.address for it in modules for place in it.table()}), opened + 1
-                run.under[session] = model.Shown()
+                run.under[session] = marks_model.Shown()
             elif task.called == 5 and open_:
                 run.closed[open_[0]], open_ = done + 1, None
 
@@ -136,15 +137,15 @@ class Runner:
         return run
 
 
-def numbered(shown: model.Shown, number: int) -> model.Shown:
+def numbered(shown: marks_model.Shown, number: int) -> marks_model.Shown:
     """The same of the task of this number."""
     firsts = {at: {bit: (number, done, subject) for bit, (_, done, subject) in it.items()} for at, it in shown.firsts.items()}
-    return model.Shown(shown.facts, shown.met, firsts)
+    return marks_model.Shown(shown.facts, shown.met, firsts)
 
 
-def union(all_: list[model.Shown]) -> model.Shown:
+def union(all_: list[marks_model.Shown]) -> marks_model.Shown:
     """What several show together, the earlier first."""
-    found = model.Shown()
+    found = marks_model.Shown()
     for shown in all_:
         for at, bits in shown.facts.items():
             found.facts[at] = found.facts.get(at, 0) | bits
@@ -160,8 +161,8 @@ class Bounds:
     """Of a session the facts at least and at most, and where it may be drained: from which count on to which one, and whether it may
     not be; no counts where no SVC 5 closes it."""
 
-    least: model.Facts
-    most: model.Facts
+    least: marks_model.Facts
+    most: marks_model.Facts
     drained: range = range(0)
     may_not: bool = True
 
