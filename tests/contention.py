@@ -1,7 +1,7 @@
 """Jobs of 2 to 64 tasks that go through one module at once, in a loop of branches that they take differently.
 
 A task waits by a count of its own, so that tasks that begin one after the other meet. Sessions over the module are whole, or
-opened and closed by a task that waits between its calls.
+opened and closed by a task that waits between its calls, and that is the phase's only one at times.
 """
 from __future__ import annotations
 
@@ -51,7 +51,7 @@ def controller(draw: random.Random, sessions: int) -> str:
 
 def job(draw: random.Random) -> bytes:
     """A job."""
-    tasks, kinds = draw.choice((2, 3, 4, 8, 16, 63)), variants(draw)
+    tasks, kinds = draw.choice((0, 2, 3, 4, 8, 16, 63)), variants(draw)
     cards = "".join(CARD.format(name=f"T{n}", entry=0x100000, private=16) + draw.choice(kinds) for n in range(tasks))
     sessions = draw.choice((0, 0, 1, 3, 8))
     if not sessions:

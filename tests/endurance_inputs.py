@@ -232,7 +232,7 @@ def input_of(draw: random.Random, word: str) -> Input:
     if word == "combine":
         data = files(draw)
     else:
-        data = job(draw)
+        data = contention.job(draw) if word == "early" and draw.random() < 0.5 else job(draw)
         words += [name_of(draw, data)] if word in NAMED else []
         data += behind(draw, word, words[1], data) if word in ("show", "verify") else b""
     if draw.random() < 0.45:
