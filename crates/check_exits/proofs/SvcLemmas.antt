@@ -11,14 +11,12 @@ use Rattle.s370_state.specs.declared.endings.Ending.TheVariants.{Exit, Abend, Ba
 use Rattle.s370_state.specs.declared.endings.Next.{Next}
 use Rattle.s370_state.specs.declared.endings.Next.TheVariants.{On, Ended}
 use Rattle.s370_decode.specs.Fields.{ex, first_half, i2}
-use Rattle.s370_decode.specs.Groups.{group_of}
 use Rattle.s370_decode.specs.Table.{op_of}
 use Rattle.s370_decode.specs.declared.code.Code.{Code}
-use Rattle.s370_decode.specs.declared.group.Group.{Group}
-use Rattle.s370_decode.specs.declared.group.Group.TheVariants.{Fixed, Logic, Storage, Decimal, Edit, Branch, Call, Supervisor, Missing}
 use Rattle.s370_decode.specs.declared.op.Op.{Op}
-use Rattle.s370_exec.specs.Effects.{Effect, at_address, call, call_address, effect, effect_in, ended_by, get_call, get_size, get_tested, is_completed, link_code, onward, onward_by, operand, put_call, put_tested, unchanged, updated}
+use Rattle.s370_exec.specs.Effects.{Effect, at_address, call, call_address, effect, ended_by, get_call, get_size, get_tested, is_completed, link_code, onward, onward_by, operand, put_call, put_tested, unchanged, updated}
 use Rattle.s370_exec.specs.Fetch.{code_at, first_tests, is_execute, merged, rest_tests, subject_tests}
+use Rattle.s370_exec.proofs.Groups.{of_effect}
 use Rattle.s370_exec.specs.Solo.{Step, begun_step, behind, fetched, from_first, solo_step, stepped, subject_fetched, subject_step, visit}
 
 abbrev is_bad : Ending → Bool
@@ -99,19 +97,19 @@ Stays s e = ends_bad e.next ≡ true → e.machine ≡ s
 never : (s : Machine) (e : Effect) → ends_bad e.next ≡ false → Stays s e
 never s e good bad = absurd (both_ways (ends_bad e.next) good bad)
 
-put_stays : (m : Memory) (s : Machine) (io : IoView) (next : ℕ) → Stays s (put_call m s io next)
+put_stays : (m : Memory) (s : Machine) (io : IoView) (next : ℕ) → Stays s (put_call next m s io)
 unfolding put_call
 put_stays m s io next = never s (put_tested m s io next (use_tests m (reads (call_address s) (reg s 0) ∷ []))) (put_good m s io next (use_tests m (reads (call_address s) (reg s 0) ∷ [])) (uses_good m (reads (call_address s) (reg s 0) ∷ [])))
 
-get_stays : (m : Memory) (s : Machine) (io : IoView) (next : ℕ) → Stays s (get_call m s io next)
+get_stays : (m : Memory) (s : Machine) (io : IoView) (next : ℕ) → Stays s (get_call next m s io)
 unfolding get_call
 get_stays m s io next = never s (get_tested s io next (get_size s io) (use_tests m (stores (call_address s) (get_size s io) ∷ []))) (get_good s io next (get_size s io) (use_tests m (stores (call_address s) (get_size s io) ∷ [])) (uses_good m (stores (call_address s) (get_size s io) ∷ [])))
 
-call_stays : (m : Memory) (s : Machine) (io : IoView) (n next : ℕ) → Stays s (call m s io n next)
+call_stays : (m : Memory) (s : Machine) (io : IoView) (n next : ℕ) → Stays s (call n next m s io)
 unfolding call
 call_stays m s io n next = by_tests (n == 1) (n == 2) (n == 3) (n == 4) (n == 5)
   where
-    by_tests : (a b c d e : Bool) → Stays s (if a then put_call m s io next else (if b then get_call m s io next else (if c then unchanged s io (Ended Exit) else
+    by_tests : (a b c d e : Bool) → Stays s (if a then put_call next m s io else (if b then get_call next m s io else (if c then unchanged s io (Ended Exit) else
         (if d then unchanged (at_address s next) io On else (if e then unchanged (at_address s next) io On else unchanged s io (Ended (BadSvc n)))))))
     by_tests true b c d e = put_stays m s io next
     by_tests false true c d e = get_stays m s io next
@@ -123,20 +121,8 @@ call_stays m s io n next = by_tests (n == 1) (n == 2) (n == 3) (n == 4) (n == 5)
 row_stays : (m : Memory) (s : Machine) (io : IoView) (next : ℕ) (row : Option Row) → Stays s (onward next io (operate m s row))
 row_stays m s io next row = never s (onward next io (operate m s row)) (row_good m s io next row)
 
-group_stays : (m : Memory) (s : Machine) (io : IoView) (c : Code) (op : Op) (next link : ℕ) (g : Group) → Stays s (effect_in m s io c op next link g)
-group_stays m s io c op next link Fixed = row_stays m s io next _
-group_stays m s io c op next link Logic = row_stays m s io next _
-group_stays m s io c op next link Storage = row_stays m s io next _
-group_stays m s io c op next link Decimal = row_stays m s io next _
-group_stays m s io c op next link Edit = row_stays m s io next _
-group_stays m s io c op next link Branch = λ bad. absurd cc
-group_stays m s io c op next link Call = call_stays m s io (i2 c) next
-group_stays m s io c op next link Supervisor = λ bad. refl
-group_stays m s io c op next link Missing = λ bad. refl
-
 effect_stays : (m : Memory) (s : Machine) (io : IoView) (c : Code) (op : Op) (next link : ℕ) → Stays s (effect m s io c op next link)
-unfolding effect
-effect_stays m s io c op next link = group_stays m s io c op next link (group_of op)
+effect_stays m s io c op next link = of_effect (Stays s) m s io c op next link (λ cpu bad. absurd cc) (row_stays m s io next) (call_stays m s io (i2 c) next) (λ bad. refl)
 
 -- and the step likewise
 abbrev IsLeft : State → Step → Type 0

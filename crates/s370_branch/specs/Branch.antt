@@ -1,5 +1,5 @@
 -- Branches (Principles of Operation, "Branching"). The branch address is taken before any register changes.
-use Rattle.std.specs.Prelude.{ℕ, ◌+◌, ◌*◌, ◌%◌, Bool, true, false, not, ◌&&◌, nat_le, int_lt, if◌then◌else◌, ◌==◌, List, slice_index, slice_set}
+use Rattle.std.specs.Prelude.{ℕ, ◌+◌, ◌*◌, ◌%◌, Bool, true, false, not, ◌&&◌, nat_le, int_lt, if◌then◌else◌, ◌==◌, Option, Some, None, List, slice_index, slice_set}
 use Rattle.cov_base.specs.States.{CpuView}
 use Rattle.cov_base.specs.Memory.{wrap}
 use Rattle.s370_state.specs.Words.{signed}
@@ -46,16 +46,6 @@ goes _ s c = false
 abbrev pub by_register : CpuView → Code → ℕ
 by_register s c = wrap (slice_index s.regs (r2 c))
 
--- where it goes to: bits 8-31 of R2 in the RR forms, else the second operand's address, which is without an index in RS
-unfoldable pub branch_target : Op → CpuView → Code → ℕ
-branch_target BCR s c = by_register s c
-branch_target BCTR s c = by_register s c
-branch_target BALR s c = by_register s c
-branch_target BASR s c = by_register s c
-branch_target BXH s c = e2 s c
-branch_target BXLE s c = e2 s c
-branch_target _ s c = ex s c
-
 -- two bits of length code, two of condition code, four of program mask, and the updated address
 abbrev pub link_word : CpuView → ℕ → ℕ → ℕ
 link_word s next link = link * 1073741824 + s.condition * 268435456 + s.mask * 16777216 + next
@@ -63,23 +53,21 @@ link_word s next link = link * 1073741824 + s.condition * 268435456 + s.mask * 1
 abbrev pub with_first : CpuView → Code → ℕ → List ℕ
 with_first s c v = slice_set s.regs (r1 c) v
 
--- the registers after it
-unfoldable pub branch_regs : Op → CpuView → Code → ℕ → ℕ → List ℕ
-branch_regs BCT s c next link = with_first s c (less_one s c)
-branch_regs BCTR s c next link = with_first s c (less_one s c)
-branch_regs BAL s c next link = with_first s c (link_word s next link)
-branch_regs BALR s c next link = with_first s c (link_word s next link)
-branch_regs BAS s c next link = with_first s c next
-branch_regs BASR s c next link = with_first s c next
-branch_regs BXH s c next link = with_first s c (index_sum s c)
-branch_regs BXLE s c next link = with_first s c (index_sum s c)
-branch_regs _ s c next link = s.regs
+-- the processor after a branch
+abbrev pub arrives : CpuView → ℕ → Bool → ℕ → List ℕ → Option CpuView
+arrives s next goes to regs = Some (record { regs = regs; ia = if goes then to else next; condition = s.condition; mask = s.mask })
 
--- the processor after it; next is the updated address, and link the length code
-abbrev pub branched : Op → CpuView → Code → ℕ → ℕ → CpuView
-branched op s c next link = record {
-  regs = branch_regs op s c next link;
-  ia = if goes op s c then branch_target op s c else next;
-  condition = s.condition;
-  mask = s.mask;
-}
+-- Where the operation is a branch: it goes to bits 8-31 of R2 in the RR forms, else to the second operand's address, which is
+-- without an index in RS, or on to `next`, the updated address; and what becomes of R1, by that or by link, the length code.
+abbrev pub branched : Op → CpuView → Code → ℕ → ℕ → Option CpuView
+branched BC s c next link = arrives s next (goes BC s c) (ex s c) s.regs
+branched BCR s c next link = arrives s next (goes BCR s c) (by_register s c) s.regs
+branched BCT s c next link = arrives s next (goes BCT s c) (ex s c) (with_first s c (less_one s c))
+branched BCTR s c next link = arrives s next (goes BCTR s c) (by_register s c) (with_first s c (less_one s c))
+branched BAL s c next link = arrives s next (goes BAL s c) (ex s c) (with_first s c (link_word s next link))
+branched BALR s c next link = arrives s next (goes BALR s c) (by_register s c) (with_first s c (link_word s next link))
+branched BAS s c next link = arrives s next (goes BAS s c) (ex s c) (with_first s c next)
+branched BASR s c next link = arrives s next (goes BASR s c) (by_register s c) (with_first s c next)
+branched BXH s c next link = arrives s next (goes BXH s c) (e2 s c) (with_first s c (index_sum s c))
+branched BXLE s c next link = arrives s next (goes BXLE s c) (e2 s c) (with_first s c (index_sum s c))
+branched _ s c next link = None

@@ -1,14 +1,14 @@
 //! Branches (Principles of Operation, "General Instructions", "Branching").
-ghost use Rattle.std.specs.Prelude.{◌≡◌, ◌⊎◌, ℕ, ◌+◌, ◌*◌, ◌%◌, ◌<◌, ◌≤◌, true, ◌&&◌, ◌==◌, if◌then◌else◌};
+ghost use Rattle.std.specs.Prelude.{◌≡◌, Some, ◌⊎◌, ℕ, ◌+◌, ◌*◌, ◌%◌, ◌<◌, ◌≤◌, true, ◌&&◌, ◌==◌, if◌then◌else◌};
 ghost use Rattle.s370_state.specs.Words.{signed};
-ghost use Rattle.s370_decode.specs.Fields.{first_half, ex};
+ghost use Rattle.s370_decode.specs.Fields.{first_half};
 ghost use Rattle.s370_decode.specs.Groups.{group_of};
 ghost use Rattle.s370_decode.specs.Table.{op_of};
-ghost use Rattle.s370_branch.specs.Branch.{is_selected, less_one, index_sum, comparand, is_high, goes, branch_target, by_register, with_first, link_word, branch_regs, branched};
+ghost use Rattle.s370_branch.specs.Branch.{is_selected, less_one, index_sum, comparand, is_high, goes, by_register, with_first, link_word, branched};
 
 use cov_base::Addr;
 use s370_decode::{Code, Group, Op, op_of};
-use s370_state::{Cpu, signed};
+use s370_state::{Cpu, indexed, signed};
 
 /// Whether the mask selects the condition code: its bits 8, 4, 2 and 1 are for the codes 0 to 3. Without a branch, which the
 /// processor would foresee ill.
@@ -97,19 +97,6 @@ pub fn outcome(cpu: &Cpu, code: &Code) -> bool
     }
 }
 
-/// The second operand's address in the RX format, of which each instruction has four bytes.
-#[inline(always)]
-#[tactic(auto, unfolding(s370_decode::specs::Fields::b1, s370_decode::specs::Fields::d1, s370_decode::specs::Fields::b2, s370_decode::specs::Fields::d2))]
-fn indexed(cpu: &Cpu, code: &Code) -> Addr
-    ensures { result ≡ ex cpu.now code.now }
-{
-    if code.len == 6 {
-        cpu.address(code.b2(), code.x2(), code.d2())
-    } else {
-        cpu.address(code.b1(), code.x2(), code.d1())
-    }
-}
-
 /// Bits 8-31 of R2.
 fn by_register(cpu: &Cpu, code: &Code) -> Addr
     ensures { result ≡ by_register cpu.now code.now }
@@ -130,9 +117,9 @@ fn link_word(cpu: &Cpu, next: Addr, link: u8) -> u32
 
 /// BC: branches where the mask selects the condition code.
 #[inline(always)]
-#[tactic(auto, unfolding(crate::specs::Branch::goes, crate::specs::Branch::branch_target, crate::specs::Branch::branch_regs))]
+#[tactic(auto, unfolding(crate::specs::Branch::goes))]
 pub fn branch_on_condition(cpu: &mut Cpu, code: &Code, next: Addr)
-    ensures { (link : ℕ) → cpu.new ≡ branched Op.BC cpu.old code.now next link }
+    ensures { (link : ℕ) → Some cpu.new ≡ branched Op.BC cpu.old code.now next link }
 {
     let to = if is_selected(code.r1(), cpu.condition()) {
         indexed(cpu, code)
@@ -144,9 +131,9 @@ pub fn branch_on_condition(cpu: &mut Cpu, code: &Code, next: Addr)
 
 /// BCR: branches to R2 where the mask selects the condition code and R2 is not 0.
 #[inline(always)]
-#[tactic(auto, unfolding(crate::specs::Branch::goes, crate::specs::Branch::branch_target, crate::specs::Branch::branch_regs))]
+#[tactic(auto, unfolding(crate::specs::Branch::goes))]
 pub fn branch_on_condition_register(cpu: &mut Cpu, code: &Code, next: Addr)
-    ensures { (link : ℕ) → cpu.new ≡ branched Op.BCR cpu.old code.now next link }
+    ensures { (link : ℕ) → Some cpu.new ≡ branched Op.BCR cpu.old code.now next link }
 {
     let to = if code.r2() != 0 && is_selected(code.r1(), cpu.condition()) {
         by_register(cpu, code)
@@ -166,9 +153,9 @@ fn count_and_go(cpu: &mut Cpu, code: &Code, to: Addr)
 
 /// BCT: takes 1 from R1 and branches unless 0 is left.
 #[inline(always)]
-#[tactic(auto, unfolding(crate::specs::Branch::goes, crate::specs::Branch::branch_target, crate::specs::Branch::branch_regs))]
+#[tactic(auto, unfolding(crate::specs::Branch::goes))]
 pub fn branch_on_count(cpu: &mut Cpu, code: &Code, next: Addr)
-    ensures { (link : ℕ) → cpu.new ≡ branched Op.BCT cpu.old code.now next link }
+    ensures { (link : ℕ) → Some cpu.new ≡ branched Op.BCT cpu.old code.now next link }
 {
     let to = if less_one(cpu, code) != 0 {
         indexed(cpu, code)
@@ -180,9 +167,9 @@ pub fn branch_on_count(cpu: &mut Cpu, code: &Code, next: Addr)
 
 /// BCTR: takes 1 from R1 and branches to R2, as it was, unless 0 is left or R2 is 0.
 #[inline(always)]
-#[tactic(auto, unfolding(crate::specs::Branch::goes, crate::specs::Branch::branch_target, crate::specs::Branch::branch_regs))]
+#[tactic(auto, unfolding(crate::specs::Branch::goes))]
 pub fn branch_on_count_register(cpu: &mut Cpu, code: &Code, next: Addr)
-    ensures { (link : ℕ) → cpu.new ≡ branched Op.BCTR cpu.old code.now next link }
+    ensures { (link : ℕ) → Some cpu.new ≡ branched Op.BCTR cpu.old code.now next link }
 {
     let to = if code.r2() != 0 && less_one(cpu, code) != 0 {
         by_register(cpu, code)
@@ -203,10 +190,10 @@ fn link_to(cpu: &mut Cpu, code: &Code, to: Addr, next: Addr, link: u8)
 
 /// BAL: leaves the link word in R1 and branches.
 #[inline(always)]
-#[tactic(auto, unfolding(crate::specs::Branch::goes, crate::specs::Branch::branch_target, crate::specs::Branch::branch_regs))]
+#[tactic(auto, unfolding(crate::specs::Branch::goes))]
 pub fn branch_and_link(cpu: &mut Cpu, code: &Code, next: Addr, link: u8)
     requires { link ≤ 2 }
-    ensures { cpu.new ≡ branched Op.BAL cpu.old code.now next link }
+    ensures { Some cpu.new ≡ branched Op.BAL cpu.old code.now next link }
 {
     let to = indexed(cpu, code);
     link_to(cpu, code, to, next, link);
@@ -214,10 +201,10 @@ pub fn branch_and_link(cpu: &mut Cpu, code: &Code, next: Addr, link: u8)
 
 /// BALR: leaves the link word in R1 and branches to R2, as it was, unless R2 is 0.
 #[inline(always)]
-#[tactic(auto, unfolding(crate::specs::Branch::goes, crate::specs::Branch::branch_target, crate::specs::Branch::branch_regs))]
+#[tactic(auto, unfolding(crate::specs::Branch::goes))]
 pub fn branch_and_link_register(cpu: &mut Cpu, code: &Code, next: Addr, link: u8)
     requires { link ≤ 2 }
-    ensures { cpu.new ≡ branched Op.BALR cpu.old code.now next link }
+    ensures { Some cpu.new ≡ branched Op.BALR cpu.old code.now next link }
 {
     let to = if code.r2() != 0 {
         by_register(cpu, code)
@@ -237,9 +224,9 @@ fn save_and_go(cpu: &mut Cpu, code: &Code, to: Addr, next: Addr)
 
 /// BAS: leaves the updated address in R1 and branches.
 #[inline(always)]
-#[tactic(auto, unfolding(crate::specs::Branch::goes, crate::specs::Branch::branch_target, crate::specs::Branch::branch_regs))]
+#[tactic(auto, unfolding(crate::specs::Branch::goes))]
 fn branch_and_save(cpu: &mut Cpu, code: &Code, next: Addr)
-    ensures { (link : ℕ) → cpu.new ≡ branched Op.BAS cpu.old code.now next link }
+    ensures { (link : ℕ) → Some cpu.new ≡ branched Op.BAS cpu.old code.now next link }
 {
     let to = indexed(cpu, code);
     save_and_go(cpu, code, to, next);
@@ -247,9 +234,9 @@ fn branch_and_save(cpu: &mut Cpu, code: &Code, next: Addr)
 
 /// BASR: leaves the updated address in R1 and branches to R2, as it was, unless R2 is 0.
 #[inline(always)]
-#[tactic(auto, unfolding(crate::specs::Branch::goes, crate::specs::Branch::branch_target, crate::specs::Branch::branch_regs))]
+#[tactic(auto, unfolding(crate::specs::Branch::goes))]
 fn branch_and_save_register(cpu: &mut Cpu, code: &Code, next: Addr)
-    ensures { (link : ℕ) → cpu.new ≡ branched Op.BASR cpu.old code.now next link }
+    ensures { (link : ℕ) → Some cpu.new ≡ branched Op.BASR cpu.old code.now next link }
 {
     let to = if code.r2() != 0 {
         by_register(cpu, code)
@@ -261,10 +248,10 @@ fn branch_and_save_register(cpu: &mut Cpu, code: &Code, next: Addr)
 
 /// BXH and BXLE: adds the increment to R1, and branches as the comparison with the sum says.
 #[inline(always)]
-#[tactic(auto, unfolding(crate::specs::Branch::goes, crate::specs::Branch::branch_target, crate::specs::Branch::branch_regs))]
+#[tactic(auto, unfolding(crate::specs::Branch::goes))]
 fn branch_on_index(cpu: &mut Cpu, code: &Code, op: Op, next: Addr)
     requires { (op ≡ Op.BXH) ⊎ (op ≡ Op.BXLE) }
-    ensures { (link : ℕ) → cpu.new ≡ branched op cpu.old code.now next link }
+    ensures { (link : ℕ) → Some cpu.new ≡ branched op cpu.old code.now next link }
 {
     let to = if goes(cpu, code, op) {
         cpu.based(code.b2(), code.d2())
@@ -284,7 +271,7 @@ fn branch_on_index(cpu: &mut Cpu, code: &Code, op: Op, next: Addr)
 pub fn branch(cpu: &mut Cpu, code: &Code, op: Op, next: Addr, link: u8)
     requires group { group_of op ≡ Group.Branch }
     requires link { link ≤ 2 }
-    ensures { cpu.new ≡ branched op cpu.old code.now next link }
+    ensures { Some cpu.new ≡ branched op cpu.old code.now next link }
 {
     match op {
         Op::BC => branch_on_condition(cpu, code, next),

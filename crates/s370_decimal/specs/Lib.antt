@@ -1,7 +1,6 @@
 pub mod Fields
 pub mod Operands
 pub mod Results
-pub mod Sums
 pub mod Shifts
 pub mod Products
 pub mod Decimal

@@ -1,14 +1,14 @@
--- The rows of multiplication and division (Principles of Operation, "Decimal Instructions", "Multiply Decimal", "Divide
+-- Multiplication and division (Principles of Operation, "Decimal Instructions", "Multiply Decimal", "Divide
 -- Decimal").
 use Rattle.std.specs.Prelude.{ℕ, ◌+◌, ◌-◌, ◌*◌, ◌/◌, ◌%◌, Bool, not, ◌&&◌, nat_lt, nat_le, if◌then◌else◌}
 use Rattle.cov_base.specs.States.{Machine}
-use Rattle.cov_base.specs.Memory.{Memory, wrap}
-use Rattle.s370_state.specs.Row.{Row, Outcome, Completes, Program, on_data, with_bytes}
+use Rattle.cov_base.specs.Memory.{wrap}
+use Rattle.s370_state.specs.Row.{Outcome, Completes, Program, with_bytes}
 use Rattle.s370_decode.specs.Fields.{e1}
 use Rattle.s370_decode.specs.declared.code.Code.{Code}
 use Rattle.s370_state.specs.Digits.{store_field}
 use Rattle.s370_decimal.specs.Fields.{fits}
-use Rattle.s370_decimal.specs.Operands.{l1, l2, replaces, operands}
+use Rattle.s370_decimal.specs.Operands.{l1, l2}
 use Rattle.s370_decimal.specs.declared.operands.Operands.{Operands}
 
 -- the second field has at most 8 bytes, and fewer than the first
@@ -38,9 +38,3 @@ divided s c o =
     Completes (with_bytes s (store_field (store_field s.bytes (e1 s.cpu c) (longer_by (l1 c) (l2 c)) (o.first.magnitude / o.second.magnitude) (signs_differ o))
     (wrap (e1 s.cpu c + (l1 c - l2 c))) (l2 c) (o.first.magnitude % o.second.magnitude) o.first.minus))
     else Program 11
-
-abbrev pub row_mp : Memory → Machine → Code → Row
-row_mp m s c = record { well = is_shorter c; uses = replaces s.cpu c; outcome = on_data (operands m s.cpu s.bytes c) (multiplied s c) }
-
-abbrev pub row_dp : Memory → Machine → Code → Row
-row_dp m s c = record { well = is_shorter c; uses = replaces s.cpu c; outcome = on_data (operands m s.cpu s.bytes c) (divided s c) }

@@ -21,7 +21,7 @@ pub fn test_replaced<P: Space>(cpu: &Cpu, space: &P, code: &Code) -> Result<(), 
     ensures passed { IfOk result (λ _. use_tests (P.memory space.now) (replaces cpu.now code.now) ≡ None) }
     ensures reach { IfOk result (λ _. can_reach (P.memory space.now) (e1 cpu.now code.now) (l1 code.now + 1) ≡ true) }
     ensures store { IfOk result (λ _. can_store (P.memory space.now) (e1 cpu.now code.now) (l1 code.now + 1) ≡ true) }
-    ensures reach_second { IfOk result (λ _. can_reach (P.memory space.now) (e2 cpu.now code.now) (l2 code.now + 1) ≡ true) }
+    ensures second { IfOk result (λ _. can_reach (P.memory space.now) (e2 cpu.now code.now) (l2 code.now + 1) ≡ true) }
 {
     let a = cpu.based(code.b1(), code.d1());
     let b = cpu.based(code.b2(), code.d2());
@@ -39,7 +39,7 @@ pub fn test_compared<P: Space>(cpu: &Cpu, space: &P, code: &Code) -> Result<(), 
     ensures refused { IfErr result (λ e. use_tests (P.memory space.now) (compares cpu.now code.now) ≡ Some e) }
     ensures passed { IfOk result (λ _. use_tests (P.memory space.now) (compares cpu.now code.now) ≡ None) }
     ensures reach { IfOk result (λ _. can_reach (P.memory space.now) (e1 cpu.now code.now) (l1 code.now + 1) ≡ true) }
-    ensures reach_second { IfOk result (λ _. can_reach (P.memory space.now) (e2 cpu.now code.now) (l2 code.now + 1) ≡ true) }
+    ensures second { IfOk result (λ _. can_reach (P.memory space.now) (e2 cpu.now code.now) (l2 code.now + 1) ≡ true) }
 {
     let a = cpu.based(code.b1(), code.d1());
     let b = cpu.based(code.b2(), code.d2());

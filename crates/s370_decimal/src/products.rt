@@ -6,11 +6,12 @@ ghost use Rattle.cov_base.specs.Memory.{can_store};
 ghost use Rattle.s370_state.specs.Row.{Performs, machine_of, after, finish};
 ghost use Rattle.s370_decode.specs.Fields.{e1};
 ghost use Rattle.s370_decimal.specs.Operands.{l1, l2};
-ghost use Rattle.s370_decimal.specs.Products.{is_shorter, signs_differ, multiplied, divided, row_mp, row_dp};
+ghost use Rattle.s370_decimal.specs.Products.{is_shorter, signs_differ, multiplied, divided};
+ghost use Rattle.s370_decimal.specs.Decimal.{decimal_row};
 
 use crate::fields::fits;
 use crate::operands::{Operands, read_operands, test_replaced};
-use s370_decode::Code;
+use s370_decode::{Code, Op};
 use s370_state::{Cpu, Ending, Next, Space, put_field};
 
 /// Whether the second field has at most 8 bytes, and fewer than the first.
@@ -70,8 +71,7 @@ fn put_quotient<P: Space>(cpu: &Cpu, space: &mut P, code: &Code, o: Operands) ->
 
 /// MP: multiplies the first field by the second.
 pub fn multiply<P: Space>(cpu: &mut Cpu, space: &mut P, code: &Code) -> Next
-    ensures memory { P.memory space.new ≡ P.memory space.old }
-    ensures row { Performs (P.memory space.old) cpu.old (P.bytes space.old) (λ m s. row_mp m s code.now) cpu.new (P.bytes space.new) result }
+    ensures { Performs P.memory P.bytes (decimal_row Op.MP code.now) cpu.old space.old cpu.new space.new result }
 {
     if !is_shorter(code) {
         return Next::Ended(Ending::Abend(6));
@@ -87,8 +87,7 @@ pub fn multiply<P: Space>(cpu: &mut Cpu, space: &mut P, code: &Code) -> Next
 
 /// DP: divides the first field by the second, and leaves quotient and remainder in it.
 pub fn divide<P: Space>(cpu: &mut Cpu, space: &mut P, code: &Code) -> Next
-    ensures memory { P.memory space.new ≡ P.memory space.old }
-    ensures row { Performs (P.memory space.old) cpu.old (P.bytes space.old) (λ m s. row_dp m s code.now) cpu.new (P.bytes space.new) result }
+    ensures { Performs P.memory P.bytes (decimal_row Op.DP code.now) cpu.old space.old cpu.new space.new result }
 {
     if !is_shorter(code) {
         return Next::Ended(Ending::Abend(6));

@@ -6,12 +6,13 @@ ghost use Rattle.cov_base.specs.Memory.{can_reach};
 ghost use Rattle.s370_state.specs.Row.{Performs};
 ghost use Rattle.s370_state.specs.Digits.{field_at};
 ghost use Rattle.s370_decimal.specs.Results.{kept};
-ghost use Rattle.s370_decimal.specs.Shifts.{distance, shifted, row_srp};
+ghost use Rattle.s370_decimal.specs.Shifts.{distance, shifted};
+ghost use Rattle.s370_decimal.specs.Decimal.{decimal_row};
 
 use crate::fields::power;
 use crate::results::{Kept, keep, put_result};
 use cov_base::Addr;
-use s370_decode::Code;
+use s370_decode::{Code, Op};
 use s370_state::{Cpu, Ending, Field, Next, Space, field_at, test_store};
 
 /// The low six bits of the second address.
@@ -78,8 +79,7 @@ fn rounded_field<P: Space>(space: &P, at: Addr, l: u8, i: u8) -> Option<Field>
 
 /// SRP: shifts the digits of the first field, and rounds where they go to the right.
 pub fn shift_and_round<P: Space>(cpu: &mut Cpu, space: &mut P, code: &Code) -> Next
-    ensures memory { P.memory space.new ≡ P.memory space.old }
-    ensures row { Performs (P.memory space.old) cpu.old (P.bytes space.old) (λ m s. row_srp m s code.now) cpu.new (P.bytes space.new) result }
+    ensures { Performs P.memory P.bytes (decimal_row Op.SRP code.now) cpu.old space.old cpu.new space.new result }
 {
     let (at, l, i) = (cpu.based(code.b1(), code.d1()), code.l1(), code.i3());
     if let Err(e) = test_store(space, at, u32::from(l) + 1) {

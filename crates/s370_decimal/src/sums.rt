@@ -9,11 +9,11 @@ ghost use Rattle.s370_state.specs.Row.{Performs};
 ghost use Rattle.s370_state.specs.Digits.{number};
 ghost use Rattle.s370_state.specs.Words.{order_code};
 ghost use Rattle.s370_decimal.specs.Results.{kept};
-ghost use Rattle.s370_decimal.specs.Sums.{row_ap, row_sp, row_zap, row_cp};
+ghost use Rattle.s370_decimal.specs.Decimal.{decimal_row};
 
 use crate::operands::{Operands, read_operands, test_compared, test_replaced};
 use crate::results::{Kept, keep, put_result};
-use s370_decode::Code;
+use s370_decode::{Code, Op};
 use s370_state::{Cpu, Ending, Next, Space, field_at, number, order_code};
 
 /// What a field of length code l keeps of a number.
@@ -40,7 +40,8 @@ fn keep_difference(l: u8, o: Operands) -> Kept
     requires length { l ≤ 15 }
     requires first { o.first.magnitude < 10000000000000000000000000000000 }
     requires second { o.second.magnitude < 10000000000000000000000000000000 }
-    ensures { let difference = number o.first -ℤ number o.second in result ≡ kept l (unsigned_abs difference) (is_negative difference) }
+    ensures { let difference = number o.first -ℤ number o.second in
+        result ≡ kept l (unsigned_abs difference) (is_negative difference) }
 {
     let difference = number(o.first) - number(o.second);
     keep_number(l, difference)
@@ -48,8 +49,7 @@ fn keep_difference(l: u8, o: Operands) -> Kept
 
 /// AP: adds the second field to the first.
 pub fn add<P: Space>(cpu: &mut Cpu, space: &mut P, code: &Code) -> Next
-    ensures memory { P.memory space.new ≡ P.memory space.old }
-    ensures row { Performs (P.memory space.old) cpu.old (P.bytes space.old) (λ m s. row_ap m s code.now) cpu.new (P.bytes space.new) result }
+    ensures { Performs P.memory P.bytes (decimal_row Op.AP code.now) cpu.old space.old cpu.new space.new result }
 {
     if let Err(e) = test_replaced(cpu, space, code) {
         return Next::Ended(e);
@@ -65,8 +65,7 @@ pub fn add<P: Space>(cpu: &mut Cpu, space: &mut P, code: &Code) -> Next
 
 /// SP: subtracts the second field from the first.
 pub fn subtract<P: Space>(cpu: &mut Cpu, space: &mut P, code: &Code) -> Next
-    ensures memory { P.memory space.new ≡ P.memory space.old }
-    ensures row { Performs (P.memory space.old) cpu.old (P.bytes space.old) (λ m s. row_sp m s code.now) cpu.new (P.bytes space.new) result }
+    ensures { Performs P.memory P.bytes (decimal_row Op.SP code.now) cpu.old space.old cpu.new space.new result }
 {
     if let Err(e) = test_replaced(cpu, space, code) {
         return Next::Ended(e);
@@ -82,8 +81,7 @@ pub fn subtract<P: Space>(cpu: &mut Cpu, space: &mut P, code: &Code) -> Next
 
 /// ZAP: puts the second field in place of the first.
 pub fn zero_and_add<P: Space>(cpu: &mut Cpu, space: &mut P, code: &Code) -> Next
-    ensures memory { P.memory space.new ≡ P.memory space.old }
-    ensures row { Performs (P.memory space.old) cpu.old (P.bytes space.old) (λ m s. row_zap m s code.now) cpu.new (P.bytes space.new) result }
+    ensures { Performs P.memory P.bytes (decimal_row Op.ZAP code.now) cpu.old space.old cpu.new space.new result }
 {
     if let Err(e) = test_replaced(cpu, space, code) {
         return Next::Ended(e);
@@ -115,8 +113,7 @@ fn comparison(o: Operands) -> u8
 
 /// CP: compares the fields.
 pub fn compare<P: Space>(cpu: &mut Cpu, space: &mut P, code: &Code) -> Next
-    ensures memory { P.memory space.new ≡ P.memory space.old }
-    ensures row { Performs (P.memory space.old) cpu.old (P.bytes space.old) (λ m s. row_cp m s code.now) cpu.new (P.bytes space.new) result }
+    ensures { Performs P.memory P.bytes (decimal_row Op.CP code.now) cpu.old space.old cpu.new space.new result }
 {
     if let Err(e) = test_compared(cpu, space, code) {
         return Next::Ended(e);

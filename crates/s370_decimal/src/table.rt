@@ -1,7 +1,7 @@
 //! The one call for all decimal operations.
 ghost use Rattle.std.specs.Prelude.{◌≡◌};
 ghost use Rattle.s370_decode.specs.Groups.{group_of};
-ghost use Rattle.s370_state.specs.Row.{Operates};
+ghost use Rattle.s370_state.specs.Row.{Performs};
 ghost use Rattle.s370_decimal.specs.Decimal.{decimal_row};
 
 use crate::products::{divide, multiply};
@@ -19,8 +19,7 @@ use s370_state::{Cpu, Next, Space};
 /// address are left as they are. Takes no memory.
 pub fn decimal<P: Space>(cpu: &mut Cpu, space: &mut P, code: &Code, op: Op) -> Next
     requires { group_of op ≡ Group.Decimal }
-    ensures memory { P.memory space.new ≡ P.memory space.old }
-    ensures row { Operates (P.memory space.old) cpu.old (P.bytes space.old) (λ m s. decimal_row op m s code.now) cpu.new (P.bytes space.new) result }
+    ensures { Performs P.memory P.bytes (decimal_row op code.now) cpu.old space.old cpu.new space.new result }
 {
     match op {
         Op::AP => add(cpu, space, code),

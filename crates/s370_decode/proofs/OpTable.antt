@@ -1,22 +1,22 @@
 -- The table holds each code's operation, by computing.
-use Rattle.std.proofs.Common.{◌≡◌, ℕ, ◌/◌, ◌%◌, ◌<◌, map, get_or, refl, ◌∙◌, arith}
+use Rattle.std.proofs.Common.{◌≡◌, ℕ, ◌/◌, ◌<◌, map, get_or, refl, ◌∙◌, arith}
 use Rattle.std.specs.List.{range_with_len}
 use Rattle.std.proofs.lemmas.List.FromFn.{get_or-map-range_with_len}
 use Rattle.s370_decode.specs.declared.op.Op.{Op}
 use Rattle.s370_decode.specs.declared.op.Op.TheVariants.{LR}
 use Rattle.s370_decode.specs.declared.table.TheConstants.{OPS}
-use Rattle.s370_decode.specs.Table.{op_of, op_at, ops_0, ops_1, ops_4, ops_5, ops_8, ops_9, ops_a, ops_b, ops_d, ops_e, ops_f}
+use Rattle.s370_decode.specs.Table.{op_of, op_in, operations}
 
 by_code : ℕ → Op
-by_code n = op_at (n / 16) (n % 16)
+by_code n = op_in operations n
 
 whole : OPS ≡ map by_code (range_with_len 0 256)
-unfolding by_code op_at ops_0 ops_1 ops_4 ops_5 ops_8 ops_9 ops_a ops_b ops_d ops_e ops_f
+unfolding by_code op_in operations
 whole = refl
 
-halves : (h : ℕ) → by_code (h / 256) ≡ op_of h
+same : (h : ℕ) → by_code (h / 256) ≡ op_of h
 unfolding by_code
-halves h = let e : h / 256 / 16 ≡ h / 4096 = omega arith in rw e refl
+same h = refl
 
 pub found : (h : ℕ) → h < 65536 → get_or OPS (h / 256) LR ≡ op_of h
-found h l = rw whole (get_or-map-range_with_len by_code 0 256 (h / 256) (h / 256) LR (omega arith) (omega arith) ∙ halves h)
+found h l = rw whole (get_or-map-range_with_len by_code 0 256 (h / 256) (h / 256) LR (omega arith) (omega arith) ∙ same h)

@@ -16,42 +16,31 @@ use Rattle.s370_edit.specs.declared.working.Working.{Working}
 abbrev pub field_code : Working → ℕ
 field_code w = if w.nonzero then (if w.significant then 1 else 2) else 0
 
--- the address goes to bits 8-31 of register 1
-abbrev pub marked : List ℕ → Option ℕ → List ℕ
-marked regs None = regs
-marked regs (Some at) = with_address regs 1 at
-
-abbrev pub marked_by : Bool → List ℕ → Option ℕ → List ℕ
-marked_by false regs mark = regs
-marked_by true regs mark = marked regs mark
+-- where the operation marks, the address goes to bits 8-31 of register 1
+abbrev pub marked : Bool → List ℕ → Option ℕ → List ℕ
+marked true regs (Some at) = with_address regs 1 at
+marked _ regs mark = regs
 
 -- what the bytes from a on and the processor become; a digit above 9 is code 7
-abbrev pub edited : Bool → Machine → ℕ → List ℕ → Working → Bool → Outcome
-edited marks s a result w true = Program 7
-edited marks s a result w false = Completes (record {
-  cpu = record { regs = marked_by marks s.cpu.regs w.mark; ia = s.cpu.ia; condition = field_code w; mask = s.cpu.mask };
+abbrev pub edited : Bool → Machine → ℕ → List ℕ → Working → Outcome
+edited marks s a result w = if w.bad then Program 7 else Completes (record {
+  cpu = record s.cpu { regs = marked marks s.cpu.regs w.mark; condition = field_code w };
   bytes = store_bytes s.bytes a result;
 })
 
 -- the n pattern bytes from a on, and of the source from b on as many bytes as the working reads
-abbrev pub operands : Memory → List ℕ → ℕ → ℕ → ℕ → List Use
-operands m bytes a b n = stores a n ∷ (reads b (worked m bytes a b n).taken ∷ [])
+abbrev pub pattern_uses : Memory → List ℕ → ℕ → ℕ → ℕ → List Use
+pattern_uses m bytes a b n = stores a n ∷ reads b (worked m bytes a b n).taken ∷ []
 
-abbrev pub pattern_row : Bool → Memory → Machine → ℕ → ℕ → ℕ → Row
-pattern_row marks m s a b n = record {
-  well = true;
-  uses = operands m s.bytes a b n;
-  outcome = edited marks s a (formed m s.bytes a b n) (worked m s.bytes a b n) (worked m s.bytes a b n).bad;
-}
+abbrev pub pattern_row : Bool → Code → Memory → Machine → Option Row
+pattern_row marks c m s =
+    let a = e1 s.cpu c in
+    let b = e2 s.cpu c in
+    let n = i2 c + 1 in
+    Some (record { well = true; uses = pattern_uses m s.bytes a b n; outcome = edited marks s a (formed m s.bytes a b n) (worked m s.bytes a b n) })
 
-abbrev pub row_ed : Memory → Machine → Code → Row
-row_ed m s c = pattern_row false m s (e1 s.cpu c) (e2 s.cpu c) (i2 c + 1)
-
--- it also leaves the address of the last result byte whose digit is not 0 where significance was off before it
-abbrev pub row_edmk : Memory → Machine → Code → Row
-row_edmk m s c = pattern_row true m s (e1 s.cpu c) (e2 s.cpu c) (i2 c + 1)
-
-abbrev pub edit_row : Op → Memory → Machine → Code → Option Row
-edit_row ED m s c = Some (row_ed m s c)
-edit_row EDMK m s c = Some (row_edmk m s c)
-edit_row _ m s c = None
+-- EDMK also leaves the address of the last result byte whose digit is not 0 where significance was off before it
+abbrev pub edit_row : Op → Code → Memory → Machine → Option Row
+edit_row ED c m s = pattern_row false c m s
+edit_row EDMK c m s = pattern_row true c m s
+edit_row _ c m s = None

@@ -2,12 +2,11 @@
 ghost use Rattle.std.specs.Prelude.{◌≡◌, ◌+◌, ◌/◌, ◌<◌, ◌≤◌, true, false, [], length, IfOk, IfErr, OnOk, Some, None, if◌then◌else◌};
 ghost use Rattle.arrayvec.specs.ArrayVec.{array_vec_len};
 ghost use Rattle.cov_base.specs.Memory.{can_reach, can_store};
-ghost use Rattle.s370_decode.specs.Fields.{i2, e1, e2};
 ghost use Rattle.s370_decode.specs.Groups.{group_of};
 ghost use Rattle.s370_state.specs.Digits.{store_bytes};
-ghost use Rattle.s370_state.specs.Row.{Performs, Operates, use_tests, machine_of, after, finish};
+ghost use Rattle.s370_state.specs.Row.{Performs, use_tests, machine_of, after, finish};
 ghost use Rattle.s370_edit.specs.Working.{worked, formed};
-ghost use Rattle.s370_edit.specs.Edit.{field_code, marked, marked_by, edited, operands, pattern_row, edit_row};
+ghost use Rattle.s370_edit.specs.Edit.{field_code, marked, edited, pattern_uses, pattern_row, edit_row};
 
 use crate::pattern::work;
 use crate::working::Working;
@@ -29,8 +28,10 @@ fn form<P: Space>(
     requires some { 1 ≤ n }
     requires most { n ≤ 256 }
     requires empty { text.old.items ≡ [] }
-    ensures refused { IfErr result (λ e. use_tests (P.memory space.now) (operands (P.memory space.now) (P.bytes space.now) a b n) ≡ Some e) }
-    ensures passed { IfOk result (λ _. use_tests (P.memory space.now) (operands (P.memory space.now) (P.bytes space.now) a b n) ≡ None) }
+    ensures refused { let m = P.memory space.now in
+        IfErr result (λ e. use_tests m (pattern_uses m (P.bytes space.now) a b n) ≡ Some e) }
+    ensures passed { let m = P.memory space.now in
+        IfOk result (λ _. use_tests m (pattern_uses m (P.bytes space.now) a b n) ≡ None) }
     ensures value { IfOk result (λ w. w ≡ worked (P.memory space.now) (P.bytes space.now) a b n) }
     ensures store { IfOk result (λ _. can_store (P.memory space.now) a n ≡ true) }
     ensures text { OnOk result (text.new.items ≡ formed (P.memory space.now) (P.bytes space.now) a b n) }
@@ -77,7 +78,7 @@ fn field_code(w: &Working) -> u8
 
 /// The address goes to bits 8-31 of register 1.
 fn mark(cpu: &mut Cpu, address: Option<Addr>)
-    ensures { cpu.new ≡ record cpu.old { regs = marked cpu.old.regs address } }
+    ensures { cpu.new ≡ record cpu.old { regs = marked true cpu.old.regs address } }
 {
     if let Some(at) = address {
         cpu.set_address(1, at);
@@ -86,7 +87,7 @@ fn mark(cpu: &mut Cpu, address: Option<Addr>)
 
 /// The same where the operation marks.
 fn mark_by(cpu: &mut Cpu, marks: bool, address: Option<Addr>)
-    ensures { cpu.new ≡ record cpu.old { regs = marked_by marks cpu.old.regs address } }
+    ensures { cpu.new ≡ record cpu.old { regs = marked marks cpu.old.regs address } }
 {
     if marks {
         mark(cpu, address);
@@ -106,7 +107,8 @@ fn complete<P: Space>(
     requires len { length text.now ≡ n }
     requires store { can_store (P.memory space.old) a n ≡ true }
     ensures memory { P.memory space.new ≡ P.memory space.old }
-    ensures outcome { after cpu.new (P.bytes space.new) result ≡ finish (machine_of cpu.old (P.bytes space.old)) (edited marks (machine_of cpu.old (P.bytes space.old)) a text.now w.now w.now.bad) }
+    ensures outcome { let s = machine_of cpu.old (P.bytes space.old) in
+        after cpu.new (P.bytes space.new) result ≡ finish s (edited marks s a text.now w.now) }
 {
     if w.bad {
         return Next::Ended(Ending::Abend(7));
@@ -120,8 +122,7 @@ fn complete<P: Space>(
 /// Edits by the pattern, with or without a mark.
 #[tactic(auto, using(s370_state::proofs::Performs::passes, s370_state::proofs::Performs::refuses))]
 fn edit_pattern<P: Space>(cpu: &mut Cpu, space: &mut P, code: &Code, marks: bool) -> Next
-    ensures memory { P.memory space.new ≡ P.memory space.old }
-    ensures row { Performs (P.memory space.old) cpu.old (P.bytes space.old) (λ m s. pattern_row marks m s (e1 s.cpu code.now) (e2 s.cpu code.now) (i2 code.now + 1)) cpu.new (P.bytes space.new) result }
+    ensures { Performs P.memory P.bytes (pattern_row marks code.now) cpu.old space.old cpu.new space.new result }
 {
     let n = u32::from(code.l()) + 1;
     let a = cpu.based(code.b1(), code.d1());
@@ -143,8 +144,7 @@ fn edit_pattern<P: Space>(cpu: &mut Cpu, space: &mut P, code: &Code, marks: bool
 /// memory.
 pub fn edit<P: Space>(cpu: &mut Cpu, space: &mut P, code: &Code, op: Op) -> Next
     requires { group_of op ≡ Group.Edit }
-    ensures memory { P.memory space.new ≡ P.memory space.old }
-    ensures row { Operates (P.memory space.old) cpu.old (P.bytes space.old) (λ m s. edit_row op m s code.now) cpu.new (P.bytes space.new) result }
+    ensures { Performs P.memory P.bytes (edit_row op code.now) cpu.old space.old cpu.new space.new result }
 {
     match op {
         Op::ED => edit_pattern(cpu, space, code, false),

@@ -36,7 +36,8 @@ pub fn work<P: Space>(
     ensures value { IfSome result (λ w. w ≡ worked (P.memory space.now) (P.bytes space.now) a b n) }
     ensures text { OnSome result (text.new.items ≡ formed (P.memory space.now) (P.bytes space.now) a b n) }
     ensures len { OnSome result (array_vec_len text.new ≡ n) }
-    ensures none { IfNone result (can_reach (P.memory space.now) b (worked (P.memory space.now) (P.bytes space.now) a b n).taken ≡ false) }
+    ensures none { let w = worked (P.memory space.now) (P.bytes space.now) a b n in
+        IfNone result (can_reach (P.memory space.now) b w.taken ≡ false) }
 {
     let fill = fill_byte(space, a, n);
     let mut w = fresh();

@@ -98,7 +98,8 @@ fn next_digit<P: Space>(space: &P, b: Addr, w: &Working) -> Option<Digit>
     ensures right { IfSome result (λ d. IfSome d.right (λ r. r < 16)) }
     ensures most { IfSome result (λ d. d.taken ≤ w.now.taken + 1) }
     ensures reach { IfSome result (λ d. can_reach (P.memory space.now) b d.taken ≡ true) }
-    ensures none { IfNone result (can_reach (P.memory space.now) b (next_digit (P.memory space.now) (P.bytes space.now) b w.now).taken ≡ false) }
+    ensures none { let d = next_digit (P.memory space.now) (P.bytes space.now) b w.now in
+        IfNone result (can_reach (P.memory space.now) b d.taken ≡ false) }
 {
     match w.right {
         Some(value) => Some(Digit {
@@ -151,11 +152,13 @@ fn take_digit<P: Space>(
     requires taken { w.now.taken < 256 }
     requires right { IfSome w.now.right (λ d. d < 16) }
     requires reach { can_reach (P.memory space.now) b w.now.taken ≡ true }
-    ensures value { IfSome result (λ s. s ≡ selected w.now (next_digit (P.memory space.now) (P.bytes space.now) b w.now) starts fill at) }
+    ensures value { let d = next_digit (P.memory space.now) (P.bytes space.now) b w.now in
+        IfSome result (λ s. s ≡ selected w.now d starts fill at) }
     ensures right { IfSome result (λ s. IfSome s.working.right (λ r. r < 16)) }
     ensures most { IfSome result (λ s. s.working.taken ≤ w.now.taken + 1) }
     ensures reach { IfSome result (λ s. can_reach (P.memory space.now) b s.working.taken ≡ true) }
-    ensures none { IfNone result (can_reach (P.memory space.now) b (selected w.now (next_digit (P.memory space.now) (P.bytes space.now) b w.now) starts fill at).working.taken ≡ false) }
+    ensures none { let d = next_digit (P.memory space.now) (P.bytes space.now) b w.now in
+        IfNone result (can_reach (P.memory space.now) b (selected w.now d starts fill at).working.taken ≡ false) }
 {
     match next_digit(space, b, w) {
         Some(d) => Some(select(w, &d, starts, fill, at)),
@@ -205,7 +208,8 @@ pub fn work_byte<P: Space>(
     ensures right { IfSome result (λ s. IfSome s.working.right (λ r. r < 16)) }
     ensures most { IfSome result (λ s. s.working.taken ≤ w.now.taken + 1) }
     ensures reach { IfSome result (λ s. can_reach (P.memory space.now) b s.working.taken ≡ true) }
-    ensures none { IfNone result (can_reach (P.memory space.now) b (stepped (P.memory space.now) (P.bytes space.now) b fill p at w.now).working.taken ≡ false) }
+    ensures none { let step = stepped (P.memory space.now) (P.bytes space.now) b fill p at w.now in
+        IfNone result (can_reach (P.memory space.now) b step.working.taken ≡ false) }
 {
     if w.bad {
         return Some(Step {

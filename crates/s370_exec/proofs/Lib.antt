@@ -1,3 +1,4 @@
+pub mod Groups
 pub mod CallBytes
 pub mod CallLemmas
 pub mod Fetching

@@ -6,7 +6,7 @@ use Rattle.std.proofs.lemmas.Nat.{or_of_8}
 use Rattle.cov_base.specs.Memory.{Memory}
 use Rattle.cov_base.specs.States.{CpuView}
 use Rattle.s370_decode.specs.Fields.{first_half, r1}
-use Rattle.s370_decode.specs.Table.{op_of, op_at, ops_4}
+use Rattle.s370_decode.specs.Table.{op_of, op_in, operations}
 use Rattle.s370_decode.specs.declared.code.Code.{Code}
 use Rattle.s370_branch.specs.Branch.{goes}
 use Rattle.s370_exec.specs.Fetch.{code_at, is_execute, modifier, merged}
@@ -41,9 +41,5 @@ is_execute-merged m bytes a h s c =
 
 -- EX is no branch
 pub execute_stays : (h : ℕ) (s : CpuView) (c : Code) → is_execute h ≡ true → goes (op_of h) s c ≡ false
-unfolding goes op_at ops_4
-execute_stays h s c is =
-    let code : h / 256 ≡ 68 = eqb-true (h / 256) 68 is in
-    let high : h / 4096 ≡ 4 = omega (arith, code) in
-    let low : h / 256 % 16 ≡ 4 = omega (arith, code) in
-    rw (high, low) refl
+unfolding goes op_in operations
+execute_stays h s c is = let code : h / 256 ≡ 68 = eqb-true (h / 256) 68 is in rw code refl

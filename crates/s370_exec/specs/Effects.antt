@@ -1,18 +1,20 @@
 -- The effect of an instruction that was fetched whole: the row of its operation, the task calls, and codes without a row.
 use Rattle.std.specs.Prelude.{ℕ, ◌+◌, zero, suc, min, nat_le, Bool, true, false, if◌then◌else◌, ◌==◌, Option, Some, None, List, [], ◌∷◌, ◌++◌, slice_set, take, drop}
+use Rattle.std.specs.Option.{option_or}
 use Rattle.cov_base.specs.States.{CpuView, Machine, IoView}
 use Rattle.cov_base.specs.Memory.{Memory, byte_at, wrap}
 use Rattle.s370_state.specs.Digits.{store_bytes}
 use Rattle.s370_state.specs.Io.{bytes_left, bytes_free}
-use Rattle.s370_state.specs.Row.{After, operate, machine_of, reads, stores, use_tests, reg}
+use Rattle.s370_state.specs.Row.{Row, After, operate, machine_of, reads, stores, use_tests, reg}
 use Rattle.s370_state.specs.declared.endings.Ending.{Ending}
 use Rattle.s370_state.specs.declared.endings.Ending.TheVariants.{Exit, Abend, BadSvc, OutFull}
 use Rattle.s370_state.specs.declared.endings.Next.{Next}
 use Rattle.s370_state.specs.declared.endings.Next.TheVariants.{On, Ended}
-use Rattle.s370_decode.specs.Fields.{i2}
-use Rattle.s370_decode.specs.Groups.{group_of}
+use Rattle.s370_decode.specs.Fields.{i2, first_half}
+use Rattle.s370_decode.specs.Table.{op_of}
 use Rattle.s370_decode.specs.declared.code.Code.{Code}
 use Rattle.s370_decode.specs.declared.op.Op.{Op}
+use Rattle.s370_decode.specs.declared.op.Op.TheVariants.{SVC, Privileged}
 use Rattle.s370_fixed.specs.Fixed.{fixed_row}
 use Rattle.s370_logic.specs.Logic.{logic_row}
 use Rattle.s370_storage.specs.Storage.{storage_row}
@@ -21,8 +23,6 @@ use Rattle.s370_edit.specs.Edit.{edit_row}
 use Rattle.s370_branch.specs.Branch.{branched}
 use Rattle.s370_exec.specs.declared.instruction.Told.{Told}
 use Rattle.s370_exec.specs.declared.instruction.Told.TheVariants.{GoesOn, HasEnded}
-use Rattle.s370_decode.specs.declared.group.Group.{Group}
-use Rattle.s370_decode.specs.declared.group.Group.TheVariants.{Fixed, Logic, Storage, Decimal, Edit, Branch, Call, Supervisor, Missing}
 
 -- what an instruction makes of processor, private bytes, input and output
 pub record Effect : Type 0 where
@@ -78,8 +78,8 @@ put_tested m s io next None =
     if nat_le (reg s 0) (bytes_free io) then unchanged (at_address s next) (record io { output = io.output ++ operand m s.bytes (call_address s) (reg s 0) }) On
     else unchanged s io (Ended OutFull)
 
-unfoldable pub put_call : Memory → Machine → IoView → ℕ → Effect
-put_call m s io next = put_tested m s io next (use_tests m (reads (call_address s) (reg s 0) ∷ []))
+unfoldable pub put_call : ℕ → Memory → Machine → IoView → Effect
+put_call next m s io = put_tested m s io next (use_tests m (reads (call_address s) (reg s 0) ∷ []))
 
 -- so many bytes are received: as register 0 says, but no more than are left
 abbrev pub get_size : Machine → IoView → ℕ
@@ -97,33 +97,34 @@ get_tested s io next n None = record {
   next = On;
 }
 
-unfoldable pub get_call : Memory → Machine → IoView → ℕ → Effect
-get_call m s io next = get_tested s io next (get_size s io) (use_tests m (stores (call_address s) (get_size s io) ∷ []))
+unfoldable pub get_call : ℕ → Memory → Machine → IoView → Effect
+get_call next m s io = get_tested s io next (get_size s io) (use_tests m (stores (call_address s) (get_size s io) ∷ []))
 
 -- the task calls: 1 puts, 2 gets, 3 ends the task, 4 and 5 do nothing in it, every other number is bad
-unfoldable pub call : Memory → Machine → IoView → ℕ → ℕ → Effect
-call m s io n next =
-    if n == 1 then put_call m s io next else (
-    if n == 2 then get_call m s io next else (
+unfoldable pub call : ℕ → ℕ → Memory → Machine → IoView → Effect
+call n next m s io =
+    if n == 1 then put_call next m s io else (
+    if n == 2 then get_call next m s io else (
     if n == 3 then unchanged s io (Ended Exit) else (
     if n == 4 then unchanged (at_address s next) io On else (
     if n == 5 then unchanged (at_address s next) io On else
     unchanged s io (Ended (BadSvc n))))))
 
-abbrev pub effect_in : Memory → Machine → IoView → Code → Op → ℕ → ℕ → Group → Effect
-effect_in m s io c op next link Fixed = onward next io (operate m s (fixed_row op m s c))
-effect_in m s io c op next link Logic = onward next io (operate m s (logic_row op m s c))
-effect_in m s io c op next link Storage = onward next io (operate m s (storage_row op m s c))
-effect_in m s io c op next link Decimal = onward next io (operate m s (decimal_row op m s c))
-effect_in m s io c op next link Edit = onward next io (operate m s (edit_row op m s c))
-effect_in m s io c op next link Branch = unchanged (machine_of (branched op s.cpu c next link) s.bytes) io On
-effect_in m s io c op next link Call = call m s io (i2 c) next
-effect_in m s io c op next link Supervisor = unchanged s io (Ended (Abend 2))
-effect_in m s io c op next link Missing = unchanged s io (Ended (Abend 1))
+-- the row of an operation, from the table that has it
+abbrev pub row_of : Op → Code → Memory → Machine → Option Row
+row_of op c m s =
+    option_or (fixed_row op c m s) (option_or (logic_row op c m s) (option_or (storage_row op c m s) (option_or (decimal_row op c m s) (edit_row op c m s))))
 
--- the effect of an instruction that was fetched whole; next is the updated address, and link the length code
+abbrev pub unless_branched : Option CpuView → Machine → IoView → Effect → Effect
+unless_branched (Some cpu) s io e = unchanged (machine_of cpu s.bytes) io On
+unless_branched None s io e = e
+
+-- The effect of an instruction that was fetched whole; next is the updated address, and link the length code. EX, which only
+-- has its subject executed, is no operation here.
 unfoldable pub effect : Memory → Machine → IoView → Code → Op → ℕ → ℕ → Effect
-effect m s io c op next link = effect_in m s io c op next link (group_of op)
+effect m s io c SVC next link = call (i2 c) next m s io
+effect m s io c Privileged next link = unchanged s io (Ended (Abend 2))
+effect m s io c op next link = unless_branched (branched op s.cpu c next link) s io (onward next io (operate m s (row_of op c m s)))
 
 -- the updated address: that of the EX which executes the instruction and 4, else its own and its length
 abbrev pub updated : Code → Option ℕ → ℕ
@@ -134,3 +135,7 @@ updated c (Some x) = wrap (x + 4)
 abbrev pub link_code : Code → Option ℕ → ℕ
 link_code c None = if c.len == 2 then 1 else 2
 link_code c (Some x) = 2
+
+-- of the operation that its code gives, under EX or not
+abbrev pub executed : Code → Option ℕ → Memory → Machine → IoView → Effect
+executed c x m s io = effect m s io c (op_of (first_half c)) (updated c x) (link_code c x)

@@ -1,4 +1,5 @@
 pub mod Calls
+pub mod Does
 pub mod Effects
 pub mod Fetch
 pub mod Solo

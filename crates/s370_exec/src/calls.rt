@@ -3,8 +3,8 @@ ghost use Rattle.std.specs.Prelude.{◌≡◌, ◌+◌, ◌-◌, ◌/◌, ◌<�
 ghost use Rattle.cov_base.specs.Memory.{can_reach, can_store};
 ghost use Rattle.s370_state.specs.Digits.{store_bytes};
 ghost use Rattle.s370_state.specs.Io.{bytes_left, bytes_free};
-ghost use Rattle.s370_state.specs.Row.{machine_of};
-ghost use Rattle.s370_exec.specs.Effects.{effect_of, call, put_call, get_call, operand};
+ghost use Rattle.s370_exec.specs.Does.{Does};
+ghost use Rattle.s370_exec.specs.Effects.{call, put_call, get_call, operand};
 
 use cov_base::Addr;
 use s370_state::{Cpu, Ending, Next, Space, TaskIo, byte_of, put_into, test_read, test_store};
@@ -24,7 +24,7 @@ fn put_bytes<P: Space>(space: &P, io: &mut TaskIo, at: Addr, n: u32)
 /// SVC 1: the bytes at the address in bits 8-31 of register 1, as many as register 0 says, are appended to the output.
 #[tactic(auto, unfolding(crate::specs::Effects::put_call))]
 fn put<P: Space>(cpu: &mut Cpu, space: &P, io: &mut TaskIo, next: Addr) -> Next
-    ensures { effect_of cpu.new (P.bytes space.now) io.new result ≡ put_call (P.memory space.now) (machine_of cpu.old (P.bytes space.now)) io.old next }
+    ensures { Does P.memory P.bytes (put_call next) cpu.old space.now io.old cpu.new space.now io.new result }
 {
     let at = Addr::of(cpu.reg(1));
     let n = cpu.reg(0);
@@ -57,8 +57,7 @@ fn get_bytes<P: Space>(space: &mut P, io: &mut TaskIo, at: Addr, n: u32)
 /// register 15 becomes their number.
 #[tactic(auto, unfolding(crate::specs::Effects::get_call))]
 fn get<P: Space>(cpu: &mut Cpu, space: &mut P, io: &mut TaskIo, next: Addr) -> Next
-    ensures memory { P.memory space.new ≡ P.memory space.old }
-    ensures effect { effect_of cpu.new (P.bytes space.new) io.new result ≡ get_call (P.memory space.old) (machine_of cpu.old (P.bytes space.old)) io.old next }
+    ensures { Does P.memory P.bytes (get_call next) cpu.old space.old io.old cpu.new space.new io.new result }
 {
     let at = Addr::of(cpu.reg(1));
     let n = received_size(cpu, io);
@@ -93,8 +92,7 @@ pub(crate) fn task_call<P: Space>(
     number: u8,
     next: Addr,
 ) -> Next
-    ensures memory { P.memory space.new ≡ P.memory space.old }
-    ensures effect { effect_of cpu.new (P.bytes space.new) io.new result ≡ call (P.memory space.old) (machine_of cpu.old (P.bytes space.old)) io.old number next }
+    ensures { Does P.memory P.bytes (call number next) cpu.old space.old io.old cpu.new space.new io.new result }
 {
     match number {
         1 => put(cpu, space, io, next),

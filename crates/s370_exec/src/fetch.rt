@@ -79,7 +79,8 @@ pub fn fetch_rest<P: Space>(space: &P, at: Addr, h0: u16) -> Result<Code, Ending
 pub(crate) fn fetch_whole<P: Space>(space: &P, at: Addr) -> Result<Code, Ending>
     ensures refused { IfErr result (λ e. whole_tests (P.memory space.now) (P.bytes space.now) at ≡ Some e) }
     ensures passed { IfOk result (λ _. whole_tests (P.memory space.now) (P.bytes space.now) at ≡ None) }
-    ensures code { IfOk result (λ c. c ≡ code_at (P.memory space.now) (P.bytes space.now) at (half_at (P.memory space.now) (P.bytes space.now) at)) }
+    ensures code { let half = half_at (P.memory space.now) (P.bytes space.now) at in
+        IfOk result (λ c. c ≡ code_at (P.memory space.now) (P.bytes space.now) at half) }
 {
     let half = match fetch_first(space, at) {
         Ok(half) => half,

@@ -1,8 +1,6 @@
 //! The frequent operations on bytes, fields and several registers, each a call in a frame of its own.
-ghost use Rattle.std.specs.Prelude.{◌≡◌, ℕ};
-ghost use Rattle.cov_base.specs.States.{IoView};
-ghost use Rattle.s370_state.specs.Row.{machine_of};
-ghost use Rattle.s370_exec.specs.Effects.{effect, effect_of, next_of};
+ghost use Rattle.s370_exec.specs.Does.{CarriesOut};
+ghost use Rattle.s370_exec.specs.Effects.{effect, next_of};
 
 use crate::instruction::{Told, onward};
 use cov_base::Addr;
@@ -25,9 +23,7 @@ pub(crate) fn store_multiple_apart<P: Space>(
     next: Addr,
     end: &mut Ending,
 ) -> Told
-    ensures memory { P.memory space.new ≡ P.memory space.old }
-    ensures effect { (io : IoView) (link : ℕ) → effect_of cpu.new (P.bytes space.new) io (next_of result end.new) ≡
-        effect (P.memory space.old) (machine_of cpu.old (P.bytes space.old)) io code.now Op.STM next link }
+    ensures { CarriesOut P.memory P.bytes code.now Op.STM next cpu.old space.old cpu.new space.new (next_of result end.new) }
 {
     let n = store_multiple(cpu, space, code);
     onward(cpu, next, n, end)
@@ -43,9 +39,7 @@ pub(crate) fn load_multiple_apart<P: Space>(
     next: Addr,
     end: &mut Ending,
 ) -> Told
-    ensures memory { P.memory space.new ≡ P.memory space.old }
-    ensures effect { (io : IoView) (link : ℕ) → effect_of cpu.new (P.bytes space.new) io (next_of result end.new) ≡
-        effect (P.memory space.old) (machine_of cpu.old (P.bytes space.old)) io code.now Op.LM next link }
+    ensures { CarriesOut P.memory P.bytes code.now Op.LM next cpu.old space.old cpu.new space.new (next_of result end.new) }
 {
     let n = load_multiple(cpu, space, code);
     onward(cpu, next, n, end)
@@ -61,9 +55,7 @@ pub(crate) fn insert_character_apart<P: Space>(
     next: Addr,
     end: &mut Ending,
 ) -> Told
-    ensures memory { P.memory space.new ≡ P.memory space.old }
-    ensures effect { (io : IoView) (link : ℕ) → effect_of cpu.new (P.bytes space.new) io (next_of result end.new) ≡
-        effect (P.memory space.old) (machine_of cpu.old (P.bytes space.old)) io code.now Op.IC next link }
+    ensures { CarriesOut P.memory P.bytes code.now Op.IC next cpu.old space.old cpu.new space.new (next_of result end.new) }
 {
     let n = insert_character(cpu, space, code);
     onward(cpu, next, n, end)
@@ -79,9 +71,7 @@ pub(crate) fn store_character_apart<P: Space>(
     next: Addr,
     end: &mut Ending,
 ) -> Told
-    ensures memory { P.memory space.new ≡ P.memory space.old }
-    ensures effect { (io : IoView) (link : ℕ) → effect_of cpu.new (P.bytes space.new) io (next_of result end.new) ≡
-        effect (P.memory space.old) (machine_of cpu.old (P.bytes space.old)) io code.now Op.STC next link }
+    ensures { CarriesOut P.memory P.bytes code.now Op.STC next cpu.old space.old cpu.new space.new (next_of result end.new) }
 {
     let n = store_character(cpu, space, code);
     onward(cpu, next, n, end)
@@ -97,9 +87,7 @@ pub(crate) fn move_immediate_apart<P: Space>(
     next: Addr,
     end: &mut Ending,
 ) -> Told
-    ensures memory { P.memory space.new ≡ P.memory space.old }
-    ensures effect { (io : IoView) (link : ℕ) → effect_of cpu.new (P.bytes space.new) io (next_of result end.new) ≡
-        effect (P.memory space.old) (machine_of cpu.old (P.bytes space.old)) io code.now Op.MVI next link }
+    ensures { CarriesOut P.memory P.bytes code.now Op.MVI next cpu.old space.old cpu.new space.new (next_of result end.new) }
 {
     let n = move_immediate(cpu, space, code);
     onward(cpu, next, n, end)
@@ -115,9 +103,7 @@ pub(crate) fn compare_immediate_apart<P: Space>(
     next: Addr,
     end: &mut Ending,
 ) -> Told
-    ensures memory { P.memory space.new ≡ P.memory space.old }
-    ensures effect { (io : IoView) (link : ℕ) → effect_of cpu.new (P.bytes space.new) io (next_of result end.new) ≡
-        effect (P.memory space.old) (machine_of cpu.old (P.bytes space.old)) io code.now Op.CLI next link }
+    ensures { CarriesOut P.memory P.bytes code.now Op.CLI next cpu.old space.old cpu.new space.new (next_of result end.new) }
 {
     let n = compare_immediate(cpu, space, code);
     onward(cpu, next, n, end)
@@ -133,9 +119,7 @@ pub(crate) fn test_under_mask_apart<P: Space>(
     next: Addr,
     end: &mut Ending,
 ) -> Told
-    ensures memory { P.memory space.new ≡ P.memory space.old }
-    ensures effect { (io : IoView) (link : ℕ) → effect_of cpu.new (P.bytes space.new) io (next_of result end.new) ≡
-        effect (P.memory space.old) (machine_of cpu.old (P.bytes space.old)) io code.now Op.TM next link }
+    ensures { CarriesOut P.memory P.bytes code.now Op.TM next cpu.old space.old cpu.new space.new (next_of result end.new) }
 {
     let n = test_under_mask(cpu, space, code);
     onward(cpu, next, n, end)
@@ -151,9 +135,7 @@ pub(crate) fn move_characters_apart<P: Space>(
     next: Addr,
     end: &mut Ending,
 ) -> Told
-    ensures memory { P.memory space.new ≡ P.memory space.old }
-    ensures effect { (io : IoView) (link : ℕ) → effect_of cpu.new (P.bytes space.new) io (next_of result end.new) ≡
-        effect (P.memory space.old) (machine_of cpu.old (P.bytes space.old)) io code.now Op.MVC next link }
+    ensures { CarriesOut P.memory P.bytes code.now Op.MVC next cpu.old space.old cpu.new space.new (next_of result end.new) }
 {
     let n = move_characters(cpu, space, code);
     onward(cpu, next, n, end)
@@ -169,9 +151,7 @@ pub(crate) fn compare_fields_apart<P: Space>(
     next: Addr,
     end: &mut Ending,
 ) -> Told
-    ensures memory { P.memory space.new ≡ P.memory space.old }
-    ensures effect { (io : IoView) (link : ℕ) → effect_of cpu.new (P.bytes space.new) io (next_of result end.new) ≡
-        effect (P.memory space.old) (machine_of cpu.old (P.bytes space.old)) io code.now Op.CLC next link }
+    ensures { CarriesOut P.memory P.bytes code.now Op.CLC next cpu.old space.old cpu.new space.new (next_of result end.new) }
 {
     let n = compare_fields(cpu, space, code);
     onward(cpu, next, n, end)

@@ -1,14 +1,15 @@
 //! The effect of an instruction that was fetched whole.
 ghost use Rattle.std.specs.Prelude.{◌≡◌, ℕ, ◌*◌, ◌/◌, ◌<◌, ◌≤◌, List, false};
 ghost use Rattle.std.specs.declared.option.Option.TheVariants.{Some, None};
+ghost use Rattle.cov_base.specs.Memory.{Memory};
 ghost use Rattle.cov_base.specs.States.{IoView};
 ghost use Rattle.s370_state.specs.Row.{machine_of};
 ghost use Rattle.s370_decode.specs.Fields.{first_half, i2};
 ghost use Rattle.s370_decode.specs.Groups.{group_of};
 ghost use Rattle.s370_decode.specs.Table.{op_of};
-ghost use Rattle.cov_base.specs.Memory.{Memory};
+ghost use Rattle.s370_exec.specs.Does.{Does, CarriesOut, GoesOnward};
+ghost use Rattle.s370_exec.specs.Effects.{effect, effect_of, next_of, is_completed, updated, link_code, executed};
 ghost use Rattle.s370_exec.specs.Fetch.{is_execute};
-ghost use Rattle.s370_exec.specs.Effects.{effect, effect_of, next_of, is_completed, onward_by, updated, link_code};
 
 use crate::calls::task_call;
 use crate::fields::{
@@ -58,7 +59,7 @@ fn is_completed(e: &Ending) -> bool
 #[cold]
 #[inline(never)]
 fn stop(cpu: &mut Cpu, to: Addr, e: Ending, end: &mut Ending)
-    ensures { (bytes : List ℕ) (io : IoView) → effect_of cpu.new bytes io (Next.Ended end.new) ≡ onward_by to io (machine_of cpu.old bytes) (Next.Ended e) }
+    ensures { GoesOnward to (Next.Ended e) cpu.old cpu.new (Next.Ended end.new) }
 {
     *end = e;
     if is_completed(&e) {
@@ -69,7 +70,7 @@ fn stop(cpu: &mut Cpu, to: Addr, e: Ending, end: &mut Ending)
 /// Goes on at the updated address, unless the task has ended: then `end` tells how.
 #[inline(always)]
 pub(crate) fn onward(cpu: &mut Cpu, to: Addr, next: Next, end: &mut Ending) -> Told
-    ensures { (bytes : List ℕ) (io : IoView) → effect_of cpu.new bytes io (next_of result end.new) ≡ onward_by to io (machine_of cpu.old bytes) next }
+    ensures { GoesOnward to next cpu.old cpu.new (next_of result end.new) }
 {
     match next {
         Next::On => {
@@ -126,7 +127,7 @@ fn tell(next: Next, end: &mut Ending) -> Told
 
 /// A branch in a frame of its own.
 #[inline(never)]
-#[tactic(auto, unfolding(crate::specs::Effects::effect))]
+#[tactic(auto, using(crate::proofs::Groups::by_group))]
 fn branch_apart(cpu: &mut Cpu, code: &Code, op: Op, next: Addr, link: u8) -> Told
     requires group { group_of op ≡ Group.Branch }
     requires link { link ≤ 2 }
@@ -139,7 +140,7 @@ fn branch_apart(cpu: &mut Cpu, code: &Code, op: Op, next: Addr, link: u8) -> Tol
 
 /// The group's operations, in a frame of their own.
 #[inline(never)]
-#[tactic(auto, unfolding(crate::specs::Effects::effect))]
+#[tactic(auto, using(crate::proofs::Groups::by_group))]
 fn fixed_apart<P: Space>(
     cpu: &mut Cpu,
     space: &mut P,
@@ -149,9 +150,7 @@ fn fixed_apart<P: Space>(
     end: &mut Ending,
 ) -> Told
     requires group { group_of op ≡ Group.Fixed }
-    ensures memory { P.memory space.new ≡ P.memory space.old }
-    ensures effect { (io : IoView) (link : ℕ) → effect_of cpu.new (P.bytes space.new) io (next_of result end.new) ≡
-        effect (P.memory space.old) (machine_of cpu.old (P.bytes space.old)) io code.now op next link }
+    ensures { CarriesOut P.memory P.bytes code.now op next cpu.old space.old cpu.new space.new (next_of result end.new) }
 {
     let n = fixed(cpu, space, code, op);
     onward(cpu, next, n, end)
@@ -159,7 +158,7 @@ fn fixed_apart<P: Space>(
 
 /// The group's operations, in a frame of their own.
 #[inline(never)]
-#[tactic(auto, unfolding(crate::specs::Effects::effect))]
+#[tactic(auto, using(crate::proofs::Groups::by_group))]
 fn logic_apart<P: Space>(
     cpu: &mut Cpu,
     space: &mut P,
@@ -169,9 +168,7 @@ fn logic_apart<P: Space>(
     end: &mut Ending,
 ) -> Told
     requires group { group_of op ≡ Group.Logic }
-    ensures memory { P.memory space.new ≡ P.memory space.old }
-    ensures effect { (io : IoView) (link : ℕ) → effect_of cpu.new (P.bytes space.new) io (next_of result end.new) ≡
-        effect (P.memory space.old) (machine_of cpu.old (P.bytes space.old)) io code.now op next link }
+    ensures { CarriesOut P.memory P.bytes code.now op next cpu.old space.old cpu.new space.new (next_of result end.new) }
 {
     let n = logic(cpu, space, code, op);
     onward(cpu, next, n, end)
@@ -179,7 +176,7 @@ fn logic_apart<P: Space>(
 
 /// The group's operations, in a frame of their own.
 #[inline(never)]
-#[tactic(auto, unfolding(crate::specs::Effects::effect))]
+#[tactic(auto, using(crate::proofs::Groups::by_group))]
 fn storage_apart<P: Space>(
     cpu: &mut Cpu,
     space: &mut P,
@@ -189,9 +186,7 @@ fn storage_apart<P: Space>(
     end: &mut Ending,
 ) -> Told
     requires group { group_of op ≡ Group.Storage }
-    ensures memory { P.memory space.new ≡ P.memory space.old }
-    ensures effect { (io : IoView) (link : ℕ) → effect_of cpu.new (P.bytes space.new) io (next_of result end.new) ≡
-        effect (P.memory space.old) (machine_of cpu.old (P.bytes space.old)) io code.now op next link }
+    ensures { CarriesOut P.memory P.bytes code.now op next cpu.old space.old cpu.new space.new (next_of result end.new) }
 {
     let n = storage(cpu, space, code, op);
     onward(cpu, next, n, end)
@@ -199,7 +194,7 @@ fn storage_apart<P: Space>(
 
 /// The group's operations, in a frame of their own.
 #[inline(never)]
-#[tactic(auto, unfolding(crate::specs::Effects::effect))]
+#[tactic(auto, using(crate::proofs::Groups::by_group))]
 fn decimal_apart<P: Space>(
     cpu: &mut Cpu,
     space: &mut P,
@@ -209,9 +204,7 @@ fn decimal_apart<P: Space>(
     end: &mut Ending,
 ) -> Told
     requires group { group_of op ≡ Group.Decimal }
-    ensures memory { P.memory space.new ≡ P.memory space.old }
-    ensures effect { (io : IoView) (link : ℕ) → effect_of cpu.new (P.bytes space.new) io (next_of result end.new) ≡
-        effect (P.memory space.old) (machine_of cpu.old (P.bytes space.old)) io code.now op next link }
+    ensures { CarriesOut P.memory P.bytes code.now op next cpu.old space.old cpu.new space.new (next_of result end.new) }
 {
     let n = decimal(cpu, space, code, op);
     onward(cpu, next, n, end)
@@ -219,7 +212,7 @@ fn decimal_apart<P: Space>(
 
 /// Carries out an instruction whatever its operation, also the subject of an EX at an address.
 #[inline(never)]
-#[tactic(auto, unfolding(crate::specs::Effects::effect))]
+#[tactic(auto, using(crate::proofs::Groups::by_group))]
 fn carry_out_apart<P: Space>(
     cpu: &mut Cpu,
     space: &mut P,
@@ -228,9 +221,8 @@ fn carry_out_apart<P: Space>(
     ex: Option<Addr>,
     end: &mut Ending,
 ) -> Told
-    ensures memory { P.memory space.new ≡ P.memory space.old }
-    ensures effect { effect_of cpu.new (P.bytes space.new) io.new (next_of result end.new) ≡
-        effect (P.memory space.old) (machine_of cpu.old (P.bytes space.old)) io.old code.now (op_of (first_half code.now)) (updated code.now ex) (link_code code.now ex) }
+    ensures { let told = next_of result end.new in
+        Does P.memory P.bytes (executed code.now ex) cpu.old space.old io.old cpu.new space.new io.new told }
 {
     let op = op_of(code.first_half());
     let next = updated(code, &ex);
@@ -261,9 +253,8 @@ fn carry_out_short<P: Space>(
     end: &mut Ending,
 ) -> Told
     requires next { next ≡ updated code.now None }
-    ensures memory { P.memory space.new ≡ P.memory space.old }
-    ensures effect { effect_of cpu.new (P.bytes space.new) io.new (next_of result end.new) ≡
-        effect (P.memory space.old) (machine_of cpu.old (P.bytes space.old)) io.old code.now (op_of (first_half code.now)) next (link_code code.now None) }
+    ensures { let told = next_of result end.new in
+        Does P.memory P.bytes (executed code.now None) cpu.old space.old io.old cpu.new space.new io.new told }
 {
     match op_of(code.first_half()) {
         Op::LR => {
@@ -317,9 +308,8 @@ fn carry_out_long<P: Space>(
     end: &mut Ending,
 ) -> Told
     requires next { next ≡ updated code.now None }
-    ensures memory { P.memory space.new ≡ P.memory space.old }
-    ensures effect { effect_of cpu.new (P.bytes space.new) io.new (next_of result end.new) ≡
-        effect (P.memory space.old) (machine_of cpu.old (P.bytes space.old)) io.old code.now (op_of (first_half code.now)) next (link_code code.now None) }
+    ensures { let told = next_of result end.new in
+        Does P.memory P.bytes (executed code.now None) cpu.old space.old io.old cpu.new space.new io.new told }
 {
     match op_of(code.first_half()) {
         Op::LA => {
@@ -378,9 +368,8 @@ fn carry_out_longest<P: Space>(
     end: &mut Ending,
 ) -> Told
     requires next { next ≡ updated code.now None }
-    ensures memory { P.memory space.new ≡ P.memory space.old }
-    ensures effect { effect_of cpu.new (P.bytes space.new) io.new (next_of result end.new) ≡
-        effect (P.memory space.old) (machine_of cpu.old (P.bytes space.old)) io.old code.now (op_of (first_half code.now)) next (link_code code.now None) }
+    ensures { let told = next_of result end.new in
+        Does P.memory P.bytes (executed code.now None) cpu.old space.old io.old cpu.new space.new io.new told }
 {
     match op_of(code.first_half()) {
         Op::MVC => move_characters_apart(cpu, space, code, next, end),
@@ -399,9 +388,8 @@ fn carry_out<P: Space>(
     code: &Code,
     end: &mut Ending,
 ) -> Told
-    ensures memory { P.memory space.new ≡ P.memory space.old }
-    ensures effect { effect_of cpu.new (P.bytes space.new) io.new (next_of result end.new) ≡
-        effect (P.memory space.old) (machine_of cpu.old (P.bytes space.old)) io.old code.now (op_of (first_half code.now)) (updated code.now None) (link_code code.now None) }
+    ensures { let told = next_of result end.new in
+        Does P.memory P.bytes (executed code.now None) cpu.old space.old io.old cpu.new space.new io.new told }
 {
     let at = cpu.at();
     if code.at != at {
@@ -445,9 +433,7 @@ pub fn execute<P: Space>(
     ex: Option<Addr>,
 ) -> Next
     requires subject { is_execute (first_half code.now) ≡ false }
-    ensures memory { P.memory space.new ≡ P.memory space.old }
-    ensures effect { effect_of cpu.new (P.bytes space.new) io.new result ≡
-        effect (P.memory space.old) (machine_of cpu.old (P.bytes space.old)) io.old code.now (op_of (first_half code.now)) (updated code.now ex) (link_code code.now ex) }
+    ensures { Does P.memory P.bytes (executed code.now ex) cpu.old space.old io.old cpu.new space.new io.new result }
 {
     let mut end = Ending::Spent;
     let told = match ex {

@@ -6,7 +6,8 @@ ghost use Rattle.cov_base.specs.States.{IoView, Visit};
 ghost use Rattle.s370_decode.specs.Fields.{first_half, ex as subject_of};
 ghost use Rattle.s370_exec.specs.Fetch.{is_execute, first_tests};
 ghost use Rattle.s370_exec.specs.Calls.{call_in, subject_call, call_of};
-ghost use Rattle.s370_exec.specs.Solo.{return_address, state_of, solo_step, subject_step, visit_of, subject_seen};
+ghost use Rattle.s370_exec.specs.Does.{Steps, Answers, seen_behind};
+ghost use Rattle.s370_exec.specs.Solo.{return_address, solo_step, subject_step, visit_of, subject_seen};
 
 use crate::fetch::{fetch_first, fetch_whole};
 use crate::instruction::execute;
@@ -31,9 +32,8 @@ fn is_ex(code: &Code) -> bool
 
 /// Executes the subject of an EX that was fetched whole.
 fn step_subject<P: Space>(cpu: &mut Cpu, space: &mut P, io: &mut TaskIo, ex: &Code) -> Next
-    ensures memory { P.memory space.new ≡ P.memory space.old }
-    ensures state { (d : ℕ) → (subject_step (P.memory space.old) (state_of cpu.old (P.bytes space.old) io.old d) ex.now).state ≡ state_of cpu.new (P.bytes space.new) io.new (d + 1) }
-    ensures next { (d : ℕ) → (subject_step (P.memory space.old) (state_of cpu.old (P.bytes space.old) io.old d) ex.now).next ≡ result }
+    ensures { Steps P.memory P.bytes (λ m s. subject_step m s ex.now)
+        cpu.old space.old io.old cpu.new space.new io.new result }
 {
     let at = subject_address(cpu, ex);
     let half = match fetch_first(space, at) {
@@ -49,9 +49,7 @@ fn step_subject<P: Space>(cpu: &mut Cpu, space: &mut P, io: &mut TaskIo, ex: &Co
 
 /// Executes one instruction, its subject included where it is EX. Neither budget nor return address is tested.
 pub fn step<P: Space>(cpu: &mut Cpu, space: &mut P, io: &mut TaskIo) -> Next
-    ensures memory { P.memory space.new ≡ P.memory space.old }
-    ensures state { (d : ℕ) → (solo_step (P.memory space.old) (state_of cpu.old (P.bytes space.old) io.old d)).state ≡ state_of cpu.new (P.bytes space.new) io.new (d + 1) }
-    ensures next { (d : ℕ) → (solo_step (P.memory space.old) (state_of cpu.old (P.bytes space.old) io.old d)).next ≡ result }
+    ensures { Steps P.memory P.bytes solo_step cpu.old space.old io.old cpu.new space.new io.new result }
 {
     let code = match fetch_whole(space, cpu.at()) {
         Ok(code) => code,
@@ -68,7 +66,7 @@ fn subject_went<P: Space>(cpu: &Cpu, space: &P, ex: &Code, at: Addr, half: u16) 
     requires at { at ≡ subject_of cpu.now ex.now }
     requires passed { first_tests (P.memory space.now) at ≡ None }
     requires half { half ≡ half_at (P.memory space.now) (P.bytes space.now) at }
-    ensures { (io : IoView) (d : ℕ) (v : Visit) → subject_seen (v ∷ (subject_step (P.memory space.now) (state_of cpu.now (P.bytes space.now) io d) ex.now).visits) ≡ Some (at, result) }
+    ensures { (v : Visit) → Answers (seen_behind v (P.memory space.now) ex.now) cpu.now (P.bytes space.now) (Some (at, result)) }
 {
     match fetch_subject(cpu, space, ex, at, half) {
         Ok(subject) => outcome(cpu, &subject),
@@ -78,7 +76,7 @@ fn subject_went<P: Space>(cpu: &Cpu, space: &P, ex: &Code, at: Addr, half: u16) 
 
 /// The visit that an EX that was fetched whole makes of its subject: its address, and whether the subject branches.
 fn subject_visit<P: Space>(cpu: &Cpu, space: &P, ex: &Code) -> Option<(Addr, bool)>
-    ensures { (io : IoView) (d : ℕ) (v : Visit) → subject_seen (v ∷ (subject_step (P.memory space.now) (state_of cpu.now (P.bytes space.now) io d) ex.now).visits) ≡ result }
+    ensures { (v : Visit) → Answers (seen_behind v (P.memory space.now) ex.now) cpu.now (P.bytes space.now) result }
 {
     let at = subject_address(cpu, ex);
     match fetch_first(space, at) {
@@ -90,7 +88,7 @@ fn subject_visit<P: Space>(cpu: &Cpu, space: &P, ex: &Code) -> Option<(Addr, boo
 /// The address of the subject that the next instruction visits, and whether that branches as it is executed; none
 /// where the instruction is no EX or ends before it visits its subject.
 pub fn subject_seen<P: Space>(cpu: &Cpu, space: &P) -> Option<(Addr, bool)>
-    ensures { (io : IoView) (d : ℕ) → subject_seen (solo_step (P.memory space.now) (state_of cpu.now (P.bytes space.now) io d)).visits ≡ result }
+    ensures { Answers (λ s. subject_seen (solo_step (P.memory space.now) s).visits) cpu.now (P.bytes space.now) result }
 {
     let code = match fetch_whole(space, cpu.at()) {
         Ok(code) => code,
@@ -104,7 +102,7 @@ pub fn subject_seen<P: Space>(cpu: &Cpu, space: &P) -> Option<(Addr, bool)>
 
 /// Whether the next instruction branches; false where it isn't begun.
 pub fn instruction_went<P: Space>(cpu: &Cpu, space: &P) -> bool
-    ensures { (io : IoView) (d : ℕ) → (visit_of (solo_step (P.memory space.now) (state_of cpu.now (P.bytes space.now) io d)) false).went ≡ result }
+    ensures { Answers (λ s. (visit_of (solo_step (P.memory space.now) s) false).went) cpu.now (P.bytes space.now) result }
 {
     match fetch_whole(space, cpu.at()) {
         Ok(code) => outcome(cpu, &code),
@@ -125,7 +123,7 @@ fn call_in(code: &Code) -> Option<u8>
 
 /// The call that the subject of an EX that was fetched whole is, its number ORed.
 fn subject_call<P: Space>(cpu: &Cpu, space: &P, ex: &Code) -> Option<u8>
-    ensures { (io : IoView) (d : ℕ) → subject_call (P.memory space.now) (state_of cpu.now (P.bytes space.now) io d) ex.now ≡ result }
+    ensures { Answers (λ s. subject_call (P.memory space.now) s ex.now) cpu.now (P.bytes space.now) result }
 {
     let at = subject_address(cpu, ex);
     let half = match fetch_first(space, at) {
@@ -141,7 +139,7 @@ fn subject_call<P: Space>(cpu: &Cpu, space: &P, ex: &Code) -> Option<u8>
 /// The number of the supervisor call that the next instruction executes, itself or as EX; none where it executes
 /// another instruction, or ends before it has fetched one whole.
 pub fn supervisor_call<P: Space>(cpu: &Cpu, space: &P) -> Option<u8>
-    ensures { (io : IoView) (d : ℕ) → call_of (P.memory space.now) (state_of cpu.now (P.bytes space.now) io d) ≡ result }
+    ensures { Answers (call_of (P.memory space.now)) cpu.now (P.bytes space.now) result }
 {
     let code = match fetch_whole(space, cpu.at()) {
         Ok(code) => code,

@@ -1,9 +1,7 @@
 //! The operations that load, store or compute with a word or halfword in storage, each a call in a frame of its own; but for
 //! L and ST, which stand in the match of all operations.
-ghost use Rattle.std.specs.Prelude.{◌≡◌, ℕ};
-ghost use Rattle.cov_base.specs.States.{IoView};
-ghost use Rattle.s370_state.specs.Row.{machine_of};
-ghost use Rattle.s370_exec.specs.Effects.{effect, effect_of, next_of};
+ghost use Rattle.s370_exec.specs.Does.{CarriesOut};
+ghost use Rattle.s370_exec.specs.Effects.{effect, next_of};
 
 use crate::instruction::{Told, onward};
 use cov_base::Addr;
@@ -24,9 +22,7 @@ pub(crate) fn load_half_apart<P: Space>(
     next: Addr,
     end: &mut Ending,
 ) -> Told
-    ensures memory { P.memory space.new ≡ P.memory space.old }
-    ensures effect { (io : IoView) (link : ℕ) → effect_of cpu.new (P.bytes space.new) io (next_of result end.new) ≡
-        effect (P.memory space.old) (machine_of cpu.old (P.bytes space.old)) io code.now Op.LH next link }
+    ensures { CarriesOut P.memory P.bytes code.now Op.LH next cpu.old space.old cpu.new space.new (next_of result end.new) }
 {
     let n = load_half(cpu, space, code);
     onward(cpu, next, n, end)
@@ -42,9 +38,7 @@ pub(crate) fn store_half_apart<P: Space>(
     next: Addr,
     end: &mut Ending,
 ) -> Told
-    ensures memory { P.memory space.new ≡ P.memory space.old }
-    ensures effect { (io : IoView) (link : ℕ) → effect_of cpu.new (P.bytes space.new) io (next_of result end.new) ≡
-        effect (P.memory space.old) (machine_of cpu.old (P.bytes space.old)) io code.now Op.STH next link }
+    ensures { CarriesOut P.memory P.bytes code.now Op.STH next cpu.old space.old cpu.new space.new (next_of result end.new) }
 {
     let n = store_half(cpu, space, code);
     onward(cpu, next, n, end)
@@ -60,9 +54,7 @@ pub(crate) fn add_word_apart<P: Space>(
     next: Addr,
     end: &mut Ending,
 ) -> Told
-    ensures memory { P.memory space.new ≡ P.memory space.old }
-    ensures effect { (io : IoView) (link : ℕ) → effect_of cpu.new (P.bytes space.new) io (next_of result end.new) ≡
-        effect (P.memory space.old) (machine_of cpu.old (P.bytes space.old)) io code.now Op.A next link }
+    ensures { CarriesOut P.memory P.bytes code.now Op.A next cpu.old space.old cpu.new space.new (next_of result end.new) }
 {
     let n = add_word(cpu, space, code);
     onward(cpu, next, n, end)
@@ -78,9 +70,7 @@ pub(crate) fn add_half_apart<P: Space>(
     next: Addr,
     end: &mut Ending,
 ) -> Told
-    ensures memory { P.memory space.new ≡ P.memory space.old }
-    ensures effect { (io : IoView) (link : ℕ) → effect_of cpu.new (P.bytes space.new) io (next_of result end.new) ≡
-        effect (P.memory space.old) (machine_of cpu.old (P.bytes space.old)) io code.now Op.AH next link }
+    ensures { CarriesOut P.memory P.bytes code.now Op.AH next cpu.old space.old cpu.new space.new (next_of result end.new) }
 {
     let n = add_half(cpu, space, code);
     onward(cpu, next, n, end)
@@ -96,9 +86,7 @@ pub(crate) fn subtract_word_apart<P: Space>(
     next: Addr,
     end: &mut Ending,
 ) -> Told
-    ensures memory { P.memory space.new ≡ P.memory space.old }
-    ensures effect { (io : IoView) (link : ℕ) → effect_of cpu.new (P.bytes space.new) io (next_of result end.new) ≡
-        effect (P.memory space.old) (machine_of cpu.old (P.bytes space.old)) io code.now Op.S next link }
+    ensures { CarriesOut P.memory P.bytes code.now Op.S next cpu.old space.old cpu.new space.new (next_of result end.new) }
 {
     let n = subtract_word(cpu, space, code);
     onward(cpu, next, n, end)
@@ -114,9 +102,7 @@ pub(crate) fn subtract_half_apart<P: Space>(
     next: Addr,
     end: &mut Ending,
 ) -> Told
-    ensures memory { P.memory space.new ≡ P.memory space.old }
-    ensures effect { (io : IoView) (link : ℕ) → effect_of cpu.new (P.bytes space.new) io (next_of result end.new) ≡
-        effect (P.memory space.old) (machine_of cpu.old (P.bytes space.old)) io code.now Op.SH next link }
+    ensures { CarriesOut P.memory P.bytes code.now Op.SH next cpu.old space.old cpu.new space.new (next_of result end.new) }
 {
     let n = subtract_half(cpu, space, code);
     onward(cpu, next, n, end)
@@ -132,9 +118,7 @@ pub(crate) fn add_logical_word_apart<P: Space>(
     next: Addr,
     end: &mut Ending,
 ) -> Told
-    ensures memory { P.memory space.new ≡ P.memory space.old }
-    ensures effect { (io : IoView) (link : ℕ) → effect_of cpu.new (P.bytes space.new) io (next_of result end.new) ≡
-        effect (P.memory space.old) (machine_of cpu.old (P.bytes space.old)) io code.now Op.AL next link }
+    ensures { CarriesOut P.memory P.bytes code.now Op.AL next cpu.old space.old cpu.new space.new (next_of result end.new) }
 {
     let n = add_logical_word(cpu, space, code);
     onward(cpu, next, n, end)
@@ -150,9 +134,7 @@ pub(crate) fn subtract_logical_word_apart<P: Space>(
     next: Addr,
     end: &mut Ending,
 ) -> Told
-    ensures memory { P.memory space.new ≡ P.memory space.old }
-    ensures effect { (io : IoView) (link : ℕ) → effect_of cpu.new (P.bytes space.new) io (next_of result end.new) ≡
-        effect (P.memory space.old) (machine_of cpu.old (P.bytes space.old)) io code.now Op.SL next link }
+    ensures { CarriesOut P.memory P.bytes code.now Op.SL next cpu.old space.old cpu.new space.new (next_of result end.new) }
 {
     let n = subtract_logical_word(cpu, space, code);
     onward(cpu, next, n, end)
@@ -168,9 +150,7 @@ pub(crate) fn compare_word_apart<P: Space>(
     next: Addr,
     end: &mut Ending,
 ) -> Told
-    ensures memory { P.memory space.new ≡ P.memory space.old }
-    ensures effect { (io : IoView) (link : ℕ) → effect_of cpu.new (P.bytes space.new) io (next_of result end.new) ≡
-        effect (P.memory space.old) (machine_of cpu.old (P.bytes space.old)) io code.now Op.C next link }
+    ensures { CarriesOut P.memory P.bytes code.now Op.C next cpu.old space.old cpu.new space.new (next_of result end.new) }
 {
     let n = compare_word(cpu, space, code);
     onward(cpu, next, n, end)
@@ -186,9 +166,7 @@ pub(crate) fn compare_half_apart<P: Space>(
     next: Addr,
     end: &mut Ending,
 ) -> Told
-    ensures memory { P.memory space.new ≡ P.memory space.old }
-    ensures effect { (io : IoView) (link : ℕ) → effect_of cpu.new (P.bytes space.new) io (next_of result end.new) ≡
-        effect (P.memory space.old) (machine_of cpu.old (P.bytes space.old)) io code.now Op.CH next link }
+    ensures { CarriesOut P.memory P.bytes code.now Op.CH next cpu.old space.old cpu.new space.new (next_of result end.new) }
 {
     let n = compare_half(cpu, space, code);
     onward(cpu, next, n, end)

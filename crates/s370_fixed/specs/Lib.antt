@@ -1,6 +1,5 @@
 pub mod Words
 pub mod Operands
-pub mod Loads
 pub mod Multiple
 pub mod Sums
 pub mod Products

@@ -3,13 +3,14 @@
 
 ghost use Rattle.std.specs.Prelude.{◌≡◌, ℕ, ◌^◌, ◌<◌, List, if◌then◌else◌};
 ghost use Rattle.s370_state.specs.Row.{Performs, machine_of, after, finish};
-ghost use Rattle.s370_fixed.specs.Conversions.{converted, row_cvb, row_cvd};
+ghost use Rattle.s370_fixed.specs.Conversions.{converted};
+ghost use Rattle.s370_fixed.specs.Fixed.{fixed_row};
 
-use crate::operands::address;
 use crate::words::{is_word, low_word};
-use s370_decode::Code;
+use s370_decode::{Code, Op};
 use s370_state::{
-    Cpu, Ending, Field, Next, Space, field_at, number, put_field, signed, test_read, test_store,
+    Cpu, Ending, Field, Next, Space, field_at, indexed, number, put_field, signed, test_read,
+    test_store,
 };
 
 /// The length code of a doubleword.
@@ -20,7 +21,8 @@ const DOUBLEWORD: u8 = 7;
 fn convert(cpu: &mut Cpu, r: u8, f: Field) -> Next
     requires register { r < 16 }
     requires magnitude { f.magnitude < 10 ^ 15 }
-    ensures { (bytes : List ℕ) → after cpu.new bytes result ≡ finish (machine_of cpu.old bytes) (converted (machine_of cpu.old bytes) r f) }
+    ensures { (bytes : List ℕ) → let s = machine_of cpu.old bytes in
+        after cpu.new bytes result ≡ finish s (converted s r f) }
 {
     let z = number(f) as i64;
     if is_word(i128::from(z)) {
@@ -33,10 +35,9 @@ fn convert(cpu: &mut Cpu, r: u8, f: Field) -> Next
 
 /// CVB: loads R1 with the number of a packed doubleword.
 pub fn convert_to_binary<P: Space>(cpu: &mut Cpu, space: &mut P, code: &Code) -> Next
-    ensures memory { P.memory space.new ≡ P.memory space.old }
-    ensures row { Performs (P.memory space.old) cpu.old (P.bytes space.old) (λ m s. row_cvb m s code.now) cpu.new (P.bytes space.new) result }
+    ensures { Performs P.memory P.bytes (fixed_row Op.CVB code.now) cpu.old space.old cpu.new space.new result }
 {
-    let at = address(cpu, code);
+    let at = indexed(cpu, code);
     if let Err(e) = test_read(space, at, 8) {
         return Next::Ended(e);
     }
@@ -48,10 +49,9 @@ pub fn convert_to_binary<P: Space>(cpu: &mut Cpu, space: &mut P, code: &Code) ->
 
 /// CVD: stores R1's number in a packed doubleword.
 pub fn convert_to_decimal<P: Space>(cpu: &mut Cpu, space: &mut P, code: &Code) -> Next
-    ensures memory { P.memory space.new ≡ P.memory space.old }
-    ensures row { Performs (P.memory space.old) cpu.old (P.bytes space.old) (λ m s. row_cvd m s code.now) cpu.new (P.bytes space.new) result }
+    ensures { Performs P.memory P.bytes (fixed_row Op.CVD code.now) cpu.old space.old cpu.new space.new result }
 {
-    let at = address(cpu, code);
+    let at = indexed(cpu, code);
     if let Err(e) = test_store(space, at, 8) {
         return Next::Ended(e);
     }

@@ -4,12 +4,12 @@
 ghost use Rattle.std.specs.Prelude.{◌≡◌, ◌<◌, ◌≤◌, ℤ, pos, neg_ℤ, ◌≤ℤ◌, ◌<ℤ◌, if◌then◌else◌};
 ghost use Rattle.std.specs.Int.RustNames.{unsigned_abs};
 ghost use Rattle.s370_state.specs.Row.{Performs};
-ghost use Rattle.s370_fixed.specs.Loads.{row_lr, row_l, row_lh, row_ltr, row_lcr, row_lpr, row_lnr, row_la, row_st, row_sth};
+ghost use Rattle.s370_fixed.specs.Fixed.{fixed_row};
 
-use crate::operands::{address, half, load, set_result, word};
+use crate::operands::{half, load, set_result, word};
 use crate::words::{low_word, put_half, sign_code};
-use s370_decode::Code;
-use s370_state::{Cpu, Next, Space, put_word, signed, test_store};
+use s370_decode::{Code, Op};
+use s370_state::{Cpu, Next, Space, indexed, put_word, signed, test_store};
 
 /// The magnitude of a register's number.
 fn magnitude(z: i64) -> i64
@@ -24,8 +24,7 @@ fn magnitude(z: i64) -> i64
 /// LR: loads R1 from R2.
 #[inline(always)]
 pub fn load_register<P: Space>(cpu: &mut Cpu, space: &mut P, code: &Code) -> Next
-    ensures memory { P.memory space.new ≡ P.memory space.old }
-    ensures row { Performs (P.memory space.old) cpu.old (P.bytes space.old) (λ m s. row_lr m s code.now) cpu.new (P.bytes space.new) result }
+    ensures { Performs P.memory P.bytes (fixed_row Op.LR code.now) cpu.old space.old cpu.new space.new result }
 {
     load(cpu, code.r1(), cpu.reg(code.r2()))
 }
@@ -33,8 +32,7 @@ pub fn load_register<P: Space>(cpu: &mut Cpu, space: &mut P, code: &Code) -> Nex
 /// L: loads R1 from a word.
 #[inline(always)]
 pub fn load_word<P: Space>(cpu: &mut Cpu, space: &mut P, code: &Code) -> Next
-    ensures memory { P.memory space.new ≡ P.memory space.old }
-    ensures row { Performs (P.memory space.old) cpu.old (P.bytes space.old) (λ m s. row_l m s code.now) cpu.new (P.bytes space.new) result }
+    ensures { Performs P.memory P.bytes (fixed_row Op.L code.now) cpu.old space.old cpu.new space.new result }
 {
     match word(cpu, space, code) {
         Ok(v) => load(cpu, code.r1(), v),
@@ -45,8 +43,7 @@ pub fn load_word<P: Space>(cpu: &mut Cpu, space: &mut P, code: &Code) -> Next
 /// LH: loads R1 from a halfword, extended by its sign.
 #[inline(always)]
 pub fn load_half<P: Space>(cpu: &mut Cpu, space: &mut P, code: &Code) -> Next
-    ensures memory { P.memory space.new ≡ P.memory space.old }
-    ensures row { Performs (P.memory space.old) cpu.old (P.bytes space.old) (λ m s. row_lh m s code.now) cpu.new (P.bytes space.new) result }
+    ensures { Performs P.memory P.bytes (fixed_row Op.LH code.now) cpu.old space.old cpu.new space.new result }
 {
     match half(cpu, space, code) {
         Ok(z) => load(cpu, code.r1(), low_word(z)),
@@ -57,8 +54,7 @@ pub fn load_half<P: Space>(cpu: &mut Cpu, space: &mut P, code: &Code) -> Next
 /// LTR: loads R1 from R2, and tells its sign by the condition code.
 #[inline(always)]
 pub fn load_and_test<P: Space>(cpu: &mut Cpu, space: &mut P, code: &Code) -> Next
-    ensures memory { P.memory space.new ≡ P.memory space.old }
-    ensures row { Performs (P.memory space.old) cpu.old (P.bytes space.old) (λ m s. row_ltr m s code.now) cpu.new (P.bytes space.new) result }
+    ensures { Performs P.memory P.bytes (fixed_row Op.LTR code.now) cpu.old space.old cpu.new space.new result }
 {
     let v = cpu.reg(code.r2());
     cpu.set_reg(code.r1(), v);
@@ -69,8 +65,7 @@ pub fn load_and_test<P: Space>(cpu: &mut Cpu, space: &mut P, code: &Code) -> Nex
 /// LCR: loads R1 with the complement of R2; that of -2^31 overflows.
 #[inline(always)]
 pub fn load_complement<P: Space>(cpu: &mut Cpu, space: &mut P, code: &Code) -> Next
-    ensures memory { P.memory space.new ≡ P.memory space.old }
-    ensures row { Performs (P.memory space.old) cpu.old (P.bytes space.old) (λ m s. row_lcr m s code.now) cpu.new (P.bytes space.new) result }
+    ensures { Performs P.memory P.bytes (fixed_row Op.LCR code.now) cpu.old space.old cpu.new space.new result }
 {
     set_result(cpu, code.r1(), -signed(cpu.reg(code.r2())))
 }
@@ -78,8 +73,7 @@ pub fn load_complement<P: Space>(cpu: &mut Cpu, space: &mut P, code: &Code) -> N
 /// LPR: loads R1 with the magnitude of R2; that of -2^31 overflows.
 #[inline(always)]
 pub fn load_positive<P: Space>(cpu: &mut Cpu, space: &mut P, code: &Code) -> Next
-    ensures memory { P.memory space.new ≡ P.memory space.old }
-    ensures row { Performs (P.memory space.old) cpu.old (P.bytes space.old) (λ m s. row_lpr m s code.now) cpu.new (P.bytes space.new) result }
+    ensures { Performs P.memory P.bytes (fixed_row Op.LPR code.now) cpu.old space.old cpu.new space.new result }
 {
     set_result(cpu, code.r1(), magnitude(signed(cpu.reg(code.r2()))))
 }
@@ -87,8 +81,7 @@ pub fn load_positive<P: Space>(cpu: &mut Cpu, space: &mut P, code: &Code) -> Nex
 /// LNR: loads R1 with the magnitude of R2 made negative.
 #[inline(always)]
 pub fn load_negative<P: Space>(cpu: &mut Cpu, space: &mut P, code: &Code) -> Next
-    ensures memory { P.memory space.new ≡ P.memory space.old }
-    ensures row { Performs (P.memory space.old) cpu.old (P.bytes space.old) (λ m s. row_lnr m s code.now) cpu.new (P.bytes space.new) result }
+    ensures { Performs P.memory P.bytes (fixed_row Op.LNR code.now) cpu.old space.old cpu.new space.new result }
 {
     set_result(cpu, code.r1(), -magnitude(signed(cpu.reg(code.r2()))))
 }
@@ -96,19 +89,17 @@ pub fn load_negative<P: Space>(cpu: &mut Cpu, space: &mut P, code: &Code) -> Nex
 /// LA: loads R1 with the second operand's address, and zeros in bits 0-7; no operand is tested.
 #[inline(always)]
 pub fn load_address<P: Space>(cpu: &mut Cpu, space: &mut P, code: &Code) -> Next
-    ensures memory { P.memory space.new ≡ P.memory space.old }
-    ensures row { Performs (P.memory space.old) cpu.old (P.bytes space.old) (λ m s. row_la m s code.now) cpu.new (P.bytes space.new) result }
+    ensures { Performs P.memory P.bytes (fixed_row Op.LA code.now) cpu.old space.old cpu.new space.new result }
 {
-    load(cpu, code.r1(), address(cpu, code).get())
+    load(cpu, code.r1(), indexed(cpu, code).get())
 }
 
 /// ST: stores R1 in a word.
 #[inline(always)]
 pub fn store_word<P: Space>(cpu: &mut Cpu, space: &mut P, code: &Code) -> Next
-    ensures memory { P.memory space.new ≡ P.memory space.old }
-    ensures row { Performs (P.memory space.old) cpu.old (P.bytes space.old) (λ m s. row_st m s code.now) cpu.new (P.bytes space.new) result }
+    ensures { Performs P.memory P.bytes (fixed_row Op.ST code.now) cpu.old space.old cpu.new space.new result }
 {
-    let at = address(cpu, code);
+    let at = indexed(cpu, code);
     if let Err(e) = test_store(space, at, 4) {
         return Next::Ended(e);
     }
@@ -119,10 +110,9 @@ pub fn store_word<P: Space>(cpu: &mut Cpu, space: &mut P, code: &Code) -> Next
 /// STH: stores bits 16-31 of R1 in a halfword.
 #[inline(always)]
 pub fn store_half<P: Space>(cpu: &mut Cpu, space: &mut P, code: &Code) -> Next
-    ensures memory { P.memory space.new ≡ P.memory space.old }
-    ensures row { Performs (P.memory space.old) cpu.old (P.bytes space.old) (λ m s. row_sth m s code.now) cpu.new (P.bytes space.new) result }
+    ensures { Performs P.memory P.bytes (fixed_row Op.STH code.now) cpu.old space.old cpu.new space.new result }
 {
-    let at = address(cpu, code);
+    let at = indexed(cpu, code);
     if let Err(e) = test_store(space, at, 2) {
         return Next::Ended(e);
     }

@@ -4,10 +4,11 @@
 ghost use Rattle.std.specs.Prelude.{◌≡◌, ◌+◌, ◌-◌, ◌*◌, ◌%◌, ◌<◌, ◌≤◌, true};
 ghost use Rattle.cov_base.specs.Memory.{can_reach, can_store};
 ghost use Rattle.s370_state.specs.Row.{Performs};
-ghost use Rattle.s370_fixed.specs.Multiple.{many, loaded, stored, row_lm, row_stm};
+ghost use Rattle.s370_fixed.specs.Multiple.{many, loaded, stored};
+ghost use Rattle.s370_fixed.specs.Fixed.{fixed_row};
 
 use cov_base::Addr;
-use s370_decode::Code;
+use s370_decode::{Code, Op};
 use s370_state::{Cpu, Next, Space, put_word, test_read, test_store, word_of};
 
 /// How many registers there are from R1 to R3, 15 followed by 0.
@@ -56,8 +57,7 @@ fn store_words<P: Space>(cpu: &Cpu, space: &mut P, r: u8, at: Addr, n: u8)
 
 /// LM: loads the registers from R1 to R3 from as many words.
 pub fn load_multiple<P: Space>(cpu: &mut Cpu, space: &mut P, code: &Code) -> Next
-    ensures memory { P.memory space.new ≡ P.memory space.old }
-    ensures row { Performs (P.memory space.old) cpu.old (P.bytes space.old) (λ m s. row_lm m s code.now) cpu.new (P.bytes space.new) result }
+    ensures { Performs P.memory P.bytes (fixed_row Op.LM code.now) cpu.old space.old cpu.new space.new result }
 {
     let n = count(code);
     let at = cpu.based(code.b2(), code.d2());
@@ -70,8 +70,7 @@ pub fn load_multiple<P: Space>(cpu: &mut Cpu, space: &mut P, code: &Code) -> Nex
 
 /// STM: stores the registers from R1 to R3 in as many words.
 pub fn store_multiple<P: Space>(cpu: &mut Cpu, space: &mut P, code: &Code) -> Next
-    ensures memory { P.memory space.new ≡ P.memory space.old }
-    ensures row { Performs (P.memory space.old) cpu.old (P.bytes space.old) (λ m s. row_stm m s code.now) cpu.new (P.bytes space.new) result }
+    ensures { Performs P.memory P.bytes (fixed_row Op.STM code.now) cpu.old space.old cpu.new space.new result }
 {
     let n = count(code);
     let at = cpu.based(code.b2(), code.d2());

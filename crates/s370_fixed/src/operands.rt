@@ -2,26 +2,13 @@
 ghost use Rattle.std.specs.Prelude.{◌≡◌, ◌<◌, ◌≤◌, [], ◌∷◌, ℤ, pos, neg_ℤ, ◌≤ℤ◌, ◌<ℤ◌, IfOk, IfErr, None, Some, if◌then◌else◌, slice_set};
 ghost use Rattle.s370_state.specs.Row.{reads, use_tests, next_after};
 ghost use Rattle.s370_state.specs.Words.{number_at};
-ghost use Rattle.s370_fixed.specs.Words.{signed_half, low_word, is_word, sign_code};
+ghost use Rattle.s370_fixed.specs.Operands.{result_code};
+ghost use Rattle.s370_fixed.specs.Words.{signed_half, low_word, is_word};
 ghost use Rattle.s370_decode.specs.Fields.{ex};
 
 use crate::words::{half_of, is_word, low_word, sign_code, signed_half};
-use cov_base::Addr;
 use s370_decode::Code;
-use s370_state::{Cpu, Ending, Next, Space, next_after, read_word, test_read};
-
-/// The second operand's address in the RX format, of which each instruction has four bytes.
-#[inline(always)]
-#[tactic(auto, unfolding(s370_decode::specs::Fields::b1, s370_decode::specs::Fields::d1, s370_decode::specs::Fields::b2, s370_decode::specs::Fields::d2))]
-pub fn address(cpu: &Cpu, code: &Code) -> Addr
-    ensures { result ≡ ex cpu.now code.now }
-{
-    if code.len == 6 {
-        cpu.address(code.b2(), code.x2(), code.d2())
-    } else {
-        cpu.address(code.b1(), code.x2(), code.d1())
-    }
-}
+use s370_state::{Cpu, Ending, Next, Space, indexed, next_after, read_word, test_read};
 
 /// The word at the second operand's address.
 #[inline(always)]
@@ -30,7 +17,7 @@ pub fn word<P: Space>(cpu: &Cpu, space: &P, code: &Code) -> Result<u32, Ending>
     ensures passed { IfOk result (λ _. use_tests (P.memory space.now) (reads (ex cpu.now code.now) 4 ∷ []) ≡ None) }
     ensures value { IfOk result (λ v. v ≡ number_at (P.memory space.now) (P.bytes space.now) (ex cpu.now code.now) 4) }
 {
-    read_word(space, address(cpu, code))
+    read_word(space, indexed(cpu, code))
 }
 
 /// The halfword there, extended by its sign.
@@ -38,11 +25,12 @@ pub fn word<P: Space>(cpu: &Cpu, space: &P, code: &Code) -> Result<u32, Ending>
 pub fn half<P: Space>(cpu: &Cpu, space: &P, code: &Code) -> Result<i64, Ending>
     ensures refused { IfErr result (λ e. use_tests (P.memory space.now) (reads (ex cpu.now code.now) 2 ∷ []) ≡ Some e) }
     ensures passed { IfOk result (λ _. use_tests (P.memory space.now) (reads (ex cpu.now code.now) 2 ∷ []) ≡ None) }
-    ensures value { IfOk result (λ z. z ≡ signed_half (number_at (P.memory space.now) (P.bytes space.now) (ex cpu.now code.now) 2)) }
+    ensures value { let number = number_at (P.memory space.now) (P.bytes space.now) in
+        IfOk result (λ z. z ≡ signed_half (number (ex cpu.now code.now) 2)) }
     ensures low { IfOk result (λ z. neg_ℤ (pos 32768) ≤ℤ z) }
     ensures high { IfOk result (λ z. z <ℤ pos 32768) }
 {
-    let at = address(cpu, code);
+    let at = indexed(cpu, code);
     match test_read(space, at, 2) {
         Ok(()) => Ok(signed_half(half_of(space, at, 0, 2))),
         Err(e) => Err(e),
@@ -65,7 +53,7 @@ pub fn load(cpu: &mut Cpu, r: u8, v: u32) -> Next
 #[tactic(auto, unfolding(s370_state::specs::Row::next_after))]
 pub fn set_result(cpu: &mut Cpu, r: u8, z: i64) -> Next
     requires { r < 16 }
-    ensures cpu { cpu.new ≡ record cpu.old { regs = slice_set cpu.old.regs r (low_word z); condition = if is_word z then sign_code z else 3 } }
+    ensures cpu { cpu.new ≡ record cpu.old { regs = slice_set cpu.old.regs r (low_word z); condition = result_code (is_word z) z } }
     ensures next { result ≡ next_after cpu.old.mask (if is_word z then 0 else 8) }
 {
     cpu.set_reg(r, low_word(z));

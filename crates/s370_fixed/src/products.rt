@@ -7,11 +7,12 @@ ghost use Rattle.std.specs.Int.RustNames.{int_div, int_rem};
 ghost use Rattle.s370_state.specs.Row.{Performs, machine_of, after, finish, pair, with_pair};
 ghost use Rattle.s370_state.specs.Words.{signed};
 ghost use Rattle.s370_fixed.specs.Words.{low_word, is_word};
-ghost use Rattle.s370_fixed.specs.Products.{row_mr, row_m, row_mh, row_dr, row_d, divides, divided};
+ghost use Rattle.s370_fixed.specs.Products.{divides, divided};
+ghost use Rattle.s370_fixed.specs.Fixed.{fixed_row};
 
 use crate::operands::{half, load, word};
 use crate::words::{is_word, low_word};
-use s370_decode::Code;
+use s370_decode::{Code, Op};
 use s370_state::{Cpu, Ending, Next, Space, signed};
 
 /// The product of the pair's second register and a signed word goes to the pair.
@@ -20,7 +21,8 @@ fn multiply(cpu: &mut Cpu, r: u8, z: i64) -> Next
     requires r { r < 15 }
     requires low { neg_ℤ (pos 2147483648) ≤ℤ z }
     requires high { z <ℤ pos 2147483648 }
-    ensures cpu { cpu.new ≡ record cpu.old { regs = with_pair cpu.old.regs r (cast_unsigned w64 (signed (slice_index cpu.old.regs (r + 1)) *ℤ z)) } }
+    ensures cpu { let product = signed (slice_index cpu.old.regs (r + 1)) *ℤ z in
+        cpu.new ≡ record cpu.old { regs = with_pair cpu.old.regs r (cast_unsigned w64 product) } }
     ensures next { result ≡ Next.On }
 {
     let product = signed(cpu.reg(r + 1)) * z;
@@ -34,7 +36,8 @@ fn multiply_low(cpu: &mut Cpu, r: u8, z: i64) -> Next
     requires r { r < 16 }
     requires low { neg_ℤ (pos 2147483648) ≤ℤ z }
     requires high { z <ℤ pos 2147483648 }
-    ensures cpu { cpu.new ≡ record cpu.old { regs = slice_set cpu.old.regs r (low_word (signed (slice_index cpu.old.regs r) *ℤ z)) } }
+    ensures cpu { let product = signed (slice_index cpu.old.regs r) *ℤ z in
+        cpu.new ≡ record cpu.old { regs = slice_set cpu.old.regs r (low_word product) } }
     ensures next { result ≡ Next.On }
 {
     let product = signed(cpu.reg(r)) * z;
@@ -80,8 +83,7 @@ fn quotient(p: i64, d: i64) -> Option<(i64, i64)>
 
 /// MR: multiplies the second register of the pair R1 by R2; the pair has the product.
 pub fn multiply_register<P: Space>(cpu: &mut Cpu, space: &mut P, code: &Code) -> Next
-    ensures memory { P.memory space.new ≡ P.memory space.old }
-    ensures row { Performs (P.memory space.old) cpu.old (P.bytes space.old) (λ m s. row_mr m s code.now) cpu.new (P.bytes space.new) result }
+    ensures { Performs P.memory P.bytes (fixed_row Op.MR code.now) cpu.old space.old cpu.new space.new result }
 {
     let r = code.r1();
     if r % 2 != 0 {
@@ -92,8 +94,7 @@ pub fn multiply_register<P: Space>(cpu: &mut Cpu, space: &mut P, code: &Code) ->
 
 /// M: multiplies the second register of the pair R1 by a word; the pair has the product.
 pub fn multiply_word<P: Space>(cpu: &mut Cpu, space: &mut P, code: &Code) -> Next
-    ensures memory { P.memory space.new ≡ P.memory space.old }
-    ensures row { Performs (P.memory space.old) cpu.old (P.bytes space.old) (λ m s. row_m m s code.now) cpu.new (P.bytes space.new) result }
+    ensures { Performs P.memory P.bytes (fixed_row Op.M code.now) cpu.old space.old cpu.new space.new result }
 {
     let r = code.r1();
     if r % 2 != 0 {
@@ -107,8 +108,7 @@ pub fn multiply_word<P: Space>(cpu: &mut Cpu, space: &mut P, code: &Code) -> Nex
 
 /// MH: multiplies R1 by a halfword, extended by its sign; R1 keeps the low word of the product.
 pub fn multiply_half<P: Space>(cpu: &mut Cpu, space: &mut P, code: &Code) -> Next
-    ensures memory { P.memory space.new ≡ P.memory space.old }
-    ensures row { Performs (P.memory space.old) cpu.old (P.bytes space.old) (λ m s. row_mh m s code.now) cpu.new (P.bytes space.new) result }
+    ensures { Performs P.memory P.bytes (fixed_row Op.MH code.now) cpu.old space.old cpu.new space.new result }
 {
     match half(cpu, space, code) {
         Ok(z) => multiply_low(cpu, code.r1(), z),
@@ -118,8 +118,7 @@ pub fn multiply_half<P: Space>(cpu: &mut Cpu, space: &mut P, code: &Code) -> Nex
 
 /// DR: divides the pair R1 by R2, and leaves remainder and quotient in it.
 pub fn divide_register<P: Space>(cpu: &mut Cpu, space: &mut P, code: &Code) -> Next
-    ensures memory { P.memory space.new ≡ P.memory space.old }
-    ensures row { Performs (P.memory space.old) cpu.old (P.bytes space.old) (λ m s. row_dr m s code.now) cpu.new (P.bytes space.new) result }
+    ensures { Performs P.memory P.bytes (fixed_row Op.DR code.now) cpu.old space.old cpu.new space.new result }
 {
     let r = code.r1();
     if r % 2 != 0 {
@@ -130,8 +129,7 @@ pub fn divide_register<P: Space>(cpu: &mut Cpu, space: &mut P, code: &Code) -> N
 
 /// D: divides the pair R1 by a word, and leaves remainder and quotient in it.
 pub fn divide_word<P: Space>(cpu: &mut Cpu, space: &mut P, code: &Code) -> Next
-    ensures memory { P.memory space.new ≡ P.memory space.old }
-    ensures row { Performs (P.memory space.old) cpu.old (P.bytes space.old) (λ m s. row_d m s code.now) cpu.new (P.bytes space.new) result }
+    ensures { Performs P.memory P.bytes (fixed_row Op.D code.now) cpu.old space.old cpu.new space.new result }
 {
     let r = code.r1();
     if r % 2 != 0 {

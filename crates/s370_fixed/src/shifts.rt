@@ -6,11 +6,12 @@ ghost use Rattle.s370_state.specs.Row.{Performs, next_after};
 ghost use Rattle.s370_decode.specs.Fields.{e2};
 ghost use Rattle.s370_state.specs.Words.{signed};
 ghost use Rattle.s370_fixed.specs.Words.{low_word, is_word, is_doubleword, sign_code};
-ghost use Rattle.s370_fixed.specs.Shifts.{left_by, right_by, with_sign, row_sll, row_srl, row_sla, row_sra, row_sldl, row_srdl, row_slda, row_srda};
+ghost use Rattle.s370_fixed.specs.Shifts.{left_by, right_by, with_sign};
+ghost use Rattle.s370_fixed.specs.Fixed.{fixed_row};
 
 use crate::operands::load;
 use crate::words::{is_word, low_word, sign_code};
-use s370_decode::Code;
+use s370_decode::{Code, Op};
 use s370_state::{Cpu, Ending, Next, Space, next_after, signed};
 
 /// The value of a word's sign bit.
@@ -87,8 +88,7 @@ fn set_code(cpu: &mut Cpu, kept: bool, code: u8) -> Next
 
 /// SLL: shifts R1 to the left, without a sign.
 pub fn shift_left_logical<P: Space>(cpu: &mut Cpu, space: &mut P, code: &Code) -> Next
-    ensures memory { P.memory space.new ≡ P.memory space.old }
-    ensures row { Performs (P.memory space.old) cpu.old (P.bytes space.old) (λ m s. row_sll m s code.now) cpu.new (P.bytes space.new) result }
+    ensures { Performs P.memory P.bytes (fixed_row Op.SLL code.now) cpu.old space.old cpu.new space.new result }
 {
     let n = distance(cpu, code);
     let v = u64::from(cpu.reg(code.r1())) << n;
@@ -97,8 +97,7 @@ pub fn shift_left_logical<P: Space>(cpu: &mut Cpu, space: &mut P, code: &Code) -
 
 /// SRL: shifts R1 to the right, without a sign.
 pub fn shift_right_logical<P: Space>(cpu: &mut Cpu, space: &mut P, code: &Code) -> Next
-    ensures memory { P.memory space.new ≡ P.memory space.old }
-    ensures row { Performs (P.memory space.old) cpu.old (P.bytes space.old) (λ m s. row_srl m s code.now) cpu.new (P.bytes space.new) result }
+    ensures { Performs P.memory P.bytes (fixed_row Op.SRL code.now) cpu.old space.old cpu.new space.new result }
 {
     let n = distance(cpu, code);
     let v = u64::from(cpu.reg(code.r1())) >> n;
@@ -107,8 +106,7 @@ pub fn shift_right_logical<P: Space>(cpu: &mut Cpu, space: &mut P, code: &Code) 
 
 /// SLA: shifts R1 to the left behind its sign; lost digits overflow.
 pub fn shift_left<P: Space>(cpu: &mut Cpu, space: &mut P, code: &Code) -> Next
-    ensures memory { P.memory space.new ≡ P.memory space.old }
-    ensures row { Performs (P.memory space.old) cpu.old (P.bytes space.old) (λ m s. row_sla m s code.now) cpu.new (P.bytes space.new) result }
+    ensures { Performs P.memory P.bytes (fixed_row Op.SLA code.now) cpu.old space.old cpu.new space.new result }
 {
     let n = distance(cpu, code);
     let x = signed(cpu.reg(code.r1()));
@@ -119,8 +117,7 @@ pub fn shift_left<P: Space>(cpu: &mut Cpu, space: &mut P, code: &Code) -> Next
 
 /// SRA: shifts R1 to the right, filled with its sign.
 pub fn shift_right<P: Space>(cpu: &mut Cpu, space: &mut P, code: &Code) -> Next
-    ensures memory { P.memory space.new ≡ P.memory space.old }
-    ensures row { Performs (P.memory space.old) cpu.old (P.bytes space.old) (λ m s. row_sra m s code.now) cpu.new (P.bytes space.new) result }
+    ensures { Performs P.memory P.bytes (fixed_row Op.SRA code.now) cpu.old space.old cpu.new space.new result }
 {
     let n = distance(cpu, code);
     let z = right_by(signed(cpu.reg(code.r1())), n);
@@ -131,8 +128,7 @@ pub fn shift_right<P: Space>(cpu: &mut Cpu, space: &mut P, code: &Code) -> Next
 
 /// SLDL: shifts the pair R1 to the left, without a sign.
 pub fn shift_left_double_logical<P: Space>(cpu: &mut Cpu, space: &mut P, code: &Code) -> Next
-    ensures memory { P.memory space.new ≡ P.memory space.old }
-    ensures row { Performs (P.memory space.old) cpu.old (P.bytes space.old) (λ m s. row_sldl m s code.now) cpu.new (P.bytes space.new) result }
+    ensures { Performs P.memory P.bytes (fixed_row Op.SLDL code.now) cpu.old space.old cpu.new space.new result }
 {
     let r = code.r1();
     if r % 2 != 0 {
@@ -145,8 +141,7 @@ pub fn shift_left_double_logical<P: Space>(cpu: &mut Cpu, space: &mut P, code: &
 
 /// SRDL: shifts the pair R1 to the right, without a sign.
 pub fn shift_right_double_logical<P: Space>(cpu: &mut Cpu, space: &mut P, code: &Code) -> Next
-    ensures memory { P.memory space.new ≡ P.memory space.old }
-    ensures row { Performs (P.memory space.old) cpu.old (P.bytes space.old) (λ m s. row_srdl m s code.now) cpu.new (P.bytes space.new) result }
+    ensures { Performs P.memory P.bytes (fixed_row Op.SRDL code.now) cpu.old space.old cpu.new space.new result }
 {
     let r = code.r1();
     if r % 2 != 0 {
@@ -159,8 +154,7 @@ pub fn shift_right_double_logical<P: Space>(cpu: &mut Cpu, space: &mut P, code: 
 
 /// SLDA: shifts the pair R1 to the left behind its sign; lost digits overflow.
 pub fn shift_left_double<P: Space>(cpu: &mut Cpu, space: &mut P, code: &Code) -> Next
-    ensures memory { P.memory space.new ≡ P.memory space.old }
-    ensures row { Performs (P.memory space.old) cpu.old (P.bytes space.old) (λ m s. row_slda m s code.now) cpu.new (P.bytes space.new) result }
+    ensures { Performs P.memory P.bytes (fixed_row Op.SLDA code.now) cpu.old space.old cpu.new space.new result }
 {
     let r = code.r1();
     if r % 2 != 0 {
@@ -175,8 +169,7 @@ pub fn shift_left_double<P: Space>(cpu: &mut Cpu, space: &mut P, code: &Code) ->
 
 /// SRDA: shifts the pair R1 to the right, filled with its sign.
 pub fn shift_right_double<P: Space>(cpu: &mut Cpu, space: &mut P, code: &Code) -> Next
-    ensures memory { P.memory space.new ≡ P.memory space.old }
-    ensures row { Performs (P.memory space.old) cpu.old (P.bytes space.old) (λ m s. row_srda m s code.now) cpu.new (P.bytes space.new) result }
+    ensures { Performs P.memory P.bytes (fixed_row Op.SRDA code.now) cpu.old space.old cpu.new space.new result }
 {
     let r = code.r1();
     if r % 2 != 0 {

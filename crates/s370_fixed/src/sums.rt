@@ -5,11 +5,13 @@ ghost use Rattle.std.specs.Prelude.{◌≡◌, ◌+◌, ◌-◌, ◌%◌, ◌<�
 ghost use Rattle.std.specs.Ordering.{int_cmp};
 ghost use Rattle.s370_state.specs.Row.{Performs, next_after};
 ghost use Rattle.s370_state.specs.Words.{signed, order_code};
-ghost use Rattle.s370_fixed.specs.Words.{low_word, is_word, sign_code};
-ghost use Rattle.s370_fixed.specs.Sums.{carry_code, row_ar, row_a, row_ah, row_sr, row_s, row_sh, row_alr, row_al, row_slr, row_sl, row_cr, row_c, row_ch};
+ghost use Rattle.s370_fixed.specs.Words.{low_word, is_word};
+ghost use Rattle.s370_fixed.specs.Operands.{result_code};
+ghost use Rattle.s370_fixed.specs.Sums.{carry_code};
+ghost use Rattle.s370_fixed.specs.Fixed.{fixed_row};
 
 use crate::operands::{half, set_result, word};
-use s370_decode::Code;
+use s370_decode::{Code, Op};
 use s370_state::{Cpu, Next, Space, order_code, signed};
 
 /// Adds a signed word to the register.
@@ -19,7 +21,7 @@ fn add(cpu: &mut Cpu, r: u8, z: i64) -> Next
     requires low { neg_ℤ (pos 2147483648) ≤ℤ z }
     requires high { z <ℤ pos 2147483648 }
     ensures cpu { let sum = signed (slice_index cpu.old.regs r) +ℤ z in
-        cpu.new ≡ record cpu.old { regs = slice_set cpu.old.regs r (low_word sum); condition = if is_word sum then sign_code sum else 3 } }
+        cpu.new ≡ record cpu.old { regs = slice_set cpu.old.regs r (low_word sum); condition = result_code (is_word sum) sum } }
     ensures next { result ≡ next_after cpu.old.mask (if is_word (signed (slice_index cpu.old.regs r) +ℤ z) then 0 else 8) }
 {
     let sum = signed(cpu.reg(r)) + z;
@@ -32,8 +34,8 @@ fn subtract(cpu: &mut Cpu, r: u8, z: i64) -> Next
     requires r { r < 16 }
     requires low { neg_ℤ (pos 2147483648) ≤ℤ z }
     requires high { z <ℤ pos 2147483648 }
-    ensures cpu { let difference = signed (slice_index cpu.old.regs r) -ℤ z in
-        cpu.new ≡ record cpu.old { regs = slice_set cpu.old.regs r (low_word difference); condition = if is_word difference then sign_code difference else 3 } }
+    ensures cpu { let rest = signed (slice_index cpu.old.regs r) -ℤ z in
+        cpu.new ≡ record cpu.old { regs = slice_set cpu.old.regs r (low_word rest); condition = result_code (is_word rest) rest } }
     ensures next { result ≡ next_after cpu.old.mask (if is_word (signed (slice_index cpu.old.regs r) -ℤ z) then 0 else 8) }
 {
     let difference = signed(cpu.reg(r)) - z;
@@ -93,8 +95,7 @@ fn compare(cpu: &mut Cpu, r: u8, z: i64) -> Next
 /// AR: adds R2 to R1.
 #[inline(always)]
 pub fn add_register<P: Space>(cpu: &mut Cpu, space: &mut P, code: &Code) -> Next
-    ensures memory { P.memory space.new ≡ P.memory space.old }
-    ensures row { Performs (P.memory space.old) cpu.old (P.bytes space.old) (λ m s. row_ar m s code.now) cpu.new (P.bytes space.new) result }
+    ensures { Performs P.memory P.bytes (fixed_row Op.AR code.now) cpu.old space.old cpu.new space.new result }
 {
     add(cpu, code.r1(), signed(cpu.reg(code.r2())))
 }
@@ -102,8 +103,7 @@ pub fn add_register<P: Space>(cpu: &mut Cpu, space: &mut P, code: &Code) -> Next
 /// A: adds a word to R1.
 #[inline(always)]
 pub fn add_word<P: Space>(cpu: &mut Cpu, space: &mut P, code: &Code) -> Next
-    ensures memory { P.memory space.new ≡ P.memory space.old }
-    ensures row { Performs (P.memory space.old) cpu.old (P.bytes space.old) (λ m s. row_a m s code.now) cpu.new (P.bytes space.new) result }
+    ensures { Performs P.memory P.bytes (fixed_row Op.A code.now) cpu.old space.old cpu.new space.new result }
 {
     match word(cpu, space, code) {
         Ok(v) => add(cpu, code.r1(), signed(v)),
@@ -114,8 +114,7 @@ pub fn add_word<P: Space>(cpu: &mut Cpu, space: &mut P, code: &Code) -> Next
 /// AH: adds a halfword, extended by its sign, to R1.
 #[inline(always)]
 pub fn add_half<P: Space>(cpu: &mut Cpu, space: &mut P, code: &Code) -> Next
-    ensures memory { P.memory space.new ≡ P.memory space.old }
-    ensures row { Performs (P.memory space.old) cpu.old (P.bytes space.old) (λ m s. row_ah m s code.now) cpu.new (P.bytes space.new) result }
+    ensures { Performs P.memory P.bytes (fixed_row Op.AH code.now) cpu.old space.old cpu.new space.new result }
 {
     match half(cpu, space, code) {
         Ok(z) => add(cpu, code.r1(), z),
@@ -126,8 +125,7 @@ pub fn add_half<P: Space>(cpu: &mut Cpu, space: &mut P, code: &Code) -> Next
 /// SR: subtracts R2 from R1.
 #[inline(always)]
 pub fn subtract_register<P: Space>(cpu: &mut Cpu, space: &mut P, code: &Code) -> Next
-    ensures memory { P.memory space.new ≡ P.memory space.old }
-    ensures row { Performs (P.memory space.old) cpu.old (P.bytes space.old) (λ m s. row_sr m s code.now) cpu.new (P.bytes space.new) result }
+    ensures { Performs P.memory P.bytes (fixed_row Op.SR code.now) cpu.old space.old cpu.new space.new result }
 {
     subtract(cpu, code.r1(), signed(cpu.reg(code.r2())))
 }
@@ -135,8 +133,7 @@ pub fn subtract_register<P: Space>(cpu: &mut Cpu, space: &mut P, code: &Code) ->
 /// S: subtracts a word from R1.
 #[inline(always)]
 pub fn subtract_word<P: Space>(cpu: &mut Cpu, space: &mut P, code: &Code) -> Next
-    ensures memory { P.memory space.new ≡ P.memory space.old }
-    ensures row { Performs (P.memory space.old) cpu.old (P.bytes space.old) (λ m s. row_s m s code.now) cpu.new (P.bytes space.new) result }
+    ensures { Performs P.memory P.bytes (fixed_row Op.S code.now) cpu.old space.old cpu.new space.new result }
 {
     match word(cpu, space, code) {
         Ok(v) => subtract(cpu, code.r1(), signed(v)),
@@ -147,8 +144,7 @@ pub fn subtract_word<P: Space>(cpu: &mut Cpu, space: &mut P, code: &Code) -> Nex
 /// SH: subtracts a halfword, extended by its sign, from R1.
 #[inline(always)]
 pub fn subtract_half<P: Space>(cpu: &mut Cpu, space: &mut P, code: &Code) -> Next
-    ensures memory { P.memory space.new ≡ P.memory space.old }
-    ensures row { Performs (P.memory space.old) cpu.old (P.bytes space.old) (λ m s. row_sh m s code.now) cpu.new (P.bytes space.new) result }
+    ensures { Performs P.memory P.bytes (fixed_row Op.SH code.now) cpu.old space.old cpu.new space.new result }
 {
     match half(cpu, space, code) {
         Ok(z) => subtract(cpu, code.r1(), z),
@@ -159,8 +155,7 @@ pub fn subtract_half<P: Space>(cpu: &mut Cpu, space: &mut P, code: &Code) -> Nex
 /// ALR: adds R2 to R1 without signs.
 #[inline(always)]
 pub fn add_logical_register<P: Space>(cpu: &mut Cpu, space: &mut P, code: &Code) -> Next
-    ensures memory { P.memory space.new ≡ P.memory space.old }
-    ensures row { Performs (P.memory space.old) cpu.old (P.bytes space.old) (λ m s. row_alr m s code.now) cpu.new (P.bytes space.new) result }
+    ensures { Performs P.memory P.bytes (fixed_row Op.ALR code.now) cpu.old space.old cpu.new space.new result }
 {
     add_unsigned(cpu, code.r1(), cpu.reg(code.r2()))
 }
@@ -168,8 +163,7 @@ pub fn add_logical_register<P: Space>(cpu: &mut Cpu, space: &mut P, code: &Code)
 /// AL: adds a word to R1 without signs.
 #[inline(always)]
 pub fn add_logical_word<P: Space>(cpu: &mut Cpu, space: &mut P, code: &Code) -> Next
-    ensures memory { P.memory space.new ≡ P.memory space.old }
-    ensures row { Performs (P.memory space.old) cpu.old (P.bytes space.old) (λ m s. row_al m s code.now) cpu.new (P.bytes space.new) result }
+    ensures { Performs P.memory P.bytes (fixed_row Op.AL code.now) cpu.old space.old cpu.new space.new result }
 {
     match word(cpu, space, code) {
         Ok(v) => add_unsigned(cpu, code.r1(), v),
@@ -180,8 +174,7 @@ pub fn add_logical_word<P: Space>(cpu: &mut Cpu, space: &mut P, code: &Code) -> 
 /// SLR: subtracts R2 from R1 without signs.
 #[inline(always)]
 pub fn subtract_logical_register<P: Space>(cpu: &mut Cpu, space: &mut P, code: &Code) -> Next
-    ensures memory { P.memory space.new ≡ P.memory space.old }
-    ensures row { Performs (P.memory space.old) cpu.old (P.bytes space.old) (λ m s. row_slr m s code.now) cpu.new (P.bytes space.new) result }
+    ensures { Performs P.memory P.bytes (fixed_row Op.SLR code.now) cpu.old space.old cpu.new space.new result }
 {
     subtract_unsigned(cpu, code.r1(), cpu.reg(code.r2()))
 }
@@ -189,8 +182,7 @@ pub fn subtract_logical_register<P: Space>(cpu: &mut Cpu, space: &mut P, code: &
 /// SL: subtracts a word from R1 without signs.
 #[inline(always)]
 pub fn subtract_logical_word<P: Space>(cpu: &mut Cpu, space: &mut P, code: &Code) -> Next
-    ensures memory { P.memory space.new ≡ P.memory space.old }
-    ensures row { Performs (P.memory space.old) cpu.old (P.bytes space.old) (λ m s. row_sl m s code.now) cpu.new (P.bytes space.new) result }
+    ensures { Performs P.memory P.bytes (fixed_row Op.SL code.now) cpu.old space.old cpu.new space.new result }
 {
     match word(cpu, space, code) {
         Ok(v) => subtract_unsigned(cpu, code.r1(), v),
@@ -201,8 +193,7 @@ pub fn subtract_logical_word<P: Space>(cpu: &mut Cpu, space: &mut P, code: &Code
 /// CR: compares R1 with R2.
 #[inline(always)]
 pub fn compare_register<P: Space>(cpu: &mut Cpu, space: &mut P, code: &Code) -> Next
-    ensures memory { P.memory space.new ≡ P.memory space.old }
-    ensures row { Performs (P.memory space.old) cpu.old (P.bytes space.old) (λ m s. row_cr m s code.now) cpu.new (P.bytes space.new) result }
+    ensures { Performs P.memory P.bytes (fixed_row Op.CR code.now) cpu.old space.old cpu.new space.new result }
 {
     compare(cpu, code.r1(), signed(cpu.reg(code.r2())))
 }
@@ -210,8 +201,7 @@ pub fn compare_register<P: Space>(cpu: &mut Cpu, space: &mut P, code: &Code) -> 
 /// C: compares R1 with a word.
 #[inline(always)]
 pub fn compare_word<P: Space>(cpu: &mut Cpu, space: &mut P, code: &Code) -> Next
-    ensures memory { P.memory space.new ≡ P.memory space.old }
-    ensures row { Performs (P.memory space.old) cpu.old (P.bytes space.old) (λ m s. row_c m s code.now) cpu.new (P.bytes space.new) result }
+    ensures { Performs P.memory P.bytes (fixed_row Op.C code.now) cpu.old space.old cpu.new space.new result }
 {
     match word(cpu, space, code) {
         Ok(v) => compare(cpu, code.r1(), signed(v)),
@@ -222,8 +212,7 @@ pub fn compare_word<P: Space>(cpu: &mut Cpu, space: &mut P, code: &Code) -> Next
 /// CH: compares R1 with a halfword, extended by its sign.
 #[inline(always)]
 pub fn compare_half<P: Space>(cpu: &mut Cpu, space: &mut P, code: &Code) -> Next
-    ensures memory { P.memory space.new ≡ P.memory space.old }
-    ensures row { Performs (P.memory space.old) cpu.old (P.bytes space.old) (λ m s. row_ch m s code.now) cpu.new (P.bytes space.new) result }
+    ensures { Performs P.memory P.bytes (fixed_row Op.CH code.now) cpu.old space.old cpu.new space.new result }
 {
     match half(cpu, space, code) {
         Ok(z) => compare(cpu, code.r1(), z),

@@ -1,7 +1,7 @@
 //! The one call for all operations of fixed point and loads.
 ghost use Rattle.std.specs.Prelude.{◌≡◌};
 ghost use Rattle.s370_decode.specs.Groups.{group_of};
-ghost use Rattle.s370_state.specs.Row.{Operates};
+ghost use Rattle.s370_state.specs.Row.{Performs};
 ghost use Rattle.s370_fixed.specs.Fixed.{fixed_row};
 
 use crate::conversions::{convert_to_binary, convert_to_decimal};
@@ -34,8 +34,7 @@ use s370_state::{Cpu, Next, Space};
 /// Takes no memory.
 pub fn fixed<P: Space>(cpu: &mut Cpu, space: &mut P, code: &Code, op: Op) -> Next
     requires { group_of op ≡ Group.Fixed }
-    ensures memory { P.memory space.new ≡ P.memory space.old }
-    ensures row { Operates (P.memory space.old) cpu.old (P.bytes space.old) (λ m s. fixed_row op m s code.now) cpu.new (P.bytes space.new) result }
+    ensures { Performs P.memory P.bytes (fixed_row op code.now) cpu.old space.old cpu.new space.new result }
 {
     match op {
         Op::LR => load_register(cpu, space, code),

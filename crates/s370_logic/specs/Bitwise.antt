@@ -1,10 +1,10 @@
--- The rows of and, or and exclusive or, which take the operation on bits (Principles of Operation, "General
--- Instructions", "AND", "OR", "Exclusive OR").
-use Rattle.std.specs.Prelude.{ℕ, zero, suc, ◌+◌, Bool, true, ◌&&◌, ◌==◌, if◌then◌else◌, List, [], ◌∷◌, slice_set, bit_and, bit_or, bit_xor}
+-- And, or and exclusive or, by the operation on bits (Principles of Operation, "General Instructions", "AND", "OR", "Exclusive
+-- OR"). The rows are of R1 with R2, of R1 with a word, of a byte with the immediate byte, and of the bytes of two fields.
+use Rattle.std.specs.Prelude.{ℕ, zero, suc, ◌+◌, Bool, true, ◌&&◌, ◌==◌, if◌then◌else◌, Option, Some, List, slice_set, bit_and, bit_or, bit_xor}
 use Rattle.cov_base.specs.States.{Machine}
 use Rattle.cov_base.specs.Memory.{Memory, byte_at, wrap}
-use Rattle.s370_state.specs.Row.{Row, Outcome, Completes, at_once, from_word, reads, stores, reg, with_reg, with_cc, with_bytes}
-use Rattle.s370_decode.specs.Fields.{r1, r2, i2, e1, e2, ex}
+use Rattle.s370_state.specs.Row.{Row, Outcome, Completes, from_register, from_word, storing, replacing, reg, with_reg, with_cc, with_bytes}
+use Rattle.s370_decode.specs.Fields.{r1, i2, e1, e2}
 use Rattle.s370_decode.specs.declared.code.Code.{Code}
 use Rattle.s370_logic.specs.declared.bitwise.Connective.{Connective}
 use Rattle.s370_logic.specs.declared.bitwise.Connective.TheVariants.{And, Or, ExclusiveOr}
@@ -23,22 +23,16 @@ zero_code is_zero = if is_zero then 0 else 1
 abbrev pub joins : (ℕ → ℕ → ℕ) → Machine → Code → ℕ → Outcome
 joins f s c v = Completes (with_cc (with_reg s (r1 c) (f (reg s (r1 c)) v)) (zero_code (f (reg s (r1 c)) v == 0)))
 
-abbrev pub row_registers : (ℕ → ℕ → ℕ) → Memory → Machine → Code → Row
-row_registers f m s c = at_once (joins f s c (reg s (r2 c)))
+abbrev pub row_registers : (ℕ → ℕ → ℕ) → Code → Memory → Machine → Option Row
+row_registers f c m s = Some (from_register s c (joins f s c))
 
-abbrev pub row_word : (ℕ → ℕ → ℕ) → Memory → Machine → Code → Row
-row_word f m s c = from_word m s (ex s.cpu c) (joins f s c)
+abbrev pub row_word : (ℕ → ℕ → ℕ) → Code → Memory → Machine → Option Row
+row_word f c m s = Some (from_word m s c (joins f s c))
 
--- the byte at the first operand's address becomes f of it and the immediate byte
-abbrev pub row_immediate : (ℕ → ℕ → ℕ) → Memory → Machine → Code → Row
-row_immediate f m s c =
-    let a = e1 s.cpu c in
-    let v = f (byte_at m s.bytes a) (i2 c) in
-    record {
-      well = true;
-      uses = stores a 1 ∷ [];
-      outcome = Completes (with_cc (with_bytes s (slice_set s.bytes a v)) (zero_code (v == 0)));
-    }
+abbrev pub row_immediate : (ℕ → ℕ → ℕ) → Code → Memory → Machine → Option Row
+row_immediate f c m s =
+    let v = f (byte_at m s.bytes (e1 s.cpu c)) (i2 c) in
+    Some (storing (e1 s.cpu c) 1 (Completes (with_cc (with_bytes s (slice_set s.bytes (e1 s.cpu c) v)) (zero_code (v == 0)))))
 
 -- f of byte n of the operands at a and b, as they stand in these bytes
 abbrev pub joined_byte : (ℕ → ℕ → ℕ) → Memory → List ℕ → ℕ → ℕ → ℕ → ℕ
@@ -55,13 +49,9 @@ unfoldable pub are_zero : (ℕ → ℕ → ℕ) → Memory → List ℕ → ℕ 
 are_zero f m bytes a b zero = true
 are_zero f m bytes a b (suc n) = are_zero f m bytes a b n && joined_byte f m (joined f m bytes a b n) a b n == 0
 
-abbrev pub row_fields : (ℕ → ℕ → ℕ) → Memory → Machine → Code → Row
-row_fields f m s c =
+abbrev pub row_fields : (ℕ → ℕ → ℕ) → Code → Memory → Machine → Option Row
+row_fields f c m s =
     let a = e1 s.cpu c in
     let b = e2 s.cpu c in
     let n = i2 c + 1 in
-    record {
-      well = true;
-      uses = stores a n ∷ (reads b n ∷ []);
-      outcome = Completes (with_cc (with_bytes s (joined f m s.bytes a b n)) (zero_code (are_zero f m s.bytes a b n)));
-    }
+    Some (replacing a n b n (Completes (with_cc (with_bytes s (joined f m s.bytes a b n)) (zero_code (are_zero f m s.bytes a b n)))))

@@ -2,5 +2,4 @@ pub mod Bitwise
 pub mod Comparisons
 pub mod SingleBytes
 pub mod Masked
-pub mod Swaps
 pub mod Logic

@@ -1,13 +1,7 @@
--- The rows of operations on the bytes of R1 that a mask of four bits selects, left to right (Principles of Operation,
--- "General Instructions", "Insert Characters under Mask", "Store Characters under Mask", "Compare Logical Characters
--- under Mask"). A zero mask selects no byte, and the operand then has none.
-use Rattle.std.specs.Prelude.{ℕ, zero, suc, ◌+◌, ◌*◌, ◌/◌, ◌%◌, true, ◌==◌, nat_le, if◌then◌else◌, [], ◌∷◌, count_ones}
-use Rattle.std.specs.Ordering.{nat_cmp}
-use Rattle.cov_base.specs.States.{Machine}
-use Rattle.cov_base.specs.Memory.{Memory, byte_at}
-use Rattle.s370_state.specs.Row.{Row, Completes, reads, stores, reg, with_reg, with_cc, with_bytes}
-use Rattle.s370_state.specs.Words.{number_at, store_number, order_code}
-use Rattle.s370_decode.specs.Fields.{r1, r2, e2}
+-- The bytes of a register that a mask of four bits selects, left to right (Principles of Operation, "General Instructions",
+-- "Insert Characters under Mask"). A zero mask selects no byte, and the operand then has none.
+use Rattle.std.specs.Prelude.{ℕ, zero, suc, ◌+◌, ◌*◌, ◌/◌, ◌%◌, ◌==◌, nat_le, if◌then◌else◌, count_ones}
+use Rattle.s370_decode.specs.Fields.{r2}
 use Rattle.s370_decode.specs.declared.code.Code.{Code}
 
 -- the operand's length: a byte for each one bit of the mask
@@ -30,32 +24,3 @@ inserted (suc k) mask w v =
 -- 0 where all inserted bits are zero, or there are none; 1 where the first is one, else 2
 abbrev pub insert_code : ℕ → ℕ → ℕ
 insert_code v first = if v == 0 then 0 else (if nat_le 128 first then 1 else 2)
-
-abbrev pub row_icm : Memory → Machine → Code → Row
-row_icm m s c =
-    let a = e2 s.cpu c in
-    let v = number_at m s.bytes a (size c) in
-    record {
-      well = true;
-      uses = reads a (size c) ∷ [];
-      outcome = Completes (with_cc (with_reg s (r1 c) (inserted 4 (r2 c) (reg s (r1 c)) v)) (insert_code v (byte_at m s.bytes a)));
-    }
-
-abbrev pub row_stcm : Memory → Machine → Code → Row
-row_stcm m s c =
-    let a = e2 s.cpu c in
-    record {
-      well = true;
-      uses = stores a (size c) ∷ [];
-      outcome = Completes (with_bytes s (store_number s.bytes a (size c) (gathered 4 (r2 c) (reg s (r1 c)))));
-    }
-
--- the selected bytes of R1 are the first operand
-abbrev pub row_clm : Memory → Machine → Code → Row
-row_clm m s c =
-    let a = e2 s.cpu c in
-    record {
-      well = true;
-      uses = reads a (size c) ∷ [];
-      outcome = Completes (with_cc s (order_code (nat_cmp (gathered 4 (r2 c) (reg s (r1 c))) (number_at m s.bytes a (size c)))));
-    }

@@ -82,16 +82,14 @@ fn join_bytes<P: Space>(f: Connective, space: &mut P, a: Addr, b: Addr, n: u32) 
 
 /// NR, OR, XR: joins R2 to R1.
 pub fn join_registers<P: Space>(cpu: &mut Cpu, space: &mut P, code: &Code, f: Connective) -> Next
-    ensures memory { P.memory space.new ≡ P.memory space.old }
-    ensures row { Performs (P.memory space.old) cpu.old (P.bytes space.old) (λ m s. row_registers (connected f) m s code.now) cpu.new (P.bytes space.new) result }
+    ensures { Performs P.memory P.bytes (row_registers (connected f) code.now) cpu.old space.old cpu.new space.new result }
 {
     join(cpu, code.r1(), cpu.reg(code.r2()), f)
 }
 
 /// N, O, X: joins a word to R1.
 pub fn join_word<P: Space>(cpu: &mut Cpu, space: &mut P, code: &Code, f: Connective) -> Next
-    ensures memory { P.memory space.new ≡ P.memory space.old }
-    ensures row { Performs (P.memory space.old) cpu.old (P.bytes space.old) (λ m s. row_word (connected f) m s code.now) cpu.new (P.bytes space.new) result }
+    ensures { Performs P.memory P.bytes (row_word (connected f) code.now) cpu.old space.old cpu.new space.new result }
 {
     match read_word(space, cpu.address(code.b2(), code.x2(), code.d2())) {
         Ok(v) => join(cpu, code.r1(), v, f),
@@ -101,8 +99,7 @@ pub fn join_word<P: Space>(cpu: &mut Cpu, space: &mut P, code: &Code, f: Connect
 
 /// NI, OI, XI: joins I2 to a byte.
 pub fn join_immediate<P: Space>(cpu: &mut Cpu, space: &mut P, code: &Code, f: Connective) -> Next
-    ensures memory { P.memory space.new ≡ P.memory space.old }
-    ensures row { Performs (P.memory space.old) cpu.old (P.bytes space.old) (λ m s. row_immediate (connected f) m s code.now) cpu.new (P.bytes space.new) result }
+    ensures { Performs P.memory P.bytes (row_immediate (connected f) code.now) cpu.old space.old cpu.new space.new result }
 {
     let at = cpu.based(code.b1(), code.d1());
     if let Err(e) = test_store(space, at, 1) {
@@ -116,8 +113,7 @@ pub fn join_immediate<P: Space>(cpu: &mut Cpu, space: &mut P, code: &Code, f: Co
 
 /// NC, OC, XC: joins the second operand to the first, left to right.
 pub fn join_fields<P: Space>(cpu: &mut Cpu, space: &mut P, code: &Code, f: Connective) -> Next
-    ensures memory { P.memory space.new ≡ P.memory space.old }
-    ensures row { Performs (P.memory space.old) cpu.old (P.bytes space.old) (λ m s. row_fields (connected f) m s code.now) cpu.new (P.bytes space.new) result }
+    ensures { Performs P.memory P.bytes (row_fields (connected f) code.now) cpu.old space.old cpu.new space.new result }
 {
     let n = u32::from(code.l()) + 1;
     let a = cpu.based(code.b1(), code.d1());

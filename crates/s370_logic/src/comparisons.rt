@@ -6,10 +6,11 @@ ghost use Rattle.std.specs.Ordering.{nat_cmp};
 ghost use Rattle.cov_base.specs.Memory.{can_reach};
 ghost use Rattle.s370_state.specs.Row.{Performs};
 ghost use Rattle.s370_state.specs.Words.{order_code};
-ghost use Rattle.s370_logic.specs.Comparisons.{compared, row_clr, row_cl, row_cli, row_clc};
+ghost use Rattle.s370_logic.specs.Comparisons.{compared};
+ghost use Rattle.s370_logic.specs.Logic.{logic_row};
 
 use cov_base::Addr;
-use s370_decode::Code;
+use s370_decode::{Code, Op};
 use s370_state::{Cpu, Next, Space, byte_of, order_code, read_word, test_read, test_read_both};
 
 /// Compares the register with a word.
@@ -42,16 +43,14 @@ fn compare_bytes<P: Space>(space: &P, a: Addr, b: Addr, n: u32) -> u8
 
 /// CLR: compares R1 with R2.
 pub fn compare_registers<P: Space>(cpu: &mut Cpu, space: &mut P, code: &Code) -> Next
-    ensures memory { P.memory space.new ≡ P.memory space.old }
-    ensures row { Performs (P.memory space.old) cpu.old (P.bytes space.old) (λ m s. row_clr m s code.now) cpu.new (P.bytes space.new) result }
+    ensures { Performs P.memory P.bytes (logic_row Op.CLR code.now) cpu.old space.old cpu.new space.new result }
 {
     compare(cpu, code.r1(), cpu.reg(code.r2()))
 }
 
 /// CL: compares R1 with a word.
 pub fn compare_word<P: Space>(cpu: &mut Cpu, space: &mut P, code: &Code) -> Next
-    ensures memory { P.memory space.new ≡ P.memory space.old }
-    ensures row { Performs (P.memory space.old) cpu.old (P.bytes space.old) (λ m s. row_cl m s code.now) cpu.new (P.bytes space.new) result }
+    ensures { Performs P.memory P.bytes (logic_row Op.CL code.now) cpu.old space.old cpu.new space.new result }
 {
     match read_word(space, cpu.address(code.b2(), code.x2(), code.d2())) {
         Ok(v) => compare(cpu, code.r1(), v),
@@ -61,8 +60,7 @@ pub fn compare_word<P: Space>(cpu: &mut Cpu, space: &mut P, code: &Code) -> Next
 
 /// CLI: compares a byte with I2.
 pub fn compare_immediate<P: Space>(cpu: &mut Cpu, space: &mut P, code: &Code) -> Next
-    ensures memory { P.memory space.new ≡ P.memory space.old }
-    ensures row { Performs (P.memory space.old) cpu.old (P.bytes space.old) (λ m s. row_cli m s code.now) cpu.new (P.bytes space.new) result }
+    ensures { Performs P.memory P.bytes (logic_row Op.CLI code.now) cpu.old space.old cpu.new space.new result }
 {
     let at = cpu.based(code.b1(), code.d1());
     if let Err(e) = test_read(space, at, 1) {
@@ -75,8 +73,7 @@ pub fn compare_immediate<P: Space>(cpu: &mut Cpu, space: &mut P, code: &Code) ->
 
 /// CLC: compares the operands, left to right.
 pub fn compare_fields<P: Space>(cpu: &mut Cpu, space: &mut P, code: &Code) -> Next
-    ensures memory { P.memory space.new ≡ P.memory space.old }
-    ensures row { Performs (P.memory space.old) cpu.old (P.bytes space.old) (λ m s. row_clc m s code.now) cpu.new (P.bytes space.new) result }
+    ensures { Performs P.memory P.bytes (logic_row Op.CLC code.now) cpu.old space.old cpu.new space.new result }
 {
     let n = u32::from(code.l()) + 1;
     let a = cpu.based(code.b1(), code.d1());

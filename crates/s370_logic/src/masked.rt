@@ -5,10 +5,11 @@ ghost use Rattle.std.specs.Prelude.{◌≡◌, ◌+◌, ◌-◌, ◌*◌, ◌/�
 ghost use Rattle.cov_base.specs.Memory.{can_reach, can_store, byte_at};
 ghost use Rattle.s370_state.specs.Row.{Performs};
 ghost use Rattle.s370_state.specs.Words.{number_at, store_number};
-ghost use Rattle.s370_logic.specs.Masked.{size, gathered, inserted, insert_code, row_icm, row_stcm, row_clm};
+ghost use Rattle.s370_logic.specs.Masked.{size, gathered, inserted, insert_code};
+ghost use Rattle.s370_logic.specs.Logic.{logic_row};
 
 use cov_base::Addr;
-use s370_decode::Code;
+use s370_decode::{Code, Op};
 use s370_state::{Cpu, Next, Space, byte_of, order_code, put_into, test_read, test_store};
 
 /// The operand's length: how many bytes the mask selects.
@@ -100,8 +101,7 @@ fn insert_code<P: Space>(space: &P, at: Addr, n: u32, v: u32) -> u8
 
 /// ICM: inserts bytes into the places of R1 that the mask selects.
 pub fn insert_under_mask<P: Space>(cpu: &mut Cpu, space: &mut P, code: &Code) -> Next
-    ensures memory { P.memory space.new ≡ P.memory space.old }
-    ensures row { Performs (P.memory space.old) cpu.old (P.bytes space.old) (λ m s. row_icm m s code.now) cpu.new (P.bytes space.new) result }
+    ensures { Performs P.memory P.bytes (logic_row Op.ICM code.now) cpu.old space.old cpu.new space.new result }
 {
     let at = cpu.based(code.b2(), code.d2());
     let n = size(code);
@@ -117,8 +117,7 @@ pub fn insert_under_mask<P: Space>(cpu: &mut Cpu, space: &mut P, code: &Code) ->
 
 /// STCM: stores the bytes of R1 that the mask selects.
 pub fn store_under_mask<P: Space>(cpu: &mut Cpu, space: &mut P, code: &Code) -> Next
-    ensures memory { P.memory space.new ≡ P.memory space.old }
-    ensures row { Performs (P.memory space.old) cpu.old (P.bytes space.old) (λ m s. row_stcm m s code.now) cpu.new (P.bytes space.new) result }
+    ensures { Performs P.memory P.bytes (logic_row Op.STCM code.now) cpu.old space.old cpu.new space.new result }
 {
     let at = cpu.based(code.b2(), code.d2());
     let n = size(code);
@@ -132,8 +131,7 @@ pub fn store_under_mask<P: Space>(cpu: &mut Cpu, space: &mut P, code: &Code) -> 
 
 /// CLM: compares the bytes of R1 that the mask selects with as many in storage.
 pub fn compare_under_mask<P: Space>(cpu: &mut Cpu, space: &mut P, code: &Code) -> Next
-    ensures memory { P.memory space.new ≡ P.memory space.old }
-    ensures row { Performs (P.memory space.old) cpu.old (P.bytes space.old) (λ m s. row_clm m s code.now) cpu.new (P.bytes space.new) result }
+    ensures { Performs P.memory P.bytes (logic_row Op.CLM code.now) cpu.old space.old cpu.new space.new result }
 {
     let at = cpu.based(code.b2(), code.d2());
     let n = size(code);

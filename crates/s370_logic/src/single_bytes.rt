@@ -3,16 +3,16 @@
 
 ghost use Rattle.std.specs.Prelude.{◌≡◌, ◌+◌, ◌*◌, ◌/◌, ◌%◌, ◌<◌, ◌≤◌, ◌==◌, if◌then◌else◌};
 ghost use Rattle.s370_state.specs.Row.{Performs};
-ghost use Rattle.s370_logic.specs.SingleBytes.{mask_code, row_ic, row_stc, row_mvi, row_tm, row_ts, row_spm, stores_byte};
+ghost use Rattle.s370_logic.specs.SingleBytes.{mask_code, stores_byte};
+ghost use Rattle.s370_logic.specs.Logic.{logic_row};
 
 use cov_base::Addr;
-use s370_decode::Code;
+use s370_decode::{Code, Op};
 use s370_state::{Cpu, Next, Space, byte_of, put_into, test_read, test_store};
 
 /// Stores one byte.
 fn store_byte<P: Space>(cpu: &Cpu, space: &mut P, at: Addr, v: u8) -> Next
-    ensures memory { P.memory space.new ≡ P.memory space.old }
-    ensures row { Performs (P.memory space.old) cpu.now (P.bytes space.old) (λ m s. stores_byte s at v) cpu.now (P.bytes space.new) result }
+    ensures { Performs P.memory P.bytes (stores_byte at v) cpu.now space.old cpu.now space.new result }
 {
     if let Err(e) = test_store(space, at, 1) {
         return Next::Ended(e);
@@ -23,8 +23,7 @@ fn store_byte<P: Space>(cpu: &Cpu, space: &mut P, at: Addr, v: u8) -> Next
 
 /// IC: loads bits 24-31 of R1 from a byte.
 pub fn insert_character<P: Space>(cpu: &mut Cpu, space: &mut P, code: &Code) -> Next
-    ensures memory { P.memory space.new ≡ P.memory space.old }
-    ensures row { Performs (P.memory space.old) cpu.old (P.bytes space.old) (λ m s. row_ic m s code.now) cpu.new (P.bytes space.new) result }
+    ensures { Performs P.memory P.bytes (logic_row Op.IC code.now) cpu.old space.old cpu.new space.new result }
 {
     let at = cpu.address(code.b2(), code.x2(), code.d2());
     if let Err(e) = test_read(space, at, 1) {
@@ -37,8 +36,7 @@ pub fn insert_character<P: Space>(cpu: &mut Cpu, space: &mut P, code: &Code) -> 
 
 /// STC: stores bits 24-31 of R1 in a byte.
 pub fn store_character<P: Space>(cpu: &mut Cpu, space: &mut P, code: &Code) -> Next
-    ensures memory { P.memory space.new ≡ P.memory space.old }
-    ensures row { Performs (P.memory space.old) cpu.old (P.bytes space.old) (λ m s. row_stc m s code.now) cpu.new (P.bytes space.new) result }
+    ensures { Performs P.memory P.bytes (logic_row Op.STC code.now) cpu.old space.old cpu.new space.new result }
 {
     let at = cpu.address(code.b2(), code.x2(), code.d2());
     store_byte(cpu, space, at, (cpu.reg(code.r1()) % 256) as u8)
@@ -46,8 +44,7 @@ pub fn store_character<P: Space>(cpu: &mut Cpu, space: &mut P, code: &Code) -> N
 
 /// MVI: stores I2 in a byte.
 pub fn move_immediate<P: Space>(cpu: &mut Cpu, space: &mut P, code: &Code) -> Next
-    ensures memory { P.memory space.new ≡ P.memory space.old }
-    ensures row { Performs (P.memory space.old) cpu.old (P.bytes space.old) (λ m s. row_mvi m s code.now) cpu.new (P.bytes space.new) result }
+    ensures { Performs P.memory P.bytes (logic_row Op.MVI code.now) cpu.old space.old cpu.new space.new result }
 {
     let at = cpu.based(code.b1(), code.d1());
     store_byte(cpu, space, at, code.i2())
@@ -55,8 +52,7 @@ pub fn move_immediate<P: Space>(cpu: &mut Cpu, space: &mut P, code: &Code) -> Ne
 
 /// TM: tests the bits of a byte that I2 selects.
 pub fn test_under_mask<P: Space>(cpu: &mut Cpu, space: &mut P, code: &Code) -> Next
-    ensures memory { P.memory space.new ≡ P.memory space.old }
-    ensures row { Performs (P.memory space.old) cpu.old (P.bytes space.old) (λ m s. row_tm m s code.now) cpu.new (P.bytes space.new) result }
+    ensures { Performs P.memory P.bytes (logic_row Op.TM code.now) cpu.old space.old cpu.new space.new result }
 {
     let at = cpu.based(code.b1(), code.d1());
     if let Err(e) = test_read(space, at, 1) {
@@ -84,8 +80,7 @@ fn mask_code(selected: u8, mask: u8) -> u8
 
 /// TS: tests the leftmost bit of a byte, and stores ones in it.
 pub fn test_and_set<P: Space>(cpu: &mut Cpu, space: &mut P, code: &Code) -> Next
-    ensures memory { P.memory space.new ≡ P.memory space.old }
-    ensures row { Performs (P.memory space.old) cpu.old (P.bytes space.old) (λ m s. row_ts m s code.now) cpu.new (P.bytes space.new) result }
+    ensures { Performs P.memory P.bytes (logic_row Op.TS code.now) cpu.old space.old cpu.new space.new result }
 {
     let at = cpu.based(code.b2(), code.d2());
     if let Err(e) = test_store(space, at, 1) {
@@ -98,8 +93,7 @@ pub fn test_and_set<P: Space>(cpu: &mut Cpu, space: &mut P, code: &Code) -> Next
 
 /// SPM: loads the condition code and the program mask from R1.
 pub fn set_program_mask<P: Space>(cpu: &mut Cpu, space: &mut P, code: &Code) -> Next
-    ensures memory { P.memory space.new ≡ P.memory space.old }
-    ensures row { Performs (P.memory space.old) cpu.old (P.bytes space.old) (λ m s. row_spm m s code.now) cpu.new (P.bytes space.new) result }
+    ensures { Performs P.memory P.bytes (logic_row Op.SPM code.now) cpu.old space.old cpu.new space.new result }
 {
     let w = cpu.reg(code.r1());
     cpu.set_cc((w / 268_435_456 % 4) as u8);

@@ -5,10 +5,10 @@ ghost use Rattle.std.specs.Prelude.{◌≡◌, ◌+◌, ◌*◌, ◌/◌, ◌%�
 ghost use Rattle.cov_base.specs.Memory.{can_reach, can_store};
 ghost use Rattle.s370_state.specs.Row.{Performs};
 ghost use Rattle.s370_state.specs.Words.{number_at, store_number};
-ghost use Rattle.s370_logic.specs.Swaps.{row_cs, row_cds};
+ghost use Rattle.s370_logic.specs.Logic.{logic_row};
 
 use cov_base::Addr;
-use s370_decode::Code;
+use s370_decode::{Code, Op};
 use s370_state::{Cpu, Ending, Next, Space, put_word, test_store, word_of};
 
 /// The doubleword at a distance into an operand that was tested, unsigned.
@@ -36,8 +36,7 @@ fn put_double<P: Space>(space: &mut P, at: Addr, i: u32, len: u32, value: u64)
 
 /// CS: stores R3 in a word that equals R1, or else loads R1 from it.
 pub fn compare_and_swap<P: Space>(cpu: &mut Cpu, space: &mut P, code: &Code) -> Next
-    ensures memory { P.memory space.new ≡ P.memory space.old }
-    ensures row { Performs (P.memory space.old) cpu.old (P.bytes space.old) (λ m s. row_cs m s code.now) cpu.new (P.bytes space.new) result }
+    ensures { Performs P.memory P.bytes (logic_row Op.CS code.now) cpu.old space.old cpu.new space.new result }
 {
     let at = cpu.based(code.b2(), code.d2());
     if at.get() % 4 != 0 {
@@ -59,8 +58,7 @@ pub fn compare_and_swap<P: Space>(cpu: &mut Cpu, space: &mut P, code: &Code) -> 
 
 /// CDS: stores the pair R3 in a doubleword that equals the pair R1, or else loads the pair R1 from it.
 pub fn compare_double_and_swap<P: Space>(cpu: &mut Cpu, space: &mut P, code: &Code) -> Next
-    ensures memory { P.memory space.new ≡ P.memory space.old }
-    ensures row { Performs (P.memory space.old) cpu.old (P.bytes space.old) (λ m s. row_cds m s code.now) cpu.new (P.bytes space.new) result }
+    ensures { Performs P.memory P.bytes (logic_row Op.CDS code.now) cpu.old space.old cpu.new space.new result }
 {
     let at = cpu.based(code.b2(), code.d2());
     let (r1, r3) = (code.r1(), code.r3());

@@ -1,7 +1,7 @@
 //! The one call for all operations of logic and tests.
 ghost use Rattle.std.specs.Prelude.{◌≡◌};
 ghost use Rattle.s370_decode.specs.Groups.{group_of};
-ghost use Rattle.s370_state.specs.Row.{Operates};
+ghost use Rattle.s370_state.specs.Row.{Performs};
 ghost use Rattle.s370_logic.specs.Logic.{logic_row};
 
 use crate::bitwise::{Connective, join_fields, join_immediate, join_registers, join_word};
@@ -23,8 +23,7 @@ use s370_state::{Cpu, Next, Space};
 /// load. The instruction address is left as it is. Takes no memory.
 pub fn logic<P: Space>(cpu: &mut Cpu, space: &mut P, code: &Code, op: Op) -> Next
     requires { group_of op ≡ Group.Logic }
-    ensures memory { P.memory space.new ≡ P.memory space.old }
-    ensures row { Operates (P.memory space.old) cpu.old (P.bytes space.old) (λ m s. logic_row op m s code.now) cpu.new (P.bytes space.new) result }
+    ensures { Performs P.memory P.bytes (logic_row op code.now) cpu.old space.old cpu.new space.new result }
 {
     match op {
         Op::NR => join_registers(cpu, space, code, Connective::And),

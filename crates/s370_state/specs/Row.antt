@@ -3,7 +3,9 @@ use Rattle.std.specs.Prelude.{◌≡◌, ℕ, ◌+◌, ◌*◌, ◌%◌, ◌/◌
 use Rattle.std.specs.Option.{option_or}
 use Rattle.cov_base.specs.States.{CpuView, Machine}
 use Rattle.cov_base.specs.Memory.{Memory, can_reach, can_store, first_touch}
-use Rattle.s370_state.specs.Words.{number_at}
+use Rattle.s370_state.specs.Words.{number_at, store_number}
+use Rattle.s370_decode.specs.Fields.{r2, ex}
+use Rattle.s370_decode.specs.declared.code.Code.{Code}
 use Rattle.s370_state.specs.declared.endings.Ending.{Ending}
 use Rattle.s370_state.specs.declared.endings.Ending.TheVariants.{Abend, Touched}
 use Rattle.s370_state.specs.declared.endings.Next.{Next}
@@ -83,19 +85,6 @@ abbrev pub operate : Memory → Machine → Option Row → After
 operate m s (Some row) = perform m s row
 operate m s None = record { machine = s; next = Ended (Abend 1) }
 
--- no operand in storage, and no test
-abbrev pub at_once : Outcome → Row
-at_once o = record { well = true; uses = []; outcome = o }
-
--- an outcome by the data that was read; bad data is code 7
-unfoldable pub on_data : {A : Type 0} → Option A → (A → Outcome) → Outcome
-on_data None f = Program 7
-on_data (Some x) f = f x
-
--- the word at an address is the operand
-abbrev pub from_word : Memory → Machine → ℕ → (ℕ → Outcome) → Row
-from_word m s a f = record { well = true; uses = reads a 4 ∷ []; outcome = f (number_at m s.bytes a 4) }
-
 abbrev pub machine_of : CpuView → List ℕ → Machine
 machine_of c b = record { cpu = c; bytes = b }
 
@@ -133,10 +122,45 @@ with_cc s code = record { cpu = record { regs = s.cpu.regs; ia = s.cpu.ia; condi
 abbrev pub with_bytes : Machine → List ℕ → Machine
 with_bytes s bytes = record { cpu = s.cpu; bytes = bytes }
 
--- the row's effect, from the old to the new registers and bytes
-abbrev pub Performs : Memory → CpuView → List ℕ → (Memory → Machine → Row) → CpuView → List ℕ → Next → Type 0
-Performs m c b row c' b' next = after c' b' next ≡ perform m (machine_of c b) (row m (machine_of c b))
+-- A row by its operands in storage: none; one that is read, or stored; a first that is stored and a second that is read; two
+-- that are read. Each is an address with a size, and none needs anything of registers, lengths or alignment.
+abbrev pub at_once : Outcome → Row
+at_once o = record { well = true; uses = []; outcome = o }
 
--- the same of an operation's row
-abbrev pub Operates : Memory → CpuView → List ℕ → (Memory → Machine → Option Row) → CpuView → List ℕ → Next → Type 0
-Operates m c b row c' b' next = after c' b' next ≡ operate m (machine_of c b) (row m (machine_of c b))
+abbrev pub reading : ℕ → ℕ → Outcome → Row
+reading a n o = record { well = true; uses = reads a n ∷ []; outcome = o }
+
+abbrev pub storing : ℕ → ℕ → Outcome → Row
+storing a n o = record { well = true; uses = stores a n ∷ []; outcome = o }
+
+abbrev pub replacing : ℕ → ℕ → ℕ → ℕ → Outcome → Row
+replacing a n b k o = record { well = true; uses = stores a n ∷ reads b k ∷ []; outcome = o }
+
+abbrev pub comparing : ℕ → ℕ → ℕ → ℕ → Outcome → Row
+comparing a n b k o = record { well = true; uses = reads a n ∷ reads b k ∷ []; outcome = o }
+
+-- the row of an operation that needs this of registers, lengths or alignment, else code 6
+abbrev pub needing : Bool → Row → Row
+needing well row = record { well = well; uses = row.uses; outcome = row.outcome }
+
+-- an outcome by the data that was read; bad data is code 7
+unfoldable pub on_data : {A : Type 0} → Option A → (A → Outcome) → Outcome
+on_data None f = Program 7
+on_data (Some x) f = f x
+
+-- R2 is the operand, and the word at the second operand's address is
+abbrev pub from_register : Machine → Code → (ℕ → Outcome) → Row
+from_register s c f = at_once (f (reg s (r2 c)))
+
+abbrev pub from_word : Memory → Machine → Code → (ℕ → Outcome) → Row
+from_word m s c f = reading (ex s.cpu c) 4 (f (number_at m s.bytes (ex s.cpu c) 4))
+
+-- the n bytes from an address on become the low bytes of a number
+abbrev pub to_storage : Machine → ℕ → ℕ → ℕ → Row
+to_storage s a n v = storing a n (Completes (with_bytes s (store_number s.bytes a n v)))
+
+-- From old to new an operation does as its row says, and the memory stays.
+pub record Performs {S : Type 0} (memory_of : S → Memory) (bytes_of : S → List ℕ) (row : Memory → Machine → Option Row)
+    (cpu : CpuView) (space : S) (cpu' : CpuView) (space' : S) (next : Next) : Type 0 where
+  pub memory : memory_of space' ≡ memory_of space
+  pub effect : let s = machine_of cpu (bytes_of space) in after cpu' (bytes_of space') next ≡ operate (memory_of space) s (row (memory_of space) s)

@@ -1,13 +1,30 @@
 //! The tests of operands in storage, made here once for all operations, and the numbers that operands hold.
 ghost use Rattle.std.specs.Prelude.{◌≡◌, ◌+◌, ◌-◌, ◌%◌, ◌/◌, ◌<◌, ◌≤◌, [], ◌∷◌, true, IfOk, IfErr, slice_set, if◌then◌else◌, ◌&&◌};
 ghost use Rattle.cov_base.specs.Memory.{byte_at, can_reach, can_store, wrap};
+ghost use Rattle.s370_decode.specs.Fields.{ex};
 ghost use Rattle.s370_state.specs.Row.{reads, stores, use_tests};
 ghost use Rattle.s370_state.specs.Words.{number_at, store_number};
 ghost use Rattle.s370_state.specs.Answers.{ending_of};
 
+use crate::cpu::Cpu;
 use crate::endings::Ending;
 use crate::space::{Refused, Space};
 use cov_base::Addr;
+use s370_decode::Code;
+
+/// The second operand's address in the RX format. The first operand's fields stand where RX has the second's, and are read with
+/// no test of the length, which a caller mostly knows.
+#[inline(always)]
+#[tactic(auto, unfolding(s370_decode::specs::Fields::b1, s370_decode::specs::Fields::d1, s370_decode::specs::Fields::b2, s370_decode::specs::Fields::d2))]
+pub fn indexed(cpu: &Cpu, code: &Code) -> Addr
+    ensures { result ≡ ex cpu.now code.now }
+{
+    if code.len == 6 {
+        cpu.address(code.b2(), code.x2(), code.d2())
+    } else {
+        cpu.address(code.b1(), code.x2(), code.d1())
+    }
+}
 
 /// How a refused operand or halfword ends the task: codes 5 and 4, or Touched.
 #[inline(always)]
@@ -99,7 +116,8 @@ pub fn test_read_both<P: Space>(space: &P, a: Addr, n: u32, b: Addr, k: u32) -> 
 }
 
 fn reach_both<P: Space>(space: &P, a: Addr, n: u32, b: Addr, k: u32) -> Result<(), Refused>
-    ensures { result ≡ (if can_reach (P.memory space.now) a n && can_reach (P.memory space.now) b k then Ok tt else Err Refused.Addressing) }
+    ensures { let reach = can_reach (P.memory space.now) in
+        result ≡ (if reach a n && reach b k then Ok tt else Err Refused.Addressing) }
 {
     match space.can_reach(a, n) {
         Ok(()) => space.can_reach(b, k),

@@ -1,13 +1,11 @@
--- The rows of long moves and comparisons, whose operands are in two pairs of registers (Principles of Operation,
+-- Long moves and comparisons, whose operands are in two pairs of registers (Principles of Operation,
 -- "General Instructions").
-use Rattle.std.specs.Prelude.{ℕ, zero, suc, ◌+◌, ◌-◌, ◌*◌, ◌/◌, min, max, Bool, true, false, ◌&&◌, not, nat_lt, ◌==◌, if◌then◌else◌, List, [], ◌∷◌, Option, Some, None, slice_index, slice_set}
+use Rattle.std.specs.Prelude.{ℕ, zero, suc, ◌+◌, ◌-◌, ◌*◌, ◌/◌, min, max, Bool, ◌&&◌, not, nat_lt, ◌==◌, if◌then◌else◌, List, Option, Some, None, slice_index, slice_set}
 use Rattle.std.specs.Ordering.{nat_cmp}
 use Rattle.cov_base.specs.States.{Machine}
 use Rattle.cov_base.specs.Memory.{Memory, byte_at, wrap}
-use Rattle.s370_state.specs.Row.{Row, Outcome, Completes, reads, stores, is_even, with_cc, with_bytes, with_regs}
+use Rattle.s370_state.specs.Row.{Row, Outcome, Completes, at_once, replacing, comparing, needing, is_even, with_cc, with_bytes, with_regs}
 use Rattle.s370_state.specs.Words.{order_code}
-use Rattle.s370_decode.specs.Fields.{r1, r2}
-use Rattle.s370_decode.specs.declared.code.Code.{Code}
 use Rattle.s370_storage.specs.Searches.{first_where}
 use Rattle.s370_storage.specs.Moves.{moved}
 use Rattle.s370_storage.specs.declared.moves.Part.TheVariants.{Byte}
@@ -48,17 +46,16 @@ padded bytes o (suc k) = slice_set (padded bytes o k) (wrap (o.first + (lesser o
 abbrev pub long_moved : Memory → List ℕ → Long → List ℕ
 long_moved m bytes o = padded (moved Byte m bytes o.first o.second (lesser o)) o (o.first_length - lesser o)
 
--- by whether the operands overlap so; then there is no further test and no effect but code 3; else the lengths are compared
-abbrev pub long_moves : Memory → Machine → ℕ → ℕ → Long → Bool → Row
-long_moves m s r q o true = record { well = is_even r && is_even q; uses = []; outcome = Completes (with_cc s 3) }
-long_moves m s r q o false = record {
-  well = is_even r && is_even q;
-  uses = stores o.first o.first_length ∷ (reads o.second (lesser o) ∷ []);
-  outcome = Completes (with_bytes (with_cc (with_regs s (passed s.cpu.regs r q o o.first_length (lesser o))) (order_code (nat_cmp o.first_length o.second_length))) (long_moved m s.bytes o));
-}
+-- where they don't overlap so; the code compares the lengths
+abbrev pub moves_apart : ℕ → ℕ → Long → Memory → Machine → Option Row
+moves_apart r q o m s = Some (needing (is_even r && is_even q) (replacing o.first o.first_length o.second (lesser o) (Completes (
+    with_bytes (with_cc (with_regs s (passed s.cpu.regs r q o o.first_length (lesser o))) (order_code (nat_cmp o.first_length o.second_length))) (long_moved m s.bytes o)))))
 
-abbrev pub row_mvcl : Memory → Machine → Code → Row
-row_mvcl m s c = long_moves m s (r1 c) (r2 c) (long s.cpu.regs (r1 c) (r2 c)) (overlaps (long s.cpu.regs (r1 c) (r2 c)))
+-- where they do, there is no further test, and no effect but code 3
+abbrev pub long_moves : ℕ → ℕ → Memory → Machine → Option Row
+long_moves r q m s =
+    let o = long s.cpu.regs r q in
+    if overlaps o then Some (needing (is_even r && is_even q) (at_once (Completes (with_cc s 3)))) else moves_apart r q o m s
 
 -- byte i of an operand of n bytes at a, which padding extends
 abbrev pub extended : Memory → List ℕ → ℕ → ℕ → ℕ → ℕ → ℕ
@@ -81,12 +78,8 @@ compares m s r q o (Some i) =
     Completes (with_cc (with_regs s (passed s.cpu.regs r q o (min i o.first_length) (min i o.second_length))) (order_code (nat_cmp (first_byte m s.bytes o i) (second_byte m s.bytes o i))))
 
 -- both are read whole, also past an unequal pair
-abbrev pub long_compares : Memory → Machine → ℕ → ℕ → Long → Row
-long_compares m s r q o = record {
-  well = is_even r && is_even q;
-  uses = reads o.first o.first_length ∷ (reads o.second o.second_length ∷ []);
-  outcome = compares m s r q o (unequal m s.bytes o (max o.first_length o.second_length));
-}
-
-abbrev pub row_clcl : Memory → Machine → Code → Row
-row_clcl m s c = long_compares m s (r1 c) (r2 c) (long s.cpu.regs (r1 c) (r2 c))
+abbrev pub long_compares : ℕ → ℕ → Memory → Machine → Option Row
+long_compares r q m s =
+    let o = long s.cpu.regs r q in
+    Some (needing (is_even r && is_even q) (comparing o.first o.first_length o.second o.second_length (
+    compares m s r q o (unequal m s.bytes o (max o.first_length o.second_length)))))

@@ -1,8 +1,8 @@
--- The rows of moves within storage (Principles of Operation, "General Instructions").
-use Rattle.std.specs.Prelude.{ℕ, zero, suc, ◌+◌, ◌-◌, ◌*◌, ◌/◌, ◌%◌, true, List, [], ◌∷◌, slice_set}
+-- Moves within storage (Principles of Operation, "General Instructions").
+use Rattle.std.specs.Prelude.{ℕ, zero, suc, ◌+◌, ◌-◌, ◌*◌, ◌/◌, ◌%◌, Option, Some, List, slice_set}
 use Rattle.cov_base.specs.States.{Machine}
 use Rattle.cov_base.specs.Memory.{Memory, byte_at, wrap}
-use Rattle.s370_state.specs.Row.{Row, Completes, reads, stores, with_bytes}
+use Rattle.s370_state.specs.Row.{Row, Completes, replacing, with_bytes}
 use Rattle.s370_decode.specs.Fields.{i2, e1, e2}
 use Rattle.s370_decode.specs.declared.code.Code.{Code}
 use Rattle.s370_storage.specs.declared.moves.Part.{Part}
@@ -22,23 +22,9 @@ moved p m bytes a b (suc n) =
     slice_set done (wrap (a + n)) (with_part p (byte_at m done (wrap (a + n))) (byte_at m done (wrap (b + n))))
 
 -- L+1 bytes each
-abbrev pub moves : Part → Memory → Machine → Code → Row
-moves p m s c = record {
-  well = true;
-  uses = stores (e1 s.cpu c) (i2 c + 1) ∷ (reads (e2 s.cpu c) (i2 c + 1) ∷ []);
-  outcome = Completes (with_bytes s (moved p m s.bytes (e1 s.cpu c) (e2 s.cpu c) (i2 c + 1)));
-}
-
-abbrev pub row_mvc : Memory → Machine → Code → Row
-row_mvc = moves Byte
-
--- the right half bytes
-abbrev pub row_mvn : Memory → Machine → Code → Row
-row_mvn = moves Numeric
-
--- the left half bytes
-abbrev pub row_mvz : Memory → Machine → Code → Row
-row_mvz = moves Zone
+abbrev pub moves : Part → Code → Memory → Machine → Option Row
+moves p c m s =
+    Some (replacing (e1 s.cpu c) (i2 c + 1) (e2 s.cpu c) (i2 c + 1) (Completes (with_bytes s (moved p m s.bytes (e1 s.cpu c) (e2 s.cpu c) (i2 c + 1)))))
 
 -- the address n bytes to the left of b, for n up to 2^24
 abbrev pub left_of : ℕ → ℕ → ℕ
@@ -50,11 +36,3 @@ inverted m bytes a b zero = bytes
 inverted m bytes a b (suc n) =
     let done = inverted m bytes a b n in
     slice_set done (wrap (a + n)) (byte_at m done (left_of b n))
-
--- the second operand is named by its rightmost byte
-abbrev pub row_mvcin : Memory → Machine → Code → Row
-row_mvcin m s c = record {
-  well = true;
-  uses = stores (e1 s.cpu c) (i2 c + 1) ∷ (reads (left_of (e2 s.cpu c) (i2 c)) (i2 c + 1) ∷ []);
-  outcome = Completes (with_bytes s (inverted m s.bytes (e1 s.cpu c) (e2 s.cpu c) (i2 c + 1)));
-}

@@ -1,10 +1,10 @@
--- The rows of packing, unpacking and moves with an offset (Principles of Operation, "General Instructions"). Fields are
+-- Packing, unpacking and moves with an offset (Principles of Operation, "General Instructions"). Fields are
 -- worked right to left, and their bytes are numbered so, from 0. Each result byte is stored as soon as it is formed,
 -- and a source byte is read once, where its right half is first needed: that tells where the fields overlap.
 use Rattle.std.specs.Prelude.{ℕ, zero, suc, ◌+◌, ◌-◌, ◌*◌, ◌/◌, ◌%◌, true, nat_le, nat_lt, if◌then◌else◌, ◌==◌, List, [], ◌∷◌, slice_set}
 use Rattle.cov_base.specs.States.{CpuView, Machine}
 use Rattle.cov_base.specs.Memory.{Memory, byte_at, wrap}
-use Rattle.s370_state.specs.Row.{Row, Completes, reads, stores, with_bytes}
+use Rattle.s370_state.specs.Row.{Row, Use, Completes, reads, stores, with_bytes}
 use Rattle.s370_decode.specs.Fields.{r1, r2, e1, e2}
 use Rattle.s370_decode.specs.declared.code.Code.{Code}
 use Rattle.s370_storage.specs.declared.packing.Fields.{Fields}
@@ -59,19 +59,9 @@ shifted m bytes o (suc k) =
     let v = source m done.bytes o k in
     record { bytes = slice_set done.bytes (result_at o k) (v % 16 * 16 + done.half); half = v / 16 }
 
--- the second field is read and the first stored
+-- the first field is stored and the second read
+abbrev pub field_uses : Fields → List Use
+field_uses o = stores o.to (o.to_last + 1) ∷ reads o.from (o.from_last + 1) ∷ []
+
 abbrev pub packs : Machine → Code → List ℕ → Row
-packs s c bytes = record {
-  well = true;
-  uses = stores (e1 s.cpu c) (r1 c + 1) ∷ (reads (e2 s.cpu c) (r2 c + 1) ∷ []);
-  outcome = Completes (with_bytes s bytes);
-}
-
-abbrev pub row_pack : Memory → Machine → Code → Row
-row_pack m s c = packs s c (packed m s.bytes (fields s.cpu c) (r1 c + 1))
-
-abbrev pub row_unpk : Memory → Machine → Code → Row
-row_unpk m s c = packs s c (unpacked m s.bytes (fields s.cpu c) ((r1 c + 1) / 2))
-
-abbrev pub row_mvo : Memory → Machine → Code → Row
-row_mvo m s c = packs s c (shifted m s.bytes (fields s.cpu c) (r1 c + 1)).bytes
+packs s c bytes = record { well = true; uses = field_uses (fields s.cpu c); outcome = Completes (with_bytes s bytes) }

@@ -1,4 +1,4 @@
--- The rows of translation and of search by a table of function bytes (Principles of Operation, "General
+-- Translation and search by a table of function bytes (Principles of Operation, "General
 -- Instructions"). The function byte of an argument stands at the second operand's address plus the argument.
 use Rattle.std.specs.Prelude.{ℕ, zero, suc, ◌+◌, ◌*◌, ◌/◌, true, if◌then◌else◌, ◌==◌, not, List, [], ◌∷◌, ◌++◌, Option, Some, None, slice_index, slice_set}
 use Rattle.cov_base.specs.States.{Machine}
@@ -25,12 +25,9 @@ translated m bytes a t (suc n) =
     let done = translated m bytes a t n in
     slice_set done (wrap (a + n)) (byte_at m done (function_at m bytes a t n))
 
-abbrev pub row_tr : Memory → Machine → Code → Row
-row_tr m s c = record {
-  well = true;
-  uses = stores (e1 s.cpu c) (i2 c + 1) ∷ functions m s.bytes (e1 s.cpu c) (e2 s.cpu c) (i2 c + 1);
-  outcome = Completes (with_bytes s (translated m s.bytes (e1 s.cpu c) (e2 s.cpu c) (i2 c + 1)));
-}
+-- the arguments are stored, and their function bytes read
+abbrev pub translation_uses : Memory → List ℕ → ℕ → ℕ → ℕ → List Use
+translation_uses m bytes a t n = stores a n ∷ functions m bytes a t n
 
 -- the function byte of argument n
 abbrev pub function : Memory → List ℕ → ℕ → ℕ → ℕ → ℕ
@@ -55,13 +52,6 @@ selects m s a t n None = Completes (with_cc s 0)
 selects m s a t n (Some i) =
     Completes (with_cc (with_regs s (selecting s.cpu.regs (wrap (a + i)) (function m s.bytes a t i))) (if i + 1 == n then 2 else 1))
 
--- by the argument that is selected
-abbrev pub searches : Memory → Machine → ℕ → ℕ → ℕ → Option ℕ → Row
-searches m s a t n f = record {
-  well = true;
-  uses = reads a n ∷ functions m s.bytes a t (looked_up n f);
-  outcome = selects m s a t n f;
-}
-
-abbrev pub row_trt : Memory → Machine → Code → Row
-row_trt m s c = searches m s (e1 s.cpu c) (e2 s.cpu c) (i2 c + 1) (selected m s.bytes (e1 s.cpu c) (e2 s.cpu c) (i2 c + 1))
+-- the arguments are read, and the function bytes of those that are looked up
+abbrev pub search_uses : Memory → List ℕ → ℕ → ℕ → ℕ → List Use
+search_uses m bytes a t n = reads a n ∷ functions m bytes a t (looked_up n (selected m bytes a t n))

@@ -4,11 +4,12 @@
 ghost use Rattle.std.specs.Prelude.{◌≡◌, ◌+◌, ◌-◌, ◌*◌, ◌/◌, ◌%◌, ◌<◌, ◌≤◌, ◌^◌, Some, None, true, false, min, max, ◌&&◌, if◌then◌else◌};
 ghost use Rattle.cov_base.specs.Memory.{can_reach, can_store};
 ghost use Rattle.s370_state.specs.Row.{Performs, machine_of, after, finish, is_even};
-ghost use Rattle.s370_storage.specs.Longs.{long, passed, lesser, overlaps, padded, long_moved, long_moves, row_mvcl, extended, unequal, compares, long_compares, row_clcl};
+ghost use Rattle.s370_storage.specs.Longs.{long, passed, lesser, overlaps, padded, long_moved, moves_apart, long_moves, extended, unequal, compares, long_compares};
+ghost use Rattle.s370_storage.specs.Storage.{storage_row};
 
 use crate::moves::{Part, move_bytes};
 use cov_base::Addr;
-use s370_decode::Code;
+use s370_decode::{Code, Op};
 use s370_state::{
     Cpu, Ending, Next, Space, byte_of, order_code, put_into, test_read_both, test_store_read,
 };
@@ -109,8 +110,7 @@ fn move_apart<P: Space>(cpu: &mut Cpu, space: &mut P, r: u8, q: u8, o: &Long) ->
     requires even { (is_even r && is_even q) ≡ true }
     requires first { o.now.first_length < 16777216 }
     requires second { o.now.second_length < 16777216 }
-    ensures memory { P.memory space.new ≡ P.memory space.old }
-    ensures row { Performs (P.memory space.old) cpu.old (P.bytes space.old) (λ m s. long_moves m s r q o.now false) cpu.new (P.bytes space.new) result }
+    ensures { Performs P.memory P.bytes (moves_apart r q o.now) cpu.old space.old cpu.new space.new result }
 {
     let n = o.first_length.min(o.second_length);
     if let Err(e) = test_store_read(space, o.first, o.first_length, o.second, n) {
@@ -127,8 +127,7 @@ fn move_even<P: Space>(cpu: &mut Cpu, space: &mut P, r: u8, q: u8) -> Next
     requires r { r < 16 }
     requires q { q < 16 }
     requires even { (is_even r && is_even q) ≡ true }
-    ensures memory { P.memory space.new ≡ P.memory space.old }
-    ensures row { Performs (P.memory space.old) cpu.old (P.bytes space.old) (λ m s. long_moves m s r q (long s.cpu.regs r q) (overlaps (long s.cpu.regs r q))) cpu.new (P.bytes space.new) result }
+    ensures { Performs P.memory P.bytes (long_moves r q) cpu.old space.old cpu.new space.new result }
 {
     let o = long_of(cpu, r, q);
     if overlaps(&o) {
@@ -141,8 +140,7 @@ fn move_even<P: Space>(cpu: &mut Cpu, space: &mut P, r: u8, q: u8) -> Next
 
 /// MVCL: moves a long operand, and pads what it does not fill.
 pub fn move_long<P: Space>(cpu: &mut Cpu, space: &mut P, code: &Code) -> Next
-    ensures memory { P.memory space.new ≡ P.memory space.old }
-    ensures row { Performs (P.memory space.old) cpu.old (P.bytes space.old) (λ m s. row_mvcl m s code.now) cpu.new (P.bytes space.new) result }
+    ensures { Performs P.memory P.bytes (storage_row Op.MVCL code.now) cpu.old space.old cpu.new space.new result }
 {
     let (r, q) = (code.r1(), code.r2());
     if !are_even(r, q) {
@@ -210,8 +208,7 @@ fn compare_even<P: Space>(cpu: &mut Cpu, space: &mut P, r: u8, q: u8) -> Next
     requires r { r < 16 }
     requires q { q < 16 }
     requires even { (is_even r && is_even q) ≡ true }
-    ensures memory { P.memory space.new ≡ P.memory space.old }
-    ensures row { Performs (P.memory space.old) cpu.old (P.bytes space.old) (λ m s. long_compares m s r q (long s.cpu.regs r q)) cpu.new (P.bytes space.new) result }
+    ensures { Performs P.memory P.bytes (long_compares r q) cpu.old space.old cpu.new space.new result }
 {
     let o = long_of(cpu, r, q);
     if let Err(e) = test_read_both(space, o.first, o.first_length, o.second, o.second_length) {
@@ -224,8 +221,7 @@ fn compare_even<P: Space>(cpu: &mut Cpu, space: &mut P, r: u8, q: u8) -> Next
 
 /// CLCL: compares long operands, the shorter one padded.
 pub fn compare_long<P: Space>(cpu: &mut Cpu, space: &mut P, code: &Code) -> Next
-    ensures memory { P.memory space.new ≡ P.memory space.old }
-    ensures row { Performs (P.memory space.old) cpu.old (P.bytes space.old) (λ m s. row_clcl m s code.now) cpu.new (P.bytes space.new) result }
+    ensures { Performs P.memory P.bytes (storage_row Op.CLCL code.now) cpu.old space.old cpu.new space.new result }
 {
     let (r, q) = (code.r1(), code.r2());
     if !are_even(r, q) {

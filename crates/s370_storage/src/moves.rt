@@ -4,10 +4,11 @@
 ghost use Rattle.std.specs.Prelude.{◌≡◌, ◌+◌, ◌-◌, ◌*◌, ◌/◌, ◌%◌, ◌<◌, ◌≤◌, true};
 ghost use Rattle.cov_base.specs.Memory.{byte_at, can_reach, can_store, wrap};
 ghost use Rattle.s370_state.specs.Row.{Performs};
-ghost use Rattle.s370_storage.specs.Moves.{with_part, moved, moves, row_mvc, row_mvn, row_mvz, left_of, inverted, row_mvcin};
+ghost use Rattle.s370_storage.specs.Moves.{with_part, moved, moves, left_of, inverted};
+ghost use Rattle.s370_storage.specs.Storage.{storage_row};
 
 use cov_base::Addr;
-use s370_decode::Code;
+use s370_decode::{Code, Op};
 use s370_state::{Cpu, Next, Space, byte_of, put_into, test_store_read};
 
 /// What is moved of a byte.
@@ -37,7 +38,8 @@ fn next_byte<P: Space>(part: Part, space: &P, a: Addr, b: Addr, i: u32, n: u32) 
     requires reach { can_reach (P.memory space.now) a n ≡ true }
     requires reach_second { can_reach (P.memory space.now) b n ≡ true }
     requires below { i < n }
-    ensures { result ≡ with_part part (byte_at (P.memory space.now) (P.bytes space.now) (wrap (a + i))) (byte_at (P.memory space.now) (P.bytes space.now) (wrap (b + i))) }
+    ensures { let at = byte_at (P.memory space.now) (P.bytes space.now) in
+        result ≡ with_part part (at (wrap (a + i))) (at (wrap (b + i))) }
 {
     match part {
         Part::Byte => byte_of(space, b, i, n),
@@ -66,8 +68,7 @@ pub fn move_bytes<P: Space>(part: Part, space: &mut P, a: Addr, b: Addr, n: u32)
 /// Moves that part of L+1 bytes.
 #[inline(always)]
 fn move_parts<P: Space>(part: Part, cpu: &Cpu, space: &mut P, code: &Code) -> Next
-    ensures memory { P.memory space.new ≡ P.memory space.old }
-    ensures row { Performs (P.memory space.old) cpu.now (P.bytes space.old) (λ m s. moves part m s code.now) cpu.now (P.bytes space.new) result }
+    ensures { Performs P.memory P.bytes (moves part code.now) cpu.now space.old cpu.now space.new result }
 {
     let a = cpu.based(code.b1(), code.d1());
     let b = cpu.based(code.b2(), code.d2());
@@ -81,24 +82,21 @@ fn move_parts<P: Space>(part: Part, cpu: &Cpu, space: &mut P, code: &Code) -> Ne
 
 /// MVC: moves bytes, left to right.
 pub fn move_characters<P: Space>(cpu: &mut Cpu, space: &mut P, code: &Code) -> Next
-    ensures memory { P.memory space.new ≡ P.memory space.old }
-    ensures row { Performs (P.memory space.old) cpu.old (P.bytes space.old) (λ m s. row_mvc m s code.now) cpu.new (P.bytes space.new) result }
+    ensures { Performs P.memory P.bytes (storage_row Op.MVC code.now) cpu.old space.old cpu.new space.new result }
 {
     move_parts(Part::Byte, cpu, space, code)
 }
 
 /// MVN: moves the right halves of bytes, left to right.
 pub fn move_numerics<P: Space>(cpu: &mut Cpu, space: &mut P, code: &Code) -> Next
-    ensures memory { P.memory space.new ≡ P.memory space.old }
-    ensures row { Performs (P.memory space.old) cpu.old (P.bytes space.old) (λ m s. row_mvn m s code.now) cpu.new (P.bytes space.new) result }
+    ensures { Performs P.memory P.bytes (storage_row Op.MVN code.now) cpu.old space.old cpu.new space.new result }
 {
     move_parts(Part::Numeric, cpu, space, code)
 }
 
 /// MVZ: moves the left halves of bytes, left to right.
 pub fn move_zones<P: Space>(cpu: &mut Cpu, space: &mut P, code: &Code) -> Next
-    ensures memory { P.memory space.new ≡ P.memory space.old }
-    ensures row { Performs (P.memory space.old) cpu.old (P.bytes space.old) (λ m s. row_mvz m s code.now) cpu.new (P.bytes space.new) result }
+    ensures { Performs P.memory P.bytes (storage_row Op.MVZ code.now) cpu.old space.old cpu.new space.new result }
 {
     move_parts(Part::Zone, cpu, space, code)
 }
@@ -128,8 +126,7 @@ fn invert_bytes<P: Space>(space: &mut P, a: Addr, b: Addr, l: u8)
 
 /// MVCIN: moves bytes in inverse order: the second operand is taken right to left.
 pub fn move_inverse<P: Space>(cpu: &mut Cpu, space: &mut P, code: &Code) -> Next
-    ensures memory { P.memory space.new ≡ P.memory space.old }
-    ensures row { Performs (P.memory space.old) cpu.old (P.bytes space.old) (λ m s. row_mvcin m s code.now) cpu.new (P.bytes space.new) result }
+    ensures { Performs P.memory P.bytes (storage_row Op.MVCIN code.now) cpu.old space.old cpu.new space.new result }
 {
     let a = cpu.based(code.b1(), code.d1());
     let b = cpu.based(code.b2(), code.d2());

@@ -3,11 +3,12 @@
 
 ghost use Rattle.std.specs.Prelude.{◌≡◌, ◌+◌, ◌-◌, ◌*◌, ◌/◌, ◌%◌, ◌<◌, ◌≤◌, ◌∷◌, [], Some, None, true, slice_set, IfOk, IfErr, if◌then◌else◌, ◌==◌};
 ghost use Rattle.cov_base.specs.Memory.{can_reach, can_store};
-ghost use Rattle.s370_state.specs.Row.{Performs, use_tests, stores, reads};
-ghost use Rattle.s370_storage.specs.Packing.{fields, source, result_at, exchanged, packed_byte, packed, with_zoned, unpacked, shifted, packs, row_pack, row_unpk, row_mvo};
+ghost use Rattle.s370_state.specs.Row.{Performs, use_tests};
+ghost use Rattle.s370_storage.specs.Packing.{fields, source, result_at, exchanged, packed_byte, packed, with_zoned, unpacked, shifted, field_uses};
+ghost use Rattle.s370_storage.specs.Storage.{storage_row};
 
 use cov_base::Addr;
-use s370_decode::Code;
+use s370_decode::{Code, Op};
 use s370_state::{Cpu, Ending, Next, Space, byte_of, put_into, test_store_read};
 
 /// The field of results and that of sources: where each begins, and the number of its last byte, 0 to 15.
@@ -37,8 +38,8 @@ fn fields_of(cpu: &Cpu, code: &Code) -> Fields
 fn test_fields<P: Space>(space: &P, o: &Fields) -> Result<(), Ending>
     requires to { o.now.to_last < 16 }
     requires from { o.now.from_last < 16 }
-    ensures refused { IfErr result (λ e. use_tests (P.memory space.now) (stores o.now.to (o.now.to_last + 1) ∷ (reads o.now.from (o.now.from_last + 1) ∷ [])) ≡ Some e) }
-    ensures passed { IfOk result (λ _. use_tests (P.memory space.now) (stores o.now.to (o.now.to_last + 1) ∷ (reads o.now.from (o.now.from_last + 1) ∷ [])) ≡ None) }
+    ensures refused { IfErr result (λ e. use_tests (P.memory space.now) (field_uses o.now) ≡ Some e) }
+    ensures passed { IfOk result (λ _. use_tests (P.memory space.now) (field_uses o.now) ≡ None) }
     ensures reach { IfOk result (λ _. can_reach (P.memory space.now) o.now.to (o.now.to_last + 1) ≡ true) }
     ensures store { IfOk result (λ _. can_store (P.memory space.now) o.now.to (o.now.to_last + 1) ≡ true) }
     ensures source { IfOk result (λ _. can_reach (P.memory space.now) o.now.from (o.now.from_last + 1) ≡ true) }
@@ -110,8 +111,7 @@ fn pack_bytes<P: Space>(space: &mut P, o: &Fields)
 
 /// PACK: packs the digits of zoned bytes, two to a byte.
 pub fn pack<P: Space>(cpu: &mut Cpu, space: &mut P, code: &Code) -> Next
-    ensures memory { P.memory space.new ≡ P.memory space.old }
-    ensures row { Performs (P.memory space.old) cpu.old (P.bytes space.old) (λ m s. row_pack m s code.now) cpu.new (P.bytes space.new) result }
+    ensures { Performs P.memory P.bytes (storage_row Op.PACK code.now) cpu.old space.old cpu.new space.new result }
 {
     let o = fields_of(cpu, code);
     if let Err(e) = test_fields(space, &o) {
@@ -155,8 +155,7 @@ fn unpack_bytes<P: Space>(space: &mut P, o: &Fields)
 
 /// UNPK: gives each packed digit a zoned byte.
 pub fn unpack<P: Space>(cpu: &mut Cpu, space: &mut P, code: &Code) -> Next
-    ensures memory { P.memory space.new ≡ P.memory space.old }
-    ensures row { Performs (P.memory space.old) cpu.old (P.bytes space.old) (λ m s. row_unpk m s code.now) cpu.new (P.bytes space.new) result }
+    ensures { Performs P.memory P.bytes (storage_row Op.UNPK code.now) cpu.old space.old cpu.new space.new result }
 {
     let o = fields_of(cpu, code);
     if let Err(e) = test_fields(space, &o) {
@@ -187,8 +186,7 @@ fn shift_bytes<P: Space>(space: &mut P, o: &Fields)
 
 /// MVO: moves half bytes to the left of the first operand's last half byte.
 pub fn move_with_offset<P: Space>(cpu: &mut Cpu, space: &mut P, code: &Code) -> Next
-    ensures memory { P.memory space.new ≡ P.memory space.old }
-    ensures row { Performs (P.memory space.old) cpu.old (P.bytes space.old) (λ m s. row_mvo m s code.now) cpu.new (P.bytes space.new) result }
+    ensures { Performs P.memory P.bytes (storage_row Op.MVO code.now) cpu.old space.old cpu.new space.new result }
 {
     let o = fields_of(cpu, code);
     if let Err(e) = test_fields(space, &o) {

@@ -1,7 +1,7 @@
 //! The one call for all operations on fields in storage.
 ghost use Rattle.std.specs.Prelude.{◌≡◌};
 ghost use Rattle.s370_decode.specs.Groups.{group_of};
-ghost use Rattle.s370_state.specs.Row.{Operates};
+ghost use Rattle.s370_state.specs.Row.{Performs};
 ghost use Rattle.s370_storage.specs.Storage.{storage_row};
 
 use crate::long::{compare_long, move_long};
@@ -19,8 +19,7 @@ use s370_state::{Cpu, Next, Space};
 /// left as it is. Takes no memory.
 pub fn storage<P: Space>(cpu: &mut Cpu, space: &mut P, code: &Code, op: Op) -> Next
     requires { group_of op ≡ Group.Storage }
-    ensures memory { P.memory space.new ≡ P.memory space.old }
-    ensures row { Operates (P.memory space.old) cpu.old (P.bytes space.old) (λ m s. storage_row op m s code.now) cpu.new (P.bytes space.new) result }
+    ensures { Performs P.memory P.bytes (storage_row op code.now) cpu.old space.old cpu.new space.new result }
 {
     match op {
         Op::MVC => move_characters(cpu, space, code),

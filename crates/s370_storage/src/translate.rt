@@ -4,10 +4,11 @@
 ghost use Rattle.std.specs.Prelude.{◌≡◌, ◌+◌, ◌*◌, ◌/◌, ◌<◌, ◌≤◌, ◌∷◌, Some, None, true, false, IfOk, IfErr, IfSome, if◌then◌else◌, ◌==◌};
 ghost use Rattle.cov_base.specs.Memory.{can_reach, can_store, wrap, first_touch};
 ghost use Rattle.s370_state.specs.Row.{Performs, use_tests, stores, reads, all_reached, touched, touch_ending, machine_of, after, finish};
-ghost use Rattle.s370_storage.specs.Translations.{function_at, functions, translated, row_tr, function, selected, looked_up, selecting, selects, searches, row_trt};
+ghost use Rattle.s370_storage.specs.Translations.{function_at, functions, translation_uses, search_uses, translated, function, selected, looked_up, selecting, selects};
+ghost use Rattle.s370_storage.specs.Storage.{storage_row};
 
 use cov_base::Addr;
-use s370_decode::Code;
+use s370_decode::{Code, Op};
 use s370_state::{Cpu, Ending, Next, Space, byte_of, ending_of, put_into};
 
 /// The address of the function byte of argument i of n.
@@ -34,10 +35,13 @@ fn touch<P: Space>(space: &P, at: Addr) -> Option<Ending>
 #[tactic(auto, using(crate::proofs::Tables::functions_reached_none, crate::proofs::Tables::functions_reached_more, crate::proofs::Tables::functions_refused, crate::proofs::Tables::functions_touched_none, crate::proofs::Tables::functions_touched_more))]
 fn test_functions<P: Space>(space: &P, a: Addr, t: Addr, n: u32) -> Result<Option<Ending>, Ending>
     requires { can_reach (P.memory space.now) a n ≡ true }
-    ensures refused { IfErr result (λ e. all_reached (P.memory space.now) (functions (P.memory space.now) (P.bytes space.now) a t n) ≡ false) }
+    ensures refused { let m = P.memory space.now in let bytes = P.bytes space.now in
+        IfErr result (λ e. all_reached m (functions m bytes a t n) ≡ false) }
     ensures code { IfErr result (λ e. e ≡ Ending.Abend 5) }
-    ensures reached { IfOk result (λ met. all_reached (P.memory space.now) (functions (P.memory space.now) (P.bytes space.now) a t n) ≡ true) }
-    ensures touched { IfOk result (λ met. met ≡ touch_ending (touched (P.memory space.now) (functions (P.memory space.now) (P.bytes space.now) a t n))) }
+    ensures reached { let m = P.memory space.now in let bytes = P.bytes space.now in
+        IfOk result (λ met. all_reached m (functions m bytes a t n) ≡ true) }
+    ensures touched { let m = P.memory space.now in let bytes = P.bytes space.now in
+        IfOk result (λ met. met ≡ touch_ending (touched m (functions m bytes a t n))) }
 {
     let mut met = None;
     for i in 0..n {
@@ -53,11 +57,14 @@ fn test_functions<P: Space>(space: &P, a: Addr, t: Addr, n: u32) -> Result<Optio
 /// Tests the first operand, which is stored, and the function bytes of its arguments.
 #[tactic(auto, unfolding(s370_state::specs::Row::use_tests, s370_state::specs::Row::all_reached, s370_state::specs::Row::all_stored, s370_state::specs::Row::touched), using(crate::proofs::Tables::functions_stored))]
 fn test_translation<P: Space>(space: &P, a: Addr, t: Addr, n: u32) -> Result<(), Ending>
-    ensures refused { IfErr result (λ e. use_tests (P.memory space.now) (stores a n ∷ functions (P.memory space.now) (P.bytes space.now) a t n) ≡ Some e) }
-    ensures passed { IfOk result (λ _. use_tests (P.memory space.now) (stores a n ∷ functions (P.memory space.now) (P.bytes space.now) a t n) ≡ None) }
+    ensures refused { let m = P.memory space.now in let bytes = P.bytes space.now in
+        IfErr result (λ e. use_tests m (translation_uses m bytes a t n) ≡ Some e) }
+    ensures passed { let m = P.memory space.now in let bytes = P.bytes space.now in
+        IfOk result (λ _. use_tests m (translation_uses m bytes a t n) ≡ None) }
     ensures reach { IfOk result (λ _. can_reach (P.memory space.now) a n ≡ true) }
     ensures store { IfOk result (λ _. can_store (P.memory space.now) a n ≡ true) }
-    ensures functions { IfOk result (λ _. all_reached (P.memory space.now) (functions (P.memory space.now) (P.bytes space.now) a t n) ≡ true) }
+    ensures functions { let m = P.memory space.now in let bytes = P.bytes space.now in
+        IfOk result (λ _. all_reached m (functions m bytes a t n) ≡ true) }
 {
     if let Err(r) = space.can_reach(a, n) {
         return Err(ending_of(r));
@@ -88,7 +95,8 @@ fn translate_bytes<P: Space>(space: &mut P, a: Addr, t: Addr, n: u32)
     requires size { n ≤ 256 }
     requires store { can_store (P.memory space.old) a n ≡ true }
     requires reach { can_reach (P.memory space.old) a n ≡ true }
-    requires functions { all_reached (P.memory space.old) (functions (P.memory space.old) (P.bytes space.old) a t n) ≡ true }
+    requires functions { let m = P.memory space.old in let bytes = P.bytes space.old in
+        all_reached m (functions m bytes a t n) ≡ true }
     ensures memory { P.memory space.new ≡ P.memory space.old }
     ensures bytes { P.bytes space.new ≡ translated (P.memory space.old) (P.bytes space.old) a t n }
 {
@@ -100,8 +108,7 @@ fn translate_bytes<P: Space>(space: &mut P, a: Addr, t: Addr, n: u32)
 
 /// TR: replaces each byte of the first operand by its function byte.
 pub fn translate<P: Space>(cpu: &mut Cpu, space: &mut P, code: &Code) -> Next
-    ensures memory { P.memory space.new ≡ P.memory space.old }
-    ensures row { Performs (P.memory space.old) cpu.old (P.bytes space.old) (λ m s. row_tr m s code.now) cpu.new (P.bytes space.new) result }
+    ensures { Performs P.memory P.bytes (storage_row Op.TR code.now) cpu.old space.old cpu.new space.new result }
 {
     let a = cpu.based(code.b1(), code.d1());
     let t = cpu.based(code.b2(), code.d2());
@@ -126,12 +133,15 @@ struct Found {
 #[tactic(auto, using(crate::proofs::Tables::functions_reached_none, crate::proofs::Tables::functions_reached_more, crate::proofs::Tables::search_refused, crate::proofs::Tables::functions_touched_none, crate::proofs::Tables::functions_touched_more, crate::proofs::Tables::selected_none, crate::proofs::Tables::selected_more, crate::proofs::Tables::selected_here, crate::proofs::Tables::one_accessible))]
 fn search<P: Space>(space: &P, a: Addr, t: Addr, n: u32) -> Result<Found, Ending>
     requires { can_reach (P.memory space.now) a n ≡ true }
-    ensures refused { IfErr result (λ e. all_reached (P.memory space.now) (functions (P.memory space.now) (P.bytes space.now) a t (looked_up n (selected (P.memory space.now) (P.bytes space.now) a t n))) ≡ false) }
+    ensures refused { let m = P.memory space.now in let bytes = P.bytes space.now in
+        IfErr result (λ e. all_reached m (functions m bytes a t (looked_up n (selected m bytes a t n))) ≡ false) }
     ensures code { IfErr result (λ e. e ≡ Ending.Abend 5) }
     ensures selected { IfOk result (λ r. r.selected ≡ selected (P.memory space.now) (P.bytes space.now) a t n) }
     ensures below { IfOk result (λ r. IfSome r.selected (λ i. i < n)) }
-    ensures reached { IfOk result (λ r. all_reached (P.memory space.now) (functions (P.memory space.now) (P.bytes space.now) a t (looked_up n r.selected)) ≡ true) }
-    ensures touched { IfOk result (λ r. r.met ≡ touch_ending (touched (P.memory space.now) (functions (P.memory space.now) (P.bytes space.now) a t (looked_up n r.selected)))) }
+    ensures reached { let m = P.memory space.now in let bytes = P.bytes space.now in
+        IfOk result (λ r. all_reached m (functions m bytes a t (looked_up n r.selected)) ≡ true) }
+    ensures touched { let m = P.memory space.now in let bytes = P.bytes space.now in
+        IfOk result (λ r. r.met ≡ touch_ending (touched m (functions m bytes a t (looked_up n r.selected)))) }
 {
     let mut met = None;
     for i in 0..n {
@@ -157,12 +167,15 @@ fn search<P: Space>(space: &P, a: Addr, t: Addr, n: u32) -> Result<Found, Ending
 /// selected.
 #[tactic(auto, unfolding(s370_state::specs::Row::use_tests, s370_state::specs::Row::all_reached, s370_state::specs::Row::all_stored, s370_state::specs::Row::touched), using(crate::proofs::Tables::functions_stored))]
 fn test_search<P: Space>(space: &P, a: Addr, t: Addr, n: u32) -> Result<Option<u32>, Ending>
-    ensures refused { IfErr result (λ e. use_tests (P.memory space.now) (reads a n ∷ functions (P.memory space.now) (P.bytes space.now) a t (looked_up n (selected (P.memory space.now) (P.bytes space.now) a t n))) ≡ Some e) }
-    ensures passed { IfOk result (λ f. use_tests (P.memory space.now) (reads a n ∷ functions (P.memory space.now) (P.bytes space.now) a t (looked_up n (selected (P.memory space.now) (P.bytes space.now) a t n))) ≡ None) }
+    ensures refused { let m = P.memory space.now in let bytes = P.bytes space.now in
+        IfErr result (λ e. use_tests m (search_uses m bytes a t n) ≡ Some e) }
+    ensures passed { let m = P.memory space.now in let bytes = P.bytes space.now in
+        IfOk result (λ f. use_tests m (search_uses m bytes a t n) ≡ None) }
     ensures selected { IfOk result (λ f. f ≡ selected (P.memory space.now) (P.bytes space.now) a t n) }
     ensures below { IfOk result (λ f. IfSome f (λ i. i < n)) }
     ensures reach { IfOk result (λ f. can_reach (P.memory space.now) a n ≡ true) }
-    ensures functions { IfOk result (λ f. all_reached (P.memory space.now) (functions (P.memory space.now) (P.bytes space.now) a t (looked_up n f)) ≡ true) }
+    ensures functions { let m = P.memory space.now in let bytes = P.bytes space.now in
+        IfOk result (λ f. all_reached m (functions m bytes a t (looked_up n f)) ≡ true) }
 {
     if let Err(r) = space.can_reach(a, n) {
         return Err(ending_of(r));
@@ -184,8 +197,10 @@ fn test_search<P: Space>(space: &P, a: Addr, t: Addr, n: u32) -> Result<Option<u
 fn select<P: Space>(cpu: &mut Cpu, space: &P, a: Addr, t: Addr, n: u32, i: u32)
     requires reach { can_reach (P.memory space.now) a n ≡ true }
     requires below { i < n }
-    requires functions { all_reached (P.memory space.now) (functions (P.memory space.now) (P.bytes space.now) a t (i + 1)) ≡ true }
-    ensures { cpu.new ≡ record cpu.old { regs = selecting cpu.old.regs (wrap (a + i)) (function (P.memory space.now) (P.bytes space.now) a t i); condition = if i + 1 == n then 2 else 1 } }
+    requires functions { let m = P.memory space.now in let bytes = P.bytes space.now in
+        all_reached m (functions m bytes a t (i + 1)) ≡ true }
+    ensures { let v = function (P.memory space.now) (P.bytes space.now) a t i in
+        cpu.new ≡ record cpu.old { regs = selecting cpu.old.regs (wrap (a + i)) v; condition = if i + 1 == n then 2 else 1 } }
 {
     let value = space.byte(function_at(space, a, t, i, n));
     cpu.set_address(1, a.plus(i));
@@ -197,7 +212,8 @@ fn select<P: Space>(cpu: &mut Cpu, space: &P, a: Addr, t: Addr, n: u32, i: u32)
 fn set_found<P: Space>(cpu: &mut Cpu, space: &P, a: Addr, t: Addr, n: u32, selected: Option<u32>)
     requires reach { can_reach (P.memory space.now) a n ≡ true }
     requires below { IfSome selected (λ i. i < n) }
-    requires functions { all_reached (P.memory space.now) (functions (P.memory space.now) (P.bytes space.now) a t (looked_up n selected)) ≡ true }
+    requires functions { let m = P.memory space.now in let bytes = P.bytes space.now in
+        all_reached m (functions m bytes a t (looked_up n selected)) ≡ true }
     ensures { let s = machine_of cpu.old (P.bytes space.now) in
         after cpu.new (P.bytes space.now) Next.On ≡ finish s (selects (P.memory space.now) s a t n selected) }
 {
@@ -209,8 +225,7 @@ fn set_found<P: Space>(cpu: &mut Cpu, space: &P, a: Addr, t: Addr, n: u32, selec
 
 /// TRT: searches the first operand for a byte whose function byte is not zero.
 pub fn translate_and_test<P: Space>(cpu: &mut Cpu, space: &mut P, code: &Code) -> Next
-    ensures memory { P.memory space.new ≡ P.memory space.old }
-    ensures row { Performs (P.memory space.old) cpu.old (P.bytes space.old) (λ m s. row_trt m s code.now) cpu.new (P.bytes space.new) result }
+    ensures { Performs P.memory P.bytes (storage_row Op.TRT code.now) cpu.old space.old cpu.new space.new result }
 {
     let a = cpu.based(code.b1(), code.d1());
     let t = cpu.based(code.b2(), code.d2());

@@ -1,4 +1,4 @@
-use Rattle.std.proofs.Common.{◌≡◌, ℕ, true, false, [], ◌∷◌, ap}
+use Rattle.std.proofs.Common.{◌≡◌, ℕ, true, false, [], ◌∷◌, refl, ap}
 use Rattle.s370_decode.specs.Fields.{first_half}
 use Rattle.s370_decode.specs.Table.{op_of}
 use Rattle.s370_branch.specs.Branch.{goes}
@@ -14,11 +14,8 @@ refused : (g : given.Over) (c : goal.In-Err g) (d : ℕ) →
 refused g c d = subject_step-refused _ (state_of c.args.cpu.now (g.P.Space.bytes c.args.space.now) c.args.io.now d) c.args.ex.now c.subject_address-at.result c.in-Err.e
     c.subject_address-at.ensures c.in-Err.ensures.refused
 
-pub returns-in-Err-clause-state : goal.returns-in-Err-clause-state
-returns-in-Err-clause-state g c = λ d. ap (λ r. r.state) (refused g c d)
-
-pub returns-in-Err-clause-next : goal.returns-in-Err-clause-next
-returns-in-Err-clause-next g c = λ d. ap (λ r. r.next) (refused g c d)
+pub returns-in-Err : goal.returns-in-Err
+returns-in-Err g c = record { memory = refl; state = λ d. ap (λ r. r.state) (refused g c d); next = λ d. ap (λ r. r.next) (refused g c d) }
 
 unread : (g : given.Over) (c : goal.In-Err-fetch_subject g) (d : ℕ) →
     let s = state_of c.args.cpu.now (g.P.Space.bytes c.args.space.now) c.args.io.now d in
@@ -27,11 +24,8 @@ unread g c d =
     subject_step-unread _ (state_of c.args.cpu.now (g.P.Space.bytes c.args.space.now) c.args.io.now d) c.args.ex.now c.subject_address-at.result c.in-Ok.half c.in-Err-fetch_subject.e
     c.subject_address-at.ensures c.in-Ok.ensures.passed c.in-Ok.ensures.half c.in-Err-fetch_subject.ensures.refused
 
-pub returns-in-Err-fetch_subject-clause-state : goal.returns-in-Err-fetch_subject-clause-state
-returns-in-Err-fetch_subject-clause-state g c = λ d. ap (λ r. r.state) (unread g c d)
-
-pub returns-in-Err-fetch_subject-clause-next : goal.returns-in-Err-fetch_subject-clause-next
-returns-in-Err-fetch_subject-clause-next g c = λ d. ap (λ r. r.next) (unread g c d)
+pub returns-in-Err-fetch_subject : goal.returns-in-Err-fetch_subject
+returns-in-Err-fetch_subject g c = record { memory = refl; state = λ d. ap (λ r. r.state) (unread g c d); next = λ d. ap (λ r. r.next) (unread g c d) }
 
 begun : (g : given.Over) (c : goal.After-execute g) (d : ℕ) →
     let s = state_of c.args.cpu.now (g.P.Space.bytes c.args.space.now) c.args.io.now d in
@@ -44,8 +38,5 @@ begun g c d =
     c.in-Ok-fetch_subject.code (effect_of c.execute.new.cpu (g.P.Space.bytes c.execute.new.space) c.execute.new.io c.execute.result)
     c.subject_address-at.ensures c.in-Ok.ensures.passed c.in-Ok.ensures.half c.in-Ok-fetch_subject.ensures.passed c.in-Ok-fetch_subject.ensures.code c.execute.ensures.effect
 
-pub returns-clause-state : goal.returns-clause-state
-returns-clause-state g c = λ d. ap (λ r. r.state) (begun g c d)
-
-pub returns-clause-next : goal.returns-clause-next
-returns-clause-next g c = λ d. ap (λ r. r.next) (begun g c d)
+pub returns : goal.returns
+returns g c = record { memory = c.execute.ensures.memory; state = λ d. ap (λ r. r.state) (begun g c d); next = λ d. ap (λ r. r.next) (begun g c d) }

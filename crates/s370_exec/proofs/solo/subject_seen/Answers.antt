@@ -13,7 +13,7 @@ returns-in-Err g c = λ io d. unread-subject _ (state_of c.args.cpu.now (g.P.Spa
 pub returns-then-is_ex : goal.returns-then-is_ex
 returns-then-is_ex g c = λ io d.
     ex-subject _ (state_of c.args.cpu.now (g.P.Space.bytes c.args.space.now) io d) c.at.result c.in-Ok.code c.at.ensures c.in-Ok.ensures.passed c.in-Ok.ensures.code
-    (sym c.is_ex.ensures ∙ c.if-is_ex.true) ∙ c.subject_visit.ensures io d (visit (state_of c.args.cpu.now (g.P.Space.bytes c.args.space.now) io d) c.at.result true (goes (op_of (first_half c.in-Ok.code)) c.args.cpu.now c.in-Ok.code) false)
+    (sym c.is_ex.ensures ∙ c.if-is_ex.true) ∙ c.subject_visit.ensures (visit (state_of c.args.cpu.now (g.P.Space.bytes c.args.space.now) io d) c.at.result true (goes (op_of (first_half c.in-Ok.code)) c.args.cpu.now c.in-Ok.code) false) io d
 
 pub returns : goal.returns
 returns g c = λ io d.

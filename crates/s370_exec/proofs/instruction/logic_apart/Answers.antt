@@ -1,0 +1,11 @@
+use Rattle.std.proofs.Common.{ap, sym, ◌∙◌}
+use Rattle.s370_decode.specs.declared.group.Group.TheVariants.{Logic}
+use Rattle.s370_exec.specs.Effects.{onward}
+use Rattle.s370_exec.proofs.Groups.{by_group}
+use Rattle.s370_exec.proofs.instruction.logic_apart.Goals as goal
+
+pub returns : goal.returns
+returns g c = record {
+  memory = c.logic-n.ensures.memory;
+  effect = λ io link. c.onward.ensures _ io ∙ ap (onward c.args.next io) c.logic-n.ensures.effect ∙ sym (by_group _ _ io _ _ _ link Logic c.requires.group);
+}

@@ -1,0 +1,41 @@
+-- What contracts say of old and new: processor, storage, input and output, and how the task goes on.
+use Rattle.std.specs.Prelude.{◌≡◌, ℕ, ◌+◌, Bool, List, ◌∷◌, Option}
+use Rattle.cov_base.specs.States.{CpuView, Machine, IoView, State, Visit}
+use Rattle.cov_base.specs.Memory.{Memory}
+use Rattle.s370_state.specs.Row.{machine_of}
+use Rattle.s370_state.specs.declared.endings.Next.{Next}
+use Rattle.s370_decode.specs.declared.code.Code.{Code}
+use Rattle.s370_decode.specs.declared.op.Op.{Op}
+use Rattle.s370_exec.specs.Effects.{Effect, effect, effect_of, onward_by}
+use Rattle.s370_exec.specs.Solo.{Step, state_of, subject_step, subject_seen}
+
+-- it has this effect, and the memory stays
+pub record Does {S : Type 0} (memory_of : S → Memory) (bytes_of : S → List ℕ) (what : Memory → Machine → IoView → Effect)
+    (cpu : CpuView) (space : S) (io : IoView) (cpu' : CpuView) (space' : S) (io' : IoView) (next : Next) : Type 0 where
+  pub memory : memory_of space' ≡ memory_of space
+  pub effect : effect_of cpu' (bytes_of space') io' next ≡ what (memory_of space) (machine_of cpu (bytes_of space)) io
+
+-- the same of an operation that neither input and output nor the length code concern; to is the updated address
+pub record CarriesOut {S : Type 0} (memory_of : S → Memory) (bytes_of : S → List ℕ) (c : Code) (op : Op) (to : ℕ)
+    (cpu : CpuView) (space : S) (cpu' : CpuView) (space' : S) (next : Next) : Type 0 where
+  pub memory : memory_of space' ≡ memory_of space
+  pub effect : (io : IoView) (link : ℕ) → effect_of cpu' (bytes_of space') io next ≡ effect (memory_of space) (machine_of cpu (bytes_of space)) io c op to link
+
+-- the processor goes on at the updated address, or the task ends, as an operation has told
+abbrev pub GoesOnward : ℕ → Next → CpuView → CpuView → Next → Type 0
+GoesOnward to told cpu cpu' next = (bytes : List ℕ) (io : IoView) → effect_of cpu' bytes io next ≡ onward_by to io (machine_of cpu bytes) told
+
+-- it does this step, one instruction, and the memory stays
+pub record Steps {S : Type 0} (memory_of : S → Memory) (bytes_of : S → List ℕ) (step : Memory → State → Step)
+    (cpu : CpuView) (space : S) (io : IoView) (cpu' : CpuView) (space' : S) (io' : IoView) (result : Next) : Type 0 where
+  pub memory : memory_of space' ≡ memory_of space
+  pub state : (d : ℕ) → (step (memory_of space) (state_of cpu (bytes_of space) io d)).state ≡ state_of cpu' (bytes_of space') io' (d + 1)
+  pub next : (d : ℕ) → (step (memory_of space) (state_of cpu (bytes_of space) io d)).next ≡ result
+
+-- the answer is that of the state, whatever its input and output and the instructions done
+abbrev pub Answers : {A : Type 0} → (State → A) → CpuView → List ℕ → A → Type 0
+Answers f cpu bytes a = (io : IoView) (d : ℕ) → f (state_of cpu bytes io d) ≡ a
+
+-- what the visits behind the EX's own tell of its subject
+abbrev pub seen_behind : Visit → Memory → Code → State → Option (ℕ × Bool)
+seen_behind v m c s = subject_seen (v ∷ (subject_step m s c).visits)
