@@ -1,7 +1,7 @@
 -- What the program answers of evidence, cause by cause.
 use Rattle.std.proofs.Common.{◌≡◌, ℕ, true, Option, Some, None, List, length, drop, refl, sym, ◌∙◌, ap, subst}
 use Rattle.cov_base.specs.declared.facts.Fact.{Fact}
-use Rattle.brk_table.specs.Places.{TablesView, all_places}
+use Rattle.brk_table.specs.Places.{TablesView}
 use Rattle.evidence_check.specs.Claims.{facts_of_modules, evidence_claims, first_refuted}
 use Rattle.evidence_check.specs.Evidence.{evidence}
 use Rattle.evidence_check.specs.Fields.{evidence_fields}
@@ -18,24 +18,26 @@ use Rattle.session_marks.specs.FromFile.{IsOwn}
 use Rattle.session_marks.specs.Marked.{session_rows}
 use Rattle.session_marks.proofs.SessionLemmas.{own_same}
 use Rattle.table_combine.specs.Combine.{Difference, first_difference}
-use Rattle.coverage_commands.specs.Answers.{WantOfMemory, Proved, Checked, Stopped, IsWritten, Answers}
-use Rattle.coverage_commands.specs.Changes.{SourceChange, SinkChange, no_change}
+use Rattle.coverage_commands.specs.Answers.{Unread, Proved, Checked, Stopped, IsWritten, Answers}
+use Rattle.cov_outside.specs.declared.whole.ReadFault.TheVariants as read
+use Rattle.job_input.specs.Inputs.{SourceChange, CameJob, to_end}
+use Rattle.job_tables.specs.Tables.{Match}
+use Rattle.coverage_commands.specs.Changes.{SinkChange, no_change}
 use Rattle.coverage_commands.specs.Checked.{Verdict, OtherTable, BadEvidence, Refuted, Verified, verdict_status, verdict_line, judged, judged_by, IsVerdict, NoFile, OfFile, HasVerified, verify_refusal, IsStartRefusal, BadStart, NoRoom, IsCheckRefusal, Unverified, Wanting}
 use Rattle.coverage_commands.specs.Checked as checked
-use Rattle.coverage_commands.specs.Files.{HasRest}
-use Rattle.coverage_commands.specs.Inputs.{CameJob}
+use Rattle.coverage_commands.specs.Ready.{HasRest}
 use Rattle.coverage_commands.specs.Named.{session_number}
-use Rattle.coverage_commands.specs.Refusals.{RefusalView, refusal, Match}
-use Rattle.coverage_commands.specs.Words.{to_end, no_memory_line, other_table_line}
+use Rattle.coverage_commands.specs.Refusals.{RefusalView, refusal}
+use Rattle.coverage_commands.specs.Words.{no_memory_line, other_table_line}
 use Rattle.coverage_commands.specs.declared.words.Command.TheVariants.{Prove, Verify}
 
 -- evidence that was written
 pub proved : (name : List ℕ) (s : SourceChange) (j : JobView) (tables : TablesView) (number : ℕ) (a : Account) (k : SinkChange) (answer : ℕ) →
-    CameJob to_end s j → Match j tables.tables → tables.places ≡ all_places tables.tables → session_number j name ≡ Some number → (session_of j number).by ≡ None → IsWritten 0 (evidence j tables number) k answer → Answers (Prove name) s (no_change a) k answer
-proved name s j tables number a k answer came match' numbered is free told = record {
+    CameJob to_end s j → Match j tables → session_number j name ≡ Some number → (session_of j number).by ≡ None → IsWritten 0 (evidence j tables number) k answer → Answers (Prove name) s (no_change a) k answer
+proved name s j tables number a k answer came match' is free told = record {
   status = 0;
   text = evidence j tables number;
-  cause = Proved name (refl, refl) (record { job = j; tables = tables; number = number; came = record { came = came; match = match'; numbered = numbered }; is_number = is; whole = free; is_text = refl }) refl;
+  cause = Proved name (refl, refl) (record { job = j; tables = tables; number = number; came = record { came = came; match = match' }; is_number = is; whole = free; is_text = refl }) refl;
   told = told;
 }
 
@@ -71,7 +73,7 @@ own_of j tables s ms bs v = record { sets = _; is = v.sets }
 
 -- why there is no file, a file of another table, and one whose sets or evidence are not the session's
 pub no_start : (j : JobView) (tables : TablesView) (s : ℕ) (rest : List ℕ) (r : RefusalView) → IsStartRefusal rest r → IsCheckRefusal j tables s rest r
-no_start j tables s rest r (BadStart o bad is) = Unverified (checked.BadFile o) (NoFile o bad refl) (λ n e. absurd cc) (λ name. is)
+no_start j tables s rest r (BadStart o bad is) = Unverified (checked.BadMarks o) (NoFile o bad refl) (λ n e. absurd cc) (λ name. is)
 no_start j tables s rest r (NoRoom is) = Wanting is
 
 pub other_start : (j : JobView) (tables : TablesView) (s : ℕ) (rest : List ℕ) (r : RefusalView) (marks : MarksView) (end : ℕ) (d : Difference) → keeps_rules marks ≡ true → HasFile 0 rest marks end → first_difference 0 (session_rows j tables s) (rows marks.modules) ≡ Some d → r ≡ refusal 11 (other_table_line d) →
@@ -95,7 +97,7 @@ judged_is name s j tables number rest v a k answer has free is sure told = recor
 }
 
 unchecked_wanting : (name : List ℕ) (s : SourceChange) (a : Account) (k : SinkChange) (answer : ℕ) → IsWritten 7 no_memory_line k answer → Answers (Verify name) s (no_change a) k answer
-unchecked_wanting name s a k answer told = record { status = 7; text = no_memory_line; cause = Stopped refl (WantOfMemory (refl, refl)) refl; told = told }
+unchecked_wanting name s a k answer told = record { status = 7; text = no_memory_line; cause = Stopped refl (Unread read.NoMemory tt refl) refl; told = told }
 
 retold : (r q : RefusalView) (k : SinkChange) (answer : ℕ) → r ≡ q → IsWritten r.status r.line k answer → IsWritten q.status q.line k answer
 retold r q k answer is told = subst (λ (v : RefusalView). IsWritten v.status v.line k answer) is told

@@ -1,7 +1,7 @@
 -- What the program answers of counts.
 use Rattle.std.proofs.Common.{◌≡◌, ℕ, Bool, true, false, if◌then◌else◌, None, Some, List, [], ◌∷◌, ◌+◌, refl, All}
 use Rattle.std.proofs.lemmas.List.Elements.{All-cons, All-nil}
-use Rattle.brk_table.specs.Places.{TablesView, all_places}
+use Rattle.brk_table.specs.Places.{TablesView}
 use Rattle.count_session.specs.Job.{CountsView, IsCountedJob, count_of}
 use Rattle.job_run.specs.Runs.{Account}
 use Rattle.job_run.specs.Tasks.{results_of}
@@ -10,11 +10,10 @@ use Rattle.report_text.specs.Counts.{count_text}
 use Rattle.session_book.specs.JobView.{JobView, SessionView}
 use Rattle.session_book.specs.Sessions.{AreWhole, is_whole}
 use Rattle.coverage_commands.specs.Answers.{Counted, IsWritten, Answers}
-use Rattle.coverage_commands.specs.Changes.{SourceChange, SinkChange, no_change}
-use Rattle.coverage_commands.specs.Inputs.{CameJob}
+use Rattle.job_input.specs.Inputs.{SourceChange, CameJob, to_end}
+use Rattle.job_tables.specs.Tables.{Match}
+use Rattle.coverage_commands.specs.Changes.{SinkChange, no_change}
 use Rattle.coverage_commands.specs.Named.{controlled_from, first_controlled}
-use Rattle.coverage_commands.specs.Refusals.{Match}
-use Rattle.coverage_commands.specs.Words.{to_end}
 use Rattle.coverage_commands.specs.declared.words.Command.TheVariants.{Count}
 
 -- no session has a controller where none is found
@@ -29,15 +28,15 @@ free_from n (s ∷ ss) free = by_whole (is_whole s) refl free (free_from (n + 1)
 pub are_whole : (j : JobView) → first_controlled j ≡ None → AreWhole j
 are_whole j free = free_from 1 j.sessions free
 
-pub counted : (s : SourceChange) (j : JobView) (tables : TablesView) (a : Account) (tasks : List Done) (counts : CountsView) (k : SinkChange) (answer : ℕ) → CameJob to_end s j → first_controlled j ≡ None → Match j tables.tables → tables.places ≡ all_places tables.tables →
+pub counted : (s : SourceChange) (j : JobView) (tables : TablesView) (a : Account) (tasks : List Done) (counts : CountsView) (k : SinkChange) (answer : ℕ) → CameJob to_end s j → first_controlled j ≡ None → Match j tables →
     IsCountedJob j tables.places tasks counts → IsWritten 0 (count_text j tables (λ t. results_of tasks t) (λ s p f. count_of counts s p f)) k answer → Answers Count s (no_change a) k answer
-counted s j tables a tasks counts k answer came free match' numbered is told = record {
+counted s j tables a tasks counts k answer came free match' is told = record {
   status = 0;
   text = count_text j tables (λ t. results_of tasks t) (λ s p f. count_of counts s p f);
   cause = Counted (refl, refl) (record {
     job = j;
     tables = tables;
-    came = record { came = came; match = match'; numbered = numbered };
+    came = record { came = came; match = match' };
     free = free;
     counts = record { results = λ t. results_of tasks t; counts = λ s p f. count_of counts s p f; are_results = is.are_results; are_counts = is.are_counts; is_text = refl };
   }) refl;

@@ -29,17 +29,16 @@ use Rattle.early_report.specs.Text.{drained_in, drained_of, taken_at}
 use Rattle.early_report.specs.Told.{IsTold, HasTold, closing_count}
 use Rattle.early_report.specs.declared.drains.Stage.{Stage}
 use Rattle.early_report.specs.Text.{early_of}
-use Rattle.brk_table.specs.Places.{TablesView, all_places}
+use Rattle.brk_table.specs.Places.{TablesView}
 use Rattle.job_run.specs.Runs.{HasRun}
 use Rattle.job_text.specs.Lines.{lines_of}
 use Rattle.job_text.proofs.WholeJob.{job_keeps}
 use Rattle.coverage_commands.specs.Answers.{IsWritten, Answers, ReportedEarly}
-use Rattle.coverage_commands.specs.Changes.{SourceChange, SinkChange, AreasChange}
+use Rattle.job_input.specs.Inputs.{SourceChange, CameJob, to_end}
+use Rattle.job_tables.specs.Tables.{Match}
+use Rattle.coverage_commands.specs.Changes.{SinkChange, AreasChange}
 use Rattle.coverage_commands.specs.Drained.{AreDrained, IsDrained, closing_of, other_tasks}
-use Rattle.coverage_commands.specs.Inputs.{CameJob}
-use Rattle.coverage_commands.specs.Refusals.{Match}
 use Rattle.coverage_commands.specs.Reports.{Reports}
-use Rattle.coverage_commands.specs.Words.{to_end}
 use Rattle.coverage_commands.specs.declared.words.Command.TheVariants.{Early}
 
 -- ---- a session and its drain
@@ -218,12 +217,12 @@ are_drained items j places tasks sets lists job outcome extras = record { each =
 
 -- ---- the answer
 
-pub reported_early : (s : SourceChange) (j : JobView) (tables : TablesView) (a : AreasChange) (k : SinkChange) (answer : ℕ) (drained : ℕ → Option ℕ) (text : List ℕ) → CameJob to_end s j → Match j tables.tables → tables.places ≡ all_places tables.tables →
+pub reported_early : (s : SourceChange) (j : JobView) (tables : TablesView) (a : AreasChange) (k : SinkChange) (answer : ℕ) (drained : ℕ → Option ℕ) (text : List ℕ) → CameJob to_end s j → Match j tables →
     (run : HasRun j tables.places a.before a.after) → AreDrained j tables.places drained → Reports solo j tables run.sets (λ results sets. early_of j tables results sets drained) text → IsWritten 0 text k answer → Answers Early s a k answer
-reported_early s j tables a k answer drained text came match' numbered ran are reps told = record {
+reported_early s j tables a k answer drained text came match' ran are reps told = record {
   status = 0;
   text = text;
-  cause = ReportedEarly (refl, refl) (record { job = j; tables = tables; drained = drained; came = record { came = came; match = match'; numbered = numbered }; ran = ran; are_drained = are; reports = reps });
+  cause = ReportedEarly (refl, refl) (record { job = j; tables = tables; drained = drained; came = record { came = came; match = match' }; ran = ran; are_drained = are; reports = reps });
   told = told;
 }
 

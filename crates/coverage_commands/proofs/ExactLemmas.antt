@@ -7,34 +7,27 @@ use Rattle.evidence_check.proofs.VerifiedLemmas.{verified_passes}
 use Rattle.job_text.specs.Lines.{lines_of}
 use Rattle.job_text.proofs.WholeJob.{job_keeps}
 use Rattle.session_book.specs.JobView.{JobView, IsJob}
-use Rattle.coverage_commands.specs.Answers.{IsStopped, BadJob, LargeJob, NoSession, Controlled, BadListing, LargeInput, ReadFault, WantOfMemory, IsCause, Report, ReportedEarly, Recorded, Places, ToldEnds, Replayed, BadSchedule, United, BadFile, OtherFile, Shown, BadShown, OtherShown, Proved, Counted, Checked, Usage, Stopped, NoMemoryToRun, Tried, NoMemoryToTry, Answers}
-use Rattle.coverage_commands.specs.Changes.{SourceChange, SinkChange, AreasChange}
+use Rattle.coverage_commands.specs.Answers.{IsStopped, Unread, Jobless, NoSession, Controlled, BadListing, IsCause, Report, ReportedEarly, Recorded, Places, ToldEnds, Replayed, BadSchedule, United, BadFile, OtherFile, Shown, BadShown, OtherShown, Proved, Counted, Checked, Usage, Stopped, NoMemoryToRun, Tried, NoMemoryToTry, Answers}
+use Rattle.job_input.specs.Inputs.{SourceChange}
+use Rattle.coverage_commands.specs.Changes.{SinkChange, AreasChange}
 use Rattle.coverage_commands.specs.Checked.{Verdict, OtherTable, BadEvidence, Refuted, Verified, IsVerdict, OfFile, verdict_status, HasVerified}
 use Rattle.coverage_commands.specs.Checked.{BadFile as BadMarks}
-use Rattle.coverage_commands.specs.Complete.{StandsBehind, HoldsTrue, bytes_of}
-use Rattle.coverage_commands.specs.Files.{HasRest}
-use Rattle.coverage_commands.specs.Words.{reads_job, Reading, Asked, reading_of, asked_of, makes_areas, reports_run, makes_job}
+use Rattle.coverage_commands.specs.Complete.{HoldsTrue}
+use Rattle.coverage_commands.specs.Words.{Asked, way_of}
+use Rattle.coverage_commands.proofs.WordLemmas.{no_report}
 use Rattle.coverage_commands.specs.declared.words.Command.{Command}
-use Rattle.coverage_commands.specs.declared.words.Command.TheVariants.{Early, Count, Marks, Table, Ends, Replay, Combine, Show, Prove, Verify, Unknown}
-use Rattle.coverage_commands.proofs.BehindLemmas.{joined}
+use Rattle.coverage_commands.specs.declared.words.Command.TheVariants.{Early, Count, Marks, Trial, Table, Ends, Replay, Combine, Show, Prove, Verify, Unknown}
+use Rattle.coverage_commands.proofs.BehindLemmas.{stands_of}
 use Rattle.coverage_commands.proofs.CompleteLemmas.{complete}
-use Rattle.coverage_commands.proofs.UntouchedLemmas.{never_zero}
+use Rattle.coverage_commands.proofs.UntouchedLemmas.{read_told, jobless_told, tables_told}
 use Rattle.coverage_commands.proofs.VerdictLemmas.{one_check}
 use Rattle.coverage_commands.specs.Complete.{IsExact}
 use Rattle.coverage_commands.specs.Complete as wanted
-use Rattle.coverage_commands.specs.Refusals.{refusal}
+use Rattle.coverage_commands.specs.Refusals.{RefusalView, refusal}
 use Rattle.coverage_commands.proofs.CheckedLemmas.{judged_verified, own_of}
-use Rattle.coverage_commands.proofs.StopLemmas.{came_is, not_both}
+use Rattle.coverage_commands.proofs.StopLemmas.{not_both}
 
 -- ---- 0, and no other answer
-
--- what stands behind the job that came
-stands_of : (name : List ℕ) (s : SourceChange) (b : List ℕ) (j : JobView) (tables : TablesView) (number : ℕ) (rest : List ℕ) → s.left ≡ Some b → HasRest name s j tables number rest → StandsBehind name b j tables number rest
-stands_of name s b j tables number rest e r =
-    let c = r.came in
-    let lines : lines_of (drop r.end r.bytes) ≡ drop c.has.count (lines_of r.bytes) = c.parted.behind ∙ ap (λ (i : ℕ). drop i (lines_of r.bytes)) (sym c.counts) in
-    subst (λ (t : List ℕ). StandsBehind name t j tables number rest) (sym (came_is s b r.bytes e c.came))
-    (record { few = c.came.within; has = c.has; match = r.match; numbered = r.numbered; is_number = r.is_number; behind = r.behind ∙ (sym (joined (drop r.end r.bytes)) ∙ ap bytes_of lines) })
 
 zero_verified : (j : JobView) (tables : TablesView) (s : ℕ) (rest : List ℕ) (v : Verdict) → verdict_status v ≡ 0 → ((n : ℕ) → v ≡ Verified n → HasVerified j tables s rest) → HasVerified j tables s rest
 zero_verified j tables s rest (BadMarks o) z sure = absurd cc
@@ -43,18 +36,15 @@ zero_verified j tables s rest (BadEvidence o) z sure = absurd cc
 zero_verified j tables s rest (Refuted row f) z sure = absurd cc
 zero_verified j tables s rest (Verified n) z sure = sure n refl
 
-stopped_told : (job : Bool) (how : Reading) (asked : Asked) (s : SourceChange) (status : ℕ) (text : List ℕ) → IsStopped job how asked s status text → status ≡ 0 → ⊥
-stopped_told job how asked s status text (BadJob t p q) z = let x : 2 ≡ 0 = sym p ∙ z in absurd cc
-stopped_told job how asked s status text (LargeJob t p q) z = let x : 4 ≡ 0 = sym p ∙ z in absurd cc
-stopped_told job how asked s status text (NoSession t p q) z = let x : 13 ≡ 0 = sym p ∙ z in absurd cc
-stopped_told job how asked s status text (Controlled t p q) z = let x : 14 ≡ 0 = sym p ∙ z in absurd cc
-stopped_told job how asked s status text (BadListing t q) z = never_zero q.job (refusal status text) q.first z
-stopped_told job how asked s status text (LargeInput p) z = let x : 4 ≡ 0 = sym p.0 ∙ z in absurd cc
-stopped_told job how asked s status text (ReadFault p) z = let x : 5 ≡ 0 = sym p.0 ∙ z in absurd cc
-stopped_told job how asked s status text (WantOfMemory p) z = let x : 7 ≡ 0 = sym p.0 ∙ z in absurd cc
+stopped_told : (job more : Bool) (asked : Asked) (s : SourceChange) (r : RefusalView) → IsStopped job more asked s r → r.status ≡ 0 → ⊥
+stopped_told job more asked s r (Unread e h told) z = read_told e (sym (ap (λ (v : RefusalView). v.status) told) ∙ z)
+stopped_told job more asked s r (Jobless e t h told) z = jobless_told e (sym (ap (λ (v : RefusalView). v.status) told) ∙ z)
+stopped_told job more asked s r (NoSession k wanted t came named missing told) z = let x : 13 ≡ 0 = sym (ap (λ (v : RefusalView). v.status) told) ∙ z in absurd cc
+stopped_told job more asked s r (Controlled k number t came is told) z = let x : 14 ≡ 0 = sym (ap (λ (v : RefusalView). v.status) told) ∙ z in absurd cc
+stopped_told job more asked s r (BadListing k e t came h first told) z = tables_told e (sym (ap (λ (v : RefusalView). v.status) told) ∙ z)
 
 exact_case : (c : Command) (name : List ℕ) (s : SourceChange) (a : AreasChange) (status : ℕ) (text b : List ℕ) → IsCause c s a status text → c ≡ Verify name → s.left ≡ Some b → status ≡ 0 → HoldsTrue name b
-exact_case c name s a status text b (Report p q) same e z = absurd (not_both (reports_run c) p.1 (ap reports_run same))
+exact_case c name s a status text b (Report course p q) same e z = absurd (no_report c (Verify name) course p.1 same refl)
 exact_case c name s a status text b (ReportedEarly p q) same e z = let x : Early ≡ Verify name = sym p.1 ∙ same in absurd cc
 exact_case c name s a status text b (Recorded n p q) same e z = let x : Marks n ≡ Verify name = sym p.1 ∙ same in absurd cc
 exact_case c name s a status text b (Places p q k) same e z = let x : Table ≡ Verify name = sym p.1 ∙ same in absurd cc
@@ -74,10 +64,10 @@ exact_case c name s a status text b (Checked n p q k) same e z =
     subst (λ (x : List ℕ). HoldsTrue x b) (one_check c n name p same)
     (record { job = q.job; tables = q.tables; number = q.number; rest = q.rest; stands = stands_of n s b q.job q.tables q.number q.rest e q.has; whole = q.whole; has = has })
 exact_case c name s a status text b (Usage p k) same e z = let x : Unknown ≡ Verify name = sym p.1 ∙ same in absurd cc
-exact_case c name s a status text b (Stopped p q k) same e z = absurd (stopped_told (reads_job c) (reading_of c) (asked_of c) s status text q z)
-exact_case c name s a status text b (NoMemoryToRun p q) same e z = absurd (not_both (makes_areas c) p.1 (ap makes_areas same))
-exact_case c name s a status text b (Tried n tasks p q) same e z = absurd (not_both (makes_job c) (ap makes_job p.1) (ap makes_job same))
-exact_case c name s a status text b (NoMemoryToTry p q) same e z = absurd (not_both (makes_job c) p.1 (ap makes_job same))
+exact_case c name s a status text b (Stopped p q k) same e z = absurd (stopped_told (way_of c).reads_job (way_of c).more (way_of c).asked s (refusal status text) q z)
+exact_case c name s a status text b (NoMemoryToRun p q) same e z = absurd (not_both (way_of c).makes_areas p.1 (ap (λ (d : Command). (way_of d).makes_areas) same))
+exact_case c name s a status text b (Tried n tasks p q) same e z = absurd (not_both (way_of c).makes_job (ap (λ (d : Command). (way_of d).makes_job) p.1) (ap (λ (d : Command). (way_of d).makes_job) same))
+exact_case c name s a status text b (NoMemoryToTry p q) same e z = absurd (not_both (way_of c).makes_job p.1 (ap (λ (d : Command). (way_of d).makes_job) same))
 
 -- such bytes have this verdict
 true_verdict : (name b : List ℕ) (h : HoldsTrue name b) → IsVerdict h.job h.tables h.number h.rest (Verified (facts_of_modules h.has.marks.modules))

@@ -1,7 +1,7 @@
 -- What the program answers of marks files, cause by cause.
 use Rattle.std.proofs.Common.{◌≡◌, inr, ℕ, ◌<◌, ◌≤◌, true, Some, List, ◌++◌, length, drop, refl, sym, ap, ◌∙◌, subst, arith}
 use Rattle.std.proofs.lemmas.List.{take-append-drop, length-drop, take_all}
-use Rattle.brk_table.specs.Places.{TablesView, all_places}
+use Rattle.brk_table.specs.Places.{TablesView}
 use Rattle.cov_base.specs.FactSet.{FactSet}
 use Rattle.marks_file.specs.Marks.{MarkedView, MarksView, keeps_rules}
 use Rattle.marks_file.specs.MarksFile.{file_bytes, HasFile, rows}
@@ -18,14 +18,18 @@ use Rattle.job_run.specs.declared.outcome.Done.{Done}
 use Rattle.job_run.proofs.SessionLemmas.{set_is_left}
 use Rattle.session_marks.specs.Marked.{session_marks, session_file, session_rows}
 use Rattle.coverage_commands.specs.declared.words.Command.TheVariants.{Marks, Combine, Show}
-use Rattle.coverage_commands.specs.Answers.{WantOfMemory, Recorded, United, Shown, BadShown, OtherShown, Stopped, IsWritten, Answers}
-use Rattle.coverage_commands.specs.Changes.{SourceChange, SinkChange, AreasChange, no_change}
-use Rattle.coverage_commands.specs.Files.{HasRest, IsFile, IsNoFile, IsShowRefusal, Bad, Wanting, NoFile, Other, show_text}
-use Rattle.coverage_commands.specs.Inputs.{CameWhole, CameJob, CameFirst}
+use Rattle.coverage_commands.specs.Answers.{Unread, Recorded, United, Shown, BadShown, OtherShown, Stopped, IsWritten, Answers}
+use Rattle.cov_outside.specs.declared.whole.ReadFault.TheVariants as read
+use Rattle.job_input.specs.Inputs.{SourceChange, CameWhole, CameJob, CameWith, to_end, to_go_on}
+use Rattle.job_tables.specs.Tables.{Match}
+use Rattle.job_text.specs.Lines.{lines_of}
+use Rattle.coverage_commands.specs.Changes.{SinkChange, AreasChange, no_change}
+use Rattle.coverage_commands.specs.Files.{IsFile, IsNoFile, IsShowRefusal, Bad, Wanting, NoFile, Other, show_text}
+use Rattle.coverage_commands.specs.Ready.{HasRest}
 use Rattle.coverage_commands.specs.Named.{session_number}
-use Rattle.coverage_commands.specs.Refusals.{RefusalView, refusal, Match}
+use Rattle.coverage_commands.specs.Refusals.{RefusalView, refusal}
 use Rattle.coverage_commands.specs.Reports.{Records}
-use Rattle.coverage_commands.specs.Words.{to_end, to_go_on, no_memory_line, bad_marks_line, other_table_line}
+use Rattle.coverage_commands.specs.Words.{no_memory_line, bad_marks_line, other_table_line}
 
 -- files that were united, and files that weren't
 pub united : (s : SourceChange) (bytes : List ℕ) (marks : MarksView) (a : Account) (k : SinkChange) (answer : ℕ) →
@@ -72,17 +76,11 @@ alone rest marks offset rules file less =
     }
 
 -- what stands behind the job, where the session of the name has this number
-pub has_rest : (name : List ℕ) (s : SourceChange) (j : JobView) (tables : TablesView) (number : ℕ) (rest bytes : List ℕ) (count end : ℕ) →
-    CameFirst to_go_on s j bytes count end → Match j tables.tables → tables.places ≡ all_places tables.tables → session_number j name ≡ Some number → rest ≡ drop end bytes → HasRest name s j tables number rest
-has_rest name s j tables number rest bytes count end came match' numbered is behind = record {
-  bytes = bytes;
-  count = count;
-  end = end;
-  came = came;
-  match = match';
-  numbered = numbered;
-  is_number = is;
-  behind = behind;
+pub has_rest : (name : List ℕ) (s : SourceChange) (j : JobView) (tables : TablesView) (number count : ℕ) (rest : List ℕ) → CameWith to_go_on s j count rest → Match j tables → session_number j name ≡ Some number → HasRest name s j tables number rest
+has_rest name s j tables number count rest came match' is = record {
+  bytes = came.bytes;
+  came = came.came;
+  stands = record { few = came.came.within; has = came.has; match = match'; is_number = is; behind = came.behind refl ∙ ap (λ (n : ℕ). drop n (lines_of came.bytes)) (sym came.counts) };
 }
 
 -- a file that is the session's
@@ -114,7 +112,7 @@ other_shown name s j tables number rest marks d a k answer has file differs told
 }
 
 shown_wanting : (name : List ℕ) (s : SourceChange) (a : Account) (k : SinkChange) (answer : ℕ) → IsWritten 7 no_memory_line k answer → Answers (Show name) s (no_change a) k answer
-shown_wanting name s a k answer told = record { status = 7; text = no_memory_line; cause = Stopped refl (WantOfMemory (refl, refl)) refl; told = told }
+shown_wanting name s a k answer told = record { status = 7; text = no_memory_line; cause = Stopped refl (Unread read.NoMemory tt refl) refl; told = told }
 
 retold : (r q : RefusalView) (k : SinkChange) (answer : ℕ) → r ≡ q → IsWritten r.status r.line k answer → IsWritten q.status q.line k answer
 retold r q k answer is told = subst (λ (v : RefusalView). IsWritten v.status v.line k answer) is told
@@ -138,11 +136,11 @@ records j tables before after tasks sets s marks l o from to is = record {
 }
 
 pub recorded : (name : List ℕ) (s : SourceChange) (j : JobView) (tables : TablesView) (number : ℕ) (a : AreasChange) (k : SinkChange) (answer : ℕ) (text : List ℕ) →
-    CameJob to_end s j → Match j tables.tables → tables.places ≡ all_places tables.tables → session_number j name ≡ Some number → (run : HasRun j tables.places a.before a.after) → Records j tables run.sets number text → IsWritten 0 text k answer →
+    CameJob to_end s j → Match j tables → session_number j name ≡ Some number → (run : HasRun j tables.places a.before a.after) → Records j tables run.sets number text → IsWritten 0 text k answer →
     Answers (Marks name) s a k answer
-recorded name s j tables number a k answer text came match' numbered is ran recs told = record {
+recorded name s j tables number a k answer text came match' is ran recs told = record {
   status = 0;
   text = text;
-  cause = Recorded name (refl, refl) (record { job = j; tables = tables; number = number; came = record { came = came; match = match'; numbered = numbered }; is_number = is; ran = ran; records = recs });
+  cause = Recorded name (refl, refl) (record { job = j; tables = tables; number = number; came = record { came = came; match = match' }; is_number = is; ran = ran; records = recs });
   told = told;
 }

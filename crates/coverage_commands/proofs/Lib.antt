@@ -6,10 +6,6 @@ pub mod CompleteLemmas
 pub mod ExactLemmas
 pub mod VerdictLemmas
 pub mod FileLemmas
-pub mod IncomingLemmas
-pub mod InputLemmas
-pub mod OneTables
-pub mod TableLemmas
 pub mod UntouchedLemmas
 pub mod StopLemmas
 pub mod BehindLemmas

@@ -1,59 +1,25 @@
 -- Why no job was come to, or that bytes came which have one: each contradicts the others.
-use Rattle.std.proofs.Common.{◌≡◌, ◌⊎◌, inl, inr, ℕ, ◌<◌, ◌≤◌, Bool, true, false, not, if◌then◌else◌, is_some, Option, Some, None, List, ◌++◌, length, refl, sym, ◌∙◌, ap, subst, arith}
-use Rattle.std.proofs.lemmas.List.{append-nil}
+use Rattle.std.proofs.Common.{◌≡◌, ◌≢◌, ◌⊎◌, inl, inr, ℕ, ◌+◌, ◌<◌, ◌≤◌, Bool, true, false, not, if◌then◌else◌, is_some, Option, Some, None, List, length, refl, sym, ◌∙◌, ap, subst}
 use Rattle.cov_outside.specs.Causes.{Rose}
-use Rattle.cov_outside.specs.Whole.{IsWhole, HasMoreThan}
+use Rattle.cov_outside.specs.declared.whole.ReadFault.{ReadFault}
+use Rattle.cov_outside.specs.declared.whole.ReadFault.TheVariants as read
 use Rattle.session_book.specs.JobView.{JobView}
 use Rattle.session_book.specs.Sessions.{session_of}
-use Rattle.job_text.specs.Lines.{LineView, lines_of}
-use Rattle.job_text.specs.Drafts.{Present}
-use Rattle.job_text.specs.Refusals.{IsBadAt, IsOverAt}
-use Rattle.job_text.specs.declared.limit.Limit.{Limit}
-use Rattle.job_text.proofs.Excluded.{never_over_first}
+use Rattle.job_input.specs.Inputs.{SourceChange, HasJob, CameJob, CameJobless, IsJobFault, IsReadFault, input_limit}
+use Rattle.job_input.proofs.OneInput.{fault_left, left_is, read_wanting, same_job, too_many}
+use Rattle.job_tables.specs.Faults.{job_fault}
+use Rattle.job_tables.specs.declared.faults.TablesFault.{TablesFault}
+use Rattle.job_text.specs.Lines.{lines_of}
+use Rattle.job_text.specs.declared.jobs.JobFault.{JobFault}
+use Rattle.job_text.specs.declared.jobs.JobFault.TheVariants as fault
 use Rattle.job_text.proofs.Excluded as excluded
-use Rattle.job_text.proofs.Spelled.{one_first}
-use Rattle.coverage_commands.specs.Answers.{IsControlled, IsStopped, BadJob, LargeJob, NoSession, Controlled, BadListing, LargeInput, ReadFault, WantOfMemory}
-use Rattle.coverage_commands.specs.Inputs.{HasJob, CameWhole, CameJob, input_limit}
-use Rattle.coverage_commands.specs.Changes.{SourceChange}
+use Rattle.coverage_commands.specs.Answers.{IsStopped, StopsJob, Unread, Jobless, NoSession, Controlled, BadListing}
 use Rattle.coverage_commands.specs.Named.{HasAsked, HasNamed, controlled_asked, first_controlled, if_controlled, session_number}
-use Rattle.coverage_commands.specs.Refusals.{RefusalView, refusal, job_refusal}
-use Rattle.coverage_commands.specs.Words.{Reading, Asked, WithSession, AllWhole, Wanted, no_memory_line, controlled_line}
-
-pub all_of : (b bytes : List ℕ) (rest : Option (List ℕ)) → IsWhole (Some b) rest bytes → b ≡ bytes
-all_of b bytes None w = absurd w.taken
-all_of b bytes (Some ys) w = w.taken ∙ (ap (λ (t : List ℕ). bytes ++ t) w.end ∙ append-nil bytes)
-
--- the bytes that came are those that were left
-pub came_is : (s : SourceChange) (b bytes : List ℕ) → s.left ≡ Some b → CameWhole s bytes → b ≡ bytes
-came_is s b bytes e c = all_of b bytes s.rest (subst (λ (o : Option (List ℕ)). IsWhole o s.rest bytes) e c.whole)
-
--- and they have one job
-pub same_job : (how : Reading) (s : SourceChange) (b : List ℕ) (j k : JobView) → s.left ≡ Some b → HasJob how (lines_of b) j → CameJob how s k → j ≡ k
-same_job how s b j k e has c =
-    let other : HasJob how (lines_of b) k = subst (λ (t : List ℕ). HasJob how (lines_of t) k) (sym (came_is s b c.bytes e c.came)) c.has in
-    (one_first Present (lines_of b) has.count other.count j k has.inside other.inside has.spells other.spells).1
+use Rattle.coverage_commands.specs.Refusals.{RefusalView, refusal, read_refusal, jobless_refusal, tables_refusal}
+use Rattle.coverage_commands.specs.Words.{Asked, WithSession, AllWhole, Wanted, controlled_line, no_memory_line, with_session}
 
 pub not_both : (b : Bool) → b ≡ true → b ≡ false → ⊥
 not_both b p q = let e : true ≡ false = sym p ∙ q in absurd cc
-
-pub not_more : (s : SourceChange) (b : List ℕ) → s.left ≡ Some b → length b ≤ input_limit → HasMoreThan s.left input_limit → ⊥
-not_more s b e l h = let more : HasMoreThan (Some b) input_limit = subst (λ (o : Option (List ℕ)). HasMoreThan o input_limit) e h in absurd (omega arith)
-
-pub over_there : (s : SourceChange) (b bytes : List ℕ) (what : Limit) (n : ℕ) → s.left ≡ Some b → CameWhole s bytes → IsOverAt (lines_of bytes) what n → IsOverAt (lines_of b) what n
-over_there s b bytes what n e came over = subst (λ (x : List ℕ). IsOverAt (lines_of x) what n) (sym (came_is s b bytes e came)) over
-
-pub bad_there : (s : SourceChange) (b bytes : List ℕ) (n : ℕ) → s.left ≡ Some b → CameWhole s bytes → IsBadAt (lines_of bytes) n → IsBadAt (lines_of b) n
-bad_there s b bytes n e came bad = subst (λ (x : List ℕ). IsBadAt (lines_of x) n) (sym (came_is s b bytes e came)) bad
-
-pub has_there : (how : Reading) (s : SourceChange) (b bytes : List ℕ) (j : JobView) → s.left ≡ Some b → CameWhole s bytes → HasJob how (lines_of bytes) j → HasJob how (lines_of b) j
-has_there how s b bytes j e came has = subst (λ (x : List ℕ). HasJob how (lines_of x) j) (sym (came_is s b bytes e came)) has
-
-pub has_here : (how : Reading) (s : SourceChange) (b bytes : List ℕ) (j : JobView) → s.left ≡ Some b → CameWhole s bytes → HasJob how (lines_of b) j → HasJob how (lines_of bytes) j
-has_here how s b bytes j e came has = subst (λ (x : List ℕ). HasJob how (lines_of x) j) (came_is s b bytes e came) has
-
--- a job within the limits passes none
-pub none_over : (how : Reading) (ls : List LineView) (j : JobView) (what : Limit) (n : ℕ) → HasJob how ls j → IsOverAt ls what n → ⊥
-none_over how ls j what n has over = never_over_first ls has.count j what n has.inside has.spells has.within over
 
 -- a session that was named is there or is missing
 pub not_named : (asked : Asked) (j : JobView) (wanted : Wanted) → asked ≡ WithSession wanted → session_number j wanted.name ≡ None → HasAsked asked j → ⊥
@@ -83,118 +49,128 @@ pub all_whole : (j : JobView) → first_controlled j ≡ None → HasAsked AllWh
 all_whole j free = record { named = tt; free = free }
 
 -- a session that must have no controller and has one
-pub is_controlled : (how : Reading) (name : List ℕ) (whole : Bool) (s : SourceChange) (j : JobView) (number : ℕ) (r : RefusalView) → whole ≡ true → session_number j name ≡ Some number → is_some (session_of j number).by ≡ true → r ≡ refusal 14 (controlled_line (session_of j number).name) →
-    CameJob how s j → IsStopped true how (WithSession (record { name = name; whole = whole })) s r.status r.line
-is_controlled how name false s j number r must is by told came = absurd cc
-is_controlled how name true s j number r must is by told came =
-    subst (λ (v : RefusalView). IsStopped true how (WithSession (record { name = name; whole = true })) s v.status v.line) (sym told)
-    (Controlled refl refl (record { job = j; number = number; came = came; controlled = ap (if_controlled j) is ∙ ap (λ (b : Bool). if not b then None else Some number) by; told = refl }))
+pub is_controlled : (name : List ℕ) (whole : Bool) (j : JobView) (number : ℕ) (r : RefusalView) → whole ≡ true → session_number j name ≡ Some number → is_some (session_of j number).by ≡ true → r ≡ refusal 14 (controlled_line (session_of j number).name) →
+    StopsJob (with_session name whole) j r
+is_controlled name false j number r must is by told = absurd cc
+is_controlled name true j number r must is by told = λ more s came.
+    Controlled j number refl came (ap (if_controlled j) is ∙ ap (λ (b : Bool). if not b then None else Some number) by) told
 
-one_missing : (how : Reading) (asked : Asked) (s : SourceChange) (b : List ℕ) (j k : JobView) (wanted : Wanted) → s.left ≡ Some b → HasJob how (lines_of b) j → CameJob how s k → asked ≡ WithSession wanted → session_number k wanted.name ≡ None → HasAsked asked j → ⊥
-one_missing how asked s b j k wanted e has came n none h = not_named asked k wanted n none (subst (λ (i : JobView). HasAsked asked i) (same_job how s b j k e has came) h)
+-- ---- where the bytes that were left are few, and no fault was counted
 
-one_controlled : (how : Reading) (asked : Asked) (s : SourceChange) (b text : List ℕ) (j : JobView) → s.left ≡ Some b → HasJob how (lines_of b) j → IsControlled how asked s text → HasAsked asked j → ⊥
-one_controlled how asked s b text j e has q h = not_free asked q.job q.number q.controlled (subst (λ (i : JobView). HasAsked asked i) (same_job how s b j q.job e has q.came) h)
+-- what is known of a call then
+pub record IsCalm (s : SourceChange) (b : List ℕ) : Type 0 where
+  pub left : s.left ≡ Some b
+  pub few : length b ≤ input_limit
+  pub quiet : Rose s.faults s.later → ⊥
 
--- a job of which one of these is so isn't refused for the other
-missing_or_controlled : (how : Reading) (asked : Asked) (s : SourceChange) (b : List ℕ) (j k : JobView) (wanted : Wanted) (number : ℕ) → s.left ≡ Some b → HasJob how (lines_of b) j → CameJob how s k → asked ≡ WithSession wanted →
-    session_number j wanted.name ≡ None → controlled_asked asked k ≡ Some number → ⊥
-missing_or_controlled how asked s b j k wanted number e has came n none controlled =
-    missing_free asked j wanted number n none (ap (λ (i : JobView). controlled_asked asked i) (same_job how s b j k e has came) ∙ controlled)
+-- a source that wasn't read whole found no memory
+pub unread_stop : (s : SourceChange) (b : List ℕ) (e : ReadFault) (r : RefusalView) → IsCalm s b → IsReadFault s e → r ≡ read_refusal e → r ≡ refusal 7 no_memory_line
+unread_stop s b e r calm h told = told ∙ ap read_refusal (read_wanting s b e calm.left calm.few calm.quiet h)
 
-controlled_or_missing : (how : Reading) (asked : Asked) (s : SourceChange) (b : List ℕ) (j k : JobView) (wanted : Wanted) (number : ℕ) → s.left ≡ Some b → HasJob how (lines_of b) j → CameJob how s k → asked ≡ WithSession wanted →
-    controlled_asked asked j ≡ Some number → session_number k wanted.name ≡ None → ⊥
-controlled_or_missing how asked s b j k wanted number e has came n controlled none =
-    missing_free asked j wanted number n (ap (λ (i : JobView). session_number i wanted.name) (same_job how s b j k e has came) ∙ none) controlled
+-- a job that came is that of the bytes, whatever is so of it
+pub asked_same : (more : Bool) (asked : Asked) (s : SourceChange) (b : List ℕ) (j k : JobView) → IsCalm s b → HasJob more (lines_of b) j → CameJob more s k → HasAsked asked k → HasAsked asked j
+asked_same more asked s b j k calm has came h = subst (λ (i : JobView). HasAsked asked i) (sym (same_job more s b j k calm.left has came)) h
+
+-- bytes that have a job have no other fault of it than want of memory
+jobless_stop : (more : Bool) (s : SourceChange) (b : List ℕ) (j : JobView) (e : JobFault) (r : RefusalView) → IsCalm s b → HasJob more (lines_of b) j → CameJobless more s e → r ≡ jobless_refusal e → r ≡ refusal 7 no_memory_line
+jobless_stop more s b j e r calm has c told = told ∙ ap jobless_refusal ((fault_left more s b e calm.left c).jobless j has)
+
+pub wanting : (r : RefusalView) → r ≡ refusal 7 no_memory_line → r.status ≡ 7
+wanting r e = ap (λ (v : RefusalView). v.status) e
+
+told_status : (r : RefusalView) (status : ℕ) (line : List ℕ) → r ≡ refusal status line → r.status ≡ status
+told_status r status line e = ap (λ (v : RefusalView). v.status) e
 
 -- why no job was come to, where the input has one whose listings match
-pub matched_stop : (how : Reading) (asked : Asked) (s : SourceChange) (status : ℕ) (text b : List ℕ) (j : JobView) → IsStopped true how asked s status text → s.left ≡ Some b → length b ≤ input_limit → HasJob how (lines_of b) j → HasAsked asked j → job_refusal j ≡ None → (Rose s.faults s.later → ⊥) → (status ≡ 7) × (text ≡ no_memory_line)
-matched_stop how asked s status text b j (BadJob t p r) e l has named none quiet = absurd (r.jobless j (has_here how s b r.bytes j e r.came has))
-matched_stop how asked s status text b j (LargeJob t p r) e l has named none quiet = absurd (none_over how (lines_of b) j r.what r.line has (over_there s b r.bytes r.what r.line e r.came r.first_over))
-matched_stop how asked s status text b j (NoSession t p r) e l has named none quiet = absurd (one_missing how asked s b j r.job r.wanted e has r.came r.named r.missing named)
-matched_stop how asked s status text b j (Controlled t p r) e l has named none quiet = absurd (one_controlled how asked s b text j e has r named)
-matched_stop how asked s status text b j (BadListing t r) e l has named none quiet =
-    let q : None ≡ Some (refusal status text) = sym none ∙ (ap job_refusal (same_job how s b j r.job e has r.came) ∙ r.first) in absurd cc
-matched_stop how asked s status text b j (LargeInput p) e l has named none quiet = absurd (not_more s b e l p.2)
-matched_stop how asked s status text b j (ReadFault p) e l has named none quiet = absurd (quiet p.2)
-matched_stop how asked s status text b j (WantOfMemory p) e l has named none quiet = p
+pub matched_stop : (more : Bool) (asked : Asked) (s : SourceChange) (r : RefusalView) (b : List ℕ) (j : JobView) → IsStopped true more asked s r → IsCalm s b → HasJob more (lines_of b) j → HasAsked asked j → job_fault j ≡ None → r ≡ refusal 7 no_memory_line
+matched_stop more asked s r b j (Unread e h told) calm has named none = unread_stop s b e r calm h told
+matched_stop more asked s r b j (Jobless e t h told) calm has named none = jobless_stop more s b j e r calm has h told
+matched_stop more asked s r b j (NoSession k wanted t came is missing told) calm has named none =
+    absurd (not_named asked k wanted is missing (subst (λ (i : JobView). HasAsked asked i) (same_job more s b j k calm.left has came) named))
+matched_stop more asked s r b j (Controlled k number t came controlled told) calm has named none =
+    absurd (not_free asked k number controlled (subst (λ (i : JobView). HasAsked asked i) (same_job more s b j k calm.left has came) named))
+matched_stop more asked s r b j (BadListing k e t came h first told) calm has named none =
+    let clash : None ≡ Some e = sym none ∙ (ap job_fault (same_job more s b j k calm.left has came) ∙ first) in absurd cc
 
-pub refused_stop : (how : Reading) (asked : Asked) (s : SourceChange) (status : ℕ) (text b : List ℕ) (j : JobView) (r : RefusalView) → IsStopped true how asked s status text → s.left ≡ Some b → length b ≤ input_limit → HasJob how (lines_of b) j → HasAsked asked j → job_refusal j ≡ Some r → (Rose s.faults s.later → ⊥) →
-    (status ≡ r.status) ⊎ (status ≡ 7)
-refused_stop how asked s status text b j r (BadJob t p q) e l has named some quiet = absurd (q.jobless j (has_here how s b q.bytes j e q.came has))
-refused_stop how asked s status text b j r (LargeJob t p q) e l has named some quiet = absurd (none_over how (lines_of b) j q.what q.line has (over_there s b q.bytes q.what q.line e q.came q.first_over))
-refused_stop how asked s status text b j r (NoSession t p q) e l has named some quiet = absurd (one_missing how asked s b j q.job q.wanted e has q.came q.named q.missing named)
-refused_stop how asked s status text b j r (Controlled t p q) e l has named some quiet = absurd (one_controlled how asked s b text j e has q named)
-refused_stop how asked s status text b j r (BadListing t q) e l has named some quiet =
-    let x : Some (refusal status text) ≡ Some r = sym q.first ∙ (sym (ap job_refusal (same_job how s b j q.job e has q.came)) ∙ some) in
-    let y : refusal status text ≡ r = cc in inl (ap (λ (v : RefusalView). v.status) y)
-refused_stop how asked s status text b j r (LargeInput p) e l has named some quiet = absurd (not_more s b e l p.2)
-refused_stop how asked s status text b j r (ReadFault p) e l has named some quiet = absurd (quiet p.2)
-refused_stop how asked s status text b j r (WantOfMemory p) e l has named some quiet = inr p.0
+pub refused_stop : (more : Bool) (asked : Asked) (s : SourceChange) (r : RefusalView) (b : List ℕ) (j : JobView) (x : TablesFault) → IsStopped true more asked s r → IsCalm s b → HasJob more (lines_of b) j → HasAsked asked j → job_fault j ≡ Some x →
+    (r.status ≡ (tables_refusal x).status) ⊎ (r.status ≡ 7)
+refused_stop more asked s r b j x (Unread e h told) calm has named some = inr (wanting r (unread_stop s b e r calm h told))
+refused_stop more asked s r b j x (Jobless e t h told) calm has named some = inr (wanting r (jobless_stop more s b j e r calm has h told))
+refused_stop more asked s r b j x (NoSession k wanted t came is missing told) calm has named some =
+    absurd (not_named asked k wanted is missing (subst (λ (i : JobView). HasAsked asked i) (same_job more s b j k calm.left has came) named))
+refused_stop more asked s r b j x (Controlled k number t came controlled told) calm has named some =
+    absurd (not_free asked k number controlled (subst (λ (i : JobView). HasAsked asked i) (same_job more s b j k calm.left has came) named))
+refused_stop more asked s r b j x (BadListing k e t came h first told) calm has named some =
+    let both : Some e ≡ Some x = sym first ∙ (sym (ap job_fault (same_job more s b j k calm.left has came)) ∙ some) in
+    let same : e ≡ x = cc in
+    inl (ap (λ (v : RefusalView). v.status) (told ∙ ap tables_refusal same))
 
--- no job of the input
-abbrev pub HasNone : Reading → List ℕ → Type 0
-HasNone how b = (j : JobView) → HasJob how (lines_of b) j → ⊥
+-- no fault of a job but want of memory is one of bytes that have a job
+pub never_came : (more : Bool) (s : SourceChange) (b : List ℕ) (j : JobView) (e : JobFault) → s.left ≡ Some b → IsJobFault more b e → e ≢ fault.NoMemory → CameJob more s j → ⊥
+never_came more s b j e left is other came = other (is.jobless j (left_is (λ t. HasJob more (lines_of t) j) s b came.bytes left came.came came.has))
 
-pub never_came : (how : Reading) (s : SourceChange) (b : List ℕ) (j : JobView) → s.left ≡ Some b → HasNone how b → CameJob how s j → ⊥
-never_came how s b j e none came = none j (has_there how s b came.bytes j e came.came came.has)
+-- two faults of the same bytes have one status, where neither is want of memory
+same_fault : (more : Bool) (b : List ℕ) (e f : JobFault) → IsJobFault more b e → IsJobFault more b f → e ≢ fault.NoMemory → ((jobless_refusal f).status ≡ (jobless_refusal e).status) ⊎ ((jobless_refusal f).status ≡ 7)
+same_fault more b (fault.BadJob n) (fault.BadJob m) p q other = inl refl
+same_fault more b (fault.BadJob n) (fault.TooLarge what m) p q other = absurd (excluded.not_both (lines_of b) what n m p.first q.first)
+same_fault more b (fault.BadJob n) fault.NoMemory p q other = inr refl
+same_fault more b (fault.TooLarge what n) (fault.BadJob m) p q other = absurd (excluded.not_both (lines_of b) what m n q.first p.first)
+same_fault more b (fault.TooLarge what n) (fault.TooLarge which m) p q other = inl refl
+same_fault more b (fault.TooLarge what n) fault.NoMemory p q other = inr refl
+same_fault more b fault.NoMemory f p q other = absurd (other refl)
 
-pub bad_stop : (how : Reading) (asked : Asked) (s : SourceChange) (status : ℕ) (text b : List ℕ) (n : ℕ) → IsStopped true how asked s status text → s.left ≡ Some b → length b ≤ input_limit → IsBadAt (lines_of b) n → HasNone how b → (Rose s.faults s.later → ⊥) → (status ≡ 2) ⊎ (status ≡ 7)
-bad_stop how asked s status text b n (BadJob t p q) e l bad none quiet = inl p
-bad_stop how asked s status text b n (LargeJob t p q) e l bad none quiet = absurd (excluded.not_both (lines_of b) q.what n q.line bad (over_there s b q.bytes q.what q.line e q.came q.first_over))
-bad_stop how asked s status text b n (NoSession t p q) e l bad none quiet = absurd (never_came how s b q.job e none q.came)
-bad_stop how asked s status text b n (Controlled t p q) e l bad none quiet = absurd (never_came how s b q.job e none q.came)
-bad_stop how asked s status text b n (BadListing t q) e l bad none quiet = absurd (never_came how s b q.job e none q.came)
-bad_stop how asked s status text b n (LargeInput p) e l bad none quiet = absurd (not_more s b e l p.2)
-bad_stop how asked s status text b n (ReadFault p) e l bad none quiet = absurd (quiet p.2)
-bad_stop how asked s status text b n (WantOfMemory p) e l bad none quiet = inr p.0
+told_fault : (r : RefusalView) (f : JobFault) (n : ℕ) → r ≡ jobless_refusal f → ((jobless_refusal f).status ≡ n) ⊎ ((jobless_refusal f).status ≡ 7) → (r.status ≡ n) ⊎ (r.status ≡ 7)
+told_fault r f n told (inl h) = inl (ap (λ (v : RefusalView). v.status) told ∙ h)
+told_fault r f n told (inr h) = inr (ap (λ (v : RefusalView). v.status) told ∙ h)
 
-pub never_large : (how : Reading) (s : SourceChange) (b : List ℕ) (j : JobView) (what : Limit) (n : ℕ) → s.left ≡ Some b → IsOverAt (lines_of b) what n → CameJob how s j → ⊥
-never_large how s b j what n e over came = none_over how (lines_of b) j what n (has_there how s b came.bytes j e came.came came.has) over
+pub bad_stop : (more : Bool) (asked : Asked) (s : SourceChange) (r : RefusalView) (b : List ℕ) (e : JobFault) → IsStopped true more asked s r → IsCalm s b → IsJobFault more b e → e ≢ fault.NoMemory → (r.status ≡ (jobless_refusal e).status) ⊎ (r.status ≡ 7)
+bad_stop more asked s r b e (Unread f h told) calm is other = inr (wanting r (unread_stop s b f r calm h told))
+bad_stop more asked s r b e (Jobless f t h told) calm is other = told_fault r f (jobless_refusal e).status told (same_fault more b e f is (fault_left more s b f calm.left h) other)
+bad_stop more asked s r b e (NoSession k wanted t came named missing told) calm is other = absurd (never_came more s b k e calm.left is other came)
+bad_stop more asked s r b e (Controlled k number t came controlled told) calm is other = absurd (never_came more s b k e calm.left is other came)
+bad_stop more asked s r b e (BadListing k x t came h first told) calm is other = absurd (never_came more s b k e calm.left is other came)
 
-pub over_stop : (how : Reading) (asked : Asked) (s : SourceChange) (status : ℕ) (text b : List ℕ) (what : Limit) (n : ℕ) → IsStopped true how asked s status text → s.left ≡ Some b → length b ≤ input_limit → IsOverAt (lines_of b) what n → (Rose s.faults s.later → ⊥) → (status ≡ 4) ⊎ (status ≡ 7)
-over_stop how asked s status text b what n (BadJob t p q) e l over quiet = absurd (excluded.not_both (lines_of b) what q.line n (bad_there s b q.bytes q.line e q.came q.first_bad) over)
-over_stop how asked s status text b what n (LargeJob t p q) e l over quiet = inl p
-over_stop how asked s status text b what n (NoSession t p q) e l over quiet = absurd (never_large how s b q.job what n e over q.came)
-over_stop how asked s status text b what n (Controlled t p q) e l over quiet = absurd (never_large how s b q.job what n e over q.came)
-over_stop how asked s status text b what n (BadListing t q) e l over quiet = absurd (never_large how s b q.job what n e over q.came)
-over_stop how asked s status text b what n (LargeInput p) e l over quiet = absurd (not_more s b e l p.2)
-over_stop how asked s status text b what n (ReadFault p) e l over quiet = absurd (quiet p.2)
-over_stop how asked s status text b what n (WantOfMemory p) e l over quiet = inr p.0
+pub missing_stop : (more : Bool) (asked : Asked) (s : SourceChange) (r : RefusalView) (b : List ℕ) (j : JobView) (wanted : Wanted) → IsStopped true more asked s r → IsCalm s b → HasJob more (lines_of b) j → asked ≡ WithSession wanted → session_number j wanted.name ≡ None →
+    (r.status ≡ 13) ⊎ (r.status ≡ 7)
+missing_stop more asked s r b j wanted (Unread e h told) calm has n none = inr (wanting r (unread_stop s b e r calm h told))
+missing_stop more asked s r b j wanted (Jobless e t h told) calm has n none = inr (wanting r (jobless_stop more s b j e r calm has h told))
+missing_stop more asked s r b j wanted (NoSession k other t came named missing told) calm has n none = inl (told_status r 13 _ told)
+missing_stop more asked s r b j wanted (Controlled k number t came controlled told) calm has n none =
+    absurd (missing_free asked j wanted number n none (ap (λ (i : JobView). controlled_asked asked i) (same_job more s b j k calm.left has came) ∙ controlled))
+missing_stop more asked s r b j wanted (BadListing k e t came h first told) calm has n none = absurd (not_named asked j wanted n none (asked_same more asked s b j k calm has came h))
 
-pub too_many : (s : SourceChange) (b bytes : List ℕ) → s.left ≡ Some b → input_limit < length b → CameWhole s bytes → ⊥
-too_many s b bytes e l c = let same = ap length (came_is s b bytes e c) in absurd (omega (arith, same, c.within))
+pub controlled_stop : (more : Bool) (asked : Asked) (s : SourceChange) (r : RefusalView) (b : List ℕ) (j : JobView) (number : ℕ) → IsStopped true more asked s r → IsCalm s b → HasJob more (lines_of b) j → controlled_asked asked j ≡ Some number →
+    (r.status ≡ 14) ⊎ (r.status ≡ 7)
+controlled_stop more asked s r b j number (Unread e h told) calm has controlled = inr (wanting r (unread_stop s b e r calm h told))
+controlled_stop more asked s r b j number (Jobless e t h told) calm has controlled = inr (wanting r (jobless_stop more s b j e r calm has h told))
+controlled_stop more asked s r b j number (NoSession k wanted t came named missing told) calm has controlled =
+    absurd (missing_free asked j wanted number named (ap (λ (i : JobView). session_number i wanted.name) (same_job more s b j k calm.left has came) ∙ missing) controlled)
+controlled_stop more asked s r b j number (Controlled k other t came is told) calm has controlled = inl (told_status r 14 _ told)
+controlled_stop more asked s r b j number (BadListing k e t came h first told) calm has controlled = absurd (not_free asked j number controlled (asked_same more asked s b j k calm has came h))
 
-pub large_stop : (job : Bool) (how : Reading) (asked : Asked) (s : SourceChange) (status : ℕ) (text b : List ℕ) → IsStopped job how asked s status text → s.left ≡ Some b → input_limit < length b → (Rose s.faults s.later → ⊥) → (status ≡ 4) ⊎ (status ≡ 7)
-large_stop job how asked s status text b (BadJob t p q) e l quiet = absurd (too_many s b q.bytes e l q.came)
-large_stop job how asked s status text b (LargeJob t p q) e l quiet = absurd (too_many s b q.bytes e l q.came)
-large_stop job how asked s status text b (NoSession t p q) e l quiet = absurd (too_many s b q.came.bytes e l q.came.came)
-large_stop job how asked s status text b (Controlled t p q) e l quiet = absurd (too_many s b q.came.bytes e l q.came.came)
-large_stop job how asked s status text b (BadListing t q) e l quiet = absurd (too_many s b q.came.bytes e l q.came.came)
-large_stop job how asked s status text b (LargeInput p) e l quiet = inl p.0
-large_stop job how asked s status text b (ReadFault p) e l quiet = absurd (quiet p.2)
-large_stop job how asked s status text b (WantOfMemory p) e l quiet = inr p.0
+-- ---- where they are too many
 
-pub missing_stop : (how : Reading) (asked : Asked) (s : SourceChange) (status : ℕ) (text b : List ℕ) (j : JobView) (wanted : Wanted) → IsStopped true how asked s status text → s.left ≡ Some b → length b ≤ input_limit → HasJob how (lines_of b) j → asked ≡ WithSession wanted → session_number j wanted.name ≡ None → (Rose s.faults s.later → ⊥) →
-    (status ≡ 13) ⊎ (status ≡ 7)
-missing_stop how asked s status text b j wanted (BadJob t p q) e l has n none quiet = absurd (q.jobless j (has_here how s b q.bytes j e q.came has))
-missing_stop how asked s status text b j wanted (LargeJob t p q) e l has n none quiet = absurd (none_over how (lines_of b) j q.what q.line has (over_there s b q.bytes q.what q.line e q.came q.first_over))
-missing_stop how asked s status text b j wanted (NoSession t p q) e l has n none quiet = inl p
-missing_stop how asked s status text b j wanted (Controlled t p q) e l has n none quiet = absurd (missing_or_controlled how asked s b j q.job wanted q.number e has q.came n none q.controlled)
-missing_stop how asked s status text b j wanted (BadListing t q) e l has n none quiet =
-    absurd (not_named asked j wanted n none (subst (λ (i : JobView). HasAsked asked i) (sym (same_job how s b j q.job e has q.came)) q.has))
-missing_stop how asked s status text b j wanted (LargeInput p) e l has n none quiet = absurd (not_more s b e l p.2)
-missing_stop how asked s status text b j wanted (ReadFault p) e l has n none quiet = absurd (quiet p.2)
-missing_stop how asked s status text b j wanted (WantOfMemory p) e l has n none quiet = inr p.0
+large_read : (s : SourceChange) (e : ReadFault) → (Rose s.faults s.later → ⊥) → IsReadFault s e → ((read_refusal e).status ≡ 4) ⊎ ((read_refusal e).status ≡ 7)
+large_read s read.Failed quiet h = absurd (quiet h)
+large_read s read.TooLarge quiet h = inl refl
+large_read s read.NoMemory quiet h = inr refl
 
-pub controlled_stop : (how : Reading) (asked : Asked) (s : SourceChange) (status : ℕ) (text b : List ℕ) (j : JobView) (number : ℕ) → IsStopped true how asked s status text → s.left ≡ Some b → length b ≤ input_limit → HasJob how (lines_of b) j → controlled_asked asked j ≡ Some number →
-    (Rose s.faults s.later → ⊥) → (status ≡ 14) ⊎ (status ≡ 7)
-controlled_stop how asked s status text b j number (BadJob t p q) e l has controlled quiet = absurd (q.jobless j (has_here how s b q.bytes j e q.came has))
-controlled_stop how asked s status text b j number (LargeJob t p q) e l has controlled quiet = absurd (none_over how (lines_of b) j q.what q.line has (over_there s b q.bytes q.what q.line e q.came q.first_over))
-controlled_stop how asked s status text b j number (NoSession t p q) e l has controlled quiet = absurd (controlled_or_missing how asked s b j q.job q.wanted number e has q.came q.named controlled q.missing)
-controlled_stop how asked s status text b j number (Controlled t p q) e l has controlled quiet = inl p
-controlled_stop how asked s status text b j number (BadListing t q) e l has controlled quiet =
-    absurd (not_free asked j number controlled (subst (λ (i : JobView). HasAsked asked i) (sym (same_job how s b j q.job e has q.came)) q.has))
-controlled_stop how asked s status text b j number (LargeInput p) e l has controlled quiet = absurd (not_more s b e l p.2)
-controlled_stop how asked s status text b j number (ReadFault p) e l has controlled quiet = absurd (quiet p.2)
-controlled_stop how asked s status text b j number (WantOfMemory p) e l has controlled quiet = inr p.0
+told_read : (r : RefusalView) (e : ReadFault) → r ≡ read_refusal e → ((read_refusal e).status ≡ 4) ⊎ ((read_refusal e).status ≡ 7) → (r.status ≡ 4) ⊎ (r.status ≡ 7)
+told_read r e told (inl h) = inl (ap (λ (v : RefusalView). v.status) told ∙ h)
+told_read r e told (inr h) = inr (ap (λ (v : RefusalView). v.status) told ∙ h)
+
+pub large_stop : (job more : Bool) (asked : Asked) (s : SourceChange) (r : RefusalView) (b : List ℕ) → IsStopped job more asked s r → s.left ≡ Some b → input_limit < length b → (Rose s.faults s.later → ⊥) → (r.status ≡ 4) ⊎ (r.status ≡ 7)
+large_stop job more asked s r b (Unread e h told) left l quiet = told_read r e told (large_read s e quiet h)
+large_stop job more asked s r b (Jobless e t h told) left l quiet = absurd (too_many s b h.bytes left l h.came)
+large_stop job more asked s r b (NoSession k wanted t came named missing told) left l quiet = absurd (too_many s b came.bytes left l came.came)
+large_stop job more asked s r b (Controlled k number t came is told) left l quiet = absurd (too_many s b came.bytes left l came.came)
+large_stop job more asked s r b (BadListing k e t came h first told) left l quiet = absurd (too_many s b came.bytes left l came.came)
+
+-- ---- where bytes alone are read
+
+pub files_stop : (more : Bool) (asked : Asked) (s : SourceChange) (r : RefusalView) (b : List ℕ) → IsStopped false more asked s r → IsCalm s b → r.status ≡ 7
+files_stop more asked s r b (Unread e h told) calm = wanting r (unread_stop s b e r calm h told)
+files_stop more asked s r b (Jobless e t h told) calm = absurd (not_both false t refl)
+files_stop more asked s r b (NoSession k wanted t came named missing told) calm = absurd (not_both false t refl)
+files_stop more asked s r b (Controlled k number t came is told) calm = absurd (not_both false t refl)
+files_stop more asked s r b (BadListing k e t came h first told) calm = absurd (not_both false t refl)

@@ -2,7 +2,6 @@
 use Rattle.std.proofs.Common.{◌≡◌, ◌⊎◌, inl, inr, ℕ, ◌+◌, true, Option, Some, None, List, [], ◌∷◌, ◌++◌, length, drop, refl, sym, ◌∙◌, ap, subst}
 use Rattle.cov_base.specs.Facts.{no_facts}
 use Rattle.cov_base.specs.declared.facts.Fact.{Fact}
-use Rattle.cov_outside.specs.Causes.{Rose}
 use Rattle.brk_table.specs.Places.{TablesView, first_place}
 use Rattle.evidence_check.specs.Claims.{facts_of_modules, places_claims, modules_claims, past_places, evidence_claims, first_refuted}
 use Rattle.evidence_check.specs.Fields.{evidence_fields}
@@ -17,15 +16,18 @@ use Rattle.session_book.specs.Sessions.{session_of}
 use Rattle.session_marks.specs.Marked.{session_rows}
 use Rattle.table_combine.specs.Combine.{first_difference}
 use Rattle.coverage_commands.specs.Answers.{IsStopped, IsCause, Report, ReportedEarly, Recorded, Places, ToldEnds, Replayed, BadSchedule, United, BadFile, OtherFile, Shown, BadShown, OtherShown, Proved, Counted, Checked, Usage, Stopped, NoMemoryToRun, Tried, NoMemoryToTry}
-use Rattle.coverage_commands.specs.Changes.{SourceChange, AreasChange}
+use Rattle.job_input.specs.Inputs.{SourceChange, to_go_on}
+use Rattle.coverage_commands.specs.Changes.{AreasChange}
 use Rattle.coverage_commands.specs.Checked.{Verdict, IsVerdict, OfFile, judged, judged_by, verdict_status}
 use Rattle.coverage_commands.specs.Checked.{BadFile as BadMarks, NoFile as NoStart}
-use Rattle.coverage_commands.specs.Complete.{StandsBehind}
-use Rattle.coverage_commands.specs.Words.{reads_job, to_go_on, reading_of, asked_of, makes_areas, reports_run, makes_job}
+use Rattle.coverage_commands.specs.Ready.{StandsBehind}
+use Rattle.coverage_commands.specs.Refusals.{refusal}
+use Rattle.coverage_commands.specs.Words.{Asked, way_of, with_session}
+use Rattle.coverage_commands.proofs.WordLemmas.{no_report}
 use Rattle.coverage_commands.specs.declared.words.Command.{Command}
-use Rattle.coverage_commands.specs.declared.words.Command.TheVariants.{Early, Count, Marks, Table, Ends, Replay, Combine, Show, Prove, Verify, Unknown}
+use Rattle.coverage_commands.specs.declared.words.Command.TheVariants.{Early, Count, Marks, Trial, Table, Ends, Replay, Combine, Show, Prove, Verify, Unknown}
 use Rattle.coverage_commands.proofs.BehindLemmas.{IsSame, one_rest}
-use Rattle.coverage_commands.proofs.StopLemmas.{whole_named, not_both, matched_stop}
+use Rattle.coverage_commands.proofs.StopLemmas.{IsCalm, whole_named, not_both, matched_stop, wanting}
 
 same_claims : (a b : TablesView) (firsts : ℕ → Fact → Option First) (row : ℕ) (ms : List MarkedView) (ns bs : List ℕ) → ((n : ℕ) → first_place a.tables n ≡ first_place b.tables n) → modules_claims a firsts row ms ns bs ≡ modules_claims b firsts row ms ns bs
 same_claims a b firsts row [] ns bs h = refl
@@ -72,33 +74,34 @@ pub data IsChecking (j : JobView) (tables : TablesView) (number : ℕ) (rest : L
 pub one_check : (c : Command) (n name : List ℕ) → c ≡ Verify n → c ≡ Verify name → n ≡ name
 one_check c n name p q = let x : Verify n ≡ Verify name = sym p ∙ q in cc
 
-pub check_outcome : (c : Command) (name : List ℕ) (s : SourceChange) (a : AreasChange) (status : ℕ) (text b : List ℕ) (j : JobView) (tables : TablesView) (number : ℕ) (rest : List ℕ) → IsCause c s a status text → c ≡ Verify name → StandsBehind name b j tables number rest → (session_of j number).by ≡ None → s.left ≡ Some b →
-    (Rose s.faults s.later → ⊥) → IsChecking j tables number rest status
-check_outcome c name s a status text b j tables number rest (Report p q) same h free e quiet = absurd (not_both (reports_run c) p.1 (ap reports_run same))
-check_outcome c name s a status text b j tables number rest (ReportedEarly p q) same h free e quiet = let x : Early ≡ Verify name = sym p.1 ∙ same in absurd cc
-check_outcome c name s a status text b j tables number rest (Recorded n p q) same h free e quiet = let x : Marks n ≡ Verify name = sym p.1 ∙ same in absurd cc
-check_outcome c name s a status text b j tables number rest (Places p q k) same h free e quiet = let x : Table ≡ Verify name = sym p.1 ∙ same in absurd cc
-check_outcome c name s a status text b j tables number rest (ToldEnds p q k) same h free e quiet = let x : Ends ≡ Verify name = sym p.1 ∙ same in absurd cc
-check_outcome c name s a status text b j tables number rest (Replayed p q k) same h free e quiet = let x : Replay ≡ Verify name = sym p.1 ∙ same in absurd cc
-check_outcome c name s a status text b j tables number rest (BadSchedule p q k) same h free e quiet = let x : Replay ≡ Verify name = sym p.1 ∙ same in absurd cc
-check_outcome c name s a status text b j tables number rest (United p q k) same h free e quiet = let x : Combine ≡ Verify name = sym p.1 ∙ same in absurd cc
-check_outcome c name s a status text b j tables number rest (BadFile p q k) same h free e quiet = let x : Combine ≡ Verify name = sym p.1 ∙ same in absurd cc
-check_outcome c name s a status text b j tables number rest (OtherFile p q k) same h free e quiet = let x : Combine ≡ Verify name = sym p.1 ∙ same in absurd cc
-check_outcome c name s a status text b j tables number rest (Shown n p q k) same h free e quiet = let x : Show n ≡ Verify name = sym p.1 ∙ same in absurd cc
-check_outcome c name s a status text b j tables number rest (BadShown n p q k) same h free e quiet = let x : Show n ≡ Verify name = sym p.1 ∙ same in absurd cc
-check_outcome c name s a status text b j tables number rest (OtherShown n p q k) same h free e quiet = let x : Show n ≡ Verify name = sym p.1 ∙ same in absurd cc
-check_outcome c name s a status text b j tables number rest (Proved n p q k) same h free e quiet = let x : Prove n ≡ Verify name = sym p.1 ∙ same in absurd cc
-check_outcome c name s a status text b j tables number rest (Counted p q k) same h free e quiet = let x : Count ≡ Verify name = sym p.1 ∙ same in absurd cc
-check_outcome c name s a status text b j tables number rest (Checked n p q k) same h free e quiet =
-    let i = one_rest name n s b j q.job tables q.tables number q.number rest q.rest (one_check c n name p same) e q.has h in
+pub check_outcome : (c : Command) (name : List ℕ) (s : SourceChange) (a : AreasChange) (status : ℕ) (text b : List ℕ) (j : JobView) (tables : TablesView) (number : ℕ) (rest : List ℕ) → IsCause c s a status text → c ≡ Verify name → StandsBehind name b j tables number rest → (session_of j number).by ≡ None → IsCalm s b →
+    IsChecking j tables number rest status
+check_outcome c name s a status text b j tables number rest (Report course p q) same h free calm = absurd (no_report c (Verify name) course p.1 same refl)
+check_outcome c name s a status text b j tables number rest (ReportedEarly p q) same h free calm = let x : Early ≡ Verify name = sym p.1 ∙ same in absurd cc
+check_outcome c name s a status text b j tables number rest (Recorded n p q) same h free calm = let x : Marks n ≡ Verify name = sym p.1 ∙ same in absurd cc
+check_outcome c name s a status text b j tables number rest (Places p q k) same h free calm = let x : Table ≡ Verify name = sym p.1 ∙ same in absurd cc
+check_outcome c name s a status text b j tables number rest (ToldEnds p q k) same h free calm = let x : Ends ≡ Verify name = sym p.1 ∙ same in absurd cc
+check_outcome c name s a status text b j tables number rest (Replayed p q k) same h free calm = let x : Replay ≡ Verify name = sym p.1 ∙ same in absurd cc
+check_outcome c name s a status text b j tables number rest (BadSchedule p q k) same h free calm = let x : Replay ≡ Verify name = sym p.1 ∙ same in absurd cc
+check_outcome c name s a status text b j tables number rest (United p q k) same h free calm = let x : Combine ≡ Verify name = sym p.1 ∙ same in absurd cc
+check_outcome c name s a status text b j tables number rest (BadFile p q k) same h free calm = let x : Combine ≡ Verify name = sym p.1 ∙ same in absurd cc
+check_outcome c name s a status text b j tables number rest (OtherFile p q k) same h free calm = let x : Combine ≡ Verify name = sym p.1 ∙ same in absurd cc
+check_outcome c name s a status text b j tables number rest (Shown n p q k) same h free calm = let x : Show n ≡ Verify name = sym p.1 ∙ same in absurd cc
+check_outcome c name s a status text b j tables number rest (BadShown n p q k) same h free calm = let x : Show n ≡ Verify name = sym p.1 ∙ same in absurd cc
+check_outcome c name s a status text b j tables number rest (OtherShown n p q k) same h free calm = let x : Show n ≡ Verify name = sym p.1 ∙ same in absurd cc
+check_outcome c name s a status text b j tables number rest (Proved n p q k) same h free calm = let x : Prove n ≡ Verify name = sym p.1 ∙ same in absurd cc
+check_outcome c name s a status text b j tables number rest (Counted p q k) same h free calm = let x : Count ≡ Verify name = sym p.1 ∙ same in absurd cc
+check_outcome c name s a status text b j tables number rest (Checked n p q k) same h free calm =
+    let i = one_rest name n s b j q.job tables q.tables number q.number rest q.rest (one_check c n name p same) calm.left q.has h in
     Judged q.verdict (same_verdict j q.job tables q.tables number q.number rest q.rest q.verdict i q.is) q.is_status
-check_outcome c name s a status text b j tables number rest (Usage p k) same h free e quiet = let x : Unknown ≡ Verify name = sym p.1 ∙ same in absurd cc
-check_outcome c name s a status text b j tables number rest (Stopped p q k) same h free e quiet =
-    let stop : IsStopped true to_go_on (asked_of (Verify name)) s status text = subst (λ (d : Command). IsStopped (reads_job d) (reading_of d) (asked_of d) s status text) same q in
-    Unjudged (matched_stop to_go_on (asked_of (Verify name)) s status text b j stop e h.few h.has (whole_named j name number h.is_number free) h.match.faultless quiet).0
-check_outcome c name s a status text b j tables number rest (NoMemoryToRun p q) same h free e quiet = absurd (not_both (makes_areas c) p.1 (ap makes_areas same))
-check_outcome c name s a status text b j tables number rest (Tried n tasks p q) same h free e quiet = absurd (not_both (makes_job c) (ap makes_job p.1) (ap makes_job same))
-check_outcome c name s a status text b j tables number rest (NoMemoryToTry p q) same h free e quiet = absurd (not_both (makes_job c) p.1 (ap makes_job same))
+check_outcome c name s a status text b j tables number rest (Usage p k) same h free calm = let x : Unknown ≡ Verify name = sym p.1 ∙ same in absurd cc
+check_outcome c name s a status text b j tables number rest (Stopped p q k) same h free calm =
+    let asks : Asked = with_session name true in
+    let stop : IsStopped true to_go_on asks s (refusal status text) = subst (λ (d : Command). IsStopped (way_of d).reads_job (way_of d).more (way_of d).asked s (refusal status text)) same q in
+    Unjudged (wanting (refusal status text) (matched_stop to_go_on asks s (refusal status text) b j stop calm h.has (whole_named j name number h.is_number free) h.match.faultless))
+check_outcome c name s a status text b j tables number rest (NoMemoryToRun p q) same h free calm = absurd (not_both (way_of c).makes_areas p.1 (ap (λ (d : Command). (way_of d).makes_areas) same))
+check_outcome c name s a status text b j tables number rest (Tried n tasks p q) same h free calm = absurd (not_both (way_of c).makes_job (ap (λ (d : Command). (way_of d).makes_job) p.1) (ap (λ (d : Command). (way_of d).makes_job) same))
+check_outcome c name s a status text b j tables number rest (NoMemoryToTry p q) same h free calm = absurd (not_both (way_of c).makes_job p.1 (ap (λ (d : Command). (way_of d).makes_job) same))
 
 pub checked_case : (j : JobView) (tables : TablesView) (number : ℕ) (rest : List ℕ) (status : ℕ) (v : Verdict) → IsChecking j tables number rest status → IsVerdict j tables number rest v → (status ≡ verdict_status v) ⊎ (status ≡ 7)
 checked_case j tables number rest status v (Judged w i z) is = inl (z ∙ ap verdict_status (one_verdict j tables number rest w v i is))

@@ -1,52 +1,40 @@
 -- What is so of the commands that report on a run.
-use Rattle.std.proofs.Common.{◌≡◌, true, refl, sym, subst}
-use Rattle.brk_table.specs.Places.{TablesView}
+use Rattle.std.proofs.Common.{◌≡◌, true, Some, None, Option, refl, sym, ◌∙◌, ap, subst}
+use Rattle.check_exits.specs.Exits.{with_exits}
 use Rattle.session_book.specs.JobView.{JobView}
-use Rattle.coverage_commands.specs.Answers.{IsReady}
-use Rattle.coverage_commands.specs.Changes.{SourceChange}
-use Rattle.coverage_commands.specs.Inputs.{CameMatched}
+use Rattle.task_run.specs.Courses.{Course, solo}
 use Rattle.coverage_commands.specs.Named.{HasAsked}
-use Rattle.coverage_commands.specs.Words.{reads_job, Reading, to_end, AnyJob, reading_of, reports_run, asked_of}
+use Rattle.coverage_commands.specs.Words.{AnyJob, way_of}
 use Rattle.coverage_commands.specs.declared.words.Command.{Command}
 use Rattle.coverage_commands.specs.declared.words.Command.TheVariants.{Run, Exits, Early, Count, Marks, Trial, Table, Ends, Replay, Combine, Show, Prove, Verify, Unknown}
 
+some_same : (a b : Course) → Some a ≡ Some b → a ≡ b
+some_same a b e = cc
+
+none_some : (a : Course) → None ≡ Some a → ⊥
+none_some a e = absurd cc
+
 -- there are two of them
-pub by_report : (is : Command → Type 0) (c : Command) → reports_run c ≡ true → is Run → is Exits → is c
-by_report is Run h r e = r
-by_report is Exits h r e = e
-by_report is Early h r e = absurd cc
-by_report is Count h r e = absurd cc
-by_report is (Marks name) h r e = absurd cc
-by_report is (Trial number tasks) h r e = absurd cc
-by_report is Table h r e = absurd cc
-by_report is Ends h r e = absurd cc
-by_report is Replay h r e = absurd cc
-by_report is Combine h r e = absurd cc
-by_report is (Show name) h r e = absurd cc
-by_report is (Prove name) h r e = absurd cc
-by_report is (Verify name) h r e = absurd cc
-by_report is Unknown h r e = absurd cc
+pub by_report : (is : Command → Course → Type 0) (c : Command) (course : Course) → (way_of c).reports ≡ Some course → is Run solo → is Exits with_exits → is c course
+by_report is Run course h r e = subst (λ (x : Course). is Run x) (some_same solo course h) r
+by_report is Exits course h r e = subst (λ (x : Course). is Exits x) (some_same with_exits course h) e
+by_report is Early course h r e = absurd (none_some course h)
+by_report is Count course h r e = absurd (none_some course h)
+by_report is (Marks name) course h r e = absurd (none_some course h)
+by_report is (Trial number tasks) course h r e = absurd (none_some course h)
+by_report is Table course h r e = absurd (none_some course h)
+by_report is Ends course h r e = absurd (none_some course h)
+by_report is Replay course h r e = absurd (none_some course h)
+by_report is Combine course h r e = absurd (none_some course h)
+by_report is (Show name) course h r e = absurd (none_some course h)
+by_report is (Prove name) course h r e = absurd (none_some course h)
+by_report is (Verify name) course h r e = absurd (none_some course h)
+by_report is Unknown course h r e = absurd (none_some course h)
+
+-- and no others
+pub no_report : (c d : Command) (course : Course) → (way_of c).reports ≡ Some course → c ≡ d → (way_of d).reports ≡ None → ⊥
+no_report c d course h same none = none_some course (sym none ∙ (sym (ap (λ (x : Command). (way_of x).reports) same) ∙ h))
 
 -- every job does where nothing is asked
 pub any_job : (j : JobView) → HasAsked AnyJob j
 any_job j = record { named = tt; free = refl }
-
--- they ask for no session
-pub unnamed : (c : Command) (j : JobView) → reports_run c ≡ true → HasAsked (asked_of c) j
-unnamed c j h = by_report (λ d. HasAsked (asked_of d) j) c h (any_job j) (any_job j)
-
--- and read a job and no more
-pub read_alone : (c : Command) → reports_run c ≡ true → reading_of c ≡ to_end
-read_alone c h = by_report (λ d. reading_of d ≡ to_end) c h refl refl
-
-pub job_read : (c : Command) → reports_run c ≡ true → reads_job c ≡ true
-job_read c h = by_report (λ d. reads_job d ≡ true) c h refl refl
-
-pub ready_to_run : (c : Command) (s : SourceChange) (j : JobView) (tables : TablesView) → reports_run c ≡ true → CameMatched to_end s j tables → IsReady c s
-ready_to_run c s j tables h came = record {
-  job = j;
-  tables = tables;
-  reads = job_read c h;
-  came = subst (λ (how : Reading). CameMatched how s j tables) (sym (read_alone c h)) came;
-  has = unnamed c j h;
-}

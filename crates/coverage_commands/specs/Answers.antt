@@ -1,18 +1,18 @@
 -- What the program answers: its status and text, by the words and the bytes that came.
-use Rattle.std.specs.Prelude.{◌≡◌, ◌⊎◌, ℕ, ◌≤◌, Bool, true, Option, Some, None, List, drop}
+use Rattle.std.specs.Prelude.{◌≡◌, ◌⊎◌, ℕ, ◌≤◌, Bool, true, Option, Some, None, List, length, drop}
 use Rattle.std.specs.Io.KnownBytes.{Appends}
 use Rattle.cov_outside.specs.Causes.{Rose}
-use Rattle.cov_outside.specs.Whole.{HasMoreThan, AppendsSome}
-use Rattle.cov_outside.specs.declared.whole.ReadFault.{ReadFault as InputFault}
-use Rattle.cov_outside.specs.declared.whole.ReadFault.TheVariants as read
-use Rattle.brk_table.specs.Places.{TablesView, all_places}
+use Rattle.cov_outside.specs.Whole.{AppendsSome}
+use Rattle.cov_outside.specs.declared.whole.ReadFault.{ReadFault}
+use Rattle.brk_table.specs.Places.{TablesView}
 use Rattle.session_book.specs.JobView.{JobView}
 use Rattle.session_book.specs.Sessions.{session_of}
+use Rattle.job_input.specs.Inputs.{SourceChange, CameWhole, CameJob, CameJobless, HasJob, IsReadFault, input_limit, to_end, to_go_on}
+use Rattle.job_tables.specs.Faults.{job_fault}
+use Rattle.job_tables.specs.Tables.{Match}
+use Rattle.job_tables.specs.declared.faults.TablesFault.{TablesFault}
 use Rattle.job_text.specs.declared.jobs.JobFault.{JobFault}
-use Rattle.job_text.specs.declared.jobs.JobFault.TheVariants as fault
-use Rattle.job_text.specs.declared.limit.Limit.{Limit}
 use Rattle.job_text.specs.Lines.{lines_of}
-use Rattle.job_text.specs.Refusals.{IsBadAt, IsOverAt}
 use Rattle.interleave_core.specs.World.{Parts}
 use Rattle.early_report.specs.Text.{early_of}
 use Rattle.report_text.specs.Report.{report_of}
@@ -24,31 +24,19 @@ use Rattle.schedule_play.specs.declared.playing.Played.{Played}
 use Rattle.coverage_commands.specs.declared.words.Command.TheVariants.{Early, Count, Marks, Trial, Table, Ends, Replay, Combine, Show, Prove, Verify, Unknown}
 use Rattle.coverage_commands.specs.Checked.{IsProof, IsCheck}
 use Rattle.coverage_commands.specs.Files.{IsUnion, IsBadFile, IsOtherFile, IsShown, IsBadShown, IsOtherShown}
-use Rattle.coverage_commands.specs.Inputs.{CameWhole, CameJob, CameFirst, CameMatched, HasJob, input_limit}
 use Rattle.coverage_commands.specs.Named.{HasAsked, controlled_asked, first_controlled, session_number}
-use Rattle.coverage_commands.specs.Refusals.{RefusalView, refusal, job_refusal, Match}
+use Rattle.coverage_commands.specs.Ready.{CameMatched}
+use Rattle.coverage_commands.specs.Refusals.{RefusalView, refusal, read_refusal, jobless_refusal, tables_refusal}
 use Rattle.job_run.specs.Runs.{HasRun, HasRunBy}
 use Rattle.task_run.specs.Courses.{Course, solo}
-use Rattle.coverage_commands.specs.Changes.{SourceChange, SinkChange, AreasChange}
+use Rattle.coverage_commands.specs.Changes.{SinkChange, AreasChange}
 use Rattle.coverage_commands.specs.Drained.{AreDrained}
 use Rattle.coverage_commands.specs.Reports.{Reports, Records, Counts}
 use Rattle.schedule_play.specs.Play.{Play, Bad, Whole, play_of}
 use Rattle.schedule_play.specs.Run.{IsRun}
 use Rattle.schedule_play.specs.Text.{replay_text}
 use Rattle.coverage_commands.specs.Trial.{IsUnread, IsTried}
-use Rattle.coverage_commands.specs.Words.{reads_input, reads_job, Reading, to_end, to_go_on, reading_of, makes_areas, makes_job, reports_run, course_of, Asked, WithSession, Wanted, asked_of, usage_line, too_large_input_line, read_fault_line, no_memory_line, bad_job_line, large_job_line, bad_schedule_line, no_session_line, controlled_line}
-
--- how a job that wasn't read is told
-abbrev pub fault_refusal : JobFault → RefusalView
-fault_refusal (fault.BadJob n) = refusal 2 (bad_job_line n)
-fault_refusal (fault.TooLarge what n) = refusal 4 (large_job_line what n)
-fault_refusal fault.NoMemory = refusal 7 no_memory_line
-
--- how an input that wasn't read whole is told
-abbrev pub read_refusal : InputFault → RefusalView
-read_refusal read.Failed = refusal 5 read_fault_line
-read_refusal read.TooLarge = refusal 4 too_large_input_line
-read_refusal read.NoMemory = refusal 7 no_memory_line
+use Rattle.coverage_commands.specs.Words.{way_of, Asked, WithSession, Wanted, usage_line, no_memory_line, bad_schedule_line, no_session_line, controlled_line}
 
 -- the report of a job whose listings match, whose tasks took this course
 pub record IsReport (course : Course) (s : SourceChange) (a : AreasChange) (text : List ℕ) : Type 0 where
@@ -92,15 +80,18 @@ pub record IsEndsText (s : SourceChange) (text : List ℕ) : Type 0 where
   pub came : CameMatched to_end s job tables
   pub is_text : text ≡ ends_text job (end_of job tables.places) (unlisted_of job tables.places)
 
--- a job whose listings match, and how the schedule in the bytes behind it plays
+-- a job whose listings match, and how the schedule in the lines behind it plays
+pub record Plays (bytes : List ℕ) (job : JobView) (tables : TablesView) (play : Play) : Type 0 where
+  pub few : length bytes ≤ input_limit
+  pub has : HasJob to_go_on (lines_of bytes) job
+  pub match : Match job tables
+  pub plays : play_of job tables.places has.count (drop has.count (lines_of bytes)) ≡ play
+
+-- in the bytes that came
 pub record HasPlay (s : SourceChange) (job : JobView) (tables : TablesView) (play : Play) : Type 0 where
   pub bytes : List ℕ
-  pub count : ℕ
-  pub end : ℕ
-  pub came : CameFirst to_go_on s job bytes count end
-  pub match : Match job tables.tables
-  pub numbered : tables.places ≡ all_places tables.tables
-  pub plays : play_of job tables.places count (lines_of (drop end bytes)) ≡ play
+  pub came : CameWhole s bytes
+  pub plays : Plays bytes job tables play
 
 -- the whole schedule is possible, and the text tells it
 pub record IsReplayed (s : SourceChange) (text : List ℕ) : Type 0 where
@@ -120,59 +111,18 @@ pub record IsBadSchedule (s : SourceChange) (text : List ℕ) : Type 0 where
   pub has : HasPlay s job tables (Bad line)
   pub told : text ≡ bad_schedule_line line
 
--- the first line with which no job goes on, where no job has ended before it
-pub record IsBadJob (how : Reading) (s : SourceChange) (text : List ℕ) : Type 0 where
-  pub bytes : List ℕ
-  pub line : ℕ
-  pub came : CameWhole s bytes
-  pub first_bad : IsBadAt (lines_of bytes) line
-  pub jobless : (j : JobView) → HasJob how (lines_of bytes) j → ⊥
-  pub told : text ≡ bad_job_line line
+-- why the input wasn't read whole or, where it is to have a job, no job with its tables was come to, and how that is told
+pub data IsStopped (job more : Bool) (asked : Asked) (s : SourceChange) (r : RefusalView) : Type 0 where
+  Unread : (e : ReadFault) → IsReadFault s e → r ≡ read_refusal e → IsStopped job more asked s r
+  Jobless : (e : JobFault) → job ≡ true → CameJobless more s e → r ≡ jobless_refusal e → IsStopped job more asked s r
+  NoSession : (j : JobView) (wanted : Wanted) → job ≡ true → CameJob more s j → asked ≡ WithSession wanted → session_number j wanted.name ≡ None → r ≡ refusal 13 (no_session_line wanted.name) → IsStopped job more asked s r
+  -- the session that was named, or the job's first
+  Controlled : (j : JobView) (number : ℕ) → job ≡ true → CameJob more s j → controlled_asked asked j ≡ Some number → r ≡ refusal 14 (controlled_line (session_of j number).name) → IsStopped job more asked s r
+  BadListing : (j : JobView) (e : TablesFault) → job ≡ true → CameJob more s j → HasAsked asked j → job_fault j ≡ Some e → r ≡ tables_refusal e → IsStopped job more asked s r
 
--- the first line with which a limit is passed
-pub record IsLargeJob (how : Reading) (s : SourceChange) (text : List ℕ) : Type 0 where
-  pub bytes : List ℕ
-  pub what : Limit
-  pub line : ℕ
-  pub came : CameWhole s bytes
-  pub first_over : IsOverAt (lines_of bytes) what line
-  pub told : text ≡ large_job_line what line
-
--- no session of the job has the name
-pub record IsNoSession (how : Reading) (asked : Asked) (s : SourceChange) (text : List ℕ) : Type 0 where
-  pub job : JobView
-  pub wanted : Wanted
-  pub came : CameJob how s job
-  pub named : asked ≡ WithSession wanted
-  pub missing : session_number job wanted.name ≡ None
-  pub told : text ≡ no_session_line wanted.name
-
--- a session has a controller where none may: the one that was named, or the job's first
-pub record IsControlled (how : Reading) (asked : Asked) (s : SourceChange) (text : List ℕ) : Type 0 where
-  pub job : JobView
-  pub number : ℕ
-  pub came : CameJob how s job
-  pub controlled : controlled_asked asked job ≡ Some number
-  pub told : text ≡ controlled_line (session_of job number).name
-
--- the first fault of a job's listings, where its sessions are as was asked
-pub record IsBadListing (how : Reading) (asked : Asked) (s : SourceChange) (status : ℕ) (text : List ℕ) : Type 0 where
-  pub job : JobView
-  pub came : CameJob how s job
-  pub has : HasAsked asked job
-  pub first : job_refusal job ≡ Some (refusal status text)
-
--- Why the input wasn't read whole or, where it is to have a job, no job with its tables was come to. Each cause has its own
--- status; a refused listing has that of its fault, 3, 4, 8 or 12.
-pub data IsStopped (job : Bool) (how : Reading) (asked : Asked) (s : SourceChange) (status : ℕ) (text : List ℕ) : Type 0 where
-  BadJob : job ≡ true → status ≡ 2 → IsBadJob how s text → IsStopped job how asked s status text
-  LargeJob : job ≡ true → status ≡ 4 → IsLargeJob how s text → IsStopped job how asked s status text
-  NoSession : job ≡ true → status ≡ 13 → IsNoSession how asked s text → IsStopped job how asked s status text
-  Controlled : job ≡ true → status ≡ 14 → IsControlled how asked s text → IsStopped job how asked s status text
-  BadListing : job ≡ true → IsBadListing how asked s status text → IsStopped job how asked s status text
-  LargeInput : (status ≡ 4) × (text ≡ too_large_input_line) × HasMoreThan s.left input_limit × (s.later ≡ s.faults) → IsStopped job how asked s status text
-  ReadFault : (status ≡ 5) × (text ≡ read_fault_line) × Rose s.faults s.later → IsStopped job how asked s status text
-  WantOfMemory : (status ≡ 7) × (text ≡ no_memory_line) → IsStopped job how asked s status text
+-- a job that came isn't taken for this, however it came
+abbrev pub StopsJob : Asked → JobView → RefusalView → Type 0
+StopsJob asked j r = (more : Bool) (s : SourceChange) → CameJob more s j → IsStopped true more asked s r
 
 -- the counts of a job whose listings match and whose sessions have no controller
 pub record IsCount (s : SourceChange) (text : List ℕ) : Type 0 where
@@ -186,14 +136,14 @@ pub record IsCount (s : SourceChange) (text : List ℕ) : Type 0 where
 pub record IsReady (c : Command) (s : SourceChange) : Type 0 where
   pub job : JobView
   pub tables : TablesView
-  pub reads : reads_job c ≡ true
-  pub came : CameMatched (reading_of c) s job tables
-  pub has : HasAsked (asked_of c) job
+  pub reads : (way_of c).reads_job ≡ true
+  pub came : CameMatched (way_of c).more s job tables
+  pub has : HasAsked (way_of c).asked job
 
 -- Why the call answers with this status and text, leaving out whether the text could be written. Nothing but a report,
 -- marks file or summary of a run, and want of memory in the run of a job whose listings match, has made an area.
 pub data IsCause (c : Command) (s : SourceChange) (a : AreasChange) (status : ℕ) (text : List ℕ) : Type 0 where
-  Report : (status ≡ 0) × (reports_run c ≡ true) → IsReport (course_of c) s a text → IsCause c s a status text
+  Report : (course : Course) → (status ≡ 0) × ((way_of c).reports ≡ Some course) → IsReport course s a text → IsCause c s a status text
   ReportedEarly : (status ≡ 0) × (c ≡ Early) → IsEarlyReport s a text → IsCause c s a status text
   Recorded : (name : List ℕ) → (status ≡ 0) × (c ≡ Marks name) → IsRecord name s a text → IsCause c s a status text
   Places : (status ≡ 0) × (c ≡ Table) → IsPlacesText s text → a.after ≡ a.before → IsCause c s a status text
@@ -210,10 +160,10 @@ pub data IsCause (c : Command) (s : SourceChange) (a : AreasChange) (status : �
   Counted : (status ≡ 0) × (c ≡ Count) → IsCount s text → a.after ≡ a.before → IsCause c s a status text
   Checked : (name : List ℕ) → c ≡ Verify name → IsCheck name s status text → a.after ≡ a.before → IsCause c s a status text
   Usage : (status ≡ 1) × (c ≡ Unknown) × (text ≡ usage_line) × (s.rest ≡ s.left) × (s.later ≡ s.faults) → a.after ≡ a.before → IsCause c s a status text
-  Stopped : reads_input c ≡ true → IsStopped (reads_job c) (reading_of c) (asked_of c) s status text → a.after ≡ a.before → IsCause c s a status text
-  NoMemoryToRun : (status ≡ 7) × (makes_areas c ≡ true) × (text ≡ no_memory_line) → IsReady c s → IsCause c s a status text
+  Stopped : (way_of c).reads_input ≡ true → IsStopped (way_of c).reads_job (way_of c).more (way_of c).asked s (refusal status text) → a.after ≡ a.before → IsCause c s a status text
+  NoMemoryToRun : (status ≡ 7) × ((way_of c).makes_areas ≡ true) × (text ≡ no_memory_line) → IsReady c s → IsCause c s a status text
   Tried : (number tasks : ℕ) → (status ≡ 0) × (c ≡ Trial number tasks) → IsTried number tasks s a text → IsCause c s a status text
-  NoMemoryToTry : (status ≡ 7) × (makes_job c ≡ true) × (text ≡ no_memory_line) → IsUnread s → IsCause c s a status text
+  NoMemoryToTry : (status ≡ 7) × ((way_of c).makes_job ≡ true) × (text ≡ no_memory_line) → IsUnread s → IsCause c s a status text
 
 -- the text was written whole, or its first bytes where the sink failed; its count of faults never falls
 abbrev pub IsWritten : ℕ → List ℕ → SinkChange → ℕ → Type 0

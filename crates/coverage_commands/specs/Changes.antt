@@ -1,15 +1,8 @@
--- What a call makes of a source, a sink and areas: what each tells before it and after it.
+-- What a call makes of a sink and areas: what each tells before it and after it.
 use Rattle.std.specs.Prelude.{ℕ, List, Option}
 use Rattle.module_area.specs.FinalsView.{FinalsView}
 use Rattle.module_area.specs.declared.tallies.Tally.{Tally}
 use Rattle.job_run.specs.Runs.{Account}
-
--- what a source had left, and its count of faults
-pub record SourceChange : Type 0 where
-  pub left : Option (List ℕ)
-  pub rest : Option (List ℕ)
-  pub faults : ℕ
-  pub later : ℕ
 
 -- what was written to a sink, and its count of faults
 pub record SinkChange : Type 0 where
@@ -22,9 +15,6 @@ pub record SinkChange : Type 0 where
 pub record AreasChange : Type 0 where
   pub before : Account
   pub after : Account
-
-abbrev pub source_change : {S : Type 0} → (S → Option (List ℕ)) → (S → ℕ) → S → S → SourceChange
-source_change left faults old new = record { left = left old; rest = left new; faults = faults old; later = faults new }
 
 abbrev pub sink_change : {K : Type 0} → (K → Option (List ℕ)) → (K → ℕ) → K → K → SinkChange
 sink_change written faults old new = record { written = written old; grown = written new; faults = faults old; later = faults new }

@@ -15,12 +15,11 @@ use Rattle.session_book.specs.JobView.{JobView}
 use Rattle.session_book.specs.Sessions.{session_of}
 use Rattle.session_marks.specs.Marked.{session_rows}
 use Rattle.table_combine.specs.Combine.{Difference, first_difference}
-use Rattle.coverage_commands.specs.Changes.{SourceChange}
-use Rattle.coverage_commands.specs.Files.{HasRest}
-use Rattle.coverage_commands.specs.Inputs.{CameMatched}
+use Rattle.job_input.specs.Inputs.{SourceChange, to_end}
+use Rattle.coverage_commands.specs.Ready.{CameMatched, HasRest}
 use Rattle.coverage_commands.specs.Named.{session_number}
 use Rattle.coverage_commands.specs.Refusals.{RefusalView, refusal}
-use Rattle.coverage_commands.specs.Words.{to_end, no_memory_line, bad_marks_line, other_table_line, bad_evidence_line, refuted_line, verified_line}
+use Rattle.coverage_commands.specs.Words.{no_memory_line, bad_marks_line, other_table_line, bad_evidence_line, refuted_line, verified_line}
 
 -- the evidence of the facts of the session of this name, which has no controller, of a job whose listings match
 pub record IsProof (name : List ℕ) (s : SourceChange) (text : List ℕ) : Type 0 where
@@ -34,21 +33,21 @@ pub record IsProof (name : List ℕ) (s : SourceChange) (text : List ℕ) : Type
 
 -- what marks and evidence behind a job come to, in the order in which the causes come
 pub data Verdict : Type 0 where
-  BadFile : (offset : ℕ) → Verdict
+  BadMarks : (offset : ℕ) → Verdict
   OtherTable : (difference : Difference) → Verdict
   BadEvidence : (offset : ℕ) → Verdict
   Refuted : (row : ℕ) (fact : Fact) → Verdict
   Verified : (facts : ℕ) → Verdict
 
 abbrev pub verdict_status : Verdict → ℕ
-verdict_status (BadFile offset) = 10
+verdict_status (BadMarks offset) = 10
 verdict_status (OtherTable d) = 11
 verdict_status (BadEvidence offset) = 15
 verdict_status (Refuted row fact) = 16
 verdict_status (Verified facts) = 0
 
 abbrev pub verdict_line : List ℕ → Verdict → List ℕ
-verdict_line name (BadFile offset) = bad_marks_line offset
+verdict_line name (BadMarks offset) = bad_marks_line offset
 verdict_line name (OtherTable d) = other_table_line d
 verdict_line name (BadEvidence offset) = bad_evidence_line offset
 verdict_line name (Refuted row fact) = refuted_line row fact
@@ -68,7 +67,7 @@ judged j tables s modules bytes =
 
 -- of the bytes behind a job, which begin with a marks file of either version or with none; behind it is the evidence
 pub data IsVerdict (j : JobView) (tables : TablesView) (s : ℕ) (rest : List ℕ) (v : Verdict) : Type 0 where
-  NoFile : (offset : ℕ) → first_bad (file_fields 0 rest) ≡ Some offset → v ≡ BadFile offset → IsVerdict j tables s rest v
+  NoFile : (offset : ℕ) → first_bad (file_fields 0 rest) ≡ Some offset → v ≡ BadMarks offset → IsVerdict j tables s rest v
   OfFile : (marks : MarksView) (end : ℕ) → keeps_rules marks ≡ true → HasFile 0 rest marks end → v ≡ judged j tables s marks.modules (drop end rest) → IsVerdict j tables s rest v
 
 -- a marks file with exactly the sets of the session's executions, and behind it exactly their evidence

@@ -1,54 +1,49 @@
 -- The answer that the words and bytes have, and that the call gives it.
-use Rattle.std.specs.Prelude.{◌≡◌, ◌<◌, ◌⊎◌, ℕ, ◌≤◌, true, false, Some, None, if◌then◌else◌, List, [], ◌∷◌, ◌++◌, length, drop}
+use Rattle.std.specs.Prelude.{◌≡◌, ◌≢◌, ◌<◌, ◌⊎◌, ℕ, ◌≤◌, true, false, Some, None, List, length}
 use Rattle.cov_outside.specs.Causes.{Rose}
-use Rattle.brk_table.specs.Places.{TablesView, all_places}
+use Rattle.brk_table.specs.Places.{TablesView}
 use Rattle.session_book.specs.JobView.{JobView}
 use Rattle.session_book.specs.Sessions.{session_of}
-use Rattle.job_text.specs.declared.limit.Limit.{Limit}
 use Rattle.cov_base.specs.FactSet.{FactSet}
-use Rattle.job_text.specs.Lines.{LineView, lines_of}
+use Rattle.job_input.specs.Inputs.{SourceChange, HasJob, IsJobFault, input_limit}
+use Rattle.job_tables.specs.Faults.{job_fault}
+use Rattle.job_tables.specs.declared.faults.TablesFault.{TablesFault}
+use Rattle.job_text.specs.declared.jobs.JobFault.{JobFault}
+use Rattle.job_text.specs.declared.jobs.JobFault.TheVariants as fault
+use Rattle.job_text.specs.Lines.{lines_of}
 use Rattle.marks_file.specs.Marks.{MarkedView, MarksView}
 use Rattle.marks_file.specs.MarksFile.{rows}
 use Rattle.session_marks.specs.Marked.{session_marks, session_rows}
 use Rattle.table_combine.specs.Combine.{Difference, first_difference}
 use Rattle.table_combine.specs.Files.{IsCombined, IsBad, IsOtherTable}
-use Rattle.job_text.specs.Refusals.{IsBadAt, IsOverAt}
 use Rattle.coverage_commands.specs.declared.words.Command.{Command}
 use Rattle.coverage_commands.specs.declared.words.Command.TheVariants.{Replay, Combine, Show, Verify, Unknown}
+use Rattle.coverage_commands.specs.Answers.{Plays}
 use Rattle.coverage_commands.specs.Checked.{Verdict, IsVerdict, verdict_status, HasVerified}
 use Rattle.coverage_commands.specs.Files.{IsFile, IsNoFile}
-use Rattle.coverage_commands.specs.Inputs.{HasJob, input_limit}
 use Rattle.coverage_commands.specs.Named.{HasAsked, controlled_asked, session_number}
-use Rattle.coverage_commands.specs.Changes.{SourceChange, SinkChange}
-use Rattle.coverage_commands.specs.Refusals.{RefusalView, job_refusal, Match}
-use Rattle.schedule_play.specs.Play.{play_of, play_status}
-use Rattle.coverage_commands.specs.Words.{reads_input, reads_job, makes_job, to_go_on, WithSession, Wanted, reading_of, asked_of}
+use Rattle.coverage_commands.specs.Changes.{SinkChange}
+use Rattle.coverage_commands.specs.Ready.{StandsBehind}
+use Rattle.coverage_commands.specs.Refusals.{jobless_refusal, tables_refusal}
+use Rattle.schedule_play.specs.Play.{Play, play_status}
+use Rattle.coverage_commands.specs.Words.{way_of, WithSession, Wanted}
 
--- the bytes of lines
-abbrev pub bytes_of : List LineView → List ℕ
-bytes_of [] = []
-bytes_of (l ∷ ls) = l.bytes ++ ((if l.ended then 10 ∷ [] else []) ++ bytes_of ls)
-
--- a job whose listings match, the number of its session of this name, and the bytes behind its lines
-pub record StandsBehind (name bytes : List ℕ) (j : JobView) (tables : TablesView) (number : ℕ) (rest : List ℕ) : Type 0 where
+-- the command reads a job, and these bytes have this one
+pub record TakesJob (c : Command) (bytes : List ℕ) (j : JobView) : Type 0 where
+  pub reads : (way_of c).reads_job ≡ true
   pub few : length bytes ≤ input_limit
-  pub has : HasJob to_go_on (lines_of bytes) j
-  pub match : Match j tables.tables
-  pub numbered : tables.places ≡ all_places tables.tables
-  pub is_number : session_number j name ≡ Some number
-  pub behind : rest ≡ bytes_of (drop has.count (lines_of bytes))
+  pub has : HasJob (way_of c).more (lines_of bytes) j
 
 -- The status that the words and bytes have, leaving out faults of the source and the sink, and want of memory. That of
 -- `trial` doesn't depend on bytes.
 pub data IsAnswer (c : Command) (bytes : List ℕ) (status : ℕ) : Type 0 where
   Usage : c ≡ Unknown → status ≡ 1 → IsAnswer c bytes status
-  LargeInput : reads_input c ≡ true → input_limit < length bytes → status ≡ 4 → IsAnswer c bytes status
-  BadJob : (n : ℕ) → reads_job c ≡ true → length bytes ≤ input_limit → IsBadAt (lines_of bytes) n → ((j : JobView) → HasJob (reading_of c) (lines_of bytes) j → ⊥) → status ≡ 2 → IsAnswer c bytes status
-  LargeJob : (what : Limit) (n : ℕ) → reads_job c ≡ true → length bytes ≤ input_limit → IsOverAt (lines_of bytes) what n → status ≡ 4 → IsAnswer c bytes status
-  NoSession : (j : JobView) (wanted : Wanted) → reads_job c ≡ true → length bytes ≤ input_limit → HasJob (reading_of c) (lines_of bytes) j → asked_of c ≡ WithSession wanted → session_number j wanted.name ≡ None → status ≡ 13 → IsAnswer c bytes status
-  Controlled : (j : JobView) (number : ℕ) → reads_job c ≡ true → length bytes ≤ input_limit → HasJob (reading_of c) (lines_of bytes) j → controlled_asked (asked_of c) j ≡ Some number → status ≡ 14 → IsAnswer c bytes status
-  BadListing : (j : JobView) (r : RefusalView) → reads_job c ≡ true → length bytes ≤ input_limit → HasJob (reading_of c) (lines_of bytes) j → HasAsked (asked_of c) j → job_refusal j ≡ Some r → status ≡ r.status → IsAnswer c bytes status
-  Matched : (j : JobView) → reads_job c ≡ true → (reading_of c).more ≡ false → length bytes ≤ input_limit → HasJob (reading_of c) (lines_of bytes) j → HasAsked (asked_of c) j → job_refusal j ≡ None → status ≡ 0 → IsAnswer c bytes status
+  LargeInput : (way_of c).reads_input ≡ true → input_limit < length bytes → status ≡ 4 → IsAnswer c bytes status
+  Jobless : (e : JobFault) → (way_of c).reads_job ≡ true → length bytes ≤ input_limit → IsJobFault (way_of c).more bytes e → e ≢ fault.NoMemory → status ≡ (jobless_refusal e).status → IsAnswer c bytes status
+  NoSession : (j : JobView) (wanted : Wanted) → TakesJob c bytes j → (way_of c).asked ≡ WithSession wanted → session_number j wanted.name ≡ None → status ≡ 13 → IsAnswer c bytes status
+  Controlled : (j : JobView) (number : ℕ) → TakesJob c bytes j → controlled_asked (way_of c).asked j ≡ Some number → status ≡ 14 → IsAnswer c bytes status
+  BadListing : (j : JobView) (e : TablesFault) → TakesJob c bytes j → HasAsked (way_of c).asked j → job_fault j ≡ Some e → status ≡ (tables_refusal e).status → IsAnswer c bytes status
+  Matched : (j : JobView) → TakesJob c bytes j → (way_of c).more ≡ false → HasAsked (way_of c).asked j → job_fault j ≡ None → status ≡ 0 → IsAnswer c bytes status
   United : (marks : MarksView) → c ≡ Combine → length bytes ≤ input_limit → IsCombined bytes marks → status ≡ 0 → IsAnswer c bytes status
   BadFile : (offset : ℕ) → c ≡ Combine → length bytes ≤ input_limit → IsBad bytes offset → status ≡ 10 → IsAnswer c bytes status
   OtherFile : (d : Difference) → c ≡ Combine → length bytes ≤ input_limit → IsOtherTable bytes d → status ≡ 11 → IsAnswer c bytes status
@@ -57,13 +52,12 @@ pub data IsAnswer (c : Command) (bytes : List ℕ) (status : ℕ) : Type 0 where
   OtherShown : (name : List ℕ) (j : JobView) (tables : TablesView) (number : ℕ) (rest : List ℕ) (modules : List MarkedView) (d : Difference) → c ≡ Show name → StandsBehind name bytes j tables number rest →
       IsFile rest modules → first_difference 0 (session_rows j tables number) (rows modules) ≡ Some d → status ≡ 11 → IsAnswer c bytes status
   Checked : (name : List ℕ) (j : JobView) (tables : TablesView) (number : ℕ) (rest : List ℕ) (v : Verdict) → c ≡ Verify name → StandsBehind name bytes j tables number rest → (session_of j number).by ≡ None → IsVerdict j tables number rest v → status ≡ verdict_status v → IsAnswer c bytes status
-  Replayed : (j : JobView) (tables : TablesView) (has : HasJob to_go_on (lines_of bytes) j) → c ≡ Replay → length bytes ≤ input_limit → Match j tables.tables → tables.places ≡ all_places tables.tables →
-      status ≡ play_status (play_of j tables.places has.count (drop has.count (lines_of bytes))) → IsAnswer c bytes status
+  Replayed : (j : JobView) (tables : TablesView) (play : Play) → c ≡ Replay → Plays bytes j tables play → status ≡ play_status play → IsAnswer c bytes status
 
 -- where no fault of source or sink was counted, the status is that of the words and bytes, or 7; that of `trial` is 0 or 7
 pub record IsComplete (c : Command) (s : SourceChange) (k : SinkChange) (answer : ℕ) : Type 0 where
   pub usage : c ≡ Unknown → (Rose k.faults k.later → ⊥) → answer ≡ 1
-  pub tried : makes_job c ≡ true → (Rose k.faults k.later → ⊥) → (answer ≡ 0) ⊎ (answer ≡ 7)
+  pub tried : (way_of c).makes_job ≡ true → (Rose k.faults k.later → ⊥) → (answer ≡ 0) ⊎ (answer ≡ 7)
   pub answers : (bytes : List ℕ) (status : ℕ) → s.left ≡ Some bytes → IsAnswer c bytes status → (Rose s.faults s.later → ⊥) → (Rose k.faults k.later → ⊥) → (answer ≡ status) ⊎ (answer ≡ 7)
 
 -- the bytes have a job and behind it marks and evidence of its session of this name, which has no controller: exactly the sets

@@ -1,6 +1,6 @@
 -- What the program makes of marks files: the union of several, and the listings that one of them marks.
-use Rattle.std.specs.Prelude.{◌≡◌, ◌≢◌, ◌⊎◌, ℕ, true, Some, List, [], ◌∷◌, ◌++◌, length, drop, codes}
-use Rattle.brk_table.specs.Places.{TablesView, all_places}
+use Rattle.std.specs.Prelude.{◌≡◌, ◌≢◌, ◌⊎◌, ℕ, true, Some, List, [], ◌∷◌, ◌++◌, length, codes}
+use Rattle.brk_table.specs.Places.{TablesView}
 use Rattle.cov_base.specs.FactSet.{FactSet}
 use Rattle.marks_file.specs.Marks.{MarkedView, MarksView, keeps_rules}
 use Rattle.marks_file.specs.MarksFile.{file_bytes, Tells, rows}
@@ -15,11 +15,10 @@ use Rattle.table_combine.specs.Combine.{Difference, first_difference, difference
 use Rattle.table_combine.specs.declared.files.CombineFault.{CombineFault}
 use Rattle.table_combine.specs.declared.files.CombineFault.TheVariants as fault
 use Rattle.table_combine.specs.Files.{IsCombined, IsBad, IsOtherTable}
-use Rattle.coverage_commands.specs.Changes.{SourceChange}
-use Rattle.coverage_commands.specs.Inputs.{CameWhole, CameFirst}
-use Rattle.coverage_commands.specs.Named.{session_number}
-use Rattle.coverage_commands.specs.Refusals.{RefusalView, refusal, Match}
-use Rattle.coverage_commands.specs.Words.{to_go_on, no_memory_line, bad_marks_line, other_table_line}
+use Rattle.job_input.specs.Inputs.{SourceChange, CameWhole}
+use Rattle.coverage_commands.specs.Ready.{HasRest}
+use Rattle.coverage_commands.specs.Refusals.{RefusalView, refusal}
+use Rattle.coverage_commands.specs.Words.{no_memory_line, bad_marks_line, other_table_line}
 
 -- the bytes that came are files of one table, and the text is the file of their union
 pub record IsUnion (s : SourceChange) (text : List ℕ) : Type 0 where
@@ -50,17 +49,6 @@ abbrev pub combine_refusal : CombineFault → RefusalView
 combine_refusal (fault.BadMarks offset) = refusal 10 (bad_marks_line offset)
 combine_refusal (fault.Other e) = refusal 11 (other_table_line (difference_of e))
 combine_refusal fault.NoMemory = refusal 7 no_memory_line
-
--- a job whose listings match, the number of its session of this name, and the bytes behind the job
-pub record HasRest (name : List ℕ) (s : SourceChange) (job : JobView) (tables : TablesView) (number : ℕ) (rest : List ℕ) : Type 0 where
-  pub bytes : List ℕ
-  pub count : ℕ
-  pub end : ℕ
-  pub came : CameFirst to_go_on s job bytes count end
-  pub match : Match job tables.tables
-  pub numbered : tables.places ≡ all_places tables.tables
-  pub is_number : session_number job name ≡ Some number
-  pub behind : rest ≡ drop end bytes
 
 -- one whole marks file of these modules behind a job, of either version, whatever name and runs it tells
 pub record IsFile (rest : List ℕ) (modules : List MarkedView) : Type 0 where

@@ -3,11 +3,9 @@ pub mod Changes
 pub mod Checked
 pub mod Complete
 pub mod Refusals
-pub mod Refused
+pub mod Ready
 pub mod Reports
 pub mod Words
-pub mod Incoming
-pub mod Inputs
 pub mod Named
 pub mod Drained
 pub mod Files

@@ -1,5 +1,5 @@
 -- The session of a name, and those that have a controller.
-use Rattle.std.specs.Prelude.{◌≡◌, ℕ, ◌+◌, if◌then◌else◌, Option, Some, None, IsSome, List, [], ◌∷◌, bytes_eq}
+use Rattle.std.specs.Prelude.{◌≡◌, ℕ, ◌+◌, ◌<◌, ◌≤◌, length, if◌then◌else◌, Option, Some, None, IsSome, List, [], ◌∷◌, bytes_eq}
 use Rattle.session_book.specs.JobView.{JobView, SessionView}
 use Rattle.session_book.specs.Sessions.{session_of, is_whole}
 use Rattle.coverage_commands.specs.Words.{Asked, AnyJob, WithSession, AllWhole}
@@ -11,6 +11,12 @@ number_from n (s ∷ ss) name = if bytes_eq s.name name then Some n else number_
 
 abbrev pub session_number : JobView → List ℕ → Option ℕ
 session_number j name = number_from 1 j.sessions name
+
+-- it has this number
+pub record IsSessionOf (j : JobView) (name : List ℕ) (s : ℕ) : Type 0 where
+  pub number : session_number j name ≡ Some s
+  pub from : 0 < s
+  pub to : s ≤ length j.sessions
 
 -- the number of the first of these sessions that has a controller, counted on from n
 abbrev pub controlled_from : ℕ → List SessionView → Option ℕ

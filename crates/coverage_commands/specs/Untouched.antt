@@ -7,23 +7,23 @@ use Rattle.check_exits.specs.Exits.{with_exits}
 use Rattle.task_run.specs.Courses.{solo}
 use Rattle.coverage_commands.specs.declared.words.Command.{Command}
 use Rattle.coverage_commands.specs.declared.words.Command.TheVariants.{Run, Exits, Early, Marks, Trial}
-use Rattle.coverage_commands.specs.Answers.{IsReport, IsEarlyReport, IsRecord}
-use Rattle.coverage_commands.specs.Changes.{SourceChange, SinkChange, AreasChange}
-use Rattle.coverage_commands.specs.Complete.{IsAnswer}
-use Rattle.coverage_commands.specs.Inputs.{CameJob}
-use Rattle.coverage_commands.specs.Refusals.{job_refusal}
+use Rattle.coverage_commands.specs.Answers.{Answers, IsReport, IsEarlyReport, IsRecord}
+use Rattle.job_input.specs.Inputs.{SourceChange, CameJob}
+use Rattle.job_tables.specs.Faults.{job_fault}
+use Rattle.coverage_commands.specs.Changes.{SinkChange, AreasChange}
+use Rattle.coverage_commands.specs.Complete.{IsAnswer, IsComplete, IsExact}
 use Rattle.coverage_commands.specs.Named.{HasAsked}
 use Rattle.coverage_commands.specs.Trial.{IsTried}
-use Rattle.coverage_commands.specs.Words.{reads_job, makes_areas, makes_job, reading_of, asked_of, no_memory_line}
+use Rattle.coverage_commands.specs.Words.{way_of, no_memory_line}
 
 -- Ledger, sets and number of the areas are as they were for every command that runs no tasks over areas, after every refusal
 -- that was told, where the source has failed, and, of a command that reads a job, where none came whose listings match and
 -- whose sessions are as was asked, be it told or not.
 pub record IsUntouched (c : Command) (s : SourceChange) (a : AreasChange) (answer : ℕ) : Type 0 where
-  pub others : makes_areas c ≡ false → a.after ≡ a.before
+  pub others : (way_of c).makes_areas ≡ false → a.after ≡ a.before
   pub refused : answer ≢ 0 → answer ≢ 6 → answer ≢ 7 → a.after ≡ a.before
   pub failed : s.later ≢ s.faults → a.after ≡ a.before
-  pub unmatched : reads_job c ≡ true → ((j : JobView) → CameJob (reading_of c) s j → HasAsked (asked_of c) j → job_refusal j ≡ None → ⊥) → a.after ≡ a.before
+  pub unmatched : (way_of c).reads_job ≡ true → ((j : JobView) → CameJob (way_of c).more s j → HasAsked (way_of c).asked j → job_fault j ≡ None → ⊥) → a.after ≡ a.before
   pub unreported : (bytes : List ℕ) (status : ℕ) → s.left ≡ Some bytes → IsAnswer c bytes status → status ≢ 0 → a.after ≡ a.before
 
 -- what a command that runs tasks writes: the report, a session's marks file, or the summary of a generated job
@@ -44,7 +44,7 @@ pub record HasReport (c : Command) (s : SourceChange) (a : AreasChange) (k : Sin
 -- the words and bytes have a report and no fault of the source was counted; `trial` has its summary in any case
 pub data HasText (c : Command) (s : SourceChange) : Type 0 where
   Read : (bytes : List ℕ) → s.left ≡ Some bytes → IsAnswer c bytes 0 → (Rose s.faults s.later → ⊥) → HasText c s
-  Made : makes_job c ≡ true → HasText c s
+  Made : (way_of c).makes_job ≡ true → HasText c s
 
 -- and the sink has failed
 pub record IsCut (c : Command) (s : SourceChange) (answer : ℕ) : Type 0 where
@@ -53,5 +53,14 @@ pub record IsCut (c : Command) (s : SourceChange) (answer : ℕ) : Type 0 where
 
 -- what the first bytes are then of: the report, or the line of want of memory
 pub record IsReportCut (c : Command) (s : SourceChange) (a : AreasChange) (k : SinkChange) (answer : ℕ) : Type 0 where
-  pub report : makes_areas c ≡ true → IsCut c s answer → (AppendsSome k.written k.grown no_memory_line → ⊥) → HasReport c s a k
-  pub either : makes_areas c ≡ true → IsCut c s answer → HasReport c s a k ⊎ AppendsSome k.written k.grown no_memory_line
+  pub report : (way_of c).makes_areas ≡ true → IsCut c s answer → (AppendsSome k.written k.grown no_memory_line → ⊥) → HasReport c s a k
+  pub either : (way_of c).makes_areas ≡ true → IsCut c s answer → HasReport c s a k ⊎ AppendsSome k.written k.grown no_memory_line
+
+-- all that is promised of a call: its answer; that it is complete; that of `verify` it is exact; when the areas are as they were;
+-- and what a report that wasn't written whole says of them
+pub record IsServed (c : Command) (s : SourceChange) (a : AreasChange) (k : SinkChange) (answer : ℕ) : Type 0 where
+  pub answers : Answers c s a k answer
+  pub complete : IsComplete c s k answer
+  pub exact : IsExact c s k answer
+  pub untouched : IsUntouched c s a answer
+  pub cut : IsReportCut c s a k answer

@@ -1,4 +1,4 @@
--- The words of a command, what it asks of its input, and the lines that a refusal is told by.
+-- The words of a command, what it reads and makes, and the lines that a refusal is told by.
 use Rattle.std.specs.Prelude.{ℕ, ◌≤◌, Bool, true, false, ◌&&◌, nat_le, nat_lt, if◌then◌else◌, Option, Some, None, List, [], ◌∷◌, ◌++◌, bytes_eq, codes, decimal}
 use Rattle.std.specs.Str.Parse.{digits_value}
 use Rattle.cov_base.specs.Names.{name_at, unpadded}
@@ -39,77 +39,6 @@ command_of (w ∷ n ∷ []) = command_named w (name_at n)
 command_of (w ∷ n ∷ t ∷ []) = command_numbered w (number_at n) (number_at t)
 command_of words = Unknown
 
--- it runs tasks over areas
-abbrev pub makes_areas : Command → Bool
-makes_areas Run = true
-makes_areas Exits = true
-makes_areas Early = true
-makes_areas (Marks name) = true
-makes_areas (Trial number tasks) = true
-makes_areas c = false
-
--- its text is the report of the run of a job that it reads
-abbrev pub reports_run : Command → Bool
-reports_run Run = true
-reports_run Exits = true
-reports_run c = false
-
--- the course that the tasks take which it runs
-abbrev pub course_of : Command → Course
-course_of Exits = with_exits
-course_of c = solo
-
--- it makes its job in place of reading
-abbrev pub makes_job : Command → Bool
-makes_job (Trial number tasks) = true
-makes_job c = false
-
--- a generated job has 1 to 64 tasks
-abbrev pub HasFewTasks : Command → Type 0
-HasFewTasks (Trial number tasks) = (1 ≤ tasks) × (tasks ≤ 64)
-HasFewTasks c = Unit {0}
-
--- it runs tasks on threads
-abbrev pub runs_threads : Command → Bool
-runs_threads Count = true
-runs_threads c = makes_areas c
-
--- as it is served without threads
-abbrev pub without_threads : Command → Command
-without_threads c = if runs_threads c then Unknown else c
-
--- it reads the source to its end
-abbrev pub reads_input : Command → Bool
-reads_input Unknown = false
-reads_input (Trial number tasks) = false
-reads_input c = true
-
--- its input has a job
-abbrev pub reads_job : Command → Bool
-reads_job Unknown = false
-reads_job Combine = false
-reads_job (Trial number tasks) = false
-reads_job c = true
-
--- how an input with a job is read
-pub record Reading : Type 0 where
-  -- more than a job may stand in it
-  pub more : Bool
-
--- a job and nothing behind it; a job and what stands behind it
-abbrev pub to_end : Reading
-to_end = record { more = false }
-
-abbrev pub to_go_on : Reading
-to_go_on = record { more = true }
-
-abbrev pub reading_of : Command → Reading
-reading_of Replay = to_go_on
-reading_of (Show name) = to_go_on
-reading_of (Prove name) = to_end
-reading_of (Verify name) = to_go_on
-reading_of c = to_end
-
 -- a session that a command asks for by its name
 pub record Wanted : Type 0 where
   pub name : List ℕ
@@ -124,14 +53,56 @@ pub data Asked : Type 0 where
   -- none of them has a controller
   AllWhole : Asked
 
--- of the session that its second word names, or of all
-abbrev pub asked_of : Command → Asked
-asked_of (Marks name) = WithSession (record { name = name; whole = false })
-asked_of (Show name) = WithSession (record { name = name; whole = false })
-asked_of (Prove name) = WithSession (record { name = name; whole = true })
-asked_of (Verify name) = WithSession (record { name = name; whole = true })
-asked_of Count = AllWhole
-asked_of c = AnyJob
+-- what a command reads and makes
+pub record Way : Type 0 where
+  -- it reads the source to its end
+  pub reads_input : Bool
+  -- its input has a job, with more behind it or not, of whose sessions this is asked
+  pub reads_job : Bool
+  pub more : Bool
+  pub asked : Asked
+  -- it makes its job in place of reading
+  pub makes_job : Bool
+  -- it runs tasks over areas; it runs tasks on threads
+  pub makes_areas : Bool
+  pub runs_threads : Bool
+  -- its text is the report of the run of the job that it reads, whose tasks take this course
+  pub reports : Option Course
+
+-- it reads a job and nothing behind it, and asks for no session
+abbrev pub on_a_job : Way
+on_a_job = record { reads_input = true; reads_job = true; more = false; asked = AnyJob; makes_job = false; makes_areas = false; runs_threads = false; reports = None }
+
+abbrev pub of_a_run : Way
+of_a_run = record on_a_job { makes_areas = true; runs_threads = true }
+
+abbrev pub with_session : List ℕ → Bool → Asked
+with_session name whole = WithSession (record { name = name; whole = whole })
+
+abbrev pub way_of : Command → Way
+way_of Run = record of_a_run { reports = Some solo }
+way_of Exits = record of_a_run { reports = Some with_exits }
+way_of Early = of_a_run
+way_of (Marks name) = record of_a_run { asked = with_session name false }
+way_of (Trial number tasks) = record of_a_run { reads_input = false; reads_job = false; makes_job = true }
+way_of Count = record on_a_job { asked = AllWhole; runs_threads = true }
+way_of Table = on_a_job
+way_of Ends = on_a_job
+way_of Replay = record on_a_job { more = true }
+way_of (Show name) = record on_a_job { more = true; asked = with_session name false }
+way_of (Prove name) = record on_a_job { asked = with_session name true }
+way_of (Verify name) = record on_a_job { more = true; asked = with_session name true }
+way_of Combine = record on_a_job { reads_job = false }
+way_of Unknown = record on_a_job { reads_input = false; reads_job = false }
+
+-- a generated job has 1 to 64 tasks
+abbrev pub HasFewTasks : Command → Type 0
+HasFewTasks (Trial number tasks) = (1 ≤ tasks) × (tasks ≤ 64)
+HasFewTasks c = Unit {0}
+
+-- as it is served without threads
+abbrev pub without_threads : Command → Command
+without_threads c = if (way_of c).runs_threads then Unknown else c
 
 abbrev pub usage_line : List ℕ
 usage_line = codes "USAGE: run | marks NAME | trial NUMBER TASKS | table | replay | combine | show NAME | early | count | exits | prove NAME | verify NAME | ends\n"

@@ -1,19 +1,14 @@
 //! The program over any source, sink and areas.
 ghost use Rattle.std.specs.Prelude.{◌≡◌, ◌+◌, ◌<◌, ◌^◌, ◌≤◌, false, true, Some, All, map, length, string_bytes};
-ghost use Rattle.brk_table.specs.Kept.{AreCodes};
-ghost use Rattle.brk_table.specs.Places.{IsIn, all_places};
+ghost use Rattle.job_tables.specs.Tables.{IsReadyJob};
+ghost use Rattle.job_input.specs.Inputs.{SourceChange, source_change, CameJob, CameWith, to_end, to_go_on};
 ghost use Rattle.coverage_commands.specs.Answers.{Answers};
-ghost use Rattle.coverage_commands.specs.Incoming.{CameWith};
-ghost use Rattle.coverage_commands.specs.Inputs.{CameJob};
-ghost use Rattle.coverage_commands.specs.Changes.{SourceChange, source_change, sink_change, areas_change, no_change};
-ghost use Rattle.coverage_commands.specs.Complete.{IsComplete, IsExact};
-ghost use Rattle.brk_table.specs.Together.{AreTables};
-ghost use Rattle.coverage_commands.specs.Named.{session_number};
-ghost use Rattle.coverage_commands.specs.Refusals.{Match};
-ghost use Rattle.coverage_commands.specs.Untouched.{IsUntouched, IsReportCut};
+ghost use Rattle.coverage_commands.specs.Changes.{sink_change, areas_change, no_change};
+ghost use Rattle.coverage_commands.specs.Named.{IsSessionOf};
+ghost use Rattle.coverage_commands.specs.Untouched.{IsServed};
 ghost use Rattle.job_run.specs.Runs.{Account};
 ghost use Rattle.report_text.specs.Conditions.{HasFewLines};
-ghost use Rattle.coverage_commands.specs.Words.{command_of, course_of, reports_run, without_threads, to_end, to_go_on, HasFewTasks};
+ghost use Rattle.coverage_commands.specs.Words.{command_of, way_of, without_threads, HasFewTasks};
 
 use crate::combining::answer_combine;
 use crate::counting::answer_count;
@@ -61,12 +56,9 @@ fn answer_tables<
     areas: &mut A,
     gate: &G,
 ) -> Status
-    requires few { HasFewLines job.now }
-    requires matching { Match job.now tables.now.tables }
-    requires numbered { tables.now.places ≡ all_places tables.now.tables }
-    requires tables { AreCodes job.now.images tables.now }
+    requires ready { IsReadyJob job.now tables.now }
     requires room { A.made areas.old < 2 ^ 61 }
-    ensures { (c : Command) (s : SourceChange) → reports_run c ≡ true → course_of c ≡ R.course → CameJob to_end s job.now →
+    ensures { (c : Command) (s : SourceChange) → (way_of c).reports ≡ Some R.course → CameJob to_end s job.now →
         Answers c s (areas_change A.ledger A.finals A.made areas.old areas.new) (sink_change K.written K.faults sink.old sink.new) result.0 }
 {
     let (outcome, _) = match run_job_with(rt, alloc, areas, gate, runner, job, tables) {
@@ -94,14 +86,16 @@ fn answer_run<
     gate: &G,
 ) -> Status
     requires { A.made areas.old < 2 ^ 61 }
-    ensures { (c : Command) → reports_run c ≡ true → course_of c ≡ R.course → Answers c (source_change S.left S.faults source.old source.new) (areas_change A.ledger A.finals A.made areas.old areas.new) (sink_change K.written K.faults sink.old sink.new) result.0 }
+    ensures { (c : Command) → (way_of c).reports ≡ Some R.course →
+        Answers c (source_change S.left S.faults source.old source.new)
+            (areas_change A.ledger A.finals A.made areas.old areas.new) (sink_change K.written K.faults sink.old sink.new) result.0 }
 {
     match make_ready(alloc, source, false) {
         Ok(read) => answer_tables(
             rt,
             alloc,
             runner,
-            &read.job,
+            &read.input.job,
             &read.tables,
             sink,
             areas,
@@ -124,13 +118,8 @@ fn answer_session<T: Threads + Wait + Sync, K: Sink, A: Areas, G: Gate + Sync>(
     areas: &mut A,
     gate: &G,
 ) -> Status
-    requires from { 0 < s.0 }
-    requires to { s.0 ≤ length job.now.sessions }
-    requires own { AreTables job.now.images tables.now.tables }
-    requires matching { Match job.now tables.now.tables }
-    requires numbered { tables.now.places ≡ all_places tables.now.tables }
-    requires tables { AreCodes job.now.images tables.now }
-    requires number { session_number job.now name.now ≡ Some s.0 }
+    requires ready { IsReadyJob job.now tables.now }
+    requires session { IsSessionOf job.now name.now s.0 }
     requires room { A.made areas.old < 2 ^ 61 }
     ensures { (c : SourceChange) → CameJob to_end c job.now →
         Answers (Command.Marks name.now) c (areas_change A.ledger A.finals A.made areas.old areas.new) (sink_change K.written K.faults sink.old sink.new) result.0 }
@@ -161,7 +150,8 @@ fn answer_marks<T: Threads + Wait + Sync, S: Source, K: Sink, A: Areas, G: Gate 
     gate: &G,
 ) -> Status
     requires { A.made areas.old < 2 ^ 61 }
-    ensures { Answers (Command.Marks name.now) (source_change S.left S.faults source.old source.new) (areas_change A.ledger A.finals A.made areas.old areas.new) (sink_change K.written K.faults sink.old sink.new) result.0 }
+    ensures { Answers (Command.Marks name.now) (source_change S.left S.faults source.old source.new)
+            (areas_change A.ledger A.finals A.made areas.old areas.new) (sink_change K.written K.faults sink.old sink.new) result.0 }
 {
     let (read, session) = match make_named(alloc, source, false, name, false) {
         Ok(read) => read,
@@ -171,7 +161,7 @@ fn answer_marks<T: Threads + Wait + Sync, S: Source, K: Sink, A: Areas, G: Gate 
         rt,
         alloc,
         name,
-        &read.job,
+        &read.input.job,
         &read.tables,
         session,
         sink,
@@ -182,13 +172,14 @@ fn answer_marks<T: Threads + Wait + Sync, S: Source, K: Sink, A: Areas, G: Gate 
 
 /// Reads a job and writes the places of its modules.
 fn answer_table<S: Source, K: Sink>(alloc: Global, source: &mut S, sink: &mut K) -> Status
-    ensures { (a : Account) → Answers Command.Table (source_change S.left S.faults source.old source.new) (no_change a) (sink_change K.written K.faults sink.old sink.new) result.0 }
+    ensures { (a : Account) → Answers Command.Table (source_change S.left S.faults source.old source.new) (no_change a)
+            (sink_change K.written K.faults sink.old sink.new) result.0 }
 {
     let read = match make_ready(alloc, source, false) {
         Ok(read) => read,
         Err(refusal) => return told(sink, &refusal.line, refusal.status),
     };
-    status_of(table(sink, &read.job, &read.tables))
+    status_of(table(sink, &read.input.job, &read.tables))
 }
 
 /// Plays the schedule behind a job's lines, so many, and writes what its items have shown.
@@ -200,10 +191,7 @@ fn answer_schedule<K: Sink>(
     schedule: &[u8],
     sink: &mut K,
 ) -> Status
-    requires few { HasFewLines job.now }
-    requires matching { Match job.now tables.now.tables }
-    requires numbered { tables.now.places ≡ all_places tables.now.tables }
-    requires places { All (IsIn job.now.images) tables.now.places }
+    requires ready { IsReadyJob job.now tables.now }
     requires numbers { lines + 1 + length schedule.now < 2 ^ 32 }
     ensures { (s : SourceChange) (a : Account) → CameWith to_go_on s job.now lines schedule.now →
         Answers Command.Replay s (no_change a) (sink_change K.written K.faults sink.old sink.new) result.0 }
@@ -218,13 +206,14 @@ fn answer_schedule<K: Sink>(
 
 /// Reads a job and a schedule, and plays it.
 fn answer_replay<S: Source, K: Sink>(alloc: Global, source: &mut S, sink: &mut K) -> Status
-    ensures { (a : Account) → Answers Command.Replay (source_change S.left S.faults source.old source.new) (no_change a) (sink_change K.written K.faults sink.old sink.new) result.0 }
+    ensures { (a : Account) → Answers Command.Replay (source_change S.left S.faults source.old source.new) (no_change a)
+            (sink_change K.written K.faults sink.old sink.new) result.0 }
 {
     let read = match make_ready(alloc, source, true) {
         Ok(read) => read,
         Err(refusal) => return told(sink, &refusal.line, refusal.status),
     };
-    answer_schedule(alloc, &read.job, &read.tables, read.lines, &read.rest, sink)
+    answer_schedule(alloc, &read.input.job, &read.tables, read.input.lines, &read.input.rest, sink)
 }
 
 /// Answers the commands that need no threads; all others are usage.
@@ -234,7 +223,8 @@ fn answer_one<S: Source, K: Sink>(
     source: &mut S,
     sink: &mut K,
 ) -> Status
-    ensures { (a : Account) → Answers (without_threads command) (source_change S.left S.faults source.old source.new) (no_change a) (sink_change K.written K.faults sink.old sink.new) result.0 }
+    ensures { (a : Account) → Answers (without_threads command) (source_change S.left S.faults source.old source.new) (no_change a)
+            (sink_change K.written K.faults sink.old sink.new) result.0 }
 {
     match command {
         Command::Table => answer_table(alloc, source, sink),
@@ -266,7 +256,8 @@ fn answer<T: Threads + Wait + Sync, S: Source, K: Sink, A: Areas, G: Gate + Sync
 ) -> Status
     requires room { A.made areas.old < 2 ^ 61 }
     requires few { HasFewTasks command }
-    ensures { Answers command (source_change S.left S.faults source.old source.new) (areas_change A.ledger A.finals A.made areas.old areas.new) (sink_change K.written K.faults sink.old sink.new) result.0 }
+    ensures { Answers command (source_change S.left S.faults source.old source.new)
+            (areas_change A.ledger A.finals A.made areas.old areas.new) (sink_change K.written K.faults sink.old sink.new) result.0 }
 {
     match command {
         Command::Run => answer_run(rt, alloc, &PlainRunner, source, sink, areas, gate),
@@ -319,11 +310,8 @@ pub fn cover<T: Threads + Wait + Sync, S: Source, K: Sink, A: Areas, G: Gate + S
     gate: &G,
 ) -> Status
     requires { A.made areas.old < 2 ^ 61 }
-    ensures answers { Answers (command_of (map string_bytes words.now)) (source_change S.left S.faults source.old source.new) (areas_change A.ledger A.finals A.made areas.old areas.new) (sink_change K.written K.faults sink.old sink.new) result.0 }
-    ensures complete { IsComplete (command_of (map string_bytes words.now)) (source_change S.left S.faults source.old source.new) (sink_change K.written K.faults sink.old sink.new) result.0 }
-    ensures exact { IsExact (command_of (map string_bytes words.now)) (source_change S.left S.faults source.old source.new) (sink_change K.written K.faults sink.old sink.new) result.0 }
-    ensures untouched { IsUntouched (command_of (map string_bytes words.now)) (source_change S.left S.faults source.old source.new) (areas_change A.ledger A.finals A.made areas.old areas.new) result.0 }
-    ensures cut { IsReportCut (command_of (map string_bytes words.now)) (source_change S.left S.faults source.old source.new) (areas_change A.ledger A.finals A.made areas.old areas.new) (sink_change K.written K.faults sink.old sink.new) result.0 }
+    ensures { IsServed (command_of (map string_bytes words.now)) (source_change S.left S.faults source.old source.new)
+            (areas_change A.ledger A.finals A.made areas.old areas.new) (sink_change K.written K.faults sink.old sink.new) result.0 }
 {
     answer(rt, alloc, command_of(words), source, sink, areas, gate)
 }
@@ -351,9 +339,8 @@ pub fn cover_one<S: Source, K: Sink>(
     source: &mut S,
     sink: &mut K,
 ) -> Status
-    ensures answers { (a : Account) → Answers (without_threads (command_of (map string_bytes words.now))) (source_change S.left S.faults source.old source.new) (no_change a) (sink_change K.written K.faults sink.old sink.new) result.0 }
-    ensures complete { IsComplete (without_threads (command_of (map string_bytes words.now))) (source_change S.left S.faults source.old source.new) (sink_change K.written K.faults sink.old sink.new) result.0 }
-    ensures exact { IsExact (without_threads (command_of (map string_bytes words.now))) (source_change S.left S.faults source.old source.new) (sink_change K.written K.faults sink.old sink.new) result.0 }
+    ensures { (a : Account) → IsServed (without_threads (command_of (map string_bytes words.now)))
+            (source_change S.left S.faults source.old source.new) (no_change a) (sink_change K.written K.faults sink.old sink.new) result.0 }
 {
     answer_one(alloc, command_of(words), source, sink)
 }

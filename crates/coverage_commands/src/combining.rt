@@ -1,17 +1,17 @@
 //! The union of marks files.
 ghost use Rattle.std.specs.Prelude.{◌≡◌};
+ghost use Rattle.job_input.specs.Inputs.{SourceChange, source_change, CameWhole};
 ghost use Rattle.coverage_commands.specs.Answers.{Answers};
-ghost use Rattle.coverage_commands.specs.Changes.{SourceChange, source_change, sink_change, no_change};
+ghost use Rattle.coverage_commands.specs.Changes.{sink_change, no_change};
 ghost use Rattle.coverage_commands.specs.Files.{combine_refusal};
-ghost use Rattle.coverage_commands.specs.Inputs.{CameWhole};
 ghost use Rattle.job_run.specs.Runs.{Account};
 
 use crate::lines::NO_MEMORY;
-use crate::ready::read_input;
-use crate::refusals::{Refusal, bad_marks, other_table, plain_refusal};
+use crate::refusals::{Refusal, bad_marks, other_table, plain_refusal, read_refusal};
 use crate::status::{Status, status_of, told};
 use crate::words::Command;
 use cov_outside::{Sink, Source};
+use job_input::read_input;
 use marks_file::write;
 use std::alloc::Global;
 use table_combine::{CombineFault, combine_files};
@@ -43,10 +43,14 @@ fn answer_files<K: Sink>(alloc: Global, bytes: &[u8], sink: &mut K) -> Status
 
 /// Reads marks files, and writes the file of their union.
 pub fn answer_combine<S: Source, K: Sink>(alloc: Global, source: &mut S, sink: &mut K) -> Status
-    ensures { (a : Account) → Answers Command.Combine (source_change S.left S.faults source.old source.new) (no_change a) (sink_change K.written K.faults sink.old sink.new) result.0 }
+    ensures { (a : Account) → Answers Command.Combine (source_change S.left S.faults source.old source.new) (no_change a)
+            (sink_change K.written K.faults sink.old sink.new) result.0 }
 {
     match read_input(alloc, source) {
         Ok(input) => answer_files(alloc, &input, sink),
-        Err(refusal) => told(sink, &refusal.line, refusal.status),
+        Err(fault) => {
+            let refusal = read_refusal(fault);
+            told(sink, &refusal.line, refusal.status)
+        }
     }
 }

@@ -1,13 +1,10 @@
 //! The counts of a job's sessions.
 ghost use Rattle.std.specs.Prelude.{◌≡◌, None};
-ghost use Rattle.brk_table.specs.Kept.{AreCodes};
-ghost use Rattle.brk_table.specs.Places.{all_places};
+ghost use Rattle.job_tables.specs.Tables.{IsReadyJob};
+ghost use Rattle.job_input.specs.Inputs.{SourceChange, source_change, CameJob, to_end};
 ghost use Rattle.coverage_commands.specs.Answers.{Answers};
-ghost use Rattle.coverage_commands.specs.Changes.{SourceChange, source_change, sink_change, no_change};
-ghost use Rattle.coverage_commands.specs.Inputs.{CameJob};
+ghost use Rattle.coverage_commands.specs.Changes.{sink_change, no_change};
 ghost use Rattle.coverage_commands.specs.Named.{first_controlled};
-ghost use Rattle.coverage_commands.specs.Refusals.{Match};
-ghost use Rattle.coverage_commands.specs.Words.{to_end};
 ghost use Rattle.job_run.specs.Runs.{Account};
 ghost use Rattle.report_text.specs.Conditions.{HasFewLines};
 
@@ -33,11 +30,8 @@ fn answer_counts<T: Threads + Wait + Sync, K: Sink>(
     tables: &Tables,
     sink: &mut K,
 ) -> Status
-    requires few { HasFewLines job.now }
     requires free { first_controlled job.now ≡ None }
-    requires matching { Match job.now tables.now.tables }
-    requires numbered { tables.now.places ≡ all_places tables.now.tables }
-    requires tables { AreCodes job.now.images tables.now }
+    requires ready { IsReadyJob job.now tables.now }
     ensures { (s : SourceChange) (a : Account) → CameJob to_end s job.now →
         Answers Command.Count s (no_change a) (sink_change K.written K.faults sink.old sink.new) result.0 }
 {
@@ -54,10 +48,11 @@ pub fn answer_count<T: Threads + Wait + Sync, S: Source, K: Sink>(
     source: &mut S,
     sink: &mut K,
 ) -> Status
-    ensures { (a : Account) → Answers Command.Count (source_change S.left S.faults source.old source.new) (no_change a) (sink_change K.written K.faults sink.old sink.new) result.0 }
+    ensures { (a : Account) → Answers Command.Count (source_change S.left S.faults source.old source.new) (no_change a)
+            (sink_change K.written K.faults sink.old sink.new) result.0 }
 {
     match make_whole(alloc, source) {
-        Ok(read) => answer_counts(rt, alloc, &read.job, &read.tables, sink),
+        Ok(read) => answer_counts(rt, alloc, &read.input.job, &read.tables, sink),
         Err(refusal) => told(sink, &refusal.line, refusal.status),
     }
 }

@@ -1,12 +1,9 @@
 //! The report of a job whose controllers drain the sessions that they have closed.
 ghost use Rattle.std.specs.Prelude.{◌≡◌, ◌<◌, ◌^◌};
-ghost use Rattle.brk_table.specs.Kept.{AreCodes};
-ghost use Rattle.brk_table.specs.Places.{all_places};
+ghost use Rattle.job_tables.specs.Tables.{IsReadyJob};
+ghost use Rattle.job_input.specs.Inputs.{SourceChange, source_change, CameJob, to_end};
 ghost use Rattle.coverage_commands.specs.Answers.{Answers};
-ghost use Rattle.coverage_commands.specs.Changes.{SourceChange, source_change, sink_change, areas_change};
-ghost use Rattle.coverage_commands.specs.Inputs.{CameJob};
-ghost use Rattle.coverage_commands.specs.Refusals.{Match};
-ghost use Rattle.coverage_commands.specs.Words.{to_end};
+ghost use Rattle.coverage_commands.specs.Changes.{sink_change, areas_change};
 ghost use Rattle.report_text.specs.Conditions.{HasFewLines};
 
 use crate::lines::NO_MEMORY;
@@ -34,10 +31,7 @@ fn answer_drained<T: Threads + Wait + Sync, K: Sink, A: Areas, G: Gate + Sync>(
     areas: &mut A,
     gate: &G,
 ) -> Status
-    requires few { HasFewLines job.now }
-    requires matching { Match job.now tables.now.tables }
-    requires numbered { tables.now.places ≡ all_places tables.now.tables }
-    requires tables { AreCodes job.now.images tables.now }
+    requires ready { IsReadyJob job.now tables.now }
     requires room { A.made areas.old < 2 ^ 61 }
     ensures { (s : SourceChange) → CameJob to_end s job.now →
         Answers Command.Early s (areas_change A.ledger A.finals A.made areas.old areas.new) (sink_change K.written K.faults sink.old sink.new) result.0 }
@@ -60,10 +54,11 @@ pub fn answer_early<T: Threads + Wait + Sync, S: Source, K: Sink, A: Areas, G: G
     gate: &G,
 ) -> Status
     requires { A.made areas.old < 2 ^ 61 }
-    ensures { Answers Command.Early (source_change S.left S.faults source.old source.new) (areas_change A.ledger A.finals A.made areas.old areas.new) (sink_change K.written K.faults sink.old sink.new) result.0 }
+    ensures { Answers Command.Early (source_change S.left S.faults source.old source.new)
+            (areas_change A.ledger A.finals A.made areas.old areas.new) (sink_change K.written K.faults sink.old sink.new) result.0 }
 {
     match make_ready(alloc, source, false) {
-        Ok(read) => answer_drained(rt, alloc, &read.job, &read.tables, sink, areas, gate),
+        Ok(read) => answer_drained(rt, alloc, &read.input.job, &read.tables, sink, areas, gate),
         Err(refusal) => told(sink, &refusal.line, refusal.status),
     }
 }

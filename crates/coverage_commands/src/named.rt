@@ -1,12 +1,10 @@
 //! The session that a command names, and those that may have no controller.
 ghost use Rattle.std.specs.Prelude.{◌≡◌, ◌<◌, ◌≤◌, ◌+◌, true, Some, None, length, option_map, IfSome, IfOk, IfErr};
 ghost use Rattle.cov_base.specs.declared.numbers.SessNo.{SessNo as Number};
-ghost use Rattle.coverage_commands.specs.Answers.{IsStopped};
-ghost use Rattle.coverage_commands.specs.Changes.{SourceChange};
-ghost use Rattle.coverage_commands.specs.Inputs.{CameJob};
-ghost use Rattle.coverage_commands.specs.Named.{HasAsked, first_controlled, session_number};
+ghost use Rattle.coverage_commands.specs.Answers.{StopsJob};
+ghost use Rattle.coverage_commands.specs.Named.{HasAsked, IsSessionOf, first_controlled, session_number};
 ghost use Rattle.coverage_commands.specs.Refusals.{refusal};
-ghost use Rattle.coverage_commands.specs.Words.{Reading, WithSession, AllWhole, controlled_line};
+ghost use Rattle.coverage_commands.specs.Words.{AllWhole, controlled_line, with_session};
 ghost use Rattle.session_book.specs.Sessions.{session_of};
 
 use crate::lines::{controlled_line, no_session_line};
@@ -56,12 +54,10 @@ fn controlled(job: &Job, s: SessNo) -> Refusal
 
 /// The number of the session of the name, or that the job has none; and where it must be whole, that it has a controller.
 pub fn named_session(job: &Job, name: &Name, whole: bool) -> Result<SessNo, Refusal>
-    ensures number { IfOk result (λ s. session_number job.now name.now ≡ Some s.0) }
-    ensures from { IfOk result (λ s. 0 < s.0) }
-    ensures to { IfOk result (λ s. s.0 ≤ length job.now.sessions) }
+    ensures session { IfOk result (λ s. IsSessionOf job.now name.now s.0) }
     ensures whole { whole ≡ true → IfOk result (λ s. (session_of job.now s.0).by ≡ None) }
-    ensures asked { IfOk result (λ _. HasAsked (WithSession (record { name = name.now; whole = whole })) job.now) }
-    ensures stopped { (how : Reading) (s : SourceChange) → CameJob how s job.now → IfErr result (λ r. IsStopped true how (WithSession (record { name = name.now; whole = whole })) s r.status r.line) }
+    ensures asked { IfOk result (λ _. HasAsked (with_session name.now whole) job.now) }
+    ensures stopped { IfErr result (StopsJob (with_session name.now whole) job.now) }
 {
     let Some(session) = find_session(job, name) else {
         return Err(Refusal {
@@ -77,8 +73,8 @@ pub fn named_session(job: &Job, name: &Name, whole: bool) -> Result<SessNo, Refu
 
 /// That no session of the job has a controller; or the refusal of the first that has one.
 pub fn whole_sessions(job: &Job) -> Result<(), Refusal>
-    ensures free { IfOk result (λ _. first_controlled job.now ≡ None) }
-    ensures stopped { (how : Reading) (s : SourceChange) → CameJob how s job.now → IfErr result (λ r. IsStopped true how AllWhole s r.status r.line) }
+    ensures asked { IfOk result (λ _. HasAsked AllWhole job.now) }
+    ensures stopped { IfErr result (StopsJob AllWhole job.now) }
 {
     match first_controlled(job) {
         Some(session) => Err(controlled(job, session)),

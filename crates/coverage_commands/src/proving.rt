@@ -1,13 +1,10 @@
 //! The evidence of a session's facts.
 ghost use Rattle.std.specs.Prelude.{◌≡◌, ◌<◌, ◌≤◌, Some, None, length};
-ghost use Rattle.brk_table.specs.Kept.{AreCodes};
-ghost use Rattle.brk_table.specs.Places.{all_places};
+ghost use Rattle.job_tables.specs.Tables.{IsReadyJob};
+ghost use Rattle.job_input.specs.Inputs.{SourceChange, source_change, CameJob, to_end};
 ghost use Rattle.coverage_commands.specs.Answers.{Answers};
-ghost use Rattle.coverage_commands.specs.Changes.{SourceChange, source_change, sink_change, no_change};
-ghost use Rattle.coverage_commands.specs.Inputs.{CameJob};
-ghost use Rattle.coverage_commands.specs.Named.{session_number};
-ghost use Rattle.coverage_commands.specs.Refusals.{Match};
-ghost use Rattle.coverage_commands.specs.Words.{to_end};
+ghost use Rattle.coverage_commands.specs.Changes.{sink_change, no_change};
+ghost use Rattle.coverage_commands.specs.Named.{IsSessionOf};
 ghost use Rattle.job_run.specs.Runs.{Account};
 ghost use Rattle.session_book.specs.Sessions.{session_of};
 
@@ -31,13 +28,9 @@ fn answer_evidence<K: Sink>(
     s: SessNo,
     sink: &mut K,
 ) -> Status
-    requires from { 0 < s.0 }
-    requires to { s.0 ≤ length job.now.sessions }
     requires whole { (session_of job.now s.0).by ≡ None }
-    requires matching { Match job.now tables.now.tables }
-    requires numbered { tables.now.places ≡ all_places tables.now.tables }
-    requires codes { AreCodes job.now.images tables.now }
-    requires number { session_number job.now name.now ≡ Some s.0 }
+    requires ready { IsReadyJob job.now tables.now }
+    requires session { IsSessionOf job.now name.now s.0 }
     ensures { (c : SourceChange) (a : Account) → CameJob to_end c job.now →
         Answers (Command.Prove name.now) c (no_change a) (sink_change K.written K.faults sink.old sink.new) result.0 }
 {
@@ -55,11 +48,12 @@ pub fn answer_prove<S: Source, K: Sink>(
     source: &mut S,
     sink: &mut K,
 ) -> Status
-    ensures { (a : Account) → Answers (Command.Prove name.now) (source_change S.left S.faults source.old source.new) (no_change a) (sink_change K.written K.faults sink.old sink.new) result.0 }
+    ensures { (a : Account) → Answers (Command.Prove name.now) (source_change S.left S.faults source.old source.new) (no_change a)
+            (sink_change K.written K.faults sink.old sink.new) result.0 }
 {
     let (read, session) = match make_named(alloc, source, false, name, true) {
         Ok(read) => read,
         Err(refusal) => return told(sink, &refusal.line, refusal.status),
     };
-    answer_evidence(alloc, name, &read.job, &read.tables, session, sink)
+    answer_evidence(alloc, name, &read.input.job, &read.tables, session, sink)
 }

@@ -1,16 +1,20 @@
-//! The refusals of listings and of marks files.
-ghost use Rattle.std.specs.Prelude.{◌≡◌, ◌≢◌, ◌-◌, ◌<◌, ◌≤◌, ◌^◌, length, get_or, take};
+//! How faults of a source, a job, its listings and marks files are told.
+ghost use Rattle.std.specs.Prelude.{◌≡◌, ◌≤◌, length, take};
 ghost use Rattle.arrayvec.specs.ArrayVec.{array_vec_len};
-ghost use Rattle.coverage_commands.specs.Refusals.{refusal, line_text, bad_listing, list_refusal, build_refusal, code_text, mismatch_text, location_of};
+ghost use Rattle.coverage_commands.specs.Refusals.{refusal, line_text, bad_listing, list_refusal, build_refusal, tables_refusal, read_refusal, jobless_refusal, input_refusal, mismatch_text};
 ghost use Rattle.coverage_commands.specs.Words.{bad_marks_line, other_table_line};
 ghost use Rattle.table_combine.specs.Combine.{difference_of};
 
-use crate::lines::{bad_marks_line, other_table_line};
+use crate::lines::{NO_MEMORY, READ_FAULT, TOO_LARGE_INPUT, bad_job_line, bad_marks_line, large_job_line, other_table_line};
 use annotator::text::{add_hex, add_number, add_text};
 use arrayvec::ArrayVec;
 use brk_table::BuildFault;
 use cov_base::Name;
-use listing_reader::{Line, ListFault, Listing};
+use cov_outside::ReadFault;
+use job_input::InputFault;
+use job_tables::TablesFault;
+use job_text::JobFault;
+use listing_reader::ListFault;
 use report_text::add_bytes;
 use s370_decode::Code;
 use std::marker::Model;
@@ -39,6 +43,44 @@ pub fn plain_refusal(status: u8, line: &[u8]) -> Refusal
     let mut text = ArrayVec::new();
     add_text(&mut text, line);
     Refusal { status, line: text }
+}
+
+/// Why an input wasn't read whole.
+pub fn read_refusal(fault: ReadFault) -> Refusal
+    ensures { result ≡ read_refusal fault }
+{
+    match fault {
+        ReadFault::Failed => plain_refusal(5, READ_FAULT),
+        ReadFault::TooLarge => plain_refusal(4, TOO_LARGE_INPUT),
+        ReadFault::NoMemory => plain_refusal(7, NO_MEMORY),
+    }
+}
+
+/// Why lines have no job.
+fn jobless_refusal(fault: JobFault) -> Refusal
+    ensures { result ≡ jobless_refusal fault }
+{
+    match fault {
+        JobFault::BadJob { line } => Refusal {
+            status: 2,
+            line: bad_job_line(line),
+        },
+        JobFault::TooLarge { what, line } => Refusal {
+            status: 4,
+            line: large_job_line(what, line),
+        },
+        JobFault::NoMemory => plain_refusal(7, NO_MEMORY),
+    }
+}
+
+/// Why a source gave no job.
+pub fn input_refusal(fault: InputFault) -> Refusal
+    ensures { result ≡ input_refusal fault }
+{
+    match fault {
+        InputFault::Source(fault) => read_refusal(fault),
+        InputFault::Job(fault) => jobless_refusal(fault),
+    }
 }
 
 /// The field at the offset is the first bad one.
@@ -100,16 +142,15 @@ fn shown(code: &Code) -> &[u8]
     }
 }
 
-/// Where an instruction stands, and its bytes as the listing and the module have them.
+/// Where an instruction stands, in six digits, and its bytes as the listing and the module have them.
 #[tactic(auto, unfolding(crate::specs::Refusals::mismatch_text, crate::specs::Refusals::code_text))]
 fn mismatch_text(loc: u32, listing: &Code, other: &Code) -> ArrayVec<u8, 160>
-    requires { loc < 16 ^ 6 }
     ensures text { result.items ≡ mismatch_text loc listing.now other.now }
     ensures short { array_vec_len result ≤ 60 }
 {
     let mut text = ArrayVec::new();
     add_text(&mut text, b" LOC ");
-    add_hex(&mut text, loc, 6);
+    add_hex(&mut text, loc % 16_777_216, 6);
     add_text(&mut text, b" LISTING ");
     add_bytes(&mut text, shown(listing));
     add_text(&mut text, b" MODULE ");
@@ -117,37 +158,20 @@ fn mismatch_text(loc: u32, listing: &Code, other: &Code) -> ArrayVec<u8, 160>
     text
 }
 
-/// Why a listing is refused, for all but want of memory.
-pub fn list_refusal(name: &Name, fault: ListFault) -> Refusal
-    requires { fault ≢ ListFault.NoMemory }
+/// Why a listing isn't read.
+fn list_refusal(name: &Name, fault: ListFault) -> Refusal
     ensures { result ≡ list_refusal name.now fault }
 {
     match fault {
         ListFault::NoHeading => bad_listing(name, 0, b" HEADING"),
         ListFault::BadObject { line } => bad_listing(name, line, b" OBJECT"),
-        ListFault::NoMemory => unreachable!(),
+        ListFault::NoMemory => plain_refusal(7, NO_MEMORY),
     }
 }
 
-/// Where the instruction of line n stands in its module.
-fn location_at(lines: &Listing, n: u32) -> u32
-    ensures value { result ≡ location_of (get_or lines.now (n - 1) Line.Text) }
-    ensures below { result < 16 ^ 6 }
-{
-    let at = (n as usize).saturating_sub(1);
-    if at >= lines.len() {
-        return 0;
-    }
-    match lines.line(at) {
-        Line::Text => 0,
-        Line::Code { loc, bytes: _ } => loc % 16_777_216,
-    }
-}
-
-/// Why a listing's lines make no table over their module, for all but want of memory.
-pub fn build_refusal(name: &Name, lines: &Listing, fault: BuildFault) -> Refusal
-    requires { fault ≢ BuildFault.NoMemory }
-    ensures { result ≡ build_refusal name.now lines.now fault }
+/// Why a listing's lines make no table over their module; a mismatch stands at `loc`.
+fn build_refusal(name: &Name, loc: u32, fault: BuildFault) -> Refusal
+    ensures { result ≡ build_refusal name.now loc fault }
 {
     match fault {
         BuildFault::Odd { line } => bad_listing(name, line, b" ODD"),
@@ -166,12 +190,27 @@ pub fn build_refusal(name: &Name, lines: &Listing, fault: BuildFault) -> Refusal
             listing,
             module,
         } => {
-            let why = mismatch_text(location_at(lines, line), &listing, &module);
+            let why = mismatch_text(loc, &listing, &module);
             Refusal {
                 status: 3,
                 line: line_text(b"MISMATCH ", name, line, &why),
             }
         }
-        BuildFault::NoMemory => unreachable!(),
+        BuildFault::NoMemory => plain_refusal(7, NO_MEMORY),
+    }
+}
+
+/// Why a job's listings have no tables.
+pub fn tables_refusal(fault: TablesFault) -> Refusal
+    ensures { result ≡ tables_refusal fault }
+{
+    match fault {
+        TablesFault::List { module, fault } => list_refusal(&module, fault),
+        TablesFault::Build {
+            module,
+            location,
+            fault,
+        } => build_refusal(&module, location, fault),
+        TablesFault::NoMemory => plain_refusal(7, NO_MEMORY),
     }
 }

@@ -1,15 +1,13 @@
 //! A session's listings, marked by a marks file.
 ghost use Rattle.std.specs.Prelude.{◌≡◌, ◌<◌, ◌≤◌, ℕ, true, Some, length, IfOk, IfErr};
-ghost use Rattle.brk_table.specs.Places.{all_places};
-ghost use Rattle.brk_table.specs.Together.{AreTables};
 ghost use Rattle.cov_outside.specs.Writes.{Writes};
+ghost use Rattle.job_tables.specs.Tables.{IsReadyJob};
+ghost use Rattle.job_input.specs.Inputs.{SourceChange, CameWith, source_change, to_go_on};
 ghost use Rattle.coverage_commands.specs.Answers.{Answers};
-ghost use Rattle.coverage_commands.specs.Changes.{SourceChange, source_change, sink_change, no_change};
+ghost use Rattle.coverage_commands.specs.Changes.{sink_change, no_change};
 ghost use Rattle.coverage_commands.specs.Files.{IsFile, IsFileRefusal, IsShowRefusal, show_text};
-ghost use Rattle.coverage_commands.specs.Incoming.{CameWith};
-ghost use Rattle.coverage_commands.specs.Named.{session_number};
-ghost use Rattle.coverage_commands.specs.Refusals.{Match, refusal};
-ghost use Rattle.coverage_commands.specs.Words.{to_go_on};
+ghost use Rattle.coverage_commands.specs.Named.{IsSessionOf};
+ghost use Rattle.coverage_commands.specs.Refusals.{refusal};
 ghost use Rattle.job_run.specs.Runs.{Account};
 ghost use Rattle.report_text.specs.Conditions.{AreTablesOf};
 ghost use Rattle.session_book.specs.Sets.{HasSetsOf};
@@ -59,7 +57,7 @@ fn sets_behind(
 ) -> Result<FileSets, Refusal>
     requires from { 0 < s.0 }
     requires to { s.0 ≤ length job.now.sessions }
-    requires tables { AreTables job.now.images tables.now.tables }
+    requires ready { IsReadyJob job.now tables.now }
     ensures file { IfOk result (λ f. IsFile rest.now (session_marks job.now tables.now (set_at f.sets) s.0)) }
     ensures sets { IfOk result (λ f. HasSetsOf job.now tables.now f.session (length f.sets) (sets_of_one f) s.0) }
     ensures refused { IfErr result (IsShowRefusal job.now tables.now s.0 rest.now) }
@@ -101,13 +99,8 @@ fn answer_file<K: Sink>(
     rest: &[u8],
     sink: &mut K,
 ) -> Status
-    requires from { 0 < s.0 }
-    requires to { s.0 ≤ length job.now.sessions }
-    requires tables { AreTablesOf job.now tables.now }
-    requires own { AreTables job.now.images tables.now.tables }
-    requires matching { Match job.now tables.now.tables }
-    requires numbered { tables.now.places ≡ all_places tables.now.tables }
-    requires number { session_number job.now name.now ≡ Some s.0 }
+    requires ready { IsReadyJob job.now tables.now }
+    requires session { IsSessionOf job.now name.now s.0 }
     ensures { (c : SourceChange) (a : Account) (count : ℕ) → CameWith to_go_on c job.now count rest.now →
         Answers (Command.Show name.now) c (no_change a) (sink_change K.written K.faults sink.old sink.new) result.0 }
 {
@@ -124,7 +117,8 @@ pub fn answer_show<S: Source, K: Sink>(
     source: &mut S,
     sink: &mut K,
 ) -> Status
-    ensures { (a : Account) → Answers (Command.Show name.now) (source_change S.left S.faults source.old source.new) (no_change a) (sink_change K.written K.faults sink.old sink.new) result.0 }
+    ensures { (a : Account) → Answers (Command.Show name.now) (source_change S.left S.faults source.old source.new) (no_change a)
+            (sink_change K.written K.faults sink.old sink.new) result.0 }
 {
     let (read, session) = match make_named(alloc, source, true, name, false) {
         Ok(read) => read,
@@ -133,10 +127,10 @@ pub fn answer_show<S: Source, K: Sink>(
     answer_file(
         alloc,
         name,
-        &read.job,
+        &read.input.job,
         &read.tables,
         session,
-        &read.rest,
+        &read.input.rest,
         sink,
     )
 }

@@ -1,23 +1,23 @@
 //! The run of a generated job.
 ghost use Rattle.std.specs.Prelude.{◌≡◌, ◌<◌, ◌≤◌, ◌^◌, None, IfOk};
-ghost use Rattle.brk_table.specs.Kept.{AreCodes};
-ghost use Rattle.brk_table.specs.Places.{all_places};
+ghost use Rattle.job_tables.specs.Faults.{job_fault};
+ghost use Rattle.job_tables.specs.Tables.{IsReadyJob};
+ghost use Rattle.job_input.specs.Inputs.{SourceChange};
 ghost use Rattle.coverage_commands.specs.Answers.{Answers};
-ghost use Rattle.coverage_commands.specs.Changes.{SourceChange, sink_change, areas_change};
-ghost use Rattle.coverage_commands.specs.Refusals.{job_refusal, Match};
+ghost use Rattle.coverage_commands.specs.Changes.{sink_change, areas_change};
 ghost use Rattle.coverage_commands.specs.Trial.{IsUnread};
 ghost use Rattle.job_gen.specs.Trial.{trial_job};
 ghost use Rattle.report_text.specs.Conditions.{HasFewLines};
 
 use crate::lines::NO_MEMORY;
 use crate::status::{Status, status_of, told};
-use crate::tables::{Refused, tables_of};
 use crate::words::Command;
 use brk_table::Tables;
 use cov_base::NoMemory;
 use cov_outside::{Gate, Sink};
 use job_gen::trial;
 use job_run::run_job;
+use job_tables::{TablesFault, tables_of};
 use module_area::Areas;
 use report_text::trial_text;
 use session_book::Job;
@@ -28,15 +28,13 @@ use std::thread::Threads;
 /// The tables of a job whose listings have no fault.
 pub fn faultless_tables(alloc: Global, job: &Job) -> Result<Tables, NoMemory>
     requires few { HasFewLines job.now }
-    requires faultless { job_refusal job.now ≡ None }
-    ensures matching { IfOk result (λ t. Match job.now t.tables) }
-    ensures numbered { IfOk result (λ t. t.places ≡ all_places t.tables) }
-    ensures codes { IfOk result (AreCodes job.now.images) }
+    requires faultless { job_fault job.now ≡ None }
+    ensures { IfOk result (IsReadyJob job.now) }
 {
     match tables_of(alloc, job) {
         Ok(tables) => Ok(tables),
-        Err(Refused::NoMemory) => Err(NoMemory),
-        Err(Refused::Told(_)) => unreachable!(),
+        Err(TablesFault::NoMemory) => Err(NoMemory),
+        Err(TablesFault::List { .. } | TablesFault::Build { .. }) => unreachable!(),
     }
 }
 
@@ -54,9 +52,7 @@ fn answer_job<T: Threads + Wait + Sync, K: Sink, A: Areas, G: Gate + Sync>(
     gate: &G,
 ) -> Status
     requires job { job.now ≡ trial_job number tasks }
-    requires matching { Match job.now tables.now.tables }
-    requires numbered { tables.now.places ≡ all_places tables.now.tables }
-    requires tables { AreCodes job.now.images tables.now }
+    requires ready { IsReadyJob job.now tables.now }
     requires room { A.made areas.old < 2 ^ 61 }
     ensures { (s : SourceChange) → IsUnread s →
         Answers (Command.Trial number tasks) s (areas_change A.ledger A.finals A.made areas.old areas.new) (sink_change K.written K.faults sink.old sink.new) result.0 }

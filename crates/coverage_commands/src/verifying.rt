@@ -1,15 +1,11 @@
 //! Marks and evidence of a session, checked by another run of its tasks.
 ghost use Rattle.std.specs.Prelude.{◌≡◌, ◌<◌, ◌≤◌, ℕ, true, Some, None, length, OnOk, IfOk, IfErr};
-ghost use Rattle.brk_table.specs.Kept.{AreCodes};
-ghost use Rattle.brk_table.specs.Places.{all_places};
-ghost use Rattle.brk_table.specs.Together.{AreTables};
+ghost use Rattle.job_tables.specs.Tables.{IsReadyJob};
+ghost use Rattle.job_input.specs.Inputs.{SourceChange, CameWith, source_change, to_go_on};
 ghost use Rattle.coverage_commands.specs.Answers.{Answers};
-ghost use Rattle.coverage_commands.specs.Changes.{SourceChange, source_change, sink_change, no_change};
+ghost use Rattle.coverage_commands.specs.Changes.{sink_change, no_change};
 ghost use Rattle.coverage_commands.specs.Checked.{Verified, IsVerdict, HasVerified, verify_refusal, IsStartRefusal, IsCheckRefusal};
-ghost use Rattle.coverage_commands.specs.Incoming.{CameWith};
-ghost use Rattle.coverage_commands.specs.Named.{session_number};
-ghost use Rattle.coverage_commands.specs.Refusals.{Match};
-ghost use Rattle.coverage_commands.specs.Words.{to_go_on};
+ghost use Rattle.coverage_commands.specs.Named.{IsSessionOf};
 ghost use Rattle.job_run.specs.Runs.{Account};
 ghost use Rattle.marks_file.specs.MarksFile.{HasFile};
 ghost use Rattle.session_book.specs.Sessions.{session_of};
@@ -69,8 +65,7 @@ fn facts_behind(
     requires from { 0 < s.0 }
     requires to { s.0 ≤ length job.now.sessions }
     requires whole { (session_of job.now s.0).by ≡ None }
-    requires tables { AreTables job.now.images tables.now.tables }
-    requires codes { AreCodes job.now.images tables.now }
+    requires ready { IsReadyJob job.now tables.now }
     ensures verdict { IfOk result (λ n. IsVerdict job.now tables.now s.0 rest.now (Verified n)) }
     ensures verified { OnOk result (HasVerified job.now tables.now s.0 rest.now) }
     ensures refused { IfErr result (IsCheckRefusal job.now tables.now s.0 rest.now) }
@@ -99,14 +94,9 @@ fn answer_behind<K: Sink>(
     rest: &[u8],
     sink: &mut K,
 ) -> Status
-    requires from { 0 < s.0 }
-    requires to { s.0 ≤ length job.now.sessions }
     requires whole { (session_of job.now s.0).by ≡ None }
-    requires own { AreTables job.now.images tables.now.tables }
-    requires matching { Match job.now tables.now.tables }
-    requires numbered { tables.now.places ≡ all_places tables.now.tables }
-    requires codes { AreCodes job.now.images tables.now }
-    requires number { session_number job.now name.now ≡ Some s.0 }
+    requires ready { IsReadyJob job.now tables.now }
+    requires session { IsSessionOf job.now name.now s.0 }
     ensures { (c : SourceChange) (a : Account) (count : ℕ) → CameWith to_go_on c job.now count rest.now →
         Answers (Command.Verify name.now) c (no_change a) (sink_change K.written K.faults sink.old sink.new) result.0 }
 {
@@ -123,7 +113,8 @@ pub fn answer_verify<S: Source, K: Sink>(
     source: &mut S,
     sink: &mut K,
 ) -> Status
-    ensures { (a : Account) → Answers (Command.Verify name.now) (source_change S.left S.faults source.old source.new) (no_change a) (sink_change K.written K.faults sink.old sink.new) result.0 }
+    ensures { (a : Account) → Answers (Command.Verify name.now) (source_change S.left S.faults source.old source.new) (no_change a)
+            (sink_change K.written K.faults sink.old sink.new) result.0 }
 {
     let (read, session) = match make_named(alloc, source, true, name, true) {
         Ok(read) => read,
@@ -132,10 +123,10 @@ pub fn answer_verify<S: Source, K: Sink>(
     answer_behind(
         alloc,
         name,
-        &read.job,
+        &read.input.job,
         &read.tables,
         session,
-        &read.rest,
+        &read.input.rest,
         sink,
     )
 }

@@ -94,9 +94,9 @@ fn controllers_alone_plant_and_close_in_order(rt: HostRuntime) -> Result<(), Fai
     let Ok(ready) = make_ready(alloc, &mut source, false) else {
         return Err(Fail::new("the job"));
     };
-    if ready.job.phase_count() != 1 {
+    if ready.input.job.phase_count() != 1 {
         return Err(Fail::new("the phase"));
     }
-    let mut core = start(alloc, &ready.job, &ready.tables)?;
+    let mut core = start(alloc, &ready.input.job, &ready.tables)?;
     check_events(&mut core, EVENTS)
 }

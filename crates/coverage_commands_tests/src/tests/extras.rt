@@ -59,7 +59,7 @@ fn makes_extras_before_it_plants(rt: HostRuntime) -> Result<(), Fail> {
         &mut areas,
         &OpenGate,
         &Wanting,
-        &read.job,
+        &read.input.job,
         &read.tables,
     );
     assert!(rt; ran.is_err() && areas.made() == 0);

@@ -8,8 +8,9 @@ use super::notation::{Row, row_of};
 use brk_table::Tables;
 use cov_base::PlaceNo;
 use cov_outside::MemSource;
-use coverage_commands::{make_ready, tables_of};
+use coverage_commands::make_ready;
 use job_gen::trial;
+use job_tables::tables_of;
 use s370_decode::Code;
 use s370_exec::fetch_rest;
 use session_book::{Job, begin};
@@ -50,7 +51,7 @@ fn compare(alloc: Global, job: &Job, tables: &Tables, seen: &mut [bool; 3]) -> R
 fn compare_row(alloc: Global, row: &Row, seen: &mut [bool; 3]) -> Result<bool, Fail> {
     let mut source = MemSource::new(row.input.to_vec(alloc)?, 64, Vec::new(alloc));
     match make_ready(alloc, &mut source, true) {
-        Ok(ready) => compare(alloc, &ready.job, &ready.tables, seen),
+        Ok(ready) => compare(alloc, &ready.input.job, &ready.tables, seen),
         Err(_) => Ok(true),
     }
 }

@@ -121,7 +121,7 @@ fn came(alloc: Global, job: &[Part]) -> Result<Option<(Ending, [Cell; 2])>, Fail
         return Ok(None);
     };
     let mut areas = SharedAreas::new(alloc, 1)?;
-    Ok(alone(alloc, &mut areas, &ready.job, &ready.tables)?)
+    Ok(alone(alloc, &mut areas, &ready.input.job, &ready.tables)?)
 }
 
 fn cell(half: u16) -> Cell {

@@ -1,21 +1,17 @@
-use Rattle.std.proofs.Common.{sym, subst}
-use Rattle.task_run.specs.Courses.{Course}
-use Rattle.job_run.specs.Outcomes.{IsOutcomeBy}
 use Rattle.job_run.specs.Runs.{HasLeftBy}
 use Rattle.report_text.specs.Report.{report_of}
 use Rattle.coverage_commands.specs.Changes.{areas_change}
-use Rattle.coverage_commands.specs.Words.{course_of}
 use Rattle.coverage_commands.proofs.AnswerLemmas.{reports, reported, written_as}
 use Rattle.coverage_commands.proofs.answering.answer_tables.Goals as goal
 
 pub returns : goal.returns
-returns g c d s reporting is came =
+returns g c d s reporting came =
     let j = c.args.job.now in
     let tables = c.args.tables.now in
     let a = areas_change g.A.Areas.ledger g.A.Areas.finals g.A.Areas.made c.args.areas.now c.run_job_with.new.areas in
     let o = c.in-Ok.ran.0 in
-    let left : HasLeftBy (course_of d) j tables.places a.before a.after o.sets.finals = subst (λ (x : Course). HasLeftBy x j tables.places a.before a.after o.sets.finals) (sym is) c.in-Ok.ensures.left in
-    let outcome : IsOutcomeBy (course_of d) j tables.places o.tasks.items o.sets = subst (λ (x : Course). IsOutcomeBy x j tables.places o.tasks.items o.sets) (sym is) c.in-Ok.ensures.outcome in
-    reported d s j tables a _ _ _ reporting came c.requires.matching c.requires.numbered left.ran
-    (reports (course_of d) j tables a.before a.after o.tasks.items o.sets (report_of j tables) left outcome)
+    let course = g.R.Runner.course in
+    let left : HasLeftBy course j tables.places a.before a.after o.sets.finals = c.in-Ok.ensures.left in
+    reported d course s j tables a _ _ _ reporting came c.requires.ready.matching left.ran
+    (reports course j tables a.before a.after o.tasks.items o.sets (report_of j tables) left c.in-Ok.ensures.outcome)
     (written_as _ _ _ c.report.ensures c.status_of.ensures.whole c.status_of.ensures.failed)

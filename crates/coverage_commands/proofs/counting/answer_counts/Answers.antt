@@ -7,5 +7,5 @@ count_job-requires-clause-whole g c = λ lifetimes live. are_whole c.args.job.no
 
 pub returns : goal.returns
 returns g c s a came =
-    counted s c.args.job.now c.args.tables.now a c.in-Ok.counted.tasks.items c.in-Ok.counted.counts _ _ came c.requires.free c.requires.matching c.requires.numbered c.in-Ok.ensures
+    counted s c.args.job.now c.args.tables.now a c.in-Ok.counted.tasks.items c.in-Ok.counted.counts _ _ came c.requires.free c.requires.ready.matching c.in-Ok.ensures
     (written_as _ _ _ c.count_text.ensures c.status_of.ensures.whole c.status_of.ensures.failed)

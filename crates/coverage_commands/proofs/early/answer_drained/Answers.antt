@@ -14,7 +14,7 @@ returns g c s came =
     let o = c.in-Ok.ran.0 in
     let lists = c.in-Ok.ran.1.items in
     let drained = drained_of j (map (λ v. v.items) lists) in
-    reported_early s j tables a _ _ drained _ came c.requires.matching c.requires.numbered c.in-Ok.ensures.left.ran
+    reported_early s j tables a _ _ drained _ came c.requires.ready.matching c.in-Ok.ensures.left.ran
     (are_drained (λ v. v.items) j tables.places o.tasks.items o.sets lists (job_came s j came) c.in-Ok.ensures.outcome c.in-Ok.ensures.extras)
     (reports solo j tables a.before a.after o.tasks.items o.sets (λ results sets. early_of j tables results sets drained) c.in-Ok.ensures.left c.in-Ok.ensures.outcome)
     (written_as _ _ _ (rw c.deref.ensures.value at c.early.ensures) c.status_of.ensures.whole c.status_of.ensures.failed)

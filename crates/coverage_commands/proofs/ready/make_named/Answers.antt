@@ -1,8 +1,21 @@
 use Rattle.std.proofs.lemmas.Result.{err_from_is_err_and}
-use Rattle.coverage_commands.specs.Words.{WithSession}
+use Rattle.job_input.proofs.OneInput.{came_job}
+use Rattle.coverage_commands.specs.Words.{with_session}
 use Rattle.coverage_commands.proofs.ready.make_named.Goals as goal
+
+pub returns-in_err-session-clause-stopped : goal.returns-in_err-session-clause-stopped
+returns-in_err-session-clause-stopped g c =
+    let p = err_from_is_err_and c.from_residual-in_err-session.result c.from_residual-in_err-session.ensures.1 in
+    rw (p.1, p.2) (c.in_err-session.ensures.stopped c.args.more _ (came_job _ _ _ _ _ c.in_ok-input.ensures.input.came))
 
 pub returns-in_err-tables-clause-stopped : goal.returns-in_err-tables-clause-stopped
 returns-in_err-tables-clause-stopped g c =
     let p = err_from_is_err_and c.from_residual-in_err-tables.result c.from_residual-in_err-tables.ensures.1 in
-    rw (p.1, p.2) (c.in_err-tables.ensures.stopped (record { more = c.args.more }) (WithSession (record { name = c.args.name.now; whole = c.args.whole })) _ c.in_ok-read.ensures.job c.in_ok-session.ensures.asked)
+    rw (p.1, p.2) (c.in_err-tables.ensures.stopped (with_session c.args.name.now c.args.whole) c.in_ok-session.ensures.asked c.args.more _ (came_job _ _ _ _ _ c.in_ok-input.ensures.input.came))
+
+pub returns-clause-ready : goal.returns-clause-ready
+returns-clause-ready g c = record {
+  ready = record { input = c.in_ok-input.ensures.input; has = c.in_ok-session.ensures.asked; ready = c.in_ok-tables.ensures.ready };
+  session = c.in_ok-session.ensures.session;
+  free = c.in_ok-session.ensures.whole;
+}

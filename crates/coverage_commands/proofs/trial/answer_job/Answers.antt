@@ -23,5 +23,5 @@ trial_text-requires-clause-within g c n here =
 pub returns : goal.returns
 returns g c s unread =
     let a = areas_change g.A.Areas.ledger g.A.Areas.finals g.A.Areas.made c.args.areas.now c.run_job.new.areas in
-    tried c.args.number c.args.tasks c.args.job.now s c.args.tables.now a c.in-Ok.outcome.tasks.items c.in-Ok.outcome.sets _ _ c.requires.job unread c.requires.numbered
-    (written_as _ _ _ c.trial_text.ensures c.status_of.ensures.whole c.status_of.ensures.failed) c.requires.matching c.in-Ok.ensures.left c.in-Ok.ensures.outcome
+    tried c.args.number c.args.tasks c.args.job.now s c.args.tables.now a c.in-Ok.outcome.tasks.items c.in-Ok.outcome.sets _ _ c.requires.job unread
+    (written_as _ _ _ c.trial_text.ensures c.status_of.ensures.whole c.status_of.ensures.failed) c.requires.ready.matching c.in-Ok.ensures.left c.in-Ok.ensures.outcome

@@ -1,7 +1,7 @@
 use Rattle.std.proofs.Common.{◌≡◌, None, sym, subst}
 use Rattle.report_text.specs.Conditions.{HasFewLines}
 use Rattle.session_book.specs.JobView.{JobView}
-use Rattle.coverage_commands.specs.Refusals.{job_refusal}
+use Rattle.job_tables.specs.Faults.{job_fault}
 use Rattle.coverage_commands.proofs.TrialLemmas.{trial_faultless, trial_few_lines}
 use Rattle.coverage_commands.proofs.trial.answer_trial.Goals as goal
 
@@ -9,4 +9,4 @@ pub faultless_tables-requires-clause-few : goal.faultless_tables-requires-clause
 faultless_tables-requires-clause-few g c = subst (λ (j : JobView). HasFewLines j) (sym c.in-Ok.ensures) (trial_few_lines c.args.number c.args.tasks)
 
 pub faultless_tables-requires-clause-faultless : goal.faultless_tables-requires-clause-faultless
-faultless_tables-requires-clause-faultless g c = subst (λ (j : JobView). job_refusal j ≡ None) (sym c.in-Ok.ensures) (trial_faultless c.args.number c.args.tasks)
+faultless_tables-requires-clause-faultless g c = subst (λ (j : JobView). job_fault j ≡ None) (sym c.in-Ok.ensures) (trial_faultless c.args.number c.args.tasks)

@@ -1,6 +1,0 @@
-use Rattle.std.proofs.Common.{refl}
-use Rattle.coverage_commands.proofs.IncomingLemmas.{come_nothing}
-use Rattle.coverage_commands.proofs.incoming.Incoming.new.Goals as goal
-
-pub returns-clause-nothing : goal.returns-clause-nothing
-returns-clause-nothing c = come_nothing _ c.in_ok-reader.ensures.nothing c.in_ok-reader.ensures.reading refl c.new-2.ensures.items

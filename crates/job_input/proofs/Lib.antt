@@ -1,0 +1,3 @@
+pub mod IncomingLemmas
+pub mod InputLemmas
+pub mod OneInput

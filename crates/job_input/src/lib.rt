@@ -1,0 +1,11 @@
+//! The stage from a source to a job: the source is read to its end, and the job of its first lines meanwhile. What stands
+//! behind the job is kept where more than a job may come, and else is a fault.
+//! Faults are values, of the source or of the job; what they are told by is made above.
+#![tactic(auto)]
+
+mod faults;
+mod incoming;
+mod reading;
+
+pub use faults::InputFault;
+pub use reading::{Input, read_input, job_of_source};

@@ -1,0 +1,41 @@
+//! A source that is read to its end, and the job of its first lines.
+ghost use Rattle.std.specs.Prelude.{IfOk, IfErr};
+ghost use Rattle.job_input.specs.Inputs.{CameWhole, IsInput, IsInputFault, IsReadFault, source_change};
+
+use crate::faults::InputFault;
+use crate::incoming::Incoming;
+use cov_base::INPUT_LIMIT;
+use cov_outside::{ReadFault, Source, read_all};
+use session_book::Job;
+use std::alloc::Global;
+
+/// A job that came, the number of its lines, and the bytes behind them where more than a job may come.
+#[derive(Drop)]
+pub struct Input {
+    pub job: Job,
+    pub lines: u32,
+    pub rest: Vec<u8>,
+}
+
+/// Reads the source to its end.
+pub fn read_input<S: Source>(alloc: Global, source: &mut S) -> Result<Vec<u8>, ReadFault>
+    ensures bytes { IfOk result (λ v. CameWhole (source_change S.left S.faults source.old source.new) v.items) }
+    ensures fault { IfErr result (IsReadFault (source_change S.left S.faults source.old source.new)) }
+{
+    read_all(alloc, source, INPUT_LIMIT)
+}
+
+/// Reads the source to its end, and the job of its first lines meanwhile. A fault of the source comes before one of the job.
+/// What stands behind the job is kept where `more` may stand there; else the line behind it is bad.
+pub fn job_of_source<S: Source>(
+    alloc: Global,
+    source: &mut S,
+    more: bool,
+) -> Result<Input, InputFault>
+    ensures came { IfOk result (IsInput more (source_change S.left S.faults source.old source.new)) }
+    ensures fault { IfErr result (IsInputFault more (source_change S.left S.faults source.old source.new)) }
+{
+    let mut incoming = Incoming::new(alloc, more)?;
+    incoming.fill(alloc, source)?;
+    Ok(incoming.finish(alloc)?)
+}

@@ -1,0 +1,2 @@
+pub mod OneTables
+pub mod TableLemmas
