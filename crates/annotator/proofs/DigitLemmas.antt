@@ -3,7 +3,7 @@ use Rattle.std.proofs.Common.{◌≡◌, ℕ, zero, suc, ◌+◌, ◌-◌, ◌/�
 use Rattle.std.specs.Fmt.{digit_glyph}
 use Rattle.std.proofs.lemmas.Fmt.{length-decimal-le}
 use Rattle.std.proofs.lemmas.List.{drop-set}
-use Rattle.annotator.specs.Digits.{hex_digits}
+use Rattle.annotator.specs.Meaning.{hex_digits}
 
 -- a number of 32 bits
 pub decimal_of_word : (n : ℕ) → n < 2 ^ 32 → length (decimal n) ≤ 10

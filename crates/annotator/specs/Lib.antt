@@ -1,2 +1,1 @@
-pub mod Annotated
-pub mod Digits
+pub mod Meaning

@@ -1,6 +1,6 @@
 //! The listing line with its mark.
 ghost use Rattle.std.specs.Prelude.{◌≡◌, ◌≤◌, length};
-ghost use Rattle.annotator.specs.Annotated.{mark_byte, annotated};
+ghost use Rattle.annotator.specs.Meaning.{mark_byte, annotated};
 
 use crate::text::add_text;
 use arrayvec::ArrayVec;

@@ -2,7 +2,7 @@
 ghost use Rattle.std.specs.Prelude.{◌≡◌, ◌+◌, ◌<◌, ◌≤◌, ◌^◌, ◌++◌, length, true, decimal};
 ghost use Rattle.std.specs.Fmt.{digit_glyph};
 ghost use Rattle.arrayvec.specs.ArrayVec.{array_vec_len};
-ghost use Rattle.annotator.specs.Digits.{hex_digits};
+ghost use Rattle.annotator.specs.Meaning.{hex_digits};
 
 use arrayvec::ArrayVec;
 use itoa::Buffer;

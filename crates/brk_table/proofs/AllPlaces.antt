@@ -1,7 +1,7 @@
 -- All places of some tables, and of one more.
 use Rattle.std.proofs.Common.{◌≡◌, ℕ, ◌+◌, ◌<◌, List, [], ◌∷◌, ◌++◌, length, get_or, take, refl, sym, ap, ◌∙◌, append_assoc}
 use Rattle.std.proofs.lemmas.List.{take_more, append-nil}
-use Rattle.brk_table.specs.Places.{TableView, all_places}
+use Rattle.brk_table.specs.Meaning.{TableView, all_places}
 
 pub all_places_append : (ts us : List TableView) → all_places (ts ++ us) ≡ all_places ts ++ all_places us
 all_places_append [] us = refl

@@ -2,12 +2,13 @@
 use Rattle.std.proofs.Common.{◌≡◌, inl, inr, ℕ, ◌+◌, ◌<◌, List, [], ◌∷◌, ◌++◌, length, get_or, subst, sym, arith, length-append, All}
 use Rattle.std.proofs.lemmas.Bool.{cases_lt}
 use Rattle.std.proofs.lemmas.List.{get_or_append_left, get_or_default, get_or_push}
-use Rattle.cov_base.specs.Memory.{ImageView}
-use Rattle.module_area.specs.PlanView.{no_place, place_of}
+use Rattle.cov_base.specs.Meaning.{ImageView}
+use Rattle.module_area.specs.Meaning.{no_place, place_of}
 use Rattle.module_area.specs.declared.places.Place.{Place}
 use Rattle.s370_decode.specs.declared.code.Code.{Code}
 use Rattle.brk_table.specs.Kept.{IsCodeOf, AreCodes}
-use Rattle.brk_table.specs.Places.{TablesView, IsIn}
+use Rattle.brk_table.specs.Meaning.{TablesView}
+use Rattle.brk_table.specs.Places.{IsIn}
 
 -- those of the first n places
 pub record AreFirst (images : List ImageView) (places : List Place) (codes : List Code) (n : ℕ) : Type 0 where

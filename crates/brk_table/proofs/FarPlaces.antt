@@ -3,8 +3,8 @@ use Rattle.std.proofs.Common.{◌≡◌, inl, inr, ℕ, zero, suc, ◌+◌, ◌*
 use Rattle.std.proofs.lemmas.Bool.{cases_lt}
 use Rattle.std.proofs.lemmas.List.{append-nil, get_or_default, get_or_append_left, get_or-append-add}
 use Rattle.std.proofs.lemmas.List.Elements.{All-append}
-use Rattle.cov_base.specs.Codes.{length_of}
-use Rattle.module_area.specs.PlanView.{no_place, place_of}
+use Rattle.cov_base.specs.Meaning.{length_of}
+use Rattle.module_area.specs.Meaning.{no_place, place_of}
 use Rattle.module_area.specs.declared.places.Place.{Place}
 use Rattle.brk_table.specs.Places.{IsPlace, ArePlaces}
 

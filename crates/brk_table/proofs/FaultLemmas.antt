@@ -6,14 +6,14 @@ use Rattle.std.proofs.lemmas.Bool.{cases_lt, and_from, lt-ltb, and_parts, le-leb
 use Rattle.std.proofs.lemmas.Bool.Decides.{nat_tests}
 use Rattle.std.proofs.lemmas.List.{get_or_append_left, get_or_push, get_or_default, length_push}
 use Rattle.std.proofs.lemmas.List.Folds.{list_any_none, list_any_at}
-use Rattle.cov_base.specs.Codes.{breakpoint, length_of}
-use Rattle.s370_decode.specs.Fields.{first_half}
+use Rattle.cov_base.specs.Meaning.{breakpoint, length_of}
+use Rattle.s370_decode.specs.Meaning.{first_half}
 use Rattle.s370_decode.specs.declared.code.Code.{Code}
 use Rattle.listing_reader.specs.Listing.{is_sound}
 use Rattle.listing_reader.specs.declared.lines.Line.{Line}
 use Rattle.listing_reader.specs.declared.lines.Line.TheVariants.{Text}
 use Rattle.listing_reader.specs.declared.lines.Line.TheVariants as says
-use Rattle.brk_table.specs.Build.{shares, module_code, fault_by}
+use Rattle.brk_table.specs.Meaning.{shares, module_code, fault_by}
 use Rattle.brk_table.specs.Cover.{covers, is_covered, IsCover}
 use Rattle.brk_table.proofs.CoverLemmas.{not_covered, covered}
 

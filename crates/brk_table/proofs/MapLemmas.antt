@@ -2,9 +2,8 @@
 use Rattle.std.proofs.Common.{◌≡◌, ◌≢◌, ◌⊎◌, inl, inr, ℕ, ◌+◌, ◌-◌, ◌*◌, ◌/◌, ◌%◌, ◌<◌, ◌≤◌, true, false, List, ◌++◌, length, get_or, replicate, sym, ap, ◌∙◌, arith, length-append}
 use Rattle.std.proofs.Math.ListN.{set}
 use Rattle.std.proofs.lemmas.List.{get_or_append_left, get_or-append-add, get_or-replicate, get_or-set_same, get_or-set_other, length-set, length-replicate}
-use Rattle.cov_base.specs.Codes.{length_of}
-use Rattle.module_area.specs.PlanView.{no_place, place_of}
-use Rattle.module_area.specs.Executions.{is_place}
+use Rattle.cov_base.specs.Meaning.{length_of}
+use Rattle.module_area.specs.Meaning.{no_place, place_of, is_place}
 use Rattle.module_area.specs.declared.places.Place.{Place}
 use Rattle.brk_table.specs.Places.{IsPlace, AreApart, ArePlaces}
 use Rattle.brk_table.proofs.PlaceLemmas.{is_place-nowhere, is_place-there}

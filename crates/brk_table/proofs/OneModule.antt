@@ -1,9 +1,9 @@
 -- The table of one module alone.
 use Rattle.std.proofs.Common.{◌≤◌, [], ◌∷◌, length, refl, sym, subst, arith}
 use Rattle.std.proofs.lemmas.List.{append-nil}
-use Rattle.cov_base.specs.Memory.{ImageView}
+use Rattle.cov_base.specs.Meaning.{ImageView}
 use Rattle.module_area.specs.Images.{IsImage}
-use Rattle.brk_table.specs.Places.{TableView}
+use Rattle.brk_table.specs.Meaning.{TableView}
 use Rattle.brk_table.specs.Build.{HasOwnPlaces}
 use Rattle.brk_table.specs.Together.{IsTableOf}
 use Rattle.brk_table.proofs.FarPlaces.{just_one}

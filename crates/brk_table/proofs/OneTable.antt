@@ -1,13 +1,12 @@
 -- The places of a listing's table are determined.
 use Rattle.std.proofs.Common.{◌≡◌, ℕ, ◌<◌, zero, suc, Option, Some, None, List, [], ◌∷◌, length, get_or, AllPairs, refl, sym, ap, ◌∙◌, subst, arith}
 use Rattle.std.proofs.lemmas.List.{get_or_default}
-use Rattle.module_area.specs.PlanView.{no_place, place_of}
+use Rattle.module_area.specs.Meaning.{no_place, place_of}
 use Rattle.module_area.specs.declared.places.Place.{Place}
 use Rattle.listing_reader.specs.declared.lines.Line.{Line}
 use Rattle.listing_reader.specs.declared.lines.Line.TheVariants.{Text}
 use Rattle.listing_reader.specs.declared.lines.Line.TheVariants as says
-use Rattle.brk_table.specs.Places.{TableView}
-use Rattle.brk_table.specs.Build.{IsEntry, IsTable}
+use Rattle.brk_table.specs.Meaning.{TableView, IsEntry, IsTable}
 
 abbrev Rising : List Place → Type 0
 Rising ps = AllPairs (λ p q. p.at < q.at) ps

@@ -9,18 +9,18 @@ use Rattle.std.proofs.lemmas.Bool.Decides.{nat_tests}
 use Rattle.std.proofs.lemmas.List.{get_or_default, get_or-take, length-take-le}
 use Rattle.std.proofs.lemmas.List.Folds.{list_any_at}
 use Rattle.std.proofs.lemmas.Slice.Eq.{bytes_eq-Decides}
-use Rattle.cov_base.specs.Codes.{breakpoint, length_of}
-use Rattle.cov_base.specs.Memory.{ImageView}
-use Rattle.s370_decode.specs.Fields.{first_half}
+use Rattle.cov_base.specs.Meaning.{breakpoint, length_of, ImageView}
+use Rattle.s370_decode.specs.Meaning.{first_half}
 use Rattle.s370_decode.specs.declared.code.Code.{Code}
-use Rattle.module_area.specs.PlanView.{no_place, place_of}
+use Rattle.module_area.specs.Meaning.{no_place, place_of}
 use Rattle.module_area.specs.declared.places.Place.{Place}
 use Rattle.listing_reader.specs.Listing.{is_sound}
 use Rattle.listing_reader.specs.declared.lines.Line.{Line}
 use Rattle.listing_reader.specs.declared.lines.Line.TheVariants.{Text}
 use Rattle.listing_reader.specs.declared.lines.Line.TheVariants as says
-use Rattle.brk_table.specs.Places.{TableView, IsPlace, AreApart}
-use Rattle.brk_table.specs.Build.{shares, is_code, module_code, fault_at, first_fault, place_from, IsEntry, IsTable, IsOwn, HasOwnPlaces}
+use Rattle.brk_table.specs.Meaning.{TableView, shares, is_code, module_code, fault_at, first_fault, place_from, IsEntry, IsTable}
+use Rattle.brk_table.specs.Places.{IsPlace, AreApart}
+use Rattle.brk_table.specs.Build.{IsOwn, HasOwnPlaces}
 use Rattle.brk_table.specs.declared.faults.BuildFault.{BuildFault}
 use Rattle.brk_table.proofs.FaultLemmas.{IsFaultless, faultless, sound_length}
 use Rattle.brk_table.proofs.Passes.{next_fault}

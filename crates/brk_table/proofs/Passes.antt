@@ -12,7 +12,7 @@ use Rattle.listing_reader.specs.Listing.{is_sound}
 use Rattle.listing_reader.specs.declared.lines.Line.{Line}
 use Rattle.listing_reader.specs.declared.lines.Line.TheVariants.{Text}
 use Rattle.listing_reader.specs.declared.lines.Line.TheVariants as says
-use Rattle.brk_table.specs.Build.{shares, is_code, fault_by, fault_at, first_fault}
+use Rattle.brk_table.specs.Meaning.{shares, is_code, fault_by, fault_at, first_fault}
 use Rattle.brk_table.specs.Cover.{is_covered, is_inside, IsCover}
 use Rattle.brk_table.specs.declared.faults.BuildFault.{BuildFault}
 use Rattle.brk_table.proofs.FaultLemmas.{IsFaultless, faultless, same_fault, sound_length, cover_text, cover_more}

@@ -2,9 +2,8 @@
 use Rattle.std.proofs.Common.{◌≡◌, ◌≢◌, ℕ, ◌<◌, ◌≤◌, zero, suc, Bool, true, false, ◌||◌, ◌==◌, List, [], ◌∷◌, length, inl, inr, refl, sym, arith}
 use Rattle.std.proofs.lemmas.Bool.{cases_order}
 use Rattle.std.proofs.lemmas.Bool.Decides.{nat_tests}
-use Rattle.cov_base.specs.Codes.{length_of}
-use Rattle.module_area.specs.PlanView.{place_of, no_place}
-use Rattle.module_area.specs.Executions.{is_place}
+use Rattle.cov_base.specs.Meaning.{length_of}
+use Rattle.module_area.specs.Meaning.{place_of, no_place, is_place}
 use Rattle.module_area.specs.declared.places.Place.{Place}
 use Rattle.brk_table.specs.Places.{ArePlaces, AreApart, IsPlace}
 

@@ -4,7 +4,8 @@ use Rattle.std.proofs.lemmas.Bool.{cases_lt, ne_eqb, eq-eqb}
 use Rattle.cov_base.specs.declared.numbers.PlaceNo.{PlaceNo}
 use Rattle.std.proofs.lemmas.Bool.Decides.{nat_tests}
 use Rattle.std.proofs.lemmas.List.{drop_more, drop_all, get_or_past}
-use Rattle.brk_table.specs.Places.{TableView, HasItsPlaces, all_places, first_place, place_count, entry_of_line, place_at_line}
+use Rattle.brk_table.specs.Meaning.{TableView, all_places, first_place, place_count, entry_of_line, place_at_line}
+use Rattle.brk_table.specs.Places.{HasItsPlaces}
 
 -- the module's table is met
 pub first-here : (t : TableView) (ts : List TableView) (m : ℕ) → t.«module» ≡ m → first_place (t ∷ ts) m ≡ 0

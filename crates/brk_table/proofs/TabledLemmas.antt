@@ -6,13 +6,13 @@ use Rattle.std.proofs.lemmas.Bool.{cases_lt, cases_eq, leb-true}
 use Rattle.std.proofs.lemmas.List.{get_or_append_left, get_or_push, get_or_default, length_push, length-set, get_or-set_same, get_or-set_other}
 use Rattle.std.proofs.lemmas.List.Sums.{sum_by-set, sum_by-cons}
 use Rattle.s370_decode.specs.declared.code.Code.{Code}
-use Rattle.module_area.specs.PlanView.{no_place, place_of}
+use Rattle.module_area.specs.Meaning.{no_place, place_of}
 use Rattle.module_area.specs.declared.places.Place.{Place}
 use Rattle.listing_reader.specs.Listing.{is_sound}
 use Rattle.listing_reader.specs.declared.lines.Line.{Line}
 use Rattle.listing_reader.specs.declared.lines.Line.TheVariants.{Text}
 use Rattle.listing_reader.specs.declared.lines.Line.TheVariants as says
-use Rattle.brk_table.specs.Build.{is_code, place_from, IsEntry, IsTable}
+use Rattle.brk_table.specs.Meaning.{is_code, place_from, IsEntry, IsTable}
 use Rattle.brk_table.specs.Cover.{covers, is_inside, IsCover, IsEntryBelow, IsTabled, OnlyAt}
 use Rattle.brk_table.proofs.FaultLemmas.{sound_length, covers_code}
 

@@ -4,10 +4,11 @@ use Rattle.std.specs.Prelude.{AllPairs}
 use Rattle.std.proofs.lemmas.Bool.{cases_lt}
 use Rattle.std.proofs.lemmas.List.{get_or_default, get_or_append_left, get_or-append_right}
 use Rattle.std.proofs.lemmas.List.Elements.{All-append, All-tail}
-use Rattle.cov_base.specs.Memory.{ImageView}
+use Rattle.cov_base.specs.Meaning.{ImageView}
 use Rattle.module_area.specs.Images.{AreClear, AreImages}
 use Rattle.module_area.specs.declared.places.Place.{Place}
-use Rattle.brk_table.specs.Places.{TableView, IsPlace, IsIn, AreApart, ArePlaces, HasItsPlaces, HasRisingPlaces, all_places}
+use Rattle.brk_table.specs.Meaning.{TableView, all_places}
+use Rattle.brk_table.specs.Places.{IsPlace, IsIn, AreApart, ArePlaces, HasItsPlaces, HasRisingPlaces}
 use Rattle.brk_table.specs.Together.{IsTableOf, AreTables}
 
 tail_pairs : {X : Type 0} (R : X → X → Type 0) (x : X) (xs : List X) → AllPairs R (x ∷ xs) → AllPairs R xs

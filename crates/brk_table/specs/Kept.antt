@@ -1,11 +1,11 @@
 -- The instructions that are kept beside the places.
 use Rattle.std.specs.Prelude.{◌≡◌, ℕ, ◌+◌, ◌-◌, ◌/◌, ◌%◌, ◌<◌, ◌≤◌, true, false, nat_lt, if◌then◌else◌, List, [], ◌∷◌, length, get_or, All}
-use Rattle.cov_base.specs.Memory.{Memory, ImageView, wrap, can_reach, half_at}
-use Rattle.module_area.specs.PlanView.{place_of}
+use Rattle.cov_base.specs.Meaning.{Memory, ImageView, wrap, can_reach, half_at}
+use Rattle.module_area.specs.Meaning.{place_of}
 use Rattle.module_area.specs.declared.places.Place.{Place}
 use Rattle.s370_decode.specs.declared.code.Code.{Code}
-use Rattle.brk_table.specs.Build.{module_code}
-use Rattle.brk_table.specs.Places.{TablesView, ArePlaces, IsIn}
+use Rattle.brk_table.specs.Meaning.{module_code, TablesView}
+use Rattle.brk_table.specs.Places.{ArePlaces, IsIn}
 
 -- the whole instruction of a place of the module
 abbrev pub code_in : ImageView → Place → Code

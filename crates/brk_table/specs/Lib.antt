@@ -1,6 +1,7 @@
-pub mod Places
-pub mod Map
 pub mod Build
-pub mod Kept
 pub mod Cover
+pub mod Kept
+pub mod Map
+pub mod Meaning
+pub mod Places
 pub mod Together

@@ -1,8 +1,8 @@
 -- The tables of a job's modules.
 use Rattle.std.specs.Prelude.{◌≡◌, ◌<◌, ◌≤◌, List, length, get_or, All, AllPairs}
-use Rattle.cov_base.specs.Memory.{ImageView}
+use Rattle.cov_base.specs.Meaning.{ImageView}
 use Rattle.cov_base.specs.declared.limits.TheConstants.{PLACE_LIMIT}
-use Rattle.brk_table.specs.Places.{TableView, all_places}
+use Rattle.brk_table.specs.Meaning.{TableView, all_places}
 use Rattle.brk_table.specs.Build.{HasOwnPlaces}
 
 -- a table of one of the modules

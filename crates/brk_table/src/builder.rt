@@ -2,7 +2,8 @@
 ghost use Rattle.std.specs.Prelude.{◌≡◌, ◌+◌, ◌%◌, ◌≤◌, None, [], length, count_by, IfOk, IfErr, IsOk};
 ghost use Rattle.std.specs.List.{AllPass};
 ghost use Rattle.listing_reader.specs.Listing.{is_sound, IsTold};
-ghost use Rattle.brk_table.specs.Build.{first_fault, is_code, IsTable, HasOwnPlaces};
+ghost use Rattle.brk_table.specs.Meaning.{first_fault, is_code, IsTable};
+ghost use Rattle.brk_table.specs.Build.{HasOwnPlaces};
 
 use crate::fault::first_fault;
 use crate::faults::BuildFault;

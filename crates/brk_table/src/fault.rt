@@ -2,7 +2,7 @@
 ghost use Rattle.std.specs.Prelude.{◌≡◌, ℕ, ◌+◌, ◌<◌, ◌≤◌, None, IsNone, [], length, get_or, count_by};
 ghost use Rattle.std.specs.List.{AllPass};
 ghost use Rattle.listing_reader.specs.Listing.{is_sound};
-ghost use Rattle.brk_table.specs.Build.{module_byte, module_code, fault_by, is_code, first_fault};
+ghost use Rattle.brk_table.specs.Meaning.{module_byte, module_code, fault_by, is_code, first_fault};
 ghost use Rattle.brk_table.specs.Cover.{is_covered, is_inside, IsCover};
 
 use crate::cover::{is_covered, mark};
@@ -38,7 +38,7 @@ pub fn module_code(bytes: &[u8], loc: usize, len: u8) -> Code
 }
 
 /// The fault of line n, where so many instructions stand before it.
-#[tactic(auto, unfolding(crate::specs::Build::fault_by))]
+#[tactic(auto, unfolding(crate::specs::Meaning::fault_by))]
 pub fn fault_by(
     bytes: &[u8],
     room: u32,

@@ -4,7 +4,7 @@ ghost use Rattle.std.specs.List.{AllPass};
 ghost use Rattle.s370_decode.specs.declared.code.Code.{Code as Instruction};
 ghost use Rattle.listing_reader.specs.Listing.{is_sound};
 ghost use Rattle.listing_reader.specs.declared.lines.Line.TheVariants as says;
-ghost use Rattle.brk_table.specs.Build.{place_from, is_code, IsTable};
+ghost use Rattle.brk_table.specs.Meaning.{place_from, is_code, IsTable};
 ghost use Rattle.brk_table.specs.Cover.{is_inside, IsCover, IsTabled, OnlyAt};
 
 use crate::faults::BuildFault;

@@ -1,11 +1,11 @@
 //! The places of a module, and of all monitored modules.
 ghost use Rattle.std.specs.Prelude.{◌≡◌, ◌↔◌, ℕ, ◌<◌, ◌≤◌, true, false, length, get_or, IfSome, IfOk, IsNone, All, AllPairs};
-ghost use Rattle.module_area.specs.PlanView.{place_of};
-ghost use Rattle.module_area.specs.Executions.{is_place};
+ghost use Rattle.module_area.specs.Meaning.{place_of, is_place};
 ghost use Rattle.std.specs.Prelude.{◌+◌, nat_eq, option_map};
 ghost use Rattle.brk_table.specs.Kept.{AreCodes};
 ghost use Rattle.s370_decode.specs.declared.code.Code.{Code as Instruction};
-ghost use Rattle.brk_table.specs.Places.{IsIn, HasItsPlaces, HasRisingPlaces, first_place, place_count, entry_of_line, place_at_line};
+ghost use Rattle.brk_table.specs.Meaning.{first_place, place_count, entry_of_line, place_at_line};
+ghost use Rattle.brk_table.specs.Places.{IsIn, HasItsPlaces, HasRisingPlaces};
 ghost use Rattle.cov_base.specs.declared.numbers.PlaceNo.{PlaceNo as Number};
 
 use crate::codes::codes_of;
@@ -27,7 +27,7 @@ pub struct Table {
 }
 
 impl Model for Table {
-    ghost use Rattle.brk_table.specs.Places.{TableView};
+    ghost use Rattle.brk_table.specs.Meaning.{TableView};
 
     ghost Value = { TableView };
 
@@ -49,7 +49,8 @@ pub struct Tables {
 impl Model for Tables {
     ghost use Rattle.std.specs.Prelude.{◌≡◌};
     ghost use Rattle.std.specs.Prelude.{All};
-    ghost use Rattle.brk_table.specs.Places.{TablesView, ArePlaces, HasItsPlaces, HasRisingPlaces, all_places};
+    ghost use Rattle.brk_table.specs.Meaning.{TablesView, all_places};
+    ghost use Rattle.brk_table.specs.Places.{ArePlaces, HasItsPlaces, HasRisingPlaces};
     ghost use Rattle.std.specs.Prelude.{length};
     ghost use Rattle.brk_table.specs.Map.{IsMap};
 
@@ -99,7 +100,8 @@ impl Table {
 }
 
 impl Tables {
-    ghost use Rattle.brk_table.specs.Places.{ArePlaces, all_places};
+    ghost use Rattle.brk_table.specs.Meaning.{all_places};
+    ghost use Rattle.brk_table.specs.Places.{ArePlaces};
 
     /// Numbers the places of tables that `build` gave for different modules in rising order, whose modules share no
     /// byte, with at most 65,536 places together.

@@ -1,7 +1,7 @@
 //! A small module's listing, with one line changed at a time, the instructions kept of another, and the map of many places
 //! beside a search.
 ghost use Rattle.std.specs.Prelude.{◌≡◌, ◌≢◌, ◌+◌, ◌*◌, ◌/◌, ◌%◌, ◌<◌, length, IfOk, IfSome};
-ghost use Rattle.cov_base.specs.Codes.{breakpoint};
+ghost use Rattle.cov_base.specs.Meaning.{breakpoint};
 ghost use Rattle.brk_table.specs.Places.{IsPlace};
 
 use brk_table::{BuildFault, LinePlaces, Table, Tables, build};

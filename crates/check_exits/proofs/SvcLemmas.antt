@@ -1,23 +1,17 @@
 -- A step that ends a task BadSvc has read its first halfword, and leaves all but the count.
 use Rattle.std.proofs.Common.{◌≡◌, ℕ, ◌%◌, Bool, true, false, if◌then◌else◌, ◌==◌, nat_le, Option, Some, None, List, [], ◌∷◌, ◌++◌, refl, sym, ap, subst}
 use Rattle.std.proofs.lemmas.Bool.{cond_both, both_ways}
-use Rattle.cov_base.specs.Codes.{length_of}
-use Rattle.cov_base.specs.Memory.{Memory, can_reach, half_at}
-use Rattle.cov_base.specs.States.{IoView, Machine, State}
-use Rattle.s370_state.specs.Row.{Outcome, Completes, Overflows, Program, Row, Use, after_tests, all_reached, all_stored, finish, is_enabled, next_after, operate, perform, reg, stores, reads, tests, touch_ending, touched, use_tests}
-use Rattle.s370_state.specs.Io.{bytes_free}
+use Rattle.cov_base.specs.Meaning.{length_of, Memory, can_reach, half_at, IoView, Machine, State}
+use Rattle.s370_state.specs.Meaning.{Outcome, Completes, Overflows, Program, Row, Use, after_tests, all_reached, all_stored, finish, is_enabled, next_after, operate, perform, reg, stores, reads, tests, touch_ending, touched, use_tests, bytes_free}
 use Rattle.s370_state.specs.declared.endings.Ending.{Ending}
 use Rattle.s370_state.specs.declared.endings.Ending.TheVariants.{Exit, Abend, BadSvc, OutFull}
 use Rattle.s370_state.specs.declared.endings.Next.{Next}
 use Rattle.s370_state.specs.declared.endings.Next.TheVariants.{On, Ended}
-use Rattle.s370_decode.specs.Fields.{ex, first_half, i2}
-use Rattle.s370_decode.specs.Table.{op_of}
+use Rattle.s370_decode.specs.Meaning.{ex, first_half, i2, op_of}
 use Rattle.s370_decode.specs.declared.code.Code.{Code}
 use Rattle.s370_decode.specs.declared.op.Op.{Op}
-use Rattle.s370_exec.specs.Effects.{Effect, at_address, call, call_address, effect, ended_by, get_call, get_size, get_tested, is_completed, link_code, onward, onward_by, operand, put_call, put_tested, unchanged, updated}
-use Rattle.s370_exec.specs.Fetch.{code_at, first_tests, is_execute, merged, rest_tests, subject_tests}
+use Rattle.s370_exec.specs.Meaning.{Effect, at_address, call, call_address, effect, ended_by, get_call, get_size, get_tested, is_completed, link_code, onward, onward_by, operand, put_call, put_tested, unchanged, updated, code_at, first_tests, is_execute, merged, rest_tests, subject_tests, Step, begun_step, behind, fetched, from_first, solo_step, stepped, subject_fetched, subject_step, visit}
 use Rattle.s370_exec.proofs.Groups.{of_effect}
-use Rattle.s370_exec.specs.Solo.{Step, begun_step, behind, fetched, from_first, solo_step, stepped, subject_fetched, subject_step, visit}
 
 abbrev is_bad : Ending → Bool
 is_bad (BadSvc number) = true

@@ -1,7 +1,7 @@
 -- What an exit is behind the instructions of its task.
 use Rattle.std.specs.Prelude.{◌≡◌, ℕ, Option}
 use Rattle.observed_step.specs.Hooks.{Way}
-use Rattle.check_exits.specs.Exits.{by_next}
+use Rattle.check_exits.specs.Meaning.{by_next}
 use Rattle.check_exits.specs.declared.exits.Exit.{Exit}
 
 -- the course depends on the exit alone, and the pass stays

@@ -1,2 +1,2 @@
 pub mod ExitWay
-pub mod Exits
+pub mod Meaning

@@ -1,9 +1,8 @@
 //! The exit of a task, and what becomes of an ending under it.
 ghost use Rattle.std.specs.Prelude.{◌≡◌, None, []};
-ghost use Rattle.s370_state.specs.Row.{machine_of};
-ghost use Rattle.s370_exec.specs.Effects.{call_address};
-ghost use Rattle.s370_exec.specs.Fetch.{first_tests};
-ghost use Rattle.check_exits.specs.Exits.{at_exit, behind_call, exit_named};
+ghost use Rattle.s370_state.specs.Meaning.{machine_of};
+ghost use Rattle.s370_exec.specs.Meaning.{call_address, first_tests};
+ghost use Rattle.check_exits.specs.Meaning.{at_exit, behind_call, exit_named};
 ghost use Rattle.check_exits.specs.ExitWay.{exit_way};
 
 use brk_table::Tables;

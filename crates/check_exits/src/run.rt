@@ -6,7 +6,7 @@ ghost use Rattle.module_area.specs.Tied.{IsTied};
 ghost use Rattle.observed_step.specs.Steps.{memory_at};
 ghost use Rattle.svc_monitor.specs.First.{IsOver};
 ghost use Rattle.task_run.specs.Ran.{RanAs};
-ghost use Rattle.check_exits.specs.Exits.{with_exits};
+ghost use Rattle.check_exits.specs.Meaning.{with_exits};
 
 use crate::exits::Exit;
 use brk_table::Tables;

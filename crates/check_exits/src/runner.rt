@@ -1,7 +1,7 @@
 //! The runner of tasks under exits.
 ghost use Rattle.std.specs.Prelude.{◌≡◌};
 ghost use Rattle.std.specs.declared.option.Option.TheVariants.{None};
-ghost use Rattle.check_exits.specs.Exits.{with_exits};
+ghost use Rattle.check_exits.specs.Meaning.{with_exits};
 
 use crate::exits::Exit;
 use crate::run::run_under;

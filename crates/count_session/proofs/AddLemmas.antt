@@ -2,20 +2,18 @@
 use Rattle.std.proofs.Common.{◌≡◌, ◌≢◌, ℕ, ◌+◌, ◌<◌, Bool, true, false, ◌&&◌, ◌-◌, ◌*◌, Option, Some, None, ◌==◌, nat_eq, if◌then◌else◌, List, [], ◌∷◌, length, refl, sym, ◌∙◌, ap, subst, arith, eq-eqb, ne_eqb, eqb-true}
 use Rattle.std.proofs.lemmas.List.Elements.{All-get_or}
 use native.Mathlib.Decide.{ℕ_discrete}
-use Rattle.cov_base.specs.Codes.{breakpoint}
-use Rattle.cov_base.specs.Facts.{same_fact, fact_of}
-use Rattle.cov_base.specs.States.{Visit}
+use Rattle.cov_base.specs.Meaning.{breakpoint, same_fact, fact_of, Visit}
 use Rattle.cov_base.specs.declared.facts.Fact.{Fact}
 use Rattle.cov_base.specs.declared.facts.Fact.TheVariants.{Ran, Went, Stayed}
 use Rattle.cov_base.specs.declared.numbers.PlaceNo.{PlaceNo}
 use Rattle.module_area.specs.declared.cells.Cell.{Cell}
 use Rattle.module_area.specs.declared.places.Place.{Place}
-use Rattle.module_area.specs.Executions.{executes}
-use Rattle.module_area.specs.PlanView.{PlanView, place_of, no_place, kind_at, window_at, original_at}
+use Rattle.module_area.specs.Meaning.{executes, PlanView, place_of, no_place, kind_at, window_at, original_at}
 use Rattle.brk_table.specs.Places.{ArePlaces, IsPlace}
 use Rattle.observed_step.specs.Sights.{BeginsAt, IsPlaced}
 use Rattle.count_session.specs.Notes.{CountNotes, after_add, after_fetch, cell_at, is_same}
-use Rattle.count_session.specs.Counting.{gives, count_at, planted_count, Adds}
+use Rattle.count_session.specs.Meaning.{gives, count_at}
+use Rattle.count_session.specs.Counting.{planted_count, Adds}
 
 abbrev one_of : Bool → ℕ
 one_of b = if b then 1 else 0

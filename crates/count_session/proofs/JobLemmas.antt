@@ -3,17 +3,18 @@ use Rattle.std.proofs.Common.{◌≡◌, ℕ, ◌-◌, ◌<◌, ◌≤◌, Bool,
 use Rattle.std.specs.List.{list_any}
 use Rattle.std.proofs.lemmas.List.{length-map}
 use Rattle.cov_base.specs.declared.facts.Fact.{Fact}
-use Rattle.module_area.specs.PlanView.{place_of, window_at}
+use Rattle.module_area.specs.Meaning.{place_of, window_at}
 use Rattle.module_area.specs.declared.places.Place.{Place}
-use Rattle.task_run.specs.Courses.{solo}
-use Rattle.session_book.specs.JobView.{JobView, IsJob}
-use Rattle.session_book.specs.Sessions.{session_of, no_session, AreWhole, observes, traces_from, plan_view}
-use Rattle.job_run.specs.Runs.{trace_by}
+use Rattle.task_run.specs.Meaning.{solo}
+use Rattle.session_book.specs.Meaning.{JobView, session_of, no_session, observes, traces_from, plan_view}
+use Rattle.session_book.specs.JobView.{IsJob}
+use Rattle.session_book.specs.Sessions.{AreWhole}
+use Rattle.job_run.specs.Meaning.{trace_by}
 use Rattle.job_run.specs.declared.outcome.Done.{Done}
 use Rattle.job_run.proofs.SessionLemmas.{window_at-session, phase_in}
-use Rattle.count_session.specs.Counting.{count_of_all}
+use Rattle.count_session.specs.Meaning.{count_of_all, session_count}
 use Rattle.count_session.specs.Job.{IsCountedJob, count_of}
-use Rattle.count_session.specs.Phases.{AreCounted, session_count}
+use Rattle.count_session.specs.Phases.{AreCounted}
 use Rattle.count_session.specs.Slots.{CountSlot}
 use Rattle.job_run.specs.Slots.{dones}
 use Rattle.job_run.specs.Tasks.{AreRun}

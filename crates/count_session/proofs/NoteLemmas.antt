@@ -6,8 +6,9 @@ use Rattle.cov_base.specs.declared.facts.Fact.{Fact}
 use Rattle.cov_base.specs.declared.facts.Fact.TheVariants.{Ran, Went, Stayed}
 use Rattle.cov_base.specs.declared.facts.Kind.{Kind}
 use Rattle.cov_base.specs.declared.facts.Kind.TheVariants.{Straight, Conditional}
-use Rattle.cov_base.specs.Facts.{same_fact, is_of_kind}
-use Rattle.module_area.specs.PlanView.{PlanView, kind_at}
+use Rattle.cov_base.specs.Meaning.{same_fact}
+use Rattle.cov_base.specs.Facts.{is_of_kind}
+use Rattle.module_area.specs.Meaning.{PlanView, kind_at}
 use Rattle.count_session.specs.declared.rule.CountView.{CountView}
 use Rattle.count_session.specs.Notes.{after_add, after_join, is_same}
 use Rattle.count_session.specs.Words.{count_word}

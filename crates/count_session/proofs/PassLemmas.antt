@@ -5,25 +5,24 @@ use Rattle.std.proofs.lemmas.List.{get_or_append_left, length-append}
 use Rattle.std.proofs.Math.Seq.{get_or-append_seam}
 use Rattle.std.specs.declared.result.Result.{Result}
 use Rattle.std.specs.declared.result.Result.TheVariants.{Ok, Err}
-use Rattle.cov_base.specs.Memory.{Memory}
-use Rattle.cov_base.specs.States.{Visit}
+use Rattle.cov_base.specs.Meaning.{Memory, Visit}
 use Rattle.cov_base.specs.declared.facts.Fact.{Fact}
 use Rattle.cov_base.specs.declared.numbers.TaskNo.{TaskNo}
 use Rattle.cov_base.specs.declared.shortage.NoMemory.{NoMemory}
-use Rattle.module_area.specs.PlanView.{PlanView, place_of, window_at}
+use Rattle.module_area.specs.Meaning.{PlanView, place_of, window_at}
 use Rattle.module_area.specs.declared.places.Place.{Place}
 use Rattle.observed_step.specs.Steps.{memory_at}
-use Rattle.task_run.specs.Courses.{solo}
-use Rattle.session_book.specs.JobView.{JobView}
-use Rattle.session_book.specs.Sessions.{task_of, traces_from, plan_view}
+use Rattle.task_run.specs.Meaning.{solo}
+use Rattle.session_book.specs.Meaning.{JobView, task_of, traces_from, plan_view}
 use Rattle.job_run.specs.Crews.{all_tasks, phase_at}
-use Rattle.job_run.specs.Runs.{result_of_run, trace_by}
+use Rattle.job_run.specs.Meaning.{result_of_run, trace_by}
 use Rattle.job_run.specs.Tasks.{HasNotRun, IsEnded, done_result, own_run}
 use Rattle.job_run.specs.declared.outcome.Done.{Done}
 use Rattle.job_run.proofs.EachLemmas.{same_or}
 use Rattle.job_run.proofs.SlotLemmas.{traces-map}
 use Rattle.job_run.proofs.TaskLemmas.{begun_run, private_of}
-use Rattle.count_session.specs.Counting.{Adds, count_at, count_of_all}
+use Rattle.count_session.specs.Meaning.{count_at, count_of_all}
+use Rattle.count_session.specs.Counting.{Adds}
 use Rattle.count_session.specs.Notes.{CountNotes, root_notes}
 use Rattle.count_session.specs.Passes.{IsPassOf, notes_of, plan_in}
 use Rattle.count_session.specs.Phases.{IsCounted, AreCounted, IsFresh, HasCounted, HasJoined, traces_of}

@@ -1,7 +1,7 @@
 -- What a pass has added behind a whole run.
 use Rattle.std.proofs.Common.{◌≡◌, ℕ, [], sym, subst}
-use Rattle.s370_exec.specs.Solo.{solo_run}
-use Rattle.brk_table.specs.Places.{TablesView}
+use Rattle.s370_exec.specs.Meaning.{solo_run}
+use Rattle.brk_table.specs.Meaning.{TablesView}
 use Rattle.observed_step.specs.Hooks.{plain}
 use Rattle.observed_step.specs.Runs.{GoesAs, course_of, stand}
 use Rattle.observed_step.specs.Steps.{memory_at, stands}

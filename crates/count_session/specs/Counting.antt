@@ -1,30 +1,14 @@
 -- How often traces give a fact at a place, and what a pass has added of some visits.
-use Rattle.std.specs.Prelude.{◌≡◌, ℕ, ◌+◌, ◌*◌, ◌<◌, ◌≤◌, Bool, false, ◌&&◌, if◌then◌else◌, Option, List, [], ◌∷◌, length}
-use Rattle.cov_base.specs.Facts.{same_fact, fact_of}
-use Rattle.cov_base.specs.States.{Visit}
+use Rattle.std.specs.Prelude.{◌≡◌, ℕ, ◌+◌, ◌*◌, ◌<◌, ◌≤◌, false, if◌then◌else◌, Option, List, length}
+use Rattle.cov_base.specs.Meaning.{Visit}
 use Rattle.cov_base.specs.declared.facts.Fact.{Fact}
-use Rattle.module_area.specs.declared.places.Place.{Place}
-use Rattle.module_area.specs.Executions.{executes}
-use Rattle.module_area.specs.Control.{ControlView}
-use Rattle.module_area.specs.PlanView.{PlanView, place_of}
-use Rattle.brk_table.specs.Places.{TablesView}
+use Rattle.module_area.specs.Meaning.{ControlView, PlanView, place_of}
+use Rattle.brk_table.specs.Meaning.{TablesView}
 use Rattle.count_session.specs.Notes.{CountNotes}
 use Rattle.count_session.specs.Passes.{IsPassOf, notes_of, plan_in}
 use Rattle.count_session.specs.declared.cells.CountCells.{CountCells}
 use Rattle.count_session.specs.declared.pass.CountPass.{CountPass}
-
--- a begun visit at the place that gives the fact
-abbrev pub gives : Place → Fact → Visit → Bool
-gives place f v = executes place v && same_fact (fact_of place.kind v.went) f
-
-abbrev pub count_at : Place → Fact → List Visit → ℕ
-count_at place f [] = 0
-count_at place f (v ∷ vs) = (if gives place f v then 1 else 0) + count_at place f vs
-
--- the counts of several traces together
-abbrev pub count_of_all : Place → Fact → List (List Visit) → ℕ
-count_of_all place f [] = 0
-count_of_all place f (trace ∷ traces) = count_at place f trace + count_of_all place f traces
+use Rattle.count_session.specs.Meaning.{count_at}
 
 -- where the place is planted
 abbrev pub planted_count : PlanView → CountNotes → ℕ → Fact → List Visit → ℕ

@@ -2,15 +2,14 @@
 use Rattle.std.specs.Prelude.{◌≡◌, ℕ, ◌<◌, ◌≤◌, nat_eq, if◌then◌else◌, List, [], length, get_or, All}
 use Rattle.std.specs.List.{list_any}
 use Rattle.cov_base.specs.declared.facts.Fact.{Fact}
-use Rattle.module_area.specs.PlanView.{place_of}
+use Rattle.module_area.specs.Meaning.{place_of}
 use Rattle.module_area.specs.declared.places.Place.{Place}
-use Rattle.session_book.specs.JobView.{JobView}
-use Rattle.session_book.specs.Sessions.{task_of, session_of}
-use Rattle.job_run.specs.Runs.{solo_result}
+use Rattle.session_book.specs.Meaning.{JobView, task_of, session_of}
+use Rattle.job_run.specs.Meaning.{solo_result}
 use Rattle.job_run.specs.Tasks.{results_of}
 use Rattle.job_run.specs.declared.outcome.Done.{Done}
 use Rattle.count_session.specs.Tallied.{count_in}
-use Rattle.count_session.specs.Phases.{session_count}
+use Rattle.count_session.specs.Meaning.{session_count}
 use Rattle.count_session.specs.declared.counts.PlaceCount.{PlaceCount}
 
 pub record CountsView : Type 0 where

@@ -1,12 +1,13 @@
 -- What is added of no visits, and of visits one behind the other, and how the room for the next goes on.
 use Rattle.std.specs.Prelude.{◌≡◌, ℕ, ◌+◌, Bool, true, false, if◌then◌else◌, List, [], ◌∷◌, ◌++◌, refl}
 use Rattle.std.proofs.Common.{◌∙◌, ap, arith, length-append}
-use Rattle.cov_base.specs.States.{Visit}
+use Rattle.cov_base.specs.Meaning.{Visit}
 use Rattle.cov_base.specs.declared.facts.Fact.{Fact}
-use Rattle.module_area.specs.PlanView.{PlanView, place_of}
+use Rattle.module_area.specs.Meaning.{PlanView, place_of}
 use Rattle.module_area.specs.declared.places.Place.{Place}
-use Rattle.brk_table.specs.Places.{TablesView}
-use Rattle.count_session.specs.Counting.{count_at, planted_count, Adds, HasAdded, HasRoom}
+use Rattle.brk_table.specs.Meaning.{TablesView}
+use Rattle.count_session.specs.Meaning.{count_at}
+use Rattle.count_session.specs.Counting.{planted_count, Adds, HasAdded, HasRoom}
 use Rattle.count_session.specs.Notes.{CountNotes}
 use Rattle.count_session.specs.Passes.{notes_of, plan_in}
 use Rattle.count_session.specs.declared.cells.CountCells.{CountCells}

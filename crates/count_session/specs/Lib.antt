@@ -1,6 +1,7 @@
 pub mod Counting
 pub mod Job
 pub mod Laws
+pub mod Meaning
 pub mod Notes
 pub mod Passes
 pub mod Phases

@@ -1,10 +1,9 @@
 -- What a contract sees of a pass, and what each call changes.
 use Rattle.std.specs.Prelude.{ℕ, ◌+◌, ◌-◌, ◌*◌, Bool, true, false, ◌||◌, ◌&&◌, nat_eq, if◌then◌else◌, Option, Some, None}
-use Rattle.cov_base.specs.Codes.{breakpoint}
-use Rattle.cov_base.specs.Facts.{same_fact}
+use Rattle.cov_base.specs.Meaning.{breakpoint, same_fact}
 use Rattle.cov_base.specs.declared.facts.Fact.{Fact}
 use Rattle.module_area.specs.declared.cells.Cell.{Cell}
-use Rattle.module_area.specs.PlanView.{PlanView, original_at, window_at}
+use Rattle.module_area.specs.Meaning.{PlanView, original_at, window_at}
 
 pub record CountNotes : Type 0 where
   pub root : Bool

@@ -1,6 +1,6 @@
 -- What a contract sees of an area and its passes.
 use Rattle.std.specs.Prelude.{◌≡◌, []}
-use Rattle.module_area.specs.PlanView.{PlanView}
+use Rattle.module_area.specs.Meaning.{PlanView}
 use Rattle.count_session.specs.Notes.{CountNotes}
 use Rattle.count_session.specs.Rule.{notes_in}
 use Rattle.count_session.specs.declared.cells.CountCells.{CountCells}

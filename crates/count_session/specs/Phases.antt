@@ -1,15 +1,14 @@
 -- The passes of a phase, and what the counts of a phase come to.
-use Rattle.std.specs.Prelude.{◌≡◌, ℕ, ◌<◌, true, false, nat_lt, if◌then◌else◌, List, length, get_or, map}
-use Rattle.cov_base.specs.States.{Visit}
+use Rattle.std.specs.Prelude.{◌≡◌, ℕ, ◌<◌, true, false, nat_lt, List, length, get_or, map}
+use Rattle.cov_base.specs.Meaning.{Visit}
 use Rattle.cov_base.specs.declared.facts.Fact.{Fact}
 use Rattle.cov_base.specs.declared.numbers.TaskNo.{TaskNo}
-use Rattle.module_area.specs.PlanView.{place_of, window_at}
+use Rattle.module_area.specs.Meaning.{place_of, window_at}
 use Rattle.module_area.specs.declared.places.Place.{Place}
-use Rattle.task_run.specs.Courses.{solo}
-use Rattle.session_book.specs.JobView.{JobView}
-use Rattle.session_book.specs.Sessions.{session_of, observes, plan_view, traces_from}
-use Rattle.job_run.specs.Runs.{trace_by}
-use Rattle.count_session.specs.Counting.{count_at, count_of_all}
+use Rattle.task_run.specs.Meaning.{solo}
+use Rattle.session_book.specs.Meaning.{JobView, plan_view, traces_from}
+use Rattle.job_run.specs.Meaning.{trace_by}
+use Rattle.count_session.specs.Meaning.{count_at, count_of_all}
 use Rattle.count_session.specs.Passes.{IsPassOf, notes_of, plan_in}
 use Rattle.count_session.specs.Tallied.{count_in}
 use Rattle.count_session.specs.declared.cells.CountCells.{CountCells}
@@ -45,15 +44,6 @@ pub record HasJoined (cells : CountCells) (j : JobView) (places : List Place) (r
   pub given : (notes_of cells root).given ≡ length given_to
   pub passes : (notes_of cells root).passes ≡ length back_of
   pub added : (q : ℕ) (f : Fact) → q < length (plan_in cells).places → 0 < window_at (plan_in cells) q → (notes_of cells root).added q f ≡ count_of_all (place_of (plan_in cells).places q) f (traces_of j places back_of)
-
--- ---- what a job's counts are
-
--- The count of a fact at a place in a session: how many begun visits of the session's executions there give it. A whole
--- session's executions are the visits of the traces of its phase's tasks at its modules' places.
-abbrev pub session_count : JobView → List Place → ℕ → ℕ → Fact → ℕ
-session_count j places s p f =
-    if observes (session_of j s).phase (place_of places p).module (session_of j s)
-    then count_of_all (place_of places p) f (traces_from 0 j.tasks (session_of j s).phase (trace_by solo j places)) else 0
 
 -- a phase's counts at the places of its sessions are those of the traces of its tasks
 pub record IsCounted (j : JobView) (places : List Place) (phase : ℕ) (counts : List PlaceCount) : Type 0 where

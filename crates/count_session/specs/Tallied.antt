@@ -4,7 +4,7 @@ use Rattle.cov_base.specs.Facts.{is_of_kind}
 use Rattle.cov_base.specs.declared.facts.Fact.{Fact}
 use Rattle.cov_base.specs.declared.facts.Fact.TheVariants.{Ran, Went, Stayed}
 use Rattle.cov_base.specs.declared.facts.Kind.TheVariants.{Straight}
-use Rattle.module_area.specs.PlanView.{PlanView, kind_at}
+use Rattle.module_area.specs.Meaning.{PlanView, kind_at}
 use Rattle.count_session.specs.Words.{count_word}
 use Rattle.count_session.specs.Notes.{CountNotes}
 use Rattle.count_session.specs.declared.counts.PlaceCount.{PlaceCount}

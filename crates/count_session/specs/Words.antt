@@ -1,11 +1,11 @@
 -- How a cell lies in its word, and where the words lie: first a cell for each place, then two counts for each.
 use Rattle.std.specs.Prelude.{ℕ, ◌+◌, ◌-◌, ◌*◌, ◌/◌, ◌%◌, nat_eq, if◌then◌else◌, List, length, map, replicate, ◌++◌}
-use Rattle.cov_base.specs.Codes.{breakpoint}
+use Rattle.cov_base.specs.Meaning.{breakpoint}
 use Rattle.cov_base.specs.declared.facts.Fact.{Fact}
 use Rattle.cov_base.specs.declared.facts.Fact.TheVariants.{Ran, Went, Stayed}
 use Rattle.module_area.specs.declared.cells.Cell.{Cell}
 use Rattle.module_area.specs.declared.places.Place.{Place}
-use Rattle.module_area.specs.PlanView.{PlanView}
+use Rattle.module_area.specs.Meaning.{PlanView}
 
 -- the tag above the halfword
 abbrev pub cell_of : ℕ → Cell

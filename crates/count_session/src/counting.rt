@@ -1,6 +1,6 @@
 //! Counting as an observer: the cells are fetched at each visit of a place, and the breakpoints stay.
 ghost use Rattle.std.specs.Prelude.{◌≡◌, nat_eq};
-ghost use Rattle.cov_base.specs.Codes.{breakpoint};
+ghost use Rattle.cov_base.specs.Meaning.{breakpoint};
 
 use crate::cells::CountCells;
 use crate::pass::CountPass;

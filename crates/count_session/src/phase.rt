@@ -1,12 +1,12 @@
 //! The tasks of a phase, each on a thread of its own, over cells in which breakpoints stay.
 ghost use Rattle.std.specs.Prelude.{◌≡◌, ℕ, ◌+◌, ◌<◌, ◌||◌, ◌&&◌, nat_eq, nat_lt, true, false, length, IfOk};
-ghost use Rattle.module_area.specs.PlanView.{window_at};
+ghost use Rattle.module_area.specs.Meaning.{window_at};
 ghost use Rattle.brk_table.specs.Kept.{AreCodes};
 ghost use Rattle.session_book.specs.JobView.{IsJob};
 ghost use Rattle.observed_step.specs.Steps.{memory_at};
 ghost use Rattle.svc_monitor.specs.First.{IsOver};
-ghost use Rattle.task_run.specs.Courses.{solo};
-ghost use Rattle.job_run.specs.Runs.{result_of_run};
+ghost use Rattle.task_run.specs.Meaning.{solo};
+ghost use Rattle.job_run.specs.Meaning.{result_of_run};
 ghost use Rattle.job_run.specs.Slots.{AreEmpty};
 ghost use Rattle.job_run.specs.Tasks.{AreRun, done_result, own_run};
 ghost use Rattle.count_session.specs.Counting.{Adds};
@@ -84,11 +84,11 @@ pub(crate) struct CountCrew<'a> {
 }
 
 impl<'a> Crew for CountCrew<'a> {
-    ghost use Rattle.session_book.specs.Sessions.{plan_view};
-    ghost use Rattle.task_run.specs.Courses.{solo};
+    ghost use Rattle.session_book.specs.Meaning.{plan_view};
+    ghost use Rattle.task_run.specs.Meaning.{solo};
     ghost use Rattle.job_run.specs.Crews.{phase_at};
     ghost use Rattle.job_run.specs.Passes.{IsOfPhase};
-    ghost use Rattle.job_run.specs.Runs.{trace_by};
+    ghost use Rattle.job_run.specs.Meaning.{trace_by};
     ghost use Rattle.job_run.specs.Tasks.{HasNotRun, IsEnded};
     ghost use Rattle.count_session.specs.Passes.{plan_in};
     ghost use Rattle.count_session.specs.Phases.{HasCounted, HasJoined, IsFresh};

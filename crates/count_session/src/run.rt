@@ -2,7 +2,7 @@
 ghost use Rattle.std.specs.Prelude.{◌≡◌, ◌≤◌, false};
 ghost use Rattle.observed_step.specs.Steps.{memory_at, stands};
 ghost use Rattle.svc_monitor.specs.First.{IsOver};
-ghost use Rattle.task_run.specs.Courses.{solo};
+ghost use Rattle.task_run.specs.Meaning.{solo};
 ghost use Rattle.task_run.specs.Ran.{run_from};
 ghost use Rattle.count_session.specs.Counting.{HasAdded};
 ghost use Rattle.count_session.specs.Passes.{IsPassOf, notes_of, plan_in};

@@ -1,6 +1,6 @@
 //! Addresses of 24 bits (Principles of Operation, "Storage Addressing").
 ghost use Rattle.std.specs.Prelude.{⊤, ◌≡◌, ℕ, ◌+◌, ◌%◌, ◌<◌, ◌^◌, Some, None, if◌then◌else◌, nat_lt};
-ghost use Rattle.cov_base.specs.Memory.{wrap};
+ghost use Rattle.cov_base.specs.Meaning.{wrap};
 
 use std::alloc::AllocError;
 use std::marker::Model;

@@ -1,6 +1,6 @@
 //! What an execution of an instruction shows, and sets of it.
 ghost use Rattle.std.specs.Prelude.{◌≡◌};
-ghost use Rattle.cov_base.specs.Facts.{no_facts, with_fact, has_fact, union, is_full, fact_of};
+ghost use Rattle.cov_base.specs.Meaning.{no_facts, with_fact, has_fact, union, is_full, fact_of};
 
 use std::marker::Model;
 
@@ -42,7 +42,7 @@ pub struct Bits(u8);
 
 impl Model for Bits {
     ghost use Rattle.std.specs.Prelude.{◌<◌};
-    ghost use Rattle.cov_base.specs.FactSet.{FactSet, facts_of_number, number_of_facts};
+    ghost use Rattle.cov_base.specs.Meaning.{FactSet, facts_of_number, number_of_facts};
 
     ghost Value = { FactSet };
 

@@ -1,8 +1,7 @@
 //! The mark that an annotated listing line bears.
 ghost use Rattle.std.specs.Prelude.{◌≡◌};
 ghost use Rattle.std.specs.Prelude.{true};
-ghost use Rattle.cov_base.specs.Facts.{is_within};
-ghost use Rattle.cov_base.specs.Marks.{mark_of, branch_mark};
+ghost use Rattle.cov_base.specs.Meaning.{is_within, mark_of, branch_mark};
 
 use crate::facts::{Bits, Fact, Kind};
 

@@ -5,7 +5,7 @@ use Rattle.std.proofs.lemmas.Bool.{false≢true}
 use Rattle.std.proofs.lemmas.List.{take-append-drop}
 use Rattle.std.proofs.lemmas.Result.{on_ok_weaker, on_err_weaker}
 use Rattle.std.proofs.Math.Nat.{le_trans}
-use Rattle.cov_outside.specs.Whole.{AppendsSome}
+use Rattle.cov_outside.specs.Meaning.{AppendsSome}
 use Rattle.cov_outside.specs.Writes.{Writes}
 use Rattle.cov_outside.specs.Puts.{Puts}
 use Rattle.cov_outside.proofs.WriteLemmas.{cause_since, some_more, some_after, Progress, progress_last}

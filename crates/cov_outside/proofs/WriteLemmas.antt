@@ -7,8 +7,8 @@ use Rattle.std.proofs.lemmas.Bool.{false≢true}
 use Rattle.std.proofs.lemmas.Result.{on_ok_weaker, on_err_weaker}
 use Rattle.std.proofs.Math.Seq.{take-append-add}
 use Rattle.std.proofs.Math.Nat.{le_trans, le-min, min-le_left, min-le_right}
-use Rattle.cov_outside.specs.Causes.{raised, Rose, HasCause}
-use Rattle.cov_outside.specs.Whole.{AppendsSome}
+use Rattle.cov_outside.specs.Meaning.{raised, Rose, AppendsSome}
+use Rattle.cov_outside.specs.Causes.{HasCause}
 use Rattle.cov_outside.specs.Writes.{Writes}
 
 raised-le : (a b : ℕ) → a ≤ b → raised a ≤ raised b

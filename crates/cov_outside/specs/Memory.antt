@@ -1,7 +1,7 @@
 -- What a source and a sink in memory hold, and what each call makes of it.
 use Rattle.std.specs.Prelude.{ℕ, ◌+◌, ◌-◌, ◌^◌, min, Bool, ◌&&◌, ◌||◌, nat_lt, nat_eq, List, [], ◌++◌, length, drop}
 use Rattle.std.specs.List.{list_any}
-use Rattle.cov_outside.specs.Causes.{raised}
+use Rattle.cov_outside.specs.Meaning.{raised}
 
 -- bytes left, most bytes per call, calls that fail, calls made, faults
 pub record SourceView : Type 0 where

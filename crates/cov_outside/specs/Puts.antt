@@ -2,7 +2,7 @@
 use Rattle.std.specs.Prelude.{◌≡◌, ℕ, Option, List, [], ◌++◌, Result, OnOk, OnErr}
 use Rattle.std.specs.Io.KnownBytes.{Appends}
 use Rattle.cov_outside.specs.Causes.{HasCause}
-use Rattle.cov_outside.specs.Whole.{AppendsSome}
+use Rattle.cov_outside.specs.Meaning.{AppendsSome}
 
 -- the text was appended but for these last bytes of it
 pub record AppendsUpTo (old new : Option (List ℕ)) (text left : List ℕ) : Type 0 where

@@ -2,7 +2,7 @@
 use Rattle.std.specs.Prelude.{ℕ, Option, List, Result, OnOk, OnErr}
 use Rattle.std.specs.Io.KnownBytes.{Appends}
 use Rattle.cov_outside.specs.Causes.{HasCause}
-use Rattle.cov_outside.specs.Whole.{AppendsSome}
+use Rattle.cov_outside.specs.Meaning.{AppendsSome}
 
 -- The text was appended whole, or its first bytes where the sink failed, which has its cause: by the bytes that a sink tells
 -- and its count of faults, on the sink as it was before and as it is after.

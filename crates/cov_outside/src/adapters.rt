@@ -2,7 +2,8 @@
 ghost use Rattle.std.specs.Prelude.{◌≡◌, ◌<◌, ◌≤◌, length, IfOk, OnOk, OnErr};
 ghost use Rattle.std.specs.Io.{ReadsAtMost};
 ghost use Rattle.std.specs.Io.KnownBytes.{Keeps, ReadConsumes, WriteAppends};
-ghost use Rattle.cov_outside.specs.Causes.{HasCause, raised};
+ghost use Rattle.cov_outside.specs.Meaning.{raised};
+ghost use Rattle.cov_outside.specs.Causes.{HasCause};
 ghost use Rattle.cov_outside.specs.Adapters.{reader_of, read_faults, writer_of, write_faults};
 
 use crate::streams::{Failed, Sink, Source};

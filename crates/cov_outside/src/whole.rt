@@ -1,8 +1,8 @@
 //! Whole inputs and whole texts.
 ghost use Rattle.std.specs.Prelude.{◌≡◌, ◌<◌, ◌≤◌, ◌^◌, length, take, IfOk, OnOk, OnErr, IsErrOf};
 ghost use Rattle.std.specs.Io.KnownBytes.{Consumes, IsAtEnd};
-ghost use Rattle.cov_outside.specs.Causes.{Rose};
-ghost use Rattle.cov_outside.specs.Whole.{IsWhole, HasMoreThan, HasAtMost, ConsumesSome};
+ghost use Rattle.cov_outside.specs.Meaning.{Rose, IsWhole, HasMoreThan};
+ghost use Rattle.cov_outside.specs.Whole.{HasAtMost, ConsumesSome};
 ghost use Rattle.cov_outside.specs.Writes.{Writes};
 
 use crate::streams::{Failed, Sink, Source};

@@ -3,43 +3,40 @@ use Rattle.std.proofs.Common.{inl, inr, OnOk, OnErr, ◌≡◌, ◌⊎◌, ℕ, 
 use Rattle.cov_outside.specs.Writes.{Writes}
 use Rattle.cov_outside.specs.declared.whole.ReadFault.TheVariants as read
 use Rattle.module_area.specs.declared.places.Place.{Place}
-use Rattle.brk_table.specs.Places.{TablesView}
-use Rattle.cov_base.specs.FactSet.{FactSet}
-use Rattle.session_book.specs.Results.{ResultView}
-use Rattle.session_book.specs.JobView.{JobView}
-use Rattle.job_input.specs.Inputs.{SourceChange, CameJob, IsInputFault, to_end}
+use Rattle.brk_table.specs.Meaning.{TablesView}
+use Rattle.cov_base.specs.Meaning.{FactSet}
+use Rattle.session_book.specs.Meaning.{ResultView, JobView}
+use Rattle.job_input.specs.Meaning.{SourceChange, CameJob, to_end}
+use Rattle.job_input.specs.Inputs.{IsInputFault}
 use Rattle.job_input.specs.declared.faults.InputFault.{InputFault}
 use Rattle.job_input.specs.declared.faults.InputFault.TheVariants.{Source, Job}
-use Rattle.job_tables.specs.Faults.{IsFaultOf, job_fault}
-use Rattle.job_tables.specs.Tables.{Match}
+use Rattle.job_tables.specs.Meaning.{job_fault, Match}
+use Rattle.job_tables.specs.Faults.{IsFaultOf}
 use Rattle.job_tables.specs.declared.faults.TablesFault.{TablesFault}
-use Rattle.interleave_core.specs.World.{Parts}
-use Rattle.job_text.specs.Lines.{lines_of}
+use Rattle.interleave_core.specs.Meaning.{Parts}
+use Rattle.job_text.specs.Meaning.{lines_of}
 use Rattle.report_text.specs.Conditions.{AreResultsOf, AreSetsOf}
-use Rattle.report_text.specs.Report.{report_of}
-use Rattle.report_text.specs.Table.{table_text}
-use Rattle.task_ends.specs.Ends.{end_of, unlisted_of}
-use Rattle.task_ends.specs.Text.{ends_text}
-use Rattle.coverage_commands.specs.Answers.{HasPlay, IsStopped, StopsJob, Unread, Jobless, BadListing, Report, Places, ToldEnds, Replayed, Stopped, IsWritten, Answers}
-use Rattle.coverage_commands.specs.Changes.{SinkChange, AreasChange, sink_change, no_change}
+use Rattle.report_text.specs.Meaning.{report_of, table_text}
+use Rattle.task_ends.specs.Meaning.{end_of, unlisted_of, ends_text}
+use Rattle.coverage_commands.specs.Meaning.{refusal, no_memory_line, bad_schedule_line, BadSchedule, HasPlay, IsStopped, Unread, Jobless, BadListing, Report, Places, ToldEnds, Replayed, Stopped, IsWritten, Answers, SinkChange, AreasChange, sink_change, HasAsked, RefusalView, tables_refusal, Reports, Asked, AnyJob, way_of}
+use Rattle.coverage_commands.specs.Answers.{StopsJob}
+use Rattle.coverage_commands.specs.Changes.{no_change}
 use Rattle.schedule_play.specs.declared.playing.Played.{Played}
 use Rattle.job_run.specs.declared.outcome.Done.{Done}
 use Rattle.coverage_commands.specs.declared.words.Command.{Command}
 use Rattle.coverage_commands.specs.declared.words.Command.TheVariants.{Run, Exits, Early, Count, Marks, Trial, Table, Ends, Replay, Combine, Show, Prove, Verify, Unknown}
 use Rattle.job_run.specs.Outcomes.{IsOutcomeBy}
-use Rattle.coverage_commands.specs.Named.{HasAsked}
-use Rattle.coverage_commands.specs.Refusals.{RefusalView, input_refusal, tables_refusal}
-use Rattle.task_run.specs.Courses.{Course}
-use Rattle.job_run.specs.Runs.{Account, HasRunBy, HasLeftBy}
-use Rattle.coverage_commands.specs.Reports.{Reports}
+use Rattle.coverage_commands.specs.Refusals.{input_refusal}
+use Rattle.task_run.specs.Meaning.{Course}
+use Rattle.job_run.specs.Meaning.{Account, HasRunBy}
+use Rattle.job_run.specs.Runs.{HasLeftBy}
 use Rattle.job_run.specs.Sets.{SetsView, set_in}
 use Rattle.job_run.proofs.SessionLemmas.{set_is_left}
 use Rattle.job_run.specs.Tasks.{results_of}
-use Rattle.schedule_play.specs.Play.{Whole}
-use Rattle.schedule_play.specs.Text.{replay_text}
+use Rattle.schedule_play.specs.Meaning.{Whole, Bad, replay_text}
 use Rattle.schedule_play.proofs.RunLemmas.{play_is_run}
 use Rattle.coverage_commands.proofs.WordLemmas.{by_report}
-use Rattle.coverage_commands.specs.Words.{Asked, AnyJob, way_of, without_threads}
+use Rattle.coverage_commands.specs.Words.{without_threads}
 
 pub are_sets : (course : Course) (j : JobView) (tables : TablesView) (tasks : List Done) (sets : SetsView) → IsOutcomeBy course j tables.places tasks sets →
     AreSetsOf j tables (length sets.job.sessions) sets.places (λ s p. set_in sets s p)
@@ -110,6 +107,10 @@ pub stopped_run : (c : Command) (course : Course) (s : SourceChange) (a : Accoun
 stopped_run c course s a k answer r reporting stop told =
     by_report (λ d _. Answers d s (no_change a) k answer) c course reporting (stopped Run s a k answer r refl stop told) (stopped Exits s a k answer r refl stop told)
 
+-- memory was wanting behind an input
+pub wanting_told : (c : Command) (s : SourceChange) (a : Account) (k : SinkChange) (answer : ℕ) → (way_of c).reads_input ≡ true → IsWritten 7 no_memory_line k answer → Answers c s (no_change a) k answer
+wanting_told c s a k answer reads told = stopped c s a k answer (refusal 7 no_memory_line) reads (Unread read.NoMemory tt refl) told
+
 -- a source that gave no job, and listings that have no tables
 pub not_come : (more : Bool) (asked : Asked) (s : SourceChange) (e : InputFault) → IsInputFault more s e → IsStopped true more asked s (input_refusal e)
 not_come more asked s (Source e) h = Unread e h refl
@@ -126,6 +127,15 @@ replayed s j tables core played a k answer has told = record {
   status = 0;
   text = replay_text j tables core played;
   cause = Replayed (refl, refl) (record { job = j; tables = tables; core = core; played = played; has = has; run = play_is_run j tables.places has.plays.has.count core (drop has.plays.has.count (lines_of has.bytes)) played has.plays.plays; is_text = refl }) refl;
+  told = told;
+}
+
+pub bad_schedule : (s : SourceChange) (j : JobView) (tables : TablesView) (line : ℕ) (a : Account) (k : SinkChange) (answer : ℕ) →
+    HasPlay s j tables (Bad line) → IsWritten 9 (bad_schedule_line line) k answer → Answers Replay s (no_change a) k answer
+bad_schedule s j tables line a k answer has told = record {
+  status = 9;
+  text = bad_schedule_line line;
+  cause = BadSchedule (refl, refl) (record { job = j; tables = tables; line = line; has = has; told = refl }) refl;
   told = told;
 }
 

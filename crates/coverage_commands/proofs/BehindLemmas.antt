@@ -3,32 +3,22 @@ use Rattle.std.proofs.Common.{◌≡◌, ◌⊎◌, inl, inr, ℕ, ◌<◌, true
 use Rattle.std.specs.Io.{StartsWith}
 use Rattle.std.proofs.Math.Seq.{take-length, take-append_seam}
 use Rattle.std.proofs.lemmas.List.{nil_from_length, length-append}
-use Rattle.cov_base.specs.FactSet.{FactSet}
-use Rattle.cov_base.specs.Facts.{no_facts}
-use Rattle.cov_outside.specs.Causes.{Rose}
-use Rattle.brk_table.specs.Places.{TablesView, first_place}
-use Rattle.job_input.specs.Inputs.{SourceChange, input_limit, to_go_on}
+use Rattle.cov_base.specs.Meaning.{FactSet, no_facts}
+use Rattle.cov_outside.specs.Meaning.{Rose}
+use Rattle.brk_table.specs.Meaning.{TablesView, first_place}
+use Rattle.job_input.specs.Meaning.{SourceChange, input_limit, to_go_on}
 use Rattle.job_input.proofs.OneInput.{came_is, left_is, one_bytes, one_job, too_many}
-use Rattle.job_tables.specs.Tables.{Match}
+use Rattle.job_tables.specs.Meaning.{Match}
 use Rattle.job_tables.proofs.OneTables.{one_places, one_first, one_count}
-use Rattle.job_text.specs.Lines.{lines_of}
-use Rattle.marks_file.specs.Marks.{MarkedView, MarksView}
-use Rattle.marks_file.specs.MarksFile.{file_bytes, rows}
+use Rattle.job_text.specs.Meaning.{lines_of}
+use Rattle.marks_file.specs.Meaning.{MarkedView, MarksView, file_bytes, rows}
 use Rattle.marks_file.proofs.FileLemmas.{file_found, one_modules as one_content, no_prefix}
-use Rattle.session_book.specs.JobView.{JobView}
-use Rattle.session_book.specs.Sessions.{session_of}
-use Rattle.session_marks.specs.Marked.{marked_module, session_marks, session_rows}
+use Rattle.session_book.specs.Meaning.{JobView, session_of}
+use Rattle.session_marks.specs.Meaning.{marked_module, session_marks, session_rows}
 use Rattle.session_marks.proofs.SessionLemmas.{own_same}
-use Rattle.table_combine.specs.Combine.{Difference, first_difference}
-use Rattle.table_combine.specs.Files.{IsCombined, IsBad, IsOtherTable}
+use Rattle.table_combine.specs.Meaning.{Difference, first_difference, IsCombined, IsBad, IsOtherTable}
 use Rattle.table_combine.proofs.AnswerLemmas.{one_answer}
-use Rattle.coverage_commands.specs.Answers.{IsStopped, IsCause, Report, ReportedEarly, Recorded, Places, ToldEnds, Replayed, BadSchedule, United, BadFile, OtherFile, Shown, BadShown, OtherShown, Proved, Counted, Checked, Usage, Stopped, NoMemoryToRun, Tried, NoMemoryToTry}
-use Rattle.coverage_commands.specs.Changes.{AreasChange}
-use Rattle.coverage_commands.specs.Files.{IsFile, IsNoFile}
-use Rattle.coverage_commands.specs.Named.{session_number}
-use Rattle.coverage_commands.specs.Ready.{HasRest, StandsBehind}
-use Rattle.coverage_commands.specs.Refusals.{refusal}
-use Rattle.coverage_commands.specs.Words.{Asked, way_of, with_session}
+use Rattle.coverage_commands.specs.Meaning.{IsStopped, IsCause, Report, ReportedEarly, Recorded, Places, ToldEnds, Replayed, BadSchedule, United, BadFile, OtherFile, Shown, BadShown, OtherShown, Proved, Counted, Checked, Usage, Stopped, NoMemoryToRun, Tried, NoMemoryToTry, AreasChange, IsFile, IsNoFile, session_number, HasRest, StandsBehind, refusal, Asked, way_of, with_session}
 use Rattle.coverage_commands.specs.declared.words.Command.{Command}
 use Rattle.coverage_commands.specs.declared.words.Command.TheVariants.{Early, Count, Marks, Trial, Table, Ends, Replay, Combine, Show, Prove, Verify, Unknown}
 use Rattle.coverage_commands.proofs.StopLemmas.{IsCalm, any_named, files_stop, large_stop, matched_stop, not_both, wanting}

@@ -1,34 +1,25 @@
 -- What the program answers of evidence, cause by cause.
 use Rattle.std.proofs.Common.{◌≡◌, ℕ, true, Option, Some, None, List, length, drop, refl, sym, ◌∙◌, ap, subst}
 use Rattle.cov_base.specs.declared.facts.Fact.{Fact}
-use Rattle.brk_table.specs.Places.{TablesView}
-use Rattle.evidence_check.specs.Claims.{facts_of_modules, evidence_claims, first_refuted}
-use Rattle.evidence_check.specs.Evidence.{evidence}
-use Rattle.evidence_check.specs.Fields.{evidence_fields}
-use Rattle.evidence_check.specs.Verified.{IsVerified, Passes, IsVerifyFault}
+use Rattle.brk_table.specs.Meaning.{TablesView}
+use Rattle.evidence_check.specs.Meaning.{facts_of_modules, evidence_claims, first_refuted, evidence, evidence_fields, IsVerified}
+use Rattle.evidence_check.specs.Verified.{Passes, IsVerifyFault}
 use Rattle.evidence_check.specs.declared.verifying.VerifyFault.{VerifyFault}
 use Rattle.evidence_check.specs.declared.verifying.VerifyFault.TheVariants as fault
-use Rattle.job_run.specs.Runs.{Account}
-use Rattle.marks_file.specs.Marks.{MarkedView, MarksView, keeps_rules}
-use Rattle.marks_file.specs.MarksFile.{HasFile, rows}
-use Rattle.marks_file.specs.Reading.{first_bad}
-use Rattle.session_book.specs.JobView.{JobView}
-use Rattle.session_book.specs.Sessions.{session_of}
+use Rattle.job_run.specs.Meaning.{Account}
+use Rattle.marks_file.specs.Meaning.{MarkedView, MarksView, keeps_rules, HasFile, rows, first_bad}
+use Rattle.session_book.specs.Meaning.{JobView, session_of}
 use Rattle.session_marks.specs.FromFile.{IsOwn}
-use Rattle.session_marks.specs.Marked.{session_rows}
+use Rattle.session_marks.specs.Meaning.{session_rows}
 use Rattle.session_marks.proofs.SessionLemmas.{own_same}
-use Rattle.table_combine.specs.Combine.{Difference, first_difference}
-use Rattle.coverage_commands.specs.Answers.{Unread, Proved, Checked, Stopped, IsWritten, Answers}
+use Rattle.table_combine.specs.Meaning.{Difference, first_difference}
+use Rattle.coverage_commands.specs.Meaning.{Unread, Proved, Checked, Stopped, IsWritten, Answers, SinkChange, Verdict, OtherTable, BadEvidence, Refuted, Verified, verdict_status, verdict_line, judged, judged_by, IsVerdict, NoFile, OfFile, HasVerified, HasRest, session_number, RefusalView, refusal, no_memory_line, other_table_line}
 use Rattle.cov_outside.specs.declared.whole.ReadFault.TheVariants as read
-use Rattle.job_input.specs.Inputs.{SourceChange, CameJob, to_end}
-use Rattle.job_tables.specs.Tables.{Match}
-use Rattle.coverage_commands.specs.Changes.{SinkChange, no_change}
-use Rattle.coverage_commands.specs.Checked.{Verdict, OtherTable, BadEvidence, Refuted, Verified, verdict_status, verdict_line, judged, judged_by, IsVerdict, NoFile, OfFile, HasVerified, verify_refusal, IsStartRefusal, BadStart, NoRoom, IsCheckRefusal, Unverified, Wanting}
-use Rattle.coverage_commands.specs.Checked as checked
-use Rattle.coverage_commands.specs.Ready.{HasRest}
-use Rattle.coverage_commands.specs.Named.{session_number}
-use Rattle.coverage_commands.specs.Refusals.{RefusalView, refusal}
-use Rattle.coverage_commands.specs.Words.{no_memory_line, other_table_line}
+use Rattle.job_input.specs.Meaning.{SourceChange, CameJob, to_end}
+use Rattle.job_tables.specs.Meaning.{Match}
+use Rattle.coverage_commands.specs.Changes.{no_change}
+use Rattle.coverage_commands.specs.Checked.{verify_refusal, IsStartRefusal, BadStart, NoRoom, IsCheckRefusal, Unverified, Wanting}
+use Rattle.coverage_commands.specs.Meaning as checked
 use Rattle.coverage_commands.specs.declared.words.Command.TheVariants.{Prove, Verify}
 
 -- evidence that was written

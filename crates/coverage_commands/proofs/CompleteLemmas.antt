@@ -1,35 +1,27 @@
 -- Each cause but its own is contradicted by what the words and bytes are.
 use Rattle.std.proofs.Common.{◌≡◌, ◌≢◌, ◌⊎◌, inl, inr, ℕ, ◌<◌, Bool, true, false, Some, None, List, [], length, drop, refl, sym, ◌∙◌, ap, subst}
-use Rattle.cov_outside.specs.Causes.{Rose}
-use Rattle.session_book.specs.JobView.{JobView}
-use Rattle.session_book.specs.Sessions.{session_of}
-use Rattle.job_input.specs.Inputs.{SourceChange, HasJob, CameJob, IsJobFault, input_limit, to_end, to_go_on}
+use Rattle.cov_outside.specs.Meaning.{Rose}
+use Rattle.session_book.specs.Meaning.{JobView, session_of}
+use Rattle.job_input.specs.Meaning.{SourceChange, HasJob, CameJob, IsJobFault, input_limit, to_end, to_go_on}
 use Rattle.job_input.proofs.OneInput.{left_is, one_job, same_job, too_many}
-use Rattle.job_tables.specs.Faults.{job_fault}
-use Rattle.job_tables.specs.Tables.{Match}
+use Rattle.job_tables.specs.Meaning.{job_fault, Match}
 use Rattle.job_tables.specs.declared.faults.TablesFault.{TablesFault}
 use Rattle.job_tables.proofs.OneTables.{one_places}
-use Rattle.job_text.specs.Lines.{LineView, lines_of}
+use Rattle.job_text.specs.Meaning.{LineView, lines_of}
 use Rattle.job_text.specs.declared.jobs.JobFault.{JobFault}
 use Rattle.job_text.specs.declared.jobs.JobFault.TheVariants as fault
-use Rattle.coverage_commands.specs.Answers.{HasPlay, Plays, IsStopped, IsCause, Report, ReportedEarly, Recorded, Places, ToldEnds, Replayed, BadSchedule, United, BadFile, OtherFile, Shown, BadShown, OtherShown, Proved, Counted, Checked, Usage, Stopped, NoMemoryToRun, Tried, NoMemoryToTry, Answers}
-use Rattle.coverage_commands.specs.Changes.{SinkChange, AreasChange}
-use Rattle.coverage_commands.specs.Complete.{IsAnswer, IsComplete}
-use Rattle.coverage_commands.specs.Complete as wanted
+use Rattle.coverage_commands.specs.Meaning.{HasPlay, Plays, IsStopped, IsCause, Report, ReportedEarly, Recorded, Places, ToldEnds, Replayed, BadSchedule, United, BadFile, OtherFile, Shown, BadShown, OtherShown, Proved, Counted, Checked, Usage, Stopped, NoMemoryToRun, Tried, NoMemoryToTry, Answers, SinkChange, AreasChange, HasAsked, controlled_asked, session_number, CameMatched, HasRest, RefusalView, refusal, jobless_refusal, tables_refusal, Asked, AnyJob, AllWhole, WithSession, Wanted, way_of, with_session, verdict_status}
+use Rattle.coverage_commands.specs.MeaningOfStatuses.{IsAnswer, IsComplete}
+use Rattle.coverage_commands.specs.MeaningOfStatuses as wanted
 use Rattle.coverage_commands.specs.declared.words.Command.{Command}
 use Rattle.coverage_commands.specs.declared.words.Command.TheVariants.{Run, Exits, Early, Count, Marks, Trial, Table, Ends, Replay, Combine, Show, Prove, Verify, Unknown}
 use Rattle.module_area.specs.declared.places.Place.{Place}
-use Rattle.brk_table.specs.Places.{TablesView}
-use Rattle.coverage_commands.specs.Named.{HasAsked, controlled_asked, session_number}
-use Rattle.coverage_commands.specs.Ready.{CameMatched, HasRest}
-use Rattle.coverage_commands.specs.Refusals.{RefusalView, refusal, jobless_refusal, tables_refusal}
-use Rattle.schedule_play.specs.Play.{Play, Bad, Whole, play_of, play_status}
-use Rattle.coverage_commands.specs.Words.{Asked, AnyJob, AllWhole, WithSession, Wanted, way_of, with_session}
+use Rattle.brk_table.specs.Meaning.{TablesView}
+use Rattle.schedule_play.specs.Meaning.{Play, Bad, Whole, play_of, play_status}
 use Rattle.coverage_commands.proofs.StopLemmas.{IsCalm, asked_same, any_named, whole_named, all_whole, not_both, not_named, not_free, controlled_stop, matched_stop, refused_stop, never_came, bad_stop, large_stop, missing_stop, wanting}
 use Rattle.coverage_commands.proofs.BehindLemmas.{large_files, files_outcome, united_case, bad_files_case, other_files_case, show_outcome, shown_case, bad_shown_case, other_shown_case}
 use Rattle.coverage_commands.proofs.WordLemmas.{any_job, by_report, no_report}
 use Rattle.coverage_commands.proofs.VerdictLemmas.{check_outcome, checked_case}
-use Rattle.coverage_commands.specs.Checked.{verdict_status}
 use Rattle.coverage_commands.proofs.TrialLemmas.{IsMade, Summed, Lacking, made}
 
 -- A command that reads a job answers of one whose listings match and whose sessions are as it asks, or why there is none. What stands behind it may be refused.

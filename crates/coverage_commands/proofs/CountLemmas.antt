@@ -1,19 +1,18 @@
 -- What the program answers of counts.
 use Rattle.std.proofs.Common.{◌≡◌, ℕ, Bool, true, false, if◌then◌else◌, None, Some, List, [], ◌∷◌, ◌+◌, refl, All}
 use Rattle.std.proofs.lemmas.List.Elements.{All-cons, All-nil}
-use Rattle.brk_table.specs.Places.{TablesView}
+use Rattle.brk_table.specs.Meaning.{TablesView}
 use Rattle.count_session.specs.Job.{CountsView, IsCountedJob, count_of}
-use Rattle.job_run.specs.Runs.{Account}
+use Rattle.job_run.specs.Meaning.{Account}
 use Rattle.job_run.specs.Tasks.{results_of}
 use Rattle.job_run.specs.declared.outcome.Done.{Done}
-use Rattle.report_text.specs.Counts.{count_text}
-use Rattle.session_book.specs.JobView.{JobView, SessionView}
-use Rattle.session_book.specs.Sessions.{AreWhole, is_whole}
-use Rattle.coverage_commands.specs.Answers.{Counted, IsWritten, Answers}
-use Rattle.job_input.specs.Inputs.{SourceChange, CameJob, to_end}
-use Rattle.job_tables.specs.Tables.{Match}
-use Rattle.coverage_commands.specs.Changes.{SinkChange, no_change}
-use Rattle.coverage_commands.specs.Named.{controlled_from, first_controlled}
+use Rattle.report_text.specs.Meaning.{count_text}
+use Rattle.session_book.specs.Meaning.{JobView, SessionView, is_whole}
+use Rattle.session_book.specs.Sessions.{AreWhole}
+use Rattle.coverage_commands.specs.Meaning.{Counted, IsWritten, Answers, SinkChange, controlled_from, first_controlled}
+use Rattle.job_input.specs.Meaning.{SourceChange, CameJob, to_end}
+use Rattle.job_tables.specs.Meaning.{Match}
+use Rattle.coverage_commands.specs.Changes.{no_change}
 use Rattle.coverage_commands.specs.declared.words.Command.TheVariants.{Count}
 
 -- no session has a controller where none is found

@@ -4,41 +4,34 @@ use Rattle.std.proofs.lemmas.Bool.Decides.{nat_tests}
 use Rattle.std.specs.List.{filter, list_any}
 use Rattle.std.proofs.lemmas.List.{get_or-map}
 use Rattle.std.proofs.lemmas.List.Elements.{All-tail}
-use Rattle.cov_base.specs.FactSet.{FactSet}
+use Rattle.cov_base.specs.Meaning.{FactSet}
 use Rattle.cov_base.specs.declared.numbers.SessNo.{SessNo}
 use Rattle.cov_base.specs.declared.numbers.TaskNo.{TaskNo}
-use Rattle.module_area.specs.FinalsView.{set_at}
-use Rattle.module_area.specs.Control.{ControlView, first_control, number_of, sessions_of}
-use Rattle.module_area.specs.PlanView.{PlanView, ControlledView, has_task}
-use Rattle.module_area.specs.Tied.{has_session}
+use Rattle.module_area.specs.Meaning.{set_at, ControlView, first_control, number_of, sessions_of, PlanView, ControlledView, has_session}
+use Rattle.module_area.specs.PlanView.{has_task}
 use Rattle.module_area.specs.declared.places.Place.{Place}
-use Rattle.session_book.specs.JobView.{JobView, SessionView, TaskView, IsJob, IsTaskOf}
-use Rattle.session_book.specs.Sessions.{no_session, no_task, session_of, task_of, with_controlled, controlled_from, plan_view}
-use Rattle.task_run.specs.Courses.{Walk, solo}
+use Rattle.session_book.specs.Meaning.{JobView, SessionView, TaskView, no_session, no_task, session_of, task_of, with_controlled, controlled_from, plan_view, ResultView}
+use Rattle.session_book.specs.JobView.{IsJob, IsTaskOf}
+use Rattle.task_run.specs.Meaning.{Walk, solo}
 use Rattle.task_run.specs.Ran.{walk_from}
 use Rattle.job_run.specs.Outcomes.{AreExtras, HasEnded, IsOutcomeBy}
-use Rattle.job_run.specs.Runs.{solo_result, walk_by}
-use Rattle.job_run.specs.Sets.{SetsView, no_finals}
+use Rattle.job_run.specs.Meaning.{solo_result, walk_by, no_finals, HasRun}
+use Rattle.job_run.specs.Sets.{SetsView}
 use Rattle.job_run.specs.Tasks.{done_result, no_result}
 use Rattle.job_run.specs.declared.outcome.Done.{Done}
 use Rattle.job_run.proofs.TaskLemmas.{begun_walk}
-use Rattle.session_book.specs.Results.{ResultView}
 use Rattle.early_report.specs.DrainView.{DrainView}
-use Rattle.early_report.specs.Drains.{controller_in, controller_of, others}
+use Rattle.early_report.specs.Meaning.{others, closing_count, early_of}
+use Rattle.early_report.specs.Drains.{controller_in, controller_of}
 use Rattle.early_report.specs.Text.{drained_in, drained_of, taken_at}
-use Rattle.early_report.specs.Told.{IsTold, HasTold, closing_count}
+use Rattle.early_report.specs.Told.{IsTold, HasTold}
 use Rattle.early_report.specs.declared.drains.Stage.{Stage}
-use Rattle.early_report.specs.Text.{early_of}
-use Rattle.brk_table.specs.Places.{TablesView}
-use Rattle.job_run.specs.Runs.{HasRun}
-use Rattle.job_text.specs.Lines.{lines_of}
+use Rattle.brk_table.specs.Meaning.{TablesView}
+use Rattle.job_text.specs.Meaning.{lines_of}
 use Rattle.job_text.proofs.WholeJob.{job_keeps}
-use Rattle.coverage_commands.specs.Answers.{IsWritten, Answers, ReportedEarly}
-use Rattle.job_input.specs.Inputs.{SourceChange, CameJob, to_end}
-use Rattle.job_tables.specs.Tables.{Match}
-use Rattle.coverage_commands.specs.Changes.{SinkChange, AreasChange}
-use Rattle.coverage_commands.specs.Drained.{AreDrained, IsDrained, closing_of, other_tasks}
-use Rattle.coverage_commands.specs.Reports.{Reports}
+use Rattle.coverage_commands.specs.Meaning.{IsWritten, Answers, ReportedEarly, SinkChange, AreasChange, AreDrained, IsDrained, closing_of, other_tasks, Reports}
+use Rattle.job_input.specs.Meaning.{SourceChange, CameJob, to_end}
+use Rattle.job_tables.specs.Meaning.{Match}
 use Rattle.coverage_commands.specs.declared.words.Command.TheVariants.{Early}
 
 -- ---- a session and its drain

@@ -1,19 +1,17 @@
 -- `verify` is answered with 0 exactly where the bytes are the session's marks and evidence.
 use Rattle.std.proofs.Common.{◌≡◌, inl, inr, ℕ, Bool, true, Option, Some, List, take, drop, refl, sym, ◌∙◌, ap, subst}
-use Rattle.brk_table.specs.Places.{TablesView}
-use Rattle.evidence_check.specs.Claims.{facts_of_modules}
+use Rattle.brk_table.specs.Meaning.{TablesView}
+use Rattle.evidence_check.specs.Meaning.{facts_of_modules}
 use Rattle.evidence_check.specs.Verified.{Passes}
 use Rattle.evidence_check.proofs.VerifiedLemmas.{verified_passes}
-use Rattle.job_text.specs.Lines.{lines_of}
+use Rattle.job_text.specs.Meaning.{lines_of}
 use Rattle.job_text.proofs.WholeJob.{job_keeps}
-use Rattle.session_book.specs.JobView.{JobView, IsJob}
-use Rattle.coverage_commands.specs.Answers.{IsStopped, Unread, Jobless, NoSession, Controlled, BadListing, IsCause, Report, ReportedEarly, Recorded, Places, ToldEnds, Replayed, BadSchedule, United, BadFile, OtherFile, Shown, BadShown, OtherShown, Proved, Counted, Checked, Usage, Stopped, NoMemoryToRun, Tried, NoMemoryToTry, Answers}
-use Rattle.job_input.specs.Inputs.{SourceChange}
-use Rattle.coverage_commands.specs.Changes.{SinkChange, AreasChange}
-use Rattle.coverage_commands.specs.Checked.{Verdict, OtherTable, BadEvidence, Refuted, Verified, IsVerdict, OfFile, verdict_status, HasVerified}
-use Rattle.coverage_commands.specs.Checked.{BadFile as BadMarks}
-use Rattle.coverage_commands.specs.Complete.{HoldsTrue}
-use Rattle.coverage_commands.specs.Words.{Asked, way_of}
+use Rattle.session_book.specs.Meaning.{JobView}
+use Rattle.session_book.specs.JobView.{IsJob}
+use Rattle.coverage_commands.specs.Meaning.{IsStopped, Unread, Jobless, NoSession, Controlled, BadListing, IsCause, Report, ReportedEarly, Recorded, Places, ToldEnds, Replayed, BadSchedule, United, BadFile, OtherFile, Shown, BadShown, OtherShown, Proved, Counted, Checked, Usage, Stopped, NoMemoryToRun, Tried, NoMemoryToTry, Answers, SinkChange, AreasChange, Verdict, OtherTable, BadEvidence, Refuted, Verified, IsVerdict, OfFile, verdict_status, HasVerified, Asked, way_of, RefusalView, refusal}
+use Rattle.job_input.specs.Meaning.{SourceChange}
+use Rattle.coverage_commands.specs.Meaning.{BadMarks}
+use Rattle.coverage_commands.specs.MeaningOfStatuses.{HoldsTrue, IsExact}
 use Rattle.coverage_commands.proofs.WordLemmas.{no_report}
 use Rattle.coverage_commands.specs.declared.words.Command.{Command}
 use Rattle.coverage_commands.specs.declared.words.Command.TheVariants.{Early, Count, Marks, Trial, Table, Ends, Replay, Combine, Show, Prove, Verify, Unknown}
@@ -21,9 +19,7 @@ use Rattle.coverage_commands.proofs.BehindLemmas.{stands_of}
 use Rattle.coverage_commands.proofs.CompleteLemmas.{complete}
 use Rattle.coverage_commands.proofs.UntouchedLemmas.{read_told, jobless_told, tables_told}
 use Rattle.coverage_commands.proofs.VerdictLemmas.{one_check}
-use Rattle.coverage_commands.specs.Complete.{IsExact}
-use Rattle.coverage_commands.specs.Complete as wanted
-use Rattle.coverage_commands.specs.Refusals.{RefusalView, refusal}
+use Rattle.coverage_commands.specs.MeaningOfStatuses as wanted
 use Rattle.coverage_commands.proofs.CheckedLemmas.{judged_verified, own_of}
 use Rattle.coverage_commands.proofs.StopLemmas.{not_both}
 

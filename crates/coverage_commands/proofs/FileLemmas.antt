@@ -1,35 +1,33 @@
 -- What the program answers of marks files, cause by cause.
 use Rattle.std.proofs.Common.{◌≡◌, inr, ℕ, ◌<◌, ◌≤◌, true, Some, List, ◌++◌, length, drop, refl, sym, ap, ◌∙◌, subst, arith}
 use Rattle.std.proofs.lemmas.List.{take-append-drop, length-drop, take_all}
-use Rattle.brk_table.specs.Places.{TablesView}
-use Rattle.cov_base.specs.FactSet.{FactSet}
-use Rattle.marks_file.specs.Marks.{MarkedView, MarksView, keeps_rules}
-use Rattle.marks_file.specs.MarksFile.{file_bytes, HasFile, rows}
+use Rattle.brk_table.specs.Meaning.{TablesView}
+use Rattle.cov_base.specs.Meaning.{FactSet}
+use Rattle.marks_file.specs.Meaning.{MarkedView, MarksView, keeps_rules, file_bytes, HasFile, rows}
 use Rattle.marks_file.specs.declared.version.Version.TheVariants.{Second}
-use Rattle.table_combine.specs.Combine.{Difference, first_difference}
-use Rattle.table_combine.specs.Files.{IsCombined}
+use Rattle.table_combine.specs.Meaning.{Difference, first_difference, IsCombined}
+use Rattle.table_combine.specs.Combine.{difference_of}
+use Rattle.table_combine.specs.Files.{IsCombineFault}
+use Rattle.table_combine.specs.declared.files.CombineFault.{CombineFault}
 use Rattle.table_combine.specs.declared.files.CombineFault.TheVariants as fault
-use Rattle.session_book.specs.JobView.{JobView}
-use Rattle.task_run.specs.Courses.{solo}
+use Rattle.session_book.specs.Meaning.{JobView}
+use Rattle.task_run.specs.Meaning.{solo}
 use Rattle.job_run.specs.Outcomes.{IsOutcome}
-use Rattle.job_run.specs.Runs.{Account, HasRun, HasLeft}
+use Rattle.job_run.specs.Meaning.{Account, HasRun}
+use Rattle.job_run.specs.Runs.{HasLeft}
 use Rattle.job_run.specs.Sets.{SetsView, set_in}
 use Rattle.job_run.specs.declared.outcome.Done.{Done}
 use Rattle.job_run.proofs.SessionLemmas.{set_is_left}
-use Rattle.session_marks.specs.Marked.{session_marks, session_file, session_rows}
+use Rattle.session_marks.specs.Meaning.{session_marks, session_file, session_rows}
 use Rattle.coverage_commands.specs.declared.words.Command.TheVariants.{Marks, Combine, Show}
-use Rattle.coverage_commands.specs.Answers.{Unread, Recorded, United, Shown, BadShown, OtherShown, Stopped, IsWritten, Answers}
+use Rattle.coverage_commands.specs.Meaning.{Unread, BadFile, OtherFile, Recorded, United, Shown, BadShown, OtherShown, Stopped, IsWritten, Answers, SinkChange, AreasChange, IsFile, IsNoFile, show_text, HasRest, session_number, RefusalView, refusal, Records, no_memory_line, bad_marks_line, other_table_line}
 use Rattle.cov_outside.specs.declared.whole.ReadFault.TheVariants as read
-use Rattle.job_input.specs.Inputs.{SourceChange, CameWhole, CameJob, CameWith, to_end, to_go_on}
-use Rattle.job_tables.specs.Tables.{Match}
-use Rattle.job_text.specs.Lines.{lines_of}
-use Rattle.coverage_commands.specs.Changes.{SinkChange, AreasChange, no_change}
-use Rattle.coverage_commands.specs.Files.{IsFile, IsNoFile, IsShowRefusal, Bad, Wanting, NoFile, Other, show_text}
-use Rattle.coverage_commands.specs.Ready.{HasRest}
-use Rattle.coverage_commands.specs.Named.{session_number}
-use Rattle.coverage_commands.specs.Refusals.{RefusalView, refusal}
-use Rattle.coverage_commands.specs.Reports.{Records}
-use Rattle.coverage_commands.specs.Words.{no_memory_line, bad_marks_line, other_table_line}
+use Rattle.job_input.specs.Meaning.{SourceChange, CameWhole, CameJob, to_end, to_go_on}
+use Rattle.job_input.specs.Inputs.{CameWith}
+use Rattle.job_tables.specs.Meaning.{Match}
+use Rattle.job_text.specs.Meaning.{lines_of}
+use Rattle.coverage_commands.specs.Changes.{no_change}
+use Rattle.coverage_commands.specs.Files.{combine_refusal, IsShowRefusal, Bad, Wanting, NoFile, Other}
 
 -- files that were united, and files that weren't
 pub united : (s : SourceChange) (bytes : List ℕ) (marks : MarksView) (a : Account) (k : SinkChange) (answer : ℕ) →
@@ -40,6 +38,22 @@ united s bytes marks a k answer came combined told = record {
   cause = United (refl, refl) (record { bytes = bytes; marks = marks; came = came; combined = combined; is_text = refl }) refl;
   told = told;
 }
+
+pub ununited : (s : SourceChange) (bytes : List ℕ) (e : CombineFault) (a : Account) (k : SinkChange) (answer : ℕ) →
+    CameWhole s bytes → IsCombineFault bytes e → IsWritten (combine_refusal e).status (combine_refusal e).line k answer → Answers Combine s (no_change a) k answer
+ununited s bytes (fault.BadMarks offset) a k answer came bad told = record {
+  status = 10;
+  text = bad_marks_line offset;
+  cause = BadFile (refl, refl) (record { bytes = bytes; offset = offset; came = came; bad = bad; told = refl }) refl;
+  told = told;
+}
+ununited s bytes (fault.Other e) a k answer came other told = record {
+  status = 11;
+  text = other_table_line (difference_of e);
+  cause = OtherFile (refl, refl) (record { bytes = bytes; difference = difference_of e; came = came; other = other; told = refl }) refl;
+  told = told;
+}
+ununited s bytes fault.NoMemory a k answer came none told = record { status = 7; text = no_memory_line; cause = Stopped refl (Unread read.NoMemory tt refl) refl; told = told }
 
 -- the refusal's own line was told
 pub told_as : (status : ℕ) (line bytes : List ℕ) (r : RefusalView) (k : SinkChange) (answer : ℕ) → refusal status line ≡ r → bytes ≡ line → IsWritten status bytes k answer → IsWritten r.status r.line k answer

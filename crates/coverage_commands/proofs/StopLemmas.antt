@@ -1,22 +1,19 @@
 -- Why no job was come to, or that bytes came which have one: each contradicts the others.
 use Rattle.std.proofs.Common.{◌≡◌, ◌≢◌, ◌⊎◌, inl, inr, ℕ, ◌+◌, ◌<◌, ◌≤◌, Bool, true, false, not, if◌then◌else◌, is_some, Option, Some, None, List, length, refl, sym, ◌∙◌, ap, subst}
-use Rattle.cov_outside.specs.Causes.{Rose}
+use Rattle.cov_outside.specs.Meaning.{Rose}
 use Rattle.cov_outside.specs.declared.whole.ReadFault.{ReadFault}
 use Rattle.cov_outside.specs.declared.whole.ReadFault.TheVariants as read
-use Rattle.session_book.specs.JobView.{JobView}
-use Rattle.session_book.specs.Sessions.{session_of}
-use Rattle.job_input.specs.Inputs.{SourceChange, HasJob, CameJob, CameJobless, IsJobFault, IsReadFault, input_limit}
+use Rattle.session_book.specs.Meaning.{JobView, session_of}
+use Rattle.job_input.specs.Meaning.{SourceChange, HasJob, CameJob, CameJobless, IsJobFault, IsReadFault, input_limit}
 use Rattle.job_input.proofs.OneInput.{fault_left, left_is, read_wanting, same_job, too_many}
-use Rattle.job_tables.specs.Faults.{job_fault}
+use Rattle.job_tables.specs.Meaning.{job_fault}
 use Rattle.job_tables.specs.declared.faults.TablesFault.{TablesFault}
-use Rattle.job_text.specs.Lines.{lines_of}
+use Rattle.job_text.specs.Meaning.{lines_of}
 use Rattle.job_text.specs.declared.jobs.JobFault.{JobFault}
 use Rattle.job_text.specs.declared.jobs.JobFault.TheVariants as fault
 use Rattle.job_text.proofs.Excluded as excluded
-use Rattle.coverage_commands.specs.Answers.{IsStopped, StopsJob, Unread, Jobless, NoSession, Controlled, BadListing}
-use Rattle.coverage_commands.specs.Named.{HasAsked, HasNamed, controlled_asked, first_controlled, if_controlled, session_number}
-use Rattle.coverage_commands.specs.Refusals.{RefusalView, refusal, read_refusal, jobless_refusal, tables_refusal}
-use Rattle.coverage_commands.specs.Words.{Asked, WithSession, AllWhole, Wanted, controlled_line, no_memory_line, with_session}
+use Rattle.coverage_commands.specs.Meaning.{IsStopped, Unread, Jobless, NoSession, Controlled, BadListing, HasAsked, HasNamed, controlled_asked, first_controlled, if_controlled, session_number, RefusalView, refusal, read_refusal, jobless_refusal, tables_refusal, Asked, WithSession, AllWhole, Wanted, controlled_line, no_memory_line, with_session}
+use Rattle.coverage_commands.specs.Answers.{StopsJob}
 
 pub not_both : (b : Bool) → b ≡ true → b ≡ false → ⊥
 not_both b p q = let e : true ≡ false = sym p ∙ q in absurd cc

@@ -2,33 +2,27 @@
 use Rattle.std.proofs.Common.{◌≡◌, ℕ, ◌≤◌, true, false, Option, Some, None, List, [], refl, sym, ap, subst, arith, IfSome, length}
 use Rattle.std.proofs.lemmas.List.Elements.{All-cons, All-nil}
 use Rattle.std.proofs.lemmas.List.FromFn.{length-map-range_with_len}
-use Rattle.brk_table.specs.Places.{TablesView}
-use Rattle.job_gen.specs.Trial.{trial_code, trial_module, trial_task, trial_job}
-use Rattle.job_gen.specs.Listing.{listing_of}
+use Rattle.brk_table.specs.Meaning.{TablesView}
+use Rattle.job_gen.specs.Meaning.{trial_code, trial_module, trial_task, trial_job, listing_of}
 use Rattle.job_gen.proofs.MatchLemmas.{trial_lines, trial_listing, trial_matches, trial_listing_size}
 use Rattle.job_run.specs.Outcomes.{IsOutcome}
 use Rattle.job_run.specs.Runs.{HasLeft}
 use Rattle.job_run.specs.Sets.{SetsView, set_in}
 use Rattle.job_run.specs.Tasks.{results_of}
 use Rattle.job_run.specs.declared.outcome.Done.{Done}
-use Rattle.session_book.specs.JobView.{JobView}
+use Rattle.session_book.specs.Meaning.{JobView}
 use Rattle.report_text.specs.Conditions.{HasFewLines}
-use Rattle.report_text.specs.Trial.{trial_text}
-use Rattle.coverage_commands.specs.Answers.{IsCause, Report, ReportedEarly, Recorded, Places, ToldEnds, Replayed, BadSchedule, United, BadFile, OtherFile, Shown, BadShown, OtherShown, Proved, Counted, Checked, Usage, Stopped, NoMemoryToRun, Tried, NoMemoryToTry, IsWritten, Answers}
-use Rattle.job_input.specs.Inputs.{SourceChange}
-use Rattle.job_tables.specs.Faults.{job_fault}
-use Rattle.job_tables.specs.Tables.{Match}
+use Rattle.report_text.specs.Meaning.{trial_text}
+use Rattle.coverage_commands.specs.Meaning.{IsCause, Report, ReportedEarly, Recorded, Places, ToldEnds, Replayed, BadSchedule, United, BadFile, OtherFile, Shown, BadShown, OtherShown, Proved, Counted, Checked, Usage, Stopped, NoMemoryToRun, Tried, NoMemoryToTry, IsWritten, Answers, SinkChange, AreasChange, IsUnread, way_of, no_memory_line}
+use Rattle.job_input.specs.Meaning.{SourceChange}
+use Rattle.job_tables.specs.Meaning.{job_fault, Match}
 use Rattle.job_tables.proofs.TableLemmas.{no_listing_fault}
-use Rattle.coverage_commands.specs.Changes.{SinkChange, AreasChange}
-use Rattle.coverage_commands.specs.Complete.{IsAnswer}
-use Rattle.coverage_commands.specs.Complete as wanted
+use Rattle.coverage_commands.specs.MeaningOfStatuses.{IsAnswer, IsRunText}
+use Rattle.coverage_commands.specs.MeaningOfStatuses as wanted
 use Rattle.coverage_commands.specs.declared.words.Command.{Command}
 use Rattle.coverage_commands.specs.declared.words.Command.TheVariants.{Run, Exits, Early, Count, Marks, Trial, Table, Ends, Replay, Combine, Show, Prove, Verify, Unknown}
-use Rattle.coverage_commands.specs.Trial.{IsUnread}
-use Rattle.coverage_commands.specs.Untouched.{IsRunText}
-use Rattle.coverage_commands.specs.Words.{way_of, no_memory_line}
 use Rattle.coverage_commands.proofs.AnswerLemmas.{reports}
-use Rattle.task_run.specs.Courses.{solo}
+use Rattle.task_run.specs.Meaning.{solo}
 use Rattle.coverage_commands.proofs.StopLemmas.{not_both}
 use Rattle.coverage_commands.proofs.WordLemmas.{by_report}
 

@@ -1,34 +1,26 @@
 -- What a command has come to that has made an area.
 use Rattle.std.proofs.Common.{◌≡◌, ◌≢◌, ◌⊎◌, inl, inr, ℕ, Bool, true, false, Some, None, List, refl, sym, ◌∙◌, ap, subst}
-use Rattle.cov_outside.specs.Causes.{Rose}
-use Rattle.cov_outside.specs.Whole.{AppendsSome}
+use Rattle.cov_outside.specs.Meaning.{Rose, AppendsSome}
 use Rattle.cov_outside.specs.declared.whole.ReadFault.{ReadFault}
 use Rattle.cov_outside.specs.declared.whole.ReadFault.TheVariants as read
 use Rattle.listing_reader.specs.declared.lines.ListFault.{ListFault}
 use Rattle.listing_reader.specs.declared.lines.ListFault.TheVariants as list
 use Rattle.brk_table.specs.declared.faults.BuildFault.{BuildFault}
 use Rattle.brk_table.specs.declared.faults.BuildFault.TheVariants as fault
-use Rattle.brk_table.specs.Places.{TablesView}
-use Rattle.session_book.specs.JobView.{JobView}
-use Rattle.job_input.specs.Inputs.{SourceChange, CameJob}
+use Rattle.brk_table.specs.Meaning.{TablesView}
+use Rattle.session_book.specs.Meaning.{JobView}
+use Rattle.job_input.specs.Meaning.{SourceChange, CameJob}
 use Rattle.job_input.proofs.OneInput.{same_job, too_many}
-use Rattle.job_tables.specs.Faults.{job_fault}
+use Rattle.job_tables.specs.Meaning.{job_fault}
 use Rattle.job_tables.specs.declared.faults.TablesFault.{TablesFault}
 use Rattle.job_tables.specs.declared.faults.TablesFault.TheVariants as first
 use Rattle.job_text.specs.declared.jobs.JobFault.{JobFault}
 use Rattle.job_text.specs.declared.jobs.JobFault.TheVariants as job
-use Rattle.coverage_commands.specs.Answers.{IsReport, IsStopped, IsReady, IsCause, Report, ReportedEarly, Recorded, Places, ToldEnds, Replayed, BadSchedule, United, BadFile, OtherFile, Shown, BadShown, OtherShown, Proved, Counted, Checked, Usage, Stopped, NoMemoryToRun, Tried, NoMemoryToTry, Answers}
-use Rattle.coverage_commands.specs.Changes.{SinkChange, AreasChange}
-use Rattle.coverage_commands.specs.Complete.{IsAnswer, TakesJob, IsComplete, IsExact}
-use Rattle.coverage_commands.specs.Complete as wanted
-use Rattle.coverage_commands.specs.Untouched.{IsUntouched, IsRunText, HasReport, HasText, Read, Made, IsCut, IsReportCut, IsServed}
+use Rattle.coverage_commands.specs.Meaning.{IsReport, IsStopped, IsReady, IsCause, Report, ReportedEarly, Recorded, Places, ToldEnds, Replayed, BadSchedule, United, BadFile, OtherFile, Shown, BadShown, OtherShown, Proved, Counted, Checked, Usage, Stopped, NoMemoryToRun, Tried, NoMemoryToTry, Answers, SinkChange, AreasChange, HasAsked, CameMatched, RefusalView, refusal, read_refusal, jobless_refusal, list_refusal, build_refusal, tables_refusal, IsUnread, way_of, no_memory_line}
+use Rattle.coverage_commands.specs.MeaningOfStatuses.{IsAnswer, TakesJob, IsComplete, IsExact, IsUntouched, IsRunText, HasReport, HasText, Read, Made, IsCut, IsReportCut, IsServed}
+use Rattle.coverage_commands.specs.MeaningOfStatuses as wanted
 use Rattle.coverage_commands.specs.declared.words.Command.{Command}
 use Rattle.coverage_commands.specs.declared.words.Command.TheVariants.{Run, Exits, Early, Count, Marks, Trial, Table, Ends, Replay, Combine, Show, Prove, Verify, Unknown}
-use Rattle.coverage_commands.specs.Named.{HasAsked}
-use Rattle.coverage_commands.specs.Ready.{CameMatched}
-use Rattle.coverage_commands.specs.Refusals.{RefusalView, refusal, read_refusal, jobless_refusal, list_refusal, build_refusal, tables_refusal}
-use Rattle.coverage_commands.specs.Trial.{IsUnread}
-use Rattle.coverage_commands.specs.Words.{way_of, no_memory_line}
 use Rattle.coverage_commands.proofs.CompleteLemmas.{status_of, made_status}
 use Rattle.coverage_commands.proofs.TrialLemmas.{made_areas, made_jobless, never_answered, IsMade, Summed, Lacking, made}
 use Rattle.coverage_commands.proofs.WordLemmas.{any_job, by_report}

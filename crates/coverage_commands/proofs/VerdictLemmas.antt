@@ -1,28 +1,18 @@
 -- What `verify` answers is what the bytes are.
 use Rattle.std.proofs.Common.{◌≡◌, ◌⊎◌, inl, inr, ℕ, ◌+◌, true, Option, Some, None, List, [], ◌∷◌, ◌++◌, length, drop, refl, sym, ◌∙◌, ap, subst}
-use Rattle.cov_base.specs.Facts.{no_facts}
+use Rattle.cov_base.specs.Meaning.{no_facts}
 use Rattle.cov_base.specs.declared.facts.Fact.{Fact}
-use Rattle.brk_table.specs.Places.{TablesView, first_place}
-use Rattle.evidence_check.specs.Claims.{facts_of_modules, places_claims, modules_claims, past_places, evidence_claims, first_refuted}
-use Rattle.evidence_check.specs.Fields.{evidence_fields}
-use Rattle.evidence_check.specs.Firsts.{session_first}
+use Rattle.brk_table.specs.Meaning.{TablesView, first_place}
+use Rattle.evidence_check.specs.Meaning.{facts_of_modules, places_claims, modules_claims, past_places, evidence_claims, first_refuted, evidence_fields, session_first}
 use Rattle.evidence_check.specs.declared.firsts.First.{First}
-use Rattle.marks_file.specs.Marks.{MarkedView, MarksView}
-use Rattle.marks_file.specs.MarksFile.{HasFile, rows}
-use Rattle.marks_file.specs.Reading.{first_bad, file_fields}
+use Rattle.marks_file.specs.Meaning.{MarkedView, MarksView, HasFile, rows, first_bad, file_fields}
 use Rattle.marks_file.proofs.FileLemmas.{marks_found, one_end, file_found}
-use Rattle.session_book.specs.JobView.{JobView}
-use Rattle.session_book.specs.Sessions.{session_of}
-use Rattle.session_marks.specs.Marked.{session_rows}
-use Rattle.table_combine.specs.Combine.{first_difference}
-use Rattle.coverage_commands.specs.Answers.{IsStopped, IsCause, Report, ReportedEarly, Recorded, Places, ToldEnds, Replayed, BadSchedule, United, BadFile, OtherFile, Shown, BadShown, OtherShown, Proved, Counted, Checked, Usage, Stopped, NoMemoryToRun, Tried, NoMemoryToTry}
-use Rattle.job_input.specs.Inputs.{SourceChange, to_go_on}
-use Rattle.coverage_commands.specs.Changes.{AreasChange}
-use Rattle.coverage_commands.specs.Checked.{Verdict, IsVerdict, OfFile, judged, judged_by, verdict_status}
-use Rattle.coverage_commands.specs.Checked.{BadFile as BadMarks, NoFile as NoStart}
-use Rattle.coverage_commands.specs.Ready.{StandsBehind}
-use Rattle.coverage_commands.specs.Refusals.{refusal}
-use Rattle.coverage_commands.specs.Words.{Asked, way_of, with_session}
+use Rattle.session_book.specs.Meaning.{JobView, session_of}
+use Rattle.session_marks.specs.Meaning.{session_rows}
+use Rattle.table_combine.specs.Meaning.{first_difference}
+use Rattle.coverage_commands.specs.Meaning.{IsStopped, IsCause, Report, ReportedEarly, Recorded, Places, ToldEnds, Replayed, BadSchedule, United, BadFile, OtherFile, Shown, BadShown, OtherShown, Proved, Counted, Checked, Usage, Stopped, NoMemoryToRun, Tried, NoMemoryToTry, AreasChange, Verdict, IsVerdict, OfFile, judged, judged_by, verdict_status, NoFile as NoStart, StandsBehind, refusal, Asked, way_of, with_session}
+use Rattle.job_input.specs.Meaning.{SourceChange, to_go_on}
+use Rattle.coverage_commands.specs.Meaning.{BadMarks}
 use Rattle.coverage_commands.proofs.WordLemmas.{no_report}
 use Rattle.coverage_commands.specs.declared.words.Command.{Command}
 use Rattle.coverage_commands.specs.declared.words.Command.TheVariants.{Early, Count, Marks, Trial, Table, Ends, Replay, Combine, Show, Prove, Verify, Unknown}

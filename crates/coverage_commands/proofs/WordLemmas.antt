@@ -1,10 +1,9 @@
 -- What is so of the commands that report on a run.
 use Rattle.std.proofs.Common.{◌≡◌, true, Some, None, Option, refl, sym, ◌∙◌, ap, subst}
-use Rattle.check_exits.specs.Exits.{with_exits}
-use Rattle.session_book.specs.JobView.{JobView}
-use Rattle.task_run.specs.Courses.{Course, solo}
-use Rattle.coverage_commands.specs.Named.{HasAsked}
-use Rattle.coverage_commands.specs.Words.{AnyJob, way_of}
+use Rattle.check_exits.specs.Meaning.{with_exits}
+use Rattle.session_book.specs.Meaning.{JobView}
+use Rattle.task_run.specs.Meaning.{Course, solo}
+use Rattle.coverage_commands.specs.Meaning.{HasAsked, AnyJob, way_of}
 use Rattle.coverage_commands.specs.declared.words.Command.{Command}
 use Rattle.coverage_commands.specs.declared.words.Command.TheVariants.{Run, Exits, Early, Count, Marks, Trial, Table, Ends, Replay, Combine, Show, Prove, Verify, Unknown}
 

@@ -1,14 +1,15 @@
 //! The program over any source, sink and areas.
 ghost use Rattle.std.specs.Prelude.{◌≡◌, ◌+◌, ◌<◌, ◌^◌, ◌≤◌, false, true, Some, All, map, length, string_bytes};
 ghost use Rattle.job_tables.specs.Tables.{IsReadyJob};
-ghost use Rattle.job_input.specs.Inputs.{SourceChange, source_change, CameJob, CameWith, to_end, to_go_on};
-ghost use Rattle.coverage_commands.specs.Answers.{Answers};
-ghost use Rattle.coverage_commands.specs.Changes.{sink_change, areas_change, no_change};
+ghost use Rattle.job_input.specs.Meaning.{SourceChange, source_change, CameJob, to_end, to_go_on};
+ghost use Rattle.job_input.specs.Inputs.{CameWith};
+ghost use Rattle.coverage_commands.specs.Meaning.{Answers, sink_change, areas_change, command_of, way_of};
+ghost use Rattle.coverage_commands.specs.Changes.{no_change};
 ghost use Rattle.coverage_commands.specs.Named.{IsSessionOf};
-ghost use Rattle.coverage_commands.specs.Untouched.{IsServed};
-ghost use Rattle.job_run.specs.Runs.{Account};
+ghost use Rattle.coverage_commands.specs.MeaningOfStatuses.{IsServed};
+ghost use Rattle.job_run.specs.Meaning.{Account};
 ghost use Rattle.report_text.specs.Conditions.{HasFewLines};
-ghost use Rattle.coverage_commands.specs.Words.{command_of, way_of, without_threads, HasFewTasks};
+ghost use Rattle.coverage_commands.specs.Words.{without_threads, HasFewTasks};
 
 use crate::combining::answer_combine;
 use crate::counting::answer_count;
@@ -88,7 +89,7 @@ fn answer_run<
     requires { A.made areas.old < 2 ^ 61 }
     ensures { (c : Command) → (way_of c).reports ≡ Some R.course →
         Answers c (source_change S.left S.faults source.old source.new)
-            (areas_change A.ledger A.finals A.made areas.old areas.new) (sink_change K.written K.faults sink.old sink.new) result.0 }
+        (areas_change A.ledger A.finals A.made areas.old areas.new) (sink_change K.written K.faults sink.old sink.new) result.0 }
 {
     match make_ready(alloc, source, false) {
         Ok(read) => answer_tables(
@@ -151,7 +152,7 @@ fn answer_marks<T: Threads + Wait + Sync, S: Source, K: Sink, A: Areas, G: Gate 
 ) -> Status
     requires { A.made areas.old < 2 ^ 61 }
     ensures { Answers (Command.Marks name.now) (source_change S.left S.faults source.old source.new)
-            (areas_change A.ledger A.finals A.made areas.old areas.new) (sink_change K.written K.faults sink.old sink.new) result.0 }
+        (areas_change A.ledger A.finals A.made areas.old areas.new) (sink_change K.written K.faults sink.old sink.new) result.0 }
 {
     let (read, session) = match make_named(alloc, source, false, name, false) {
         Ok(read) => read,
@@ -173,7 +174,7 @@ fn answer_marks<T: Threads + Wait + Sync, S: Source, K: Sink, A: Areas, G: Gate 
 /// Reads a job and writes the places of its modules.
 fn answer_table<S: Source, K: Sink>(alloc: Global, source: &mut S, sink: &mut K) -> Status
     ensures { (a : Account) → Answers Command.Table (source_change S.left S.faults source.old source.new) (no_change a)
-            (sink_change K.written K.faults sink.old sink.new) result.0 }
+        (sink_change K.written K.faults sink.old sink.new) result.0 }
 {
     let read = match make_ready(alloc, source, false) {
         Ok(read) => read,
@@ -207,13 +208,20 @@ fn answer_schedule<K: Sink>(
 /// Reads a job and a schedule, and plays it.
 fn answer_replay<S: Source, K: Sink>(alloc: Global, source: &mut S, sink: &mut K) -> Status
     ensures { (a : Account) → Answers Command.Replay (source_change S.left S.faults source.old source.new) (no_change a)
-            (sink_change K.written K.faults sink.old sink.new) result.0 }
+        (sink_change K.written K.faults sink.old sink.new) result.0 }
 {
     let read = match make_ready(alloc, source, true) {
         Ok(read) => read,
         Err(refusal) => return told(sink, &refusal.line, refusal.status),
     };
-    answer_schedule(alloc, &read.input.job, &read.tables, read.input.lines, &read.input.rest, sink)
+    answer_schedule(
+        alloc,
+        &read.input.job,
+        &read.tables,
+        read.input.lines,
+        &read.input.rest,
+        sink,
+    )
 }
 
 /// Answers the commands that need no threads; all others are usage.
@@ -224,7 +232,7 @@ fn answer_one<S: Source, K: Sink>(
     sink: &mut K,
 ) -> Status
     ensures { (a : Account) → Answers (without_threads command) (source_change S.left S.faults source.old source.new) (no_change a)
-            (sink_change K.written K.faults sink.old sink.new) result.0 }
+        (sink_change K.written K.faults sink.old sink.new) result.0 }
 {
     match command {
         Command::Table => answer_table(alloc, source, sink),
@@ -257,7 +265,7 @@ fn answer<T: Threads + Wait + Sync, S: Source, K: Sink, A: Areas, G: Gate + Sync
     requires room { A.made areas.old < 2 ^ 61 }
     requires few { HasFewTasks command }
     ensures { Answers command (source_change S.left S.faults source.old source.new)
-            (areas_change A.ledger A.finals A.made areas.old areas.new) (sink_change K.written K.faults sink.old sink.new) result.0 }
+        (areas_change A.ledger A.finals A.made areas.old areas.new) (sink_change K.written K.faults sink.old sink.new) result.0 }
 {
     match command {
         Command::Run => answer_run(rt, alloc, &PlainRunner, source, sink, areas, gate),
@@ -311,7 +319,7 @@ pub fn cover<T: Threads + Wait + Sync, S: Source, K: Sink, A: Areas, G: Gate + S
 ) -> Status
     requires { A.made areas.old < 2 ^ 61 }
     ensures { IsServed (command_of (map string_bytes words.now)) (source_change S.left S.faults source.old source.new)
-            (areas_change A.ledger A.finals A.made areas.old areas.new) (sink_change K.written K.faults sink.old sink.new) result.0 }
+        (areas_change A.ledger A.finals A.made areas.old areas.new) (sink_change K.written K.faults sink.old sink.new) result.0 }
 {
     answer(rt, alloc, command_of(words), source, sink, areas, gate)
 }
@@ -340,7 +348,7 @@ pub fn cover_one<S: Source, K: Sink>(
     sink: &mut K,
 ) -> Status
     ensures { (a : Account) → IsServed (without_threads (command_of (map string_bytes words.now)))
-            (source_change S.left S.faults source.old source.new) (no_change a) (sink_change K.written K.faults sink.old sink.new) result.0 }
+        (source_change S.left S.faults source.old source.new) (no_change a) (sink_change K.written K.faults sink.old sink.new) result.0 }
 {
     answer_one(alloc, command_of(words), source, sink)
 }

@@ -1,10 +1,10 @@
 //! The union of marks files.
 ghost use Rattle.std.specs.Prelude.{◌≡◌};
-ghost use Rattle.job_input.specs.Inputs.{SourceChange, source_change, CameWhole};
-ghost use Rattle.coverage_commands.specs.Answers.{Answers};
-ghost use Rattle.coverage_commands.specs.Changes.{sink_change, no_change};
+ghost use Rattle.job_input.specs.Meaning.{SourceChange, source_change, CameWhole};
+ghost use Rattle.coverage_commands.specs.Meaning.{Answers, sink_change};
+ghost use Rattle.coverage_commands.specs.Changes.{no_change};
 ghost use Rattle.coverage_commands.specs.Files.{combine_refusal};
-ghost use Rattle.job_run.specs.Runs.{Account};
+ghost use Rattle.job_run.specs.Meaning.{Account};
 
 use crate::lines::NO_MEMORY;
 use crate::refusals::{Refusal, bad_marks, other_table, plain_refusal, read_refusal};
@@ -44,7 +44,7 @@ fn answer_files<K: Sink>(alloc: Global, bytes: &[u8], sink: &mut K) -> Status
 /// Reads marks files, and writes the file of their union.
 pub fn answer_combine<S: Source, K: Sink>(alloc: Global, source: &mut S, sink: &mut K) -> Status
     ensures { (a : Account) → Answers Command.Combine (source_change S.left S.faults source.old source.new) (no_change a)
-            (sink_change K.written K.faults sink.old sink.new) result.0 }
+        (sink_change K.written K.faults sink.old sink.new) result.0 }
 {
     match read_input(alloc, source) {
         Ok(input) => answer_files(alloc, &input, sink),

@@ -1,11 +1,10 @@
 //! The counts of a job's sessions.
 ghost use Rattle.std.specs.Prelude.{◌≡◌, None};
 ghost use Rattle.job_tables.specs.Tables.{IsReadyJob};
-ghost use Rattle.job_input.specs.Inputs.{SourceChange, source_change, CameJob, to_end};
-ghost use Rattle.coverage_commands.specs.Answers.{Answers};
-ghost use Rattle.coverage_commands.specs.Changes.{sink_change, no_change};
-ghost use Rattle.coverage_commands.specs.Named.{first_controlled};
-ghost use Rattle.job_run.specs.Runs.{Account};
+ghost use Rattle.job_input.specs.Meaning.{SourceChange, source_change, CameJob, to_end};
+ghost use Rattle.coverage_commands.specs.Meaning.{Answers, sink_change, first_controlled};
+ghost use Rattle.coverage_commands.specs.Changes.{no_change};
+ghost use Rattle.job_run.specs.Meaning.{Account};
 ghost use Rattle.report_text.specs.Conditions.{HasFewLines};
 
 use crate::lines::NO_MEMORY;
@@ -49,7 +48,7 @@ pub fn answer_count<T: Threads + Wait + Sync, S: Source, K: Sink>(
     sink: &mut K,
 ) -> Status
     ensures { (a : Account) → Answers Command.Count (source_change S.left S.faults source.old source.new) (no_change a)
-            (sink_change K.written K.faults sink.old sink.new) result.0 }
+        (sink_change K.written K.faults sink.old sink.new) result.0 }
 {
     match make_whole(alloc, source) {
         Ok(read) => answer_counts(rt, alloc, &read.input.job, &read.tables, sink),

@@ -1,9 +1,8 @@
 //! The report of a job whose controllers drain the sessions that they have closed.
 ghost use Rattle.std.specs.Prelude.{◌≡◌, ◌<◌, ◌^◌};
 ghost use Rattle.job_tables.specs.Tables.{IsReadyJob};
-ghost use Rattle.job_input.specs.Inputs.{SourceChange, source_change, CameJob, to_end};
-ghost use Rattle.coverage_commands.specs.Answers.{Answers};
-ghost use Rattle.coverage_commands.specs.Changes.{sink_change, areas_change};
+ghost use Rattle.job_input.specs.Meaning.{SourceChange, source_change, CameJob, to_end};
+ghost use Rattle.coverage_commands.specs.Meaning.{Answers, sink_change, areas_change};
 ghost use Rattle.report_text.specs.Conditions.{HasFewLines};
 
 use crate::lines::NO_MEMORY;
@@ -55,7 +54,7 @@ pub fn answer_early<T: Threads + Wait + Sync, S: Source, K: Sink, A: Areas, G: G
 ) -> Status
     requires { A.made areas.old < 2 ^ 61 }
     ensures { Answers Command.Early (source_change S.left S.faults source.old source.new)
-            (areas_change A.ledger A.finals A.made areas.old areas.new) (sink_change K.written K.faults sink.old sink.new) result.0 }
+        (areas_change A.ledger A.finals A.made areas.old areas.new) (sink_change K.written K.faults sink.old sink.new) result.0 }
 {
     match make_ready(alloc, source, false) {
         Ok(read) => answer_drained(rt, alloc, &read.input.job, &read.tables, sink, areas, gate),

@@ -1,8 +1,8 @@
 //! Where the tasks of a job end.
-ghost use Rattle.job_input.specs.Inputs.{source_change};
-ghost use Rattle.coverage_commands.specs.Answers.{Answers};
-ghost use Rattle.coverage_commands.specs.Changes.{sink_change, no_change};
-ghost use Rattle.job_run.specs.Runs.{Account};
+ghost use Rattle.job_input.specs.Meaning.{source_change};
+ghost use Rattle.coverage_commands.specs.Meaning.{Answers, sink_change};
+ghost use Rattle.coverage_commands.specs.Changes.{no_change};
+ghost use Rattle.job_run.specs.Meaning.{Account};
 
 use crate::lines::NO_MEMORY;
 use crate::ready::make_ready;
@@ -15,7 +15,7 @@ use task_ends::{find_ends, write_ends};
 /// Reads a job, runs each of its tasks once, alone, and writes where each has ended and what ran where no place begins.
 pub fn answer_ends<S: Source, K: Sink>(alloc: Global, source: &mut S, sink: &mut K) -> Status
     ensures { (a : Account) → Answers Command.Ends (source_change S.left S.faults source.old source.new) (no_change a)
-            (sink_change K.written K.faults sink.old sink.new) result.0 }
+        (sink_change K.written K.faults sink.old sink.new) result.0 }
 {
     let read = match make_ready(alloc, source, false) {
         Ok(read) => read,

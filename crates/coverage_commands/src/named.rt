@@ -2,10 +2,9 @@
 ghost use Rattle.std.specs.Prelude.{◌≡◌, ◌<◌, ◌≤◌, ◌+◌, true, Some, None, length, option_map, IfSome, IfOk, IfErr};
 ghost use Rattle.cov_base.specs.declared.numbers.SessNo.{SessNo as Number};
 ghost use Rattle.coverage_commands.specs.Answers.{StopsJob};
-ghost use Rattle.coverage_commands.specs.Named.{HasAsked, IsSessionOf, first_controlled, session_number};
-ghost use Rattle.coverage_commands.specs.Refusals.{refusal};
-ghost use Rattle.coverage_commands.specs.Words.{AllWhole, controlled_line, with_session};
-ghost use Rattle.session_book.specs.Sessions.{session_of};
+ghost use Rattle.coverage_commands.specs.Meaning.{HasAsked, first_controlled, session_number, refusal, AllWhole, controlled_line, with_session};
+ghost use Rattle.coverage_commands.specs.Named.{IsSessionOf};
+ghost use Rattle.session_book.specs.Meaning.{session_of};
 
 use crate::lines::{controlled_line, no_session_line};
 use crate::refusals::Refusal;

@@ -1,12 +1,12 @@
 //! The evidence of a session's facts.
 ghost use Rattle.std.specs.Prelude.{◌≡◌, ◌<◌, ◌≤◌, Some, None, length};
 ghost use Rattle.job_tables.specs.Tables.{IsReadyJob};
-ghost use Rattle.job_input.specs.Inputs.{SourceChange, source_change, CameJob, to_end};
-ghost use Rattle.coverage_commands.specs.Answers.{Answers};
-ghost use Rattle.coverage_commands.specs.Changes.{sink_change, no_change};
+ghost use Rattle.job_input.specs.Meaning.{SourceChange, source_change, CameJob, to_end};
+ghost use Rattle.coverage_commands.specs.Meaning.{Answers, sink_change};
+ghost use Rattle.coverage_commands.specs.Changes.{no_change};
 ghost use Rattle.coverage_commands.specs.Named.{IsSessionOf};
-ghost use Rattle.job_run.specs.Runs.{Account};
-ghost use Rattle.session_book.specs.Sessions.{session_of};
+ghost use Rattle.job_run.specs.Meaning.{Account};
+ghost use Rattle.session_book.specs.Meaning.{session_of};
 
 use crate::lines::NO_MEMORY;
 use crate::ready::make_named;
@@ -49,7 +49,7 @@ pub fn answer_prove<S: Source, K: Sink>(
     sink: &mut K,
 ) -> Status
     ensures { (a : Account) → Answers (Command.Prove name.now) (source_change S.left S.faults source.old source.new) (no_change a)
-            (sink_change K.written K.faults sink.old sink.new) result.0 }
+        (sink_change K.written K.faults sink.old sink.new) result.0 }
 {
     let (read, session) = match make_named(alloc, source, false, name, true) {
         Ok(read) => read,

@@ -1,12 +1,12 @@
 //! A job that a source gives, made ready for a command.
 ghost use Rattle.std.specs.Prelude.{true, IfOk, IfErr};
-ghost use Rattle.job_input.specs.Inputs.{IsInput, source_change, to_end};
+ghost use Rattle.job_input.specs.Meaning.{source_change, to_end};
+ghost use Rattle.job_input.specs.Inputs.{IsInput};
 ghost use Rattle.job_tables.specs.Tables.{IsReadyJob};
 ghost use Rattle.report_text.specs.Conditions.{HasFewLines};
-ghost use Rattle.coverage_commands.specs.Answers.{IsStopped, StopsJob};
-ghost use Rattle.coverage_commands.specs.Named.{HasAsked};
+ghost use Rattle.coverage_commands.specs.Meaning.{IsStopped, HasAsked, Asked, AnyJob, AllWhole, with_session};
+ghost use Rattle.coverage_commands.specs.Answers.{StopsJob};
 ghost use Rattle.coverage_commands.specs.Ready.{IsMadeReady, IsNamedReady};
-ghost use Rattle.coverage_commands.specs.Words.{Asked, AnyJob, AllWhole, with_session};
 
 use crate::named::{named_session, whole_sessions};
 use crate::refusals::{Refusal, input_refusal, tables_refusal};

@@ -1,11 +1,14 @@
 //! How faults of a source, a job, its listings and marks files are told.
 ghost use Rattle.std.specs.Prelude.{◌≡◌, ◌≤◌, length, take};
 ghost use Rattle.arrayvec.specs.ArrayVec.{array_vec_len};
-ghost use Rattle.coverage_commands.specs.Refusals.{refusal, line_text, bad_listing, list_refusal, build_refusal, tables_refusal, read_refusal, jobless_refusal, input_refusal, mismatch_text};
-ghost use Rattle.coverage_commands.specs.Words.{bad_marks_line, other_table_line};
+ghost use Rattle.coverage_commands.specs.Meaning.{refusal, line_text, bad_listing, list_refusal, build_refusal, tables_refusal, read_refusal, jobless_refusal, mismatch_text, bad_marks_line, other_table_line};
+ghost use Rattle.coverage_commands.specs.Refusals.{input_refusal};
 ghost use Rattle.table_combine.specs.Combine.{difference_of};
 
-use crate::lines::{NO_MEMORY, READ_FAULT, TOO_LARGE_INPUT, bad_job_line, bad_marks_line, large_job_line, other_table_line};
+use crate::lines::{
+    NO_MEMORY, READ_FAULT, TOO_LARGE_INPUT, bad_job_line, bad_marks_line, large_job_line,
+    other_table_line,
+};
 use annotator::text::{add_hex, add_number, add_text};
 use arrayvec::ArrayVec;
 use brk_table::BuildFault;
@@ -28,7 +31,7 @@ pub struct Refusal {
 }
 
 impl Model for Refusal {
-    ghost use Rattle.coverage_commands.specs.Refusals.{RefusalView};
+    ghost use Rattle.coverage_commands.specs.Meaning.{RefusalView};
 
     ghost Value = { RefusalView };
 
@@ -104,7 +107,7 @@ pub fn other_table(other: &OtherTable) -> Refusal
 }
 
 /// A line on line n of a module's listing; `why` has at most 80 bytes, `what` at most 20.
-#[tactic(auto, unfolding(crate::specs::Refusals::line_text))]
+#[tactic(auto, unfolding(crate::specs::Meaning::line_text))]
 fn line_text(what: &[u8], name: &Name, n: u32, why: &[u8]) -> ArrayVec<u8, 160>
     requires what { length what.now ≤ 20 }
     requires why { length why.now ≤ 80 }
@@ -143,7 +146,7 @@ fn shown(code: &Code) -> &[u8]
 }
 
 /// Where an instruction stands, in six digits, and its bytes as the listing and the module have them.
-#[tactic(auto, unfolding(crate::specs::Refusals::mismatch_text, crate::specs::Refusals::code_text))]
+#[tactic(auto, unfolding(crate::specs::Meaning::mismatch_text, crate::specs::Meaning::code_text))]
 fn mismatch_text(loc: u32, listing: &Code, other: &Code) -> ArrayVec<u8, 160>
     ensures text { result.items ≡ mismatch_text loc listing.now other.now }
     ensures short { array_vec_len result ≤ 60 }

@@ -2,17 +2,17 @@
 ghost use Rattle.std.specs.Prelude.{◌≡◌, ◌<◌, ◌≤◌, ℕ, true, Some, length, IfOk, IfErr};
 ghost use Rattle.cov_outside.specs.Writes.{Writes};
 ghost use Rattle.job_tables.specs.Tables.{IsReadyJob};
-ghost use Rattle.job_input.specs.Inputs.{SourceChange, CameWith, source_change, to_go_on};
-ghost use Rattle.coverage_commands.specs.Answers.{Answers};
-ghost use Rattle.coverage_commands.specs.Changes.{sink_change, no_change};
-ghost use Rattle.coverage_commands.specs.Files.{IsFile, IsFileRefusal, IsShowRefusal, show_text};
+ghost use Rattle.job_input.specs.Meaning.{SourceChange, source_change, to_go_on};
+ghost use Rattle.job_input.specs.Inputs.{CameWith};
+ghost use Rattle.coverage_commands.specs.Meaning.{Answers, sink_change, IsFile, show_text, refusal};
+ghost use Rattle.coverage_commands.specs.Changes.{no_change};
+ghost use Rattle.coverage_commands.specs.Files.{IsFileRefusal, IsShowRefusal};
 ghost use Rattle.coverage_commands.specs.Named.{IsSessionOf};
-ghost use Rattle.coverage_commands.specs.Refusals.{refusal};
-ghost use Rattle.job_run.specs.Runs.{Account};
+ghost use Rattle.job_run.specs.Meaning.{Account};
 ghost use Rattle.report_text.specs.Conditions.{AreTablesOf};
 ghost use Rattle.session_book.specs.Sets.{HasSetsOf};
 ghost use Rattle.session_marks.specs.FromFile.{set_at, sets_of_one};
-ghost use Rattle.session_marks.specs.Marked.{session_marks};
+ghost use Rattle.session_marks.specs.Meaning.{session_marks};
 
 use crate::lines::NO_MEMORY;
 use crate::ready::make_named;
@@ -118,7 +118,7 @@ pub fn answer_show<S: Source, K: Sink>(
     sink: &mut K,
 ) -> Status
     ensures { (a : Account) → Answers (Command.Show name.now) (source_change S.left S.faults source.old source.new) (no_change a)
-            (sink_change K.written K.faults sink.old sink.new) result.0 }
+        (sink_change K.written K.faults sink.old sink.new) result.0 }
 {
     let (read, session) = match make_named(alloc, source, true, name, false) {
         Ok(read) => read,

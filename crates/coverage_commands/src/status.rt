@@ -1,7 +1,6 @@
 //! The exit status, and the lines that go with it.
 ghost use Rattle.std.specs.Prelude.{◌≡◌, OnOk, OnErr};
-ghost use Rattle.coverage_commands.specs.Answers.{IsWritten};
-ghost use Rattle.coverage_commands.specs.Changes.{sink_change};
+ghost use Rattle.coverage_commands.specs.Meaning.{IsWritten, sink_change};
 
 use cov_outside::{Failed, Sink, write_all};
 

@@ -1,12 +1,10 @@
 //! The run of a generated job.
 ghost use Rattle.std.specs.Prelude.{◌≡◌, ◌<◌, ◌≤◌, ◌^◌, None, IfOk};
-ghost use Rattle.job_tables.specs.Faults.{job_fault};
+ghost use Rattle.job_tables.specs.Meaning.{job_fault};
 ghost use Rattle.job_tables.specs.Tables.{IsReadyJob};
-ghost use Rattle.job_input.specs.Inputs.{SourceChange};
-ghost use Rattle.coverage_commands.specs.Answers.{Answers};
-ghost use Rattle.coverage_commands.specs.Changes.{sink_change, areas_change};
-ghost use Rattle.coverage_commands.specs.Trial.{IsUnread};
-ghost use Rattle.job_gen.specs.Trial.{trial_job};
+ghost use Rattle.job_input.specs.Meaning.{SourceChange};
+ghost use Rattle.coverage_commands.specs.Meaning.{Answers, sink_change, areas_change, IsUnread};
+ghost use Rattle.job_gen.specs.Meaning.{trial_job};
 ghost use Rattle.report_text.specs.Conditions.{HasFewLines};
 
 use crate::lines::NO_MEMORY;

@@ -1,14 +1,15 @@
 //! Marks and evidence of a session, checked by another run of its tasks.
 ghost use Rattle.std.specs.Prelude.{◌≡◌, ◌<◌, ◌≤◌, ℕ, true, Some, None, length, OnOk, IfOk, IfErr};
 ghost use Rattle.job_tables.specs.Tables.{IsReadyJob};
-ghost use Rattle.job_input.specs.Inputs.{SourceChange, CameWith, source_change, to_go_on};
-ghost use Rattle.coverage_commands.specs.Answers.{Answers};
-ghost use Rattle.coverage_commands.specs.Changes.{sink_change, no_change};
-ghost use Rattle.coverage_commands.specs.Checked.{Verified, IsVerdict, HasVerified, verify_refusal, IsStartRefusal, IsCheckRefusal};
+ghost use Rattle.job_input.specs.Meaning.{SourceChange, source_change, to_go_on};
+ghost use Rattle.job_input.specs.Inputs.{CameWith};
+ghost use Rattle.coverage_commands.specs.Meaning.{Answers, sink_change, Verified, IsVerdict, HasVerified};
+ghost use Rattle.coverage_commands.specs.Changes.{no_change};
+ghost use Rattle.coverage_commands.specs.Checked.{verify_refusal, IsStartRefusal, IsCheckRefusal};
 ghost use Rattle.coverage_commands.specs.Named.{IsSessionOf};
-ghost use Rattle.job_run.specs.Runs.{Account};
-ghost use Rattle.marks_file.specs.MarksFile.{HasFile};
-ghost use Rattle.session_book.specs.Sessions.{session_of};
+ghost use Rattle.job_run.specs.Meaning.{Account};
+ghost use Rattle.marks_file.specs.Meaning.{HasFile};
+ghost use Rattle.session_book.specs.Meaning.{session_of};
 
 use crate::lines::{NO_MEMORY, bad_evidence_line, refuted_line, verified_line};
 use crate::ready::make_named;
@@ -114,7 +115,7 @@ pub fn answer_verify<S: Source, K: Sink>(
     sink: &mut K,
 ) -> Status
     ensures { (a : Account) → Answers (Command.Verify name.now) (source_change S.left S.faults source.old source.new) (no_change a)
-            (sink_change K.written K.faults sink.old sink.new) result.0 }
+        (sink_change K.written K.faults sink.old sink.new) result.0 }
 {
     let (read, session) = match make_named(alloc, source, true, name, true) {
         Ok(read) => read,

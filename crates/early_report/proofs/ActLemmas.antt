@@ -1,12 +1,11 @@
 -- What any call of the area leaves of a session that is closed and of its drain.
 use Rattle.std.proofs.Common.{◌≡◌, ℕ, ◌+◌, ◌-◌, ◌*◌, ◌/◌, ◌<◌, ◌≤◌, Bool, true, false, not, if◌then◌else◌, ◌&&◌, ◌||◌, nat_eq, nat_le, Some, None, List, [], ◌∷◌, ◌++◌, length, get_or, All, refl, sym, ◌∙◌, ap, subst, arith, eqb-true, leb-true, ⊎_elim}
 use Rattle.std.specs.List.{list_all}
-use Rattle.cov_base.specs.FactSet.{FactSet}
-use Rattle.cov_base.specs.Codes.{breakpoint}
+use Rattle.cov_base.specs.Meaning.{FactSet, breakpoint}
 use Rattle.cov_base.specs.declared.numbers.PlaceNo.{PlaceNo}
 use Rattle.module_area.specs.declared.cells.Cell.{Cell}
-use Rattle.module_area.specs.PlanView.{PlanView, ControlledView, IsPlan, has_place, is_controlled, is_over, window_at}
-use Rattle.module_area.specs.Control.{places_under}
+use Rattle.module_area.specs.Meaning.{PlanView, ControlledView, has_place, is_controlled, is_over, window_at, places_under}
+use Rattle.module_area.specs.PlanView.{IsPlan}
 use Rattle.module_area.specs.Notes.{Notes, NotedView, IsAnswer, after_fetch, after_plant, after_close, after_note, is_at, is_closed}
 use Rattle.module_area.proofs.Indices.{and_left, and_right}
 use Rattle.module_area.proofs.PlanLemmas.{any_at, over_cases}

@@ -4,23 +4,21 @@ use Rattle.std.specs.List.{filter, list_any}
 use Rattle.std.proofs.lemmas.List.{same_lists, get_or-map, get_or_default, length-map}
 use Rattle.std.proofs.lemmas.List.Folds.{list_any_none}
 use Rattle.std.proofs.lemmas.List.Elements.{All-tail, All-cons}
-use Rattle.cov_base.specs.FactSet.{FactSet}
-use Rattle.cov_base.specs.States.{Visit}
+use Rattle.cov_base.specs.Meaning.{FactSet, Visit}
 use Rattle.cov_base.specs.declared.numbers.SessNo.{SessNo}
-use Rattle.module_area.specs.PlanView.{PlanView, ControlledView, IsPlan, AreApart}
-use Rattle.module_area.specs.Control.{ControlView, number_of, sessions_of, control_after}
+use Rattle.module_area.specs.Meaning.{PlanView, ControlledView, ControlView, number_of, sessions_of, control_after}
+use Rattle.module_area.specs.PlanView.{IsPlan, AreApart}
 use Rattle.module_area.specs.Notes.{Notes, after_boundary, bearer, is_working, own_number}
 use Rattle.module_area.proofs.Indices.{and_left}
 use Rattle.module_area.proofs.PlanLemmas.{any_shown}
 use Rattle.svc_monitor.specs.Answered.{Turns}
 use Rattle.task_run.specs.Aside.{IsAside}
-use Rattle.task_run.specs.Called.{control_by}
-use Rattle.task_run.specs.Windows.{is_opened}
+use Rattle.task_run.specs.Meaning.{control_by, is_opened}
 use Rattle.task_run.proofs.AsideLemmas.{step_known, same_number, aside_more, aside_boundary, boundary_number}
 use Rattle.early_report.specs.DrainView.{DrainView}
 use Rattle.early_report.specs.Drains.{unused, has_controlled, controller_in, controller_of, IsLooking}
 use Rattle.early_report.specs.Followed.{HaveGone, Stands, closed_since, first_drains, is_begun}
-use Rattle.early_report.specs.Told.{closes, closing_count}
+use Rattle.early_report.specs.Meaning.{closes, closing_count}
 use Rattle.early_report.specs.declared.drains.Stage.TheVariants.{Unused}
 use Rattle.early_report.proofs.ReadLemmas.{no_session}
 use Rattle.early_report.proofs.StandLemmas.{stands_on, closing_count-more, count_after}

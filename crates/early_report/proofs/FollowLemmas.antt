@@ -6,10 +6,10 @@ use mathlib.Core.Logic.{dite}
 use native.Mathlib.Decide.{dec_le}
 use Rattle.std.proofs.lemmas.List.{get_or-set_other, get_or-set_same, get_or_default, take_more_set}
 use Rattle.std.proofs.lemmas.List.Folds.{list_any-append}
-use Rattle.cov_base.specs.FactSet.{FactSet}
+use Rattle.cov_base.specs.Meaning.{FactSet}
 use Rattle.cov_base.specs.declared.numbers.PlaceNo.{PlaceNo}
 use Rattle.cov_base.specs.declared.numbers.SessNo.{SessNo}
-use Rattle.module_area.specs.PlanView.{PlanView}
+use Rattle.module_area.specs.Meaning.{PlanView}
 use Rattle.module_area.specs.Notes.{Notes}
 use Rattle.early_report.specs.DrainView.{DrainView}
 use Rattle.early_report.specs.Drains.{IsLooking, AreKnown}

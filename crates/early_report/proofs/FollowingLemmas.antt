@@ -1,22 +1,20 @@
 -- Drains that follow a task, instruction by instruction.
 use Rattle.std.proofs.Common.{◌≡◌, ℕ, ◌+◌, ◌<◌, suc, true, false, Option, Some, None, List, [], ◌∷◌, ◌++◌, length, get_or, map, All, inl, inr, refl, sym, ◌∙◌, ap, subst, arith, append_assoc, append-nil, length-append}
 use Rattle.std.specs.List.{list_any}
-use Rattle.cov_base.specs.FactSet.{FactSet}
-use Rattle.cov_base.specs.States.{Visit}
+use Rattle.cov_base.specs.Meaning.{FactSet, Visit}
 use Rattle.cov_base.specs.declared.numbers.SessNo.{SessNo}
-use Rattle.brk_table.specs.Places.{TablesView}
-use Rattle.module_area.specs.PlanView.{PlanView, IsPlan}
-use Rattle.module_area.specs.Control.{ControlView, control_after}
+use Rattle.brk_table.specs.Meaning.{TablesView}
+use Rattle.module_area.specs.Meaning.{PlanView, ControlView, control_after}
+use Rattle.module_area.specs.PlanView.{IsPlan}
 use Rattle.module_area.specs.Notes.{Notes, after_boundary, bearer, is_working, own_number}
 use Rattle.module_area.specs.Tied.{IsTied}
-use Rattle.observed_step.specs.Courses.{Turn, calls_of}
+use Rattle.observed_step.specs.Meaning.{Turn, calls_of}
 use Rattle.observed_step.specs.Hooks.{Way}
 use Rattle.observed_step.specs.Runs.{EndsAs, Goes, GoesAs, Stand, Takes, course_of, stand}
 use Rattle.observed_step.specs.declared.bench.Bench.{Bench}
 use Rattle.observed_step.specs.declared.task.TaskEnd.{TaskEnd}
 use Rattle.svc_monitor.specs.Answered.{Turns}
-use Rattle.task_run.specs.Called.{control_by}
-use Rattle.task_run.specs.Windows.{is_opened}
+use Rattle.task_run.specs.Meaning.{control_by, is_opened}
 use Rattle.task_run.proofs.FollowsLemmas.{control_more}
 use Rattle.early_report.specs.DrainView.{DrainView}
 use Rattle.early_report.specs.Followed.{IsReadyAt, IsReady, HaveGone, StandsBy, Stands, closed_since, first_drains, is_begun}

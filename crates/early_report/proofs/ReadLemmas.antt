@@ -3,10 +3,10 @@ use Rattle.std.proofs.Common.{◌≡◌, ℕ, zero, suc, ◌+◌, ◌*◌, ◌<�
 use Rattle.std.specs.List.{list_all, list_any}
 use Rattle.std.proofs.lemmas.List.{drop_more}
 use Rattle.std.proofs.lemmas.Bool.{leb-true, not_from_false}
-use Rattle.cov_base.specs.FactSet.{FactSet}
+use Rattle.cov_base.specs.Meaning.{FactSet}
 use Rattle.cov_base.specs.declared.numbers.PlaceNo.{PlaceNo}
-use Rattle.module_area.specs.PlanView.{PlanView, ControlledView, IsPlan, has_place, is_controlled}
-use Rattle.module_area.specs.Control.{places_in, places_under}
+use Rattle.module_area.specs.Meaning.{PlanView, ControlledView, has_place, is_controlled, places_in, places_under}
+use Rattle.module_area.specs.PlanView.{IsPlan}
 use Rattle.module_area.specs.Notes.{Notes, IsFound, after_read, is_closed, is_final, same_bit, same_set}
 use Rattle.module_area.proofs.Indices.{and_left, and_right, and_both}
 use Rattle.module_area.proofs.PlanLemmas.{any_shown}

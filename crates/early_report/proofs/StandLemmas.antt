@@ -1,18 +1,16 @@
 -- How a drain stands instruction by instruction.
 use Rattle.std.proofs.Common.{◌≡◌, ℕ, ◌+◌, ◌<◌, ◌≤◌, Bool, true, false, if◌then◌else◌, Option, Some, None, option_map, List, [], ◌∷◌, ◌++◌, length, map, inl, inr, refl, sym, ◌∙◌, ap, subst, arith}
 use Rattle.std.proofs.lemmas.List.{length-map}
-use Rattle.cov_base.specs.FactSet.{FactSet}
+use Rattle.cov_base.specs.Meaning.{FactSet}
 use Rattle.cov_base.specs.declared.numbers.SessNo.{SessNo}
 use Rattle.cov_base.specs.declared.numbers.TaskNo.{TaskNo}
-use Rattle.module_area.specs.PlanView.{PlanView}
-use Rattle.module_area.specs.Control.{ControlView, places_under, control_after}
+use Rattle.module_area.specs.Meaning.{PlanView, ControlView, places_under, control_after}
 use Rattle.module_area.specs.Notes.{Notes, bearer}
-use Rattle.task_run.specs.Called.{control_by}
-use Rattle.task_run.specs.Windows.{is_opened}
+use Rattle.task_run.specs.Meaning.{control_by, is_opened}
 use Rattle.early_report.specs.DrainView.{DrainView}
-use Rattle.early_report.specs.Drains.{unused, controller_of, others, IsDrainOf, AreKnown}
+use Rattle.early_report.specs.Meaning.{others, closes, closing_count}
+use Rattle.early_report.specs.Drains.{unused, controller_of, IsDrainOf, AreKnown}
 use Rattle.early_report.specs.Followed.{IsOwn, IsAsked, WentAt, Went, StandsBy, Stands}
-use Rattle.early_report.specs.Told.{closes, closing_count}
 use Rattle.early_report.specs.declared.drains.Stage.{Stage}
 use Rattle.early_report.proofs.FollowLemmas.{own_later, known_later}
 

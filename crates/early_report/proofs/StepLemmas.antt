@@ -1,23 +1,24 @@
 -- How drains stand behind an instruction and a boundary.
 use Rattle.std.proofs.Common.{◌≡◌, ℕ, suc, ◌*◌, ◌<◌, ◌≤◌, Bool, true, false, not, if◌then◌else◌, ◌&&◌, ◌||◌, ◌==◌, nat_eq, nat_le, Option, Some, None, option_map, unwrap_or, List, [], ◌∷◌, All, AllPairs, refl, sym, ◌∙◌, ap, subst, arith, eqb-true, ne_eqb, le-leb}
 use Rattle.std.specs.List.{list_all}
-use Rattle.cov_base.specs.States.{Visit}
+use Rattle.cov_base.specs.Meaning.{Visit}
 use Rattle.cov_base.specs.declared.numbers.PlaceNo.{PlaceNo}
 use Rattle.cov_base.specs.declared.numbers.SessNo.{SessNo}
-use Rattle.module_area.specs.PlanView.{PlanView, ControlledView, IsPlan, AreApart, has_place}
-use Rattle.module_area.specs.Control.{ControlView, places_in, places_under, unless_open, to_open, opening, closing, after_closes, after_call, control_after}
+use Rattle.module_area.specs.Meaning.{PlanView, ControlledView, has_place, ControlView, places_in, places_under, unless_open, to_open, opening, closing, control_after}
+use Rattle.module_area.specs.PlanView.{IsPlan, AreApart}
+use Rattle.module_area.specs.Control.{after_closes, after_call}
 use Rattle.module_area.specs.Notes.{Notes, after_boundary, is_closed}
 use Rattle.module_area.specs.Tied.{IsTied}
 use Rattle.module_area.proofs.Indices.{and_left, and_right, and_both}
 use Rattle.module_area.proofs.StepLemmas.{or_left, or_right}
 use Rattle.planter.proofs.TieLemmas.{has_here}
 use Rattle.svc_monitor.specs.Answered.{Turns}
-use Rattle.task_run.specs.Windows.{is_opened}
+use Rattle.task_run.specs.Meaning.{is_opened}
 use Rattle.task_run.proofs.AsideLemmas.{step_known, step_over}
 use Rattle.early_report.specs.DrainView.{DrainView}
 use Rattle.early_report.specs.Drains.{HasClosed}
 use Rattle.early_report.specs.Followed.{IsOwn, IsReadyAt, IsReady, closed_since}
-use Rattle.early_report.specs.Told.{closes}
+use Rattle.early_report.specs.Meaning.{closes}
 use Rattle.early_report.specs.declared.drains.Stage.{Stage}
 use Rattle.early_report.specs.declared.drains.Stage.TheVariants.{Unused, Begun, Drained, Taken}
 use Rattle.early_report.proofs.FollowLemmas.{own_later}

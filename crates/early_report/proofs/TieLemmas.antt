@@ -4,14 +4,15 @@ use mathlib.Core.Logic.{dite}
 use native.Mathlib.Decide.{dec_le}
 use Rattle.std.proofs.lemmas.List.{get_or-drop, get_or_default, length-drop, length-map}
 use Rattle.std.proofs.lemmas.List.Elements.{All-filter}
-use Rattle.cov_base.specs.FactSet.{FactSet}
+use Rattle.cov_base.specs.Meaning.{FactSet}
 use Rattle.cov_base.specs.declared.numbers.TaskNo.{TaskNo}
-use Rattle.module_area.specs.PlanView.{PlanView, has_task}
+use Rattle.module_area.specs.Meaning.{PlanView, places_under}
+use Rattle.module_area.specs.PlanView.{has_task}
 use Rattle.module_area.specs.Notes.{Notes, NotedView, bearer, is_past}
-use Rattle.module_area.specs.Control.{places_under}
 use Rattle.module_area.proofs.PlanLemmas.{any_shown}
 use Rattle.early_report.specs.DrainView.{DrainView}
-use Rattle.early_report.specs.Drains.{unused, controller_of, others, HasClosed, IsReached, IsDrainOf, IsLooking, is_noted, is_over, Begins, Polls, Reads, from_entry, polled}
+use Rattle.early_report.specs.Meaning.{others}
+use Rattle.early_report.specs.Drains.{unused, controller_of, HasClosed, IsReached, IsDrainOf, IsLooking, is_noted, is_over, Begins, Polls, Reads, from_entry, polled}
 use Rattle.early_report.specs.declared.drains.Stage.TheVariants.{Begun, Taken}
 use Rattle.early_report.proofs.ReadLemmas.{Reads-aside}
 use Rattle.early_report.proofs.LookLemmas.{noted_by, past_more, noted_more, is_drained_more, Begins-looks, Begins-tasks, Begins-noted, Polls-looks, Polls-past, drained_by, task_at, no_entry}

@@ -2,26 +2,27 @@
 use Rattle.std.proofs.Common.{◌≡◌, ℕ, suc, ◌<◌, ◌≤◌, Bool, true, false, ◌||◌, nat_eq, Option, Some, None, List, [], ◌∷◌, length, get_or, map, take, All, AllPairs, inl, inr, refl, sym, ◌∙◌, ap, subst, arith, eqb-true, eq-eqb, ⊎_elim}
 use Rattle.std.proofs.lemmas.Bool.{both_ways}
 use Rattle.std.proofs.lemmas.List.{get_or-map, get_or-take, length-map, length-take, same_lists}
-use Rattle.cov_base.specs.FactSet.{FactSet}
+use Rattle.cov_base.specs.Meaning.{FactSet}
 use Rattle.cov_base.specs.declared.numbers.PlaceNo.{PlaceNo}
 use Rattle.cov_base.specs.declared.numbers.SessNo.{SessNo}
 use Rattle.cov_base.specs.declared.numbers.TaskNo.{TaskNo}
 use Rattle.s370_state.specs.declared.endings.Ending.{Ending}
-use Rattle.module_area.specs.PlanView.{PlanView, IsPlan, has_task}
-use Rattle.module_area.specs.Control.{ControlView, places_under, sessions_of}
+use Rattle.module_area.specs.Meaning.{PlanView, ControlView, places_under, sessions_of, has_session}
+use Rattle.module_area.specs.PlanView.{IsPlan, has_task}
 use Rattle.module_area.specs.Ended.{AreSettled}
 use Rattle.module_area.specs.Notes.{Notes, bearer, root_notes}
-use Rattle.module_area.specs.Tied.{IsTied, has_session, keeps_session_as}
+use Rattle.module_area.specs.Tied.{IsTied, keeps_session_as}
 use Rattle.module_area.proofs.PlanLemmas.{any_at, any_shown}
 use Rattle.module_area.proofs.StepLemmas.{or_cases, or_left}
 use Rattle.module_area.proofs.TiedLemmas.{first_tied}
 use Rattle.task_run.specs.Aside.{IsAside}
-use Rattle.task_run.specs.Courses.{Course}
+use Rattle.task_run.specs.Meaning.{Course}
 use Rattle.task_run.specs.Ran.{RanAs, walk_from}
 use Rattle.task_run.specs.declared.tasks.Task.{Task}
 use Rattle.task_run.proofs.AsideLemmas.{Follows-aside, tied_aside, aside_calls}
 use Rattle.early_report.specs.DrainView.{DrainView}
-use Rattle.early_report.specs.Drains.{unused, controller_of, others, AreKnown}
+use Rattle.early_report.specs.Meaning.{others}
+use Rattle.early_report.specs.Drains.{unused, controller_of, AreKnown}
 use Rattle.early_report.specs.Followed.{IsOwn, StandsBy, Stands, WaitsSince, first_drains}
 use Rattle.early_report.specs.Told.{IsTold}
 use Rattle.early_report.proofs.EarlyLemmas.{IsOf, own_sessions}

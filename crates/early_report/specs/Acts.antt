@@ -1,9 +1,9 @@
 -- What the calls of an area make of the notes of a task's pass.
 use Rattle.std.specs.Prelude.{◌≡◌, ℕ, ◌+◌, ◌*◌, ◌<◌, Bool, length}
-use Rattle.cov_base.specs.FactSet.{FactSet}
+use Rattle.cov_base.specs.Meaning.{FactSet}
 use Rattle.cov_base.specs.declared.facts.Fact.{Fact}
 use Rattle.module_area.specs.declared.cells.Cell.{Cell}
-use Rattle.module_area.specs.PlanView.{PlanView}
+use Rattle.module_area.specs.Meaning.{PlanView}
 use Rattle.module_area.specs.Notes.{Notes, IsAnswer, after_fetch, after_mark, after_lift, after_plant, after_close, after_boundary, after_note, after_read}
 
 -- one call, where its conditions hold

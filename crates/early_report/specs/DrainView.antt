@@ -1,6 +1,6 @@
 -- What contracts see of a drain.
 use Rattle.std.specs.Prelude.{ℕ, Option, List}
-use Rattle.cov_base.specs.FactSet.{FactSet}
+use Rattle.cov_base.specs.Meaning.{FactSet}
 use Rattle.cov_base.specs.declared.numbers.TaskNo.{TaskNo}
 use Rattle.early_report.specs.declared.drains.Stage.{Stage}
 

@@ -1,18 +1,17 @@
 -- Drains: how a pass learns that a session that it has closed gets no fact any more.
-use Rattle.std.specs.Prelude.{◌≡◌, ◌≢◌, ◌⊎◌, ℕ, ◌+◌, ◌-◌, ◌*◌, ◌<◌, ◌%◌, Bool, true, false, not, ◌&&◌, nat_eq, if◌then◌else◌, Option, Some, None, List, [], ◌∷◌, ◌++◌, length, map, get_or, All}
-use Rattle.std.specs.List.{filter, list_any}
+use Rattle.std.specs.Prelude.{◌≡◌, ◌≢◌, ◌⊎◌, ℕ, ◌+◌, ◌-◌, ◌*◌, ◌<◌, ◌%◌, Bool, true, false, ◌&&◌, nat_eq, if◌then◌else◌, Option, Some, None, List, [], ◌∷◌, ◌++◌, length, map, get_or, All}
+use Rattle.std.specs.List.{list_any}
 use Rattle.cov_base.specs.declared.numbers.TaskNo.{TaskNo}
 use Rattle.cov_base.specs.declared.numbers.PlaceNo.{PlaceNo}
-use Rattle.cov_base.specs.FactSet.{FactSet}
-use Rattle.cov_base.specs.Facts.{no_facts}
-use Rattle.module_area.specs.PlanView.{PlanView, ControlledView}
-use Rattle.module_area.specs.Control.{places_under}
+use Rattle.cov_base.specs.Meaning.{FactSet, no_facts}
+use Rattle.module_area.specs.Meaning.{PlanView, ControlledView, places_under}
 use Rattle.module_area.specs.Notes.{Notes, NotedView, IsWord, IsFound, after_note, after_read, bearer, is_at, is_closed, is_past, is_drained}
 use Rattle.early_report.specs.DrainView.{DrainView}
 use Rattle.early_report.specs.declared.drains.Stage.{Stage}
 use Rattle.early_report.specs.declared.drains.Stage.TheVariants.{Unused, Begun, Drained, Taken}
 use Rattle.early_report.specs.declared.drains.Poll.{Poll}
 use Rattle.early_report.specs.declared.drains.Poll.TheVariants as polls
+use Rattle.early_report.specs.Meaning.{others}
 
 -- there is a controlled session of that number; the task that controls it
 abbrev pub has_controlled : PlanView → ℕ → Bool
@@ -24,10 +23,6 @@ controller_in (c ∷ cs) s = if nat_eq c.session s then c.by else controller_in 
 
 abbrev pub controller_of : PlanView → ℕ → ℕ
 controller_of plan s = controller_in plan.controlled s
-
--- the tasks but this one
-abbrev pub others : List TaskNo → ℕ → List TaskNo
-others tasks t = filter (λ (u : TaskNo). not (nat_eq u.0 t)) tasks
 
 -- the drain of a session that isn't closed
 abbrev pub unused : PlanView → ℕ → DrainView

@@ -2,12 +2,12 @@
 use Rattle.std.specs.Prelude.{◌≡◌, ◌⊎◌, ℕ, ◌+◌, ◌<◌, ◌≤◌, Bool, true, false, Option, Some, None, List, [], length, map, get_or}
 use Rattle.cov_base.specs.declared.numbers.SessNo.{SessNo}
 use Rattle.cov_base.specs.declared.numbers.TaskNo.{TaskNo}
-use Rattle.module_area.specs.PlanView.{PlanView}
-use Rattle.module_area.specs.Control.{sessions_of}
+use Rattle.module_area.specs.Meaning.{PlanView, sessions_of}
 use Rattle.module_area.specs.Notes.{Notes}
-use Rattle.task_run.specs.Windows.{is_opened}
+use Rattle.task_run.specs.Meaning.{is_opened}
 use Rattle.early_report.specs.DrainView.{DrainView}
-use Rattle.early_report.specs.Drains.{unused, has_controlled, controller_of, others, HasClosed, IsDrainOf, AreFinal, is_odd}
+use Rattle.early_report.specs.Meaning.{others}
+use Rattle.early_report.specs.Drains.{unused, has_controlled, controller_of, HasClosed, IsDrainOf, AreFinal, is_odd}
 use Rattle.early_report.specs.declared.drains.Stage.{Stage}
 use Rattle.early_report.specs.declared.drains.Stage.TheVariants.{Unused, Begun, Drained, Taken}
 

@@ -1,8 +1,8 @@
 -- What is done behind each instruction of a task whose drains follow it.
 use Rattle.std.specs.Prelude.{◌≡◌, ℕ, ◌*◌, false, Option, All}
 use Rattle.std.specs.List.{list_any}
-use Rattle.module_area.specs.PlanView.{PlanView, IsPlan}
-use Rattle.module_area.specs.Control.{ControlView}
+use Rattle.module_area.specs.Meaning.{PlanView, ControlView}
+use Rattle.module_area.specs.PlanView.{IsPlan}
 use Rattle.module_area.specs.Notes.{Notes, after_boundary, own_number}
 use Rattle.observed_step.specs.Courses.{nothing}
 use Rattle.observed_step.specs.Hooks.{Way}

@@ -1,29 +1,19 @@
 -- What the drains of a controller's sessions tell once it has run.
-use Rattle.std.specs.Prelude.{◌≡◌, ◌⊎◌, ℕ, ◌+◌, ◌≤◌, Bool, true, false, ◌&&◌, ◌==◌, if◌then◌else◌, Option, Some, None, option_map, unwrap_or, List, [], ◌∷◌, map, All}
+use Rattle.std.specs.Prelude.{◌≡◌, ◌⊎◌, ℕ, ◌+◌, ◌≤◌, true, false, Option, Some, None, List, [], map, All}
 use Rattle.std.specs.List.{Contains}
-use Rattle.cov_base.specs.FactSet.{FactSet}
+use Rattle.cov_base.specs.Meaning.{FactSet}
 use Rattle.cov_base.specs.declared.numbers.PlaceNo.{PlaceNo}
 use Rattle.cov_base.specs.declared.numbers.SessNo.{SessNo}
 use Rattle.cov_base.specs.declared.numbers.TaskNo.{TaskNo}
-use Rattle.module_area.specs.PlanView.{PlanView, has_task}
-use Rattle.module_area.specs.Control.{ControlView, places_under, control_after}
-use Rattle.task_run.specs.Courses.{solo}
+use Rattle.module_area.specs.Meaning.{PlanView, places_under}
+use Rattle.module_area.specs.PlanView.{has_task}
+use Rattle.task_run.specs.Meaning.{solo}
 use Rattle.task_run.specs.Ran.{walk_from}
-use Rattle.task_run.specs.Windows.{is_opened}
 use Rattle.task_run.specs.declared.tasks.Task.{Task}
 use Rattle.early_report.specs.DrainView.{DrainView}
-use Rattle.early_report.specs.Drains.{controller_of, others, is_odd}
+use Rattle.early_report.specs.Meaning.{others, closing_count}
+use Rattle.early_report.specs.Drains.{controller_of, is_odd}
 use Rattle.early_report.specs.declared.drains.Stage.TheVariants.{Unused, Begun, Taken}
-
--- the call closes the session: it is SVC 5 while the session is open
-abbrev pub closes : ControlView → Option ℕ → ℕ → Bool
-closes c call s = is_opened s c.opened && unwrap_or (option_map (λ k. k == 5) call) false
-
--- of instructions that execute these calls, how many there are up to and including the one that closes the session; none
--- where no call does
-abbrev pub closing_count : ControlView → List (Option ℕ) → ℕ → Option ℕ
-closing_count c [] s = None
-closing_count c (k ∷ ks) s = if closes c k s then Some 1 else option_map (λ n. n + 1) (closing_count (control_after c k) ks s)
 
 -- of those of the task's run alone
 abbrev pub closed_at : PlanView → Task → ℕ → Option ℕ

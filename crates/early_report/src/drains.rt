@@ -1,12 +1,13 @@
 //! Drains: by them a controller learns that a session that it has closed gets no fact any more.
 ghost use Rattle.std.specs.Prelude.{◌≡◌, ℕ, ◌<◌, ◌≤◌, length, true, All, map, IfOk, drop};
 ghost use Rattle.cov_base.specs.declared.numbers.TaskNo.{TaskNo as TaskNumber};
-ghost use Rattle.cov_base.specs.Facts.{no_facts};
-ghost use Rattle.module_area.specs.Control.{places_under};
+ghost use Rattle.cov_base.specs.Meaning.{no_facts};
+ghost use Rattle.module_area.specs.Meaning.{places_under};
 ghost use Rattle.module_area.specs.Notes.{Notes, bearer, is_final};
 ghost use Rattle.module_area.specs.PlanView.{has_task};
 ghost use Rattle.early_report.specs.DrainView.{DrainView};
-ghost use Rattle.early_report.specs.Drains.{unused, has_controlled, controller_of, others, HasClosed, IsDrainOf, Begins, Polls, from_entry, entry_of, polled, Reads, AreKnown, AreFinal};
+ghost use Rattle.early_report.specs.Meaning.{others};
+ghost use Rattle.early_report.specs.Drains.{unused, has_controlled, controller_of, HasClosed, IsDrainOf, Begins, Polls, from_entry, entry_of, polled, Reads, AreKnown, AreFinal};
 ghost use Rattle.early_report.specs.declared.drains.Stage.TheVariants.{Unused, Begun, Drained, Taken};
 
 use cov_base::{Bits, NoMemory, PlaceNo, SessNo, TaskNo};

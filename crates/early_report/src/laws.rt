@@ -1,12 +1,12 @@
 //! Laws of what drains tell. Nothing calls what stands here, and it does nothing: its contract is the theorem, which is said
 //! of the definitions alone and is proved because the contract of a public function is.
 ghost use Rattle.std.specs.Prelude.{◌≡◌, ℕ, List, true, map};
-ghost use Rattle.cov_base.specs.FactSet.{FactSet};
+ghost use Rattle.cov_base.specs.Meaning.{FactSet};
 ghost use Rattle.cov_base.specs.declared.numbers.PlaceNo.{PlaceNo as PlaceNumber};
-ghost use Rattle.module_area.specs.Control.{places_under};
+ghost use Rattle.module_area.specs.Meaning.{places_under, PlanView};
 ghost use Rattle.module_area.specs.Ended.{AreSettled};
 ghost use Rattle.module_area.specs.Notes.{Notes, after_join, after_split};
-ghost use Rattle.module_area.specs.PlanView.{PlanView, IsPlan};
+ghost use Rattle.module_area.specs.PlanView.{IsPlan};
 ghost use Rattle.early_report.specs.Acts.{Acts};
 ghost use Rattle.early_report.specs.DrainView.{DrainView};
 ghost use Rattle.early_report.specs.Drains.{has_controlled, HasClosed, IsDrainOf, AreFinal, KeepsFinal};

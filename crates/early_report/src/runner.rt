@@ -2,16 +2,15 @@
 ghost use Rattle.std.specs.Prelude.{◌≡◌, ℕ, ◌+◌, ◌<◌, ◌≤◌, ◌^◌, ◌*◌, true, false, map, All, IfOk};
 ghost use Rattle.std.specs.List.{list_any};
 ghost use Rattle.std.specs.declared.option.Option.TheVariants.{None};
-ghost use Rattle.cov_base.specs.FactSet.{FactSet};
+ghost use Rattle.cov_base.specs.Meaning.{FactSet};
 ghost use Rattle.module_area.specs.Ended.{AreSettled};
 ghost use Rattle.module_area.specs.Notes.{bearer, calls, is_working, own_number};
 ghost use Rattle.module_area.specs.PlanView.{IsPlan};
 ghost use Rattle.module_area.specs.Tied.{IsTied};
 ghost use Rattle.observed_step.specs.Steps.{memory_at};
 ghost use Rattle.svc_monitor.specs.First.{IsOver};
-ghost use Rattle.task_run.specs.Courses.{solo};
+ghost use Rattle.task_run.specs.Meaning.{solo, is_opened};
 ghost use Rattle.task_run.specs.Ran.{RanAs};
-ghost use Rattle.task_run.specs.Windows.{is_opened};
 ghost use Rattle.early_report.specs.DrainView.{DrainView};
 ghost use Rattle.early_report.specs.Drains.{IsDrainOf, IsLooking};
 ghost use Rattle.early_report.specs.Followed.{IsReady, IsAsked, Went, HaveGone, Stands, first_drains, is_begun, closed_since};

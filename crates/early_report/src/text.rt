@@ -3,9 +3,10 @@ ghost use Rattle.std.specs.Prelude.{◌≡◌, ◌+◌, ◌-◌, ◌<◌, ◌≤
 ghost use Rattle.cov_outside.specs.Writes.{Writes};
 ghost use Rattle.session_book.specs.Sets.{HasSetsOf};
 ghost use Rattle.report_text.specs.Conditions.{AreTablesOf, AreResultsOf, AreSetsOf};
-ghost use Rattle.report_text.specs.Text.{lines_from};
+ghost use Rattle.report_text.specs.Meaning.{lines_from};
 ghost use Rattle.report_text.specs.Writes.{WritesLines};
-ghost use Rattle.early_report.specs.Text.{taken_at, drained_in, drained_by, drained_of, drain_line, early_part, early_of};
+ghost use Rattle.early_report.specs.Meaning.{drain_line, early_part, early_of};
+ghost use Rattle.early_report.specs.Text.{taken_at, drained_in, drained_by, drained_of};
 
 use crate::drains::{Drain, Stage};
 use annotator::text::{add_number, add_text};
@@ -52,7 +53,7 @@ fn drained_by(lists: &[Vec<Drain>], by: Option<u32>, s: SessNo) -> Option<u32>
 }
 
 /// The line of a session with a controller.
-#[tactic(auto, unfolding(crate::specs::Text::drain_line))]
+#[tactic(auto, unfolding(crate::specs::Meaning::drain_line))]
 fn drain_line(drained: Option<u32>) -> ArrayVec<u8, 160>
     ensures { result.items ≡ drain_line drained ++ 10 ∷ [] }
 {

@@ -1,17 +1,13 @@
 -- What `verify` hands to the calls below it.
 use Rattle.std.proofs.Common.{◌≡◌, ℕ, ◌<◌, List, length, drop, sym, ◌∙◌, ap, subst}
 use Rattle.cov_base.specs.declared.facts.Fact.{Fact}
-use Rattle.brk_table.specs.Places.{TablesView, all_places}
-use Rattle.marks_file.specs.Marks.{MarkedView}
-use Rattle.marks_file.specs.Reading.{first_bad}
-use Rattle.session_book.specs.JobView.{JobView}
-use Rattle.session_book.specs.Sessions.{session_of}
+use Rattle.brk_table.specs.Meaning.{TablesView, all_places}
+use Rattle.marks_file.specs.Meaning.{MarkedView, first_bad}
+use Rattle.session_book.specs.Meaning.{JobView, session_of}
 use Rattle.session_marks.specs.Filled.{AreThere}
 use Rattle.session_marks.specs.FromFile.{IsOwn}
 use Rattle.session_marks.proofs.FillLemmas.{are_there}
-use Rattle.evidence_check.specs.Claims.{modules_claims, evidence_claims}
-use Rattle.evidence_check.specs.Fields.{evidence_fields}
-use Rattle.evidence_check.specs.Firsts.{phase_first, session_first}
+use Rattle.evidence_check.specs.Meaning.{modules_claims, evidence_claims, evidence_fields, phase_first, session_first}
 use Rattle.evidence_check.specs.Found.{found_at, AreFirsts}
 use Rattle.evidence_check.specs.declared.firsts.Found.{Found}
 use Rattle.evidence_check.proofs.CheckLemmas.{same_claims}

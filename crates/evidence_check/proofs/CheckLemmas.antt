@@ -7,12 +7,11 @@ use Rattle.std.proofs.lemmas.List.{drop-drop, at_drop_more}
 use Rattle.std.proofs.lemmas.Slice.Eq.{bytes_eq-Decides}
 use Rattle.cov_base.specs.declared.facts.Fact.{Fact}
 use Rattle.cov_base.specs.declared.facts.Fact.TheVariants.{Ran, Went, Stayed}
-use Rattle.brk_table.specs.Places.{TablesView, first_place}
-use Rattle.marks_file.specs.Marks.{MarkedView, place_count}
+use Rattle.brk_table.specs.Meaning.{TablesView, first_place}
+use Rattle.marks_file.specs.Meaning.{MarkedView, place_count}
 use Rattle.marks_file.specs.declared.marks.MarkedPlace.{MarkedPlace}
 use Rattle.session_marks.specs.Filled.{AreThere}
-use Rattle.evidence_check.specs.Claims.{past, past_place, past_places, place_claims, places_claims, modules_claims, first_refuted}
-use Rattle.evidence_check.specs.Evidence.{entry_bytes}
+use Rattle.evidence_check.specs.Meaning.{past, past_place, past_places, place_claims, places_claims, modules_claims, first_refuted, entry_bytes}
 use Rattle.evidence_check.specs.declared.firsts.First.{First}
 use Rattle.evidence_check.proofs.ClaimLemmas.{refuted_none, refuted_some}
 

@@ -4,22 +4,19 @@ use Rattle.std.specs.List.{flat_map}
 use Rattle.std.specs.Str.{bytes_eq}
 use Rattle.std.proofs.lemmas.List.{take-append-drop}
 use Rattle.std.proofs.lemmas.Slice.Eq.{bytes_eq-Decides}
-use Rattle.cov_base.specs.FactSet.{FactSet}
-use Rattle.cov_base.specs.Facts.{has_fact}
+use Rattle.cov_base.specs.Meaning.{FactSet, has_fact}
 use Rattle.cov_base.specs.declared.facts.Fact.{Fact}
 use Rattle.cov_base.specs.declared.facts.Fact.TheVariants.{Ran, Went, Stayed}
-use Rattle.module_area.specs.Counts.{fact_count}
+use Rattle.module_area.specs.Meaning.{fact_count}
 use Rattle.module_area.specs.declared.places.Place.{Place}
-use Rattle.brk_table.specs.Places.{TablesView, first_place, place_count}
-use Rattle.marks_file.specs.Marks.{MarkedView}
+use Rattle.brk_table.specs.Meaning.{TablesView, first_place, place_count}
+use Rattle.marks_file.specs.Meaning.{MarkedView}
 use Rattle.marks_file.specs.declared.marks.MarkedPlace.{MarkedPlace}
 use Rattle.marks_file.proofs.MarksLemmas.{same_bytes}
-use Rattle.session_book.specs.JobView.{JobView}
-use Rattle.session_book.specs.Sessions.{module_of}
-use Rattle.session_marks.specs.Marked.{marked_place, marked_module}
+use Rattle.session_book.specs.Meaning.{JobView, module_of}
+use Rattle.session_marks.specs.Meaning.{marked_place, marked_module}
 use Rattle.session_marks.proofs.PlaceLemmas.{marked_places}
-use Rattle.evidence_check.specs.Claims.{facts_of_places, facts_of_modules, Claim, agrees, past, past_place, past_places, place_claims, places_claims, modules_claims, first_refuted}
-use Rattle.evidence_check.specs.Evidence.{entry_bytes, fact_bytes, place_entries, module_entries}
+use Rattle.evidence_check.specs.Meaning.{facts_of_places, facts_of_modules, Claim, agrees, past, past_place, past_places, place_claims, places_claims, modules_claims, first_refuted, entry_bytes, fact_bytes, place_entries, module_entries}
 use Rattle.evidence_check.proofs.EntryLemmas.{places_entries}
 use Rattle.evidence_check.specs.declared.firsts.First.{First}
 use Rattle.evidence_check.proofs.FieldLemmas.{AreEntries, entry_written}

@@ -1,13 +1,13 @@
 -- How many facts the sets of a marks file have.
 use Rattle.std.proofs.Common.{◌≡◌, ℕ, ◌+◌, ◌*◌, ◌<◌, ◌≤◌, zero, suc, Bool, true, false, if◌then◌else◌, List, [], ◌∷◌, ◌++◌, length, get_or, drop, arith}
 use Rattle.std.proofs.lemmas.List.{at_drop_more}
-use Rattle.cov_base.specs.FactSet.{FactSet}
-use Rattle.module_area.specs.Counts.{fact_count}
-use Rattle.marks_file.specs.Marks.{MarkedView, MarksView, is_new_name, is_base, is_size, is_count, are_modules, is_module_count, keeps_rules, place_count}
+use Rattle.cov_base.specs.Meaning.{FactSet}
+use Rattle.module_area.specs.Meaning.{fact_count}
+use Rattle.marks_file.specs.Meaning.{MarkedView, MarksView, is_new_name, is_base, is_size, is_count, are_modules, is_module_count, keeps_rules, place_count}
 use Rattle.marks_file.specs.declared.marks.MarkedPlace.{MarkedPlace}
 use Rattle.marks_file.proofs.Parts.{is_module}
 use Rattle.marks_file.proofs.MarksLemmas.{both-left, both-right, le_of_test, kept_modules, marks_count}
-use Rattle.evidence_check.specs.Claims.{facts_of_places, facts_of_modules}
+use Rattle.evidence_check.specs.Meaning.{facts_of_places, facts_of_modules}
 
 place_count-push : (ms : List MarkedView) (m : MarkedView) → place_count (ms ++ m ∷ []) ≡ place_count ms + length m.places
 place_count-push [] m = omega arith

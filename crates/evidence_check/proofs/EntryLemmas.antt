@@ -3,12 +3,10 @@ use Rattle.std.proofs.Common.{◌≡◌, ℕ, zero, suc, ◌+◌, ◌-◌, ◌<�
 use Rattle.std.specs.List.{flat_map, range_with_len}
 use Rattle.cov_base.specs.declared.facts.Fact.{Fact}
 use Rattle.cov_base.specs.declared.facts.Fact.TheVariants.{Ran, Went, Stayed}
-use Rattle.brk_table.specs.Places.{TablesView, all_places, first_place, place_count}
-use Rattle.session_book.specs.JobView.{JobView}
-use Rattle.session_book.specs.Sessions.{session_of}
+use Rattle.brk_table.specs.Meaning.{TablesView, all_places, first_place, place_count}
+use Rattle.session_book.specs.Meaning.{JobView, session_of}
 use Rattle.session_marks.proofs.FillLemmas.{range_most}
-use Rattle.evidence_check.specs.Evidence.{magic, place_entries, module_entries, evidence}
-use Rattle.evidence_check.specs.Firsts.{phase_first, session_first}
+use Rattle.evidence_check.specs.Meaning.{magic, place_entries, module_entries, evidence, phase_first, session_first}
 use Rattle.evidence_check.specs.Found.{found_at, AreFirsts}
 use Rattle.evidence_check.specs.declared.firsts.First.{First}
 use Rattle.evidence_check.specs.declared.firsts.Found.{Found}

@@ -2,17 +2,13 @@
 use Rattle.std.proofs.Common.{◌≡◌, ℕ, ◌+◌, Bool, true, false, ◌||◌, nat_eq, is_some, Option, Some, None, option_map, List, [], ◌∷◌, refl, sym, ◌∙◌}
 use Rattle.std.specs.List.{find}
 use Rattle.std.specs.Option.{option_or}
-use Rattle.cov_base.specs.FactSet.{FactSet}
-use Rattle.cov_base.specs.Facts.{no_facts, with_fact, has_fact, union, fact_of, same_fact}
-use Rattle.cov_base.specs.States.{Visit}
+use Rattle.cov_base.specs.Meaning.{FactSet, no_facts, with_fact, has_fact, union, fact_of, same_fact, Visit}
 use Rattle.cov_base.specs.declared.facts.Fact.{Fact}
 use Rattle.cov_base.specs.declared.facts.Fact.TheVariants.{Ran, Went, Stayed}
-use Rattle.module_area.specs.Executions.{executes, facts_at, facts_of_all}
-use Rattle.module_area.specs.PlanView.{place_of}
+use Rattle.module_area.specs.Meaning.{executes, facts_at, facts_of_all, place_of}
 use Rattle.module_area.specs.declared.places.Place.{Place}
-use Rattle.session_book.specs.JobView.{JobView, TaskView}
-use Rattle.session_book.specs.Sessions.{session_of, traces_from}
-use Rattle.evidence_check.specs.Firsts.{trace_of, shows, first_in, first_from, session_first, session_facts}
+use Rattle.session_book.specs.Meaning.{JobView, TaskView, session_of, traces_from}
+use Rattle.evidence_check.specs.Meaning.{trace_of, shows, first_in, first_from, session_first, session_facts}
 use Rattle.evidence_check.specs.Noting.{first_of}
 use Rattle.evidence_check.specs.declared.firsts.First.{First}
 

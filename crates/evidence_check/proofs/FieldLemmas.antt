@@ -6,11 +6,10 @@ use Rattle.std.proofs.lemmas.Bool.{lt-ltb, le-leb, ltb-true}
 use Rattle.byteorder.specs.Endian.{big_bytes, big_number}
 use Rattle.byteorder.specs.Numbers.{big_number-reads_back}
 use Rattle.cov_base.specs.declared.limits.TheConstants.{BUDGET_LIMIT}
-use Rattle.marks_file.specs.Reading.{first_bad}
+use Rattle.marks_file.specs.Meaning.{first_bad}
 use Rattle.marks_file.proofs.FieldLemmas.{first_none, first_some, none_left, none_right, all_good}
 use Rattle.marks_file.proofs.MarksLemmas.{both-left, both-right, le_of_test}
-use Rattle.evidence_check.specs.Evidence.{entry_bytes}
-use Rattle.evidence_check.specs.Fields.{entry_fields, entries_fields}
+use Rattle.evidence_check.specs.Meaning.{entry_bytes, entry_fields, entries_fields}
 use Rattle.evidence_check.specs.declared.firsts.First.{First}
 
 -- the bytes begin with an entry whose fields keep their rules

@@ -2,10 +2,10 @@
 use Rattle.std.proofs.Common.{◌≡◌, ℕ, ◌<◌, List, length, drop}
 use Rattle.std.specs.Option.{option_or}
 use Rattle.cov_base.specs.declared.facts.Fact.{Fact}
-use Rattle.module_area.specs.PlanView.{place_of}
+use Rattle.module_area.specs.Meaning.{place_of}
 use Rattle.module_area.specs.declared.places.Place.{Place}
-use Rattle.session_book.specs.JobView.{JobView}
-use Rattle.evidence_check.specs.Firsts.{trace_of, first_from, phase_first}
+use Rattle.session_book.specs.Meaning.{JobView}
+use Rattle.evidence_check.specs.Meaning.{trace_of, first_from, phase_first}
 use Rattle.evidence_check.specs.Found.{found_at}
 use Rattle.evidence_check.specs.declared.firsts.Found.{Found}
 

@@ -4,19 +4,15 @@ use Rattle.std.specs.List.{flat_map}
 use Rattle.std.specs.Str.{bytes_eq}
 use Rattle.std.proofs.lemmas.List.{take-append-drop, nil_from_length}
 use Rattle.std.proofs.lemmas.Slice.Eq.{bytes_eq-Decides}
-use Rattle.brk_table.specs.Places.{TablesView}
-use Rattle.marks_file.specs.Marks.{MarkedView}
-use Rattle.marks_file.specs.Reading.{field, first_bad}
+use Rattle.brk_table.specs.Meaning.{TablesView}
+use Rattle.marks_file.specs.Meaning.{MarkedView, field, first_bad}
 use Rattle.marks_file.proofs.MarksLemmas.{same_bytes, both-right}
-use Rattle.session_book.specs.JobView.{JobView, IsJob}
-use Rattle.session_book.specs.Sessions.{session_of}
+use Rattle.session_book.specs.Meaning.{JobView, session_of}
+use Rattle.session_book.specs.JobView.{IsJob}
 use Rattle.session_marks.specs.FromFile.{IsOwn}
-use Rattle.session_marks.specs.Marked.{session_marks}
-use Rattle.evidence_check.specs.Claims.{facts_of_modules, modules_claims, first_refuted}
-use Rattle.evidence_check.specs.Evidence.{magic, module_entries}
-use Rattle.evidence_check.specs.Fields.{entries_fields, evidence_fields}
-use Rattle.evidence_check.specs.Firsts.{session_first, session_facts}
-use Rattle.evidence_check.specs.Verified.{IsVerified, Passes}
+use Rattle.session_marks.specs.Meaning.{session_marks}
+use Rattle.evidence_check.specs.Meaning.{facts_of_modules, modules_claims, first_refuted, magic, module_entries, entries_fields, evidence_fields, session_first, session_facts, IsVerified}
+use Rattle.evidence_check.specs.Verified.{Passes}
 use Rattle.evidence_check.proofs.ClaimLemmas.{AreOf, past_modules, modules_agreed, modules_skipped, modules_back}
 use Rattle.evidence_check.proofs.FactLemmas.{first_is_shown}
 use Rattle.evidence_check.proofs.FieldLemmas.{AreEntries, entries_read, entries_none, whole}

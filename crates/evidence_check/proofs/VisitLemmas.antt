@@ -3,29 +3,24 @@ use Rattle.std.proofs.Common.{◌≡◌, ℕ, ◌+◌, ◌<◌, ◌≤◌, zero,
 use Rattle.std.specs.List.{find}
 use Rattle.std.specs.Option.{option_or}
 use Rattle.std.proofs.lemmas.Bool.{cond_both}
-use Rattle.cov_base.specs.Codes.{length_of}
-use Rattle.cov_base.specs.Memory.{Memory, half_at}
-use Rattle.cov_base.specs.States.{State, Visit}
+use Rattle.cov_base.specs.Meaning.{length_of, Memory, half_at, State, Visit}
 use Rattle.cov_base.specs.declared.facts.Fact.{Fact}
 use Rattle.cov_base.specs.declared.limits.TheConstants.{BUDGET_LIMIT}
 use Rattle.s370_state.specs.declared.endings.Ending.{Ending}
 use Rattle.s370_state.specs.declared.endings.Ending.TheVariants.{Returned}
 use Rattle.s370_state.specs.declared.endings.Next.{Next}
 use Rattle.s370_state.specs.declared.endings.Next.TheVariants.{On, Ended}
-use Rattle.s370_decode.specs.Fields.{ex}
-use Rattle.s370_decode.specs.Table.{op_of}
+use Rattle.s370_decode.specs.Meaning.{ex, op_of}
 use Rattle.s370_decode.specs.declared.code.Code.{Code}
-use Rattle.s370_branch.specs.Branch.{goes}
-use Rattle.s370_exec.specs.Effects.{effect, updated, link_code}
-use Rattle.s370_exec.specs.Fetch.{code_at, first_tests, rest_tests, subject_tests, is_execute}
-use Rattle.s370_exec.specs.Solo.{Step, Run, solo_step, from_first, fetched, begun_step, stepped, visit, behind, subject_step, subject_fetched, run_on, run_after, run_ended, has_returned}
+use Rattle.s370_branch.specs.Meaning.{goes}
+use Rattle.s370_exec.specs.Meaning.{effect, updated, link_code, code_at, first_tests, rest_tests, subject_tests, is_execute, Step, Run, solo_step, from_first, fetched, begun_step, stepped, visit, behind, subject_step, subject_fetched, run_on, run_after, run_ended, has_returned}
 use Rattle.s370_exec.proofs.TraceLemmas.{solo_step-done}
-use Rattle.module_area.specs.PlanView.{place_of}
+use Rattle.module_area.specs.Meaning.{place_of}
 use Rattle.module_area.specs.declared.places.Place.{Place}
-use Rattle.brk_table.specs.Places.{memory_of}
-use Rattle.session_book.specs.JobView.{JobView, TaskView, IsJob}
-use Rattle.session_book.specs.Sessions.{task_of, session_of, first_state, no_task}
-use Rattle.evidence_check.specs.Firsts.{trace_of, shows, first_in, first_from, session_first}
+use Rattle.brk_table.specs.Meaning.{memory_of}
+use Rattle.session_book.specs.Meaning.{JobView, TaskView, task_of, session_of, first_state, no_task}
+use Rattle.session_book.specs.JobView.{IsJob}
+use Rattle.evidence_check.specs.Meaning.{trace_of, shows, first_in, first_from, session_first}
 use Rattle.evidence_check.specs.Noting.{first_of}
 use Rattle.evidence_check.specs.declared.firsts.First.{First}
 use Rattle.std.proofs.lemmas.Bool.{cases_lt}

@@ -1,14 +1,13 @@
 -- The first visits that were found so far.
 use Rattle.std.specs.Prelude.{◌≡◌, ℕ, ◌<◌, if◌then◌else◌, Option, Some, None, List, length, get_or}
 use Rattle.std.specs.Option.{option_or}
-use Rattle.cov_base.specs.Facts.{same_fact}
-use Rattle.cov_base.specs.States.{Visit}
+use Rattle.cov_base.specs.Meaning.{same_fact, Visit}
 use Rattle.cov_base.specs.declared.facts.Fact.{Fact}
 use Rattle.cov_base.specs.declared.facts.Fact.TheVariants.{Ran, Went, Stayed}
-use Rattle.module_area.specs.PlanView.{place_of}
+use Rattle.module_area.specs.Meaning.{place_of}
 use Rattle.module_area.specs.declared.places.Place.{Place}
-use Rattle.session_book.specs.JobView.{JobView}
-use Rattle.evidence_check.specs.Firsts.{first_in, phase_first}
+use Rattle.session_book.specs.Meaning.{JobView}
+use Rattle.evidence_check.specs.Meaning.{first_in, phase_first}
 use Rattle.evidence_check.specs.declared.firsts.First.{First}
 use Rattle.evidence_check.specs.declared.firsts.Found.{Found}
 

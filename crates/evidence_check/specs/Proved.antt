@@ -1,7 +1,6 @@
 -- What `prove` has done where it wrote no whole evidence.
 use Rattle.std.specs.Prelude.{◌≡◌, ℕ, Option, List}
-use Rattle.cov_outside.specs.Causes.{Rose}
-use Rattle.cov_outside.specs.Whole.{AppendsSome}
+use Rattle.cov_outside.specs.Meaning.{Rose, AppendsSome}
 use Rattle.evidence_check.specs.declared.proving.ProveFault.{ProveFault}
 use Rattle.evidence_check.specs.declared.proving.ProveFault.TheVariants.{Failed, NoMemory}
 

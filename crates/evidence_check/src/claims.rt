@@ -1,10 +1,9 @@
 //! The claims of a marks file and evidence, against the first visits that were found.
 ghost use Rattle.std.specs.Prelude.{◌≡◌, ◌+◌, ◌<◌, ◌≤◌, ◌^◌, length, take, drop, None, Some, IfOk, IfErr, OnOk};
 ghost use Rattle.std.specs.Str.{bytes_eq};
-ghost use Rattle.marks_file.specs.Marks.{place_count};
+ghost use Rattle.marks_file.specs.Meaning.{place_count};
 ghost use Rattle.session_marks.specs.Filled.{AreThere};
-ghost use Rattle.evidence_check.specs.Claims.{agrees, past, past_place, past_places, place_claims, places_claims, modules_claims, first_refuted};
-ghost use Rattle.evidence_check.specs.Evidence.{entry_bytes};
+ghost use Rattle.evidence_check.specs.Meaning.{agrees, past, past_place, past_places, place_claims, places_claims, modules_claims, first_refuted, entry_bytes};
 ghost use Rattle.evidence_check.specs.Found.{found_of, found_at};
 
 use crate::firsts::{First, Found};

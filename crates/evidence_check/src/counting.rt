@@ -1,8 +1,8 @@
 //! How many facts a marks file has.
 ghost use Rattle.std.specs.Prelude.{◌≡◌, ◌≤◌, length, if◌then◌else◌};
-ghost use Rattle.marks_file.specs.Marks.{place_count};
-ghost use Rattle.module_area.specs.Counts.{fact_count};
-ghost use Rattle.evidence_check.specs.Claims.{facts_of_places, facts_of_modules};
+ghost use Rattle.marks_file.specs.Meaning.{place_count};
+ghost use Rattle.module_area.specs.Meaning.{fact_count};
+ghost use Rattle.evidence_check.specs.Meaning.{facts_of_places, facts_of_modules};
 
 use cov_base::{Bits, Fact};
 use marks_file::{MarkedModule, MarkedPlace};

@@ -3,9 +3,8 @@ ghost use Rattle.std.specs.Prelude.{◌≡◌, ◌+◌, ◌≤◌, ◌<◌, ◌^
 ghost use Rattle.std.specs.Str.{bytes_eq};
 ghost use Rattle.byteorder.specs.Endian.{big_number};
 ghost use Rattle.cov_base.specs.declared.limits.TheConstants.{BUDGET_LIMIT};
-ghost use Rattle.marks_file.specs.Reading.{first_bad};
-ghost use Rattle.evidence_check.specs.Evidence.{magic};
-ghost use Rattle.evidence_check.specs.Fields.{entry_fields, entries_fields, evidence_fields};
+ghost use Rattle.marks_file.specs.Meaning.{first_bad};
+ghost use Rattle.evidence_check.specs.Meaning.{magic, entry_fields, entries_fields, evidence_fields};
 
 use crate::writing::magic;
 use byteorder::{BigEndian, ByteOrder};

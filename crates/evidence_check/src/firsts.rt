@@ -1,8 +1,8 @@
 //! The first visits that show the facts of each place.
 ghost use Rattle.std.specs.Prelude.{◌≡◌, ◌≢◌, ℕ, ◌<◌, length};
-ghost use Rattle.cov_base.specs.Facts.{fact_of};
+ghost use Rattle.cov_base.specs.Meaning.{fact_of};
 ghost use Rattle.cov_base.specs.declared.facts.Fact.{Fact as AnyFact};
-ghost use Rattle.module_area.specs.PlanView.{place_of};
+ghost use Rattle.module_area.specs.Meaning.{place_of};
 ghost use Rattle.evidence_check.specs.Found.{found_of, found_at, none_found, NotesOne};
 
 use brk_table::Tables;

@@ -1,12 +1,11 @@
 //! Evidence from one run of each task.
 ghost use Rattle.std.specs.Prelude.{◌≡◌, ℕ, ◌<◌, ◌≤◌, length, is_some, OnOk, IfErr, None};
 ghost use Rattle.std.specs.Io.KnownBytes.{Appends};
-ghost use Rattle.cov_base.specs.Facts.{has_fact};
+ghost use Rattle.cov_base.specs.Meaning.{has_fact};
 ghost use Rattle.cov_base.specs.declared.facts.Fact.{Fact as AnyFact};
 ghost use Rattle.brk_table.specs.Kept.{AreCodes};
-ghost use Rattle.session_book.specs.Sessions.{session_of};
-ghost use Rattle.evidence_check.specs.Evidence.{evidence};
-ghost use Rattle.evidence_check.specs.Firsts.{session_first, session_facts};
+ghost use Rattle.session_book.specs.Meaning.{session_of};
+ghost use Rattle.evidence_check.specs.Meaning.{evidence, session_first, session_facts};
 ghost use Rattle.evidence_check.specs.Proved.{IsProveFault};
 
 use crate::runs::find_firsts;

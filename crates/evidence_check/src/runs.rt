@@ -1,7 +1,7 @@
 //! The run of each task of a phase, alone over modules that were never planted.
 ghost use Rattle.std.specs.Prelude.{◌≡◌, ◌<◌, length, IfOk, OnOk};
 ghost use Rattle.brk_table.specs.Kept.{AreCodes};
-ghost use Rattle.evidence_check.specs.Firsts.{trace_of};
+ghost use Rattle.evidence_check.specs.Meaning.{trace_of};
 ghost use Rattle.evidence_check.specs.Found.{Notes, AreFirsts};
 
 use crate::firsts::{FirstVisits, Found};

@@ -1,10 +1,10 @@
 //! Marks and evidence checked by another run of each task.
 ghost use Rattle.std.specs.Prelude.{◌≡◌, ◌<◌, ◌≤◌, length, OnOk, IfOk, IfErr, None};
 ghost use Rattle.brk_table.specs.Kept.{AreCodes};
-ghost use Rattle.session_book.specs.Sessions.{session_of};
+ghost use Rattle.session_book.specs.Meaning.{session_of};
 ghost use Rattle.session_marks.specs.FromFile.{IsOwn};
-ghost use Rattle.evidence_check.specs.Claims.{facts_of_modules};
-ghost use Rattle.evidence_check.specs.Verified.{IsVerified, Passes, IsVerifyFault};
+ghost use Rattle.evidence_check.specs.Meaning.{facts_of_modules, IsVerified};
+ghost use Rattle.evidence_check.specs.Verified.{Passes, IsVerifyFault};
 
 use crate::claims::check_modules;
 use crate::counting::facts_of_modules;

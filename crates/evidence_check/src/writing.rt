@@ -3,7 +3,7 @@ ghost use Rattle.std.specs.Prelude.{◌≡◌, ◌-◌, ◌≤◌, ◌++◌, len
 ghost use Rattle.std.specs.List.{flat_map, range_with_len};
 ghost use Rattle.cov_outside.specs.Puts.{Puts};
 ghost use Rattle.cov_outside.specs.Writes.{Writes};
-ghost use Rattle.evidence_check.specs.Evidence.{magic, entry_bytes, fact_bytes, place_entries, module_entries};
+ghost use Rattle.evidence_check.specs.Meaning.{magic, entry_bytes, fact_bytes, place_entries, module_entries};
 ghost use Rattle.evidence_check.specs.Found.{found_of, found_at};
 
 use crate::firsts::{First, Found};

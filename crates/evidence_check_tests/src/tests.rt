@@ -1,8 +1,8 @@
 //! A loop of two instructions, of which three visits give three facts: its evidence, other evidence, and other marks.
 ghost use Rattle.std.specs.Prelude.{◌≡◌, ◌+◌, ◌≤◌, ◌∷◌, [], None, Some, length, All, IfOk};
 ghost use Rattle.brk_table.specs.Kept.{AreCodes};
-ghost use Rattle.cov_base.specs.Names.{padded};
-ghost use Rattle.session_book.specs.Sessions.{session_of};
+ghost use Rattle.cov_base.specs.Meaning.{padded};
+ghost use Rattle.session_book.specs.Meaning.{session_of};
 ghost use Rattle.session_marks.specs.Sample.{sample_images, sample_tables};
 
 use brk_table::{LinePlaces, Table, Tables};

@@ -4,19 +4,16 @@ use Rattle.std.proofs.lemmas.Grind.{get_or-set_at}
 use Rattle.std.proofs.lemmas.List.{get_or-map, get_or-set_other, length-set, length-map}
 use Rattle.std.proofs.lemmas.Option.{same_Some}
 use Rattle.std.proofs.lemmas.Bool.{leb-true, ltb-true, leb-false}
-use Rattle.cov_base.specs.Memory.{Memory}
-use Rattle.cov_base.specs.States.{State, Visit}
+use Rattle.cov_base.specs.Meaning.{Memory, State, Visit}
 use Rattle.s370_state.specs.declared.endings.Ending.{Ending}
 use Rattle.s370_state.specs.declared.endings.Ending.TheVariants.{Returned, Spent}
 use Rattle.s370_state.specs.declared.endings.Next.{Next}
 use Rattle.s370_state.specs.declared.endings.Next.TheVariants.{On, Ended as NextEnded}
-use Rattle.s370_exec.specs.Solo.{Run, solo_run, solo_step, run_on, run_after, run_ended, has_returned}
+use Rattle.s370_exec.specs.Meaning.{Run, solo_run, solo_step, run_on, run_after, run_ended, has_returned}
 use Rattle.s370_exec.proofs.TraceLemmas.{solo_step-done}
-use Rattle.session_book.specs.Sessions.{task_of, no_task, first_state}
-use Rattle.interleave_core.specs.World.{World, TaskPart, Parts, part_of, no_part, memory_in, budget_in, first_parts, first_part, place_at}
-use Rattle.interleave_core.specs.Control.{PlaceChange}
-use Rattle.interleave_core.specs.Steps.{Stepped, parts_step, fetch_step, fetched, mark_step, marked, lift_step, lifted, do_step, done_by, changed, with_due, original_under, same_cell, in_hand, with_stage, step_of, is_spent, executed, stage_after, place_due, task_goes_on, task_done, subject_place, instruction_executed, awaits_or, unless_at, same_due}
-use Rattle.module_area.specs.CellWords.{word_at}
+use Rattle.session_book.specs.Meaning.{task_of, no_task, first_state}
+use Rattle.interleave_core.specs.Meaning.{World, TaskPart, Parts, part_of, no_part, memory_in, budget_in, first_parts, first_part, place_at, PlaceChange, Stepped, parts_step, fetch_step, fetched, mark_step, marked, lift_step, lifted, do_step, done_by, changed, with_due, original_under, same_cell, in_hand, with_stage, step_of, is_spent, executed, stage_after, place_due, task_goes_on, task_done, subject_place, instruction_executed, awaits_or, unless_at, same_due}
+use Rattle.module_area.specs.Meaning.{word_at}
 use Rattle.interleave_core.specs.Core.{CoreState, CoreStepped, core_start, core_step, core_after, core_from, core_run}
 use Rattle.interleave_core.proofs.Changes.{goes_on, Changed, plant_cases, close_by}
 use Rattle.interleave_core.proofs.Runs.{same_or, got, lifted_tasks, exists_by, in_hand-stage, through}

@@ -4,26 +4,23 @@ use Rattle.std.specs.Option.{option_or}
 use Rattle.std.proofs.lemmas.Bool.Decides.{nat_tests}
 use Rattle.std.proofs.lemmas.List.{get_or_default}
 use Rattle.std.proofs.lemmas.List.Folds.{list_any_none}
-use Rattle.cov_base.specs.Codes.{length_of}
-use Rattle.cov_base.specs.Memory.{Memory, ImageView, can_reach, half_at, wrap}
-use Rattle.cov_base.specs.States.{State, Visit}
+use Rattle.cov_base.specs.Meaning.{length_of, Memory, ImageView, can_reach, half_at, wrap, State, Visit}
 use Rattle.s370_state.specs.declared.endings.Ending.{Ending}
 use Rattle.s370_state.specs.declared.endings.Ending.TheVariants.{Abend}
-use Rattle.s370_decode.specs.Fields.{first_half, ex}
-use Rattle.s370_decode.specs.Table.{op_of}
+use Rattle.s370_decode.specs.Meaning.{first_half, ex, op_of}
 use Rattle.s370_decode.specs.declared.code.Code.{Code}
-use Rattle.s370_branch.specs.Branch.{goes}
-use Rattle.s370_exec.specs.Effects.{Effect, effect, updated, link_code}
-use Rattle.s370_exec.specs.Fetch.{later, first_tests, rest_tests, whole_tests, subject_tests, is_execute, code_at, merged}
-use Rattle.s370_exec.specs.Solo.{Step, solo_step, ended, visit, subject_step, no_visit}
-use Rattle.module_area.specs.PlanView.{place_of, no_place, original_at}
+use Rattle.s370_branch.specs.Meaning.{goes}
+use Rattle.s370_exec.specs.Meaning.{Effect, effect, updated, link_code, later, first_tests, rest_tests, subject_tests, is_execute, code_at, merged, Step, solo_step, ended, visit, subject_step, no_visit}
+use Rattle.s370_exec.specs.Fetch.{whole_tests}
+use Rattle.module_area.specs.Meaning.{place_of, no_place, original_at}
 use Rattle.module_area.specs.declared.places.Place.{Place}
-use Rattle.brk_table.specs.Places.{IsPlace, ArePlaces, AreApart, IsIn, touches, memory_of}
+use Rattle.brk_table.specs.Meaning.{touches, memory_of}
+use Rattle.brk_table.specs.Places.{IsPlace, ArePlaces, AreApart, IsIn}
 use Rattle.space_map.proofs.Ranges.{reach_image}
 use Rattle.space_map.proofs.Seen.{is_image-of}
 use Rattle.s370_exec.proofs.StepLemmas.{solo_step-unread, solo_step-read, solo_step-ex, subject_step-refused, subject_step-unread, subject_step-begun}
-use Rattle.interleave_core.specs.World.{World, IsWorld, TaskPart, memory_in, plan_in, place_at}
-use Rattle.interleave_core.specs.Steps.{step_of, subject_place}
+use Rattle.interleave_core.specs.Meaning.{World, TaskPart, memory_in, plan_in, place_at, step_of, subject_place}
+use Rattle.interleave_core.specs.World.{IsWorld}
 use Rattle.interleave_core.proofs.Logs.{found_at, at_place}
 
 abbrev IsSize : ℕ → Type 0

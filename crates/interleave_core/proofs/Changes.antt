@@ -3,12 +3,10 @@ use Rattle.std.proofs.Common.{◌≡◌, ◌⊎◌, inl, inr, ℕ, ◌+◌, ◌*
 use Rattle.std.specs.Option.{option_and_then}
 use Rattle.std.proofs.lemmas.Option.{same_Some}
 use Rattle.std.proofs.lemmas.Bool.{ltb-true}
-use Rattle.s370_exec.specs.Solo.{has_returned}
+use Rattle.s370_exec.specs.Meaning.{has_returned}
 use Rattle.s370_state.specs.declared.endings.Ending.TheVariants.{Returned, Spent}
-use Rattle.module_area.specs.CellWords.{word_at}
-use Rattle.interleave_core.specs.World.{World, TaskPart, Parts, part_of, place_at}
-use Rattle.interleave_core.specs.Control.{PlaceChange, controller_of, change_of, next_place}
-use Rattle.interleave_core.specs.Steps.{Stepped, step_of, subject_place, is_spent, with_cell, with_stage, executed, awaits_or, unless_at, task_goes_on, same_due, change_due, unless_due, task_done, breakpoint_of, of_task, may_change, changed, change_where, change_step, by_controller, may_plant, whole_step, plant_step, close_step}
+use Rattle.module_area.specs.Meaning.{word_at}
+use Rattle.interleave_core.specs.Meaning.{World, TaskPart, Parts, part_of, place_at, PlaceChange, controller_of, change_of, next_place, Stepped, step_of, subject_place, is_spent, with_cell, with_stage, executed, awaits_or, unless_at, task_goes_on, same_due, change_due, unless_due, task_done, breakpoint_of, of_task, may_change, changed, change_where, change_step, by_controller, may_plant, whole_step, plant_step, close_step}
 use Rattle.cov_base.specs.declared.numbers.PlaceNo.{PlaceNo}
 use Rattle.cov_base.specs.declared.numbers.SessNo.{SessNo}
 use Rattle.module_area.specs.Parties.{window_tag}

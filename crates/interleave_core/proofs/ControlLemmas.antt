@@ -3,8 +3,9 @@ use Rattle.std.proofs.Common.{◌≡◌, ℕ, zero, suc, ◌+◌, ◌-◌, ◌<�
 use Rattle.std.proofs.lemmas.Option.{slice_get_within}
 use Rattle.cov_base.specs.declared.limits.TheConstants.{SESSION_LIMIT}
 use Rattle.cov_base.specs.declared.numbers.PlaceNo.{PlaceNo}
-use Rattle.module_area.specs.PlanView.{PlanView, ControlledView, IsPlan, IsControlled}
-use Rattle.interleave_core.specs.Control.{controlled_by}
+use Rattle.module_area.specs.Meaning.{PlanView, ControlledView}
+use Rattle.module_area.specs.PlanView.{IsPlan, IsControlled}
+use Rattle.interleave_core.specs.Meaning.{controlled_by}
 
 -- numbers that rise from 0 on, below this one
 rising : (f : ℕ → ℕ) (n count : ℕ) → ((i : ℕ) → i + 1 < count → f i < f (i + 1)) → n < count → n ≤ f n

@@ -5,18 +5,16 @@ use Rattle.std.specs.declared.result.Result.{Result}
 use Rattle.std.specs.declared.result.Result.TheVariants.{Ok, Err}
 use Rattle.std.proofs.lemmas.Grind.{get_or-set_at}
 use Rattle.std.proofs.lemmas.Option.{same_Some}
-use Rattle.module_area.specs.CellWords.{word_at, no_cell}
+use Rattle.module_area.specs.Meaning.{word_at, no_cell}
 use Rattle.module_area.specs.declared.cells.Cell.{Cell}
 use Rattle.module_area.specs.declared.parties.View.{View}
 use Rattle.module_area.proofs.Indices.{and_left, and_right}
 use Rattle.module_area.proofs.StepLemmas.{or_cases}
-use Rattle.interleave_core.specs.World.{World, IsWorld, TaskPart, Parts, part_of}
-use Rattle.interleave_core.specs.Control.{PlaceChange}
+use Rattle.interleave_core.specs.Meaning.{World, TaskPart, Parts, part_of, PlaceChange, ending_of, Stepped, parts_step, changed_cell, set_of}
+use Rattle.interleave_core.specs.World.{IsWorld}
 use Rattle.interleave_core.specs.Core.{CoreState, CoreStepped, core_start, core_step, core_from, core_run}
 use Rattle.interleave_core.specs.Parties.{planted_by}
 use Rattle.interleave_core.specs.Quiet.{is_quiet, StayQuiet, is_close, is_between, ends, now_or_later, ends_in, IsDrained, QuietAsDrained, DrainedStay}
-use Rattle.interleave_core.specs.Results.{ending_of}
-use Rattle.interleave_core.specs.Steps.{Stepped, parts_step, changed_cell, set_of}
 use Rattle.interleave_core.specs.Views.{AreSteady, CoreView}
 use Rattle.interleave_core.specs.declared.events.Event.{Event}
 use Rattle.interleave_core.specs.declared.events.Event.TheVariants.{Fetch, Mark, Lift, Do, Plant, Close}

@@ -4,24 +4,23 @@ use Rattle.std.proofs.lemmas.Option.{same_Some}
 use Rattle.std.proofs.lemmas.Bool.{and_from, ltb-true}
 use mathlib.Core.Option.{some, some-injective, some-ne-none}
 use lib.ListN.{get_elem?}
-use Rattle.cov_base.specs.FactSet.{FactSet}
-use Rattle.cov_base.specs.Facts.{has_fact, with_fact, is_full, full_of, is_of_kind, fact_of}
+use Rattle.cov_base.specs.Meaning.{FactSet, has_fact, with_fact, is_full, full_of, fact_of}
+use Rattle.cov_base.specs.Facts.{is_of_kind}
 use Rattle.cov_base.specs.declared.facts.Fact.{Fact}
 use Rattle.cov_base.specs.declared.facts.Fact.TheVariants.{Ran, Went, Stayed}
 use Rattle.cov_base.specs.declared.facts.Kind.{Kind}
 use Rattle.cov_base.specs.declared.facts.Kind.TheVariants.{Straight, Conditional}
 use Rattle.s370_state.specs.declared.endings.Ending.{Ending}
 use Rattle.module_area.specs.Held.{planted, IsForm}
-use Rattle.module_area.specs.Parties.{Has, tag_session, window_tag, is_breakpoint, is_lifted, fetching, planting}
-use Rattle.module_area.specs.CellWords.{word_at}
-use Rattle.module_area.specs.PlanView.{PlanView, original_at, kind_at}
+use Rattle.module_area.specs.Meaning.{tag_session, word_at, PlanView, original_at, kind_at}
+use Rattle.module_area.specs.Parties.{Has, window_tag, is_breakpoint, is_lifted, fetching, planting}
 use Rattle.module_area.specs.declared.cells.Cell.{Cell}
 use Rattle.module_area.specs.declared.parties.View.{View}
 use Rattle.module_area.proofs.FactLemmas.{is_full-true}
 use Rattle.module_area.proofs.PartyLemmas.{here-add_if, more-add_if}
-use Rattle.interleave_core.specs.World.{World, IsWorld, TaskPart, part_of, plan_in}
-use Rattle.s370_exec.specs.Solo.{visit_of}
-use Rattle.interleave_core.specs.Steps.{Stepped, parts_step, fetch_step, fetched, mark_step, marked, lift_step, lifted, do_step, done_by, with_due, with_stage, original_under, same_cell, in_hand, hand_at, step_of, place_due, is_awaiting, task_done, set_of, fact_in}
+use Rattle.interleave_core.specs.Meaning.{World, TaskPart, part_of, plan_in, Stepped, parts_step, fetch_step, fetched, mark_step, marked, lift_step, lifted, do_step, done_by, with_due, with_stage, original_under, same_cell, in_hand, hand_at, step_of, place_due, is_awaiting, task_done, set_of, fact_in, controller_of}
+use Rattle.interleave_core.specs.World.{IsWorld}
+use Rattle.s370_exec.specs.Meaning.{visit_of}
 use Rattle.interleave_core.specs.Core.{CoreState, core_start, core_step, core_after, core_from, core_run, log_after, entry_of}
 use Rattle.interleave_core.specs.Entries.{Entry, Item, Met, Gave}
 use Rattle.interleave_core.specs.Exact.{HasShown, HaveEnded, AreExact}
@@ -33,7 +32,6 @@ use Rattle.interleave_core.specs.declared.stage.Hand.{Hand}
 use Rattle.interleave_core.specs.declared.stage.Due.TheVariants.{Marking, Lifting, Nothing}
 use Rattle.interleave_core.specs.declared.stage.Stage.{Stage}
 use Rattle.interleave_core.specs.declared.stage.Stage.TheVariants.{Holding, Ended}
-use Rattle.interleave_core.specs.Control.{controller_of}
 use Rattle.interleave_core.specs.Views.{AreTied}
 use Rattle.interleave_core.proofs.Changes.{Changed, plant_cases, close_by, logs_whole, logs_plant, logs_close}
 use Rattle.interleave_core.proofs.Runs.{got, lifted_tasks, exists_by, through}

@@ -2,12 +2,11 @@
 use Rattle.std.proofs.Common.{◌≡◌, ◌≢◌, ◌↔◌, ℕ, ◌+◌, ◌<◌, zero, suc, Bool, true, false, ◌||◌, ◌==◌, if◌then◌else◌, Option, Some, None, option_map, IfSome, IsNone, List, [], ◌∷◌, length, refl, sym, ◌∙◌, ap, arith}
 use Rattle.std.proofs.lemmas.Bool.Decides.{nat_tests}
 use Rattle.cov_base.specs.declared.numbers.PlaceNo.{PlaceNo as Number}
-use Rattle.module_area.specs.PlanView.{place_of}
-use Rattle.module_area.specs.Executions.{is_place}
+use Rattle.module_area.specs.Meaning.{place_of, is_place}
 use Rattle.module_area.specs.declared.places.Place.{Place}
 use Rattle.brk_table.specs.Places.{ArePlaces}
 use Rattle.brk_table.proofs.PlaceLemmas.{one_begins}
-use Rattle.interleave_core.specs.World.{place_from}
+use Rattle.interleave_core.specs.Meaning.{place_from}
 
 same : (a b : ℕ) → a ≡ b → (a == b) ≡ true
 same a b h = grind (arith, nat_tests)

@@ -2,8 +2,8 @@
 use Rattle.std.proofs.Common.{◌≡◌, Some, None, option_map, List, [], ◌∷◌, ◌++◌, IfOk, OnErr, refl, sym, ap, subst}
 use Rattle.std.specs.declared.result.Result.{Result}
 use Rattle.std.specs.declared.result.Result.TheVariants.{Ok, Err}
-use Rattle.interleave_core.specs.World.{World, IsWorld, Parts}
-use Rattle.interleave_core.specs.Steps.{parts_step}
+use Rattle.interleave_core.specs.Meaning.{World, Parts, parts_step}
+use Rattle.interleave_core.specs.World.{IsWorld}
 use Rattle.interleave_core.specs.Core.{CoreState, core_start, core_step, core_after, core_run, Stands, FollowsAll, FollowsNone}
 use Rattle.interleave_core.specs.declared.events.Event.{Event}
 use Rattle.interleave_core.specs.declared.events.NotPossible.{NotPossible}

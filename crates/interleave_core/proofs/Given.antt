@@ -6,13 +6,10 @@ use Rattle.std.specs.Option.{option_and_then}
 use Rattle.std.proofs.lemmas.Grind.{get_or-set_at}
 use Rattle.std.proofs.lemmas.List.{get_or-set_other, length-set}
 use Rattle.std.proofs.lemmas.Bool.{ltb-true}
-use Rattle.cov_base.specs.FactSet.{FactSet}
-use Rattle.cov_base.specs.Facts.{no_facts}
-use Rattle.module_area.specs.CellWords.{word_at, no_cell}
+use Rattle.cov_base.specs.Meaning.{FactSet, no_facts}
+use Rattle.module_area.specs.Meaning.{word_at, no_cell, index_of, window_at, is_over, is_controlled}
 use Rattle.module_area.specs.Held.{Keeps, KeepsAs, Held}
 use Rattle.module_area.specs.Parties.{window_tag, tagging, planting, last_tag}
-use Rattle.module_area.specs.FinalsView.{index_of}
-use Rattle.module_area.specs.PlanView.{window_at, is_over, is_controlled}
 use Rattle.module_area.specs.declared.cells.Cell.{Cell}
 use Rattle.module_area.specs.declared.parties.Role.{Role}
 use Rattle.module_area.specs.declared.parties.Role.TheVariants.{Spent}
@@ -20,9 +17,7 @@ use Rattle.module_area.specs.declared.parties.View.{View}
 use Rattle.module_area.proofs.Indices.{and_both}
 use Rattle.module_area.proofs.CellLemmas.{plants, closes as closes_step}
 use Rattle.module_area.proofs.StepLemmas.{or_left, or_right, spent_not_root, spent_not_task}
-use Rattle.interleave_core.specs.World.{World, TaskPart, part_of, plan_in}
-use Rattle.interleave_core.specs.Control.{PlaceChange, change_of, next_place}
-use Rattle.interleave_core.specs.Steps.{closed_of, change_due, Stepped, may_plant, breakpoint_of, with_cell, same_due, subject_place, step_of, set_of}
+use Rattle.interleave_core.specs.Meaning.{World, TaskPart, part_of, plan_in, PlaceChange, change_of, next_place, closed_of, change_due, Stepped, may_plant, breakpoint_of, with_cell, same_due, subject_place, step_of, set_of}
 use Rattle.interleave_core.specs.Core.{CoreState}
 use Rattle.interleave_core.specs.Entries.{Item, Gave}
 use Rattle.interleave_core.specs.Parties.{task_view, task_views}

@@ -1,25 +1,20 @@
 -- A task's events have an end: each leaves less.
 use Rattle.std.specs.Option.{option_and_then}
-use Rattle.cov_base.specs.States.{State}
+use Rattle.cov_base.specs.Meaning.{State, is_full, with_fact}
 use Rattle.std.proofs.Common.{◌≡◌, inl, inr, not, ◌&&◌, is_none, eqb-true, ℕ, zero, suc, ◌+◌, ◌-◌, ◌*◌, ◌<◌, ◌≤◌, Bool, true, false, nat_lt, if◌then◌else◌, Option, Some, None, option_map, ◌∷◌, length, refl, sym, ap, ◌∙◌, subst, arith}
 use Rattle.std.proofs.Math.Nat.{mul-le-mul_left}
 use Rattle.std.proofs.lemmas.Grind.{get_or-set_at}
 use Rattle.std.proofs.lemmas.Bool.{ltb-true, leb-false}
 use Rattle.cov_base.specs.declared.numbers.TaskNo.{TaskNo}
-use Rattle.cov_base.specs.Facts.{is_full, with_fact}
-use Rattle.module_area.specs.Parties.{tag_session}
-use Rattle.module_area.specs.PlanView.{IsPlan, kind_at}
-use Rattle.module_area.specs.CellWords.{word_at}
+use Rattle.module_area.specs.Meaning.{tag_session, kind_at, word_at}
+use Rattle.module_area.specs.PlanView.{IsPlan}
 use Rattle.s370_state.specs.declared.endings.Ending.TheVariants.{Returned, Spent}
 use Rattle.s370_state.specs.declared.endings.Next.{Next}
 use Rattle.s370_state.specs.declared.endings.Next.TheVariants.{On, Ended as NextEnded}
-use Rattle.s370_exec.specs.Solo.{has_returned}
+use Rattle.s370_exec.specs.Meaning.{has_returned}
 use Rattle.s370_exec.proofs.TraceLemmas.{solo_step-done}
-use Rattle.interleave_core.specs.World.{World, TaskPart, Parts, part_of, no_part, plan_in, memory_in, budget_in, place_at}
-use Rattle.interleave_core.specs.Steps.{change_due, task_goes_on, Stepped, parts_step, run_on, of_task, with_task, with_stage, with_due, with_set, with_cell, place_due, is_spent, is_awaiting, due_after_fetch, hand_at, fetched, fetch_step, marked, mark_step, lifted, lift_step, in_hand, same_due, same_cell, original_under, step_of, subject_place, executed, stage_after, instruction_executed, awaits_or, unless_at, ready_done, task_done, done_by, do_step, set_of, fact_in}
-use Rattle.interleave_core.specs.Results.{next_of, stage_event}
+use Rattle.interleave_core.specs.Meaning.{World, TaskPart, Parts, part_of, no_part, plan_in, memory_in, budget_in, place_at, change_due, task_goes_on, Stepped, parts_step, run_on, of_task, with_task, with_stage, with_due, with_set, with_cell, place_due, is_spent, is_awaiting, due_after_fetch, hand_at, fetched, fetch_step, marked, mark_step, lifted, lift_step, in_hand, same_due, same_cell, original_under, step_of, subject_place, executed, stage_after, instruction_executed, awaits_or, unless_at, ready_done, task_done, done_by, do_step, set_of, fact_in, next_of, stage_event, PlaceChange, change_of, next_place, after, next_events, go_events, most_events}
 use Rattle.interleave_core.specs.Core.{is_by, is_task}
-use Rattle.interleave_core.specs.Control.{PlaceChange, change_of, next_place}
 use Rattle.interleave_core.specs.declared.events.Event.{Event}
 use Rattle.interleave_core.specs.declared.events.Event.TheVariants as event
 use Rattle.interleave_core.specs.declared.stage.Due.{Due}
@@ -31,7 +26,6 @@ use Rattle.interleave_core.proofs.Changes.{goes_on, Changed, plant_cases, close_
 use Rattle.interleave_core.proofs.Nexts.{next_by}
 use Rattle.interleave_core.proofs.Runs.{in_hand-stage}
 use Rattle.interleave_core.proofs.Turns.{due_below}
-use Rattle.interleave_core.specs.Going.{after, next_events, go_events, most_events}
 
 abbrev due_left : Due → ℕ
 due_left Marking = 3

@@ -5,26 +5,22 @@ use Rattle.std.proofs.lemmas.Grind.{get_or-set_at}
 use Rattle.std.proofs.lemmas.List.{get_or-map, get_or-set_other, length-set, length-map, map-set, get_or_default}
 use Rattle.std.proofs.lemmas.Option.{same_Some}
 use Rattle.std.proofs.lemmas.Bool.{lt-ltb}
-use Rattle.cov_base.specs.Codes.{breakpoint}
-use Rattle.cov_base.specs.FactSet.{FactSet}
+use Rattle.cov_base.specs.Meaning.{breakpoint, FactSet, no_facts, is_within, with_fact, is_full, fact_of}
 use Rattle.cov_base.specs.declared.numbers.PlaceNo.{PlaceNo as Number}
-use Rattle.s370_exec.specs.Solo.{has_returned, visit_of}
+use Rattle.s370_exec.specs.Meaning.{has_returned, visit_of}
 use Rattle.s370_state.specs.declared.endings.Ending.TheVariants.{Returned, Spent}
 use Rattle.s370_state.specs.declared.endings.Next.{Next}
 use Rattle.s370_state.specs.declared.endings.Next.TheVariants.{On, Ended as NextEnded}
-use Rattle.cov_base.specs.Facts.{no_facts, is_within, with_fact, is_full, fact_of}
 use Rattle.cov_base.specs.declared.facts.Kind.{Kind}
 use Rattle.cov_base.specs.declared.facts.Kind.TheVariants.{Straight, Conditional}
 use Rattle.module_area.proofs.Indices.{same_index, index_below}
-use Rattle.module_area.specs.Parties.{tag_session, window_tag}
+use Rattle.module_area.specs.Meaning.{tag_session, word_at, no_cell, set_in, index_of, PlanView, kind_at, original_at, is_over}
+use Rattle.module_area.specs.Parties.{window_tag}
 use Rattle.module_area.proofs.PlanLemmas.{over_small}
-use Rattle.module_area.specs.CellWords.{word_at, no_cell}
 use Rattle.module_area.specs.Held.{IsForm, planted, lifted as lifted_cell}
-use Rattle.module_area.specs.FinalsView.{set_in, index_of}
-use Rattle.module_area.specs.PlanView.{PlanView, IsPlan, kind_at, original_at, is_over}
+use Rattle.module_area.specs.PlanView.{IsPlan}
 use Rattle.module_area.specs.declared.cells.Cell.{Cell}
-use Rattle.interleave_core.specs.World.{World, TaskPart, Parts, plan_in, place_at, no_part}
-use Rattle.interleave_core.specs.Steps.{Stepped, of_task, with_task, with_stage, with_due, with_cell, place_due, is_spent, is_awaiting, subject_place, step_of, due_after_fetch, in_hand, same_due, fetched, fetch_step, marked, mark_step, lifted, lift_step, done_by, do_step, task_done, task_goes_on, parts_step, set_of, fact_in, original_under, same_cell, hand_at, executed, stage_after, awaits_or, unless_at, instruction_executed}
+use Rattle.interleave_core.specs.Meaning.{World, TaskPart, Parts, plan_in, place_at, no_part, Stepped, of_task, with_task, with_stage, with_due, with_cell, place_due, is_spent, is_awaiting, subject_place, step_of, due_after_fetch, in_hand, same_due, fetched, fetch_step, marked, mark_step, lifted, lift_step, done_by, do_step, task_done, task_goes_on, parts_step, set_of, fact_in, original_under, same_cell, hand_at, executed, stage_after, awaits_or, unless_at, instruction_executed}
 use Rattle.interleave_core.specs.Views.{RunningView, IsRunning, IsStage, IsHand, AreTied, IsCore, parts_of}
 use Rattle.interleave_core.proofs.Changes.{goes_on}
 use Rattle.interleave_core.proofs.Runs.{same_or, in_hand-stage}

@@ -3,26 +3,20 @@ use Rattle.std.proofs.Common.{◌≡◌, ◌≢◌, ◌⊎◌, inl, inr, ℕ, ze
 use Rattle.std.specs.Option.{option_or}
 use Rattle.std.proofs.lemmas.Bool.Decides.{nat_tests}
 use Rattle.std.proofs.lemmas.List.{append_assoc, append-nil, get_or-map, get_or-set_other, length-set, length-map}
-use Rattle.cov_base.specs.Memory.{Memory, can_reach, half_at}
-use Rattle.cov_base.specs.States.{State, Visit}
+use Rattle.cov_base.specs.Meaning.{Memory, can_reach, half_at, State, Visit, length_of, FactSet}
 use Rattle.s370_state.specs.declared.endings.Ending.{Ending}
-use Rattle.s370_decode.specs.Fields.{first_half}
-use Rattle.s370_decode.specs.Table.{op_of}
+use Rattle.s370_decode.specs.Meaning.{first_half, op_of}
 use Rattle.s370_decode.specs.declared.code.Code.{Code}
-use Rattle.s370_exec.specs.Effects.{effect, updated, link_code}
-use Rattle.s370_exec.specs.Fetch.{is_execute, code_at, first_tests, rest_tests, whole_tests}
-use Rattle.s370_exec.specs.Solo.{Run, Step, solo_run, solo_step, visit, no_visit}
+use Rattle.s370_exec.specs.Meaning.{effect, updated, link_code, is_execute, code_at, first_tests, rest_tests, Run, Step, solo_run, solo_step, visit, no_visit, has_returned}
+use Rattle.s370_exec.specs.Fetch.{whole_tests}
 use Rattle.s370_exec.proofs.TraceLemmas.{solo_step-visits}
-use Rattle.module_area.specs.PlanView.{place_of}
+use Rattle.module_area.specs.Meaning.{place_of, tag_session, word_at}
 use Rattle.module_area.specs.declared.places.Place.{Place}
 use Rattle.brk_table.specs.Places.{ArePlaces, IsPlace, AreSeen}
-use Rattle.cov_base.specs.Codes.{length_of}
-use Rattle.cov_base.specs.FactSet.{FactSet}
-use Rattle.s370_exec.specs.Solo.{has_returned}
 use Rattle.module_area.specs.declared.cells.Cell.{Cell}
 use Rattle.s370_exec.proofs.StepLemmas.{solo_step-rest_refused, solo_step-unread, solo_step-read, solo_step-ex}
-use Rattle.interleave_core.specs.World.{World, IsWorld, TaskPart, Parts, part_of, memory_in, budget_in, place_at, place_from, no_part, first_part}
-use Rattle.interleave_core.specs.Steps.{Stepped, parts_step, fetch_step, fetched, mark_step, marked, lift_step, lifted, do_step, done_by, with_due, original_under, same_cell, in_hand, subject_place, step_of, place_due, is_awaiting, is_spent, executed, stage_after, awaits_or, with_stage, unless_at, instruction_executed, task_goes_on, task_done, same_due, hand_at, set_of}
+use Rattle.interleave_core.specs.Meaning.{World, TaskPart, Parts, part_of, memory_in, budget_in, place_at, place_from, no_part, first_part, Stepped, parts_step, fetch_step, fetched, mark_step, marked, lift_step, lifted, do_step, done_by, with_due, original_under, same_cell, in_hand, subject_place, step_of, place_due, is_awaiting, is_spent, executed, stage_after, awaits_or, with_stage, unless_at, instruction_executed, task_goes_on, task_done, same_due, hand_at, set_of}
+use Rattle.interleave_core.specs.World.{IsWorld}
 use Rattle.interleave_core.specs.Entries.{Item, Met, Gave}
 use Rattle.interleave_core.specs.Core.{CoreState, CoreStepped, core_start, core_step, core_after, core_from, core_run, log_after}
 use Rattle.interleave_core.specs.Alone.{alone}
@@ -38,9 +32,8 @@ use Rattle.interleave_core.proofs.Alone.{GoesAt, AllGo, has_ended, is_inside, ex
 use Rattle.s370_state.specs.declared.endings.Ending.TheVariants.{Returned, Spent}
 use Rattle.s370_state.specs.declared.endings.Next.{Next}
 use Rattle.s370_state.specs.declared.endings.Next.TheVariants.{On, Ended as NextEnded}
-use Rattle.session_book.specs.Sessions.{task_of, no_task, first_state}
-use Rattle.module_area.specs.Parties.{tag_session, window_tag}
-use Rattle.module_area.specs.CellWords.{word_at}
+use Rattle.session_book.specs.Meaning.{task_of, no_task, first_state}
+use Rattle.module_area.specs.Parties.{window_tag}
 use Rattle.std.proofs.lemmas.Grind.{get_or-set_at}
 use Rattle.std.proofs.lemmas.Option.{same_Some}
 use Rattle.std.proofs.lemmas.Bool.{ltb-true}

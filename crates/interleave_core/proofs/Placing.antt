@@ -4,18 +4,16 @@ use Rattle.std.specs.Option.{option_and_then}
 use Rattle.std.proofs.lemmas.Bool.Decides.{nat_tests}
 use Rattle.std.proofs.lemmas.List.{get_or-map, length-set, length-map}
 use Rattle.std.proofs.lemmas.Bool.{ltb-true, or_right}
-use Rattle.cov_base.specs.FactSet.{FactSet}
+use Rattle.cov_base.specs.Meaning.{FactSet}
 use Rattle.cov_base.specs.declared.limits.TheConstants.{SESSION_LIMIT, PLACE_LIMIT}
 use Rattle.cov_base.specs.declared.numbers.PlaceNo.{PlaceNo}
 use Rattle.cov_base.specs.declared.numbers.SessNo.{SessNo}
-use Rattle.module_area.specs.CellWords.{word_at}
+use Rattle.module_area.specs.Meaning.{word_at, PlanView, window_at, is_over, is_controlled}
 use Rattle.module_area.specs.Held.{IsForm}
-use Rattle.module_area.specs.PlanView.{PlanView, IsPlan, IsControlled, window_at, is_over, is_controlled}
+use Rattle.module_area.specs.PlanView.{IsPlan, IsControlled}
 use Rattle.module_area.specs.declared.cells.Cell.{Cell}
 use Rattle.module_area.proofs.PlanLemmas.{over_small}
-use Rattle.interleave_core.specs.World.{World, TaskPart, Parts, plan_in, part_of, no_part}
-use Rattle.interleave_core.specs.Control.{PlaceChange, controller_of}
-use Rattle.interleave_core.specs.Steps.{Stepped, of_task, with_task, breakpoint_of, changed_cell, may_change, changed, change_where, change_step, change_due, parts_step, by_controller, whole_step}
+use Rattle.interleave_core.specs.Meaning.{World, TaskPart, Parts, plan_in, part_of, no_part, PlaceChange, controller_of, Stepped, of_task, with_task, breakpoint_of, changed_cell, may_change, changed, change_where, change_step, change_due, parts_step, by_controller, whole_step}
 use Rattle.interleave_core.specs.Views.{RunningView, IsRunning, IsStage, IsCore, IsTied, IsPlaced, parts_of, no_controlled, session_at, turn_number, turn_of}
 use Rattle.interleave_core.specs.declared.events.Event.{Event}
 use Rattle.interleave_core.specs.declared.events.Event.TheVariants.{Plant, Close}

@@ -7,27 +7,21 @@ use Rattle.std.proofs.lemmas.List.Folds.{list_any_none}
 use Rattle.std.proofs.lemmas.List.Sums.{AllPass-from_list_all, list_all-from_AllPass}
 use Rattle.std.proofs.lemmas.Option.{same_Some}
 use Rattle.std.proofs.lemmas.Bool.{le-leb, leb-true, ltb-true, not-true}
-use Rattle.cov_base.specs.Codes.{breakpoint}
-use Rattle.cov_base.specs.FactSet.{FactSet}
-use Rattle.cov_base.specs.Facts.{no_facts, with_fact, is_full}
+use Rattle.cov_base.specs.Meaning.{breakpoint, FactSet, no_facts, with_fact, is_full}
 use Rattle.cov_base.specs.declared.numbers.PlaceNo.{PlaceNo}
 use Rattle.s370_state.specs.declared.endings.Ending.TheVariants.{Returned, Spent}
 use Rattle.s370_state.specs.declared.endings.Next.{Next}
 use Rattle.s370_state.specs.declared.endings.Next.TheVariants.{On, Ended as NextEnded}
-use Rattle.s370_exec.specs.Fetch.{is_execute}
-use Rattle.s370_exec.specs.Solo.{has_returned}
-use Rattle.module_area.specs.CellWords.{word_at, no_cell}
-use Rattle.module_area.specs.FinalsView.{index_of}
+use Rattle.s370_exec.specs.Meaning.{is_execute, has_returned}
+use Rattle.module_area.specs.Meaning.{word_at, no_cell, index_of, tag_session, PlanView, ControlledView, has_place, is_controlled, is_over, original_at, kind_at, window_at}
 use Rattle.module_area.specs.Notes.{is_closed}
-use Rattle.module_area.specs.Parties.{tag_session, window_tag}
-use Rattle.module_area.specs.PlanView.{PlanView, ControlledView, IsPlan, has_place, is_controlled, is_over, original_at, kind_at, window_at}
+use Rattle.module_area.specs.Parties.{window_tag}
+use Rattle.module_area.specs.PlanView.{IsPlan}
 use Rattle.module_area.specs.declared.cells.Cell.{Cell}
 use Rattle.module_area.proofs.Indices.{same_index, and_left, and_right, and_both}
 use Rattle.module_area.proofs.PlanLemmas.{any_at, any_shown, over_cases}
-use Rattle.interleave_core.specs.World.{World, TaskPart, Parts, part_of, plan_in, place_at, no_part}
-use Rattle.interleave_core.specs.Control.{PlaceChange, controller_from, controller_of}
+use Rattle.interleave_core.specs.Meaning.{World, TaskPart, Parts, part_of, plan_in, place_at, no_part, PlaceChange, controller_from, controller_of, Stepped, parts_step, fetch_step, fetched, mark_step, marked, lift_step, lifted, do_step, done_by, task_done, task_goes_on, breakpoint_of, changed_cell, changed, change_due, with_cell, with_due, with_stage, original_under, same_cell, same_due, in_hand, hand_at, step_of, subject_place, place_due, is_awaiting, is_spent, stage_after, executed, awaits_or, unless_at, instruction_executed, set_of, fact_in}
 use Rattle.interleave_core.specs.Quiet.{has_unmarked, any_unmarked, is_quiet, SetsStay}
-use Rattle.interleave_core.specs.Steps.{Stepped, parts_step, fetch_step, fetched, mark_step, marked, lift_step, lifted, do_step, done_by, task_done, task_goes_on, breakpoint_of, changed_cell, changed, change_due, with_cell, with_due, with_stage, original_under, same_cell, same_due, in_hand, hand_at, step_of, subject_place, place_due, is_awaiting, is_spent, stage_after, executed, awaits_or, unless_at, instruction_executed, set_of, fact_in}
 use Rattle.interleave_core.specs.Views.{RunningView, AreSteady, IsHand, no_controlled, number_at, parts_of}
 use Rattle.interleave_core.specs.declared.events.Event.{Event}
 use Rattle.interleave_core.specs.declared.events.Event.TheVariants.{Fetch, Mark, Lift, Do, Plant, Close}

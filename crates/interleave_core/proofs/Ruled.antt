@@ -4,10 +4,8 @@ use Rattle.std.proofs.lemmas.Grind.{get_or-set_at}
 use Rattle.std.proofs.lemmas.List.{get_or-map, get_or-set_other, get_or-replicate, length-set, length-map, length-replicate}
 use Rattle.std.proofs.lemmas.Option.{same_Some}
 use Rattle.std.proofs.lemmas.Bool.{and_parts, ltb-true, cases_lt}
-use Rattle.cov_base.specs.Codes.{breakpoint}
-use Rattle.cov_base.specs.FactSet.{FactSet}
-use Rattle.cov_base.specs.Facts.{no_facts, has_fact, with_fact, is_full, is_of_kind, fact_of}
-use Rattle.cov_base.specs.States.{Visit}
+use Rattle.cov_base.specs.Meaning.{breakpoint, FactSet, no_facts, has_fact, with_fact, is_full, fact_of, Visit}
+use Rattle.cov_base.specs.Facts.{is_of_kind}
 use Rattle.cov_base.specs.declared.facts.Fact.{Fact}
 use Rattle.cov_base.specs.declared.facts.Fact.TheVariants.{Ran, Went, Stayed}
 use Rattle.cov_base.specs.declared.facts.Kind.{Kind}
@@ -15,13 +13,11 @@ use Rattle.cov_base.specs.declared.facts.Kind.TheVariants.{Straight, Conditional
 use Rattle.s370_state.specs.declared.endings.Ending.TheVariants.{Returned, Spent as SpentEnding}
 use Rattle.s370_state.specs.declared.endings.Next.{Next}
 use Rattle.s370_state.specs.declared.endings.Next.TheVariants.{On, Ended as NextEnded}
-use Rattle.s370_exec.specs.Fetch.{is_execute}
-use Rattle.s370_exec.specs.Solo.{has_returned, visit_of}
-use Rattle.module_area.specs.CellWords.{fresh_word, word_at, no_cell}
+use Rattle.s370_exec.specs.Meaning.{is_execute, has_returned, visit_of}
+use Rattle.module_area.specs.Meaning.{fresh_word, word_at, no_cell, tag_session, index_of, PlanView, original_at, kind_at, is_over, no_place}
 use Rattle.module_area.specs.Held.{planted, lifted as lifted_cell, IsForm, Held}
-use Rattle.module_area.specs.Parties.{Has, tag_session, window_tag, is_breakpoint, blank, fetching, marking, lifting, planting}
-use Rattle.module_area.specs.FinalsView.{index_of}
-use Rattle.module_area.specs.PlanView.{PlanView, IsPlan, original_at, kind_at, is_over, no_place}
+use Rattle.module_area.specs.Parties.{Has, window_tag, is_breakpoint, blank, fetching, marking, lifting, planting}
+use Rattle.module_area.specs.PlanView.{IsPlan}
 use Rattle.module_area.specs.declared.cells.Cell.{Cell}
 use Rattle.module_area.specs.declared.parties.Role.TheVariants.{Root, Task, Spent}
 use Rattle.module_area.specs.declared.parties.View.{View}
@@ -32,9 +28,9 @@ use Rattle.module_area.proofs.PlanLemmas.{over_small}
 use Rattle.module_area.proofs.PartyLemmas.{here-add_if}
 use Rattle.module_area.proofs.CellLemmas.{lifts}
 use Rattle.module_area.proofs.StepLemmas.{breakpoint_form, fetches, marks, spent_not_task}
-use Rattle.session_book.specs.Sessions.{no_task}
-use Rattle.interleave_core.specs.World.{World, IsWorld, TaskPart, Parts, part_of, plan_in, place_at, first_parts, first_part, no_part}
-use Rattle.interleave_core.specs.Steps.{task_goes_on, Stepped, parts_step, fetch_step, fetched, mark_step, marked, lift_step, lifted, do_step, done_by, with_cell, with_due, with_stage, original_under, same_cell, same_due, in_hand, hand_at, subject_place, step_of, place_due, is_awaiting, is_spent, executed, stage_after, awaits_or, unless_at, instruction_executed, task_done, set_of, fact_in}
+use Rattle.session_book.specs.Meaning.{no_task}
+use Rattle.interleave_core.specs.Meaning.{World, TaskPart, Parts, part_of, plan_in, place_at, first_parts, first_part, no_part, task_goes_on, Stepped, parts_step, fetch_step, fetched, mark_step, marked, lift_step, lifted, do_step, done_by, with_cell, with_due, with_stage, original_under, same_cell, same_due, in_hand, hand_at, subject_place, step_of, place_due, is_awaiting, is_spent, executed, stage_after, awaits_or, unless_at, instruction_executed, task_done, set_of, fact_in}
+use Rattle.interleave_core.specs.World.{IsWorld}
 use Rattle.interleave_core.specs.Core.{CoreState, core_start, core_step, core_after, core_from, core_run, log_after, entry_of}
 use Rattle.interleave_core.specs.Entries.{Entry, Item, Met}
 use Rattle.interleave_core.specs.Parties.{task_view, task_views, numbers, first_planter, planted_by, planter_from, KeepRule}

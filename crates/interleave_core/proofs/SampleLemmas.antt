@@ -2,7 +2,7 @@
 use Rattle.std.proofs.Common.{[], ◌∷◌, All, AllPairs, refl, inl, arith}
 use Rattle.std.proofs.lemmas.List.Elements.{All-cons, All-nil}
 use Rattle.std.proofs.lemmas.List.Kept.{AllPairs-cons}
-use Rattle.cov_base.specs.Codes.{length_of, kind_of}
+use Rattle.cov_base.specs.Meaning.{length_of, kind_of}
 use Rattle.module_area.specs.declared.places.Place.{Place}
 use Rattle.brk_table.specs.Places.{IsPlace, AreApart, ArePlaces, IsIn}
 use Rattle.interleave_core.specs.Sample.{sample_image, sample_place, sample_places}

@@ -2,22 +2,20 @@
 use Rattle.std.proofs.Common.{◌≡◌, ◌⊎◌, inl, inr, ℕ, zero, suc, All, ◌+◌, ◌-◌, ◌*◌, ◌<◌, ◌≤◌, true, Some, List, [], ◌∷◌, ◌++◌, length, get_or, map, replicate, take, drop, min, slice_range, nat_lt, refl, sym, ◌∙◌, ap, subst, arith}
 use Rattle.std.proofs.lemmas.List.{get_or-map, length-map, length-replicate, length-append, ext_get_or, get_or_push, get_or_append_left, length-drop, take_all}
 use Rattle.std.proofs.lemmas.Bool.{lt-ltb}
-use Rattle.cov_base.specs.FactSet.{FactSet}
-use Rattle.cov_base.specs.Facts.{no_facts, is_within}
+use Rattle.cov_base.specs.Meaning.{FactSet, no_facts, is_within}
 use Rattle.cov_base.specs.declared.facts.Kind.{Kind}
 use Rattle.cov_base.specs.declared.facts.Kind.TheVariants.{Straight, Conditional}
 use Rattle.brk_table.specs.Places.{ArePlaces, IsIn}
 use Rattle.session_book.specs.JobView.{IsJob}
-use Rattle.module_area.specs.FinalsView.{index_of, set_in}
-use Rattle.module_area.specs.CellWords.{fresh_word, word_at, no_cell}
-use Rattle.module_area.specs.PlanView.{PlanView, IsPlan, kind_at, no_place}
+use Rattle.module_area.specs.Meaning.{index_of, set_in, fresh_word, word_at, no_cell, PlanView, kind_at, no_place}
+use Rattle.module_area.specs.PlanView.{IsPlan}
 use Rattle.module_area.specs.declared.cells.Cell.{Cell}
-use Rattle.session_book.specs.Sessions.{task_of, no_task}
+use Rattle.session_book.specs.Meaning.{task_of, no_task}
 use Rattle.space_map.specs.Space.{row_of}
 use Rattle.space_map.proofs.SpaceLemmas.{private_filled-as}
-use Rattle.interleave_core.specs.World.{World, IsWorld, TaskPart, Parts, no_part, first_part, first_parts, plan_in}
-use Rattle.interleave_core.specs.Results.{Fits, results_of, part_result}
-use Rattle.interleave_core.specs.Steps.{in_hand}
+use Rattle.interleave_core.specs.Meaning.{World, TaskPart, Parts, no_part, first_part, first_parts, plan_in, results_of, part_result, in_hand}
+use Rattle.interleave_core.specs.World.{IsWorld}
+use Rattle.interleave_core.specs.Results.{Fits}
 use Rattle.interleave_core.specs.Views.{RunningView, IsRunning, IsStage, IsHand, IsCore, AreReady, AreSteady, AreTied, parts_of}
 use Rattle.interleave_core.specs.declared.stage.Due.TheVariants.{Marking}
 use Rattle.interleave_core.specs.declared.stage.Hand.{Hand}

@@ -5,22 +5,15 @@ use Rattle.std.proofs.lemmas.Grind.{get_or-set_at}
 use Rattle.std.proofs.lemmas.List.{get_or-map, get_or-set_other, length-set, length-map}
 use Rattle.std.proofs.lemmas.Bool.{lt-ltb, le-leb, leb-true, ltb-true}
 use Rattle.cov_base.specs.declared.numbers.PlaceNo.{PlaceNo}
-use Rattle.module_area.specs.CellWords.{word_at, no_cell}
-use Rattle.module_area.specs.PlanView.{ControlledView, IsPlan, is_controller, window_at}
+use Rattle.module_area.specs.Meaning.{word_at, no_cell, ControlledView, window_at, fresh_word, tag_session, kind_at}
+use Rattle.module_area.specs.PlanView.{IsPlan, is_controller}
 use Rattle.module_area.specs.declared.cells.Cell.{Cell}
 use Rattle.module_area.proofs.PlanLemmas.{one_controller}
 use Rattle.module_area.specs.declared.places.Place.{Place}
-use Rattle.module_area.specs.CellWords.{fresh_word}
-use Rattle.module_area.specs.Parties.{tag_session}
-use Rattle.module_area.specs.PlanView.{kind_at}
 use Rattle.module_area.proofs.Indices.{and_left}
-use Rattle.cov_base.specs.FactSet.{FactSet}
-use Rattle.cov_base.specs.Facts.{with_fact, is_full}
-use Rattle.cov_base.specs.States.{State}
-use Rattle.session_book.specs.Sessions.{task_of, no_task}
-use Rattle.interleave_core.specs.World.{World, TaskPart, Parts, part_of, no_part, plan_in, first_part, first_parts}
-use Rattle.interleave_core.specs.Control.{Change, PlaceChange, place_change, sessions_by, change_of, next_place, after_change}
-use Rattle.interleave_core.specs.Steps.{Stepped, parts_step, fetch_step, fetched, mark_step, marked, lift_step, lifted, do_step, done_by, task_done, may_plant, breakpoint_of, closed_of, changed_cell, changed, change_due, with_cell, with_due, original_under, same_cell, in_hand, hand_at, step_of, place_due, is_awaiting, stage_after, set_of, fact_in}
+use Rattle.cov_base.specs.Meaning.{FactSet, with_fact, is_full, State}
+use Rattle.session_book.specs.Meaning.{task_of, no_task}
+use Rattle.interleave_core.specs.Meaning.{World, TaskPart, Parts, part_of, no_part, plan_in, first_part, first_parts, Change, PlaceChange, place_change, sessions_by, change_of, next_place, after_change, Stepped, parts_step, fetch_step, fetched, mark_step, marked, lift_step, lifted, do_step, done_by, task_done, may_plant, breakpoint_of, closed_of, changed_cell, changed, change_due, with_cell, with_due, original_under, same_cell, in_hand, hand_at, step_of, place_due, is_awaiting, stage_after, set_of, fact_in}
 use Rattle.interleave_core.specs.declared.events.Event.{Event}
 use Rattle.interleave_core.specs.declared.events.Event.TheVariants.{Fetch, Mark, Lift, Do, Plant, Close}
 use Rattle.interleave_core.specs.declared.stage.Due.{Due}

@@ -5,19 +5,15 @@ use Rattle.std.proofs.lemmas.Grind.{get_or-set_at}
 use Rattle.std.proofs.lemmas.List.{get_or-set_other, get_or-map, append-nil}
 use Rattle.std.proofs.lemmas.Option.{same_Some}
 use Rattle.std.proofs.lemmas.Bool.{and_from, and_parts, ltb-true}
-use Rattle.cov_base.specs.FactSet.{FactSet}
-use Rattle.cov_base.specs.Facts.{no_facts, has_fact, with_fact, is_full, union, fact_of, same_fact}
-use Rattle.cov_base.specs.States.{Visit}
+use Rattle.cov_base.specs.Meaning.{FactSet, no_facts, has_fact, with_fact, is_full, union, fact_of, same_fact, Visit}
 use Rattle.cov_base.specs.declared.numbers.PlaceNo.{PlaceNo}
 use Rattle.cov_base.specs.declared.numbers.SessNo.{SessNo}
 use Rattle.cov_base.specs.declared.facts.Fact.{Fact}
 use Rattle.cov_base.specs.declared.facts.Fact.TheVariants.{Ran, Went, Stayed}
 use Rattle.s370_state.specs.declared.endings.Ending.{Ending}
-use Rattle.s370_exec.specs.Solo.{Run}
-use Rattle.module_area.specs.Executions.{executes, facts_at, facts_of_all}
-use Rattle.module_area.specs.Parties.{Has, tag_session, window_tag}
-use Rattle.module_area.specs.CellWords.{word_at, no_cell}
-use Rattle.module_area.specs.PlanView.{kind_at, window_at, place_of, no_place}
+use Rattle.s370_exec.specs.Meaning.{Run}
+use Rattle.module_area.specs.Meaning.{executes, facts_at, facts_of_all, tag_session, word_at, no_cell, kind_at, window_at, place_of, no_place}
+use Rattle.module_area.specs.Parties.{Has, window_tag}
 use Rattle.module_area.specs.declared.cells.Cell.{Cell}
 use Rattle.module_area.specs.declared.parties.View.{View}
 use Rattle.module_area.specs.declared.places.Place.{Place}
@@ -25,11 +21,10 @@ use Rattle.module_area.proofs.FactLemmas.{has_fact-with_fact, same_fact-true}
 use Rattle.module_area.proofs.Indices.{same_tests}
 use Rattle.module_area.proofs.PartyLemmas.{has-append, left-append, right-append}
 use Rattle.module_area.proofs.StepLemmas.{or_cases, or_left, or_right, same_fact-same}
-use Rattle.session_book.specs.JobView.{SessionView, TaskView}
-use Rattle.session_book.specs.Sessions.{session_of, no_session, no_task, is_whole, observes, window_from, window_of, traces_from}
+use Rattle.session_book.specs.Meaning.{SessionView, TaskView, session_of, no_session, no_task, is_whole, observes, window_from, window_of, traces_from}
 use Rattle.brk_table.proofs.PlaceLemmas.{one_begins}
-use Rattle.interleave_core.specs.World.{World, IsWorld, TaskPart, Parts, part_of, plan_in, place_at}
-use Rattle.interleave_core.specs.Steps.{Stepped, parts_step, fetch_step, fetched, mark_step, marked, lift_step, lifted, do_step, done_by, may_plant, breakpoint_of, with_cell, with_due, with_stage, original_under, same_cell, in_hand, hand_at, step_of, place_due, is_awaiting, task_done, set_of, fact_in}
+use Rattle.interleave_core.specs.Meaning.{World, TaskPart, Parts, part_of, plan_in, place_at, Stepped, parts_step, fetch_step, fetched, mark_step, marked, lift_step, lifted, do_step, done_by, may_plant, breakpoint_of, with_cell, with_due, with_stage, original_under, same_cell, in_hand, hand_at, step_of, place_due, is_awaiting, task_done, set_of, fact_in}
+use Rattle.interleave_core.specs.World.{IsWorld}
 use Rattle.interleave_core.specs.Alone.{alone, IsAlone}
 use Rattle.interleave_core.specs.Core.{CoreState, core_start, core_step, core_after, core_from, core_run, log_after}
 use Rattle.interleave_core.specs.Entries.{Item, Met, Gave}

@@ -1,9 +1,9 @@
 -- Each task of a core is where its run alone is after as many instructions.
 use Rattle.std.specs.Prelude.{◌≡◌, ℕ, ◌<◌, length}
 use Rattle.s370_state.specs.declared.endings.Ending.{Ending}
-use Rattle.s370_exec.specs.Solo.{Run, solo_run, run_ended}
-use Rattle.session_book.specs.Sessions.{task_of, first_state}
-use Rattle.interleave_core.specs.World.{World, TaskPart, Parts, part_of, memory_in, budget_in}
+use Rattle.s370_exec.specs.Meaning.{Run, solo_run, run_ended}
+use Rattle.session_book.specs.Meaning.{task_of, first_state}
+use Rattle.interleave_core.specs.Meaning.{World, TaskPart, Parts, part_of, memory_in, budget_in}
 use Rattle.interleave_core.specs.declared.stage.Stage.TheVariants.{Ended}
 
 -- task t's run alone, of at most so many instructions

@@ -1,16 +1,14 @@
 -- The core: what it stores and each task's log, its deterministic step, and its run by a list of events.
 use Rattle.std.specs.Prelude.{◌≡◌, ℕ, ◌*◌, Bool, false, nat_eq, if◌then◌else◌, Option, Some, None, option_map, List, [], ◌∷◌, ◌++◌}
-use Rattle.s370_exec.specs.Solo.{visit_of}
+use Rattle.s370_exec.specs.Meaning.{visit_of}
 use Rattle.module_area.specs.Parties.{window_tag}
 use Rattle.interleave_core.specs.Alone.{AreAlone}
-use Rattle.interleave_core.specs.Control.{controller_of}
+use Rattle.interleave_core.specs.Meaning.{controller_of, World, TaskPart, Parts, part_of, first_parts, Stepped, parts_step, step_of, fact_in}
 use Rattle.interleave_core.specs.Entries.{Entry, Item, Met, Gave}
 use Rattle.interleave_core.specs.Exact.{AreExact}
 use Rattle.interleave_core.specs.Logs.{HaveLogs}
 use Rattle.interleave_core.specs.Parties.{KeepRule}
 use Rattle.interleave_core.specs.Whole.{AreWhole}
-use Rattle.interleave_core.specs.World.{World, TaskPart, Parts, part_of, first_parts}
-use Rattle.interleave_core.specs.Steps.{Stepped, parts_step, step_of, fact_in}
 use Rattle.interleave_core.specs.declared.events.Event.{Event}
 use Rattle.interleave_core.specs.declared.events.Event.TheVariants.{Fetch, Mark, Lift, Do, Plant, Close}
 use Rattle.interleave_core.specs.declared.events.Shown.{Shown}

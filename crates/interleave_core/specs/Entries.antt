@@ -1,6 +1,6 @@
 -- A task's log: its fetches, and the tags that it gave.
 use Rattle.std.specs.Prelude.{ℕ, Bool, Option}
-use Rattle.cov_base.specs.FactSet.{FactSet}
+use Rattle.cov_base.specs.Meaning.{FactSet}
 use Rattle.cov_base.specs.declared.facts.Fact.{Fact}
 use Rattle.module_area.specs.declared.cells.Cell.{Cell}
 

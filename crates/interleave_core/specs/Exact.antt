@@ -1,11 +1,10 @@
 -- Each set, once all tasks have ended: the facts of the executions that the logs tell.
 use Rattle.std.specs.Prelude.{◌≡◌, ◌⊎◌, ℕ, ◌<◌, true, Some, List, [], ◌∷◌, length, ◌↔◌}
 use Rattle.cov_base.specs.declared.facts.Fact.{Fact}
-use Rattle.cov_base.specs.Facts.{has_fact}
+use Rattle.cov_base.specs.Meaning.{has_fact}
 use Rattle.s370_state.specs.declared.endings.Ending.{Ending}
 use Rattle.module_area.specs.Parties.{window_tag}
-use Rattle.interleave_core.specs.World.{World, Parts, part_of}
-use Rattle.interleave_core.specs.Steps.{set_of}
+use Rattle.interleave_core.specs.Meaning.{World, Parts, part_of, set_of}
 use Rattle.interleave_core.specs.Entries.{Item, Met, Gave}
 use Rattle.interleave_core.specs.declared.stage.Stage.TheVariants.{Ended}
 

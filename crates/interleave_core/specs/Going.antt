@@ -1,34 +1,9 @@
 -- A task's events one by one until it has ended.
-use Rattle.std.specs.Prelude.{◌≡◌, ℕ, zero, suc, ◌+◌, ◌*◌, true, false, Option, Some, None, is_none, List, [], ◌∷◌, length, All}
+use Rattle.std.specs.Prelude.{◌≡◌, true, false, Some, is_none, All}
 use Rattle.cov_base.specs.declared.numbers.TaskNo.{TaskNo}
-use Rattle.interleave_core.specs.World.{World, Parts, budget_in}
-use Rattle.interleave_core.specs.Steps.{Stepped, parts_step, run_on}
+use Rattle.interleave_core.specs.Meaning.{World, Parts, run_on, next_of, all_events}
 use Rattle.interleave_core.specs.Core.{is_by}
-use Rattle.interleave_core.specs.Results.{next_of, IsOver}
-use Rattle.interleave_core.specs.declared.events.Event.{Event}
-
--- more than a task makes: of an instruction 8, since it is fetched, marked, lifted and done, and so is the subject of an EX,
--- and one for each place at which it may plant or close
-abbrev pub most_events : World → ℕ → ℕ
-most_events w t = (8 + length w.places) * (budget_in w t + 1) + 1
-
--- what is stored after an event, where it was possible
-abbrev pub after : Parts → Option Stepped → Parts
-after c None = c
-after c (Some x) = x.parts
-
-abbrev pub next_events : (Parts → List Event) → World → Parts → Option Event → List Event
-next_events more w c None = []
-next_events more w c (Some e) = e ∷ more (after c (parts_step w c e))
-
--- the task's next events, at most so many
-abbrev pub go_events : World → ℕ → Parts → TaskNo → List Event
-go_events w zero c t = []
-go_events w (suc n) c t = next_events (λ d. go_events w n d t) w c (next_of w c t)
-
--- all that it makes until it has ended
-abbrev pub all_events : World → Parts → TaskNo → List Event
-all_events w c t = go_events w (most_events w t.0) c t
+use Rattle.interleave_core.specs.Results.{IsOver}
 
 -- The task had a next event. All that it makes until it has ended are its own, and possible one after the other, and it
 -- has ended.

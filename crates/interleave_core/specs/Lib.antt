@@ -1,15 +1,14 @@
-pub mod World
 pub mod Alone
-pub mod Steps
-pub mod Control
 pub mod Core
 pub mod Entries
 pub mod Exact
 pub mod Going
 pub mod Logs
+pub mod Meaning
 pub mod Parties
 pub mod Quiet
 pub mod Results
 pub mod Sample
 pub mod Views
 pub mod Whole
+pub mod World

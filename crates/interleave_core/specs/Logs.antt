@@ -1,11 +1,9 @@
 -- Each task's log has the places and facts of its run alone so far, and of the instruction in hand.
 use Rattle.std.specs.Prelude.{◌≡◌, ℕ, ◌<◌, if◌then◌else◌, Option, Some, None, List, [], ◌∷◌, ◌++◌, length}
-use Rattle.cov_base.specs.Facts.{fact_of}
-use Rattle.cov_base.specs.States.{Visit}
+use Rattle.cov_base.specs.Meaning.{fact_of, Visit}
 use Rattle.cov_base.specs.declared.facts.Fact.{Fact}
-use Rattle.module_area.specs.PlanView.{kind_at}
-use Rattle.interleave_core.specs.World.{World, TaskPart, Parts, part_of, plan_in, place_at}
-use Rattle.interleave_core.specs.Steps.{step_of}
+use Rattle.module_area.specs.Meaning.{kind_at}
+use Rattle.interleave_core.specs.Meaning.{World, TaskPart, Parts, part_of, plan_in, place_at, step_of}
 use Rattle.interleave_core.specs.Entries.{Item, Met, Gave}
 use Rattle.interleave_core.specs.Alone.{alone}
 use Rattle.interleave_core.specs.declared.stage.Stage.{Stage}

@@ -1,16 +1,13 @@
 -- The notes of a core's parties: those of a task follow from its log, those of the planter from the events.
 use Rattle.std.specs.Prelude.{ℕ, ◌+◌, zero, suc, Bool, if◌then◌else◌, Option, Some, None, is_none, List, [], ◌∷◌, length}
 use Rattle.cov_base.specs.declared.facts.Fact.{Fact}
-use Rattle.cov_base.specs.FactSet.{FactSet}
+use Rattle.cov_base.specs.Meaning.{FactSet}
 use Rattle.module_area.specs.declared.parties.Role.TheVariants.{Root, Task}
 use Rattle.module_area.specs.declared.parties.View.{View}
 use Rattle.module_area.specs.Held.{Held}
-use Rattle.module_area.specs.Parties.{tag_session, blank, fetching, marking, lifting, tagging, planting}
-use Rattle.module_area.specs.CellWords.{word_at}
-use Rattle.module_area.specs.PlanView.{PlanView}
-use Rattle.interleave_core.specs.World.{World, Parts, plan_in}
-use Rattle.interleave_core.specs.Steps.{set_of}
-use Rattle.interleave_core.specs.Control.{controller_of}
+use Rattle.module_area.specs.Meaning.{tag_session, word_at, PlanView}
+use Rattle.module_area.specs.Parties.{blank, fetching, marking, lifting, tagging, planting}
+use Rattle.interleave_core.specs.Meaning.{World, Parts, plan_in, set_of, controller_of}
 use Rattle.interleave_core.specs.Entries.{Entry, Item, Met, Gave}
 use Rattle.interleave_core.specs.declared.events.Event.{Event}
 use Rattle.interleave_core.specs.declared.events.Event.TheVariants.{Plant}

@@ -1,14 +1,10 @@
 -- A session whose sets no event of a core can change any more.
 use Rattle.std.specs.Prelude.{◌≡◌, ℕ, ◌+◌, ◌*◌, ◌<◌, Bool, true, false, not, ◌&&◌, ◌||◌, nat_eq, Option, Some, None, is_some, List, [], ◌∷◌, ◌++◌, length}
 use Rattle.std.specs.List.{list_any}
-use Rattle.module_area.specs.CellWords.{word_at}
+use Rattle.module_area.specs.Meaning.{word_at, is_controlled}
 use Rattle.module_area.specs.Notes.{is_closed}
-use Rattle.module_area.specs.PlanView.{is_controlled}
-use Rattle.interleave_core.specs.World.{World, TaskPart, Parts, part_of, plan_in}
-use Rattle.interleave_core.specs.Control.{controller_of}
+use Rattle.interleave_core.specs.Meaning.{World, TaskPart, Parts, part_of, plan_in, controller_of, ending_of, same_due, set_of}
 use Rattle.interleave_core.specs.Core.{CoreState, CoreStepped, core_step, core_run}
-use Rattle.interleave_core.specs.Results.{ending_of}
-use Rattle.interleave_core.specs.Steps.{same_due, set_of}
 use Rattle.interleave_core.specs.declared.events.Event.{Event}
 use Rattle.interleave_core.specs.declared.events.Event.TheVariants.{Do, Close}
 use Rattle.interleave_core.specs.declared.stage.Due.TheVariants.{Marking}

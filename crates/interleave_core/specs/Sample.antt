@@ -1,6 +1,6 @@
 -- The module and its places that tests are made of.
 use Rattle.std.specs.Prelude.{ℕ, List, [], ◌∷◌, codes}
-use Rattle.cov_base.specs.Memory.{ImageView}
+use Rattle.cov_base.specs.Meaning.{ImageView}
 use Rattle.cov_base.specs.declared.facts.Kind.TheVariants.{Straight}
 use Rattle.module_area.specs.declared.places.Place.{Place}
 

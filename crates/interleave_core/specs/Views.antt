@@ -1,24 +1,21 @@
 -- What a task of a core keeps besides what the core stores of it, and what holds of a core at every moment.
 use Rattle.std.specs.Prelude.{◌≡◌, ◌≢◌, ℕ, ◌+◌, ◌-◌, ◌*◌, ◌<◌, ◌≤◌, Bool, true, false, nat_le, nat_lt, if◌then◌else◌, Option, Some, None, option_map, Result, IfOk, List, [], length, get_or, map, All}
 use Rattle.std.specs.List.{list_all}
-use Rattle.cov_base.specs.Facts.{is_within}
-use Rattle.cov_base.specs.FactSet.{FactSet}
+use Rattle.cov_base.specs.Meaning.{is_within, FactSet}
 use Rattle.cov_base.specs.declared.numbers.PlaceNo.{PlaceNo}
 use Rattle.cov_base.specs.declared.limits.TheConstants.{SESSION_LIMIT, PLACE_LIMIT}
 use Rattle.module_area.specs.declared.cells.Cell.{Cell}
-use Rattle.module_area.specs.CellWords.{word_at}
+use Rattle.module_area.specs.Meaning.{word_at, set_in, PlanView, ControlledView, kind_at, is_over}
 use Rattle.module_area.specs.Held.{planted, IsForm}
-use Rattle.module_area.specs.FinalsView.{set_in}
-use Rattle.module_area.specs.PlanView.{PlanView, ControlledView, IsPlan, kind_at, is_over}
-use Rattle.brk_table.specs.Places.{TablesView, AreSeen, ArePlaces, IsIn}
+use Rattle.module_area.specs.PlanView.{IsPlan}
+use Rattle.brk_table.specs.Meaning.{TablesView}
+use Rattle.brk_table.specs.Places.{AreSeen, ArePlaces, IsIn}
 use Rattle.space_map.specs.Space.{SpaceView, memory_of_space}
 use Rattle.session_book.specs.JobView.{IsJob}
-use Rattle.session_book.specs.Sessions.{task_of}
-use Rattle.interleave_core.specs.World.{World, TaskPart, Parts, part_of, first_part, plan_in, memory_in, budget_in}
-use Rattle.interleave_core.specs.Control.{Change, PlaceChange, sessions_by, change_of, after_change}
+use Rattle.session_book.specs.Meaning.{task_of}
+use Rattle.interleave_core.specs.Meaning.{World, TaskPart, Parts, part_of, first_part, plan_in, memory_in, budget_in, Change, PlaceChange, sessions_by, change_of, after_change, Stepped, of_task, change_step, step_of, subject_place, is_spent, in_hand}
 use Rattle.interleave_core.specs.declared.control.Change.{Change as Found}
 use Rattle.interleave_core.specs.declared.control.PlaceChange.{PlaceChange as PlaceFound}
-use Rattle.interleave_core.specs.Steps.{Stepped, of_task, change_step, step_of, subject_place, is_spent, in_hand}
 use Rattle.interleave_core.specs.declared.events.Shown.{Shown}
 use Rattle.interleave_core.specs.declared.stage.Due.TheVariants.{Marking, Nothing}
 use Rattle.interleave_core.specs.declared.stage.Hand.{Hand}

@@ -1,13 +1,12 @@
 -- Each set, where its session's windows were all planted before any other event.
 use Rattle.std.specs.Prelude.{◌≡◌, ℕ, ◌<◌, List, [], ◌∷◌, length}
-use Rattle.cov_base.specs.States.{Visit}
+use Rattle.cov_base.specs.Meaning.{Visit}
 use Rattle.module_area.specs.Parties.{Has}
-use Rattle.module_area.specs.PlanView.{window_at, place_of}
-use Rattle.session_book.specs.Sessions.{session_set}
+use Rattle.module_area.specs.Meaning.{window_at, place_of}
+use Rattle.session_book.specs.Meaning.{session_set}
 use Rattle.interleave_core.specs.Alone.{alone}
 use Rattle.interleave_core.specs.Exact.{HaveEnded}
-use Rattle.interleave_core.specs.World.{World, Parts, plan_in, budget_in}
-use Rattle.interleave_core.specs.Steps.{set_of}
+use Rattle.interleave_core.specs.Meaning.{World, Parts, plan_in, budget_in, set_of}
 use Rattle.interleave_core.specs.declared.events.Event.{Event}
 use Rattle.interleave_core.specs.declared.events.Event.TheVariants.{Plant}
 

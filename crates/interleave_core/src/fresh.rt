@@ -1,8 +1,8 @@
 //! What a core begins with.
 ghost use Rattle.std.specs.Prelude.{◌≡◌, length, map, replicate, All, IfOk};
-ghost use Rattle.module_area.specs.CellWords.{fresh_word};
+ghost use Rattle.module_area.specs.Meaning.{fresh_word};
 ghost use Rattle.brk_table.specs.Places.{IsIn};
-ghost use Rattle.cov_base.specs.Facts.{no_facts};
+ghost use Rattle.cov_base.specs.Meaning.{no_facts};
 ghost use Rattle.interleave_core.specs.World.{world_of};
 ghost use Rattle.interleave_core.specs.Views.{AreReady};
 

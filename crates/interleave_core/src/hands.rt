@@ -1,14 +1,13 @@
 //! What is due of a cell in hand, and what takes a cell's place.
 ghost use Rattle.std.specs.Prelude.{◌≡◌, ◌<◌, ◌≤◌, length, set, if◌then◌else◌};
-ghost use Rattle.cov_base.specs.Facts.{is_full};
+ghost use Rattle.cov_base.specs.Meaning.{is_full};
 ghost use Rattle.cov_base.specs.declared.limits.TheConstants.{SESSION_LIMIT};
-ghost use Rattle.module_area.specs.CellWords.{word_at};
+ghost use Rattle.module_area.specs.Meaning.{word_at};
 ghost use Rattle.interleave_core.specs.declared.events.Shown.TheVariants.{Planted, Closed};
 ghost use Rattle.interleave_core.specs.declared.stage.Due.TheVariants.{Lifting, Nothing};
 ghost use Rattle.interleave_core.specs.declared.stage.Stage.TheVariants.{Holding};
-ghost use Rattle.interleave_core.specs.World.{World};
+ghost use Rattle.interleave_core.specs.Meaning.{World, due_after_fetch, same_cell, breakpoint_of};
 ghost use Rattle.interleave_core.specs.Quiet.{has_unmarked};
-ghost use Rattle.interleave_core.specs.Steps.{due_after_fetch, same_cell, breakpoint_of};
 
 use crate::events::Shown;
 use crate::stage::{Due, Hand};

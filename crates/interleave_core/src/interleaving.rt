@@ -1,18 +1,17 @@
 //! The core.
 ghost use Rattle.std.specs.Prelude.{◌≡◌, ℕ, ◌+◌, ◌*◌, ◌<◌, ◌≤◌, nat_lt, true, false, [], length, All, IfOk, OnErr, IfSome, is_some, IsTrue, IsNone, ◌↔◌};
 ghost use Rattle.std.specs.declared.option.Option.TheVariants.{Some, None};
-ghost use Rattle.module_area.specs.CellWords.{word_at};
+ghost use Rattle.module_area.specs.Meaning.{word_at};
 ghost use Rattle.module_area.specs.Notes.{is_closed};
 ghost use Rattle.brk_table.specs.Places.{IsIn};
 ghost use Rattle.cov_base.specs.declared.limits.TheConstants.{SESSION_LIMIT};
-ghost use Rattle.interleave_core.specs.World.{IsWorld, first_parts, plan_in, world_of};
-ghost use Rattle.interleave_core.specs.Control.{controller_of};
-ghost use Rattle.interleave_core.specs.Steps.{whole_step, changed_cell, parts_step, run_on, set_of};
+ghost use Rattle.interleave_core.specs.Meaning.{first_parts, plan_in, controller_of, whole_step, changed_cell, parts_step, run_on, set_of, all_events, next_of, results_of};
+ghost use Rattle.interleave_core.specs.World.{IsWorld, world_of};
 ghost use Rattle.interleave_core.specs.Core.{core_start, Stands, FollowsAll, FollowsNone};
 ghost use Rattle.interleave_core.specs.declared.events.Event.{Event};
 ghost use Rattle.interleave_core.specs.declared.events.Event.TheVariants as event;
-ghost use Rattle.interleave_core.specs.Going.{HasGone, all_events};
-ghost use Rattle.interleave_core.specs.Results.{next_of, IsDue, IsOver, results_of, Fits};
+ghost use Rattle.interleave_core.specs.Going.{HasGone};
+ghost use Rattle.interleave_core.specs.Results.{IsDue, IsOver, Fits};
 ghost use Rattle.interleave_core.specs.Quiet.{any_unmarked, is_quiet, StayQuiet, DrainedStay, QuietAsDrained};
 ghost use Rattle.interleave_core.specs.Views.{AreSteady, IsPlaced, Leaves, change_by};
 
@@ -428,7 +427,7 @@ pub fn start<'a>(alloc: Global, job: &'a Job, tables: &'a Tables) -> Result<Core
 
 impl<'a> FactSets for Core<'a> {
     ghost use Rattle.std.specs.Prelude.{length};
-    ghost use Rattle.interleave_core.specs.Steps.{set_of};
+    ghost use Rattle.interleave_core.specs.Meaning.{set_of};
 
     ghost sessions = { λ c. length c.world.job.sessions };
 
@@ -443,7 +442,7 @@ impl<'a> FactSets for Core<'a> {
 
 impl<'a> Results for Core<'a> {
     ghost use Rattle.std.specs.Prelude.{length};
-    ghost use Rattle.interleave_core.specs.Results.{results_of};
+    ghost use Rattle.interleave_core.specs.Meaning.{results_of};
 
     ghost tasks = { λ c. length c.world.job.tasks };
 

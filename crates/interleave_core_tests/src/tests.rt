@@ -1,6 +1,6 @@
 //! A task closes a session while another still holds a breakpoint of it, and then opens the next one.
 ghost use Rattle.std.specs.Prelude.{◌≡◌, ◌+◌, ◌<◌, ◌≤◌, ◌∷◌, [], None, Some, length, All, IfOk};
-ghost use Rattle.cov_base.specs.Names.{padded};
+ghost use Rattle.cov_base.specs.Meaning.{padded};
 ghost use Rattle.interleave_core.specs.Sample.{sample_image, sample_place, sample_places};
 
 use brk_table::{LinePlaces, Table, Tables};

@@ -5,7 +5,7 @@ use Rattle.std.proofs.lemmas.Grind.{flat_map-append}
 use Rattle.job_gen.specs.declared.instruction.Instruction.{Instruction}
 use Rattle.job_gen.specs.declared.instruction.Operation.{Operation}
 use Rattle.job_gen.specs.declared.instruction.Operation.TheVariants.{La, Ar, St, Bct, Br}
-use Rattle.job_gen.specs.Code.{next, drawn, short, long, test_block, kind, block_of, block, after_block, bytes_of, code_from}
+use Rattle.job_gen.specs.Meaning.{next, drawn, short, long, test_block, kind, block_of, block, after_block, bytes_of, code_from}
 
 block_is : (x at y n : ℕ) → y ≡ next x → n ≡ drawn y 4 → block x at ≡ block_of n (next y) at
 unfolding block

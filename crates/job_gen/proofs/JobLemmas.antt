@@ -5,16 +5,14 @@ use Rattle.std.proofs.lemmas.Fmt.{length-decimal-le}
 use Rattle.std.proofs.lemmas.List.{get_or-map, length-map, length-replicate}
 use Rattle.std.proofs.lemmas.List.Elements.{All-cons, All-nil}
 use Rattle.std.proofs.lemmas.List.FromFn.{get_or-map-range_with_len, length-map-range_with_len}
-use Rattle.cov_base.specs.Memory.{ImageView}
-use Rattle.cov_base.specs.Names.{padded}
+use Rattle.cov_base.specs.Meaning.{ImageView, padded}
 use Rattle.module_area.specs.Images.{IsImage, AreClear}
-use Rattle.session_book.specs.JobView.{TaskView, IsJob, IsTask, IsSession, IsListing, AreParted, HasController}
+use Rattle.session_book.specs.Meaning.{TaskView}
+use Rattle.session_book.specs.JobView.{IsJob, IsTask, IsSession, IsListing, AreParted, HasController}
 use Rattle.job_gen.specs.declared.instruction.Instruction.{Instruction}
 use Rattle.job_gen.specs.declared.instruction.Operation.{Operation}
 use Rattle.job_gen.specs.declared.instruction.Operation.TheVariants.{La, Ar, Ltr, Bc, Lcr, St, Bct, Br}
-use Rattle.job_gen.specs.Code.{object, code_from}
-use Rattle.job_gen.specs.Listing.{name_of, groups, object_text, number_text, plain_line, lines_from, heading, listing_of}
-use Rattle.job_gen.specs.Trial.{task_name, trial_task, trial_session, trial_code, trial_module, trial_job}
+use Rattle.job_gen.specs.Meaning.{object, code_from, name_of, groups, object_text, number_text, plain_line, lines_from, heading, listing_of, task_name, trial_task, trial_session, trial_code, trial_module, trial_job}
 use Rattle.job_gen.proofs.CodeLemmas.{code_size, code_some}
 use Rattle.job_gen.proofs.LineLemmas.{second_group}
 

@@ -9,22 +9,20 @@ use Rattle.std.proofs.lemmas.Bool.Decides.{nat_tests}
 use Rattle.std.proofs.lemmas.Fmt.{length-decimal-le}
 use Rattle.std.proofs.lemmas.List.{length-replicate, get_or-drop}
 use Rattle.hex.specs.Hex.{hex_digit_value, is_hex_digit}
-use Rattle.annotator.specs.Digits.{hex_digits}
-use Rattle.cov_base.specs.Codes.{length_of}
+use Rattle.annotator.specs.Meaning.{hex_digits}
+use Rattle.cov_base.specs.Meaning.{length_of}
 use Rattle.listing_lines.specs.declared.columns.Columns.{Columns}
 use Rattle.listing_lines.specs.declared.columns.Width.TheVariants.{Narrow}
-use Rattle.listing_lines.specs.Columns.{columns_of, column}
-use Rattle.listing_reader.specs.Fields.{all_below, fits_groups, are_blank, is_blank, is_blank_at, number_in, location_of, byte_in, code_in, are_groups, object_of, skip_blanks, run_of, has_mnemonic, is_instruction}
-use Rattle.listing_reader.specs.Listing.{line_of}
+use Rattle.listing_lines.specs.Meaning.{columns_of, column}
+use Rattle.listing_reader.specs.Meaning.{all_below, fits_groups, are_blank, is_blank, is_blank_at, number_in, location_of, byte_in, code_in, are_groups, object_of, skip_blanks, run_of, has_mnemonic, is_instruction, line_of}
 use Rattle.listing_reader.proofs.Digits.{all_below_false, number_in_more, byte_in_two}
 use Rattle.listing_reader.specs.declared.lines.Line.TheVariants as says
-use Rattle.s370_decode.specs.Mnemonics.{mnemonics, is_mnemonic}
+use Rattle.s370_decode.specs.Meaning.{mnemonics, is_mnemonic}
 use Rattle.s370_decode.specs.declared.code.Code.{Code}
-use Rattle.job_gen.specs.Code.{object}
+use Rattle.job_gen.specs.Meaning.{object, name_of, groups, object_text, number_text, plain_line}
 use Rattle.job_gen.specs.declared.instruction.Instruction.{Instruction}
 use Rattle.job_gen.specs.declared.instruction.Operation.{Operation}
 use Rattle.job_gen.specs.declared.instruction.Operation.TheVariants.{La, Ar, Ltr, Bc, Lcr, St, Bct, Br}
-use Rattle.job_gen.specs.Listing.{name_of, groups, object_text, number_text, plain_line}
 
 abbrev pub narrow : Columns
 narrow = columns_of Narrow

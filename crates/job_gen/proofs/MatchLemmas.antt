@@ -7,23 +7,21 @@ use Rattle.std.proofs.lemmas.Bool.{cond_both}
 use Rattle.std.proofs.lemmas.Bool.Decides.{nat_tests}
 use Rattle.std.proofs.lemmas.List.{get_or-append-add}
 use Rattle.std.proofs.lemmas.List.Sums.{count_by-le-length}
-use Rattle.cov_base.specs.Codes.{breakpoint, length_of}
+use Rattle.cov_base.specs.Meaning.{breakpoint, length_of}
 use Rattle.listing_lines.specs.declared.columns.Width.TheVariants.{Narrow}
-use Rattle.listing_lines.specs.Heading.{narrow_text, is_text_after, heading_of}
-use Rattle.listing_reader.specs.Listing.{line_of, lines_behind}
-use Rattle.listing_reader.specs.Listing as reader
+use Rattle.listing_lines.specs.Meaning.{narrow_text, is_text_after, heading_of}
+use Rattle.listing_reader.specs.Meaning.{line_of, lines_behind}
+use Rattle.listing_reader.specs.Meaning as reader
 use Rattle.listing_reader.specs.declared.lines.Line.{Line}
 use Rattle.listing_reader.specs.declared.lines.Line.TheVariants.{Text}
 use Rattle.listing_reader.specs.declared.lines.Line.TheVariants as says
-use Rattle.brk_table.specs.Build.{is_code, shares, module_code, fault_by, first_fault}
-use Rattle.s370_decode.specs.Fields.{first_half}
+use Rattle.brk_table.specs.Meaning.{is_code, shares, module_code, fault_by, first_fault}
+use Rattle.s370_decode.specs.Meaning.{first_half}
 use Rattle.s370_decode.specs.declared.code.Code.{Code}
-use Rattle.job_gen.specs.Code.{object, short, long, test_block, drawn, next, kind, block_of, block, bytes_of, code_from}
+use Rattle.job_gen.specs.Meaning.{object, short, long, test_block, drawn, next, kind, block_of, block, bytes_of, code_from, lines_from, heading, listing_of, trial_code, trial_module}
 use Rattle.job_gen.specs.declared.instruction.Instruction.{Instruction}
 use Rattle.job_gen.specs.declared.instruction.Operation.{Operation}
 use Rattle.job_gen.specs.declared.instruction.Operation.TheVariants.{La, Ar, Ltr, Bc, Lcr, St, Bct, Br}
-use Rattle.job_gen.specs.Listing.{lines_from, heading, listing_of}
-use Rattle.job_gen.specs.Trial.{trial_code, trial_module}
 use Rattle.job_gen.proofs.CodeLemmas.{code_more, code_end, code_size, block_size}
 use Rattle.job_gen.proofs.LineLemmas.{IsSound, code_of, narrow, plain, halves, line_is}
 

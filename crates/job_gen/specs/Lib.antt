@@ -1,3 +1,1 @@
-pub mod Code
-pub mod Listing
-pub mod Trial
+pub mod Meaning

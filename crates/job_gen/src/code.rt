@@ -1,6 +1,6 @@
 //! The code of a generated module, drawn block by block.
 ghost use Rattle.std.specs.Prelude.{◌≡◌, ◌+◌, ◌*◌, ◌≤◌, ◌<◌, ◌++◌, length, IfOk};
-ghost use Rattle.job_gen.specs.Code.{next, drawn, test_block, block, after_block, bytes_of, code_from};
+ghost use Rattle.job_gen.specs.Meaning.{next, drawn, test_block, block, after_block, bytes_of, code_from};
 
 use crate::instruction::{Instruction, Operation};
 use cov_base::NoMemory;

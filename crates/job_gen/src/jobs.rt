@@ -1,7 +1,7 @@
 //! The whole job.
 ghost use Rattle.std.specs.Prelude.{◌≡◌, ◌≤◌, ◌∷◌, [], IfOk};
-ghost use Rattle.cov_base.specs.Names.{padded};
-ghost use Rattle.job_gen.specs.Trial.{trial_job};
+ghost use Rattle.cov_base.specs.Meaning.{padded};
+ghost use Rattle.job_gen.specs.Meaning.{trial_job};
 
 use crate::code::code_of;
 use crate::listing::{bytes_of, listing_of};

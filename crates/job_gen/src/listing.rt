@@ -1,8 +1,7 @@
 //! The bytes and the listing of a generated module.
 ghost use Rattle.std.specs.Prelude.{◌≡◌, ◌+◌, ◌-◌, ◌≤◌, ◌<◌, ◌++◌, length, replicate, IfOk};
 ghost use Rattle.arrayvec.specs.ArrayVec.{array_vec_len};
-ghost use Rattle.job_gen.specs.Code.{bytes_of, object};
-ghost use Rattle.job_gen.specs.Listing.{name_of, object_text, number_text, plain_line, listing_of, heading};
+ghost use Rattle.job_gen.specs.Meaning.{bytes_of, object, name_of, object_text, number_text, plain_line, listing_of, heading};
 
 use crate::instruction::{Instruction, Operation};
 use annotator::text::{add_hex, add_number, add_text};
@@ -36,7 +35,7 @@ fn fill(line: &mut ArrayVec<u8, 160>, columns: usize)
 }
 
 /// The object code in groups of four digits, in 27 columns.
-#[tactic(auto, unfolding(crate::specs::Listing::object_text))]
+#[tactic(auto, unfolding(crate::specs::Meaning::object_text))]
 fn object_text(instruction: &Instruction) -> ArrayVec<u8, 160>
     ensures items { result.items ≡ object_text instruction.now }
     ensures len { array_vec_len result ≡ 27 }
@@ -52,7 +51,7 @@ fn object_text(instruction: &Instruction) -> ArrayVec<u8, 160>
 }
 
 /// The number in decimal, right in 5 columns where it has at most 5 digits.
-#[tactic(auto, unfolding(crate::specs::Listing::number_text))]
+#[tactic(auto, unfolding(crate::specs::Meaning::number_text))]
 fn number_text(number: u32) -> ArrayVec<u8, 160>
     ensures items { result.items ≡ number_text number }
     ensures short { array_vec_len result ≤ 10 }
@@ -86,7 +85,7 @@ fn add_name(line: &mut ArrayVec<u8, 160>, operation: Operation)
 }
 
 /// The line of an instruction at a location, with its statement's number.
-#[tactic(auto, unfolding(crate::specs::Listing::plain_line))]
+#[tactic(auto, unfolding(crate::specs::Meaning::plain_line))]
 fn plain_line(at: u32, number: u32, instruction: &Instruction) -> ArrayVec<u8, 160>
     requires { at < 16777216 }
     ensures { result.items ≡ plain_line at number instruction.now }

@@ -1,7 +1,7 @@
 //! The tasks of a generated job.
 ghost use Rattle.std.specs.Prelude.{◌≡◌, ◌≤◌, ◌<◌, IfOk, map};
 ghost use Rattle.std.specs.List.{range_with_len};
-ghost use Rattle.job_gen.specs.Trial.{task_name, trial_task};
+ghost use Rattle.job_gen.specs.Meaning.{task_name, trial_task};
 
 use cov_base::{Addr, Name, NoMemory, RETURN_ADDRESS};
 use session_book::TaskCard;
@@ -24,7 +24,7 @@ fn task_name(k: u32) -> Name
 }
 
 /// The card of task k.
-#[tactic(auto, unfolding(crate::specs::Trial::trial_task))]
+#[tactic(auto, unfolding(crate::specs::Meaning::trial_task))]
 fn task(alloc: Global, k: u32) -> TaskCard
     requires { k < 100 }
     ensures { result ≡ trial_task k }

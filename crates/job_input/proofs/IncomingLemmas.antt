@@ -3,13 +3,10 @@ use Rattle.std.proofs.Common.{◌≡◌, ℕ, ◌+◌, ◌-◌, ◌<◌, ◌≤�
 use Rattle.std.proofs.Math.Seq.{drop-append_seam}
 use Rattle.std.specs.Io.KnownBytes.{Consumes}
 use Rattle.cov_outside.proofs.Pieces.{consumes-trans}
-use Rattle.session_book.specs.JobView.{JobView}
-use Rattle.job_text.specs.Drafts.{Present}
-use Rattle.job_text.specs.Limits.{IsWithin}
-use Rattle.job_text.specs.Lines.{lines_of}
+use Rattle.session_book.specs.Meaning.{JobView}
+use Rattle.job_text.specs.Meaning.{Present, IsWithin, lines_of, IsBadAt, IsRefusal, Spells}
 use Rattle.job_text.specs.Pieces.{IsEnded}
-use Rattle.job_text.specs.Refusals.{IsRead, IsOnly, IsBadAt, IsRefusal}
-use Rattle.job_text.specs.Spells.{Spells}
+use Rattle.job_text.specs.Refusals.{IsRead, IsOnly}
 use Rattle.job_text.specs.Taken.{IsFed, told, has_ended, fed_size}
 use Rattle.job_text.specs.declared.jobs.JobFault.{JobFault}
 use Rattle.job_text.specs.declared.jobs.ReadJob.{ReadJob}

@@ -1,19 +1,17 @@
 -- What a whole input's size says of its lines.
 use Rattle.std.proofs.Common.{◌≡◌, ◌≤◌, ℕ, ◌+◌, ◌-◌, Bool, true, false, Option, Some, None, Err, List, length, length-append, length-drop, take, drop, get_or, refl, sym, ap, ◌∙◌, arith, All}
 use Rattle.std.proofs.lemmas.List.{length-take-le, take_all, take_at, drop_at}
-use Rattle.session_book.specs.JobView.{JobView}
-use Rattle.job_text.specs.Drafts.{Present}
-use Rattle.job_text.specs.Lines.{LineView, lines_of}
-use Rattle.job_text.specs.Refusals.{IsRead, IsBadAt, IsRefusal, IsOnly}
-use Rattle.job_text.specs.Limits.{IsWithin}
+use Rattle.session_book.specs.Meaning.{JobView}
+use Rattle.job_text.specs.Meaning.{Present, LineView, lines_of, IsBadAt, IsRefusal, IsWithin, Spells}
+use Rattle.job_text.specs.Refusals.{IsRead, IsOnly}
 use Rattle.job_text.specs.declared.jobs.JobFault.{JobFault}
 use Rattle.job_text.specs.declared.jobs.JobFault.TheVariants as fault
 use Rattle.job_text.specs.declared.jobs.ReadJob.{ReadJob}
-use Rattle.job_text.specs.Spells.{Spells}
 use Rattle.job_text.proofs.Excluded.{IsFew, listings_few, never_bad}
 use Rattle.job_text.proofs.Spans.{lines_count}
 use Rattle.report_text.specs.Conditions.{HasFewLines}
-use Rattle.job_input.specs.Inputs.{SourceChange, CameWhole, CameJobless, HasJob, IsInput}
+use Rattle.job_input.specs.Meaning.{SourceChange, CameWhole, CameJobless, HasJob}
+use Rattle.job_input.specs.Inputs.{IsInput}
 use Rattle.job_input.specs.declared.reading.Input.{Input}
 
 few_of : (lines : List LineView) (j : JobView) → length lines ≤ 16777216 → Spells Present lines j → HasFewLines j

@@ -2,16 +2,14 @@
 use Rattle.std.proofs.Common.{◌≡◌, ℕ, ◌<◌, ◌≤◌, Bool, true, false, nat_eq, if◌then◌else◌, Option, Some, None, List, [], ◌∷◌, ◌++◌, length, take, refl, sym, ◌∙◌, ap, subst, arith}
 use Rattle.std.proofs.lemmas.Bool.{eqb-true}
 use Rattle.std.proofs.lemmas.List.{append-nil}
-use Rattle.cov_outside.specs.Causes.{Rose}
-use Rattle.cov_outside.specs.Whole.{IsWhole, HasMoreThan}
+use Rattle.cov_outside.specs.Meaning.{Rose, IsWhole, HasMoreThan}
 use Rattle.cov_outside.specs.declared.whole.ReadFault.{ReadFault}
 use Rattle.cov_outside.specs.declared.whole.ReadFault.TheVariants as read
-use Rattle.session_book.specs.JobView.{JobView}
-use Rattle.job_text.specs.Lines.{LineView, lines_of, put_on}
-use Rattle.job_text.specs.Drafts.{Present}
-use Rattle.job_text.specs.Spells.{Spells}
+use Rattle.session_book.specs.Meaning.{JobView}
+use Rattle.job_text.specs.Meaning.{LineView, lines_of, put_on, Present, Spells}
 use Rattle.job_text.proofs.Spelled.{one_first}
-use Rattle.job_input.specs.Inputs.{SourceChange, HasJob, CameWhole, CameJob, CameJobless, CameWith, IsJobFault, IsReadFault, input_limit}
+use Rattle.job_input.specs.Meaning.{SourceChange, HasJob, CameWhole, CameJob, CameJobless, IsJobFault, IsReadFault, input_limit}
+use Rattle.job_input.specs.Inputs.{CameWith}
 use Rattle.job_text.specs.declared.jobs.JobFault.{JobFault}
 
 all_of : (b bytes : List ℕ) (rest : Option (List ℕ)) → IsWhole (Some b) rest bytes → b ≡ bytes

@@ -1,12 +1,10 @@
 -- What has come of an input: a job that is read meanwhile, and the bytes behind it.
 use Rattle.std.specs.Prelude.{◌≡◌, ℕ, ◌<◌, true, false, List, [], ◌++◌, length}
-use Rattle.session_book.specs.JobView.{JobView}
-use Rattle.job_text.specs.Drafts.{Present}
-use Rattle.job_text.specs.Limits.{IsWithin}
-use Rattle.job_text.specs.Lines.{lines_of, IsClosed}
-use Rattle.job_text.specs.Spells.{Spells}
+use Rattle.session_book.specs.Meaning.{JobView}
+use Rattle.job_text.specs.Meaning.{Present, IsWithin, lines_of, Spells}
+use Rattle.job_text.specs.Lines.{IsClosed}
 use Rattle.job_text.specs.Taken.{IsFed, has_ended}
-use Rattle.job_input.specs.Inputs.{SourceChange, CameWhole}
+use Rattle.job_input.specs.Meaning.{SourceChange, CameWhole}
 use Rattle.job_input.specs.declared.incoming.Incoming.{Incoming}
 
 -- bytes that an LF ends, and they spell a job

@@ -1,80 +1,12 @@
 -- What came from a source: bytes, and the job that stands in their first lines; or why none did.
-use Rattle.std.specs.Prelude.{◌≡◌, ℕ, ◌+◌, ◌≤◌, Bool, true, false, Option, List, length, take, drop}
-use Rattle.cov_outside.specs.Causes.{Rose}
-use Rattle.cov_outside.specs.Whole.{IsWhole, HasMoreThan}
-use Rattle.cov_outside.specs.declared.whole.ReadFault.{ReadFault}
-use Rattle.cov_outside.specs.declared.whole.ReadFault.TheVariants as read
+use Rattle.std.specs.Prelude.{◌≡◌, ℕ, ◌+◌, ◌≤◌, Bool, true, List, length, drop}
 use Rattle.report_text.specs.Conditions.{HasFewLines}
-use Rattle.session_book.specs.JobView.{JobView}
-use Rattle.job_text.specs.declared.jobs.JobFault.{JobFault}
-use Rattle.job_text.specs.declared.jobs.JobFault.TheVariants as fault
-use Rattle.job_text.specs.Drafts.{Present}
-use Rattle.job_text.specs.Limits.{IsWithin}
-use Rattle.job_text.specs.Lines.{LineView, lines_of}
-use Rattle.job_text.specs.Refusals.{IsRefusal}
-use Rattle.job_text.specs.Spells.{Spells}
+use Rattle.session_book.specs.Meaning.{JobView}
+use Rattle.job_text.specs.Meaning.{lines_of}
 use Rattle.job_input.specs.declared.faults.InputFault.{InputFault}
 use Rattle.job_input.specs.declared.faults.InputFault.TheVariants.{Source, Job}
 use Rattle.job_input.specs.declared.reading.Input.{Input}
-
--- what a source had left, and its count of faults, before a call and after it
-pub record SourceChange : Type 0 where
-  pub left : Option (List ℕ)
-  pub rest : Option (List ℕ)
-  pub faults : ℕ
-  pub later : ℕ
-
-abbrev pub source_change : {S : Type 0} → (S → Option (List ℕ)) → (S → ℕ) → S → S → SourceChange
-source_change left faults old new = record { left = left old; rest = left new; faults = faults old; later = faults new }
-
--- the most bytes of input
-abbrev pub input_limit : ℕ
-input_limit = 16777216
-
--- the source was read to its end, and these bytes came
-pub record CameWhole (s : SourceChange) (bytes : List ℕ) : Type 0 where
-  pub whole : IsWhole s.left s.rest bytes
-  pub within : length bytes ≤ input_limit
-  pub no_fault : s.later ≡ s.faults
-
--- why it wasn't; want of memory may come at any time
-abbrev pub IsReadFault : SourceChange → ReadFault → Type 0
-IsReadFault s read.Failed = Rose s.faults s.later
-IsReadFault s read.TooLarge = HasMoreThan s.left input_limit × (s.later ≡ s.faults)
-IsReadFault s read.NoMemory = Unit {0}
-
--- how an input with a job is read: whether more than a job may stand in it
-abbrev pub to_end : Bool
-to_end = false
-
-abbrev pub to_go_on : Bool
-to_go_on = true
-
--- The first lines of an input, so many, spell this job, which is within the limits. Others stand behind them only where
--- more than a job may.
-pub record HasJob (more : Bool) (all : List LineView) (j : JobView) : Type 0 where
-  pub count : ℕ
-  pub inside : count ≤ length all
-  pub spells : Spells Present (take count all) j
-  pub within : IsWithin j
-  pub over : more ≡ false → count ≡ length all
-
--- the bytes that came have this job
-pub record CameJob (more : Bool) (s : SourceChange) (j : JobView) : Type 0 where
-  pub bytes : List ℕ
-  pub came : CameWhole s bytes
-  pub has : HasJob more (lines_of bytes) j
-
--- why bytes have no job; where they have one it is want of memory
-pub record IsJobFault (more : Bool) (bytes : List ℕ) (e : JobFault) : Type 0 where
-  pub first : IsRefusal (lines_of bytes) e
-  pub jobless : (j : JobView) → HasJob more (lines_of bytes) j → e ≡ fault.NoMemory
-
--- and why those that came have none
-pub record CameJobless (more : Bool) (s : SourceChange) (e : JobFault) : Type 0 where
-  pub bytes : List ℕ
-  pub came : CameWhole s bytes
-  pub is : IsJobFault more bytes e
+use Rattle.job_input.specs.Meaning.{SourceChange, input_limit, CameWhole, IsReadFault, HasJob, CameJobless}
 
 abbrev pub IsInputFault : Bool → SourceChange → InputFault → Type 0
 IsInputFault more s (Source e) = IsReadFault s e

@@ -1,2 +1,3 @@
 pub mod Incoming
 pub mod Inputs
+pub mod Meaning

@@ -8,4 +8,4 @@ mod incoming;
 mod reading;
 
 pub use faults::InputFault;
-pub use reading::{Input, read_input, job_of_source};
+pub use reading::{Input, job_of_source, read_input};

@@ -1,6 +1,7 @@
 //! A source that is read to its end, and the job of its first lines.
 ghost use Rattle.std.specs.Prelude.{IfOk, IfErr};
-ghost use Rattle.job_input.specs.Inputs.{CameWhole, IsInput, IsInputFault, IsReadFault, source_change};
+ghost use Rattle.job_input.specs.Meaning.{CameWhole, IsReadFault, source_change};
+ghost use Rattle.job_input.specs.Inputs.{IsInput, IsInputFault};
 
 use crate::faults::InputFault;
 use crate::incoming::Incoming;

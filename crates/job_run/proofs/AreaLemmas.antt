@@ -6,18 +6,18 @@ use Rattle.std.specs.declared.result.Result.TheVariants.{Ok, Err}
 use Rattle.cov_base.specs.declared.shortage.NoMemory.{NoMemory}
 use Rattle.std.proofs.lemmas.Bool.Decides.{nat_tests}
 use Rattle.std.proofs.lemmas.List.{take_all}
-use Rattle.cov_base.specs.States.{Visit}
+use Rattle.cov_base.specs.Meaning.{Visit}
 use Rattle.module_area.specs.Ended.{HasSets, HasTally}
-use Rattle.module_area.specs.FinalsView.{FinalsView}
+use Rattle.module_area.specs.Meaning.{FinalsView, PlanView, window_at}
 use Rattle.module_area.specs.Notes.{Notes, root_notes}
-use Rattle.module_area.specs.PlanView.{PlanView, IsPlan, window_at, is_controller}
+use Rattle.module_area.specs.PlanView.{IsPlan, is_controller}
 use Rattle.module_area.proofs.PlanLemmas.{no_controller}
 use Rattle.module_area.specs.declared.tallies.Tally.{Tally}
 use Rattle.planter.specs.Planted.{planted_notes}
 use Rattle.task_run.proofs.SetLemmas.{IsReady, exact_set, exact_lifts}
-use Rattle.task_run.specs.Courses.{Walk}
-use Rattle.task_run.specs.Windows.{opened_places}
-use Rattle.job_run.specs.Areas.{EndsArea, GrowsBy}
+use Rattle.task_run.specs.Meaning.{Walk, opened_places}
+use Rattle.job_run.specs.Meaning.{EndsArea}
+use Rattle.job_run.specs.Areas.{GrowsBy}
 use Rattle.job_run.specs.Bounds.{JoinsTasks}
 use Rattle.job_run.specs.Passes.{JoinsAll, after_planting}
 use Rattle.job_run.proofs.BoundLemmas.{bounded}

@@ -3,16 +3,14 @@ use Rattle.std.proofs.Common.{◌≡◌, inl, inr, ℕ, ◌+◌, ◌<◌, true, 
 use Rattle.std.proofs.lemmas.Bool.{cases_Bool}
 use Rattle.std.specs.declared.result.Result.{Result}
 use Rattle.std.specs.declared.result.Result.TheVariants.{Ok, Err}
-use Rattle.cov_base.specs.FactSet.{FactSet}
+use Rattle.cov_base.specs.Meaning.{FactSet}
 use Rattle.cov_base.specs.declared.shortage.NoMemory.{NoMemory}
 use Rattle.module_area.specs.Ended.{AreSettled}
-use Rattle.module_area.specs.FinalsView.{FinalsView, set_at}
+use Rattle.module_area.specs.Meaning.{FinalsView, set_at, PlanView}
 use Rattle.module_area.specs.Notes.{Notes}
-use Rattle.module_area.specs.PlanView.{PlanView}
 use Rattle.module_area.specs.declared.places.Place.{Place}
-use Rattle.task_run.specs.Courses.{Course}
-use Rattle.session_book.specs.JobView.{JobView}
-use Rattle.session_book.specs.Sessions.{plan_view}
+use Rattle.task_run.specs.Meaning.{Course}
+use Rattle.session_book.specs.Meaning.{JobView, plan_view}
 use Rattle.job_run.specs.Crews.{AreBack, phase_at}
 use Rattle.job_run.specs.Passes.{AreEquipped, EndsTask, KnowsFinal}
 use Rattle.job_run.specs.Slots.{AreEmpty, HaveExtras, KeepsOthers, in_phase}

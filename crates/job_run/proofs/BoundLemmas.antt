@@ -5,9 +5,7 @@ use Rattle.std.proofs.lemmas.Bool.{or_cases, or_left, or_right, and_from, both_w
 use Rattle.std.proofs.lemmas.List.{get_or_default, take-append-drop}
 use Rattle.std.proofs.lemmas.List.Folds.{list_any-append}
 use Rattle.std.proofs.lemmas.List.Sums.{sum_by_push}
-use Rattle.cov_base.specs.FactSet.{FactSet}
-use Rattle.cov_base.specs.Facts.{has_fact, same_fact, fact_of}
-use Rattle.cov_base.specs.States.{Visit}
+use Rattle.cov_base.specs.Meaning.{FactSet, has_fact, same_fact, fact_of, Visit}
 use Rattle.cov_base.specs.declared.facts.Fact.{Fact}
 use Rattle.cov_base.specs.declared.numbers.PlaceNo.{PlaceNo}
 use Rattle.cov_base.specs.declared.numbers.SessNo.{SessNo}
@@ -15,24 +13,21 @@ use Rattle.cov_base.specs.declared.numbers.TaskNo.{TaskNo}
 use Rattle.module_area.specs.declared.cells.Cell.{Cell}
 use Rattle.module_area.specs.declared.places.Place.{Place}
 use Rattle.module_area.specs.declared.tallies.Tally.{Tally}
-use Rattle.module_area.specs.PlanView.{PlanView, ControlledView, IsPlan, IsControlled, AreApart, place_of, kind_at, has_place, has_task, is_controller}
-use Rattle.module_area.specs.Control.{ControlView, first_control, places_in, places_under}
+use Rattle.module_area.specs.Meaning.{PlanView, ControlledView, place_of, kind_at, has_place, ControlView, first_control, places_in, places_under, executes, facts_at, facts_of_all, is_place, FinalsView, set_at, has_session}
+use Rattle.module_area.specs.PlanView.{IsPlan, IsControlled, AreApart, has_task, is_controller}
 use Rattle.module_area.specs.Ended.{HasSets}
-use Rattle.module_area.specs.Executions.{executes, facts_at, facts_of_all, is_place}
-use Rattle.module_area.specs.FinalsView.{FinalsView, set_at}
 use Rattle.module_area.specs.Notes.{Notes, bearer, calls, keeps, split_notes, after_join}
-use Rattle.module_area.specs.Tied.{has_session, keeps_session_as, IsTied}
+use Rattle.module_area.specs.Tied.{keeps_session_as, IsTied}
 use Rattle.module_area.proofs.PlanLemmas.{any_at, any_shown, one_controller}
 use Rattle.brk_table.proofs.PlaceLemmas.{is_place-there}
 use Rattle.planter.proofs.TieLemmas.{has_here}
 use Rattle.svc_monitor.specs.Answered.{Answered, ArePairs, IsPair, at_places, facts_under, is_under}
 use Rattle.svc_monitor.proofs.ObservedLemmas.{has_fact-more}
-use Rattle.task_run.specs.Called.{control_by, last_by, places_in_all, Follows, HasWindows, HasPlanted}
-use Rattle.task_run.specs.Courses.{Walk}
-use Rattle.task_run.specs.Windows.{is_opened, visits_under, last_control, opened_by, closed_by, least_set, most_set, traces_but, IsBetween}
+use Rattle.task_run.specs.Meaning.{control_by, places_in_all, Walk, is_opened, visits_under, last_control, opened_by, closed_by, least_set, most_set, traces_but, IsBetween}
+use Rattle.task_run.specs.Called.{last_by, Follows, HasWindows, HasPlanted}
 use Rattle.task_run.proofs.CloseLemmas.{closes_closed}
 use Rattle.task_run.proofs.SetLemmas.{facts_at-kind, has_fact-full_of, has_fact-union}
-use Rattle.job_run.specs.Areas.{IsBounded}
+use Rattle.job_run.specs.Meaning.{IsBounded}
 use Rattle.job_run.specs.Bounds.{IsOwn, Leaves, JoinsTasks, NeverOpens, no_controlled}
 
 -- facts of visits while a session is open, and of pairs under its odd tag

@@ -4,11 +4,10 @@ use Rattle.std.proofs.lemmas.Bool.{cases_Bool}
 use Rattle.std.proofs.lemmas.Bool.Decides.{nat_tests}
 use Rattle.std.proofs.lemmas.List.{get_or_append_left, length-append}
 use Rattle.std.proofs.Math.Seq.{get_or-append_seam}
-use Rattle.module_area.specs.PlanView.{PlanView}
+use Rattle.module_area.specs.Meaning.{PlanView}
 use Rattle.module_area.specs.declared.places.Place.{Place}
-use Rattle.task_run.specs.Courses.{Course}
-use Rattle.session_book.specs.JobView.{JobView}
-use Rattle.session_book.specs.Sessions.{task_of}
+use Rattle.task_run.specs.Meaning.{Course}
+use Rattle.session_book.specs.Meaning.{JobView, task_of}
 use Rattle.job_run.specs.Crews.{Each, Own, phase_at}
 use Rattle.job_run.specs.Passes.{AreEquipped, HasStart}
 use Rattle.job_run.specs.Slots.{in_phase, AreEmpty, KeepsOthers}

@@ -1,9 +1,9 @@
 -- A root that has observed some visits, and a pass joined to it that has observed others.
 use Rattle.std.proofs.Common.{◌≡◌, ℕ, ◌+◌, ◌*◌, true, false, max, List, ◌++◌, inl, inr, refl, arith}
 use Rattle.std.proofs.lemmas.Bool.{or_cases, or_left, or_right}
-use Rattle.cov_base.specs.States.{Visit}
+use Rattle.cov_base.specs.Meaning.{Visit}
 use Rattle.module_area.specs.Notes.{Notes, split_notes, after_join}
-use Rattle.module_area.specs.PlanView.{PlanView}
+use Rattle.module_area.specs.Meaning.{PlanView}
 use Rattle.svc_monitor.specs.Observed.{Observes, Stays}
 use Rattle.svc_monitor.proofs.ObservedLemmas.{shows_before, shows_behind, shows_either, visits_at_places-append}
 use Rattle.job_run.specs.Passes.{JoinsAll}

@@ -1,14 +1,14 @@
 -- Phases one after the other.
 use Rattle.std.proofs.Common.{◌≡◌, ℕ, ◌+◌, ◌<◌, zero, suc, List, [], ◌∷◌, ◌++◌, length, get_or, drop, take, refl, sym, ◌∙◌, ap, subst, arith}
 use Rattle.std.proofs.lemmas.List.{append_assoc, append-nil, drop_all, take_more, take_all, length-take-le}
-use Rattle.module_area.specs.FinalsView.{FinalsView}
+use Rattle.module_area.specs.Meaning.{FinalsView}
 use Rattle.module_area.specs.declared.places.Place.{Place}
 use Rattle.module_area.specs.declared.tallies.Tally.{Tally}
-use Rattle.task_run.specs.Courses.{Course}
-use Rattle.session_book.specs.JobView.{JobView}
-use Rattle.session_book.specs.Sessions.{plan_view}
-use Rattle.job_run.specs.Areas.{EndsArea, GrowsBy}
-use Rattle.job_run.specs.Runs.{Account, AreEnded, HasLeftBy, phase_trace, walk_by}
+use Rattle.task_run.specs.Meaning.{Course}
+use Rattle.session_book.specs.Meaning.{JobView, plan_view}
+use Rattle.job_run.specs.Meaning.{EndsArea, Account, AreEnded, phase_trace, walk_by}
+use Rattle.job_run.specs.Areas.{GrowsBy}
+use Rattle.job_run.specs.Runs.{HasLeftBy}
 
 -- one area more
 pub AreEnded-more : (run : Course) (j : JobView) (places : List Place) (phase : ℕ) (ns : List (List ℕ)) (n : List ℕ) (fs : List FinalsView) (f : FinalsView) (ts : List Tally) (t : Tally) →

@@ -2,7 +2,7 @@
 use Rattle.std.proofs.Common.{◌≡◌, inl, inr, ℕ, ◌+◌, ◌-◌, ◌<◌, ◌≤◌, Bool, true, false, List, ◌++◌, length, get_or, take, drop, refl, sym, ◌∙◌, ap, subst, arith}
 use Rattle.std.proofs.lemmas.List.{get_or-drop, get_or-take, get_or_append_left, get_or-append_right, length-append, length-drop, length-take-le}
 use Rattle.std.proofs.lemmas.Bool.{cases_lt}
-use Rattle.session_book.specs.JobView.{JobView}
+use Rattle.session_book.specs.Meaning.{JobView}
 use Rattle.job_run.specs.Crews.{Each, EachAt}
 use Rattle.job_run.specs.Slots.{in_phase, IsRange}
 

@@ -7,24 +7,19 @@ use Rattle.std.proofs.lemmas.List.{get_or-map, length-map}
 use Rattle.std.proofs.lemmas.List.Concat.{flat_map-cons}
 use Rattle.std.proofs.lemmas.List.Elements.{All-get_or}
 use Rattle.std.proofs.lemmas.Option.{same_Some}
-use Rattle.cov_base.specs.FactSet.{FactSet}
-use Rattle.cov_base.specs.Facts.{no_facts, is_within}
+use Rattle.cov_base.specs.Meaning.{FactSet, no_facts, is_within, Visit}
 use Rattle.cov_base.specs.declared.facts.Kind.{Kind}
 use Rattle.cov_base.specs.declared.facts.Kind.TheVariants.{Straight, Conditional}
 use Rattle.cov_base.specs.declared.numbers.PlaceNo.{PlaceNo}
-use Rattle.cov_base.specs.States.{Visit}
-use Rattle.module_area.specs.Executions.{facts_at}
-use Rattle.module_area.specs.FinalsView.{FinalsView, set_at}
-use Rattle.module_area.specs.PlanView.{PlanView, ControlledView, place_of, no_place, window_at}
+use Rattle.module_area.specs.Meaning.{facts_at, FinalsView, set_at, PlanView, ControlledView, place_of, no_place, window_at}
 use Rattle.module_area.specs.declared.places.Place.{Place}
 use Rattle.task_run.proofs.SetLemmas.{facts_of_all-one}
-use Rattle.task_run.specs.Courses.{Course}
-use Rattle.task_run.specs.Windows.{IsBetween}
-use Rattle.session_book.specs.JobView.{JobView, SessionView, IsJob, IsSession, AreParted, is_same_controller}
-use Rattle.session_book.specs.Sessions.{session_of, no_session, is_whole, observes, window_from, window_of, plan_view, traces_from, places_from, with_controlled, controlled_from}
-use Rattle.job_run.specs.Areas.{IsBounded}
-use Rattle.job_run.specs.Runs.{Account, HasLeftBy, joined, phase_trace, set_by, least_by, most_by, trace_by, walk_by}
-use Rattle.job_run.specs.Sets.{SetsView, IsSized, no_finals, set_left, set_in}
+use Rattle.task_run.specs.Meaning.{Course, IsBetween}
+use Rattle.session_book.specs.Meaning.{JobView, SessionView, session_of, no_session, is_whole, observes, window_from, window_of, plan_view, traces_from, places_from, with_controlled, controlled_from}
+use Rattle.session_book.specs.JobView.{IsJob, IsSession, AreParted, is_same_controller}
+use Rattle.job_run.specs.Meaning.{IsBounded, Account, joined, phase_trace, set_by, least_by, most_by, trace_by, walk_by, no_finals, set_left}
+use Rattle.job_run.specs.Runs.{HasLeftBy}
+use Rattle.job_run.specs.Sets.{SetsView, IsSized, set_in}
 use Rattle.job_run.specs.Outcomes.{AreExtras, HasEnded, IsOutcomeBy}
 use Rattle.job_run.specs.Slots.{dones, extras_of, HaveAllExtras}
 use Rattle.job_run.specs.Tasks.{Ends, AreRun}

@@ -4,34 +4,33 @@ use Rattle.std.proofs.lemmas.Bool.{cases_Bool, eqb-true}
 use Rattle.std.proofs.lemmas.Bool.Decides.{nat_tests}
 use Rattle.std.proofs.lemmas.List.{append_assoc, append-nil, length-append, map-append}
 use Rattle.std.proofs.lemmas.List.Folds.{list_any-append}
-use Rattle.cov_base.specs.FactSet.{FactSet}
-use Rattle.cov_base.specs.Memory.{Memory}
-use Rattle.cov_base.specs.States.{Visit}
+use Rattle.cov_base.specs.Meaning.{FactSet, Memory, Visit}
 use Rattle.cov_base.specs.declared.limits.TheConstants.{PLACE_LIMIT}
 use Rattle.cov_base.specs.declared.numbers.TaskNo.{TaskNo}
-use Rattle.module_area.specs.Control.{ControlView, first_control}
+use Rattle.module_area.specs.Meaning.{ControlView, first_control, PlanView}
 use Rattle.module_area.specs.Ended.{AreSettled}
 use Rattle.module_area.specs.Notes.{Notes, bearer, calls, is_working, split_notes, after_split, after_join}
-use Rattle.module_area.specs.PlanView.{PlanView, IsPlan, has_task, is_controller}
+use Rattle.module_area.specs.PlanView.{IsPlan, has_task, is_controller}
 use Rattle.module_area.specs.Tied.{IsTied}
 use Rattle.module_area.specs.declared.places.Place.{Place}
 use Rattle.module_area.proofs.TiedLemmas.{first_tied}
 use Rattle.brk_table.specs.Kept.{AreCodes, AreKept}
-use Rattle.brk_table.specs.Places.{TablesView, AreSeen}
+use Rattle.brk_table.specs.Meaning.{TablesView}
+use Rattle.brk_table.specs.Places.{AreSeen}
 use Rattle.space_map.proofs.Kept.{are_kept}
 use Rattle.observed_step.specs.Steps.{memory_at}
 use Rattle.svc_monitor.specs.First.{IsOver}
 use Rattle.svc_monitor.specs.Observed.{Observes}
 use Rattle.svc_monitor.proofs.ObservedLemmas.{Observes-none}
 use Rattle.task_run.specs.Called.{Follows, HasWindows, HasPlanted}
-use Rattle.task_run.specs.Courses.{Course, Walk}
+use Rattle.task_run.specs.Meaning.{Course, Walk}
 use Rattle.task_run.specs.Ran.{walk_from}
-use Rattle.session_book.specs.JobView.{JobView, TaskView, IsJob, IsTask}
-use Rattle.session_book.specs.Sessions.{task_of, tasks_from, traces_from, plan_view}
+use Rattle.session_book.specs.Meaning.{JobView, TaskView, task_of, tasks_from, traces_from, plan_view}
+use Rattle.session_book.specs.JobView.{IsJob, IsTask}
 use Rattle.job_run.specs.Bounds.{JoinsTasks, Leaves}
 use Rattle.job_run.specs.Crews.{PhaseView, IsTaskOf, phase_at, all_tasks}
 use Rattle.job_run.specs.Passes.{after_planting, JoinsAll, trace_of, visits_of, HasJoined, IsFresh, HasStart, Runs, HasSeen}
-use Rattle.job_run.specs.Runs.{joined, phase_trace, trace_by, walk_by}
+use Rattle.job_run.specs.Meaning.{joined, phase_trace, trace_by, walk_by}
 use Rattle.job_run.specs.Slots.{in_phase}
 use Rattle.job_run.specs.Tasks.{Begins, Ends, HasNotRun, IsEquipped, IsEnded}
 use Rattle.job_run.specs.declared.outcome.Done.{Done}

@@ -5,26 +5,21 @@ use Rattle.std.proofs.lemmas.Bool.{both_ways, eq-eqb, ltb-true, lt-ltb}
 use Rattle.std.proofs.lemmas.List.{get_or-map, get_or_append_left, get_or-set_other, length-map, length-set, length-drop, take_all}
 use Rattle.std.proofs.Math.Seq.{get_or-append_seam}
 use Rattle.std.proofs.lemmas.List.Elements.{All-get_or}
-use Rattle.cov_base.specs.FactSet.{FactSet}
-use Rattle.cov_base.specs.Memory.{Memory, ImageView}
-use Rattle.cov_base.specs.States.{State}
+use Rattle.cov_base.specs.Meaning.{FactSet, Memory, ImageView, State}
 use Rattle.cov_base.specs.declared.limits.TheConstants.{PLACE_LIMIT, BUDGET_LIMIT}
 use Rattle.s370_state.specs.declared.endings.Ending.{Ending}
-use Rattle.s370_exec.specs.Solo.{Run}
-use Rattle.module_area.specs.FinalsView.{FinalsView, set_at}
+use Rattle.s370_exec.specs.Meaning.{Run}
+use Rattle.module_area.specs.Meaning.{FinalsView, set_at, PlanView}
 use Rattle.module_area.specs.Notes.{Notes, calls}
-use Rattle.module_area.specs.PlanView.{PlanView}
 use Rattle.module_area.specs.declared.places.Place.{Place}
-use Rattle.brk_table.specs.Places.{memory_of}
-use Rattle.task_run.specs.Courses.{Course, walk}
+use Rattle.brk_table.specs.Meaning.{memory_of}
+use Rattle.task_run.specs.Meaning.{Course, walk}
 use Rattle.task_run.specs.Ran.{run_from, walk_from}
 use Rattle.observed_step.specs.Steps.{stands}
-use Rattle.session_book.specs.JobView.{JobView, IsJob, IsTask}
-use Rattle.session_book.specs.Results.{ResultView}
-use Rattle.session_book.specs.Sessions.{task_of, no_task, plan_view}
+use Rattle.session_book.specs.Meaning.{JobView, ResultView, task_of, no_task, plan_view}
+use Rattle.session_book.specs.JobView.{IsJob, IsTask}
 use Rattle.space_map.specs.Space.{SpaceView, memory_of_space, row_of}
-use Rattle.job_run.specs.Runs.{run_by, walk_by, result_by, result_of_run}
-use Rattle.job_run.specs.Sets.{no_finals}
+use Rattle.job_run.specs.Meaning.{run_by, walk_by, result_by, result_of_run, no_finals}
 use Rattle.job_run.specs.Passes.{Runs}
 use Rattle.job_run.specs.Slots.{dones, in_phase, HaveExtras, HaveAllExtras, KeepsOthers}
 use Rattle.job_run.specs.Tasks.{Ends, HasNotRun, HasExtra, IsEnded, AreNew, AreRun, has_run, done_result, no_result, results_of}

@@ -3,15 +3,12 @@ use Rattle.std.specs.Prelude.{◌≡◌, ℕ, ◌+◌, ◌*◌, ◌<◌, ◌^◌
 use Rattle.std.specs.List.{sum_by}
 use Rattle.cov_base.specs.declared.facts.Fact.{Fact}
 use Rattle.cov_base.specs.declared.numbers.TaskNo.{TaskNo}
-use Rattle.cov_base.specs.Facts.{has_fact}
-use Rattle.module_area.specs.Executions.{facts_at}
+use Rattle.cov_base.specs.Meaning.{has_fact}
+use Rattle.module_area.specs.Meaning.{facts_at, PlanView, ControlledView, place_of, has_place, has_session}
 use Rattle.module_area.specs.Notes.{Notes, calls}
-use Rattle.module_area.specs.PlanView.{PlanView, ControlledView, place_of, has_place, has_task}
-use Rattle.module_area.specs.Tied.{has_session}
+use Rattle.module_area.specs.PlanView.{has_task}
 use Rattle.svc_monitor.specs.Observed.{IsShown}
-use Rattle.task_run.specs.Called.{places_in_all}
-use Rattle.task_run.specs.Courses.{Walk}
-use Rattle.task_run.specs.Windows.{least_set, last_control, opened_by, closed_by}
+use Rattle.task_run.specs.Meaning.{places_in_all, Walk, least_set, last_control, opened_by, closed_by}
 
 abbrev pub no_controlled : ControlledView
 no_controlled = record { session = 0; by = 0; places = [] }

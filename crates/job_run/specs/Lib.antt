@@ -1,6 +1,7 @@
 pub mod Areas
 pub mod Bounds
 pub mod Crews
+pub mod Meaning
 pub mod Outcomes
 pub mod Passes
 pub mod Runs

@@ -1,15 +1,12 @@
 -- What a run's outcome tells.
 use Rattle.std.specs.Prelude.{◌≡◌, ℕ, ◌<◌, ◌≤◌, true, Some, List, length, get_or}
-use Rattle.cov_base.specs.Facts.{is_within}
-use Rattle.module_area.specs.PlanView.{place_of}
+use Rattle.cov_base.specs.Meaning.{is_within}
+use Rattle.module_area.specs.Meaning.{place_of, set_at}
 use Rattle.module_area.specs.declared.places.Place.{Place}
-use Rattle.task_run.specs.Courses.{Course, solo}
-use Rattle.session_book.specs.JobView.{JobView}
-use Rattle.session_book.specs.Sessions.{task_of, session_of, observes, is_whole, plan_view}
-use Rattle.task_run.specs.Windows.{IsBetween}
-use Rattle.module_area.specs.FinalsView.{set_at}
-use Rattle.job_run.specs.Runs.{result_by, set_by, least_by, most_by}
-use Rattle.job_run.specs.Sets.{SetsView, no_finals, set_in}
+use Rattle.task_run.specs.Meaning.{Course, solo, IsBetween}
+use Rattle.session_book.specs.Meaning.{JobView, task_of, session_of, observes, is_whole, plan_view}
+use Rattle.job_run.specs.Meaning.{result_by, set_by, least_by, most_by, no_finals}
+use Rattle.job_run.specs.Sets.{SetsView, set_in}
 use Rattle.job_run.specs.Tasks.{Ends, IsEquipped, results_of}
 use Rattle.job_run.specs.declared.outcome.Done.{Done}
 

@@ -1,25 +1,25 @@
 -- The passes of an area, as the crew that works on it splits them off, runs tasks with them and joins them.
 use Rattle.std.specs.Prelude.{◌≡◌, ℕ, ◌+◌, ◌*◌, ◌≤◌, ◌^◌, true, not, ◌&&◌, Option, Some, None, List, [], length, map}
-use Rattle.cov_base.specs.FactSet.{FactSet}
-use Rattle.cov_base.specs.States.{Visit}
+use Rattle.cov_base.specs.Meaning.{FactSet, Visit}
 use Rattle.cov_base.specs.declared.limits.TheConstants.{PLACE_LIMIT}
 use Rattle.cov_base.specs.declared.numbers.TaskNo.{TaskNo}
 use Rattle.s370_state.specs.declared.endings.Ending.{Ending}
 use Rattle.module_area.specs.Ended.{AreSettled}
 use Rattle.module_area.specs.Notes.{Notes, calls, root_notes, split_notes}
-use Rattle.module_area.specs.PlanView.{PlanView, IsPlan, has_task}
+use Rattle.module_area.specs.Meaning.{PlanView}
+use Rattle.module_area.specs.PlanView.{IsPlan, has_task}
 use Rattle.module_area.specs.declared.places.Place.{Place}
 use Rattle.brk_table.specs.Kept.{AreCodes}
-use Rattle.brk_table.specs.Places.{TablesView}
+use Rattle.brk_table.specs.Meaning.{TablesView}
 use Rattle.planter.specs.Planted.{planted_notes}
 use Rattle.svc_monitor.specs.Observed.{Observes}
-use Rattle.task_run.specs.Courses.{Course, Walk}
+use Rattle.task_run.specs.Meaning.{Course, Walk}
 use Rattle.task_run.specs.Ran.{RanAs}
-use Rattle.session_book.specs.JobView.{JobView, IsJob}
-use Rattle.session_book.specs.Sessions.{plan_view}
+use Rattle.session_book.specs.Meaning.{JobView, plan_view}
+use Rattle.session_book.specs.JobView.{IsJob}
 use Rattle.job_run.specs.Bounds.{JoinsTasks, Leaves}
 use Rattle.job_run.specs.Crews.{AreReady, phase_at}
-use Rattle.job_run.specs.Runs.{joined, walk_by}
+use Rattle.job_run.specs.Meaning.{joined, walk_by}
 use Rattle.job_run.specs.Tasks.{Begins, Ends, IsEnded, IsEquipped}
 use Rattle.job_run.specs.declared.outcome.Done.{Done}
 use Rattle.job_run.specs.declared.slots.Slot.{Slot}

@@ -1,11 +1,10 @@
 -- The slots in which the tasks of a job stand.
 use Rattle.std.specs.Prelude.{◌≡◌, ℕ, ◌-◌, ◌<◌, ◌≤◌, Bool, true, false, nat_eq, Option, None, List, length, get_or, map, All}
-use Rattle.cov_base.specs.FactSet.{FactSet}
-use Rattle.module_area.specs.FinalsView.{FinalsView, set_at}
+use Rattle.cov_base.specs.Meaning.{FactSet}
+use Rattle.module_area.specs.Meaning.{FinalsView, set_at}
 use Rattle.module_area.specs.declared.places.Place.{Place}
-use Rattle.session_book.specs.JobView.{JobView}
-use Rattle.session_book.specs.Sessions.{task_of}
-use Rattle.job_run.specs.Sets.{no_finals}
+use Rattle.session_book.specs.Meaning.{JobView, task_of}
+use Rattle.job_run.specs.Meaning.{no_finals}
 use Rattle.job_run.specs.Tasks.{Ends, HasExtra}
 use Rattle.job_run.specs.declared.outcome.Done.{Done}
 use Rattle.job_run.specs.declared.slots.Slot.{Slot}

@@ -1,19 +1,16 @@
 -- The tasks of a job before and after they have run.
 use Rattle.std.specs.Prelude.{◌≡◌, ℕ, ◌<◌, Bool, true, false, nat_lt, Some, None, List, [], length, get_or, map}
-use Rattle.cov_base.specs.FactSet.{FactSet}
+use Rattle.cov_base.specs.Meaning.{FactSet}
 use Rattle.module_area.specs.Notes.{Notes}
-use Rattle.s370_exec.specs.Solo.{Run}
-use Rattle.module_area.specs.PlanView.{PlanView}
+use Rattle.s370_exec.specs.Meaning.{Run}
+use Rattle.module_area.specs.Meaning.{PlanView, first_control}
 use Rattle.module_area.specs.declared.places.Place.{Place}
-use Rattle.module_area.specs.Control.{first_control}
-use Rattle.task_run.specs.Courses.{Course}
+use Rattle.task_run.specs.Meaning.{Course}
 use Rattle.task_run.specs.Ran.{run_from}
 use Rattle.task_run.specs.declared.tasks.Task.{Task}
 use Rattle.session_book.specs.Begun.{IsBegun}
-use Rattle.session_book.specs.JobView.{JobView}
-use Rattle.session_book.specs.Results.{ResultView}
-use Rattle.session_book.specs.Sessions.{task_of, plan_view}
-use Rattle.job_run.specs.Runs.{result_by}
+use Rattle.session_book.specs.Meaning.{JobView, ResultView, task_of, plan_view}
+use Rattle.job_run.specs.Meaning.{result_by}
 use Rattle.job_run.specs.declared.outcome.Done.{Done}
 use Rattle.job_run.specs.declared.slots.Slot.{Slot}
 

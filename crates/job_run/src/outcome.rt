@@ -1,6 +1,6 @@
 //! What a run has come to.
 ghost use Rattle.std.specs.Prelude.{◌≡◌, ◌<◌, ◌≤◌, length, All};
-ghost use Rattle.session_book.specs.Sessions.{session_of};
+ghost use Rattle.session_book.specs.Meaning.{session_of};
 ghost use Rattle.job_run.specs.Sets.{IsSized, set_in};
 
 use brk_table::Tables;

@@ -1,9 +1,9 @@
 //! The phases of a job, one after the other.
 ghost use Rattle.std.specs.Prelude.{◌≡◌, ◌+◌, ◌<◌, ◌^◌, length, IfOk, OnErr};
 ghost use Rattle.brk_table.specs.Kept.{AreCodes};
-ghost use Rattle.module_area.specs.FinalsView.{set_at};
+ghost use Rattle.module_area.specs.Meaning.{set_at};
 ghost use Rattle.session_book.specs.JobView.{IsJob};
-ghost use Rattle.task_run.specs.Courses.{solo};
+ghost use Rattle.task_run.specs.Meaning.{solo};
 ghost use Rattle.job_run.specs.Outcomes.{AreExtras, IsOutcome, IsOutcomeBy};
 ghost use Rattle.job_run.specs.Runs.{Grows, GrowsTo};
 ghost use Rattle.job_run.specs.Slots.{AreEmpty, HaveAllExtras, HaveExtras, KeepsOthers};

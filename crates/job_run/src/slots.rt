@@ -2,7 +2,7 @@
 ghost use Rattle.std.specs.Prelude.{◌≡◌, ◌+◌, ◌<◌, ◌≤◌, nat_eq, if◌then◌else◌, [], length, map, All, IsSome, IfOk, slice_index_or, slice_set, vec_capacity};
 ghost use Rattle.std.specs.declared.option.Option.TheVariants.{Some, None};
 ghost use Rattle.brk_table.specs.Places.{IsIn};
-ghost use Rattle.session_book.specs.Sessions.{task_of};
+ghost use Rattle.session_book.specs.Meaning.{task_of};
 ghost use Rattle.job_run.specs.Slots.{AreEmpty, IsRange, dones, extras_of};
 ghost use Rattle.job_run.specs.Tasks.{HasNotRun, AreNew};
 

@@ -1,13 +1,12 @@
 -- The listings that match have one table each, so that a job has one list of places.
 use Rattle.std.proofs.Common.{◌≡◌, ℕ, ◌+◌, Option, Some, None, List, [], ◌∷◌, ◌++◌, refl, sym, ap, ◌∙◌, subst}
-use Rattle.cov_base.specs.Memory.{ImageView}
-use Rattle.listing_reader.specs.Listing.{listing_of}
+use Rattle.cov_base.specs.Meaning.{ImageView}
+use Rattle.listing_reader.specs.Meaning.{listing_of}
 use Rattle.listing_reader.specs.declared.lines.Line.{Line}
-use Rattle.brk_table.specs.Build.{IsTable}
-use Rattle.brk_table.specs.Places.{TableView, TablesView, all_places, first_place, place_count}
+use Rattle.brk_table.specs.Meaning.{IsTable, TableView, TablesView, all_places, first_place, place_count}
 use Rattle.brk_table.proofs.OneTable.{one_table}
-use Rattle.session_book.specs.JobView.{JobView}
-use Rattle.job_tables.specs.Tables.{IsTableOf, AreTablesFrom, Match}
+use Rattle.session_book.specs.Meaning.{JobView}
+use Rattle.job_tables.specs.Meaning.{IsTableOf, AreTablesFrom, Match}
 
 same_lines : (texts : List (List ℕ)) (a b : List Line) → listing_of texts ≡ Some a → listing_of texts ≡ Some b → a ≡ b
 same_lines texts a b p q = let e : Some a ≡ Some b = sym p ∙ q in cc

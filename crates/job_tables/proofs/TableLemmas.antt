@@ -4,27 +4,26 @@ use Rattle.std.specs.Prelude.{AllPairs}
 use Rattle.std.proofs.lemmas.List.{get_or-drop, drop_more, drop_all}
 use Rattle.std.proofs.lemmas.List.Elements.{All-push}
 use Rattle.std.proofs.lemmas.List.Quantifiers.{all_pairs_push}
-use Rattle.cov_base.specs.Memory.{ImageView}
-use Rattle.listing_reader.specs.Listing.{listing_of, fault_of}
+use Rattle.cov_base.specs.Meaning.{ImageView}
+use Rattle.listing_reader.specs.Meaning.{listing_of, fault_of}
 use Rattle.listing_reader.specs.declared.lines.Line.{Line}
 use Rattle.listing_reader.specs.declared.lines.ListFault.{ListFault}
 use Rattle.listing_reader.specs.declared.lines.ListFault.TheVariants as list
 use Rattle.listing_reader.proofs.Laws.{listing_or_fault}
 use Rattle.module_area.specs.declared.places.Place.{Place}
-use Rattle.brk_table.specs.Build.{first_fault, HasOwnPlaces}
+use Rattle.brk_table.specs.Meaning.{first_fault, TableView, TablesView, all_places}
+use Rattle.brk_table.specs.Build.{HasOwnPlaces}
 use Rattle.module_area.specs.Images.{AreImages}
 use Rattle.brk_table.specs.Kept.{AreCodes}
-use Rattle.brk_table.specs.Places.{TableView, TablesView, all_places}
 use Rattle.brk_table.specs.Together.{IsTableOf, AreTables}
 use Rattle.brk_table.proofs.Together.{all_met}
 use Rattle.report_text.specs.Conditions.{HasFewLines}
 use Rattle.brk_table.specs.declared.faults.BuildFault.{BuildFault}
 use Rattle.brk_table.specs.declared.faults.BuildFault.TheVariants as fault
-use Rattle.session_book.specs.JobView.{JobView}
-use Rattle.session_book.specs.Sessions.{no_module}
-use Rattle.job_tables.specs.Faults.{IsFaultOf, build_fault, fault_from, job_fault, listing_fault, places_in}
-use Rattle.job_tables.specs.Tables.{AreTablesFrom, IsReadyJob}
-use Rattle.job_tables.specs.Tables.{IsTableOf as IsModuleTable}
+use Rattle.session_book.specs.Meaning.{JobView, no_module}
+use Rattle.job_tables.specs.Meaning.{build_fault, fault_from, job_fault, listing_fault, places_in, AreTablesFrom, IsTableOf as IsModuleTable}
+use Rattle.job_tables.specs.Faults.{IsFaultOf}
+use Rattle.job_tables.specs.Tables.{IsReadyJob}
 
 -- the tables of the modules before module m; the first fault is that of the listings from m on
 pub record TablesBefore (j : JobView) (m room : ℕ) (tables : List TableView) : Type 0 where

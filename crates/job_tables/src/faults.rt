@@ -9,7 +9,10 @@ use std::alloc::AllocFailed;
 #[derive(Clone, Copy)]
 pub enum TablesFault {
     /// The listing isn't read.
-    List { module: Name, fault: ListFault },
+    List {
+        module: Name,
+        fault: ListFault,
+    },
     /// Its lines make no table over the module. `location` is where the instruction of a mismatch stands in the module;
     /// of other faults it is 0.
     Build {

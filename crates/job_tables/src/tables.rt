@@ -1,12 +1,13 @@
 //! The tables of a job's listings, or the first fault of these.
 ghost use Rattle.std.specs.Prelude.{◌≡◌, ℕ, ◌+◌, ◌≤◌, ◌<◌, None, option_map, ◌∷◌, length, drop, IfOk, IfErr, IfSome};
 ghost use Rattle.module_area.specs.Images.{IsImage, AreImages};
-ghost use Rattle.listing_reader.specs.Listing.{listing_of};
+ghost use Rattle.listing_reader.specs.Meaning.{listing_of};
 ghost use Rattle.brk_table.specs.Build.{HasOwnPlaces};
 ghost use Rattle.brk_table.specs.Together.{AreTables};
 ghost use Rattle.report_text.specs.Conditions.{HasFewLines};
-ghost use Rattle.job_tables.specs.Faults.{IsFaultOf, build_fault, job_fault, listing_fault, location_in, places_in};
-ghost use Rattle.job_tables.specs.Tables.{AreTablesFrom, IsReadyJob, IsTableOf};
+ghost use Rattle.job_tables.specs.Meaning.{build_fault, job_fault, listing_fault, location_in, places_in, AreTablesFrom, IsTableOf};
+ghost use Rattle.job_tables.specs.Faults.{IsFaultOf};
+ghost use Rattle.job_tables.specs.Tables.{IsReadyJob};
 
 use crate::faults::TablesFault;
 use brk_table::{BuildFault, Table, Tables, build};

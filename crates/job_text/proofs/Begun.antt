@@ -10,15 +10,9 @@ use Rattle.std.specs.Str.{bytes_eq}
 use Rattle.std.proofs.lemmas.Option.{same_Some, cond_some}
 use Rattle.std.proofs.lemmas.Bool.{and_from, and_parts, not-true, or_right}
 use Rattle.hex.proofs.OnLiterals.{hex_on_literals}
-use Rattle.cov_base.specs.Names.{is_name_byte, name_at, unpadded}
-use Rattle.session_book.specs.JobView.{TaskView}
-use Rattle.job_text.specs.Lines.{LineView, listing_text}
-use Rattle.job_text.specs.Drafts.{SessionDraft, DraftView, Present, is_controller, is_met_by, is_met, are_met}
-use Rattle.job_text.specs.Words.{words}
-use Rattle.job_text.specs.CardView.{CardView, Cover, Module, Text, Listing, Phase, Session, Task, Reg, Data, Input, End}
-use Rattle.job_text.specs.Cards.{card_at, card_of}
-use Rattle.job_text.specs.Adding.{with_module, with_phase, this_phase, may_have, with_session, has_task, with_task}
-use Rattle.job_text.specs.Spells.{JobBegins}
+use Rattle.cov_base.specs.Meaning.{is_name_byte, name_at, unpadded}
+use Rattle.session_book.specs.Meaning.{TaskView}
+use Rattle.job_text.specs.Meaning.{LineView, listing_text, SessionDraft, DraftView, Present, is_controller, is_met_by, is_met, are_met, words, CardView, Cover, Module, Text, Listing, Phase, Session, Task, Reg, Data, Input, End, card_at, card_of, with_module, with_phase, this_phase, may_have, with_session, has_task, with_task, JobBegins}
 use Rattle.job_text.specs.TaskParts.{fresh_task, task_more}
 use Rattle.job_text.specs.declared.limit.Limit.{Limit}
 use Rattle.job_text.specs.declared.parts.Part.{Part}

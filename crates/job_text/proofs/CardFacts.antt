@@ -4,14 +4,12 @@ use Rattle.std.proofs.lemmas.Bool.Decides.{nat_tests}
 use Rattle.std.proofs.lemmas.List.{length-append}
 use Rattle.std.specs.Str.{bytes_eq}
 use Rattle.std.proofs.lemmas.Option.{same_Some, cond_some}
-use Rattle.cov_base.specs.Names.{is_name, name_at, padded, unpadded}
+use Rattle.cov_base.specs.Meaning.{is_name, name_at, padded, unpadded}
 use Rattle.cov_base.proofs.NameLemmas.{unpadded-padded}
 use Rattle.hex.specs.Hex.{decode_sized}
 use Rattle.hex.specs.declared.error.FromHexError.{FromHexError}
 use Rattle.hex.proofs.HexLemmas.{decode_sized-ok, decode_sized-twice, decode_of-ok}
-use Rattle.job_text.specs.CardView.{CardView, Cover, Module, Text, Listing, Phase, Session, Task, Reg, Data, Input, End}
-use Rattle.job_text.specs.Words.{words, number_at, bytes_at, ok_of, address_in, address_at, word_at, put_name, names_on, names_at}
-use Rattle.job_text.specs.Cards.{may_stand, as_module, as_session, as_controlled, controlled_card, session_card, as_task, as_reg, as_data, short_card, pair_card, long_card, card_of, card_at}
+use Rattle.job_text.specs.Meaning.{CardView, Cover, Module, Text, Listing, Phase, Session, Task, Reg, Data, Input, End, words, number_at, bytes_at, ok_of, address_in, address_at, word_at, put_name, names_on, names_at, may_stand, as_module, as_session, as_controlled, controlled_card, session_card, as_task, as_reg, as_data, short_card, pair_card, long_card, card_of, card_at}
 use Rattle.job_text.proofs.Guards.{guard_more}
 
 -- a name filled with blanks

@@ -7,7 +7,8 @@ use Rattle.std.proofs.lemmas.List.Folds.{list_any-append}
 use Rattle.std.specs.List.{position}
 use Rattle.std.proofs.lemmas.Bool.{or_parts}
 use Rattle.std.proofs.lemmas.Option.{cond_some}
-use Rattle.job_text.specs.Lines.{LineView, put_on, lines_of, ended_lines, IsClosed}
+use Rattle.job_text.specs.Meaning.{LineView, put_on, lines_of}
+use Rattle.job_text.specs.Lines.{ended_lines, IsClosed}
 use Rattle.job_text.specs.Taken.{has_lf}
 use Rattle.job_text.proofs.LineLemmas.{end_of, ended_line, Whole, put_whole}
 use Rattle.job_text.proofs.WordLemmas.{none_is}

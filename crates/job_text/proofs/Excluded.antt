@@ -6,13 +6,8 @@ use Rattle.std.proofs.lemmas.List.{length-map, length-append, length-take-le}
 use Rattle.std.proofs.lemmas.List.Elements.{All-append, All-cons, All-nil}
 use Rattle.std.specs.List.{list_any}
 use Rattle.std.specs.Str.{bytes_eq}
-use Rattle.session_book.specs.JobView.{JobView}
-use Rattle.job_text.specs.Drafts.{DraftView, Present}
-use Rattle.job_text.specs.Lines.{LineView, listing_text}
-use Rattle.job_text.specs.Spells.{joined, IsListed, IsModule, AreModules, AreSessions, IsTaskBlock, AreTasks, IsPhase, ArePhases, Spells, JobBegins}
-use Rattle.job_text.specs.Adding.{no_job, with_phase, with_session}
-use Rattle.job_text.specs.Limits.{keeps, IsWithin, Passes}
-use Rattle.job_text.specs.Refusals.{GoesOn, IsBadAt, IsOverAt}
+use Rattle.session_book.specs.Meaning.{JobView}
+use Rattle.job_text.specs.Meaning.{DraftView, Present, LineView, listing_text, joined, IsListed, IsModule, AreModules, AreSessions, IsTaskBlock, AreTasks, IsPhase, ArePhases, Spells, JobBegins, no_job, with_phase, with_session, keeps, IsWithin, Passes, GoesOn, IsBadAt, IsOverAt}
 use Rattle.job_text.specs.declared.limit.Limit.{Limit}
 use Rattle.job_text.proofs.Guards.{guard_none}
 use Rattle.job_text.proofs.Named.{named_spells, session_added}
@@ -127,7 +122,7 @@ modules_few n (block ∷ blocks) j after are h few =
     let whole : length block ≡ length (m.head ∷ (m.texts ++ m.listing)) = ap (λ (x : List LineView). length x) m.whole in
     let one : IsFew n m.listed = listed_few n m.listing m.listed m.is_listed (omega (arith, h, size, more, whole)) in
     let next : All (IsFew n) are.mid.listings = rw m.is_after (All-append (IsFew n) j.listings (m.listed ∷ []) few (All-cons (IsFew n) m.listed [] one (All-nil (IsFew n)))) in
-    modules_few n blocks are.mid after are.then (omega (arith, h, size)) next
+    modules_few n blocks are.mid after are.follows (omega (arith, h, size)) next
 
 -- what comes behind the modules has no listing
 
@@ -141,19 +136,19 @@ session_listings j after name by names e = ap (λ (x : DraftView). x.listings) (
 
 sessions_keep : (ls : List LineView) (j after : DraftView) → AreSessions j ls after → after.listings ≡ j.listings
 sessions_keep [] j after are = ap (λ (x : DraftView). x.listings) (sym are)
-sessions_keep (l ∷ ls) j after are = sessions_keep ls are.mid after are.then ∙ session_listings j are.mid are.name are.by are.names are.adds
+sessions_keep (l ∷ ls) j after are = sessions_keep ls are.mid after are.follows ∙ session_listings j are.mid are.name are.by are.names are.adds
 
 tasks_keep : (blocks : List (List LineView)) (j after : DraftView) → AreTasks j blocks after → after.listings ≡ j.listings
 tasks_keep [] j after are = ap (λ (x : DraftView). x.listings) (sym are)
 tasks_keep (block ∷ blocks) j after are =
     let t : IsTaskBlock j block are.mid = are.is_task in
-    tasks_keep blocks are.mid after are.then ∙ ap (λ (x : DraftView). x.listings) t.is_after
+    tasks_keep blocks are.mid after are.follows ∙ ap (λ (x : DraftView). x.listings) t.is_after
 
 phases_keep : (blocks : List (List LineView)) (j after : DraftView) → ArePhases Present j blocks after → after.listings ≡ j.listings
 phases_keep [] j after are = ap (λ (x : DraftView). x.listings) (sym are)
 phases_keep (block ∷ blocks) j after are =
     let p : IsPhase Present j block are.mid = are.is_phase in
-    phases_keep blocks are.mid after are.then ∙ (tasks_keep p.tasks p.mid are.mid p.are_tasks ∙ (sessions_keep p.sessions p.named p.mid p.are_sessions ∙ phase_listings j p.named p.name p.adds))
+    phases_keep blocks are.mid after are.follows ∙ (tasks_keep p.tasks p.mid are.mid p.are_tasks ∙ (sessions_keep p.sessions p.named p.mid p.are_sessions ∙ phase_listings j p.named p.name p.adds))
 
 -- a listing of the job has at most as many lines as these
 pub listings_few : (ls : List LineView) (job : JobView) → Spells Present ls job → All (IsFew (length ls)) job.listings

@@ -6,16 +6,11 @@ use Rattle.std.proofs.lemmas.List.Folds.{list_all-append}
 use Rattle.std.specs.List.{list_all}
 use Rattle.std.proofs.lemmas.Option.{same_Some, cond_some}
 use Rattle.std.proofs.lemmas.Bool.{and_from, and_parts, and_right}
-use Rattle.cov_base.specs.Memory.{ImageView}
+use Rattle.cov_base.specs.Meaning.{ImageView}
 use Rattle.cov_base.specs.declared.limits.TheConstants.{MODULE_LIMIT, SIZE_LIMIT, LINE_LIMIT, PHASE_LIMIT, SESSION_LIMIT, TASK_LIMIT, PRIVATE_LIMIT, BUDGET_LIMIT, ROOM_LIMIT}
-use Rattle.session_book.specs.JobView.{JobView, TaskView}
-use Rattle.job_text.specs.Drafts.{DraftView, Controllers, bound}
-use Rattle.job_text.specs.Lines.{LineView, listing_text}
-use Rattle.job_text.specs.CardView.{CardView, Cover, Module, Text, Listing, Phase, Session, Task, Reg, Data, Input, End}
-use Rattle.job_text.specs.Cards.{card_at}
-use Rattle.job_text.specs.Adding.{fits, with_module, with_phase, put_session, with_session, has_task, with_task}
+use Rattle.session_book.specs.Meaning.{JobView, TaskView}
+use Rattle.job_text.specs.Meaning.{DraftView, Controllers, bound, LineView, listing_text, CardView, Cover, Module, Text, Listing, Phase, Session, Task, Reg, Data, Input, End, card_at, fits, with_module, with_phase, put_session, with_session, has_task, with_task, are_short, is_small, has_private, has_budget, has_room, keeps, IsWithin, rank}
 use Rattle.job_text.specs.TaskParts.{part, takes_reg, takes_data, is_inside, with_reg, with_data, fresh_task, task_more}
-use Rattle.job_text.specs.Limits.{are_short, is_small, has_private, has_budget, has_room, keeps, IsWithin, rank}
 use Rattle.job_text.specs.declared.task.TaskPart.{TaskPart}
 use Rattle.job_text.specs.declared.task.TaskStage.TheVariants as stage
 use Rattle.job_text.specs.declared.limit.Limit.{Limit}

@@ -1,7 +1,6 @@
 -- The numbers of a session's modules, one after the other.
 use Rattle.std.proofs.Common.{◌≡◌, ℕ, ◌+◌, ◌<◌, Option, Some, None, List, [], ◌∷◌, length, get_or, drop, refl, drop-cons, add-one}
-use Rattle.job_text.specs.Drafts.{DraftView}
-use Rattle.job_text.specs.Adding.{indices_on, put_index, index_of}
+use Rattle.job_text.specs.Meaning.{DraftView, indices_on, put_index, index_of}
 
 indices_none : (j : DraftView) (by : Option (List ℕ)) (ns : List (List ℕ)) → indices_on j by None ns ≡ None
 indices_none j by [] = refl

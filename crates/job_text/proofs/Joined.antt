@@ -2,13 +2,11 @@
 use Rattle.std.proofs.Common.{◌≡◌, ℕ, ◌+◌, ◌≤◌, Result, Ok, Err, IfOk, IfErr, List, [], ◌++◌, length, take, drop, ap, subst, sym, ◌∙◌, arith, length-append, take-append-drop}
 use Rattle.std.proofs.Math.Seq.{take-length, drop-append_seam}
 use Rattle.std.proofs.lemmas.List.{take-append-le}
-use Rattle.session_book.specs.JobView.{JobView}
-use Rattle.job_text.specs.Drafts.{Present}
-use Rattle.job_text.specs.Lines.{LineView, lines_of, IsClosed}
-use Rattle.job_text.specs.Limits.{IsWithin}
+use Rattle.session_book.specs.Meaning.{JobView}
+use Rattle.job_text.specs.Meaning.{Present, LineView, lines_of, IsWithin, IsRefusal, Spells}
+use Rattle.job_text.specs.Lines.{IsClosed}
 use Rattle.job_text.specs.Pieces.{Feeds, used_of}
-use Rattle.job_text.specs.Refusals.{IsRead, IsOnly, IsRefusal}
-use Rattle.job_text.specs.Spells.{Spells}
+use Rattle.job_text.specs.Refusals.{IsRead, IsOnly}
 use Rattle.job_text.specs.declared.jobs.JobFault.{JobFault}
 use Rattle.job_text.specs.declared.jobs.JobFault.TheVariants as fault
 use Rattle.job_text.specs.declared.jobs.ReadJob.{ReadJob}

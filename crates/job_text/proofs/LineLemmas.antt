@@ -3,7 +3,7 @@ use Rattle.std.proofs.Common.{◌≡◌, ℕ, ◌+◌, ◌-◌, ◌<◌, ◌≤�
 use Rattle.std.proofs.lemmas.Bool.Decides.{nat_tests}
 use Rattle.std.specs.List.{position, position_or_len}
 use Rattle.std.proofs.lemmas.Option.{cond_some}
-use Rattle.job_text.specs.Lines.{LineView, lines_of, put_on}
+use Rattle.job_text.specs.Meaning.{LineView, lines_of, put_on}
 use Rattle.job_text.proofs.WordLemmas.{drop_one, none_is, tail_whole}
 
 abbrev pub end_of : List ℕ → ℕ

@@ -3,13 +3,8 @@ use Rattle.std.proofs.Common.{◌≡◌, ℕ, true, false, Option, Some, List, [
 use Rattle.std.specs.List.{list_any}
 use Rattle.std.specs.Str.{bytes_eq}
 use Rattle.std.proofs.lemmas.Option.{cond_some}
-use Rattle.session_book.specs.JobView.{JobView}
-use Rattle.job_text.specs.Lines.{LineView, listing_text}
-use Rattle.job_text.specs.Drafts.{DraftView, Controllers, Named, are_met}
-use Rattle.job_text.specs.CardView.{CardView, Phase, End}
-use Rattle.job_text.specs.Cards.{card_at}
-use Rattle.job_text.specs.Adding.{with_task, indices_on, put_session, may_have, with_session}
-use Rattle.job_text.specs.Spells.{IsPhase, ArePhases, Spells}
+use Rattle.session_book.specs.Meaning.{JobView}
+use Rattle.job_text.specs.Meaning.{LineView, listing_text, DraftView, Controllers, Named, are_met, CardView, Phase, End, card_at, with_task, indices_on, put_session, may_have, with_session, IsPhase, ArePhases, Spells}
 use Rattle.job_text.specs.declared.parts.Part.{Part}
 use Rattle.job_text.specs.declared.parts.Part.TheVariants as part
 use Rattle.job_text.specs.Steps.{State, closed, open_phase, end, takes_raw, take_raw, take_card, step, run}
@@ -37,7 +32,7 @@ named_phases ask (block ∷ blocks) j after are =
     record {
       mid = are.mid;
       is_phase = record { head = p.head; sessions = p.sessions; tasks = p.tasks; whole = p.whole; name = p.name; named = p.named; mid = p.mid; card = p.card; adds = p.adds; are_sessions = p.are_sessions; are_tasks = p.are_tasks; met = refl };
-      then = named_phases ask blocks are.mid after are.then;
+      follows = named_phases ask blocks are.mid after are.follows;
     }
 
 pub named_spells : (ask : Controllers) (ls : List LineView) (job : JobView) → Spells ask ls job → Spells Named ls job

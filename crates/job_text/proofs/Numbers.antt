@@ -4,8 +4,8 @@ use Rattle.std.proofs.lemmas.Bool.Decides.{nat_tests}
 use Rattle.std.specs.List.{list_all}
 use Rattle.std.proofs.Math.Nat.{pow-le-pow_right}
 use Rattle.std.proofs.lemmas.Bool.{and_parts}
-use Rattle.cov_base.specs.Names.{is_digit}
-use Rattle.job_text.specs.Words.{is_number}
+use Rattle.cov_base.specs.Meaning.{is_digit}
+use Rattle.job_text.specs.Meaning.{is_number}
 
 pub digit_at : (w : List ℕ) (i : ℕ) → list_all is_digit w ≡ true → i < length w → get_or w i 0 ≤ 57
 digit_at [] i all h = omega arith

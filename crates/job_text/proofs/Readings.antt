@@ -4,13 +4,11 @@ use Rattle.std.proofs.Math.Seq.{take-length, drop-length}
 use Rattle.std.proofs.lemmas.Bool.{cases_lt, true_from_ne_false}
 use Rattle.std.proofs.lemmas.List.{take-take}
 use Rattle.std.proofs.lemmas.Option.{same_Some}
-use Rattle.session_book.specs.JobView.{JobView}
-use Rattle.job_text.specs.Drafts.{Present, bound}
-use Rattle.job_text.specs.Lines.{LineView, lines_of, ended_lines, span}
-use Rattle.job_text.specs.Limits.{keeps, IsWithin, Passes}
+use Rattle.session_book.specs.Meaning.{JobView}
+use Rattle.job_text.specs.Meaning.{Present, bound, LineView, lines_of, keeps, IsWithin, Passes, GoesOn, IsBadAt, IsOverAt, IsRefusal, Spells}
+use Rattle.job_text.specs.Lines.{ended_lines, span}
 use Rattle.job_text.specs.Pieces.{fault_line, IsTold, IsOpen, IsEnded, used_of}
-use Rattle.job_text.specs.Refusals.{IsRead, GoesOn, IsBadAt, IsOverAt, IsRefusal}
-use Rattle.job_text.specs.Spells.{Spells}
+use Rattle.job_text.specs.Refusals.{IsRead}
 use Rattle.job_text.specs.Steps.{State, start, plain, is_done, step, run}
 use Rattle.job_text.specs.Taken.{IsNext, IsFaultOf, HasRun, has_lf, HasTaken, size_of}
 use Rattle.job_text.specs.declared.jobs.JobFault.{JobFault}

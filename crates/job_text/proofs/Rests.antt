@@ -2,15 +2,9 @@
 use Rattle.std.proofs.Common.{◌≡◌, ℕ, ◌-◌, ◌<◌, ◌≤◌, true, false, nat_eq, nat_le, cond, Option, Some, None, List, [], ◌∷◌, ◌++◌, length, map, refl, ap, subst, option_and_then, sym, arith, append_assoc, append-nil, length-append, inl, inr}
 use Rattle.std.proofs.lemmas.Bool.Decides.{nat_tests}
 use Rattle.std.proofs.lemmas.Option.{same_Some, cond_some}
-use Rattle.cov_base.specs.Memory.{ImageView}
-use Rattle.session_book.specs.JobView.{TaskView, first_regs}
-use Rattle.job_text.specs.Drafts.{DraftView, Controllers, are_met, bound}
-use Rattle.job_text.specs.Lines.{LineView, listing_text}
-use Rattle.job_text.specs.CardView.{CardView, Cover, Module, Text, Listing, Phase, Session, Task, Reg, Data, Input, End}
-use Rattle.job_text.specs.Cards.{IsCard, card_at}
-use Rattle.job_text.specs.Tasks.{task_view}
-use Rattle.job_text.specs.Adding.{no_job, fits, with_module, with_phase, with_session, has_task, with_task}
-use Rattle.job_text.specs.Spells.{joined, AreTexts, IsListed, AreModules, AreSessions, AreTasks, ArePhases, Spells}
+use Rattle.cov_base.specs.Meaning.{ImageView}
+use Rattle.session_book.specs.Meaning.{TaskView, first_regs}
+use Rattle.job_text.specs.Meaning.{DraftView, Controllers, are_met, bound, LineView, listing_text, CardView, Cover, Module, Text, Listing, Phase, Session, Task, Reg, Data, Input, End, IsCard, card_at, task_view, no_job, fits, with_module, with_phase, with_session, has_task, with_task, joined, AreTexts, IsListed, AreModules, AreSessions, AreTasks, ArePhases, Spells}
 use Rattle.job_text.specs.TaskParts.{fresh_task, task_more}
 use Rattle.job_text.specs.declared.parts.Part.{Part}
 use Rattle.job_text.specs.declared.parts.Part.TheVariants as part
@@ -184,7 +178,7 @@ text_back ask (part.Texts i left) j bytes l ls d s card e r =
       more = bytes ++ a.more;
       listed = a.listed;
       whole = ap (λ (x : List LineView). l ∷ x) a.whole;
-      are = record { first = bytes; others = a.more; card = card; whole = refl; then = a.are };
+      are = record { first = bytes; others = a.more; card = card; whole = refl; follows = a.are };
       size = omega (arith, a.size, length-append bytes a.more);
       is = a.is;
       after = rw (← append_assoc i.bytes bytes a.more) a.after;
@@ -232,7 +226,7 @@ module_first ask j l ls d name base size card fit r = record {
       is_listed = r.is;
       is_after = refl;
     };
-    then = r.after.are;
+    follows = r.after.are;
   };
   after = r.after.after;
 }
@@ -268,7 +262,7 @@ phase_first ask j named l ls d name card adds r =
           are_tasks = t.are;
           met = t.met;
         };
-        then = p.are;
+        follows = p.are;
       };
       ends = p.ends;
     }
@@ -288,7 +282,7 @@ session_back ask part.Sessions j s name by names l ls d card is e r =
       rest = a.rest;
       mid = a.mid;
       whole = ap (λ (x : List LineView). l ∷ x) a.whole;
-      are = record { name = name; by = by; names = names; mid = m.from; card = card; adds = m.was; then = a.are };
+      are = record { name = name; by = by; names = names; mid = m.from; card = card; adds = m.was; follows = a.are };
       after = a.after;
     }
 session_back ask p j s name by names l ls d card is e r = absurd cc
@@ -331,7 +325,7 @@ task_first ask j name entry private budget room l ls d card new r =
           are_inputs = b.are;
           is_after = refl;
         };
-        then = z.are;
+        follows = z.are;
       };
       met = z.met;
       after = z.after;

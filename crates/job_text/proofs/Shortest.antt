@@ -3,14 +3,9 @@ use Rattle.std.proofs.Common.{◌≡◌, ℕ, ◌-◌, zero, suc, true, false, n
 use Rattle.std.proofs.lemmas.Bool.Decides.{nat_tests}
 use Rattle.std.proofs.lemmas.Option.{same_Some, cond_some}
 use Rattle.hex.proofs.OnLiterals.{hex_on_literals}
-use Rattle.cov_base.specs.Memory.{ImageView}
-use Rattle.session_book.specs.JobView.{JobView}
-use Rattle.job_text.specs.Drafts.{DraftView, Controllers, Named, are_met, bound}
-use Rattle.job_text.specs.Lines.{LineView}
-use Rattle.job_text.specs.CardView.{Cover, Text, End}
-use Rattle.job_text.specs.Cards.{card_at}
-use Rattle.job_text.specs.Adding.{with_module, with_task}
-use Rattle.job_text.specs.Spells.{Spells}
+use Rattle.cov_base.specs.Meaning.{ImageView}
+use Rattle.session_book.specs.Meaning.{JobView}
+use Rattle.job_text.specs.Meaning.{DraftView, Controllers, Named, are_met, bound, LineView, Cover, Text, End, card_at, with_module, with_task, Spells}
 use Rattle.job_text.specs.declared.limit.Limit.{Limit}
 use Rattle.job_text.specs.declared.parts.Part.{Part}
 use Rattle.job_text.specs.declared.parts.Part.TheVariants as part

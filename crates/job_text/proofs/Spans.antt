@@ -1,6 +1,6 @@
 -- How many lines a text has.
 use Rattle.std.proofs.Common.{◌≡◌, ℕ, ◌+◌, ◌≤◌, Bool, true, false, cond, nat_eq, List, [], ◌∷◌, length, refl, arith}
-use Rattle.job_text.specs.Lines.{LineView, put_on, lines_of}
+use Rattle.job_text.specs.Meaning.{LineView, put_on, lines_of}
 
 put_some : (b : ℕ) (ls : List LineView) → put_on b ls ≡ [] → ⊥
 put_some b [] e = absurd cc

@@ -3,14 +3,9 @@ use Rattle.std.proofs.Common.{◌≡◌, ℕ, ◌-◌, ◌<◌, ◌≤◌, zero,
 use Rattle.std.proofs.lemmas.Bool.{cases_order}
 use Rattle.std.proofs.lemmas.Bool.Decides.{nat_tests}
 use Rattle.std.proofs.lemmas.Option.{same_Some, cond_some}
-use Rattle.cov_base.specs.Memory.{ImageView}
-use Rattle.session_book.specs.JobView.{JobView}
-use Rattle.job_text.specs.Drafts.{DraftView, Controllers, are_met, bound, Present}
-use Rattle.job_text.specs.Lines.{LineView, listing_text}
-use Rattle.job_text.specs.CardView.{CardView, Cover, Module, Text, Listing, Phase, Session, Task, Reg, Data, Input, End}
-use Rattle.job_text.specs.Cards.{IsCard, card_at}
-use Rattle.job_text.specs.Adding.{no_job, with_module, with_task}
-use Rattle.job_text.specs.Spells.{joined, AreTexts, IsListed, IsModule, AreModules, AreSessions, IsTaskBlock, AreTasks, IsPhase, ArePhases, Spells, JobBegins}
+use Rattle.cov_base.specs.Meaning.{ImageView}
+use Rattle.session_book.specs.Meaning.{JobView}
+use Rattle.job_text.specs.Meaning.{DraftView, Controllers, are_met, bound, Present, LineView, listing_text, CardView, Cover, Module, Text, Listing, Phase, Session, Task, Reg, Data, Input, End, IsCard, card_at, no_job, with_module, with_task, joined, AreTexts, IsListed, IsModule, AreModules, AreSessions, IsTaskBlock, AreTasks, IsPhase, ArePhases, Spells, JobBegins}
 use Rattle.job_text.specs.TaskParts.{fresh_task, task_more}
 use Rattle.job_text.specs.declared.task.TaskPart.{TaskPart}
 use Rattle.job_text.specs.declared.limit.Limit.{Limit}
@@ -83,7 +78,7 @@ run_texts ask (l ∷ ls) bytes i j over are =
     let now : State = state (part.Texts i (length bytes)) j over in
     let next : State = state (part.Texts (with_bytes i are.first) (length are.others)) j None in
     let e : take_card ask now (Text are.first) ≡ Some next = rw (fit, left) refl in
-    let more : Reaches ask next ls (Is (part.Texts (with_bytes (with_bytes i are.first) are.others) 0) j) = run_texts ask ls are.others (with_bytes i are.first) j None are.then in
+    let more : Reaches ask next ls (Is (part.Texts (with_bytes (with_bytes i are.first) are.others) 0) j) = run_texts ask ls are.others (with_bytes i are.first) j None are.follows in
     reach_first ask now next l ls _ (card_step ask now next l (Text are.first) refl are.card e) (rw (are.whole, ← append_assoc i.bytes are.first are.others) more)
 
 run_raw : (ask : Controllers) (ls : List LineView) (texts : List (List ℕ)) (i : ImageView) (j : DraftView) (over : Option Limit) →
@@ -135,7 +130,7 @@ run_module ask block j after st m a =
 run_modules : (ask : Controllers) (blocks : List (List LineView)) (j after : DraftView) (st : State) → AreModules j blocks after → AtModules j st → Reaches ask st (joined blocks) (AtModules after)
 run_modules ask [] j after st are a = rw (← are) (record { end = st; runs = refl; holds = a })
 run_modules ask (block ∷ blocks) j after st are a =
-    reach_on ask st block (joined blocks) _ _ (run_module ask block j are.mid st are.is_module a) (λ s b. run_modules ask blocks are.mid after s are.then b)
+    reach_on ask st block (joined blocks) _ _ (run_module ask block j are.mid st are.is_module a) (λ s b. run_modules ask blocks are.mid after s are.follows b)
 
 run_sessions : (ask : Controllers) (ls : List LineView) (j after : DraftView) (st : State) → AreSessions j ls after → Is part.Sessions j st → Reaches ask st ls (Is part.Sessions after)
 run_sessions ask [] j after st are a = rw (← are) (record { end = st; runs = refl; holds = a })
@@ -143,7 +138,7 @@ run_sessions ask (l ∷ ls) j after st are a =
     let next : State = state part.Sessions are.mid (session_over j) in
     let e : take_card ask st (Session are.name are.by are.names) ≡ Some next = rw (a.at, a.is, are.adds) refl in
     let raw : takes_raw st.part ≡ false = rw a.at refl in
-    reach_first ask st next l ls _ (card_step ask st next l _ raw are.card e) (run_sessions ask ls are.mid after next are.then (is_here part.Sessions are.mid (session_over j)))
+    reach_first ask st next l ls _ (card_step ask st next l _ raw are.card e) (run_sessions ask ls are.mid after next are.follows (is_here part.Sessions are.mid (session_over j)))
 
 -- further cards of a task
 run_more : (ask : Controllers) (ls : List LineView) (t u : TaskPart) (j : DraftView) (over : Option Limit) → more_run t ls ≡ Some u → Reaches ask (state (part.Task t) j over) ls (Is (part.Task u) j)
@@ -181,7 +176,7 @@ run_task ask block j after st m a =
 run_tasks : (ask : Controllers) (blocks : List (List LineView)) (j after : DraftView) (st : State) → AreTasks j blocks after → AtTasks j st → Reaches ask st (joined blocks) (AtTasks after)
 run_tasks ask [] j after st are a = rw (← are) (record { end = st; runs = refl; holds = a })
 run_tasks ask (block ∷ blocks) j after st are a =
-    reach_on ask st block (joined blocks) _ _ (run_task ask block j are.mid st are.is_task a) (λ s b. run_tasks ask blocks are.mid after s are.then b)
+    reach_on ask st block (joined blocks) _ _ (run_task ask block j are.mid st are.is_task a) (λ s b. run_tasks ask blocks are.mid after s are.follows b)
 
 run_phase : (ask : Controllers) (block : List LineView) (j after : DraftView) (st : State) → IsPhase ask j block after → AtPhases ask j st → Reaches ask st block (AtPhases ask after)
 run_phase ask block j after st m a =
@@ -197,7 +192,7 @@ run_phase ask block j after st m a =
 run_phases : (ask : Controllers) (blocks : List (List LineView)) (j after : DraftView) (st : State) → ArePhases ask j blocks after → AtPhases ask j st → Reaches ask st (joined blocks) (AtPhases ask after)
 run_phases ask [] j after st are a = rw (← are) (record { end = st; runs = refl; holds = a })
 run_phases ask (block ∷ blocks) j after st are a =
-    reach_on ask st block (joined blocks) _ _ (run_phase ask block j are.mid st are.is_phase a) (λ s b. run_phases ask blocks are.mid after s are.then b)
+    reach_on ask st block (joined blocks) _ _ (run_phase ask block j are.mid st are.is_phase a) (λ s b. run_phases ask blocks are.mid after s are.follows b)
 
 run_end : (ask : Controllers) (l : LineView) (j : DraftView) (st : State) → IsCard l End → AtPhases ask j st → Reaches ask st (l ∷ []) (Is part.Done j)
 run_end ask l j st card a =

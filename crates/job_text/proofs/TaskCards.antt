@@ -4,12 +4,9 @@ use Rattle.std.proofs.lemmas.Bool.Decides.{nat_tests}
 use Rattle.std.specs.List.{concat}
 use Rattle.std.proofs.lemmas.Option.{same_Some, cond_some}
 use Rattle.std.proofs.lemmas.Bool.{and_parts, le-leb}
-use Rattle.module_area.specs.Views.{DataView}
-use Rattle.session_book.specs.JobView.{TaskView}
-use Rattle.job_text.specs.Lines.{LineView}
-use Rattle.job_text.specs.CardView.{CardView, Reg, Data, Input}
-use Rattle.job_text.specs.Cards.{IsCard, card_at}
-use Rattle.job_text.specs.Tasks.{RegView, AreRegs, set_regs, AreData, AreInputs}
+use Rattle.module_area.specs.Meaning.{DataView}
+use Rattle.session_book.specs.Meaning.{TaskView}
+use Rattle.job_text.specs.Meaning.{LineView, CardView, Reg, Data, Input, IsCard, card_at, RegView, AreRegs, set_regs, AreData, AreInputs}
 use Rattle.job_text.specs.declared.task.TaskPart.{TaskPart}
 use Rattle.job_text.specs.declared.task.TaskStage.{TaskStage}
 use Rattle.job_text.specs.declared.task.TaskStage.TheVariants as stage

@@ -3,12 +3,9 @@ use Rattle.std.proofs.Common.{◌≡◌, ℕ, ◌+◌, ◌-◌, ◌<◌, ◌≤�
 use Rattle.std.proofs.lemmas.Bool.{cases_order, cases_lt, false_from_ne_true}
 use Rattle.std.proofs.lemmas.List.{length-drop}
 use Rattle.std.proofs.lemmas.Option.{same_Some}
-use Rattle.session_book.specs.JobView.{JobView}
-use Rattle.job_text.specs.Drafts.{DraftView, Named, Present, bound}
-use Rattle.job_text.specs.Lines.{LineView, lines_of}
-use Rattle.job_text.specs.Spells.{Spells}
-use Rattle.job_text.specs.Limits.{keeps, IsWithin, Passes}
-use Rattle.job_text.specs.Refusals.{IsRead, GoesOn, IsBadAt, IsOverAt}
+use Rattle.session_book.specs.Meaning.{JobView}
+use Rattle.job_text.specs.Meaning.{DraftView, Named, Present, bound, LineView, lines_of, Spells, keeps, IsWithin, Passes, GoesOn, IsBadAt, IsOverAt}
+use Rattle.job_text.specs.Refusals.{IsRead}
 use Rattle.job_text.specs.declared.jobs.ReadJob.{ReadJob}
 use Rattle.job_text.specs.declared.limit.Limit.{Limit}
 use Rattle.job_text.specs.declared.parts.Part.{Part}

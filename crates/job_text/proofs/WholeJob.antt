@@ -11,20 +11,14 @@ use Rattle.std.proofs.lemmas.List.Quantifiers.{all_pairs_push, position-Some}
 use Rattle.std.proofs.lemmas.List.Sums.{AllPass-from_list_all}
 use Rattle.std.proofs.lemmas.Bool.{and_parts, leb-true, or_parts, not-true, or_cases}
 use Rattle.std.proofs.lemmas.Option.{cond_some}
-use Rattle.cov_base.specs.Memory.{ImageView}
+use Rattle.cov_base.specs.Meaning.{ImageView}
 use Rattle.module_area.specs.Images.{IsImage, AreClear}
-use Rattle.module_area.specs.Views.{DataView}
+use Rattle.module_area.specs.Meaning.{DataView}
 use Rattle.cov_base.specs.declared.limits.TheConstants.{MODULE_LIMIT, SIZE_LIMIT, LINE_LIMIT, PHASE_LIMIT, SESSION_LIMIT, TASK_LIMIT, PRIVATE_LIMIT, BUDGET_LIMIT, ROOM_LIMIT}
-use Rattle.session_book.specs.JobView.{JobView, SessionView, TaskView, IsJob, IsSession, IsListing, IsTaskOf, HasController, AreParted, Differ, first_regs}
+use Rattle.session_book.specs.Meaning.{JobView, SessionView, TaskView, first_regs}
+use Rattle.session_book.specs.JobView.{IsJob, IsSession, IsListing, IsTaskOf, HasController, AreParted, Differ}
 use Rattle.session_book.specs.JobView as book
-use Rattle.job_text.specs.Drafts.{SessionDraft, DraftView, Controllers, Present, is_controller, controller_of, is_met_by, is_met, are_met, bound_session, bound}
-use Rattle.job_text.specs.Lines.{LineView}
-use Rattle.job_text.specs.CardView.{Module, Session, Task}
-use Rattle.job_text.specs.Cards.{may_stand}
-use Rattle.job_text.specs.Tasks.{RegView, set_regs, AreData, task_view}
-use Rattle.job_text.specs.Adding.{no_job, is_clear, with_phase, this_phase, is_same_controller, bars, index_of, is_free, put_index, indices_on, session_draft, with_session}
-use Rattle.job_text.specs.Spells.{AreModules, IsModule, AreSessions, IsTaskBlock, AreTasks, IsPhase, ArePhases, Spells}
-use Rattle.job_text.specs.Limits.{are_short, IsWithin}
+use Rattle.job_text.specs.Meaning.{SessionDraft, DraftView, Controllers, Present, is_controller, controller_of, is_met_by, is_met, are_met, bound_session, bound, LineView, Module, Session, Task, may_stand, RegView, set_regs, AreData, task_view, no_job, is_clear, with_phase, this_phase, is_same_controller, bars, index_of, is_free, put_index, indices_on, session_draft, with_session, AreModules, IsModule, AreSessions, IsTaskBlock, AreTasks, IsPhase, ArePhases, Spells, are_short, IsWithin}
 use Rattle.job_text.specs.declared.limit.Limit.TheVariants as limit
 use Rattle.job_text.specs.Steps.{State, start, is_done, run}
 use Rattle.job_text.proofs.Guards.{guard_none}
@@ -154,7 +148,7 @@ module_so_far block j after m s =
 
 modules_so_far : (blocks : List (List LineView)) (j after : DraftView) → AreModules j blocks after → SoFar j → SoFar after
 modules_so_far [] j after are s = rw (← are) s
-modules_so_far (block ∷ blocks) j after are s = modules_so_far blocks are.mid after are.then (module_so_far block j are.mid are.is_module s)
+modules_so_far (block ∷ blocks) j after are s = modules_so_far blocks are.mid after are.follows (module_so_far block j are.mid are.is_module s)
 
 -- phases
 
@@ -278,7 +272,7 @@ sessions_so_far [] j after are s = rw (← are) s
 sessions_so_far (l ∷ ls) j after are s =
     let good : Good (Session are.name are.by are.names) = card_good l.bytes (Session are.name are.by are.names) are.card in
     let next : InPhase are.mid = record { so_far = session_so_far j are.mid are.name are.by are.names are.adds good.1 s.phase s.so_far; phase = rw (session_phases j are.mid are.name are.by are.names are.adds) s.phase } in
-    sessions_so_far ls are.mid after are.then next
+    sessions_so_far ls are.mid after are.follows next
 
 -- tasks
 
@@ -323,7 +317,7 @@ task_so_far block j after m s =
 
 tasks_so_far : (blocks : List (List LineView)) (j after : DraftView) → AreTasks j blocks after → InPhase j → InPhase after
 tasks_so_far [] j after are s = rw (← are) s
-tasks_so_far (block ∷ blocks) j after are s = tasks_so_far blocks are.mid after are.then (task_so_far block j are.mid are.is_task s)
+tasks_so_far (block ∷ blocks) j after are s = tasks_so_far blocks are.mid after are.follows (task_so_far block j are.mid are.is_task s)
 
 phases_so_far : (ask : Controllers) (blocks : List (List LineView)) (j after : DraftView) → ArePhases ask j blocks after → SoFar j → SoFar after
 phases_so_far ask [] j after are s = rw (← are) s
@@ -332,7 +326,7 @@ phases_so_far ask (block ∷ blocks) j after are s =
     let named : InPhase p.named = record { so_far = phase_so_far j p.named p.name p.adds s; phase = phase_is j p.named p.name p.adds } in
     let mid : InPhase p.mid = sessions_so_far p.sessions p.named p.mid p.are_sessions named in
     let end : InPhase are.mid = tasks_so_far p.tasks p.mid are.mid p.are_tasks mid in
-    phases_so_far ask blocks are.mid after are.then end.so_far
+    phases_so_far ask blocks are.mid after are.follows end.so_far
 
 -- the limits
 
@@ -409,11 +403,11 @@ all_parted tasks ss met parted i j d l m =
 
 modules_none : (blocks : List (List LineView)) (j after : DraftView) → AreModules j blocks after → j.sessions ≡ [] → after.sessions ≡ []
 modules_none [] j after are e = ap (λ (x : DraftView). x.sessions) (sym are) ∙ e
-modules_none (block ∷ blocks) j after are e = modules_none blocks are.mid after are.then (ap (λ (x : DraftView). x.sessions) are.is_module.is_after ∙ e)
+modules_none (block ∷ blocks) j after are e = modules_none blocks are.mid after are.follows (ap (λ (x : DraftView). x.sessions) are.is_module.is_after ∙ e)
 
 phases_met : (blocks : List (List LineView)) (j after : DraftView) → ArePhases Present j blocks after → are_met Present j ≡ true → are_met Present after ≡ true
 phases_met [] j after are e = rw (← are) e
-phases_met (block ∷ blocks) j after are e = phases_met blocks are.mid after are.then are.is_phase.met
+phases_met (block ∷ blocks) j after are e = phases_met blocks are.mid after are.follows are.is_phase.met
 
 all_met : (ls : List LineView) (job : JobView) (p : Spells Present ls job) → All (λ s. is_met p.draft.tasks s ≡ true) p.draft.sessions
 all_met ls job p =

@@ -1,16 +1,8 @@
-pub mod Adding
-pub mod CardView
-pub mod Cards
-pub mod Drafts
-pub mod Limits
 pub mod Lines
+pub mod Meaning
 pub mod Pieces
 pub mod Refusals
-pub mod Schedule
-pub mod Spells
 pub mod Steps
 pub mod Taken
 pub mod TaskParts
-pub mod Tasks
 pub mod Views
-pub mod Words

@@ -1,11 +1,8 @@
 -- What is answered to a piece of a job.
 use Rattle.std.specs.Prelude.{◌≡◌, ℕ, ◌≤◌, Bool, true, false, List, ◌++◌, length, take}
-use Rattle.session_book.specs.JobView.{JobView}
-use Rattle.job_text.specs.Lines.{lines_of, ended_lines, IsClosed}
-use Rattle.job_text.specs.Limits.{IsWithin}
-use Rattle.job_text.specs.Refusals.{GoesOn, IsRefusal}
-use Rattle.job_text.specs.Drafts.{Present}
-use Rattle.job_text.specs.Spells.{Spells}
+use Rattle.session_book.specs.Meaning.{JobView}
+use Rattle.job_text.specs.Meaning.{lines_of, IsWithin, GoesOn, IsRefusal, Present, Spells}
+use Rattle.job_text.specs.Lines.{ended_lines, IsClosed}
 use Rattle.job_text.specs.declared.jobs.JobFault.{JobFault}
 use Rattle.job_text.specs.declared.jobs.JobFault.TheVariants as fault
 use Rattle.job_text.specs.declared.pieces.Fed.{Fed}

@@ -1,12 +1,8 @@
 -- The reader's states, and what a line makes of each. Only private contracts cite this.
 use Rattle.std.specs.Prelude.{◌≡◌, ℕ, ◌+◌, ◌-◌, ◌≤◌, Bool, true, false, not, nat_eq, nat_le, if◌then◌else◌, Option, Some, None, List, [], ◌∷◌, ◌++◌, length, option_map, option_and_then}
-use Rattle.cov_base.specs.Memory.{ImageView}
+use Rattle.cov_base.specs.Meaning.{ImageView}
 use Rattle.cov_base.specs.declared.limits.TheConstants.{MODULE_LIMIT, SIZE_LIMIT, LINE_LIMIT, PHASE_LIMIT, SESSION_LIMIT, TASK_LIMIT, PRIVATE_LIMIT, BUDGET_LIMIT, ROOM_LIMIT}
-use Rattle.job_text.specs.Drafts.{DraftView, Controllers, are_met}
-use Rattle.job_text.specs.Lines.{LineView, listing_text}
-use Rattle.job_text.specs.CardView.{CardView, Cover, Module, Text, Listing, Phase, Session, Task, End}
-use Rattle.job_text.specs.Cards.{card_at}
-use Rattle.job_text.specs.Adding.{no_job, fits, with_module, with_phase, with_session, has_task, with_task}
+use Rattle.job_text.specs.Meaning.{DraftView, Controllers, are_met, LineView, listing_text, CardView, Cover, Module, Text, Listing, Phase, Session, Task, End, card_at, no_job, fits, with_module, with_phase, with_session, has_task, with_task}
 use Rattle.job_text.specs.TaskParts.{fresh_task, task_more}
 use Rattle.job_text.specs.declared.limit.Limit.{Limit}
 use Rattle.job_text.specs.declared.limit.Limit.TheVariants as limit

@@ -2,9 +2,8 @@
 use Rattle.std.specs.Prelude.{◌≡◌, ℕ, ◌+◌, ◌≤◌, Bool, true, false, nat_eq, Option, Some, None, List, [], ◌++◌, length, option_map}
 use Rattle.std.specs.List.{list_any}
 use Rattle.cov_base.specs.declared.constants.TheConstants.{INPUT_LIMIT}
-use Rattle.job_text.specs.Lines.{LineView, lines_of, span, IsClosed}
-use Rattle.job_text.specs.Drafts.{Present}
-use Rattle.job_text.specs.Refusals.{GoesOn}
+use Rattle.job_text.specs.Meaning.{LineView, lines_of, Present, GoesOn}
+use Rattle.job_text.specs.Lines.{span, IsClosed}
 use Rattle.job_text.specs.Steps.{State, start, plain, is_done, step, run}
 use Rattle.job_text.specs.Pieces.{IsTold}
 use Rattle.job_text.specs.declared.jobs.JobFault.{JobFault}

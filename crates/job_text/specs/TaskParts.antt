@@ -1,9 +1,8 @@
 -- What each card of a task makes of the part of it that was read.
 use Rattle.std.specs.Prelude.{◌≡◌, ℕ, ◌+◌, Bool, true, false, ◌&&◌, nat_le, if◌then◌else◌, Option, Some, None, List, [], ◌∷◌, ◌++◌, length, slice_set}
-use Rattle.module_area.specs.Views.{DataView}
-use Rattle.session_book.specs.JobView.{TaskView, first_regs}
-use Rattle.job_text.specs.CardView.{CardView, Reg, Data, Input}
-use Rattle.job_text.specs.Tasks.{task_view}
+use Rattle.module_area.specs.Meaning.{DataView}
+use Rattle.session_book.specs.Meaning.{TaskView, first_regs}
+use Rattle.job_text.specs.Meaning.{CardView, Reg, Data, Input, task_view}
 use Rattle.job_text.specs.declared.refused.LineRefused.{LineRefused}
 use Rattle.job_text.specs.declared.refused.LineRefused.TheVariants as refused
 use Rattle.job_text.specs.declared.task.TaskPart.{TaskPart}

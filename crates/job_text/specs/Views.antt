@@ -1,7 +1,7 @@
 -- A card without the memory that holds it.
 use Rattle.job_text.specs.declared.card.Card.{Card}
 use Rattle.job_text.specs.declared.card.Card.TheVariants as card
-use Rattle.job_text.specs.CardView.{CardView, Cover, Module, Text, Listing, Phase, Session, Task, Reg, Data, Input, End}
+use Rattle.job_text.specs.Meaning.{CardView, Cover, Module, Text, Listing, Phase, Session, Task, Reg, Data, Input, End}
 
 abbrev pub view : Card → CardView
 view card.Cover = Cover

@@ -2,7 +2,7 @@
 ghost use Rattle.std.specs.Prelude.{◌≡◌, ◌<◌, ◌≤◌, IfOk, IfSome, length, map, option_and_then};
 ghost use Rattle.std.specs.List.{list_any, list_all};
 ghost use Rattle.cov_base.specs.declared.limits.TheConstants.{TASK_LIMIT};
-ghost use Rattle.job_text.specs.Drafts as drafts;
+ghost use Rattle.job_text.specs.Meaning as drafts;
 
 use crate::parts::{Draft, SessionDraft};
 use cov_base::{Name, NoMemory};

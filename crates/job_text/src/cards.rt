@@ -1,8 +1,8 @@
 //! The card that a line is.
 ghost use Rattle.std.specs.Prelude.{◌≡◌, map, IfOk, option_map};
-ghost use Rattle.cov_base.specs.Names.{name_at};
-ghost use Rattle.job_text.specs.Words.{number_at, bytes_at, word_at, names_at};
-ghost use Rattle.job_text.specs.Cards as spell;
+ghost use Rattle.cov_base.specs.Meaning.{name_at};
+ghost use Rattle.job_text.specs.Meaning.{number_at, bytes_at, word_at, names_at};
+ghost use Rattle.job_text.specs.Meaning as spell;
 ghost use Rattle.job_text.specs.Views.{view};
 
 use crate::card::{Card, RegCard};

@@ -3,8 +3,8 @@ ghost use Rattle.std.specs.Prelude.{◌≡◌, ◌+◌, ◌≤◌, ◌<◌, ◌&
 ghost use Rattle.std.specs.List.{list_any};
 ghost use Rattle.std.specs.Str.{bytes_eq};
 ghost use Rattle.cov_base.specs.declared.limits.TheConstants.{MODULE_LIMIT, PHASE_LIMIT};
-ghost use Rattle.job_text.specs.Drafts.{Present};
-ghost use Rattle.job_text.specs.Adding as adding;
+ghost use Rattle.job_text.specs.Meaning.{Present};
+ghost use Rattle.job_text.specs.Meaning as adding;
 ghost use Rattle.job_text.specs.Steps as machine;
 ghost use Rattle.job_text.specs.declared.parts.Part.TheVariants as kind;
 

@@ -1,12 +1,9 @@
 //! Reads a job.
 ghost use Rattle.std.specs.Prelude.{◌≡◌, ℕ, ◌≤◌, IfOk, IfErr, length, take};
 ghost use Rattle.cov_base.specs.declared.constants.TheConstants.{INPUT_LIMIT};
-ghost use Rattle.session_book.specs.JobView.{JobView};
-ghost use Rattle.job_text.specs.Drafts.{Present};
-ghost use Rattle.job_text.specs.Lines.{lines_of};
-ghost use Rattle.job_text.specs.Limits.{IsWithin};
-ghost use Rattle.job_text.specs.Refusals.{IsRead, IsOnly, IsRefusal};
-ghost use Rattle.job_text.specs.Spells.{Spells};
+ghost use Rattle.session_book.specs.Meaning.{JobView};
+ghost use Rattle.job_text.specs.Meaning.{Present, lines_of, IsWithin, IsRefusal, Spells};
+ghost use Rattle.job_text.specs.Refusals.{IsRead, IsOnly};
 
 use crate::limit::Limit;
 use crate::reader::JobReader;

@@ -1,6 +1,7 @@
 //! The lines of an input.
 ghost use Rattle.std.specs.Prelude.{◌≡◌, ◌+◌, ◌∷◌, ◌<◌, length, nat_eq, position};
-ghost use Rattle.job_text.specs.Lines.{lines_of, listing_text, span};
+ghost use Rattle.job_text.specs.Meaning.{lines_of, listing_text};
+ghost use Rattle.job_text.specs.Lines.{span};
 
 /// The first line of a text without its LF, whether an LF ended it, and the bytes that follow.
 #[derive(Drop)]

@@ -17,7 +17,7 @@ pub(crate) struct SessionDraft {
 }
 
 impl Model for SessionDraft {
-    ghost use Rattle.job_text.specs.Drafts as drafts;
+    ghost use Rattle.job_text.specs.Meaning as drafts;
 
     ghost Value = { drafts.SessionDraft };
 
@@ -35,7 +35,7 @@ pub(crate) struct Draft {
 }
 
 impl Model for Draft {
-    ghost use Rattle.job_text.specs.Drafts.{DraftView};
+    ghost use Rattle.job_text.specs.Meaning.{DraftView};
 
     ghost Value = { DraftView };
 

@@ -1,13 +1,10 @@
 //! A job that is read in pieces.
 ghost use Rattle.std.specs.Prelude.{◌≡◌, ◌+◌, ◌≤◌, ◌++◌, ℕ, List, [], false, None, Some, Err, IfOk, IfErr, length, take};
 ghost use Rattle.cov_base.specs.declared.constants.TheConstants.{INPUT_LIMIT};
-ghost use Rattle.session_book.specs.JobView.{JobView};
-ghost use Rattle.job_text.specs.Drafts.{Present};
-ghost use Rattle.job_text.specs.Lines.{lines_of};
-ghost use Rattle.job_text.specs.Limits.{IsWithin};
+ghost use Rattle.session_book.specs.Meaning.{JobView};
+ghost use Rattle.job_text.specs.Meaning.{Present, lines_of, IsWithin, IsRefusal, Spells};
 ghost use Rattle.job_text.specs.Pieces.{IsTold, Feeds, used_of, used_count, is_end};
-ghost use Rattle.job_text.specs.Refusals.{IsRead, IsOnly, IsRefusal};
-ghost use Rattle.job_text.specs.Spells.{Spells};
+ghost use Rattle.job_text.specs.Refusals.{IsRead, IsOnly};
 ghost use Rattle.job_text.specs.Taken.{IsFed, told, has_ended, fed_size};
 
 use crate::jobs::{JobFault, ReadJob};

@@ -1,7 +1,7 @@
 //! The items of a schedule.
 ghost use Rattle.std.specs.Prelude.{◌≡◌, ◌<◌, IfSome, length, position};
 ghost use Rattle.std.specs.Str.{bytes_eq};
-ghost use Rattle.job_text.specs.Schedule as spell;
+ghost use Rattle.job_text.specs.Meaning as spell;
 
 use crate::words::{first_blank, is};
 use cov_base::{Name, TaskNo};

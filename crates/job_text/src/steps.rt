@@ -2,8 +2,8 @@
 ghost use Rattle.std.specs.Prelude.{◌≡◌, ℕ, ◌<◌, ◌≤◌, true, Option, Some, None, IfOk, IfErr, length};
 ghost use Rattle.cov_base.specs.declared.limits.TheConstants.{PHASE_LIMIT};
 ghost use Rattle.session_book.specs.JobView.{IsJob};
-ghost use Rattle.job_text.specs.CardView as says;
-ghost use Rattle.job_text.specs.Drafts.{Present, bound};
+ghost use Rattle.job_text.specs.Meaning as says;
+ghost use Rattle.job_text.specs.Meaning.{Present, bound};
 ghost use Rattle.job_text.specs.Steps as machine;
 ghost use Rattle.job_text.specs.declared.parts.Part.TheVariants as kind;
 ghost use Rattle.job_text.specs.Views.{view};

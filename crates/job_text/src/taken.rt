@@ -1,11 +1,8 @@
 //! The whole lines of a job that were taken.
 ghost use Rattle.std.specs.Prelude.{◌≡◌, ◌+◌, ◌<◌, ◌≤◌, ◌^◌, ℕ, List, IfOk, IfErr, length, take};
-ghost use Rattle.session_book.specs.JobView.{JobView};
-ghost use Rattle.job_text.specs.Drafts.{Present};
-ghost use Rattle.job_text.specs.Lines.{lines_of};
-ghost use Rattle.job_text.specs.Limits.{IsWithin};
-ghost use Rattle.job_text.specs.Refusals.{IsRead, IsOnly, IsRefusal};
-ghost use Rattle.job_text.specs.Spells.{Spells};
+ghost use Rattle.session_book.specs.Meaning.{JobView};
+ghost use Rattle.job_text.specs.Meaning.{Present, lines_of, IsWithin, IsRefusal, Spells};
+ghost use Rattle.job_text.specs.Refusals.{IsRead, IsOnly};
 ghost use Rattle.job_text.specs.Steps.{start, step};
 ghost use Rattle.job_text.specs.Taken.{IsNext, IsFaultOf, HasRun};
 

@@ -2,8 +2,8 @@
 ghost use Rattle.std.specs.Prelude.{◌≡◌, ◌+◌, ◌*◌, ◌<◌, map, IfOk, option_map, nat_eq, position};
 ghost use Rattle.std.specs.Str.{bytes_eq};
 ghost use Rattle.std.specs.List.{list_all};
-ghost use Rattle.cov_base.specs.Names.{is_digit};
-ghost use Rattle.job_text.specs.Words as spell;
+ghost use Rattle.cov_base.specs.Meaning.{is_digit};
+ghost use Rattle.job_text.specs.Meaning as spell;
 
 use cov_base::{Addr, Name};
 use hex::{FromHex, FromHexError};

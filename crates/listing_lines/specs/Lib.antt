@@ -1,3 +1,3 @@
-pub mod Columns
-pub mod Heading
 pub mod Buffer
+pub mod Columns
+pub mod Meaning

@@ -1,6 +1,7 @@
 //! The columns of a listing line.
 ghost use Rattle.std.specs.Prelude.{◌≡◌, ◌≤◌};
-ghost use Rattle.listing_lines.specs.Columns.{column, columns_of, AreColumns};
+ghost use Rattle.listing_lines.specs.Meaning.{column, columns_of};
+ghost use Rattle.listing_lines.specs.Columns.{AreColumns};
 
 /// How wide a listing is.
 #[derive(Clone, Copy, Debug, PartialEq, Eq)]
@@ -56,7 +57,7 @@ pub fn columns_of(width: Width) -> Columns
 
 /// The byte in column n, counted from 1 behind the shift, which is 1 where the lines begin with a print
 /// control character and else 0. A line that ends early is filled with blanks.
-#[tactic(auto, unfolding(crate::specs::Columns::column))]
+#[tactic(auto, unfolding(crate::specs::Meaning::column))]
 pub fn column(line: &[u8], shift: u8, n: usize) -> u8
     requires { 1 ≤ n }
     ensures { result ≡ column line.now shift n }

@@ -1,6 +1,6 @@
 //! The heading of a listing's source and object section.
 ghost use Rattle.std.specs.Prelude.{◌≡◌, ◌≤◌, ◌<◌, IfSome, length, position};
-ghost use Rattle.listing_lines.specs.Heading.{is_text_after, has_heading, is_heading, shift_in, width_in, heading_of};
+ghost use Rattle.listing_lines.specs.Meaning.{is_text_after, has_heading, is_heading, shift_in, width_in, heading_of};
 
 use crate::columns::Width;
 use crate::lines::ListingLines;
@@ -11,7 +11,7 @@ const NARROW: &[u8] = b"Loc  Object Code    Addr1 Addr2  Stmt   Source Statement
 const WIDE: &[u8] = b"Loc    Object Code      Address1 Address2  Stmt   Source Statement";
 
 /// Whether the text stands behind so many columns.
-#[tactic(auto, unfolding(crate::specs::Heading::is_text_after))]
+#[tactic(auto, unfolding(crate::specs::Meaning::is_text_after))]
 fn is_text_after(text: &[u8], line: &[u8], before: usize) -> bool
     requires { before ≤ 3 }
     ensures { result ≡ is_text_after text.now line.now before }

@@ -5,8 +5,8 @@ use Rattle.std.specs.Prelude.{option_map}
 use Rattle.std.specs.Option.{option_and_then}
 use Rattle.hex.specs.Hex.{hex_digit_value}
 use Rattle.listing_lines.specs.declared.columns.Columns.{Columns}
-use Rattle.listing_lines.specs.Columns.{column}
-use Rattle.listing_reader.specs.Fields.{all_below, number_in, byte_in}
+use Rattle.listing_lines.specs.Meaning.{column}
+use Rattle.listing_reader.specs.Meaning.{all_below, number_in, byte_in}
 
 and_false : (b : Bool) → (b && false) ≡ false
 and_false true = refl

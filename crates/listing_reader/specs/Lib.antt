@@ -1,3 +1,3 @@
-pub mod Fields
 pub mod Listing
+pub mod Meaning
 pub mod Packed

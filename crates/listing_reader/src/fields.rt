@@ -1,7 +1,7 @@
 //! Blanks and hexadecimal digits in the columns of a line.
 ghost use Rattle.std.specs.Prelude.{◌≡◌, ◌+◌, ◌*◌, ◌<◌, ◌≤◌, ◌^◌, IfSome};
 ghost use Rattle.hex.specs.Hex.{hex_digit_value};
-ghost use Rattle.listing_reader.specs.Fields.{are_blank, is_blank_at, number_in};
+ghost use Rattle.listing_reader.specs.Meaning.{are_blank, is_blank_at, number_in};
 
 use listing_lines::column;
 
@@ -27,7 +27,7 @@ pub fn is_blank_at(line: &[u8], shift: u8, n: usize) -> bool
 }
 
 /// Whether so many columns from one on are blank.
-#[tactic(auto, using(crate::proofs::Digits::all_below_none, crate::proofs::Digits::all_below_more), unfolding(crate::specs::Fields::are_blank))]
+#[tactic(auto, using(crate::proofs::Digits::all_below_none, crate::proofs::Digits::all_below_more), unfolding(crate::specs::Meaning::are_blank))]
 pub fn are_blank(line: &[u8], shift: u8, from: usize, count: usize) -> bool
     requires from { 1 ≤ from }
     requires fits { from + count < 2 ^ 64 }

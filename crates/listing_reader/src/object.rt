@@ -1,8 +1,8 @@
 //! The object code of a line: one to three groups of four hexadecimal digits.
 ghost use Rattle.std.specs.Prelude.{◌≡◌, ◌+◌, ◌*◌, ◌<◌, ◌≤◌, ◌^◌, ◌==◌, IfSome};
-ghost use Rattle.cov_base.specs.Codes.{length_of};
-ghost use Rattle.s370_decode.specs.Fields.{first_half};
-ghost use Rattle.listing_reader.specs.Fields.{fits_groups, are_groups, byte_in, byte_of, code_in, code_with, object_of};
+ghost use Rattle.cov_base.specs.Meaning.{length_of};
+ghost use Rattle.s370_decode.specs.Meaning.{first_half};
+ghost use Rattle.listing_reader.specs.Meaning.{fits_groups, are_groups, byte_in, byte_of, code_in, code_with, object_of};
 
 use crate::fields::{digit, is_blank_at};
 use cov_base::Addr;
@@ -21,7 +21,7 @@ fn fits_groups(line: &[u8], shift: u8, first: usize, groups: usize, k: usize) ->
     }
 }
 
-#[tactic(auto, using(crate::proofs::Digits::all_below_none, crate::proofs::Digits::all_below_more), unfolding(crate::specs::Fields::are_groups))]
+#[tactic(auto, using(crate::proofs::Digits::all_below_none, crate::proofs::Digits::all_below_more), unfolding(crate::specs::Meaning::are_groups))]
 fn are_groups(line: &[u8], shift: u8, columns: Columns, groups: usize) -> bool
     requires { 1 ≤ columns.object }
     ensures { result ≡ are_groups columns line.now shift groups }
@@ -83,7 +83,7 @@ fn code_in(line: &[u8], shift: u8, columns: Columns, groups: u8) -> Code
     }
 }
 
-#[tactic(auto, unfolding(crate::specs::Fields::code_in))]
+#[tactic(auto, unfolding(crate::specs::Meaning::code_in))]
 fn code_with(line: &[u8], shift: u8, columns: Columns, groups: u8) -> Option<Code>
     requires groups { groups ≤ 3 }
     requires first { 1 ≤ columns.object }
@@ -101,7 +101,7 @@ fn code_with(line: &[u8], shift: u8, columns: Columns, groups: u8) -> Option<Cod
     }
 }
 
-#[tactic(auto, unfolding(crate::specs::Fields::object_of))]
+#[tactic(auto, unfolding(crate::specs::Meaning::object_of))]
 /// The object code; none exactly where the columns are not one to three groups, or where the first byte gives
 /// another length.
 pub fn object_of(line: &[u8], shift: u8, columns: Columns) -> Option<Code>

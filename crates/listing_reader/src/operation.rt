@@ -1,8 +1,8 @@
 //! The operation of a source statement.
 ghost use Rattle.std.specs.Prelude.{◌≡◌, ◌≤◌, ◌<◌, map, position, not};
 ghost use Rattle.std.specs.Char.{to_ascii_uppercase};
-ghost use Rattle.s370_decode.specs.Mnemonics.{is_mnemonic};
-ghost use Rattle.listing_reader.specs.Fields.{is_blank, skip_blanks, run_of, after_run, source_of, operation_of, has_mnemonic};
+ghost use Rattle.s370_decode.specs.Meaning.{is_mnemonic};
+ghost use Rattle.listing_reader.specs.Meaning.{is_blank, skip_blanks, run_of, after_run, source_of, operation_of, has_mnemonic};
 
 use crate::fields::is_blank_at;
 use listing_lines::{Columns, column};
@@ -85,7 +85,7 @@ fn is_mnemonic(word: &[u8]) -> bool
     s370_decode::is_mnemonic(letters)
 }
 
-#[tactic(auto, unfolding(crate::specs::Fields::has_mnemonic))]
+#[tactic(auto, unfolding(crate::specs::Meaning::has_mnemonic))]
 /// Whether the line's statement has an operation that is a mnemonic.
 pub fn has_mnemonic(line: &[u8], shift: u8, columns: Columns) -> bool
     requires { 1 ≤ columns.source }

@@ -3,8 +3,8 @@ ghost use Rattle.std.specs.Prelude.{◌≡◌, ◌+◌, ◌≤◌, ◌<◌, leng
 ghost use Rattle.std.specs.declared.option.Option.TheVariants.{Some, None};
 ghost use Rattle.std.specs.List.{AllPass};
 ghost use Rattle.listing_lines.specs.Columns.{AreColumns};
-ghost use Rattle.listing_reader.specs.Fields.{location_of, is_instruction};
-ghost use Rattle.listing_reader.specs.Listing.{is_sound, line_of, lines_behind, bad_from, listing_of, fault_of, IsTold};
+ghost use Rattle.listing_reader.specs.Meaning.{location_of, is_instruction, line_of, lines_behind, bad_from, listing_of, fault_of};
+ghost use Rattle.listing_reader.specs.Listing.{is_sound, IsTold};
 
 use crate::fields::{are_blank, is_blank_at, number_in};
 use crate::lines::{Line, ListFault};
@@ -27,7 +27,7 @@ fn location_of(line: &[u8], shift: u8, columns: Columns) -> Option<u32>
     )
 }
 
-#[tactic(auto, unfolding(crate::specs::Fields::is_instruction))]
+#[tactic(auto, unfolding(crate::specs::Meaning::is_instruction))]
 fn is_instruction(line: &[u8], shift: u8, columns: Columns) -> bool
     requires { AreColumns columns }
     ensures { result ≡ is_instruction columns line.now shift }
@@ -43,7 +43,7 @@ fn is_instruction(line: &[u8], shift: u8, columns: Columns) -> bool
 }
 
 /// A line behind the heading; none where it is an instruction's and its object code is no code.
-#[tactic(auto, unfolding(crate::specs::Listing::line_of))]
+#[tactic(auto, unfolding(crate::specs::Meaning::line_of))]
 fn read_line(line: &[u8], shift: u8, columns: Columns) -> Option<Line>
     requires { AreColumns columns }
     ensures value { result ≡ line_of columns shift line.now }

@@ -3,8 +3,7 @@ use Rattle.std.proofs.Common.{◌≡◌, ℕ, ◌+◌, ◌≤◌, Bool, true, fa
 use Rattle.std.specs.List.{list_all}
 use Rattle.std.proofs.lemmas.Bool.{le-leb}
 use Rattle.byteorder.specs.Endian.{big_number}
-use Rattle.marks_file.specs.Marks.{MarkedView, kind_of_number, is_location, is_length, is_original, is_set, is_new_name, is_base, is_size, is_count, place_count}
-use Rattle.marks_file.specs.Reading.{Field, first_bad, place_fields, header_fields, count_at}
+use Rattle.marks_file.specs.Meaning.{MarkedView, kind_of_number, is_location, is_length, is_original, is_set, is_new_name, is_base, is_size, is_count, place_count, Field, first_bad, place_fields, header_fields, count_at}
 use Rattle.marks_file.proofs.MarksLemmas.{both-left, both-right, le_of_test}
 
 goes : (g : Bool) (a : ℕ) (x y z : Option ℕ) → (x ≡ None → y ≡ z) → (if g then x else Some a) ≡ None → (if g then y else Some a) ≡ z

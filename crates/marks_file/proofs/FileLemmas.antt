@@ -7,10 +7,9 @@ use Rattle.std.proofs.Math.Seq.{drop-append_seam, take-append_seam, take-length}
 use Rattle.std.proofs.lemmas.Bool.{le-leb}
 use Rattle.byteorder.specs.Endian.{big_number, big_bytes}
 use Rattle.byteorder.specs.Numbers.{big_number-reads_back}
-use Rattle.cov_base.specs.Names.{is_filled}
-use Rattle.marks_file.specs.Marks.{MarkedView, MarksView, is_new_name, is_base, is_size, is_count, are_modules, is_module_count, are_marks, is_runs, keeps_rules, place_count}
-use Rattle.marks_file.specs.MarksFile.{place_bytes, module_row, module_bytes, magic, name_field, session_bytes, file_bytes, HasFile}
-use Rattle.marks_file.specs.Reading.{IsFault, first_bad, places_at, places_fields, header_fields, module_fields, module_at, modules_at, modules_fields, count_at, table_fields, table_at, version_of, table_from, heading_fields, file_fields, name_at, runs_at, marks_of, marks_at}
+use Rattle.cov_base.specs.Meaning.{is_filled}
+use Rattle.marks_file.specs.Meaning.{MarkedView, MarksView, is_new_name, is_base, is_size, is_count, are_modules, is_module_count, are_marks, is_runs, keeps_rules, place_count, place_bytes, module_row, module_bytes, magic, name_field, session_bytes, file_bytes, HasFile, first_bad, places_at, places_fields, header_fields, module_fields, module_at, modules_fields, count_at, table_fields, version_of, table_from, heading_fields, file_fields}
+use Rattle.marks_file.specs.Reading.{IsFault, modules_at, table_at, name_at, runs_at, marks_of, marks_at}
 use Rattle.marks_file.specs.declared.marks.MarkedPlace.{MarkedPlace}
 use Rattle.marks_file.specs.declared.fault.MarksFault.{MarksFault}
 use Rattle.marks_file.specs.declared.fault.MarksFault.TheVariants.{BadMarks, NoMemory}

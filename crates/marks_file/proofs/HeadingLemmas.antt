@@ -5,10 +5,9 @@ use Rattle.std.proofs.lemmas.List.{drop-drop, take-append-drop}
 use Rattle.std.proofs.lemmas.Bool.{le-leb}
 use Rattle.byteorder.specs.Endian.{big_number, big_bytes}
 use Rattle.byteorder.specs.Numbers.{big_number-reads_back, big_from-lt}
-use Rattle.cov_base.specs.Names.{is_filled}
-use Rattle.marks_file.specs.Marks.{MarksView, most_runs, is_runs}
-use Rattle.marks_file.specs.MarksFile.{magic, name_field, session_bytes, Tells}
-use Rattle.marks_file.specs.Reading.{first_bad, field, is_magic, version_of, table_from, is_name_field, named, name_at, runs_at, marks_of, session_fields, heading_fields}
+use Rattle.cov_base.specs.Meaning.{is_filled}
+use Rattle.marks_file.specs.Meaning.{MarksView, most_runs, is_runs, magic, name_field, session_bytes, Tells, first_bad, field, is_magic, version_of, table_from, is_name_field, session_fields, heading_fields}
+use Rattle.marks_file.specs.Reading.{named, name_at, runs_at, marks_of}
 use Rattle.marks_file.specs.declared.version.Version.{Version}
 use Rattle.marks_file.specs.declared.version.Version.TheVariants.{First, Second}
 use Rattle.marks_file.proofs.Parts.{is_session_name}

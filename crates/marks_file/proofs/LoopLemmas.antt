@@ -2,8 +2,8 @@
 use Rattle.std.proofs.Common.{◌≡◌, ℕ, ◌+◌, ◌-◌, ◌≤◌, ◌<◌, suc, nat_le, slice_index, None, Some, List, [], ◌∷◌, ◌++◌, length, take, drop, refl, ap, sym, ◌∙◌, arith, append_assoc, append-nil, length-drop}
 use Rattle.std.proofs.lemmas.List.{drop-drop}
 use Rattle.byteorder.specs.Endian.{big_number}
-use Rattle.marks_file.specs.Marks.{MarkedView, end_of, is_length}
-use Rattle.marks_file.specs.Reading.{Field, IsFault, first_bad, place_at, place_fields, places_at, places_fields, header_fields, module_fields, count_at, module_at}
+use Rattle.marks_file.specs.Meaning.{MarkedView, end_of, is_length, Field, first_bad, place_at, place_fields, places_at, places_fields, header_fields, module_fields, count_at, module_at}
+use Rattle.marks_file.specs.Reading.{IsFault}
 use Rattle.marks_file.specs.declared.fault.MarksFault.{MarksFault}
 use Rattle.marks_file.specs.declared.fault.MarksFault.TheVariants.{BadMarks, NoMemory}
 use Rattle.marks_file.specs.declared.marks.MarkedPlace.{MarkedPlace}

@@ -3,8 +3,9 @@ use Rattle.std.proofs.Common.{◌≡◌, ℕ, ◌+◌, ◌≤◌, zero, suc, Boo
 use Rattle.std.specs.Str.{bytes_eq}
 use Rattle.std.proofs.lemmas.Bool.Decides.{nat_tests}
 use Rattle.std.proofs.lemmas.Slice.Eq.{bytes_eq-Decides}
-use Rattle.cov_base.specs.Names.{is_name, padded, unpadded, is_filled}
-use Rattle.marks_file.specs.Marks.{MarkedView, MarksView, HasRow, is_new_name, is_base, is_size, is_count, are_modules, is_module_count, are_marks, is_runs, keeps_rules, place_count}
+use Rattle.cov_base.specs.Meaning.{is_name, padded, unpadded, is_filled}
+use Rattle.marks_file.specs.Meaning.{MarkedView, MarksView, is_new_name, is_base, is_size, is_count, are_modules, is_module_count, are_marks, is_runs, keeps_rules, place_count}
+use Rattle.marks_file.specs.Marks.{HasRow}
 use Rattle.marks_file.proofs.Parts.{is_module, is_session_name}
 
 pub both-left : (a b : Bool) → (a && b) ≡ true → a ≡ true

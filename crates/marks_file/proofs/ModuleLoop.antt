@@ -3,9 +3,8 @@ use Rattle.std.proofs.Common.{◌≡◌, ℕ, ◌+◌, ◌-◌, ◌*◌, ◌≤�
 use Rattle.std.specs.List.{flat_map}
 use Rattle.std.proofs.lemmas.List.{drop-drop}
 use Rattle.std.proofs.lemmas.Grind.{flat_map-append}
-use Rattle.marks_file.specs.Marks.{MarkedView, place_count}
-use Rattle.marks_file.specs.MarksFile.{module_bytes}
-use Rattle.marks_file.specs.Reading.{IsFault, first_bad, module_fields, modules_at, modules_fields, count_at, module_at}
+use Rattle.marks_file.specs.Meaning.{MarkedView, place_count, module_bytes, first_bad, module_fields, modules_fields, count_at, module_at}
+use Rattle.marks_file.specs.Reading.{IsFault, modules_at}
 use Rattle.marks_file.specs.declared.fault.MarksFault.{MarksFault}
 use Rattle.marks_file.specs.declared.fault.MarksFault.TheVariants.{BadMarks, NoMemory}
 use Rattle.marks_file.proofs.Parts.{module_size}

@@ -2,10 +2,8 @@
 use Rattle.std.specs.Prelude.{ℕ, ◌+◌, ◌*◌, Bool, true, ◌&&◌, Option, option_map, unwrap_or, List, ◌++◌, length}
 use Rattle.std.specs.List.{flat_map}
 use Rattle.byteorder.specs.Endian.{big_bytes}
-use Rattle.cov_base.specs.FactSet.{number_of_facts}
-use Rattle.cov_base.specs.Names.{is_filled}
-use Rattle.marks_file.specs.Marks.{MarkedView, is_location, is_length, is_original, is_set, is_new_name, is_base, is_size, is_count, are_places}
-use Rattle.marks_file.specs.MarksFile.{module_bytes}
+use Rattle.cov_base.specs.Meaning.{number_of_facts, is_filled}
+use Rattle.marks_file.specs.Meaning.{MarkedView, is_location, is_length, is_original, is_set, is_new_name, is_base, is_size, is_count, are_places, module_bytes}
 use Rattle.marks_file.specs.declared.marks.MarkedPlace.{MarkedPlace}
 
 -- the rules of a place of a module of this size, behind one that ends there; of a module behind these; of a session's name

@@ -5,12 +5,11 @@ use Rattle.std.specs.List.{flat_map}
 use Rattle.std.proofs.lemmas.Bool.{ltb-true}
 use Rattle.byteorder.specs.Endian.{big_number, big_bytes}
 use Rattle.byteorder.specs.Numbers.{big_number-reads_back}
-use Rattle.cov_base.specs.FactSet.{FactSet, facts_of_number, number_of_facts, number_of_facts-facts_of_number}
+use Rattle.cov_base.specs.Meaning.{FactSet, facts_of_number, number_of_facts}
+use Rattle.cov_base.specs.FactSet.{number_of_facts-facts_of_number}
 use Rattle.cov_base.specs.declared.facts.Kind.{Kind}
 use Rattle.cov_base.specs.declared.facts.Kind.TheVariants.{Straight, Conditional}
-use Rattle.marks_file.specs.Marks.{kind_number, kind_of_number, is_location, is_length, is_original, is_set, are_places, end_of}
-use Rattle.marks_file.specs.MarksFile.{place_bytes}
-use Rattle.marks_file.specs.Reading.{first_bad, place_at, place_fields, places_at, places_fields}
+use Rattle.marks_file.specs.Meaning.{kind_number, kind_of_number, is_location, is_length, is_original, is_set, are_places, end_of, place_bytes, first_bad, place_at, place_fields, places_at, places_fields}
 use Rattle.marks_file.specs.declared.marks.MarkedPlace.{MarkedPlace}
 use Rattle.marks_file.proofs.Parts.{is_place}
 use Rattle.marks_file.proofs.MarksLemmas.{both-left, both-right, both, le_of_test}

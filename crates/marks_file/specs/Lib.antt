@@ -1,3 +1,3 @@
 pub mod Marks
-pub mod MarksFile
+pub mod Meaning
 pub mod Reading

@@ -1,7 +1,8 @@
 //! What stands before a file's modules: its magic, and in version 2 the session's name and the runs.
 ghost use Rattle.std.specs.Prelude.{◌≡◌, ◌+◌, ◌<◌, ◌≤◌, ◌^◌, ◌&&◌, length, true, false, take, drop, nat_le, None, Some, IfOk, OnOk, IfErr, IfSome, IsNone};
 ghost use Rattle.byteorder.specs.Endian.{big_number};
-ghost use Rattle.marks_file.specs.Reading.{first_bad, is_magic, version_of, table_from, is_name_field, named, name_at, runs_at, heading_fields};
+ghost use Rattle.marks_file.specs.Meaning.{first_bad, is_magic, version_of, table_from, is_name_field, heading_fields};
+ghost use Rattle.marks_file.specs.Reading.{named, name_at, runs_at};
 
 use crate::fault::BadField;
 use crate::version::Version;
@@ -75,7 +76,7 @@ fn session_runs(bytes: &[u8]) -> Option<u32>
 }
 
 /// The heading of the file that begins there.
-#[tactic(auto, unfolding(crate::specs::Reading::heading_fields))]
+#[tactic(auto, unfolding(crate::specs::Meaning::heading_fields))]
 pub(crate) fn read_heading(bytes: &[u8], at: usize) -> Result<Heading, BadField>
     requires { at < 2 ^ 63 }
     ensures name { IfOk result (λ h. h.name ≡ name_at (version_of bytes.now) bytes.now) }

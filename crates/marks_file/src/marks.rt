@@ -24,7 +24,7 @@ pub struct MarkedModule {
 }
 
 impl Model for MarkedModule {
-    ghost use Rattle.marks_file.specs.Marks.{MarkedView};
+    ghost use Rattle.marks_file.specs.Meaning.{MarkedView};
 
     ghost Value = { MarkedView };
 
@@ -48,7 +48,7 @@ pub struct Marks {
 
 impl Model for Marks {
     ghost use Rattle.std.specs.Prelude.{◌≡◌, true};
-    ghost use Rattle.marks_file.specs.Marks.{MarksView, keeps_rules};
+    ghost use Rattle.marks_file.specs.Meaning.{MarksView, keeps_rules};
 
     ghost Value = { MarksView };
 

@@ -2,7 +2,7 @@
 ghost use Rattle.std.specs.Prelude.{◌≡◌, ◌&&◌, length, true, false, take, nat_le, IfSome, IsNone};
 ghost use Rattle.std.specs.List.{list_any};
 ghost use Rattle.std.specs.Str.{bytes_eq};
-ghost use Rattle.marks_file.specs.Marks.{is_new_name};
+ghost use Rattle.marks_file.specs.Meaning.{is_new_name};
 
 use crate::marks::MarkedModule;
 use cov_base::Name;
@@ -13,7 +13,7 @@ fn is_named(earlier: &[MarkedModule], name: &Name) -> bool
     earlier.iter().any(|marked| marked.name == *name)
 }
 
-#[tactic(auto, unfolding(crate::specs::Marks::is_new_name))]
+#[tactic(auto, unfolding(crate::specs::Meaning::is_new_name))]
 /// The name that the first 8 bytes are; none exactly where they are cut short, no name filled with blanks, or an
 /// earlier module's.
 pub(crate) fn new_name(earlier: &[MarkedModule], bytes: &[u8]) -> Option<Name>

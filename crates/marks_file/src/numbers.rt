@@ -1,8 +1,7 @@
 //! Kinds and sets of facts as numbers.
 ghost use Rattle.std.specs.Prelude.{◌≡◌, ◌≤◌, if◌then◌else◌};
-ghost use Rattle.cov_base.specs.FactSet.{facts_of_number, number_of_facts};
-ghost use Rattle.cov_base.specs.Facts.{with_fact};
-ghost use Rattle.marks_file.specs.Marks.{kind_number, kind_of_number};
+ghost use Rattle.cov_base.specs.Meaning.{facts_of_number, number_of_facts, with_fact};
+ghost use Rattle.marks_file.specs.Meaning.{kind_number, kind_of_number};
 
 use cov_base::{Bits, Fact, Kind};
 

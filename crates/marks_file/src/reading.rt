@@ -3,9 +3,8 @@ ghost use Rattle.std.specs.Prelude.{◌≡◌, ℕ, ◌+◌, ◌≤◌, ◌<◌,
 ghost use Rattle.std.specs.Io.{StartsWith};
 ghost use Rattle.std.specs.List.{flat_map};
 ghost use Rattle.byteorder.specs.Endian.{big_bytes, big_number};
-ghost use Rattle.marks_file.specs.Marks.{MarksView, is_location, is_length, is_original, is_set, kind_of_number, is_base, is_size, is_count, is_module_count, place_count, keeps_rules};
-ghost use Rattle.marks_file.specs.MarksFile.{module_bytes, file_bytes, HasFile};
-ghost use Rattle.marks_file.specs.Reading.{first_bad, place_at, place_fields, places_at, places_fields, header_fields, module_at, module_fields, modules_at, modules_fields, table_fields, table_at, count_at, IsFault, file_fields, marks_at};
+ghost use Rattle.marks_file.specs.Meaning.{MarksView, is_location, is_length, is_original, is_set, kind_of_number, is_base, is_size, is_count, is_module_count, place_count, keeps_rules, module_bytes, file_bytes, HasFile, first_bad, place_at, place_fields, places_at, places_fields, header_fields, module_at, module_fields, modules_fields, table_fields, count_at, file_fields};
+ghost use Rattle.marks_file.specs.Reading.{modules_at, table_at, IsFault, marks_at};
 ghost use Rattle.marks_file.specs.declared.version.Version.{Version};
 
 use crate::fault::{BadField, MarksFault};
@@ -75,7 +74,7 @@ fn has_set(bytes: &[u8], kind: Kind) -> bool
 }
 
 /// The place that begins there, of a module of this size, behind one that ends at `end`.
-#[tactic(auto, unfolding(crate::specs::Reading::place_fields, crate::specs::Reading::place_at))]
+#[tactic(auto, unfolding(crate::specs::Meaning::place_fields, crate::specs::Meaning::place_at))]
 fn read_place(bytes: &[u8], at: usize, size: u32, end: u32) -> Result<MarkedPlace, BadField>
     requires { at < 2 ^ 63 }
     ensures place { IfOk result (λ p. p ≡ place_at bytes.now) }
@@ -162,7 +161,7 @@ fn has_count(bytes: &[u8], before: u32) -> bool
 }
 
 /// What stands before the places of the module that begins there, behind these modules, which have so many places.
-#[tactic(auto, unfolding(crate::specs::Reading::header_fields, crate::specs::Marks::is_count))]
+#[tactic(auto, unfolding(crate::specs::Meaning::header_fields, crate::specs::Meaning::is_count))]
 fn read_header(
     bytes: &[u8],
     at: usize,

@@ -1,7 +1,7 @@
 //! The rows of a marks file's table, and its records.
 ghost use Rattle.std.specs.Prelude.{◌≡◌, ◌^◌, length};
 ghost use Rattle.marks_file.specs.Marks.{HasRow};
-ghost use Rattle.marks_file.specs.MarksFile.{module_row, place_row, place_bytes};
+ghost use Rattle.marks_file.specs.Meaning.{module_row, place_row, place_bytes};
 
 use crate::marks::{MarkedModule, MarkedPlace};
 use crate::numbers::{kind_number, number_of_set};

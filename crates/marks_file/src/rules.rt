@@ -1,7 +1,7 @@
 //! The rules of the fields.
 ghost use Rattle.std.specs.Prelude.{◌≡◌, ◌≤◌, ◌<◌, ◌+◌, length, nat_le};
 ghost use Rattle.std.specs.List.{list_all};
-ghost use Rattle.marks_file.specs.Marks.{is_location, is_length, is_original, is_set, is_base, is_clear, is_size, is_count, is_module_count};
+ghost use Rattle.marks_file.specs.Meaning.{is_location, is_length, is_original, is_set, is_base, is_clear, is_size, is_count, is_module_count};
 
 use crate::marks::MarkedModule;
 use crate::numbers::{kind_number, set_of_number};
@@ -9,7 +9,7 @@ use cov_base::{BREAKPOINT, Fact, Kind};
 use s370_decode::{kind, length};
 
 /// Whether the location is even, below the size, and at or past the end of the place before.
-#[tactic(auto, unfolding(crate::specs::Marks::is_location))]
+#[tactic(auto, unfolding(crate::specs::Meaning::is_location))]
 pub fn is_location(size: u32, end: u32, at: u32) -> bool
     ensures { result ≡ is_location size end at }
 {
@@ -17,7 +17,7 @@ pub fn is_location(size: u32, end: u32, at: u32) -> bool
 }
 
 /// Whether the length is 2, 4 or 6, and the place lies inside the module.
-#[tactic(auto, unfolding(crate::specs::Marks::is_length))]
+#[tactic(auto, unfolding(crate::specs::Meaning::is_length))]
 pub fn is_length(size: u32, at: u32, len: u8) -> bool
     ensures { result ≡ is_length size at len }
 {
@@ -25,7 +25,7 @@ pub fn is_length(size: u32, at: u32, len: u8) -> bool
 }
 
 /// Whether the halfword gives this length and this kind, and isn't the breakpoint.
-#[tactic(auto, unfolding(crate::specs::Marks::is_original))]
+#[tactic(auto, unfolding(crate::specs::Meaning::is_original))]
 pub fn is_original(len: u8, of_kind: Kind, half: u16) -> bool
     ensures { result ≡ is_original len of_kind half }
 {
@@ -33,7 +33,7 @@ pub fn is_original(len: u8, of_kind: Kind, half: u16) -> bool
 }
 
 /// Whether the number is a set of facts of the kind.
-#[tactic(auto, unfolding(crate::specs::Marks::is_set))]
+#[tactic(auto, unfolding(crate::specs::Meaning::is_set))]
 pub fn is_set(of_kind: Kind, number: u8) -> bool
     ensures { result ≡ is_set of_kind number }
 {
@@ -48,7 +48,7 @@ pub fn is_set(of_kind: Kind, number: u8) -> bool
 }
 
 /// Whether a module may stand there: on a doubleword from X'100000' on, with room for two bytes.
-#[tactic(auto, unfolding(crate::specs::Marks::is_base))]
+#[tactic(auto, unfolding(crate::specs::Meaning::is_base))]
 pub fn is_base(base: u32) -> bool
     ensures { result ≡ is_base base }
 {
@@ -69,7 +69,7 @@ fn are_clear(earlier: &[MarkedModule], base: u32, size: u32) -> bool
 }
 
 /// Whether a module of this base may have the size: even, 2 to 262,144, up to X'FFF000', clear of the earlier modules.
-#[tactic(auto, unfolding(crate::specs::Marks::is_size))]
+#[tactic(auto, unfolding(crate::specs::Meaning::is_size))]
 pub fn is_size(earlier: &[MarkedModule], base: u32, size: u32) -> bool
     ensures { result ≡ is_size earlier.now base size }
 {
@@ -81,7 +81,7 @@ pub fn is_size(earlier: &[MarkedModule], base: u32, size: u32) -> bool
 }
 
 /// Whether so many places may follow those of the earlier modules, which are so many.
-#[tactic(auto, unfolding(crate::specs::Marks::is_count))]
+#[tactic(auto, unfolding(crate::specs::Meaning::is_count))]
 pub fn is_count(before: u32, count: u32) -> bool
     requires { before ≤ 65536 }
     ensures { result ≡ nat_le (before + count) 65536 }
@@ -90,7 +90,7 @@ pub fn is_count(before: u32, count: u32) -> bool
 }
 
 /// Whether a file may have so many modules.
-#[tactic(auto, unfolding(crate::specs::Marks::is_module_count))]
+#[tactic(auto, unfolding(crate::specs::Meaning::is_module_count))]
 pub fn is_module_count(count: u16) -> bool
     ensures { result ≡ is_module_count count }
 {

@@ -5,7 +5,7 @@ ghost use Rattle.byteorder.specs.Endian.{big_bytes};
 ghost use Rattle.cov_outside.specs.Puts.{Puts};
 ghost use Rattle.cov_outside.specs.Writes.{Writes};
 ghost use Rattle.marks_file.specs.Marks.{HasRow};
-ghost use Rattle.marks_file.specs.MarksFile.{place_bytes, module_bytes, magic, name_field, file_bytes};
+ghost use Rattle.marks_file.specs.Meaning.{place_bytes, module_bytes, magic, name_field, file_bytes};
 ghost use Rattle.marks_file.specs.declared.version.Version.{Version};
 
 use crate::marks::{MarkedModule, MarkedPlace, Marks};

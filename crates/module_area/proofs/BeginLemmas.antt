@@ -3,13 +3,13 @@ use Rattle.std.proofs.Common.{◌≡◌, ℕ, zero, suc, ◌<◌, ◌≤◌, tru
 use mathlib.Core.Option.{some, some-injective, some-ne-none}
 use lib.ListN.{get_elem?}
 use Rattle.cov_base.specs.declared.facts.Fact.{Fact}
-use Rattle.cov_base.specs.FactSet.{FactSet}
-use Rattle.cov_base.specs.Facts.{has_fact}
+use Rattle.cov_base.specs.Meaning.{FactSet, has_fact}
 use Rattle.module_area.specs.declared.cells.Cell.{Cell}
 use Rattle.module_area.specs.declared.parties.View.{View}
 use Rattle.module_area.specs.declared.parties.Role.TheVariants.{Root, Task, Spent}
 use Rattle.module_area.specs.Drained.{IsNumber, IsSettled, Drained}
-use Rattle.module_area.specs.PlanView.{PlanView, IsPlan, original_at, kind_at, has_task}
+use Rattle.module_area.specs.Meaning.{PlanView, original_at, kind_at}
+use Rattle.module_area.specs.PlanView.{IsPlan, has_task}
 use Rattle.module_area.specs.Parties.{Has, last_tag, window_tag, blank}
 use Rattle.module_area.specs.Held.{untouched, lifted, Keeps, IsRole, Kept, Held}
 use Rattle.module_area.proofs.StepLemmas.{task_not_root, spent_not_root, full_some}

@@ -5,13 +5,11 @@ use mathlib.Core.Logic.{dite}
 use native.Mathlib.Decide.{ℕ_discrete}
 use lib.ListN.{get_elem?}
 use Rattle.cov_base.specs.declared.facts.Fact.{Fact}
-use Rattle.cov_base.specs.FactSet.{FactSet}
-use Rattle.cov_base.specs.Facts.{has_fact, is_full}
-use Rattle.cov_base.specs.Codes.{breakpoint}
+use Rattle.cov_base.specs.Meaning.{FactSet, has_fact, is_full, breakpoint}
 use Rattle.module_area.specs.declared.cells.Cell.{Cell}
 use Rattle.module_area.specs.declared.parties.View.{View}
 use Rattle.module_area.specs.declared.parties.Role.TheVariants.{Spent}
-use Rattle.module_area.specs.PlanView.{PlanView, original_at, kind_at, is_over, is_controlled}
+use Rattle.module_area.specs.Meaning.{PlanView, original_at, kind_at, is_over, is_controlled}
 use Rattle.module_area.specs.Parties.{Has, add_if, times, last_tag, window_tag, lifting, planting, closing}
 use Rattle.module_area.specs.Held.{planted, lifted, closed, IsForm, Once, Keeps, Owes, Held}
 use Rattle.module_area.proofs.PartyLemmas.{has-add_if}

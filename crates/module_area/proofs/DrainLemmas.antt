@@ -5,12 +5,13 @@ use mathlib.Core.Option.{some, some-injective}
 use mathlib.Core.Logic.{dite}
 use native.Mathlib.Decide.{ℕ_discrete}
 use lib.ListN.{get_elem?}
-use Rattle.cov_base.specs.FactSet.{FactSet}
+use Rattle.cov_base.specs.Meaning.{FactSet}
 use Rattle.module_area.specs.declared.cells.Cell.{Cell}
 use Rattle.module_area.specs.declared.parties.View.{View}
 use Rattle.module_area.specs.declared.parties.Role.{Role}
 use Rattle.module_area.specs.declared.parties.Role.TheVariants.{Root, Task, Spent}
-use Rattle.module_area.specs.PlanView.{PlanView, has_task, is_controlled}
+use Rattle.module_area.specs.Meaning.{PlanView, is_controlled}
+use Rattle.module_area.specs.PlanView.{has_task}
 use Rattle.module_area.specs.Parties.{Has, last_tag, chosen, window_tag, blank, giving, newcomer, joining, role_task, bounding, noting, reading}
 use Rattle.module_area.specs.Held.{IsRole, Held}
 use Rattle.module_area.specs.Drained.{Noted, IsOverAt, IsPast, IsNumber, IsSettled, Drained}

@@ -1,11 +1,10 @@
 -- What a caller with a plan knows of the sets that an area ended with.
 use Rattle.std.proofs.Common.{◌≡◌, ℕ, ◌*◌, ◌≤◌, [], length}
 use Rattle.std.proofs.Math.Nat.{mul-le-mul_right}
-use Rattle.cov_base.specs.Facts.{is_full}
-use Rattle.module_area.specs.PlanView.{PlanView, kind_at, window_at}
-use Rattle.module_area.specs.FinalsView.{FinalsView, set_at}
+use Rattle.cov_base.specs.Meaning.{is_full}
+use Rattle.module_area.specs.Meaning.{PlanView, kind_at, window_at, FinalsView, set_at, full_pairs, full_places}
 use Rattle.module_area.specs.Notes.{Notes}
-use Rattle.module_area.specs.Ended.{HasSets, full_pairs, full_places}
+use Rattle.module_area.specs.Ended.{HasSets}
 use Rattle.module_area.proofs.CountLemmas.{pairs_by_place}
 use Rattle.module_area.proofs.PlanLemmas.{over_whole}
 use Rattle.module_area.proofs.StepLemmas.{full_some}

@@ -4,8 +4,8 @@ use Rattle.cov_base.specs.declared.facts.Fact.{Fact}
 use Rattle.cov_base.specs.declared.facts.Fact.TheVariants.{Ran, Went, Stayed}
 use Rattle.cov_base.specs.declared.facts.Kind.{Kind}
 use Rattle.cov_base.specs.declared.facts.Kind.TheVariants.{Straight, Conditional}
-use Rattle.cov_base.specs.FactSet.{FactSet}
-use Rattle.cov_base.specs.Facts.{has_fact, is_of_kind, is_full, with_fact, same_fact, full_of, is_within}
+use Rattle.cov_base.specs.Meaning.{FactSet, has_fact, is_full, with_fact, same_fact, full_of, is_within}
+use Rattle.cov_base.specs.Facts.{is_of_kind}
 
 or_false : (b : Bool) → b ≡ (b || false)
 or_false true = refl

@@ -2,12 +2,13 @@
 use Rattle.std.proofs.Common.{◌≡◌, ◌≢◌, ℕ, ◌<◌, ◌++◌, Bool, true, false, not, List, [], ◌∷◌, length, set, sym, refl, ap, ◌∙◌, subst, inl, inr, ⊎_elim}
 use mathlib.Core.Option.{some}
 use lib.ListN.{get_elem?}
-use Rattle.cov_base.specs.FactSet.{FactSet}
+use Rattle.cov_base.specs.Meaning.{FactSet}
 use Rattle.module_area.specs.declared.cells.Cell.{Cell}
 use Rattle.module_area.specs.declared.parties.View.{View}
 use Rattle.module_area.specs.declared.parties.Role.{Role}
 use Rattle.module_area.specs.declared.parties.Role.TheVariants.{Root, Task, Spent}
-use Rattle.module_area.specs.PlanView.{PlanView, original_at, is_controller}
+use Rattle.module_area.specs.Meaning.{PlanView, original_at}
+use Rattle.module_area.specs.PlanView.{is_controller}
 use Rattle.module_area.specs.Parties.{Has, times, total, last_tag, chosen, window_tag, blank, giving, newcomer, joining, role_task}
 use Rattle.module_area.specs.Held.{Once, KeepsAs, Keeps, IsRole, Owes, Kept, Held}
 use Rattle.module_area.proofs.StepLemmas.{task_not_root, spent_not_root, spent_not_task, moved, same, once_same, first_only, role_before}

@@ -1,6 +1,6 @@
 -- Sets stand at different indices, and tests on booleans.
 use Rattle.std.proofs.Common.{◌≡◌, ℕ, ◌+◌, ◌-◌, ◌*◌, ◌<◌, ◌≤◌, Bool, true, false, ◌&&◌, refl, sym, arith}
-use Rattle.module_area.specs.FinalsView.{index_of}
+use Rattle.module_area.specs.Meaning.{index_of}
 
 pub row_below : (a b n : ℕ) → a < b → a * n + n ≤ b * n
 row_below a b n h = grind arith

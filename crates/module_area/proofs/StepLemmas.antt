@@ -9,15 +9,15 @@ use Rattle.cov_base.specs.declared.facts.Fact.{Fact}
 use Rattle.cov_base.specs.declared.facts.Fact.TheVariants.{Ran, Went, Stayed}
 use Rattle.cov_base.specs.declared.facts.Kind.{Kind}
 use Rattle.cov_base.specs.declared.facts.Kind.TheVariants.{Straight, Conditional}
-use Rattle.cov_base.specs.FactSet.{FactSet}
-use Rattle.cov_base.specs.Facts.{has_fact, is_of_kind, is_full, full_of, with_fact, same_fact}
-use Rattle.cov_base.specs.Codes.{breakpoint}
+use Rattle.cov_base.specs.Meaning.{FactSet, has_fact, is_full, full_of, with_fact, same_fact, breakpoint}
+use Rattle.cov_base.specs.Facts.{is_of_kind}
 use Rattle.module_area.specs.declared.cells.Cell.{Cell}
 use Rattle.module_area.specs.declared.parties.View.{View}
 use Rattle.module_area.specs.declared.parties.Role.{Role}
 use Rattle.module_area.specs.declared.parties.Role.TheVariants.{Root, Task, Spent}
-use Rattle.module_area.specs.PlanView.{PlanView, original_at, kind_at, is_over, is_controller}
-use Rattle.module_area.specs.Parties.{Has, times, total, last_tag, window_tag, tag_session, is_breakpoint, is_lifted, blank, fetching, marking}
+use Rattle.module_area.specs.Meaning.{PlanView, original_at, kind_at, is_over, tag_session}
+use Rattle.module_area.specs.PlanView.{is_controller}
+use Rattle.module_area.specs.Parties.{Has, times, total, last_tag, window_tag, is_breakpoint, is_lifted, blank, fetching, marking}
 use Rattle.module_area.specs.Held.{planted, lifted, IsForm, Once, KeepsAs, Keeps, IsRole, Owes, Kept, IsSite, Held}
 use Rattle.module_area.proofs.FactLemmas.{has_fact-with_fact, same_fact-true, is_full-true}
 use Rattle.module_area.proofs.PlanLemmas.{one_controller, no_controller}

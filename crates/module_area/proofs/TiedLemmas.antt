@@ -6,10 +6,10 @@ use Rattle.std.proofs.lemmas.List.Kept.{AllPairs-filter}
 use Rattle.std.proofs.lemmas.List.Elements.{All-filter}
 use Rattle.cov_base.specs.declared.numbers.PlaceNo.{PlaceNo}
 use Rattle.cov_base.specs.declared.numbers.SessNo.{SessNo}
-use Rattle.module_area.specs.PlanView.{PlanView, ControlledView, IsPlan, IsControlled, AreApart, is_controller}
+use Rattle.module_area.specs.Meaning.{PlanView, ControlledView, ControlView, number_of, first_control, places_under, has_session}
+use Rattle.module_area.specs.PlanView.{IsPlan, IsControlled, AreApart, is_controller}
 use Rattle.module_area.specs.Notes.{Notes, split_notes}
-use Rattle.module_area.specs.Control.{ControlView, number_of, first_control, places_under}
-use Rattle.module_area.specs.Tied.{has_session, keeps_session_as, IsTied}
+use Rattle.module_area.specs.Tied.{keeps_session_as, IsTied}
 
 abbrev by_task : ℕ → ControlledView → Bool
 by_task t c = nat_eq c.by t

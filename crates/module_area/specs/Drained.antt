@@ -2,12 +2,13 @@
 use Rattle.std.specs.Prelude.{◌≡◌, ◌≢◌, ◌⊎◌, ℕ, ◌*◌, ◌%◌, ◌<◌, ◌≤◌, true, Some, None, List, length}
 use mathlib.Core.Option.{some}
 use lib.ListN.{get_elem?}
-use Rattle.cov_base.specs.FactSet.{FactSet}
+use Rattle.cov_base.specs.Meaning.{FactSet}
 use Rattle.module_area.specs.declared.cells.Cell.{Cell}
 use Rattle.module_area.specs.declared.parties.Role.{Role}
 use Rattle.module_area.specs.declared.parties.Role.TheVariants.{Root, Task, Spent}
 use Rattle.module_area.specs.declared.parties.View.{View}
-use Rattle.module_area.specs.PlanView.{PlanView, has_task, is_controlled}
+use Rattle.module_area.specs.Meaning.{PlanView, is_controlled}
+use Rattle.module_area.specs.PlanView.{has_task}
 use Rattle.module_area.specs.Parties.{Has, last_tag, window_tag}
 
 -- a look at a task's word: task, number, and what the party had seen then

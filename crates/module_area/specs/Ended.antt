@@ -1,11 +1,8 @@
 -- The sets that an area ends with are those that its passes marked.
-use Rattle.std.specs.Prelude.{◌≡◌, ℕ, ◌+◌, ◌*◌, ◌<◌, ◌≤◌, true, ◌&&◌, nat_lt, length, sum_by}
-use Rattle.cov_base.specs.FactSet.{FactSet}
+use Rattle.std.specs.Prelude.{◌≡◌, ℕ, ◌+◌, ◌*◌, ◌<◌, ◌≤◌, true, length, sum_by}
+use Rattle.cov_base.specs.Meaning.{FactSet, has_fact, full_of, is_within}
 use Rattle.cov_base.specs.declared.facts.Fact.{Fact}
-use Rattle.cov_base.specs.Facts.{has_fact, full_of, is_full, is_within}
-use Rattle.module_area.specs.PlanView.{PlanView, kind_at, window_at, is_over}
-use Rattle.module_area.specs.FinalsView.{FinalsView, set_at}
-use Rattle.module_area.specs.Counts.{count_below, count_pairs, fact_count}
+use Rattle.module_area.specs.Meaning.{PlanView, kind_at, is_over, FinalsView, set_at, fact_count, full_places, full_pairs}
 use Rattle.module_area.specs.Notes.{Notes}
 
 -- what the notes know as final stands so
@@ -21,14 +18,6 @@ pub record HasSets (plan : PlanView) (notes : Notes) (finals : FinalsView) : Typ
   -- no fact where the session isn't over the place, or by the last tag was never planted there
   pub over : (s p : ℕ) (f : Fact) → 0 < s → s ≤ plan.sessions → p < length plan.places → has_fact (set_at finals s p) f ≡ true → is_over plan s p ≡ true
   pub planted : (s p : ℕ) (f : Fact) → 0 < s → s ≤ plan.sessions → p < length plan.places → has_fact (set_at finals s p) f ≡ true → 2 * s ≤ notes.last p + 1
-
--- how many places with a window have a full set
-abbrev pub full_places : PlanView → FinalsView → ℕ
-full_places plan finals = count_below (λ p. nat_lt 0 (window_at plan p) && is_full (kind_at plan p) (set_at finals (window_at plan p) p)) (length plan.places)
-
--- how many sessions and places have a full set
-abbrev pub full_pairs : PlanView → FinalsView → ℕ
-full_pairs plan finals = count_pairs (λ s p. is_full (kind_at plan p) (set_at finals s p)) plan.sessions (length plan.places)
 
 -- Each fact was marked at least once. Where each set that was met full was met free or tried to be lifted, the lifts are
 -- at least the places whose whole session's set is full, and at most the sessions and places whose set is full.

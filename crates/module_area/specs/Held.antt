@@ -3,14 +3,14 @@ use Rattle.std.specs.Prelude.{◌≡◌, ◌≢◌, ◌⊎◌, ℕ, ◌*◌, ◌
 use mathlib.Core.Option.{some}
 use lib.ListN.{get_elem?}
 use Rattle.cov_base.specs.declared.facts.Fact.{Fact}
-use Rattle.cov_base.specs.FactSet.{FactSet}
-use Rattle.cov_base.specs.Facts.{has_fact, is_of_kind, is_full}
-use Rattle.cov_base.specs.Codes.{breakpoint}
+use Rattle.cov_base.specs.Meaning.{FactSet, has_fact, is_full, breakpoint}
+use Rattle.cov_base.specs.Facts.{is_of_kind}
 use Rattle.module_area.specs.declared.cells.Cell.{Cell}
 use Rattle.module_area.specs.declared.parties.Role.{Role}
 use Rattle.module_area.specs.declared.parties.Role.TheVariants.{Root, Task, Spent}
 use Rattle.module_area.specs.declared.parties.View.{View}
-use Rattle.module_area.specs.PlanView.{PlanView, IsPlan, original_at, kind_at, window_at, is_over, is_controlled, is_controller}
+use Rattle.module_area.specs.Meaning.{PlanView, original_at, kind_at, window_at, is_over, is_controlled}
+use Rattle.module_area.specs.PlanView.{IsPlan, is_controller}
 use Rattle.module_area.specs.Parties.{Has, times, total, last_tag, window_tag, blank}
 
 -- The forms of a cell: never planted; the breakpoint, then the original, in the window of session s; session s is over.

@@ -1,6 +1,6 @@
 -- Where modules may stand: on doublewords from X'100000' on, of an even size, below X'FFF000', sharing no byte.
 use Rattle.std.specs.Prelude.{◌≡◌, ◌⊎◌, ◌+◌, ◌%◌, ◌≤◌, List, length, All, AllPairs}
-use Rattle.cov_base.specs.Memory.{ImageView}
+use Rattle.cov_base.specs.Meaning.{ImageView}
 
 pub record IsImage (i : ImageView) : Type 0 where
   pub doubleword : i.base % 8 ≡ 0

@@ -1,15 +1,11 @@
 pub mod AreasView
-pub mod CellWords
 pub mod Control
-pub mod Counts
 pub mod Drained
 pub mod Ended
-pub mod Executions
-pub mod FinalsView
 pub mod Held
 pub mod Images
+pub mod Meaning
 pub mod Notes
 pub mod Parties
 pub mod PlanView
 pub mod Tied
-pub mod Views

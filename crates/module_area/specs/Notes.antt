@@ -4,12 +4,11 @@ use Rattle.std.specs.List.{list_any, list_all}
 use Rattle.cov_base.specs.declared.numbers.PlaceNo.{PlaceNo}
 use Rattle.cov_base.specs.declared.numbers.TaskNo.{TaskNo}
 use Rattle.cov_base.specs.declared.facts.Fact.{Fact}
-use Rattle.cov_base.specs.FactSet.{FactSet}
-use Rattle.cov_base.specs.Facts.{with_fact, has_fact, is_full, is_within, full_of, same_fact}
+use Rattle.cov_base.specs.Meaning.{FactSet, with_fact, has_fact, is_full, is_within, full_of, same_fact, breakpoint}
 use Rattle.module_area.specs.declared.cells.Cell.{Cell}
 use Rattle.module_area.specs.declared.tallies.Tally.{Tally}
-use Rattle.cov_base.specs.Codes.{breakpoint}
-use Rattle.module_area.specs.PlanView.{PlanView, ControlledView, original_at, kind_at, window_at, has_place, is_over, is_controlled, is_controller}
+use Rattle.module_area.specs.Meaning.{PlanView, ControlledView, original_at, kind_at, window_at, has_place, is_over, is_controlled}
+use Rattle.module_area.specs.PlanView.{is_controller}
 
 -- a look at a task's word: its number then, and the highest tags that the pass knew of the places
 pub record NotedView : Type 0 where

@@ -1,14 +1,13 @@
 -- What a party has done and knows, as lists, and what each kind of step adds to them.
-use Rattle.std.specs.Prelude.{◌≡◌, ◌⊎◌, ℕ, ◌+◌, ◌-◌, ◌*◌, ◌/◌, ◌%◌, Bool, true, false, not, ◌&&◌, nat_eq, if◌then◌else◌, Some, None, List, [], ◌∷◌, ◌++◌}
+use Rattle.std.specs.Prelude.{◌≡◌, ◌⊎◌, ℕ, ◌+◌, ◌-◌, ◌*◌, ◌%◌, Bool, true, false, not, ◌&&◌, nat_eq, if◌then◌else◌, Some, None, List, [], ◌∷◌, ◌++◌}
 use Rattle.cov_base.specs.declared.facts.Fact.{Fact}
-use Rattle.cov_base.specs.FactSet.{FactSet}
-use Rattle.cov_base.specs.Facts.{with_fact, is_full}
-use Rattle.cov_base.specs.Codes.{breakpoint}
+use Rattle.cov_base.specs.Meaning.{FactSet, with_fact, is_full, breakpoint}
 use Rattle.module_area.specs.declared.cells.Cell.{Cell}
 use Rattle.module_area.specs.declared.parties.Role.{Role}
 use Rattle.module_area.specs.declared.parties.Role.TheVariants.{Task}
 use Rattle.module_area.specs.declared.parties.View.{View}
-use Rattle.module_area.specs.PlanView.{PlanView, original_at, kind_at, is_controller}
+use Rattle.module_area.specs.Meaning.{PlanView, original_at, kind_at, tag_session}
+use Rattle.module_area.specs.PlanView.{is_controller}
 
 abbrev pub Has : {X : Type 0} → X → List X → Type 0
 Has x [] = ⊥
@@ -43,10 +42,6 @@ window_tag s = 2 * s - 1
 
 abbrev pub is_breakpoint : Cell → Bool
 is_breakpoint c = nat_eq c.half breakpoint
-
--- the session of the tag, in its window or after it
-abbrev pub tag_session : ℕ → ℕ
-tag_session t = (t + 1) / 2
 
 -- the original in a window
 abbrev pub is_lifted : PlanView → ℕ → Cell → Bool

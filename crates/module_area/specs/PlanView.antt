@@ -1,57 +1,15 @@
 -- A phase's plan: the places, what observes each of them, and the tasks.
-use Rattle.std.specs.Prelude.{◌≡◌, ◌≢◌, ℕ, ◌<◌, ◌≤◌, Bool, true, ◌&&◌, ◌||◌, nat_eq, nat_lt, List, [], length, get_or, AllPairs, All, Contains}
+use Rattle.std.specs.Prelude.{◌≡◌, ◌≢◌, ℕ, ◌<◌, ◌≤◌, Bool, true, ◌&&◌, nat_eq, List, [], length, AllPairs, All, Contains}
 use Rattle.std.specs.List.{list_any}
-use Rattle.cov_base.specs.Codes.{breakpoint, kind_of}
-use Rattle.cov_base.specs.declared.facts.Kind.{Kind}
-use Rattle.cov_base.specs.declared.facts.Kind.TheVariants.{Straight}
+use Rattle.cov_base.specs.Meaning.{breakpoint, kind_of}
 use Rattle.cov_base.specs.declared.limits.TheConstants.{PLACE_LIMIT, SESSION_LIMIT}
 use Rattle.cov_base.specs.declared.numbers.TaskNo.{TaskNo}
 use Rattle.cov_base.specs.declared.numbers.PlaceNo.{PlaceNo}
 use Rattle.module_area.specs.declared.places.Place.{Place}
-
--- a session that a task opens and closes, and its places
-pub record ControlledView : Type 0 where
-  pub session : ℕ
-  pub by : ℕ
-  pub places : List PlaceNo
-
-pub record PlanView : Type 0 where
-  pub places : List Place
-  pub windows : List ℕ
-  pub controlled : List ControlledView
-  pub tasks : List TaskNo
-  pub sessions : ℕ
-
-abbrev pub no_place : Place
-no_place = record { «module» = 0; at = 0; len = 0; original = 0; kind = Straight }
-
-abbrev pub place_of : List Place → ℕ → Place
-place_of places p = get_or places p no_place
-
-abbrev pub original_at : PlanView → ℕ → ℕ
-original_at plan p = (place_of plan.places p).original
-
-abbrev pub kind_at : PlanView → ℕ → Kind
-kind_at plan p = (place_of plan.places p).kind
-
--- the whole session over the place, or 0
-abbrev pub window_at : PlanView → ℕ → ℕ
-window_at plan p = get_or plan.windows p 0
+use Rattle.module_area.specs.Meaning.{ControlledView, PlanView, original_at, kind_at, window_at, has_place}
 
 abbrev pub has_task : List TaskNo → ℕ → Bool
 has_task tasks t = list_any (λ u. nat_eq u.0 t) tasks
-
--- the place is one of these
-abbrev pub has_place : List PlaceNo → ℕ → Bool
-has_place places p = list_any (λ (q : PlaceNo). nat_eq q.0 p) places
-
--- the session is a controlled one over the place
-abbrev pub is_controlled : PlanView → ℕ → ℕ → Bool
-is_controlled plan s p = list_any (λ (c : ControlledView). nat_eq c.session s && has_place c.places p) plan.controlled
-
--- the session is the place's whole session, or a controlled one over it
-abbrev pub is_over : PlanView → ℕ → ℕ → Bool
-is_over plan s p = (nat_lt 0 s && nat_eq (window_at plan p) s) || is_controlled plan s p
 
 -- the task opens and closes the sessions over the place
 abbrev pub is_controller : PlanView → ℕ → ℕ → Bool

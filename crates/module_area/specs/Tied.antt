@@ -1,13 +1,9 @@
 -- How a pass stands to the control of its task.
-use Rattle.std.specs.Prelude.{◌≡◌, ℕ, ◌+◌, ◌*◌, ◌<◌, ◌≤◌, Bool, true, not, ◌&&◌, nat_eq, Option, Some, None, List, length, take, drop, All, AllPairs}
+use Rattle.std.specs.Prelude.{◌≡◌, ℕ, ◌+◌, ◌*◌, ◌<◌, ◌≤◌, Bool, true, not, ◌&&◌, nat_eq, Option, Some, None, length, take, drop, All, AllPairs}
 use Rattle.std.specs.List.{list_any}
 use Rattle.cov_base.specs.declared.numbers.SessNo.{SessNo}
-use Rattle.module_area.specs.PlanView.{PlanView, ControlledView}
+use Rattle.module_area.specs.Meaning.{PlanView, ControlledView, ControlView, places_under, has_session}
 use Rattle.module_area.specs.Notes.{Notes}
-use Rattle.module_area.specs.Control.{ControlView, places_under}
-
-abbrev pub has_session : List SessNo → ℕ → Bool
-has_session sessions s = list_any (λ (t : SessNo). nat_eq t.0 s) sessions
 
 -- The controlled session is the pass's own: its task's, or for the root that of a task whose pass isn't out.
 abbrev pub keeps_session_as : PlanView → Option ℕ → (ℕ → Bool) → ℕ → Bool

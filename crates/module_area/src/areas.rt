@@ -2,7 +2,7 @@
 ghost use Rattle.std.specs.Prelude.{◌≡◌, ℕ, ◌+◌, ◌<◌, ◌^◌, List, [], false, ◌∷◌, ◌++◌, length, IfOk, OnErr};
 ghost use Rattle.std.specs.declared.option.Option.TheVariants.{None};
 ghost use Rattle.module_area.specs.declared.tallies.Tally.{Tally};
-ghost use Rattle.module_area.specs.FinalsView.{FinalsView, set_at};
+ghost use Rattle.module_area.specs.Meaning.{FinalsView, set_at};
 ghost use Rattle.module_area.specs.Notes.{root_notes};
 ghost use Rattle.module_area.specs.Ended.{AreSettled, HasSets, HasTally};
 

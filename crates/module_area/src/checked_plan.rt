@@ -1,7 +1,8 @@
 //! Plans that are tested at run time.
 ghost use Rattle.std.specs.Prelude.{◌≡◌, ◌≢◌, ℕ, ◌<◌, true, false, length, get_or, AllPairs, IfSome, IsNone, ◌↔◌, slice_index_or};
 ghost use Rattle.cov_base.specs.declared.numbers.TaskNo.{TaskNo};
-ghost use Rattle.module_area.specs.PlanView.{IsPlan, MayStand, place_of, whole_plan};
+ghost use Rattle.module_area.specs.Meaning.{place_of};
+ghost use Rattle.module_area.specs.PlanView.{IsPlan, MayStand, whole_plan};
 
 use crate::places::Place;
 use crate::plan::Plan;

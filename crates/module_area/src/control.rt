@@ -12,7 +12,7 @@ pub struct Control {
 }
 
 impl Model for Control {
-    ghost use Rattle.module_area.specs.Control.{ControlView};
+    ghost use Rattle.module_area.specs.Meaning.{ControlView};
 
     ghost Value = { ControlView };
 

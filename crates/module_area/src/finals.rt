@@ -1,6 +1,6 @@
 //! The sets that an area ends with.
 ghost use Rattle.std.specs.Prelude.{◌≡◌, ◌+◌, ◌-◌, ◌*◌, ◌<◌, ◌≤◌, length};
-ghost use Rattle.module_area.specs.FinalsView.{set_at};
+ghost use Rattle.module_area.specs.Meaning.{set_at};
 
 use cov_base::{Bits, PlaceNo, SessNo};
 use std::marker::Model;
@@ -14,7 +14,7 @@ pub struct Finals {
 }
 
 impl Model for Finals {
-    ghost use Rattle.module_area.specs.FinalsView.{FinalsView};
+    ghost use Rattle.module_area.specs.Meaning.{FinalsView};
 
     ghost Value = { FinalsView };
 

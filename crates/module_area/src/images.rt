@@ -12,7 +12,7 @@ pub struct Image {
 }
 
 impl Model for Image {
-    ghost use Rattle.cov_base.specs.Memory.{ImageView};
+    ghost use Rattle.cov_base.specs.Meaning.{ImageView};
 
     ghost Value = { ImageView };
 
@@ -25,7 +25,7 @@ pub struct Images(pub Vec<Image>);
 
 impl Model for Images {
     ghost use Rattle.std.specs.Prelude.{List};
-    ghost use Rattle.cov_base.specs.Memory.{ImageView};
+    ghost use Rattle.cov_base.specs.Meaning.{ImageView};
 
     ghost Value = { List ImageView };
 
@@ -40,7 +40,7 @@ pub struct DataCard {
 }
 
 impl Model for DataCard {
-    ghost use Rattle.module_area.specs.Views.{DataView};
+    ghost use Rattle.module_area.specs.Meaning.{DataView};
 
     ghost Value = { DataView };
 

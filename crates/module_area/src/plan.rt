@@ -1,8 +1,8 @@
 //! The plan of a phase.
 ghost use Rattle.std.specs.Prelude.{◌≡◌, ◌≢◌, ◌<◌, ◌≤◌, length, IfOk};
-ghost use Rattle.cov_base.specs.Codes.{breakpoint, kind_of};
-ghost use Rattle.module_area.specs.PlanView.{IsPlan, original_at, kind_at, window_at};
-ghost use Rattle.module_area.specs.Control.{places_under, first_control};
+ghost use Rattle.cov_base.specs.Meaning.{breakpoint, kind_of};
+ghost use Rattle.module_area.specs.Meaning.{original_at, kind_at, window_at, places_under, first_control};
+ghost use Rattle.module_area.specs.PlanView.{IsPlan};
 
 use crate::control::Control;
 use crate::places::Place;
@@ -19,7 +19,7 @@ pub struct Controlled {
 }
 
 impl Model for Controlled {
-    ghost use Rattle.module_area.specs.PlanView.{ControlledView};
+    ghost use Rattle.module_area.specs.Meaning.{ControlledView};
 
     ghost Value = { ControlledView };
 
@@ -53,7 +53,8 @@ pub struct Plan {
 }
 
 impl Model for Plan {
-    ghost use Rattle.module_area.specs.PlanView.{PlanView, IsPlan};
+    ghost use Rattle.module_area.specs.Meaning.{PlanView};
+    ghost use Rattle.module_area.specs.PlanView.{IsPlan};
 
     ghost Value = { PlanView };
 

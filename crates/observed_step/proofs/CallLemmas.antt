@@ -3,14 +3,11 @@ use Rattle.std.proofs.Common.{◌≡◌, ℕ, ◌+◌, ◌*◌, ◌/◌, ◌%◌
 use Rattle.std.specs.Prelude.{slice_index}
 use Rattle.std.specs.Option.{option_or}
 use Rattle.std.proofs.lemmas.Nat.{or_of_8}
-use Rattle.cov_base.specs.Codes.{length_of}
-use Rattle.cov_base.specs.Memory.{Memory, half_at}
-use Rattle.cov_base.specs.States.{CpuView, State}
+use Rattle.cov_base.specs.Meaning.{length_of, Memory, half_at, CpuView, State}
 use Rattle.s370_state.specs.declared.endings.Ending.{Ending}
-use Rattle.s370_decode.specs.Fields.{part, first_half, ex, r1}
+use Rattle.s370_decode.specs.Meaning.{part, first_half, ex, r1}
 use Rattle.s370_decode.specs.declared.code.Code.{Code}
-use Rattle.s370_exec.specs.Calls.{call_in, call_of, subject_call}
-use Rattle.s370_exec.specs.Fetch.{first_tests, rest_tests, subject_tests, code_at, is_execute, modifier, merged}
+use Rattle.s370_exec.specs.Meaning.{call_in, call_of, subject_call, first_tests, rest_tests, subject_tests, code_at, is_execute, modifier, merged}
 use Rattle.s370_exec.proofs.CallLemmas.{call_of-unread, call_of-read, subject_call-read}
 use Rattle.s370_exec.proofs.Subjects.{first_half-code_at}
 use Rattle.observed_step.specs.Called.{call_at}

@@ -1,12 +1,11 @@
 -- A course, instruction by instruction.
 use Rattle.std.proofs.Common.{◌≡◌, ℕ, zero, suc, true, false, if◌then◌else◌, List, [], ◌∷◌, ◌++◌, refl, sym, ap, append_assoc}
-use Rattle.cov_base.specs.Memory.{Memory}
-use Rattle.cov_base.specs.States.{State}
-use Rattle.s370_exec.specs.Solo.{solo_step, has_returned}
+use Rattle.cov_base.specs.Meaning.{Memory, State}
+use Rattle.s370_exec.specs.Meaning.{solo_step, has_returned}
 use Rattle.s370_state.specs.declared.endings.Ending.{Ending}
 use Rattle.s370_state.specs.declared.endings.Ending.TheVariants.{Returned, Spent}
 use Rattle.s370_state.specs.declared.endings.Next.TheVariants.{On, Ended}
-use Rattle.observed_step.specs.Courses.{After, Behind, Tour, Turn, course_on, ends_here, step_behind, turn_of, turned, with_cpu}
+use Rattle.observed_step.specs.Meaning.{After, Behind, Tour, Turn, course_on, ends_here, step_behind, turn_of, turned, with_cpu}
 
 pub course-returned : {K : Type 0} (after : After K) (m : Memory) (n : ℕ) (k : K) (s : State) → has_returned s ≡ true → course_on after m n k s ≡ ends_here Returned s
 unfolding course_on

@@ -1,9 +1,9 @@
 -- Turns one after the other.
 use Rattle.std.proofs.Common.{◌≡◌, ℕ, ◌+◌, Option, List, [], ◌∷◌, ◌++◌, length, refl, sym, subst, arith}
-use Rattle.cov_base.specs.States.{Visit}
-use Rattle.brk_table.specs.Places.{TablesView}
-use Rattle.module_area.specs.Control.{ControlView}
-use Rattle.observed_step.specs.Courses.{Turn, visits_of}
+use Rattle.cov_base.specs.Meaning.{Visit}
+use Rattle.brk_table.specs.Meaning.{TablesView}
+use Rattle.module_area.specs.Meaning.{ControlView}
+use Rattle.observed_step.specs.Meaning.{Turn, visits_of}
 use Rattle.observed_step.specs.Runs.{Goes, Stand, Takes}
 
 -- one more

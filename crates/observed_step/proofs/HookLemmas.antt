@@ -1,12 +1,12 @@
 -- An instruction, and what a hook has done behind it.
 use Rattle.std.proofs.Common.{◌≡◌, ℕ, ◌+◌, Option, List, sym, ◌∙◌, ap, subst}
-use Rattle.cov_base.specs.States.{Visit, State}
-use Rattle.brk_table.specs.Places.{TablesView}
-use Rattle.module_area.specs.Control.{ControlView}
-use Rattle.s370_exec.specs.Calls.{call_of}
-use Rattle.s370_exec.specs.Solo.{solo_step, state_of}
+use Rattle.cov_base.specs.Meaning.{Visit, State}
+use Rattle.brk_table.specs.Meaning.{TablesView}
+use Rattle.module_area.specs.Meaning.{ControlView}
+use Rattle.s370_exec.specs.Meaning.{call_of, solo_step}
+use Rattle.s370_exec.specs.Solo.{state_of}
 use Rattle.s370_state.specs.declared.endings.Next.{Next}
-use Rattle.observed_step.specs.Courses.{step_behind, turn_of, with_cpu}
+use Rattle.observed_step.specs.Meaning.{step_behind, turn_of, with_cpu}
 use Rattle.observed_step.specs.Hooks.{Way, DoesBehind}
 use Rattle.observed_step.specs.Runs.{Takes, stand}
 use Rattle.observed_step.specs.Steps.{StepsAs, memory_at, stands}

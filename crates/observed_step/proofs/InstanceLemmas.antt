@@ -1,14 +1,11 @@
 -- A run that is told with its trace, instruction by instruction, is the course.
 use Rattle.std.proofs.Common.{◌≡◌, ℕ, zero, suc, Bool, true, false, if◌then◌else◌, Option, List, [], ◌∷◌, ◌++◌, refl, sym, ◌∙◌, ap, append_assoc, append-nil}
-use Rattle.cov_base.specs.Memory.{Memory}
-use Rattle.cov_base.specs.States.{State, Visit}
-use Rattle.s370_exec.specs.Calls.{call_of}
-use Rattle.s370_exec.specs.Solo.{Run, solo_step, run_ended, run_after, has_returned}
+use Rattle.cov_base.specs.Meaning.{Memory, State, Visit}
+use Rattle.s370_exec.specs.Meaning.{call_of, Run, solo_step, run_ended, run_after, has_returned}
 use Rattle.s370_state.specs.declared.endings.Ending.TheVariants.{Returned, Spent}
 use Rattle.s370_state.specs.declared.endings.Next.{Next}
 use Rattle.s370_state.specs.declared.endings.Next.TheVariants.{On, Ended}
-use Rattle.observed_step.specs.Called.{unless_over}
-use Rattle.observed_step.specs.Courses.{After, Tour, calls_of, course_on, state_behind, step_behind, visits_of}
+use Rattle.observed_step.specs.Meaning.{unless_over, After, Tour, calls_of, course_on, state_behind, step_behind, visits_of}
 use Rattle.observed_step.proofs.CourseLemmas.{course-returned, course-none, course-more, course-ended}
 
 -- the run of a tour behind a trace

@@ -1,14 +1,14 @@
 -- The instruction that the tables have for a place is the one that is fetched there.
 use Rattle.std.proofs.Common.{◌≡◌, ℕ, Bool, None, List, get_or, refl, sym, ap, ◌∙◌}
-use Rattle.cov_base.specs.Codes.{length_of}
-use Rattle.cov_base.specs.Memory.{Memory, half_at}
-use Rattle.module_area.specs.PlanView.{no_place, place_of}
+use Rattle.cov_base.specs.Meaning.{length_of, Memory, half_at}
+use Rattle.module_area.specs.Meaning.{no_place, place_of}
 use Rattle.module_area.specs.declared.places.Place.{Place}
 use Rattle.s370_decode.specs.declared.code.Code.{Code}
 use Rattle.brk_table.specs.Kept.{IsKept, later_half}
-use Rattle.brk_table.specs.Places.{TablesView, IsPlace, ArePlaces, IsSeen, AreSeen}
-use Rattle.s370_decode.specs.Fields.{first_half}
-use Rattle.s370_exec.specs.Fetch.{is_execute, first_tests, rest_tests, code_at}
+use Rattle.brk_table.specs.Meaning.{TablesView}
+use Rattle.brk_table.specs.Places.{IsPlace, ArePlaces, IsSeen, AreSeen}
+use Rattle.s370_decode.specs.Meaning.{first_half}
+use Rattle.s370_exec.specs.Meaning.{is_execute, first_tests, rest_tests, code_at}
 use Rattle.s370_exec.proofs.Fetching.{rest_none, code_at-halves}
 use Rattle.s370_exec.proofs.Subjects.{first_half-code_at}
 use Rattle.observed_step.specs.declared.bench.Bench.{Bench}

@@ -1,7 +1,7 @@
 -- The place that begins at an address.
 use Rattle.std.proofs.Common.{◌≡◌, ℕ, ◌<◌, List, length, sym, ◌∙◌}
 use Rattle.module_area.specs.declared.places.Place.{Place}
-use Rattle.module_area.specs.PlanView.{place_of}
+use Rattle.module_area.specs.Meaning.{place_of}
 use Rattle.brk_table.specs.Places.{ArePlaces}
 use Rattle.brk_table.proofs.PlaceLemmas.{one_begins}
 use Rattle.observed_step.specs.Sights.{BeginsAt}

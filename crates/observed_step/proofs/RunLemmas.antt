@@ -1,12 +1,11 @@
 -- What the instructions that are done have led to.
 use Rattle.std.proofs.Common.{◌≡◌, ℕ, ◌+◌, ◌-◌, ◌<◌, ◌≤◌, suc, true, false, if◌then◌else◌, List, [], ◌∷◌, ◌++◌, length, refl, sym, ◌∙◌, ap, subst, arith, append-nil, length-append}
-use Rattle.cov_base.specs.Memory.{Memory}
-use Rattle.cov_base.specs.States.{State}
-use Rattle.s370_exec.specs.Solo.{solo_step, has_returned}
+use Rattle.cov_base.specs.Meaning.{Memory, State}
+use Rattle.s370_exec.specs.Meaning.{solo_step, has_returned}
 use Rattle.s370_state.specs.declared.endings.Ending.{Ending}
 use Rattle.s370_state.specs.declared.endings.Ending.TheVariants.{Returned, Spent}
 use Rattle.s370_state.specs.declared.endings.Next.TheVariants.{On, Ended}
-use Rattle.observed_step.specs.Courses.{After, Behind, Tour, Turn, course_on, ends_here, step_behind, turn_of, turned, with_cpu}
+use Rattle.observed_step.specs.Meaning.{After, Behind, Tour, Turn, course_on, ends_here, step_behind, turn_of, turned, with_cpu}
 use Rattle.observed_step.specs.Runs.{Goes}
 use Rattle.observed_step.proofs.CourseLemmas.{course-returned, course-none, course-more, course-ended, last_turn, turned-more}
 use Rattle.observed_step.proofs.GoesLemmas.{goes_more}

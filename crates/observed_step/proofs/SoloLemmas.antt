@@ -1,10 +1,9 @@
 -- Where nothing is done behind the instructions, the course is the run alone.
 use Rattle.std.proofs.Common.{◌≡◌, ℕ, [], refl, sym, ap}
-use Rattle.cov_base.specs.Memory.{Memory}
-use Rattle.cov_base.specs.States.{State}
-use Rattle.s370_exec.specs.Solo.{Run, solo_run, run_on}
-use Rattle.observed_step.specs.Called.{calls_on}
-use Rattle.observed_step.specs.Courses.{Tour, calls_of, course_on, nothing, visits_of}
+use Rattle.cov_base.specs.Meaning.{Memory, State}
+use Rattle.s370_exec.specs.Meaning.{Run, solo_run, run_on}
+use Rattle.observed_step.specs.Meaning.{calls_on, Tour, calls_of, course_on, visits_of}
+use Rattle.observed_step.specs.Courses.{nothing}
 use Rattle.observed_step.proofs.InstanceLemmas.{TellsRun, TellsCalls, run_as, calls_as}
 
 tells_run : {K : Type 0} (m : Memory) → TellsRun {K = K} nothing m (λ n k s trace. run_on m n s trace)

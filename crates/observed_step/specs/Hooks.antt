@@ -1,11 +1,12 @@
 -- What is done behind the instructions of a task.
 use Rattle.std.specs.Prelude.{◌≡◌, ℕ, ◌+◌, Option, List}
-use Rattle.cov_base.specs.States.{Visit}
-use Rattle.brk_table.specs.Places.{TablesView}
-use Rattle.module_area.specs.Control.{ControlView}
-use Rattle.s370_state.specs.Row.{machine_of}
+use Rattle.cov_base.specs.Meaning.{Visit}
+use Rattle.brk_table.specs.Meaning.{TablesView}
+use Rattle.module_area.specs.Meaning.{ControlView}
+use Rattle.s370_state.specs.Meaning.{machine_of}
 use Rattle.s370_state.specs.declared.endings.Next.{Next}
-use Rattle.observed_step.specs.Courses.{After, nothing}
+use Rattle.observed_step.specs.Meaning.{After}
+use Rattle.observed_step.specs.Courses.{nothing}
 use Rattle.observed_step.specs.Steps.{CanStep, StepsAs, memory_at}
 use Rattle.observed_step.specs.declared.bench.Bench.{Bench}
 

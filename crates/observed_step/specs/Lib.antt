@@ -1,6 +1,7 @@
 pub mod Called
 pub mod Courses
 pub mod Hooks
+pub mod Meaning
 pub mod Runs
 pub mod Sights
 pub mod Steps

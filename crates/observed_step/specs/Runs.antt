@@ -1,9 +1,9 @@
 -- A task that has run to its end under an observer and a hook.
 use Rattle.std.specs.Prelude.{◌≡◌, ℕ, ◌+◌, ◌≤◌, Option, List, [], ◌∷◌, length}
-use Rattle.cov_base.specs.States.{Visit}
-use Rattle.brk_table.specs.Places.{TablesView}
-use Rattle.module_area.specs.Control.{ControlView}
-use Rattle.observed_step.specs.Courses.{Tour, Turn, course_on}
+use Rattle.cov_base.specs.Meaning.{Visit}
+use Rattle.brk_table.specs.Meaning.{TablesView}
+use Rattle.module_area.specs.Meaning.{ControlView}
+use Rattle.observed_step.specs.Meaning.{Tour, Turn, course_on}
 use Rattle.observed_step.specs.Hooks.{Way}
 use Rattle.observed_step.specs.Steps.{memory_at, stands}
 use Rattle.observed_step.specs.declared.bench.Bench.{Bench}

@@ -1,14 +1,12 @@
 -- What an observer is shown.
 use Rattle.std.specs.Prelude.{◌≡◌, ℕ, ◌<◌, true, false, if◌then◌else◌, Option, Some, None, List, length}
-use Rattle.cov_base.specs.States.{CpuView, Visit}
+use Rattle.cov_base.specs.Meaning.{CpuView, Visit}
 use Rattle.cov_base.specs.declared.numbers.PlaceNo.{PlaceNo}
 use Rattle.module_area.specs.declared.places.Place.{Place}
-use Rattle.module_area.specs.PlanView.{place_of}
-use Rattle.module_area.specs.Executions.{is_place}
-use Rattle.s370_decode.specs.Fields.{first_half}
-use Rattle.s370_decode.specs.Table.{op_of}
+use Rattle.module_area.specs.Meaning.{place_of, is_place}
+use Rattle.s370_decode.specs.Meaning.{first_half, op_of}
 use Rattle.s370_decode.specs.declared.code.Code.{Code}
-use Rattle.s370_branch.specs.Branch.{goes}
+use Rattle.s370_branch.specs.Meaning.{goes}
 use Rattle.observed_step.specs.declared.observer.Sight.{Sight}
 
 -- it is the place that begins there, and the only one

@@ -1,18 +1,15 @@
 -- What an instruction did, and what its observer has noted.
 use Rattle.std.specs.Prelude.{◌≡◌, ℕ, ◌+◌, true, false, Option, None, List, [], ◌∷◌}
-use Rattle.cov_base.specs.Codes.{length_of}
-use Rattle.cov_base.specs.Memory.{Memory, half_at}
-use Rattle.cov_base.specs.States.{State, Visit}
+use Rattle.cov_base.specs.Meaning.{length_of, Memory, half_at, State, Visit}
 use Rattle.brk_table.specs.Kept.{AreKept}
-use Rattle.brk_table.specs.Places.{TablesView, AreSeen}
-use Rattle.module_area.specs.Control.{ControlView}
-use Rattle.s370_branch.specs.Branch.{goes}
-use Rattle.s370_decode.specs.Fields.{first_half}
-use Rattle.s370_decode.specs.Table.{op_of}
+use Rattle.brk_table.specs.Meaning.{TablesView}
+use Rattle.brk_table.specs.Places.{AreSeen}
+use Rattle.module_area.specs.Meaning.{ControlView}
+use Rattle.s370_branch.specs.Meaning.{goes}
+use Rattle.s370_decode.specs.Meaning.{first_half, op_of}
 use Rattle.s370_decode.specs.declared.code.Code.{Code}
-use Rattle.s370_exec.specs.Calls.{call_of, subject_call}
-use Rattle.s370_exec.specs.Fetch.{first_tests, rest_tests, code_at}
-use Rattle.s370_exec.specs.Solo.{Step, state_of, solo_step, subject_step}
+use Rattle.s370_exec.specs.Meaning.{call_of, subject_call, first_tests, rest_tests, code_at, Step, solo_step, subject_step}
+use Rattle.s370_exec.specs.Solo.{state_of}
 use Rattle.s370_state.specs.declared.endings.Next.{Next}
 use Rattle.space_map.specs.Space.{memory_of_space}
 use Rattle.observed_step.specs.declared.bench.Bench.{Bench}

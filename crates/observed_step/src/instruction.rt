@@ -1,9 +1,8 @@
 //! One instruction of a task.
 ghost use Rattle.std.specs.Prelude.{◌≡◌, ◌+◌, ◌<◌, length, IfOk, IfErr, None, Some, false};
-ghost use Rattle.cov_base.specs.Memory.{half_at};
-ghost use Rattle.module_area.specs.Executions.{is_place};
-ghost use Rattle.module_area.specs.PlanView.{place_of};
-ghost use Rattle.s370_exec.specs.Fetch.{first_tests};
+ghost use Rattle.cov_base.specs.Meaning.{half_at};
+ghost use Rattle.module_area.specs.Meaning.{is_place, place_of};
+ghost use Rattle.s370_exec.specs.Meaning.{first_tests};
 ghost use Rattle.space_map.specs.Space.{memory_of_space};
 ghost use Rattle.observed_step.specs.Sights.{IsPlaced};
 ghost use Rattle.observed_step.specs.Steps.{CanStep, IsFetched, IsShown, StepsAs, SubjectStepsAs, CarriesOn};

@@ -1,8 +1,8 @@
 //! What looks on as a task runs.
 ghost use Rattle.std.specs.Prelude.{ℕ, ◌+◌, [], ◌∷◌, ◌++◌, List, Option, None};
-ghost use Rattle.cov_base.specs.States.{Visit};
-ghost use Rattle.brk_table.specs.Places.{TablesView};
-ghost use Rattle.module_area.specs.Control.{ControlView};
+ghost use Rattle.cov_base.specs.Meaning.{Visit};
+ghost use Rattle.brk_table.specs.Meaning.{TablesView};
+ghost use Rattle.module_area.specs.Meaning.{ControlView};
 ghost use Rattle.observed_step.specs.Sights.{IsPlaced, begun_visit, refused_visit, stage_of};
 ghost use Rattle.observed_step.specs.Called.{call_at};
 

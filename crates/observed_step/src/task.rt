@@ -1,6 +1,6 @@
 //! The run of a task.
 ghost use Rattle.std.specs.Prelude.{◌≡◌, ◌==◌, if◌then◌else◌};
-ghost use Rattle.s370_exec.specs.Solo.{return_address};
+ghost use Rattle.s370_exec.specs.Meaning.{return_address};
 ghost use Rattle.s370_state.specs.declared.endings.Ending.TheVariants.{Returned, Spent};
 ghost use Rattle.observed_step.specs.Runs.{EndsAs, GoesAs};
 ghost use Rattle.observed_step.specs.Steps.{CanStep, memory_at};

@@ -4,7 +4,7 @@ use Rattle.std.proofs.lemmas.List.{length-take-le, get_or-take, get_or_default}
 use Rattle.std.proofs.lemmas.List.Folds.{list_any_more, list_any_none}
 use mathlib.Core.Path.{fun_ext}
 use Rattle.cov_base.specs.declared.numbers.PlaceNo.{PlaceNo}
-use Rattle.module_area.specs.PlanView.{has_place}
+use Rattle.module_area.specs.Meaning.{has_place}
 use Rattle.module_area.specs.Notes.{Notes, after_plant, after_close}
 use Rattle.module_area.specs.Control.{after_plants, after_closes}
 use Rattle.module_area.proofs.Indices.{same_tests}

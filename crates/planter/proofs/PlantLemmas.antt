@@ -3,7 +3,7 @@ use Rattle.std.proofs.Common.{◌≡◌, ◌≢◌, ℕ, ◌+◌, ◌-◌, ◌*�
 use Rattle.std.proofs.lemmas.Bool.Decides.{nat_tests}
 use Rattle.std.proofs.lemmas.List.Sums.{count_by_more_no, count_by_more_yes}
 use mathlib.Core.Path.{fun_ext}
-use Rattle.module_area.specs.PlanView.{PlanView, window_at}
+use Rattle.module_area.specs.Meaning.{PlanView, window_at}
 use Rattle.module_area.specs.Notes.{Notes, after_plant}
 use Rattle.planter.specs.Planted.{planted_notes}
 

@@ -5,12 +5,13 @@ use Rattle.std.proofs.lemmas.List.Folds.{list_any_more}
 use Rattle.cov_base.specs.declared.limits.TheConstants.{PLACE_LIMIT, SESSION_LIMIT}
 use Rattle.cov_base.specs.declared.numbers.PlaceNo.{PlaceNo}
 use Rattle.cov_base.specs.declared.numbers.SessNo.{SessNo}
-use Rattle.module_area.specs.PlanView.{PlanView, ControlledView, IsPlan, AreApart, has_place, is_controlled, window_at}
+use Rattle.module_area.specs.Meaning.{PlanView, ControlledView, has_place, is_controlled, window_at, ControlView, places_in, places_under, unless_open, to_open, opening, has_session}
+use Rattle.module_area.specs.PlanView.{IsPlan, AreApart}
 use Rattle.module_area.specs.Notes.{Notes, keeps_as}
 use Rattle.std.specs.Prelude.{slice_get}
 use Rattle.std.proofs.lemmas.Option.{slice_get_within, get_or_from_slice_get, same_Some}
-use Rattle.module_area.specs.Control.{ControlView, places_in, places_under, unless_open, to_open, opening, after_plants, after_closes}
-use Rattle.module_area.specs.Tied.{has_session, keeps_session_as, keeps_session, IsTied}
+use Rattle.module_area.specs.Control.{after_plants, after_closes}
+use Rattle.module_area.specs.Tied.{keeps_session_as, keeps_session, IsTied}
 use Rattle.planter.specs.Allowed.{MayPlant, MayClose}
 use Rattle.module_area.proofs.Indices.{and_left, and_right, and_both}
 use Rattle.module_area.proofs.PlanLemmas.{any_at, any_shown}

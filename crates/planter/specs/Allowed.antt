@@ -1,7 +1,7 @@
 -- What planting and closing a session at several places need.
 use Rattle.std.specs.Prelude.{◌≡◌, ℕ, ◌+◌, ◌*◌, ◌<◌, true, List, length, All, AllPairs}
 use Rattle.cov_base.specs.declared.numbers.PlaceNo.{PlaceNo}
-use Rattle.module_area.specs.PlanView.{PlanView, is_over, is_controlled}
+use Rattle.module_area.specs.Meaning.{PlanView, is_over, is_controlled}
 use Rattle.module_area.specs.Notes.{Notes, keeps}
 
 -- a pass may plant the session at each of these places, once

@@ -1,6 +1,6 @@
 -- What the root knows once places are planted.
 use Rattle.std.specs.Prelude.{ℕ, ◌+◌, ◌-◌, ◌*◌, nat_eq, nat_lt, if◌then◌else◌, ◌&&◌, not, count_by, take}
-use Rattle.module_area.specs.PlanView.{PlanView, window_at}
+use Rattle.module_area.specs.Meaning.{PlanView, window_at}
 use Rattle.module_area.specs.Notes.{Notes}
 
 -- each of the first n places with a window was planted once, and nothing else was done

@@ -2,7 +2,8 @@
 ghost use Rattle.std.specs.Prelude.{◌≡◌, ◌+◌, ◌<◌, ◌≤◌, ◌^◌, length};
 ghost use Rattle.cov_base.specs.declared.limits.TheConstants.{PLACE_LIMIT};
 ghost use Rattle.module_area.specs.Notes.{calls};
-ghost use Rattle.module_area.specs.Control.{to_open, opening, closing, after_plants, after_closes, after_open, after_end};
+ghost use Rattle.module_area.specs.Meaning.{to_open, opening, closing};
+ghost use Rattle.module_area.specs.Control.{after_plants, after_closes, after_open, after_end};
 ghost use Rattle.module_area.specs.Tied.{IsTied};
 ghost use Rattle.planter.specs.Allowed.{MayPlant, MayClose};
 

@@ -5,7 +5,7 @@
 ghost use Rattle.std.specs.Prelude.{◌≡◌, ℕ, ◌+◌, ◌<◌, ◌≤◌, ◌^◌, length};
 ghost use Rattle.std.specs.declared.option.Option.TheVariants.{None};
 ghost use Rattle.cov_base.specs.declared.limits.TheConstants.{PLACE_LIMIT};
-ghost use Rattle.module_area.specs.PlanView.{window_at};
+ghost use Rattle.module_area.specs.Meaning.{window_at};
 ghost use Rattle.module_area.specs.Notes.{calls};
 ghost use Rattle.planter.specs.Planted.{planted_notes};
 

@@ -7,10 +7,9 @@ use Rattle.std.specs.List.{between}
 use borrow.Rule.Slice.PartMut.{put_mid}
 use Rattle.std.proofs.lemmas.List.Elements.{All-head, All-tail}
 use Rattle.std.proofs.lemmas.List.Sums.{fold_more}
-use Rattle.module_area.specs.Views.{DataView, with_card, first_bytes}
+use Rattle.module_area.specs.Meaning.{DataView, with_card, first_bytes}
 use Rattle.report_text.specs.FirstRows.{IsPartOf, FitsIn}
-use Rattle.report_text.specs.Tasks.{row_lines, changed_row}
-use Rattle.report_text.specs.Text.{row_of}
+use Rattle.report_text.specs.Meaning.{row_lines, changed_row, row_of}
 
 -- the byte at an address, once bytes are stored from an offset on
 unfoldable byte_after : ℕ → List ℕ → ℕ → ℕ → ℕ

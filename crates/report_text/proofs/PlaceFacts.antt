@@ -1,17 +1,12 @@
 -- Places, and sums over numbers.
 use Rattle.std.proofs.Common.{◌≡◌, ℕ, ◌+◌, ◌-◌, ◌<◌, ◌≤◌, suc, List, Bool, true, false, if◌then◌else◌, nat_eq, nat_lt, refl, arith}
-use Rattle.annotator.specs.Annotated.{mark_byte}
-use Rattle.cov_base.specs.Codes.{length_of}
-use Rattle.cov_base.specs.FactSet.{FactSet}
-use Rattle.cov_base.specs.Facts.{full_of}
-use Rattle.cov_base.specs.Marks.{mark_of}
+use Rattle.annotator.specs.Meaning.{mark_byte}
+use Rattle.cov_base.specs.Meaning.{length_of, FactSet, full_of, mark_of}
 use Rattle.cov_base.specs.declared.marks.Mark.{Mark}
-use Rattle.module_area.specs.Counts.{fact_count}
-use Rattle.module_area.specs.PlanView.{place_of}
+use Rattle.module_area.specs.Meaning.{fact_count, place_of}
 use Rattle.module_area.specs.declared.places.Place.{Place}
-use Rattle.session_book.specs.Results.{ResultView}
-use Rattle.report_text.specs.Sessions.{lacks}
-use Rattle.report_text.specs.Text.{sum_from}
+use Rattle.session_book.specs.Meaning.{ResultView}
+use Rattle.report_text.specs.Meaning.{lacks, sum_from}
 
 -- what a place adds to each sum of a report, and a task
 abbrev pub executed_at : (ℕ → FactSet) → ℕ → ℕ

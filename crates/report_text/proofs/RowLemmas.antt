@@ -2,9 +2,8 @@
 use Rattle.std.proofs.Common.{◌≡◌, ℕ, ◌+◌, ◌-◌, ◌<◌, ◌≤◌, min, inl, inr, zero, suc, Bool, true, false, not, if◌then◌else◌, bytes_eq, codes, List, [], ◌∷◌, ◌++◌, refl, sym, ap, ◌∙◌, arith, append_assoc, append-nil}
 use Rattle.std.proofs.lemmas.Bool.{cases_lt}
 use Rattle.std.proofs.lemmas.Bool.{false≢true}
-use Rattle.annotator.specs.Digits.{hex_digits}
-use Rattle.report_text.specs.Tasks.{row_lines}
-use Rattle.report_text.specs.Text.{hex_bytes, lines_from}
+use Rattle.annotator.specs.Meaning.{hex_digits}
+use Rattle.report_text.specs.Meaning.{row_lines, hex_bytes, lines_from}
 
 count_step : (n count : ℕ) → n < count → count - n ≡ suc (count - (n + 1))
 count_step n count h = omega arith

@@ -1,11 +1,12 @@
 -- The runs that are left after the places before number n, where one is begun or none.
 use Rattle.std.proofs.Common.{◌≡◌, ℕ, ◌+◌, ◌-◌, ◌<◌, ◌≤◌, suc, true, false, Option, Some, None, option_map, unwrap_or, List, ◌∷◌, ◌++◌, refl, arith}
-use Rattle.cov_base.specs.FactSet.{FactSet}
-use Rattle.module_area.specs.PlanView.{place_of}
+use Rattle.cov_base.specs.Meaning.{FactSet}
+use Rattle.module_area.specs.Meaning.{place_of}
 use Rattle.module_area.specs.declared.places.Place.{Place}
-use Rattle.session_book.specs.JobView.{JobView}
+use Rattle.session_book.specs.Meaning.{JobView}
 use Rattle.report_text.specs.declared.sessions.Run.{Run}
-use Rattle.report_text.specs.Sessions.{lacks, location_of, last_byte_of, run_end, run_line, run_lines, open_run}
+use Rattle.report_text.specs.Meaning.{lacks, location_of, last_byte_of, run_end, run_line, run_lines}
+use Rattle.report_text.specs.Sessions.{open_run}
 
 abbrev pub runs_left : JobView → List Place → (ℕ → FactSet) → Option Run → ℕ → ℕ → List (List ℕ)
 runs_left job places sets None n count = run_lines job places sets false n count

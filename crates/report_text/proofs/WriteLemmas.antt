@@ -2,7 +2,7 @@
 use Rattle.std.proofs.Common.{◌≡◌, ℕ, Option, Result, Ok, Err, IsErr, List, [], ◌∷◌, ◌++◌, refl, sym, ap, ◌∙◌, subst, append_assoc, append-nil}
 use Rattle.cov_outside.specs.Writes.{Writes}
 use Rattle.cov_outside.proofs.WriteLemmas as bytes
-use Rattle.report_text.specs.Text.{text_of}
+use Rattle.report_text.specs.Meaning.{text_of}
 use Rattle.report_text.specs.Writes.{WritesLines}
 
 pub text_of-append : (a b : List (List ℕ)) → text_of (a ++ b) ≡ text_of a ++ text_of b

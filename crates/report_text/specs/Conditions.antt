@@ -1,11 +1,10 @@
 -- What a report needs of tables, results and sets.
 use Rattle.std.specs.Prelude.{◌≡◌, ℕ, ◌+◌, ◌<◌, ◌≤◌, length, All, IfSome}
 use Rattle.cov_base.specs.declared.constants.TheConstants.{INPUT_LIMIT}
-use Rattle.cov_base.specs.FactSet.{FactSet}
-use Rattle.brk_table.specs.Places.{TablesView, IsIn}
-use Rattle.session_book.specs.JobView.{JobView}
-use Rattle.session_book.specs.Results.{ResultView}
-use Rattle.session_book.specs.Sessions.{session_of, task_of}
+use Rattle.cov_base.specs.Meaning.{FactSet}
+use Rattle.brk_table.specs.Meaning.{TablesView}
+use Rattle.brk_table.specs.Places.{IsIn}
+use Rattle.session_book.specs.Meaning.{JobView, ResultView, session_of, task_of}
 use Rattle.session_book.specs.Sets.{AreWithin}
 
 -- each line of a listing has a number

@@ -1,6 +1,6 @@
 -- A part of the storage that data cards fill.
 use Rattle.std.specs.Prelude.{◌≡◌, ℕ, ◌+◌, ◌<◌, ◌≤◌, List, length, slice_index}
-use Rattle.module_area.specs.Views.{DataView}
+use Rattle.module_area.specs.Meaning.{DataView}
 
 -- the bytes from an address on, as far as there are some
 abbrev pub IsPartOf : List ℕ → List ℕ → ℕ → Type 0

@@ -1,10 +1,5 @@
 pub mod Conditions
-pub mod Counts
 pub mod FirstRows
-pub mod Report
+pub mod Meaning
 pub mod Sessions
-pub mod Table
-pub mod Tasks
-pub mod Text
-pub mod Trial
 pub mod Writes

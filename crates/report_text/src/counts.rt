@@ -4,8 +4,7 @@ ghost use Rattle.std.specs.List.{flat_map};
 ghost use Rattle.arrayvec.specs.ArrayVec.{array_vec_len};
 ghost use Rattle.cov_outside.specs.Writes.{Writes};
 ghost use Rattle.report_text.specs.Conditions.{AreTablesOf, AreResultsOf, HasSession};
-ghost use Rattle.report_text.specs.Counts.{fact_counts, count_line, module_counts, session_counts, count_text};
-ghost use Rattle.report_text.specs.Text.{lines_from};
+ghost use Rattle.report_text.specs.Meaning.{fact_counts, count_line, module_counts, session_counts, count_text, lines_from};
 ghost use Rattle.report_text.specs.Writes.{WritesLines};
 
 use crate::places::module_line;
@@ -30,7 +29,7 @@ fn add_count(line: &mut ArrayVec<u8, 160>, count: u64)
 }
 
 /// Adds the counts of the facts of the place's kind.
-#[tactic(auto, unfolding(crate::specs::Counts::fact_counts))]
+#[tactic(auto, unfolding(crate::specs::Meaning::fact_counts))]
 fn add_facts<R: FactCounts>(
     line: &mut ArrayVec<u8, 160>,
     kind: Kind,
@@ -56,7 +55,7 @@ fn add_facts<R: FactCounts>(
 
 /// A place's line by its location, below 2^24, with its counts in session s: how often it ran, or how often it branched and
 /// fell through.
-#[tactic(auto, unfolding(crate::specs::Counts::count_line))]
+#[tactic(auto, unfolding(crate::specs::Meaning::count_line))]
 pub fn count_line<R: FactCounts>(
     location: u32,
     kind: Kind,

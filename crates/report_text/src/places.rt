@@ -3,9 +3,7 @@ ghost use Rattle.std.specs.Prelude.{◌≡◌, ◌+◌, ◌-◌, ◌<◌, ◌≤
 ghost use Rattle.arrayvec.specs.ArrayVec.{array_vec_len};
 ghost use Rattle.cov_outside.specs.Writes.{Writes};
 ghost use Rattle.report_text.specs.Conditions.{AreTablesOf};
-ghost use Rattle.report_text.specs.Table.{kind_letter, place_line, module_line, module_places, is_monitored, table_part, table_text};
-ghost use Rattle.report_text.specs.Sessions.{location_of};
-ghost use Rattle.report_text.specs.Text.{lines_from};
+ghost use Rattle.report_text.specs.Meaning.{kind_letter, place_line, module_line, module_places, is_monitored, table_part, table_text, location_of, lines_from};
 ghost use Rattle.report_text.specs.Writes.{WritesLines};
 
 use crate::sessions::{location, module_name};
@@ -33,7 +31,7 @@ fn add_kind(line: &mut ArrayVec<u8, 160>, kind: Kind)
 }
 
 /// A place by its location.
-#[tactic(auto, unfolding(crate::specs::Table::place_line))]
+#[tactic(auto, unfolding(crate::specs::Meaning::place_line))]
 fn place_line(location: u32, place: &Place) -> ArrayVec<u8, 160>
     requires { location < 16777216 }
     ensures { result.items ≡ place_line location place.now ++ 10 ∷ [] }
@@ -52,7 +50,7 @@ fn place_line(location: u32, place: &Place) -> ArrayVec<u8, 160>
 }
 
 /// A module's name and the number of its places.
-#[tactic(auto, unfolding(crate::specs::Table::module_line))]
+#[tactic(auto, unfolding(crate::specs::Meaning::module_line))]
 pub(crate) fn module_line(name: &Name, count: u32) -> ArrayVec<u8, 160>
     ensures { result.items ≡ module_line name.now count ++ 10 ∷ [] }
 {

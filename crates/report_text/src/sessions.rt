@@ -1,18 +1,17 @@
 //! What a report says of a session.
 ghost use Rattle.std.specs.Prelude.{◌≡◌, ◌+◌, ◌-◌, ◌*◌, ◌<◌, ◌≤◌, ◌++◌, ◌∷◌, [], length, All, IfSome, unwrap_or, option_map, if◌then◌else◌, get_or, None, false};
-ghost use Rattle.annotator.specs.Annotated.{annotated};
+ghost use Rattle.annotator.specs.Meaning.{annotated};
 ghost use Rattle.cov_outside.specs.Writes.{Writes};
-ghost use Rattle.cov_base.specs.Facts.{full_of};
-ghost use Rattle.module_area.specs.Counts.{fact_count};
-ghost use Rattle.module_area.specs.PlanView.{place_of};
-ghost use Rattle.brk_table.specs.Places.{IsIn, IsPlace, first_place, place_count};
+ghost use Rattle.cov_base.specs.Meaning.{full_of};
+ghost use Rattle.module_area.specs.Meaning.{fact_count, place_of};
+ghost use Rattle.brk_table.specs.Meaning.{first_place, place_count};
+ghost use Rattle.brk_table.specs.Places.{IsIn, IsPlace};
 ghost use Rattle.report_text.specs.Conditions.{AreTablesOf, HasSession};
-ghost use Rattle.report_text.specs.Sessions.{lacks, location_of, last_byte_of, line_mark, marked_lines, run_line, run_lines, totals_line, session_line, open_run, module_lines};
-ghost use Rattle.session_book.specs.Sessions.{module_of};
+ghost use Rattle.report_text.specs.Meaning.{lacks, location_of, last_byte_of, line_mark, marked_lines, run_line, run_lines, totals_line, session_line, module_lines, session_part, sum_from, text_of};
+ghost use Rattle.report_text.specs.Sessions.{open_run};
+ghost use Rattle.session_book.specs.Meaning.{module_of};
 ghost use Rattle.session_book.specs.Sets.{HasSetsOf, AreWithin};
-ghost use Rattle.report_text.specs.Report.{session_part};
 ghost use Rattle.std.specs.List.{flat_map};
-ghost use Rattle.report_text.specs.Text.{sum_from, text_of};
 ghost use Rattle.report_text.specs.declared.sessions.Run.{Run};
 ghost use Rattle.report_text.specs.Writes.{WritesLines};
 
@@ -29,7 +28,7 @@ use module_area::Place;
 use session_book::{FactSets, Job};
 
 /// The names of a session and of its phase.
-#[tactic(auto, unfolding(crate::specs::Sessions::session_line))]
+#[tactic(auto, unfolding(crate::specs::Meaning::session_line))]
 pub(crate) fn session_line(name: &Name, phase: &Name) -> ArrayVec<u8, 160>
     ensures { result.items ≡ session_line name.now phase.now ++ 10 ∷ [] }
 {
@@ -43,7 +42,7 @@ pub(crate) fn session_line(name: &Name, phase: &Name) -> ArrayVec<u8, 160>
 }
 
 /// Locations, each below 2^24.
-#[tactic(auto, unfolding(crate::specs::Sessions::run_line))]
+#[tactic(auto, unfolding(crate::specs::Meaning::run_line))]
 fn run_line(run: Run) -> ArrayVec<u8, 160>
     requires from { run.from < 16777216 }
     requires last { run.last < 16777216 }
@@ -59,7 +58,7 @@ fn run_line(run: Run) -> ArrayVec<u8, 160>
 }
 
 /// What the sets of a module's places come to.
-#[tactic(auto, unfolding(crate::specs::Sessions::totals_line))]
+#[tactic(auto, unfolding(crate::specs::Meaning::totals_line))]
 fn totals_line(name: &Name, places: u32, counts: Counts) -> ArrayVec<u8, 160>
     ensures { result.items ≡ totals_line name.now places counts.executed counts.facts counts.possible ++ 10 ∷ [] }
 {

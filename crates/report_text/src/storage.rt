@@ -1,11 +1,10 @@
 //! Private storage, by blocks and in them row by row.
 ghost use Rattle.std.specs.Prelude.{◌≡◌, ℕ, ◌+◌, ◌-◌, ◌*◌, ◌<◌, ◌≤◌, ◌++◌, ◌∷◌, [], List, length, take, replicate, not, bytes_eq, codes, All};
-ghost use Rattle.annotator.specs.Digits.{hex_digits};
+ghost use Rattle.annotator.specs.Meaning.{hex_digits};
 ghost use Rattle.cov_base.specs.declared.limits.TheConstants.{PRIVATE_LIMIT};
-ghost use Rattle.module_area.specs.Views.{first_bytes, with_card};
+ghost use Rattle.module_area.specs.Meaning.{first_bytes, with_card};
 ghost use Rattle.report_text.specs.FirstRows.{IsPartOf, FitsIn};
-ghost use Rattle.report_text.specs.Tasks.{row_lines, changed_row, storage_lines};
-ghost use Rattle.report_text.specs.Text.{hex_bytes, row_count, lines_from};
+ghost use Rattle.report_text.specs.Meaning.{row_lines, changed_row, storage_lines, hex_bytes, row_count, lines_from};
 ghost use Rattle.report_text.specs.Writes.{WritesLines};
 
 use crate::words::add_bytes;

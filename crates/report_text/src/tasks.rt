@@ -1,9 +1,7 @@
 //! What a report says of a task.
 ghost use Rattle.std.specs.Prelude.{◌≡◌, ◌+◌, ◌*◌, ◌<◌, ◌≤◌, ◌++◌, ◌∷◌, [], length, codes, decimal, drop};
 ghost use Rattle.report_text.specs.Conditions.{HasResultOf};
-ghost use Rattle.report_text.specs.Report.{task_part};
-ghost use Rattle.report_text.specs.Tasks.{task_words, register_line, output_lines, state_lines};
-ghost use Rattle.report_text.specs.Text.{hex_bytes, row_of, row_count, lines_from};
+ghost use Rattle.report_text.specs.Meaning.{task_part, task_words, register_line, output_lines, state_lines, hex_bytes, row_of, row_count, lines_from};
 ghost use Rattle.report_text.specs.Writes.{WritesLines};
 
 use crate::storage::storage_part;
@@ -28,7 +26,7 @@ fn task_line(name: &Name, ending: Option<Ending>, done: u32, condition: u8) -> A
 }
 
 /// A label and eight registers.
-#[tactic(auto, unfolding(crate::specs::Tasks::register_line))]
+#[tactic(auto, unfolding(crate::specs::Meaning::register_line))]
 fn register_line(label: &[u8], regs: &[u32]) -> ArrayVec<u8, 160>
     requires label { length label.now ≤ 4 }
     requires regs { length regs.now ≤ 8 }

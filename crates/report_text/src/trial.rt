@@ -1,12 +1,11 @@
 //! What is said of a generated job that was run.
 ghost use Rattle.std.specs.Prelude.{◌≡◌, ℕ, ◌+◌, ◌<◌, ◌≤◌, ◌++◌, ◌∷◌, [], length, nat_eq, true, if◌then◌else◌};
-ghost use Rattle.annotator.specs.Annotated.{mark_byte};
-ghost use Rattle.cov_base.specs.Facts.{is_within};
+ghost use Rattle.annotator.specs.Meaning.{mark_byte};
+ghost use Rattle.cov_base.specs.Meaning.{is_within};
 ghost use Rattle.cov_base.specs.declared.marks.Mark.TheVariants.{Not, Done, Branched, Fell, Both};
 ghost use Rattle.cov_outside.specs.Writes.{Writes};
-ghost use Rattle.module_area.specs.PlanView.{place_of};
-ghost use Rattle.report_text.specs.Trial.{mark_count, trial_line, amount_line, mark_line, trial_text};
-ghost use Rattle.report_text.specs.Text.{sum_from};
+ghost use Rattle.module_area.specs.Meaning.{place_of};
+ghost use Rattle.report_text.specs.Meaning.{mark_count, trial_line, amount_line, mark_line, trial_text, sum_from};
 
 use crate::writing::put;
 use annotator::text::{add_number, add_text};
@@ -77,7 +76,7 @@ fn count_done<R: Results>(results: &R, tasks: u32) -> u64
     total
 }
 
-#[tactic(auto, unfolding(crate::specs::Trial::trial_line))]
+#[tactic(auto, unfolding(crate::specs::Meaning::trial_line))]
 fn trial_line(number: u32, tasks: u32) -> ArrayVec<u8, 160>
     ensures { result.items ≡ trial_line number tasks ++ 10 ∷ [] }
 {
@@ -90,7 +89,7 @@ fn trial_line(number: u32, tasks: u32) -> ArrayVec<u8, 160>
     line
 }
 
-#[tactic(auto, unfolding(crate::specs::Trial::amount_line))]
+#[tactic(auto, unfolding(crate::specs::Meaning::amount_line))]
 fn amount_line(places: u32, instructions: u64) -> ArrayVec<u8, 160>
     ensures { result.items ≡ amount_line places instructions ++ 10 ∷ [] }
 {
@@ -103,7 +102,7 @@ fn amount_line(places: u32, instructions: u64) -> ArrayVec<u8, 160>
     line
 }
 
-#[tactic(auto, unfolding(crate::specs::Trial::mark_line))]
+#[tactic(auto, unfolding(crate::specs::Meaning::mark_line))]
 fn mark_line(counts: MarkCounts) -> ArrayVec<u8, 160>
     ensures { result.items ≡ mark_line counts.not counts.executed counts.branched counts.fell counts.both ++ 10 ∷ [] }
 {

@@ -2,8 +2,7 @@
 ghost use Rattle.std.specs.Prelude.{◌≡◌, ◌+◌, ◌-◌, ◌<◌, ◌≤◌, ◌++◌, ◌∷◌, [], length};
 ghost use Rattle.cov_outside.specs.Writes.{Writes};
 ghost use Rattle.report_text.specs.Conditions.{AreTablesOf, AreResultsOf, AreSetsOf};
-ghost use Rattle.report_text.specs.Report.{task_parts, session_part, result_lines, report_of};
-ghost use Rattle.report_text.specs.Text.{lines_from};
+ghost use Rattle.report_text.specs.Meaning.{task_parts, session_part, result_lines, report_of, lines_from};
 ghost use Rattle.report_text.specs.Writes.{WritesLines};
 
 use crate::sessions::session_part;

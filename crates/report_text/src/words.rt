@@ -1,9 +1,8 @@
 //! Pieces of lines.
 ghost use Rattle.std.specs.Prelude.{◌≡◌, ◌+◌, ◌*◌, ◌≤◌, ◌<◌, ◌++◌, length};
 ghost use Rattle.arrayvec.specs.ArrayVec.{array_vec_len};
-ghost use Rattle.cov_base.specs.Names.{unpadded};
-ghost use Rattle.report_text.specs.Tasks.{ending_words, register_line, task_words};
-ghost use Rattle.report_text.specs.Text.{hex_bytes};
+ghost use Rattle.cov_base.specs.Meaning.{unpadded};
+ghost use Rattle.report_text.specs.Meaning.{ending_words, register_line, task_words, hex_bytes};
 
 use annotator::text::{add_hex, add_number, add_text};
 use arrayvec::ArrayVec;
@@ -31,7 +30,7 @@ pub fn add_bytes(line: &mut ArrayVec<u8, 160>, bytes: &[u8])
 }
 
 /// Adds how a task ended.
-#[tactic(auto, unfolding(crate::specs::Tasks::ending_words))]
+#[tactic(auto, unfolding(crate::specs::Meaning::ending_words))]
 fn add_ended(line: &mut ArrayVec<u8, 160>, ending: Ending)
     requires { array_vec_len line.old ≤ 120 }
     ensures items { line.new.items ≡ line.old.items ++ ending_words (Some ending) }
@@ -58,7 +57,7 @@ fn add_ended(line: &mut ArrayVec<u8, 160>, ending: Ending)
 }
 
 /// Adds how a task ended, or that it is running.
-#[tactic(auto, unfolding(crate::specs::Tasks::ending_words))]
+#[tactic(auto, unfolding(crate::specs::Meaning::ending_words))]
 pub fn add_ending(line: &mut ArrayVec<u8, 160>, ending: Option<Ending>)
     requires { array_vec_len line.old ≤ 120 }
     ensures items { line.new.items ≡ line.old.items ++ ending_words ending }
@@ -71,7 +70,7 @@ pub fn add_ending(line: &mut ArrayVec<u8, 160>, ending: Option<Ending>)
 }
 
 /// The beginning of a task's line: its name, how it ended or that it is running, and the instructions that it has done.
-#[tactic(auto, unfolding(crate::specs::Tasks::task_words))]
+#[tactic(auto, unfolding(crate::specs::Meaning::task_words))]
 pub fn task_words(name: &Name, ending: Option<Ending>, done: u32) -> ArrayVec<u8, 160>
     ensures words { result.items ≡ task_words name.now ending done }
     ensures short { array_vec_len result ≤ 48 }
@@ -86,7 +85,7 @@ pub fn task_words(name: &Name, ending: Option<Ending>, done: u32) -> ArrayVec<u8
     line
 }
 
-#[tactic(auto, unfolding(crate::specs::Tasks::register_line))]
+#[tactic(auto, unfolding(crate::specs::Meaning::register_line))]
 /// Adds registers, each in eight hexadecimal digits after a blank.
 pub fn add_registers(line: &mut ArrayVec<u8, 160>, regs: &[u32])
     requires { array_vec_len line.old + 9 * length regs.now ≤ 160 }

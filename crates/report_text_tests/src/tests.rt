@@ -1,6 +1,6 @@
 //! Private storage of more than one block, and lines of counts.
 ghost use Rattle.std.specs.Prelude.{◌≡◌, ℕ, ◌+◌, ◌≤◌, if◌then◌else◌, None, [], length, All, IfOk};
-ghost use Rattle.cov_base.specs.Facts.{same_fact};
+ghost use Rattle.cov_base.specs.Meaning.{same_fact};
 ghost use Rattle.cov_base.specs.declared.facts.Fact.TheVariants.{Stayed};
 ghost use Rattle.report_text.specs.FirstRows.{FitsIn};
 

@@ -1,6 +1,6 @@
 -- A mask's bit for a condition code, by shifts.
 use Rattle.std.proofs.Common.{◌≡◌, ℕ, ◌/◌, ◌%◌, ◌^◌, ◌<◌, ◌≤◌, zero, suc, nat_le, ◌==◌, refl, arith}
-use Rattle.s370_branch.specs.Branch.{is_selected}
+use Rattle.s370_branch.specs.Meaning.{is_selected}
 
 odd : (n : ℕ) → n < 2 → nat_le 1 n ≡ (n == 1)
 odd zero lt = refl

@@ -1,1 +1,1 @@
-pub mod Branch
+pub mod Meaning

@@ -1,10 +1,9 @@
 //! Branches (Principles of Operation, "General Instructions", "Branching").
 ghost use Rattle.std.specs.Prelude.{◌≡◌, Some, ◌⊎◌, ℕ, ◌+◌, ◌*◌, ◌%◌, ◌<◌, ◌≤◌, true, ◌&&◌, ◌==◌, if◌then◌else◌};
-ghost use Rattle.s370_state.specs.Words.{signed};
-ghost use Rattle.s370_decode.specs.Fields.{first_half};
+ghost use Rattle.s370_state.specs.Meaning.{signed};
+ghost use Rattle.s370_decode.specs.Meaning.{first_half, op_of};
 ghost use Rattle.s370_decode.specs.Groups.{group_of};
-ghost use Rattle.s370_decode.specs.Table.{op_of};
-ghost use Rattle.s370_branch.specs.Branch.{is_selected, less_one, index_sum, comparand, is_high, goes, by_register, with_first, link_word, branched};
+ghost use Rattle.s370_branch.specs.Meaning.{is_selected, less_one, index_sum, comparand, is_high, goes, by_register, with_first, link_word, branched};
 
 use cov_base::Addr;
 use s370_decode::{Code, Group, Op, op_of};
@@ -54,7 +53,7 @@ fn is_high(cpu: &Cpu, code: &Code) -> bool
 
 /// Whether the operation on these fields branches.
 #[inline(always)]
-#[tactic(auto, unfolding(crate::specs::Branch::goes))]
+#[tactic(auto, unfolding(crate::specs::Meaning::goes))]
 fn goes(cpu: &Cpu, code: &Code, op: Op) -> bool
     ensures { result ≡ goes op cpu.now code.now }
 {
@@ -117,7 +116,7 @@ fn link_word(cpu: &Cpu, next: Addr, link: u8) -> u32
 
 /// BC: branches where the mask selects the condition code.
 #[inline(always)]
-#[tactic(auto, unfolding(crate::specs::Branch::goes))]
+#[tactic(auto, unfolding(crate::specs::Meaning::goes))]
 pub fn branch_on_condition(cpu: &mut Cpu, code: &Code, next: Addr)
     ensures { (link : ℕ) → Some cpu.new ≡ branched Op.BC cpu.old code.now next link }
 {
@@ -131,7 +130,7 @@ pub fn branch_on_condition(cpu: &mut Cpu, code: &Code, next: Addr)
 
 /// BCR: branches to R2 where the mask selects the condition code and R2 is not 0.
 #[inline(always)]
-#[tactic(auto, unfolding(crate::specs::Branch::goes))]
+#[tactic(auto, unfolding(crate::specs::Meaning::goes))]
 pub fn branch_on_condition_register(cpu: &mut Cpu, code: &Code, next: Addr)
     ensures { (link : ℕ) → Some cpu.new ≡ branched Op.BCR cpu.old code.now next link }
 {
@@ -153,7 +152,7 @@ fn count_and_go(cpu: &mut Cpu, code: &Code, to: Addr)
 
 /// BCT: takes 1 from R1 and branches unless 0 is left.
 #[inline(always)]
-#[tactic(auto, unfolding(crate::specs::Branch::goes))]
+#[tactic(auto, unfolding(crate::specs::Meaning::goes))]
 pub fn branch_on_count(cpu: &mut Cpu, code: &Code, next: Addr)
     ensures { (link : ℕ) → Some cpu.new ≡ branched Op.BCT cpu.old code.now next link }
 {
@@ -167,7 +166,7 @@ pub fn branch_on_count(cpu: &mut Cpu, code: &Code, next: Addr)
 
 /// BCTR: takes 1 from R1 and branches to R2, as it was, unless 0 is left or R2 is 0.
 #[inline(always)]
-#[tactic(auto, unfolding(crate::specs::Branch::goes))]
+#[tactic(auto, unfolding(crate::specs::Meaning::goes))]
 pub fn branch_on_count_register(cpu: &mut Cpu, code: &Code, next: Addr)
     ensures { (link : ℕ) → Some cpu.new ≡ branched Op.BCTR cpu.old code.now next link }
 {
@@ -190,7 +189,7 @@ fn link_to(cpu: &mut Cpu, code: &Code, to: Addr, next: Addr, link: u8)
 
 /// BAL: leaves the link word in R1 and branches.
 #[inline(always)]
-#[tactic(auto, unfolding(crate::specs::Branch::goes))]
+#[tactic(auto, unfolding(crate::specs::Meaning::goes))]
 pub fn branch_and_link(cpu: &mut Cpu, code: &Code, next: Addr, link: u8)
     requires { link ≤ 2 }
     ensures { Some cpu.new ≡ branched Op.BAL cpu.old code.now next link }
@@ -201,7 +200,7 @@ pub fn branch_and_link(cpu: &mut Cpu, code: &Code, next: Addr, link: u8)
 
 /// BALR: leaves the link word in R1 and branches to R2, as it was, unless R2 is 0.
 #[inline(always)]
-#[tactic(auto, unfolding(crate::specs::Branch::goes))]
+#[tactic(auto, unfolding(crate::specs::Meaning::goes))]
 pub fn branch_and_link_register(cpu: &mut Cpu, code: &Code, next: Addr, link: u8)
     requires { link ≤ 2 }
     ensures { Some cpu.new ≡ branched Op.BALR cpu.old code.now next link }
@@ -224,7 +223,7 @@ fn save_and_go(cpu: &mut Cpu, code: &Code, to: Addr, next: Addr)
 
 /// BAS: leaves the updated address in R1 and branches.
 #[inline(always)]
-#[tactic(auto, unfolding(crate::specs::Branch::goes))]
+#[tactic(auto, unfolding(crate::specs::Meaning::goes))]
 fn branch_and_save(cpu: &mut Cpu, code: &Code, next: Addr)
     ensures { (link : ℕ) → Some cpu.new ≡ branched Op.BAS cpu.old code.now next link }
 {
@@ -234,7 +233,7 @@ fn branch_and_save(cpu: &mut Cpu, code: &Code, next: Addr)
 
 /// BASR: leaves the updated address in R1 and branches to R2, as it was, unless R2 is 0.
 #[inline(always)]
-#[tactic(auto, unfolding(crate::specs::Branch::goes))]
+#[tactic(auto, unfolding(crate::specs::Meaning::goes))]
 fn branch_and_save_register(cpu: &mut Cpu, code: &Code, next: Addr)
     ensures { (link : ℕ) → Some cpu.new ≡ branched Op.BASR cpu.old code.now next link }
 {
@@ -248,7 +247,7 @@ fn branch_and_save_register(cpu: &mut Cpu, code: &Code, next: Addr)
 
 /// BXH and BXLE: adds the increment to R1, and branches as the comparison with the sum says.
 #[inline(always)]
-#[tactic(auto, unfolding(crate::specs::Branch::goes))]
+#[tactic(auto, unfolding(crate::specs::Meaning::goes))]
 fn branch_on_index(cpu: &mut Cpu, code: &Code, op: Op, next: Addr)
     requires { (op ≡ Op.BXH) ⊎ (op ≡ Op.BXLE) }
     ensures { (link : ℕ) → Some cpu.new ≡ branched op cpu.old code.now next link }

@@ -3,7 +3,7 @@ use Rattle.std.proofs.Common.{◌≡◌, ℕ, ◌+◌, ◌*◌, ◌^◌, ◌<◌
 use Rattle.std.proofs.Math.Nat.{pow-le-pow_right, one-le-pow}
 use Rattle.std.proofs.lemmas.Nat.{pow-add, mul-lt}
 use Rattle.std.proofs.lemmas.Bool.{and_from, and_parts}
-use Rattle.cov_base.specs.Memory.{Memory, can_store, is_private, wrap}
+use Rattle.cov_base.specs.Meaning.{Memory, can_store, is_private, wrap}
 use Rattle.s370_state.proofs.Tested.{store_at}
 
 pub power_above : (k : ℕ) → 0 < 10 ^ k

@@ -5,7 +5,7 @@ use Rattle.std.proofs.Math.Arith.{mod-mul}
 use Rattle.std.proofs.lemmas.Nat.{pow-add, mod_below}
 use Rattle.std.proofs.lemmas.Bool.{cases_lt}
 use Rattle.std.proofs.lemmas.Bool.Decides.{nat_tests}
-use Rattle.s370_decimal.specs.Results.{kept}
+use Rattle.s370_decimal.specs.Meaning.{kept}
 use Rattle.s370_decimal.proofs.Powers.{power_above, power_most}
 
 parted : (k n : ℕ) → n ≤ k → 10 ^ k ≡ 10 ^ (k - n) * 10 ^ n

@@ -1,6 +1,1 @@
-pub mod Fields
-pub mod Operands
-pub mod Results
-pub mod Shifts
-pub mod Products
-pub mod Decimal
+pub mod Meaning

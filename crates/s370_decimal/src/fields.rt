@@ -1,6 +1,6 @@
 //! The room of packed decimal fields.
 ghost use Rattle.std.specs.Prelude.{◌≡◌, ◌+◌, ◌*◌, ◌^◌, ◌<◌, ◌≤◌};
-ghost use Rattle.s370_decimal.specs.Fields.{fits};
+ghost use Rattle.s370_decimal.specs.Meaning.{fits};
 
 /// 10 to the power k.
 #[tactic(auto, using(crate::proofs::Powers::power_fits, crate::proofs::Powers::power_above))]

@@ -1,9 +1,9 @@
 //! The two fields that an operation works on, tested and read.
 ghost use Rattle.std.specs.Prelude.{◌≡◌, ◌+◌, ◌*◌, ◌^◌, ◌<◌, Some, None, true, IfOk, IfErr, IfSome};
-ghost use Rattle.cov_base.specs.Memory.{can_reach, can_store};
-ghost use Rattle.s370_state.specs.Row.{use_tests};
-ghost use Rattle.s370_decode.specs.Fields.{e1, e2};
-ghost use Rattle.s370_decimal.specs.Operands.{l1, l2, replaces, compares, operands};
+ghost use Rattle.cov_base.specs.Meaning.{can_reach, can_store};
+ghost use Rattle.s370_state.specs.Meaning.{use_tests};
+ghost use Rattle.s370_decode.specs.Meaning.{e1, e2};
+ghost use Rattle.s370_decimal.specs.Meaning.{l1, l2, replaces, compares, operands};
 
 use s370_decode::Code;
 use s370_state::{Cpu, Ending, Field, Space, field_at, test_read_both, test_store_read};

@@ -2,12 +2,11 @@
 #![tactic(auto, using(s370_state::proofs::Performs::ill_formed, s370_state::proofs::Performs::well_passes, s370_state::proofs::Performs::well_refuses, s370_state::proofs::Performs::good_data, s370_state::proofs::Performs::bad_data))]
 
 ghost use Rattle.std.specs.Prelude.{◌≡◌, ◌+◌, ◌-◌, ◌*◌, ◌/◌, ◌%◌, ◌^◌, ◌<◌, true, if◌then◌else◌};
-ghost use Rattle.cov_base.specs.Memory.{can_store};
-ghost use Rattle.s370_state.specs.Row.{Performs, machine_of, after, finish};
-ghost use Rattle.s370_decode.specs.Fields.{e1};
-ghost use Rattle.s370_decimal.specs.Operands.{l1, l2};
-ghost use Rattle.s370_decimal.specs.Products.{is_shorter, signs_differ, multiplied, divided};
-ghost use Rattle.s370_decimal.specs.Decimal.{decimal_row};
+ghost use Rattle.cov_base.specs.Meaning.{can_store};
+ghost use Rattle.s370_state.specs.Meaning.{machine_of, finish};
+ghost use Rattle.s370_state.specs.Row.{Performs, after};
+ghost use Rattle.s370_decode.specs.Meaning.{e1};
+ghost use Rattle.s370_decimal.specs.Meaning.{l1, l2, is_shorter, signs_differ, multiplied, divided, decimal_row};
 
 use crate::fields::fits;
 use crate::operands::{Operands, read_operands, test_replaced};
@@ -29,7 +28,7 @@ fn signs_differ(o: Operands) -> bool
 }
 
 /// The product goes to the first field, unless that has fewer leading zero bytes than the second has bytes.
-#[tactic(auto, unfolding(crate::specs::Products::multiplied), using(crate::proofs::Powers::product_fits))]
+#[tactic(auto, unfolding(crate::specs::Meaning::multiplied), using(crate::proofs::Powers::product_fits))]
 fn put_product<P: Space>(cpu: &Cpu, space: &mut P, code: &Code, o: Operands) -> Next
     requires shorter { l2 code.now < l1 code.now }
     requires store { can_store (P.memory space.old) (e1 cpu.now code.now) (l1 code.now + 1) ≡ true }
@@ -49,7 +48,7 @@ fn put_product<P: Space>(cpu: &Cpu, space: &mut P, code: &Code, o: Operands) -> 
 }
 
 /// Quotient and remainder go to the first field, unless the divisor is zero or the quotient too long.
-#[tactic(auto, unfolding(crate::specs::Products::divided), using(crate::proofs::Powers::store_left, crate::proofs::Powers::store_right))]
+#[tactic(auto, unfolding(crate::specs::Meaning::divided), using(crate::proofs::Powers::store_left, crate::proofs::Powers::store_right))]
 fn put_quotient<P: Space>(cpu: &Cpu, space: &mut P, code: &Code, o: Operands) -> Next
     requires shorter { l2 code.now < l1 code.now }
     requires store { can_store (P.memory space.old) (e1 cpu.now code.now) (l1 code.now + 1) ≡ true }

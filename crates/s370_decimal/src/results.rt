@@ -1,9 +1,8 @@
 //! What becomes of a result in the first field.
 ghost use Rattle.std.specs.Prelude.{◌≡◌, ◌+◌, ◌≤◌, true, if◌then◌else◌};
-ghost use Rattle.cov_base.specs.Memory.{can_store};
-ghost use Rattle.s370_state.specs.Row.{next_after};
-ghost use Rattle.s370_state.specs.Digits.{store_field};
-ghost use Rattle.s370_decimal.specs.Results.{kept, code_of};
+ghost use Rattle.cov_base.specs.Meaning.{can_store};
+ghost use Rattle.s370_state.specs.Meaning.{next_after, store_field};
+ghost use Rattle.s370_decimal.specs.Meaning.{kept, code_of};
 
 use crate::fields::{fits, power};
 use cov_base::Addr;
@@ -21,7 +20,7 @@ pub struct Kept {
 }
 
 /// What a field of length code l keeps of a whole result.
-#[tactic(auto, unfolding(crate::specs::Results::kept))]
+#[tactic(auto, unfolding(crate::specs::Meaning::kept))]
 pub fn keep(l: u8, v: u128, minus: bool) -> Kept
     requires { l ≤ 15 }
     ensures { result ≡ kept l v minus }
@@ -34,7 +33,7 @@ pub fn keep(l: u8, v: u128, minus: bool) -> Kept
 }
 
 /// The condition code of a result.
-#[tactic(auto, unfolding(crate::specs::Results::code_of))]
+#[tactic(auto, unfolding(crate::specs::Meaning::code_of))]
 fn code_of(k: Kept) -> u8
     ensures value { result ≡ code_of k }
     ensures below { result ≤ 3 }

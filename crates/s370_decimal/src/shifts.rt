@@ -2,12 +2,10 @@
 #![tactic(auto, using(s370_state::proofs::Performs::passes, s370_state::proofs::Performs::refuses, s370_state::proofs::Performs::good_data, s370_state::proofs::Performs::bad_data))]
 
 ghost use Rattle.std.specs.Prelude.{◌≡◌, ◌+◌, ◌-◌, ◌*◌, ◌/◌, ◌%◌, ◌^◌, ◌<◌, ◌≤◌, true, None, nat_le, if◌then◌else◌, IfSome};
-ghost use Rattle.cov_base.specs.Memory.{can_reach};
+ghost use Rattle.cov_base.specs.Meaning.{can_reach};
 ghost use Rattle.s370_state.specs.Row.{Performs};
-ghost use Rattle.s370_state.specs.Digits.{field_at};
-ghost use Rattle.s370_decimal.specs.Results.{kept};
-ghost use Rattle.s370_decimal.specs.Shifts.{distance, shifted};
-ghost use Rattle.s370_decimal.specs.Decimal.{decimal_row};
+ghost use Rattle.s370_state.specs.Meaning.{field_at};
+ghost use Rattle.s370_decimal.specs.Meaning.{kept, distance, shifted, decimal_row};
 
 use crate::fields::power;
 use crate::results::{Kept, keep, put_result};
@@ -51,7 +49,7 @@ fn rounded(v: u128, i: u8, n: u8) -> u128
 }
 
 /// What the field keeps after the shift.
-#[tactic(auto, unfolding(crate::specs::Shifts::shifted))]
+#[tactic(auto, unfolding(crate::specs::Meaning::shifted))]
 fn keep_shifted(l: u8, f: Field, i: u8, n: u8) -> Kept
     requires length { l ≤ 15 }
     requires magnitude { f.magnitude < 10000000000000000000000000000000 }

@@ -6,10 +6,8 @@ ghost use Rattle.std.specs.Int.{is_negative};
 ghost use Rattle.std.specs.Ordering.{int_cmp};
 ghost use Rattle.std.specs.Int.RustNames.{unsigned_abs};
 ghost use Rattle.s370_state.specs.Row.{Performs};
-ghost use Rattle.s370_state.specs.Digits.{number};
-ghost use Rattle.s370_state.specs.Words.{order_code};
-ghost use Rattle.s370_decimal.specs.Results.{kept};
-ghost use Rattle.s370_decimal.specs.Decimal.{decimal_row};
+ghost use Rattle.s370_state.specs.Meaning.{number, order_code};
+ghost use Rattle.s370_decimal.specs.Meaning.{kept, decimal_row};
 
 use crate::operands::{Operands, read_operands, test_compared, test_replaced};
 use crate::results::{Kept, keep, put_result};

@@ -2,7 +2,7 @@
 ghost use Rattle.std.specs.Prelude.{◌≡◌};
 ghost use Rattle.s370_decode.specs.Groups.{group_of};
 ghost use Rattle.s370_state.specs.Row.{Performs};
-ghost use Rattle.s370_decimal.specs.Decimal.{decimal_row};
+ghost use Rattle.s370_decimal.specs.Meaning.{decimal_row};
 
 use crate::products::{divide, multiply};
 use crate::shifts::shift_and_round;

@@ -5,7 +5,7 @@ use Rattle.std.proofs.lemmas.List.FromFn.{get_or-map-range_with_len}
 use Rattle.s370_decode.specs.declared.op.Op.{Op}
 use Rattle.s370_decode.specs.declared.op.Op.TheVariants.{LR}
 use Rattle.s370_decode.specs.declared.table.TheConstants.{OPS}
-use Rattle.s370_decode.specs.Table.{op_of, op_in, operations}
+use Rattle.s370_decode.specs.Meaning.{op_of, op_in, operations}
 
 by_code : ℕ → Op
 by_code n = op_in operations n

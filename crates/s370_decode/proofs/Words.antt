@@ -12,7 +12,8 @@ use Rattle.std.proofs.lemmas.List.Folds.{list_all-append, list_any_at}
 use Rattle.std.proofs.lemmas.List.Sorted.{searched}
 use Rattle.std.proofs.lemmas.Slice.Eq.{bytes_eq-Decides}
 use Rattle.std.proofs.Math.Nat.{pow-suc}
-use Rattle.s370_decode.specs.Mnemonics.{mnemonics, backward, word_number}
+use Rattle.s370_decode.specs.Meaning.{mnemonics}
+use Rattle.s370_decode.specs.Mnemonics.{backward, word_number}
 
 both-left : (a b : Bool) → (a && b) ≡ true → a ≡ true
 both-left true b h = refl

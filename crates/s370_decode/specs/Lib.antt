@@ -1,4 +1,3 @@
-pub mod Fields
 pub mod Groups
+pub mod Meaning
 pub mod Mnemonics
-pub mod Table

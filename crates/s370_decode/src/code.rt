@@ -1,6 +1,6 @@
 //! An instruction's bytes and its fields (Principles of Operation, "Instruction Formats").
 ghost use Rattle.std.specs.Prelude.{◌≡◌, ◌<◌};
-ghost use Rattle.s370_decode.specs.Fields.{first_half, r1, r2, i2, b1, d1, b2, d2};
+ghost use Rattle.s370_decode.specs.Meaning.{first_half, r1, r2, i2, b1, d1, b2, d2};
 
 use cov_base::Addr;
 
@@ -14,7 +14,7 @@ pub struct Code {
 }
 
 /// The fields are bits of the bytes, numbered from 0 at the left.
-#[tactic(auto, unfolding(crate::specs::Fields::r1, crate::specs::Fields::r2, crate::specs::Fields::i2, crate::specs::Fields::b1, crate::specs::Fields::d1, crate::specs::Fields::b2, crate::specs::Fields::d2))]
+#[tactic(auto, unfolding(crate::specs::Meaning::r1, crate::specs::Meaning::r2, crate::specs::Meaning::i2, crate::specs::Meaning::b1, crate::specs::Meaning::d1, crate::specs::Meaning::b2, crate::specs::Meaning::d2))]
 impl Code {
     /// Bits 0-15: the operation code and the byte behind it.
     pub fn first_half(&self) -> u16

@@ -1,11 +1,11 @@
 //! What an instruction's first halfword tells of its length and kind.
 ghost use Rattle.std.specs.Prelude.{◌≡◌, ◌<◌, ◌≤◌};
-ghost use Rattle.cov_base.specs.Codes.{length_of, kind_of, is_partial, is_conditional};
+ghost use Rattle.cov_base.specs.Meaning.{length_of, kind_of, is_partial, is_conditional};
 
 use cov_base::Kind;
 
 /// The instruction's length in bytes: 2, 4 or 6 (Principles of Operation, "Instruction Formats").
-#[tactic(auto, unfolding(cov_base::specs::Codes::length_of))]
+#[tactic(auto, unfolding(cov_base::specs::Meaning::length_of))]
 pub fn length(h0: u16) -> u8
     ensures value { result ≡ length_of h0 }
     ensures least { 2 ≤ result }
@@ -22,7 +22,7 @@ pub fn length(h0: u16) -> u8
 
 /// Whether the instruction may both branch and fall through: BC with a mask from 1 to 14, BCR with one and
 /// R2 not 0, BCT, BCTR with R2 not 0, BXH and BXLE.
-#[tactic(auto, unfolding(cov_base::specs::Codes::kind_of))]
+#[tactic(auto, unfolding(cov_base::specs::Meaning::kind_of))]
 pub fn kind(h0: u16) -> Kind
     ensures { result ≡ kind_of h0 }
 {

@@ -1,7 +1,8 @@
 //! The mnemonics that the operation field of a listing line may hold.
 ghost use Rattle.std.specs.Prelude.{◌≡◌, ◌<◌, ◌≤◌, length, nat_eq};
 ghost use Rattle.std.specs.List.{list_any};
-ghost use Rattle.s370_decode.specs.Mnemonics.{is_mnemonic, word_number, mnemonic_numbers};
+ghost use Rattle.s370_decode.specs.Meaning.{is_mnemonic};
+ghost use Rattle.s370_decode.specs.Mnemonics.{word_number, mnemonic_numbers};
 
 /// The mnemonics as numbers, their letters in base 256 after a leading 1. They rise, so that a search by halves
 /// finds each.

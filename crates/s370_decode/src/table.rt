@@ -1,6 +1,6 @@
 //! The operation of each code.
 ghost use Rattle.std.specs.Prelude.{◌≡◌, ◌/◌};
-ghost use Rattle.s370_decode.specs.Table.{op_of};
+ghost use Rattle.s370_decode.specs.Meaning.{op_of};
 
 use crate::op::Op;
 

@@ -1,7 +1,7 @@
 -- Two operands of which one is not all accessible.
 use Rattle.std.proofs.Common.{◌≡◌, ℕ, true, false, Bool, ◌&&◌, Some, [], ◌∷◌, refl}
-use Rattle.cov_base.specs.Memory.{Memory, can_reach}
-use Rattle.s370_state.specs.Row.{use_tests, all_reached, reads, stores}
+use Rattle.cov_base.specs.Meaning.{Memory, can_reach}
+use Rattle.s370_state.specs.Meaning.{use_tests, all_reached, reads, stores}
 use Rattle.s370_state.specs.declared.endings.Ending.TheVariants.{Abend}
 
 and_false : (a : Bool) → (a && false) ≡ false

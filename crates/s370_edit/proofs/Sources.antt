@@ -1,6 +1,6 @@
 -- Source bytes, tested one at a time.
 use Rattle.std.proofs.Common.{◌≡◌, ℕ, ◌+◌, List, refl, add-zero, arith}
-use Rattle.cov_base.specs.Memory.{Memory, wrap, byte_at, can_reach, is_accessible}
+use Rattle.cov_base.specs.Meaning.{Memory, wrap, byte_at, can_reach, is_accessible}
 
 pub reach_one : (m : Memory) (x : ℕ) → can_reach m (wrap x) 1 ≡ is_accessible m (wrap x)
 unfolding can_reach

@@ -1,8 +1,8 @@
 -- The working of one pattern byte more, and what it keeps.
 use Rattle.std.proofs.Common.{◌≡◌, ℕ, ◌+◌, ◌<◌, ◌≤◌, zero, suc, Bool, true, false, if◌then◌else◌, ◌==◌, Option, Some, None, List, [], ◌∷◌, ◌++◌, refl, add-one, arith, ◌⊎◌, inl, inr}
 use Rattle.std.proofs.lemmas.Bool.{and_left}
-use Rattle.cov_base.specs.Memory.{Memory, can_reach}
-use Rattle.s370_edit.specs.Working.{fresh, digit_of, next_digit, selected, stepped, step_at, worked, formed}
+use Rattle.cov_base.specs.Meaning.{Memory, can_reach}
+use Rattle.s370_edit.specs.Meaning.{fresh, digit_of, next_digit, selected, stepped, step_at, worked, formed}
 use Rattle.s370_edit.specs.declared.working.Working.{Working}
 use Rattle.s370_edit.specs.declared.working.Step.{Step}
 

@@ -1,2 +1,1 @@
-pub mod Working
-pub mod Edit
+pub mod Meaning

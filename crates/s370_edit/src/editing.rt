@@ -1,12 +1,11 @@
 //! ED and EDMK (Principles of Operation, "Decimal Instructions", "Edit", "Edit and Mark").
 ghost use Rattle.std.specs.Prelude.{◌≡◌, ◌+◌, ◌/◌, ◌<◌, ◌≤◌, true, false, [], length, IfOk, IfErr, OnOk, Some, None, if◌then◌else◌};
 ghost use Rattle.arrayvec.specs.ArrayVec.{array_vec_len};
-ghost use Rattle.cov_base.specs.Memory.{can_reach, can_store};
+ghost use Rattle.cov_base.specs.Meaning.{can_reach, can_store};
 ghost use Rattle.s370_decode.specs.Groups.{group_of};
-ghost use Rattle.s370_state.specs.Digits.{store_bytes};
-ghost use Rattle.s370_state.specs.Row.{Performs, use_tests, machine_of, after, finish};
-ghost use Rattle.s370_edit.specs.Working.{worked, formed};
-ghost use Rattle.s370_edit.specs.Edit.{field_code, marked, edited, pattern_uses, pattern_row, edit_row};
+ghost use Rattle.s370_state.specs.Meaning.{store_bytes, use_tests, machine_of, finish};
+ghost use Rattle.s370_state.specs.Row.{Performs, after};
+ghost use Rattle.s370_edit.specs.Meaning.{worked, formed, field_code, marked, edited, pattern_uses, pattern_row, edit_row};
 
 use crate::pattern::work;
 use crate::working::Working;

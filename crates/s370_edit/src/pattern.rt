@@ -1,8 +1,8 @@
 //! The result of a whole pattern, formed before anything is stored.
 ghost use Rattle.std.specs.Prelude.{◌≡◌, ◌<◌, ◌≤◌, true, false, [], IfSome, IfNone, OnSome};
 ghost use Rattle.arrayvec.specs.ArrayVec.{array_vec_len};
-ghost use Rattle.cov_base.specs.Memory.{byte_at, can_reach, wrap};
-ghost use Rattle.s370_edit.specs.Working.{worked, formed, fresh};
+ghost use Rattle.cov_base.specs.Meaning.{byte_at, can_reach, wrap};
+ghost use Rattle.s370_edit.specs.Meaning.{worked, formed, fresh};
 
 use crate::working::{Working, fresh, work_byte};
 use arrayvec::ArrayVec;

@@ -1,7 +1,7 @@
 //! The working of a pattern, a byte at a time from left to right.
 ghost use Rattle.std.specs.Prelude.{◌≡◌, ◌+◌, ◌*◌, ◌/◌, ◌%◌, ◌<◌, ◌≤◌, true, false, not, ◌&&◌, ◌||◌, ◌==◌, if◌then◌else◌, Some, None, IfSome, IfNone};
-ghost use Rattle.cov_base.specs.Memory.{byte_at, is_accessible, can_reach, wrap};
-ghost use Rattle.s370_edit.specs.Working.{fresh, left_digit, next_digit, selected, separated, kept, stepped};
+ghost use Rattle.cov_base.specs.Meaning.{byte_at, is_accessible, can_reach, wrap};
+ghost use Rattle.s370_edit.specs.Meaning.{fresh, left_digit, next_digit, selected, separated, kept, stepped};
 
 use cov_base::Addr;
 use s370_state::{Space, is_digit, is_minus, is_sign};
@@ -88,7 +88,7 @@ fn left_digit(w: &Working, v: u8) -> Digit
 }
 
 /// The next source digit; none where its byte is inaccessible.
-#[tactic(auto, unfolding(crate::specs::Working::next_digit), using(s370_state::proofs::Ranges::reach_more, s370_state::proofs::Ranges::reach_fails))]
+#[tactic(auto, unfolding(crate::specs::Meaning::next_digit), using(s370_state::proofs::Ranges::reach_more, s370_state::proofs::Ranges::reach_fails))]
 fn next_digit<P: Space>(space: &P, b: Addr, w: &Working) -> Option<Digit>
     requires taken { w.now.taken < 256 }
     requires right { IfSome w.now.right (λ d. d < 16) }
@@ -116,7 +116,7 @@ fn next_digit<P: Space>(space: &P, b: Addr, w: &Working) -> Option<Digit>
 }
 
 /// A digit selector, or a significance starter, at an address.
-#[tactic(auto, unfolding(crate::specs::Working::selected))]
+#[tactic(auto, unfolding(crate::specs::Meaning::selected))]
 fn select(w: &Working, d: &Digit, starts: bool, fill: u8, at: Addr) -> Step
     requires { d.now.value < 16 }
     ensures { result ≡ selected w.now d.now starts fill at }
@@ -140,7 +140,7 @@ fn select(w: &Working, d: &Digit, starts: bool, fill: u8, at: Addr) -> Step
 }
 
 /// Takes the next digit for a selector or starter; none where its byte is inaccessible.
-#[tactic(auto, unfolding(crate::specs::Working::selected))]
+#[tactic(auto, unfolding(crate::specs::Meaning::selected))]
 fn take_digit<P: Space>(
     space: &P,
     b: Addr,
@@ -192,7 +192,7 @@ fn keep(w: &Working, p: u8, fill: u8) -> Step
 }
 
 /// Works the pattern byte p, whose address is given; none where a source byte that it needs is inaccessible.
-#[tactic(auto, unfolding(crate::specs::Working::stepped))]
+#[tactic(auto, unfolding(crate::specs::Meaning::stepped))]
 pub fn work_byte<P: Space>(
     space: &P,
     b: Addr,

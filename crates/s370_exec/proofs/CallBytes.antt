@@ -1,8 +1,8 @@
 -- Bytes that the task calls move, one at a time.
 use Rattle.std.proofs.Common.{◌≡◌, ℕ, ◌+◌, List, [], ◌∷◌, ◌++◌, sym, add-one}
 use Rattle.std.proofs.lemmas.List.{append-nil, append_assoc}
-use Rattle.cov_base.specs.Memory.{Memory, byte_at, wrap}
-use Rattle.s370_exec.specs.Effects.{operand}
+use Rattle.cov_base.specs.Meaning.{Memory, byte_at, wrap}
+use Rattle.s370_exec.specs.Meaning.{operand}
 
 pub none_put : (out : List ℕ) (m : Memory) (b : List ℕ) (a : ℕ) → out ++ operand m b a 0 ≡ out
 unfolding operand

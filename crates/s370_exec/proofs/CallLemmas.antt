@@ -1,14 +1,12 @@
 -- The supervisor call that a step executes, by the tests of its halfwords.
 use Rattle.std.proofs.Common.{◌≡◌, ℕ, Bool, if◌then◌else◌, Option, Some, None, List, refl, sym, ◌∙◌, ap}
 use Rattle.std.specs.Option.{option_or}
-use Rattle.cov_base.specs.Codes.{length_of}
-use Rattle.cov_base.specs.Memory.{Memory, half_at}
-use Rattle.cov_base.specs.States.{State}
+use Rattle.cov_base.specs.Meaning.{length_of, Memory, half_at, State}
 use Rattle.s370_state.specs.declared.endings.Ending.{Ending}
-use Rattle.s370_decode.specs.Fields.{first_half, ex}
+use Rattle.s370_decode.specs.Meaning.{first_half, ex}
 use Rattle.s370_decode.specs.declared.code.Code.{Code}
-use Rattle.s370_exec.specs.Calls.{call_in, unless_ended, subject_call, call_of}
-use Rattle.s370_exec.specs.Fetch.{first_tests, rest_tests, whole_tests, subject_tests, code_at, is_execute, merged}
+use Rattle.s370_exec.specs.Meaning.{call_in, unless_ended, subject_call, call_of, first_tests, rest_tests, subject_tests, code_at, is_execute, merged}
+use Rattle.s370_exec.specs.Fetch.{whole_tests}
 use Rattle.s370_exec.proofs.Subjects.{first_half-code_at}
 
 subject_call-at : (m : Memory) (s : State) (c : Code) (a h : ℕ) (first rest : Option Ending) (x : Code) → a ≡ ex s.machine.cpu c → h ≡ half_at m s.machine.bytes a →

@@ -1,9 +1,8 @@
 -- An instruction whose later halfwords are reached and no place's first.
 use Rattle.std.proofs.Common.{◌≡◌, ◌⊎◌, inl, inr, ℕ, ◌+◌, ◌/◌, ◌%◌, ◌≤◌, Bool, true, false, ◌==◌, nat_lt, if◌then◌else◌, Option, None, List, [], ◌∷◌, refl, sym, ◌∙◌, arith}
-use Rattle.cov_base.specs.Codes.{length_of}
-use Rattle.cov_base.specs.Memory.{Memory, can_reach, half_at, wrap}
+use Rattle.cov_base.specs.Meaning.{length_of, Memory, can_reach, half_at, wrap}
 use Rattle.s370_state.specs.declared.endings.Ending.{Ending}
-use Rattle.s370_exec.specs.Fetch.{later, rest_tests, code_at}
+use Rattle.s370_exec.specs.Meaning.{later, rest_tests, code_at}
 
 abbrev IsSize : ℕ → Type 0
 IsSize n = (n ≡ 2) ⊎ ((n ≡ 4) ⊎ (n ≡ 6))

@@ -1,27 +1,25 @@
 -- The effect by the group of the operation, in which the group's table has its row.
 use Rattle.std.proofs.Common.{◌≡◌, ℕ, Bool, true, false, if◌then◌else◌, Option, Some, None, refl, ap, sym, ◌∙◌}
 use Rattle.std.specs.Option.{option_or}
-use Rattle.cov_base.specs.Memory.{Memory}
-use Rattle.cov_base.specs.States.{CpuView, Machine, IoView}
-use Rattle.s370_state.specs.Row.{Row, operate, machine_of}
+use Rattle.cov_base.specs.Meaning.{Memory, CpuView, Machine, IoView}
+use Rattle.s370_state.specs.Meaning.{Row, operate, machine_of}
 use Rattle.s370_state.specs.declared.endings.Ending.TheVariants.{Abend}
 use Rattle.s370_state.specs.declared.endings.Next.TheVariants.{On, Ended}
-use Rattle.s370_decode.specs.Fields.{first_half, i2, r1, r2}
+use Rattle.s370_decode.specs.Meaning.{first_half, i2, r1, r2, op_of}
 use Rattle.s370_decode.specs.Groups.{group_of}
-use Rattle.s370_decode.specs.Table.{op_of}
 use Rattle.s370_decode.specs.declared.code.Code.{Code}
 use Rattle.s370_decode.specs.declared.group.Group.{Group}
 use Rattle.s370_decode.specs.declared.group.Group.TheVariants.{Fixed, Logic, Storage, Decimal, Edit, Branch, Call, Supervisor, Missing}
 use Rattle.s370_decode.specs.declared.op.Op.{Op}
 use Rattle.s370_decode.specs.declared.op.Op.TheVariants.{SVC, Privileged, MVCL}
-use Rattle.s370_fixed.specs.Fixed.{fixed_row}
-use Rattle.s370_logic.specs.Logic.{logic_row}
-use Rattle.s370_storage.specs.Storage.{storage_row}
-use Rattle.s370_storage.specs.Longs.{long, overlaps}
-use Rattle.s370_decimal.specs.Decimal.{decimal_row}
-use Rattle.s370_edit.specs.Edit.{edit_row}
-use Rattle.s370_branch.specs.Branch.{branched}
-use Rattle.s370_exec.specs.Effects.{Effect, effect_of, unchanged, onward, call, row_of, unless_branched, effect, executed, updated, link_code}
+use Rattle.s370_fixed.specs.Meaning.{fixed_row}
+use Rattle.s370_logic.specs.Meaning.{logic_row}
+use Rattle.s370_storage.specs.Meaning.{storage_row, long, overlaps}
+use Rattle.s370_decimal.specs.Meaning.{decimal_row}
+use Rattle.s370_edit.specs.Meaning.{edit_row}
+use Rattle.s370_branch.specs.Meaning.{branched}
+use Rattle.s370_exec.specs.Meaning.{Effect, unchanged, onward, call, row_of, unless_branched, effect, updated, link_code}
+use Rattle.s370_exec.specs.Effects.{effect_of, executed}
 
 abbrev pub effect_in : Memory → Machine → IoView → Code → Op → ℕ → ℕ → Group → Effect
 effect_in m s io c op next link Fixed = onward next io (operate m s (fixed_row op c m s))

@@ -1,17 +1,14 @@
 -- The solo step by the tests of its halfwords.
 use Rattle.std.proofs.Common.{◌≡◌, ◌⊎◌, inl, inr, ℕ, Bool, true, false, Option, Some, None, List, [], ◌∷◌, refl, sym, ◌∙◌, ap}
 use Rattle.std.specs.Option.{option_or}
-use Rattle.cov_base.specs.Codes.{length_of}
-use Rattle.cov_base.specs.Memory.{Memory, half_at}
-use Rattle.cov_base.specs.States.{State}
+use Rattle.cov_base.specs.Meaning.{length_of, Memory, half_at, State}
 use Rattle.s370_state.specs.declared.endings.Ending.{Ending}
-use Rattle.s370_decode.specs.Fields.{first_half, ex}
-use Rattle.s370_decode.specs.Table.{op_of}
+use Rattle.s370_decode.specs.Meaning.{first_half, ex, op_of}
 use Rattle.s370_decode.specs.declared.code.Code.{Code}
-use Rattle.s370_branch.specs.Branch.{goes}
-use Rattle.s370_exec.specs.Effects.{Effect, effect, updated, link_code}
-use Rattle.s370_exec.specs.Fetch.{first_tests, rest_tests, whole_tests, subject_tests, code_at, is_execute, merged}
-use Rattle.s370_exec.specs.Solo.{solo_step, from_first, fetched, ended, stepped, begun_step, visit, subject_step, subject_fetched, subject_begun, behind, visit_of, subject_seen}
+use Rattle.s370_branch.specs.Meaning.{goes}
+use Rattle.s370_exec.specs.Meaning.{Effect, effect, updated, link_code, first_tests, rest_tests, subject_tests, code_at, is_execute, merged, solo_step, from_first, fetched, ended, stepped, begun_step, visit, subject_step, subject_fetched, subject_begun, behind, visit_of}
+use Rattle.s370_exec.specs.Fetch.{whole_tests}
+use Rattle.s370_exec.specs.Solo.{subject_seen}
 use Rattle.s370_exec.proofs.Subjects.{first_half-code_at, at-code_at, at-merged, execute_stays}
 
 -- the first halfword is refused

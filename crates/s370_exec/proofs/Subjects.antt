@@ -3,13 +3,11 @@ use Rattle.std.proofs.Common.{◌≡◌, ℕ, ◌+◌, ◌*◌, ◌/◌, ◌%◌
 use Rattle.std.specs.Prelude.{slice_index, bit_or}
 use Rattle.std.proofs.lemmas.Bool.{eqb-true}
 use Rattle.std.proofs.lemmas.Nat.{or_of_8}
-use Rattle.cov_base.specs.Memory.{Memory}
-use Rattle.cov_base.specs.States.{CpuView}
-use Rattle.s370_decode.specs.Fields.{first_half, r1}
-use Rattle.s370_decode.specs.Table.{op_of, op_in, operations}
+use Rattle.cov_base.specs.Meaning.{Memory, CpuView}
+use Rattle.s370_decode.specs.Meaning.{first_half, r1, op_of, op_in, operations}
 use Rattle.s370_decode.specs.declared.code.Code.{Code}
-use Rattle.s370_branch.specs.Branch.{goes}
-use Rattle.s370_exec.specs.Fetch.{code_at, is_execute, modifier, merged}
+use Rattle.s370_branch.specs.Meaning.{goes}
+use Rattle.s370_exec.specs.Meaning.{code_at, is_execute, modifier, merged}
 
 modifier-below : (s : CpuView) (c : Code) → modifier s c < 256
 modifier-below s c = by_zero (r1 c == 0) (slice_index s.regs (r1 c))

@@ -1,17 +1,12 @@
 -- How long a trace is, and how many instructions a run does.
 use Rattle.std.proofs.Common.{◌≡◌, ℕ, ◌+◌, ◌≤◌, true, false, Option, Some, None, [], ◌∷◌, length, refl, arith}
 use Rattle.std.proofs.lemmas.Bool.{cond_both}
-use Rattle.cov_base.specs.Codes.{length_of}
-use Rattle.cov_base.specs.Memory.{Memory, half_at}
-use Rattle.cov_base.specs.States.{State}
+use Rattle.cov_base.specs.Meaning.{length_of, Memory, half_at, State}
 use Rattle.s370_state.specs.declared.endings.Ending.{Ending}
-use Rattle.s370_decode.specs.Fields.{ex}
-use Rattle.s370_decode.specs.Table.{op_of}
+use Rattle.s370_decode.specs.Meaning.{ex, op_of}
 use Rattle.s370_decode.specs.declared.code.Code.{Code}
-use Rattle.s370_branch.specs.Branch.{goes}
-use Rattle.s370_exec.specs.Effects.{effect, updated, link_code}
-use Rattle.s370_exec.specs.Fetch.{code_at, first_tests, rest_tests, subject_tests, is_execute}
-use Rattle.s370_exec.specs.Solo.{Step, solo_step, from_first, fetched, begun_step, stepped, ended, visit, behind, subject_step, subject_fetched}
+use Rattle.s370_branch.specs.Meaning.{goes}
+use Rattle.s370_exec.specs.Meaning.{effect, updated, link_code, code_at, first_tests, rest_tests, subject_tests, is_execute, Step, solo_step, from_first, fetched, begun_step, stepped, ended, visit, behind, subject_step, subject_fetched}
 
 -- a step does one instruction, and visits so many at most
 record IsStepOf (most : ℕ) (s : State) (t : Step) : Type 0 where

@@ -1,13 +1,13 @@
 -- What contracts say of old and new: processor, storage, input and output, and how the task goes on.
 use Rattle.std.specs.Prelude.{◌≡◌, ℕ, ◌+◌, Bool, List, ◌∷◌, Option}
-use Rattle.cov_base.specs.States.{CpuView, Machine, IoView, State, Visit}
-use Rattle.cov_base.specs.Memory.{Memory}
-use Rattle.s370_state.specs.Row.{machine_of}
+use Rattle.cov_base.specs.Meaning.{CpuView, Machine, IoView, State, Visit, Memory}
+use Rattle.s370_state.specs.Meaning.{machine_of}
 use Rattle.s370_state.specs.declared.endings.Next.{Next}
 use Rattle.s370_decode.specs.declared.code.Code.{Code}
 use Rattle.s370_decode.specs.declared.op.Op.{Op}
-use Rattle.s370_exec.specs.Effects.{Effect, effect, effect_of, onward_by}
-use Rattle.s370_exec.specs.Solo.{Step, state_of, subject_step, subject_seen}
+use Rattle.s370_exec.specs.Meaning.{Effect, effect, onward_by, Step, subject_step}
+use Rattle.s370_exec.specs.Effects.{effect_of}
+use Rattle.s370_exec.specs.Solo.{state_of, subject_seen}
 
 -- it has this effect, and the memory stays
 pub record Does {S : Type 0} (memory_of : S → Memory) (bytes_of : S → List ℕ) (what : Memory → Machine → IoView → Effect)

@@ -1,5 +1,5 @@
-pub mod Calls
 pub mod Does
 pub mod Effects
 pub mod Fetch
+pub mod Meaning
 pub mod Solo

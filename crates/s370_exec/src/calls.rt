@@ -1,10 +1,9 @@
 //! The task calls.
 ghost use Rattle.std.specs.Prelude.{◌≡◌, ◌+◌, ◌-◌, ◌/◌, ◌<◌, ◌≤◌, ◌++◌, min, true, slice_index, take, drop};
-ghost use Rattle.cov_base.specs.Memory.{can_reach, can_store};
-ghost use Rattle.s370_state.specs.Digits.{store_bytes};
-ghost use Rattle.s370_state.specs.Io.{bytes_left, bytes_free};
+ghost use Rattle.cov_base.specs.Meaning.{can_reach, can_store};
+ghost use Rattle.s370_state.specs.Meaning.{store_bytes, bytes_left, bytes_free};
 ghost use Rattle.s370_exec.specs.Does.{Does};
-ghost use Rattle.s370_exec.specs.Effects.{call, put_call, get_call, operand};
+ghost use Rattle.s370_exec.specs.Meaning.{call, put_call, get_call, operand};
 
 use cov_base::Addr;
 use s370_state::{Cpu, Ending, Next, Space, TaskIo, byte_of, put_into, test_read, test_store};
@@ -22,7 +21,7 @@ fn put_bytes<P: Space>(space: &P, io: &mut TaskIo, at: Addr, n: u32)
 }
 
 /// SVC 1: the bytes at the address in bits 8-31 of register 1, as many as register 0 says, are appended to the output.
-#[tactic(auto, unfolding(crate::specs::Effects::put_call))]
+#[tactic(auto, unfolding(crate::specs::Meaning::put_call))]
 fn put<P: Space>(cpu: &mut Cpu, space: &P, io: &mut TaskIo, next: Addr) -> Next
     ensures { Does P.memory P.bytes (put_call next) cpu.old space.now io.old cpu.new space.now io.new result }
 {
@@ -55,7 +54,7 @@ fn get_bytes<P: Space>(space: &mut P, io: &mut TaskIo, at: Addr, n: u32)
 
 /// SVC 2: bytes of input, as register 0 says but no more than are left, go to the address in bits 8-31 of register 1, and
 /// register 15 becomes their number.
-#[tactic(auto, unfolding(crate::specs::Effects::get_call))]
+#[tactic(auto, unfolding(crate::specs::Meaning::get_call))]
 fn get<P: Space>(cpu: &mut Cpu, space: &mut P, io: &mut TaskIo, next: Addr) -> Next
     ensures { Does P.memory P.bytes (get_call next) cpu.old space.old io.old cpu.new space.new io.new result }
 {
@@ -84,7 +83,7 @@ fn received_size(cpu: &Cpu, io: &TaskIo) -> u32
 }
 
 /// A task call by its number: 1 puts, 2 gets, 3 ends the task, 4 and 5 do nothing in it, every other number is bad.
-#[tactic(auto, unfolding(crate::specs::Effects::call))]
+#[tactic(auto, unfolding(crate::specs::Meaning::call))]
 pub(crate) fn task_call<P: Space>(
     cpu: &mut Cpu,
     space: &mut P,

@@ -1,8 +1,8 @@
 //! The halfwords of an instruction.
 ghost use Rattle.std.specs.Prelude.{◌≡◌, ◌/◌, ◌%◌, ◌<◌, IfOk, IfErr, Some, None};
-ghost use Rattle.cov_base.specs.Memory.{half_at};
-ghost use Rattle.cov_base.specs.Codes.{length_of};
-ghost use Rattle.s370_exec.specs.Fetch.{first_tests, rest_tests, whole_tests, code_at, later};
+ghost use Rattle.cov_base.specs.Meaning.{half_at, length_of};
+ghost use Rattle.s370_exec.specs.Meaning.{first_tests, rest_tests, code_at, later};
+ghost use Rattle.s370_exec.specs.Fetch.{whole_tests};
 
 use cov_base::Addr;
 use s370_decode::{Code, length};
@@ -37,7 +37,7 @@ fn later_half<P: Space>(space: &P, at: Addr) -> Result<u16, Ending>
 
 /// The whole instruction at the address, whose first halfword is given. Code 5 or Touched exactly by the first
 /// later halfword that is refused.
-#[tactic(auto, unfolding(crate::specs::Fetch::rest_tests, crate::specs::Fetch::code_at))]
+#[tactic(auto, unfolding(crate::specs::Meaning::rest_tests, crate::specs::Meaning::code_at))]
 pub fn fetch_rest<P: Space>(space: &P, at: Addr, h0: u16) -> Result<Code, Ending>
     ensures refused { IfErr result (λ e. rest_tests (P.memory space.now) at (length_of h0) ≡ Some e) }
     ensures passed { IfOk result (λ c. rest_tests (P.memory space.now) at (length_of h0) ≡ None) }

@@ -1,6 +1,7 @@
 //! The frequent operations on bytes, fields and several registers, each a call in a frame of its own.
 ghost use Rattle.s370_exec.specs.Does.{CarriesOut};
-ghost use Rattle.s370_exec.specs.Effects.{effect, next_of};
+ghost use Rattle.s370_exec.specs.Meaning.{effect};
+ghost use Rattle.s370_exec.specs.Effects.{next_of};
 
 use crate::instruction::{Told, onward};
 use cov_base::Addr;
@@ -15,7 +16,7 @@ use s370_storage::move_characters;
 
 /// STM.
 #[inline(never)]
-#[tactic(auto, unfolding(crate::specs::Effects::effect))]
+#[tactic(auto, unfolding(crate::specs::Meaning::effect))]
 pub(crate) fn store_multiple_apart<P: Space>(
     cpu: &mut Cpu,
     space: &mut P,
@@ -31,7 +32,7 @@ pub(crate) fn store_multiple_apart<P: Space>(
 
 /// LM.
 #[inline(never)]
-#[tactic(auto, unfolding(crate::specs::Effects::effect))]
+#[tactic(auto, unfolding(crate::specs::Meaning::effect))]
 pub(crate) fn load_multiple_apart<P: Space>(
     cpu: &mut Cpu,
     space: &mut P,
@@ -47,7 +48,7 @@ pub(crate) fn load_multiple_apart<P: Space>(
 
 /// IC.
 #[inline(never)]
-#[tactic(auto, unfolding(crate::specs::Effects::effect))]
+#[tactic(auto, unfolding(crate::specs::Meaning::effect))]
 pub(crate) fn insert_character_apart<P: Space>(
     cpu: &mut Cpu,
     space: &mut P,
@@ -63,7 +64,7 @@ pub(crate) fn insert_character_apart<P: Space>(
 
 /// STC.
 #[inline(never)]
-#[tactic(auto, unfolding(crate::specs::Effects::effect))]
+#[tactic(auto, unfolding(crate::specs::Meaning::effect))]
 pub(crate) fn store_character_apart<P: Space>(
     cpu: &mut Cpu,
     space: &mut P,
@@ -79,7 +80,7 @@ pub(crate) fn store_character_apart<P: Space>(
 
 /// MVI.
 #[inline(never)]
-#[tactic(auto, unfolding(crate::specs::Effects::effect))]
+#[tactic(auto, unfolding(crate::specs::Meaning::effect))]
 pub(crate) fn move_immediate_apart<P: Space>(
     cpu: &mut Cpu,
     space: &mut P,
@@ -95,7 +96,7 @@ pub(crate) fn move_immediate_apart<P: Space>(
 
 /// CLI.
 #[inline(never)]
-#[tactic(auto, unfolding(crate::specs::Effects::effect))]
+#[tactic(auto, unfolding(crate::specs::Meaning::effect))]
 pub(crate) fn compare_immediate_apart<P: Space>(
     cpu: &mut Cpu,
     space: &mut P,
@@ -111,7 +112,7 @@ pub(crate) fn compare_immediate_apart<P: Space>(
 
 /// TM.
 #[inline(never)]
-#[tactic(auto, unfolding(crate::specs::Effects::effect))]
+#[tactic(auto, unfolding(crate::specs::Meaning::effect))]
 pub(crate) fn test_under_mask_apart<P: Space>(
     cpu: &mut Cpu,
     space: &mut P,
@@ -127,7 +128,7 @@ pub(crate) fn test_under_mask_apart<P: Space>(
 
 /// MVC.
 #[inline(never)]
-#[tactic(auto, unfolding(crate::specs::Effects::effect))]
+#[tactic(auto, unfolding(crate::specs::Meaning::effect))]
 pub(crate) fn move_characters_apart<P: Space>(
     cpu: &mut Cpu,
     space: &mut P,
@@ -143,7 +144,7 @@ pub(crate) fn move_characters_apart<P: Space>(
 
 /// CLC.
 #[inline(never)]
-#[tactic(auto, unfolding(crate::specs::Effects::effect))]
+#[tactic(auto, unfolding(crate::specs::Meaning::effect))]
 pub(crate) fn compare_fields_apart<P: Space>(
     cpu: &mut Cpu,
     space: &mut P,

@@ -1,15 +1,13 @@
 //! The effect of an instruction that was fetched whole.
 ghost use Rattle.std.specs.Prelude.{◌≡◌, ℕ, ◌*◌, ◌/◌, ◌<◌, ◌≤◌, List, false};
 ghost use Rattle.std.specs.declared.option.Option.TheVariants.{Some, None};
-ghost use Rattle.cov_base.specs.Memory.{Memory};
-ghost use Rattle.cov_base.specs.States.{IoView};
-ghost use Rattle.s370_state.specs.Row.{machine_of};
-ghost use Rattle.s370_decode.specs.Fields.{first_half, i2};
+ghost use Rattle.cov_base.specs.Meaning.{Memory, IoView};
+ghost use Rattle.s370_state.specs.Meaning.{machine_of};
+ghost use Rattle.s370_decode.specs.Meaning.{first_half, i2, op_of};
 ghost use Rattle.s370_decode.specs.Groups.{group_of};
-ghost use Rattle.s370_decode.specs.Table.{op_of};
 ghost use Rattle.s370_exec.specs.Does.{Does, CarriesOut, GoesOnward};
-ghost use Rattle.s370_exec.specs.Effects.{effect, effect_of, next_of, is_completed, updated, link_code, executed};
-ghost use Rattle.s370_exec.specs.Fetch.{is_execute};
+ghost use Rattle.s370_exec.specs.Meaning.{effect, is_completed, updated, link_code, is_execute};
+ghost use Rattle.s370_exec.specs.Effects.{effect_of, next_of, executed};
 
 use crate::calls::task_call;
 use crate::fields::{

@@ -1,13 +1,11 @@
 //! One instruction of a task alone, over modules that were never planted.
 ghost use Rattle.std.specs.Prelude.{◌≡◌, ℕ, ◌+◌, ◌==◌, ◌∷◌, false};
 ghost use Rattle.std.specs.declared.option.Option.TheVariants.{Some, None};
-ghost use Rattle.cov_base.specs.Memory.{half_at};
-ghost use Rattle.cov_base.specs.States.{IoView, Visit};
-ghost use Rattle.s370_decode.specs.Fields.{first_half, ex as subject_of};
-ghost use Rattle.s370_exec.specs.Fetch.{is_execute, first_tests};
-ghost use Rattle.s370_exec.specs.Calls.{call_in, subject_call, call_of};
+ghost use Rattle.cov_base.specs.Meaning.{half_at, IoView, Visit};
+ghost use Rattle.s370_decode.specs.Meaning.{first_half, ex as subject_of};
+ghost use Rattle.s370_exec.specs.Meaning.{is_execute, first_tests, call_in, subject_call, call_of, return_address, solo_step, subject_step, visit_of};
 ghost use Rattle.s370_exec.specs.Does.{Steps, Answers, seen_behind};
-ghost use Rattle.s370_exec.specs.Solo.{return_address, solo_step, subject_step, visit_of, subject_seen};
+ghost use Rattle.s370_exec.specs.Solo.{subject_seen};
 
 use crate::fetch::{fetch_first, fetch_whole};
 use crate::instruction::execute;

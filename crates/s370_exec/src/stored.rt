@@ -1,7 +1,8 @@
 //! The operations that load, store or compute with a word or halfword in storage, each a call in a frame of its own; but for
 //! L and ST, which stand in the match of all operations.
 ghost use Rattle.s370_exec.specs.Does.{CarriesOut};
-ghost use Rattle.s370_exec.specs.Effects.{effect, next_of};
+ghost use Rattle.s370_exec.specs.Meaning.{effect};
+ghost use Rattle.s370_exec.specs.Effects.{next_of};
 
 use crate::instruction::{Told, onward};
 use cov_base::Addr;
@@ -14,7 +15,7 @@ use s370_state::{Cpu, Ending, Space};
 
 /// LH.
 #[inline(never)]
-#[tactic(auto, unfolding(crate::specs::Effects::effect))]
+#[tactic(auto, unfolding(crate::specs::Meaning::effect))]
 pub(crate) fn load_half_apart<P: Space>(
     cpu: &mut Cpu,
     space: &mut P,
@@ -30,7 +31,7 @@ pub(crate) fn load_half_apart<P: Space>(
 
 /// STH.
 #[inline(never)]
-#[tactic(auto, unfolding(crate::specs::Effects::effect))]
+#[tactic(auto, unfolding(crate::specs::Meaning::effect))]
 pub(crate) fn store_half_apart<P: Space>(
     cpu: &mut Cpu,
     space: &mut P,
@@ -46,7 +47,7 @@ pub(crate) fn store_half_apart<P: Space>(
 
 /// A.
 #[inline(never)]
-#[tactic(auto, unfolding(crate::specs::Effects::effect))]
+#[tactic(auto, unfolding(crate::specs::Meaning::effect))]
 pub(crate) fn add_word_apart<P: Space>(
     cpu: &mut Cpu,
     space: &mut P,
@@ -62,7 +63,7 @@ pub(crate) fn add_word_apart<P: Space>(
 
 /// AH.
 #[inline(never)]
-#[tactic(auto, unfolding(crate::specs::Effects::effect))]
+#[tactic(auto, unfolding(crate::specs::Meaning::effect))]
 pub(crate) fn add_half_apart<P: Space>(
     cpu: &mut Cpu,
     space: &mut P,
@@ -78,7 +79,7 @@ pub(crate) fn add_half_apart<P: Space>(
 
 /// S.
 #[inline(never)]
-#[tactic(auto, unfolding(crate::specs::Effects::effect))]
+#[tactic(auto, unfolding(crate::specs::Meaning::effect))]
 pub(crate) fn subtract_word_apart<P: Space>(
     cpu: &mut Cpu,
     space: &mut P,
@@ -94,7 +95,7 @@ pub(crate) fn subtract_word_apart<P: Space>(
 
 /// SH.
 #[inline(never)]
-#[tactic(auto, unfolding(crate::specs::Effects::effect))]
+#[tactic(auto, unfolding(crate::specs::Meaning::effect))]
 pub(crate) fn subtract_half_apart<P: Space>(
     cpu: &mut Cpu,
     space: &mut P,
@@ -110,7 +111,7 @@ pub(crate) fn subtract_half_apart<P: Space>(
 
 /// AL.
 #[inline(never)]
-#[tactic(auto, unfolding(crate::specs::Effects::effect))]
+#[tactic(auto, unfolding(crate::specs::Meaning::effect))]
 pub(crate) fn add_logical_word_apart<P: Space>(
     cpu: &mut Cpu,
     space: &mut P,
@@ -126,7 +127,7 @@ pub(crate) fn add_logical_word_apart<P: Space>(
 
 /// SL.
 #[inline(never)]
-#[tactic(auto, unfolding(crate::specs::Effects::effect))]
+#[tactic(auto, unfolding(crate::specs::Meaning::effect))]
 pub(crate) fn subtract_logical_word_apart<P: Space>(
     cpu: &mut Cpu,
     space: &mut P,
@@ -142,7 +143,7 @@ pub(crate) fn subtract_logical_word_apart<P: Space>(
 
 /// C.
 #[inline(never)]
-#[tactic(auto, unfolding(crate::specs::Effects::effect))]
+#[tactic(auto, unfolding(crate::specs::Meaning::effect))]
 pub(crate) fn compare_word_apart<P: Space>(
     cpu: &mut Cpu,
     space: &mut P,
@@ -158,7 +159,7 @@ pub(crate) fn compare_word_apart<P: Space>(
 
 /// CH.
 #[inline(never)]
-#[tactic(auto, unfolding(crate::specs::Effects::effect))]
+#[tactic(auto, unfolding(crate::specs::Meaning::effect))]
 pub(crate) fn compare_half_apart<P: Space>(
     cpu: &mut Cpu,
     space: &mut P,

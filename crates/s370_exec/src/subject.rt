@@ -1,7 +1,7 @@
 //! EX (Principles of Operation, "General Instructions", "Execute").
 ghost use Rattle.std.specs.Prelude.{◌≡◌, ◌*◌, ◌/◌, ◌%◌, ◌<◌, IfOk, IfErr, Some, None, false};
-ghost use Rattle.s370_decode.specs.Fields as fields;
-ghost use Rattle.s370_exec.specs.Fetch.{is_execute, subject_tests, code_at, modifier, merged};
+ghost use Rattle.s370_decode.specs.Meaning as fields;
+ghost use Rattle.s370_exec.specs.Meaning.{is_execute, subject_tests, code_at, modifier, merged};
 
 use crate::fetch::fetch_rest;
 use cov_base::Addr;
@@ -35,7 +35,7 @@ fn modifier(cpu: &Cpu, ex: &Code) -> u8
 
 /// The subject as the EX executes it: bits 8-15 ORed with bits 24-31 of R1, unless R1 is 0. The subject in storage stays
 /// as it is, and so do the address, the operation code and the length. It isn't tested here: it can be itself EX.
-#[tactic(auto, unfolding(crate::specs::Fetch::merged))]
+#[tactic(auto, unfolding(crate::specs::Meaning::merged))]
 pub fn merge(cpu: &Cpu, ex: &Code, subject: &Code) -> Code
     ensures { result ≡ merged cpu.now ex.now subject.now }
 {

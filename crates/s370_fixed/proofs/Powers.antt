@@ -6,7 +6,7 @@ use Rattle.std.specs.Int.RustNames.{unsigned_abs}
 use Rattle.std.proofs.Math.Nat.{mod-eq_of_lt}
 use Rattle.std.proofs.Math.Pow.{pow_mono}
 use Rattle.std.proofs.lemmas.Int.{ints, fits_signed_mul}
-use Rattle.s370_fixed.specs.Shifts.{left_by, right_by}
+use Rattle.s370_fixed.specs.Meaning.{left_by, right_by}
 
 power_most : (n : ℕ) → n < 64 → 2 ^ n ≤ 9223372036854775808
 power_most n h = let p : 2 ^ n ≤ 2 ^ 63 = pow_mono {i = n} {j = 63} (omega arith) in omega (arith, p)

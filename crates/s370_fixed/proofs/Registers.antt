@@ -1,8 +1,8 @@
 -- The recursions of several registers, one register on, and halfwords by their bytes.
 use Rattle.std.proofs.Common.{◌≡◌, ℕ, ◌+◌, ◌*◌, ◌/◌, ◌%◌, List, slice_index, slice_set, refl, add-one, zero-add, add-zero}
-use Rattle.cov_base.specs.Memory.{Memory, byte_at, wrap}
-use Rattle.s370_state.specs.Words.{number_at, store_number}
-use Rattle.s370_fixed.specs.Multiple.{loaded, stored}
+use Rattle.cov_base.specs.Meaning.{Memory, byte_at, wrap}
+use Rattle.s370_state.specs.Meaning.{number_at, store_number}
+use Rattle.s370_fixed.specs.Meaning.{loaded, stored}
 
 pub loaded_none : (m : Memory) (bytes regs : List ℕ) (r a : ℕ) → loaded m bytes regs r a 0 ≡ regs
 unfolding loaded

@@ -5,8 +5,7 @@ use Rattle.std.specs.Int.{w64, CanDivide, IsNonZero}
 use Rattle.std.specs.Int.RustNames.{int_div, unsigned_abs}
 use Rattle.std.proofs.lemmas.Int.{ints, fits_signed_mul, fits_signed_from_abs}
 use Rattle.std.proofs.lemmas.Bool.Decides.{nat_tests}
-use Rattle.s370_fixed.specs.Words.{is_word}
-use Rattle.s370_fixed.specs.Products.{divides}
+use Rattle.s370_fixed.specs.Meaning.{is_word, divides}
 
 abs_of_word : (z : ℤ) → neg_ℤ (pos 2147483648) ≤ℤ z → z <ℤ pos 2147483648 → unsigned_abs z ≤ 2147483648
 abs_of_word (pos n) h l = omega (arith, ints)

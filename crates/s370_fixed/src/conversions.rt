@@ -2,9 +2,9 @@
 #![tactic(auto, using(s370_state::proofs::Performs::passes, s370_state::proofs::Performs::refuses, s370_state::proofs::Performs::good_data, s370_state::proofs::Performs::bad_data))]
 
 ghost use Rattle.std.specs.Prelude.{◌≡◌, ℕ, ◌^◌, ◌<◌, List, if◌then◌else◌};
-ghost use Rattle.s370_state.specs.Row.{Performs, machine_of, after, finish};
-ghost use Rattle.s370_fixed.specs.Conversions.{converted};
-ghost use Rattle.s370_fixed.specs.Fixed.{fixed_row};
+ghost use Rattle.s370_state.specs.Meaning.{machine_of, finish};
+ghost use Rattle.s370_state.specs.Row.{Performs, after};
+ghost use Rattle.s370_fixed.specs.Meaning.{converted, fixed_row};
 
 use crate::words::{is_word, low_word};
 use s370_decode::{Code, Op};
@@ -17,7 +17,7 @@ use s370_state::{
 const DOUBLEWORD: u8 = 7;
 
 /// The number of a field of 15 digits goes to the register.
-#[tactic(auto, unfolding(crate::specs::Conversions::converted, s370_state::specs::Digits::number))]
+#[tactic(auto, unfolding(crate::specs::Meaning::converted, s370_state::specs::Meaning::number))]
 fn convert(cpu: &mut Cpu, r: u8, f: Field) -> Next
     requires register { r < 16 }
     requires magnitude { f.magnitude < 10 ^ 15 }

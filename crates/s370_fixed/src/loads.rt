@@ -4,7 +4,7 @@
 ghost use Rattle.std.specs.Prelude.{◌≡◌, ◌<◌, ◌≤◌, ℤ, pos, neg_ℤ, ◌≤ℤ◌, ◌<ℤ◌, if◌then◌else◌};
 ghost use Rattle.std.specs.Int.RustNames.{unsigned_abs};
 ghost use Rattle.s370_state.specs.Row.{Performs};
-ghost use Rattle.s370_fixed.specs.Fixed.{fixed_row};
+ghost use Rattle.s370_fixed.specs.Meaning.{fixed_row};
 
 use crate::operands::{half, load, set_result, word};
 use crate::words::{low_word, put_half, sign_code};

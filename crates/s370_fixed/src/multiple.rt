@@ -2,10 +2,9 @@
 #![tactic(auto, using(s370_state::proofs::Performs::at_once, s370_state::proofs::Performs::passes, s370_state::proofs::Performs::refuses))]
 
 ghost use Rattle.std.specs.Prelude.{◌≡◌, ◌+◌, ◌-◌, ◌*◌, ◌%◌, ◌<◌, ◌≤◌, true};
-ghost use Rattle.cov_base.specs.Memory.{can_reach, can_store};
+ghost use Rattle.cov_base.specs.Meaning.{can_reach, can_store};
 ghost use Rattle.s370_state.specs.Row.{Performs};
-ghost use Rattle.s370_fixed.specs.Multiple.{many, loaded, stored};
-ghost use Rattle.s370_fixed.specs.Fixed.{fixed_row};
+ghost use Rattle.s370_fixed.specs.Meaning.{many, loaded, stored, fixed_row};
 
 use cov_base::Addr;
 use s370_decode::{Code, Op};

@@ -1,10 +1,8 @@
 //! The second operand of an operation, tested and read, and what operations do with a result.
 ghost use Rattle.std.specs.Prelude.{◌≡◌, ◌<◌, ◌≤◌, [], ◌∷◌, ℤ, pos, neg_ℤ, ◌≤ℤ◌, ◌<ℤ◌, IfOk, IfErr, None, Some, if◌then◌else◌, slice_set};
-ghost use Rattle.s370_state.specs.Row.{reads, use_tests, next_after};
-ghost use Rattle.s370_state.specs.Words.{number_at};
-ghost use Rattle.s370_fixed.specs.Operands.{result_code};
-ghost use Rattle.s370_fixed.specs.Words.{signed_half, low_word, is_word};
-ghost use Rattle.s370_decode.specs.Fields.{ex};
+ghost use Rattle.s370_state.specs.Meaning.{reads, use_tests, next_after, number_at};
+ghost use Rattle.s370_fixed.specs.Meaning.{result_code, signed_half, low_word, is_word};
+ghost use Rattle.s370_decode.specs.Meaning.{ex};
 
 use crate::words::{half_of, is_word, low_word, sign_code, signed_half};
 use s370_decode::Code;
@@ -50,7 +48,7 @@ pub fn load(cpu: &mut Cpu, r: u8, v: u32) -> Next
 
 /// The signed result goes to the register, with its condition code; overflow is code 8.
 #[inline(always)]
-#[tactic(auto, unfolding(s370_state::specs::Row::next_after))]
+#[tactic(auto, unfolding(s370_state::specs::Meaning::next_after))]
 pub fn set_result(cpu: &mut Cpu, r: u8, z: i64) -> Next
     requires { r < 16 }
     ensures cpu { cpu.new ≡ record cpu.old { regs = slice_set cpu.old.regs r (low_word z); condition = result_code (is_word z) z } }

@@ -4,11 +4,9 @@
 ghost use Rattle.std.specs.Prelude.{◌≡◌, ◌+◌, ◌*◌, ◌%◌, ◌<◌, ◌≤◌, ℤ, pos, neg_ℤ, ◌*ℤ◌, ◌≤ℤ◌, ◌<ℤ◌, true, false, IfSome, IfNone, if◌then◌else◌, slice_set, slice_index};
 ghost use Rattle.std.specs.Int.{cast_signed, cast_unsigned, w64};
 ghost use Rattle.std.specs.Int.RustNames.{int_div, int_rem};
-ghost use Rattle.s370_state.specs.Row.{Performs, machine_of, after, finish, pair, with_pair};
-ghost use Rattle.s370_state.specs.Words.{signed};
-ghost use Rattle.s370_fixed.specs.Words.{low_word, is_word};
-ghost use Rattle.s370_fixed.specs.Products.{divides, divided};
-ghost use Rattle.s370_fixed.specs.Fixed.{fixed_row};
+ghost use Rattle.s370_state.specs.Meaning.{machine_of, finish, pair, with_pair, signed};
+ghost use Rattle.s370_state.specs.Row.{Performs, after};
+ghost use Rattle.s370_fixed.specs.Meaning.{low_word, is_word, divides, divided, fixed_row};
 
 use crate::operands::{half, load, word};
 use crate::words::{is_word, low_word};

@@ -2,12 +2,10 @@
 #![tactic(auto, using(s370_state::proofs::Performs::at_once, s370_state::proofs::Performs::passes, s370_state::proofs::Performs::refuses, s370_state::proofs::Performs::ill_formed, s370_state::proofs::Performs::well_at_once, s370_state::proofs::Performs::well_passes, s370_state::proofs::Performs::well_refuses))]
 
 ghost use Rattle.std.specs.Prelude.{◌≡◌, ◌+◌, ◌-◌, ◌*◌, ◌/◌, ◌%◌, ◌^◌, ◌<◌, ◌≤◌, if◌then◌else◌};
-ghost use Rattle.s370_state.specs.Row.{Performs, next_after};
-ghost use Rattle.s370_decode.specs.Fields.{e2};
-ghost use Rattle.s370_state.specs.Words.{signed};
-ghost use Rattle.s370_fixed.specs.Words.{low_word, is_word, is_doubleword, sign_code};
-ghost use Rattle.s370_fixed.specs.Shifts.{left_by, right_by, with_sign};
-ghost use Rattle.s370_fixed.specs.Fixed.{fixed_row};
+ghost use Rattle.s370_state.specs.Meaning.{next_after, signed};
+ghost use Rattle.s370_state.specs.Row.{Performs};
+ghost use Rattle.s370_decode.specs.Meaning.{e2};
+ghost use Rattle.s370_fixed.specs.Meaning.{low_word, is_word, is_doubleword, sign_code, left_by, right_by, with_sign, fixed_row};
 
 use crate::operands::load;
 use crate::words::{is_word, low_word, sign_code};
@@ -38,7 +36,7 @@ fn left_by(x: i64, n: u32) -> i128
 }
 
 /// The product's low bits behind the sign bit of x.
-#[tactic(auto, unfolding(crate::specs::Shifts::with_sign))]
+#[tactic(auto, unfolding(crate::specs::Meaning::with_sign))]
 fn with_sign(sign: u64, x: i64, z: i128) -> u64
     requires positive { 0 < sign }
     requires most { sign ≤ 9223372036854775808 }
@@ -55,7 +53,7 @@ fn with_sign(sign: u64, x: i64, z: i128) -> u64
 }
 
 /// Whether the product fits a signed doubleword.
-#[tactic(auto, unfolding(crate::specs::Words::is_doubleword))]
+#[tactic(auto, unfolding(crate::specs::Meaning::is_doubleword))]
 fn is_doubleword(z: i128) -> bool
     ensures { result ≡ is_doubleword z }
 {

@@ -3,12 +3,9 @@
 
 ghost use Rattle.std.specs.Prelude.{◌≡◌, ◌+◌, ◌-◌, ◌%◌, ◌<◌, ◌≤◌, ℤ, pos, neg_ℤ, ◌+ℤ◌, ◌-ℤ◌, ◌≤ℤ◌, ◌<ℤ◌, if◌then◌else◌, slice_set, slice_index};
 ghost use Rattle.std.specs.Ordering.{int_cmp};
-ghost use Rattle.s370_state.specs.Row.{Performs, next_after};
-ghost use Rattle.s370_state.specs.Words.{signed, order_code};
-ghost use Rattle.s370_fixed.specs.Words.{low_word, is_word};
-ghost use Rattle.s370_fixed.specs.Operands.{result_code};
-ghost use Rattle.s370_fixed.specs.Sums.{carry_code};
-ghost use Rattle.s370_fixed.specs.Fixed.{fixed_row};
+ghost use Rattle.s370_state.specs.Meaning.{next_after, signed, order_code};
+ghost use Rattle.s370_state.specs.Row.{Performs};
+ghost use Rattle.s370_fixed.specs.Meaning.{low_word, is_word, result_code, carry_code, fixed_row};
 
 use crate::operands::{half, set_result, word};
 use s370_decode::{Code, Op};

@@ -2,7 +2,7 @@
 ghost use Rattle.std.specs.Prelude.{◌≡◌};
 ghost use Rattle.s370_decode.specs.Groups.{group_of};
 ghost use Rattle.s370_state.specs.Row.{Performs};
-ghost use Rattle.s370_fixed.specs.Fixed.{fixed_row};
+ghost use Rattle.s370_fixed.specs.Meaning.{fixed_row};
 
 use crate::conversions::{convert_to_binary, convert_to_decimal};
 use crate::loads::{

@@ -1,15 +1,15 @@
 //! Numbers of which a register keeps 32 bits (Principles of Operation, "Fixed-Point Arithmetic", "Number Representation"),
 //! and halfwords.
 ghost use Rattle.std.specs.Prelude.{◌≡◌, ◌+◌, ◌%◌, ◌<◌, ◌≤◌, ◌^◌, true, ℤ, pos, neg_ℤ, ◌≤ℤ◌, ◌<ℤ◌};
-ghost use Rattle.cov_base.specs.Memory.{can_reach, can_store};
-ghost use Rattle.s370_state.specs.Words.{number_at, store_number};
-ghost use Rattle.s370_fixed.specs.Words.{signed_half, low_word, is_word, sign_code};
+ghost use Rattle.cov_base.specs.Meaning.{can_reach, can_store};
+ghost use Rattle.s370_state.specs.Meaning.{number_at, store_number};
+ghost use Rattle.s370_fixed.specs.Meaning.{signed_half, low_word, is_word, sign_code};
 
 use cov_base::Addr;
 use s370_state::{Space, byte_of, put_into};
 
 /// The halfword as a signed number, -2^15 to 2^15 - 1.
-#[tactic(auto, unfolding(crate::specs::Words::signed_half))]
+#[tactic(auto, unfolding(crate::specs::Meaning::signed_half))]
 #[inline(always)]
 pub fn signed_half(h: u16) -> i64
     ensures value { result ≡ signed_half h }
@@ -20,7 +20,7 @@ pub fn signed_half(h: u16) -> i64
 }
 
 /// The number modulo 2^32, as a register holds it.
-#[tactic(auto, unfolding(crate::specs::Words::low_word))]
+#[tactic(auto, unfolding(crate::specs::Meaning::low_word))]
 #[inline(always)]
 pub fn low_word(z: i64) -> u32
     ensures { result ≡ low_word z }
@@ -33,7 +33,7 @@ pub fn low_word(z: i64) -> u32
 }
 
 /// Whether the number fits a signed word; where it does not, a sum, a difference or a left shift overflows.
-#[tactic(auto, unfolding(crate::specs::Words::is_word))]
+#[tactic(auto, unfolding(crate::specs::Meaning::is_word))]
 #[inline(always)]
 pub fn is_word(z: i128) -> bool
     ensures { result ≡ is_word z }
@@ -42,7 +42,7 @@ pub fn is_word(z: i128) -> bool
 }
 
 /// The condition code of a signed result that fits: 0 for zero, 1 for negative, 2 for positive.
-#[tactic(auto, unfolding(crate::specs::Words::sign_code))]
+#[tactic(auto, unfolding(crate::specs::Meaning::sign_code))]
 #[inline(always)]
 pub fn sign_code(z: i128) -> u8
     ensures value { result ≡ sign_code z }

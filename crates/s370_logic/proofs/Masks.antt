@@ -1,9 +1,9 @@
 -- The recursions over the bytes of a register, of a number and of an operand, one byte on.
 use Rattle.std.proofs.Common.{◌≡◌, ℕ, ◌+◌, ◌-◌, ◌*◌, ◌/◌, ◌%◌, ◌^◌, ◌<◌, ◌≤◌, zero, suc, count_ones, List, slice_set, refl, arith, lit<, add-one}
 use Rattle.std.proofs.Math.Nat.{pow-suc, pow-le-pow_right}
-use Rattle.cov_base.specs.Memory.{Memory, byte_at, wrap}
-use Rattle.s370_state.specs.Words.{number_at, store_number}
-use Rattle.s370_logic.specs.Masked.{gathered, inserted}
+use Rattle.cov_base.specs.Meaning.{Memory, byte_at, wrap}
+use Rattle.s370_state.specs.Meaning.{number_at, store_number}
+use Rattle.s370_logic.specs.Meaning.{gathered, inserted}
 use lib.Count.{ones-le}
 
 pub size_most : (mask : ℕ) → mask < 16 → count_ones mask ≤ 4

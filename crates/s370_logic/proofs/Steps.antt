@@ -3,10 +3,9 @@ use Rattle.std.proofs.Common.{◌≡◌, ℕ, ◌+◌, ◌*◌, ◌/◌, ◌%◌
 use Rattle.std.proofs.Math.Nat.{eq-or-lt_of_le}
 use Rattle.std.proofs.lemmas.Bool.Decides.{nat_tests}
 use Rattle.std.specs.Ordering.{nat_cmp}
-use Rattle.cov_base.specs.Memory.{Memory, byte_at, wrap}
-use Rattle.s370_state.specs.Words.{number_at, store_number, order_code}
-use Rattle.s370_logic.specs.Bitwise.{joined, joined_byte, are_zero}
-use Rattle.s370_logic.specs.Comparisons.{compared}
+use Rattle.cov_base.specs.Meaning.{Memory, byte_at, wrap}
+use Rattle.s370_state.specs.Meaning.{number_at, store_number, order_code}
+use Rattle.s370_logic.specs.Meaning.{joined, joined_byte, are_zero, compared}
 
 is_not_zero : (n : ℕ) → 0 < n → (n == 0) ≡ false
 is_not_zero n h = grind (arith, nat_tests)

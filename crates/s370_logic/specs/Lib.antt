@@ -1,5 +1,2 @@
 pub mod Bitwise
-pub mod Comparisons
-pub mod SingleBytes
-pub mod Masked
-pub mod Logic
+pub mod Meaning

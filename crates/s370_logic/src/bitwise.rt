@@ -2,9 +2,10 @@
 #![tactic(auto, using(s370_state::proofs::Performs::at_once, s370_state::proofs::Performs::passes, s370_state::proofs::Performs::refuses))]
 
 ghost use Rattle.std.specs.Prelude.{◌≡◌, ◌+◌, ◌<◌, ◌≤◌, ◌^◌, true, ◌==◌, if◌then◌else◌, slice_set, slice_index};
-ghost use Rattle.cov_base.specs.Memory.{can_reach, can_store};
+ghost use Rattle.cov_base.specs.Meaning.{can_reach, can_store};
 ghost use Rattle.s370_state.specs.Row.{Performs};
-ghost use Rattle.s370_logic.specs.Bitwise.{connected, zero_code, joined, are_zero, row_registers, row_word, row_immediate, row_fields};
+ghost use Rattle.s370_logic.specs.Meaning.{zero_code, joined, are_zero, row_registers, row_word, row_immediate, row_fields};
+ghost use Rattle.s370_logic.specs.Bitwise.{connected};
 
 use cov_base::Addr;
 use s370_decode::Code;

@@ -3,11 +3,10 @@
 
 ghost use Rattle.std.specs.Prelude.{◌≡◌, ◌+◌, ◌<◌, ◌≤◌, true, ◌==◌, if◌then◌else◌, slice_index};
 ghost use Rattle.std.specs.Ordering.{nat_cmp};
-ghost use Rattle.cov_base.specs.Memory.{can_reach};
+ghost use Rattle.cov_base.specs.Meaning.{can_reach};
 ghost use Rattle.s370_state.specs.Row.{Performs};
-ghost use Rattle.s370_state.specs.Words.{order_code};
-ghost use Rattle.s370_logic.specs.Comparisons.{compared};
-ghost use Rattle.s370_logic.specs.Logic.{logic_row};
+ghost use Rattle.s370_state.specs.Meaning.{order_code};
+ghost use Rattle.s370_logic.specs.Meaning.{compared, logic_row};
 
 use cov_base::Addr;
 use s370_decode::{Code, Op};

@@ -2,11 +2,10 @@
 #![tactic(auto, using(s370_state::proofs::Performs::at_once, s370_state::proofs::Performs::passes, s370_state::proofs::Performs::refuses, crate::proofs::Masks::size_most))]
 
 ghost use Rattle.std.specs.Prelude.{◌≡◌, ◌+◌, ◌-◌, ◌*◌, ◌/◌, ◌%◌, ◌<◌, ◌≤◌, ◌^◌, true, ◌==◌, if◌then◌else◌};
-ghost use Rattle.cov_base.specs.Memory.{can_reach, can_store, byte_at};
+ghost use Rattle.cov_base.specs.Meaning.{can_reach, can_store, byte_at};
 ghost use Rattle.s370_state.specs.Row.{Performs};
-ghost use Rattle.s370_state.specs.Words.{number_at, store_number};
-ghost use Rattle.s370_logic.specs.Masked.{size, gathered, inserted, insert_code};
-ghost use Rattle.s370_logic.specs.Logic.{logic_row};
+ghost use Rattle.s370_state.specs.Meaning.{number_at, store_number};
+ghost use Rattle.s370_logic.specs.Meaning.{size, gathered, inserted, insert_code, logic_row};
 
 use cov_base::Addr;
 use s370_decode::{Code, Op};

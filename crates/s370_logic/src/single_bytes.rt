@@ -3,8 +3,7 @@
 
 ghost use Rattle.std.specs.Prelude.{◌≡◌, ◌+◌, ◌*◌, ◌/◌, ◌%◌, ◌<◌, ◌≤◌, ◌==◌, if◌then◌else◌};
 ghost use Rattle.s370_state.specs.Row.{Performs};
-ghost use Rattle.s370_logic.specs.SingleBytes.{mask_code, stores_byte};
-ghost use Rattle.s370_logic.specs.Logic.{logic_row};
+ghost use Rattle.s370_logic.specs.Meaning.{mask_code, stores_byte, logic_row};
 
 use cov_base::Addr;
 use s370_decode::{Code, Op};

@@ -2,10 +2,10 @@
 #![tactic(auto, using(s370_state::proofs::Performs::ill_formed, s370_state::proofs::Performs::well_passes, s370_state::proofs::Performs::well_refuses))]
 
 ghost use Rattle.std.specs.Prelude.{◌≡◌, ◌+◌, ◌*◌, ◌/◌, ◌%◌, ◌<◌, ◌≤◌, true, ◌==◌, if◌then◌else◌};
-ghost use Rattle.cov_base.specs.Memory.{can_reach, can_store};
+ghost use Rattle.cov_base.specs.Meaning.{can_reach, can_store};
 ghost use Rattle.s370_state.specs.Row.{Performs};
-ghost use Rattle.s370_state.specs.Words.{number_at, store_number};
-ghost use Rattle.s370_logic.specs.Logic.{logic_row};
+ghost use Rattle.s370_state.specs.Meaning.{number_at, store_number};
+ghost use Rattle.s370_logic.specs.Meaning.{logic_row};
 
 use cov_base::Addr;
 use s370_decode::{Code, Op};

@@ -2,7 +2,7 @@
 ghost use Rattle.std.specs.Prelude.{◌≡◌};
 ghost use Rattle.s370_decode.specs.Groups.{group_of};
 ghost use Rattle.s370_state.specs.Row.{Performs};
-ghost use Rattle.s370_logic.specs.Logic.{logic_row};
+ghost use Rattle.s370_logic.specs.Meaning.{logic_row};
 
 use crate::bitwise::{Connective, join_fields, join_immediate, join_registers, join_word};
 use crate::comparisons::{compare_fields, compare_immediate, compare_registers, compare_word};

@@ -6,9 +6,9 @@ use Rattle.std.proofs.lemmas.Bool.Decides.{nat_tests}
 use Rattle.std.proofs.lemmas.List.Folds.{list_all-append}
 use Rattle.std.specs.List.{list_all}
 use Rattle.std.proofs.lemmas.Bool.{and_parts}
-use Rattle.cov_base.specs.Memory.{Memory, byte_at, wrap}
+use Rattle.cov_base.specs.Meaning.{Memory, byte_at, wrap}
 use Rattle.s370_state.specs.declared.packed.Field.{Field}
-use Rattle.s370_state.specs.Digits.{is_sign, is_minus, sign_half, is_digit, halves_at, decimal, field_at, digits_of, bytes_of, store_bytes, store_field}
+use Rattle.s370_state.specs.Meaning.{is_sign, is_minus, sign_half, is_digit, halves_at, decimal, field_at, digits_of, bytes_of, store_bytes, store_field}
 
 pub decimal_append : (xs : List ℕ) (v : ℕ) (ys : List ℕ) → decimal v (xs ++ ys) ≡ decimal (decimal v xs) ys
 unfolding decimal

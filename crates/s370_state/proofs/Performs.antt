@@ -1,8 +1,7 @@
 -- The two ways of a row: a test ends it, or its outcome comes, by the data that was read.
 use Rattle.std.proofs.Common.{◌≡◌, Bool, true, false, Option, Some, None, List, [], refl, ap}
-use Rattle.cov_base.specs.States.{Machine}
-use Rattle.cov_base.specs.Memory.{Memory}
-use Rattle.s370_state.specs.Row.{Use, Outcome, Program, on_data, perform, finish, tests, use_tests, all_reached, all_stored, touched, after_tests}
+use Rattle.cov_base.specs.Meaning.{Machine, Memory}
+use Rattle.s370_state.specs.Meaning.{Use, Outcome, Program, on_data, perform, finish, tests, use_tests, all_reached, all_stored, touched, after_tests}
 use Rattle.s370_state.specs.declared.endings.Ending.{Ending}
 use Rattle.s370_state.specs.declared.endings.Ending.TheVariants.{Abend}
 use Rattle.s370_state.specs.declared.endings.Next.TheVariants.{Ended}

@@ -3,7 +3,7 @@ use Rattle.std.proofs.Common.{◌≡◌, ℕ, ◌+◌, ◌<◌, zero, suc, Bool,
 use Rattle.s370_state.proofs.Tested.{reach_at}
 use Rattle.std.proofs.Common.{Ok, Err, if◌then◌else◌}
 use Rattle.std.proofs.lemmas.Bool.{and_left}
-use Rattle.cov_base.specs.Memory.{Memory, wrap, can_reach, can_store, first_touch, is_accessible, is_private}
+use Rattle.cov_base.specs.Meaning.{Memory, wrap, can_reach, can_store, first_touch, is_accessible, is_private}
 
 last_or : (i n : ℕ) → i < suc n → (i ≡ n) ⊎ (i < n)
 last_or i n h = grind arith

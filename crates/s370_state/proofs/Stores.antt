@@ -1,8 +1,8 @@
 -- The bytes of a list that go to storage one after the other.
 use Rattle.std.proofs.Common.{◌≡◌, ℕ, ◌+◌, ◌<◌, List, length, take, drop, slice_index, slice_set, refl, arith, ◌∙◌, ap}
 use Rattle.std.proofs.lemmas.List.{take_all, take_more, length-take-le, get_or-drop, length-drop}
-use Rattle.cov_base.specs.Memory.{wrap}
-use Rattle.s370_state.specs.Digits.{store_bytes}
+use Rattle.cov_base.specs.Meaning.{wrap}
+use Rattle.s370_state.specs.Meaning.{store_bytes}
 use Rattle.s370_state.proofs.Digits.{store_bytes-last}
 
 pub none_stored : (bytes : List ℕ) (a : ℕ) (list : List ℕ) → store_bytes bytes a (take 0 list) ≡ bytes

@@ -1,7 +1,7 @@
 -- What an operand that passed its tests gives for each of its bytes.
 use Rattle.std.proofs.Common.{◌≡◌, ℕ, ◌+◌, ◌*◌, ◌/◌, ◌%◌, ◌<◌, ◌≤◌, zero, suc, Bool, true, false, ◌&&◌, List, slice_set, arith, zero-add, add-zero, refl, ◌⊎◌, inl, inr}
-use Rattle.cov_base.specs.Memory.{Memory, can_reach, can_store, is_accessible, is_private, wrap, byte_at}
-use Rattle.s370_state.specs.Words.{number_at, store_number}
+use Rattle.cov_base.specs.Meaning.{Memory, can_reach, can_store, is_accessible, is_private, wrap, byte_at}
+use Rattle.s370_state.specs.Meaning.{number_at, store_number}
 
 both-left : (a b : Bool) → (a && b) ≡ true → a ≡ true
 both-left true b h = refl

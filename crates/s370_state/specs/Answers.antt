@@ -1,6 +1,6 @@
 -- What the calls of a space answer.
 use Rattle.std.specs.Prelude.{ℕ, if◌then◌else◌, Option, Some, None, Result, Ok, Err, List}
-use Rattle.cov_base.specs.Memory.{Memory, can_reach, can_store, first_touch, half_at}
+use Rattle.cov_base.specs.Meaning.{Memory, can_reach, can_store, first_touch, half_at}
 use Rattle.s370_state.specs.declared.endings.Ending.{Ending}
 use Rattle.s370_state.specs.declared.endings.Ending.TheVariants.{Abend, Touched}
 use Rattle.s370_state.specs.declared.space.Refused.{Refused}

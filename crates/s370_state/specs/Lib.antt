@@ -1,6 +1,5 @@
 pub mod Answers
 pub mod Io
-pub mod Row
-pub mod Words
-pub mod Digits
+pub mod Meaning
 pub mod Plain
+pub mod Row

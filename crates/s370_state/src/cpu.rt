@@ -1,7 +1,7 @@
 //! The registers and the parts of the program status word that a task sees.
 ghost use Rattle.std.specs.Prelude.{◌≡◌, ℕ, ◌+◌, ◌*◌, ◌/◌, ◌%◌, ◌<◌, ◌≤◌, ◌^◌, slice_index, slice_set};
-ghost use Rattle.cov_base.specs.States.{base, address};
-ghost use Rattle.s370_state.specs.Row.{pair, with_pair, with_address};
+ghost use Rattle.cov_base.specs.Meaning.{base, address};
+ghost use Rattle.s370_state.specs.Meaning.{pair, with_pair, with_address};
 
 use cov_base::Addr;
 use std::marker::Model;
@@ -21,7 +21,7 @@ pub struct Cpu {
 
 impl Model for Cpu {
     ghost use Rattle.std.specs.Prelude.{◌≤◌};
-    ghost use Rattle.cov_base.specs.States.{CpuView};
+    ghost use Rattle.cov_base.specs.Meaning.{CpuView};
 
     ghost Value = { CpuView };
 

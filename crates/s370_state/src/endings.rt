@@ -1,6 +1,6 @@
 //! How a task ends, and how it goes on after an instruction.
 ghost use Rattle.std.specs.Prelude.{◌≡◌, ◌/◌, ◌%◌};
-ghost use Rattle.s370_state.specs.Row.{next_after};
+ghost use Rattle.s370_state.specs.Meaning.{next_after};
 
 use cov_base::Addr;
 
@@ -34,7 +34,7 @@ pub enum Next {
 
 /// How a task goes on after an overflow's code, 8 or X'A', or after 0: code 8 ends it under the mask's first
 /// bit, code X'A' under its second (Principles of Operation, "Program Mask").
-#[tactic(auto, unfolding(crate::specs::Row::next_after, crate::specs::Row::is_enabled))]
+#[tactic(auto, unfolding(crate::specs::Meaning::next_after, crate::specs::Meaning::is_enabled))]
 pub fn next_after(mask: u8, code: u8) -> Next
     ensures { result ≡ next_after mask code }
 {

@@ -1,6 +1,7 @@
 //! A task's input and output, which the task calls SVC 1 and SVC 2 move.
 ghost use Rattle.std.specs.Prelude.{◌≡◌, ◌<◌, ◌≤◌, ◌^◌, IfOk, length};
-ghost use Rattle.s370_state.specs.Io.{fresh_io, bytes_left, bytes_free, next_byte, after_take, after_put};
+ghost use Rattle.s370_state.specs.Meaning.{fresh_io, bytes_left, bytes_free};
+ghost use Rattle.s370_state.specs.Io.{next_byte, after_take, after_put};
 
 use cov_base::NoMemory;
 use std::alloc::Global;
@@ -17,7 +18,7 @@ pub struct TaskIo {
 
 impl Model for TaskIo {
     ghost use Rattle.std.specs.Prelude.{◌≤◌, length, vec_capacity};
-    ghost use Rattle.cov_base.specs.States.{IoView};
+    ghost use Rattle.cov_base.specs.Meaning.{IoView};
 
     ghost Value = { IoView };
 

@@ -1,9 +1,8 @@
 //! The tests of operands in storage, made here once for all operations, and the numbers that operands hold.
 ghost use Rattle.std.specs.Prelude.{◌≡◌, ◌+◌, ◌-◌, ◌%◌, ◌/◌, ◌<◌, ◌≤◌, [], ◌∷◌, true, IfOk, IfErr, slice_set, if◌then◌else◌, ◌&&◌};
-ghost use Rattle.cov_base.specs.Memory.{byte_at, can_reach, can_store, wrap};
-ghost use Rattle.s370_decode.specs.Fields.{ex};
-ghost use Rattle.s370_state.specs.Row.{reads, stores, use_tests};
-ghost use Rattle.s370_state.specs.Words.{number_at, store_number};
+ghost use Rattle.cov_base.specs.Meaning.{byte_at, can_reach, can_store, wrap};
+ghost use Rattle.s370_decode.specs.Meaning.{ex};
+ghost use Rattle.s370_state.specs.Meaning.{reads, stores, use_tests, number_at, store_number};
 ghost use Rattle.s370_state.specs.Answers.{ending_of};
 
 use crate::cpu::Cpu;
@@ -15,7 +14,7 @@ use s370_decode::Code;
 /// The second operand's address in the RX format. The first operand's fields stand where RX has the second's, and are read with
 /// no test of the length, which a caller mostly knows.
 #[inline(always)]
-#[tactic(auto, unfolding(s370_decode::specs::Fields::b1, s370_decode::specs::Fields::d1, s370_decode::specs::Fields::b2, s370_decode::specs::Fields::d2))]
+#[tactic(auto, unfolding(s370_decode::specs::Meaning::b1, s370_decode::specs::Meaning::d1, s370_decode::specs::Meaning::b2, s370_decode::specs::Meaning::d2))]
 pub fn indexed(cpu: &Cpu, code: &Code) -> Addr
     ensures { result ≡ ex cpu.now code.now }
 {
@@ -39,7 +38,7 @@ pub fn ending_of(r: Refused) -> Ending
 }
 
 /// Tests an operand that is read: code 5, then touch.
-#[tactic(auto, unfolding(crate::specs::Row::use_tests, crate::specs::Row::all_reached, crate::specs::Row::all_stored, crate::specs::Row::touched))]
+#[tactic(auto, unfolding(crate::specs::Meaning::use_tests, crate::specs::Meaning::all_reached, crate::specs::Meaning::all_stored, crate::specs::Meaning::touched))]
 #[inline(always)]
 pub fn test_read<P: Space>(space: &P, at: Addr, len: u32) -> Result<(), Ending>
     ensures refused { IfErr result (λ e. use_tests (P.memory space.now) (reads at len ∷ []) ≡ Some e) }
@@ -56,7 +55,7 @@ pub fn test_read<P: Space>(space: &P, at: Addr, len: u32) -> Result<(), Ending>
 }
 
 /// Tests an operand that is stored, and maybe read: code 5, then code 4.
-#[tactic(auto, unfolding(crate::specs::Row::use_tests, crate::specs::Row::all_reached, crate::specs::Row::all_stored, crate::specs::Row::touched))]
+#[tactic(auto, unfolding(crate::specs::Meaning::use_tests, crate::specs::Meaning::all_reached, crate::specs::Meaning::all_stored, crate::specs::Meaning::touched))]
 #[inline(always)]
 pub fn test_store<P: Space>(space: &P, at: Addr, len: u32) -> Result<(), Ending>
     ensures refused { IfErr result (λ e. use_tests (P.memory space.now) (stores at len ∷ []) ≡ Some e) }
@@ -75,7 +74,7 @@ pub fn test_store<P: Space>(space: &P, at: Addr, len: u32) -> Result<(), Ending>
 
 /// Tests a first operand that is stored and a second that is read: code 5 by either, then code 4 by the first,
 /// then touch by the second.
-#[tactic(auto, unfolding(crate::specs::Row::use_tests, crate::specs::Row::all_reached, crate::specs::Row::all_stored, crate::specs::Row::touched))]
+#[tactic(auto, unfolding(crate::specs::Meaning::use_tests, crate::specs::Meaning::all_reached, crate::specs::Meaning::all_stored, crate::specs::Meaning::touched))]
 pub fn test_store_read<P: Space>(space: &P, a: Addr, n: u32, b: Addr, k: u32) -> Result<(), Ending>
     ensures refused { IfErr result (λ e. use_tests (P.memory space.now) (stores a n ∷ (reads b k ∷ [])) ≡ Some e) }
     ensures passed { IfOk result (λ _. use_tests (P.memory space.now) (stores a n ∷ (reads b k ∷ [])) ≡ None) }
@@ -96,7 +95,7 @@ pub fn test_store_read<P: Space>(space: &P, a: Addr, n: u32, b: Addr, k: u32) ->
 }
 
 /// Tests two operands that are read: code 5 by either, then touch by the first, then by the second.
-#[tactic(auto, unfolding(crate::specs::Row::use_tests, crate::specs::Row::all_reached, crate::specs::Row::all_stored, crate::specs::Row::touched))]
+#[tactic(auto, unfolding(crate::specs::Meaning::use_tests, crate::specs::Meaning::all_reached, crate::specs::Meaning::all_stored, crate::specs::Meaning::touched))]
 pub fn test_read_both<P: Space>(space: &P, a: Addr, n: u32, b: Addr, k: u32) -> Result<(), Ending>
     ensures refused { IfErr result (λ e. use_tests (P.memory space.now) (reads a n ∷ (reads b k ∷ [])) ≡ Some e) }
     ensures passed { IfOk result (λ _. use_tests (P.memory space.now) (reads a n ∷ (reads b k ∷ [])) ≡ None) }

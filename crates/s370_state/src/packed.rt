@@ -2,8 +2,8 @@
 //! l has l + 1 bytes: 2l + 1 digits, then the sign in the last half byte.
 ghost use Rattle.std.specs.Prelude.{◌≡◌, ◌+◌, ◌-◌, ◌*◌, ◌/◌, ◌%◌, ◌^◌, ◌<◌, ◌≤◌, ◌&&◌, true, false, IfSome, IfNone, ℤ, pos, neg_ℤ, ◌<ℤ◌};
 ghost use Rattle.std.specs.List.{list_all};
-ghost use Rattle.cov_base.specs.Memory.{can_reach, can_store};
-ghost use Rattle.s370_state.specs.Digits.{is_sign, is_minus, sign_half, is_digit, halves_at, decimal, field_at, number, digits_of, bytes_of, store_bytes, store_field};
+ghost use Rattle.cov_base.specs.Meaning.{can_reach, can_store};
+ghost use Rattle.s370_state.specs.Meaning.{is_sign, is_minus, sign_half, is_digit, halves_at, decimal, field_at, number, digits_of, bytes_of, store_bytes, store_field};
 
 use crate::operands::{byte_of, put_into};
 use crate::space::Space;
@@ -108,7 +108,7 @@ pub fn field_at<P: Space>(space: &P, at: Addr, l: u8) -> Option<Field>
 }
 
 /// The field as a number, where a zero has no sign.
-#[tactic(auto, unfolding(crate::specs::Digits::number))]
+#[tactic(auto, unfolding(crate::specs::Meaning::number))]
 pub fn number(f: Field) -> i128
     requires { f.magnitude < 10000000000000000000000000000000 }
     ensures value { result ≡ number f }

@@ -1,6 +1,6 @@
 //! A task's storage over vectors.
 ghost use Rattle.std.specs.Prelude.{◌≡◌, ◌+◌, ◌*◌, ◌<◌, ◌^◌, vec_len, length, nat_lt, nat_le, ◌&&◌, ◌==◌};
-ghost use Rattle.cov_base.specs.Memory.{is_accessible, is_private, can_reach, can_store, byte_at};
+ghost use Rattle.cov_base.specs.Meaning.{is_accessible, is_private, can_reach, can_store, byte_at};
 ghost use Rattle.s370_state.specs.Plain.{memory_of};
 
 use crate::space::{Refused, Space};
@@ -24,7 +24,7 @@ pub struct PlainSpace {
     ghost small: { base + vec_len image < 2 ^ 32 },
 }
 
-#[tactic(auto, unfolding(crate::specs::Plain::memory_of, cov_base::specs::Memory::is_accessible, cov_base::specs::Memory::is_private), using(crate::proofs::Ranges::reach_none, crate::proofs::Ranges::reach_more, crate::proofs::Ranges::reach_fails, crate::proofs::Ranges::store_none, crate::proofs::Ranges::store_more, crate::proofs::Ranges::store_fails, crate::proofs::Ranges::touch_none, crate::proofs::Ranges::touch_more, crate::proofs::Ranges::touch_found))]
+#[tactic(auto, unfolding(crate::specs::Plain::memory_of, cov_base::specs::Meaning::is_accessible, cov_base::specs::Meaning::is_private), using(crate::proofs::Ranges::reach_none, crate::proofs::Ranges::reach_more, crate::proofs::Ranges::reach_fails, crate::proofs::Ranges::store_none, crate::proofs::Ranges::store_more, crate::proofs::Ranges::store_fails, crate::proofs::Ranges::touch_none, crate::proofs::Ranges::touch_more, crate::proofs::Ranges::touch_found))]
 impl PlainSpace {
     fn is_private(&self, at: Addr) -> bool
         ensures { result ≡ is_private (memory_of self.now.size self.now.base self.now.image.items self.now.touches.items) at }
@@ -106,7 +106,7 @@ impl Space for PlainSpace {
         Ok(())
     }
 
-    #[tactic(auto, unfolding(crate::specs::Plain::memory_of, cov_base::specs::Memory::byte_at, cov_base::specs::Memory::is_accessible, cov_base::specs::Memory::is_private))]
+    #[tactic(auto, unfolding(crate::specs::Plain::memory_of, cov_base::specs::Meaning::byte_at, cov_base::specs::Meaning::is_accessible, cov_base::specs::Meaning::is_private))]
     fn byte(&self, at: Addr) -> u8 {
         if self.is_private(at) {
             self.bytes[at.get() as usize]
@@ -125,7 +125,7 @@ impl Space for PlainSpace {
         ])
     }
 
-    #[tactic(auto, unfolding(crate::specs::Plain::memory_of, cov_base::specs::Memory::byte_at, cov_base::specs::Memory::is_accessible, cov_base::specs::Memory::is_private))]
+    #[tactic(auto, unfolding(crate::specs::Plain::memory_of, cov_base::specs::Meaning::byte_at, cov_base::specs::Meaning::is_accessible, cov_base::specs::Meaning::is_private))]
     fn put(&mut self, at: Addr, value: u8) {
         self.bytes[at.get() as usize] = value;
     }

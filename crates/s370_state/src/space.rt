@@ -1,8 +1,8 @@
 //! A task's storage: what it may reach, store and read.
 ghost use Rattle.std.specs.Prelude.{◌≡◌, ℕ, ◌/◌, ◌<◌, ◌^◌, List, true, length, slice_set};
-ghost use Rattle.cov_base.specs.Memory.{Memory, byte_at, is_accessible, is_private, can_reach, can_store, wrap};
+ghost use Rattle.cov_base.specs.Meaning.{Memory, byte_at, is_accessible, is_private, can_reach, can_store, wrap};
 ghost use Rattle.s370_state.specs.Answers.{reach_answer, store_answer, touch_answer, half_answer, first_answer};
-ghost use Rattle.s370_state.specs.Words.{number_at, store_number};
+ghost use Rattle.s370_state.specs.Meaning.{number_at, store_number};
 
 use cov_base::Addr;
 

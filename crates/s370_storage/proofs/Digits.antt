@@ -1,7 +1,7 @@
 -- The recursions of packing, one result byte or pair on.
 use Rattle.std.proofs.Common.{◌≡◌, ℕ, ◌+◌, ◌*◌, ◌/◌, ◌%◌, List, slice_set, suc, refl, ap, ◌∙◌, add-one, arith}
-use Rattle.cov_base.specs.Memory.{Memory, byte_at, wrap}
-use Rattle.s370_storage.specs.Packing.{source, result_at, exchanged, packed_byte, packed, with_zoned, unpacked, shifted}
+use Rattle.cov_base.specs.Meaning.{Memory, byte_at, wrap}
+use Rattle.s370_storage.specs.Meaning.{source, result_at, exchanged, packed_byte, packed, with_zoned, unpacked, shifted}
 use Rattle.s370_storage.specs.declared.packing.Fields.{Fields}
 
 pub packed_none : (m : Memory) (bytes : List ℕ) (o : Fields) → packed m bytes o 0 ≡ bytes

@@ -1,7 +1,7 @@
 -- The first number that passes a test, one number on.
 use Rattle.std.proofs.Common.{◌≡◌, ℕ, ◌+◌, ◌<◌, ◌≤◌, zero, suc, Bool, true, false, if◌then◌else◌, Option, Some, None, refl, add-one, arith, ◌⊎◌, inl, inr}
 use Rattle.std.specs.Option.{option_or}
-use Rattle.s370_storage.specs.Searches.{first_where}
+use Rattle.s370_storage.specs.Meaning.{first_where}
 
 last_or : (i n : ℕ) → i < suc n → (i ≡ n) ⊎ (i < n)
 last_or i n h = grind arith

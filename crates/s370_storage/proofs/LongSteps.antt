@@ -1,9 +1,9 @@
 -- Long operands, one byte on.
 use Rattle.std.proofs.Common.{◌≡◌, ◌≢◌, ℕ, ◌+◌, ◌<◌, ◌≤◌, zero, suc, Bool, true, false, ◌&&◌, not, ◌==◌, Some, None, List, slice_set, refl, sym, add-one, arith, ◌⊎◌, inl, inr}
 use Rattle.std.proofs.lemmas.Bool.Decides.{nat_tests}
-use Rattle.cov_base.specs.Memory.{Memory, wrap, can_reach, can_store, is_accessible, is_private}
+use Rattle.cov_base.specs.Meaning.{Memory, wrap, can_reach, can_store, is_accessible, is_private}
 use Rattle.s370_storage.proofs.Firsts.{first_none, first_more, first_here}
-use Rattle.s370_storage.specs.Longs.{lesser, padded, first_byte, second_byte, unequal}
+use Rattle.s370_storage.specs.Meaning.{lesser, padded, first_byte, second_byte, unequal}
 use Rattle.s370_storage.specs.declared.long.Long.{Long}
 
 pub padded_none : (bytes : List ℕ) (o : Long) → padded bytes o 0 ≡ bytes

@@ -1,8 +1,8 @@
 -- The recursions of moves, one byte on.
 use Rattle.std.proofs.Common.{◌≡◌, ℕ, ◌+◌, ◌-◌, ◌<◌, ◌≤◌, true, List, slice_set, refl, add-one, arith}
-use Rattle.cov_base.specs.Memory.{Memory, byte_at, wrap, can_reach, is_accessible}
+use Rattle.cov_base.specs.Meaning.{Memory, byte_at, wrap, can_reach, is_accessible}
 use Rattle.s370_state.proofs.Tested.{reach_at}
-use Rattle.s370_storage.specs.Moves.{moved, with_part, inverted, left_of}
+use Rattle.s370_storage.specs.Meaning.{moved, with_part, inverted, left_of}
 use Rattle.s370_storage.specs.declared.moves.Part.{Part}
 
 pub moved_none : (p : Part) (m : Memory) (bytes : List ℕ) (a b : ℕ) → moved p m bytes a b 0 ≡ bytes

@@ -2,10 +2,10 @@
 #![tactic(auto, using(s370_state::proofs::Performs::ill_formed, s370_state::proofs::Performs::well_at_once, s370_state::proofs::Performs::well_passes, s370_state::proofs::Performs::well_refuses))]
 
 ghost use Rattle.std.specs.Prelude.{◌≡◌, ◌+◌, ◌-◌, ◌*◌, ◌/◌, ◌%◌, ◌<◌, ◌≤◌, ◌^◌, Some, None, true, false, min, max, ◌&&◌, if◌then◌else◌};
-ghost use Rattle.cov_base.specs.Memory.{can_reach, can_store};
-ghost use Rattle.s370_state.specs.Row.{Performs, machine_of, after, finish, is_even};
-ghost use Rattle.s370_storage.specs.Longs.{long, passed, lesser, overlaps, padded, long_moved, moves_apart, long_moves, extended, unequal, compares, long_compares};
-ghost use Rattle.s370_storage.specs.Storage.{storage_row};
+ghost use Rattle.cov_base.specs.Meaning.{can_reach, can_store};
+ghost use Rattle.s370_state.specs.Meaning.{machine_of, finish, is_even};
+ghost use Rattle.s370_state.specs.Row.{Performs, after};
+ghost use Rattle.s370_storage.specs.Meaning.{long, passed, lesser, overlaps, padded, long_moved, moves_apart, long_moves, extended, unequal, compares, long_compares, storage_row};
 
 use crate::moves::{Part, move_bytes};
 use cov_base::Addr;
@@ -68,7 +68,7 @@ fn are_even(r: u8, q: u8) -> bool
 }
 
 /// Whether a byte of the second operand would be moved after it was stored into.
-#[tactic(auto, unfolding(crate::specs::Longs::overlaps))]
+#[tactic(auto, unfolding(crate::specs::Meaning::overlaps))]
 fn overlaps(o: &Long) -> bool
     ensures { result ≡ overlaps o.now }
 {

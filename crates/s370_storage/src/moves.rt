@@ -2,10 +2,9 @@
 #![tactic(auto, using(s370_state::proofs::Performs::passes, s370_state::proofs::Performs::refuses))]
 
 ghost use Rattle.std.specs.Prelude.{◌≡◌, ◌+◌, ◌-◌, ◌*◌, ◌/◌, ◌%◌, ◌<◌, ◌≤◌, true};
-ghost use Rattle.cov_base.specs.Memory.{byte_at, can_reach, can_store, wrap};
+ghost use Rattle.cov_base.specs.Meaning.{byte_at, can_reach, can_store, wrap};
 ghost use Rattle.s370_state.specs.Row.{Performs};
-ghost use Rattle.s370_storage.specs.Moves.{with_part, moved, moves, left_of, inverted};
-ghost use Rattle.s370_storage.specs.Storage.{storage_row};
+ghost use Rattle.s370_storage.specs.Meaning.{with_part, moved, moves, left_of, inverted, storage_row};
 
 use cov_base::Addr;
 use s370_decode::{Code, Op};

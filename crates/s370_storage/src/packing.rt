@@ -2,10 +2,10 @@
 #![tactic(auto, using(s370_state::proofs::Performs::passes, s370_state::proofs::Performs::refuses))]
 
 ghost use Rattle.std.specs.Prelude.{◌≡◌, ◌+◌, ◌-◌, ◌*◌, ◌/◌, ◌%◌, ◌<◌, ◌≤◌, ◌∷◌, [], Some, None, true, slice_set, IfOk, IfErr, if◌then◌else◌, ◌==◌};
-ghost use Rattle.cov_base.specs.Memory.{can_reach, can_store};
-ghost use Rattle.s370_state.specs.Row.{Performs, use_tests};
-ghost use Rattle.s370_storage.specs.Packing.{fields, source, result_at, exchanged, packed_byte, packed, with_zoned, unpacked, shifted, field_uses};
-ghost use Rattle.s370_storage.specs.Storage.{storage_row};
+ghost use Rattle.cov_base.specs.Meaning.{can_reach, can_store};
+ghost use Rattle.s370_state.specs.Meaning.{use_tests};
+ghost use Rattle.s370_state.specs.Row.{Performs};
+ghost use Rattle.s370_storage.specs.Meaning.{fields, source, result_at, exchanged, packed_byte, packed, with_zoned, unpacked, shifted, field_uses, storage_row};
 
 use cov_base::Addr;
 use s370_decode::{Code, Op};

@@ -2,7 +2,7 @@
 ghost use Rattle.std.specs.Prelude.{◌≡◌};
 ghost use Rattle.s370_decode.specs.Groups.{group_of};
 ghost use Rattle.s370_state.specs.Row.{Performs};
-ghost use Rattle.s370_storage.specs.Storage.{storage_row};
+ghost use Rattle.s370_storage.specs.Meaning.{storage_row};
 
 use crate::long::{compare_long, move_long};
 use crate::moves::{move_characters, move_inverse, move_numerics, move_zones};

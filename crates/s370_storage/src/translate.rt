@@ -2,10 +2,10 @@
 #![tactic(auto, using(s370_state::proofs::Performs::passes, s370_state::proofs::Performs::refuses))]
 
 ghost use Rattle.std.specs.Prelude.{◌≡◌, ◌+◌, ◌*◌, ◌/◌, ◌<◌, ◌≤◌, ◌∷◌, Some, None, true, false, IfOk, IfErr, IfSome, if◌then◌else◌, ◌==◌};
-ghost use Rattle.cov_base.specs.Memory.{can_reach, can_store, wrap, first_touch};
-ghost use Rattle.s370_state.specs.Row.{Performs, use_tests, stores, reads, all_reached, touched, touch_ending, machine_of, after, finish};
-ghost use Rattle.s370_storage.specs.Translations.{function_at, functions, translation_uses, search_uses, translated, function, selected, looked_up, selecting, selects};
-ghost use Rattle.s370_storage.specs.Storage.{storage_row};
+ghost use Rattle.cov_base.specs.Meaning.{can_reach, can_store, wrap, first_touch};
+ghost use Rattle.s370_state.specs.Meaning.{use_tests, stores, reads, all_reached, touched, touch_ending, machine_of, finish};
+ghost use Rattle.s370_state.specs.Row.{Performs, after};
+ghost use Rattle.s370_storage.specs.Meaning.{function_at, functions, translation_uses, search_uses, translated, function, selected, looked_up, selecting, selects, storage_row};
 
 use cov_base::Addr;
 use s370_decode::{Code, Op};
@@ -55,7 +55,7 @@ fn test_functions<P: Space>(space: &P, a: Addr, t: Addr, n: u32) -> Result<Optio
 }
 
 /// Tests the first operand, which is stored, and the function bytes of its arguments.
-#[tactic(auto, unfolding(s370_state::specs::Row::use_tests, s370_state::specs::Row::all_reached, s370_state::specs::Row::all_stored, s370_state::specs::Row::touched), using(crate::proofs::Tables::functions_stored))]
+#[tactic(auto, unfolding(s370_state::specs::Meaning::use_tests, s370_state::specs::Meaning::all_reached, s370_state::specs::Meaning::all_stored, s370_state::specs::Meaning::touched), using(crate::proofs::Tables::functions_stored))]
 fn test_translation<P: Space>(space: &P, a: Addr, t: Addr, n: u32) -> Result<(), Ending>
     ensures refused { let m = P.memory space.now in let bytes = P.bytes space.now in
         IfErr result (λ e. use_tests m (translation_uses m bytes a t n) ≡ Some e) }
@@ -165,7 +165,7 @@ fn search<P: Space>(space: &P, a: Addr, t: Addr, n: u32) -> Result<Found, Ending
 
 /// Tests the first operand and the function bytes that are looked up, both only read, and gives the argument that is
 /// selected.
-#[tactic(auto, unfolding(s370_state::specs::Row::use_tests, s370_state::specs::Row::all_reached, s370_state::specs::Row::all_stored, s370_state::specs::Row::touched), using(crate::proofs::Tables::functions_stored))]
+#[tactic(auto, unfolding(s370_state::specs::Meaning::use_tests, s370_state::specs::Meaning::all_reached, s370_state::specs::Meaning::all_stored, s370_state::specs::Meaning::touched), using(crate::proofs::Tables::functions_stored))]
 fn test_search<P: Space>(space: &P, a: Addr, t: Addr, n: u32) -> Result<Option<u32>, Ending>
     ensures refused { let m = P.memory space.now in let bytes = P.bytes space.now in
         IfErr result (λ e. use_tests m (search_uses m bytes a t n) ≡ Some e) }

@@ -6,18 +6,16 @@ use Rattle.std.proofs.lemmas.Bool.{lt-ltb}
 use Rattle.std.proofs.lemmas.Bool.Decides.{nat_tests}
 use Rattle.std.proofs.lemmas.List.{get_or-set_other}
 use Rattle.std.proofs.lemmas.List.Elements.{All-head, All-tail}
-use Rattle.module_area.specs.CellWords.{word_at, no_cell, fresh_word}
-use Rattle.module_area.specs.PlanView.{ControlledView, window_at}
+use Rattle.module_area.specs.Meaning.{word_at, no_cell, fresh_word, ControlledView, window_at}
 use Rattle.module_area.specs.declared.places.Place.{Place}
-use Rattle.interleave_core.specs.World.{World, IsWorld, Parts, plan_in}
-use Rattle.interleave_core.specs.Control.{controller_from, controller_of}
-use Rattle.interleave_core.specs.Steps.{Stepped, parts_step, run_on, by_controller, whole_step, with_cell, breakpoint_of}
+use Rattle.interleave_core.specs.Meaning.{World, Parts, plan_in, controller_from, controller_of, Stepped, parts_step, run_on, by_controller, whole_step, with_cell, breakpoint_of}
+use Rattle.interleave_core.specs.World.{IsWorld}
 use Rattle.interleave_core.specs.declared.events.Event.{Event}
 use Rattle.interleave_core.specs.declared.events.Event.TheVariants as event
 use Rattle.interleave_core.specs.declared.events.Shown.{Shown}
 use Rattle.interleave_core.specs.declared.events.Shown.TheVariants.{Planted}
 use Rattle.interleave_core.proofs.Runs.{run_on-append}
-use Rattle.schedule_play.specs.Play.{plant_at}
+use Rattle.schedule_play.specs.Meaning.{plant_at}
 
 -- no task controls a session that observes a place whole
 controller_none : (cs : List ControlledView) (s : ℕ) → All (λ (c : ControlledView). s ≢ c.session) cs → controller_from s cs ≡ None

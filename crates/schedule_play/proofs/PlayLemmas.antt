@@ -1,12 +1,11 @@
 -- A schedule's items one by one.
 use Rattle.std.proofs.Common.{◌≡◌, ℕ, ◌+◌, Bool, true, false, nat_eq, ◌==◌, if◌then◌else◌, Option, Some, None, List, [], ◌∷◌, ◌++◌, length, subst, refl, sym, ap, ◌∙◌, arith, append-nil}
 use Rattle.module_area.specs.declared.places.Place.{Place}
-use Rattle.interleave_core.specs.World.{World, Parts, first_parts}
-use Rattle.interleave_core.specs.Steps.{run_on}
-use Rattle.session_book.specs.JobView.{JobView}
-use Rattle.job_text.specs.Lines.{LineView, put_on, lines_of}
-use Rattle.job_text.specs.Schedule.{item_at}
-use Rattle.schedule_play.specs.Play.{Play, Bad, Whole, with_item, play, play_line, play_end, play_from, play_of, plants, IsLine, IsUnplayed}
+use Rattle.interleave_core.specs.Meaning.{World, Parts, first_parts, run_on}
+use Rattle.session_book.specs.Meaning.{JobView}
+use Rattle.job_text.specs.Meaning.{LineView, put_on, lines_of, item_at}
+use Rattle.schedule_play.specs.Meaning.{Play, Bad, Whole, with_item, play, play_line, play_end, play_from, play_of, plants}
+use Rattle.schedule_play.specs.Play.{IsLine, IsUnplayed}
 use Rattle.schedule_play.specs.declared.playing.Played.{Played}
 use Rattle.schedule_play.specs.declared.playing.ScheduleFault.{ScheduleFault}
 use Rattle.schedule_play.specs.declared.playing.ScheduleFault.TheVariants as fault

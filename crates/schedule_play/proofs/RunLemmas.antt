@@ -3,20 +3,16 @@ use Rattle.std.proofs.Common.{◌≡◌, ℕ, ◌+◌, Bool, true, false, nat_eq
 use Rattle.std.specs.Option.{option_and_then}
 use Rattle.cov_base.specs.declared.numbers.TaskNo.{TaskNo}
 use Rattle.module_area.specs.declared.places.Place.{Place}
-use Rattle.session_book.specs.JobView.{JobView}
-use Rattle.interleave_core.specs.World.{World, Parts, first_parts}
-use Rattle.interleave_core.specs.Steps.{Stepped, parts_step, run_on}
-use Rattle.interleave_core.specs.Results.{next_of, results_of}
-use Rattle.interleave_core.specs.Going.{HasGone, after, all_events}
+use Rattle.session_book.specs.Meaning.{JobView}
+use Rattle.interleave_core.specs.Meaning.{World, Parts, first_parts, Stepped, parts_step, run_on, next_of, results_of, after, all_events}
+use Rattle.interleave_core.specs.Going.{HasGone}
 use Rattle.interleave_core.specs.declared.events.Event.{Event}
 use Rattle.interleave_core.specs.declared.events.Shown.TheVariants as shown
 use Rattle.interleave_core.proofs.Runs.{run_on-append}
-use Rattle.job_text.specs.Lines.{LineView}
-use Rattle.job_text.specs.Schedule.{item_at}
+use Rattle.job_text.specs.Meaning.{LineView, item_at}
 use Rattle.job_text.specs.declared.schedule.Item.{Item}
 use Rattle.job_text.specs.declared.schedule.Item.TheVariants.{Fetch, Mark, Lift, Do, Go, Plant, Close, End}
-use Rattle.schedule_play.specs.Play.{Play, Bad, Whole, plants, gone, play, play_item, play_line, play_on, play_end, play_from, play_of, item_event, with_item, is_end}
-use Rattle.schedule_play.specs.Run.{one_event, item_events, items_events, IsRun}
+use Rattle.schedule_play.specs.Meaning.{Play, Bad, Whole, plants, gone, play, play_item, play_line, play_on, play_end, play_from, play_of, item_event, with_item, is_end, one_event, item_events, items_events, IsRun}
 use Rattle.schedule_play.specs.declared.playing.Played.{Played}
 
 -- a task that has ended

@@ -1,19 +1,17 @@
 -- The lines of a schedule that was played.
 use Rattle.std.proofs.Common.{◌≡◌, ℕ, ◌+◌, ◌-◌, ◌<◌, ◌≤◌, Bool, true, false, nat_eq, Option, Result, codes, List, [], ◌∷◌, ◌++◌, length, length-append, get_or, subst, refl, sym, ap, ◌∙◌, arith}
 use Rattle.std.proofs.lemmas.List.{get_or_default}
-use Rattle.cov_base.specs.Facts.{is_within}
-use Rattle.module_area.specs.PlanView.{kind_at}
+use Rattle.cov_base.specs.Meaning.{is_within}
+use Rattle.module_area.specs.Meaning.{kind_at}
 use Rattle.module_area.specs.declared.places.Place.{Place}
-use Rattle.brk_table.specs.Places.{TableView, TablesView, all_places, first_place, place_count}
-use Rattle.session_book.specs.JobView.{JobView}
-use Rattle.session_book.specs.Sessions.{task_of, session_of}
-use Rattle.interleave_core.specs.World.{World, Parts, plan_in}
-use Rattle.interleave_core.specs.Steps.{set_of}
-use Rattle.interleave_core.specs.Results.{Fits, results_of}
+use Rattle.brk_table.specs.Meaning.{TableView, TablesView, all_places, first_place, place_count}
+use Rattle.session_book.specs.Meaning.{JobView, task_of, session_of}
+use Rattle.interleave_core.specs.Meaning.{World, Parts, plan_in, set_of, results_of}
+use Rattle.interleave_core.specs.Results.{Fits}
 use Rattle.report_text.specs.Conditions.{AreResultsOf, AreSetsOf}
-use Rattle.report_text.specs.Report.{result_lines}
+use Rattle.report_text.specs.Meaning.{result_lines}
 use Rattle.report_text.specs.Writes.{WritesLines}
-use Rattle.schedule_play.specs.Text.{event_line, event_lines, no_item, replay_lines}
+use Rattle.schedule_play.specs.Meaning.{event_line, event_lines, no_item, replay_lines}
 use Rattle.schedule_play.specs.declared.playing.Played.{Played}
 
 -- the line of item n, which numbers from 1

@@ -1,3 +1,2 @@
+pub mod Meaning
 pub mod Play
-pub mod Run
-pub mod Text

@@ -1,14 +1,14 @@
 //! A schedule behind a job, played on the core.
 ghost use Rattle.std.specs.Prelude.{◌≡◌, ◌≢◌, ℕ, [], ◌+◌, ◌<◌, ◌^◌, nat_eq, length, None, Some, option_and_then, IfOk, IfErr, OnErr, All};
 ghost use Rattle.brk_table.specs.Places.{IsIn};
-ghost use Rattle.job_text.specs.Lines.{lines_of};
-ghost use Rattle.module_area.specs.CellWords.{word_at};
-ghost use Rattle.module_area.specs.PlanView.{window_at};
-ghost use Rattle.interleave_core.specs.World.{IsWorld, plan_in, world_of, first_parts};
+ghost use Rattle.job_text.specs.Meaning.{lines_of};
+ghost use Rattle.module_area.specs.Meaning.{word_at, window_at};
+ghost use Rattle.interleave_core.specs.Meaning.{plan_in, first_parts, parts_step, run_on};
+ghost use Rattle.interleave_core.specs.World.{IsWorld, world_of};
 ghost use Rattle.interleave_core.specs.Results.{Fits};
-ghost use Rattle.interleave_core.specs.Steps.{parts_step, run_on};
 ghost use Rattle.interleave_core.specs.Views.{Leaves};
-ghost use Rattle.schedule_play.specs.Play.{Play, plant_at, plants, if_plants, if_closes, item_event, play, play_item, play_behind, IsLineOf, IsBadLine, IsUnplayed};
+ghost use Rattle.schedule_play.specs.Meaning.{Play, plant_at, plants, if_plants, if_closes, item_event, play, play_item};
+ghost use Rattle.schedule_play.specs.Play.{play_behind, IsLineOf, IsBadLine, IsUnplayed};
 
 use brk_table::Tables;
 use cov_base::{NoMemory, PlaceNo, SessNo};

@@ -1,14 +1,15 @@
 //! The text of a schedule that was played.
 ghost use Rattle.std.specs.Prelude.{◌≡◌, ◌+◌, ◌-◌, ◌<◌, ◌≤◌, ◌^◌, ◌++◌, ◌∷◌, [], length, All};
 ghost use Rattle.arrayvec.specs.ArrayVec.{array_vec_len};
-ghost use Rattle.brk_table.specs.Places.{IsIn, all_places};
-ghost use Rattle.cov_base.specs.Names.{unpadded};
+ghost use Rattle.brk_table.specs.Meaning.{all_places};
+ghost use Rattle.brk_table.specs.Places.{IsIn};
+ghost use Rattle.cov_base.specs.Meaning.{unpadded};
 ghost use Rattle.interleave_core.specs.Results.{Fits};
 ghost use Rattle.interleave_core.specs.World.{world_of};
 ghost use Rattle.report_text.specs.Conditions.{HasFewLines};
 ghost use Rattle.report_text.specs.Writes.{WritesLines};
-ghost use Rattle.session_book.specs.Sessions.{task_of};
-ghost use Rattle.schedule_play.specs.Text.{letters, or_dash, shown_words, item_words, at_words, place_words, event_line, event_lines, replay_lines};
+ghost use Rattle.session_book.specs.Meaning.{task_of};
+ghost use Rattle.schedule_play.specs.Meaning.{letters, or_dash, shown_words, item_words, at_words, place_words, event_line, event_lines, replay_lines};
 
 use crate::playing::Played;
 use annotator::text::{add_hex, add_number, add_text};

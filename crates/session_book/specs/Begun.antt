@@ -1,11 +1,11 @@
 -- A task of a job before its first instruction.
 use Rattle.std.specs.Prelude.{◌≡◌, ℕ, List}
-use Rattle.s370_state.specs.Row.{machine_of}
+use Rattle.s370_state.specs.Meaning.{machine_of}
 use Rattle.module_area.specs.declared.places.Place.{Place}
-use Rattle.brk_table.specs.Places.{AreSeen, memory_of}
+use Rattle.brk_table.specs.Meaning.{memory_of}
+use Rattle.brk_table.specs.Places.{AreSeen}
 use Rattle.space_map.specs.Space.{memory_of_space}
-use Rattle.session_book.specs.JobView.{JobView}
-use Rattle.session_book.specs.Sessions.{task_of, first_state}
+use Rattle.session_book.specs.Meaning.{JobView, task_of, first_state}
 use Rattle.session_book.specs.declared.beginning.Begun.{Begun}
 
 -- task t as its card says, which sees the places

@@ -1,42 +1,11 @@
 -- A job as lists, wherever memory holds it, and the rules that its values keep.
-use Rattle.std.specs.Prelude.{◌≡◌, ◌≢◌, ℕ, ◌+◌, ◌<◌, ◌≤◌, Bool, false, nat_eq, Option, Some, List, length, get_or, replicate, slice_set, map, All, AllPairs, IfSome}
+use Rattle.std.specs.Prelude.{◌≡◌, ◌≢◌, ℕ, ◌+◌, ◌<◌, ◌≤◌, Bool, false, nat_eq, Option, Some, List, length, get_or, map, All, AllPairs, IfSome}
 use Rattle.std.specs.List.{list_any}
-use Rattle.cov_base.specs.Memory.{ImageView}
-use Rattle.cov_base.specs.declared.constants.TheConstants.{RETURN_ADDRESS}
+use Rattle.cov_base.specs.Meaning.{ImageView}
 use Rattle.cov_base.specs.declared.limits.TheConstants.{MODULE_LIMIT, SIZE_LIMIT, LINE_LIMIT, PHASE_LIMIT, SESSION_LIMIT, TASK_LIMIT, PRIVATE_LIMIT, BUDGET_LIMIT, ROOM_LIMIT}
 use Rattle.module_area.specs.Images.{AreImages}
-use Rattle.module_area.specs.Views.{DataView}
-
--- a session: its phase and modules by index, and for a controlled one its controller's index among the tasks
-pub record SessionView : Type 0 where
-  pub name : List ℕ
-  pub phase : ℕ
-  pub modules : List ℕ
-  pub by : Option ℕ
-
-pub record TaskView : Type 0 where
-  pub name : List ℕ
-  pub phase : ℕ
-  pub entry : ℕ
-  pub private : ℕ
-  pub budget : ℕ
-  pub room : ℕ
-  -- as the task begins
-  pub regs : List ℕ
-  pub cards : List DataView
-  pub input : List ℕ
-
-pub record JobView : Type 0 where
-  pub images : List ImageView
-  -- for each module the lines of its listing, where it has one
-  pub listings : List (Option (List (List ℕ)))
-  pub phases : List (List ℕ)
-  pub sessions : List SessionView
-  pub tasks : List TaskView
-
--- registers as a task begins, before its REG cards: zero, but 14 the return address and 15 the entry
-abbrev pub first_regs : ℕ → List ℕ
-first_regs entry = slice_set (slice_set (replicate 16 0) 14 RETURN_ADDRESS) 15 entry
+use Rattle.module_area.specs.Meaning.{DataView}
+use Rattle.session_book.specs.Meaning.{SessionView, TaskView, JobView}
 
 abbrev pub Differ : List (List ℕ) → Type 0
 Differ names = AllPairs (λ a b. a ≢ b) names

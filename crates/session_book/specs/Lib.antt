@@ -1,5 +1,5 @@
 pub mod Begun
 pub mod JobView
-pub mod Results
+pub mod Meaning
 pub mod Sessions
 pub mod Sets

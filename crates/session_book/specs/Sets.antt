@@ -1,11 +1,9 @@
 -- The sets that a session has at its modules' places.
 use Rattle.std.specs.Prelude.{◌≡◌, ℕ, ◌+◌, ◌<◌, ◌≤◌, true, length, All}
-use Rattle.cov_base.specs.FactSet.{FactSet}
-use Rattle.cov_base.specs.Facts.{is_within}
-use Rattle.module_area.specs.PlanView.{place_of}
-use Rattle.brk_table.specs.Places.{TablesView, first_place, place_count}
-use Rattle.session_book.specs.JobView.{JobView}
-use Rattle.session_book.specs.Sessions.{session_of}
+use Rattle.cov_base.specs.Meaning.{FactSet, is_within}
+use Rattle.module_area.specs.Meaning.{place_of}
+use Rattle.brk_table.specs.Meaning.{TablesView, first_place, place_count}
+use Rattle.session_book.specs.Meaning.{JobView, session_of}
 
 -- at each place of module m the set is within the place's kind
 abbrev pub AreWithin : TablesView → (ℕ → FactSet) → ℕ → Type 0

@@ -1,7 +1,7 @@
 //! The job that the cards spell.
 ghost use Rattle.std.specs.Prelude.{◌≡◌, ◌<◌, ◌≤◌, length};
 ghost use Rattle.session_book.specs.JobView.{IsJob, IsSession, IsTask};
-ghost use Rattle.session_book.specs.Sessions.{session_of, task_of};
+ghost use Rattle.session_book.specs.Meaning.{session_of, task_of};
 
 use cov_base::{Addr, Name, SessNo};
 use listing_lines::ListingLines;
@@ -19,7 +19,7 @@ pub struct Session {
 }
 
 impl Model for Session {
-    ghost use Rattle.session_book.specs.JobView.{SessionView};
+    ghost use Rattle.session_book.specs.Meaning.{SessionView};
 
     ghost Value = { SessionView };
 
@@ -43,7 +43,7 @@ pub struct TaskCard {
 }
 
 impl Model for TaskCard {
-    ghost use Rattle.session_book.specs.JobView.{TaskView};
+    ghost use Rattle.session_book.specs.Meaning.{TaskView};
 
     ghost Value = { TaskView };
 
@@ -61,7 +61,8 @@ pub struct Job {
 }
 
 impl Model for Job {
-    ghost use Rattle.session_book.specs.JobView.{JobView, IsJob};
+    ghost use Rattle.session_book.specs.Meaning.{JobView};
+    ghost use Rattle.session_book.specs.JobView.{IsJob};
 
     ghost Value = { JobView };
 

@@ -3,7 +3,7 @@ ghost use Rattle.std.specs.Prelude.{◌≡◌, ◌<◌, ◌≤◌, nat_eq, lengt
 ghost use Rattle.std.specs.List.{list_any};
 ghost use Rattle.cov_base.specs.declared.limits.TheConstants.{PLACE_LIMIT, SESSION_LIMIT, TASK_LIMIT};
 ghost use Rattle.brk_table.specs.Places.{ArePlaces};
-ghost use Rattle.session_book.specs.Sessions.{is_whole, observes, window_from, window_of, tasks_from, places_from, controlled_from, plan_view};
+ghost use Rattle.session_book.specs.Meaning.{is_whole, observes, window_from, window_of, tasks_from, places_from, controlled_from, plan_view};
 
 use crate::job::{Job, Session, TaskCard};
 use brk_table::Tables;

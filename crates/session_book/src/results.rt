@@ -1,8 +1,8 @@
 //! What a report is made of: the tasks' results, and the sessions' sets.
 ghost use Rattle.std.specs.Prelude.{◌≡◌, ℕ, ◌+◌, ◌*◌, ◌<◌, length, slice_range, min};
-ghost use Rattle.cov_base.specs.FactSet.{FactSet};
+ghost use Rattle.cov_base.specs.Meaning.{FactSet};
 ghost use Rattle.cov_base.specs.declared.facts.Fact.{Fact};
-ghost use Rattle.session_book.specs.Results.{ResultView};
+ghost use Rattle.session_book.specs.Meaning.{ResultView};
 
 use cov_base::{Bits, Fact, PlaceNo, SessNo, TaskNo};
 use s370_state::{Cpu, Ending};

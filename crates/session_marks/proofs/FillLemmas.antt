@@ -1,15 +1,14 @@
 -- Marks that were made with empty sets, and are filled.
 use Rattle.std.proofs.Common.{◌≡◌, ℕ, zero, suc, ◌+◌, ◌<◌, ◌≤◌, Bool, true, false, nat_eq, nat_lt, List, [], ◌∷◌, ◌++◌, length, take, drop, map, min, All, refl, sym, ap, ◌∙◌, arith, length-drop, length-append}
 use Rattle.std.proofs.lemmas.List.{take-append-drop}
-use Rattle.cov_base.specs.FactSet.{FactSet}
-use Rattle.brk_table.specs.Places.{TableView, TablesView, first_place, place_count, all_places}
-use Rattle.marks_file.specs.Marks.{MarkedView, is_location, is_length, is_original, are_places, end_of, is_new_name, is_base, is_size, is_count, are_modules, is_module_count, are_marks}
+use Rattle.cov_base.specs.Meaning.{FactSet, is_filled}
+use Rattle.brk_table.specs.Meaning.{TableView, TablesView, first_place, place_count, all_places}
+use Rattle.marks_file.specs.Meaning.{MarkedView, is_location, is_length, is_original, are_places, end_of, is_new_name, is_base, is_size, is_count, are_modules, is_module_count, are_marks}
 use Rattle.marks_file.proofs.MarksLemmas.{both-left, both-right}
 use Rattle.std.proofs.lemmas.List.Elements.{All-cons, All-nil}
 use Rattle.std.proofs.lemmas.Bool.{ltb-true}
-use Rattle.cov_base.specs.Names.{is_filled}
 use Rattle.cov_base.specs.declared.facts.Kind.{Kind}
-use Rattle.session_book.specs.Sessions.{module_of}
+use Rattle.session_book.specs.Meaning.{module_of, JobView}
 use Rattle.session_book.specs.Sets.{AreWithin}
 use Rattle.session_marks.specs.Fields.{HasGoodFields, AreHalfwords}
 use Rattle.session_marks.proofs.TableLemmas.{Differ}
@@ -17,9 +16,8 @@ use Rattle.session_marks.proofs.ModuleLemmas.{AreTabled, own_places_kept, marks_
 use Rattle.marks_file.specs.declared.marks.MarkedPlace.{MarkedPlace}
 use Rattle.marks_file.proofs.Parts.{is_place, is_module}
 use Rattle.module_area.specs.declared.places.Place.{Place}
-use Rattle.session_book.specs.JobView.{JobView}
 use Rattle.session_marks.specs.Filled.{with_sets, filled_module, filled, AreThere}
-use Rattle.session_marks.specs.Marked.{marked_place, marked_module}
+use Rattle.session_marks.specs.Meaning.{marked_place, marked_module}
 use Rattle.session_marks.proofs.PlaceLemmas.{marked_places}
 use Rattle.session_marks.proofs.RuleLemmas.{length-marked_places}
 

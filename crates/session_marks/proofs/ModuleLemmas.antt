@@ -10,24 +10,22 @@ use Rattle.std.proofs.lemmas.List.Quantifiers.{all_pairs_push}
 use Rattle.std.proofs.lemmas.Map.Made.{IsDistinct-from_AllPairs}
 use Rattle.std.proofs.lemmas.Map.Steps.{length-le_from_distinct_below}
 use Rattle.std.proofs.lemmas.Slice.Eq.{bytes_eq-Decides}
-use Rattle.cov_base.specs.FactSet.{FactSet}
-use Rattle.cov_base.specs.Memory.{ImageView}
-use Rattle.cov_base.specs.Names.{is_filled}
+use Rattle.cov_base.specs.Meaning.{FactSet, ImageView, is_filled}
 use Rattle.module_area.specs.Images.{IsImage, AreClear}
-use Rattle.module_area.specs.PlanView.{place_of, no_place}
+use Rattle.module_area.specs.Meaning.{place_of, no_place}
 use Rattle.module_area.specs.declared.places.Place.{Place}
-use Rattle.brk_table.specs.Places.{TablesView, IsPlace, AreApart, all_places, first_place}
-use Rattle.brk_table.specs.Places.{place_count as count_in}
+use Rattle.brk_table.specs.Meaning.{TablesView, all_places, first_place, place_count as count_in}
+use Rattle.brk_table.specs.Places.{IsPlace, AreApart}
 use Rattle.brk_table.specs.Together.{AreTables}
-use Rattle.marks_file.specs.Marks.{MarkedView, is_new_name, is_base, is_clear, is_size, is_count, place_count, are_modules, is_module_count, are_marks, are_places}
+use Rattle.marks_file.specs.Meaning.{MarkedView, is_new_name, is_base, is_clear, is_size, is_count, place_count, are_modules, is_module_count, are_marks, are_places}
 use Rattle.marks_file.specs.declared.marks.MarkedPlace.{MarkedPlace}
 use Rattle.marks_file.proofs.Parts.{is_module}
 use Rattle.marks_file.proofs.MarksLemmas.{both}
-use Rattle.session_book.specs.JobView.{JobView, IsJob}
-use Rattle.session_book.specs.Sessions.{module_of, no_module}
+use Rattle.session_book.specs.Meaning.{JobView, module_of, no_module}
+use Rattle.session_book.specs.JobView.{IsJob}
 use Rattle.session_book.specs.Sets.{AreWithin}
 use Rattle.session_marks.specs.Fields.{HasGoodFields, AreHalfwords}
-use Rattle.session_marks.specs.Marked.{marked_module}
+use Rattle.session_marks.specs.Meaning.{marked_module}
 use Rattle.session_marks.proofs.PlaceLemmas.{marked_places}
 use Rattle.session_marks.proofs.TableLemmas.{OwnTable, own_table, Differ, count_of, counts_fit, count_more, first_differs, rest_differs}
 use Rattle.session_marks.proofs.RuleLemmas.{AreMarkable, places_kept, some_bytes, length-marked_places}

@@ -4,21 +4,21 @@ use Rattle.std.specs.Str.{bytes_eq}
 use Rattle.std.proofs.lemmas.List.{length-map, get_or_default}
 use Rattle.std.proofs.lemmas.List.Elements.{All-tail}
 use Rattle.std.proofs.lemmas.Bool.{ne_eqb, eq-eqb}
-use Rattle.cov_base.specs.FactSet.{FactSet}
-use Rattle.marks_file.specs.Marks.{MarkedView, HasRow, are_marks}
-use Rattle.marks_file.specs.MarksFile.{place_row, module_row, rows}
+use Rattle.cov_base.specs.Meaning.{FactSet}
+use Rattle.marks_file.specs.Meaning.{MarkedView, are_marks, place_row, module_row, rows}
+use Rattle.marks_file.specs.Marks.{HasRow}
 use Rattle.marks_file.specs.declared.marks.MarkedPlace.{MarkedPlace}
 use Rattle.marks_file.proofs.Parts.{modules_bytes}
 use Rattle.marks_file.proofs.MarksLemmas.{same_bytes, marks_have_rows}
-use Rattle.table_combine.specs.Combine.{Difference, first_difference, SamePlaces, SameTables, unite}
+use Rattle.table_combine.specs.Meaning.{Difference, first_difference, unite}
+use Rattle.table_combine.specs.Combine.{SamePlaces, SameTables}
 use Rattle.table_combine.proofs.DifferenceLemmas.{row_count}
 use Rattle.table_combine.proofs.UnionLemmas.{union_is_marks, length-unite}
 use Rattle.marks_file.proofs.FileLemmas.{one_table}
 use Rattle.table_combine.proofs.LawLemmas.{files_turned}
-use Rattle.brk_table.specs.Places.{TableView, TablesView, first_place, place_count}
-use Rattle.session_book.specs.JobView.{JobView}
-use Rattle.session_book.specs.Sessions.{session_of}
-use Rattle.session_marks.specs.Marked.{marked_module, session_marks, session_rows}
+use Rattle.brk_table.specs.Meaning.{TableView, TablesView, first_place, place_count}
+use Rattle.session_book.specs.Meaning.{JobView, session_of}
+use Rattle.session_marks.specs.Meaning.{marked_module, session_marks, session_rows}
 use Rattle.session_marks.specs.FromFile.{HasSetsAt, HaveSetsAt, IsOwn, IsDecided}
 use Rattle.session_marks.proofs.SetsLemmas.{empty, file_kept, modules_filled, sets_step}
 use Rattle.session_marks.proofs.SessionLemmas.{own_same, sets_one, counts_united}

@@ -1,10 +1,10 @@
 -- The places of a table as a module's.
 use Rattle.std.proofs.Common.{◌≡◌, ℕ, ◌+◌, ◌-◌, ◌≤◌, zero, suc, List, map, [], ◌∷◌, ◌++◌, sym, ap, ◌∙◌, arith}
 use Rattle.std.specs.List.{range_with_len}
-use Rattle.cov_base.specs.FactSet.{FactSet}
+use Rattle.cov_base.specs.Meaning.{FactSet}
 use Rattle.module_area.specs.declared.places.Place.{Place}
 use Rattle.marks_file.specs.declared.marks.MarkedPlace.{MarkedPlace}
-use Rattle.session_marks.specs.Marked.{marked_place}
+use Rattle.session_marks.specs.Meaning.{marked_place}
 
 -- so many places from n on
 abbrev pub marked_places : ℕ → List Place → (ℕ → FactSet) → ℕ → ℕ → List MarkedPlace

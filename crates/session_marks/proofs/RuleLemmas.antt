@@ -3,23 +3,20 @@ use Rattle.std.proofs.Common.{◌≡◌, ◌≢◌, ◌⊎◌, inl, inr, ℕ, �
 use Rattle.std.proofs.lemmas.Bool.Decides.{nat_tests}
 use Rattle.std.proofs.lemmas.List.Elements.{All-tail}
 use Rattle.std.proofs.lemmas.Bool.{lt-ltb, le-leb, eq-eqb}
-use Rattle.cov_base.specs.Codes.{length_of}
-use Rattle.cov_base.specs.FactSet.{FactSet, number_of_facts}
-use Rattle.cov_base.specs.Facts.{is_within}
-use Rattle.cov_base.specs.Memory.{ImageView}
+use Rattle.cov_base.specs.Meaning.{length_of, FactSet, number_of_facts, is_within, ImageView}
 use Rattle.cov_base.specs.declared.facts.Kind.{Kind}
 use Rattle.module_area.specs.Images.{IsImage}
-use Rattle.module_area.specs.PlanView.{place_of}
+use Rattle.module_area.specs.Meaning.{place_of}
 use Rattle.module_area.specs.declared.places.Place.{Place}
 use Rattle.brk_table.specs.Places.{IsPlace}
-use Rattle.marks_file.specs.Marks.{kind_number, is_location, is_length, is_original, is_set, are_places, end_of, is_runs}
+use Rattle.marks_file.specs.Meaning.{kind_number, is_location, is_length, is_original, is_set, are_places, end_of, is_runs}
 use Rattle.marks_file.specs.declared.marks.MarkedPlace.{MarkedPlace}
 use Rattle.marks_file.proofs.Parts.{is_place}
 use Rattle.marks_file.proofs.MarksLemmas.{both}
 use Rattle.marks_file.proofs.SpellLemmas.{set_read}
 use Rattle.table_combine.proofs.UnionLemmas.{small_number}
 use Rattle.session_marks.specs.Fields.{AreHalfwords}
-use Rattle.session_marks.specs.Marked.{marked_place}
+use Rattle.session_marks.specs.Meaning.{marked_place}
 use Rattle.session_marks.proofs.PlaceLemmas.{marked_places}
 
 pub one_run : is_runs 1 ≡ true

@@ -2,11 +2,11 @@
 use Rattle.std.proofs.Common.{◌≡◌, ◌+◌, ◌<◌, ◌≤◌, ℕ, [], ◌∷◌, Some, length, get_or, codes, All, AllPairs, IfSome, refl, inl, arith}
 use Rattle.std.proofs.lemmas.List.Elements.{All-cons, All-nil}
 use Rattle.std.proofs.lemmas.List.Kept.{AllPairs-cons}
-use Rattle.cov_base.specs.Codes.{length_of, kind_of}
-use Rattle.cov_base.specs.Memory.{ImageView}
+use Rattle.cov_base.specs.Meaning.{length_of, kind_of, ImageView}
 use Rattle.cov_base.specs.declared.facts.Kind.TheVariants.{Straight, Conditional}
 use Rattle.module_area.specs.declared.places.Place.{Place}
-use Rattle.brk_table.specs.Places.{TableView, IsPlace, AreApart, ArePlaces, all_places}
+use Rattle.brk_table.specs.Meaning.{TableView, all_places}
+use Rattle.brk_table.specs.Places.{IsPlace, AreApart, ArePlaces}
 use Rattle.brk_table.specs.Together.{IsTableOf, AreTables}
 use Rattle.brk_table.specs.Build.{IsOwn}
 use Rattle.session_marks.specs.Sample.{sample_images, sample_tables, sample_place}

@@ -1,25 +1,22 @@
 -- What the marks of a session say of its table and its sets.
 use Rattle.std.proofs.Common.{◌≡◌, ℕ, ◌+◌, ◌-◌, ◌<◌, zero, suc, true, None, List, [], ◌∷◌, ◌++◌, length, get_or, map, All, refl, ap, sym, ◌∙◌, subst, arith}
 use Rattle.std.proofs.lemmas.List.{get_or-map}
-use Rattle.cov_base.specs.FactSet.{FactSet, number_of_facts}
-use Rattle.cov_base.specs.Facts.{is_within}
+use Rattle.cov_base.specs.Meaning.{FactSet, number_of_facts, is_within}
 use Rattle.cov_base.specs.declared.facts.Kind.{Kind}
-use Rattle.marks_file.specs.Marks.{MarkedView, is_location, is_length, is_original, is_set, are_places, end_of, is_new_name, is_base, is_size, is_count, are_modules, is_module_count, are_marks}
-use Rattle.marks_file.specs.MarksFile.{place_row, module_row, module_rows, rows}
+use Rattle.marks_file.specs.Meaning.{MarkedView, is_location, is_length, is_original, is_set, are_places, end_of, is_new_name, is_base, is_size, is_count, are_modules, is_module_count, are_marks, place_row, module_row, module_rows, rows}
 use Rattle.marks_file.specs.declared.marks.MarkedPlace.{MarkedPlace}
 use Rattle.marks_file.proofs.Parts.{is_place, is_module}
 use Rattle.marks_file.proofs.MarksLemmas.{both-left, both-right}
 use Rattle.marks_file.proofs.SpellLemmas.{set_read}
-use Rattle.module_area.specs.PlanView.{place_of}
+use Rattle.module_area.specs.Meaning.{place_of}
 use Rattle.module_area.specs.declared.places.Place.{Place}
-use Rattle.table_combine.specs.Combine.{first_difference, unite}
+use Rattle.table_combine.specs.Meaning.{first_difference, unite}
 use Rattle.table_combine.proofs.DifferenceLemmas.{row_same}
 use Rattle.table_combine.proofs.UnionLemmas.{same_rows, joined_rows, length-unite_places}
-use Rattle.brk_table.specs.Places.{TablesView, first_place, place_count}
-use Rattle.session_book.specs.JobView.{JobView}
-use Rattle.session_book.specs.Sessions.{module_of, session_of}
+use Rattle.brk_table.specs.Meaning.{TablesView, first_place, place_count}
+use Rattle.session_book.specs.Meaning.{JobView, module_of, session_of}
 use Rattle.session_book.specs.Sets.{AreWithin}
-use Rattle.session_marks.specs.Marked.{marked_place, marked_module, session_marks, session_rows}
+use Rattle.session_marks.specs.Meaning.{marked_place, marked_module, session_marks, session_rows}
 use Rattle.session_marks.proofs.PlaceLemmas.{marked_places}
 use Rattle.session_marks.specs.FromFile.{IsOwn, AreSameAt}
 use Rattle.session_marks.proofs.RuleLemmas.{length-marked_places}

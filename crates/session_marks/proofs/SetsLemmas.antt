@@ -2,17 +2,15 @@
 use Rattle.std.proofs.Common.{◌≡◌, ◌≢◌, ◌⊎◌, inl, inr, ℕ, ◌+◌, ◌<◌, ◌≤◌, zero, suc, Bool, true, false, ◌||◌, List, [], ◌∷◌, length, get_or, map, AllPairs, refl, ap, sym, ◌∙◌, subst, arith}
 use Rattle.std.proofs.lemmas.Bool.{cases_eq, cases_lt}
 use Rattle.std.proofs.lemmas.List.{get_or_default}
-use Rattle.cov_base.specs.FactSet.{FactSet}
-use Rattle.cov_base.specs.Facts.{no_facts, union}
-use Rattle.marks_file.specs.Marks.{MarkedView}
+use Rattle.cov_base.specs.Meaning.{FactSet, no_facts, union}
+use Rattle.marks_file.specs.Meaning.{MarkedView}
 use Rattle.marks_file.specs.declared.marks.MarkedPlace.{MarkedPlace}
 use Rattle.module_area.specs.declared.places.Place.{Place}
-use Rattle.table_combine.specs.Combine.{unite_place, unite_places, unite_module, unite}
-use Rattle.brk_table.specs.Places.{TableView, TablesView, first_place, place_count}
+use Rattle.table_combine.specs.Meaning.{unite_place, unite_places, unite_module, unite}
+use Rattle.brk_table.specs.Meaning.{TableView, TablesView, first_place, place_count}
 use Rattle.brk_table.proofs.RangeLemmas.{first-here, count-here, first-past, count-past}
-use Rattle.session_book.specs.JobView.{JobView}
-use Rattle.session_book.specs.Sessions.{module_of}
-use Rattle.session_marks.specs.Marked.{marked_place, marked_module}
+use Rattle.session_book.specs.Meaning.{JobView, module_of}
+use Rattle.session_marks.specs.Meaning.{marked_place, marked_module}
 use Rattle.session_marks.proofs.PlaceLemmas.{marked_places}
 use Rattle.session_marks.specs.FromFile.{HasSetsAt, HaveSetsAt, IsOutside}
 

@@ -3,9 +3,9 @@ use Rattle.std.proofs.Common.{◌≡◌, ◌≢◌, ◌⊎◌, inl, inr, ℕ, �
 use Rattle.std.proofs.lemmas.Bool.Decides.{nat_tests}
 use Rattle.std.proofs.lemmas.List.{get_or_append_left, get_or-append_right}
 use Rattle.std.proofs.lemmas.List.Elements.{All-tail}
-use Rattle.cov_base.specs.Memory.{ImageView}
-use Rattle.module_area.specs.PlanView.{place_of, no_place}
-use Rattle.brk_table.specs.Places.{TableView, all_places, first_place, place_count}
+use Rattle.cov_base.specs.Meaning.{ImageView}
+use Rattle.module_area.specs.Meaning.{place_of, no_place}
+use Rattle.brk_table.specs.Meaning.{TableView, all_places, first_place, place_count}
 use Rattle.brk_table.specs.Together.{IsTableOf}
 use Rattle.brk_table.proofs.RangeLemmas.{first-here, count-here, first-past, count-past}
 

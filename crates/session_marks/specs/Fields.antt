@@ -1,7 +1,7 @@
 -- The rules of a marks file that a module keeps whatever other modules the file has.
 use Rattle.std.specs.Prelude.{◌≡◌, ◌<◌, true, List, All}
-use Rattle.cov_base.specs.Names.{is_filled}
-use Rattle.marks_file.specs.Marks.{MarkedView, are_places}
+use Rattle.cov_base.specs.Meaning.{is_filled}
+use Rattle.marks_file.specs.Meaning.{MarkedView, are_places}
 use Rattle.marks_file.specs.declared.marks.MarkedPlace.{MarkedPlace}
 
 abbrev pub AreHalfwords : List MarkedPlace → Type 0

@@ -1,8 +1,8 @@
 -- Marks with other sets at their places.
 use Rattle.std.specs.Prelude.{ℕ, ◌+◌, ◌≤◌, List, [], ◌∷◌, length}
-use Rattle.cov_base.specs.FactSet.{FactSet}
-use Rattle.brk_table.specs.Places.{TablesView, first_place}
-use Rattle.marks_file.specs.Marks.{MarkedView}
+use Rattle.cov_base.specs.Meaning.{FactSet}
+use Rattle.brk_table.specs.Meaning.{TablesView, first_place}
+use Rattle.marks_file.specs.Meaning.{MarkedView}
 use Rattle.marks_file.specs.declared.marks.MarkedPlace.{MarkedPlace}
 
 -- from number n on

@@ -1,16 +1,14 @@
 -- The sets that a marks file has for a session, and why a file is none of the session's: by its modules alone, whatever
 -- name and runs it has.
 use Rattle.std.specs.Prelude.{◌≡◌, ◌⊎◌, ℕ, ◌+◌, ◌<◌, ◌≤◌, true, Some, None, List, length, get_or, All}
-use Rattle.cov_base.specs.FactSet.{FactSet}
-use Rattle.cov_base.specs.Facts.{no_facts}
-use Rattle.marks_file.specs.Marks.{MarkedView, are_marks}
-use Rattle.marks_file.specs.MarksFile.{rows}
+use Rattle.cov_base.specs.Meaning.{FactSet, no_facts}
+use Rattle.marks_file.specs.Meaning.{MarkedView, are_marks, rows}
 use Rattle.marks_file.specs.declared.marks.MarkedPlace.{MarkedPlace}
-use Rattle.table_combine.specs.Combine.{first_difference, difference_of}
-use Rattle.brk_table.specs.Places.{TableView, TablesView, first_place, place_count}
-use Rattle.session_book.specs.JobView.{JobView}
-use Rattle.session_book.specs.Sessions.{session_of}
-use Rattle.session_marks.specs.Marked.{session_marks, session_rows}
+use Rattle.table_combine.specs.Meaning.{first_difference}
+use Rattle.table_combine.specs.Combine.{difference_of}
+use Rattle.brk_table.specs.Meaning.{TableView, TablesView, first_place, place_count}
+use Rattle.session_book.specs.Meaning.{JobView, session_of}
+use Rattle.session_marks.specs.Meaning.{session_marks, session_rows}
 use Rattle.session_marks.specs.declared.from_file.SetsFault.{SetsFault}
 use Rattle.session_marks.specs.declared.from_file.SetsFault.TheVariants.{Other, NoMemory}
 

@@ -1,5 +1,5 @@
 pub mod Fields
 pub mod Filled
 pub mod FromFile
-pub mod Marked
+pub mod Meaning
 pub mod Sample

@@ -1,10 +1,10 @@
 -- The modules and tables that tests are made of.
 use Rattle.std.specs.Prelude.{ℕ, Some, List, [], ◌∷◌, codes}
-use Rattle.cov_base.specs.Memory.{ImageView}
+use Rattle.cov_base.specs.Meaning.{ImageView}
 use Rattle.cov_base.specs.declared.facts.Kind.{Kind}
 use Rattle.cov_base.specs.declared.facts.Kind.TheVariants.{Straight, Conditional}
 use Rattle.module_area.specs.declared.places.Place.{Place}
-use Rattle.brk_table.specs.Places.{TableView}
+use Rattle.brk_table.specs.Meaning.{TableView}
 
 abbrev pub sample_images : List ImageView
 sample_images =

@@ -1,10 +1,10 @@
 //! The sets of a run, put where the marks of a session stand.
 ghost use Rattle.std.specs.Prelude.{◌≡◌, ◌+◌, ◌<◌, ◌≤◌, length};
 ghost use Rattle.brk_table.specs.Together.{AreTables};
-ghost use Rattle.cov_base.specs.Facts.{no_facts};
+ghost use Rattle.cov_base.specs.Meaning.{no_facts};
 ghost use Rattle.session_book.specs.Sets.{HasSetsOf};
 ghost use Rattle.session_marks.specs.Filled.{with_sets, filled_module, AreThere, filled};
-ghost use Rattle.session_marks.specs.Marked.{session_file};
+ghost use Rattle.session_marks.specs.Meaning.{session_file};
 
 use crate::marking::modules_of;
 use brk_table::Tables;

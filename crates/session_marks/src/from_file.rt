@@ -1,12 +1,12 @@
 //! The sets of a session that a marks file has.
 ghost use Rattle.std.specs.Prelude.{◌≡◌, ◌≢◌, ◌⊎◌, ℕ, ◌+◌, ◌<◌, ◌≤◌, length, get_or, replicate, AllPairs, IfOk, IfErr};
-ghost use Rattle.cov_base.specs.Facts.{no_facts};
-ghost use Rattle.brk_table.specs.Places.{place_count};
+ghost use Rattle.cov_base.specs.Meaning.{no_facts};
+ghost use Rattle.brk_table.specs.Meaning.{place_count};
 ghost use Rattle.brk_table.specs.Together.{AreTables};
-ghost use Rattle.marks_file.specs.Marks.{MarkedView};
-ghost use Rattle.session_book.specs.Sessions.{session_of};
+ghost use Rattle.marks_file.specs.Meaning.{MarkedView};
+ghost use Rattle.session_book.specs.Meaning.{session_of};
 ghost use Rattle.session_book.specs.Sets.{HasSetsOf};
-ghost use Rattle.session_marks.specs.Marked.{session_marks};
+ghost use Rattle.session_marks.specs.Meaning.{session_marks};
 ghost use Rattle.session_marks.specs.FromFile.{set_at, sets_of_one, HasSetsAt, HaveSetsAt, AreEmptyElsewhere, IsSetsFault, IsDecided};
 
 use crate::marking::marks_of;

@@ -2,11 +2,11 @@
 ghost use Rattle.std.specs.Prelude.{◌≡◌, ℕ, ◌+◌, ◌-◌, ◌<◌, ◌≤◌, length, map, All, IfOk};
 ghost use Rattle.std.specs.List.{range_with_len};
 ghost use Rattle.brk_table.specs.Together.{AreTables};
-ghost use Rattle.module_area.specs.PlanView.{place_of};
+ghost use Rattle.module_area.specs.Meaning.{place_of};
 ghost use Rattle.session_book.specs.JobView.{IsJob, IsSession};
-ghost use Rattle.session_book.specs.Sessions.{module_of, session_of};
+ghost use Rattle.session_book.specs.Meaning.{module_of, session_of};
 ghost use Rattle.session_book.specs.Sets.{HasSetsOf, AreWithin};
-ghost use Rattle.session_marks.specs.Marked.{marked_place, marked_module, session_file};
+ghost use Rattle.session_marks.specs.Meaning.{marked_place, marked_module, session_file};
 ghost use Rattle.session_marks.specs.Fields.{HasGoodFields, AreHalfwords};
 
 use brk_table::Tables;

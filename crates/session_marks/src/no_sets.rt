@@ -1,5 +1,5 @@
 //! The sets of a job before anything was executed.
-ghost use Rattle.cov_base.specs.Facts.{no_facts};
+ghost use Rattle.cov_base.specs.Meaning.{no_facts};
 
 use cov_base::{Bits, PlaceNo, SessNo};
 use session_book::FactSets;

@@ -1,8 +1,8 @@
 //! A session of three modules, one of them without a listing, whose card has them in another order than the job. The
 //! job and its tables are made by hand.
 ghost use Rattle.std.specs.Prelude.{◌≡◌, ◌≤◌, ◌∷◌, [], Some, length, IfOk};
-ghost use Rattle.cov_base.specs.Names.{padded};
-ghost use Rattle.session_book.specs.Sessions.{session_of};
+ghost use Rattle.cov_base.specs.Meaning.{padded};
+ghost use Rattle.session_book.specs.Meaning.{session_of};
 ghost use Rattle.session_marks.specs.Sample.{sample_images, sample_tables};
 
 use brk_table::{LinePlaces, Table, Tables};

@@ -1,6 +1,6 @@
 //! The marks of the sample's session.
 ghost use Rattle.std.specs.Prelude.{nat_eq, if◌then◌else◌};
-ghost use Rattle.cov_base.specs.Facts.{no_facts, with_fact};
+ghost use Rattle.cov_base.specs.Meaning.{no_facts, with_fact};
 ghost use Rattle.cov_base.specs.declared.facts.Fact.TheVariants.{Ran, Went};
 
 use crate::sample::{job, tables};

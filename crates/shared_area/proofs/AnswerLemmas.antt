@@ -2,14 +2,13 @@
 use Rattle.std.proofs.Common.{◌≡◌, ◌≢◌, ◌⊎◌, ℕ, ◌+◌, ◌*◌, ◌/◌, ◌<◌, ◌≤◌, Bool, true, false, not, ◌&&◌, nat_lt, None, List, length, refl, ap, subst, inl, inr, ⊎_elim, arith, ltb-true}
 use mathlib.Core.Option.{some}
 use lib.ListN.{get_elem?}
-use Rattle.cov_base.specs.FactSet.{FactSet}
-use Rattle.cov_base.specs.Facts.{is_within}
-use Rattle.cov_base.specs.Codes.{breakpoint}
+use Rattle.cov_base.specs.Meaning.{FactSet, is_within, breakpoint}
 use Rattle.module_area.specs.declared.cells.Cell.{Cell}
 use Rattle.module_area.specs.declared.parties.View.{View}
 use Rattle.module_area.specs.declared.parties.Role.{Role}
 use Rattle.module_area.specs.declared.parties.Role.TheVariants.{Root, Task, Spent}
-use Rattle.module_area.specs.PlanView.{PlanView, IsPlan, original_at, kind_at, window_at, is_over}
+use Rattle.module_area.specs.Meaning.{PlanView, original_at, kind_at, window_at, is_over}
+use Rattle.module_area.specs.PlanView.{IsPlan}
 use Rattle.module_area.specs.Parties.{Has, last_tag, window_tag}
 use Rattle.module_area.specs.Held.{planted, IsForm, KeepsAs, Keeps, Held}
 use Rattle.module_area.specs.declared.tallies.Tally.{Tally}

@@ -13,10 +13,10 @@ use Rattle.cov_base.specs.declared.facts.Fact.{Fact}
 use Rattle.cov_base.specs.declared.facts.Fact.TheVariants.{Ran, Went, Stayed}
 use Rattle.cov_base.specs.declared.facts.Kind.{Kind}
 use Rattle.cov_base.specs.declared.facts.Kind.TheVariants.{Straight, Conditional}
-use Rattle.cov_base.specs.FactSet.{FactSet}
-use Rattle.cov_base.specs.Facts.{has_fact, no_facts}
+use Rattle.cov_base.specs.Meaning.{FactSet, has_fact, no_facts}
 use Rattle.module_area.specs.declared.parties.Role.TheVariants.{Root}
-use Rattle.module_area.specs.PlanView.{PlanView, IsPlan, original_at, kind_at, no_place, has_task}
+use Rattle.module_area.specs.Meaning.{PlanView, original_at, kind_at, no_place}
+use Rattle.module_area.specs.PlanView.{IsPlan, has_task}
 use Rattle.module_area.specs.Parties.{blank}
 use Rattle.module_area.specs.Held.{untouched}
 use Rattle.module_area.proofs.BeginLemmas.{begins, begins_drained}

@@ -4,13 +4,13 @@ use prog.Atomic.{either}
 use Rattle.atomic_table.specs.Table.{Allows}
 use Rattle.atomic_table.specs.declared.shared.Seat.{Seat}
 use Rattle.cov_base.specs.declared.facts.Fact.{Fact}
-use Rattle.cov_base.specs.FactSet.{FactSet}
-use Rattle.cov_base.specs.Codes.{breakpoint}
+use Rattle.cov_base.specs.Meaning.{FactSet, breakpoint}
 use Rattle.module_area.specs.declared.parties.View.{View}
 use Rattle.module_area.specs.declared.parties.Role.{Role}
 use Rattle.module_area.specs.declared.parties.Role.TheVariants.{Root, Task, Spent}
 use Rattle.module_area.specs.declared.tallies.Tally.{Tally}
-use Rattle.module_area.specs.PlanView.{PlanView, original_at, kind_at, has_task, is_over, is_controlled}
+use Rattle.module_area.specs.Meaning.{PlanView, original_at, kind_at, is_over, is_controlled}
+use Rattle.module_area.specs.PlanView.{has_task}
 use Rattle.module_area.specs.Notes.{own_number, is_working}
 use Rattle.module_area.specs.Parties.{Has, add_if, last_tag, window_tag, fetching, marking, lifting, tagging, giving, role_task}
 use Rattle.module_area.specs.Held.{Keeps}

@@ -9,14 +9,12 @@ use Rattle.std.proofs.lemmas.List.{get_or-take, length-map}
 use Rattle.std.proofs.lemmas.Nat.{div-add-mod', div-mul-add, mod-mul-add}
 use Rattle.atomic_table.specs.Table.{State, Final, Seen}
 use Rattle.cov_base.specs.declared.facts.Fact.{Fact}
-use Rattle.cov_base.specs.FactSet.{FactSet}
-use Rattle.cov_base.specs.Facts.{has_fact, is_full, is_within, no_facts}
+use Rattle.cov_base.specs.Meaning.{FactSet, has_fact, is_full, is_within, no_facts}
 use Rattle.module_area.specs.declared.parties.View.{View}
 use Rattle.module_area.specs.declared.parties.Role.TheVariants.{Root}
 use Rattle.module_area.specs.declared.tallies.Tally.{Tally}
-use Rattle.module_area.specs.PlanView.{PlanView, kind_at, window_at}
+use Rattle.module_area.specs.Meaning.{PlanView, kind_at, window_at, FinalsView, set_at}
 use Rattle.module_area.specs.Parties.{Has}
-use Rattle.module_area.specs.FinalsView.{FinalsView, set_at}
 use Rattle.module_area.specs.Held.{Held}
 use Rattle.module_area.specs.Drained.{Drained}
 use Rattle.module_area.specs.Ended.{AreSettled, HasSets, HasTally}

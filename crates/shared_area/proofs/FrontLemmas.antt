@@ -12,12 +12,12 @@ use prog.Atomic.{either}
 use Rattle.atomic_table.proofs.Lists.{set_else, set_again}
 use Rattle.atomic_table.specs.Table.{State, Me, Allows, Splits, Joins, carried_after}
 use Rattle.cov_base.specs.declared.facts.Fact.{Fact}
-use Rattle.cov_base.specs.Facts.{has_fact}
-use Rattle.cov_base.specs.Codes.{breakpoint}
+use Rattle.cov_base.specs.Meaning.{has_fact, breakpoint}
 use Rattle.module_area.specs.declared.cells.Cell.{Cell}
 use Rattle.module_area.specs.declared.parties.View.{View}
 use Rattle.module_area.specs.declared.parties.Role.TheVariants.{Root, Task, Spent}
-use Rattle.module_area.specs.PlanView.{PlanView, original_at, kind_at, has_task, is_over, is_controlled}
+use Rattle.module_area.specs.Meaning.{PlanView, original_at, kind_at, is_over, is_controlled}
+use Rattle.module_area.specs.PlanView.{has_task}
 use Rattle.module_area.specs.Parties.{Has, last_tag, window_tag, blank, is_breakpoint, fetching, marking, lifting, planting, closing, giving, newcomer, joining}
 use Rattle.module_area.specs.Held.{Keeps, Held}
 use Rattle.module_area.specs.Drained.{Drained}

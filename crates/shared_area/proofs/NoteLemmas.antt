@@ -3,14 +3,14 @@ use Rattle.std.proofs.Common.{◌≡◌, ◌⊎◌, ℕ, ◌+◌, ◌*◌, ◌%�
 use mathlib.Core.Path.{fun_ext}
 use Rattle.std.proofs.lemmas.List.{map-append}
 use Rattle.cov_base.specs.declared.facts.Fact.{Fact}
-use Rattle.cov_base.specs.FactSet.{FactSet}
-use Rattle.cov_base.specs.Facts.{same_fact, is_full, with_fact}
+use Rattle.cov_base.specs.Meaning.{FactSet, same_fact, is_full, with_fact}
 use Rattle.module_area.specs.declared.cells.Cell.{Cell}
 use Rattle.module_area.specs.declared.parties.View.{View}
 use Rattle.module_area.specs.declared.parties.Role.TheVariants.{Task}
 use Rattle.module_area.specs.declared.tallies.Tally.{Tally}
-use Rattle.module_area.specs.PlanView.{PlanView, original_at, kind_at, is_controller}
-use Rattle.module_area.specs.Parties.{Has, add_if, is_lifted, tag_session, window_tag, last_tag, chosen, fetching, marking, planting, closing, giving, newcomer, joining, bounding, role_task}
+use Rattle.module_area.specs.Meaning.{PlanView, original_at, kind_at, tag_session}
+use Rattle.module_area.specs.PlanView.{is_controller}
+use Rattle.module_area.specs.Parties.{Has, add_if, is_lifted, window_tag, last_tag, chosen, fetching, marking, planting, closing, giving, newcomer, joining, bounding, role_task}
 use Rattle.module_area.specs.Notes.{no_tally, is_free_under, after_fetch, after_mark, after_plant, after_close, after_split, split_notes, after_boundary, after_join, bearer, same_bit, same_set}
 use Rattle.module_area.proofs.Indices.{and_left, and_right, and_both, same_tests}
 use Rattle.module_area.proofs.FactLemmas.{same_fact-true}

@@ -7,14 +7,15 @@ use mathlib.Core.Option.{some}
 use mathlib.Core.Logic.{dite}
 use native.Mathlib.Decide.{dec_le}
 use lib.ListN.{get_elem?}
-use Rattle.cov_base.specs.FactSet.{FactSet}
+use Rattle.cov_base.specs.Meaning.{FactSet}
 use Rattle.cov_base.specs.declared.numbers.PlaceNo.{PlaceNo}
 use Rattle.cov_base.specs.declared.numbers.TaskNo.{TaskNo}
 use Rattle.module_area.specs.declared.cells.Cell.{Cell}
 use Rattle.module_area.specs.declared.parties.View.{View}
 use Rattle.module_area.specs.declared.parties.Role.{Role}
 use Rattle.module_area.specs.declared.parties.Role.TheVariants.{Root, Task, Spent}
-use Rattle.module_area.specs.PlanView.{PlanView, ControlledView, has_task, is_controlled}
+use Rattle.module_area.specs.Meaning.{PlanView, ControlledView, is_controlled}
+use Rattle.module_area.specs.PlanView.{has_task}
 use Rattle.module_area.specs.Parties.{Has, window_tag}
 use Rattle.module_area.specs.Held.{Held}
 use Rattle.module_area.specs.Drained.{Noted, IsOverAt, IsClosed, IsPast, Drained}

@@ -3,8 +3,8 @@ use Rattle.std.specs.Prelude.{◌≡◌, ℕ, ◌+◌, ◌-◌, ◌/◌, ◌≤�
 use Rattle.atomic_table.specs.Table.{State}
 use Rattle.cov_base.specs.declared.numbers.TaskNo.{TaskNo}
 use Rattle.module_area.specs.declared.parties.View.{View}
-use Rattle.module_area.specs.PlanView.{PlanView}
-use Rattle.module_area.specs.Parties.{last_tag, role_task, tagging, bounding, noting, tag_session}
+use Rattle.module_area.specs.Meaning.{PlanView, tag_session}
+use Rattle.module_area.specs.Parties.{last_tag, role_task, tagging, bounding, noting}
 use Rattle.module_area.specs.Notes.{IsWord, no_tally}
 use Rattle.module_area.specs.Held.{Held}
 use Rattle.shared_area.specs.declared.rule.NoSlot.{NoSlot}

@@ -1,7 +1,7 @@
 -- What waits for a pass is of a session of the plan, and its word is its task's.
 use Rattle.std.proofs.Common.{◌≡◌, ℕ, ◌-◌, ◌*◌, ◌≤◌, Bool, true, false, if◌then◌else◌, Some, None, sym, ap, subst, arith}
 use Rattle.module_area.specs.declared.parties.View.{View}
-use Rattle.module_area.specs.PlanView.{PlanView}
+use Rattle.module_area.specs.Meaning.{PlanView}
 use Rattle.module_area.specs.Parties.{is_breakpoint}
 use Rattle.shared_area.specs.Words.{cell_of}
 use Rattle.shared_area.specs.Passes.{IsWithin, HasWord}

@@ -5,9 +5,8 @@ use native.Mathlib.Decide.{ℕ_discrete, dec_le}
 use Rattle.std.proofs.lemmas.List.Sums.{sum_by-cons, sum_by-set}
 use Rattle.cov_base.specs.declared.facts.Fact.{Fact}
 use Rattle.cov_base.specs.declared.facts.Fact.TheVariants.{Ran, Went, Stayed}
-use Rattle.cov_base.specs.FactSet.{FactSet}
-use Rattle.cov_base.specs.Facts.{has_fact, no_facts}
-use Rattle.module_area.specs.Counts.{count_below, count_pairs, fact_count}
+use Rattle.cov_base.specs.Meaning.{FactSet, has_fact, no_facts}
+use Rattle.module_area.specs.Meaning.{count_below, count_pairs, fact_count}
 use Rattle.module_area.proofs.CountLemmas.{count_same}
 use Rattle.module_area.specs.Parties.{Has, times}
 

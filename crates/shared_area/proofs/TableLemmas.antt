@@ -9,11 +9,10 @@ use prog.Atomic.{either}
 use Rattle.atomic_table.proofs.Lists.{set_again}
 use Rattle.atomic_table.specs.Table.{State, Me, keeps, Allows}
 use Rattle.cov_base.specs.declared.facts.Fact.{Fact}
-use Rattle.cov_base.specs.Facts.{has_fact}
-use Rattle.cov_base.specs.Codes.{breakpoint}
+use Rattle.cov_base.specs.Meaning.{has_fact, breakpoint}
 use Rattle.module_area.specs.declared.parties.View.{View}
 use Rattle.module_area.specs.declared.parties.Role.TheVariants.{Spent}
-use Rattle.module_area.specs.PlanView.{PlanView, original_at, kind_at, is_over, is_controlled}
+use Rattle.module_area.specs.Meaning.{PlanView, original_at, kind_at, is_over, is_controlled}
 use Rattle.module_area.specs.Parties.{Has, last_tag, window_tag, fetching, marking, lifting, planting, closing}
 use Rattle.module_area.specs.Held.{planted, lifted, Keeps}
 use Rattle.module_area.proofs.CellLemmas.{lifts, plants, closes}

@@ -6,8 +6,9 @@ use Rattle.atomic_table.specs.Table.{Me, keeps, Allows}
 use Rattle.module_area.specs.declared.parties.View.{View}
 use Rattle.module_area.specs.declared.parties.Role.{Role}
 use Rattle.module_area.specs.declared.parties.Role.TheVariants.{Root, Task, Spent}
-use Rattle.cov_base.specs.FactSet.{FactSet}
-use Rattle.module_area.specs.PlanView.{PlanView, kind_at, has_task}
+use Rattle.cov_base.specs.Meaning.{FactSet}
+use Rattle.module_area.specs.Meaning.{PlanView, kind_at}
+use Rattle.module_area.specs.PlanView.{has_task}
 use Rattle.module_area.specs.Parties.{last_tag, role_task, bounding, noting, reading}
 use Rattle.module_area.specs.Held.{Held}
 use Rattle.module_area.specs.Drained.{Noted, IsNumber, Drained}

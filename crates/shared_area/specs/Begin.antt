@@ -1,9 +1,8 @@
 -- The words of a new area, and the sets of an ended one.
 use Rattle.std.specs.Prelude.{◌≡◌, ℕ, ◌+◌, ◌-◌, ◌/◌, ◌%◌, ◌<◌, List, ◌++◌, map, length, replicate, get_or}
-use Rattle.cov_base.specs.FactSet.{FactSet}
-use Rattle.cov_base.specs.Facts.{no_facts}
+use Rattle.cov_base.specs.Meaning.{FactSet, no_facts}
 use Rattle.module_area.specs.declared.places.Place.{Place}
-use Rattle.module_area.specs.PlanView.{PlanView, original_at}
+use Rattle.module_area.specs.Meaning.{PlanView, original_at}
 use Rattle.shared_area.specs.Words.{word_count, sets_in}
 
 abbrev pub original_of : Place → ℕ

@@ -1,6 +1,7 @@
 -- A place under two sessions of task 1.
 use Rattle.std.specs.Prelude.{◌≡◌, ℕ, true}
-use Rattle.module_area.specs.PlanView.{PlanView, is_controlled, is_controller}
+use Rattle.module_area.specs.Meaning.{PlanView, is_controlled}
+use Rattle.module_area.specs.PlanView.{is_controller}
 
 pub record IsTwice (plan : PlanView) (p : ℕ) : Type 0 where
   pub first : is_controlled plan 1 p ≡ true

@@ -2,11 +2,11 @@
 use Rattle.std.specs.Prelude.{◌≡◌, ◌≢◌, ℕ, ◌+◌, ◌*◌, ◌<◌, ◌≤◌, true, false, nat_eq, Some, length}
 use Rattle.atomic_table.specs.Table.{State}
 use Rattle.cov_base.specs.declared.facts.Fact.{Fact}
-use Rattle.cov_base.specs.FactSet.{FactSet}
-use Rattle.cov_base.specs.Facts.{has_fact, is_of_kind}
+use Rattle.cov_base.specs.Meaning.{FactSet, has_fact}
+use Rattle.cov_base.specs.Facts.{is_of_kind}
 use Rattle.module_area.specs.declared.parties.Role.TheVariants.{Spent}
 use Rattle.module_area.specs.declared.parties.View.{View}
-use Rattle.module_area.specs.PlanView.{PlanView, kind_at}
+use Rattle.module_area.specs.Meaning.{PlanView, kind_at}
 use Rattle.module_area.specs.Parties.{window_tag, fetching, marking, lifting, reading}
 use Rattle.module_area.specs.Notes.{IsAnswer, IsFound, is_final, no_tally}
 use Rattle.module_area.specs.Held.{Held}

@@ -1,8 +1,7 @@
 -- What a contract sees of a party.
 use Rattle.std.specs.Prelude.{ℕ, Bool, true, false, not, ◌&&◌, ◌||◌, nat_eq, if◌then◌else◌, Option, Some, None, List, [], ◌∷◌, map, max}
 use Rattle.cov_base.specs.declared.facts.Fact.{Fact}
-use Rattle.cov_base.specs.FactSet.{FactSet}
-use Rattle.cov_base.specs.Facts.{same_fact}
+use Rattle.cov_base.specs.Meaning.{FactSet, same_fact}
 use Rattle.module_area.specs.declared.parties.Role.{Role}
 use Rattle.module_area.specs.declared.parties.Role.TheVariants.{Task}
 use Rattle.module_area.specs.declared.parties.View.{View}

@@ -2,7 +2,7 @@
 ghost use Rattle.std.specs.Prelude.{◌≡◌, ℕ, false, [], IfOk};
 ghost use Rattle.std.specs.declared.option.Option.TheVariants.{None};
 ghost use Rattle.module_area.specs.Notes.{root_notes};
-ghost use Rattle.module_area.specs.FinalsView.{set_at};
+ghost use Rattle.module_area.specs.Meaning.{set_at};
 ghost use Rattle.module_area.specs.Ended.{AreSettled, HasSets, HasTally};
 ghost use Rattle.shared_area.specs.Passes.{notes_of, IsPassOf};
 

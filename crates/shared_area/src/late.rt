@@ -2,7 +2,8 @@
 ghost use Rattle.std.specs.Prelude.{◌≡◌, ℕ, ◌+◌, ◌-◌, ◌*◌, ◌<◌, ◌≤◌, ◌^◌, true, length, [], ◌∷◌, IfOk, IfSome};
 ghost use Rattle.std.specs.declared.option.Option.TheVariants.{Some, None};
 ghost use Rattle.cov_base.specs.declared.facts.Kind.TheVariants.{Straight};
-ghost use Rattle.module_area.specs.PlanView.{kind_at, has_task};
+ghost use Rattle.module_area.specs.Meaning.{kind_at};
+ghost use Rattle.module_area.specs.PlanView.{has_task};
 ghost use Rattle.shared_area.specs.Late.{IsTwice};
 ghost use Rattle.module_area.specs.Notes.{calls, is_working};
 

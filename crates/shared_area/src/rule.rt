@@ -1,7 +1,7 @@
 //! The rule of the words, and what a call picks of a step.
 ghost use Rattle.std.specs.Prelude.{◌≡◌, ℕ};
 ghost use Rattle.cov_base.specs.declared.facts.Fact.{Fact};
-ghost use Rattle.module_area.specs.PlanView.{PlanView, kind_at};
+ghost use Rattle.module_area.specs.Meaning.{PlanView, kind_at};
 
 use atomic_table::{Join, Play, Split, TableRule};
 use module_area::{Plan, View};

@@ -2,8 +2,8 @@
 use Rattle.std.proofs.Common.{◌≡◌, ℕ, ◌<◌, ◌-◌, zero, suc, true, false, List, [], ◌∷◌, length, get_or, slice_index, refl, arith}
 use Rattle.std.specs.List.{list_any}
 use Rattle.std.proofs.lemmas.Bool.{or_from}
-use Rattle.cov_base.specs.Memory.{ImageView}
-use Rattle.brk_table.specs.Places.{in_image, image_byte}
+use Rattle.cov_base.specs.Meaning.{ImageView}
+use Rattle.brk_table.specs.Meaning.{in_image, image_byte}
 
 -- the first module that has the address gives its byte
 pub image_byte-first : (images : List ImageView) (d : ImageView) (n a : ℕ) → n < length images → in_image (get_or images n d) a ≡ true → ((k : ℕ) (d : ImageView) → k < n → in_image (get_or images k d) a ≡ false) → image_byte images a ≡ slice_index (get_or images n d).bytes (a - (get_or images n d).base)

@@ -2,14 +2,13 @@
 use Rattle.std.proofs.Common.{◌≡◌, ℕ, ◌+◌, ◌-◌, ◌*◌, ◌/◌, ◌%◌, ◌<◌, ◌≤◌, true, false, nat_lt, if◌then◌else◌, List, length, get_or, slice_index, refl, ap, ◌∙◌, arith, inl, inr, Bool}
 use Rattle.std.specs.List.{All}
 use Rattle.std.proofs.lemmas.Bool.{cases_lt, lt-ltb, le-ltb}
-use Rattle.cov_base.specs.Codes.{length_of}
-use Rattle.cov_base.specs.Memory.{Memory, ImageView, wrap, byte_at}
+use Rattle.cov_base.specs.Meaning.{length_of, Memory, ImageView, wrap, byte_at}
 use Rattle.s370_decode.specs.declared.code.Code.{Code}
 use Rattle.module_area.specs.declared.places.Place.{Place}
-use Rattle.module_area.specs.PlanView.{no_place, place_of}
+use Rattle.module_area.specs.Meaning.{no_place, place_of}
 use Rattle.module_area.specs.Images.{AreImages}
-use Rattle.brk_table.specs.Places.{TablesView, IsPlace, ArePlaces, IsIn, touches, memory_of}
-use Rattle.brk_table.specs.Build.{module_byte, module_code}
+use Rattle.brk_table.specs.Meaning.{TablesView, touches, memory_of, module_byte, module_code}
+use Rattle.brk_table.specs.Places.{IsPlace, ArePlaces, IsIn}
 use Rattle.brk_table.specs.Kept.{code_in, code_by, later_half, IsCodeOf, AreCodes, IsKept, AreKept}
 use Rattle.brk_table.proofs.PlaceLemmas.{length_of-least}
 use Rattle.brk_table.proofs.TouchLemmas.{not_touched}

@@ -4,12 +4,12 @@ use Rattle.std.specs.List.{All, AllPairs, Contains, list_any}
 use Rattle.std.proofs.lemmas.Bool.Decides.{nat_tests}
 use Rattle.std.proofs.lemmas.List.Elements.{All-get_or}
 use Rattle.std.proofs.lemmas.List.{get_or_read}
-use Rattle.cov_base.specs.Codes.{length_of}
-use Rattle.cov_base.specs.Memory.{ImageView, wrap, byte_at}
+use Rattle.cov_base.specs.Meaning.{length_of, ImageView, wrap, byte_at}
 use Rattle.module_area.specs.declared.places.Place.{Place}
-use Rattle.module_area.specs.PlanView.{no_place}
+use Rattle.module_area.specs.Meaning.{no_place}
 use Rattle.module_area.specs.Images.{AreImages, AreClear}
-use Rattle.brk_table.specs.Places.{IsPlace, ArePlaces, IsIn, IsSeen, AreSeen, in_image, image_byte, memory_of}
+use Rattle.brk_table.specs.Meaning.{in_image, image_byte, memory_of}
+use Rattle.brk_table.specs.Places.{IsPlace, ArePlaces, IsIn, IsSeen, AreSeen}
 use Rattle.space_map.proofs.Ranges.{reach_image}
 use Rattle.space_map.proofs.Touches.{base_from}
 

@@ -5,12 +5,12 @@ use Rattle.std.proofs.lemmas.Bool.Decides.{nat_tests}
 use Rattle.std.proofs.lemmas.List.{length-set}
 use Rattle.std.proofs.Math.Seq.{take-append_seam}
 use Rattle.std.proofs.lemmas.Bool.{le-leb, lt-leb, lt-ltb}
-use Rattle.cov_base.specs.Memory.{Memory, ImageView, wrap, byte_at, can_reach, can_store, first_touch}
+use Rattle.cov_base.specs.Meaning.{Memory, ImageView, wrap, byte_at, can_reach, can_store, first_touch}
 use Rattle.s370_state.specs.Answers.{first_answer}
-use Rattle.s370_state.specs.Words.{number_at, store_number}
+use Rattle.s370_state.specs.Meaning.{number_at, store_number}
 use Rattle.s370_state.proofs.Tested.{word_of_bytes, word_stored}
 use Rattle.module_area.specs.declared.places.Place.{Place}
-use Rattle.brk_table.specs.Places.{memory_of, in_image, image_byte}
+use Rattle.brk_table.specs.Meaning.{memory_of, in_image, image_byte}
 use Rattle.space_map.specs.Space.{SpaceView, memory_of_space}
 use Rattle.space_map.specs.Inside.{IsSpace}
 use Rattle.space_map.proofs.Ranges.{reach_private, reach_image, store_private, store_outside, touch_private}

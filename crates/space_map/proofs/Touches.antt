@@ -5,11 +5,12 @@ use Rattle.std.specs.List.{All}
 use Rattle.std.specs.Option.{IsNone, is_some}
 use Rattle.std.proofs.lemmas.Bool.Decides.{nat_tests}
 use Rattle.std.proofs.lemmas.List.Elements.{All-head, All-tail, All-get_or}
-use Rattle.cov_base.specs.Memory.{Memory, ImageView, wrap, first_touch}
+use Rattle.cov_base.specs.Meaning.{Memory, ImageView, wrap, first_touch}
 use Rattle.module_area.specs.declared.places.Place.{Place}
-use Rattle.module_area.specs.Executions.{is_place}
+use Rattle.module_area.specs.Meaning.{is_place}
 use Rattle.module_area.specs.Images.{IsImage, AreImages}
-use Rattle.brk_table.specs.Places.{IsPlace, IsIn, touches, memory_of}
+use Rattle.brk_table.specs.Meaning.{touches, memory_of}
+use Rattle.brk_table.specs.Places.{IsPlace, IsIn}
 
 or_false : (b : Bool) → (b || false) ≡ b
 or_false true = refl

@@ -1,8 +1,8 @@
 -- What contracts see of a task's space, and the bytes that it begins with.
 use Rattle.std.specs.Prelude.{ℕ, ◌*◌, List, length, take, drop}
-use Rattle.cov_base.specs.Memory.{Memory, ImageView, half_at}
+use Rattle.cov_base.specs.Meaning.{Memory, ImageView, half_at}
 use Rattle.module_area.specs.declared.places.Place.{Place}
-use Rattle.brk_table.specs.Places.{memory_of}
+use Rattle.brk_table.specs.Meaning.{memory_of}
 
 -- private storage's bytes, the modules, and their places
 pub record SpaceView : Type 0 where

@@ -1,7 +1,7 @@
 //! The bytes that private storage begins with.
 ghost use Rattle.std.specs.Prelude.{◌≡◌, ◌+◌, ◌≤◌, length, All, IfOk};
-ghost use Rattle.s370_state.specs.Words.{store_number};
-ghost use Rattle.module_area.specs.Views.{with_card, first_bytes};
+ghost use Rattle.s370_state.specs.Meaning.{store_number};
+ghost use Rattle.module_area.specs.Meaning.{with_card, first_bytes};
 
 use cov_base::PRIVATE_LIMIT;
 use module_area::DataCard;

@@ -2,7 +2,7 @@
 ghost use Rattle.std.specs.Prelude.{◌≡◌, ℕ, ◌<◌, ◌≤◌, ◌-◌, ◌+◌, ◌*◌, true, false, IsTrue, IfSome, IsSome, IsNone, slice_index, Contains};
 ghost use Rattle.std.specs.List.{list_any};
 ghost use Rattle.module_area.specs.Images.{AreImages};
-ghost use Rattle.brk_table.specs.Places.{in_image, image_byte};
+ghost use Rattle.brk_table.specs.Meaning.{in_image, image_byte};
 
 use cov_base::Addr;
 use module_area::{Image, Images};

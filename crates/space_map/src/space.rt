@@ -1,13 +1,14 @@
 //! A task's space.
 ghost use Rattle.std.specs.Prelude.{◌≡◌, ◌+◌, ◌*◌, Some, None, if◌then◌else◌, ◌<◌, ◌≤◌, length, All, IfOk, IsTrue, true, refl};
-ghost use Rattle.cov_base.specs.Memory.{wrap, byte_at, is_accessible, can_reach, can_store, first_touch};
+ghost use Rattle.cov_base.specs.Meaning.{wrap, byte_at, is_accessible, can_reach, can_store, first_touch};
 ghost use Rattle.cov_base.specs.declared.limits.TheConstants.{PRIVATE_LIMIT};
 ghost use Rattle.s370_state.specs.Answers.{reach_answer};
-ghost use Rattle.s370_state.specs.Words.{number_at};
+ghost use Rattle.s370_state.specs.Meaning.{number_at};
 ghost use Rattle.module_area.specs.Images.{AreImages};
 ghost use Rattle.brk_table.specs.Kept.{AreCodes, AreKept};
-ghost use Rattle.brk_table.specs.Places.{memory_of, IsIn, AreSeen};
-ghost use Rattle.module_area.specs.Views.{first_bytes};
+ghost use Rattle.brk_table.specs.Meaning.{memory_of};
+ghost use Rattle.brk_table.specs.Places.{IsIn, AreSeen};
+ghost use Rattle.module_area.specs.Meaning.{first_bytes};
 ghost use Rattle.space_map.specs.Space.{row_of, memory_of_space, half_in_space};
 
 use crate::bytes::{first_bytes, put_bytes};
@@ -111,7 +112,7 @@ impl<'a> TaskSpace<'a> {
         len == 0 || u64::from(at.get()) + u64::from(len) <= self.bytes.len() as u64
     }
 
-    #[tactic(auto, unfolding(brk_table::specs::Places::memory_of, cov_base::specs::Memory::is_accessible))]
+    #[tactic(auto, unfolding(brk_table::specs::Meaning::memory_of, cov_base::specs::Meaning::is_accessible))]
     fn is_accessible(&self, at: Addr) -> bool
         ensures { result ≡ is_accessible (memory_of_space self.now) at }
     {
@@ -268,7 +269,7 @@ impl<'a> Space for TaskSpace<'a> {
     }
 
     #[inline(always)]
-    #[tactic(auto, unfolding(brk_table::specs::Places::memory_of, cov_base::specs::Memory::byte_at, cov_base::specs::Memory::is_accessible))]
+    #[tactic(auto, unfolding(brk_table::specs::Meaning::memory_of, cov_base::specs::Meaning::byte_at, cov_base::specs::Meaning::is_accessible))]
     fn byte(&self, at: Addr) -> u8 {
         if (at.get() as usize) < self.bytes.len() {
             self.bytes[at.get() as usize]
@@ -293,7 +294,7 @@ impl<'a> Space for TaskSpace<'a> {
         }
     }
 
-    #[tactic(auto, unfolding(brk_table::specs::Places::memory_of, cov_base::specs::Memory::is_private))]
+    #[tactic(auto, unfolding(brk_table::specs::Meaning::memory_of, cov_base::specs::Meaning::is_private))]
     fn put(&mut self, at: Addr, value: u8) {
         self.bytes[at.get() as usize] = value;
     }

@@ -1,8 +1,9 @@
 //! Calls through the trait's bound, and the bytes that storage begins with.
 ghost use Rattle.std.specs.Prelude.{◌≡◌, ℕ, ◌≤◌, All, IfOk, IsTrue, None, [], ◌∷◌};
-ghost use Rattle.s370_state.specs.Row.{reads, use_tests};
+ghost use Rattle.s370_state.specs.Meaning.{reads, use_tests};
 ghost use Rattle.module_area.specs.Images.{AreImages};
-ghost use Rattle.brk_table.specs.Places.{memory_of, IsIn};
+ghost use Rattle.brk_table.specs.Meaning.{memory_of};
+ghost use Rattle.brk_table.specs.Places.{IsIn};
 
 use super::bytes::first_bytes;
 use super::*;

@@ -2,16 +2,13 @@
 use Rattle.std.proofs.Common.{◌≡◌, ◌≢◌, ℕ, ◌+◌, ◌*◌, ◌/◌, ◌≤◌, Bool, true, false, ◌&&◌, ◌||◌, if◌then◌else◌, nat_eq, List, [], ◌∷◌, ◌++◌, inl, inr, refl, sym, ◌∙◌, ap, subst, arith}
 use Rattle.std.proofs.lemmas.Bool.{or_cases, or_left, or_right, and_parts, and_from, eqb-true, eq-eqb, both_ways}
 use Rattle.std.proofs.lemmas.List.{append_assoc, append-nil}
-use Rattle.cov_base.specs.Codes.{breakpoint}
-use Rattle.cov_base.specs.Facts.{no_facts, has_fact, same_fact, fact_of}
-use Rattle.cov_base.specs.States.{Visit}
+use Rattle.cov_base.specs.Meaning.{breakpoint, no_facts, has_fact, same_fact, fact_of, Visit}
 use Rattle.cov_base.specs.declared.facts.Fact.{Fact}
 use Rattle.module_area.specs.declared.cells.Cell.{Cell}
 use Rattle.module_area.specs.declared.places.Place.{Place}
-use Rattle.module_area.specs.PlanView.{PlanView, kind_at, original_at}
+use Rattle.module_area.specs.Meaning.{PlanView, kind_at, original_at, is_place}
 use Rattle.module_area.specs.Notes.{Notes, after_fetch, is_free_under, keeps_as, IsAnswer}
 use Rattle.module_area.specs.Parties.{Has}
-use Rattle.module_area.specs.Executions.{is_place}
 use Rattle.module_area.proofs.FactLemmas.{same_fact-true}
 use Rattle.brk_table.proofs.PlaceLemmas.{is_place-there}
 use Rattle.observed_step.specs.Sights.{BeginsAt}

@@ -1,11 +1,10 @@
 -- What a fetch and a settled trap do to the notes.
 use Rattle.std.proofs.Common.{◌≡◌, ◌⊎◌, ℕ, ◌+◌, ◌≤◌, Bool, true, false, ◌&&◌, ◌||◌, if◌then◌else◌, nat_eq, inl, inr, refl, sym, subst, arith}
 use Rattle.std.proofs.lemmas.Bool.{or_cases, or_left, or_right, and_from, eqb-true, cond_both, both_ways, false≢true}
-use Rattle.cov_base.specs.FactSet.{FactSet}
-use Rattle.cov_base.specs.Facts.{with_fact, is_full, same_fact}
+use Rattle.cov_base.specs.Meaning.{FactSet, with_fact, is_full, same_fact}
 use Rattle.cov_base.specs.declared.facts.Fact.{Fact}
 use Rattle.module_area.specs.declared.cells.Cell.{Cell}
-use Rattle.module_area.specs.PlanView.{PlanView, kind_at}
+use Rattle.module_area.specs.Meaning.{PlanView, kind_at}
 use Rattle.module_area.specs.Notes.{Notes, after_fetch, after_mark, after_lift, is_free_under}
 use Rattle.svc_monitor.specs.Settled.{Settles}
 use Rattle.svc_monitor.specs.Observed.{Grows}

@@ -1,17 +1,13 @@
 -- One visit of a pass, and visits one after the other.
 use Rattle.std.proofs.Common.{◌≡◌, ◌≢◌, ◌⊎◌, ℕ, ◌+◌, ◌*◌, ◌/◌, Bool, true, false, ◌&&◌, ◌||◌, if◌then◌else◌, ◌==◌, nat_eq, List, [], ◌∷◌, ◌++◌, inl, inr, refl, sym, ◌∙◌, ap, subst, arith}
 use Rattle.std.proofs.lemmas.Bool.{or_cases, or_left, or_right, and_parts, and_from, eqb-true, eq-eqb, cond_both, both_ways}
-use Rattle.cov_base.specs.Codes.{breakpoint}
-use Rattle.cov_base.specs.FactSet.{FactSet}
-use Rattle.cov_base.specs.Facts.{no_facts, has_fact, with_fact, same_fact, fact_of}
-use Rattle.cov_base.specs.States.{Visit}
+use Rattle.cov_base.specs.Meaning.{breakpoint, FactSet, no_facts, has_fact, with_fact, same_fact, fact_of, Visit}
 use Rattle.cov_base.specs.declared.facts.Fact.{Fact}
 use Rattle.cov_base.specs.declared.facts.Fact.TheVariants.{Ran, Went, Stayed}
 use Rattle.module_area.specs.declared.cells.Cell.{Cell}
 use Rattle.module_area.specs.declared.places.Place.{Place}
-use Rattle.module_area.specs.PlanView.{PlanView, place_of, kind_at, original_at}
+use Rattle.module_area.specs.Meaning.{PlanView, place_of, kind_at, original_at, executes, facts_at, is_place, visits_at_places}
 use Rattle.module_area.specs.Notes.{Notes, after_fetch, is_free_under, IsAnswer}
-use Rattle.module_area.specs.Executions.{executes, facts_at, is_place, visits_at_places}
 use Rattle.module_area.proofs.FactLemmas.{has_fact-with_fact, same_fact-true}
 use Rattle.brk_table.proofs.PlaceLemmas.{is_place-there}
 use Rattle.observed_step.specs.Sights.{BeginsAt}

@@ -2,8 +2,7 @@
 use Rattle.std.proofs.Common.{◌≡◌, ◌≢◌, ℕ, ◌<◌, false, List, length}
 use Rattle.std.proofs.lemmas.Bool.{both_ways}
 use Rattle.module_area.specs.declared.places.Place.{Place}
-use Rattle.module_area.specs.PlanView.{place_of}
-use Rattle.module_area.specs.Executions.{is_place}
+use Rattle.module_area.specs.Meaning.{place_of, is_place}
 use Rattle.brk_table.proofs.PlaceLemmas.{is_place-there}
 
 -- no place begins at an address where none does

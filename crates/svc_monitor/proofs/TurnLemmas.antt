@@ -2,13 +2,10 @@
 use Rattle.std.proofs.Common.{ℕ, ◌+◌, ◌≤◌, Option, List, [], ◌∷◌, length, sym, subst, arith}
 use Rattle.std.proofs.lemmas.Bool.{cond_both}
 use Rattle.cov_base.specs.declared.limits.TheConstants.{PLACE_LIMIT}
-use Rattle.cov_base.specs.Memory.{Memory}
-use Rattle.cov_base.specs.States.{Visit}
-use Rattle.brk_table.specs.Places.{TablesView}
-use Rattle.module_area.specs.Control.{ControlView}
-use Rattle.module_area.specs.Executions.{is_place, visits_at_places}
+use Rattle.cov_base.specs.Meaning.{Memory, Visit}
+use Rattle.brk_table.specs.Meaning.{TablesView}
+use Rattle.module_area.specs.Meaning.{ControlView, is_place, visits_at_places, PlanView}
 use Rattle.module_area.specs.Notes.{Notes, calls}
-use Rattle.module_area.specs.PlanView.{PlanView}
 use Rattle.svc_monitor.specs.Answered.{Makes, Turns}
 use Rattle.observed_step.specs.Steps.{IsShown}
 use Rattle.svc_monitor.specs.First.{IsOver}

@@ -1,14 +1,11 @@
 -- What a pass makes of one visit, by what was fetched for it.
 use Rattle.std.proofs.Common.{◌≡◌, ◌≢◌, ℕ, ◌+◌, ◌/◌, true, false, List, [], ◌∷◌, refl, sym, ◌∙◌, ap, subst}
-use Rattle.cov_base.specs.Codes.{breakpoint}
-use Rattle.cov_base.specs.Facts.{fact_of}
-use Rattle.cov_base.specs.States.{Visit}
+use Rattle.cov_base.specs.Meaning.{breakpoint, fact_of, Visit}
 use Rattle.cov_base.specs.declared.facts.Fact.{Fact}
 use Rattle.module_area.specs.declared.cells.Cell.{Cell}
 use Rattle.module_area.specs.declared.places.Place.{Place}
-use Rattle.module_area.specs.Executions.{is_place}
+use Rattle.module_area.specs.Meaning.{is_place, PlanView, kind_at}
 use Rattle.module_area.specs.Notes.{Notes, IsAnswer, after_fetch}
-use Rattle.module_area.specs.PlanView.{PlanView, kind_at}
 use Rattle.observed_step.specs.Sights.{BeginsAt}
 use Rattle.svc_monitor.specs.Answered.{Makes}
 use Rattle.svc_monitor.specs.Noting.{MakesEach}

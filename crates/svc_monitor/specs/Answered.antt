@@ -1,15 +1,12 @@
 -- What the fetches of a pass answered, visit by visit.
 use Rattle.std.specs.Prelude.{◌≡◌, ◌⊎◌, ℕ, ◌+◌, ◌*◌, ◌≤◌, Bool, true, ◌&&◌, if◌then◌else◌, nat_eq, Option, List, [], ◌∷◌, ◌++◌}
-use Rattle.cov_base.specs.FactSet.{FactSet}
-use Rattle.cov_base.specs.Facts.{no_facts, has_fact, with_fact, fact_of}
-use Rattle.cov_base.specs.States.{Visit}
+use Rattle.cov_base.specs.Meaning.{FactSet, no_facts, has_fact, with_fact, fact_of, Visit}
 use Rattle.cov_base.specs.declared.facts.Fact.{Fact}
 use Rattle.module_area.specs.declared.cells.Cell.{Cell}
 use Rattle.module_area.specs.declared.places.Place.{Place}
-use Rattle.module_area.specs.PlanView.{PlanView, kind_at}
+use Rattle.module_area.specs.Meaning.{PlanView, kind_at, ControlView, is_place}
 use Rattle.module_area.specs.Notes.{Notes, keeps}
-use Rattle.module_area.specs.Control.{ControlView, after_call}
-use Rattle.module_area.specs.Executions.{is_place}
+use Rattle.module_area.specs.Control.{after_call}
 use Rattle.observed_step.specs.Sights.{BeginsAt}
 use Rattle.svc_monitor.specs.Observed.{IsShown, Observes}
 

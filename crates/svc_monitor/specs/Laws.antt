@@ -1,11 +1,10 @@
 -- Why the laws hold of an observer that marks over planted cells.
 use Rattle.std.specs.Prelude.{ℕ, ◌+◌, None, List, [], ◌∷◌, ◌++◌}
 use Rattle.std.proofs.Common.{refl, subst, arith}
-use Rattle.cov_base.specs.States.{Visit}
-use Rattle.brk_table.specs.Places.{TablesView}
-use Rattle.module_area.specs.Control.{ControlView}
+use Rattle.cov_base.specs.Meaning.{Visit}
+use Rattle.brk_table.specs.Meaning.{TablesView}
+use Rattle.module_area.specs.Meaning.{ControlView, PlanView}
 use Rattle.module_area.specs.Notes.{Notes}
-use Rattle.module_area.specs.PlanView.{PlanView}
 use Rattle.svc_monitor.specs.Noting.{CanNote, MakesEach, HasAnswered}
 
 pub CanNote-later : (is_pass : Type 0) (a o : PlanView) (t : TablesView) (n : Notes) (d s : ℕ) → CanNote is_pass a o t n d s → CanNote is_pass a o t n d (s + 1)

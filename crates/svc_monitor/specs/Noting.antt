@@ -1,11 +1,11 @@
 -- What a pass over planted cells notes.
 use Rattle.std.specs.Prelude.{◌≡◌, ℕ, ◌+◌, ◌*◌, ◌^◌, ◌≤◌, true, Option, List, [], ◌∷◌}
-use Rattle.cov_base.specs.States.{Visit}
+use Rattle.cov_base.specs.Meaning.{Visit}
 use Rattle.cov_base.specs.declared.limits.TheConstants.{PLACE_LIMIT}
-use Rattle.brk_table.specs.Places.{TablesView}
-use Rattle.module_area.specs.Control.{ControlView, after_call, control_after}
+use Rattle.brk_table.specs.Meaning.{TablesView}
+use Rattle.module_area.specs.Meaning.{ControlView, control_after, PlanView}
+use Rattle.module_area.specs.Control.{after_call}
 use Rattle.module_area.specs.Notes.{Notes, calls, is_working}
-use Rattle.module_area.specs.PlanView.{PlanView}
 use Rattle.svc_monitor.specs.Answered.{Makes}
 
 -- The pass is one of the area, which was made for this plan, over the places of the tables, and its task has not ended.

@@ -1,11 +1,9 @@
 -- What a pass has done and knows after some visits.
 use Rattle.std.specs.Prelude.{◌≡◌, ◌⊎◌, ℕ, ◌+◌, ◌*◌, ◌<◌, ◌≤◌, true, List, length}
-use Rattle.cov_base.specs.Facts.{has_fact}
-use Rattle.cov_base.specs.States.{Visit}
+use Rattle.cov_base.specs.Meaning.{has_fact, Visit}
 use Rattle.cov_base.specs.declared.facts.Fact.{Fact}
-use Rattle.module_area.specs.PlanView.{PlanView, place_of, window_at}
+use Rattle.module_area.specs.Meaning.{PlanView, place_of, window_at, facts_at, visits_at_places}
 use Rattle.module_area.specs.Notes.{Notes}
-use Rattle.module_area.specs.Executions.{facts_at, visits_at_places}
 
 -- Nothing is forgotten, and what the pass met full it met free or tried to lift.
 pub record Grows (old new : Notes) : Type 0 where

@@ -1,9 +1,8 @@
 -- What a trap leaves in the notes.
 use Rattle.std.specs.Prelude.{◌≡◌, ℕ, Bool, if◌then◌else◌}
-use Rattle.cov_base.specs.FactSet.{FactSet}
-use Rattle.cov_base.specs.Facts.{with_fact, is_full}
+use Rattle.cov_base.specs.Meaning.{FactSet, with_fact, is_full}
 use Rattle.cov_base.specs.declared.facts.Fact.{Fact}
-use Rattle.module_area.specs.PlanView.{PlanView, kind_at}
+use Rattle.module_area.specs.Meaning.{PlanView, kind_at}
 use Rattle.module_area.specs.Notes.{Notes, after_mark, after_lift, IsFound}
 
 -- the fact is marked, and the breakpoint lifted exactly where the set with it is full

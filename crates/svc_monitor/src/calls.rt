@@ -2,7 +2,8 @@
 ghost use Rattle.std.specs.Prelude.{◌≡◌, ◌+◌, ◌<◌, ◌≤◌, ◌^◌};
 ghost use Rattle.cov_base.specs.declared.limits.TheConstants.{PLACE_LIMIT};
 ghost use Rattle.module_area.specs.Notes.{calls};
-ghost use Rattle.module_area.specs.Control.{after_call, control_after};
+ghost use Rattle.module_area.specs.Meaning.{control_after};
+ghost use Rattle.module_area.specs.Control.{after_call};
 ghost use Rattle.module_area.specs.Tied.{IsTied};
 ghost use Rattle.observed_step.specs.Called.{call_at};
 

@@ -2,14 +2,13 @@
 use Rattle.std.proofs.Common.{◌≡◌, inl, inr, ℕ, ◌+◌, Some, None, List, [], ◌∷◌, ◌++◌, length, drop, All, refl, ap, sym, ◌∙◌, subst, arith, append_assoc, append-nil, length-append}
 use Rattle.std.proofs.Math.Seq.{drop-append_seam}
 use Rattle.std.proofs.lemmas.List.Elements.{All-tail, All-head}
-use Rattle.marks_file.specs.Marks.{MarkedView, MarksView}
-use Rattle.marks_file.specs.MarksFile.{rows}
-use Rattle.marks_file.specs.Reading.{first_bad, file_fields, version_of, marks_at}
+use Rattle.marks_file.specs.Meaning.{MarkedView, MarksView, rows, first_bad, file_fields, version_of}
+use Rattle.marks_file.specs.Reading.{marks_at}
 use Rattle.marks_file.specs.declared.version.Version.{Version}
 use Rattle.marks_file.proofs.FileLemmas.{file_read, file_long}
 use Rattle.marks_file.proofs.HeadingLemmas.{told_all}
-use Rattle.table_combine.specs.Combine.{Difference, first_difference}
-use Rattle.table_combine.specs.Files.{File, IsFile, text_of, modules_of, united, AreOfOneTable, IsCombined, IsBad, IsOtherTable, HasOneAnswer, spelling}
+use Rattle.table_combine.specs.Meaning.{Difference, first_difference, File, IsFile, text_of, modules_of, united, AreOfOneTable, IsCombined, IsBad, IsOtherTable, spelling}
+use Rattle.table_combine.specs.Files.{HasOneAnswer}
 use Rattle.table_combine.proofs.DifferenceLemmas.{row_same}
 
 -- the same rows have no difference

@@ -6,10 +6,11 @@ use Rattle.std.proofs.lemmas.Slice.Eq.{bytes_eq-Decides}
 use Rattle.std.proofs.Math.Seq.{drop-append_seam}
 use Rattle.byteorder.specs.Endian.{big_bytes, big_number}
 use Rattle.byteorder.specs.Numbers.{big_number-reads_back}
-use Rattle.marks_file.specs.Marks.{MarkedView, HasRow, place_count}
-use Rattle.marks_file.specs.MarksFile.{place_row, module_row, module_rows, rows}
+use Rattle.marks_file.specs.Meaning.{MarkedView, place_count, place_row, module_row, module_rows, rows}
+use Rattle.marks_file.specs.Marks.{HasRow}
 use Rattle.marks_file.specs.declared.marks.MarkedPlace.{MarkedPlace}
-use Rattle.table_combine.specs.Combine.{Difference, first_difference, first_row, SamePlaces, SameTables}
+use Rattle.table_combine.specs.Meaning.{Difference, first_difference}
+use Rattle.table_combine.specs.Combine.{first_row, SamePlaces, SameTables}
 
 same_test : (x y : List ℕ) → x ≡ y → bytes_eq x y ≡ true
 same_test x y h = grind (arith, bytes_eq-Decides)

@@ -8,15 +8,13 @@ use Rattle.std.proofs.lemmas.List.Sums.{fold-append, sum_by-append}
 use Rattle.std.proofs.lemmas.Grind.{flat_map-append}
 use Rattle.std.proofs.lemmas.Bool.{le-leb}
 use Rattle.byteorder.specs.Endian.{big_bytes}
-use Rattle.marks_file.specs.Marks.{MarkedView, MarksView, most_runs, is_runs, keeps_rules}
-use Rattle.marks_file.specs.MarksFile.{place_row, module_row, module_rows, rows, HasFile}
+use Rattle.marks_file.specs.Meaning.{MarkedView, MarksView, most_runs, is_runs, keeps_rules, place_row, module_row, module_rows, rows, HasFile}
 use Rattle.marks_file.specs.declared.marks.MarkedPlace.{MarkedPlace}
 use Rattle.marks_file.specs.declared.version.Version.{Version}
 use Rattle.marks_file.proofs.Parts.{is_session_name}
 use Rattle.marks_file.proofs.MarksLemmas.{both-left, both-right, both, le_of_test}
 use Rattle.marks_file.proofs.FileLemmas.{same_marks}
-use Rattle.table_combine.specs.Combine.{Difference, first_difference, unite, unite_places, unite_module}
-use Rattle.table_combine.specs.Files.{File, IsFile, text_of, modules_of, held, united, AreOfOneTable, IsOtherTable, spelling}
+use Rattle.table_combine.specs.Meaning.{Difference, first_difference, unite, unite_places, unite_module, File, IsFile, text_of, modules_of, held, united, AreOfOneTable, IsOtherTable, spelling}
 use Rattle.table_combine.proofs.UnionLemmas.{length-unite_places, same_rows, joined_rows}
 
 abbrev pub runs_of : File → ℕ

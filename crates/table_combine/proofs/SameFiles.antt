@@ -4,19 +4,19 @@ use Rattle.std.proofs.Common.{◌≡◌, ℕ, ◌<◌, suc, zero, Bool, true, fa
 use Rattle.std.specs.List.{Contains, sum_by}
 use Rattle.std.proofs.lemmas.List.Elements.{All-contains, All-contains_itself, All-map}
 use Rattle.std.proofs.Math.Seq.{drop-append_seam, take-append_seam}
-use Rattle.cov_base.specs.Facts.{union}
-use Rattle.cov_base.specs.FactSet.{FactSet}
-use Rattle.marks_file.specs.Marks.{MarkedView, MarksView, HasRow, are_marks}
-use Rattle.marks_file.specs.MarksFile.{place_row, module_row, rows}
+use Rattle.cov_base.specs.Meaning.{union, FactSet}
+use Rattle.marks_file.specs.Meaning.{MarkedView, MarksView, are_marks, place_row, module_row, rows}
+use Rattle.marks_file.specs.Marks.{HasRow}
 use Rattle.marks_file.specs.declared.marks.MarkedPlace.{MarkedPlace}
 use Rattle.marks_file.proofs.MarksLemmas.{marks_have_rows, kept_modules}
 use Rattle.marks_file.proofs.FileLemmas.{one_table}
-use Rattle.table_combine.specs.Combine.{unite_place, unite_places, unite_module, unite, SamePlaces, SameTables}
+use Rattle.table_combine.specs.Meaning.{unite_place, unite_places, unite_module, unite, File, IsFile, modules_of, spelling, AreOfOneTable, held, united, IsCombined}
+use Rattle.table_combine.specs.Combine.{SamePlaces, SameTables}
 use Rattle.table_combine.proofs.UnionLemmas.{union_is_marks}
 use Rattle.table_combine.proofs.DifferenceLemmas.{row_count}
 use Rattle.table_combine.proofs.LawLemmas.{files_turned, file_itself}
 use Rattle.table_combine.proofs.FilesLemmas.{runs_of, rows_kept}
-use Rattle.table_combine.specs.Files.{File, IsFile, modules_of, spelling, AreOfOneTable, held, first_name, united, IsCombined, HaveSameSets, IsUnionAnyhow}
+use Rattle.table_combine.specs.Files.{first_name, HaveSameSets, IsUnionAnyhow}
 use Rattle.table_combine.proofs.AnswerLemmas.{one_file, same_rest, no_text}
 
 -- tables of the same rows are the same

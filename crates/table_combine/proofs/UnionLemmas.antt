@@ -4,18 +4,16 @@ use Rattle.std.specs.Str.{bytes_eq}
 use Rattle.std.specs.List.{list_any, list_all}
 use Rattle.std.proofs.lemmas.Bool.{false≢true}
 use Rattle.std.proofs.lemmas.List.{take-append-drop}
-use Rattle.cov_base.specs.Facts.{union, is_within}
-use Rattle.cov_base.specs.FactSet.{FactSet, facts_of_number, number_of_facts}
+use Rattle.cov_base.specs.Meaning.{union, is_within, FactSet, facts_of_number, number_of_facts, is_filled}
 use Rattle.cov_base.specs.declared.facts.Kind.{Kind}
 use Rattle.cov_base.specs.declared.facts.Kind.TheVariants.{Straight, Conditional}
-use Rattle.cov_base.specs.Names.{is_filled}
-use Rattle.marks_file.specs.Marks.{MarkedView, kind_number, is_location, is_length, is_original, is_set, are_places, end_of, is_new_name, is_base, is_clear, is_size, is_count, place_count, are_modules, is_module_count, are_marks}
-use Rattle.marks_file.specs.MarksFile.{place_row, module_row, module_rows, rows}
+use Rattle.marks_file.specs.Meaning.{MarkedView, kind_number, is_location, is_length, is_original, is_set, are_places, end_of, is_new_name, is_base, is_clear, is_size, is_count, place_count, are_modules, is_module_count, are_marks, place_row, module_row, module_rows, rows}
 use Rattle.marks_file.specs.declared.marks.MarkedPlace.{MarkedPlace}
 use Rattle.marks_file.proofs.Parts.{is_place, is_module}
 use Rattle.marks_file.proofs.MarksLemmas.{both-left, both-right, both, le_of_test}
 use Rattle.marks_file.proofs.SpellLemmas.{set_read}
-use Rattle.table_combine.specs.Combine.{unite_place, unite_places, unite_module, unite, SamePlaces, SameTables}
+use Rattle.table_combine.specs.Meaning.{unite_place, unite_places, unite_module, unite}
+use Rattle.table_combine.specs.Combine.{SamePlaces, SameTables}
 
 -- tables of the same rows
 pub same_rows : (x y : List ℕ) (xs ys : List (List ℕ)) → x ≡ y → xs ≡ ys → x ∷ xs ≡ y ∷ ys

@@ -1,43 +1,9 @@
 -- Whether two files have the same table, and the union of their sets.
-use Rattle.std.specs.Prelude.{◌≡◌, ℕ, ◌+◌, option_map, Option, Some, None, if◌then◌else◌, List, [], ◌∷◌}
-use Rattle.std.specs.Str.{bytes_eq}
-use Rattle.cov_base.specs.Facts.{union}
-use Rattle.marks_file.specs.Marks.{MarkedView}
-use Rattle.marks_file.specs.MarksFile.{place_row, module_row}
+use Rattle.std.specs.Prelude.{◌≡◌, ℕ, option_map, Option, Some, None, List, [], ◌∷◌}
+use Rattle.marks_file.specs.Meaning.{MarkedView, place_row, module_row}
 use Rattle.marks_file.specs.declared.marks.MarkedPlace.{MarkedPlace}
 use Rattle.table_combine.specs.declared.difference.OtherTable.{OtherTable}
-
--- a row's number, and what it is in each table; none where the table has no such row
-pub record Difference : Type 0 where
-  pub row : ℕ
-  pub left : Option (List ℕ)
-  pub right : Option (List ℕ)
-
--- the first row in which two tables differ, where these are their rows from this number on
-abbrev pub first_difference : ℕ → List (List ℕ) → List (List ℕ) → Option Difference
-first_difference n [] [] = None
-first_difference n (x ∷ xs) [] = Some (record { row = n; left = Some x; right = None })
-first_difference n [] (y ∷ ys) = Some (record { row = n; left = None; right = Some y })
-first_difference n (x ∷ xs) (y ∷ ys) = if bytes_eq x y then first_difference (n + 1) xs ys else Some (record { row = n; left = Some x; right = Some y })
-
--- the facts of either file at the place
-abbrev pub unite_place : MarkedPlace → MarkedPlace → MarkedPlace
-unite_place p q = record p { set = union p.set q.set }
-
--- place by place
-abbrev pub unite_places : List MarkedPlace → List MarkedPlace → List MarkedPlace
-unite_places [] qs = []
-unite_places (p ∷ ps) [] = p ∷ ps
-unite_places (p ∷ ps) (q ∷ qs) = unite_place p q ∷ unite_places ps qs
-
-abbrev pub unite_module : MarkedView → MarkedView → MarkedView
-unite_module m n = record m { places = unite_places m.places n.places }
-
--- module by module
-abbrev pub unite : List MarkedView → List MarkedView → List MarkedView
-unite [] ns = []
-unite (m ∷ ms) [] = m ∷ ms
-unite (m ∷ ms) (n ∷ ns) = unite_module m n ∷ unite ms ns
+use Rattle.table_combine.specs.Meaning.{Difference}
 
 -- the same rows, place by place and module by module
 abbrev pub SamePlaces : List MarkedPlace → List MarkedPlace → Type 0

@@ -1,3 +1,4 @@
 pub mod Combine
-pub mod Files
 pub mod FaultView
+pub mod Files
+pub mod Meaning

@@ -1,8 +1,9 @@
 //! The first row in which two tables differ.
 ghost use Rattle.std.specs.Prelude.{◌≡◌, ℕ, ◌+◌, ◌<◌, ◌≤◌, ◌^◌, ◌++◌, List, length, map, drop, option_map, Some, None, IfSome, IsNone, All};
-ghost use Rattle.marks_file.specs.Marks.{HasRow, place_count};
-ghost use Rattle.marks_file.specs.MarksFile.{place_row, module_row, module_rows, rows};
-ghost use Rattle.table_combine.specs.Combine.{first_difference, difference_of, first_row, SamePlaces, SameTables};
+ghost use Rattle.marks_file.specs.Meaning.{place_count, place_row, module_row, module_rows, rows};
+ghost use Rattle.marks_file.specs.Marks.{HasRow};
+ghost use Rattle.table_combine.specs.Meaning.{first_difference};
+ghost use Rattle.table_combine.specs.Combine.{difference_of, first_row, SamePlaces, SameTables};
 
 use arrayvec::ArrayVec;
 use marks_file::{MarkedModule, MarkedPlace, module_row, place_row};

@@ -1,9 +1,9 @@
 //! Combines marks files that stand one after another.
 ghost use Rattle.std.specs.Prelude.{◌≡◌, ◌≤◌, length, drop, true, IfOk, IfErr};
-ghost use Rattle.marks_file.specs.Marks.{keeps_rules};
-ghost use Rattle.marks_file.specs.MarksFile.{HasFile};
-ghost use Rattle.marks_file.specs.Reading.{IsFault, file_fields};
-ghost use Rattle.table_combine.specs.Files.{IsCombined, IsCombineFault, HasOneAnswer, IsUnionAnyhow};
+ghost use Rattle.marks_file.specs.Meaning.{keeps_rules, HasFile, file_fields};
+ghost use Rattle.marks_file.specs.Reading.{IsFault};
+ghost use Rattle.table_combine.specs.Meaning.{IsCombined};
+ghost use Rattle.table_combine.specs.Files.{IsCombineFault, HasOneAnswer, IsUnionAnyhow};
 
 use crate::difference::OtherTable;
 use crate::union::combine;

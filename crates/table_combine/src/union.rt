@@ -1,8 +1,8 @@
 //! The union of two files.
 ghost use Rattle.std.specs.Prelude.{◌≡◌, ◌+◌, IsOk, OnOk, OnErr, IfErr, Some, None};
-ghost use Rattle.marks_file.specs.MarksFile.{rows};
-ghost use Rattle.table_combine.specs.Combine.{first_difference, difference_of, unite_place, unite_places, unite_module, unite};
-ghost use Rattle.table_combine.specs.Files.{held};
+ghost use Rattle.marks_file.specs.Meaning.{rows};
+ghost use Rattle.table_combine.specs.Meaning.{first_difference, unite_place, unite_places, unite_module, unite, held};
+ghost use Rattle.table_combine.specs.Combine.{difference_of};
 
 use crate::difference::{OtherTable, first_difference};
 use marks_file::{MarkedModule, MarkedPlace, Marks};

@@ -1,13 +1,13 @@
 -- The address at which a task alone ends is that of its course, on which nothing is done behind the instructions.
 use Rattle.std.proofs.Common.{◌≡◌, ℕ, zero, suc, Bool, true, false, refl, sym, ap, ◌∙◌}
-use Rattle.cov_base.specs.Memory.{Memory}
-use Rattle.cov_base.specs.States.{State}
+use Rattle.cov_base.specs.Meaning.{Memory, State}
 use Rattle.observed_step.proofs.CourseLemmas.{course-returned, course-none, course-more, course-ended}
-use Rattle.observed_step.specs.Courses.{Tour, course_on, nothing, step_behind}
-use Rattle.s370_exec.specs.Solo.{solo_step, has_returned}
+use Rattle.observed_step.specs.Meaning.{Tour, course_on, step_behind}
+use Rattle.observed_step.specs.Courses.{nothing}
+use Rattle.s370_exec.specs.Meaning.{solo_step, has_returned}
 use Rattle.s370_state.specs.declared.endings.Next.{Next}
 use Rattle.s370_state.specs.declared.endings.Next.TheVariants.{On, Ended}
-use Rattle.task_alone.specs.Ends.{end_address}
+use Rattle.task_alone.specs.Meaning.{end_address}
 
 address-none : (m : Memory) (s : State) → end_address m 0 s ≡ s.machine.cpu.ia
 unfolding end_address

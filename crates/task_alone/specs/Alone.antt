@@ -1,6 +1,6 @@
 -- A task that opens and closes no sessions, and an observer that cares for none.
 use Rattle.std.specs.Prelude.{◌≡◌, ℕ, Option, None, []}
-use Rattle.module_area.specs.Control.{ControlView}
+use Rattle.module_area.specs.Meaning.{ControlView}
 
 abbrev pub no_sessions : ControlView
 no_sessions = record { sessions = []; next = 0; opened = None }

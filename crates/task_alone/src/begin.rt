@@ -1,8 +1,8 @@
 //! A task of a job that runs alone, before its first instruction.
 ghost use Rattle.std.specs.Prelude.{◌≡◌, ◌<◌, length, IfOk};
 ghost use Rattle.brk_table.specs.Kept.{AreCodes};
-ghost use Rattle.brk_table.specs.Places.{memory_of};
-ghost use Rattle.session_book.specs.Sessions.{task_of, first_state};
+ghost use Rattle.brk_table.specs.Meaning.{memory_of};
+ghost use Rattle.session_book.specs.Meaning.{task_of, first_state};
 ghost use Rattle.observed_step.specs.Steps.{IsShown, memory_at, stands};
 ghost use Rattle.task_alone.specs.Alone.{no_sessions};
 

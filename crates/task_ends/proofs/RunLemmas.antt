@@ -3,13 +3,12 @@ use Rattle.std.proofs.Common.{◌≡◌, ℕ, ◌+◌, ◌-◌, ◌<◌, List, [
 use Rattle.std.proofs.lemmas.Bool.{cases_lt}
 use Rattle.std.proofs.lemmas.List.{get_or_append_left, get_or_push}
 use Rattle.module_area.specs.declared.places.Place.{Place}
-use Rattle.session_book.specs.JobView.{JobView}
-use Rattle.report_text.specs.Text.{sum_from}
+use Rattle.session_book.specs.Meaning.{JobView, module_of}
+use Rattle.report_text.specs.Meaning.{sum_from}
 use Rattle.report_text.proofs.PlaceFacts.{sum_step}
-use Rattle.session_book.specs.Sessions.{module_of}
-use Rattle.task_ends.specs.Ends.{run_of, end_of, unlisted_of}
+use Rattle.task_ends.specs.Meaning.{run_of, end_of, unlisted_of, unlisted_visits}
 use Rattle.observed_step.specs.declared.task.TaskEnd.{TaskEnd}
-use Rattle.task_ends.specs.Unlisted.{unlisted_visits, Adds}
+use Rattle.task_ends.specs.Unlisted.{Adds}
 
 -- of one task, in module m
 abbrev pub unlisted_at : JobView → List Place → ℕ → ℕ → ℕ

@@ -1,12 +1,12 @@
 -- Visits that are counted one after another, and the room for them.
 use Rattle.std.specs.Prelude.{◌≡◌, ℕ, ◌+◌, List, [], ◌∷◌, ◌++◌, get_or}
 use Rattle.std.proofs.Common.{refl, ◌∙◌, arith}
-use Rattle.cov_base.specs.Memory.{ImageView}
-use Rattle.cov_base.specs.States.{Visit}
+use Rattle.cov_base.specs.Meaning.{ImageView, Visit}
 use Rattle.module_area.specs.declared.places.Place.{Place}
-use Rattle.session_book.specs.Sessions.{no_module}
+use Rattle.session_book.specs.Meaning.{no_module}
 use Rattle.task_ends.specs.Held.{HasRoom}
-use Rattle.task_ends.specs.Unlisted.{unlisted_visits, Adds}
+use Rattle.task_ends.specs.Meaning.{unlisted_visits}
+use Rattle.task_ends.specs.Unlisted.{Adds}
 
 unlisted_visits-append : (places : List Place) (image : ImageView) (vs ws : List Visit) → unlisted_visits places image (vs ++ ws) ≡ unlisted_visits places image vs + unlisted_visits places image ws
 unlisted_visits-append places image [] ws = omega arith

@@ -1,5 +1,5 @@
 pub mod Counting
 pub mod Ends
 pub mod Held
-pub mod Text
+pub mod Meaning
 pub mod Unlisted

@@ -1,7 +1,8 @@
 //! The run of each task of a job, alone over modules that were never planted.
 ghost use Rattle.std.specs.Prelude.{◌≡◌, ◌+◌, ◌<◌, ◌++◌, ◌∷◌, [], length, IfOk, OnOk};
 ghost use Rattle.brk_table.specs.Kept.{AreCodes};
-ghost use Rattle.task_ends.specs.Ends.{AreEnds, end_of, run_of, unlisted_of};
+ghost use Rattle.task_ends.specs.Meaning.{end_of, run_of, unlisted_of};
+ghost use Rattle.task_ends.specs.Ends.{AreEnds};
 ghost use Rattle.task_ends.specs.Held.{HasRoom};
 ghost use Rattle.task_ends.specs.Unlisted.{Adds};
 

@@ -1,15 +1,15 @@
 //! The text of the ends of a job's tasks.
 ghost use Rattle.std.specs.Prelude.{◌≡◌, ℕ, ◌+◌, ◌<◌, ◌≤◌, ◌++◌, ◌∷◌, [], Some, true, length, nat_lt, if◌then◌else◌, codes, decimal};
 ghost use Rattle.arrayvec.specs.ArrayVec.{array_vec_len};
-ghost use Rattle.brk_table.specs.Places.{in_image};
-ghost use Rattle.cov_base.specs.Names.{unpadded};
+ghost use Rattle.brk_table.specs.Meaning.{in_image};
+ghost use Rattle.cov_base.specs.Meaning.{unpadded};
 ghost use Rattle.cov_outside.specs.Writes.{Writes};
-ghost use Rattle.report_text.specs.Text.{lines_from};
+ghost use Rattle.report_text.specs.Meaning.{lines_from};
 ghost use Rattle.report_text.specs.Writes.{WritesLines};
-ghost use Rattle.session_book.specs.Sessions.{task_of};
+ghost use Rattle.session_book.specs.Meaning.{task_of};
 ghost use Rattle.observed_step.specs.declared.task.TaskEnd.{TaskEnd as End};
 ghost use Rattle.task_ends.specs.Ends.{AreEnds};
-ghost use Rattle.task_ends.specs.Text.{module_words, place_words, end_line, end_part, unlisted_part, ends_text};
+ghost use Rattle.task_ends.specs.Meaning.{module_words, place_words, end_line, end_part, unlisted_part, ends_text};
 
 use crate::running::Ends;
 use crate::unlisted::is_in;
@@ -62,7 +62,7 @@ fn add_place(line: &mut ArrayVec<u8, 160>, images: &Images, private: u32, at: Ad
 }
 
 /// Where a task of this name and with so many bytes of private storage has ended.
-#[tactic(auto, unfolding(crate::specs::Text::end_line))]
+#[tactic(auto, unfolding(crate::specs::Meaning::end_line))]
 fn end_line(name: &Name, end: &TaskEnd, images: &Images, private: u32) -> ArrayVec<u8, 160>
     ensures { result.items ≡ end_line name.now end.now (place_words private end.now.at images.now) ++ 10 ∷ [] }
 {

@@ -1,7 +1,7 @@
 //! How many visits are where no place begins.
 ghost use Rattle.std.specs.Prelude.{◌≡◌, ℕ, ◌+◌, ◌^◌, ◌<◌, if◌then◌else◌, length, get_or, slice_index};
-ghost use Rattle.session_book.specs.Sessions.{no_module};
-ghost use Rattle.brk_table.specs.Places.{in_image};
+ghost use Rattle.session_book.specs.Meaning.{no_module};
+ghost use Rattle.brk_table.specs.Meaning.{in_image};
 
 use brk_table::Tables;
 use cov_base::Addr;

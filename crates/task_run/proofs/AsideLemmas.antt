@@ -1,12 +1,12 @@
 -- What steps leave of a pass's boundaries and looks, and what these leave of a run.
 use Rattle.std.proofs.Common.{◌≡◌, ℕ, ◌+◌, ◌-◌, ◌*◌, ◌<◌, ◌≤◌, Bool, true, false, if◌then◌else◌, ◌==◌, nat_eq, unwrap_or, Option, Some, None, List, All, refl, sym, ◌∙◌, ap, subst, arith}
 use Rattle.std.proofs.lemmas.Bool.{cond_both, eq-eqb, eqb-true}
-use Rattle.cov_base.specs.States.{Visit}
+use Rattle.cov_base.specs.Meaning.{Visit}
 use Rattle.cov_base.specs.declared.numbers.PlaceNo.{PlaceNo}
 use Rattle.cov_base.specs.declared.numbers.SessNo.{SessNo}
-use Rattle.module_area.specs.PlanView.{PlanView, has_place}
+use Rattle.module_area.specs.Meaning.{PlanView, has_place, ControlView, places_under, to_open}
 use Rattle.module_area.specs.Notes.{Notes, calls, bearer, own_number, after_boundary}
-use Rattle.module_area.specs.Control.{ControlView, places_under, to_open, after_plants, after_closes, after_open, after_end, after_call}
+use Rattle.module_area.specs.Control.{after_plants, after_closes, after_open, after_end, after_call}
 use Rattle.module_area.specs.Tied.{IsTied}
 use Rattle.module_area.proofs.PlanLemmas.{any_at}
 use Rattle.module_area.proofs.TiedLemmas.{tied_same}

@@ -5,12 +5,11 @@ use Rattle.std.proofs.lemmas.Bool.{cases_Bool, both_ways, or_cases}
 use Rattle.std.proofs.lemmas.List.{get_or-take, length-take}
 use Rattle.std.proofs.lemmas.List.Sums.{sum_by-cons}
 use Rattle.cov_base.specs.declared.numbers.SessNo.{SessNo}
-use Rattle.module_area.specs.Control.{ControlView}
+use Rattle.module_area.specs.Meaning.{ControlView, PlanView, has_session}
 use Rattle.module_area.specs.Notes.{Notes}
-use Rattle.module_area.specs.PlanView.{PlanView}
-use Rattle.module_area.specs.Tied.{has_session, IsTied}
-use Rattle.task_run.specs.Called.{places_of, places_in_all, HasPlanted}
-use Rattle.task_run.specs.Windows.{opened_by, closed_by}
+use Rattle.module_area.specs.Tied.{IsTied}
+use Rattle.task_run.specs.Meaning.{places_of, places_in_all, opened_by, closed_by}
+use Rattle.task_run.specs.Called.{HasPlanted}
 
 abbrev session : ℕ → SessNo
 session k = record { 0 = k }

@@ -3,19 +3,21 @@ use Rattle.std.proofs.Common.{◌≡◌, ℕ, suc, ◌+◌, ◌-◌, ◌*◌, �
 use Rattle.std.proofs.lemmas.Bool.{cond_both}
 use Rattle.std.proofs.lemmas.List.{take_all, take-append-le}
 use Rattle.std.proofs.lemmas.List.Folds.{list_any_none}
-use Rattle.cov_base.specs.States.{Visit}
+use Rattle.cov_base.specs.Meaning.{Visit}
 use Rattle.cov_base.specs.declared.facts.Fact.{Fact}
 use Rattle.cov_base.specs.declared.numbers.PlaceNo.{PlaceNo}
 use Rattle.cov_base.specs.declared.numbers.SessNo.{SessNo}
 use Rattle.module_area.specs.Parties.{Has}
-use Rattle.module_area.specs.PlanView.{PlanView, ControlledView, IsPlan, IsControlled, has_place, window_at}
+use Rattle.module_area.specs.Meaning.{PlanView, ControlledView, has_place, window_at, ControlView, places_in, places_under, to_open, control_after}
+use Rattle.module_area.specs.PlanView.{IsPlan, IsControlled}
 use Rattle.module_area.specs.Notes.{Notes}
-use Rattle.module_area.specs.Control.{ControlView, places_in, places_under, to_open, after_open, after_end, after_call, control_after}
+use Rattle.module_area.specs.Control.{after_open, after_end, after_call}
 use Rattle.svc_monitor.specs.Observed.{Observes, IsShown}
 use Rattle.svc_monitor.specs.Answered.{Answered, Turns}
 use Rattle.svc_monitor.proofs.ObservedLemmas.{Observes-none, Observes-append}
 use Rattle.svc_monitor.proofs.AnsweredLemmas.{Answered-none, Answered-append, Answered-tags}
-use Rattle.task_run.specs.Called.{control_by, notes_by, last_by, Follows}
+use Rattle.task_run.specs.Meaning.{control_by}
+use Rattle.task_run.specs.Called.{notes_by, last_by, Follows}
 
 -- places of controlled sessions have no window
 

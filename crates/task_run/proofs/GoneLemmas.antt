@@ -1,20 +1,19 @@
 -- What a pass has made that has gone through the turns of a task's course.
 use Rattle.std.proofs.Common.{◌≡◌, ℕ, ◌+◌, zero, suc, Bool, true, false, Option, List, [], ◌∷◌, ◌++◌, length, refl, sym, subst, arith, append_assoc, append-nil}
-use Rattle.cov_base.specs.Memory.{Memory}
-use Rattle.cov_base.specs.States.{State, Visit}
-use Rattle.module_area.specs.Control.{ControlView}
+use Rattle.cov_base.specs.Meaning.{Memory, State, Visit}
+use Rattle.module_area.specs.Meaning.{ControlView, PlanView}
 use Rattle.module_area.specs.Notes.{Notes}
-use Rattle.module_area.specs.PlanView.{PlanView, IsPlan}
+use Rattle.module_area.specs.PlanView.{IsPlan}
 use Rattle.observed_step.proofs.CourseLemmas.{course-returned, course-none, course-more, course-ended}
-use Rattle.observed_step.specs.Courses.{After, Tour, Turn, calls_of, course_on, step_behind, turn_of, visits_of, with_cpu}
-use Rattle.brk_table.specs.Places.{TablesView}
+use Rattle.observed_step.specs.Meaning.{After, Tour, Turn, calls_of, course_on, step_behind, turn_of, visits_of, with_cpu}
+use Rattle.brk_table.specs.Meaning.{TablesView}
 use Rattle.observed_step.specs.Hooks.{Way}
 use Rattle.observed_step.specs.Runs.{EndsAs, Goes, GoesAs, Stand, Takes, course_of, stand}
 use Rattle.observed_step.specs.Steps.{memory_at, stands}
 use Rattle.observed_step.specs.declared.bench.Bench.{Bench}
 use Rattle.observed_step.specs.declared.task.TaskEnd.{TaskEnd}
 use Rattle.s370_exec.proofs.TraceLemmas.{solo_step-done}
-use Rattle.s370_exec.specs.Solo.{solo_step, has_returned}
+use Rattle.s370_exec.specs.Meaning.{solo_step, has_returned}
 use Rattle.s370_state.specs.declared.endings.Next.{Next}
 use Rattle.s370_state.specs.declared.endings.Next.TheVariants.{On, Ended}
 use Rattle.svc_monitor.specs.Noting.{MakesEach, HasAnswered}

@@ -2,13 +2,14 @@
 use Rattle.std.proofs.Common.{◌≡◌, ◌≤◌, None, List, sym, ap, subst, arith}
 use Rattle.s370_state.specs.declared.endings.Ending.{Ending}
 use Rattle.module_area.specs.Notes.{Notes}
-use Rattle.module_area.specs.PlanView.{PlanView, IsPlan}
+use Rattle.module_area.specs.Meaning.{PlanView}
+use Rattle.module_area.specs.PlanView.{IsPlan}
 use Rattle.module_area.specs.Tied.{IsTied}
-use Rattle.observed_step.specs.Courses.{Turn, calls_of, visits_of}
-use Rattle.s370_exec.specs.Solo.{Run, run_ended}
+use Rattle.observed_step.specs.Meaning.{Turn, calls_of, visits_of}
+use Rattle.s370_exec.specs.Meaning.{Run, run_ended}
 use Rattle.observed_step.specs.Steps.{memory_at, stands}
 use Rattle.task_run.specs.Called.{Follows}
-use Rattle.task_run.specs.Courses.{Course, Walk}
+use Rattle.task_run.specs.Meaning.{Course, Walk}
 use Rattle.task_run.specs.Ran.{RanAs, run_from, walk_from}
 use Rattle.task_run.specs.declared.tasks.Task.{Task}
 use Rattle.task_run.proofs.RunLemmas.{Made}

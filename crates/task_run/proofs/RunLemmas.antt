@@ -1,13 +1,11 @@
 -- What a run's pass has made, instruction by instruction.
 use Rattle.std.proofs.Common.{◌≡◌, ℕ, ◌+◌, ◌*◌, ◌<◌, ◌≤◌, Option, List, [], ◌∷◌, ◌++◌, length, inl, inr, refl, ◌∙◌, arith, length-append}
 use Rattle.cov_base.specs.declared.limits.TheConstants.{PLACE_LIMIT}
-use Rattle.cov_base.specs.Memory.{Memory}
-use Rattle.cov_base.specs.States.{State, Visit}
-use Rattle.s370_exec.specs.Calls.{call_of}
-use Rattle.s370_exec.specs.Solo.{solo_step}
-use Rattle.module_area.specs.PlanView.{PlanView, IsPlan}
+use Rattle.cov_base.specs.Meaning.{Memory, State, Visit}
+use Rattle.s370_exec.specs.Meaning.{call_of, solo_step}
+use Rattle.module_area.specs.Meaning.{PlanView, ControlView, control_after}
+use Rattle.module_area.specs.PlanView.{IsPlan}
 use Rattle.module_area.specs.Notes.{Notes, calls}
-use Rattle.module_area.specs.Control.{ControlView, control_after}
 use Rattle.module_area.specs.Parties.{Has}
 use Rattle.s370_exec.proofs.TraceLemmas.{solo_step-visits}
 use Rattle.svc_monitor.specs.Answered.{Turns}

@@ -2,19 +2,17 @@
 use Rattle.std.proofs.Common.{◌≡◌, ℕ, ◌<◌, ◌≤◌, Bool, true, false, ◌&&◌, ◌||◌, List, [], ◌∷◌, ◌++◌, length, inl, inr, refl, sym, ◌∙◌, ap, subst, arith}
 use Rattle.std.specs.List.{flat_map}
 use Rattle.std.proofs.lemmas.Bool.{or_cases, and_parts, both_ways}
-use Rattle.cov_base.specs.FactSet.{FactSet}
-use Rattle.cov_base.specs.Facts.{no_facts, has_fact, union, same_fact, fact_of, full_of, is_of_kind}
-use Rattle.cov_base.specs.States.{Visit}
+use Rattle.cov_base.specs.Meaning.{FactSet, no_facts, has_fact, union, same_fact, fact_of, full_of, Visit}
+use Rattle.cov_base.specs.Facts.{is_of_kind}
 use Rattle.cov_base.specs.declared.facts.Fact.{Fact}
 use Rattle.cov_base.specs.declared.facts.Fact.TheVariants.{Ran, Went, Stayed}
 use Rattle.cov_base.specs.declared.facts.Kind.{Kind}
 use Rattle.cov_base.specs.declared.facts.Kind.TheVariants.{Straight, Conditional}
 use Rattle.module_area.specs.declared.places.Place.{Place}
-use Rattle.module_area.specs.PlanView.{PlanView, IsPlan, place_of, kind_at, window_at}
+use Rattle.module_area.specs.Meaning.{PlanView, place_of, kind_at, window_at, executes, facts_at, facts_of_all, FinalsView, set_at, full_places}
+use Rattle.module_area.specs.PlanView.{IsPlan}
 use Rattle.module_area.specs.Notes.{Notes}
-use Rattle.module_area.specs.Executions.{executes, facts_at, facts_of_all}
-use Rattle.module_area.specs.FinalsView.{FinalsView, set_at}
-use Rattle.module_area.specs.Ended.{HasSets, HasTally, full_places}
+use Rattle.module_area.specs.Ended.{HasSets, HasTally}
 use Rattle.module_area.proofs.FactLemmas.{same_fact-true}
 use Rattle.module_area.proofs.EndedLemmas.{pairs_are_places}
 use Rattle.module_area.proofs.Indices.{same_tests}

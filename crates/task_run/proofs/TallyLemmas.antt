@@ -2,12 +2,14 @@
 use Rattle.std.proofs.Common.{◌≡◌, ℕ, ◌+◌, Bool, true, false, ◌==◌, if◌then◌else◌, Option, Some, None, List, [], ◌∷◌, take, get_or, refl, ap, arith}
 use Rattle.std.proofs.lemmas.List.Sums.{sum_by_more}
 use Rattle.cov_base.specs.declared.numbers.SessNo.{SessNo}
-use Rattle.module_area.specs.PlanView.{PlanView, IsPlan}
+use Rattle.module_area.specs.Meaning.{PlanView, ControlView, to_open, opening, closing, control_after}
+use Rattle.module_area.specs.PlanView.{IsPlan}
 use Rattle.module_area.specs.Notes.{Notes}
 use Rattle.module_area.specs.Tied.{IsTied}
-use Rattle.module_area.specs.Control.{ControlView, to_open, opening, closing, after_open, after_end, after_call, control_after}
+use Rattle.module_area.specs.Control.{after_open, after_end, after_call}
 use Rattle.planter.proofs.TieLemmas.{next_at}
-use Rattle.task_run.specs.Called.{control_by, notes_by, places_of, places_in_all, HasPlanted}
+use Rattle.task_run.specs.Meaning.{control_by, places_of, places_in_all}
+use Rattle.task_run.specs.Called.{notes_by, HasPlanted}
 use Rattle.task_run.proofs.WindowLemmas.{IsBound, bound_call}
 
 abbrev so_far : PlanView → ControlView → ℕ

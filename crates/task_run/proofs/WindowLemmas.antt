@@ -5,13 +5,15 @@ use Rattle.std.proofs.lemmas.List.{get_or-drop, length-drop, get_or_default}
 use Rattle.std.proofs.lemmas.Option.{same_Some}
 use Rattle.cov_base.specs.declared.numbers.PlaceNo.{PlaceNo}
 use Rattle.cov_base.specs.declared.numbers.SessNo.{SessNo}
-use Rattle.module_area.specs.PlanView.{PlanView, IsPlan, has_place}
+use Rattle.module_area.specs.Meaning.{PlanView, has_place, ControlView, places_under, to_open, opening, closing, control_after, has_session}
+use Rattle.module_area.specs.PlanView.{IsPlan}
 use Rattle.module_area.specs.Notes.{Notes}
-use Rattle.module_area.specs.Control.{ControlView, places_under, to_open, opening, closing, after_plants, after_closes, after_open, after_end, after_call, control_after}
-use Rattle.module_area.specs.Tied.{has_session, IsTied}
+use Rattle.module_area.specs.Control.{after_plants, after_closes, after_open, after_end, after_call}
+use Rattle.module_area.specs.Tied.{IsTied}
 use Rattle.module_area.proofs.PlanLemmas.{any_at}
 use Rattle.planter.proofs.TieLemmas.{next_at, next_kept, from_one, has_here, tied_open, tied_close}
-use Rattle.task_run.specs.Called.{control_by, notes_by, HasWindows}
+use Rattle.task_run.specs.Meaning.{control_by}
+use Rattle.task_run.specs.Called.{notes_by, HasWindows}
 
 -- of the sessions that were opened, those that aren't open are over at each of their places
 pub record IsPast (plan : PlanView) (n : Notes) (c : ControlView) : Type 0 where

@@ -1,19 +1,13 @@
 -- The supervisor calls of a run, and what they make of the sessions that the task controls.
-use Rattle.std.specs.Prelude.{◌≡◌, ◌↔◌, ℕ, ◌+◌, ◌*◌, true, Option, Some, None, List, [], ◌∷◌, length, take}
-use Rattle.std.specs.List.{sum_by}
-use Rattle.cov_base.specs.States.{Visit}
-use Rattle.module_area.specs.PlanView.{PlanView, has_place}
+use Rattle.std.specs.Prelude.{◌≡◌, ◌↔◌, ℕ, ◌+◌, ◌*◌, true, Option, Some, List, [], ◌∷◌, take}
+use Rattle.cov_base.specs.Meaning.{Visit}
+use Rattle.module_area.specs.Meaning.{PlanView, has_place, has_session, ControlView, places_under, control_after}
 use Rattle.cov_base.specs.declared.numbers.SessNo.{SessNo}
-use Rattle.module_area.specs.Tied.{has_session}
 use Rattle.module_area.specs.Notes.{Notes}
-use Rattle.module_area.specs.Control.{ControlView, places_under, after_call, control_after}
+use Rattle.module_area.specs.Control.{after_call}
 use Rattle.svc_monitor.specs.Observed.{Observes}
 use Rattle.svc_monitor.specs.Answered.{Answered}
-
--- the control after these calls, and what the pass has planted and closed by them
-abbrev pub control_by : ControlView → List (Option ℕ) → ControlView
-control_by c [] = c
-control_by c (k ∷ ks) = control_by (control_after c k) ks
+use Rattle.task_run.specs.Meaning.{control_by, places_of, places_in_all}
 
 abbrev pub notes_by : PlanView → Notes → ControlView → List (Option ℕ) → Notes
 notes_by plan n c [] = n
@@ -38,14 +32,6 @@ pub record Follows (plan : PlanView) (old new : Notes) (trace : List Visit) (cal
 pub record HasWindows (plan : PlanView) (old : Notes) (c : ControlView) (calls : List (Option ℕ)) : Type 0 where
   pub exact : (before : ℕ) (s : SessNo) (p : ℕ) → has_session c.sessions s.0 ≡ true → has_place (places_under plan s.0) p ≡ true →
       (last_by plan old c calls before p + 1 ≡ 2 * s.0) ↔ ((control_by c (take before calls)).opened ≡ Some s)
-
--- the number of the session's places, and those of several sessions together
-abbrev pub places_of : PlanView → Option SessNo → ℕ
-places_of plan None = 0
-places_of plan (Some s) = length (places_under plan s.0)
-
-abbrev pub places_in_all : PlanView → List SessNo → ℕ
-places_in_all plan sessions = sum_by (λ (s : SessNo). places_of plan (Some s)) sessions
 
 -- one plant for each place of each session that was opened, and one close for each place of those but the open one
 pub record HasPlanted (plan : PlanView) (old new : Notes) (d : ControlView) : Type 0 where

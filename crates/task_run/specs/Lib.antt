@@ -1,5 +1,4 @@
 pub mod Aside
 pub mod Called
-pub mod Courses
+pub mod Meaning
 pub mod Ran
-pub mod Windows

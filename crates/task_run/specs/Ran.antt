@@ -1,14 +1,14 @@
 -- A task that has run along its course, with a pass that has made the run's visits.
 use Rattle.std.specs.Prelude.{◌≡◌, ◌+◌, ◌*◌, ◌≤◌}
 use Rattle.cov_base.specs.declared.limits.TheConstants.{PLACE_LIMIT}
-use Rattle.s370_exec.specs.Solo.{Run}
+use Rattle.s370_exec.specs.Meaning.{Run}
 use Rattle.s370_state.specs.declared.endings.Ending.{Ending}
 use Rattle.module_area.specs.Notes.{Notes, calls}
-use Rattle.module_area.specs.PlanView.{PlanView}
+use Rattle.module_area.specs.Meaning.{PlanView}
 use Rattle.module_area.specs.Tied.{IsTied}
 use Rattle.observed_step.specs.Steps.{memory_at, stands}
 use Rattle.task_run.specs.Called.{Follows, HasPlanted, HasWindows}
-use Rattle.task_run.specs.Courses.{Course, Walk, walk}
+use Rattle.task_run.specs.Meaning.{Course, Walk, walk}
 use Rattle.task_run.specs.declared.tasks.Task.{Task}
 
 -- its run from where it stands, with nothing done yet, and the visits and calls of it

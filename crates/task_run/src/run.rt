@@ -5,7 +5,7 @@ ghost use Rattle.module_area.specs.Notes.{calls, is_working};
 ghost use Rattle.module_area.specs.Tied.{IsTied};
 ghost use Rattle.observed_step.specs.Steps.{memory_at};
 ghost use Rattle.svc_monitor.specs.First.{IsOver};
-ghost use Rattle.task_run.specs.Courses.{solo};
+ghost use Rattle.task_run.specs.Meaning.{solo};
 ghost use Rattle.task_run.specs.Ran.{RanAs};
 
 use crate::tasks::Task;

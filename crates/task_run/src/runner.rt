@@ -1,14 +1,14 @@
 //! What runs a task, and keeps of it what it wants beside the task itself.
 ghost use Rattle.std.specs.Prelude.{◌≡◌, ℕ, ◌+◌, ◌<◌, ◌^◌, true, IfOk};
 ghost use Rattle.std.specs.declared.option.Option.TheVariants.{None};
-ghost use Rattle.cov_base.specs.FactSet.{FactSet};
+ghost use Rattle.cov_base.specs.Meaning.{FactSet};
 ghost use Rattle.module_area.specs.Ended.{AreSettled};
 ghost use Rattle.module_area.specs.Notes.{Notes, bearer, calls, is_working, split_notes};
-ghost use Rattle.module_area.specs.PlanView.{PlanView};
+ghost use Rattle.module_area.specs.Meaning.{PlanView};
 ghost use Rattle.module_area.specs.Tied.{IsTied};
 ghost use Rattle.observed_step.specs.Steps.{memory_at};
 ghost use Rattle.svc_monitor.specs.First.{IsOver};
-ghost use Rattle.task_run.specs.Courses.{Course, solo};
+ghost use Rattle.task_run.specs.Meaning.{Course, solo};
 ghost use Rattle.task_run.specs.Ran.{RanAs};
 ghost use Rattle.task_run.specs.declared.tasks.Task.{Task as TaskView};
 

@@ -225,7 +225,13 @@ fn a_task_that_has_ended_is_not_waited_for(rt: HostRuntime) -> Result<(), Fail> 
         return Err("no job".into());
     };
     let mut areas = SharedAreas::new(alloc, 1)?;
-    let Some((none, drains)) = run_both(alloc, &mut areas, &EarlyRunner, &ready.input.job, &ready.tables)?
+    let Some((none, drains)) = run_both(
+        alloc,
+        &mut areas,
+        &EarlyRunner,
+        &ready.input.job,
+        &ready.tables,
+    )?
     else {
         return Err("no plan".into());
     };

@@ -1,6 +1,6 @@
 //! A runner's extras are made before the area is, so before anything is planted.
 ghost use Rattle.std.specs.Prelude.{◌≡◌};
-ghost use Rattle.task_run.specs.Courses.{solo};
+ghost use Rattle.task_run.specs.Meaning.{solo};
 
 use super::FIRST_JOB;
 use brk_table::Tables;

@@ -1,5 +1,5 @@
 use Rattle.std.proofs.Common.{◌≡◌, ◌≢◌, ◌<◌, ◌∙◌, sym, rules, length, get_or, refl}
-use Rattle.module_area.specs.PlanView.{window_at}
+use Rattle.module_area.specs.Meaning.{window_at}
 use Rattle.planter.proofs.PlantLemmas.{planted_more, planted_skip}
 use Rattle.planter.proofs.plant_all.Goals as goal
 use Rattle.planter.proofs.plant_all.Goals.{then-window-ne0, else-window-ne0}

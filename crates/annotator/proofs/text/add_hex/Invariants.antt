@@ -1,5 +1,5 @@
 use Rattle.std.proofs.Common.{◌-◌, ◌≡◌, ◌≤◌, ◌++◌, length, drop}
-use Rattle.annotator.specs.Digits.{hex_digits}
+use Rattle.annotator.specs.Meaning.{hex_digits}
 use Rattle.annotator.proofs.text.add_hex.Given as goal
 
 abbrev pub invariant-loop-at : goal.invariant-loop-at

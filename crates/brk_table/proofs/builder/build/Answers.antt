@@ -1,8 +1,8 @@
 use Rattle.std.proofs.Common.{◌≡◌, [], sym, ap, ◌∙◌}
 use Rattle.std.specs.declared.option.Option.TheVariants.{None}
 use Rattle.std.proofs.lemmas.Result.{IfOk-weaker}
-use Rattle.cov_base.specs.Memory.{ImageView}
-use Rattle.brk_table.specs.Build.{first_fault}
+use Rattle.cov_base.specs.Meaning.{ImageView}
+use Rattle.brk_table.specs.Meaning.{first_fault}
 use Rattle.brk_table.proofs.OwnPlaces.{own_places}
 use Rattle.brk_table.proofs.builder.build.Goals as goal
 

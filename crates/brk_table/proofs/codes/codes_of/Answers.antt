@@ -1,7 +1,7 @@
 use Rattle.std.proofs.Common.{◌≡◌, ◌<◌, length, get_or, sym, ap, subst, ◌∙◌, arith}
 use Rattle.std.proofs.lemmas.List.{get_or_default}
-use Rattle.cov_base.specs.Memory.{ImageView}
-use Rattle.module_area.specs.PlanView.{no_place, place_of}
+use Rattle.cov_base.specs.Meaning.{ImageView}
+use Rattle.module_area.specs.Meaning.{no_place, place_of}
 use Rattle.module_area.specs.declared.places.Place.{Place}
 use Rattle.brk_table.specs.Kept.{code_in, IsCodeOf}
 use Rattle.brk_table.specs.Places.{IsIn}

@@ -1,7 +1,7 @@
 use Rattle.std.proofs.Common.{◌≡◌, ◌+◌, ◌<◌, ◌∙◌, sym, length, get_or, None, arith}
 use Rattle.listing_reader.specs.declared.lines.Line.TheVariants.{Text}
 use Rattle.listing_reader.specs.declared.lines.Line.TheVariants as says
-use Rattle.brk_table.specs.Build.{fault_by}
+use Rattle.brk_table.specs.Meaning.{fault_by}
 use Rattle.brk_table.specs.Cover.{is_covered}
 use Rattle.brk_table.proofs.Passes.{at_start, at_end, found_fault, no_fault, code_passed, text_passed}
 use Rattle.brk_table.proofs.fault.first_fault.Goals as goal

@@ -1,5 +1,5 @@
 use Rattle.std.proofs.Common.{refl}
-use Rattle.brk_table.specs.Build.{module_code}
+use Rattle.brk_table.specs.Meaning.{module_code}
 use Rattle.brk_table.proofs.fault.module_code.Goals as goal
 
 pub returns : goal.returns

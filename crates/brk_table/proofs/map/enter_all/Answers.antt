@@ -1,6 +1,6 @@
 use Rattle.std.proofs.Common.{◌≡◌, get_or, ap, subst, ◌+◌, arith}
 use Rattle.std.proofs.lemmas.List.{get_or_default}
-use Rattle.module_area.specs.PlanView.{no_place, place_of}
+use Rattle.module_area.specs.Meaning.{no_place, place_of}
 use Rattle.module_area.specs.declared.places.Place.{Place}
 use Rattle.brk_table.specs.Map.{entry_at, AreKept}
 use Rattle.brk_table.proofs.MapLemmas.{map_more}

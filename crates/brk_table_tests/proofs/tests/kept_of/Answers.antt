@@ -1,5 +1,5 @@
 use Rattle.std.proofs.Common.{[], ◌∷◌, arith}
-use Rattle.cov_base.specs.Memory.{ImageView}
+use Rattle.cov_base.specs.Meaning.{ImageView}
 use Rattle.brk_table.proofs.OneModule.{one_met}
 use Rattle.brk_table.proofs.Together.{AllMet}
 use Rattle.brk_table_tests.proofs.tests.kept_of.Goals as goal

@@ -1,12 +1,12 @@
 use Rattle.std.proofs.Common.{refl, sym, subst}
-use Rattle.s370_exec.specs.Solo.{run_ended}
-use Rattle.observed_step.specs.Courses.{visits_of}
+use Rattle.s370_exec.specs.Meaning.{run_ended}
+use Rattle.observed_step.specs.Meaning.{visits_of}
 use Rattle.observed_step.specs.Steps.{memory_at, stands}
 use Rattle.task_run.specs.Aside.{IsAside}
 use Rattle.task_run.proofs.AsideLemmas.{aside_none}
 use Rattle.task_run.proofs.GoneLemmas.{made_all}
 use Rattle.task_run.proofs.RanLemmas.{ran_tour}
-use Rattle.check_exits.specs.Exits.{exit_tour, with_exits}
+use Rattle.check_exits.specs.Meaning.{exit_tour, with_exits}
 use Rattle.check_exits.proofs.run.run_under.Goals as goal
 
 pub returns-clause-ran : goal.returns-clause-ran

@@ -1,5 +1,5 @@
 use Rattle.std.proofs.Common.{◌≡◌, ℕ, ◌<◌, map, take}
-use Rattle.module_area.specs.PlanView.{original_at}
+use Rattle.module_area.specs.Meaning.{original_at}
 use Rattle.count_session.specs.Words.{original_of}
 use Rattle.count_session.proofs.begin.cell_words.Given as goal
 

@@ -1,7 +1,7 @@
 use Rattle.std.proofs.Common.{◌≡◌, ◌++◌, List, length, take, drop, sym, ◌∙◌, ap}
 use Rattle.brk_table.proofs.CodeLemmas.{are_in}
 use Rattle.job_run.proofs.PhaseLemmas.{written}
-use Rattle.task_run.specs.Courses.{solo}
+use Rattle.task_run.specs.Meaning.{solo}
 use Rattle.job_run.specs.Slots.{dones}
 use Rattle.job_run.proofs.TaskLemmas.{AreRun-start}
 use Rattle.count_session.specs.Slots.{CountSlot}

@@ -1,5 +1,5 @@
 use Rattle.count_session.specs.Phases.{AreCounted}
-use Rattle.task_run.specs.Courses.{solo}
+use Rattle.task_run.specs.Meaning.{solo}
 use Rattle.job_run.specs.Slots.{AreEmpty}
 use Rattle.job_run.specs.Tasks.{AreRun}
 use Rattle.count_session.proofs.job.count_phases.Given as goal

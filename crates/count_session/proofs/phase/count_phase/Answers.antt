@@ -1,8 +1,8 @@
 use Rattle.std.proofs.Common.{◌≡◌, ℕ, ◌<◌, [], refl, ap, subst, sym, ◌∙◌}
-use Rattle.module_area.specs.PlanView.{PlanView}
+use Rattle.module_area.specs.Meaning.{PlanView}
 use Rattle.job_run.proofs.BackLemmas.{are_empty, have_run, whatever}
 use Rattle.job_run.proofs.EquipLemmas.{begun_in}
-use Rattle.task_run.specs.Courses.{solo}
+use Rattle.task_run.specs.Meaning.{solo}
 use Rattle.count_session.specs.Notes.{CountNotes}
 use Rattle.count_session.specs.Passes.{notes_of, plan_in}
 use Rattle.count_session.proofs.PassLemmas.{counted_if, joins_start}

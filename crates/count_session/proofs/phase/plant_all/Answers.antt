@@ -1,5 +1,5 @@
 use Rattle.std.proofs.Common.{ℕ, ◌&&◌, ◌||◌, Bool, nat_eq, nat_lt, sym, ap, ◌∙◌, arith}
-use Rattle.module_area.specs.PlanView.{window_at}
+use Rattle.module_area.specs.Meaning.{window_at}
 use Rattle.count_session.specs.Notes.{CountNotes, root_notes}
 use Rattle.count_session.specs.Passes.{notes_of}
 use Rattle.count_session.proofs.PlantLemmas.{none_planted, not_yet, more_planted, all_planted}

@@ -1,5 +1,5 @@
 use Rattle.std.proofs.Common.{◌≡◌, ℕ, ◌&&◌, nat_lt}
-use Rattle.module_area.specs.PlanView.{window_at}
+use Rattle.module_area.specs.Meaning.{window_at}
 use Rattle.count_session.specs.Notes.{root_notes}
 use Rattle.count_session.specs.Passes.{IsPassOf, notes_of}
 use Rattle.count_session.proofs.phase.plant_all.Given as goal

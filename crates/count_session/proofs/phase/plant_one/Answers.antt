@@ -1,5 +1,5 @@
 use Rattle.std.proofs.Common.{nat_eq, ap, ◌∙◌, arith}
-use Rattle.module_area.specs.PlanView.{window_at}
+use Rattle.module_area.specs.Meaning.{window_at}
 use Rattle.count_session.specs.Notes.{CountNotes}
 use Rattle.count_session.specs.Passes.{notes_of}
 use Rattle.count_session.proofs.PlantLemmas.{a_window}

@@ -2,7 +2,7 @@ use Rattle.std.proofs.Common.{◌≡◌, ◌<◌, ◌||◌, true, nat_eq, length
 use Rattle.cov_base.specs.declared.facts.Fact.TheVariants.{Went}
 use Rattle.cov_base.specs.declared.facts.Kind.{Kind}
 use Rattle.cov_base.specs.Facts.{is_of_kind}
-use Rattle.module_area.specs.PlanView.{PlanView, kind_at}
+use Rattle.module_area.specs.Meaning.{PlanView, kind_at}
 use Rattle.count_session.specs.Notes.{CountNotes}
 use Rattle.count_session.specs.Passes.{notes_of, plan_in}
 use Rattle.count_session_tests.proofs.tests.at_once.Goals as goal

@@ -1,8 +1,6 @@
 use Rattle.std.proofs.Common.{◌≡◌, false, rules, subst}
-use Rattle.coverage_commands.specs.Answers.{Answers}
-use Rattle.coverage_commands.specs.Changes.{sink_change, areas_change}
-use Rattle.job_input.specs.Inputs.{source_change}
-use Rattle.coverage_commands.specs.Words.{way_of}
+use Rattle.coverage_commands.specs.Meaning.{Answers, sink_change, areas_change, way_of}
+use Rattle.job_input.specs.Meaning.{source_change}
 use Rattle.coverage_commands.specs.declared.words.Command.{Command}
 use Rattle.coverage_commands.proofs.AnswerLemmas.{alike}
 use Rattle.coverage_commands.proofs.answering.answer.Goals as goal

@@ -1,7 +1,6 @@
 use Rattle.std.proofs.Common.{rules}
-use Rattle.coverage_commands.specs.Answers.{IsWritten}
-use Rattle.coverage_commands.specs.Changes.{sink_change, areas_change}
-use Rattle.job_input.specs.Inputs.{source_change}
+use Rattle.coverage_commands.specs.Meaning.{IsWritten, sink_change, areas_change}
+use Rattle.job_input.specs.Meaning.{source_change}
 use Rattle.coverage_commands.proofs.AnswerLemmas.{stopped_run}
 use Rattle.coverage_commands.proofs.answering.answer_run.Goals as goal
 

@@ -1,6 +1,6 @@
-use Rattle.marks_file.specs.MarksFile.{file_bytes}
+use Rattle.marks_file.specs.Meaning.{file_bytes}
 use Rattle.marks_file.specs.declared.version.Version.TheVariants.{Second}
-use Rattle.coverage_commands.specs.Changes.{areas_change}
+use Rattle.coverage_commands.specs.Meaning.{areas_change}
 use Rattle.coverage_commands.proofs.AnswerLemmas.{written_as}
 use Rattle.coverage_commands.proofs.FileLemmas.{records, recorded}
 use Rattle.coverage_commands.proofs.answering.answer_session.Goals as goal

@@ -1,6 +1,6 @@
 use Rattle.job_run.specs.Runs.{HasLeftBy}
-use Rattle.report_text.specs.Report.{report_of}
-use Rattle.coverage_commands.specs.Changes.{areas_change}
+use Rattle.report_text.specs.Meaning.{report_of}
+use Rattle.coverage_commands.specs.Meaning.{areas_change}
 use Rattle.coverage_commands.proofs.AnswerLemmas.{reports, reported, written_as}
 use Rattle.coverage_commands.proofs.answering.answer_tables.Goals as goal
 

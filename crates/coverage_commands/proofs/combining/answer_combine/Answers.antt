@@ -1,6 +1,5 @@
 use Rattle.std.proofs.Common.{refl, ◌∙◌}
-use Rattle.coverage_commands.specs.Answers.{Unread}
-use Rattle.coverage_commands.specs.Refusals.{read_refusal}
+use Rattle.coverage_commands.specs.Meaning.{Unread, read_refusal}
 use Rattle.coverage_commands.specs.declared.words.Command.TheVariants.{Combine}
 use Rattle.coverage_commands.proofs.AnswerLemmas.{stopped}
 use Rattle.coverage_commands.proofs.FileLemmas.{told_as}
@@ -11,4 +10,4 @@ returns-in-Err g c a =
     let r = c.refusal in
     let e = c.in-Err.fault in
     stopped Combine _ a _ _ (read_refusal e) refl (Unread e c.in-Err.ensures.fault refl)
-    (told_as r.inside.status r.inside.line.items c.deref-in-Err.result.now (read_refusal e) _ _ (r.view_is ∙ c.read_refusal.ensures) c.deref-in-Err.ensures.0 c.told.ensures)
+    (told_as r.inside.status r.inside.line.items c.deref-in-Err.result.now (read_refusal e) _ _ (r.view_is ∙ c.read_refusal-refusal.ensures) c.deref-in-Err.ensures.0 c.told.ensures)

@@ -1,7 +1,8 @@
 use Rattle.std.proofs.Common.{map}
-use Rattle.early_report.specs.Text.{drained_of, early_of}
-use Rattle.task_run.specs.Courses.{solo}
-use Rattle.coverage_commands.specs.Changes.{areas_change}
+use Rattle.early_report.specs.Meaning.{early_of}
+use Rattle.early_report.specs.Text.{drained_of}
+use Rattle.task_run.specs.Meaning.{solo}
+use Rattle.coverage_commands.specs.Meaning.{areas_change}
 use Rattle.coverage_commands.proofs.AnswerLemmas.{reports, written_as}
 use Rattle.coverage_commands.proofs.DrainedLemmas.{are_drained, job_came, reported_early}
 use Rattle.coverage_commands.proofs.early.answer_drained.Goals as goal

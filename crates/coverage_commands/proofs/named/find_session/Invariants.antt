@@ -1,5 +1,5 @@
 use Rattle.std.proofs.Common.{◌≡◌, ◌+◌, drop}
-use Rattle.coverage_commands.specs.Named.{number_from, session_number}
+use Rattle.coverage_commands.specs.Meaning.{number_from, session_number}
 use Rattle.coverage_commands.proofs.named.find_session.Given as goal
 
 abbrev pub invariant-loop-i : goal.invariant-loop-i

@@ -1,5 +1,5 @@
 use Rattle.std.proofs.Common.{◌≡◌, ◌+◌, drop}
-use Rattle.coverage_commands.specs.Named.{controlled_from, first_controlled}
+use Rattle.coverage_commands.specs.Meaning.{controlled_from, first_controlled}
 use Rattle.coverage_commands.proofs.named.first_controlled.Given as goal
 
 abbrev pub invariant-loop-i : goal.invariant-loop-i

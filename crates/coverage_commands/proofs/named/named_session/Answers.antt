@@ -1,9 +1,15 @@
-use Rattle.std.proofs.Common.{◌≡◌, true, is_some, sym, rules}
-use Rattle.session_book.specs.Sessions.{session_of}
+use Rattle.std.proofs.Common.{◌≡◌, true, is_some, sym, rules, None, refl, ap}
+use Rattle.session_book.specs.Meaning.{session_of}
 use Rattle.coverage_commands.proofs.StopLemmas.{is_controlled}
+use Rattle.coverage_commands.specs.Meaning.{NoSession, refusal, session_number}
 use Rattle.coverage_commands.proofs.named.named_session.Goals as goal
 
 pub returns-then-is_some-clause-stopped : goal.returns-then-is_some-clause-stopped
 returns-then-is_some-clause-stopped c =
     let by : is_some (session_of c.args.job.now c.in-Some.session.0).by ≡ true = search rules in
     is_controlled c.args.name.now c.args.whole c.args.job.now c.in-Some.session.0 c.controlled.result c.if-whole.true (sym c.in-Some.ensures.value) by c.controlled.ensures
+
+pub returns-in_default-clause-stopped : goal.returns-in_default-clause-stopped
+returns-in_default-clause-stopped c =
+    let missing : session_number c.args.job.now c.args.name.now ≡ None = search rules in
+    λ more s came. NoSession c.args.job.now (record { name = c.args.name.now; whole = c.args.whole }) refl came refl missing (ap (refusal 13) c.no_session_line.ensures)

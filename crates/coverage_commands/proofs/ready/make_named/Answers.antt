@@ -1,6 +1,6 @@
 use Rattle.std.proofs.lemmas.Result.{err_from_is_err_and}
 use Rattle.job_input.proofs.OneInput.{came_job}
-use Rattle.coverage_commands.specs.Words.{with_session}
+use Rattle.coverage_commands.specs.Meaning.{with_session}
 use Rattle.coverage_commands.proofs.ready.make_named.Goals as goal
 
 pub returns-in_err-session-clause-stopped : goal.returns-in_err-session-clause-stopped

@@ -1,6 +1,6 @@
 use Rattle.std.proofs.lemmas.Result.{err_from_is_err_and}
 use Rattle.job_input.proofs.OneInput.{came_job}
-use Rattle.coverage_commands.specs.Words.{AnyJob}
+use Rattle.coverage_commands.specs.Meaning.{AnyJob}
 use Rattle.coverage_commands.proofs.WordLemmas.{any_job}
 use Rattle.coverage_commands.proofs.ready.make_ready.Goals as goal
 

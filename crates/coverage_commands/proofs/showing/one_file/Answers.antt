@@ -1,6 +1,5 @@
 use Rattle.std.proofs.Common.{◌≡◌, true, Some, inl, subst, rules, arith}
-use Rattle.marks_file.specs.Marks.{MarksView, keeps_rules}
-use Rattle.marks_file.specs.Reading.{first_bad, file_fields}
+use Rattle.marks_file.specs.Meaning.{MarksView, keeps_rules, first_bad, file_fields}
 use Rattle.coverage_commands.specs.Files.{Bad}
 use Rattle.coverage_commands.proofs.FileLemmas.{past, alone}
 use Rattle.coverage_commands.proofs.showing.one_file.Goals as goal

@@ -1,5 +1,5 @@
 use Rattle.std.proofs.Common.{◌≡◌, ℕ, List, [], ◌∷◌, ◌++◌, codes, rules}
-use Rattle.report_text.specs.Report.{session_part}
+use Rattle.report_text.specs.Meaning.{session_part}
 use Rattle.report_text.specs.Writes.{WritesLines}
 use Rattle.report_text.proofs.WriteLemmas.{progress_start, progress_more, progress_exit, progress_last}
 use Rattle.coverage_commands.proofs.showing.show_text.Goals as goal

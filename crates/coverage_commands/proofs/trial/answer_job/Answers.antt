@@ -1,6 +1,6 @@
 use Rattle.std.proofs.Common.{◌≡◌, length, ap, ◌∙◌, arith}
-use Rattle.session_book.specs.JobView.{JobView}
-use Rattle.coverage_commands.specs.Changes.{areas_change}
+use Rattle.session_book.specs.Meaning.{JobView}
+use Rattle.coverage_commands.specs.Meaning.{areas_change}
 use Rattle.coverage_commands.proofs.AnswerLemmas.{written_as}
 use Rattle.coverage_commands.proofs.TrialLemmas.{trial_tasks, trial_sessions, tried}
 use Rattle.coverage_commands.proofs.trial.answer_job.Goals as goal

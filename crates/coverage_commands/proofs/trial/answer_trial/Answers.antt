@@ -1,7 +1,7 @@
 use Rattle.std.proofs.Common.{◌≡◌, None, sym, subst}
 use Rattle.report_text.specs.Conditions.{HasFewLines}
-use Rattle.session_book.specs.JobView.{JobView}
-use Rattle.job_tables.specs.Faults.{job_fault}
+use Rattle.session_book.specs.Meaning.{JobView}
+use Rattle.job_tables.specs.Meaning.{job_fault}
 use Rattle.coverage_commands.proofs.TrialLemmas.{trial_faultless, trial_few_lines}
 use Rattle.coverage_commands.proofs.trial.answer_trial.Goals as goal
 

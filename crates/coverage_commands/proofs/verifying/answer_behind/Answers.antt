@@ -1,8 +1,5 @@
 use Rattle.std.proofs.Common.{◌≡◌, refl, subst, rules}
-use Rattle.coverage_commands.specs.Answers.{IsWritten}
-use Rattle.coverage_commands.specs.Changes.{sink_change}
-use Rattle.coverage_commands.specs.Checked.{Verified}
-use Rattle.coverage_commands.specs.Words.{verified_line}
+use Rattle.coverage_commands.specs.Meaning.{IsWritten, sink_change, Verified, verified_line}
 use Rattle.coverage_commands.proofs.CheckedLemmas.{judged_is, unchecked}
 use Rattle.coverage_commands.proofs.FileLemmas.{has_rest, told_as}
 use Rattle.coverage_commands.proofs.verifying.answer_behind.Goals as goal

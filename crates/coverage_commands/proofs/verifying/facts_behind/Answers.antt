@@ -1,13 +1,13 @@
 use Rattle.std.proofs.Common.{◌≡◌, ◌-◌, IfErr, true, subst, take, drop, length, length-drop, rules, arith}
 use Rattle.std.proofs.lemmas.List.{take_all}
 use Rattle.std.proofs.lemmas.Result.{IfErr-weaker}
-use Rattle.evidence_check.specs.Verified.{IsVerified, Passes, IsVerifyFault}
-use Rattle.marks_file.specs.Marks.{MarksView, keeps_rules}
+use Rattle.evidence_check.specs.Meaning.{IsVerified}
+use Rattle.evidence_check.specs.Verified.{Passes, IsVerifyFault}
+use Rattle.marks_file.specs.Meaning.{MarksView, keeps_rules}
 use Rattle.session_marks.specs.FromFile.{IsOwn, set_at}
 use Rattle.table_combine.specs.Combine.{difference_of}
-use Rattle.coverage_commands.specs.Checked.{OfFile, IsStartRefusal}
-use Rattle.coverage_commands.specs.Refusals.{refusal}
-use Rattle.coverage_commands.specs.Words.{other_table_line}
+use Rattle.coverage_commands.specs.Meaning.{OfFile, refusal, other_table_line}
+use Rattle.coverage_commands.specs.Checked.{IsStartRefusal}
 use Rattle.coverage_commands.proofs.CheckedLemmas.{judged_verified, own_of, no_start, other_start, not_verified}
 use Rattle.coverage_commands.proofs.verifying.facts_behind.Goals as goal
 

@@ -1,5 +1,5 @@
 use Rattle.std.proofs.Common.{◌≡◌, Some, rules}
-use Rattle.marks_file.specs.Reading.{first_bad, file_fields}
+use Rattle.marks_file.specs.Meaning.{first_bad, file_fields}
 use Rattle.coverage_commands.specs.Checked.{BadStart}
 use Rattle.coverage_commands.proofs.verifying.first_file.Goals as goal
 

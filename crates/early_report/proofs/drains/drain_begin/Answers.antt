@@ -4,7 +4,8 @@ use Rattle.cov_base.specs.declared.numbers.TaskNo.{TaskNo}
 use Rattle.module_area.specs.Notes.{Notes, bearer}
 use Rattle.module_area.specs.PlanView.{has_task}
 use Rattle.early_report.specs.DrainView.{DrainView}
-use Rattle.early_report.specs.Drains.{IsDrainOf, Begins, others}
+use Rattle.early_report.specs.Meaning.{others}
+use Rattle.early_report.specs.Drains.{IsDrainOf, Begins}
 use Rattle.early_report.specs.declared.drains.Stage.TheVariants.{Begun}
 use Rattle.early_report.proofs.TieLemmas.{tasks_of_plan, unused_tasks, begun_tied}
 use Rattle.early_report.proofs.drains.drain_begin.Given as given

@@ -1,10 +1,9 @@
 use Rattle.std.proofs.Common.{◌≡◌, ◌<◌, true, List, length, All, sym, ◌∙◌, ap, subst, arith}
 use Rattle.std.proofs.lemmas.List.{with_items_is}
-use Rattle.cov_base.specs.FactSet.{FactSet}
+use Rattle.cov_base.specs.Meaning.{FactSet}
 use Rattle.cov_base.specs.declared.numbers.PlaceNo.{PlaceNo}
-use Rattle.module_area.specs.Control.{places_under}
+use Rattle.module_area.specs.Meaning.{places_under, PlanView}
 use Rattle.module_area.specs.Notes.{Notes, is_final}
-use Rattle.module_area.specs.PlanView.{PlanView}
 use Rattle.early_report.specs.DrainView.{DrainView}
 use Rattle.early_report.specs.Drains.{IsDrainOf, Reads, is_over}
 use Rattle.early_report.specs.declared.drains.Stage.TheVariants.{Taken}

@@ -1,6 +1,6 @@
 use Rattle.std.proofs.Common.{◌∷◌, [], ◌++◌, sym, ◌∙◌}
 use Rattle.std.proofs.lemmas.List.{map_more}
-use Rattle.cov_base.specs.Facts.{no_facts}
+use Rattle.cov_base.specs.Meaning.{no_facts}
 use Rattle.cov_base.specs.declared.numbers.PlaceNo.{PlaceNo}
 use Rattle.early_report.proofs.drains.empty_sets.Goals as goal
 

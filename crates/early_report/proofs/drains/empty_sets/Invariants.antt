@@ -1,5 +1,5 @@
 use Rattle.std.proofs.Common.{◌≡◌, map, take}
-use Rattle.cov_base.specs.Facts.{no_facts}
+use Rattle.cov_base.specs.Meaning.{no_facts}
 use Rattle.cov_base.specs.declared.numbers.PlaceNo.{PlaceNo}
 use Rattle.early_report.proofs.drains.empty_sets.Given as goal
 

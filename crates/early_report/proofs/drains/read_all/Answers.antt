@@ -3,7 +3,7 @@ use Rattle.std.proofs.Math.ListN.{set}
 use mathlib.Core.Logic.{dite}
 use native.Mathlib.Decide.{dec_le}
 use Rattle.std.proofs.lemmas.List.{append_assoc, append-nil, drop_all, get_or-set_other, get_or-set_same, get_or_default, length-set, take_all, take_more_set}
-use Rattle.cov_base.specs.FactSet.{FactSet}
+use Rattle.cov_base.specs.Meaning.{FactSet}
 use Rattle.cov_base.specs.declared.numbers.PlaceNo.{PlaceNo}
 use Rattle.module_area.specs.Notes.{Notes, after_read, is_final}
 use Rattle.early_report.specs.Drains.{Reads}

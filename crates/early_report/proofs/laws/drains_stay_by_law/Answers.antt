@@ -1,4 +1,4 @@
-use Rattle.module_area.specs.Control.{places_under}
+use Rattle.module_area.specs.Meaning.{places_under}
 use Rattle.module_area.specs.Notes.{after_join, after_split}
 use Rattle.module_area.proofs.StepLemmas.{or_left, or_right}
 use Rattle.early_report.proofs.ActLemmas.{closed_stays, tied_stays, known_stays}

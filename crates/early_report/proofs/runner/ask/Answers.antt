@@ -1,6 +1,6 @@
 use Rattle.std.proofs.Common.{◌≡◌, ℕ, Some, inl, ◌∙◌, ap}
 use Rattle.cov_base.specs.declared.numbers.TaskNo.{TaskNo}
-use Rattle.module_area.specs.Control.{places_under}
+use Rattle.module_area.specs.Meaning.{places_under}
 use Rattle.module_area.specs.Notes.{Notes}
 use Rattle.early_report.specs.DrainView.{DrainView}
 use Rattle.early_report.specs.Drains.{from_entry, entry_of, polled}

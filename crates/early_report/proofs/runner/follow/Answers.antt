@@ -1,5 +1,5 @@
 use Rattle.module_area.specs.Notes.{Notes, bearer}
-use Rattle.early_report.specs.Drains.{others}
+use Rattle.early_report.specs.Meaning.{others}
 use Rattle.early_report.proofs.LookLemmas.{Begins-looks, looking_trans}
 use Rattle.early_report.proofs.runner.follow.Goals as goal
 

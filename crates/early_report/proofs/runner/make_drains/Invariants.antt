@@ -1,8 +1,7 @@
 use Rattle.std.proofs.Common.{◌≡◌, map, take, nat_eq}
 use Rattle.std.specs.List.{filter}
 use Rattle.cov_base.specs.declared.numbers.SessNo.{SessNo}
-use Rattle.module_area.specs.PlanView.{ControlledView}
-use Rattle.module_area.specs.Control.{number_of}
+use Rattle.module_area.specs.Meaning.{ControlledView, number_of}
 use Rattle.early_report.specs.Drains.{unused}
 use Rattle.early_report.proofs.runner.make_drains.Given as goal
 

@@ -1,9 +1,9 @@
 use Rattle.std.proofs.Common.{get_or, refl, sym, ◌∙◌, ap, subst}
 use Rattle.module_area.specs.Ended.{AreSettled}
 use Rattle.module_area.specs.Notes.{Notes, is_working}
-use Rattle.module_area.specs.PlanView.{PlanView}
+use Rattle.module_area.specs.Meaning.{PlanView}
 use Rattle.task_run.specs.Aside.{IsAside}
-use Rattle.task_run.specs.Courses.{solo}
+use Rattle.task_run.specs.Meaning.{solo}
 use Rattle.early_report.proofs.EarlyLemmas.{bears_of, ended}
 use Rattle.early_report.proofs.ToldLemmas.{ran_aside, told, first_sessions}
 use Rattle.early_report.proofs.runner.run_early.Goals as goal

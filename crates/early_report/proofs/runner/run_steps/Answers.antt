@@ -1,11 +1,11 @@
 use Rattle.std.proofs.Common.{◌≡◌, map, refl, sym, ◌∙◌, ap}
 use Rattle.module_area.specs.Notes.{bearer}
-use Rattle.observed_step.specs.Called.{calls_on}
+use Rattle.observed_step.specs.Meaning.{calls_on}
 use Rattle.observed_step.specs.Steps.{memory_at, stands}
 use Rattle.observed_step.proofs.SoloLemmas.{course_solo}
-use Rattle.s370_exec.specs.Solo.{run_ended}
+use Rattle.s370_exec.specs.Meaning.{run_ended}
 use Rattle.svc_monitor.proofs.TurnLemmas.{turned}
-use Rattle.task_run.specs.Courses.{solo}
+use Rattle.task_run.specs.Meaning.{solo}
 use Rattle.task_run.proofs.GoneLemmas.{made_all}
 use Rattle.task_run.proofs.RanLemmas.{ran_tour}
 use Rattle.early_report.specs.DrainView.{DrainView}

@@ -1,8 +1,9 @@
 use Rattle.std.proofs.Common.{◌≡◌, [], ◌∷◌, ◌++◌, map, codes, rules}
-use Rattle.report_text.specs.Report.{job_lines}
+use Rattle.report_text.specs.Meaning.{job_lines}
 use Rattle.report_text.specs.Writes.{WritesLines}
 use Rattle.report_text.proofs.WriteLemmas.{progress_start, progress_more, progress_exit, progress_last}
-use Rattle.early_report.specs.Text.{drained_of, early_part}
+use Rattle.early_report.specs.Meaning.{early_part}
+use Rattle.early_report.specs.Text.{drained_of}
 use Rattle.early_report.proofs.text.early.Goals as goal
 
 pub returns-in_err-put : goal.returns-in_err-put

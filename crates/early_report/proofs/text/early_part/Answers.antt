@@ -1,7 +1,6 @@
 use Rattle.std.proofs.Common.{◌≡◌, ap, ◌∙◌}
-use Rattle.session_book.specs.JobView.{SessionView}
-use Rattle.session_book.specs.Sessions.{session_of}
-use Rattle.report_text.specs.Report.{session_part}
+use Rattle.session_book.specs.Meaning.{SessionView, session_of}
+use Rattle.report_text.specs.Meaning.{session_part}
 use Rattle.report_text.proofs.WriteLemmas.{progress_start, progress_more, progress_exit, progress_last}
 use Rattle.early_report.proofs.text.early_part.Goals as goal
 

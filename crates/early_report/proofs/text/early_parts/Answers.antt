@@ -1,8 +1,9 @@
 use Rattle.std.proofs.Common.{◌≡◌, ◌+◌, ◌-◌, ◌<◌, length, map, ap, arith}
-use Rattle.session_book.specs.JobView.{JobView}
+use Rattle.session_book.specs.Meaning.{JobView}
 use Rattle.report_text.proofs.RowLemmas.{lines_from-next}
 use Rattle.report_text.proofs.WriteLemmas.{progress_start, progress_at, progress_more, progress_exit}
-use Rattle.early_report.specs.Text.{drained_of, early_part}
+use Rattle.early_report.specs.Meaning.{early_part}
+use Rattle.early_report.specs.Text.{drained_of}
 use Rattle.early_report.proofs.text.early_parts.Goals as goal
 
 pub loop-i-init : goal.loop-i-init

@@ -1,7 +1,8 @@
 use Rattle.std.proofs.Common.{◌+◌, ◌-◌, length, map}
-use Rattle.report_text.specs.Text.{lines_from}
+use Rattle.report_text.specs.Meaning.{lines_from}
 use Rattle.report_text.proofs.WriteLemmas.{Progress}
-use Rattle.early_report.specs.Text.{drained_of, early_part}
+use Rattle.early_report.specs.Meaning.{early_part}
+use Rattle.early_report.specs.Text.{drained_of}
 use Rattle.early_report.proofs.text.early_parts.Given as goal
 
 abbrev pub invariant-loop-i : goal.invariant-loop-i

@@ -1,7 +1,7 @@
 use Rattle.std.proofs.Common.{◌≡◌, ◌+◌, ◌<◌, ◌≤◌, Some, None, length, get_or, drop, min, ◌∙◌, ap, arith}
-use Rattle.marks_file.specs.Marks.{MarkedView}
-use Rattle.brk_table.specs.Places.{first_place}
-use Rattle.evidence_check.specs.Claims.{past_places, places_claims, first_refuted}
+use Rattle.marks_file.specs.Meaning.{MarkedView}
+use Rattle.brk_table.specs.Meaning.{first_place}
+use Rattle.evidence_check.specs.Meaning.{past_places, places_claims, first_refuted}
 use Rattle.evidence_check.specs.Found.{found_at}
 use Rattle.evidence_check.proofs.CheckLemmas.{min_past, modules_step, modules_stop, modules_hold}
 use Rattle.evidence_check.proofs.claims.check_modules.Goals as goal

@@ -1,6 +1,6 @@
 use Rattle.std.proofs.Common.{◌≡◌, length, ◌∙◌, ap, arith}
-use Rattle.marks_file.specs.Marks.{MarkedView}
-use Rattle.evidence_check.specs.Claims.{facts_of_places}
+use Rattle.marks_file.specs.Meaning.{MarkedView}
+use Rattle.evidence_check.specs.Meaning.{facts_of_places}
 use Rattle.evidence_check.proofs.CountLemmas.{places_within, count_module, facts_of_modules-most}
 use Rattle.evidence_check.proofs.counting.facts_of_modules.Goals as goal
 

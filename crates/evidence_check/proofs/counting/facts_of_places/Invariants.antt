@@ -1,5 +1,5 @@
 use Rattle.std.proofs.Common.{◌≡◌, ◌+◌, drop}
-use Rattle.evidence_check.specs.Claims.{facts_of_places}
+use Rattle.evidence_check.specs.Meaning.{facts_of_places}
 use Rattle.evidence_check.proofs.counting.facts_of_places.Given as goal
 
 abbrev pub invariant-loop-i : goal.invariant-loop-i

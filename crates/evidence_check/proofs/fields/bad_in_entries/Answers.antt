@@ -1,6 +1,6 @@
 use Rattle.std.proofs.Common.{sym, ◌∙◌, ap}
-use Rattle.marks_file.specs.Reading.{first_bad}
-use Rattle.evidence_check.specs.Fields.{entry_fields}
+use Rattle.marks_file.specs.Meaning.{first_bad}
+use Rattle.evidence_check.specs.Meaning.{entry_fields}
 use Rattle.evidence_check.proofs.FieldLemmas.{entries_step, entries_stop}
 use Rattle.evidence_check.proofs.fields.bad_in_entries.Goals as goal
 

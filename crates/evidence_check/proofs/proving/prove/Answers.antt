@@ -1,7 +1,7 @@
 use Rattle.std.proofs.Common.{◌∙◌, ap, subst}
 use Rattle.std.specs.Io.KnownBytes.{Appends}
-use Rattle.cov_outside.specs.Whole.{AppendsSome}
-use Rattle.session_book.specs.JobView.{SessionView}
+use Rattle.cov_outside.specs.Meaning.{AppendsSome}
+use Rattle.session_book.specs.Meaning.{SessionView}
 use Rattle.evidence_check.proofs.EntryLemmas.{found_evidence}
 use Rattle.evidence_check.proofs.FactLemmas.{first_is_shown}
 use Rattle.evidence_check.proofs.proving.prove.Goals as goal

@@ -1,7 +1,7 @@
 use Rattle.std.proofs.Common.{◌≡◌, Some, length, sym, ◌∙◌, ap, arith}
-use Rattle.marks_file.specs.Marks.{MarksView}
-use Rattle.session_book.specs.JobView.{SessionView}
-use Rattle.evidence_check.specs.Claims.{facts_of_modules, first_refuted}
+use Rattle.marks_file.specs.Meaning.{MarksView}
+use Rattle.session_book.specs.Meaning.{SessionView}
+use Rattle.evidence_check.specs.Meaning.{facts_of_modules, first_refuted}
 use Rattle.evidence_check.proofs.CallLemmas.{own_there, found_claims, same_fields}
 use Rattle.evidence_check.proofs.CountLemmas.{few_places, few_modules}
 use Rattle.evidence_check.proofs.VerifiedLemmas.{passed_is, verified_passes}

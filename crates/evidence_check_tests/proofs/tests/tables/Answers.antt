@@ -1,5 +1,6 @@
 use Rattle.std.proofs.Common.{◌≡◌, All, List, sym, subst, rules}
-use Rattle.brk_table.specs.Places.{TableView, ArePlaces, IsIn, all_places}
+use Rattle.brk_table.specs.Meaning.{TableView, all_places}
+use Rattle.brk_table.specs.Places.{ArePlaces, IsIn}
 use Rattle.brk_table.proofs.Together.{all_in}
 use Rattle.session_marks.specs.Sample.{sample_images, sample_tables}
 use Rattle.session_marks.proofs.SampleLemmas.{sample_are_tables, sample_are_places}

@@ -1,5 +1,5 @@
 use Rattle.std.proofs.Common.{◌≡◌, drop}
-use Rattle.interleave_core.specs.Control.{controller_from}
+use Rattle.interleave_core.specs.Meaning.{controller_from}
 use Rattle.interleave_core.proofs.control.controller_of.Given as goal
 
 abbrev pub invariant-loop-c : goal.invariant-loop-c

@@ -1,5 +1,5 @@
 use Rattle.std.proofs.Common.{rules, ◌≡◌, ◌++◌, [], ◌∷◌}
-use Rattle.interleave_core.specs.World.{World}
+use Rattle.interleave_core.specs.Meaning.{World}
 use Rattle.interleave_core.proofs.Starts.{AreReady-push}
 use Rattle.interleave_core.proofs.fresh.make_tasks.Goals as goal
 

@@ -1,5 +1,5 @@
 use Rattle.std.proofs.Common.{◌≡◌, ◌+◌, ◌-◌, arith, append_assoc}
-use Rattle.job_gen.specs.Code.{code_from}
+use Rattle.job_gen.specs.Meaning.{code_from}
 use Rattle.job_gen.proofs.CodeLemmas.{block_size, code_size, code_more, code_end}
 use Rattle.job_gen.proofs.code.code_of.Goals as goal
 

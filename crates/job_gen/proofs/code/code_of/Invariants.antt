@@ -1,5 +1,5 @@
 use Rattle.std.proofs.Common.{◌≡◌, ◌-◌, ◌*◌, ◌≤◌, ◌++◌}
-use Rattle.job_gen.specs.Code.{code_from}
+use Rattle.job_gen.specs.Meaning.{code_from}
 use Rattle.job_gen.proofs.code.code_of.Given as goal
 
 abbrev pub invariant-loop-block : goal.invariant-loop-block

@@ -1,5 +1,5 @@
 use Rattle.std.proofs.Common.{refl}
-use Rattle.job_gen.specs.Trial.{trial_job, trial_code}
+use Rattle.job_gen.specs.Meaning.{trial_job, trial_code}
 use Rattle.job_gen.proofs.JobLemmas.{trial_is_job}
 use Rattle.job_gen.proofs.jobs.trial.Goals as goal
 

@@ -1,5 +1,5 @@
 use Rattle.std.proofs.Common.{◌≡◌, ◌++◌, drop}
-use Rattle.job_gen.specs.Code.{bytes_of}
+use Rattle.job_gen.specs.Meaning.{bytes_of}
 use Rattle.job_gen.proofs.listing.bytes_of.Given as goal
 
 abbrev pub invariant-loop-instruction : goal.invariant-loop-instruction

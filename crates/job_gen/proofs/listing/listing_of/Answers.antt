@@ -1,5 +1,5 @@
 use Rattle.std.proofs.Common.{◌+◌, refl, arith}
-use Rattle.job_gen.specs.Listing.{listing_of}
+use Rattle.job_gen.specs.Meaning.{listing_of}
 use Rattle.job_gen.proofs.JobLemmas.{short_line}
 use Rattle.job_gen.proofs.listing.listing_of.Goals as goal
 

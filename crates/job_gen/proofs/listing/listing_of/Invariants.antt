@@ -1,5 +1,5 @@
 use Rattle.std.proofs.Common.{◌≡◌, ◌+◌, ◌*◌, ◌≤◌, ◌++◌, drop}
-use Rattle.job_gen.specs.Listing.{lines_from, listing_of}
+use Rattle.job_gen.specs.Meaning.{lines_from, listing_of}
 use Rattle.job_gen.proofs.listing.listing_of.Given as goal
 
 abbrev pub invariant-loop-i : goal.invariant-loop-i

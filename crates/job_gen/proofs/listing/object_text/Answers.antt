@@ -1,5 +1,5 @@
 use Rattle.std.proofs.Common.{refl}
-use Rattle.job_gen.specs.Listing.{object_text, groups}
+use Rattle.job_gen.specs.Meaning.{object_text, groups}
 use Rattle.job_gen.proofs.listing.object_text.Goals as goal
 use Rattle.job_gen.proofs.listing.object_text.Goals.{in-Some, in_default}
 

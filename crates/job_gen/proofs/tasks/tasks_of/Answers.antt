@@ -1,6 +1,6 @@
 use Rattle.std.proofs.Common.{◌+◌, arith, sym}
 use Rattle.std.proofs.lemmas.List.FromFn.{map-range_with_len_more}
-use Rattle.job_gen.specs.Trial.{trial_task}
+use Rattle.job_gen.specs.Meaning.{trial_task}
 use Rattle.job_gen.proofs.tasks.tasks_of.Goals as goal
 
 pub loop-k-preserved : goal.loop-k-preserved

@@ -1,6 +1,6 @@
 use Rattle.std.proofs.Common.{◌≡◌, map}
 use Rattle.std.specs.List.{range_with_len}
-use Rattle.job_gen.specs.Trial.{trial_task}
+use Rattle.job_gen.specs.Meaning.{trial_task}
 use Rattle.job_gen.proofs.tasks.tasks_of.Given as goal
 
 abbrev pub invariant-loop-k : goal.invariant-loop-k

@@ -1,7 +1,6 @@
 use Rattle.std.proofs.Common.{◌≡◌, ℕ, ◌<◌, ◌≤◌, true, false, length, get_or, refl, sym, ◌∙◌, ap, subst, arith}
 use Rattle.std.proofs.lemmas.List.{get_or_default}
-use Rattle.module_area.specs.Control.{first_control}
-use Rattle.module_area.specs.PlanView.{PlanView}
+use Rattle.module_area.specs.Meaning.{first_control, PlanView}
 use Rattle.job_run.specs.Crews.{Each, Own, phase_at}
 use Rattle.job_run.specs.Passes.{HasStart}
 use Rattle.job_run.specs.Slots.{in_phase}

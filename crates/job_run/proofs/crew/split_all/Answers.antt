@@ -1,6 +1,6 @@
 use Rattle.std.proofs.Common.{◌≡◌, ℕ, ◌+◌, ◌<◌, ◌≤◌, true, false, nat_eq, Some, [], List, length, get_or, refl, sym, ◌∙◌, ap, subst, arith}
 use Rattle.cov_base.specs.declared.numbers.TaskNo.{TaskNo}
-use Rattle.session_book.specs.Sessions.{task_of}
+use Rattle.session_book.specs.Meaning.{task_of}
 use Rattle.job_run.specs.Crews.{PhaseView, IsTaskOf, Own, GetsPass, is_its, tasks_before}
 use Rattle.job_run.specs.declared.slots.Slot.{Slot}
 use Rattle.job_run.proofs.BeforeLemmas.{before_all, before_other}

@@ -1,16 +1,16 @@
 use Rattle.std.proofs.Common.{◌≡◌, ℕ, ◌+◌, true, false, not, ◌&&◌, List, IfOk, length, refl, sym, ap, subst, ◌∙◌, arith}
-use Rattle.cov_base.specs.FactSet.{FactSet}
-use Rattle.cov_base.specs.States.{Visit}
+use Rattle.cov_base.specs.Meaning.{FactSet, Visit}
 use Rattle.cov_base.specs.declared.numbers.TaskNo.{TaskNo}
 use Rattle.module_area.specs.Notes.{Notes, calls}
-use Rattle.module_area.specs.PlanView.{IsPlan, PlanView, has_task}
+use Rattle.module_area.specs.Meaning.{PlanView}
+use Rattle.module_area.specs.PlanView.{IsPlan, has_task}
 use Rattle.planter.specs.Planted.{planted_notes}
-use Rattle.task_run.specs.Courses.{Walk}
+use Rattle.task_run.specs.Meaning.{Walk}
 use Rattle.job_run.specs.Areas.{GrowsBy}
 use Rattle.job_run.specs.Bounds.{JoinsTasks}
 use Rattle.job_run.specs.Crews.{all_tasks, phase_at}
 use Rattle.job_run.specs.Passes.{JoinsAll, after_planting}
-use Rattle.job_run.specs.Runs.{phase_trace, walk_by}
+use Rattle.job_run.specs.Meaning.{phase_trace, walk_by}
 use Rattle.job_run.specs.Slots.{HaveExtras}
 use Rattle.job_run.proofs.AreaLemmas.{grows_if}
 use Rattle.job_run.proofs.BackLemmas.{are_empty, by_sets, have_extras, have_run, others_same, whatever}

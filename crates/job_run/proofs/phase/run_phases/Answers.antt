@@ -1,5 +1,5 @@
 use Rattle.std.proofs.Common.{◌≡◌, ℕ, ◌+◌, ◌<◌, List, [], ◌∷◌, length, ap, ◌∙◌, subst, sym, arith, length-append}
-use Rattle.module_area.specs.FinalsView.{FinalsView}
+use Rattle.module_area.specs.Meaning.{FinalsView}
 use Rattle.job_run.specs.Slots.{HaveAllExtras}
 use Rattle.job_run.specs.Tasks.{AreRun}
 use Rattle.job_run.proofs.PhaseLemmas.{HasRunTo, HasRunTo-start, HasRunTo-next, HasRunTo-all}

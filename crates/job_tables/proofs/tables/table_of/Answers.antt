@@ -1,7 +1,8 @@
 use Rattle.std.proofs.Common.{List, refl, sym, ◌∙◌, ap, subst}
-use Rattle.cov_base.specs.Memory.{ImageView}
+use Rattle.cov_base.specs.Meaning.{ImageView}
 use Rattle.listing_reader.specs.declared.lines.Line.{Line}
-use Rattle.job_tables.specs.Faults.{IsFaultOf, build_fault, listing_fault}
+use Rattle.job_tables.specs.Meaning.{build_fault, listing_fault}
+use Rattle.job_tables.specs.Faults.{IsFaultOf}
 use Rattle.job_tables.specs.declared.faults.TablesFault.{TablesFault}
 use Rattle.job_tables.proofs.TableLemmas.{no_listing_fault, build_told}
 use Rattle.job_tables.proofs.tables.table_of.Goals as goal

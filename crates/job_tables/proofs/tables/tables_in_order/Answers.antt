@@ -1,5 +1,5 @@
 use Rattle.std.proofs.Common.{◌≡◌, length, ap, arith}
-use Rattle.brk_table.specs.Places.{TableView}
+use Rattle.brk_table.specs.Meaning.{TableView}
 use Rattle.job_tables.proofs.TableLemmas.{tables_skip, tables_more, tables_all, tables_faultless}
 use Rattle.job_tables.proofs.tables.tables_in_order.Goals as goal
 use Rattle.job_tables.proofs.tables.tables_in_order.Goals.{in-Some+in_ok-table+in_ok-push, in_default}

@@ -1,10 +1,11 @@
 use Rattle.std.proofs.Common.{List, sym, subst, ap, All}
-use Rattle.cov_base.specs.Memory.{ImageView}
+use Rattle.cov_base.specs.Meaning.{ImageView}
 use Rattle.module_area.specs.declared.places.Place.{Place}
-use Rattle.brk_table.specs.Places.{IsIn, all_places}
+use Rattle.brk_table.specs.Meaning.{all_places}
+use Rattle.brk_table.specs.Places.{IsIn}
 use Rattle.brk_table.specs.Kept.{AreCodes}
 use Rattle.brk_table.proofs.Together.{AllMet, all_met}
-use Rattle.session_book.specs.JobView.{JobView}
+use Rattle.session_book.specs.Meaning.{JobView}
 use Rattle.job_tables.proofs.TableLemmas.{is_ready}
 use Rattle.job_tables.proofs.tables.tables_of.Goals as goal
 

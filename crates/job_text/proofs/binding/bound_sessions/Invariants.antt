@@ -1,5 +1,5 @@
 use Rattle.std.proofs.Common.{◌≡◌, map}
-use Rattle.job_text.specs.Drafts as drafts
+use Rattle.job_text.specs.Meaning as drafts
 use Rattle.job_text.proofs.binding.bound_sessions.Given as goal
 
 abbrev pub invariant-loop-session : goal.invariant-loop-session

@@ -1,5 +1,5 @@
 use Rattle.std.proofs.Common.{◌≡◌, drop, Some, []}
-use Rattle.job_text.specs.Adding as adding
+use Rattle.job_text.specs.Meaning as adding
 use Rattle.job_text.proofs.drafts.indices.Given as goal
 
 abbrev pub invariant-loop-name : goal.invariant-loop-name

@@ -1,5 +1,5 @@
 use Rattle.std.proofs.Common.{◌≡◌, drop, map, Some}
-use Rattle.job_text.specs.Words as spell
+use Rattle.job_text.specs.Meaning as spell
 use Rattle.job_text.proofs.words.names_of.Given as goal
 
 abbrev pub invariant-loop-word : goal.invariant-loop-word

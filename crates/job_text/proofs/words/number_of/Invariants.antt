@@ -1,5 +1,5 @@
 use Rattle.std.proofs.Common.{◌≡◌, ◌<◌, ◌^◌, drop}
-use Rattle.job_text.specs.Words as spell
+use Rattle.job_text.specs.Meaning as spell
 use Rattle.job_text.proofs.words.number_of.Given as goal
 
 abbrev pub invariant-loop-b : goal.invariant-loop-b

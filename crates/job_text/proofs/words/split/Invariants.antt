@@ -1,5 +1,5 @@
 use Rattle.std.proofs.Common.{◌≡◌, ◌++◌, map, length}
-use Rattle.job_text.specs.Words as spell
+use Rattle.job_text.specs.Meaning as spell
 use Rattle.job_text.proofs.words.split.Given as goal
 
 abbrev pub invariant-loop-at : goal.invariant-loop-at

@@ -3,7 +3,7 @@ use Rattle.std.specs.Prelude.{slice_index_or}
 use Rattle.std.specs.List.{position_or_len}
 use Rattle.std.proofs.lemmas.Bool.Decides.{nat_tests}
 use Rattle.std.proofs.lemmas.List.Sums.{position_or_len_is}
-use Rattle.listing_lines.specs.Heading.{is_heading}
+use Rattle.listing_lines.specs.Meaning.{is_heading}
 use Rattle.listing_lines.proofs.heading.first_heading.Goals as goal
 
 pub returns-then-is_heading : goal.returns-then-is_heading

@@ -1,5 +1,5 @@
 use Rattle.std.proofs.Common.{◌≡◌, ℕ, ◌<◌, [], false, get_or}
-use Rattle.listing_lines.specs.Heading.{is_heading}
+use Rattle.listing_lines.specs.Meaning.{is_heading}
 use Rattle.listing_lines.proofs.heading.first_heading.Given as goal
 
 abbrev pub invariant-loop-i : goal.invariant-loop-i

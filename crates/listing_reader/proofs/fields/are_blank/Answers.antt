@@ -1,5 +1,5 @@
 use Rattle.std.proofs.Common.{sym}
-use Rattle.listing_reader.specs.Fields.{are_blank}
+use Rattle.listing_reader.specs.Meaning.{are_blank}
 use Rattle.listing_reader.proofs.Digits.{all_below_false}
 use Rattle.listing_reader.proofs.fields.are_blank.Goals as goal
 

@@ -1,5 +1,5 @@
 use Rattle.std.proofs.Common.{◌≡◌, ◌<◌, ◌^◌, Some}
-use Rattle.listing_reader.specs.Fields.{number_in}
+use Rattle.listing_reader.specs.Meaning.{number_in}
 use Rattle.listing_reader.proofs.fields.number_in.Given as goal
 
 abbrev pub invariant-loop-k : goal.invariant-loop-k

@@ -1,5 +1,5 @@
 use Rattle.std.proofs.Common.{sym, subst, ℕ, ◌≡◌, true, arith}
-use Rattle.listing_reader.specs.Fields.{are_groups, all_below, fits_groups}
+use Rattle.listing_reader.specs.Meaning.{are_groups, all_below, fits_groups}
 use Rattle.listing_reader.proofs.Digits.{all_below_false}
 use Rattle.listing_reader.proofs.object.are_groups.Goals as goal
 

@@ -1,5 +1,5 @@
 use Rattle.std.proofs.Common.{◌≡◌, true}
-use Rattle.listing_reader.specs.Fields.{all_below, fits_groups}
+use Rattle.listing_reader.specs.Meaning.{all_below, fits_groups}
 use Rattle.listing_reader.proofs.object.are_groups.Given as goal
 
 abbrev pub invariant-loop-k : goal.invariant-loop-k

@@ -1,5 +1,5 @@
 use Rattle.std.proofs.Common.{refl}
-use Rattle.listing_reader.specs.Fields.{code_in}
+use Rattle.listing_reader.specs.Meaning.{code_in}
 use Rattle.listing_reader.proofs.object.code_in.Goals as goal
 
 pub returns : goal.returns

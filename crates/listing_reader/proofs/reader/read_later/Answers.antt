@@ -2,7 +2,8 @@ use Rattle.std.proofs.Common.{◌≡◌, ◌∙◌, ◌+◌, ◌<◌, [], ◌∷
 use Rattle.std.specs.Prelude.{Some}
 use Rattle.std.proofs.lemmas.List.Elements.{All-push}
 use Rattle.std.specs.declared.option.Option.TheVariants.{None}
-use Rattle.listing_reader.specs.Listing.{line_of, is_sound}
+use Rattle.listing_reader.specs.Meaning.{line_of}
+use Rattle.listing_reader.specs.Listing.{is_sound}
 use Rattle.listing_reader.proofs.Laws.{bad_here, read_here, none_here}
 use Rattle.listing_reader.proofs.reader.read_later.Goals as goal
 

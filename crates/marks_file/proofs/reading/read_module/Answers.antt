@@ -1,7 +1,7 @@
 use Rattle.std.proofs.Common.{◌≡◌, None, Some, drop, arith, length-drop}
 use Rattle.std.proofs.lemmas.Result.{err_from_is_err_and}
 use Rattle.byteorder.specs.Endian.{big_number}
-use Rattle.marks_file.specs.Reading.{first_bad, header_fields, count_at}
+use Rattle.marks_file.specs.Meaning.{first_bad, header_fields, count_at}
 use Rattle.marks_file.proofs.FieldLemmas.{first_some, module_record}
 use Rattle.marks_file.proofs.LoopLemmas.{module_stops, module_goes, module_value}
 use Rattle.marks_file.proofs.reading.read_module.Goals as goal

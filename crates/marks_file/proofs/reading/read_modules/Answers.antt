@@ -1,7 +1,6 @@
 use Rattle.std.proofs.Common.{◌≡◌, None, drop, length, ap, arith}
 use Rattle.std.proofs.lemmas.Result.{err_from_is_err_and}
-use Rattle.marks_file.specs.Marks.{MarkedView}
-use Rattle.marks_file.specs.Reading.{first_bad, module_fields}
+use Rattle.marks_file.specs.Meaning.{MarkedView, first_bad, module_fields}
 use Rattle.marks_file.proofs.SpellLemmas.{AreBytes}
 use Rattle.marks_file.proofs.ModuleLoop.{modules_step, modules_stop}
 use Rattle.marks_file.proofs.reading.read_modules.Goals as goal

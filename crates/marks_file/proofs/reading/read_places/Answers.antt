@@ -1,6 +1,6 @@
 use Rattle.std.proofs.Common.{◌≡◌, None, Some, drop, arith}
 use Rattle.std.proofs.lemmas.Result.{err_from_is_err_and}
-use Rattle.marks_file.specs.Reading.{first_bad, place_fields, place_at}
+use Rattle.marks_file.specs.Meaning.{first_bad, place_fields, place_at}
 use Rattle.marks_file.proofs.LoopLemmas.{places_start, places_step, places_stop, places_good, places_all, place_end}
 use Rattle.marks_file.proofs.reading.read_places.Goals as goal
 

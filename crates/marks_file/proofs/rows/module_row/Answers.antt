@@ -1,5 +1,5 @@
 use Rattle.std.proofs.Common.{◌≡◌, ap, ◌∙◌, refl, length, arith}
-use Rattle.marks_file.specs.Marks.{MarkedView}
+use Rattle.marks_file.specs.Meaning.{MarkedView}
 use Rattle.marks_file.proofs.rows.module_row.Goals as goal
 
 pub returns : goal.returns

@@ -1,6 +1,6 @@
 use Rattle.std.proofs.Common.{drop, ◌++◌}
 use Rattle.std.specs.List.{flat_map}
-use Rattle.marks_file.specs.MarksFile.{module_bytes}
+use Rattle.marks_file.specs.Meaning.{module_bytes}
 use Rattle.cov_outside.proofs.WriteLemmas.{Progress}
 use Rattle.marks_file.proofs.writing.put_modules.Given as goal
 

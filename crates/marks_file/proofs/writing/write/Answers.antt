@@ -1,6 +1,6 @@
 use Rattle.std.proofs.Common.{◌≡◌, List, length, All, subst, sym, ap, ◌∙◌, arith}
-use Rattle.marks_file.specs.Marks.{MarkedView, MarksView, HasRow}
-use Rattle.marks_file.specs.MarksFile.{file_bytes}
+use Rattle.marks_file.specs.Meaning.{MarkedView, MarksView, file_bytes}
+use Rattle.marks_file.specs.Marks.{HasRow}
 use Rattle.marks_file.specs.declared.version.Version.TheVariants.{Second}
 use Rattle.cov_outside.specs.Puts.{Puts}
 use Rattle.cov_outside.proofs.BufferLemmas.{puts_flushed}

@@ -1,5 +1,6 @@
 use Rattle.std.proofs.Common.{ℕ, ◌<◌, get_or}
-use Rattle.module_area.specs.PlanView.{MayStand, place_of}
+use Rattle.module_area.specs.Meaning.{place_of}
+use Rattle.module_area.specs.PlanView.{MayStand}
 use Rattle.module_area.proofs.checked_plan.may_all_stand.Given as goal
 
 abbrev pub invariant-loop-i : goal.invariant-loop-i

@@ -1,9 +1,7 @@
 use Rattle.std.proofs.Common.{◌≡◌, true, false, [], ◌∷◌, refl, ap, sym, subst, ◌∙◌}
-use Rattle.cov_base.specs.Memory.{half_at}
-use Rattle.s370_exec.specs.Calls.{call_of, subject_call}
+use Rattle.cov_base.specs.Meaning.{half_at}
+use Rattle.s370_exec.specs.Meaning.{call_of, subject_call, is_execute, solo_step, subject_step, stepped, behind}
 use Rattle.s370_exec.specs.Effects.{effect_of}
-use Rattle.s370_exec.specs.Fetch.{is_execute}
-use Rattle.s370_exec.specs.Solo.{solo_step, subject_step, stepped, behind}
 use Rattle.s370_exec.proofs.StepLemmas.{solo_step-begun, solo_step-execute}
 use Rattle.observed_step.specs.Called.{call_at}
 use Rattle.observed_step.specs.Steps.{memory_at, stands, own_visit}

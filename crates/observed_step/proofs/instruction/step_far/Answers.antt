@@ -1,6 +1,5 @@
 use Rattle.std.proofs.Common.{◌≡◌, false, None, [], ◌∷◌, refl}
-use Rattle.s370_exec.specs.Calls.{call_of}
-use Rattle.s370_exec.specs.Solo.{solo_step, ended, visit}
+use Rattle.s370_exec.specs.Meaning.{call_of, solo_step, ended, visit}
 use Rattle.s370_exec.proofs.StepLemmas.{solo_step-refused, solo_step-rest_refused}
 use Rattle.observed_step.specs.Steps.{memory_at, stands}
 use Rattle.observed_step.proofs.CallLemmas.{call_of-refused, call_of-rest_refused}

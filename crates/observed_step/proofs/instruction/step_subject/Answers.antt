@@ -1,10 +1,8 @@
 use Rattle.std.proofs.Common.{◌≡◌, true, false, None, [], ◌∷◌, refl}
-use Rattle.s370_decode.specs.Fields.{first_half}
-use Rattle.s370_decode.specs.Table.{op_of}
-use Rattle.s370_branch.specs.Branch.{goes}
-use Rattle.s370_exec.specs.Calls.{subject_call}
+use Rattle.s370_decode.specs.Meaning.{first_half, op_of}
+use Rattle.s370_branch.specs.Meaning.{goes}
+use Rattle.s370_exec.specs.Meaning.{subject_call, subject_step, ended, stepped, visit}
 use Rattle.s370_exec.specs.Effects.{effect_of}
-use Rattle.s370_exec.specs.Solo.{subject_step, ended, stepped, visit}
 use Rattle.s370_exec.proofs.CallLemmas.{subject_call-refused, subject_call-unread}
 use Rattle.s370_exec.proofs.StepLemmas.{subject_step-refused, subject_step-unread, subject_step-begun}
 use Rattle.observed_step.specs.Called.{call_at}

@@ -1,7 +1,8 @@
 use Rattle.std.proofs.Common.{◌≡◌, Some, List, length, sym, ap, subst, ◌∙◌, arith}
 use Rattle.cov_base.specs.declared.numbers.PlaceNo.{PlaceNo}
 use Rattle.module_area.specs.Notes.{Notes, calls}
-use Rattle.module_area.specs.Control.{ControlView, closing, places_under, after_closes}
+use Rattle.module_area.specs.Meaning.{ControlView, closing, places_under}
+use Rattle.module_area.specs.Control.{after_closes}
 use Rattle.module_area.specs.Tied.{IsTied}
 use Rattle.planter.proofs.TieLemmas.{open_kept, from_one, few_places, may_close, tied_close}
 use Rattle.planter.proofs.control.close_open.Goals as goal

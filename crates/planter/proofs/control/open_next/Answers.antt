@@ -1,7 +1,8 @@
 use Rattle.std.proofs.Common.{◌≡◌, Some, length, List, sym, ap, subst, ◌∙◌, arith}
 use Rattle.cov_base.specs.declared.numbers.PlaceNo.{PlaceNo}
 use Rattle.module_area.specs.Notes.{Notes, calls}
-use Rattle.module_area.specs.Control.{ControlView, to_open, opening, places_under, after_plants}
+use Rattle.module_area.specs.Meaning.{ControlView, to_open, opening, places_under}
+use Rattle.module_area.specs.Control.{after_plants}
 use Rattle.module_area.specs.Tied.{IsTied}
 use Rattle.planter.proofs.TieLemmas.{next_kept, next_later, next_small, from_one, few_places, may_plant, tied_open}
 use Rattle.planter.proofs.control.open_next.Goals as goal

@@ -1,6 +1,5 @@
 use Rattle.std.proofs.Common.{◌≡◌, [], ◌∷◌, ◌++◌, codes, rules}
-use Rattle.report_text.specs.Counts.{session_counts}
-use Rattle.report_text.specs.Report.{job_lines}
+use Rattle.report_text.specs.Meaning.{session_counts, job_lines}
 use Rattle.report_text.specs.Writes.{WritesLines}
 use Rattle.report_text.proofs.WriteLemmas.{progress_start, progress_more, progress_exit, progress_last}
 use Rattle.report_text.proofs.counts.count_text.Goals as goal

@@ -1,10 +1,8 @@
 use Rattle.std.proofs.Common.{◌≡◌, ℕ, ◌-◌, List, [], ◌∷◌, ◌++◌, arith}
-use Rattle.brk_table.specs.Places.{place_count}
-use Rattle.module_area.specs.PlanView.{place_of}
-use Rattle.session_book.specs.Sessions.{module_of}
-use Rattle.report_text.specs.Counts.{count_line}
-use Rattle.report_text.specs.Sessions.{location_of}
-use Rattle.report_text.specs.Table.{module_line}
+use Rattle.brk_table.specs.Meaning.{place_count}
+use Rattle.module_area.specs.Meaning.{place_of}
+use Rattle.session_book.specs.Meaning.{module_of}
+use Rattle.report_text.specs.Meaning.{count_line, location_of, module_line}
 use Rattle.report_text.proofs.RowLemmas.{lines_from-next, lines_from-end}
 use Rattle.report_text.proofs.WriteLemmas.{progress_start, progress_at, progress_more, progress_exit, progress_last, progress_end}
 use Rattle.report_text.proofs.counts.module_counts.Goals as goal

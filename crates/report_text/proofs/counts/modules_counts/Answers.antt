@@ -1,6 +1,6 @@
 use Rattle.std.specs.List.{flat_map}
 use Rattle.std.proofs.lemmas.List.{at_drop_more}
-use Rattle.report_text.specs.Counts.{module_counts}
+use Rattle.report_text.specs.Meaning.{module_counts}
 use Rattle.report_text.proofs.WriteLemmas.{progress_at, progress_more, progress_exit}
 use Rattle.report_text.proofs.counts.modules_counts.Goals as goal
 

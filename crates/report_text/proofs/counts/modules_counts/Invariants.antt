@@ -1,6 +1,6 @@
 use Rattle.std.proofs.Common.{drop}
 use Rattle.std.specs.List.{flat_map}
-use Rattle.report_text.specs.Counts.{module_counts}
+use Rattle.report_text.specs.Meaning.{module_counts}
 use Rattle.report_text.proofs.WriteLemmas.{Progress}
 use Rattle.report_text.proofs.counts.modules_counts.Given as goal
 

@@ -1,7 +1,6 @@
 use Rattle.std.proofs.Common.{◌≡◌, [], ◌∷◌, ◌++◌, ◌∙◌, get_or, ap}
-use Rattle.session_book.specs.JobView.{SessionView}
-use Rattle.session_book.specs.Sessions.{session_of}
-use Rattle.report_text.specs.Sessions.{session_line}
+use Rattle.session_book.specs.Meaning.{SessionView, session_of}
+use Rattle.report_text.specs.Meaning.{session_line}
 use Rattle.report_text.proofs.WriteLemmas.{progress_start, progress_more, progress_exit, progress_last}
 use Rattle.report_text.proofs.counts.session_counts.Goals as goal
 

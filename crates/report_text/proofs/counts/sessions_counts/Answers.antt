@@ -1,6 +1,6 @@
 use Rattle.std.proofs.Common.{◌+◌, ◌<◌, length, ap, arith}
-use Rattle.session_book.specs.JobView.{JobView}
-use Rattle.report_text.specs.Counts.{session_counts}
+use Rattle.session_book.specs.Meaning.{JobView}
+use Rattle.report_text.specs.Meaning.{session_counts}
 use Rattle.report_text.proofs.RowLemmas.{lines_from-next}
 use Rattle.report_text.proofs.WriteLemmas.{progress_at, progress_more, progress_exit}
 use Rattle.report_text.proofs.counts.sessions_counts.Goals as goal

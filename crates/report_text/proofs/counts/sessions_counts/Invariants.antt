@@ -1,6 +1,5 @@
 use Rattle.std.proofs.Common.{◌+◌, ◌-◌, length}
-use Rattle.report_text.specs.Counts.{session_counts}
-use Rattle.report_text.specs.Text.{lines_from}
+use Rattle.report_text.specs.Meaning.{session_counts, lines_from}
 use Rattle.report_text.proofs.WriteLemmas.{Progress}
 use Rattle.report_text.proofs.counts.sessions_counts.Given as goal
 

@@ -1,5 +1,5 @@
 use Rattle.std.proofs.Common.{◌<◌, length, arith}
-use Rattle.report_text.specs.Table.{table_part}
+use Rattle.report_text.specs.Meaning.{table_part}
 use Rattle.report_text.proofs.RowLemmas.{lines_from-next}
 use Rattle.report_text.proofs.WriteLemmas.{progress_at, progress_more, progress_exit}
 use Rattle.report_text.proofs.places.modules_text.Goals as goal

@@ -1,8 +1,6 @@
 use Rattle.std.proofs.Common.{ℕ, ◌-◌, List, [], ◌∷◌}
-use Rattle.module_area.specs.PlanView.{place_of}
-use Rattle.report_text.specs.Sessions.{location_of}
-use Rattle.report_text.specs.Table.{place_line}
-use Rattle.report_text.specs.Text.{lines_from}
+use Rattle.module_area.specs.Meaning.{place_of}
+use Rattle.report_text.specs.Meaning.{location_of, place_line, lines_from}
 use Rattle.report_text.proofs.WriteLemmas.{Progress}
 use Rattle.report_text.proofs.places.places_text.Given as goal
 

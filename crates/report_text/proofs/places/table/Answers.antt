@@ -1,6 +1,5 @@
 use Rattle.std.proofs.Common.{◌≡◌, [], ◌∷◌, ◌++◌, length, codes, rules}
-use Rattle.report_text.specs.Table.{table_part}
-use Rattle.report_text.specs.Text.{lines_from}
+use Rattle.report_text.specs.Meaning.{table_part, lines_from}
 use Rattle.report_text.specs.Writes.{WritesLines}
 use Rattle.report_text.proofs.WriteLemmas.{progress_start, progress_more, progress_exit, progress_last}
 use Rattle.report_text.proofs.places.table.Goals as goal

@@ -1,9 +1,8 @@
 use Rattle.std.proofs.Common.{◌∙◌, ap, if◌then◌else◌, arith}
-use Rattle.cov_base.specs.FactSet.{FactSet}
-use Rattle.cov_base.specs.Facts.{full_of}
-use Rattle.module_area.specs.Counts.{fact_count}
+use Rattle.cov_base.specs.Meaning.{FactSet, full_of}
+use Rattle.module_area.specs.Meaning.{fact_count}
 use Rattle.module_area.specs.declared.places.Place.{Place}
-use Rattle.report_text.specs.Sessions.{lacks}
+use Rattle.report_text.specs.Meaning.{lacks}
 use Rattle.report_text.proofs.PlaceFacts.{executed_at, facts_at, possible_at, sum_step}
 use Rattle.report_text.proofs.sessions.count.Goals as goal
 

@@ -1,6 +1,6 @@
 use Rattle.std.proofs.Common.{◌≡◌, ◌+◌, ◌-◌, ◌*◌, ◌≤◌}
 use Rattle.report_text.proofs.PlaceFacts.{executed_at, facts_at, possible_at}
-use Rattle.report_text.specs.Text.{sum_from}
+use Rattle.report_text.specs.Meaning.{sum_from}
 use Rattle.report_text.proofs.sessions.count.Given as goal
 
 abbrev pub invariant-loop-n : goal.invariant-loop-n

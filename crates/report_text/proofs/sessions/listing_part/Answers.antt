@@ -1,6 +1,6 @@
 use Rattle.std.proofs.Common.{◌≡◌, ℕ, ◌+◌, ◌-◌, ◌<◌, ◌≤◌, ◌++◌, ◌∷◌, [], List, length, get_or, arith}
-use Rattle.annotator.specs.Annotated.{annotated}
-use Rattle.report_text.specs.Sessions.{line_mark}
+use Rattle.annotator.specs.Meaning.{annotated}
+use Rattle.report_text.specs.Meaning.{line_mark}
 use Rattle.report_text.proofs.RowLemmas.{lines_from-next, lines_from-end}
 use Rattle.report_text.proofs.WriteLemmas.{progress_start, progress_at, progress_more, progress_exit, progress_end}
 use Rattle.report_text.proofs.sessions.listing_part.Goals as goal

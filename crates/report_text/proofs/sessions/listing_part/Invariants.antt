@@ -1,7 +1,6 @@
 use Rattle.std.proofs.Common.{ℕ, ◌+◌, ◌-◌, List, [], ◌∷◌, length, get_or}
-use Rattle.annotator.specs.Annotated.{annotated}
-use Rattle.report_text.specs.Sessions.{line_mark, marked_lines}
-use Rattle.report_text.specs.Text.{lines_from}
+use Rattle.annotator.specs.Meaning.{annotated}
+use Rattle.report_text.specs.Meaning.{line_mark, marked_lines, lines_from}
 use Rattle.report_text.proofs.WriteLemmas.{Progress}
 use Rattle.report_text.proofs.sessions.listing_part.Given as goal
 

@@ -1,5 +1,5 @@
 use Rattle.std.proofs.Common.{◌≡◌, ◌<◌, length, get_or, None, Some, ap, arith}
-use Rattle.session_book.specs.JobView.{JobView}
+use Rattle.session_book.specs.Meaning.{JobView}
 use Rattle.report_text.proofs.JobLemmas.{listing_read}
 use Rattle.report_text.proofs.sessions.listing_text.Goals as goal
 

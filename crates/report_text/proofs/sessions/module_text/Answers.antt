@@ -1,8 +1,7 @@
 use Rattle.std.proofs.Common.{◌≡◌, ◌-◌, [], ◌∷◌, ◌++◌, arith}
-use Rattle.brk_table.specs.Places.{first_place, place_count}
-use Rattle.session_book.specs.Sessions.{module_of}
-use Rattle.report_text.specs.Sessions.{module_lines, totals_line}
-use Rattle.report_text.specs.Text.{sum_from}
+use Rattle.brk_table.specs.Meaning.{first_place, place_count}
+use Rattle.session_book.specs.Meaning.{module_of}
+use Rattle.report_text.specs.Meaning.{module_lines, totals_line, sum_from}
 use Rattle.report_text.proofs.PlaceFacts.{executed_at, facts_at, possible_at}
 use Rattle.report_text.proofs.WriteLemmas.{progress_start, progress_more, progress_exit, progress_last}
 use Rattle.report_text.proofs.sessions.module_text.Goals as goal

@@ -1,6 +1,6 @@
 use Rattle.std.proofs.Common.{drop}
 use Rattle.std.specs.List.{flat_map}
-use Rattle.report_text.specs.Sessions.{module_lines}
+use Rattle.report_text.specs.Meaning.{module_lines}
 use Rattle.report_text.proofs.WriteLemmas.{Progress}
 use Rattle.report_text.proofs.sessions.modules_text.Given as goal
 

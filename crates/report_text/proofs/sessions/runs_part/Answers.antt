@@ -1,5 +1,5 @@
 use Rattle.std.proofs.Common.{◌≡◌, ◌∙◌, sym, true, false, ap}
-use Rattle.report_text.specs.Sessions.{lacks}
+use Rattle.report_text.specs.Meaning.{lacks}
 use Rattle.report_text.proofs.RunLemmas.{runs-closed, runs-more, runs-end}
 use Rattle.report_text.proofs.WriteLemmas.{progress_at, progress_more, progress_exit, progress_last}
 use Rattle.report_text.proofs.sessions.runs_part.Goals as goal

@@ -1,5 +1,5 @@
 use Rattle.std.proofs.Common.{◌-◌, ◌<◌, IfSome, false}
-use Rattle.report_text.specs.Sessions.{run_lines}
+use Rattle.report_text.specs.Meaning.{run_lines}
 use Rattle.report_text.proofs.RunLemmas.{runs_left}
 use Rattle.report_text.proofs.WriteLemmas.{Progress}
 use Rattle.report_text.proofs.sessions.runs_part.Given as goal

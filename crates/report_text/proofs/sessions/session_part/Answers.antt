@@ -1,9 +1,7 @@
 use Rattle.std.proofs.Common.{◌≡◌, [], ◌∷◌, ◌++◌, ◌∙◌, All, get_or, sym, ap, subst}
-use Rattle.session_book.specs.JobView.{SessionView}
-use Rattle.session_book.specs.Sessions.{session_of}
+use Rattle.session_book.specs.Meaning.{SessionView, session_of}
 use Rattle.session_book.specs.Sets.{AreWithin}
-use Rattle.report_text.specs.Report.{session_part}
-use Rattle.report_text.specs.Sessions.{session_line}
+use Rattle.report_text.specs.Meaning.{session_part, session_line}
 use Rattle.report_text.specs.Writes.{WritesLines}
 use Rattle.report_text.proofs.WriteLemmas.{progress_start, progress_more, progress_exit, progress_last}
 use Rattle.report_text.proofs.sessions.session_part.Goals as goal

@@ -1,6 +1,6 @@
 use Rattle.std.proofs.Common.{◌*◌, ◌<◌, rules, arith}
-use Rattle.module_area.specs.Views.{first_bytes}
-use Rattle.report_text.specs.Tasks.{changed_row}
+use Rattle.module_area.specs.Meaning.{first_bytes}
+use Rattle.report_text.specs.Meaning.{changed_row}
 use Rattle.report_text.proofs.FirstRowLemmas.{zeros_part, part_row_lines}
 use Rattle.report_text.proofs.RowLemmas.{lines_from-next}
 use Rattle.report_text.proofs.WriteLemmas.{progress_at, progress_more, progress_exit}

@@ -1,7 +1,6 @@
 use Rattle.std.proofs.Common.{◌-◌}
-use Rattle.module_area.specs.Views.{first_bytes}
-use Rattle.report_text.specs.Tasks.{changed_row}
-use Rattle.report_text.specs.Text.{lines_from}
+use Rattle.module_area.specs.Meaning.{first_bytes}
+use Rattle.report_text.specs.Meaning.{changed_row, lines_from}
 use Rattle.report_text.proofs.WriteLemmas.{Progress}
 use Rattle.report_text.proofs.storage.block_part.Given as goal
 

@@ -1,6 +1,6 @@
 use Rattle.std.proofs.Common.{◌≡◌, ◌+◌, ◌<◌, ◌∙◌, length, get_or, take, replicate, fold, sym, ap, subst, arith}
-use Rattle.module_area.specs.Views.{with_card}
-use Rattle.session_book.specs.JobView.{TaskView}
+use Rattle.module_area.specs.Meaning.{with_card}
+use Rattle.session_book.specs.Meaning.{TaskView}
 use Rattle.report_text.specs.FirstRows.{IsPartOf, FitsIn}
 use Rattle.report_text.proofs.FirstRowLemmas.{cards_more, length-with_card}
 use Rattle.report_text.proofs.storage.put_cards.Goals as goal

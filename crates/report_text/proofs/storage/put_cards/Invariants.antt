@@ -1,5 +1,5 @@
 use Rattle.std.proofs.Common.{◌≡◌, take, replicate, fold, length}
-use Rattle.module_area.specs.Views.{with_card}
+use Rattle.module_area.specs.Meaning.{with_card}
 use Rattle.report_text.specs.FirstRows.{IsPartOf}
 use Rattle.report_text.proofs.storage.put_cards.Given as goal
 

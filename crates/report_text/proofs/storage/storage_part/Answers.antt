@@ -1,8 +1,7 @@
 use Rattle.std.proofs.Common.{◌≡◌, ◌+◌, ◌-◌, ◌*◌, ◌≤◌, min, ap, arith}
-use Rattle.module_area.specs.Views.{first_bytes}
-use Rattle.session_book.specs.JobView.{TaskView}
-use Rattle.report_text.specs.Tasks.{changed_row, storage_lines}
-use Rattle.report_text.specs.Text.{row_count}
+use Rattle.module_area.specs.Meaning.{first_bytes}
+use Rattle.session_book.specs.Meaning.{TaskView}
+use Rattle.report_text.specs.Meaning.{changed_row, storage_lines, row_count}
 use Rattle.report_text.proofs.RowLemmas.{lines_from-block}
 use Rattle.report_text.proofs.WriteLemmas.{progress_start, progress_at, progress_more, progress_exit}
 use Rattle.report_text.proofs.storage.storage_part.Goals as goal

@@ -1,7 +1,6 @@
 use Rattle.std.proofs.Common.{◌-◌, ◌*◌}
-use Rattle.module_area.specs.Views.{first_bytes}
-use Rattle.report_text.specs.Tasks.{changed_row, storage_lines}
-use Rattle.report_text.specs.Text.{lines_from, row_count}
+use Rattle.module_area.specs.Meaning.{first_bytes}
+use Rattle.report_text.specs.Meaning.{changed_row, storage_lines, lines_from, row_count}
 use Rattle.report_text.proofs.WriteLemmas.{Progress}
 use Rattle.report_text.proofs.storage.storage_part.Given as goal
 

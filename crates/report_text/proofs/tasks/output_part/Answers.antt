@@ -1,5 +1,5 @@
 use Rattle.std.proofs.Common.{◌≡◌, [], ◌∷◌, ◌++◌, length, codes, decimal, rules}
-use Rattle.report_text.specs.Tasks.{output_lines}
+use Rattle.report_text.specs.Meaning.{output_lines}
 use Rattle.report_text.proofs.WriteLemmas.{progress_start, progress_more, progress_exit, progress_last}
 use Rattle.report_text.proofs.tasks.output_part.Goals as goal
 

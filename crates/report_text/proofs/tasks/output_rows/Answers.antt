@@ -1,5 +1,5 @@
 use Rattle.std.proofs.Common.{◌≡◌, ◌<◌, [], ◌∷◌, ◌++◌, rules}
-use Rattle.report_text.specs.Text.{hex_bytes, row_of, row_count}
+use Rattle.report_text.specs.Meaning.{hex_bytes, row_of, row_count}
 use Rattle.report_text.proofs.RowLemmas.{lines_from-next}
 use Rattle.report_text.proofs.WriteLemmas.{progress_at, progress_more, progress_exit}
 use Rattle.report_text.proofs.tasks.output_rows.Goals as goal

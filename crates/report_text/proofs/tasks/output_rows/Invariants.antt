@@ -1,5 +1,5 @@
 use Rattle.std.proofs.Common.{ℕ, ◌-◌, List, [], ◌∷◌}
-use Rattle.report_text.specs.Text.{hex_bytes, lines_from, row_of, row_count}
+use Rattle.report_text.specs.Meaning.{hex_bytes, lines_from, row_of, row_count}
 use Rattle.report_text.proofs.WriteLemmas.{Progress}
 use Rattle.report_text.proofs.tasks.output_rows.Given as goal
 

@@ -1,5 +1,5 @@
 use Rattle.std.proofs.Common.{◌≡◌, [], ◌∷◌, ◌++◌, take, drop, codes, decimal, rules}
-use Rattle.report_text.specs.Tasks.{state_lines, task_words, register_line}
+use Rattle.report_text.specs.Meaning.{state_lines, task_words, register_line}
 use Rattle.report_text.proofs.WriteLemmas.{progress_start, progress_more, progress_exit, progress_last}
 use Rattle.report_text.proofs.tasks.state_part.Goals as goal
 

@@ -1,6 +1,5 @@
 use Rattle.std.proofs.Common.{◌≡◌, ap, ◌∙◌}
-use Rattle.session_book.specs.JobView.{TaskView}
-use Rattle.session_book.specs.Sessions.{task_of}
+use Rattle.session_book.specs.Meaning.{TaskView, task_of}
 use Rattle.report_text.proofs.WriteLemmas.{progress_start, progress_more, progress_exit, progress_last}
 use Rattle.report_text.proofs.tasks.task_text.Goals as goal
 

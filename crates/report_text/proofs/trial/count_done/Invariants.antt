@@ -1,5 +1,5 @@
 use Rattle.std.proofs.Common.{◌≡◌, ◌+◌, ◌-◌, ◌*◌, ◌≤◌}
-use Rattle.report_text.specs.Text.{sum_from}
+use Rattle.report_text.specs.Meaning.{sum_from}
 use Rattle.report_text.proofs.PlaceFacts.{done_at}
 use Rattle.report_text.proofs.trial.count_done.Given as goal
 

@@ -1,10 +1,9 @@
 use Rattle.std.proofs.Common.{◌≡◌, ℕ, ◌<◌, ◌∙◌, length, nat_eq, ap, if◌then◌else◌, arith}
-use Rattle.annotator.specs.Annotated.{mark_byte}
-use Rattle.cov_base.specs.FactSet.{FactSet}
-use Rattle.cov_base.specs.Marks.{mark_of}
+use Rattle.annotator.specs.Meaning.{mark_byte}
+use Rattle.cov_base.specs.Meaning.{FactSet, mark_of}
 use Rattle.cov_base.specs.declared.marks.Mark.{Mark}
 use Rattle.cov_base.specs.declared.marks.Mark.TheVariants.{Not, Done, Branched, Fell, Both}
-use Rattle.module_area.specs.PlanView.{place_of}
+use Rattle.module_area.specs.Meaning.{place_of}
 use Rattle.module_area.specs.declared.places.Place.{Place}
 use Rattle.report_text.proofs.PlaceFacts.{marked_at, sum_step}
 use Rattle.report_text.proofs.trial.count_marks.Goals as goal

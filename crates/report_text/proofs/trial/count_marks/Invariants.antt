@@ -1,7 +1,6 @@
 use Rattle.std.proofs.Common.{◌≡◌, ◌+◌, ◌-◌, ◌≤◌, length}
 use Rattle.cov_base.specs.declared.marks.Mark.TheVariants.{Not, Done, Branched, Fell, Both}
-use Rattle.report_text.specs.Text.{sum_from}
-use Rattle.report_text.specs.Trial.{mark_count}
+use Rattle.report_text.specs.Meaning.{sum_from, mark_count}
 use Rattle.report_text.proofs.PlaceFacts.{marked_at}
 use Rattle.report_text.proofs.trial.count_marks.Given as goal
 

@@ -1,7 +1,6 @@
 use Rattle.std.proofs.Common.{◌≡◌, [], ◌∷◌, ◌++◌, length}
 use Rattle.cov_base.specs.declared.marks.Mark.TheVariants.{Not, Done, Branched, Fell, Both}
-use Rattle.report_text.specs.Text.{sum_from}
-use Rattle.report_text.specs.Trial.{mark_count, trial_line, amount_line, mark_line}
+use Rattle.report_text.specs.Meaning.{sum_from, mark_count, trial_line, amount_line, mark_line}
 use Rattle.report_text.specs.Writes.{WritesLines}
 use Rattle.report_text.proofs.PlaceFacts.{done_at}
 use Rattle.report_text.proofs.WriteLemmas.{progress_start, progress_more, progress_exit, progress_last}

@@ -1,5 +1,5 @@
 use Rattle.std.proofs.Common.{◌≡◌, [], ◌∷◌, ◌++◌, codes, rules}
-use Rattle.report_text.specs.Report.{result_lines}
+use Rattle.report_text.specs.Meaning.{result_lines}
 use Rattle.report_text.specs.Writes.{WritesLines}
 use Rattle.report_text.proofs.WriteLemmas.{progress_start, progress_more, progress_exit, progress_last}
 use Rattle.report_text.proofs.whole.report.Goals as goal

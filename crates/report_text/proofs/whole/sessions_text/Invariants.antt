@@ -1,6 +1,5 @@
 use Rattle.std.proofs.Common.{◌+◌, ◌-◌, length}
-use Rattle.report_text.specs.Report.{session_part}
-use Rattle.report_text.specs.Text.{lines_from}
+use Rattle.report_text.specs.Meaning.{session_part, lines_from}
 use Rattle.report_text.proofs.WriteLemmas.{Progress}
 use Rattle.report_text.proofs.whole.sessions_text.Given as goal
 

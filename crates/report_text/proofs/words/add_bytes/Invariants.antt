@@ -1,6 +1,6 @@
 use Rattle.std.proofs.Common.{◌≡◌, ◌+◌, ◌*◌, ◌++◌, take}
 use Rattle.arrayvec.specs.ArrayVec.{array_vec_len}
-use Rattle.report_text.specs.Text.{hex_bytes}
+use Rattle.report_text.specs.Meaning.{hex_bytes}
 use Rattle.report_text.proofs.words.add_bytes.Given as goal
 
 abbrev pub invariant-loop-byte : goal.invariant-loop-byte

@@ -1,6 +1,6 @@
 use Rattle.std.proofs.Common.{◌++◌, ◌∙◌, ap, append_assoc, codes}
-use Rattle.annotator.specs.Digits.{hex_digits}
-use Rattle.report_text.specs.Tasks.{ending_words}
+use Rattle.annotator.specs.Meaning.{hex_digits}
+use Rattle.report_text.specs.Meaning.{ending_words}
 use Rattle.report_text.proofs.words.add_ended.Goals as goal
 
 pub returns-in-Touched-clause-items : goal.returns-in-Touched-clause-items

@@ -1,6 +1,6 @@
 use Rattle.std.proofs.Common.{◌≡◌, ◌+◌, ◌*◌, take}
 use Rattle.arrayvec.specs.ArrayVec.{array_vec_len}
-use Rattle.report_text.specs.Tasks.{register_line}
+use Rattle.report_text.specs.Meaning.{register_line}
 use Rattle.report_text.proofs.words.add_registers.Given as goal
 
 abbrev pub invariant-loop-register : goal.invariant-loop-register

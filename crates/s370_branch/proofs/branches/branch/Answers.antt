@@ -1,8 +1,8 @@
 use Rattle.std.proofs.Common.{◌≡◌, ℕ, Some}
-use Rattle.cov_base.specs.States.{CpuView}
+use Rattle.cov_base.specs.Meaning.{CpuView}
 use Rattle.s370_decode.specs.declared.code.Code.{Code}
 use Rattle.s370_decode.specs.declared.op.Op.{Op}
-use Rattle.s370_branch.specs.Branch.{branched}
+use Rattle.s370_branch.specs.Meaning.{branched}
 use Rattle.s370_branch.proofs.branches.branch.Goals as goal
 
 same : (a b : Op) (s : CpuView) (c : Code) (next link : ℕ) (x : CpuView) → a ≡ b → Some x ≡ branched b s c next link → Some x ≡ branched a s c next link

@@ -1,5 +1,5 @@
 use Rattle.std.proofs.Common.{◌+◌, arith}
-use Rattle.s370_decimal.specs.Operands.{l1}
+use Rattle.s370_decimal.specs.Meaning.{l1}
 use Rattle.s370_decimal.proofs.Powers.{store_left, store_right}
 use Rattle.s370_decimal.proofs.products.put_quotient.Goals as goal
 

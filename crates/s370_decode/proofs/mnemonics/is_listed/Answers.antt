@@ -1,5 +1,6 @@
 use Rattle.std.proofs.Common.{refl, ◌∙◌}
-use Rattle.s370_decode.specs.Mnemonics.{mnemonics, mnemonic_numbers, backward}
+use Rattle.s370_decode.specs.Meaning.{mnemonics}
+use Rattle.s370_decode.specs.Mnemonics.{mnemonic_numbers, backward}
 use Rattle.s370_decode.proofs.Words.{found}
 use Rattle.s370_decode.proofs.mnemonics.is_listed.Goals as goal
 

@@ -1,6 +1,7 @@
 use Rattle.std.proofs.Common.{◌≡◌, false, length, nat_le, refl, sym, arith}
 use Rattle.std.proofs.lemmas.Bool.Decides.{nat_tests}
-use Rattle.s370_decode.specs.Mnemonics.{mnemonics, mnemonic_numbers, is_mnemonic}
+use Rattle.s370_decode.specs.Meaning.{mnemonics, is_mnemonic}
+use Rattle.s370_decode.specs.Mnemonics.{mnemonic_numbers}
 use Rattle.s370_decode.proofs.Words.{words_by_number, too_long, text_of, text_mnemonics, short_mnemonics}
 use Rattle.s370_decode.proofs.mnemonics.is_mnemonic.Goals as goal
 

@@ -1,7 +1,7 @@
 use Rattle.std.proofs.Common.{◌≡◌, ◌<◌, ◌≤◌, true, IfSome}
 use Rattle.arrayvec.specs.ArrayVec.{array_vec_len}
-use Rattle.cov_base.specs.Memory.{can_reach}
-use Rattle.s370_edit.specs.Working.{worked, formed}
+use Rattle.cov_base.specs.Meaning.{can_reach}
+use Rattle.s370_edit.specs.Meaning.{worked, formed}
 use Rattle.s370_edit.proofs.pattern.work.Given as goal
 
 abbrev pub invariant-loop-i : goal.invariant-loop-i

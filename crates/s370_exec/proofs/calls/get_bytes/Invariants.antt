@@ -1,5 +1,5 @@
 use Rattle.std.proofs.Common.{◌≡◌, ◌+◌, take, drop}
-use Rattle.s370_state.specs.Digits.{store_bytes}
+use Rattle.s370_state.specs.Meaning.{store_bytes}
 use Rattle.s370_exec.proofs.calls.get_bytes.Given as goal
 
 abbrev pub invariant-loop-i : goal.invariant-loop-i

@@ -1,6 +1,6 @@
 use Rattle.std.proofs.Common.{◌≡◌, ◌++◌, ◌∷◌, [], ap, sym, ◌∙◌, arith}
 use Rattle.std.proofs.lemmas.List.{length-append}
-use Rattle.cov_base.specs.States.{IoView}
+use Rattle.cov_base.specs.Meaning.{IoView}
 use Rattle.s370_exec.proofs.CallBytes.{one_put}
 use Rattle.s370_exec.proofs.calls.put_bytes.Goals as goal
 

@@ -1,5 +1,5 @@
 use Rattle.std.proofs.Common.{◌≡◌, ◌+◌, ◌++◌, length}
-use Rattle.s370_exec.specs.Effects.{operand}
+use Rattle.s370_exec.specs.Meaning.{operand}
 use Rattle.s370_exec.proofs.calls.put_bytes.Given as goal
 
 abbrev pub invariant-loop-i : goal.invariant-loop-i

@@ -1,4 +1,4 @@
-use Rattle.s370_state.specs.Row.{machine_of}
+use Rattle.s370_state.specs.Meaning.{machine_of}
 use Rattle.s370_exec.proofs.Groups.{by_branch}
 use Rattle.s370_exec.proofs.instruction.branch_apart.Goals as goal
 

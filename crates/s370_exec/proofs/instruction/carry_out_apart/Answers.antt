@@ -1,10 +1,11 @@
 use Rattle.std.proofs.Common.{◌≡◌, ℕ, refl, ap, sym, ◌∙◌}
-use Rattle.s370_state.specs.Row.{machine_of}
+use Rattle.s370_state.specs.Meaning.{machine_of}
 use Rattle.s370_state.specs.declared.endings.Next.TheVariants.{Ended}
 use Rattle.s370_decode.specs.Groups.{group_of}
-use Rattle.s370_decode.specs.Table.{op_of}
+use Rattle.s370_decode.specs.Meaning.{op_of}
 use Rattle.s370_decode.specs.declared.group.Group.TheVariants.{Edit, Call, Supervisor, Missing}
-use Rattle.s370_exec.specs.Effects.{call, effect_of, onward}
+use Rattle.s370_exec.specs.Meaning.{call, onward}
+use Rattle.s370_exec.specs.Effects.{effect_of}
 use Rattle.s370_exec.proofs.Groups.{as_executed, by_group}
 use Rattle.s370_exec.proofs.instruction.carry_out_apart.Goals as goal
 

@@ -1,5 +1,5 @@
 use Rattle.std.proofs.Common.{rules, None}
-use Rattle.s370_exec.specs.Effects.{effect, link_code}
+use Rattle.s370_exec.specs.Meaning.{effect, link_code}
 use Rattle.s370_exec.proofs.instruction.carry_out_long.Goals as goal
 
 pub returns-in-LA : goal.returns-in-LA

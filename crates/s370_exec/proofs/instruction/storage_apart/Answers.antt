@@ -1,6 +1,6 @@
 use Rattle.std.proofs.Common.{ap, sym, ◌∙◌}
 use Rattle.s370_decode.specs.declared.group.Group.TheVariants.{Storage}
-use Rattle.s370_exec.specs.Effects.{onward}
+use Rattle.s370_exec.specs.Meaning.{onward}
 use Rattle.s370_exec.proofs.Groups.{by_group}
 use Rattle.s370_exec.proofs.instruction.storage_apart.Goals as goal
 

@@ -1,9 +1,9 @@
 use Rattle.std.proofs.Common.{◌≡◌, ℕ, true, false, [], ◌∷◌, refl, ap, sym, ◌∙◌}
-use Rattle.s370_decode.specs.Fields.{first_half}
-use Rattle.s370_decode.specs.Table.{op_of}
-use Rattle.s370_branch.specs.Branch.{goes}
+use Rattle.s370_decode.specs.Meaning.{first_half, op_of}
+use Rattle.s370_branch.specs.Meaning.{goes}
 use Rattle.s370_exec.specs.Effects.{effect_of}
-use Rattle.s370_exec.specs.Solo.{state_of, solo_step, subject_step, stepped, behind, visit}
+use Rattle.s370_exec.specs.Meaning.{solo_step, subject_step, stepped, behind, visit}
+use Rattle.s370_exec.specs.Solo.{state_of}
 use Rattle.s370_exec.proofs.StepLemmas.{unread-state, unread-next, solo_step-read, solo_step-ex}
 use Rattle.s370_exec.proofs.solo.step.Given as given
 use Rattle.s370_exec.proofs.solo.step.Goals as goal

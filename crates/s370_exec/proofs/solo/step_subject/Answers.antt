@@ -1,9 +1,9 @@
 use Rattle.std.proofs.Common.{◌≡◌, ℕ, true, false, [], ◌∷◌, refl, ap}
-use Rattle.s370_decode.specs.Fields.{first_half}
-use Rattle.s370_decode.specs.Table.{op_of}
-use Rattle.s370_branch.specs.Branch.{goes}
+use Rattle.s370_decode.specs.Meaning.{first_half, op_of}
+use Rattle.s370_branch.specs.Meaning.{goes}
 use Rattle.s370_exec.specs.Effects.{effect_of}
-use Rattle.s370_exec.specs.Solo.{state_of, subject_step, ended, stepped, visit}
+use Rattle.s370_exec.specs.Meaning.{subject_step, ended, stepped, visit}
+use Rattle.s370_exec.specs.Solo.{state_of}
 use Rattle.s370_exec.proofs.StepLemmas.{subject_step-refused, subject_step-unread, subject_step-begun}
 use Rattle.s370_exec.proofs.solo.step_subject.Given as given
 use Rattle.s370_exec.proofs.solo.step_subject.Goals as goal

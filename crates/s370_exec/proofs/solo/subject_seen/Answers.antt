@@ -1,8 +1,7 @@
 use Rattle.std.proofs.Common.{true, false, ◌∙◌, sym}
-use Rattle.s370_decode.specs.Fields.{first_half}
-use Rattle.s370_decode.specs.Table.{op_of}
-use Rattle.s370_branch.specs.Branch.{goes}
-use Rattle.s370_exec.specs.Solo.{visit}
+use Rattle.s370_decode.specs.Meaning.{first_half, op_of}
+use Rattle.s370_branch.specs.Meaning.{goes}
+use Rattle.s370_exec.specs.Meaning.{visit}
 use Rattle.s370_exec.specs.Solo.{state_of}
 use Rattle.s370_exec.proofs.StepLemmas.{unread-subject, read-subject, ex-subject}
 use Rattle.s370_exec.proofs.solo.subject_seen.Goals as goal

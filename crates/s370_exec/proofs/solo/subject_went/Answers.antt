@@ -1,7 +1,6 @@
 use Rattle.std.proofs.Common.{Some, ◌∷◌, refl, ap, sym, ◌∙◌}
-use Rattle.s370_decode.specs.Fields.{first_half}
-use Rattle.s370_decode.specs.Table.{op_of}
-use Rattle.s370_exec.specs.Effects.{effect, updated, link_code}
+use Rattle.s370_decode.specs.Meaning.{first_half, op_of}
+use Rattle.s370_exec.specs.Meaning.{effect, updated, link_code}
 use Rattle.s370_exec.specs.Solo.{state_of, subject_seen}
 use Rattle.s370_exec.proofs.StepLemmas.{subject_step-unread, subject_step-begun}
 use Rattle.s370_exec.proofs.solo.subject_went.Goals as goal

@@ -1,7 +1,7 @@
 use Rattle.std.proofs.Common.{◌≡◌, ap, sym, ◌∙◌}
-use Rattle.s370_decode.specs.Fields.{first_half}
+use Rattle.s370_decode.specs.Meaning.{first_half}
 use Rattle.s370_decode.specs.declared.code.Code.{Code}
-use Rattle.s370_exec.specs.Fetch.{is_execute, merged}
+use Rattle.s370_exec.specs.Meaning.{is_execute, merged}
 use Rattle.s370_exec.proofs.Subjects.{is_execute-merged}
 use Rattle.s370_exec.proofs.subject.fetch_subject.Goals as goal
 

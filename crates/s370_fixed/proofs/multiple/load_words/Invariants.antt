@@ -1,5 +1,5 @@
 use Rattle.std.proofs.Common.{◌≡◌}
-use Rattle.s370_fixed.specs.Multiple.{loaded}
+use Rattle.s370_fixed.specs.Meaning.{loaded}
 use Rattle.s370_fixed.proofs.multiple.load_words.Given as goal
 
 abbrev pub invariant-loop-i : goal.invariant-loop-i

@@ -1,5 +1,6 @@
 use Rattle.std.proofs.Common.{◌≡◌}
-use Rattle.s370_logic.specs.Bitwise.{connected, joined, are_zero}
+use Rattle.s370_logic.specs.Meaning.{joined, are_zero}
+use Rattle.s370_logic.specs.Bitwise.{connected}
 use Rattle.s370_logic.proofs.bitwise.join_bytes.Given as goal
 
 abbrev pub invariant-loop-i : goal.invariant-loop-i

@@ -1,5 +1,5 @@
 use Rattle.std.proofs.Common.{◌≡◌}
-use Rattle.s370_logic.specs.Comparisons.{compared}
+use Rattle.s370_logic.specs.Meaning.{compared}
 use Rattle.s370_logic.proofs.comparisons.compare_bytes.Given as goal
 
 abbrev pub invariant-loop-i : goal.invariant-loop-i

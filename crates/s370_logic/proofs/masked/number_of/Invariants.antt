@@ -1,5 +1,5 @@
 use Rattle.std.proofs.Common.{◌≡◌, ◌<◌, ◌^◌}
-use Rattle.s370_state.specs.Words.{number_at}
+use Rattle.s370_state.specs.Meaning.{number_at}
 use Rattle.s370_logic.proofs.masked.number_of.Given as goal
 
 abbrev pub invariant-loop-i : goal.invariant-loop-i

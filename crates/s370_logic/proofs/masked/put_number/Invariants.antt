@@ -1,5 +1,5 @@
 use Rattle.std.proofs.Common.{◌≡◌, ◌-◌}
-use Rattle.s370_state.specs.Words.{store_number}
+use Rattle.s370_state.specs.Meaning.{store_number}
 use Rattle.s370_logic.proofs.masked.put_number.Given as goal
 
 -- what is left to do gives the whole

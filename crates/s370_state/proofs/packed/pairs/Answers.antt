@@ -1,5 +1,5 @@
 use Rattle.std.proofs.Common.{◌≡◌, ◌/◌, ◌%◌, true, ◌&&◌, ◌∙◌, sym, arith, lit<}
-use Rattle.s370_state.specs.Digits.{is_digit}
+use Rattle.s370_state.specs.Meaning.{is_digit}
 use Rattle.s370_state.proofs.Digits.{no_digits, no_number, digits_more, number_more, digits_fail, pair_below, pair_more, pairs_fit}
 use Rattle.s370_state.proofs.packed.pairs.Goals as goal
 

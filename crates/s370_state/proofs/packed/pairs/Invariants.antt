@@ -1,6 +1,6 @@
 use Rattle.std.proofs.Common.{◌≡◌, ◌<◌, ◌^◌, true}
 use Rattle.std.specs.List.{list_all}
-use Rattle.s370_state.specs.Digits.{is_digit, halves_at, decimal}
+use Rattle.s370_state.specs.Meaning.{is_digit, halves_at, decimal}
 use Rattle.s370_state.proofs.packed.pairs.Given as goal
 
 abbrev pub invariant-loop-i : goal.invariant-loop-i

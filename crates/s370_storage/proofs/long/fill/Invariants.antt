@@ -1,5 +1,5 @@
 use Rattle.std.proofs.Common.{◌≡◌}
-use Rattle.s370_storage.specs.Longs.{padded}
+use Rattle.s370_storage.specs.Meaning.{padded}
 use Rattle.s370_storage.proofs.long.fill.Given as goal
 
 abbrev pub invariant-loop-k : goal.invariant-loop-k

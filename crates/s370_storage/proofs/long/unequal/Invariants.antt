@@ -1,5 +1,5 @@
 use Rattle.std.proofs.Common.{◌≡◌, None}
-use Rattle.s370_storage.specs.Longs.{unequal}
+use Rattle.s370_storage.specs.Meaning.{unequal}
 use Rattle.s370_storage.proofs.long.unequal.Given as goal
 
 abbrev pub invariant-loop-i : goal.invariant-loop-i

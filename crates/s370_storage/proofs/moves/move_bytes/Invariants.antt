@@ -1,5 +1,5 @@
 use Rattle.std.proofs.Common.{◌≡◌}
-use Rattle.s370_storage.specs.Moves.{moved}
+use Rattle.s370_storage.specs.Meaning.{moved}
 use Rattle.s370_storage.proofs.moves.move_bytes.Given as goal
 
 abbrev pub invariant-loop-i : goal.invariant-loop-i

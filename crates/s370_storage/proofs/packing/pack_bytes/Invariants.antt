@@ -1,5 +1,5 @@
 use Rattle.std.proofs.Common.{◌≡◌}
-use Rattle.s370_storage.specs.Packing.{packed}
+use Rattle.s370_storage.specs.Meaning.{packed}
 use Rattle.s370_storage.proofs.packing.pack_bytes.Given as goal
 
 abbrev pub invariant-loop-k : goal.invariant-loop-k

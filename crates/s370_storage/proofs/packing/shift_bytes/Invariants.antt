@@ -1,5 +1,5 @@
 use Rattle.std.proofs.Common.{◌≡◌, ◌<◌}
-use Rattle.s370_storage.specs.Packing.{shifted}
+use Rattle.s370_storage.specs.Meaning.{shifted}
 use Rattle.s370_storage.proofs.packing.shift_bytes.Given as goal
 
 abbrev pub invariant-loop-k : goal.invariant-loop-k

@@ -1,5 +1,5 @@
 use Rattle.std.proofs.Common.{◌≡◌}
-use Rattle.s370_storage.specs.Packing.{unpacked}
+use Rattle.s370_storage.specs.Meaning.{unpacked}
 use Rattle.s370_storage.proofs.packing.unpack_bytes.Given as goal
 
 abbrev pub invariant-loop-j : goal.invariant-loop-j

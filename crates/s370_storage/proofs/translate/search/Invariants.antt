@@ -1,6 +1,6 @@
 use Rattle.std.proofs.Common.{◌≡◌, true, None}
-use Rattle.s370_state.specs.Row.{all_reached, touched, touch_ending}
-use Rattle.s370_storage.specs.Translations.{functions, selected}
+use Rattle.s370_state.specs.Meaning.{all_reached, touched, touch_ending}
+use Rattle.s370_storage.specs.Meaning.{functions, selected}
 use Rattle.s370_storage.proofs.translate.search.Given as goal
 
 abbrev pub invariant-loop-i : goal.invariant-loop-i

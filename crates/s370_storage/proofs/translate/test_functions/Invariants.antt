@@ -1,6 +1,6 @@
 use Rattle.std.proofs.Common.{◌≡◌, true}
-use Rattle.s370_state.specs.Row.{all_reached, touched, touch_ending}
-use Rattle.s370_storage.specs.Translations.{functions}
+use Rattle.s370_state.specs.Meaning.{all_reached, touched, touch_ending}
+use Rattle.s370_storage.specs.Meaning.{functions}
 use Rattle.s370_storage.proofs.translate.test_functions.Given as goal
 
 abbrev pub invariant-loop-i : goal.invariant-loop-i

@@ -1,5 +1,5 @@
 use Rattle.std.proofs.Common.{◌≡◌}
-use Rattle.s370_storage.specs.Translations.{translated}
+use Rattle.s370_storage.specs.Meaning.{translated}
 use Rattle.s370_storage.proofs.translate.translate_bytes.Given as goal
 
 abbrev pub invariant-loop-i : goal.invariant-loop-i

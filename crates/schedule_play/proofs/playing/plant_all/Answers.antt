@@ -1,8 +1,8 @@
 use Rattle.std.proofs.Common.{◌≡◌, ◌<◌, ℕ, length, get_or, sym, ap, ◌∙◌, subst, arith}
-use Rattle.module_area.specs.PlanView.{window_at}
+use Rattle.module_area.specs.Meaning.{window_at}
 use Rattle.module_area.specs.declared.cells.Cell.{Cell}
-use Rattle.interleave_core.specs.World.{World, IsWorld, plan_in}
-use Rattle.interleave_core.specs.Steps.{run_on}
+use Rattle.interleave_core.specs.Meaning.{World, plan_in, run_on}
+use Rattle.interleave_core.specs.World.{IsWorld}
 use Rattle.schedule_play.proofs.PlantLemmas.{plants_from, planted_next, planted_end}
 use Rattle.schedule_play.proofs.playing.plant_all.Goals as goal
 

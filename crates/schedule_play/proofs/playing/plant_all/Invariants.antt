@@ -1,7 +1,7 @@
 use Rattle.std.proofs.Common.{◌≡◌, ◌-◌, ◌≤◌, ℕ, length}
-use Rattle.module_area.specs.CellWords.{word_at}
+use Rattle.module_area.specs.Meaning.{word_at}
 use Rattle.interleave_core.specs.Results.{Fits}
-use Rattle.interleave_core.specs.Steps.{run_on}
+use Rattle.interleave_core.specs.Meaning.{run_on}
 use Rattle.schedule_play.proofs.PlantLemmas.{plants_from}
 use Rattle.schedule_play.proofs.playing.plant_all.Given as goal
 

@@ -1,8 +1,8 @@
 use Rattle.std.proofs.Common.{rules, ◌≡◌, ◌+◌, [], ◌∷◌, ◌++◌, ap, sym, ◌∙◌, length, length-append, arith}
 use Rattle.std.proofs.lemmas.Result.{IfOk-weaker, IfErr-weaker}
-use Rattle.job_text.specs.Lines.{lines_of}
-use Rattle.interleave_core.specs.World.{World}
-use Rattle.schedule_play.specs.Play.{play}
+use Rattle.job_text.specs.Meaning.{lines_of}
+use Rattle.interleave_core.specs.Meaning.{World}
+use Rattle.schedule_play.specs.Meaning.{play}
 use Rattle.schedule_play.proofs.PlayLemmas.{with_items, no_line, line_none, line_some, unplayed, line_bad, line_played, line_ends, ends_whole, ends_bad, no_more}
 use Rattle.schedule_play.proofs.playing.play.Goals as goal
 

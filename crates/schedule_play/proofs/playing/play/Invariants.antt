@@ -1,7 +1,7 @@
 use Rattle.std.proofs.Common.{◌≡◌, ◌+◌, ◌≤◌, length}
-use Rattle.job_text.specs.Lines.{lines_of}
+use Rattle.job_text.specs.Meaning.{lines_of}
 use Rattle.interleave_core.specs.Results.{Fits}
-use Rattle.schedule_play.specs.Play.{play}
+use Rattle.schedule_play.specs.Meaning.{play}
 use Rattle.schedule_play.proofs.PlayLemmas.{with_items}
 use Rattle.schedule_play.proofs.playing.play.Given as goal
 

@@ -1,5 +1,5 @@
 use Rattle.std.proofs.Common.{◌+◌, ◌-◌, length}
-use Rattle.report_text.specs.Text.{lines_from}
+use Rattle.report_text.specs.Meaning.{lines_from}
 use Rattle.report_text.proofs.WriteLemmas.{Progress}
 use Rattle.schedule_play.proofs.TextLemmas.{line_of}
 use Rattle.schedule_play.proofs.text.events_text.Given as goal

@@ -1,5 +1,5 @@
 use Rattle.std.proofs.Common.{◌≡◌, ◌++◌, ◌+◌, drop}
-use Rattle.session_book.specs.Sessions.{controlled_from}
+use Rattle.session_book.specs.Meaning.{controlled_from}
 use Rattle.session_book.proofs.plans.controlled_of.Given as goal
 
 abbrev pub invariant-loop-i : goal.invariant-loop-i

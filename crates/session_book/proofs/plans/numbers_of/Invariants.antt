@@ -1,5 +1,5 @@
 use Rattle.std.proofs.Common.{◌≡◌, ◌++◌, drop}
-use Rattle.session_book.specs.Sessions.{places_from}
+use Rattle.session_book.specs.Meaning.{places_from}
 use Rattle.session_book.proofs.plans.numbers_of.Given as goal
 
 abbrev pub invariant-loop-i : goal.invariant-loop-i

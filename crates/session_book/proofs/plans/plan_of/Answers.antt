@@ -1,7 +1,7 @@
 use Rattle.std.proofs.Common.{rules, ◌≡◌}
 use Rattle.brk_table.specs.Places.{ArePlaces}
 use Rattle.session_book.specs.JobView.{IsJob}
-use Rattle.session_book.specs.Sessions.{plan_view}
+use Rattle.session_book.specs.Meaning.{plan_view}
 use Rattle.session_book.proofs.PlanLemmas.{is_plan}
 use Rattle.session_book.proofs.plans.plan_of.Goals as goal
 

@@ -1,5 +1,5 @@
 use Rattle.std.proofs.Common.{◌≡◌, ◌++◌, drop}
-use Rattle.session_book.specs.Sessions.{tasks_from}
+use Rattle.session_book.specs.Meaning.{tasks_from}
 use Rattle.session_book.proofs.plans.tasks_of.Given as goal
 
 abbrev pub invariant-loop-i : goal.invariant-loop-i

@@ -1,5 +1,5 @@
 use Rattle.std.proofs.Common.{◌≡◌, take, map}
-use Rattle.session_book.specs.Sessions.{window_of}
+use Rattle.session_book.specs.Meaning.{window_of}
 use Rattle.session_book.proofs.plans.windows_of.Given as goal
 
 abbrev pub invariant-loop-place : goal.invariant-loop-place

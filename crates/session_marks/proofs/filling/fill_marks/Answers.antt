@@ -1,17 +1,15 @@
 use Rattle.std.proofs.Common.{◌≡◌, true, ℕ, List, length, map, ap, sym, ◌∙◌}
 use Rattle.std.specs.Vec.{with_items}
 use Rattle.std.proofs.lemmas.List.{with_items_is, length-map}
-use Rattle.cov_base.specs.FactSet.{FactSet}
-use Rattle.cov_base.specs.Facts.{no_facts}
-use Rattle.brk_table.specs.Places.{TablesView}
-use Rattle.marks_file.specs.Marks.{MarkedView, MarksView, is_runs, are_marks}
+use Rattle.cov_base.specs.Meaning.{FactSet, no_facts}
+use Rattle.brk_table.specs.Meaning.{TablesView}
+use Rattle.marks_file.specs.Meaning.{MarkedView, MarksView, is_runs, are_marks}
 use Rattle.marks_file.proofs.Parts.{is_session_name}
 use Rattle.marks_file.proofs.MarksLemmas.{both-left, both-right, both, kept_modules}
 use Rattle.marks_file.proofs.FileLemmas.{same_marks}
-use Rattle.session_book.specs.JobView.{JobView}
-use Rattle.session_book.specs.Sessions.{session_of}
+use Rattle.session_book.specs.Meaning.{JobView, session_of}
 use Rattle.session_marks.specs.Filled.{filled}
-use Rattle.session_marks.specs.Marked.{marked_module, session_file}
+use Rattle.session_marks.specs.Meaning.{marked_module, session_file}
 use Rattle.session_marks.proofs.FillLemmas.{are_there, modules_are_filled, filled_are_marks}
 use Rattle.session_marks.proofs.filling.fill_marks.Goals as goal
 

@@ -1,5 +1,5 @@
 use Rattle.std.proofs.Common.{◌≢◌, AllPairs, subst}
-use Rattle.session_book.specs.JobView.{SessionView}
+use Rattle.session_book.specs.Meaning.{SessionView}
 use Rattle.session_marks.proofs.OwnLemmas.{decided}
 use Rattle.session_marks.proofs.from_file.file_sets.Goals as goal
 

@@ -1,12 +1,12 @@
-use Rattle.brk_table.specs.Places.{place_count}
+use Rattle.brk_table.specs.Meaning.{place_count}
 use Rattle.std.proofs.Common.{◌≡◌, true, List, length, get_or, ap, sym, ◌∙◌, arith}
 use Rattle.std.proofs.lemmas.List.{length-map}
-use Rattle.marks_file.specs.Marks.{MarkedView, MarksView, are_marks}
+use Rattle.marks_file.specs.Meaning.{MarkedView, MarksView, are_marks}
 use Rattle.marks_file.proofs.MarksLemmas.{kept_modules}
-use Rattle.table_combine.specs.Combine.{unite}
+use Rattle.table_combine.specs.Meaning.{unite}
 use Rattle.table_combine.proofs.UnionLemmas.{length-unite}
-use Rattle.session_book.specs.Sessions.{session_of}
-use Rattle.session_marks.specs.Marked.{marked_module, session_marks}
+use Rattle.session_book.specs.Meaning.{session_of}
+use Rattle.session_marks.specs.Meaning.{marked_module, session_marks}
 use Rattle.session_marks.specs.FromFile.{set_at, HaveSetsAt}
 use Rattle.session_marks.proofs.SetsLemmas.{empty}
 use Rattle.session_marks.proofs.SessionLemmas.{counts_united, session_within}

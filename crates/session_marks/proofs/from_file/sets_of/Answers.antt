@@ -1,8 +1,8 @@
 use Rattle.std.proofs.Common.{length, get_or, ap, subst, arith, sym, ◌∙◌, ◌≡◌, ◌⊎◌, ◌+◌, ◌<◌, ◌≤◌, ℕ, refl}
 use Rattle.std.specs.Vec.{with_items}
 use Rattle.std.proofs.lemmas.List.{with_items_is}
-use Rattle.marks_file.specs.Marks.{MarkedView}
-use Rattle.brk_table.specs.Places.{first_place, place_count}
+use Rattle.marks_file.specs.Meaning.{MarkedView}
+use Rattle.brk_table.specs.Meaning.{first_place, place_count}
 use Rattle.session_marks.specs.FromFile.{set_at, HasSetsAt, HaveSetsAt}
 use Rattle.session_marks.proofs.SetsLemmas.{sets_step, outside_step}
 use Rattle.session_marks.proofs.from_file.sets_of.Goals as goal

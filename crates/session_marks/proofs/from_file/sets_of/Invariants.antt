@@ -1,5 +1,5 @@
 use Rattle.std.proofs.Common.{◌≡◌, ℕ, ◌<◌, length, get_or}
-use Rattle.cov_base.specs.Facts.{no_facts}
+use Rattle.cov_base.specs.Meaning.{no_facts}
 use Rattle.session_marks.specs.FromFile.{set_at, HaveSetsAt, IsOutside}
 use Rattle.session_marks.proofs.from_file.sets_of.Given as goal
 

@@ -1,6 +1,5 @@
 use Rattle.std.proofs.Common.{rules, ◌≡◌, length, true, ap, ◌∙◌, arith}
-use Rattle.cov_base.specs.Memory.{ImageView}
-use Rattle.cov_base.specs.Names.{is_filled}
+use Rattle.cov_base.specs.Meaning.{ImageView, is_filled}
 use Rattle.session_marks.proofs.ModuleLemmas.{AreTabled, from_base, module_fields}
 use Rattle.session_marks.proofs.marking.marked_module.Goals as goal
 

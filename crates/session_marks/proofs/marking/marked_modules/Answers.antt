@@ -1,6 +1,6 @@
 use Rattle.std.proofs.lemmas.List.Elements.{All-push}
 use Rattle.session_marks.specs.Fields.{HasGoodFields}
-use Rattle.session_marks.specs.Marked.{marked_module}
+use Rattle.session_marks.specs.Meaning.{marked_module}
 use Rattle.session_marks.proofs.ModuleLemmas.{mapped_step}
 use Rattle.session_marks.proofs.marking.marked_modules.Goals as goal
 

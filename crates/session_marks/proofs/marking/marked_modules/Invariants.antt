@@ -1,6 +1,6 @@
 use Rattle.std.proofs.Common.{◌≡◌, map, take, All}
 use Rattle.session_marks.specs.Fields.{HasGoodFields}
-use Rattle.session_marks.specs.Marked.{marked_module}
+use Rattle.session_marks.specs.Meaning.{marked_module}
 use Rattle.session_marks.proofs.marking.marked_modules.Given as goal
 
 abbrev pub invariant-loop-m : goal.invariant-loop-m

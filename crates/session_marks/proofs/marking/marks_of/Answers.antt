@@ -1,8 +1,8 @@
 use Rattle.std.proofs.Common.{rules, ◌≡◌, true}
-use Rattle.cov_base.specs.Names.{is_filled}
-use Rattle.marks_file.specs.Marks.{are_marks}
+use Rattle.cov_base.specs.Meaning.{is_filled}
+use Rattle.marks_file.specs.Meaning.{are_marks}
 use Rattle.marks_file.proofs.MarksLemmas.{both}
-use Rattle.session_book.specs.Sessions.{session_of}
+use Rattle.session_book.specs.Meaning.{session_of}
 use Rattle.session_marks.proofs.ModuleLemmas.{marks_kept}
 use Rattle.session_marks.proofs.RuleLemmas.{one_run}
 use Rattle.session_marks.proofs.marking.marks_of.Goals as goal

@@ -1,8 +1,7 @@
 use Rattle.std.proofs.Common.{subst}
 use Rattle.std.specs.Slots.{slots_items}
 use Rattle.atomic_table.specs.Table.{Final, Seen}
-use Rattle.module_area.specs.PlanView.{PlanView}
-use Rattle.module_area.specs.FinalsView.{FinalsView, set_at}
+use Rattle.module_area.specs.Meaning.{PlanView, FinalsView, set_at}
 use Rattle.module_area.specs.Ended.{AreSettled, HasSets, HasTally}
 use Rattle.shared_area.specs.Passes.{notes_of}
 use Rattle.shared_area.specs.Rule.{IsArea}

@@ -1,6 +1,6 @@
 use Rattle.std.proofs.Common.{◌≡◌, List, ℕ, [], sym, ◌∙◌, subst}
 use Rattle.atomic_table.specs.Table.{opening}
-use Rattle.module_area.specs.PlanView.{PlanView}
+use Rattle.module_area.specs.Meaning.{PlanView}
 use Rattle.module_area.specs.declared.parties.Role.TheVariants.{Root}
 use Rattle.module_area.specs.Parties.{blank}
 use Rattle.shared_area.specs.Begin.{starting}

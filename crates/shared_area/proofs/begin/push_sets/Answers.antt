@@ -2,7 +2,7 @@ use Rattle.std.proofs.Common.{◌≡◌, ◌+◌, ◌∷◌, [], length, List, s
 use mathlib.Core.Option.{some}
 use lib.ListN.{get_elem?}
 use Rattle.std.specs.Slots.{slots_items}
-use Rattle.cov_base.specs.FactSet.{FactSet}
+use Rattle.cov_base.specs.Meaning.{FactSet}
 use Rattle.shared_area.specs.Words.{facts_of}
 use Rattle.shared_area.specs.Begin.{AreSets}
 use Rattle.shared_area.proofs.BeginLemmas.{next_set}

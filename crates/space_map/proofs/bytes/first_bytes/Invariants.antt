@@ -1,5 +1,5 @@
 use Rattle.std.proofs.Common.{◌≡◌, length, take, replicate, fold}
-use Rattle.module_area.specs.Views.{with_card}
+use Rattle.module_area.specs.Meaning.{with_card}
 use Rattle.space_map.proofs.bytes.first_bytes.Given as goal
 
 abbrev pub invariant-loop-card : goal.invariant-loop-card

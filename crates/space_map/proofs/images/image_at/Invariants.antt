@@ -1,6 +1,6 @@
 use Rattle.std.proofs.Common.{◌≡◌, ℕ, ◌<◌, false, get_or}
-use Rattle.cov_base.specs.Memory.{ImageView}
-use Rattle.brk_table.specs.Places.{in_image}
+use Rattle.cov_base.specs.Meaning.{ImageView}
+use Rattle.brk_table.specs.Meaning.{in_image}
 use Rattle.space_map.proofs.images.image_at.Given as goal
 
 abbrev pub invariant-loop-image : goal.invariant-loop-image

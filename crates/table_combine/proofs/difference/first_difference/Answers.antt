@@ -1,6 +1,5 @@
 use Rattle.std.proofs.Common.{◌≡◌, ◌≢◌, refl, ◌≤◌, ◌<◌, length, min, ap, subst, arith}
-use Rattle.marks_file.specs.Marks.{MarkedView}
-use Rattle.marks_file.specs.MarksFile.{module_row}
+use Rattle.marks_file.specs.Meaning.{MarkedView, module_row}
 use Rattle.table_combine.specs.Combine.{SamePlaces}
 use Rattle.table_combine.proofs.DifferenceLemmas.{ModulesPassed, modules_step, modules_stop, modules_over}
 use Rattle.table_combine.proofs.difference.first_difference.Goals as goal

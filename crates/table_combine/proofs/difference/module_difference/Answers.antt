@@ -1,6 +1,5 @@
 use Rattle.std.proofs.Common.{rules, ◌≡◌, length, ap, ◌∙◌, sym}
-use Rattle.marks_file.specs.Marks.{MarkedView}
-use Rattle.marks_file.specs.MarksFile.{module_row}
+use Rattle.marks_file.specs.Meaning.{MarkedView, module_row}
 use Rattle.table_combine.proofs.DifferenceLemmas.{row_count}
 use Rattle.table_combine.proofs.difference.module_difference.Goals as goal
 

@@ -1,5 +1,5 @@
 use Rattle.std.proofs.Common.{◌≡◌, ◌++◌, take, drop}
-use Rattle.table_combine.specs.Combine.{unite}
+use Rattle.table_combine.specs.Meaning.{unite}
 use Rattle.table_combine.proofs.union.unite.Given as goal
 
 abbrev pub invariant-loop-i : goal.invariant-loop-i

@@ -1,8 +1,8 @@
 use Rattle.brk_table.specs.Kept.{AreKept}
 use Rattle.brk_table.specs.Places.{AreSeen}
 use Rattle.brk_table.proofs.CodeLemmas.{are_in}
-use Rattle.cov_base.specs.Memory.{Memory}
-use Rattle.session_book.specs.Sessions.{task_of, no_task}
+use Rattle.cov_base.specs.Meaning.{Memory}
+use Rattle.session_book.specs.Meaning.{task_of, no_task}
 use Rattle.space_map.proofs.Kept.{are_kept}
 use Rattle.std.proofs.Common.{sym, subst}
 use Rattle.task_alone.proofs.begin.begin_alone.Goals as goal

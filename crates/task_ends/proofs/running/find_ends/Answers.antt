@@ -1,6 +1,6 @@
 use Rattle.std.proofs.Common.{◌+◌, ◌<◌, [], ◌∷◌, length, ap, ◌∙◌, arith}
 use Rattle.std.proofs.lemmas.List.{length-append}
-use Rattle.task_ends.specs.Ends.{end_of}
+use Rattle.task_ends.specs.Meaning.{end_of}
 use Rattle.task_ends.proofs.RunLemmas.{counted_more, added_end}
 use Rattle.task_ends.proofs.running.find_ends.Goals as goal
 

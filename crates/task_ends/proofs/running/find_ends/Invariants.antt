@@ -1,7 +1,7 @@
 use Rattle.std.proofs.Common.{◌≡◌, ℕ, ◌+◌, ◌-◌, ◌<◌, length, get_or, slice_index}
-use Rattle.report_text.specs.Text.{sum_from}
+use Rattle.report_text.specs.Meaning.{sum_from}
 use Rattle.observed_step.specs.declared.task.TaskEnd.{TaskEnd}
-use Rattle.task_ends.specs.Ends.{end_of, unlisted_of}
+use Rattle.task_ends.specs.Meaning.{end_of, unlisted_of}
 use Rattle.task_ends.specs.Held.{HasRoom}
 use Rattle.task_ends.proofs.RunLemmas.{unlisted_at}
 use Rattle.task_ends.proofs.running.find_ends.Given as goal

@@ -1,5 +1,5 @@
 use Rattle.std.proofs.Common.{◌≡◌, drop}
-use Rattle.task_ends.specs.Text.{place_words}
+use Rattle.task_ends.specs.Meaning.{place_words}
 use Rattle.task_ends.proofs.text.add_place.Given as goal
 
 abbrev pub invariant-loop-image : goal.invariant-loop-image

@@ -1,7 +1,7 @@
 use Rattle.std.proofs.Common.{◌≡◌, true, [], ◌∷◌, ◌++◌, codes, decimal, sym, ◌∙◌}
-use Rattle.cov_base.specs.Names.{unpadded}
-use Rattle.report_text.specs.Table.{is_monitored}
-use Rattle.session_book.specs.Sessions.{module_of}
+use Rattle.cov_base.specs.Meaning.{unpadded}
+use Rattle.report_text.specs.Meaning.{is_monitored}
+use Rattle.session_book.specs.Meaning.{module_of}
 use Rattle.task_ends.proofs.text.module_text.Goals as goal
 
 pub returns-then-is_monitored : goal.returns-then-is_monitored

@@ -1,7 +1,7 @@
 use Rattle.std.proofs.Common.{◌≡◌, ◌<◌, length, ◌∙◌, arith}
 use Rattle.report_text.proofs.RowLemmas.{lines_from-next, lines_from-end}
 use Rattle.report_text.proofs.WriteLemmas.{progress_at, progress_more, progress_exit, progress_end}
-use Rattle.task_ends.specs.Text.{end_part}
+use Rattle.task_ends.specs.Meaning.{end_part}
 use Rattle.task_ends.proofs.text.tasks_text.Goals as goal
 
 pub returns-in_err-task_text : goal.returns-in_err-task_text

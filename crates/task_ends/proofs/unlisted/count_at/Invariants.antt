@@ -1,6 +1,6 @@
 use Rattle.std.proofs.Common.{◌≡◌, ℕ, ◌+◌, ◌<◌, ◌≤◌, if◌then◌else◌, length, get_or, slice_index}
-use Rattle.brk_table.specs.Places.{in_image}
-use Rattle.session_book.specs.Sessions.{no_module}
+use Rattle.brk_table.specs.Meaning.{in_image}
+use Rattle.session_book.specs.Meaning.{no_module}
 use Rattle.task_ends.proofs.unlisted.count_at.Given as goal
 
 abbrev pub invariant-loop-m : goal.invariant-loop-m

@@ -1,9 +1,9 @@
 use Rattle.std.proofs.Common.{refl, sym, subst, ◌∙◌}
-use Rattle.s370_exec.specs.Solo.{run_ended}
+use Rattle.s370_exec.specs.Meaning.{run_ended}
 use Rattle.observed_step.specs.Steps.{memory_at, stands}
 use Rattle.observed_step.proofs.SoloLemmas.{course_solo}
 use Rattle.task_run.specs.Aside.{IsAside}
-use Rattle.task_run.specs.Courses.{solo}
+use Rattle.task_run.specs.Meaning.{solo}
 use Rattle.task_run.proofs.AsideLemmas.{aside_none}
 use Rattle.task_run.proofs.GoneLemmas.{made_all}
 use Rattle.task_run.proofs.RanLemmas.{ran_tour}

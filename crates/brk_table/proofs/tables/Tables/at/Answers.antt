@@ -1,6 +1,6 @@
 use Rattle.std.proofs.Common.{◌≡◌, ◌%◌, false, ap, subst, refl, sym, ◌∙◌, arith}
-use Rattle.module_area.specs.Executions.{is_place}
-use Rattle.brk_table.specs.Places.{TablesView}
+use Rattle.module_area.specs.Meaning.{is_place}
+use Rattle.brk_table.specs.Meaning.{TablesView}
 use Rattle.brk_table.specs.Map.{entry_at}
 use Rattle.brk_table.proofs.MapLemmas.{IsEntered, entered, odd_nowhere, zero_nowhere}
 use Rattle.brk_table.proofs.tables.Tables.at.Goals as goal

@@ -1,5 +1,6 @@
 use Rattle.std.proofs.Common.{◌<◌, ◌≤◌, length, ap, sym, ◌∙◌, subst, arith}
-use Rattle.brk_table.specs.Places.{TablesView, HasItsPlaces}
+use Rattle.brk_table.specs.Meaning.{TablesView}
+use Rattle.brk_table.specs.Places.{HasItsPlaces}
 use Rattle.brk_table.proofs.RangeLemmas.{at_start, own_table, other_table, any_table, no_table, place_bounds}
 use Rattle.brk_table.proofs.tables.Tables.line.Goals as goal
 

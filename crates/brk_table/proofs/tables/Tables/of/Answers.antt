@@ -1,5 +1,5 @@
 use Rattle.std.proofs.Common.{◌++◌, take, sym, ap, ◌∙◌}
-use Rattle.brk_table.specs.Places.{all_places}
+use Rattle.brk_table.specs.Meaning.{all_places}
 use Rattle.brk_table.proofs.AllPlaces.{all_places_more}
 use Rattle.brk_table.proofs.MapLemmas.{fresh_map}
 use Rattle.brk_table.proofs.tables.Tables.of.Goals as goal

@@ -1,5 +1,5 @@
 use Rattle.std.proofs.Common.{◌≡◌, take}
-use Rattle.brk_table.specs.Places.{all_places}
+use Rattle.brk_table.specs.Meaning.{all_places}
 use Rattle.brk_table.proofs.tables.Tables.of.Given as goal
 
 abbrev pub invariant-loop-table : goal.invariant-loop-table

@@ -1,5 +1,5 @@
 use Rattle.std.proofs.Common.{◌≡◌, ◌<◌, ◌≤◌, length, ap, sym, ◌∙◌, arith}
-use Rattle.brk_table.specs.Places.{TablesView, all_places}
+use Rattle.brk_table.specs.Meaning.{TablesView, all_places}
 use Rattle.brk_table.proofs.RangeLemmas.{at_start, own_table, other_table, any_table, no_table}
 use Rattle.brk_table.proofs.tables.Tables.range.Goals as goal
 

@@ -1,6 +1,6 @@
 use Rattle.std.proofs.Common.{◌≡◌, ◌+◌, ◌%◌, ◌^◌, ◌<◌, ◌≤◌, length, sym, ap, ◌∙◌, subst}
 use Rattle.atomic_table.specs.Table.{Allows}
-use Rattle.module_area.specs.PlanView.{PlanView}
+use Rattle.module_area.specs.Meaning.{PlanView}
 use Rattle.count_session.specs.Rule.{IsCounting, adding, notes_in}
 use Rattle.count_session.proofs.WordLemmas.{count_there, count_behind}
 use Rattle.count_session.proofs.StepLemmas.{add_allowed}

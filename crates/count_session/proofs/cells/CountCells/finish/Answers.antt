@@ -1,7 +1,7 @@
 use Rattle.std.proofs.Common.{subst}
 use Rattle.std.specs.Slots.{slots_items}
 use Rattle.atomic_table.specs.Table.{Final, Seen}
-use Rattle.module_area.specs.PlanView.{PlanView}
+use Rattle.module_area.specs.Meaning.{PlanView}
 use Rattle.count_session.specs.Rule.{IsCounting}
 use Rattle.count_session.proofs.EndLemmas.{has_counts}
 use Rattle.count_session.proofs.cells.CountCells.finish.Goals as goal

@@ -1,6 +1,6 @@
 use Rattle.std.proofs.Common.{◌≡◌, List, ℕ, [], sym, ◌∙◌, subst}
 use Rattle.atomic_table.specs.Table.{opening}
-use Rattle.module_area.specs.PlanView.{PlanView}
+use Rattle.module_area.specs.Meaning.{PlanView}
 use Rattle.count_session.specs.Words.{starting}
 use Rattle.count_session.specs.Rule.{IsCounting, first_view}
 use Rattle.count_session.proofs.BeginLemmas.{begins_area}

@@ -1,6 +1,6 @@
 use Rattle.std.proofs.Common.{◌≡◌, ℕ, ◌<◌, length, sym, ap, ◌∙◌, subst}
 use Rattle.atomic_table.specs.Table.{Allows}
-use Rattle.module_area.specs.PlanView.{PlanView}
+use Rattle.module_area.specs.Meaning.{PlanView}
 use Rattle.count_session.specs.Words.{planted_word}
 use Rattle.count_session.specs.Rule.{IsCounting, planting, notes_in}
 use Rattle.count_session.proofs.WordLemmas.{cell_there}

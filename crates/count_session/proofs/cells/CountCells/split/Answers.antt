@@ -1,6 +1,6 @@
 use Rattle.std.proofs.Common.{◌<◌, length, sym, subst}
 use Rattle.atomic_table.specs.Table.{Splits}
-use Rattle.module_area.specs.PlanView.{PlanView}
+use Rattle.module_area.specs.Meaning.{PlanView}
 use Rattle.count_session.specs.Rule.{IsCounting, giving, newcomer}
 use Rattle.count_session.proofs.WordLemmas.{some_word}
 use Rattle.count_session.proofs.StepLemmas.{split_allowed}

@@ -1,6 +1,6 @@
 use Rattle.std.proofs.Common.{◌≡◌, List, length, sym, ◌∙◌, ap, arith}
 use Rattle.std.proofs.lemmas.List.{get_or-map}
-use Rattle.session_book.specs.Results.{ResultView}
+use Rattle.session_book.specs.Meaning.{ResultView}
 use Rattle.job_run.specs.Tasks.{done_result, no_result, results_of}
 use Rattle.job_run.specs.declared.outcome.Done.{Done}
 use Rattle.job_run.proofs.TaskLemmas.{row_range}

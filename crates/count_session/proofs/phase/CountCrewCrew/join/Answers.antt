@@ -1,6 +1,6 @@
 use Rattle.std.proofs.Common.{◌≡◌, ℕ, ◌+◌, ◌∷◌, [], ◌++◌, List, length, sym, ◌∙◌, ap, subst, arith, length-append}
 use Rattle.cov_base.specs.declared.numbers.TaskNo.{TaskNo}
-use Rattle.module_area.specs.PlanView.{place_of}
+use Rattle.module_area.specs.Meaning.{place_of}
 use Rattle.job_run.specs.Crews.{PhaseView, all_tasks, phase_at, tasks_before}
 use Rattle.job_run.proofs.BeforeLemmas.{before_one}
 use Rattle.count_session.specs.Notes.{CountNotes}

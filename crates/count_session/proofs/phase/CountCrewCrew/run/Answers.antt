@@ -1,11 +1,12 @@
 use Rattle.std.proofs.Common.{◌≡◌, ℕ, ◌+◌, true, if◌then◌else◌, ◌∙◌, ap, subst, arith}
-use Rattle.s370_exec.specs.Solo.{Run}
-use Rattle.module_area.specs.PlanView.{PlanView, place_of}
-use Rattle.task_run.specs.Courses.{solo}
+use Rattle.s370_exec.specs.Meaning.{Run}
+use Rattle.module_area.specs.Meaning.{PlanView, place_of}
+use Rattle.task_run.specs.Meaning.{solo}
 use Rattle.job_run.specs.Tasks.{own_run}
 use Rattle.job_run.proofs.SlotLemmas.{is_over_begun, plan_here}
 use Rattle.job_run.proofs.TaskLemmas.{begun_run}
-use Rattle.count_session.specs.Counting.{Adds, count_at, planted_count}
+use Rattle.count_session.specs.Meaning.{count_at}
+use Rattle.count_session.specs.Counting.{Adds, planted_count}
 use Rattle.count_session.specs.Notes.{CountNotes}
 use Rattle.count_session.specs.Passes.{notes_of, plan_in}
 use Rattle.count_session.proofs.PassLemmas.{counted_there, has_ended}

@@ -1,7 +1,7 @@
 use Rattle.std.proofs.Common.{◌≡◌, false, Some, sym, ◌∙◌, ap, subst}
-use Rattle.module_area.specs.Control.{ControlView, places_under, after_closes, after_end}
+use Rattle.module_area.specs.Meaning.{ControlView, places_under, PlanView}
+use Rattle.module_area.specs.Control.{after_closes, after_end}
 use Rattle.module_area.specs.Notes.{Notes, after_boundary}
-use Rattle.module_area.specs.PlanView.{PlanView}
 use Rattle.early_report.specs.DrainView.{DrainView}
 use Rattle.early_report.specs.Drains.{HasClosed}
 use Rattle.early_report.specs.Followed.{IsOwn}

@@ -1,8 +1,7 @@
 use Rattle.std.proofs.Common.{None, refl}
 use Rattle.module_area.specs.Notes.{root_notes}
 use Rattle.module_area.proofs.TiedLemmas.{first_tied}
-use Rattle.session_book.specs.JobView.{JobView}
-use Rattle.session_book.specs.Sessions.{task_of}
+use Rattle.session_book.specs.Meaning.{JobView, task_of}
 use Rattle.job_run.specs.declared.outcome.Done.{Done}
 use Rattle.job_run.proofs.SlotLemmas.{is_over_begun}
 use Rattle.coverage_commands_tests.proofs.tests.drains.run_one.Goals as goal

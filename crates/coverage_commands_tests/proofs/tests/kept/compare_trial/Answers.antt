@@ -1,6 +1,6 @@
 use Rattle.std.proofs.Common.{sym, subst}
 use Rattle.report_text.specs.Conditions.{HasFewLines}
-use Rattle.session_book.specs.JobView.{JobView}
+use Rattle.session_book.specs.Meaning.{JobView}
 use Rattle.coverage_commands.proofs.TrialLemmas.{trial_few_lines}
 use Rattle.coverage_commands_tests.proofs.tests.kept.compare_trial.Goals as goal
 

@@ -1,6 +1,5 @@
 use Rattle.std.proofs.Common.{◌≡◌, refl, ◌∙◌, ap, arith}
-use Rattle.s370_exec.specs.Calls.{call_of}
-use Rattle.s370_exec.specs.Solo.{solo_step}
+use Rattle.s370_exec.specs.Meaning.{call_of, solo_step}
 use Rattle.observed_step.specs.Steps.{memory_at, stands}
 use Rattle.svc_monitor.specs.Answered.{Turns}
 use Rattle.svc_monitor.proofs.TurnLemmas.{turned}

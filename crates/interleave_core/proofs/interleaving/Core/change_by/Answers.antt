@@ -1,8 +1,6 @@
 use Rattle.std.proofs.Common.{◌≡◌, ◌<◌, length, set, Some, true, is_some, sym, ◌∙◌, ap, subst}
 use Rattle.std.proofs.lemmas.List.{length-map}
-use Rattle.interleave_core.specs.World.{World}
-use Rattle.interleave_core.specs.Control.{controller_of}
-use Rattle.interleave_core.specs.Steps.{Stepped, of_task, change_step, changed_cell}
+use Rattle.interleave_core.specs.Meaning.{World, controller_of, Stepped, of_task, change_step, changed_cell}
 use Rattle.interleave_core.specs.Views.{RunningView, CoreView, IsPlaced, parts_of}
 use Rattle.interleave_core.specs.declared.events.Shown.{Shown}
 use Rattle.interleave_core.proofs.Placing.{change_possible, changed_core}

@@ -1,6 +1,5 @@
 use Rattle.std.proofs.Common.{◌≡◌, ◌<◌, false, length, set, Some, sym, refl, subst, arith}
-use Rattle.interleave_core.specs.World.{World}
-use Rattle.interleave_core.specs.Steps.{Stepped, of_task, place_due, is_spent, fetch_step}
+use Rattle.interleave_core.specs.Meaning.{World, Stepped, of_task, place_due, is_spent, fetch_step}
 use Rattle.interleave_core.specs.Views.{RunningView, CoreView, parts_of}
 use Rattle.interleave_core.specs.declared.events.Event.TheVariants.{Fetch}
 use Rattle.interleave_core.specs.declared.events.Shown.TheVariants.{Fetched}

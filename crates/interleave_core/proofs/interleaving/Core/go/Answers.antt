@@ -1,5 +1,5 @@
 use Rattle.std.proofs.Common.{rules, ◌≡◌, false, is_none, length, ap, sym, ◌∙◌}
-use Rattle.interleave_core.specs.Results.{next_of}
+use Rattle.interleave_core.specs.Meaning.{next_of}
 use Rattle.interleave_core.proofs.GoneLemmas.{is_there, has_gone}
 use Rattle.interleave_core.proofs.interleaving.Core.go.Goals as goal
 

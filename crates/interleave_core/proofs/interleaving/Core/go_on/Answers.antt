@@ -1,7 +1,6 @@
 use Rattle.std.proofs.Common.{◌≡◌, ◌<◌, sym, ◌∙◌, refl, subst}
 use Rattle.module_area.specs.PlanView.{IsPlan}
-use Rattle.interleave_core.specs.World.{World, plan_in}
-use Rattle.interleave_core.specs.Going.{most_events}
+use Rattle.interleave_core.specs.Meaning.{World, plan_in, most_events}
 use Rattle.interleave_core.proofs.GoingLemmas.{left, gone_by, next_less, go_next}
 use Rattle.interleave_core.proofs.interleaving.Core.go_on.Goals as goal
 

@@ -1,5 +1,5 @@
 use Rattle.std.proofs.Common.{◌≡◌}
-use Rattle.interleave_core.specs.Going.{most_events}
+use Rattle.interleave_core.specs.Meaning.{most_events}
 use Rattle.interleave_core.proofs.GoingLemmas.{left, gone_by}
 use Rattle.interleave_core.proofs.interleaving.Core.go_on.Given as goal
 

@@ -1,6 +1,5 @@
 use Rattle.std.proofs.Common.{◌≡◌, ◌<◌, length, set, Some, ap, sym, subst, arith}
-use Rattle.interleave_core.specs.World.{World}
-use Rattle.interleave_core.specs.Steps.{Stepped, of_task, lift_step}
+use Rattle.interleave_core.specs.Meaning.{World, Stepped, of_task, lift_step}
 use Rattle.interleave_core.specs.Views.{CoreView, parts_of}
 use Rattle.interleave_core.specs.declared.events.Event.TheVariants.{Lift}
 use Rattle.interleave_core.specs.declared.events.Shown.TheVariants.{Lifted}

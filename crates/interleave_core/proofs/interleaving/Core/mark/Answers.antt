@@ -1,7 +1,6 @@
 use Rattle.std.proofs.Common.{◌≡◌, ℕ, ◌+◌, ◌*◌, ◌/◌, ◌<◌, length, set, Some, ap, sym, ◌∙◌, subst, arith}
-use Rattle.cov_base.specs.Facts.{with_fact}
-use Rattle.interleave_core.specs.World.{World}
-use Rattle.interleave_core.specs.Steps.{Stepped, of_task, mark_step}
+use Rattle.cov_base.specs.Meaning.{with_fact}
+use Rattle.interleave_core.specs.Meaning.{World, Stepped, of_task, mark_step}
 use Rattle.interleave_core.specs.Views.{CoreView, parts_of}
 use Rattle.interleave_core.specs.declared.events.Event.TheVariants.{Mark}
 use Rattle.interleave_core.specs.declared.events.Shown.TheVariants.{Marked}

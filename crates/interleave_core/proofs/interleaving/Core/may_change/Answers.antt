@@ -1,5 +1,5 @@
 use Rattle.std.proofs.Common.{◌<◌, length, refl, sym, subst, arith}
-use Rattle.interleave_core.specs.World.{World}
+use Rattle.interleave_core.specs.Meaning.{World}
 use Rattle.interleave_core.specs.Views.{CoreView, IsPlaced}
 use Rattle.interleave_core.proofs.Kept.{read_running}
 use Rattle.interleave_core.proofs.Placing.{placed}

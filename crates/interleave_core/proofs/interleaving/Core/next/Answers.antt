@@ -1,7 +1,7 @@
 use Rattle.std.proofs.Common.{◌≡◌, ◌<◌, Option, IfSome, length, sym, ◌∙◌, refl, ap, subst, arith}
 use Rattle.std.proofs.lemmas.Bool.{ltb-true}
-use Rattle.interleave_core.specs.World.{World, Parts, part_of}
-use Rattle.interleave_core.specs.Results.{IsDue, next_of, stage_event}
+use Rattle.interleave_core.specs.Meaning.{World, Parts, part_of, next_of, stage_event}
+use Rattle.interleave_core.specs.Results.{IsDue}
 use Rattle.interleave_core.specs.Views.{CoreView, parts_of}
 use Rattle.interleave_core.specs.declared.events.Event.{Event}
 use Rattle.interleave_core.proofs.Nexts.{next_possible, next_only, next_there}

@@ -1,5 +1,5 @@
 use Rattle.std.proofs.Common.{◌<◌, length, sym, ◌∙◌, arith}
-use Rattle.interleave_core.specs.World.{World}
+use Rattle.interleave_core.specs.Meaning.{World}
 use Rattle.interleave_core.proofs.Placing.{window_core}
 use Rattle.interleave_core.proofs.interleaving.Core.plant_whole.Goals as goal
 

@@ -1,6 +1,5 @@
 use Rattle.std.proofs.Common.{◌≡◌, ◌<◌, length, set, Some, refl, subst, arith}
-use Rattle.interleave_core.specs.World.{World}
-use Rattle.interleave_core.specs.Steps.{Stepped, of_task, do_step}
+use Rattle.interleave_core.specs.Meaning.{World, Stepped, of_task, do_step}
 use Rattle.interleave_core.specs.Views.{CoreView, parts_of}
 use Rattle.interleave_core.specs.declared.events.Event.TheVariants.{Do}
 use Rattle.interleave_core.specs.declared.events.Shown.TheVariants.{Done}

@@ -1,6 +1,5 @@
 use Rattle.std.proofs.Common.{◌≡◌, ◌<◌, ℕ, List, length, sym, ◌∙◌, ap, subst, arith}
-use Rattle.interleave_core.specs.Results.{results_of}
-use Rattle.interleave_core.specs.World.{Parts}
+use Rattle.interleave_core.specs.Meaning.{results_of, Parts}
 use Rattle.interleave_core.specs.Views.{CoreView, RunningView, parts_of}
 use Rattle.interleave_core.proofs.Starts.{result_read, row_range}
 use Rattle.interleave_core.proofs.interleaving.CoreResults.row.Goals as goal

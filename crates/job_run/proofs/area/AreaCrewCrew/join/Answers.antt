@@ -2,7 +2,7 @@ use Rattle.std.proofs.Common.{◌≡◌, ℕ, true, not, ◌&&◌, Option, unwra
 use Rattle.std.proofs.lemmas.Bool.{or_left, or_right}
 use Rattle.cov_base.specs.declared.numbers.TaskNo.{TaskNo}
 use Rattle.module_area.specs.Notes.{Notes, after_join, bearer}
-use Rattle.module_area.specs.PlanView.{PlanView}
+use Rattle.module_area.specs.Meaning.{PlanView}
 use Rattle.job_run.specs.Crews.{PhaseView, all_tasks, phase_at, tasks_before}
 use Rattle.job_run.specs.Passes.{HasJoined}
 use Rattle.job_run.proofs.BeforeLemmas.{before_one, few_before, is_among, not_before}

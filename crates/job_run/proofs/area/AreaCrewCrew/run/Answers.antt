@@ -1,9 +1,8 @@
 use Rattle.std.proofs.Common.{◌≡◌, ℕ, Some, refl, sym, ◌∙◌, ap, subst, arith}
 use Rattle.std.proofs.lemmas.Option.{same_Some}
-use Rattle.module_area.specs.Control.{ControlView, first_control}
+use Rattle.module_area.specs.Meaning.{ControlView, first_control, PlanView}
 use Rattle.module_area.specs.Ended.{AreSettled}
 use Rattle.module_area.specs.Notes.{Notes, bearer, calls, is_working}
-use Rattle.module_area.specs.PlanView.{PlanView}
 use Rattle.module_area.specs.Tied.{IsTied}
 use Rattle.observed_step.specs.Steps.{memory_at}
 use Rattle.svc_monitor.specs.First.{IsOver}

@@ -4,7 +4,7 @@ use Rattle.job_text.specs.Steps.{is_done, step}
 use Rattle.job_text.specs.Pieces.{IsTold}
 use Rattle.job_text.specs.Taken.{IsNext, IsFaultOf, HasTaken}
 use Rattle.job_text.specs.declared.jobs.JobFault.{JobFault}
-use Rattle.job_text.specs.Drafts.{Present}
+use Rattle.job_text.specs.Meaning.{Present}
 use Rattle.job_text.specs.declared.pieces.Pieces.{Pieces}
 use Rattle.job_text.proofs.EndedLines.{LfNext, lf_next, lf_none, used_all}
 use Rattle.job_text.proofs.LineLemmas.{ended_line}

@@ -4,9 +4,8 @@ use Rattle.std.proofs.lemmas.List.{nil_from_length}
 use Rattle.std.proofs.lemmas.Result.{err_from_is_err_and}
 use Rattle.job_text.specs.Steps.{is_done, step}
 use Rattle.job_text.specs.Taken.{IsFaultOf, HasTaken}
-use Rattle.job_text.specs.Lines.{lines_of}
+use Rattle.job_text.specs.Meaning.{lines_of, Present}
 use Rattle.job_text.specs.declared.jobs.JobFault.{JobFault}
-use Rattle.job_text.specs.Drafts.{Present}
 use Rattle.job_text.specs.declared.pieces.Pieces.{Pieces}
 use Rattle.job_text.proofs.LineLemmas.{open_line}
 use Rattle.job_text.proofs.Readings.{taken_few, nothing_left, last_taken, Refuted, last_refuted}

@@ -1,5 +1,5 @@
 use Rattle.std.proofs.Common.{sym, ◌∙◌, refl, arith}
-use Rattle.job_text.specs.Lines.{lines_of}
+use Rattle.job_text.specs.Meaning.{lines_of}
 use Rattle.job_text.specs.Steps.{plain}
 use Rattle.job_text.proofs.Readings.{within_of, few_lines, early_refuted, taken_job, taken_only}
 use Rattle.job_text.proofs.WholeJob.{read_keeps}

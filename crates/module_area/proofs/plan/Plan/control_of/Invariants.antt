@@ -1,7 +1,6 @@
 use Rattle.std.proofs.Common.{◌≡◌, map, take, nat_eq}
 use Rattle.std.specs.List.{filter}
-use Rattle.module_area.specs.PlanView.{ControlledView}
-use Rattle.module_area.specs.Control.{number_of}
+use Rattle.module_area.specs.Meaning.{ControlledView, number_of}
 use Rattle.module_area.proofs.plan.Plan.control_of.Given as goal
 
 abbrev pub invariant-loop-c : goal.invariant-loop-c

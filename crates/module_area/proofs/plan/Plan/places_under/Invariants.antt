@@ -1,5 +1,5 @@
 use Rattle.std.proofs.Common.{◌≡◌, drop}
-use Rattle.module_area.specs.Control.{places_in}
+use Rattle.module_area.specs.Meaning.{places_in}
 use Rattle.module_area.proofs.plan.Plan.places_under.Given as goal
 
 abbrev pub invariant-loop-c : goal.invariant-loop-c

@@ -1,5 +1,5 @@
 use Rattle.std.proofs.Common.{◌≡◌, true}
-use Rattle.cov_base.specs.Memory.{can_reach}
+use Rattle.cov_base.specs.Meaning.{can_reach}
 use Rattle.s370_state.specs.Plain.{memory_of}
 use Rattle.s370_state.proofs.plain_space.PlainSpaceSpace.can_reach.Given as goal
 

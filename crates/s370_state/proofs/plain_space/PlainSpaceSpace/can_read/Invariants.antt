@@ -1,5 +1,5 @@
 use Rattle.std.proofs.Common.{◌≡◌, None}
-use Rattle.cov_base.specs.Memory.{first_touch}
+use Rattle.cov_base.specs.Meaning.{first_touch}
 use Rattle.s370_state.specs.Plain.{memory_of}
 use Rattle.s370_state.proofs.plain_space.PlainSpaceSpace.can_read.Given as goal
 

@@ -1,6 +1,6 @@
 use Rattle.std.proofs.Common.{ℕ, sym, subst}
 use Rattle.atomic_table.specs.Table.{Splits}
-use Rattle.module_area.specs.PlanView.{PlanView}
+use Rattle.module_area.specs.Meaning.{PlanView}
 use Rattle.module_area.specs.Parties.{giving, newcomer}
 use Rattle.shared_area.specs.Rule.{IsArea}
 use Rattle.shared_area.proofs.CallLemmas.{some_word}

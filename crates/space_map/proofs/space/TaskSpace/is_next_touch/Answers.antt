@@ -1,7 +1,7 @@
 use Rattle.std.proofs.Common.{◌≤◌, ◌+◌, length, sym, refl, arith}
 use Rattle.std.proofs.lemmas.Bool.Decides.{nat_tests}
-use Rattle.cov_base.specs.Memory.{wrap}
-use Rattle.brk_table.specs.Places.{memory_of}
+use Rattle.cov_base.specs.Meaning.{wrap}
+use Rattle.brk_table.specs.Meaning.{memory_of}
 use Rattle.space_map.proofs.Touches.{touch_odd, touches-none}
 use Rattle.space_map.proofs.space.TaskSpace.is_next_touch.Goals as goal
 

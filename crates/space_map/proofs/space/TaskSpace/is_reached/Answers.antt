@@ -1,6 +1,6 @@
 use Rattle.std.proofs.Common.{◌≡◌, true, length, refl}
-use Rattle.cov_base.specs.Memory.{can_reach}
-use Rattle.brk_table.specs.Places.{memory_of}
+use Rattle.cov_base.specs.Meaning.{can_reach}
+use Rattle.brk_table.specs.Meaning.{memory_of}
 use Rattle.space_map.proofs.SpaceLemmas.{reach_listed}
 use Rattle.space_map.proofs.space.TaskSpace.is_reached.Goals as goal
 

@@ -1,7 +1,7 @@
 use Rattle.std.proofs.Common.{◌≡◌, ◌≤◌, ◌-◌, ◌%◌, length, sym, ◌∙◌, arith}
 use Rattle.std.proofs.lemmas.Bool.Decides.{nat_tests}
-use Rattle.module_area.specs.Executions.{is_place}
-use Rattle.brk_table.specs.Places.{memory_of}
+use Rattle.module_area.specs.Meaning.{is_place}
+use Rattle.brk_table.specs.Meaning.{memory_of}
 use Rattle.space_map.proofs.Touches.{told, touches-halfword, touches-none}
 use Rattle.space_map.proofs.space.TaskSpace.is_touch.Goals as goal
 

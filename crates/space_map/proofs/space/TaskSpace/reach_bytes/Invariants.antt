@@ -1,5 +1,5 @@
 use Rattle.std.proofs.Common.{◌≡◌, true}
-use Rattle.cov_base.specs.Memory.{can_reach}
+use Rattle.cov_base.specs.Meaning.{can_reach}
 use Rattle.space_map.specs.Space.{memory_of_space}
 use Rattle.space_map.proofs.space.TaskSpace.reach_bytes.Given as goal
 

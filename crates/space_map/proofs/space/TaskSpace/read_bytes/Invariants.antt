@@ -1,5 +1,5 @@
 use Rattle.std.proofs.Common.{◌≡◌, None}
-use Rattle.cov_base.specs.Memory.{first_touch}
+use Rattle.cov_base.specs.Meaning.{first_touch}
 use Rattle.space_map.specs.Space.{memory_of_space}
 use Rattle.space_map.proofs.space.TaskSpace.read_bytes.Given as goal
 

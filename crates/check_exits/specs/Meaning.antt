@@ -1,0 +1,65 @@
+-- What the claim of the program says by this crate's clauses.
+use Rattle.std.specs.Prelude.{ℕ, ◌+◌, if◌then◌else◌, ◌==◌, Option, Some, None, slice_set}
+use Rattle.cov_base.specs.Meaning.{Memory, half_at, wrap, CpuView, Machine, State}
+use Rattle.s370_state.specs.declared.endings.Ending.{Ending}
+use Rattle.s370_state.specs.declared.endings.Ending.TheVariants.{Abend, BadSvc}
+use Rattle.s370_state.specs.declared.endings.Next.{Next}
+use Rattle.s370_state.specs.declared.endings.Next.TheVariants.{On, Ended}
+use Rattle.s370_exec.specs.Meaning.{call_address, is_execute, run_ended}
+use Rattle.observed_step.specs.Meaning.{After, Behind, Tour, calls_of, course_on, visits_of}
+use Rattle.task_run.specs.Meaning.{Course}
+
+-- A task with an exit for its program interruptions, which SVC 6 names.
+
+-- the address behind the call that the state's instruction is, or executes: that of EX, which has 4 bytes, or of SVC
+abbrev pub behind_call : Memory → Machine → ℕ
+behind_call m s = wrap (s.cpu.ia + (if is_execute (half_at m s.bytes s.cpu.ia) then 4 else 2))
+
+-- the exit that an address names: zero names none
+abbrev pub exit_named : ℕ → Option ℕ
+exit_named a = if a == 0 then None else Some a
+
+-- At its exit the task finds the code in register 0 and in register 1 the address at which its instruction has ended.
+abbrev pub at_exit : CpuView → ℕ → ℕ → CpuView
+at_exit s code exit = record s { regs = slice_set (slice_set s.regs 0 code) 1 s.ia; ia = exit }
+
+-- as the step has left it; the exit is the one from then on
+abbrev pub as_left : Option ℕ → Machine → Next → Behind (Option ℕ)
+as_left exit s next = record { cpu = s.cpu; next = next; key = exit }
+
+-- the task goes on where the step would have ended it
+abbrev pub goes_on : CpuView → Option ℕ → Behind (Option ℕ)
+goes_on cpu exit = record { cpu = cpu; next = On; key = exit }
+
+-- a program interruption takes the exit, if there is one, and then there is none
+abbrev pub interrupted : Machine → ℕ → Option ℕ → Behind (Option ℕ)
+interrupted s code None = as_left None s (Ended (Abend code))
+interrupted s code (Some a) = goes_on (at_exit s.cpu code a) None
+
+-- SVC 6 sets the exit to the address in register 1, and the task goes on behind it
+abbrev pub called : Option ℕ → Memory → Machine → ℕ → Behind (Option ℕ)
+called exit m s number =
+    if number == 6 then goes_on (record s.cpu { ia = behind_call m s }) (exit_named (call_address s)) else as_left exit s (Ended (BadSvc number))
+
+-- every other ending stays
+abbrev pub by_ending : Option ℕ → Memory → Machine → Ending → Behind (Option ℕ)
+by_ending exit m s (Abend code) = interrupted s code exit
+by_ending exit m s (BadSvc number) = called exit m s number
+by_ending exit m s e = as_left exit s (Ended e)
+
+-- What an exit does behind a step that has left the task so. The step counts, and its visits, storage, input and output are those
+-- of a task without one.
+abbrev pub by_next : After (Option ℕ)
+by_next exit m s On = as_left exit s On
+by_next exit m s (Ended e) = by_ending exit m s e
+
+-- from the task's start, where it has no exit
+abbrev pub exit_tour : Memory → ℕ → State → Tour
+exit_tour m budget s = course_on by_next m budget None s
+
+-- its run and its calls, whatever the plan
+abbrev pub with_exits : Course
+with_exits = record {
+  run = λ plan m budget s. let t = exit_tour m budget s in run_ended t.ending t.state (visits_of t.turns);
+  calls = λ plan m budget s. calls_of (exit_tour m budget s).turns;
+}

@@ -1,0 +1,131 @@
+-- What the claim of the program says by this crate's clauses.
+use Rattle.std.specs.Prelude.{◌≡◌, ℕ, ◌+◌, ◌*◌, ◌<◌, ◌≤◌, true, not, nat_eq, List, [], length, sum_by, count_by, All, Some, ◌∷◌, ◌++◌, get_or}
+use Rattle.cov_base.specs.declared.facts.Fact.{Fact}
+use Rattle.cov_base.specs.Meaning.{has_fact, is_within, Visit, FactSet}
+use Rattle.module_area.specs.Meaning.{fact_count, full_places, full_pairs, facts_at, visits_at_places, FinalsView, set_at, PlanView, ControlledView, place_of, kind_at, window_at, is_over}
+use Rattle.module_area.specs.declared.tallies.Tally.{Tally}
+use Rattle.task_run.specs.Meaning.{Walk, Course, solo, walk, IsBetween, least_set, most_set, opened_places, closed_places}
+use Rattle.s370_exec.specs.Meaning.{Run}
+use Rattle.module_area.specs.declared.places.Place.{Place}
+use Rattle.brk_table.specs.Meaning.{memory_of}
+use Rattle.session_book.specs.Meaning.{JobView, ResultView, task_of, session_of, first_state, session_set, traces_from, plan_view}
+
+-- What one area is left with after its phase's tasks have run over its plan.
+
+-- the set of a controlled session at each of its places lies between its bounds
+pub record IsBounded (plan : PlanView) (walks : ℕ → Walk) (f : FinalsView) (c : ControlledView) : Type 0 where
+  pub between : All (λ p. IsBetween (least_set plan walks c.by c.session (place_of plan.places p.0)) (most_set plan walks c.by c.session (place_of plan.places p.0)) (set_at f c.session p.0)) c.places
+
+-- The sets of whole sessions are what the trace shows, and those of controlled sessions lie between their bounds; where a
+-- session isn't over a place its set is empty there. Each place with a window was planted once, and each place of a
+-- controlled session where its controller's run opens it; it was closed there where that run closes it. Each visit at a
+-- place fetched once. The lifts are no fewer than the places whose whole session's set is full, and no more than the
+-- sessions and places whose set is full.
+pub record EndsArea (plan : PlanView) (walks : ℕ → Walk) (trace : List Visit) (f : FinalsView) (t : Tally) : Type 0 where
+  pub places : f.places ≡ length plan.places
+  pub size : length f.sets ≡ plan.sessions * length plan.places
+  pub sets : (p : ℕ) → p < length plan.places → 0 < window_at plan p → set_at f (window_at plan p) p ≡ facts_at (place_of plan.places p) trace
+  pub bounded : All (IsBounded plan walks f) plan.controlled
+  pub within : (s p : ℕ) → 0 < s → s ≤ plan.sessions → p < length plan.places → is_within (kind_at plan p) (set_at f s p) ≡ true
+  pub over : (s p : ℕ) (g : Fact) → 0 < s → s ≤ plan.sessions → p < length plan.places → has_fact (set_at f s p) g ≡ true → is_over plan s p ≡ true
+  pub plants : t.plants ≡ count_by (λ w. not (nat_eq w 0)) plan.windows + opened_places plan walks
+  pub fetches : t.fetches ≡ visits_at_places plan.places trace
+  pub facts : sum_by fact_count f.sets ≤ t.marks
+  pub marks : t.marks ≤ t.fetches
+  pub lifts_least : full_places plan f ≤ t.lifts
+  pub lifts_most : t.lifts ≤ full_pairs plan f
+  pub lifts_whole : plan.controlled ≡ [] → t.lifts ≡ full_places plan f
+  pub closes : t.closes ≡ closed_places plan walks
+
+-- The run of each task, by the course that tasks take, and what the areas of a job's run are left with.
+
+-- a task's run, over its phase's plan and modules that were never planted
+abbrev pub run_by : Course → JobView → List Place → ℕ → Run
+run_by course j places t = course.run (plan_view j places (task_of j t).phase) (memory_of (task_of j t).private j.images places) (task_of j t).budget (first_state (task_of j t))
+
+-- its visits, and the supervisor calls of its instructions
+abbrev pub walk_by : Course → JobView → List Place → ℕ → Walk
+walk_by course j places t = walk course (plan_view j places (task_of j t).phase) (memory_of (task_of j t).private j.images places) (task_of j t).budget (first_state (task_of j t))
+
+abbrev pub trace_by : Course → JobView → List Place → ℕ → List Visit
+trace_by course j places t = (run_by course j places t).trace
+
+abbrev pub result_of_run : Run → ResultView
+result_of_run r = record {
+  ending = Some r.ending;
+  done = r.state.done;
+  cpu = r.state.machine.cpu;
+  output = r.state.io.output;
+  bytes = r.state.machine.bytes;
+}
+
+-- what a task comes to
+abbrev pub result_by : Course → JobView → List Place → ℕ → ResultView
+result_by course j places t = result_of_run (run_by course j places t)
+
+-- what a whole session's executions show at a place
+abbrev pub set_by : Course → JobView → List Place → ℕ → ℕ → FactSet
+set_by course j places s p = session_set j (trace_by course j places) s (place_of places p)
+
+-- what the set of session s of this controller has there at least, and at most
+abbrev pub least_by : Course → JobView → List Place → ℕ → ℕ → ℕ → FactSet
+least_by course j places by s p = least_set (plan_view j places (session_of j s).phase) (walk_by course j places) by s (place_of places p)
+
+abbrev pub most_by : Course → JobView → List Place → ℕ → ℕ → ℕ → FactSet
+most_by course j places by s p = most_set (plan_view j places (session_of j s).phase) (walk_by course j places) by s (place_of places p)
+
+abbrev pub joined : List (List Visit) → List Visit
+joined [] = []
+joined (trace ∷ traces) = trace ++ joined traces
+
+-- the visits of all tasks of a phase
+abbrev pub phase_trace : Course → JobView → List Place → ℕ → List Visit
+phase_trace course j places phase = joined (traces_from 0 j.tasks phase (trace_by course j places))
+
+-- what the areas tell: the tallies and sets of those that were finished, and how many were asked for
+pub record Account : Type 0 where
+  pub ledger : List Tally
+  pub finals : List FinalsView
+  pub made : ℕ
+
+-- one area for each phase from this one on, which the visits of the phase's tasks have left so
+abbrev pub AreEnded : Course → JobView → List Place → ℕ → List (List ℕ) → List FinalsView → List Tally → Type 0
+AreEnded course j places phase [] [] [] = Unit {0}
+AreEnded course j places phase (n ∷ ns) (f ∷ fs) (t ∷ ts) =
+    EndsArea (plan_view j places phase) (walk_by course j places) (phase_trace course j places phase) f t × AreEnded course j places (phase + 1) ns fs ts
+AreEnded course j places phase ns fs ts = ⊥
+
+-- one area was made and finished for each phase of the job
+pub record HasRunBy (course : Course) (j : JobView) (places : List Place) (before after : Account) : Type 0 where
+  pub tallies : List Tally
+  pub sets : List FinalsView
+  pub ended : AreEnded course j places 0 j.phases sets tallies
+  pub in_ledger : after.ledger ≡ before.ledger ++ tallies
+  pub in_finals : after.finals ≡ before.finals ++ sets
+  pub in_made : after.made ≡ before.made + length j.phases
+
+-- the same where each task runs as it does alone
+
+abbrev pub solo_result : JobView → List Place → ℕ → ResultView
+solo_result j places t = result_by solo j places t
+
+abbrev pub solo_set : JobView → List Place → ℕ → ℕ → FactSet
+solo_set j places s p = set_by solo j places s p
+
+abbrev pub solo_least : JobView → List Place → ℕ → ℕ → ℕ → FactSet
+solo_least j places by s p = least_by solo j places by s p
+
+abbrev pub solo_most : JobView → List Place → ℕ → ℕ → ℕ → FactSet
+solo_most j places by s p = most_by solo j places by s p
+
+abbrev pub HasRun : JobView → List Place → Account → Account → Type 0
+HasRun j places before after = HasRunBy solo j places before after
+
+-- The sets of a job's sessions, in the areas of their phases.
+
+abbrev pub no_finals : FinalsView
+no_finals = record { places = 0; sets = [] }
+
+-- the set of the session at the place, in the entry of its phase
+abbrev pub set_left : JobView → List FinalsView → ℕ → ℕ → FactSet
+set_left j finals s p = set_at (get_or finals (session_of j s).phase no_finals) s p

@@ -1,0 +1,79 @@
+-- What the claim of the program says by this crate's clauses.
+use Rattle.std.specs.Prelude.{ℕ, ◌-◌, Option, Some, None, option_map, List, [], ◌∷◌, get_or, count_by, ◌≡◌, ◌+◌}
+use Rattle.std.specs.Option.{option_or}
+use Rattle.cov_base.specs.Meaning.{ImageView}
+use Rattle.listing_reader.specs.Meaning.{listing_of, fault_of}
+use Rattle.listing_reader.specs.declared.lines.Line.{Line}
+use Rattle.listing_reader.specs.declared.lines.Line.TheVariants.{Text}
+use Rattle.listing_reader.specs.declared.lines.Line.TheVariants as says
+use Rattle.listing_reader.specs.declared.lines.ListFault.{ListFault}
+use Rattle.brk_table.specs.Meaning.{first_fault, is_code, IsTable, TableView, TablesView, all_places}
+use Rattle.brk_table.specs.declared.faults.BuildFault.{BuildFault}
+use Rattle.brk_table.specs.declared.faults.BuildFault.TheVariants as build
+use Rattle.session_book.specs.Meaning.{JobView}
+use Rattle.job_tables.specs.declared.faults.TablesFault.{TablesFault}
+use Rattle.job_tables.specs.declared.faults.TablesFault.TheVariants as first
+
+-- The first fault of a job's listings.
+
+-- where a line's instruction stands in its module
+abbrev pub location_of : Line → ℕ
+location_of Text = 0
+location_of (says.Code loc code) = loc
+
+-- where that of a mismatch stands
+abbrev pub location_in : List Line → BuildFault → ℕ
+location_in lines (build.Mismatch n listing module') = location_of (get_or lines (n - 1) Text)
+location_in lines e = 0
+
+-- of the lines of a module's listing
+abbrev pub build_fault : List ℕ → List Line → BuildFault → TablesFault
+build_fault name lines build.NoMemory = first.NoMemory
+build_fault name lines e = first.Build name (location_in lines e) e
+
+-- by what the listing says, or that it says nothing
+abbrev pub fault_by : ImageView → ℕ → Option ListFault → Option (List Line) → Option TablesFault
+fault_by image room (Some e) lines = Some (first.List image.name e)
+fault_by image room None None = None
+fault_by image room None (Some lines) = option_map (build_fault image.name lines) (first_fault image.bytes room [] lines)
+
+-- of a module's listing, with room for so many places
+abbrev pub listing_fault : ImageView → ℕ → List (List ℕ) → Option TablesFault
+listing_fault image room texts = fault_by image room (fault_of texts) (listing_of texts)
+
+abbrev pub places_in : Option (List Line) → ℕ
+places_in None = 0
+places_in (Some lines) = count_by is_code lines
+
+-- of the listings of these modules
+abbrev pub fault_from : ℕ → List ImageView → List (Option (List (List ℕ))) → Option TablesFault
+fault_from room [] listings = None
+fault_from room (image ∷ images) [] = None
+fault_from room (image ∷ images) (None ∷ listings) = fault_from room images listings
+fault_from room (image ∷ images) (Some texts ∷ listings) =
+    option_or (listing_fault image room texts) (fault_from (room - places_in (listing_of texts)) images listings)
+
+-- of a job's listings, module by module
+abbrev pub job_fault : JobView → Option TablesFault
+job_fault j = fault_from 65536 j.images j.listings
+
+-- The tables of a job whose listings have no fault.
+
+-- the table of module m: of what its listing says
+pub record IsTableOf (m : ℕ) (image : ImageView) (texts : List (List ℕ)) (t : TableView) : Type 0 where
+  pub lines : List Line
+  pub listing : listing_of texts ≡ Some lines
+  pub table : IsTable m image.base lines t
+
+-- one table for each module from m on that has a listing
+abbrev pub AreTablesFrom : ℕ → List ImageView → List (Option (List (List ℕ))) → List TableView → Type 0
+AreTablesFrom m [] [] [] = Unit {0}
+AreTablesFrom m (image ∷ images) (None ∷ listings) tables = AreTablesFrom (m + 1) images listings tables
+AreTablesFrom m (image ∷ images) (Some texts ∷ listings) (t ∷ tables) = IsTableOf m image texts t × AreTablesFrom (m + 1) images listings tables
+AreTablesFrom m images listings tables = ⊥
+
+-- the listings have no fault, and these are their tables, with all places of these in order
+pub record Match (j : JobView) (tables : TablesView) : Type 0 where
+  pub faultless : job_fault j ≡ None
+  pub tables_of : AreTablesFrom 0 j.images j.listings tables.tables
+  pub numbered : tables.places ≡ all_places tables.tables

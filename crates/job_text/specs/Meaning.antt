@@ -1,0 +1,624 @@
+-- What the claim of the program says by this crate's clauses.
+use Rattle.std.specs.Prelude.{ℕ, Bool, true, ◌&&◌, nat_eq, Option, Some, None, List, map, option_and_then, position, ◌+◌, ◌-◌, false, not, ◌||◌, nat_le, if◌then◌else◌, [], ◌∷◌, ◌++◌, length, option_map, take, slice_index, ◌*◌, Result, Ok, Err, ◌≡◌, ◌%◌, codes, ◌≤◌, slice_set, ◌⊎◌, ◌<◌}
+use Rattle.std.specs.List.{list_any, list_all, concat}
+use Rattle.std.specs.Str.{bytes_eq}
+use Rattle.cov_base.specs.Meaning.{ImageView, is_digit, name_at}
+use Rattle.session_book.specs.Meaning.{JobView, SessionView, TaskView, first_regs}
+use Rattle.module_area.specs.Meaning.{DataView}
+use Rattle.hex.specs.Hex.{decode_of, decode_sized}
+use Rattle.hex.specs.declared.error.FromHexError.{FromHexError}
+use Rattle.cov_base.specs.declared.limits.TheConstants.{MODULE_LIMIT, SIZE_LIMIT, LINE_LIMIT, PHASE_LIMIT, SESSION_LIMIT, TASK_LIMIT, PRIVATE_LIMIT, BUDGET_LIMIT, ROOM_LIMIT}
+use Rattle.job_text.specs.declared.limit.Limit.{Limit}
+use Rattle.job_text.specs.declared.limit.Limit.TheVariants as limit
+use Rattle.job_text.specs.declared.jobs.JobFault.{JobFault}
+use Rattle.job_text.specs.declared.jobs.JobFault.TheVariants as fault
+use Rattle.cov_base.specs.declared.numbers.TaskNo.{TaskNo}
+use Rattle.job_text.specs.declared.schedule.Item.{Item}
+use Rattle.job_text.specs.declared.schedule.Item.TheVariants as item
+
+-- A job as far as its cards were read: a session has its controller's name until the whole job is known.
+
+pub record SessionDraft : Type 0 where
+  pub name : List ℕ
+  pub phase : ℕ
+  pub modules : List ℕ
+  pub by : Option (List ℕ)
+
+pub record DraftView : Type 0 where
+  pub images : List ImageView
+  pub listings : List (Option (List (List ℕ)))
+  pub phases : List (List ℕ)
+  pub sessions : List SessionDraft
+  pub tasks : List TaskView
+
+-- what is asked of the sessions' controllers
+pub data Controllers : Type 0 where
+  -- each is a task of its session's phase
+  Present : Controllers
+  -- each has a name, and may be missing
+  Named : Controllers
+
+-- the task is the one of the phase that has this name
+abbrev pub is_controller : ℕ → List ℕ → TaskView → Bool
+is_controller phase name t = bytes_eq t.name name && nat_eq t.phase phase
+
+abbrev pub controller_of : List TaskView → ℕ → List ℕ → Option ℕ
+controller_of tasks phase name = position (is_controller phase name) tasks
+
+abbrev pub is_met_by : List TaskView → ℕ → Option (List ℕ) → Bool
+is_met_by tasks phase (Some name) = list_any (is_controller phase name) tasks
+is_met_by tasks phase None = true
+
+abbrev pub is_met : List TaskView → SessionDraft → Bool
+is_met tasks s = is_met_by tasks s.phase s.by
+
+-- no controller is missing that must be there
+abbrev pub are_met : Controllers → DraftView → Bool
+are_met Present j = list_all (is_met j.tasks) j.sessions
+are_met c j = true
+
+abbrev pub bound_session : List TaskView → SessionDraft → SessionView
+bound_session tasks s = record { name = s.name; phase = s.phase; modules = s.modules; by = option_and_then (controller_of tasks s.phase) s.by }
+
+-- the job, with each controller's index among its tasks
+abbrev pub bound : DraftView → JobView
+bound j = record { images = j.images; listings = j.listings; phases = j.phases; sessions = map (bound_session j.tasks) j.sessions; tasks = j.tasks }
+
+-- What a card adds to a job, where it may.
+
+abbrev pub no_job : DraftView
+no_job = record { images = []; listings = []; phases = []; sessions = []; tasks = [] }
+
+-- the module has neither this name nor a byte of this place
+abbrev pub is_clear : List ℕ → ℕ → ℕ → ImageView → Bool
+is_clear name base size i = not (bytes_eq i.name name) && (nat_le (i.base + length i.bytes) base || nat_le (base + size) i.base)
+
+abbrev pub fits : DraftView → List ℕ → ℕ → ℕ → Bool
+fits j name base size = list_all (is_clear name base size) j.images
+
+abbrev pub with_module : DraftView → ImageView → Option (List (List ℕ)) → DraftView
+with_module j i listing = record j { images = j.images ++ i ∷ []; listings = j.listings ++ listing ∷ [] }
+
+abbrev pub with_phase : DraftView → List ℕ → Option DraftView
+with_phase j name = if list_any (λ p. bytes_eq p name) j.phases then None else Some (record j { phases = j.phases ++ name ∷ [] })
+
+-- the number of the phase that is open
+abbrev pub this_phase : DraftView → ℕ
+this_phase j = length j.phases - 1
+
+abbrev pub index_of : DraftView → List ℕ → Option ℕ
+index_of j name = position (λ i. bytes_eq i.name name) j.images
+
+-- the sessions of one controller, which may share modules
+abbrev pub is_same_controller : Option (List ℕ) → Option (List ℕ) → Bool
+is_same_controller (Some a) (Some b) = bytes_eq a b
+is_same_controller a b = false
+
+-- the session is one of the phase, has the module, and doesn't share it with a further session of this controller
+abbrev pub bars : ℕ → Option (List ℕ) → ℕ → SessionDraft → Bool
+bars phase by m s = nat_eq s.phase phase && not (is_same_controller s.by by) && list_any (nat_eq m) s.modules
+
+-- the module is none of those that the card named before it, and no session of this phase bars it
+abbrev pub is_free : DraftView → Option (List ℕ) → List ℕ → ℕ → Bool
+is_free j by used m = not (list_any (nat_eq m) used) && not (list_any (bars (this_phase j) by m) j.sessions)
+
+abbrev pub put_index : DraftView → Option (List ℕ) → List ℕ → Option ℕ → Option (List ℕ)
+put_index j by used (Some m) = if is_free j by used m then Some (used ++ m ∷ []) else None
+put_index j by used None = None
+
+-- the modules of these names, behind those that the card named before them
+abbrev pub indices_on : DraftView → Option (List ℕ) → Option (List ℕ) → List (List ℕ) → Option (List ℕ)
+indices_on j by used [] = used
+indices_on j by None (n ∷ ns) = None
+indices_on j by (Some used) (n ∷ ns) = indices_on j by (put_index j by used (index_of j n)) ns
+
+abbrev pub session_draft : DraftView → List ℕ → Option (List ℕ) → List ℕ → SessionDraft
+session_draft j name by modules = record { name = name; phase = this_phase j; modules = modules; by = by }
+
+abbrev pub put_session : DraftView → List ℕ → Option (List ℕ) → List ℕ → DraftView
+put_session j name by modules = record j { sessions = j.sessions ++ session_draft j name by modules ∷ [] }
+
+abbrev pub has_task : DraftView → List ℕ → Bool
+has_task j name = list_any (λ t. bytes_eq t.name name) j.tasks
+
+-- A session before the tasks of its phase may have this controller: no task of an earlier phase has the name.
+abbrev pub may_have : DraftView → Option (List ℕ) → Bool
+may_have j None = true
+may_have j (Some task) = not (has_task j task)
+
+abbrev pub with_session : DraftView → List ℕ → Option (List ℕ) → List (List ℕ) → Option DraftView
+with_session j name by names = if list_any (λ s. bytes_eq s.name name) j.sessions then None
+    else (if may_have j by then option_map (put_session j name by) (indices_on j by (Some []) names) else None)
+
+-- the task in the phase that is open
+abbrev pub with_task : DraftView → TaskView → DraftView
+with_task j t = record j { tasks = j.tasks ++ record t { phase = this_phase j } ∷ [] }
+
+-- What a card says, wherever memory holds it. Names are filled with blanks.
+
+pub data CardView : Type 0 where
+  Cover : CardView
+  -- name, base and size
+  Module : List ℕ → ℕ → ℕ → CardView
+  Text : List ℕ → CardView
+  -- how many lines
+  Listing : ℕ → CardView
+  Phase : List ℕ → CardView
+  -- name, controller where it has one, and modules
+  Session : List ℕ → Option (List ℕ) → List (List ℕ) → CardView
+  -- name, entry, private storage, budget and room
+  Task : List ℕ → ℕ → ℕ → ℕ → ℕ → CardView
+  -- number and value
+  Reg : ℕ → ℕ → CardView
+  Data : DataView → CardView
+  Input : List ℕ → CardView
+  End : CardView
+
+-- The lines of an input, and the text of a listing line.
+
+pub record LineView : Type 0 where
+  pub bytes : List ℕ
+  -- by an LF
+  pub ended : Bool
+
+abbrev pub put_on : ℕ → List LineView → List LineView
+put_on b [] = record { bytes = b ∷ []; ended = false } ∷ []
+put_on b (l ∷ ls) = record { bytes = b ∷ l.bytes; ended = l.ended } ∷ ls
+
+-- Each LF ends a line. What follows the last LF is a line where it isn't empty.
+abbrev pub lines_of : List ℕ → List LineView
+lines_of [] = []
+lines_of (b ∷ bs) = if nat_eq b 10 then record { bytes = []; ended = true } ∷ lines_of bs else put_on b (lines_of bs)
+
+-- a CR stands right before the LF
+abbrev pub has_cr : LineView → Bool
+has_cr l = l.ended && nat_le 1 (length l.bytes) && nat_eq (slice_index l.bytes (length l.bytes - 1)) 13
+
+-- a line of a listing, without one CR before its LF
+abbrev pub listing_text : LineView → List ℕ
+listing_text l = if has_cr l then take (length l.bytes - 1) l.bytes else l.bytes
+
+-- How a card is parted into words, and how numbers, bytes and addresses are spelled.
+
+abbrev pub put_first : ℕ → List (List ℕ) → List (List ℕ)
+put_first b [] = (b ∷ []) ∷ []
+put_first b (w ∷ ws) = (b ∷ w) ∷ ws
+
+-- the parts of a card between its blanks
+abbrev pub words : List ℕ → List (List ℕ)
+words [] = [] ∷ []
+words (b ∷ bs) = if nat_eq b 32 then [] ∷ words bs else put_first b (words bs)
+
+-- the number that the digits make behind those that made n
+abbrev pub decimal : ℕ → List ℕ → ℕ
+decimal n [] = n
+decimal n (b ∷ bs) = decimal (10 * n + (b - 48)) bs
+
+-- 1 to 9 digits without a leading zero, but 0 itself
+abbrev pub is_number : List ℕ → Bool
+is_number w = nat_le 1 (length w) && nat_le (length w) 9 && (not (nat_eq (slice_index w 0) 48) || nat_eq (length w) 1) && list_all is_digit w
+
+abbrev pub number_at : List ℕ → Option ℕ
+number_at w = if is_number w then Some (decimal 0 w) else None
+
+abbrev pub ok_of : Result (List ℕ) FromHexError → Option (List ℕ)
+ok_of (Ok bytes) = Some bytes
+ok_of (Err e) = None
+
+-- 1 to 64 bytes, in hexadecimal digits of either case
+abbrev pub bytes_at : List ℕ → Option (List ℕ)
+bytes_at w = if nat_le 2 (length w) && nat_le (length w) 128 then ok_of (decode_of w) else None
+
+abbrev pub address_in : List ℕ → ℕ
+address_in bytes = slice_index bytes 0 * 65536 + slice_index bytes 1 * 256 + slice_index bytes 2
+
+-- six hexadecimal digits of either case
+abbrev pub address_at : List ℕ → Option ℕ
+address_at w = option_map address_in (ok_of (decode_sized w 3))
+
+abbrev pub word_in : List ℕ → ℕ
+word_in bytes = slice_index bytes 0 * 16777216 + slice_index bytes 1 * 65536 + slice_index bytes 2 * 256 + slice_index bytes 3
+
+-- eight hexadecimal digits of either case
+abbrev pub word_at : List ℕ → Option ℕ
+word_at w = option_map word_in (ok_of (decode_sized w 4))
+
+abbrev pub put_name : List (List ℕ) → Option (List ℕ) → Option (List (List ℕ))
+put_name ns (Some n) = Some (ns ++ n ∷ [])
+put_name ns None = None
+
+-- the names behind those that were read
+abbrev pub names_on : Option (List (List ℕ)) → List (List ℕ) → Option (List (List ℕ))
+names_on ns [] = ns
+names_on None (w ∷ ws) = None
+names_on (Some ns) (w ∷ ws) = names_on (put_name ns (name_at w)) ws
+
+abbrev pub names_at : List (List ℕ) → Option (List (List ℕ))
+names_at ws = names_on (Some []) ws
+
+-- Which lines are cards: words parted by exactly one blank.
+
+-- where a module may stand: on a doubleword from X'100000' on, of an even size, below X'FFF000'
+abbrev pub may_stand : ℕ → ℕ → Bool
+may_stand base size = nat_eq (base % 8) 0 && nat_le 1048576 base && nat_eq (size % 2) 0 && nat_le 2 size && nat_le (base + size) 16773120
+
+-- the MODULE card of these fields, and so on for the other keys; none where a field is bad
+abbrev pub as_module : Option (List ℕ) → Option ℕ → Option ℕ → Option CardView
+as_module (Some n) (Some b) (Some s) = if may_stand b s then Some (Module n b s) else None
+as_module n b s = None
+
+-- of a whole session
+abbrev pub as_session : Option (List ℕ) → Option (List (List ℕ)) → Option CardView
+as_session (Some n) (Some ns) = Some (Session n None ns)
+as_session n ns = None
+
+-- of a session that a task opens and closes
+abbrev pub as_controlled : Option (List ℕ) → Option (List ℕ) → Option (List (List ℕ)) → Option CardView
+as_controlled (Some n) (Some t) (Some ns) = Some (Session n (Some t) ns)
+as_controlled n t ns = None
+
+-- of the words behind the session's name and BY: a task and its modules
+abbrev pub controlled_card : List ℕ → List (List ℕ) → Option CardView
+controlled_card name (task ∷ m ∷ more) = as_controlled (name_at name) (name_at task) (names_at (m ∷ more))
+controlled_card name words = None
+
+-- of the words behind SESSION and a name; the word BY is never its first module
+abbrev pub session_card : List ℕ → List (List ℕ) → Option CardView
+session_card name (a ∷ more) = if bytes_eq a (codes "BY") then controlled_card name more else as_session (name_at name) (names_at (a ∷ more))
+session_card name words = None
+
+abbrev pub as_task : Option (List ℕ) → Option ℕ → Option ℕ → Option ℕ → Option ℕ → Option CardView
+as_task (Some n) (Some e) (Some p) (Some b) (Some r) = if nat_le 1 b then Some (Task n e p b r) else None
+as_task n e p b r = None
+
+-- a register of the sixteen
+abbrev pub as_reg : Option ℕ → Option ℕ → Option CardView
+as_reg (Some n) (Some v) = if nat_le n 15 then Some (Reg n v) else None
+as_reg n v = None
+
+-- bytes at an offset of private storage
+abbrev pub as_data : Option ℕ → Option (List ℕ) → Option CardView
+as_data (Some n) (Some bytes) = Some (Data (record { offset = n; bytes = bytes }))
+as_data n bytes = None
+
+-- the card of a key and one word
+abbrev pub short_card : List ℕ → List ℕ → Option CardView
+short_card key a =
+    if bytes_eq key (codes "TEXT") then option_map Text (bytes_at a)
+    else (if bytes_eq key (codes "LISTING") then option_map Listing (number_at a)
+    else (if bytes_eq key (codes "PHASE") then option_map Phase (name_at a)
+    else (if bytes_eq key (codes "INPUT") then option_map Input (bytes_at a)
+    else (if bytes_eq key (codes "COVERJOB") && bytes_eq a (codes "1") then Some Cover
+    else None))))
+
+-- the card of a key and two words that is no SESSION
+abbrev pub pair_card : List ℕ → List ℕ → List ℕ → Option CardView
+pair_card key a b =
+    if bytes_eq key (codes "REG") then as_reg (number_at a) (word_at b)
+    else (if bytes_eq key (codes "DATA") then as_data (number_at a) (bytes_at b)
+    else None)
+
+abbrev pub module_card : List ℕ → List ℕ → List ℕ → List ℕ → Option CardView
+module_card key a b c = if bytes_eq key (codes "MODULE") then as_module (name_at a) (address_at b) (number_at c) else None
+
+abbrev pub task_card : List ℕ → List ℕ → List ℕ → List ℕ → List ℕ → List ℕ → Option CardView
+task_card key a b c d e = if bytes_eq key (codes "TASK") then as_task (name_at a) (address_at b) (number_at c) (number_at d) (number_at e) else None
+
+-- the card of a key and two or more words that is no SESSION
+abbrev pub long_card : List ℕ → List ℕ → List (List ℕ) → Option CardView
+long_card key a (b ∷ []) = pair_card key a b
+long_card key a (b ∷ c ∷ []) = module_card key a b c
+long_card key a (b ∷ c ∷ d ∷ e ∷ []) = task_card key a b c d e
+long_card key a more = None
+
+-- the card that these words make
+abbrev pub card_of : List (List ℕ) → Option CardView
+card_of [] = None
+card_of (key ∷ []) = if bytes_eq key (codes "ENDJOB") then Some End else None
+card_of (key ∷ a ∷ []) = short_card key a
+card_of (key ∷ a ∷ b ∷ more) = if bytes_eq key (codes "SESSION") then session_card a (b ∷ more) else long_card key a (b ∷ more)
+
+abbrev pub card_at : List ℕ → Option CardView
+card_at line = card_of (words line)
+
+abbrev pub IsCard : LineView → CardView → Type 0
+IsCard line card = card_at line.bytes ≡ Some card
+
+-- The cards of a task.
+
+-- what a REG card says
+pub record RegView : Type 0 where
+  pub number : ℕ
+  pub value : ℕ
+
+-- a REG card for each of these, whose numbers rise from at least this one
+abbrev pub AreRegs : ℕ → List RegView → List LineView → Type 0
+AreRegs least [] [] = Unit {0}
+AreRegs least [] (l ∷ ls) = ⊥
+AreRegs least (r ∷ rs) [] = ⊥
+AreRegs least (r ∷ rs) (l ∷ ls) = (IsCard l (Reg r.number r.value) × (least ≤ r.number)) × AreRegs (r.number + 1) rs ls
+
+abbrev pub set_regs : List ℕ → List RegView → List ℕ
+set_regs regs [] = regs
+set_regs regs (r ∷ rs) = set_regs (slice_set regs r.number r.value) rs
+
+-- a DATA card for each of these, with all bytes inside private storage of this size
+abbrev pub AreData : ℕ → List DataView → List LineView → Type 0
+AreData private [] [] = Unit {0}
+AreData private [] (l ∷ ls) = ⊥
+AreData private (c ∷ cs) [] = ⊥
+AreData private (c ∷ cs) (l ∷ ls) = (IsCard l (Data c) × (c.offset + length c.bytes ≤ private)) × AreData private cs ls
+
+-- an INPUT card for each of these
+abbrev pub AreInputs : List (List ℕ) → List LineView → Type 0
+AreInputs [] [] = Unit {0}
+AreInputs [] (l ∷ ls) = ⊥
+AreInputs (b ∷ bs) [] = ⊥
+AreInputs (b ∷ bs) (l ∷ ls) = IsCard l (Input b) × AreInputs bs ls
+
+abbrev pub task_view : List ℕ → ℕ → ℕ → ℕ → ℕ → List ℕ → List DataView → List ℕ → TaskView
+task_view name entry private budget room regs cards input = record {
+  name = name;
+  phase = 0;
+  entry = entry;
+  private = private;
+  budget = budget;
+  room = room;
+  regs = regs;
+  cards = cards;
+  input = input;
+}
+
+-- Which lines spell a job. Each word says how some lines take one job to another.
+
+-- one block after the other
+abbrev pub joined : List (List LineView) → List LineView
+joined [] = []
+joined (block ∷ blocks) = block ++ joined blocks
+
+pub record TextFirst (line : LineView) (bytes : List ℕ) (More : List ℕ → Type 0) : Type 0 where
+  pub first : List ℕ
+  pub others : List ℕ
+  pub card : IsCard line (Text first)
+  pub whole : bytes ≡ first ++ others
+  pub follows : More others
+
+-- TEXT cards that have these bytes, one after the other
+abbrev pub AreTexts : List LineView → List ℕ → Type 0
+AreTexts [] bytes = bytes ≡ []
+AreTexts (l ∷ ls) bytes = TextFirst l bytes (AreTexts ls)
+
+-- nothing, or a LISTING card and the lines of the listing
+abbrev pub IsListed : List LineView → Option (List (List ℕ)) → Type 0
+IsListed lines None = lines ≡ []
+IsListed [] (Some texts) = ⊥
+IsListed (l ∷ ls) (Some texts) = IsCard l (Listing (length ls)) × (texts ≡ map listing_text ls)
+
+pub record IsModule (j : DraftView) (block : List LineView) (after : DraftView) : Type 0 where
+  -- the lines, in order
+  pub head : LineView
+  pub texts : List LineView
+  pub listing : List LineView
+  pub whole : block ≡ head ∷ (texts ++ listing)
+  -- what they say
+  pub image : ImageView
+  pub listed : Option (List (List ℕ))
+  pub card : IsCard head (Module image.name image.base (length image.bytes))
+  pub fit : fits j image.name image.base (length image.bytes) ≡ true
+  pub are_texts : AreTexts texts image.bytes
+  pub is_listed : IsListed listing listed
+  pub is_after : after ≡ with_module j image listed
+
+pub record ModuleFirst (j : DraftView) (block : List LineView) (More : DraftView → Type 0) : Type 0 where
+  pub mid : DraftView
+  pub is_module : IsModule j block mid
+  pub follows : More mid
+
+abbrev pub AreModules : DraftView → List (List LineView) → DraftView → Type 0
+AreModules j [] after = j ≡ after
+AreModules j (block ∷ blocks) after = ModuleFirst j block (λ mid. AreModules mid blocks after)
+
+pub record SessionFirst (j : DraftView) (line : LineView) (More : DraftView → Type 0) : Type 0 where
+  pub name : List ℕ
+  pub by : Option (List ℕ)
+  pub names : List (List ℕ)
+  pub mid : DraftView
+  pub card : IsCard line (Session name by names)
+  pub adds : with_session j name by names ≡ Some mid
+  pub follows : More mid
+
+abbrev pub AreSessions : DraftView → List LineView → DraftView → Type 0
+AreSessions j [] after = j ≡ after
+AreSessions j (l ∷ ls) after = SessionFirst j l (λ mid. AreSessions mid ls after)
+
+-- TASK, and then REG, DATA and INPUT cards, of each kind as many as wanted
+pub record IsTaskBlock (j : DraftView) (block : List LineView) (after : DraftView) : Type 0 where
+  -- the lines, in order
+  pub head : LineView
+  pub reg_lines : List LineView
+  pub data_lines : List LineView
+  pub input_lines : List LineView
+  pub whole : block ≡ head ∷ (reg_lines ++ (data_lines ++ input_lines))
+  -- what they say
+  pub name : List ℕ
+  pub entry : ℕ
+  pub private : ℕ
+  pub budget : ℕ
+  pub room : ℕ
+  pub regs : List RegView
+  pub cards : List DataView
+  pub inputs : List (List ℕ)
+  pub card : IsCard head (Task name entry private budget room)
+  pub new : has_task j name ≡ false
+  pub are_regs : AreRegs 0 regs reg_lines
+  pub are_data : AreData private cards data_lines
+  pub are_inputs : AreInputs inputs input_lines
+  pub is_after : after ≡ with_task j (task_view name entry private budget room (set_regs (first_regs entry) regs) cards (concat inputs))
+
+pub record TaskFirst (j : DraftView) (block : List LineView) (More : DraftView → Type 0) : Type 0 where
+  pub mid : DraftView
+  pub is_task : IsTaskBlock j block mid
+  pub follows : More mid
+
+abbrev pub AreTasks : DraftView → List (List LineView) → DraftView → Type 0
+AreTasks j [] after = j ≡ after
+AreTasks j (block ∷ blocks) after = TaskFirst j block (λ mid. AreTasks mid blocks after)
+
+pub record IsPhase (c : Controllers) (j : DraftView) (block : List LineView) (after : DraftView) : Type 0 where
+  pub head : LineView
+  pub sessions : List LineView
+  pub tasks : List (List LineView)
+  pub whole : block ≡ head ∷ (sessions ++ joined tasks)
+  pub name : List ℕ
+  pub named : DraftView
+  pub mid : DraftView
+  pub card : IsCard head (Phase name)
+  pub adds : with_phase j name ≡ Some named
+  pub are_sessions : AreSessions named sessions mid
+  pub are_tasks : AreTasks mid tasks after
+  pub met : are_met c after ≡ true
+
+pub record PhaseFirst (c : Controllers) (j : DraftView) (block : List LineView) (More : DraftView → Type 0) : Type 0 where
+  pub mid : DraftView
+  pub is_phase : IsPhase c j block mid
+  pub follows : More mid
+
+abbrev pub ArePhases : Controllers → DraftView → List (List LineView) → DraftView → Type 0
+ArePhases c j [] after = j ≡ after
+ArePhases c j (block ∷ blocks) after = PhaseFirst c j block (λ mid. ArePhases c mid blocks after)
+
+-- COVERJOB, the modules, the phases, ENDJOB
+pub record Spells (c : Controllers) (lines : List LineView) (job : JobView) : Type 0 where
+  pub first : LineView
+  pub modules : List (List LineView)
+  pub phases : List (List LineView)
+  pub last : LineView
+  pub whole : lines ≡ first ∷ (joined modules ++ (joined phases ++ last ∷ []))
+  pub mid : DraftView
+  pub draft : DraftView
+  pub cover : IsCard first Cover
+  pub are_modules : AreModules no_job modules mid
+  pub are_phases : ArePhases c mid phases draft
+  pub ends : IsCard last End
+  pub is : job ≡ bound draft
+
+-- some list of lines with this prefix spells a job
+pub record JobBegins (lines : List LineView) : Type 0 where
+  pub rest : List LineView
+  pub job : JobView
+  pub spells : Spells Present (lines ++ rest) job
+
+-- The limits, and when lines pass one.
+
+abbrev pub are_short : Option (List (List ℕ)) → Bool
+are_short (Some texts) = list_all (λ t. nat_le (length t) LINE_LIMIT) texts
+are_short None = true
+
+abbrev pub is_small : ImageView → Bool
+is_small i = nat_le (length i.bytes) SIZE_LIMIT
+
+abbrev pub has_private : TaskView → Bool
+has_private t = nat_le t.private PRIVATE_LIMIT
+
+abbrev pub has_budget : TaskView → Bool
+has_budget t = nat_le t.budget BUDGET_LIMIT
+
+abbrev pub has_room : TaskView → Bool
+has_room t = nat_le t.room ROOM_LIMIT
+
+-- the job keeps this limit; those of input and of places are not tested on a job
+abbrev pub keeps : Limit → JobView → Bool
+keeps limit.Input j = true
+keeps limit.Modules j = nat_le (length j.images) MODULE_LIMIT
+keeps limit.Size j = list_all is_small j.images
+keeps limit.Line j = list_all are_short j.listings
+keeps limit.Places j = true
+keeps limit.Phases j = nat_le (length j.phases) PHASE_LIMIT
+keeps limit.Sessions j = nat_le (length j.sessions) SESSION_LIMIT
+keeps limit.Tasks j = nat_le (length j.tasks) TASK_LIMIT
+keeps limit.Private j = list_all has_private j.tasks
+keeps limit.Budget j = list_all has_budget j.tasks
+keeps limit.Room j = list_all has_room j.tasks
+
+abbrev pub IsWithin : JobView → Type 0
+IsWithin j = (what : Limit) → keeps what j ≡ true
+
+-- Lines pass a limit where nothing that they begin keeps it, be the controllers there or not: a task that is still to
+-- come for a session is none of theirs.
+abbrev pub Passes : Limit → List LineView → Type 0
+Passes what lines = (rest : List LineView) (job : JobView) → Spells Named (lines ++ rest) job → keeps what job ≡ false
+
+abbrev pub rank : Limit → ℕ
+rank limit.Input = 0
+rank limit.Modules = 1
+rank limit.Size = 2
+rank limit.Line = 3
+rank limit.Places = 4
+rank limit.Phases = 5
+rank limit.Sessions = 6
+rank limit.Tasks = 7
+rank limit.Private = 8
+rank limit.Budget = 9
+rank limit.Room = 10
+
+-- What reading a job gives, and when it ends with a refusal.
+
+-- these lines begin a job and pass no limit
+pub record GoesOn (lines : List LineView) : Type 0 where
+  pub begins : JobBegins lines
+  pub within : (what : Limit) → Passes what lines → ⊥
+
+-- Line n, counted from 1, is the first such that lines 1 to n begin no job; or n is one more than the number of lines, where these begin one and spell none. No line before it passed a limit.
+pub record IsBadAt (lines : List LineView) (n : ℕ) : Type 0 where
+  pub counts : 1 ≤ n
+  pub before : GoesOn (take (n - 1) lines)
+  pub here : ((n ≤ length lines) × (JobBegins (take n lines) → ⊥)) ⊎ ((n ≡ length lines + 1) × ((job : JobView) → Spells Present lines job → ⊥))
+
+-- Line n is the first with which a limit is passed, lines 1 to n begin a job, and of the limits that they pass this is the first in the order of limits.
+pub record IsOverAt (lines : List LineView) (what : Limit) (n : ℕ) : Type 0 where
+  pub counts : 1 ≤ n
+  pub inside : n ≤ length lines
+  pub before : GoesOn (take (n - 1) lines)
+  pub begins : JobBegins (take n lines)
+  pub passes : Passes what (take n lines)
+  pub first : (other : Limit) → rank other < rank what → Passes other (take n lines) → ⊥
+
+-- want of memory may be met at any line
+abbrev pub IsRefusal : List LineView → JobFault → Type 0
+IsRefusal lines (fault.BadJob n) = IsBadAt lines n
+IsRefusal lines (fault.TooLarge what n) = IsOverAt lines what n
+IsRefusal lines fault.NoMemory = Unit {0}
+
+-- Which lines behind a job are items of its schedule.
+
+abbrev pub numbered : ℕ → TaskNo
+numbered n = record { 0 = n }
+
+-- the task of this name; the names of a job's tasks differ
+abbrev pub task_named : JobView → List ℕ → Option TaskNo
+task_named j name = option_map numbered (position (λ t. bytes_eq t.name name) j.tasks)
+
+-- the item of this key and task
+abbrev pub item_for : List ℕ → TaskNo → Option Item
+item_for key t =
+    if bytes_eq key (codes "FETCH") then Some (item.Fetch t)
+    else (if bytes_eq key (codes "MARK") then Some (item.Mark t)
+    else (if bytes_eq key (codes "LIFT") then Some (item.Lift t)
+    else (if bytes_eq key (codes "DO") then Some (item.Do t)
+    else (if bytes_eq key (codes "GO") then Some (item.Go t)
+    else (if bytes_eq key (codes "PLANT") then Some (item.Plant t)
+    else (if bytes_eq key (codes "CLOSE") then Some (item.Close t)
+    else None))))))
+
+abbrev pub task_item : JobView → List ℕ → List ℕ → Option Item
+task_item j key name = option_and_then (item_for key) (option_and_then (task_named j) (name_at name))
+
+-- the item that these words make
+abbrev pub item_of : JobView → List (List ℕ) → Option Item
+item_of j [] = None
+item_of j (key ∷ []) = if bytes_eq key (codes "ENDSCHED") then Some item.End else None
+item_of j (key ∷ name ∷ []) = task_item j key name
+item_of j (key ∷ name ∷ more) = None
+
+abbrev pub item_at : JobView → List ℕ → Option Item
+item_at j line = item_of j (words line)

@@ -1,0 +1,126 @@
+-- What the claim of the program says by this crate's clauses.
+use Rattle.std.specs.Prelude.{ℕ, zero, suc, ◌+◌, ◌-◌, ◌*◌, ◌/◌, ◌%◌, ◌==◌, Bool, true, ◌&&◌, not, nat_lt, if◌then◌else◌, Option, Some, None, is_some, option_map, List, take, drop, map, unwrap_or, is_none, [], ◌∷◌, ◌++◌, replicate, position}
+use Rattle.std.specs.List.{position_or_len, range_with_len}
+use Rattle.std.specs.Option.{option_and_then, option_or, option_map_or}
+use Rattle.std.specs.Char.{to_ascii_uppercase}
+use Rattle.hex.specs.Hex.{hex_digit_value, is_hex_digit}
+use Rattle.cov_base.specs.Meaning.{length_of}
+use Rattle.listing_lines.specs.declared.columns.Columns.{Columns}
+use Rattle.listing_lines.specs.Meaning.{column, columns_of, heading_of}
+use Rattle.s370_decode.specs.Meaning.{first_half, is_mnemonic}
+use Rattle.s370_decode.specs.declared.code.Code.{Code}
+use Rattle.listing_lines.specs.declared.columns.Width.{Width}
+use Rattle.listing_reader.specs.declared.lines.Line.{Line}
+use Rattle.listing_reader.specs.declared.lines.Line.TheVariants.{Text}
+use Rattle.listing_reader.specs.declared.lines.Line.TheVariants as says
+use Rattle.listing_reader.specs.declared.lines.ListFault.{ListFault}
+use Rattle.listing_reader.specs.declared.lines.ListFault.TheVariants.{NoHeading, BadObject}
+
+-- The fields of a listing line by its columns (High Level Assembler, the source and object section).
+
+-- the test holds below n
+unfoldable pub all_below : (ℕ → Bool) → ℕ → Bool
+all_below test zero = true
+all_below test (suc n) = all_below test n && test n
+
+abbrev pub is_blank : ℕ → Bool
+is_blank b = b == 32
+
+abbrev pub is_blank_at : List ℕ → ℕ → ℕ → Bool
+is_blank_at line shift n = is_blank (column line shift n)
+
+-- so many columns from one on
+unfoldable pub are_blank : List ℕ → ℕ → ℕ → ℕ → Bool
+are_blank line shift from count = all_below (λ k. is_blank_at line shift (from + k)) count
+
+-- the number that so many hexadecimal digits spell from a column on
+unfoldable pub number_in : List ℕ → ℕ → ℕ → ℕ → Option ℕ
+number_in line shift from zero = Some 0
+number_in line shift from (suc n) = option_and_then (λ v. option_map (λ d. 16 * v + d) (hex_digit_value (column line shift (from + n)))) (number_in line shift from n)
+
+-- the k-th column of so many groups of four hexadecimal digits, which are parted by one blank and followed by blanks
+abbrev pub fits_groups : List ℕ → ℕ → ℕ → ℕ → ℕ → Bool
+fits_groups line shift from groups k =
+    if nat_lt (k % 5) 4 && nat_lt (k / 5) groups then is_hex_digit (column line shift (from + k)) else is_blank_at line shift (from + k)
+
+unfoldable pub are_groups : Columns → List ℕ → ℕ → ℕ → Bool
+are_groups c line shift groups = all_below (fits_groups line shift c.object groups) c.room
+
+-- the byte of the object code that its groups have at i
+unfoldable pub byte_in : Columns → List ℕ → ℕ → ℕ → ℕ
+byte_in c line shift i = unwrap_or (number_in line shift (c.object + 5 * (i / 2) + 2 * (i % 2)) 2) 0
+
+abbrev pub byte_of : Columns → List ℕ → ℕ → ℕ → ℕ → ℕ
+byte_of c line shift groups i = if nat_lt i (2 * groups) then byte_in c line shift i else 0
+
+unfoldable pub code_in : Columns → List ℕ → ℕ → ℕ → Code
+code_in c line shift groups = record { at = 0; bytes = map (byte_of c line shift groups) (range_with_len 0 6); len = 2 * groups }
+
+-- the object code, where it has so many groups and its first byte gives this length
+abbrev pub code_with : Columns → List ℕ → ℕ → ℕ → Option Code
+code_with c line shift groups =
+    if are_groups c line shift groups && length_of (first_half (code_in c line shift groups)) == 2 * groups
+    then Some (code_in c line shift groups) else None
+
+-- the object code of one to three groups
+unfoldable pub object_of : Columns → List ℕ → ℕ → Option Code
+object_of c line shift = option_or (code_with c line shift 1) (option_or (code_with c line shift 2) (code_with c line shift 3))
+
+-- what follows the blanks in front, and the run of other bytes in front
+abbrev pub skip_blanks : List ℕ → List ℕ
+skip_blanks bytes = drop (position_or_len (λ b. not (is_blank b)) bytes) bytes
+
+abbrev pub run_of : List ℕ → List ℕ
+run_of bytes = take (position_or_len is_blank bytes) bytes
+
+abbrev pub after_run : List ℕ → List ℕ
+after_run bytes = drop (position_or_len is_blank bytes) bytes
+
+-- the source statement
+abbrev pub source_of : Columns → List ℕ → ℕ → List ℕ
+source_of c line shift = drop (shift + c.source - 1) line
+
+-- the second run of a statement that begins with a name, else the first
+abbrev pub operation_of : Columns → List ℕ → ℕ → List ℕ
+operation_of c line shift =
+    if is_blank_at line shift c.source then run_of (skip_blanks (source_of c line shift))
+    else run_of (skip_blanks (after_run (source_of c line shift)))
+
+-- the operation, its letters in either case, is a mnemonic; a statement that begins with an asterisk has none
+unfoldable pub has_mnemonic : Columns → List ℕ → ℕ → Bool
+has_mnemonic c line shift =
+    not (column line shift c.source == 42) && is_mnemonic (map to_ascii_uppercase (operation_of c line shift))
+
+abbrev pub location_of : Columns → List ℕ → ℕ → Option ℕ
+location_of c line shift = number_in line shift c.location c.digits
+
+-- a line behind the heading is one of an instruction: a location, a blank, an operation, and some object code
+unfoldable pub is_instruction : Columns → List ℕ → ℕ → Bool
+is_instruction c line shift =
+    is_some (location_of c line shift) && is_blank_at line shift (c.location + c.digits) && has_mnemonic c line shift
+    && not (are_blank line shift c.object c.room)
+
+-- What a listing says, line by line, and its first fault.
+
+-- a line behind the heading; none where it is an instruction's and its object code is no code
+unfoldable pub line_of : Columns → ℕ → List ℕ → Option Line
+line_of c shift line =
+    if is_instruction c line shift then option_map (λ code. says.Code (unwrap_or (location_of c line shift) 0) code) (object_of c line shift)
+    else Some Text
+
+-- what the lines behind the heading say, behind what the earlier ones do; none where one is bad
+abbrev pub lines_behind : List Line → Columns → ℕ → List (List ℕ) → Option (List Line)
+lines_behind earlier c shift [] = Some earlier
+lines_behind earlier c shift (line ∷ lines) = option_and_then (λ (says : Line). lines_behind (earlier ++ says ∷ []) c shift lines) (line_of c shift line)
+
+-- The whole listing: the first heading line and all before it are text. None where there is no heading or a line is bad.
+abbrev pub listing_of : List (List ℕ) → Option (List Line)
+listing_of lines = option_and_then (λ (h : ℕ × ℕ × Width). lines_behind (replicate (h.0 + 1) Text) (columns_of h.2) h.1 (drop (h.0 + 1) lines)) (heading_of lines)
+
+-- the first bad one of the lines, of which the first has the number n
+abbrev pub bad_from : Columns → ℕ → ℕ → List (List ℕ) → Option ListFault
+bad_from c shift n lines = option_map (λ k. BadObject (n + k)) (position (λ line. is_none (line_of c shift line)) lines)
+
+-- its first fault: no heading, or the first bad line, counted from 1
+abbrev pub fault_of : List (List ℕ) → Option ListFault
+fault_of lines = option_map_or (λ (h : ℕ × ℕ × Width). bad_from (columns_of h.2) h.1 (h.0 + 2) (drop (h.0 + 1) lines)) (heading_of lines) (Some NoHeading)

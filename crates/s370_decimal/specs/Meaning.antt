@@ -1,0 +1,137 @@
+-- What the claim of the program says by this crate's clauses.
+use Rattle.std.specs.Prelude.{ℕ, ◌+◌, Option, Some, None, List, [], ◌∷◌, ◌*◌, ◌^◌, Bool, nat_lt, ◌-◌, ◌/◌, ◌%◌, not, ◌&&◌, nat_le, if◌then◌else◌, false, ◌==◌, true, ℤ, ◌+ℤ◌, ◌-ℤ◌}
+use Rattle.cov_base.specs.Meaning.{CpuView, Machine, Memory, wrap}
+use Rattle.s370_state.specs.Meaning.{Use, reads, stores, Outcome, Completes, Program, with_bytes, Overflows, with_cc, Row, storing, needing, on_data, field_at, store_field, number, order_code}
+use Rattle.s370_decode.specs.Meaning.{r1, r2, e1, e2}
+use Rattle.s370_decode.specs.declared.code.Code.{Code}
+use Rattle.s370_state.specs.declared.packed.Field.{Field}
+use Rattle.s370_decimal.specs.declared.operands.Operands.{Operands}
+use Rattle.s370_decimal.specs.declared.results.Kept.{Kept}
+use Rattle.std.specs.Int.{is_negative}
+use Rattle.std.specs.Int.RustNames.{unsigned_abs}
+use Rattle.std.specs.Ordering.{int_cmp}
+use Rattle.s370_decode.specs.declared.op.Op.{Op}
+use Rattle.s370_decode.specs.declared.op.Op.TheVariants.{AP, SP, ZAP, CP, MP, DP, SRP}
+
+-- The two fields that an operation works on.
+
+-- the length codes
+abbrev pub l1 : Code → ℕ
+l1 c = r1 c
+
+abbrev pub l2 : Code → ℕ
+l2 c = r2 c
+
+-- the first field is replaced, the second is read
+abbrev pub replaces : CpuView → Code → List Use
+replaces s c = stores (e1 s c) (l1 c + 1) ∷ (reads (e2 s c) (l2 c + 1) ∷ [])
+
+-- both are read
+abbrev pub compares : CpuView → Code → List Use
+compares s c = reads (e1 s c) (l1 c + 1) ∷ (reads (e2 s c) (l2 c + 1) ∷ [])
+
+abbrev pub both : Option Field → Option Field → Option Operands
+both None g = None
+both (Some f) None = None
+both (Some f) (Some g) = Some (record { first = f; second = g })
+
+-- what the two fields hold; none where a digit or the sign of either is bad
+abbrev pub operands : Memory → CpuView → List ℕ → Code → Option Operands
+operands m s bytes c = both (field_at m bytes (e1 s c) (l1 c)) (field_at m bytes (e2 s c) (l2 c))
+
+-- The room of packed decimal fields.
+
+-- the magnitude is one of 2l + 1 digits
+abbrev pub fits : ℕ → ℕ → Bool
+fits l v = nat_lt v (10 ^ (2 * l + 1))
+
+-- Multiplication and division (Principles of Operation, "Decimal Instructions", "Multiply Decimal", "Divide
+-- Decimal").
+
+-- the second field has at most 8 bytes, and fewer than the first
+abbrev pub is_shorter : Code → Bool
+is_shorter c = nat_le (l2 c) 7 && nat_lt (l2 c) (l1 c)
+
+-- the sign of a product or quotient, also of zero, is minus where the signs differ
+abbrev pub signs_differ : Operands → Bool
+signs_differ o = if o.first.minus then not o.second.minus else o.second.minus
+
+-- the length code of as many bytes as the first field has more than the second
+abbrev pub longer_by : ℕ → ℕ → ℕ
+longer_by l1 l2 = l1 - l2 - 1
+
+-- the product goes to the first field, unless that has fewer leading zero bytes than the second has bytes
+unfoldable pub multiplied : Machine → Code → Operands → Outcome
+multiplied s c o =
+    if fits (longer_by (l1 c) (l2 c)) o.first.magnitude then
+    Completes (with_bytes s (store_field s.bytes (e1 s.cpu c) (l1 c) (o.first.magnitude * o.second.magnitude) (signs_differ o)))
+    else Program 7
+
+-- the quotient goes to the left of the first field, and the remainder, which has the second field's length and the first one's
+-- sign, to its right; unless the divisor is zero or the quotient too long
+unfoldable pub divided : Machine → Code → Operands → Outcome
+divided s c o =
+    if (nat_lt 0 o.second.magnitude && fits (longer_by (l1 c) (l2 c)) (o.first.magnitude / o.second.magnitude)) then
+    Completes (with_bytes s (store_field (store_field s.bytes (e1 s.cpu c) (longer_by (l1 c) (l2 c)) (o.first.magnitude / o.second.magnitude) (signs_differ o))
+    (wrap (e1 s.cpu c + (l1 c - l2 c))) (l2 c) (o.first.magnitude % o.second.magnitude) o.first.minus))
+    else Program 11
+
+-- What becomes of a result in the first field (Principles of Operation, "Decimal-Overflow Exception").
+
+-- what a field of length code l keeps of a whole result, given by magnitude and sign: its low digits, its sign, where zero
+-- is plus, and whether other digits than zeros are lost
+unfoldable pub kept : ℕ → ℕ → Bool → Kept
+kept l v minus = record { digits = v % 10 ^ (2 * l + 1); minus = if v == 0 then false else minus; lost = not (fits l v) }
+
+-- code 3 where digits are lost, else the sign code
+unfoldable pub code_of : Kept → ℕ
+code_of k = if k.lost then 3 else (if k.digits == 0 then 0 else (if k.minus then 1 else 2))
+
+-- the field of length code l at a becomes what is kept; where digits are lost it is an overflow, with code X'A'
+abbrev pub results : Machine → ℕ → ℕ → Kept → Outcome
+results s a l k = Overflows (with_cc (with_bytes s (store_field s.bytes a l k.digits k.minus)) (code_of k)) (if k.lost then 10 else 0)
+
+-- The shift (Principles of Operation, "Decimal Instructions", "Shift and Round Decimal").
+
+-- the low six bits of the second address
+abbrev pub distance : CpuView → Code → ℕ
+distance s c = e2 s c % 64
+
+-- the whole magnitude: where n is below 32, n digits to the left; else 64 - n digits to the right, after the rounding digit
+-- i was added to the last digit that goes
+unfoldable pub shifted : ℕ → ℕ → ℕ → ℕ
+shifted v i n = if nat_lt n 32 then v * 10 ^ n else (v + i * 10 ^ (63 - n)) / 10 ^ (64 - n)
+
+-- The row of each decimal operation (Principles of Operation, "Decimal Instructions").
+
+-- the first field becomes the number
+abbrev pub becomes : Machine → Code → ℤ → Outcome
+becomes s c z = results s (e1 s.cpu c) (l1 c) (kept (l1 c) (unsigned_abs z) (is_negative z))
+
+-- the first field is replaced by what comes of both
+abbrev pub on_both : Memory → Machine → Code → (Operands → Outcome) → Row
+on_both m s c f = record { well = true; uses = replaces s.cpu c; outcome = on_data (operands m s.cpu s.bytes c) f }
+
+abbrev pub decimal_row : Op → Code → Memory → Machine → Option Row
+decimal_row AP c m s = Some (on_both m s c (λ o. becomes s c (number o.first +ℤ number o.second)))
+decimal_row SP c m s = Some (on_both m s c (λ o. becomes s c (number o.first -ℤ number o.second)))
+-- what the first field held doesn't matter
+decimal_row ZAP c m s = Some (record {
+  well = true;
+  uses = replaces s.cpu c;
+  outcome =
+      on_data (field_at m s.bytes (e2 s.cpu c) (l2 c)) (λ f. results s (e1 s.cpu c) (l1 c) (kept (l1 c) f.magnitude f.minus));
+})
+-- zeros of either sign are equal
+decimal_row CP c m s = Some (record {
+  well = true;
+  uses = compares s.cpu c;
+  outcome =
+      on_data (operands m s.cpu s.bytes c) (λ o. Completes (with_cc s (order_code (int_cmp (number o.first) (number o.second)))));
+})
+decimal_row MP c m s = Some (needing (is_shorter c) (on_both m s c (multiplied s c)))
+decimal_row DP c m s = Some (needing (is_shorter c) (on_both m s c (divided s c)))
+-- the rounding digit, in bits 12-15, is to be a digit too
+decimal_row SRP c m s = Some (storing (e1 s.cpu c) (l1 c + 1) (on_data (if nat_le (r2 c) 9 then field_at m s.bytes (e1 s.cpu c) (l1 c) else None)
+    (λ f. results s (e1 s.cpu c) (l1 c) (kept (l1 c) (shifted f.magnitude (r2 c) (distance s.cpu c)) f.minus))))
+decimal_row _ c m s = None

@@ -1,0 +1,100 @@
+-- What the claim of the program says by this crate's clauses.
+use Rattle.std.specs.Prelude.{ℕ, Option, Some, None, List, [], ◌∷◌, length, ◌≡◌, Bool, true, false, not, nat_eq, if◌then◌else◌, take}
+use Rattle.std.specs.List.{sum_by, filter}
+use Rattle.module_area.specs.Meaning.{PlanView, ControlView, places_under, control_after, first_control, facts_at, facts_of_all, has_session}
+use Rattle.cov_base.specs.declared.numbers.SessNo.{SessNo}
+use Rattle.cov_base.specs.Meaning.{Memory, State, Visit, FactSet, no_facts, has_fact, union}
+use Rattle.s370_exec.specs.Meaning.{Run, solo_run}
+use Rattle.observed_step.specs.Meaning.{calls_on}
+use Rattle.cov_base.specs.declared.facts.Fact.{Fact}
+use Rattle.cov_base.specs.declared.numbers.TaskNo.{TaskNo}
+use Rattle.module_area.specs.declared.places.Place.{Place}
+
+-- The supervisor calls of a run, and what they make of the sessions that the task controls.
+
+-- the control after these calls, and what the pass has planted and closed by them
+abbrev pub control_by : ControlView → List (Option ℕ) → ControlView
+control_by c [] = c
+control_by c (k ∷ ks) = control_by (control_after c k) ks
+
+-- the number of the session's places, and those of several sessions together
+abbrev pub places_of : PlanView → Option SessNo → ℕ
+places_of plan None = 0
+places_of plan (Some s) = length (places_under plan s.0)
+
+abbrev pub places_in_all : PlanView → List SessNo → ℕ
+places_in_all plan sessions = sum_by (λ (s : SessNo). places_of plan (Some s)) sessions
+
+-- The course that a task takes: how it runs.
+
+-- Over its area's plan, from its memory, budget and first state: ending, last state and trace, and for each of its
+-- instructions the supervisor call that it executes, if it is one.
+pub record Course : Type 0 where
+  pub run : PlanView → Memory → ℕ → State → Run
+  pub calls : PlanView → Memory → ℕ → State → List (Option ℕ)
+
+-- as it does alone, whatever the plan
+abbrev pub solo : Course
+solo = record {
+  run = λ plan m budget s. solo_run m budget s;
+  calls = λ plan m budget s. calls_on m budget s;
+}
+
+-- the visits of a run and the calls of its instructions
+pub record Walk : Type 0 where
+  pub trace : List Visit
+  pub calls : List (Option ℕ)
+
+abbrev pub walk : Course → PlanView → Memory → ℕ → State → Walk
+walk course plan m budget s = record { trace = (course.run plan m budget s).trace; calls = course.calls plan m budget s }
+
+-- What a controlled session's set at a place lies between, by the runs of the phase's tasks; and which sessions a run
+-- opens and closes.
+
+-- the session is the open one
+abbrev pub is_opened : ℕ → Option SessNo → Bool
+is_opened s None = false
+is_opened s (Some t) = nat_eq t.0 s
+
+-- the visits of the instructions before which the session is open: those behind the call that opens it, up to and
+-- including the one that closes it
+abbrev pub visits_under : ControlView → List (Option ℕ) → ℕ → List Visit → List Visit
+visits_under c calls s visits = filter (λ (v : Visit). is_opened s (control_by c (take v.before calls)).opened) visits
+
+-- the task's control after its run; the sessions that the run has opened, and those of them that it has closed
+abbrev pub last_control : PlanView → (ℕ → Walk) → ℕ → ControlView
+last_control plan walks t = control_by (first_control plan t) (walks t).calls
+
+abbrev pub opened_by : ControlView → List SessNo
+opened_by d = take d.next d.sessions
+
+abbrev pub closed_by : ControlView → List SessNo
+closed_by d = filter (λ (s : SessNo). not (is_opened s.0 d.opened)) (opened_by d)
+
+-- The facts at the place that session s of this controller has at least: those of the controller's own visits while the
+-- session is open.
+abbrev pub least_set : PlanView → (ℕ → Walk) → ℕ → ℕ → Place → FactSet
+least_set plan walks by s place = facts_at place (visits_under (first_control plan by) (walks by).calls s (walks by).trace)
+
+-- the traces of the other tasks
+abbrev pub traces_but : (ℕ → Walk) → List TaskNo → ℕ → List (List Visit)
+traces_but walks [] by = []
+traces_but walks (t ∷ ts) by = if nat_eq t.0 by then traces_but walks ts by else (walks t.0).trace ∷ traces_but walks ts by
+
+-- The facts that it has at most: none where its controller never opens it, else those and all that the other tasks of
+-- the phase show there.
+abbrev pub most_set : PlanView → (ℕ → Walk) → ℕ → ℕ → Place → FactSet
+most_set plan walks by s place =
+    if has_session (opened_by (last_control plan walks by)) s then union (least_set plan walks by s place) (facts_of_all place (traces_but walks plan.tasks by)) else no_facts
+
+-- no fewer facts than the least set, and no others than the most
+pub record IsBetween (fewest all set : FactSet) : Type 0 where
+  pub least : (f : Fact) → has_fact fewest f ≡ true → has_fact set f ≡ true
+  pub most : (f : Fact) → has_fact set f ≡ true → has_fact all f ≡ true
+
+-- how many places are opened, and closed, by the runs of these tasks: each session's places count at each of both
+abbrev pub opened_places : PlanView → (ℕ → Walk) → ℕ
+opened_places plan walks = sum_by (λ (t : TaskNo). places_in_all plan (opened_by (last_control plan walks t.0))) plan.tasks
+
+abbrev pub closed_places : PlanView → (ℕ → Walk) → ℕ
+closed_places plan walks = sum_by (λ (t : TaskNo). places_in_all plan (closed_by (last_control plan walks t.0))) plan.tasks
