@@ -1,7 +1,8 @@
 """Jobs of 2 to 64 tasks that go through one module at once, in a loop of branches that they take differently.
 
-A task waits by a count of its own, so that tasks that begin one after the other meet. Sessions over the module are whole, or
-opened and closed by a task that waits between its calls, and that is the phase's only one at times.
+A task waits by a count of its own, so that tasks that begin one after the other meet; in a long module they meet at many places,
+each of which is marked once or twice alone. Sessions over the module are whole, or opened and closed by a task that waits between
+its calls, and that is the phase's only one at times.
 """
 from __future__ import annotations
 
@@ -9,21 +10,26 @@ import random
 
 from jobs import Program
 
-# Behind LTR of register 2, which makes the condition code, and the wait, the branches; register 6 counts the rounds.
+# Behind LTR of register 2, which makes the condition code, and the wait, the branches, by a base that BASR makes anew each time
+# that so many instructions follow; register 6 counts the rounds, and register 13 has where they begin.
 HEAD = (("1222", "LTR"), ("4650C002", "BCT"))
+BASED, ROUNDS = 400, 6
 CARD = "TASK {name} {entry:06X} {private} 50000 0\n"
 
 
 def program(draw: random.Random) -> Program:
     """The wait, then so many instructions, and back to the first of them."""
     rows = list(HEAD)
-    at = 6
-    for _ in range(draw.choice((5, 40, 200, 600))):
+    at, base = ROUNDS, 0
+    for number in range(draw.choice((5, 40, 600, 4000))):
+        if number % BASED == 0:
+            rows.append(("0DC0", "BASR"))
+            at = base = at + 2
         kind = draw.choice(("BC", "BC", "BC", "LA", "BCTR", "LR"))
-        digits = {"BC": f"47{draw.randrange(1, 15):X}0C{at + 4:03X}", "LA": "41700001", "BCTR": "0680", "LR": "1877"}[kind]
+        digits = {"BC": f"47{draw.randrange(1, 15):X}0C{at + 4 - base:03X}", "LA": "41700001", "BCTR": "0680", "LR": "1877"}[kind]
         rows.append((digits, kind))
         at += len(digits) // 2
-    rows += [("4660C006", "BCT"), ("07FE", "BR")]
+    rows += [("066D", "BCTR"), ("07FE", "BR")]
     code, at = [], 0
     for digits, name in rows:
         code.append((at, digits, name))
@@ -33,9 +39,9 @@ def program(draw: random.Random) -> Program:
 
 def variants(draw: random.Random) -> list[str]:
     """The registers of few kinds of tasks."""
-    rounds = draw.choice((1, 2, 8))
+    rounds, back = draw.choice((1, 1, 3)), f"REG 12 00100000\nREG 13 {0x100000 + ROUNDS:08X}\n"
     return [
-        f"REG 2 {draw.choice((0, 1, 0xFFFFFFFF)):08X}\nREG 5 {draw.choice((1, 300, 3000)):08X}\nREG 6 {rounds:08X}\nREG 12 00100000\n"
+        f"REG 2 {draw.choice((0, 1, 0xFFFFFFFF)):08X}\nREG 5 {draw.choice((1, 300, 10000)):08X}\nREG 6 {rounds:08X}\n{back}"
         for _ in range(draw.choice((2, 3, 5)))
     ]
 

@@ -276,7 +276,8 @@ def race_of(draw: random.Random) -> Input:
 
 def drawn(draw: random.Random) -> Input | None:
     """An input of any command, or none where it takes too long to tell what comes."""
-    word = draw.choice((*REPORTS, *NAMED, *REPORTS, *NAMED, "table", "combine", "combine", "replay", "replay", "race", "trial"))
+    others = ("table", "combine", "combine", "replay", "replay", "race", "race", "trial")
+    word = draw.choice((*REPORTS, *NAMED, *REPORTS, *NAMED, *others))
     if word == "trial" and draw.random() < 0.8:
         word = "run"
     try:

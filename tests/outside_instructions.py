@@ -220,10 +220,10 @@ def partial(it: Pair) -> dict[int, int]:
 
 
 def loses_subject(it: Pair, state: hercules.State) -> bool:
-    """Whether an EX of MVCL or CLCL addresses its subject by a register that these change: behind a part Hercules takes another one."""
+    """Whether an EX of MVCL or CLCL finds or ORs its subject by a register that these change: behind a part it is another."""
     own, subject = it.bytes_at(state.at, 4, state.private or it.task.private), it.instruction(state)
     pairs = {number + more for number in (subject[1] >> 4, subject[1] & 15) for more in (0, 1)}
-    return own[:1] == b"\x44" and bool(pairs & {own[1] & 15, own[2] >> 4} - {0})
+    return own[:1] == b"\x44" and bool(pairs & {own[1] >> 4, own[1] & 15, own[2] >> 4} - {0})
 
 
 def without(other: hercules.Result, parts: dict[int, int]) -> hercules.Result:
