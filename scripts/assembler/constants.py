@@ -100,4 +100,8 @@ def item_of(constant: Constant, text: str, values: Evaluator, origins: dict[str,
         return bytes(length), text
     value = values.value(text) if kind == "A" else Value(int(text))
     number = value.number + (origins[value.section] if value.section else 0)
+    if kind == "A" and value.section and length < 3:
+        raise Fault(values.place, f"{text!r} is an address: a length of {length} has no room for it")
+    if not -(256**length) // 2 <= number < 256**length:
+        raise Fault(values.place, f"{text!r} comes to {number}: a length of {length} has no room for it")
     return (number % 256**length).to_bytes(length, "big"), value.section

@@ -10,6 +10,8 @@ from assembler.instructions import Encoder, literals_of
 from assembler.operations import OPERATIONS, length_of
 from command import Fault
 
+NOPR = b"\x07\x00"
+
 
 @dataclass
 class Statement:
@@ -112,6 +114,17 @@ class Assembly:
         self.take(statement, sum(it.size() for it in constants), constants[0].length)
 
     place_dc = place_ds
+
+    def place_cnop(self, statement: Statement) -> None:
+        """Fills up to so many bytes behind a multiple, as `CNOP 0,4` up to a fullword, with instructions that do nothing."""
+        self.align(2)
+        values = self.evaluator(statement.place, self.here())
+        words = statement.operands.split(",")
+        behind, to = (values.absolute(it) for it in words) if len(words) == 2 else (0, 0)
+        if to not in (4, 8) or behind not in range(0, to, 2):
+            raise Fault(statement.place, f"CNOP {statement.operands}")
+        statement.data = NOPR * ((behind - self.here().number) % to // 2)
+        self.take(statement, len(statement.data))
 
     def place_equ(self, statement: Statement) -> None:
         values = self.evaluator(statement.place, self.here() if self.current else Value(0))
