@@ -12,7 +12,8 @@ usage: python3 scripts/assemble.py SOURCE OBJECT LISTING ascii|ebcdic [narrow|wi
 
 Assembles SOURCE, and writes its object deck and its listing, in ASCII lines or in EBCDIC records of 121 bytes, or of
 133 bytes where it is wide. A small assembler that makes the examples of this repository: no macros, no conditional
-assembly, one line a statement. It is no part of the product, and not proved.
+assembly, one line a statement. A line that begins with + stands for one that a macro has made, and the line before the
+first of them for the macro's call. It is no part of the product, and not proved.
 """
 
 

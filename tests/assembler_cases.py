@@ -12,14 +12,15 @@ CALLS    CSECT
          LA    0,LONG(0,0)
          BAL   1,*+4               the leftmost bit of 1 asks
          SVC   10
-         CNOP  0,4
-         BAL   1,BEHIND            the text is behind
-         DC    AL2(TEXTEND-*)
-         DC    B'0000000000000000'
-         DC    C'TEN'
-TEXTEND  EQU   *
-BEHIND   DS    0H
-         SVC   35
+         WTO   'TEN'
++        CNOP  0,4
++        BAL   1,BEHIND            the text is behind
++        DC    AL2(TEXTEND-*)
++        DC    B'0000000000000000'
++        DC    C'TEN'
++TEXTEND EQU   *
++BEHIND  DS    0H
++        SVC   35
          CNOP  0,4
          B     *+8
          DC    AL1(128),AL3(100)
@@ -47,14 +48,15 @@ def assembled(source: str, at: str) -> None:
 
 
 def calls() -> None:
-    """assemble: lengths of two bytes, codes of one and three, parameters behind BAL, addresses of three bytes, and what CNOP fills"""
+    """assemble: lengths of two bytes, codes of one and three, parameters behind BAL, addresses of three bytes, CNOP, a macro's lines"""
     with folder() as at:
         assembled(CALLS, at)
         ran = well(coverage("module", "CALLS", "180000", f"{at}/object", f"{at}/listing"))
         equal(text_of(ran), BYTES)
         with open(f"{at}/listing", encoding="ascii") as file:
-            lines = [it[1:40].split() for it in file if it[1:7].strip()]
-    found = {int(it[0], 16): it[1:-1] for it in lines if len(it[0]) == 6}
+            text = file.read()
+    lines = [it[1:40].split() for it in text.splitlines()]
+    found = {int(it[0], 16): it[1:-1] for it in lines if it and len(it[0]) == 6}
     # Location, object code, and the addresses of the operands.
     equal(found[0x06], ["4510", "C008", "0000A"])
     equal(found[0x10], ["0007"])
@@ -62,6 +64,9 @@ def calls() -> None:
     equal(found[0x1A], ["0700"])
     equal(found[0x20], ["80000064"])
     equal(found[0x34], ["80000017"])
+    # The macro's call has a number alone, and its lines have a sign behind theirs.
+    for line in (f"{'':39}7          WTO   'TEN'", f" 000018 0A23{'':26}15+        SVC   35", f"{'':23}00017{'':10}13+TEXTEND EQU   *"):
+        assert f"\n{line}\n" in text, (line, text)
 
 
 def filled() -> None:
@@ -83,6 +88,7 @@ def refusals() -> None:
         ("DC AL1(256)", "'256' comes to 256: a length of 1 has no room for it"), ("DC AL1(0-129)", "comes to -129"), ("DC AL2(65536)", "of 2 "),
         ("DC AL2(A)", "'A' is an address: a length of 2 has no room for it"), ("DC AL1(*)", "'*' is an address"), ("CNOP 1,4", "CNOP 1,4"),
         ("CNOP 4,4", "CNOP 4,4"), ("CNOP 0,6", "CNOP 0,6"), ("CNOP 0", "CNOP 0"), ("CNOP 0,4,8", "CNOP 0,4,8"), ("CNOP A,4", "'A' is an address"),
+        ("WTO 'TEN'", "the operation 'WTO'"),
     ):
         with folder() as at:
             with open(f"{at}/source", "w", encoding="ascii") as file:

@@ -161,7 +161,7 @@ def listing_line(assembly: Assembly, statement: Statement, number: int, style: S
     is_section = statement.operation == "CSECT"
     put_address(0, 0 if is_section else statement.first)
     put_address(1, assembly.sections[statement.name].size if is_section else statement.second)
-    put(columns.statement.start, f"{number:>5}")
+    put(columns.statement.start, f"{number:>5}{'+' * statement.is_generated}")
     return "".join(line) + statement.text
 
 

@@ -28,6 +28,7 @@ class Statement:
     first: Optional[int] = None
     second: Optional[int] = None
     using: Optional[str] = None
+    is_generated: bool = False
 
 
 class Assembly:
@@ -44,8 +45,9 @@ class Assembly:
         self.externals: list[str] = []
         self.entries: list[str] = []
         self.usings: dict[int, Value] = {}
-        for number, text in enumerate(source.splitlines(), 1):
-            self.read_line(f"{path}: line {number}", text.rstrip())
+        lines = [it.rstrip() for it in source.splitlines()]
+        for number, (text, following) in enumerate(zip(lines, [*lines[1:], ""]), 1):
+            self.read_line(f"{path}: line {number}", text, following.startswith("+"))
         if self.pool:
             raise Fault(path, "literals behind the last LTORG")
         self.set_origins()
@@ -54,11 +56,13 @@ class Assembly:
 
     # The first pass.
 
-    def read_line(self, place: str, text: str) -> None:
-        """Gives a line its place, and its name its value."""
-        statement = Statement(place, text)
+    def read_line(self, place: str, text: str, calls: bool) -> None:
+        """Gives a line its place, and its name its value. A line that a macro would make begins with +, and the one before the first of
+        them calls the macro: it is printed alone."""
+        statement = Statement(place, text.removeprefix("+"), is_generated=text.startswith("+"))
+        text = statement.text
         self.statements.append(statement)
-        if not text.strip() or text.startswith("*"):
+        if not text.strip() or text.startswith("*") or (calls and not statement.is_generated):
             return
         statement.name, statement.operation, statement.operands = fields(text)
         directive = getattr(self, f"place_{statement.operation.lower()}", None)
