@@ -9,11 +9,10 @@ use Rattle.std.proofs.lemmas.List.{take_all}
 use Rattle.cov_base.specs.Meaning.{Visit}
 use Rattle.module_area.specs.Ended.{HasSets, HasTally}
 use Rattle.module_area.specs.Meaning.{FinalsView, PlanView, window_at}
-use Rattle.module_area.specs.Notes.{Notes, root_notes}
+use Rattle.module_area.specs.Notes.{Notes}
 use Rattle.module_area.specs.PlanView.{IsPlan, is_controller}
 use Rattle.module_area.proofs.PlanLemmas.{no_controller}
 use Rattle.module_area.specs.declared.tallies.Tally.{Tally}
-use Rattle.planter.specs.Planted.{planted_notes}
 use Rattle.task_run.proofs.SetLemmas.{IsReady, exact_set, exact_lifts}
 use Rattle.task_run.specs.Meaning.{Walk, opened_places}
 use Rattle.job_run.specs.Meaning.{EndsArea}
@@ -21,6 +20,7 @@ use Rattle.job_run.specs.Areas.{GrowsBy}
 use Rattle.job_run.specs.Bounds.{JoinsTasks}
 use Rattle.job_run.specs.Passes.{JoinsAll, after_planting}
 use Rattle.job_run.proofs.BoundLemmas.{bounded}
+use Rattle.job_run.proofs.ExactLemmas.{sets_exact}
 
 seen_planted : (w p n : ℕ) → p < n → 0 < w → (if nat_lt p n && not (nat_eq w 0) then 2 * w - 1 else 0) + 1 ≡ 2 * w
 seen_planted w p n h k = grind (arith, nat_tests)
@@ -53,6 +53,7 @@ ends_area plan walks ended trace f is observes joins sets tally =
       size = sets.size;
       sets = λ p h k. exact_set plan start ended trace f is (ready plan ended.given ended.out is) observes sets p h k;
       bounded = bounded plan walks (after_planting plan) ended f is joins sets;
+      exact = sets_exact plan walks ended f joins.fetches joins.fetched sets;
       within = sets.within;
       over = sets.over;
       plants = joins.plants ∙ ap (λ (n : ℕ). n + opened_places plan walks) planted;

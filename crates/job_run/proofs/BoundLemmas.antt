@@ -1,5 +1,5 @@
 -- What a task's pass leaves of the task's sessions, passes joined one after the other, and the bounds of the sets.
-use Rattle.std.proofs.Common.{◌≡◌, ◌↔◌, ◌⊎◌, ℕ, zero, suc, ◌+◌, ◌*◌, ◌<◌, ◌≤◌, ◌^◌, Bool, true, false, ◌&&◌, ◌||◌, ◌==◌, if◌then◌else◌, nat_eq, Option, Some, None, List, [], ◌∷◌, ◌++◌, length, get_or, take, drop, All, AllPairs, inl, inr, refl, sym, ◌∙◌, ap, subst, arith, eqb-true, eq-eqb, ne_eqb, zero-add}
+use Rattle.std.proofs.Common.{◌≡◌, ◌↔◌, ℕ, zero, suc, ◌+◌, ◌*◌, ◌<◌, ◌≤◌, ◌^◌, Bool, true, false, ◌&&◌, ◌||◌, ◌==◌, if◌then◌else◌, nat_eq, Option, Some, None, List, [], ◌∷◌, ◌++◌, length, get_or, take, drop, All, AllPairs, inl, inr, refl, sym, ◌∙◌, ap, subst, arith, eqb-true, eq-eqb, ne_eqb, zero-add}
 use Rattle.std.specs.List.{filter}
 use Rattle.std.proofs.lemmas.Bool.{or_cases, or_left, or_right, and_from, both_ways, cases_Bool}
 use Rattle.std.proofs.lemmas.List.{get_or_default, take-append-drop}
@@ -21,13 +21,15 @@ use Rattle.module_area.specs.Tied.{keeps_session_as, IsTied}
 use Rattle.module_area.proofs.PlanLemmas.{any_at, any_shown, one_controller}
 use Rattle.brk_table.proofs.PlaceLemmas.{is_place-there}
 use Rattle.planter.proofs.TieLemmas.{has_here}
-use Rattle.svc_monitor.specs.Answered.{Answered, ArePairs, IsPair, at_places, facts_under, is_under}
+use Rattle.svc_monitor.specs.Answered.{Answered, ArePairs, IsPair}
+use Rattle.svc_monitor.specs.Meaning.{at_places, facts_under, is_under}
 use Rattle.svc_monitor.proofs.ObservedLemmas.{has_fact-more}
 use Rattle.task_run.specs.Meaning.{control_by, places_in_all, Walk, is_opened, visits_under, last_control, opened_by, closed_by, least_set, most_set, traces_but, IsBetween}
 use Rattle.task_run.specs.Called.{last_by, Follows, HasWindows, HasPlanted}
 use Rattle.task_run.proofs.CloseLemmas.{closes_closed}
 use Rattle.task_run.proofs.SetLemmas.{facts_at-kind, has_fact-full_of, has_fact-union}
 use Rattle.job_run.specs.Meaning.{IsBounded}
+use Rattle.job_run.proofs.ExactLemmas.{has_fetched, have_none, have_more, one_of, with_task}
 use Rattle.job_run.specs.Bounds.{IsOwn, Leaves, JoinsTasks, NeverOpens, no_controlled}
 
 -- facts of visits while a session is open, and of pairs under its odd tag
@@ -195,10 +197,10 @@ own_last plan n d t s p is tied bears own never =
     subst (λ (k : ℕ). n.last k + 1 < 2 * s) (eqb-true _ _ at.2) (later at.0 (record { 0 = p }) at.1)
 
 -- what the pass of a task leaves
-pub leaves : (plan : PlanView) (walks : ℕ → Walk) (t : ℕ) (root n : Notes) (d : ControlView) → IsPlan plan → IsTied plan (split_notes plan root t) (first_control plan t) →
+pub leaves : (plan : PlanView) (walks : ℕ → Walk) (t : ℕ) (root n : Notes) (d : ControlView) → IsPlan plan → ((p : ℕ) → is_controller plan t p ≡ true → root.last p ≡ 0) → IsTied plan (split_notes plan root t) (first_control plan t) →
     Follows plan (split_notes plan root t) n (walks t).trace (walks t).calls (first_control plan t) d → HasWindows plan (split_notes plan root t) (first_control plan t) (walks t).calls →
     HasPlanted plan (split_notes plan root t) n d → IsTied plan n d → calls n < 2 ^ 42 → Leaves plan walks t n
-leaves plan walks t root n d is first follows windows planted tied few =
+leaves plan walks t root n d is none first follows windows planted tied few =
     let last : d ≡ last_control plan walks t = follows.control in
     let bears : n.bears ≡ Some t = follows.observes.grows.bears in
     record {
@@ -214,6 +216,8 @@ leaves plan walks t root n d is first follows windows planted tied few =
       plants = planted.plants ∙ (zero-add _ ∙ ap (λ (c : ControlView). places_in_all plan (opened_by c)) last);
       closes = closes_closed plan (split_notes plan root t) n d planted tied ∙ (zero-add _ ∙ ap (λ (c : ControlView). places_in_all plan (closed_by c)) last);
       few = few;
+      fetches = follows.answered.pairs;
+      fetched = has_fetched plan walks t root n none follows.answered;
     }
   where
     never : false ≡ true → ⊥
@@ -229,14 +233,9 @@ joins_none plan walks old new unmarked same = record {
   last = λ t s p never. absurd cc;
   plants = omega (arith, ap (λ (t : Tally). t.plants) same);
   closes = omega (arith, ap (λ (t : Tally). t.closes) same);
+  fetches = λ t. [];
+  fetched = have_none plan walks new unmarked;
 }
-
--- a task joined before, or this one
-one_of : (tasks : List TaskNo) (t u : ℕ) → has_task (tasks ++ record { 0 = t } ∷ []) u ≡ true → (has_task tasks u ≡ true) ⊎ (t ≡ u)
-one_of tasks t u h = elim (or_cases (has_task tasks u) (nat_eq t u || false) (sym (list_any-append (λ (w : TaskNo). nat_eq w.0 u) tasks (record { 0 = t } ∷ [])) ∙ h)) [
-  | inl before ↦ inl before
-  | inr here ↦ elim (or_cases (nat_eq t u) false here) [ inl same ↦ inr (eqb-true t u same) | inr never ↦ absurd cc ]
-]
 
 of_before : (tasks : List TaskNo) (t u : ℕ) → has_task tasks u ≡ true → has_task (tasks ++ record { 0 = t } ∷ []) u ≡ true
 of_before tasks t u h = list_any-append (λ (w : TaskNo). nat_eq w.0 u) tasks (record { 0 = t } ∷ []) ∙ or_left (has_task tasks u) (nat_eq t u || false) h
@@ -244,9 +243,9 @@ of_before tasks t u h = list_any-append (λ (w : TaskNo). nat_eq w.0 u) tasks (r
 of_last : (tasks : List TaskNo) (t : ℕ) → has_task (tasks ++ record { 0 = t } ∷ []) t ≡ true
 of_last tasks t = list_any-append (λ (w : TaskNo). nat_eq w.0 t) tasks (record { 0 = t } ∷ []) ∙ or_right (has_task tasks t) (nat_eq t t || false) (or_left (nat_eq t t) false (eq-eqb t t refl))
 
-pub joins_one : (plan : PlanView) (walks : ℕ → Walk) (tasks : List TaskNo) (t : ℕ) (old mid other : Notes) → IsPlan plan → bearer other ≡ t → JoinsTasks plan walks tasks old mid → Leaves plan walks t other →
+pub joins_one : (plan : PlanView) (walks : ℕ → Walk) (tasks : List TaskNo) (t : ℕ) (old mid other : Notes) → IsPlan plan → bearer other ≡ t → has_task tasks t ≡ false → JoinsTasks plan walks tasks old mid → Leaves plan walks t other →
     JoinsTasks plan walks (tasks ++ record { 0 = t } ∷ []) old (after_join plan mid other)
-joins_one plan walks tasks t old mid other is bears j l =
+joins_one plan walks tasks t old mid other is bears first j l =
     let planted = sum_by_push (λ (u : TaskNo). places_in_all plan (opened_by (last_control plan walks u.0))) tasks (record { 0 = t }) in
     let closed = sum_by_push (λ (u : TaskNo). places_in_all plan (closed_by (last_control plan walks u.0))) tasks (record { 0 = t }) in
     record {
@@ -275,6 +274,8 @@ joins_one plan walks tasks t old mid other is bears j l =
       ];
       plants = omega (arith, planted, j.plants, l.plants);
       closes = omega (arith, closed, j.closes, l.closes);
+      fetches = with_task j.fetches t l.fetches;
+      fetched = have_more plan walks tasks t mid other j.fetches l.fetches first j.fetched l.fetched;
     }
 
 -- the bounds of a controlled session's set

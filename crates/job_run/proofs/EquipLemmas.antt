@@ -1,5 +1,5 @@
 -- Tasks that get their sessions and extras.
-use Rattle.std.proofs.Common.{[], ◌≡◌, ◌≢◌, inl, inr, ℕ, ◌+◌, ◌<◌, ◌≤◌, true, false, nat_eq, nat_lt, None, List, ◌∷◌, ◌++◌, length, get_or, sym, ◌∙◌, ap, subst, arith}
+use Rattle.std.proofs.Common.{[], ◌≡◌, inl, inr, ℕ, ◌<◌, ◌≤◌, true, false, nat_eq, nat_lt, None, List, ◌∷◌, ◌++◌, length, get_or, sym, ◌∙◌, ap, subst, arith}
 use Rattle.std.proofs.lemmas.Bool.{cases_Bool}
 use Rattle.std.proofs.lemmas.Bool.Decides.{nat_tests}
 use Rattle.std.proofs.lemmas.List.{get_or_append_left, length-append}
@@ -11,8 +11,7 @@ use Rattle.session_book.specs.Meaning.{JobView, task_of}
 use Rattle.job_run.specs.Crews.{Each, Own, phase_at}
 use Rattle.job_run.specs.Passes.{AreEquipped, HasStart}
 use Rattle.job_run.specs.Slots.{in_phase, AreEmpty, KeepsOthers}
-use Rattle.job_run.specs.Tasks.{Begins, AreRun, HasNotRun, IsEnded, has_run}
-use Rattle.job_run.specs.declared.outcome.Done.{Done}
+use Rattle.job_run.specs.Tasks.{Begins, AreRun, HasNotRun, IsEnded}
 use Rattle.job_run.specs.declared.slots.Slot.{Slot}
 use Rattle.job_run.proofs.EachLemmas.{Along, Along-all, same_or}
 

@@ -5,6 +5,7 @@ pub mod BoundLemmas
 pub mod CrewLemmas
 pub mod EachLemmas
 pub mod EquipLemmas
+pub mod ExactLemmas
 pub mod JoinLemmas
 pub mod PhaseLemmas
 pub mod RangeLemmas

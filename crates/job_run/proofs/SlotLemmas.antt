@@ -1,16 +1,15 @@
 -- Passes of an area split off, run with and joined.
-use Rattle.std.proofs.Common.{[], ◌≡◌, inl, inr, ℕ, ◌+◌, ◌<◌, ◌≤◌, ◌^◌, Bool, true, false, not, ◌&&◌, ◌||◌, nat_eq, nat_lt, Option, Some, None, unwrap_or, List, ◌∷◌, ◌++◌, length, get_or, map, refl, sym, ◌∙◌, ap, subst, arith, zero-add}
+use Rattle.std.proofs.Common.{[], ◌≡◌, inl, inr, ℕ, ◌+◌, ◌<◌, ◌≤◌, ◌^◌, Bool, true, false, not, ◌&&◌, ◌||◌, nat_eq, Option, unwrap_or, List, ◌∷◌, ◌++◌, length, map, refl, sym, ◌∙◌, ap, subst, arith}
 use Rattle.std.proofs.lemmas.Bool.{cases_Bool, eqb-true}
 use Rattle.std.proofs.lemmas.Bool.Decides.{nat_tests}
-use Rattle.std.proofs.lemmas.List.{append_assoc, append-nil, length-append, map-append}
+use Rattle.std.proofs.lemmas.List.{append_assoc, append-nil, length-append}
 use Rattle.std.proofs.lemmas.List.Folds.{list_any-append}
-use Rattle.cov_base.specs.Meaning.{FactSet, Memory, Visit}
+use Rattle.cov_base.specs.Meaning.{Memory, Visit}
 use Rattle.cov_base.specs.declared.limits.TheConstants.{PLACE_LIMIT}
 use Rattle.cov_base.specs.declared.numbers.TaskNo.{TaskNo}
 use Rattle.module_area.specs.Meaning.{ControlView, first_control, PlanView}
-use Rattle.module_area.specs.Ended.{AreSettled}
-use Rattle.module_area.specs.Notes.{Notes, bearer, calls, is_working, split_notes, after_split, after_join}
-use Rattle.module_area.specs.PlanView.{IsPlan, has_task, is_controller}
+use Rattle.module_area.specs.Notes.{Notes, bearer, calls, split_notes, after_split, after_join}
+use Rattle.module_area.specs.PlanView.{IsPlan, has_task}
 use Rattle.module_area.specs.Tied.{IsTied}
 use Rattle.module_area.specs.declared.places.Place.{Place}
 use Rattle.module_area.proofs.TiedLemmas.{first_tied}
@@ -28,11 +27,11 @@ use Rattle.task_run.specs.Ran.{walk_from}
 use Rattle.session_book.specs.Meaning.{JobView, TaskView, task_of, tasks_from, traces_from, plan_view}
 use Rattle.session_book.specs.JobView.{IsJob, IsTask}
 use Rattle.job_run.specs.Bounds.{JoinsTasks, Leaves}
-use Rattle.job_run.specs.Crews.{PhaseView, IsTaskOf, phase_at, all_tasks}
-use Rattle.job_run.specs.Passes.{after_planting, JoinsAll, trace_of, visits_of, HasJoined, IsFresh, HasStart, Runs, HasSeen}
+use Rattle.job_run.specs.Crews.{phase_at, all_tasks}
+use Rattle.job_run.specs.Passes.{after_planting, JoinsAll, trace_of, visits_of, HasJoined, Runs, HasSeen}
 use Rattle.job_run.specs.Meaning.{joined, phase_trace, trace_by, walk_by}
 use Rattle.job_run.specs.Slots.{in_phase}
-use Rattle.job_run.specs.Tasks.{Begins, Ends, HasNotRun, IsEquipped, IsEnded}
+use Rattle.job_run.specs.Tasks.{HasNotRun, IsEquipped}
 use Rattle.job_run.specs.declared.outcome.Done.{Done}
 use Rattle.job_run.proofs.AreaLemmas.{planted_last}
 use Rattle.job_run.proofs.BoundLemmas.{joins_none, joins_one, leaves}
@@ -120,9 +119,9 @@ module _ {P : Type 0} (is_pass : P → Type 0) (notes : P → Notes) (plan : Pla
       out_more : (u : ℕ) → ((has_task given u && true) || nat_eq u t) ≡ (has_task (given ++ record { 0 = t } ∷ []) u && true)
       out_more u = ap (λ b. b || nat_eq u t) (and_true (has_task given u)) ∙ (has_more given t u ∙ sym (and_true (has_task (given ++ record { 0 = t } ∷ []) u)))
 
-  pub taken-one : (old new other : P) (given back : List TaskNo) (t : ℕ) → IsPlan plan → is_pass new → notes new ≡ after_join plan (notes old) (notes other) → HasJoined is_pass notes plan course j places old given back →
+  pub taken-one : (old new other : P) (given back : List TaskNo) (t : ℕ) → IsPlan plan → has_task back t ≡ false → is_pass new → notes new ≡ after_join plan (notes old) (notes other) → HasJoined is_pass notes plan course j places old given back →
       HasSeen is_pass notes plan course j places t other → HasJoined is_pass notes plan course j places new given (back ++ record { 0 = t } ∷ [])
-  taken-one old new other given back t plans area is h s = record {
+  taken-one old new other given back t plans first area is h s = record {
     area = area;
     bears = ap (λ (n : Notes). n.bears) is ∙ h.bears;
     given = λ u. ap (λ (n : Notes). n.given u) is ∙ h.given u;
@@ -132,7 +131,7 @@ module _ {P : Type 0} (is_pass : P → Type 0) (notes : P → Notes) (plan : Pla
     observes = subst (λ (n : Notes). JoinsAll plan (after_planting plan) n (visits_of (walk_by course j places) (back ++ record { 0 = t } ∷ []))) (sym is)
         (subst (λ (vs : List Visit). JoinsAll plan (after_planting plan) (after_join plan (notes old) (notes other)) vs) (sym (joined-more (trace_of (walk_by course j places)) back (record { 0 = t })))
         (joins-more plan (after_planting plan) (notes old) (notes other) t (visits_of (walk_by course j places) back) (walk_by course j places t).trace h.observes s.observes));
-    joins = subst (λ (n : Notes). JoinsTasks plan (walk_by course j places) (back ++ record { 0 = t } ∷ []) (after_planting plan) n) (sym is) (joins_one plan (walk_by course j places) back t (after_planting plan) (notes old) (notes other) plans its h.joins s.leaves);
+    joins = subst (λ (n : Notes). JoinsTasks plan (walk_by course j places) (back ++ record { 0 = t } ∷ []) (after_planting plan) n) (sym is) (joins_one plan (walk_by course j places) back t (after_planting plan) (notes old) (notes other) plans its first h.joins s.leaves);
     few = omega (arith, ap (λ (n : Notes). calls n) is, h.few, s.leaves.few, length-append back (record { 0 = t } ∷ []));
   }
     where
@@ -161,7 +160,7 @@ seen_by course is_pass notes plan j places t before after p d e is of task area 
     record {
       area = area;
       observes = subst (λ (n : Notes). Observes plan split n (walks t).trace) (sym at) follows.observes;
-      leaves = subst (λ (n : Notes). Leaves plan walks t n) (sym at) (leaves plan walks t (after_planting plan) after e.task.bench.control is (first_tied plan (after_planting plan) t is (λ q. planted_last plan t q is)) follows windows planted r.ran.tied few);
+      leaves = subst (λ (n : Notes). Leaves plan walks t n) (sym at) (leaves plan walks t (after_planting plan) after e.task.bench.control is (λ q. planted_last plan t q is) (first_tied plan (after_planting plan) t is (λ q. planted_last plan t q is)) follows windows planted r.ran.tied few);
     }
 
 -- the control with which a task of the phase begins, and its tie to the pass that was split off for it

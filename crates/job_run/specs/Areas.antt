@@ -1,5 +1,5 @@
 -- What one area is left with after its phase's tasks have run over its plan.
-use Rattle.std.specs.Prelude.{◌≡◌, ℕ, ◌+◌, List, [], ◌∷◌, ◌++◌}
+use Rattle.std.specs.Prelude.{◌≡◌, ℕ, List, [], ◌∷◌, ◌++◌}
 use Rattle.cov_base.specs.Meaning.{Visit}
 use Rattle.module_area.specs.Meaning.{FinalsView, PlanView}
 use Rattle.module_area.specs.declared.tallies.Tally.{Tally}

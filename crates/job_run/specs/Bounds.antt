@@ -7,8 +7,11 @@ use Rattle.cov_base.specs.Meaning.{has_fact}
 use Rattle.module_area.specs.Meaning.{facts_at, PlanView, ControlledView, place_of, has_place, has_session}
 use Rattle.module_area.specs.Notes.{Notes, calls}
 use Rattle.module_area.specs.PlanView.{has_task}
+use Rattle.module_area.specs.declared.cells.Cell.{Cell}
+use Rattle.svc_monitor.specs.Meaning.{at_places, facts_under}
 use Rattle.svc_monitor.specs.Observed.{IsShown}
 use Rattle.task_run.specs.Meaning.{places_in_all, Walk, least_set, last_control, opened_by, closed_by}
+use Rattle.job_run.specs.Meaning.{AreFetches, facts_met}
 
 abbrev pub no_controlled : ControlledView
 no_controlled = record { session = 0; by = 0; places = [] }
@@ -30,10 +33,17 @@ pub record IsOf (plan : PlanView) (walks : ℕ → Walk) (t s p : ℕ) (f : Fact
 abbrev pub NeverOpens : PlanView → (ℕ → Walk) → ℕ → ℕ → Type 0
 NeverOpens plan walks t s = has_session (opened_by (last_control plan walks t)) s ≡ false
 
+-- The pass of a task has these fetches, one for each visit of its run at a place. It has the facts of the visits whose fetch
+-- answered a session's odd tag, or met the session's set full, and has marked no others.
+pub record HasFetched (plan : PlanView) (walks : ℕ → Walk) (t : ℕ) (n : Notes) (fetches : List (ℕ × Cell)) : Type 0 where
+  pub are : AreFetches plan t (walks t).calls fetches (at_places plan.places (walks t).trace)
+  pub shown : (s p : ℕ) (f : Fact) → has_fact (facts_under plan s p fetches (at_places plan.places (walks t).trace)) f ≡ true → IsShown n s p f
+  pub nothing_else : (s p : ℕ) (f : Fact) → n.marked s p f ≡ true → has_fact (facts_under plan s p fetches (at_places plan.places (walks t).trace)) f ≡ true
+
 -- What the pass of a task has after its run: of each of its own sessions the facts of the run while it is open, and no
 -- fact that the run doesn't show; no tag as high as that of an own session that it never opened; one plant for each place
--- of each session that it opened, and one close for each of those that it closed; and so few calls that those of 64 tasks
--- are no more than a pass may make.
+-- of each session that it opened, and one close for each of those that it closed; so few calls that those of 64 tasks are
+-- no more than a pass may make; and its fetches.
 pub record Leaves (plan : PlanView) (walks : ℕ → Walk) (t : ℕ) (n : Notes) : Type 0 where
   pub least : (s p : ℕ) (f : Fact) → IsOwn plan t s p → has_fact (least_set plan walks t s (place_of plan.places p)) f ≡ true → IsShown n s p f
   pub most : (s p : ℕ) (f : Fact) → n.marked s p f ≡ true → IsOf plan walks t s p f
@@ -41,12 +51,20 @@ pub record Leaves (plan : PlanView) (walks : ℕ → Walk) (t : ℕ) (n : Notes)
   pub plants : n.tally.plants ≡ places_in_all plan (opened_by (last_control plan walks t))
   pub closes : n.tally.closes ≡ places_in_all plan (closed_by (last_control plan walks t))
   pub few : calls n < 2 ^ 42
+  pub fetches : List (ℕ × Cell)
+  pub fetched : HasFetched plan walks t n fetches
 
 -- a mark is of the run of one of these tasks
 pub record IsOfOne (plan : PlanView) (walks : ℕ → Walk) (tasks : List TaskNo) (s p : ℕ) (f : Fact) : Type 0 where
   pub task : ℕ
   pub there : has_task tasks task ≡ true
   pub is : IsOf plan walks task s p f
+
+-- the root has the fetches of these tasks' passes
+pub record HaveFetched (plan : PlanView) (walks : ℕ → Walk) (tasks : List TaskNo) (n : Notes) (fetches : ℕ → List (ℕ × Cell)) : Type 0 where
+  pub each : (t : ℕ) → has_task tasks t ≡ true → AreFetches plan t (walks t).calls (fetches t) (at_places plan.places (walks t).trace)
+  pub shown : (s p : ℕ) (f : Fact) → has_fact (facts_met plan walks fetches s p tasks) f ≡ true → IsShown n s p f
+  pub nothing_else : (s p : ℕ) (f : Fact) → n.marked s p f ≡ true → has_fact (facts_met plan walks fetches s p tasks) f ≡ true
 
 -- and what the root has once the passes of these tasks are joined to it
 pub record JoinsTasks (plan : PlanView) (walks : ℕ → Walk) (tasks : List TaskNo) (old new : Notes) : Type 0 where
@@ -55,3 +73,5 @@ pub record JoinsTasks (plan : PlanView) (walks : ℕ → Walk) (tasks : List Tas
   pub last : (t s p : ℕ) → has_task tasks t ≡ true → IsOwn plan t s p → NeverOpens plan walks t s → new.last p + 1 < 2 * s
   pub plants : new.tally.plants ≡ old.tally.plants + sum_by (λ (t : TaskNo). places_in_all plan (opened_by (last_control plan walks t.0))) tasks
   pub closes : new.tally.closes ≡ old.tally.closes + sum_by (λ (t : TaskNo). places_in_all plan (closed_by (last_control plan walks t.0))) tasks
+  pub fetches : ℕ → List (ℕ × Cell)
+  pub fetched : HaveFetched plan walks tasks new fetches

@@ -1,10 +1,13 @@
 -- What the claim of the program says by this crate's clauses.
-use Rattle.std.specs.Prelude.{◌≡◌, ℕ, ◌+◌, ◌*◌, ◌<◌, ◌≤◌, true, not, nat_eq, List, [], length, sum_by, count_by, All, Some, ◌∷◌, ◌++◌, get_or}
+use Rattle.std.specs.Prelude.{◌≡◌, ◌≢◌, ℕ, ◌+◌, ◌*◌, ◌<◌, ◌≤◌, true, not, nat_eq, Option, List, [], length, take, sum_by, count_by, All, Some, ◌∷◌, ◌++◌, get_or}
 use Rattle.cov_base.specs.declared.facts.Fact.{Fact}
-use Rattle.cov_base.specs.Meaning.{has_fact, is_within, Visit, FactSet}
-use Rattle.module_area.specs.Meaning.{fact_count, full_places, full_pairs, facts_at, visits_at_places, FinalsView, set_at, PlanView, ControlledView, place_of, kind_at, window_at, is_over}
+use Rattle.cov_base.specs.declared.numbers.TaskNo.{TaskNo}
+use Rattle.cov_base.specs.Meaning.{has_fact, is_within, no_facts, union, Visit, FactSet}
+use Rattle.module_area.specs.Meaning.{fact_count, full_places, full_pairs, facts_at, visits_at_places, FinalsView, set_at, PlanView, ControlledView, place_of, kind_at, window_at, has_place, is_over, first_control, tag_session}
+use Rattle.module_area.specs.declared.cells.Cell.{Cell}
 use Rattle.module_area.specs.declared.tallies.Tally.{Tally}
-use Rattle.task_run.specs.Meaning.{Walk, Course, solo, walk, IsBetween, least_set, most_set, opened_places, closed_places}
+use Rattle.svc_monitor.specs.Meaning.{at_places, facts_under}
+use Rattle.task_run.specs.Meaning.{tag_by, Walk, Course, solo, walk, IsBetween, least_set, most_set, opened_places, closed_places}
 use Rattle.s370_exec.specs.Meaning.{Run}
 use Rattle.module_area.specs.declared.places.Place.{Place}
 use Rattle.brk_table.specs.Meaning.{memory_of}
@@ -16,8 +19,34 @@ use Rattle.session_book.specs.Meaning.{JobView, ResultView, task_of, session_of,
 pub record IsBounded (plan : PlanView) (walks : ℕ → Walk) (f : FinalsView) (c : ControlledView) : Type 0 where
   pub between : All (λ p. IsBetween (least_set plan walks c.by c.session (place_of plan.places p.0)) (most_set plan walks c.by c.session (place_of plan.places p.0)) (set_at f c.session p.0)) c.places
 
--- The sets of whole sessions are what the trace shows, and those of controlled sessions lie between their bounds; where a
--- session isn't over a place its set is empty there. Each place with a window was planted once, and each place of a
+-- Place and cell of the fetch at a visit of task t. A tag that is not 0 is of a session over the place. Where the task
+-- controls a session there the tag is the last that its calls before have given the place.
+pub record IsFetch (plan : PlanView) (t : ℕ) (calls : List (Option ℕ)) (x : ℕ × Cell) (v : Visit) : Type 0 where
+  pub exists : x.0 < length plan.places
+  pub at : (place_of plan.places x.0).at ≡ v.at
+  pub over : x.1.tag ≢ 0 → is_over plan (tag_session x.1.tag) x.0 ≡ true
+  pub own : All (λ c. c.by ≡ t → has_place c.places x.0 ≡ true → x.1.tag ≡ tag_by plan x.0 (first_control plan t) 0 (take v.before calls)) plan.controlled
+
+-- one for each of the visits, in order
+abbrev pub AreFetches : PlanView → ℕ → List (Option ℕ) → List (ℕ × Cell) → List Visit → Type 0
+AreFetches plan t calls [] [] = Unit {0}
+AreFetches plan t calls (x ∷ xs) (v ∷ vs) = IsFetch plan t calls x v × AreFetches plan t calls xs vs
+AreFetches plan t calls xs vs = ⊥
+
+-- by the fetches of each task, the facts of these tasks' visits at the place whose fetch answered the session's odd tag
+abbrev pub facts_met : PlanView → (ℕ → Walk) → (ℕ → List (ℕ × Cell)) → ℕ → ℕ → List TaskNo → FactSet
+facts_met plan walks fetches s p [] = no_facts
+facts_met plan walks fetches s p (t ∷ ts) = union (facts_under plan s p (fetches t.0) (at_places plan.places (walks t.0).trace)) (facts_met plan walks fetches s p ts)
+
+-- Each task has fetched once for each of its visits at places, and each set has exactly the facts of the visits whose fetch
+-- answered the session's odd tag: so no visit counts in two sessions.
+pub record IsExact (plan : PlanView) (walks : ℕ → Walk) (f : FinalsView) : Type 0 where
+  pub fetches : ℕ → List (ℕ × Cell)
+  pub each : All (λ t. AreFetches plan t.0 (walks t.0).calls (fetches t.0) (at_places plan.places (walks t.0).trace)) plan.tasks
+  pub sets : (s p : ℕ) → 0 < s → s ≤ plan.sessions → p < length plan.places → set_at f s p ≡ facts_met plan walks fetches s p plan.tasks
+
+-- The sets of whole sessions are what the trace shows, and those of controlled sessions lie between their bounds; all are
+-- exact by what the fetches answered. Where a session isn't over a place its set is empty there. Each place with a window was planted once, and each place of a
 -- controlled session where its controller's run opens it; it was closed there where that run closes it. Each visit at a
 -- place fetched once. The lifts are no fewer than the places whose whole session's set is full, and no more than the
 -- sessions and places whose set is full.
@@ -26,6 +55,7 @@ pub record EndsArea (plan : PlanView) (walks : ℕ → Walk) (trace : List Visit
   pub size : length f.sets ≡ plan.sessions * length plan.places
   pub sets : (p : ℕ) → p < length plan.places → 0 < window_at plan p → set_at f (window_at plan p) p ≡ facts_at (place_of plan.places p) trace
   pub bounded : All (IsBounded plan walks f) plan.controlled
+  pub exact : IsExact plan walks f
   pub within : (s p : ℕ) → 0 < s → s ≤ plan.sessions → p < length plan.places → is_within (kind_at plan p) (set_at f s p) ≡ true
   pub over : (s p : ℕ) (g : Fact) → 0 < s → s ≤ plan.sessions → p < length plan.places → has_fact (set_at f s p) g ≡ true → is_over plan s p ≡ true
   pub plants : t.plants ≡ count_by (λ w. not (nat_eq w 0)) plan.windows + opened_places plan walks

@@ -14,7 +14,8 @@ use Rattle.brk_table.proofs.PlaceLemmas.{is_place-there}
 use Rattle.observed_step.specs.Sights.{BeginsAt}
 use Rattle.svc_monitor.specs.Settled.{Settles}
 use Rattle.svc_monitor.specs.Observed.{Grows}
-use Rattle.svc_monitor.specs.Answered.{at_places, ArePairs, is_under, facts_under, LeavesSessions, Answered, Makes}
+use Rattle.svc_monitor.specs.Answered.{ArePairs, LeavesSessions, Answered, Makes}
+use Rattle.svc_monitor.specs.Meaning.{at_places, is_under, facts_under}
 use Rattle.svc_monitor.proofs.NotesLemmas.{Adds, Adds-settled, seen_fetched, all_three, three_from}
 use Rattle.svc_monitor.proofs.ObservedLemmas.{has_fact-more, has_fact-none, or_apart, same_fact-self, shown_later, Observes-none, Observes-plain, Observes-kept, Observes-settled, Observes-append}
 
@@ -77,6 +78,7 @@ ArePairs-same plan old mid last next (x ∷ xs) [] l b o a = absurd a
 ArePairs-same plan old mid last next (x ∷ xs) (v ∷ vs) l b o a = (
   record {
     begins = a.0.begins;
+    over = a.0.over;
     kept = λ k. a.0.kept ((λ i. keeps_as plan (b i) (o i) x.0) ∙ k) ∙ l v (inl refl) x.0;
   },
   ArePairs-same plan old mid last next xs vs (λ w there. l w (inr there)) b o a.1,
@@ -120,7 +122,7 @@ under_one plan s p x v place tag begun =
 
 -- the pair of one visit
 own_pair : (plan : PlanView) (old : Notes) (q : ℕ) (cell : Cell) (v : Visit) → BeginsAt plan.places v.at q → IsAnswer plan old q cell → ArePairs plan old (λ before. old.last) ((q, cell) ∷ []) (at_places plan.places (v ∷ []))
-own_pair plan old q cell v b a = subst (ArePairs plan old (λ before. old.last) ((q, cell) ∷ [])) (sym (only_there plan v q b)) (record { begins = b; kept = a.kept }, tt)
+own_pair plan old q cell v b a = subst (ArePairs plan old (λ before. old.last) ((q, cell) ∷ [])) (sym (only_there plan v q b)) (record { begins = b; over = a.over; kept = a.kept }, tt)
 
 -- one visit at no place
 

@@ -5,6 +5,7 @@ pub mod GoneLemmas
 pub mod RanLemmas
 pub mod RunLemmas
 pub mod SetLemmas
+pub mod TagLemmas
 pub mod TallyLemmas
 pub mod VisitLemmas
 pub mod WindowLemmas

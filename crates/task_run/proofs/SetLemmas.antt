@@ -21,7 +21,7 @@ use Rattle.svc_monitor.proofs.ObservedLemmas.{has_fact-none, facts_at-more, fact
 
 -- sets with the same facts
 
-same_sets : (a b : FactSet) → ((f : Fact) → has_fact a f ≡ has_fact b f) → a ≡ b
+pub same_sets : (a b : FactSet) → ((f : Fact) → has_fact a f ≡ has_fact b f) → a ≡ b
 same_sets a b h =
     let ran : a.ran ≡ b.ran = h Ran in
     let went : a.went ≡ b.went = h Went in
@@ -36,7 +36,7 @@ has_fact-full_of Conditional Ran h = h
 has_fact-full_of Conditional Went h = refl
 has_fact-full_of Conditional Stayed h = refl
 
-is_of_kind-fact_of : (k : Kind) (went : Bool) → is_of_kind k (fact_of k went) ≡ true
+pub is_of_kind-fact_of : (k : Kind) (went : Bool) → is_of_kind k (fact_of k went) ≡ true
 is_of_kind-fact_of Straight went = refl
 is_of_kind-fact_of Conditional true = refl
 is_of_kind-fact_of Conditional false = refl

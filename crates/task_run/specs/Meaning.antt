@@ -1,7 +1,7 @@
 -- What the claim of the program says by this crate's clauses.
-use Rattle.std.specs.Prelude.{ℕ, Option, Some, None, List, [], ◌∷◌, length, ◌≡◌, Bool, true, false, not, nat_eq, if◌then◌else◌, take}
+use Rattle.std.specs.Prelude.{ℕ, ◌-◌, ◌*◌, ◌==◌, Option, Some, None, List, [], ◌∷◌, length, ◌≡◌, Bool, true, false, not, nat_eq, if◌then◌else◌, take}
 use Rattle.std.specs.List.{sum_by, filter}
-use Rattle.module_area.specs.Meaning.{PlanView, ControlView, places_under, control_after, first_control, facts_at, facts_of_all, has_session}
+use Rattle.module_area.specs.Meaning.{PlanView, ControlView, has_place, places_under, to_open, control_after, first_control, facts_at, facts_of_all, has_session}
 use Rattle.cov_base.specs.declared.numbers.SessNo.{SessNo}
 use Rattle.cov_base.specs.Meaning.{Memory, State, Visit, FactSet, no_facts, has_fact, union}
 use Rattle.s370_exec.specs.Meaning.{Run, solo_run}
@@ -24,6 +24,24 @@ places_of plan (Some s) = length (places_under plan s.0)
 
 abbrev pub places_in_all : PlanView → List SessNo → ℕ
 places_in_all plan sessions = sum_by (λ (s : SessNo). places_of plan (Some s)) sessions
+
+-- the tag of place p once this session, if there is one, was opened there, or closed; before that it had this one
+abbrev pub tag_opened : PlanView → ℕ → ℕ → Option SessNo → ℕ
+tag_opened plan p tag None = tag
+tag_opened plan p tag (Some s) = if has_place (places_under plan s.0) p then 2 * s.0 - 1 else tag
+
+abbrev pub tag_closed : PlanView → ℕ → ℕ → Option SessNo → ℕ
+tag_closed plan p tag None = tag
+tag_closed plan p tag (Some s) = if has_place (places_under plan s.0) p then 2 * s.0 else tag
+
+abbrev pub tag_after : PlanView → ℕ → ControlView → ℕ → Option ℕ → ℕ
+tag_after plan p c tag None = tag
+tag_after plan p c tag (Some k) = if k == 4 then tag_opened plan p tag (to_open c) else (if k == 5 then tag_closed plan p tag c.opened else tag)
+
+-- the tag that the place has after these calls: of session s, 2s-1 while it is open and 2s behind that
+abbrev pub tag_by : PlanView → ℕ → ControlView → ℕ → List (Option ℕ) → ℕ
+tag_by plan p c tag [] = tag
+tag_by plan p c tag (k ∷ ks) = tag_by plan p (control_after c k) (tag_after plan p c tag k) ks
 
 -- The course that a task takes: how it runs.
 

@@ -1,15 +1,14 @@
-use Rattle.std.proofs.Common.{◌≡◌, ℕ, ◌<◌, ◌≤◌, true, false, length, get_or, refl, sym, ◌∙◌, ap, subst, arith}
+use Rattle.std.proofs.Common.{◌≡◌, ℕ, ◌<◌, true, false, length, get_or, refl, sym, ◌∙◌, ap, subst, arith}
 use Rattle.std.proofs.lemmas.List.{get_or_default}
 use Rattle.module_area.specs.Meaning.{first_control, PlanView}
-use Rattle.job_run.specs.Crews.{Each, Own, phase_at}
+use Rattle.job_run.specs.Crews.{Own, phase_at}
 use Rattle.job_run.specs.Passes.{HasStart}
 use Rattle.job_run.specs.Slots.{in_phase}
 use Rattle.job_run.specs.Tasks.{HasNotRun}
 use Rattle.job_run.specs.declared.slots.Slot.{Slot}
-use Rattle.job_run.proofs.EachLemmas.{Along-all, Along-one, Along-other, Along-start}
+use Rattle.job_run.proofs.EachLemmas.{Along-one, Along-other, Along-start}
 use Rattle.job_run.proofs.EquipLemmas.{IsEquippedSlot, all_ready, begun_in, others_kept, still_run}
 use Rattle.job_run.proofs.SlotLemmas.{plan_here}
-use Rattle.job_run.proofs.area.equip_all.Given as given
 use Rattle.job_run.proofs.area.equip_all.Goals as goal
 use Rattle.job_run.proofs.area.equip_all.Goals.{then-is_of+in_ok-control+in_ok-extra, else-is_of}
 

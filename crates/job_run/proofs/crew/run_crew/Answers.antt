@@ -1,12 +1,11 @@
-use Rattle.std.proofs.Common.{◌≡◌, ℕ, ◌+◌, ◌<◌, ◌≤◌, true, false, Some, None, List, length, get_or, set, refl, sym, ◌∙◌, ap, subst, arith}
+use Rattle.std.proofs.Common.{◌≡◌, ℕ, ◌+◌, ◌<◌, ◌≤◌, None, List, length, get_or, set, refl, sym, ◌∙◌, ap, subst, arith}
 use Rattle.cov_base.specs.declared.numbers.TaskNo.{TaskNo}
-use Rattle.job_run.specs.Crews.{PhaseView, IsTaskOf, HasGone, IsBack, Own, all_tasks, is_its, tasks_before}
+use Rattle.job_run.specs.Crews.{PhaseView, HasGone, IsBack, Own, all_tasks}
 use Rattle.job_run.proofs.BeforeLemmas.{before_all, before_other}
-use Rattle.job_run.proofs.CrewLemmas.{IsTaken, all_gone, can_all, is_back, is_taken, not_its, others_none, stays_out, still_known}
+use Rattle.job_run.proofs.CrewLemmas.{all_gone, can_all, is_back, is_taken, not_its, others_none, stays_out, still_known}
 use Rattle.job_run.proofs.EachLemmas.{Along, Along-all, Along-more, Along-one, Along-start}
 use Rattle.job_run.proofs.TaskLemmas.{no_slot}
 use Rattle.job_run.specs.declared.slots.Slot.{Slot}
-use Rattle.job_run.proofs.crew.run_crew.Given as given
 use Rattle.job_run.proofs.crew.run_crew.Goals as goal
 use Rattle.job_run.proofs.crew.run_crew.Goals.{in-Some, in_default}
 

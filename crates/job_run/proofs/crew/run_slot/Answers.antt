@@ -1,5 +1,5 @@
 use Rattle.std.proofs.Common.{Some, refl, sym, subst}
-use Rattle.job_run.specs.Crews.{CanGo, GoesWith}
+use Rattle.job_run.specs.Crews.{GoesWith}
 use Rattle.job_run.specs.declared.slots.Slot.{Slot}
 use Rattle.job_run.proofs.crew.run_slot.Goals as goal
 

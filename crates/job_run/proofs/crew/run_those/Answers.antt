@@ -1,4 +1,4 @@
-use Rattle.std.proofs.Common.{◌≡◌, ◌≤◌, false, length, sym, ◌∙◌, ap, arith}
+use Rattle.std.proofs.Common.{◌≤◌, length, ◌∙◌, ap, arith}
 use Rattle.job_run.specs.Crews.{PhaseView, CanGo, Goes, is_its}
 use Rattle.job_run.proofs.CrewLemmas.{stands_still}
 use Rattle.job_run.proofs.RangeLemmas.{all_after, each_in_part, part_size}

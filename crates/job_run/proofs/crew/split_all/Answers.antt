@@ -1,11 +1,9 @@
-use Rattle.std.proofs.Common.{◌≡◌, ℕ, ◌+◌, ◌<◌, ◌≤◌, true, false, nat_eq, Some, [], List, length, get_or, refl, sym, ◌∙◌, ap, subst, arith}
+use Rattle.std.proofs.Common.{◌≡◌, ℕ, ◌<◌, ◌≤◌, true, false, Some, [], List, length, refl, sym, ◌∙◌, ap, subst, arith}
 use Rattle.cov_base.specs.declared.numbers.TaskNo.{TaskNo}
-use Rattle.session_book.specs.Meaning.{task_of}
-use Rattle.job_run.specs.Crews.{PhaseView, IsTaskOf, Own, GetsPass, is_its, tasks_before}
+use Rattle.job_run.specs.Crews.{PhaseView, Own, GetsPass, is_its}
 use Rattle.job_run.specs.declared.slots.Slot.{Slot}
 use Rattle.job_run.proofs.BeforeLemmas.{before_all, before_other}
 use Rattle.job_run.proofs.EachLemmas.{Along-all, Along-one, Along-other, Along-start}
-use Rattle.job_run.proofs.crew.split_all.Given as given
 use Rattle.job_run.proofs.crew.split_all.Goals as goal
 use Rattle.job_run.proofs.crew.split_all.Goals.{then-is_of, else-is_of}
 

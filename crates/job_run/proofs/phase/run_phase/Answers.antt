@@ -1,5 +1,5 @@
-use Rattle.std.proofs.Common.{◌≡◌, ℕ, ◌+◌, true, false, not, ◌&&◌, List, IfOk, length, refl, sym, ap, subst, ◌∙◌, arith}
-use Rattle.cov_base.specs.Meaning.{FactSet, Visit}
+use Rattle.std.proofs.Common.{◌≡◌, ℕ, true, false, not, ◌&&◌, List, IfOk, length, refl, sym, ap, subst, ◌∙◌, arith}
+use Rattle.cov_base.specs.Meaning.{Visit}
 use Rattle.cov_base.specs.declared.numbers.TaskNo.{TaskNo}
 use Rattle.module_area.specs.Notes.{Notes, calls}
 use Rattle.module_area.specs.Meaning.{PlanView}

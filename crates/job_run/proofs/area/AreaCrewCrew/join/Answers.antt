@@ -1,4 +1,4 @@
-use Rattle.std.proofs.Common.{◌≡◌, ℕ, true, not, ◌&&◌, Option, unwrap_or, List, refl, sym, ◌∙◌, ap, subst, arith}
+use Rattle.std.proofs.Common.{◌≡◌, ℕ, Option, unwrap_or, List, refl, sym, ◌∙◌, ap, subst, arith}
 use Rattle.std.proofs.lemmas.Bool.{or_left, or_right}
 use Rattle.cov_base.specs.declared.numbers.TaskNo.{TaskNo}
 use Rattle.module_area.specs.Notes.{Notes, after_join, bearer}
@@ -37,7 +37,7 @@ returns-clause-root g c =
     subst (λ (ts : List TaskNo). HasJoined (g.C.Cells.is_pass me.cells.now) g.C.Cells.notes me.plan.now g.R.Runner.course me.job.now me.tables.now.places c.join.new.root (all_tasks p) ts)
     (sym (before_one p t c.requires.task))
     (taken-one (g.C.Cells.is_pass me.cells.now) g.C.Cells.notes me.plan.now g.R.Runner.course me.job.now me.tables.now.places c.args.root.now c.join.new.root c.args.pass (all_tasks p) (tasks_before p t) t
-    c.requires.fit.is_plan c.join.ensures.area (c.join.ensures.notes ∙ ap (λ (q : PlanView). after_join q notes (g.C.Cells.notes c.args.pass)) c.requires.fit.cells) c.requires.root c.requires.run)
+    c.requires.fit.is_plan (not_before p t c.requires.task.exists) c.join.ensures.area (c.join.ensures.notes ∙ ap (λ (q : PlanView). after_join q notes (g.C.Cells.notes c.args.pass)) c.requires.fit.cells) c.requires.root c.requires.run)
 
 pub returns-clause-known : goal.returns-clause-known
 returns-clause-known g c s q x settled =

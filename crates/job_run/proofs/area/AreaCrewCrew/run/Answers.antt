@@ -1,13 +1,13 @@
 use Rattle.std.proofs.Common.{◌≡◌, ℕ, Some, refl, sym, ◌∙◌, ap, subst, arith}
 use Rattle.std.proofs.lemmas.Option.{same_Some}
-use Rattle.module_area.specs.Meaning.{ControlView, first_control, PlanView}
+use Rattle.module_area.specs.Meaning.{ControlView, PlanView}
 use Rattle.module_area.specs.Ended.{AreSettled}
 use Rattle.module_area.specs.Notes.{Notes, bearer, calls, is_working}
 use Rattle.module_area.specs.Tied.{IsTied}
 use Rattle.observed_step.specs.Steps.{memory_at}
 use Rattle.svc_monitor.specs.First.{IsOver}
 use Rattle.task_run.specs.Ran.{RanAs}
-use Rattle.job_run.specs.Passes.{HasSeen, Runs, after_planting}
+use Rattle.job_run.specs.Passes.{after_planting}
 use Rattle.job_run.specs.declared.outcome.Done.{Done}
 use Rattle.job_run.proofs.SlotLemmas.{first_of, is_over_begun, plan_here, seen_by, tied_of}
 use Rattle.job_run.proofs.TaskLemmas.{has_ended, is_task}

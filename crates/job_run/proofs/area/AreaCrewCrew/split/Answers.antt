@@ -1,4 +1,4 @@
-use Rattle.std.proofs.Common.{◌≡◌, ℕ, [], List, refl, sym, ◌∙◌, ap, subst}
+use Rattle.std.proofs.Common.{ℕ, [], List, refl, sym, ◌∙◌, ap, subst}
 use Rattle.cov_base.specs.declared.numbers.TaskNo.{TaskNo}
 use Rattle.module_area.specs.Notes.{Notes, split_notes}
 use Rattle.module_area.specs.Meaning.{PlanView}
