@@ -74,6 +74,7 @@ module _ (plan : PlanView) (ok : IsPlan plan) (fits : AllFit plan (length plan.p
   begins_area = let F : List ℕ = front plan (starting plan) in record {
     wide = let a = length-append (map original_of plan.places) idle in let b = length-map plan.places original_of in let c = length-replicate (word_count plan - length plan.places) zero in
         let d = words_enough plan in omega (arith, a, b, c, d);
+    rooted = (blank Root, refl, refl);
     held = begins plan (cells_in F) (sets_in plan F) ok plain (λ s p f _ _ h. nothing (kind_at plan p) p f (subst (λ w. has_fact (facts_of (kind_at plan p) p w) f ≡ true) (first_set s p) h));
     drained = begins_drained plan (cells_in F) (sets_in plan F) (numbers_in plan (starting plan)) (λ t. no_number t (has_task plan.tasks t));
   }

@@ -5,6 +5,7 @@ use Rattle.atomic_table.specs.Table.{Allows}
 use Rattle.atomic_table.specs.declared.shared.Seat.{Seat}
 use Rattle.cov_base.specs.declared.facts.Fact.{Fact}
 use Rattle.cov_base.specs.Meaning.{FactSet, breakpoint}
+use Rattle.module_area.specs.declared.cells.Cell.{Cell}
 use Rattle.module_area.specs.declared.parties.View.{View}
 use Rattle.module_area.specs.declared.parties.Role.{Role}
 use Rattle.module_area.specs.declared.parties.Role.TheVariants.{Root, Task, Spent}
@@ -18,7 +19,7 @@ use Rattle.shared_area.specs.declared.rule.NoSlot.{NoSlot}
 use Rattle.shared_area.specs.declared.cells.SharedCells.{SharedCells}
 use Rattle.shared_area.specs.Words.{cell_of, word_of, closed_word_of, bit_of, facts_of, set_word, task_word}
 use Rattle.shared_area.specs.Told.{is_given, bears_as, notes_in}
-use Rattle.shared_area.specs.Rule.{IsArea, Fetched, MayMark, Marked, Looked, Lifted, SetRead}
+use Rattle.shared_area.specs.Rule.{IsArea, MayFetch, Fetched, MayMark, Marked, Looked, Lifted, SetRead}
 use Rattle.shared_area.proofs.Picked.{Tagged, Bounded, WordNoted, tag_in, session_in, task_at}
 use Rattle.shared_area.proofs.WordLemmas.{session_in-word_of, tag_in-word_of, tag_in-closed_word_of, words_enough, words_some, cell_front, set_front, task_there, task_at-task_word}
 use Rattle.shared_area.proofs.NoteLemmas.{more_given}
@@ -38,8 +39,8 @@ length-add_if : {X : Type 0} (b : Bool) (x : X) (xs : List X) (n k : ℕ) → n 
 length-add_if true x xs n k e h = omega arith
 length-add_if false x xs n k e h = omega arith
 
-pub fetch_live : (plan : PlanView) (p w a b : ℕ) (v v' : View) → v' ≡ fetching plan p (cell_of w) v → IsLive a b v → IsLive a b v'
-fetch_live plan p w a b v v' e h = subst (IsLive a b) (sym e) record { live = h.live; counted = h.counted; given = h.given }
+pub fetch_live : (plan : PlanView) (p : ℕ) (c : Cell) (a b : ℕ) (v v' : View) → v' ≡ fetching plan p c v → IsLive a b v → IsLive a b v'
+fetch_live plan p c a b v v' e h = subst (IsLive a b) (sym e) record { live = h.live; counted = h.counted; given = h.given }
 
 pub mark_live : (plan : PlanView) (s p : ℕ) (f : Fact) (found : FactSet) (a b : ℕ) (v v' : View) → v' ≡ marking plan s p f found v → IsLive a b v → IsLive (a + 1) b v'
 mark_live plan s p f found a b v v' e h = subst (IsLive (a + 1) b) (sym e) record { live = h.live; counted = ((let c = h.counted.0 in omega arith), h.counted.1); given = h.given }
@@ -81,13 +82,16 @@ module _ (me : SharedCells) where
   set_there : (s p i : ℕ) → 0 < s → s ≤ me.plan.sessions → p < length me.plan.places → i ≡ set_word (length me.plan.places) s p → i < me.table.shared.table_id.words
   set_there s p i pos ls l e = let a = set_front me.plan s p pos ls l in let b = words_enough me.plan in let w = me.wide in omega (arith, a, b, w, e)
 
-  pub fetch_at : (seat : Seat NoSlot View) (p t : ℕ) → seat.me.0.role ≡ Task t → last_tag t seat.me.0.numbers % 2 ≢ 1 → seat.me.0.role ≢ Spent → p < length me.plan.places
-      → Allows (IsArea me.table.shared.key.value) me.table.shared.table_id.slots seat.id seat.me p (λ w. w) (λ w m. Fetched me.table.shared.key.value p seat.me.0 w m.0 × (m.1 ≡ seat.me.1))
-  fetch_at seat p t bears even live l = subst (λ (q : PlanView). Allows (IsArea q) me.table.shared.table_id.slots seat.id seat.me p (λ w. w) (λ w m. Fetched q p seat.me.0 w m.0 × (m.1 ≡ seat.me.1))) (sym me.keyed)
-      (fetch_stands me.plan me.table.shared.table_id.slots seat.id p t seat.me bears even live l)
+  -- a fetch, by what the call picked: its plan and place
+  pub fetch_at : (seat : Seat NoSlot View) (p : ℕ) → MayFetch me.plan p seat.me.0 → (plan : PlanView) (q : ℕ) → (plan ≡ me.plan) × (q ≡ p)
+      → Allows (IsArea me.table.shared.key.value) me.table.shared.table_id.slots seat.id seat.me p (λ w. w) (λ w m. Fetched plan q seat.me.0 (cell_of w) m.0 × (m.1 ≡ seat.me.1))
+  fetch_at seat p may plan q picked =
+      subst (λ (z : PlanView × PlanView × ℕ). Allows (IsArea z.0) me.table.shared.table_id.slots seat.id seat.me p (λ w. w) (λ w m. Fetched z.1 z.2 seat.me.0 (cell_of w) m.0 × (m.1 ≡ seat.me.1)))
+      (λ j. (sym me.keyed j, sym picked.0 j, sym picked.1 j)) (fetch_stands me.plan me.table.shared.table_id.slots seat.id p may.task seat.me may.bears may.even may.live may.place)
 
-  pub fetched_is : (v v' : View) (p w : ℕ) → Fetched me.table.shared.key.value p v w v' → Fetched me.plan p v w v'
-  fetched_is v v' p w h = subst (λ (q : PlanView). Fetched q p v w v') me.keyed h
+  -- and what it told
+  pub fetched_is : (v v' : View) (p : ℕ) (c : Cell) (plan : PlanView) (q : ℕ) → (plan ≡ me.plan) × (q ≡ p) → Fetched plan q v c v' → Fetched me.plan p v c v'
+  fetched_is v v' p c plan q picked h = subst (λ (z : PlanView × ℕ). Fetched z.0 z.1 v c v') (λ j. (picked.0 j, picked.1 j)) h
 
   -- the two steps of a mark, by what the call picked: its plan, session, place and fact
   module _ (seat : Seat NoSlot View) (s p : ℕ) (f : Fact) (i : ℕ) (may : MayMark me.plan s p f seat.me.0) (at : i ≡ set_word (length me.plan.places) s p) (plan : PlanView) (t q : ℕ) (g : Fact)

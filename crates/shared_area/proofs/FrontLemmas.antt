@@ -12,7 +12,7 @@ use prog.Atomic.{either}
 use Rattle.atomic_table.proofs.Lists.{set_else, set_again}
 use Rattle.atomic_table.specs.Table.{State, Me, Allows, Splits, Joins, carried_after}
 use Rattle.cov_base.specs.declared.facts.Fact.{Fact}
-use Rattle.cov_base.specs.Meaning.{has_fact, breakpoint}
+use Rattle.cov_base.specs.Meaning.{FactSet, has_fact, breakpoint}
 use Rattle.module_area.specs.declared.cells.Cell.{Cell}
 use Rattle.module_area.specs.declared.parties.View.{View}
 use Rattle.module_area.specs.declared.parties.Role.TheVariants.{Root, Task, Spent}
@@ -28,6 +28,7 @@ use Rattle.shared_area.specs.Words.{cell_of, word_of, closed_word_of, bit_of, fa
 use Rattle.shared_area.specs.Rule.{IsArea, Fetched, MayMark, Marked, Looked, Lifted}
 use Rattle.shared_area.proofs.Picked.{IsFront, Tagged}
 use Rattle.shared_area.proofs.WordLemmas.{cell_of-word_of, cell_of-closed_word_of, cell_front, set_front}
+use Rattle.shared_area.proofs.RootLemmas.{rooted_set, rooted_more, rooted_other}
 use Rattle.shared_area.proofs.TableLemmas.{added, other_cell, cell_no_set, set_no_cell, other_set, lift_did, fetch_allowed, mark_allowed, look_allowed, lift_allowed, plant_allowed, close_allowed}
 
 waits_by : (b : Bool) (y z : ℕ × ℕ) → (if b then Some y else None) ≡ Some z → y ≡ z
@@ -54,12 +55,13 @@ module _ (plan : PlanView) where
   abbrev pub DrainedOf : List ℕ → List ℕ → List View → Type 0
   DrainedOf ws all views = Drained plan (cells_in ws) (sets_in plan ws) (numbers_in plan all) views
 
-  -- a step on cells and sets is one with the tasks' words behind, where it keeps the rule's part on these
+  -- a step on cells and sets is one with the tasks' words behind, where it keeps the rule's part on these, and the role
   pub wider : (slots id i : ℕ) (me : Me NoSlot View) (f : ℕ → ℕ) (tells : ℕ → Me NoSlot View → Type 0) → i < base_of plan → Allows (IsFront plan) slots id me i f tells
+      → ((w : ℕ) (m : Me NoSlot View) → tells w m → m.0.role ≡ me.0.role)
       → ((s : St) → IsArea plan s → get_elem? s.views id ≡ some me.0 → (m : Me NoSlot View) → tells (get_or (front plan s.words) i 0) m
       → DrainedOf (set (front plan s.words) i (f (get_or (front plan s.words) i 0))) s.words (set s.views id m.0))
       → Allows (IsArea plan) slots id me i f tells
-  wider slots id i me f tells li old drains s r homes at lt =
+  wider slots id i me f tells li old plays drains s r homes at lt =
       let here : get_or (front plan s.words) i 0 ≡ get_or s.words i 0 = get_or-take (base_of plan) s.words i 0 li in
       let x : ℕ = f (get_or s.words i 0) in
       let o = old (front_state s) (front_of s r) homes at (subst (λ k. k < 18446744073709551616) (sym here) lt) in
@@ -69,6 +71,7 @@ module _ (plan : PlanView) where
         o.2,
         record {
           wide = let w = r.wide in let n = length-set s.words i x in omega (arith, w, n);
+          rooted = rooted_set s.views id me.0 o.0 at (plays (get_or (front plan s.words) i 0) (o.0, carried_after me.1 o.1) o.4) r.rooted;
           held = subst (λ ws. Held plan (cells_in ws) (sets_in plan ws) (set s.views id o.0)) same o.3.held;
           drained = subst (λ (z : List ℕ × (ℕ → ℕ)). Drained plan (cells_in z.0) (sets_in plan z.0) z.1 (set s.views id o.0)) (λ j. (same j, sym (numbers_kept s.words i x li) j))
               (drains s r at (o.0, carried_after me.1 o.1) o.4);
@@ -77,8 +80,8 @@ module _ (plan : PlanView) where
       )
 
   pub fetch_stands : (slots id p t : ℕ) (me : Me NoSlot View) → me.0.role ≡ Task t → last_tag t me.0.numbers % 2 ≢ 1 → me.0.role ≢ Spent → p < length plan.places
-      → Allows (IsArea plan) slots id me p (λ w. w) (λ w me'. Fetched plan p me.0 w me'.0 × (me'.1 ≡ me.1))
-  fetch_stands slots id p t me bears even live l = wider slots id p me (λ w. w) (λ w me'. Fetched plan p me.0 w me'.0 × (me'.1 ≡ me.1)) (cell_front plan p l) (fetch_allowed plan slots id p me live l)
+      → Allows (IsArea plan) slots id me p (λ w. w) (λ w me'. Fetched plan p me.0 (cell_of w) me'.0 × (me'.1 ≡ me.1))
+  fetch_stands slots id p t me bears even live l = wider slots id p me (λ w. w) (λ w me'. Fetched plan p me.0 (cell_of w) me'.0 × (me'.1 ≡ me.1)) (cell_front plan p l) (fetch_allowed plan slots id p me live l) (λ w m told. ap (λ (v : View). v.role) told.0.after)
       (λ s r at m told. let F : List ℕ = front plan s.words in let c : Cell = cell_of (get_or F p 0) in
       subst (λ (z : List ℕ × View). DrainedOf z.0 s.words (set s.views id z.1)) (λ j. (sym (set-get_or F p 0) j, sym told.0.after j))
       (fetch_drained plan (cells_in F) (sets_in plan F) (numbers_in plan s.words) s.views r.held r.drained id me.0 at t p c (fetching plan p c me.0) bears even refl
@@ -87,7 +90,7 @@ module _ (plan : PlanView) where
   pub mark_stands : (slots id s p : ℕ) (f : Fact) (me : Me NoSlot View) → MayMark plan s p f me.0
       → Allows (IsArea plan) slots id me (set_word (length plan.places) s p) (λ x. bit_or x (2 ^ bit_of p f)) (λ w me'. Marked plan s p f me.0 (facts_of (kind_at plan p) p w) me'.0 × (me'.1 ≡ me.1))
   mark_stands slots id s p f me may = let i : ℕ = set_word (length plan.places) s p in let inside = set_front plan s p may.session may.in_plan may.place in
-      wider slots id i me (λ x. bit_or x (2 ^ bit_of p f)) (λ w me'. Marked plan s p f me.0 (facts_of (kind_at plan p) p w) me'.0 × (me'.1 ≡ me.1)) inside (mark_allowed plan slots id s p f me may)
+      wider slots id i me (λ x. bit_or x (2 ^ bit_of p f)) (λ w me'. Marked plan s p f me.0 (facts_of (kind_at plan p) p w) me'.0 × (me'.1 ≡ me.1)) inside (mark_allowed plan slots id s p f me may) (λ w m told. ap (λ (v : View). v.role) told.0.after)
       (λ st r at m told. let F : List ℕ = front plan st.words in let x : ℕ = added plan F s p f in let wide = (front_of st r).wide in
       subst (λ (z : View). DrainedOf (set F i x) st.words (set st.views id z)) (sym told.0.after)
       (mark_drained plan (cells_in F) (sets_in plan F) (numbers_in plan st.words) st.views r.held r.drained id me.0 at s p may.pending may.session (cells_in (set F i x)) (sets_in plan (set F i x)) (marking plan s p f (sets_in plan F s p) me.0)
@@ -100,10 +103,15 @@ module _ (plan : PlanView) where
       refl refl refl refl refl refl refl (λ q _. refl) (λ u q _ _ _. refl))
   look_drained s r id t p f v w at may told false e = subst (λ (vs : List View). DrainedOf (front plan s.words) s.words vs) (sym (set_again s.views id v at) ∙ ap (set s.views id) (sym (told.wanting e))) r.drained
 
+  look_plays : (s p : ℕ) (f : Fact) (v w : View) (found : FactSet) → Looked plan s p f v found w → (b : Bool) → has_fact found f ≡ b → w.role ≡ v.role
+  look_plays s p f v w found told true e = ap (λ (u : View). u.role) (told.there e).after
+  look_plays s p f v w found told false e = ap (λ (u : View). u.role) (told.wanting e)
+
   pub look_stands : (slots id s p : ℕ) (f : Fact) (me : Me NoSlot View) → MayMark plan s p f me.0
       → Allows (IsArea plan) slots id me (set_word (length plan.places) s p) (λ x. x) (λ w me'. Looked plan s p f me.0 (facts_of (kind_at plan p) p w) me'.0 × (me'.1 ≡ me.1))
   look_stands slots id s p f me may = let i : ℕ = set_word (length plan.places) s p in
       wider slots id i me (λ x. x) (λ w me'. Looked plan s p f me.0 (facts_of (kind_at plan p) p w) me'.0 × (me'.1 ≡ me.1)) (set_front plan s p may.session may.in_plan may.place) (look_allowed plan slots id s p f me may)
+      (λ w m told. look_plays s p f me.0 m.0 (facts_of (kind_at plan p) p w) told.0 (has_fact (facts_of (kind_at plan p) p w) f) refl)
       (λ st r at m told. let F : List ℕ = front plan st.words in
       subst (λ ws. DrainedOf ws st.words (set st.views id m.0)) (sym (set-get_or F i 0)) (look_drained st r id s p f me.0 m.0 at may told.0 (has_fact (sets_in plan F s p) f) refl))
 
@@ -121,7 +129,7 @@ module _ (plan : PlanView) where
 
   pub lift_stands : (slots id s p : ℕ) (me : Me NoSlot View) → original_at plan p < 65536 → me.0.role ≢ Spent → p < length plan.places → 0 < s → Has (s, p) me.0.full
       → Allows (IsArea plan) slots id me p (λ x. either (eqb x (word_of s breakpoint)) (word_of s (original_at plan p)) x) (λ w me'. Lifted s p (word_of s breakpoint) me.0 w me'.0 × (me'.1 ≡ me.1))
-  lift_stands slots id s p me small live l pos met = wider slots id p me (λ x. either (eqb x (word_of s breakpoint)) (word_of s (original_at plan p)) x) (λ w me'. Lifted s p (word_of s breakpoint) me.0 w me'.0 × (me'.1 ≡ me.1)) (cell_front plan p l) (lift_allowed plan slots id s p me small live l pos met)
+  lift_stands slots id s p me small live l pos met = wider slots id p me (λ x. either (eqb x (word_of s breakpoint)) (word_of s (original_at plan p)) x) (λ w me'. Lifted s p (word_of s breakpoint) me.0 w me'.0 × (me'.1 ≡ me.1)) (cell_front plan p l) (lift_allowed plan slots id s p me small live l pos met) (λ w m told. ap (λ (v : View). v.role) told.0.after)
       (λ st r at m told. let c : ℕ = get_or (front plan st.words) p 0 in let x : ℕ = either (eqb c (word_of s breakpoint)) (word_of s (original_at plan p)) c in
       let did = lift_did plan (original_at plan p) s c x small refl in
       let tag : (cell_of c).tag ≡ (cell_of x).tag = ⊎_elim (λ a. ap (λ (z : Cell). z.tag) a.1 ∙ sym (ap (λ (z : Cell). z.tag) a.2)) (λ a. sym (ap (λ (z : Cell). z.tag) a.2)) did in
@@ -130,14 +138,14 @@ module _ (plan : PlanView) where
 
   pub plant_stands : (slots id s p : ℕ) (me : Me NoSlot View) → me.0.role ≢ Spent → p < length plan.places → Keeps plan me.0 p → 0 < s → is_over plan s p ≡ true → last_tag p me.0.planted < window_tag s
       → Allows (IsArea plan) slots id me p (λ _. word_of s breakpoint) (λ _ me'. Tagged p (window_tag s) me.0 me'.0 × (me'.1 ≡ me.1))
-  plant_stands slots id s p me live l keep pos over later = wider slots id p me (λ _. word_of s breakpoint) (λ _ me'. Tagged p (window_tag s) me.0 me'.0 × (me'.1 ≡ me.1)) (cell_front plan p l) (plant_allowed plan slots id s p me live l keep pos over later)
+  plant_stands slots id s p me live l keep pos over later = wider slots id p me (λ _. word_of s breakpoint) (λ _ me'. Tagged p (window_tag s) me.0 me'.0 × (me'.1 ≡ me.1)) (cell_front plan p l) (plant_allowed plan slots id s p me live l keep pos over later) (λ w m told. ap (λ (v : View). v.role) told.0.after)
       (λ st r at m told. let tie = r.held.ties id me.0 at p l keep in let tag : (cell_of (word_of s breakpoint)).tag ≡ window_tag s = ap (λ (z : Cell). z.tag) (cell_of-word_of s breakpoint (omega arith)) in
       subst (λ (z : View). DrainedOf (set (front plan st.words) p (word_of s breakpoint)) st.words (set st.views id z)) (sym told.0.after)
       (cell_stands st r id p (word_of s breakpoint) me.0 (planting s p me.0) at l (omega (arith, tie, tag, later)) refl refl refl refl refl refl refl))
 
   pub close_stands : (slots id s p : ℕ) (me : Me NoSlot View) → original_at plan p < 65536 → me.0.role ≢ Spent → p < length plan.places → Keeps plan me.0 p → 0 < s → is_controlled plan s p ≡ true → last_tag p me.0.planted ≡ window_tag s
       → Allows (IsArea plan) slots id me p (λ _. closed_word_of s (original_at plan p)) (λ _ me'. Tagged p (2 * s) me.0 me'.0 × (me'.1 ≡ me.1))
-  close_stands slots id s p me small live l keep pos its is_open = wider slots id p me (λ _. closed_word_of s (original_at plan p)) (λ _ me'. Tagged p (2 * s) me.0 me'.0 × (me'.1 ≡ me.1)) (cell_front plan p l) (close_allowed plan slots id s p me small live l keep pos its is_open)
+  close_stands slots id s p me small live l keep pos its is_open = wider slots id p me (λ _. closed_word_of s (original_at plan p)) (λ _ me'. Tagged p (2 * s) me.0 me'.0 × (me'.1 ≡ me.1)) (cell_front plan p l) (close_allowed plan slots id s p me small live l keep pos its is_open) (λ w m told. ap (λ (v : View). v.role) told.0.after)
       (λ st r at m told. let tie = r.held.ties id me.0 at p l keep in let tag : (cell_of (closed_word_of s (original_at plan p))).tag ≡ 2 * s = ap (λ (z : Cell). z.tag) (cell_of-closed_word_of s (original_at plan p) small) in
       subst (λ (z : View). DrainedOf (set (front plan st.words) p (closed_word_of s (original_at plan p))) st.words (set st.views id z)) (sym told.0.after)
       (cell_stands st r id p (closed_word_of s (original_at plan p)) me.0 (closing s p me.0) at l (omega (arith, tie, tag, is_open)) refl refl refl refl refl refl refl))
@@ -145,6 +153,7 @@ module _ (plan : PlanView) where
   pub split_stands : (id t : ℕ) (v : View) → v.role ≡ Root → (Has t v.given → ⊥) → has_task plan.tasks t ≡ true → Splits (IsArea plan) id v (giving t v) (newcomer plan t v)
   split_stands id t v root new task s r at = let F : List ℕ = front plan s.words in record {
     wide = r.wide;
+    rooted = rooted_more (set s.views id (giving t v)) (newcomer plan t v) (rooted_set s.views id v (giving t v) at refl r.rooted);
     held = splits plan (cells_in F) (sets_in plan F) s.views r.held id v at root t new;
     drained = split_drained plan (cells_in F) (sets_in plan F) (numbers_in plan s.words) s.views r.held r.drained id v at root t new task;
   }
@@ -152,6 +161,7 @@ module _ (plan : PlanView) where
   pub join_stands : (id k t : ℕ) (v o : View) → v.role ≡ Root → o.role ≡ Task t → Joins (IsArea plan) id v k o (joining plan v o) (blank Spent)
   join_stands id k t v o root bears s r at other there = let F : List ℕ = front plan s.words in let here : get_elem? s.views k ≡ some o = sym (set_else s.views id k (joining plan v o) other) ∙ there in record {
     wide = r.wide;
+    rooted = rooted_other (set s.views id (joining plan v o)) k t o (blank Spent) there bears (rooted_set s.views id v (joining plan v o) at refl r.rooted);
     held = joins plan (cells_in F) (sets_in plan F) s.views r.held id v at root k o here t bears other;
     drained = join_drained plan (cells_in F) (sets_in plan F) (numbers_in plan s.words) s.views r.held r.drained id v at root k o here t bears;
   }

@@ -7,6 +7,7 @@ pub mod FrontLemmas
 pub mod NoteLemmas
 pub mod PastLemmas
 pub mod Picked
+pub mod RootLemmas
 pub mod StayLemmas
 pub mod SumLemmas
 pub mod TableLemmas

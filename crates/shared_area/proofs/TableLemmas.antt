@@ -59,7 +59,7 @@ module _ (plan : PlanView) where
       ∙ (facts_of-other (kind_at plan q) p q (get_or ws i 0) f (λ m. apart (same.0, let a = same.1 in omega arith)) ∙ ap (λ k. facts_of (kind_at plan q) q (get_or ws k 0)) (sym e))))
       (λ d. ap (facts_of (kind_at plan q) q) (get_or-set_other ws i j x 0 d))
 
-  pub fetch_allowed : (slots id p : ℕ) (me : Me NoSlot View) → me.0.role ≢ Spent → p < length plan.places → Allows (IsFront plan) slots id me p (λ w. w) (λ w me'. Fetched plan p me.0 w me'.0 × (me'.1 ≡ me.1))
+  pub fetch_allowed : (slots id p : ℕ) (me : Me NoSlot View) → me.0.role ≢ Spent → p < length plan.places → Allows (IsFront plan) slots id me p (λ w. w) (λ w me'. Fetched plan p me.0 (cell_of w) me'.0 × (me'.1 ≡ me.1))
   fetch_allowed slots id p me live l s r _ at _ = let w : View = fetching plan p (cell_of (get_or s.words p 0)) me.0 in let tag = tag_small plan p (cells_in s.words p) r.held.is_plan l (r.held.site p l).form in (
     w,
     keeps,

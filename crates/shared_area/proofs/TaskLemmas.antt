@@ -23,6 +23,7 @@ use Rattle.shared_area.proofs.Picked.{Bounded, WordNoted, no_task}
 use Rattle.shared_area.proofs.WordLemmas.{set_front, position_at, task_there}
 use Rattle.shared_area.proofs.AnswerLemmas.{founds}
 use Rattle.shared_area.proofs.NoteLemmas.{settled_there}
+use Rattle.shared_area.proofs.RootLemmas.{rooted_set}
 use Rattle.shared_area.proofs.PastLemmas.{no_note, has_at, final_there}
 
 same_position : (plan : PlanView) (t u : ℕ) → has_task plan.tasks t ≡ true → has_task plan.tasks u ≡ true → position plan.tasks t ≡ position plan.tasks u → t ≡ u
@@ -53,6 +54,7 @@ module _ (plan : PlanView) where
         tt,
         subst (λ ws. IsArea plan record { words = ws; homes = s.homes; views = set s.views id w }) (sym (set-get_or s.words i 0)) record {
           wide = r.wide;
+          rooted = rooted_set s.views id me.0 w at refl r.rooted;
           held = quiet plan (cells_in F) (sets_in plan F) s.views r.held id me.0 at live w refl refl refl refl refl refl refl refl refl (λ p x e. e);
           drained = subst (λ k. Drained plan (cells_in F) (sets_in plan F) (numbers_in plan s.words) (set s.views id (noting t k me.0))) is
               (note_drained plan (cells_in F) (sets_in plan F) (numbers_in plan s.words) s.views r.held r.drained id me.0 at t);
@@ -87,6 +89,7 @@ module _ (plan : PlanView) where
         tt,
         record {
           wide = let a = r.wide in let b = length-set s.words i x in omega (arith, a, b);
+          rooted = rooted_set s.views id me.0 w at refl r.rooted;
           held = subst (λ ws. Held plan (cells_in ws) (sets_in plan ws) (set s.views id w)) (sym same)
               (quiet plan (cells_in F) (sets_in plan F) s.views r.held id me.0 at live w refl refl refl refl refl refl refl refl refl (λ p y e. absurd cc));
           drained = subst (λ ws. Drained plan (cells_in ws) (sets_in plan ws) (numbers_in plan (set s.words i x)) (set s.views id w)) (sym same)
@@ -123,6 +126,7 @@ module _ (plan : PlanView) where
         tt,
         subst (λ ws. IsArea plan record { words = ws; homes = st.homes; views = set st.views id w }) (sym (set-get_or st.words i 0)) record {
           wide = r.wide;
+          rooted = rooted_set st.views id me.0 w at refl r.rooted;
           held = quiet plan (cells_in F) (sets_in plan F) st.views r.held id me.0 at live w refl refl refl refl refl refl refl refl refl (λ p x e. e);
           drained = subst (λ x. Drained plan (cells_in F) (sets_in plan F) (numbers_in plan st.words) (set st.views id (reading s p final x me.0))) same
               (read_drained plan (cells_in F) (sets_in plan F) (numbers_in plan st.words) st.views r.held r.drained id me.0 at s p final (final_there plan s pos (cells_in F) (sets_in plan F) (numbers_in plan st.words) st.views r.held r.drained id me.0 at p l));

@@ -1,32 +1,48 @@
 -- The rule over all words and all passes, and what a step tells.
-use Rattle.std.specs.Prelude.{◌≡◌, ◌≢◌, ℕ, ◌+◌, ◌*◌, ◌<◌, ◌≤◌, true, false, nat_eq, Some, length}
+use Rattle.std.specs.Prelude.{◌≡◌, ◌≢◌, ℕ, ◌+◌, ◌*◌, ◌%◌, ◌<◌, ◌≤◌, true, false, nat_eq, Some, List, length}
+use mathlib.Core.Option.{some}
+use lib.ListN.{get_elem?}
 use Rattle.atomic_table.specs.Table.{State}
 use Rattle.cov_base.specs.declared.facts.Fact.{Fact}
 use Rattle.cov_base.specs.Meaning.{FactSet, has_fact}
 use Rattle.cov_base.specs.Facts.{is_of_kind}
-use Rattle.module_area.specs.declared.parties.Role.TheVariants.{Spent}
+use Rattle.module_area.specs.declared.cells.Cell.{Cell}
+use Rattle.module_area.specs.declared.parties.Role.TheVariants.{Root, Task, Spent}
 use Rattle.module_area.specs.declared.parties.View.{View}
 use Rattle.module_area.specs.Meaning.{PlanView, kind_at}
-use Rattle.module_area.specs.Parties.{window_tag, fetching, marking, lifting, reading}
+use Rattle.module_area.specs.Parties.{last_tag, window_tag, fetching, marking, lifting, reading}
 use Rattle.module_area.specs.Notes.{IsAnswer, IsFound, is_final, no_tally}
 use Rattle.module_area.specs.Held.{Held}
 use Rattle.module_area.specs.Drained.{Drained}
 use Rattle.shared_area.specs.declared.rule.NoSlot.{NoSlot}
-use Rattle.shared_area.specs.Words.{cell_of, cells_in, sets_in, base_of, front, numbers_in}
+use Rattle.shared_area.specs.Words.{cells_in, sets_in, base_of, front, numbers_in}
 use Rattle.shared_area.specs.Told.{has_pair, has_settled, notes_in}
 
--- the words are those of the cells, the sets, then the tasks
+-- the first party is the root
+abbrev pub IsRooted : List View → Type 0
+IsRooted views = (v : View) × (get_elem? views 0 ≡ some v) × (v.role ≡ Root)
+
+-- the words are those of the cells, the sets, then the tasks; there is a root
 pub record IsArea (plan : PlanView) (s : State NoSlot View) : Type 0 where
   pub wide : base_of plan + length plan.tasks ≤ length s.words
+  pub rooted : IsRooted s.views
   pub held : Held plan (cells_in (front plan s.words)) (sets_in plan (front plan s.words)) s.views
   pub drained : Drained plan (cells_in (front plan s.words)) (sets_in plan (front plan s.words)) (numbers_in plan s.words) s.views
 
--- a fetch at place p found the word
-pub record Fetched (plan : PlanView) (p : ℕ) (v : View) (w : ℕ) (v' : View) : Type 0 where
-  pub after : v' ≡ fetching plan p (cell_of w) v
-  pub answer : IsAnswer plan (notes_in v no_tally) p (cell_of w)
-  pub within : (cell_of w).tag ≤ 2 * plan.sessions
-  pub small : (cell_of w).tag ≤ 32
+-- a living pass of a task that has not ended, and a place that it may fetch
+pub record MayFetch (plan : PlanView) (p : ℕ) (v : View) : Type 0 where
+  pub live : v.role ≢ Spent
+  pub place : p < length plan.places
+  pub task : ℕ
+  pub bears : v.role ≡ Task task
+  pub even : last_tag task v.numbers % 2 ≢ 1
+
+-- a fetch at place p found the cell
+pub record Fetched (plan : PlanView) (p : ℕ) (v : View) (cell : Cell) (v' : View) : Type 0 where
+  pub after : v' ≡ fetching plan p cell v
+  pub answer : IsAnswer plan (notes_in v no_tally) p cell
+  pub within : cell.tag ≤ 2 * plan.sessions
+  pub small : cell.tag ≤ 32
 
 -- a living party that has just fetched the breakpoint of session s at place p, and a fact that it may mark there
 pub record MayMark (plan : PlanView) (s p : ℕ) (f : Fact) (v : View) : Type 0 where

@@ -8,6 +8,7 @@ mod cells;
 #[cfg(test)]
 mod drained;
 mod drains;
+mod fetches;
 mod forks;
 #[cfg(test)]
 mod late;

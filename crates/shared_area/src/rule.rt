@@ -49,6 +49,31 @@ impl Marking for Brand {
     ghost fact = { Ran };
 }
 
+/// The place whose cell a step fetches, and under which plan.
+pub(crate) trait Fetching {
+    ghost plan: { PlanView };
+
+    ghost place: { ℕ };
+}
+
+impl Fetching for Brand {
+    ghost use Rattle.std.specs.Prelude.{[]};
+
+    ghost plan = { record { places = []; windows = []; controlled = []; tasks = []; sessions = 0 } };
+
+    ghost place = { 0 };
+}
+
+/// A load of the word of a place, for its cell.
+pub(crate) struct Fetch<K: Fetching>(PhantomData<K>);
+
+impl<K: Fetching> Play<NoSlot, View> for Fetch<K> {
+    ghost use Rattle.shared_area.specs.Words.{cell_of};
+    ghost use Rattle.shared_area.specs.Rule.{Fetched};
+
+    ghost then = { λ _ me w me'. Fetched K.plan K.place me.0 (cell_of w) me'.0 × (me'.1 ≡ me.1) };
+}
+
 /// A load of the word that has the set, for the set itself.
 pub(crate) struct Read<K: Marking>(PhantomData<K>);
 

@@ -5,7 +5,7 @@ ghost use Rattle.shared_area.specs.Words.{word_count};
 
 use crate::cells::SharedCells;
 use crate::pass::SharedPass;
-use crate::words::{cell, closed_word, window_word};
+use crate::words::{closed_word, window_word};
 use cov_base::{BREAKPOINT, Bits, Fact, PlaceNo, SessNo};
 use module_area::{Cell, Cells};
 use std::marker::Brand;
@@ -20,12 +20,9 @@ impl Cells for SharedCells {
     ghost notes = { notes_of };
 
     fn fetch(&self, pass: &mut SharedPass, place: PlaceNo) -> Cell {
-        let found = self
-            .table
-            .shared
-            .load::<Brand>(&mut pass.seat, place.0 as usize);
+        let found = self.cell_at::<Brand>(&mut pass.seat, place);
         pass.tally.fetches += 1;
-        cell(found)
+        found
     }
 
     fn mark(&self, pass: &mut SharedPass, s: SessNo, place: PlaceNo, fact: Fact) -> Bits {
