@@ -1,7 +1,9 @@
 -- What a report needs of tables, results and sets.
-use Rattle.std.specs.Prelude.{◌≡◌, ℕ, ◌+◌, ◌<◌, ◌≤◌, length, All, IfSome}
+use Rattle.std.specs.Prelude.{◌≡◌, ℕ, ◌+◌, ◌<◌, ◌≤◌, true, List, length, All, IfSome}
 use Rattle.cov_base.specs.declared.constants.TheConstants.{INPUT_LIMIT}
-use Rattle.cov_base.specs.Meaning.{FactSet}
+use Rattle.cov_base.specs.Meaning.{FactSet, is_within}
+use Rattle.module_area.specs.Meaning.{place_of}
+use Rattle.module_area.specs.declared.places.Place.{Place}
 use Rattle.brk_table.specs.Meaning.{TablesView}
 use Rattle.brk_table.specs.Places.{IsIn}
 use Rattle.session_book.specs.Meaning.{JobView, ResultView, session_of, task_of}
@@ -37,3 +39,7 @@ pub record AreSetsOf (job : JobView) (tables : TablesView) (sessions places : �
   pub count : sessions ≡ length job.sessions
   pub size : places ≡ length tables.places
   pub within : (s : ℕ) → 0 < s → s ≤ length job.sessions → All (AreWithin tables (sets s)) (session_of job s).modules
+
+-- each of these places' sets has facts of its kind alone
+abbrev pub AreOfKinds : List Place → (ℕ → FactSet) → Type 0
+AreOfKinds places sets = (n : ℕ) → n < length places → is_within (place_of places n).kind (sets n) ≡ true

@@ -1,6 +1,8 @@
--- A part of the storage that data cards fill.
-use Rattle.std.specs.Prelude.{◌≡◌, ℕ, ◌+◌, ◌<◌, ◌≤◌, List, length, slice_index}
-use Rattle.module_area.specs.Meaning.{DataView}
+-- A part of the storage that data cards fill, and its rows.
+use Rattle.std.specs.Prelude.{◌≡◌, ℕ, ◌+◌, ◌-◌, ◌<◌, ◌≤◌, List, length, slice_index}
+use Rattle.module_area.specs.Meaning.{DataView, first_bytes, with_card}
+use Rattle.report_text.specs.Meaning.{changed_row, lines_from}
+use Rattle.session_book.specs.Meaning.{TaskView}
 
 -- the bytes from an address on, as far as there are some
 abbrev pub IsPartOf : List ℕ → List ℕ → ℕ → Type 0
@@ -9,3 +11,11 @@ IsPartOf part bytes from = (k : ℕ) → k < length part → from + k < length b
 -- the card's bytes lie in storage of this size
 abbrev pub FitsIn : ℕ → DataView → Type 0
 FitsIn size c = c.offset + length c.bytes ≤ size
+
+-- into a part of storage what the card has of it was stored
+abbrev pub StoresCard : DataView → ℕ → List ℕ → List ℕ → Type 0
+StoresCard card from old new = (bytes : List ℕ) → FitsIn (length bytes) card → IsPartOf old bytes from → IsPartOf new (with_card bytes card) from
+
+-- the changed rows of a task's storage from one number on, below the other
+abbrev pub rows_from : TaskView → List ℕ → ℕ → ℕ → List (List ℕ)
+rows_from task now from past = lines_from (changed_row (first_bytes task.private task.cards) now) from (past - from)

@@ -2,4 +2,5 @@ pub mod Conditions
 pub mod FirstRows
 pub mod Meaning
 pub mod Sessions
+pub mod Told
 pub mod Writes

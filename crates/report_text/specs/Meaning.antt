@@ -63,6 +63,10 @@ line_mark tables sets m k = unwrap_or (option_map (λ n. mark_of (place_of table
 abbrev pub marked_lines : TablesView → (ℕ → FactSet) → ℕ → List (List ℕ) → List (List ℕ)
 marked_lines tables sets m lines = lines_from (λ i. annotated (line_mark tables sets m (i + 1)) (get_or lines i []) ∷ []) 0 (length lines)
 
+-- its whole listing, if it has one
+abbrev pub marked_listing : JobView → TablesView → (ℕ → FactSet) → ℕ → List (List ℕ)
+marked_listing job tables sets m = marked_lines tables sets m (unwrap_or (get_or job.listings m None) [])
+
 -- the last byte of a run that has come to the byte `last`, and goes on as long as places from n on lack facts
 abbrev pub run_end : JobView → List Place → (ℕ → FactSet) → ℕ → ℕ → ℕ → ℕ
 run_end job places sets last n zero = last
@@ -80,6 +84,16 @@ run_lines job places sets before n (suc count) =
     run_line (location_of job (place_of places n)) (run_end job places sets (last_byte_of job (place_of places n)) (n + 1) count) ∷ run_lines job places sets true (n + 1) count)
     else run_lines job places sets false (n + 1) count
 
+-- of so many places from number n on: those with a fact, the facts, and the facts that there can be
+abbrev pub executed_count : (ℕ → FactSet) → ℕ → ℕ → ℕ
+executed_count sets n count = sum_from (λ k. if lacks (sets k) then 0 else 1) n count
+
+abbrev pub shown_count : (ℕ → FactSet) → ℕ → ℕ → ℕ
+shown_count sets n count = sum_from (λ k. fact_count (sets k)) n count
+
+abbrev pub possible_count : List Place → ℕ → ℕ → ℕ
+possible_count places n count = sum_from (λ k. fact_count (full_of (place_of places k).kind)) n count
+
 -- places, places with a fact, facts, and facts that there can be
 unfoldable pub totals_line : List ℕ → ℕ → ℕ → ℕ → ℕ → List ℕ
 totals_line name count executed facts possible =
@@ -90,9 +104,8 @@ unfoldable pub module_lines : JobView → TablesView → (ℕ → FactSet) → �
 module_lines job tables sets m =
     let first : ℕ = first_place tables.tables m in
     let count : ℕ = place_count tables.tables m in
-    totals_line (module_of job m).name count (sum_from (λ n. if lacks (sets n) then 0 else 1) first count)
-    (sum_from (λ n. fact_count (sets n)) first count) (sum_from (λ n. fact_count (full_of (place_of tables.places n).kind)) first count)
-    ∷ (marked_lines tables sets m (unwrap_or (get_or job.listings m None) []) ++ run_lines job tables.places sets false first count)
+    totals_line (module_of job m).name count (executed_count sets first count) (shown_count sets first count) (possible_count tables.places first count)
+    ∷ (marked_listing job tables sets m ++ run_lines job tables.places sets false first count)
 
 unfoldable pub session_line : List ℕ → List ℕ → List ℕ
 session_line name phase = codes "SESSION " ++ unpadded name ++ codes " PHASE " ++ unpadded phase
@@ -129,9 +142,12 @@ state_lines name ending done cpu =
     (task_words name ending done ++ codes " CC " ++ decimal cpu.condition)
     ∷ register_line (codes "R0") (take 8 cpu.regs) ∷ register_line (codes "R8") (drop 8 cpu.regs) ∷ []
 
--- how many bytes of output there are, and the bytes, 32 to a line
+-- the bytes of output, 32 to a line, and before them how many there are
+abbrev pub output_rows : List ℕ → List (List ℕ)
+output_rows output = lines_from (λ n. hex_bytes (row_of 32 output n) ∷ []) 0 (row_count 32 output)
+
 unfoldable pub output_lines : List ℕ → List (List ℕ)
-output_lines output = (codes "OUT " ++ decimal (length output)) ∷ lines_from (λ n. hex_bytes (row_of 32 output n) ∷ []) 0 (row_count 32 output)
+output_lines output = (codes "OUT " ++ decimal (length output)) ∷ output_rows output
 
 -- an address of private storage and the bytes there, where they differ from the first ones
 unfoldable pub row_lines : ℕ → List ℕ → List ℕ → List (List ℕ)
@@ -145,8 +161,12 @@ changed_row first now n = row_lines (16 * n) (row_of 16 first n) (row_of 16 now 
 unfoldable pub storage_lines : List ℕ → List ℕ → List (List ℕ)
 storage_lines first now = lines_from (changed_row first now) 0 (row_count 16 now)
 
+-- against those that the task's card gives
+abbrev pub stored_lines : TaskView → ResultView → List (List ℕ)
+stored_lines t r = storage_lines (first_bytes t.private t.cards) r.bytes
+
 abbrev pub task_lines : TaskView → ResultView → List (List ℕ)
-task_lines t r = state_lines t.name r.ending r.done r.cpu ++ (output_lines r.output ++ storage_lines (first_bytes t.private t.cards) r.bytes)
+task_lines t r = state_lines t.name r.ending r.done r.cpu ++ (output_lines r.output ++ stored_lines t r)
 
 -- The whole report.
 
@@ -193,12 +213,18 @@ module_places job tables line m =
 abbrev pub is_monitored : JobView → ℕ → Bool
 is_monitored job m = is_some (get_or job.listings m None)
 
+abbrev pub place_lines : JobView → TablesView → ℕ → List (List ℕ)
+place_lines job tables m = module_places job tables (λ n p. place_line (location_of job p) p) m
+
 abbrev pub table_part : JobView → TablesView → ℕ → List (List ℕ)
-table_part job tables m = if is_monitored job m then module_places job tables (λ n p. place_line (location_of job p) p) m else []
+table_part job tables m = if is_monitored job m then place_lines job tables m else []
 
 -- modules in the order of the job
+abbrev pub table_parts : JobView → TablesView → List (List ℕ)
+table_parts job tables = lines_from (table_part job tables) 0 (length job.images)
+
 abbrev pub table_text : JobView → TablesView → List ℕ
-table_text job tables = text_of (codes "COVERAGE TABLE" ∷ (lines_from (table_part job tables) 0 (length job.images) ++ (codes "END" ∷ [])))
+table_text job tables = text_of (codes "COVERAGE TABLE" ∷ (table_parts job tables ++ (codes "END" ∷ [])))
 
 -- The text of a count.
 

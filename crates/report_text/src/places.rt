@@ -1,10 +1,9 @@
 //! The places of the monitored modules as a text.
-ghost use Rattle.std.specs.Prelude.{◌≡◌, ◌+◌, ◌-◌, ◌<◌, ◌≤◌, ◌++◌, ◌∷◌, [], length};
+ghost use Rattle.std.specs.Prelude.{◌≡◌, ◌+◌, ◌<◌, ◌≤◌, ◌++◌, ◌∷◌, [], length};
 ghost use Rattle.arrayvec.specs.ArrayVec.{array_vec_len};
-ghost use Rattle.cov_outside.specs.Writes.{Writes};
 ghost use Rattle.report_text.specs.Conditions.{AreTablesOf};
-ghost use Rattle.report_text.specs.Meaning.{kind_letter, place_line, module_line, module_places, is_monitored, table_part, table_text, location_of, lines_from};
-ghost use Rattle.report_text.specs.Writes.{WritesLines};
+ghost use Rattle.report_text.specs.Meaning.{kind_letter, place_line, module_line, place_lines, is_monitored, table_part, table_parts, table_text};
+ghost use Rattle.report_text.specs.Writes.{Prints, PrintsText};
 
 use crate::sessions::{location, module_name};
 use crate::whole::words_line;
@@ -75,8 +74,7 @@ pub fn is_monitored(job: &Job, m: u32) -> bool
 fn places_text<K: Sink>(sink: &mut K, job: &Job, tables: &Tables, m: u32) -> Result<(), Failed>
     requires module { m < length job.now.images }
     requires tables { AreTablesOf job.now tables.now }
-    ensures { WritesLines K.written K.faults sink.old sink.new result
-        (module_places job.now tables.now (λ n p. place_line (location_of job.now p) p) m) }
+    ensures { Prints K.Sink sink.old sink.new result (place_lines job.now tables.now m) }
 {
     let (first, past) = tables.range(m);
     put(sink, module_line(module_name(job, m), past - first))?;
@@ -91,7 +89,7 @@ fn places_text<K: Sink>(sink: &mut K, job: &Job, tables: &Tables, m: u32) -> Res
 fn module_text<K: Sink>(sink: &mut K, job: &Job, tables: &Tables, m: u32) -> Result<(), Failed>
     requires module { m < length job.now.images }
     requires tables { AreTablesOf job.now tables.now }
-    ensures { WritesLines K.written K.faults sink.old sink.new result (table_part job.now tables.now m) }
+    ensures { Prints K.Sink sink.old sink.new result (table_part job.now tables.now m) }
 {
     if is_monitored(job, m) {
         places_text(sink, job, tables, m)
@@ -103,8 +101,7 @@ fn module_text<K: Sink>(sink: &mut K, job: &Job, tables: &Tables, m: u32) -> Res
 /// The modules' parts.
 fn modules_text<K: Sink>(sink: &mut K, job: &Job, tables: &Tables) -> Result<(), Failed>
     requires { AreTablesOf job.now tables.now }
-    ensures { WritesLines K.written K.faults sink.old sink.new result
-        (lines_from (table_part job.now tables.now) 0 (length job.now.images)) }
+    ensures { Prints K.Sink sink.old sink.new result (table_parts job.now tables.now) }
 {
     for m in 0..job.module_count() {
         module_text(sink, job, tables, m)?;
@@ -116,7 +113,7 @@ fn modules_text<K: Sink>(sink: &mut K, job: &Job, tables: &Tables) -> Result<(),
 /// sink has then taken a first part of the text. Takes no memory.
 pub fn table<K: Sink>(sink: &mut K, job: &Job, tables: &Tables) -> Result<(), Failed>
     requires tables { AreTablesOf job.now tables.now }
-    ensures { Writes K.written K.faults sink.old sink.new result (table_text job.now tables.now) }
+    ensures { PrintsText K.Sink sink.old sink.new result (table_text job.now tables.now) }
 {
     put(sink, words_line(b"COVERAGE TABLE"))?;
     modules_text(sink, job, tables)?;

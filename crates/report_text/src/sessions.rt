@@ -1,19 +1,17 @@
 //! What a report says of a session.
-ghost use Rattle.std.specs.Prelude.{◌≡◌, ◌+◌, ◌-◌, ◌*◌, ◌<◌, ◌≤◌, ◌++◌, ◌∷◌, [], length, All, IfSome, unwrap_or, option_map, if◌then◌else◌, get_or, None, false};
+ghost use Rattle.std.specs.Prelude.{◌≡◌, ◌+◌, ◌-◌, ◌<◌, ◌≤◌, ◌++◌, ◌∷◌, [], length, All, IfSome, unwrap_or, option_map, if◌then◌else◌, get_or};
 ghost use Rattle.annotator.specs.Meaning.{annotated};
-ghost use Rattle.cov_outside.specs.Writes.{Writes};
 ghost use Rattle.cov_base.specs.Meaning.{full_of};
-ghost use Rattle.module_area.specs.Meaning.{fact_count, place_of};
+ghost use Rattle.module_area.specs.Meaning.{fact_count};
 ghost use Rattle.brk_table.specs.Meaning.{first_place, place_count};
 ghost use Rattle.brk_table.specs.Places.{IsIn, IsPlace};
 ghost use Rattle.report_text.specs.Conditions.{AreTablesOf, HasSession};
-ghost use Rattle.report_text.specs.Meaning.{lacks, location_of, last_byte_of, line_mark, marked_lines, run_line, run_lines, totals_line, session_line, module_lines, session_part, sum_from, text_of};
-ghost use Rattle.report_text.specs.Sessions.{open_run};
+ghost use Rattle.report_text.specs.Meaning.{lacks, location_of, last_byte_of, line_mark, marked_lines, marked_listing, run_line, executed_count, shown_count, possible_count, totals_line, session_line, module_lines};
+ghost use Rattle.report_text.specs.Sessions.{open_run, runs_from, lines_of, session_text};
 ghost use Rattle.session_book.specs.Meaning.{module_of};
 ghost use Rattle.session_book.specs.Sets.{HasSetsOf, AreWithin};
-ghost use Rattle.std.specs.List.{flat_map};
 ghost use Rattle.report_text.specs.declared.sessions.Run.{Run};
-ghost use Rattle.report_text.specs.Writes.{WritesLines};
+ghost use Rattle.report_text.specs.Writes.{Prints, PrintsText};
 
 use crate::words::add_name;
 use crate::writing::put;
@@ -159,15 +157,13 @@ fn last_byte(job: &Job, place: &Place) -> u32
 }
 
 /// What the sets of the session come to at the places from `first` on, below `past`.
-fn count<R: FactSets>(tables: &Tables, results: &R, s: SessNo, first: u32, past: u32) -> Counts
-    requires session { HasSession tables.now (R.sessions results.now) (R.places results.now) s.0 }
+fn count<R: FactSets>(tables: &Tables, sets: &R, s: SessNo, first: u32, past: u32) -> Counts
+    requires session { HasSession tables.now (R.sessions sets.now) (R.places sets.now) s.0 }
     requires range { first ≤ past }
     requires exist { past ≤ length tables.now.places }
-    ensures executed { result.executed ≡
-        sum_from (λ n. if lacks (R.set_of results.now s.0 n) then 0 else 1) first (past - first) }
-    ensures facts { result.facts ≡ sum_from (λ n. fact_count (R.set_of results.now s.0 n)) first (past - first) }
-    ensures possible { result.possible ≡
-        sum_from (λ n. fact_count (full_of (place_of tables.now.places n).kind)) first (past - first) }
+    ensures executed { result.executed ≡ executed_count (R.set_of sets.now s.0) first (past - first) }
+    ensures facts { result.facts ≡ shown_count (R.set_of sets.now s.0) first (past - first) }
+    ensures possible { result.possible ≡ possible_count tables.now.places first (past - first) }
 {
     let mut counts = Counts {
         executed: 0,
@@ -176,7 +172,7 @@ fn count<R: FactSets>(tables: &Tables, results: &R, s: SessNo, first: u32, past:
     };
     for n in first..past {
         let kind = tables.place(PlaceNo(n)).kind;
-        let set = results.set(s, PlaceNo(n));
+        let set = sets.set(s, PlaceNo(n));
         counts.executed += count_executed(set);
         counts.facts += count_facts(set);
         counts.possible += count_possible(kind);
@@ -185,14 +181,14 @@ fn count<R: FactSets>(tables: &Tables, results: &R, s: SessNo, first: u32, past:
 }
 
 /// The mark of line k of module m's listing.
-fn mark_at<R: FactSets>(tables: &Tables, results: &R, s: SessNo, m: u32, k: u32) -> Mark
-    requires session { HasSession tables.now (R.sessions results.now) (R.places results.now) s.0 }
+fn mark_at<R: FactSets>(tables: &Tables, sets: &R, s: SessNo, m: u32, k: u32) -> Mark
+    requires session { HasSession tables.now (R.sessions sets.now) (R.places sets.now) s.0 }
     requires exist { first_place tables.now.tables m + place_count tables.now.tables m ≤ length tables.now.places }
-    requires within { AreWithin tables.now (R.set_of results.now s.0) m }
-    ensures { result ≡ line_mark tables.now (R.set_of results.now s.0) m k }
+    requires within { AreWithin tables.now (R.set_of sets.now s.0) m }
+    ensures { result ≡ line_mark tables.now (R.set_of sets.now s.0) m k }
 {
     match tables.line(m, k) {
-        Some(n) => mark_of(tables.place(n).kind, results.set(s, n)),
+        Some(n) => mark_of(tables.place(n).kind, sets.set(s, n)),
         None => Mark::Text,
     }
 }
@@ -202,20 +198,19 @@ fn listing_part<K: Sink, R: FactSets>(
     sink: &mut K,
     lines: &ListingLines,
     tables: &Tables,
-    results: &R,
+    sets: &R,
     s: SessNo,
     m: u32,
 ) -> Result<(), Failed>
     requires lines { length lines.now ≤ INPUT_LIMIT }
     requires short { All (λ line. length line ≤ LINE_LIMIT) lines.now }
-    requires session { HasSession tables.now (R.sessions results.now) (R.places results.now) s.0 }
+    requires session { HasSession tables.now (R.sessions sets.now) (R.places sets.now) s.0 }
     requires exist { first_place tables.now.tables m + place_count tables.now.tables m ≤ length tables.now.places }
-    requires within { AreWithin tables.now (R.set_of results.now s.0) m }
-    ensures { WritesLines K.written K.faults sink.old sink.new result
-        (marked_lines tables.now (R.set_of results.now s.0) m lines.now) }
+    requires within { AreWithin tables.now (R.set_of sets.now s.0) m }
+    ensures { Prints K.Sink sink.old sink.new result (marked_lines tables.now (R.set_of sets.now s.0) m lines.now) }
 {
     for i in 0..lines.len() {
-        let mark = mark_at(tables, results, s, m, i as u32 + 1);
+        let mark = mark_at(tables, sets, s, m, i as u32 + 1);
         put(sink, marked_line(lines.line(i), mark))?;
     }
     Ok(())
@@ -245,7 +240,7 @@ fn with_place(run: Option<Run>, job: &Job, place: &Place) -> Run
 fn run_part<K: Sink>(sink: &mut K, run: Option<Run>) -> Result<(), Failed>
     requires from { IfSome run (λ r. r.from < 16777216) }
     requires last { IfSome run (λ r. r.last < 16777216) }
-    ensures { WritesLines K.written K.faults sink.old sink.new result (open_run run) }
+    ensures { Prints K.Sink sink.old sink.new result (open_run run) }
 {
     match run {
         Some(done) => put(sink, run_line(done)),
@@ -258,21 +253,20 @@ fn runs_part<K: Sink, R: FactSets>(
     sink: &mut K,
     job: &Job,
     tables: &Tables,
-    results: &R,
+    sets: &R,
     s: SessNo,
     first: u32,
     past: u32,
 ) -> Result<(), Failed>
     requires tables { AreTablesOf job.now tables.now }
-    requires session { HasSession tables.now (R.sessions results.now) (R.places results.now) s.0 }
+    requires session { HasSession tables.now (R.sessions sets.now) (R.places sets.now) s.0 }
     requires range { first ≤ past }
     requires exist { past ≤ length tables.now.places }
-    ensures { WritesLines K.written K.faults sink.old sink.new result
-        (run_lines job.now tables.now.places (R.set_of results.now s.0) false first (past - first)) }
+    ensures { Prints K.Sink sink.old sink.new result (runs_from job.now tables.now (R.set_of sets.now s.0) first past) }
 {
     let mut run = None;
     for n in first..past {
-        if lacks(results.set(s, PlaceNo(n))) {
+        if lacks(sets.set(s, PlaceNo(n))) {
             run = Some(with_place(run, job, tables.place(PlaceNo(n))));
         } else {
             run_part(sink, run)?;
@@ -295,20 +289,19 @@ fn listing_text<K: Sink, R: FactSets>(
     sink: &mut K,
     job: &Job,
     tables: &Tables,
-    results: &R,
+    sets: &R,
     s: SessNo,
     m: u32,
 ) -> Result<(), Failed>
     requires module { m < length job.now.images }
     requires tables { AreTablesOf job.now tables.now }
-    requires session { HasSession tables.now (R.sessions results.now) (R.places results.now) s.0 }
+    requires session { HasSession tables.now (R.sessions sets.now) (R.places sets.now) s.0 }
     requires exist { first_place tables.now.tables m + place_count tables.now.tables m ≤ length tables.now.places }
-    requires within { AreWithin tables.now (R.set_of results.now s.0) m }
-    ensures { WritesLines K.written K.faults sink.old sink.new result
-        (marked_lines tables.now (R.set_of results.now s.0) m (unwrap_or (get_or job.now.listings m None) [])) }
+    requires within { AreWithin tables.now (R.set_of sets.now s.0) m }
+    ensures { Prints K.Sink sink.old sink.new result (marked_listing job.now tables.now (R.set_of sets.now s.0) m) }
 {
     match &job.listings[m as usize] {
-        Some(lines) => listing_part(sink, lines, tables, results, s, m),
+        Some(lines) => listing_part(sink, lines, tables, sets, s, m),
         None => Ok(()),
     }
 }
@@ -318,22 +311,21 @@ fn module_text<K: Sink, R: FactSets>(
     sink: &mut K,
     job: &Job,
     tables: &Tables,
-    results: &R,
+    sets: &R,
     s: SessNo,
     m: u32,
 ) -> Result<(), Failed>
     requires module { m < length job.now.images }
     requires tables { AreTablesOf job.now tables.now }
-    requires session { HasSession tables.now (R.sessions results.now) (R.places results.now) s.0 }
-    requires within { AreWithin tables.now (R.set_of results.now s.0) m }
-    ensures { WritesLines K.written K.faults sink.old sink.new result
-        (module_lines job.now tables.now (R.set_of results.now s.0) m) }
+    requires session { HasSession tables.now (R.sessions sets.now) (R.places sets.now) s.0 }
+    requires within { AreWithin tables.now (R.set_of sets.now s.0) m }
+    ensures { Prints K.Sink sink.old sink.new result (module_lines job.now tables.now (R.set_of sets.now s.0) m) }
 {
     let (first, past) = tables.range(m);
-    let counts = count(tables, results, s, first, past);
+    let counts = count(tables, sets, s, first, past);
     put(sink, totals_line(module_name(job, m), past - first, counts))?;
-    listing_text(sink, job, tables, results, s, m)?;
-    runs_part(sink, job, tables, results, s, first, past)
+    listing_text(sink, job, tables, sets, s, m)?;
+    runs_part(sink, job, tables, sets, s, first, past)
 }
 
 /// The modules' parts, in the order of the session's card.
@@ -341,19 +333,18 @@ fn modules_text<K: Sink, R: FactSets>(
     sink: &mut K,
     job: &Job,
     tables: &Tables,
-    results: &R,
+    sets: &R,
     s: SessNo,
     modules: &[u32],
 ) -> Result<(), Failed>
     requires modules { All (λ m. m < length job.now.images) modules.now }
     requires tables { AreTablesOf job.now tables.now }
-    requires session { HasSession tables.now (R.sessions results.now) (R.places results.now) s.0 }
-    requires within { All (AreWithin tables.now (R.set_of results.now s.0)) modules.now }
-    ensures { WritesLines K.written K.faults sink.old sink.new result
-        (flat_map (module_lines job.now tables.now (R.set_of results.now s.0)) modules.now) }
+    requires session { HasSession tables.now (R.sessions sets.now) (R.places sets.now) s.0 }
+    requires within { All (AreWithin tables.now (R.set_of sets.now s.0)) modules.now }
+    ensures { Prints K.Sink sink.old sink.new result (lines_of job.now tables.now (R.set_of sets.now s.0) modules.now) }
 {
     for m in modules {
-        module_text(sink, job, tables, results, s, *m)?;
+        module_text(sink, job, tables, sets, s, *m)?;
     }
     Ok(())
 }
@@ -373,21 +364,19 @@ pub fn session_part<K: Sink, R: FactSets>(
     sink: &mut K,
     job: &Job,
     tables: &Tables,
-    results: &R,
+    sets: &R,
     s: SessNo,
 ) -> Result<(), Failed>
     requires from { 0 < s.0 }
     requires to { s.0 ≤ length job.now.sessions }
     requires tables { AreTablesOf job.now tables.now }
-    requires sets { HasSetsOf job.now tables.now
-        (R.sessions results.now) (R.places results.now) (R.set_of results.now) s.0 }
-    ensures { Writes K.written K.faults sink.old sink.new result
-        (text_of (session_part job.now tables.now (R.set_of results.now) s.0)) }
+    requires sets { HasSetsOf job.now tables.now (R.sessions sets.now) (R.places sets.now) (R.set_of sets.now) s.0 }
+    ensures { PrintsText K.Sink sink.old sink.new result (session_text job.now tables.now (R.set_of sets.now) s.0) }
 {
     let session = job.session(s);
     put(
         sink,
         session_line(&session.name, phase_name(job, session.phase)),
     )?;
-    modules_text(sink, job, tables, results, s, &session.modules)
+    modules_text(sink, job, tables, sets, s, &session.modules)
 }

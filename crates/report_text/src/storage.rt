@@ -1,11 +1,11 @@
 //! Private storage, by blocks and in them row by row.
-ghost use Rattle.std.specs.Prelude.{◌≡◌, ℕ, ◌+◌, ◌-◌, ◌*◌, ◌<◌, ◌≤◌, ◌++◌, ◌∷◌, [], List, length, take, replicate, not, bytes_eq, codes, All};
+ghost use Rattle.std.specs.Prelude.{◌≡◌, ◌+◌, ◌*◌, ◌<◌, ◌≤◌, ◌++◌, ◌∷◌, [], length, take, replicate, not, bytes_eq, codes, All};
 ghost use Rattle.annotator.specs.Meaning.{hex_digits};
 ghost use Rattle.cov_base.specs.declared.limits.TheConstants.{PRIVATE_LIMIT};
-ghost use Rattle.module_area.specs.Meaning.{first_bytes, with_card};
-ghost use Rattle.report_text.specs.FirstRows.{IsPartOf, FitsIn};
-ghost use Rattle.report_text.specs.Meaning.{row_lines, changed_row, storage_lines, hex_bytes, row_count, lines_from};
-ghost use Rattle.report_text.specs.Writes.{WritesLines};
+ghost use Rattle.module_area.specs.Meaning.{first_bytes};
+ghost use Rattle.report_text.specs.FirstRows.{IsPartOf, FitsIn, StoresCard, rows_from};
+ghost use Rattle.report_text.specs.Meaning.{row_lines, stored_lines, hex_bytes, row_count};
+ghost use Rattle.report_text.specs.Writes.{Prints};
 
 use crate::words::add_bytes;
 use crate::writing::put;
@@ -41,8 +41,7 @@ fn storage_line(at: u32, row: &[u8]) -> ArrayVec<u8, 160>
 /// Stores what a card has of the bytes from an address on.
 fn put_card(block: &mut [u8], from: usize, card: &DataCard)
     requires { from + length block.old ≤ 16777216 }
-    ensures { (bytes : List ℕ) → FitsIn (length bytes) card.now →
-        IsPartOf block.old bytes from → IsPartOf block.new (with_card bytes card.now) from }
+    ensures { StoresCard card.now from block.old block.new }
 {
     let offset = card.offset as usize;
     let start = offset.max(from);
@@ -77,8 +76,7 @@ fn storage_row<K: Sink>(sink: &mut K, first: &[u8], now: &[u8], n: u32) -> Resul
     requires at { 16 * n < 16777216 }
     requires row { length now.now ≤ 16 }
     requires first { length now.now ≤ length first.now }
-    ensures { WritesLines K.written K.faults sink.old sink.new result
-        (row_lines (16 * n) (take (length now.now) first.now) now.now) }
+    ensures { Prints K.Sink sink.old sink.new result (row_lines (16 * n) (take (length now.now) first.now) now.now) }
 {
     if is_changed(first, now) {
         put(sink, storage_line(16 * n, now))
@@ -103,9 +101,7 @@ fn block_part<K: Sink, R: Results>(
     requires from { from ≤ past }
     requires past { past ≤ row_count 16 (R.result_of results.now t.0).bytes }
     requires block { past ≤ from + 4096 }
-    ensures { WritesLines K.written K.faults sink.old sink.new result
-        (lines_from (changed_row (first_bytes task.now.private task.now.cards) (R.result_of results.now t.0).bytes)
-        from (past - from)) }
+    ensures { Prints K.Sink sink.old sink.new result (rows_from task.now (R.result_of results.now t.0).bytes from past) }
 {
     let mut first = [0u8; BLOCK];
     put_cards(&mut first, 16 * from as usize, task);
@@ -128,8 +124,7 @@ pub fn storage_part<K: Sink, R: Results>(
     requires most { task.now.private ≤ PRIVATE_LIMIT }
     requires cards { All (FitsIn task.now.private) task.now.cards }
     requires size { length (R.result_of results.now t.0).bytes ≡ task.now.private }
-    ensures { WritesLines K.written K.faults sink.old sink.new result
-        (storage_lines (first_bytes task.now.private task.now.cards) (R.result_of results.now t.0).bytes) }
+    ensures { Prints K.Sink sink.old sink.new result (stored_lines task.now (R.result_of results.now t.0)) }
 {
     let count = (task.private + 15) / 16;
     for b in 0..(count + BLOCK_ROWS - 1) / BLOCK_ROWS {

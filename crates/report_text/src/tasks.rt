@@ -1,8 +1,8 @@
 //! What a report says of a task.
 ghost use Rattle.std.specs.Prelude.{◌≡◌, ◌+◌, ◌*◌, ◌<◌, ◌≤◌, ◌++◌, ◌∷◌, [], length, codes, decimal, drop};
 ghost use Rattle.report_text.specs.Conditions.{HasResultOf};
-ghost use Rattle.report_text.specs.Meaning.{task_part, task_words, register_line, output_lines, state_lines, hex_bytes, row_of, row_count, lines_from};
-ghost use Rattle.report_text.specs.Writes.{WritesLines};
+ghost use Rattle.report_text.specs.Meaning.{task_part, task_words, register_line, output_rows, output_lines, state_lines, hex_bytes, row_of};
+ghost use Rattle.report_text.specs.Writes.{Prints};
 
 use crate::storage::storage_part;
 use crate::words::{add_bytes, add_registers, task_words};
@@ -77,7 +77,7 @@ fn state_part<K: Sink>(
     done: u32,
     cpu: &Cpu,
 ) -> Result<(), Failed>
-    ensures { WritesLines K.written K.faults sink.old sink.new result (state_lines name.now ending done cpu.now) }
+    ensures { Prints K.Sink sink.old sink.new result (state_lines name.now ending done cpu.now) }
 {
     put(sink, task_line(name, ending, done, cpu.condition()))?;
     put(sink, register_line(b"R0", &cpu.regs[..8]))?;
@@ -97,8 +97,7 @@ fn output_row(output: &[u8], n: usize) -> &[u8]
 
 /// The output, 32 bytes to a line.
 fn output_rows<K: Sink>(sink: &mut K, output: &[u8]) -> Result<(), Failed>
-    ensures { WritesLines K.written K.faults sink.old sink.new result
-        (lines_from (λ n. hex_bytes (row_of 32 output.now n) ∷ []) 0 (row_count 32 output.now)) }
+    ensures { Prints K.Sink sink.old sink.new result (output_rows output.now) }
 {
     for n in 0..(output.len() + 31) / 32 {
         put(sink, bytes_line(output_row(output, n)))?;
@@ -108,7 +107,7 @@ fn output_rows<K: Sink>(sink: &mut K, output: &[u8]) -> Result<(), Failed>
 
 /// The output and its length.
 fn output_part<K: Sink>(sink: &mut K, output: &[u8]) -> Result<(), Failed>
-    ensures { WritesLines K.written K.faults sink.old sink.new result (output_lines output.now) }
+    ensures { Prints K.Sink sink.old sink.new result (output_lines output.now) }
 {
     put(sink, output_line(output.len()))?;
     output_rows(sink, output)
@@ -125,7 +124,7 @@ pub fn task_text<K: Sink, R: Results>(
 ) -> Result<(), Failed>
     requires task { t.0 < length job.now.tasks }
     requires result { HasResultOf job.now (R.tasks results.now) (R.result_of results.now) t.0 }
-    ensures { WritesLines K.written K.faults sink.old sink.new result (task_part job.now (R.result_of results.now) t.0) }
+    ensures { Prints K.Sink sink.old sink.new result (task_part job.now (R.result_of results.now) t.0) }
 {
     let task = job.card(t.0 as usize);
     state_part(

@@ -1,11 +1,11 @@
 //! What is said of a generated job that was run.
-ghost use Rattle.std.specs.Prelude.{◌≡◌, ℕ, ◌+◌, ◌<◌, ◌≤◌, ◌++◌, ◌∷◌, [], length, nat_eq, true, if◌then◌else◌};
+ghost use Rattle.std.specs.Prelude.{◌≡◌, ◌<◌, ◌≤◌, ◌++◌, ◌∷◌, [], length, nat_eq, if◌then◌else◌};
 ghost use Rattle.annotator.specs.Meaning.{mark_byte};
-ghost use Rattle.cov_base.specs.Meaning.{is_within};
 ghost use Rattle.cov_base.specs.declared.marks.Mark.TheVariants.{Not, Done, Branched, Fell, Both};
-ghost use Rattle.cov_outside.specs.Writes.{Writes};
-ghost use Rattle.module_area.specs.Meaning.{place_of};
-ghost use Rattle.report_text.specs.Meaning.{mark_count, trial_line, amount_line, mark_line, trial_text, sum_from};
+ghost use Rattle.report_text.specs.Conditions.{AreOfKinds};
+ghost use Rattle.report_text.specs.Meaning.{mark_count, trial_line, amount_line, mark_line, sum_from};
+ghost use Rattle.report_text.specs.Told.{trial};
+ghost use Rattle.report_text.specs.Writes.{PrintsText};
 
 use crate::writing::put;
 use annotator::text::{add_number, add_text};
@@ -37,8 +37,7 @@ fn count_same(wanted: Mark, mark: Mark) -> u32
 fn count_marks<R: FactSets>(tables: &Tables, sets: &R) -> MarkCounts
     requires session { 0 < R.sessions sets.now }
     requires size { R.places sets.now ≡ length tables.now.places }
-    requires within { (n : ℕ) → n < length tables.now.places →
-        is_within (place_of tables.now.places n).kind (R.set_of sets.now 1 n) ≡ true }
+    requires within { AreOfKinds tables.now.places (R.set_of sets.now 1) }
     ensures not { result.not ≡ mark_count Not tables.now.places (R.set_of sets.now 1) }
     ensures executed { result.executed ≡ mark_count Done tables.now.places (R.set_of sets.now 1) }
     ensures branched { result.branched ≡ mark_count Branched tables.now.places (R.set_of sets.now 1) }
@@ -134,10 +133,9 @@ pub fn trial_text<K: Sink, R: Results + FactSets>(
     requires tasks { tasks ≤ R.tasks results.now }
     requires session { 0 < R.sessions results.now }
     requires size { R.places results.now ≡ length tables.now.places }
-    requires within { (n : ℕ) → n < length tables.now.places →
-        is_within (place_of tables.now.places n).kind (R.set_of results.now 1 n) ≡ true }
-    ensures { Writes K.written K.faults sink.old sink.new result
-        (trial_text number tasks tables.now.places (R.result_of results.now) (R.set_of results.now)) }
+    requires within { AreOfKinds tables.now.places (R.set_of results.now 1) }
+    ensures { PrintsText K.Sink sink.old sink.new result
+        (trial R.Results R.FactSets number tasks tables.now results.now) }
 {
     let done = count_done(results, tasks);
     let counts = count_marks(tables, results);

@@ -1,9 +1,10 @@
 //! The whole report.
-ghost use Rattle.std.specs.Prelude.{◌≡◌, ◌+◌, ◌-◌, ◌<◌, ◌≤◌, ◌++◌, ◌∷◌, [], length};
-ghost use Rattle.cov_outside.specs.Writes.{Writes};
+ghost use Rattle.std.specs.Prelude.{◌≡◌, ◌≤◌, ◌++◌, ◌∷◌, [], length};
 ghost use Rattle.report_text.specs.Conditions.{AreTablesOf, AreResultsOf, AreSetsOf};
-ghost use Rattle.report_text.specs.Meaning.{task_parts, session_part, result_lines, report_of, lines_from};
-ghost use Rattle.report_text.specs.Writes.{WritesLines};
+ghost use Rattle.report_text.specs.Meaning.{task_parts};
+ghost use Rattle.report_text.specs.Sessions.{session_parts};
+ghost use Rattle.report_text.specs.Told.{results_by, report_by};
+ghost use Rattle.report_text.specs.Writes.{Prints, PrintsText};
 
 use crate::sessions::session_part;
 use crate::tasks::task_text;
@@ -30,7 +31,7 @@ pub fn words_line(words: &[u8]) -> ArrayVec<u8, 160>
 /// of them. Takes no memory.
 pub fn tasks_text<K: Sink, R: Results>(sink: &mut K, job: &Job, results: &R) -> Result<(), Failed>
     requires { AreResultsOf job.now (R.tasks results.now) (R.result_of results.now) }
-    ensures { WritesLines K.written K.faults sink.old sink.new result (task_parts job.now (R.result_of results.now)) }
+    ensures { Prints K.Sink sink.old sink.new result (task_parts job.now (R.result_of results.now)) }
 {
     for t in 0..job.tasks.len() {
         task_text(sink, job, results, TaskNo(t as u32))?;
@@ -43,15 +44,14 @@ fn sessions_text<K: Sink, R: FactSets>(
     sink: &mut K,
     job: &Job,
     tables: &Tables,
-    results: &R,
+    sets: &R,
 ) -> Result<(), Failed>
     requires tables { AreTablesOf job.now tables.now }
-    requires sets { AreSetsOf job.now tables.now (R.sessions results.now) (R.places results.now) (R.set_of results.now) }
-    ensures { WritesLines K.written K.faults sink.old sink.new result
-        (lines_from (session_part job.now tables.now (R.set_of results.now)) 1 (length job.now.sessions)) }
+    requires sets { AreSetsOf job.now tables.now (R.sessions sets.now) (R.places sets.now) (R.set_of sets.now) }
+    ensures { Prints K.Sink sink.old sink.new result (session_parts job.now tables.now (R.set_of sets.now)) }
 {
     for i in 0..job.sessions.len() {
-        session_part(sink, job, tables, results, SessNo(i as u32 + 1))?;
+        session_part(sink, job, tables, sets, SessNo(i as u32 + 1))?;
     }
     Ok(())
 }
@@ -67,8 +67,7 @@ pub fn results_part<K: Sink, R: Results + FactSets>(
     requires tables { AreTablesOf job.now tables.now }
     requires results { AreResultsOf job.now (R.tasks results.now) (R.result_of results.now) }
     requires sets { AreSetsOf job.now tables.now (R.sessions results.now) (R.places results.now) (R.set_of results.now) }
-    ensures { WritesLines K.written K.faults sink.old sink.new result
-        (result_lines job.now tables.now (R.result_of results.now) (R.set_of results.now)) }
+    ensures { Prints K.Sink sink.old sink.new result (results_by R.Results R.FactSets job.now tables.now results.now) }
 {
     tasks_text(sink, job, results)?;
     sessions_text(sink, job, tables, results)?;
@@ -86,8 +85,7 @@ pub fn report<K: Sink, R: Results + FactSets>(
     requires tables { AreTablesOf job.now tables.now }
     requires results { AreResultsOf job.now (R.tasks results.now) (R.result_of results.now) }
     requires sets { AreSetsOf job.now tables.now (R.sessions results.now) (R.places results.now) (R.set_of results.now) }
-    ensures { Writes K.written K.faults sink.old sink.new result
-        (report_of job.now tables.now (R.result_of results.now) (R.set_of results.now)) }
+    ensures { PrintsText K.Sink sink.old sink.new result (report_by R.Results R.FactSets job.now tables.now results.now) }
 {
     put(sink, words_line(b"COVERAGE REPORT"))?;
     results_part(sink, job, tables, results)

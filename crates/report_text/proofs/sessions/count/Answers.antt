@@ -8,7 +8,7 @@ use Rattle.report_text.proofs.sessions.count.Goals as goal
 
 pub loop-n-preserved : goal.loop-n-preserved
 loop-n-preserved g c =
-    let sets = g.R.FactSets.set_of c.args.results.now c.args.s.0 in
+    let sets = g.R.FactSets.set_of c.args.sets.now c.args.s.0 in
     let before = c.loop-n.invariant in
     let n = c.loop-n.n in
     record {

@@ -5,7 +5,7 @@ use Rattle.report_text.proofs.sessions.count.Given as goal
 
 abbrev pub invariant-loop-n : goal.invariant-loop-n
 invariant-loop-n g l =
-    let sets = g.R.FactSets.set_of l.results l.s.0 in
+    let sets = g.R.FactSets.set_of l.sets l.s.0 in
     record {
       executed : l.counts.executed + sum_from (executed_at sets) l.n (l.past - l.n) ≡ sum_from (executed_at sets) l.first (l.past - l.first);
       facts : l.counts.facts + sum_from (facts_at sets) l.n (l.past - l.n) ≡ sum_from (facts_at sets) l.first (l.past - l.first);

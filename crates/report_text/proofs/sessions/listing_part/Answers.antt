@@ -11,7 +11,7 @@ loop-i-init g c = let whole : length c.args.lines.now - 0 ≡ length c.args.line
 pub returns-in_err-put : goal.returns-in_err-put
 returns-in_err-put g c =
     let lines = c.args.lines.now in
-    let text : ℕ → List ℕ = λ i. annotated (line_mark c.args.tables.now (g.R.FactSets.set_of c.args.results.now c.args.s.0) c.args.m (i + 1)) (get_or lines i []) in
+    let text : ℕ → List ℕ = λ i. annotated (line_mark c.args.tables.now (g.R.FactSets.set_of c.args.sets.now c.args.s.0) c.args.m (i + 1)) (get_or lines i []) in
     let i = c.loop-i.i in
     let here : i < length lines = omega (arith, c.len-i-end.ensures) in
     let is : c.marked_line.result.items ≡ text i ++ 10 ∷ [] = rw (c.mark_at-mark.ensures, c.line.ensures) at c.marked_line.ensures in
@@ -20,7 +20,7 @@ returns-in_err-put g c =
 pub loop-i-preserved : goal.loop-i-preserved
 loop-i-preserved g c =
     let lines = c.args.lines.now in
-    let text : ℕ → List ℕ = λ i. annotated (line_mark c.args.tables.now (g.R.FactSets.set_of c.args.results.now c.args.s.0) c.args.m (i + 1)) (get_or lines i []) in
+    let text : ℕ → List ℕ = λ i. annotated (line_mark c.args.tables.now (g.R.FactSets.set_of c.args.sets.now c.args.s.0) c.args.m (i + 1)) (get_or lines i []) in
     let i = c.loop-i.i in
     let here : i < length lines = omega (arith, c.len-i-end.ensures) in
     let is : c.marked_line.result.items ≡ text i ++ 10 ∷ [] = rw (c.mark_at-mark.ensures, c.line.ensures) at c.marked_line.ensures in
@@ -28,6 +28,6 @@ loop-i-preserved g c =
 
 pub returns : goal.returns
 returns g c =
-    let text : ℕ → List ℕ = λ i. annotated (line_mark c.args.tables.now (g.R.FactSets.set_of c.args.results.now c.args.s.0) c.args.m (i + 1)) (get_or c.args.lines.now i []) in
+    let text : ℕ → List ℕ = λ i. annotated (line_mark c.args.tables.now (g.R.FactSets.set_of c.args.sets.now c.args.s.0) c.args.m (i + 1)) (get_or c.args.lines.now i []) in
     let past : length c.args.lines.now ≤ c.loop-i.i = omega (arith, c.len-i-end.ensures) in
     progress_end (progress_at (lines_from-end (λ k. text k ∷ []) c.loop-i.i c.loop-i.i (length c.args.lines.now) past) c.loop-i.invariant)

@@ -9,7 +9,7 @@ use Rattle.report_text.proofs.sessions.module_text.Goals as goal
 pub returns-in_err-put : goal.returns-in_err-put
 unfolding module_lines
 returns-in_err-put g c =
-    let sets = g.R.FactSets.set_of c.args.results.now c.args.s.0 in
+    let sets = g.R.FactSets.set_of c.args.sets.now c.args.s.0 in
     let tables = c.args.tables.now in
     let first = first_place tables.tables c.args.m in
     let size = place_count tables.tables c.args.m in
@@ -21,7 +21,7 @@ returns-in_err-put g c =
 pub returns-in_err-listing_text : goal.returns-in_err-listing_text
 unfolding module_lines
 returns-in_err-listing_text g c =
-    let sets = g.R.FactSets.set_of c.args.results.now c.args.s.0 in
+    let sets = g.R.FactSets.set_of c.args.sets.now c.args.s.0 in
     let tables = c.args.tables.now in
     let first = first_place tables.tables c.args.m in
     let size = place_count tables.tables c.args.m in
@@ -34,7 +34,7 @@ returns-in_err-listing_text g c =
 pub returns : goal.returns
 unfolding module_lines
 returns g c =
-    let sets = g.R.FactSets.set_of c.args.results.now c.args.s.0 in
+    let sets = g.R.FactSets.set_of c.args.sets.now c.args.s.0 in
     let tables = c.args.tables.now in
     let first = first_place tables.tables c.args.m in
     let size = place_count tables.tables c.args.m in

@@ -7,14 +7,14 @@ use Rattle.report_text.proofs.sessions.runs_part.Goals.{then-lacks, else-lacks+i
 
 pub returns-in_err-run_part : goal.returns-in_err-run_part
 returns-in_err-run_part g c =
-    let sets = g.R.FactSets.set_of c.args.results.now c.args.s.0 in
+    let sets = g.R.FactSets.set_of c.args.sets.now c.args.s.0 in
     let n = c.loop-n.n in
     let has : lacks (sets n) ≡ false = ap lacks (sym c.set.ensures) ∙ sym c.lacks.ensures ∙ c.if-lacks.false in
     progress_exit _ c.from_residual.ensures.0 c.in_err-run_part.ensures (progress_at (runs-closed c.args.job.now c.args.tables.now.places sets c.loop-n.run n c.args.past c.loop-n-test.true has) c.loop-n.invariant.lines)
 
 pub loop-n-preserved : goal.loop-n-preserved
 loop-n-preserved g c =
-    let sets = g.R.FactSets.set_of c.args.results.now c.args.s.0 in
+    let sets = g.R.FactSets.set_of c.args.sets.now c.args.s.0 in
     let places = c.args.tables.now.places in
     let n = c.loop-n.n in
     elim c.if-lacks.branch [
@@ -36,5 +36,5 @@ loop-n-preserved g c =
 
 pub returns : goal.returns
 returns g c =
-    let sets = g.R.FactSets.set_of c.args.results.now c.args.s.0 in
+    let sets = g.R.FactSets.set_of c.args.sets.now c.args.s.0 in
     progress_last c.run_part-2.ensures (progress_at (runs-end c.args.job.now c.args.tables.now.places sets c.loop-n.run c.loop-n.n c.args.past c.loop-n-test.false) c.loop-n.invariant.lines)

@@ -6,7 +6,7 @@ use Rattle.report_text.proofs.sessions.runs_part.Given as goal
 
 abbrev pub invariant-loop-n : goal.invariant-loop-n
 invariant-loop-n g l =
-    let sets = g.R.FactSets.set_of l.results l.s.0 in
+    let sets = g.R.FactSets.set_of l.sets l.s.0 in
     record {
       from : IfSome l.run (λ r. r.from < 16777216);
       last : IfSome l.run (λ r. r.last < 16777216);

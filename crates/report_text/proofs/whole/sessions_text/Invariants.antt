@@ -4,4 +4,4 @@ use Rattle.report_text.proofs.WriteLemmas.{Progress}
 use Rattle.report_text.proofs.whole.sessions_text.Given as goal
 
 abbrev pub invariant-loop-i : goal.invariant-loop-i
-invariant-loop-i g l = Progress g.K.Sink.written g.K.Sink.faults l.initial.sink l.sink (lines_from (session_part l.job l.tables (g.R.FactSets.set_of l.results)) (l.i + 1) (length l.job.sessions - l.i)) (lines_from (session_part l.job l.tables (g.R.FactSets.set_of l.results)) 1 (length l.job.sessions))
+invariant-loop-i g l = Progress g.K.Sink.written g.K.Sink.faults l.initial.sink l.sink (lines_from (session_part l.job l.tables (g.R.FactSets.set_of l.sets)) (l.i + 1) (length l.job.sessions - l.i)) (lines_from (session_part l.job l.tables (g.R.FactSets.set_of l.sets)) 1 (length l.job.sessions))
