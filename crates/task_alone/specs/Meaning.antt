@@ -1,9 +1,16 @@
 -- What the claim of the program says by this crate's clauses.
-use Rattle.std.specs.Prelude.{ℕ, zero, suc, if◌then◌else◌}
+use Rattle.std.specs.Prelude.{ℕ, zero, suc, List, if◌then◌else◌}
 use Rattle.cov_base.specs.Meaning.{Memory, State}
+use Rattle.module_area.specs.declared.places.Place.{Place}
+use Rattle.brk_table.specs.Meaning.{memory_of}
+use Rattle.session_book.specs.Meaning.{JobView, task_of}
 use Rattle.s370_state.specs.declared.endings.Next.{Next}
 use Rattle.s370_state.specs.declared.endings.Next.TheVariants.{On, Ended}
 use Rattle.s370_exec.specs.Meaning.{solo_step, has_returned}
+
+-- what task t sees: modules that were never planted
+abbrev pub task_memory : JobView → List Place → ℕ → Memory
+task_memory j places t = memory_of (task_of j t).private j.images places
 
 -- Where a task ends that runs alone.
 

@@ -1,10 +1,10 @@
 //! A task of a job that runs alone, before its first instruction.
 ghost use Rattle.std.specs.Prelude.{◌≡◌, ◌<◌, length, IfOk};
 ghost use Rattle.brk_table.specs.Kept.{AreCodes};
-ghost use Rattle.brk_table.specs.Meaning.{memory_of};
 ghost use Rattle.session_book.specs.Meaning.{task_of, first_state};
 ghost use Rattle.observed_step.specs.Steps.{IsShown, memory_at, stands};
 ghost use Rattle.task_alone.specs.Alone.{no_sessions};
+ghost use Rattle.task_alone.specs.Meaning.{task_memory};
 
 use brk_table::Tables;
 use cov_base::NoMemory;
@@ -23,7 +23,7 @@ pub fn begin_alone<'a>(
 ) -> Result<Bench<'a>, NoMemory>
     requires task { t < length job.now.tasks }
     requires tables { AreCodes job.now.images tables.now }
-    ensures memory { IfOk result (λ b. memory_at b ≡ memory_of (task_of job.now t).private job.now.images tables.now.places) }
+    ensures memory { IfOk result (λ b. memory_at b ≡ task_memory job.now tables.now.places t) }
     ensures state { IfOk result (λ b. stands b 0 ≡ first_state (task_of job.now t)) }
     ensures control { IfOk result (λ b. b.control ≡ no_sessions) }
     ensures shown { IfOk result (λ b. IsShown (memory_at b) tables.now) }
