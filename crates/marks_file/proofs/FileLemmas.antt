@@ -8,14 +8,14 @@ use Rattle.std.proofs.lemmas.Bool.{le-leb}
 use Rattle.byteorder.specs.Endian.{big_number, big_bytes}
 use Rattle.byteorder.specs.Numbers.{big_number-reads_back}
 use Rattle.cov_base.specs.Meaning.{is_filled}
-use Rattle.marks_file.specs.Meaning.{MarkedView, MarksView, is_new_name, is_base, is_size, is_count, are_modules, is_module_count, are_marks, is_runs, keeps_rules, place_count, place_bytes, module_row, module_bytes, magic, name_field, session_bytes, file_bytes, HasFile, first_bad, places_at, places_fields, header_fields, module_fields, module_at, modules_fields, count_at, table_fields, version_of, table_from, heading_fields, file_fields}
+use Rattle.marks_file.specs.Meaning.{modules_bytes, MarkedView, MarksView, is_new_name, is_base, is_size, is_count, are_modules, is_module_count, are_marks, is_runs, keeps_rules, place_count, place_bytes, module_row, module_bytes, magic, name_field, session_bytes, file_bytes, HasFile, first_bad, places_at, places_fields, header_fields, module_fields, module_at, modules_fields, count_at, table_fields, version_of, table_from, heading_fields, file_fields}
 use Rattle.marks_file.specs.Reading.{IsFault, modules_at, table_at, name_at, runs_at, marks_of, marks_at}
 use Rattle.marks_file.specs.declared.marks.MarkedPlace.{MarkedPlace}
 use Rattle.marks_file.specs.declared.fault.MarksFault.{MarksFault}
 use Rattle.marks_file.specs.declared.fault.MarksFault.TheVariants.{BadMarks, NoMemory}
 use Rattle.marks_file.specs.declared.version.Version.{Version}
 use Rattle.marks_file.specs.declared.version.Version.TheVariants.{First, Second}
-use Rattle.marks_file.proofs.Parts.{is_module, is_session_name, modules_bytes, module_size}
+use Rattle.marks_file.proofs.Parts.{is_module, is_session_name, module_size}
 use Rattle.marks_file.proofs.MarksLemmas.{both-left, both-right, both, le_of_test, marks_count}
 use Rattle.marks_file.proofs.FieldLemmas.{header_none, first_none}
 use Rattle.marks_file.proofs.SpellLemmas.{AreBytes, bytes_later, ArePlacesRead, places_read}

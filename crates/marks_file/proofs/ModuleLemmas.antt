@@ -6,9 +6,9 @@ use Rattle.std.proofs.lemmas.List.{drop-drop, take-append-drop, length-replicate
 use Rattle.byteorder.specs.Endian.{big_number, big_bytes}
 use Rattle.byteorder.specs.Numbers.{big_number-reads_back}
 use Rattle.cov_base.specs.Meaning.{is_name, is_letter, is_name_byte, padded, unpadded, is_filled}
-use Rattle.marks_file.specs.Meaning.{MarkedView, is_count, are_modules, is_module_count, are_marks, place_count, place_bytes, module_row, module_bytes, first_bad, field, places_at, places_fields, header_fields, module_fields, module_at, modules_fields, count_at, table_fields}
+use Rattle.marks_file.specs.Meaning.{modules_bytes, MarkedView, is_count, are_modules, is_module_count, are_marks, place_count, place_bytes, module_row, module_bytes, first_bad, field, places_at, places_fields, header_fields, module_fields, module_at, modules_fields, count_at, table_fields}
 use Rattle.marks_file.specs.Reading.{modules_at, table_at}
-use Rattle.marks_file.proofs.Parts.{is_module, modules_bytes, module_size}
+use Rattle.marks_file.proofs.Parts.{is_module, module_size}
 use Rattle.marks_file.proofs.MarksLemmas.{both-left, both-right, both, le_of_test, filled_name}
 use Rattle.marks_file.proofs.FieldLemmas.{module_record, all_good, none_left, none_right}
 use Rattle.marks_file.proofs.SpellLemmas.{AreBytes, bytes_later, word_of, half_of, length-places_at, ArePlaceRecords, places_spelled}

@@ -1,9 +1,7 @@
 -- Parts of the rules and of the bytes, which lemmas name.
-use Rattle.std.specs.Prelude.{ℕ, ◌+◌, ◌*◌, Bool, true, ◌&&◌, Option, option_map, unwrap_or, List, ◌++◌, length}
-use Rattle.std.specs.List.{flat_map}
-use Rattle.byteorder.specs.Endian.{big_bytes}
+use Rattle.std.specs.Prelude.{ℕ, ◌+◌, ◌*◌, Bool, true, ◌&&◌, Option, option_map, unwrap_or, List, length}
 use Rattle.cov_base.specs.Meaning.{number_of_facts, is_filled}
-use Rattle.marks_file.specs.Meaning.{MarkedView, is_location, is_length, is_original, is_set, is_new_name, is_base, is_size, is_count, are_places, module_bytes}
+use Rattle.marks_file.specs.Meaning.{MarkedView, is_location, is_length, is_original, is_set, is_new_name, is_base, is_size, is_count, are_places}
 use Rattle.marks_file.specs.declared.marks.MarkedPlace.{MarkedPlace}
 
 -- the rules of a place of a module of this size, behind one that ends there; of a module behind these; of a session's name
@@ -16,9 +14,6 @@ is_module earlier m = is_new_name earlier m.name && (is_base m.base && (is_size 
 abbrev pub is_session_name : Option (List ℕ) → Bool
 is_session_name name = unwrap_or (option_map is_filled name) true
 
--- from the number of modules on; how many bytes a module with so many places has
-abbrev pub modules_bytes : List MarkedView → List ℕ
-modules_bytes ms = big_bytes 2 (length ms) ++ flat_map module_bytes ms
-
+-- how many bytes a module with so many places has
 abbrev pub module_size : ℕ → ℕ
 module_size count = 20 + 9 * count

@@ -140,9 +140,13 @@ abbrev pub session_bytes : Version → MarksView → List ℕ
 session_bytes First m = []
 session_bytes Second m = name_field m.name ++ big_bytes 4 m.runs
 
+-- the number of modules, and the modules
+abbrev pub modules_bytes : List MarkedView → List ℕ
+modules_bytes ms = big_bytes 2 (length ms) ++ flat_map module_bytes ms
+
 -- the one spelling of these marks in a version
 abbrev pub file_bytes : Version → MarksView → List ℕ
-file_bytes v m = magic v ++ (session_bytes v m ++ (big_bytes 2 (length m.modules) ++ flat_map module_bytes m.modules))
+file_bytes v m = magic v ++ (session_bytes v m ++ modules_bytes m.modules)
 
 -- the version tells all of these marks: version 1 has no name, and stands for one run
 abbrev pub Tells : Version → MarksView → Type 0

@@ -1,8 +1,8 @@
 //! What stands before a file's modules: its magic, and in version 2 the session's name and the runs.
 ghost use Rattle.std.specs.Prelude.{◌≡◌, ◌+◌, ◌<◌, ◌≤◌, ◌^◌, ◌&&◌, length, true, false, take, drop, nat_le, None, Some, IfOk, OnOk, IfErr, IfSome, IsNone};
 ghost use Rattle.byteorder.specs.Endian.{big_number};
-ghost use Rattle.marks_file.specs.Meaning.{first_bad, is_magic, version_of, table_from, is_name_field, heading_fields};
-ghost use Rattle.marks_file.specs.Reading.{named, name_at, runs_at};
+ghost use Rattle.marks_file.specs.Meaning.{first_bad, is_magic, version_of, table_from, heading_fields};
+ghost use Rattle.marks_file.specs.Reading.{named, name_at, runs_at, has_name, has_runs};
 
 use crate::fault::BadField;
 use crate::version::Version;
@@ -47,8 +47,8 @@ pub(crate) struct Heading {
 /// The name in the 8 bytes that stand behind the magic of version 2; none where they are cut short or no field for it.
 fn session_name(bytes: &[u8]) -> Option<Option<Name>>
     ensures name { IfSome result (λ n. n ≡ named (take 8 (drop 8 bytes.now))) }
-    ensures good { IfSome result (λ _. (nat_le 16 (length bytes.now) && is_name_field (take 8 (drop 8 bytes.now))) ≡ true) }
-    ensures bad { IsNone result → (nat_le 16 (length bytes.now) && is_name_field (take 8 (drop 8 bytes.now))) ≡ false }
+    ensures good { IfSome result (λ _. has_name bytes.now ≡ true) }
+    ensures bad { IsNone result → has_name bytes.now ≡ false }
 {
     if bytes.len() < 16 {
         return None;
@@ -64,9 +64,8 @@ fn session_name(bytes: &[u8]) -> Option<Option<Name>>
 /// The runs in the 4 bytes behind the name; none where they are cut short or 0.
 fn session_runs(bytes: &[u8]) -> Option<u32>
     ensures runs { IfSome result (λ n. n ≡ big_number 4 (drop 16 bytes.now)) }
-    ensures good { IfSome result (λ _.
-        (nat_le 20 (length bytes.now) && nat_le 1 (big_number 4 (drop 16 bytes.now))) ≡ true) }
-    ensures bad { IsNone result → (nat_le 20 (length bytes.now) && nat_le 1 (big_number 4 (drop 16 bytes.now))) ≡ false }
+    ensures good { IfSome result (λ _. has_runs bytes.now ≡ true) }
+    ensures bad { IsNone result → has_runs bytes.now ≡ false }
 {
     if bytes.len() < 20 {
         return None;

@@ -1,10 +1,10 @@
 //! Reads marks files.
-ghost use Rattle.std.specs.Prelude.{◌≡◌, ℕ, ◌+◌, ◌≤◌, ◌<◌, ◌^◌, ◌&&◌, ◌++◌, [], length, true, take, drop, nat_le, None, Some, IfOk, OnOk, IfErr, slice_index};
+ghost use Rattle.std.specs.Prelude.{◌≡◌, ◌+◌, ◌≤◌, ◌<◌, ◌^◌, ◌&&◌, [], length, take, drop, nat_le, None, Some, IfOk, OnOk, IfErr, slice_index};
 ghost use Rattle.std.specs.Io.{StartsWith};
 ghost use Rattle.std.specs.List.{flat_map};
-ghost use Rattle.byteorder.specs.Endian.{big_bytes, big_number};
-ghost use Rattle.marks_file.specs.Meaning.{MarksView, is_location, is_length, is_original, is_set, kind_of_number, is_base, is_size, is_count, is_module_count, place_count, keeps_rules, module_bytes, file_bytes, HasFile, first_bad, place_at, place_fields, places_at, places_fields, header_fields, module_at, module_fields, modules_fields, table_fields, count_at, file_fields};
-ghost use Rattle.marks_file.specs.Reading.{modules_at, table_at, IsFault, marks_at};
+ghost use Rattle.byteorder.specs.Endian.{big_number};
+ghost use Rattle.marks_file.specs.Meaning.{MarksView, is_location, is_length, is_original, is_set, kind_of_number, is_base, is_size, is_count, is_module_count, place_count, module_bytes, modules_bytes, file_bytes, HasFile, first_bad, place_at, place_fields, places_at, places_fields, header_fields, module_at, module_fields, modules_fields, table_fields, count_at, file_fields};
+ghost use Rattle.marks_file.specs.Reading.{modules_at, table_at, IsFault, IfHasFile, IfBeginsWith, marks_at};
 ghost use Rattle.marks_file.specs.declared.version.Version.{Version};
 
 use crate::fault::{BadField, MarksFault};
@@ -264,8 +264,7 @@ fn read_table(
 ) -> Result<(Vec<MarkedModule>, usize), MarksFault>
     requires { from ≤ length input.now }
     ensures modules { IfOk result (λ r. r.0.items ≡ table_at (drop from input.now)) }
-    ensures end { IfOk result (λ r.
-        r.1 ≡ from + length (big_bytes 2 (length r.0.items) ++ flat_map module_bytes r.0.items)) }
+    ensures end { IfOk result (λ r. r.1 ≡ from + length (modules_bytes r.0.items)) }
     ensures good { OnOk result (first_bad (table_fields from (drop from input.now)) ≡ None) }
     ensures bad { IfErr result (IsFault (table_fields from (drop from input.now))) }
 {
@@ -307,21 +306,15 @@ fn read_file(alloc: Global, input: &[u8], from: usize) -> Result<(Marks, usize),
 pub fn read(alloc: Global, input: &[u8], from: usize) -> Result<(Marks, usize), MarksFault>
     requires { from ≤ length input.now }
     ensures file { IfOk result (λ r. HasFile from (drop from input.now) r.0 r.1) }
-    ensures only { (m : MarksView) (end : ℕ) → keeps_rules m ≡ true → HasFile from (drop from input.now) m end →
-        IfOk result (λ r. r.0 ≡ m) }
-    ensures only_end { (m : MarksView) (end : ℕ) → keeps_rules m ≡ true → HasFile from (drop from input.now) m end →
-        IfOk result (λ r. r.1 ≡ end) }
-    ensures sure { (m : MarksView) (end : ℕ) → keeps_rules m ≡ true → HasFile from (drop from input.now) m end →
-        IfErr result (λ e. e ≡ MarksFault.NoMemory) }
+    ensures only { IfHasFile from (drop from input.now) (λ m end. IfOk result (λ r. r.0 ≡ m)) }
+    ensures only_end { IfHasFile from (drop from input.now) (λ m end. IfOk result (λ r. r.1 ≡ end)) }
+    ensures sure { IfHasFile from (drop from input.now) (λ m end. IfErr result (λ e. e ≡ MarksFault.NoMemory)) }
     ensures good { OnOk result (first_bad (file_fields from (drop from input.now)) ≡ None) }
     ensures bad { IfErr result (IsFault (file_fields from (drop from input.now))) }
-    ensures one { (m n : MarksView) → keeps_rules m ≡ true → keeps_rules n ≡ true →
-        StartsWith (file_bytes Version.Second m) (file_bytes Version.Second n) → m ≡ n }
-    ensures one_first { (m n : MarksView) → keeps_rules m ≡ true → keeps_rules n ≡ true →
-        StartsWith (file_bytes Version.First m) (file_bytes Version.First n) → m.modules ≡ n.modules }
+    ensures one { IfBeginsWith Version.Second Version.Second (λ m n. m ≡ n) }
+    ensures one_first { IfBeginsWith Version.First Version.First (λ m n. m.modules ≡ n.modules) }
     ensures one_version { (v w : Version) (m n : MarksView) → StartsWith (file_bytes v m) (file_bytes w n) → v ≡ w }
-    ensures no_prefix { (v w : Version) (m n : MarksView) → keeps_rules m ≡ true → keeps_rules n ≡ true →
-        StartsWith (file_bytes v m) (file_bytes w n) → file_bytes v m ≡ file_bytes w n }
+    ensures no_prefix { (v w : Version) → IfBeginsWith v w (λ m n. file_bytes v m ≡ file_bytes w n) }
 {
     read_file(alloc, input, from)
 }

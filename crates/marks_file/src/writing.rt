@@ -4,7 +4,7 @@ ghost use Rattle.std.specs.List.{flat_map};
 ghost use Rattle.byteorder.specs.Endian.{big_bytes};
 ghost use Rattle.cov_outside.specs.Puts.{Puts};
 ghost use Rattle.cov_outside.specs.Writes.{Writes};
-ghost use Rattle.marks_file.specs.Marks.{HasRow};
+ghost use Rattle.marks_file.specs.Marks.{HasRow, written_file};
 ghost use Rattle.marks_file.specs.Meaning.{place_bytes, module_bytes, magic, name_field, file_bytes};
 ghost use Rattle.marks_file.specs.declared.version.Version.{Version};
 
@@ -90,7 +90,7 @@ fn put_file<K: Sink>(
     requires rows { All HasRow modules.now }
     requires count { length modules.now < 2 ^ 16 }
     ensures { Puts K.written K.faults sink.old sink.new buffer.old buffer.new result
-        (file_bytes Version.Second (record { name = name; runs = runs; modules = modules.now })) }
+        (written_file name runs modules.now) }
 {
     buffer.put(sink, &head(name, runs, modules.len() as u16))?;
     put_modules(buffer, sink, modules)

@@ -5,10 +5,9 @@ use Rattle.std.proofs.lemmas.List.{length-map, get_or_default}
 use Rattle.std.proofs.lemmas.List.Elements.{All-tail}
 use Rattle.std.proofs.lemmas.Bool.{ne_eqb, eq-eqb}
 use Rattle.cov_base.specs.Meaning.{FactSet}
-use Rattle.marks_file.specs.Meaning.{MarkedView, are_marks, place_row, module_row, rows}
+use Rattle.marks_file.specs.Meaning.{modules_bytes, MarkedView, are_marks, place_row, module_row, rows}
 use Rattle.marks_file.specs.Marks.{HasRow}
 use Rattle.marks_file.specs.declared.marks.MarkedPlace.{MarkedPlace}
-use Rattle.marks_file.proofs.Parts.{modules_bytes}
 use Rattle.marks_file.proofs.MarksLemmas.{same_bytes, marks_have_rows}
 use Rattle.table_combine.specs.Meaning.{Difference, first_difference, unite}
 use Rattle.table_combine.specs.Combine.{SamePlaces, SameTables}

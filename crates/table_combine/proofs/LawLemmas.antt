@@ -3,9 +3,8 @@ use Rattle.std.proofs.Common.{◌≡◌, ℕ, Bool, true, false, ◌||◌, List,
 use Rattle.std.specs.List.{flat_map}
 use Rattle.byteorder.specs.Endian.{big_bytes}
 use Rattle.cov_base.specs.Meaning.{union, FactSet, number_of_facts}
-use Rattle.marks_file.specs.Meaning.{MarkedView, place_row, place_bytes, module_row, module_bytes}
+use Rattle.marks_file.specs.Meaning.{modules_bytes, MarkedView, place_row, place_bytes, module_row, module_bytes}
 use Rattle.marks_file.specs.declared.marks.MarkedPlace.{MarkedPlace}
-use Rattle.marks_file.proofs.Parts.{modules_bytes}
 use Rattle.table_combine.specs.Meaning.{unite_place, unite_places, unite_module, unite}
 use Rattle.table_combine.specs.Combine.{SamePlaces, SameTables}
 use Rattle.table_combine.proofs.UnionLemmas.{length-unite}

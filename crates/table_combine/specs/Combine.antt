@@ -1,9 +1,9 @@
 -- Whether two files have the same table, and the union of their sets.
-use Rattle.std.specs.Prelude.{◌≡◌, ℕ, option_map, Option, Some, None, List, [], ◌∷◌}
+use Rattle.std.specs.Prelude.{◌≡◌, ℕ, option_map, Option, Some, None, List, [], ◌∷◌, ◌++◌}
 use Rattle.marks_file.specs.Meaning.{MarkedView, place_row, module_row}
 use Rattle.marks_file.specs.declared.marks.MarkedPlace.{MarkedPlace}
 use Rattle.table_combine.specs.declared.difference.OtherTable.{OtherTable}
-use Rattle.table_combine.specs.Meaning.{Difference}
+use Rattle.table_combine.specs.Meaning.{Difference, first_difference}
 
 -- the same rows, place by place and module by module
 abbrev pub SamePlaces : List MarkedPlace → List MarkedPlace → Type 0
@@ -24,3 +24,11 @@ first_row (m ∷ ms) = Some (module_row m)
 -- what an answer says
 abbrev pub difference_of : OtherTable → Difference
 difference_of e = record { row = e.row; left = option_map (λ v. v.items) e.left; right = option_map (λ v. v.items) e.right }
+
+-- it says the first row in which two tables differ, where these are their rows from this number on
+abbrev pub IsDifference : ℕ → List (List ℕ) → List (List ℕ) → OtherTable → Type 0
+IsDifference n xs ys e = first_difference n xs ys ≡ Some (difference_of e)
+
+-- and does so whatever rows stand behind these
+abbrev pub IsDifferenceWithin : ℕ → List (List ℕ) → List (List ℕ) → OtherTable → Type 0
+IsDifferenceWithin n left right e = (xs ys : List (List ℕ)) → IsDifference n (left ++ xs) (right ++ ys) e

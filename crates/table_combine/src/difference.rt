@@ -1,9 +1,8 @@
 //! The first row in which two tables differ.
-ghost use Rattle.std.specs.Prelude.{◌≡◌, ℕ, ◌+◌, ◌<◌, ◌≤◌, ◌^◌, ◌++◌, List, length, map, drop, option_map, Some, None, IfSome, IsNone, All};
+ghost use Rattle.std.specs.Prelude.{◌≡◌, ◌+◌, ◌<◌, ◌≤◌, ◌^◌, length, map, drop, option_map, IfSome, IsNone, All};
 ghost use Rattle.marks_file.specs.Meaning.{place_count, place_row, module_row, module_rows, rows};
 ghost use Rattle.marks_file.specs.Marks.{HasRow};
-ghost use Rattle.table_combine.specs.Meaning.{first_difference};
-ghost use Rattle.table_combine.specs.Combine.{difference_of, first_row, SamePlaces, SameTables};
+ghost use Rattle.table_combine.specs.Combine.{first_row, IsDifference, IsDifferenceWithin, SamePlaces, SameTables};
 
 use arrayvec::ArrayVec;
 use marks_file::{MarkedModule, MarkedPlace, module_row, place_row};
@@ -34,8 +33,7 @@ fn places_difference(row: u32, a: &[MarkedPlace], b: &[MarkedPlace]) -> Option<O
     requires same { length a.now ≡ length b.now }
     requires fits { row + length a.now < 2 ^ 32 }
     ensures none { IsNone result → SamePlaces a.now b.now }
-    ensures some { IfSome result (λ e. (xs ys : List (List ℕ)) →
-        first_difference row (map place_row a.now ++ xs) (map place_row b.now ++ ys) ≡ Some (difference_of e)) }
+    ensures some { IfSome result (IsDifferenceWithin row (map place_row a.now) (map place_row b.now)) }
 {
     for i in 0..a.len() {
         let left = place_row(&a[i]);
@@ -57,8 +55,7 @@ fn module_difference(row: u32, a: &MarkedModule, b: &MarkedModule) -> Option<Oth
     requires right { HasRow b.now }
     requires fits { row + 1 + length a.now.places < 2 ^ 32 }
     ensures none { IsNone result → (module_row a.now ≡ module_row b.now) × SamePlaces a.now.places b.now.places }
-    ensures some { IfSome result (λ e. (xs ys : List (List ℕ)) →
-        first_difference row (module_rows a.now ++ xs) (module_rows b.now ++ ys) ≡ Some (difference_of e)) }
+    ensures some { IfSome result (IsDifferenceWithin row (module_rows a.now) (module_rows b.now)) }
 {
     let left = module_row(a);
     let right = module_row(b);
@@ -90,7 +87,7 @@ pub(crate) fn first_difference(a: &[MarkedModule], b: &[MarkedModule]) -> Option
     requires right { All HasRow b.now }
     requires fits { length a.now + place_count a.now < 2 ^ 32 }
     ensures none { IsNone result → SameTables a.now b.now }
-    ensures some { IfSome result (λ e. first_difference 0 (rows a.now) (rows b.now) ≡ Some (difference_of e)) }
+    ensures some { IfSome result (IsDifference 0 (rows a.now) (rows b.now)) }
 {
     let mut row: u32 = 0;
     let both = a.len().min(b.len());

@@ -1,8 +1,8 @@
 //! The union of two files.
-ghost use Rattle.std.specs.Prelude.{◌≡◌, ◌+◌, IsOk, OnOk, OnErr, IfErr, Some, None};
+ghost use Rattle.std.specs.Prelude.{◌≡◌, ◌+◌, IsOk, OnOk, OnErr, IfErr};
 ghost use Rattle.marks_file.specs.Meaning.{rows};
-ghost use Rattle.table_combine.specs.Meaning.{first_difference, unite_place, unite_places, unite_module, unite, held};
-ghost use Rattle.table_combine.specs.Combine.{difference_of};
+ghost use Rattle.table_combine.specs.Meaning.{unite_place, unite_places, unite_module, unite, held};
+ghost use Rattle.table_combine.specs.Combine.{IsDifference};
 
 use crate::difference::{OtherTable, first_difference};
 use marks_file::{MarkedModule, MarkedPlace, Marks};
@@ -50,8 +50,7 @@ pub fn combine(a: &mut Marks, b: &Marks) -> Result<(), OtherTable>
     ensures itself { unite a.old.modules a.old.modules ≡ a.old.modules }
     ensures same_file { b.now.modules ≡ a.old.modules → a.new.modules ≡ a.old.modules }
     ensures same_file_ok { b.now.modules ≡ a.old.modules → IsOk result }
-    ensures other { IfErr result (λ e.
-        first_difference 0 (rows a.old.modules) (rows b.now.modules) ≡ Some (difference_of e)) }
+    ensures other { IfErr result (IsDifference 0 (rows a.old.modules) (rows b.now.modules)) }
     ensures kept { OnErr result (a.new ≡ a.old) }
 {
     match first_difference(&a.modules, &b.modules) {

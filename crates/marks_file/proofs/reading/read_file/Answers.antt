@@ -1,8 +1,7 @@
 use Rattle.std.proofs.Common.{◌≡◌, ◌+◌, None, Some, length, drop, ap, sym, subst, ◌∙◌, arith}
 use Rattle.std.proofs.lemmas.Result.{err_from_is_err_and}
-use Rattle.marks_file.specs.Meaning.{MarksView, keeps_rules, HasFile, first_bad, table_fields, heading_fields, version_of, table_from}
+use Rattle.marks_file.specs.Meaning.{modules_bytes, MarksView, keeps_rules, HasFile, first_bad, table_fields, heading_fields, version_of, table_from}
 use Rattle.marks_file.specs.Reading.{name_at, runs_at, marks_at}
-use Rattle.marks_file.proofs.Parts.{modules_bytes}
 use Rattle.marks_file.proofs.FieldLemmas.{first_none, first_some}
 use Rattle.marks_file.proofs.SpellLemmas.{AreBytes, bytes_later}
 use Rattle.marks_file.proofs.FileLemmas.{file_spelled, fault_behind, table_moved, marks_read}
