@@ -17,8 +17,7 @@ use Rattle.marks_file.specs.declared.marks.MarkedPlace.{MarkedPlace}
 use Rattle.marks_file.proofs.Parts.{is_place, is_module}
 use Rattle.module_area.specs.declared.places.Place.{Place}
 use Rattle.session_marks.specs.Filled.{with_sets, filled_module, filled, AreThere}
-use Rattle.session_marks.specs.Meaning.{marked_place, marked_module}
-use Rattle.session_marks.proofs.PlaceLemmas.{marked_places}
+use Rattle.session_marks.specs.Meaning.{marked_places, marked_place, marked_module}
 use Rattle.session_marks.proofs.RuleLemmas.{length-marked_places}
 
 none_filled : (tables : TablesView) (sets : ℕ → FactSet) (ms : List MarkedView) (ns : List ℕ) → min (length ms) (length ns) ≡ 0 → filled tables sets ms ns ≡ ms

@@ -25,8 +25,7 @@ use Rattle.session_book.specs.Meaning.{JobView, module_of, no_module}
 use Rattle.session_book.specs.JobView.{IsJob}
 use Rattle.session_book.specs.Sets.{AreWithin}
 use Rattle.session_marks.specs.Fields.{HasGoodFields, AreHalfwords}
-use Rattle.session_marks.specs.Meaning.{marked_module}
-use Rattle.session_marks.proofs.PlaceLemmas.{marked_places}
+use Rattle.session_marks.specs.Meaning.{marked_places, marked_module}
 use Rattle.session_marks.proofs.TableLemmas.{OwnTable, own_table, Differ, count_of, counts_fit, count_more, first_differs, rest_differs}
 use Rattle.session_marks.proofs.RuleLemmas.{AreMarkable, places_kept, some_bytes, length-marked_places}
 

@@ -4,11 +4,7 @@ use Rattle.std.specs.List.{range_with_len}
 use Rattle.cov_base.specs.Meaning.{FactSet}
 use Rattle.module_area.specs.declared.places.Place.{Place}
 use Rattle.marks_file.specs.declared.marks.MarkedPlace.{MarkedPlace}
-use Rattle.session_marks.specs.Meaning.{marked_place}
-
--- so many places from n on
-abbrev pub marked_places : ℕ → List Place → (ℕ → FactSet) → ℕ → ℕ → List MarkedPlace
-marked_places base places sets n count = map (marked_place base places sets) (range_with_len n count)
+use Rattle.session_marks.specs.Meaning.{marked_place, marked_places}
 
 counted_on : (base : ℕ) (places : List Place) (sets : ℕ → FactSet) (n count : ℕ) → marked_places base places sets n (suc count) ≡ marked_places base places sets n count ++ marked_place base places sets (n + count) ∷ []
 counted_on base places sets n zero = let at : n ≡ n + 0 = omega arith in ap (λ k. marked_place base places sets k ∷ []) at

@@ -16,8 +16,7 @@ use Rattle.marks_file.proofs.MarksLemmas.{both}
 use Rattle.marks_file.proofs.SpellLemmas.{set_read}
 use Rattle.table_combine.proofs.UnionLemmas.{small_number}
 use Rattle.session_marks.specs.Fields.{AreHalfwords}
-use Rattle.session_marks.specs.Meaning.{marked_place}
-use Rattle.session_marks.proofs.PlaceLemmas.{marked_places}
+use Rattle.session_marks.specs.Meaning.{marked_places, marked_place}
 
 pub one_run : is_runs 1 ≡ true
 unfolding is_runs

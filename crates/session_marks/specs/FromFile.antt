@@ -1,11 +1,11 @@
 -- The sets that a marks file has for a session, and why a file is none of the session's: by its modules alone, whatever
 -- name and runs it has.
-use Rattle.std.specs.Prelude.{◌≡◌, ◌⊎◌, ℕ, ◌+◌, ◌<◌, ◌≤◌, true, Some, None, List, length, get_or, All}
+use Rattle.std.specs.Prelude.{◌≡◌, ◌⊎◌, ℕ, ◌+◌, ◌<◌, ◌≤◌, true, None, List, length, get_or, All}
 use Rattle.cov_base.specs.Meaning.{FactSet, no_facts}
 use Rattle.marks_file.specs.Meaning.{MarkedView, are_marks, rows}
 use Rattle.marks_file.specs.declared.marks.MarkedPlace.{MarkedPlace}
 use Rattle.table_combine.specs.Meaning.{first_difference}
-use Rattle.table_combine.specs.Combine.{difference_of}
+use Rattle.table_combine.specs.Combine.{IsDifference}
 use Rattle.brk_table.specs.Meaning.{TableView, TablesView, first_place, place_count}
 use Rattle.session_book.specs.Meaning.{JobView, session_of}
 use Rattle.session_marks.specs.Meaning.{session_marks, session_rows}
@@ -32,6 +32,14 @@ HasSetsAt sets n places = (k : ℕ) (d : MarkedPlace) → k < length places → 
 abbrev pub HaveSetsAt : List TableView → (ℕ → FactSet) → ℕ → List ℕ → List MarkedView → Type 0
 HaveSetsAt tables sets count modules file = (i m : ℕ) (d : MarkedView) → i < count → HasSetsAt sets (first_place tables (get_or modules i m)) (get_or file i d).places
 
+-- the sets of all of them
+abbrev pub HaveSets : List TableView → (ℕ → FactSet) → List ℕ → List MarkedView → Type 0
+HaveSets tables sets modules file = HaveSetsAt tables sets (length modules) modules file
+
+-- each of them has as many places as its table
+abbrev pub HaveCounts : List TableView → List ℕ → List MarkedView → Type 0
+HaveCounts tables modules file = (i m : ℕ) (d : MarkedView) → i < length modules → length (get_or file i d).places ≡ place_count tables (get_or modules i m)
+
 -- the number is of no place of module m
 abbrev pub IsOutside : List TableView → ℕ → ℕ → Type 0
 IsOutside tables m n = (n < first_place tables m) ⊎ (first_place tables m + place_count tables m ≤ n)
@@ -40,9 +48,13 @@ IsOutside tables m n = (n < first_place tables m) ⊎ (first_place tables m + pl
 abbrev pub AreEmptyElsewhere : List TableView → (ℕ → FactSet) → List ℕ → Type 0
 AreEmptyElsewhere tables sets modules = (n : ℕ) → All (λ m. IsOutside tables m n) modules → sets n ≡ no_facts
 
+-- where no module of session s has one
+abbrev pub AreOfSession : JobView → TablesView → ℕ → List FactSet → Type 0
+AreOfSession j tables s sets = AreEmptyElsewhere tables.tables (set_at sets) (session_of j s).modules
+
 -- why a file is none of the session's: the first row in which its table, on the right, differs from the session's
 abbrev pub IsSetsFault : JobView → TablesView → ℕ → List MarkedView → SetsFault → Type 0
-IsSetsFault j tables s file (Other e) = first_difference 0 (session_rows j tables s) (rows file) ≡ Some (difference_of e)
+IsSetsFault j tables s file (Other e) = IsDifference 0 (session_rows j tables s) (rows file) e
 IsSetsFault j tables s file NoMemory = Unit {0}
 
 -- the sets with which a file is the session's marks

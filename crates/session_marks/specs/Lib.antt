@@ -1,5 +1,6 @@
 pub mod Fields
 pub mod Filled
 pub mod FromFile
+pub mod Marking
 pub mod Meaning
 pub mod Sample

@@ -17,18 +17,25 @@ marked_place base places sets n =
     let p : Place = place_of places n in
     record { location = p.at - base; len = p.len; kind = p.kind; original = p.original; set = sets n }
 
+-- so many places from number n on
+abbrev pub marked_places : ℕ → List Place → (ℕ → FactSet) → ℕ → ℕ → List MarkedPlace
+marked_places base places sets n count = map (marked_place base places sets) (range_with_len n count)
+
 -- module m; one that has no table has no places
 abbrev pub marked_module : JobView → TablesView → (ℕ → FactSet) → ℕ → MarkedView
 marked_module j tables sets m = record {
   name = (module_of j m).name;
   base = (module_of j m).base;
   size = length (module_of j m).bytes;
-  places = map (marked_place (module_of j m).base tables.places sets) (range_with_len (first_place tables.tables m) (place_count tables.tables m));
+  places = marked_places (module_of j m).base tables.places sets (first_place tables.tables m) (place_count tables.tables m);
 }
+
+abbrev pub marked_modules : JobView → TablesView → (ℕ → FactSet) → List ℕ → List MarkedView
+marked_modules j tables sets modules = map (marked_module j tables sets) modules
 
 -- the modules of session s in the order of its card; `sets` has the set of the place of each number
 abbrev pub session_marks : JobView → TablesView → (ℕ → FactSet) → ℕ → List MarkedView
-session_marks j tables sets s = map (marked_module j tables sets) (session_of j s).modules
+session_marks j tables sets s = marked_modules j tables sets (session_of j s).modules
 
 -- what one run of the job tells of it: its name too
 abbrev pub session_file : JobView → TablesView → (ℕ → FactSet) → ℕ → MarksView

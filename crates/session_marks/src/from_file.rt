@@ -1,13 +1,11 @@
 //! The sets of a session that a marks file has.
-ghost use Rattle.std.specs.Prelude.{◌≡◌, ◌≢◌, ◌⊎◌, ℕ, ◌+◌, ◌<◌, ◌≤◌, length, get_or, replicate, AllPairs, IfOk, IfErr};
+ghost use Rattle.std.specs.Prelude.{◌≡◌, ◌≢◌, ◌⊎◌, ℕ, ◌+◌, ◌<◌, ◌≤◌, length, replicate, AllPairs, IfOk, IfErr};
 ghost use Rattle.cov_base.specs.Meaning.{no_facts};
-ghost use Rattle.brk_table.specs.Meaning.{place_count};
 ghost use Rattle.brk_table.specs.Together.{AreTables};
-ghost use Rattle.marks_file.specs.Meaning.{MarkedView};
 ghost use Rattle.session_book.specs.Meaning.{session_of};
 ghost use Rattle.session_book.specs.Sets.{HasSetsOf};
 ghost use Rattle.session_marks.specs.Meaning.{session_marks};
-ghost use Rattle.session_marks.specs.FromFile.{set_at, sets_of_one, HasSetsAt, HaveSetsAt, AreEmptyElsewhere, IsSetsFault, IsDecided};
+ghost use Rattle.session_marks.specs.FromFile.{set_at, sets_of_one, HasSetsAt, HaveSets, HaveCounts, AreEmptyElsewhere, AreOfSession, IsSetsFault, IsDecided};
 
 use crate::marking::marks_of;
 use crate::no_sets::NoSets;
@@ -86,11 +84,9 @@ fn sets_of(
 ) -> Result<Vec<Bits>, NoMemory>
     requires differ { AllPairs (λ m n. m ≢ n) modules.now }
     requires modules { length file.now ≡ length modules.now }
-    requires counts { (i m : ℕ) (d : MarkedView) → i < length modules.now →
-        length (get_or file.now i d).places ≡ place_count tables.now.tables (get_or modules.now i m) }
+    requires counts { HaveCounts tables.now.tables modules.now file.now }
     ensures size { IfOk result (λ v. length v.items ≡ length tables.now.places) }
-    ensures sets { IfOk result (λ v.
-        HaveSetsAt tables.now.tables (set_at v.items) (length modules.now) modules.now file.now) }
+    ensures sets { IfOk result (λ v. HaveSets tables.now.tables (set_at v.items) modules.now file.now) }
     ensures elsewhere { IfOk result (λ v. AreEmptyElsewhere tables.now.tables (set_at v.items) modules.now) }
 {
     let mut sets = empty_sets(alloc, tables.len() as usize)?;
@@ -118,8 +114,7 @@ fn session_sets(
     requires differ { AllPairs (λ m n. m ≢ n) modules.now }
     ensures same { IfOk result (λ f. file.now.modules ≡ session_marks job.now tables.now (set_at f.sets) s.0) }
     ensures sets { IfOk result (λ f. HasSetsOf job.now tables.now f.session (length f.sets) (sets_of_one f) s.0) }
-    ensures elsewhere { IfOk result (λ f.
-        AreEmptyElsewhere tables.now.tables (set_at f.sets) (session_of job.now s.0).modules) }
+    ensures elsewhere { IfOk result (λ f. AreOfSession job.now tables.now s.0 f.sets) }
     ensures fault { IfErr result (λ e. IsSetsFault job.now tables.now s.0 file.now.modules e) }
 {
     let none = NoSets {
@@ -156,8 +151,7 @@ pub fn file_sets(
     requires tables { AreTables job.now.images tables.now.tables }
     ensures same { IfOk result (λ f. file.now.modules ≡ session_marks job.now tables.now (set_at f.sets) s.0) }
     ensures sets { IfOk result (λ f. HasSetsOf job.now tables.now f.session (length f.sets) (sets_of_one f) s.0) }
-    ensures elsewhere { IfOk result (λ f.
-        AreEmptyElsewhere tables.now.tables (set_at f.sets) (session_of job.now s.0).modules) }
+    ensures elsewhere { IfOk result (λ f. AreOfSession job.now tables.now s.0 f.sets) }
     ensures decided { IsDecided job.now tables.now s.0 file.now.modules }
     ensures fault { IfErr result (λ e. IsSetsFault job.now tables.now s.0 file.now.modules e) }
 {

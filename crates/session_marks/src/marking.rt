@@ -1,12 +1,12 @@
 //! The marks that a session's sets come to.
-ghost use Rattle.std.specs.Prelude.{◌≡◌, ℕ, ◌+◌, ◌-◌, ◌<◌, ◌≤◌, length, map, All, IfOk};
-ghost use Rattle.std.specs.List.{range_with_len};
+ghost use Rattle.std.specs.Prelude.{◌≡◌, ℕ, ◌+◌, ◌<◌, ◌≤◌, length, All, IfOk};
 ghost use Rattle.brk_table.specs.Together.{AreTables};
 ghost use Rattle.module_area.specs.Meaning.{place_of};
 ghost use Rattle.session_book.specs.JobView.{IsJob, IsSession};
 ghost use Rattle.session_book.specs.Meaning.{module_of, session_of};
 ghost use Rattle.session_book.specs.Sets.{HasSetsOf, AreWithin};
-ghost use Rattle.session_marks.specs.Meaning.{marked_place, marked_module, session_file};
+ghost use Rattle.session_marks.specs.Meaning.{marked_place, marked_module, marked_modules, session_file};
+ghost use Rattle.session_marks.specs.Marking.{marked_between};
 ghost use Rattle.session_marks.specs.Fields.{HasGoodFields, AreHalfwords};
 
 use brk_table::Tables;
@@ -24,19 +24,13 @@ fn original_of(place: &Place) -> u16
 }
 
 /// A place of a module of this base, and its set.
-fn marked_place<R: FactSets>(
-    tables: &Tables,
-    results: &R,
-    s: SessNo,
-    base: u32,
-    n: u32,
-) -> MarkedPlace
+fn marked_place<R: FactSets>(tables: &Tables, sets: &R, s: SessNo, base: u32, n: u32) -> MarkedPlace
     requires some { 0 < s.0 }
-    requires session { s.0 < R.sessions results.now + 1 }
-    requires size { R.places results.now ≡ length tables.now.places }
+    requires session { s.0 < R.sessions sets.now + 1 }
+    requires size { R.places sets.now ≡ length tables.now.places }
     requires exists { n < length tables.now.places }
     requires from { base ≤ (place_of tables.now.places n).at }
-    ensures value { result ≡ marked_place base tables.now.places (R.set_of results.now s.0) n }
+    ensures value { result ≡ marked_place base tables.now.places (R.set_of sets.now s.0) n }
     ensures halfword { result.original < 65536 }
 {
     let place = tables.place(PlaceNo(n));
@@ -45,7 +39,7 @@ fn marked_place<R: FactSets>(
         len: place.len,
         kind: place.kind,
         original: original_of(place),
-        set: results.set(s, PlaceNo(n)),
+        set: sets.set(s, PlaceNo(n)),
     }
 }
 
@@ -53,25 +47,24 @@ fn marked_place<R: FactSets>(
 fn marked_places<R: FactSets>(
     alloc: Global,
     tables: &Tables,
-    results: &R,
+    sets: &R,
     s: SessNo,
     base: u32,
     first: u32,
     past: u32,
 ) -> Result<Vec<MarkedPlace>, NoMemory>
     requires some { 0 < s.0 }
-    requires session { s.0 < R.sessions results.now + 1 }
-    requires size { R.places results.now ≡ length tables.now.places }
+    requires session { s.0 < R.sessions sets.now + 1 }
+    requires size { R.places sets.now ≡ length tables.now.places }
     requires range { first ≤ past }
     requires exist { past ≤ length tables.now.places }
     requires from { (n : ℕ) → first ≤ n → n < past → base ≤ (place_of tables.now.places n).at }
-    ensures value { IfOk result (λ v.
-        v.items ≡ map (marked_place base tables.now.places (R.set_of results.now s.0)) (range_with_len first (past - first))) }
+    ensures value { IfOk result (λ v. v.items ≡ marked_between base tables.now (R.set_of sets.now s.0) first past) }
     ensures halfwords { IfOk result (λ v. AreHalfwords v.items) }
 {
     let mut places = Vec::with_capacity(alloc, (past - first) as usize)?;
     for n in first..past {
-        places.push(marked_place(tables, results, s, base, n))?;
+        places.push(marked_place(tables, sets, s, base, n))?;
     }
     Ok(places)
 }
@@ -97,23 +90,23 @@ fn marked_module<R: FactSets>(
     alloc: Global,
     job: &Job,
     tables: &Tables,
-    results: &R,
+    sets: &R,
     s: SessNo,
     m: u32,
 ) -> Result<MarkedModule, NoMemory>
     requires module { m < length job.now.images }
     requires tables { AreTables job.now.images tables.now.tables }
     requires some { 0 < s.0 }
-    requires session { s.0 < R.sessions results.now + 1 }
-    requires size { R.places results.now ≡ length tables.now.places }
-    requires within { AreWithin tables.now (R.set_of results.now s.0) m }
-    ensures value { IfOk result (λ v. v ≡ marked_module job.now tables.now (R.set_of results.now s.0) m) }
+    requires session { s.0 < R.sessions sets.now + 1 }
+    requires size { R.places sets.now ≡ length tables.now.places }
+    requires within { AreWithin tables.now (R.set_of sets.now s.0) m }
+    ensures value { IfOk result (λ v. v ≡ marked_module job.now tables.now (R.set_of sets.now s.0) m) }
     ensures fields { IfOk result (λ v. HasGoodFields v) }
 {
     let image = image_of(job, m);
     let base = image.base.get();
     let (first, past) = tables.range(m);
-    let places = marked_places(alloc, tables, results, s, base, first, past)?;
+    let places = marked_places(alloc, tables, sets, s, base, first, past)?;
     Ok(MarkedModule {
         name: name_of(image),
         base,
@@ -127,23 +120,22 @@ fn marked_modules<R: FactSets>(
     alloc: Global,
     job: &Job,
     tables: &Tables,
-    results: &R,
+    sets: &R,
     s: SessNo,
     modules: &[u32],
 ) -> Result<Vec<MarkedModule>, NoMemory>
     requires modules { All (λ m. m < length job.now.images) modules.now }
     requires tables { AreTables job.now.images tables.now.tables }
     requires some { 0 < s.0 }
-    requires session { s.0 < R.sessions results.now + 1 }
-    requires size { R.places results.now ≡ length tables.now.places }
-    requires within { All (AreWithin tables.now (R.set_of results.now s.0)) modules.now }
-    ensures value { IfOk result (λ v.
-        v.items ≡ map (marked_module job.now tables.now (R.set_of results.now s.0)) modules.now) }
+    requires session { s.0 < R.sessions sets.now + 1 }
+    requires size { R.places sets.now ≡ length tables.now.places }
+    requires within { All (AreWithin tables.now (R.set_of sets.now s.0)) modules.now }
+    ensures value { IfOk result (λ v. v.items ≡ marked_modules job.now tables.now (R.set_of sets.now s.0) modules.now) }
     ensures fields { IfOk result (λ v. All HasGoodFields v.items) }
 {
     let mut marked = Vec::with_capacity(alloc, modules.len())?;
     for m in modules {
-        marked.push(marked_module(alloc, job, tables, results, s, *m)?)?;
+        marked.push(marked_module(alloc, job, tables, sets, s, *m)?)?;
     }
     Ok(marked)
 }
@@ -176,17 +168,16 @@ pub fn marks_of<R: FactSets>(
     alloc: Global,
     job: &Job,
     tables: &Tables,
-    results: &R,
+    sets: &R,
     s: SessNo,
 ) -> Result<Marks, NoMemory>
     requires from { 0 < s.0 }
     requires to { s.0 ≤ length job.now.sessions }
     requires tables { AreTables job.now.images tables.now.tables }
-    requires sets { HasSetsOf job.now tables.now
-        (R.sessions results.now) (R.places results.now) (R.set_of results.now) s.0 }
-    ensures { IfOk result (λ m. m ≡ session_file job.now tables.now (R.set_of results.now s.0) s.0) }
+    requires sets { HasSetsOf job.now tables.now (R.sessions sets.now) (R.places sets.now) (R.set_of sets.now) s.0 }
+    ensures { IfOk result (λ m. m ≡ session_file job.now tables.now (R.set_of sets.now s.0) s.0) }
 {
-    let modules = marked_modules(alloc, job, tables, results, s, modules_of(job, s))?;
+    let modules = marked_modules(alloc, job, tables, sets, s, modules_of(job, s))?;
     Ok(Marks {
         name: Some(session_name(job, s)),
         runs: 1,

@@ -23,7 +23,7 @@ pub invariant_of-marks : goal.invariant_of-marks
 invariant_of-marks g c =
     let j : JobView = c.args.job.now in
     let t : TablesView = c.args.tables.now in
-    let sets : ℕ → FactSet = g.R.FactSets.set_of c.args.results.now c.args.s.0 in
+    let sets : ℕ → FactSet = g.R.FactSets.set_of c.args.sets.now c.args.s.0 in
     let ms : List ℕ = (session_of j c.args.s.0).modules in
     let is = c.modules_of.ensures.is in
     let old : c.marks.inside.modules.items ≡ map (marked_module j t (λ n. no_facts)) ms = ap (λ (x : MarksView). x.modules) (c.marks.view_is ∙ c.requires.empty) in
@@ -40,7 +40,7 @@ pub returns : goal.returns
 returns g c =
     let j : JobView = c.args.job.now in
     let t : TablesView = c.args.tables.now in
-    let sets : ℕ → FactSet = g.R.FactSets.set_of c.args.results.now c.args.s.0 in
+    let sets : ℕ → FactSet = g.R.FactSets.set_of c.args.sets.now c.args.s.0 in
     let ms : List ℕ = (session_of j c.args.s.0).modules in
     let old : c.marks.inside.modules.items ≡ map (marked_module j t (λ n. no_facts)) ms = ap (λ (x : MarksView). x.modules) (c.marks.view_is ∙ c.requires.empty) in
     let new : c.fill_modules.new.marked ≡ map (marked_module j t sets) ms =

@@ -6,7 +6,7 @@ use Rattle.session_marks.proofs.marking.marked_modules.Goals as goal
 
 pub loop-m-preserved : goal.loop-m-preserved
 loop-m-preserved g c =
-    let f = marked_module c.args.job.now c.args.tables.now (g.R.FactSets.set_of c.args.results.now c.args.s.0) in
+    let f = marked_module c.args.job.now c.args.tables.now (g.R.FactSets.set_of c.args.sets.now c.args.s.0) in
     let before = c.loop-m.invariant in
     let pushed = c.in_ok-push.ensures.items in
     record {

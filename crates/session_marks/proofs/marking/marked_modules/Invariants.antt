@@ -5,6 +5,6 @@ use Rattle.session_marks.proofs.marking.marked_modules.Given as goal
 
 abbrev pub invariant-loop-m : goal.invariant-loop-m
 invariant-loop-m g l = record {
-  items : l.marked.items ≡ map (marked_module l.job l.tables (g.R.FactSets.set_of l.results l.s.0)) (take l.m-index l.modules);
+  items : l.marked.items ≡ map (marked_module l.job l.tables (g.R.FactSets.set_of l.sets l.s.0)) (take l.m-index l.modules);
   fields : All HasGoodFields l.marked.items;
 }

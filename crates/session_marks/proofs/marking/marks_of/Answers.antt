@@ -11,7 +11,7 @@ pub invariant_of-result : goal.invariant_of-result
 invariant_of-result g c =
     let job = c.args.job.now in
     let tables = c.args.tables.now in
-    let sets = g.R.FactSets.set_of c.args.results.now c.args.s.0 in
+    let sets = g.R.FactSets.set_of c.args.sets.now c.args.s.0 in
     let modules = (session_of job c.args.s.0).modules in
     let is = c.modules_of.ensures.is in
     let value = c.in_ok-modules.ensures.value in
