@@ -14,10 +14,8 @@ use Rattle.marks_file.specs.Meaning.{MarkedView}
 use Rattle.marks_file.specs.declared.marks.MarkedPlace.{MarkedPlace}
 use Rattle.marks_file.proofs.MarksLemmas.{same_bytes}
 use Rattle.session_book.specs.Meaning.{JobView, module_of}
-use Rattle.session_marks.specs.Meaning.{marked_place, marked_module}
-use Rattle.session_marks.proofs.PlaceLemmas.{marked_places}
-use Rattle.evidence_check.specs.Meaning.{facts_of_places, facts_of_modules, Claim, agrees, past, past_place, past_places, place_claims, places_claims, modules_claims, first_refuted, entry_bytes, fact_bytes, place_entries, module_entries}
-use Rattle.evidence_check.proofs.EntryLemmas.{places_entries}
+use Rattle.session_marks.specs.Meaning.{marked_place, marked_module, marked_places}
+use Rattle.evidence_check.specs.Meaning.{facts_of_places, facts_of_modules, Claim, agrees, past, past_place, past_places, place_claims, places_claims, modules_claims, first_refuted, entry_bytes, fact_bytes, place_entries, places_entries, module_entries}
 use Rattle.evidence_check.specs.declared.firsts.First.{First}
 use Rattle.evidence_check.proofs.FieldLemmas.{AreEntries, entry_written}
 use Rattle.evidence_check.proofs.VisitLemmas.{IsFirst}

@@ -6,14 +6,10 @@ use Rattle.cov_base.specs.declared.facts.Fact.TheVariants.{Ran, Went, Stayed}
 use Rattle.brk_table.specs.Meaning.{TablesView, all_places, first_place, place_count}
 use Rattle.session_book.specs.Meaning.{JobView, session_of}
 use Rattle.session_marks.proofs.FillLemmas.{range_most}
-use Rattle.evidence_check.specs.Meaning.{magic, place_entries, module_entries, evidence, phase_first, session_first}
+use Rattle.evidence_check.specs.Meaning.{magic, place_entries, places_entries, module_entries, evidence, phase_first, session_first}
 use Rattle.evidence_check.specs.Found.{found_at, AreFirsts}
 use Rattle.evidence_check.specs.declared.firsts.First.{First}
 use Rattle.evidence_check.specs.declared.firsts.Found.{Found}
-
--- of so many places, of which the first has number n
-abbrev pub places_entries : (ℕ → Fact → Option First) → ℕ → ℕ → List ℕ
-places_entries firsts n count = flat_map (λ k. place_entries (firsts k)) (range_with_len n count)
 
 left : (past n : ℕ) → n < past → past - n ≡ suc (past - (n + 1))
 left past n lt = omega arith

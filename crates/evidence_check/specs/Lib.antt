@@ -3,3 +3,4 @@ pub mod Meaning
 pub mod Noting
 pub mod Proved
 pub mod Verified
+pub mod Written

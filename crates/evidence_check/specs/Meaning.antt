@@ -7,7 +7,7 @@ use Rattle.cov_base.specs.declared.facts.Fact.{Fact}
 use Rattle.s370_exec.specs.Meaning.{solo_run}
 use Rattle.module_area.specs.Meaning.{executes, place_of, fact_count}
 use Rattle.module_area.specs.declared.places.Place.{Place}
-use Rattle.brk_table.specs.Meaning.{memory_of, TablesView, first_place, place_count}
+use Rattle.brk_table.specs.Meaning.{TablesView, first_place, place_count}
 use Rattle.session_book.specs.Meaning.{JobView, TaskView, task_of, session_of, first_state, session_set}
 use Rattle.evidence_check.specs.declared.firsts.First.{First}
 use Rattle.byteorder.specs.Endian.{big_bytes, big_number}
@@ -17,12 +17,13 @@ use Rattle.marks_file.specs.Meaning.{MarkedView, Field, field}
 use Rattle.marks_file.specs.declared.marks.MarkedPlace.{MarkedPlace}
 use Rattle.cov_base.specs.declared.limits.TheConstants.{BUDGET_LIMIT}
 use Rattle.session_marks.specs.Meaning.{session_marks}
+use Rattle.task_alone.specs.Meaning.{task_memory}
 
 -- The first visit that shows a fact at a place.
 
 -- the visits of a task's run alone, over modules that were never planted
 abbrev pub trace_of : JobView → List Place → ℕ → List Visit
-trace_of j places t = (solo_run (memory_of (task_of j t).private j.images places) (task_of j t).budget (first_state (task_of j t))).trace
+trace_of j places t = (solo_run (task_memory j places t) (task_of j t).budget (first_state (task_of j t))).trace
 
 -- the visit executes the instruction at the place, and shows this fact
 abbrev pub shows : Place → Fact → Visit → Bool
@@ -67,9 +68,13 @@ fact_bytes (Some v) = entry_bytes v
 abbrev pub place_entries : (Fact → Option First) → List ℕ
 place_entries firsts = fact_bytes (firsts Ran) ++ (fact_bytes (firsts Went) ++ fact_bytes (firsts Stayed))
 
+-- of so many places, of which the first has number n
+abbrev pub places_entries : (ℕ → Fact → Option First) → ℕ → ℕ → List ℕ
+places_entries firsts n count = flat_map (λ k. place_entries (firsts k)) (range_with_len n count)
+
 -- of module m's places
 abbrev pub module_entries : TablesView → (ℕ → Fact → Option First) → ℕ → List ℕ
-module_entries tables firsts m = flat_map (λ n. place_entries (firsts n)) (range_with_len (first_place tables.tables m) (place_count tables.tables m))
+module_entries tables firsts m = places_entries firsts (first_place tables.tables m) (place_count tables.tables m)
 
 -- of all places of the session's marks, in the order of its marks files, the first visits that show their facts
 abbrev pub evidence : JobView → TablesView → ℕ → List ℕ

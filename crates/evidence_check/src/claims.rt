@@ -3,8 +3,8 @@ ghost use Rattle.std.specs.Prelude.{◌≡◌, ◌+◌, ◌<◌, ◌≤◌, ◌^
 ghost use Rattle.std.specs.Str.{bytes_eq};
 ghost use Rattle.marks_file.specs.Meaning.{place_count};
 ghost use Rattle.session_marks.specs.Filled.{AreThere};
-ghost use Rattle.evidence_check.specs.Meaning.{agrees, past, past_place, past_places, place_claims, places_claims, modules_claims, first_refuted, entry_bytes};
-ghost use Rattle.evidence_check.specs.Found.{found_of, found_at};
+ghost use Rattle.evidence_check.specs.Meaning.{agrees, past, past_place, past_places, place_claims, first_refuted, entry_bytes};
+ghost use Rattle.evidence_check.specs.Found.{found_of, refuted_place, refuted_module};
 
 use crate::firsts::{First, Found};
 use crate::writing::entry_bytes;
@@ -102,10 +102,8 @@ fn check_places(
     requires fits { row + length places.now < 2 ^ 32 }
     ensures inside { IfOk result (λ at. at ≤ length bytes.now) }
     ensures rest { IfOk result (λ at. drop at bytes.now ≡ past_places places.now (drop from bytes.now)) }
-    ensures none { OnOk result
-        (first_refuted (places_claims (found_at found.now) row first places.now (drop from bytes.now)) ≡ None) }
-    ensures some { IfErr result (λ e.
-        first_refuted (places_claims (found_at found.now) row first places.now (drop from bytes.now)) ≡ Some e) }
+    ensures none { OnOk result (refuted_place found.now row first places.now (drop from bytes.now) ≡ None) }
+    ensures some { IfErr result (λ e. refuted_place found.now row first places.now (drop from bytes.now) ≡ Some e) }
 {
     let mut at = from;
     for i in 0..places.len() {
@@ -131,8 +129,7 @@ pub(crate) fn check_modules(
     requires there { AreThere tables.now modules.now numbers.now }
     requires size { length found.now ≡ length tables.now.places }
     requires rows { length modules.now + place_count modules.now < 2 ^ 31 }
-    ensures { result ≡
-        first_refuted (modules_claims tables.now (found_at found.now) 0 modules.now numbers.now (drop 8 bytes.now)) }
+    ensures { result ≡ refuted_module tables.now found.now modules.now numbers.now (drop 8 bytes.now) }
 {
     let mut at = 8;
     let mut row = 0;

@@ -3,7 +3,7 @@ ghost use Rattle.std.specs.Prelude.{◌≡◌, ◌≢◌, ℕ, ◌<◌, length};
 ghost use Rattle.cov_base.specs.Meaning.{fact_of};
 ghost use Rattle.cov_base.specs.declared.facts.Fact.{Fact as AnyFact};
 ghost use Rattle.module_area.specs.Meaning.{place_of};
-ghost use Rattle.evidence_check.specs.Found.{found_of, found_at, none_found, NotesOne};
+ghost use Rattle.evidence_check.specs.Found.{found_of, found_at, none_found, NotesOne, NotesAt};
 
 use brk_table::Tables;
 use cov_base::{Fact, PlaceNo};
@@ -68,8 +68,7 @@ fn note_at(tables: &Tables, found: &mut [Found], place: PlaceNo, went: bool, fir
     requires place { place.0 < length tables.now.places }
     requires size { length found.old ≡ length tables.now.places }
     ensures size { length found.new ≡ length found.old }
-    ensures here { NotesOne (fact_of (place_of tables.now.places place.0).kind went) first
-        (found_at found.old place.0) (found_at found.new place.0) }
+    ensures here { NotesAt (fact_of (place_of tables.now.places place.0).kind went) first place.0 found.old found.new }
     ensures others { (n : ℕ) (f : AnyFact) → n ≢ place.0 → found_at found.new n f ≡ found_at found.old n f }
 {
     let fact = tables.place(place).kind.fact(went);

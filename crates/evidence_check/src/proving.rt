@@ -1,12 +1,10 @@
 //! Evidence from one run of each task.
-ghost use Rattle.std.specs.Prelude.{◌≡◌, ℕ, ◌<◌, ◌≤◌, length, is_some, OnOk, IfErr, None};
+ghost use Rattle.std.specs.Prelude.{◌≡◌, ◌<◌, ◌≤◌, length, OnOk, IfErr, None};
 ghost use Rattle.std.specs.Io.KnownBytes.{Appends};
-ghost use Rattle.cov_base.specs.Meaning.{has_fact};
-ghost use Rattle.cov_base.specs.declared.facts.Fact.{Fact as AnyFact};
 ghost use Rattle.brk_table.specs.Kept.{AreCodes};
 ghost use Rattle.session_book.specs.Meaning.{session_of};
-ghost use Rattle.evidence_check.specs.Meaning.{evidence, session_first, session_facts};
-ghost use Rattle.evidence_check.specs.Proved.{IsProveFault};
+ghost use Rattle.evidence_check.specs.Meaning.{evidence};
+ghost use Rattle.evidence_check.specs.Proved.{IsProveFault, HaveFirsts};
 
 use crate::runs::find_firsts;
 use crate::writing::write_evidence;
@@ -44,8 +42,7 @@ pub fn prove<K: Sink>(
     ensures whole { OnOk result (Appends (K.written sink.old) (K.written sink.new) (evidence job.now tables.now s.0)) }
     ensures fault { IfErr result (IsProveFault K.written K.faults sink.old sink.new (evidence job.now tables.now s.0)) }
     ensures later { K.faults sink.old ≤ K.faults sink.new }
-    ensures facts { (n : ℕ) (f : AnyFact) →
-        is_some (session_first job.now tables.now.places s.0 n f) ≡ has_fact (session_facts job.now tables.now.places s.0 n) f }
+    ensures facts { HaveFirsts job.now tables.now.places s.0 }
 {
     let session = job.session(s);
     // For what it says of the tables: their places are all places, one table after the other.

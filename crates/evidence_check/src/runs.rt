@@ -1,8 +1,7 @@
 //! The run of each task of a phase, alone over modules that were never planted.
 ghost use Rattle.std.specs.Prelude.{◌≡◌, ◌<◌, length, IfOk, OnOk};
 ghost use Rattle.brk_table.specs.Kept.{AreCodes};
-ghost use Rattle.evidence_check.specs.Meaning.{trace_of};
-ghost use Rattle.evidence_check.specs.Found.{Notes, AreFirsts};
+ghost use Rattle.evidence_check.specs.Found.{NotesTask, AreFirsts};
 
 use crate::firsts::{FirstVisits, Found};
 use brk_table::Tables;
@@ -22,8 +21,7 @@ fn add_task(
     requires task { t < length job.now.tasks }
     requires tables { AreCodes job.now.images tables.now }
     requires size { length found.old.items ≡ length tables.now.places }
-    ensures noted { OnOk result
-        (Notes tables.now.places t (trace_of job.now tables.now.places t) found.old.items found.new.items) }
+    ensures noted { OnOk result (NotesTask job.now tables.now.places t found.old.items found.new.items) }
 {
     let visits = FirstVisits { task: t };
     let card = job.card(t as usize);

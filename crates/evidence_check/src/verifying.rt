@@ -4,7 +4,7 @@ ghost use Rattle.brk_table.specs.Kept.{AreCodes};
 ghost use Rattle.session_book.specs.Meaning.{session_of};
 ghost use Rattle.session_marks.specs.FromFile.{IsOwn};
 ghost use Rattle.evidence_check.specs.Meaning.{facts_of_modules, IsVerified};
-ghost use Rattle.evidence_check.specs.Verified.{Passes, IsVerifyFault};
+ghost use Rattle.evidence_check.specs.Verified.{PassesVerified, IsVerifyFault};
 
 use crate::claims::check_modules;
 use crate::counting::facts_of_modules;
@@ -49,8 +49,7 @@ pub fn verify(
     ensures facts { IfOk result (λ n. n ≡ facts_of_modules marks.now.modules) }
     ensures verified { OnOk result (IsVerified job.now tables.now s.0 marks.now.modules evidence.now) }
     ensures fault { IfErr result (IsVerifyFault job.now tables.now s.0 marks.now.modules evidence.now) }
-    ensures passes { IsVerified job.now tables.now s.0 marks.now.modules evidence.now →
-        Passes job.now tables.now s.0 marks.now.modules evidence.now }
+    ensures passes { PassesVerified job.now tables.now s.0 marks.now.modules evidence.now }
 {
     let facts = facts_of_modules(&marks.modules);
     if let Some(offset) = bad_field(evidence, facts, job.task_count()) {

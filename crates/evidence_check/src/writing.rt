@@ -1,10 +1,9 @@
 //! Writes evidence.
-ghost use Rattle.std.specs.Prelude.{◌≡◌, ◌-◌, ◌≤◌, ◌++◌, length};
-ghost use Rattle.std.specs.List.{flat_map, range_with_len};
-ghost use Rattle.cov_outside.specs.Puts.{Puts};
+ghost use Rattle.std.specs.Prelude.{◌≡◌, ◌≤◌, length};
 ghost use Rattle.cov_outside.specs.Writes.{Writes};
-ghost use Rattle.evidence_check.specs.Meaning.{magic, entry_bytes, fact_bytes, place_entries, module_entries};
-ghost use Rattle.evidence_check.specs.Found.{found_of, found_at};
+ghost use Rattle.evidence_check.specs.Meaning.{magic, entry_bytes, fact_bytes, place_entries};
+ghost use Rattle.evidence_check.specs.Found.{found_of};
+ghost use Rattle.evidence_check.specs.Written.{PutsTo, entries_from, entries_of, evidence_of};
 
 use crate::firsts::{First, Found};
 use brk_table::Tables;
@@ -35,7 +34,7 @@ fn put_fact<K: Sink>(
     sink: &mut K,
     first: Option<First>,
 ) -> Result<(), Failed>
-    ensures { Puts K.written K.faults sink.old sink.new buffer.old buffer.new result (fact_bytes first) }
+    ensures { PutsTo K.Sink sink.old sink.new buffer.old buffer.new result (fact_bytes first) }
 {
     match first {
         Some(first) => buffer.put(sink, &entry_bytes(first)),
@@ -44,8 +43,7 @@ fn put_fact<K: Sink>(
 }
 
 fn put_place<K: Sink>(buffer: &mut WriteBuffer, sink: &mut K, found: &Found) -> Result<(), Failed>
-    ensures { Puts K.written K.faults sink.old sink.new buffer.old buffer.new result
-        (place_entries (found_of found.now)) }
+    ensures { PutsTo K.Sink sink.old sink.new buffer.old buffer.new result (place_entries (found_of found.now)) }
 {
     put_fact(buffer, sink, found.get(Fact::Ran))?;
     put_fact(buffer, sink, found.get(Fact::Went))?;
@@ -62,8 +60,7 @@ fn put_places<K: Sink>(
 ) -> Result<(), Failed>
     requires range { first ≤ past }
     requires exist { past ≤ length found.now }
-    ensures { Puts K.written K.faults sink.old sink.new buffer.old buffer.new result
-        (flat_map (λ n. place_entries (found_at found.now n)) (range_with_len first (past - first))) }
+    ensures { PutsTo K.Sink sink.old sink.new buffer.old buffer.new result (entries_from found.now first past) }
 {
     for n in first..past {
         put_place(buffer, sink, &found[n as usize])?;
@@ -80,8 +77,8 @@ fn put_modules<K: Sink>(
     modules: &[u32],
 ) -> Result<(), Failed>
     requires size { length found.now ≡ length tables.now.places }
-    ensures { Puts K.written K.faults sink.old sink.new buffer.old buffer.new result
-        (flat_map (module_entries tables.now (found_at found.now)) modules.now) }
+    ensures { PutsTo K.Sink sink.old sink.new buffer.old buffer.new result
+        (entries_of tables.now found.now modules.now) }
 {
     for i in 0..modules.len() {
         let (first, past) = tables.range(modules[i]);
@@ -98,8 +95,8 @@ fn put_evidence<K: Sink>(
     modules: &[u32],
 ) -> Result<(), Failed>
     requires size { length found.now ≡ length tables.now.places }
-    ensures { Puts K.written K.faults sink.old sink.new buffer.old buffer.new result
-        (magic ++ flat_map (module_entries tables.now (found_at found.now)) modules.now) }
+    ensures { PutsTo K.Sink sink.old sink.new buffer.old buffer.new result
+        (evidence_of tables.now found.now modules.now) }
 {
     buffer.put(sink, &magic())?;
     put_modules(buffer, sink, tables, found, modules)
@@ -113,8 +110,7 @@ pub(crate) fn write_evidence<K: Sink>(
     modules: &[u32],
 ) -> Result<(), Failed>
     requires size { length found.now ≡ length tables.now.places }
-    ensures { Writes K.written K.faults sink.old sink.new result
-        (magic ++ flat_map (module_entries tables.now (found_at found.now)) modules.now) }
+    ensures { Writes K.written K.faults sink.old sink.new result (evidence_of tables.now found.now modules.now) }
 {
     let mut buffer = WriteBuffer::new();
     put_evidence(&mut buffer, sink, tables, found, modules)?;
