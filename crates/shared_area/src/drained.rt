@@ -5,7 +5,7 @@ ghost use Rattle.std.specs.declared.option.Option.TheVariants.{Some};
 ghost use Rattle.cov_base.specs.declared.facts.Kind.TheVariants.{Straight};
 ghost use Rattle.module_area.specs.Meaning.{kind_at};
 ghost use Rattle.module_area.specs.PlanView.{has_task};
-ghost use Rattle.shared_area.specs.Late.{IsTwice};
+ghost use Rattle.shared_area.specs.Late.{IsTwice, IsFirst, IsPassFor, OfThree};
 ghost use Rattle.module_area.specs.Notes.{calls, own_number};
 
 use crate::SharedAreas;
@@ -29,18 +29,16 @@ fn behind_the_close<C: Drains>(
     other: &mut C::Pass,
 ) -> Option<Seen>
     requires area { C.is_pass cells.now control.old × C.is_pass cells.now pass.old × C.is_pass cells.now other.old }
-    requires room { (calls (C.notes control.old) < 2 ^ 8) × (calls (C.notes pass.old) < 2 ^ 8) × (calls (C.notes other.old) < 2 ^ 8) }
+    requires passes { IsFirst 1 (C.notes control.old) × IsFirst 0 (C.notes pass.old) × IsFirst 2 (C.notes other.old) }
     requires places { 2 < length (C.plan cells.now).places }
     requires kinds { kind_at (C.plan cells.now) 0 ≡ Straight }
-    requires over { IsTwice (C.plan cells.now) 0 × IsTwice (C.plan cells.now) 1 × IsTwice (C.plan cells.now) 2 }
-    requires tasks { (has_task (C.plan cells.now).tasks 0 ≡ true) × (has_task (C.plan cells.now).tasks 1 ≡ true) × (has_task (C.plan cells.now).tasks 2 ≡ true) }
+    requires over { OfThree (IsTwice (C.plan cells.now)) }
+    requires tasks { OfThree (λ t. has_task (C.plan cells.now).tasks t ≡ true) }
     requires sessions { 1 ≤ (C.plan cells.now).sessions }
-    requires bears { ((C.notes control.old).bears ≡ Some 1) × ((C.notes pass.old).bears ≡ Some 0) × ((C.notes other.old).bears ≡ Some 2) }
-    requires begins { (own_number (C.notes control.old) ≡ 0) × (own_number (C.notes pass.old) ≡ 0) × (own_number (C.notes other.old) ≡ 0) }
-    requires first { ((C.notes control.old).last 0 ≡ 0) × ((C.notes control.old).last 1 ≡ 0) × ((C.notes control.old).last 2 ≡ 0) }
+    requires first { OfThree (λ p. (C.notes control.old).last p ≡ 0) }
     ensures area { C.is_pass cells.now control.new × C.is_pass cells.now pass.new × C.is_pass cells.now other.new }
-    ensures room { (calls (C.notes control.new) < 2 ^ 9) × (calls (C.notes pass.new) < 2 ^ 9) × (calls (C.notes other.new) < 2 ^ 9) }
-    ensures bears { ((C.notes control.new).bears ≡ Some 1) × ((C.notes pass.new).bears ≡ Some 0) × ((C.notes other.new).bears ≡ Some 2) }
+    ensures control { IsPassFor 1 (2 ^ 9) (C.notes control.new) }
+    ensures passes { IsPassFor 0 (2 ^ 9) (C.notes pass.new) × IsPassFor 2 (2 ^ 9) (C.notes other.new) }
 {
     plants_all(cells, control, SessNo(1));
     if !traps(cells, pass, PlaceNo(0), 1) {
@@ -80,8 +78,8 @@ fn closed_in_area<A: Areas>(
     requires room { A.made areas.old < 2 ^ 62 }
     requires places { 2 < length plan.now.places }
     requires kinds { kind_at plan.now 0 ≡ Straight }
-    requires over { IsTwice plan.now 0 × IsTwice plan.now 1 × IsTwice plan.now 2 }
-    requires tasks { (has_task plan.now.tasks 0 ≡ true) × (has_task plan.now.tasks 1 ≡ true) × (has_task plan.now.tasks 2 ≡ true) }
+    requires over { OfThree (IsTwice plan.now) }
+    requires tasks { OfThree (λ t. has_task plan.now.tasks t ≡ true) }
     requires sessions { 1 ≤ plan.now.sessions }
 {
     let (cells, mut root) = areas.make(alloc, plan)?;

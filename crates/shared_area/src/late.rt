@@ -4,7 +4,7 @@ ghost use Rattle.std.specs.declared.option.Option.TheVariants.{Some, None};
 ghost use Rattle.cov_base.specs.declared.facts.Kind.TheVariants.{Straight};
 ghost use Rattle.module_area.specs.Meaning.{kind_at};
 ghost use Rattle.module_area.specs.PlanView.{has_task};
-ghost use Rattle.shared_area.specs.Late.{IsTwice};
+ghost use Rattle.shared_area.specs.Late.{IsTwice, HasKind, IsPassFor, IsAtWork, IsLater, OfThree};
 ghost use Rattle.module_area.specs.Notes.{calls, is_working};
 
 use crate::SharedAreas;
@@ -84,7 +84,7 @@ pub(crate) fn marks<C: Cells>(
     requires area { C.is_pass cells.now pass.old }
     requires room { calls (C.notes pass.old) < 2 ^ 61 }
     requires working { is_working (C.notes pass.old) ≡ true }
-    requires place { (place.0 < length (C.plan cells.now).places) × (kind_at (C.plan cells.now) place.0 ≡ Straight) }
+    requires place { HasKind (C.plan cells.now) place.0 Straight }
     requires session { 0 < s.0 }
     requires pending { (C.notes pass.old).pending ≡ Some (place.0, 2 * s.0 - 1) }
     ensures area { C.is_pass cells.now pass.new }
@@ -130,14 +130,13 @@ fn marks_late<C: Cells>(
     plants: bool,
 ) -> Option<Late>
     requires area { C.is_pass cells.now control.old × C.is_pass cells.now pass.old }
-    requires room { (calls (C.notes control.old) < 2 ^ 8) × (calls (C.notes pass.old) < 2 ^ 8) }
-    requires working { is_working (C.notes pass.old) ≡ true }
-    requires place { (0 < length (C.plan cells.now).places) × (kind_at (C.plan cells.now) 0 ≡ Straight) × IsTwice (C.plan cells.now) 0 }
-    requires bears { (C.notes control.old).bears ≡ Some 1 }
+    requires control { IsPassFor 1 (2 ^ 8) (C.notes control.old) }
+    requires pass { IsAtWork (C.notes pass.old) }
+    requires place { HasKind (C.plan cells.now) 0 Straight × IsTwice (C.plan cells.now) 0 }
     requires first { (C.notes control.old).last 0 ≡ 0 }
     ensures area { C.is_pass cells.now control.new × C.is_pass cells.now pass.new }
-    ensures room { (calls (C.notes control.new) < 2 ^ 9) × (calls (C.notes pass.new) < 2 ^ 9) }
-    ensures bears { ((C.notes control.new).bears ≡ Some 1) × ((C.notes pass.new).bears ≡ (C.notes pass.old).bears) }
+    ensures control { IsPassFor 1 (2 ^ 9) (C.notes control.new) }
+    ensures pass { IsLater (2 ^ 9) (C.notes pass.old) (C.notes pass.new) }
 {
     cells.plant(control, SessNo(1), PlaceNo(0));
     if !traps(cells, pass, PlaceNo(0), 1) {
@@ -157,14 +156,13 @@ fn lifts_late<C: Cells>(
     plants: bool,
 ) -> Option<Late>
     requires area { C.is_pass cells.now control.old × C.is_pass cells.now pass.old }
-    requires room { (calls (C.notes control.old) < 2 ^ 8) × (calls (C.notes pass.old) < 2 ^ 8) }
-    requires working { is_working (C.notes pass.old) ≡ true }
-    requires place { (0 < length (C.plan cells.now).places) × (kind_at (C.plan cells.now) 0 ≡ Straight) × IsTwice (C.plan cells.now) 0 }
-    requires bears { (C.notes control.old).bears ≡ Some 1 }
+    requires control { IsPassFor 1 (2 ^ 8) (C.notes control.old) }
+    requires pass { IsAtWork (C.notes pass.old) }
+    requires place { HasKind (C.plan cells.now) 0 Straight × IsTwice (C.plan cells.now) 0 }
     requires first { (C.notes control.old).last 0 ≡ 0 }
     ensures area { C.is_pass cells.now control.new × C.is_pass cells.now pass.new }
-    ensures room { (calls (C.notes control.new) < 2 ^ 9) × (calls (C.notes pass.new) < 2 ^ 9) }
-    ensures bears { ((C.notes control.new).bears ≡ Some 1) × ((C.notes pass.new).bears ≡ (C.notes pass.old).bears) }
+    ensures control { IsPassFor 1 (2 ^ 9) (C.notes control.new) }
+    ensures pass { IsLater (2 ^ 9) (C.notes pass.old) (C.notes pass.new) }
 {
     cells.plant(control, SessNo(1), PlaceNo(0));
     if !traps(cells, pass, PlaceNo(0), 1) {
@@ -184,14 +182,14 @@ fn two_late<C: Cells>(
     other: &mut C::Pass,
 ) -> Option<(Late, Late)>
     requires area { C.is_pass cells.now control.old × C.is_pass cells.now pass.old × C.is_pass cells.now other.old }
-    requires room { (calls (C.notes control.old) < 2 ^ 8) × (calls (C.notes pass.old) < 2 ^ 8) × (calls (C.notes other.old) < 2 ^ 8) }
-    requires working { (is_working (C.notes pass.old) ≡ true) × (is_working (C.notes other.old) ≡ true) }
-    requires place { (0 < length (C.plan cells.now).places) × (kind_at (C.plan cells.now) 0 ≡ Straight) × IsTwice (C.plan cells.now) 0 }
-    requires bears { (C.notes control.old).bears ≡ Some 1 }
+    requires control { IsPassFor 1 (2 ^ 8) (C.notes control.old) }
+    requires passes { IsAtWork (C.notes pass.old) × IsAtWork (C.notes other.old) }
+    requires place { HasKind (C.plan cells.now) 0 Straight × IsTwice (C.plan cells.now) 0 }
     requires first { (C.notes control.old).last 0 ≡ 0 }
     ensures area { C.is_pass cells.now control.new × C.is_pass cells.now pass.new × C.is_pass cells.now other.new }
-    ensures room { (calls (C.notes control.new) < 2 ^ 9) × (calls (C.notes pass.new) < 2 ^ 9) × (calls (C.notes other.new) < 2 ^ 9) }
-    ensures bears { ((C.notes control.new).bears ≡ Some 1) × ((C.notes pass.new).bears ≡ (C.notes pass.old).bears) × ((C.notes other.new).bears ≡ (C.notes other.old).bears) }
+    ensures control { IsPassFor 1 (2 ^ 9) (C.notes control.new) }
+    ensures pass { IsLater (2 ^ 9) (C.notes pass.old) (C.notes pass.new) }
+    ensures other { IsLater (2 ^ 9) (C.notes other.old) (C.notes other.new) }
 {
     cells.plant(control, SessNo(1), PlaceNo(0));
     if !traps(cells, pass, PlaceNo(0), 1) {
@@ -226,14 +224,13 @@ fn in_order<C: Cells>(
     order: Order,
 ) -> Option<Late>
     requires area { C.is_pass cells.now control.old × C.is_pass cells.now pass.old }
-    requires room { (calls (C.notes control.old) < 2 ^ 8) × (calls (C.notes pass.old) < 2 ^ 8) }
-    requires working { is_working (C.notes pass.old) ≡ true }
-    requires place { (0 < length (C.plan cells.now).places) × (kind_at (C.plan cells.now) 0 ≡ Straight) × IsTwice (C.plan cells.now) 0 }
-    requires bears { (C.notes control.old).bears ≡ Some 1 }
+    requires control { IsPassFor 1 (2 ^ 8) (C.notes control.old) }
+    requires pass { IsAtWork (C.notes pass.old) }
+    requires place { HasKind (C.plan cells.now) 0 Straight × IsTwice (C.plan cells.now) 0 }
     requires first { (C.notes control.old).last 0 ≡ 0 }
     ensures area { C.is_pass cells.now control.new × C.is_pass cells.now pass.new }
-    ensures room { (calls (C.notes control.new) < 2 ^ 9) × (calls (C.notes pass.new) < 2 ^ 9) }
-    ensures bears { ((C.notes control.new).bears ≡ Some 1) × ((C.notes pass.new).bears ≡ (C.notes pass.old).bears) }
+    ensures control { IsPassFor 1 (2 ^ 9) (C.notes control.new) }
+    ensures pass { IsLater (2 ^ 9) (C.notes pass.old) (C.notes pass.new) }
 {
     match order {
         Order::MarkAfterClose => marks_late(cells, control, pass, false),
@@ -254,7 +251,7 @@ fn one_late<A: Areas>(
 where
     A::C: Forks + Sync,
     requires room { A.made areas.old < 2 ^ 62 }
-    requires place { (0 < length plan.now.places) × (kind_at plan.now 0 ≡ Straight) × IsTwice plan.now 0 }
+    requires place { HasKind plan.now 0 Straight × IsTwice plan.now 0 }
     requires tasks { (has_task plan.now.tasks 0 ≡ true) × (has_task plan.now.tasks 1 ≡ true) }
     requires sessions { 2 ≤ plan.now.sessions }
 {
@@ -280,8 +277,8 @@ fn two_in_area<A: Areas>(
 where
     A::C: Forks + Sync,
     requires room { A.made areas.old < 2 ^ 62 }
-    requires place { (0 < length plan.now.places) × (kind_at plan.now 0 ≡ Straight) × IsTwice plan.now 0 }
-    requires tasks { (has_task plan.now.tasks 0 ≡ true) × (has_task plan.now.tasks 1 ≡ true) × (has_task plan.now.tasks 2 ≡ true) }
+    requires place { HasKind plan.now 0 Straight × IsTwice plan.now 0 }
+    requires tasks { OfThree (λ t. has_task plan.now.tasks t ≡ true) }
     requires sessions { 2 ≤ plan.now.sessions }
 {
     let (cells, mut root) = areas.make(alloc, plan)?;
@@ -301,9 +298,9 @@ where
 /// Load address, add, branch, and tasks 0, 1 and 2.
 pub(crate) fn three_instructions(alloc: Global) -> Result<Plan, Fail>
     ensures places { IfOk result (λ p. length p.places ≡ 3) }
-    ensures kinds { IfOk result (λ p. (kind_at p 0 ≡ Straight) × (kind_at p 1 ≡ Straight) × (kind_at p 2 ≡ Straight)) }
+    ensures kinds { IfOk result (λ p. OfThree (λ q. kind_at p q ≡ Straight)) }
     ensures over { IfOk result (λ p. (q : ℕ) → q < 3 → IsTwice p q) }
-    ensures tasks { IfOk result (λ p. (has_task p.tasks 0 ≡ true) × (has_task p.tasks 1 ≡ true) × (has_task p.tasks 2 ≡ true)) }
+    ensures tasks { IfOk result (λ p. OfThree (λ t. has_task p.tasks t ≡ true)) }
     ensures sessions { IfOk result (λ p. p.sessions ≡ 2) }
 {
     let load = Place {

@@ -8,6 +8,7 @@ ghost use Rattle.cov_base.specs.Facts.{is_of_kind};
 ghost use Rattle.module_area.specs.Meaning.{kind_at, window_at};
 ghost use Rattle.module_area.specs.PlanView.{has_task};
 ghost use Rattle.module_area.specs.Notes.{calls, is_working};
+ghost use Rattle.shared_area.specs.Late.{HasKind, IsAtWork, MayVisit, OfThree};
 ghost use Rattle.shared_area.specs.Passes.{notes_of, IsPassOf};
 
 use crate::late::traps;
@@ -30,10 +31,7 @@ fn visit<C: Cells>(
 ) -> (bool, bool)
     requires area { C.is_pass cells.now pass.old }
     requires plan { C.plan cells.now ≡ plan.now }
-    requires room { calls (C.notes pass.old) < 2 ^ 60 }
-    requires working { is_working (C.notes pass.old) ≡ true }
-    requires place { place.0 < length plan.now.places }
-    requires kind { is_of_kind (kind_at plan.now place.0) fact ≡ true }
+    requires may { MayVisit plan.now (C.notes pass.old) place.0 fact }
     ensures area { C.is_pass cells.now pass.new }
     ensures room { calls (C.notes pass.new) ≤ calls (C.notes pass.old) + 3 }
     ensures working { is_working (C.notes pass.new) ≡ true }
@@ -55,10 +53,7 @@ fn visit<C: Cells>(
 fn visited<C: Cells>(cells: &C, pass: C::Pass, plan: &Plan, place: PlaceNo, fact: Fact) -> C::Pass
     requires area { C.is_pass cells.now pass }
     requires plan { C.plan cells.now ≡ plan.now }
-    requires room { calls (C.notes pass) < 2 ^ 60 }
-    requires working { is_working (C.notes pass) ≡ true }
-    requires place { place.0 < length plan.now.places }
-    requires kind { is_of_kind (kind_at plan.now place.0) fact ≡ true }
+    requires may { MayVisit plan.now (C.notes pass) place.0 fact }
     ensures area { C.is_pass cells.now result }
     ensures room { calls (C.notes result) ≤ calls (C.notes pass) + 3 }
     ensures bears { (C.notes result).bears ≡ (C.notes pass).bears }
@@ -126,19 +121,19 @@ where
     let (cells, mut root) = areas.make(alloc, plan)?;
     cells.plant(&mut root, SessNo(1), PlaceNo(0));
     let first = cells.split(&mut root, TaskNo(0));
-    let second = cells.split(&mut root, TaskNo(1));
-    let shared = &cells;
-    let (first, second) = thread::join(
+    let other = cells.split(&mut root, TaskNo(1));
+    let area = &cells;
+    let (first, other) = thread::join(
         rt,
         move ||
-            requires { A.C.is_pass shared.now first × (A.C.plan shared.now ≡ plan.now) × (calls (A.C.notes first) < 2 ^ 60) × (is_working (A.C.notes first) ≡ true) × (0 < length plan.now.places) × (is_of_kind (kind_at plan.now 0) Went ≡ true) }
-        { visited(shared, first, plan, PlaceNo(0), Fact::Went) },
+            requires { A.C.is_pass area.now first × (A.C.plan area.now ≡ plan.now) × MayVisit plan.now (A.C.notes first) 0 Went }
+        { visited(area, first, plan, PlaceNo(0), Fact::Went) },
         move ||
-            requires { A.C.is_pass shared.now second × (A.C.plan shared.now ≡ plan.now) × (calls (A.C.notes second) < 2 ^ 60) × (is_working (A.C.notes second) ≡ true) × (0 < length plan.now.places) × (is_of_kind (kind_at plan.now 0) Stayed ≡ true) }
-        { visited(shared, second, plan, PlaceNo(0), Fact::Stayed) },
+            requires { A.C.is_pass area.now other × (A.C.plan area.now ≡ plan.now) × MayVisit plan.now (A.C.notes other) 0 Stayed }
+        { visited(area, other, plan, PlaceNo(0), Fact::Stayed) },
     );
     cells.join(&mut root, first);
-    cells.join(&mut root, second);
+    cells.join(&mut root, other);
     let finals = areas.finish(alloc, cells, root)?;
     Ok(finals.set(SessNo(1), PlaceNo(0)).is_full(Kind::Conditional))
 }
@@ -157,7 +152,7 @@ fn raced(cells: &SharedCells, pass: SharedPass, other: &mut SharedPass) -> Optio
     requires other { IsPassOf cells.now other.old }
     requires room { calls (notes_of other.old) < 2 ^ 60 }
     requires working { is_working (notes_of other.old) ≡ true }
-    requires branch { (0 < length cells.now.plan.places) × (kind_at cells.now.plan 0 ≡ Conditional) × (1 ≤ cells.now.plan.sessions) }
+    requires branch { HasKind cells.now.plan 0 Conditional × (1 ≤ cells.now.plan.sessions) }
     requires pending { ((notes_of pass).pending ≡ Some (0, 1)) × ((notes_of other.old).pending ≡ Some (0, 1)) }
 {
     let SharedPass {
@@ -177,7 +172,7 @@ fn raced(cells: &SharedCells, pass: SharedPass, other: &mut SharedPass) -> Optio
 /// The set that a look for Went finds.
 fn looked(cells: &SharedCells, pass: SharedPass) -> Shown
     requires area { IsPassOf cells.now pass }
-    requires branch { (0 < length cells.now.plan.places) × (kind_at cells.now.plan 0 ≡ Conditional) × (1 ≤ cells.now.plan.sessions) }
+    requires branch { HasKind cells.now.plan 0 Conditional × (1 ≤ cells.now.plan.sessions) }
     requires pending { (notes_of pass).pending ≡ Some (0, 1) }
 {
     let SharedPass {
@@ -204,11 +199,11 @@ fn three_passes<A: Areas>(
 >
     requires room { A.made areas.old < 2 ^ 62 }
     requires branch { (0 < length plan.now.places) × (window_at plan.now 0 ≡ 1) }
-    requires tasks { (has_task plan.now.tasks 0 ≡ true) × (has_task plan.now.tasks 1 ≡ true) × (has_task plan.now.tasks 2 ≡ true) }
+    requires tasks { OfThree (λ t. has_task plan.now.tasks t ≡ true) }
     ensures plan { IfOk result (λ a. A.C.plan a.0 ≡ plan.now) }
-    ensures first { IfOk result (λ a. A.C.is_pass a.0 a.1 × (calls (A.C.notes a.1) < 2 ^ 8) × (is_working (A.C.notes a.1) ≡ true)) }
-    ensures second { IfOk result (λ a. A.C.is_pass a.0 a.2 × (calls (A.C.notes a.2) < 2 ^ 8) × (is_working (A.C.notes a.2) ≡ true)) }
-    ensures third { IfOk result (λ a. A.C.is_pass a.0 a.3 × (calls (A.C.notes a.3) < 2 ^ 8) × (is_working (A.C.notes a.3) ≡ true)) }
+    ensures first { IfOk result (λ a. A.C.is_pass a.0 a.1 × IsAtWork (A.C.notes a.1)) }
+    ensures second { IfOk result (λ a. A.C.is_pass a.0 a.2 × IsAtWork (A.C.notes a.2)) }
+    ensures third { IfOk result (λ a. A.C.is_pass a.0 a.3 × IsAtWork (A.C.notes a.3)) }
 {
     let (cells, mut root) = areas.make(alloc, plan)?;
     cells.plant(&mut root, SessNo(1), PlaceNo(0));
@@ -221,7 +216,7 @@ fn three_passes<A: Areas>(
 /// What the steps of two passes find in turn, and then a look of the third; none where no breakpoint stands.
 fn step_by_step(alloc: Global, plan: &Plan) -> Result<Option<([Shown; 3], Shown)>, NoMemory>
     requires branch { (0 < length plan.now.places) × (kind_at plan.now 0 ≡ Conditional) × (window_at plan.now 0 ≡ 1) }
-    requires tasks { (has_task plan.now.tasks 0 ≡ true) × (has_task plan.now.tasks 1 ≡ true) × (has_task plan.now.tasks 2 ≡ true) }
+    requires tasks { OfThree (λ t. has_task plan.now.tasks t ≡ true) }
     requires sessions { 1 ≤ plan.now.sessions }
 {
     let mut areas = SharedAreas::new(alloc, 1)?;
@@ -252,7 +247,7 @@ fn branch_and_return(alloc: Global) -> Result<Plan, Fail>
     ensures places { IfOk result (λ p. 2 ≤ length p.places) }
     ensures branch { IfOk result (λ p. (kind_at p 0 ≡ Conditional) × (window_at p 0 ≡ 1)) }
     ensures back { IfOk result (λ p. (kind_at p 1 ≡ Straight) × (window_at p 1 ≡ 1)) }
-    ensures tasks { IfOk result (λ p. (has_task p.tasks 0 ≡ true) × (has_task p.tasks 1 ≡ true) × (has_task p.tasks 2 ≡ true)) }
+    ensures tasks { IfOk result (λ p. OfThree (λ t. has_task p.tasks t ≡ true)) }
     ensures sessions { IfOk result (λ p. p.sessions ≡ 1) }
 {
     let branch = Place {

@@ -4,7 +4,7 @@ ghost use Rattle.std.specs.declared.option.Option.TheVariants.{Some};
 ghost use Rattle.cov_base.specs.declared.facts.Kind.TheVariants.{Straight};
 ghost use Rattle.module_area.specs.Meaning.{kind_at, is_controlled, is_over};
 ghost use Rattle.module_area.specs.PlanView.{has_task};
-ghost use Rattle.shared_area.specs.Late.{IsTwice};
+ghost use Rattle.shared_area.specs.Late.{IsTwice, HasKind, IsPassFor, IsAtWork, IsLater, OfThree};
 ghost use Rattle.module_area.specs.Notes.{calls, is_working, keeps};
 
 use crate::SharedAreas;
@@ -20,14 +20,14 @@ pub(crate) fn plants_all<C: Cells>(cells: &C, control: &mut C::Pass, s: SessNo)
     requires room { calls (C.notes control.old) < 2 ^ 60 }
     requires places { 2 < length (C.plan cells.now).places }
     requires session { 0 < s.0 }
-    requires over { (is_over (C.plan cells.now) s.0 0 ≡ true) × (is_over (C.plan cells.now) s.0 1 ≡ true) × (is_over (C.plan cells.now) s.0 2 ≡ true) }
-    requires keeper { (keeps (C.plan cells.now) (C.notes control.old) 0 ≡ true) × (keeps (C.plan cells.now) (C.notes control.old) 1 ≡ true) × (keeps (C.plan cells.now) (C.notes control.old) 2 ≡ true) }
-    requires later { ((C.notes control.old).last 0 + 1 < 2 * s.0) × ((C.notes control.old).last 1 + 1 < 2 * s.0) × ((C.notes control.old).last 2 + 1 < 2 * s.0) }
+    requires over { OfThree (λ p. is_over (C.plan cells.now) s.0 p ≡ true) }
+    requires keeper { OfThree (λ p. keeps (C.plan cells.now) (C.notes control.old) p ≡ true) }
+    requires later { OfThree (λ p. (C.notes control.old).last p + 1 < 2 * s.0) }
     ensures area { C.is_pass cells.now control.new }
     ensures room { calls (C.notes control.new) ≡ calls (C.notes control.old) + 3 }
     ensures bears { (C.notes control.new).bears ≡ (C.notes control.old).bears }
     ensures numbers { (C.notes control.new).numbers ≡ (C.notes control.old).numbers }
-    ensures last { ((C.notes control.new).last 0 + 1 ≡ 2 * s.0) × ((C.notes control.new).last 1 + 1 ≡ 2 * s.0) × ((C.notes control.new).last 2 + 1 ≡ 2 * s.0) }
+    ensures last { OfThree (λ p. (C.notes control.new).last p + 1 ≡ 2 * s.0) }
 {
     cells.plant(control, s, PlaceNo(0));
     cells.plant(control, s, PlaceNo(1));
@@ -40,14 +40,14 @@ pub(crate) fn closes_all<C: Cells>(cells: &C, control: &mut C::Pass, s: SessNo)
     requires room { calls (C.notes control.old) < 2 ^ 60 }
     requires places { 2 < length (C.plan cells.now).places }
     requires session { 0 < s.0 }
-    requires over { (is_controlled (C.plan cells.now) s.0 0 ≡ true) × (is_controlled (C.plan cells.now) s.0 1 ≡ true) × (is_controlled (C.plan cells.now) s.0 2 ≡ true) }
-    requires keeper { (keeps (C.plan cells.now) (C.notes control.old) 0 ≡ true) × (keeps (C.plan cells.now) (C.notes control.old) 1 ≡ true) × (keeps (C.plan cells.now) (C.notes control.old) 2 ≡ true) }
-    requires open { ((C.notes control.old).last 0 + 1 ≡ 2 * s.0) × ((C.notes control.old).last 1 + 1 ≡ 2 * s.0) × ((C.notes control.old).last 2 + 1 ≡ 2 * s.0) }
+    requires over { OfThree (λ p. is_controlled (C.plan cells.now) s.0 p ≡ true) }
+    requires keeper { OfThree (λ p. keeps (C.plan cells.now) (C.notes control.old) p ≡ true) }
+    requires open { OfThree (λ p. (C.notes control.old).last p + 1 ≡ 2 * s.0) }
     ensures area { C.is_pass cells.now control.new }
     ensures room { calls (C.notes control.new) ≡ calls (C.notes control.old) + 3 }
     ensures bears { (C.notes control.new).bears ≡ (C.notes control.old).bears }
     ensures numbers { (C.notes control.new).numbers ≡ (C.notes control.old).numbers }
-    ensures last { ((C.notes control.new).last 0 ≡ 2 * s.0) × ((C.notes control.new).last 1 ≡ 2 * s.0) × ((C.notes control.new).last 2 ≡ 2 * s.0) }
+    ensures last { OfThree (λ p. (C.notes control.new).last p ≡ 2 * s.0) }
 {
     cells.close(control, s, PlaceNo(0));
     cells.close(control, s, PlaceNo(1));
@@ -62,17 +62,16 @@ fn through_two_sessions<C: Cells>(
     pass: &mut C::Pass,
 ) -> Option<Late>
     requires area { C.is_pass cells.now control.old × C.is_pass cells.now pass.old }
-    requires room { (calls (C.notes control.old) < 2 ^ 8) × (calls (C.notes pass.old) < 2 ^ 8) }
-    requires working { is_working (C.notes pass.old) ≡ true }
+    requires control { IsPassFor 1 (2 ^ 8) (C.notes control.old) }
+    requires pass { IsAtWork (C.notes pass.old) }
     requires places { (2 < length (C.plan cells.now).places) × (kind_at (C.plan cells.now) 0 ≡ Straight) }
-    requires over { IsTwice (C.plan cells.now) 0 × IsTwice (C.plan cells.now) 1 × IsTwice (C.plan cells.now) 2 }
-    requires bears { (C.notes control.old).bears ≡ Some 1 }
-    requires first { ((C.notes control.old).last 0 ≡ 0) × ((C.notes control.old).last 1 ≡ 0) × ((C.notes control.old).last 2 ≡ 0) }
+    requires over { OfThree (IsTwice (C.plan cells.now)) }
+    requires first { OfThree (λ p. (C.notes control.old).last p ≡ 0) }
     ensures area { C.is_pass cells.now control.new × C.is_pass cells.now pass.new }
-    ensures room { (calls (C.notes control.new) < 2 ^ 9) × (calls (C.notes pass.new) < 2 ^ 9) }
-    ensures bears { ((C.notes control.new).bears ≡ Some 1) × ((C.notes pass.new).bears ≡ (C.notes pass.old).bears) }
+    ensures control { IsPassFor 1 (2 ^ 9) (C.notes control.new) }
+    ensures pass { IsLater (2 ^ 9) (C.notes pass.old) (C.notes pass.new) }
     ensures working { is_working (C.notes pass.new) ≡ true }
-    ensures open { IfSome result (λ _. ((C.notes control.new).last 0 ≡ 3) × ((C.notes control.new).last 1 ≡ 3) × ((C.notes control.new).last 2 ≡ 3)) }
+    ensures open { IfSome result (λ _. OfThree (λ p. (C.notes control.new).last p ≡ 3)) }
 {
     plants_all(cells, control, SessNo(1));
     if !traps(cells, pass, PlaceNo(0), 1) {
@@ -90,7 +89,7 @@ fn visits<C: Cells>(cells: &C, pass: &mut C::Pass, place: PlaceNo) -> Option<(bo
     requires area { C.is_pass cells.now pass.old }
     requires room { calls (C.notes pass.old) < 2 ^ 60 }
     requires working { is_working (C.notes pass.old) ≡ true }
-    requires place { (place.0 < length (C.plan cells.now).places) × (kind_at (C.plan cells.now) place.0 ≡ Straight) }
+    requires place { HasKind (C.plan cells.now) place.0 Straight }
     ensures area { C.is_pass cells.now pass.new }
     ensures working { is_working (C.notes pass.new) ≡ true }
     ensures room { calls (C.notes pass.new) ≤ calls (C.notes pass.old) + 3 }
@@ -109,16 +108,15 @@ type Course = (Late, (bool, bool), (bool, bool));
 /// The task comes to its end, and session 2 is closed behind it.
 fn to_the_end<C: Cells>(cells: &C, control: &mut C::Pass, pass: &mut C::Pass) -> Option<Course>
     requires area { C.is_pass cells.now control.old × C.is_pass cells.now pass.old }
-    requires room { (calls (C.notes control.old) < 2 ^ 8) × (calls (C.notes pass.old) < 2 ^ 8) }
-    requires working { is_working (C.notes pass.old) ≡ true }
+    requires control { IsPassFor 1 (2 ^ 8) (C.notes control.old) }
+    requires pass { IsAtWork (C.notes pass.old) }
     requires places { 2 < length (C.plan cells.now).places }
-    requires kinds { (kind_at (C.plan cells.now) 0 ≡ Straight) × (kind_at (C.plan cells.now) 1 ≡ Straight) × (kind_at (C.plan cells.now) 2 ≡ Straight) }
-    requires over { IsTwice (C.plan cells.now) 0 × IsTwice (C.plan cells.now) 1 × IsTwice (C.plan cells.now) 2 }
-    requires bears { (C.notes control.old).bears ≡ Some 1 }
-    requires first { ((C.notes control.old).last 0 ≡ 0) × ((C.notes control.old).last 1 ≡ 0) × ((C.notes control.old).last 2 ≡ 0) }
+    requires kinds { OfThree (λ p. kind_at (C.plan cells.now) p ≡ Straight) }
+    requires over { OfThree (IsTwice (C.plan cells.now)) }
+    requires first { OfThree (λ p. (C.notes control.old).last p ≡ 0) }
     ensures area { C.is_pass cells.now control.new × C.is_pass cells.now pass.new }
-    ensures room { (calls (C.notes control.new) < 2 ^ 10) × (calls (C.notes pass.new) < 2 ^ 10) }
-    ensures bears { ((C.notes control.new).bears ≡ Some 1) × ((C.notes pass.new).bears ≡ (C.notes pass.old).bears) }
+    ensures control { IsPassFor 1 (2 ^ 10) (C.notes control.new) }
+    ensures pass { IsLater (2 ^ 10) (C.notes pass.old) (C.notes pass.new) }
 {
     let late = through_two_sessions(cells, control, pass)?;
     let add = visits(cells, pass, PlaceNo(1))?;
@@ -151,8 +149,8 @@ where
     A::C: Forks + Sync,
     requires room { A.made areas.old < 2 ^ 62 }
     requires places { 2 < length plan.now.places }
-    requires kinds { (kind_at plan.now 0 ≡ Straight) × (kind_at plan.now 1 ≡ Straight) × (kind_at plan.now 2 ≡ Straight) }
-    requires over { IsTwice plan.now 0 × IsTwice plan.now 1 × IsTwice plan.now 2 }
+    requires kinds { OfThree (λ p. kind_at plan.now p ≡ Straight) }
+    requires over { OfThree (IsTwice plan.now) }
     requires tasks { (has_task plan.now.tasks 0 ≡ true) × (has_task plan.now.tasks 1 ≡ true) }
     requires sessions { 2 ≤ plan.now.sessions }
 {
