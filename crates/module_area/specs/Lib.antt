@@ -8,4 +8,5 @@ pub mod Meaning
 pub mod Notes
 pub mod Parties
 pub mod PlanView
+pub mod Standing
 pub mod Tied

@@ -1,8 +1,8 @@
 //! Plans that are tested at run time.
-ghost use Rattle.std.specs.Prelude.{◌≡◌, ◌≢◌, ℕ, ◌<◌, true, false, length, get_or, AllPairs, IfSome, IsNone, ◌↔◌, slice_index_or};
+ghost use Rattle.std.specs.Prelude.{◌≡◌, ◌≢◌, ◌<◌, true, false, length, AllPairs, IfSome, IsNone, ◌↔◌};
 ghost use Rattle.cov_base.specs.declared.numbers.TaskNo.{TaskNo};
-ghost use Rattle.module_area.specs.Meaning.{place_of};
 ghost use Rattle.module_area.specs.PlanView.{IsPlan, MayStand, whole_plan};
+ghost use Rattle.module_area.specs.Standing.{MayAllStand, IsNew};
 
 use crate::places::Place;
 use crate::plan::Plan;
@@ -22,7 +22,7 @@ fn may_stand(place: &Place, window: u32, sessions: u32) -> bool
 fn is_repeated(tasks: &[TaskNo], n: usize) -> bool
     requires { n < length tasks.now }
     ensures yes { result ≡ true → AllPairs (λ t u. t.0 ≢ u.0) tasks.now → ⊥ }
-    ensures no { result ≡ false → (i : ℕ) (d : TaskNo) → i < n → (slice_index_or tasks.now i d).0 ≢ (slice_index_or tasks.now n d).0 }
+    ensures no { result ≡ false → IsNew tasks.now n }
 {
     for i in 0..n {
         if tasks[i].0 == tasks[n].0 {
@@ -47,8 +47,8 @@ fn differ(tasks: &[TaskNo]) -> bool
 /// Whether each place may stand under its window.
 fn may_all_stand(places: &[Place], windows: &[u32], sessions: u32) -> bool
     requires { length windows.now ≡ length places.now }
-    ensures yes { result ≡ true → (p : ℕ) → p < length places.now → MayStand (place_of places.now p) (get_or windows.now p 0) sessions }
-    ensures no { result ≡ false → ((p : ℕ) → p < length places.now → MayStand (place_of places.now p) (get_or windows.now p 0) sessions) → ⊥ }
+    ensures yes { result ≡ true → MayAllStand places.now windows.now sessions }
+    ensures no { result ≡ false → MayAllStand places.now windows.now sessions → ⊥ }
 {
     for i in 0..places.len() {
         if !may_stand(&places[i], windows[i], sessions) {
