@@ -1,13 +1,14 @@
 //! A source over any reader and a sink over any writer of std.
-ghost use Rattle.std.specs.Prelude.{◌≡◌, ◌<◌, ◌≤◌, length, IfOk, OnOk, OnErr};
+ghost use Rattle.std.specs.Prelude.{◌≡◌, ◌<◌, ◌≤◌, [], length, IfOk, OnOk, OnErr};
 ghost use Rattle.std.specs.Io.{ReadsAtMost};
+ghost use Rattle.std.specs.Io.Buffered.{writer_buffer};
 ghost use Rattle.std.specs.Io.KnownBytes.{Keeps, ReadConsumes, WriteAppends};
 ghost use Rattle.cov_outside.specs.Meaning.{raised};
 ghost use Rattle.cov_outside.specs.Causes.{HasCause};
-ghost use Rattle.cov_outside.specs.Adapters.{reader_of, read_faults, writer_of, write_faults};
+ghost use Rattle.cov_outside.specs.Adapters.{reader_of, read_faults, writer_of, write_faults, written_by};
 
 use crate::streams::{Failed, Sink, Source};
-use std::io::{Read, Write};
+use std::io::{BufWriter, Read, Write};
 
 /// A source over a reader of std. It tells the bytes left where the reader does; a file or a terminal does not.
 #[derive(Drop)]
@@ -78,10 +79,14 @@ impl<W: Write> StdSink<W> {
     {
         self.faults
     }
+}
 
-    /// Hands on what the writer still holds. Failed where that answers an error, which raises the count by one.
+impl<W: Write + Drop> StdSink<BufWriter<W>> {
+    /// Hands on what the writer still holds: it holds nothing then. Failed where that answers an error, which raises the
+    /// count by one.
     pub fn flush(&mut self) -> Result<(), Failed>
-        ensures kept { Keeps (W.contents (writer_of self.old)) (W.contents (writer_of self.new)) }
+        ensures kept { Keeps (written_by W.contents self.old) (written_by W.contents self.new) }
+        ensures none_held { OnOk result (writer_buffer (writer_of self.new) ≡ []) }
         ensures no_fault { OnOk result (write_faults self.new ≡ write_faults self.old) }
         ensures one { OnErr result (write_faults self.new ≡ raised (write_faults self.old)) }
     {

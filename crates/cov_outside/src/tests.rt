@@ -6,7 +6,7 @@ use crate::{
     WriteBuffer, read_all, write_all,
 };
 use std::alloc::Global;
-use std::io::{Error, ErrorKind, Read, Result as IoResult, Write};
+use std::io::{BufWriter, Error, ErrorKind, Read, Result as IoResult, Write};
 use std::test::Fail;
 
 /// Takes nothing.
@@ -142,23 +142,25 @@ fn counts_a_read() -> bool {
 /// Whether a sink that takes nothing fails at a write, and counts that.
 fn counts_a_write() -> bool {
     let mut sink = StdSink::new(Stuck);
-    sink.write(b"A") == Err(Failed)
-        && sink.faults() == 1
-        && sink.flush() == Ok(())
-        && sink.faults() == 1
+    sink.write(b"A") == Err(Failed) && sink.faults() == 1
 }
 
-/// Whether a sink that hands nothing on fails at a flush, and counts that.
-fn counts_a_flush() -> bool {
-    let mut sink = StdSink::new(Holding);
-    sink.write(b"A") == Ok(1) && sink.flush() == Err(Failed) && sink.faults() == 1
+/// Whether a sink over a writer that holds a byte fails as that can't be handed on, and counts that.
+fn counts_a_flush<W: Write + Drop>(writer: BufWriter<W>) -> bool {
+    let mut sink = StdSink::new(writer);
+    sink.write(b"A") == Ok(1)
+        && sink.faults() == 0
+        && sink.flush() == Err(Failed)
+        && sink.faults() == 1
 }
 
 #[test]
-fn counts_the_faults_of_std(rt: HostRuntime) {
+fn counts_the_faults_of_std(rt: HostRuntime) -> Result<(), Fail> {
     assert!(rt; counts_a_read());
     assert!(rt; counts_a_write());
-    assert!(rt; counts_a_flush());
+    assert!(rt; counts_a_flush(BufWriter::new(rt.alloc(), Holding)?));
+    assert!(rt; counts_a_flush(BufWriter::new(rt.alloc(), Stuck)?));
+    Ok(())
 }
 
 /// Whether a buffer takes 455 pieces of nine bytes, and the sink has then no call.
