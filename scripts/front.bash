@@ -265,6 +265,8 @@ is_open() {
 # Runs the program on the words of a command, and ends with its status.
 call_program() {
   local at from get held='' line='' look program=$1 put=1 status
+  # The program, which can't do so itself, then gets an error where a file may not grow, and tells of it.
+  trap '' XFSZ
   if [ -z "$must_return" ] && ! is_open 2; then
     exec "$program" "${words[@]}"
   fi

@@ -232,7 +232,6 @@ def early() -> list[Case]:
         Case("early with a name", ["early", "S"], closed, USAGE, 1),
         Case("a job's end that is missing, under early", ["early"], closed.removesuffix(b"ENDJOB\n"), b"BAD JOB LINE 13\n", 2),
         Case("a line behind the job of early", ["early"], closed + b"\n", b"BAD JOB LINE 14\n", 2),
-        Case("a full output, of early", ["early"], closed, b"", 6, redirect=">/dev/full"),
         Case("no memory, of early", ["early"], large_job(), b"NO MEMORY\n", 7, before="ulimit -v 40000"),
     ]
 
@@ -260,7 +259,6 @@ def counts() -> list[Case]:
         Case("a line behind the job of count", ["count"], count + b"\n", b"BAD JOB LINE 13\n", 2),
         Case("INPUT, of count", ["count"], count + bytes(16_777_216), b"TOO LARGE INPUT\n", 4),
         Case("a folder as input, of count", ["count"], b"", b"READ FAULT\n", 5, redirect="</"),
-        Case("a full output, of count", ["count"], count, b"", 6, redirect=">/dev/full"),
         Case("no memory, of count", ["count"], large_job(), b"NO MEMORY\n", 7, before="ulimit -v 40000"),
     ]
 
@@ -388,13 +386,6 @@ def streams() -> list[Case]:
         Case("a folder as input, of prove", ["prove", "S"], b"", b"READ FAULT\n", 5, redirect="</"),
         Case("a folder as input, of verify", ["verify", "S"], b"", b"READ FAULT\n", 5, redirect="</"),
         Case("a full output", ["run"], job, b"", 6, redirect=">/dev/full"),
-        Case("a full output, of exits", ["exits"], job, b"", 6, redirect=">/dev/full"),
-        Case("a full output, of table", ["table"], job, b"", 6, redirect=">/dev/full"),
-        Case("a full output, of replay", ["replay"], FIRST.job(more="GO A\nENDSCHED\n"), b"", 6, redirect=">/dev/full"),
-        Case("a full output, of marks", ["marks", "S"], job, b"", 6, redirect=">/dev/full"),
-        Case("a full output, of combine", ["combine"], BOTH, b"", 6, redirect=">/dev/full"),
-        Case("a full output, of show", ["show", "S"], COUNTED.job() + BOTH, b"", 6, redirect=">/dev/full"),
-        Case("a full output, of prove", ["prove", "S"], job, b"", 6, redirect=">/dev/full"),
         Case("a full output, of verify", ["verify", "X"], job, b"", 6, redirect=">/dev/full"),
         Case("a full output for a refusal", ["run"], b"", b"", 6, redirect=">/dev/full"),
         Case("a full output for the usage", [], b"", b"", 6, redirect=">/dev/full"),
