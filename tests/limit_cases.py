@@ -1,0 +1,112 @@
+"""Each command at the limits of places and tasks: no memory is wanting there, and nothing is lost."""
+from __future__ import annotations
+
+import re
+from functools import lru_cache
+
+from harness import PROGRAM, equal, run
+from jobs import Program, Result, task
+
+PLACES, TASKS = 65_536, 64
+# How many places each task runs through.
+STRETCH = PLACES // TASKS // 2
+RAN = TASKS * STRETCH
+ADD, RETURN = ("1A11", "AR"), ("07FE", "BR")
+CONTROLLER = task("REG 2 00100000 / DATA 0 0A0405E20A050A03", "TASK C 000000 16 1000 0\n")
+
+
+@lru_cache(None)
+def program() -> Program:
+    """65,536 places of two bytes; each stretch returns with its last one."""
+    return Program([(2 * at, *(ADD if (at + 1) % STRETCH else RETURN)) for at in range(PLACES)])
+
+
+def entry(number: int) -> int:
+    return 0x100000 + 2 * STRETCH * number
+
+
+@lru_cache(None)
+def job() -> bytes:
+    """64 tasks, each through its stretch: 32,768 facts."""
+    return program().job("".join(task("", f"TASK T{it} {entry(it):06X} 16 1000 0\n") for it in range(TASKS)))
+
+
+@lru_cache(None)
+def controlled() -> bytes:
+    """A controller that goes through the first stretch while its session is open, and 63 tasks that return at once."""
+    others = "".join(task("DATA 0 07FE", f"TASK T{it} 000000 16 1000 0\n") for it in range(1, TASKS))
+    return program().job(CONTROLLER + others).replace(b"SESSION S M\n", b"SESSION S BY C M\n")
+
+
+def results() -> list[Result]:
+    return [Result("RETURNED", STRETCH, name=f"T{it}", entry=entry(it)) for it in range(TASKS)]
+
+
+def marks(ran: int) -> str:
+    return ":" * ran + "^" * (PLACES - ran)
+
+
+def rest(ran: int) -> str:
+    """The range of the places behind those that ran."""
+    return f"{2 * ran:06X}-{2 * PLACES - 1:06X}"
+
+
+def report(title: str = "COVERAGE REPORT") -> bytes:
+    return program().report(results(), marks(RAN), PLACES, rest(RAN), title=title)
+
+
+def file(runs: int = 1) -> bytes:
+    return program().marks_file(*[1] * RAN, *[0] * (PLACES - RAN), runs=runs)
+
+
+def evidence() -> bytes:
+    """Each place that ran was first shown by its task, when as many instructions had been done as stand before it."""
+    entries = (bytes([at // STRETCH]).rjust(2, b"\0") + (at % STRETCH).to_bytes(4, "big") + b"\0" for at in range(RAN))
+    return b"S370EVD1" + b"".join(entries)
+
+
+def gives(words: list[str], data: bytes, wanted: bytes) -> None:
+    ran = run([PROGRAM, *words], data)
+    equal((ran.status, ran.error), (0, ""))
+    assert ran.output == wanted, f"{len(ran.output)} bytes, and not the {len(wanted)} that are wanted"
+
+
+def runs() -> None:
+    """limits: run, exits, count and replay of 65,536 places and 64 tasks"""
+    for word in ("run", "exits"):
+        gives([word], job(), report())
+    gives(["count"], job(), program().counted(results(), *[(1,)] * RAN, *[(0,)] * (PLACES - RAN)))
+    schedule = "".join(f"GO T{it}\n" for it in range(TASKS))
+    events = "".join(f"\nEVENT {it + 1} GO T{it}" for it in range(TASKS))
+    gives(["replay"], job() + f"{schedule}ENDSCHED\n".encode(), report(f"COVERAGE REPLAY{events}"))
+
+
+def early() -> None:
+    """limits: early of a session over 65,536 places, which one of 64 tasks opens and closes"""
+    ran = run([PROGRAM, "early"], controlled())
+    done = Result("EXIT", STRETCH + 4, registers={2: 0x100000, 14: 0x40000004, 15: 0}, name="C")
+    others = [Result("RETURNED", 1, name=f"T{it}", entry=0) for it in range(1, TASKS)]
+    wanted = program().report([done, *others], marks(STRETCH), PLACES, rest(STRETCH))
+    equal((ran.status, ran.error), (0, ""))
+    had, count = re.subn(rb"(NOT DRAINED|DRAINED COUNT [0-9]+)\nEND\n$", b"END\n", ran.output)
+    assert (had, count) == (wanted, 1), f"{len(had)} bytes, and not the {len(wanted)} that are wanted"
+
+
+def files() -> None:
+    """limits: marks, combine, show, prove and verify of 65,536 places and 32,768 facts"""
+    gives(["marks", "S"], job(), file())
+    gives(["combine"], file() + file(), file(2))
+    gives(["show", "S"], job() + file(), program().shown(marks(RAN), PLACES, rest(RAN)))
+    gives(["prove", "S"], job(), evidence())
+    gives(["verify", "S"], job() + file() + evidence(), f"VERIFIED S FACTS {RAN}\n".encode())
+
+
+def lists() -> None:
+    """limits: table and ends of 65,536 places and 64 tasks"""
+    places = "".join(f"PLACE {at:06X} 2 S {code}\n" for at, code, _ in program().code)
+    gives(["table"], job(), f"COVERAGE TABLE\nMODULE M PLACES {PLACES}\n{places}END\n".encode())
+    ended = "".join(f"TASK T{it} RETURNED COUNT {STRETCH} AT FFFFFE\n" for it in range(TASKS))
+    gives(["ends"], job(), f"COVERAGE ENDS\n{ended}UNLISTED M 0\nEND\n".encode())
+
+
+CHECKS = [runs, early, files, lists]
