@@ -15,6 +15,7 @@ use crate::pass::CountSlot;
 use crate::phase::count_phase;
 use brk_table::Tables;
 use cov_base::{Fact, NoMemory, PlaceNo, SessNo, TaskNo};
+use cov_outside::Gate;
 use job_run::{Done, make_slots, tasks_of};
 use s370_state::{Cpu, Ending};
 use session_book::{FactCounts, Job, Results, Session};
@@ -127,9 +128,10 @@ impl<'a> Results for Counted<'a> {
 }
 
 /// Counts the job's phases one after the other.
-fn count_phases<'a, T: Threads + Sync>(
+fn count_phases<'a, T: Threads + Sync, G: Gate + Sync>(
     rt: &T,
     alloc: Global,
+    gate: &G,
     job: &Job,
     tables: &Tables,
     slots: &mut [CountSlot<'a>],
@@ -144,19 +146,20 @@ fn count_phases<'a, T: Threads + Sync>(
     let count = job.phase_count();
     let mut phases = Vec::with_capacity(alloc, count as usize)?;
     for phase in 0..count {
-        let counts = count_phase(rt, alloc, job, tables, phase, slots)?;
+        let counts = count_phase(rt, alloc, gate, job, tables, phase, slots)?;
         phases.push(counts)?;
     }
     Ok(phases)
 }
 
-/// Runs the job with breakpoints that stay, phase after phase, the tasks of a phase at once: each task ends as it does
-/// alone, and the counts of each session at its modules' places are those of its executions. No session of the job has a
+/// Runs the job with breakpoints that stay, phase after phase, the tasks of a phase at once, each once it has passed the
+/// gate: each task ends as it does alone, and the counts of each session at its modules' places are those of its executions. No session of the job has a
 /// controller; the tables are those of the job's listings, with the instructions of their modules. All tasks take their
 /// memory before the first phase runs, and a phase takes all but its area's end before it plants.
-pub fn count_job<'a, T: Threads + Wait + Sync>(
+pub fn count_job<'a, T: Threads + Wait + Sync, G: Gate + Sync>(
     rt: &T,
     alloc: Global,
+    gate: &G,
     job: &'a Job,
     tables: &'a Tables,
 ) -> Result<Counted<'a>, NoMemory>
@@ -166,7 +169,7 @@ pub fn count_job<'a, T: Threads + Wait + Sync>(
 {
     let tasks = Vec::with_capacity(alloc, job.task_count())?;
     let mut slots = make_slots(alloc, job, tables)?;
-    let phases = count_phases(rt, alloc, job, tables, &mut slots)?;
+    let phases = count_phases(rt, alloc, gate, job, tables, &mut slots)?;
     Ok(Counted {
         tasks: tasks_of(slots, tasks),
         counts: JobCounts {

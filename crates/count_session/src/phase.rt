@@ -20,6 +20,7 @@ use crate::pass::{CountPass, CountSlot};
 use crate::run::run_counted;
 use brk_table::Tables;
 use cov_base::{NoMemory, PlaceNo, TaskNo};
+use cov_outside::Gate;
 use job_run::{Crew, Done, run_crew};
 use module_area::Plan;
 use session_book::{Job, plan_of};
@@ -127,9 +128,10 @@ impl<'a> Crew for CountCrew<'a> {
 }
 
 /// Counts a phase: makes an area of its plan, plants every place with a window, runs the phase's tasks, and ends the area.
-pub(crate) fn count_phase<'a, T: Threads + Sync>(
+pub(crate) fn count_phase<'a, T: Threads + Sync, G: Gate + Sync>(
     rt: &T,
     alloc: Global,
+    gate: &G,
     job: &Job,
     tables: &Tables,
     phase: u32,
@@ -153,6 +155,6 @@ pub(crate) fn count_phase<'a, T: Threads + Sync>(
         tables,
         phase,
     };
-    run_crew(rt, &crew, job, phase, &mut root, slots);
+    run_crew(rt, gate, &crew, job, phase, &mut root, slots);
     cells.finish(alloc, root)
 }

@@ -271,7 +271,7 @@ fn answer<T: Threads + Wait + Sync, S: Source, K: Sink, A: Areas, G: Gate + Sync
         Command::Run => answer_run(rt, alloc, &PlainRunner, source, sink, areas, gate),
         Command::Exits => answer_run(rt, alloc, &ExitRunner, source, sink, areas, gate),
         Command::Early => answer_early(rt, alloc, source, sink, areas, gate),
-        Command::Count => answer_count(rt, alloc, source, sink),
+        Command::Count => answer_count(rt, alloc, source, sink, gate),
         Command::Marks(name) => answer_marks(rt, alloc, &name, source, sink, areas, gate),
         Command::Trial { number, tasks } => answer_trial(
             rt, alloc, number, tasks, sink, areas, gate,
@@ -292,8 +292,8 @@ fn answer<T: Threads + Wait + Sync, S: Source, K: Sink, A: Areas, G: Gate + Sync
 /// - `exits` does the same, but each task goes on at the exit that it has named at its next program interruption;
 /// - `early` does as `run`, and tells behind the part of each session with a controller at which count of the controller's
 ///   instructions the session's sets were known as final, or that they weren't;
-/// - `count` reads a job whose sessions have no controllers, runs its tasks on threads over cells of its own, past no gate,
-///   and writes how often each fact was met;
+/// - `count` reads a job whose sessions have no controllers, runs its tasks on threads over cells of its own, each past the
+///   gate, and writes how often each fact was met;
 /// - `marks NAME` does as `run`, but writes the marks file of the session of the name;
 /// - `trial NUMBER TASKS` reads nothing, runs the generated job of that number and so many tasks, 1 to 64, and writes its
 ///   summary;

@@ -13,7 +13,7 @@ use crate::status::{Status, status_of, told};
 use crate::words::Command;
 use brk_table::Tables;
 use count_session::count_job;
-use cov_outside::{Sink, Source};
+use cov_outside::{Gate, Sink, Source};
 use report_text::count_text;
 use session_book::Job;
 use std::alloc::Global;
@@ -22,36 +22,38 @@ use std::thread::Threads;
 
 /// Counts a job whose listings match and whose sessions have no controller, and writes its counts.
 #[tactic(auto, using(brk_table::proofs::CodeLemmas::are_in))]
-fn answer_counts<T: Threads + Wait + Sync, K: Sink>(
+fn answer_counts<T: Threads + Wait + Sync, K: Sink, G: Gate + Sync>(
     rt: &T,
     alloc: Global,
     job: &Job,
     tables: &Tables,
     sink: &mut K,
+    gate: &G,
 ) -> Status
     requires free { first_controlled job.now ≡ None }
     requires ready { IsReadyJob job.now tables.now }
     ensures { (s : SourceChange) (a : Account) → CameJob to_end s job.now →
         Answers Command.Count s (no_change a) (sink_change K.written K.faults sink.old sink.new) result.0 }
 {
-    let Ok(counted) = count_job(rt, alloc, job, tables) else {
+    let Ok(counted) = count_job(rt, alloc, gate, job, tables) else {
         return told(sink, NO_MEMORY, 7);
     };
     status_of(count_text(sink, job, tables, &counted))
 }
 
 /// Reads a job, counts it, and writes its counts.
-pub fn answer_count<T: Threads + Wait + Sync, S: Source, K: Sink>(
+pub fn answer_count<T: Threads + Wait + Sync, S: Source, K: Sink, G: Gate + Sync>(
     rt: &T,
     alloc: Global,
     source: &mut S,
     sink: &mut K,
+    gate: &G,
 ) -> Status
     ensures { (a : Account) → Answers Command.Count (source_change S.left S.faults source.old source.new) (no_change a)
         (sink_change K.written K.faults sink.old sink.new) result.0 }
 {
     match make_whole(alloc, source) {
-        Ok(read) => answer_counts(rt, alloc, &read.input.job, &read.tables, sink),
+        Ok(read) => answer_counts(rt, alloc, &read.input.job, &read.tables, sink, gate),
         Err(refusal) => told(sink, &refusal.line, refusal.status),
     }
 }

@@ -1,4 +1,4 @@
-//! The crew of an area: it runs the tasks of a phase by any runner of tasks, each once it has passed the gate.
+//! The crew of an area: it runs the tasks of a phase by any runner of tasks.
 ghost use Rattle.std.specs.Prelude.{◌≡◌, length, IfOk};
 ghost use Rattle.session_book.specs.Meaning.{plan_view};
 ghost use Rattle.job_run.specs.Passes.{AreEquipped};
@@ -10,7 +10,6 @@ use crate::outcome::Done;
 use crate::slots::{Slot, equip, is_of};
 use brk_table::Tables;
 use cov_base::{NoMemory, TaskNo};
-use cov_outside::Gate;
 use module_area::{Cells, Forks, Plan};
 use session_book::Job;
 use std::alloc::Global;
@@ -18,9 +17,8 @@ use task_run::Runner;
 
 /// Works on the cells of an area that was made for a phase of the job.
 #[derive(Drop)]
-pub struct AreaCrew<'a, C, G, R> {
+pub struct AreaCrew<'a, C, R> {
     pub cells: &'a C,
-    pub gate: &'a G,
     pub runner: &'a R,
     pub job: &'a Job,
     pub tables: &'a Tables,
@@ -28,7 +26,7 @@ pub struct AreaCrew<'a, C, G, R> {
     pub phase: u32,
 }
 
-impl<'a, C: Forks<Pass: Send>, G: Gate, R: Runner<C>> Crew for AreaCrew<'a, C, G, R> {
+impl<'a, C: Forks<Pass: Send>, R: Runner<C>> Crew for AreaCrew<'a, C, R> {
     ghost use Rattle.job_run.specs.Crews.{phase_at};
     ghost use Rattle.job_run.specs.Passes.{EndsTask, HasJoined, HasSeen, HasStart, IsAreaOf, IsFresh, KnowsFinal};
 
@@ -64,7 +62,6 @@ impl<'a, C: Forks<Pass: Send>, G: Gate, R: Runner<C>> Crew for AreaCrew<'a, C, G
         done: &mut Done<'_>,
     ) {
         let Some(extra) = extra else { unreachable!() };
-        self.gate.arrive(task);
         let ending = self.runner.run(
             self.cells,
             pass,

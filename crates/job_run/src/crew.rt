@@ -8,6 +8,7 @@ ghost use Rattle.job_run.specs.Crews.{AreBack, AreReady, CanGo, Each, EachAt, Ge
 use crate::outcome::Done;
 use crate::slots::{Slot, give, is_of, range_of, take_at};
 use cov_base::TaskNo;
+use cov_outside::Gate;
 use session_book::Job;
 use std::thread;
 use std::thread::Threads;
@@ -108,21 +109,28 @@ fn split_all<'a, C: Crew>(
     }
 }
 
-/// Runs the slot's task where it has a pass.
-fn run_slot<'a, C: Crew>(crew: &C, task: TaskNo, slot: &mut Slot<'a, C::Pass, C::Extra>)
+/// Runs the slot's task, once it has passed the gate, where it has a pass.
+fn run_slot<'a, G: Gate, C: Crew>(
+    gate: &G,
+    crew: &C,
+    task: TaskNo,
+    slot: &mut Slot<'a, C::Pass, C::Extra>,
+)
     requires fit { C.IsFit crew.now }
     requires can { CanGo (C.IsFresh crew.now) (C.CanRun crew.now) (C.phase crew.now) task.0 slot.old }
     ensures { Goes (C.HasRun crew.now) (C.Ends crew.now) task.0 slot.old slot.new }
 {
     if let Some(pass) = &mut slot.pass {
+        gate.arrive(task);
         crew.run(task, pass, &mut slot.extra, &mut slot.done);
     }
 }
 
 /// Runs the tasks of all slots that have a pass, with a thread for each slot. The first of them is the task of this
 /// number.
-fn run_slots<'a, T: Threads + Sync, C: Crew + Sync>(
+fn run_slots<'a, T: Threads + Sync, G: Gate + Sync, C: Crew + Sync>(
     rt: &T,
+    gate: &G,
     crew: &C,
     first: usize,
     slots: &mut [Slot<'a, C::Pass, C::Extra>],
@@ -141,13 +149,14 @@ fn run_slots<'a, T: Threads + Sync, C: Crew + Sync>(
         requires number { first + t < TASK_LIMIT }
         requires can { CanGo (C.IsFresh crew.now) (C.CanRun crew.now) (C.phase crew.now) (first + t) slot.now }
         ensures { Goes (C.HasRun crew.entry.now) (C.Ends crew.entry.now) (first + t) slot.entry.now slot.exit.now }
-    { run_slot(crew, TaskNo((first + t) as u32), slot) };
+    { run_slot(gate, crew, TaskNo((first + t) as u32), slot) };
     thread::for_each_mut(rt, slots, count, &work);
 }
 
 /// Runs the phase's tasks, whose slots alone have passes, each on a thread of its own.
-fn run_those<'a, T: Threads + Sync, C: Crew + Sync>(
+fn run_those<'a, T: Threads + Sync, G: Gate + Sync, C: Crew + Sync>(
     rt: &T,
+    gate: &G,
     crew: &C,
     job: &Job,
     phase: u32,
@@ -163,13 +172,14 @@ fn run_those<'a, T: Threads + Sync, C: Crew + Sync>(
 {
     let range = range_of(job, phase);
     let first = range.start;
-    run_slots(rt, crew, first, &mut slots[range]);
+    run_slots(rt, gate, crew, first, &mut slots[range]);
 }
 
-/// Runs the phase's tasks: splits off a pass for each, runs all at once, and joins the passes. The slots stand in the order
+/// Runs the phase's tasks: splits off a pass for each, runs all at once, each once it has passed the gate, and joins the passes. The slots stand in the order
 /// of the job's tasks.
-pub fn run_crew<'a, T: Threads + Sync, C: Crew + Sync>(
+pub fn run_crew<'a, T: Threads + Sync, G: Gate + Sync, C: Crew + Sync>(
     rt: &T,
+    gate: &G,
     crew: &C,
     job: &Job,
     phase: u32,
@@ -184,7 +194,7 @@ pub fn run_crew<'a, T: Threads + Sync, C: Crew + Sync>(
     ensures back { AreBack (C.Ends crew.now) (C.Knows crew.now root.new) (C.phase crew.now) slots.old slots.new }
 {
     split_all(crew, job, phase, root, slots);
-    run_those(rt, crew, job, phase, slots);
+    run_those(rt, gate, crew, job, phase, slots);
     let count = job.task_count();
     for t in 0..count {
         if let Some(pass) = take_at(slots, t) {

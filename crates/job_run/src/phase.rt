@@ -60,14 +60,13 @@ fn run_phase<'a, T: Threads + Sync, A: Areas, G: Gate + Sync, R: Runner<A::C> + 
     plant_all(&cells, &mut root, &plan);
     let crew = AreaCrew {
         cells: &cells,
-        gate,
         runner,
         job,
         tables,
         plan: &plan,
         phase,
     };
-    run_crew(rt, &crew, job, phase, &mut root, slots);
+    run_crew(rt, gate, &crew, job, phase, &mut root, slots);
     areas.finish(alloc, cells, root)
 }
 

@@ -1,4 +1,5 @@
-//! Tasks of one phase run at once: a gate holds one of two until the other has arrived.
+//! Gates: of two tasks of a phase one is held until the other has arrived, so they run at once; and each task arrives once,
+//! but none of a job that is refused.
 
 use super::evidence::BRANCH;
 use super::notation::{Part, bytes_of};
@@ -14,10 +15,7 @@ use std::sync::atomic::{AtomicU64, Ordering};
 use std::test::Fail;
 use std::thread::Threads;
 
-const JOB: [Part; 2] = [
-    Part::Code(BRANCH),
-    Part::Text("TASK A 100000 16 100 0\nTASK B 100000 16 100 0\nREG 1 00000001\nENDJOB\n"),
-];
+const JOB: [Part; 2] = [Part::Code(BRANCH), Part::Text(TASKS)];
 
 /// At most so many looks at the other task's word.
 const TURNS: u64 = 1_000_000_000;
@@ -54,11 +52,12 @@ impl Gate for Holding {
     }
 }
 
-/// Runs the job while its gate holds a task until another has arrived: the status, the tallies, and whether the task
-/// was released.
-fn run_held<T: Threads + Wait + Sync>(
+/// Serves the words on the job while their gate holds a task until another has arrived: the status, the tallies, and whether
+/// the task was released.
+fn serve_held<T: Threads + Wait + Sync>(
     rt: &T,
     alloc: Global,
+    words: &[&str],
     held: u32,
     awaited: u32,
 ) -> Result<(Status, Vec<Tally>, u64), Fail> {
@@ -70,19 +69,19 @@ fn run_held<T: Threads + Wait + Sync>(
         released: AtomicU64::new(0),
     };
     let mut areas = SharedAreas::new(alloc, 1).map_err(|_| "memory")?;
-    let (status, _) = serve_over(rt, alloc, &["run"], &job, 64, &mut areas, &gate)?;
+    let (status, _) = serve_over(rt, alloc, words, &job, 64, &mut areas, &gate)?;
     let released = gate.released.load(Ordering::SeqCst);
     Ok((status, areas.ledger().to_vec(alloc)?, released))
 }
 
-/// Whether the held task goes on once the other has arrived.
+/// Whether the held task goes on once the other has arrived, and both fetch what stands in the area's cells.
 fn waits<T: Threads + Wait + Sync>(
     rt: &T,
     alloc: Global,
     held: u32,
     awaited: u32,
 ) -> Result<bool, Fail> {
-    let (status, tallies, released) = run_held(rt, alloc, held, awaited)?;
+    let (status, tallies, released) = serve_held(rt, alloc, &["run"], held, awaited)?;
     Ok(
         status.0 == 0
             && released == 1
@@ -96,5 +95,109 @@ fn waits<T: Threads + Wait + Sync>(
 fn a_task_waits_for_another_of_its_phase(rt: HostRuntime) -> Result<(), Fail> {
     assert!(rt; waits(&rt, rt.alloc(), 0, 1)?);
     assert!(rt; waits(&rt, rt.alloc(), 1, 0)?);
+    Ok(())
+}
+
+/// Whether it does so where tasks are counted, which makes no area.
+fn waits_counted<T: Threads + Wait + Sync>(
+    rt: &T,
+    alloc: Global,
+    held: u32,
+    awaited: u32,
+) -> Result<bool, Fail> {
+    let (status, tallies, released) = serve_held(rt, alloc, &["count"], held, awaited)?;
+    Ok(status.0 == 0 && released == 1 && tallies.is_empty())
+}
+
+#[test]
+fn a_counted_task_waits_for_another_of_its_phase(rt: HostRuntime) -> Result<(), Fail> {
+    assert!(rt; waits_counted(&rt, rt.alloc(), 0, 1)?);
+    assert!(rt; waits_counted(&rt, rt.alloc(), 1, 0)?);
+    Ok(())
+}
+
+/// How often the first task has arrived, the second, and others.
+#[derive(Drop)]
+struct Arrivals {
+    first: AtomicU64,
+    second: AtomicU64,
+    others: AtomicU64,
+}
+
+impl Gate for Arrivals {
+    fn arrive(&self, task: TaskNo) {
+        let arrived = match task.0 {
+            0 => &self.first,
+            1 => &self.second,
+            _ => &self.others,
+        };
+        let _ = arrived.fetch_add(1, Ordering::SeqCst);
+    }
+}
+
+/// Words, a job of two tasks, the status that they are answered with, and how often each task then has arrived.
+type Passes = (&'static [&'static str], &'static [Part], u8, u64);
+
+const TASKS: &str = "TASK A 100000 16 100 0\nTASK B 100000 16 100 0\nREG 1 00000001\nENDJOB\n";
+
+/// With a line behind its end.
+const LONGER: [Part; 3] = [Part::Code(BRANCH), Part::Text(TASKS), Part::Text("\n")];
+
+/// Without its end.
+const CUT: [Part; 2] = [
+    Part::Code(BRANCH),
+    Part::Text("TASK A 100000 16 100 0\nTASK B 100000 16 100 0\n"),
+];
+
+/// With a session that the second task opens and closes.
+const CONTROLLED: [Part; 3] = [
+    Part::Phase(BRANCH),
+    Part::Text("SESSION S BY B M\n"),
+    Part::Text(TASKS),
+];
+
+const PASSES: [Passes; 16] = [
+    (&["run"], &JOB, 0, 1),
+    (&["exits"], &JOB, 0, 1),
+    (&["early"], &CONTROLLED, 0, 1),
+    (&["count"], &JOB, 0, 1),
+    (&["marks", "S"], &JOB, 0, 1),
+    (&["trial", "7", "2"], &JOB, 0, 1),
+    (&["run"], &CUT, 2, 0),
+    (&["exits"], &LONGER, 2, 0),
+    (&["early"], &CUT, 2, 0),
+    (&["count"], &CONTROLLED, 14, 0),
+    (&["marks", "X"], &JOB, 13, 0),
+    (&["marks", "S"], &LONGER, 2, 0),
+    (&["trial", "7", "0"], &JOB, 1, 0),
+    (&["table"], &JOB, 0, 0),
+    (&["ends"], &JOB, 0, 0),
+    (&["prove", "S"], &JOB, 0, 0),
+];
+
+/// Whether the words are answered so, and the tasks have arrived so often.
+fn arrives<T: Threads + Wait + Sync>(rt: &T, alloc: Global, row: &Passes) -> Result<bool, Fail> {
+    let gate = Arrivals {
+        first: AtomicU64::new(0),
+        second: AtomicU64::new(0),
+        others: AtomicU64::new(0),
+    };
+    let (words, parts, wanted, each) = *row;
+    let job = bytes_of(alloc, parts)?;
+    let mut areas = SharedAreas::new(alloc, 1).map_err(|_| "memory")?;
+    let (status, _) = serve_over(rt, alloc, words, &job, 64, &mut areas, &gate)?;
+    Ok(
+        status.0 == wanted
+            && gate.first.load(Ordering::SeqCst) == each
+            && gate.second.load(Ordering::SeqCst) == each
+            && gate.others.load(Ordering::SeqCst) == 0,
+    )
+}
+
+#[test]
+fn each_task_arrives_once_and_none_of_a_refused_job(rt: HostRuntime) -> Result<(), Fail> {
+    for row in &PASSES {
+        assert!(rt; arrives(&rt, rt.alloc(), row)?);
+    }
     Ok(())
 }
