@@ -1,5 +1,6 @@
 pub mod Answers
 pub mod Io
 pub mod Meaning
+pub mod Parts
 pub mod Plain
 pub mod Row

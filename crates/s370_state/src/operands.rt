@@ -4,6 +4,7 @@ ghost use Rattle.cov_base.specs.Meaning.{byte_at, can_reach, can_store, wrap};
 ghost use Rattle.s370_decode.specs.Meaning.{ex};
 ghost use Rattle.s370_state.specs.Meaning.{reads, stores, use_tests, number_at, store_number};
 ghost use Rattle.s370_state.specs.Answers.{ending_of};
+ghost use Rattle.s370_state.specs.Parts.{Tested, both_reach_answer};
 
 use crate::cpu::Cpu;
 use crate::endings::Ending;
@@ -41,8 +42,7 @@ pub fn ending_of(r: Refused) -> Ending
 #[tactic(auto, unfolding(crate::specs::Meaning::use_tests, crate::specs::Meaning::all_reached, crate::specs::Meaning::all_stored, crate::specs::Meaning::touched))]
 #[inline(always)]
 pub fn test_read<P: Space>(space: &P, at: Addr, len: u32) -> Result<(), Ending>
-    ensures refused { IfErr result (λ e. use_tests (P.memory space.now) (reads at len ∷ []) ≡ Some e) }
-    ensures passed { IfOk result (λ _. use_tests (P.memory space.now) (reads at len ∷ []) ≡ None) }
+    ensures tested { Tested (P.memory space.now) (reads at len ∷ []) result }
     ensures reach { IfOk result (λ _. can_reach (P.memory space.now) at len ≡ true) }
 {
     match space.can_reach(at, len) {
@@ -58,8 +58,7 @@ pub fn test_read<P: Space>(space: &P, at: Addr, len: u32) -> Result<(), Ending>
 #[tactic(auto, unfolding(crate::specs::Meaning::use_tests, crate::specs::Meaning::all_reached, crate::specs::Meaning::all_stored, crate::specs::Meaning::touched))]
 #[inline(always)]
 pub fn test_store<P: Space>(space: &P, at: Addr, len: u32) -> Result<(), Ending>
-    ensures refused { IfErr result (λ e. use_tests (P.memory space.now) (stores at len ∷ []) ≡ Some e) }
-    ensures passed { IfOk result (λ _. use_tests (P.memory space.now) (stores at len ∷ []) ≡ None) }
+    ensures tested { Tested (P.memory space.now) (stores at len ∷ []) result }
     ensures reach { IfOk result (λ _. can_reach (P.memory space.now) at len ≡ true) }
     ensures store { IfOk result (λ _. can_store (P.memory space.now) at len ≡ true) }
 {
@@ -76,8 +75,7 @@ pub fn test_store<P: Space>(space: &P, at: Addr, len: u32) -> Result<(), Ending>
 /// then touch by the second.
 #[tactic(auto, unfolding(crate::specs::Meaning::use_tests, crate::specs::Meaning::all_reached, crate::specs::Meaning::all_stored, crate::specs::Meaning::touched))]
 pub fn test_store_read<P: Space>(space: &P, a: Addr, n: u32, b: Addr, k: u32) -> Result<(), Ending>
-    ensures refused { IfErr result (λ e. use_tests (P.memory space.now) (stores a n ∷ (reads b k ∷ [])) ≡ Some e) }
-    ensures passed { IfOk result (λ _. use_tests (P.memory space.now) (stores a n ∷ (reads b k ∷ [])) ≡ None) }
+    ensures tested { Tested (P.memory space.now) (stores a n ∷ (reads b k ∷ [])) result }
     ensures reach { IfOk result (λ _. can_reach (P.memory space.now) a n ≡ true) }
     ensures store { IfOk result (λ _. can_store (P.memory space.now) a n ≡ true) }
     ensures reach_second { IfOk result (λ _. can_reach (P.memory space.now) b k ≡ true) }
@@ -97,8 +95,7 @@ pub fn test_store_read<P: Space>(space: &P, a: Addr, n: u32, b: Addr, k: u32) ->
 /// Tests two operands that are read: code 5 by either, then touch by the first, then by the second.
 #[tactic(auto, unfolding(crate::specs::Meaning::use_tests, crate::specs::Meaning::all_reached, crate::specs::Meaning::all_stored, crate::specs::Meaning::touched))]
 pub fn test_read_both<P: Space>(space: &P, a: Addr, n: u32, b: Addr, k: u32) -> Result<(), Ending>
-    ensures refused { IfErr result (λ e. use_tests (P.memory space.now) (reads a n ∷ (reads b k ∷ [])) ≡ Some e) }
-    ensures passed { IfOk result (λ _. use_tests (P.memory space.now) (reads a n ∷ (reads b k ∷ [])) ≡ None) }
+    ensures tested { Tested (P.memory space.now) (reads a n ∷ (reads b k ∷ [])) result }
     ensures reach { IfOk result (λ _. can_reach (P.memory space.now) a n ≡ true) }
     ensures reach_second { IfOk result (λ _. can_reach (P.memory space.now) b k ≡ true) }
 {
@@ -115,8 +112,7 @@ pub fn test_read_both<P: Space>(space: &P, a: Addr, n: u32, b: Addr, k: u32) -> 
 }
 
 fn reach_both<P: Space>(space: &P, a: Addr, n: u32, b: Addr, k: u32) -> Result<(), Refused>
-    ensures { let reach = can_reach (P.memory space.now) in
-        result ≡ (if reach a n && reach b k then Ok tt else Err Refused.Addressing) }
+    ensures { result ≡ both_reach_answer (P.memory space.now) a n b k }
 {
     match space.can_reach(a, n) {
         Ok(()) => space.can_reach(b, k),
@@ -161,8 +157,7 @@ pub fn word_of<P: Space>(space: &P, at: Addr, i: u32, len: u32) -> u32
 /// The word at an address, tested as an operand that is read.
 #[inline(always)]
 pub fn read_word<P: Space>(space: &P, at: Addr) -> Result<u32, Ending>
-    ensures refused { IfErr result (λ e. use_tests (P.memory space.now) (reads at 4 ∷ []) ≡ Some e) }
-    ensures passed { IfOk result (λ _. use_tests (P.memory space.now) (reads at 4 ∷ []) ≡ None) }
+    ensures tested { Tested (P.memory space.now) (reads at 4 ∷ []) result }
     ensures value { IfOk result (λ v. v ≡ number_at (P.memory space.now) (P.bytes space.now) at 4) }
 {
     match test_read(space, at, 4) {

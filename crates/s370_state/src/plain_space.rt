@@ -39,7 +39,7 @@ impl PlainSpace {
     }
 
     fn is_accessible(&self, at: Addr) -> bool
-        ensures { result ≡ is_accessible (memory_of self.now.size self.now.base self.now.image.items self.now.touches.items) at }
+        ensures { let s = self.now in result ≡ is_accessible (memory_of s.size s.base s.image.items s.touches.items) at }
     {
         self.is_private(at) || self.is_image(at)
     }
