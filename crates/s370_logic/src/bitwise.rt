@@ -5,7 +5,7 @@ ghost use Rattle.std.specs.Prelude.{◌≡◌, ◌+◌, ◌<◌, ◌≤◌, ◌^
 ghost use Rattle.cov_base.specs.Meaning.{can_reach, can_store};
 ghost use Rattle.s370_state.specs.Row.{Performs};
 ghost use Rattle.s370_logic.specs.Meaning.{zero_code, joined, are_zero, row_registers, row_word, row_immediate, row_fields};
-ghost use Rattle.s370_logic.specs.Bitwise.{connected};
+ghost use Rattle.s370_logic.specs.Bitwise.{connected, with_result};
 
 use cov_base::Addr;
 use s370_decode::Code;
@@ -52,8 +52,7 @@ fn zero_code(is_zero: bool) -> u8
 /// Joins the word to the register.
 fn join(cpu: &mut Cpu, r: u8, v: u32, f: Connective) -> Next
     requires { r < 16 }
-    ensures cpu { let w = connected f (slice_index cpu.old.regs r) v in
-        cpu.new ≡ record cpu.old { regs = slice_set cpu.old.regs r w; condition = zero_code (w == 0) } }
+    ensures cpu { cpu.new ≡ with_result cpu.old r (connected f (slice_index cpu.old.regs r) v) }
     ensures next { result ≡ Next.On }
 {
     let w = f.of_words(cpu.reg(r), v);
