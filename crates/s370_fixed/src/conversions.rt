@@ -2,8 +2,9 @@
 #![tactic(auto, using(s370_state::proofs::Performs::passes, s370_state::proofs::Performs::refuses, s370_state::proofs::Performs::good_data, s370_state::proofs::Performs::bad_data))]
 
 ghost use Rattle.std.specs.Prelude.{◌≡◌, ℕ, ◌^◌, ◌<◌, List, if◌then◌else◌};
-ghost use Rattle.s370_state.specs.Meaning.{machine_of, finish};
+ghost use Rattle.s370_state.specs.Meaning.{machine_of};
 ghost use Rattle.s370_state.specs.Row.{Performs, after};
+ghost use Rattle.s370_state.specs.Parts.{finished};
 ghost use Rattle.s370_fixed.specs.Meaning.{converted, fixed_row};
 
 use crate::words::{is_word, low_word};
@@ -21,8 +22,7 @@ const DOUBLEWORD: u8 = 7;
 fn convert(cpu: &mut Cpu, r: u8, f: Field) -> Next
     requires register { r < 16 }
     requires magnitude { f.magnitude < 10 ^ 15 }
-    ensures { (bytes : List ℕ) → let s = machine_of cpu.old bytes in
-        after cpu.new bytes result ≡ finish s (converted s r f) }
+    ensures { (bytes : List ℕ) → after cpu.new bytes result ≡ finished (λ s. converted s r f) (machine_of cpu.old bytes) }
 {
     let z = number(f) as i64;
     if is_word(i128::from(z)) {

@@ -1,7 +1,9 @@
 //! The second operand of an operation, tested and read, and what operations do with a result.
 ghost use Rattle.std.specs.Prelude.{◌≡◌, ◌<◌, ◌≤◌, [], ◌∷◌, ℤ, pos, neg_ℤ, ◌≤ℤ◌, ◌<ℤ◌, IfOk, IfErr, None, Some, if◌then◌else◌, slice_set};
-ghost use Rattle.s370_state.specs.Meaning.{reads, use_tests, next_after, number_at};
-ghost use Rattle.s370_fixed.specs.Meaning.{result_code, signed_half, low_word, is_word};
+ghost use Rattle.s370_state.specs.Meaning.{reads, next_after, number_at};
+ghost use Rattle.s370_state.specs.Parts.{Tested};
+ghost use Rattle.s370_fixed.specs.Meaning.{is_word};
+ghost use Rattle.s370_fixed.specs.Results.{signed_half_at, with_result};
 ghost use Rattle.s370_decode.specs.Meaning.{ex};
 
 use crate::words::{half_of, is_word, low_word, sign_code, signed_half};
@@ -11,8 +13,7 @@ use s370_state::{Cpu, Ending, Next, Space, indexed, next_after, read_word, test_
 /// The word at the second operand's address.
 #[inline(always)]
 pub fn word<P: Space>(cpu: &Cpu, space: &P, code: &Code) -> Result<u32, Ending>
-    ensures refused { IfErr result (λ e. use_tests (P.memory space.now) (reads (ex cpu.now code.now) 4 ∷ []) ≡ Some e) }
-    ensures passed { IfOk result (λ _. use_tests (P.memory space.now) (reads (ex cpu.now code.now) 4 ∷ []) ≡ None) }
+    ensures tested { Tested (P.memory space.now) (reads (ex cpu.now code.now) 4 ∷ []) result }
     ensures value { IfOk result (λ v. v ≡ number_at (P.memory space.now) (P.bytes space.now) (ex cpu.now code.now) 4) }
 {
     read_word(space, indexed(cpu, code))
@@ -21,10 +22,8 @@ pub fn word<P: Space>(cpu: &Cpu, space: &P, code: &Code) -> Result<u32, Ending>
 /// The halfword there, extended by its sign.
 #[inline(always)]
 pub fn half<P: Space>(cpu: &Cpu, space: &P, code: &Code) -> Result<i64, Ending>
-    ensures refused { IfErr result (λ e. use_tests (P.memory space.now) (reads (ex cpu.now code.now) 2 ∷ []) ≡ Some e) }
-    ensures passed { IfOk result (λ _. use_tests (P.memory space.now) (reads (ex cpu.now code.now) 2 ∷ []) ≡ None) }
-    ensures value { let number = number_at (P.memory space.now) (P.bytes space.now) in
-        IfOk result (λ z. z ≡ signed_half (number (ex cpu.now code.now) 2)) }
+    ensures tested { Tested (P.memory space.now) (reads (ex cpu.now code.now) 2 ∷ []) result }
+    ensures value { IfOk result (λ z. z ≡ signed_half_at (P.memory space.now) (P.bytes space.now) (ex cpu.now code.now)) }
     ensures low { IfOk result (λ z. neg_ℤ (pos 32768) ≤ℤ z) }
     ensures high { IfOk result (λ z. z <ℤ pos 32768) }
 {
@@ -51,7 +50,7 @@ pub fn load(cpu: &mut Cpu, r: u8, v: u32) -> Next
 #[tactic(auto, unfolding(s370_state::specs::Meaning::next_after))]
 pub fn set_result(cpu: &mut Cpu, r: u8, z: i64) -> Next
     requires { r < 16 }
-    ensures cpu { cpu.new ≡ record cpu.old { regs = slice_set cpu.old.regs r (low_word z); condition = result_code (is_word z) z } }
+    ensures cpu { cpu.new ≡ with_result cpu.old r z }
     ensures next { result ≡ next_after cpu.old.mask (if is_word z then 0 else 8) }
 {
     cpu.set_reg(r, low_word(z));

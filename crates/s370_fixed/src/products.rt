@@ -5,8 +5,10 @@ ghost use Rattle.std.specs.Prelude.{◌≡◌, ◌+◌, ◌*◌, ◌%◌, ◌<�
 ghost use Rattle.std.specs.Int.{cast_signed, cast_unsigned, w64};
 ghost use Rattle.std.specs.Int.RustNames.{int_div, int_rem};
 ghost use Rattle.s370_state.specs.Meaning.{machine_of, finish, pair, with_pair, signed};
-ghost use Rattle.s370_state.specs.Row.{Performs, after};
-ghost use Rattle.s370_fixed.specs.Meaning.{low_word, is_word, divides, divided, fixed_row};
+ghost use Rattle.s370_state.specs.Row.{Performs};
+ghost use Rattle.s370_state.specs.Parts.{Follows};
+ghost use Rattle.s370_fixed.specs.Meaning.{is_word, divides, fixed_row};
+ghost use Rattle.s370_fixed.specs.Results.{signed_in, with_low_word, with_both_words, pair_divided};
 
 use crate::operands::{half, load, word};
 use crate::words::{is_word, low_word};
@@ -19,8 +21,7 @@ fn multiply(cpu: &mut Cpu, r: u8, z: i64) -> Next
     requires r { r < 15 }
     requires low { neg_ℤ (pos 2147483648) ≤ℤ z }
     requires high { z <ℤ pos 2147483648 }
-    ensures cpu { let product = signed (slice_index cpu.old.regs (r + 1)) *ℤ z in
-        cpu.new ≡ record cpu.old { regs = with_pair cpu.old.regs r (cast_unsigned w64 product) } }
+    ensures cpu { cpu.new ≡ with_both_words cpu.old r (signed_in cpu.old (r + 1) *ℤ z) }
     ensures next { result ≡ Next.On }
 {
     let product = signed(cpu.reg(r + 1)) * z;
@@ -34,8 +35,7 @@ fn multiply_low(cpu: &mut Cpu, r: u8, z: i64) -> Next
     requires r { r < 16 }
     requires low { neg_ℤ (pos 2147483648) ≤ℤ z }
     requires high { z <ℤ pos 2147483648 }
-    ensures cpu { let product = signed (slice_index cpu.old.regs r) *ℤ z in
-        cpu.new ≡ record cpu.old { regs = slice_set cpu.old.regs r (low_word product) } }
+    ensures cpu { cpu.new ≡ with_low_word cpu.old r (signed_in cpu.old r *ℤ z) }
     ensures next { result ≡ Next.On }
 {
     let product = signed(cpu.reg(r)) * z;
@@ -45,8 +45,7 @@ fn multiply_low(cpu: &mut Cpu, r: u8, z: i64) -> Next
 /// Divides the pair, where the quotient is a word.
 fn divide<P: Space>(cpu: &mut Cpu, space: &P, r: u8, d: i64) -> Next
     requires { r < 15 }
-    ensures { let s = machine_of cpu.old (P.bytes space.now) in
-        after cpu.new (P.bytes space.now) result ≡ finish s (divided s r (cast_signed w64 (pair s.cpu r)) d) }
+    ensures { Follows P.memory P.bytes (pair_divided r d) cpu.old space.now cpu.new space.now result }
 {
     let dividend = cpu.pair(r).cast_signed();
     match quotient(dividend, d) {

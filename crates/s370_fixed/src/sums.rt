@@ -5,7 +5,8 @@ ghost use Rattle.std.specs.Prelude.{◌≡◌, ◌+◌, ◌-◌, ◌%◌, ◌<�
 ghost use Rattle.std.specs.Ordering.{int_cmp};
 ghost use Rattle.s370_state.specs.Meaning.{next_after, signed, order_code};
 ghost use Rattle.s370_state.specs.Row.{Performs};
-ghost use Rattle.s370_fixed.specs.Meaning.{low_word, is_word, result_code, carry_code, fixed_row};
+ghost use Rattle.s370_fixed.specs.Meaning.{is_word, fixed_row};
+ghost use Rattle.s370_fixed.specs.Results.{signed_in, with_result, with_sum};
 
 use crate::operands::{half, set_result, word};
 use s370_decode::{Code, Op};
@@ -17,9 +18,8 @@ fn add(cpu: &mut Cpu, r: u8, z: i64) -> Next
     requires r { r < 16 }
     requires low { neg_ℤ (pos 2147483648) ≤ℤ z }
     requires high { z <ℤ pos 2147483648 }
-    ensures cpu { let sum = signed (slice_index cpu.old.regs r) +ℤ z in
-        cpu.new ≡ record cpu.old { regs = slice_set cpu.old.regs r (low_word sum); condition = result_code (is_word sum) sum } }
-    ensures next { result ≡ next_after cpu.old.mask (if is_word (signed (slice_index cpu.old.regs r) +ℤ z) then 0 else 8) }
+    ensures cpu { cpu.new ≡ with_result cpu.old r (signed_in cpu.old r +ℤ z) }
+    ensures next { result ≡ next_after cpu.old.mask (if is_word (signed_in cpu.old r +ℤ z) then 0 else 8) }
 {
     let sum = signed(cpu.reg(r)) + z;
     set_result(cpu, r, sum)
@@ -31,9 +31,8 @@ fn subtract(cpu: &mut Cpu, r: u8, z: i64) -> Next
     requires r { r < 16 }
     requires low { neg_ℤ (pos 2147483648) ≤ℤ z }
     requires high { z <ℤ pos 2147483648 }
-    ensures cpu { let rest = signed (slice_index cpu.old.regs r) -ℤ z in
-        cpu.new ≡ record cpu.old { regs = slice_set cpu.old.regs r (low_word rest); condition = result_code (is_word rest) rest } }
-    ensures next { result ≡ next_after cpu.old.mask (if is_word (signed (slice_index cpu.old.regs r) -ℤ z) then 0 else 8) }
+    ensures cpu { cpu.new ≡ with_result cpu.old r (signed_in cpu.old r -ℤ z) }
+    ensures next { result ≡ next_after cpu.old.mask (if is_word (signed_in cpu.old r -ℤ z) then 0 else 8) }
 {
     let difference = signed(cpu.reg(r)) - z;
     set_result(cpu, r, difference)
@@ -44,7 +43,7 @@ fn subtract(cpu: &mut Cpu, r: u8, z: i64) -> Next
 fn set_sum(cpu: &mut Cpu, r: u8, n: u64) -> Next
     requires r { r < 16 }
     requires carry { n < 8589934592 }
-    ensures cpu { cpu.new ≡ record cpu.old { regs = slice_set cpu.old.regs r (n % 4294967296); condition = carry_code n } }
+    ensures cpu { cpu.new ≡ with_sum cpu.old r n }
     ensures next { result ≡ Next.On }
 {
     let low = (n % 4_294_967_296) as u32;
@@ -58,8 +57,7 @@ fn set_sum(cpu: &mut Cpu, r: u8, n: u64) -> Next
 #[inline(always)]
 fn add_unsigned(cpu: &mut Cpu, r: u8, v: u32) -> Next
     requires { r < 16 }
-    ensures cpu { let n = slice_index cpu.old.regs r + v in
-        cpu.new ≡ record cpu.old { regs = slice_set cpu.old.regs r (n % 4294967296); condition = carry_code n } }
+    ensures cpu { cpu.new ≡ with_sum cpu.old r (slice_index cpu.old.regs r + v) }
     ensures next { result ≡ Next.On }
 {
     let n = u64::from(cpu.reg(r)) + u64::from(v);
@@ -70,8 +68,7 @@ fn add_unsigned(cpu: &mut Cpu, r: u8, v: u32) -> Next
 #[inline(always)]
 fn subtract_unsigned(cpu: &mut Cpu, r: u8, v: u32) -> Next
     requires { r < 16 }
-    ensures cpu { let n = slice_index cpu.old.regs r + (4294967295 - v) + 1 in
-        cpu.new ≡ record cpu.old { regs = slice_set cpu.old.regs r (n % 4294967296); condition = carry_code n } }
+    ensures cpu { cpu.new ≡ with_sum cpu.old r (slice_index cpu.old.regs r + (4294967295 - v) + 1) }
     ensures next { result ≡ Next.On }
 {
     let n = u64::from(cpu.reg(r)) + (4_294_967_295 - u64::from(v)) + 1;
@@ -82,7 +79,7 @@ fn subtract_unsigned(cpu: &mut Cpu, r: u8, v: u32) -> Next
 #[inline(always)]
 fn compare(cpu: &mut Cpu, r: u8, z: i64) -> Next
     requires { r < 16 }
-    ensures cpu { cpu.new ≡ record cpu.old { condition = order_code (int_cmp (signed (slice_index cpu.old.regs r)) z) } }
+    ensures cpu { cpu.new ≡ record cpu.old { condition = order_code (int_cmp (signed_in cpu.old r) z) } }
     ensures next { result ≡ Next.On }
 {
     cpu.set_cc(order_code(signed(cpu.reg(r)).cmp(&z)));

@@ -1,0 +1,34 @@
+-- What operations leave in the processor.
+use Rattle.std.specs.Prelude.{ℕ, ◌%◌, ℤ, List, slice_index, slice_set}
+use Rattle.std.specs.Int.{cast_signed, cast_unsigned, w64}
+use Rattle.cov_base.specs.Meaning.{CpuView, Machine, Memory}
+use Rattle.s370_state.specs.Meaning.{Outcome, signed, pair, with_pair, number_at}
+use Rattle.s370_fixed.specs.Meaning.{low_word, is_word, result_code, carry_code, signed_half, divided}
+
+-- register r as a signed number
+abbrev pub signed_in : CpuView → ℕ → ℤ
+signed_in cpu r = signed (slice_index cpu.regs r)
+
+-- the halfword at an address, extended by its sign
+abbrev pub signed_half_at : Memory → List ℕ → ℕ → ℤ
+signed_half_at m bytes a = signed_half (number_at m bytes a 2)
+
+-- register r has the low word of a number
+abbrev pub with_low_word : CpuView → ℕ → ℤ → CpuView
+with_low_word cpu r z = record cpu { regs = slice_set cpu.regs r (low_word z) }
+
+-- the pair r has the 64 bits of a number
+abbrev pub with_both_words : CpuView → ℕ → ℤ → CpuView
+with_both_words cpu r z = record cpu { regs = with_pair cpu.regs r (cast_unsigned w64 z) }
+
+-- register r has the low word of a signed result, with its condition code
+abbrev pub with_result : CpuView → ℕ → ℤ → CpuView
+with_result cpu r z = record cpu { regs = slice_set cpu.regs r (low_word z); condition = result_code (is_word z) z }
+
+-- register r has the low word of a sum without signs, with its condition code
+abbrev pub with_sum : CpuView → ℕ → ℕ → CpuView
+with_sum cpu r n = record cpu { regs = slice_set cpu.regs r (n % 4294967296); condition = carry_code n }
+
+-- the pair r is divided
+abbrev pub pair_divided : ℕ → ℤ → Memory → Machine → Outcome
+pair_divided r d m s = divided s r (cast_signed w64 (pair s.cpu r)) d
