@@ -1,7 +1,7 @@
 //! The two fields that an operation works on, tested and read.
 ghost use Rattle.std.specs.Prelude.{◌≡◌, ◌+◌, ◌*◌, ◌^◌, ◌<◌, Some, None, true, IfOk, IfErr, IfSome};
 ghost use Rattle.cov_base.specs.Meaning.{can_reach, can_store};
-ghost use Rattle.s370_state.specs.Meaning.{use_tests};
+ghost use Rattle.s370_state.specs.Parts.{Tested};
 ghost use Rattle.s370_decode.specs.Meaning.{e1, e2};
 ghost use Rattle.s370_decimal.specs.Meaning.{l1, l2, replaces, compares, operands};
 
@@ -17,8 +17,7 @@ pub struct Operands {
 
 /// Tests a first field that is replaced and a second that is read.
 pub fn test_replaced<P: Space>(cpu: &Cpu, space: &P, code: &Code) -> Result<(), Ending>
-    ensures refused { IfErr result (λ e. use_tests (P.memory space.now) (replaces cpu.now code.now) ≡ Some e) }
-    ensures passed { IfOk result (λ _. use_tests (P.memory space.now) (replaces cpu.now code.now) ≡ None) }
+    ensures tested { Tested (P.memory space.now) (replaces cpu.now code.now) result }
     ensures reach { IfOk result (λ _. can_reach (P.memory space.now) (e1 cpu.now code.now) (l1 code.now + 1) ≡ true) }
     ensures store { IfOk result (λ _. can_store (P.memory space.now) (e1 cpu.now code.now) (l1 code.now + 1) ≡ true) }
     ensures second { IfOk result (λ _. can_reach (P.memory space.now) (e2 cpu.now code.now) (l2 code.now + 1) ≡ true) }
@@ -36,8 +35,7 @@ pub fn test_replaced<P: Space>(cpu: &Cpu, space: &P, code: &Code) -> Result<(), 
 
 /// Tests two fields that are read: code 5 by either, then touch by the first, then by the second.
 pub fn test_compared<P: Space>(cpu: &Cpu, space: &P, code: &Code) -> Result<(), Ending>
-    ensures refused { IfErr result (λ e. use_tests (P.memory space.now) (compares cpu.now code.now) ≡ Some e) }
-    ensures passed { IfOk result (λ _. use_tests (P.memory space.now) (compares cpu.now code.now) ≡ None) }
+    ensures tested { Tested (P.memory space.now) (compares cpu.now code.now) result }
     ensures reach { IfOk result (λ _. can_reach (P.memory space.now) (e1 cpu.now code.now) (l1 code.now + 1) ≡ true) }
     ensures second { IfOk result (λ _. can_reach (P.memory space.now) (e2 cpu.now code.now) (l2 code.now + 1) ≡ true) }
 {

@@ -3,8 +3,8 @@
 
 ghost use Rattle.std.specs.Prelude.{◌≡◌, ◌+◌, ◌-◌, ◌*◌, ◌/◌, ◌%◌, ◌^◌, ◌<◌, true, if◌then◌else◌};
 ghost use Rattle.cov_base.specs.Meaning.{can_store};
-ghost use Rattle.s370_state.specs.Meaning.{machine_of, finish};
-ghost use Rattle.s370_state.specs.Row.{Performs, after};
+ghost use Rattle.s370_state.specs.Row.{Performs};
+ghost use Rattle.s370_state.specs.Parts.{Follows};
 ghost use Rattle.s370_decode.specs.Meaning.{e1};
 ghost use Rattle.s370_decimal.specs.Meaning.{l1, l2, is_shorter, signs_differ, multiplied, divided, decimal_row};
 
@@ -33,9 +33,7 @@ fn put_product<P: Space>(cpu: &Cpu, space: &mut P, code: &Code, o: Operands) -> 
     requires shorter { l2 code.now < l1 code.now }
     requires store { can_store (P.memory space.old) (e1 cpu.now code.now) (l1 code.now + 1) ≡ true }
     requires second { o.second.magnitude < 10 ^ (2 * l2 code.now + 1) }
-    ensures memory { P.memory space.new ≡ P.memory space.old }
-    ensures outcome { let s = machine_of cpu.now (P.bytes space.old) in
-        after cpu.now (P.bytes space.new) result ≡ finish s (multiplied s code.now o) }
+    ensures { Follows P.memory P.bytes (λ m s. multiplied s code.now o) cpu.now space.old cpu.now space.new result }
 {
     let (l1, l2) = (code.l1(), code.l2());
     if !fits(l1 - l2 - 1, o.first.magnitude) {
@@ -52,9 +50,7 @@ fn put_product<P: Space>(cpu: &Cpu, space: &mut P, code: &Code, o: Operands) -> 
 fn put_quotient<P: Space>(cpu: &Cpu, space: &mut P, code: &Code, o: Operands) -> Next
     requires shorter { l2 code.now < l1 code.now }
     requires store { can_store (P.memory space.old) (e1 cpu.now code.now) (l1 code.now + 1) ≡ true }
-    ensures memory { P.memory space.new ≡ P.memory space.old }
-    ensures outcome { let s = machine_of cpu.now (P.bytes space.old) in
-        after cpu.now (P.bytes space.new) result ≡ finish s (divided s code.now o) }
+    ensures { Follows P.memory P.bytes (λ m s. divided s code.now o) cpu.now space.old cpu.now space.new result }
 {
     let (l1, l2) = (code.l1(), code.l2());
     let (dividend, divisor) = (o.first.magnitude, o.second.magnitude);

@@ -2,12 +2,11 @@
 #![tactic(auto, using(s370_state::proofs::Performs::passes, s370_state::proofs::Performs::refuses, s370_state::proofs::Performs::good_data, s370_state::proofs::Performs::bad_data))]
 
 ghost use Rattle.std.specs.Prelude.{◌≡◌, ◌<◌, ◌≤◌, ◌+ℤ◌, ◌-ℤ◌};
-ghost use Rattle.std.specs.Int.{is_negative};
 ghost use Rattle.std.specs.Ordering.{int_cmp};
-ghost use Rattle.std.specs.Int.RustNames.{unsigned_abs};
 ghost use Rattle.s370_state.specs.Row.{Performs};
 ghost use Rattle.s370_state.specs.Meaning.{number, order_code};
-ghost use Rattle.s370_decimal.specs.Meaning.{kept, decimal_row};
+ghost use Rattle.s370_decimal.specs.Meaning.{decimal_row};
+ghost use Rattle.s370_decimal.specs.Kept.{number_kept};
 
 use crate::operands::{Operands, read_operands, test_compared, test_replaced};
 use crate::results::{Kept, keep, put_result};
@@ -17,7 +16,7 @@ use s370_state::{Cpu, Ending, Next, Space, field_at, number, order_code};
 /// What a field of length code l keeps of a number.
 fn keep_number(l: u8, z: i128) -> Kept
     requires { l ≤ 15 }
-    ensures { result ≡ kept l (unsigned_abs z) (is_negative z) }
+    ensures { result ≡ number_kept l z }
 {
     keep(l, z.unsigned_abs(), z < 0)
 }
@@ -27,7 +26,7 @@ fn keep_sum(l: u8, o: Operands) -> Kept
     requires length { l ≤ 15 }
     requires first { o.first.magnitude < 10000000000000000000000000000000 }
     requires second { o.second.magnitude < 10000000000000000000000000000000 }
-    ensures { let sum = number o.first +ℤ number o.second in result ≡ kept l (unsigned_abs sum) (is_negative sum) }
+    ensures { result ≡ number_kept l (number o.first +ℤ number o.second) }
 {
     let sum = number(o.first) + number(o.second);
     keep_number(l, sum)
@@ -38,8 +37,7 @@ fn keep_difference(l: u8, o: Operands) -> Kept
     requires length { l ≤ 15 }
     requires first { o.first.magnitude < 10000000000000000000000000000000 }
     requires second { o.second.magnitude < 10000000000000000000000000000000 }
-    ensures { let difference = number o.first -ℤ number o.second in
-        result ≡ kept l (unsigned_abs difference) (is_negative difference) }
+    ensures { result ≡ number_kept l (number o.first -ℤ number o.second) }
 {
     let difference = number(o.first) - number(o.second);
     keep_number(l, difference)
