@@ -3,8 +3,9 @@ ghost use Rattle.std.specs.Prelude.{◌≡◌, ◌+◌, ◌/◌, ◌<◌, ◌≤
 ghost use Rattle.arrayvec.specs.ArrayVec.{array_vec_len};
 ghost use Rattle.cov_base.specs.Meaning.{can_reach, can_store};
 ghost use Rattle.s370_decode.specs.Groups.{group_of};
-ghost use Rattle.s370_state.specs.Meaning.{store_bytes, use_tests, machine_of, finish};
-ghost use Rattle.s370_state.specs.Row.{Performs, after};
+ghost use Rattle.s370_state.specs.Meaning.{store_bytes};
+ghost use Rattle.s370_state.specs.Row.{Performs};
+ghost use Rattle.s370_state.specs.Parts.{Follows, Tested};
 ghost use Rattle.s370_edit.specs.Meaning.{worked, formed, field_code, marked, edited, pattern_uses, pattern_row, edit_row};
 
 use crate::pattern::work;
@@ -27,10 +28,7 @@ fn form<P: Space>(
     requires some { 1 ≤ n }
     requires most { n ≤ 256 }
     requires empty { text.old.items ≡ [] }
-    ensures refused { let m = P.memory space.now in
-        IfErr result (λ e. use_tests m (pattern_uses m (P.bytes space.now) a b n) ≡ Some e) }
-    ensures passed { let m = P.memory space.now in
-        IfOk result (λ _. use_tests m (pattern_uses m (P.bytes space.now) a b n) ≡ None) }
+    ensures tested { Tested (P.memory space.now) (pattern_uses (P.memory space.now) (P.bytes space.now) a b n) result }
     ensures value { IfOk result (λ w. w ≡ worked (P.memory space.now) (P.bytes space.now) a b n) }
     ensures store { IfOk result (λ _. can_store (P.memory space.now) a n ≡ true) }
     ensures text { OnOk result (text.new.items ≡ formed (P.memory space.now) (P.bytes space.now) a b n) }
@@ -105,9 +103,7 @@ fn complete<P: Space>(
 ) -> Next
     requires len { length text.now ≡ n }
     requires store { can_store (P.memory space.old) a n ≡ true }
-    ensures memory { P.memory space.new ≡ P.memory space.old }
-    ensures outcome { let s = machine_of cpu.old (P.bytes space.old) in
-        after cpu.new (P.bytes space.new) result ≡ finish s (edited marks s a text.now w.now) }
+    ensures { Follows P.memory P.bytes (λ m s. edited marks s a text.now w.now) cpu.old space.old cpu.new space.new result }
 {
     if w.bad {
         return Next::Ended(Ending::Abend(7));

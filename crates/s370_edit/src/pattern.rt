@@ -3,6 +3,7 @@ ghost use Rattle.std.specs.Prelude.{◌≡◌, ◌<◌, ◌≤◌, true, false, 
 ghost use Rattle.arrayvec.specs.ArrayVec.{array_vec_len};
 ghost use Rattle.cov_base.specs.Meaning.{byte_at, can_reach, wrap};
 ghost use Rattle.s370_edit.specs.Meaning.{worked, formed, fresh};
+ghost use Rattle.s370_edit.specs.Taking.{Takes, working_taken, working_of};
 
 use crate::working::{Working, fresh, work_byte};
 use arrayvec::ArrayVec;
@@ -33,11 +34,9 @@ pub fn work<P: Space>(
     requires most { n ≤ 256 }
     requires reach { can_reach (P.memory space.now) a n ≡ true }
     requires empty { text.old.items ≡ [] }
-    ensures value { IfSome result (λ w. w ≡ worked (P.memory space.now) (P.bytes space.now) a b n) }
+    ensures working { Takes (P.memory space.now) (P.bytes space.now) b working_taken (working_of a n) result }
     ensures text { OnSome result (text.new.items ≡ formed (P.memory space.now) (P.bytes space.now) a b n) }
     ensures len { OnSome result (array_vec_len text.new ≡ n) }
-    ensures none { let w = worked (P.memory space.now) (P.bytes space.now) a b n in
-        IfNone result (can_reach (P.memory space.now) b w.taken ≡ false) }
 {
     let fill = fill_byte(space, a, n);
     let mut w = fresh();

@@ -2,6 +2,7 @@
 ghost use Rattle.std.specs.Prelude.{◌≡◌, ◌+◌, ◌*◌, ◌/◌, ◌%◌, ◌<◌, ◌≤◌, true, false, not, ◌&&◌, ◌||◌, ◌==◌, if◌then◌else◌, Some, None, IfSome, IfNone};
 ghost use Rattle.cov_base.specs.Meaning.{byte_at, is_accessible, can_reach, wrap};
 ghost use Rattle.s370_edit.specs.Meaning.{fresh, left_digit, next_digit, selected, separated, kept, stepped};
+ghost use Rattle.s370_edit.specs.Taking.{Takes, digit_taken, step_taken, digit_after, digit_step, byte_step};
 
 use cov_base::Addr;
 use s370_state::{Space, is_digit, is_minus, is_sign};
@@ -93,13 +94,11 @@ fn next_digit<P: Space>(space: &P, b: Addr, w: &Working) -> Option<Digit>
     requires taken { w.now.taken < 256 }
     requires right { IfSome w.now.right (λ d. d < 16) }
     requires reach { can_reach (P.memory space.now) b w.now.taken ≡ true }
-    ensures value { IfSome result (λ d. d ≡ next_digit (P.memory space.now) (P.bytes space.now) b w.now) }
+    ensures digit { Takes (P.memory space.now) (P.bytes space.now) b digit_taken (digit_after w.now) result }
     ensures below { IfSome result (λ d. d.value < 16) }
     ensures right { IfSome result (λ d. IfSome d.right (λ r. r < 16)) }
     ensures most { IfSome result (λ d. d.taken ≤ w.now.taken + 1) }
     ensures reach { IfSome result (λ d. can_reach (P.memory space.now) b d.taken ≡ true) }
-    ensures none { let d = next_digit (P.memory space.now) (P.bytes space.now) b w.now in
-        IfNone result (can_reach (P.memory space.now) b d.taken ≡ false) }
 {
     match w.right {
         Some(value) => Some(Digit {
@@ -152,13 +151,10 @@ fn take_digit<P: Space>(
     requires taken { w.now.taken < 256 }
     requires right { IfSome w.now.right (λ d. d < 16) }
     requires reach { can_reach (P.memory space.now) b w.now.taken ≡ true }
-    ensures value { let d = next_digit (P.memory space.now) (P.bytes space.now) b w.now in
-        IfSome result (λ s. s ≡ selected w.now d starts fill at) }
+    ensures step { Takes (P.memory space.now) (P.bytes space.now) b step_taken (digit_step w.now starts fill at) result }
     ensures right { IfSome result (λ s. IfSome s.working.right (λ r. r < 16)) }
     ensures most { IfSome result (λ s. s.working.taken ≤ w.now.taken + 1) }
     ensures reach { IfSome result (λ s. can_reach (P.memory space.now) b s.working.taken ≡ true) }
-    ensures none { let d = next_digit (P.memory space.now) (P.bytes space.now) b w.now in
-        IfNone result (can_reach (P.memory space.now) b (selected w.now d starts fill at).working.taken ≡ false) }
 {
     match next_digit(space, b, w) {
         Some(d) => Some(select(w, &d, starts, fill, at)),
@@ -204,12 +200,10 @@ pub fn work_byte<P: Space>(
     requires taken { w.now.taken < 256 }
     requires right { IfSome w.now.right (λ d. d < 16) }
     requires reach { can_reach (P.memory space.now) b w.now.taken ≡ true }
-    ensures value { IfSome result (λ s. s ≡ stepped (P.memory space.now) (P.bytes space.now) b fill p at w.now) }
+    ensures step { Takes (P.memory space.now) (P.bytes space.now) b step_taken (byte_step w.now fill p at) result }
     ensures right { IfSome result (λ s. IfSome s.working.right (λ r. r < 16)) }
     ensures most { IfSome result (λ s. s.working.taken ≤ w.now.taken + 1) }
     ensures reach { IfSome result (λ s. can_reach (P.memory space.now) b s.working.taken ≡ true) }
-    ensures none { let step = stepped (P.memory space.now) (P.bytes space.now) b fill p at w.now in
-        IfNone result (can_reach (P.memory space.now) b step.working.taken ≡ false) }
 {
     if w.bad {
         return Some(Step {
