@@ -3,8 +3,9 @@
 
 ghost use Rattle.std.specs.Prelude.{◌≡◌, ◌+◌, ◌-◌, ◌*◌, ◌/◌, ◌%◌, ◌<◌, ◌≤◌, ◌^◌, Some, None, true, false, min, max, ◌&&◌, if◌then◌else◌};
 ghost use Rattle.cov_base.specs.Meaning.{can_reach, can_store};
-ghost use Rattle.s370_state.specs.Meaning.{machine_of, finish, is_even};
-ghost use Rattle.s370_state.specs.Row.{Performs, after};
+ghost use Rattle.s370_state.specs.Meaning.{is_even};
+ghost use Rattle.s370_state.specs.Row.{Performs};
+ghost use Rattle.s370_state.specs.Parts.{Follows};
 ghost use Rattle.s370_storage.specs.Meaning.{long, passed, lesser, overlaps, padded, long_moved, moves_apart, long_moves, extended, unequal, compares, long_compares, storage_row};
 
 use crate::moves::{Part, move_bytes};
@@ -186,8 +187,7 @@ fn set_compared<P: Space>(cpu: &mut Cpu, space: &P, r: u8, q: u8, o: &Long, uneq
     requires second { o.now.second_length < 16777216 }
     requires reach { can_reach (P.memory space.now) o.now.first o.now.first_length ≡ true }
     requires reach_second { can_reach (P.memory space.now) o.now.second o.now.second_length ≡ true }
-    ensures { let s = machine_of cpu.old (P.bytes space.now) in
-        after cpu.new (P.bytes space.now) Next.On ≡ finish s (compares (P.memory space.now) s r q o.now unequal) }
+    ensures { Follows P.memory P.bytes (λ m s. compares m s r q o.now unequal) cpu.old space.now cpu.new space.now Next.On }
 {
     match unequal {
         None => {

@@ -5,6 +5,7 @@ ghost use Rattle.std.specs.Prelude.{◌≡◌, ◌+◌, ◌-◌, ◌*◌, ◌/�
 ghost use Rattle.cov_base.specs.Meaning.{byte_at, can_reach, can_store, wrap};
 ghost use Rattle.s370_state.specs.Row.{Performs};
 ghost use Rattle.s370_storage.specs.Meaning.{with_part, moved, moves, left_of, inverted, storage_row};
+ghost use Rattle.s370_storage.specs.Lookups.{moved_byte};
 
 use cov_base::Addr;
 use s370_decode::{Code, Op};
@@ -37,8 +38,7 @@ fn next_byte<P: Space>(part: Part, space: &P, a: Addr, b: Addr, i: u32, n: u32) 
     requires reach { can_reach (P.memory space.now) a n ≡ true }
     requires reach_second { can_reach (P.memory space.now) b n ≡ true }
     requires below { i < n }
-    ensures { let at = byte_at (P.memory space.now) (P.bytes space.now) in
-        result ≡ with_part part (at (wrap (a + i))) (at (wrap (b + i))) }
+    ensures { result ≡ moved_byte part (P.memory space.now) (P.bytes space.now) a b i }
 {
     match part {
         Part::Byte => byte_of(space, b, i, n),

@@ -3,8 +3,8 @@
 
 ghost use Rattle.std.specs.Prelude.{◌≡◌, ◌+◌, ◌-◌, ◌*◌, ◌/◌, ◌%◌, ◌<◌, ◌≤◌, ◌∷◌, [], Some, None, true, slice_set, IfOk, IfErr, if◌then◌else◌, ◌==◌};
 ghost use Rattle.cov_base.specs.Meaning.{can_reach, can_store};
-ghost use Rattle.s370_state.specs.Meaning.{use_tests};
 ghost use Rattle.s370_state.specs.Row.{Performs};
+ghost use Rattle.s370_state.specs.Parts.{Tested};
 ghost use Rattle.s370_storage.specs.Meaning.{fields, source, result_at, exchanged, packed_byte, packed, with_zoned, unpacked, shifted, field_uses, storage_row};
 
 use cov_base::Addr;
@@ -38,8 +38,7 @@ fn fields_of(cpu: &Cpu, code: &Code) -> Fields
 fn test_fields<P: Space>(space: &P, o: &Fields) -> Result<(), Ending>
     requires to { o.now.to_last < 16 }
     requires from { o.now.from_last < 16 }
-    ensures refused { IfErr result (λ e. use_tests (P.memory space.now) (field_uses o.now) ≡ Some e) }
-    ensures passed { IfOk result (λ _. use_tests (P.memory space.now) (field_uses o.now) ≡ None) }
+    ensures tested { Tested (P.memory space.now) (field_uses o.now) result }
     ensures reach { IfOk result (λ _. can_reach (P.memory space.now) o.now.to (o.now.to_last + 1) ≡ true) }
     ensures store { IfOk result (λ _. can_store (P.memory space.now) o.now.to (o.now.to_last + 1) ≡ true) }
     ensures source { IfOk result (λ _. can_reach (P.memory space.now) o.now.from (o.now.from_last + 1) ≡ true) }

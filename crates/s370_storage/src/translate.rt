@@ -3,9 +3,11 @@
 
 ghost use Rattle.std.specs.Prelude.{◌≡◌, ◌+◌, ◌*◌, ◌/◌, ◌<◌, ◌≤◌, ◌∷◌, Some, None, true, false, IfOk, IfErr, IfSome, if◌then◌else◌, ◌==◌};
 ghost use Rattle.cov_base.specs.Meaning.{can_reach, can_store, wrap, first_touch};
-ghost use Rattle.s370_state.specs.Meaning.{use_tests, stores, reads, all_reached, touched, touch_ending, machine_of, finish};
-ghost use Rattle.s370_state.specs.Row.{Performs, after};
-ghost use Rattle.s370_storage.specs.Meaning.{function_at, functions, translation_uses, search_uses, translated, function, selected, looked_up, selecting, selects, storage_row};
+ghost use Rattle.s370_state.specs.Meaning.{touch_ending};
+ghost use Rattle.s370_state.specs.Row.{Performs};
+ghost use Rattle.s370_state.specs.Parts.{Follows, Tested};
+ghost use Rattle.s370_storage.specs.Meaning.{function_at, translation_uses, search_uses, translated, selected, looked_up, selects, storage_row};
+ghost use Rattle.s370_storage.specs.Lookups.{AreReached, LooksUp, Searches};
 
 use cov_base::Addr;
 use s370_decode::{Code, Op};
@@ -35,13 +37,7 @@ fn touch<P: Space>(space: &P, at: Addr) -> Option<Ending>
 #[tactic(auto, using(crate::proofs::Tables::functions_reached_none, crate::proofs::Tables::functions_reached_more, crate::proofs::Tables::functions_refused, crate::proofs::Tables::functions_touched_none, crate::proofs::Tables::functions_touched_more))]
 fn test_functions<P: Space>(space: &P, a: Addr, t: Addr, n: u32) -> Result<Option<Ending>, Ending>
     requires { can_reach (P.memory space.now) a n ≡ true }
-    ensures refused { let m = P.memory space.now in let bytes = P.bytes space.now in
-        IfErr result (λ e. all_reached m (functions m bytes a t n) ≡ false) }
-    ensures code { IfErr result (λ e. e ≡ Ending.Abend 5) }
-    ensures reached { let m = P.memory space.now in let bytes = P.bytes space.now in
-        IfOk result (λ met. all_reached m (functions m bytes a t n) ≡ true) }
-    ensures touched { let m = P.memory space.now in let bytes = P.bytes space.now in
-        IfOk result (λ met. met ≡ touch_ending (touched m (functions m bytes a t n))) }
+    ensures { LooksUp (P.memory space.now) (P.bytes space.now) a t n result }
 {
     let mut met = None;
     for i in 0..n {
@@ -57,14 +53,10 @@ fn test_functions<P: Space>(space: &P, a: Addr, t: Addr, n: u32) -> Result<Optio
 /// Tests the first operand, which is stored, and the function bytes of its arguments.
 #[tactic(auto, unfolding(s370_state::specs::Meaning::use_tests, s370_state::specs::Meaning::all_reached, s370_state::specs::Meaning::all_stored, s370_state::specs::Meaning::touched), using(crate::proofs::Tables::functions_stored))]
 fn test_translation<P: Space>(space: &P, a: Addr, t: Addr, n: u32) -> Result<(), Ending>
-    ensures refused { let m = P.memory space.now in let bytes = P.bytes space.now in
-        IfErr result (λ e. use_tests m (translation_uses m bytes a t n) ≡ Some e) }
-    ensures passed { let m = P.memory space.now in let bytes = P.bytes space.now in
-        IfOk result (λ _. use_tests m (translation_uses m bytes a t n) ≡ None) }
+    ensures tested { Tested (P.memory space.now) (translation_uses (P.memory space.now) (P.bytes space.now) a t n) result }
     ensures reach { IfOk result (λ _. can_reach (P.memory space.now) a n ≡ true) }
     ensures store { IfOk result (λ _. can_store (P.memory space.now) a n ≡ true) }
-    ensures functions { let m = P.memory space.now in let bytes = P.bytes space.now in
-        IfOk result (λ _. all_reached m (functions m bytes a t n) ≡ true) }
+    ensures functions { IfOk result (λ _. AreReached (P.memory space.now) (P.bytes space.now) a t n) }
 {
     if let Err(r) = space.can_reach(a, n) {
         return Err(ending_of(r));
@@ -95,8 +87,7 @@ fn translate_bytes<P: Space>(space: &mut P, a: Addr, t: Addr, n: u32)
     requires size { n ≤ 256 }
     requires store { can_store (P.memory space.old) a n ≡ true }
     requires reach { can_reach (P.memory space.old) a n ≡ true }
-    requires functions { let m = P.memory space.old in let bytes = P.bytes space.old in
-        all_reached m (functions m bytes a t n) ≡ true }
+    requires functions { AreReached (P.memory space.old) (P.bytes space.old) a t n }
     ensures memory { P.memory space.new ≡ P.memory space.old }
     ensures bytes { P.bytes space.new ≡ translated (P.memory space.old) (P.bytes space.old) a t n }
 {
@@ -123,9 +114,9 @@ pub fn translate<P: Space>(cpu: &mut Cpu, space: &mut P, code: &Code) -> Next
 /// What a search found: the argument that is selected, if any, and how the function bytes looked up end the task by
 /// touch.
 #[derive(Drop)]
-struct Found {
-    selected: Option<u32>,
-    met: Option<Ending>,
+pub struct Found {
+    pub selected: Option<u32>,
+    pub met: Option<Ending>,
 }
 
 /// Looks up n arguments, left to right, until a function byte is not zero; code 5 where one that is looked up is
@@ -133,15 +124,7 @@ struct Found {
 #[tactic(auto, using(crate::proofs::Tables::functions_reached_none, crate::proofs::Tables::functions_reached_more, crate::proofs::Tables::search_refused, crate::proofs::Tables::functions_touched_none, crate::proofs::Tables::functions_touched_more, crate::proofs::Tables::selected_none, crate::proofs::Tables::selected_more, crate::proofs::Tables::selected_here, crate::proofs::Tables::one_accessible))]
 fn search<P: Space>(space: &P, a: Addr, t: Addr, n: u32) -> Result<Found, Ending>
     requires { can_reach (P.memory space.now) a n ≡ true }
-    ensures refused { let m = P.memory space.now in let bytes = P.bytes space.now in
-        IfErr result (λ e. all_reached m (functions m bytes a t (looked_up n (selected m bytes a t n))) ≡ false) }
-    ensures code { IfErr result (λ e. e ≡ Ending.Abend 5) }
-    ensures selected { IfOk result (λ r. r.selected ≡ selected (P.memory space.now) (P.bytes space.now) a t n) }
-    ensures below { IfOk result (λ r. IfSome r.selected (λ i. i < n)) }
-    ensures reached { let m = P.memory space.now in let bytes = P.bytes space.now in
-        IfOk result (λ r. all_reached m (functions m bytes a t (looked_up n r.selected)) ≡ true) }
-    ensures touched { let m = P.memory space.now in let bytes = P.bytes space.now in
-        IfOk result (λ r. r.met ≡ touch_ending (touched m (functions m bytes a t (looked_up n r.selected)))) }
+    ensures { Searches (P.memory space.now) (P.bytes space.now) a t n result }
 {
     let mut met = None;
     for i in 0..n {
@@ -167,15 +150,11 @@ fn search<P: Space>(space: &P, a: Addr, t: Addr, n: u32) -> Result<Found, Ending
 /// selected.
 #[tactic(auto, unfolding(s370_state::specs::Meaning::use_tests, s370_state::specs::Meaning::all_reached, s370_state::specs::Meaning::all_stored, s370_state::specs::Meaning::touched), using(crate::proofs::Tables::functions_stored))]
 fn test_search<P: Space>(space: &P, a: Addr, t: Addr, n: u32) -> Result<Option<u32>, Ending>
-    ensures refused { let m = P.memory space.now in let bytes = P.bytes space.now in
-        IfErr result (λ e. use_tests m (search_uses m bytes a t n) ≡ Some e) }
-    ensures passed { let m = P.memory space.now in let bytes = P.bytes space.now in
-        IfOk result (λ f. use_tests m (search_uses m bytes a t n) ≡ None) }
+    ensures tested { Tested (P.memory space.now) (search_uses (P.memory space.now) (P.bytes space.now) a t n) result }
     ensures selected { IfOk result (λ f. f ≡ selected (P.memory space.now) (P.bytes space.now) a t n) }
     ensures below { IfOk result (λ f. IfSome f (λ i. i < n)) }
     ensures reach { IfOk result (λ f. can_reach (P.memory space.now) a n ≡ true) }
-    ensures functions { let m = P.memory space.now in let bytes = P.bytes space.now in
-        IfOk result (λ f. all_reached m (functions m bytes a t (looked_up n f)) ≡ true) }
+    ensures functions { IfOk result (λ f. AreReached (P.memory space.now) (P.bytes space.now) a t (looked_up n f)) }
 {
     if let Err(r) = space.can_reach(a, n) {
         return Err(ending_of(r));
@@ -197,10 +176,8 @@ fn test_search<P: Space>(space: &P, a: Addr, t: Addr, n: u32) -> Result<Option<u
 fn select<P: Space>(cpu: &mut Cpu, space: &P, a: Addr, t: Addr, n: u32, i: u32)
     requires reach { can_reach (P.memory space.now) a n ≡ true }
     requires below { i < n }
-    requires functions { let m = P.memory space.now in let bytes = P.bytes space.now in
-        all_reached m (functions m bytes a t (i + 1)) ≡ true }
-    ensures { let v = function (P.memory space.now) (P.bytes space.now) a t i in
-        cpu.new ≡ record cpu.old { regs = selecting cpu.old.regs (wrap (a + i)) v; condition = if i + 1 == n then 2 else 1 } }
+    requires functions { AreReached (P.memory space.now) (P.bytes space.now) a t (i + 1) }
+    ensures { Follows P.memory P.bytes (λ m s. selects m s a t n (Some i)) cpu.old space.now cpu.new space.now Next.On }
 {
     let value = space.byte(function_at(space, a, t, i, n));
     cpu.set_address(1, a.plus(i));
@@ -212,10 +189,8 @@ fn select<P: Space>(cpu: &mut Cpu, space: &P, a: Addr, t: Addr, n: u32, i: u32)
 fn set_found<P: Space>(cpu: &mut Cpu, space: &P, a: Addr, t: Addr, n: u32, selected: Option<u32>)
     requires reach { can_reach (P.memory space.now) a n ≡ true }
     requires below { IfSome selected (λ i. i < n) }
-    requires functions { let m = P.memory space.now in let bytes = P.bytes space.now in
-        all_reached m (functions m bytes a t (looked_up n selected)) ≡ true }
-    ensures { let s = machine_of cpu.old (P.bytes space.now) in
-        after cpu.new (P.bytes space.now) Next.On ≡ finish s (selects (P.memory space.now) s a t n selected) }
+    requires functions { AreReached (P.memory space.now) (P.bytes space.now) a t (looked_up n selected) }
+    ensures { Follows P.memory P.bytes (λ m s. selects m s a t n selected) cpu.old space.now cpu.new space.now Next.On }
 {
     match selected {
         Some(i) => select(cpu, space, a, t, n, i),
