@@ -2,7 +2,7 @@
 ghost use Rattle.std.specs.Prelude.{◌≡◌, ◌/◌, ◌%◌, ◌<◌, IfOk, IfErr, Some, None};
 ghost use Rattle.cov_base.specs.Meaning.{half_at, length_of};
 ghost use Rattle.s370_exec.specs.Meaning.{first_tests, rest_tests, code_at, later};
-ghost use Rattle.s370_exec.specs.Fetch.{whole_tests};
+ghost use Rattle.s370_exec.specs.Fetch.{whole_tests, whole_at};
 
 use cov_base::Addr;
 use s370_decode::{Code, length};
@@ -79,8 +79,7 @@ pub fn fetch_rest<P: Space>(space: &P, at: Addr, h0: u16) -> Result<Code, Ending
 pub(crate) fn fetch_whole<P: Space>(space: &P, at: Addr) -> Result<Code, Ending>
     ensures refused { IfErr result (λ e. whole_tests (P.memory space.now) (P.bytes space.now) at ≡ Some e) }
     ensures passed { IfOk result (λ _. whole_tests (P.memory space.now) (P.bytes space.now) at ≡ None) }
-    ensures code { let half = half_at (P.memory space.now) (P.bytes space.now) at in
-        IfOk result (λ c. c ≡ code_at (P.memory space.now) (P.bytes space.now) at half) }
+    ensures code { IfOk result (λ c. c ≡ whole_at (P.memory space.now) (P.bytes space.now) at) }
 {
     let half = match fetch_first(space, at) {
         Ok(half) => half,

@@ -1,7 +1,6 @@
 //! The frequent operations on bytes, fields and several registers, each a call in a frame of its own.
 ghost use Rattle.s370_exec.specs.Does.{CarriesOut};
 ghost use Rattle.s370_exec.specs.Meaning.{effect};
-ghost use Rattle.s370_exec.specs.Effects.{next_of};
 
 use crate::instruction::{Told, onward};
 use cov_base::Addr;
@@ -24,7 +23,7 @@ pub(crate) fn store_multiple_apart<P: Space>(
     next: Addr,
     end: &mut Ending,
 ) -> Told
-    ensures { CarriesOut P.memory P.bytes code.now Op.STM next cpu.old space.old cpu.new space.new (next_of result end.new) }
+    ensures { CarriesOut P.memory P.bytes code.now Op.STM next cpu.old space.old cpu.new space.new result end.new }
 {
     let n = store_multiple(cpu, space, code);
     onward(cpu, next, n, end)
@@ -40,7 +39,7 @@ pub(crate) fn load_multiple_apart<P: Space>(
     next: Addr,
     end: &mut Ending,
 ) -> Told
-    ensures { CarriesOut P.memory P.bytes code.now Op.LM next cpu.old space.old cpu.new space.new (next_of result end.new) }
+    ensures { CarriesOut P.memory P.bytes code.now Op.LM next cpu.old space.old cpu.new space.new result end.new }
 {
     let n = load_multiple(cpu, space, code);
     onward(cpu, next, n, end)
@@ -56,7 +55,7 @@ pub(crate) fn insert_character_apart<P: Space>(
     next: Addr,
     end: &mut Ending,
 ) -> Told
-    ensures { CarriesOut P.memory P.bytes code.now Op.IC next cpu.old space.old cpu.new space.new (next_of result end.new) }
+    ensures { CarriesOut P.memory P.bytes code.now Op.IC next cpu.old space.old cpu.new space.new result end.new }
 {
     let n = insert_character(cpu, space, code);
     onward(cpu, next, n, end)
@@ -72,7 +71,7 @@ pub(crate) fn store_character_apart<P: Space>(
     next: Addr,
     end: &mut Ending,
 ) -> Told
-    ensures { CarriesOut P.memory P.bytes code.now Op.STC next cpu.old space.old cpu.new space.new (next_of result end.new) }
+    ensures { CarriesOut P.memory P.bytes code.now Op.STC next cpu.old space.old cpu.new space.new result end.new }
 {
     let n = store_character(cpu, space, code);
     onward(cpu, next, n, end)
@@ -88,7 +87,7 @@ pub(crate) fn move_immediate_apart<P: Space>(
     next: Addr,
     end: &mut Ending,
 ) -> Told
-    ensures { CarriesOut P.memory P.bytes code.now Op.MVI next cpu.old space.old cpu.new space.new (next_of result end.new) }
+    ensures { CarriesOut P.memory P.bytes code.now Op.MVI next cpu.old space.old cpu.new space.new result end.new }
 {
     let n = move_immediate(cpu, space, code);
     onward(cpu, next, n, end)
@@ -104,7 +103,7 @@ pub(crate) fn compare_immediate_apart<P: Space>(
     next: Addr,
     end: &mut Ending,
 ) -> Told
-    ensures { CarriesOut P.memory P.bytes code.now Op.CLI next cpu.old space.old cpu.new space.new (next_of result end.new) }
+    ensures { CarriesOut P.memory P.bytes code.now Op.CLI next cpu.old space.old cpu.new space.new result end.new }
 {
     let n = compare_immediate(cpu, space, code);
     onward(cpu, next, n, end)
@@ -120,7 +119,7 @@ pub(crate) fn test_under_mask_apart<P: Space>(
     next: Addr,
     end: &mut Ending,
 ) -> Told
-    ensures { CarriesOut P.memory P.bytes code.now Op.TM next cpu.old space.old cpu.new space.new (next_of result end.new) }
+    ensures { CarriesOut P.memory P.bytes code.now Op.TM next cpu.old space.old cpu.new space.new result end.new }
 {
     let n = test_under_mask(cpu, space, code);
     onward(cpu, next, n, end)
@@ -136,7 +135,7 @@ pub(crate) fn move_characters_apart<P: Space>(
     next: Addr,
     end: &mut Ending,
 ) -> Told
-    ensures { CarriesOut P.memory P.bytes code.now Op.MVC next cpu.old space.old cpu.new space.new (next_of result end.new) }
+    ensures { CarriesOut P.memory P.bytes code.now Op.MVC next cpu.old space.old cpu.new space.new result end.new }
 {
     let n = move_characters(cpu, space, code);
     onward(cpu, next, n, end)
@@ -152,7 +151,7 @@ pub(crate) fn compare_fields_apart<P: Space>(
     next: Addr,
     end: &mut Ending,
 ) -> Told
-    ensures { CarriesOut P.memory P.bytes code.now Op.CLC next cpu.old space.old cpu.new space.new (next_of result end.new) }
+    ensures { CarriesOut P.memory P.bytes code.now Op.CLC next cpu.old space.old cpu.new space.new result end.new }
 {
     let n = compare_fields(cpu, space, code);
     onward(cpu, next, n, end)

@@ -5,7 +5,7 @@ ghost use Rattle.cov_base.specs.Meaning.{Memory, IoView};
 ghost use Rattle.s370_state.specs.Meaning.{machine_of};
 ghost use Rattle.s370_decode.specs.Meaning.{first_half, i2, op_of};
 ghost use Rattle.s370_decode.specs.Groups.{group_of};
-ghost use Rattle.s370_exec.specs.Does.{Does, CarriesOut, GoesOnward};
+ghost use Rattle.s370_exec.specs.Does.{Does, Executes, CarriesOut, Branches, GoesOnward};
 ghost use Rattle.s370_exec.specs.Meaning.{effect, is_completed, updated, link_code, is_execute};
 ghost use Rattle.s370_exec.specs.Effects.{effect_of, next_of, executed};
 
@@ -129,8 +129,7 @@ fn tell(next: Next, end: &mut Ending) -> Told
 fn branch_apart(cpu: &mut Cpu, code: &Code, op: Op, next: Addr, link: u8) -> Told
     requires group { group_of op ≡ Group.Branch }
     requires link { link ≤ 2 }
-    ensures { (m : Memory) (bytes : List ℕ) (io : IoView) (e : Ending) → effect_of cpu.new bytes io (next_of result e) ≡
-        effect m (machine_of cpu.old bytes) io code.now op next link }
+    ensures { Branches code.now op next link cpu.old cpu.new result }
 {
     branch(cpu, code, op, next, link);
     Told::GoesOn
@@ -148,7 +147,7 @@ fn fixed_apart<P: Space>(
     end: &mut Ending,
 ) -> Told
     requires group { group_of op ≡ Group.Fixed }
-    ensures { CarriesOut P.memory P.bytes code.now op next cpu.old space.old cpu.new space.new (next_of result end.new) }
+    ensures { CarriesOut P.memory P.bytes code.now op next cpu.old space.old cpu.new space.new result end.new }
 {
     let n = fixed(cpu, space, code, op);
     onward(cpu, next, n, end)
@@ -166,7 +165,7 @@ fn logic_apart<P: Space>(
     end: &mut Ending,
 ) -> Told
     requires group { group_of op ≡ Group.Logic }
-    ensures { CarriesOut P.memory P.bytes code.now op next cpu.old space.old cpu.new space.new (next_of result end.new) }
+    ensures { CarriesOut P.memory P.bytes code.now op next cpu.old space.old cpu.new space.new result end.new }
 {
     let n = logic(cpu, space, code, op);
     onward(cpu, next, n, end)
@@ -184,7 +183,7 @@ fn storage_apart<P: Space>(
     end: &mut Ending,
 ) -> Told
     requires group { group_of op ≡ Group.Storage }
-    ensures { CarriesOut P.memory P.bytes code.now op next cpu.old space.old cpu.new space.new (next_of result end.new) }
+    ensures { CarriesOut P.memory P.bytes code.now op next cpu.old space.old cpu.new space.new result end.new }
 {
     let n = storage(cpu, space, code, op);
     onward(cpu, next, n, end)
@@ -202,7 +201,7 @@ fn decimal_apart<P: Space>(
     end: &mut Ending,
 ) -> Told
     requires group { group_of op ≡ Group.Decimal }
-    ensures { CarriesOut P.memory P.bytes code.now op next cpu.old space.old cpu.new space.new (next_of result end.new) }
+    ensures { CarriesOut P.memory P.bytes code.now op next cpu.old space.old cpu.new space.new result end.new }
 {
     let n = decimal(cpu, space, code, op);
     onward(cpu, next, n, end)
@@ -219,8 +218,7 @@ fn carry_out_apart<P: Space>(
     ex: Option<Addr>,
     end: &mut Ending,
 ) -> Told
-    ensures { let told = next_of result end.new in
-        Does P.memory P.bytes (executed code.now ex) cpu.old space.old io.old cpu.new space.new io.new told }
+    ensures { Executes P.memory P.bytes code.now ex cpu.old space.old io.old cpu.new space.new io.new result end.new }
 {
     let op = op_of(code.first_half());
     let next = updated(code, &ex);
@@ -251,8 +249,7 @@ fn carry_out_short<P: Space>(
     end: &mut Ending,
 ) -> Told
     requires next { next ≡ updated code.now None }
-    ensures { let told = next_of result end.new in
-        Does P.memory P.bytes (executed code.now None) cpu.old space.old io.old cpu.new space.new io.new told }
+    ensures { Executes P.memory P.bytes code.now None cpu.old space.old io.old cpu.new space.new io.new result end.new }
 {
     match op_of(code.first_half()) {
         Op::LR => {
@@ -306,8 +303,7 @@ fn carry_out_long<P: Space>(
     end: &mut Ending,
 ) -> Told
     requires next { next ≡ updated code.now None }
-    ensures { let told = next_of result end.new in
-        Does P.memory P.bytes (executed code.now None) cpu.old space.old io.old cpu.new space.new io.new told }
+    ensures { Executes P.memory P.bytes code.now None cpu.old space.old io.old cpu.new space.new io.new result end.new }
 {
     match op_of(code.first_half()) {
         Op::LA => {
@@ -366,8 +362,7 @@ fn carry_out_longest<P: Space>(
     end: &mut Ending,
 ) -> Told
     requires next { next ≡ updated code.now None }
-    ensures { let told = next_of result end.new in
-        Does P.memory P.bytes (executed code.now None) cpu.old space.old io.old cpu.new space.new io.new told }
+    ensures { Executes P.memory P.bytes code.now None cpu.old space.old io.old cpu.new space.new io.new result end.new }
 {
     match op_of(code.first_half()) {
         Op::MVC => move_characters_apart(cpu, space, code, next, end),
@@ -386,8 +381,7 @@ fn carry_out<P: Space>(
     code: &Code,
     end: &mut Ending,
 ) -> Told
-    ensures { let told = next_of result end.new in
-        Does P.memory P.bytes (executed code.now None) cpu.old space.old io.old cpu.new space.new io.new told }
+    ensures { Executes P.memory P.bytes code.now None cpu.old space.old io.old cpu.new space.new io.new result end.new }
 {
     let at = cpu.at();
     if code.at != at {

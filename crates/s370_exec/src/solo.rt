@@ -1,10 +1,10 @@
 //! One instruction of a task alone, over modules that were never planted.
 ghost use Rattle.std.specs.Prelude.{◌≡◌, ℕ, ◌+◌, ◌==◌, ◌∷◌, false};
 ghost use Rattle.std.specs.declared.option.Option.TheVariants.{Some, None};
-ghost use Rattle.cov_base.specs.Meaning.{half_at, IoView, Visit};
-ghost use Rattle.s370_decode.specs.Meaning.{first_half, ex as subject_of};
+ghost use Rattle.cov_base.specs.Meaning.{half_at, IoView};
+ghost use Rattle.s370_decode.specs.Meaning.{first_half, ex as subject_at};
 ghost use Rattle.s370_exec.specs.Meaning.{is_execute, first_tests, call_in, subject_call, call_of, return_address, solo_step, subject_step, visit_of};
-ghost use Rattle.s370_exec.specs.Does.{Steps, Answers, seen_behind};
+ghost use Rattle.s370_exec.specs.Does.{Steps, Answers, Shows, subject_of};
 ghost use Rattle.s370_exec.specs.Solo.{subject_seen};
 
 use crate::fetch::{fetch_first, fetch_whole};
@@ -30,8 +30,7 @@ fn is_ex(code: &Code) -> bool
 
 /// Executes the subject of an EX that was fetched whole.
 fn step_subject<P: Space>(cpu: &mut Cpu, space: &mut P, io: &mut TaskIo, ex: &Code) -> Next
-    ensures { Steps P.memory P.bytes (λ m s. subject_step m s ex.now)
-        cpu.old space.old io.old cpu.new space.new io.new result }
+    ensures { Steps P.memory P.bytes (subject_of ex.now) cpu.old space.old io.old cpu.new space.new io.new result }
 {
     let at = subject_address(cpu, ex);
     let half = match fetch_first(space, at) {
@@ -61,10 +60,10 @@ pub fn step<P: Space>(cpu: &mut Cpu, space: &mut P, io: &mut TaskIo) -> Next
 
 /// Whether the subject that an EX visits branches as it is executed; false where it isn't begun.
 fn subject_went<P: Space>(cpu: &Cpu, space: &P, ex: &Code, at: Addr, half: u16) -> bool
-    requires at { at ≡ subject_of cpu.now ex.now }
+    requires at { at ≡ subject_at cpu.now ex.now }
     requires passed { first_tests (P.memory space.now) at ≡ None }
     requires half { half ≡ half_at (P.memory space.now) (P.bytes space.now) at }
-    ensures { (v : Visit) → Answers (seen_behind v (P.memory space.now) ex.now) cpu.now (P.bytes space.now) (Some (at, result)) }
+    ensures { Shows (P.memory space.now) ex.now cpu.now (P.bytes space.now) (Some (at, result)) }
 {
     match fetch_subject(cpu, space, ex, at, half) {
         Ok(subject) => outcome(cpu, &subject),
@@ -74,7 +73,7 @@ fn subject_went<P: Space>(cpu: &Cpu, space: &P, ex: &Code, at: Addr, half: u16) 
 
 /// The visit that an EX that was fetched whole makes of its subject: its address, and whether the subject branches.
 fn subject_visit<P: Space>(cpu: &Cpu, space: &P, ex: &Code) -> Option<(Addr, bool)>
-    ensures { (v : Visit) → Answers (seen_behind v (P.memory space.now) ex.now) cpu.now (P.bytes space.now) result }
+    ensures { Shows (P.memory space.now) ex.now cpu.now (P.bytes space.now) result }
 {
     let at = subject_address(cpu, ex);
     match fetch_first(space, at) {

@@ -2,7 +2,6 @@
 //! L and ST, which stand in the match of all operations.
 ghost use Rattle.s370_exec.specs.Does.{CarriesOut};
 ghost use Rattle.s370_exec.specs.Meaning.{effect};
-ghost use Rattle.s370_exec.specs.Effects.{next_of};
 
 use crate::instruction::{Told, onward};
 use cov_base::Addr;
@@ -23,7 +22,7 @@ pub(crate) fn load_half_apart<P: Space>(
     next: Addr,
     end: &mut Ending,
 ) -> Told
-    ensures { CarriesOut P.memory P.bytes code.now Op.LH next cpu.old space.old cpu.new space.new (next_of result end.new) }
+    ensures { CarriesOut P.memory P.bytes code.now Op.LH next cpu.old space.old cpu.new space.new result end.new }
 {
     let n = load_half(cpu, space, code);
     onward(cpu, next, n, end)
@@ -39,7 +38,7 @@ pub(crate) fn store_half_apart<P: Space>(
     next: Addr,
     end: &mut Ending,
 ) -> Told
-    ensures { CarriesOut P.memory P.bytes code.now Op.STH next cpu.old space.old cpu.new space.new (next_of result end.new) }
+    ensures { CarriesOut P.memory P.bytes code.now Op.STH next cpu.old space.old cpu.new space.new result end.new }
 {
     let n = store_half(cpu, space, code);
     onward(cpu, next, n, end)
@@ -55,7 +54,7 @@ pub(crate) fn add_word_apart<P: Space>(
     next: Addr,
     end: &mut Ending,
 ) -> Told
-    ensures { CarriesOut P.memory P.bytes code.now Op.A next cpu.old space.old cpu.new space.new (next_of result end.new) }
+    ensures { CarriesOut P.memory P.bytes code.now Op.A next cpu.old space.old cpu.new space.new result end.new }
 {
     let n = add_word(cpu, space, code);
     onward(cpu, next, n, end)
@@ -71,7 +70,7 @@ pub(crate) fn add_half_apart<P: Space>(
     next: Addr,
     end: &mut Ending,
 ) -> Told
-    ensures { CarriesOut P.memory P.bytes code.now Op.AH next cpu.old space.old cpu.new space.new (next_of result end.new) }
+    ensures { CarriesOut P.memory P.bytes code.now Op.AH next cpu.old space.old cpu.new space.new result end.new }
 {
     let n = add_half(cpu, space, code);
     onward(cpu, next, n, end)
@@ -87,7 +86,7 @@ pub(crate) fn subtract_word_apart<P: Space>(
     next: Addr,
     end: &mut Ending,
 ) -> Told
-    ensures { CarriesOut P.memory P.bytes code.now Op.S next cpu.old space.old cpu.new space.new (next_of result end.new) }
+    ensures { CarriesOut P.memory P.bytes code.now Op.S next cpu.old space.old cpu.new space.new result end.new }
 {
     let n = subtract_word(cpu, space, code);
     onward(cpu, next, n, end)
@@ -103,7 +102,7 @@ pub(crate) fn subtract_half_apart<P: Space>(
     next: Addr,
     end: &mut Ending,
 ) -> Told
-    ensures { CarriesOut P.memory P.bytes code.now Op.SH next cpu.old space.old cpu.new space.new (next_of result end.new) }
+    ensures { CarriesOut P.memory P.bytes code.now Op.SH next cpu.old space.old cpu.new space.new result end.new }
 {
     let n = subtract_half(cpu, space, code);
     onward(cpu, next, n, end)
@@ -119,7 +118,7 @@ pub(crate) fn add_logical_word_apart<P: Space>(
     next: Addr,
     end: &mut Ending,
 ) -> Told
-    ensures { CarriesOut P.memory P.bytes code.now Op.AL next cpu.old space.old cpu.new space.new (next_of result end.new) }
+    ensures { CarriesOut P.memory P.bytes code.now Op.AL next cpu.old space.old cpu.new space.new result end.new }
 {
     let n = add_logical_word(cpu, space, code);
     onward(cpu, next, n, end)
@@ -135,7 +134,7 @@ pub(crate) fn subtract_logical_word_apart<P: Space>(
     next: Addr,
     end: &mut Ending,
 ) -> Told
-    ensures { CarriesOut P.memory P.bytes code.now Op.SL next cpu.old space.old cpu.new space.new (next_of result end.new) }
+    ensures { CarriesOut P.memory P.bytes code.now Op.SL next cpu.old space.old cpu.new space.new result end.new }
 {
     let n = subtract_logical_word(cpu, space, code);
     onward(cpu, next, n, end)
@@ -151,7 +150,7 @@ pub(crate) fn compare_word_apart<P: Space>(
     next: Addr,
     end: &mut Ending,
 ) -> Told
-    ensures { CarriesOut P.memory P.bytes code.now Op.C next cpu.old space.old cpu.new space.new (next_of result end.new) }
+    ensures { CarriesOut P.memory P.bytes code.now Op.C next cpu.old space.old cpu.new space.new result end.new }
 {
     let n = compare_word(cpu, space, code);
     onward(cpu, next, n, end)
@@ -167,7 +166,7 @@ pub(crate) fn compare_half_apart<P: Space>(
     next: Addr,
     end: &mut Ending,
 ) -> Told
-    ensures { CarriesOut P.memory P.bytes code.now Op.CH next cpu.old space.old cpu.new space.new (next_of result end.new) }
+    ensures { CarriesOut P.memory P.bytes code.now Op.CH next cpu.old space.old cpu.new space.new result end.new }
 {
     let n = compare_half(cpu, space, code);
     onward(cpu, next, n, end)
