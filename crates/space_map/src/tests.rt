@@ -1,6 +1,7 @@
 //! Calls through the trait's bound, and the bytes that storage begins with.
-ghost use Rattle.std.specs.Prelude.{◌≡◌, ℕ, ◌≤◌, All, IfOk, IsTrue, None, [], ◌∷◌};
-ghost use Rattle.s370_state.specs.Meaning.{reads, use_tests};
+ghost use Rattle.std.specs.Prelude.{◌≤◌, All, IfOk, IsTrue, [], ◌∷◌};
+ghost use Rattle.s370_state.specs.Meaning.{reads};
+ghost use Rattle.s370_state.specs.Parts.{Pass};
 ghost use Rattle.module_area.specs.Images.{AreImages};
 ghost use Rattle.brk_table.specs.Meaning.{memory_of};
 ghost use Rattle.brk_table.specs.Places.{IsIn};
@@ -26,7 +27,7 @@ fn is_readable(
     requires size { size ≤ 1048576 }
     requires images { AreImages images.now }
     requires tables { All (IsIn images.now) tables.now.places }
-    ensures { IfOk result (λ r. IsTrue r → use_tests (memory_of size images.now tables.now.places) (reads at len ∷ []) ≡ None) }
+    ensures { IfOk result (λ r. IsTrue r → Pass (memory_of size images.now tables.now.places) (reads at len ∷ [])) }
 {
     let space = TaskSpace::new(alloc, size, &[], images, tables)?;
     match test_read(&space, at, len) {
