@@ -1,13 +1,13 @@
 -- What the claim of the program says by this crate's clauses.
 use Rattle.std.specs.Prelude.{ℕ, ◌+◌, ◌&&◌, not, if◌then◌else◌, List, [], ◌∷◌, length, ◌-◌, nat_lt, Some, ◌++◌, codes, decimal}
-use Rattle.cov_base.specs.Meaning.{ImageView, Memory, Visit, unpadded}
+use Rattle.cov_base.specs.Meaning.{ImageView, Visit, unpadded}
 use Rattle.module_area.specs.Meaning.{is_place}
 use Rattle.module_area.specs.declared.places.Place.{Place}
-use Rattle.brk_table.specs.Meaning.{in_image, memory_of}
+use Rattle.brk_table.specs.Meaning.{in_image}
 use Rattle.s370_exec.specs.Meaning.{Run, solo_run}
 use Rattle.session_book.specs.Meaning.{JobView, task_of, module_of, first_state}
 use Rattle.report_text.specs.Meaning.{sum_from, text_of, lines_from, is_monitored, task_words}
-use Rattle.task_alone.specs.Meaning.{end_address}
+use Rattle.task_alone.specs.Meaning.{task_memory, end_address}
 use Rattle.observed_step.specs.declared.task.TaskEnd.{TaskEnd}
 use Rattle.annotator.specs.Meaning.{hex_digits}
 
@@ -19,10 +19,6 @@ unlisted_visits places image [] = 0
 unlisted_visits places image (v ∷ vs) = (if v.begun && (in_image image v.at && not (is_place places v.at)) then 1 else 0) + unlisted_visits places image vs
 
 -- Where each task of a job ends that runs alone, and how many visits of all tasks are in a module where no place begins.
-
--- what task t sees: modules that were never planted
-abbrev pub task_memory : JobView → List Place → ℕ → Memory
-task_memory j places t = memory_of (task_of j t).private j.images places
 
 -- its run alone
 abbrev pub run_of : JobView → List Place → ℕ → Run
@@ -55,14 +51,20 @@ place_words private a (i ∷ is) = if in_image i a then module_words i a else pl
 unfoldable pub end_line : List ℕ → TaskEnd → List ℕ → List ℕ
 end_line name e there = task_words name (Some e.ending) e.done ++ codes " AT " ++ hex_digits 6 e.at ++ there
 
-abbrev pub end_part : JobView → (ℕ → TaskEnd) → ℕ → List (List ℕ)
-end_part j ends t = end_line (task_of j t).name (ends t) (place_words (task_of j t).private (ends t).at j.images) ∷ []
+-- of task t, which ends so
+abbrev pub end_lines : JobView → ℕ → TaskEnd → List (List ℕ)
+end_lines j t e = end_line (task_of j t).name e (place_words (task_of j t).private e.at j.images) ∷ []
 
--- of a module that has a listing
-abbrev pub unlisted_part : JobView → (ℕ → ℕ) → ℕ → List (List ℕ)
-unlisted_part j unlisted m = if is_monitored j m then (codes "UNLISTED " ++ unpadded (module_of j m).name ++ codes " " ++ decimal (unlisted m)) ∷ [] else []
+-- of module m, where it has a listing, with so many visits
+abbrev pub unlisted_lines : JobView → ℕ → ℕ → List (List ℕ)
+unlisted_lines j m count = if is_monitored j m then (codes "UNLISTED " ++ unpadded (module_of j m).name ++ codes " " ++ decimal count) ∷ [] else []
 
 -- tasks and modules in the order of the job
+abbrev pub end_parts : JobView → (ℕ → TaskEnd) → List (List ℕ)
+end_parts j ends = lines_from (λ t. end_lines j t (ends t)) 0 (length j.tasks)
+
+abbrev pub unlisted_parts : JobView → (ℕ → ℕ) → List (List ℕ)
+unlisted_parts j unlisted = lines_from (λ m. unlisted_lines j m (unlisted m)) 0 (length j.images)
+
 abbrev pub ends_text : JobView → (ℕ → TaskEnd) → (ℕ → ℕ) → List ℕ
-ends_text j ends unlisted = text_of (codes "COVERAGE ENDS"
-    ∷ (lines_from (end_part j ends) 0 (length j.tasks) ++ (lines_from (unlisted_part j unlisted) 0 (length j.images) ++ (codes "END" ∷ []))))
+ends_text j ends unlisted = text_of (codes "COVERAGE ENDS" ∷ (end_parts j ends ++ (unlisted_parts j unlisted ++ (codes "END" ∷ []))))

@@ -1,10 +1,10 @@
 //! The run of each task of a job, alone over modules that were never planted.
 ghost use Rattle.std.specs.Prelude.{◌≡◌, ◌+◌, ◌<◌, ◌++◌, ◌∷◌, [], length, IfOk, OnOk};
 ghost use Rattle.brk_table.specs.Kept.{AreCodes};
-ghost use Rattle.task_ends.specs.Meaning.{end_of, run_of, unlisted_of};
+ghost use Rattle.task_ends.specs.Meaning.{end_of, unlisted_of};
 ghost use Rattle.task_ends.specs.Ends.{AreEnds};
 ghost use Rattle.task_ends.specs.Held.{HasRoom};
-ghost use Rattle.task_ends.specs.Unlisted.{Adds};
+ghost use Rattle.task_ends.specs.Unlisted.{AddsTask};
 
 use crate::unlisted::Unlisted;
 use brk_table::Tables;
@@ -45,8 +45,7 @@ fn add_task(
     requires room { HasRoom (length job.now.images) t counts.old.items 0 0 }
     ensures end { OnOk result (ends.new.items ≡ ends.old.items ++ end_of job.now tables.now.places t ∷ []) }
     ensures room { OnOk result (HasRoom (length job.now.images) (t + 1) counts.new.items 0 0) }
-    ensures counts { OnOk result
-        (Adds tables.now.places job.now.images (run_of job.now tables.now.places t).trace counts.old.items counts.new.items) }
+    ensures counts { OnOk result (AddsTask job.now tables.now.places t counts.old.items counts.new.items) }
 {
     let unlisted = Unlisted {
         images: images_of(job),

@@ -3,13 +3,10 @@ ghost use Rattle.std.specs.Prelude.{◌≡◌, ℕ, ◌+◌, ◌<◌, ◌≤◌,
 ghost use Rattle.arrayvec.specs.ArrayVec.{array_vec_len};
 ghost use Rattle.brk_table.specs.Meaning.{in_image};
 ghost use Rattle.cov_base.specs.Meaning.{unpadded};
-ghost use Rattle.cov_outside.specs.Writes.{Writes};
-ghost use Rattle.report_text.specs.Meaning.{lines_from};
-ghost use Rattle.report_text.specs.Writes.{WritesLines};
+ghost use Rattle.report_text.specs.Writes.{Prints};
 ghost use Rattle.session_book.specs.Meaning.{task_of};
-ghost use Rattle.observed_step.specs.declared.task.TaskEnd.{TaskEnd as End};
-ghost use Rattle.task_ends.specs.Ends.{AreEnds};
-ghost use Rattle.task_ends.specs.Meaning.{module_words, place_words, end_line, end_part, unlisted_part, ends_text};
+ghost use Rattle.task_ends.specs.Ends.{IfEnds, PrintsEnds};
+ghost use Rattle.task_ends.specs.Meaning.{module_words, place_words, end_line, end_lines, unlisted_lines, end_parts, unlisted_parts};
 
 use crate::running::Ends;
 use crate::unlisted::is_in;
@@ -90,8 +87,7 @@ fn unlisted_line(name: &Name, count: u64) -> ArrayVec<u8, 160>
 /// The line of a task.
 fn task_text<K: Sink>(sink: &mut K, job: &Job, t: usize, end: &TaskEnd) -> Result<(), Failed>
     requires { t < length job.now.tasks }
-    ensures { (ends : ℕ → End) → end.now ≡ ends t →
-        WritesLines K.written K.faults sink.old sink.new result (end_part job.now ends t) }
+    ensures { Prints K.Sink sink.old sink.new result (end_lines job.now t end.now) }
 {
     let card = job.card(t);
     put(sink, end_line(&card.name, end, &job.images, card.private))
@@ -100,9 +96,7 @@ fn task_text<K: Sink>(sink: &mut K, job: &Job, t: usize, end: &TaskEnd) -> Resul
 /// The lines of the tasks.
 fn tasks_text<K: Sink>(sink: &mut K, job: &Job, ends: &Ends) -> Result<(), Failed>
     requires { length ends.now.tasks.items ≡ length job.now.tasks }
-    ensures { (each : ℕ → End) (unlisted : ℕ → ℕ) → AreEnds job.now each unlisted ends.now →
-        WritesLines K.written K.faults sink.old sink.new result
-        (lines_from (end_part job.now each) 0 (length job.now.tasks)) }
+    ensures { IfEnds job.now ends.now (λ each _. Prints K.Sink sink.old sink.new result (end_parts job.now each)) }
 {
     for t in 0..job.task_count() {
         task_text(sink, job, t, &ends.tasks[t])?;
@@ -113,8 +107,7 @@ fn tasks_text<K: Sink>(sink: &mut K, job: &Job, ends: &Ends) -> Result<(), Faile
 /// The line of a module, where it has a listing.
 fn module_text<K: Sink>(sink: &mut K, job: &Job, m: u32, count: u64) -> Result<(), Failed>
     requires { m < length job.now.images }
-    ensures { (unlisted : ℕ → ℕ) → count ≡ unlisted m →
-        WritesLines K.written K.faults sink.old sink.new result (unlisted_part job.now unlisted m) }
+    ensures { Prints K.Sink sink.old sink.new result (unlisted_lines job.now m count) }
 {
     if is_monitored(job, m) {
         put(sink, unlisted_line(module_name(job, m), count))
@@ -126,9 +119,7 @@ fn module_text<K: Sink>(sink: &mut K, job: &Job, m: u32, count: u64) -> Result<(
 /// The lines of the modules.
 fn modules_text<K: Sink>(sink: &mut K, job: &Job, ends: &Ends) -> Result<(), Failed>
     requires { length ends.now.unlisted.items ≡ length job.now.images }
-    ensures { (each : ℕ → End) (unlisted : ℕ → ℕ) → AreEnds job.now each unlisted ends.now →
-        WritesLines K.written K.faults sink.old sink.new result
-        (lines_from (unlisted_part job.now unlisted) 0 (length job.now.images)) }
+    ensures { IfEnds job.now ends.now (λ _ counts. Prints K.Sink sink.old sink.new result (unlisted_parts job.now counts)) }
 {
     for m in 0..job.module_count() {
         module_text(sink, job, m, ends.unlisted[m as usize])?;
@@ -142,8 +133,7 @@ fn modules_text<K: Sink>(sink: &mut K, job: &Job, ends: &Ends) -> Result<(), Fai
 pub fn write_ends<K: Sink>(sink: &mut K, job: &Job, ends: &Ends) -> Result<(), Failed>
     requires tasks { length ends.now.tasks.items ≡ length job.now.tasks }
     requires modules { length ends.now.unlisted.items ≡ length job.now.images }
-    ensures { (each : ℕ → End) (unlisted : ℕ → ℕ) → AreEnds job.now each unlisted ends.now →
-        Writes K.written K.faults sink.old sink.new result (ends_text job.now each unlisted) }
+    ensures { PrintsEnds K.Sink job.now ends.now sink.old sink.new result }
 {
     put(sink, words_line(b"COVERAGE ENDS"))?;
     tasks_text(sink, job, ends)?;

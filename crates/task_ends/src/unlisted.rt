@@ -1,7 +1,7 @@
 //! How many visits are where no place begins.
-ghost use Rattle.std.specs.Prelude.{◌≡◌, ℕ, ◌+◌, ◌^◌, ◌<◌, if◌then◌else◌, length, get_or, slice_index};
-ghost use Rattle.session_book.specs.Meaning.{no_module};
+ghost use Rattle.std.specs.Prelude.{◌≡◌, ℕ, ◌+◌, ◌^◌, ◌<◌, length, slice_index};
 ghost use Rattle.brk_table.specs.Meaning.{in_image};
+ghost use Rattle.task_ends.specs.Unlisted.{AddsOne};
 
 use brk_table::Tables;
 use cov_base::Addr;
@@ -23,8 +23,7 @@ fn count_at(images: &Images, counts: &mut [u64], at: Addr)
     requires size { length counts.old ≡ length images.now }
     requires room { (m : ℕ) → m < length counts.old → slice_index counts.old m + 1 < 2 ^ 64 }
     ensures size { length counts.new ≡ length counts.old }
-    ensures each { (m : ℕ) → m < length images.now →
-        slice_index counts.new m ≡ slice_index counts.old m + (if in_image (get_or images.now m no_module) at then 1 else 0) }
+    ensures each { AddsOne images.now at counts.old counts.new }
 {
     for m in 0..images.0.len() {
         if is_in(&images.0[m], at) {

@@ -3,7 +3,7 @@ use Rattle.report_text.specs.Meaning.{lines_from}
 use Rattle.report_text.proofs.WriteLemmas.{Progress}
 use Rattle.observed_step.specs.declared.task.TaskEnd.{TaskEnd}
 use Rattle.task_ends.specs.Ends.{AreEnds}
-use Rattle.task_ends.specs.Meaning.{unlisted_part}
+use Rattle.task_ends.proofs.Parts.{unlisted_part}
 use Rattle.task_ends.proofs.text.modules_text.Given as goal
 
 abbrev pub invariant-loop-m : goal.invariant-loop-m

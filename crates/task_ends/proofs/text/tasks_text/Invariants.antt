@@ -3,7 +3,7 @@ use Rattle.report_text.specs.Meaning.{lines_from}
 use Rattle.report_text.proofs.WriteLemmas.{Progress}
 use Rattle.observed_step.specs.declared.task.TaskEnd.{TaskEnd}
 use Rattle.task_ends.specs.Ends.{AreEnds}
-use Rattle.task_ends.specs.Meaning.{end_part}
+use Rattle.task_ends.proofs.Parts.{end_part}
 use Rattle.task_ends.proofs.text.tasks_text.Given as goal
 
 abbrev pub invariant-loop-t : goal.invariant-loop-t
