@@ -62,10 +62,14 @@ is_over Begun = false
 is_over Drained = true
 is_over Taken = true
 
+-- the tasks of these entries
+abbrev pub tasks_in : List (TaskNo × ℕ) → List TaskNo
+tasks_in entries = map (λ (e : TaskNo × ℕ). e.0) entries
+
 -- How a drain that was begun stands to its pass.
 pub record IsDrainOf (plan : PlanView) (n : Notes) (d : DrainView) : Type 0 where
   pub closed : HasClosed plan n d.session
-  pub tasks : map (λ (e : TaskNo × ℕ). e.0) d.noted ≡ others plan.tasks (bearer n)
+  pub tasks : tasks_in d.noted ≡ others plan.tasks (bearer n)
   pub noted : All (λ (e : TaskNo × ℕ). is_noted plan n d.session e.0.0 e.1 ≡ true) d.noted
   pub last : (e : TaskNo × ℕ) → d.last ≡ Some e → IsReached plan n d.session d.noted e
   pub sets : length d.sets ≡ length (places_under plan d.session)
@@ -77,6 +81,10 @@ Begins old new [] [] = new ≡ old
 Begins old new [] (e ∷ es) = ⊥
 Begins old new (t ∷ ts) [] = ⊥
 Begins old new (t ∷ ts) (e ∷ es) = (e.0 ≡ t) × IsWord old t.0 e.1 × Begins (after_note old t.0 e.1) new ts es
+
+-- of the tasks of the plan but the pass's own
+abbrev pub BeginsOthers : PlanView → Notes → Notes → List (TaskNo × ℕ) → Type 0
+BeginsOthers plan old new entries = Begins old new (others plan.tasks (bearer old)) entries
 
 abbrev pub is_odd : ℕ → Bool
 is_odd n = nat_eq (n % 2) 1
@@ -96,6 +104,10 @@ from_entry None es = es
 from_entry (Some x) [] = []
 from_entry (Some x) (e ∷ es) = if nat_eq e.0.0 x.0.0 then e ∷ es else from_entry (Some x) es
 
+-- a poll of the drain's entries, from the one at which its last poll has stopped
+abbrev pub PollsDrain : DrainView → Notes → Notes → Option (TaskNo × ℕ) → Type 0
+PollsDrain d old new answer = Polls old new (from_entry d.last d.noted) answer
+
 -- the entry that a poll answers, and the drain after it
 abbrev pub entry_of : Poll → Option (TaskNo × ℕ)
 entry_of (polls.Pending t n) = Some (t, n)
@@ -111,6 +123,10 @@ Reads plan s old new [] [] = new ≡ old
 Reads plan s old new [] (x ∷ xs) = ⊥
 Reads plan s old new (p ∷ ps) [] = ⊥
 Reads plan s old new (p ∷ ps) (x ∷ xs) = IsFound plan old s p.0 x × Reads plan s (after_read plan old s p.0 x) new ps xs
+
+-- at all of the session's places
+abbrev pub ReadsAll : PlanView → ℕ → Notes → Notes → List FactSet → Type 0
+ReadsAll plan s old new sets = Reads plan s old new (places_under plan s) sets
 
 -- each of these sets is known as the session's final one at its place
 pub record AreKnown (n : Notes) (s : ℕ) (places : List PlaceNo) (sets : List FactSet) : Type 0 where

@@ -3,6 +3,8 @@ pub mod DrainView
 pub mod Drains
 pub mod Followed
 pub mod Following
+pub mod Laws
 pub mod Meaning
+pub mod Start
 pub mod Text
 pub mod Told

@@ -2,12 +2,11 @@
 ghost use Rattle.std.specs.Prelude.{◌≡◌, ℕ, ◌<◌, ◌≤◌, length, true, All, map, IfOk, drop};
 ghost use Rattle.cov_base.specs.declared.numbers.TaskNo.{TaskNo as TaskNumber};
 ghost use Rattle.cov_base.specs.Meaning.{no_facts};
-ghost use Rattle.module_area.specs.Meaning.{places_under};
-ghost use Rattle.module_area.specs.Notes.{Notes, bearer, is_final};
+ghost use Rattle.module_area.specs.Notes.{is_final};
 ghost use Rattle.module_area.specs.PlanView.{has_task};
 ghost use Rattle.early_report.specs.DrainView.{DrainView};
 ghost use Rattle.early_report.specs.Meaning.{others};
-ghost use Rattle.early_report.specs.Drains.{unused, has_controlled, controller_of, HasClosed, IsDrainOf, Begins, Polls, from_entry, entry_of, polled, Reads, AreKnown, AreFinal};
+ghost use Rattle.early_report.specs.Drains.{unused, has_controlled, controller_of, HasClosed, IsDrainOf, tasks_in, Begins, BeginsOthers, Polls, PollsDrain, from_entry, entry_of, polled, Reads, ReadsAll, AreKnown, AreFinal};
 ghost use Rattle.early_report.specs.declared.drains.Stage.TheVariants.{Unused, Begun, Drained, Taken};
 
 use cov_base::{Bits, NoMemory, PlaceNo, SessNo, TaskNo};
@@ -116,8 +115,7 @@ fn note_all<C: Drains>(cells: &C, pass: &mut C::Pass, entries: &mut [(TaskNo, u6
     requires area { C.is_pass cells.now pass.old }
     requires tasks { All (λ (e : TaskNumber × ℕ). has_task (C.plan cells.now).tasks e.0.0 ≡ true) entries.old }
     ensures area { C.is_pass cells.now pass.new }
-    ensures begins { Begins (C.notes pass.old) (C.notes pass.new)
-        (map (λ (e : TaskNumber × ℕ). e.0) entries.old) entries.new }
+    ensures begins { Begins (C.notes pass.old) (C.notes pass.new) (tasks_in entries.old) entries.new }
 {
     for i in 0..entries.len() {
         let task = entries[i].0;
@@ -134,8 +132,7 @@ pub fn drain_begin<C: Drains>(cells: &C, pass: &mut C::Pass, plan: &Plan, drain:
     requires unused { drain.old ≡ unused plan.now drain.old.session }
     requires closed { HasClosed plan.now (C.notes pass.old) drain.old.session }
     ensures area { C.is_pass cells.now pass.new }
-    ensures begins { Begins (C.notes pass.old) (C.notes pass.new)
-        (others plan.now.tasks (bearer (C.notes pass.old))) drain.new.noted }
+    ensures begins { BeginsOthers plan.now (C.notes pass.old) (C.notes pass.new) drain.new.noted }
     ensures drain { drain.new ≡ record drain.old { stage = Begun; noted = drain.new.noted } }
     ensures tied { IsDrainOf plan.now (C.notes pass.new) drain.new }
 {
@@ -195,8 +192,7 @@ pub fn drain_poll<C: Drains>(cells: &C, pass: &mut C::Pass, drain: &mut Drain) -
     requires tied { IsDrainOf (C.plan cells.now) (C.notes pass.old) drain.old }
     requires count { drain.old.polls < 4294967295 }
     ensures area { C.is_pass cells.now pass.new }
-    ensures polls { Polls (C.notes pass.old) (C.notes pass.new)
-        (from_entry drain.old.last drain.old.noted) (entry_of result) }
+    ensures polls { PollsDrain drain.old (C.notes pass.old) (C.notes pass.new) (entry_of result) }
     ensures drain { drain.new ≡ polled drain.old (entry_of result) }
     ensures tied { IsDrainOf (C.plan cells.now) (C.notes pass.new) drain.new }
 {
@@ -244,8 +240,7 @@ pub fn drain_take<C: Drains>(cells: &C, pass: &mut C::Pass, plan: &Plan, drain: 
     requires drained { drain.old.stage ≡ Drained }
     requires tied { IsDrainOf plan.now (C.notes pass.old) drain.old }
     ensures area { C.is_pass cells.now pass.new }
-    ensures reads { Reads plan.now drain.old.session (C.notes pass.old) (C.notes pass.new)
-        (places_under plan.now drain.old.session) drain.new.sets }
+    ensures reads { ReadsAll plan.now drain.old.session (C.notes pass.old) (C.notes pass.new) drain.new.sets }
     ensures known { AreFinal plan.now (C.notes pass.new) drain.old.session drain.new.sets }
     ensures drain { drain.new ≡ record drain.old { stage = Taken; sets = drain.new.sets } }
     ensures tied { IsDrainOf plan.now (C.notes pass.new) drain.new }

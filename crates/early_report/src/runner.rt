@@ -1,21 +1,16 @@
 //! A controller's run, in which the sets of the sessions that it has closed are taken as soon as they are final.
-ghost use Rattle.std.specs.Prelude.{◌≡◌, ℕ, ◌+◌, ◌<◌, ◌≤◌, ◌^◌, ◌*◌, true, false, map, All, IfOk};
+ghost use Rattle.std.specs.Prelude.{◌≡◌, ◌<◌, ◌^◌, true, false, All, IfOk};
 ghost use Rattle.std.specs.List.{list_any};
-ghost use Rattle.std.specs.declared.option.Option.TheVariants.{None};
-ghost use Rattle.cov_base.specs.Meaning.{FactSet};
-ghost use Rattle.module_area.specs.Ended.{AreSettled};
-ghost use Rattle.module_area.specs.Notes.{bearer, calls, is_working, own_number};
+ghost use Rattle.module_area.specs.Notes.{is_working, own_number};
 ghost use Rattle.module_area.specs.PlanView.{IsPlan};
-ghost use Rattle.module_area.specs.Tied.{IsTied};
-ghost use Rattle.observed_step.specs.Steps.{memory_at};
-ghost use Rattle.svc_monitor.specs.First.{IsOver};
 ghost use Rattle.task_run.specs.Meaning.{solo, is_opened};
 ghost use Rattle.task_run.specs.Ran.{RanAs};
 ghost use Rattle.early_report.specs.DrainView.{DrainView};
 ghost use Rattle.early_report.specs.Drains.{IsDrainOf, IsLooking};
-ghost use Rattle.early_report.specs.Followed.{IsReady, IsAsked, Went, HaveGone, Stands, first_drains, is_begun, closed_since};
+ghost use Rattle.early_report.specs.Followed.{IsReady, IsAsked, Went, HaveGone, first_drains, is_begun, closed_since};
 ghost use Rattle.early_report.specs.Following.{following};
-ghost use Rattle.early_report.specs.Told.{HasTold, closed_at};
+ghost use Rattle.early_report.specs.Start.{IsAtStart};
+ghost use Rattle.early_report.specs.Told.{HasTold, HasToldSettled, AllStand, sessions_in};
 ghost use Rattle.early_report.specs.declared.drains.Stage.TheVariants.{Begun};
 
 use crate::drains::{Drain, Poll, Stage, drain_begin, drain_poll, drain_take, room};
@@ -209,22 +204,14 @@ fn run_steps<C: Drains>(
 ) -> Ending
     requires area { C.is_pass cells.now pass.old }
     requires plan { C.plan cells.now ≡ plan.now }
-    requires over { IsOver (C.plan cells.now) (memory_at task.old.bench) tables.now }
-    requires room { calls (C.notes pass.old) < 2 ^ 60 }
-    requires working { is_working (C.notes pass.old) ≡ true }
-    requires fresh { task.old.done ≡ 0 }
-    requires tied { IsTied (C.plan cells.now) (C.notes pass.old) task.old.bench.control }
-    requires first { (task.old.bench.control.next ≡ 0) × (task.old.bench.control.opened ≡ None) }
-    requires number { own_number (C.notes pass.old) ≡ 0 }
-    requires unused { drains.old.items ≡ first_drains plan.now (bearer (C.notes pass.old)) }
+    requires start { IsAtStart (C.plan cells.now) plan.now (C.notes pass.old) tables.now task.old drains.old.items }
     ensures area { C.is_pass cells.now pass.new }
     ensures is_plan { IsPlan plan.now }
     ensures ran { RanAs solo (C.plan cells.now) (C.notes pass.old) (C.notes pass.new) task.old task.new result }
     ensures working { is_working (C.notes pass.new) ≡ true }
     ensures number { own_number (C.notes pass.new) < 2 ^ 62 }
-    ensures sessions { map (λ (d : DrainView). d.session) drains.new.items ≡ map (λ (d : DrainView). d.session) drains.old.items }
-    ensures stand { All (λ (d : DrainView).
-        Stands plan.now (C.notes pass.new) (closed_at plan.now task.old d.session) task.new.done d) drains.new.items }
+    ensures sessions { sessions_in drains.new.items ≡ sessions_in drains.old.items }
+    ensures stand { AllStand plan.now (C.notes pass.new) task.old task.new drains.new.items }
 {
     // Read for what every plan keeps.
     let _ = plan.places_len();
@@ -259,18 +246,10 @@ fn run_early<C: Drains>(
 ) -> Ending
     requires area { C.is_pass cells.now pass.old }
     requires plan { C.plan cells.now ≡ plan.now }
-    requires over { IsOver (C.plan cells.now) (memory_at task.old.bench) tables.now }
-    requires room { calls (C.notes pass.old) < 2 ^ 60 }
-    requires working { is_working (C.notes pass.old) ≡ true }
-    requires fresh { task.old.done ≡ 0 }
-    requires tied { IsTied (C.plan cells.now) (C.notes pass.old) task.old.bench.control }
-    requires first { (task.old.bench.control.next ≡ 0) × (task.old.bench.control.opened ≡ None) }
-    requires number { own_number (C.notes pass.old) ≡ 0 }
-    requires unused { drains.old.items ≡ first_drains plan.now (bearer (C.notes pass.old)) }
+    requires start { IsAtStart (C.plan cells.now) plan.now (C.notes pass.old) tables.now task.old drains.old.items }
     ensures area { C.is_pass cells.now pass.new }
     ensures ran { RanAs solo (C.plan cells.now) (C.notes pass.old) (C.notes pass.new) task.old task.new result }
-    ensures told { (sets : ℕ → ℕ → FactSet) → AreSettled (C.plan cells.now) (C.notes pass.new) sets →
-        HasTold plan.now task.old task.new drains.new.items sets }
+    ensures told { HasToldSettled (C.plan cells.now) (C.notes pass.new) plan.now task.old task.new drains.new.items }
     ensures ended { is_working (C.notes pass.new) ≡ false }
 {
     let ending = run_steps(cells, pass, tables, plan, drains, task);

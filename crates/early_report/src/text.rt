@@ -1,12 +1,10 @@
 //! The text of an early report: behind each controlled session's part, whether and when its sets were taken.
-ghost use Rattle.std.specs.Prelude.{◌≡◌, ◌+◌, ◌-◌, ◌<◌, ◌≤◌, ◌++◌, ◌∷◌, [], length, map, is_some, if◌then◌else◌};
-ghost use Rattle.cov_outside.specs.Writes.{Writes};
+ghost use Rattle.std.specs.Prelude.{◌≡◌, ◌<◌, ◌≤◌, ◌++◌, ◌∷◌, [], length, is_some, if◌then◌else◌};
 ghost use Rattle.session_book.specs.Sets.{HasSetsOf};
 ghost use Rattle.report_text.specs.Conditions.{AreTablesOf, AreResultsOf, AreSetsOf};
-ghost use Rattle.report_text.specs.Meaning.{lines_from};
-ghost use Rattle.report_text.specs.Writes.{WritesLines};
-ghost use Rattle.early_report.specs.Meaning.{drain_line, early_part, early_of};
-ghost use Rattle.early_report.specs.Text.{taken_at, drained_in, drained_by, drained_of};
+ghost use Rattle.report_text.specs.Writes.{Prints};
+ghost use Rattle.early_report.specs.Meaning.{drain_line};
+ghost use Rattle.early_report.specs.Text.{taken_at, drained_in, drained_by, drains_of, early_lines, early_parts, PrintsEarly};
 
 use crate::drains::{Drain, Stage};
 use annotator::text::{add_number, add_text};
@@ -41,7 +39,7 @@ fn drained_in(drains: &[Drain], s: SessNo) -> Option<u32>
 
 /// What the drains of the session's controller tell of it.
 fn drained_by(lists: &[Vec<Drain>], by: Option<u32>, s: SessNo) -> Option<u32>
-    ensures { result ≡ drained_by (map (λ v. v.items) lists.now) by s.0 }
+    ensures { result ≡ drained_by (drains_of lists.now) by s.0 }
 {
     match by {
         Some(t) => match lists.get(t as usize) {
@@ -71,7 +69,7 @@ fn drain_line(drained: Option<u32>) -> ArrayVec<u8, 160>
 
 /// That line, where the session has a controller.
 fn drain_text<K: Sink>(sink: &mut K, by: Option<u32>, drained: Option<u32>) -> Result<(), Failed>
-    ensures { WritesLines K.written K.faults sink.old sink.new result (if is_some by then drain_line drained ∷ [] else []) }
+    ensures { Prints K.Sink sink.old sink.new result (if is_some by then drain_line drained ∷ [] else []) }
 {
     match by {
         Some(_) => put(sink, drain_line(drained)),
@@ -84,20 +82,18 @@ fn early_part<K: Sink, R: FactSets>(
     sink: &mut K,
     job: &Job,
     tables: &Tables,
-    results: &R,
+    sets: &R,
     lists: &[Vec<Drain>],
     s: SessNo,
 ) -> Result<(), Failed>
     requires from { 0 < s.0 }
     requires to { s.0 ≤ length job.now.sessions }
     requires tables { AreTablesOf job.now tables.now }
-    requires sets { HasSetsOf job.now tables.now
-        (R.sessions results.now) (R.places results.now) (R.set_of results.now) s.0 }
-    ensures { WritesLines K.written K.faults sink.old sink.new result
-        (early_part job.now tables.now (R.set_of results.now) (drained_of job.now (map (λ v. v.items) lists.now)) s.0) }
+    requires sets { HasSetsOf job.now tables.now (R.sessions sets.now) (R.places sets.now) (R.set_of sets.now) s.0 }
+    ensures { Prints K.Sink sink.old sink.new result (early_lines job.now tables.now (R.set_of sets.now) lists.now s.0) }
 {
     let session = job.session(s);
-    session_part(sink, job, tables, results, s)?;
+    session_part(sink, job, tables, sets, s)?;
     drain_text(sink, session.by, drained_by(lists, session.by, s))
 }
 
@@ -106,17 +102,15 @@ fn early_parts<K: Sink, R: FactSets>(
     sink: &mut K,
     job: &Job,
     tables: &Tables,
-    results: &R,
+    sets: &R,
     lists: &[Vec<Drain>],
 ) -> Result<(), Failed>
     requires tables { AreTablesOf job.now tables.now }
-    requires sets { AreSetsOf job.now tables.now (R.sessions results.now) (R.places results.now) (R.set_of results.now) }
-    ensures { WritesLines K.written K.faults sink.old sink.new result
-        (lines_from (early_part job.now tables.now (R.set_of results.now) (drained_of job.now (map (λ v. v.items) lists.now)))
-        1 (length job.now.sessions)) }
+    requires sets { AreSetsOf job.now tables.now (R.sessions sets.now) (R.places sets.now) (R.set_of sets.now) }
+    ensures { Prints K.Sink sink.old sink.new result (early_parts job.now tables.now (R.set_of sets.now) lists.now) }
 {
     for i in 0..job.sessions.len() {
-        early_part(sink, job, tables, results, lists, SessNo(i as u32 + 1))?;
+        early_part(sink, job, tables, sets, lists, SessNo(i as u32 + 1))?;
     }
     Ok(())
 }
@@ -135,9 +129,7 @@ pub fn early<K: Sink, R: Results + FactSets>(
     requires tables { AreTablesOf job.now tables.now }
     requires results { AreResultsOf job.now (R.tasks results.now) (R.result_of results.now) }
     requires sets { AreSetsOf job.now tables.now (R.sessions results.now) (R.places results.now) (R.set_of results.now) }
-    ensures { Writes K.written K.faults sink.old sink.new result
-        (early_of job.now tables.now (R.result_of results.now) (R.set_of results.now)
-        (drained_of job.now (map (λ v. v.items) lists.now))) }
+    ensures { PrintsEarly K.Sink R.Results R.FactSets job.now tables.now results.now lists.now sink.old sink.new result }
 {
     put(sink, words_line(b"COVERAGE REPORT"))?;
     tasks_text(sink, job, results)?;

@@ -18,7 +18,7 @@ use Rattle.early_report.proofs.runner.run_steps.Goals.{After-run-end}
 
 pub run-end-requires-clause-set : goal.run-end-requires-clause-set
 run-end-requires-clause-set g c =
-    followed_none _ _ _ _ c.places_len.ensures.plan c.requires.working c.requires.number c.open_session.ensures refl (ap (λ v. v.items) c.replace.ensures.value ∙ c.requires.unused)
+    followed_none _ _ _ _ c.places_len.ensures.plan c.requires.start.working c.requires.start.number c.open_session.ensures refl (ap (λ v. v.items) c.replace.ensures.value ∙ c.requires.start.unused)
 
 pub returns-clause-ran : goal.returns-clause-ran
 returns-clause-ran g c =
@@ -34,7 +34,7 @@ returns-clause-ran g c =
       aside = aside_behind _ _ took.hooked.looking;
     })
     end.ends end.goes in
-    rw c.requires.plan (ran_tour solo _ _ _ _ _ _ _ plan (rw c.requires.plan at c.requires.tied) c.requires.first
+    rw c.requires.plan (ran_tour solo _ _ _ _ _ _ _ plan (rw c.requires.plan at c.requires.start.tied) c.requires.start.first
     (record { memory = end.memory; budget = refl; done = end.ends.most; tied = end.can.tied })
     made (λ j. run_ended ((sym alone.ending ∙ end.ends.ending) j) ((sym alone.state ∙ end.ends.state) j) (sym alone.trace j)) (sym alone.calls))
 
@@ -43,7 +43,7 @@ so : (g : given.Over) (c : After-run-end g) →
     c.run-end.result.done (calls_on (memory_at c.args.task.now.bench) c.args.task.now.budget (stands c.args.task.now.bench 0))
 so g c =
     let end = c.run-end.ensures in
-    let first : c.replace.result.items ≡ first_drains c.args.plan.now (bearer (g.C.Cells.notes c.args.pass.now)) = ap (λ v. v.items) c.replace.ensures.value ∙ c.requires.unused in
+    let first : c.replace.result.items ≡ first_drains c.args.plan.now (bearer (g.C.Cells.notes c.args.pass.now)) = ap (λ v. v.items) c.replace.ensures.value ∙ c.requires.start.unused in
     let alone = course_solo (memory_at c.args.task.now.bench) c.args.task.now.budget (tt {0}) (stands c.args.task.now.bench 0) in
     rw (c.replace.ensures.value, alone.calls) at
     (stood_all _ _ _ _ _ _ c.places_len.ensures.plan g.C.Cells.notes _ _ _ _ _ _ _ _
@@ -53,7 +53,7 @@ so g c =
       control = took.answered.control;
       follows = took.hooked;
     })
-    c.requires.working c.open_session.ensures first end.ends end.goes)
+    c.requires.start.working c.open_session.ensures first end.ends end.goes)
 
 pub returns-clause-sessions : goal.returns-clause-sessions
 returns-clause-sessions g c = (so g (goal.at.returns-clause-sessions g c).After-run-end).kept
