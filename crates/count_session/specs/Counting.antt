@@ -9,6 +9,9 @@ use Rattle.count_session.specs.Passes.{IsPassOf, notes_of, plan_in}
 use Rattle.count_session.specs.declared.cells.CountCells.{CountCells}
 use Rattle.count_session.specs.declared.pass.CountPass.{CountPass}
 use Rattle.count_session.specs.Meaning.{count_at}
+use Rattle.task_run.specs.Meaning.{solo}
+use Rattle.job_run.specs.Tasks.{own_run}
+use Rattle.job_run.specs.declared.outcome.Done.{Done}
 
 -- where the place is planted
 abbrev pub planted_count : PlanView → CountNotes → ℕ → Fact → List Visit → ℕ
@@ -36,3 +39,7 @@ HasAdded cells tables old visits new = Adds (plan_in cells) (notes_of cells old)
 -- no call changes the pass or the control
 abbrev pub IsLeft : CountCells → CountPass → ControlView → Option ℕ → CountPass → ControlView → Type 0
 IsLeft cells old control call new after = (new ≡ old) × (after ≡ control)
+
+-- from the old to the new notes it has added what the task's run alone gives
+abbrev pub AddsRun : CountCells → Done → CountPass → CountPass → Type 0
+AddsRun cells done old new = Adds (plan_in cells) (notes_of cells old) (notes_of cells new) (own_run solo (plan_in cells) done).trace

@@ -1,5 +1,5 @@
 -- What a contract sees of a pass, and what each call changes.
-use Rattle.std.specs.Prelude.{ℕ, ◌+◌, ◌-◌, ◌*◌, Bool, true, false, ◌||◌, ◌&&◌, nat_eq, if◌then◌else◌, Option, Some, None}
+use Rattle.std.specs.Prelude.{◌≡◌, ℕ, ◌+◌, ◌-◌, ◌*◌, ◌<◌, Bool, true, false, ◌||◌, ◌&&◌, nat_eq, nat_lt, if◌then◌else◌, Option, Some, None, length}
 use Rattle.cov_base.specs.Meaning.{breakpoint, same_fact}
 use Rattle.cov_base.specs.declared.facts.Fact.{Fact}
 use Rattle.module_area.specs.declared.cells.Cell.{Cell}
@@ -26,6 +26,16 @@ root_notes = record { root = true; planted = λ p. false; pending = None; added 
 
 abbrev pub after_plant : CountNotes → ℕ → CountNotes
 after_plant n p = record n { planted = λ q. n.planted q || nat_eq q p }
+
+-- nothing but the planted places is changed; by planting this place where it has a window; and now each place with one is
+abbrev pub OnlyPlants : CountNotes → CountNotes → Type 0
+OnlyPlants old new = new ≡ record old { planted = new.planted }
+
+abbrev pub PlantsAt : PlanView → ℕ → CountNotes → CountNotes → Type 0
+PlantsAt plan place old new = (p : ℕ) → new.planted p ≡ (old.planted p || (nat_eq p place && nat_lt 0 (window_at plan place)))
+
+abbrev pub HasPlanted : PlanView → CountNotes → Type 0
+HasPlanted plan n = (p : ℕ) → p < length plan.places → n.planted p ≡ nat_lt 0 (window_at plan p)
 
 -- the cell as the root has planted it, or not
 abbrev pub cell_at : PlanView → CountNotes → ℕ → Cell

@@ -1,6 +1,5 @@
 //! The tasks of a phase, each on a thread of its own, over cells in which breakpoints stay.
-ghost use Rattle.std.specs.Prelude.{◌≡◌, ℕ, ◌+◌, ◌<◌, ◌||◌, ◌&&◌, nat_eq, nat_lt, true, false, length, IfOk};
-ghost use Rattle.module_area.specs.Meaning.{window_at};
+ghost use Rattle.std.specs.Prelude.{◌≡◌, ◌+◌, ◌<◌, true, false, length, IfOk};
 ghost use Rattle.brk_table.specs.Kept.{AreCodes};
 ghost use Rattle.session_book.specs.JobView.{IsJob};
 ghost use Rattle.observed_step.specs.Steps.{memory_at};
@@ -9,8 +8,8 @@ ghost use Rattle.task_run.specs.Meaning.{solo};
 ghost use Rattle.job_run.specs.Meaning.{result_of_run};
 ghost use Rattle.job_run.specs.Slots.{AreEmpty};
 ghost use Rattle.job_run.specs.Tasks.{AreRun, done_result, own_run};
-ghost use Rattle.count_session.specs.Counting.{Adds};
-ghost use Rattle.count_session.specs.Notes.{root_notes};
+ghost use Rattle.count_session.specs.Counting.{AddsRun};
+ghost use Rattle.count_session.specs.Notes.{root_notes, OnlyPlants, PlantsAt, HasPlanted};
 ghost use Rattle.count_session.specs.Passes.{IsPassOf, notes_of, plan_in};
 ghost use Rattle.count_session.specs.Phases.{IsCounted};
 
@@ -37,8 +36,8 @@ fn plant_one(cells: &CountCells, root: &mut CountPass, plan: &Plan, place: Place
     requires place { place.0 < length plan.now.places }
     requires unplanted { (notes_of cells.now root.old).planted place.0 ≡ false }
     ensures area { IsPassOf cells.now root.new }
-    ensures same { notes_of cells.now root.new ≡ record (notes_of cells.now root.old) { planted = (notes_of cells.now root.new).planted } }
-    ensures planted { (p : ℕ) → (notes_of cells.now root.new).planted p ≡ ((notes_of cells.now root.old).planted p || (nat_eq p place.0 && nat_lt 0 (window_at plan.now place.0))) }
+    ensures same { OnlyPlants (notes_of cells.now root.old) (notes_of cells.now root.new) }
+    ensures planted { PlantsAt plan.now place.0 (notes_of cells.now root.old) (notes_of cells.now root.new) }
 {
     if plan.window(place) == 0 {
         return;
@@ -52,8 +51,8 @@ fn plant_all(cells: &CountCells, root: &mut CountPass, plan: &Plan)
     requires plan { plan_in cells.now ≡ plan.now }
     requires root { notes_of cells.now root.old ≡ root_notes }
     ensures area { IsPassOf cells.now root.new }
-    ensures same { notes_of cells.now root.new ≡ record root_notes { planted = (notes_of cells.now root.new).planted } }
-    ensures planted { (p : ℕ) → p < length plan.now.places → (notes_of cells.now root.new).planted p ≡ nat_lt 0 (window_at plan.now p) }
+    ensures same { OnlyPlants root_notes (notes_of cells.now root.new) }
+    ensures planted { HasPlanted plan.now (notes_of cells.now root.new) }
 {
     for i in 0..plan.places_len() {
         plant_one(cells, root, plan, PlaceNo(i));
@@ -69,7 +68,7 @@ fn run_one<'a>(cells: &CountCells, pass: &mut CountPass, tables: &Tables, done: 
     ensures area { IsPassOf cells.now pass.new }
     ensures result { done_result done.new ≡ result_of_run (own_run solo (plan_in cells.now) done.old) }
     ensures filled { length done.new.task.bench.space.bytes ≡ (memory_at done.old.task.bench).private }
-    ensures adds { Adds (plan_in cells.now) (notes_of cells.now pass.old) (notes_of cells.now pass.new) (own_run solo (plan_in cells.now) done.old).trace }
+    ensures adds { AddsRun cells.now done.old pass.old pass.new }
 {
     let ending = run_counted(cells, pass, tables, &mut done.task);
     done.ending = Some(ending);
