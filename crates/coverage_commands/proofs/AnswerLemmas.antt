@@ -1,5 +1,5 @@
 -- What the program answers with, cause by cause.
-use Rattle.std.proofs.Common.{inl, inr, OnOk, OnErr, ◌≡◌, ◌⊎◌, ℕ, Bool, true, false, Some, Option, Result, Ok, Err, List, length, drop, refl, ap}
+use Rattle.std.proofs.Common.{inl, inr, OnOk, OnErr, ◌≡◌, ◌⊎◌, ℕ, Bool, true, false, Some, Option, Result, Ok, Err, List, length, refl, ap}
 use Rattle.cov_outside.specs.Writes.{Writes}
 use Rattle.cov_outside.specs.declared.whole.ReadFault.TheVariants as read
 use Rattle.module_area.specs.declared.places.Place.{Place}
@@ -14,7 +14,6 @@ use Rattle.job_tables.specs.Meaning.{job_fault, Match}
 use Rattle.job_tables.specs.Faults.{IsFaultOf}
 use Rattle.job_tables.specs.declared.faults.TablesFault.{TablesFault}
 use Rattle.interleave_core.specs.Meaning.{Parts}
-use Rattle.job_text.specs.Meaning.{lines_of}
 use Rattle.report_text.specs.Conditions.{AreResultsOf, AreSetsOf}
 use Rattle.report_text.specs.Meaning.{report_of, table_text}
 use Rattle.task_ends.specs.Meaning.{end_of, unlisted_of, ends_text}
@@ -33,8 +32,7 @@ use Rattle.job_run.specs.Runs.{HasLeftBy}
 use Rattle.job_run.specs.Sets.{SetsView, set_in}
 use Rattle.job_run.proofs.SessionLemmas.{set_is_left}
 use Rattle.job_run.specs.Tasks.{results_of}
-use Rattle.schedule_play.specs.Meaning.{Whole, Bad, replay_text}
-use Rattle.schedule_play.proofs.RunLemmas.{play_is_run}
+use Rattle.schedule_play.specs.Meaning.{Whole, Bad, IsRun, replay_text}
 use Rattle.coverage_commands.proofs.WordLemmas.{by_report}
 use Rattle.coverage_commands.specs.Words.{without_threads}
 
@@ -122,11 +120,11 @@ no_tables asked j e has (inr first) = λ more s came. BadListing j e refl came h
 
 -- a schedule that was played, and one that wasn't
 pub replayed : (s : SourceChange) (j : JobView) (tables : TablesView) (core : Parts) (played : List Played) (a : Account) (k : SinkChange) (answer : ℕ) →
-    HasPlay s j tables (Whole core played) → IsWritten 0 (replay_text j tables core played) k answer → Answers Replay s (no_change a) k answer
-replayed s j tables core played a k answer has told = record {
+    HasPlay s j tables (Whole core played) → IsRun (record { job = j; places = tables.places }) core played → IsWritten 0 (replay_text j tables core played) k answer → Answers Replay s (no_change a) k answer
+replayed s j tables core played a k answer has run told = record {
   status = 0;
   text = replay_text j tables core played;
-  cause = Replayed (refl, refl) (record { job = j; tables = tables; core = core; played = played; has = has; run = play_is_run j tables.places has.plays.has.count core (drop has.plays.has.count (lines_of has.bytes)) played has.plays.plays; is_text = refl }) refl;
+  cause = Replayed (refl, refl) (record { job = j; tables = tables; core = core; played = played; has = has; run = run; is_text = refl }) refl;
   told = told;
 }
 

@@ -1,13 +1,17 @@
 -- A schedule that was played is a run of the core.
-use Rattle.std.proofs.Common.{◌≡◌, ℕ, ◌+◌, Bool, true, false, nat_eq, if◌then◌else◌, Option, Some, None, is_none, is_some, List, [], ◌∷◌, length, refl, ap, ◌∙◌, subst}
+use Rattle.std.proofs.Common.{◌≡◌, ℕ, ◌+◌, Bool, true, false, nat_eq, if◌then◌else◌, Option, Some, None, option_map, is_none, is_some, List, [], ◌∷◌, ◌++◌, length, refl, ap, ◌∙◌, subst}
+use Rattle.std.proofs.lemmas.Option.{same_Some}
 use Rattle.std.specs.Option.{option_and_then}
 use Rattle.cov_base.specs.declared.numbers.TaskNo.{TaskNo}
 use Rattle.module_area.specs.declared.places.Place.{Place}
 use Rattle.session_book.specs.Meaning.{JobView}
 use Rattle.interleave_core.specs.Meaning.{World, Parts, first_parts, Stepped, parts_step, run_on, next_of, results_of, after, all_events}
+use Rattle.interleave_core.specs.Core.{CoreState, core_start, core_after, core_from, go_on}
 use Rattle.interleave_core.specs.Going.{HasGone}
+use Rattle.interleave_core.specs.World.{IsWorld}
 use Rattle.interleave_core.specs.declared.events.Event.{Event}
 use Rattle.interleave_core.specs.declared.events.Shown.TheVariants as shown
+use Rattle.interleave_core.proofs.Follows.{run_stands}
 use Rattle.interleave_core.proofs.Runs.{run_on-append}
 use Rattle.job_text.specs.Meaning.{LineView, item_at}
 use Rattle.job_text.specs.declared.schedule.Item.{Item}
@@ -96,16 +100,31 @@ play_run w n c d (line ∷ lines) played h = by_item (item_at w.job line.bytes) 
     by_item None rest q = absurd cc
     by_item (Some item) rest q = by_line item rest (is_end item) q
 
+-- with the logs
+with_logs : (w : World) (c : CoreState) (events : List Event) (d : Parts) → run_on w c.parts events ≡ Some d → (e : CoreState) × (core_from w c events ≡ Some e) × (e.parts ≡ d)
+with_logs w c [] d h = (c, refl, same_Some c.parts d h)
+with_logs w c (e ∷ events) d h = by_step (λ b q. with_logs w b events d q) (parts_step w c.parts e) h
+  where
+    by_step : ((b : CoreState) → run_on w b.parts events ≡ Some d → (f : CoreState) × (core_from w b events ≡ Some f) × (f.parts ≡ d)) → (o : Option Stepped) →
+        option_and_then (λ (x : Stepped). run_on w x.parts events) o ≡ Some d → (f : CoreState) × (go_on (λ b. core_from w b events) (option_map (core_after w c e) o) ≡ Some f) × (f.parts ≡ d)
+    by_step more None q = absurd cc
+    by_step more (Some x) q = more (core_after w c e x).core q
+
 -- of the schedule of a job of one phase
-pub play_is_run : (j : JobView) (places : List Place) (count : ℕ) (d : Parts) (lines : List LineView) (played : List Played) → play_of j places count lines ≡ Whole d played → IsRun (record { job = j; places = places }) d played
-play_is_run j places count d lines played h = by_phases (nat_eq (length j.phases) 1) h
+pub play_is_run : (j : JobView) (places : List Place) (count : ℕ) (d : Parts) (lines : List LineView) (played : List Played) → IsWorld (record { job = j; places = places }) → play_of j places count lines ≡ Whole d played →
+    IsRun (record { job = j; places = places }) d played
+play_is_run j places count d lines played is_world h = by_phases (nat_eq (length j.phases) 1) h
   where
     w : World
     w = record { job = j; places = places }
 
     by_start : (o : Option Parts) → run_on w (first_parts w) (plants w) ≡ o → play_from w (count + 1) lines o ≡ Whole d played → IsRun w d played
     by_start None e q = absurd cc
-    by_start (Some c) e q = record { planted = c; begin = e; run = run_on-append w (first_parts w) c (plants w) (items_events w c played) e ∙ play_run w (count + 1) c d lines played q }
+    by_start (Some c) e q =
+        let events : List Event = plants w ++ items_events w c played in
+        let run : run_on w (first_parts w) events ≡ Some d = run_on-append w (first_parts w) c (plants w) (items_events w c played) e ∙ play_run w (count + 1) c d lines played q in
+        let all = with_logs w (core_start w) events d run in
+        record { planted = c; begin = e; core = all.0; run = all.1; stored = all.2; stands = run_stands w all.0 events is_world all.1 }
 
     by_phases : (b : Bool) → (if b then play_from w (count + 1) lines (run_on w (first_parts w) (plants w)) else Bad 0) ≡ Whole d played → IsRun w d played
     by_phases true q = by_start (run_on w (first_parts w) (plants w)) refl q

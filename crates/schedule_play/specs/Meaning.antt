@@ -6,6 +6,7 @@ use Rattle.module_area.specs.Meaning.{window_at, place_of}
 use Rattle.module_area.specs.declared.places.Place.{Place}
 use Rattle.session_book.specs.Meaning.{JobView, task_of, session_of}
 use Rattle.interleave_core.specs.Meaning.{World, Parts, plan_in, first_parts, Stepped, parts_step, run_on, set_of, all_events, after, next_of, results_of}
+use Rattle.interleave_core.specs.Core.{CoreState, core_run, Stands}
 use Rattle.interleave_core.specs.declared.events.Event.{Event}
 use Rattle.interleave_core.specs.declared.events.Event.TheVariants as event
 use Rattle.interleave_core.specs.declared.events.Shown.TheVariants.{Done, Fetched, Marked, Lifted, Planted, Closed}
@@ -119,11 +120,14 @@ items_events w c [] = []
 items_events w c (p ∷ ps) = item_events w c p.item ++ items_events w (after c (play_item w c p.item)) ps
 
 -- The play is the core's run of the list of all events: the plants, after which the core stores these parts, and then those
--- of its items.
+-- of its items. With each task's log the core stands as it does after every list of events.
 pub record IsRun (w : World) (parts : Parts) (played : List Played) : Type 0 where
   pub planted : Parts
   pub begin : run_on w (first_parts w) (plants w) ≡ Some planted
-  pub run : run_on w (first_parts w) (plants w ++ items_events w planted played) ≡ Some parts
+  pub core : CoreState
+  pub run : core_run w (plants w ++ items_events w planted played) ≡ Some core
+  pub stored : core.parts ≡ parts
+  pub stands : Stands w (plants w ++ items_events w planted played) core
 
 -- The text that tells a schedule that was played.
 

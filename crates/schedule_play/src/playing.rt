@@ -7,7 +7,7 @@ ghost use Rattle.interleave_core.specs.Meaning.{plan_in, first_parts, parts_step
 ghost use Rattle.interleave_core.specs.World.{IsWorld, world_of};
 ghost use Rattle.interleave_core.specs.Results.{Fits};
 ghost use Rattle.interleave_core.specs.Views.{Leaves};
-ghost use Rattle.schedule_play.specs.Meaning.{Play, plant_at, plants, if_plants, if_closes, item_event, play, play_item};
+ghost use Rattle.schedule_play.specs.Meaning.{Play, plant_at, plants, if_plants, if_closes, item_event, play, play_item, IsRun};
 ghost use Rattle.schedule_play.specs.Play.{play_behind, IsLineOf, IsBadLine, IsUnplayed};
 
 use brk_table::Tables;
@@ -172,6 +172,7 @@ fn begin<'a>(alloc: Global, job: &'a Job, tables: &'a Tables) -> Result<Core<'a>
     ensures world { IfOk result (λ c. c.world ≡ world_of job.now tables.now) }
     ensures planted { IfOk result (λ c. run_on c.world (first_parts c.world) (plants c.world) ≡ Some c.parts) }
     ensures fits { IfOk result (λ c. Fits c.world c.parts) }
+    ensures is_world { IfOk result (λ c. IsWorld c.world) }
 {
     let plan = plan_of(alloc, job, tables, 0)?;
     let mut core = start(alloc, job, tables)?;
@@ -247,7 +248,8 @@ fn play<'a>(
 }
 
 /// Plays the schedule behind the first lines of an input, so many, which spell the job: all windows are planted first, and
-/// then each line is an item, up to ENDSCHED. Bad exactly where a line has that fault, or the job hasn't one phase.
+/// then each line is an item, up to ENDSCHED. The core then stands as after any list of events. Bad exactly where a line has
+/// that fault, or the job hasn't one phase.
 pub fn replay<'a>(
     alloc: Global,
     job: &'a Job,
@@ -261,6 +263,7 @@ pub fn replay<'a>(
     ensures few { IfOk result (λ r. length r.played.items < 2 ^ 32) }
     ensures world { IfOk result (λ r. r.core.world ≡ world_of job.now tables.now) }
     ensures fits { IfOk result (λ r. Fits r.core.world r.core.parts) }
+    ensures run { IfOk result (λ r. IsRun (world_of job.now tables.now) r.core.parts r.played.items) }
     ensures bad { IfErr result (IsUnplayed (play_behind job.now tables.now count schedule.now)) }
 {
     if !has_one_phase(job) {

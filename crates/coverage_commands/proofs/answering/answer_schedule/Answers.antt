@@ -1,6 +1,7 @@
-use Rattle.std.proofs.Common.{rules, ◌≡◌, refl, sym, ap, ◌∙◌, List, ℕ, drop}
+use Rattle.std.proofs.Common.{rules, ◌≡◌, refl, sym, ap, ◌∙◌, subst, List, ℕ, drop}
 use Rattle.job_text.specs.Meaning.{LineView, lines_of}
-use Rattle.schedule_play.specs.Meaning.{Whole, play_of, Bad}
+use Rattle.interleave_core.specs.World.{world_of}
+use Rattle.schedule_play.specs.Meaning.{Whole, play_of, Bad, IsRun}
 use Rattle.schedule_play.specs.Play.{play_behind}
 use Rattle.coverage_commands.proofs.AnswerLemmas.{replayed, written_as, wanting_told, bad_schedule}
 use Rattle.coverage_commands.specs.declared.words.Command.TheVariants.{Replay}
@@ -14,6 +15,7 @@ returns g c s a came =
     let there = ap (λ (n : ℕ). play_of c.args.job.now c.args.tables.now.places n (drop n (lines_of came.bytes))) came.counts ∙ ap (λ (ls : List LineView). play_of c.args.job.now c.args.tables.now.places c.args.lines ls) (sym (came.behind refl)) in
     replayed s c.args.job.now c.args.tables.now c.in-Ok.replayed.core.parts c.deref-2.result.now a _ _
     (record { bytes = came.bytes; came = came.came; plays = record { few = came.came.within; has = came.has; match = c.requires.ready.matching; plays = there ∙ (c.in-Ok.ensures.whole ∙ ap (Whole c.in-Ok.replayed.core.parts) (sym same)) } })
+    (subst (IsRun (world_of c.args.job.now c.args.tables.now) c.in-Ok.replayed.core.parts) (sym same) c.in-Ok.ensures.run)
     (written_as _ _ _ c.replay_text.ensures.as_text c.status_of.ensures.whole c.status_of.ensures.failed)
 
 pub returns-in-Err-NoMemory : goal.returns-in-Err-NoMemory
