@@ -6,6 +6,7 @@ ghost use Rattle.cov_base.specs.declared.facts.Kind.TheVariants.{Straight, Condi
 ghost use Rattle.cov_base.specs.Facts.{is_of_kind};
 ghost use Rattle.module_area.specs.Meaning.{kind_at, window_at};
 ghost use Rattle.count_session.specs.Passes.{IsPassOf, notes_of, plan_in};
+ghost use Rattle.count_session_tests.specs.Visits.{CanVisit};
 
 use count_session::{CountCells, CountPass};
 use cov_base::{Addr, Fact, Kind, NoMemory, PlaceNo};
@@ -103,10 +104,10 @@ fn at_once<R: Threads + Sync>(
     let (first, second) = thread::join(
         rt,
         move ||
-            requires { IsPassOf shared.now first × ((notes_of shared.now first).root ≡ false) × ((notes_of shared.now first).adds ≡ 0) × (0 < length (plan_in shared.now).places) × ((notes_of shared.now first).planted 0 ≡ true) × (is_of_kind (kind_at (plan_in shared.now) 0) Went ≡ true) }
+            requires { CanVisit shared.now first 0 Went }
         { visits(shared, first, PlaceNo(0), Fact::Went, times) },
         move ||
-            requires { IsPassOf shared.now second × ((notes_of shared.now second).root ≡ false) × ((notes_of shared.now second).adds ≡ 0) × (0 < length (plan_in shared.now).places) × ((notes_of shared.now second).planted 0 ≡ true) × (is_of_kind (kind_at (plan_in shared.now) 0) Went ≡ true) }
+            requires { CanVisit shared.now second 0 Went }
         { visits(shared, second, PlaceNo(0), Fact::Went, times) },
     );
     cells.join(&mut root, first);

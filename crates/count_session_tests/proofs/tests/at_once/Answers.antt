@@ -18,6 +18,20 @@ join-first-requires-after_bounds g c κs within =
     let planted : (notes_of cells c.plant.new.root).planted 0 ≡ true = ap (λ (n : CountNotes). n.planted 0) c.plant.ensures.notes ∙ ap (λ (n : CountNotes). n.planted 0 || nat_eq 0 0) c.in_ok-cells.ensures.root in
     let place : 0 < length (plan_in cells).places = omega (arith, ap (λ (p : PlanView). length p.places) c.in_ok-cells.ensures.plan, c.requires.places) in
     let kind : is_of_kind (kind_at (plan_in cells) 0) Went ≡ true = ap (λ (p : PlanView). is_of_kind (kind_at p 0) Went) c.in_ok-cells.ensures.plan ∙ ap (λ (k : Kind). is_of_kind k Went) c.requires.branch.0 in (
-      (first.split, ap (λ (n : CountNotes). n.root) first.fresh, ap (λ (n : CountNotes). n.adds) first.fresh, place, ap (λ (n : CountNotes). n.planted 0) first.fresh ∙ planted, kind),
-      (second.split, ap (λ (n : CountNotes). n.root) second.fresh, ap (λ (n : CountNotes). n.adds) second.fresh, place, ap (λ (n : CountNotes). n.planted 0) second.fresh ∙ (ap (λ (n : CountNotes). n.planted 0) first.notes ∙ planted), kind),
+      (record {
+        area = first.split;
+        task = ap (λ (n : CountNotes). n.root) first.fresh;
+        fresh = ap (λ (n : CountNotes). n.adds) first.fresh;
+        place = place;
+        planted = ap (λ (n : CountNotes). n.planted 0) first.fresh ∙ planted;
+        kind = kind;
+      }),
+      (record {
+        area = second.split;
+        task = ap (λ (n : CountNotes). n.root) second.fresh;
+        fresh = ap (λ (n : CountNotes). n.adds) second.fresh;
+        place = place;
+        planted = ap (λ (n : CountNotes). n.planted 0) second.fresh ∙ (ap (λ (n : CountNotes). n.planted 0) first.notes ∙ planted);
+        kind = kind;
+      }),
     )
