@@ -1,6 +1,5 @@
 -- What is done behind the instructions of a task.
-use Rattle.std.specs.Prelude.{◌≡◌, ℕ, ◌+◌, Option, List}
-use Rattle.cov_base.specs.Meaning.{Visit}
+use Rattle.std.specs.Prelude.{◌≡◌, ℕ, ◌+◌}
 use Rattle.brk_table.specs.Meaning.{TablesView}
 use Rattle.module_area.specs.Meaning.{ControlView}
 use Rattle.s370_state.specs.Meaning.{machine_of}
@@ -9,6 +8,7 @@ use Rattle.observed_step.specs.Meaning.{After}
 use Rattle.observed_step.specs.Courses.{nothing}
 use Rattle.observed_step.specs.Steps.{CanStep, StepsAs, memory_at}
 use Rattle.observed_step.specs.declared.bench.Bench.{Bench}
+use Rattle.observed_step.specs.declared.observer.Observer as observer
 
 -- What a hook does. Between two instructions hook, pass and control stand so, with so many done; behind one it is `aside`,
 -- from the pass and itself to the pass and itself, with so many done. The course of the task depends on it by its key alone.
@@ -20,16 +20,14 @@ pub record Way (H O P : Type 0) : Type 1 where
   pub Aside : H → O → P → ControlView → ℕ → P → H → Type 0
 
 -- An instruction has left hook, pass and bench so, and how the task would go on; before it, it could be done, and the hook was set.
-pub record IsBehind {H O P : Type 0} (way : Way H O P) (is_ready : O → TablesView → P → ℕ → ℕ → Type 0) (is_tied : O → P → ControlView → Type 0)
-    (makes : O → TablesView → P → List Visit → P → Type 0) (answers : O → P → ControlView → Option ℕ → P → ControlView → Type 0)
-    (h : H) (o : O) (t : TablesView) (q : P) (new : Bench) (done : ℕ) (next : Next) : Type 0 where
+pub record IsBehind {H O P : Type 0} (way : Way H O P) (by : observer.Ghosts O P) (h : H) (o : O) (t : TablesView) (q : P) (new : Bench) (done : ℕ) (next : Next) : Type 0 where
   pub pass : P
   pub bench : Bench
   pub before : ℕ
   pub count : done ≡ before + 1
-  pub can : CanStep is_ready is_tied o t pass bench before 0
+  pub can : CanStep by.IsReady by.IsTied o t pass bench before 0
   pub set : way.IsSet h o pass bench.control before
-  pub steps : StepsAs makes answers o t pass bench before q new next
+  pub steps : StepsAs by.Makes by.Answers o t pass bench before q new next
 
 -- What was done behind the instruction: of the bench only the processor was changed.
 pub record DoesBehind {H O P : Type 0} (way : Way H O P) (o : O) (h : H) (p : P) (old : Bench) (done : ℕ) (next : Next) (g : H) (q : P) (new : Bench) (result : Next) : Type 0 where

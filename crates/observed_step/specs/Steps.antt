@@ -13,6 +13,7 @@ use Rattle.s370_exec.specs.Solo.{state_of}
 use Rattle.s370_state.specs.declared.endings.Next.{Next}
 use Rattle.space_map.specs.Space.{memory_of_space}
 use Rattle.observed_step.specs.declared.bench.Bench.{Bench}
+use Rattle.observed_step.specs.declared.observer.Observer as observer
 
 -- the memory that the task sees, and its state with so many instructions done
 abbrev pub memory_at : Bench → Memory
@@ -53,18 +54,16 @@ pub record StepsAs {O P : Type 0} (makes : O → TablesView → P → List Visit
   pub memory : memory_at new ≡ memory_at old
   pub does : Does makes answers o t p old.control (solo_step (memory_at old) (stands old done)) (call_of (memory_at old) (stands old done)) q new (done + 1) result
 
--- and of the subject of an EX that was begun
-pub record SubjectStepsAs {O P : Type 0} (makes : O → TablesView → P → List Visit → P → Type 0) (answers : O → P → ControlView → Option ℕ → P → ControlView → Type 0)
-    (ex : Code) (o : O) (t : TablesView) (p : P) (old : Bench) (done : ℕ) (q : P) (new : Bench) (result : Next) : Type 0 where
+-- and of the subject of this EX, which was begun
+pub record StepsOn {O P : Type 0} (by : observer.Ghosts O P) (ex : Code) (o : O) (t : TablesView) (p : P) (old : Bench) (done : ℕ) (q : P) (new : Bench) (result : Next) : Type 0 where
   pub memory : memory_at new ≡ memory_at old
-  pub does : Does makes answers o t p old.control (subject_step (memory_at old) (stands old done) ex) (subject_call (memory_at old) (stands old done) ex) q new (done + 1) result
+  pub does : Does by.Makes by.Answers o t p old.control (subject_step (memory_at old) (stands old done) ex) (subject_call (memory_at old) (stands old done) ex) q new (done + 1) result
 
 -- The instruction was fetched whole, and its visit was shown: what is done from before that visit on is the whole step.
-pub record CarriesOn {O P : Type 0} (makes : O → TablesView → P → List Visit → P → Type 0) (answers : O → P → ControlView → Option ℕ → P → ControlView → Type 0)
-    (code : Code) (o : O) (t : TablesView) (p : P) (old : Bench) (done : ℕ) (q : P) (new : Bench) (result : Next) : Type 0 where
+pub record GoesOn {O P : Type 0} (by : observer.Ghosts O P) (code : Code) (o : O) (t : TablesView) (p : P) (old : Bench) (done : ℕ) (q : P) (new : Bench) (result : Next) : Type 0 where
   pub memory : memory_at new ≡ memory_at old
-  pub does : (first : P) → makes o t first (own_visit old done code ∷ []) p →
-      Does makes answers o t first old.control (solo_step (memory_at old) (stands old done)) (call_of (memory_at old) (stands old done)) q new (done + 1) result
+  pub does : (first : P) → by.Makes o t first (own_visit old done code ∷ []) p →
+      Does by.Makes by.Answers o t first old.control (solo_step (memory_at old) (stands old done)) (call_of (memory_at old) (stands old done)) q new (done + 1) result
 
 -- the instruction at the instruction address, whose halfwords may all be fetched
 pub record IsFetched (b : Bench) (code : Code) : Type 0 where

@@ -25,7 +25,7 @@ pub trait Hook<O: Observer> {
         next: Next,
     ) -> Next
         requires can { CanStep O.IsReady O.IsTied observer.now tables.now pass.old bench.old done 0 }
-        requires behind { IsBehind way O.IsReady O.IsTied O.Makes O.Answers self.old observer.now tables.now pass.old bench.old done next }
+        requires behind { IsBehind way O.Observer self.old observer.now tables.now pass.old bench.old done next }
         ensures can { CanStep O.IsReady O.IsTied observer.now tables.now pass.new bench.new done 0 }
         ensures does { DoesBehind way observer.now self.old pass.old bench.old done next self.new pass.new bench.new result };
 }

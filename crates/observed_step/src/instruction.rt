@@ -5,7 +5,7 @@ ghost use Rattle.module_area.specs.Meaning.{is_place, place_of};
 ghost use Rattle.s370_exec.specs.Meaning.{first_tests};
 ghost use Rattle.space_map.specs.Space.{memory_of_space};
 ghost use Rattle.observed_step.specs.Sights.{IsPlaced};
-ghost use Rattle.observed_step.specs.Steps.{CanStep, IsFetched, IsShown, StepsAs, SubjectStepsAs, CarriesOn};
+ghost use Rattle.observed_step.specs.Steps.{CanStep, IsFetched, IsShown, StepsAs, StepsOn, GoesOn};
 
 use crate::bench::Bench;
 use crate::observer::{Observer, Sight};
@@ -57,7 +57,7 @@ fn step_subject<O: Observer>(
 ) -> Next
     requires can { CanStep O.IsReady O.IsTied observer.now tables.now pass.old bench.old done 1 }
     ensures can { CanStep O.IsReady O.IsTied observer.now tables.now pass.new bench.new (done + 1) 0 }
-    ensures steps { SubjectStepsAs O.Makes O.Answers ex.now observer.now tables.now pass.old bench.old done pass.new bench.new result }
+    ensures steps { StepsOn O.Observer ex.now observer.now tables.now pass.old bench.old done pass.new bench.new result }
 {
     let at = subject_address(&bench.cpu, ex);
     let first = match first_at(tables, &bench.space, at) {
@@ -100,7 +100,7 @@ fn step_subject_here<O: Observer>(
 ) -> Next
     requires can { CanStep O.IsReady O.IsTied observer.now tables.now pass.old bench.old done 1 }
     ensures can { CanStep O.IsReady O.IsTied observer.now tables.now pass.new bench.new (done + 1) 0 }
-    ensures steps { SubjectStepsAs O.Makes O.Answers ex.now observer.now tables.now pass.old bench.old done pass.new bench.new result }
+    ensures steps { StepsOn O.Observer ex.now observer.now tables.now pass.old bench.old done pass.new bench.new result }
 {
     step_subject(observer, pass, tables, bench, done, ex)
 }
@@ -119,7 +119,7 @@ fn carry_on<O: Observer>(
     requires fetched { IsFetched bench.old code.now }
     requires can { CanStep O.IsReady O.IsTied observer.now tables.now pass.old bench.old done 1 }
     ensures can { CanStep O.IsReady O.IsTied observer.now tables.now pass.new bench.new (done + 1) 0 }
-    ensures carries { CarriesOn O.Makes O.Answers code.now observer.now tables.now pass.old bench.old done pass.new bench.new result }
+    ensures carries { GoesOn O.Observer code.now observer.now tables.now pass.old bench.old done pass.new bench.new result }
 {
     let half = code.first_half();
     if is_execute(half) {

@@ -1,4 +1,4 @@
-use Rattle.std.proofs.Common.{refl, sym, subst, ◌∙◌, []}
+use Rattle.std.proofs.Common.{sym, subst, ◌∙◌, []}
 use Rattle.observed_step.proofs.GoesLemmas.{goes_made}
 use Rattle.observed_step.proofs.SoloLemmas.{course_solo}
 use Rattle.observed_step.specs.Steps.{memory_at, stands}
