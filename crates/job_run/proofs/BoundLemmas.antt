@@ -217,7 +217,7 @@ leaves plan walks t root n d is none first follows windows planted tied few =
       closes = closes_closed plan (split_notes plan root t) n d planted tied ∙ (zero-add _ ∙ ap (λ (c : ControlView). places_in_all plan (closed_by c)) last);
       few = few;
       fetches = follows.answered.pairs;
-      fetched = has_fetched plan walks t root n none follows.answered;
+      fetched = has_fetched plan walks t root n d none first follows;
     }
   where
     never : false ≡ true → ⊥
@@ -275,7 +275,7 @@ joins_one plan walks tasks t old mid other is bears first j l =
       plants = omega (arith, planted, j.plants, l.plants);
       closes = omega (arith, closed, j.closes, l.closes);
       fetches = with_task j.fetches t l.fetches;
-      fetched = have_more plan walks tasks t mid other j.fetches l.fetches first j.fetched l.fetched;
+      fetched = have_more plan walks tasks t mid other j.fetches l.fetches is bears first j.fetched l.fetched;
     }
 
 -- the bounds of a controlled session's set

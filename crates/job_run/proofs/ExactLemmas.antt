@@ -1,23 +1,25 @@
 -- The fetches of a task's pass, those of passes joined one after the other, and the sets that they make.
-use Rattle.std.proofs.Common.{◌≡◌, ◌⊎◌, ℕ, Bool, true, false, ◌&&◌, ◌||◌, if◌then◌else◌, nat_eq, Option, List, [], ◌∷◌, ◌++◌, get_or, take, inl, inr, refl, sym, ◌∙◌, ap, subst, eqb-true, eq-eqb}
-use Rattle.std.proofs.lemmas.Bool.{or_cases, or_left, or_right, and_from, and_parts, both_ways}
+use Rattle.std.proofs.Common.{◌≡◌, ◌⊎◌, ℕ, zero, suc, ◌<◌, ◌≤◌, min, max, Bool, true, false, ◌&&◌, ◌||◌, if◌then◌else◌, nat_eq, Option, List, [], ◌∷◌, ◌++◌, length, get_or, take, All, AllPairs, inl, inr, refl, sym, ◌∙◌, ap, subst, arith, eqb-true, eq-eqb}
+use Rattle.std.proofs.lemmas.Bool.{or_cases, or_left, or_right, and_from, and_parts, both_ways, cases_Bool}
 use Rattle.std.proofs.lemmas.List.Folds.{list_any-append}
 use Rattle.cov_base.specs.Meaning.{FactSet, has_fact, same_fact, fact_of, no_facts, union, Visit}
 use Rattle.cov_base.specs.Facts.{is_of_kind}
 use Rattle.cov_base.specs.declared.facts.Fact.{Fact}
 use Rattle.cov_base.specs.declared.numbers.TaskNo.{TaskNo}
 use Rattle.module_area.specs.declared.cells.Cell.{Cell}
-use Rattle.module_area.specs.Meaning.{PlanView, ControlledView, kind_at, has_place, first_control, FinalsView, set_at}
-use Rattle.module_area.specs.PlanView.{has_task, is_controller}
+use Rattle.module_area.specs.Meaning.{PlanView, ControlledView, ControlView, kind_at, has_place, first_control, FinalsView, set_at}
+use Rattle.module_area.specs.PlanView.{IsPlan, has_task, is_controller}
 use Rattle.module_area.specs.Ended.{HasSets}
-use Rattle.module_area.specs.Notes.{Notes, split_notes, after_join}
+use Rattle.module_area.specs.Notes.{Notes, bearer, keeps, split_notes, after_join}
+use Rattle.module_area.specs.Tied.{IsTied}
 use Rattle.module_area.proofs.FactLemmas.{same_fact-true}
 use Rattle.module_area.proofs.Indices.{same_tests}
-use Rattle.module_area.proofs.PlanLemmas.{any_shown}
-use Rattle.svc_monitor.specs.Answered.{Answered, ArePairs, IsPair}
+use Rattle.module_area.proofs.PlanLemmas.{any_shown, one_controller}
+use Rattle.svc_monitor.specs.Answered.{known_tag, ArePairs, IsPair}
 use Rattle.svc_monitor.specs.Meaning.{at_places, facts_under, is_under}
 use Rattle.svc_monitor.proofs.ObservedLemmas.{has_fact-more, has_fact-none, or_apart}
-use Rattle.task_run.specs.Called.{last_by}
+use Rattle.svc_monitor.proofs.RiseLemmas.{rises_all, rises_between}
+use Rattle.task_run.specs.Called.{last_by, Follows}
 use Rattle.task_run.specs.Meaning.{tag_by, Walk}
 use Rattle.task_run.proofs.SetLemmas.{has_fact-full_of, has_fact-union, is_of_kind-fact_of, same_sets}
 use Rattle.task_run.proofs.TagLemmas.{tag_last}
@@ -50,14 +52,33 @@ are_fetches plan t calls root [] (v ∷ vs) none each = absurd each
 are_fetches plan t calls root (x ∷ xs) [] none each = absurd each
 are_fetches plan t calls root (x ∷ xs) (v ∷ vs) none each = (is_fetch plan t calls root x v none each.0, are_fetches plan t calls root xs vs none each.1)
 
-pub has_fetched : (plan : PlanView) (walks : ℕ → Walk) (t : ℕ) (root n : Notes) → ((p : ℕ) → is_controller plan t p ≡ true → root.last p ≡ 0) →
-    (a : Answered plan (split_notes plan root t) n (last_by plan (split_notes plan root t) (first_control plan t) (walks t).calls) (walks t).trace) → HasFetched plan walks t n a.pairs
-has_fetched plan walks t root n none a = record {
-  are = are_fetches plan t (walks t).calls root a.pairs (at_places plan.places (walks t).trace) none a.each;
-  shown = a.shown;
-  nothing_else = λ s p f m. elim (a.nothing_else s p f m) [ inl before ↦ absurd (never before) | inr there ↦ there ];
+pub has_fetched : (plan : PlanView) (walks : ℕ → Walk) (t : ℕ) (root n : Notes) (d : ControlView) → ((p : ℕ) → is_controller plan t p ≡ true → root.last p ≡ 0) → IsTied plan (split_notes plan root t) (first_control plan t) →
+    (f : Follows plan (split_notes plan root t) n (walks t).trace (walks t).calls (first_control plan t) d) → HasFetched plan walks t n f.answered.pairs
+has_fetched plan walks t root n d none tie f = record {
+  are = are_fetches plan t (walks t).calls root f.answered.pairs (at_places plan.places (walks t).trace) none f.answered.each;
+  rising = rises_all (known_tag plan split) (known_tag plan n) f.answered.pairs (f.rises tie refl);
+  most = λ i x l.
+      let y : ℕ × Cell = get_or f.answered.pairs i x in
+      let high = (rises_between y.0 (known_tag plan split y.0) (known_tag plan n y.0) f.answered.pairs (f.rises tie refl y.0) i x l refl).1 in
+      omega (arith, high, known_seen (keeps plan n y.0) (n.last y.0) (n.seen y.0));
+  last = λ p its.
+      ap (λ (g : ℕ → ℕ). g p) f.last
+      ∙ (tag_last plan p split (first_control plan t) (walks t).calls ∙ ap (λ (tag : ℕ). tag_by plan p (first_control plan t) tag (walks t).calls) (first_tag (is_controller plan t p) (root.last p) its (none p)));
+  shown = f.answered.shown;
+  nothing_else = λ s p g m. elim (f.answered.nothing_else s p g m) [ inl before ↦ absurd (never before) | inr there ↦ there ];
 }
   where
+    split : Notes
+    split = split_notes plan root t
+
+    first_tag : (b : Bool) (k : ℕ) → b ≡ true → (b ≡ true → k ≡ 0) → (if b then k else 0) ≡ 0
+    first_tag true k its none = none refl
+    first_tag false k its none = refl
+
+    known_seen : (b : Bool) (last seen : ℕ) → (if b then min last seen else seen) ≤ seen
+    known_seen true last seen = omega arith
+    known_seen false last seen = omega arith
+
     never : false ≡ true → ⊥
     never e = cc
 
@@ -73,6 +94,9 @@ one_of tasks t u h = elim (or_cases (has_task tasks u) (nat_eq t u || false) (sy
 pub have_none : (plan : PlanView) (walks : ℕ → Walk) (n : Notes) → ((s p : ℕ) (f : Fact) → n.marked s p f ≡ false) → HaveFetched plan walks [] n (λ t. [])
 have_none plan walks n unmarked = record {
   each = λ t never. absurd cc;
+  rising = λ t never. absurd cc;
+  most = λ t never. absurd cc;
+  last = λ t p never. absurd cc;
   shown = λ s p f h. absurd (both_ways (has_fact no_facts f) (has_fact-none f) h);
   nothing_else = λ s p f m. absurd (both_ways (n.marked s p f) (unmarked s p f) m);
 }
@@ -127,10 +151,23 @@ met_more plan walks fetches own s p f tasks t none =
     ∙ (ap (λ (x : FactSet). has_fact x f || has_fact (facts_under plan s p (with_task fetches t own t) (at_places plan.places (walks t).trace)) f) (met_before plan walks fetches own s p t tasks none)
     ∙ ap (λ (xs : List (ℕ × Cell)). has_fact (facts_met plan walks fetches s p tasks) f || has_fact (facts_under plan s p xs (at_places plan.places (walks t).trace)) f) (own_of fetches t own))
 
-pub have_more : (plan : PlanView) (walks : ℕ → Walk) (tasks : List TaskNo) (t : ℕ) (mid other : Notes) (fetches : ℕ → List (ℕ × Cell)) (own : List (ℕ × Cell)) → has_task tasks t ≡ false →
+pub have_more : (plan : PlanView) (walks : ℕ → Walk) (tasks : List TaskNo) (t : ℕ) (mid other : Notes) (fetches : ℕ → List (ℕ × Cell)) (own : List (ℕ × Cell)) → IsPlan plan → bearer other ≡ t → has_task tasks t ≡ false →
     HaveFetched plan walks tasks mid fetches → HasFetched plan walks t other own → HaveFetched plan walks (tasks ++ record { 0 = t } ∷ []) (after_join plan mid other) (with_task fetches t own)
-have_more plan walks tasks t mid other fetches own none h l = record {
-  each = λ u has. by_task u (nat_eq u t) refl has;
+have_more plan walks tasks t mid other fetches own is bears none h l = record {
+  each = λ u has. by_task (λ k xs. AreFetches plan k (walks k).calls xs (visits k)) l.are h.each u (nat_eq u t) refl has;
+  rising = λ u has. by_task (λ k xs. AllPairs (λ (x y : ℕ × Cell). x.0 ≡ y.0 → x.1.tag ≤ y.1.tag) xs) l.rising h.rising u (nat_eq u t) refl has;
+  most = λ u has. by_task (λ k xs. All (λ (x : ℕ × Cell). x.1.tag ≤ max (mid.seen x.0) (other.seen x.0)) xs)
+      (λ i x lt. let high = l.most i x lt in omega (arith, high)) (λ k there i x lt. let high = h.most k there i x lt in omega (arith, high)) u (nat_eq u t) refl has;
+  last = λ u p has its. elim (cases_Bool (is_controller plan (bearer other) p)) [
+    | inl own ↦
+        let own' : is_controller plan t p ≡ true = ap (λ (k : ℕ). is_controller plan k p) (sym bears) ∙ own in
+        let same : u ≡ t = one_controller plan u t p is its own' in
+        rw own (l.last p own' ∙ ap (λ (k : ℕ). tag_by plan p (first_control plan k) 0 (walks k).calls) (sym same))
+    | inr other's ↦ rw other's (elim (one_of tasks t u has) [
+      | inl before ↦ h.last u p before its
+      | inr same ↦ absurd (both_ways (is_controller plan (bearer other) p) other's (ap (λ (k : ℕ). is_controller plan k p) (bears ∙ same) ∙ its))
+    ])
+  ];
   shown = λ s p f there. elim (or_cases (has_fact (facts_met plan walks fetches s p tasks) f) (has_fact (under s p) f) (sym (met_more plan walks fetches own s p f tasks t none) ∙ there)) [
     | inl before ↦ elim (h.shown s p f before) [ inl m ↦ inl (or_left (mid.marked s p f) (other.marked s p f) m) | inr m ↦ inr (or_left (mid.full s p) (other.full s p) m) ]
     | inr now ↦ elim (l.shown s p f now) [ inl m ↦ inl (or_right (mid.marked s p f) (other.marked s p f) m) | inr m ↦ inr (or_right (mid.full s p) (other.full s p) m) ]
@@ -147,10 +184,10 @@ have_more plan walks tasks t mid other fetches own none h l = record {
     under : ℕ → ℕ → FactSet
     under s p = facts_under plan s p own (visits t)
 
-    by_task : (u : ℕ) (q : Bool) → nat_eq u t ≡ q → has_task (tasks ++ record { 0 = t } ∷ []) u ≡ true → AreFetches plan u (walks u).calls (if q then own else fetches u) (visits u)
-    by_task u true e has = subst (λ (k : ℕ). AreFetches plan k (walks k).calls own (visits k)) (sym (eqb-true u t e)) l.are
-    by_task u false e has = elim (one_of tasks t u has) [
-      | inl before ↦ h.each u before
+    by_task : (P : ℕ → List (ℕ × Cell) → Type 0) → P t own → ((u : ℕ) → has_task tasks u ≡ true → P u (fetches u)) → (u : ℕ) (q : Bool) → nat_eq u t ≡ q → has_task (tasks ++ record { 0 = t } ∷ []) u ≡ true → P u (if q then own else fetches u)
+    by_task P now before u true e has = subst (λ (k : ℕ). P k own) (sym (eqb-true u t e)) now
+    by_task P now before u false e has = elim (one_of tasks t u has) [
+      | inl there ↦ before u there
       | inr same ↦ absurd (both_ways (nat_eq u t) e (eq-eqb u t (sym same)))
     ]
 
@@ -176,10 +213,28 @@ kind_met plan walks fetches s p f (t ∷ ts) h =
       | inr later ↦ kind_met plan walks fetches s p f ts later
     ]
 
-pub sets_exact : (plan : PlanView) (walks : ℕ → Walk) (ended : Notes) (finals : FinalsView) (fetches : ℕ → List (ℕ × Cell)) → HaveFetched plan walks plan.tasks ended fetches → HasSets plan ended finals → IsExact plan walks finals
-sets_exact plan walks ended finals fetches h sets = record {
+-- a fetch is at a place of the plan
+fetched_place : (plan : PlanView) (t : ℕ) (calls : List (Option ℕ)) (xs : List (ℕ × Cell)) (vs : List Visit) → AreFetches plan t calls xs vs → (i : ℕ) (d : ℕ × Cell) → i < length xs → (get_or xs i d).0 < length plan.places
+fetched_place plan t calls [] vs are i d l = absurd (omega (arith, l))
+fetched_place plan t calls (x ∷ xs) [] are i d l = absurd are
+fetched_place plan t calls (x ∷ xs) (v ∷ vs) are zero d l = are.0.exists
+fetched_place plan t calls (x ∷ xs) (v ∷ vs) are (suc i) d l = fetched_place plan t calls xs vs are.1 i d (omega (arith, l))
+
+pub sets_exact : (plan : PlanView) (walks : ℕ → Walk) (ended : Notes) (finals : FinalsView) (fetches : ℕ → List (ℕ × Cell)) → IsPlan plan → HaveFetched plan walks plan.tasks ended fetches → HasSets plan ended finals → IsExact plan walks finals
+sets_exact plan walks ended finals fetches is h sets = record {
   fetches = fetches;
-  each = λ i d l. h.each (get_or plan.tasks i d).0 (any_shown (λ (u : TaskNo). nat_eq u.0 (get_or plan.tasks i d).0) plan.tasks d i l (eq-eqb _ _ refl));
+  each = λ i d l. h.each (get_or plan.tasks i d).0 (its i d l);
+  rising = λ i d l. h.rising (get_or plan.tasks i d).0 (its i d l);
+  most = λ i d l j x lx k c lc has.
+      let t : ℕ = (get_or plan.tasks i d).0 in
+      let y : ℕ × Cell = get_or (fetches t) j x in
+      let s : ControlledView = get_or plan.controlled k c in
+      let exists : y.0 < length plan.places = fetched_place plan t (walks t).calls (fetches t) (at_places plan.places (walks t).trace) (h.each t (its i d l)) j x lx in
+      let its_place : is_controller plan s.by y.0 ≡ true = any_shown (λ (u : ControlledView). nat_eq u.by s.by && has_place u.places y.0) plan.controlled c k lc (and_from (nat_eq s.by s.by) (has_place s.places y.0) (eq-eqb _ _ refl) has) in
+      let low = h.most t (its i d l) j x lx in
+      let seen = sets.seen y.0 exists in
+      let last = h.last s.by y.0 (is.controlled k c lc).by_task its_place in
+      omega (arith, low, seen, last);
   sets = λ s p some most l. same_sets (set_at finals s p) (facts_met plan walks fetches s p plan.tasks) (λ f.
       same_tests (has_fact (set_at finals s p) f) (has_fact (facts_met plan walks fetches s p plan.tasks) f)
       (λ has. h.nothing_else s p f (sym (sets.marked s p f some most l) ∙ has))
@@ -188,3 +243,6 @@ sets_exact plan walks ended finals fetches h sets = record {
         | inr full ↦ ap (λ (x : FactSet). has_fact x f) (sets.full s p some most l full) ∙ has_fact-full_of (kind_at plan p) f (kind_met plan walks fetches s p f plan.tasks there)
       ]));
 }
+  where
+    its : (i : ℕ) (d : TaskNo) → i < length plan.tasks → has_task plan.tasks (get_or plan.tasks i d).0 ≡ true
+    its i d l = any_shown (λ (u : TaskNo). nat_eq u.0 (get_or plan.tasks i d).0) plan.tasks d i l (eq-eqb _ _ refl)

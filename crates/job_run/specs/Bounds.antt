@@ -1,16 +1,16 @@
 -- What the passes of a phase's tasks leave of the sessions that the tasks control.
-use Rattle.std.specs.Prelude.{◌≡◌, ℕ, ◌+◌, ◌*◌, ◌<◌, ◌^◌, true, false, List, [], length, get_or}
+use Rattle.std.specs.Prelude.{◌≡◌, ℕ, ◌+◌, ◌*◌, ◌<◌, ◌≤◌, ◌^◌, true, false, List, [], length, get_or, All, AllPairs}
 use Rattle.std.specs.List.{sum_by}
 use Rattle.cov_base.specs.declared.facts.Fact.{Fact}
 use Rattle.cov_base.specs.declared.numbers.TaskNo.{TaskNo}
 use Rattle.cov_base.specs.Meaning.{has_fact}
-use Rattle.module_area.specs.Meaning.{facts_at, PlanView, ControlledView, place_of, has_place, has_session}
+use Rattle.module_area.specs.Meaning.{facts_at, first_control, PlanView, ControlledView, place_of, has_place, has_session}
 use Rattle.module_area.specs.Notes.{Notes, calls}
-use Rattle.module_area.specs.PlanView.{has_task}
+use Rattle.module_area.specs.PlanView.{has_task, is_controller}
 use Rattle.module_area.specs.declared.cells.Cell.{Cell}
 use Rattle.svc_monitor.specs.Meaning.{at_places, facts_under}
 use Rattle.svc_monitor.specs.Observed.{IsShown}
-use Rattle.task_run.specs.Meaning.{places_in_all, Walk, least_set, last_control, opened_by, closed_by}
+use Rattle.task_run.specs.Meaning.{tag_by, places_in_all, Walk, least_set, last_control, opened_by, closed_by}
 use Rattle.job_run.specs.Meaning.{AreFetches, facts_met}
 
 abbrev pub no_controlled : ControlledView
@@ -33,10 +33,15 @@ pub record IsOf (plan : PlanView) (walks : ℕ → Walk) (t s p : ℕ) (f : Fact
 abbrev pub NeverOpens : PlanView → (ℕ → Walk) → ℕ → ℕ → Type 0
 NeverOpens plan walks t s = has_session (opened_by (last_control plan walks t)) s ≡ false
 
--- The pass of a task has these fetches, one for each visit of its run at a place. It has the facts of the visits whose fetch
--- answered a session's odd tag, or met the session's set full, and has marked no others.
+-- The pass of a task has these fetches, one for each visit of its run at a place, whose tags never fall at a place, up to the
+-- highest that it has seen there. It has the facts of the visits whose fetch answered a session's odd tag, or met the
+-- session's set full, and has marked no others.
 pub record HasFetched (plan : PlanView) (walks : ℕ → Walk) (t : ℕ) (n : Notes) (fetches : List (ℕ × Cell)) : Type 0 where
   pub are : AreFetches plan t (walks t).calls fetches (at_places plan.places (walks t).trace)
+  pub rising : AllPairs (λ x y. x.0 ≡ y.0 → x.1.tag ≤ y.1.tag) fetches
+  pub most : All (λ x. x.1.tag ≤ n.seen x.0) fetches
+  -- where the task controls a session the last tag is the one that its calls have given last
+  pub last : (p : ℕ) → is_controller plan t p ≡ true → n.last p ≡ tag_by plan p (first_control plan t) 0 (walks t).calls
   pub shown : (s p : ℕ) (f : Fact) → has_fact (facts_under plan s p fetches (at_places plan.places (walks t).trace)) f ≡ true → IsShown n s p f
   pub nothing_else : (s p : ℕ) (f : Fact) → n.marked s p f ≡ true → has_fact (facts_under plan s p fetches (at_places plan.places (walks t).trace)) f ≡ true
 
@@ -63,6 +68,9 @@ pub record IsOfOne (plan : PlanView) (walks : ℕ → Walk) (tasks : List TaskNo
 -- the root has the fetches of these tasks' passes
 pub record HaveFetched (plan : PlanView) (walks : ℕ → Walk) (tasks : List TaskNo) (n : Notes) (fetches : ℕ → List (ℕ × Cell)) : Type 0 where
   pub each : (t : ℕ) → has_task tasks t ≡ true → AreFetches plan t (walks t).calls (fetches t) (at_places plan.places (walks t).trace)
+  pub rising : (t : ℕ) → has_task tasks t ≡ true → AllPairs (λ x y. x.0 ≡ y.0 → x.1.tag ≤ y.1.tag) (fetches t)
+  pub most : (t : ℕ) → has_task tasks t ≡ true → All (λ x. x.1.tag ≤ n.seen x.0) (fetches t)
+  pub last : (t p : ℕ) → has_task tasks t ≡ true → is_controller plan t p ≡ true → n.last p ≡ tag_by plan p (first_control plan t) 0 (walks t).calls
   pub shown : (s p : ℕ) (f : Fact) → has_fact (facts_met plan walks fetches s p tasks) f ≡ true → IsShown n s p f
   pub nothing_else : (s p : ℕ) (f : Fact) → n.marked s p f ≡ true → has_fact (facts_met plan walks fetches s p tasks) f ≡ true
 

@@ -1,5 +1,5 @@
 -- What the claim of the program says by this crate's clauses.
-use Rattle.std.specs.Prelude.{◌≡◌, ◌≢◌, ℕ, ◌+◌, ◌*◌, ◌<◌, ◌≤◌, true, not, nat_eq, Option, List, [], length, take, sum_by, count_by, All, Some, ◌∷◌, ◌++◌, get_or}
+use Rattle.std.specs.Prelude.{◌≡◌, ◌≢◌, ℕ, ◌+◌, ◌*◌, ◌<◌, ◌≤◌, true, not, nat_eq, Option, List, [], length, take, sum_by, count_by, All, AllPairs, Some, ◌∷◌, ◌++◌, get_or}
 use Rattle.cov_base.specs.declared.facts.Fact.{Fact}
 use Rattle.cov_base.specs.declared.numbers.TaskNo.{TaskNo}
 use Rattle.cov_base.specs.Meaning.{has_fact, is_within, no_facts, union, Visit, FactSet}
@@ -39,10 +39,13 @@ facts_met plan walks fetches s p [] = no_facts
 facts_met plan walks fetches s p (t ∷ ts) = union (facts_under plan s p (fetches t.0) (at_places plan.places (walks t.0).trace)) (facts_met plan walks fetches s p ts)
 
 -- Each task has fetched once for each of its visits at places, and each set has exactly the facts of the visits whose fetch
--- answered the session's odd tag: so no visit counts in two sessions.
+-- answered the session's odd tag: so no visit counts in two sessions. The tags that one task's fetches answer at one place
+-- never fall, and none is above the last that the place's controller has given it.
 pub record IsExact (plan : PlanView) (walks : ℕ → Walk) (f : FinalsView) : Type 0 where
   pub fetches : ℕ → List (ℕ × Cell)
   pub each : All (λ t. AreFetches plan t.0 (walks t.0).calls (fetches t.0) (at_places plan.places (walks t.0).trace)) plan.tasks
+  pub rising : All (λ t. AllPairs (λ x y. x.0 ≡ y.0 → x.1.tag ≤ y.1.tag) (fetches t.0)) plan.tasks
+  pub most : All (λ t. All (λ x. All (λ c. has_place c.places x.0 ≡ true → x.1.tag ≤ tag_by plan x.0 (first_control plan c.by) 0 (walks c.by).calls) plan.controlled) (fetches t.0)) plan.tasks
   pub sets : (s p : ℕ) → 0 < s → s ≤ plan.sessions → p < length plan.places → set_at f s p ≡ facts_met plan walks fetches s p plan.tasks
 
 -- The sets of whole sessions are what the trace shows, and those of controlled sessions lie between their bounds; all are

@@ -15,6 +15,8 @@ pub record HasSets (plan : PlanView) (notes : Notes) (finals : FinalsView) : Typ
   pub marked : (s p : ℕ) (f : Fact) → 0 < s → s ≤ plan.sessions → p < length plan.places → has_fact (set_at finals s p) f ≡ notes.marked s p f
   pub within : (s p : ℕ) → 0 < s → s ≤ plan.sessions → p < length plan.places → is_within (kind_at plan p) (set_at finals s p) ≡ true
   pub full : (s p : ℕ) → 0 < s → s ≤ plan.sessions → p < length plan.places → notes.full s p ≡ true → set_at finals s p ≡ full_of (kind_at plan p)
+  -- no tag was seen above the last one
+  pub seen : (p : ℕ) → p < length plan.places → notes.seen p ≤ notes.last p
   -- no fact where the session isn't over the place, or by the last tag was never planted there
   pub over : (s p : ℕ) (f : Fact) → 0 < s → s ≤ plan.sessions → p < length plan.places → has_fact (set_at finals s p) f ≡ true → is_over plan s p ≡ true
   pub planted : (s p : ℕ) (f : Fact) → 0 < s → s ≤ plan.sessions → p < length plan.places → has_fact (set_at finals s p) f ≡ true → 2 * s ≤ notes.last p + 1

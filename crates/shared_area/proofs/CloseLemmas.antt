@@ -14,7 +14,7 @@ use Rattle.module_area.specs.declared.parties.View.{View}
 use Rattle.module_area.specs.declared.parties.Role.TheVariants.{Root}
 use Rattle.module_area.specs.declared.tallies.Tally.{Tally}
 use Rattle.module_area.specs.Meaning.{PlanView, kind_at, window_at, FinalsView, set_at}
-use Rattle.module_area.specs.Parties.{Has}
+use Rattle.module_area.specs.Parties.{Has, last_tag}
 use Rattle.module_area.specs.Held.{Held}
 use Rattle.module_area.specs.Drained.{Drained}
 use Rattle.module_area.specs.Ended.{AreSettled, HasSets, HasTally}
@@ -25,11 +25,11 @@ use Rattle.shared_area.specs.Words.{facts_of, set_word, base_of, front, cells_in
 use Rattle.shared_area.specs.Begin.{AreSets}
 use Rattle.shared_area.specs.Told.{has_mark, has_number, notes_in}
 use Rattle.shared_area.specs.Rule.{IsArea}
-use Rattle.shared_area.proofs.NoteLemmas.{settled_there, mark_there, mark_shown, pair_there, pair_shown, number_there, number_shown}
+use Rattle.shared_area.proofs.NoteLemmas.{seen_most, settled_there, mark_there, mark_shown, pair_there, pair_shown, number_there, number_shown}
 use Rattle.shared_area.proofs.WordLemmas.{set_front}
 use Rattle.shared_area.proofs.AnswerLemmas.{set_within, founds}
 use Rattle.shared_area.proofs.SumLemmas.{facts_by_marks, pairs_same}
-use Rattle.shared_area.proofs.EndLemmas.{end_marks, end_over, end_planted, lifts_least, lifts_most}
+use Rattle.shared_area.proofs.EndLemmas.{end_tag, end_marks, end_over, end_planted, lifts_least, lifts_most}
 
 no_more_out : (g j : Bool) → (g && not j) ≡ false → g ≡ true → j ≡ true
 no_more_out true true h e = refl
@@ -91,6 +91,7 @@ module _ (plan : PlanView) (id : ℕ) (v : View) (tally : Tally) (words : List �
       marked = marked_exactly;
       within = λ t p pos lt l. subst (λ x. is_within (kind_at plan p) x ≡ true) (sym (set_of t p pos lt l)) (set_within plan (cells_in words) (sets_in plan words) views r id v at t p l pos);
       full = λ t p pos lt l h. set_of t p pos lt l ∙ (founds plan (cells_in words) (sets_in plan words) views r id v at t p l pos).full h;
+      seen = λ p l. seen_most p (last_tag p v.planted) v.seen (λ t h. let low = ((r.kept id v at).seen p t h).1 in let tag = end_tag plan (cells_in words) (sets_in plan words) views r id v at root all p l in omega (arith, low, tag));
       over = λ t p f pos lt l h. end_over plan (cells_in words) (sets_in plan words) views r id v at root all t p f l pos (subst (λ x. has_fact x f ≡ true) (set_of t p pos lt l) h);
       planted = λ t p f pos lt l h. end_planted plan (cells_in words) (sets_in plan words) views r id v at root all t p f l pos (subst (λ x. has_fact x f ≡ true) (set_of t p pos lt l) h);
     }

@@ -14,8 +14,9 @@ use Rattle.brk_table.proofs.PlaceLemmas.{is_place-there}
 use Rattle.observed_step.specs.Sights.{BeginsAt}
 use Rattle.svc_monitor.specs.Settled.{Settles}
 use Rattle.svc_monitor.specs.Observed.{Grows}
-use Rattle.svc_monitor.specs.Answered.{ArePairs, LeavesSessions, Answered, Makes}
+use Rattle.svc_monitor.specs.Answered.{known_tag, ArePairs, LeavesSessions, Answered, Makes}
 use Rattle.svc_monitor.specs.Meaning.{at_places, is_under, facts_under}
+use Rattle.svc_monitor.proofs.RiseLemmas.{rises_append, rises_fetched}
 use Rattle.svc_monitor.proofs.NotesLemmas.{Adds, Adds-settled, seen_fetched, all_three, three_from}
 use Rattle.svc_monitor.proofs.ObservedLemmas.{has_fact-more, has_fact-none, or_apart, same_fact-self, shown_later, Observes-none, Observes-plain, Observes-kept, Observes-settled, Observes-append}
 
@@ -53,7 +54,7 @@ one_more : (l m n : List Visit) (b : Bool) (v : Visit) → l ≡ m ++ n → (if 
 one_more l m n true v e = ap (λ (k : List Visit). v ∷ k) e
 one_more l m n false v e = e
 
-at_places-append : (places : List Place) (vs ws : List Visit) → at_places places (vs ++ ws) ≡ at_places places vs ++ at_places places ws
+pub at_places-append : (places : List Place) (vs ws : List Visit) → at_places places (vs ++ ws) ≡ at_places places vs ++ at_places places ws
 at_places-append places [] ws = refl
 at_places-append places (v ∷ vs) ws = one_more (at_places places (vs ++ ws)) (at_places places vs) (at_places places ws) (is_place places v.at) v (at_places-append places vs ws)
 
@@ -63,14 +64,14 @@ only_there plan v q b = rw (is_place-there plan.places q v.at b.exists b.begins)
 none_there : (plan : PlanView) (v : Visit) → is_place plan.places v.at ≡ false → at_places plan.places (v ∷ []) ≡ []
 none_there plan v none = rw none refl
 
-ArePairs-append : (plan : PlanView) (old : Notes) (last : ℕ → ℕ → ℕ) (xs ys : List (ℕ × Cell)) (vs ws : List Visit) → ArePairs plan old last xs vs → ArePairs plan old last ys ws → ArePairs plan old last (xs ++ ys) (vs ++ ws)
+pub ArePairs-append : (plan : PlanView) (old : Notes) (last : ℕ → ℕ → ℕ) (xs ys : List (ℕ × Cell)) (vs ws : List Visit) → ArePairs plan old last xs vs → ArePairs plan old last ys ws → ArePairs plan old last (xs ++ ys) (vs ++ ws)
 ArePairs-append plan old last [] ys [] ws a b = b
 ArePairs-append plan old last [] ys (v ∷ vs) ws a b = absurd a
 ArePairs-append plan old last (x ∷ xs) ys [] ws a b = absurd a
 ArePairs-append plan old last (x ∷ xs) ys (v ∷ vs) ws a b = (a.0, ArePairs-append plan old last xs ys vs ws a.1 b)
 
 -- by notes that keep the same, and tags that are the same at these visits
-ArePairs-same : (plan : PlanView) (old mid : Notes) (last next : ℕ → ℕ → ℕ) (xs : List (ℕ × Cell)) (vs : List Visit) → ((v : Visit) → Has v vs → (p : ℕ) → next v.before p ≡ last v.before p) →
+pub ArePairs-same : (plan : PlanView) (old mid : Notes) (last next : ℕ → ℕ → ℕ) (xs : List (ℕ × Cell)) (vs : List Visit) → ((v : Visit) → Has v vs → (p : ℕ) → next v.before p ≡ last v.before p) →
     mid.bears ≡ old.bears → mid.out ≡ old.out → ArePairs plan mid next xs vs → ArePairs plan old last xs vs
 ArePairs-same plan old mid last next [] [] l b o a = tt
 ArePairs-same plan old mid last next [] (v ∷ vs) l b o a = absurd a
@@ -84,7 +85,7 @@ ArePairs-same plan old mid last next (x ∷ xs) (v ∷ vs) l b o a = (
   ArePairs-same plan old mid last next xs vs (λ w there. l w (inr there)) b o a.1,
 )
 
-facts_under-append : (plan : PlanView) (old : Notes) (last : ℕ → ℕ → ℕ) (s p : ℕ) (f : Fact) (xs ys : List (ℕ × Cell)) (vs ws : List Visit) → ArePairs plan old last xs vs →
+pub facts_under-append : (plan : PlanView) (old : Notes) (last : ℕ → ℕ → ℕ) (s p : ℕ) (f : Fact) (xs ys : List (ℕ × Cell)) (vs ws : List Visit) → ArePairs plan old last xs vs →
     has_fact (facts_under plan s p (xs ++ ys) (vs ++ ws)) f ≡ (has_fact (facts_under plan s p xs vs) f || has_fact (facts_under plan s p ys ws) f)
 facts_under-append plan old last s p f [] ys [] ws a = ap (λ b. b || has_fact (facts_under plan s p ys ws) f) (sym (has_fact-none f))
 facts_under-append plan old last s p f [] ys (v ∷ vs) ws a = absurd a
@@ -136,6 +137,7 @@ Makes-plain plan n v none = record {
     shown = λ s p f h. absurd (both_ways (has_fact no_facts f) (has_fact-none f) h);
     nothing_else = λ s p f m. inl m;
   };
+  rises = λ p. omega arith;
   still = LeavesSessions-same n;
 }
 
@@ -155,6 +157,7 @@ Makes-kept plan old q cell v b a free = record {
         inr (or_right (old.full s p) (nat_eq p q && is_free_under plan q cell s) (and_from (nat_eq p q) (is_free_under plan q cell s) (eq-eqb p q (sym u.place)) under));
     nothing_else = λ s p f m. inl m;
   };
+  rises = rises_fetched plan old (after_fetch plan old q cell) q cell a refl refl refl (λ p. refl);
   still = LeavesSessions-fetched plan old q cell a.later;
 }
 
@@ -195,6 +198,7 @@ Makes-settled plan old new q cell v b met a begun h =
               inr (subst (λ vs. has_fact (facts_under plan t p ((q, cell) ∷ []) vs) f ≡ true) (sym at) (subst (λ x. has_fact (facts_under plan t p ((q, cell) ∷ []) (v ∷ [])) x ≡ true) (sym same) there))
         ];
       };
+      rises = rises_fetched plan old new q cell a adds.grows.bears adds.grows.out adds.last adds.seen;
       still = LeavesSessions-trans old mid new (LeavesSessions-fetched plan old q cell a.later) (LeavesSessions-added mid new s q g adds);
     }
 
@@ -203,11 +207,11 @@ has_if : (b : Bool) (w v : Visit) (xs ws : List Visit) → (Has v xs → Has v w
 has_if true w v xs ws rest h = elim h [ inl e ↦ inl e | inr later ↦ inr (rest later) ]
 has_if false w v xs ws rest h = inr (rest h)
 
-at_has : (places : List Place) (vs : List Visit) (v : Visit) → Has v (at_places places vs) → Has v vs
+pub at_has : (places : List Place) (vs : List Visit) (v : Visit) → Has v (at_places places vs) → Has v vs
 at_has places [] v h = absurd h
 at_has places (w ∷ ws) v h = has_if (is_place places w.at) w v (at_places places ws) ws (at_has places ws v) h
 
-pub Answered-none : (plan : PlanView) (n : Notes) (last : ℕ → ℕ → ℕ) → Answered plan n n last []
+unfoldable pub Answered-none : (plan : PlanView) (n : Notes) (last : ℕ → ℕ → ℕ) → Answered plan n n last []
 Answered-none plan n last = record {
   pairs = [];
   appended = sym (append-nil n.answered);
@@ -217,7 +221,7 @@ Answered-none plan n last = record {
 }
 
 -- by tags that are the same at the visits
-pub Answered-tags : (plan : PlanView) (a b : Notes) (last next : ℕ → ℕ → ℕ) (xs : List Visit) → ((v : Visit) → Has v xs → (p : ℕ) → next v.before p ≡ last v.before p) →
+unfoldable pub Answered-tags : (plan : PlanView) (a b : Notes) (last next : ℕ → ℕ → ℕ) (xs : List Visit) → ((v : Visit) → Has v xs → (p : ℕ) → next v.before p ≡ last v.before p) →
     Answered plan a b next xs → Answered plan a b last xs
 Answered-tags plan a b last next xs same r = record {
   pairs = r.pairs;
@@ -228,7 +232,7 @@ Answered-tags plan a b last next xs same r = record {
 }
 
 -- visits one after the other
-pub Answered-append : (plan : PlanView) (a b c : Notes) (last next : ℕ → ℕ → ℕ) (xs ys : List Visit) → Answered plan a b last xs → Answered plan b c next ys → Grows b c → b.bears ≡ a.bears → b.out ≡ a.out →
+unfoldable pub Answered-append : (plan : PlanView) (a b c : Notes) (last next : ℕ → ℕ → ℕ) (xs ys : List Visit) → Answered plan a b last xs → Answered plan b c next ys → Grows b c → b.bears ≡ a.bears → b.out ≡ a.out →
     ((v : Visit) → Has v ys → (p : ℕ) → next v.before p ≡ last v.before p) → Answered plan a c last (xs ++ ys)
 Answered-append plan a b c last next xs ys first more grows bears out same =
     let vs : List Visit = at_places plan.places xs in
@@ -256,12 +260,15 @@ Answered-append plan a b c last next xs ys first more grows bears out same =
     }
 
 pub Makes-none : (plan : PlanView) (n : Notes) → Makes plan n n []
-Makes-none plan n = record { observes = Observes-none plan n; answered = Answered-none plan n (λ before. n.last); still = LeavesSessions-same n }
+unfolding Answered-none
+Makes-none plan n = record { observes = Observes-none plan n; answered = Answered-none plan n (λ before. n.last); rises = λ p. omega arith; still = LeavesSessions-same n }
 
 pub Makes-append : (plan : PlanView) (a b c : Notes) (xs ys : List Visit) → Makes plan a b xs → Makes plan b c ys → Makes plan a c (xs ++ ys)
+unfolding Answered-append
 Makes-append plan a b c xs ys r h = record {
   observes = Observes-append plan a b c xs ys r.observes h.observes;
   answered = Answered-append plan a b c (λ before. a.last) (λ before. b.last) xs ys r.answered h.answered h.observes.grows r.observes.grows.bears r.observes.grows.out
       (λ v there p. ap (λ (g : ℕ → ℕ). g p) r.still.last);
+  rises = λ p. rises_append p (known_tag plan a p) (known_tag plan b p) (known_tag plan c p) r.answered.pairs h.answered.pairs (r.rises p) (h.rises p);
   still = LeavesSessions-trans a b c r.still h.still;
 }

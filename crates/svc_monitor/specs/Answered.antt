@@ -1,5 +1,5 @@
 -- What the fetches of a pass answered, visit by visit.
-use Rattle.std.specs.Prelude.{◌≡◌, ◌≢◌, ◌⊎◌, ℕ, ◌≤◌, true, Option, List, [], ◌∷◌, ◌++◌}
+use Rattle.std.specs.Prelude.{◌≡◌, ◌≢◌, ◌⊎◌, ℕ, ◌≤◌, true, if◌then◌else◌, min, Option, List, [], ◌∷◌, ◌++◌}
 use Rattle.cov_base.specs.Meaning.{has_fact, Visit}
 use Rattle.cov_base.specs.declared.facts.Fact.{Fact}
 use Rattle.module_area.specs.declared.cells.Cell.{Cell}
@@ -24,6 +24,15 @@ ArePairs plan old last [] (v ∷ vs) = ⊥
 ArePairs plan old last (x ∷ xs) [] = ⊥
 ArePairs plan old last (x ∷ xs) (v ∷ vs) = IsPair plan old last x v × ArePairs plan old last xs vs
 
+-- the tags of the pairs at place p never fall, from the first number up to the last
+abbrev pub RisesAt : ℕ → ℕ → List (ℕ × Cell) → ℕ → Type 0
+RisesAt p low [] high = low ≤ high
+RisesAt p low (x ∷ xs) high = (mid : ℕ) × (low ≤ mid) × (x.0 ≡ p → (low ≤ x.1.tag) × (x.1.tag ≤ mid)) × RisesAt p mid xs high
+
+-- the highest tag that a pass knows of the place, where it keeps that no higher than the one that it gave it last
+abbrev pub known_tag : PlanView → Notes → ℕ → ℕ
+known_tag plan n p = if keeps plan n p then min (n.last p) (n.seen p) else n.seen p
+
 -- The pass has a pair for each visit at a place. What the visits show under the odd tag of a session it marked for that
 -- session, or met the set full; and it marked nothing else.
 pub record Answered (plan : PlanView) (old new : Notes) (last : ℕ → ℕ → ℕ) (visits : List Visit) : Type 0 where
@@ -47,6 +56,7 @@ pub record LeavesSessions (old new : Notes) : Type 0 where
 pub record Makes (plan : PlanView) (old new : Notes) (visits : List Visit) : Type 0 where
   pub observes : Observes plan old new visits
   pub answered : Answered plan old new (λ before. old.last) visits
+  pub rises : (p : ℕ) → RisesAt p (known_tag plan old p) answered.pairs (known_tag plan new p)
   pub still : LeavesSessions old new
 
 -- It has made the visits of an instruction, and behind all of them has changed its task's sessions as the call that the

@@ -11,7 +11,7 @@ use Rattle.module_area.specs.Tied.{IsTied}
 use Rattle.module_area.proofs.PlanLemmas.{any_at}
 use Rattle.module_area.proofs.TiedLemmas.{tied_same}
 use Rattle.planter.proofs.TieLemmas.{next_later}
-use Rattle.svc_monitor.specs.Answered.{Turns}
+use Rattle.svc_monitor.specs.Answered.{RisesAt, known_tag, Turns}
 use Rattle.task_run.specs.Aside.{IsAside}
 use Rattle.task_run.specs.Called.{Follows}
 use Rattle.task_run.proofs.FollowsLemmas.{Changes, Observes-changed, Answered-changed}
@@ -141,9 +141,11 @@ pub tied_aside : (plan : PlanView) (old new : Notes) (c : ControlView) → IsAsi
 tied_aside plan old new c a tie = tied_same plan old new c (ap (λ (n : Notes). n.last) a.same) (ap (λ (n : Notes). n.bears) a.same) (ap (λ (n : Notes). n.out) a.same) tie
 
 pub Follows-aside : (plan : PlanView) (old mid new : Notes) (trace : List Visit) (called : List (Option ℕ)) (c d : ControlView) → IsAside mid new → Follows plan old mid trace called c d → Follows plan old new trace called c d
+unfolding Answered-changed
 Follows-aside plan old mid new trace called c d a f = let ch = aside_changed plan mid new a in record {
   observes = Observes-changed plan old mid new trace f.observes ch;
   answered = Answered-changed plan old mid new _ trace f.answered ch;
+  rises = λ tie none p. subst (RisesAt p (known_tag plan old p) f.answered.pairs) (sym (ap (λ (n : Notes). known_tag plan n p) a.same)) (f.rises tie none p);
   control = f.control;
   last = ap (λ (n : Notes). n.last) a.same ∙ f.last;
   plants = ap (λ (n : Notes). n.tally.plants) a.same ∙ f.plants;

@@ -1,5 +1,5 @@
 -- One instruction more of what a pass follows.
-use Rattle.std.proofs.Common.{◌≡◌, ℕ, suc, ◌+◌, ◌-◌, ◌*◌, ◌<◌, Bool, true, false, if◌then◌else◌, ◌==◌, nat_eq, Option, Some, None, List, [], ◌∷◌, ◌++◌, length, get_or, All, inl, inr, refl, sym, ◌∙◌, ap, subst, arith, ne_eqb}
+use Rattle.std.proofs.Common.{◌≡◌, ℕ, suc, ◌+◌, ◌-◌, ◌*◌, ◌<◌, ◌≤◌, Bool, true, false, if◌then◌else◌, ◌==◌, nat_eq, Option, Some, None, List, [], ◌∷◌, ◌++◌, length, get_or, All, inl, inr, refl, sym, ◌∙◌, ap, subst, arith, ne_eqb}
 use Rattle.std.proofs.lemmas.Bool.{cond_both}
 use Rattle.std.proofs.lemmas.List.{take_all, take-append-le}
 use Rattle.std.proofs.lemmas.List.Folds.{list_any_none}
@@ -12,12 +12,17 @@ use Rattle.module_area.specs.Meaning.{PlanView, ControlledView, has_place, windo
 use Rattle.module_area.specs.PlanView.{IsPlan, IsControlled}
 use Rattle.module_area.specs.Notes.{Notes}
 use Rattle.module_area.specs.Control.{after_open, after_end, after_call}
+use Rattle.module_area.specs.Tied.{IsTied}
+use Rattle.module_area.proofs.TiedLemmas.{tied_same}
 use Rattle.svc_monitor.specs.Observed.{Observes, IsShown}
-use Rattle.svc_monitor.specs.Answered.{Answered, Turns}
+use Rattle.svc_monitor.specs.Answered.{known_tag, Answered, Turns}
 use Rattle.svc_monitor.proofs.ObservedLemmas.{Observes-none, Observes-append}
 use Rattle.svc_monitor.proofs.AnsweredLemmas.{Answered-none, Answered-append, Answered-tags}
 use Rattle.task_run.specs.Meaning.{control_by}
+use Rattle.svc_monitor.proofs.RiseLemmas.{rises_append, rises_high}
 use Rattle.task_run.specs.Called.{notes_by, last_by, Follows}
+use Rattle.task_run.proofs.RiseLemmas.{call_rises}
+use Rattle.task_run.proofs.WindowLemmas.{tied_by}
 
 -- places of controlled sessions have no window
 
@@ -89,7 +94,7 @@ call_changed plan n c (Some k) is =
 
 -- what was known before it is known behind it
 
-shown_changed : (plan : PlanView) (b c : Notes) (s p : ℕ) (f : Fact) → Changes plan b c → IsShown b s p f → IsShown c s p f
+pub shown_changed : (plan : PlanView) (b c : Notes) (s p : ℕ) (f : Fact) → Changes plan b c → IsShown b s p f → IsShown c s p f
 shown_changed plan b c s p f ch shown = elim shown [
   | inl m ↦ inl (ap (λ (g : ℕ → ℕ → Fact → Bool). g s p f) ch.marked ∙ m)
   | inr m ↦ inr (ap (λ (g : ℕ → ℕ → Bool). g s p) ch.full ∙ m)
@@ -118,7 +123,7 @@ Observes-changed plan a b c visits o ch = record {
   lifts = omega (arith, ch.lifts, o.lifts);
 }
 
-pub Answered-changed : (plan : PlanView) (a b c : Notes) (last : ℕ → ℕ → ℕ) (visits : List Visit) → Answered plan a b last visits → Changes plan b c → Answered plan a c last visits
+unfoldable pub Answered-changed : (plan : PlanView) (a b c : Notes) (last : ℕ → ℕ → ℕ) (visits : List Visit) → Answered plan a b last visits → Changes plan b c → Answered plan a c last visits
 Answered-changed plan a b c last visits x ch = record {
   pairs = x.pairs;
   appended = ch.answered ∙ x.appended;
@@ -168,13 +173,39 @@ call_alike plan x y c (Some k) a = by_test (k == 4) (k == 5)
     by_test false true = end_alike plan x y c.opened a
     by_test false false = a
 
+whose_opens : (plan : PlanView) (n : Notes) (o : Option SessNo) → ((after_open plan n o).bears ≡ n.bears) × ((after_open plan n o).out ≡ n.out)
+whose_opens plan n None = (refl, refl)
+whose_opens plan n (Some s) = (refl, refl)
+
+whose_ends : (plan : PlanView) (n : Notes) (o : Option SessNo) → ((after_end plan n o).bears ≡ n.bears) × ((after_end plan n o).out ≡ n.out)
+whose_ends plan n None = (refl, refl)
+whose_ends plan n (Some s) = (refl, refl)
+
+whose : (plan : PlanView) (n : Notes) (c : ControlView) (call : Option ℕ) → ((after_call plan n c call).bears ≡ n.bears) × ((after_call plan n c call).out ≡ n.out)
+whose plan n c None = (refl, refl)
+whose plan n c (Some k) =
+    cond_both (k == 4) (after_open plan n (to_open c)) (if k == 5 then after_end plan n c.opened else n) (λ (m : Notes). (m.bears ≡ n.bears) × (m.out ≡ n.out))
+    (λ e. whose_opens plan n (to_open c))
+    (λ e. cond_both (k == 5) (after_end plan n c.opened) n (λ (m : Notes). (m.bears ≡ n.bears) × (m.out ≡ n.out)) (λ f. whose_ends plan n c.opened) (λ f. (refl, refl)))
+
+-- no call changes for which task the pass is
+by_bears : (plan : PlanView) (n : Notes) (c : ControlView) (calls : List (Option ℕ)) → (notes_by plan n c calls).bears ≡ n.bears
+by_bears plan n c [] = refl
+by_bears plan n c (k ∷ ks) = by_bears plan (after_call plan n c k) (control_after c k) ks ∙ (whose plan n c k).0
+
+by_out : (plan : PlanView) (n : Notes) (c : ControlView) (calls : List (Option ℕ)) → (notes_by plan n c calls).out ≡ n.out
+by_out plan n c [] = refl
+by_out plan n c (k ∷ ks) = by_out plan (after_call plan n c k) (control_after c k) ks ∙ (whose plan n c k).1
+
 pub Follows-none : (plan : PlanView) (n : Notes) (c : ControlView) → Follows plan n n [] [] c c
-Follows-none plan n c = record { observes = Observes-none plan n; answered = Answered-none plan n _; control = refl; last = refl; plants = refl; closes = refl }
+unfolding Answered-none
+Follows-none plan n c = record { observes = Observes-none plan n; answered = Answered-none plan n _; rises = λ tie none p. omega arith; control = refl; last = refl; plants = refl; closes = refl }
 
 -- the pass makes the visits of one instruction more, and what its call asks for
 pub Follows-more : (plan : PlanView) (old mid new : Notes) (trace visits : List Visit) (calls : List (Option ℕ)) (k : Option ℕ) (c d e : ControlView) → IsPlan plan →
     ((v : Visit) → Has v trace → v.before < length calls) → ((v : Visit) → Has v visits → v.before ≡ length calls) →
     Follows plan old mid trace calls c d → Turns plan mid new visits d k → e ≡ control_after d k → Follows plan old new (trace ++ visits) (calls ++ k ∷ []) c e
+unfolding Answered-append Answered-tags Answered-changed
 Follows-more plan old mid new trace visits calls k c d e is before here f t next =
     let ch : Changes plan t.mid new = subst (Changes plan t.mid) (sym t.notes) (call_changed plan t.mid d k is) in
     let alone : Notes = notes_by plan old c calls in
@@ -192,6 +223,13 @@ Follows-more plan old mid new trace visits calls k c d e is before here f t next
           t.makes.answered t.makes.observes.grows f.observes.grows.bears f.observes.grows.out
           (λ v there p. ap (λ (g : ℕ → ℕ). g p) f.last ∙ ap (λ (ks : List (Option ℕ)). (notes_by plan old c ks).last p)
           (sym (take-append-le v.before calls (k ∷ []) (let b = here v there in omega arith) ∙ take_all v.before calls (let b = here v there in omega arith))))) ch;
+      rises = λ tie none p.
+          let stays : IsTied plan t.mid d =
+          tied_same plan alone t.mid d alike.last (t.makes.observes.grows.bears ∙ (f.observes.grows.bears ∙ sym (by_bears plan old c calls))) (t.makes.observes.grows.out ∙ (f.observes.grows.out ∙ sym (by_out plan old c calls)))
+          (subst (IsTied plan alone) (sym f.control) (tied_by plan old c calls is tie none)) in
+          let visited = rises_append p (known_tag plan old p) (known_tag plan mid p) (known_tag plan t.mid p) f.answered.pairs t.makes.answered.pairs (f.rises tie none p) (t.makes.rises p) in
+          rises_high p (known_tag plan old p) (known_tag plan t.mid p) (known_tag plan new p) (f.answered.pairs ++ t.makes.answered.pairs) visited
+          (subst (λ (n : Notes). known_tag plan t.mid p ≤ known_tag plan n p) (sym t.notes) (call_rises plan is t.mid d stays p k));
       control = next ∙ (ap (λ (x : ControlView). control_after x k) f.control ∙ sym (control_more c calls k));
       last = same.last;
       plants = same.plants;

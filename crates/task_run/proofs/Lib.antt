@@ -3,6 +3,7 @@ pub mod CloseLemmas
 pub mod FollowsLemmas
 pub mod GoneLemmas
 pub mod RanLemmas
+pub mod RiseLemmas
 pub mod RunLemmas
 pub mod SetLemmas
 pub mod TagLemmas

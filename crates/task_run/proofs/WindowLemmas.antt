@@ -153,6 +153,10 @@ windows_follow : (plan : PlanView) (n : Notes) (c : ControlView) (calls : List (
 windows_follow plan n c calls s p is start own there =
     window_there plan (notes_by plan n c calls) (control_by c calls) s p (bound_by plan n c calls is start) (ap (λ (ss : List SessNo). has_session ss s.0) (sessions_stay c calls) ∙ own) there
 
+-- a tie to a control that has opened nothing stays through the calls
+pub tied_by : (plan : PlanView) (n : Notes) (c : ControlView) (calls : List (Option ℕ)) → IsPlan plan → IsTied plan n c → c.next ≡ 0 → IsTied plan (notes_by plan n c calls) (control_by c calls)
+tied_by plan n c calls is tie none = (bound_by plan n c calls is (record { tied = tie; past = record { over = λ i t lt. absurd (omega (arith, lt, none)) } })).tied
+
 -- from a control that has opened nothing
 pub has_windows : (plan : PlanView) (n : Notes) (c : ControlView) (calls : List (Option ℕ)) → IsPlan plan → IsTied plan n c → c.next ≡ 0 → HasWindows plan n c calls
 has_windows plan n c calls is tie none = record {

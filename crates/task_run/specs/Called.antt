@@ -6,7 +6,8 @@ use Rattle.cov_base.specs.declared.numbers.SessNo.{SessNo}
 use Rattle.module_area.specs.Notes.{Notes}
 use Rattle.module_area.specs.Control.{after_call}
 use Rattle.svc_monitor.specs.Observed.{Observes}
-use Rattle.svc_monitor.specs.Answered.{Answered}
+use Rattle.module_area.specs.Tied.{IsTied}
+use Rattle.svc_monitor.specs.Answered.{RisesAt, known_tag, Answered}
 use Rattle.task_run.specs.Meaning.{control_by, places_of, places_in_all}
 
 abbrev pub notes_by : PlanView → Notes → ControlView → List (Option ℕ) → Notes
@@ -18,10 +19,12 @@ abbrev pub last_by : PlanView → Notes → ControlView → List (Option ℕ) �
 last_by plan n c calls before = (notes_by plan n c (take before calls)).last
 
 -- From the old to the new notes the pass has made these visits, and at each instruction has opened or closed what its
--- call asks for, behind the instruction's visits.
+-- call asks for, behind the instruction's visits. Where it is tied to a control that has opened nothing, the tags of its
+-- fetches never fall at any place.
 pub record Follows (plan : PlanView) (old new : Notes) (trace : List Visit) (calls : List (Option ℕ)) (c d : ControlView) : Type 0 where
   pub observes : Observes plan old new trace
   pub answered : Answered plan old new (last_by plan old c calls) trace
+  pub rises : IsTied plan old c → c.next ≡ 0 → (p : ℕ) → RisesAt p (known_tag plan old p) answered.pairs (known_tag plan new p)
   pub control : d ≡ control_by c calls
   pub last : new.last ≡ (notes_by plan old c calls).last
   pub plants : new.tally.plants ≡ (notes_by plan old c calls).tally.plants
